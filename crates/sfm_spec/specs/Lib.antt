@@ -1,0 +1,14 @@
+pub mod Sets
+pub mod Terms
+pub mod Kinds
+pub mod Families
+pub mod Slopes
+pub mod Blocks
+pub mod Walks
+pub mod Laws
+pub mod Reach
+pub mod Labels
+pub mod Search
+pub mod Bounds
+pub mod Chains
+pub mod Names
