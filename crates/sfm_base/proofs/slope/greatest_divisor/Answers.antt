@@ -1,0 +1,10 @@
+-- a remainder keeps the common divisors, and x is the greatest one of x and 0
+use Rattle.std.proofs.Common.{arith}
+use Rattle.std.proofs.lemmas.Nat.Gcd.{IsGcd-from_zero, IsGcd-from_mod}
+use Rattle.sfm_base.proofs.slope.greatest_divisor.Goals as goal
+
+pub loop-y-preserved : goal.loop-y-preserved
+loop-y-preserved c g h = c.loop-y.invariant g (IsGcd-from_mod _ _ g h)
+
+pub returns : goal.returns
+returns c = c.loop-y.invariant _ (IsGcd-from_zero _ _ (omega arith))

@@ -1,0 +1,10 @@
+-- the greatest common divisor of what is left is that of both
+use Rattle.std.proofs.Common.{ℕ}
+use Rattle.std.specs.Int.{IsGcd}
+use Rattle.sfm_base.proofs.slope.greatest_divisor.Given as goal
+
+abbrev pub invariant-loop-y : goal.invariant-loop-y
+invariant-loop-y l = (g : ℕ) → IsGcd l.x l.y g → IsGcd l.fn.a l.fn.b g
+
+abbrev pub decreases-loop-y : goal.decreases-loop-y
+decreases-loop-y l = l.y

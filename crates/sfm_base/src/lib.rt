@@ -1,0 +1,24 @@
+// The small types that all other crates compute with: sets of places, lists of numbers, rows, slopes, steps and the
+// reader of numbers. Each is seen by contracts as a list or a number, and each call is the plain operation on it.
+#![tactic(auto)]
+
+mod memory;
+mod number_text;
+mod numbers;
+mod places;
+mod rows;
+mod set;
+mod slope;
+mod steps;
+
+pub use memory::Memory;
+pub use number_text::read_number;
+pub use numbers::Numbers;
+pub use places::Places;
+pub use rows::Rows;
+pub use set::Set;
+pub use slope::Slope;
+pub use steps::Steps;
+
+#[cfg(test)]
+mod tests;
