@@ -1,0 +1,55 @@
+-- What a shelf of named texts is, and what its calls do.
+use Rattle.std.specs.Prelude.{◌≡◌, ℕ, ◌<◌, ◌≤◌, List, [], ◌∷◌, length, take, Option, Some, None, Bool, true, false, if◌then◌else◌, Result, IsSome, IsOk, IfOk, OnOk, OnErr}
+use Rattle.std.specs.Str.{bytes_eq}
+use Rattle.std.specs.Io.KnownBytes.{Consumes, IsAtEnd}
+use Rattle.sfm_io.specs.Faults.{Rose}
+
+-- names, each with the bytes of its text
+abbrev pub Texts : Type 0
+Texts = List (List ℕ × List ℕ)
+
+-- the text of the first entry of that name
+abbrev pub text_of : Texts → List ℕ → Option (List ℕ)
+text_of [] name = None
+text_of (t ∷ texts) name = if bytes_eq t.0 name then Some t.1 else text_of texts name
+
+-- What a shelf tells. `rest` are the unread bytes of the open text, none where nothing is open.
+pub record ShelfState : Type 0 where
+  pub texts : Option Texts
+  pub rest : Option (List ℕ)
+  pub faults : ℕ
+  pub sound : Bool
+
+-- what every call of a shelf keeps
+pub record KeepsShelf (before after : ShelfState) : Type 0 where
+  pub texts : after.texts ≡ before.texts
+  pub faults : before.faults ≤ after.faults
+  pub sound : before.sound ≡ true → after.sound ≡ true
+
+-- `open(name)` on a shelf
+pub record Opens {T E : Type 0} (before : ShelfState) (name : List ℕ) (result : Result T E) (after : ShelfState) : Type 0 where
+  pub kept : KeepsShelf before after
+  -- a text that is told is open at its first byte
+  pub opened : OnOk result ((texts : Texts) → before.texts ≡ Some texts → (text : List ℕ) × (text_of texts name ≡ Some text) × (after.rest ≡ Some text))
+  -- nothing is open after a failed call
+  pub closed : OnErr result ((texts : Texts) → before.texts ≡ Some texts → after.rest ≡ Some [])
+  pub rose : OnErr result (Rose before.faults after.faults)
+  -- a sound shelf opens each name that it holds
+  pub held : before.sound ≡ true → (texts : Texts) → before.texts ≡ Some texts → IsSome (text_of texts name) → IsOk result
+
+-- `read(buf)` on a shelf, where `new` is the buffer afterwards
+pub record Reads {E : Type 0} (before : ShelfState) (result : Result ℕ E) (new : List ℕ) (after : ShelfState) : Type 0 where
+  pub kept : KeepsShelf before after
+  pub count : IfOk result (λ k. k ≤ length new)
+  -- the bytes were the front of what was unread, which loses them
+  pub taken : IfOk result (λ k. Consumes before.rest after.rest (take k new))
+  -- no byte comes into a buffer that is not empty only where nothing is left
+  pub ends : IfOk result (λ k. k ≡ 0 → 0 < length new → IsAtEnd before.rest)
+  -- a failed call takes nothing
+  pub untouched : OnErr result (after.rest ≡ before.rest)
+  pub rose : OnErr result (Rose before.faults after.faults)
+  pub sure : before.sound ≡ true → IsOk result
+
+-- a shelf that tells nothing but its count of faults
+abbrev pub untold_state : ℕ → ShelfState
+untold_state faults = record { texts = None; rest = None; faults = faults; sound = false }
