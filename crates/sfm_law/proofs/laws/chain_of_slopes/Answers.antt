@@ -1,0 +1,16 @@
+use Rattle.sfm_spec.proofs.Duality.{meanings-terms}
+use Rattle.sfm_spec.proofs.Nest.{slopes_nest}
+use Rattle.sfm_spec.proofs.Chain.{chain_exact, few_breakpoints}
+use Rattle.sfm_law.proofs.laws.chain_of_slopes.Goals as goal
+
+pub returns : goal.returns
+returns g c =
+    let t = g.T.Term in
+    let m = g.met.T.Term in
+    let r = c.requires in
+    let fit = meanings-terms c.args._n t.places t.value_of m.family m.submodular c.args._terms.now r.placed in
+    record {
+      nested = slopes_nest _ c.args._n c.args._sizes.now fit r.sized r.positive;
+      exact = chain_exact _ c.args._n c.args._sizes.now fit r.sized r.positive;
+      few = few_breakpoints _ c.args._n c.args._sizes.now fit r.sized r.positive;
+    }

@@ -1,0 +1,17 @@
+use Rattle.std.proofs.Common.{◌≡◌, ◌++◌, length, take, drop, ap, ◌∙◌, sym, FitsSigned}
+use Rattle.std.proofs.lemmas.Int.{to_z-of_z}
+use Rattle.std.proofs.lemmas.List.{take_at}
+use mir.Syntax.{w128}
+use Rattle.sfm_law.proofs.starts.start_row.Goals as goal
+
+pub returns : goal.returns
+returns g c =
+    let m = g.T.Term in
+    let item = c.args.term.now in
+    let fq : FitsSigned w128 c.args.q = c.ranges.q in
+    let law = g.met.T.Term.starts item c.args.q c.requires.factor.low in
+    let x : c.start.new.x ≡ m.start_of item c.args.q = simp to_z-of_z at c.in_ok-start.ensures in
+    let lx : length c.start.new.x ≡ length (m.places item) = ap length x ∙ law.0 in
+    let lr : c.in_ok-row.row.len ≡ length (m.places item) = c.in_ok-row.ensures.len ∙ ap length c.elements.ensures in
+    let whole : take c.in_ok-row.row.len (c.start.new.x ++ drop (length c.start.new.x) c.in_ok-row.row.items) ≡ c.start.new.x = take_at c.start.new.x _ c.in_ok-row.row.len (lx ∙ sym lr) in
+    whole ∙ x

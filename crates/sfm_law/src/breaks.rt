@@ -1,0 +1,14 @@
+// A breakpoint of the principal partition, as the search finds it and the answer prints it.
+use sfm_base::{Rows, Set, Slope};
+
+/// A slope at which there are two or more minimisers, with the greatest of them and bases that prove there
+/// (Fujishige, Submodular Functions and Optimization, section 7).
+#[derive(Drop)]
+pub struct Break {
+    /// The slope, in lowest terms.
+    pub slope: Slope,
+    /// The greatest minimiser.
+    pub set: Set,
+    /// One base per term.
+    pub bases: Rows,
+}

@@ -1,0 +1,68 @@
+// Facts that hold of every term, by its meaning alone. The functions do nothing: each states a fact, and callers' proofs cite it.
+ghost use Rattle.std.specs.Prelude.{◌≡◌, List, ℕ, length, pos, neg_ℤ, ◌≤ℤ◌};
+ghost use Rattle.std.specs.List.{All};
+ghost use Rattle.sfm_spec.specs.Families.{meanings, AreBases, ArePlaced, rest_at};
+ghost use Rattle.sfm_spec.specs.Chains.{ChainLaws};
+ghost use Rattle.sfm_spec.specs.Laws.{BaseLaws, MoveLaws};
+ghost use Rattle.sfm_spec.specs.Terms.{times, IsBase, TightLaws};
+ghost use Rattle.sfm_spec.specs.Walks.{Step, AllCanMove, IsShortest, last_of};
+
+use crate::term::Term;
+use sfm_base::Rows;
+
+/// At a base, tight parts are closed under union and intersection, and a part is tight exactly where it
+/// holds, with each of its places, all to which it has room (Schrijver, Combinatorial Optimization, section 44).
+pub fn tight_parts<T: Term>(_term: &T, _q: i128, _x: &[i128])
+    requires factor { pos 0 ≤ℤ _q }
+    requires entries { length _x.now ≡ length (T.places _term.now) }
+    requires base { IsBase (times _q (T.value_of _term.now)) _x.now }
+    ensures { TightLaws (times _q (T.value_of _term.now)) _x.now }
+{}
+
+/// Bases of q times their terms prove the least value exactly where no walk joins. Where they prove, a set is a
+/// minimiser exactly where it has each place with z < 0 and none with z > 0, and its part in each term is tight
+/// (Schrijver, Combinatorial Optimization, section 45).
+pub fn minimisers_from_bases<T: Term>(
+    _terms: &[T],
+    _n: usize,
+    _q: i128,
+    _shift: &[i128],
+    _rows: &Rows,
+)
+    requires factor { pos 0 ≤ℤ _q }
+    requires placed { ArePlaced _n (meanings T.places T.value_of _terms.now) }
+    requires bases { AreBases _q (meanings T.places T.value_of _terms.now) _rows.now }
+    ensures { BaseLaws (meanings T.places T.value_of _terms.now) _n _q _shift.now _rows.now }
+{}
+
+/// Along a joining shortest walk, from its last step to its first, each step can still move an amount that each
+/// step and both ends allow, after the steps behind it have moved; the rows afterwards are bases, and the sum of
+/// min(z, 0) rises by exactly the amount (Fujishige, Submodular Functions and Optimization, section 4).
+pub fn order_of_exchanges<T: Term>(
+    _terms: &[T],
+    _n: usize,
+    _q: i128,
+    _shift: &[i128],
+    _rows: &Rows,
+    _first: usize,
+    _a: i128,
+)
+    requires factor { pos 0 ≤ℤ _q }
+    requires placed { ArePlaced _n (meanings T.places T.value_of _terms.now) }
+    requires bases { AreBases _q (meanings T.places T.value_of _terms.now) _rows.now }
+    requires amount { pos 1 ≤ℤ _a }
+    ensures { (steps : List Step) → IsShortest (meanings T.places T.value_of _terms.now) _q _shift.now _rows.now _first steps
+        → AllCanMove (meanings T.places T.value_of _terms.now) _q _rows.now _first steps _a
+        → _a ≤ℤ neg_ℤ (rest_at (meanings T.places T.value_of _terms.now) _rows.now _shift.now _first)
+        → _a ≤ℤ rest_at (meanings T.places T.value_of _terms.now) _rows.now _shift.now (last_of _first steps)
+        → MoveLaws (meanings T.places T.value_of _terms.now) _n _q _shift.now _rows.now _first steps _a }
+{}
+
+/// Along ascending slopes minimisers nest, and what makes a list of slopes and sets all breakpoints in order, over
+/// elements of positive sizes (Fujishige, Submodular Functions and Optimization, section 7).
+pub fn chain_of_slopes<T: Term>(_terms: &[T], _n: usize, _sizes: &[i128])
+    requires placed { ArePlaced _n (meanings T.places T.value_of _terms.now) }
+    requires sized { length _sizes.now ≡ _n }
+    requires positive { All (λ w. pos 1 ≤ℤ w) _sizes.now }
+    ensures { ChainLaws (meanings T.places T.value_of _terms.now) _n _sizes.now }
+{}

@@ -1,0 +1,19 @@
+// What a term of a sum is, the exchange at a base, and the facts that hold of every term.
+#![tactic(auto)]
+
+pub mod breaks;
+pub mod laws;
+pub mod moves;
+pub mod room;
+pub mod starts;
+pub mod term;
+#[cfg(test)]
+mod tests;
+pub mod walk;
+
+pub use breaks::Break;
+pub use moves::exchange;
+pub use room::Room;
+pub use starts::{start_row, start_rows};
+pub use term::Term;
+pub use walk::{Walk, WalkSteps};

@@ -1,0 +1,165 @@
+// What a term of a sum is: a submodular function of a few places, with a test of bases, exchange capacities,
+// and a first base. Everything above speaks of terms by this trait alone.
+ghost use Rattle.std.specs.Prelude.{◌≡◌, ◌≢◌, ◌↔◌, ℕ, ◌<◌, ◌^◌, Bool, List, length, ℤ, pos, neg_ℤ, ◌*ℤ◌, ◌≤ℤ◌, IfOk, OnOk, IsTrue, Some};
+ghost use Rattle.std.specs.List.{All};
+ghost use Rattle.sfm_spec.specs.Bounds.{IsEntry, IsFactor};
+ghost use Rattle.sfm_spec.specs.Terms.{SetFunction, times, IsBase, IsFamily, IsSubmodular, exchanged};
+ghost use Rattle.sfm_law.specs.Room.{IsRoom, IsReach, IsWithinRoom};
+
+use crate::room::Room;
+use sfm_base::{Memory, Set};
+use std::alloc::Global;
+
+/// A term of k elements. Its calls speak of the local places 0 to k-1; a part is a set of them.
+///
+/// A base of q times the term is a vector that gives no allowed part more than q times its value, and the whole
+/// exactly that (Schrijver, Combinatorial Optimization, section 44).
+pub trait Term {
+    /// What is kept beside a base, so that its reach is found sooner.
+    type Note: Drop;
+
+    /// The places of the ground, by local place.
+    ghost places: { Self → List ℕ };
+
+    /// The value at each allowed part.
+    ghost value_of: { Self → SetFunction };
+
+    /// A bound on the magnitude of each value.
+    ghost size_of: { Self → ℤ };
+
+    /// The base that `start` gives at a factor.
+    ghost start_of: { Self → ℤ → List ℤ };
+
+    /// What a note keeps is true of a base at a factor.
+    ghost fits: { Self → Self.Note → ℤ → List ℤ → Type 0 };
+
+    /// The places of the ground, by local place: distinct.
+    fn elements(&self) -> &[usize]
+        ensures { result.now ≡ places self.now };
+
+    /// A bound on the magnitude of each value.
+    fn size(&self) -> i128
+        ensures { result ≡ size_of self.now };
+
+    /// The value of a part, or None exactly where the part is not allowed.
+    fn value(&self, alloc: Global, s: &Set) -> Result<Option<i128>, Memory>
+        requires { length s.now ≡ length (places self.now) }
+        ensures { IfOk result (λ r. r ≡ value_of self.now s.now) };
+
+    /// Writes a first base of q times the term.
+    fn start(&self, alloc: Global, q: i128, x: &mut [i128]) -> Result<(), Memory>
+        requires factor { IsFactor q }
+        requires entries { length x.old ≡ length (places self.now) }
+        requires bounded { size_of self.now ≤ℤ pos (10 ^ 18) }
+        ensures { OnOk result (x.new ≡ start_of self.now q) };
+
+    /// Whether x is a base of q times the term.
+    fn is_base(&self, alloc: Global, q: i128, x: &[i128]) -> Result<bool, Memory>
+        requires factor { IsFactor q }
+        requires entries { length x.now ≡ length (places self.now) }
+        requires bounded { size_of self.now ≤ℤ pos (10 ^ 18) }
+        requires small { All IsEntry x.now }
+        ensures { IfOk result (λ r. IsTrue r ↔ IsBase (times q (value_of self.now)) x.now) };
+
+    /// The room of (u, v) at a base.
+    fn room(&self, alloc: Global, q: i128, x: &[i128], u: usize, v: usize) -> Result<Room, Memory>
+        requires factor { IsFactor q }
+        requires entries { length x.now ≡ length (places self.now) }
+        requires bounded { size_of self.now ≤ℤ pos (10 ^ 18) }
+        requires small { All IsEntry x.now }
+        requires base { IsBase (times q (value_of self.now)) x.now }
+        requires apart { u ≢ v }
+        requires from { u < length x.now }
+        requires onto { v < length x.now }
+        ensures { IfOk result (IsRoom (times q (value_of self.now)) x.now u v) };
+
+    /// Writes the places other than u to which u has room at a base.
+    fn reach(
+        &self,
+        alloc: Global,
+        q: i128,
+        x: &[i128],
+        u: usize,
+        to: &mut Set,
+    ) -> Result<(), Memory>
+        requires factor { IsFactor q }
+        requires entries { length x.now ≡ length (places self.now) }
+        requires bounded { size_of self.now ≤ℤ pos (10 ^ 18) }
+        requires small { All IsEntry x.now }
+        requires base { IsBase (times q (value_of self.now)) x.now }
+        requires from { u < length x.now }
+        requires room_for_answer { length to.old ≡ length x.now }
+        ensures places { length to.new ≡ length to.old }
+        ensures reached { OnOk result (IsReach (times q (value_of self.now)) x.now u to.new) };
+
+    /// A note that fits a base.
+    fn note(&self, alloc: Global, q: i128, x: &[i128]) -> Result<Self::Note, Memory>
+        requires factor { IsFactor q }
+        requires entries { length x.now ≡ length (places self.now) }
+        requires bounded { size_of self.now ≤ℤ pos (10 ^ 18) }
+        requires small { All IsEntry x.now }
+        requires base { IsBase (times q (value_of self.now)) x.now }
+        ensures { IfOk result (λ r. fits self.now r q x.now) };
+
+    /// Writes what `reach` does, by a note that fits the base.
+    fn reach_by(
+        &self,
+        alloc: Global,
+        q: i128,
+        x: &[i128],
+        note: &Self::Note,
+        u: usize,
+        to: &mut Set,
+    ) -> Result<(), Memory>
+        requires factor { IsFactor q }
+        requires entries { length x.now ≡ length (places self.now) }
+        requires bounded { size_of self.now ≤ℤ pos (10 ^ 18) }
+        requires small { All IsEntry x.now }
+        requires base { IsBase (times q (value_of self.now)) x.now }
+        requires noted { fits self.now note.now q x.now }
+        requires from { u < length x.now }
+        requires room_for_answer { length to.old ≡ length x.now }
+        ensures places { length to.new ≡ length to.old }
+        ensures reached { OnOk result (IsReach (times q (value_of self.now)) x.now u to.new) };
+
+    /// Brings a note that fits a base up to the base with u raised and v lowered by a. After want of memory nothing
+    /// is said of the note.
+    fn moved(
+        &self,
+        alloc: Global,
+        q: i128,
+        x: &[i128],
+        note: &mut Self::Note,
+        u: usize,
+        v: usize,
+        a: i128,
+    ) -> Result<(), Memory>
+        requires factor { IsFactor q }
+        requires entries { length x.now ≡ length (places self.now) }
+        requires bounded { size_of self.now ≤ℤ pos (10 ^ 18) }
+        requires small { All IsEntry x.now }
+        requires base { IsBase (times q (value_of self.now)) x.now }
+        requires noted { fits self.now note.old q x.now }
+        requires apart { u ≢ v }
+        requires from { u < length x.now }
+        requires onto { v < length x.now }
+        requires low { pos 0 ≤ℤ a }
+        requires high { a ≤ℤ pos (10 ^ 30) }
+        requires room { IsWithinRoom (times q (value_of self.now)) x.now u v a }
+        ensures { OnOk result (fits self.now note.new q (exchanged x.now u v a)) };
+
+    /// The empty and the whole part are allowed, and unions and intersections of allowed parts are.
+    ghost family: { (term : Self) → IsFamily (length (places term)) (value_of term) };
+
+    /// No two allowed parts have less in all than their union and their intersection, and the empty part has 0.
+    ghost submodular: { (term : Self) → IsSubmodular (length (places term)) (value_of term) };
+
+    /// Each value lies between -size and size.
+    ghost bounded: { (term : Self) (s : List Bool) (a : ℤ) → length s ≡ length (places term) → value_of term s ≡ Some a → (neg_ℤ (size_of term) ≤ℤ a) × (a ≤ℤ size_of term) };
+
+    /// The start is a base.
+    ghost starts: { (term : Self) (q : ℤ) → pos 1 ≤ℤ q → (length (start_of term q) ≡ length (places term)) × IsBase (times q (value_of term)) (start_of term q) };
+
+    /// Each entry of the start lies between -2·q·size and 2·q·size.
+    ghost starts_small: { (term : Self) (q : ℤ) → pos 1 ≤ℤ q → All (λ a. (neg_ℤ (pos 2 *ℤ q *ℤ size_of term) ≤ℤ a) × (a ≤ℤ (pos 2 *ℤ q *ℤ size_of term))) (start_of term q) };
+}
