@@ -1,0 +1,11 @@
+pub mod CoverRooms
+pub mod CutRooms
+pub mod Fits
+pub mod NeedRooms
+pub mod PairRooms
+pub mod Pairs
+pub mod Places
+pub mod Steps
+pub mod TableRooms
+pub mod Totals
+pub mod WeightRooms

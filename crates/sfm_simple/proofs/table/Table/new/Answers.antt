@@ -1,0 +1,35 @@
+use Rattle.std.proofs.Common.{◌≡◌, ◌∙◌, ◌<◌, ℤ, pos, length, get_or, of_z, ap, sym, arith, rules, FitsSigned}
+use Rattle.std.proofs.Math.Pow.{pow_mono}
+use Rattle.std.proofs.lemmas.Int.{ints, to_z-of_z}
+use Rattle.std.proofs.lemmas.List.Elements.{All-get_or}
+use Rattle.std.proofs.lemmas.Nat.{pow_pos}
+use Rattle.sfm_spec.specs.Bounds.{IsGiven}
+use mir.Syntax.{w128}
+use Rattle.sfm_simple.specs.TableLaws.{greatest, table-submodular}
+use Rattle.sfm_simple.proofs.table.Table.new.Goals as goal
+
+pub invariant_of-result-clause-few : goal.invariant_of-result-clause-few
+invariant_of-result-clause-few c = rw c.in_ok-places.ensures c.requires.few
+
+pub invariant_of-result-clause-few_values : goal.invariant_of-result-clause-few_values
+invariant_of-result-clause-few_values c =
+    let low = pow_mono c.requires.few in
+    rw c.in_ok-values.ensures (omega (arith, low, c.requires.counted))
+
+pub invariant_of-result-clause-given : goal.invariant_of-result-clause-given
+invariant_of-result-clause-given c = rw c.in_ok-values.ensures c.requires.given
+
+pub invariant_of-result-clause-topped : goal.invariant_of-result-clause-topped
+invariant_of-result-clause-topped c =
+    let f : FitsSigned w128 c.greatest_magnitude-most.result = search rules in
+    to_z-of_z w128 c.greatest_magnitude-most.result f ∙ c.greatest_magnitude-most.ensures ∙ ap greatest (sym c.in_ok-values.ensures)
+
+from_bits : (a : ℤ) → IsGiven a → of_z w128 a ≡ 0 → a ≡ pos 0
+from_bits a h z = omega (arith, ints, z)
+
+pub invariant_of-result-clause-lawful : goal.invariant_of-result-clause-lawful
+invariant_of-result-clause-lawful c =
+    let values = c.args.values.now in
+    let some : 0 < length values = omega (arith, c.requires.counted, pow_pos (length c.args.elements.now)) in
+    let zero = from_bits (get_or values 0 (pos 0)) (All-get_or IsGiven values 0 (pos 0) some c.requires.given) c.if-values-ne0.false in
+    rw (c.in_ok-places.ensures, c.in_ok-values.ensures) (table-submodular (length c.args.elements.now) values zero c.in_default.ensures)

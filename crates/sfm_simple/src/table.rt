@@ -1,0 +1,394 @@
+// A number for each part of at most eight elements, listed in binary counting: any submodular function of them.
+// All calls go through the parts: what a part leaves of its value is its slack, a base leaves none negative, and the room
+// of (u, v) is the least slack of a part with u and not v.
+ghost use Rattle.std.specs.Prelude.{◌≡◌, ◌≢◌, ◌↔◌, ℕ, ◌+◌, ◌-◌, ◌<◌, ◌≤◌, ◌^◌, Bool, true, false, List, length, slice_index_or, ℤ, pos, neg_ℤ, ◌*ℤ◌, ◌+ℤ◌, ◌-ℤ◌, ◌≤ℤ◌, IfOk, OnOk, IsTrue, Option, Some, Ok, Err};
+ghost use Rattle.std.specs.List.{All};
+ghost use Rattle.sfm_spec.specs.Bounds.{IsEntry, IsFactor, IsGiven, AreElements};
+ghost use Rattle.sfm_spec.specs.Sets.{Has};
+ghost use Rattle.sfm_spec.specs.Terms.{SetFunction, times, IsBase, IsFamily, IsSubmodular, IsGreedy, exchanged};
+ghost use Rattle.sfm_spec.specs.Kinds.{table_value};
+ghost use Rattle.sfm_law.specs.Room.{IsRoom, IsReach, IsWithinRoom};
+ghost use Rattle.sfm_simple.specs.Subsets.{members};
+ghost use Rattle.sfm_simple.specs.Breaches.{IsFirstBreach};
+ghost use Rattle.sfm_simple.specs.TableLaws.{greatest, gain_of, table_start, slack_of, IsSplit, IsLeastSlack, table-family, table-bounded, table-starts, table-starts_small};
+
+use crate::breach::first_breach;
+use crate::number::{magnitude, product};
+use crate::place::all_but;
+use crate::subset::{has, keep_members, number_of, sum_at, unit};
+use sfm_base::{Memory, Numbers, Places, Set};
+use sfm_law::{Room, Term};
+use std::alloc::Global;
+
+/// Why numbers make no table.
+#[derive(Clone, Copy, Debug, PartialEq, Eq)]
+pub enum TableEnd {
+    /// The number of the empty part is not 0.
+    NotZero,
+    /// The part with the number `set` is the first, in binary counting, with places a < b outside it that gain more
+    /// together than each alone; a is the least of it, and then b.
+    LawBroken { set: usize, a: usize, b: usize },
+    /// Want of memory.
+    Memory,
+}
+
+impl From<Memory> for TableEnd {
+    ghost use Rattle.sfm_simple.specs.declared.table.TableEnd.TheVariants.{Memory};
+
+    ghost from_gives = { λ _ e. e ≡ Memory };
+
+    fn from(_: Memory) -> Self {
+        TableEnd::Memory
+    }
+}
+
+/// A submodular function of at most eight elements by its values (Schrijver, Combinatorial Optimization, section 44).
+#[derive(Drop)]
+pub struct Table {
+    pub places: Places,
+    /// The values of the parts, in binary counting: place j counts 2^j.
+    pub values: Numbers,
+    /// The greatest magnitude of a value.
+    pub most: i128,
+    pub ghost elements: { AreElements places },
+    pub ghost few: { length places ≤ 8 },
+    pub ghost counted: { length values ≡ 2 ^ length places },
+    pub ghost few_values: { length values ≤ 256 },
+    pub ghost given: { All IsGiven values },
+    pub ghost lawful: { IsSubmodular (length places) (table_value values) },
+    pub ghost topped: { most ≡ greatest values },
+}
+
+/// The greatest magnitude of the numbers.
+fn greatest_magnitude(values: &[i128]) -> i128
+    requires { All IsGiven values.now }
+    ensures { result ≡ greatest values.now }
+{
+    let mut most = 0;
+    for value in values {
+        most = magnitude(*value).max(most);
+    }
+    most
+}
+
+/// Whether the set of k places with the number s has u and not v.
+fn splits(_k: usize, s: usize, u: usize, v: usize) -> bool
+    requires few { _k ≤ 8 }
+    requires from { u < _k }
+    requires onto { v < _k }
+    ensures { IsTrue result ↔ IsSplit _k s u v }
+{
+    has(s, u) && !has(s, v)
+}
+
+impl Table {
+    /// The term with these values; both lists are copied. The law is tried before memory is asked for.
+    pub fn new(alloc: Global, elements: &[usize], values: &[i128]) -> Result<Table, TableEnd>
+        requires elements { AreElements elements.now }
+        requires few { length elements.now ≤ 8 }
+        requires counted { length values.now ≡ 2 ^ length elements.now }
+        requires given { All IsGiven values.now }
+        ensures zero { (result ≡ Err TableEnd.NotZero) ↔ (slice_index_or values.now 0 (pos 0) ≢ pos 0) }
+        ensures broken { (set a b : ℕ) → (result ≡ Err (TableEnd.LawBroken set a b)) ↔ ((slice_index_or values.now 0 (pos 0) ≡ pos 0) × IsFirstBreach values.now (length elements.now) set a b) }
+        ensures lawful { OnOk result (IsSubmodular (length elements.now) (table_value values.now)) }
+        ensures places { IfOk result (λ r. r.places ≡ elements.now) }
+        ensures values { IfOk result (λ r. r.values ≡ values.now) }
+    {
+        if values[0] != 0 {
+            return Err(TableEnd::NotZero);
+        }
+        if let Some(breach) = first_breach(values, elements.len()) {
+            return Err(TableEnd::LawBroken {
+                set: breach.set,
+                a: breach.a,
+                b: breach.b,
+            });
+        }
+        let most = greatest_magnitude(values);
+        let places = Places::from_slice(alloc, elements)?;
+        let values = Numbers::from_slice(alloc, values)?;
+        Ok(Table {
+            places,
+            values,
+            most,
+        })
+    }
+
+    /// The value of a part: every part is allowed.
+    pub fn value_of(&self, s: &Set) -> Option<i128>
+        requires { length s.now ≡ length self.now.places }
+        ensures { result ≡ table_value self.now.values s.now }
+    {
+        Some(self.listed(number_of(s)))
+    }
+
+    /// The value of the part with the number s.
+    fn listed(&self, s: usize) -> i128
+        requires { s < length self.now.values }
+        ensures value { result ≡ slice_index_or self.now.values s (pos 0) }
+        ensures given { IsGiven result }
+    {
+        self.values.as_slice()[s]
+    }
+
+    /// How many parts there are.
+    fn count(&self) -> usize
+        ensures { result ≡ length self.now.values }
+    {
+        self.values.as_slice().len()
+    }
+
+    /// What the place j adds to those before it, q times.
+    fn gain(&self, q: i128, j: usize) -> i128
+        requires factor { IsFactor q }
+        requires place { j < length self.now.places }
+        ensures { result ≡ gain_of q self.now.values j }
+    {
+        let after = self.listed(unit(j + 1) - 1);
+        let before = self.listed(unit(j) - 1);
+        product(q, after) - product(q, before)
+    }
+
+    /// Writes what each place adds to those before it: the greedy base.
+    pub fn start_of(&self, q: i128, x: &mut [i128])
+        requires factor { IsFactor q }
+        requires entries { length x.old ≡ length self.now.places }
+        ensures start { x.new ≡ table_start q self.now.values (length self.now.places) }
+        ensures greedy { IsGreedy q (table_value self.now.values) (length self.now.places) x.new }
+    {
+        self.write_gains(q, x);
+    }
+
+    /// Writes what each place adds to those before it.
+    fn write_gains(&self, q: i128, x: &mut [i128])
+        requires factor { IsFactor q }
+        requires entries { length x.old ≡ length self.now.places }
+        ensures { x.new ≡ table_start q self.now.values (length self.now.places) }
+    {
+        for (j, a) in x.iter_mut().enumerate() {
+            *a = self.gain(q, j);
+        }
+    }
+
+    /// What the part with the number s leaves of q times its value.
+    fn slack(&self, q: i128, x: &[i128], s: usize) -> i128
+        requires factor { IsFactor q }
+        requires entries { length x.now ≡ length self.now.places }
+        requires small { All IsEntry x.now }
+        requires number { s < length self.now.values }
+        ensures { result ≡ slack_of q self.now.values x.now s }
+    {
+        product(q, self.listed(s)) - sum_at(x, s)
+    }
+
+    /// Whether the part with the number s has no slack.
+    fn is_tight(&self, q: i128, x: &[i128], s: usize) -> bool
+        requires factor { IsFactor q }
+        requires entries { length x.now ≡ length self.now.places }
+        requires small { All IsEntry x.now }
+        requires number { s < length self.now.values }
+        ensures { IsTrue result ↔ (slack_of q self.now.values x.now s ≡ pos 0) }
+    {
+        self.slack(q, x, s) == 0
+    }
+
+    /// Whether no part gets more than q times its value.
+    fn is_within(&self, q: i128, x: &[i128]) -> bool
+        requires factor { IsFactor q }
+        requires entries { length x.now ≡ length self.now.places }
+        requires small { All IsEntry x.now }
+        ensures { IsTrue result ↔ ((n : ℕ) → n < length self.now.values → pos 0 ≤ℤ slack_of q self.now.values x.now n) }
+    {
+        for s in 0..self.count() {
+            if self.slack(q, x, s) < 0 {
+                return false;
+            }
+        }
+        true
+    }
+
+    /// Whether x is a base of q times the term.
+    pub fn is_base_of(&self, q: i128, x: &[i128]) -> bool
+        requires factor { IsFactor q }
+        requires entries { length x.now ≡ length self.now.places }
+        requires small { All IsEntry x.now }
+        ensures { IsTrue result ↔ IsBase (times q (table_value self.now.values)) x.now }
+    {
+        self.is_within(q, x) && self.is_tight(q, x, self.count() - 1)
+    }
+
+    /// The least slack of a part with u and not v.
+    fn least_slack(&self, q: i128, x: &[i128], u: usize, v: usize) -> i128
+        requires factor { IsFactor q }
+        requires entries { length x.now ≡ length self.now.places }
+        requires small { All IsEntry x.now }
+        requires apart { u ≢ v }
+        requires from { u < length x.now }
+        requires onto { v < length x.now }
+        ensures { IsLeastSlack q self.now.values x.now u v result }
+    {
+        let mut least = self.slack(q, x, unit(u));
+        for s in 0..self.count() {
+            if splits(x.len(), s, u, v) {
+                least = least.min(self.slack(q, x, s));
+            }
+        }
+        least
+    }
+
+    /// The room of (u, v) at a base: the least slack of a part with u and not v.
+    pub fn room_of(&self, q: i128, x: &[i128], u: usize, v: usize) -> Room
+        requires factor { IsFactor q }
+        requires entries { length x.now ≡ length self.now.places }
+        requires small { All IsEntry x.now }
+        requires base { IsBase (times q (table_value self.now.values)) x.now }
+        requires apart { u ≢ v }
+        requires from { u < length x.now }
+        requires onto { v < length x.now }
+        ensures { IsRoom (times q (table_value self.now.values)) x.now u v result }
+    {
+        Room::Upto(self.least_slack(q, x, u, v))
+    }
+
+    /// Whether the part with the number s has u and no slack.
+    fn is_tight_with(&self, q: i128, x: &[i128], s: usize, u: usize) -> bool
+        requires factor { IsFactor q }
+        requires entries { length x.now ≡ length self.now.places }
+        requires small { All IsEntry x.now }
+        requires from { u < length x.now }
+        requires number { s < length self.now.values }
+        ensures { IsTrue result ↔ (Has (members (length x.now) s) u × (slack_of q self.now.values x.now s ≡ pos 0)) }
+    {
+        has(s, u) && self.is_tight(q, x, s)
+    }
+
+    /// Takes out of a set what is not in each part with u that has no slack.
+    fn keep_tight(&self, q: i128, x: &[i128], u: usize, to: &mut Set)
+        requires factor { IsFactor q }
+        requires entries { length x.now ≡ length self.now.places }
+        requires small { All IsEntry x.now }
+        requires from { u < length x.now }
+        requires room_for_answer { length to.old ≡ length x.now }
+        ensures places { length to.new ≡ length to.old }
+        ensures kept { (v : ℕ) → Has to.new v ↔ (Has to.old v × ((n : ℕ) → n < length self.now.values → Has (members (length x.now) n) u → slack_of q self.now.values x.now n ≡ pos 0 → Has (members (length x.now) n) v)) }
+    {
+        for s in 0..self.count() {
+            if self.is_tight_with(q, x, s, u) {
+                keep_members(to, s);
+            }
+        }
+    }
+
+    /// Writes the places other than u to which u has room at a base: those in each part with u that has no slack.
+    pub fn reach_of(&self, q: i128, x: &[i128], u: usize, to: &mut Set)
+        requires factor { IsFactor q }
+        requires entries { length x.now ≡ length self.now.places }
+        requires small { All IsEntry x.now }
+        requires base { IsBase (times q (table_value self.now.values)) x.now }
+        requires from { u < length x.now }
+        requires room_for_answer { length to.old ≡ length x.now }
+        ensures places { length to.new ≡ length to.old }
+        ensures reached { IsReach (times q (table_value self.now.values)) x.now u to.new }
+    {
+        all_but(to, u);
+        self.keep_tight(q, x, u, to);
+    }
+}
+
+impl Term for Table {
+    type Note = ();
+
+    ghost places = { λ s. s.places };
+
+    ghost value_of = { λ s. table_value s.values };
+
+    ghost size_of = { λ s. greatest s.values };
+
+    ghost start_of = { λ s q. table_start q s.values (length s.places) };
+
+    ghost fits = { λ s note q x. Unit {0} };
+
+    ghost family = { λ s. table-family s.values };
+
+    ghost submodular = { λ s. s.lawful };
+
+    ghost bounded = { λ s t a h e. table-bounded s.values t a e };
+
+    ghost starts = { λ s q low. table-starts _ q s.values low s.lawful };
+
+    ghost starts_small = { λ s q low. table-starts_small _ q s.values low };
+
+    fn elements(&self) -> &[usize] {
+        self.places.as_slice()
+    }
+
+    fn size(&self) -> i128 {
+        self.most
+    }
+
+    fn value(&self, _alloc: Global, s: &Set) -> Result<Option<i128>, Memory> {
+        Ok(self.value_of(s))
+    }
+
+    fn start(&self, _alloc: Global, q: i128, x: &mut [i128]) -> Result<(), Memory> {
+        self.start_of(q, x);
+        Ok(())
+    }
+
+    fn is_base(&self, _alloc: Global, q: i128, x: &[i128]) -> Result<bool, Memory> {
+        Ok(self.is_base_of(q, x))
+    }
+
+    fn room(
+        &self,
+        _alloc: Global,
+        q: i128,
+        x: &[i128],
+        u: usize,
+        v: usize,
+    ) -> Result<Room, Memory> {
+        Ok(self.room_of(q, x, u, v))
+    }
+
+    fn reach(
+        &self,
+        _alloc: Global,
+        q: i128,
+        x: &[i128],
+        u: usize,
+        to: &mut Set,
+    ) -> Result<(), Memory> {
+        self.reach_of(q, x, u, to);
+        Ok(())
+    }
+
+    fn note(&self, _alloc: Global, _q: i128, _x: &[i128]) -> Result<(), Memory> {
+        Ok(())
+    }
+
+    fn reach_by(
+        &self,
+        _alloc: Global,
+        q: i128,
+        x: &[i128],
+        _note: &(),
+        u: usize,
+        to: &mut Set,
+    ) -> Result<(), Memory> {
+        self.reach_of(q, x, u, to);
+        Ok(())
+    }
+
+    fn moved(
+        &self,
+        _alloc: Global,
+        _q: i128,
+        _x: &[i128],
+        _note: &mut (),
+        _u: usize,
+        _v: usize,
+        _a: i128,
+    ) -> Result<(), Memory> {
+        Ok(())
+    }
+}

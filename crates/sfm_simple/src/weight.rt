@@ -1,0 +1,262 @@
+// A number for each element; the value of a part is the sum of its numbers.
+// The one base of q times it is q times the numbers, so nothing can be exchanged.
+ghost use Rattle.std.specs.Prelude.{◌≡◌, ◌≢◌, ◌↔◌, ℕ, ◌<◌, ◌≤◌, ◌^◌, Bool, true, false, List, length, slice_index_or, ℤ, pos, neg_ℤ, ◌*ℤ◌, ◌≤ℤ◌, IfOk, OnOk, IsTrue, Option, Some, nat_abs, if◌then◌else◌};
+ghost use Rattle.std.specs.List.{All};
+ghost use Rattle.sfm_spec.specs.Bounds.{IsEntry, IsFactor, IsGiven, AreElements};
+ghost use Rattle.sfm_spec.specs.Sets.{sum_over, magnitudes};
+ghost use Rattle.sfm_spec.specs.Terms.{SetFunction, times, IsBase, IsFamily, IsSubmodular, IsGreedy, exchanged};
+ghost use Rattle.sfm_spec.specs.Kinds.{weight_value};
+ghost use Rattle.sfm_law.specs.Room.{IsRoom, IsReach, IsWithinRoom};
+ghost use Rattle.sfm_simple.specs.WeightLaws.{scaled, weight-family, weight-submodular, weight-bounded, weight-starts, weight-starts_small};
+
+use crate::number::{magnitude, product};
+use sfm_base::{Memory, Numbers, Places, Set};
+use sfm_law::{Room, Term};
+use std::alloc::Global;
+
+/// A number for each element: a modular function (Schrijver, Combinatorial Optimization, section 44).
+#[derive(Drop)]
+pub struct Weight {
+    pub places: Places,
+    pub weights: Numbers,
+    /// The sum of the magnitudes.
+    pub total: i128,
+    pub ghost elements: { AreElements places },
+    pub ghost few: { length places ≤ 256 },
+    pub ghost same_count: { length places ≡ length weights },
+    pub ghost given: { All IsGiven weights },
+    pub ghost totalled: { total ≡ magnitudes weights },
+}
+
+/// A member's number, and 0 of no member.
+fn share(member: bool, w: i128) -> i128
+    requires { IsGiven w }
+    ensures value { result ≡ (if member then w else pos 0) }
+    ensures given { IsGiven result }
+{
+    if member { w } else { 0 }
+}
+
+/// The sum of the magnitudes.
+fn sum_magnitudes(weights: &[i128]) -> i128
+    requires few { length weights.now ≤ 256 }
+    requires given { All IsGiven weights.now }
+    ensures { result ≡ magnitudes weights.now }
+{
+    let mut total = 0;
+    for w in weights {
+        total += magnitude(*w);
+    }
+    total
+}
+
+impl Weight {
+    /// The term with these numbers at these elements; both are copied.
+    pub fn new(alloc: Global, elements: &[usize], weights: &[i128]) -> Result<Weight, Memory>
+        requires elements { AreElements elements.now }
+        requires same_count { length elements.now ≡ length weights.now }
+        requires given { All IsGiven weights.now }
+        ensures places { IfOk result (λ r. r.places ≡ elements.now) }
+        ensures weights { IfOk result (λ r. r.weights ≡ weights.now) }
+    {
+        let total = sum_magnitudes(weights);
+        let places = Places::from_slice(alloc, elements)?;
+        let weights = Numbers::from_slice(alloc, weights)?;
+        Ok(Weight {
+            places,
+            weights,
+            total,
+        })
+    }
+
+    /// The value of a part: every part is allowed.
+    pub fn value_of(&self, s: &Set) -> Option<i128>
+        requires { length s.now ≡ length self.now.places }
+        ensures { result ≡ weight_value self.now.weights s.now }
+    {
+        Some(self.sum_of(s))
+    }
+
+    /// The sum of a part's numbers.
+    fn sum_of(&self, s: &Set) -> i128
+        requires { length s.now ≡ length self.now.places }
+        ensures { result ≡ sum_over s.now self.now.weights }
+    {
+        let mut sum = 0;
+        for (j, w) in self.weights.as_slice().iter().enumerate() {
+            sum += share(s.contains(j), *w);
+        }
+        sum
+    }
+
+    /// Writes the one base of q times the term.
+    pub fn start_of(&self, q: i128, x: &mut [i128])
+        requires factor { IsFactor q }
+        requires entries { length x.old ≡ length self.now.places }
+        ensures start { x.new ≡ scaled q self.now.weights }
+        ensures greedy { IsGreedy q (weight_value self.now.weights) (length self.now.places) x.new }
+    {
+        self.write_scaled(q, x);
+    }
+
+    /// Writes q times the numbers.
+    fn write_scaled(&self, q: i128, x: &mut [i128])
+        requires factor { IsFactor q }
+        requires entries { length x.old ≡ length self.now.places }
+        ensures { x.new ≡ scaled q self.now.weights }
+    {
+        for (j, w) in self.weights.as_slice().iter().enumerate() {
+            x[j] = product(q, *w);
+        }
+    }
+
+    /// Whether x is q times the numbers.
+    fn is_scaled(&self, q: i128, x: &[i128]) -> bool
+        requires factor { IsFactor q }
+        requires entries { length x.now ≡ length self.now.places }
+        ensures { IsTrue result ↔ (x.now ≡ scaled q self.now.weights) }
+    {
+        for (j, w) in self.weights.as_slice().iter().enumerate() {
+            if x[j] != product(q, *w) {
+                return false;
+            }
+        }
+        true
+    }
+
+    /// Whether x is a base of q times the term.
+    pub fn is_base_of(&self, q: i128, x: &[i128]) -> bool
+        requires factor { IsFactor q }
+        requires entries { length x.now ≡ length self.now.places }
+        requires small { All IsEntry x.now }
+        ensures { IsTrue result ↔ IsBase (times q (weight_value self.now.weights)) x.now }
+    {
+        self.is_scaled(q, x)
+    }
+
+    /// The room of (u, v) at a base: none.
+    pub fn room_of(&self, _q: i128, _x: &[i128], _u: usize, _v: usize) -> Room
+        requires factor { IsFactor _q }
+        requires entries { length _x.now ≡ length self.now.places }
+        requires small { All IsEntry _x.now }
+        requires base { IsBase (times _q (weight_value self.now.weights)) _x.now }
+        requires apart { _u ≢ _v }
+        requires from { _u < length _x.now }
+        requires onto { _v < length _x.now }
+        ensures { IsRoom (times _q (weight_value self.now.weights)) _x.now _u _v result }
+    {
+        Room::Upto(0)
+    }
+
+    /// Writes the places other than u to which u has room at a base: none.
+    pub fn reach_of(&self, _q: i128, _x: &[i128], _u: usize, to: &mut Set)
+        requires factor { IsFactor _q }
+        requires entries { length _x.now ≡ length self.now.places }
+        requires small { All IsEntry _x.now }
+        requires base { IsBase (times _q (weight_value self.now.weights)) _x.now }
+        requires from { _u < length _x.now }
+        requires room_for_answer { length to.old ≡ length _x.now }
+        ensures places { length to.new ≡ length to.old }
+        ensures reached { IsReach (times _q (weight_value self.now.weights)) _x.now _u to.new }
+    {
+        to.clear();
+    }
+}
+
+impl Term for Weight {
+    type Note = ();
+
+    ghost places = { λ s. s.places };
+
+    ghost value_of = { λ s. weight_value s.weights };
+
+    ghost size_of = { λ s. magnitudes s.weights };
+
+    ghost start_of = { λ s q. scaled q s.weights };
+
+    ghost fits = { λ s note q x. Unit {0} };
+
+    ghost family = { λ s. weight-family s.weights };
+
+    ghost submodular = { λ s. weight-submodular _ s.weights s.same_count };
+
+    ghost bounded = { λ s t a h e. weight-bounded s.weights t a e };
+
+    ghost starts = { λ s q low. weight-starts _ s.weights q s.same_count };
+
+    ghost starts_small = { λ s q low. weight-starts_small s.weights q low };
+
+    fn elements(&self) -> &[usize] {
+        self.places.as_slice()
+    }
+
+    fn size(&self) -> i128 {
+        self.total
+    }
+
+    fn value(&self, _alloc: Global, s: &Set) -> Result<Option<i128>, Memory> {
+        Ok(self.value_of(s))
+    }
+
+    fn start(&self, _alloc: Global, q: i128, x: &mut [i128]) -> Result<(), Memory> {
+        self.start_of(q, x);
+        Ok(())
+    }
+
+    fn is_base(&self, _alloc: Global, q: i128, x: &[i128]) -> Result<bool, Memory> {
+        Ok(self.is_base_of(q, x))
+    }
+
+    fn room(
+        &self,
+        _alloc: Global,
+        q: i128,
+        x: &[i128],
+        u: usize,
+        v: usize,
+    ) -> Result<Room, Memory> {
+        Ok(self.room_of(q, x, u, v))
+    }
+
+    fn reach(
+        &self,
+        _alloc: Global,
+        q: i128,
+        x: &[i128],
+        u: usize,
+        to: &mut Set,
+    ) -> Result<(), Memory> {
+        self.reach_of(q, x, u, to);
+        Ok(())
+    }
+
+    fn note(&self, _alloc: Global, _q: i128, _x: &[i128]) -> Result<(), Memory> {
+        Ok(())
+    }
+
+    fn reach_by(
+        &self,
+        _alloc: Global,
+        q: i128,
+        x: &[i128],
+        _note: &(),
+        u: usize,
+        to: &mut Set,
+    ) -> Result<(), Memory> {
+        self.reach_of(q, x, u, to);
+        Ok(())
+    }
+
+    fn moved(
+        &self,
+        _alloc: Global,
+        _q: i128,
+        _x: &[i128],
+        _note: &mut (),
+        _u: usize,
+        _v: usize,
+        _a: i128,
+    ) -> Result<(), Memory> {
+        Ok(())
+    }
+}
