@@ -1,0 +1,89 @@
+-- What each kind of term tells of itself: a function by cases for each member of a term, then each law by cases.
+use Rattle.std.specs.Prelude.{◌≡◌, ℕ, Bool, List, [], ◌∷◌, length, ℤ, pos, neg_ℤ, ◌*ℤ◌, ◌≤ℤ◌, Some}
+use Rattle.std.specs.List.{All}
+use Rattle.sfm_spec.specs.Sets.{magnitudes}
+use Rattle.sfm_spec.specs.Terms.{SetFunction, times, IsBase, IsFamily, IsSubmodular}
+use Rattle.sfm_spec.specs.Kinds.{weight_value, cut_value, cover_value, need_value, table_value}
+use Rattle.sfm_simple.specs.WeightLaws.{scaled, weight-family, weight-submodular, weight-bounded, weight-starts, weight-starts_small}
+use Rattle.sfm_simple.specs.CutLaws.{cut_start, cut-family, cut-submodular, cut-bounded, cut-starts, cut-starts_small}
+use Rattle.sfm_simple.specs.CoverLaws.{cover_start, cover-family, cover-submodular, cover-bounded, cover-starts, cover-starts_small}
+use Rattle.sfm_simple.specs.NeedLaws.{need-family, need-submodular, need-bounded, need-starts, need-starts_small}
+use Rattle.sfm_simple.specs.TableLaws.{greatest, table_start, table-family, table-bounded, table-starts, table-starts_small}
+use Rattle.sfm_kind.specs.declared.kind.Kind.{Kind}
+use Rattle.sfm_kind.specs.declared.kind.Kind.TheVariants.{Weight, Cut, Cover, Need, Table}
+use Rattle.sfm_kind.specs.declared.kind.KindNote.{KindNote}
+
+-- the places of the ground, by local place
+abbrev pub kind_places : Kind → List ℕ
+kind_places (Weight term) = term.places
+kind_places (Cut term) = term.places
+kind_places (Cover term) = term.places
+kind_places (Need term) = term.places
+kind_places (Table term) = term.places
+
+-- the value at each allowed part
+abbrev pub kind_value : Kind → SetFunction
+kind_value (Weight term) = weight_value term.weights
+kind_value (Cut term) = cut_value term.c
+kind_value (Cover term) = cover_value term.w
+kind_value (Need term) = need_value
+kind_value (Table term) = table_value term.values
+
+-- a bound on the magnitude of each value
+abbrev pub kind_size : Kind → ℤ
+kind_size (Weight term) = magnitudes term.weights
+kind_size (Cut term) = term.c
+kind_size (Cover term) = term.w
+kind_size (Need term) = pos 0
+kind_size (Table term) = greatest term.values
+
+-- the first base at a factor
+abbrev pub kind_start : Kind → ℤ → List ℤ
+kind_start (Weight term) q = scaled q term.weights
+kind_start (Cut term) q = cut_start q term.c
+kind_start (Cover term) q = cover_start q term.w (length term.places)
+kind_start (Need term) q = pos 0 ∷ pos 0 ∷ []
+kind_start (Table term) q = table_start q term.values (length term.places)
+
+-- what a note keeps is true of a base: the plain kinds keep nothing
+abbrev pub kind_fits : Kind → KindNote → ℤ → List ℤ → Type 0
+kind_fits (Weight term) note q x = Unit {0}
+kind_fits (Cut term) note q x = Unit {0}
+kind_fits (Cover term) note q x = Unit {0}
+kind_fits (Need term) note q x = Unit {0}
+kind_fits (Table term) note q x = Unit {0}
+
+pub kind-family : (kind : Kind) → IsFamily (length (kind_places kind)) (kind_value kind)
+kind-family (Weight term) = weight-family term.weights
+kind-family (Cut term) = cut-family term.c
+kind-family (Cover term) = cover-family term.w
+kind-family (Need term) = need-family _ term.two
+kind-family (Table term) = table-family term.values
+
+pub kind-submodular : (kind : Kind) → IsSubmodular (length (kind_places kind)) (kind_value kind)
+kind-submodular (Weight term) = weight-submodular _ term.weights term.same_count
+kind-submodular (Cut term) = cut-submodular _ term.c term.two term.low
+kind-submodular (Cover term) = cover-submodular _ term.w term.low
+kind-submodular (Need term) = need-submodular _ term.two
+kind-submodular (Table term) = term.lawful
+
+pub kind-bounded : (kind : Kind) (s : List Bool) (a : ℤ) → length s ≡ length (kind_places kind) → kind_value kind s ≡ Some a → (neg_ℤ (kind_size kind) ≤ℤ a) × (a ≤ℤ kind_size kind)
+kind-bounded (Weight term) s a h e = weight-bounded term.weights s a e
+kind-bounded (Cut term) s a h e = cut-bounded term.c s a term.low e
+kind-bounded (Cover term) s a h e = cover-bounded term.w s a term.low e
+kind-bounded (Need term) s a h e = need-bounded s a e
+kind-bounded (Table term) s a h e = table-bounded term.values s a e
+
+pub kind-starts : (kind : Kind) (q : ℤ) → pos 1 ≤ℤ q → (length (kind_start kind q) ≡ length (kind_places kind)) × IsBase (times q (kind_value kind)) (kind_start kind q)
+kind-starts (Weight term) q low = weight-starts _ term.weights q term.same_count
+kind-starts (Cut term) q low = cut-starts _ q term.c term.two low term.low
+kind-starts (Cover term) q low = cover-starts _ q term.w term.elements.some low term.low
+kind-starts (Need term) q low = need-starts _ q term.two
+kind-starts (Table term) q low = table-starts _ q term.values low term.lawful
+
+pub kind-starts_small : (kind : Kind) (q : ℤ) → pos 1 ≤ℤ q → All (λ a. (neg_ℤ ((pos 2 *ℤ q) *ℤ kind_size kind) ≤ℤ a) × (a ≤ℤ ((pos 2 *ℤ q) *ℤ kind_size kind))) (kind_start kind q)
+kind-starts_small (Weight term) q low = weight-starts_small term.weights q low
+kind-starts_small (Cut term) q low = cut-starts_small q term.c low term.low
+kind-starts_small (Cover term) q low = cover-starts_small _ q term.w term.elements.some low term.low
+kind-starts_small (Need term) q low = need-starts_small q
+kind-starts_small (Table term) q low = table-starts_small _ q term.values low

@@ -1,0 +1,184 @@
+// One type for all kinds of term. Each call of a term passes on to the kind's own, and each member and law of a term goes
+// by cases over the kinds (specs/Kinds.antt), so a kind that is added brings one case to each.
+ghost use Rattle.std.specs.Prelude.{◌≡◌, ◌≢◌, ◌↔◌, ℕ, ◌<◌, ◌≤◌, ◌^◌, Bool, List, length, ℤ, pos, neg_ℤ, ◌*ℤ◌, ◌≤ℤ◌, IfOk, OnOk, IsTrue, Option, Some};
+ghost use Rattle.std.specs.List.{All};
+ghost use Rattle.sfm_spec.specs.Bounds.{IsEntry, IsFactor};
+ghost use Rattle.sfm_spec.specs.Terms.{SetFunction, times, IsBase, IsFamily, IsSubmodular, exchanged};
+ghost use Rattle.sfm_law.specs.Room.{IsRoom, IsReach, IsWithinRoom};
+ghost use Rattle.sfm_kind.specs.Kinds.{kind_places, kind_value, kind_size, kind_start, kind_fits, kind-family, kind-submodular, kind-bounded, kind-starts, kind-starts_small};
+
+use sfm_base::{Memory, Set};
+use sfm_law::{Room, Term};
+use sfm_simple::{Cover, Cut, Need, Table, Weight};
+use std::alloc::Global;
+
+/// A term of any kind.
+#[derive(Drop)]
+pub enum Kind {
+    /// A number for each element.
+    Weight(Weight),
+    /// A cost where a part has the first of two elements and not the second.
+    Cut(Cut),
+    /// A cost where a part has one of some elements.
+    Cover(Cover),
+    /// A condition: a part with the first of two elements has the second.
+    Need(Need),
+    /// A number for each part of a few elements.
+    Table(Table),
+}
+
+/// What is kept beside a base of a kind, so that its reach is found sooner.
+#[derive(Drop)]
+pub enum KindNote {
+    /// Nothing, as beside the plain kinds.
+    Nothing,
+}
+
+impl Term for Kind {
+    type Note = KindNote;
+
+    ghost places = { kind_places };
+
+    ghost value_of = { kind_value };
+
+    ghost size_of = { kind_size };
+
+    ghost start_of = { kind_start };
+
+    ghost fits = { kind_fits };
+
+    ghost family = { kind-family };
+
+    ghost submodular = { kind-submodular };
+
+    ghost bounded = { kind-bounded };
+
+    ghost starts = { kind-starts };
+
+    ghost starts_small = { kind-starts_small };
+
+    fn elements(&self) -> &[usize] {
+        match self {
+            Kind::Weight(term) => term.elements(),
+            Kind::Cut(term) => term.elements(),
+            Kind::Cover(term) => term.elements(),
+            Kind::Need(term) => term.elements(),
+            Kind::Table(term) => term.elements(),
+        }
+    }
+
+    fn size(&self) -> i128 {
+        match self {
+            Kind::Weight(term) => term.size(),
+            Kind::Cut(term) => term.size(),
+            Kind::Cover(term) => term.size(),
+            Kind::Need(term) => term.size(),
+            Kind::Table(term) => term.size(),
+        }
+    }
+
+    fn value(&self, alloc: Global, s: &Set) -> Result<Option<i128>, Memory> {
+        match self {
+            Kind::Weight(term) => term.value(alloc, s),
+            Kind::Cut(term) => term.value(alloc, s),
+            Kind::Cover(term) => term.value(alloc, s),
+            Kind::Need(term) => term.value(alloc, s),
+            Kind::Table(term) => term.value(alloc, s),
+        }
+    }
+
+    fn start(&self, alloc: Global, q: i128, x: &mut [i128]) -> Result<(), Memory> {
+        match self {
+            Kind::Weight(term) => term.start(alloc, q, x),
+            Kind::Cut(term) => term.start(alloc, q, x),
+            Kind::Cover(term) => term.start(alloc, q, x),
+            Kind::Need(term) => term.start(alloc, q, x),
+            Kind::Table(term) => term.start(alloc, q, x),
+        }
+    }
+
+    fn is_base(&self, alloc: Global, q: i128, x: &[i128]) -> Result<bool, Memory> {
+        match self {
+            Kind::Weight(term) => term.is_base(alloc, q, x),
+            Kind::Cut(term) => term.is_base(alloc, q, x),
+            Kind::Cover(term) => term.is_base(alloc, q, x),
+            Kind::Need(term) => term.is_base(alloc, q, x),
+            Kind::Table(term) => term.is_base(alloc, q, x),
+        }
+    }
+
+    fn room(&self, alloc: Global, q: i128, x: &[i128], u: usize, v: usize) -> Result<Room, Memory> {
+        match self {
+            Kind::Weight(term) => term.room(alloc, q, x, u, v),
+            Kind::Cut(term) => term.room(alloc, q, x, u, v),
+            Kind::Cover(term) => term.room(alloc, q, x, u, v),
+            Kind::Need(term) => term.room(alloc, q, x, u, v),
+            Kind::Table(term) => term.room(alloc, q, x, u, v),
+        }
+    }
+
+    fn reach(
+        &self,
+        alloc: Global,
+        q: i128,
+        x: &[i128],
+        u: usize,
+        to: &mut Set,
+    ) -> Result<(), Memory> {
+        match self {
+            Kind::Weight(term) => term.reach(alloc, q, x, u, to),
+            Kind::Cut(term) => term.reach(alloc, q, x, u, to),
+            Kind::Cover(term) => term.reach(alloc, q, x, u, to),
+            Kind::Need(term) => term.reach(alloc, q, x, u, to),
+            Kind::Table(term) => term.reach(alloc, q, x, u, to),
+        }
+    }
+
+    fn note(&self, alloc: Global, q: i128, x: &[i128]) -> Result<KindNote, Memory> {
+        match self {
+            Kind::Weight(term) => term.note(alloc, q, x)?,
+            Kind::Cut(term) => term.note(alloc, q, x)?,
+            Kind::Cover(term) => term.note(alloc, q, x)?,
+            Kind::Need(term) => term.note(alloc, q, x)?,
+            Kind::Table(term) => term.note(alloc, q, x)?,
+        }
+        Ok(KindNote::Nothing)
+    }
+
+    fn reach_by(
+        &self,
+        alloc: Global,
+        q: i128,
+        x: &[i128],
+        _note: &KindNote,
+        u: usize,
+        to: &mut Set,
+    ) -> Result<(), Memory> {
+        match self {
+            Kind::Weight(term) => term.reach_by(alloc, q, x, &(), u, to),
+            Kind::Cut(term) => term.reach_by(alloc, q, x, &(), u, to),
+            Kind::Cover(term) => term.reach_by(alloc, q, x, &(), u, to),
+            Kind::Need(term) => term.reach_by(alloc, q, x, &(), u, to),
+            Kind::Table(term) => term.reach_by(alloc, q, x, &(), u, to),
+        }
+    }
+
+    fn moved(
+        &self,
+        alloc: Global,
+        q: i128,
+        x: &[i128],
+        _note: &mut KindNote,
+        u: usize,
+        v: usize,
+        a: i128,
+    ) -> Result<(), Memory> {
+        match self {
+            Kind::Weight(term) => term.moved(alloc, q, x, &mut (), u, v, a),
+            Kind::Cut(term) => term.moved(alloc, q, x, &mut (), u, v, a),
+            Kind::Cover(term) => term.moved(alloc, q, x, &mut (), u, v, a),
+            Kind::Need(term) => term.moved(alloc, q, x, &mut (), u, v, a),
+            Kind::Table(term) => term.moved(alloc, q, x, &mut (), u, v, a),
+        }
+    }
+}
