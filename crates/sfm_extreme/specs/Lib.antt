@@ -1,0 +1,4 @@
+pub mod Rest
+pub mod Links
+pub mod Search
+pub mod Certified

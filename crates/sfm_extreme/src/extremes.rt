@@ -1,0 +1,107 @@
+// Whether bases prove the minimum. A search against the links from the places with z > 0 finds the places from which a
+// walk leads to one of them. Where one of these has z < 0, a walk joins, and no bases with such a walk prove. Where
+// none has, the bases prove: the places not found are the greatest minimiser, the places that a search with the links
+// finds from those with z < 0 are the least, and the value is the sum of min(z, 0). No subset is ever tried.
+ghost use Rattle.std.specs.Prelude.{◌≡◌, ◌↔◌, length, map, pos, ◌^◌, ◌≤ℤ◌, IfOk};
+ghost use Rattle.std.specs.List.{All};
+ghost use Rattle.sfm_spec.specs.Sets.{magnitudes};
+ghost use Rattle.sfm_spec.specs.Bounds.{AreBounded, IsEntry, IsFactor};
+ghost use Rattle.sfm_spec.specs.Families.{meanings, even_shift, AreBases, Prove};
+ghost use Rattle.sfm_extreme.specs.Certified.{IsAnswer, IsProved};
+
+use crate::deficit::deficit_of;
+use crate::links::links_of;
+use crate::rest::rest_of;
+use crate::search::{Way, search_from};
+use crate::signs::{complement_of, places_over, places_under};
+use crate::walk::{visit_under, walk_of};
+use sfm_base::{Memory, Rows, Set};
+use sfm_law::{Term, Walk};
+use std::alloc::Global;
+
+/// The minimum that bases prove, with the extreme sets that attain it (Fujishige, Submodular Functions and
+/// Optimization, section 3: minimisers form a lattice).
+#[derive(Debug, Drop)]
+pub struct Proved {
+    /// The least value of q times the sum less the shift.
+    pub value: i128,
+    /// The minimiser that lies within every other.
+    pub least: Set,
+    /// The minimiser that every other lies within.
+    pub greatest: Set,
+}
+
+/// What bases tell of the minimum.
+#[derive(Debug, Drop)]
+pub enum Certified {
+    /// The bases prove it.
+    Proved(Proved),
+    /// They do not: the walk leads from a place with z < 0 to one with z > 0.
+    NotOptimal { walk: Walk },
+}
+
+/// Whether bases of q times their terms prove the minimum at the slope p/q, over a ground of n places.
+///
+/// With z the sum of the rows at each place less p, they do exactly where no walk of exchanges leads from a place
+/// with z < 0 to one with z > 0 (Edmonds' min-max; Schrijver, Combinatorial Optimization, section 45).
+///
+/// # Errors
+///
+/// `Memory` where there is none.
+pub fn certify<T: Term>(
+    alloc: Global,
+    terms: &[T],
+    n: usize,
+    p: i128,
+    q: i128,
+    bases: &Rows,
+) -> Result<Certified, Memory>
+    requires bounded { AreBounded n (map T.places terms.now) (map T.size_of terms.now) }
+    requires entry { IsEntry p }
+    requires factor { IsFactor q }
+    requires bases { AreBases q (meanings T.places T.value_of terms.now) bases.now }
+    requires small { All (λ x. All IsEntry x) bases.now }
+    ensures answer { IfOk result (IsAnswer (meanings T.places T.value_of terms.now) n q (even_shift n p) bases.now) }
+    ensures exact { IfOk result (λ r. IsProved r ↔ Prove (meanings T.places T.value_of terms.now) n q (even_shift n p) bases.now) }
+{
+    let shift = vec![in alloc; p; n]?;
+    certify_by(alloc, terms, q, &shift, bases)
+}
+
+// The same with a shift for each place in place of p.
+fn certify_by<T: Term>(
+    alloc: Global,
+    terms: &[T],
+    q: i128,
+    shift: &[i128],
+    bases: &Rows,
+) -> Result<Certified, Memory>
+    requires bounded { AreBounded (length shift.now) (map T.places terms.now) (map T.size_of terms.now) }
+    requires shifts { magnitudes shift.now ≤ℤ pos (10 ^ 36) }
+    requires factor { IsFactor q }
+    requires bases { AreBases q (meanings T.places T.value_of terms.now) bases.now }
+    requires small { All (λ x. All IsEntry x) bases.now }
+    ensures { IfOk result (λ r. IsAnswer (meanings T.places T.value_of terms.now) (length shift.now) q shift.now bases.now r
+        × (IsProved r ↔ Prove (meanings T.places T.value_of terms.now) (length shift.now) q shift.now bases.now)) }
+{
+    let z = rest_of(alloc, terms, shift, bases)?;
+    let links = links_of(alloc, terms, shift.len(), q, bases)?;
+    let over = places_over(alloc, &z)?;
+    let leading = search_from(alloc, &links, Way::Back, &over)?;
+    match visit_under(&leading.visits, &z) {
+        Some(start) => {
+            let walk = walk_of(alloc, &links, &leading.visits, start)?;
+            Ok(Certified::NotOptimal { walk })
+        }
+        None => {
+            let greatest = complement_of(alloc, &leading.found)?;
+            let under = places_under(alloc, &z)?;
+            let reached = search_from(alloc, &links, Way::Onward, &under)?;
+            Ok(Certified::Proved(Proved {
+                value: deficit_of(&z),
+                least: reached.found,
+                greatest,
+            }))
+        }
+    }
+}
