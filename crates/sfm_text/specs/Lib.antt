@@ -1,0 +1,5 @@
+pub mod Text
+pub mod Names
+pub mod FirstForm
+pub mod Fault
+pub mod End

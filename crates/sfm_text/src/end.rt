@@ -1,0 +1,31 @@
+// The end of a reading or a solving that gives no answer.
+ghost use Rattle.sfm_text.specs.declared.end.TextEnd.TheVariants.{Memory};
+ghost use Rattle.std.specs.Prelude.{◌≡◌};
+
+use crate::reason::Reason;
+use std::alloc::AllocError;
+
+/// Why a text gave no instance or no answer.
+#[derive(Clone, Copy, Debug, PartialEq, Eq)]
+pub enum TextEnd {
+    /// The text has a fault: the first, with its line, counted from 1 (0 is the text as a whole).
+    Refused { line: usize, reason: Reason },
+    /// Memory was wanting.
+    Memory,
+}
+
+impl From<AllocError> for TextEnd {
+    ghost from_gives = { λ _ e. e ≡ Memory };
+
+    fn from(_: AllocError) -> Self {
+        TextEnd::Memory
+    }
+}
+
+impl From<sfm_base::Memory> for TextEnd {
+    ghost from_gives = { λ _ e. e ≡ Memory };
+
+    fn from(_: sfm_base::Memory) -> Self {
+        TextEnd::Memory
+    }
+}
