@@ -1,0 +1,5 @@
+pub mod AnswerLines
+pub mod GoodText
+pub mod ReadLemmas
+pub mod WeightAnswer
+pub mod Words
