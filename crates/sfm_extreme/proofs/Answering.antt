@@ -6,7 +6,7 @@ use Rattle.sfm_spec.specs.Families.{Meaning, AreTerms, AreBases, IsMinimiser, Is
 use Rattle.sfm_spec.specs.Walks.{Step, IsStep, AreSteps, Joins, IsOver, last_of}
 use Rattle.sfm_spec.specs.Reach.{IsReached, IsReachedSet, IsLeadingSet, IsUnder, Leads}
 use Rattle.sfm_spec.proofs.Walks.{first_below, step_below, reached_step, has_below}
-use Rattle.sfm_spec.proofs.Extremes.{leads_step, no_join_exactly, least_of_reached, greatest_of_leading}
+use Rattle.sfm_spec.proofs.Extremes.{leads_step, no_join_exactly, no_join_exactly_back, least_of_reached, greatest_of_leading}
 use Rattle.sfm_spec.proofs.Proving.{no_join}
 use Rattle.sfm_extreme.specs.declared.search.Visit.{Visit}
 use Rattle.sfm_extreme.specs.declared.search.Way.TheVariants.{Onward, Back}
@@ -147,3 +147,9 @@ module _ (terms : List Meaning) (rows : List (List ℤ)) (n : ℕ) (q : ℤ) (lo
     least_found starts h prove =
         let set = reached_by_search terms rows n q low fit bases link links (IsUnder terms rows shift) firsts found visits (under_starts firsts starts) h in
         (least_of_reached terms rows n q shift low fit bases found set ((no_join_exactly terms rows n q shift low fit bases found set).1 (no_join terms rows n q shift low fit bases prove))).0
+
+    -- where the bases prove, what the search against the links did not find is the greatest minimiser
+    pub greatest_by_prove : IsSetOf (length z) (λ e. pos 0 <ℤ get_or z e (pos 0)) firsts → IsSearch n (link_by Back link) firsts found visits → Prove terms n q shift rows → IsGreatest terms n q shift (complement found)
+    greatest_by_prove starts h prove =
+        let set = leading_by_search terms rows n q low fit bases link links (IsOver terms rows shift) firsts found visits (over_starts firsts starts) h in
+        (greatest_of_leading terms rows n q shift low fit bases found set ((no_join_exactly_back terms rows n q shift low fit bases found set).1 (no_join terms rows n q shift low fit bases prove))).0

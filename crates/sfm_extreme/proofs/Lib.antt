@@ -6,3 +6,9 @@ pub mod Searches
 pub mod Marking
 pub mod Following
 pub mod Answering
+pub mod Orders
+pub mod Classes
+pub mod Groups
+pub mod Weights
+pub mod Generating
+pub mod Tellings

@@ -52,3 +52,13 @@ marked_complement s t h = ext_get_or false t (complement s) (h.places ∙ sym (l
   at : (e : ℕ) → e < length s → (b : Bool) → get_or s e false ≡ b → get_or t e false ≡ get_or (complement s) e false
   at e le false is = (h.exact e le).1 is ∙ sym (get_or-map not s e false false le ∙ ap not is)
   at e le true is = ⊎_elim (λ has. absurd (both_ways (get_or s e false) ((h.exact e le).0 has) is)) (λ lacks. lacks ∙ sym (get_or-map not s e false false le ∙ ap not is)) (has_or_not t e)
+
+-- a set of one place
+pub single_set : (n e : ℕ) → e < n → IsSetOf n (λ d. d ≡ e) (set (empty_set n) e true)
+single_set n e l = record {
+  places = length-set (empty_set n) e true ∙ length-replicate n false;
+  exact = λ d ld. (
+    (λ has. ⊎_elim (λ is. is) (λ ne. absurd (none_in_empty n d (sym (get_or-set_other (empty_set n) e d true false ne) ∙ has))) (cases_eq d e)),
+    (λ is. rw is (get_or-set_same (empty_set n) e true false (rw (length-replicate n false) l))),
+  );
+}

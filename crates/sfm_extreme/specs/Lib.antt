@@ -2,3 +2,5 @@ pub mod Rest
 pub mod Links
 pub mod Search
 pub mod Certified
+pub mod Pulls
+pub mod Blocks

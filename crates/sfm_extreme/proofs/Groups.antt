@@ -1,0 +1,43 @@
+-- The blocks are made one after another.
+use Rattle.std.proofs.Common.{◌≡◌, ◌⊎◌, inl, inr, ⊎_elim, ℕ, ◌+◌, ◌<◌, Bool, List, [], ◌∷◌, ◌++◌, length, get_or, refl, sym, ap, ◌∙◌, arith}
+use Rattle.std.proofs.lemmas.Bool.{cases_lt}
+use Rattle.std.proofs.lemmas.List.{length_push, get_or_push, get_or_append_left}
+use Rattle.sfm_spec.specs.Blocks.{Block, block_at, no_block}
+use Rattle.sfm_extreme.specs.Pulls.{AreGrouped, IsMembers, needs_upto}
+
+-- the blocks of the first i first places
+pub record AreGroupedTo (rows : List (List Bool)) (firsts : List ℕ) (i : ℕ) (blocks : List Block) : Type 0 where
+  pub count : length blocks ≡ i
+  pub members : (k : ℕ) → k < length blocks → IsMembers rows (get_or firsts k 0) (block_at blocks k).members
+  pub needs : (k : ℕ) → k < length blocks → (block_at blocks k).needs ≡ needs_upto rows firsts k (length firsts)
+
+pub grouped_none : (rows : List (List Bool)) (firsts : List ℕ) → AreGroupedTo rows firsts 0 []
+grouped_none rows firsts = record { count = refl; members = λ k l. absurd (omega arith); needs = λ k l. absurd (omega arith) }
+
+pub grouped_push : (rows : List (List Bool)) (firsts : List ℕ) (i : ℕ) (blocks : List Block) (block : Block) → AreGroupedTo rows firsts i blocks → IsMembers rows (get_or firsts i 0) block.members
+    → block.needs ≡ needs_upto rows firsts i (length firsts) → AreGroupedTo rows firsts (i + 1) (blocks ++ block ∷ [])
+grouped_push rows firsts i blocks block h members needs = record {
+  count = let c = h.count in omega (arith, more, c);
+  members = λ k l. ⊎_elim
+      (λ old. rw (at_old k old) (h.members k old))
+      (λ new. rw (at_new k new, new ∙ h.count) members)
+      (which k l);
+  needs = λ k l. ⊎_elim
+      (λ old. ap (λ (b : Block). b.needs) (at_old k old) ∙ h.needs k old)
+      (λ new. ap (λ (b : Block). b.needs) (at_new k new) ∙ (needs ∙ ap (λ j. needs_upto rows firsts j (length firsts)) (sym (new ∙ h.count))))
+      (which k l);
+} where
+  more : length (blocks ++ block ∷ []) ≡ length blocks + 1
+  more = length_push blocks block
+
+  at_old : (k : ℕ) → k < length blocks → block_at (blocks ++ block ∷ []) k ≡ block_at blocks k
+  at_old k l = get_or_append_left blocks (block ∷ []) no_block k l
+
+  at_new : (k : ℕ) → k ≡ length blocks → block_at (blocks ++ block ∷ []) k ≡ block
+  at_new k is = ap (λ j. block_at (blocks ++ block ∷ []) j) is ∙ get_or_push blocks block no_block (length blocks) refl
+
+  which : (k : ℕ) → k < length (blocks ++ block ∷ []) → (k < length blocks) ⊎ (k ≡ length blocks)
+  which k l = ⊎_elim (λ lt. inl lt) (λ ge. inr (omega (arith, more))) (cases_lt k (length blocks))
+
+pub grouped_all : (rows : List (List Bool)) (firsts : List ℕ) (blocks : List Block) → AreGroupedTo rows firsts (length firsts) blocks → AreGrouped rows firsts blocks
+grouped_all rows firsts blocks h = record { count = h.count; members = h.members; needs = h.needs }

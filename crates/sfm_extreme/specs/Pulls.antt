@@ -1,0 +1,97 @@
+-- Which places come along with which, as the rows of a table, and the blocks that are read off from it.
+use Rattle.std.specs.Prelude.{◌≡◌, ◌↔◌, ◌⊎◌, ℕ, zero, suc, ◌<◌, Bool, false, not, ◌&&◌, List, [], ◌∷◌, ◌++◌, length, slice_index, slice_index_or, nat_eq, if◌then◌else◌, ℤ, pos, ◌<ℤ◌, Option}
+use Rattle.sfm_spec.specs.Sets.{Has, size}
+use Rattle.sfm_spec.specs.Blocks.{Block, block_at}
+use Rattle.sfm_extreme.specs.declared.search.Way.TheVariants.{Onward, Back}
+use Rattle.sfm_extreme.specs.declared.search.Visit.{Visit}
+use Rattle.sfm_extreme.specs.Search.{IsSetOf, IsSearch, link_by}
+
+-- the places that a search against the links from those with z > 0 does not find, nor one with them from those with z < 0
+pub record IsBetween (n : ℕ) (link : ℕ → ℕ → Option ℕ) (z : List ℤ) (mid : List Bool) : Type 0 where
+  pub places : length mid ≡ n
+  pub over : List Bool
+  pub leading : List Bool
+  pub leading_visits : List Visit
+  pub under : List Bool
+  pub reached : List Bool
+  pub reached_visits : List Visit
+  pub over_is : IsSetOf (length z) (λ e. pos 0 <ℤ slice_index_or z e (pos 0)) over
+  pub leading_is : IsSearch n (link_by Back link) over leading leading_visits
+  pub under_is : IsSetOf (length z) (λ e. slice_index_or z e (pos 0) <ℤ pos 0) under
+  pub reached_is : IsSearch n (link_by Onward link) under reached reached_visits
+  pub exact : (e : ℕ) → e < n → Has mid e ↔ ((Has leading e → ⊥) × (Has reached e → ⊥))
+
+-- the places of mid that a search with the links finds from e
+pub record IsReachedRow (n : ℕ) (link : ℕ → ℕ → Option ℕ) (mid : List Bool) (e : ℕ) (row : List Bool) : Type 0 where
+  pub firsts : List Bool
+  pub found : List Bool
+  pub visits : List Visit
+  pub firsts_are : IsSetOf n (λ d. d ≡ e) firsts
+  pub search : IsSearch n (link_by Onward link) firsts found visits
+  pub exact : (d : ℕ) → Has row d ↔ (Has found d × Has mid d)
+
+-- these places if e is in mid, and none if it is not
+pub record IsPullRow (n : ℕ) (link : ℕ → ℕ → Option ℕ) (mid : List Bool) (e : ℕ) (row : List Bool) : Type 0 where
+  pub places : length row ≡ n
+  pub none : (Has mid e → ⊥) → (d : ℕ) → Has row d → ⊥
+  pub some : Has mid e → IsReachedRow n link mid e row
+
+abbrev pub row_of : List (List Bool) → ℕ → List Bool
+row_of rows e = slice_index_or rows e []
+
+-- the row of each of n places
+pub record ArePullRows (n : ℕ) (link : ℕ → ℕ → Option ℕ) (mid : List Bool) (rows : List (List Bool)) : Type 0 where
+  pub count : length rows ≡ n
+  pub each : (e : ℕ) → e < n → IsPullRow n link mid e (row_of rows e)
+
+-- as many places in each row as there are rows
+abbrev pub AreSquare : List (List Bool) → Type 0
+AreSquare rows = (e : ℕ) → e < length rows → length (row_of rows e) ≡ length rows
+
+-- d comes along with e
+abbrev pub Pulls : List (List Bool) → ℕ → ℕ → Type 0
+Pulls rows e d = Has (row_of rows e) d
+
+-- how many places come along with e
+abbrev pub pulled : List (List Bool) → ℕ → ℕ
+pulled rows e = size (row_of rows e)
+
+-- e comes along with itself, and no place before it comes along with it both ways
+pub record IsFirstPlace (rows : List (List Bool)) (e : ℕ) : Type 0 where
+  pub here : Pulls rows e e
+  pub least : (d : ℕ) → d < e → Pulls rows e d → Pulls rows d e → ⊥
+
+-- the place d with its count c stands before the place e with the count w
+abbrev pub Before : ℕ → ℕ → ℕ → ℕ → Type 0
+Before c d w e = (c < w) ⊎ ((c ≡ w) × (d < e))
+
+-- in order, all first places that stand before the place e with the count w
+pub record AreFirstsTo (rows : List (List Bool)) (w e : ℕ) (firsts : List ℕ) : Type 0 where
+  pub inside : (i : ℕ) → i < length firsts → slice_index firsts i < length rows
+  pub first : (i : ℕ) → i < length firsts → IsFirstPlace rows (slice_index firsts i)
+  pub below : (i : ℕ) → i < length firsts → Before (pulled rows (slice_index firsts i)) (slice_index firsts i) w e
+  pub complete : (d : ℕ) → d < length rows → IsFirstPlace rows d → Before (pulled rows d) d w e → (i : ℕ) × (i < length firsts) × (slice_index firsts i ≡ d)
+  pub ordered : (i j : ℕ) → i < j → j < length firsts → Before (pulled rows (slice_index firsts i)) (slice_index firsts i) (pulled rows (slice_index firsts j)) (slice_index firsts j)
+
+-- in order, all first places
+pub record AreFirsts (rows : List (List Bool)) (firsts : List ℕ) : Type 0 where
+  pub inside : (i : ℕ) → i < length firsts → slice_index firsts i < length rows
+  pub first : (i : ℕ) → i < length firsts → IsFirstPlace rows (slice_index firsts i)
+  pub complete : (d : ℕ) → d < length rows → IsFirstPlace rows d → (i : ℕ) × (i < length firsts) × (slice_index firsts i ≡ d)
+  pub ordered : (i j : ℕ) → i < j → j < length firsts → Before (pulled rows (slice_index firsts i)) (slice_index firsts i) (pulled rows (slice_index firsts j)) (slice_index firsts j)
+
+-- the places that come along with e and that it comes along with
+pub record IsMembers (rows : List (List Bool)) (e : ℕ) (members : List Bool) : Type 0 where
+  pub places : length members ≡ length rows
+  pub exact : (d : ℕ) → d < length rows → Has members d ↔ (Pulls rows e d × Pulls rows d e)
+
+-- of the first k first places, the numbers from 1 of those other than the i-th that come along with the i-th
+abbrev pub needs_upto : List (List Bool) → List ℕ → ℕ → ℕ → List ℕ
+needs_upto rows firsts i zero = []
+needs_upto rows firsts i (suc k) = if (not (nat_eq k i) && slice_index_or (row_of rows (slice_index firsts i)) (slice_index firsts k) false) then needs_upto rows firsts i k ++ suc k ∷ [] else needs_upto rows firsts i k
+
+-- the block of each first place
+pub record AreGrouped (rows : List (List Bool)) (firsts : List ℕ) (blocks : List Block) : Type 0 where
+  pub count : length blocks ≡ length firsts
+  pub members : (i : ℕ) → i < length blocks → IsMembers rows (slice_index firsts i) (block_at blocks i).members
+  pub needs : (i : ℕ) → i < length blocks → (block_at blocks i).needs ≡ needs_upto rows firsts i (length firsts)

@@ -1,0 +1,102 @@
+// The blocks of the minimisers: the places between the least and the greatest minimiser, put together where each comes
+// along with the other. A block is told by its first place, and needs the other blocks whose first places come along
+// with it.
+ghost use Rattle.std.specs.Prelude.{◌≡◌, ℕ, ◌<◌, length, map, pos, IfOk, slice_index};
+ghost use Rattle.std.specs.List.{All};
+ghost use Rattle.sfm_spec.specs.Bounds.{AreBounded, IsEntry};
+ghost use Rattle.sfm_spec.specs.Blocks.{AreBlocks};
+ghost use Rattle.sfm_spec.specs.Families.{meanings, even_shift, AreBases, Prove};
+ghost use Rattle.sfm_extreme.specs.Blocks.{block_of};
+ghost use Rattle.sfm_extreme.specs.Pulls.{AreGrouped, AreSquare, IsMembers, needs_upto};
+
+use crate::between::{between, pull_rows};
+use crate::firsts::firsts_in_order;
+use crate::links::links_of;
+use crate::rest::rest_of;
+use sfm_base::{Memory, Rows, Set};
+use sfm_law::Term;
+use std::alloc::Global;
+
+/// Places that are in the same minimisers, and the blocks that each minimiser with them has too.
+#[derive(Debug, Drop)]
+pub struct Block {
+    /// The places.
+    pub members: Set,
+    /// The numbers of the blocks that it needs, counted from 1, ascending.
+    pub needs: Vec<usize>,
+}
+
+/// The blocks that generate the minimisers, from bases of the terms that prove the minimum: each minimiser is the least
+/// one with blocks that are taken together with all that they need (Fujishige, Submodular Functions and Optimization,
+/// section 3). They come by how many places are in a block and all that it needs, then by its first place.
+///
+/// # Errors
+///
+/// `Memory` where there is none.
+pub fn blocks<T: Term>(
+    alloc: Global,
+    terms: &[T],
+    n: usize,
+    bases: &Rows,
+) -> Result<Vec<Block>, Memory>
+    requires bounded { AreBounded n (map T.places terms.now) (map T.size_of terms.now) }
+    requires bases { AreBases (pos 1) (meanings T.places T.value_of terms.now) bases.now }
+    requires small { All (λ x. All IsEntry x) bases.now }
+    requires prove { Prove (meanings T.places T.value_of terms.now) n (pos 1) (even_shift n (pos 0)) bases.now }
+    ensures { IfOk result (λ r. AreBlocks (meanings T.places T.value_of terms.now) n (pos 1) (even_shift n (pos 0)) (map block_of r.items)) }
+{
+    let shift = vec![in alloc; 0i128; n]?;
+    let z = rest_of(alloc, terms, &shift, bases)?;
+    let links = links_of(alloc, terms, n, 1, bases)?;
+    let mid = between(alloc, &links, &z)?;
+    let rows = pull_rows(alloc, &links, &mid)?;
+    let firsts = firsts_in_order(alloc, &rows)?;
+    grouped(alloc, &rows, &firsts)
+}
+
+// The blocks with the given first places.
+fn grouped(alloc: Global, rows: &[Set], firsts: &[usize]) -> Result<Vec<Block>, Memory>
+    requires square { AreSquare rows.now }
+    requires inside { (i : ℕ) → i < length firsts.now → slice_index firsts.now i < length rows.now }
+    ensures { IfOk result (λ r. AreGrouped rows.now firsts.now (map block_of r.items)) }
+{
+    let mut blocks = Vec::new(alloc);
+    for (i, first) in firsts.iter().enumerate() {
+        let members = members_of(alloc, rows, *first)?;
+        let needs = needs_of(alloc, rows, firsts, i)?;
+        blocks.push(Block { members, needs })?;
+    }
+    Ok(blocks)
+}
+
+// The places that come along with the first place, and that it comes along with.
+fn members_of(alloc: Global, rows: &[Set], first: usize) -> Result<Set, Memory>
+    requires square { AreSquare rows.now }
+    requires inside { first < length rows.now }
+    ensures { IfOk result (IsMembers rows.now first) }
+{
+    let mut members = Set::empty(alloc, rows.len())?;
+    for d in 0..rows.len() {
+        if rows[first].contains(d) && rows[d].contains(first) {
+            members.insert(d);
+        }
+    }
+    Ok(members)
+}
+
+// The numbers, from 1, of the other blocks whose first places come along with that of block i.
+fn needs_of(alloc: Global, rows: &[Set], firsts: &[usize], i: usize) -> Result<Vec<usize>, Memory>
+    requires square { AreSquare rows.now }
+    requires inside { (j : ℕ) → j < length firsts.now → slice_index firsts.now j < length rows.now }
+    requires block { i < length firsts.now }
+    ensures { IfOk result (λ r. r.items ≡ needs_upto rows.now firsts.now i (length firsts.now)) }
+{
+    let row = &rows[firsts[i]];
+    let mut needs = Vec::new(alloc);
+    for (j, first) in firsts.iter().enumerate() {
+        if j != i && row.contains(*first) {
+            needs.push(j + 1)?;
+        }
+    }
+    Ok(needs)
+}
