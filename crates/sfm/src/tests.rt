@@ -1,4 +1,6 @@
 // Worked cases, run over objects in memory: what each call answers, and what it writes on its two sinks.
+mod extremes;
+
 use crate::run::run;
 use sfm_io::{MemoryShelf, MemorySink};
 use std::alloc::Global;

@@ -12,10 +12,6 @@ use mathlib.Core.Logic.{⊎_elim}
 use Rattle.sfm_kind.specs.Names.{IsNewName}
 
 module _ {V : Type 0} (bytes : V → List ℕ) (name : List ℕ) where
-  -- whether a key has the bytes of the name
-  pub is_named : V → Bool
-  is_named key = pointwise nat_eq name (bytes key)
-
   -- a key that is found has the bytes
   pub found_at : (keys : List V) (e : ℕ) → e < length keys → position (λ key. pointwise nat_eq name (bytes key)) keys ≡ Some e → slice_get (map bytes keys) e ≡ Some name
   found_at keys e within at =

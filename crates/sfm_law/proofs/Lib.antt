@@ -4,3 +4,4 @@ pub mod LocalLaw
 pub mod Greedy
 pub mod Listing
 pub mod Monotone
+pub mod FirstBases

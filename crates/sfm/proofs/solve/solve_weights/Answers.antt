@@ -31,15 +31,15 @@ start_rows-requires-clause-bounded c =
 pub sum_negatives-value-requires-clause-small : goal.sum_negatives-value-requires-clause-small
 sum_negatives-value-requires-clause-small c =
     let same : c.in_ok-new.field-0.weights ≡ c.args.weights.now = c.in_ok-new.ensures.weights ∙ c.as_slice-2.ensures in
-    let start : c.row-base.result.now ≡ scaled (pos 1) c.args.weights.now = c.row-base.ensures ∙ (ap (λ r. get_or r 0 []) c.in_ok-bases.ensures ∙ ap (scaled (pos 1)) same) in
+    let start : c.row-base.result.now ≡ scaled (pos 1) c.args.weights.now = c.row-base.ensures ∙ (ap (λ r. get_or r 0 []) c.in_ok-bases.ensures.starts ∙ ap (scaled (pos 1)) same) in
     λ k d l. rw start (once_small c.args.weights.now (λ i h. c.requires.small i (pos 0) h) k d (rw start at l))
 
 pub returns : goal.returns
 returns c =
     let weights = c.args.weights.now in
     let same : c.in_ok-new.field-0.weights ≡ c.args.weights.now = c.in_ok-new.ensures.weights ∙ c.as_slice-2.ensures in
-    let start : c.row-base.result.now ≡ scaled (pos 1) c.args.weights.now = c.row-base.ensures ∙ (ap (λ r. get_or r 0 []) c.in_ok-bases.ensures ∙ ap (scaled (pos 1)) same) in
-    let rows : c.in_ok-bases.bases ≡ c.row-base.result.now ∷ [] = c.in_ok-bases.ensures ∙ ap (λ r. r ∷ []) (ap (scaled (pos 1)) same ∙ sym start) in
+    let start : c.row-base.result.now ≡ scaled (pos 1) c.args.weights.now = c.row-base.ensures ∙ (ap (λ r. get_or r 0 []) c.in_ok-bases.ensures.starts ∙ ap (scaled (pos 1)) same) in
+    let rows : c.in_ok-bases.bases ≡ c.row-base.result.now ∷ [] = c.in_ok-bases.ensures.starts ∙ ap (λ r. r ∷ []) (ap (scaled (pos 1)) same ∙ sym start) in
     let sized : length c.row-base.result.now ≡ length weights = ap length start ∙ length-map weights (λ w. pos 1 *ℤ w) in
     let f : FitsSigned w128 c.sum_negatives-value.result = (let b = c.sum_negatives-value.ensures.small in omega (arith, ints, b.low, b.high)) in
     rw rows (simp to_z-of_z (weight_answer weights c.row-base.result.now start c.in_ok-least.least c.in_ok-greatest.greatest c.sum_negatives-value.result
