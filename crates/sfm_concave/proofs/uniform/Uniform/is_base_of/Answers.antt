@@ -1,0 +1,48 @@
+use Rattle.std.proofs.Common.{◌*ℤ◌, ◌≤ℤ◌, ◌∙◌, pos, ap, sym, refl, FitsSigned}
+use Rattle.std.proofs.lemmas.Bool.{both_ways}
+use Rattle.std.proofs.lemmas.Int.{to_z-of_z}
+use Rattle.std.proofs.lemmas.List.Elements.{All-get_or}
+use Rattle.std.proofs.lemmas.List.{get_or_default}
+use mir.Syntax.{w128}
+use Rattle.sfm_concave.proofs.Fits.{given_fits, given_more, product_fits, rank_fits}
+use Rattle.sfm_concave.proofs.Totals.{total_of-whole}
+use Rattle.sfm_concave.proofs.UniformRooms.{uniform_base, uniform_base_back}
+use Rattle.sfm_concave.proofs.uniform.Uniform.is_base_of.Goals as goal
+
+pub returns-then-are_within : goal.returns-then-are_within
+returns-then-are_within c =
+    let r = c.requires in
+    let s = c.args.self.now in
+    let x = c.args.x.now in
+    let q = c.args.q in
+    let fq : FitsSigned w128 q = c.ranges.q in
+    let fw : FitsSigned w128 s.w = given_fits _ s.given in
+    let fp : FitsSigned w128 (q *ℤ s.w) = product_fits _ _ r.factor (given_more _ s.given) in
+    let fr : FitsSigned w128 c.ranked.result = rank_fits _ c.ranked.ensures.small in
+    let ft : FitsSigned w128 (q *ℤ c.ranked.result) = product_fits _ _ r.factor c.ranked.ensures.small in
+    let p = simp to_z-of_z at c.product.ensures in
+    let t = simp to_z-of_z at c.product-then-are_within.ensures in
+    let within = simp to_z-of_z at (rw p at (c.if-are_within.ensures.0 refl)) in
+    let i = simp to_z-of_z at (rw t at c.has_sum.ensures) in (
+      (λ h. uniform_base q s.w s.cap x r.factor.low s.low (record {
+        counts = λ e lt. (All-get_or (λ a. (pos 0 ≤ℤ a) × (a ≤ℤ (q *ℤ s.w))) x e (pos 0) lt within).0;
+        capped = λ e lt. (All-get_or (λ a. (pos 0 ≤ℤ a) × (a ≤ℤ (q *ℤ s.w))) x e (pos 0) lt within).1;
+        sum = sym (total_of-whole x) ∙ (i.0 h ∙ ap (λ z. q *ℤ z) c.ranked.ensures.value);
+      })),
+      (λ b. i.1 (total_of-whole x ∙ ((uniform_base_back q s.w s.cap x r.factor.low s.low b).sum ∙ ap (λ z. q *ℤ z) (sym c.ranked.ensures.value)))),
+    )
+
+pub returns-else-are_within : goal.returns-else-are_within
+returns-else-are_within c =
+    let r = c.requires in
+    let s = c.args.self.now in
+    let x = c.args.x.now in
+    let q = c.args.q in
+    let fq : FitsSigned w128 q = c.ranges.q in
+    let fw : FitsSigned w128 s.w = given_fits _ s.given in
+    let fp : FitsSigned w128 (q *ℤ s.w) = product_fits _ _ r.factor (given_more _ s.given) in
+    let p = simp to_z-of_z at c.product.ensures in
+    let within = simp to_z-of_z at (rw p at c.are_within.ensures) in (
+      (λ t. absurd (both_ways c.are_within.result c.if-are_within.false t)),
+      (λ b. let h = uniform_base_back q s.w s.cap x r.factor.low s.low b in within.1 (λ k d lt. rw (get_or_default x k d (pos 0) lt) (h.counts k lt, h.capped k lt))),
+    )

@@ -1,0 +1,4 @@
+pub mod ConcaveLaws
+pub mod Counts
+pub mod Thresholds
+pub mod UniformLaws

@@ -1,0 +1,382 @@
+// A concave function of the count of a part. What a part leaves of its value is its slack, and a base leaves none negative.
+// Of the parts of one count those with the greatest entries leave least; and of these, only those that have all the entries above
+// some entry need to be tried: with u put in and v taken out for the room of (u, v).
+ghost use Rattle.std.specs.Prelude.{◌≡◌, ◌≢◌, ◌↔◌, ℕ, ◌+◌, ◌-◌, ◌<◌, ◌≤◌, ◌^◌, Bool, true, false, List, length, slice_index_or, ℤ, pos, neg_ℤ, ◌*ℤ◌, ◌+ℤ◌, ◌-ℤ◌, ◌≤ℤ◌, ◌<ℤ◌, IfOk, OnOk, IsTrue, Option, Some, Ok, Err};
+ghost use Rattle.std.specs.List.{All};
+ghost use Rattle.sfm_spec.specs.Bounds.{IsEntry, IsFactor, IsGiven, AreElements};
+ghost use Rattle.sfm_spec.specs.Terms.{SetFunction, times, IsBase, IsFamily, IsSubmodular, IsGreedy, exchanged};
+ghost use Rattle.sfm_spec.specs.Kinds.{concave_value};
+ghost use Rattle.sfm_law.specs.Room.{IsRoom, IsReach, IsWithinRoom};
+ghost use Rattle.sfm_concave.specs.Thresholds.{above, slack, IsShareOf, IsSomeShare, IsLeastSlack, Blocks, IsOver};
+ghost use Rattle.sfm_concave.specs.ConcaveLaws.{number_of, scaled, IsFirstRise, NeverRises, greatest, gain_of, concave_start, concave-family, concave-submodular, concave-bounded, concave-starts, concave-starts_small};
+
+use crate::number::{has_sum, magnitude, product};
+use crate::place::put;
+use crate::rise::first_rise;
+use crate::share::{Share, share_above, share_between, share_with, share_without};
+use sfm_base::{Memory, Numbers, Places, Set};
+use sfm_law::{Room, Term};
+use std::alloc::Global;
+
+/// Why numbers make no concave function.
+#[derive(Clone, Copy, Debug, PartialEq, Eq)]
+pub enum ConcaveEnd {
+    /// Increment number `at`, counted from 1, is the first that is above the one before.
+    Rises { at: usize },
+    /// Want of memory.
+    Memory,
+}
+
+impl From<Memory> for ConcaveEnd {
+    ghost use Rattle.sfm_concave.specs.declared.concave.ConcaveEnd.TheVariants.{Memory};
+
+    ghost from_gives = { λ _ e. e ≡ Memory };
+
+    fn from(_: Memory) -> Self {
+        ConcaveEnd::Memory
+    }
+}
+
+/// A concave function of the count of a part (Schrijver, Combinatorial Optimization, section 44).
+#[derive(Drop)]
+pub struct Concave {
+    pub places: Places,
+    /// The numbers of 1, 2, .. places.
+    pub values: Numbers,
+    /// The greatest magnitude of a number.
+    pub most: i128,
+    pub ghost elements: { AreElements places },
+    pub ghost few: { length places ≤ 256 },
+    pub ghost counted: { length values ≡ length places },
+    pub ghost given: { All IsGiven values },
+    pub ghost falling: { NeverRises values },
+    pub ghost topped: { most ≡ greatest values },
+}
+
+/// The greatest magnitude of the numbers.
+fn greatest_magnitude(values: &[i128]) -> i128
+    requires { All IsGiven values.now }
+    ensures { result ≡ greatest values.now }
+{
+    let mut most = 0;
+    for value in values {
+        most = magnitude(*value).max(most);
+    }
+    most
+}
+
+/// Whether a number is above a bar, if there is one.
+fn is_over(bar: Option<i128>, a: i128) -> bool
+    ensures { IsTrue result ↔ IsOver bar a }
+{
+    match bar {
+        None => true,
+        Some(bar) => a > bar,
+    }
+}
+
+/// Whether v is not u, and its entry is above a bar, if there is one.
+fn is_other_over(v: usize, u: usize, bar: Option<i128>, a: i128) -> bool
+    ensures { IsTrue result ↔ ((v ≢ u) × IsOver bar a) }
+{
+    v != u && is_over(bar, a)
+}
+
+impl Concave {
+    /// The term with these numbers for 1, 2, .. of the elements; both lists are copied. The increments are compared before
+    /// memory is asked for.
+    pub fn new(alloc: Global, elements: &[usize], values: &[i128]) -> Result<Concave, ConcaveEnd>
+        requires elements { AreElements elements.now }
+        requires counted { length values.now ≡ length elements.now }
+        requires given { All IsGiven values.now }
+        ensures rises { (at : ℕ) → (result ≡ Err (ConcaveEnd.Rises at)) ↔ IsFirstRise values.now at }
+        ensures falling { OnOk result (NeverRises values.now) }
+        ensures places { IfOk result (λ r. r.places ≡ elements.now) }
+        ensures values { IfOk result (λ r. r.values ≡ values.now) }
+    {
+        if let Some(at) = first_rise(values) {
+            return Err(ConcaveEnd::Rises { at });
+        }
+        let most = greatest_magnitude(values);
+        let places = Places::from_slice(alloc, elements)?;
+        let values = Numbers::from_slice(alloc, values)?;
+        Ok(Concave {
+            places,
+            values,
+            most,
+        })
+    }
+
+    /// The number of a count of places.
+    fn number(&self, count: usize) -> i128
+        requires { count ≤ length self.now.values }
+        ensures value { result ≡ number_of self.now.values count }
+        ensures given { IsGiven result }
+    {
+        if count == 0 {
+            return 0;
+        }
+        self.values.as_slice()[count - 1]
+    }
+
+    /// The value of a part: every part is allowed.
+    pub fn value_of(&self, s: &Set) -> Option<i128>
+        requires { length s.now ≡ length self.now.places }
+        ensures { result ≡ concave_value self.now.values s.now }
+    {
+        Some(self.number(s.size()))
+    }
+
+    /// What the place j adds to those before it, q times.
+    fn gain(&self, q: i128, j: usize) -> i128
+        requires factor { IsFactor q }
+        requires place { j < length self.now.values }
+        ensures { result ≡ gain_of q self.now.values j }
+    {
+        product(q, self.number(j + 1)) - product(q, self.number(j))
+    }
+
+    /// Writes what each place adds to those before it: the greedy base.
+    pub fn start_of(&self, q: i128, x: &mut [i128])
+        requires factor { IsFactor q }
+        requires entries { length x.old ≡ length self.now.places }
+        ensures start { x.new ≡ concave_start q self.now.values (length self.now.places) }
+        ensures greedy { IsGreedy q (concave_value self.now.values) (length self.now.places) x.new }
+    {
+        self.write_gains(q, x);
+    }
+
+    /// Writes what each place adds to those before it.
+    fn write_gains(&self, q: i128, x: &mut [i128])
+        requires factor { IsFactor q }
+        requires entries { length x.old ≡ length self.now.places }
+        ensures { x.new ≡ concave_start q self.now.values (length self.now.places) }
+    {
+        for (j, a) in x.iter_mut().enumerate() {
+            *a = self.gain(q, j);
+        }
+    }
+
+    /// What a part with a share leaves of q times its value.
+    fn slack(&self, q: i128, _x: &[i128], share: Share) -> i128
+        requires factor { IsFactor q }
+        requires entries { length _x.now ≡ length self.now.places }
+        requires small { All IsEntry _x.now }
+        requires share { IsSomeShare share.count share.sum _x.now }
+        ensures { (s : List Bool) → IsShareOf share.count share.sum _x.now s → result ≡ slack (scaled q self.now.values) _x.now s }
+    {
+        product(q, self.number(share.count)) - share.sum
+    }
+
+    /// Whether the places above each entry leave something.
+    fn is_within(&self, q: i128, x: &[i128]) -> bool
+        requires factor { IsFactor q }
+        requires entries { length x.now ≡ length self.now.places }
+        requires small { All IsEntry x.now }
+        ensures { IsTrue result ↔ ((w : ℕ) → w < length x.now → pos 0 ≤ℤ slack (scaled q self.now.values) x.now (above (slice_index_or x.now w (pos 0)) x.now)) }
+    {
+        for a in x {
+            if self.slack(q, x, share_above(x, *a)) < 0 {
+                return false;
+            }
+        }
+        true
+    }
+
+    /// Whether x is a base of q times the term.
+    pub fn is_base_of(&self, q: i128, x: &[i128]) -> bool
+        requires factor { IsFactor q }
+        requires entries { length x.now ≡ length self.now.places }
+        requires small { All IsEntry x.now }
+        ensures { IsTrue result ↔ IsBase (times q (concave_value self.now.values)) x.now }
+    {
+        has_sum(x, product(q, self.number(x.len()))) && self.is_within(q, x)
+    }
+    /// The least slack of a part with u and not v.
+    fn least_slack(&self, q: i128, x: &[i128], u: usize, v: usize) -> i128
+        requires factor { IsFactor q }
+        requires entries { length x.now ≡ length self.now.places }
+        requires small { All IsEntry x.now }
+        requires apart { u ≢ v }
+        requires from { u < length x.now }
+        requires onto { v < length x.now }
+        ensures { IsLeastSlack (scaled q self.now.values) x.now u v result }
+    {
+        let mut least = self.slack(q, x, share_without(x, v));
+        for a in x {
+            least = least.min(self.slack(q, x, share_between(x, *a, u, v)));
+        }
+        least
+    }
+
+    /// The room of (u, v) at a base: the least slack of a part with u and not v.
+    pub fn room_of(&self, q: i128, x: &[i128], u: usize, v: usize) -> Room
+        requires factor { IsFactor q }
+        requires entries { length x.now ≡ length self.now.places }
+        requires small { All IsEntry x.now }
+        requires base { IsBase (times q (concave_value self.now.values)) x.now }
+        requires apart { u ≢ v }
+        requires from { u < length x.now }
+        requires onto { v < length x.now }
+        ensures { IsRoom (times q (concave_value self.now.values)) x.now u v result }
+    {
+        Room::Upto(self.least_slack(q, x, u, v))
+    }
+
+    /// Whether u and the places above w, which is not above u, leave nothing: then u has no room to a place that is not
+    /// above w.
+    fn blocks(&self, q: i128, x: &[i128], u: usize, w: usize) -> bool
+        requires factor { IsFactor q }
+        requires entries { length x.now ≡ length self.now.places }
+        requires small { All IsEntry x.now }
+        requires from { u < length x.now }
+        requires place { w < length x.now }
+        ensures { IsTrue result ↔ Blocks (scaled q self.now.values) x.now u w }
+    {
+        x[w] <= x[u] && self.slack(q, x, share_with(x, x[w], u)) == 0
+    }
+
+    /// Whether u has no room to a place like w, and this is not known by a bar that is at least as high.
+    fn lifts(&self, q: i128, x: &[i128], u: usize, w: usize, bar: Option<i128>) -> bool
+        requires factor { IsFactor q }
+        requires entries { length x.now ≡ length self.now.places }
+        requires small { All IsEntry x.now }
+        requires from { u < length x.now }
+        requires place { w < length x.now }
+        ensures { IsTrue result ↔ (IsOver bar (slice_index_or x.now w (pos 0)) × Blocks (scaled q self.now.values) x.now u w) }
+    {
+        is_over(bar, x[w]) && self.blocks(q, x, u, w)
+    }
+
+    /// The greatest entry to which u has no room, if there is one.
+    fn bar(&self, q: i128, x: &[i128], u: usize) -> Option<i128>
+        requires factor { IsFactor q }
+        requires entries { length x.now ≡ length self.now.places }
+        requires small { All IsEntry x.now }
+        requires from { u < length x.now }
+        ensures { (a : ℤ) → IsOver result a ↔ ((w : ℕ) → Blocks (scaled q self.now.values) x.now u w → slice_index_or x.now w (pos 0) <ℤ a) }
+    {
+        let mut bar = None;
+        for (w, a) in x.iter().enumerate() {
+            if self.lifts(q, x, u, w, bar) {
+                bar = Some(*a);
+            }
+        }
+        bar
+    }
+
+    /// Writes the places other than u to which u has room at a base: those above the greatest entry to which it has none.
+    pub fn reach_of(&self, q: i128, x: &[i128], u: usize, to: &mut Set)
+        requires factor { IsFactor q }
+        requires entries { length x.now ≡ length self.now.places }
+        requires small { All IsEntry x.now }
+        requires base { IsBase (times q (concave_value self.now.values)) x.now }
+        requires from { u < length x.now }
+        requires room_for_answer { length to.old ≡ length x.now }
+        ensures places { length to.new ≡ length to.old }
+        ensures reached { IsReach (times q (concave_value self.now.values)) x.now u to.new }
+    {
+        let bar = self.bar(q, x, u);
+        for (v, a) in x.iter().enumerate() {
+            put(to, v, is_other_over(v, u, bar, *a));
+        }
+    }
+}
+
+impl Term for Concave {
+    type Note = ();
+
+    ghost places = { λ s. s.places };
+
+    ghost value_of = { λ s. concave_value s.values };
+
+    ghost size_of = { λ s. greatest s.values };
+
+    ghost start_of = { λ s q. concave_start q s.values (length s.places) };
+
+    ghost fits = { λ s note q x. Unit {0} };
+
+    ghost family = { λ s. concave-family s.values };
+
+    ghost submodular = { λ s. concave-submodular _ s.values s.counted s.falling };
+
+    ghost bounded = { λ s t a h e. concave-bounded s.values t a e };
+
+    ghost starts = { λ s q low. concave-starts _ q s.values low s.counted s.falling };
+
+    ghost starts_small = { λ s q low. concave-starts_small _ q s.values low };
+
+    fn elements(&self) -> &[usize] {
+        self.places.as_slice()
+    }
+
+    fn size(&self) -> i128 {
+        self.most
+    }
+
+    fn value(&self, _alloc: Global, s: &Set) -> Result<Option<i128>, Memory> {
+        Ok(self.value_of(s))
+    }
+
+    fn start(&self, _alloc: Global, q: i128, x: &mut [i128]) -> Result<(), Memory> {
+        self.start_of(q, x);
+        Ok(())
+    }
+
+    fn is_base(&self, _alloc: Global, q: i128, x: &[i128]) -> Result<bool, Memory> {
+        Ok(self.is_base_of(q, x))
+    }
+
+    fn room(
+        &self,
+        _alloc: Global,
+        q: i128,
+        x: &[i128],
+        u: usize,
+        v: usize,
+    ) -> Result<Room, Memory> {
+        Ok(self.room_of(q, x, u, v))
+    }
+
+    fn reach(
+        &self,
+        _alloc: Global,
+        q: i128,
+        x: &[i128],
+        u: usize,
+        to: &mut Set,
+    ) -> Result<(), Memory> {
+        self.reach_of(q, x, u, to);
+        Ok(())
+    }
+
+    fn note(&self, _alloc: Global, _q: i128, _x: &[i128]) -> Result<(), Memory> {
+        Ok(())
+    }
+
+    fn reach_by(
+        &self,
+        _alloc: Global,
+        q: i128,
+        x: &[i128],
+        _note: &(),
+        u: usize,
+        to: &mut Set,
+    ) -> Result<(), Memory> {
+        self.reach_of(q, x, u, to);
+        Ok(())
+    }
+
+    fn moved(
+        &self,
+        _alloc: Global,
+        _q: i128,
+        _x: &[i128],
+        _note: &mut (),
+        _u: usize,
+        _v: usize,
+        _a: i128,
+    ) -> Result<(), Memory> {
+        Ok(())
+    }
+}

@@ -1,0 +1,15 @@
+// Each has its calls without an allocator, to which the trait's calls pass on.
+#![tactic(auto)]
+
+pub mod concave;
+mod number;
+mod place;
+mod rise;
+mod share;
+pub mod uniform;
+
+pub use concave::{Concave, ConcaveEnd};
+pub use uniform::Uniform;
+
+#[cfg(test)]
+mod tests;

@@ -1,0 +1,82 @@
+// How many places a set has, and what they have in all, for the sets of places above an entry.
+ghost use Rattle.std.specs.Prelude.{◌≢◌, ◌<◌, ◌≤◌, false, length, slice_set};
+ghost use Rattle.std.specs.List.{All};
+ghost use Rattle.sfm_spec.specs.Bounds.{IsEntry};
+ghost use Rattle.sfm_spec.specs.Sets.{whole_set};
+ghost use Rattle.sfm_concave.specs.Thresholds.{above, above_with, above_between};
+ghost use Rattle.sfm_concave.specs.Thresholds.{IsShareOf};
+
+use crate::number::sum_of;
+
+/// A count of places, and the sum of their entries.
+#[derive(Clone, Copy, Debug, PartialEq, Eq)]
+pub(crate) struct Share {
+    pub count: usize,
+    pub sum: i128,
+}
+
+/// The share of the places with more than a number.
+pub(crate) fn share_above(x: &[i128], bar: i128) -> Share
+    requires few { length x.now ≤ 256 }
+    requires small { All IsEntry x.now }
+    ensures { IsShareOf result.count result.sum x.now (above bar x.now) }
+{
+    let mut count = 0;
+    let mut sum = 0;
+    for a in x {
+        if *a > bar {
+            count += 1;
+            sum += *a;
+        }
+    }
+    Share { count, sum }
+}
+
+/// The share of the places with more than a number and u.
+pub(crate) fn share_with(x: &[i128], bar: i128, u: usize) -> Share
+    requires few { length x.now ≤ 256 }
+    requires small { All IsEntry x.now }
+    requires from { u < length x.now }
+    ensures { IsShareOf result.count result.sum x.now (above_with bar x.now u) }
+{
+    let share = share_above(x, bar);
+    if x[u] > bar {
+        return share;
+    }
+    Share {
+        count: share.count + 1,
+        sum: share.sum + x[u],
+    }
+}
+
+/// The share of the places with more than a number and u, without v.
+pub(crate) fn share_between(x: &[i128], bar: i128, u: usize, v: usize) -> Share
+    requires few { length x.now ≤ 256 }
+    requires small { All IsEntry x.now }
+    requires from { u < length x.now }
+    requires onto { v < length x.now }
+    requires apart { u ≢ v }
+    ensures { IsShareOf result.count result.sum x.now (above_between bar x.now u v) }
+{
+    let share = share_with(x, bar, u);
+    if x[v] <= bar {
+        return share;
+    }
+    Share {
+        count: share.count - 1,
+        sum: share.sum - x[v],
+    }
+}
+
+/// The share of all places but v.
+pub(crate) fn share_without(x: &[i128], v: usize) -> Share
+    requires few { length x.now ≤ 256 }
+    requires small { All IsEntry x.now }
+    requires onto { v < length x.now }
+    ensures { IsShareOf result.count result.sum x.now (slice_set (whole_set (length x.now)) v false) }
+{
+    Share {
+        count: x.len() - 1,
+        sum: sum_of(x) - x[v],
+    }
+}
