@@ -1,5 +1,11 @@
-pub mod Text
-pub mod Names
-pub mod FirstForm
-pub mod Fault
-pub mod End
+pub mod Lines
+pub mod Cursor
+pub mod Matched
+pub mod Parts
+pub mod LineTerms
+pub mod Words
+pub mod TermLines
+pub mod Reading
+pub mod GoodText
+pub mod Reasons
+pub mod ReadParts

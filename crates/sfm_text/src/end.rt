@@ -4,13 +4,16 @@ ghost use Rattle.std.specs.Prelude.{◌≡◌};
 
 use crate::reason::Reason;
 use std::alloc::AllocError;
+use thiserror::Error;
 
 /// Why a text gave no instance or no answer.
-#[derive(Clone, Copy, Debug, PartialEq, Eq)]
+#[derive(Clone, Copy, Debug, PartialEq, Eq, Error)]
 pub enum TextEnd {
     /// The text has a fault: the first, with its line, counted from 1 (0 is the text as a whole).
+    #[error("line {line}: {reason:?}")]
     Refused { line: usize, reason: Reason },
     /// Memory was wanting.
+    #[error("out of memory")]
     Memory,
 }
 

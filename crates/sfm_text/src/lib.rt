@@ -1,15 +1,31 @@
 // Reading instance texts: what is a good one, which instance it stands for, and the first fault of one that is not good.
 #![tactic(auto)]
 
-pub mod end;
-pub mod first_form;
-pub mod names;
-pub mod pieces;
-pub mod reason;
+mod cover_line;
+mod cut;
+mod cut_line;
+mod end;
+mod line_fault;
+mod lines;
+mod mark;
+mod need_line;
+mod pair;
+mod parts;
+mod reader;
+mod reading;
+mod reason;
+mod repeat;
+mod stage;
+mod table_line;
+mod term_line;
+mod weight_line;
+mod word;
 
+pub use cut::token;
 pub use end::TextEnd;
-pub use first_form::{FirstInstance, TEXT_LIMIT, read_instance};
-pub use names::{Name, Names};
+pub use line_fault::LineEnd;
+pub use lines::content_lines;
+pub use reader::{TEXT_LIMIT, read_instance};
 pub use reason::Reason;
 
 #[cfg(test)]

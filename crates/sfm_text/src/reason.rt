@@ -27,7 +27,7 @@ pub enum Reason {
 }
 
 impl Reason {
-    ghost use Rattle.sfm_text.specs.Fault.{reason_word};
+    ghost use Rattle.sfm_text.specs.Reasons.{reason_word};
 
     /// The word that names the reason in a refusal.
     pub fn word(&self) -> &'static [u8]

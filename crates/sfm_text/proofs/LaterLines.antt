@@ -1,0 +1,28 @@
+-- What a term line leads to, and that there is too much with it.
+use Rattle.std.proofs.Common.{◌≢◌, ℕ, List, [], ◌∷◌, ◌++◌, AllPairs, refl, inr, arith}
+use Rattle.sfm_kind.specs.Instance.{InstanceData}
+use Rattle.sfm_kind.specs.declared.kind.Kind.{Kind}
+use Rattle.sfm_text.specs.declared.reason.Reason.TheVariants.{Bytes, Word, Shape, Number, Name, Twice, Law, Total}
+use Rattle.sfm_text.specs.declared.stage.Stage.TheVariants.{Terms}
+use Rattle.sfm_text.specs.declared.word.TermWord.{TermWord}
+use Rattle.sfm_text.specs.Lines.{tokens_of}
+use Rattle.sfm_text.specs.Words.{word_text}
+use Rattle.sfm_text.specs.TermLines.{StandsFor}
+use Rattle.sfm_text.specs.Reading.{FirstReason, Takes, AreTooMuch}
+use Rattle.sfm_text.specs.ReadParts.{state_at, IsLineOf, IsTermRead}
+use Rattle.sfm_text.proofs.StageReasons.{none-at-all}
+use Rattle.sfm_text.proofs.SameTerms.{stands-same, much-same}
+
+module _ (i : InstanceData) (word : TermWord) (rest : List (List ℕ)) (line : List ℕ) (is : IsLineOf line (word_text word ∷ rest)) (term : Kind) (read : IsTermRead i word rest term) where
+  stands-here : StandsFor i.names (tokens_of line) term
+  stands-here = rw is.tokens_are read.stands
+
+  pub later-total : AreTooMuch (i.terms ++ term ∷ []) → FirstReason (state_at Terms i) line Total
+  later-total much = record { holds = (term, stands-here, much); first = λ earlier. read.good line earlier is }
+
+  pub later-good : AllPairs (λ a b. a ≢ b) i.names → (AreTooMuch (i.terms ++ term ∷ []) → ⊥) → Takes (state_at Terms i) line (record { stage = Terms; names = i.names; terms = i.terms ++ term ∷ [] })
+  later-good distinct few = record {
+    good = none-at-all (state_at Terms i) line (read.good line Bytes is (omega arith)) (read.good line Word is (omega arith)) (read.good line Shape is (omega arith)) (read.good line Number is (omega arith)) (read.good line Name is (omega arith)) (read.good line Twice is (omega arith)) (read.good line Law is (omega arith))
+        (λ (other, stands, much). few (much-same i.terms term other (stands-same i.names (tokens_of line) term other distinct stands-here stands) much));
+    adds = inr (record { term = term; stands = stands-here; state = refl });
+  }

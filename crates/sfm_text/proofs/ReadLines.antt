@@ -1,0 +1,92 @@
+-- What has been read of a line makes the term of its word.
+use Rattle.std.proofs.Common.{◌≡◌, ℕ, ◌-◌, ◌≤◌, ◌^◌, List, [], ◌∷◌, length, get_or, map, take, drop, min, Bor, ℤ, pos, ◌≤ℤ◌, to_z, of_z, refl, ap, ◌∙◌, arith}
+use Rattle.std.specs.Int.{w128}
+use Rattle.std.proofs.lemmas.Int.{ints}
+use Rattle.std.specs.List.{All}
+use Rattle.std.proofs.lemmas.List.{length-map, length-take, length-drop, take-map, drop-map, take_rest}
+use Rattle.sfm_spec.specs.Bounds.{IsAtMost, AreElements}
+use Rattle.sfm_text.specs.Parts.{LineParts, plain_parts, IsPairToken, IsSplitAt, IsTableCount}
+use Rattle.sfm_text.specs.Words.{lowest_of}
+use Rattle.sfm_text.specs.TermLines.{AreRead, IsNumberFrom}
+use Rattle.sfm_text.specs.declared.word.TermWord.{TermWord}
+use Rattle.sfm_text.specs.declared.word.TermWord.TheVariants.{WeightWord, CutWord, NeedWord, CoverWord, TableWord}
+use Rattle.sfm_text.proofs.Matches.{length-Matched, All-Matched}
+use Rattle.sfm_text.proofs.Numbers.{small-number}
+
+-- the parts that are cut off before and behind a place
+pub split-parts : (tokens : List (Bor (List ℕ))) (count : ℕ) (numbers elements : List (Bor (List ℕ))) → numbers ≡ take count tokens → elements ≡ take (length tokens - count) (drop count tokens) → plain_parts (map (λ t. t.now) numbers) (map (λ t. t.now) elements) ≡ plain_parts (take count (map (λ t. t.now) tokens)) (drop count (map (λ t. t.now) tokens))
+split-parts tokens count numbers elements n e =
+    let now : Bor (List ℕ) → List ℕ = λ t. t.now in
+    rw (n, e, take_rest tokens count, take-map now count tokens, drop-map now count tokens) refl
+
+-- a list of one and a list of two
+one-value : (values : List ℤ) (d : ℤ) → length values ≡ 1 → get_or values 0 d ∷ [] ≡ values
+one-value [] d h = absurd (omega (arith, h))
+one-value (a ∷ []) d h = refl
+one-value (a ∷ b ∷ values) d h = absurd (omega (arith, h))
+
+pub kept-value : (values : List ℤ) → length values ≡ 1 → All (IsAtMost (10 ^ 12)) values → to_z w128 (of_z w128 (get_or values 0 (pos 0))) ∷ [] ≡ values
+kept-value values one small =
+    let s = small 0 (pos 0) (omega (arith, one)) in
+    let kept : to_z w128 (of_z w128 (get_or values 0 (pos 0))) ≡ get_or values 0 (pos 0) = omega (arith, ints, s.low, s.high) in
+    ap (λ (a : ℤ). a ∷ []) kept ∙ one-value values (pos 0) one
+
+pub two-places : (places : List ℕ) (d e : ℕ) → length places ≡ 2 → get_or places 0 d ∷ get_or places 1 e ∷ [] ≡ places
+two-places [] d e h = absurd (omega (arith, h))
+two-places (a ∷ []) d e h = absurd (omega (arith, h))
+two-places (a ∷ b ∷ []) d e h = refl
+two-places (a ∷ b ∷ c ∷ places) d e h = absurd (omega (arith, h))
+
+-- how many parts there are of either kind
+split-numbers : (count : ℕ) (tokens : List (List ℕ)) (parts : LineParts) → IsSplitAt count tokens parts → length parts.numbers ≡ min count (length tokens)
+split-numbers count tokens parts h = ap (λ (p : LineParts). length p.numbers) h.parts_are ∙ length-take count tokens
+
+split-elements : (count : ℕ) (tokens : List (List ℕ)) (parts : LineParts) → IsSplitAt count tokens parts → length parts.elements ≡ length tokens - count
+split-elements count tokens parts h = ap (λ (p : LineParts). length p.elements) h.parts_are ∙ length-drop count tokens
+
+module _ (word : TermWord) (parts : LineParts) (values : List ℤ) (places : List ℕ) (h : AreRead word parts values places) where
+  values-count : length values ≡ length parts.numbers
+  values-count = length-Matched (IsNumberFrom (lowest_of word)) parts.numbers values h.numbers
+
+  -- the numbers are small
+  pub read-small : All (IsAtMost (10 ^ 12)) values
+  read-small = All-Matched (IsNumberFrom (lowest_of word)) (IsAtMost (10 ^ 12)) (small-number word) parts.numbers values h.numbers
+
+  -- and not negative, where none may be
+  pub read-low : lowest_of word ≡ pos 0 → All (λ value. pos 0 ≤ℤ value) values
+  read-low zero = All-Matched (IsNumberFrom (lowest_of word)) (λ value. pos 0 ≤ℤ value) (λ text value n. omega (arith, ints, zero, n.low)) parts.numbers values h.numbers
+
+  read-elements : 1 ≤ length places → AreElements places
+  read-elements some = record { some = omega (arith, some); placed = h.placed }
+
+pub weight-count : (parts : LineParts) (values : List ℤ) (places : List ℕ) → AreRead WeightWord parts values places → length places ≡ length values
+weight-count parts values places h =
+    let each = h.shape.pairs in
+    omega (arith, h.elements, values-count WeightWord parts values places h, ap (λ (p : LineParts). length p.elements) h.shape.parts_are, ap (λ (p : LineParts). length p.numbers) h.shape.parts_are, length-map each (λ (p : List ℕ × List ℕ). p.0), length-map each (λ (p : List ℕ × List ℕ). p.1))
+
+pub weight-elements : (parts : LineParts) (values : List ℤ) (places : List ℕ) → AreRead WeightWord parts values places → AreElements places
+weight-elements parts values places h =
+    let each = h.shape.pairs in
+    read-elements WeightWord parts values places h (omega (arith, h.elements, h.shape.some, ap (λ (p : LineParts). length p.elements) h.shape.parts_are, length-map each (λ (p : List ℕ × List ℕ). p.0), length-Matched IsPairToken h.tokens each h.shape.each))
+
+pub cut-number : (parts : LineParts) (values : List ℤ) (places : List ℕ) → AreRead CutWord parts values places → length values ≡ 1
+cut-number parts values places h = omega (arith, values-count CutWord parts values places h, split-numbers 1 h.tokens parts h.shape.split, h.shape.count)
+
+pub cut-elements : (parts : LineParts) (values : List ℤ) (places : List ℕ) → AreRead CutWord parts values places → length places ≡ 2
+cut-elements parts values places h = omega (arith, h.elements, split-elements 1 h.tokens parts h.shape.split, h.shape.count)
+
+pub need-elements : (parts : LineParts) (values : List ℤ) (places : List ℕ) → AreRead NeedWord parts values places → length places ≡ 2
+need-elements parts values places h = omega (arith, h.elements, split-elements 0 h.tokens parts h.shape.split, h.shape.count)
+
+pub cover-number : (parts : LineParts) (values : List ℤ) (places : List ℕ) → AreRead CoverWord parts values places → length values ≡ 1
+cover-number parts values places h = omega (arith, values-count CoverWord parts values places h, split-numbers 1 h.tokens parts h.shape.split, h.shape.count)
+
+pub cover-elements : (parts : LineParts) (values : List ℤ) (places : List ℕ) → AreRead CoverWord parts values places → AreElements places
+cover-elements parts values places h = read-elements CoverWord parts values places h (omega (arith, h.elements, split-elements 1 h.tokens parts h.shape.split, h.shape.count))
+
+pub table-count : (parts : LineParts) (values : List ℤ) (places : List ℕ) → AreRead TableWord parts values places → IsTableCount (length values) (length places)
+table-count parts values places h =
+    let shape = h.shape in
+    let numbers : length values ≡ length shape.numbers = values-count TableWord parts values places h ∙ ap (λ (p : LineParts). length p.numbers) shape.parts_are in
+    let elements : length places ≡ length shape.elements = h.elements ∙ ap (λ (p : LineParts). length p.elements) shape.parts_are in
+    rw (numbers, elements) shape.count

@@ -1,0 +1,133 @@
+-- What the header, the ground line and the last line lead to, and the reasons that they have.
+use Rattle.std.proofs.Common.{◌≡◌, ◌≢◌, ℕ, ◌<◌, ◌≤◌, List, [], ◌∷◌, length, get_or, map, Bor, codes, refl, sym, ap, ◌∙◌, inl, arith}
+use Rattle.std.specs.List.{All, Any}
+use Rattle.std.proofs.lemmas.List.Elements.{All-get_or}
+use Rattle.sfm_spec.specs.Names.{IsName}
+use Rattle.sfm_kind.specs.Instance.{InstanceData}
+use Rattle.sfm_text.specs.declared.reason.Reason.{Reason}
+use Rattle.sfm_text.specs.declared.reason.Reason.TheVariants.{Long, Bytes, Word, Shape, Number, Name, Twice, Law, Total, Short}
+use Rattle.sfm_text.specs.declared.stage.Stage.TheVariants.{Header, Ground, Terms, Ended}
+use Rattle.sfm_text.specs.declared.word.TermWord.{TermWord}
+use Rattle.sfm_text.specs.Lines.{tokens_of}
+use Rattle.sfm_text.specs.Parts.{LineParts, IsMark, AreUnmarked}
+use Rattle.sfm_text.specs.Words.{word_text}
+use Rattle.sfm_text.specs.TermLines.{StandsTwice}
+use Rattle.sfm_text.specs.Reading.{State, Has, FirstReason, Takes, HasTermLine, reason_order}
+use Rattle.sfm_text.specs.ReadParts.{state_at, IsLineOf}
+use Rattle.sfm_text.proofs.Colons.{none-any}
+use Rattle.sfm_text.proofs.WordLines.{not-end}
+use Rattle.sfm_text.proofs.TermReasons.{none-below}
+
+order-below : (reason : Reason) → reason_order reason < 10
+order-below Long = omega arith
+order-below Bytes = omega arith
+order-below Word = omega arith
+order-below Shape = omega arith
+order-below Number = omega arith
+order-below Name = omega arith
+order-below Twice = omega arith
+order-below Law = omega arith
+order-below Total = omega arith
+order-below Short = omega arith
+
+-- the same tokens
+pub line-as : (line : List ℕ) (a b : List (List ℕ)) → a ≡ b → IsLineOf line a → IsLineOf line b
+line-as line a b e is = record { tokens_are = is.tokens_are ∙ e; good_bytes = is.good_bytes }
+
+-- one text
+pub one-text : (texts : List (Bor (List ℕ))) (d : Bor (List ℕ)) (x : List ℕ) → length texts ≡ 1 → (get_or texts 0 d).now ≡ x → map (λ t. t.now) texts ≡ x ∷ []
+one-text [] d x n e = absurd (omega arith)
+one-text (a ∷ []) d x n e = ap (λ (l : List ℕ). l ∷ []) e
+one-text (a ∷ b ∷ texts) d x n e = absurd (omega arith)
+
+-- no reason at all
+pub none-at-all : (s : State) (line : List ℕ) → (Has s line Bytes → ⊥) → (Has s line Word → ⊥) → (Has s line Shape → ⊥) → (Has s line Number → ⊥) → (Has s line Name → ⊥) → (Has s line Twice → ⊥) → (Has s line Law → ⊥) → (Has s line Total → ⊥) → (reason : Reason) → Has s line reason → ⊥
+none-at-all s line bytes word shape number name twice law total reason = none-below s line 10 (λ lt. bytes) (λ lt. word) (λ lt. shape) (λ lt. number) (λ lt. name) (λ lt. twice) (λ lt. law) (λ lt. total) reason (order-below reason)
+
+module _ (i : InstanceData) (line : List ℕ) where
+  -- the header
+  pub header-good : IsLineOf line (codes "sfm" ∷ codes "1" ∷ []) → Takes (state_at Header i) line (state_at Ground i)
+  header-good is = record {
+    good = none-at-all (state_at Header i) line is.good_bytes (λ h. h (codes "1" ∷ []) is.tokens_are) (λ h. h is.tokens_are) (λ h. h) (λ h. h) (λ h. h) (λ h. h) (λ h. h);
+    adds = refl;
+  }
+
+  module _ (names : List (List ℕ)) (is : IsLineOf line (codes "ground" ∷ names)) where
+    names-same : (rest : List (List ℕ)) → tokens_of line ≡ codes "ground" ∷ rest → rest ≡ names
+    names-same rest e =
+        let both : codes "ground" ∷ rest ≡ codes "ground" ∷ names = sym e ∙ is.tokens_are in
+        cc
+
+    -- the ground line, with a mark among its tokens
+    pub ground-shape : Any IsMark (codes "ground" ∷ names) → FirstReason (state_at Ground i) line Shape
+    ground-shape marks = record {
+      holds = rw is.tokens_are marks;
+      first = none-below (state_at Ground i) line 3 (λ lt h. is.good_bytes h) (λ lt h. h names is.tokens_are) (λ lt. absurd (omega arith)) (λ lt. absurd (omega arith)) (λ lt. absurd (omega arith)) (λ lt. absurd (omega arith)) (λ lt. absurd (omega arith)) (λ lt. absurd (omega arith));
+    }
+
+    module _ (unmarked : AreUnmarked (codes "ground" ∷ names)) where
+      no-mark : Has (state_at Ground i) line Shape → ⊥
+      no-mark h = none-any IsMark (codes "ground" ∷ names) unmarked (rw is.tokens_are at h)
+
+      pub ground-name : Any (λ text. IsName text → ⊥) names → FirstReason (state_at Ground i) line Name
+      ground-name wrong = record {
+        holds = (names, is.tokens_are, wrong);
+        first = none-below (state_at Ground i) line 5 (λ lt h. is.good_bytes h) (λ lt h. h names is.tokens_are) (λ lt h. no-mark h) (λ lt h. h) (λ lt. absurd (omega arith)) (λ lt. absurd (omega arith)) (λ lt. absurd (omega arith)) (λ lt. absurd (omega arith));
+      }
+
+      module _ (forms : All IsName names) where
+        no-name : Has (state_at Ground i) line Name → ⊥
+        no-name (rest, e, (k, text, lt, at, wrong)) =
+            let same : rest ≡ names = names-same rest e in
+            let all : All IsName rest = rw same forms in
+            wrong (rw at at (All-get_or IsName rest k text lt all))
+
+        pub ground-twice : StandsTwice names → FirstReason (state_at Ground i) line Twice
+        ground-twice twice = record {
+          holds = (names, is.tokens_are, twice);
+          first = none-below (state_at Ground i) line 6 (λ lt h. is.good_bytes h) (λ lt h. h names is.tokens_are) (λ lt h. no-mark h) (λ lt h. h) (λ lt h. no-name h) (λ lt. absurd (omega arith)) (λ lt. absurd (omega arith)) (λ lt. absurd (omega arith));
+        }
+
+        module _ (once : StandsTwice names → ⊥) where
+          no-twice : Has (state_at Ground i) line Twice → ⊥
+          no-twice (rest, e, twice) = once (rw (names-same rest e) at twice)
+
+          pub ground-total : 256 < length names → FirstReason (state_at Ground i) line Total
+          ground-total many = record {
+            holds = (names, is.tokens_are, many);
+            first = none-below (state_at Ground i) line 8 (λ lt h. is.good_bytes h) (λ lt h. h names is.tokens_are) (λ lt h. no-mark h) (λ lt h. h) (λ lt h. no-name h) (λ lt h. no-twice h) (λ lt h. h) (λ lt. absurd (omega arith));
+          }
+
+          pub ground-good : length names ≤ 256 → Takes (state_at Ground i) line (record { stage = Terms; names = names; terms = [] })
+          ground-good few = record {
+            good = none-at-all (state_at Ground i) line is.good_bytes (λ h. h names is.tokens_are) no-mark (λ h. h) no-name no-twice (λ h. h) (λ (rest, e, many). absurd (omega (arith, many, few, ap length (names-same rest e))));
+            adds = (names, is.tokens_are, refl);
+          }
+
+  module _ (rest : List (List ℕ)) (is : IsLineOf line (codes "end" ∷ rest)) where
+    -- the last line is no term line
+    no-term-line : (word : TermWord) (rest' : List (List ℕ)) → tokens_of line ≡ word_text word ∷ rest' → ⊥
+    no-term-line word rest' e =
+        let both : word_text word ∷ rest' ≡ codes "end" ∷ rest = sym e ∙ is.tokens_are in
+        let same : word_text word ≡ codes "end" = cc in
+        not-end word same
+
+    pub end-shape : rest ≢ [] → FirstReason (state_at Terms i) line Shape
+    end-shape more = record {
+      holds = (
+        λ e. let both : codes "end" ∷ rest ≡ codes "end" ∷ [] = sym is.tokens_are ∙ e in let none : rest ≡ [] = cc in more none,
+        λ word rest' parts shaped. no-term-line word rest' shaped.first,
+      );
+      first = none-below (state_at Terms i) line 3 (λ lt h. is.good_bytes h) (λ lt h. h.0 rest is.tokens_are) (λ lt. absurd (omega arith)) (λ lt. absurd (omega arith)) (λ lt. absurd (omega arith)) (λ lt. absurd (omega arith)) (λ lt. absurd (omega arith)) (λ lt. absurd (omega arith));
+    }
+
+    no-parts : (P : TermWord → List (List ℕ) → LineParts → Type 0) → HasTermLine (tokens_of line) P → ⊥
+    no-parts P (word, rest', parts, shaped, p) = no-term-line word rest' shaped.first
+
+    pub end-good : rest ≡ [] → Takes (state_at Terms i) line (state_at Ended i)
+    end-good none =
+        let tokens : tokens_of line ≡ codes "end" ∷ [] = is.tokens_are ∙ ap (λ (r : List (List ℕ)). codes "end" ∷ r) none in
+        record {
+          good = none-at-all (state_at Terms i) line is.good_bytes (λ h. h.0 rest is.tokens_are) (λ h. h.0 tokens) (no-parts _) (no-parts _) (no-parts _) (no-parts _) (λ (term, stands, much). no-term-line stands.word stands.rest (stands.shaped).first);
+          adds = inl (tokens, refl);
+        }

@@ -1,0 +1,173 @@
+-- The reasons that a term line does not have, as its parts are read one kind after another.
+use Rattle.std.proofs.Common.{◌≡◌, ◌≢◌, ℕ, ◌<◌, ◌≤◌, List, [], ◌∷◌, length, get_or, slice_get, Some, Contains, AllPairs, codes, ℤ, sym, ap, ◌∙◌, arith}
+use Rattle.std.specs.List.{Any}
+use Rattle.std.proofs.lemmas.Option.{slice_get-get_or, slice_get_within, same_Some}
+use Rattle.std.proofs.lemmas.List.Elements.{All-get_or}
+use Rattle.std.proofs.lemmas.Bool.{cases_lt}
+use mathlib.Core.Logic.{⊎_elim}
+use Rattle.sfm_spec.specs.Names.{IsName}
+use Rattle.sfm_spec.specs.Sets.{IsPlaced}
+use Rattle.sfm_kind.specs.Names.{IsNewName, AreElementNames}
+use Rattle.sfm_kind.specs.Instance.{InstanceData}
+use Rattle.sfm_text.specs.declared.reason.Reason.{Reason}
+use Rattle.sfm_text.specs.declared.reason.Reason.TheVariants.{Long, Bytes, Word, Shape, Number, Name, Twice, Law, Total, Short}
+use Rattle.sfm_text.specs.declared.stage.Stage.TheVariants.{Terms}
+use Rattle.sfm_text.specs.declared.word.TermWord.{TermWord}
+use Rattle.sfm_text.specs.Lines.{tokens_of}
+use Rattle.sfm_text.specs.Matched.{Matched}
+use Rattle.sfm_text.specs.Parts.{LineParts}
+use Rattle.sfm_text.specs.Words.{word_text, lowest_of, HasParts, BreaksLaw}
+use Rattle.sfm_text.specs.TermLines.{IsNumberFrom, IsElement, StandsTwice}
+use Rattle.sfm_text.specs.Reading.{State, Has, FirstReason, reason_order}
+use Rattle.sfm_text.specs.ReadParts.{state_at, IsLineOf}
+use Rattle.sfm_text.proofs.WordLines.{of-term-line, not-end, shaped-here}
+use Rattle.sfm_text.proofs.Matches.{Matched-at, Matched-both, Matched-same, length-Matched}
+use Rattle.sfm_text.proofs.Numbers.{from-same}
+use Rattle.sfm_text.proofs.Repeats.{twice-at, twice-same}
+
+-- none of the reasons below the k-th
+pub none-below : (s : State) (line : List ℕ) (k : ℕ) → (1 < k → Has s line Bytes → ⊥) → (2 < k → Has s line Word → ⊥) → (3 < k → Has s line Shape → ⊥) → (4 < k → Has s line Number → ⊥) → (5 < k → Has s line Name → ⊥) → (6 < k → Has s line Twice → ⊥) → (7 < k → Has s line Law → ⊥) → (8 < k → Has s line Total → ⊥) → (reason : Reason) → reason_order reason < k → Has s line reason → ⊥
+none-below s line k bytes word shape number name twice law total Long lt h = h
+none-below s line k bytes word shape number name twice law total Bytes lt h = bytes lt h
+none-below s line k bytes word shape number name twice law total Word lt h = word lt h
+none-below s line k bytes word shape number name twice law total Shape lt h = shape lt h
+none-below s line k bytes word shape number name twice law total Number lt h = number lt h
+none-below s line k bytes word shape number name twice law total Name lt h = name lt h
+none-below s line k bytes word shape number name twice law total Twice lt h = twice lt h
+none-below s line k bytes word shape number name twice law total Law lt h = law lt h
+none-below s line k bytes word shape number name twice law total Total lt h = total lt h
+none-below s line k bytes word shape number name twice law total Short lt h = h
+
+-- a name stands at one place
+pub place-same : (names : List (List ℕ)) → AllPairs (λ a b. a ≢ b) names → (text : List ℕ) (a b : ℕ) → IsElement names text a → IsElement names text b → a ≡ b
+place-same names distinct text a b h g =
+    let lt_a = slice_get_within names a text h in
+    let lt_b = slice_get_within names b text g in
+    let at_a : get_or names a text ≡ text = same_Some (get_or names a text) text (sym (slice_get-get_or names a text lt_a) ∙ h) in
+    let at_b : get_or names b text ≡ text = same_Some (get_or names b text) text (sym (slice_get-get_or names b text lt_b) ∙ g) in
+    ⊎_elim
+    (λ (lt : a < b). absurd (distinct a b text lt lt_b (at_a ∙ sym at_b)))
+    (λ (le : b ≤ a). ⊎_elim
+    (λ (lt : b < a). absurd (distinct b a text lt lt_a (at_b ∙ sym at_a)))
+    (λ (le' : a ≤ b). omega arith)
+    (cases_lt b a))
+    (cases_lt a b)
+
+-- an element stands twice exactly where its place does
+pub twice-places : (names texts : List (List ℕ)) (places : List ℕ) → Matched (IsElement names) texts places → StandsTwice places → StandsTwice texts
+twice-places names texts places h t =
+    let len = length-Matched (IsElement names) texts places h in
+    let lt : t.earlier < length texts = omega (arith, len, t.order, t.within) in
+    let lt' : t.later < length texts = omega (arith, len, t.within) in
+    let a = Matched-both (IsElement names) texts places t.earlier [] 0 h lt in
+    let b = Matched-both (IsElement names) texts places t.later [] 0 h lt' in
+    let same : get_or places t.earlier 0 ≡ get_or places t.later 0 = twice-same places 0 t in
+    twice-at texts t.earlier t.later [] t.order lt' (same_Some (get_or texts t.earlier []) (get_or texts t.later []) (sym a ∙ (ap (λ e. slice_get names e) same ∙ b)))
+
+pub twice-texts : (names texts : List (List ℕ)) (places : List ℕ) → AllPairs (λ a b. a ≢ b) names → Matched (IsElement names) texts places → StandsTwice texts → StandsTwice places
+twice-texts names texts places distinct h t =
+    let len = length-Matched (IsElement names) texts places h in
+    let lt : t.earlier < length texts = omega (arith, t.order, t.within) in
+    let a = Matched-both (IsElement names) texts places t.earlier [] 0 h lt in
+    let b = Matched-both (IsElement names) texts places t.later [] 0 h t.within in
+    let same : get_or texts t.earlier [] ≡ get_or texts t.later [] = twice-same texts [] t in
+    let a' : IsElement names (get_or texts t.later []) (get_or places t.earlier 0) = a ∙ ap (λ (l : List ℕ). Some l) same in
+    twice-at places t.earlier t.later 0 t.order (omega (arith, len, t.within)) (place-same names distinct (get_or texts t.later []) (get_or places t.earlier 0) (get_or places t.later 0) a' b)
+
+-- places of elements that do not stand twice
+pub elements-placed : (names texts : List (List ℕ)) (places : List ℕ) → length names ≤ 256 → Matched (IsElement names) texts places → (StandsTwice places → ⊥) → IsPlaced 256 places
+elements-placed names texts places few h once = record {
+  below = λ j lt. omega (arith, few, slice_get_within names (get_or places j 0) (get_or texts j []) (Matched-both (IsElement names) texts places j [] 0 h (omega (arith, lt, length-Matched (IsElement names) texts places h))));
+  distinct = λ i j lt_i lt_j same. ⊎_elim
+      (λ (lt : i < j). absurd (once (twice-at places i j 0 lt lt_j same)))
+      (λ (le : j ≤ i). ⊎_elim
+      (λ (lt : j < i). absurd (once (twice-at places j i 0 lt lt_i (sym same))))
+      (λ (le' : i ≤ j). omega arith)
+      (cases_lt j i))
+      (cases_lt i j);
+}
+
+module _ (instance : InstanceData) (word : TermWord) (rest : List (List ℕ)) (line : List ℕ) (is : IsLineOf line (word_text word ∷ rest)) where
+  -- the word is known
+  pub none-shape : (reason : Reason) → reason_order reason < 3 → Has (state_at Terms instance) line reason → ⊥
+  none-shape = none-below (state_at Terms instance) line 3 (λ lt h. is.good_bytes h) (λ lt h. h.1 word rest is.tokens_are) (λ lt. absurd (omega arith)) (λ lt. absurd (omega arith)) (λ lt. absurd (omega arith)) (λ lt. absurd (omega arith)) (λ lt. absurd (omega arith)) (λ lt. absurd (omega arith))
+
+  pub at-shape : ((parts : LineParts) → HasParts word rest parts → ⊥) → FirstReason (state_at Terms instance) line Shape
+  at-shape none = record {
+    holds = (
+      λ e. let both : word_text word ∷ rest ≡ codes "end" ∷ [] = sym is.tokens_are ∙ e in let same : word_text word ≡ codes "end" = cc in not-end word same,
+      λ word' rest' parts shaped. none parts (shaped-here word (tokens_of line) rest word' rest' parts is.tokens_are shaped),
+    );
+    first = none-shape;
+  }
+
+  module _ (parts : LineParts) (shape : HasParts word rest parts) where
+    -- the line has these parts
+    pub none-number : (reason : Reason) → reason_order reason < 4 → Has (state_at Terms instance) line reason → ⊥
+    none-number = none-below (state_at Terms instance) line 4 (λ lt h. is.good_bytes h) (λ lt h. h.1 word rest is.tokens_are) (λ lt h. h.1 word rest parts (record { first = is.tokens_are; shape = shape })) (λ lt. absurd (omega arith)) (λ lt. absurd (omega arith)) (λ lt. absurd (omega arith)) (λ lt. absurd (omega arith)) (λ lt. absurd (omega arith))
+
+    pub at-number : Any (λ text. (value : ℤ) → IsNumberFrom (lowest_of word) text value → ⊥) parts.numbers → FirstReason (state_at Terms instance) line Number
+    at-number any = record { holds = (word, rest, parts, record { first = is.tokens_are; shape = shape }, any); first = none-number }
+
+    module _ (values : List ℤ) (numbers : Matched (IsNumberFrom (lowest_of word)) parts.numbers values) where
+      no-number : Has (state_at Terms instance) line Number → ⊥
+      no-number h =
+          let (k, text, lt, e, wrong) = of-term-line word (tokens_of line) rest parts (λ word' rest' parts'. Any (λ text. (value : ℤ) → IsNumberFrom (lowest_of word') text value → ⊥) parts'.numbers) is.tokens_are shape h in
+          let (value, n) = Matched-at (IsNumberFrom (lowest_of word)) parts.numbers values k text numbers lt in
+          wrong value (rw e at n)
+
+      -- the numbers are good
+      pub none-name : (reason : Reason) → reason_order reason < 5 → Has (state_at Terms instance) line reason → ⊥
+      none-name = none-below (state_at Terms instance) line 5 (λ lt h. is.good_bytes h) (λ lt h. h.1 word rest is.tokens_are) (λ lt h. h.1 word rest parts (record { first = is.tokens_are; shape = shape })) (λ lt h. no-number h) (λ lt. absurd (omega arith)) (λ lt. absurd (omega arith)) (λ lt. absurd (omega arith)) (λ lt. absurd (omega arith))
+
+      pub at-name : Any (IsNewName instance.names) parts.elements → FirstReason (state_at Terms instance) line Name
+      at-name (k, text, lt, e, new) = record {
+        holds = (word, rest, parts, record { first = is.tokens_are; shape = shape }, (k, text, lt, e, λ form (j, within, same). new j text within same));
+        first = none-name;
+      }
+
+      module _ (places : List ℕ) (named : AreElementNames instance.names) (elements : Matched (IsElement instance.names) parts.elements places) where
+        no-name : Has (state_at Terms instance) line Name → ⊥
+        no-name h =
+            let (k, text, lt, e, wrong) = of-term-line word (tokens_of line) rest parts (λ word' rest' parts'. Any (λ text. IsName text → Contains instance.names text → ⊥) parts'.elements) is.tokens_are shape h in
+            let (place, at) = Matched-at (IsElement instance.names) parts.elements places k text elements lt in
+            let here : IsElement instance.names text place = rw e at at in
+            let within = slice_get_within instance.names place text here in
+            let there : get_or instance.names place text ≡ text = same_Some (get_or instance.names place text) text (sym (slice_get-get_or instance.names place text within) ∙ here) in
+            let form : IsName (get_or instance.names place text) = All-get_or IsName instance.names place text within named.forms in
+            wrong (rw there at form) (place, within, there)
+
+        -- the elements are names of the ground
+        pub none-twice : (reason : Reason) → reason_order reason < 6 → Has (state_at Terms instance) line reason → ⊥
+        none-twice = none-below (state_at Terms instance) line 6 (λ lt h. is.good_bytes h) (λ lt h. h.1 word rest is.tokens_are) (λ lt h. h.1 word rest parts (record { first = is.tokens_are; shape = shape })) (λ lt h. no-number h) (λ lt h. no-name h) (λ lt. absurd (omega arith)) (λ lt. absurd (omega arith)) (λ lt. absurd (omega arith))
+
+        pub at-twice : StandsTwice places → FirstReason (state_at Terms instance) line Twice
+        at-twice t = record {
+          holds = (word, rest, parts, record { first = is.tokens_are; shape = shape }, twice-places instance.names parts.elements places elements t);
+          first = none-twice;
+        }
+
+        module _ (once : StandsTwice places → ⊥) where
+          no-twice : Has (state_at Terms instance) line Twice → ⊥
+          no-twice h = once (twice-texts instance.names parts.elements places named.distinct elements (of-term-line word (tokens_of line) rest parts (λ word' rest' parts'. StandsTwice parts'.elements) is.tokens_are shape h))
+
+          -- no element stands twice
+          pub none-law : (reason : Reason) → reason_order reason < 7 → Has (state_at Terms instance) line reason → ⊥
+          none-law = none-below (state_at Terms instance) line 7 (λ lt h. is.good_bytes h) (λ lt h. h.1 word rest is.tokens_are) (λ lt h. h.1 word rest parts (record { first = is.tokens_are; shape = shape })) (λ lt h. no-number h) (λ lt h. no-name h) (λ lt h. no-twice h) (λ lt. absurd (omega arith)) (λ lt. absurd (omega arith))
+
+          pub at-law : BreaksLaw word parts values → FirstReason (state_at Terms instance) line Law
+          at-law breaks = record {
+            holds = (word, rest, parts, record { first = is.tokens_are; shape = shape }, (values, numbers, breaks));
+            first = none-law;
+          }
+
+          module _ (lawful : BreaksLaw word parts values → ⊥) where
+            no-law : Has (state_at Terms instance) line Law → ⊥
+            no-law h =
+                let (values', numbers', breaks) = of-term-line word (tokens_of line) rest parts (λ word' rest' parts'. (vs : List ℤ) × Matched (IsNumberFrom (lowest_of word')) parts'.numbers vs × BreaksLaw word' parts' vs) is.tokens_are shape h in
+                let same : values' ≡ values = Matched-same (IsNumberFrom (lowest_of word)) (from-same (lowest_of word)) parts.numbers values' values numbers' numbers in
+                lawful (rw same at breaks)
+
+            -- the law is kept
+            pub none-total : (reason : Reason) → reason_order reason < 8 → Has (state_at Terms instance) line reason → ⊥
+            none-total = none-below (state_at Terms instance) line 8 (λ lt h. is.good_bytes h) (λ lt h. h.1 word rest is.tokens_are) (λ lt h. h.1 word rest parts (record { first = is.tokens_are; shape = shape })) (λ lt h. no-number h) (λ lt h. no-name h) (λ lt h. no-twice h) (λ lt h. no-law h) (λ lt. absurd (omega arith))

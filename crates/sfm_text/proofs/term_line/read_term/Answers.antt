@@ -1,0 +1,92 @@
+-- Each kind of part is read in turn, and what was read before rules out the reasons that come earlier.
+use Rattle.std.proofs.Common.{ℕ, ℤ, List, refl}
+use Rattle.std.proofs.lemmas.Bool.{false≢true}
+use Rattle.sfm_kind.specs.Names.{IsNewName}
+use Rattle.std.specs.List.{Any}
+use Rattle.sfm_text.specs.Lines.{texts_of}
+use Rattle.sfm_text.specs.Matched.{Matched}
+use Rattle.sfm_text.specs.Parts.{LineParts}
+use Rattle.sfm_text.specs.Words.{HasParts, lowest_of, BreaksLaw, IsTermOf}
+use Rattle.sfm_text.specs.TermLines.{IsNumberFrom, IsElement, StandsTwice}
+use Rattle.sfm_text.specs.ReadParts.{parts_of}
+use Rattle.sfm_text.proofs.Matches.{length-Matched}
+use Rattle.sfm_text.proofs.TermReasons.{at-name, at-twice, at-law, none-total, elements-placed}
+use Rattle.sfm_text.proofs.term_line.read_term.Goals as goal
+
+pub returns-in_default-3-clause-refused : goal.returns-in_default-3-clause-refused
+returns-in_default-3-clause-refused c =
+    let rest = texts_of c.args.tokens.now in
+    let parts : LineParts = parts_of c.in-Some.parts in
+    let shape : HasParts c.args.word rest parts = rw c.in-Some.is at c.in_ok-parts.ensures in
+    let numbers : Matched (IsNumberFrom (lowest_of c.args.word)) parts.numbers c.in-Some-2.values.items = rw c.deref.ensures.value at rw c.in-Some-2.is at c.in_ok-values.ensures in
+    let wrong : Any (IsNewName c.args.instance.now.names) parts.elements = rw c.deref-2.ensures.value at rw c.in_default-3.is at c.in_ok-places.ensures in
+    λ line is. at-name c.args.instance.now c.args.word rest line is parts shape c.in-Some-2.values.items numbers wrong
+
+pub returns-then-has_place_twice-clause-refused : goal.returns-then-has_place_twice-clause-refused
+returns-then-has_place_twice-clause-refused c =
+    let rest = texts_of c.args.tokens.now in
+    let names = c.args.instance.now.names in
+    let parts : LineParts = parts_of c.in-Some.parts in
+    let shape : HasParts c.args.word rest parts = rw c.in-Some.is at c.in_ok-parts.ensures in
+    let numbers : Matched (IsNumberFrom (lowest_of c.args.word)) parts.numbers c.in-Some-2.values.items = rw c.deref.ensures.value at rw c.in-Some-2.is at c.in_ok-values.ensures in
+    let elements : Matched (IsElement names) parts.elements c.in-Some-3.places.items = rw c.deref-2.ensures.value at rw c.in-Some-3.is at c.in_ok-places.ensures in
+    let twice : StandsTwice c.in-Some-3.places.items = rw c.deref-3.ensures.value at (c.if-has_place_twice.ensures.0 refl) in
+    λ line is. at-twice c.args.instance.now c.args.word rest line is parts shape c.in-Some-2.values.items numbers c.in-Some-3.places.items c.requires elements twice
+
+pub make_term-requires : goal.make_term-requires
+make_term-requires c =
+    let rest = texts_of c.args.tokens.now in
+    let names = c.args.instance.now.names in
+    let parts : LineParts = parts_of c.in-Some.parts in
+    let shape : HasParts c.args.word rest parts = rw c.in-Some.is at c.in_ok-parts.ensures in
+    let numbers : Matched (IsNumberFrom (lowest_of c.args.word)) parts.numbers c.in-Some-2.values.items = rw c.deref.ensures.value at rw c.in-Some-2.is at c.in_ok-values.ensures in
+    let elements : Matched (IsElement names) parts.elements c.in-Some-3.places.items = rw c.deref-2.ensures.value at rw c.in-Some-3.is at c.in_ok-places.ensures in
+    let once : StandsTwice c.in-Some-3.places.items → ⊥ = λ t. false≢true (c.if-has_place_twice.ensures.1 (rw c.deref-3.ensures.value t)) in
+    rw (c.deref-4.ensures.value, c.deref-5.ensures.value) (record {
+      tokens = rest;
+      shape = shape;
+      numbers = numbers;
+      elements = length-Matched (IsElement names) parts.elements c.in-Some-3.places.items elements;
+      placed = elements-placed names parts.elements c.in-Some-3.places.items (c.requires.few) elements once;
+    })
+
+pub returns-clause-refused : goal.returns-clause-refused
+returns-clause-refused c =
+    let rest = texts_of c.args.tokens.now in
+    let names = c.args.instance.now.names in
+    let parts : LineParts = parts_of c.in-Some.parts in
+    let values : List ℤ = c.in-Some-2.values.items in
+    let places : List ℕ = c.in-Some-3.places.items in
+    let shape : HasParts c.args.word rest parts = rw c.in-Some.is at c.in_ok-parts.ensures in
+    let numbers : Matched (IsNumberFrom (lowest_of c.args.word)) parts.numbers values = rw c.deref.ensures.value at rw c.in-Some-2.is at c.in_ok-values.ensures in
+    let elements : Matched (IsElement names) parts.elements places = rw c.deref-2.ensures.value at rw c.in-Some-3.is at c.in_ok-places.ensures in
+    let once : StandsTwice places → ⊥ = λ t. false≢true (c.if-has_place_twice.ensures.1 (rw c.deref-3.ensures.value t)) in
+    let breaks : BreaksLaw c.args.word parts values = rw c.deref-4.ensures.value at rw c.in-None.is at c.in_ok-term.ensures in
+    λ line is. at-law c.args.instance.now c.args.word rest line is parts shape values numbers places c.requires elements once breaks
+
+pub returns-in-Some-4-clause-read : goal.returns-in-Some-4-clause-read
+returns-in-Some-4-clause-read c =
+    let rest = texts_of c.args.tokens.now in
+    let names = c.args.instance.now.names in
+    let parts : LineParts = parts_of c.in-Some.parts in
+    let values : List ℤ = c.in-Some-2.values.items in
+    let places : List ℕ = c.in-Some-3.places.items in
+    let shape : HasParts c.args.word rest parts = rw c.in-Some.is at c.in_ok-parts.ensures in
+    let numbers : Matched (IsNumberFrom (lowest_of c.args.word)) parts.numbers values = rw c.deref.ensures.value at rw c.in-Some-2.is at c.in_ok-values.ensures in
+    let elements : Matched (IsElement names) parts.elements places = rw c.deref-2.ensures.value at rw c.in-Some-3.is at c.in_ok-places.ensures in
+    let once : StandsTwice places → ⊥ = λ t. false≢true (c.if-has_place_twice.ensures.1 (rw c.deref-3.ensures.value t)) in
+    let made : IsTermOf c.args.word parts values places c.in-Some-4.term × (BreaksLaw c.args.word parts values → ⊥) = rw (c.deref-4.ensures.value, c.deref-5.ensures.value) at rw c.in-Some-4.is at c.in_ok-term.ensures in
+    record {
+      stands = record {
+        word = c.args.word;
+        rest = rest;
+        parts = parts;
+        values = values;
+        places = places;
+        shaped = record { first = refl; shape = shape };
+        numbers = numbers;
+        elements = elements;
+        made = made.0;
+      };
+      good = λ line reason is. none-total c.args.instance.now c.args.word rest line is parts shape values numbers places c.requires elements once made.1 reason;
+    }

@@ -1,0 +1,9 @@
+-- Two lists of one length, of which each element of the one stands in a relation to the element at the same place of the
+-- other.
+use Rattle.std.specs.Prelude.{List, [], ◌∷◌}
+
+abbrev pub Matched : {A B : Type 0} → (A → B → Type 0) → List A → List B → Type 0
+Matched P [] [] = Unit {0}
+Matched P [] (y ∷ ys) = ⊥
+Matched P (x ∷ xs) [] = ⊥
+Matched P (x ∷ xs) (y ∷ ys) = P x y × Matched P xs ys

@@ -1,0 +1,49 @@
+-- What the parts of a line, the state of a reading and the end of a line's reading stand for.
+use Rattle.std.specs.Prelude.{◌≡◌, ◌<◌, ℕ, List, ◌∷◌, Any, Result, MatchResult}
+use Rattle.sfm_kind.specs.Instance.{InstanceData}
+use Rattle.sfm_kind.specs.declared.kind.Kind.{Kind}
+use Rattle.sfm_text.specs.declared.end.TextEnd.{TextEnd}
+use Rattle.sfm_text.specs.declared.end.TextEnd.TheVariants as ends
+use Rattle.sfm_text.specs.declared.line_fault.LineEnd.{LineEnd}
+use Rattle.sfm_text.specs.declared.line_fault.LineEnd.TheVariants.{Fault, Memory}
+use Rattle.sfm_text.specs.declared.reading.Reading.{Reading}
+use Rattle.sfm_text.specs.declared.reason.Reason.{Reason}
+use Rattle.sfm_text.specs.declared.stage.Stage.{Stage}
+use Rattle.sfm_text.specs.declared.stage.Stage.TheVariants.{Terms}
+use Rattle.sfm_text.specs.declared.parts.Parts.{Parts}
+use Rattle.sfm_text.specs.declared.word.TermWord.{TermWord}
+use Rattle.sfm_text.specs.Lines.{texts_of, tokens_of}
+use Rattle.sfm_text.specs.Parts.{LineParts}
+use Rattle.sfm_text.specs.Words.{word_text}
+use Rattle.sfm_text.specs.TermLines.{StandsFor}
+use Rattle.sfm_text.specs.Reading.{State, IsBadByte, Has, Takes, IsLineRefusal, reason_order}
+
+-- the texts that the parts point to
+abbrev pub parts_of : Parts → LineParts
+parts_of parts = record { numbers = texts_of parts.numbers.items; elements = texts_of parts.elements.items }
+
+-- the state with that stage and the names and terms of an instance
+abbrev pub state_at : Stage → InstanceData → State
+state_at stage instance = record { stage = stage; names = instance.names; terms = instance.terms }
+
+abbrev pub state_of : Reading → State
+state_of reading = state_at reading.stage reading.instance
+
+-- a fault of a line is one of the text, at that line
+abbrev pub end_at : ℕ → LineEnd → TextEnd
+end_at number (Fault reason) = ends.Refused number reason
+end_at number Memory = ends.Memory
+
+-- the line has these tokens, and no bad byte
+pub record IsLineOf (line : List ℕ) (tokens : List (List ℕ)) : Type 0 where
+  pub tokens_are : tokens_of line ≡ tokens
+  pub good_bytes : Any IsBadByte line → ⊥
+
+-- the term of a line with this word and these tokens behind it, which has no reason but perhaps that there is too much
+pub record IsTermRead (instance : InstanceData) (word : TermWord) (rest : List (List ℕ)) (term : Kind) : Type 0 where
+  pub stands : StandsFor instance.names (word_text word ∷ rest) term
+  pub good : (line : List ℕ) (reason : Reason) → IsLineOf line (word_text word ∷ rest) → reason_order reason < 8 → Has (state_at Terms instance) line reason → ⊥
+
+-- a line with these tokens was taken in the state s and led to t, or is refused for its first reason
+abbrev pub IsOutcome : State → List (List ℕ) → Result (Unit {0}) LineEnd → State → Type 0
+IsOutcome s tokens result t = (line : List ℕ) → IsLineOf line tokens → MatchResult result (λ _. Takes s line t) (IsLineRefusal s line)

@@ -1,0 +1,148 @@
+-- The state in which a text is read, the reasons for which a line is refused in a state, and the states that a good line
+-- leads from and to.
+use Rattle.std.specs.Prelude.{◌≡◌, ◌≢◌, ◌⊎◌, ℕ, ◌<◌, ◌^◌, List, [], ◌∷◌, ◌++◌, length, codes, Any, Contains, ℤ, pos, ◌<ℤ◌}
+use Rattle.sfm_spec.specs.Names.{IsName}
+use Rattle.sfm_kind.specs.Instance.{support_of, total_size_of}
+use Rattle.sfm_kind.specs.declared.kind.Kind.{Kind}
+use Rattle.sfm_text.specs.declared.reason.Reason.{Reason}
+use Rattle.sfm_text.specs.declared.reason.Reason.TheVariants.{Long, Bytes, Word, Shape, Number, Name, Twice, Law, Total, Short}
+use Rattle.sfm_text.specs.declared.stage.Stage.{Stage}
+use Rattle.sfm_text.specs.declared.stage.Stage.TheVariants.{Header, Ground, Terms, Ended}
+use Rattle.sfm_text.specs.declared.line_fault.LineEnd.{LineEnd}
+use Rattle.sfm_text.specs.declared.line_fault.LineEnd.TheVariants.{Fault, Memory}
+use Rattle.sfm_text.specs.declared.word.TermWord.{TermWord}
+use Rattle.sfm_text.specs.Lines.{tokens_of}
+use Rattle.sfm_text.specs.Matched.{Matched}
+use Rattle.sfm_text.specs.Parts.{LineParts, IsMark}
+use Rattle.sfm_text.specs.Words.{word_text, lowest_of, BreaksLaw}
+use Rattle.sfm_text.specs.TermLines.{IsShaped, IsNumberFrom, StandsTwice, StandsFor}
+
+-- which line is due, the names of the ground, and the terms so far
+pub record State : Type 0 where
+  pub stage : Stage
+  pub names : List (List ℕ)
+  pub terms : List Kind
+
+-- before the first content line
+abbrev pub start : State
+start = record { stage = Header; names = []; terms = [] }
+
+-- the order of the reasons on a line
+abbrev pub reason_order : Reason → ℕ
+reason_order Long = 0
+reason_order Bytes = 1
+reason_order Word = 2
+reason_order Shape = 3
+reason_order Number = 4
+reason_order Name = 5
+reason_order Twice = 6
+reason_order Law = 7
+reason_order Total = 8
+reason_order Short = 9
+
+-- neither a tab nor a byte from the space to `~`
+abbrev pub IsBadByte : ℕ → Type 0
+IsBadByte c = (c ≢ 9) × ((c < 32) ⊎ (126 < c))
+
+-- the first token is none that may begin the line
+abbrev pub HasWrongWord : Stage → List (List ℕ) → Type 0
+HasWrongWord Header tokens = (rest : List (List ℕ)) → tokens ≢ codes "sfm" ∷ rest
+HasWrongWord Ground tokens = (rest : List (List ℕ)) → tokens ≢ codes "ground" ∷ rest
+HasWrongWord Terms tokens = ((rest : List (List ℕ)) → tokens ≢ codes "end" ∷ rest) × ((word : TermWord) (rest : List (List ℕ)) → tokens ≢ word_text word ∷ rest)
+HasWrongWord Ended tokens = Unit {0}
+
+-- the tokens do not fit the pattern of the line
+abbrev pub HasWrongShape : Stage → List (List ℕ) → Type 0
+HasWrongShape Header tokens = tokens ≢ codes "sfm" ∷ codes "1" ∷ []
+HasWrongShape Ground tokens = Any IsMark tokens
+HasWrongShape Terms tokens = (tokens ≢ codes "end" ∷ []) × ((word : TermWord) (rest : List (List ℕ)) (parts : LineParts) → IsShaped tokens word rest parts → ⊥)
+HasWrongShape Ended tokens = ⊥
+
+-- a term line of which something holds of the word, the tokens behind it and the parts
+abbrev pub HasTermLine : List (List ℕ) → (TermWord → List (List ℕ) → LineParts → Type 0) → Type 0
+HasTermLine tokens P = (word : TermWord) × (rest : List (List ℕ)) × (parts : LineParts) × IsShaped tokens word rest parts × P word rest parts
+
+-- what stands in a number's place is no number, or one outside its range
+abbrev pub HasWrongNumber : Stage → List (List ℕ) → Type 0
+HasWrongNumber Header tokens = ⊥
+HasWrongNumber Ground tokens = ⊥
+HasWrongNumber Terms tokens = HasTermLine tokens (λ word rest parts. Any (λ text. (value : ℤ) → IsNumberFrom (lowest_of word) text value → ⊥) parts.numbers)
+HasWrongNumber Ended tokens = ⊥
+
+-- what stands in a name's place is no name, or none of the ground where an element is meant
+abbrev pub HasWrongName : Stage → List (List ℕ) → List (List ℕ) → Type 0
+HasWrongName Header names tokens = ⊥
+HasWrongName Ground names tokens = (rest : List (List ℕ)) × (tokens ≡ codes "ground" ∷ rest) × Any (λ text. IsName text → ⊥) rest
+HasWrongName Terms names tokens = HasTermLine tokens (λ word rest parts. Any (λ text. IsName text → Contains names text → ⊥) parts.elements)
+HasWrongName Ended names tokens = ⊥
+
+-- a name stands twice in the ground line, or an element twice in a term line
+abbrev pub HasTwice : Stage → List (List ℕ) → Type 0
+HasTwice Header tokens = ⊥
+HasTwice Ground tokens = (rest : List (List ℕ)) × (tokens ≡ codes "ground" ∷ rest) × StandsTwice rest
+HasTwice Terms tokens = HasTermLine tokens (λ word rest parts. StandsTwice parts.elements)
+HasTwice Ended tokens = ⊥
+
+-- the numbers break the law of the kind
+abbrev pub HasBrokenLaw : Stage → List (List ℕ) → Type 0
+HasBrokenLaw Header tokens = ⊥
+HasBrokenLaw Ground tokens = ⊥
+HasBrokenLaw Terms tokens = HasTermLine tokens (λ word rest parts. (values : List ℤ) × Matched (IsNumberFrom (lowest_of word)) parts.numbers values × BreaksLaw word parts values)
+HasBrokenLaw Ended tokens = ⊥
+
+-- more terms, places or sizes than a text may have in all
+abbrev pub AreTooMuch : List Kind → Type 0
+AreTooMuch terms = (4096 < length terms) ⊎ (16384 < support_of terms) ⊎ (pos (10 ^ 15) <ℤ total_size_of terms)
+
+-- too many names, or with this line too much in all
+abbrev pub HasTooMuch : State → List (List ℕ) → Stage → Type 0
+HasTooMuch s tokens Header = ⊥
+HasTooMuch s tokens Ground = (rest : List (List ℕ)) × (tokens ≡ codes "ground" ∷ rest) × (256 < length rest)
+HasTooMuch s tokens Terms = (term : Kind) × StandsFor s.names tokens term × AreTooMuch (s.terms ++ term ∷ [])
+HasTooMuch s tokens Ended = ⊥
+
+-- the line has that reason in that state; that a text is too long or too short is said of no line
+abbrev pub Has : State → List ℕ → Reason → Type 0
+Has s line Long = ⊥
+Has s line Bytes = Any IsBadByte line
+Has s line Word = HasWrongWord s.stage (tokens_of line)
+Has s line Shape = HasWrongShape s.stage (tokens_of line)
+Has s line Number = HasWrongNumber s.stage (tokens_of line)
+Has s line Name = HasWrongName s.stage s.names (tokens_of line)
+Has s line Twice = HasTwice s.stage (tokens_of line)
+Has s line Law = HasBrokenLaw s.stage (tokens_of line)
+Has s line Total = HasTooMuch s (tokens_of line) s.stage
+Has s line Short = ⊥
+
+-- the line has that reason and none that comes before it
+pub record FirstReason (s : State) (line : List ℕ) (reason : Reason) : Type 0 where
+  pub holds : Has s line reason
+  pub first : (earlier : Reason) → reason_order earlier < reason_order reason → Has s line earlier → ⊥
+
+-- a term line adds its term
+pub record AddsTerm (s : State) (tokens : List (List ℕ)) (t : State) : Type 0 where
+  pub term : Kind
+  pub stands : StandsFor s.names tokens term
+  pub state : t ≡ record { stage = Terms; names = s.names; terms = s.terms ++ term ∷ [] }
+
+-- what a line with these tokens leads to
+abbrev pub Adds : Stage → State → List (List ℕ) → State → Type 0
+Adds Header s tokens t = t ≡ record { stage = Ground; names = s.names; terms = s.terms }
+Adds Ground s tokens t = (names : List (List ℕ)) × (tokens ≡ codes "ground" ∷ names) × (t ≡ record { stage = Terms; names = names; terms = [] })
+Adds Terms s tokens t = ((tokens ≡ codes "end" ∷ []) × (t ≡ record { stage = Ended; names = s.names; terms = s.terms })) ⊎ AddsTerm s tokens t
+Adds Ended s tokens t = ⊥
+
+-- the line is good in the state s and leads to the state t
+pub record Takes (s : State) (line : List ℕ) (t : State) : Type 0 where
+  pub good : (reason : Reason) → Has s line reason → ⊥
+  pub adds : Adds s.stage s (tokens_of line) t
+
+-- a refusal names the first reason; want of memory says nothing
+abbrev pub IsLineRefusal : State → List ℕ → LineEnd → Type 0
+IsLineRefusal s line (Fault reason) = FirstReason s line reason
+IsLineRefusal s line Memory = Unit {0}
+
+-- the lines are good one after another and lead from s to t
+abbrev pub Follows : State → List (List ℕ) → State → Type 0
+Follows s [] t = s ≡ t
+Follows s (line ∷ lines) t = (u : State) × Takes s line u × Follows u lines t

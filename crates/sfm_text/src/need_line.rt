@@ -1,0 +1,33 @@
+// The line `need` and two elements.
+ghost use Rattle.std.specs.Prelude.{◌≡◌, length, IfOk, MatchOption};
+ghost use Rattle.sfm_spec.specs.Sets.{IsPlaced};
+ghost use Rattle.sfm_text.specs.Lines.{texts_of};
+ghost use Rattle.sfm_text.specs.Parts.{LineParts, IsNeedLine};
+ghost use Rattle.sfm_text.specs.LineTerms.{IsNeedTerm};
+ghost use Rattle.sfm_text.specs.ReadParts.{parts_of};
+
+use crate::parts::{Parts, split_at};
+use sfm_kind::Kind;
+use sfm_simple::Need;
+use std::alloc::{AllocError, Global};
+
+/// The parts of the tokens behind the word, or None where they do not have the line's shape.
+pub fn need_parts<'a>(alloc: Global, tokens: &[&'a [u8]]) -> Result<Option<Parts<'a>>, AllocError>
+    ensures { IfOk result (λ r. MatchOption r
+        ((parts : LineParts) → IsNeedLine (texts_of tokens.now) parts → ⊥)
+        (λ parts. IsNeedLine (texts_of tokens.now) (parts_of parts))) }
+{
+    if tokens.len() != 2 {
+        return Ok(None);
+    }
+    split_at(alloc, tokens, 0)
+}
+
+/// The condition that the first place needs the second.
+pub fn need_term(places: &[usize]) -> Kind
+    requires two { length places.now ≡ 2 }
+    requires placed { IsPlaced 256 places.now }
+    ensures { IsNeedTerm places.now result }
+{
+    Kind::Need(Need::new(places[0], places[1]))
+}

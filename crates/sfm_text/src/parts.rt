@@ -1,0 +1,44 @@
+// What the tokens of a term line are cut into before they are read.
+ghost use Rattle.std.specs.Prelude.{◌≡◌, ◌≤◌, length, Any, IfOk, MatchOption};
+ghost use Rattle.sfm_text.specs.Lines.{texts_of};
+ghost use Rattle.sfm_text.specs.Parts.{IsMark, plain_parts, IsSplitAt};
+ghost use Rattle.sfm_text.specs.ReadParts.{parts_of};
+
+use crate::mark::has_mark;
+use std::alloc::{AllocError, Global};
+
+/// The texts of a term line in the places of numbers, and in the places of elements.
+#[derive(Drop)]
+pub struct Parts<'a> {
+    pub numbers: Vec<&'a [u8]>,
+    pub elements: Vec<&'a [u8]>,
+}
+
+impl<'a> Parts<'a> {
+    /// Numbers and elements alone.
+    pub fn plain(numbers: Vec<&'a [u8]>, elements: Vec<&'a [u8]>) -> Parts<'a>
+        ensures { parts_of result ≡ plain_parts (texts_of numbers.entry.items) (texts_of elements.entry.items) }
+    {
+        Parts { numbers, elements }
+    }
+}
+
+/// The parts of tokens that are so many numbers and then elements, or None where a colon or a semicolon alone is among
+/// them.
+pub fn split_at<'a>(
+    alloc: Global,
+    tokens: &[&'a [u8]],
+    count: usize,
+) -> Result<Option<Parts<'a>>, AllocError>
+    requires { count ≤ length tokens.now }
+    ensures { IfOk result (λ r. MatchOption r
+        (Any IsMark (texts_of tokens.now))
+        (λ parts. IsSplitAt count (texts_of tokens.now) (parts_of parts))) }
+{
+    if has_mark(tokens) {
+        return Ok(None);
+    }
+    let numbers = Vec::from_slice(alloc, &tokens[..count])?;
+    let elements = Vec::from_slice(alloc, &tokens[count..])?;
+    Ok(Some(Parts::plain(numbers, elements)))
+}

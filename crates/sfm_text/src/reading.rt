@@ -1,0 +1,213 @@
+// Reading line by line: what a content line adds to what was read before it, or the first reason for which it is refused.
+ghost use Rattle.std.specs.Prelude.{◌≡◌, ◌≢◌, ◌↔◌, ◌≤◌, ℕ, List, [], ◌∷◌, ◌++◌, length, IsTrue, Any, MatchBool, IfOk, MatchOption, MatchResult, OnOk};
+ghost use Rattle.std.specs.List.{All};
+ghost use Rattle.sfm_spec.specs.Names.{IsName};
+ghost use Rattle.sfm_kind.specs.Names.{AreElementNames};
+ghost use Rattle.sfm_kind.specs.Instance.{AreInBounds};
+ghost use Rattle.sfm_text.specs.Lines.{texts_of};
+ghost use Rattle.sfm_text.specs.Words.{word_text};
+ghost use Rattle.sfm_text.specs.TermLines.{StandsTwice};
+ghost use Rattle.sfm_text.specs.Reading.{IsBadByte, AreTooMuch, start, Takes, IsLineRefusal};
+ghost use Rattle.sfm_text.specs.declared.word.TermWord.{TermWord};
+
+use crate::cut::tokens;
+use crate::line_fault::LineEnd;
+use crate::mark::has_mark;
+use crate::reason::Reason;
+use crate::repeat::has_repeat;
+use crate::stage::Stage;
+use crate::term_line::read_term;
+use crate::word::{TermWord, term_word};
+use sfm_base::Memory;
+use sfm_kind::{Instance, Kind, is_name};
+use sfm_law::Term;
+use std::alloc::Global;
+
+/// The most terms, places and sizes of a text in all.
+const MOST_TERMS: usize = 4_096;
+
+const MOST_PLACES: usize = 16_384;
+
+const MOST_SIZE: i128 = 1_000_000_000_000_000;
+
+/// The most names of a ground.
+const MOST_NAMES: usize = 256;
+
+/// What has been read of a text.
+#[derive(Drop)]
+pub struct Reading {
+    pub stage: Stage,
+    pub instance: Instance,
+}
+
+/// Whether a content line may hold the byte: a tab, or one from the space to `~`.
+fn is_good_byte(c: u8) -> bool
+    ensures { IsTrue result ↔ (IsBadByte c → ⊥) }
+{
+    c == b'\t' || (b' ' <= c && c <= b'~')
+}
+
+/// The tokens behind a word, or None where the first token is another.
+fn behind<'a, 'b>(word: &[u8], tokens: &'b [&'a [u8]]) -> Option<&'b [&'a [u8]]>
+    ensures { MatchOption result
+        ((rest : List (List ℕ)) → texts_of tokens.now ≢ word.now ∷ rest)
+        (λ rest. texts_of tokens.now ≡ word.now ∷ texts_of rest.now) }
+{
+    let (first, rest) = tokens.split_first()?;
+    if *first == word { Some(rest) } else { None }
+}
+
+/// The word of a term line and the tokens behind it, or None where the first token is none of the words.
+fn term_line<'a, 'b>(tokens: &'b [&'a [u8]]) -> Option<(TermWord, &'b [&'a [u8]])>
+    ensures { MatchOption result
+        ((word : TermWord) (rest : List (List ℕ)) → texts_of tokens.now ≢ word_text word ∷ rest)
+        (λ r. texts_of tokens.now ≡ word_text r.0 ∷ texts_of r.1.now) }
+{
+    let (first, rest) = tokens.split_first()?;
+    let word = term_word(first)?;
+    Some((word, rest))
+}
+
+/// Whether each token is a name.
+fn are_names(tokens: &[&[u8]]) -> bool
+    ensures { MatchBool result
+        (All IsName (texts_of tokens.now))
+        (Any (λ text. IsName text → ⊥) (texts_of tokens.now)) }
+{
+    for token in tokens {
+        if !is_name(token) {
+            return false;
+        }
+    }
+    true
+}
+
+/// Whether there is too much in all with one more term.
+fn is_too_much(instance: &Instance, term: &Kind) -> bool
+    ensures much { IsTrue result ↔ AreTooMuch (instance.now.terms ++ term.now ∷ []) }
+    ensures bounded { AreInBounds (length instance.now.names) instance.now.terms }
+{
+    let terms = instance.terms();
+    let places_left = MOST_PLACES - instance.support();
+    let size_left = MOST_SIZE - instance.total_size();
+    terms.len() >= MOST_TERMS || term.elements().len() > places_left || term.size() > size_left
+}
+
+/// The instance with these names and no terms.
+fn with_names(alloc: Global, names: &[&[u8]]) -> Result<Instance, Memory>
+    requires forms { All IsName (texts_of names.now) }
+    requires distinct { StandsTwice (texts_of names.now) → ⊥ }
+    requires few { length names.now ≤ 256 }
+    ensures names { IfOk result (λ r. r.names ≡ texts_of names.now) }
+    ensures terms { IfOk result (λ r. r.terms ≡ []) }
+{
+    let mut instance = Instance::new(alloc);
+    for name in names {
+        instance.add_name(name)?;
+    }
+    Ok(instance)
+}
+
+impl Reading {
+    ghost use Rattle.sfm_text.specs.ReadParts.{state_at, state_of, IsOutcome};
+    ghost use Rattle.sfm_text.specs.declared.stage.Stage.TheVariants.{Header, Ground, Terms};
+
+    /// Nothing has been read.
+    pub fn new(alloc: Global) -> Reading
+        ensures { state_of result ≡ start }
+    {
+        Reading {
+            stage: Stage::Header,
+            instance: Instance::new(alloc),
+        }
+    }
+
+    /// Takes the next content line.
+    ///
+    /// # Errors
+    ///
+    /// `Fault` with the first reason that the line has; `Memory` where there is none.
+    pub fn take(&mut self, alloc: Global, line: &[u8]) -> Result<(), LineEnd>
+        requires { AreElementNames self.old.instance.names }
+        ensures outcome { MatchResult result
+            (λ _. Takes (state_of self.old) line.now (state_of self.new))
+            (IsLineRefusal (state_of self.old) line.now) }
+        ensures named { OnOk result (AreElementNames self.new.instance.names) }
+    {
+        if !line.iter().all(|c| is_good_byte(*c)) {
+            return Err(LineEnd::Fault(Reason::Bytes));
+        }
+        let tokens = tokens(alloc, line)?;
+        match self.stage {
+            Stage::Header => self.take_header(&tokens),
+            Stage::Ground => self.take_ground(alloc, &tokens),
+            Stage::Terms => self.take_later(alloc, &tokens),
+            Stage::Ended => Err(LineEnd::Fault(Reason::Word)),
+        }
+    }
+
+    /// Takes the header `sfm 1`.
+    fn take_header(&mut self, tokens: &[&[u8]]) -> Result<(), LineEnd>
+        ensures outcome { IsOutcome (state_at Header self.old.instance) (texts_of tokens.now) result (state_of self.new) }
+        ensures names { self.new.instance.names ≡ self.old.instance.names }
+    {
+        let Some(rest) = behind(b"sfm", tokens) else {
+            return Err(LineEnd::Fault(Reason::Word));
+        };
+        if rest.len() != 1 || rest[0] != b"1".as_slice() {
+            return Err(LineEnd::Fault(Reason::Shape));
+        }
+        self.stage = Stage::Ground;
+        Ok(())
+    }
+
+    /// Takes the line with the names of the ground.
+    fn take_ground(&mut self, alloc: Global, tokens: &[&[u8]]) -> Result<(), LineEnd>
+        ensures outcome { IsOutcome (state_at Ground self.old.instance) (texts_of tokens.now) result (state_of self.new) }
+        ensures named { OnOk result (AreElementNames self.new.instance.names) }
+    {
+        let Some(names) = behind(b"ground", tokens) else {
+            return Err(LineEnd::Fault(Reason::Word));
+        };
+        if has_mark(tokens) {
+            return Err(LineEnd::Fault(Reason::Shape));
+        }
+        if !are_names(names) {
+            return Err(LineEnd::Fault(Reason::Name));
+        }
+        if has_repeat(alloc, names)? {
+            return Err(LineEnd::Fault(Reason::Twice));
+        }
+        if names.len() > MOST_NAMES {
+            return Err(LineEnd::Fault(Reason::Total));
+        }
+        self.instance = with_names(alloc, names)?;
+        self.stage = Stage::Terms;
+        Ok(())
+    }
+
+    /// Takes a term line or the end.
+    fn take_later(&mut self, alloc: Global, tokens: &[&[u8]]) -> Result<(), LineEnd>
+        requires terms { self.old.stage ≡ Terms }
+        requires named { AreElementNames self.old.instance.names }
+        ensures outcome { IsOutcome (state_at Terms self.old.instance) (texts_of tokens.now) result (state_of self.new) }
+        ensures names { self.new.instance.names ≡ self.old.instance.names }
+    {
+        if let Some(rest) = behind(b"end", tokens) {
+            if !rest.is_empty() {
+                return Err(LineEnd::Fault(Reason::Shape));
+            }
+            self.stage = Stage::Ended;
+            return Ok(());
+        }
+        let Some((word, rest)) = term_line(tokens) else {
+            return Err(LineEnd::Fault(Reason::Word));
+        };
+        let term = read_term(alloc, &self.instance, word, rest)?;
+        if is_too_much(&self.instance, &term) {
+            return Err(LineEnd::Fault(Reason::Total));
+        }
+        self.instance.add_term(term)?;
+        Ok(())
+    }
+}

@@ -1,0 +1,179 @@
+// Reading a term line: its parts are cut out by its word, and each kind of part is then read once for all words.
+ghost use Rattle.std.specs.Prelude.{◌≡◌, ◌<◌, ◌≤◌, ◌↔◌, ◌^◌, ℕ, List, length, ℤ, pos, neg_ℤ, ◌≤ℤ◌, Any, IsTrue, IfOk, IfErr, MatchOption, Some};
+ghost use Rattle.std.specs.List.{All};
+ghost use Rattle.sfm_kind.specs.Names.{IsNewName, AreElementNames};
+ghost use Rattle.sfm_kind.specs.declared.kind.Kind.{Kind};
+ghost use Rattle.sfm_text.specs.Lines.{texts_of};
+ghost use Rattle.sfm_text.specs.Matched.{Matched};
+ghost use Rattle.sfm_text.specs.Parts.{LineParts};
+ghost use Rattle.sfm_text.specs.Words.{lowest_of, word_text, HasParts, BreaksLaw, IsTermOf};
+ghost use Rattle.sfm_text.specs.TermLines.{AreRead, IsNumberFrom, IsElement, StandsTwice};
+ghost use Rattle.sfm_text.specs.Reading.{IsLineRefusal};
+ghost use Rattle.sfm_text.specs.ReadParts.{parts_of, state_at, IsLineOf, IsTermRead};
+ghost use Rattle.sfm_text.specs.declared.stage.Stage.TheVariants.{Terms};
+ghost use Rattle.std.specs.Prelude.{◌∷◌};
+
+use crate::cover_line::{cover_parts, cover_term};
+use crate::cut_line::{cut_parts, cut_term};
+use crate::line_fault::LineEnd;
+use crate::need_line::{need_parts, need_term};
+use crate::parts::Parts;
+use crate::reason::Reason;
+use crate::table_line::{table_parts, table_term};
+use crate::weight_line::{weight_parts, weight_term};
+use crate::word::TermWord;
+use sfm_base::{Memory, read_number};
+use sfm_kind::{Instance, Kind};
+use std::alloc::{AllocError, Global};
+
+/// The greatest number of an instance text.
+const HIGHEST: i128 = 1_000_000_000_000;
+
+/// The parts of the tokens behind a word, or None where they do not have the shape of its line.
+fn line_parts<'a>(
+    alloc: Global,
+    word: TermWord,
+    tokens: &[&'a [u8]],
+) -> Result<Option<Parts<'a>>, AllocError>
+    ensures { IfOk result (λ r. MatchOption r
+        ((parts : LineParts) → HasParts word (texts_of tokens.now) parts → ⊥)
+        (λ parts. HasParts word (texts_of tokens.now) (parts_of parts))) }
+{
+    match word {
+        TermWord::WeightWord => weight_parts(alloc, tokens),
+        TermWord::CutWord => cut_parts(alloc, tokens),
+        TermWord::NeedWord => need_parts(alloc, tokens),
+        TermWord::CoverWord => cover_parts(alloc, tokens),
+        TermWord::TableWord => table_parts(alloc, tokens),
+    }
+}
+
+/// The term of a line with these parts, or None where its numbers break the law of their kind.
+fn make_term(
+    alloc: Global,
+    word: TermWord,
+    _parts: &Parts,
+    values: &[i128],
+    places: &[usize],
+) -> Result<Option<Kind>, Memory>
+    requires { AreRead word (parts_of _parts.now) values.now places.now }
+    ensures { IfOk result (λ r. MatchOption r
+        (BreaksLaw word (parts_of _parts.now) values.now)
+        (λ term. IsTermOf word (parts_of _parts.now) values.now places.now term
+        × (BreaksLaw word (parts_of _parts.now) values.now → ⊥))) }
+{
+    match word {
+        TermWord::WeightWord => Ok(Some(weight_term(alloc, values, places)?)),
+        TermWord::CutWord => Ok(Some(cut_term(values, places))),
+        TermWord::NeedWord => Ok(Some(need_term(places))),
+        TermWord::CoverWord => Ok(Some(cover_term(alloc, values, places)?)),
+        TermWord::TableWord => table_term(alloc, values, places),
+    }
+}
+
+/// The least number that may stand in the line of a word.
+fn lowest_number(word: TermWord) -> i128
+    ensures least { result ≡ lowest_of word }
+    ensures small { neg_ℤ (pos (10 ^ 12)) ≤ℤ result }
+{
+    match word {
+        TermWord::WeightWord | TermWord::TableWord => -HIGHEST,
+        TermWord::CutWord | TermWord::NeedWord | TermWord::CoverWord => 0,
+    }
+}
+
+/// The number that a text is, or None where it is none or outside the range of the word's line.
+fn number_for(word: TermWord, text: &[u8]) -> Option<i128>
+    ensures { (value : ℤ) → (result ≡ Some value) ↔ IsNumberFrom (lowest_of word) text.now value }
+{
+    let lowest = lowest_number(word);
+    let value = read_number(text)?;
+    if lowest <= value && value <= HIGHEST {
+        Some(value)
+    } else {
+        None
+    }
+}
+
+/// The numbers that the texts are, or None where one is none or outside the range of the word's line.
+fn read_numbers(
+    alloc: Global,
+    word: TermWord,
+    texts: &[&[u8]],
+) -> Result<Option<Vec<i128>>, AllocError>
+    ensures { IfOk result (λ r. MatchOption r
+        (Any (λ text. (value : ℤ) → IsNumberFrom (lowest_of word) text value → ⊥) (texts_of texts.now))
+        (λ values. Matched (IsNumberFrom (lowest_of word)) (texts_of texts.now) values.items)) }
+{
+    let mut values = Vec::new(alloc);
+    for text in texts {
+        let Some(value) = number_for(word, text) else {
+            return Ok(None);
+        };
+        values.push(value)?;
+    }
+    Ok(Some(values))
+}
+
+/// The places of the elements that the texts name, or None where one is no element's name.
+fn read_places(
+    alloc: Global,
+    instance: &Instance,
+    texts: &[&[u8]],
+) -> Result<Option<Vec<usize>>, AllocError>
+    ensures { IfOk result (λ r. MatchOption r
+        (Any (IsNewName instance.now.names) (texts_of texts.now))
+        (λ places. Matched (IsElement instance.now.names) (texts_of texts.now) places.items)) }
+{
+    let mut places = Vec::new(alloc);
+    for text in texts {
+        let Some(place) = instance.place_of(text) else {
+            return Ok(None);
+        };
+        places.push(place)?;
+    }
+    Ok(Some(places))
+}
+
+/// Whether some place stands twice. With places below n it looks at no more than n + 1 of them.
+fn has_place_twice(places: &[usize]) -> bool
+    ensures { IsTrue result ↔ StandsTwice places.now }
+{
+    for (i, place) in places.iter().enumerate() {
+        if places[..i].contains(place) {
+            return true;
+        }
+    }
+    false
+}
+
+/// The term that a line with this word stands for, or the first reason for which it has none.
+pub fn read_term(
+    alloc: Global,
+    instance: &Instance,
+    word: TermWord,
+    tokens: &[&[u8]],
+) -> Result<Kind, LineEnd>
+    requires { AreElementNames instance.now.names }
+    ensures read { IfOk result (IsTermRead instance.now word (texts_of tokens.now)) }
+    ensures refused { IfErr result (λ e. (line : List ℕ)
+        → IsLineOf line (word_text word ∷ texts_of tokens.now)
+        → IsLineRefusal (state_at Terms instance.now) line e) }
+{
+    let Some(parts) = line_parts(alloc, word, tokens)? else {
+        return Err(LineEnd::Fault(Reason::Shape));
+    };
+    let Some(values) = read_numbers(alloc, word, &parts.numbers)? else {
+        return Err(LineEnd::Fault(Reason::Number));
+    };
+    let Some(places) = read_places(alloc, instance, &parts.elements)? else {
+        return Err(LineEnd::Fault(Reason::Name));
+    };
+    if has_place_twice(&places) {
+        return Err(LineEnd::Fault(Reason::Twice));
+    }
+    match make_term(alloc, word, &parts, &values, &places)? {
+        Some(term) => Ok(term),
+        None => Err(LineEnd::Fault(Reason::Law)),
+    }
+}
