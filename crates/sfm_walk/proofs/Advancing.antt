@@ -1,0 +1,260 @@
+-- One walk: that it is a shortest joining one, and what moving along it makes of the bases and of z.
+use Rattle.std.proofs.Common.{◌≡◌, ◌≢◌, ◌⊎◌, ⊎_elim, ℕ, zero, suc, ◌+◌, ◌*◌, ◌^◌, ◌-◌, ◌<◌, ◌≤◌, List, [], ◌∷◌, length, get_or, nat_eq, ℤ, pos, neg_ℤ, ◌+ℤ◌, ◌-ℤ◌, ◌≤ℤ◌, ◌<ℤ◌, if◌then◌else◌, refl, subst, sym, ap, ◌∙◌, arith, inl, inr}
+use Rattle.std.specs.List.{All}
+use Rattle.std.proofs.lemmas.Bool.{cases_eq, cases_lt, eq-eqb, ne_eqb}
+use Rattle.std.proofs.lemmas.Int.{ints}
+use Rattle.std.proofs.lemmas.List.Elements.{All-get_or, All-from_get_or, All-nil, All-cons}
+use Rattle.sfm_spec.specs.Terms.{exchanged}
+use Rattle.sfm_spec.specs.Bounds.{IsAtMost, IsEntry}
+use Rattle.sfm_spec.specs.Families.{Meaning, AreTerms, AreBases, rest_at, deficit}
+use Rattle.sfm_spec.specs.Labels.{FallsAlong}
+use Rattle.sfm_spec.specs.Laws.{MoveLaws}
+use Rattle.sfm_spec.specs.Walks.{Step, term_at, row_at, IsStep, AreSteps, IsWalk, IsWalkMove, IsShortest, AllCanMove, MovesAlong, Joins, last_of}
+use Rattle.sfm_spec.proofs.Walks.{terms-at, first_below, step_below}
+use Rattle.sfm_spec.proofs.Labels.{falls_all, falls_within}
+use Rattle.sfm_spec.proofs.Moves.{change_small}
+use Rattle.sfm_spec.proofs.MoveOrder.{exchanged-first, exchanged-second, exchanged-other}
+use Rattle.sfm_spec.proofs.Gain.{move_laws, rest_moved}
+use Rattle.sfm_walk.specs.declared.bits.Bits.{Bits}
+use Rattle.sfm_walk.specs.declared.walk.Hop.{Hop}
+use Rattle.sfm_walk.specs.Bits.{bit_in, set_at}
+use Rattle.sfm_walk.specs.Rest.{IsRest}
+use Rattle.sfm_walk.specs.Reach.{IsTable, table_at}
+use Rattle.sfm_walk.specs.Unions.{AreLinks, IsReadable}
+use Rattle.sfm_walk.specs.Levels.{depth_of, IsFirst, AreClosed}
+use Rattle.sfm_walk.specs.Hops.{IsHop, AreHops, AreNamed, IsMovable, Moves, hop_at, step_of, steps_of}
+use Rattle.sfm_walk.specs.State.{IsUpTo}
+use Rattle.sfm_walk.proofs.Following.{depth_has, depth_le, depth_bound}
+
+-- the steps name their places
+pub hops_named : (terms : List Meaning) (tables : List (List Bits)) (from : ℕ) (hops : List Hop) → AreHops terms tables from hops → AreNamed terms from hops
+hops_named terms tables from [] h = tt
+hops_named terms tables from (x ∷ hops) h = (h.0, hops_named terms tables x.to hops h.2)
+
+module _ (terms : List Meaning) (rows : List (List ℤ)) (n : ℕ) (q : ℤ) (fit : AreTerms n terms) (tables : List (List Bits)) (right : (i : ℕ) → i < length terms → IsTable terms q rows i (table_at tables i)) where
+  hop_step : (from : ℕ) (hop : Hop) → IsHop terms from hop → bit_in (set_at (table_at tables hop.term) hop.u) hop.to ≡ 1 → IsStep terms q rows from (step_of hop)
+  hop_step from hop is bit = rw is.begins at ((right hop.term is.term_in hop.u hop.to is.u_in).0 bit)
+
+  -- they are steps
+  pub hops_steps : (from : ℕ) (hops : List Hop) → AreHops terms tables from hops → AreSteps terms q rows from (steps_of hops)
+  hops_steps from [] h = tt
+  hops_steps from (x ∷ hops) h = (hop_step from x h.0 h.1, hops_steps x.to hops h.2)
+
+  hop_movable : (from : ℕ) (hop : Hop) → IsHop terms from hop → bit_in (set_at (table_at tables hop.term) hop.u) hop.to ≡ 1 → IsMovable terms q rows hop
+  hop_movable from hop is bit =
+      let (b, some, c) = hop_step from hop is bit in
+      let distinct = (terms-at n terms hop.term fit is.term_in).placed.distinct in
+      let eu : c.u ≡ hop.u = distinct c.u hop.u c.u_in is.u_in (c.begins ∙ sym is.begins) in
+      let ev : c.v ≡ hop.v = distinct c.v hop.v c.v_in is.v_in (c.ends ∙ sym is.ends) in
+      record { term_in = is.term_in; u_in = is.u_in; v_in = is.v_in; apart = (λ s. c.apart (eu ∙ (s ∙ sym ev))); room = (b, some, rw (eu, ev) at c.base) }
+
+  -- and each can move something
+  pub hops_movable : (from : ℕ) (hops : List Hop) → AreHops terms tables from hops → (k : ℕ) → k < length hops → IsMovable terms q rows (hop_at hops k)
+  hops_movable from [] h k l = absurd (omega arith)
+  hops_movable from (x ∷ hops) h zero l = hop_movable from x h.0 h.1
+  hops_movable from (x ∷ hops) h (suc k) l = hops_movable x.to hops h.2 k (omega arith)
+
+  -- an amount that each can move
+  pub hops_can : (a : ℤ) (from : ℕ) (hops : List Hop) → AreHops terms tables from hops → ((k : ℕ) → k < length hops → Moves terms q rows (hop_at hops k) a) → AllCanMove terms q rows from (steps_of hops) a
+  hops_can a from [] h moves = tt
+  hops_can a from (x ∷ hops) h moves =
+      let is = h.0 in
+      let m = hop_movable from x h.0 h.1 in (
+        record { in_range = is.term_in; u = x.u; v = x.v; u_in = is.u_in; v_in = is.v_in; begins = is.begins; ends = is.ends; apart = m.apart; base = moves 0 (omega arith) },
+        hops_can a x.to hops h.2 (λ k l. moves (suc k) (omega arith)),
+      )
+
+module _ (terms : List Meaning) (rows : List (List ℤ)) (n : ℕ) (q : ℤ) (shift z : List ℤ) (low : pos 0 ≤ℤ q) (fit : AreTerms n terms) (bases : AreBases q terms rows) (zn : length z ≡ n) (rest : IsRest terms shift rows z) (unions : List Bits) (links : AreLinks terms n q rows unions)
+    (levels : List Bits) (first : ℕ) (begin : IsFirst n unions z levels first) where
+  -- no step lowers the depth by more than one
+  depth_falls : (from : ℕ) (step : Step) → IsStep terms q rows from step → depth_of levels from ≤ depth_of levels step.to + 1
+  depth_falls from step h = ⊎_elim
+      (λ l.
+      let has = depth_has levels step.to (omega (arith, l)) in
+      let lf : from < n = first_below terms rows n q low fit bases from (step ∷ []) (record { steps_exist = omega arith; steps_fit = (h, tt) }) in
+      let bit = (links from step.to lf).1 (step.term, h) in
+      let (j, lj, at) = begin.levelled.closed (depth_of levels step.to) from l lf (step.to, bit, has) in
+      let d = depth_le levels j from (omega (arith, lj, l)) at in
+      omega (arith, d, lj))
+      (λ deep. let b = depth_bound levels from in omega (arith, b, deep))
+      (cases_lt (depth_of levels step.to + 1) (length levels))
+
+  over_depth : (e : ℕ) → e < n → pos 0 <ℤ rest_at terms rows shift e → depth_of levels e ≡ 0
+  over_depth e le over =
+      let r = rest.exact e (rw zn le) in
+      let over' : pos 0 <ℤ get_or z e (pos 0) = rw r over in
+      let d = depth_le levels 0 e begin.levelled.some ((begin.levelled.over e).1 (le, over')) in
+      omega (arith, d)
+
+  module _ (steps : List Step) (fits : AreSteps terms q rows first steps) (some : 0 < length steps) (falls : FallsAlong (depth_of levels) first steps) (arrives : bit_in (set_at levels 0) (last_of first steps) ≡ 1) where
+    pub last_in : last_of first steps < n
+    last_in = ((begin.levelled.over (last_of first steps)).0 arrives).0
+
+    pub last_over : pos 0 <ℤ get_or z (last_of first steps) (pos 0)
+    last_over = ((begin.levelled.over (last_of first steps)).0 arrives).1
+
+    last_above : pos 0 <ℤ rest_at terms rows shift (last_of first steps)
+    last_above = rw (← rest.exact (last_of first steps) (rw zn last_in)) last_over
+
+    walk : IsWalk terms q rows first steps
+    walk = record { steps_exist = some; steps_fit = fits }
+
+    pub first_in : first < n
+    first_in = first_below terms rows n q low fit bases first steps walk
+
+    -- the walk is a shortest joining one
+    pub walk_shortest : IsShortest terms q shift rows first steps
+    walk_shortest = record {
+      shortest = record {
+        walk = walk;
+        arrives = last_above;
+        fewest = λ other walk' over.
+            let mine = falls_all (depth_of levels) first steps falls in
+            let theirs = falls_within terms q rows (depth_of levels) depth_falls first other walk'.steps_fit in
+            let last : last_of first other < n = ends_below first other first_in walk'.steps_fit in
+            let zero' = over_depth (last_of first other) last over in
+            omega (arith, mine, theirs, zero');
+      };
+      below = let r = rest.exact first (rw zn first_in) in let u = begin.under in rw (← r) u;
+    } where
+      ends_below : (from : ℕ) (other : List Step) → from < n → AreSteps terms q rows from other → last_of from other < n
+      ends_below from [] l h = l
+      ends_below from (s ∷ ss) l h = ends_below s.to ss (step_below terms rows n q low fit bases from s h.0) h.1
+
+    module _ (a : ℤ) (one : pos 1 ≤ℤ a) (can : AllCanMove terms q rows first steps a) (under : a ≤ℤ neg_ℤ (get_or z first (pos 0))) (over : a ≤ℤ get_or z (last_of first steps) (pos 0)) where
+      by_first : a ≤ℤ neg_ℤ (rest_at terms rows shift first)
+      by_first = rw (← rest.exact first (rw zn first_in)) under
+
+      by_last : a ≤ℤ rest_at terms rows shift (last_of first steps)
+      by_last = rw (← rest.exact (last_of first steps) (rw zn last_in)) over
+
+      pub laws : MoveLaws terms n q shift rows first steps a
+      laws = move_laws terms rows n q shift low fit bases first steps a walk_shortest one can by_first by_last
+
+      pub moves : (after : List (List ℤ)) → IsWalkMove terms rows first steps a after → MovesAlong terms q shift rows after
+      moves after w = record { first = first; steps = steps; a = a; shortest = walk_shortest; some = one; by_steps = can; by_first = by_first; by_last = by_last; moved = w }
+
+      -- z after the move
+      pub rest_after : (after : List (List ℤ)) (z' : List ℤ) → IsWalkMove terms rows first steps a after → length z' ≡ length z
+          → ((e : ℕ) → e < length z → get_or z' e (pos 0) ≡ (get_or z e (pos 0) +ℤ ((if nat_eq first e then a else pos 0) -ℤ (if nat_eq (last_of first steps) e then a else pos 0)))) → IsRest terms shift after z'
+      rest_after after z' w same each = record {
+        places = same ∙ rest.places;
+        exact = λ e l.
+            let l' : e < length z = rw same at l in
+            let m = rest_moved terms rows n q low fit bases first steps a one can shift after w e in
+            let r = rest.exact e l' in
+            let k = each e l' in
+            k ∙ (ap (λ y. y +ℤ ((if nat_eq first e then a else pos 0) -ℤ (if nat_eq (last_of first steps) e then a else pos 0))) r ∙ sym m);
+      }
+
+      -- no entry has changed by more than the deficit has risen
+      pub spread : (after : List (List ℤ)) → IsWalkMove terms rows first steps a after → (b : ℤ) → All (λ x. All (IsUpTo b) x) rows
+          → All (λ x. All (IsUpTo (b +ℤ (deficit n (rest_at terms after shift) -ℤ deficit n (rest_at terms rows shift)))) x) after
+      spread after w b small =
+          let gain = laws.gains after w in
+          All-from_get_or (λ x. All (IsUpTo (b +ℤ (deficit n (rest_at terms after shift) -ℤ deficit n (rest_at terms rows shift)))) x) after [] (λ i li.
+          All-from_get_or (IsUpTo (b +ℤ (deficit n (rest_at terms after shift) -ℤ deficit n (rest_at terms rows shift)))) (row_at after i) (pos 0) (λ j lj.
+          let li' : i < length rows = rw w.same_count at li in
+          let lj' : j < length (row_at rows i) = rw (w.same_lengths i) at lj in
+          let c = w.changed i j lj' in
+          let s = change_small (depth_of levels) first steps i (get_or (term_at terms i).places j 0) a (omega (arith, ints, one)) falls in
+          let o : IsUpTo b (get_or (row_at rows i) j (pos 0)) = All-get_or (IsUpTo b) (row_at rows i) j (pos 0) lj' (All-get_or (λ x. All (IsUpTo b) x) rows i [] li' small) in
+          record { low = omega (arith, ints, c, s, o.low, gain); high = omega (arith, ints, c, s, o.high, gain) }))
+
+-- the steps of hops none of which is of the term i
+pub hops_others : (hops : List Hop) (i : ℕ) → ((k : ℕ) → k < length hops → (hop_at hops k).term ≢ i) → All (λ step. step.term ≢ i) (steps_of hops)
+hops_others [] i h = All-nil (λ step. step.term ≢ i)
+hops_others (x ∷ hops) i h = All-cons (λ step. step.term ≢ i) (step_of x) (steps_of hops) (h 0 (omega arith)) (hops_others hops i (λ k l. h (suc k) (omega arith)))
+
+-- where the row of a term is the same its rows of reach stay right
+pub table_kept : (terms : List Meaning) (q : ℤ) (rows after : List (List ℤ)) (i : ℕ) (table : List Bits) → row_at after i ≡ row_at rows i → IsTable terms q rows i table → IsTable terms q after i table
+table_kept terms q rows after i table same h u e l = (
+  (λ one. let (b, some, c) = (h u e l).0 one in (b, some, record { in_range = c.in_range; u = c.u; v = c.v; u_in = c.u_in; v_in = c.v_in; begins = c.begins; ends = c.ends; apart = c.apart; base = rw same c.base })),
+  (λ (b, some, c). (h u e l).1 (b, some, record { in_range = c.in_range; u = c.u; v = c.v; u_in = c.u_in; v_in = c.v_in; begins = c.begins; ends = c.ends; apart = c.apart; base = rw same at c.base })),
+)
+
+-- the end of the last step
+pub last_is : (first : ℕ) (hops : List Hop) → 0 < length hops → last_of first (steps_of hops) ≡ (hop_at hops (length hops - 1)).to
+last_is first [] l = absurd (omega arith)
+last_is first (x ∷ []) l = refl
+last_is first (x ∷ y ∷ hops) l = last_is x.to (y ∷ hops) (omega arith) ∙ ap (λ k. (hop_at (x ∷ y ∷ hops) k).to) (shift (length hops)) where
+  shift : (k : ℕ) → suc (suc k - 1) ≡ suc (suc k) - 1
+  shift k = omega arith
+
+-- the rows have only places of the ground
+pub tables_readable : (terms : List Meaning) (rows : List (List ℤ)) (n : ℕ) (q : ℤ) → pos 0 ≤ℤ q → AreTerms n terms → AreBases q terms rows → n ≤ 256 → (tables : List (List Bits)) (i : ℕ) → i < length terms → IsTable terms q rows i (table_at tables i) → IsReadable terms tables i
+tables_readable terms rows n q low fit bases few tables i li right u e lu bit =
+    let s = (right u e lu).0 bit in
+    let c = s.2 in
+    let l = step_below terms rows n q low fit bases (get_or (term_at terms i).places u 0) (record { to = e; term = i }) s in
+    (omega (arith, l, few), (c.v, c.v_in, c.ends))
+
+-- an entry of z after the exchange of its ends
+pub exchanged-each : (z : List ℤ) (first last : ℕ) (a : ℤ) → first < length z → last < length z → first ≢ last → (e : ℕ)
+    → get_or (exchanged z first last a) e (pos 0) ≡ (get_or z e (pos 0) +ℤ ((if nat_eq first e then a else pos 0) -ℤ (if nat_eq last e then a else pos 0)))
+exchanged-each z first last a lf ll apart e = at (cases_eq first e) (cases_eq last e) where
+  at : (first ≡ e) ⊎ (first ≢ e) → (last ≡ e) ⊎ (last ≢ e) → get_or (exchanged z first last a) e (pos 0) ≡ (get_or z e (pos 0) +ℤ ((if nat_eq first e then a else pos 0) -ℤ (if nat_eq last e then a else pos 0)))
+  at (inl f) (inl l) = absurd (apart (f ∙ sym l))
+  at (inl f) (inr l) =
+      let P : ℕ → Type 0 = λ k. get_or (exchanged z first last a) k (pos 0) ≡ (get_or z k (pos 0) +ℤ a) in
+      let r' : P e = subst P f (exchanged-first z first last a lf apart) in
+      rw (eq-eqb first e f, ne_eqb last e l) (omega (arith, ints, r'))
+  at (inr f) (inl l) =
+      let P : ℕ → Type 0 = λ k. get_or (exchanged z first last a) k (pos 0) ≡ (get_or z k (pos 0) -ℤ a) in
+      let r' : P e = subst P l (exchanged-second z first last a ll) in
+      rw (ne_eqb first e f, eq-eqb last e l) (omega (arith, ints, r'))
+  at (inr f) (inr l) =
+      let r = exchanged-other z first last e a (λ s. f (sym s)) (λ s. l (sym s)) in
+      rw (ne_eqb first e f, ne_eqb last e l) (omega (arith, ints, r))
+
+-- the ends of a walk are apart
+pub ends_apart : (z : List ℤ) (first last shown : ℕ) → shown ≡ last → get_or z first (pos 0) <ℤ pos 0 → pos 0 <ℤ get_or z last (pos 0) → first ≢ shown
+ends_apart z first last shown is under over same =
+    let P : ℕ → Type 0 = λ k. pos 0 <ℤ get_or z k (pos 0) in
+    let o : P first = subst P (sym (same ∙ is)) over in
+    omega (arith, ints, o, under)
+
+-- small entries, told otherwise
+pub entries_small : (rows : List (List ℤ)) → All (λ x. All (IsAtMost (5 * 10 ^ 29)) x) rows → All (λ x. All IsEntry x) rows
+entries_small rows h = All-from_get_or (λ x. All IsEntry x) rows [] (λ i li. All-from_get_or IsEntry (row_at rows i) (pos 0) (λ j lj.
+    let b : IsAtMost (5 * 10 ^ 29) (get_or (row_at rows i) j (pos 0)) = All-get_or (IsAtMost (5 * 10 ^ 29)) (row_at rows i) j (pos 0) lj (All-get_or (λ x. All (IsAtMost (5 * 10 ^ 29)) x) rows i [] li h) in
+    record { low = omega (arith, ints, b.low); high = omega (arith, ints, b.high) }))
+
+pub up_to_small : (rows : List (List ℤ)) → All (λ x. All (IsAtMost (5 * 10 ^ 29)) x) rows → All (λ x. All (IsUpTo (pos (5 * 10 ^ 29))) x) rows
+up_to_small rows h = All-from_get_or (λ x. All (IsUpTo (pos (5 * 10 ^ 29))) x) rows [] (λ i li. All-from_get_or (IsUpTo (pos (5 * 10 ^ 29))) (row_at rows i) (pos 0) (λ j lj.
+    let b : IsAtMost (5 * 10 ^ 29) (get_or (row_at rows i) j (pos 0)) = All-get_or (IsAtMost (5 * 10 ^ 29)) (row_at rows i) j (pos 0) lj (All-get_or (λ x. All (IsAtMost (5 * 10 ^ 29)) x) rows i [] li h) in
+    record { low = b.low; high = b.high }))
+
+-- entries that have spread by little are small still
+pub entries_spread : (rows after : List (List ℤ)) (b d : ℤ) → All (λ x. All (IsUpTo (b +ℤ d)) x) after → (b +ℤ d) ≤ℤ pos (10 ^ 30) → All (λ x. All IsEntry x) after
+entries_spread rows after b d h le = All-from_get_or (λ x. All IsEntry x) after [] (λ i li. All-from_get_or IsEntry (row_at after i) (pos 0) (λ j lj.
+    let o : IsUpTo (b +ℤ d) (get_or (row_at after i) j (pos 0)) = All-get_or (IsUpTo (b +ℤ d)) (row_at after i) j (pos 0) lj (All-get_or (λ x. All (IsUpTo (b +ℤ d)) x) after i [] li h) in
+    record { low = omega (arith, ints, o.low, le); high = omega (arith, ints, o.high, le) }))
+
+-- where the levels are closed no walk joins
+pub none_joins : (terms : List Meaning) (rows : List (List ℤ)) (n : ℕ) (q : ℤ) (shift z : List ℤ) → pos 0 ≤ℤ q → AreTerms n terms → AreBases q terms rows → length z ≡ n → IsRest terms shift rows z → (unions : List Bits) → AreLinks terms n q rows unions
+    → (levels : List Bits) → AreClosed n unions z levels → (first : ℕ) (steps : List Step) → Joins terms q shift rows first steps → ⊥
+none_joins terms rows n q shift z low fit bases zn rest unions links levels closed first steps joins =
+    let (k, lk, bit) = back first steps fin joins.walk.steps_fit top in
+    closed.above k first lk bit under where
+      fin : first < n
+      fin = first_below terms rows n q low fit bases first steps joins.walk
+
+      under : get_or z first (pos 0) <ℤ pos 0
+      under = let b = joins.below in rw (rest.exact first (rw zn fin)) b
+
+      ends_below : (from : ℕ) (other : List Step) → from < n → AreSteps terms q rows from other → last_of from other < n
+      ends_below from [] l h = l
+      ends_below from (s ∷ ss) l h = ends_below s.to ss (step_below terms rows n q low fit bases from s h.0) h.1
+
+      top : (k : ℕ) × (k < length levels) × (bit_in (set_at levels k) (last_of first steps) ≡ 1)
+      top =
+          let l = ends_below first steps fin joins.walk.steps_fit in
+          let o = joins.above in
+          (0, closed.levelled.some, (closed.levelled.over (last_of first steps)).1 (l, rw (rest.exact (last_of first steps) (rw zn l)) o))
+
+      back : (from : ℕ) (other : List Step) → from < n → AreSteps terms q rows from other → (k : ℕ) × (k < length levels) × (bit_in (set_at levels k) (last_of from other) ≡ 1) → (k : ℕ) × (k < length levels) × (bit_in (set_at levels k) from ≡ 1)
+      back from [] l h at = at
+      back from (s ∷ ss) l h at =
+          let (k, lk, bit) = back s.to ss (step_below terms rows n q low fit bases from s h.0) h.1 at in
+          closed.closed k from lk l (s.to, (links from s.to l).1 (s.term, h.0), bit)

@@ -1,0 +1,16 @@
+pub mod Options
+pub mod Words
+pub mod Lists
+pub mod Rests
+pub mod Following
+pub mod Spotting
+pub mod Levelling
+pub mod Uniting
+pub mod Noting
+pub mod Reaching
+pub mod Amounts
+pub mod Exchanging
+pub mod Advancing
+pub mod Gaps
+pub mod Improving
+pub mod Starting

@@ -1,0 +1,32 @@
+-- The first bases and the plain shift are small.
+use Rattle.std.proofs.Common.{ℕ, zero, suc, ◌*◌, ◌^◌, List, [], ◌∷◌, map, replicate, ℤ, pos, negsuc, neg_ℤ, nat_abs, ◌*ℤ◌, ◌≤ℤ◌, arith}
+use Rattle.std.specs.List.{All}
+use Rattle.std.proofs.lemmas.Int.{ints}
+use Rattle.sfm_spec.specs.Sets.{magnitudes}
+use Rattle.sfm_spec.specs.Bounds.{IsAtMost, IsFactor}
+use Rattle.sfm_spec.proofs.Scaled.{times-mono}
+
+-- the same number for each place
+pub magnitudes-even : (n : ℕ) (p : ℤ) → IsAtMost (10 ^ 24) p → magnitudes (replicate n p) ≤ℤ pos (10 ^ 24 * n)
+magnitudes-even zero p h = omega (arith, ints)
+magnitudes-even (suc n) p h =
+    let r = magnitudes-even n p h in
+    let one = by_sign p h in
+    omega (arith, ints, r, one) where
+      by_sign : (p : ℤ) → IsAtMost (10 ^ 24) p → pos (nat_abs p) ≤ℤ pos (10 ^ 24)
+      by_sign (pos k) g = omega (arith, ints, g.low, g.high)
+      by_sign (negsuc k) g = omega (arith, ints, g.low, g.high)
+
+module _ {X : Type 0} (size : X → ℤ) (start : X → ℤ → List ℤ) (q : ℤ)
+    (starts_small : (x : X) → All (λ a. (neg_ℤ (pos 2 *ℤ q *ℤ size x) ≤ℤ a) × (a ≤ℤ (pos 2 *ℤ q *ℤ size x))) (start x q)) where
+  product_small : (m : ℤ) → IsFactor q → m ≤ℤ pos (10 ^ 18) → (pos 2 *ℤ q *ℤ m) ≤ℤ pos (10 ^ 25)
+  product_small m f h = let up = times-mono (pos 2 *ℤ q) m (pos (10 ^ 18)) (omega (arith, ints, f.low)) h in omega (arith, ints, up, f.low, f.high)
+
+  -- the entries of the first bases
+  pub starts_within : IsFactor q → (xs : List X) → All (λ x. size x ≤ℤ pos (10 ^ 18)) xs → All (λ row. All (IsAtMost (10 ^ 25)) row) (map (λ x. start x q) xs)
+  starts_within f [] h k d l = absurd (omega arith)
+  starts_within f (x ∷ xs) h zero d l = λ i e lt.
+      let s = starts_small x i e lt in
+      let b = product_small (size x) f (h 0 x (omega arith)) in
+      record { low = omega (arith, ints, s.0, b); high = omega (arith, ints, s.1, b) }
+  starts_within f (x ∷ xs) h (suc k) d l = starts_within f xs (λ i e lt. h (suc i) e (omega arith)) k d (omega arith)

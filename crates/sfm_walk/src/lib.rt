@@ -1,0 +1,16 @@
+// Bases that prove the minimum of a sum of submodular functions, found by walks of exchanges: from first bases, each walk
+// leads by fewest steps from a place with z < 0 to one with z > 0, and moves as much as it can, until no walk joins.
+#![tactic(auto)]
+
+mod asking;
+mod bits;
+mod levels;
+mod moving;
+mod optimum;
+mod reach;
+mod rest;
+mod spots;
+mod unions;
+mod walk;
+
+pub use optimum::{Optimum, minimise};
