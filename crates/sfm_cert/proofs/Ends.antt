@@ -1,0 +1,99 @@
+-- Where the reading stops: what an end says of the place at which it was found.
+use Rattle.std.proofs.Common.{◌≡◌, ◌++◌, ◌∷◌, List, ℕ, Result, Ok, Err, subst, sym, refl, ap, ◌∙◌, inr, [], ◌+◌, ◌<◌, ◌≤◌, length, drop, get_or, append_assoc, arith, Bool, true, not}
+use Rattle.std.specs.Prelude.{IfErr, IsErrAnd}
+use Rattle.sfm_cert.specs.declared.cursor.Cursor.{Cursor}
+use Rattle.sfm_cert.specs.declared.solved.AnswerEnd.{AnswerEnd}
+use Rattle.sfm_cert.specs.declared.solved.AnswerEnd.TheVariants.{BadLine, Memory}
+use Rattle.std.proofs.lemmas.Slice.Eq.{bytes_eq-Decides}
+use lib.Pointwise.{pointwise}
+use lib.Dec.{eqb}
+use mathlib.Core.Bool.{true≢false}
+use Rattle.sfm_cert.proofs.Tokens.{same_front}
+use Rattle.std.proofs.lemmas.List.{length_push, drop_at, drop-drop, get_or-drop, length-append}
+use Rattle.std.proofs.lemmas.List.Elements.{All-nil, All-push, All-append}
+use Rattle.sfm_cert.specs.Answer.{Form, text_of}
+use Rattle.sfm_cert.specs.Grammar.{IsLine}
+use Rattle.sfm_cert.proofs.AnswerLines.{text_of-append}
+use Rattle.sfm_cert.proofs.Machine.{leads-append}
+use Rattle.sfm_cert.specs.Reading.{State, ended, Leads, IsNextLine, Takes, IsStuck, EndsStuck, Reads, EndsAt}
+
+-- an end that is passed on
+pub passed_on : {A E : Type 0} (r : Result A E) (P Q : E → Type 0) → IsErrAnd r P → ((e : E) → P e → Q e) → IfErr r Q
+passed_on (Ok x) P Q h f = absurd h
+passed_on (Err e) P Q h f = f e h
+
+-- no line is next
+pub stuck_without : (text : List ℕ) (from : Cursor) (IsGood : List ℕ → Type 0) → ((line : List ℕ) → IsNextLine text from.at line → ⊥) → IsStuck text from IsGood from.line
+stuck_without text from IsGood none = record { number_is = refl; none = λ line n g. none line n }
+
+-- the next line is one line
+pub one_line : (text : List ℕ) (at : ℕ) (x y : List ℕ) → IsNextLine text at x → IsNextLine text at y → x ≡ y
+one_line text at x y h k = (same_front 10 x y (10 ∷ h.rest) (10 ∷ k.rest) h.is_line k.is_line (inr (h.rest, refl)) (inr (k.rest, refl)) (sym h.cut ∙ k.cut)).0
+
+-- another line is next
+pub stuck_at : (text : List ℕ) (from to : Cursor) (IsGood : List ℕ → Type 0) (line : List ℕ) → Takes text from to line → (IsGood line → ⊥) → IsStuck text from IsGood from.line
+stuck_at text from to IsGood line t bad = record { number_is = refl; none = λ other n g. bad (subst IsGood (one_line text from.at other line n t.next) g) }
+
+pub differs : (b : Bool) (x y : List ℕ) → b ≡ not (pointwise eqb x y) → b ≡ true → x ≡ y → ⊥
+differs b x y h t e = let d = (bytes_eq-Decides x y).1 e in true≢false (sym t ∙ h ∙ ap not d)
+
+-- ---- lines one behind another
+
+module _ (form : Form) (text : List ℕ) where
+  pub reads_begin : (from : Cursor) (due : State) → from.at ≤ length text → Reads form text from from due due []
+  reads_begin from due h = record { are_lines = All-nil IsLine; within = h; cut = refl; number = omega arith; leads = refl }
+
+  pub reads_more : (from to to' : Cursor) (due next after : State) (lines : List (List ℕ)) (line : List ℕ) → Reads form text from to due next lines → Takes text to to' line → to'.at ≤ length text
+      → Leads form next line after → Reads form text from to' due after (lines ++ line ∷ [])
+  reads_more from to to' due next after lines line r t h l = record {
+    are_lines = All-push IsLine lines line r.are_lines t.next.is_line;
+    within = h;
+    cut = r.cut ∙ ap (λ x. text_of lines ++ x) (t.next.cut ∙ ap (λ x. line ++ (10 ∷ x)) (behind to.at to'.at line t.next.rest t.next.cut t.at) ∙ sym (append_assoc line (10 ∷ []) (drop to'.at text)))
+        ∙ sym (append_assoc (text_of lines) (line ++ 10 ∷ []) (drop to'.at text)) ∙ ap (λ x. x ++ drop to'.at text) (sym (text_of-append lines (line ∷ [])));
+    number = omega (arith, r.number, t.number, length_push lines line);
+    leads = leads-append form due lines next (line ∷ []) after r.leads (after, l, refl);
+  } where
+    behind : (at to : ℕ) (line rest : List ℕ) → drop at text ≡ line ++ (10 ∷ rest) → to ≡ at + length line + 1 → rest ≡ drop to text
+    behind at to line rest e f =
+        sym (drop_at (line ++ 10 ∷ []) rest (length line + 1) (length_push line 10))
+        ∙ ap (λ x. drop (length line + 1) x) (append_assoc line (10 ∷ []) rest ∙ sym e) ∙ drop-drop (length line + 1) at text ∙ ap (λ n. drop n text) (omega (arith, f))
+
+  pub reads_then : (a b c : Cursor) (s t u : State) (xs ys : List (List ℕ)) → Reads form text a b s t xs → Reads form text b c t u ys → Reads form text a c s u (xs ++ ys)
+  reads_then a b c s t u xs ys h k = record {
+    are_lines = All-append IsLine xs ys h.are_lines k.are_lines;
+    within = k.within;
+    cut = h.cut ∙ ap (λ x. text_of xs ++ x) k.cut ∙ sym (append_assoc (text_of xs) (text_of ys) (drop c.at text)) ∙ ap (λ x. x ++ drop c.at text) (sym (text_of-append xs ys));
+    number = omega (arith, h.number, k.number, length-append xs ys);
+    leads = leads-append form s xs t ys u h.leads k.leads;
+  }
+
+  -- the reading stops where it is stuck
+  pub stops_stuck : (from to : Cursor) (due next : State) (lines : List (List ℕ)) (IsGood : List ℕ → Type 0) (end : AnswerEnd) → Reads form text from to due next lines → EndsStuck text to IsGood end
+      → ((line : List ℕ) (after : State) → IsNextLine text to.at line → Leads form next line after → IsGood line) → (next ≡ ended → ⊥) → EndsAt form text from due end
+  stops_stuck from to due next lines IsGood (BadLine number) r s f going = record {
+    lines = lines;
+    to = to;
+    next = next;
+    reads = r;
+    number_is = s.number_is;
+    none = λ line after n l. s.none line n (f line after n l);
+    left = λ e. absurd (going e);
+  }
+  stops_stuck from to due next lines IsGood Memory r s f going = tt
+
+  pub stops_then : (a b : Cursor) (s t : State) (xs : List (List ℕ)) (end : AnswerEnd) → Reads form text a b s t xs → EndsAt form text b t end → EndsAt form text a s end
+  stops_then a b s t xs (BadLine number) r h = record {
+    lines = xs ++ h.lines;
+    to = h.to;
+    next = h.next;
+    reads = reads_then a b h.to s t h.next xs h.lines r h.reads;
+    number_is = h.number_is;
+    none = h.none;
+    left = h.left;
+  }
+  stops_then a b s t xs Memory r h = tt
+
+  -- the first byte of a line is that of the text at its place
+  pub first_byte : (at k : ℕ) (line : List ℕ) → IsNextLine text at line → get_or line 0 0 ≡ k → 0 < k → get_or text at 0 ≡ k
+  first_byte at k [] n e h = absurd (omega (arith, e, h))
+  first_byte at k (c ∷ line) n e h = sym (ap (λ i. get_or text i 0) (omega arith)) ∙ sym (get_or-drop at text 0 0) ∙ ap (λ x. get_or x 0 0) n.cut ∙ e

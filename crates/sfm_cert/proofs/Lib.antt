@@ -1,0 +1,15 @@
+pub mod AnswerLines
+pub mod Tokens
+pub mod Needs
+pub mod Names
+pub mod LineForms
+pub mod Machine
+pub mod Beginnings
+pub mod Ends
+pub mod Parts
+pub mod BadLines
+pub mod Sections
+pub mod First
+pub mod Whole
+pub mod Unique
+pub mod OneAnswer

@@ -1,0 +1,84 @@
+-- The first lines and the sections of an answer text, read one by one.
+use Rattle.std.proofs.Common.{◌≡◌, ℕ, ◌+◌, ◌<◌, ◌≤◌, List, [], ◌∷◌, ◌++◌, length, take, drop, get_or, map, refl, sym, ap, subst, ◌∙◌, append_assoc}
+use Rattle.std.specs.List.{All}
+use Rattle.std.proofs.lemmas.List.{drop_more, take_more, drop_all, take_all}
+use Rattle.std.proofs.lemmas.List.Elements.{All-nil, All-push}
+use Rattle.sfm_cert.specs.Answer.{Break, Form, slope_line, slope_lines, at_line, base_lines, break_lines}
+use Rattle.sfm_cert.specs.Form.{IsFormedBreak}
+use Rattle.sfm_cert.specs.Lines.{IsSlopeLine, Ratio, ratio_of}
+use Rattle.sfm_cert.specs.Parts.{ReadsRows, ReadsBreaks, AreBreaksOf, AreHeads}
+use Rattle.sfm_cert.specs.Reading.{bases, Reads, EndsAt, EndsStuck, TakesSome}
+use Rattle.sfm_cert.specs.declared.cursor.Cursor.{Cursor}
+use Rattle.sfm_cert.specs.declared.solved.AnswerEnd.{AnswerEnd}
+use Rattle.sfm_cert.proofs.AnswerLines.{slope_lines-push, break_lines-push}
+use Rattle.sfm_cert.proofs.Ends.{reads_begin, reads_more, reads_then, stops_stuck, stops_then}
+
+module _ (form : Form) (text : List ℕ) (heads : List Break) where
+  pub record BreaksSoFar (from to : Cursor) (i : ℕ) (breaks : List Break) : Type 0 where
+    pub within : to.at ≤ length text
+    pub reads : (k : ℕ) → (j : ℕ) × Reads form text from to (bases k [] (map ratio_of heads)) (bases j [] (map ratio_of (drop i heads))) (break_lines breaks)
+    pub same : slope_lines form.names breaks ≡ slope_lines form.names (take i heads)
+    pub formed : All (IsFormedBreak (length form.names) form.widths) breaks
+
+  pub breaks_begin : (from : Cursor) → from.at ≤ length text → BreaksSoFar from from 0 []
+  breaks_begin from h = record { within = h; reads = λ k. (k, reads_begin form text from (bases k [] (map ratio_of heads)) h); same = refl; formed = All-nil (IsFormedBreak (length form.names) form.widths) }
+
+  -- the section of the next slope
+  at_next : (from to mid : Cursor) (i : ℕ) (breaks : List Break) (b : Break) → i < length heads → get_or heads i b ≡ b → BreaksSoFar from to i breaks → TakesSome text to mid (λ line. line ≡ at_line b.num b.den)
+      → (k : ℕ) → Reads form text from mid (bases k [] (map ratio_of heads)) (bases 1 form.widths (map ratio_of (drop (i + 1) heads))) (break_lines breaks ++ at_line b.num b.den ∷ [])
+  at_next from to mid i breaks b lt e so t k =
+      let r = so.reads k in
+      let ds : drop i heads ≡ b ∷ drop (i + 1) heads = drop_more heads i b lt ∙ ap (λ c. c ∷ drop (i + 1) heads) e in
+      let before = subst (λ (l : List Break). Reads form text from to (bases k [] (map ratio_of heads)) (bases r.0 [] (map ratio_of l)) (break_lines breaks)) ds r.1 in
+      subst (λ (l : List ℕ). Reads form text from mid (bases k [] (map ratio_of heads)) (bases 1 form.widths (map ratio_of (drop (i + 1) heads))) (break_lines breaks ++ l ∷ [])) t.good
+      (reads_more form text from to mid (bases k [] (map ratio_of heads)) (bases r.0 [] (map ratio_of (b ∷ drop (i + 1) heads))) (bases 1 form.widths (map ratio_of (drop (i + 1) heads))) (break_lines breaks) t.line before t.takes t.within (t.good, refl))
+
+  pub breaks_more : (from to mid to' : Cursor) (i : ℕ) (breaks : List Break) (b c : Break) → i < length heads → get_or heads i b ≡ b → AreHeads form heads → BreaksSoFar from to i breaks
+      → TakesSome text to mid (λ line. line ≡ at_line b.num b.den) → ReadsRows form text mid to' c.bases → c.num ≡ b.num → c.den ≡ b.den → c.members ≡ b.members → BreaksSoFar from to' (i + 1) (breaks ++ c ∷ [])
+  breaks_more from to mid to' i breaks b c lt e are so t rows p q m =
+      let is = subst (λ (x : Break). (line : List ℕ) × IsSlopeLine form.names line (ratio_of x) x.members) e (are i b lt) in
+      let line_is : slope_line form.names c ≡ slope_line form.names b = line_of c b p q m in
+      record {
+        within = rows.within;
+        reads = λ k. (
+          length c.bases + 1,
+          subst (λ (l : List (List ℕ)). Reads form text from to' (bases k [] (map ratio_of heads)) (bases (length c.bases + 1) [] (map ratio_of (drop (i + 1) heads))) l)
+              (append_assoc (break_lines breaks) (at_line b.num b.den ∷ []) (base_lines 1 c.bases) ∙ ap (λ l. break_lines breaks ++ l ∷ base_lines 1 c.bases) (ap (λ x. at_line x b.den) (sym p) ∙ ap (λ x. at_line c.num x) (sym q)) ∙ sym (break_lines-push breaks c))
+              (reads_then form text from mid to' (bases k [] (map ratio_of heads)) (bases 1 form.widths (map ratio_of (drop (i + 1) heads))) (bases (length c.bases + 1) [] (map ratio_of (drop (i + 1) heads))) (break_lines breaks ++ at_line b.num b.den ∷ []) (base_lines 1 c.bases)
+              (at_next from to mid i breaks b lt e so t k) (rows.reads (map ratio_of (drop (i + 1) heads)))),
+        );
+        same = slope_lines-push form.names breaks c ∙ ap (λ l. l ++ slope_line form.names c ∷ []) so.same ∙ ap (λ l. slope_lines form.names (take i heads) ++ l ∷ []) line_is
+            ∙ sym (slope_lines-push form.names (take i heads) b) ∙ ap (λ x. slope_lines form.names (take i heads ++ x ∷ [])) (sym e) ∙ ap (slope_lines form.names) (sym (take_more heads i b lt));
+        formed = All-push (IsFormedBreak (length form.names) form.widths) breaks c so.formed (record {
+          lowest = rw (p, q) is.1.lowest;
+          entry = rw p is.1.entry;
+          factor = rw q is.1.factor;
+          members = rw m is.1.members;
+          bases = rows.formed;
+        });
+      } where
+        line_of : (c b : Break) → c.num ≡ b.num → c.den ≡ b.den → c.members ≡ b.members → slope_line form.names c ≡ slope_line form.names b
+        line_of c b p q m = cc
+
+  pub breaks_stop_at : (from to : Cursor) (i : ℕ) (breaks : List Break) (b : Break) (end : AnswerEnd) → i < length heads → get_or heads i b ≡ b → BreaksSoFar from to i breaks → EndsStuck text to (λ line. line ≡ at_line b.num b.den) end
+      → (k : ℕ) → EndsAt form text from (bases k [] (map ratio_of heads)) end
+  breaks_stop_at from to i breaks b end lt e so s k =
+      let r = so.reads k in
+      let ds : drop i heads ≡ b ∷ drop (i + 1) heads = drop_more heads i b lt ∙ ap (λ c. c ∷ drop (i + 1) heads) e in
+      let before = subst (λ (l : List Break). Reads form text from to (bases k [] (map ratio_of heads)) (bases r.0 [] (map ratio_of l)) (break_lines breaks)) ds r.1 in
+      stops_stuck form text from to (bases k [] (map ratio_of heads)) (bases r.0 [] (map ratio_of (b ∷ drop (i + 1) heads))) (break_lines breaks) (λ line. line ≡ at_line b.num b.den) end before s (λ line next n l. l.0) (λ f. cc)
+
+  pub breaks_stop_rows : (from to mid : Cursor) (i : ℕ) (breaks : List Break) (b : Break) (end : AnswerEnd) → i < length heads → get_or heads i b ≡ b → BreaksSoFar from to i breaks → TakesSome text to mid (λ line. line ≡ at_line b.num b.den)
+      → ((due : List Ratio) → EndsAt form text mid (bases 1 form.widths due) end) → (k : ℕ) → EndsAt form text from (bases k [] (map ratio_of heads)) end
+  breaks_stop_rows from to mid i breaks b end lt e so t s k =
+      stops_then form text from mid (bases k [] (map ratio_of heads)) (bases 1 form.widths (map ratio_of (drop (i + 1) heads))) (break_lines breaks ++ at_line b.num b.den ∷ []) end
+      (at_next from to mid i breaks b lt e so t k) (s (map ratio_of (drop (i + 1) heads)))
+
+  pub breaks_end : (from to : Cursor) (i : ℕ) (breaks : List Break) → length heads ≤ i → BreaksSoFar from to i breaks → ReadsBreaks form text from to heads [] breaks
+  breaks_end from to i breaks h so = record {
+    within = so.within;
+    reads = λ k. let r = so.reads k in (r.0, subst (λ (l : List Break). Reads form text from to (bases k [] (map ratio_of heads)) (bases r.0 [] (map ratio_of l)) (break_lines breaks)) (drop_all i heads h) r.1);
+  }
+
+  pub breaks_are : (from to : Cursor) (i : ℕ) (breaks : List Break) → length heads ≤ i → BreaksSoFar from to i breaks → AreBreaksOf form heads breaks
+  breaks_are from to i breaks h so = record { same = so.same ∙ ap (slope_lines form.names) (take_all i heads h); formed = so.formed }

@@ -1,0 +1,37 @@
+-- Which texts are answers, and the first line at which a text stops being the beginning of one.
+use Rattle.std.specs.Prelude.{◌≡◌, ◌≢◌, ℕ, ◌+◌, List, [], ◌∷◌, ◌++◌, length}
+use Rattle.std.specs.List.{All}
+use Rattle.sfm_cert.specs.Answer.{Answer, Form, answer_lines, answer_text, text_of}
+use Rattle.sfm_cert.specs.Form.{IsFormed}
+
+-- the longest answer text
+abbrev pub answer_limit : ℕ
+answer_limit = 268435456
+
+-- the text of an answer of this form
+pub record IsAnswerText (form : Form) (text : List ℕ) (a : Answer) : Type 0 where
+  pub formed : IsFormed form a
+  pub written : text ≡ answer_text form a
+
+-- the lines are the first ones of some answer
+pub record BeginsAnswer (form : Form) (lines : List (List ℕ)) : Type 0 where
+  pub answer : Answer
+  pub rest : List (List ℕ)
+  pub formed : IsFormed form answer
+  pub begins : answer_lines form answer ≡ lines ++ rest
+
+-- a line holds no line feed
+abbrev pub IsLine : List ℕ → Type 0
+IsLine line = All (λ c. c ≢ 10) line
+
+-- the lines before that number are the first ones of an answer. The text does not end with them as a whole answer, and with the next
+-- line, where there is one with a line feed behind it, they are no longer the first ones of an answer
+pub record IsBadLine (form : Form) (text : List ℕ) (number : ℕ) : Type 0 where
+  pub before : List (List ℕ)
+  pub behind : List ℕ
+  pub are_lines : All IsLine before
+  pub cut : text ≡ text_of before ++ behind
+  pub counted : number ≡ length before + 1
+  pub good : BeginsAnswer form before
+  pub bad : (line rest : List ℕ) → IsLine line → behind ≡ line ++ (10 ∷ rest) → BeginsAnswer form (before ++ line ∷ []) → ⊥
+  pub unfinished : (a : Answer) → IsAnswerText form text a → ⊥

@@ -1,0 +1,22 @@
+// Answer texts: writing one, and reading one back by the grammar that the ground and the terms ask for.
+#![tactic(auto)]
+
+mod cursor;
+mod head;
+mod lines;
+mod lists;
+mod next;
+mod numbers;
+mod put;
+mod read;
+mod solved;
+mod steps;
+mod write;
+
+pub use lines::{line_of_at, line_of_base};
+pub use read::{ANSWER_LIMIT, read_answer};
+pub use solved::{AnswerEnd, Solved};
+pub use write::write_answer;
+
+#[cfg(test)]
+mod tests;

@@ -1,0 +1,140 @@
+// The lines of an answer text, read one at a time: each call reads the next line where it is of its kind, and tells the
+// number of that line where it is not.
+ghost use Rattle.std.specs.Prelude.{◌≡◌, ℕ, ◌+◌, ◌<◌, ◌≤◌, ◌^◌, Bool, List, length, ℤ, IfOk, IfErr};
+ghost use Rattle.sfm_spec.specs.Blocks.{Block as Generator};
+ghost use Rattle.sfm_extreme.specs.Blocks.{block_of};
+ghost use Rattle.sfm_cert.specs.Answer.{at_line};
+ghost use Rattle.sfm_cert.specs.Lines.{IsMinimumLine, IsSetLine, IsBlockLine, IsSlopeLine, IsBaseLine, ratio_of_head, Ratio};
+ghost use Rattle.sfm_cert.specs.Reading.{TakesSome, EndsStuck};
+
+use crate::cursor::Cursor;
+use crate::head::Head;
+use crate::lists::{base_of, block_of_line, head_of_line, minimum_of, set_of};
+use crate::next::{expect, take_line};
+use crate::put::put_slope;
+use crate::solved::AnswerEnd;
+use sfm_base::{Set, Slope};
+use sfm_extreme::Block;
+use sfm_kind::Instance;
+use std::alloc::Global;
+
+/// The number of the minimum line.
+pub fn read_minimum(text: &[u8], cursor: &mut Cursor) -> Result<i128, AnswerEnd>
+    requires { cursor.old.at ≤ length text.now }
+    ensures read { IfOk result (λ v. TakesSome text.now cursor.old cursor.new (λ line. IsMinimumLine line v)) }
+    ensures stuck { IfErr result (EndsStuck text.now cursor.old (λ line. (v : ℤ) × IsMinimumLine line v)) }
+{
+    let end = AnswerEnd::BadLine { line: cursor.line };
+    let Some(line) = take_line(text, cursor) else {
+        return Err(end);
+    };
+    let Some(value) = minimum_of(line) else {
+        return Err(end);
+    };
+    Ok(value)
+}
+
+/// The set of a line of this word.
+pub fn read_set(
+    alloc: Global,
+    instance: &Instance,
+    text: &[u8],
+    cursor: &mut Cursor,
+    word: &[u8],
+) -> Result<Set, AnswerEnd>
+    requires { cursor.old.at ≤ length text.now }
+    ensures read { IfOk result (λ s. TakesSome text.now cursor.old cursor.new (λ line. IsSetLine word.now instance.now.names line s)) }
+    ensures stuck { IfErr result (EndsStuck text.now cursor.old (λ line. (s : List Bool) × IsSetLine word.now instance.now.names line s)) }
+{
+    let end = AnswerEnd::BadLine { line: cursor.line };
+    let Some(line) = take_line(text, cursor) else {
+        return Err(end);
+    };
+    let Some(members) = set_of(alloc, instance, word, line)? else {
+        return Err(end);
+    };
+    Ok(members)
+}
+
+/// The block of the block line behind so many others.
+pub fn read_block(
+    alloc: Global,
+    instance: &Instance,
+    text: &[u8],
+    cursor: &mut Cursor,
+    before: usize,
+) -> Result<Block, AnswerEnd>
+    requires within { cursor.old.at ≤ length text.now }
+    requires few { before + 1 < 18446744073709551616 }
+    ensures read { IfOk result (λ block. TakesSome text.now cursor.old cursor.new (λ line. IsBlockLine instance.now.names before line (block_of block))) }
+    ensures stuck { IfErr result (EndsStuck text.now cursor.old (λ line. (block : Generator) × IsBlockLine instance.now.names before line block)) }
+{
+    let end = AnswerEnd::BadLine { line: cursor.line };
+    let Some(line) = take_line(text, cursor) else {
+        return Err(end);
+    };
+    let Some(block) = block_of_line(alloc, instance, before, line)? else {
+        return Err(end);
+    };
+    Ok(block)
+}
+
+/// What a slope line says.
+pub fn read_head(
+    alloc: Global,
+    instance: &Instance,
+    text: &[u8],
+    cursor: &mut Cursor,
+) -> Result<Head, AnswerEnd>
+    requires { cursor.old.at ≤ length text.now }
+    ensures read { IfOk result (λ head. TakesSome text.now cursor.old cursor.new (λ line. IsSlopeLine instance.now.names line (ratio_of_head head) head.set)) }
+    ensures stuck { IfErr result (EndsStuck text.now cursor.old (λ line. (r : Ratio) × (s : List Bool) × IsSlopeLine instance.now.names line r s)) }
+{
+    let end = AnswerEnd::BadLine { line: cursor.line };
+    let Some(line) = take_line(text, cursor) else {
+        return Err(end);
+    };
+    let Some(head) = head_of_line(alloc, instance, line)? else {
+        return Err(end);
+    };
+    Ok(head)
+}
+
+/// The numbers of the line of base `number`, of which there are `width`.
+pub fn read_base(
+    alloc: Global,
+    text: &[u8],
+    cursor: &mut Cursor,
+    number: usize,
+    width: usize,
+) -> Result<Vec<i128>, AnswerEnd>
+    requires { cursor.old.at ≤ length text.now }
+    ensures read { IfOk result (λ x. TakesSome text.now cursor.old cursor.new (λ line. IsBaseLine number width line x.items)) }
+    ensures stuck { IfErr result (EndsStuck text.now cursor.old (λ line. (x : List ℤ) × IsBaseLine number width line x)) }
+{
+    let end = AnswerEnd::BadLine { line: cursor.line };
+    let Some(line) = take_line(text, cursor) else {
+        return Err(end);
+    };
+    let Some(numbers) = base_of(alloc, number, width, line)? else {
+        return Err(end);
+    };
+    Ok(numbers)
+}
+
+/// Reads the line that tells a slope.
+pub fn read_at(
+    alloc: Global,
+    text: &[u8],
+    cursor: &mut Cursor,
+    slope: &Slope,
+) -> Result<(), AnswerEnd>
+    requires { cursor.old.at ≤ length text.now }
+    ensures read { IfOk result (λ _. TakesSome text.now cursor.old cursor.new (λ line. line ≡ at_line slope.now.num slope.now.den)) }
+    ensures stuck { IfErr result (EndsStuck text.now cursor.old (λ line. line ≡ at_line slope.now.num slope.now.den)) }
+{
+    let mut due = Vec::from_slice(alloc, b"at ")?;
+    put_slope(&mut due, slope.num, slope.den)?;
+    expect(text, cursor, &due)?;
+    Ok(())
+}
