@@ -1,0 +1,37 @@
+-- The value of a sum of terms is small, as their sizes add up to little.
+use Rattle.std.proofs.Common.{◌≡◌, ℕ, zero, suc, Bool, true, false, List, [], ◌∷◌, map, pos, neg_ℤ, ◌≤ℤ◌, refl, arith}
+use Rattle.std.proofs.lemmas.Int.{ints}
+use Rattle.std.proofs.lemmas.List.{length-map}
+use Rattle.sfm_spec.specs.Sets.{part, sum_over}
+use Rattle.sfm_spec.specs.Bounds.{IsEntry, total_of}
+use Rattle.sfm_spec.specs.Families.{meanings, IsAllowed, even_shift, shifted_at, sum_at}
+use Rattle.sfm_spec.proofs.Tight.{some_of}
+use Rattle.sfm_spec.proofs.Lattice.{value_is}
+use Rattle.sfm_kind.specs.declared.kind.Kind.{Kind}
+use Rattle.sfm_kind.specs.Instance.{AreInBounds}
+use Rattle.sfm_kind.specs.Kinds.{kind_places, kind_size, kind_value, kind-bounded}
+
+sum_small : (ts : List Kind) (s : List Bool) → IsAllowed (meanings kind_places kind_value ts) s
+    → (neg_ℤ (total_of (map kind_size ts)) ≤ℤ sum_at (meanings kind_places kind_value ts) s) × (sum_at (meanings kind_places kind_value ts) s ≤ℤ total_of (map kind_size ts))
+sum_small [] s allowed = (omega (arith, ints), omega (arith, ints))
+sum_small (t ∷ ts) s allowed =
+    let (a, e) = some_of (kind_value t (part (kind_places t) s)) allowed.0 in
+    let b = kind-bounded t (part (kind_places t) s) a (length-map (kind_places t) _) e in
+    let r = sum_small ts s allowed.1 in
+    let v = value_is (kind_value t (part (kind_places t) s)) a e in
+    (omega (arith, ints, b, r, v), omega (arith, ints, b, r, v))
+
+no_shift : (n : ℕ) (s : List Bool) → sum_over s (even_shift n (pos 0)) ≡ pos 0
+no_shift zero [] = refl
+no_shift zero (b ∷ s) = refl
+no_shift (suc n) [] = refl
+no_shift (suc n) (true ∷ s) = let r = no_shift n s in omega (arith, ints, r)
+no_shift (suc n) (false ∷ s) = let r = no_shift n s in omega (arith, ints, r)
+
+-- the value at 0/1 of an allowed set
+pub value_small : (n : ℕ) (ts : List Kind) (s : List Bool) → AreInBounds n ts → IsAllowed (meanings kind_places kind_value ts) s → IsEntry (shifted_at (meanings kind_places kind_value ts) (pos 1) (even_shift n (pos 0)) s)
+value_small n ts s bounded allowed =
+    let r = sum_small ts s allowed in
+    let z = no_shift n s in
+    let m = bounded.small in
+    record { low = omega (arith, ints, r, z, m); high = omega (arith, ints, r, z, m) }

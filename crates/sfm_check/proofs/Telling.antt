@@ -1,0 +1,94 @@
+-- A verdict that tells what was found of an answer is `valid` exactly where the text is right, and else names its first fault.
+use Rattle.std.proofs.Common.{◌≡◌, ◌↔◌, ℕ, ◌<◌, ◌≤◌, ◌^◌, List, [], ◌∷◌, length, get_or, pos, sym, ap, ◌∙◌, arith, subst}
+use Rattle.std.specs.List.{All}
+use Rattle.std.proofs.lemmas.List.{length-append}
+use Rattle.std.proofs.lemmas.List.Elements.{All-from_get_or}
+use Rattle.sfm_spec.specs.Families.{Meaning, even_shift, shifted_at}
+use Rattle.sfm_spec.proofs.Nest.{same_least, same_greatest}
+use Rattle.sfm_spec.proofs.Walks.{bases-at}
+use Rattle.sfm_kind.specs.Names.{AreElementNames}
+use Rattle.sfm_cert.specs.Answer.{Answer, Form, answer_lines, text_of}
+use Rattle.sfm_cert.specs.Grammar.{IsAnswerText, IsLine, answer_limit}
+use Rattle.sfm_cert.proofs.OneAnswer.{one_answer}
+use Rattle.sfm_check.specs.Truth.{IsProvedSection, IsRightFile, IsTrueHead, no_section, section_at, sections_of}
+use Rattle.sfm_check.specs.declared.verdicts.Wrong.TheVariants.{Long, Grammar, Base, Unproved, Answer as AnswerLine}
+use Rattle.sfm_check.specs.declared.verdicts.Verdict.{Verdict}
+use Rattle.sfm_check.specs.declared.verdicts.Verdict.TheVariants.{Valid, Invalid}
+use Rattle.sfm_check.specs.Verdict.{AllAreProved, IsFirstNoBase, IsFirstUnproved, IsFirstWrong, IsTold, IsValid, due_lines}
+use Rattle.sfm_check.specs.Findings.{IsFound}
+use Rattle.sfm_check.proofs.Forming.{few_lines}
+use Rattle.sfm_check.proofs.OneBlocks.{one_blocks}
+use Rattle.sfm_check.proofs.WrongLines.{line_due}
+
+-- a text has a byte for each line
+length-text : (lines : List (List ℕ)) → length lines ≤ length (text_of lines)
+length-text [] = omega arith
+length-text (line ∷ lines) = let r = length-text lines in omega (arith, r, length-append line (10 ∷ text_of lines))
+
+at_most : (a b c : ℕ) → a ≤ b → b ≤ c → a ≤ c
+at_most a b c l k = omega arith
+
+pub few_by_text : (form : Form) (text : List ℕ) (a : Answer) → IsAnswerText form text a → length text ≤ answer_limit → length (answer_lines form a) ≤ answer_limit
+few_by_text form text a t l = at_most (length (answer_lines form a)) (length (text_of (answer_lines form a))) answer_limit (length-text (answer_lines form a)) (subst (λ (z : List ℕ). length z ≤ answer_limit) t.written l)
+
+module _ (form : Form) (terms : List Meaning) (text : List ℕ) (a : Answer) (clean : IsLine form.header) (fine : AreElementNames form.names) (is_text : IsAnswerText form text a) (short : length text ≤ answer_limit) where
+  right : IsTrueHead terms (length form.names) a → AllAreProved terms (length form.names) a → IsRightFile form terms text
+  right head proved = record { answer = a; is_text = is_text; head = head; sections = All-from_get_or (IsProvedSection terms (length form.names)) (sections_of a) no_section proved }
+
+  few_blocks : length a.blocks < 2 ^ 64
+  few_blocks = let few = few_by_text form text a is_text short in omega (arith, few, few_lines form a)
+
+  same_answer : (r : IsRightFile form terms text) → r.answer ≡ a
+  same_answer r = sym (one_answer form fine clean text a r.answer few_blocks is_text r.is_text)
+
+  -- a right file says what was read
+  head_of : IsRightFile form terms text → IsTrueHead terms (length form.names) a
+  head_of r = subst (IsTrueHead terms (length form.names)) (same_answer r) r.head
+
+  proved_of : IsRightFile form terms text → (s : ℕ) → s < length (sections_of a) → IsProvedSection terms (length form.names) (section_at a s)
+  proved_of r s l =
+      let all : All (IsProvedSection terms (length form.names)) (sections_of a) = subst (λ (z : Answer). All (IsProvedSection terms (length form.names)) (sections_of z)) (same_answer r) r.sections in
+      all s no_section l
+
+  no_base : (line : ℕ) → IsFirstNoBase terms a line → IsRightFile form terms text → ⊥
+  no_base line w r =
+      let p = proved_of r w.section w.is_section in
+      w.no_base (bases-at (section_at a w.section).den terms (section_at a w.section).bases w.term p.bases w.is_term).1
+
+  no_proof : (line : ℕ) → IsFirstUnproved terms (length form.names) a line → IsRightFile form terms text → ⊥
+  no_proof line w r = w.unproved (proved_of r w.section w.is_section)
+
+  -- two true answers have the same lines
+  due_same : (x y : Answer) → IsTrueHead terms (length form.names) x → IsTrueHead terms (length form.names) y → due_lines form x ≡ due_lines form y
+  due_same x y hx hy =
+      let n = length form.names in
+      let zero' = even_shift (length form.names) (pos 0) in
+      let least = same_least terms n (pos 1) zero' x.least y.least hx.least hy.least in
+      let greatest = same_greatest terms n (pos 1) zero' x.greatest y.greatest hx.greatest hy.greatest in
+      let value : x.value ≡ y.value = hx.value ∙ (ap (shifted_at terms (pos 1) zero') least ∙ sym hy.value) in
+      let blocks = one_blocks terms n (pos 1) zero' x.blocks y.blocks hx.blocks hy.blocks in
+      let breaks : x.breaks ≡ y.breaks = hx.breaks ∙ sym hy.breaks in
+      cc (value, least, greatest, blocks, breaks)
+
+  no_line : (line : ℕ) → IsFirstWrong form terms a line → IsRightFile form terms text → ⊥
+  no_line line w r =
+      let same = due_same a w.truth (head_of r) w.is_true in
+      let c = ap length same in
+      let l : w.at < length (due_lines form a) = subst (λ z. w.at < z) (sym c) w.is_due in
+      w.wrong (line_due form a w.at l ∙ ap (λ z. get_or z w.at []) same)
+
+  pub found_valid : (v : Verdict) → IsFound form terms a v → IsValid v ↔ (IsRightFile form terms text × (length text ≤ answer_limit))
+  found_valid Valid f = ((λ t. (right f.0 f.1, short)), (λ r. tt))
+  found_valid (Invalid line Long) f = absurd f
+  found_valid (Invalid line Grammar) f = absurd f
+  found_valid (Invalid line Base) f = ((λ t. absurd t), (λ r. no_base line f r.0))
+  found_valid (Invalid line Unproved) f = ((λ t. absurd t), (λ r. no_proof line f.1 r.0))
+  found_valid (Invalid line AnswerLine) f = ((λ t. absurd t), (λ r. no_line line f.1 r.0))
+
+  pub found_told : (v : Verdict) → IsFound form terms a v → IsTold form terms text v
+  found_told Valid f = tt
+  found_told (Invalid line Long) f = absurd f
+  found_told (Invalid line Grammar) f = absurd f
+  found_told (Invalid line Base) f = (short, (a, is_text, f))
+  found_told (Invalid line Unproved) f = (short, (a, is_text, f.0, f.1))
+  found_told (Invalid line AnswerLine) f = (short, (a, is_text, f.0, f.1))

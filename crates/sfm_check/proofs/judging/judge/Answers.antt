@@ -1,0 +1,24 @@
+use Rattle.std.proofs.Common.{Result, Ok, Err}
+use Rattle.std.specs.Prelude.{IfOk}
+use Rattle.sfm_spec.specs.Families.{meanings}
+use Rattle.sfm_kind.specs.Kinds.{kind_places, kind_value}
+use Rattle.sfm_cert.specs.Solved.{answer_of, form_of}
+use Rattle.sfm_cert.proofs.BadLines.{header_line}
+use Rattle.sfm_check.proofs.Telling.{few_by_text, found_told, found_valid}
+use Rattle.sfm_check.proofs.judging.judge.Goals as goal
+
+-- what follows from each good answer of a call
+if_ok : {X E : Type 0} (r : Result X E) (P Q : X → Type 0) → ((x : X) → P x → Q x) → IfOk r P → IfOk r Q
+if_ok (Ok x) P Q f h = f x h
+if_ok (Err e) P Q f h = tt
+
+pub judge_solved-requires-clause-few : goal.judge_solved-requires-clause-few
+judge_solved-requires-clause-few c = few_by_text (form_of c.args.instance.now) c.args.text.now (answer_of c.in-Ok.solved) c.in-Ok.ensures.read c.if-text-gt-ANSWER_LIMIT.false
+
+pub returns-in-Ok-clause-valid : goal.returns-in-Ok-clause-valid
+returns-in-Ok-clause-valid c =
+    if_ok c.judge_solved.result _ _ (found_valid (form_of c.args.instance.now) (meanings kind_places kind_value c.args.instance.now.terms) c.args.text.now (answer_of c.in-Ok.solved) header_line c.tell_names_apart.ensures c.in-Ok.ensures.read c.if-text-gt-ANSWER_LIMIT.false) c.judge_solved.ensures
+
+pub returns-in-Ok-clause-told : goal.returns-in-Ok-clause-told
+returns-in-Ok-clause-told c =
+    if_ok c.judge_solved.result _ _ (found_told (form_of c.args.instance.now) (meanings kind_places kind_value c.args.instance.now.terms) c.args.text.now (answer_of c.in-Ok.solved) header_line c.tell_names_apart.ensures c.in-Ok.ensures.read c.if-text-gt-ANSWER_LIMIT.false) c.judge_solved.ensures

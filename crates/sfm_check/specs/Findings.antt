@@ -1,0 +1,84 @@
+-- What the steps of a judgement find of an answer: of its rows, of its sections, and of what it says.
+use Rattle.std.specs.Prelude.{◌≡◌, ◌≢◌, ◌⊎◌, ℕ, ◌+◌, ◌<◌, ◌≤◌, List, [], length, slice_index_or, ℤ}
+use Rattle.sfm_spec.specs.Terms.{times, IsBase}
+use Rattle.sfm_spec.specs.Families.{Meaning, IsLeast, IsGreatest, even_shift, shifted_at}
+use Rattle.sfm_spec.specs.Blocks.{Block, block_at}
+use Rattle.sfm_spec.specs.Walks.{term_at, row_at}
+use Rattle.sfm_extreme.specs.declared.extremes.Proved.{Proved}
+use Rattle.sfm_cert.specs.Answer.{Answer, Form, answer_lines}
+use Rattle.sfm_check.specs.Truth.{Section, section_at, sections_of, IsProvedSection, IsTrueHead}
+use Rattle.sfm_check.specs.declared.sections.Sections.{Sections}
+use Rattle.sfm_check.specs.declared.sections.Sections.TheVariants.{Proved as AllProved, Unproved as OneUnproved}
+use Rattle.sfm_check.specs.declared.verdicts.Wrong.TheVariants.{Long, Grammar, Base, Unproved, Answer as AnswerLine}
+use Rattle.sfm_check.specs.declared.verdicts.Verdict.{Verdict}
+use Rattle.sfm_check.specs.declared.verdicts.Verdict.TheVariants.{Valid, Invalid}
+use Rattle.sfm_check.specs.Verdict.{IsBaseAt, AllAreBases, AllAreProved, IsFirstNoBase, IsFirstUnproved, IsFirstWrong, due_lines}
+
+-- each row is a base of its term, times q
+abbrev pub AreBasesIn : List Meaning → ℤ → List (List ℤ) → Type 0
+AreBasesIn terms q rows = (i : ℕ) → i < length terms → IsBase (times q (term_at terms i).value) (row_at rows i)
+
+-- the first row that is none
+pub record IsFirstNoBaseIn (terms : List Meaning) (q : ℤ) (rows : List (List ℤ)) (i : ℕ) : Type 0 where
+  pub is_term : i < length terms
+  pub no_base : IsBase (times q (term_at terms i).value) (row_at rows i) → ⊥
+  pub before : (j : ℕ) → j < i → IsBase (times q (term_at terms j).value) (row_at rows j)
+
+-- each row of each section is a base
+abbrev pub AllRowsAreBases : List Meaning → Answer → Type 0
+AllRowsAreBases terms a = (s i : ℕ) → s < length (sections_of a) → i < length terms → IsBaseAt terms a s i
+
+-- the section has this slope and these rows
+pub record IsSection (section : Section) (num den : ℤ) (rows : List (List ℤ)) : Type 0 where
+  pub num_is : section.num ≡ num
+  pub den_is : section.den ≡ den
+  pub rows_are : section.bases ≡ rows
+
+-- the bases of a section prove the minimum, which is as told
+pub record IsToldOf (terms : List Meaning) (n : ℕ) (section : Section) (p : Proved) : Type 0 where
+  pub proved : IsProvedSection terms n section
+  pub least : IsLeast terms n section.den (even_shift n section.num) p.least
+  pub greatest : IsGreatest terms n section.den (even_shift n section.num) p.greatest
+  pub value : p.value ≡ shifted_at terms section.den (even_shift n section.num) p.least
+
+-- what the bases of all sections tell, one after the other
+pub record AreTold (terms : List Meaning) (n : ℕ) (a : Answer) (found : List Proved) : Type 0 where
+  pub count : length found ≡ length (sections_of a)
+  pub each : (s : ℕ) (d : Proved) → s < length (sections_of a) → IsToldOf terms n (section_at a s) (slice_index_or found s d)
+
+-- what all sections tell, or the line of the first that does not prove
+abbrev pub AreSections : List Meaning → ℕ → Answer → Sections → Type 0
+AreSections terms n a (AllProved found) = AreTold terms n a found.items
+AreSections terms n a (OneUnproved line) = IsFirstUnproved terms n a line
+
+-- where two lists of blocks first differ, or one of them ends
+pub record IsFirstUnlike (given due : List Block) (i : ℕ) : Type 0 where
+  pub before : (j : ℕ) → j < i → block_at given j ≡ block_at due j
+  pub in_given : i ≤ length given
+  pub in_due : i ≤ length due
+  pub unlike : ((i < length given) × (i < length due) × (block_at given i ≢ block_at due i)) ⊎ ((i ≡ length given) × (i < length due)) ⊎ ((i < length given) × (i ≡ length due))
+
+-- the answer says the same
+pub record SaysTheSame (a truth : Answer) : Type 0 where
+  pub value : a.value ≡ truth.value
+  pub least : a.least ≡ truth.least
+  pub greatest : a.greatest ≡ truth.greatest
+  pub blocks : a.blocks ≡ truth.blocks
+  pub breaks : a.breaks ≡ []
+
+-- the first line of an answer that is not the due one
+pub record IsWrongLine (form : Form) (a truth : Answer) (line : ℕ) : Type 0 where
+  pub at : ℕ
+  pub is_due : at < length (due_lines form truth)
+  pub line_is : line ≡ at + 1
+  pub wrong : slice_index_or (answer_lines form a) at [] ≢ slice_index_or (due_lines form truth) at []
+  pub before : (i : ℕ) → i < at → slice_index_or (answer_lines form a) i [] ≡ slice_index_or (due_lines form truth) i []
+
+-- what is found of an answer, in the order of the reasons
+abbrev pub IsFound : Form → List Meaning → Answer → Verdict → Type 0
+IsFound form terms a Valid = IsTrueHead terms (length form.names) a × AllAreProved terms (length form.names) a
+IsFound form terms a (Invalid line Long) = ⊥
+IsFound form terms a (Invalid line Grammar) = ⊥
+IsFound form terms a (Invalid line Base) = IsFirstNoBase terms a line
+IsFound form terms a (Invalid line Unproved) = AllAreBases terms a × IsFirstUnproved terms (length form.names) a line
+IsFound form terms a (Invalid line AnswerLine) = AllAreProved terms (length form.names) a × IsFirstWrong form terms a line

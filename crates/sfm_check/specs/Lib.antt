@@ -1,0 +1,4 @@
+pub mod Truth
+pub mod Verdict
+pub mod Findings
+pub mod Due

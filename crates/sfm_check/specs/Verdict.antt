@@ -1,0 +1,78 @@
+-- What is said of a text that is offered as the answer of an instance: that it is right, or its first fault.
+-- The reasons stand in an order: each speaks of texts that none of the ones before applies to.
+use Rattle.std.specs.Prelude.{◌≡◌, ◌≢◌, ◌⊎◌, ℕ, ◌+◌, ◌<◌, ◌≤◌, List, [], ◌∷◌, ◌++◌, length, slice_index_or, pos}
+use Rattle.sfm_spec.specs.Terms.{times, IsBase}
+use Rattle.sfm_spec.specs.Families.{Meaning, AreBases}
+use Rattle.sfm_spec.specs.Walks.{term_at, row_at}
+use Rattle.sfm_cert.specs.Answer.{Answer, Form, head_lines, answer_lines, at_line, line_at, line_base}
+use Rattle.sfm_cert.specs.Grammar.{answer_limit, IsAnswerText, IsBadLine}
+use Rattle.sfm_check.specs.Truth.{sections_of, section_at, IsProvedSection, IsTrueHead}
+use Rattle.sfm_check.specs.declared.verdicts.Wrong.{Wrong}
+use Rattle.sfm_check.specs.declared.verdicts.Wrong.TheVariants.{Long, Grammar, Base, Unproved, Answer as AnswerLine}
+use Rattle.sfm_check.specs.declared.verdicts.Verdict.{Verdict}
+use Rattle.sfm_check.specs.declared.verdicts.Verdict.TheVariants.{Valid, Invalid}
+
+-- row i of section s is a base of its term, times the denominator of the section
+abbrev pub IsBaseAt : List Meaning → Answer → ℕ → ℕ → Type 0
+IsBaseAt terms a s i = IsBase (times (section_at a s).den (term_at terms i).value) (row_at (section_at a s).bases i)
+
+-- the pair of section and term comes before the other
+abbrev pub IsEarlier : ℕ → ℕ → ℕ → ℕ → Type 0
+IsEarlier s i t j = (s < t) ⊎ ((s ≡ t) × (i < j))
+
+-- the line of the first row, section by section and term by term, that is no base of its term
+pub record IsFirstNoBase (terms : List Meaning) (a : Answer) (line : ℕ) : Type 0 where
+  pub section : ℕ
+  pub term : ℕ
+  pub is_section : section < length (sections_of a)
+  pub is_term : term < length terms
+  pub line_is : line ≡ line_base (length a.blocks) (length a.breaks) (length terms) section (term + 1)
+  pub no_base : IsBaseAt terms a section term → ⊥
+  pub before : (s i : ℕ) → s < length (sections_of a) → i < length terms → IsEarlier s i section term → IsBaseAt terms a s i
+
+-- each row of each section is a base of its term
+abbrev pub AllAreBases : List Meaning → Answer → Type 0
+AllAreBases terms a = (s : ℕ) → s < length (sections_of a) → AreBases (section_at a s).den terms (section_at a s).bases
+
+-- the line of the first section whose bases do not prove
+pub record IsFirstUnproved (terms : List Meaning) (n : ℕ) (a : Answer) (line : ℕ) : Type 0 where
+  pub section : ℕ
+  pub is_section : section < length (sections_of a)
+  pub line_is : line ≡ line_at (length a.blocks) (length a.breaks) (length terms) section
+  pub unproved : IsProvedSection terms n (section_at a section) → ⊥
+  pub before : (s : ℕ) → s < section → IsProvedSection terms n (section_at a s)
+
+abbrev pub AllAreProved : List Meaning → ℕ → Answer → Type 0
+AllAreProved terms n a = (s : ℕ) → s < length (sections_of a) → IsProvedSection terms n (section_at a s)
+
+-- the lines that are due: what is true, and the line of the first section
+abbrev pub due_lines : Form → Answer → List (List ℕ)
+due_lines form truth = head_lines form truth ++ at_line (pos 0) (pos 1) ∷ []
+
+-- the first line that is not the due one
+pub record IsFirstWrong (form : Form) (terms : List Meaning) (a : Answer) (line : ℕ) : Type 0 where
+  pub truth : Answer
+  pub at : ℕ
+  pub is_true : IsTrueHead terms (length form.names) truth
+  pub is_due : at < length (due_lines form truth)
+  pub line_is : line ≡ at + 1
+  pub wrong : slice_index_or (answer_lines form a) at [] ≢ slice_index_or (due_lines form truth) at []
+  pub before : (i : ℕ) → i < at → slice_index_or (answer_lines form a) i [] ≡ slice_index_or (due_lines form truth) i []
+
+-- the reason applies to the text, at that line, and none of the reasons before it applies
+abbrev pub IsFaultOf : Form → List Meaning → List ℕ → ℕ → Wrong → Type 0
+IsFaultOf form terms text line Long = (line ≡ 0) × (answer_limit < length text)
+IsFaultOf form terms text line Grammar = (length text ≤ answer_limit) × IsBadLine form text line
+IsFaultOf form terms text line Base = (length text ≤ answer_limit) × ((a : Answer) × IsAnswerText form text a × IsFirstNoBase terms a line)
+IsFaultOf form terms text line Unproved = (length text ≤ answer_limit) × ((a : Answer) × IsAnswerText form text a × AllAreBases terms a × IsFirstUnproved terms (length form.names) a line)
+IsFaultOf form terms text line AnswerLine = (length text ≤ answer_limit)
+    × ((a : Answer) × IsAnswerText form text a × AllAreProved terms (length form.names) a × IsFirstWrong form terms a line)
+
+-- a verdict other than `valid` tells the first fault
+abbrev pub IsTold : Form → List Meaning → List ℕ → Verdict → Type 0
+IsTold form terms text Valid = Unit {0}
+IsTold form terms text (Invalid line reason) = IsFaultOf form terms text line reason
+
+abbrev pub IsValid : Verdict → Type 0
+IsValid Valid = Unit {0}
+IsValid (Invalid line reason) = ⊥

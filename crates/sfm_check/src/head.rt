@@ -1,0 +1,110 @@
+// What an answer says, against what is due: the least value, the extreme minimisers and the blocks, line by line.
+ghost use Rattle.std.specs.Prelude.{◌≡◌, ◌↔◌, ◌<◌, ◌≤◌, ℕ, [], length, map, IsTrue, IfOk, MatchOption};
+ghost use Rattle.sfm_spec.specs.Bounds.{IsEntry};
+ghost use Rattle.sfm_spec.specs.Blocks.{block_at};
+ghost use Rattle.sfm_spec.specs.Families.{meanings};
+ghost use Rattle.sfm_kind.specs.Kinds.{kind_places, kind_value};
+ghost use Rattle.sfm_extreme.specs.Blocks.{block_of};
+ghost use Rattle.sfm_cert.specs.Form.{IsFormed, IsFormedBlock};
+ghost use Rattle.sfm_kind.specs.Names.{AreElementNames};
+ghost use Rattle.sfm_cert.specs.Solved.{answer_of, form_of};
+ghost use Rattle.sfm_cert.specs.Answer.{answer_lines};
+ghost use Rattle.sfm_cert.specs.Grammar.{answer_limit};
+ghost use Rattle.sfm_check.specs.Truth.{IsTrueHead};
+ghost use Rattle.sfm_check.specs.Verdict.{IsFirstWrong};
+ghost use Rattle.sfm_check.specs.Findings.{IsFirstUnlike, AreTold, IsWrongLine, SaysTheSame};
+ghost use Rattle.sfm_check.specs.Due.{due_answer};
+
+use sfm_base::{Memory, Set};
+use sfm_cert::Solved;
+use sfm_extreme::{Block, Proved, blocks};
+use sfm_kind::Instance;
+use std::alloc::Global;
+
+/// Whether two sets have the same places.
+fn are_same(a: &Set, b: &Set) -> bool
+    requires { length a.now ≡ length b.now }
+    ensures { IsTrue result ↔ (a.now ≡ b.now) }
+{
+    a.is_within(b) && b.is_within(a)
+}
+
+/// Whether two blocks have the same places and needs.
+fn is_same_block(a: &Block, b: &Block) -> bool
+    requires { length a.now.members ≡ length b.now.members }
+    ensures { IsTrue result ↔ (block_of a.now ≡ block_of b.now) }
+{
+    are_same(&a.members, &b.members) && a.needs.as_slice() == b.needs.as_slice()
+}
+
+/// Where a list of blocks first differs from the one that is due, or one of the two ends.
+fn first_unlike(given: &[Block], due: &[Block]) -> Option<usize>
+    requires { (i : ℕ) → i < length given.now → i < length due.now → length (block_at (map block_of given.now) i).members ≡ length (block_at (map block_of due.now) i).members }
+    ensures { MatchOption result (map block_of given.now ≡ map block_of due.now) (IsFirstUnlike (map block_of given.now) (map block_of due.now)) }
+{
+    for (i, block) in due.iter().enumerate() {
+        if i == given.len() || !is_same_block(&given[i], block) {
+            return Some(i);
+        }
+    }
+    if given.len() > due.len() {
+        Some(due.len())
+    } else {
+        None
+    }
+}
+
+/// The first line of an answer that is not the due one, counted from 1. No slope line is due.
+fn first_wrong_line(
+    instance: &Instance,
+    solved: &Solved,
+    found: &Proved,
+    due: &[Block],
+) -> Option<usize>
+    requires formed { IsFormed (form_of instance.now) (answer_of solved.now) }
+    requires few { length (answer_lines (form_of instance.now) (answer_of solved.now)) ≤ answer_limit }
+    requires least { length found.now.least ≡ length instance.now.names }
+    requires greatest { length found.now.greatest ≡ length instance.now.names }
+    requires value { IsEntry found.now.value }
+    requires named { AreElementNames instance.now.names }
+    requires blocks { (i : ℕ) → i < length due.now → IsFormedBlock (length instance.now.names) i (block_at (map block_of due.now) i) }
+    ensures { MatchOption result
+        (SaysTheSame (answer_of solved.now) (due_answer found.now due.now))
+        (IsWrongLine (form_of instance.now) (answer_of solved.now) (due_answer found.now due.now)) }
+{
+    if solved.value != found.value {
+        return Some(2);
+    }
+    if !are_same(&solved.least, &found.least) {
+        return Some(3);
+    }
+    if !are_same(&solved.greatest, &found.greatest) {
+        return Some(4);
+    }
+    if let Some(i) = first_unlike(&solved.blocks, due) {
+        return Some(5 + i);
+    }
+    if solved.breaks.is_empty() {
+        return None;
+    }
+    Some(5 + solved.blocks.len())
+}
+
+/// The first line of an answer that is not the due one, from what its sections tell.
+pub fn first_wrong(
+    alloc: Global,
+    instance: &Instance,
+    solved: &Solved,
+    found: &[Proved],
+) -> Result<Option<usize>, Memory>
+    requires formed { IsFormed (form_of instance.now) (answer_of solved.now) }
+    requires few { length (answer_lines (form_of instance.now) (answer_of solved.now)) ≤ answer_limit }
+    requires told { AreTold (meanings kind_places kind_value instance.now.terms) (length instance.now.names) (answer_of solved.now) found.now }
+    ensures { IfOk result (λ r. MatchOption r
+        (IsTrueHead (meanings kind_places kind_value instance.now.terms) (length instance.now.names) (answer_of solved.now))
+        (IsFirstWrong (form_of instance.now) (meanings kind_places kind_value instance.now.terms) (answer_of solved.now))) }
+{
+    let n = instance.names_len();
+    let due = blocks(alloc, instance.terms(), n, &solved.bases)?;
+    Ok(first_wrong_line(instance, solved, &found[0], &due))
+}

@@ -1,0 +1,83 @@
+// The judge. A text that is read as an answer has its rows tested as bases of their terms, then each section's bases as
+// a proof, and then what it says against what the proved bases tell. Nothing here finds bases of its own.
+ghost use Rattle.std.specs.Prelude.{◌↔◌, ◌≤◌, length, IfOk};
+ghost use Rattle.sfm_spec.specs.Families.{meanings};
+ghost use Rattle.sfm_kind.specs.Kinds.{kind_places, kind_value};
+ghost use Rattle.sfm_kind.specs.Names.{AreElementNames};
+ghost use Rattle.sfm_cert.specs.Answer.{answer_lines};
+ghost use Rattle.sfm_cert.specs.Form.{IsFormed};
+ghost use Rattle.sfm_cert.specs.Grammar.{answer_limit};
+ghost use Rattle.sfm_cert.specs.Solved.{answer_of, form_of};
+ghost use Rattle.sfm_check.specs.Truth.{IsRightFile};
+ghost use Rattle.sfm_check.specs.Verdict.{IsTold, IsValid};
+ghost use Rattle.sfm_check.specs.Findings.{IsFound};
+
+use crate::bases::first_no_base;
+use crate::head::first_wrong;
+use crate::sections::{Sections, prove_sections};
+use crate::verdicts::{Verdict, Wrong};
+use sfm_base::Memory;
+use sfm_cert::{ANSWER_LIMIT, AnswerEnd, Solved, read_answer};
+use sfm_kind::Instance;
+use std::alloc::Global;
+
+/// The names of an instance differ and have a name's form, so that the texts of different answers differ.
+fn tell_names_apart(instance: &Instance)
+    ensures { AreElementNames instance.now.names }
+{
+    let _count = instance.names_len();
+}
+
+/// What is to be said of what a text says.
+fn judge_solved(alloc: Global, instance: &Instance, solved: &Solved) -> Result<Verdict, Memory>
+    requires formed { IsFormed (form_of instance.now) (answer_of solved.now) }
+    requires few { length (answer_lines (form_of instance.now) (answer_of solved.now)) ≤ answer_limit }
+    ensures { IfOk result (IsFound (form_of instance.now) (meanings kind_places kind_value instance.now.terms) (answer_of solved.now)) }
+{
+    if let Some(line) = first_no_base(alloc, instance, solved)? {
+        return Ok(Verdict::Invalid {
+            line,
+            reason: Wrong::Base,
+        });
+    }
+    match prove_sections(alloc, instance, solved)? {
+        Sections::Unproved { line } => Ok(Verdict::Invalid {
+            line,
+            reason: Wrong::Unproved,
+        }),
+        Sections::Proved(proved) => match first_wrong(alloc, instance, solved, &proved)? {
+            Some(line) => Ok(Verdict::Invalid {
+                line,
+                reason: Wrong::Answer,
+            }),
+            None => Ok(Verdict::Valid),
+        },
+    }
+}
+
+/// What is to be said of a text that is offered as the answer of an instance, whoever wrote it: that it is right, or
+/// the first reason against it with its first line.
+///
+/// # Errors
+///
+/// `Memory` where there is none.
+pub fn judge(alloc: Global, instance: &Instance, text: &[u8]) -> Result<Verdict, Memory>
+    ensures valid { IfOk result (λ v. IsValid v ↔ (IsRightFile (form_of instance.now) (meanings kind_places kind_value instance.now.terms) text.now × (length text.now ≤ answer_limit))) }
+    ensures told { IfOk result (IsTold (form_of instance.now) (meanings kind_places kind_value instance.now.terms) text.now) }
+{
+    tell_names_apart(instance);
+    if text.len() > ANSWER_LIMIT {
+        return Ok(Verdict::Invalid {
+            line: 0,
+            reason: Wrong::Long,
+        });
+    }
+    match read_answer(alloc, instance, text) {
+        Ok(solved) => judge_solved(alloc, instance, &solved),
+        Err(AnswerEnd::BadLine { line }) => Ok(Verdict::Invalid {
+            line,
+            reason: Wrong::Grammar,
+        }),
+        Err(AnswerEnd::Memory) => Err(Memory),
+    }
+}

@@ -1,0 +1,11 @@
+// The verdict on a text that is offered as the answer of an instance, whoever wrote it.
+#![tactic(auto)]
+
+mod bases;
+mod head;
+mod judging;
+mod sections;
+mod verdicts;
+
+pub use judging::judge;
+pub use verdicts::{Verdict, Wrong};
