@@ -1,5 +1,4 @@
-pub mod AnswerLines
-pub mod GoodText
 pub mod ReadLemmas
-pub mod WeightAnswer
 pub mod Words
+pub mod Checks
+pub mod Solves

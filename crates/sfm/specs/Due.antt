@@ -1,34 +1,81 @@
--- What is due for a command: the text that is to be written, and the status that goes with it.
-use Rattle.std.specs.Prelude.{◌≡◌, ◌⊎◌, ℕ, List, [], ◌∷◌, ◌++◌, length, codes, decimal, ℤ}
-use Rattle.std.specs.List.{range_with_len}
-use Rattle.sfm_spec.specs.Kinds.{weight_value}
-use Rattle.sfm_spec.specs.Families.{Meaning}
+-- What is due for the texts that a command names: the text that is to be written, and the code that goes with it.
+use Rattle.std.specs.Prelude.{◌≡◌, ◌↔◌, ◌⊎◌, ℕ, ◌≤◌, List, ◌++◌, length, codes, decimal}
+use Rattle.sfm_spec.specs.Families.{Meaning, meanings}
+use Rattle.sfm_kind.specs.declared.kind.Kind.{Kind}
+use Rattle.sfm_kind.specs.Kinds.{kind_places, kind_value}
 use Rattle.sfm_text.specs.declared.reason.Reason.{Reason}
-use Rattle.sfm_text.specs.Fault.{IsGood, IsFirstFault, reason_word}
-use Rattle.sfm.specs.Answer.{IsRightFile}
-
--- the terms of such a text: one, with a weight for each element
-abbrev pub terms_of : List ℤ → List Meaning
-terms_of weights = record { places = range_with_len 0 (length weights); value = weight_value weights } ∷ []
+use Rattle.sfm_text.specs.Reasons.{reason_word}
+use Rattle.sfm_text.specs.GoodText.{IsTextOf, IsFaultOf}
+use Rattle.sfm_cert.specs.Answer.{Form}
+use Rattle.sfm_cert.specs.Grammar.{answer_limit}
+use Rattle.sfm_cert.specs.Solved.{form_of}
+use Rattle.sfm_check.specs.Truth.{IsRightFile}
+use Rattle.sfm_check.specs.declared.verdicts.Verdict.{Verdict}
+use Rattle.sfm_check.specs.declared.verdicts.Verdict.TheVariants.{Valid, Invalid}
+use Rattle.sfm_check.specs.declared.verdicts.Wrong.{Wrong}
+use Rattle.sfm_check.specs.declared.verdicts.Wrong.TheVariants.{Long, Grammar, Base, Unproved, Answer}
+use Rattle.sfm_check.specs.Verdict.{IsTold, IsValid}
 
 -- the line that names a fault
 abbrev pub refusal : ℕ → Reason → List ℕ
 refusal line reason = codes "refused " ++ decimal line ++ codes " " ++ reason_word reason ++ codes "\n"
 
+abbrev pub wrong_word : Wrong → List ℕ
+wrong_word Long = codes "long"
+wrong_word Grammar = codes "grammar"
+wrong_word Base = codes "base"
+wrong_word Unproved = codes "unproved"
+wrong_word Answer = codes "answer"
+
+-- the line of a verdict
+abbrev pub verdict_line : Verdict → List ℕ
+verdict_line Valid = codes "valid\n"
+verdict_line (Invalid line reason) = codes "invalid " ++ decimal line ++ codes " " ++ wrong_word reason ++ codes "\n"
+
+abbrev pub verdict_code : Verdict → ℕ
+verdict_code Valid = 0
+verdict_code (Invalid line reason) = 1
+
+-- what an instance of these names and terms asks of an answer
+abbrev pub form_for : List (List ℕ) → List Kind → Form
+form_for names terms = form_of (record { names = names; terms = terms })
+
+abbrev pub meanings_of : List Kind → List Meaning
+meanings_of terms = meanings kind_places kind_value terms
+
+-- the text has no fault
+abbrev pub IsGood : List ℕ → Type 0
+IsGood text = (names : List (List ℕ)) × (terms : List Kind) × IsTextOf text names terms
+
 -- the file is a right one for the text, which is good
 pub record IsSolved (text file : List ℕ) : Type 0 where
   pub names : List (List ℕ)
-  pub weights : List ℤ
-  pub good : IsGood text names weights
-  pub right : IsRightFile names (terms_of weights) file
+  pub terms : List Kind
+  pub good : IsTextOf text names terms
+  pub right : IsRightFile (form_for names terms) (meanings_of terms) file
 
 -- the written text names the first fault of the text
 pub record IsRefused (text written : List ℕ) : Type 0 where
   pub line : ℕ
   pub reason : Reason
-  pub fault : IsFirstFault text line reason
+  pub fault : IsFaultOf text line reason
   pub named : written ≡ refusal line reason
 
--- what `solve` is due to write for a text, and the code that goes with it
-abbrev pub IsDue : List ℕ → List ℕ → ℕ → Type 0
-IsDue text written code = (IsSolved text written × (code ≡ 0)) ⊎ (IsRefused text written × (code ≡ 2))
+-- the verdict on an answer: `valid` exactly where it is a right file, and else its first fault
+pub record IsVerdict (form : Form) (terms : List Meaning) (answer : List ℕ) (verdict : Verdict) : Type 0 where
+  pub valid : IsValid verdict ↔ (IsRightFile form terms answer × (length answer ≤ answer_limit))
+  pub told : IsTold form terms answer verdict
+
+-- the written text is the verdict on the answer for the text, which is good
+pub record IsJudged (text answer written : List ℕ) (code : ℕ) : Type 0 where
+  pub names : List (List ℕ)
+  pub terms : List Kind
+  pub verdict : Verdict
+  pub good : IsTextOf text names terms
+  pub judged : IsVerdict (form_for names terms) (meanings_of terms) answer verdict
+  pub named : written ≡ verdict_line verdict
+  pub coded : code ≡ verdict_code verdict
+
+-- what is due to be written for an instance text that is to be solved, and the code
+abbrev pub IsDueToSolve : List ℕ → List ℕ → ℕ → Type 0
+IsDueToSolve text written code = (IsSolved text written × (code ≡ 0)) ⊎ (IsRefused text written × (code ≡ 2))

@@ -1,84 +1,102 @@
 -- What one call of the program does: which answer it gives, why, and what it leaves of its shelf and its two sinks.
-use Rattle.std.specs.Prelude.{◌≡◌, ◌≢◌, ◌⊎◌, ℕ, ◌+◌, ◌<◌, List, [], ◌∷◌, length, take, drop, slice_index, codes, true, Some, IsSome}
+use Rattle.std.specs.Prelude.{◌≡◌, ◌⊎◌, ℕ, ◌+◌, ◌<◌, List, length, take, drop, codes, true, Some, IsSome}
 use Rattle.std.specs.Io.KnownBytes.{append_known}
 use Rattle.sfm_io.specs.Faults.{Rose}
 use Rattle.sfm_io.specs.Shelf.{ShelfState, Texts, text_of}
 use Rattle.sfm_io.specs.Sink.{SinkState}
+use Rattle.sfm_text.specs.GoodText.{text_limit}
+use Rattle.sfm_cert.specs.Grammar.{answer_limit}
 use Rattle.sfm.specs.declared.status.Status.{Status}
 use Rattle.sfm.specs.declared.status.Status.TheVariants.{Done, Invalid, Refused, ReadFault, WriteFault, Memory, Usage}
-use Rattle.sfm_text.specs.FirstForm.{text_limit}
-use Rattle.sfm.specs.Due.{IsDue}
-
--- a name of a file: not empty, and no option
-pub record IsFileName (name : List ℕ) : Type 0 where
-  pub some : 0 < length name
-  pub plain : slice_index name 0 ≢ 45
-
--- the words `solve NAME`
-pub record AsksSolve (words : List (List ℕ)) (name : List ℕ) : Type 0 where
-  pub words_are : words ≡ codes "solve" ∷ name ∷ []
-  pub file : IsFileName name
+use Rattle.sfm.specs.Command.{Command, Asks, solve, check}
+use Rattle.sfm.specs.Due.{IsDueToSolve, IsGood, IsJudged, IsRefused}
 
 -- the shelf is sound and holds the name
 abbrev pub IsSurelyHeld : ShelfState → List ℕ → Type 0
 IsSurelyHeld shelf name = (shelf.sound ≡ true) × ((texts : Texts) → shelf.texts ≡ Some texts → IsSome (text_of texts name))
 
 -- the text of that name, where the shelf tells its texts
-abbrev pub IsTextOf : ShelfState → List ℕ → List ℕ → Type 0
-IsTextOf shelf name text = (texts : Texts) → shelf.texts ≡ Some texts → text_of texts name ≡ Some text
+abbrev pub IsNamed : ShelfState → List ℕ → List ℕ → Type 0
+IsNamed shelf name text = (texts : Texts) → shelf.texts ≡ Some texts → text_of texts name ≡ Some text
 
 -- all of a text was read, or one byte past the limit where it is longer
-abbrev pub WasRead : ShelfState → ShelfState → List ℕ → Type 0
-WasRead before after text = (texts : Texts) → before.texts ≡ Some texts → after.rest ≡ Some (drop (text_limit + 1) text)
+abbrev pub WasRead : ShelfState → ShelfState → ℕ → List ℕ → Type 0
+WasRead before after limit text = (texts : Texts) → before.texts ≡ Some texts → after.rest ≡ Some (drop (limit + 1) text)
 
--- what was due for the text of the named file was written whole, and the text was read
-pub record WritesDue (name : List ℕ) (shelf shelf' : ShelfState) (out out' : SinkState) (code : ℕ) : Type 0 where
+-- the shelf surely holds each name that the command needs: the first, and the second where the text of the first has no fault
+abbrev pub HoldsNeeded : ShelfState → Command → Type 0
+HoldsNeeded shelf (solve file) = IsSurelyHeld shelf file
+HoldsNeeded shelf (check file answer) = IsSurelyHeld shelf file × ((text : List ℕ) → IsNamed shelf file text → IsGood text → IsSurelyHeld shelf answer)
+
+-- what is due for an instance that is to be solved, which was read
+pub record IsSolveDue (file : List ℕ) (shelf shelf' : ShelfState) (written : List ℕ) (code : ℕ) : Type 0 where
   pub text : List ℕ
-  pub written : List ℕ
-  pub told : IsTextOf shelf name text
-  pub read : WasRead shelf shelf' text
-  pub due : IsDue text written code
-  pub gained : out'.written ≡ append_known out.written written
+  pub named : IsNamed shelf file text
+  pub read : WasRead shelf shelf' text_limit text
+  pub due : IsDueToSolve text written code
 
--- the named file could not be read: a fault of the shelf, which is not a sound one that holds the name
-pub record FailsToRead (name : List ℕ) (shelf shelf' : ShelfState) : Type 0 where
+-- what is due for an instance with a fault, of which the answer is not opened
+pub record IsRefusalDue (file : List ℕ) (shelf shelf' : ShelfState) (written : List ℕ) (code : ℕ) : Type 0 where
+  pub text : List ℕ
+  pub named : IsNamed shelf file text
+  pub read : WasRead shelf shelf' text_limit text
+  pub refused : IsRefused text written
+  pub coded : code ≡ 2
+
+-- what is due for a good instance and an answer, which were read one after the other
+pub record IsVerdictDue (file answer : List ℕ) (shelf shelf' : ShelfState) (written : List ℕ) (code : ℕ) : Type 0 where
+  pub text : List ℕ
+  pub answer_text : List ℕ
+  pub named : IsNamed shelf file text
+  pub answer_named : IsNamed shelf answer answer_text
+  pub read : WasRead shelf shelf' answer_limit answer_text
+  pub judged : IsJudged text answer_text written code
+
+-- this text is due for the command, with this code
+abbrev pub IsDue : Command → (shelf shelf' : ShelfState) → List ℕ → ℕ → Type 0
+IsDue (solve file) shelf shelf' written code = IsSolveDue file shelf shelf' written code
+IsDue (check file answer) shelf shelf' written code = IsRefusalDue file shelf shelf' written code ⊎ IsVerdictDue file answer shelf shelf' written code
+
+-- what was due was written whole
+abbrev pub WritesDue : Command → (shelf shelf' : ShelfState) → (out out' : SinkState) → ℕ → Type 0
+WritesDue command shelf shelf' out out' code = (written : List ℕ) × IsDue command shelf shelf' written code × (out'.written ≡ append_known out.written written)
+
+-- a file could not be read: a fault of the shelf, which is not a sound one that holds what is needed
+pub record FailsToRead (command : Command) (shelf shelf' : ShelfState) : Type 0 where
   pub rose : Rose shelf.faults shelf'.faults
-  pub unsure : IsSurelyHeld shelf name → ⊥
+  pub unsure : HoldsNeeded shelf command → ⊥
 
 -- of what was due only a front was written: a fault of the sink
-pub record FailsToWrite (name : List ℕ) (shelf shelf' : ShelfState) (out out' : SinkState) : Type 0 where
-  pub text : List ℕ
+pub record FailsToWrite (command : Command) (shelf shelf' : ShelfState) (out out' : SinkState) : Type 0 where
   pub written : List ℕ
   pub code : ℕ
   pub count : ℕ
-  pub told : IsTextOf shelf name text
-  pub read : WasRead shelf shelf' text
-  pub due : IsDue text written code
+  pub due : IsDue command shelf shelf' written code
   pub front : count < length written
   pub gained : out'.written ≡ append_known out.written (take count written)
   pub rose : Rose out.faults out'.faults
 
--- how `solve NAME` ends: each status with its cause and with what it leaves
-abbrev pub EndsFor : List ℕ → (shelf shelf' : ShelfState) → (out out' : SinkState) → Status → Type 0
-EndsFor name shelf shelf' out out' Done = WritesDue name shelf shelf' out out' 0
-EndsFor name shelf shelf' out out' Refused = WritesDue name shelf shelf' out out' 2
-EndsFor name shelf shelf' out out' Invalid = ⊥
-EndsFor name shelf shelf' out out' ReadFault = FailsToRead name shelf shelf' × (out' ≡ out)
-EndsFor name shelf shelf' out out' WriteFault = FailsToWrite name shelf shelf' out out'
-EndsFor name shelf shelf' out out' Memory = out' ≡ out
-EndsFor name shelf shelf' out out' Usage = ⊥
+-- how a command ends: each status with its cause and with what it leaves
+abbrev pub EndsFor : Command → (shelf shelf' : ShelfState) → (out out' : SinkState) → Status → Type 0
+EndsFor command shelf shelf' out out' Done = WritesDue command shelf shelf' out out' 0
+EndsFor command shelf shelf' out out' Invalid = WritesDue command shelf shelf' out out' 1
+EndsFor command shelf shelf' out out' Refused = WritesDue command shelf shelf' out out' 2
+EndsFor command shelf shelf' out out' ReadFault = FailsToRead command shelf shelf' × (out' ≡ out)
+EndsFor command shelf shelf' out out' WriteFault = FailsToWrite command shelf shelf' out out'
+EndsFor command shelf shelf' out out' Memory = out' ≡ out
+EndsFor command shelf shelf' out out' Usage = ⊥
 
 -- the words are no command, and nothing was touched
 pub record IsUsage (words : List (List ℕ)) (shelf shelf' : ShelfState) (out out' : SinkState) (status : Status) : Type 0 where
   pub answered : status ≡ Usage
-  pub no_command : (name : List ℕ) → AsksSolve words name → ⊥
+  pub no_command : (command : Command) → Asks words command → ⊥
   pub shelf_stays : shelf' ≡ shelf
   pub out_stays : out' ≡ out
 
 -- how a call with these words ends
 abbrev pub Ends : List (List ℕ) → (shelf shelf' : ShelfState) → (out out' : SinkState) → Status → Type 0
 Ends words shelf shelf' out out' status =
-    IsUsage words shelf shelf' out out' status ⊎ ((name : List ℕ) × AsksSolve words name × EndsFor name shelf shelf' out out' status)
+    IsUsage words shelf shelf' out out' status ⊎ ((command : Command) × Asks words command × EndsFor command shelf shelf' out out' status)
 
 -- a line was written, or a front of it with a fault of the sink
 pub record Says (line : List ℕ) (err err' : SinkState) : Type 0 where
@@ -94,11 +112,11 @@ Complains err err' Invalid = err' ≡ err
 Complains err err' ReadFault = Says (codes "sfm: read failed\n") err err'
 Complains err err' WriteFault = Says (codes "sfm: write failed\n") err err'
 Complains err err' Memory = Says (codes "sfm: out of memory\n") err err'
-Complains err err' Usage = Says (codes "usage: sfm solve FILE\n") err err'
+Complains err err' Usage = Says (codes "usage: sfm solve FILE | check FILE ANSWER\n") err err'
 
--- where the words name a file that is surely there, or no fault of the shelf comes, and no fault of the sink comes, what is due is
--- written, or memory was wanting
+-- where the words are a command whose names are surely there, or no fault of the shelf comes, and no fault of the sink comes, what is
+-- due is written, or memory was wanting
 abbrev pub IsComplete : List (List ℕ) → (shelf shelf' : ShelfState) → (out out' : SinkState) → Status → Type 0
-IsComplete words shelf shelf' out out' status = (name : List ℕ) → AsksSolve words name
-    → IsSurelyHeld shelf name ⊎ (Rose shelf.faults shelf'.faults → ⊥) → (Rose out.faults out'.faults → ⊥)
-    → (status ≡ Done) ⊎ (status ≡ Refused) ⊎ (status ≡ Memory)
+IsComplete words shelf shelf' out out' status = (command : Command) → Asks words command
+    → HoldsNeeded shelf command ⊎ (Rose shelf.faults shelf'.faults → ⊥) → (Rose out.faults out'.faults → ⊥)
+    → (status ≡ Done) ⊎ (status ≡ Invalid) ⊎ (status ≡ Refused) ⊎ (status ≡ Memory)

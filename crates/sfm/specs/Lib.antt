@@ -1,7 +1,7 @@
-pub mod Answer
-pub mod Solved
-pub mod Sums
-pub mod Due
 pub mod Status
-pub mod Reading
+pub mod Command
+pub mod Due
 pub mod Headline
+pub mod Reading
+pub mod Solving
+pub mod Opening

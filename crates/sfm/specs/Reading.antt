@@ -3,31 +3,69 @@ use Rattle.std.specs.Prelude.{◌≡◌, ◌⊎◌, ℕ, ◌<◌, ◌≤◌, Lis
 use Rattle.std.specs.Global.{Global}
 use Rattle.sfm_io.specs.Shelf.{ShelfState}
 use Rattle.sfm_io.specs.Transfer.{IsRest, IsLong, IsFault}
+use Rattle.sfm_io.specs.Faults.{Rose}
+use Rattle.sfm_kind.specs.Instance.{InstanceData}
+use Rattle.sfm_text.specs.declared.end.TextEnd.{TextEnd}
+use Rattle.sfm_text.specs.GoodText.{text_limit, IsTextOf, IsRefusalOf}
+use Rattle.sfm_cert.specs.Solved.{form_of}
+use Rattle.sfm_check.specs.declared.verdicts.Verdict.{Verdict}
 use Rattle.sfm.specs.declared.status.Status.{Status}
-use Rattle.sfm.specs.declared.status.Status.TheVariants.{Done, Refused, ReadFault, Memory}
+use Rattle.sfm.specs.declared.status.Status.TheVariants.{Done, Invalid, Refused, ReadFault, Memory}
 use Rattle.sfm.specs.declared.due.Due.{Due}
-use Rattle.sfm_text.specs.FirstForm.{text_limit}
-use Rattle.sfm.specs.Due.{IsDue}
 use Rattle.sfm.specs.Status.{code_of}
-use Rattle.sfm.specs.Headline.{IsTextOf, WasRead, FailsToRead}
+use Rattle.sfm.specs.Command.{Command}
+use Rattle.sfm_cert.specs.Grammar.{answer_limit}
+use Rattle.sfm.specs.Due.{IsDueToSolve, IsRefused, IsVerdict, meanings_of, verdict_code, verdict_line}
+use Rattle.sfm.specs.Headline.{IsDue, IsNamed, IsSurelyHeld, WasRead, FailsToRead}
 
--- the bytes that were read are the text; where none are given it is too long
-abbrev pub IsReadAs : Option (Vec ℕ Global) → List ℕ → Type 0
-IsReadAs (Some bytes) text = bytes.items ≡ text
-IsReadAs None text = text_limit < length text
+-- the bytes that were read are the text; where none are given it is longer than the limit
+abbrev pub IsReadAs : ℕ → Option (Vec ℕ Global) → List ℕ → Type 0
+IsReadAs limit (Some bytes) text = (bytes.items ≡ text) × (length text ≤ limit)
+IsReadAs limit None text = limit < length text
 
 -- the rest of the open text was read, or one byte past the limit, or it could not be
-abbrev pub ReadsOpen : (shelf shelf' : ShelfState) → Result (Option (Vec ℕ Global)) Status → Type 0
-ReadsOpen shelf shelf' (Ok (Some bytes)) = (length bytes.items ≤ text_limit) × IsRest shelf bytes.items shelf'
-ReadsOpen shelf shelf' (Ok None) = IsLong shelf text_limit shelf'
-ReadsOpen shelf shelf' (Err status) = ((status ≡ ReadFault) × IsFault shelf shelf') ⊎ (status ≡ Memory)
+abbrev pub ReadsOpen : ℕ → (shelf shelf' : ShelfState) → Result (Option (Vec ℕ Global)) Status → Type 0
+ReadsOpen limit shelf shelf' (Ok (Some bytes)) = (length bytes.items ≤ limit) × IsRest shelf bytes.items shelf'
+ReadsOpen limit shelf shelf' (Ok None) = IsLong shelf limit shelf'
+ReadsOpen limit shelf shelf' (Err status) = ((status ≡ ReadFault) × IsFault shelf shelf') ⊎ (status ≡ Memory)
+
+-- a named file could not be read
+pub record MissesText (name : List ℕ) (shelf shelf' : ShelfState) : Type 0 where
+  pub rose : Rose shelf.faults shelf'.faults
+  pub unsure : IsSurelyHeld shelf name → ⊥
 
 -- a text was read, or it could not be
-abbrev pub ReadsText : List ℕ → (shelf shelf' : ShelfState) → Result (Option (Vec ℕ Global)) Status → Type 0
-ReadsText name shelf shelf' (Ok bytes) = (text : List ℕ) × IsReadAs bytes text × IsTextOf shelf name text × WasRead shelf shelf' text
-ReadsText name shelf shelf' (Err status) = ((status ≡ ReadFault) × FailsToRead name shelf shelf') ⊎ (status ≡ Memory)
+abbrev pub ReadsText : ℕ → List ℕ → (shelf shelf' : ShelfState) → Result (Option (Vec ℕ Global)) Status → Type 0
+ReadsText limit name shelf shelf' (Ok bytes) = (text : List ℕ) × IsReadAs limit bytes text × IsNamed shelf name text × WasRead shelf shelf' limit text
+ReadsText limit name shelf shelf' (Err status) = ((status ≡ ReadFault) × MissesText name shelf shelf') ⊎ (status ≡ Memory)
 
--- what is due for each text that was so read
-pub record IsDueText (bytes : Option (Vec ℕ Global)) (due : Due) : Type 0 where
-  pub due_for : (text : List ℕ) → IsReadAs bytes text → IsDue text due.text.items (code_of due.status)
+-- the instance of each text that was so read
+abbrev pub IsInstanceOf : Option (Vec ℕ Global) → InstanceData → Type 0
+IsInstanceOf bytes instance = (text : List ℕ) → IsReadAs text_limit bytes text → IsTextOf text instance.names instance.terms
+
+-- the first fault of each text that was so read
+abbrev pub IsEndOf : Option (Vec ℕ Global) → TextEnd → Type 0
+IsEndOf bytes end = (text : List ℕ) → IsReadAs text_limit bytes text → IsRefusalOf text end
+
+-- it is due as the refusal of each text that was so read
+pub record IsRefusalOfAll (bytes : Option (Vec ℕ Global)) (due : Due) : Type 0 where
+  pub refused : (text : List ℕ) → IsReadAs text_limit bytes text → IsRefused text due.text.items
+  pub answered : due.status ≡ Refused
+
+-- what is due to solve each text that was so read
+pub record IsSolveDueOf (bytes : Option (Vec ℕ Global)) (due : Due) : Type 0 where
+  pub due_for : (text : List ℕ) → IsReadAs text_limit bytes text → IsDueToSolve text due.text.items (code_of due.status)
   pub answered : (due.status ≡ Done) ⊎ (due.status ≡ Refused)
+
+-- what is due for a command, or why nothing is
+abbrev pub Prepares : Command → (shelf shelf' : ShelfState) → Result Due Status → Type 0
+Prepares command shelf shelf' (Ok due) = IsDue command shelf shelf' due.text.items (code_of due.status) × ((due.status ≡ Done) ⊎ (due.status ≡ Invalid) ⊎ (due.status ≡ Refused))
+Prepares command shelf shelf' (Err status) = ((status ≡ ReadFault) × FailsToRead command shelf shelf') ⊎ (status ≡ Memory)
+
+-- the verdict is due on each answer that was so read
+pub record IsCheckDueOf (instance : InstanceData) (bytes : Option (Vec ℕ Global)) (due : Due) : Type 0 where
+  pub verdict : Verdict
+  pub judged : (answer : List ℕ) → IsReadAs answer_limit bytes answer → IsVerdict (form_of instance) (meanings_of instance.terms) answer verdict
+  pub named : due.text.items ≡ verdict_line verdict
+  pub coded : code_of due.status ≡ verdict_code verdict
+  pub answered : (due.status ≡ Done) ⊎ (due.status ≡ Invalid)

@@ -1,12 +1,18 @@
-// What is due for a text: the file that answers it, or the line that names its first fault.
-ghost use Rattle.std.specs.Prelude.{◌≡◌, ◌+◌, ◌++◌, ℕ, List, codes, decimal, IfOk};
-ghost use Rattle.sfm.specs.Due.{refusal};
-ghost use Rattle.sfm.specs.Reading.{IsReadAs, IsDueText};
+// What is due for texts that were read: a file, a refusal or a verdict, made whole before any of it is written.
+ghost use Rattle.std.specs.Prelude.{◌≡◌, ◌⊎◌, ◌+◌, ◌++◌, ℕ, List, codes, decimal, IfOk, IfErr};
+ghost use Rattle.sfm_cert.specs.Solved.{form_of};
+ghost use Rattle.sfm.specs.Due.{refusal, verdict_line, verdict_code, wrong_word, meanings_of, IsVerdict, IsRefused};
+ghost use Rattle.sfm.specs.Status.{code_of};
+ghost use Rattle.sfm.specs.Reading.{IsReadAs, IsInstanceOf, IsEndOf, IsRefusalOfAll, IsSolveDueOf, IsCheckDueOf};
+ghost use Rattle.sfm_cert.specs.Grammar.{answer_limit};
 
 use crate::solve::solve_text;
 use crate::status::Status;
 use itoa::Buffer;
-use sfm_text::{Reason, TextEnd};
+use sfm_base::Memory;
+use sfm_check::{Verdict, Wrong, judge};
+use sfm_kind::Instance;
+use sfm_text::{Reason, TextEnd, read_instance};
 use std::alloc::{AllocError, Global};
 
 /// A text that is to be written, and the status that goes with it.
@@ -29,6 +35,50 @@ fn write_refusal(alloc: Global, line: usize, reason: Reason) -> Result<Vec<u8>, 
     Ok(out)
 }
 
+/// The word that names a reason against an answer.
+fn word_of(reason: Wrong) -> &'static [u8]
+    ensures { result.now ≡ wrong_word reason }
+{
+    match reason {
+        Wrong::Long => b"long",
+        Wrong::Grammar => b"grammar",
+        Wrong::Base => b"base",
+        Wrong::Unproved => b"unproved",
+        Wrong::Answer => b"answer",
+    }
+}
+
+/// The line `invalid LINE REASON`.
+fn write_invalid(alloc: Global, line: usize, reason: Wrong) -> Result<Vec<u8>, AllocError>
+    ensures { IfOk result (λ v. v.items ≡ verdict_line (Verdict.Invalid line reason)) }
+{
+    let mut buffer = Buffer::new();
+    let mut out = Vec::from_slice(alloc, b"invalid ")?;
+    out.extend_from_slice(buffer.format(line).as_bytes())?;
+    out.extend_from_slice(b" ")?;
+    out.extend_from_slice(word_of(reason))?;
+    out.extend_from_slice(b"\n")?;
+    Ok(out)
+}
+
+/// The line of a verdict, and its status.
+fn due_for_verdict(alloc: Global, verdict: Verdict) -> Result<Due, AllocError>
+    ensures line { IfOk result (λ due. due.text.items ≡ verdict_line verdict) }
+    ensures code { IfOk result (λ due. code_of due.status ≡ verdict_code verdict) }
+    ensures answered { IfOk result (λ due. (due.status ≡ Status.Done) ⊎ (due.status ≡ Status.Invalid)) }
+{
+    match verdict {
+        Verdict::Valid => Ok(Due {
+            text: Vec::from_slice(alloc, b"valid\n")?,
+            status: Status::Done,
+        }),
+        Verdict::Invalid { line, reason } => Ok(Due {
+            text: write_invalid(alloc, line, reason)?,
+            status: Status::Invalid,
+        }),
+    }
+}
+
 /// The refusal of a text with this fault.
 fn refuse(alloc: Global, line: usize, reason: Reason) -> Result<Due, AllocError>
     ensures { IfOk result (λ due. (due.text.items ≡ refusal line reason) × (due.status ≡ Status.Refused)) }
@@ -40,19 +90,78 @@ fn refuse(alloc: Global, line: usize, reason: Reason) -> Result<Due, AllocError>
     })
 }
 
-/// What is due for a text that was read, or, for None, for one that is too long.
-pub fn due_for(alloc: Global, text: Option<Vec<u8>>) -> Result<Due, AllocError>
-    ensures { IfOk result (IsDueText text) }
+/// The refusal that ends the reading of a text, where it is no want of memory.
+pub fn due_for_end(alloc: Global, bytes: &Option<Vec<u8>>, end: TextEnd) -> Result<Due, Memory>
+    requires { IsEndOf bytes.now end }
+    ensures { IfOk result (IsRefusalOfAll bytes.now) }
 {
-    let Some(text) = text else {
-        return Ok(refuse(alloc, 0, Reason::Long)?);
+    let _bytes = bytes;
+    match end {
+        TextEnd::Refused { line, reason } => Ok(refuse(alloc, line, reason)?),
+        TextEnd::Memory => Err(Memory),
+    }
+}
+
+/// The instance of a text that was read, or, for None, of one that is too long: then the end of its reading.
+pub fn instance_of(alloc: Global, bytes: &Option<Vec<u8>>) -> Result<Instance, TextEnd>
+    ensures read { IfOk result (IsInstanceOf bytes.now) }
+    ensures refused { IfErr result (IsEndOf bytes.now) }
+{
+    match bytes {
+        Some(bytes) => read_instance(alloc, bytes.as_slice()),
+        None => Err(TextEnd::Refused {
+            line: 0,
+            reason: Reason::Long,
+        }),
+    }
+}
+
+/// What is due to solve a text that was read, or, for None, one that is too long.
+pub fn due_to_solve(alloc: Global, bytes: &Option<Vec<u8>>) -> Result<Due, Memory>
+    ensures { IfOk result (IsSolveDueOf bytes.now) }
+{
+    let solved = match bytes {
+        Some(bytes) => solve_text(alloc, bytes.as_slice()),
+        None => Err(TextEnd::Refused {
+            line: 0,
+            reason: Reason::Long,
+        }),
     };
-    match solve_text(alloc, text.as_slice()) {
+    match solved {
         Ok(text) => Ok(Due {
             text,
             status: Status::Done,
         }),
         Err(TextEnd::Refused { line, reason }) => Ok(refuse(alloc, line, reason)?),
-        Err(TextEnd::Memory) => Err(AllocError),
+        Err(TextEnd::Memory) => Err(Memory),
     }
+}
+
+/// The verdict on an answer that was read, or, for None, on one that is too long.
+fn verdict_on(
+    alloc: Global,
+    instance: &Instance,
+    bytes: &Option<Vec<u8>>,
+) -> Result<Verdict, Memory>
+    ensures { IfOk result (λ v. (answer : List ℕ) → IsReadAs answer_limit bytes.now answer → IsVerdict (form_of instance.now) (meanings_of instance.now.terms) answer v) }
+{
+    match bytes {
+        Some(bytes) => judge(alloc, instance, bytes.as_slice()),
+        None => Ok(Verdict::Invalid {
+            line: 0,
+            reason: Wrong::Long,
+        }),
+    }
+}
+
+/// What is due to check an answer that was read, or, for None, one that is too long, against an instance.
+pub fn due_to_check(
+    alloc: Global,
+    instance: &Instance,
+    bytes: &Option<Vec<u8>>,
+) -> Result<Due, Memory>
+    ensures { IfOk result (IsCheckDueOf instance.now bytes.now) }
+{
+    let verdict = verdict_on(alloc, instance, bytes)?;
+    Ok(due_for_verdict(alloc, verdict)?)
 }

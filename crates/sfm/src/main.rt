@@ -1,11 +1,10 @@
 // The program `sfm`: it passes its words, the files and the two streams to `run`, and ends with the code of the status.
 #![tactic(auto)]
 
-pub mod answer;
+pub mod command;
 pub mod due;
 pub mod run;
 pub mod solve;
-pub mod solved;
 pub mod status;
 #[cfg(test)]
 mod tests;

@@ -1,35 +1,30 @@
 // One call of the program, from its words to its status.
-ghost use Rattle.std.specs.Prelude.{◌≡◌, ◌⊎◌, ◌+◌, ℕ, List, [], ◌∷◌, map, length, codes, IfOk, MatchOption};
-ghost use Rattle.sfm.specs.Headline.{AsksSolve, EndsFor, Ends, Says, Complains, IsComplete};
-ghost use Rattle.sfm.specs.Reading.{ReadsOpen, ReadsText};
+ghost use Rattle.std.specs.Prelude.{◌≡◌, ◌⊎◌, ◌+◌, ◌≤◌, ℕ, List, [], ◌∷◌, map, length, codes, IfOk, MatchOption};
 ghost use Rattle.sfm_io.specs.Shelf.{KeepsShelf};
+ghost use Rattle.sfm.specs.Command.{command_of, solve as Solving, check as Checking};
+ghost use Rattle.sfm.specs.Headline.{EndsFor, Ends, Says, Complains, IsComplete};
+ghost use Rattle.sfm.specs.Reading.{ReadsOpen, ReadsText, Prepares};
+ghost use Rattle.sfm.specs.Opening.{OpensInstance, ChecksAnswer};
 
-use crate::due::{Due, due_for};
+use crate::command::{Command, read_command};
+use crate::due::{Due, due_for_end, due_to_check, due_to_solve, instance_of};
 use crate::status::Status;
+use sfm_cert::ANSWER_LIMIT;
 use sfm_io::{ReadEnd, Shelf, Sink, read_all, write_all};
+use sfm_kind::Instance;
 use sfm_text::TEXT_LIMIT;
 use std::alloc::Global;
 
-/// The name in the words `solve NAME`, or None where they are not of this form.
-fn file_to_solve<'a>(words: &'a [&'a str]) -> Option<&'a str>
-    ensures { MatchOption result ((name : List ℕ) → AsksSolve (map (λ word. word.now) words.now) name → ⊥) (λ name. AsksSolve (map (λ word. word.now) words.now) name.now) }
-{
-    let [command, name] = words else {
-        return None;
-    };
-    if *command == "solve" && !name.is_empty() && name.as_bytes()[0] != b'-' {
-        Some(*name)
-    } else {
-        None
-    }
-}
-
-/// The rest of the open text, or None where it is too long.
-fn read_open<S: Shelf>(alloc: Global, shelf: &mut S) -> Result<Option<Vec<u8>>, Status>
+/// The rest of the open text, or None where it is longer than the limit.
+fn read_open<S: Shelf>(
+    alloc: Global,
+    shelf: &mut S,
+    limit: usize,
+) -> Result<Option<Vec<u8>>, Status>
     ensures kept { KeepsShelf (S.state shelf.old) (S.state shelf.new) }
-    ensures read { ReadsOpen (S.state shelf.old) (S.state shelf.new) result }
+    ensures read { ReadsOpen limit (S.state shelf.old) (S.state shelf.new) result }
 {
-    match read_all(alloc, shelf, TEXT_LIMIT) {
+    match read_all(alloc, shelf, limit) {
         Ok(text) => Ok(Some(text)),
         Err(ReadEnd::Long) => Ok(None),
         Err(ReadEnd::Fault) => Err(Status::ReadFault),
@@ -37,26 +32,103 @@ fn read_open<S: Shelf>(alloc: Global, shelf: &mut S) -> Result<Option<Vec<u8>>, 
     }
 }
 
-/// The text of a file, or None where it is too long; else the status that says why there is none.
-fn read_text<S: Shelf>(alloc: Global, shelf: &mut S, name: &str) -> Result<Option<Vec<u8>>, Status>
-    ensures { ReadsText name.now (S.state shelf.old) (S.state shelf.new) result }
+/// The text of a file, or None where it is longer than the limit; else the status that says why there is none.
+fn read_text<S: Shelf>(
+    alloc: Global,
+    shelf: &mut S,
+    name: &str,
+    limit: usize,
+) -> Result<Option<Vec<u8>>, Status>
+    ensures kept { KeepsShelf (S.state shelf.old) (S.state shelf.new) }
+    ensures read { ReadsText limit name.now (S.state shelf.old) (S.state shelf.new) result }
 {
     match shelf.open(name) {
-        Ok(()) => read_open(alloc, shelf),
+        Ok(()) => read_open(alloc, shelf, limit),
         Err(_) => Err(Status::ReadFault),
     }
 }
 
-/// Reads a file, makes what is due for it whole, and writes that.
-fn solve<S: Shelf, K: Sink>(alloc: Global, name: &str, shelf: &mut S, out: &mut K) -> Status
-    ensures { EndsFor name.now (S.state shelf.old) (S.state shelf.new) (K.state out.old) (K.state out.new) result }
+/// Reads an instance, and makes what is due to solve it.
+fn prepare_solve<S: Shelf>(alloc: Global, shelf: &mut S, file: &str) -> Result<Due, Status>
+    ensures { Prepares (Solving file.now) (S.state shelf.old) (S.state shelf.new) result }
 {
-    let text = match read_text(alloc, shelf, name) {
-        Ok(text) => text,
+    let text = read_text(alloc, shelf, file, TEXT_LIMIT)?;
+    match due_to_solve(alloc, &text) {
+        Ok(due) => Ok(due),
+        Err(_) => Err(Status::Memory),
+    }
+}
+
+/// An instance that was read, or what is due for one that has a fault.
+#[derive(Drop)]
+enum Opened {
+    Good(Instance),
+    Faulty(Due),
+}
+
+/// Reads an instance.
+fn open_instance<S: Shelf>(alloc: Global, shelf: &mut S, file: &str) -> Result<Opened, Status>
+    ensures kept { KeepsShelf (S.state shelf.old) (S.state shelf.new) }
+    ensures opened { OpensInstance file.now (S.state shelf.old) (S.state shelf.new) result }
+{
+    let text = read_text(alloc, shelf, file, TEXT_LIMIT)?;
+    match instance_of(alloc, &text) {
+        Ok(instance) => Ok(Opened::Good(instance)),
+        Err(end) => match due_for_end(alloc, &text, end) {
+            Ok(due) => Ok(Opened::Faulty(due)),
+            Err(_) => Err(Status::Memory),
+        },
+    }
+}
+
+/// Reads an answer, and makes what is due to check it against an instance.
+fn check_answer<S: Shelf>(
+    alloc: Global,
+    shelf: &mut S,
+    instance: &Instance,
+    answer: &str,
+) -> Result<Due, Status>
+    ensures { ChecksAnswer answer.now instance.now (S.state shelf.old) (S.state shelf.new) result }
+{
+    let text = read_text(alloc, shelf, answer, ANSWER_LIMIT)?;
+    match due_to_check(alloc, instance, &text) {
+        Ok(due) => Ok(due),
+        Err(_) => Err(Status::Memory),
+    }
+}
+
+/// Reads an instance and then, where that has no fault, an answer, and makes what is due to check it.
+fn prepare_check<S: Shelf>(
+    alloc: Global,
+    shelf: &mut S,
+    file: &str,
+    answer: &str,
+) -> Result<Due, Status>
+    ensures { Prepares (Checking file.now answer.now) (S.state shelf.old) (S.state shelf.new) result }
+{
+    match open_instance(alloc, shelf, file)? {
+        Opened::Good(instance) => check_answer(alloc, shelf, &instance, answer),
+        Opened::Faulty(due) => Ok(due),
+    }
+}
+
+/// Makes what is due for a command whole.
+fn prepare<S: Shelf>(alloc: Global, shelf: &mut S, command: Command) -> Result<Due, Status>
+    ensures { Prepares (command_of command.entry) (S.state shelf.old) (S.state shelf.new) result }
+{
+    match command {
+        Command::Solve { file } => prepare_solve(alloc, shelf, file),
+        Command::Check { file, answer } => prepare_check(alloc, shelf, file, answer),
+    }
+}
+
+/// Makes what is due for a command whole, and writes that.
+fn obey<S: Shelf, K: Sink>(alloc: Global, command: Command, shelf: &mut S, out: &mut K) -> Status
+    ensures { EndsFor (command_of command.entry) (S.state shelf.old) (S.state shelf.new) (K.state out.old) (K.state out.new) result }
+{
+    let due = match prepare(alloc, shelf, command) {
+        Ok(due) => due,
         Err(status) => return status,
-    };
-    let Ok(due) = due_for(alloc, text) else {
-        return Status::Memory;
     };
     match write_all(out, due.text.as_slice()) {
         Ok(()) => due.status,
@@ -80,7 +152,7 @@ fn complain<E: Sink>(err: &mut E, status: Status)
         Status::ReadFault => say(err, b"sfm: read failed\n"),
         Status::WriteFault => say(err, b"sfm: write failed\n"),
         Status::Memory => say(err, b"sfm: out of memory\n"),
-        Status::Usage => say(err, b"usage: sfm solve FILE\n"),
+        Status::Usage => say(err, b"usage: sfm solve FILE | check FILE ANSWER\n"),
     }
 }
 
@@ -97,8 +169,8 @@ pub fn run<'a, S: Shelf, K: Sink, E: Sink>(
     ensures said { Complains (E.state err.old) (E.state err.new) result }
     ensures complete { IsComplete (map (λ word. word.now) words.now) (S.state shelf.old) (S.state shelf.new) (K.state out.old) (K.state out.new) result }
 {
-    let status = match file_to_solve(words) {
-        Some(name) => solve(alloc, name, shelf, out),
+    let status = match read_command(words) {
+        Some(command) => obey(alloc, command, shelf, out),
         None => Status::Usage,
     };
     complain(err, status);

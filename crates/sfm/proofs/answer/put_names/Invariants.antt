@@ -1,6 +1,0 @@
-use Rattle.std.proofs.Common.{◌≡◌, ◌++◌, take}
-use Rattle.sfm.specs.Answer.{listed}
-use Rattle.sfm.proofs.answer.put_names.Given as goal
-
-abbrev pub invariant-loop-e : goal.invariant-loop-e
-invariant-loop-e l = l.out.items ≡ l.initial.out.items ++ listed (take l.e l.names) (take l.e l.members)

@@ -1,6 +1,0 @@
-use Rattle.std.proofs.Common.{◌≡◌, ◌++◌, take}
-use Rattle.sfm.specs.Answer.{numbered}
-use Rattle.sfm.proofs.answer.put_numbers.Given as goal
-
-abbrev pub invariant-loop-a : goal.invariant-loop-a
-invariant-loop-a l = l.out.items ≡ l.initial.out.items ++ numbered (take l.a-index l.numbers)

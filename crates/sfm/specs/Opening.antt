@@ -1,0 +1,44 @@
+-- What is known of an instance that was opened, and of an answer that was then read.
+use Rattle.std.specs.Prelude.{◌≡◌, ◌⊎◌, ℕ, List, Result, Ok, Err}
+use Rattle.sfm_io.specs.Shelf.{ShelfState}
+use Rattle.sfm_kind.specs.Instance.{InstanceData}
+use Rattle.sfm_text.specs.GoodText.{IsTextOf}
+use Rattle.sfm_cert.specs.Grammar.{answer_limit}
+use Rattle.sfm_cert.specs.Solved.{form_of}
+use Rattle.sfm_check.specs.declared.verdicts.Verdict.{Verdict}
+use Rattle.sfm.specs.declared.status.Status.{Status}
+use Rattle.sfm.specs.declared.status.Status.TheVariants.{Done, Invalid, Refused, ReadFault, Memory}
+use Rattle.sfm.specs.declared.due.Due.{Due as DueText}
+use Rattle.sfm.specs.declared.run.Opened.{Opened}
+use Rattle.sfm.specs.declared.run.Opened.TheVariants.{Good, Faulty}
+use Rattle.sfm.specs.Status.{code_of}
+use Rattle.sfm.specs.Due.{IsVerdict, meanings_of, verdict_code, verdict_line}
+use Rattle.sfm.specs.Headline.{IsNamed, IsRefusalDue, WasRead}
+use Rattle.sfm.specs.Reading.{MissesText}
+
+-- a good text of that name
+pub record IsGoodFile (file : List ℕ) (shelf : ShelfState) (instance : InstanceData) : Type 0 where
+  pub text : List ℕ
+  pub named : IsNamed shelf file text
+  pub good : IsTextOf text instance.names instance.terms
+
+-- a good instance, or the refusal of one with a fault, or why there is none
+abbrev pub OpensInstance : List ℕ → (shelf shelf' : ShelfState) → Result Opened Status → Type 0
+OpensInstance file shelf shelf' (Ok (Good instance)) = IsGoodFile file shelf instance
+OpensInstance file shelf shelf' (Ok (Faulty due)) = IsRefusalDue file shelf shelf' due.text.items (code_of due.status) × (due.status ≡ Refused)
+OpensInstance file shelf shelf' (Err status) = ((status ≡ ReadFault) × MissesText file shelf shelf') ⊎ (status ≡ Memory)
+
+-- the verdict on the answer of that name
+pub record IsAnswerDue (answer : List ℕ) (instance : InstanceData) (shelf shelf' : ShelfState) (due : DueText) : Type 0 where
+  pub text : List ℕ
+  pub named : IsNamed shelf answer text
+  pub read : WasRead shelf shelf' answer_limit text
+  pub verdict : Verdict
+  pub judged : IsVerdict (form_of instance) (meanings_of instance.terms) text verdict
+  pub written : due.text.items ≡ verdict_line verdict
+  pub coded : code_of due.status ≡ verdict_code verdict
+  pub answered : (due.status ≡ Done) ⊎ (due.status ≡ Invalid)
+
+abbrev pub ChecksAnswer : List ℕ → InstanceData → (shelf shelf' : ShelfState) → Result DueText Status → Type 0
+ChecksAnswer answer instance shelf shelf' (Ok due) = IsAnswerDue answer instance shelf shelf' due
+ChecksAnswer answer instance shelf shelf' (Err status) = ((status ≡ ReadFault) × MissesText answer shelf shelf') ⊎ (status ≡ Memory)

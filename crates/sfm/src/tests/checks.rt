@@ -1,0 +1,131 @@
+// Verdicts on right files and on wrong ones, each by the first reason against it.
+use crate::tests::cases::{check, try_case};
+use std::test::Fail;
+
+const WEIGHT: &[u8] = b"sfm 1\nground a b\nweight a:-3 b:2\nend\n";
+
+const CUT: &[u8] = b"sfm 1\nground a b\nweight a:-3 b:2\ncut 4 a b\nend\n";
+
+const NEED: &[u8] = b"sfm 1\nground a b\nneed a b\nend\n";
+
+#[test]
+fn verdicts_over_a_weight(rt: HostRuntime) -> Result<(), Fail> {
+    let rows: [(&[u8], u8, &[u8]); 8] = [
+        (
+            b"answer 1\nminimum -3\nleast a\ngreatest a\nat 0/1\nbase 1 -3 2\nend\n",
+            0,
+            b"valid\n",
+        ),
+        (
+            b"answer 1\nminimum -2\nleast a\ngreatest a\nat 0/1\nbase 1 -3 2\nend\n",
+            1,
+            b"invalid 2 answer\n",
+        ),
+        (
+            b"answer 1\nminimum -3\nleast a\ngreatest a\nat 0/1\nbase 1 -3 3\nend\n",
+            1,
+            b"invalid 6 base\n",
+        ),
+        (
+            b"answer 1\nminimum -2\nleast a\ngreatest a\nat 0/1\nbase 1 -3 3\nend\n",
+            1,
+            b"invalid 6 base\n",
+        ),
+        (
+            b"answer 1\nminimum -3\nleast  a\ngreatest a\nat 0/1\nbase 1 -3 2\nend\n",
+            1,
+            b"invalid 3 grammar\n",
+        ),
+        (
+            b"answer 1\nminimum -3\nleast a\ngreatest a\nat 0/1\nbase 1 -3 2\nend",
+            1,
+            b"invalid 7 grammar\n",
+        ),
+        (b"answer 1\n", 1, b"invalid 2 grammar\n"),
+        (b"", 1, b"invalid 1 grammar\n"),
+    ];
+    for (answer, code, line) in rows {
+        try_case(&rt, rt.alloc(), &check(WEIGHT, answer, code, line))?;
+    }
+    Ok(())
+}
+
+#[test]
+fn verdicts_over_a_cut(rt: HostRuntime) -> Result<(), Fail> {
+    let rows: [(&[u8], u8, &[u8]); 6] = [
+        (
+            b"answer 1\nminimum -1\nleast a b\ngreatest a b\nat 0/1\nbase 1 -3 2\nbase 2 3 -3\nend\n",
+            0,
+            b"valid\n",
+        ),
+        (
+            b"answer 1\nminimum -1\nleast a b\ngreatest a b\nat 0/1\nbase 1 -3 2\nbase 2 2 -2\nend\n",
+            0,
+            b"valid\n",
+        ),
+        (
+            b"answer 1\nminimum -1\nleast a b\ngreatest a b\nat 0/1\nbase 1 -3 2\nbase 2 0 0\nend\n",
+            1,
+            b"invalid 5 unproved\n",
+        ),
+        (
+            b"answer 1\nminimum -1\nleast a b\ngreatest a b\nat 0/1\nbase 1 -3 2\nbase 2 5 -5\nend\n",
+            1,
+            b"invalid 7 base\n",
+        ),
+        (
+            b"answer 1\nminimum -1\nleast a\ngreatest a b\nat 0/1\nbase 1 -3 2\nbase 2 2 -2\nend\n",
+            1,
+            b"invalid 3 answer\n",
+        ),
+        (
+            b"answer 1\r\nminimum -1\nleast a b\ngreatest a b\nat 0/1\nbase 1 -3 2\nbase 2 2 -2\nend\n",
+            1,
+            b"invalid 1 grammar\n",
+        ),
+    ];
+    for (answer, code, line) in rows {
+        try_case(&rt, rt.alloc(), &check(CUT, answer, code, line))?;
+    }
+    Ok(())
+}
+
+#[test]
+fn verdicts_over_blocks(rt: HostRuntime) -> Result<(), Fail> {
+    let rows: [(&[u8], u8, &[u8]); 6] = [
+        (
+            b"answer 1\nminimum 0\nleast\ngreatest a b\nblock 1 b :\nblock 2 a : 1\nat 0/1\nbase 1 0 0\nend\n",
+            0,
+            b"valid\n",
+        ),
+        (
+            b"answer 1\nminimum 0\nleast\ngreatest a b\nblock 1 b :\nblock 2 a :\nat 0/1\nbase 1 0 0\nend\n",
+            1,
+            b"invalid 6 answer\n",
+        ),
+        (
+            b"answer 1\nminimum 0\nleast\ngreatest a b\nblock 1 b :\nblock 2 a : 2\nat 0/1\nbase 1 0 0\nend\n",
+            1,
+            b"invalid 6 grammar\n",
+        ),
+        (
+            b"answer 1\nminimum 0\nleast\ngreatest a b\nblock 1 a :\nblock 2 b : 1\nat 0/1\nbase 1 0 0\nend\n",
+            1,
+            b"invalid 5 answer\n",
+        ),
+        (
+            b"answer 1\nminimum 0\nleast\ngreatest a b\nblock 1 b : 2\nblock 2 a :\nat 0/1\nbase 1 0 0\nend\n",
+            1,
+            b"invalid 5 grammar\n",
+        ),
+        (
+            b"answer 1\nminimum 0\nleast\ngreatest a b\nblock 1 b :\nat 0/1\nbase 1 0 0\nend\n",
+            1,
+            b"invalid 6 answer\n",
+        ),
+    ];
+    for (answer, code, line) in rows {
+        try_case(&rt, rt.alloc(), &check(NEED, answer, code, line))?;
+    }
+    Ok(())
+}

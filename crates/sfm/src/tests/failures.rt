@@ -1,0 +1,89 @@
+// Calls that fail: by the outside, by the words, and by texts that are too long.
+use crate::run::run;
+use crate::tests::cases::{Case, check, solve, try_case};
+use sfm_io::{MemoryShelf, MemorySink};
+use std::test::Fail;
+
+const FIRST: &[u8] = b"sfm 1\nground a b\nweight a:-3 b:2\nend\n";
+
+const FIRST_ANSWER: &[u8] =
+    b"answer 1\nminimum -3\nleast a\ngreatest a\nat 0/1\nbase 1 -3 2\nend\n";
+
+const USAGE: &[u8] = b"usage: sfm solve FILE | check FILE ANSWER\n";
+
+#[test]
+fn pieces_and_faults_of_the_outside(rt: HostRuntime) -> Result<(), Fail> {
+    let cases = [
+        Case {
+            read_piece: 1,
+            write_piece: 1,
+            ..solve(FIRST, 0, FIRST_ANSWER)
+        },
+        Case {
+            read_piece: 10,
+            failing_reads: &[4],
+            err: b"sfm: read failed\n",
+            ..solve(FIRST, 3, b"")
+        },
+        Case {
+            write_piece: 10,
+            failing_writes: &[3],
+            err: b"sfm: write failed\n",
+            ..solve(FIRST, 4, b"answer 1\nminimum -3\n")
+        },
+        Case {
+            words: &["solve", "third"],
+            err: b"sfm: read failed\n",
+            ..solve(FIRST, 3, b"")
+        },
+        Case {
+            words: &["check", "first", "third"],
+            err: b"sfm: read failed\n",
+            ..check(FIRST, b"", 3, b"")
+        },
+        Case {
+            words: &["check", "first", "third"],
+            ..check(b"sfm 2\n", b"", 2, b"refused 1 shape\n")
+        },
+    ];
+    for case in &cases {
+        try_case(&rt, rt.alloc(), case)?;
+    }
+    Ok(())
+}
+
+#[test]
+fn words_that_are_no_command(rt: HostRuntime) -> Result<(), Fail> {
+    let wordings: [&[&str]; 6] = [
+        &["solv", "first"],
+        &["solve", "-first"],
+        &["solve", ""],
+        &["check", "first"],
+        &["check", "first", "-second"],
+        &["solve", "first", "second"],
+    ];
+    for words in wordings {
+        let case = Case {
+            words,
+            err: USAGE,
+            ..solve(FIRST, 64, b"")
+        };
+        try_case(&rt, rt.alloc(), &case)?;
+    }
+    Ok(())
+}
+
+#[test]
+fn refuses_a_long_text(rt: HostRuntime) -> Result<(), Fail> {
+    let alloc = rt.alloc();
+    let text = vec![in alloc; b'#'; 16_777_217]?;
+    let mut shelf = MemoryShelf::new(alloc, 1_048_576, &[])?;
+    shelf.add("first", text.as_slice())?;
+    let mut out = MemorySink::new(alloc, 64, 64, &[])?;
+    let mut err = MemorySink::new(alloc, 64, 64, &[])?;
+    let status = run(alloc, &["solve", "first"], &mut shelf, &mut out, &mut err);
+    assert_eq!(rt; status.code(), 2);
+    assert_eq!(rt; out.taken(), b"refused 0 long\n".as_slice());
+    assert!(rt; err.taken().is_empty());
+    Ok(())
+}

@@ -1,0 +1,122 @@
+// Instances that are solved. Which of several proving bases is written is free, so the lines of such bases are left open,
+// and each answer is checked against its instance.
+use crate::run::run;
+use sfm_io::{MemoryShelf, MemorySink};
+use std::alloc::Global;
+use std::process::Abort;
+use std::test::Fail;
+
+/// Whether a line is as wanted. A wanted line that ends in `*` is the beginning of one.
+fn is_wanted(line: &[u8], wanted: &[u8]) -> bool {
+    match wanted.split_last() {
+        Some((b'*', front)) => line.starts_with(front),
+        _ => line == wanted,
+    }
+}
+
+/// Whether each line of a text is as wanted.
+fn are_wanted(text: &[u8], wanted: &[u8]) -> bool {
+    let lines = text.split(|c| *c == b'\n');
+    let patterns = wanted.split(|c| *c == b'\n');
+    lines
+        .zip(patterns)
+        .all(|(line, pattern)| is_wanted(line, pattern))
+}
+
+/// How many lines a text has.
+fn count_lines(text: &[u8]) -> usize {
+    text.iter().filter(|c| **c == b'\n').count()
+}
+
+/// Solves an instance, read in pieces of that size, and checks the answer.
+fn try_solution(
+    rt: &impl Abort,
+    alloc: Global,
+    text: &[u8],
+    piece: usize,
+    wanted: &[u8],
+) -> Result<(), Fail> {
+    let mut shelf = MemoryShelf::new(alloc, piece.max(1), &[])?;
+    shelf.add("first", text)?;
+    let mut out = MemorySink::new(alloc, 65536, 4096, &[])?;
+    let mut err = MemorySink::new(alloc, 64, 64, &[])?;
+    let status = run(alloc, &["solve", "first"], &mut shelf, &mut out, &mut err);
+    assert_eq!(rt; status.code(), 0);
+    assert_eq!(rt; count_lines(out.taken()), count_lines(wanted));
+    assert!(rt; are_wanted(out.taken(), wanted));
+    let mut answers = MemoryShelf::new(alloc, 4096, &[])?;
+    answers.add("first", text)?;
+    answers.add("second", out.taken())?;
+    let mut verdict = MemorySink::new(alloc, 64, 64, &[])?;
+    let status = run(
+        alloc,
+        &["check", "first", "second"],
+        &mut answers,
+        &mut verdict,
+        &mut err,
+    );
+    assert_eq!(rt; verdict.taken(), b"valid\n".as_slice());
+    assert_eq!(rt; status.code(), 0);
+    Ok(())
+}
+
+#[test]
+fn solves_weights_and_cuts(rt: HostRuntime) -> Result<(), Fail> {
+    let rows: [(&[u8], &[u8]); 6] = [
+        (
+            b"sfm 1\nground a b\nweight a:-3 b:2\ncut 4 a b\nend\n",
+            b"answer 1\nminimum -1\nleast a b\ngreatest a b\nat 0/1\nbase 1 -3 2\nbase 2 *\nend\n",
+        ),
+        (
+            b"sfm 1\nground\nend\n",
+            b"answer 1\nminimum 0\nleast\ngreatest\nat 0/1\nend\n",
+        ),
+        (
+            b"sfm 1\nground a b c\nend\n",
+            b"answer 1\nminimum 0\nleast\ngreatest a b c\nblock 1 a :\nblock 2 b :\nblock 3 c :\nat 0/1\nend\n",
+        ),
+        (
+            b"sfm 1\nground a b\ncut 1 a b\ncut 1 b a\nend\n",
+            b"answer 1\nminimum 0\nleast\ngreatest a b\nblock 1 a b :\nat 0/1\nbase 1 *\nbase 2 *\nend\n",
+        ),
+        (
+            b"sfm 1\nground a b c\nweight a:1 b:1 c:-2\nend\n",
+            b"answer 1\nminimum -2\nleast c\ngreatest c\nat 0/1\nbase 1 1 1 -2\nend\n",
+        ),
+        (
+            b"\tsfm  1\r\n# weights\r\n\r\nground a\tb\r\nweight a:-3 b:2\r\nend",
+            b"answer 1\nminimum -3\nleast a\ngreatest a\nat 0/1\nbase 1 -3 2\nend\n",
+        ),
+    ];
+    for (text, wanted) in rows {
+        try_solution(&rt, rt.alloc(), text, 65536, wanted)?;
+        try_solution(&rt, rt.alloc(), text, 1, wanted)?;
+    }
+    Ok(())
+}
+
+#[test]
+fn solves_needs_covers_and_tables(rt: HostRuntime) -> Result<(), Fail> {
+    let rows: [(&[u8], &[u8]); 4] = [
+        (
+            b"sfm 1\nground a b\nneed a b\nend\n",
+            b"answer 1\nminimum 0\nleast\ngreatest a b\nblock 1 b :\nblock 2 a : 1\nat 0/1\nbase 1 0 0\nend\n",
+        ),
+        (
+            b"sfm 1\nground a b c\nweight a:-2 b:-2 c:-1\ncover 3 a b c\nend\n",
+            b"answer 1\nminimum -2\nleast a b c\ngreatest a b c\nat 0/1\nbase 1 -2 -2 -1\nbase 2 *\nend\n",
+        ),
+        (
+            b"sfm 1\nground a b\nweight a:-1000000000000 b:1000000000000\nweight a:-1000000000000 b:1000000000000\nweight b:1000000000000\nneed a b\nend\n",
+            b"answer 1\nminimum 0\nleast\ngreatest\nat 0/1\nbase 1 -1000000000000 1000000000000\nbase 2 -1000000000000 1000000000000\nbase 3 1000000000000\nbase 4 *\nend\n",
+        ),
+        (
+            b"sfm 1\nground a b\nweight a:-1 b:-1\ntable 0 2 2 3 : a b\nend\n",
+            b"answer 1\nminimum 0\nleast\ngreatest\nat 0/1\nbase 1 -1 -1\nbase 2 *\nend\n",
+        ),
+    ];
+    for (text, wanted) in rows {
+        try_solution(&rt, rt.alloc(), text, 7, wanted)?;
+    }
+    Ok(())
+}
