@@ -1,0 +1,117 @@
+#!/usr/bin/env python3
+"""Writes instances into a temporary directory, runs `PROGRAM solve` on each, and prints how long each took."""
+import argparse
+import os
+import random
+import subprocess
+import sys
+import tempfile
+import time
+
+COLUMNS = 16
+
+
+def weights(names, rng, low, high):
+    pairs = [f"{name}:{rng.randint(low, high)}" for name in names]
+    return [" ".join(["weight", *pairs])]
+
+
+def grid(names, rng):
+    """Pixels in rows of 16, with a cut each way between neighbours."""
+    lines = weights(names, rng, -100, 100)
+    for i in range(len(names)):
+        beside = i + 1 if (i + 1) % COLUMNS else None
+        for j in (beside, i + COLUMNS):
+            if j is not None and j < len(names):
+                lines.append(f"cut {rng.randint(0, 60)} {names[i]} {names[j]}")
+                lines.append(f"cut {rng.randint(0, 60)} {names[j]} {names[i]}")
+    return lines
+
+
+def covers(names, rng):
+    """As many covers of three elements as there are elements."""
+    lines = weights(names, rng, -300, -1)
+    for _ in names:
+        some = rng.sample(names, 3)
+        lines.append(" ".join(["cover", str(rng.randint(0, 300)), *some]))
+    return lines
+
+
+def needs(names, rng):
+    """The first half earn and need two of the second half each, which cost."""
+    half = len(names) // 2
+    lines = weights(names[:half], rng, -200, 0)
+    lines += weights(names[half:], rng, 0, 200)
+    for name in names[:half]:
+        for other in rng.sample(names[half:], 2):
+            lines.append(f"need {name} {other}")
+    return lines
+
+
+KINDS = {"grid": grid, "covers": covers, "needs": needs}
+
+
+def write_instance(path, kind, size, seed):
+    """Writes an instance, and gives the number of its terms."""
+    names = [f"e{i}" for i in range(size)]
+    lines = KINDS[kind](names, random.Random(f"{kind} {size} {seed}"))
+    with open(path, "w", encoding="ascii", newline="\n") as file:
+        file.write("\n".join(["sfm 1", "ground " + " ".join(names), *lines, "end"]) + "\n")
+    return len(lines)
+
+
+def solve(program, path, answer, limit):
+    """Runs the program, and gives the seconds that it took and its exit code, or None for the code past the limit."""
+    with open(answer, "wb") as out:
+        start = time.perf_counter()
+        try:
+            code = subprocess.run([program, "solve", path], stdout=out, timeout=limit).returncode
+        except subprocess.TimeoutExpired:
+            code = None
+        return time.perf_counter() - start, code
+
+
+def check(program, path, answer):
+    done = subprocess.run([program, "check", path, answer], stdout=subprocess.PIPE)
+    return done.stdout.decode("ascii", "replace").strip() or f"exit {done.returncode}"
+
+
+def parse_words():
+    parser = argparse.ArgumentParser(description=__doc__)
+    parser.add_argument("program", help="the path of the program")
+    parser.add_argument("--kinds", nargs="+", choices=list(KINDS), default=list(KINDS))
+    parser.add_argument("--sizes", nargs="+", type=int, default=[32, 64, 128, 256])
+    parser.add_argument("--seed", type=int, default=1)
+    parser.add_argument("--limit", type=float, default=600, help="seconds for each run")
+    parser.add_argument("--check", action="store_true", help="judge each answer too")
+    options = parser.parse_args()
+    if any(not 16 <= size <= 256 for size in options.sizes):
+        parser.error("sizes are from 16 to 256")
+    return options
+
+
+def main():
+    options = parse_words()
+    program = os.path.abspath(options.program)
+    failed = False
+    print("| Instance | Elements | Terms | Seconds | Answer in bytes |")
+    print("|---|---|---|---|---|")
+    with tempfile.TemporaryDirectory() as folder:
+        for kind in options.kinds:
+            for size in options.sizes:
+                path = os.path.join(folder, f"{kind}_{size}.sfm")
+                answer = os.path.join(folder, f"{kind}_{size}.answer")
+                terms = write_instance(path, kind, size, options.seed)
+                seconds, code = solve(program, path, answer, options.limit)
+                taken = f"{seconds:.2f}" if code == 0 else f"over {seconds:.0f}" if code is None else f"exit {code}"
+                print(f"| {kind} | {size} | {terms} | {taken} | {os.path.getsize(answer)} |", flush=True)
+                failed = failed or code != 0
+                if options.check and code == 0:
+                    verdict = check(program, path, answer)
+                    failed = failed or verdict != "valid"
+                    print(f"{kind} {size}: {verdict}", file=sys.stderr, flush=True)
+    return 1 if failed else 0
+
+
+if __name__ == "__main__":
+    sys.exit(main())
