@@ -1,0 +1,150 @@
+-- Groups of places as sets.
+use Rattle.std.proofs.Common.{◌≡◌, ◌⊎◌, ℕ, zero, suc, ◌+◌, ◌<◌, Bool, true, false, cond, ◌&&◌, List, [], ◌∷◌, length, get_or, set, count_by, ℤ, pos, ◌+ℤ◌, if◌then◌else◌, refl, sym, ◌∙◌, arith, inl, inr, ⊎_elim, length-set, get_or-set_other, get_or-set_same}
+use Rattle.std.specs.List.{All}
+use Rattle.std.proofs.lemmas.Bool.{false≢true, cases_eq, cases_Bool}
+use Rattle.std.proofs.lemmas.Int.{ints}
+use Rattle.std.proofs.lemmas.List.{length-replicate}
+use Rattle.std.proofs.lemmas.List.Sums.{sum_by-cons}
+use Rattle.std.proofs.lemmas.List.Elements.{All-head, All-tail}
+use Rattle.sfm_spec.specs.Sets.{Has, empty_set, intersection, size, sum_over}
+use Rattle.sfm_spec.proofs.Where.{size-cons}
+use Rattle.sfm_spec.proofs.Sizes.{size-empty, weight-empty}
+
+-- strictly ascending
+abbrev pub IsAscending : List ℕ → Type 0
+IsAscending es = (i j : ℕ) → i < j → j < length es → get_or es i 0 < get_or es j 0
+
+-- the set of some of k places
+abbrev pub mask : ℕ → List ℕ → List Bool
+mask k [] = empty_set k
+mask k (e ∷ es) = set (mask k es) e true
+
+pub length-mask : (k : ℕ) (es : List ℕ) → length (mask k es) ≡ k
+length-mask k [] = length-replicate k false
+length-mask k (e ∷ es) = length-set (mask k es) e true ∙ length-mask k es
+
+-- ---- one place put in or taken out
+
+pub size-put : (s : List Bool) (e : ℕ) (b : Bool) → e < length s → size (set s e b) + cond (get_or s e false) 1 0 ≡ size s + cond b 1 0
+size-put [] e b h = absurd (omega arith)
+size-put (a ∷ s) zero b h = let l = size-cons a s in let r = size-cons b s in omega (arith, l, r)
+size-put (a ∷ s) (suc e) b h = let l = size-cons a s in let m = size-cons a (set s e b) in let r = size-put s e b (omega arith) in omega (arith, l, m, r)
+
+pub size-in : (s : List Bool) (e : ℕ) → e < length s → get_or s e false ≡ false → size (set s e true) ≡ suc (size s)
+size-in s e h out = let r = rw out at (size-put s e true h) in omega (arith, r)
+
+pub size-out : (s : List Bool) (e : ℕ) → e < length s → Has s e → suc (size (set s e false)) ≡ size s
+size-out s e h has = let r = rw has at (size-put s e false h) in omega (arith, r)
+
+pub sum_over-put : (s : List Bool) (e : ℕ) (b : Bool) (x : List ℤ) → e < length s → length s ≡ length x
+    → (sum_over (set s e b) x +ℤ (if get_or s e false then get_or x e (pos 0) else pos 0)) ≡ (sum_over s x +ℤ (if b then get_or x e (pos 0) else pos 0))
+sum_over-put [] e b x h same = absurd (omega arith)
+sum_over-put (a ∷ s) e b [] h same = absurd (omega arith)
+sum_over-put (a ∷ s) zero b (y ∷ x) h same = omega (arith, ints)
+sum_over-put (a ∷ s) (suc e) b (y ∷ x) h same = let r = sum_over-put s e b x (omega arith) (omega arith) in omega (arith, ints, r)
+
+pub sum_over-in : (s : List Bool) (e : ℕ) (x : List ℤ) → e < length s → length s ≡ length x → get_or s e false ≡ false → sum_over (set s e true) x ≡ (sum_over s x +ℤ get_or x e (pos 0))
+sum_over-in s e x h same out = let r = rw out at (sum_over-put s e true x h same) in omega (arith, ints, r)
+
+pub has_place : (s : List Bool) (e : ℕ) → Has s e → e < length s
+has_place [] e h = absurd (false≢true h)
+has_place (a ∷ s) zero h = omega arith
+has_place (a ∷ s) (suc e) h = let r = has_place s e h in omega (arith, r)
+
+-- a set with a place taken in has that and those that it had
+pub has_set : (s : List Bool) (e i : ℕ) → Has (set s e true) i → (i ≡ e) ⊎ Has s i
+has_set s e i h = ⊎_elim (λ same. inl same) (λ ne. inr (sym (get_or-set_other s e i true false ne) ∙ h)) (cases_eq i e)
+
+pub set_has : (s : List Bool) (e i : ℕ) → Has s i → Has (set s e true) i
+set_has s e i h = ⊎_elim
+    (λ (same : i ≡ e). let lt = has_place s i h in let le : e < length s = omega (arith, lt, same) in rw same (get_or-set_same s e true false le))
+    (λ ne. get_or-set_other s e i true false ne ∙ h)
+    (cases_eq i e)
+
+-- ---- who is in
+
+-- one of the numbers is e
+abbrev pub Lists : List ℕ → ℕ → Type 0
+Lists es e = (i : ℕ) × (i < length es) × (get_or es i 0 ≡ e)
+
+pub mask-lists : (k : ℕ) (es : List ℕ) (e : ℕ) → Has (mask k es) e → Lists es e
+mask-lists k [] e h = absurd (none k e h) where
+  none : (k e : ℕ) → Has (empty_set k) e → ⊥
+  none zero e h = false≢true h
+  none (suc k) zero h = false≢true h
+  none (suc k) (suc e) h = none k e h
+mask-lists k (d ∷ es) e h = ⊎_elim (λ (same : e ≡ d). (0, omega arith, sym same)) (λ has. let (i, lt, is) = mask-lists k es e has in (suc i, omega arith, is)) (has_set (mask k es) d e h)
+
+pub lists-mask : (k : ℕ) (es : List ℕ) (e : ℕ) → All (λ i. i < k) es → Lists es e → Has (mask k es) e
+lists-mask k [] e below (i, lt, is) = absurd (omega arith)
+lists-mask k (d ∷ es) e below (zero, lt, is) =
+    let h = All-head (λ i. i < k) d es below in
+    let len = length-mask k es in
+    rw (← is) (get_or-set_same (mask k es) d true false (omega (arith, h, len)))
+lists-mask k (d ∷ es) e below (suc i, lt, is) = set_has (mask k es) d e (lists-mask k es e (All-tail (λ i. i < k) d es below) (i, omega arith, is))
+
+-- ---- sums and counts over the members
+
+abbrev pub sum_listed : List ℕ → List ℤ → ℤ
+sum_listed [] x = pos 0
+sum_listed (e ∷ es) x = get_or x e (pos 0) +ℤ sum_listed es x
+
+fresh : (k e : ℕ) (es : List ℕ) → IsAscending (e ∷ es) → get_or (mask k es) e false ≡ false
+fresh k e es up = ⊎_elim
+    (λ has. let (i, lt, is) = mask-lists k es e has in let u = up 0 (suc i) (omega arith) (omega arith) in absurd (omega (arith, u, is)))
+    (λ out. out)
+    (cases_Bool (get_or (mask k es) e false))
+
+ascending-tail : (e : ℕ) (es : List ℕ) → IsAscending (e ∷ es) → IsAscending es
+ascending-tail e es up i j lt in_range = up (suc i) (suc j) (omega arith) (omega arith)
+
+pub sum-mask : (k : ℕ) (es : List ℕ) (x : List ℤ) → length x ≡ k → IsAscending es → All (λ i. i < k) es → sum_over (mask k es) x ≡ sum_listed es x
+sum-mask k [] x kx up below = weight-empty k x
+sum-mask k (e ∷ es) x kx up below =
+    let h = All-head (λ i. i < k) e es below in
+    let len = length-mask k es in
+    let r = sum-mask k es x kx (ascending-tail e es up) (All-tail (λ i. i < k) e es below) in
+    let p = sum_over-in (mask k es) e x (omega (arith, h, len)) (len ∙ sym kx) (fresh k e es up) in
+    omega (arith, ints, r, p)
+
+pub size-mask : (k : ℕ) (es : List ℕ) → IsAscending es → All (λ i. i < k) es → size (mask k es) ≡ length es
+size-mask k [] up below = size-empty k
+size-mask k (e ∷ es) up below =
+    let h = All-head (λ i. i < k) e es below in
+    let len = length-mask k es in
+    let r = size-mask k es (ascending-tail e es up) (All-tail (λ i. i < k) e es below) in
+    let p = size-in (mask k es) e (omega (arith, h, len)) (fresh k e es up) in
+    omega (arith, r, p)
+
+-- how many of the numbers are in t
+abbrev pub count_listed : List ℕ → List Bool → ℕ
+count_listed es t = count_by (λ e. get_or t e false) es
+
+pub count-cons : (e : ℕ) (es : List ℕ) (t : List Bool) → count_listed (e ∷ es) t ≡ cond (get_or t e false) 1 0 + count_listed es t
+count-cons e es t = sum_by-cons (λ i. cond (get_or t i false) 1 0) e es
+
+intersection-none : (k : ℕ) (t : List Bool) → size (intersection (empty_set k) t) ≡ 0
+intersection-none zero t = refl
+intersection-none (suc k) [] = refl
+intersection-none (suc k) (b ∷ t) = size-cons false (intersection (empty_set k) t) ∙ (let r = intersection-none k t in omega (arith, r))
+
+intersection-in : (s t : List Bool) (e : ℕ) → length s ≡ length t → e < length s → get_or s e false ≡ false → size (intersection (set s e true) t) ≡ cond (get_or t e false) 1 0 + size (intersection s t)
+intersection-in [] t e h lt out = absurd (omega arith)
+intersection-in (a ∷ s) [] e h lt out = absurd (omega arith)
+intersection-in (true ∷ s) (b ∷ t) zero h lt out = absurd (false≢true (sym out))
+intersection-in (false ∷ s) (b ∷ t) zero h lt out = let l = size-cons b (intersection s t) in let r = size-cons false (intersection s t) in omega (arith, l, r)
+intersection-in (a ∷ s) (b ∷ t) (suc e) h lt out =
+    let l = size-cons (a && b) (intersection (set s e true) t) in
+    let m = size-cons (a && b) (intersection s t) in
+    let r = intersection-in s t e (omega arith) (omega arith) out in
+    omega (arith, l, m, r)
+
+pub count-mask : (k : ℕ) (es : List ℕ) (t : List Bool) → length t ≡ k → IsAscending es → All (λ i. i < k) es → size (intersection (mask k es) t) ≡ count_listed es t
+count-mask k [] t kt up below = intersection-none k t
+count-mask k (e ∷ es) t kt up below =
+    let h = All-head (λ i. i < k) e es below in
+    let len = length-mask k es in
+    let r = count-mask k es t kt (ascending-tail e es up) (All-tail (λ i. i < k) e es below) in
+    let p = intersection-in (mask k es) t e (len ∙ sym kt) (omega (arith, h, len)) (fresh k e es up) in
+    let c = count-cons e es t in
+    omega (arith, r, p, c)

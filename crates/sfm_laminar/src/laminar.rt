@@ -1,0 +1,430 @@
+// A number w times the rank of a laminar matroid. A part is independent where no group has more of it than its cap.
+// The bases of q times the term are the vectors with entries from 0 to q·w that give no group more than q·w times its cap,
+// or its size where that is less, and that have q times the whole value in all. So the room of (u, v) is the least of what
+// v has, what u lacks of q·w, and what each group lacks that has u and not v.
+ghost use Rattle.std.specs.Prelude.{◌≡◌, ◌≢◌, ◌↔◌, ℕ, ◌<◌, ◌≤◌, ◌^◌, Bool, true, false, List, length, slice_index_or, ℤ, pos, neg_ℤ, ◌*ℤ◌, ◌+ℤ◌, ◌-ℤ◌, ◌≤ℤ◌, ◌<ℤ◌, IfOk, OnOk, IsTrue, Option, Some, Ok, Err, Contains};
+ghost use Rattle.std.specs.List.{All};
+ghost use Rattle.sfm_spec.specs.Bounds.{IsAtMost, IsEntry, IsFactor, IsGiven, AreElements};
+ghost use Rattle.sfm_spec.specs.Sets.{Has, size};
+ghost use Rattle.sfm_spec.specs.Terms.{SetFunction, times, IsBase, IsFamily, IsSubmodular, IsGreedy, exchanged};
+ghost use Rattle.sfm_spec.specs.Kinds.{IsWithinCaps, IsRank, IsRankFunction};
+ghost use Rattle.sfm_law.specs.Room.{IsRoom, IsReach, IsWithinRoom};
+ghost use Rattle.sfm_laminar.specs.Groups.{IsBelow, AreGroups, NoneCross, IsFirstCrossing, group_at};
+ghost use Rattle.sfm_laminar.specs.Ranks.{rank};
+ghost use Rattle.sfm_laminar.specs.Rooms.{slack_of, Splits, IsLeast, IsHeld};
+ghost use Rattle.sfm_laminar.specs.LaminarLaws.{laminar_value, laminar_size, laminar_start, basis_of, laminar-family, laminar-submodular, laminar-bounded, laminar-starts, laminar-starts_small};
+
+use crate::crossing::first_crossing;
+use crate::groups::Groups;
+use crate::growing::{grow, whole};
+use crate::number::{are_within, bound, has_sum, product, sum_listed};
+use crate::place::{keep_listed, lists, put};
+use sfm_base::{Memory, Places, Set};
+use sfm_law::{Room, Term};
+use std::alloc::Global;
+
+/// Why groups make no laminar matroid.
+#[derive(Clone, Copy, Debug, PartialEq, Eq)]
+pub enum LaminarEnd {
+    /// The groups with the numbers `first` < `second` share a place, and neither holds the other; `second` is the least of
+    /// such, and then `first`.
+    Crosses { first: usize, second: usize },
+    /// Want of memory.
+    Memory,
+}
+
+impl From<Memory> for LaminarEnd {
+    ghost use Rattle.sfm_laminar.specs.declared.laminar.LaminarEnd.TheVariants.{Memory};
+
+    ghost from_gives = { λ _ e. e ≡ Memory };
+
+    fn from(_: Memory) -> Self {
+        LaminarEnd::Memory
+    }
+}
+
+/// A number for each element of a greatest independent part (Schrijver, Combinatorial Optimization, section 39).
+#[derive(Drop)]
+pub struct Laminar {
+    pub places: Places,
+    pub w: i128,
+    pub groups: Groups,
+    /// The elements that are taken one after another while they stay independent.
+    pub basis: Set,
+    pub ghost elements: { AreElements places },
+    pub ghost few: { length places ≤ 256 },
+    pub ghost low: { pos 0 ≤ℤ w },
+    pub ghost given: { IsGiven w },
+    pub ghost grouped: { AreGroups (length places) groups },
+    pub ghost based: { basis ≡ basis_of (length places) groups },
+}
+
+/// Whether v is not u and has something, where u lacks something.
+fn is_other_some(v: usize, u: usize, lacks: bool, a: i128) -> bool
+    ensures { IsTrue result ↔ ((v ≢ u) × IsTrue lacks × (pos 1 ≤ℤ a)) }
+{
+    v != u && lacks && a >= 1
+}
+
+impl Laminar {
+    /// The term that is worth w for each element of a greatest independent part; the elements are copied. Whether groups
+    /// cross is told before memory is asked for.
+    pub fn new(
+        alloc: Global,
+        elements: &[usize],
+        w: i128,
+        groups: Groups,
+    ) -> Result<Laminar, LaminarEnd>
+        requires elements { AreElements elements.now }
+        requires low { pos 0 ≤ℤ w }
+        requires given { IsGiven w }
+        requires below { All (IsBelow (length elements.now)) groups }
+        ensures crosses { (first second : ℕ) → (result ≡ Err (LaminarEnd.Crosses first second)) ↔ IsFirstCrossing groups first second }
+        ensures tried { (result ≡ Err LaminarEnd.Memory) → NoneCross groups }
+        ensures none { OnOk result (NoneCross groups) }
+        ensures places { IfOk result (λ r. r.places ≡ elements.now) }
+        ensures number { IfOk result (λ r. r.w ≡ w) }
+        ensures groups { IfOk result (λ r. r.groups ≡ groups) }
+    {
+        if let Some(crossing) = first_crossing(&groups) {
+            return Err(LaminarEnd::Crosses {
+                first: crossing.first,
+                second: crossing.second,
+            });
+        }
+        let places = Places::from_slice(alloc, elements)?;
+        let all = whole(alloc, elements.len())?;
+        let basis = grow(alloc, &groups, &all)?;
+        Ok(Laminar {
+            places,
+            w,
+            groups,
+            basis,
+        })
+    }
+
+    /// How many elements of a part may be independent together, and no more.
+    ///
+    /// # Errors
+    ///
+    /// `Memory` where there is none.
+    pub fn rank(&self, alloc: Global, s: &Set) -> Result<i128, Memory>
+        requires { length s.now ≡ length self.now.places }
+        ensures rank { IfOk result (λ r. r ≡ pos (rank (length self.now.places) self.now.groups s.now)) }
+        ensures greatest { IfOk result (λ r. (n : ℕ) × (r ≡ pos n) × IsRank (IsWithinCaps self.now.groups) s.now n) }
+    {
+        let most = grow(alloc, &self.groups, s)?;
+        Ok(most.size() as i128)
+    }
+
+    /// The value of each part is w times its rank: a law, with nothing to do.
+    pub fn values_are_ranks(&self)
+        ensures { IsRankFunction (length self.now.places) self.now.w (IsWithinCaps self.now.groups) (laminar_value (length self.now.places) self.now.w self.now.groups) }
+    {}
+
+    /// The value of a count of elements that are independent together.
+    fn ranked(&self, count: i128) -> i128
+        requires low { pos 0 ≤ℤ count }
+        requires high { count ≤ℤ pos 256 }
+        ensures value { result ≡ self.now.w *ℤ count }
+        ensures small { IsAtMost (10 ^ 21) result }
+    {
+        self.w * count
+    }
+
+    /// The greatest value: that of all elements.
+    fn most(&self) -> i128
+        ensures value { result ≡ laminar_size (length self.now.places) self.now.w self.now.groups }
+        ensures small { IsAtMost (10 ^ 21) result }
+    {
+        self.ranked(self.basis.size() as i128)
+    }
+
+    /// Writes the base with q·w at each element of the base of the matroid that is kept.
+    pub fn start_of(&self, q: i128, x: &mut [i128])
+        requires factor { IsFactor q }
+        requires entries { length x.old ≡ length self.now.places }
+        ensures start { x.new ≡ laminar_start (length self.now.places) q self.now.w self.now.groups }
+        ensures greedy { IsGreedy q (laminar_value (length self.now.places) self.now.w self.now.groups) (length self.now.places) x.new }
+    {
+        self.write_start(q, x);
+    }
+
+    /// Writes q·w at the elements of the base of the matroid, and 0 at the others.
+    fn write_start(&self, q: i128, x: &mut [i128])
+        requires factor { IsFactor q }
+        requires entries { length x.old ≡ length self.now.places }
+        ensures { x.new ≡ laminar_start (length self.now.places) q self.now.w self.now.groups }
+    {
+        for (j, a) in x.iter_mut().enumerate() {
+            *a = self.share(q, j);
+        }
+    }
+
+    /// What the place j gets of the first base.
+    fn share(&self, q: i128, j: usize) -> i128
+        requires factor { IsFactor q }
+        requires place { j < length self.now.places }
+        ensures { result ≡ slice_index_or (laminar_start (length self.now.places) q self.now.w self.now.groups) j (pos 0) }
+    {
+        if !self.basis.contains(j) {
+            return 0;
+        }
+        product(q, self.w)
+    }
+
+    /// What the group i lacks of the most that it gets.
+    fn slack(&self, q: i128, x: &[i128], i: usize) -> i128
+        requires factor { IsFactor q }
+        requires entries { length x.now ≡ length self.now.places }
+        requires small { All IsEntry x.now }
+        requires group { i < length self.now.groups }
+        ensures { result ≡ slack_of q self.now.w x.now (group_at self.now.groups i) }
+    {
+        let group = self.groups.group(i);
+        bound(product(q, self.w), group) - sum_listed(group.members(), x)
+    }
+
+    /// Whether no group gets more than it may.
+    fn are_bounded(&self, q: i128, x: &[i128]) -> bool
+        requires factor { IsFactor q }
+        requires entries { length x.now ≡ length self.now.places }
+        requires small { All IsEntry x.now }
+        ensures { IsTrue result ↔ ((i : ℕ) → i < length self.now.groups → pos 0 ≤ℤ slack_of q self.now.w x.now (group_at self.now.groups i)) }
+    {
+        for i in 0..self.groups.len() {
+            if self.slack(q, x, i) < 0 {
+                return false;
+            }
+        }
+        true
+    }
+
+    /// Whether x is a base of q times the term.
+    pub fn is_base_of(&self, q: i128, x: &[i128]) -> bool
+        requires factor { IsFactor q }
+        requires entries { length x.now ≡ length self.now.places }
+        requires small { All IsEntry x.now }
+        ensures { IsTrue result ↔ IsBase (times q (laminar_value (length self.now.places) self.now.w self.now.groups)) x.now }
+    {
+        let most = product(q, self.w);
+        if !are_within(x, most) {
+            return false;
+        }
+        let whole = product(q, self.most());
+        if !has_sum(x, whole) {
+            return false;
+        }
+        self.are_bounded(q, x)
+    }
+
+    /// Whether the group i has u and not v.
+    fn splits(&self, i: usize, u: usize, v: usize) -> bool
+        requires { i < length self.now.groups }
+        ensures { IsTrue result ↔ Splits (group_at self.now.groups i) u v }
+    {
+        let group = self.groups.group(i);
+        lists(group.members(), u) && !lists(group.members(), v)
+    }
+
+    /// What v has, or what u lacks of q·w where that is less.
+    fn least_entry(&self, q: i128, x: &[i128], u: usize, v: usize) -> i128
+        requires factor { IsFactor q }
+        requires small { All IsEntry x.now }
+        requires from { u < length x.now }
+        requires onto { v < length x.now }
+        ensures { IsLeast q self.now.w self.now.groups x.now u v 0 result }
+    {
+        x[v].min(product(q, self.w) - x[u])
+    }
+
+    /// The least of what v has, what u lacks of q·w, and what each group lacks that has u and not v.
+    fn least_left(&self, q: i128, x: &[i128], u: usize, v: usize) -> i128
+        requires factor { IsFactor q }
+        requires entries { length x.now ≡ length self.now.places }
+        requires small { All IsEntry x.now }
+        requires from { u < length x.now }
+        requires onto { v < length x.now }
+        ensures { IsLeast q self.now.w self.now.groups x.now u v (length self.now.groups) result }
+    {
+        let mut least = self.least_entry(q, x, u, v);
+        for i in 0..self.groups.len() {
+            if self.splits(i, u, v) {
+                least = least.min(self.slack(q, x, i));
+            }
+        }
+        least
+    }
+
+    /// The room of (u, v) at a base: the least of what v has, what u lacks of q·w, and what each group lacks that has u and
+    /// not v.
+    pub fn room_of(&self, q: i128, x: &[i128], u: usize, v: usize) -> Room
+        requires factor { IsFactor q }
+        requires entries { length x.now ≡ length self.now.places }
+        requires small { All IsEntry x.now }
+        requires base { IsBase (times q (laminar_value (length self.now.places) self.now.w self.now.groups)) x.now }
+        requires apart { u ≢ v }
+        requires from { u < length x.now }
+        requires onto { v < length x.now }
+        ensures { IsRoom (times q (laminar_value (length self.now.places) self.now.w self.now.groups)) x.now u v result }
+    {
+        Room::Upto(self.least_left(q, x, u, v))
+    }
+
+    /// Whether the group i has u and lacks nothing.
+    fn holds_full(&self, q: i128, x: &[i128], i: usize, u: usize) -> bool
+        requires factor { IsFactor q }
+        requires entries { length x.now ≡ length self.now.places }
+        requires small { All IsEntry x.now }
+        requires group { i < length self.now.groups }
+        ensures { IsTrue result ↔ (Contains (group_at self.now.groups i).members u × (slack_of q self.now.w x.now (group_at self.now.groups i) ≡ pos 0)) }
+    {
+        lists(self.groups.group(i).members(), u) && self.slack(q, x, i) == 0
+    }
+
+    /// Takes out what is not in each group that has u and lacks nothing.
+    fn keep_full(&self, q: i128, x: &[i128], u: usize, to: &mut Set)
+        requires factor { IsFactor q }
+        requires entries { length x.now ≡ length self.now.places }
+        requires small { All IsEntry x.now }
+        ensures places { length to.new ≡ length to.old }
+        ensures kept { (v : ℕ) → v < length to.old → Has to.new v ↔ (Has to.old v × IsHeld q self.now.w self.now.groups x.now u (length self.now.groups) v) }
+    {
+        for i in 0..self.groups.len() {
+            if self.holds_full(q, x, i, u) {
+                let group = self.groups.group(i);
+                keep_listed(group.members(), to);
+            }
+        }
+    }
+
+    /// Puts the places other than u in that have something, where u lacks something of q·w.
+    fn put_some(&self, q: i128, x: &[i128], u: usize, to: &mut Set)
+        requires factor { IsFactor q }
+        requires small { All IsEntry x.now }
+        requires from { u < length x.now }
+        requires room_for_answer { length to.old ≡ length x.now }
+        ensures places { length to.new ≡ length to.old }
+        ensures some { (v : ℕ) → v < length x.now → Has to.new v ↔ ((v ≢ u) × (slice_index_or x.now u (pos 0) <ℤ (q *ℤ self.now.w)) × (pos 1 ≤ℤ slice_index_or x.now v (pos 0))) }
+    {
+        let lacks = x[u] < product(q, self.w);
+        for (v, a) in x.iter().enumerate() {
+            put(to, v, is_other_some(v, u, lacks, *a));
+        }
+    }
+
+    /// Writes the places other than u to which u has room at a base: those that have something and are in each group that
+    /// has u and lacks nothing, where u lacks something of q·w.
+    pub fn reach_of(&self, q: i128, x: &[i128], u: usize, to: &mut Set)
+        requires factor { IsFactor q }
+        requires entries { length x.now ≡ length self.now.places }
+        requires small { All IsEntry x.now }
+        requires base { IsBase (times q (laminar_value (length self.now.places) self.now.w self.now.groups)) x.now }
+        requires from { u < length x.now }
+        requires room_for_answer { length to.old ≡ length x.now }
+        ensures places { length to.new ≡ length to.old }
+        ensures reached { IsReach (times q (laminar_value (length self.now.places) self.now.w self.now.groups)) x.now u to.new }
+    {
+        self.put_some(q, x, u, to);
+        self.keep_full(q, x, u, to);
+    }
+}
+
+impl Term for Laminar {
+    type Note = ();
+
+    ghost places = { λ s. s.places };
+
+    ghost value_of = { λ s. laminar_value (length s.places) s.w s.groups };
+
+    ghost size_of = { λ s. laminar_size (length s.places) s.w s.groups };
+
+    ghost start_of = { λ s q. laminar_start (length s.places) q s.w s.groups };
+
+    ghost fits = { λ s note q x. Unit {0} };
+
+    ghost family = { λ s. laminar-family (length s.places) s.w s.groups };
+
+    ghost submodular = { λ s. laminar-submodular (length s.places) s.w s.groups s.low s.grouped };
+
+    ghost bounded = { λ s t a h e. laminar-bounded (length s.places) s.w s.groups s.low s.grouped t a h e };
+
+    ghost starts = { λ s q low. laminar-starts (length s.places) s.w s.groups s.low s.grouped q low };
+
+    ghost starts_small = { λ s q low. laminar-starts_small (length s.places) s.w s.groups s.low s.grouped q low };
+
+    fn elements(&self) -> &[usize] {
+        self.places.as_slice()
+    }
+
+    fn size(&self) -> i128 {
+        self.most()
+    }
+
+    fn value(&self, alloc: Global, s: &Set) -> Result<Option<i128>, Memory> {
+        let rank = self.rank(alloc, s)?;
+        Ok(Some(self.ranked(rank)))
+    }
+
+    fn start(&self, _alloc: Global, q: i128, x: &mut [i128]) -> Result<(), Memory> {
+        self.start_of(q, x);
+        Ok(())
+    }
+
+    fn is_base(&self, _alloc: Global, q: i128, x: &[i128]) -> Result<bool, Memory> {
+        Ok(self.is_base_of(q, x))
+    }
+
+    fn room(
+        &self,
+        _alloc: Global,
+        q: i128,
+        x: &[i128],
+        u: usize,
+        v: usize,
+    ) -> Result<Room, Memory> {
+        Ok(self.room_of(q, x, u, v))
+    }
+
+    fn reach(
+        &self,
+        _alloc: Global,
+        q: i128,
+        x: &[i128],
+        u: usize,
+        to: &mut Set,
+    ) -> Result<(), Memory> {
+        self.reach_of(q, x, u, to);
+        Ok(())
+    }
+
+    fn note(&self, _alloc: Global, _q: i128, _x: &[i128]) -> Result<(), Memory> {
+        Ok(())
+    }
+
+    fn reach_by(
+        &self,
+        _alloc: Global,
+        q: i128,
+        x: &[i128],
+        _note: &(),
+        u: usize,
+        to: &mut Set,
+    ) -> Result<(), Memory> {
+        self.reach_of(q, x, u, to);
+        Ok(())
+    }
+
+    fn moved(
+        &self,
+        _alloc: Global,
+        _q: i128,
+        _x: &[i128],
+        _note: &mut (),
+        _u: usize,
+        _v: usize,
+        _a: i128,
+    ) -> Result<(), Memory> {
+        Ok(())
+    }
+}

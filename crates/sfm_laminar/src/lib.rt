@@ -1,0 +1,16 @@
+// Weighted ranks of laminar matroids as terms: groups of elements, of which any two are apart or one holds the other, each
+// with a cap on how many of its members may be independent together.
+#![tactic(auto)]
+
+mod crossing;
+pub mod groups;
+mod growing;
+pub mod laminar;
+mod number;
+mod place;
+
+pub use groups::{CappedGroup, Groups};
+pub use laminar::{Laminar, LaminarEnd};
+
+#[cfg(test)]
+mod tests;
