@@ -1,0 +1,25 @@
+-- What a turn of the search finds.
+use Rattle.std.specs.Prelude.{◌≡◌, ℕ, Bool, List, ℤ}
+use Rattle.std.specs.List.{All}
+use Rattle.sfm_spec.specs.Bounds.{IsEntry}
+use Rattle.sfm_spec.specs.Families.{Meaning, AreBases, IsLeast, IsGreatest, Prove, even_shift, sized_shift}
+use Rattle.sfm_slope.specs.declared.turn.Extremes.{Extremes}
+use Rattle.sfm_slope.specs.declared.turn.Turn.{Turn}
+use Rattle.sfm_slope.specs.declared.turn.Turn.TheVariants.{Next, Between}
+use Rattle.sfm_slope.specs.Marks.{HasBases}
+use Rattle.sfm_slope.specs.Worths.{IsWorth}
+use Rattle.sfm_slope.specs.Gaps.{IsGap}
+
+-- bases that prove at a slope, and the extreme minimisers there
+pub record AreExtremes (terms : List Meaning) (n : ℕ) (p q : ℤ) (r : Extremes) : Type 0 where
+  pub bases : AreBases q terms r.bases
+  pub small : All (λ x. All IsEntry x) r.bases
+  pub proves : Prove terms n q (even_shift n p) r.bases
+  pub least : IsLeast terms n q (even_shift n p) r.least
+  pub greatest : IsGreatest terms n q (even_shift n p) r.greatest
+
+-- the breakpoint at which the lower set is the least minimiser and the higher one the greatest, or a set strictly between
+abbrev pub IsTurn : List Meaning → ℕ → List ℤ → List Bool → List Bool → Turn → Type 0
+IsTurn terms n sizes low high (Next b) = IsLeast terms n b.slope.den (sized_shift sizes b.slope.num) low
+    × IsGreatest terms n b.slope.den (sized_shift sizes b.slope.num) b.set × (b.set ≡ high) × HasBases terms n b
+IsTurn terms n sizes low high (Between mid) = IsGap terms n sizes low mid.set × IsGap terms n sizes mid.set high × IsWorth terms mid

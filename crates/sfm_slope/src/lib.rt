@@ -1,0 +1,11 @@
+// Every breakpoint of the principal partition of a sum: the slopes at which there are two or more minimisers, in order,
+// each with its greatest minimiser and with bases that prove there.
+#![tactic(auto)]
+
+mod breakpoints;
+#[cfg(test)]
+mod tests;
+mod turn;
+mod worth;
+
+pub use breakpoints::partition;

@@ -1,0 +1,99 @@
+// One turn of the search for breakpoints between two sets, the lower of which is the set of the breakpoint before, or
+// empty. At the slope at which both sets are worth as much, the least minimiser is either the lower set: then the slope
+// is the next breakpoint, and the higher set is the greatest minimiser there. Or it lies strictly between them, and the
+// breakpoints are those below it and those above it.
+ghost use Rattle.std.specs.Prelude.{◌<◌, ◌≤◌, ◌^◌, length, map, pos, ◌-ℤ◌, IfOk};
+ghost use Rattle.sfm_spec.specs.Bounds.{AreBounded, IsAtMost, IsGiven};
+ghost use Rattle.sfm_spec.specs.Families.{meanings};
+ghost use Rattle.sfm_spec.specs.Slopes.{IsSameSlope};
+ghost use Rattle.sfm_slope.specs.Gaps.{IsBegun, IsGap};
+ghost use Rattle.sfm_slope.specs.Marks.{ones};
+ghost use Rattle.sfm_slope.specs.Worths.{IsWorth};
+ghost use Rattle.sfm_slope.specs.Turns.{AreExtremes, IsTurn};
+
+use crate::worth::{Worth, worth_of};
+use sfm_base::{Memory, Rows, Set, Slope};
+use sfm_extreme::{Certified, certify};
+use sfm_law::{Break, Term};
+use sfm_walk::minimise;
+use std::alloc::Global;
+
+// What a turn finds.
+#[derive(Drop)]
+pub enum Turn {
+    // The next breakpoint above the lower set; its set is the higher one.
+    Next(Break),
+    // A set strictly between.
+    Between(Worth),
+}
+
+// Bases that prove at a slope, with the least and the greatest minimiser there.
+#[derive(Drop)]
+pub struct Extremes {
+    pub bases: Rows,
+    pub least: Set,
+    pub greatest: Set,
+}
+
+// Looks at the slope at which both sets are worth as much.
+pub fn take_turn<T: Term>(
+    alloc: Global,
+    terms: &[T],
+    n: usize,
+    low: &Worth,
+    high: &Worth,
+) -> Result<Turn, Memory>
+    requires bounded { AreBounded n (map T.places terms.now) (map T.size_of terms.now) }
+    requires begun { IsBegun (meanings T.places T.value_of terms.now) n (ones n) low.now.set }
+    requires gap { IsGap (meanings T.places T.value_of terms.now) n (ones n) low.now.set high.now.set }
+    requires low_worth { IsWorth (meanings T.places T.value_of terms.now) low.now }
+    requires high_worth { IsWorth (meanings T.places T.value_of terms.now) high.now }
+    ensures { IfOk result (IsTurn (meanings T.places T.value_of terms.now) n (ones n) low.now.set high.now.set) }
+{
+    let slope = slope_between(low, high);
+    let found = extremes_at(alloc, terms, n, slope)?;
+    if found.least.size() == low.size {
+        return Ok(Turn::Next(Break {
+            slope,
+            set: found.greatest,
+            bases: found.bases,
+        }));
+    }
+    let between = worth_of(alloc, terms, found.least)?;
+    Ok(Turn::Between(between))
+}
+
+// The slope at which both sets are worth as much.
+pub fn slope_between(low: &Worth, high: &Worth) -> Slope
+    requires larger { low.now.size < high.now.size }
+    requires few { high.now.size ≤ 256 }
+    requires low_small { IsGiven low.now.sum }
+    requires high_small { IsGiven high.now.sum }
+    ensures { IsSameSlope (high.now.sum -ℤ low.now.sum) (pos high.now.size -ℤ pos low.now.size) result.num result.den }
+{
+    let rise = high.sum - low.sum;
+    let width = (high.size - low.size) as i128;
+    Slope::new(rise, width)
+}
+
+// Bases from the start vectors that prove at the slope, and the extreme minimisers there.
+fn extremes_at<T: Term>(
+    alloc: Global,
+    terms: &[T],
+    n: usize,
+    slope: Slope,
+) -> Result<Extremes, Memory>
+    requires bounded { AreBounded n (map T.places terms.now) (map T.size_of terms.now) }
+    requires small { IsAtMost (10 ^ 24) slope.num }
+    ensures { IfOk result (AreExtremes (meanings T.places T.value_of terms.now) n slope.num slope.den) }
+{
+    let optimum = minimise(alloc, terms, n, slope.num, slope.den)?;
+    match certify(alloc, terms, n, slope.num, slope.den, &optimum.bases)? {
+        Certified::Proved(proved) => Ok(Extremes {
+            bases: optimum.bases,
+            least: proved.least,
+            greatest: proved.greatest,
+        }),
+        Certified::NotOptimal { .. } => unreachable!(),
+    }
+}

@@ -1,0 +1,80 @@
+// A set of the ground with its size and what it is worth, kept together so that neither is ever computed twice. The value
+// of a term is asked for at the part of the set in the term; the sizes of all terms add to at most 10^18, so no sum of
+// values exceeds that.
+ghost use Rattle.std.specs.Prelude.{◌≡◌, ℕ, ◌<◌, length, map, pos, unwrap_or, slice_index, IfOk};
+ghost use Rattle.sfm_spec.specs.Bounds.{AreBounded, IsGiven};
+ghost use Rattle.sfm_spec.specs.Sets.{part, whole_set};
+ghost use Rattle.sfm_spec.specs.Families.{meanings, sum_at, IsAllowed};
+ghost use Rattle.sfm_slope.specs.Worths.{IsWorth};
+
+use sfm_base::{Memory, Set};
+use sfm_law::Term;
+use std::alloc::Global;
+
+// An allowed set, with how many places are in it and the sum of all terms there.
+#[derive(Drop)]
+pub struct Worth {
+    pub set: Set,
+    pub size: usize,
+    pub sum: i128,
+}
+
+// The set with what it is worth.
+pub fn worth_of<T: Term>(alloc: Global, terms: &[T], set: Set) -> Result<Worth, Memory>
+    requires bounded { AreBounded (length set) (map T.places terms.now) (map T.size_of terms.now) }
+    requires allowed { IsAllowed (meanings T.places T.value_of terms.now) set }
+    ensures same { IfOk result (λ r. r.set ≡ set) }
+    ensures worth { IfOk result (IsWorth (meanings T.places T.value_of terms.now)) }
+{
+    let size = set.size();
+    let sum = sum_of(alloc, terms, &set)?;
+    Ok(Worth { set, size, sum })
+}
+
+// The sum of all terms at a set.
+fn sum_of<T: Term>(alloc: Global, terms: &[T], set: &Set) -> Result<i128, Memory>
+    requires bounded { AreBounded (length set.now) (map T.places terms.now) (map T.size_of terms.now) }
+    ensures value { IfOk result (λ r. r ≡ sum_at (meanings T.places T.value_of terms.now) set.now) }
+    ensures small { IfOk result IsGiven }
+{
+    let mut sum = 0;
+    for term in terms {
+        sum += value_at(alloc, term, set)?;
+    }
+    Ok(sum)
+}
+
+// The value of a term at a set, or 0 where the term does not allow its part.
+fn value_at<T: Term>(alloc: Global, term: &T, set: &Set) -> Result<i128, Memory>
+    requires placed { (j : ℕ) → j < length (T.places term.now) → slice_index (T.places term.now) j < length set.now }
+    ensures { IfOk result (λ r. r ≡ unwrap_or (T.value_of term.now (part (T.places term.now) set.now)) (pos 0)) }
+{
+    let part = part_of(alloc, term.elements(), set)?;
+    let value = term.value(alloc, &part)?;
+    Ok(value.unwrap_or(0))
+}
+
+// The part of a set at the places of a term.
+fn part_of(alloc: Global, places: &[usize], set: &Set) -> Result<Set, Memory>
+    requires placed { (j : ℕ) → j < length places.now → slice_index places.now j < length set.now }
+    ensures { IfOk result (λ r. r ≡ part places.now set.now) }
+{
+    let mut part = Set::empty(alloc, places.len())?;
+    for (j, place) in places.iter().enumerate() {
+        if set.contains(*place) {
+            part.insert(j);
+        }
+    }
+    Ok(part)
+}
+
+// The whole ground of n places.
+pub fn whole_ground(alloc: Global, n: usize) -> Result<Set, Memory>
+    ensures { IfOk result (λ r. r ≡ whole_set n) }
+{
+    let mut whole = Set::empty(alloc, n)?;
+    for e in 0..n {
+        whole.insert(e);
+    }
+    Ok(whole)
+}
