@@ -2,7 +2,10 @@ pub mod Differing
 pub mod BlockOrder
 pub mod OneBlocks
 pub mod Forming
+pub mod Following
+pub mod SlopeFacts
 pub mod OneToOne
 pub mod WrongLines
 pub mod Small
+pub mod AllSlopes
 pub mod Telling

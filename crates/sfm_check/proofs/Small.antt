@@ -11,7 +11,7 @@ use Rattle.sfm_kind.specs.declared.kind.Kind.{Kind}
 use Rattle.sfm_kind.specs.Instance.{AreInBounds}
 use Rattle.sfm_kind.specs.Kinds.{kind_places, kind_size, kind_value, kind-bounded}
 
-sum_small : (ts : List Kind) (s : List Bool) → IsAllowed (meanings kind_places kind_value ts) s
+pub sum_small : (ts : List Kind) (s : List Bool) → IsAllowed (meanings kind_places kind_value ts) s
     → (neg_ℤ (total_of (map kind_size ts)) ≤ℤ sum_at (meanings kind_places kind_value ts) s) × (sum_at (meanings kind_places kind_value ts) s ≤ℤ total_of (map kind_size ts))
 sum_small [] s allowed = (omega (arith, ints), omega (arith, ints))
 sum_small (t ∷ ts) s allowed =

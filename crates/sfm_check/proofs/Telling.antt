@@ -1,16 +1,17 @@
 -- A verdict that tells what was found of an answer is `valid` exactly where the text is right, and else names its first fault.
-use Rattle.std.proofs.Common.{◌≡◌, ◌↔◌, ℕ, ◌<◌, ◌≤◌, ◌^◌, List, [], ◌∷◌, length, get_or, pos, sym, ap, ◌∙◌, arith, subst}
+use Rattle.std.proofs.Common.{◌≡◌, ◌↔◌, ℕ, ◌<◌, ◌≤◌, ◌^◌, List, [], ◌∷◌, length, map, get_or, pos, sym, ap, ◌∙◌, arith, subst}
 use Rattle.std.specs.List.{All}
 use Rattle.std.proofs.lemmas.List.{length-append}
 use Rattle.std.proofs.lemmas.List.Elements.{All-from_get_or}
-use Rattle.sfm_spec.specs.Families.{Meaning, even_shift, shifted_at}
+use Rattle.sfm_spec.specs.Families.{AreTerms, Meaning, even_shift, shifted_at}
+use Rattle.sfm_spec.proofs.Breakpoints.{breakpoints_unique}
 use Rattle.sfm_spec.proofs.Nest.{same_least, same_greatest}
 use Rattle.sfm_spec.proofs.Walks.{bases-at}
 use Rattle.sfm_kind.specs.Names.{AreElementNames}
-use Rattle.sfm_cert.specs.Answer.{Answer, Form, answer_lines, text_of}
+use Rattle.sfm_cert.specs.Answer.{Answer, Form, mark_of, answer_lines, text_of}
 use Rattle.sfm_cert.specs.Grammar.{IsAnswerText, IsLine, answer_limit}
 use Rattle.sfm_cert.proofs.OneAnswer.{one_answer}
-use Rattle.sfm_check.specs.Truth.{IsProvedSection, IsRightFile, IsTrueHead, no_section, section_at, sections_of}
+use Rattle.sfm_check.specs.Truth.{ones, IsProvedSection, IsRightFile, IsTrueHead, no_section, section_at, sections_of}
 use Rattle.sfm_check.specs.declared.verdicts.Wrong.TheVariants.{Long, Grammar, Base, Unproved, Answer as AnswerLine}
 use Rattle.sfm_check.specs.declared.verdicts.Verdict.{Verdict}
 use Rattle.sfm_check.specs.declared.verdicts.Verdict.TheVariants.{Valid, Invalid}
@@ -18,7 +19,8 @@ use Rattle.sfm_check.specs.Verdict.{AllAreProved, IsFirstNoBase, IsFirstUnproved
 use Rattle.sfm_check.specs.Findings.{IsFound}
 use Rattle.sfm_check.proofs.Forming.{few_lines}
 use Rattle.sfm_check.proofs.OneBlocks.{one_blocks}
-use Rattle.sfm_check.proofs.WrongLines.{line_due}
+use Rattle.sfm_check.proofs.Following.{sized_ones, small_ones}
+use Rattle.sfm_check.proofs.WrongLines.{line_due, slope_lines-same}
 
 -- a text has a byte for each line
 length-text : (lines : List (List ℕ)) → length lines ≤ length (text_of lines)
@@ -31,7 +33,7 @@ at_most a b c l k = omega arith
 pub few_by_text : (form : Form) (text : List ℕ) (a : Answer) → IsAnswerText form text a → length text ≤ answer_limit → length (answer_lines form a) ≤ answer_limit
 few_by_text form text a t l = at_most (length (answer_lines form a)) (length (text_of (answer_lines form a))) answer_limit (length-text (answer_lines form a)) (subst (λ (z : List ℕ). length z ≤ answer_limit) t.written l)
 
-module _ (form : Form) (terms : List Meaning) (text : List ℕ) (a : Answer) (clean : IsLine form.header) (fine : AreElementNames form.names) (is_text : IsAnswerText form text a) (short : length text ≤ answer_limit) where
+module _ (form : Form) (terms : List Meaning) (text : List ℕ) (a : Answer) (clean : IsLine form.header) (fine : AreElementNames form.names) (fit : AreTerms (length form.names) terms) (is_text : IsAnswerText form text a) (short : length text ≤ answer_limit) where
   right : IsTrueHead terms (length form.names) a → AllAreProved terms (length form.names) a → IsRightFile form terms text
   right head proved = record { answer = a; is_text = is_text; head = head; sections = All-from_get_or (IsProvedSection terms (length form.names)) (sections_of a) no_section proved }
 
@@ -67,8 +69,9 @@ module _ (form : Form) (terms : List Meaning) (text : List ℕ) (a : Answer) (cl
       let greatest = same_greatest terms n (pos 1) zero' x.greatest y.greatest hx.greatest hy.greatest in
       let value : x.value ≡ y.value = hx.value ∙ (ap (shifted_at terms (pos 1) zero') least ∙ sym hy.value) in
       let blocks = one_blocks terms n (pos 1) zero' x.blocks y.blocks hx.blocks hy.blocks in
-      let breaks : x.breaks ≡ y.breaks = hx.breaks ∙ sym hy.breaks in
-      cc (value, least, greatest, blocks, breaks)
+      let marks = breakpoints_unique terms n (ones n) fit (sized_ones n) (small_ones n) (map mark_of x.breaks) (map mark_of y.breaks) hx.breaks hy.breaks in
+      let slopes = slope_lines-same form.names x.breaks y.breaks marks in
+      cc (value, least, greatest, blocks, slopes)
 
   no_line : (line : ℕ) → IsFirstWrong form terms a line → IsRightFile form terms text → ⊥
   no_line line w r =

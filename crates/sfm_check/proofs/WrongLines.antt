@@ -1,18 +1,22 @@
 -- The first line of an answer that is not the due one, by what it says.
-use Rattle.std.proofs.Common.{◌≡◌, ◌≢◌, ◌⊎◌, inl, inr, ℕ, zero, suc, ◌+◌, ◌<◌, ◌≤◌, ◌^◌, List, [], ◌∷◌, ◌++◌, length, get_or, ℤ, pos, nat_abs, refl, sym, ap, ◌∙◌, arith, subst, append_assoc, codes}
+use Rattle.std.proofs.Common.{◌≡◌, ◌≢◌, ◌⊎◌, inl, inr, ℕ, zero, suc, ◌+◌, ◌<◌, ◌≤◌, ◌^◌, List, [], ◌∷◌, ◌++◌, length, map, get_or, ℤ, pos, nat_abs, refl, sym, ap, ◌∙◌, arith, subst, append_assoc, codes}
 use Rattle.std.proofs.lemmas.List.{get_or_append_left, length-append}
 use Rattle.std.specs.Fmt.{signed_decimal}
 use Rattle.sfm_base.specs.NumberText.{IsNumber}
 use Rattle.sfm_base.proofs.NumberText.{number_of_text, one_value}
 use Rattle.sfm_spec.specs.Blocks.{Block, block_at}
 use Rattle.sfm_kind.specs.Names.{AreElementNames}
-use Rattle.sfm_cert.specs.Answer.{Answer, Break, Form, answer_lines, at_line, base_lines, block_line, block_lines, break_lines, listed, slope_line, slope_lines}
+use Rattle.sfm_cert.specs.Answer.{Answer, Break, Form, answer_lines, at_line, base_lines, block_line, block_lines, break_lines, listed, mark_of, slope_line, slope_lines, slope_text}
 use Rattle.sfm_cert.specs.Form.{IsFormedBlock}
 use Rattle.sfm_check.specs.Verdict.{due_lines}
 use Rattle.sfm_check.specs.Findings.{IsFirstUnlike, IsWrongLine}
 use Rattle.sfm_check.proofs.Forming.{length-block_lines, length-slope_lines}
 use Rattle.sfm_cert.proofs.Unique.{listed-same}
-use Rattle.sfm_check.proofs.OneToOne.{block_line-same}
+use Rattle.sfm_check.proofs.OneToOne.{IsPlainMark, block_line-same, slope_line-apart}
+use Rattle.sfm_spec.specs.Laws.{Mark}
+use Rattle.sfm_spec.specs.Search.{mark_at}
+use Rattle.std.specs.List.{All}
+use Rattle.std.proofs.lemmas.List.Elements.{All-head}
 
 -- what stands behind the greatest minimiser
 abbrev pub later_lines : Form → Answer → List (List ℕ)
@@ -143,16 +147,99 @@ module _ (form : Form) (a t : Answer) where
     clash e (inr (inl (ka, kt))) = no_block_line form.names (k + 1) (block_at t.blocks k) a.breaks (sym (later_block form t k kt) ∙ (sym e ∙ later_end form a k ka))
     clash e (inr (inr (ka, kt))) = no_block_line form.names (k + 1) (block_at a.blocks k) t.breaks (sym (later_block form a k ka) ∙ (e ∙ later_end form t k kt))
 
-  pub wrong_slope : a.value ≡ t.value → a.least ≡ t.least → a.greatest ≡ t.greatest → a.blocks ≡ t.blocks → a.breaks ≢ [] → t.breaks ≡ [] → IsWrongLine form a t (5 + length a.blocks)
-  wrong_slope value least greatest blocks some none = record {
-    at = suc (suc (suc (suc (length a.blocks))));
-    is_due = let c = ap length blocks in omega (arith, c, length-later form t);
-    line_is = omega arith;
-    wrong = λ e. clash a.breaks t.breaks some none
-        (sym (later_end form a (length a.blocks) refl) ∙ (sym (line_later form a (length a.blocks) (omega (arith, length-later form a))) ∙ (e ∙ later_end form t (length a.blocks) (ap length blocks))));
-    before = same_before value least greatest (length a.blocks) (omega arith) (let c = ap length blocks in omega (arith, c)) (λ j l. ap (λ z. block_at z j) blocks);
-  } where
-    clash : (x y : List Break) → x ≢ [] → y ≡ [] → first_later form.names x ≡ first_later form.names y → ⊥
-    clash [] y ne e f = ne refl
-    clash (b ∷ x) [] ne e f = let g : 115 ≡ 97 = ap (λ z. get_or z 0 0) f in omega (arith, g)
-    clash (b ∷ x) (c ∷ y) ne e f = cc
+-- ---- slopes
+
+-- the line of a slope
+mark_line : List (List ℕ) → Mark → List ℕ
+mark_line names m = codes "slope " ++ slope_text m.num m.den ++ listed names m.members
+
+mark_lines : List (List ℕ) → List Mark → List (List ℕ)
+mark_lines names [] = []
+mark_lines names (m ∷ marks) = mark_line names m ∷ mark_lines names marks
+
+slope_lines-marks : (names : List (List ℕ)) (breaks : List Break) → slope_lines names breaks ≡ mark_lines names (map mark_of breaks)
+unfolding mark_line mark_lines
+slope_lines-marks names [] = refl
+slope_lines-marks names (b ∷ breaks) = ap (λ z. slope_line names b ∷ z) (slope_lines-marks names breaks)
+
+-- the lines of slopes are those of their marks
+pub slope_lines-same : (names : List (List ℕ)) (x y : List Break) → map mark_of x ≡ map mark_of y → slope_lines names x ≡ slope_lines names y
+slope_lines-same names x y e = slope_lines-marks names x ∙ (ap (mark_lines names) e ∙ sym (slope_lines-marks names y))
+
+mark_lines-append : (names : List (List ℕ)) (xs ys : List Mark) → mark_lines names (xs ++ ys) ≡ mark_lines names xs ++ mark_lines names ys
+unfolding mark_lines
+mark_lines-append names [] ys = refl
+mark_lines-append names (x ∷ xs) ys = ap (λ z. mark_line names x ∷ z) (mark_lines-append names xs ys)
+
+length-mark_lines : (names : List (List ℕ)) (marks : List Mark) → length (mark_lines names marks) ≡ length marks
+unfolding mark_lines
+length-mark_lines names [] = refl
+length-mark_lines names (m ∷ marks) = ap suc (length-mark_lines names marks)
+
+-- the lines from some slope on
+tail_lines : List (List ℕ) → List Mark → List (List ℕ)
+tail_lines names rest = mark_lines names rest ++ at_line (pos 0) (pos 1) ∷ []
+
+-- the lines before it
+front_lines : Form → Answer → List Mark → List (List ℕ)
+front_lines form a front = form.header ∷ (codes "minimum " ++ signed_decimal a.value) ∷ (codes "least" ++ listed form.names a.least) ∷ (codes "greatest" ++ listed form.names a.greatest)
+    ∷ (block_lines form.names 1 a.blocks ++ mark_lines form.names front)
+
+due_parts : (form : Form) (a : Answer) (front rest : List Mark) → map mark_of a.breaks ≡ front ++ rest → due_lines form a ≡ front_lines form a front ++ tail_lines form.names rest
+unfolding front_lines tail_lines
+due_parts form a front rest e =
+    let s : slope_lines form.names a.breaks ≡ mark_lines form.names front ++ mark_lines form.names rest = slope_lines-marks form.names a.breaks ∙ (ap (mark_lines form.names) e ∙ mark_lines-append form.names front rest) in
+    let f : List (List ℕ) → List (List ℕ) = λ z. form.header ∷ (codes "minimum " ++ signed_decimal a.value) ∷ (codes "least" ++ listed form.names a.least) ∷ (codes "greatest" ++ listed form.names a.greatest) ∷ z in
+    ap f (ap (λ z. (block_lines form.names 1 a.blocks ++ z) ++ at_line (pos 0) (pos 1) ∷ []) s ∙ regroup (block_lines form.names 1 a.blocks) (mark_lines form.names front) (mark_lines form.names rest) (at_line (pos 0) (pos 1) ∷ [])) where
+      regroup : (b f r o : List (List ℕ)) → (b ++ (f ++ r)) ++ o ≡ (b ++ f) ++ (r ++ o)
+      regroup b f r o = simp append_assoc
+
+length-front : (form : Form) (a : Answer) (front : List Mark) → length (front_lines form a front) ≡ suc (suc (suc (suc (length a.blocks + length front))))
+unfolding front_lines
+length-front form a front =
+    let l = length-append (block_lines form.names 1 a.blocks) (mark_lines form.names front) in
+    omega (arith, l, length-block_lines form.names 1 a.blocks, length-mark_lines form.names front)
+
+-- two lists that begin alike
+alike_before : (xs ys p u v : List (List ℕ)) → xs ≡ p ++ u → ys ≡ p ++ v → (i : ℕ) → i < length p → get_or xs i [] ≡ get_or ys i []
+alike_before xs ys p u v ex ey i l = ap (λ z. get_or z i []) ex ∙ (get_or_append_left p u [] i l ∙ sym (ap (λ z. get_or z i []) ey ∙ get_or_append_left p v [] i l))
+
+then_at : (xs p u : List (List ℕ)) → xs ≡ p ++ u → (i : ℕ) → i ≡ length p → get_or xs i [] ≡ get_or u 0 []
+then_at xs p u e i is = ap (λ z. get_or z i []) e ∙ get_or-behind p u i is
+
+first_tail : (names : List (List ℕ)) (given rest : List Mark) → AreElementNames names → All (IsPlainMark names) given → All (IsPlainMark names) rest
+    → ((0 < length given) × ((0 < length rest) × (mark_at rest 0 ≡ mark_at given 0) → ⊥)) ⊎ ((given ≡ []) × (rest ≢ [])) → get_or (tail_lines names given) 0 [] ≡ get_or (tail_lines names rest) 0 [] → ⊥
+unfolding tail_lines mark_lines mark_line
+first_tail names [] rest fine pg pr (inl (l, other)) e = omega (arith, l)
+first_tail names [] [] fine pg pr (inr (none, some)) e = some refl
+first_tail names [] (r ∷ rest) fine pg pr (inr (none, some)) e = let f : 97 ≡ 115 = ap (λ z. get_or z 0 0) e in omega (arith, f)
+first_tail names (g ∷ given) [] fine pg pr o e = let f : 115 ≡ 97 = ap (λ z. get_or z 0 0) e in omega (arith, f)
+first_tail names (g ∷ given) (r ∷ rest) fine pg pr (inl (l, other)) e =
+    other (omega arith, sym (slope_line-apart names g r fine (All-head (IsPlainMark names) g given pg) (All-head (IsPlainMark names) r rest pr) e))
+first_tail names (g ∷ given) (r ∷ rest) fine pg pr (inr (none, some)) e = cc
+
+tail_some : (names : List (List ℕ)) (rest : List Mark) → 0 < length (tail_lines names rest)
+unfolding tail_lines
+tail_some names rest = omega (arith, length-append (mark_lines names rest) (at_line (pos 0) (pos 1) ∷ []))
+
+same_front_lines : (form : Form) (a t : Answer) (front : List Mark) → a.value ≡ t.value → a.least ≡ t.least → a.greatest ≡ t.greatest → a.blocks ≡ t.blocks → front_lines form a front ≡ front_lines form t front
+unfolding front_lines
+same_front_lines form a t front value least greatest blocks = cc
+
+pub wrong_slope : (form : Form) (a t : Answer) (k : ℕ) (front given rest : List Mark) → AreElementNames form.names → All (IsPlainMark form.names) given → All (IsPlainMark form.names) rest → a.value ≡ t.value → a.least ≡ t.least → a.greatest ≡ t.greatest → a.blocks ≡ t.blocks
+    → map mark_of a.breaks ≡ front ++ given → map mark_of t.breaks ≡ front ++ rest → k ≡ length front
+    → ((0 < length given) × ((0 < length rest) × (mark_at rest 0 ≡ mark_at given 0) → ⊥)) ⊎ ((given ≡ []) × (rest ≢ [])) → IsWrongLine form a t (5 + length a.blocks + k)
+wrong_slope form a t k front given rest fine pg pr value least greatest blocks ea et ek departs = record {
+  at = suc (suc (suc (suc (length a.blocks + k))));
+  is_due = let e = ap length (due_parts form t front rest et) in let p = length-append (front_lines form t front) (tail_lines form.names rest) in let b = ap length blocks in omega (arith, e, p, b, ek, length-front form t front, tail_some form.names rest);
+  line_is = omega arith;
+  wrong = λ e. first_tail form.names given rest fine pg pr departs
+      (sym (then_at (due_lines form a) (front_lines form a front) (tail_lines form.names given) (due_parts form a front given ea) (suc (suc (suc (suc (length a.blocks + k))))) (omega (arith, ek, length-front form a front)))
+      ∙ (sym (line_due form a (suc (suc (suc (suc (length a.blocks + k))))) (inside_a (suc (suc (suc (suc (length a.blocks + k))))) (omega (arith, ek)))) ∙ (e ∙ then_at (due_lines form t) (front_lines form a front) (tail_lines form.names rest) et' (suc (suc (suc (suc (length a.blocks + k))))) (omega (arith, ek, length-front form a front)))));
+  before = λ i l. line_due form a i (inside_a i (omega (arith, l, ek))) ∙ alike_before (due_lines form a) (due_lines form t) (front_lines form a front) (tail_lines form.names given) (tail_lines form.names rest) (due_parts form a front given ea) et' i (omega (arith, l, ek, length-front form a front));
+} where
+  inside_a : (i : ℕ) → i < suc (suc (suc (suc (length a.blocks + length front)))) + 1 → i < length (due_lines form a)
+  inside_a i l = let e = ap length (due_parts form a front given ea) in let p = length-append (front_lines form a front) (tail_lines form.names given) in omega (arith, l, e, p, length-front form a front, tail_some form.names given)
+
+  et' : due_lines form t ≡ front_lines form a front ++ tail_lines form.names rest
+  et' = due_parts form t front rest et ∙ ap (λ z. z ++ tail_lines form.names rest) (sym (same_front_lines form a t front value least greatest blocks))

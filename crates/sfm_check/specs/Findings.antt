@@ -1,5 +1,8 @@
 -- What the steps of a judgement find of an answer: of its rows, of its sections, and of what it says.
-use Rattle.std.specs.Prelude.{◌≡◌, ◌≢◌, ◌⊎◌, ℕ, ◌+◌, ◌<◌, ◌≤◌, List, [], length, slice_index_or, ℤ}
+use Rattle.std.specs.Prelude.{◌≡◌, ◌≢◌, ◌⊎◌, ℕ, zero, suc, ◌+◌, ◌<◌, ◌≤◌, Bool, List, [], length, slice_index_or, ℤ}
+use Rattle.sfm_spec.specs.Sets.{empty_set, size, whole_set}
+use Rattle.sfm_spec.specs.Laws.{Mark}
+use Rattle.sfm_spec.specs.Search.{mark_at}
 use Rattle.sfm_spec.specs.Terms.{times, IsBase}
 use Rattle.sfm_spec.specs.Families.{Meaning, IsLeast, IsGreatest, even_shift, shifted_at}
 use Rattle.sfm_spec.specs.Blocks.{Block, block_at}
@@ -58,13 +61,33 @@ pub record IsFirstUnlike (given due : List Block) (i : ℕ) : Type 0 where
   pub in_due : i ≤ length due
   pub unlike : ((i < length given) × (i < length due) × (block_at given i ≢ block_at due i)) ⊎ ((i ≡ length given) × (i < length due)) ⊎ ((i < length given) × (i ≡ length due))
 
--- the answer says the same
+-- the answer says the same but for the slopes
 pub record SaysTheSame (a truth : Answer) : Type 0 where
   pub value : a.value ≡ truth.value
   pub least : a.least ≡ truth.least
   pub greatest : a.greatest ≡ truth.greatest
   pub blocks : a.blocks ≡ truth.blocks
-  pub breaks : a.breaks ≡ []
+
+-- the set before slope k: that of the slope before, or the first set
+abbrev pub set_before : List Bool → List Mark → ℕ → List Bool
+set_before first marks zero = first
+set_before first marks (suc k) = (mark_at marks k).members
+
+-- the slope has the set before as its least minimiser, and a larger one as its greatest
+pub record IsNextSlope (terms : List Meaning) (n : ℕ) (before : List Bool) (mark : Mark) : Type 0 where
+  pub least : IsLeast terms n mark.den (even_shift n mark.num) before
+  pub greatest : IsGreatest terms n mark.den (even_shift n mark.num) mark.members
+  pub larger : size before < size mark.members
+
+-- each slope is the next one, and the last set is the whole
+pub record IsFullChain (terms : List Meaning) (n : ℕ) (marks : List Mark) : Type 0 where
+  pub each : (k : ℕ) → k < length marks → IsNextSlope terms n (set_before (empty_set n) marks k) (mark_at marks k)
+  pub ends : set_before (empty_set n) marks (length marks) ≡ whole_set n
+
+-- the first slope that is not the next one, or the number of them where one is missing
+pub record IsFirstWrongSlope (terms : List Meaning) (n : ℕ) (marks : List Mark) (k : ℕ) : Type 0 where
+  pub before : (j : ℕ) → j < k → IsNextSlope terms n (set_before (empty_set n) marks j) (mark_at marks j)
+  pub wrong : ((k < length marks) × (IsNextSlope terms n (set_before (empty_set n) marks k) (mark_at marks k) → ⊥)) ⊎ ((k ≡ length marks) × (set_before (empty_set n) marks k ≢ whole_set n))
 
 -- the first line of an answer that is not the due one
 pub record IsWrongLine (form : Form) (a truth : Answer) (line : ℕ) : Type 0 where

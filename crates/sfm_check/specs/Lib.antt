@@ -2,3 +2,4 @@ pub mod Truth
 pub mod Verdict
 pub mod Findings
 pub mod Due
+pub mod Before

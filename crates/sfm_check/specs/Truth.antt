@@ -1,19 +1,24 @@
 -- Which answers are true of a sum of terms, with bases that prove them; which texts are right.
-use Rattle.std.specs.Prelude.{◌≡◌, ℕ, List, [], ◌∷◌, map, length, slice_index_or, ℤ, pos}
+use Rattle.std.specs.Prelude.{◌≡◌, ℕ, List, [], ◌∷◌, map, length, slice_index_or, replicate, ℤ, pos}
 use Rattle.std.specs.List.{All}
 use Rattle.sfm_spec.specs.Families.{Meaning, IsLeast, IsGreatest, AreBases, Prove, even_shift, shifted_at}
 use Rattle.sfm_spec.specs.Blocks.{AreBlocks}
-use Rattle.sfm_cert.specs.Answer.{Answer, Break, Form}
+use Rattle.sfm_spec.specs.Laws.{AreBreakpoints}
+use Rattle.sfm_cert.specs.Answer.{Answer, Break, Form, mark_of}
 use Rattle.sfm_cert.specs.Grammar.{IsAnswerText}
 
--- what the answer lines say is true: the least value, the extreme minimisers and the blocks that generate all of them.
--- No slope line is due yet
+-- each element counts one
+abbrev pub ones : ℕ → List ℤ
+ones n = replicate n (pos 1)
+
+-- what the answer lines say is true: the least value, the extreme minimisers, the blocks that generate all minimisers, and
+-- every slope with two or more minimisers, with the greatest
 pub record IsTrueHead (terms : List Meaning) (n : ℕ) (a : Answer) : Type 0 where
   pub least : IsLeast terms n (pos 1) (even_shift n (pos 0)) a.least
   pub greatest : IsGreatest terms n (pos 1) (even_shift n (pos 0)) a.greatest
   pub value : a.value ≡ shifted_at terms (pos 1) (even_shift n (pos 0)) a.least
   pub blocks : AreBlocks terms n (pos 1) (even_shift n (pos 0)) a.blocks
-  pub breaks : a.breaks ≡ []
+  pub breaks : AreBreakpoints terms n (ones n) (map mark_of a.breaks)
 
 -- a slope, and the bases that are to prove the minimum there
 pub record Section : Type 0 where

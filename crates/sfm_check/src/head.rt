@@ -1,8 +1,9 @@
-// What an answer says, against what is due: the least value, the extreme minimisers and the blocks, line by line.
-ghost use Rattle.std.specs.Prelude.{◌≡◌, ◌↔◌, ◌<◌, ◌≤◌, ℕ, [], length, map, IsTrue, IfOk, MatchOption};
+// What an answer says, against what is due: the least value, the extreme minimisers, the blocks and the slopes, line by line.
+ghost use Rattle.std.specs.Prelude.{◌≡◌, ◌↔◌, ◌<◌, ◌≤◌, ℕ, List, length, map, IsTrue, IfOk, MatchOption};
 ghost use Rattle.sfm_spec.specs.Bounds.{IsEntry};
 ghost use Rattle.sfm_spec.specs.Blocks.{block_at};
 ghost use Rattle.sfm_spec.specs.Families.{meanings};
+ghost use Rattle.sfm_spec.specs.Laws.{Mark};
 ghost use Rattle.sfm_kind.specs.Kinds.{kind_places, kind_value};
 ghost use Rattle.sfm_extreme.specs.Blocks.{block_of};
 ghost use Rattle.sfm_cert.specs.Form.{IsFormed, IsFormedBlock};
@@ -15,19 +16,13 @@ ghost use Rattle.sfm_check.specs.Verdict.{IsFirstWrong};
 ghost use Rattle.sfm_check.specs.Findings.{IsFirstUnlike, AreTold, IsWrongLine, SaysTheSame};
 ghost use Rattle.sfm_check.specs.Due.{due_answer};
 
-use sfm_base::{Memory, Set};
+use crate::chain::first_wrong_slope;
+use crate::same::are_same;
+use sfm_base::Memory;
 use sfm_cert::Solved;
 use sfm_extreme::{Block, Proved, blocks};
 use sfm_kind::Instance;
 use std::alloc::Global;
-
-/// Whether two sets have the same places.
-fn are_same(a: &Set, b: &Set) -> bool
-    requires { length a.now ≡ length b.now }
-    ensures { IsTrue result ↔ (a.now ≡ b.now) }
-{
-    a.is_within(b) && b.is_within(a)
-}
 
 /// Whether two blocks have the same places and needs.
 fn is_same_block(a: &Block, b: &Block) -> bool
@@ -54,7 +49,7 @@ fn first_unlike(given: &[Block], due: &[Block]) -> Option<usize>
     }
 }
 
-/// The first line of an answer that is not the due one, counted from 1. No slope line is due.
+/// The first line before those of slopes that is not the due one, counted from 1.
 fn first_wrong_line(
     instance: &Instance,
     solved: &Solved,
@@ -68,9 +63,9 @@ fn first_wrong_line(
     requires value { IsEntry found.now.value }
     requires named { AreElementNames instance.now.names }
     requires blocks { (i : ℕ) → i < length due.now → IsFormedBlock (length instance.now.names) i (block_at (map block_of due.now) i) }
-    ensures { MatchOption result
-        (SaysTheSame (answer_of solved.now) (due_answer found.now due.now))
-        (IsWrongLine (form_of instance.now) (answer_of solved.now) (due_answer found.now due.now)) }
+    ensures { (marks : List Mark) → MatchOption result
+        (SaysTheSame (answer_of solved.now) (due_answer found.now due.now marks))
+        (IsWrongLine (form_of instance.now) (answer_of solved.now) (due_answer found.now due.now marks)) }
 {
     if solved.value != found.value {
         return Some(2);
@@ -81,13 +76,8 @@ fn first_wrong_line(
     if !are_same(&solved.greatest, &found.greatest) {
         return Some(4);
     }
-    if let Some(i) = first_unlike(&solved.blocks, due) {
-        return Some(5 + i);
-    }
-    if solved.breaks.is_empty() {
-        return None;
-    }
-    Some(5 + solved.blocks.len())
+    let i = first_unlike(&solved.blocks, due)?;
+    Some(5 + i)
 }
 
 /// The first line of an answer that is not the due one, from what its sections tell.
@@ -106,5 +96,11 @@ pub fn first_wrong(
 {
     let n = instance.names_len();
     let due = blocks(alloc, instance.terms(), n, &solved.bases)?;
-    Ok(first_wrong_line(instance, solved, &found[0], &due))
+    if let Some(line) = first_wrong_line(instance, solved, &found[0], &due) {
+        return Ok(Some(line));
+    }
+    match first_wrong_slope(alloc, instance, solved, found)? {
+        Some(k) => Ok(Some(5 + solved.blocks.len() + k)),
+        None => Ok(None),
+    }
 }

@@ -4,6 +4,7 @@ ghost use Rattle.std.specs.Prelude.{◌↔◌, ◌≤◌, length, IfOk};
 ghost use Rattle.sfm_spec.specs.Families.{meanings};
 ghost use Rattle.sfm_kind.specs.Kinds.{kind_places, kind_value};
 ghost use Rattle.sfm_kind.specs.Names.{AreElementNames};
+ghost use Rattle.sfm_kind.specs.Instance.{AreInBounds};
 ghost use Rattle.sfm_cert.specs.Answer.{answer_lines};
 ghost use Rattle.sfm_cert.specs.Form.{IsFormed};
 ghost use Rattle.sfm_cert.specs.Grammar.{answer_limit};
@@ -21,11 +22,14 @@ use sfm_cert::{ANSWER_LIMIT, AnswerEnd, Solved, read_answer};
 use sfm_kind::Instance;
 use std::alloc::Global;
 
-/// The names of an instance differ and have a name's form, so that the texts of different answers differ.
-fn tell_names_apart(instance: &Instance)
-    ensures { AreElementNames instance.now.names }
+/// The names of an instance differ and have a name's form, so that the texts of different answers differ; its terms are
+/// within the bounds, so that their slopes have small numbers.
+fn tell_kept(instance: &Instance)
+    ensures named { AreElementNames instance.now.names }
+    ensures bounded { AreInBounds (length instance.now.names) instance.now.terms }
 {
     let _count = instance.names_len();
+    let _terms = instance.terms();
 }
 
 /// What is to be said of what a text says.
@@ -65,7 +69,7 @@ pub fn judge(alloc: Global, instance: &Instance, text: &[u8]) -> Result<Verdict,
     ensures valid { IfOk result (λ v. IsValid v ↔ (IsRightFile (form_of instance.now) (meanings kind_places kind_value instance.now.terms) text.now × (length text.now ≤ answer_limit))) }
     ensures told { IfOk result (IsTold (form_of instance.now) (meanings kind_places kind_value instance.now.terms) text.now) }
 {
-    tell_names_apart(instance);
+    tell_kept(instance);
     if text.len() > ANSWER_LIMIT {
         return Ok(Verdict::Invalid {
             line: 0,

@@ -2,8 +2,10 @@
 #![tactic(auto)]
 
 mod bases;
+mod chain;
 mod head;
 mod judging;
+mod same;
 mod sections;
 mod verdicts;
 

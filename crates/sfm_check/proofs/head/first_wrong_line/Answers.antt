@@ -1,17 +1,16 @@
-use Rattle.std.proofs.Common.{◌≡◌, ◌≢◌, ◌+◌, ◌<◌, ◌^◌, [], length, map, refl, sym, ap, ◌∙◌, arith, subst, ℤ, nat_abs, FitsSigned}
+use Rattle.std.proofs.Common.{◌≡◌, ◌≢◌, ◌<◌, ◌^◌, ap, arith, ℤ, nat_abs, FitsSigned}
 use Rattle.std.specs.Fmt.{signed_decimal}
-use Rattle.std.proofs.lemmas.Bool.{both_ways, eq-eqb}
+use Rattle.std.proofs.lemmas.Bool.{both_ways}
 use Rattle.std.proofs.lemmas.Int.{ints, to_z-of_z}
 use mir.Syntax.{w128}
 use mir.Val.{to_z, of_z}
 use Rattle.sfm_spec.specs.Bounds.{IsEntry}
 use Rattle.std.proofs.lemmas.List.{length-map}
 use Rattle.sfm_extreme.specs.Blocks.{block_of}
-use Rattle.sfm_cert.specs.Solved.{answer_of, break_of, form_of}
+use Rattle.sfm_cert.specs.Solved.{answer_of, form_of}
 use Rattle.sfm_check.specs.Due.{due_answer}
-use Rattle.sfm_check.specs.Findings.{IsWrongLine}
 use Rattle.sfm_check.proofs.Forming.{few_lines}
-use Rattle.sfm_check.proofs.WrongLines.{one_number, wrong_value, wrong_least, wrong_greatest, wrong_block, wrong_slope}
+use Rattle.sfm_check.proofs.WrongLines.{one_number, wrong_value, wrong_least, wrong_greatest, wrong_block}
 use Rattle.sfm_check.proofs.head.first_wrong_line.Goals as goal
 
 same_value : (a b : ℤ) → IsEntry a → IsEntry b → of_z w128 a ≡ of_z w128 b → a ≡ b
@@ -28,54 +27,33 @@ other_text a b ea eb ne e =
     ne (ap (of_z w128) (one_number a b la lb e))
 
 pub returns-then-solved-found : goal.returns-then-solved-found
-returns-then-solved-found c =
-    wrong_value (form_of c.args.instance.now) (answer_of c.args.solved.now) (due_answer c.args.found.now c.args.due.now)
+returns-then-solved-found c = λ marks.
+    wrong_value (form_of c.args.instance.now) (answer_of c.args.solved.now) (due_answer c.args.found.now c.args.due.now marks)
     (other_text c.args.solved.now.value c.args.found.now.value c.requires.formed.value c.requires.value c.if-solved-found.true)
 
 pub returns-then-not-are_same : goal.returns-then-not-are_same
-returns-then-not-are_same c =
-    wrong_least (form_of c.args.instance.now) (answer_of c.args.solved.now) (due_answer c.args.found.now c.args.due.now) c.requires.named c.requires.formed.least c.requires.least
+returns-then-not-are_same c = λ marks.
+    wrong_least (form_of c.args.instance.now) (answer_of c.args.solved.now) (due_answer c.args.found.now c.args.due.now marks) c.requires.named c.requires.formed.least c.requires.least
     (same_value c.args.solved.now.value c.args.found.now.value c.requires.formed.value c.requires.value c.if-solved-found.false)
     (λ e. both_ways c.are_same.result c.if-not-are_same.true (c.are_same.ensures.1 e))
 
 pub returns-then-not-are_same-2 : goal.returns-then-not-are_same-2
-returns-then-not-are_same-2 c =
-    wrong_greatest (form_of c.args.instance.now) (answer_of c.args.solved.now) (due_answer c.args.found.now c.args.due.now) c.requires.named c.requires.formed.greatest c.requires.greatest
+returns-then-not-are_same-2 c = λ marks.
+    wrong_greatest (form_of c.args.instance.now) (answer_of c.args.solved.now) (due_answer c.args.found.now c.args.due.now marks) c.requires.named c.requires.formed.greatest c.requires.greatest
     (same_value c.args.solved.now.value c.args.found.now.value c.requires.formed.value c.requires.value c.if-solved-found.false)
     (c.are_same.ensures.0 c.if-not-are_same.false)
     (λ e. both_ways c.are_same-2.result c.if-not-are_same-2.true (c.are_same-2.ensures.1 e))
 
-pub returns-in-Some : goal.returns-in-Some
-returns-in-Some c =
+pub returns : goal.returns
+returns c = λ marks.
     let lines = few_lines (form_of c.args.instance.now) (answer_of c.args.solved.now) in
     let most = c.requires.few in
-    let unlike = rw c.deref.ensures.value at c.in-Some.ensures in
-    wrong_block (form_of c.args.instance.now) (answer_of c.args.solved.now) (due_answer c.args.found.now c.args.due.now) c.requires.named c.requires.formed.blocks
+    let unlike = rw c.deref.ensures.value at c.in_ok-i.ensures in
+    wrong_block (form_of c.args.instance.now) (answer_of c.args.solved.now) (due_answer c.args.found.now c.args.due.now marks) c.requires.named c.requires.formed.blocks
     (λ i l. c.requires.blocks i (omega (arith, l, length-map c.args.due.now block_of)))
     (omega (arith, lines, most))
     (same_value c.args.solved.now.value c.args.found.now.value c.requires.formed.value c.requires.value c.if-solved-found.false)
     (c.are_same.ensures.0 c.if-not-are_same.false)
     (c.are_same-2.ensures.0 c.if-not-are_same-2.false)
-    c.in-Some.i
+    c.in_ok-i.i
     unlike
-
-pub returns : goal.returns
-returns c =
-    let a = answer_of c.args.solved.now in
-    let items = c.args.solved.now.breaks.items in
-    let count : c.len.result ≡ length a.blocks = c.len.ensures ∙ (c.args.solved.now.blocks.ok.0 ∙ sym (length-map c.args.solved.now.blocks.items block_of)) in
-    let empty = c.is_empty.ensures in
-    let full = c.if-is_empty.false in
-    let breaks = c.args.solved.now.breaks.ok.0 in
-    let some : a.breaks ≢ [] = (λ e. let z = ap length e in let l = length-map items break_of in both_ways c.is_empty.result full (empty ∙ eq-eqb c.args.solved.now.breaks.len 0 (omega (arith, z, l, breaks)))) in
-    let blocks : a.blocks ≡ map block_of c.args.due.now = rw c.deref.ensures.value at c.in_default.ensures in
-    subst
-    (λ k. IsWrongLine (form_of c.args.instance.now) a (due_answer c.args.found.now c.args.due.now) (5 + k))
-    (sym count)
-    (wrong_slope (form_of c.args.instance.now) a (due_answer c.args.found.now c.args.due.now)
-    (same_value c.args.solved.now.value c.args.found.now.value c.requires.formed.value c.requires.value c.if-solved-found.false)
-    (c.are_same.ensures.0 c.if-not-are_same.false)
-    (c.are_same-2.ensures.0 c.if-not-are_same-2.false)
-    blocks
-    some
-    refl)

@@ -1,9 +1,10 @@
-use Rattle.std.proofs.Common.{Result, Ok, Err}
+use Rattle.std.proofs.Common.{length, Result, Ok, Err}
 use Rattle.std.specs.Prelude.{IfOk}
 use Rattle.sfm_spec.specs.Families.{meanings}
 use Rattle.sfm_kind.specs.Kinds.{kind_places, kind_value}
 use Rattle.sfm_cert.specs.Solved.{answer_of, form_of}
 use Rattle.sfm_cert.proofs.BadLines.{header_line}
+use Rattle.sfm_check.proofs.AllSlopes.{fit}
 use Rattle.sfm_check.proofs.Telling.{few_by_text, found_told, found_valid}
 use Rattle.sfm_check.proofs.judging.judge.Goals as goal
 
@@ -17,8 +18,8 @@ judge_solved-requires-clause-few c = few_by_text (form_of c.args.instance.now) c
 
 pub returns-in-Ok-clause-valid : goal.returns-in-Ok-clause-valid
 returns-in-Ok-clause-valid c =
-    if_ok c.judge_solved.result _ _ (found_valid (form_of c.args.instance.now) (meanings kind_places kind_value c.args.instance.now.terms) c.args.text.now (answer_of c.in-Ok.solved) header_line c.tell_names_apart.ensures c.in-Ok.ensures.read c.if-text-gt-ANSWER_LIMIT.false) c.judge_solved.ensures
+    if_ok c.judge_solved.result _ _ (found_valid (form_of c.args.instance.now) (meanings kind_places kind_value c.args.instance.now.terms) c.args.text.now (answer_of c.in-Ok.solved) header_line c.tell_kept.ensures.named (fit (length c.args.instance.now.names) c.args.instance.now.terms c.tell_kept.ensures.bounded) c.in-Ok.ensures.read c.if-text-gt-ANSWER_LIMIT.false) c.judge_solved.ensures
 
 pub returns-in-Ok-clause-told : goal.returns-in-Ok-clause-told
 returns-in-Ok-clause-told c =
-    if_ok c.judge_solved.result _ _ (found_told (form_of c.args.instance.now) (meanings kind_places kind_value c.args.instance.now.terms) c.args.text.now (answer_of c.in-Ok.solved) header_line c.tell_names_apart.ensures c.in-Ok.ensures.read c.if-text-gt-ANSWER_LIMIT.false) c.judge_solved.ensures
+    if_ok c.judge_solved.result _ _ (found_told (form_of c.args.instance.now) (meanings kind_places kind_value c.args.instance.now.terms) c.args.text.now (answer_of c.in-Ok.solved) header_line c.tell_kept.ensures.named (fit (length c.args.instance.now.names) c.args.instance.now.terms c.tell_kept.ensures.bounded) c.in-Ok.ensures.read c.if-text-gt-ANSWER_LIMIT.false) c.judge_solved.ensures

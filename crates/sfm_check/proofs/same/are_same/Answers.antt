@@ -1,7 +1,7 @@
 use Rattle.std.proofs.Common.{subst, sym}
 use Rattle.sfm_spec.proofs.Sets.{same_sets}
 use Rattle.sfm_spec.specs.Sets.{Has}
-use Rattle.sfm_check.proofs.head.are_same.Goals as goal
+use Rattle.sfm_check.proofs.same.are_same.Goals as goal
 
 pub returns-then-is_within : goal.returns-then-is_within
 returns-then-is_within c = (
