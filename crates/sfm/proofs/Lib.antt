@@ -1,4 +1,6 @@
 pub mod ReadLemmas
 pub mod Words
 pub mod Checks
+pub mod Rows
+pub mod Slopes
 pub mod Solves

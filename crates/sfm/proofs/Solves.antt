@@ -1,28 +1,21 @@
 -- What bases that prove tell makes a true answer of the right form.
-use Rattle.std.proofs.Common.{◌≡◌, List, [], ◌∷◌, length, map, ℤ, pos, refl, sym, subst}
+use Rattle.std.proofs.Common.{◌≡◌, length, map, pos, sym, subst}
 use Rattle.std.specs.List.{All}
-use Rattle.std.proofs.lemmas.List.Elements.{All-cons, All-nil}
+use Rattle.std.proofs.lemmas.List.Elements.{All-cons}
 use Rattle.sfm_spec.specs.Bounds.{IsEntry}
 use Rattle.sfm_spec.specs.Blocks.{AreBlocks}
-use Rattle.sfm_spec.specs.Families.{AreBases, IsGreatest, IsLeast, Prove, even_shift, meanings, shifted_at}
-use Rattle.sfm_kind.specs.declared.kind.Kind.{Kind}
+use Rattle.sfm_spec.specs.Laws.{AreBreakpoints}
+use Rattle.sfm_spec.specs.Families.{AreBases, IsGreatest, IsLeast, Prove, even_shift, shifted_at}
 use Rattle.sfm_kind.specs.Instance.{AreInBounds, InstanceData}
-use Rattle.sfm_kind.specs.Kinds.{kind_places, kind_value}
-use Rattle.sfm_cert.specs.Answer.{Answer, Break}
+use Rattle.sfm_cert.specs.Answer.{Answer, mark_of}
 use Rattle.sfm_cert.specs.Form.{IsFormedBreak}
 use Rattle.sfm_cert.specs.Solved.{form_of}
-use Rattle.sfm_check.specs.Truth.{IsProvedSection, section_of}
+use Rattle.sfm_check.specs.Truth.{IsProvedSection, ones, section_of}
 use Rattle.sfm_check.proofs.BlockOrder.{blocks_formed}
 use Rattle.sfm_check.proofs.Small.{value_small}
+use Rattle.sfm.proofs.Rows.{formed_rows}
 use Rattle.sfm.specs.Due.{meanings_of}
 use Rattle.sfm.specs.Solving.{IsTrueAnswer}
-
--- bases are as long as their terms have elements
-formed_rows : (q : ℤ) (ts : List Kind) (rows : List (List ℤ)) → AreBases q (meanings kind_places kind_value ts) rows → map length rows ≡ map (λ term. length (kind_places term)) ts
-formed_rows q [] [] h = refl
-formed_rows q [] (x ∷ rows) h = absurd h
-formed_rows q (t ∷ ts) [] h = absurd h
-formed_rows q (t ∷ ts) (x ∷ rows) h = let r = formed_rows q ts rows h.2 in let l = h.0 in cc
 
 pub record IsRead (instance : InstanceData) (a : Answer) : Type 0 where
   pub bases : AreBases (pos 1) (meanings_of instance.terms) a.bases
@@ -32,7 +25,9 @@ pub record IsRead (instance : InstanceData) (a : Answer) : Type 0 where
   pub greatest : IsGreatest (meanings_of instance.terms) (length instance.names) (pos 1) (even_shift (length instance.names) (pos 0)) a.greatest
   pub value : a.value ≡ shifted_at (meanings_of instance.terms) (pos 1) (even_shift (length instance.names) (pos 0)) a.least
   pub blocks : AreBlocks (meanings_of instance.terms) (length instance.names) (pos 1) (even_shift (length instance.names) (pos 0)) a.blocks
-  pub breaks : a.breaks ≡ []
+  pub slopes : AreBreakpoints (meanings_of instance.terms) (length instance.names) (ones (length instance.names)) (map mark_of a.breaks)
+  pub breaks : All (IsFormedBreak (length instance.names) (form_of instance).widths) a.breaks
+  pub proved : All (IsProvedSection (meanings_of instance.terms) (length instance.names)) (map section_of a.breaks)
 
 pub true_answer : (instance : InstanceData) (a : Answer) → AreInBounds (length instance.names) instance.terms → IsRead instance a → IsTrueAnswer instance a
 true_answer instance a bounded h = record {
@@ -42,10 +37,10 @@ true_answer instance a bounded h = record {
     greatest = h.greatest.minimiser.places;
     blocks = blocks_formed (meanings_of instance.terms) (length instance.names) (pos 1) (even_shift (length instance.names) (pos 0)) a.blocks h.blocks;
     bases = record { widths_are = formed_rows (pos 1) instance.terms a.bases h.bases; small = h.small };
-    breaks = subst (λ (z : List Break). All (IsFormedBreak (length instance.names) (form_of instance).widths) z) (sym h.breaks) (All-nil (IsFormedBreak (length instance.names) (form_of instance).widths));
+    breaks = h.breaks;
   };
-  head = record { least = h.least; greatest = h.greatest; value = h.value; blocks = h.blocks; breaks = h.breaks };
+  head = record { least = h.least; greatest = h.greatest; value = h.value; blocks = h.blocks; breaks = h.slopes };
   sections = All-cons (IsProvedSection (meanings_of instance.terms) (length instance.names)) (record { num = pos 0; den = pos 1; bases = a.bases }) (map section_of a.breaks)
       (record { bases = h.bases; proves = h.proves })
-      (subst (λ (z : List Break). All (IsProvedSection (meanings_of instance.terms) (length instance.names)) (map section_of z)) (sym h.breaks) (All-nil (IsProvedSection (meanings_of instance.terms) (length instance.names))));
+      h.proved;
 }

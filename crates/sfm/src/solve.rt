@@ -1,5 +1,5 @@
 // From the bytes of an instance to the bytes of its answer: bases that prove the minimum are found by walks of exchanges,
-// and what they tell is read off them.
+// what they tell is read off them, and all slopes are sought, each with its bases.
 ghost use Rattle.std.specs.Prelude.{IfOk, IfErr, length, []};
 ghost use Rattle.sfm_cert.specs.Form.{IsFormed};
 ghost use Rattle.sfm_cert.specs.Solved.{answer_of, form_of};
@@ -11,11 +11,12 @@ use sfm_base::Memory;
 use sfm_cert::{Solved, write_answer};
 use sfm_extreme::{Certified, Proved, blocks, certify};
 use sfm_kind::Instance;
+use sfm_slope::partition;
 use sfm_text::{TextEnd, read_instance};
 use sfm_walk::{Optimum, minimise};
 use std::alloc::Global;
 
-/// The answer that bases which prove the minimum give.
+/// The answer that bases which prove the minimum give, with all slopes.
 fn answer_by(
     alloc: Global,
     instance: &Instance,
@@ -25,19 +26,17 @@ fn answer_by(
     requires { Gives instance.now optimum found }
     ensures { IfOk result (λ s. IsTrueAnswer instance.now (answer_of s)) }
 {
-    let blocks = blocks(
-        alloc,
-        instance.terms(),
-        instance.names_len(),
-        &optimum.bases,
-    )?;
+    let terms = instance.terms();
+    let n = instance.names_len();
+    let blocks = blocks(alloc, terms, n, &optimum.bases)?;
+    let breaks = partition(alloc, terms, n)?;
     Ok(Solved {
         value: found.value,
         least: found.least,
         greatest: found.greatest,
         blocks,
         bases: optimum.bases,
-        breaks: Vec::new(alloc),
+        breaks,
     })
 }
 

@@ -10,11 +10,46 @@ const NEED: &[u8] = b"sfm 1\nground a b\nneed a b\nend\n";
 
 #[test]
 fn verdicts_over_a_weight(rt: HostRuntime) -> Result<(), Fail> {
-    let rows: [(&[u8], u8, &[u8]); 8] = [
+    let rows: [(&[u8], u8, &[u8]); 15] = [
         (
-            b"answer 1\nminimum -3\nleast a\ngreatest a\nat 0/1\nbase 1 -3 2\nend\n",
+            b"answer 1\nminimum -3\nleast a\ngreatest a\nslope -3/1 a\nslope 2/1 a b\nat 0/1\nbase 1 -3 2\nat -3/1\nbase 1 -3 2\nat 2/1\nbase 1 -3 2\nend\n",
             0,
             b"valid\n",
+        ),
+        (
+            b"answer 1\nminimum -3\nleast a\ngreatest a\nslope -2/1 a\nslope 2/1 a b\nat 0/1\nbase 1 -3 2\nat -2/1\nbase 1 -3 2\nat 2/1\nbase 1 -3 2\nend\n",
+            1,
+            b"invalid 5 answer\n",
+        ),
+        (
+            b"answer 1\nminimum -3\nleast a\ngreatest a\nslope -3/1 a\nslope 3/1 a b\nat 0/1\nbase 1 -3 2\nat -3/1\nbase 1 -3 2\nat 3/1\nbase 1 -3 2\nend\n",
+            1,
+            b"invalid 6 answer\n",
+        ),
+        (
+            b"answer 1\nminimum -3\nleast a\ngreatest a\nslope -3/1 a\nslope 2/1 b\nat 0/1\nbase 1 -3 2\nat -3/1\nbase 1 -3 2\nat 2/1\nbase 1 -3 2\nend\n",
+            1,
+            b"invalid 6 answer\n",
+        ),
+        (
+            b"answer 1\nminimum -3\nleast a\ngreatest a\nslope -6/2 a\nslope 2/1 a b\nat 0/1\nbase 1 -3 2\nat -3/1\nbase 1 -3 2\nat 2/1\nbase 1 -3 2\nend\n",
+            1,
+            b"invalid 5 grammar\n",
+        ),
+        (
+            b"answer 1\nminimum -3\nleast a\ngreatest a\nslope -3/1 a\nat 0/1\nbase 1 -3 2\nat -3/1\nbase 1 -3 2\nend\n",
+            1,
+            b"invalid 6 answer\n",
+        ),
+        (
+            b"answer 1\nminimum -3\nleast a\ngreatest a\nslope -3/1 a\nslope 2/1 a b\nat 0/1\nbase 1 -3 2\nat 2/1\nbase 1 -3 2\nend\n",
+            1,
+            b"invalid 9 grammar\n",
+        ),
+        (
+            b"answer 1\nminimum -3\nleast a\ngreatest a\nat 0/1\nbase 1 -3 2\nend\n",
+            1,
+            b"invalid 5 answer\n",
         ),
         (
             b"answer 1\nminimum -2\nleast a\ngreatest a\nat 0/1\nbase 1 -3 2\nend\n",
@@ -52,14 +87,24 @@ fn verdicts_over_a_weight(rt: HostRuntime) -> Result<(), Fail> {
 
 #[test]
 fn verdicts_over_a_cut(rt: HostRuntime) -> Result<(), Fail> {
-    let rows: [(&[u8], u8, &[u8]); 6] = [
+    let rows: [(&[u8], u8, &[u8]); 8] = [
         (
-            b"answer 1\nminimum -1\nleast a b\ngreatest a b\nat 0/1\nbase 1 -3 2\nbase 2 3 -3\nend\n",
+            b"answer 1\nminimum -1\nleast a b\ngreatest a b\nslope -1/2 a b\nat 0/1\nbase 1 -3 2\nbase 2 3 -3\nat -1/2\nbase 1 -6 4\nbase 2 0 0\nend\n",
+            1,
+            b"invalid 9 unproved\n",
+        ),
+        (
+            b"answer 1\nminimum -1\nleast a b\ngreatest a b\nslope -1/2 a b\nat 0/1\nbase 1 -3 2\nbase 2 3 -3\nat -1/2\nbase 1 -6 4\nbase 2 9 -9\nend\n",
+            1,
+            b"invalid 11 base\n",
+        ),
+        (
+            b"answer 1\nminimum -1\nleast a b\ngreatest a b\nslope -1/2 a b\nat 0/1\nbase 1 -3 2\nbase 2 3 -3\nat -1/2\nbase 1 -6 4\nbase 2 5 -5\nend\n",
             0,
             b"valid\n",
         ),
         (
-            b"answer 1\nminimum -1\nleast a b\ngreatest a b\nat 0/1\nbase 1 -3 2\nbase 2 2 -2\nend\n",
+            b"answer 1\nminimum -1\nleast a b\ngreatest a b\nslope -1/2 a b\nat 0/1\nbase 1 -3 2\nbase 2 2 -2\nat -1/2\nbase 1 -6 4\nbase 2 5 -5\nend\n",
             0,
             b"valid\n",
         ),
@@ -94,7 +139,7 @@ fn verdicts_over_a_cut(rt: HostRuntime) -> Result<(), Fail> {
 fn verdicts_over_blocks(rt: HostRuntime) -> Result<(), Fail> {
     let rows: [(&[u8], u8, &[u8]); 6] = [
         (
-            b"answer 1\nminimum 0\nleast\ngreatest a b\nblock 1 b :\nblock 2 a : 1\nat 0/1\nbase 1 0 0\nend\n",
+            b"answer 1\nminimum 0\nleast\ngreatest a b\nblock 1 b :\nblock 2 a : 1\nslope 0/1 a b\nat 0/1\nbase 1 0 0\nat 0/1\nbase 1 0 0\nend\n",
             0,
             b"valid\n",
         ),
