@@ -6,6 +6,8 @@ const WEIGHT: &[u8] = b"sfm 1\nground a b\nweight a:-3 b:2\nend\n";
 
 const CUT: &[u8] = b"sfm 1\nground a b\nweight a:-3 b:2\ncut 4 a b\nend\n";
 
+const THREE: &[u8] = b"sfm 1\nground a b c\nweight a:1 b:1 c:-2\nend\n";
+
 const NEED: &[u8] = b"sfm 1\nground a b\nneed a b\nend\n";
 
 #[test]
@@ -87,7 +89,37 @@ fn verdicts_over_a_weight(rt: HostRuntime) -> Result<(), Fail> {
 
 #[test]
 fn verdicts_over_a_cut(rt: HostRuntime) -> Result<(), Fail> {
-    let rows: [(&[u8], u8, &[u8]); 8] = [
+    let rows: [(&[u8], u8, &[u8]); 14] = [
+        (
+            b"answer 1\nminimum -2\nleast a b\ngreatest a b\nslope -1/2 a b\nat 0/1\nbase 1 -3 2\nbase 2 3 -3\nat -1/2\nbase 1 -6 4\nbase 2 5 -5\nend\n",
+            1,
+            b"invalid 2 answer\n",
+        ),
+        (
+            b"answer 1\nminimum -2\nleast a b\ngreatest a b\nslope -1/2 a b\nat 0/1\nbase 1 -3 2\nbase 2 5 -5\nat -1/2\nbase 1 -6 4\nbase 2 5 -5\nend\n",
+            1,
+            b"invalid 8 base\n",
+        ),
+        (
+            b"answer 1\nminimum -1\nleast a b\ngreatest a b\nslope -1/2 a b\nat 0/1\nbase 1 -3 2\nbase 2 0 0\nat -1/2\nbase 1 -6 4\nbase 2 5 -5\nend\n",
+            1,
+            b"invalid 6 unproved\n",
+        ),
+        (
+            b"answer 1\nminimum -1\nleast a b\ngreatest a b\nslope -1/3 a b\nat 0/1\nbase 1 -3 2\nbase 2 3 -3\nat -1/3\nbase 1 -9 6\nbase 2 7 -7\nend\n",
+            1,
+            b"invalid 5 answer\n",
+        ),
+        (
+            b"answer 1\nminimum -1\nleast a b\ngreatest a b\nslope -2/4 a b\nat 0/1\nbase 1 -3 2\nbase 2 3 -3\nat -1/2\nbase 1 -6 4\nbase 2 5 -5\nend\n",
+            1,
+            b"invalid 5 grammar\n",
+        ),
+        (
+            b"answer 1\nminimum -1\nleast a b\ngreatest a b\nslope -1/2 a b\nat 0/1\nbase 1 -3 2\nbase 2 3 -3\nat -1/3\nbase 1 -6 4\nbase 2 5 -5\nend\n",
+            1,
+            b"invalid 9 grammar\n",
+        ),
         (
             b"answer 1\nminimum -1\nleast a b\ngreatest a b\nslope -1/2 a b\nat 0/1\nbase 1 -3 2\nbase 2 3 -3\nat -1/2\nbase 1 -6 4\nbase 2 0 0\nend\n",
             1,
@@ -171,6 +203,26 @@ fn verdicts_over_blocks(rt: HostRuntime) -> Result<(), Fail> {
     ];
     for (answer, code, line) in rows {
         try_case(&rt, rt.alloc(), &check(NEED, answer, code, line))?;
+    }
+    Ok(())
+}
+
+#[test]
+fn verdicts_over_three(rt: HostRuntime) -> Result<(), Fail> {
+    let rows: [(&[u8], u8, &[u8]); 2] = [
+        (
+            b"answer 1\nminimum -2\nleast c\ngreatest c\nslope -2/1 c\nslope 1/1 a b c\nat 0/1\nbase 1 1 1 -2\nat -2/1\nbase 1 1 1 -2\nat 1/1\nbase 1 1 1 -2\nend\n",
+            0,
+            b"valid\n",
+        ),
+        (
+            b"answer 1\nminimum -2\nleast c\ngreatest c\nslope -2/1 c\nat 0/1\nbase 1 1 1 -2\nat -2/1\nbase 1 1 1 -2\nend\n",
+            1,
+            b"invalid 6 answer\n",
+        ),
+    ];
+    for (answer, code, line) in rows {
+        try_case(&rt, rt.alloc(), &check(THREE, answer, code, line))?;
     }
     Ok(())
 }

@@ -1,0 +1,251 @@
+// The engine on small instances, against every set. Every set is tried here, and nowhere else; a set is a number whose
+// bit e says whether it has the place e.
+ghost use Rattle.std.specs.Prelude.{pos, IfOk};
+ghost use Rattle.std.specs.List.{All};
+ghost use Rattle.sfm_spec.specs.Bounds.{IsEntry};
+ghost use Rattle.sfm_spec.specs.Families.{meanings, AreBases};
+ghost use Rattle.sfm_kind.specs.Kinds.{kind_places, kind_value};
+
+use sfm_base::{Memory, Rows, Set};
+use sfm_extreme::{Block, Certified, blocks, certify};
+use sfm_kind::Instance;
+use sfm_law::start_rows;
+use sfm_text::read_instance;
+use sfm_walk::minimise;
+use std::alloc::Global;
+use std::process::Abort;
+use std::test::Fail;
+
+/// An instance as a text, and its terms over sets that are numbers.
+#[derive(Clone, Copy)]
+struct Small<'a> {
+    text: &'a [u8],
+    /// One more than the whole ground.
+    sets: u32,
+    weights: &'a [(u32, i64)],
+    /// A cost where the set has the first and not the second.
+    cuts: &'a [(u32, u32, i64)],
+    /// The first may come only with the second.
+    needs: &'a [(u32, u32)],
+}
+
+/// Whether a set has the first place and not the second.
+fn parts(set: u32, first: u32, second: u32) -> bool {
+    set & first != 0 && set & second == 0
+}
+
+fn is_allowed(small: &Small, set: u32) -> bool {
+    small.needs.iter().all(|need| !parts(set, need.0, need.1))
+}
+
+fn weight_of(small: &Small, set: u32) -> i64 {
+    let mut sum = 0i64;
+    for (place, weight) in small.weights {
+        if set & *place != 0 {
+            sum = sum.wrapping_add(*weight);
+        }
+    }
+    sum
+}
+
+fn value_of(small: &Small, set: u32) -> i64 {
+    let mut sum = weight_of(small, set);
+    for (first, second, cost) in small.cuts {
+        if parts(set, *first, *second) {
+            sum = sum.wrapping_add(*cost);
+        }
+    }
+    sum
+}
+
+/// The least value of all allowed sets. The empty one is worth 0.
+fn least_value(small: &Small) -> i64 {
+    let mut least = 0i64;
+    for set in 0..small.sets {
+        if is_allowed(small, set) {
+            least = least.min(value_of(small, set));
+        }
+    }
+    least
+}
+
+fn number_of(set: &Set) -> u32 {
+    let mut number = 0u32;
+    let mut bit = 1u32;
+    for e in 0..set.len() {
+        if set.contains(e) {
+            number |= bit;
+        }
+        bit = bit.wrapping_mul(2);
+    }
+    number
+}
+
+/// The places of the blocks that a block needs.
+fn needed_by(blocks: &[Block], block: &Block) -> u32 {
+    let mut number = 0u32;
+    for j in &block.needs {
+        if let Some(other) = blocks.get(j.wrapping_sub(1)) {
+            number |= number_of(&other.members);
+        }
+    }
+    number
+}
+
+/// Whether a set has or lacks a block as a whole, and has it only with what it needs.
+fn agrees(blocks: &[Block], block: &Block, set: u32) -> bool {
+    let members = number_of(&block.members);
+    let shared = set & members;
+    shared == 0 || shared == members && needed_by(blocks, block) & !set == 0
+}
+
+fn all_members(blocks: &[Block]) -> u32 {
+    let mut number = 0u32;
+    for block in blocks {
+        number |= number_of(&block.members);
+    }
+    number
+}
+
+/// Whether a set is the union of the least and of a closed choice of blocks.
+fn is_closed_union(least: u32, blocks: &[Block], set: u32) -> bool {
+    least & !set == 0
+        && set & !(least | all_members(blocks)) == 0
+        && blocks.iter().all(|block| agrees(blocks, block, set))
+}
+
+/// Whether the minimisers of all sets are the closed unions.
+fn are_minimisers(small: &Small, least: u32, blocks: &[Block]) -> bool {
+    let value = least_value(small);
+    for set in 0..small.sets {
+        let attains = is_allowed(small, set) && value_of(small, set) == value;
+        if attains != is_closed_union(least, blocks, set) {
+            return false;
+        }
+    }
+    true
+}
+
+fn try_blocks(rt: &impl Abort, alloc: Global, small: &Small) -> Result<(), Fail> {
+    let instance = read_instance(alloc, small.text)?;
+    let terms = instance.terms();
+    let n = instance.names_len();
+    let optimum = minimise(alloc, terms, n, 0, 1)?;
+    if let Certified::Proved(found) = certify(alloc, terms, n, 0, 1, &optimum.bases)? {
+        let list = blocks(alloc, terms, n, &optimum.bases)?;
+        assert!(rt; are_minimisers(small, number_of(&found.least), &list));
+    }
+    Ok(())
+}
+
+#[test]
+fn closed_choices_of_blocks_are_the_minimisers(rt: HostRuntime) -> Result<(), Fail> {
+    let rows: [Small; 10] = [
+        Small {
+            text: b"sfm 1\nground a b c\nend\n",
+            sets: 8,
+            weights: &[],
+            cuts: &[],
+            needs: &[],
+        },
+        Small {
+            text: b"sfm 1\nground a b\nneed a b\nend\n",
+            sets: 4,
+            weights: &[],
+            cuts: &[],
+            needs: &[(1, 2)],
+        },
+        Small {
+            text: b"sfm 1\nground a b\ncut 1 a b\ncut 1 b a\nend\n",
+            sets: 4,
+            weights: &[],
+            cuts: &[(1, 2, 1), (2, 1, 1)],
+            needs: &[],
+        },
+        Small {
+            text: b"sfm 1\nground a b c\nneed a b\nneed b c\nend\n",
+            sets: 8,
+            weights: &[],
+            cuts: &[],
+            needs: &[(1, 2), (2, 4)],
+        },
+        Small {
+            text: b"sfm 1\nground a b c d\nneed a c\nneed b c\nneed c d\nneed d c\nend\n",
+            sets: 16,
+            weights: &[],
+            cuts: &[],
+            needs: &[(1, 4), (2, 4), (4, 8), (8, 4)],
+        },
+        Small {
+            text: b"sfm 1\nground a b c\nweight a:-2 b:1 c:1\ncut 1 a b\ncut 1 a c\nend\n",
+            sets: 8,
+            weights: &[(1, -2), (2, 1), (4, 1)],
+            cuts: &[(1, 2, 1), (1, 4, 1)],
+            needs: &[],
+        },
+        Small {
+            text: b"sfm 1\nground a b c d\nweight a:-3 b:2 c:1 d:0\ncut 2 a b\ncut 1 b c\ncut 5 c d\nend\n",
+            sets: 16,
+            weights: &[(1, -3), (2, 2), (4, 1), (8, 0)],
+            cuts: &[(1, 2, 2), (2, 4, 1), (4, 8, 5)],
+            needs: &[],
+        },
+        Small {
+            text: b"sfm 1\nground a b c d\nweight a:-1 b:1 c:-1 d:1\nneed a b\nneed c d\nend\n",
+            sets: 16,
+            weights: &[(1, -1), (2, 1), (4, -1), (8, 1)],
+            cuts: &[],
+            needs: &[(1, 2), (4, 8)],
+        },
+        Small {
+            text: b"sfm 1\nground a b c d\nweight a:-1 b:1 c:-1 d:1\nneed a b\nneed c d\ncut 1 b d\ncut 1 d b\nend\n",
+            sets: 16,
+            weights: &[(1, -1), (2, 1), (4, -1), (8, 1)],
+            cuts: &[(2, 8, 1), (8, 2, 1)],
+            needs: &[(1, 2), (4, 8)],
+        },
+        Small {
+            text: b"sfm 1\nground a b c d e\nweight a:-5 b:1 c:-1 d:6 e:0\ncut 2 a b\ncut 2 b a\ncut 2 b c\ncut 2 c b\ncut 2 c d\ncut 2 d c\nend\n",
+            sets: 32,
+            weights: &[(1, -5), (2, 1), (4, -1), (8, 6), (16, 0)],
+            cuts: &[
+                (1, 2, 2),
+                (2, 1, 2),
+                (2, 4, 2),
+                (4, 2, 2),
+                (4, 8, 2),
+                (8, 4, 2),
+            ],
+            needs: &[],
+        },
+    ];
+    for small in rows {
+        try_blocks(&rt, rt.alloc(), &small)?;
+    }
+    Ok(())
+}
+
+/// The first bases of the terms.
+fn first_bases(alloc: Global, instance: &Instance) -> Result<Rows, Memory>
+    ensures bases { IfOk result (λ rows. AreBases (pos 1) (meanings kind_places kind_value instance.now.terms) rows) }
+    ensures small { IfOk result (λ rows. All (λ row. All IsEntry row) rows) }
+{
+    start_rows(alloc, instance.terms(), 1)
+}
+
+#[test]
+fn bases_that_do_not_prove_are_left_by_a_walk(rt: HostRuntime) -> Result<(), Fail> {
+    let alloc = rt.alloc();
+    let text = b"sfm 1\nground a b\nweight a:-3 b:2\ncut 4 a b\nend\n";
+    let instance = read_instance(alloc, text)?;
+    let bases = first_bases(alloc, &instance)?;
+    let told = certify(alloc, instance.terms(), instance.names_len(), 0, 1, &bases)?;
+    match told {
+        Certified::Proved(_) => assert!(rt; false),
+        Certified::NotOptimal { walk } => {
+            assert_eq!(rt; walk.first, 1);
+            assert_eq!(rt; walk.steps.as_slice(), [(0, 1)].as_slice());
+        }
+    }
+    Ok(())
+}
