@@ -1,11 +1,12 @@
 #!/usr/bin/env python3
-"""Writes instances into a temporary directory, runs `PROGRAM solve` on each, and prints how long each took."""
+"""Writes instances into a temporary directory, runs `PROGRAM solve` on each some times, and prints the least time."""
 import argparse
 import os
 import random
 import subprocess
 import sys
 import tempfile
+import threading
 import time
 
 COLUMNS = 16
@@ -62,13 +63,16 @@ def write_instance(path, kind, size, seed):
 
 def solve(program, path, answer, limit):
     """Runs the program, and gives the seconds that it took and its exit code, or None for the code past the limit."""
+    # a wait with a timeout would look only now and then, and add milliseconds
     with open(answer, "wb") as out:
         start = time.perf_counter()
-        try:
-            code = subprocess.run([program, "solve", path], stdout=out, timeout=limit).returncode
-        except subprocess.TimeoutExpired:
-            code = None
-        return time.perf_counter() - start, code
+        process = subprocess.Popen([program, "solve", path], stdout=out)
+        timer = threading.Timer(limit, process.kill)
+        timer.start()
+        code = process.wait()
+        seconds = time.perf_counter() - start
+        timer.cancel()
+    return seconds, None if seconds >= limit else code
 
 
 def check(program, path, answer):
@@ -82,11 +86,14 @@ def parse_words():
     parser.add_argument("--kinds", nargs="+", choices=list(KINDS), default=list(KINDS))
     parser.add_argument("--sizes", nargs="+", type=int, default=[32, 64, 128, 256])
     parser.add_argument("--seed", type=int, default=1)
+    parser.add_argument("--runs", type=int, default=3, help="how often each is run")
     parser.add_argument("--limit", type=float, default=600, help="seconds for each run")
     parser.add_argument("--check", action="store_true", help="judge each answer too")
     options = parser.parse_args()
     if any(not 16 <= size <= 256 for size in options.sizes):
         parser.error("sizes are from 16 to 256")
+    if options.runs < 1:
+        parser.error("each is run once or more")
     return options
 
 
@@ -102,10 +109,11 @@ def main():
                 path = os.path.join(folder, f"{kind}_{size}.sfm")
                 answer = os.path.join(folder, f"{kind}_{size}.answer")
                 terms = write_instance(path, kind, size, options.seed)
-                seconds, code = solve(program, path, answer, options.limit)
-                taken = f"{seconds:.2f}" if code == 0 else f"over {seconds:.0f}" if code is None else f"exit {code}"
+                runs = [solve(program, path, answer, options.limit) for _ in range(options.runs)]
+                seconds, code = min(runs, key=lambda run: (run[1] != 0, run[0]))
+                taken = f"{seconds:.4f}" if code == 0 else f"over {options.limit:g}" if code is None else f"exit {code}"
                 print(f"| {kind} | {size} | {terms} | {taken} | {os.path.getsize(answer)} |", flush=True)
-                failed = failed or code != 0
+                failed = failed or any(code != 0 for _, code in runs)
                 if options.check and code == 0:
                     verdict = check(program, path, answer)
                     failed = failed or verdict != "valid"
