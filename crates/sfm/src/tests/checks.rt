@@ -226,3 +226,34 @@ fn verdicts_over_three(rt: HostRuntime) -> Result<(), Fail> {
     }
     Ok(())
 }
+
+#[test]
+fn verdicts_over_a_rank(rt: HostRuntime) -> Result<(), Fail> {
+    let text = b"sfm 1\nground a b\nweight a:-1 b:-3\nrank 2 uniform 1 : a b\nend\n";
+    let rows: [(&[u8], u8, &[u8]); 4] = [
+        (
+            b"answer 1\nminimum -2\nleast a b\ngreatest a b\nslope -1/1 a b\nat 0/1\nbase 1 -1 -3\nbase 2 1 1\nat -1/1\nbase 1 -1 -3\nbase 2 0 2\nend\n",
+            0,
+            b"valid\n",
+        ),
+        (
+            b"answer 1\nminimum -2\nleast a b\ngreatest a b\nslope -1/1 a b\nat 0/1\nbase 1 -1 -3\nbase 2 0 2\nat -1/1\nbase 1 -1 -3\nbase 2 0 2\nend\n",
+            0,
+            b"valid\n",
+        ),
+        (
+            b"answer 1\nminimum -2\nleast a b\ngreatest a b\nslope -1/1 a b\nat 0/1\nbase 1 -1 -3\nbase 2 -1 3\nat -1/1\nbase 1 -1 -3\nbase 2 0 2\nend\n",
+            1,
+            b"invalid 8 base\n",
+        ),
+        (
+            b"answer 1\nminimum -2\nleast a b\ngreatest a b\nslope -1/1 a b\nat 0/1\nbase 1 -1 -3\nbase 2 2 0\nat -1/1\nbase 1 -1 -3\nbase 2 0 2\nend\n",
+            1,
+            b"invalid 6 unproved\n",
+        ),
+    ];
+    for (answer, code, line) in rows {
+        try_case(&rt, rt.alloc(), &check(text, answer, code, line))?;
+    }
+    Ok(())
+}

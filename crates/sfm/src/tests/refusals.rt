@@ -4,7 +4,7 @@ use std::test::Fail;
 
 #[test]
 fn names_the_first_fault(rt: HostRuntime) -> Result<(), Fail> {
-    let rows: [(&[u8], &[u8]); 10] = [
+    let rows: [(&[u8], &[u8]); 13] = [
         (
             b"sfm 1\nground a b\nweight z:1000000000001\ncut 1 a b\ncut 1 a a\nend\n",
             b"refused 3 number\n",
@@ -20,6 +20,18 @@ fn names_the_first_fault(rt: HostRuntime) -> Result<(), Fail> {
         (
             b"sfm 1\nground a b\ntable 0 1 1 3 : a b\nend\n",
             b"refused 3 law\n",
+        ),
+        (
+            b"sfm 1\nground a b\nconcave 1 3 : a b\nend\n",
+            b"refused 3 law\n",
+        ),
+        (
+            b"sfm 1\nground a b c\nrank 1 laminar : a b c ; 1 a b ; 1 b c\nend\n",
+            b"refused 3 law\n",
+        ),
+        (
+            b"sfm 1\nground a b c\nrank 1 laminar : a b ; 1 a c\nend\n",
+            b"refused 3 name\n",
         ),
         (
             b"sfm 1\nground a b\ntable 1 1 1 1 : a b\nend\n",

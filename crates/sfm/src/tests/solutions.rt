@@ -124,3 +124,29 @@ fn solves_needs_covers_and_tables(rt: HostRuntime) -> Result<(), Fail> {
     }
     Ok(())
 }
+
+#[test]
+fn solves_concave_functions_and_ranks(rt: HostRuntime) -> Result<(), Fail> {
+    let rows: [(&[u8], &[u8]); 4] = [
+        (
+            b"sfm 1\nground a b\nconcave 1 2 : a b\nend\n",
+            b"answer 1\nminimum 0\nleast\ngreatest\nslope 1/1 a b\nat 0/1\nbase 1 1 1\nat 1/1\nbase 1 1 1\nend\n",
+        ),
+        (
+            b"sfm 1\nground a b c\nweight a:-3 b:-2 c:-2\nconcave 4 6 6 : a b c\nend\n",
+            b"answer 1\nminimum -1\nleast a b c\ngreatest a b c\nslope -1/3 a b c\nat 0/1\nbase 1 -3 -2 -2\nbase 2 *\nat -1/3\nbase 1 -9 -6 -6\nbase 2 *\nend\n",
+        ),
+        (
+            b"sfm 1\nground a b\nweight a:-1 b:-3\nrank 2 uniform 1 : a b\nend\n",
+            b"answer 1\nminimum -2\nleast a b\ngreatest a b\nslope -1/1 a b\nat 0/1\nbase 1 -1 -3\nbase 2 *\nat -1/1\nbase 1 -1 -3\nbase 2 0 2\nend\n",
+        ),
+        (
+            b"sfm 1\nground a b c\nweight a:-2 b:-2 c:-2\nrank 3 laminar : a b c ; 2 a b c ; 1 a b\nend\n",
+            b"answer 1\nminimum -1\nleast a b\ngreatest a b\nslope -1/2 a b\nslope 1/1 a b c\nat 0/1\nbase 1 -2 -2 -2\nbase 2 *\nat -1/2\nbase 1 -4 -4 -4\nbase 2 3 3 6\nat 1/1\nbase 1 -2 -2 -2\nbase 2 *\nend\n",
+        ),
+    ];
+    for (text, wanted) in rows {
+        try_solution(&rt, rt.alloc(), text, 7, wanted)?;
+    }
+    Ok(())
+}
