@@ -49,7 +49,30 @@ def needs(names, rng):
     return lines
 
 
-KINDS = {"grid": grid, "covers": covers, "needs": needs}
+def counts(names, rng):
+    """Half as many concave functions of eight elements as there are elements."""
+    lines = weights(names, rng, -300, -1)
+    for _ in range(len(names) // 2):
+        rise, value, values = rng.randint(0, 300), 0, []
+        for _ in range(8):
+            value += rise
+            values.append(str(value))
+            rise -= rng.randint(0, 60)
+        lines.append(" ".join(["concave", *values, ":", *rng.sample(names, 8)]))
+    return lines
+
+
+def groups(names, rng):
+    """A quarter as many ranks of laminar matroids over eight elements, with two nested groups each."""
+    lines = weights(names, rng, -200, -1)
+    for _ in range(len(names) // 4):
+        some = rng.sample(names, 8)
+        rank = ["rank", str(rng.randint(0, 400)), "laminar", ":", *some]
+        lines.append(" ".join([*rank, ";", "4", *some[:6], ";", str(rng.randint(1, 2)), *some[:3]]))
+    return lines
+
+
+KINDS = {"grid": grid, "covers": covers, "needs": needs, "counts": counts, "groups": groups}
 
 
 def write_instance(path, kind, size, seed):
