@@ -10,7 +10,7 @@ pub enum Reason {
     Bytes,
     /// The first word of the line is not known, or not in its place.
     Word,
-    /// The tokens do not fit the pattern of the line, or the text is not of the form.
+    /// The tokens do not fit the pattern of the line.
     Shape,
     /// A number is none, or outside its range.
     Number,

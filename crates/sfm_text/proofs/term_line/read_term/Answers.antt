@@ -30,8 +30,9 @@ returns-then-has_place_twice-clause-refused c =
     let shape : HasParts c.args.word rest parts = rw c.in-Some.is at c.in_ok-parts.ensures in
     let numbers : Matched (IsNumberFrom (lowest_of c.args.word)) parts.numbers c.in-Some-2.values.items = rw c.deref.ensures.value at rw c.in-Some-2.is at c.in_ok-values.ensures in
     let elements : Matched (IsElement names) parts.elements c.in-Some-3.places.items = rw c.deref-2.ensures.value at rw c.in-Some-3.is at c.in_ok-places.ensures in
-    let twice : StandsTwice c.in-Some-3.places.items = rw c.deref-3.ensures.value at (c.if-has_place_twice.ensures.0 refl) in
-    λ line is. at-twice c.args.instance.now c.args.word rest line is parts shape c.in-Some-2.values.items numbers c.in-Some-3.places.items c.requires elements twice
+    let twice : StandsTwice c.in-Some-3.places.items = rw c.deref-5.ensures.value at (c.if-has_place_twice.ensures.0 refl) in
+    let members : All (λ names. All (Contains parts.elements) names) parts.groups = rw (c.deref-3.ensures.value, c.deref-4.ensures.value) at c.if-not-are_members.ensures in
+    λ line is. at-twice c.args.instance.now c.args.word rest line is parts shape c.in-Some-2.values.items numbers c.in-Some-3.places.items c.requires elements members twice
 
 pub make_term-requires : goal.make_term-requires
 make_term-requires c =
@@ -41,8 +42,8 @@ make_term-requires c =
     let shape : HasParts c.args.word rest parts = rw c.in-Some.is at c.in_ok-parts.ensures in
     let numbers : Matched (IsNumberFrom (lowest_of c.args.word)) parts.numbers c.in-Some-2.values.items = rw c.deref.ensures.value at rw c.in-Some-2.is at c.in_ok-values.ensures in
     let elements : Matched (IsElement names) parts.elements c.in-Some-3.places.items = rw c.deref-2.ensures.value at rw c.in-Some-3.is at c.in_ok-places.ensures in
-    let once : StandsTwice c.in-Some-3.places.items → ⊥ = λ t. false≢true (c.if-has_place_twice.ensures.1 (rw c.deref-3.ensures.value t)) in
-    rw (c.deref-4.ensures.value, c.deref-5.ensures.value) (record {
+    let once : StandsTwice c.in-Some-3.places.items → ⊥ = λ t. false≢true (c.if-has_place_twice.ensures.1 (rw c.deref-5.ensures.value t)) in
+    rw (c.deref-7.ensures.value, c.deref-8.ensures.value) (record {
       tokens = rest;
       shape = shape;
       numbers = numbers;
@@ -60,9 +61,11 @@ returns-clause-refused c =
     let shape : HasParts c.args.word rest parts = rw c.in-Some.is at c.in_ok-parts.ensures in
     let numbers : Matched (IsNumberFrom (lowest_of c.args.word)) parts.numbers values = rw c.deref.ensures.value at rw c.in-Some-2.is at c.in_ok-values.ensures in
     let elements : Matched (IsElement names) parts.elements places = rw c.deref-2.ensures.value at rw c.in-Some-3.is at c.in_ok-places.ensures in
-    let once : StandsTwice places → ⊥ = λ t. false≢true (c.if-has_place_twice.ensures.1 (rw c.deref-3.ensures.value t)) in
-    let breaks : BreaksLaw c.args.word parts values = rw c.deref-4.ensures.value at rw c.in-None.is at c.in_ok-term.ensures in
-    λ line is. at-law c.args.instance.now c.args.word rest line is parts shape values numbers places c.requires elements once breaks
+    let once : StandsTwice places → ⊥ = λ t. false≢true (c.if-has_place_twice.ensures.1 (rw c.deref-5.ensures.value t)) in
+    let breaks : BreaksLaw c.args.word parts values = rw c.deref-7.ensures.value at rw c.in-None.is at c.in_ok-term.ensures in
+    let members : All (λ names. All (Contains parts.elements) names) parts.groups = rw (c.deref-3.ensures.value, c.deref-4.ensures.value) at c.if-not-are_members.ensures in
+    let members_once : All (λ names. StandsTwice names → ⊥) parts.groups = rw c.deref-6.ensures.value at c.if-branch.ensures in
+    λ line is. at-law c.args.instance.now c.args.word rest line is parts shape values numbers places c.requires elements members once members_once breaks
 
 pub returns-in-Some-4-clause-read : goal.returns-in-Some-4-clause-read
 returns-in-Some-4-clause-read c =
@@ -74,8 +77,10 @@ returns-in-Some-4-clause-read c =
     let shape : HasParts c.args.word rest parts = rw c.in-Some.is at c.in_ok-parts.ensures in
     let numbers : Matched (IsNumberFrom (lowest_of c.args.word)) parts.numbers values = rw c.deref.ensures.value at rw c.in-Some-2.is at c.in_ok-values.ensures in
     let elements : Matched (IsElement names) parts.elements places = rw c.deref-2.ensures.value at rw c.in-Some-3.is at c.in_ok-places.ensures in
-    let once : StandsTwice places → ⊥ = λ t. false≢true (c.if-has_place_twice.ensures.1 (rw c.deref-3.ensures.value t)) in
-    let made : IsTermOf c.args.word parts values places c.in-Some-4.term × (BreaksLaw c.args.word parts values → ⊥) = rw (c.deref-4.ensures.value, c.deref-5.ensures.value) at rw c.in-Some-4.is at c.in_ok-term.ensures in
+    let once : StandsTwice places → ⊥ = λ t. false≢true (c.if-has_place_twice.ensures.1 (rw c.deref-5.ensures.value t)) in
+    let made : IsTermOf c.args.word parts values places c.in-Some-4.term × (BreaksLaw c.args.word parts values → ⊥) = rw (c.deref-7.ensures.value, c.deref-8.ensures.value) at rw c.in-Some-4.is at c.in_ok-term.ensures in
+    let members : All (λ names. All (Contains parts.elements) names) parts.groups = rw (c.deref-3.ensures.value, c.deref-4.ensures.value) at c.if-not-are_members.ensures in
+    let members_once : All (λ names. StandsTwice names → ⊥) parts.groups = rw c.deref-6.ensures.value at c.if-branch.ensures in
     record {
       stands = record {
         word = c.args.word;
@@ -88,5 +93,5 @@ returns-in-Some-4-clause-read c =
         elements = elements;
         made = made.0;
       };
-      good = λ line reason is. none-total c.args.instance.now c.args.word rest line is parts shape values numbers places c.requires elements once made.1 reason;
+      good = λ line reason is. none-total c.args.instance.now c.args.word rest line is parts shape values numbers places c.requires elements members once members_once made.1 reason;
     }
