@@ -1,10 +1,14 @@
 -- Tokens that are cut at semicolons, and that a line is cut in one way.
-use Rattle.std.proofs.Common.{◌≡◌, ℕ, ◌≤◌, nat_eq, length, List, [], ◌∷◌, Bool, true, false, cond, get_or, map, codes, Bor, Option, Some, None, MatchOption, refl, sym, ap, ◌∙◌, inl, inr, arith}
+use Rattle.std.proofs.Common.{◌≡◌, ℕ, suc, ◌≤◌, nat_eq, length, List, [], ◌∷◌, Bool, true, false, cond, get_or, map, codes, Bor, Option, Some, None, MatchOption, refl, sym, ap, ◌∙◌, inl, inr, arith}
 use Rattle.std.proofs.lemmas.Bool.{false≢true}
+use Rattle.std.proofs.lemmas.Bool.Decides.{nat_tests}
 use Rattle.std.specs.List.{slice_split, onto_first, IsFirstAndRest}
 use Rattle.sfm_text.specs.Matched.{Matched}
-use Rattle.sfm_text.specs.Parts.{LineParts, plain_parts, IsConcaveLine, IsUniformLine, IsGroupCut, AreGroupsCut, IsLaminarHead, IsLaminarLine, IsRankLine, is_semicolon, cut_at_semicolons, laminar_parts_of}
+use Rattle.std.proofs.lemmas.List.{length-map}
+use Rattle.sfm_text.specs.declared.word.RankKind.TheVariants.{UniformRank}
+use Rattle.sfm_text.specs.Parts.{LineParts, plain_parts, IsCutAtColon, IsConcaveLine, IsUniformLine, IsGroupCut, AreGroupsCut, IsLaminarHead, IsLaminarLine, IsRankLine, is_semicolon, cut_at_semicolons, laminar_parts_of}
 use Rattle.sfm_text.proofs.Colons.{colon-same}
+use Rattle.sfm_text.proofs.Repeats.{text-at}
 use Rattle.sfm_text.proofs.Matches.{Matched-same}
 
 -- cutting commutes with what the elements stand for
@@ -69,6 +73,44 @@ laminar-same tokens p q h g =
 pub some-texts : (texts : List (Bor (List ℕ))) → false ≡ nat_eq (length texts) 0 → 1 ≤ length (map (λ t. t.now) texts)
 some-texts [] h = absurd (false≢true h)
 some-texts (t ∷ texts) h = omega arith
+
+not-zero : (n : ℕ) → nat_eq (suc n) 0 ≡ false
+not-zero n = grind (arith, nat_tests)
+
+pub none-texts : (texts : List (Bor (List ℕ))) (others : List (List ℕ)) → others ≡ map (λ t. t.now) texts → 1 ≤ length others → true ≡ nat_eq (length texts) 0 → ⊥
+none-texts [] others e some h = omega (arith, some, ap length e)
+none-texts (t ∷ texts) others e some h = false≢true (sym (not-zero (length texts)) ∙ sym h)
+
+-- the word before the cap, and a line that has it
+pub uniform-word : (before : List (Bor (List ℕ))) (number most : List ℕ) (d : Bor (List ℕ)) → number ∷ codes "uniform" ∷ most ∷ [] ≡ map (λ t. t.now) before → (get_or before 1 d).now ≡ codes "uniform"
+uniform-word before number most d e =
+    sym (text-at before 1 d (omega (arith, ap length e, length-map before (λ (t : Bor (List ℕ)). t.now)))) ∙ sym (ap (λ (l : List (List ℕ)). get_or l 1 []) e)
+
+pub uniform-made : (tokens : List (List ℕ)) (before elements : List (Bor (List ℕ))) (a m b : Bor (List ℕ)) (numbers : List (Bor (List ℕ))) → IsCutAtColon tokens (map (λ t. t.now) before) (map (λ t. t.now) elements) → length before ≡ 3
+    → (get_or before 1 m).now ≡ codes "uniform" → 1 ≤ length (map (λ t. t.now) elements) → numbers ≡ get_or before 0 a ∷ get_or before 2 b ∷ []
+    → IsUniformLine tokens (record { numbers = map (λ t. t.now) numbers; elements = map (λ t. t.now) elements; rank = UniformRank; groups = [] })
+uniform-made tokens [] elements a m b numbers cut three word some is = absurd (omega (arith, three))
+uniform-made tokens (x ∷ []) elements a m b numbers cut three word some is = absurd (omega (arith, three))
+uniform-made tokens (x ∷ y ∷ []) elements a m b numbers cut three word some is = absurd (omega (arith, three))
+uniform-made tokens (x ∷ y ∷ z ∷ []) elements a m b numbers cut three word some is = record {
+  number = x.now;
+  cap = z.now;
+  elements = map (λ t. t.now) elements;
+  cut = rw word at cut;
+  some = some;
+  parts_are = rw is refl;
+}
+uniform-made tokens (x ∷ y ∷ z ∷ w ∷ before) elements a m b numbers cut three word some is = absurd (omega (arith, three))
+
+-- a line that is not of the first rank
+pub rank-made : {P : Type 0} (f : P → LineParts) (tokens : List (List ℕ)) → ((parts : LineParts) → IsUniformLine tokens parts → ⊥) → (r : Option P)
+    → MatchOption r ((parts : LineParts) → IsLaminarLine tokens parts → ⊥) (λ parts. IsLaminarLine tokens (f parts)) → MatchOption r ((parts : LineParts) → IsRankLine tokens parts → ⊥) (λ parts. IsRankLine tokens (f parts))
+rank-made f tokens none None h = none-of
+  where
+    none-of : (parts : LineParts) → IsRankLine tokens parts → ⊥
+    none-of parts (inl u) = none parts u
+    none-of parts (inr l) = h parts l
+rank-made f tokens none (Some parts) h = inr h
 
 -- the first of lists of tokens, and the others
 pub first-lists : (pieces : List (Bor (List (Bor (List ℕ))))) (first : Bor (List (Bor (List ℕ)))) (rest : List (Bor (List (Bor (List ℕ))))) → IsFirstAndRest pieces first rest

@@ -18,10 +18,7 @@ fn is_semicolon_token(token: &[u8]) -> bool
 }
 
 /// The runs of tokens between semicolons alone.
-fn pieces<'a, 'b>(
-    alloc: Global,
-    tokens: &'b [&'a [u8]],
-) -> Result<Vec<&'b [&'a [u8]]>, AllocError>
+fn pieces<'a, 'b>(alloc: Global, tokens: &'b [&'a [u8]]) -> Result<Vec<&'b [&'a [u8]]>, AllocError>
     ensures { IfOk result (λ v. text_lists_of v.items ≡ cut_at_semicolons (texts_of tokens.now)) }
 {
     tokens
@@ -52,7 +49,7 @@ fn group_parts<'a, 'b>(
     ensures { IfOk result (λ r. MatchOption r
         ((elements : List (List ℕ)) (groups : List (List ℕ × List (List ℕ))) → AreGroupsCut (text_lists_of pieces.now) elements groups → ⊥)
         (λ parts. (elements : List (List ℕ)) × (groups : List (List ℕ × List (List ℕ))) × AreGroupsCut (text_lists_of pieces.now) elements groups
-            × (parts_of parts ≡ laminar_parts_of number.now elements groups))) }
+        × (parts_of parts ≡ laminar_parts_of number.now elements groups))) }
 {
     let Some((elements, rest)) = pieces.split_first() else {
         return Ok(None);

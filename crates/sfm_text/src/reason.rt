@@ -14,7 +14,7 @@ pub enum Reason {
     Shape,
     /// A number is none, or outside its range.
     Number,
-    /// A name is none, or not one of the ground.
+    /// A name is none, or not one of the ground, or a group's is none of its line.
     Name,
     /// A name stands twice.
     Twice,

@@ -72,7 +72,11 @@ fn uniform_lines(rt: HostRuntime) -> Result<(), Fail> {
 #[test]
 fn laminar_lines(rt: HostRuntime) -> Result<(), Fail> {
     let rows: [(&str, usize, &[u8]); 33] = [
-        ("rank 2 laminar : a b / rank 2 laminar : a ; 0 a", 0, b"good"),
+        (
+            "rank 2 laminar : a b / rank 2 laminar : a ; 0 a",
+            0,
+            b"good",
+        ),
         (
             "rank 2 laminar : a b c d ; 3 c a b ; 1 b a ; 1 c ; 2 d",
             0,
@@ -104,9 +108,17 @@ fn laminar_lines(rt: HostRuntime) -> Result<(), Fail> {
         ("rank 2 laminar : a b ; 1 a-b", 3, b"name"),
         ("rank 2 laminar : a b a ; 1 a", 3, b"twice"),
         ("rank 2 laminar : a b ; 1 b ; 1 a b a", 3, b"twice"),
-        ("rank 2 laminar : a b c ; 1 a b ; 1 b c ; 1 a a", 3, b"twice"),
+        (
+            "rank 2 laminar : a b c ; 1 a b ; 1 b c ; 1 a a",
+            3,
+            b"twice",
+        ),
         ("rank 2 laminar : a b c ; 1 a b ; 1 b c", 3, b"law"),
-        ("rank 2 laminar : a b c d ; 1 d ; 3 a b c ; 1 d c", 3, b"law"),
+        (
+            "rank 2 laminar : a b c d ; 1 d ; 3 a b c ; 1 d c",
+            3,
+            b"law",
+        ),
         ("rank 2 laminar : a b c ; 9 a b ; 0 b ; 1 c a", 3, b"law"),
         ("rank 0 laminar : a b c ; 0 c b ; 0 a b", 3, b"law"),
     ];
@@ -118,7 +130,8 @@ fn laminar_lines(rt: HostRuntime) -> Result<(), Fail> {
 
 #[test]
 fn the_terms_are_those_of_their_lines(rt: HostRuntime) -> Result<(), Fail> {
-    let text = b"sfm 1\nground a b c d\nconcave 3 5 6 : d a b\nrank 7 uniform 2 : c a\nrank 5 laminar : d b a ; 2 b d ; 1 a\nend\n";
+    let text =
+        b"sfm 1\nground a b c d\nconcave 3 5 6 : d a b\nrank 7 uniform 2 : c a\nrank 5 laminar : d b a ; 2 b d ; 1 a\nend\n";
     let instance = read_instance(rt.alloc(), text)?;
     let terms = instance.terms();
     assert_eq!(rt; terms.len(), 3);

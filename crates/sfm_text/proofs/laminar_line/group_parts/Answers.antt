@@ -27,11 +27,15 @@ loop-piece-preserved c =
 pub returns : goal.returns
 returns c =
     let now = c.loop-piece.invariant in
-    let elements = c.in-Some.elements.now.now in
-    (texts_of elements, now.cut, record {
-      rest = text_lists_of c.in-Some.rest.now;
-      pieces_are = first-lists c.args.pieces.now c.in-Some.elements.now c.in-Some.rest.now c.in-Some.ensures.cases;
-      some = some-texts elements c.if-is_empty.ensures;
-      unmarked = c.if-has_mark.ensures;
-      each = Matched-end IsGroupCut (λ (t : Bor (List (Bor (List ℕ)))). texts_of t.now) c.in-Some.rest.now now.cut c.loop-piece.piece-index c.loop-piece-test.false now.each;
-    }, rw (now.numbers, now.groups, c.in_ok-elements.ensures.items) refl)
+    let elements = c.in-Some.elements.now.now in (
+      texts_of elements,
+      now.cut,
+      record {
+        rest = text_lists_of c.in-Some.rest.now;
+        pieces_are = first-lists c.args.pieces.now c.in-Some.elements.now c.in-Some.rest.now c.in-Some.ensures.cases;
+        some = some-texts elements c.if-is_empty.ensures;
+        unmarked = c.if-has_mark.ensures;
+        each = Matched-end IsGroupCut (λ (t : Bor (List (Bor (List ℕ)))). texts_of t.now) c.in-Some.rest.now now.cut c.loop-piece.piece-index c.loop-piece-test.false now.each;
+      },
+      rw (now.numbers, now.groups, c.in_ok-elements.ensures.items) refl,
+    )
