@@ -1,4 +1,4 @@
-use Rattle.std.proofs.Common.{Bor, List, ℕ, sym, ◌∙◌, refl}
+use Rattle.std.proofs.Common.{Bor, List, ℕ, sym, ◌∙◌}
 use Rattle.std.proofs.lemmas.Bool.{true≢false}
 use Rattle.sfm_text.specs.Lines.{texts_of}
 use Rattle.sfm_text.specs.TermLines.{StandsTwice}

@@ -1,5 +1,5 @@
 -- The pieces behind the first are the groups, of which each is cut in its one way.
-use Rattle.std.proofs.Common.{◌≡◌, ◌∷◌, [], ◌++◌, List, ℕ, Bor, length, refl, arith}
+use Rattle.std.proofs.Common.{◌∷◌, [], ◌++◌, List, ℕ, Bor, refl}
 use Rattle.sfm_text.specs.Lines.{texts_of, text_lists_of}
 use Rattle.sfm_text.specs.Parts.{IsGroupCut}
 use Rattle.sfm_text.proofs.Steps.{Matched-step, Matched-end, Matched-here, map-push}

@@ -1,5 +1,5 @@
 -- Before the colon stand the number, the word and the cap.
-use Rattle.std.proofs.Common.{◌≡◌, ◌∷◌, [], List, ℕ, Bor, length, codes, sym, ap, ◌∙◌, arith}
+use Rattle.std.proofs.Common.{◌∷◌, [], List, ℕ, Bor, length, codes, sym, ap, ◌∙◌, arith}
 use Rattle.std.proofs.lemmas.List.{length-map}
 use Rattle.sfm_text.specs.Lines.{texts_of}
 use Rattle.sfm_text.proofs.Tokens.{same_bytes, other_bytes}
