@@ -5,10 +5,9 @@ use Rattle.std.proofs.lemmas.Int.{ints}
 use Rattle.std.specs.List.{All}
 use Rattle.std.proofs.lemmas.List.{length-map, length-take, length-drop, take-map, drop-map, take_rest}
 use Rattle.sfm_spec.specs.Bounds.{IsAtMost, AreElements}
-use Rattle.sfm_text.specs.Parts.{LineParts, plain_parts, IsPairToken, IsSplitAt, IsTableCount, IsUniformLine, IsLaminarLine, IsRankLine, laminar_parts_of}
+use Rattle.sfm_text.specs.Parts.{LineParts, plain_parts, IsPairToken, IsSplitAt, IsTableCount, IsUniformLine, IsLaminarLine, IsRankLine}
 use Rattle.sfm_text.specs.Words.{lowest_of}
 use Rattle.sfm_text.specs.TermLines.{AreRead, IsNumberFrom}
-use Rattle.sfm_text.specs.declared.word.RankKind.{RankKind}
 use Rattle.sfm_text.specs.declared.word.RankKind.TheVariants.{NoRank, UniformRank, LaminarRank}
 use Rattle.sfm_text.specs.declared.word.TermWord.{TermWord}
 use Rattle.sfm_text.specs.declared.word.TermWord.TheVariants.{WeightWord, CutWord, NeedWord, CoverWord, TableWord, ConcaveWord, RankWord}
