@@ -5,6 +5,9 @@ pub mod Cutting
 pub mod Colons
 pub mod Breaches
 pub mod Matches
+pub mod Steps
+pub mod Pieces
+pub mod Members
 pub mod Numbers
 pub mod Repeats
 pub mod ReadLines

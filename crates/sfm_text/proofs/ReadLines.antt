@@ -1,15 +1,16 @@
 -- What has been read of a line makes the term of its word.
-use Rattle.std.proofs.Common.{◌≡◌, ℕ, ◌-◌, ◌≤◌, ◌^◌, List, [], ◌∷◌, length, get_or, map, take, drop, min, Bor, ℤ, pos, ◌≤ℤ◌, to_z, of_z, refl, ap, ◌∙◌, arith}
+use Rattle.std.proofs.Common.{◌≡◌, ℕ, ◌+◌, ◌-◌, ◌<◌, ◌≤◌, ◌^◌, inl, inr, List, [], ◌∷◌, length, get_or, map, take, drop, min, Bor, ℤ, pos, ◌≤ℤ◌, to_z, of_z, refl, sym, ap, ◌∙◌, arith}
 use Rattle.std.specs.Int.{w128}
 use Rattle.std.proofs.lemmas.Int.{ints}
 use Rattle.std.specs.List.{All}
 use Rattle.std.proofs.lemmas.List.{length-map, length-take, length-drop, take-map, drop-map, take_rest}
 use Rattle.sfm_spec.specs.Bounds.{IsAtMost, AreElements}
-use Rattle.sfm_text.specs.Parts.{LineParts, plain_parts, IsPairToken, IsSplitAt, IsTableCount}
+use Rattle.sfm_text.specs.Parts.{LineParts, plain_parts, IsPairToken, IsSplitAt, IsTableCount, IsUniformLine, IsLaminarLine, IsRankLine}
 use Rattle.sfm_text.specs.Words.{lowest_of}
 use Rattle.sfm_text.specs.TermLines.{AreRead, IsNumberFrom}
+use Rattle.sfm_text.specs.declared.word.RankKind.TheVariants.{NoRank, UniformRank, LaminarRank}
 use Rattle.sfm_text.specs.declared.word.TermWord.{TermWord}
-use Rattle.sfm_text.specs.declared.word.TermWord.TheVariants.{WeightWord, CutWord, NeedWord, CoverWord, TableWord}
+use Rattle.sfm_text.specs.declared.word.TermWord.TheVariants.{WeightWord, CutWord, NeedWord, CoverWord, TableWord, ConcaveWord, RankWord}
 use Rattle.sfm_text.proofs.Matches.{length-Matched, All-Matched}
 use Rattle.sfm_text.proofs.Numbers.{small-number}
 
@@ -90,3 +91,80 @@ table-count parts values places h =
     let numbers : length values ≡ length shape.numbers = values-count TableWord parts values places h ∙ ap (λ (p : LineParts). length p.numbers) shape.parts_are in
     let elements : length places ≡ length shape.elements = h.elements ∙ ap (λ (p : LineParts). length p.elements) shape.parts_are in
     rw (numbers, elements) shape.count
+
+pub concave-count : (parts : LineParts) (values : List ℤ) (places : List ℕ) → AreRead ConcaveWord parts values places → length values ≡ length places
+concave-count parts values places h =
+    omega (arith, values-count ConcaveWord parts values places h, h.elements, h.shape.count.same, ap (λ (p : LineParts). length p.numbers) h.shape.parts_are, ap (λ (p : LineParts). length p.elements) h.shape.parts_are)
+
+pub concave-elements : (parts : LineParts) (values : List ℤ) (places : List ℕ) → AreRead ConcaveWord parts values places → AreElements places
+concave-elements parts values places h = read-elements ConcaveWord parts values places h (omega (arith, h.elements, h.shape.count.some, ap (λ (p : LineParts). length p.elements) h.shape.parts_are))
+
+-- the ranks are told apart
+uniform-other : UniformRank ≡ LaminarRank → ⊥
+uniform-other e = cc
+
+none-uniform : NoRank ≡ UniformRank → ⊥
+none-uniform e = cc
+
+none-laminar : NoRank ≡ LaminarRank → ⊥
+none-laminar e = cc
+
+rank-of-uniform : (tokens : List (List ℕ)) (parts : LineParts) → IsUniformLine tokens parts → parts.rank ≡ UniformRank
+rank-of-uniform tokens parts h = ap (λ (p : LineParts). p.rank) h.parts_are
+
+rank-of-laminar : (tokens : List (List ℕ)) (parts : LineParts) → IsLaminarLine tokens parts → parts.rank ≡ LaminarRank
+rank-of-laminar tokens parts h = ap (λ (p : LineParts). p.rank) h.parts_are
+
+module _ (parts : LineParts) (values : List ℤ) (places : List ℕ) (h : AreRead RankWord parts values places) where
+  pub rank-some : parts.rank ≡ NoRank → ⊥
+  rank-some none = at h.shape
+    where
+      at : IsRankLine h.tokens parts → ⊥
+      at (inl u) = none-uniform (sym none ∙ rank-of-uniform h.tokens parts u)
+      at (inr l) = none-laminar (sym none ∙ rank-of-laminar h.tokens parts l)
+
+  module _ (is : parts.rank ≡ UniformRank) where
+    as-uniform : IsUniformLine h.tokens parts
+    as-uniform = at h.shape
+      where
+        at : IsRankLine h.tokens parts → IsUniformLine h.tokens parts
+        at (inl u) = u
+        at (inr l) = absurd (uniform-other (sym is ∙ rank-of-laminar h.tokens parts l))
+
+    pub uniform-two : length values ≡ 2
+    uniform-two = values-count RankWord parts values places h ∙ ap (λ (p : LineParts). length p.numbers) as-uniform.parts_are
+
+    pub uniform-elements : AreElements places
+    uniform-elements = read-elements RankWord parts values places h (omega (arith, h.elements, as-uniform.some, ap (λ (p : LineParts). length p.elements) as-uniform.parts_are))
+
+  module _ (is : parts.rank ≡ LaminarRank) where
+    as-laminar : IsLaminarLine h.tokens parts
+    as-laminar = at h.shape
+      where
+        at : IsRankLine h.tokens parts → IsLaminarLine h.tokens parts
+        at (inl u) = absurd (uniform-other (sym (rank-of-uniform h.tokens parts u) ∙ is))
+        at (inr l) = l
+
+    pub laminar-each : length values ≡ length parts.groups + 1
+    laminar-each =
+        let l = as-laminar in
+        omega (arith, values-count RankWord parts values places h, ap (λ (p : LineParts). length p.numbers) l.parts_are, ap (λ (p : LineParts). length p.groups) l.parts_are, length-map l.groups (λ (g : List ℕ × List (List ℕ)). g.0), length-map l.groups (λ (g : List ℕ × List (List ℕ)). g.1))
+
+    pub laminar-elements : AreElements places
+    laminar-elements = read-elements RankWord parts values places h (omega (arith, h.elements, as-laminar.cut.some, ap (λ (p : LineParts). length p.elements) as-laminar.parts_are))
+
+-- a list of two
+two-of : (values : List ℤ) (d e : ℤ) → length values ≡ 2 → get_or values 0 d ∷ get_or values 1 e ∷ [] ≡ values
+two-of [] d e h = absurd (omega (arith, h))
+two-of (a ∷ []) d e h = absurd (omega (arith, h))
+two-of (a ∷ b ∷ []) d e h = refl
+two-of (a ∷ b ∷ c ∷ values) d e h = absurd (omega (arith, h))
+
+-- a number of the line is kept as it is
+pub kept-at : (values : List ℤ) (i : ℕ) → i < length values → All (IsAtMost (10 ^ 12)) values → to_z w128 (of_z w128 (get_or values i (pos 0))) ≡ get_or values i (pos 0)
+kept-at values i lt small =
+    let s = small i (pos 0) lt in
+    omega (arith, ints, s.low, s.high)
+
+pub kept-two : (values : List ℤ) → length values ≡ 2 → All (IsAtMost (10 ^ 12)) values → to_z w128 (of_z w128 (get_or values 0 (pos 0))) ∷ to_z w128 (of_z w128 (get_or values 1 (pos 0))) ∷ [] ≡ values
+kept-two values two small = rw (kept-at values 0 (omega (arith, two)) small, kept-at values 1 (omega (arith, two)) small) (two-of values (pos 0) (pos 0) two)

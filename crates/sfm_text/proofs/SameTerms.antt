@@ -1,5 +1,5 @@
 -- Two terms that one line stands for have the same places and the same size.
-use Rattle.std.proofs.Common.{◌≡◌, ◌≢◌, ℕ, ◌<◌, ◌≤◌, ◌^◌, inl, inr, List, [], ◌∷◌, ◌++◌, length, get_or, AllPairs, ℤ, pos, sym, ap, ◌∙◌, arith}
+use Rattle.std.proofs.Common.{◌≡◌, ◌≢◌, ℕ, ◌<◌, ◌≤◌, ◌^◌, inl, inr, List, [], ◌∷◌, ◌++◌, length, get_or, AllPairs, ℤ, pos, refl, sym, ap, ◌∙◌, arith}
 use Rattle.std.proofs.lemmas.Int.{ints, by_lt_z}
 use Rattle.std.proofs.lemmas.Bool.{cases_lt}
 use Rattle.std.proofs.lemmas.Option.{slice_get_within}
@@ -8,16 +8,20 @@ use mathlib.Core.Logic.{⊎_elim}
 use Rattle.sfm_spec.specs.Sets.{IsPlaced, magnitudes}
 use Rattle.sfm_kind.specs.Kinds.{kind_places, kind_size}
 use Rattle.sfm_simple.specs.TableLaws.{greatest}
+use Rattle.sfm_concave.specs.ConcaveLaws as concaves
 use Rattle.sfm_kind.specs.Instance.{AreInBounds, support_of, total_size_of}
 use Rattle.sfm_kind.specs.declared.kind.Kind.{Kind}
 use Rattle.sfm_kind.proofs.Bounds.{kind-elements, total_size-push, support-push, in_bounds-push}
 use Rattle.sfm_text.specs.Matched.{Matched}
 use Rattle.sfm_text.specs.Parts.{LineParts}
 use Rattle.sfm_text.specs.Words.{lowest_of, IsTermOf}
+use Rattle.sfm_text.specs.RankLines.{IsRankTerm}
+use Rattle.sfm_text.specs.declared.word.RankKind.{RankKind}
+use Rattle.sfm_text.specs.declared.word.RankKind.TheVariants.{NoRank, UniformRank, LaminarRank}
 use Rattle.sfm_text.specs.TermLines.{IsNumberFrom, IsElement, StandsFor}
 use Rattle.sfm_text.specs.Reading.{AreTooMuch}
 use Rattle.sfm_text.specs.declared.word.TermWord.{TermWord}
-use Rattle.sfm_text.specs.declared.word.TermWord.TheVariants.{WeightWord, CutWord, NeedWord, CoverWord, TableWord}
+use Rattle.sfm_text.specs.declared.word.TermWord.TheVariants.{WeightWord, CutWord, NeedWord, CoverWord, TableWord, ConcaveWord, RankWord}
 use Rattle.sfm_text.proofs.WordLines.{of-term-line}
 use Rattle.sfm_text.proofs.Matches.{Matched-same, Matched-both, length-Matched}
 use Rattle.sfm_text.proofs.Numbers.{from-same}
@@ -26,6 +30,22 @@ use Rattle.sfm_text.proofs.TermReasons.{place-same}
 same_first : (a b : ℤ) → a ∷ [] ≡ b ∷ [] → a ≡ b
 same_first a b e = cc
 
+same_both : (a b c d : ℤ) → a ∷ b ∷ [] ≡ c ∷ d ∷ [] → (a ≡ c) × (b ≡ d)
+same_both a b c d e = let first : a ≡ c = cc in let second : b ≡ d = cc in (first, second)
+
+-- the terms of ranks
+rank-places : (rank : RankKind) (parts : LineParts) (values : List ℤ) (places : List ℕ) (term : Kind) → IsRankTerm rank parts values places term → kind_places term ≡ places
+rank-places NoRank parts values places term h = absurd h
+rank-places UniformRank parts values places term h = ap kind_places h.kind ∙ h.same_places
+rank-places LaminarRank parts values places term h = ap kind_places h.kind ∙ h.same_places
+
+rank-size : (rank : RankKind) (parts : LineParts) (values : List ℤ) (places : List ℕ) (s t : Kind) → IsRankTerm rank parts values places s → IsRankTerm rank parts values places t → kind_size s ≡ kind_size t
+rank-size NoRank parts values places s t h g = absurd h
+rank-size UniformRank parts values places s t h g =
+    let (number, cap) = same_both h.uniform.w h.uniform.cap g.uniform.w g.uniform.cap (h.same_numbers ∙ sym g.same_numbers) in
+    ap kind_size h.kind ∙ (rw (number, cap, h.same_places, g.same_places) refl ∙ sym (ap kind_size g.kind))
+rank-size LaminarRank parts values places s t h g = ap kind_size h.kind ∙ (rw (h.same_places, g.same_places, h.same_number, g.same_number, h.same_groups, g.same_groups) refl ∙ sym (ap kind_size g.kind))
+
 -- the places of a term are those that it was made of
 pub term-places : (word : TermWord) (parts : LineParts) (values : List ℤ) (places : List ℕ) (term : Kind) → IsTermOf word parts values places term → kind_places term ≡ places
 term-places WeightWord parts values places term h = ap kind_places h.kind ∙ h.same_places
@@ -33,6 +53,8 @@ term-places CutWord parts values places term h = ap kind_places h.kind ∙ h.sam
 term-places NeedWord parts values places term h = ap kind_places h.kind ∙ h.same_places
 term-places CoverWord parts values places term h = ap kind_places h.kind ∙ h.same_places
 term-places TableWord parts values places term h = ap kind_places h.kind ∙ h.same_places
+term-places ConcaveWord parts values places term h = ap kind_places h.kind ∙ h.same_places
+term-places RankWord parts values places term h = rank-places parts.rank parts values places term h
 
 -- and its size is one number
 pub term-size : (word : TermWord) (parts : LineParts) (values : List ℤ) (places : List ℕ) (s t : Kind) → IsTermOf word parts values places s → IsTermOf word parts values places t → kind_size s ≡ kind_size t
@@ -41,6 +63,8 @@ term-size CutWord parts values places s t h g = ap kind_size h.kind ∙ (same_fi
 term-size NeedWord parts values places s t h g = ap kind_size h.kind ∙ sym (ap kind_size g.kind)
 term-size CoverWord parts values places s t h g = ap kind_size h.kind ∙ (same_first h.cover.w g.cover.w (h.same_number ∙ sym g.same_number) ∙ sym (ap kind_size g.kind))
 term-size TableWord parts values places s t h g = ap kind_size h.kind ∙ (ap greatest (h.same_values ∙ sym g.same_values) ∙ sym (ap kind_size g.kind))
+term-size ConcaveWord parts values places s t h g = ap kind_size h.kind ∙ (ap concaves.greatest (h.same_values ∙ sym g.same_values) ∙ sym (ap kind_size g.kind))
+term-size RankWord parts values places s t h g = rank-size parts.rank parts values places s t h g
 
 -- the two terms agree in all that a total counts
 pub record AgreeInTotal (s t : Kind) : Type 0 where

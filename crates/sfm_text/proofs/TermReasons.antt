@@ -1,6 +1,6 @@
 -- The reasons that a term line does not have, as its parts are read one kind after another.
-use Rattle.std.proofs.Common.{◌≡◌, ◌≢◌, ℕ, ◌<◌, ◌≤◌, List, [], ◌∷◌, length, get_or, slice_get, Some, Contains, AllPairs, codes, ℤ, sym, ap, ◌∙◌, arith}
-use Rattle.std.specs.List.{Any}
+use Rattle.std.proofs.Common.{◌≡◌, ◌≢◌, ◌⊎◌, inl, inr, ℕ, ◌<◌, ◌≤◌, List, [], ◌∷◌, length, get_or, slice_get, Some, Contains, AllPairs, codes, ℤ, sym, ap, ◌∙◌, arith}
+use Rattle.std.specs.List.{All, Any}
 use Rattle.std.proofs.lemmas.Option.{slice_get-get_or, slice_get_within, same_Some}
 use Rattle.std.proofs.lemmas.List.Elements.{All-get_or}
 use Rattle.std.proofs.lemmas.Bool.{cases_lt}
@@ -18,11 +18,12 @@ use Rattle.sfm_text.specs.Matched.{Matched}
 use Rattle.sfm_text.specs.Parts.{LineParts}
 use Rattle.sfm_text.specs.Words.{word_text, lowest_of, HasParts, BreaksLaw}
 use Rattle.sfm_text.specs.TermLines.{IsNumberFrom, IsElement, StandsTwice}
-use Rattle.sfm_text.specs.Reading.{State, Has, FirstReason, reason_order}
+use Rattle.sfm_text.specs.Reading.{State, Has, HasStranger, FirstReason, reason_order}
 use Rattle.sfm_text.specs.ReadParts.{state_at, IsLineOf}
 use Rattle.sfm_text.proofs.WordLines.{of-term-line, not-end, shaped-here}
 use Rattle.sfm_text.proofs.Matches.{Matched-at, Matched-both, Matched-same, length-Matched}
 use Rattle.sfm_text.proofs.Numbers.{from-same}
+use Rattle.sfm_text.proofs.Colons.{none-any}
 use Rattle.sfm_text.proofs.Repeats.{twice-at, twice-same}
 
 -- none of the reasons below the k-th
@@ -122,34 +123,58 @@ module _ (instance : InstanceData) (word : TermWord) (rest : List (List ℕ)) (l
 
       pub at-name : Any (IsNewName instance.names) parts.elements → FirstReason (state_at Terms instance) line Name
       at-name (k, text, lt, e, new) = record {
-        holds = (word, rest, parts, record { first = is.tokens_are; shape = shape }, (k, text, lt, e, λ form (j, within, same). new j text within same));
+        holds = (word, rest, parts, record { first = is.tokens_are; shape = shape }, inl (k, text, lt, e, λ form (j, within, same). new j text within same));
         first = none-name;
       }
 
-      module _ (places : List ℕ) (named : AreElementNames instance.names) (elements : Matched (IsElement instance.names) parts.elements places) where
-        no-name : Has (state_at Terms instance) line Name → ⊥
-        no-name h =
-            let (k, text, lt, e, wrong) = of-term-line word (tokens_of line) rest parts (λ word' rest' parts'. Any (λ text. IsName text → Contains instance.names text → ⊥) parts'.elements) is.tokens_are shape h in
-            let (place, at) = Matched-at (IsElement instance.names) parts.elements places k text elements lt in
-            let here : IsElement instance.names text place = rw e at at in
-            let within = slice_get_within instance.names place text here in
-            let there : get_or instance.names place text ≡ text = same_Some (get_or instance.names place text) text (sym (slice_get-get_or instance.names place text within) ∙ here) in
-            let form : IsName (get_or instance.names place text) = All-get_or IsName instance.names place text within named.forms in
-            wrong (rw there at form) (place, within, there)
+      pub at-stranger : HasStranger parts → FirstReason (state_at Terms instance) line Name
+      at-stranger stranger = record {
+        holds = (word, rest, parts, record { first = is.tokens_are; shape = shape }, inr stranger);
+        first = none-name;
+      }
 
-        -- the elements are names of the ground
+      module _ (places : List ℕ) (named : AreElementNames instance.names) (elements : Matched (IsElement instance.names) parts.elements places) (members : All (λ names. All (Contains parts.elements) names) parts.groups) where
+        no-stranger : HasStranger parts → ⊥
+        no-stranger (k, names, lt, e, (j, text, within, f, out)) =
+            let all : All (Contains parts.elements) names = rw e at (members k names lt) in
+            out (rw f at (all j text within))
+
+        no-name : Has (state_at Terms instance) line Name → ⊥
+        no-name h = at (of-term-line word (tokens_of line) rest parts (λ word' rest' parts'. Any (λ text. IsName text → Contains instance.names text → ⊥) parts'.elements ⊎ HasStranger parts') is.tokens_are shape h)
+          where
+            at : Any (λ text. IsName text → Contains instance.names text → ⊥) parts.elements ⊎ HasStranger parts → ⊥
+            at (inr stranger) = no-stranger stranger
+            at (inl (k, text, lt, e, wrong)) =
+                let (place, found) = Matched-at (IsElement instance.names) parts.elements places k text elements lt in
+                let here : IsElement instance.names text place = rw e at found in
+                let within = slice_get_within instance.names place text here in
+                let there : get_or instance.names place text ≡ text = same_Some (get_or instance.names place text) text (sym (slice_get-get_or instance.names place text within) ∙ here) in
+                let form : IsName (get_or instance.names place text) = All-get_or IsName instance.names place text within named.forms in
+                wrong (rw there at form) (place, within, there)
+
+        -- the elements are names of the ground, and the members are elements
         pub none-twice : (reason : Reason) → reason_order reason < 6 → Has (state_at Terms instance) line reason → ⊥
         none-twice = none-below (state_at Terms instance) line 6 (λ lt h. is.good_bytes h) (λ lt h. h.1 word rest is.tokens_are) (λ lt h. h.1 word rest parts (record { first = is.tokens_are; shape = shape })) (λ lt h. no-number h) (λ lt h. no-name h) (λ lt. absurd (omega arith)) (λ lt. absurd (omega arith)) (λ lt. absurd (omega arith))
 
         pub at-twice : StandsTwice places → FirstReason (state_at Terms instance) line Twice
         at-twice t = record {
-          holds = (word, rest, parts, record { first = is.tokens_are; shape = shape }, twice-places instance.names parts.elements places elements t);
+          holds = (word, rest, parts, record { first = is.tokens_are; shape = shape }, inl (twice-places instance.names parts.elements places elements t));
           first = none-twice;
         }
 
-        module _ (once : StandsTwice places → ⊥) where
+        pub at-member-twice : Any (λ names. StandsTwice names) parts.groups → FirstReason (state_at Terms instance) line Twice
+        at-member-twice any = record {
+          holds = (word, rest, parts, record { first = is.tokens_are; shape = shape }, inr any);
+          first = none-twice;
+        }
+
+        module _ (once : StandsTwice places → ⊥) (members_once : All (λ names. StandsTwice names → ⊥) parts.groups) where
           no-twice : Has (state_at Terms instance) line Twice → ⊥
-          no-twice h = once (twice-texts instance.names parts.elements places named.distinct elements (of-term-line word (tokens_of line) rest parts (λ word' rest' parts'. StandsTwice parts'.elements) is.tokens_are shape h))
+          no-twice h = at (of-term-line word (tokens_of line) rest parts (λ word' rest' parts'. StandsTwice parts'.elements ⊎ Any (λ names. StandsTwice names) parts'.groups) is.tokens_are shape h)
+            where
+              at : StandsTwice parts.elements ⊎ Any (λ names. StandsTwice names) parts.groups → ⊥
+              at (inl twice) = once (twice-texts instance.names parts.elements places named.distinct elements twice)
+              at (inr any) = none-any (λ names. StandsTwice names) parts.groups members_once any
 
           -- no element stands twice
           pub none-law : (reason : Reason) → reason_order reason < 7 → Has (state_at Terms instance) line reason → ⊥

@@ -1,5 +1,5 @@
 -- What `==` and `!=` on texts say.
-use Rattle.std.proofs.Common.{◌≡◌, ℕ, List, Bool, true, false, not, refl}
+use Rattle.std.proofs.Common.{◌≡◌, ℕ, List, Bool, true, false, not, refl, sym}
 use Rattle.std.specs.Str.{bytes_eq}
 use Rattle.std.proofs.lemmas.Bool.{false≢true}
 use Rattle.std.proofs.lemmas.Slice.Eq.{bytes_eq-Decides}
@@ -10,3 +10,10 @@ true_from_not false h = absurd (false≢true h)
 
 pub same_bytes : (x y : List ℕ) → false ≡ not (bytes_eq x y) → x ≡ y
 same_bytes x y h = (bytes_eq-Decides x y).0 (true_from_not (bytes_eq x y) h)
+
+pub other_bytes : (x y : List ℕ) → true ≡ not (bytes_eq x y) → x ≡ y → ⊥
+other_bytes x y h e = at (bytes_eq x y) ((bytes_eq-Decides x y).1 e) h
+  where
+    at : (b : Bool) → b ≡ true → true ≡ not b → ⊥
+    at true e h = false≢true (sym h)
+    at false e h = false≢true e

@@ -5,25 +5,28 @@ use Rattle.sfm_text.specs.Words.{HasParts, word_text}
 use Rattle.sfm_text.specs.TermLines.{IsShaped}
 use Rattle.sfm_text.specs.Reading.{HasTermLine}
 use Rattle.sfm_text.specs.declared.word.TermWord.{TermWord}
-use Rattle.sfm_text.specs.declared.word.TermWord.TheVariants.{WeightWord, CutWord, NeedWord, CoverWord, TableWord}
+use Rattle.sfm_text.specs.declared.word.TermWord.TheVariants.{WeightWord, CutWord, NeedWord, CoverWord, TableWord, ConcaveWord, RankWord}
 use Rattle.sfm_text.proofs.Cutting.{front-same}
 use Rattle.sfm_text.proofs.Colons.{colon-same}
 use Rattle.sfm_text.proofs.Matches.{Matched-same}
+use Rattle.sfm_text.proofs.Pieces.{concave-same, rank-same}
 
--- the word whose third byte is that one
-abbrev by_third : ℕ → TermWord
-by_third c = if nat_eq c 105 then WeightWord else (if nat_eq c 116 then CutWord else (if nat_eq c 101 then NeedWord else (if nat_eq c 118 then CoverWord else TableWord)))
+-- the word whose third byte and first byte are those
+abbrev by_bytes : ℕ → ℕ → TermWord
+by_bytes c a = if nat_eq c 105 then WeightWord else (if nat_eq c 116 then CutWord else (if nat_eq c 101 then NeedWord else (if nat_eq c 118 then CoverWord else (if nat_eq c 98 then TableWord else (if nat_eq a 99 then ConcaveWord else RankWord)))))
 
-third-of : (word : TermWord) → by_third (get_or (word_text word) 2 0) ≡ word
-third-of WeightWord = refl
-third-of CutWord = refl
-third-of NeedWord = refl
-third-of CoverWord = refl
-third-of TableWord = refl
+bytes-of : (word : TermWord) → by_bytes (get_or (word_text word) 2 0) (get_or (word_text word) 0 0) ≡ word
+bytes-of WeightWord = refl
+bytes-of CutWord = refl
+bytes-of NeedWord = refl
+bytes-of CoverWord = refl
+bytes-of TableWord = refl
+bytes-of ConcaveWord = refl
+bytes-of RankWord = refl
 
 -- each word has its own text
 pub word_text-same : (v w : TermWord) → word_text v ≡ word_text w → v ≡ w
-word_text-same v w e = sym (third-of v) ∙ (ap (λ (text : List ℕ). by_third (get_or text 2 0)) e ∙ third-of w)
+word_text-same v w e = sym (bytes-of v) ∙ (ap (λ (text : List ℕ). by_bytes (get_or text 2 0) (get_or text 0 0)) e ∙ bytes-of w)
 
 -- a token is cut into one pair
 pair-same : (token : List ℕ) (p q : List ℕ × List ℕ) → IsPairToken token p → IsPairToken token q → p ≡ q
@@ -53,6 +56,8 @@ parts-same CutWord tokens p q h g = split-same 1 tokens p q h.split g.split
 parts-same NeedWord tokens p q h g = split-same 0 tokens p q h.split g.split
 parts-same CoverWord tokens p q h g = split-same 1 tokens p q h.split g.split
 parts-same TableWord tokens p q h g = table-same tokens p q h g
+parts-same ConcaveWord tokens p q h g = concave-same tokens p q h g
+parts-same RankWord tokens p q h g = rank-same tokens p q h g
 
 -- so what holds of the parts of a line holds of these
 pub of-term-line : (word : TermWord) (tokens rest : List (List ℕ)) (parts : LineParts) (P : TermWord → List (List ℕ) → LineParts → Type 0) → tokens ≡ word_text word ∷ rest → HasParts word rest parts → HasTermLine tokens P → P word rest parts
@@ -75,6 +80,8 @@ not-end word e = apart word (ap (λ (text : List ℕ). get_or text 2 0) e)
     apart NeedWord h = omega (arith, h)
     apart CoverWord h = omega (arith, h)
     apart TableWord h = omega (arith, h)
+    apart ConcaveWord h = omega (arith, h)
+    apart RankWord h = omega (arith, h)
 
 -- the parts of a line are those of its word
 pub shaped-here : (word : TermWord) (tokens rest : List (List ℕ)) (word' : TermWord) (rest' : List (List ℕ)) (parts : LineParts) → tokens ≡ word_text word ∷ rest → IsShaped tokens word' rest' parts → HasParts word rest parts

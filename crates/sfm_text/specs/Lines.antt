@@ -39,6 +39,10 @@ lines_of text = lines_from 1 0 text
 abbrev pub texts_of : List (Bor (List ℕ)) → List (List ℕ)
 texts_of tokens = map (λ token. token.now) tokens
 
+-- what lists of tokens point to
+abbrev pub text_lists_of : List (Bor (List (Bor (List ℕ)))) → List (List (List ℕ))
+text_lists_of lists = map (λ list. texts_of list.now) lists
+
 -- a space or a tab
 abbrev pub is_blank : ℕ → Bool
 is_blank c = (c == 32) || (c == 9)

@@ -1,17 +1,22 @@
 -- The shape of each term line, and the parts that the tokens behind its word have. A kind with further parts brings a
 -- field to the parts, which `plain_parts` fills for all lines without it.
-use Rattle.std.specs.Prelude.{◌≡◌, ◌≢◌, ◌⊎◌, ℕ, ◌<◌, ◌≤◌, ◌^◌, take, drop, slice_index, slice_get, Some, List, ◌∷◌, ◌++◌, length, map, codes}
-use Rattle.std.specs.List.{All}
+use Rattle.std.specs.Prelude.{◌≡◌, ◌≢◌, ◌⊎◌, ℕ, ◌<◌, ◌≤◌, ◌^◌, take, drop, slice_index, slice_get, Some, Bool, List, [], ◌∷◌, ◌++◌, length, map, codes, bytes_eq}
+use Rattle.std.specs.List.{All, slice_split}
+use Rattle.sfm_text.specs.declared.word.RankKind.{RankKind}
+use Rattle.sfm_text.specs.declared.word.RankKind.TheVariants.{NoRank, UniformRank, LaminarRank}
 use Rattle.sfm_text.specs.Matched.{Matched}
 
--- the texts that stand in the places of numbers, and those that stand in the places of elements
+-- the texts that stand in the places of numbers, and those that stand in the places of elements; which rank a line means,
+-- and the names of each of its groups
 pub record LineParts : Type 0 where
   pub numbers : List (List ℕ)
   pub elements : List (List ℕ)
+  pub rank : RankKind
+  pub groups : List (List (List ℕ))
 
 -- numbers and elements alone
 abbrev pub plain_parts : List (List ℕ) → List (List ℕ) → LineParts
-plain_parts numbers elements = record { numbers = numbers; elements = elements }
+plain_parts numbers elements = record { numbers = numbers; elements = elements; rank = NoRank; groups = [] }
 
 -- a colon or a semicolon alone
 abbrev pub IsMark : List ℕ → Type 0
@@ -89,3 +94,70 @@ pub record IsTableLine (tokens : List (List ℕ)) (parts : LineParts) : Type 0 w
   pub cut : IsCutAtColon tokens numbers elements
   pub count : IsTableCount (length numbers) (length elements)
   pub parts_are : parts ≡ plain_parts numbers elements
+
+-- as many numbers as elements, at least one
+pub record IsConcaveCount (numbers elements : ℕ) : Type 0 where
+  pub some : 1 ≤ elements
+  pub same : numbers ≡ elements
+
+-- numbers, a colon, and elements
+pub record IsConcaveLine (tokens : List (List ℕ)) (parts : LineParts) : Type 0 where
+  pub numbers : List (List ℕ)
+  pub elements : List (List ℕ)
+  pub cut : IsCutAtColon tokens numbers elements
+  pub count : IsConcaveCount (length numbers) (length elements)
+  pub parts_are : parts ≡ plain_parts numbers elements
+
+-- a number, the word `uniform`, a cap, a colon, and at least one element
+pub record IsUniformLine (tokens : List (List ℕ)) (parts : LineParts) : Type 0 where
+  pub number : List ℕ
+  pub cap : List ℕ
+  pub elements : List (List ℕ)
+  pub cut : IsCutAtColon tokens (number ∷ codes "uniform" ∷ cap ∷ []) elements
+  pub some : 1 ≤ length elements
+  pub parts_are : parts ≡ record { numbers = number ∷ cap ∷ []; elements = elements; rank = UniformRank; groups = [] }
+
+-- a semicolon alone
+abbrev pub is_semicolon : List ℕ → Bool
+is_semicolon token = bytes_eq token (codes ";")
+
+-- the runs of tokens between semicolons alone
+abbrev pub cut_at_semicolons : List (List ℕ) → List (List (List ℕ))
+cut_at_semicolons tokens = slice_split is_semicolon tokens
+
+-- a cap and at least one name
+pub record IsGroupCut (tokens : List (List ℕ)) (group : List ℕ × List (List ℕ)) : Type 0 where
+  pub cut : tokens ≡ group.0 ∷ group.1
+  pub some : 1 ≤ length group.1
+  pub unmarked : AreUnmarked tokens
+
+-- at least one element, and groups
+pub record AreGroupsCut (pieces : List (List (List ℕ))) (elements : List (List ℕ)) (groups : List (List ℕ × List (List ℕ))) : Type 0 where
+  pub rest : List (List (List ℕ))
+  pub pieces_are : pieces ≡ elements ∷ rest
+  pub some : 1 ≤ length elements
+  pub unmarked : AreUnmarked elements
+  pub each : Matched IsGroupCut rest groups
+
+-- a number, the word `laminar`, a colon, and what stands behind it
+pub record IsLaminarHead (tokens : List (List ℕ)) (number : List ℕ) (behind : List (List ℕ)) : Type 0 where
+  pub tokens_are : tokens ≡ number ∷ codes "laminar" ∷ codes ":" ∷ behind
+  pub no_mark : IsMark number → ⊥
+
+-- the number and the caps, the elements, and the names of the groups
+abbrev pub laminar_parts_of : List ℕ → List (List ℕ) → List (List ℕ × List (List ℕ)) → LineParts
+laminar_parts_of number elements groups = record { numbers = number ∷ map (λ group. group.0) groups; elements = elements; rank = LaminarRank; groups = map (λ group. group.1) groups }
+
+-- behind the colon elements, and for each group a semicolon, its cap and its names
+pub record IsLaminarLine (tokens : List (List ℕ)) (parts : LineParts) : Type 0 where
+  pub number : List ℕ
+  pub behind : List (List ℕ)
+  pub elements : List (List ℕ)
+  pub groups : List (List ℕ × List (List ℕ))
+  pub head : IsLaminarHead tokens number behind
+  pub cut : AreGroupsCut (cut_at_semicolons behind) elements groups
+  pub parts_are : parts ≡ laminar_parts_of number elements groups
+
+-- a line of one of the ranks
+abbrev pub IsRankLine : List (List ℕ) → LineParts → Type 0
+IsRankLine tokens parts = IsUniformLine tokens parts ⊎ IsLaminarLine tokens parts

@@ -12,7 +12,7 @@ use Rattle.sfm_text.specs.declared.stage.Stage.{Stage}
 use Rattle.sfm_text.specs.declared.stage.Stage.TheVariants.{Terms}
 use Rattle.sfm_text.specs.declared.parts.Parts.{Parts}
 use Rattle.sfm_text.specs.declared.word.TermWord.{TermWord}
-use Rattle.sfm_text.specs.Lines.{texts_of, tokens_of}
+use Rattle.sfm_text.specs.Lines.{texts_of, text_lists_of, tokens_of}
 use Rattle.sfm_text.specs.Parts.{LineParts}
 use Rattle.sfm_text.specs.Words.{word_text}
 use Rattle.sfm_text.specs.TermLines.{StandsFor}
@@ -20,7 +20,7 @@ use Rattle.sfm_text.specs.Reading.{State, IsBadByte, Has, Takes, IsLineRefusal, 
 
 -- the texts that the parts point to
 abbrev pub parts_of : Parts → LineParts
-parts_of parts = record { numbers = texts_of parts.numbers.items; elements = texts_of parts.elements.items }
+parts_of parts = record { numbers = texts_of parts.numbers.items; elements = texts_of parts.elements.items; rank = parts.rank; groups = text_lists_of parts.groups.items }
 
 -- the state with that stage and the names and terms of an instance
 abbrev pub state_at : Stage → InstanceData → State

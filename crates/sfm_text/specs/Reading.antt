@@ -69,18 +69,23 @@ HasWrongNumber Ground tokens = ⊥
 HasWrongNumber Terms tokens = HasTermLine tokens (λ word rest parts. Any (λ text. (value : ℤ) → IsNumberFrom (lowest_of word) text value → ⊥) parts.numbers)
 HasWrongNumber Ended tokens = ⊥
 
--- what stands in a name's place is no name, or none of the ground where an element is meant
+-- some name of a group is not one of the elements of its line
+abbrev pub HasStranger : LineParts → Type 0
+HasStranger parts = Any (λ names. Any (λ text. Contains parts.elements text → ⊥) names) parts.groups
+
+-- what stands in a name's place is no name, or none of the ground where an element is meant, or no element of the line
+-- where one of a group is meant
 abbrev pub HasWrongName : Stage → List (List ℕ) → List (List ℕ) → Type 0
 HasWrongName Header names tokens = ⊥
 HasWrongName Ground names tokens = (rest : List (List ℕ)) × (tokens ≡ codes "ground" ∷ rest) × Any (λ text. IsName text → ⊥) rest
-HasWrongName Terms names tokens = HasTermLine tokens (λ word rest parts. Any (λ text. IsName text → Contains names text → ⊥) parts.elements)
+HasWrongName Terms names tokens = HasTermLine tokens (λ word rest parts. Any (λ text. IsName text → Contains names text → ⊥) parts.elements ⊎ HasStranger parts)
 HasWrongName Ended names tokens = ⊥
 
--- a name stands twice in the ground line, or an element twice in a term line
+-- a name stands twice in the ground line, or an element twice in a term line or in one of its groups
 abbrev pub HasTwice : Stage → List (List ℕ) → Type 0
 HasTwice Header tokens = ⊥
 HasTwice Ground tokens = (rest : List (List ℕ)) × (tokens ≡ codes "ground" ∷ rest) × StandsTwice rest
-HasTwice Terms tokens = HasTermLine tokens (λ word rest parts. StandsTwice parts.elements)
+HasTwice Terms tokens = HasTermLine tokens (λ word rest parts. StandsTwice parts.elements ⊎ Any (λ names. StandsTwice names) parts.groups)
 HasTwice Ended tokens = ⊥
 
 -- the numbers break the law of the kind

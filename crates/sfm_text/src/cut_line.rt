@@ -14,7 +14,10 @@ use sfm_simple::Cut;
 use std::alloc::{AllocError, Global};
 
 /// The parts of the tokens behind the word, or None where they do not have the line's shape.
-pub fn cut_parts<'a>(alloc: Global, tokens: &[&'a [u8]]) -> Result<Option<Parts<'a>>, AllocError>
+pub fn cut_parts<'a, 'b>(
+    alloc: Global,
+    tokens: &'b [&'a [u8]],
+) -> Result<Option<Parts<'a, 'b>>, AllocError>
     ensures { IfOk result (λ r. MatchOption r
         ((parts : LineParts) → IsCutLine (texts_of tokens.now) parts → ⊥)
         (λ parts. IsCutLine (texts_of tokens.now) (parts_of parts))) }

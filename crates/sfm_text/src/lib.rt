@@ -1,16 +1,20 @@
 // Reading instance texts: what is a good one, which instance it stands for, and the first fault of one that is not good.
 #![tactic(auto)]
 
+mod concave_line;
 mod cover_line;
 mod cut;
 mod cut_line;
 mod end;
+mod groups;
+mod laminar_line;
 mod line_fault;
 mod lines;
 mod mark;
 mod need_line;
 mod pair;
 mod parts;
+mod rank_line;
 mod reader;
 mod reading;
 mod reason;
@@ -18,6 +22,7 @@ mod repeat;
 mod stage;
 mod table_line;
 mod term_line;
+mod uniform_line;
 mod weight_line;
 mod word;
 

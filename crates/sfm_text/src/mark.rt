@@ -5,7 +5,7 @@ ghost use Rattle.sfm_text.specs.Lines.{texts_of};
 ghost use Rattle.sfm_text.specs.Parts.{IsMark, AreUnmarked, IsFirstColon, IsCutAtColon};
 
 /// Whether the token is a colon or a semicolon alone.
-fn is_mark(token: &[u8]) -> bool
+pub fn is_mark(token: &[u8]) -> bool
     ensures { IsTrue result ↔ IsMark token.now }
 {
     token == b":".as_slice() || token == b";".as_slice()

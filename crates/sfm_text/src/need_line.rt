@@ -12,7 +12,10 @@ use sfm_simple::Need;
 use std::alloc::{AllocError, Global};
 
 /// The parts of the tokens behind the word, or None where they do not have the line's shape.
-pub fn need_parts<'a>(alloc: Global, tokens: &[&'a [u8]]) -> Result<Option<Parts<'a>>, AllocError>
+pub fn need_parts<'a, 'b>(
+    alloc: Global,
+    tokens: &'b [&'a [u8]],
+) -> Result<Option<Parts<'a, 'b>>, AllocError>
     ensures { IfOk result (λ r. MatchOption r
         ((parts : LineParts) → IsNeedLine (texts_of tokens.now) parts → ⊥)
         (λ parts. IsNeedLine (texts_of tokens.now) (parts_of parts))) }

@@ -5,31 +5,40 @@ ghost use Rattle.sfm_text.specs.Parts.{IsMark, plain_parts, IsSplitAt};
 ghost use Rattle.sfm_text.specs.ReadParts.{parts_of};
 
 use crate::mark::has_mark;
+use crate::word::RankKind;
 use std::alloc::{AllocError, Global};
 
-/// The texts of a term line in the places of numbers, and in the places of elements.
+/// The texts of a term line in the places of numbers, and in the places of elements; which rank it means, and the names of
+/// each of its groups.
 #[derive(Drop)]
-pub struct Parts<'a> {
+pub struct Parts<'a, 'b> {
     pub numbers: Vec<&'a [u8]>,
     pub elements: Vec<&'a [u8]>,
+    pub rank: RankKind,
+    pub groups: Vec<&'b [&'a [u8]]>,
 }
 
-impl<'a> Parts<'a> {
+impl<'a, 'b> Parts<'a, 'b> {
     /// Numbers and elements alone.
-    pub fn plain(numbers: Vec<&'a [u8]>, elements: Vec<&'a [u8]>) -> Parts<'a>
+    pub fn plain(alloc: Global, numbers: Vec<&'a [u8]>, elements: Vec<&'a [u8]>) -> Parts<'a, 'b>
         ensures { parts_of result ≡ plain_parts (texts_of numbers.entry.items) (texts_of elements.entry.items) }
     {
-        Parts { numbers, elements }
+        Parts {
+            numbers,
+            elements,
+            rank: RankKind::NoRank,
+            groups: Vec::new(alloc),
+        }
     }
 }
 
 /// The parts of tokens that are so many numbers and then elements, or None where a colon or a semicolon alone is among
 /// them.
-pub fn split_at<'a>(
+pub fn split_at<'a, 'b>(
     alloc: Global,
-    tokens: &[&'a [u8]],
+    tokens: &'b [&'a [u8]],
     count: usize,
-) -> Result<Option<Parts<'a>>, AllocError>
+) -> Result<Option<Parts<'a, 'b>>, AllocError>
     requires { count ≤ length tokens.now }
     ensures { IfOk result (λ r. MatchOption r
         (Any IsMark (texts_of tokens.now))
@@ -40,5 +49,5 @@ pub fn split_at<'a>(
     }
     let numbers = Vec::from_slice(alloc, &tokens[..count])?;
     let elements = Vec::from_slice(alloc, &tokens[count..])?;
-    Ok(Some(Parts::plain(numbers, elements)))
+    Ok(Some(Parts::plain(alloc, numbers, elements)))
 }

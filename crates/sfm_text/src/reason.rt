@@ -10,11 +10,11 @@ pub enum Reason {
     Bytes,
     /// The first word of the line is not known, or not in its place.
     Word,
-    /// The tokens do not fit the pattern of the line, or the text is not of the form.
+    /// The tokens do not fit the pattern of the line.
     Shape,
     /// A number is none, or outside its range.
     Number,
-    /// A name is none, or not one of the ground.
+    /// A name is none, or not one of the ground, or a group's is none of its line.
     Name,
     /// A name stands twice.
     Twice,

@@ -25,7 +25,10 @@ fn is_table_count(numbers: usize, elements: usize) -> bool
 }
 
 /// The parts of the tokens behind the word, or None where they do not have the line's shape.
-pub fn table_parts<'a>(alloc: Global, tokens: &[&'a [u8]]) -> Result<Option<Parts<'a>>, AllocError>
+pub fn table_parts<'a, 'b>(
+    alloc: Global,
+    tokens: &'b [&'a [u8]],
+) -> Result<Option<Parts<'a, 'b>>, AllocError>
     ensures { IfOk result (λ r. MatchOption r
         ((parts : LineParts) → IsTableLine (texts_of tokens.now) parts → ⊥)
         (λ parts. IsTableLine (texts_of tokens.now) (parts_of parts))) }
@@ -38,7 +41,7 @@ pub fn table_parts<'a>(alloc: Global, tokens: &[&'a [u8]]) -> Result<Option<Part
     }
     let numbers = Vec::from_slice(alloc, numbers)?;
     let elements = Vec::from_slice(alloc, elements)?;
-    Ok(Some(Parts::plain(numbers, elements)))
+    Ok(Some(Parts::plain(alloc, numbers, elements)))
 }
 
 /// The term with these values of the parts of these places, or None where they are those of no submodular function.

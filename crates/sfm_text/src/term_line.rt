@@ -13,11 +13,14 @@ ghost use Rattle.sfm_text.specs.ReadParts.{parts_of, state_at, IsLineOf, IsTermR
 ghost use Rattle.sfm_text.specs.declared.stage.Stage.TheVariants.{Terms};
 ghost use Rattle.std.specs.Prelude.{◌∷◌};
 
+use crate::concave_line::{concave_parts, concave_term};
 use crate::cover_line::{cover_parts, cover_term};
 use crate::cut_line::{cut_parts, cut_term};
+use crate::groups::{are_members, has_member_twice};
 use crate::line_fault::LineEnd;
 use crate::need_line::{need_parts, need_term};
 use crate::parts::Parts;
+use crate::rank_line::{rank_parts, rank_term};
 use crate::reason::Reason;
 use crate::table_line::{table_parts, table_term};
 use crate::weight_line::{weight_parts, weight_term};
@@ -30,11 +33,11 @@ use std::alloc::{AllocError, Global};
 const HIGHEST: i128 = 1_000_000_000_000;
 
 /// The parts of the tokens behind a word, or None where they do not have the shape of its line.
-fn line_parts<'a>(
+fn line_parts<'a, 'b>(
     alloc: Global,
     word: TermWord,
-    tokens: &[&'a [u8]],
-) -> Result<Option<Parts<'a>>, AllocError>
+    tokens: &'b [&'a [u8]],
+) -> Result<Option<Parts<'a, 'b>>, AllocError>
     ensures { IfOk result (λ r. MatchOption r
         ((parts : LineParts) → HasParts word (texts_of tokens.now) parts → ⊥)
         (λ parts. HasParts word (texts_of tokens.now) (parts_of parts))) }
@@ -45,6 +48,8 @@ fn line_parts<'a>(
         TermWord::NeedWord => need_parts(alloc, tokens),
         TermWord::CoverWord => cover_parts(alloc, tokens),
         TermWord::TableWord => table_parts(alloc, tokens),
+        TermWord::ConcaveWord => concave_parts(alloc, tokens),
+        TermWord::RankWord => rank_parts(alloc, tokens),
     }
 }
 
@@ -52,15 +57,15 @@ fn line_parts<'a>(
 fn make_term(
     alloc: Global,
     word: TermWord,
-    _parts: &Parts,
+    parts: &Parts,
     values: &[i128],
     places: &[usize],
 ) -> Result<Option<Kind>, Memory>
-    requires { AreRead word (parts_of _parts.now) values.now places.now }
+    requires { AreRead word (parts_of parts.now) values.now places.now }
     ensures { IfOk result (λ r. MatchOption r
-        (BreaksLaw word (parts_of _parts.now) values.now)
-        (λ term. IsTermOf word (parts_of _parts.now) values.now places.now term
-        × (BreaksLaw word (parts_of _parts.now) values.now → ⊥))) }
+        (BreaksLaw word (parts_of parts.now) values.now)
+        (λ term. IsTermOf word (parts_of parts.now) values.now places.now term
+        × (BreaksLaw word (parts_of parts.now) values.now → ⊥))) }
 {
     match word {
         TermWord::WeightWord => Ok(Some(weight_term(alloc, values, places)?)),
@@ -68,6 +73,8 @@ fn make_term(
         TermWord::NeedWord => Ok(Some(need_term(places))),
         TermWord::CoverWord => Ok(Some(cover_term(alloc, values, places)?)),
         TermWord::TableWord => table_term(alloc, values, places),
+        TermWord::ConcaveWord => concave_term(alloc, values, places),
+        TermWord::RankWord => rank_term(alloc, parts, values, places),
     }
 }
 
@@ -77,8 +84,8 @@ fn lowest_number(word: TermWord) -> i128
     ensures small { neg_ℤ (pos (10 ^ 12)) ≤ℤ result }
 {
     match word {
-        TermWord::WeightWord | TermWord::TableWord => -HIGHEST,
-        TermWord::CutWord | TermWord::NeedWord | TermWord::CoverWord => 0,
+        TermWord::WeightWord | TermWord::TableWord | TermWord::ConcaveWord => -HIGHEST,
+        TermWord::CutWord | TermWord::NeedWord | TermWord::CoverWord | TermWord::RankWord => 0,
     }
 }
 
@@ -169,7 +176,13 @@ pub fn read_term(
     let Some(places) = read_places(alloc, instance, &parts.elements)? else {
         return Err(LineEnd::Fault(Reason::Name));
     };
+    if !are_members(&parts.elements, &parts.groups) {
+        return Err(LineEnd::Fault(Reason::Name));
+    }
     if has_place_twice(&places) {
+        return Err(LineEnd::Fault(Reason::Twice));
+    }
+    if has_member_twice(alloc, &parts.groups)? {
         return Err(LineEnd::Fault(Reason::Twice));
     }
     match make_term(alloc, word, &parts, &values, &places)? {

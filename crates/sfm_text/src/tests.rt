@@ -7,6 +7,8 @@ use std::alloc::{AllocError, Global};
 use std::process::Abort;
 use std::test::Fail;
 
+mod ranks;
+
 /// The line and the word of a text's first fault, or `good` at line 0.
 fn first_fault(alloc: Global, text: &[u8]) -> (usize, &'static [u8]) {
     match read_instance(alloc, text) {
@@ -255,7 +257,7 @@ fn cuts_and_conditions(rt: HostRuntime) -> Result<(), Fail> {
 
 #[test]
 fn covers_and_tables(rt: HostRuntime) -> Result<(), Fail> {
-    let rows: [(&str, usize, &[u8]); 30] = [
+    let rows: [(&str, usize, &[u8]); 28] = [
         ("cover 5 a / cover 0 a b c d", 0, b"good"),
         ("cover", 3, b"shape"),
         ("cover 5", 3, b"shape"),
@@ -288,8 +290,6 @@ fn covers_and_tables(rt: HostRuntime) -> Result<(), Fail> {
         ("table 0 1 1 3 : a b", 3, b"law"),
         ("table 1 1 : a", 3, b"law"),
         ("table 0 0 0 0 0 0 0 1 : a b c", 3, b"law"),
-        ("concave 3 5 : a b", 3, b"word"),
-        ("rank 1 uniform 1 : a", 3, b"word"),
     ];
     for (text, line, reason) in rows {
         has_fault_among(&rt, rt.alloc(), text, line, reason)?;

@@ -15,7 +15,10 @@ use sfm_simple::Weight;
 use std::alloc::{AllocError, Global};
 
 /// The parts of the tokens behind the word, or None where they do not have the line's shape.
-pub fn weight_parts<'a>(alloc: Global, tokens: &[&'a [u8]]) -> Result<Option<Parts<'a>>, AllocError>
+pub fn weight_parts<'a, 'b>(
+    alloc: Global,
+    tokens: &'b [&'a [u8]],
+) -> Result<Option<Parts<'a, 'b>>, AllocError>
     ensures { IfOk result (λ r. MatchOption r
         ((parts : LineParts) → IsWeightLine (texts_of tokens.now) parts → ⊥)
         (λ parts. IsWeightLine (texts_of tokens.now) (parts_of parts))) }
@@ -32,7 +35,7 @@ pub fn weight_parts<'a>(alloc: Global, tokens: &[&'a [u8]]) -> Result<Option<Par
         elements.push(element)?;
         numbers.push(number)?;
     }
-    Ok(Some(Parts::plain(numbers, elements)))
+    Ok(Some(Parts::plain(alloc, numbers, elements)))
 }
 
 /// The term with these numbers at these places.

@@ -16,6 +16,21 @@ pub enum TermWord {
     CoverWord,
     /// `table`
     TableWord,
+    /// `concave`
+    ConcaveWord,
+    /// `rank`
+    RankWord,
+}
+
+/// Which rank a line means by its third word.
+#[derive(Clone, Copy, Debug, PartialEq, Eq)]
+pub enum RankKind {
+    /// None: the line is of another word.
+    NoRank,
+    /// `uniform`
+    UniformRank,
+    /// `laminar`
+    LaminarRank,
 }
 
 /// The word that a token is, or None where it is none.
@@ -30,6 +45,8 @@ pub fn term_word(token: &[u8]) -> Option<TermWord>
         b"need" => Some(TermWord::NeedWord),
         b"cover" => Some(TermWord::CoverWord),
         b"table" => Some(TermWord::TableWord),
+        b"concave" => Some(TermWord::ConcaveWord),
+        b"rank" => Some(TermWord::RankWord),
         _ => None,
     }
 }

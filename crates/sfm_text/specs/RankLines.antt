@@ -1,0 +1,50 @@
+-- What a rank line says: the groups that it tells, the law that these may break, and the term that it stands for. Each rank
+-- brings one case to each definition by ranks.
+use Rattle.std.specs.Prelude.{◌≡◌, ℕ, ◌+◌, Bool, List, [], length, map, slice_index_or, bytes_eq, ℤ, pos}
+use Rattle.std.specs.List.{filter, list_any, range_with_len}
+use Rattle.sfm_spec.specs.Kinds.{Group}
+use Rattle.sfm_kind.specs.declared.kind.Kind.{Kind}
+use Rattle.sfm_kind.specs.declared.kind.Kind.TheVariants.{Laminar}
+use Rattle.sfm_laminar.specs.declared.laminar.Laminar as laminars
+use Rattle.sfm_laminar.specs.Groups.{IsCrossing}
+use Rattle.sfm_text.specs.declared.word.RankKind.{RankKind}
+use Rattle.sfm_text.specs.declared.word.RankKind.TheVariants.{NoRank, UniformRank, LaminarRank}
+use Rattle.sfm_text.specs.Parts.{LineParts}
+use Rattle.sfm_text.specs.LineTerms.{IsUniformTerm}
+
+-- whether a text is one of the texts
+abbrev pub is_among : List (List ℕ) → List ℕ → Bool
+is_among texts text = list_any (λ other. bytes_eq other text) texts
+
+-- the places in the line of those elements that are among the names, in ascending order
+abbrev pub members_of : List (List ℕ) → List (List ℕ) → List ℕ
+members_of elements names = filter (λ e. is_among names (slice_index_or elements e [])) (range_with_len 0 (length elements))
+
+-- the group number i of a line, counted from 0, whose cap stands behind the line's first number and the caps before it
+abbrev pub group_of : List ℤ → LineParts → ℕ → Group
+group_of values parts i = record { cap = slice_index_or values (i + 1) (pos 0); members = members_of parts.elements (slice_index_or parts.groups i []) }
+
+abbrev pub groups_of : List ℤ → LineParts → List Group
+groups_of values parts = map (λ i. group_of values parts i) (range_with_len 0 (length parts.groups))
+
+-- the first number for each element that is independent under the groups
+pub record IsLaminarTerm (parts : LineParts) (values : List ℤ) (places : List ℕ) (term : Kind) : Type 0 where
+  pub laminar : laminars.Laminar
+  pub kind : term ≡ Laminar laminar
+  pub same_places : laminar.places ≡ places
+  pub same_number : laminar.w ≡ slice_index_or values 0 (pos 0)
+  pub same_groups : laminar.groups ≡ groups_of values parts
+
+-- two groups share an element, and neither holds the other
+abbrev pub HasCrossing : List Group → Type 0
+HasCrossing groups = (i : ℕ) × (j : ℕ) × IsCrossing groups i j
+
+abbrev pub BreaksRankLaw : RankKind → LineParts → List ℤ → Type 0
+BreaksRankLaw NoRank parts values = ⊥
+BreaksRankLaw UniformRank parts values = ⊥
+BreaksRankLaw LaminarRank parts values = HasCrossing (groups_of values parts)
+
+abbrev pub IsRankTerm : RankKind → LineParts → List ℤ → List ℕ → Kind → Type 0
+IsRankTerm NoRank parts values places term = ⊥
+IsRankTerm UniformRank parts values places term = IsUniformTerm values places term
+IsRankTerm LaminarRank parts values places term = IsLaminarTerm parts values places term

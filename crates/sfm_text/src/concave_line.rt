@@ -1,0 +1,62 @@
+// The line `concave`, a number for each count of elements, a colon, and the elements.
+ghost use Rattle.std.specs.Prelude.{◌≡◌, ◌↔◌, ◌^◌, length, IsTrue, IfOk, MatchOption};
+ghost use Rattle.std.specs.List.{All};
+ghost use Rattle.sfm_spec.specs.Bounds.{IsAtMost, AreElements};
+ghost use Rattle.sfm_text.specs.Lines.{texts_of};
+ghost use Rattle.sfm_text.specs.Parts.{LineParts, IsConcaveCount, IsConcaveLine};
+ghost use Rattle.sfm_text.specs.LineTerms.{IsConcaveTerm, HasRise};
+ghost use Rattle.sfm_text.specs.ReadParts.{parts_of};
+
+use crate::mark::cut_at_colon;
+use crate::parts::Parts;
+use sfm_base::Memory;
+use sfm_concave::{Concave, ConcaveEnd};
+use sfm_kind::Kind;
+use std::alloc::{AllocError, Global};
+
+/// Whether there are as many numbers as elements, and at least one.
+fn is_concave_count(numbers: usize, elements: usize) -> bool
+    ensures { IsTrue result ↔ IsConcaveCount numbers elements }
+{
+    1 <= elements && numbers == elements
+}
+
+/// The parts of the tokens behind the word, or None where they do not have the line's shape.
+pub fn concave_parts<'a, 'b>(
+    alloc: Global,
+    tokens: &'b [&'a [u8]],
+) -> Result<Option<Parts<'a, 'b>>, AllocError>
+    ensures { IfOk result (λ r. MatchOption r
+        ((parts : LineParts) → IsConcaveLine (texts_of tokens.now) parts → ⊥)
+        (λ parts. IsConcaveLine (texts_of tokens.now) (parts_of parts))) }
+{
+    let Some((numbers, elements)) = cut_at_colon(tokens) else {
+        return Ok(None);
+    };
+    if !is_concave_count(numbers.len(), elements.len()) {
+        return Ok(None);
+    }
+    let numbers = Vec::from_slice(alloc, numbers)?;
+    let elements = Vec::from_slice(alloc, elements)?;
+    Ok(Some(Parts::plain(alloc, numbers, elements)))
+}
+
+/// The term with these values of 1, 2, .. of these places, or None where some increment is above the one before.
+pub fn concave_term(
+    alloc: Global,
+    values: &[i128],
+    places: &[usize],
+) -> Result<Option<Kind>, Memory>
+    requires elements { AreElements places.now }
+    requires same_count { length values.now ≡ length places.now }
+    requires small { All (IsAtMost (10 ^ 12)) values.now }
+    ensures { IfOk result (λ r. MatchOption r
+        (HasRise values.now)
+        (λ term. IsConcaveTerm values.now places.now term × (HasRise values.now → ⊥))) }
+{
+    match Concave::new(alloc, places, values) {
+        Ok(concave) => Ok(Some(Kind::Concave(concave))),
+        Err(ConcaveEnd::Memory) => Err(Memory),
+        Err(ConcaveEnd::Rises { .. }) => Ok(None),
+    }
+}

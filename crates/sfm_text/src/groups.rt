@@ -1,0 +1,118 @@
+// The groups of a line: whether their names are those of the line's elements, whether one stands twice, and the term that
+// they make. A group's members are found by going through the elements in order, so that they ascend.
+ghost use Rattle.std.specs.Prelude.{◌≡◌, ◌+◌, ◌^◌, length, pos, ◌≤ℤ◌, Any, Contains, IfOk, MatchBool, MatchOption};
+ghost use Rattle.std.specs.List.{All};
+ghost use Rattle.sfm_spec.specs.Bounds.{IsAtMost, AreElements};
+ghost use Rattle.sfm_text.specs.Lines.{texts_of, text_lists_of};
+ghost use Rattle.sfm_text.specs.RankLines.{is_among, members_of, groups_of, HasCrossing, IsLaminarTerm};
+ghost use Rattle.sfm_text.specs.TermLines.{StandsTwice};
+ghost use Rattle.sfm_text.specs.ReadParts.{parts_of};
+
+use crate::parts::Parts;
+use crate::repeat::has_repeat;
+use sfm_base::Memory;
+use sfm_kind::Kind;
+use sfm_laminar::{Groups, Laminar, LaminarEnd};
+use std::alloc::{AllocError, Global};
+
+/// Whether a text is one of the texts.
+fn is_one_of(texts: &[&[u8]], text: &[u8]) -> bool
+    ensures { result ≡ is_among (texts_of texts.now) text.now }
+{
+    texts.iter().any(|other| *other == text)
+}
+
+/// Whether each name is one of the elements.
+fn are_elements(elements: &[&[u8]], names: &[&[u8]]) -> bool
+    ensures { MatchBool result
+        (All (Contains (texts_of elements.now)) (texts_of names.now))
+        (Any (λ name. Contains (texts_of elements.now) name → ⊥) (texts_of names.now)) }
+{
+    for name in names {
+        if !is_one_of(elements, name) {
+            return false;
+        }
+    }
+    true
+}
+
+/// Whether each name of each group is one of the elements of the line.
+pub fn are_members(elements: &[&[u8]], groups: &[&[&[u8]]]) -> bool
+    ensures { MatchBool result
+        (All (λ names. All (Contains (texts_of elements.now)) names) (text_lists_of groups.now))
+        (Any (λ names. Any (λ name. Contains (texts_of elements.now) name → ⊥) names) (text_lists_of groups.now)) }
+{
+    for names in groups {
+        if !are_elements(elements, names) {
+            return false;
+        }
+    }
+    true
+}
+
+/// Whether a name stands twice in some group.
+pub fn has_member_twice(alloc: Global, groups: &[&[&[u8]]]) -> Result<bool, Memory>
+    ensures { IfOk result (λ r. MatchBool r
+        (Any (λ names. StandsTwice names) (text_lists_of groups.now))
+        (All (λ names. StandsTwice names → ⊥) (text_lists_of groups.now))) }
+{
+    for names in groups {
+        if has_repeat(alloc, names)? {
+            return Ok(true);
+        }
+    }
+    Ok(false)
+}
+
+/// The places in the line of those elements that are among the names, in ascending order.
+fn members(alloc: Global, elements: &[&[u8]], names: &[&[u8]]) -> Result<Vec<usize>, AllocError>
+    ensures members { IfOk result (λ r. r.items ≡ members_of (texts_of elements.now) (texts_of names.now)) }
+{
+    let mut members = Vec::new(alloc);
+    for (e, element) in elements.iter().enumerate() {
+        if is_one_of(names, element) {
+            members.push(e)?;
+        }
+    }
+    Ok(members)
+}
+
+/// The groups of a line with these parts and numbers.
+fn line_groups(alloc: Global, parts: &Parts, values: &[i128]) -> Result<Groups, Memory>
+    requires each { length values.now ≡ length (parts_of parts.now).groups + 1 }
+    requires low { All (λ value. pos 0 ≤ℤ value) values.now }
+    requires small { All (IsAtMost (10 ^ 12)) values.now }
+    ensures { IfOk result (λ r. r ≡ groups_of values.now (parts_of parts.now)) }
+{
+    let mut groups = Groups::new(alloc);
+    for i in 0..parts.groups.len() {
+        let members = members(alloc, &parts.elements, parts.groups[i])?;
+        groups.push(values[i + 1], members)?;
+    }
+    Ok(groups)
+}
+
+/// The term with the first number for each independent element, or None where two groups cross.
+pub fn laminar_term(
+    alloc: Global,
+    parts: &Parts,
+    values: &[i128],
+    places: &[usize],
+) -> Result<Option<Kind>, Memory>
+    requires each { length values.now ≡ length (parts_of parts.now).groups + 1 }
+    requires named { length places.now ≡ length (parts_of parts.now).elements }
+    requires elements { AreElements places.now }
+    requires low { All (λ value. pos 0 ≤ℤ value) values.now }
+    requires small { All (IsAtMost (10 ^ 12)) values.now }
+    ensures { IfOk result (λ r. MatchOption r
+        (HasCrossing (groups_of values.now (parts_of parts.now)))
+        (λ term. IsLaminarTerm (parts_of parts.now) values.now places.now term
+        × (HasCrossing (groups_of values.now (parts_of parts.now)) → ⊥))) }
+{
+    let groups = line_groups(alloc, parts, values)?;
+    match Laminar::new(alloc, places, values[0], groups) {
+        Ok(laminar) => Ok(Some(Kind::Laminar(laminar))),
+        Err(LaminarEnd::Memory) => Err(Memory),
+        Err(LaminarEnd::Crosses { .. }) => Ok(None),
+    }
+}

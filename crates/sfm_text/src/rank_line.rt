@@ -1,0 +1,52 @@
+// The line `rank`: its third word tells which rank it means. Each rank has its own shape and its own term.
+ghost use Rattle.std.specs.Prelude.{◌≡◌, MatchOption, IfOk};
+ghost use Rattle.sfm_text.specs.Lines.{texts_of};
+ghost use Rattle.sfm_text.specs.Parts.{LineParts, IsRankLine};
+ghost use Rattle.sfm_text.specs.RankLines.{BreaksRankLaw, IsRankTerm};
+ghost use Rattle.sfm_text.specs.TermLines.{AreRead};
+ghost use Rattle.sfm_text.specs.ReadParts.{parts_of};
+ghost use Rattle.sfm_text.specs.declared.word.TermWord.TheVariants.{RankWord};
+
+use crate::groups::laminar_term;
+use crate::laminar_line::laminar_parts;
+use crate::parts::Parts;
+use crate::uniform_line::{uniform_parts, uniform_term};
+use crate::word::RankKind;
+use sfm_base::Memory;
+use sfm_kind::Kind;
+use std::alloc::{AllocError, Global};
+
+/// The parts of the tokens behind the word, or None where they do not have the shape of the line of a rank.
+pub fn rank_parts<'a, 'b>(
+    alloc: Global,
+    tokens: &'b [&'a [u8]],
+) -> Result<Option<Parts<'a, 'b>>, AllocError>
+    ensures { IfOk result (λ r. MatchOption r
+        ((parts : LineParts) → IsRankLine (texts_of tokens.now) parts → ⊥)
+        (λ parts. IsRankLine (texts_of tokens.now) (parts_of parts))) }
+{
+    if let Some(parts) = uniform_parts(alloc, tokens)? {
+        return Ok(Some(parts));
+    }
+    laminar_parts(alloc, tokens)
+}
+
+/// The term of a line with these parts, or None where its groups break the law of their rank.
+pub fn rank_term(
+    alloc: Global,
+    parts: &Parts,
+    values: &[i128],
+    places: &[usize],
+) -> Result<Option<Kind>, Memory>
+    requires { AreRead RankWord (parts_of parts.now) values.now places.now }
+    ensures { IfOk result (λ r. MatchOption r
+        (BreaksRankLaw (parts_of parts.now).rank (parts_of parts.now) values.now)
+        (λ term. IsRankTerm (parts_of parts.now).rank (parts_of parts.now) values.now places.now term
+        × (BreaksRankLaw (parts_of parts.now).rank (parts_of parts.now) values.now → ⊥))) }
+{
+    match parts.rank {
+        RankKind::NoRank => Ok(None),
+        RankKind::UniformRank => Ok(Some(uniform_term(alloc, values, places)?)),
+        RankKind::LaminarRank => laminar_term(alloc, parts, values, places),
+    }
+}

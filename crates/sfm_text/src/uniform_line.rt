@@ -1,0 +1,53 @@
+// The line `rank`, a number, `uniform`, a cap, a colon, and at least one element.
+ghost use Rattle.std.specs.Prelude.{◌≡◌, ◌^◌, length, pos, ◌≤ℤ◌, IfOk, MatchOption};
+ghost use Rattle.std.specs.List.{All};
+ghost use Rattle.sfm_spec.specs.Bounds.{IsAtMost, AreElements};
+ghost use Rattle.sfm_text.specs.Lines.{texts_of};
+ghost use Rattle.sfm_text.specs.Parts.{LineParts, IsUniformLine};
+ghost use Rattle.sfm_text.specs.LineTerms.{IsUniformTerm};
+ghost use Rattle.sfm_text.specs.ReadParts.{parts_of};
+
+use crate::mark::cut_at_colon;
+use crate::parts::Parts;
+use crate::word::RankKind;
+use sfm_base::Memory;
+use sfm_concave::Uniform;
+use sfm_kind::Kind;
+use std::alloc::{AllocError, Global};
+
+/// The parts of the tokens behind the word, or None where they do not have the line's shape.
+pub fn uniform_parts<'a, 'b>(
+    alloc: Global,
+    tokens: &'b [&'a [u8]],
+) -> Result<Option<Parts<'a, 'b>>, AllocError>
+    ensures { IfOk result (λ r. MatchOption r
+        ((parts : LineParts) → IsUniformLine (texts_of tokens.now) parts → ⊥)
+        (λ parts. IsUniformLine (texts_of tokens.now) (parts_of parts))) }
+{
+    let Some((before, elements)) = cut_at_colon(tokens) else {
+        return Ok(None);
+    };
+    if before.len() != 3 || elements.is_empty() || before[1] != b"uniform".as_slice() {
+        return Ok(None);
+    }
+    let numbers = vec![in alloc; before[0], before[2]]?;
+    let elements = Vec::from_slice(alloc, elements)?;
+    Ok(Some(Parts {
+        numbers,
+        elements,
+        rank: RankKind::UniformRank,
+        groups: Vec::new(alloc),
+    }))
+}
+
+/// The term with the first number for each of these places, up to as many as the second.
+pub fn uniform_term(alloc: Global, values: &[i128], places: &[usize]) -> Result<Kind, Memory>
+    requires elements { AreElements places.now }
+    requires two { length values.now ≡ 2 }
+    requires low { All (λ value. pos 0 ≤ℤ value) values.now }
+    requires small { All (IsAtMost (10 ^ 12)) values.now }
+    ensures { IfOk result (IsUniformTerm values.now places.now) }
+{
+    let uniform = Uniform::new(alloc, places, values[0], values[1])?;
+    Ok(Kind::Uniform(uniform))
+}
