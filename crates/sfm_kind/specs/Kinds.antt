@@ -3,14 +3,18 @@ use Rattle.std.specs.Prelude.{◌≡◌, ℕ, Bool, List, [], ◌∷◌, length,
 use Rattle.std.specs.List.{All}
 use Rattle.sfm_spec.specs.Sets.{magnitudes}
 use Rattle.sfm_spec.specs.Terms.{SetFunction, times, IsBase, IsFamily, IsSubmodular}
-use Rattle.sfm_spec.specs.Kinds.{weight_value, cut_value, cover_value, need_value, table_value}
+use Rattle.sfm_spec.specs.Kinds.{weight_value, cut_value, cover_value, need_value, table_value, concave_value, uniform_value}
 use Rattle.sfm_simple.specs.WeightLaws.{scaled, weight-family, weight-submodular, weight-bounded, weight-starts, weight-starts_small}
 use Rattle.sfm_simple.specs.CutLaws.{cut_start, cut-family, cut-submodular, cut-bounded, cut-starts, cut-starts_small}
 use Rattle.sfm_simple.specs.CoverLaws.{cover_start, cover-family, cover-submodular, cover-bounded, cover-starts, cover-starts_small}
 use Rattle.sfm_simple.specs.NeedLaws.{need-family, need-submodular, need-bounded, need-starts, need-starts_small}
 use Rattle.sfm_simple.specs.TableLaws.{greatest, table_start, table-family, table-bounded, table-starts, table-starts_small}
+use Rattle.sfm_concave.specs.ConcaveLaws.{concave_start, concave-family, concave-submodular, concave-bounded, concave-starts, concave-starts_small}
+use Rattle.sfm_concave.specs.ConcaveLaws as concaves
+use Rattle.sfm_concave.specs.UniformLaws.{uniform_size, uniform_start, uniform-family, uniform-submodular, uniform-bounded, uniform-starts, uniform-starts_small}
+use Rattle.sfm_laminar.specs.LaminarLaws.{laminar_value, laminar_size, laminar_start, laminar-family, laminar-submodular, laminar-bounded, laminar-starts, laminar-starts_small}
 use Rattle.sfm_kind.specs.declared.kind.Kind.{Kind}
-use Rattle.sfm_kind.specs.declared.kind.Kind.TheVariants.{Weight, Cut, Cover, Need, Table}
+use Rattle.sfm_kind.specs.declared.kind.Kind.TheVariants.{Weight, Cut, Cover, Need, Table, Concave, Uniform, Laminar}
 use Rattle.sfm_kind.specs.declared.kind.KindNote.{KindNote}
 
 -- the places of the ground, by local place
@@ -20,6 +24,9 @@ kind_places (Cut term) = term.places
 kind_places (Cover term) = term.places
 kind_places (Need term) = term.places
 kind_places (Table term) = term.places
+kind_places (Concave term) = term.places
+kind_places (Uniform term) = term.places
+kind_places (Laminar term) = term.places
 
 -- the value at each allowed part
 abbrev pub kind_value : Kind → SetFunction
@@ -28,6 +35,9 @@ kind_value (Cut term) = cut_value term.c
 kind_value (Cover term) = cover_value term.w
 kind_value (Need term) = need_value
 kind_value (Table term) = table_value term.values
+kind_value (Concave term) = concave_value term.values
+kind_value (Uniform term) = uniform_value term.w term.cap
+kind_value (Laminar term) = laminar_value (length term.places) term.w term.groups
 
 -- a bound on the magnitude of each value
 abbrev pub kind_size : Kind → ℤ
@@ -36,6 +46,9 @@ kind_size (Cut term) = term.c
 kind_size (Cover term) = term.w
 kind_size (Need term) = pos 0
 kind_size (Table term) = greatest term.values
+kind_size (Concave term) = concaves.greatest term.values
+kind_size (Uniform term) = uniform_size term.w term.cap (length term.places)
+kind_size (Laminar term) = laminar_size (length term.places) term.w term.groups
 
 -- the first base at a factor
 abbrev pub kind_start : Kind → ℤ → List ℤ
@@ -44,6 +57,9 @@ kind_start (Cut term) q = cut_start q term.c
 kind_start (Cover term) q = cover_start q term.w (length term.places)
 kind_start (Need term) q = pos 0 ∷ pos 0 ∷ []
 kind_start (Table term) q = table_start q term.values (length term.places)
+kind_start (Concave term) q = concave_start q term.values (length term.places)
+kind_start (Uniform term) q = uniform_start q term.w term.cap (length term.places)
+kind_start (Laminar term) q = laminar_start (length term.places) q term.w term.groups
 
 -- what a note keeps is true of a base: the plain kinds keep nothing
 abbrev pub kind_fits : Kind → KindNote → ℤ → List ℤ → Type 0
@@ -52,6 +68,9 @@ kind_fits (Cut term) note q x = Unit {0}
 kind_fits (Cover term) note q x = Unit {0}
 kind_fits (Need term) note q x = Unit {0}
 kind_fits (Table term) note q x = Unit {0}
+kind_fits (Concave term) note q x = Unit {0}
+kind_fits (Uniform term) note q x = Unit {0}
+kind_fits (Laminar term) note q x = Unit {0}
 
 pub kind-family : (kind : Kind) → IsFamily (length (kind_places kind)) (kind_value kind)
 kind-family (Weight term) = weight-family term.weights
@@ -59,6 +78,9 @@ kind-family (Cut term) = cut-family term.c
 kind-family (Cover term) = cover-family term.w
 kind-family (Need term) = need-family _ term.two
 kind-family (Table term) = table-family term.values
+kind-family (Concave term) = concave-family term.values
+kind-family (Uniform term) = uniform-family term.w term.cap
+kind-family (Laminar term) = laminar-family (length term.places) term.w term.groups
 
 pub kind-submodular : (kind : Kind) → IsSubmodular (length (kind_places kind)) (kind_value kind)
 kind-submodular (Weight term) = weight-submodular _ term.weights term.same_count
@@ -66,6 +88,9 @@ kind-submodular (Cut term) = cut-submodular _ term.c term.two term.low
 kind-submodular (Cover term) = cover-submodular _ term.w term.low
 kind-submodular (Need term) = need-submodular _ term.two
 kind-submodular (Table term) = term.lawful
+kind-submodular (Concave term) = concave-submodular _ term.values term.counted term.falling
+kind-submodular (Uniform term) = uniform-submodular _ term.w term.cap term.low term.cap_low
+kind-submodular (Laminar term) = laminar-submodular (length term.places) term.w term.groups term.low term.grouped
 
 pub kind-bounded : (kind : Kind) (s : List Bool) (a : ℤ) → length s ≡ length (kind_places kind) → kind_value kind s ≡ Some a → (neg_ℤ (kind_size kind) ≤ℤ a) × (a ≤ℤ kind_size kind)
 kind-bounded (Weight term) s a h e = weight-bounded term.weights s a e
@@ -73,6 +98,9 @@ kind-bounded (Cut term) s a h e = cut-bounded term.c s a term.low e
 kind-bounded (Cover term) s a h e = cover-bounded term.w s a term.low e
 kind-bounded (Need term) s a h e = need-bounded s a e
 kind-bounded (Table term) s a h e = table-bounded term.values s a e
+kind-bounded (Concave term) s a h e = concave-bounded term.values s a e
+kind-bounded (Uniform term) s a h e = uniform-bounded _ term.w term.cap s a term.low term.cap_low h e
+kind-bounded (Laminar term) s a h e = laminar-bounded (length term.places) term.w term.groups term.low term.grouped s a h e
 
 pub kind-starts : (kind : Kind) (q : ℤ) → pos 1 ≤ℤ q → (length (kind_start kind q) ≡ length (kind_places kind)) × IsBase (times q (kind_value kind)) (kind_start kind q)
 kind-starts (Weight term) q low = weight-starts _ term.weights q term.same_count
@@ -80,6 +108,9 @@ kind-starts (Cut term) q low = cut-starts _ q term.c term.two low term.low
 kind-starts (Cover term) q low = cover-starts _ q term.w term.elements.some low term.low
 kind-starts (Need term) q low = need-starts _ q term.two
 kind-starts (Table term) q low = table-starts _ q term.values low term.lawful
+kind-starts (Concave term) q low = concave-starts _ q term.values low term.counted term.falling
+kind-starts (Uniform term) q low = uniform-starts _ q term.w term.cap low term.low term.cap_low
+kind-starts (Laminar term) q low = laminar-starts (length term.places) term.w term.groups term.low term.grouped q low
 
 pub kind-starts_small : (kind : Kind) (q : ℤ) → pos 1 ≤ℤ q → All (λ a. (neg_ℤ ((pos 2 *ℤ q) *ℤ kind_size kind) ≤ℤ a) × (a ≤ℤ ((pos 2 *ℤ q) *ℤ kind_size kind))) (kind_start kind q)
 kind-starts_small (Weight term) q low = weight-starts_small term.weights q low
@@ -87,3 +118,6 @@ kind-starts_small (Cut term) q low = cut-starts_small q term.c low term.low
 kind-starts_small (Cover term) q low = cover-starts_small _ q term.w term.elements.some low term.low
 kind-starts_small (Need term) q low = need-starts_small q
 kind-starts_small (Table term) q low = table-starts_small _ q term.values low
+kind-starts_small (Concave term) q low = concave-starts_small _ q term.values low
+kind-starts_small (Uniform term) q low = uniform-starts_small _ q term.w term.cap low term.low term.cap_low
+kind-starts_small (Laminar term) q low = laminar-starts_small (length term.places) term.w term.groups term.low term.grouped q low

@@ -8,6 +8,8 @@ ghost use Rattle.sfm_law.specs.Room.{IsRoom, IsReach, IsWithinRoom};
 ghost use Rattle.sfm_kind.specs.Kinds.{kind_places, kind_value, kind_size, kind_start, kind_fits, kind-family, kind-submodular, kind-bounded, kind-starts, kind-starts_small};
 
 use sfm_base::{Memory, Set};
+use sfm_concave::{Concave, Uniform};
+use sfm_laminar::Laminar;
 use sfm_law::{Room, Term};
 use sfm_simple::{Cover, Cut, Need, Table, Weight};
 use std::alloc::Global;
@@ -25,6 +27,12 @@ pub enum Kind {
     Need(Need),
     /// A number for each part of a few elements.
     Table(Table),
+    /// A number for each count of elements, where no increment is above the one before.
+    Concave(Concave),
+    /// A number for each element of a part, up to so many of them.
+    Uniform(Uniform),
+    /// A number for each element that is independent, where groups have caps.
+    Laminar(Laminar),
 }
 
 /// What is kept beside a base of a kind, so that its reach is found sooner.
@@ -64,6 +72,9 @@ impl Term for Kind {
             Kind::Cover(term) => term.elements(),
             Kind::Need(term) => term.elements(),
             Kind::Table(term) => term.elements(),
+            Kind::Concave(term) => term.elements(),
+            Kind::Uniform(term) => term.elements(),
+            Kind::Laminar(term) => term.elements(),
         }
     }
 
@@ -74,6 +85,9 @@ impl Term for Kind {
             Kind::Cover(term) => term.size(),
             Kind::Need(term) => term.size(),
             Kind::Table(term) => term.size(),
+            Kind::Concave(term) => term.size(),
+            Kind::Uniform(term) => term.size(),
+            Kind::Laminar(term) => term.size(),
         }
     }
 
@@ -84,6 +98,9 @@ impl Term for Kind {
             Kind::Cover(term) => term.value(alloc, s),
             Kind::Need(term) => term.value(alloc, s),
             Kind::Table(term) => term.value(alloc, s),
+            Kind::Concave(term) => term.value(alloc, s),
+            Kind::Uniform(term) => term.value(alloc, s),
+            Kind::Laminar(term) => term.value(alloc, s),
         }
     }
 
@@ -94,6 +111,9 @@ impl Term for Kind {
             Kind::Cover(term) => term.start(alloc, q, x),
             Kind::Need(term) => term.start(alloc, q, x),
             Kind::Table(term) => term.start(alloc, q, x),
+            Kind::Concave(term) => term.start(alloc, q, x),
+            Kind::Uniform(term) => term.start(alloc, q, x),
+            Kind::Laminar(term) => term.start(alloc, q, x),
         }
     }
 
@@ -104,6 +124,9 @@ impl Term for Kind {
             Kind::Cover(term) => term.is_base(alloc, q, x),
             Kind::Need(term) => term.is_base(alloc, q, x),
             Kind::Table(term) => term.is_base(alloc, q, x),
+            Kind::Concave(term) => term.is_base(alloc, q, x),
+            Kind::Uniform(term) => term.is_base(alloc, q, x),
+            Kind::Laminar(term) => term.is_base(alloc, q, x),
         }
     }
 
@@ -114,6 +137,9 @@ impl Term for Kind {
             Kind::Cover(term) => term.room(alloc, q, x, u, v),
             Kind::Need(term) => term.room(alloc, q, x, u, v),
             Kind::Table(term) => term.room(alloc, q, x, u, v),
+            Kind::Concave(term) => term.room(alloc, q, x, u, v),
+            Kind::Uniform(term) => term.room(alloc, q, x, u, v),
+            Kind::Laminar(term) => term.room(alloc, q, x, u, v),
         }
     }
 
@@ -131,6 +157,9 @@ impl Term for Kind {
             Kind::Cover(term) => term.reach(alloc, q, x, u, to),
             Kind::Need(term) => term.reach(alloc, q, x, u, to),
             Kind::Table(term) => term.reach(alloc, q, x, u, to),
+            Kind::Concave(term) => term.reach(alloc, q, x, u, to),
+            Kind::Uniform(term) => term.reach(alloc, q, x, u, to),
+            Kind::Laminar(term) => term.reach(alloc, q, x, u, to),
         }
     }
 
@@ -141,6 +170,9 @@ impl Term for Kind {
             Kind::Cover(term) => term.note(alloc, q, x)?,
             Kind::Need(term) => term.note(alloc, q, x)?,
             Kind::Table(term) => term.note(alloc, q, x)?,
+            Kind::Concave(term) => term.note(alloc, q, x)?,
+            Kind::Uniform(term) => term.note(alloc, q, x)?,
+            Kind::Laminar(term) => term.note(alloc, q, x)?,
         }
         Ok(KindNote::Nothing)
     }
@@ -160,6 +192,9 @@ impl Term for Kind {
             Kind::Cover(term) => term.reach_by(alloc, q, x, &(), u, to),
             Kind::Need(term) => term.reach_by(alloc, q, x, &(), u, to),
             Kind::Table(term) => term.reach_by(alloc, q, x, &(), u, to),
+            Kind::Concave(term) => term.reach_by(alloc, q, x, &(), u, to),
+            Kind::Uniform(term) => term.reach_by(alloc, q, x, &(), u, to),
+            Kind::Laminar(term) => term.reach_by(alloc, q, x, &(), u, to),
         }
     }
 
@@ -179,6 +214,9 @@ impl Term for Kind {
             Kind::Cover(term) => term.moved(alloc, q, x, &mut (), u, v, a),
             Kind::Need(term) => term.moved(alloc, q, x, &mut (), u, v, a),
             Kind::Table(term) => term.moved(alloc, q, x, &mut (), u, v, a),
+            Kind::Concave(term) => term.moved(alloc, q, x, &mut (), u, v, a),
+            Kind::Uniform(term) => term.moved(alloc, q, x, &mut (), u, v, a),
+            Kind::Laminar(term) => term.moved(alloc, q, x, &mut (), u, v, a),
         }
     }
 }

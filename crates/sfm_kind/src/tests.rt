@@ -5,6 +5,8 @@ ghost use Rattle.sfm_spec.specs.Bounds.{IsEntry};
 
 use crate::{Instance, Kind, is_name};
 use sfm_base::{Memory, Set};
+use sfm_concave::{Concave, Uniform};
+use sfm_laminar::{Groups, Laminar};
 use sfm_law::{Room, Term};
 use sfm_simple::{Cover, Cut, Need, Table, Weight};
 use std::alloc::Global;
@@ -200,6 +202,52 @@ fn tables(rt: HostRuntime) -> Result<(), Fail> {
         other: &[7, 1],
         room: 2,
         reach: 1,
+    };
+    holds(&rt, rt.alloc(), &kind, &wanted)?;
+    Ok(())
+}
+
+#[test]
+fn concaves(rt: HostRuntime) -> Result<(), Fail> {
+    let kind = Kind::Concave(Concave::new(rt.alloc(), &[0, 1], &[3, 4]).expect(&rt, "lawful"));
+    let wanted = Wanted {
+        size: 4,
+        values: &[Some(0), Some(3), Some(3), Some(4)],
+        start: &[6, 2],
+        other: &[7, 1],
+        room: 4,
+        reach: 1,
+    };
+    holds(&rt, rt.alloc(), &kind, &wanted)?;
+    Ok(())
+}
+
+#[test]
+fn uniforms(rt: HostRuntime) -> Result<(), Fail> {
+    let kind = Kind::Uniform(Uniform::new(rt.alloc(), &[0, 1], 3, 1)?);
+    let wanted = Wanted {
+        size: 3,
+        values: &[Some(0), Some(3), Some(3), Some(3)],
+        start: &[6, 0],
+        other: &[7, -1],
+        room: 6,
+        reach: 1,
+    };
+    holds(&rt, rt.alloc(), &kind, &wanted)?;
+    Ok(())
+}
+
+#[test]
+fn laminars(rt: HostRuntime) -> Result<(), Fail> {
+    let groups = Groups::new(rt.alloc());
+    let kind = Kind::Laminar(Laminar::new(rt.alloc(), &[0, 1], 3, groups).expect(&rt, "lawful"));
+    let wanted = Wanted {
+        size: 6,
+        values: &[Some(0), Some(3), Some(3), Some(6)],
+        start: &[6, 6],
+        other: &[7, 5],
+        room: 0,
+        reach: 0,
     };
     holds(&rt, rt.alloc(), &kind, &wanted)?;
     Ok(())
