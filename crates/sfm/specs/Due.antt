@@ -7,7 +7,6 @@ use Rattle.sfm_text.specs.declared.reason.Reason.{Reason}
 use Rattle.sfm_text.specs.Reasons.{reason_word}
 use Rattle.sfm_text.specs.GoodText.{IsTextOf, IsFaultOf}
 use Rattle.sfm_cert.specs.Answer.{Form}
-use Rattle.sfm_cert.specs.Grammar.{answer_limit}
 use Rattle.sfm_cert.specs.Solved.{form_of}
 use Rattle.sfm_check.specs.Truth.{IsRightFile}
 use Rattle.sfm_check.specs.declared.verdicts.Verdict.{Verdict}
@@ -63,7 +62,7 @@ pub record IsRefused (text written : List ℕ) : Type 0 where
 
 -- the verdict on an answer: `valid` exactly where it is a right file, and else its first fault
 pub record IsVerdict (form : Form) (terms : List Meaning) (answer : List ℕ) (verdict : Verdict) : Type 0 where
-  pub valid : IsValid verdict ↔ (IsRightFile form terms answer × (length answer ≤ answer_limit))
+  pub valid : IsValid verdict ↔ IsRightFile form terms answer
   pub told : IsTold form terms answer verdict
 
 -- the written text is the verdict on the answer for the text, which is good

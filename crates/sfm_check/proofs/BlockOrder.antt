@@ -12,9 +12,10 @@ use Rattle.sfm_spec.specs.Families.{Meaning}
 use Rattle.sfm_spec.specs.Blocks.{AreBlocks, Block, IsFree, IsFirst, PullsAlong, block_at, weight_at}
 use Rattle.sfm_spec.proofs.Sets.{same_sets, in_union, union_left, union_right, in_first, in_second}
 use Rattle.sfm_spec.proofs.Sums.{length-union}
-use Rattle.sfm_spec.proofs.Sizes.{size-empty, size-modular, size_grows}
+use Rattle.sfm_spec.proofs.Sizes.{size-empty, size-modular, size_grows, size_below_length}
 use Rattle.sfm_spec.proofs.Lattice.{none_in_empty}
 use Rattle.sfm_spec.proofs.Walks.{has_below}
+use Rattle.sfm_spec.proofs.Where.{size-cons}
 use Rattle.sfm_cert.specs.Form.{IsFormedBlock}
 use Rattle.sfm_check.proofs.Differing.{Differ, cons_cases, cons_first, cons_rest, increasing_differ, none_in_nil, sum_by-same}
 
@@ -275,3 +276,58 @@ module _ (terms : List Meaning) (n : ℕ) (q : ℤ) (shift : List ℤ) (blocks :
     ascending = h.ascending i l;
     before = All-from_get_or (λ j. (1 ≤ j) × (j ≤ i)) (block_at blocks i).needs 0 (λ m lm. not_behind i (get_or (block_at blocks i).needs m 0) l (Contains-get_or (block_at blocks i).needs m 0 lm));
   }
+
+  -- ---- there are at most as many blocks as places
+
+  some_size : (s : List Bool) (e : ℕ) → Has s e → 1 ≤ size s
+  some_size s e has = ⊎_elim (λ l. l) (λ z. absurd (none s e has (omega (arith, z)))) (cases_lt 0 (size s)) where
+    none : (s : List Bool) (e : ℕ) → Has s e → size s ≡ 0 → ⊥
+    none [] e has z = cc
+    none (true ∷ s) e has z = let c = size-cons true s in omega (arith, z, c)
+    none (false ∷ s) zero has z = cc
+    none (false ∷ s) (suc e) has z = let c = size-cons false s in none s e has (omega (arith, z, c))
+
+  -- the numbers of the first k blocks, from the last one down
+  down : ℕ → List ℕ
+  down zero = []
+  down (suc k) = suc k ∷ down k
+
+  in_down : (k x : ℕ) → Contains (down k) x → (1 ≤ x) × (x ≤ k)
+  unfolding down
+  in_down zero x c = absurd (none_in_nil x c)
+  in_down (suc k) x c = ⊎_elim
+      (λ e. (omega (arith, e), omega (arith, e)))
+      (λ r. let l = in_down k x r in let low = l.0 in let high = l.1 in (low, omega (arith, high)))
+      (cons_cases (suc k) (down k) x c)
+
+  down_numbers : (k : ℕ) → k ≤ length blocks → AreNumbers (down k)
+  unfolding AreNumbers
+  down_numbers k l x c = let r = in_down k x c in let low = r.0 in let high = r.1 in (x - 1, omega (arith, low, high, l), omega (arith, low))
+
+  down_differ : (k : ℕ) → Differ (down k)
+  unfolding down
+  down_differ zero = tt
+  down_differ (suc k) = ((λ c. let r = in_down k (suc k) c in let high = r.1 in omega (arith, high)), down_differ k)
+
+  down_sum : (k : ℕ) → k ≤ length blocks → k ≤ sum_by size_of (down k)
+  unfolding down size_of
+  down_sum zero l = omega arith
+  down_sum (suc k) l =
+      let rest = down_sum k (omega (arith, l)) in
+      let lk : k < length blocks = omega (arith, l) in
+      let (e, has) = h.some k lk in
+      let one = some_size (block_at blocks k).members e has in
+      let back : suc k - 1 ≡ k = omega arith in
+      let here = ap (λ j. size (block_at blocks j).members) back in
+      let sum = sum_by-cons size_of (suc k) (down k) in
+      omega (arith, rest, one, sum, here)
+
+  pub few_blocks : length blocks ≤ n
+  few_blocks =
+      let k = length blocks in
+      let all = down_numbers (length blocks) (omega arith) in
+      let sum = size-gathered (down (length blocks)) all (down_differ (length blocks)) in
+      let low = down_sum (length blocks) (omega arith) in
+      let places = length-gathered (down (length blocks)) all in
+      let high = size_below_length (gathered (down (length blocks))) in
+      omega (arith, sum, low, places, high)

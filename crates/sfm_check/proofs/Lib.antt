@@ -8,4 +8,6 @@ pub mod OneToOne
 pub mod WrongLines
 pub mod Small
 pub mod AllSlopes
+pub mod Lengths
+pub mod Short
 pub mod Telling

@@ -80,13 +80,13 @@ module _ (form : Form) (terms : List Meaning) (text : List ℕ) (a : Answer) (cl
       let l : w.at < length (due_lines form a) = subst (λ z. w.at < z) (sym c) w.is_due in
       w.wrong (line_due form a w.at l ∙ ap (λ z. get_or z w.at []) same)
 
-  pub found_valid : (v : Verdict) → IsFound form terms a v → IsValid v ↔ (IsRightFile form terms text × (length text ≤ answer_limit))
-  found_valid Valid f = ((λ t. (right f.0 f.1, short)), (λ r. tt))
+  pub found_valid : (v : Verdict) → IsFound form terms a v → IsValid v ↔ IsRightFile form terms text
+  found_valid Valid f = ((λ t. right f.0 f.1), (λ r. tt))
   found_valid (Invalid line Long) f = absurd f
   found_valid (Invalid line Grammar) f = absurd f
-  found_valid (Invalid line Base) f = ((λ t. absurd t), (λ r. no_base line f r.0))
-  found_valid (Invalid line Unproved) f = ((λ t. absurd t), (λ r. no_proof line f.1 r.0))
-  found_valid (Invalid line AnswerLine) f = ((λ t. absurd t), (λ r. no_line line f.1 r.0))
+  found_valid (Invalid line Base) f = ((λ t. absurd t), (λ r. no_base line f r))
+  found_valid (Invalid line Unproved) f = ((λ t. absurd t), (λ r. no_proof line f.1 r))
+  found_valid (Invalid line AnswerLine) f = ((λ t. absurd t), (λ r. no_line line f.1 r))
 
   pub found_told : (v : Verdict) → IsFound form terms a v → IsTold form terms text v
   found_told Valid f = tt
