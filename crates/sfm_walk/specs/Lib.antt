@@ -6,3 +6,4 @@ pub mod Levels
 pub mod Hops
 pub mod Rest
 pub mod State
+pub mod Engine

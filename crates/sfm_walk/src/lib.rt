@@ -4,6 +4,7 @@
 
 mod asking;
 mod bits;
+mod engine;
 mod levels;
 mod moving;
 mod optimum;
@@ -13,4 +14,5 @@ mod spots;
 mod unions;
 mod walk;
 
-pub use optimum::{Optimum, minimise};
+pub use engine::Engine;
+pub use optimum::{Optimum, minimise, minimise_counted, minimise_with};

@@ -7,19 +7,21 @@ ghost use Rattle.sfm_spec.specs.Sets.{magnitudes};
 ghost use Rattle.sfm_spec.specs.Bounds.{AreBounded, IsAtMost, IsEntry, IsFactor};
 ghost use Rattle.sfm_spec.specs.Families.{meanings, even_shift, rest_at, deficit, AreBases, Prove};
 ghost use Rattle.sfm_spec.specs.Walks.{Step, Joins, MovesAlong};
+ghost use Rattle.sfm_walk.specs.Engine.{IsEngine};
 ghost use Rattle.sfm_walk.specs.Levels.{IsFirst};
 ghost use Rattle.sfm_walk.specs.State.{IsState, IsUpTo};
 
 use crate::asking::{ask_again, ask_all};
 use crate::bits::Bits;
+use crate::engine::Engine;
 use crate::levels::find_levels;
 use crate::moving::{amount_of, move_along};
-use crate::reach::{BitRows, blank_rows, notes_of, parts_of};
+use crate::reach::{BitRows, notes_of};
 use crate::rest::{most_of, move_rest, rest_of};
-use crate::spots::{Spots, spots_of};
+use crate::spots::Spots;
 use crate::unions::unions_of;
 use crate::walk::{Hop, follow, last_place};
-use sfm_base::{Memory, Numbers, Rows, Set};
+use sfm_base::{Memory, Numbers, Rows, Set, Steps};
 use sfm_law::{Term, start_rows};
 use std::alloc::Global;
 
@@ -54,19 +56,79 @@ pub fn minimise<T: Term>(
     ensures ends { IfOk result (λ r. (first : ℕ) (steps : List Step) → Joins (meanings T.places T.value_of terms.now) q (even_shift n p) r.bases first steps → ⊥) }
     ensures proves { IfOk result (λ r. Prove (meanings T.places T.value_of terms.now) n q (even_shift n p) r.bases) }
 {
+    let mut steps = Steps::new();
+    minimise_counted(alloc, terms, n, p, q, &mut steps)
+}
+
+/// The same, and each walk is counted, up to the greatest number that there is.
+///
+/// # Errors
+///
+/// `Memory` where there is none.
+pub fn minimise_counted<T: Term>(
+    alloc: Global,
+    terms: &[T],
+    n: usize,
+    p: i128,
+    q: i128,
+    steps: &mut Steps,
+) -> Result<Optimum, Memory>
+    requires bounded { AreBounded n (map T.places terms.now) (map T.size_of terms.now) }
+    requires slope { IsAtMost (10 ^ 24) p }
+    requires factor { IsFactor q }
+    ensures bases { IfOk result (λ r. AreBases q (meanings T.places T.value_of terms.now) r.bases) }
+    ensures small { IfOk result (λ r. All (λ x. All IsEntry x) r.bases) }
+    ensures rest { IfOk result (λ r. (length r.z ≡ n) × ((e : ℕ) → e < n → slice_index_or r.z e (pos 0) ≡ rest_at (meanings T.places T.value_of terms.now) r.bases (even_shift n p) e)) }
+    ensures ends { IfOk result (λ r. (first : ℕ) (steps : List Step) → Joins (meanings T.places T.value_of terms.now) q (even_shift n p) r.bases first steps → ⊥) }
+    ensures proves { IfOk result (λ r. Prove (meanings T.places T.value_of terms.now) n q (even_shift n p) r.bases) }
+    ensures counted { steps.old ≤ steps.new }
+{
+    let mut engine = Engine::new(alloc, terms, n)?;
+    minimise_with(alloc, &mut engine, terms, n, p, q, steps)
+}
+
+/// The same with an engine for the terms, which stays one for them.
+///
+/// # Errors
+///
+/// `Memory` where there is none.
+pub fn minimise_with<T: Term>(
+    alloc: Global,
+    engine: &mut Engine,
+    terms: &[T],
+    n: usize,
+    p: i128,
+    q: i128,
+    steps: &mut Steps,
+) -> Result<Optimum, Memory>
+    requires engine { IsEngine T.places T.value_of terms.now n engine.old }
+    requires bounded { AreBounded n (map T.places terms.now) (map T.size_of terms.now) }
+    requires slope { IsAtMost (10 ^ 24) p }
+    requires factor { IsFactor q }
+    ensures bases { IfOk result (λ r. AreBases q (meanings T.places T.value_of terms.now) r.bases) }
+    ensures small { IfOk result (λ r. All (λ x. All IsEntry x) r.bases) }
+    ensures rest { IfOk result (λ r. (length r.z ≡ n) × ((e : ℕ) → e < n → slice_index_or r.z e (pos 0) ≡ rest_at (meanings T.places T.value_of terms.now) r.bases (even_shift n p) e)) }
+    ensures ends { IfOk result (λ r. (first : ℕ) (steps : List Step) → Joins (meanings T.places T.value_of terms.now) q (even_shift n p) r.bases first steps → ⊥) }
+    ensures proves { IfOk result (λ r. Prove (meanings T.places T.value_of terms.now) n q (even_shift n p) r.bases) }
+    ensures engine { OnOk result (IsEngine T.places T.value_of terms.now n engine.new) }
+    ensures counted { steps.old ≤ steps.new }
+{
     let shift = vec![in alloc; p; n]?;
     let first_bases = start_rows(alloc, terms, q)?;
-    improve(alloc, terms, q, &shift, first_bases)
+    improve(alloc, engine, terms, q, &shift, first_bases, steps)
 }
 
 // The same with a shift for each place in place of p, and from any first bases.
 fn improve<T: Term>(
     alloc: Global,
+    engine: &mut Engine,
     terms: &[T],
     q: i128,
     shift: &[i128],
     first_bases: Rows,
+    steps: &mut Steps,
 ) -> Result<Optimum, Memory>
+    requires engine { IsEngine T.places T.value_of terms.now (length shift.now) engine.old }
     requires bounded { AreBounded (length shift.now) (map T.places terms.now) (map T.size_of terms.now) }
     requires shifts { magnitudes shift.now ≤ℤ pos (10 ^ 27) }
     requires factor { IsFactor q }
@@ -77,12 +139,12 @@ fn improve<T: Term>(
     ensures rest { IfOk result (λ r. (length r.z ≡ length shift.now) × ((e : ℕ) → e < length shift.now → slice_index_or r.z e (pos 0) ≡ rest_at (meanings T.places T.value_of terms.now) r.bases shift.now e)) }
     ensures ends { IfOk result (λ r. (first : ℕ) (steps : List Step) → Joins (meanings T.places T.value_of terms.now) q shift.now r.bases first steps → ⊥) }
     ensures proves { IfOk result (λ r. Prove (meanings T.places T.value_of terms.now) (length shift.now) q shift.now r.bases) }
+    ensures engine { OnOk result (IsEngine T.places T.value_of terms.now (length shift.now) engine.new) }
+    ensures counted { steps.old ≤ steps.new }
 {
     let mut bases = first_bases;
     let mut z = rest_of(alloc, terms, shift, &bases)?;
     let mut notes = notes_of(alloc, terms, q, &bases)?;
-    let mut parts = parts_of(alloc, terms)?;
-    let mut rows = blank_rows(alloc, terms)?;
     ask_all(
         alloc,
         terms,
@@ -90,11 +152,10 @@ fn improve<T: Term>(
         q,
         &bases,
         &notes,
-        &mut parts,
-        &mut rows,
+        &mut engine.parts,
+        &mut engine.rows,
     )?;
-    let spots = spots_of(alloc, terms, shift.len())?;
-    let mut unions = unions_of(alloc, &spots, &rows)?;
+    let mut unions = unions_of(alloc, &engine.spots, &engine.rows)?;
     let mut levels = Vec::new(alloc);
     let mut hops = Vec::new(alloc);
     while let Some(first) = find_levels(&unions, &z, &mut levels)? {
@@ -103,22 +164,32 @@ fn improve<T: Term>(
             terms,
             q,
             shift,
-            &spots,
+            &engine.spots,
             &levels,
             first,
             &mut bases,
             &mut z,
             &mut notes,
-            &mut parts,
-            &mut rows,
+            &mut engine.parts,
+            &mut engine.rows,
             &mut unions,
             &mut hops,
         )?;
+        count_one(steps);
     }
     Ok(Optimum {
         bases,
         z: Numbers::from_vec(z),
     })
+}
+
+// Counts one more, unless the count is as great as it can be.
+fn count_one(steps: &mut Steps)
+    ensures { steps.old ≤ steps.new }
+{
+    if steps.count() < u64::MAX {
+        steps.tick();
+    }
 }
 
 // Moves along the walk from a first place by the greatest amount, and brings all that is kept up to the bases.

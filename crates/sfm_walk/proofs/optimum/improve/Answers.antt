@@ -132,7 +132,7 @@ unions_of-requires g c =
     let gap : neg_ℤ (pos (4 * 10 ^ 29)) ≤ℤ D init = deficit_low t.places t.value_of c.args.terms.now init shift c.requires.small c.requires.bounded.few_places c.requires.shifts in
     let tables = c.ask_all.new.rows.items in
     let sized = sized_meanings t.places t.value_of c.args.terms.now tables c.in_ok-ask_all.ensures.rows in
-    let h : HaveRows tables c.in_ok-spots.spots.items = have_rows ts n c.in_ok-spots.spots.items tables c.in_ok-spots.ensures sized.0 sized.1 in
+    let h : HaveRows tables c.args.engine.now.spots.items = have_rows ts n c.args.engine.now.spots.items tables c.requires.engine.are_spots sized.0 sized.1 in
     rw (c.deref-2.ensures.value, c.deref-3.ensures.value) h
 
 pub loop-hops-init : goal.loop-hops-init
@@ -158,7 +158,7 @@ loop-hops-init g c =
     let ask = c.in_ok-ask_all.ensures in
     let unions = rw (c.deref-2.ensures.value, c.deref-3.ensures.value) at c.in_ok-unions.ensures in
     let tables = ask.tables in
-    let r : IsRun t.places t.value_of t.fits c.args.terms.now q shift init init c.in_ok-z.z.items c.in_ok-notes.notes.items c.ask_all.new.parts.items c.ask_all.new.rows.items c.in_ok-spots.spots.items c.in_ok-unions.unions.items = record {
+    let r : IsRun t.places t.value_of t.fits c.args.terms.now q shift init init c.in_ok-z.z.items c.in_ok-notes.notes.items c.ask_all.new.parts.items c.ask_all.new.rows.items c.args.engine.now.spots.items c.in_ok-unions.unions.items = record {
       state = record {
         are_bases = c.requires.bases;
         is_rest = c.in_ok-z.ensures;
@@ -167,13 +167,13 @@ loop-hops-init g c =
         sized_parts = ask.parts;
         sized_rows = ask.rows;
         tables = simp to_z-of_z at tables;
-        are_spots = c.in_ok-spots.ensures;
+        are_spots = c.requires.engine.are_spots;
         are_unions = unions;
       };
       risen = omega (arith, ints);
       small = same_bound init (pos (10 ^ 25) +ℤ (D init -ℤ D init)) c.requires.small (omega (arith, ints));
     } in
-    simp to_z-of_z r
+    simp to_z-of_z (r, omega arith)
 
 pub advance-requires-clause-sizes : goal.advance-requires-clause-sizes
 advance-requires-clause-sizes g c =
@@ -218,7 +218,7 @@ advance-requires-clause-small g c =
     let D : List (List ℤ) → ℤ = λ rows. deficit n (rest_at ts rows shift) in
     let gap : neg_ℤ (pos (4 * 10 ^ 29)) ≤ℤ D init = deficit_low t.places t.value_of c.args.terms.now init shift c.requires.small c.requires.bounded.few_places c.requires.shifts in
     let rows = c.loop-hops.bases in
-    let inv : IsRun t.places t.value_of t.fits c.args.terms.now q shift init rows c.loop-hops.z.items c.loop-hops.notes.items c.loop-hops.parts.items c.loop-hops.rows.items c.in_ok-spots.spots.items c.loop-hops.unions.items = simp to_z-of_z at c.loop-hops.invariant in
+    let inv : IsRun t.places t.value_of t.fits c.args.terms.now q shift init rows c.loop-hops.z.items c.loop-hops.notes.items c.loop-hops.engine.parts.items c.loop-hops.engine.rows.items c.loop-hops.engine.spots.items c.loop-hops.unions.items = simp to_z-of_z at c.loop-hops.invariant.0 in
     let s = inv.state in
     let up : D rows ≤ℤ pos 0 = deficit_not_above n (rest_at ts rows shift) in
     let risen : D init ≤ℤ D rows = inv.risen in
@@ -245,7 +245,7 @@ advance-requires-clause-gap g c =
     let D : List (List ℤ) → ℤ = λ rows. deficit n (rest_at ts rows shift) in
     let gap : neg_ℤ (pos (4 * 10 ^ 29)) ≤ℤ D init = deficit_low t.places t.value_of c.args.terms.now init shift c.requires.small c.requires.bounded.few_places c.requires.shifts in
     let rows = c.loop-hops.bases in
-    let inv : IsRun t.places t.value_of t.fits c.args.terms.now q shift init rows c.loop-hops.z.items c.loop-hops.notes.items c.loop-hops.parts.items c.loop-hops.rows.items c.in_ok-spots.spots.items c.loop-hops.unions.items = simp to_z-of_z at c.loop-hops.invariant in
+    let inv : IsRun t.places t.value_of t.fits c.args.terms.now q shift init rows c.loop-hops.z.items c.loop-hops.notes.items c.loop-hops.engine.parts.items c.loop-hops.engine.rows.items c.loop-hops.engine.spots.items c.loop-hops.unions.items = simp to_z-of_z at c.loop-hops.invariant.0 in
     let s = inv.state in
     let up : D rows ≤ℤ pos 0 = deficit_not_above n (rest_at ts rows shift) in
     let risen : D init ≤ℤ D rows = inv.risen in
@@ -272,7 +272,7 @@ loop-hops-smaller g c =
     let D : List (List ℤ) → ℤ = λ rows. deficit n (rest_at ts rows shift) in
     let gap : neg_ℤ (pos (4 * 10 ^ 29)) ≤ℤ D init = deficit_low t.places t.value_of c.args.terms.now init shift c.requires.small c.requires.bounded.few_places c.requires.shifts in
     let rows = c.loop-hops.bases in
-    let inv : IsRun t.places t.value_of t.fits c.args.terms.now q shift init rows c.loop-hops.z.items c.loop-hops.notes.items c.loop-hops.parts.items c.loop-hops.rows.items c.in_ok-spots.spots.items c.loop-hops.unions.items = simp to_z-of_z at c.loop-hops.invariant in
+    let inv : IsRun t.places t.value_of t.fits c.args.terms.now q shift init rows c.loop-hops.z.items c.loop-hops.notes.items c.loop-hops.engine.parts.items c.loop-hops.engine.rows.items c.loop-hops.engine.spots.items c.loop-hops.unions.items = simp to_z-of_z at c.loop-hops.invariant.0 in
     let s = inv.state in
     let up : D rows ≤ℤ pos 0 = deficit_not_above n (rest_at ts rows shift) in
     let risen : D init ≤ℤ D rows = inv.risen in
@@ -304,7 +304,7 @@ loop-hops-preserved g c =
     let D : List (List ℤ) → ℤ = λ rows. deficit n (rest_at ts rows shift) in
     let gap : neg_ℤ (pos (4 * 10 ^ 29)) ≤ℤ D init = deficit_low t.places t.value_of c.args.terms.now init shift c.requires.small c.requires.bounded.few_places c.requires.shifts in
     let rows = c.loop-hops.bases in
-    let inv : IsRun t.places t.value_of t.fits c.args.terms.now q shift init rows c.loop-hops.z.items c.loop-hops.notes.items c.loop-hops.parts.items c.loop-hops.rows.items c.in_ok-spots.spots.items c.loop-hops.unions.items = simp to_z-of_z at c.loop-hops.invariant in
+    let inv : IsRun t.places t.value_of t.fits c.args.terms.now q shift init rows c.loop-hops.z.items c.loop-hops.notes.items c.loop-hops.engine.parts.items c.loop-hops.engine.rows.items c.loop-hops.engine.spots.items c.loop-hops.unions.items = simp to_z-of_z at c.loop-hops.invariant.0 in
     let s = inv.state in
     let up : D rows ≤ℤ pos 0 = deficit_not_above n (rest_at ts rows shift) in
     let risen : D init ≤ℤ D rows = inv.risen in
@@ -313,12 +313,12 @@ loop-hops-preserved g c =
     let mv = moves_along ts rows n q shift low fit s.are_bases after (simp to_z-of_z at e.moves) in
     let more : (D rows +ℤ pos 1) ≤ℤ D after = mv.1 in
     let up' : D after ≤ℤ pos 0 = deficit_not_above n (rest_at ts after shift) in
-    let r : IsRun t.places t.value_of t.fits c.args.terms.now q shift init after c.advance.new.z.items c.advance.new.notes.items c.advance.new.parts.items c.advance.new.rows.items c.in_ok-spots.spots.items c.advance.new.unions.items = record {
+    let r : IsRun t.places t.value_of t.fits c.args.terms.now q shift init after c.advance.new.z.items c.advance.new.notes.items c.advance.new.parts.items c.advance.new.rows.items c.loop-hops.engine.spots.items c.advance.new.unions.items = record {
       state = simp to_z-of_z at (rw c.deref-in-Some.ensures.value at e.state);
       risen = omega (arith, ints, risen, more);
       small = bound_is after ((pos (10 ^ 25) +ℤ (D rows -ℤ D init)) +ℤ (D after -ℤ D rows)) (pos (10 ^ 25) +ℤ (D after -ℤ D init)) (e.spread (pos (10 ^ 25) +ℤ (D rows -ℤ D init)) inv.small) (omega (arith, ints));
     } in
-    simp to_z-of_z r
+    simp to_z-of_z (r, omega (arith, c.loop-hops.invariant.1, c.count_one.ensures))
 
 pub returns-clause-small : goal.returns-clause-small
 returns-clause-small g c =
@@ -341,7 +341,7 @@ returns-clause-small g c =
     let D : List (List ℤ) → ℤ = λ rows. deficit n (rest_at ts rows shift) in
     let gap : neg_ℤ (pos (4 * 10 ^ 29)) ≤ℤ D init = deficit_low t.places t.value_of c.args.terms.now init shift c.requires.small c.requires.bounded.few_places c.requires.shifts in
     let rows = c.loop-hops.bases in
-    let inv : IsRun t.places t.value_of t.fits c.args.terms.now q shift init rows c.loop-hops.z.items c.loop-hops.notes.items c.loop-hops.parts.items c.loop-hops.rows.items c.in_ok-spots.spots.items c.loop-hops.unions.items = simp to_z-of_z at c.loop-hops.invariant in
+    let inv : IsRun t.places t.value_of t.fits c.args.terms.now q shift init rows c.loop-hops.z.items c.loop-hops.notes.items c.loop-hops.engine.parts.items c.loop-hops.engine.rows.items c.loop-hops.engine.spots.items c.loop-hops.unions.items = simp to_z-of_z at c.loop-hops.invariant.0 in
     let s = inv.state in
     let up : D rows ≤ℤ pos 0 = deficit_not_above n (rest_at ts rows shift) in
     let risen : D init ≤ℤ D rows = inv.risen in
@@ -368,7 +368,7 @@ returns-clause-rest g c =
     let D : List (List ℤ) → ℤ = λ rows. deficit n (rest_at ts rows shift) in
     let gap : neg_ℤ (pos (4 * 10 ^ 29)) ≤ℤ D init = deficit_low t.places t.value_of c.args.terms.now init shift c.requires.small c.requires.bounded.few_places c.requires.shifts in
     let rows = c.loop-hops.bases in
-    let inv : IsRun t.places t.value_of t.fits c.args.terms.now q shift init rows c.loop-hops.z.items c.loop-hops.notes.items c.loop-hops.parts.items c.loop-hops.rows.items c.in_ok-spots.spots.items c.loop-hops.unions.items = simp to_z-of_z at c.loop-hops.invariant in
+    let inv : IsRun t.places t.value_of t.fits c.args.terms.now q shift init rows c.loop-hops.z.items c.loop-hops.notes.items c.loop-hops.engine.parts.items c.loop-hops.engine.rows.items c.loop-hops.engine.spots.items c.loop-hops.unions.items = simp to_z-of_z at c.loop-hops.invariant.0 in
     let s = inv.state in
     let up : D rows ≤ℤ pos 0 = deficit_not_above n (rest_at ts rows shift) in
     let risen : D init ≤ℤ D rows = inv.risen in
@@ -395,7 +395,7 @@ returns-clause-ends g c =
     let D : List (List ℤ) → ℤ = λ rows. deficit n (rest_at ts rows shift) in
     let gap : neg_ℤ (pos (4 * 10 ^ 29)) ≤ℤ D init = deficit_low t.places t.value_of c.args.terms.now init shift c.requires.small c.requires.bounded.few_places c.requires.shifts in
     let rows = c.loop-hops.bases in
-    let inv : IsRun t.places t.value_of t.fits c.args.terms.now q shift init rows c.loop-hops.z.items c.loop-hops.notes.items c.loop-hops.parts.items c.loop-hops.rows.items c.in_ok-spots.spots.items c.loop-hops.unions.items = simp to_z-of_z at c.loop-hops.invariant in
+    let inv : IsRun t.places t.value_of t.fits c.args.terms.now q shift init rows c.loop-hops.z.items c.loop-hops.notes.items c.loop-hops.engine.parts.items c.loop-hops.engine.rows.items c.loop-hops.engine.spots.items c.loop-hops.unions.items = simp to_z-of_z at c.loop-hops.invariant.0 in
     let s = inv.state in
     let up : D rows ≤ℤ pos 0 = deficit_not_above n (rest_at ts rows shift) in
     let risen : D init ≤ℤ D rows = inv.risen in
@@ -405,8 +405,8 @@ returns-clause-ends g c =
     let zn : length z ≡ n = s.is_rest.places in
     let F : ℕ → Type 0 = λ k. AreClosed k c.loop-hops.unions.items z c.find_levels.new.levels.items in
     let closed : AreClosed n c.loop-hops.unions.items z c.find_levels.new.levels.items = subst F zn closed1 in
-    let right : (i : ℕ) → i < length ts → IsTable ts q rows i (table_at c.loop-hops.rows.items i) = λ i l. s.tables i (rw count at l) in
-    let links = links_of ts n q rows c.in_ok-spots.spots.items c.loop-hops.rows.items c.loop-hops.unions.items s.are_spots s.are_unions right in
+    let right : (i : ℕ) → i < length ts → IsTable ts q rows i (table_at c.loop-hops.engine.rows.items i) = λ i l. s.tables i (rw count at l) in
+    let links = links_of ts n q rows c.loop-hops.engine.spots.items c.loop-hops.engine.rows.items c.loop-hops.unions.items s.are_spots s.are_unions right in
     let none = none_joins ts rows n q shift z low fit s.are_bases zn s.is_rest c.loop-hops.unions.items links c.find_levels.new.levels.items closed in
     none
 
@@ -431,7 +431,7 @@ returns-clause-proves g c =
     let D : List (List ℤ) → ℤ = λ rows. deficit n (rest_at ts rows shift) in
     let gap : neg_ℤ (pos (4 * 10 ^ 29)) ≤ℤ D init = deficit_low t.places t.value_of c.args.terms.now init shift c.requires.small c.requires.bounded.few_places c.requires.shifts in
     let rows = c.loop-hops.bases in
-    let inv : IsRun t.places t.value_of t.fits c.args.terms.now q shift init rows c.loop-hops.z.items c.loop-hops.notes.items c.loop-hops.parts.items c.loop-hops.rows.items c.in_ok-spots.spots.items c.loop-hops.unions.items = simp to_z-of_z at c.loop-hops.invariant in
+    let inv : IsRun t.places t.value_of t.fits c.args.terms.now q shift init rows c.loop-hops.z.items c.loop-hops.notes.items c.loop-hops.engine.parts.items c.loop-hops.engine.rows.items c.loop-hops.engine.spots.items c.loop-hops.unions.items = simp to_z-of_z at c.loop-hops.invariant.0 in
     let s = inv.state in
     let up : D rows ≤ℤ pos 0 = deficit_not_above n (rest_at ts rows shift) in
     let risen : D init ≤ℤ D rows = inv.risen in
@@ -441,7 +441,7 @@ returns-clause-proves g c =
     let zn : length z ≡ n = s.is_rest.places in
     let F : ℕ → Type 0 = λ k. AreClosed k c.loop-hops.unions.items z c.find_levels.new.levels.items in
     let closed : AreClosed n c.loop-hops.unions.items z c.find_levels.new.levels.items = subst F zn closed1 in
-    let right : (i : ℕ) → i < length ts → IsTable ts q rows i (table_at c.loop-hops.rows.items i) = λ i l. s.tables i (rw count at l) in
-    let links = links_of ts n q rows c.in_ok-spots.spots.items c.loop-hops.rows.items c.loop-hops.unions.items s.are_spots s.are_unions right in
+    let right : (i : ℕ) → i < length ts → IsTable ts q rows i (table_at c.loop-hops.engine.rows.items i) = λ i l. s.tables i (rw count at l) in
+    let links = links_of ts n q rows c.loop-hops.engine.spots.items c.loop-hops.engine.rows.items c.loop-hops.unions.items s.are_spots s.are_unions right in
     let none = none_joins ts rows n q shift z low fit s.are_bases zn s.is_rest c.loop-hops.unions.items links c.find_levels.new.levels.items closed in
     prove_if_none ts rows n q shift low fit s.are_bases none
