@@ -3,8 +3,8 @@ use Rattle.std.proofs.lemmas.Int.{ints, to_z-of_z}
 use mir.Syntax.{w128}
 use Rattle.sfm_slope.proofs.turn.extremes_at.Goals as goal
 
-pub returns : goal.returns
-returns g c =
+pub returns-clause-extremes : goal.returns-clause-extremes
+returns-clause-extremes g c =
     let p = c.args.slope.num in
     let q = c.args.slope.den in
     let fp : FitsSigned w128 p = omega (arith, ints, c.args.slope.entry.low, c.args.slope.entry.high) in

@@ -16,8 +16,8 @@ extremes_at-requires-clause-small g c =
     let fit = meanings-terms n t.places t.value_of m.family m.submodular c.args.terms.now (placed-meanings n t.places t.value_of c.args.terms.now r.bounded.placed) in
     (turn_ratio ts n fit c.args.low.now c.args.high.now r.low_worth r.high_worth r.begun r.gap c.slope_between-slope.result c.slope_between-slope.ensures).small
 
-pub returns-then-size-low : goal.returns-then-size-low
-returns-then-size-low g c =
+pub returns-then-size-low-clause-turn : goal.returns-then-size-low-clause-turn
+returns-then-size-low-clause-turn g c =
     let t = g.T.Term in
     let m = g.met.T.Term in
     let r = c.requires in
@@ -25,10 +25,10 @@ returns-then-size-low g c =
     let ts = meanings t.places t.value_of c.args.terms.now in
     let fit = meanings-terms n t.places t.value_of m.family m.submodular c.args.terms.now (placed-meanings n t.places t.value_of c.args.terms.now r.bounded.placed) in
     turn_next ts n fit c.args.low.now c.args.high.now r.low_worth r.high_worth r.begun r.gap c.slope_between-slope.result c.slope_between-slope.ensures
-    c.in_ok-found.found c.in_ok-found.ensures (sym c.size.ensures ∙ c.if-size-low.true)
+    c.in_ok-found.found c.in_ok-found.ensures.extremes (sym c.size.ensures ∙ c.if-size-low.true)
 
-pub returns : goal.returns
-returns g c =
+pub returns-clause-turn : goal.returns-clause-turn
+returns-clause-turn g c =
     let t = g.T.Term in
     let m = g.met.T.Term in
     let r = c.requires in
@@ -37,5 +37,5 @@ returns g c =
     let fit = meanings-terms n t.places t.value_of m.family m.submodular c.args.terms.now (placed-meanings n t.places t.value_of c.args.terms.now r.bounded.placed) in
     let apart : size c.in_ok-found.found.least ≡ c.args.low.now.size → ⊥ = λ e. c.if-size-low.false (c.size.ensures ∙ e) in
     let two = turn_between ts n fit c.args.low.now c.args.high.now r.low_worth r.high_worth r.begun r.gap c.slope_between-slope.result c.slope_between-slope.ensures
-    c.in_ok-found.found c.in_ok-found.ensures apart in
+    c.in_ok-found.found c.in_ok-found.ensures.extremes apart in
     (rw c.in_ok-between.ensures.same two.0, rw c.in_ok-between.ensures.same two.1, c.in_ok-between.ensures.worth)
