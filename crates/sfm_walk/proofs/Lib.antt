@@ -14,3 +14,5 @@ pub mod Advancing
 pub mod Gaps
 pub mod Improving
 pub mod Starting
+pub mod Searching
+pub mod Least

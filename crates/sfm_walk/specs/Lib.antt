@@ -7,3 +7,4 @@ pub mod Hops
 pub mod Rest
 pub mod State
 pub mod Engine
+pub mod Reached

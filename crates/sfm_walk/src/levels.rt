@@ -22,8 +22,8 @@ fn places_over(z: &[i128]) -> Bits
     over
 }
 
-// The places with z < 0.
-fn places_under(z: &[i128]) -> Bits
+/// The places with z < 0.
+pub fn places_under(z: &[i128]) -> Bits
     requires { length z.now ≤ 256 }
     ensures { (e : ℕ) → (bit_in result e ≡ 1) ↔ ((e < length z.now) × (slice_index_or z.now e (pos 0) <ℤ pos 0)) }
 {

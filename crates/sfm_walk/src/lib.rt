@@ -9,10 +9,11 @@ mod levels;
 mod moving;
 mod optimum;
 mod reach;
+mod reached;
 mod rest;
 mod spots;
 mod unions;
 mod walk;
 
 pub use engine::Engine;
-pub use optimum::{Optimum, minimise, minimise_counted, minimise_with};
+pub use optimum::{Minimum, Optimum, minimise, minimise_counted, minimise_with};

@@ -5,7 +5,7 @@ ghost use Rattle.std.specs.Prelude.{◌≡◌, ◌*◌, ◌^◌, ◌<◌, ◌≤
 ghost use Rattle.std.specs.List.{All};
 ghost use Rattle.sfm_spec.specs.Sets.{magnitudes};
 ghost use Rattle.sfm_spec.specs.Bounds.{AreBounded, IsAtMost, IsEntry, IsFactor};
-ghost use Rattle.sfm_spec.specs.Families.{meanings, even_shift, rest_at, deficit, AreBases, Prove};
+ghost use Rattle.sfm_spec.specs.Families.{meanings, even_shift, rest_at, deficit, AreBases, IsLeast, Prove};
 ghost use Rattle.sfm_spec.specs.Walks.{Step, Joins, MovesAlong};
 ghost use Rattle.sfm_walk.specs.Engine.{IsEngine};
 ghost use Rattle.sfm_walk.specs.Levels.{IsFirst};
@@ -14,9 +14,10 @@ ghost use Rattle.sfm_walk.specs.State.{IsState, IsUpTo};
 use crate::asking::{ask_again, ask_all};
 use crate::bits::Bits;
 use crate::engine::Engine;
-use crate::levels::find_levels;
+use crate::levels::{find_levels, places_under};
 use crate::moving::{amount_of, move_along};
 use crate::reach::{BitRows, notes_of};
+use crate::reached::{reached_from, set_of};
 use crate::rest::{most_of, move_rest, rest_of};
 use crate::spots::Spots;
 use crate::unions::unions_of;
@@ -30,6 +31,13 @@ use std::alloc::Global;
 pub struct Optimum {
     pub bases: Rows,
     pub z: Numbers,
+}
+
+/// Bases that prove the minimum, and the minimiser that lies within every other.
+#[derive(Drop)]
+pub struct Minimum {
+    pub optimum: Optimum,
+    pub least: Set,
 }
 
 /// Bases that prove the minimum of q times the sum of the terms, less p for each element, over a ground of n places.
@@ -84,10 +92,11 @@ pub fn minimise_counted<T: Term>(
     ensures counted { steps.old ≤ steps.new }
 {
     let mut engine = Engine::new(alloc, terms, n)?;
-    minimise_with(alloc, &mut engine, terms, n, p, q, steps)
+    let minimum = minimise_with(alloc, &mut engine, terms, n, p, q, steps)?;
+    Ok(minimum.optimum)
 }
 
-/// The same with an engine for the terms, which stays one for them.
+/// The same with an engine for the terms, which stays one for them, and with the least minimiser.
 ///
 /// # Errors
 ///
@@ -100,16 +109,17 @@ pub fn minimise_with<T: Term>(
     p: i128,
     q: i128,
     steps: &mut Steps,
-) -> Result<Optimum, Memory>
+) -> Result<Minimum, Memory>
     requires engine { IsEngine T.places T.value_of terms.now n engine.old }
     requires bounded { AreBounded n (map T.places terms.now) (map T.size_of terms.now) }
     requires slope { IsAtMost (10 ^ 24) p }
     requires factor { IsFactor q }
-    ensures bases { IfOk result (λ r. AreBases q (meanings T.places T.value_of terms.now) r.bases) }
-    ensures small { IfOk result (λ r. All (λ x. All IsEntry x) r.bases) }
-    ensures rest { IfOk result (λ r. (length r.z ≡ n) × ((e : ℕ) → e < n → slice_index_or r.z e (pos 0) ≡ rest_at (meanings T.places T.value_of terms.now) r.bases (even_shift n p) e)) }
-    ensures ends { IfOk result (λ r. (first : ℕ) (steps : List Step) → Joins (meanings T.places T.value_of terms.now) q (even_shift n p) r.bases first steps → ⊥) }
-    ensures proves { IfOk result (λ r. Prove (meanings T.places T.value_of terms.now) n q (even_shift n p) r.bases) }
+    ensures bases { IfOk result (λ r. AreBases q (meanings T.places T.value_of terms.now) r.optimum.bases) }
+    ensures small { IfOk result (λ r. All (λ x. All IsEntry x) r.optimum.bases) }
+    ensures rest { IfOk result (λ r. (length r.optimum.z ≡ n) × ((e : ℕ) → e < n → slice_index_or r.optimum.z e (pos 0) ≡ rest_at (meanings T.places T.value_of terms.now) r.optimum.bases (even_shift n p) e)) }
+    ensures ends { IfOk result (λ r. (first : ℕ) (steps : List Step) → Joins (meanings T.places T.value_of terms.now) q (even_shift n p) r.optimum.bases first steps → ⊥) }
+    ensures proves { IfOk result (λ r. Prove (meanings T.places T.value_of terms.now) n q (even_shift n p) r.optimum.bases) }
+    ensures least { IfOk result (λ r. IsLeast (meanings T.places T.value_of terms.now) n q (even_shift n p) r.least) }
     ensures engine { OnOk result (IsEngine T.places T.value_of terms.now n engine.new) }
     ensures counted { steps.old ≤ steps.new }
 {
@@ -127,18 +137,19 @@ fn improve<T: Term>(
     shift: &[i128],
     first_bases: Rows,
     steps: &mut Steps,
-) -> Result<Optimum, Memory>
+) -> Result<Minimum, Memory>
     requires engine { IsEngine T.places T.value_of terms.now (length shift.now) engine.old }
     requires bounded { AreBounded (length shift.now) (map T.places terms.now) (map T.size_of terms.now) }
     requires shifts { magnitudes shift.now ≤ℤ pos (10 ^ 27) }
     requires factor { IsFactor q }
     requires bases { AreBases q (meanings T.places T.value_of terms.now) first_bases }
     requires small { All (λ x. All (IsAtMost (10 ^ 25)) x) first_bases }
-    ensures bases { IfOk result (λ r. AreBases q (meanings T.places T.value_of terms.now) r.bases) }
-    ensures small { IfOk result (λ r. All (λ x. All IsEntry x) r.bases) }
-    ensures rest { IfOk result (λ r. (length r.z ≡ length shift.now) × ((e : ℕ) → e < length shift.now → slice_index_or r.z e (pos 0) ≡ rest_at (meanings T.places T.value_of terms.now) r.bases shift.now e)) }
-    ensures ends { IfOk result (λ r. (first : ℕ) (steps : List Step) → Joins (meanings T.places T.value_of terms.now) q shift.now r.bases first steps → ⊥) }
-    ensures proves { IfOk result (λ r. Prove (meanings T.places T.value_of terms.now) (length shift.now) q shift.now r.bases) }
+    ensures bases { IfOk result (λ r. AreBases q (meanings T.places T.value_of terms.now) r.optimum.bases) }
+    ensures small { IfOk result (λ r. All (λ x. All IsEntry x) r.optimum.bases) }
+    ensures rest { IfOk result (λ r. (length r.optimum.z ≡ length shift.now) × ((e : ℕ) → e < length shift.now → slice_index_or r.optimum.z e (pos 0) ≡ rest_at (meanings T.places T.value_of terms.now) r.optimum.bases shift.now e)) }
+    ensures ends { IfOk result (λ r. (first : ℕ) (steps : List Step) → Joins (meanings T.places T.value_of terms.now) q shift.now r.optimum.bases first steps → ⊥) }
+    ensures proves { IfOk result (λ r. Prove (meanings T.places T.value_of terms.now) (length shift.now) q shift.now r.optimum.bases) }
+    ensures least { IfOk result (λ r. IsLeast (meanings T.places T.value_of terms.now) (length shift.now) q shift.now r.least) }
     ensures engine { OnOk result (IsEngine T.places T.value_of terms.now (length shift.now) engine.new) }
     ensures counted { steps.old ≤ steps.new }
 {
@@ -177,9 +188,12 @@ fn improve<T: Term>(
         )?;
         count_one(steps);
     }
-    Ok(Optimum {
-        bases,
-        z: Numbers::from_vec(z),
+    let reached = reached_from(&unions, &places_under(&z));
+    let least = set_of(alloc, &reached, shift.len())?;
+    let z = Numbers::from_vec(z);
+    Ok(Minimum {
+        optimum: Optimum { bases, z },
+        least,
     })
 }
 

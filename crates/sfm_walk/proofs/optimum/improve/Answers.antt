@@ -19,6 +19,7 @@ use Rattle.sfm_walk.proofs.Noting.{sized_meanings}
 use Rattle.sfm_walk.proofs.Uniting.{have_rows, links_of}
 use Rattle.sfm_walk.proofs.Advancing.{none_joins}
 use Rattle.sfm_walk.proofs.Gaps.{abs_falls, deficit_low}
+use Rattle.sfm_walk.proofs.Least.{least_is, link_below}
 use Rattle.sfm_walk.proofs.Improving.{IsRun, at_most, bound_is, same_bound}
 use Rattle.sfm_walk.proofs.optimum.improve.Goals as goal
 
@@ -372,7 +373,7 @@ returns-clause-rest g c =
     let s = inv.state in
     let up : D rows ≤ℤ pos 0 = deficit_not_above n (rest_at ts rows shift) in
     let risen : D init ≤ℤ D rows = inv.risen in
-    rw c.from_vec.ensures (s.is_rest.places, (λ e l. s.is_rest.exact e (rw s.is_rest.places l)))
+    rw c.from_vec-z.ensures (s.is_rest.places, (λ e l. s.is_rest.exact e (rw s.is_rest.places l)))
 
 pub returns-clause-ends : goal.returns-clause-ends
 returns-clause-ends g c =
@@ -445,3 +446,119 @@ returns-clause-proves g c =
     let links = links_of ts n q rows c.loop-hops.engine.spots.items c.loop-hops.engine.rows.items c.loop-hops.unions.items s.are_spots s.are_unions right in
     let none = none_joins ts rows n q shift z low fit s.are_bases zn s.is_rest c.loop-hops.unions.items links c.find_levels.new.levels.items closed in
     prove_if_none ts rows n q shift low fit s.are_bases none
+
+pub reached_from-reached-requires-clause-firsts : goal.reached_from-reached-requires-clause-firsts
+reached_from-reached-requires-clause-firsts g c =
+    let t = g.T.Term in
+    let m = g.met.T.Term in
+    let fq : FitsSigned w128 c.args.q = c.ranges.q in
+    let ts = meanings t.places t.value_of c.args.terms.now in
+    let n = length c.args.shift.now in
+    let q = c.args.q in
+    let shift = c.args.shift.now in
+    let init = c.args.first_bases in
+    let count = length-meanings t.places t.value_of c.args.terms.now in
+    let fit : AreTerms n ts = meanings-terms n t.places t.value_of m.family m.submodular c.args.terms.now (placed-meanings n t.places t.value_of c.args.terms.now c.requires.bounded.placed) in
+    let low : pos 0 ≤ℤ q = omega (arith, ints, c.requires.factor.low) in
+    let sizes = below-total (map t.size_of c.args.terms.now) (pos (10 ^ 18))
+    (All-map (λ a. pos 0 ≤ℤ a) t.size_of c.args.terms.now (λ k d l.
+    let x = get_or c.args.terms.now k d in
+    (m.bounded x (empty_set (length (t.places x))) (pos 0) (length-replicate (length (t.places x)) _) (m.submodular x).at_empty).1))
+    c.requires.bounded.small in
+    let D : List (List ℤ) → ℤ = λ rows. deficit n (rest_at ts rows shift) in
+    let gap : neg_ℤ (pos (4 * 10 ^ 29)) ≤ℤ D init = deficit_low t.places t.value_of c.args.terms.now init shift c.requires.small c.requires.bounded.few_places c.requires.shifts in
+    let rows = c.loop-hops.bases in
+    let inv : IsRun t.places t.value_of t.fits c.args.terms.now q shift init rows c.loop-hops.z.items c.loop-hops.notes.items c.loop-hops.engine.parts.items c.loop-hops.engine.rows.items c.loop-hops.engine.spots.items c.loop-hops.unions.items = simp to_z-of_z at c.loop-hops.invariant.0 in
+    let s = inv.state in
+    let up : D rows ≤ℤ pos 0 = deficit_not_above n (rest_at ts rows shift) in
+    let risen : D init ≤ℤ D rows = inv.risen in
+    let z = c.loop-hops.z.items in
+    let closed0 = match_none c.in_ok-first.field-0 _ _ c.in_ok-first.ensures c.in_default.not-Some in
+    let closed1 = rw (c.deref-in-loop-hops.ensures.value, c.deref-in-loop-hops-2.ensures.value) at closed0 in
+    let zn : length z ≡ n = s.is_rest.places in
+    let F : ℕ → Type 0 = λ k. AreClosed k c.loop-hops.unions.items z c.find_levels.new.levels.items in
+    let closed : AreClosed n c.loop-hops.unions.items z c.find_levels.new.levels.items = subst F zn closed1 in
+    let right : (i : ℕ) → i < length ts → IsTable ts q rows i (table_at c.loop-hops.engine.rows.items i) = λ i l. s.tables i (rw count at l) in
+    let links = links_of ts n q rows c.loop-hops.engine.spots.items c.loop-hops.engine.rows.items c.loop-hops.unions.items s.are_spots s.are_unions right in
+    let none = none_joins ts rows n q shift z low fit s.are_bases zn s.is_rest c.loop-hops.unions.items links c.find_levels.new.levels.items closed in
+    let uv = c.deref-4.ensures.value in
+    let zv = c.deref-5.ensures.value in
+    let cu = s.are_unions.count in
+    let cs = s.are_spots.count in
+    λ e one. let u = ((c.places_under.ensures e).0 one).0 in let l : e < n = rw zn at (rw zv at u) in rw (uv, cu, cs) l
+
+pub reached_from-reached-requires-clause-links : goal.reached_from-reached-requires-clause-links
+reached_from-reached-requires-clause-links g c =
+    let t = g.T.Term in
+    let m = g.met.T.Term in
+    let fq : FitsSigned w128 c.args.q = c.ranges.q in
+    let ts = meanings t.places t.value_of c.args.terms.now in
+    let n = length c.args.shift.now in
+    let q = c.args.q in
+    let shift = c.args.shift.now in
+    let init = c.args.first_bases in
+    let count = length-meanings t.places t.value_of c.args.terms.now in
+    let fit : AreTerms n ts = meanings-terms n t.places t.value_of m.family m.submodular c.args.terms.now (placed-meanings n t.places t.value_of c.args.terms.now c.requires.bounded.placed) in
+    let low : pos 0 ≤ℤ q = omega (arith, ints, c.requires.factor.low) in
+    let sizes = below-total (map t.size_of c.args.terms.now) (pos (10 ^ 18))
+    (All-map (λ a. pos 0 ≤ℤ a) t.size_of c.args.terms.now (λ k d l.
+    let x = get_or c.args.terms.now k d in
+    (m.bounded x (empty_set (length (t.places x))) (pos 0) (length-replicate (length (t.places x)) _) (m.submodular x).at_empty).1))
+    c.requires.bounded.small in
+    let D : List (List ℤ) → ℤ = λ rows. deficit n (rest_at ts rows shift) in
+    let gap : neg_ℤ (pos (4 * 10 ^ 29)) ≤ℤ D init = deficit_low t.places t.value_of c.args.terms.now init shift c.requires.small c.requires.bounded.few_places c.requires.shifts in
+    let rows = c.loop-hops.bases in
+    let inv : IsRun t.places t.value_of t.fits c.args.terms.now q shift init rows c.loop-hops.z.items c.loop-hops.notes.items c.loop-hops.engine.parts.items c.loop-hops.engine.rows.items c.loop-hops.engine.spots.items c.loop-hops.unions.items = simp to_z-of_z at c.loop-hops.invariant.0 in
+    let s = inv.state in
+    let up : D rows ≤ℤ pos 0 = deficit_not_above n (rest_at ts rows shift) in
+    let risen : D init ≤ℤ D rows = inv.risen in
+    let z = c.loop-hops.z.items in
+    let closed0 = match_none c.in_ok-first.field-0 _ _ c.in_ok-first.ensures c.in_default.not-Some in
+    let closed1 = rw (c.deref-in-loop-hops.ensures.value, c.deref-in-loop-hops-2.ensures.value) at closed0 in
+    let zn : length z ≡ n = s.is_rest.places in
+    let F : ℕ → Type 0 = λ k. AreClosed k c.loop-hops.unions.items z c.find_levels.new.levels.items in
+    let closed : AreClosed n c.loop-hops.unions.items z c.find_levels.new.levels.items = subst F zn closed1 in
+    let right : (i : ℕ) → i < length ts → IsTable ts q rows i (table_at c.loop-hops.engine.rows.items i) = λ i l. s.tables i (rw count at l) in
+    let links = links_of ts n q rows c.loop-hops.engine.spots.items c.loop-hops.engine.rows.items c.loop-hops.unions.items s.are_spots s.are_unions right in
+    let none = none_joins ts rows n q shift z low fit s.are_bases zn s.is_rest c.loop-hops.unions.items links c.find_levels.new.levels.items closed in
+    let uv = c.deref-4.ensures.value in
+    let zv = c.deref-5.ensures.value in
+    let cu = s.are_unions.count in
+    let cs = s.are_spots.count in
+    λ e t l bit. rw (uv, cu, cs) (link_below ts rows n q shift z low fit s.are_bases zn s.is_rest c.loop-hops.unions.items links e t (rw (uv, cu, cs) at l) (rw uv at bit))
+
+pub returns-clause-least : goal.returns-clause-least
+returns-clause-least g c =
+    let t = g.T.Term in
+    let m = g.met.T.Term in
+    let fq : FitsSigned w128 c.args.q = c.ranges.q in
+    let ts = meanings t.places t.value_of c.args.terms.now in
+    let n = length c.args.shift.now in
+    let q = c.args.q in
+    let shift = c.args.shift.now in
+    let init = c.args.first_bases in
+    let count = length-meanings t.places t.value_of c.args.terms.now in
+    let fit : AreTerms n ts = meanings-terms n t.places t.value_of m.family m.submodular c.args.terms.now (placed-meanings n t.places t.value_of c.args.terms.now c.requires.bounded.placed) in
+    let low : pos 0 ≤ℤ q = omega (arith, ints, c.requires.factor.low) in
+    let sizes = below-total (map t.size_of c.args.terms.now) (pos (10 ^ 18))
+    (All-map (λ a. pos 0 ≤ℤ a) t.size_of c.args.terms.now (λ k d l.
+    let x = get_or c.args.terms.now k d in
+    (m.bounded x (empty_set (length (t.places x))) (pos 0) (length-replicate (length (t.places x)) _) (m.submodular x).at_empty).1))
+    c.requires.bounded.small in
+    let D : List (List ℤ) → ℤ = λ rows. deficit n (rest_at ts rows shift) in
+    let gap : neg_ℤ (pos (4 * 10 ^ 29)) ≤ℤ D init = deficit_low t.places t.value_of c.args.terms.now init shift c.requires.small c.requires.bounded.few_places c.requires.shifts in
+    let rows = c.loop-hops.bases in
+    let inv : IsRun t.places t.value_of t.fits c.args.terms.now q shift init rows c.loop-hops.z.items c.loop-hops.notes.items c.loop-hops.engine.parts.items c.loop-hops.engine.rows.items c.loop-hops.engine.spots.items c.loop-hops.unions.items = simp to_z-of_z at c.loop-hops.invariant.0 in
+    let s = inv.state in
+    let up : D rows ≤ℤ pos 0 = deficit_not_above n (rest_at ts rows shift) in
+    let risen : D init ≤ℤ D rows = inv.risen in
+    let z = c.loop-hops.z.items in
+    let closed0 = match_none c.in_ok-first.field-0 _ _ c.in_ok-first.ensures c.in_default.not-Some in
+    let closed1 = rw (c.deref-in-loop-hops.ensures.value, c.deref-in-loop-hops-2.ensures.value) at closed0 in
+    let zn : length z ≡ n = s.is_rest.places in
+    let F : ℕ → Type 0 = λ k. AreClosed k c.loop-hops.unions.items z c.find_levels.new.levels.items in
+    let closed : AreClosed n c.loop-hops.unions.items z c.find_levels.new.levels.items = subst F zn closed1 in
+    let right : (i : ℕ) → i < length ts → IsTable ts q rows i (table_at c.loop-hops.engine.rows.items i) = λ i l. s.tables i (rw count at l) in
+    let links = links_of ts n q rows c.loop-hops.engine.spots.items c.loop-hops.engine.rows.items c.loop-hops.unions.items s.are_spots s.are_unions right in
+    let none = none_joins ts rows n q shift z low fit s.are_bases zn s.is_rest c.loop-hops.unions.items links c.find_levels.new.levels.items closed in
+    least_is ts rows n q shift z low fit s.are_bases zn s.is_rest c.loop-hops.unions.items links c.places_under.result c.reached_from-reached.result (rw c.deref-5.ensures.value at c.places_under.ensures) (rw c.deref-4.ensures.value at c.reached_from-reached.ensures) c.in_ok-least.least c.in_ok-least.ensures none

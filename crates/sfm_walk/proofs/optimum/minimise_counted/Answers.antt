@@ -7,4 +7,10 @@ pub returns-clause-ends : goal.returns-clause-ends
 returns-clause-ends g c =
     let fq : FitsSigned w128 c.args.q = c.ranges.q in
     let fp : FitsSigned w128 c.args.p = c.ranges.p in
-    simp to_z-of_z at c.minimise_with.ensures.ends
+    simp to_z-of_z at c.in_ok-minimum.ensures.ends
+
+pub returns-clause-rest : goal.returns-clause-rest
+returns-clause-rest g c =
+    let fq : FitsSigned w128 c.args.q = c.ranges.q in
+    let fp : FitsSigned w128 c.args.p = c.ranges.p in
+    simp to_z-of_z at c.in_ok-minimum.ensures.rest

@@ -53,3 +53,10 @@ returns-clause-ends g c =
     let same : c.deref.result.now ≡ replicate c.args.n c.args.p = search rules in
     let h = rw same at c.improve.ensures.ends in
     simp to_z-of_z at h
+
+pub returns-clause-least : goal.returns-clause-least
+returns-clause-least g c =
+    let fq : FitsSigned w128 c.args.q = c.ranges.q in
+    let same : c.deref.result.now ≡ replicate c.args.n c.args.p = search rules in
+    let h = rw (same, length-replicate c.args.n c.args.p) at c.improve.ensures.least in
+    simp to_z-of_z at h
