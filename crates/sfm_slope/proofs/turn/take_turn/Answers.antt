@@ -6,8 +6,8 @@ use Rattle.sfm_extreme.proofs.Lists.{placed-meanings}
 use Rattle.sfm_slope.proofs.Turns.{turn_between, turn_next, turn_ratio}
 use Rattle.sfm_slope.proofs.turn.take_turn.Goals as goal
 
-pub extremes_at-requires-clause-small : goal.extremes_at-requires-clause-small
-extremes_at-requires-clause-small g c =
+pub least_at-requires-clause-small : goal.least_at-requires-clause-small
+least_at-requires-clause-small g c =
     let t = g.T.Term in
     let m = g.met.T.Term in
     let r = c.requires in
@@ -24,8 +24,8 @@ returns-then-size-low-clause-turn g c =
     let n = c.args.n in
     let ts = meanings t.places t.value_of c.args.terms.now in
     let fit = meanings-terms n t.places t.value_of m.family m.submodular c.args.terms.now (placed-meanings n t.places t.value_of c.args.terms.now r.bounded.placed) in
-    turn_next ts n fit c.args.low.now c.args.high.now r.low_worth r.high_worth r.begun r.gap c.slope_between-slope.result c.slope_between-slope.ensures
-    c.in_ok-found.found c.in_ok-found.ensures.extremes (sym c.size.ensures ∙ c.if-size-low.true)
+    rw c.in_ok-copy.ensures (turn_next ts n fit c.args.low.now c.args.high.now r.low_worth r.high_worth r.begun r.gap c.slope_between-slope.result c.slope_between-slope.ensures
+    c.in_ok-found.found c.in_ok-found.ensures.least (sym c.size.ensures ∙ c.if-size-low.true))
 
 pub returns-clause-turn : goal.returns-clause-turn
 returns-clause-turn g c =
@@ -37,5 +37,5 @@ returns-clause-turn g c =
     let fit = meanings-terms n t.places t.value_of m.family m.submodular c.args.terms.now (placed-meanings n t.places t.value_of c.args.terms.now r.bounded.placed) in
     let apart : size c.in_ok-found.found.least ≡ c.args.low.now.size → ⊥ = λ e. c.if-size-low.false (c.size.ensures ∙ e) in
     let two = turn_between ts n fit c.args.low.now c.args.high.now r.low_worth r.high_worth r.begun r.gap c.slope_between-slope.result c.slope_between-slope.ensures
-    c.in_ok-found.found c.in_ok-found.ensures.extremes apart in
+    c.in_ok-found.found c.in_ok-found.ensures.least apart in
     (rw c.in_ok-between.ensures.same two.0, rw c.in_ok-between.ensures.same two.1, c.in_ok-between.ensures.worth)
