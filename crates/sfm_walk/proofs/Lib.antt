@@ -15,4 +15,5 @@ pub mod Gaps
 pub mod Improving
 pub mod Starting
 pub mod Searching
+pub mod Signing
 pub mod Least

@@ -3,6 +3,7 @@ pub mod Spots
 pub mod Reach
 pub mod Unions
 pub mod Levels
+pub mod Signs
 pub mod Hops
 pub mod Rest
 pub mod State

@@ -11,6 +11,7 @@ mod optimum;
 mod reach;
 mod reached;
 mod rest;
+mod signs;
 mod spots;
 mod unions;
 mod walk;

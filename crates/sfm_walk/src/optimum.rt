@@ -9,16 +9,18 @@ ghost use Rattle.sfm_spec.specs.Families.{meanings, even_shift, rest_at, deficit
 ghost use Rattle.sfm_spec.specs.Walks.{Step, Joins, MovesAlong};
 ghost use Rattle.sfm_walk.specs.Engine.{IsEngine};
 ghost use Rattle.sfm_walk.specs.Levels.{IsFirst};
+ghost use Rattle.sfm_walk.specs.Signs.{AreSigns};
 ghost use Rattle.sfm_walk.specs.State.{IsState, IsUpTo};
 
 use crate::asking::{ask_again, ask_all};
 use crate::bits::Bits;
 use crate::engine::Engine;
-use crate::levels::{find_levels, places_under};
+use crate::levels::find_levels;
 use crate::moving::{amount_of, move_along};
 use crate::reach::{BitRows, notes_of};
 use crate::reached::{reached_from, set_of};
 use crate::rest::{most_of, move_rest, rest_of};
+use crate::signs::{Signs, move_signs, signs_of};
 use crate::spots::Spots;
 use crate::unions::unions_of;
 use crate::walk::{Hop, follow, last_place};
@@ -169,7 +171,8 @@ fn improve<T: Term>(
     let mut unions = unions_of(alloc, &engine.spots, &engine.rows)?;
     let mut levels = Vec::new(alloc);
     let mut hops = Vec::new(alloc);
-    while let Some(first) = find_levels(&unions, &z, &mut levels)? {
+    let mut signs = signs_of(&z);
+    while let Some(first) = find_levels(&unions, &z, &signs, &mut levels)? {
         advance(
             alloc,
             terms,
@@ -180,6 +183,7 @@ fn improve<T: Term>(
             first,
             &mut bases,
             &mut z,
+            &mut signs,
             &mut notes,
             &mut engine.parts,
             &mut engine.rows,
@@ -188,7 +192,7 @@ fn improve<T: Term>(
         )?;
         count_one(steps);
     }
-    let reached = reached_from(&unions, &places_under(&z));
+    let reached = reached_from(&unions, &signs.under);
     let least = set_of(alloc, &reached, shift.len())?;
     let z = Numbers::from_vec(z);
     Ok(Minimum {
@@ -217,6 +221,7 @@ fn advance<T: Term>(
     first: usize,
     bases: &mut Rows,
     z: &mut Vec<i128>,
+    signs: &mut Signs,
     notes: &mut Vec<T::Note>,
     parts: &mut Vec<Set>,
     rows: &mut Vec<BitRows>,
@@ -228,10 +233,12 @@ fn advance<T: Term>(
     requires shifts { magnitudes shift.now ≤ℤ pos (10 ^ 27) }
     requires factor { IsFactor q }
     requires state { IsState T.places T.value_of T.fits terms.now q shift.now bases.old z.old.items notes.old.items parts.old.items rows.old.items spots.now unions.old.items }
+    requires signs { AreSigns z.old.items signs.old }
     requires first { IsFirst (length z.old.items) unions.old.items z.old.items levels.now first }
     requires small { All (λ x. All (IsAtMost (5 * 10 ^ 29)) x) bases.old }
     requires gap { neg_ℤ (pos (5 * 10 ^ 29)) ≤ℤ deficit (length shift.now) (rest_at (meanings T.places T.value_of terms.now) bases.old shift.now) }
     ensures state { OnOk result (IsState T.places T.value_of T.fits terms.now q shift.now bases.new z.new.items notes.new.items parts.new.items rows.new.items spots.now unions.new.items) }
+    ensures signs { OnOk result (AreSigns z.new.items signs.new) }
     ensures moves { OnOk result (MovesAlong (meanings T.places T.value_of terms.now) q shift.now bases.old bases.new) }
     ensures spread { OnOk result ((b : ℤ) → All (λ x. All (IsUpTo b) x) bases.old → All (λ x. All (IsUpTo (b +ℤ (deficit (length shift.now) (rest_at (meanings T.places T.value_of terms.now) bases.new shift.now)
         -ℤ deficit (length shift.now) (rest_at (meanings T.places T.value_of terms.now) bases.old shift.now)))) x) bases.new) }
@@ -255,5 +262,6 @@ fn advance<T: Term>(
         rows,
         unions,
     )?;
+    move_signs(signs, z, first, last);
     Ok(())
 }

@@ -174,7 +174,7 @@ loop-hops-init g c =
       risen = omega (arith, ints);
       small = same_bound init (pos (10 ^ 25) +ℤ (D init -ℤ D init)) c.requires.small (omega (arith, ints));
     } in
-    simp to_z-of_z (r, omega arith)
+    simp to_z-of_z (r, omega arith, rw c.deref-4.ensures.value at c.signs_of-signs.ensures)
 
 pub advance-requires-clause-sizes : goal.advance-requires-clause-sizes
 advance-requires-clause-sizes g c =
@@ -319,7 +319,7 @@ loop-hops-preserved g c =
       risen = omega (arith, ints, risen, more);
       small = bound_is after ((pos (10 ^ 25) +ℤ (D rows -ℤ D init)) +ℤ (D after -ℤ D rows)) (pos (10 ^ 25) +ℤ (D after -ℤ D init)) (e.spread (pos (10 ^ 25) +ℤ (D rows -ℤ D init)) inv.small) (omega (arith, ints));
     } in
-    simp to_z-of_z (r, omega (arith, c.loop-hops.invariant.1, c.count_one.ensures))
+    simp to_z-of_z (r, omega (arith, c.loop-hops.invariant.1, c.count_one.ensures), e.signs)
 
 pub returns-clause-small : goal.returns-clause-small
 returns-clause-small g c =
@@ -481,11 +481,10 @@ reached_from-reached-requires-clause-firsts g c =
     let right : (i : ℕ) → i < length ts → IsTable ts q rows i (table_at c.loop-hops.engine.rows.items i) = λ i l. s.tables i (rw count at l) in
     let links = links_of ts n q rows c.loop-hops.engine.spots.items c.loop-hops.engine.rows.items c.loop-hops.unions.items s.are_spots s.are_unions right in
     let none = none_joins ts rows n q shift z low fit s.are_bases zn s.is_rest c.loop-hops.unions.items links c.find_levels.new.levels.items closed in
-    let uv = c.deref-4.ensures.value in
-    let zv = c.deref-5.ensures.value in
+    let uv = c.deref-5.ensures.value in
     let cu = s.are_unions.count in
     let cs = s.are_spots.count in
-    λ e one. let u = ((c.places_under.ensures e).0 one).0 in let l : e < n = rw zn at (rw zv at u) in rw (uv, cu, cs) l
+    λ e one. let u = ((c.loop-hops.invariant.2.below e).0 one).0 in let l : e < n = rw zn at u in rw (uv, cu, cs) l
 
 pub reached_from-reached-requires-clause-links : goal.reached_from-reached-requires-clause-links
 reached_from-reached-requires-clause-links g c =
@@ -521,8 +520,7 @@ reached_from-reached-requires-clause-links g c =
     let right : (i : ℕ) → i < length ts → IsTable ts q rows i (table_at c.loop-hops.engine.rows.items i) = λ i l. s.tables i (rw count at l) in
     let links = links_of ts n q rows c.loop-hops.engine.spots.items c.loop-hops.engine.rows.items c.loop-hops.unions.items s.are_spots s.are_unions right in
     let none = none_joins ts rows n q shift z low fit s.are_bases zn s.is_rest c.loop-hops.unions.items links c.find_levels.new.levels.items closed in
-    let uv = c.deref-4.ensures.value in
-    let zv = c.deref-5.ensures.value in
+    let uv = c.deref-5.ensures.value in
     let cu = s.are_unions.count in
     let cs = s.are_spots.count in
     λ e t l bit. rw (uv, cu, cs) (link_below ts rows n q shift z low fit s.are_bases zn s.is_rest c.loop-hops.unions.items links e t (rw (uv, cu, cs) at l) (rw uv at bit))
@@ -561,4 +559,4 @@ returns-clause-least g c =
     let right : (i : ℕ) → i < length ts → IsTable ts q rows i (table_at c.loop-hops.engine.rows.items i) = λ i l. s.tables i (rw count at l) in
     let links = links_of ts n q rows c.loop-hops.engine.spots.items c.loop-hops.engine.rows.items c.loop-hops.unions.items s.are_spots s.are_unions right in
     let none = none_joins ts rows n q shift z low fit s.are_bases zn s.is_rest c.loop-hops.unions.items links c.find_levels.new.levels.items closed in
-    least_is ts rows n q shift z low fit s.are_bases zn s.is_rest c.loop-hops.unions.items links c.places_under.result c.reached_from-reached.result (rw c.deref-5.ensures.value at c.places_under.ensures) (rw c.deref-4.ensures.value at c.reached_from-reached.ensures) c.in_ok-least.least c.in_ok-least.ensures none
+    least_is ts rows n q shift z low fit s.are_bases zn s.is_rest c.loop-hops.unions.items links c.loop-hops.signs.under c.reached_from-reached.result c.loop-hops.invariant.2.below (rw c.deref-5.ensures.value at c.reached_from-reached.ensures) c.in_ok-least.least c.in_ok-least.ensures none
