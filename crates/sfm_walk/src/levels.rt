@@ -10,17 +10,20 @@ use crate::bits::{Bits, no_bits};
 use crate::signs::Signs;
 use sfm_base::Memory;
 
-// Takes the places out of those left from which a step leads into a level.
+// Takes the places out of those left from which a step leads into a level. Only the places that are left are looked at.
 fn next_level(unions: &[Bits], level: &Bits, left: &mut Bits) -> Bits
-    requires { length unions.now ≤ 256 }
+    requires few { length unions.now ≤ 256 }
+    requires left { (e : ℕ) → bit_in left.old e ≡ 1 → e < length unions.now }
     ensures parted { (e : ℕ) → bit_in left.new e + bit_in result e ≡ bit_in left.old e }
     ensures below { (e : ℕ) → bit_in result e ≡ 1 → e < length unions.now }
     ensures leads { (e : ℕ) → bit_in result e ≡ 1 → LeadsInto unions.now e level.now }
     ensures closed { (e : ℕ) → e < length unions.now → LeadsInto unions.now e level.now → bit_in left.new e ≡ 0 }
 {
     let mut next = no_bits();
-    for (e, union) in unions.iter().enumerate() {
-        if left.contains(e) && union.meets(level) {
+    let mut ahead = *left;
+    while let Some(e) = ahead.first() {
+        ahead.remove(e);
+        if unions[e].meets(level) {
             next.insert(e);
             left.remove(e);
         }

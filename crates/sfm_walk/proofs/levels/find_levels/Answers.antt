@@ -48,3 +48,6 @@ loop-left-preserved c =
     let none = match_none c.first_common.result _ _ c.first_common.ensures c.in_default.not-Some in
     rw c.in_ok-push-2.ensures.items (levelling_more n c.args.unions.now c.args._z.now c.loop-left.levels.items c.loop-left.level c.loop-left.left c.next_level-level.new.left c.next_level-level.result c.loop-left.invariant to
     (λ p bit under. none p bit ((c.requires.signs.below p).1 (let l = e.below p bit in omega (arith, l, c.requires.count), under))))
+
+pub next_level-level-requires-clause-left : goal.next_level-level-requires-clause-left
+next_level-level-requires-clause-left c = λ e one. let r = (c.loop-left.invariant.rest e).0 one in rw c.requires.count r.0
