@@ -15,5 +15,6 @@ pub mod Gaps
 pub mod Improving
 pub mod Starting
 pub mod Searching
+pub mod Counting
 pub mod Signing
 pub mod Least

@@ -9,3 +9,4 @@ pub mod Rest
 pub mod State
 pub mod Engine
 pub mod Reached
+pub mod Counted

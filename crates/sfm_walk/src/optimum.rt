@@ -1,12 +1,13 @@
 // Bases that prove the minimum. While a walk joins, a shortest one is moved along by the greatest amount, and what is kept
 // beside the bases is brought up. Each walk raises the sum of min(z, 0) by at least 1, so this ends, and then no walk joins
 // (Schrijver, Combinatorial Optimization, section 45; Fujishige, Submodular Functions and Optimization, section 4).
-ghost use Rattle.std.specs.Prelude.{◌≡◌, ◌*◌, ◌^◌, ◌<◌, ◌≤◌, ℕ, ℤ, List, map, pos, neg_ℤ, ◌+ℤ◌, ◌-ℤ◌, ◌≤ℤ◌, length, OnOk, IfOk, slice_index_or};
+ghost use Rattle.std.specs.Prelude.{◌≡◌, ◌+◌, ◌*◌, ◌^◌, ◌<◌, ◌≤◌, ℕ, ℤ, List, map, pos, neg_ℤ, ◌+ℤ◌, ◌-ℤ◌, ◌≤ℤ◌, length, OnOk, IfOk, slice_index_or};
 ghost use Rattle.std.specs.List.{All};
 ghost use Rattle.sfm_spec.specs.Sets.{magnitudes};
 ghost use Rattle.sfm_spec.specs.Bounds.{AreBounded, IsAtMost, IsEntry, IsFactor};
 ghost use Rattle.sfm_spec.specs.Families.{meanings, even_shift, rest_at, deficit, AreBases, IsLeast, Prove};
 ghost use Rattle.sfm_spec.specs.Walks.{Step, Joins, MovesAlong};
+ghost use Rattle.sfm_walk.specs.Counted.{IsCounted};
 ghost use Rattle.sfm_walk.specs.Engine.{IsEngine};
 ghost use Rattle.sfm_walk.specs.Levels.{IsFirst};
 ghost use Rattle.sfm_walk.specs.Signs.{AreSigns};
@@ -70,7 +71,7 @@ pub fn minimise<T: Term>(
     minimise_counted(alloc, terms, n, p, q, &mut steps)
 }
 
-/// The same, and each walk is counted, up to the greatest number that there is.
+/// The same, and each walk is counted, up to the greatest number of 64 bits.
 ///
 /// # Errors
 ///
@@ -91,7 +92,8 @@ pub fn minimise_counted<T: Term>(
     ensures rest { IfOk result (λ r. (length r.z ≡ n) × ((e : ℕ) → e < n → slice_index_or r.z e (pos 0) ≡ rest_at (meanings T.places T.value_of terms.now) r.bases (even_shift n p) e)) }
     ensures ends { IfOk result (λ r. (first : ℕ) (steps : List Step) → Joins (meanings T.places T.value_of terms.now) q (even_shift n p) r.bases first steps → ⊥) }
     ensures proves { IfOk result (λ r. Prove (meanings T.places T.value_of terms.now) n q (even_shift n p) r.bases) }
-    ensures counted { steps.old ≤ steps.new }
+    ensures counted { IfOk result (λ r. IsCounted (meanings T.places T.value_of terms.now) q (even_shift n p) (map (λ term. T.start_of term q) terms.now) r.bases steps.old steps.new) }
+    ensures kept { steps.old ≤ steps.new }
 {
     let mut engine = Engine::new(alloc, terms, n)?;
     let minimum = minimise_with(alloc, &mut engine, terms, n, p, q, steps)?;
@@ -123,7 +125,8 @@ pub fn minimise_with<T: Term>(
     ensures proves { IfOk result (λ r. Prove (meanings T.places T.value_of terms.now) n q (even_shift n p) r.optimum.bases) }
     ensures least { IfOk result (λ r. IsLeast (meanings T.places T.value_of terms.now) n q (even_shift n p) r.least) }
     ensures engine { OnOk result (IsEngine T.places T.value_of terms.now n engine.new) }
-    ensures counted { steps.old ≤ steps.new }
+    ensures counted { IfOk result (λ r. IsCounted (meanings T.places T.value_of terms.now) q (even_shift n p) (map (λ term. T.start_of term q) terms.now) r.optimum.bases steps.old steps.new) }
+    ensures kept { steps.old ≤ steps.new }
 {
     let shift = vec![in alloc; p; n]?;
     let first_bases = start_rows(alloc, terms, q)?;
@@ -153,7 +156,8 @@ fn improve<T: Term>(
     ensures proves { IfOk result (λ r. Prove (meanings T.places T.value_of terms.now) (length shift.now) q shift.now r.optimum.bases) }
     ensures least { IfOk result (λ r. IsLeast (meanings T.places T.value_of terms.now) (length shift.now) q shift.now r.least) }
     ensures engine { OnOk result (IsEngine T.places T.value_of terms.now (length shift.now) engine.new) }
-    ensures counted { steps.old ≤ steps.new }
+    ensures counted { IfOk result (λ r. IsCounted (meanings T.places T.value_of terms.now) q shift.now first_bases r.optimum.bases steps.old steps.new) }
+    ensures kept { steps.old ≤ steps.new }
 {
     let mut bases = first_bases;
     let mut z = rest_of(alloc, terms, shift, &bases)?;
@@ -203,7 +207,8 @@ fn improve<T: Term>(
 
 // Counts one more, unless the count is as great as it can be.
 fn count_one(steps: &mut Steps)
-    ensures { steps.old ≤ steps.new }
+    ensures one { steps.old + 1 < 2 ^ 64 → steps.new ≡ steps.old + 1 }
+    ensures kept { steps.old ≤ steps.new }
 {
     if steps.count() < u64::MAX {
         steps.tick();

@@ -3,7 +3,7 @@ use Rattle.std.proofs.lemmas.List.{length-replicate}
 use Rattle.sfm_spec.specs.Sets.{empty_set}
 use Rattle.sfm_spec.specs.Families.{meanings}
 use Rattle.sfm_spec.proofs.Duality.{meanings-terms}
-use Rattle.sfm_extreme.proofs.Lists.{placed-meanings}
+use Rattle.sfm_walk.proofs.Lists.{placed-meanings}
 use Rattle.sfm_slope.specs.Marks.{mark_of, ones}
 use Rattle.sfm_slope.proofs.Gaps.{chain_begun}
 use Rattle.sfm_slope.proofs.Worths.{ones-sizes}

@@ -5,7 +5,7 @@ use Rattle.sfm_spec.specs.Sets.{empty_set, whole_set}
 use Rattle.sfm_spec.specs.Families.{meanings}
 use Rattle.sfm_spec.proofs.Duality.{meanings-terms}
 use Rattle.sfm_spec.proofs.Lattice.{empty_allowed, whole_allowed}
-use Rattle.sfm_extreme.proofs.Lists.{placed-meanings}
+use Rattle.sfm_walk.proofs.Lists.{placed-meanings}
 use Rattle.sfm_slope.specs.Marks.{HasBases, ones}
 use Rattle.sfm_slope.proofs.Parts.{part_all, part_none}
 use Rattle.sfm_slope.proofs.Worths.{ones-sizes}

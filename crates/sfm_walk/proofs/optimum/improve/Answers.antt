@@ -19,6 +19,7 @@ use Rattle.sfm_walk.proofs.Noting.{sized_meanings}
 use Rattle.sfm_walk.proofs.Uniting.{have_rows, links_of}
 use Rattle.sfm_walk.proofs.Advancing.{none_joins}
 use Rattle.sfm_walk.proofs.Gaps.{abs_falls, deficit_low}
+use Rattle.sfm_walk.proofs.Counting.{counted_none, counted_more}
 use Rattle.sfm_walk.proofs.Least.{least_is, link_below}
 use Rattle.sfm_walk.proofs.Improving.{IsRun, at_most, bound_is, same_bound}
 use Rattle.sfm_walk.proofs.optimum.improve.Goals as goal
@@ -174,7 +175,7 @@ loop-hops-init g c =
       risen = omega (arith, ints);
       small = same_bound init (pos (10 ^ 25) +ℤ (D init -ℤ D init)) c.requires.small (omega (arith, ints));
     } in
-    simp to_z-of_z (r, omega arith, rw c.deref-4.ensures.value at c.signs_of-signs.ensures)
+    simp to_z-of_z (r, omega arith, rw c.deref-4.ensures.value at c.signs_of-signs.ensures, counted_none ts q shift init c.args.steps.now)
 
 pub advance-requires-clause-sizes : goal.advance-requires-clause-sizes
 advance-requires-clause-sizes g c =
@@ -319,7 +320,7 @@ loop-hops-preserved g c =
       risen = omega (arith, ints, risen, more);
       small = bound_is after ((pos (10 ^ 25) +ℤ (D rows -ℤ D init)) +ℤ (D after -ℤ D rows)) (pos (10 ^ 25) +ℤ (D after -ℤ D init)) (e.spread (pos (10 ^ 25) +ℤ (D rows -ℤ D init)) inv.small) (omega (arith, ints));
     } in
-    simp to_z-of_z (r, omega (arith, c.loop-hops.invariant.1, c.count_one.ensures), e.signs)
+    simp to_z-of_z (r, omega (arith, c.loop-hops.invariant.1, c.count_one.ensures.kept), e.signs, counted_more ts q shift init rows after c.args.steps.now c.loop-hops.steps c.count_one.new.steps (simp to_z-of_z at c.loop-hops.invariant.3) (simp to_z-of_z at e.moves) c.count_one.ensures.one)
 
 pub returns-clause-small : goal.returns-clause-small
 returns-clause-small g c =
@@ -560,3 +561,8 @@ returns-clause-least g c =
     let links = links_of ts n q rows c.loop-hops.engine.spots.items c.loop-hops.engine.rows.items c.loop-hops.unions.items s.are_spots s.are_unions right in
     let none = none_joins ts rows n q shift z low fit s.are_bases zn s.is_rest c.loop-hops.unions.items links c.find_levels.new.levels.items closed in
     least_is ts rows n q shift z low fit s.are_bases zn s.is_rest c.loop-hops.unions.items links c.loop-hops.signs.under c.reached_from-reached.result c.loop-hops.invariant.2.below (rw c.deref-5.ensures.value at c.reached_from-reached.ensures) c.in_ok-least.least c.in_ok-least.ensures none
+
+pub returns-clause-counted : goal.returns-clause-counted
+returns-clause-counted g c =
+    let fq : FitsSigned w128 c.args.q = c.ranges.q in
+    simp to_z-of_z at c.loop-hops.invariant.3

@@ -14,3 +14,9 @@ returns-clause-rest g c =
     let fq : FitsSigned w128 c.args.q = c.ranges.q in
     let fp : FitsSigned w128 c.args.p = c.ranges.p in
     simp to_z-of_z at c.in_ok-minimum.ensures.rest
+
+pub returns-clause-counted : goal.returns-clause-counted
+returns-clause-counted g c =
+    let fq : FitsSigned w128 c.args.q = c.ranges.q in
+    let fp : FitsSigned w128 c.args.p = c.ranges.p in
+    simp to_z-of_z at c.in_ok-minimum.ensures.counted
