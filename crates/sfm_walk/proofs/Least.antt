@@ -1,7 +1,7 @@
 -- The least minimiser: the set that links lead to from the places with z < 0, where no walk joins.
 use Rattle.std.proofs.Common.{◌≡◌, ◌↔◌, ℕ, ◌<◌, Bool, List, length, get_or, ℤ, pos, ◌≤ℤ◌, ◌<ℤ◌}
 use Rattle.sfm_spec.specs.Sets.{Has}
-use Rattle.sfm_spec.specs.Families.{Meaning, AreTerms, AreBases, IsLeast, rest_at}
+use Rattle.sfm_spec.specs.Families.{Meaning, AreTerms, AreBases, IsLeast}
 use Rattle.sfm_spec.specs.Reach.{IsLeastClosed, IsReachedSet, IsUnder}
 use Rattle.sfm_spec.specs.Walks.{Step, Joins}
 use Rattle.sfm_spec.proofs.Extremes.{least_of_reached, no_join_exactly, reached_of_least}

@@ -1,5 +1,5 @@
 -- A search along links, one place after the other.
-use Rattle.std.proofs.Common.{◌≡◌, ◌≢◌, ⊎_elim, ℕ, ◌+◌, ◌*◌, ◌-◌, ◌<◌, ◌≤◌, max, Bool, List, length, sym, ◌∙◌, arith}
+use Rattle.std.proofs.Common.{◌≡◌, ◌≢◌, ⊎_elim, ℕ, ◌+◌, ◌*◌, ◌-◌, ◌<◌, ◌≤◌, max, Bool, List, length, arith}
 use Rattle.std.proofs.lemmas.Bool.{cases_eq}
 use Rattle.sfm_spec.specs.Sets.{Has}
 use Rattle.sfm_spec.proofs.Counts.{sum_below, sum_below-lt}

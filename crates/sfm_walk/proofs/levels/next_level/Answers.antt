@@ -1,6 +1,5 @@
-use Rattle.std.proofs.Common.{◌≡◌, ◌+◌, arith}
+use Rattle.std.proofs.Common.{arith}
 use Rattle.std.proofs.lemmas.Bool.{both_ways}
-use Rattle.sfm_walk.specs.Bits.{bit_in}
 use Rattle.sfm_walk.proofs.Options.{match_none}
 use Rattle.sfm_walk.proofs.Words.{bit_in-lt}
 use Rattle.sfm_walk.proofs.Levelling.{ahead_old, picking_begun, picking_put, picking_skip, picking_shrinks, no_bits_of}
