@@ -7,7 +7,6 @@ use Rattle.sfm_spec.specs.Sets.{size, whole_set, IsWithin}
 use Rattle.sfm_spec.specs.Families.{Meaning, AreTerms, IsAllowed, IsMinimiser, IsLeast, IsGreatest, shifted_at, sized_shift}
 use Rattle.sfm_spec.specs.Laws.{Mark}
 use Rattle.sfm_spec.specs.Search.{IsCeiling, IsChainTo, IsEven, IsFloor}
-use Rattle.sfm_spec.proofs.Sets.{same_sets}
 use Rattle.sfm_spec.proofs.Sizes.{AreSizes, size_grows, size_within}
 use Rattle.sfm_spec.proofs.Lattice.{also_minimiser}
 use Rattle.sfm_spec.proofs.Nest.{slopes_nest}
@@ -56,10 +55,11 @@ module _ (terms : List Meaning) (n : ℕ) (sizes : List ℤ) (fit : AreTerms n t
           slopes_nest terms n sizes fit sized ones p q p' q' y t lq lq' (even_is_lower terms n sizes fit sized ones p q p' q' a t lq lq' la ceiling.places ceiling.within ceiling.larger even less) m m'
 
     -- where the first set is the least minimiser, the larger one is the greatest
-    pub gap_found : IsLeast terms n q (sized_shift sizes p) a → (g : List Bool) → IsGreatest terms n q (sized_shift sizes p) g → g ≡ t
-    gap_found least g great =
-        let m : IsMinimiser terms n q (sized_shift sizes p) t = also_minimiser terms n q (sized_shift sizes p) (omega (arith, ints, lq)) fit a t least.minimiser ceiling.places ceiling.allowed (omega (arith, ints, even)) in
-        same_sets g t (great.minimiser.places ∙ sym ceiling.places) (λ e l. below_ceiling g great.minimiser e) (λ e l. great.within t m e)
+    pub gap_greatest : IsLeast terms n q (sized_shift sizes p) a → IsGreatest terms n q (sized_shift sizes p) t
+    gap_greatest least = record {
+      minimiser = also_minimiser terms n q (sized_shift sizes p) (omega (arith, ints, lq)) fit a t least.minimiser ceiling.places ceiling.allowed (omega (arith, ints, even));
+      within = below_ceiling;
+    }
 
     -- the first set is the least minimiser where that has as many places
     pub gap_same : (y : List Bool) → IsLeast terms n q (sized_shift sizes p) y → size y ≡ size a → y ≡ a

@@ -3,20 +3,19 @@ use Rattle.std.specs.Prelude.{◌≡◌, ℕ, Bool, List, ℤ}
 use Rattle.std.specs.List.{All}
 use Rattle.sfm_spec.specs.Bounds.{IsEntry}
 use Rattle.sfm_spec.specs.Families.{Meaning, AreBases, IsLeast, IsGreatest, Prove, even_shift, sized_shift}
-use Rattle.sfm_slope.specs.declared.turn.Extremes.{Extremes}
+use Rattle.sfm_walk.specs.declared.optimum.Minimum.{Minimum}
 use Rattle.sfm_slope.specs.declared.turn.Turn.{Turn}
 use Rattle.sfm_slope.specs.declared.turn.Turn.TheVariants.{Next, Between}
 use Rattle.sfm_slope.specs.Marks.{HasBases}
 use Rattle.sfm_slope.specs.Worths.{IsWorth}
 use Rattle.sfm_slope.specs.Gaps.{IsGap}
 
--- bases that prove at a slope, and the extreme minimisers there
-pub record AreExtremes (terms : List Meaning) (n : ℕ) (p q : ℤ) (r : Extremes) : Type 0 where
-  pub bases : AreBases q terms r.bases
-  pub small : All (λ x. All IsEntry x) r.bases
-  pub proves : Prove terms n q (even_shift n p) r.bases
-  pub least : IsLeast terms n q (even_shift n p) r.least
-  pub greatest : IsGreatest terms n q (even_shift n p) r.greatest
+-- bases that prove at a slope, and the least minimiser there
+pub record IsLeastAt (terms : List Meaning) (n : ℕ) (p q : ℤ) (r : Minimum) : Type 0 where
+  pub bases : AreBases q terms r.optimum.bases
+  pub small : All (λ x. All IsEntry x) r.optimum.bases
+  pub proves : Prove terms n q (even_shift n p) r.optimum.bases
+  pub is_least : IsLeast terms n q (even_shift n p) r.least
 
 -- the breakpoint at which the lower set is the least minimiser and the higher one the greatest, or a set strictly between
 abbrev pub IsTurn : List Meaning → ℕ → List ℤ → List Bool → List Bool → Turn → Type 0

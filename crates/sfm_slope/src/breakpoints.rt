@@ -7,6 +7,7 @@ ghost use Rattle.std.specs.List.{All};
 ghost use Rattle.sfm_spec.specs.Bounds.{AreBounded};
 ghost use Rattle.sfm_spec.specs.Families.{meanings};
 ghost use Rattle.sfm_spec.specs.Laws.{AreBreakpoints};
+ghost use Rattle.sfm_walk.specs.Engine.{IsEngine};
 ghost use Rattle.sfm_slope.specs.Gaps.{IsGap};
 ghost use Rattle.sfm_slope.specs.Marks.{HasBases, mark_of, ones};
 ghost use Rattle.sfm_slope.specs.Parts.{IsPartTo};
@@ -16,6 +17,7 @@ use crate::turn::{Turn, take_turn};
 use crate::worth::{Worth, whole_ground, worth_of};
 use sfm_base::{Memory, Set};
 use sfm_law::{Break, Term};
+use sfm_walk::Engine;
 use std::alloc::Global;
 
 /// All slopes at which there are two or more minimisers, ascending and in lowest terms, each with its greatest minimiser
@@ -32,9 +34,10 @@ pub fn partition<T: Term>(alloc: Global, terms: &[T], n: usize) -> Result<Vec<Br
 {
     let low = worth_of(alloc, terms, Set::empty(alloc, n)?)?;
     let high = worth_of(alloc, terms, whole_ground(alloc, n)?)?;
+    let mut engine = Engine::new(alloc, terms, n)?;
     let mut breaks = Vec::new(alloc);
     if n > 0 {
-        fill(alloc, terms, n, &low, &high, &mut breaks)?;
+        fill(alloc, &mut engine, terms, n, &low, &high, &mut breaks)?;
     }
     Ok(breaks)
 }
@@ -42,6 +45,7 @@ pub fn partition<T: Term>(alloc: Global, terms: &[T], n: usize) -> Result<Vec<Br
 // Puts the breakpoints between two sets behind those up to the lower one.
 fn fill<T: Term>(
     alloc: Global,
+    engine: &mut Engine,
     terms: &[T],
     n: usize,
     low: &Worth,
@@ -49,20 +53,22 @@ fn fill<T: Term>(
     breaks: &mut Vec<Break>,
 ) -> Result<(), Memory>
     requires bounded { AreBounded n (map T.places terms.now) (map T.size_of terms.now) }
+    requires engine { IsEngine T.places T.value_of terms.now n engine.old }
     requires before { IsPartTo (meanings T.places T.value_of terms.now) n (ones n) breaks.old.items low.now.set }
     requires gap { IsGap (meanings T.places T.value_of terms.now) n (ones n) low.now.set high.now.set }
     requires low_worth { IsWorth (meanings T.places T.value_of terms.now) low.now }
     requires high_worth { IsWorth (meanings T.places T.value_of terms.now) high.now }
-    ensures { OnOk result (IsPartTo (meanings T.places T.value_of terms.now) n (ones n) breaks.new.items high.now.set) }
+    ensures engine { OnOk result (IsEngine T.places T.value_of terms.now n engine.new) }
+    ensures part { OnOk result (IsPartTo (meanings T.places T.value_of terms.now) n (ones n) breaks.new.items high.now.set) }
 {
-    match take_turn(alloc, terms, n, low, high)? {
+    match take_turn(alloc, engine, terms, n, low, high)? {
         Turn::Next(found) => {
             breaks.push(found)?;
             Ok(())
         }
         Turn::Between(mid) => {
-            fill(alloc, terms, n, low, &mid, breaks)?;
-            fill(alloc, terms, n, &mid, high, breaks)
+            fill(alloc, engine, terms, n, low, &mid, breaks)?;
+            fill(alloc, engine, terms, n, &mid, high, breaks)
         }
     }
 }

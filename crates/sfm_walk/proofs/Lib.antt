@@ -14,3 +14,7 @@ pub mod Advancing
 pub mod Gaps
 pub mod Improving
 pub mod Starting
+pub mod Searching
+pub mod Counting
+pub mod Signing
+pub mod Least

@@ -3,6 +3,10 @@ pub mod Spots
 pub mod Reach
 pub mod Unions
 pub mod Levels
+pub mod Signs
 pub mod Hops
 pub mod Rest
 pub mod State
+pub mod Engine
+pub mod Reached
+pub mod Counted

@@ -1,6 +1,6 @@
 // Sets of places below 256, as four words of 64 bits: the rows of what each place reaches, and the levels of a search. A
 // set is a plain value and takes no memory of its own, and two sets are joined or compared a word at a time.
-ghost use Rattle.std.specs.Prelude.{◌≡◌, ◌≢◌, ◌↔◌, ℕ, ◌<◌, max, true, false, IsTrue, MatchOption};
+ghost use Rattle.std.specs.Prelude.{◌≡◌, ◌≢◌, ◌↔◌, ℕ, ◌-◌, ◌<◌, max, true, false, IsTrue, MatchOption};
 ghost use Rattle.sfm_walk.specs.Bits.{bit_in};
 
 /// A set of places below 256.
@@ -50,6 +50,22 @@ impl Bits {
         for k in 0..4 {
             self.words[k] |= other.words[k];
         }
+    }
+
+    /// Takes each place of the other set out.
+    pub fn remove_all(&mut self, other: &Bits)
+        ensures { (e : ℕ) → bit_in self.new e ≡ bit_in self.old e - bit_in other.now e }
+    {
+        for k in 0..4 {
+            self.words[k] ^= self.words[k] & other.words[k];
+        }
+    }
+
+    /// The least place of the set.
+    pub fn first(&self) -> Option<usize>
+        ensures { MatchOption result ((e : ℕ) → bit_in self.now e ≢ 1) (λ e. (e < 256) × (bit_in self.now e ≡ 1)) }
+    {
+        self.first_common(self)
     }
 
     /// The least place that both sets have.

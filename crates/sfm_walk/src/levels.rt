@@ -4,63 +4,26 @@
 ghost use Rattle.std.specs.Prelude.{◌≡◌, ◌↔◌, ◌+◌, ◌<◌, ◌≤◌, ℕ, ℤ, pos, ◌<ℤ◌, ◌≤ℤ◌, length, IfOk, MatchOption, slice_index_or};
 ghost use Rattle.sfm_walk.specs.Bits.{bit_in};
 ghost use Rattle.sfm_walk.specs.Levels.{AreClosed, IsFirst, LeadsInto};
+ghost use Rattle.sfm_walk.specs.Signs.{AreSigns};
 
 use crate::bits::{Bits, no_bits};
+use crate::signs::Signs;
 use sfm_base::Memory;
 
-// The places with z > 0.
-fn places_over(z: &[i128]) -> Bits
-    requires { length z.now ≤ 256 }
-    ensures { (e : ℕ) → (bit_in result e ≡ 1) ↔ ((e < length z.now) × (pos 0 <ℤ slice_index_or z.now e (pos 0))) }
-{
-    let mut over = no_bits();
-    for (e, a) in z.iter().enumerate() {
-        if *a > 0 {
-            over.insert(e);
-        }
-    }
-    over
-}
-
-// The places with z < 0.
-fn places_under(z: &[i128]) -> Bits
-    requires { length z.now ≤ 256 }
-    ensures { (e : ℕ) → (bit_in result e ≡ 1) ↔ ((e < length z.now) × (slice_index_or z.now e (pos 0) <ℤ pos 0)) }
-{
-    let mut under = no_bits();
-    for (e, a) in z.iter().enumerate() {
-        if *a < 0 {
-            under.insert(e);
-        }
-    }
-    under
-}
-
-// All places but those with z > 0.
-fn places_left(z: &[i128]) -> Bits
-    requires { length z.now ≤ 256 }
-    ensures { (e : ℕ) → (bit_in result e ≡ 1) ↔ ((e < length z.now) × (slice_index_or z.now e (pos 0) ≤ℤ pos 0)) }
-{
-    let mut left = no_bits();
-    for (e, a) in z.iter().enumerate() {
-        if *a <= 0 {
-            left.insert(e);
-        }
-    }
-    left
-}
-
-// Takes the places out of those left from which a step leads into a level.
+// Takes the places out of those left from which a step leads into a level. Only the places that are left are looked at.
 fn next_level(unions: &[Bits], level: &Bits, left: &mut Bits) -> Bits
-    requires { length unions.now ≤ 256 }
+    requires few { length unions.now ≤ 256 }
+    requires left { (e : ℕ) → bit_in left.old e ≡ 1 → e < length unions.now }
     ensures parted { (e : ℕ) → bit_in left.new e + bit_in result e ≡ bit_in left.old e }
     ensures below { (e : ℕ) → bit_in result e ≡ 1 → e < length unions.now }
     ensures leads { (e : ℕ) → bit_in result e ≡ 1 → LeadsInto unions.now e level.now }
     ensures closed { (e : ℕ) → e < length unions.now → LeadsInto unions.now e level.now → bit_in left.new e ≡ 0 }
 {
     let mut next = no_bits();
-    for (e, union) in unions.iter().enumerate() {
-        if left.contains(e) && union.meets(level) {
+    let mut ahead = *left;
+    while let Some(e) = ahead.first() {
+        ahead.remove(e);
+        if unions[e].meets(level) {
             next.insert(e);
             left.remove(e);
         }
@@ -71,16 +34,18 @@ fn next_level(unions: &[Bits], level: &Bits, left: &mut Bits) -> Bits
 /// Writes the levels up to the first that has a place with z < 0, and gives the least such place; None where no level has.
 pub fn find_levels(
     unions: &[Bits],
-    z: &[i128],
+    _z: &[i128],
+    signs: &Signs,
     levels: &mut Vec<Bits>,
 ) -> Result<Option<usize>, Memory>
-    requires few { length z.now ≤ 256 }
-    requires count { length unions.now ≡ length z.now }
-    ensures { IfOk result (λ r. MatchOption r (AreClosed (length z.now) unions.now z.now levels.new.items) (λ first. IsFirst (length z.now) unions.now z.now levels.new.items first)) }
+    requires few { length _z.now ≤ 256 }
+    requires count { length unions.now ≡ length _z.now }
+    requires signs { AreSigns _z.now signs.now }
+    ensures { IfOk result (λ r. MatchOption r (AreClosed (length _z.now) unions.now _z.now levels.new.items) (λ first. IsFirst (length _z.now) unions.now _z.now levels.new.items first)) }
 {
-    let under = places_under(z);
-    let mut left = places_left(z);
-    let mut level = places_over(z);
+    let mut left = signs.ground;
+    left.remove_all(&signs.over);
+    let mut level = signs.over;
     levels.clear();
     levels.push(level)?;
     loop {
@@ -89,7 +54,7 @@ pub fn find_levels(
             return Ok(None);
         }
         levels.push(level)?;
-        if let Some(first) = level.first_common(&under) {
+        if let Some(first) = level.first_common(&signs.under) {
             return Ok(Some(first));
         }
     }

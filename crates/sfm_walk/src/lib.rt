@@ -4,13 +4,17 @@
 
 mod asking;
 mod bits;
+mod engine;
 mod levels;
 mod moving;
 mod optimum;
 mod reach;
+mod reached;
 mod rest;
+mod signs;
 mod spots;
 mod unions;
 mod walk;
 
-pub use optimum::{Optimum, minimise};
+pub use engine::Engine;
+pub use optimum::{Minimum, Optimum, minimise, minimise_counted, minimise_with};

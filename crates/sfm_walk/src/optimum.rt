@@ -1,25 +1,31 @@
 // Bases that prove the minimum. While a walk joins, a shortest one is moved along by the greatest amount, and what is kept
 // beside the bases is brought up. Each walk raises the sum of min(z, 0) by at least 1, so this ends, and then no walk joins
 // (Schrijver, Combinatorial Optimization, section 45; Fujishige, Submodular Functions and Optimization, section 4).
-ghost use Rattle.std.specs.Prelude.{◌≡◌, ◌*◌, ◌^◌, ◌<◌, ◌≤◌, ℕ, ℤ, List, map, pos, neg_ℤ, ◌+ℤ◌, ◌-ℤ◌, ◌≤ℤ◌, length, OnOk, IfOk, slice_index_or};
+ghost use Rattle.std.specs.Prelude.{◌≡◌, ◌+◌, ◌*◌, ◌^◌, ◌<◌, ◌≤◌, ℕ, ℤ, List, map, pos, neg_ℤ, ◌+ℤ◌, ◌-ℤ◌, ◌≤ℤ◌, length, OnOk, IfOk, slice_index_or};
 ghost use Rattle.std.specs.List.{All};
 ghost use Rattle.sfm_spec.specs.Sets.{magnitudes};
 ghost use Rattle.sfm_spec.specs.Bounds.{AreBounded, IsAtMost, IsEntry, IsFactor};
-ghost use Rattle.sfm_spec.specs.Families.{meanings, even_shift, rest_at, deficit, AreBases, Prove};
+ghost use Rattle.sfm_spec.specs.Families.{meanings, even_shift, rest_at, deficit, AreBases, IsLeast, Prove};
 ghost use Rattle.sfm_spec.specs.Walks.{Step, Joins, MovesAlong};
+ghost use Rattle.sfm_walk.specs.Counted.{IsCounted};
+ghost use Rattle.sfm_walk.specs.Engine.{IsEngine};
 ghost use Rattle.sfm_walk.specs.Levels.{IsFirst};
+ghost use Rattle.sfm_walk.specs.Signs.{AreSigns};
 ghost use Rattle.sfm_walk.specs.State.{IsState, IsUpTo};
 
 use crate::asking::{ask_again, ask_all};
 use crate::bits::Bits;
+use crate::engine::Engine;
 use crate::levels::find_levels;
 use crate::moving::{amount_of, move_along};
-use crate::reach::{BitRows, blank_rows, notes_of, parts_of};
+use crate::reach::{BitRows, notes_of};
+use crate::reached::{reached_from, set_of};
 use crate::rest::{most_of, move_rest, rest_of};
-use crate::spots::{Spots, spots_of};
+use crate::signs::{Signs, move_signs, signs_of};
+use crate::spots::Spots;
 use crate::unions::unions_of;
 use crate::walk::{Hop, follow, last_place};
-use sfm_base::{Memory, Numbers, Rows, Set};
+use sfm_base::{Memory, Numbers, Rows, Set, Steps};
 use sfm_law::{Term, start_rows};
 use std::alloc::Global;
 
@@ -28,6 +34,13 @@ use std::alloc::Global;
 pub struct Optimum {
     pub bases: Rows,
     pub z: Numbers,
+}
+
+/// Bases that prove the minimum, and the minimiser that lies within every other.
+#[derive(Drop)]
+pub struct Minimum {
+    pub optimum: Optimum,
+    pub least: Set,
 }
 
 /// Bases that prove the minimum of q times the sum of the terms, less p for each element, over a ground of n places.
@@ -54,35 +67,101 @@ pub fn minimise<T: Term>(
     ensures ends { IfOk result (λ r. (first : ℕ) (steps : List Step) → Joins (meanings T.places T.value_of terms.now) q (even_shift n p) r.bases first steps → ⊥) }
     ensures proves { IfOk result (λ r. Prove (meanings T.places T.value_of terms.now) n q (even_shift n p) r.bases) }
 {
+    let mut steps = Steps::new();
+    minimise_counted(alloc, terms, n, p, q, &mut steps)
+}
+
+/// The same, and each walk is counted, up to the greatest number of 64 bits.
+///
+/// # Errors
+///
+/// `Memory` where there is none.
+pub fn minimise_counted<T: Term>(
+    alloc: Global,
+    terms: &[T],
+    n: usize,
+    p: i128,
+    q: i128,
+    steps: &mut Steps,
+) -> Result<Optimum, Memory>
+    requires bounded { AreBounded n (map T.places terms.now) (map T.size_of terms.now) }
+    requires slope { IsAtMost (10 ^ 24) p }
+    requires factor { IsFactor q }
+    ensures bases { IfOk result (λ r. AreBases q (meanings T.places T.value_of terms.now) r.bases) }
+    ensures small { IfOk result (λ r. All (λ x. All IsEntry x) r.bases) }
+    ensures rest { IfOk result (λ r. (length r.z ≡ n) × ((e : ℕ) → e < n → slice_index_or r.z e (pos 0) ≡ rest_at (meanings T.places T.value_of terms.now) r.bases (even_shift n p) e)) }
+    ensures ends { IfOk result (λ r. (first : ℕ) (steps : List Step) → Joins (meanings T.places T.value_of terms.now) q (even_shift n p) r.bases first steps → ⊥) }
+    ensures proves { IfOk result (λ r. Prove (meanings T.places T.value_of terms.now) n q (even_shift n p) r.bases) }
+    ensures counted { IfOk result (λ r. IsCounted (meanings T.places T.value_of terms.now) q (even_shift n p) (map (λ term. T.start_of term q) terms.now) r.bases steps.old steps.new) }
+    ensures kept { steps.old ≤ steps.new }
+{
+    let mut engine = Engine::new(alloc, terms, n)?;
+    let minimum = minimise_with(alloc, &mut engine, terms, n, p, q, steps)?;
+    Ok(minimum.optimum)
+}
+
+/// The same with an engine for the terms, which stays one for them, and with the least minimiser.
+///
+/// # Errors
+///
+/// `Memory` where there is none.
+pub fn minimise_with<T: Term>(
+    alloc: Global,
+    engine: &mut Engine,
+    terms: &[T],
+    n: usize,
+    p: i128,
+    q: i128,
+    steps: &mut Steps,
+) -> Result<Minimum, Memory>
+    requires engine { IsEngine T.places T.value_of terms.now n engine.old }
+    requires bounded { AreBounded n (map T.places terms.now) (map T.size_of terms.now) }
+    requires slope { IsAtMost (10 ^ 24) p }
+    requires factor { IsFactor q }
+    ensures bases { IfOk result (λ r. AreBases q (meanings T.places T.value_of terms.now) r.optimum.bases) }
+    ensures small { IfOk result (λ r. All (λ x. All IsEntry x) r.optimum.bases) }
+    ensures rest { IfOk result (λ r. (length r.optimum.z ≡ n) × ((e : ℕ) → e < n → slice_index_or r.optimum.z e (pos 0) ≡ rest_at (meanings T.places T.value_of terms.now) r.optimum.bases (even_shift n p) e)) }
+    ensures ends { IfOk result (λ r. (first : ℕ) (steps : List Step) → Joins (meanings T.places T.value_of terms.now) q (even_shift n p) r.optimum.bases first steps → ⊥) }
+    ensures proves { IfOk result (λ r. Prove (meanings T.places T.value_of terms.now) n q (even_shift n p) r.optimum.bases) }
+    ensures least { IfOk result (λ r. IsLeast (meanings T.places T.value_of terms.now) n q (even_shift n p) r.least) }
+    ensures engine { OnOk result (IsEngine T.places T.value_of terms.now n engine.new) }
+    ensures counted { IfOk result (λ r. IsCounted (meanings T.places T.value_of terms.now) q (even_shift n p) (map (λ term. T.start_of term q) terms.now) r.optimum.bases steps.old steps.new) }
+    ensures kept { steps.old ≤ steps.new }
+{
     let shift = vec![in alloc; p; n]?;
     let first_bases = start_rows(alloc, terms, q)?;
-    improve(alloc, terms, q, &shift, first_bases)
+    improve(alloc, engine, terms, q, &shift, first_bases, steps)
 }
 
 // The same with a shift for each place in place of p, and from any first bases.
 fn improve<T: Term>(
     alloc: Global,
+    engine: &mut Engine,
     terms: &[T],
     q: i128,
     shift: &[i128],
     first_bases: Rows,
-) -> Result<Optimum, Memory>
+    steps: &mut Steps,
+) -> Result<Minimum, Memory>
+    requires engine { IsEngine T.places T.value_of terms.now (length shift.now) engine.old }
     requires bounded { AreBounded (length shift.now) (map T.places terms.now) (map T.size_of terms.now) }
     requires shifts { magnitudes shift.now ≤ℤ pos (10 ^ 27) }
     requires factor { IsFactor q }
     requires bases { AreBases q (meanings T.places T.value_of terms.now) first_bases }
     requires small { All (λ x. All (IsAtMost (10 ^ 25)) x) first_bases }
-    ensures bases { IfOk result (λ r. AreBases q (meanings T.places T.value_of terms.now) r.bases) }
-    ensures small { IfOk result (λ r. All (λ x. All IsEntry x) r.bases) }
-    ensures rest { IfOk result (λ r. (length r.z ≡ length shift.now) × ((e : ℕ) → e < length shift.now → slice_index_or r.z e (pos 0) ≡ rest_at (meanings T.places T.value_of terms.now) r.bases shift.now e)) }
-    ensures ends { IfOk result (λ r. (first : ℕ) (steps : List Step) → Joins (meanings T.places T.value_of terms.now) q shift.now r.bases first steps → ⊥) }
-    ensures proves { IfOk result (λ r. Prove (meanings T.places T.value_of terms.now) (length shift.now) q shift.now r.bases) }
+    ensures bases { IfOk result (λ r. AreBases q (meanings T.places T.value_of terms.now) r.optimum.bases) }
+    ensures small { IfOk result (λ r. All (λ x. All IsEntry x) r.optimum.bases) }
+    ensures rest { IfOk result (λ r. (length r.optimum.z ≡ length shift.now) × ((e : ℕ) → e < length shift.now → slice_index_or r.optimum.z e (pos 0) ≡ rest_at (meanings T.places T.value_of terms.now) r.optimum.bases shift.now e)) }
+    ensures ends { IfOk result (λ r. (first : ℕ) (steps : List Step) → Joins (meanings T.places T.value_of terms.now) q shift.now r.optimum.bases first steps → ⊥) }
+    ensures proves { IfOk result (λ r. Prove (meanings T.places T.value_of terms.now) (length shift.now) q shift.now r.optimum.bases) }
+    ensures least { IfOk result (λ r. IsLeast (meanings T.places T.value_of terms.now) (length shift.now) q shift.now r.least) }
+    ensures engine { OnOk result (IsEngine T.places T.value_of terms.now (length shift.now) engine.new) }
+    ensures counted { IfOk result (λ r. IsCounted (meanings T.places T.value_of terms.now) q shift.now first_bases r.optimum.bases steps.old steps.new) }
+    ensures kept { steps.old ≤ steps.new }
 {
     let mut bases = first_bases;
     let mut z = rest_of(alloc, terms, shift, &bases)?;
     let mut notes = notes_of(alloc, terms, q, &bases)?;
-    let mut parts = parts_of(alloc, terms)?;
-    let mut rows = blank_rows(alloc, terms)?;
     ask_all(
         alloc,
         terms,
@@ -90,35 +169,50 @@ fn improve<T: Term>(
         q,
         &bases,
         &notes,
-        &mut parts,
-        &mut rows,
+        &mut engine.parts,
+        &mut engine.rows,
     )?;
-    let spots = spots_of(alloc, terms, shift.len())?;
-    let mut unions = unions_of(alloc, &spots, &rows)?;
+    let mut unions = unions_of(alloc, &engine.spots, &engine.rows)?;
     let mut levels = Vec::new(alloc);
     let mut hops = Vec::new(alloc);
-    while let Some(first) = find_levels(&unions, &z, &mut levels)? {
+    let mut signs = signs_of(&z);
+    while let Some(first) = find_levels(&unions, &z, &signs, &mut levels)? {
         advance(
             alloc,
             terms,
             q,
             shift,
-            &spots,
+            &engine.spots,
             &levels,
             first,
             &mut bases,
             &mut z,
+            &mut signs,
             &mut notes,
-            &mut parts,
-            &mut rows,
+            &mut engine.parts,
+            &mut engine.rows,
             &mut unions,
             &mut hops,
         )?;
+        count_one(steps);
     }
-    Ok(Optimum {
-        bases,
-        z: Numbers::from_vec(z),
+    let reached = reached_from(&unions, &signs.under);
+    let least = set_of(alloc, &reached, shift.len())?;
+    let z = Numbers::from_vec(z);
+    Ok(Minimum {
+        optimum: Optimum { bases, z },
+        least,
     })
+}
+
+// Counts one more, unless the count is as great as it can be.
+fn count_one(steps: &mut Steps)
+    ensures one { steps.old + 1 < 2 ^ 64 → steps.new ≡ steps.old + 1 }
+    ensures kept { steps.old ≤ steps.new }
+{
+    if steps.count() < u64::MAX {
+        steps.tick();
+    }
 }
 
 // Moves along the walk from a first place by the greatest amount, and brings all that is kept up to the bases.
@@ -132,6 +226,7 @@ fn advance<T: Term>(
     first: usize,
     bases: &mut Rows,
     z: &mut Vec<i128>,
+    signs: &mut Signs,
     notes: &mut Vec<T::Note>,
     parts: &mut Vec<Set>,
     rows: &mut Vec<BitRows>,
@@ -143,10 +238,12 @@ fn advance<T: Term>(
     requires shifts { magnitudes shift.now ≤ℤ pos (10 ^ 27) }
     requires factor { IsFactor q }
     requires state { IsState T.places T.value_of T.fits terms.now q shift.now bases.old z.old.items notes.old.items parts.old.items rows.old.items spots.now unions.old.items }
+    requires signs { AreSigns z.old.items signs.old }
     requires first { IsFirst (length z.old.items) unions.old.items z.old.items levels.now first }
     requires small { All (λ x. All (IsAtMost (5 * 10 ^ 29)) x) bases.old }
     requires gap { neg_ℤ (pos (5 * 10 ^ 29)) ≤ℤ deficit (length shift.now) (rest_at (meanings T.places T.value_of terms.now) bases.old shift.now) }
     ensures state { OnOk result (IsState T.places T.value_of T.fits terms.now q shift.now bases.new z.new.items notes.new.items parts.new.items rows.new.items spots.now unions.new.items) }
+    ensures signs { OnOk result (AreSigns z.new.items signs.new) }
     ensures moves { OnOk result (MovesAlong (meanings T.places T.value_of terms.now) q shift.now bases.old bases.new) }
     ensures spread { OnOk result ((b : ℤ) → All (λ x. All (IsUpTo b) x) bases.old → All (λ x. All (IsUpTo (b +ℤ (deficit (length shift.now) (rest_at (meanings T.places T.value_of terms.now) bases.new shift.now)
         -ℤ deficit (length shift.now) (rest_at (meanings T.places T.value_of terms.now) bases.old shift.now)))) x) bases.new) }
@@ -170,5 +267,6 @@ fn advance<T: Term>(
         rows,
         unions,
     )?;
+    move_signs(signs, z, first, last);
     Ok(())
 }

@@ -3,7 +3,7 @@ use Rattle.std.proofs.lemmas.List.{length-replicate}
 use Rattle.sfm_spec.specs.Sets.{empty_set}
 use Rattle.sfm_spec.specs.Families.{meanings}
 use Rattle.sfm_spec.proofs.Duality.{meanings-terms}
-use Rattle.sfm_extreme.proofs.Lists.{placed-meanings}
+use Rattle.sfm_walk.proofs.Lists.{placed-meanings}
 use Rattle.sfm_slope.specs.Marks.{mark_of, ones}
 use Rattle.sfm_slope.proofs.Gaps.{chain_begun}
 use Rattle.sfm_slope.proofs.Worths.{ones-sizes}
@@ -19,10 +19,10 @@ take_turn-requires-clause-begun g t c =
     let fit = meanings-terms n d.places d.value_of m.family m.submodular c.args.terms.now (placed-meanings n d.places d.value_of c.args.terms.now c.requires.bounded.placed) in
     chain_begun ts n (ones n) fit (length-replicate n (pos 1)) (ones-sizes n) None (empty_set n) (map mark_of c.args.breaks.now.items) c.args.low.now.set refl c.requires.before.chain
 
-pub returns-in_ok-push-in-Next : goal.returns-in_ok-push-in-Next
-returns-in_ok-push-in-Next g t c =
+pub returns-in_ok-push-in-Next-clause-part : goal.returns-in_ok-push-in-Next-clause-part
+returns-in_ok-push-in-Next-clause-part g t c =
     let d = g.T.Term in
     let n = c.args.n in
     let ts = meanings d.places d.value_of c.args.terms.now in
-    let h = rw c.in-Next.is at c.in_ok-found.ensures in
+    let h = rw c.in-Next.is at c.in_ok-found.ensures.turn in
     rw c.in_ok-push-in-Next.ensures.items (part_push ts n (ones n) c.args.breaks.now.items c.in-Next.found c.args.low.now.set c.args.high.now.set c.requires.before h.0 h.1 h.2 c.requires.gap.larger h.3)

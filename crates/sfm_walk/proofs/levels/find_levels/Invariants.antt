@@ -5,8 +5,8 @@ use Rattle.sfm_walk.specs.Bits.{bit_in}
 use Rattle.sfm_walk.proofs.Levelling.{IsLevelling}
 use Rattle.sfm_walk.proofs.levels.find_levels.Given as goal
 
-abbrev pub invariant-loop-under : goal.invariant-loop-under
-invariant-loop-under l = IsLevelling (length l.z) l.unions l.z l.levels.items l.level l.left
+abbrev pub invariant-loop-left : goal.invariant-loop-left
+invariant-loop-left l = IsLevelling (length l._z) l.unions l._z l.levels.items l.level l.left
 
-abbrev pub decreases-loop-under : goal.decreases-loop-under
-decreases-loop-under l = sum_below (length l.z) (bit_in l.left)
+abbrev pub decreases-loop-left : goal.decreases-loop-left
+decreases-loop-left l = sum_below (length l._z) (bit_in l.left)

@@ -1,36 +1,34 @@
-use Rattle.std.proofs.Common.{◌≡◌, arith}
+use Rattle.std.proofs.Common.{arith}
 use Rattle.std.proofs.lemmas.Bool.{both_ways}
-use Rattle.sfm_walk.specs.Bits.{bit_in}
-use Rattle.sfm_walk.specs.Levels.{LeadsInto}
-use Rattle.sfm_walk.proofs.Levelling.{next_put, next_skip, no_bit}
+use Rattle.sfm_walk.proofs.Options.{match_none}
+use Rattle.sfm_walk.proofs.Words.{bit_in-lt}
+use Rattle.sfm_walk.proofs.Levelling.{ahead_old, picking_begun, picking_put, picking_skip, picking_shrinks, no_bits_of}
 use Rattle.sfm_walk.proofs.levels.next_level.Goals as goal
-use Rattle.sfm_walk.proofs.levels.next_level.Goals.{then-contains+then-meets, else-contains, else-contains-via-then-contains+else-meets, else-contains-via-else-contains}
 
 pub loop-e-init : goal.loop-e-init
-loop-e-init c =
-    let z = c.no_bits-next.ensures in
-    record {
-      parted = λ e. let h = z e in omega (arith, h);
-      below = λ e h. absurd (let k = z e in omega (arith, h, k));
-      leads = λ e h. absurd (let k = z e in omega (arith, h, k));
-      closed = λ e l into. absurd (omega arith);
-    }
+loop-e-init c = picking_begun c.args.unions.now c.args.level.now c.args.left.now c.no_bits-next.result c.no_bits-next.ensures
+
+pub bounds-unions-e : goal.bounds-unions-e
+bounds-unions-e c = c.requires.left c.in-Some.e (ahead_old c.args.unions.now c.args.level.now c.args.left.now c.loop-e.left c.loop-e.next c.loop-e.ahead c.in-Some.e c.loop-e.invariant c.in-Some.ensures.1)
+
+pub loop-e-smaller : goal.loop-e-smaller
+loop-e-smaller c = picking_shrinks c.loop-e.ahead c.remove.new.self c.in-Some.e c.in-Some.ensures.0 c.in-Some.ensures.1 c.remove.ensures.out c.remove.ensures.others
+
+pub loop-e-smaller-then-meets : goal.loop-e-smaller-then-meets
+loop-e-smaller-then-meets c = picking_shrinks c.loop-e.ahead c.remove.new.self c.in-Some.e c.in-Some.ensures.0 c.in-Some.ensures.1 c.remove.ensures.out c.remove.ensures.others
+
+pub loop-e-preserved-then-meets : goal.loop-e-preserved-then-meets
+loop-e-preserved-then-meets c =
+    picking_put c.args.unions.now c.args.level.now c.args.left.now c.loop-e.left c.loop-e.next c.loop-e.ahead c.remove-then-meets.new.self c.insert.new.self c.remove.new.self c.in-Some.e c.loop-e.invariant c.in-Some.ensures.1
+    (c.meets.ensures.0 c.if-meets.true) c.insert.ensures.put c.insert.ensures.others c.remove-then-meets.ensures.out c.remove-then-meets.ensures.others c.remove.ensures.out c.remove.ensures.others
 
 pub loop-e-preserved : goal.loop-e-preserved
 loop-e-preserved c =
-    let inv = c.loop-e.invariant in
-    let unions = c.args.unions.now in
-    let level = c.args.level.now in
-    let old = c.args.left.now in
-    let e = c.loop-e.e in
-    elim c.if-contains.branch [
-      | then-contains+then-meets w ↦
-          let has : bit_in c.loop-e.left e ≡ 1 = c.contains.ensures.0 w.if-contains.true in
-          let into : LeadsInto unions e level = w.meets.ensures.0 w.if-meets.true in
-          rw (w.left-is, w.next-is) (next_put unions level old c.loop-e.left c.loop-e.next w.remove.new.self w.insert.new.self e inv has into w.insert.ensures.put w.insert.ensures.others w.remove.ensures.out w.remove.ensures.others)
-      | else-contains w ↦
-          rw (w.left-is, w.next-is) (next_skip unions level old c.loop-e.left c.loop-e.next e inv (λ into. elim w.else-contains.branch [
-            | else-contains-via-then-contains+else-meets w' ↦ absurd (both_ways w'.meets.result w'.if-meets.false (w'.meets.ensures.1 into))
-            | else-contains-via-else-contains w' ↦ no_bit c.loop-e.left e (λ one. both_ways c.contains.result w'.if-contains.false (c.contains.ensures.1 one))
-          ]))
-    ]
+    picking_skip c.args.unions.now c.args.level.now c.args.left.now c.loop-e.left c.loop-e.next c.loop-e.ahead c.remove.new.self c.in-Some.e c.loop-e.invariant
+    (λ into. both_ways c.meets.result c.if-meets.false (c.meets.ensures.1 into)) c.remove.ensures.out c.remove.ensures.others
+
+pub returns-clause-below : goal.returns-clause-below
+returns-clause-below c = λ e one. c.requires.left e (let p = c.loop-e.invariant.parted e in let o = bit_in-lt c.args.left.now e in omega (arith, p, o, one))
+
+pub returns-clause-closed : goal.returns-clause-closed
+returns-clause-closed c = λ e l into. c.loop-e.invariant.closed e (no_bits_of c.loop-e.ahead (match_none c.first.result _ _ c.first.ensures c.in_default.not-Some) e) into

@@ -20,6 +20,8 @@ use Rattle.sfm_walk.proofs.Following.{length-steps_of}
 use Rattle.sfm_walk.proofs.Noting.{sized_meanings}
 use Rattle.sfm_walk.proofs.Uniting.{have_rows, links_of}
 use Rattle.sfm_walk.proofs.Advancing.{ends_apart, entries_small, entries_spread, exchanged-each, first_in, hops_can, hops_movable, hops_named, hops_others, hops_steps, last_in, last_is, last_over, laws, moves, rest_after, spread, table_kept, tables_readable, up_to_small}
+use Rattle.sfm_walk.specs.Signs.{AreMoved}
+use Rattle.sfm_walk.proofs.Signing.{moved_ends}
 use Rattle.sfm_walk.proofs.optimum.advance.Goals as goal
 
 pub follow-requires-clause-rows : goal.follow-requires-clause-rows
@@ -531,6 +533,61 @@ ask_again-requires-clause-kept g c =
     table_kept ts q rows after i (table_at tables i) (row_kept ts rows after first steps a i moved (hops_others hops i (λ k lk. none k (omega arith) lk))) (right i (rw count l)) in
     simp to_z-of_z (rw c.deref-9.ensures.value h)
 
+pub move_signs-requires-clause-last : goal.move_signs-requires-clause-last
+move_signs-requires-clause-last g c =
+    let t = g.T.Term in
+    let m = g.met.T.Term in
+    let fq : FitsSigned w128 c.args.q = c.ranges.q in
+    let ts = meanings t.places t.value_of c.args.terms.now in
+    let n = length c.args.shift.now in
+    let q = c.args.q in
+    let shift = c.args.shift.now in
+    let rows = c.args.bases.now in
+    let z = c.args.z.now.items in
+    let tables = c.args.rows.now.items in
+    let unions = c.args.unions.now.items in
+    let spots = c.args.spots.now in
+    let levels = c.args.levels.now in
+    let first = c.args.first in
+    let s = c.requires.state in
+    let count = length-meanings t.places t.value_of c.args.terms.now in
+    let fit : AreTerms n ts = meanings-terms n t.places t.value_of m.family m.submodular c.args.terms.now (placed-meanings n t.places t.value_of c.args.terms.now c.requires.bounded.placed) in
+    let low : pos 0 ≤ℤ q = omega (arith, ints, c.requires.factor.low) in
+    let zn : length z ≡ n = s.is_rest.places in
+    let right : (i : ℕ) → i < length ts → IsTable ts q rows i (table_at tables i) = λ i l. s.tables i (rw count at l) in
+    let links = links_of ts n q rows spots tables unions s.are_spots s.are_unions right in
+    let F : ℕ → Type 0 = λ k. IsFirst k unions z levels first in
+    let begin : IsFirst n unions z levels first = subst F zn c.requires.first in
+    let hops = c.follow.new.hops.items in
+    let steps = steps_of hops in
+    let e = c.in_ok-follow.ensures in
+    let hh : AreHops ts tables first hops = rw c.deref.ensures.value at e.hops in
+    let fits = hops_steps ts rows n q fit tables right first hops hh in
+    let some : 0 < length steps = omega (arith, e.some, length-steps_of hops) in
+    let lin = last_in ts rows n q shift z low fit s.are_bases zn s.is_rest unions links levels first begin steps fits some e.falls e.last in
+    let lover = last_over ts rows n q shift z low fit s.are_bases zn s.is_rest unions links levels first begin steps fits some e.falls e.last in
+    let fin = first_in ts rows n q shift z low fit s.are_bases zn s.is_rest unions links levels first begin steps fits some e.falls e.last in
+    let last : c.last_place-last.result ≡ last_of first steps = (rw c.deref-4.ensures.value at c.last_place-last.ensures) ∙ sym (last_is first hops e.some) in
+    let a = c.in_ok-a.a in
+    let fa : FitsSigned w128 a = search rules in
+    let fm : FitsSigned w128 c.most_of-most.result = search rules in
+    let ae : pos 1 ≤ℤ a = c.in_ok-a.ensures.some in
+    let within : a ≤ℤ c.most_of-most.result = omega (arith, ints, fm, c.in_ok-a.ensures.within) in
+    let under : a ≤ℤ neg_ℤ (get_or z first (pos 0)) = let u = rw c.deref-5.ensures.value at c.most_of-most.ensures.under in omega (arith, ints, u, within) in
+    let over : a ≤ℤ get_or z (last_of first steps) (pos 0) = let o = rw (c.deref-5.ensures.value, last) at c.most_of-most.ensures.over in omega (arith, ints, o, within) in
+    let moves0 = rw c.deref-6.ensures.value at (simp to_z-of_z at c.in_ok-a.ensures.moves) in
+    let can = hops_can ts rows n q fit tables right a first hops hh moves0 in
+    let after = c.move_along.new.bases in
+    let me = c.in_ok-move_along.ensures in
+    let moved = rw c.deref-7.ensures.value at (simp to_z-of_z at me.moved) in
+    let ze = simp to_z-of_z at c.move_rest.ensures in
+    let z' = c.move_rest.new.z in
+    let zx : z' ≡ exchanged z first (last_of first steps) a = rw (c.deref_mut.ensures.value, last) at ze in
+    let same : length z' ≡ length z = ap length zx ∙ length-exchanged z first (last_of first steps) a in
+    let whole : take c.args.z.now.len (z' ++ drop (length z') z) ≡ z' = take_at z' (drop (length z') z) c.args.z.now.len (same ∙ sym c.args.z.now.ok.0) in
+    let apart = ends_apart z first (last_of first steps) (last_of first steps) refl begin.under lover in
+    rw (c.deref-10.ensures.value, whole, same, zn, last) lin
+
 pub returns-clause-state : goal.returns-clause-state
 returns-clause-state g c =
     let t = g.T.Term in
@@ -693,3 +750,62 @@ returns-clause-spread g c =
     let moved = rw c.deref-7.ensures.value at (simp to_z-of_z at me.moved) in
     let spread' = spread ts rows n q shift z low fit s.are_bases zn s.is_rest unions links levels first begin steps fits some e.falls e.last a ae can under over after moved in
     spread'
+
+pub returns-clause-signs : goal.returns-clause-signs
+returns-clause-signs g c =
+    let t = g.T.Term in
+    let m = g.met.T.Term in
+    let fq : FitsSigned w128 c.args.q = c.ranges.q in
+    let ts = meanings t.places t.value_of c.args.terms.now in
+    let n = length c.args.shift.now in
+    let q = c.args.q in
+    let shift = c.args.shift.now in
+    let rows = c.args.bases.now in
+    let z = c.args.z.now.items in
+    let tables = c.args.rows.now.items in
+    let unions = c.args.unions.now.items in
+    let spots = c.args.spots.now in
+    let levels = c.args.levels.now in
+    let first = c.args.first in
+    let s = c.requires.state in
+    let count = length-meanings t.places t.value_of c.args.terms.now in
+    let fit : AreTerms n ts = meanings-terms n t.places t.value_of m.family m.submodular c.args.terms.now (placed-meanings n t.places t.value_of c.args.terms.now c.requires.bounded.placed) in
+    let low : pos 0 ≤ℤ q = omega (arith, ints, c.requires.factor.low) in
+    let zn : length z ≡ n = s.is_rest.places in
+    let right : (i : ℕ) → i < length ts → IsTable ts q rows i (table_at tables i) = λ i l. s.tables i (rw count at l) in
+    let links = links_of ts n q rows spots tables unions s.are_spots s.are_unions right in
+    let F : ℕ → Type 0 = λ k. IsFirst k unions z levels first in
+    let begin : IsFirst n unions z levels first = subst F zn c.requires.first in
+    let hops = c.follow.new.hops.items in
+    let steps = steps_of hops in
+    let e = c.in_ok-follow.ensures in
+    let hh : AreHops ts tables first hops = rw c.deref.ensures.value at e.hops in
+    let fits = hops_steps ts rows n q fit tables right first hops hh in
+    let some : 0 < length steps = omega (arith, e.some, length-steps_of hops) in
+    let lin = last_in ts rows n q shift z low fit s.are_bases zn s.is_rest unions links levels first begin steps fits some e.falls e.last in
+    let lover = last_over ts rows n q shift z low fit s.are_bases zn s.is_rest unions links levels first begin steps fits some e.falls e.last in
+    let fin = first_in ts rows n q shift z low fit s.are_bases zn s.is_rest unions links levels first begin steps fits some e.falls e.last in
+    let last : c.last_place-last.result ≡ last_of first steps = (rw c.deref-4.ensures.value at c.last_place-last.ensures) ∙ sym (last_is first hops e.some) in
+    let a = c.in_ok-a.a in
+    let fa : FitsSigned w128 a = search rules in
+    let fm : FitsSigned w128 c.most_of-most.result = search rules in
+    let ae : pos 1 ≤ℤ a = c.in_ok-a.ensures.some in
+    let within : a ≤ℤ c.most_of-most.result = omega (arith, ints, fm, c.in_ok-a.ensures.within) in
+    let under : a ≤ℤ neg_ℤ (get_or z first (pos 0)) = let u = rw c.deref-5.ensures.value at c.most_of-most.ensures.under in omega (arith, ints, u, within) in
+    let over : a ≤ℤ get_or z (last_of first steps) (pos 0) = let o = rw (c.deref-5.ensures.value, last) at c.most_of-most.ensures.over in omega (arith, ints, o, within) in
+    let moves0 = rw c.deref-6.ensures.value at (simp to_z-of_z at c.in_ok-a.ensures.moves) in
+    let can = hops_can ts rows n q fit tables right a first hops hh moves0 in
+    let after = c.move_along.new.bases in
+    let me = c.in_ok-move_along.ensures in
+    let moved = rw c.deref-7.ensures.value at (simp to_z-of_z at me.moved) in
+    let ze = simp to_z-of_z at c.move_rest.ensures in
+    let z' = c.move_rest.new.z in
+    let zx : z' ≡ exchanged z first (last_of first steps) a = rw (c.deref_mut.ensures.value, last) at ze in
+    let same : length z' ≡ length z = ap length zx ∙ length-exchanged z first (last_of first steps) a in
+    let whole : take c.args.z.now.len (z' ++ drop (length z') z) ≡ z' = take_at z' (drop (length z') z) c.args.z.now.len (same ∙ sym c.args.z.now.ok.0) in
+    let apart = ends_apart z first (last_of first steps) (last_of first steps) refl begin.under lover in
+    let mv = moved_ends z first (last_of first steps) a (rw zn fin) (rw zn lin) apart begin.under lover under over in
+    let P : List ℤ → Type 0 = λ y. AreMoved z y first (last_of first steps) in
+    let mv' : AreMoved z z' first (last_of first steps) = subst P (sym zx) mv in
+    let h = rw (c.deref-10.ensures.value, whole, last) at c.move_signs.ensures in
+    rw whole (h z c.requires.signs mv')

@@ -19,6 +19,8 @@ use Rattle.sfm_walk.proofs.Noting.{sized_meanings}
 use Rattle.sfm_walk.proofs.Uniting.{have_rows, links_of}
 use Rattle.sfm_walk.proofs.Advancing.{none_joins}
 use Rattle.sfm_walk.proofs.Gaps.{abs_falls, deficit_low}
+use Rattle.sfm_walk.proofs.Counting.{counted_none, counted_more}
+use Rattle.sfm_walk.proofs.Least.{least_is, link_below}
 use Rattle.sfm_walk.proofs.Improving.{IsRun, at_most, bound_is, same_bound}
 use Rattle.sfm_walk.proofs.optimum.improve.Goals as goal
 
@@ -132,7 +134,7 @@ unions_of-requires g c =
     let gap : neg_ℤ (pos (4 * 10 ^ 29)) ≤ℤ D init = deficit_low t.places t.value_of c.args.terms.now init shift c.requires.small c.requires.bounded.few_places c.requires.shifts in
     let tables = c.ask_all.new.rows.items in
     let sized = sized_meanings t.places t.value_of c.args.terms.now tables c.in_ok-ask_all.ensures.rows in
-    let h : HaveRows tables c.in_ok-spots.spots.items = have_rows ts n c.in_ok-spots.spots.items tables c.in_ok-spots.ensures sized.0 sized.1 in
+    let h : HaveRows tables c.args.engine.now.spots.items = have_rows ts n c.args.engine.now.spots.items tables c.requires.engine.are_spots sized.0 sized.1 in
     rw (c.deref-2.ensures.value, c.deref-3.ensures.value) h
 
 pub loop-hops-init : goal.loop-hops-init
@@ -158,7 +160,7 @@ loop-hops-init g c =
     let ask = c.in_ok-ask_all.ensures in
     let unions = rw (c.deref-2.ensures.value, c.deref-3.ensures.value) at c.in_ok-unions.ensures in
     let tables = ask.tables in
-    let r : IsRun t.places t.value_of t.fits c.args.terms.now q shift init init c.in_ok-z.z.items c.in_ok-notes.notes.items c.ask_all.new.parts.items c.ask_all.new.rows.items c.in_ok-spots.spots.items c.in_ok-unions.unions.items = record {
+    let r : IsRun t.places t.value_of t.fits c.args.terms.now q shift init init c.in_ok-z.z.items c.in_ok-notes.notes.items c.ask_all.new.parts.items c.ask_all.new.rows.items c.args.engine.now.spots.items c.in_ok-unions.unions.items = record {
       state = record {
         are_bases = c.requires.bases;
         is_rest = c.in_ok-z.ensures;
@@ -167,13 +169,13 @@ loop-hops-init g c =
         sized_parts = ask.parts;
         sized_rows = ask.rows;
         tables = simp to_z-of_z at tables;
-        are_spots = c.in_ok-spots.ensures;
+        are_spots = c.requires.engine.are_spots;
         are_unions = unions;
       };
       risen = omega (arith, ints);
       small = same_bound init (pos (10 ^ 25) +ℤ (D init -ℤ D init)) c.requires.small (omega (arith, ints));
     } in
-    simp to_z-of_z r
+    simp to_z-of_z (r, omega arith, rw c.deref-4.ensures.value at c.signs_of-signs.ensures, counted_none ts q shift init c.args.steps.now)
 
 pub advance-requires-clause-sizes : goal.advance-requires-clause-sizes
 advance-requires-clause-sizes g c =
@@ -218,7 +220,7 @@ advance-requires-clause-small g c =
     let D : List (List ℤ) → ℤ = λ rows. deficit n (rest_at ts rows shift) in
     let gap : neg_ℤ (pos (4 * 10 ^ 29)) ≤ℤ D init = deficit_low t.places t.value_of c.args.terms.now init shift c.requires.small c.requires.bounded.few_places c.requires.shifts in
     let rows = c.loop-hops.bases in
-    let inv : IsRun t.places t.value_of t.fits c.args.terms.now q shift init rows c.loop-hops.z.items c.loop-hops.notes.items c.loop-hops.parts.items c.loop-hops.rows.items c.in_ok-spots.spots.items c.loop-hops.unions.items = simp to_z-of_z at c.loop-hops.invariant in
+    let inv : IsRun t.places t.value_of t.fits c.args.terms.now q shift init rows c.loop-hops.z.items c.loop-hops.notes.items c.loop-hops.engine.parts.items c.loop-hops.engine.rows.items c.loop-hops.engine.spots.items c.loop-hops.unions.items = simp to_z-of_z at c.loop-hops.invariant.0 in
     let s = inv.state in
     let up : D rows ≤ℤ pos 0 = deficit_not_above n (rest_at ts rows shift) in
     let risen : D init ≤ℤ D rows = inv.risen in
@@ -245,7 +247,7 @@ advance-requires-clause-gap g c =
     let D : List (List ℤ) → ℤ = λ rows. deficit n (rest_at ts rows shift) in
     let gap : neg_ℤ (pos (4 * 10 ^ 29)) ≤ℤ D init = deficit_low t.places t.value_of c.args.terms.now init shift c.requires.small c.requires.bounded.few_places c.requires.shifts in
     let rows = c.loop-hops.bases in
-    let inv : IsRun t.places t.value_of t.fits c.args.terms.now q shift init rows c.loop-hops.z.items c.loop-hops.notes.items c.loop-hops.parts.items c.loop-hops.rows.items c.in_ok-spots.spots.items c.loop-hops.unions.items = simp to_z-of_z at c.loop-hops.invariant in
+    let inv : IsRun t.places t.value_of t.fits c.args.terms.now q shift init rows c.loop-hops.z.items c.loop-hops.notes.items c.loop-hops.engine.parts.items c.loop-hops.engine.rows.items c.loop-hops.engine.spots.items c.loop-hops.unions.items = simp to_z-of_z at c.loop-hops.invariant.0 in
     let s = inv.state in
     let up : D rows ≤ℤ pos 0 = deficit_not_above n (rest_at ts rows shift) in
     let risen : D init ≤ℤ D rows = inv.risen in
@@ -272,7 +274,7 @@ loop-hops-smaller g c =
     let D : List (List ℤ) → ℤ = λ rows. deficit n (rest_at ts rows shift) in
     let gap : neg_ℤ (pos (4 * 10 ^ 29)) ≤ℤ D init = deficit_low t.places t.value_of c.args.terms.now init shift c.requires.small c.requires.bounded.few_places c.requires.shifts in
     let rows = c.loop-hops.bases in
-    let inv : IsRun t.places t.value_of t.fits c.args.terms.now q shift init rows c.loop-hops.z.items c.loop-hops.notes.items c.loop-hops.parts.items c.loop-hops.rows.items c.in_ok-spots.spots.items c.loop-hops.unions.items = simp to_z-of_z at c.loop-hops.invariant in
+    let inv : IsRun t.places t.value_of t.fits c.args.terms.now q shift init rows c.loop-hops.z.items c.loop-hops.notes.items c.loop-hops.engine.parts.items c.loop-hops.engine.rows.items c.loop-hops.engine.spots.items c.loop-hops.unions.items = simp to_z-of_z at c.loop-hops.invariant.0 in
     let s = inv.state in
     let up : D rows ≤ℤ pos 0 = deficit_not_above n (rest_at ts rows shift) in
     let risen : D init ≤ℤ D rows = inv.risen in
@@ -304,7 +306,7 @@ loop-hops-preserved g c =
     let D : List (List ℤ) → ℤ = λ rows. deficit n (rest_at ts rows shift) in
     let gap : neg_ℤ (pos (4 * 10 ^ 29)) ≤ℤ D init = deficit_low t.places t.value_of c.args.terms.now init shift c.requires.small c.requires.bounded.few_places c.requires.shifts in
     let rows = c.loop-hops.bases in
-    let inv : IsRun t.places t.value_of t.fits c.args.terms.now q shift init rows c.loop-hops.z.items c.loop-hops.notes.items c.loop-hops.parts.items c.loop-hops.rows.items c.in_ok-spots.spots.items c.loop-hops.unions.items = simp to_z-of_z at c.loop-hops.invariant in
+    let inv : IsRun t.places t.value_of t.fits c.args.terms.now q shift init rows c.loop-hops.z.items c.loop-hops.notes.items c.loop-hops.engine.parts.items c.loop-hops.engine.rows.items c.loop-hops.engine.spots.items c.loop-hops.unions.items = simp to_z-of_z at c.loop-hops.invariant.0 in
     let s = inv.state in
     let up : D rows ≤ℤ pos 0 = deficit_not_above n (rest_at ts rows shift) in
     let risen : D init ≤ℤ D rows = inv.risen in
@@ -313,12 +315,12 @@ loop-hops-preserved g c =
     let mv = moves_along ts rows n q shift low fit s.are_bases after (simp to_z-of_z at e.moves) in
     let more : (D rows +ℤ pos 1) ≤ℤ D after = mv.1 in
     let up' : D after ≤ℤ pos 0 = deficit_not_above n (rest_at ts after shift) in
-    let r : IsRun t.places t.value_of t.fits c.args.terms.now q shift init after c.advance.new.z.items c.advance.new.notes.items c.advance.new.parts.items c.advance.new.rows.items c.in_ok-spots.spots.items c.advance.new.unions.items = record {
+    let r : IsRun t.places t.value_of t.fits c.args.terms.now q shift init after c.advance.new.z.items c.advance.new.notes.items c.advance.new.parts.items c.advance.new.rows.items c.loop-hops.engine.spots.items c.advance.new.unions.items = record {
       state = simp to_z-of_z at (rw c.deref-in-Some.ensures.value at e.state);
       risen = omega (arith, ints, risen, more);
       small = bound_is after ((pos (10 ^ 25) +ℤ (D rows -ℤ D init)) +ℤ (D after -ℤ D rows)) (pos (10 ^ 25) +ℤ (D after -ℤ D init)) (e.spread (pos (10 ^ 25) +ℤ (D rows -ℤ D init)) inv.small) (omega (arith, ints));
     } in
-    simp to_z-of_z r
+    simp to_z-of_z (r, omega (arith, c.loop-hops.invariant.1, c.count_one.ensures.kept), e.signs, counted_more ts q shift init rows after c.args.steps.now c.loop-hops.steps c.count_one.new.steps (simp to_z-of_z at c.loop-hops.invariant.3) (simp to_z-of_z at e.moves) c.count_one.ensures.one)
 
 pub returns-clause-small : goal.returns-clause-small
 returns-clause-small g c =
@@ -341,7 +343,7 @@ returns-clause-small g c =
     let D : List (List ℤ) → ℤ = λ rows. deficit n (rest_at ts rows shift) in
     let gap : neg_ℤ (pos (4 * 10 ^ 29)) ≤ℤ D init = deficit_low t.places t.value_of c.args.terms.now init shift c.requires.small c.requires.bounded.few_places c.requires.shifts in
     let rows = c.loop-hops.bases in
-    let inv : IsRun t.places t.value_of t.fits c.args.terms.now q shift init rows c.loop-hops.z.items c.loop-hops.notes.items c.loop-hops.parts.items c.loop-hops.rows.items c.in_ok-spots.spots.items c.loop-hops.unions.items = simp to_z-of_z at c.loop-hops.invariant in
+    let inv : IsRun t.places t.value_of t.fits c.args.terms.now q shift init rows c.loop-hops.z.items c.loop-hops.notes.items c.loop-hops.engine.parts.items c.loop-hops.engine.rows.items c.loop-hops.engine.spots.items c.loop-hops.unions.items = simp to_z-of_z at c.loop-hops.invariant.0 in
     let s = inv.state in
     let up : D rows ≤ℤ pos 0 = deficit_not_above n (rest_at ts rows shift) in
     let risen : D init ≤ℤ D rows = inv.risen in
@@ -368,11 +370,11 @@ returns-clause-rest g c =
     let D : List (List ℤ) → ℤ = λ rows. deficit n (rest_at ts rows shift) in
     let gap : neg_ℤ (pos (4 * 10 ^ 29)) ≤ℤ D init = deficit_low t.places t.value_of c.args.terms.now init shift c.requires.small c.requires.bounded.few_places c.requires.shifts in
     let rows = c.loop-hops.bases in
-    let inv : IsRun t.places t.value_of t.fits c.args.terms.now q shift init rows c.loop-hops.z.items c.loop-hops.notes.items c.loop-hops.parts.items c.loop-hops.rows.items c.in_ok-spots.spots.items c.loop-hops.unions.items = simp to_z-of_z at c.loop-hops.invariant in
+    let inv : IsRun t.places t.value_of t.fits c.args.terms.now q shift init rows c.loop-hops.z.items c.loop-hops.notes.items c.loop-hops.engine.parts.items c.loop-hops.engine.rows.items c.loop-hops.engine.spots.items c.loop-hops.unions.items = simp to_z-of_z at c.loop-hops.invariant.0 in
     let s = inv.state in
     let up : D rows ≤ℤ pos 0 = deficit_not_above n (rest_at ts rows shift) in
     let risen : D init ≤ℤ D rows = inv.risen in
-    rw c.from_vec.ensures (s.is_rest.places, (λ e l. s.is_rest.exact e (rw s.is_rest.places l)))
+    rw c.from_vec-z.ensures (s.is_rest.places, (λ e l. s.is_rest.exact e (rw s.is_rest.places l)))
 
 pub returns-clause-ends : goal.returns-clause-ends
 returns-clause-ends g c =
@@ -395,7 +397,7 @@ returns-clause-ends g c =
     let D : List (List ℤ) → ℤ = λ rows. deficit n (rest_at ts rows shift) in
     let gap : neg_ℤ (pos (4 * 10 ^ 29)) ≤ℤ D init = deficit_low t.places t.value_of c.args.terms.now init shift c.requires.small c.requires.bounded.few_places c.requires.shifts in
     let rows = c.loop-hops.bases in
-    let inv : IsRun t.places t.value_of t.fits c.args.terms.now q shift init rows c.loop-hops.z.items c.loop-hops.notes.items c.loop-hops.parts.items c.loop-hops.rows.items c.in_ok-spots.spots.items c.loop-hops.unions.items = simp to_z-of_z at c.loop-hops.invariant in
+    let inv : IsRun t.places t.value_of t.fits c.args.terms.now q shift init rows c.loop-hops.z.items c.loop-hops.notes.items c.loop-hops.engine.parts.items c.loop-hops.engine.rows.items c.loop-hops.engine.spots.items c.loop-hops.unions.items = simp to_z-of_z at c.loop-hops.invariant.0 in
     let s = inv.state in
     let up : D rows ≤ℤ pos 0 = deficit_not_above n (rest_at ts rows shift) in
     let risen : D init ≤ℤ D rows = inv.risen in
@@ -405,8 +407,8 @@ returns-clause-ends g c =
     let zn : length z ≡ n = s.is_rest.places in
     let F : ℕ → Type 0 = λ k. AreClosed k c.loop-hops.unions.items z c.find_levels.new.levels.items in
     let closed : AreClosed n c.loop-hops.unions.items z c.find_levels.new.levels.items = subst F zn closed1 in
-    let right : (i : ℕ) → i < length ts → IsTable ts q rows i (table_at c.loop-hops.rows.items i) = λ i l. s.tables i (rw count at l) in
-    let links = links_of ts n q rows c.in_ok-spots.spots.items c.loop-hops.rows.items c.loop-hops.unions.items s.are_spots s.are_unions right in
+    let right : (i : ℕ) → i < length ts → IsTable ts q rows i (table_at c.loop-hops.engine.rows.items i) = λ i l. s.tables i (rw count at l) in
+    let links = links_of ts n q rows c.loop-hops.engine.spots.items c.loop-hops.engine.rows.items c.loop-hops.unions.items s.are_spots s.are_unions right in
     let none = none_joins ts rows n q shift z low fit s.are_bases zn s.is_rest c.loop-hops.unions.items links c.find_levels.new.levels.items closed in
     none
 
@@ -431,7 +433,7 @@ returns-clause-proves g c =
     let D : List (List ℤ) → ℤ = λ rows. deficit n (rest_at ts rows shift) in
     let gap : neg_ℤ (pos (4 * 10 ^ 29)) ≤ℤ D init = deficit_low t.places t.value_of c.args.terms.now init shift c.requires.small c.requires.bounded.few_places c.requires.shifts in
     let rows = c.loop-hops.bases in
-    let inv : IsRun t.places t.value_of t.fits c.args.terms.now q shift init rows c.loop-hops.z.items c.loop-hops.notes.items c.loop-hops.parts.items c.loop-hops.rows.items c.in_ok-spots.spots.items c.loop-hops.unions.items = simp to_z-of_z at c.loop-hops.invariant in
+    let inv : IsRun t.places t.value_of t.fits c.args.terms.now q shift init rows c.loop-hops.z.items c.loop-hops.notes.items c.loop-hops.engine.parts.items c.loop-hops.engine.rows.items c.loop-hops.engine.spots.items c.loop-hops.unions.items = simp to_z-of_z at c.loop-hops.invariant.0 in
     let s = inv.state in
     let up : D rows ≤ℤ pos 0 = deficit_not_above n (rest_at ts rows shift) in
     let risen : D init ≤ℤ D rows = inv.risen in
@@ -441,7 +443,126 @@ returns-clause-proves g c =
     let zn : length z ≡ n = s.is_rest.places in
     let F : ℕ → Type 0 = λ k. AreClosed k c.loop-hops.unions.items z c.find_levels.new.levels.items in
     let closed : AreClosed n c.loop-hops.unions.items z c.find_levels.new.levels.items = subst F zn closed1 in
-    let right : (i : ℕ) → i < length ts → IsTable ts q rows i (table_at c.loop-hops.rows.items i) = λ i l. s.tables i (rw count at l) in
-    let links = links_of ts n q rows c.in_ok-spots.spots.items c.loop-hops.rows.items c.loop-hops.unions.items s.are_spots s.are_unions right in
+    let right : (i : ℕ) → i < length ts → IsTable ts q rows i (table_at c.loop-hops.engine.rows.items i) = λ i l. s.tables i (rw count at l) in
+    let links = links_of ts n q rows c.loop-hops.engine.spots.items c.loop-hops.engine.rows.items c.loop-hops.unions.items s.are_spots s.are_unions right in
     let none = none_joins ts rows n q shift z low fit s.are_bases zn s.is_rest c.loop-hops.unions.items links c.find_levels.new.levels.items closed in
     prove_if_none ts rows n q shift low fit s.are_bases none
+
+pub reached_from-reached-requires-clause-firsts : goal.reached_from-reached-requires-clause-firsts
+reached_from-reached-requires-clause-firsts g c =
+    let t = g.T.Term in
+    let m = g.met.T.Term in
+    let fq : FitsSigned w128 c.args.q = c.ranges.q in
+    let ts = meanings t.places t.value_of c.args.terms.now in
+    let n = length c.args.shift.now in
+    let q = c.args.q in
+    let shift = c.args.shift.now in
+    let init = c.args.first_bases in
+    let count = length-meanings t.places t.value_of c.args.terms.now in
+    let fit : AreTerms n ts = meanings-terms n t.places t.value_of m.family m.submodular c.args.terms.now (placed-meanings n t.places t.value_of c.args.terms.now c.requires.bounded.placed) in
+    let low : pos 0 ≤ℤ q = omega (arith, ints, c.requires.factor.low) in
+    let sizes = below-total (map t.size_of c.args.terms.now) (pos (10 ^ 18))
+    (All-map (λ a. pos 0 ≤ℤ a) t.size_of c.args.terms.now (λ k d l.
+    let x = get_or c.args.terms.now k d in
+    (m.bounded x (empty_set (length (t.places x))) (pos 0) (length-replicate (length (t.places x)) _) (m.submodular x).at_empty).1))
+    c.requires.bounded.small in
+    let D : List (List ℤ) → ℤ = λ rows. deficit n (rest_at ts rows shift) in
+    let gap : neg_ℤ (pos (4 * 10 ^ 29)) ≤ℤ D init = deficit_low t.places t.value_of c.args.terms.now init shift c.requires.small c.requires.bounded.few_places c.requires.shifts in
+    let rows = c.loop-hops.bases in
+    let inv : IsRun t.places t.value_of t.fits c.args.terms.now q shift init rows c.loop-hops.z.items c.loop-hops.notes.items c.loop-hops.engine.parts.items c.loop-hops.engine.rows.items c.loop-hops.engine.spots.items c.loop-hops.unions.items = simp to_z-of_z at c.loop-hops.invariant.0 in
+    let s = inv.state in
+    let up : D rows ≤ℤ pos 0 = deficit_not_above n (rest_at ts rows shift) in
+    let risen : D init ≤ℤ D rows = inv.risen in
+    let z = c.loop-hops.z.items in
+    let closed0 = match_none c.in_ok-first.field-0 _ _ c.in_ok-first.ensures c.in_default.not-Some in
+    let closed1 = rw (c.deref-in-loop-hops.ensures.value, c.deref-in-loop-hops-2.ensures.value) at closed0 in
+    let zn : length z ≡ n = s.is_rest.places in
+    let F : ℕ → Type 0 = λ k. AreClosed k c.loop-hops.unions.items z c.find_levels.new.levels.items in
+    let closed : AreClosed n c.loop-hops.unions.items z c.find_levels.new.levels.items = subst F zn closed1 in
+    let right : (i : ℕ) → i < length ts → IsTable ts q rows i (table_at c.loop-hops.engine.rows.items i) = λ i l. s.tables i (rw count at l) in
+    let links = links_of ts n q rows c.loop-hops.engine.spots.items c.loop-hops.engine.rows.items c.loop-hops.unions.items s.are_spots s.are_unions right in
+    let none = none_joins ts rows n q shift z low fit s.are_bases zn s.is_rest c.loop-hops.unions.items links c.find_levels.new.levels.items closed in
+    let uv = c.deref-5.ensures.value in
+    let cu = s.are_unions.count in
+    let cs = s.are_spots.count in
+    λ e one. let u = ((c.loop-hops.invariant.2.below e).0 one).0 in let l : e < n = rw zn at u in rw (uv, cu, cs) l
+
+pub reached_from-reached-requires-clause-links : goal.reached_from-reached-requires-clause-links
+reached_from-reached-requires-clause-links g c =
+    let t = g.T.Term in
+    let m = g.met.T.Term in
+    let fq : FitsSigned w128 c.args.q = c.ranges.q in
+    let ts = meanings t.places t.value_of c.args.terms.now in
+    let n = length c.args.shift.now in
+    let q = c.args.q in
+    let shift = c.args.shift.now in
+    let init = c.args.first_bases in
+    let count = length-meanings t.places t.value_of c.args.terms.now in
+    let fit : AreTerms n ts = meanings-terms n t.places t.value_of m.family m.submodular c.args.terms.now (placed-meanings n t.places t.value_of c.args.terms.now c.requires.bounded.placed) in
+    let low : pos 0 ≤ℤ q = omega (arith, ints, c.requires.factor.low) in
+    let sizes = below-total (map t.size_of c.args.terms.now) (pos (10 ^ 18))
+    (All-map (λ a. pos 0 ≤ℤ a) t.size_of c.args.terms.now (λ k d l.
+    let x = get_or c.args.terms.now k d in
+    (m.bounded x (empty_set (length (t.places x))) (pos 0) (length-replicate (length (t.places x)) _) (m.submodular x).at_empty).1))
+    c.requires.bounded.small in
+    let D : List (List ℤ) → ℤ = λ rows. deficit n (rest_at ts rows shift) in
+    let gap : neg_ℤ (pos (4 * 10 ^ 29)) ≤ℤ D init = deficit_low t.places t.value_of c.args.terms.now init shift c.requires.small c.requires.bounded.few_places c.requires.shifts in
+    let rows = c.loop-hops.bases in
+    let inv : IsRun t.places t.value_of t.fits c.args.terms.now q shift init rows c.loop-hops.z.items c.loop-hops.notes.items c.loop-hops.engine.parts.items c.loop-hops.engine.rows.items c.loop-hops.engine.spots.items c.loop-hops.unions.items = simp to_z-of_z at c.loop-hops.invariant.0 in
+    let s = inv.state in
+    let up : D rows ≤ℤ pos 0 = deficit_not_above n (rest_at ts rows shift) in
+    let risen : D init ≤ℤ D rows = inv.risen in
+    let z = c.loop-hops.z.items in
+    let closed0 = match_none c.in_ok-first.field-0 _ _ c.in_ok-first.ensures c.in_default.not-Some in
+    let closed1 = rw (c.deref-in-loop-hops.ensures.value, c.deref-in-loop-hops-2.ensures.value) at closed0 in
+    let zn : length z ≡ n = s.is_rest.places in
+    let F : ℕ → Type 0 = λ k. AreClosed k c.loop-hops.unions.items z c.find_levels.new.levels.items in
+    let closed : AreClosed n c.loop-hops.unions.items z c.find_levels.new.levels.items = subst F zn closed1 in
+    let right : (i : ℕ) → i < length ts → IsTable ts q rows i (table_at c.loop-hops.engine.rows.items i) = λ i l. s.tables i (rw count at l) in
+    let links = links_of ts n q rows c.loop-hops.engine.spots.items c.loop-hops.engine.rows.items c.loop-hops.unions.items s.are_spots s.are_unions right in
+    let none = none_joins ts rows n q shift z low fit s.are_bases zn s.is_rest c.loop-hops.unions.items links c.find_levels.new.levels.items closed in
+    let uv = c.deref-5.ensures.value in
+    let cu = s.are_unions.count in
+    let cs = s.are_spots.count in
+    λ e t l bit. rw (uv, cu, cs) (link_below ts rows n q shift z low fit s.are_bases zn s.is_rest c.loop-hops.unions.items links e t (rw (uv, cu, cs) at l) (rw uv at bit))
+
+pub returns-clause-least : goal.returns-clause-least
+returns-clause-least g c =
+    let t = g.T.Term in
+    let m = g.met.T.Term in
+    let fq : FitsSigned w128 c.args.q = c.ranges.q in
+    let ts = meanings t.places t.value_of c.args.terms.now in
+    let n = length c.args.shift.now in
+    let q = c.args.q in
+    let shift = c.args.shift.now in
+    let init = c.args.first_bases in
+    let count = length-meanings t.places t.value_of c.args.terms.now in
+    let fit : AreTerms n ts = meanings-terms n t.places t.value_of m.family m.submodular c.args.terms.now (placed-meanings n t.places t.value_of c.args.terms.now c.requires.bounded.placed) in
+    let low : pos 0 ≤ℤ q = omega (arith, ints, c.requires.factor.low) in
+    let sizes = below-total (map t.size_of c.args.terms.now) (pos (10 ^ 18))
+    (All-map (λ a. pos 0 ≤ℤ a) t.size_of c.args.terms.now (λ k d l.
+    let x = get_or c.args.terms.now k d in
+    (m.bounded x (empty_set (length (t.places x))) (pos 0) (length-replicate (length (t.places x)) _) (m.submodular x).at_empty).1))
+    c.requires.bounded.small in
+    let D : List (List ℤ) → ℤ = λ rows. deficit n (rest_at ts rows shift) in
+    let gap : neg_ℤ (pos (4 * 10 ^ 29)) ≤ℤ D init = deficit_low t.places t.value_of c.args.terms.now init shift c.requires.small c.requires.bounded.few_places c.requires.shifts in
+    let rows = c.loop-hops.bases in
+    let inv : IsRun t.places t.value_of t.fits c.args.terms.now q shift init rows c.loop-hops.z.items c.loop-hops.notes.items c.loop-hops.engine.parts.items c.loop-hops.engine.rows.items c.loop-hops.engine.spots.items c.loop-hops.unions.items = simp to_z-of_z at c.loop-hops.invariant.0 in
+    let s = inv.state in
+    let up : D rows ≤ℤ pos 0 = deficit_not_above n (rest_at ts rows shift) in
+    let risen : D init ≤ℤ D rows = inv.risen in
+    let z = c.loop-hops.z.items in
+    let closed0 = match_none c.in_ok-first.field-0 _ _ c.in_ok-first.ensures c.in_default.not-Some in
+    let closed1 = rw (c.deref-in-loop-hops.ensures.value, c.deref-in-loop-hops-2.ensures.value) at closed0 in
+    let zn : length z ≡ n = s.is_rest.places in
+    let F : ℕ → Type 0 = λ k. AreClosed k c.loop-hops.unions.items z c.find_levels.new.levels.items in
+    let closed : AreClosed n c.loop-hops.unions.items z c.find_levels.new.levels.items = subst F zn closed1 in
+    let right : (i : ℕ) → i < length ts → IsTable ts q rows i (table_at c.loop-hops.engine.rows.items i) = λ i l. s.tables i (rw count at l) in
+    let links = links_of ts n q rows c.loop-hops.engine.spots.items c.loop-hops.engine.rows.items c.loop-hops.unions.items s.are_spots s.are_unions right in
+    let none = none_joins ts rows n q shift z low fit s.are_bases zn s.is_rest c.loop-hops.unions.items links c.find_levels.new.levels.items closed in
+    least_is ts rows n q shift z low fit s.are_bases zn s.is_rest c.loop-hops.unions.items links c.loop-hops.signs.under c.reached_from-reached.result c.loop-hops.invariant.2.below (rw c.deref-5.ensures.value at c.reached_from-reached.ensures) c.in_ok-least.least c.in_ok-least.ensures none
+
+pub returns-clause-counted : goal.returns-clause-counted
+returns-clause-counted g c =
+    let fq : FitsSigned w128 c.args.q = c.ranges.q in
+    simp to_z-of_z at c.loop-hops.invariant.3
