@@ -1,0 +1,2 @@
+// Weighted ranks of graphic and transversal matroids as terms.
+#![tactic(auto)]
