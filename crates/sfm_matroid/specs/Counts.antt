@@ -1,0 +1,51 @@
+-- How many numbers below a bound pass a test.
+use Rattle.std.proofs.Common.{◌≡◌, ℕ, zero, suc, ◌+◌, ◌<◌, ◌≤◌, Bool, true, false, cond, not, ◌&&◌, nat_eq, refl, sym, ap, ◌∙◌, arith, ⊎_elim}
+use Rattle.std.proofs.lemmas.Bool.{cases_Bool, cases_lt, eq-eqb, eqb-true}
+
+abbrev pub unit_of : Bool → ℕ
+unit_of b = cond b 1 0
+
+abbrev pub count_below : ℕ → (ℕ → Bool) → ℕ
+count_below zero p = 0
+count_below (suc n) p = unit_of (p n) + count_below n p
+
+pub eqb_apart : (a b : ℕ) → (a ≡ b → ⊥) → nat_eq a b ≡ false
+eqb_apart a b ne = ⊎_elim (λ t. absurd (ne (eqb-true a b t))) (λ f. f) (cases_Bool (nat_eq a b))
+
+pub count-same : (n : ℕ) (p q : ℕ → Bool) → ((x : ℕ) → x < n → p x ≡ q x) → count_below n p ≡ count_below n q
+count-same zero p q same = refl
+count-same (suc n) p q same = let r = count-same n p q (λ x lt. same x (omega arith)) in let h = ap unit_of (same n (omega arith)) in omega (arith, r, h)
+
+-- one number that passes left out
+pub count-without : (n : ℕ) (p : ℕ → Bool) (a : ℕ) → a < n → p a ≡ true → suc (count_below n (λ x. not (nat_eq x a) && p x)) ≡ count_below n p
+count-without zero p a lt h = absurd (omega arith)
+count-without (suc n) p a lt h = ⊎_elim
+    (λ (less : a < n).
+    let r = count-without n p a less h in
+    let ne = eqb_apart n a (λ e. omega (arith, e, less)) in
+    let s : unit_of (not (nat_eq n a) && p n) ≡ unit_of (p n) = rw ne refl in
+    omega (arith, r, s))
+    (λ (ge : n ≤ a).
+    let e : n ≡ a = omega arith in
+    let here : unit_of (not (nat_eq n a) && p n) ≡ 0 = rw (eq-eqb n a e) refl in
+    let all = count-same n (λ x. not (nat_eq x a) && p x) p (λ x lt. rw (eqb_apart x a (λ s. omega (arith, s, e, lt))) refl) in
+    let one : unit_of (p n) ≡ 1 = rw (e, h) refl in
+    omega (arith, here, all, one))
+    (cases_lt a n)
+
+-- what is mapped one-to-one into what passes another test is no more than that
+pub count-into : (n m : ℕ) (p q : ℕ → Bool) (f g : ℕ → ℕ) → ((x : ℕ) → x < n → p x ≡ true → (f x < m) × (q (f x) ≡ true) × (g (f x) ≡ x)) → count_below n p ≤ count_below m q
+count-into zero m p q f g into = omega arith
+count-into (suc n) m p q f g into = at (count-into n m p) (p n) refl where
+  at : ((q : ℕ → Bool) (f g : ℕ → ℕ) → ((x : ℕ) → x < n → p x ≡ true → (f x < m) × (q (f x) ≡ true) × (g (f x) ≡ x)) → count_below n p ≤ count_below m q)
+      → (b : Bool) → p n ≡ b → count_below (suc n) p ≤ count_below m q
+  at rest false e = let r = rest q f g (λ x lt. into x (omega arith)) in let h = ap unit_of e in omega (arith, r, h)
+  at rest true e =
+      let (low, has, back) = into n (omega arith) e in
+      let c = count-without m q (f n) low has in
+      let r = rest (λ x. not (nat_eq x (f n)) && q x) f g (λ x lt hx.
+              let (lx, qx, bx) = into x (omega arith) hx in
+              let ne = eqb_apart (f x) (f n) (λ s. let b : x ≡ n = sym bx ∙ ap g s ∙ back in omega (arith, b, lt)) in
+              (lx, rw (ne, qx) refl, bx)) in
+      let h = ap unit_of e in
+      omega (arith, c, r, h)
