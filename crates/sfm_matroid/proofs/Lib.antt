@@ -1,0 +1,3 @@
+mod Fits
+mod Kept
+mod Labels

@@ -6,3 +6,5 @@ pub mod Runs
 pub mod Trails
 pub mod Growing
 pub mod Forests
+pub mod Ends
+pub mod GraphicLaws
