@@ -1,5 +1,5 @@
 -- Sums and products of given numbers fit 128 bits.
-use Rattle.std.proofs.Common.{◌*◌, ◌^◌, ℤ, ◌*ℤ◌, arith, FitsSigned}
+use Rattle.std.proofs.Common.{◌^◌, ℤ, ◌*ℤ◌, arith, FitsSigned}
 use Rattle.std.proofs.lemmas.Int.{ints, fits_signed_mul}
 use mir.Syntax.{w128}
 use Rattle.sfm_spec.specs.Bounds.{IsFactor, IsGiven}

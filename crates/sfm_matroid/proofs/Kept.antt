@@ -7,6 +7,8 @@ use Rattle.sfm_spec.proofs.Sets.{Has-whole}
 use Rattle.sfm_spec.proofs.Sizes.{size_below_length}
 use Rattle.sfm_matroid.specs.RankTerms.{at_places-at}
 use Rattle.sfm_matroid.specs.Runs.{taken, taken-places}
+use Rattle.sfm_matroid.specs.Ends.{edges_of}
+use Rattle.sfm_matroid.proofs.Labels.{length-edges}
 use Rattle.sfm_matroid.specs.GraphicLaws.{graphic_basis, graphic_start}
 
 pub all_in : (s : List Bool) (k : ℕ) → length s ≡ k → ((j : ℕ) → j < k → Has s j) → s ≡ whole_set k
@@ -24,5 +26,7 @@ share-out q w edges j out = at_places-at (q *ℤ w) (graphic_basis edges) j ∙ 
 pub share-in : (q w : ℤ) (edges : List Edge) (j : ℕ) → Has (graphic_basis edges) j → get_or (graphic_start q w edges) j (pos 0) ≡ (q *ℤ w)
 share-in q w edges j has = at_places-at (q *ℤ w) (graphic_basis edges) j ∙ rw has refl
 
-pub basis_from : (edges : List Edge) (all basis : List Bool) → all ≡ whole_set (length edges) → basis ≡ taken edges all (length edges) → basis ≡ graphic_basis edges
-basis_from edges all basis e b = b ∙ ap (λ s. taken edges s (length edges)) e
+pub basis_from : (pairs : List (ℕ × ℕ)) (edges : List Edge) (all basis : List Bool) → edges ≡ edges_of pairs → all ≡ whole_set (length pairs) → basis ≡ taken (edges_of pairs) all (length pairs) → basis ≡ graphic_basis edges
+basis_from pairs edges all basis es e b =
+    let n = length-edges pairs in
+    b ∙ (ap (λ s. taken (edges_of pairs) s (length pairs)) e ∙ (ap (λ m. taken (edges_of pairs) (whole_set m) m) (sym n) ∙ ap graphic_basis (sym es)))

@@ -1,4 +1,4 @@
-use Rattle.std.proofs.Common.{◌∙◌, ◌*ℤ◌, false, length, get_or, ap, sym, FitsSigned}
+use Rattle.std.proofs.Common.{◌∙◌, ◌*ℤ◌, false, get_or, ap, sym, FitsSigned}
 use Rattle.std.proofs.lemmas.Int.{to_z-of_z}
 use mir.Syntax.{w128}
 use Rattle.sfm_matroid.proofs.Fits.{given_fits, product_fits}

@@ -1,4 +1,4 @@
-use Rattle.std.proofs.Common.{◌≡◌, ◌≤◌, ◌∙◌, true, length, ap, pos, arith, rules, to_z, Fits}
+use Rattle.std.proofs.Common.{◌≡◌, ◌∙◌, true, length, ap, pos, arith, rules, to_z, Fits}
 use Rattle.std.proofs.lemmas.Int.{ints}
 use Rattle.std.proofs.lemmas.List.{length-replicate}
 use mir.Syntax.{w64, w128}
