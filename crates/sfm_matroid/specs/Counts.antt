@@ -44,8 +44,8 @@ count-into (suc n) m p q f g into = at (count-into n m p) (p n) refl where
       let (low, has, back) = into n (omega arith) e in
       let c = count-without m q (f n) low has in
       let r = rest (λ x. not (nat_eq x (f n)) && q x) f g (λ x lt hx.
-              let (lx, qx, bx) = into x (omega arith) hx in
-              let ne = eqb_apart (f x) (f n) (λ s. let b : x ≡ n = sym bx ∙ ap g s ∙ back in omega (arith, b, lt)) in
-              (lx, rw (ne, qx) refl, bx)) in
+      let (lx, qx, bx) = into x (omega arith) hx in
+      let ne = eqb_apart (f x) (f n) (λ s. let b : x ≡ n = sym bx ∙ ap g s ∙ back in omega (arith, b, lt)) in
+      (lx, rw (ne, qx) refl, bx)) in
       let h = ap unit_of e in
       omega (arith, c, r, h)

@@ -114,10 +114,10 @@ fewer edges s t ks kt forest blind =
     let b = taken-roots edges t kt k (omega arith) in
     let all = ap size (taken-all edges t kt forest) in
     let c = count-into (above_ends edges) (above_ends edges) (λ x. nat_eq (label edges s k x) x) (λ x. nat_eq (label edges t k x) x) (label edges t k) (label edges s k) (λ x lt h. (
-              label_below edges t kt k x (omega arith) lt,
-              eq-eqb _ _ (label-twice edges t k x),
-              label-blind edges t k (label edges s k) (λ e le has. blind e has) x ∙ eqb-true _ _ h,
-            )) in
+      label_below edges t kt k x (omega arith) lt,
+      eq-eqb _ _ (label-twice edges t k x),
+      label-blind edges t k (label edges s k) (λ e le has. blind e has) x ∙ eqb-true _ _ h,
+    )) in
     omega (arith, a, b, all, c)
 
 module _ (edges : List Edge) where

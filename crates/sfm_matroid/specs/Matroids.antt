@@ -123,9 +123,9 @@ module _ (k : ℕ) (IsIndependent : List Bool → Type 0) (rank : List Bool → 
       let up = rank-mono s sa ks ka (set_wider s a) in
       let one = rank-one sb a kb (omega (arith, lt, lb)) in
       let turned : IsWithin sab (set sb a true) = λ i h. ⊎_elim
-              (λ (same : i ≡ b). set_has sb a i (rw same (set_here s b (omega (arith, ks, lb)))))
-              (λ old. ⊎_elim (λ (same : i ≡ a). rw same (set_here sb a (omega (arith, kb, lt, lb)))) (λ older. set_has sb a i (set_has s b i older)) (has_set s a i old))
-              (has_set sa b i h) in
+      (λ (same : i ≡ b). set_has sb a i (rw same (set_here s b (omega (arith, ks, lb)))))
+      (λ old. ⊎_elim (λ (same : i ≡ a). rw same (set_here sb a (omega (arith, kb, lt, lb)))) (λ older. set_has sb a i (set_has s b i older)) (has_set s a i old))
+      (has_set sa b i h) in
       let less = rank-mono sab (set sb a true) kab (length-set sb a true ∙ kb) turned in
       ⊎_elim
       (λ has.
@@ -136,9 +136,9 @@ module _ (k : ℕ) (IsIndependent : List Bool → Type 0) (rank : List Bool → 
       omega (arith, m, z, sj, one, less))
       (λ out.
       let w : IsWithin d sb = λ i h. ⊎_elim
-              (λ (same : i ≡ b). rw same (set_here s b (omega (arith, ks, lb))))
-              (λ old. ⊎_elim (λ (same : i ≡ a). absurd (false≢true (sym out ∙ (let hj = rw same at h in hj)))) (λ older. set_has s b i older) (has_set s a i old))
-              (has_set sa b i (hd.within i h)) in
+      (λ (same : i ≡ b). rw same (set_here s b (omega (arith, ks, lb))))
+      (λ old. ⊎_elim (λ (same : i ≡ a). absurd (false≢true (sym out ∙ (let hj = rw same at h in hj)))) (λ older. set_has s b i older) (has_set s a i old))
+      (has_set sa b i (hd.within i h)) in
       let m = rank-most d sb kd kb w hd.independent in
       let f = hd.full in
       omega (arith, m, f, up))

@@ -28,7 +28,7 @@ impl Ends {
     /// # Errors
     ///
     /// `Memory` where there is none.
-    pub fn from_slice(alloc: Global, ends: &[(u32, u32)]) -> Result<Ends, Memory>
+    pub(crate) fn from_slice(alloc: Global, ends: &[(u32, u32)]) -> Result<Ends, Memory>
         ensures { IfOk result (λ r. r ≡ edges_of ends.now) }
     {
         let items = Vec::from_slice(alloc, ends)?;

@@ -27,7 +27,7 @@ loop-e-preserved c =
     let ks : length s ≡ length (edges_of ends) = c.requires ∙ sym (length-edges ends) in
     let lt : e < length (edges_of ends) = omega (arith, c.loop-e-test.true, c.loop-e.auto.e-end, ks) in
     elim c.if-contains.branch [
-      then-contains w ↦
+      | then-contains w ↦
           let has = sym c.contains.ensures ∙ w.if-contains.true in
           let are : w.deref_mut.result.now ≡ labels_of (edges_of ends) s e = w.deref_mut.ensures.value ∙ inv.labels in
           let t = w.t-is ∙ (w.take.ensures.taken ∙ taken-next (edges_of ends) s e lt w.deref_mut.result.now are c.loop-e.t inv.taken has) in
