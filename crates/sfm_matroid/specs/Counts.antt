@@ -1,6 +1,8 @@
 -- How many numbers below a bound pass a test.
-use Rattle.std.proofs.Common.{◌≡◌, ℕ, zero, suc, ◌+◌, ◌<◌, ◌≤◌, Bool, true, false, cond, not, ◌&&◌, nat_eq, refl, sym, ap, ◌∙◌, arith, ⊎_elim}
-use Rattle.std.proofs.lemmas.Bool.{cases_Bool, cases_lt, eq-eqb, eqb-true}
+use Rattle.std.proofs.Common.{◌≡◌, ◌⊎◌, ℕ, zero, suc, ◌+◌, ◌<◌, ◌≤◌, Bool, true, false, cond, not, ◌&&◌, List, [], ◌∷◌, length, get_or, nat_eq, if◌then◌else◌, refl, sym, ap, ◌∙◌, arith, inl, inr, ⊎_elim}
+use Rattle.std.proofs.lemmas.Bool.{false≢true, cases_Bool, cases_lt, eq-eqb, eqb-true}
+use Rattle.sfm_spec.specs.Sets.{size}
+use Rattle.sfm_spec.proofs.Where.{size-cons}
 
 abbrev pub unit_of : Bool → ℕ
 unit_of b = cond b 1 0
@@ -49,3 +51,50 @@ count-into (suc n) m p q f g into = at (count-into n m p) (p n) refl where
       (lx, rw (ne, qx) refl, bx)) in
       let h = ap unit_of e in
       omega (arith, c, r, h)
+
+-- ---- a number that passes
+
+-- a number below n that passes, where there is one
+abbrev pub chosen : ℕ → (ℕ → Bool) → ℕ
+chosen zero p = 0
+chosen (suc n) p = if p n then n else chosen n p
+
+pub chosen_low : (n : ℕ) (p : ℕ → Bool) → chosen n p ≤ n
+chosen_low zero p = omega arith
+chosen_low (suc n) p = at (p n) (chosen_low n p) where
+  at : (b : Bool) → chosen n p ≤ n → (if b then n else chosen n p) ≤ suc n
+  at true r = omega arith
+  at false r = omega (arith, r)
+
+pub chosen_is : (n x : ℕ) (p : ℕ → Bool) → x < n → p x ≡ true → (chosen n p < n) × (p (chosen n p) ≡ true)
+chosen_is zero x p lt h = absurd (omega (arith, lt))
+chosen_is (suc n) x p lt h = ⊎_elim
+    (λ (has : p n ≡ true). let e : chosen (suc n) p ≡ n = rw has refl in (omega (arith, e), ap p e ∙ has))
+    (λ (out : p n ≡ false).
+    let e : chosen (suc n) p ≡ chosen n p = rw out refl in
+    let less : x < n = ⊎_elim (λ (l : x < n). l) (λ (ge : n ≤ x). let s : x ≡ n = omega arith in absurd (false≢true (sym out ∙ (ap p (sym s) ∙ h)))) (cases_lt x n) in
+    let r = chosen_is n x p less h in
+    (omega (arith, e, r.0), ap p e ∙ r.1))
+    (cases_Bool (p n))
+
+pub some_or_none : (n : ℕ) (p : ℕ → Bool) → ((x : ℕ) × (x < n) × (p x ≡ true)) ⊎ ((x : ℕ) → x < n → p x ≡ false)
+some_or_none zero p = inr (λ x lt. absurd (omega (arith, lt)))
+some_or_none (suc n) p = at (some_or_none n p) (cases_Bool (p n)) where
+  at : ((x : ℕ) × (x < n) × (p x ≡ true)) ⊎ ((x : ℕ) → x < n → p x ≡ false) → (p n ≡ true) ⊎ (p n ≡ false) → ((x : ℕ) × (x < suc n) × (p x ≡ true)) ⊎ ((x : ℕ) → x < suc n → p x ≡ false)
+  at r (inl has) = inl (n, omega arith, has)
+  at (inl (x, lt, has)) (inr out) = inl (x, omega arith, has)
+  at (inr none) (inr out) = inr (λ x lt. ⊎_elim (λ (l : x < n). none x l) (λ (ge : n ≤ x). let s : x ≡ n = omega arith in ap p s ∙ out) (cases_lt x n))
+
+-- ---- counts and sizes
+
+count-front : (n : ℕ) (p : ℕ → Bool) → count_below (suc n) p ≡ unit_of (p 0) + count_below n (λ x. p (suc x))
+count-front zero p = refl
+count-front (suc n) p = let r : count_below (suc n) p ≡ unit_of (p 0) + count_below n (λ x. p (suc x)) = count-front n p in omega (arith, r)
+
+pub size-count : (s : List Bool) → size s ≡ count_below (length s) (λ e. get_or s e false)
+size-count [] = refl
+size-count (b ∷ s) =
+    let c = size-cons b s in
+    let r = size-count s in
+    let f = count-front (length s) (λ e. get_or (b ∷ s) e false) in
+    omega (arith, c, r, f)

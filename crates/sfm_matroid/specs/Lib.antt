@@ -8,3 +8,4 @@ pub mod Growing
 pub mod Forests
 pub mod Ends
 pub mod GraphicLaws
+pub mod Matchings
