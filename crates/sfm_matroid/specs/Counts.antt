@@ -52,6 +52,16 @@ count-into (suc n) m p q f g into = at (count-into n m p) (p n) refl where
       let h = ap unit_of e in
       omega (arith, c, r, h)
 
+pub count-most : (n : ℕ) (p q : ℕ → Bool) → ((x : ℕ) → x < n → p x ≡ true → q x ≡ true) → count_below n p ≤ count_below n q
+count-most n p q more = count-into n n p q (λ x. x) (λ x. x) (λ x lt h. (lt, more x lt h, refl))
+
+pub count-not : (n : ℕ) (p : ℕ → Bool) → count_below n p + count_below n (λ x. not (p x)) ≡ n
+count-not zero p = refl
+count-not (suc n) p = at (p n) (count-not n p) where
+  at : (b : Bool) → count_below n p + count_below n (λ x. not (p x)) ≡ n → unit_of b + count_below n p + (unit_of (not b) + count_below n (λ x. not (p x))) ≡ suc n
+  at true r = omega (arith, r)
+  at false r = omega (arith, r)
+
 -- ---- a number that passes
 
 -- a number below n that passes, where there is one

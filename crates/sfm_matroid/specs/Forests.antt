@@ -8,7 +8,7 @@ use Rattle.sfm_spec.proofs.Sets.{same_sets}
 use Rattle.sfm_matroid.specs.Members.{has_place, nothing, has_or_out, set_has, set_here, set_within}
 use Rattle.sfm_matroid.specs.Counts.{count-into, eqb_apart}
 use Rattle.sfm_matroid.specs.Matroids.{IsMatroid, AreRanks}
-use Rattle.sfm_matroid.specs.Runs.{edge_at, label, takes, taken, above_ends, label-moved, label-kept, label-idle, label-twice, label-joins, label-blind, label_below, taken-places, taken_within, taken_under, taken-new, taken-roots}
+use Rattle.sfm_matroid.specs.Runs.{edge_at, label, takes, taken, above_ends, ends_below, label-moved, label-kept, label-idle, label-twice, label-joins, label-blind, label_below, taken-places, taken_within, taken_under, taken-new, taken-roots}
 use Rattle.sfm_matroid.specs.Trails.{IsTrail, IsBlind, closed_from, with_edge, never_on, joined, forest_more}
 use Rattle.sfm_matroid.specs.Growing.{IsGrowth, grown-rank}
 
@@ -110,11 +110,12 @@ module _ (edges : List Edge) (s : List Bool) (ks : length s ≡ length edges) wh
 pub fewer : (edges : List Edge) (s t : List Bool) → length s ≡ length edges → length t ≡ length edges → IsForest edges t → IsBlind edges t (label edges s (length edges)) → size t ≤ size (taken edges s (length edges))
 fewer edges s t ks kt forest blind =
     let k = length edges in
-    let a = taken-roots edges s ks k (omega arith) in
-    let b = taken-roots edges t kt k (omega arith) in
+    let m = above_ends edges in
+    let a = taken-roots edges s ks m (ends_below edges) k (omega arith) in
+    let b = taken-roots edges t kt m (ends_below edges) k (omega arith) in
     let all = ap size (taken-all edges t kt forest) in
-    let c = count-into (above_ends edges) (above_ends edges) (λ x. nat_eq (label edges s k x) x) (λ x. nat_eq (label edges t k x) x) (label edges t k) (label edges s k) (λ x lt h. (
-      label_below edges t kt k x (omega arith) lt,
+    let c = count-into m m (λ x. nat_eq (label edges s k x) x) (λ x. nat_eq (label edges t k x) x) (label edges t k) (label edges s k) (λ x lt h. (
+      label_below edges t kt m (ends_below edges) k x (omega arith) lt,
       eq-eqb _ _ (label-twice edges t k x),
       label-blind edges t k (label edges s k) (λ e le has. blind e has) x ∙ eqb-true _ _ h,
     )) in

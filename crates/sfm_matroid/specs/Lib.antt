@@ -9,3 +9,4 @@ pub mod Forests
 pub mod Ends
 pub mod GraphicLaws
 pub mod Matchings
+pub mod Cuts

@@ -1,12 +1,12 @@
 -- The sets whose members have distinct slots of their own entries are the independent sets of a matroid.
 -- Textbook: Schrijver, Combinatorial Optimization, section 39 (transversal matroids).
-use Rattle.std.proofs.Common.{◌≡◌, ◌≢◌, ◌⊎◌, ℕ, zero, suc, ◌+◌, ◌<◌, ◌≤◌, Bool, true, false, not, ◌&&◌, List, [], ◌∷◌, length, get_or, set, nat_eq, if◌then◌else◌, refl, sym, ap, ◌∙◌, arith, inl, inr, ⊎_elim}
+use Rattle.std.proofs.Common.{◌≡◌, ◌≢◌, ◌⊎◌, ℕ, zero, suc, ◌<◌, ◌≤◌, Bool, true, false, not, ◌&&◌, List, [], ◌∷◌, length, get_or, set, nat_eq, if◌then◌else◌, refl, sym, ap, ◌∙◌, arith, inl, inr, ⊎_elim}
 use Rattle.std.specs.List.{Contains}
-use Rattle.std.proofs.lemmas.Bool.{false≢true, cases_eq, cases_Bool, cases_lt, eq-eqb, eqb-true, and_parts, and_from}
-use Rattle.sfm_spec.specs.Sets.{Has, IsWithin, empty_set, size}
+use Rattle.std.proofs.lemmas.Bool.{false≢true, cases_eq, cases_Bool, eq-eqb, eqb-true, and_parts, and_from}
+use Rattle.sfm_spec.specs.Sets.{Has, IsWithin, size}
 use Rattle.sfm_spec.specs.Kinds.{IsMatching, IsMatchable}
 use Rattle.sfm_matroid.specs.Members.{has_place, nothing, has_set, set_has}
-use Rattle.sfm_matroid.specs.Counts.{count_below, eqb_apart, count-same, count-without, count-into, chosen, chosen_low, chosen_is, some_or_none, size-count}
+use Rattle.sfm_matroid.specs.Counts.{count_below, eqb_apart, count-same, count-without, count-into, chosen, chosen_is, some_or_none, size-count}
 use Rattle.sfm_matroid.specs.Matroids.{IsMatroid}
 
 -- the members of t have slots of their own entries by f, all distinct
@@ -91,11 +91,14 @@ module _ (k : ℕ) (entries : List (List ℕ)) (s t : List Bool) (ks : length s 
     at : ((e : ℕ) × (e < k) × ((get_or t e false && not (takes_slot f (g e) (chosen k (takes_slot f (g e))))) ≡ true)) ⊎ ((e : ℕ) → e < k → (get_or t e false && not (takes_slot f (g e) (chosen k (takes_slot f (g e))))) ≡ false)
         → (e : ℕ) × Has t e × ((i : ℕ) → Has s i → f i ≢ g e)
     at (inl (e, lt, is)) =
-        let (has, free) = and_parts (get_or t e false) (not (takes_slot f (g e) (chosen k (takes_slot f (g e))))) is in
-        (e, has, λ i hi same.
-        let li = has_place s i hi in
-        let c = chosen_is k i (takes_slot f (g e)) (omega (arith, li, ks)) (and_from (get_or s i false) (nat_eq (f i) (g e)) hi (eq-eqb (f i) (g e) same)) in
-        false≢true (let n = rw c.1 at free in n))
+        let (has, free) = and_parts (get_or t e false) (not (takes_slot f (g e) (chosen k (takes_slot f (g e))))) is in (
+          e,
+          has,
+          λ i hi same.
+              let li = has_place s i hi in
+              let c = chosen_is k i (takes_slot f (g e)) (omega (arith, li, ks)) (and_from (get_or s i false) (nat_eq (f i) (g e)) hi (eq-eqb (f i) (g e) same)) in
+              false≢true (let n = rw c.1 at free in n),
+        )
     at (inr none) =
         let a = size-count s in
         let b = size-count t in
@@ -142,7 +145,9 @@ module _ (k : ℕ) (entries : List (List ℕ)) (s t : List Bool) (ks : length s 
             none : (b : Bool) → (b && false) ≡ false
             none true = refl
             none false = refl
-      here i (inr ne) = rw (eqb_apart i e ne) (ap (λ l. (get_or s i false && get_or t i false) && not (nat_eq l (g i))) (redirected-other f e (g e) i ne))
+      here i (inr ne) =
+          let left = ap (λ l. (get_or s i false && get_or t i false) && not (nat_eq l (g i))) (redirected-other f e (g e) i ne) in
+          left ∙ ap (λ b. not b && differs f i) (sym (eqb_apart i e ne))
 
       fewer : suc (count_below k (differs (redirected f e (g e)))) ≡ count_below k (differs f)
       fewer =

@@ -115,26 +115,21 @@ module _ (edges : List Edge) (s : List Bool) where
 
 -- ---- vertices
 
+-- each end of each edge is one of m vertices
+abbrev pub EndsBelow : List Edge → ℕ → Type 0
+EndsBelow edges m = (e : ℕ) → e < length edges → ((edge_at edges e).tail < m) × ((edge_at edges e).head < m)
+
 -- more than each end of each edge
 abbrev pub above_ends : List Edge → ℕ
 above_ends [] = 0
 above_ends (edge ∷ edges) = suc (edge.tail + edge.head + above_ends edges)
 
-pub ends_below : (edges : List Edge) (e : ℕ) → e < length edges → ((edge_at edges e).tail < above_ends edges) × ((edge_at edges e).head < above_ends edges)
+pub ends_below : (edges : List Edge) → EndsBelow edges (above_ends edges)
 ends_below [] e lt = absurd (omega arith)
 ends_below (edge ∷ edges) zero lt = (omega arith, omega arith)
 ends_below (edge ∷ edges) (suc e) lt = let r = ends_below edges e (omega arith) in (omega (arith, r.0), omega (arith, r.1))
 
 module _ (edges : List Edge) (s : List Bool) (ks : length s ≡ length edges) where
-  pub label_below : (n x : ℕ) → n ≤ length edges → x < above_ends edges → label edges s n x < above_ends edges
-  label_below zero x le lt = lt
-  label_below (suc n) x le lt = at (get_or s n false) (nat_eq (label edges s n x) (label edges s n (edge_at edges n).tail)) (label_below n x (omega arith) lt) (label_below n (edge_at edges n).head (omega arith) (ends_below edges n (omega arith)).1) where
-    at : (b c : Bool) → label edges s n x < above_ends edges → label edges s n (edge_at edges n).head < above_ends edges
-        → (if b then (if c then label edges s n (edge_at edges n).head else label edges s n x) else label edges s n x) < above_ends edges
-    at true true old new = new
-    at true false old new = old
-    at false c old new = old
-
   -- ---- what is taken
 
   pub taken-places : (n : ℕ) → length (taken edges s n) ≡ length edges
@@ -161,16 +156,26 @@ module _ (edges : List Edge) (s : List Bool) (ks : length s ≡ length edges) wh
   pub taken-new : (n : ℕ) → get_or (taken edges s n) n false ≡ false
   taken-new n = has_or_out (taken edges s n) n (λ h. let u = taken_under n n h in omega (arith, u))
 
+module _ (edges : List Edge) (s : List Bool) (ks : length s ≡ length edges) (m : ℕ) (below : EndsBelow edges m) where
+  pub label_below : (n x : ℕ) → n ≤ length edges → x < m → label edges s n x < m
+  label_below zero x le lt = lt
+  label_below (suc n) x le lt = at (get_or s n false) (nat_eq (label edges s n x) (label edges s n (edge_at edges n).tail)) (label_below n x (omega arith) lt) (label_below n (edge_at edges n).head (omega arith) (below n (omega arith)).1) where
+    at : (b c : Bool) → label edges s n x < m → label edges s n (edge_at edges n).head < m
+        → (if b then (if c then label edges s n (edge_at edges n).head else label edges s n x) else label edges s n x) < m
+    at true true old new = new
+    at true false old new = old
+    at false c old new = old
+
   -- vertices that are their own labels
   abbrev pub roots : ℕ → ℕ
-  roots n = count_below (above_ends edges) (λ x. nat_eq (label edges s n x) x)
+  roots n = count_below m (λ x. nat_eq (label edges s n x) x)
 
   -- each edge taken makes one root fewer
-  pub taken-roots : (n : ℕ) → n ≤ length edges → size (taken edges s n) + roots n ≡ above_ends edges
-  taken-roots zero le = let z = size-empty (length edges) in let a = all (above_ends edges) in omega (arith, z, a) where
-    all : (m : ℕ) → count_below m (λ x. nat_eq x x) ≡ m
-    all zero = refl
-    all (suc m) = let r = all m in let h : unit_of (nat_eq m m) ≡ 1 = rw (eq-eqb m m refl) refl in omega (arith, r, h)
+  pub taken-roots : (n : ℕ) → n ≤ length edges → size (taken edges s n) + roots n ≡ m
+  taken-roots zero le = let z = size-empty (length edges) in let a = count-all m in omega (arith, z, a) where
+    count-all : (n : ℕ) → count_below n (λ x. nat_eq x x) ≡ n
+    count-all zero = refl
+    count-all (suc n) = let r = count-all n in let h : unit_of (nat_eq n n) ≡ 1 = rw (eq-eqb n n refl) refl in omega (arith, r, h)
   taken-roots (suc n) le = at (cases_Bool (get_or s n false)) (cases_eq (label edges s n (edge_at edges n).tail) (label edges s n (edge_at edges n).head)) (taken-roots n (omega arith)) where
     b : ℕ
     b = label edges s n (edge_at edges n).tail
@@ -178,22 +183,22 @@ module _ (edges : List Edge) (s : List Bool) (ks : length s ≡ length edges) wh
     a : ℕ
     a = label edges s n (edge_at edges n).head
 
-    unchanged : takes edges s n ≡ false → size (taken edges s n) + roots n ≡ above_ends edges → size (taken edges s (suc n)) + roots (suc n) ≡ above_ends edges
+    unchanged : takes edges s n ≡ false → size (taken edges s n) + roots n ≡ m → size (taken edges s (suc n)) + roots (suc n) ≡ m
     unchanged t r =
-        let c = count-same (above_ends edges) (λ x. nat_eq (label edges s (suc n) x) x) (λ x. nat_eq (label edges s n x) x) (λ x lt. ap (λ l. nat_eq l x) (label-idle edges s n x t)) in
+        let c = count-same m (λ x. nat_eq (label edges s (suc n) x) x) (λ x. nat_eq (label edges s n x) x) (λ x lt. ap (λ l. nat_eq l x) (label-idle edges s n x t)) in
         let z : size (taken edges s (suc n)) ≡ size (taken edges s n) = rw t refl in
         omega (arith, c, z, r)
 
     at : Has s n ⊎ (get_or s n false ≡ false) → (label edges s n (edge_at edges n).tail ≡ label edges s n (edge_at edges n).head) ⊎ (label edges s n (edge_at edges n).tail ≢ label edges s n (edge_at edges n).head)
-        → size (taken edges s n) + roots n ≡ above_ends edges → size (taken edges s (suc n)) + roots (suc n) ≡ above_ends edges
+        → size (taken edges s n) + roots n ≡ m → size (taken edges s (suc n)) + roots (suc n) ≡ m
     at (inr out) same r = unchanged (rw out refl) r
     at (inl has) (inl same) r = unchanged (rw (has, eq-eqb _ _ same) refl) r
     at (inl has) (inr apart) r =
         let t : takes edges s n ≡ true = rw (has, eqb_apart _ _ apart) refl in
         let z : size (taken edges s (suc n)) ≡ size (set (taken edges s n) n true) = rw t refl in
-        let one = size-in (taken edges s n) n (let p = taken-places n in omega (arith, p, le)) (taken-new n) in
-        let c = count-same (above_ends edges) (λ x. nat_eq (label edges s (suc n) x) x) (λ x. not (nat_eq x (label edges s n (edge_at edges n).tail)) && nat_eq (label edges s n x) x) (λ x lt. root x (cases_eq x (label edges s n (edge_at edges n).tail)) (cases_eq (label edges s n x) (label edges s n (edge_at edges n).tail))) in
-        let w = count-without (above_ends edges) (λ x. nat_eq (label edges s n x) x) (label edges s n (edge_at edges n).tail) (label_below n (edge_at edges n).tail (omega arith) (ends_below edges n (omega arith)).0) (eq-eqb _ _ (label-twice edges s n (edge_at edges n).tail)) in
+        let one = size-in (taken edges s n) n (let p = taken-places edges s ks n in omega (arith, p, le)) (taken-new edges s ks n) in
+        let c = count-same m (λ x. nat_eq (label edges s (suc n) x) x) (λ x. not (nat_eq x (label edges s n (edge_at edges n).tail)) && nat_eq (label edges s n x) x) (λ x lt. root x (cases_eq x (label edges s n (edge_at edges n).tail)) (cases_eq (label edges s n x) (label edges s n (edge_at edges n).tail))) in
+        let w = count-without m (λ x. nat_eq (label edges s n x) x) (label edges s n (edge_at edges n).tail) (label_below n (edge_at edges n).tail (omega arith) (below n (omega arith)).0) (eq-eqb _ _ (label-twice edges s n (edge_at edges n).tail)) in
         omega (arith, z, one, c, w, r) where
           root : (x : ℕ) → (x ≡ label edges s n (edge_at edges n).tail) ⊎ (x ≢ label edges s n (edge_at edges n).tail) → (label edges s n x ≡ label edges s n (edge_at edges n).tail) ⊎ (label edges s n x ≢ label edges s n (edge_at edges n).tail)
               → nat_eq (label edges s (suc n) x) x ≡ (not (nat_eq x (label edges s n (edge_at edges n).tail)) && nat_eq (label edges s n x) x)
