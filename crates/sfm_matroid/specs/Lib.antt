@@ -10,3 +10,4 @@ pub mod Ends
 pub mod GraphicLaws
 pub mod Matchings
 pub mod Cuts
+pub mod Ore

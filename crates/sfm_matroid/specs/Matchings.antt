@@ -41,13 +41,13 @@ matchable_from entries t f h = (table (length t) f, record { own = own; distinct
 -- ---- one place more
 
 -- f, with the slot s for e
-abbrev redirected : (ℕ → ℕ) → ℕ → ℕ → ℕ → ℕ
+abbrev pub redirected : (ℕ → ℕ) → ℕ → ℕ → ℕ → ℕ
 redirected f e s i = if nat_eq i e then s else f i
 
-redirected-here : (f : ℕ → ℕ) (e s i : ℕ) → i ≡ e → redirected f e s i ≡ s
+pub redirected-here : (f : ℕ → ℕ) (e s i : ℕ) → i ≡ e → redirected f e s i ≡ s
 redirected-here f e s i same = rw (eq-eqb i e same) refl
 
-redirected-other : (f : ℕ → ℕ) (e s i : ℕ) → i ≢ e → redirected f e s i ≡ f i
+pub redirected-other : (f : ℕ → ℕ) (e s i : ℕ) → i ≢ e → redirected f e s i ≡ f i
 redirected-other f e s i ne = rw (eqb_apart i e ne) refl
 
 -- a slot of the entry of e that no other member has
