@@ -62,6 +62,15 @@ count-not (suc n) p = at (p n) (count-not n p) where
   at true r = omega (arith, r)
   at false r = omega (arith, r)
 
+pub count-split : (n : ℕ) (p q : ℕ → Bool) → count_below n p ≡ count_below n (λ x. p x && q x) + count_below n (λ x. p x && not (q x))
+count-split zero p q = refl
+count-split (suc n) p q = at (p n) (q n) (count-split n p q) where
+  at : (a b : Bool) → count_below n p ≡ count_below n (λ x. p x && q x) + count_below n (λ x. p x && not (q x))
+      → unit_of a + count_below n p ≡ unit_of (a && b) + count_below n (λ x. p x && q x) + (unit_of (a && not b) + count_below n (λ x. p x && not (q x)))
+  at true true r = omega (arith, r)
+  at true false r = omega (arith, r)
+  at false b r = omega (arith, r)
+
 -- ---- a number that passes
 
 -- a number below n that passes, where there is one

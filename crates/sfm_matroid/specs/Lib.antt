@@ -11,3 +11,4 @@ pub mod GraphicLaws
 pub mod Matchings
 pub mod Cuts
 pub mod Ore
+pub mod Transversals

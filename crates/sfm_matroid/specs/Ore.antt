@@ -5,16 +5,17 @@ use Rattle.std.proofs.Common.{◌≡◌, ◌≢◌, ◌⊎◌, ℕ, zero, suc, �
 use Rattle.std.specs.List.{Contains}
 use Rattle.std.proofs.lemmas.Bool.{false≢true, cases_eq, cases_Bool, eq-eqb, eqb-true, and_parts, and_from, or_cases, or_left, or_right, not-true}
 use Rattle.std.proofs.lemmas.Int.{ints}
+use Rattle.std.proofs.lemmas.List.{length-replicate}
 use Rattle.std.proofs.Math.IntN.{*ℤ-zero}
-use Rattle.sfm_spec.specs.Sets.{Has, IsWithin, size, sum_over}
-use Rattle.sfm_spec.specs.Kinds.{IsMatchable}
+use Rattle.sfm_spec.specs.Sets.{empty_set, Has, IsWithin, size, sum_over}
+use Rattle.sfm_spec.specs.Kinds.{IsMatching, IsMatchable}
 use Rattle.sfm_spec.proofs.Scaled.{times-mono, times-add}
 use Rattle.sfm_spec.proofs.Sizes.{size_below_length, size_grows, within_tail}
 use Rattle.sfm_spec.proofs.Where.{size-cons}
-use Rattle.sfm_matroid.specs.Members.{has_place, has_or_out, size-in, has_set, set_has}
-use Rattle.sfm_matroid.specs.Counts.{unit_of, count_below, count-into, chosen, chosen_is, some_or_none, size-count}
+use Rattle.sfm_matroid.specs.Members.{nothing, set_within, has_place, has_or_out, size-in, has_set, set_has}
+use Rattle.sfm_matroid.specs.Counts.{count-most, count-split, unit_of, count_below, count-into, chosen, chosen_is, some_or_none, size-count}
 use Rattle.sfm_matroid.specs.Matroids.{AreRanks}
-use Rattle.sfm_matroid.specs.Matchings.{IsMatchedBy, matched_by, matchable_from, redirected, redirected-here, redirected-other}
+use Rattle.sfm_matroid.specs.Matchings.{matching-matroid, IsMatchedBy, matched_by, matchable_from, redirected, redirected-here, redirected-other}
 
 -- ---- the slots of a set
 
@@ -283,6 +284,99 @@ module _ (k m : ℕ) (entries : List (List ℕ)) (s i : List Bool) (f : ℕ → 
   pub grows_or_full : Grows ⊎ ((r : List Bool) × IsFull r)
   grows_or_full = search k (minus s i) first_reached (omega arith)
 
+  -- what of s is not in r, and the slots of r, are together no more than i
+  pub full_few : (r : List Bool) → IsFull r → size (minus s r) + slots_count entries m r ≤ size i
+  full_few r full =
+      let a = size-count i in
+      let b = size-count (minus s r) in
+      let p = ap (λ n. count_below n (λ e. get_or i e false)) ki in
+      let q = ap (λ n. count_below n (λ e. get_or (minus s r) e false)) (length-minus s r ∙ ks) in
+      let split = count-split k (λ e. get_or i e false) (λ e. get_or r e false) in
+      let few = full.few in
+      let c = count-most k (λ e. get_or (minus s r) e false) (λ e. get_or i e false && not (get_or r e false)) (λ e lt has.
+      let (hs, gone) = and_parts (get_or s e false) (not (get_or r e false)) (sym (minus-at s r e) ∙ has) in
+      let out = not-true (get_or r e false) gone in
+      and_from (get_or i e false) (not (get_or r e false)) (⊎_elim (λ hi. hi) (λ oi. absurd (false≢true (sym out ∙ full.holds e hs oi))) (cases_Bool (get_or i e false))) gone) in
+      omega (arith, a, b, p, q, split, few, c)
+
+-- ---- a greatest part with slots of its own
+
+-- each slot is one of m
+abbrev pub AreSlotsBelow : List (List ℕ) → ℕ → Type 0
+AreSlotsBelow entries m = (e v : ℕ) → Contains (get_or entries e []) v → v < m
+
+-- a part of s with slots of its own, as large as what of s is not in another part, and the slots of that
+pub record IsGreatest (entries : List (List ℕ)) (m : ℕ) (s b : List Bool) : Type 0 where
+  pub places : length b ≡ length s
+  pub inside : IsWithin b s
+  pub matchable : IsMatchable entries b
+  pub part : List Bool
+  pub part_places : length part ≡ length s
+  pub part_inside : IsWithin part s
+  pub few : size (minus s part) + slots_count entries m part ≤ size b
+
+module _ (k m : ℕ) (entries : List (List ℕ)) where
+  -- a part cannot grow: it is greatest
+  stays : (s i : List Bool) (ks : length s ≡ k) (ki : length i ≡ k) (within : IsWithin i s) (slots : List ℕ) (matched : IsMatching entries i slots) (r : List Bool)
+      → IsFull k m entries s i (λ e. get_or slots e 0) ks ki within (matched_by entries i slots matched) r → (b : List Bool) × IsGreatest entries m s b
+  stays s i ks ki within slots matched r full = (
+    i,
+    record {
+      places = ki ∙ sym ks;
+      inside = within;
+      matchable = (slots, matched);
+      part = r;
+      part_places = full.places ∙ sym ks;
+      part_inside = full.inside;
+      few = full_few k m entries s i (λ e. get_or slots e 0) ks ki within (matched_by entries i slots matched) r full;
+    },
+  )
+
+  greatest_from : (fuel : ℕ) (s i : List Bool) → length s ≡ k → length i ≡ k → IsWithin i s → IsMatchable entries i → k ≤ size i + fuel → (b : List Bool) × IsGreatest entries m s b
+  greatest_from zero s i ks ki within (slots, matched) few = ⊎_elim
+      (λ (u, hu, out, more).
+      let lu = has_place s u hu in
+      let z = size-in i u (omega (arith, lu, ks, ki)) out in
+      let b = size_below_length (set i u true) in
+      let l = length-set i u true in
+      absurd (omega (arith, z, b, l, ki, few)))
+      (λ (r, full). stays s i ks ki within slots matched r full)
+      (grows_or_full k m entries s i (λ e. get_or slots e 0) ks ki within (matched_by entries i slots matched))
+  greatest_from (suc fuel) s i ks ki within (slots, matched) few = ⊎_elim
+      (λ (u, hu, out, more).
+      let lu = has_place s u hu in
+      let z = size-in i u (omega (arith, lu, ks, ki)) out in
+      greatest_from fuel s (set i u true) ks (length-set i u true ∙ ki) (set_within i s u within hu) more (omega (arith, z, few)))
+      (λ (r, full). stays s i ks ki within slots matched r full)
+      (grows_or_full k m entries s i (λ e. get_or slots e 0) ks ki within (matched_by entries i slots matched))
+
+  pub greatest : (s : List Bool) → length s ≡ k → (b : List Bool) × IsGreatest entries m s b
+  greatest s ks = greatest_from k s (empty_set k) ks (length-replicate k false) (λ e h. absurd (nothing k e h)) (matching-matroid k entries).empty (omega arith)
+
+  -- who has slots of its own has as many
+  pub matched_slots : AreSlotsBelow entries m → (s i : List Bool) → IsWithin i s → IsMatchable entries i → size i ≤ slots_count entries m s
+  matched_slots below s i within (slots, mi) =
+      let a = size-count i in
+      let c = count-into (length i) m (λ e. get_or i e false) (listed entries s) (λ e. get_or slots e 0) (λ v. chosen (length i) (λ e. get_or i e false && nat_eq (get_or slots e 0) v)) (λ e lt has.
+      let v = get_or slots e 0 in
+      let hit = chosen_is (length i) e (λ d. get_or i d false && nat_eq (get_or slots d 0) v) lt (and_from (get_or i e false) (nat_eq v v) has (eq-eqb v v refl)) in
+      let d = chosen (length i) (λ d. get_or i d false && nat_eq (get_or slots d 0) v) in
+      let (hd, sd) = and_parts (get_or i d false) (nat_eq (get_or slots d 0) v) hit.1 in
+      (below e v (mi.own e has), listed_from entries s e v (within e has) (mi.own e has), mi.distinct d e hd has (eqb-true (get_or slots d 0) v sd))) in
+      omega (arith, a, c)
+
+  -- a set of which no part has fewer slots than members has slots of its own
+  pub matchable_by_slots : (t : List Bool) → length t ≡ k → ((r : List Bool) → length r ≡ k → IsWithin r t → size r ≤ slots_count entries m r) → IsMatchable entries t
+  matchable_by_slots t kt enough =
+      let (b, h) = greatest t kt in
+      let a = size-minus t h.part (sym h.part_places) h.part_inside in
+      let c = enough h.part (h.part_places ∙ kt) h.part_inside in
+      let few = h.few in
+      ⊎_elim
+      (λ (same : b ≡ t). let P : List Bool → Type 0 = IsMatchable entries in subst P same h.matchable)
+      (λ (less : size b < size t). absurd (omega (arith, a, c, few, less)))
+      (size_grows b t h.places h.inside)
+
 -- ---- the rank by slots
 
 -- a part of s of which the others and the slots together are no more than the rank of s
@@ -294,65 +388,16 @@ pub record IsTightPart (entries : List (List ℕ)) (m : ℕ) (rank : List Bool �
 module _ (k m : ℕ) (entries : List (List ℕ)) (rank : List Bool → ℕ) (ranks : AreRanks k (IsMatchable entries) rank) where
   pub tight_part : (s : List Bool) → length s ≡ k → (r : List Bool) × IsTightPart entries m rank s r
   tight_part s ks =
-      let (i, ki, wi, (slots, mi), si) = (ranks s ks).reached in
-      let f : ℕ → ℕ = λ e. get_or slots e 0 in
-      ⊎_elim
-      (λ (u, hu, out, more).
-      let lu = has_place s u hu in
-      let z = size-in i u (omega (arith, lu, ki)) out in
-      let g = (ranks s ks).greatest (set i u true) (length-set i u true ∙ ki) (λ j hj. ⊎_elim (λ (same : j ≡ u). rw same hu) (λ old. wi j old) (has_set i u j hj)) more in
-      absurd (omega (arith, z, g, si)))
-      (λ (r, full).
-      let a = size-count i in
-      let b = size-count (minus s r) in
-      let p = ap (λ n. count_below n (λ e. get_or i e false)) (ki ∙ ks) in
-      let q = ap (λ n. count_below n (λ e. get_or (minus s r) e false)) (length-minus s r ∙ ks) in
-      let few = full.few in
-      let c = apart (λ e. get_or i e false) (λ e. get_or r e false) (λ e. get_or (minus s r) e false) k (λ e lt has.
-      let (hs, out) = and_parts (get_or s e false) (not (get_or r e false)) (sym (minus-at s r e) ∙ has) in
-      let gone = not-true (get_or r e false) out in
-      (⊎_elim (λ hi. hi) (λ oi. absurd (false≢true (sym gone ∙ full.holds e hs oi))) (cases_Bool (get_or i e false)), gone)) in
-      (r, record { places = full.places ∙ sym ks; inside = full.inside; few = omega (arith, a, b, p, q, few, c, si) }))
-      (grows_or_full k m entries s i f ks (ki ∙ ks) wi (matched_by entries i slots mi)) where
-        apart : (p q t : ℕ → Bool) (n : ℕ) → ((e : ℕ) → e < n → t e ≡ true → (p e ≡ true) × (q e ≡ false)) → count_below n t + count_below n (λ e. p e && q e) ≤ count_below n p
-        apart p q t zero h = omega arith
-        apart p q t (suc n) h = at (p n) (q n) (t n) (h n (omega arith)) (apart p q t n (λ e lt. h e (omega arith))) where
-          at : (a b c : Bool) → (c ≡ true → (a ≡ true) × (b ≡ false)) → count_below n t + count_below n (λ e. p e && q e) ≤ count_below n p → unit_of c + count_below n t + (unit_of (a && b) + count_below n (λ e. p e && q e)) ≤ unit_of a + count_below n p
-          at true true true w r = absurd (false≢true (sym (w refl).1))
-          at true true false w r = omega (arith, r)
-          at true false true w r = omega (arith, r)
-          at true false false w r = omega (arith, r)
-          at false b true w r = absurd (false≢true (w refl).0)
-          at false b false w r = omega (arith, r)
-
-  -- each slot is one of m
-  abbrev pub AreSlotsBelow : Type 0
-  AreSlotsBelow = (e v : ℕ) → Contains (get_or entries e []) v → v < m
-
-  pub rank_slots : AreSlotsBelow → (s : List Bool) → length s ≡ k → rank s ≤ slots_count entries m s
-  rank_slots below s ks =
-      let (i, ki, wi, (slots, mi), si) = (ranks s ks).reached in
-      let a = size-count i in
-      let c = count-into (length i) m (λ e. get_or i e false) (listed entries s) (λ e. get_or slots e 0) (λ v. chosen (length i) (λ e. get_or i e false && nat_eq (get_or slots e 0) v)) (λ e lt has.
-      let v = get_or slots e 0 in
-      let hit = chosen_is (length i) e (λ d. get_or i d false && nat_eq (get_or slots d 0) v) lt (and_from (get_or i e false) (nat_eq v v) has (eq-eqb v v refl)) in
-      let d = chosen (length i) (λ d. get_or i d false && nat_eq (get_or slots d 0) v) in
-      let (hd, sd) = and_parts (get_or i d false) (nat_eq (get_or slots d 0) v) hit.1 in
-      (below e v (mi.own e has), listed_from entries s e v (wi e has) (mi.own e has), mi.distinct d e hd has (eqb-true (get_or slots d 0) v sd))) in
-      omega (arith, a, c, si)
-
-  -- a set of which no part has fewer slots than members is independent
-  pub matchable_by_slots : (t : List Bool) → length t ≡ k → ((r : List Bool) → length r ≡ k → IsWithin r t → size r ≤ slots_count entries m r) → IsMatchable entries t
-  matchable_by_slots t kt enough =
-      let (r, h) = tight_part t kt in
-      let a = size-minus t r (sym h.places) h.inside in
-      let b = enough r (h.places ∙ kt) h.inside in
+      let (b, h) = greatest k m entries s ks in
+      let g = (ranks s ks).greatest b h.places h.inside h.matchable in
       let few = h.few in
-      let (i, ki, wi, mi, si) = (ranks t kt).reached in
-      ⊎_elim
-      (λ (same : i ≡ t). let P : List Bool → Type 0 = IsMatchable entries in subst P same mi)
-      (λ (less : size i < size t). absurd (omega (arith, a, b, few, si, less)))
-      (size_grows i t ki wi)
+      (h.part, record { places = h.part_places; inside = h.part_inside; few = omega (arith, few, g) })
+
+  pub rank_slots : AreSlotsBelow entries m → (s : List Bool) → length s ≡ k → rank s ≤ slots_count entries m s
+  rank_slots below s ks =
+      let (i, ki, wi, mi, si) = (ranks s ks).reached in
+      let c = matched_slots k m entries below s i wi mi in
+      omega (arith, c, si)
 
   -- ---- the cut form
 
@@ -386,7 +431,7 @@ module _ (k m : ℕ) (entries : List (List ℕ)) (rank : List Bool → ℕ) (ran
       let up = times-mono c (pos (size (minus s r)) +ℤ pos (slots_count entries m r)) (pos (rank s)) low (omega (arith, ints, few)) in
       omega (arith, ints, sum, a, b, add, up)
 
-  pub slots_from_rank : AreSlotsBelow → (c : ℤ) → pos 0 ≤ℤ c → (x : List ℤ) → ((s : List Bool) → length s ≡ k → sum_over s x ≤ℤ (c *ℤ pos (rank s))) → (s : List Bool) → length s ≡ k → sum_over s x ≤ℤ (c *ℤ pos (slots_count entries m s))
+  pub slots_from_rank : AreSlotsBelow entries m → (c : ℤ) → pos 0 ≤ℤ c → (x : List ℤ) → ((s : List Bool) → length s ≡ k → sum_over s x ≤ℤ (c *ℤ pos (rank s))) → (s : List Bool) → length s ≡ k → sum_over s x ≤ℤ (c *ℤ pos (slots_count entries m s))
   slots_from_rank below c low x within s ks =
       let h = within s ks in
       let r = rank_slots below s ks in
