@@ -1,3 +1,4 @@
+mod Bases
 mod Fits
 mod Kept
 mod Labels
