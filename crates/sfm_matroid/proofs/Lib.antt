@@ -1,4 +1,5 @@
 mod Bases
+mod Tests
 mod Fits
 mod Kept
 mod Labels
