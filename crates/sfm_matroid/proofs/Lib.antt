@@ -1,5 +1,5 @@
 mod Bases
-mod Tests
+mod MatroidTests
 mod Fits
 mod Kept
 mod Labels
