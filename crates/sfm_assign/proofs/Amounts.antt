@@ -54,18 +54,18 @@ tally-at n k (j ∷ js) (a ∷ y) lt =
     let r = tally-at n k js y lt in
     let len = length-tally n js y in
     ⊎_elim
-        (λ (e : k ≡ j).
-            let in_range : j < length (tally n js y) = omega (arith, len, e, lt) in
-            let s = get_or-set_same (tally n js y) j (amount_at (tally n js y) j +ℤ a) (pos 0) in_range in
-            let o = only-same j k a (sym e) in
-            let q = ap (λ i. amount_at (tally n js y) i) e in
-            let p = ap (λ i. amount_at (set (tally n js y) j (amount_at (tally n js y) j +ℤ a)) i) e in
-            omega (arith, ints, r, s, o, q, p))
-        (λ (ne : k ≡ j → ⊥).
-            let s = get_or-set_other (tally n js y) j k (amount_at (tally n js y) j +ℤ a) (pos 0) ne in
-            let o = only-other j k a (λ e. ne (sym e)) in
-            omega (arith, ints, r, s, o))
-        (cases_eq k j)
+    (λ (e : k ≡ j).
+    let in_range : j < length (tally n js y) = omega (arith, len, e, lt) in
+    let s = get_or-set_same (tally n js y) j (amount_at (tally n js y) j +ℤ a) (pos 0) in_range in
+    let o = only-same j k a (sym e) in
+    let q = ap (λ i. amount_at (tally n js y) i) e in
+    let p = ap (λ i. amount_at (set (tally n js y) j (amount_at (tally n js y) j +ℤ a)) i) e in
+    omega (arith, ints, r, s, o, q, p))
+    (λ (ne : k ≡ j → ⊥).
+    let s = get_or-set_other (tally n js y) j k (amount_at (tally n js y) j +ℤ a) (pos 0) ne in
+    let o = only-other j k a (λ e. ne (sym e)) in
+    omega (arith, ints, r, s, o))
+    (cases_eq k j)
 
 sum_over-nothing : (n : ℕ) (z : List Bool) → length z ≡ n → sum_over z (replicate n (pos 0)) ≡ pos 0
 sum_over-nothing zero [] h = refl

@@ -18,9 +18,9 @@ pub record HasSlots (whos slots : List ℕ) (s z : List Bool) : Type 0 where
 
 pub slots_of_cells : (m : ℕ) (lists : List (List ℕ)) (s : List Bool) → AreBelow m lists → HasSlots (owners 0 lists) (joined lists) s (slots_of m lists s)
 slots_of_cells m lists s below = record {
-    holds = λ e lt has. in_slots m 0 lists s e (label_at (owners 0 lists) e) lt (omega arith) has ((cells_of m lists below).exist e lt);
-    within = λ k has. let (e, i, lt, own, h, is) = of_slots m 0 lists s k has in let q : label_at (owners 0 lists) e ≡ i = omega (arith, own) in (e, lt, rw q h, is);
-  }
+  holds = λ e lt has. in_slots m 0 lists s e (label_at (owners 0 lists) e) lt (omega arith) has ((cells_of m lists below).exist e lt);
+  within = λ k has. let (e, i, lt, own, h, is) = of_slots m 0 lists s k has in let q : label_at (owners 0 lists) e ≡ i = omega (arith, own) in (e, lt, rw q h, is);
+}
 
 module _ (demands capacities : List ℤ) (whos slots : List ℕ) (y : List ℤ) (cells : AreCells (length demands) (length capacities) whos slots) (part : IsPart demands capacities whos slots y) (s z : List Bool) (ls : length s ≡ length demands) (lz : length z ≡ length capacities) where
   -- what the demands of a set get
@@ -38,11 +38,11 @@ module _ (demands capacities : List ℤ) (whos slots : List ℕ) (y : List ℤ) 
       let len = length-tally (length capacities) slots y in
       let c = sum_in-le s z whos slots y cells.same part.amounts h.holds in
       let d = sum_over-le z (tally (length capacities) slots y) capacities (lz ∙ sym len) (sym len) (λ k has.
-          let (e, lt, own, is) = h.within k has in
-          let x = cells.exist e lt in
-          let t = tally-at (length capacities) k slots y (omega (arith, x, is)) in
-          let w = part.within k (omega (arith, x, is)) in
-          omega (arith, ints, t, w)) in
+      let (e, lt, own, is) = h.within k has in
+      let x = cells.exist e lt in
+      let t = tally-at (length capacities) k slots y (omega (arith, x, is)) in
+      let w = part.within k (omega (arith, x, is)) in
+      omega (arith, ints, t, w)) in
       omega (arith, ints, a, b, c, d)
 
   -- and all of it, if the set is closed
@@ -53,13 +53,13 @@ module _ (demands capacities : List ℤ) (whos slots : List ℕ) (y : List ℤ) 
       let len = length-tally (length capacities) slots y in
       let c = sum_in-same s z whos slots y cells.same h.holds (λ f lf has out. let (e, le, own, is) = h.within (label_at slots f) has in closed.none e f le lf own (sym is) out) in
       let d = sum_over-le z capacities (tally (length capacities) slots y) lz len (λ k has.
-          let (e, lt, own, is) = h.within k has in
-          let x = cells.exist e lt in
-          let t = tally-at (length capacities) k slots y (omega (arith, x, is)) in
-          let w = closed.full e lt own in
-          let p = ap (λ i. amount_at capacities i) is in
-          let q = ap (λ i. sum_at i slots y) is in
-          omega (arith, ints, t, w, p, q)) in
+      let (e, lt, own, is) = h.within k has in
+      let x = cells.exist e lt in
+      let t = tally-at (length capacities) k slots y (omega (arith, x, is)) in
+      let w = closed.full e lt own in
+      let p = ap (λ i. amount_at capacities i) is in
+      let q = ap (λ i. sum_at i slots y) is in
+      omega (arith, ints, t, w, p, q)) in
       omega (arith, ints, a, b, c, d)
 
 has_place : (s : List Bool) (e : ℕ) → Has s e → e < length s
@@ -78,10 +78,10 @@ hall_easy demands lists capacities s same below ls (rows, split) =
     let len = length-tally (length demands) (owners 0 lists) y in
     let a = at_most demands capacities (owners 0 lists) (joined lists) y cells part s z ls (length-slots_of (length capacities) lists s) (slots_of_cells (length capacities) lists s below) in
     let b = sum_over-le s demands (tally (length demands) (owners 0 lists) y) ls len (λ i has.
-        let lt = has_place s i has in
-        let t = tally-at (length demands) i (owners 0 lists) y (omega (arith, lt, ls)) in
-        let m = met i (omega (arith, lt, ls)) in
-        omega (arith, ints, t, m)) in
+    let lt = has_place s i has in
+    let t = tally-at (length demands) i (owners 0 lists) y (omega (arith, lt, ls)) in
+    let m = met i (omega (arith, lt, ls)) in
+    omega (arith, ints, t, m)) in
     omega (arith, ints, a, b)
 
 -- demands of which a set asks for more than its slots have cannot be met
@@ -115,18 +115,18 @@ module _ (demands capacities : List ℤ) (lists : List (List ℕ)) (y : List ℤ
   pub short_of_closed : (i : ℕ) → Has s i → sum_at i (owners 0 lists) y <ℤ amount_at demands i → IsShort demands lists capacities s
   unfolding z
   short_of_closed i has less = record {
-      places = ls;
-      more =
-          (let t = tight in
-          let li = has_place s i has in
-          let g = got-at i (omega (arith, li, ls)) in
-          let m = sum_over-lt s got demands i (ls ∙ sym length-got) (sym length-got) (λ j hj.
-              let lj = has_place s j hj in
-              let g = got-at j (omega (arith, lj, ls)) in
-              let p = part.got j (omega (arith, lj, ls)) in
-              omega (arith, ints, g, p)) has (omega (arith, ints, g, less)) in
-          omega (arith, ints, t, m));
-    }
+    places = ls;
+    more =
+        (let t = tight in
+        let li = has_place s i has in
+        let g = got-at i (omega (arith, li, ls)) in
+        let m = sum_over-lt s got demands i (ls ∙ sym length-got) (sym length-got) (λ j hj.
+        let lj = has_place s j hj in
+        let g = got-at j (omega (arith, lj, ls)) in
+        let p = part.got j (omega (arith, lj, ls)) in
+        omega (arith, ints, g, p)) has (omega (arith, ints, g, less)) in
+        omega (arith, ints, t, m));
+  }
 
   -- a demand in a closed set cannot get more while the others are met
   pub most_of_closed : (u : ℕ) → Has s u → (b : ℤ) → CanBeMet (set demands u b) lists capacities → b ≤ℤ sum_at u (owners 0 lists) y
@@ -147,11 +147,11 @@ module _ (demands capacities : List ℤ) (lists : List (List ℕ)) (y : List ℤ
         let h = hall_easy (set demands u b) lists capacities s (same ∙ sym len) below (ls ∙ sym len) can in
         let g = got-at u lu in
         let m = sum_over-lt s got (set demands u b) u (ls ∙ sym length-got) (len ∙ sym length-got) (λ j hj.
-            let lj = has_place s j hj in
-            let lj' : j < length demands = omega (arith, lj, ls) in
-            let gj = got-at j lj' in
-            ⊎_elim
-                (λ (e : j ≡ u). let q = ap (λ i. amount_at got i) e in let r = ap (λ i. amount_at (set demands u b) i) e in omega (arith, ints, q, r, g, asks, more))
-                (λ ne. let o = get_or-set_other demands u j b (pos 0) ne in let p = part.got j lj' in omega (arith, ints, o, p, gj))
-                (cases_eq j u)) has (omega (arith, ints, g, asks, more)) in
+        let lj = has_place s j hj in
+        let lj' : j < length demands = omega (arith, lj, ls) in
+        let gj = got-at j lj' in
+        ⊎_elim
+        (λ (e : j ≡ u). let q = ap (λ i. amount_at got i) e in let r = ap (λ i. amount_at (set demands u b) i) e in omega (arith, ints, q, r, g, asks, more))
+        (λ ne. let o = get_or-set_other demands u j b (pos 0) ne in let p = part.got j lj' in omega (arith, ints, o, p, gj))
+        (cases_eq j u)) has (omega (arith, ints, g, asks, more)) in
         absurd (omega (arith, ints, t, h, m))

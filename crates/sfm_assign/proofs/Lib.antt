@@ -1,3 +1,5 @@
 pub mod Amounts
 pub mod Rows
 pub mod Hall
+pub mod Lefts
+pub mod Searches

@@ -109,11 +109,11 @@ joined-low [] low e = omega (arith, ints)
 joined-low (row ∷ rows) low e = ⊎_elim
     (λ lt. let q = get_or_append_left row (joined rows) (pos 0) e lt in let h = low 0 e in omega (arith, ints, q, h))
     (λ (le : length row ≤ e).
-        let z : length row + (e - length row) ≡ e = omega arith in
-        let q = get_or-append-add row (joined rows) (e - length row) (pos 0) in
-        let p = ap (λ i. amount_at (row ++ joined rows) i) z in
-        let r = joined-low rows (λ i. low (suc i)) (e - length row) in
-        omega (arith, ints, q, p, r))
+    let z : length row + (e - length row) ≡ e = omega arith in
+    let q = get_or-append-add row (joined rows) (e - length row) (pos 0) in
+    let p = ap (λ i. amount_at (row ++ joined rows) i) z in
+    let r = joined-low rows (λ i. low (suc i)) (e - length row) in
+    omega (arith, ints, q, p, r))
     (cases_lt e (length row))
 
 -- ---- amounts cut into rows
@@ -156,53 +156,53 @@ IsMet demands whos y = (i : ℕ) → i < length demands → amount_at demands i 
 pub part_of_split : (demands : List ℤ) (lists : List (List ℕ)) (capacities : List ℤ) (rows : List (List ℤ)) → length lists ≡ length demands → IsSplit demands lists capacities rows
     → IsPart demands capacities (owners 0 lists) (joined lists) (joined rows) × IsMet demands (owners 0 lists) (joined rows)
 part_of_split demands lists capacities rows same h = (
-    record {
-      cells = length-joined lists rows fits ∙ sym (length-owners 0 lists);
-      amounts = joined-low rows h.amounts;
-      got = λ i lt. let g = got i lt in omega (arith, ints, g);
-      within = λ s lt. let l = load-joined s lists rows fits in let w = h.within s lt in omega (arith, ints, l, w);
-    },
-    (λ i lt. let g = got i lt in omega (arith, ints, g)),
-  ) where
-    fits : FitsLists lists rows
-    fits = record { row_each = h.row_each; cells = h.cells }
+  record {
+    cells = length-joined lists rows fits ∙ sym (length-owners 0 lists);
+    amounts = joined-low rows h.amounts;
+    got = λ i lt. let g = got i lt in omega (arith, ints, g);
+    within = λ s lt. let l = load-joined s lists rows fits in let w = h.within s lt in omega (arith, ints, l, w);
+  },
+  (λ i lt. let g = got i lt in omega (arith, ints, g)),
+) where
+  fits : FitsLists lists rows
+  fits = record { row_each = h.row_each; cells = h.cells }
 
-    got : (i : ℕ) → i < length demands → sum_at i (owners 0 lists) (joined rows) ≡ amount_at demands i
-    got i lt =
-        let li : i < length lists = omega arith in
-        let z : 0 + i ≡ i = omega arith in
-        let q = ap (λ k. sum_at k (owners 0 lists) (joined rows)) z in
-        sym q ∙ (sym (got-joined 0 i lists rows fits li) ∙ h.met i li)
+  got : (i : ℕ) → i < length demands → sum_at i (owners 0 lists) (joined rows) ≡ amount_at demands i
+  got i lt =
+      let li : i < length lists = omega arith in
+      let z : 0 + i ≡ i = omega arith in
+      let q = ap (λ k. sum_at k (owners 0 lists) (joined rows)) z in
+      sym q ∙ (sym (got-joined 0 i lists rows fits li) ∙ h.met i li)
 
 pub split_of_part : (demands : List ℤ) (lists : List (List ℕ)) (capacities y : List ℤ) → length lists ≡ length demands
     → IsPart demands capacities (owners 0 lists) (joined lists) y → IsMet demands (owners 0 lists) y → IsSplit demands lists capacities (cut lists y)
 split_of_part demands lists capacities y same h met = record {
-    row_each = fits.row_each;
-    cells = fits.cells;
-    amounts = cut-low lists y h.amounts;
-    met = λ i lt.
-        let li : i < length demands = omega arith in
-        let z : 0 + i ≡ i = omega arith in
-        let q = ap (λ k. sum_at k (owners 0 lists) (joined (cut lists y))) z in
-        let p = ap (λ x. sum_at i (owners 0 lists) x) back in
-        let g = got-joined 0 i lists (cut lists y) fits lt in
-        let m = met i li in
-        let t = h.got i li in
-        omega (arith, ints, q, p, g, m, t);
-    within = λ s lt.
-        let l = load-joined s lists (cut lists y) fits in
-        let p = ap (λ x. sum_at s (joined lists) x) back in
-        let w = h.within s lt in
-        omega (arith, ints, l, p, w);
-  } where
-    len : length y ≡ length (joined lists)
-    len = h.cells ∙ length-owners 0 lists
+  row_each = fits.row_each;
+  cells = fits.cells;
+  amounts = cut-low lists y h.amounts;
+  met = λ i lt.
+      let li : i < length demands = omega arith in
+      let z : 0 + i ≡ i = omega arith in
+      let q = ap (λ k. sum_at k (owners 0 lists) (joined (cut lists y))) z in
+      let p = ap (λ x. sum_at i (owners 0 lists) x) back in
+      let g = got-joined 0 i lists (cut lists y) fits lt in
+      let m = met i li in
+      let t = h.got i li in
+      omega (arith, ints, q, p, g, m, t);
+  within = λ s lt.
+      let l = load-joined s lists (cut lists y) fits in
+      let p = ap (λ x. sum_at s (joined lists) x) back in
+      let w = h.within s lt in
+      omega (arith, ints, l, p, w);
+} where
+  len : length y ≡ length (joined lists)
+  len = h.cells ∙ length-owners 0 lists
 
-    fits : FitsLists lists (cut lists y)
-    fits = cut-fits lists y len
+  fits : FitsLists lists (cut lists y)
+  fits = cut-fits lists y len
 
-    back : joined (cut lists y) ≡ y
-    back = joined-cut lists y len
+  back : joined (cut lists y) ≡ y
+  back = joined-cut lists y len
 
 -- ---- the cells of lists
 
@@ -223,25 +223,25 @@ owner-low b (slots ∷ lists) e lt =
     let l = length-replicate (length slots) b in
     let x = length-append (replicate (length slots) b) (owners (suc b) lists) in
     ⊎_elim
-        (λ (h, q). let r = get_or-replicate (length slots) e b 0 (omega (arith, h, l)) in (omega (arith, q, r), omega (arith, q, r)))
-        (λ (f, z, q). let r = owner-low (suc b) lists f (omega (arith, z, x, lt)) in (omega (arith, q, r.0), omega (arith, q, r.1)))
-        (either (replicate (length slots) b) (owners (suc b) lists) e)
+    (λ (h, q). let r = get_or-replicate (length slots) e b 0 (omega (arith, h, l)) in (omega (arith, q, r), omega (arith, q, r)))
+    (λ (f, z, q). let r = owner-low (suc b) lists f (omega (arith, z, x, lt)) in (omega (arith, q, r.0), omega (arith, q, r.1)))
+    (either (replicate (length slots) b) (owners (suc b) lists) e)
 
 entry-below : (m : ℕ) (lists : List (List ℕ)) (e : ℕ) → AreBelow m lists → e < length (joined lists) → label_at (joined lists) e < m
 entry-below m [] e below lt = absurd (omega arith)
 entry-below m (slots ∷ lists) e below lt =
     let x = length-append slots (joined lists) in
     ⊎_elim
-        (λ (h, q). let r = All-get_or (λ s. s < m) slots e 0 h (All-head (All (λ s. s < m)) slots lists below) in omega (arith, q, r))
-        (λ (f, z, q). let r = entry-below m lists f (All-tail (All (λ s. s < m)) slots lists below) (omega (arith, z, x, lt)) in omega (arith, q, r))
-        (either slots (joined lists) e)
+    (λ (h, q). let r = All-get_or (λ s. s < m) slots e 0 h (All-head (All (λ s. s < m)) slots lists below) in omega (arith, q, r))
+    (λ (f, z, q). let r = entry-below m lists f (All-tail (All (λ s. s < m)) slots lists below) (omega (arith, z, x, lt)) in omega (arith, q, r))
+    (either slots (joined lists) e)
 
 pub cells_of : (m : ℕ) (lists : List (List ℕ)) → AreBelow m lists → AreCells (length lists) m (owners 0 lists) (joined lists)
 cells_of m lists below = record {
-    same = sym (length-owners 0 lists);
-    owned = λ e lt. let r = (owner-low 0 lists e lt).1 in omega (arith, r);
-    exist = λ e lt. let l = length-owners 0 lists in entry-below m lists e below (omega (arith, lt, l));
-  }
+  same = sym (length-owners 0 lists);
+  owned = λ e lt. let r = (owner-low 0 lists e lt).1 in omega (arith, r);
+  exist = λ e lt. let l = length-owners 0 lists in entry-below m lists e below (omega (arith, lt, l));
+}
 
 -- ---- the slots of a set of demands, told by cells
 
