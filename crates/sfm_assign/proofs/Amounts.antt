@@ -9,10 +9,7 @@ use Rattle.sfm_spec.proofs.Sums.{share, sum_over-set}
 use Rattle.sfm_spec.proofs.Sizes.{weight-empty}
 use Rattle.sfm_assign.specs.Splits.{sum_at, amount_at}
 use Rattle.sfm_assign.specs.Cells.{sum_in, label_at}
-
--- a at the number j, and nothing at others
-abbrev pub only : ℕ → ℕ → ℤ → ℤ
-only j k a = if nat_eq j k then a else pos 0
+use Rattle.sfm_assign.specs.Search.{only}
 
 only-add : (j k : ℕ) (a b : ℤ) → only j k (a +ℤ b) ≡ (only j k a +ℤ only j k b)
 only-add j k a b = at (nat_eq j k) where

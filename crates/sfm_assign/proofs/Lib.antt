@@ -3,3 +3,5 @@ pub mod Rows
 pub mod Hall
 pub mod Lefts
 pub mod Searches
+pub mod Augments
+pub mod Fills
