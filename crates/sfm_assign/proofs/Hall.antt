@@ -9,7 +9,7 @@ use Rattle.sfm_spec.proofs.Sizes.{weight-empty}
 use Rattle.sfm_assign.specs.Splits.{sum_at, amount_at, slots_of, CanBeMet, IsShort, IsMost}
 use Rattle.sfm_assign.specs.Cells.{joined, owners, label_at, sum_in, AreCells, IsPart, IsClosed}
 use Rattle.sfm_assign.proofs.Amounts.{tally, length-tally, tally-at, sum_over-tally, sum_in-le, sum_in-same, sum_over-le, sum_over-lt}
-use Rattle.sfm_assign.proofs.Rows.{AreBelow, IsMet, cells_of, length-slots_of, of_slots, in_slots, part_of_split}
+use Rattle.sfm_assign.proofs.Rows.{AreBelow, cells_of, length-slots_of, of_slots, in_slots, part_of_split}
 
 -- z has exactly the slots of the cells of a set of demands
 pub record HasSlots (whos slots : List ℕ) (s z : List Bool) : Type 0 where

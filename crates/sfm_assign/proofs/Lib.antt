@@ -5,3 +5,5 @@ pub mod Lefts
 pub mod Searches
 pub mod Augments
 pub mod Fills
+pub mod Cutting
+pub mod Outcomes

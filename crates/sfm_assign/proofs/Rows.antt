@@ -10,7 +10,7 @@ use Rattle.sfm_spec.specs.Bounds.{total_of}
 use Rattle.sfm_spec.proofs.Sets.{in_union, union_left, union_right}
 use Rattle.sfm_spec.proofs.Sums.{length-union}
 use Rattle.sfm_assign.specs.Splits.{sum_at, load, amount_at, list_at, row_at, set_of, slots_of, IsSplit}
-use Rattle.sfm_assign.specs.Cells.{joined, owners, cut, label_at, AreCells, IsPart}
+use Rattle.sfm_assign.specs.Cells.{joined, owners, cut, label_at, AreCells, IsPart, IsMet}
 use Rattle.sfm_assign.proofs.Amounts.{AreAmounts, only-same, only-other}
 
 -- as many rows as lists, each as long as its list
@@ -148,10 +148,6 @@ cut-low (slots ∷ lists) y low zero j = ⊎_elim
 cut-low (slots ∷ lists) y low (suc i) j = cut-low lists (drop (length slots) y) (λ e. let q = get_or-drop (length slots) y e (pos 0) in let h = low (length slots + e) in omega (arith, ints, q, h)) i j
 
 -- ---- splits, as amounts on cells
-
--- no demand lacks anything
-abbrev pub IsMet : List ℤ → List ℕ → List ℤ → Type 0
-IsMet demands whos y = (i : ℕ) → i < length demands → amount_at demands i ≤ℤ sum_at i whos y
 
 pub part_of_split : (demands : List ℤ) (lists : List (List ℕ)) (capacities : List ℤ) (rows : List (List ℤ)) → length lists ≡ length demands → IsSplit demands lists capacities rows
     → IsPart demands capacities (owners 0 lists) (joined lists) (joined rows) × IsMet demands (owners 0 lists) (joined rows)

@@ -46,3 +46,7 @@ pub record IsClosed (capacities : List ℤ) (whos slots : List ℕ) (y : List �
   pub full : (e : ℕ) → e < length whos → Has set (label_at whos e) → amount_at capacities (label_at slots e) ≤ℤ sum_at (label_at slots e) slots y
   pub none : (e f : ℕ) → e < length whos → f < length whos → Has set (label_at whos e) → label_at slots f ≡ label_at slots e
       → slice_index_or set (label_at whos f) false ≡ false → amount_at y f ≡ pos 0
+
+-- no demand lacks anything
+abbrev pub IsMet : List ℤ → List ℕ → List ℤ → Type 0
+IsMet demands whos y = (i : ℕ) → i < length demands → amount_at demands i ≤ℤ sum_at i whos y

@@ -24,6 +24,16 @@ fn sum_of(capacities: &[i128]) -> i128
     sum
 }
 
+/// The demands, with another one in a place.
+fn with_demand(alloc: Global, demands: &[i128], u: usize, d: i128) -> Result<Vec<i128>, Memory>
+    requires { u < length demands.now }
+    ensures { IfOk result (λ r. r.items ≡ slice_set demands.now u d) }
+{
+    let mut changed = Vec::from_slice(alloc, demands)?;
+    changed[u] = d;
+    Ok(changed)
+}
+
 /// The greatest amount that the demand u can get with all other demands met; what it asks for does not matter.
 ///
 /// # Errors
@@ -37,11 +47,10 @@ pub fn most(alloc: Global, demand: &Demand, u: usize) -> Result<i128, Memory>
     let capacities = demand.capacities();
     let cells = Cells::of(alloc, demand.lists())?;
     let mut y = cells.nothing(alloc)?;
-    let mut demands = Vec::from_slice(alloc, demand.demands())?;
-    demands[u] = 0;
-    fill(alloc, &cells, &demands, capacities, &mut y)?;
-    demands[u] = sum_of(capacities);
-    fill(alloc, &cells, &demands, capacities, &mut y)?;
-    let lacks = left_of(alloc, &demands, &cells.whos, &y)?;
-    Ok(demands[u] - lacks[u])
+    let others = with_demand(alloc, demand.demands(), u, 0)?;
+    fill(alloc, &cells, &others, capacities, &mut y)?;
+    let asked = with_demand(alloc, demand.demands(), u, sum_of(capacities))?;
+    fill(alloc, &cells, &asked, capacities, &mut y)?;
+    let lacks = left_of(alloc, &asked, &cells.whos, &y)?;
+    Ok(asked[u] - lacks[u])
 }
