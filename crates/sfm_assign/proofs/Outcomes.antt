@@ -1,5 +1,5 @@
 -- The first amounts and the last ones: from nothing to a split, or to a set that asks for too much.
-use Rattle.std.proofs.Common.{◌≡◌, ◌⊎◌, ℕ, zero, suc, ◌+◌, ◌<◌, ◌≤◌, ◌^◌, Bool, true, false, List, [], ◌∷◌, length, get_or, set, replicate, ℤ, pos, ◌+ℤ◌, ◌-ℤ◌, ◌≤ℤ◌, ◌<ℤ◌, if◌then◌else◌, nat_eq, refl, sym, ap, ◌∙◌, arith, ⊎_elim, length-set, get_or-set_other, get_or-set_same}
+use Rattle.std.proofs.Common.{Option, Some, None, is_some, MatchOption, ◌≡◌, ◌⊎◌, ℕ, zero, suc, ◌+◌, ◌<◌, ◌≤◌, ◌^◌, Bool, true, false, List, [], ◌∷◌, length, get_or, set, replicate, ℤ, pos, ◌+ℤ◌, ◌-ℤ◌, ◌≤ℤ◌, ◌<ℤ◌, if◌then◌else◌, nat_eq, refl, sym, ap, ◌∙◌, arith, ⊎_elim, length-set, get_or-set_other, get_or-set_same}
 use Rattle.std.specs.List.{All}
 use Rattle.std.proofs.lemmas.Int.{ints, by_lt_z}
 use Rattle.std.proofs.lemmas.Bool.{cases_eq, cases_Bool, false≢true}
@@ -173,3 +173,25 @@ module _ (d : Demands) (sound : AreDemands d) (u : ℕ) (lu : u < length d.deman
         (λ less. absurd (false≢true (sym out ∙ fz.lacking u (omega (arith, lu, lc)) less)))
         (λ le. omega (arith, ints, le, e, ec, bound, eb)))
         (cases_Bool (get_or t u false))
+
+-- ---- what a test of an option tells
+
+pub some_here : {A : Type 0} (o : Option A) (P : Type 0) (Q : A → Type 0) → is_some o ≡ true → MatchOption o P Q → (x : A) × Q x
+some_here None P Q t h = absurd (false≢true t)
+some_here (Some x) P Q t h = (x, h)
+
+pub none_here : {A : Type 0} (o : Option A) (P : Type 0) (Q : A → Type 0) → is_some o ≡ false → MatchOption o P Q → P
+none_here None P Q t h = h
+none_here (Some x) P Q t h = absurd (false≢true (sym t))
+
+pub amounts_low : (d : Demands) → AreDemands d → (i : ℕ) → i < length d.demands → pos 0 ≤ℤ amount_at d.demands i
+amounts_low d sound i lt = (All-get_or IsAmount d.demands i (pos 0) lt sound.amounts).low
+
+-- the same with nothing asked at u
+pub changed_low : (d : Demands) → AreDemands d → (u i : ℕ) → i < length (set d.demands u (pos 0)) → pos 0 ≤ℤ amount_at (set d.demands u (pos 0)) i
+changed_low d sound u i lt =
+    let l = length-set d.demands u (pos 0) in
+    ⊎_elim
+    (λ (q : i ≡ u). let lu : u < length d.demands = omega (arith, lt, l, q) in let e = changed-at d.demands u lu (pos 0) in let p = ap (λ k. amount_at (set d.demands u (pos 0)) k) q in omega (arith, ints, e, p))
+    (λ ne. let e = get_or-set_other d.demands u i (pos 0) (pos 0) ne in let h = amounts_low d sound i (omega (arith, lt, l)) in omega (arith, ints, e, h))
+    (cases_eq i u)
