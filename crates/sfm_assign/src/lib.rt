@@ -16,3 +16,6 @@ pub use demand::Demand;
 pub use greatest::most;
 pub use split::Split;
 pub use splitting::{AssignEnd, assign};
+
+#[cfg(test)]
+mod tests;
