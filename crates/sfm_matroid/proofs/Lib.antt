@@ -1,5 +1,6 @@
 mod Bases
 mod MatroidTests
+mod SplitTests
 mod Fits
 mod Kept
 mod Labels
