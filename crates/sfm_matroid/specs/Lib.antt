@@ -8,6 +8,7 @@ pub mod Growing
 pub mod Forests
 pub mod Ends
 pub mod GraphicLaws
+pub mod Numbered
 pub mod Matchings
 pub mod Cuts
 pub mod Ore
