@@ -1,6 +1,7 @@
 mod Bases
 mod MatroidTests
 mod SplitTests
+mod Numbering
 mod Fits
 mod Kept
 mod Labels

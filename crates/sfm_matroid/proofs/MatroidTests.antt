@@ -1,7 +1,7 @@
 -- The tests that tell the bases of a graphic and of a transversal matroid: for each vertex, no edges get more than their ends
 -- but that vertex may hold; and no members get more than their slots may hold. What slots hold, as a sum of capacities.
 -- Textbook: Schrijver, Combinatorial Optimization, sections 22 and 50.
-use Rattle.std.proofs.Common.{◌≡◌, ◌≢◌, ◌⊎◌, inl, inr, ℕ, zero, suc, ◌+◌, ◌<◌, Bool, true, false, not, ◌&&◌, List, [], ◌∷◌, length, get_or, set, replicate, nat_eq, ℤ, pos, ◌+ℤ◌, ◌*ℤ◌, ◌≤ℤ◌, refl, sym, ap, ◌∙◌, arith, length-set}
+use Rattle.std.proofs.Common.{◌≡◌, ◌*◌, ◌≢◌, ◌⊎◌, inl, inr, ℕ, zero, suc, ◌+◌, ◌<◌, Bool, true, false, not, ◌&&◌, List, [], ◌∷◌, length, get_or, set, replicate, nat_eq, ℤ, pos, ◌+ℤ◌, ◌*ℤ◌, ◌≤ℤ◌, refl, sym, ap, ◌∙◌, arith, length-set}
 use Rattle.std.proofs.lemmas.Bool.{cases_Bool, cases_eq}
 use Rattle.std.proofs.lemmas.Int.{ints}
 use Rattle.std.proofs.lemmas.List.{length-replicate, get_or-replicate}
@@ -17,6 +17,7 @@ use Rattle.sfm_matroid.specs.Counts.{eqb_apart, unit_of, count_below, count-same
 use Rattle.sfm_matroid.specs.Matroids.{IsMatroid, AreRanks, rank-size}
 use Rattle.sfm_matroid.specs.Runs.{EndsBelow}
 use Rattle.sfm_matroid.specs.Forests.{graphic_rank, forest-matroid, graphic-ranks}
+use Rattle.sfm_matroid.specs.Numbered.{numbered, length-numbered, numbered_below, rank-number}
 use Rattle.sfm_matroid.specs.Cuts.{IsWithinEnds, ends_from_rank, rank_from_ends}
 use Rattle.sfm_matroid.specs.Matchings.{matching-matroid}
 use Rattle.sfm_matroid.specs.Ore.{slots_count, AreSlotsBelow, slots_from_rank, rank_from_slots}
@@ -60,7 +61,7 @@ capped_by_rank k IsIndependent rank matroid ranks c low x sized within e lt =
 
 -- one test for each of m vertices
 pub graphic_tests : (edges : List Edge) (m : ℕ) (below : EndsBelow edges m) (q w : ℤ) (low : pos 0 ≤ℤ (q *ℤ w))
-    → AreTests (length edges) m q w low (IsForest edges) (graphic_rank edges) (forest-matroid edges) (graphic-ranks edges) (λ a x. IsWithinEnds edges m below (q *ℤ w) low x a)
+    → AreTests (length edges) m q w low (IsForest edges) (graphic_rank edges) (forest-matroid edges) (graphic-ranks edges) (λ a x. IsWithinEnds edges m (q *ℤ w) x a)
 graphic_tests edges m below q w low = record {
   needed = λ x sized counts within. record {
     capped = capped_by_rank (length edges) (IsForest edges) (graphic_rank edges) (forest-matroid edges) (graphic-ranks edges) (q *ℤ w) low x sized within;
@@ -69,6 +70,26 @@ graphic_tests edges m below q w low = record {
   enough = λ x sized counts passes. rank_from_ends edges m below (q *ℤ w) low x passes.met;
   smaller = λ a x y lt kx ky counts le met s ks. let h = met s ks in let r = sum_over-below s x y (kx ∙ sym ky) (λ e h. le e (omega (arith, h, kx))) in omega (arith, ints, h, r);
 }
+
+-- the same by the numbers of the ends
+pub numbered_tests : (edges : List Edge) (q w : ℤ) (low : pos 0 ≤ℤ (q *ℤ w))
+    → AreTests (length edges) (2 * length edges) q w low (IsForest edges) (graphic_rank edges) (forest-matroid edges) (graphic-ranks edges) (λ a x. IsWithinEnds (numbered edges) (2 * length edges) (q *ℤ w) x a)
+numbered_tests edges q w low = record {
+  needed = λ x sized counts within. record {
+        capped = capped_by_rank (length edges) (IsForest edges) (graphic_rank edges) (forest-matroid edges) (graphic-ranks edges) (q *ℤ w) low x sized within;
+        met = λ a lt. ends_from_rank (numbered edges) m (below []) (q *ℤ w) low x (λ s ks. let h = within s (ks ∙ length-numbered edges s) in let r = ap (λ n. (q *ℤ w) *ℤ pos n) (rank-number edges s) in omega (arith, ints, h, r)) a;
+      };
+  enough = λ x sized counts passes s ks.
+      let h = rank_from_ends (numbered edges) m (below s) (q *ℤ w) low x passes.met s (ks ∙ sym (length-numbered edges s)) in
+      let r = ap (λ n. (q *ℤ w) *ℤ pos n) (rank-number edges s) in
+      omega (arith, ints, h, r);
+  smaller = λ a x y lt kx ky counts le met s ks. let h = met s ks in let r = sum_over-below s x y (kx ∙ sym ky) (λ e h. le e (omega (arith, h, kx))) in omega (arith, ints, h, r);
+} where
+  m : ℕ
+  m = 2 * length edges
+
+  below : (s : List Bool) → EndsBelow (numbered edges) (2 * length edges)
+  below s = numbered_below edges s
 
 -- no members get more than c for each of m slots that are listed for them
 abbrev pub IsWithinSlots : List (List ℕ) → ℕ → ℤ → List ℤ → Type 0

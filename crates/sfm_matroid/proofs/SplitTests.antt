@@ -1,7 +1,7 @@
 -- The tests of bases as demands that are split over slots: each edge over its two ends, the capacity of one vertex being 0; each
 -- member over the slots of its entry. Demands that are split pass the test, and demands of which a set is short do not.
 -- Textbook: Schrijver, Combinatorial Optimization, section 22 (Hall's condition).
-use Rattle.std.proofs.Common.{◌≡◌, ℕ, zero, suc, ◌<◌, Bool, true, false, not, ◌&&◌, ◌||◌, List, [], ◌∷◌, length, map, get_or, set, replicate, nat_eq, ℤ, pos, ◌*ℤ◌, ◌≤ℤ◌, refl, sym, ap, ◌∙◌, arith, ⊎_elim, length-set, get_or-set_other, get_or-set_same}
+use Rattle.std.proofs.Common.{◌≡◌, ℕ, zero, suc, ◌<◌, Bool, true, false, not, ◌&&◌, ◌||◌, List, [], ◌∷◌, length, get_or, set, replicate, nat_eq, ℤ, pos, ◌*ℤ◌, refl, sym, ap, ◌∙◌, arith, ⊎_elim, length-set, get_or-set_other, get_or-set_same}
 use Rattle.std.specs.List.{All}
 use Rattle.std.proofs.lemmas.Bool.{cases_eq, eq-eqb}
 use Rattle.std.proofs.lemmas.Int.{ints}
@@ -15,6 +15,7 @@ use Rattle.sfm_assign.proofs.Hall.{hall_easy}
 use Rattle.sfm_matroid.specs.Counts.{count_below, count-same, eqb_apart, size-count}
 use Rattle.sfm_matroid.specs.Runs.{EndsBelow}
 use Rattle.sfm_matroid.specs.Cuts.{touches, ends_but, IsWithinEnds}
+use Rattle.sfm_matroid.specs.Numbered.{end_lists, vertex_capacities}
 use Rattle.sfm_matroid.specs.Ore.{lists_slot, listed, slots_count}
 use Rattle.sfm_matroid.proofs.MatroidTests.{IsWithinSlots, sum-level, sum-but}
 
@@ -63,12 +64,6 @@ but-sum m lists s c a lt =
 
 -- ---- edges, each with its ends
 
-abbrev pub ends_of : Edge → List ℕ
-ends_of edge = edge.tail ∷ edge.head ∷ []
-
-abbrev pub end_lists : List Edge → List (List ℕ)
-end_lists edges = map ends_of edges
-
 pub length-ends : (edges : List Edge) → length (end_lists edges) ≡ length edges
 length-ends [] = refl
 length-ends (edge ∷ edges) = let r : length (end_lists edges) ≡ length edges = length-ends edges in omega (arith, r)
@@ -90,11 +85,7 @@ ends_exist (edge ∷ edges) m below zero d lt = two where
   two (suc (suc i)) d lt = absurd (omega (arith, lt))
 ends_exist (edge ∷ edges) m below (suc i) d lt = ends_exist edges m (λ e le. below (suc e) (omega arith)) i d (omega arith)
 
--- c at each of m vertices but a
-abbrev pub vertex_capacities : ℕ → ℤ → ℕ → List ℤ
-vertex_capacities m c a = set (replicate m c) a (pos 0)
-
-module _ (edges : List Edge) (m : ℕ) (below : EndsBelow edges m) (c : ℤ) (low : pos 0 ≤ℤ c) (x : List ℤ) (sized : length x ≡ length edges) (a : ℕ) (lt : a < m) where
+module _ (edges : List Edge) (m : ℕ) (below : EndsBelow edges m) (c : ℤ) (x : List ℤ) (sized : length x ≡ length edges) (a : ℕ) (lt : a < m) where
   vertices : length (vertex_capacities m c a) ≡ m
   vertices = length-set (replicate m c) a (pos 0) ∙ length-replicate m c
 
@@ -104,7 +95,7 @@ module _ (edges : List Edge) (m : ℕ) (below : EndsBelow edges m) (c : ℤ) (lo
       rw vertices (but-sum m (end_lists edges) s c a lt ∙ ap (λ i. c *ℤ pos i) e)
 
   -- what is split passes the test
-  pub split_within_ends : CanBeMet x (end_lists edges) (vertex_capacities m c a) → IsWithinEnds edges m below c low x a
+  pub split_within_ends : CanBeMet x (end_lists edges) (vertex_capacities m c a) → IsWithinEnds edges m c x a
   split_within_ends can s ks =
       let exist : AreBelow (length (vertex_capacities m c a)) (end_lists edges) = rw vertices (ends_exist edges m below) in
       let h = hall_easy x (end_lists edges) (vertex_capacities m c a) s (length-ends edges ∙ sym sized) exist (ks ∙ sym sized) can in
@@ -112,7 +103,7 @@ module _ (edges : List Edge) (m : ℕ) (below : EndsBelow edges m) (c : ℤ) (lo
       omega (arith, ints, h, e)
 
   -- what is short does not
-  pub short_beyond_ends : (s : List Bool) → IsShort x (end_lists edges) (vertex_capacities m c a) s → IsWithinEnds edges m below c low x a → ⊥
+  pub short_beyond_ends : (s : List Bool) → IsShort x (end_lists edges) (vertex_capacities m c a) s → IsWithinEnds edges m c x a → ⊥
   short_beyond_ends s short within = let h = within s (short.places ∙ sized) in let e = held s in let more = short.more in omega (arith, ints, h, e, more)
 
 -- ---- members, each with the slots of its entry

@@ -202,19 +202,19 @@ labels-total w g m (suc n) below =
 
 -- ---- the cut form
 
-module _ (edges : List Edge) (m : ℕ) (below : EndsBelow edges m) (c : ℤ) (low : pos 0 ≤ℤ c) (x : List ℤ) where
-  -- no set of edges gets more than c for each of its ends but a
-  abbrev pub IsWithinEnds : ℕ → Type 0
-  IsWithinEnds a = (s : List Bool) → length s ≡ length edges → sum_over s x ≤ℤ (c *ℤ pos (ends_but edges m a s))
+-- no set of edges gets more than c for each of its ends but a, of m vertices
+abbrev pub IsWithinEnds : List Edge → ℕ → ℤ → List ℤ → ℕ → Type 0
+IsWithinEnds edges m c x a = (s : List Bool) → length s ≡ length edges → sum_over s x ≤ℤ (c *ℤ pos (ends_but edges m a s))
 
-  pub ends_from_rank : ((s : List Bool) → length s ≡ length edges → sum_over s x ≤ℤ (c *ℤ pos (graphic_rank edges s))) → (a : ℕ) → IsWithinEnds a
+module _ (edges : List Edge) (m : ℕ) (below : EndsBelow edges m) (c : ℤ) (low : pos 0 ≤ℤ c) (x : List ℤ) where
+  pub ends_from_rank : ((s : List Bool) → length s ≡ length edges → sum_over s x ≤ℤ (c *ℤ pos (graphic_rank edges s))) → (a : ℕ) → IsWithinEnds edges m c x a
   ends_from_rank within a s ks =
       let h = within s ks in
       let r = rank_ends edges s ks m below a in
       let up = times-mono c (pos (graphic_rank edges s)) (pos (ends_but edges m a s)) low (omega (arith, ints, r)) in
       omega (arith, ints, h, up)
 
-  pub rank_from_ends : ((a : ℕ) → a < m → IsWithinEnds a) → (s : List Bool) → length s ≡ length edges → sum_over s x ≤ℤ (c *ℤ pos (graphic_rank edges s))
+  pub rank_from_ends : ((a : ℕ) → a < m → IsWithinEnds edges m c x a) → (s : List Bool) → length s ≡ length edges → sum_over s x ≤ℤ (c *ℤ pos (graphic_rank edges s))
   rank_from_ends within s ks =
       let k = length edges in
       let g = label edges s k in

@@ -1,6 +1,6 @@
 -- Vertices numbered by where they first stand among the ends of the edges: the numbers are small, and which sets are taken
 -- and how large they are stays.
-use Rattle.std.proofs.Common.{◌≡◌, ◌≢◌, ◌⊎◌, ℕ, zero, suc, ◌+◌, ◌*◌, ◌<◌, ◌≤◌, Bool, true, false, List, [], ◌∷◌, length, map, get_or, nat_eq, if◌then◌else◌, refl, sym, ap, ◌∙◌, arith, inl, inr, ⊎_elim}
+use Rattle.std.proofs.Common.{◌≡◌, ◌≢◌, ◌⊎◌, ℕ, zero, suc, ◌+◌, ◌*◌, ◌<◌, ◌≤◌, Bool, true, false, List, [], ◌∷◌, length, map, get_or, nat_eq, ℤ, pos, replicate, set, if◌then◌else◌, refl, sym, ap, ◌∙◌, arith, inl, inr, ⊎_elim}
 use Rattle.std.proofs.lemmas.Bool.{cases_eq, eq-eqb}
 use Rattle.std.proofs.lemmas.List.{length-map, get_or-map}
 use Rattle.sfm_spec.specs.Sets.{empty_set, size}
@@ -115,3 +115,16 @@ module _ (edges : List Edge) (s : List Bool) where
 
   pub rank-number : graphic_rank (numbered edges) s ≡ graphic_rank edges s
   rank-number = ap (λ k. size (taken (numbered edges) s k)) length-numbered ∙ ap size (taken-number (length edges) (omega arith))
+
+-- ---- edges as demands
+
+-- the two ends of each edge
+abbrev pub ends_of : Edge → List ℕ
+ends_of edge = edge.tail ∷ edge.head ∷ []
+
+abbrev pub end_lists : List Edge → List (List ℕ)
+end_lists edges = map ends_of edges
+
+-- c at each of m vertices but a
+abbrev pub vertex_capacities : ℕ → ℤ → ℕ → List ℤ
+vertex_capacities m c a = set (replicate m c) a (pos 0)
