@@ -2,6 +2,8 @@ mod Bases
 mod MatroidTests
 mod SplitTests
 mod Numbering
+mod Totals
+mod GraphicBases
 mod Fits
 mod Kept
 mod Labels

@@ -1,17 +1,22 @@
 // A number w times the rank of a graphic matroid. A part of the edges is independent where no closed trail takes distinct
 // edges of it: where it is a forest. The edges that are taken one after another, unless they close a trail, are a greatest
 // forest of a part, so their count is the rank.
-ghost use Rattle.std.specs.Prelude.{◌≡◌, ℕ, ◌<◌, ◌≤◌, ◌^◌, Bool, List, length, slice_index_or, ℤ, pos, ◌*ℤ◌, ◌≤ℤ◌, IfOk};
-ghost use Rattle.sfm_spec.specs.Bounds.{IsAtMost, IsFactor, IsGiven, AreElements};
+ghost use Rattle.std.specs.Prelude.{◌≡◌, ◌↔◌, ◌*◌, IsTrue, ℕ, ◌<◌, ◌≤◌, ◌^◌, Bool, List, length, slice_index_or, ℤ, pos, ◌*ℤ◌, ◌≤ℤ◌, IfOk};
+ghost use Rattle.std.specs.List.{All};
+ghost use Rattle.sfm_assign.specs.Splits.{IsAmount};
+ghost use Rattle.sfm_spec.specs.Bounds.{IsAtMost, IsEntry, IsFactor, IsGiven, AreElements};
 ghost use Rattle.sfm_spec.specs.Terms.{IsBase, IsGreedy, times};
 ghost use Rattle.sfm_spec.specs.Kinds.{IsForest, IsRank, IsRankFunction};
 ghost use Rattle.sfm_matroid.specs.Ends.{edges_of};
+ghost use Rattle.sfm_matroid.specs.Cuts.{IsWithinEnds};
+ghost use Rattle.sfm_matroid.specs.Numbered.{numbered};
 ghost use Rattle.sfm_matroid.specs.Forests.{graphic_rank};
 ghost use Rattle.sfm_matroid.specs.GraphicLaws.{graphic_value, graphic_size, graphic_start, graphic_basis};
 
 use crate::ends::Ends;
 use crate::growing::{grow, whole};
-use crate::number::product;
+use crate::number::{are_within, has_sum, product};
+use crate::testing::{numbered, passes};
 use sfm_base::{Memory, Places, Set};
 use std::alloc::Global;
 
@@ -146,5 +151,45 @@ impl Graphic {
             return 0;
         }
         product(q, self.w)
+    }
+
+    /// Whether no edges get more than a number for each of their ends but one, whichever one.
+    fn passes_all(&self, alloc: Global, x: &[i128], most: i128) -> Result<bool, Memory>
+        requires entries { length x.now ≡ length self.now.places }
+        requires amounts { All IsAmount x.now }
+        requires low { pos 0 ≤ℤ most }
+        requires high { most ≤ℤ pos (10 ^ 24) }
+        ensures { IfOk result (λ r. IsTrue r ↔ ((a : ℕ) → a < 2 * length self.now.ends → IsWithinEnds (numbered self.now.ends) (2 * length self.now.ends) most x.now a)) }
+    {
+        let ends = numbered(alloc, self.ends.as_slice())?;
+        for a in 0..2 * ends.len() {
+            if !passes(alloc, &ends, x, most, a)? {
+                return Ok(false);
+            }
+        }
+        Ok(true)
+    }
+
+    /// Whether x is a base of q times the term.
+    ///
+    /// # Errors
+    ///
+    /// `Memory` where there is none.
+    pub fn is_base_of(&self, alloc: Global, q: i128, x: &[i128]) -> Result<bool, Memory>
+        requires factor { IsFactor q }
+        requires entries { length x.now ≡ length self.now.places }
+        requires small { All IsEntry x.now }
+        ensures { IfOk result (λ r. IsTrue r ↔ IsBase (times q (graphic_value self.now.w self.now.ends)) x.now) }
+    {
+        let most = product(q, self.w);
+        if !are_within(x, most) {
+            return Ok(false);
+        }
+        let whole = product(q, self.size_of());
+        if !has_sum(x, whole) {
+            return Ok(false);
+        }
+        let passed = self.passes_all(alloc, x, most)?;
+        Ok(passed)
     }
 }

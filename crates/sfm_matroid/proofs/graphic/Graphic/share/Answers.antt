@@ -1,7 +1,7 @@
 use Rattle.std.proofs.Common.{◌∙◌, ◌*ℤ◌, false, get_or, ap, sym, FitsSigned}
 use Rattle.std.proofs.lemmas.Int.{to_z-of_z}
 use mir.Syntax.{w128}
-use Rattle.sfm_matroid.proofs.Fits.{given_fits, product_fits}
+use Rattle.sfm_matroid.proofs.Fits.{given_fits, given_more, product_fits}
 use Rattle.sfm_matroid.proofs.Kept.{length-basis, share-in, share-out}
 use Rattle.sfm_matroid.proofs.graphic.Graphic.share.Goals as goal
 
@@ -22,7 +22,7 @@ returns c =
     let s = c.args.self.now in
     let fq : FitsSigned w128 c.args.q = c.ranges.q in
     let fw : FitsSigned w128 s.w = given_fits _ s.given in
-    let fp : FitsSigned w128 (c.args.q *ℤ s.w) = product_fits _ _ c.requires.factor s.given in
+    let fp : FitsSigned w128 (c.args.q *ℤ s.w) = product_fits _ _ c.requires.factor (given_more _ s.given) in
     let p = simp to_z-of_z at c.product.ensures in
     let has = ap (λ t. get_or t c.args.j false) (sym s.based) ∙ (sym c.contains.ensures ∙ c.if-not-contains.false) in
     rw p (simp to_z-of_z (sym (share-in c.args.q s.w s.ends c.args.j has)))
