@@ -1,18 +1,17 @@
 -- The first amounts and the last ones: from nothing to a split, or to a set that asks for too much.
-use Rattle.std.proofs.Common.{Option, Some, None, is_some, MatchOption, ◌≡◌, ◌⊎◌, ℕ, zero, suc, ◌+◌, ◌<◌, ◌≤◌, ◌^◌, Bool, true, false, List, [], ◌∷◌, length, get_or, set, replicate, ℤ, pos, ◌+ℤ◌, ◌-ℤ◌, ◌≤ℤ◌, ◌<ℤ◌, if◌then◌else◌, nat_eq, refl, sym, ap, ◌∙◌, arith, ⊎_elim, length-set, get_or-set_other, get_or-set_same}
+use Rattle.std.proofs.Common.{Option, Some, None, is_some, MatchOption, ◌≡◌, ℕ, zero, suc, ◌<◌, Bool, true, false, List, [], ◌∷◌, length, get_or, set, replicate, ℤ, pos, ◌+ℤ◌, ◌≤ℤ◌, ◌<ℤ◌, if◌then◌else◌, nat_eq, refl, sym, ap, ◌∙◌, arith, ⊎_elim, length-set, get_or-set_other, get_or-set_same}
 use Rattle.std.specs.List.{All}
 use Rattle.std.proofs.lemmas.Int.{ints, by_lt_z}
 use Rattle.std.proofs.lemmas.Bool.{cases_eq, cases_Bool, false≢true}
 use Rattle.std.proofs.lemmas.List.{length-replicate, set-set}
 use Rattle.std.proofs.lemmas.List.Elements.{All-get_or, All-head, All-tail}
-use Rattle.sfm_spec.specs.Sets.{Has, empty_set, sum_over}
+use Rattle.sfm_spec.specs.Sets.{empty_set, sum_over}
 use Rattle.sfm_spec.specs.Bounds.{total_of}
 use Rattle.sfm_spec.proofs.Sizes.{weight-empty}
 use Rattle.sfm_assign.specs.Splits.{sum_at, amount_at, slots_of, IsAmount, IsCapacity, IsSplit, CanBeMet, IsShort, IsMost, Demands, AreDemands}
-use Rattle.sfm_assign.specs.Cells.{joined, owners, cut, label_at, AreCells, IsPart, IsMet, IsClosed}
+use Rattle.sfm_assign.specs.Cells.{joined, owners, cut, AreCells, IsPart, IsMet}
 use Rattle.sfm_assign.specs.Search.{GetsMore, IsFilled}
-use Rattle.sfm_assign.proofs.Amounts.{AreAmounts}
-use Rattle.sfm_assign.proofs.Rows.{AreBelow, cells_of, length-slots_of, split_of_part}
+use Rattle.sfm_assign.proofs.Rows.{AreBelow, cells_of, split_of_part}
 use Rattle.sfm_assign.proofs.Hall.{hall_easy, short_refuses, short_of_closed, most_of_closed}
 
 -- ---- nothing on each cell

@@ -1,4 +1,4 @@
-use Rattle.std.proofs.Common.{◌≡◌, ◌<◌, length, get_or, set, drop, pos, ℤ, ◌-ℤ◌, ◌≤ℤ◌, ap, sym, ◌∙◌, arith, rules, to_z, of_z, FitsSigned, length-set}
+use Rattle.std.proofs.Common.{◌≡◌, length, set, drop, pos, ℤ, ◌-ℤ◌, ap, sym, ◌∙◌, arith, rules, to_z, of_z, FitsSigned, length-set}
 use Rattle.std.proofs.lemmas.Int.{ints, to_z-of_z}
 use Rattle.std.proofs.lemmas.List.{get_or_read}
 use mir.Syntax.{w128}

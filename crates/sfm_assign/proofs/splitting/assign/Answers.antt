@@ -1,4 +1,4 @@
-use Rattle.std.proofs.Common.{◌≡◌, length, drop, is_some, ap, sym, ◌∙◌}
+use Rattle.std.proofs.Common.{length, drop, ap, sym, ◌∙◌}
 use Rattle.sfm_assign.specs.Cells.{joined, owners}
 use Rattle.sfm_assign.proofs.Rows.{length-owners}
 use Rattle.sfm_assign.proofs.Searches.{written}
