@@ -1,5 +1,5 @@
 -- What a turn of filling changes, and what is told when there is nothing more to change.
-use Rattle.std.proofs.Common.{◌≡◌, ◌⊎◌, ℕ, zero, suc, ◌+◌, ◌<◌, ◌≤◌, ◌^◌, Bool, true, false, List, [], ◌∷◌, length, get_or, replicate, ℤ, pos, negsuc, ◌+ℤ◌, ◌-ℤ◌, ◌≤ℤ◌, ◌<ℤ◌, Option, Some, None, refl, sym, ap, ◌∙◌, arith, ⊎_elim}
+use Rattle.std.proofs.Common.{◌≡◌, ℕ, zero, suc, ◌<◌, ◌^◌, Bool, true, false, List, [], ◌∷◌, length, get_or, ℤ, pos, negsuc, ◌+ℤ◌, ◌≤ℤ◌, ◌<ℤ◌, Option, Some, refl, sym, ap, ◌∙◌, arith, ⊎_elim}
 use Rattle.std.specs.List.{All}
 use Rattle.std.proofs.lemmas.Int.{ints}
 use Rattle.std.proofs.lemmas.Bool.{cases_eq, cases_Bool, false≢true}
@@ -10,10 +10,10 @@ use Rattle.sfm_spec.specs.Bounds.{total_of}
 use Rattle.sfm_spec.proofs.Sets.{Has-whole}
 use Rattle.sfm_spec.proofs.Sizes.{weight-whole}
 use Rattle.sfm_assign.specs.Splits.{sum_at, amount_at, IsCapacity}
-use Rattle.sfm_assign.specs.Cells.{label_at, sum_in, AreCells, IsPart, IsClosed}
-use Rattle.sfm_assign.specs.Search.{only, AreLeft, node_at, IsFound, AreRoots, HasRoots, IsStuck, IsFoundSet, IsRaised, GetsMore, IsFilled}
+use Rattle.sfm_assign.specs.Cells.{label_at, sum_in, AreCells, IsPart}
+use Rattle.sfm_assign.specs.Search.{AreLeft, node_at, AreRoots, HasRoots, IsStuck, IsFoundSet, IsRaised, GetsMore, IsFilled}
 use Rattle.sfm_assign.specs.declared.nodes.Node.{Node}
-use Rattle.sfm_assign.proofs.Amounts.{AreAmounts, tally, length-tally, tally-at, sum_over-tally, sum_over-le, sum_over-lt, sum_at-low, only-same, only-other}
+use Rattle.sfm_assign.proofs.Amounts.{tally, length-tally, tally-at, sum_over-tally, sum_over-le, sum_over-lt, only-same, only-other}
 use Rattle.sfm_assign.proofs.Searches.{some_apart}
 
 sum_in-whole : (n : ℕ) (js : List ℕ) (y : List ℤ) → length y ≡ length js → ((e : ℕ) → e < length js → label_at js e < n) → sum_in (whole_set n) js y ≡ total_of y

@@ -1,12 +1,9 @@
 -- No set of demands gets more than its slots have; a closed set gets exactly that.
-use Rattle.std.proofs.Common.{◌≡◌, ◌⊎◌, ℕ, zero, suc, ◌+◌, ◌<◌, ◌≤◌, Bool, true, false, List, [], ◌∷◌, length, get_or, set, replicate, ℤ, pos, ◌+ℤ◌, ◌≤ℤ◌, ◌<ℤ◌, if◌then◌else◌, refl, sym, ap, ◌∙◌, arith, inl, inr, ⊎_elim, get_or-set_other, get_or-set_same, length-set}
+use Rattle.std.proofs.Common.{◌≡◌, ℕ, zero, suc, ◌<◌, Bool, List, [], ◌∷◌, length, set, ℤ, pos, ◌≤ℤ◌, ◌<ℤ◌, sym, ap, ◌∙◌, arith, ⊎_elim, get_or-set_other, get_or-set_same, length-set}
 use Rattle.std.proofs.lemmas.Int.{ints, by_lt_z}
 use Rattle.std.proofs.lemmas.Bool.{cases_eq, false≢true}
-use Rattle.std.proofs.lemmas.List.{length-replicate}
-use Rattle.sfm_spec.specs.Sets.{Has, empty_set, sum_over}
-use Rattle.sfm_spec.specs.Bounds.{total_of}
-use Rattle.sfm_spec.proofs.Sizes.{weight-empty}
-use Rattle.sfm_assign.specs.Splits.{sum_at, amount_at, slots_of, CanBeMet, IsShort, IsMost}
+use Rattle.sfm_spec.specs.Sets.{Has, sum_over}
+use Rattle.sfm_assign.specs.Splits.{sum_at, amount_at, slots_of, CanBeMet, IsShort}
 use Rattle.sfm_assign.specs.Cells.{joined, owners, label_at, sum_in, AreCells, IsPart, IsClosed}
 use Rattle.sfm_assign.proofs.Amounts.{tally, length-tally, tally-at, sum_over-tally, sum_in-le, sum_in-same, sum_over-le, sum_over-lt}
 use Rattle.sfm_assign.proofs.Rows.{AreBelow, cells_of, length-slots_of, of_slots, in_slots, part_of_split}

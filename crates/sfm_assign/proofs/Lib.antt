@@ -7,3 +7,4 @@ pub mod Augments
 pub mod Fills
 pub mod Cutting
 pub mod Outcomes
+pub mod Filling

@@ -1,18 +1,17 @@
 -- The first amounts and the last ones: from nothing to a split, or to a set that asks for too much.
-use Rattle.std.proofs.Common.{Option, Some, None, is_some, MatchOption, ◌≡◌, ◌⊎◌, ℕ, zero, suc, ◌+◌, ◌<◌, ◌≤◌, ◌^◌, Bool, true, false, List, [], ◌∷◌, length, get_or, set, replicate, ℤ, pos, ◌+ℤ◌, ◌-ℤ◌, ◌≤ℤ◌, ◌<ℤ◌, if◌then◌else◌, nat_eq, refl, sym, ap, ◌∙◌, arith, ⊎_elim, length-set, get_or-set_other, get_or-set_same}
+use Rattle.std.proofs.Common.{Option, Some, None, is_some, MatchOption, ◌≡◌, ℕ, zero, suc, ◌<◌, Bool, true, false, List, [], ◌∷◌, length, get_or, set, replicate, ℤ, pos, ◌+ℤ◌, ◌≤ℤ◌, ◌<ℤ◌, if◌then◌else◌, nat_eq, refl, sym, ap, ◌∙◌, arith, ⊎_elim, length-set, get_or-set_other, get_or-set_same}
 use Rattle.std.specs.List.{All}
 use Rattle.std.proofs.lemmas.Int.{ints, by_lt_z}
 use Rattle.std.proofs.lemmas.Bool.{cases_eq, cases_Bool, false≢true}
 use Rattle.std.proofs.lemmas.List.{length-replicate, set-set}
 use Rattle.std.proofs.lemmas.List.Elements.{All-get_or, All-head, All-tail}
-use Rattle.sfm_spec.specs.Sets.{Has, empty_set, sum_over}
+use Rattle.sfm_spec.specs.Sets.{empty_set, sum_over}
 use Rattle.sfm_spec.specs.Bounds.{total_of}
 use Rattle.sfm_spec.proofs.Sizes.{weight-empty}
 use Rattle.sfm_assign.specs.Splits.{sum_at, amount_at, slots_of, IsAmount, IsCapacity, IsSplit, CanBeMet, IsShort, IsMost, Demands, AreDemands}
-use Rattle.sfm_assign.specs.Cells.{joined, owners, cut, label_at, AreCells, IsPart, IsMet, IsClosed}
+use Rattle.sfm_assign.specs.Cells.{joined, owners, cut, AreCells, IsPart, IsMet}
 use Rattle.sfm_assign.specs.Search.{GetsMore, IsFilled}
-use Rattle.sfm_assign.proofs.Amounts.{AreAmounts}
-use Rattle.sfm_assign.proofs.Rows.{AreBelow, cells_of, length-slots_of, split_of_part}
+use Rattle.sfm_assign.proofs.Rows.{AreBelow, cells_of, split_of_part}
 use Rattle.sfm_assign.proofs.Hall.{hall_easy, short_refuses, short_of_closed, most_of_closed}
 
 -- ---- nothing on each cell
@@ -30,12 +29,13 @@ nothing-at zero e = refl
 nothing-at (suc n) zero = refl
 nothing-at (suc n) (suc e) = nothing-at n e
 
-pub nothing_part : (demands capacities : List ℤ) (whos slots : List ℕ) → ((i : ℕ) → i < length demands → pos 0 ≤ℤ amount_at demands i) → All IsCapacity capacities → IsPart demands capacities whos slots (replicate (length whos) (pos 0))
-nothing_part demands capacities whos slots low bounded = record {
+pub nothing_part : (demands capacities : List ℤ) (whos slots : List ℕ) → ((i : ℕ) → i < length demands → pos 0 ≤ℤ amount_at demands i) → ((s : ℕ) → s < length capacities → pos 0 ≤ℤ amount_at capacities s)
+    → IsPart demands capacities whos slots (replicate (length whos) (pos 0))
+nothing_part demands capacities whos slots low caps = record {
   cells = length-replicate (length whos) (pos 0);
   amounts = λ e. let z = nothing-at (length whos) e in omega (arith, ints, z);
   got = λ i lt. let z = sum_at-nothing i (length whos) whos in let h = low i lt in omega (arith, ints, z, h);
-  within = λ s lt. let z = sum_at-nothing s (length whos) slots in let h = (All-get_or IsCapacity capacities s (pos 0) lt bounded).low in omega (arith, ints, z, h);
+  within = λ s lt. let z = sum_at-nothing s (length whos) slots in let h = caps s lt in omega (arith, ints, z, h);
 }
 
 -- the cells of demands
@@ -195,3 +195,6 @@ changed_low d sound u i lt =
     (λ (q : i ≡ u). let lu : u < length d.demands = omega (arith, lt, l, q) in let e = changed-at d.demands u lu (pos 0) in let p = ap (λ k. amount_at (set d.demands u (pos 0)) k) q in omega (arith, ints, e, p))
     (λ ne. let e = get_or-set_other d.demands u i (pos 0) (pos 0) ne in let h = amounts_low d sound i (omega (arith, lt, l)) in omega (arith, ints, e, h))
     (cases_eq i u)
+
+pub capacities_low : (d : Demands) → AreDemands d → (s : ℕ) → s < length d.capacities → pos 0 ≤ℤ amount_at d.capacities s
+capacities_low d sound s lt = (All-get_or IsCapacity d.capacities s (pos 0) lt sound.bounded).low

@@ -1,13 +1,13 @@
 -- The turns of a search: marks on slots, and nodes that are found from them.
-use Rattle.std.proofs.Common.{◌≡◌, ◌≢◌, ◌⊎◌, ℕ, zero, suc, ◌+◌, ◌<◌, ◌≤◌, Bool, true, false, List, [], ◌∷◌, ◌++◌, is_some, length, get_or, set, take, replicate, ℤ, pos, ◌≤ℤ◌, ◌<ℤ◌, Option, Some, None, refl, sym, ap, ◌∙◌, arith, cond, ⊎_elim, length-set, get_or-set_other, get_or-set_same}
+use Rattle.std.proofs.Common.{◌≡◌, ℕ, zero, suc, ◌+◌, ◌<◌, ◌≤◌, Bool, true, false, List, [], ◌∷◌, ◌++◌, is_some, length, get_or, set, take, replicate, ℤ, pos, ◌≤ℤ◌, ◌<ℤ◌, Option, Some, None, refl, sym, ap, ◌∙◌, arith, cond, ⊎_elim, length-set, get_or-set_other, get_or-set_same}
 use Rattle.std.proofs.lemmas.Int.{ints}
 use Rattle.std.specs.Bool.{MatchBool}
 use Rattle.sfm_spec.specs.Sets.{Has, empty_set}
 use Rattle.std.proofs.lemmas.Bool.{cases_eq, cases_lt, false≢true}
 use Rattle.std.proofs.lemmas.List.{length_push, get_or_push, get_or_append_left, length-replicate, take_at}
 use Rattle.sfm_assign.specs.Splits.{amount_at}
-use Rattle.sfm_assign.specs.Cells.{label_at, AreCells}
-use Rattle.sfm_assign.specs.Search.{node_at, missing, IsFound, IsNode, IsLinked, AreNodes, AreRoots, HasRoots, IsRoot, AreRootsOf, mark_at, IsMark, IsMarkOf, IsNewNode, AreMarks, AllMarked, NoneHas, IsStuck, IsGrown, IsSearchEnd, IsSearch}
+use Rattle.sfm_assign.specs.Cells.{label_at}
+use Rattle.sfm_assign.specs.Search.{node_at, missing, IsFound, IsNode, AreNodes, AreRoots, HasRoots, IsRoot, AreRootsOf, mark_at, IsMarkOf, IsNewNode, AreMarks, AllMarked, NoneHas, IsStuck, IsGrown}
 use Rattle.sfm_assign.specs.declared.nodes.Link.{Link}
 use Rattle.sfm_assign.specs.declared.nodes.Node.{Node}
 

@@ -1,9 +1,9 @@
 -- What a search for room finds. A demand is found where it lacks something, or where it has an amount on a slot that a
 -- demand found before could use instead; so an amount can move from each found demand to one that lacks something.
-use Rattle.std.specs.Prelude.{◌≡◌, ℕ, suc, ◌<◌, ◌≤◌, Bool, false, List, [], ◌∷◌, length, slice_index_or, ℤ, pos, ◌+ℤ◌, ◌-ℤ◌, ◌≤ℤ◌, ◌<ℤ◌, Option, Some, None, nat_eq, if◌then◌else◌}
+use Rattle.std.specs.Prelude.{◌≡◌, ℕ, suc, ◌<◌, Bool, false, List, [], ◌∷◌, length, slice_index_or, ℤ, pos, ◌+ℤ◌, ◌-ℤ◌, ◌≤ℤ◌, ◌<ℤ◌, Option, Some, None, nat_eq, if◌then◌else◌}
 use Rattle.sfm_spec.specs.Sets.{Has}
 use Rattle.sfm_assign.specs.Splits.{sum_at, amount_at}
-use Rattle.sfm_assign.specs.Cells.{label_at, IsPart, IsClosed}
+use Rattle.sfm_assign.specs.Cells.{label_at, IsClosed}
 use Rattle.sfm_assign.specs.declared.nodes.Link.{Link}
 use Rattle.sfm_assign.specs.declared.nodes.Node.{Node}
 

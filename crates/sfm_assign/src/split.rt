@@ -1,5 +1,5 @@
 // A split: for each demand the amounts on the slots of its list, in their order.
-ghost use Rattle.std.specs.Prelude.{◌≡◌, ◌<◌, length, IfOk};
+ghost use Rattle.std.specs.Prelude.{◌≡◌, ◌<◌, ◌==◌, length, IfOk};
 ghost use Rattle.sfm_assign.specs.Splits.{row_at};
 ghost use Rattle.sfm_assign.specs.Cells.{joined, cut};
 
@@ -28,6 +28,13 @@ impl Split {
         ensures { result ≡ length self.now }
     {
         self.rows.len()
+    }
+
+    /// Whether there are no demands.
+    pub fn is_empty(&self) -> bool
+        ensures { result ≡ (length self.now == 0) }
+    {
+        self.rows.is_empty()
     }
 
     /// The amounts of the demand i.

@@ -1,12 +1,12 @@
-use Rattle.std.proofs.Common.{◌≡◌, ◌<◌, set, ◌^◌, length, get_or, pos, ℤ, ◌+ℤ◌, ◌-ℤ◌, ◌≤ℤ◌, Some, refl, arith, rules, to_z, of_z, FitsSigned, ap, sym, ◌∙◌}
+use Rattle.std.proofs.Common.{◌≡◌, set, ◌^◌, length, pos, ℤ, ◌+ℤ◌, ◌-ℤ◌, refl, arith, to_z, of_z, FitsSigned, ap, sym, ◌∙◌}
 use Rattle.std.proofs.lemmas.Int.{ints, to_z-of_z}
 use Rattle.std.proofs.lemmas.List.{get_or_read}
 use mir.Syntax.{w128}
-use Rattle.sfm_assign.specs.Splits.{sum_at, amount_at}
+use Rattle.sfm_assign.specs.Splits.{amount_at}
 use Rattle.sfm_assign.specs.Cells.{label_at}
 use Rattle.sfm_assign.specs.Search.{node_at}
-use Rattle.sfm_assign.proofs.Amounts.{sum_at-low, sum_at-holds}
-use Rattle.sfm_assign.proofs.Augments.{Passes, moving_begun, moving_passes, moving_step, moving_lower, moving_done, level_of, level_some}
+use Rattle.sfm_assign.proofs.Amounts.{sum_at-holds}
+use Rattle.sfm_assign.proofs.Augments.{moving_begun, moving_passes, moving_step, moving_lower, moving_done, level_of, level_some}
 use Rattle.sfm_assign.proofs.augment.augment.Goals as goal
 
 pub put-requires-clause-high : goal.put-requires-clause-high

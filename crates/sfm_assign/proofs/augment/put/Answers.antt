@@ -1,4 +1,4 @@
-use Rattle.std.proofs.Common.{◌≡◌, ◌<◌, length, get_or, pos, ℤ, ◌+ℤ◌, ◌≤ℤ◌, arith, rules, FitsSigned}
+use Rattle.std.proofs.Common.{get_or, pos, ◌+ℤ◌, arith, rules, FitsSigned}
 use Rattle.std.proofs.lemmas.Int.{ints, to_z-of_z}
 use mir.Syntax.{w128}
 use Rattle.sfm_assign.proofs.augment.put.Goals as goal

@@ -1,4 +1,4 @@
-use Rattle.std.proofs.Common.{◌≡◌, ◌<◌, length, get_or, pos, ℤ, Some, arith, rules, FitsSigned, ap, ◌∙◌}
+use Rattle.std.proofs.Common.{get_or, pos, arith, rules, FitsSigned, ap, ◌∙◌}
 use Rattle.std.proofs.lemmas.Int.{ints, clamps}
 use Rattle.std.proofs.lemmas.List.{get_or_read}
 use mir.Syntax.{w128}

@@ -1,4 +1,3 @@
-use Rattle.std.proofs.Common.{◌≡◌, length}
 use Rattle.sfm_assign.proofs.Fills.{raised_part, raised_total, raised_more, stuck_filled}
 use Rattle.sfm_assign.proofs.fill.step.Goals as goal
 

@@ -1,4 +1,4 @@
-use Rattle.std.proofs.Common.{◌≡◌, ◌<◌, length, get_or, set, drop, pos, ℤ, ◌-ℤ◌, ◌≤ℤ◌, ap, sym, ◌∙◌, arith, rules, to_z, of_z, FitsSigned, length-set}
+use Rattle.std.proofs.Common.{◌≡◌, length, set, drop, pos, ℤ, ◌-ℤ◌, ap, sym, ◌∙◌, arith, rules, to_z, of_z, FitsSigned, length-set}
 use Rattle.std.proofs.lemmas.Int.{ints, to_z-of_z}
 use Rattle.std.proofs.lemmas.List.{get_or_read}
 use mir.Syntax.{w128}
@@ -7,7 +7,7 @@ use Rattle.sfm_assign.specs.Splits.{sum_at, amount_at}
 use Rattle.sfm_assign.specs.Cells.{joined, owners}
 use Rattle.sfm_assign.proofs.Amounts.{sum_at-low}
 use Rattle.sfm_assign.proofs.Searches.{written}
-use Rattle.sfm_assign.proofs.Outcomes.{nothing_part, cells_for, total_low, changed_low, changed-at, asked_part, most_from}
+use Rattle.sfm_assign.proofs.Outcomes.{capacities_low, nothing_part, cells_for, total_low, changed_low, changed-at, asked_part, most_from}
 use Rattle.sfm_assign.proofs.greatest.most.Goals as goal
 
 pub fill-requires-clause-cells : goal.fill-requires-clause-cells
@@ -26,7 +26,7 @@ fill-requires-clause-part c =
     let w = c.in_ok-cells.ensures.whos ∙ ap (owners 0) c.lists.ensures in
     let s = c.in_ok-cells.ensures.slots ∙ ap joined c.lists.ensures in
     let o = c.deref.ensures.value ∙ (c.in_ok-others.ensures ∙ ap (λ x. set x c.args.u (pos 0)) c.demands.ensures.value) in
-    rw (c.deref_mut.ensures.value, c.in_ok-y.ensures, o, c.capacities-capacities.ensures, w, s) (nothing_part (set d.demands c.args.u (pos 0)) d.capacities (owners 0 d.lists) (joined d.lists) (changed_low d sound c.args.u) sound.bounded)
+    rw (c.deref_mut.ensures.value, c.in_ok-y.ensures, o, c.capacities-capacities.ensures, w, s) (nothing_part (set d.demands c.args.u (pos 0)) d.capacities (owners 0 d.lists) (joined d.lists) (changed_low d sound c.args.u) (capacities_low d sound))
 
 pub fill-requires-2-clause-cells : goal.fill-requires-2-clause-cells
 fill-requires-2-clause-cells c =

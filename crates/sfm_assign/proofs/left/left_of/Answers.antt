@@ -1,10 +1,9 @@
-use Rattle.std.proofs.Common.{◌≡◌, ◌<◌, ◌≤◌, length, get_or, pos, ℤ, ◌-ℤ◌, ◌≤ℤ◌, sym, rules, arith, to_z, of_z, FitsSigned}
+use Rattle.std.proofs.Common.{◌<◌, length, get_or, pos, ℤ, ◌-ℤ◌, rules, arith, FitsSigned}
 use Rattle.std.proofs.lemmas.Int.{ints, to_z-of_z}
 use Rattle.std.proofs.lemmas.List.{get_or_read}
 use mir.Syntax.{w128}
-use Rattle.sfm_assign.specs.Splits.{amount_at}
 use Rattle.sfm_assign.specs.Cells.{label_at}
-use Rattle.sfm_assign.proofs.Lefts.{LeavesTo, next_fits, left_more, left_none, left_all}
+use Rattle.sfm_assign.proofs.Lefts.{next_fits, left_more, left_none, left_all}
 use Rattle.sfm_assign.proofs.left.left_of.Goals as goal
 
 pub overflow_sub-index_mut : goal.overflow_sub-index_mut

@@ -1,9 +1,8 @@
-use Rattle.std.proofs.Common.{◌≡◌, ◌<◌, length, get_or, pos, ℤ, ◌≤ℤ◌, Some, arith, rules, FitsSigned, refl, sym, ap, ◌∙◌}
+use Rattle.std.proofs.Common.{◌≡◌, get_or, pos, Some, arith, rules, FitsSigned, refl, sym, ap, ◌∙◌}
 use Rattle.std.proofs.lemmas.Int.{ints, clamps}
 use Rattle.std.proofs.lemmas.List.{get_or_read}
 use mir.Syntax.{w128}
 use Rattle.sfm_assign.specs.declared.nodes.Link.{Link}
-use Rattle.sfm_assign.specs.Splits.{amount_at}
 use Rattle.sfm_assign.specs.Cells.{label_at}
 use Rattle.sfm_assign.specs.Search.{node_at}
 use Rattle.sfm_assign.proofs.search.linked.Goals as goal

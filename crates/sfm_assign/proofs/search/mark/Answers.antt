@@ -1,4 +1,4 @@
-use Rattle.std.proofs.Common.{◌≡◌, ◌<◌, length, get_or, pos, ℤ, ◌≤ℤ◌, arith, rules, FitsSigned, ap}
+use Rattle.std.proofs.Common.{◌<◌, length, get_or, pos, ◌≤ℤ◌, arith, rules, FitsSigned, ap}
 use Rattle.std.proofs.lemmas.Bool.{OnFalse_at}
 use Rattle.std.proofs.lemmas.Int.{ints}
 use Rattle.std.proofs.lemmas.List.{get_or_read}

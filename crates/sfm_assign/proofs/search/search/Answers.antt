@@ -1,7 +1,6 @@
-use Rattle.std.proofs.Common.{◌≡◌, ◌<◌, length, drop, None, replicate, ap, sym, ◌∙◌, arith}
+use Rattle.std.proofs.Common.{length, drop, None, replicate, ap, sym, ◌∙◌}
 use Rattle.std.proofs.lemmas.List.{length-replicate}
 use Rattle.std.proofs.lemmas.Bool.{OnTrue_at, OnFalse_at}
-use Rattle.sfm_assign.specs.Search.{AreMarks, AllMarked, NoneHas, IsGrown}
 use Rattle.sfm_assign.proofs.Searches.{marks_below, search_begun, search_turned, written, none_marked}
 use Rattle.sfm_assign.proofs.search.search.Goals as goal
 

@@ -1,8 +1,8 @@
-use Rattle.std.proofs.Common.{◌≡◌, length, drop, is_some, ap, sym, ◌∙◌}
+use Rattle.std.proofs.Common.{length, drop, ap, sym, ◌∙◌}
 use Rattle.sfm_assign.specs.Cells.{joined, owners}
 use Rattle.sfm_assign.proofs.Rows.{length-owners}
 use Rattle.sfm_assign.proofs.Searches.{written}
-use Rattle.sfm_assign.proofs.Outcomes.{nothing_part, cells_for, split_from, short_from, some_here, none_here, amounts_low}
+use Rattle.sfm_assign.proofs.Outcomes.{capacities_low, nothing_part, cells_for, split_from, short_from, some_here, none_here, amounts_low}
 use Rattle.sfm_assign.proofs.splitting.assign.Goals as goal
 
 pub fill-requires-clause-cells : goal.fill-requires-clause-cells
@@ -18,7 +18,7 @@ fill-requires-clause-part c =
     let sound = c.demands-demands.ensures.sound in
     let w = c.in_ok-cells.ensures.whos ∙ ap (owners 0) c.lists.ensures in
     let s = c.in_ok-cells.ensures.slots ∙ ap joined c.lists.ensures in
-    rw (c.deref_mut.ensures.value, c.in_ok-y.ensures, c.demands-demands.ensures.value, c.capacities.ensures, w, s) (nothing_part d.demands d.capacities (owners 0 d.lists) (joined d.lists) (amounts_low d sound) sound.bounded)
+    rw (c.deref_mut.ensures.value, c.in_ok-y.ensures, c.demands-demands.ensures.value, c.capacities.ensures, w, s) (nothing_part d.demands d.capacities (owners 0 d.lists) (joined d.lists) (amounts_low d sound) (capacities_low d sound))
 
 pub unmet-requires-clause-cells : goal.unmet-requires-clause-cells
 unmet-requires-clause-cells c =
