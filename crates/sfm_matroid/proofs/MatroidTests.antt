@@ -76,9 +76,9 @@ pub numbered_tests : (edges : List Edge) (q w : ℤ) (low : pos 0 ≤ℤ (q *ℤ
     → AreTests (length edges) (2 * length edges) q w low (IsForest edges) (graphic_rank edges) (forest-matroid edges) (graphic-ranks edges) (λ a x. IsWithinEnds (numbered edges) (2 * length edges) (q *ℤ w) x a)
 numbered_tests edges q w low = record {
   needed = λ x sized counts within. record {
-        capped = capped_by_rank (length edges) (IsForest edges) (graphic_rank edges) (forest-matroid edges) (graphic-ranks edges) (q *ℤ w) low x sized within;
-        met = λ a lt. ends_from_rank (numbered edges) m (below []) (q *ℤ w) low x (λ s ks. let h = within s (ks ∙ length-numbered edges s) in let r = ap (λ n. (q *ℤ w) *ℤ pos n) (rank-number edges s) in omega (arith, ints, h, r)) a;
-      };
+    capped = capped_by_rank (length edges) (IsForest edges) (graphic_rank edges) (forest-matroid edges) (graphic-ranks edges) (q *ℤ w) low x sized within;
+    met = λ a lt. ends_from_rank (numbered edges) m (below []) (q *ℤ w) low x (λ s ks. let h = within s (ks ∙ length-numbered edges s) in let r = ap (λ n. (q *ℤ w) *ℤ pos n) (rank-number edges s) in omega (arith, ints, h, r)) a;
+  };
   enough = λ x sized counts passes s ks.
       let h = rank_from_ends (numbered edges) m (below s) (q *ℤ w) low x passes.met s (ks ∙ sym (length-numbered edges s)) in
       let r = ap (λ n. (q *ℤ w) *ℤ pos n) (rank-number edges s) in

@@ -29,10 +29,7 @@ fn number(ends: &[(u32, u32)], v: u32) -> usize
 }
 
 /// The edges with the numbers of their ends.
-pub(crate) fn numbered(
-    alloc: Global,
-    ends: &[(u32, u32)],
-) -> Result<Vec<(usize, usize)>, Memory>
+pub(crate) fn numbered(alloc: Global, ends: &[(u32, u32)]) -> Result<Vec<(usize, usize)>, Memory>
     requires { length ends.now ≤ 256 }
     ensures { IfOk result (λ r. edges_of r.items ≡ numbered (edges_of ends.now)) }
 {

@@ -1,5 +1,5 @@
 // Ranks of all parts of small graphs, worked by hand: loops, edges side by side, a path, a triangle, and a square whose edges
-// come in an order that joins two labels.
+// come in an order that joins two labels. Bases of twice a triangle's values, told from vectors that are none.
 ghost use Rattle.std.specs.Prelude.{◌≡◌, length, IfOk};
 
 use crate::Graphic;
@@ -86,5 +86,25 @@ fn squares(rt: HostRuntime) -> Result<(), Fail> {
     let ranks = [0, 1, 1, 2, 1, 2, 2, 3, 1, 2, 2, 3, 2, 3, 3, 3];
     has_ranks(&rt, rt.alloc(), &term, &ranks)?;
     starts(&rt, rt.alloc(), &term, 15, &[10, 10, 10, 0])?;
+    Ok(())
+}
+
+#[test]
+fn bases_of_triangles(rt: HostRuntime) -> Result<(), Fail> {
+    let ends = [(0, 1), (1, 2), (2, 0)];
+    let term = Graphic::new(rt.alloc(), &[4, 0, 2], 2, &ends)?;
+    assert!(rt; term.is_base_of(rt.alloc(), 2, &[3, 1, 4])?);
+    assert!(rt; !term.is_base_of(rt.alloc(), 2, &[3, 1, 3])?);
+    assert!(rt; !term.is_base_of(rt.alloc(), 2, &[5, 1, 2])?);
+    Ok(())
+}
+
+#[test]
+fn bases_by_all_vertices(rt: HostRuntime) -> Result<(), Fail> {
+    let ends = [(7, 7), (3, 9), (9, 3), (9, 5)];
+    let term = Graphic::new(rt.alloc(), &[0, 1, 2, 3], 2, &ends)?;
+    assert!(rt; term.is_base_of(rt.alloc(), 1, &[0, 1, 1, 2])?);
+    assert!(rt; !term.is_base_of(rt.alloc(), 1, &[0, 2, 1, 1])?);
+    assert!(rt; !term.is_base_of(rt.alloc(), 1, &[1, 1, 0, 2])?);
     Ok(())
 }
