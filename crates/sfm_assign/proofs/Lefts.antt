@@ -1,0 +1,65 @@
+-- Amounts taken off the totals one after the other.
+use Rattle.std.proofs.Common.{◌≡◌, ℕ, ◌+◌, ◌<◌, ◌≤◌, List, length, set, drop, ℤ, pos, ◌+ℤ◌, ◌-ℤ◌, ◌≤ℤ◌, refl, sym, ap, ◌∙◌, arith, ⊎_elim, length-set, get_or-set_other, get_or-set_same}
+use Rattle.std.proofs.lemmas.Int.{ints}
+use Rattle.std.proofs.lemmas.Bool.{cases_eq}
+use Rattle.std.proofs.lemmas.List.{get_or-drop, drop_all}
+use Rattle.sfm_assign.specs.Splits.{sum_at, amount_at}
+use Rattle.sfm_assign.specs.Cells.{label_at}
+use Rattle.sfm_assign.specs.Search.{AreLeft}
+use Rattle.sfm_assign.proofs.Amounts.{AreAmounts, sum_at-drop, sum_at-low, only-same, only-other}
+
+-- what the first e amounts leave
+pub record LeavesTo (totals : List ℤ) (labels : List ℕ) (y left : List ℤ) (e : ℕ) : Type 0 where
+  pub places : length left ≡ length totals
+  pub each : (k : ℕ) → k < length totals → (amount_at left k +ℤ sum_at k labels y) ≡ (amount_at totals k +ℤ sum_at k (drop e labels) (drop e y))
+
+rest_low : (k e : ℕ) (labels : List ℕ) (y : List ℤ) → AreAmounts y → pos 0 ≤ℤ sum_at k (drop e labels) (drop e y)
+rest_low k e labels y low = sum_at-low k (drop e labels) (drop e y) (λ i. let q = get_or-drop e y i (pos 0) in let h = low (e + i) in omega (arith, ints, q, h))
+
+-- the next amount is at most what is left
+pub next_fits : (totals : List ℤ) (labels : List ℕ) (y left : List ℤ) (e : ℕ) → length y ≡ length labels → AreAmounts y → e < length labels → label_at labels e < length totals
+    → sum_at (label_at labels e) labels y ≤ℤ amount_at totals (label_at labels e) → LeavesTo totals labels y left e → amount_at y e ≤ℤ amount_at left (label_at labels e)
+next_fits totals labels y left e same low lt below within inv =
+    let k = label_at labels e in
+    let h = inv.each k below in
+    let s = sum_at-drop k labels y e same lt in
+    let o = only-same k k (amount_at y e) refl in
+    let r = rest_low k (e + 1) labels y low in
+    omega (arith, ints, h, s, o, r, within)
+
+pub left_more : (totals : List ℤ) (labels : List ℕ) (y left : List ℤ) (e : ℕ) (x : ℤ) → x ≡ amount_at left (label_at labels e) → length y ≡ length labels → e < length labels → label_at labels e < length totals
+    → LeavesTo totals labels y left e → LeavesTo totals labels y (set left (label_at labels e) (x -ℤ amount_at y e)) (e + 1)
+left_more totals labels y left e x v same lt below inv = record {
+  places = length-set left (label_at labels e) (x -ℤ amount_at y e) ∙ inv.places;
+  each = λ k lk.
+      let j = label_at labels e in
+      let h = inv.each k lk in
+      let s = sum_at-drop k labels y e same lt in
+      let len = inv.places in
+      ⊎_elim
+      (λ (e' : k ≡ j).
+      let in_range : j < length left = omega (arith, len, below) in
+      let q = ap (λ i. amount_at (set left j (x -ℤ amount_at y e)) i) e' in
+      let p = ap (λ i. amount_at left i) e' in
+      let g = get_or-set_same left j (x -ℤ amount_at y e) (pos 0) in_range in
+      let o = only-same j k (amount_at y e) (sym e') in
+      omega (arith, ints, h, s, q, p, g, o, v))
+      (λ ne.
+      let g = get_or-set_other left j k (x -ℤ amount_at y e) (pos 0) ne in
+      let o = only-other j k (amount_at y e) (λ e'. ne (sym e')) in
+      omega (arith, ints, h, s, g, o))
+      (cases_eq k j);
+}
+
+pub left_none : (totals : List ℤ) (labels : List ℕ) (y : List ℤ) → LeavesTo totals labels y totals 0
+left_none totals labels y = record { places = refl; each = λ k lt. refl }
+
+pub left_all : (totals : List ℤ) (labels : List ℕ) (y left : List ℤ) (e : ℕ) → length labels ≤ e → LeavesTo totals labels y left e → AreLeft totals labels y left
+left_all totals labels y left e past inv = record {
+  places = inv.places;
+  each = λ k lk.
+      let h = inv.each k lk in
+      let d = drop_all e labels past in
+      let q = ap (λ ls. sum_at k ls (drop e y)) d in
+      omega (arith, ints, h, q);
+}

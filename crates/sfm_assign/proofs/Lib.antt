@@ -1,0 +1,10 @@
+pub mod Amounts
+pub mod Rows
+pub mod Hall
+pub mod Lefts
+pub mod Searches
+pub mod Augments
+pub mod Fills
+pub mod Cutting
+pub mod Outcomes
+pub mod Filling

@@ -1,0 +1,4 @@
+pub mod Splits
+pub mod Cells
+pub mod Search
+pub mod Ends

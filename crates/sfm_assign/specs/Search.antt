@@ -1,0 +1,166 @@
+-- What a search for room finds. A demand is found where it lacks something, or where it has an amount on a slot that a
+-- demand found before could use instead; so an amount can move from each found demand to one that lacks something.
+use Rattle.std.specs.Prelude.{◌≡◌, ℕ, suc, ◌<◌, Bool, false, List, [], ◌∷◌, length, slice_index_or, ℤ, pos, ◌+ℤ◌, ◌-ℤ◌, ◌≤ℤ◌, ◌<ℤ◌, Option, Some, None, nat_eq, if◌then◌else◌}
+use Rattle.sfm_spec.specs.Sets.{Has}
+use Rattle.sfm_assign.specs.Splits.{sum_at, amount_at}
+use Rattle.sfm_assign.specs.Cells.{label_at, IsClosed}
+use Rattle.sfm_assign.specs.declared.nodes.Link.{Link}
+use Rattle.sfm_assign.specs.declared.nodes.Node.{Node}
+
+-- what is left of each total once all amounts of its number are taken off
+pub record AreLeft (totals : List ℤ) (labels : List ℕ) (y left : List ℤ) : Type 0 where
+  pub places : length left ≡ length totals
+  pub each : (k : ℕ) → k < length totals → amount_at left k ≡ (amount_at totals k -ℤ sum_at k labels y)
+
+abbrev pub node_at : List (Option Node) → ℕ → Option Node
+node_at nodes i = slice_index_or nodes i None
+
+-- a demand was found
+abbrev pub IsFound : List (Option Node) → ℕ → Type 0
+IsFound nodes i = (b : Node) × (node_at nodes i ≡ Some b)
+
+-- the demand i has the amount of its node on a slot that a demand of a lower level could use
+pub record IsLinked (whos slots : List ℕ) (y : List ℤ) (nodes : List (Option Node)) (i : ℕ) (b : Node) (l : Link) : Type 0 where
+  pub own_in : l.own < length whos
+  pub other_in : l.other < length whos
+  pub mine : label_at whos l.own ≡ i
+  pub shared : label_at slots l.own ≡ label_at slots l.other
+  pub has : b.flow ≤ℤ amount_at y l.own
+  pub parent : Node
+  pub is_parent : node_at nodes (label_at whos l.other) ≡ Some parent
+  pub lower : parent.level < b.level
+  pub within : b.flow ≤ℤ parent.flow
+
+-- what a node tells: an amount of at least 1 that its link, where it has one, can move
+pub record IsNode (whos slots : List ℕ) (y : List ℤ) (nodes : List (Option Node)) (i : ℕ) (b : Node) : Type 0 where
+  pub some : pos 1 ≤ℤ b.flow
+  pub linked : (l : Link) → b.link ≡ Some l → IsLinked whos slots y nodes i b l
+
+abbrev pub AreNodes : List ℕ → List ℕ → List ℤ → List (Option Node) → Type 0
+AreNodes whos slots y nodes = (i : ℕ) (b : Node) → node_at nodes i ≡ Some b → IsNode whos slots y nodes i b
+
+-- a demand was found, and an amount can move from it
+pub record HasFlow (nodes : List (Option Node)) (i : ℕ) (a : ℤ) : Type 0 where
+  pub node : Node
+  pub is_node : node_at nodes i ≡ Some node
+  pub enough : a ≤ℤ node.flow
+
+-- a node without a link has at most what its demand lacks
+abbrev pub AreRoots : List ℤ → List (Option Node) → Type 0
+AreRoots lacks nodes = (i : ℕ) (b : Node) → node_at nodes i ≡ Some b → b.link ≡ None → b.flow ≤ℤ amount_at lacks i
+
+-- each demand that lacks something was found
+abbrev pub HasRoots : List ℤ → List (Option Node) → Type 0
+HasRoots lacks nodes = (i : ℕ) → pos 0 <ℤ amount_at lacks i → IsFound nodes i
+
+-- the node of a demand that lacks an amount
+abbrev pub IsRoot : ℤ → Option Node → Type 0
+IsRoot lack None = lack ≤ℤ pos 0
+IsRoot lack (Some b) = (b.flow ≡ lack) × (b.level ≡ 0) × (b.link ≡ None) × (pos 1 ≤ℤ lack)
+
+pub record AreRootsOf (lacks : List ℤ) (nodes : List (Option Node)) : Type 0 where
+  pub places : length nodes ≡ length lacks
+  pub each : (i : ℕ) → i < length lacks → IsRoot (amount_at lacks i) (node_at nodes i)
+
+-- how many demands were not found
+abbrev pub missing : List (Option Node) → ℕ
+missing [] = 0
+missing (None ∷ nodes) = suc (missing nodes)
+missing (Some b ∷ nodes) = missing nodes
+
+-- a slot is marked with a cell of a demand that was found below a level
+pub record IsMarkOf (whos slots : List ℕ) (nodes : List (Option Node)) (level s e : ℕ) : Type 0 where
+  pub cell : e < length whos
+  pub slot : label_at slots e ≡ s
+  pub node : Node
+  pub is_node : node_at nodes (label_at whos e) ≡ Some node
+  pub lower : node.level < level
+
+-- a demand is found at a level, from another
+pub record IsNewNode (whos slots : List ℕ) (y : List ℤ) (nodes : List (Option Node)) (level i : ℕ) (b : Node) : Type 0 where
+  pub out : node_at nodes i ≡ None
+  pub at_level : b.level ≡ level
+  pub linked : (b.link ≡ None) → ⊥
+  pub node : IsNode whos slots y nodes i b
+
+-- more nodes, all of one level; those of before stay
+pub record IsGrown (whos slots : List ℕ) (y : List ℤ) (level : ℕ) (before after : List (Option Node)) : Type 0 where
+  pub places : length after ≡ length before
+  pub tree : AreNodes whos slots y after
+  pub kept : (i : ℕ) (b : Node) → node_at before i ≡ Some b → node_at after i ≡ Some b
+  pub new : (i : ℕ) (b : Node) → node_at before i ≡ None → node_at after i ≡ Some b → (b.level ≡ level) × ((b.link ≡ None) → ⊥)
+
+-- a slot is marked with a cell of a demand that was found, and has no room
+pub record IsMark (whos slots : List ℕ) (rooms : List ℤ) (nodes : List (Option Node)) (s e : ℕ) : Type 0 where
+  pub cell : e < length whos
+  pub slot : label_at slots e ≡ s
+  pub found : IsFound nodes (label_at whos e)
+  pub full : amount_at rooms s ≤ℤ pos 0
+
+abbrev pub mark_at : List (Option ℕ) → ℕ → Option ℕ
+mark_at marks s = slice_index_or marks s None
+
+abbrev pub AreMarks : List ℕ → List ℕ → List ℤ → List (Option Node) → List (Option ℕ) → Type 0
+AreMarks whos slots rooms nodes marks = (s e : ℕ) → mark_at marks s ≡ Some e → IsMark whos slots rooms nodes s e
+
+-- each slot of a demand that was found is marked
+abbrev pub AllMarked : List ℕ → List ℕ → List (Option Node) → List (Option ℕ) → Type 0
+AllMarked whos slots nodes marks = (e : ℕ) → e < length whos → IsFound nodes (label_at whos e) → (f : ℕ) × (mark_at marks (label_at slots e) ≡ Some f)
+
+-- no demand that was not found has anything on a marked slot
+abbrev pub NoneHas : List ℕ → List ℕ → List ℤ → List (Option Node) → List (Option ℕ) → Type 0
+NoneHas whos slots y nodes marks = (e f : ℕ) → e < length whos → node_at nodes (label_at whos e) ≡ None → mark_at marks (label_at slots e) ≡ Some f → amount_at y e ≤ℤ pos 0
+
+-- a slot of a found demand has room
+pub record IsEnd (whos slots : List ℕ) (rooms : List ℤ) (nodes : List (Option Node)) (last : ℕ) : Type 0 where
+  pub cell : last < length whos
+  pub found : IsFound nodes (label_at whos last)
+  pub room : pos 1 ≤ℤ amount_at rooms (label_at slots last)
+
+-- no slot of a found demand has room, and no other demand has anything on one of these slots
+pub record IsStuck (whos slots : List ℕ) (y rooms : List ℤ) (nodes : List (Option Node)) : Type 0 where
+  pub full : (e : ℕ) → e < length whos → IsFound nodes (label_at whos e) → amount_at rooms (label_at slots e) ≤ℤ pos 0
+  pub none : (e f : ℕ) → e < length whos → f < length whos → IsFound nodes (label_at whos e) → label_at slots f ≡ label_at slots e → node_at nodes (label_at whos f) ≡ None → amount_at y f ≤ℤ pos 0
+
+abbrev pub IsSearchEnd : List ℕ → List ℕ → List ℤ → List ℤ → List (Option Node) → Option ℕ → Type 0
+IsSearchEnd whos slots y rooms nodes None = IsStuck whos slots y rooms nodes
+IsSearchEnd whos slots y rooms nodes (Some last) = IsEnd whos slots rooms nodes last
+
+pub record IsSearch (whos slots : List ℕ) (y lacks rooms : List ℤ) (nodes : List (Option Node)) (last : Option ℕ) : Type 0 where
+  pub places : length nodes ≡ length lacks
+  pub tree : AreNodes whos slots y nodes
+  pub roots : AreRoots lacks nodes
+  pub begins : HasRoots lacks nodes
+  pub ended : IsSearchEnd whos slots y rooms nodes last
+
+-- a at the number j, and nothing at others
+abbrev pub only : ℕ → ℕ → ℤ → ℤ
+only j k a = if nat_eq j k then a else pos 0
+
+-- the demand of a node without a link gets a more, on the slot of the last cell in the end; all else has as much as before
+pub record IsRaised (whos slots : List ℕ) (nodes : List (Option Node)) (last : ℕ) (a : ℤ) (y z : List ℤ) : Type 0 where
+  pub root : ℕ
+  pub node : Node
+  pub is_node : node_at nodes root ≡ Some node
+  pub is_root : node.link ≡ None
+  pub enough : a ≤ℤ node.flow
+  pub cells : length z ≡ length y
+  pub amounts : (e : ℕ) → pos 0 ≤ℤ amount_at z e
+  pub got : (i : ℕ) → sum_at i whos z ≡ (sum_at i whos y +ℤ only root i a)
+  pub loads : (s : ℕ) → sum_at s slots z ≡ (sum_at s slots y +ℤ only (label_at slots last) s a)
+
+-- the demands that were found, as a set
+pub record IsFoundSet (nodes : List (Option Node)) (set : List Bool) : Type 0 where
+  pub places : length set ≡ length nodes
+  pub members : (i : ℕ) → Has set i → IsFound nodes i
+  pub others : (i : ℕ) → i < length nodes → slice_index_or set i false ≡ false → node_at nodes i ≡ None
+
+-- no demand gets less than before
+abbrev pub GetsMore : List ℕ → List ℤ → List ℤ → Type 0
+GetsMore whos y z = (i : ℕ) → sum_at i whos y ≤ℤ sum_at i whos z
+
+-- a closed set with all demands that lack something
+pub record IsFilled (demands capacities : List ℤ) (whos slots : List ℕ) (y : List ℤ) (set : List Bool) : Type 0 where
+  pub places : length set ≡ length demands
+  pub closed : IsClosed capacities whos slots y set
+  pub lacking : (i : ℕ) → i < length demands → sum_at i whos y <ℤ amount_at demands i → Has set i

@@ -1,0 +1,28 @@
+// What is left of demands or of capacities once the amounts on the cells are taken off.
+ghost use Rattle.std.specs.Prelude.{◌≡◌, ℕ, ◌<◌, length, pos, ◌≤ℤ◌, IfOk};
+ghost use Rattle.sfm_assign.specs.Splits.{sum_at, amount_at};
+ghost use Rattle.sfm_assign.specs.Cells.{label_at};
+ghost use Rattle.sfm_assign.specs.Search.{AreLeft};
+
+use sfm_base::Memory;
+use std::alloc::Global;
+
+/// Each total less the amounts that have its number.
+pub(crate) fn left_of(
+    alloc: Global,
+    totals: &[i128],
+    labels: &[usize],
+    y: &[i128],
+) -> Result<Vec<i128>, Memory>
+    requires same { length y.now ≡ length labels.now }
+    requires below { (e : ℕ) → e < length labels.now → label_at labels.now e < length totals.now }
+    requires amounts { (e : ℕ) → pos 0 ≤ℤ amount_at y.now e }
+    requires within { (k : ℕ) → k < length totals.now → sum_at k labels.now y.now ≤ℤ amount_at totals.now k }
+    ensures { IfOk result (λ r. AreLeft totals.now labels.now y.now r.items) }
+{
+    let mut left = Vec::from_slice(alloc, totals)?;
+    for e in 0..labels.len() {
+        left[labels[e]] -= y[e];
+    }
+    Ok(left)
+}

@@ -1,0 +1,21 @@
+// Demands split over slots: each demand over the slots of its own list, no slot above its capacity.
+#![tactic(auto)]
+
+mod augment;
+mod cells;
+mod demand;
+mod fill;
+mod greatest;
+mod left;
+mod nodes;
+mod search;
+mod split;
+mod splitting;
+
+pub use demand::Demand;
+pub use greatest::most;
+pub use split::Split;
+pub use splitting::{AssignEnd, assign};
+
+#[cfg(test)]
+mod tests;

@@ -1,0 +1,65 @@
+// The demands that a search finds, each with how much can move from it to one that lacks something.
+ghost use Rattle.std.specs.Prelude.{◌≡◌, ℕ, ◌<◌, length, IfOk, MatchBool, Some, None};
+ghost use Rattle.sfm_assign.specs.Search.{node_at, IsFound, IsFoundSet};
+
+use sfm_base::{Memory, Set};
+use std::alloc::Global;
+
+/// Two cells on one slot: that of a found demand, and that of the demand that it was found from.
+#[derive(Clone, Copy)]
+pub(crate) struct Link {
+    pub own: usize,
+    pub other: usize,
+}
+
+/// A found demand: how much can move from it to one that lacks something, and by which link; None where it lacks
+/// something itself.
+#[derive(Clone, Copy)]
+pub(crate) struct Node {
+    pub flow: i128,
+    pub level: usize,
+    pub link: Option<Link>,
+}
+
+/// Whether a demand was found.
+pub(crate) fn is_found(nodes: &[Option<Node>], i: usize) -> bool
+    requires { i < length nodes.now }
+    ensures { MatchBool result (IsFound nodes.now i) (node_at nodes.now i ≡ None) }
+{
+    nodes[i].is_some()
+}
+
+/// How much can move from a demand that was found.
+pub(crate) fn flow_of(nodes: &[Option<Node>], i: usize) -> i128
+    requires { i < length nodes.now }
+    ensures { (b : Node) → node_at nodes.now i ≡ Some b → result ≡ b.flow }
+{
+    match nodes[i] {
+        Some(node) => node.flow,
+        None => 0,
+    }
+}
+
+/// The link of a demand, if it was found by one.
+pub(crate) fn link_of(nodes: &[Option<Node>], i: usize) -> Option<Link>
+    requires { i < length nodes.now }
+    ensures { (b : Node) → node_at nodes.now i ≡ Some b → result ≡ b.link }
+{
+    match nodes[i] {
+        Some(node) => node.link,
+        None => None,
+    }
+}
+
+/// The demands that were found, as a set.
+pub(crate) fn found_set(alloc: Global, nodes: &[Option<Node>]) -> Result<Set, Memory>
+    ensures { IfOk result (λ s. IsFoundSet nodes.now s) }
+{
+    let mut set = Set::empty(alloc, nodes.len())?;
+    for i in 0..nodes.len() {
+        if is_found(nodes, i) {
+            set.insert(i);
+        }
+    }
+    Ok(set)
+}

@@ -1,0 +1,79 @@
+// A split of all demands, or a set of them that asks for more than its slots have.
+ghost use Rattle.std.specs.Prelude.{◌≡◌, ℕ, ◌<◌, List, length, ℤ, pos, ◌≤ℤ◌, ◌<ℤ◌, IfOk, MatchOption, MatchResult};
+ghost use Rattle.sfm_assign.specs.Splits.{sum_at, amount_at, IsSplit};
+ghost use Rattle.sfm_assign.specs.Cells.{AreCells, IsPart, IsMet};
+ghost use Rattle.sfm_assign.specs.Ends.{IsAssignEnd};
+
+use crate::cells::Cells;
+use crate::demand::Demand;
+use crate::fill::fill;
+use crate::left::left_of;
+use crate::split::Split;
+use sfm_base::{Memory, Set};
+use std::alloc::Global;
+
+/// Why demands are not split.
+#[derive(Debug, Drop)]
+pub enum AssignEnd {
+    /// The demands of the set together ask for more than their slots have, each slot counted once.
+    Shortage { set: Set },
+    /// Want of memory.
+    Memory,
+}
+
+impl From<Memory> for AssignEnd {
+    ghost use Rattle.sfm_assign.specs.declared.splitting.AssignEnd.TheVariants.{Memory};
+
+    ghost from_gives = { λ _ e. e ≡ Memory };
+
+    fn from(_: Memory) -> Self {
+        AssignEnd::Memory
+    }
+}
+
+/// The first demand that lacks something.
+fn first_lacking(lacks: &[i128]) -> Option<usize>
+    ensures { MatchOption result ((i : ℕ) → i < length lacks.now → amount_at lacks.now i ≤ℤ pos 0) (λ i. (i < length lacks.now) × (pos 0 <ℤ amount_at lacks.now i)) }
+{
+    for (i, a) in lacks.iter().enumerate() {
+        if *a > 0 {
+            return Some(i);
+        }
+    }
+    None
+}
+
+/// A demand that does not get what it asks for.
+fn unmet(
+    alloc: Global,
+    cells: &Cells,
+    demands: &[i128],
+    y: &[i128],
+) -> Result<Option<usize>, Memory>
+    requires cells { (m : ℕ) × AreCells (length demands.now) m cells.now.whos.items cells.now.slots.items }
+    requires part { (capacities : List ℤ) × IsPart demands.now capacities cells.now.whos.items cells.now.slots.items y.now }
+    ensures { IfOk result (λ r. MatchOption r (IsMet demands.now cells.now.whos.items y.now) (λ i. (i < length demands.now) × (sum_at i cells.now.whos.items y.now <ℤ amount_at demands.now i))) }
+{
+    let lacks = left_of(alloc, demands, &cells.whos, y)?;
+    Ok(first_lacking(&lacks))
+}
+
+/// Splits each demand over its slots, no slot getting more than its capacity.
+///
+/// # Errors
+///
+/// `Shortage` where there is no split; `Memory` where there is none.
+pub fn assign(alloc: Global, demand: &Demand) -> Result<Split, AssignEnd>
+    ensures { MatchResult result (IsSplit demand.now.demands demand.now.lists demand.now.capacities) (IsAssignEnd demand.now.demands demand.now.lists demand.now.capacities) }
+{
+    let demands = demand.demands();
+    let cells = Cells::of(alloc, demand.lists())?;
+    let mut y = cells.nothing(alloc)?;
+    let set = fill(alloc, &cells, demands, demand.capacities(), &mut y)?;
+    let lacking = unmet(alloc, &cells, demands, &y)?;
+    if lacking.is_some() {
+        return Err(AssignEnd::Shortage { set });
+    }
+    let split = Split::cut(alloc, demand.lists(), &y)?;
+    Ok(split)
+}

@@ -1,0 +1,201 @@
+-- Bases of a number times a rank, and how much can be exchanged at one, where what is within the rank is told by tests of its
+-- entries: no entry is above a number, and each test is met. The tests are left open here.
+-- Textbook: Fujishige, Submodular Functions and Optimization, section 4 (exchange capacities).
+use Rattle.std.proofs.Common.{◌≡◌, ◌≢◌, ◌⊎◌, ℕ, ◌<◌, Bool, true, false, List, length, get_or, set, ℤ, pos, ◌+ℤ◌, ◌-ℤ◌, ◌*ℤ◌, ◌≤ℤ◌, Some, sym, ap, ◌∙◌, arith, ⊎_elim, length-set, get_or-set_other, get_or-set_same}
+use Rattle.std.proofs.lemmas.Bool.{cases_eq}
+use Rattle.std.proofs.lemmas.Int.{ints}
+use Rattle.std.proofs.lemmas.List.{length-replicate}
+use Rattle.sfm_spec.specs.Sets.{Has, whole_set, sum_over}
+use Rattle.sfm_spec.specs.Terms.{times, IsBase, IsCapacity, exchanged}
+use Rattle.sfm_spec.proofs.Scaled.{times-mono, times-assoc}
+use Rattle.sfm_spec.proofs.Search.{within_whole}
+use Rattle.sfm_spec.proofs.Sums.{sum_over-set, length-exchanged}
+use Rattle.sfm_law.proofs.Listing.{own_listing, base_from_leaves}
+use Rattle.sfm_law.proofs.Monotone.{AreCounts, without, sum_over-without}
+use Rattle.sfm_matroid.specs.Matroids.{IsMatroid, AreRanks, rank-mono}
+use Rattle.sfm_matroid.specs.RankTerms.{rank_value}
+
+module _ (k n : ℕ) (q w : ℤ) (low : pos 0 ≤ℤ (q *ℤ w)) (IsIndependent : List Bool → Type 0) (rank : List Bool → ℕ) (matroid : IsMatroid k IsIndependent) (ranks : AreRanks k IsIndependent rank) (Meets : ℕ → List ℤ → Type 0) where
+  abbrev pub IsWithinRanks : List ℤ → Type 0
+  IsWithinRanks x = (s : List Bool) → length s ≡ k → sum_over s x ≤ℤ ((q *ℤ w) *ℤ pos (rank s))
+
+  -- no entry is above q·w, and each of n tests is met
+  pub record PassesTests (x : List ℤ) : Type 0 where
+    pub capped : (e : ℕ) → e < k → get_or x e (pos 0) ≤ℤ (q *ℤ w)
+    pub met : (a : ℕ) → a < n → Meets a x
+
+  -- the tests tell what is within the ranks, and stay met where entries fall
+  pub record AreTests : Type 0 where
+    pub needed : (x : List ℤ) → length x ≡ k → AreCounts x → IsWithinRanks x → PassesTests x
+    pub enough : (x : List ℤ) → length x ≡ k → AreCounts x → PassesTests x → IsWithinRanks x
+    pub smaller : (a : ℕ) (x y : List ℤ) → a < n → length x ≡ k → length y ≡ k → AreCounts x → ((e : ℕ) → e < k → get_or x e (pos 0) ≤ℤ get_or y e (pos 0)) → Meets a y → Meets a x
+
+  value-is : (s : List Bool) → times q (rank_value w rank) s ≡ Some ((q *ℤ w) *ℤ pos (rank s))
+  value-is s = ap Some (sym (times-assoc q w (pos (rank s))))
+
+  pub base_within : (x : List ℤ) → length x ≡ k → IsBase (times q (rank_value w rank)) x → IsWithinRanks x
+  base_within x sized base s ks = base.within s ((q *ℤ w) *ℤ pos (rank s)) (ks ∙ sym sized) (value-is s)
+
+  pub base_total : (x : List ℤ) → length x ≡ k → IsBase (times q (rank_value w rank)) x → sum_over (whole_set k) x ≡ ((q *ℤ w) *ℤ pos (rank (whole_set k)))
+  base_total x sized base = let t = rw sized at base.total in let e : Some ((q *ℤ w) *ℤ pos (rank (whole_set k))) ≡ Some (sum_over (whole_set k) x) = sym (value-is (whole_set k)) ∙ t in sym (some_same e) where
+    some_same : {a b : ℤ} → Some a ≡ Some b → a ≡ b
+    some_same h = cc
+
+  pub base_from : (x : List ℤ) → length x ≡ k → IsWithinRanks x → sum_over (whole_set k) x ≡ ((q *ℤ w) *ℤ pos (rank (whole_set k))) → IsBase (times q (rank_value w rank)) x
+  base_from x sized within total = record {
+    within = λ s a h e. let f : ((q *ℤ w) *ℤ pos (rank s)) ≡ a = some_same (sym (value-is s) ∙ e) in let r = within s (h ∙ sized) in omega (arith, ints, r, f);
+    total = rw sized (value-is (whole_set k) ∙ ap Some (sym total));
+  } where
+    some_same : {a b : ℤ} → Some a ≡ Some b → a ≡ b
+    some_same h = cc
+
+  -- no entry of a base is negative
+  pub base_counts : (x : List ℤ) → length x ≡ k → IsBase (times q (rank_value w rank)) x → AreCounts x
+  base_counts x sized base e h =
+      let lt : e < k = omega (arith, h, sized) in
+      let kw : length (without k e) ≡ k = length-set (whole_set k) e false ∙ length-replicate k true in
+      let part = base_within x sized base (without k e) kw in
+      let all = base_total x sized base in
+      let sum = sum_over-without k e x sized lt in
+      let r = rank-mono k IsIndependent rank matroid ranks (without k e) (whole_set k) kw (length-replicate k true) (within_whole k (without k e) kw) in
+      let up = times-mono (q *ℤ w) (pos (rank (without k e))) (pos (rank (whole_set k))) low (omega (arith, ints, r)) in
+      omega (arith, ints, part, all, sum, up)
+
+  module _ (tests : AreTests) where
+    -- a base, told by the tests
+    pub base_passes : (x : List ℤ) → length x ≡ k → IsBase (times q (rank_value w rank)) x → PassesTests x
+    base_passes x sized base = tests.needed x sized (base_counts x sized base) (base_within x sized base)
+
+    pub passes_base : (x : List ℤ) → length x ≡ k → AreCounts x → PassesTests x → sum_over (whole_set k) x ≡ ((q *ℤ w) *ℤ pos (rank (whole_set k))) → IsBase (times q (rank_value w rank)) x
+    passes_base x sized counts passes total = base_from x sized (tests.enough x sized counts passes) total
+
+    module _ (x : List ℤ) (sized : length x ≡ k) (base : IsBase (times q (rank_value w rank)) x) (u v : ℕ) (ku : u < k) (kv : v < k) (ne : u ≢ v) where
+      -- x with u at r and nothing at v
+      abbrev pub raised : ℤ → List ℤ
+      raised r = set (set x v (pos 0)) u r
+
+      -- the most at u with which a test is met, with nothing at v
+      pub record IsMostAt (a : ℕ) (r : ℤ) : Type 0 where
+        pub reached : Meets a (raised r)
+        pub greatest : (b : ℤ) → Meets a (raised b) → b ≤ℤ r
+
+      -- the least of what v has, what u lacks of q·w, and what u lacks of the most of each test
+      pub record IsLeastRoom (a : ℤ) : Type 0 where
+        pub under_v : a ≤ℤ get_or x v (pos 0)
+        pub under_cap : a ≤ℤ ((q *ℤ w) -ℤ get_or x u (pos 0))
+        pub under_most : (t : ℕ) → t < n → (r : ℤ) × IsMostAt t r × (a ≤ℤ (r -ℤ get_or x u (pos 0)))
+        pub reached : (a ≡ get_or x v (pos 0)) ⊎ ((a ≡ ((q *ℤ w) -ℤ get_or x u (pos 0))) ⊎ ((t : ℕ) × (t < n) × (r : ℤ) × IsMostAt t r × (a ≡ (r -ℤ get_or x u (pos 0)))))
+
+      raised-places : (r : ℤ) → length (raised r) ≡ k
+      raised-places r = length-set (set x v (pos 0)) u r ∙ (length-set x v (pos 0) ∙ sized)
+
+      raised-u : (r : ℤ) → get_or (raised r) u (pos 0) ≡ r
+      raised-u r = get_or-set_same (set x v (pos 0)) u r (pos 0) (let l = length-set x v (pos 0) in omega (arith, l, sized, ku))
+
+      raised-v : (r : ℤ) → get_or (raised r) v (pos 0) ≡ pos 0
+      raised-v r = get_or-set_other (set x v (pos 0)) u v r (pos 0) (λ e. ne (sym e)) ∙ get_or-set_same x v (pos 0) (pos 0) (omega (arith, sized, kv))
+
+      raised-other : (r : ℤ) (e : ℕ) → e ≢ u → e ≢ v → get_or (raised r) e (pos 0) ≡ get_or x e (pos 0)
+      raised-other r e eu ev = get_or-set_other (set x v (pos 0)) u e r (pos 0) eu ∙ get_or-set_other x v e (pos 0) (pos 0) ev
+
+      moved-u : (a : ℤ) → get_or (exchanged x u v a) u (pos 0) ≡ (get_or x u (pos 0) +ℤ a)
+      moved-u a = get_or-set_other (set x u (get_or x u (pos 0) +ℤ a)) v u (get_or x v (pos 0) -ℤ a) (pos 0) ne ∙ get_or-set_same x u (get_or x u (pos 0) +ℤ a) (pos 0) (omega (arith, sized, ku))
+
+      moved-v : (a : ℤ) → get_or (exchanged x u v a) v (pos 0) ≡ (get_or x v (pos 0) -ℤ a)
+      moved-v a = get_or-set_same (set x u (get_or x u (pos 0) +ℤ a)) v (get_or x v (pos 0) -ℤ a) (pos 0) (let l = length-set x u (get_or x u (pos 0) +ℤ a) in omega (arith, l, sized, kv))
+
+      moved-other : (a : ℤ) (e : ℕ) → e ≢ u → e ≢ v → get_or (exchanged x u v a) e (pos 0) ≡ get_or x e (pos 0)
+      moved-other a e eu ev = get_or-set_other (set x u (get_or x u (pos 0) +ℤ a)) v e (get_or x v (pos 0) -ℤ a) (pos 0) ev ∙ get_or-set_other x u e (get_or x u (pos 0) +ℤ a) (pos 0) eu
+
+      counts : AreCounts x
+      counts = base_counts x sized base
+
+      passes : PassesTests x
+      passes = base_passes x sized base
+
+      -- a fact of each entry of x with u at r and nothing at v
+      by_place : (r : ℤ) (P : ℕ → ℤ → Type 0) → P u r → P v (pos 0) → ((e : ℕ) → e ≢ u → e ≢ v → P e (get_or x e (pos 0))) → (e : ℕ) → P e (get_or (raised r) e (pos 0))
+      by_place r P atu atv others e = ⊎_elim
+          (λ (same : e ≡ u). rw (same, raised-u r) atu)
+          (λ (eu : e ≢ u). ⊎_elim
+          (λ (same : e ≡ v). rw (same, raised-v r) atv)
+          (λ (ev : e ≢ v). rw (raised-other r e eu ev) (others e eu ev))
+          (cases_eq e v))
+          (cases_eq e u)
+
+      raised-counts : (r : ℤ) → pos 0 ≤ℤ r → AreCounts (raised r)
+      raised-counts r hr e h = by_place r (λ e y. e < k → pos 0 ≤ℤ y) (λ l. hr) (λ l. omega (arith, ints)) (λ e eu ev l. counts e (omega (arith, l, sized))) e (let p = raised-places r in omega (arith, h, p))
+
+      -- what is met with more at u is met with less
+      lower : (t : ℕ) (r b : ℤ) → t < n → pos 0 ≤ℤ r → r ≤ℤ b → Meets t (raised b) → Meets t (raised r)
+      lower t r b lt hr le met = tests.smaller t (raised r) (raised b) lt (raised-places r) (raised-places b) (raised-counts r hr)
+          (λ e h. by_place r (λ e y. y ≤ℤ get_or (raised b) e (pos 0)) (rw (raised-u b) le) (rw (raised-v b) (omega (arith, ints))) (λ e eu ev. rw (raised-other b e eu ev) (omega (arith, ints))) e) met
+
+      -- a base with u raised by a meets the tests with nothing at v
+      met_raised : (t : ℕ) (a : ℤ) → t < n → IsBase (times q (rank_value w rank)) (exchanged x u v a) → Meets t (raised (get_or x u (pos 0) +ℤ a))
+      met_raised t a lt moved =
+          let km = length-exchanged x u v a ∙ sized in
+          let low' = base_counts (exchanged x u v a) km moved in
+          let p = base_passes (exchanged x u v a) km moved in
+          let hu = low' u (omega (arith, km, ku)) in
+          let hv = low' v (omega (arith, km, kv)) in
+          let mu = moved-u a in
+          tests.smaller t (raised (get_or x u (pos 0) +ℤ a)) (exchanged x u v a) lt (raised-places (get_or x u (pos 0) +ℤ a)) km (raised-counts (get_or x u (pos 0) +ℤ a) (omega (arith, ints, hu, mu)))
+          (λ e h. by_place (get_or x u (pos 0) +ℤ a) (λ e y. y ≤ℤ get_or (exchanged x u v a) e (pos 0)) (omega (arith, ints, mu)) hv (λ e eu ev. let m = moved-other a e eu ev in omega (arith, ints, m)) e)
+          (p.met t lt)
+
+      -- x itself meets them
+      met_now : (t : ℕ) → t < n → Meets t (raised (get_or x u (pos 0)))
+      met_now t lt = tests.smaller t (raised (get_or x u (pos 0))) x lt (raised-places (get_or x u (pos 0))) sized (raised-counts (get_or x u (pos 0)) (counts u (omega (arith, sized, ku))))
+          (λ e h. by_place (get_or x u (pos 0)) (λ e y. y ≤ℤ get_or x e (pos 0)) (omega (arith, ints)) (counts v (omega (arith, sized, kv))) (λ e eu ev. omega (arith, ints)) e) (passes.met t lt)
+
+      least-low : (a : ℤ) → IsLeastRoom a → pos 0 ≤ℤ a
+      least-low a least = ⊎_elim
+          (λ e. let h = counts v (omega (arith, sized, kv)) in omega (arith, ints, e, h))
+          (λ rest. ⊎_elim
+          (λ e. let h = passes.capped u ku in omega (arith, ints, e, h))
+          (λ (t, lt, r, most, e). let h = most.greatest (get_or x u (pos 0)) (met_now t lt) in omega (arith, ints, e, h))
+          rest)
+          least.reached
+
+      sum-raised : (s : List Bool) (a : ℤ) → length s ≡ k → Has s u → get_or s v false ≡ false → sum_over s (raised (get_or x u (pos 0) +ℤ a)) ≡ (sum_over s x +ℤ a)
+      sum-raised s a ks hu ov =
+          let lv = length-set x v (pos 0) in
+          let first = rw ov at (sum_over-set s x v (pos 0) (ks ∙ sym sized) (omega (arith, sized, kv))) in
+          let here = get_or-set_other x v u (pos 0) (pos 0) ne in
+          let second = rw (hu, here) at (sum_over-set s (set x v (pos 0)) u (get_or x u (pos 0) +ℤ a) (ks ∙ sym (lv ∙ sized)) (omega (arith, lv, sized, ku))) in
+          omega (arith, ints, first, second)
+
+      leaves : (a : ℤ) → IsLeastRoom a → (s : List Bool) → length s ≡ k → Has s u → get_or s v false ≡ false → (sum_over s x +ℤ a) ≤ℤ ((q *ℤ w) *ℤ pos (rank s))
+      leaves a least s ks hu ov =
+          let la = least-low a least in
+          let cu = counts u (omega (arith, sized, ku)) in
+          let r = get_or x u (pos 0) +ℤ a in
+          let under = least.under_cap in
+          let pass : PassesTests (raised r) = record {
+            capped = λ e h. by_place r (λ e y. e < k → y ≤ℤ (q *ℤ w)) (λ l. omega (arith, ints, under)) (λ l. low) (λ e eu ev l. passes.capped e l) e h;
+            met = λ t lt. let (b, most, le) = least.under_most t lt in lower t r b lt (omega (arith, ints, la, cu)) (omega (arith, ints, le)) most.reached;
+          } in
+          let w' = tests.enough (raised r) (raised-places r) (raised-counts r (omega (arith, ints, la, cu))) pass s ks in
+          let e = sum-raised s a ks hu ov in
+          omega (arith, ints, w', e)
+
+      -- the room of (u, v)
+      pub least_capacity : (a : ℤ) → IsLeastRoom a → IsCapacity (times q (rank_value w rank)) x u v a
+      least_capacity a least = record {
+        reached = base_from_leaves (times q (rank_value w rank)) k (λ s b. (length s ≡ k) × (times q (rank_value w rank) s ≡ Some b)) ((q *ℤ w) *ℤ pos (rank (whole_set k))) (own_listing (times q (rank_value w rank)) k ((q *ℤ w) *ℤ pos (rank (whole_set k))) (value-is (whole_set k)))
+            x sized base u v ku kv ne a (least-low a least) (λ s b h hu ov. let f : ((q *ℤ w) *ℤ pos (rank s)) ≡ b = some_same (sym (value-is s) ∙ h.1) in let l = leaves a least s h.0 hu ov in omega (arith, ints, l, f));
+        greatest = λ b moved.
+            let km = length-exchanged x u v b ∙ sized in
+            let low' = base_counts (exchanged x u v b) km moved in
+            let p = base_passes (exchanged x u v b) km moved in
+            ⊎_elim
+            (λ e. let h = low' v (omega (arith, km, kv)) in let mv = moved-v b in omega (arith, ints, e, h, mv))
+            (λ rest. ⊎_elim
+            (λ e. let h = p.capped u ku in let mu = moved-u b in omega (arith, ints, e, h, mu))
+            (λ (t, lt, r, most, e). let h = most.greatest (get_or x u (pos 0) +ℤ b) (met_raised t b lt moved) in omega (arith, ints, e, h))
+            rest)
+            least.reached;
+      } where
+        some_same : {a b : ℤ} → Some a ≡ Some b → a ≡ b
+        some_same h = cc

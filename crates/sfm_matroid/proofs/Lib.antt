@@ -1,0 +1,9 @@
+mod Bases
+mod MatroidTests
+mod SplitTests
+mod Numbering
+mod Totals
+mod GraphicBases
+mod Fits
+mod Kept
+mod Labels

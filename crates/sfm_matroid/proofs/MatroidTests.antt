@@ -1,0 +1,166 @@
+-- The tests that tell the bases of a graphic and of a transversal matroid: for each vertex, no edges get more than their ends
+-- but that vertex may hold; and no members get more than their slots may hold. What slots hold, as a sum of capacities.
+-- Textbook: Schrijver, Combinatorial Optimization, sections 22 and 50.
+use Rattle.std.proofs.Common.{◌≡◌, ◌*◌, ◌≢◌, ◌⊎◌, inl, inr, ℕ, zero, suc, ◌+◌, ◌<◌, Bool, true, false, not, ◌&&◌, List, [], ◌∷◌, length, get_or, set, replicate, nat_eq, ℤ, pos, ◌+ℤ◌, ◌*ℤ◌, ◌≤ℤ◌, refl, sym, ap, ◌∙◌, arith, length-set}
+use Rattle.std.proofs.lemmas.Bool.{cases_Bool, cases_eq}
+use Rattle.std.proofs.lemmas.Int.{ints}
+use Rattle.std.proofs.lemmas.List.{length-replicate, get_or-replicate}
+use Rattle.std.proofs.Math.IntN.{*ℤ-zero}
+use Rattle.sfm_spec.specs.Sets.{Has, empty_set, size, sum_over}
+use Rattle.sfm_spec.specs.Kinds.{Edge, IsForest, IsMatchable}
+use Rattle.sfm_spec.proofs.Scaled.{times-mono, times-add}
+use Rattle.sfm_spec.proofs.Sizes.{size-empty, weight-empty}
+use Rattle.sfm_spec.proofs.Sums.{sum_over-set}
+use Rattle.sfm_spec.proofs.Where.{size-cons}
+use Rattle.sfm_matroid.specs.Members.{has_or_out, nothing, size-in}
+use Rattle.sfm_matroid.specs.Counts.{eqb_apart, unit_of, count_below, count-same, count-without, size-count}
+use Rattle.sfm_matroid.specs.Matroids.{IsMatroid, AreRanks, rank-size}
+use Rattle.sfm_matroid.specs.Runs.{EndsBelow}
+use Rattle.sfm_matroid.specs.Forests.{graphic_rank, forest-matroid, graphic-ranks}
+use Rattle.sfm_matroid.specs.Numbered.{numbered, length-numbered, numbered_below, rank-number}
+use Rattle.sfm_matroid.specs.Cuts.{IsWithinEnds, ends_from_rank, rank_from_ends}
+use Rattle.sfm_matroid.specs.Matchings.{matching-matroid}
+use Rattle.sfm_matroid.specs.Ore.{slots_count, AreSlotsBelow, slots_from_rank, rank_from_slots}
+use Rattle.sfm_matroid.specs.Transversals.{transversal_rank, transversal-ranks}
+use Rattle.sfm_matroid.proofs.Bases.{AreTests}
+
+sum_over-below : (s : List Bool) (x y : List ℤ) → length x ≡ length y → ((e : ℕ) → e < length x → get_or x e (pos 0) ≤ℤ get_or y e (pos 0)) → sum_over s x ≤ℤ sum_over s y
+sum_over-below [] x y same le = omega (arith, ints)
+sum_over-below (b ∷ s) [] [] same le = omega (arith, ints)
+sum_over-below (b ∷ s) [] (d ∷ y) same le = absurd (omega (arith, same))
+sum_over-below (b ∷ s) (c ∷ x) [] same le = absurd (omega (arith, same))
+sum_over-below (b ∷ s) (c ∷ x) (d ∷ y) same le = at b (le 0 (omega arith)) (sum_over-below s x y (omega arith) (λ e lt. le (suc e) (omega arith))) where
+  at : (b : Bool) → c ≤ℤ d → sum_over s x ≤ℤ sum_over s y → sum_over (b ∷ s) (c ∷ x) ≤ℤ sum_over (b ∷ s) (d ∷ y)
+  at true h r = omega (arith, ints, h, r)
+  at false h r = omega (arith, ints, r)
+
+-- no entry is above the factor of what is within the ranks
+capped_by_rank : (k : ℕ) (IsIndependent : List Bool → Type 0) (rank : List Bool → ℕ) (matroid : IsMatroid k IsIndependent) (ranks : AreRanks k IsIndependent rank) (c : ℤ) → pos 0 ≤ℤ c → (x : List ℤ) → length x ≡ k
+    → ((s : List Bool) → length s ≡ k → sum_over s x ≤ℤ (c *ℤ pos (rank s))) → (e : ℕ) → e < k → get_or x e (pos 0) ≤ℤ c
+capped_by_rank k IsIndependent rank matroid ranks c low x sized within e lt =
+    let s = set (empty_set k) e true in
+    let kn = length-replicate k false in
+    let ks : length s ≡ k = length-set (empty_set k) e true ∙ kn in
+    let out = has_or_out (empty_set k) e (nothing k e) in
+    let h = within s ks in
+    let r = rank-size k IsIndependent rank matroid ranks s ks in
+    let z = size-in (empty_set k) e (omega (arith, kn, lt)) out in
+    let n = size-empty k in
+    let up = times-mono c (pos (rank s)) (pos 1) low (omega (arith, ints, r, z, n)) in
+    let one = once c in
+    let sum = single k e x sized lt in
+    omega (arith, ints, h, up, one, sum) where
+      once : (c : ℤ) → (c *ℤ pos 1) ≡ c
+      once c = omega (arith, ints)
+
+      single : (k e : ℕ) (x : List ℤ) → length x ≡ k → e < k → sum_over (set (empty_set k) e true) x ≡ get_or x e (pos 0)
+      single zero e x sized lt = absurd (omega (arith, lt))
+      single (suc k) e [] sized lt = absurd (omega (arith, sized))
+      single (suc k) zero (y ∷ x) sized lt = let w = weight-empty k x in omega (arith, ints, w)
+      single (suc k) (suc e) (y ∷ x) sized lt = let r = single k e x (omega arith) (omega arith) in omega (arith, ints, r)
+
+-- one test for each of m vertices
+pub graphic_tests : (edges : List Edge) (m : ℕ) (below : EndsBelow edges m) (q w : ℤ) (low : pos 0 ≤ℤ (q *ℤ w))
+    → AreTests (length edges) m q w low (IsForest edges) (graphic_rank edges) (forest-matroid edges) (graphic-ranks edges) (λ a x. IsWithinEnds edges m (q *ℤ w) x a)
+graphic_tests edges m below q w low = record {
+  needed = λ x sized counts within. record {
+    capped = capped_by_rank (length edges) (IsForest edges) (graphic_rank edges) (forest-matroid edges) (graphic-ranks edges) (q *ℤ w) low x sized within;
+    met = λ a lt. ends_from_rank edges m below (q *ℤ w) low x within a;
+  };
+  enough = λ x sized counts passes. rank_from_ends edges m below (q *ℤ w) low x passes.met;
+  smaller = λ a x y lt kx ky counts le met s ks. let h = met s ks in let r = sum_over-below s x y (kx ∙ sym ky) (λ e h. le e (omega (arith, h, kx))) in omega (arith, ints, h, r);
+}
+
+-- the same by the numbers of the ends
+pub numbered_tests : (edges : List Edge) (q w : ℤ) (low : pos 0 ≤ℤ (q *ℤ w))
+    → AreTests (length edges) (2 * length edges) q w low (IsForest edges) (graphic_rank edges) (forest-matroid edges) (graphic-ranks edges) (λ a x. IsWithinEnds (numbered edges) (2 * length edges) (q *ℤ w) x a)
+numbered_tests edges q w low = record {
+  needed = λ x sized counts within. record {
+    capped = capped_by_rank (length edges) (IsForest edges) (graphic_rank edges) (forest-matroid edges) (graphic-ranks edges) (q *ℤ w) low x sized within;
+    met = λ a lt. ends_from_rank (numbered edges) m (below []) (q *ℤ w) low x (λ s ks. let h = within s (ks ∙ length-numbered edges s) in let r = ap (λ n. (q *ℤ w) *ℤ pos n) (rank-number edges s) in omega (arith, ints, h, r)) a;
+  };
+  enough = λ x sized counts passes s ks.
+      let h = rank_from_ends (numbered edges) m (below s) (q *ℤ w) low x passes.met s (ks ∙ sym (length-numbered edges s)) in
+      let r = ap (λ n. (q *ℤ w) *ℤ pos n) (rank-number edges s) in
+      omega (arith, ints, h, r);
+  smaller = λ a x y lt kx ky counts le met s ks. let h = met s ks in let r = sum_over-below s x y (kx ∙ sym ky) (λ e h. le e (omega (arith, h, kx))) in omega (arith, ints, h, r);
+} where
+  m : ℕ
+  m = 2 * length edges
+
+  below : (s : List Bool) → EndsBelow (numbered edges) (2 * length edges)
+  below s = numbered_below edges s
+
+-- no members get more than c for each of m slots that are listed for them
+abbrev pub IsWithinSlots : List (List ℕ) → ℕ → ℤ → List ℤ → Type 0
+IsWithinSlots entries m c x = (s : List Bool) → length s ≡ length entries → sum_over s x ≤ℤ (c *ℤ pos (slots_count entries m s))
+
+-- one test
+pub transversal_tests : (entries : List (List ℕ)) (m : ℕ) (below : AreSlotsBelow entries m) (q w : ℤ) (low : pos 0 ≤ℤ (q *ℤ w))
+    → AreTests (length entries) 1 q w low (IsMatchable entries) (transversal_rank entries) (matching-matroid (length entries) entries) (transversal-ranks entries) (λ a x. IsWithinSlots entries m (q *ℤ w) x)
+transversal_tests entries m below q w low = record {
+  needed = λ x sized counts within. record {
+    capped = capped_by_rank (length entries) (IsMatchable entries) (transversal_rank entries) (matching-matroid (length entries) entries) (transversal-ranks entries) (q *ℤ w) low x sized within;
+    met = λ a lt. slots_from_rank (length entries) m entries (transversal_rank entries) (transversal-ranks entries) below (q *ℤ w) low x within;
+  };
+  enough = λ x sized counts passes. rank_from_slots (length entries) m entries (transversal_rank entries) (transversal-ranks entries) (q *ℤ w) low x (λ e lt. passes.capped e (omega (arith, lt, sized))) (passes.met 0 (omega arith));
+  smaller = λ a x y lt kx ky counts le met s ks. let h = met s ks in let r = sum_over-below s x y (kx ∙ sym ky) (λ e h. le e (omega (arith, h, kx))) in omega (arith, ints, h, r);
+}
+
+-- ---- sums of capacities
+
+-- c at each place
+pub sum-level : (z : List Bool) (c : ℤ) → sum_over z (replicate (length z) c) ≡ (c *ℤ pos (size z))
+sum-level [] c = sym (*ℤ-zero c)
+sum-level (b ∷ z) c = at b (sum-level z c) (size-cons b z) where
+  at : (b : Bool) → sum_over z (replicate (length z) c) ≡ (c *ℤ pos (size z)) → size (b ∷ z) ≡ unit_of b + size z → sum_over (b ∷ z) (replicate (length (b ∷ z)) c) ≡ (c *ℤ pos (size (b ∷ z)))
+  at true r e =
+      let one : pos (size (true ∷ z)) ≡ (pos (size z) +ℤ pos 1) = omega (arith, ints, e) in
+      let p = ap (λ a. c *ℤ a) one ∙ times-add c (pos (size z)) (pos 1) in
+      omega (arith, ints, r, p)
+  at false r e =
+      let one : pos (size (false ∷ z)) ≡ pos (size z) = omega (arith, ints, e) in
+      let p = ap (λ a. c *ℤ a) one in
+      omega (arith, ints, r, p)
+
+-- c at each place but a
+pub sum-but : (z : List Bool) (c : ℤ) (a : ℕ) → a < length z → sum_over z (set (replicate (length z) c) a (pos 0)) ≡ (c *ℤ pos (count_below (length z) (λ v. get_or z v false && not (nat_eq v a))))
+sum-but z c a lt = at (cases_Bool (get_or z a false)) where
+  m : ℕ
+  m = length z
+
+  turned : (b d : Bool) → (b && not d) ≡ (not d && b)
+  turned true true = refl
+  turned true false = refl
+  turned false true = refl
+  turned false false = refl
+
+  order : count_below (length z) (λ v. get_or z v false && not (nat_eq v a)) ≡ count_below (length z) (λ v. not (nat_eq v a) && get_or z v false)
+  order = count-same (length z) (λ v. get_or z v false && not (nat_eq v a)) (λ v. not (nat_eq v a) && get_or z v false) (λ v lv. turned (get_or z v false) (nat_eq v a))
+
+  at : (Has z a) ⊎ (get_or z a false ≡ false) → sum_over z (set (replicate (length z) c) a (pos 0)) ≡ (c *ℤ pos (count_below (length z) (λ v. get_or z v false && not (nat_eq v a))))
+  at (inl has) =
+      let l = length-replicate (length z) c in
+      let first = rw (has, get_or-replicate (length z) a c (pos 0) lt) at (sum_over-set z (replicate (length z) c) a (pos 0) (sym l) (omega (arith, l, lt))) in
+      let all = sum-level z c in
+      let n = size-count z in
+      let w = count-without (length z) (λ v. get_or z v false) a lt has in
+      let o = order in
+      let one : pos (size z) ≡ (pos (count_below (length z) (λ v. get_or z v false && not (nat_eq v a))) +ℤ pos 1) = omega (arith, ints, n, w, o) in
+      let p = ap (λ d. c *ℤ d) one ∙ times-add c (pos (count_below (length z) (λ v. get_or z v false && not (nat_eq v a)))) (pos 1) in
+      omega (arith, ints, first, all, p)
+  at (inr out) =
+      let l = length-replicate (length z) c in
+      let first = rw out at (sum_over-set z (replicate (length z) c) a (pos 0) (sym l) (omega (arith, l, lt))) in
+      let all = sum-level z c in
+      let n = size-count z in
+      let keep = count-same (length z) (λ v. get_or z v false && not (nat_eq v a)) (λ v. get_or z v false) (λ v lv. kept v (cases_eq v a)) in
+      let same : pos (size z) ≡ pos (count_below (length z) (λ v. get_or z v false && not (nat_eq v a))) = omega (arith, ints, n, keep) in
+      let p = ap (λ d. c *ℤ d) same in
+      omega (arith, ints, first, all, p) where
+        kept : (v : ℕ) → (v ≡ a) ⊎ (v ≢ a) → (get_or z v false && not (nat_eq v a)) ≡ get_or z v false
+        kept v (inl same) = rw (same, out) refl
+        kept v (inr ne) = rw (eqb_apart v a ne) (plain (get_or z v false)) where
+          plain : (b : Bool) → (b && true) ≡ b
+          plain true = refl
+          plain false = refl

@@ -1,0 +1,126 @@
+-- The tests of bases as demands that are split over slots: each edge over its two ends, the capacity of one vertex being 0; each
+-- member over the slots of its entry. Demands that are split pass the test, and demands of which a set is short do not.
+-- Textbook: Schrijver, Combinatorial Optimization, section 22 (Hall's condition).
+use Rattle.std.proofs.Common.{◌≡◌, ℕ, zero, suc, ◌<◌, Bool, true, false, not, ◌&&◌, ◌||◌, List, [], ◌∷◌, length, get_or, set, replicate, nat_eq, ℤ, pos, ◌*ℤ◌, refl, sym, ap, ◌∙◌, arith, ⊎_elim, length-set, get_or-set_other, get_or-set_same}
+use Rattle.std.specs.List.{All}
+use Rattle.std.proofs.lemmas.Bool.{cases_eq, eq-eqb}
+use Rattle.std.proofs.lemmas.Int.{ints}
+use Rattle.std.proofs.lemmas.List.{length-replicate, get_or-replicate}
+use Rattle.sfm_spec.specs.Sets.{sum_over}
+use Rattle.sfm_spec.specs.Kinds.{Edge}
+use Rattle.sfm_spec.proofs.Sets.{get_or-union}
+use Rattle.sfm_assign.specs.Splits.{set_of, slots_of, CanBeMet, IsShort}
+use Rattle.sfm_assign.proofs.Rows.{AreBelow, length-slots_of}
+use Rattle.sfm_assign.proofs.Hall.{hall_easy}
+use Rattle.sfm_matroid.specs.Counts.{count_below, count-same, eqb_apart, size-count}
+use Rattle.sfm_matroid.specs.Runs.{EndsBelow}
+use Rattle.sfm_matroid.specs.Cuts.{touches, ends_but, IsWithinEnds}
+use Rattle.sfm_matroid.specs.Numbered.{end_lists, vertex_capacities}
+use Rattle.sfm_matroid.specs.Ore.{lists_slot, listed, slots_count}
+use Rattle.sfm_matroid.proofs.MatroidTests.{IsWithinSlots, sum-level, sum-but}
+
+-- ---- the slots of a set, one by one
+
+length-set_of : (m : ℕ) (slots : List ℕ) → length (set_of m slots) ≡ m
+length-set_of m [] = length-replicate m false
+length-set_of m (a ∷ slots) = length-set (set_of m slots) a true ∙ length-set_of m slots
+
+set_of-at : (m : ℕ) (slots : List ℕ) (v : ℕ) → v < m → get_or (set_of m slots) v false ≡ lists_slot slots v
+set_of-at m [] v lt = get_or-replicate m v false false lt
+set_of-at m (a ∷ slots) v lt = ⊎_elim
+    (λ (same : v ≡ a).
+    let l = length-set_of m slots in
+    rw (same, eq-eqb a a refl) (get_or-set_same (set_of m slots) a true false (omega (arith, l, lt, same))))
+    (λ ne. rw (eqb_apart a v (λ e. ne (sym e))) (get_or-set_other (set_of m slots) a v true false ne ∙ set_of-at m slots v lt))
+    (cases_eq v a)
+
+pub slots_of-at : (m : ℕ) (lists : List (List ℕ)) (s : List Bool) (v : ℕ) → v < m → get_or (slots_of m lists s) v false ≡ listed lists s v
+slots_of-at m [] s v lt = get_or-replicate m v false false lt
+slots_of-at m (slots ∷ lists) [] v lt = get_or-replicate m v false false lt
+slots_of-at m (slots ∷ lists) (true ∷ s) v lt =
+    let r = slots_of-at m lists s v lt in
+    let f = set_of-at m slots v lt in
+    get_or-union (set_of m slots) (slots_of m lists s) v (length-set_of m slots ∙ sym (length-slots_of m lists s)) ∙ (ap (λ b. b || get_or (slots_of m lists s) v false) f ∙ ap (λ b. lists_slot slots v || b) r)
+slots_of-at m (slots ∷ lists) (false ∷ s) v lt = slots_of-at m lists s v lt
+
+-- ---- what slots hold
+
+pub level-sum : (m : ℕ) (lists : List (List ℕ)) (s : List Bool) (c : ℤ) → sum_over (slots_of m lists s) (replicate m c) ≡ (c *ℤ pos (slots_count lists m s))
+level-sum m lists s c =
+    let z = slots_of m lists s in
+    let l = length-slots_of m lists s in
+    let a = rw l at (sum-level z c) in
+    let n = size-count z ∙ ap (λ i. count_below i (λ v. get_or z v false)) l in
+    let e = count-same m (λ v. get_or z v false) (listed lists s) (λ v lt. slots_of-at m lists s v lt) in
+    a ∙ ap (λ i. c *ℤ pos i) (n ∙ e)
+
+pub but-sum : (m : ℕ) (lists : List (List ℕ)) (s : List Bool) (c : ℤ) (a : ℕ) → a < m → sum_over (slots_of m lists s) (set (replicate m c) a (pos 0)) ≡ (c *ℤ pos (count_below m (λ v. listed lists s v && not (nat_eq v a))))
+but-sum m lists s c a lt =
+    let z = slots_of m lists s in
+    let l = length-slots_of m lists s in
+    let h = rw l at (sum-but z c a (omega (arith, l, lt))) in
+    let e = count-same m (λ v. get_or z v false && not (nat_eq v a)) (λ v. listed lists s v && not (nat_eq v a)) (λ v lv. ap (λ b. b && not (nat_eq v a)) (slots_of-at m lists s v lv)) in
+    h ∙ ap (λ i. c *ℤ pos i) e
+
+-- ---- edges, each with its ends
+
+pub length-ends : (edges : List Edge) → length (end_lists edges) ≡ length edges
+length-ends [] = refl
+length-ends (edge ∷ edges) = let r : length (end_lists edges) ≡ length edges = length-ends edges in omega (arith, r)
+
+touches-listed : (edges : List Edge) (s : List Bool) (v : ℕ) → listed (end_lists edges) s v ≡ touches edges s v
+touches-listed [] s v = refl
+touches-listed (edge ∷ edges) [] v = refl
+touches-listed (edge ∷ edges) (b ∷ s) v = rw (touches-listed edges s v, plain (nat_eq edge.head v)) refl where
+  plain : (b : Bool) → (b || false) ≡ b
+  plain true = refl
+  plain false = refl
+
+pub ends_exist : (edges : List Edge) (m : ℕ) → EndsBelow edges m → AreBelow m (end_lists edges)
+ends_exist [] m below i d lt = absurd (omega (arith, lt))
+ends_exist (edge ∷ edges) m below zero d lt = two where
+  two : All (λ s. s < m) (edge.tail ∷ edge.head ∷ [])
+  two zero d lt = (below 0 (omega arith)).0
+  two (suc zero) d lt = (below 0 (omega arith)).1
+  two (suc (suc i)) d lt = absurd (omega (arith, lt))
+ends_exist (edge ∷ edges) m below (suc i) d lt = ends_exist edges m (λ e le. below (suc e) (omega arith)) i d (omega arith)
+
+module _ (edges : List Edge) (m : ℕ) (below : EndsBelow edges m) (c : ℤ) (x : List ℤ) (sized : length x ≡ length edges) (a : ℕ) (lt : a < m) where
+  vertices : length (vertex_capacities m c a) ≡ m
+  vertices = length-set (replicate m c) a (pos 0) ∙ length-replicate m c
+
+  held : (s : List Bool) → sum_over (slots_of (length (vertex_capacities m c a)) (end_lists edges) s) (vertex_capacities m c a) ≡ (c *ℤ pos (ends_but edges m a s))
+  held s =
+      let e = count-same m (λ v. listed (end_lists edges) s v && not (nat_eq v a)) (λ v. touches edges s v && not (nat_eq v a)) (λ v lv. ap (λ b. b && not (nat_eq v a)) (touches-listed edges s v)) in
+      rw vertices (but-sum m (end_lists edges) s c a lt ∙ ap (λ i. c *ℤ pos i) e)
+
+  -- what is split passes the test
+  pub split_within_ends : CanBeMet x (end_lists edges) (vertex_capacities m c a) → IsWithinEnds edges m c x a
+  split_within_ends can s ks =
+      let exist : AreBelow (length (vertex_capacities m c a)) (end_lists edges) = rw vertices (ends_exist edges m below) in
+      let h = hall_easy x (end_lists edges) (vertex_capacities m c a) s (length-ends edges ∙ sym sized) exist (ks ∙ sym sized) can in
+      let e = held s in
+      omega (arith, ints, h, e)
+
+  -- what is short does not
+  pub short_beyond_ends : (s : List Bool) → IsShort x (end_lists edges) (vertex_capacities m c a) s → IsWithinEnds edges m c x a → ⊥
+  short_beyond_ends s short within = let h = within s (short.places ∙ sized) in let e = held s in let more = short.more in omega (arith, ints, h, e, more)
+
+-- ---- members, each with the slots of its entry
+
+module _ (entries : List (List ℕ)) (m : ℕ) (exist : AreBelow m entries) (c : ℤ) (x : List ℤ) (sized : length x ≡ length entries) where
+  slots : length (replicate m c) ≡ m
+  slots = length-replicate m c
+
+  held_slots : (s : List Bool) → sum_over (slots_of (length (replicate m c)) entries s) (replicate m c) ≡ (c *ℤ pos (slots_count entries m s))
+  held_slots s = rw slots (level-sum m entries s c)
+
+  pub split_within_slots : CanBeMet x entries (replicate m c) → IsWithinSlots entries m c x
+  split_within_slots can s ks =
+      let below : AreBelow (length (replicate m c)) entries = rw slots exist in
+      let h = hall_easy x entries (replicate m c) s (sym sized) below (ks ∙ sym sized) can in
+      let e = held_slots s in
+      omega (arith, ints, h, e)
+
+  pub short_beyond_slots : (s : List Bool) → IsShort x entries (replicate m c) s → IsWithinSlots entries m c x → ⊥
+  short_beyond_slots s short within = let h = within s (short.places ∙ sized) in let e = held_slots s in let more = short.more in omega (arith, ints, h, e, more)

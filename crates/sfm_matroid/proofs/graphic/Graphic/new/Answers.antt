@@ -1,0 +1,14 @@
+use Rattle.std.proofs.Common.{◌∙◌, length, ap, sym}
+use Rattle.sfm_base.proofs.Elements.{placed_few}
+use Rattle.sfm_matroid.proofs.Labels.{length-edges}
+use Rattle.sfm_matroid.proofs.Kept.{basis_from}
+use Rattle.sfm_matroid.proofs.graphic.Graphic.new.Goals as goal
+
+pub invariant_of-result-clause-few : goal.invariant_of-result-clause-few
+invariant_of-result-clause-few c = rw c.in_ok-places.ensures (placed_few 256 c.args.elements.now c.requires.elements.placed)
+
+pub invariant_of-result-clause-same_count : goal.invariant_of-result-clause-same_count
+invariant_of-result-clause-same_count c = ap length c.in_ok-ends.ensures ∙ (length-edges c.args.ends.now ∙ (c.requires.same_count ∙ ap length (sym c.in_ok-places.ensures)))
+
+pub invariant_of-result-clause-based : goal.invariant_of-result-clause-based
+invariant_of-result-clause-based c = basis_from c.args.ends.now _ _ _ c.in_ok-ends.ensures c.in_ok-all.ensures c.in_ok-basis.ensures

@@ -1,0 +1,15 @@
+pub mod Members
+pub mod Matroids
+pub mod RankTerms
+pub mod Counts
+pub mod Runs
+pub mod Trails
+pub mod Growing
+pub mod Forests
+pub mod Ends
+pub mod GraphicLaws
+pub mod Numbered
+pub mod Matchings
+pub mod Cuts
+pub mod Ore
+pub mod Transversals

@@ -1,0 +1,68 @@
+-- One place put into a set or taken out of it.
+use Rattle.std.proofs.Common.{◌≡◌, ◌⊎◌, ℕ, zero, suc, ◌+◌, ◌<◌, Bool, true, false, cond, List, [], ◌∷◌, length, get_or, set, sym, ◌∙◌, arith, inl, inr, ⊎_elim, length-set, get_or-set_other, get_or-set_same}
+use Rattle.std.proofs.lemmas.Bool.{false≢true, cases_eq, cases_Bool}
+use Rattle.sfm_spec.specs.Sets.{Has, IsWithin, empty_set, size}
+use Rattle.sfm_spec.proofs.Where.{size-cons}
+
+pub has_place : (s : List Bool) (e : ℕ) → Has s e → e < length s
+has_place [] e h = absurd (false≢true h)
+has_place (a ∷ s) zero h = omega arith
+has_place (a ∷ s) (suc e) h = let r = has_place s e h in omega (arith, r)
+
+pub nothing : (k e : ℕ) → Has (empty_set k) e → ⊥
+nothing zero e h = false≢true h
+nothing (suc k) zero h = false≢true h
+nothing (suc k) (suc e) h = nothing k e h
+
+pub has_or_out : (s : List Bool) (e : ℕ) → (Has s e → ⊥) → get_or s e false ≡ false
+has_or_out s e h = ⊎_elim (λ has. absurd (h has)) (λ out. out) (cases_Bool (get_or s e false))
+
+pub size-put : (s : List Bool) (e : ℕ) (b : Bool) → e < length s → size (set s e b) + cond (get_or s e false) 1 0 ≡ size s + cond b 1 0
+size-put [] e b h = absurd (omega arith)
+size-put (a ∷ s) zero b h = let l = size-cons a s in let r = size-cons b s in omega (arith, l, r)
+size-put (a ∷ s) (suc e) b h = let l = size-cons a s in let m = size-cons a (set s e b) in let r = size-put s e b (omega arith) in omega (arith, l, m, r)
+
+pub size-in : (s : List Bool) (e : ℕ) → e < length s → get_or s e false ≡ false → size (set s e true) ≡ suc (size s)
+size-in s e h out = let r = rw out at (size-put s e true h) in omega (arith, r)
+
+-- a place taken out, whether it was in or not, leaves all others and at most one less
+pub size-out : (s : List Bool) (e : ℕ) → e < length s → size s < suc (suc (size (set s e false)))
+size-out s e h = at (get_or s e false) (size-put s e false h) where
+  at : (b : Bool) → size (set s e false) + cond b 1 0 ≡ size s + 0 → size s < suc (suc (size (set s e false)))
+  at true r = omega (arith, r)
+  at false r = omega (arith, r)
+
+-- a set with a place taken in has that and those that it had
+pub has_set : (s : List Bool) (e i : ℕ) → Has (set s e true) i → (i ≡ e) ⊎ Has s i
+has_set s e i h = ⊎_elim (λ same. inl same) (λ ne. inr (sym (get_or-set_other s e i true false ne) ∙ h)) (cases_eq i e)
+
+pub set_has : (s : List Bool) (e i : ℕ) → Has s i → Has (set s e true) i
+set_has s e i h = ⊎_elim
+    (λ (same : i ≡ e). let lt = has_place s i h in let le : e < length s = omega (arith, lt, same) in rw same (get_or-set_same s e true false le))
+    (λ ne. get_or-set_other s e i true false ne ∙ h)
+    (cases_eq i e)
+
+pub set_here : (s : List Bool) (e : ℕ) → e < length s → Has (set s e true) e
+set_here s e h = get_or-set_same s e true false h
+
+pub set_within : (s t : List Bool) (e : ℕ) → IsWithin s t → Has t e → IsWithin (set s e true) t
+set_within s t e w has i h = ⊎_elim (λ (same : i ≡ e). rw same has) (λ old. w i old) (has_set s e i h)
+
+pub set_wider : (s : List Bool) (e : ℕ) → IsWithin s (set s e true)
+set_wider s e i h = set_has s e i h
+
+-- a set with a place taken out has those that it had, but not that
+pub out_has : (s : List Bool) (e i : ℕ) → Has (set s e false) i → Has s i
+out_has s e i h = ⊎_elim
+    (λ (same : i ≡ e).
+    let p = has_place (set s e false) i h in
+    let le : e < length s = let len = length-set s e false in omega (arith, p, len, same) in
+    absurd (false≢true (sym (get_or-set_same s e false false le) ∙ (let hj = rw same at h in hj))))
+    (λ ne. sym (get_or-set_other s e i false false ne) ∙ h)
+    (cases_eq i e)
+
+pub out_gone : (s : List Bool) (e : ℕ) → Has (set s e false) e → ⊥
+out_gone s e h =
+    let p = has_place (set s e false) e h in
+    let le : e < length s = let len = length-set s e false in omega (arith, p, len) in
+    false≢true (sym (get_or-set_same s e false false le) ∙ h)

@@ -1,0 +1,134 @@
+-- Places that are taken one after another while their slots suffice: a greatest set with slots of its own.
+-- Textbook: Schrijver, Combinatorial Optimization, sections 22 (Hall's theorem), 39 and 40.
+use Rattle.std.proofs.Common.{◌≡◌, ℕ, zero, suc, ◌+◌, ◌<◌, ◌≤◌, Bool, true, false, not, ◌&&◌, ◌||◌, List, [], ◌∷◌, length, get_or, set, nat_lt, if◌then◌else◌, refl, sym, ap, ◌∙◌, arith, inl, inr, ⊎_elim, length-set}
+use Rattle.std.specs.List.{Contains}
+use Rattle.std.proofs.lemmas.Bool.{false≢true, cases_lt, cases_Bool, and_parts, or_cases, or_left, or_right, ltb-true, lt-ltb}
+use Rattle.std.proofs.lemmas.List.{length-replicate}
+use Rattle.sfm_spec.specs.Sets.{empty_set, whole_set, intersection, size}
+use Rattle.sfm_spec.specs.Kinds.{IsMatchable}
+use Rattle.sfm_spec.proofs.Sets.{in_both, in_first, in_second, same_sets}
+use Rattle.sfm_spec.proofs.Sums.{length-intersection}
+use Rattle.sfm_matroid.specs.Matroids.{AreRanks}
+use Rattle.sfm_matroid.specs.RankTerms.{IsFirstBasis}
+use Rattle.sfm_matroid.specs.Growing.{IsGrowth, grown-rank, first_basis}
+use Rattle.sfm_matroid.specs.Matchings.{matching-matroid}
+use Rattle.sfm_matroid.specs.Ore.{slots_count, AreSlotsBelow, matched_slots, matchable_by_slots}
+
+-- ---- a test of independence
+
+-- some set of k places passes
+abbrev pub some_set : ℕ → (List Bool → Bool) → Bool
+some_set zero p = p []
+some_set (suc k) p = some_set k (λ s. p (true ∷ s)) || some_set k (λ s. p (false ∷ s))
+
+-- the members of t that are in r have fewer slots than they are
+abbrev pub lack_slots : List (List ℕ) → ℕ → List Bool → List Bool → Bool
+lack_slots entries m t r = nat_lt (slots_count entries m (intersection r t)) (size (intersection r t))
+
+-- no part of t has fewer slots than members
+abbrev pub have_slots : List (List ℕ) → ℕ → List Bool → Bool
+have_slots entries m t = not (some_set (length t) (lack_slots entries m t))
+
+some_from : (k : ℕ) (p : List Bool → Bool) (s : List Bool) → length s ≡ k → p s ≡ true → some_set k p ≡ true
+some_from zero p [] same h = h
+some_from zero p (b ∷ s) same h = absurd (omega (arith, same))
+some_from (suc k) p [] same h = absurd (omega (arith, same))
+some_from (suc k) p (true ∷ s) same h = or_left (some_set k (λ s. p (true ∷ s))) (some_set k (λ s. p (false ∷ s))) (some_from k (λ s. p (true ∷ s)) s (omega arith) h)
+some_from (suc k) p (false ∷ s) same h = or_right (some_set k (λ s. p (true ∷ s))) (some_set k (λ s. p (false ∷ s))) (some_from k (λ s. p (false ∷ s)) s (omega arith) h)
+
+some_to : (k : ℕ) (p : List Bool → Bool) → some_set k p ≡ true → (s : List Bool) × (length s ≡ k) × (p s ≡ true)
+some_to zero p h = ([], refl, h)
+some_to (suc k) p h = ⊎_elim
+    (λ l. let (s, same, has) = some_to k (λ s. p (true ∷ s)) l in (true ∷ s, omega (arith, same), has))
+    (λ r. let (s, same, has) = some_to k (λ s. p (false ∷ s)) r in (false ∷ s, omega (arith, same), has))
+    (or_cases (some_set k (λ s. p (true ∷ s))) (some_set k (λ s. p (false ∷ s))) h)
+
+module _ (k m : ℕ) (entries : List (List ℕ)) (below : AreSlotsBelow entries m) where
+  pub slots_suffice : (t : List Bool) → length t ≡ k → have_slots entries m t ≡ true → IsMatchable entries t
+  slots_suffice t kt test = matchable_by_slots k m entries t kt (λ r kr within.
+      let same : intersection r t ≡ r = same_sets (intersection r t) r (length-intersection r t (kr ∙ sym kt)) (λ e lt h. in_first r t e (kr ∙ sym kt) h) (λ e lt h. in_both r t e (kr ∙ sym kt) h (within e h)) in
+      ⊎_elim
+      (λ (less : slots_count entries m r < size r).
+      let lacks : lack_slots entries m t r ≡ true = rw same (lt-ltb (slots_count entries m r) (size r) less) in
+      absurd (false≢true (sym (ap not (some_from (length t) (lack_slots entries m t) r (kr ∙ sym kt) lacks)) ∙ test)))
+      (λ (enough : size r ≤ slots_count entries m r). enough)
+      (cases_lt (slots_count entries m r) (size r)))
+
+  pub slots_needed : (t : List Bool) → length t ≡ k → have_slots entries m t ≡ false → IsMatchable entries t → ⊥
+  slots_needed t kt test (slots, matched) =
+      let (r, kr, lacks) = some_to (length t) (lack_slots entries m t) (turned (some_set (length t) (lack_slots entries m t)) test) in
+      let less = ltb-true (slots_count entries m (intersection r t)) (size (intersection r t)) lacks in
+      let c = matched_slots k m entries below (intersection r t) (intersection r t) (λ e h. h) (slots, record { own = λ e h. matched.own e (in_second r t e kr h); distinct = λ d e hd he. matched.distinct d e (in_second r t d kr hd) (in_second r t e kr he) }) in
+      omega (arith, less, c) where
+        turned : (b : Bool) → not b ≡ false → b ≡ true
+        turned true h = refl
+        turned false h = absurd (false≢true (sym h))
+
+-- ---- places taken one after another
+
+-- more than each slot of each entry
+abbrev pub above_list : List ℕ → ℕ
+above_list [] = 0
+above_list (a ∷ slots) = suc (a + above_list slots)
+
+abbrev pub above_slots : List (List ℕ) → ℕ
+above_slots [] = 0
+above_slots (slots ∷ entries) = above_list slots + above_slots entries
+
+list_below : (slots : List ℕ) (v : ℕ) → Contains slots v → v < above_list slots
+list_below [] v (i, lt, is) = absurd (omega (arith, lt))
+list_below (a ∷ slots) v (zero, lt, is) = let e : a ≡ v = is in omega (arith, e)
+list_below (a ∷ slots) v (suc i, lt, is) = let r = list_below slots v (i, omega arith, is) in omega (arith, r)
+
+pub slots_below : (entries : List (List ℕ)) → AreSlotsBelow entries (above_slots entries)
+slots_below [] e v (i, lt, is) = absurd (omega (arith, lt))
+slots_below (slots ∷ entries) zero v c = let r = list_below slots v c in omega (arith, r)
+slots_below (slots ∷ entries) (suc e) v c = let r = slots_below entries e v c in omega (arith, r)
+
+-- the place n of s is taken to t: it has slots with it
+abbrev pub suits : List (List ℕ) → List Bool → List Bool → ℕ → Bool
+suits entries s t n = get_or s n false && have_slots entries (above_slots entries) (set t n true)
+
+-- the places of s below n that are taken
+abbrev pub suited : List (List ℕ) → List Bool → ℕ → List Bool
+suited entries s zero = empty_set (length entries)
+suited entries s (suc n) = if suits entries s (suited entries s n) n then set (suited entries s n) n true else suited entries s n
+
+module _ (entries : List (List ℕ)) where
+  suited-places : (s : List Bool) (n : ℕ) → length (suited entries s n) ≡ length entries
+  suited-places s zero = length-replicate (length entries) false
+  suited-places s (suc n) = at (suits entries s (suited entries s n) n) (suited-places s n) where
+    at : (b : Bool) → length (suited entries s n) ≡ length entries → length (if b then set (suited entries s n) n true else suited entries s n) ≡ length entries
+    at true r = length-set (suited entries s n) n true ∙ r
+    at false r = r
+
+  pub suited-growth : (s : List Bool) → IsGrowth (length entries) (IsMatchable entries) s (suited entries s)
+  suited-growth s = record {
+    begins = refl;
+    steps = λ j lt.
+        let t = suited entries s j in
+        let kt = length-set t j true ∙ suited-places s j in
+        ⊎_elim
+        (λ take.
+        let (has, test) = and_parts (get_or s j false) (have_slots entries (above_slots entries) (set t j true)) take in
+        inl (has, rw take refl, slots_suffice (length entries) (above_slots entries) entries (slots_below entries) (set t j true) kt test))
+        (λ idle. inr (rw idle refl, λ has free. slots_needed (length entries) (above_slots entries) entries (slots_below entries) (set t j true) kt (second (get_or s j false) (have_slots entries (above_slots entries) (set t j true)) has idle) free))
+        (cases_Bool (suits entries s t j));
+  } where
+    second : (a b : Bool) → a ≡ true → (a && b) ≡ false → b ≡ false
+    second true b h e = e
+    second false b h e = absurd (false≢true h)
+
+  -- how many places are taken of a set
+  abbrev pub transversal_rank : List Bool → ℕ
+  transversal_rank s = size (suited entries s (length entries))
+
+  pub transversal-ranks : AreRanks (length entries) (IsMatchable entries) transversal_rank
+  transversal-ranks s ks = grown-rank (length entries) (IsMatchable entries) (matching-matroid (length entries) entries) s (suited entries s) (suited-growth s) ks
+
+  -- the places that are taken one after another when all may be
+  abbrev pub transversal_basis : List Bool
+  transversal_basis = suited entries (whole_set (length entries)) (length entries)
+
+  pub transversal-first : IsFirstBasis (length entries) transversal_rank transversal_basis
+  transversal-first = first_basis (length entries) (IsMatchable entries) transversal_rank (matching-matroid (length entries) entries) transversal-ranks (suited entries (whole_set (length entries))) (suited-growth (whole_set (length entries)))

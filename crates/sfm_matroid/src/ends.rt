@@ -1,0 +1,44 @@
+// The edges of a graph by their ends, that do not change once made.
+ghost use Rattle.std.specs.Prelude.{◌≡◌, ℕ, List, length, IfOk};
+ghost use Rattle.sfm_matroid.specs.Ends.{edges_of};
+
+use sfm_base::Memory;
+use std::alloc::Global;
+use std::marker::Model;
+
+/// Edges of a graph, seen as a list of edges with a tail and a head.
+#[derive(Debug, Drop)]
+pub struct Ends {
+    items: Vec<(u32, u32)>,
+}
+
+impl Model for Ends {
+    ghost use Rattle.std.specs.Prelude.{List};
+    ghost use Rattle.sfm_spec.specs.Kinds.{Edge};
+    ghost use Rattle.sfm_matroid.specs.Ends.{edges_of};
+
+    ghost Value = { List Edge };
+
+    ghost view = { λ s. edges_of s.items.items };
+}
+
+impl Ends {
+    /// A copy of the edges.
+    ///
+    /// # Errors
+    ///
+    /// `Memory` where there is none.
+    pub(crate) fn from_slice(alloc: Global, ends: &[(u32, u32)]) -> Result<Ends, Memory>
+        ensures { IfOk result (λ r. r ≡ edges_of ends.now) }
+    {
+        let items = Vec::from_slice(alloc, ends)?;
+        Ok(Ends { items })
+    }
+
+    /// The tail and the head of each edge.
+    pub fn as_slice(&self) -> &[(u32, u32)]
+        ensures { edges_of result.now ≡ self.now }
+    {
+        self.items.as_slice()
+    }
+}

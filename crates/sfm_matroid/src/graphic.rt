@@ -1,0 +1,195 @@
+// A number w times the rank of a graphic matroid. A part of the edges is independent where no closed trail takes distinct
+// edges of it: where it is a forest. The edges that are taken one after another, unless they close a trail, are a greatest
+// forest of a part, so their count is the rank.
+ghost use Rattle.std.specs.Prelude.{◌≡◌, ◌↔◌, ◌*◌, IsTrue, ℕ, ◌<◌, ◌≤◌, ◌^◌, Bool, List, length, slice_index_or, ℤ, pos, ◌*ℤ◌, ◌≤ℤ◌, IfOk};
+ghost use Rattle.std.specs.List.{All};
+ghost use Rattle.sfm_assign.specs.Splits.{IsAmount};
+ghost use Rattle.sfm_spec.specs.Bounds.{IsAtMost, IsEntry, IsFactor, IsGiven, AreElements};
+ghost use Rattle.sfm_spec.specs.Terms.{IsBase, IsGreedy, times};
+ghost use Rattle.sfm_spec.specs.Kinds.{IsForest, IsRank, IsRankFunction};
+ghost use Rattle.sfm_matroid.specs.Ends.{edges_of};
+ghost use Rattle.sfm_matroid.specs.Cuts.{IsWithinEnds};
+ghost use Rattle.sfm_matroid.specs.Numbered.{numbered};
+ghost use Rattle.sfm_matroid.specs.Forests.{graphic_rank};
+ghost use Rattle.sfm_matroid.specs.GraphicLaws.{graphic_value, graphic_size, graphic_start, graphic_basis};
+
+use crate::ends::Ends;
+use crate::growing::{grow, whole};
+use crate::number::{are_within, has_sum, product};
+use crate::testing::{numbered, passes};
+use sfm_base::{Memory, Places, Set};
+use std::alloc::Global;
+
+/// A number for each element of a greatest independent part: elements are edges, and independent where they are a forest
+/// (Schrijver, Combinatorial Optimization, section 39).
+#[derive(Drop)]
+pub struct Graphic {
+    pub places: Places,
+    pub w: i128,
+    pub ends: Ends,
+    /// The edges that are taken one after another unless they close a trail.
+    pub basis: Set,
+    pub ghost elements: { AreElements places },
+    pub ghost few: { length places ≤ 256 },
+    pub ghost low: { pos 0 ≤ℤ w },
+    pub ghost given: { IsGiven w },
+    pub ghost same_count: { length ends ≡ length places },
+    pub ghost based: { basis ≡ graphic_basis ends },
+}
+
+impl Graphic {
+    /// The term that is worth w for each edge of a greatest forest; the elements and the ends of their edges are copied.
+    ///
+    /// # Errors
+    ///
+    /// `Memory` where there is none.
+    pub fn new(
+        alloc: Global,
+        elements: &[usize],
+        w: i128,
+        ends: &[(u32, u32)],
+    ) -> Result<Graphic, Memory>
+        requires elements { AreElements elements.now }
+        requires low { pos 0 ≤ℤ w }
+        requires given { IsGiven w }
+        requires same_count { length ends.now ≡ length elements.now }
+        ensures places { IfOk result (λ r. r.places ≡ elements.now) }
+        ensures number { IfOk result (λ r. r.w ≡ w) }
+        ensures ends { IfOk result (λ r. r.ends ≡ edges_of ends.now) }
+    {
+        let places = Places::from_slice(alloc, elements)?;
+        let all = whole(alloc, ends.len())?;
+        let basis = grow(alloc, ends, &all)?;
+        let ends = Ends::from_slice(alloc, ends)?;
+        Ok(Graphic {
+            places,
+            w,
+            ends,
+            basis,
+        })
+    }
+
+    /// How many elements of a part may be independent together, and no more.
+    ///
+    /// # Errors
+    ///
+    /// `Memory` where there is none.
+    pub fn rank(&self, alloc: Global, s: &Set) -> Result<i128, Memory>
+        requires { length s.now ≡ length self.now.places }
+        ensures rank { IfOk result (λ r. r ≡ pos (graphic_rank self.now.ends s.now)) }
+        ensures greatest { IfOk result (λ r. (n : ℕ) × (r ≡ pos n) × IsRank (IsForest self.now.ends) s.now n) }
+    {
+        let forest = grow(alloc, self.ends.as_slice(), s)?;
+        Ok(forest.size() as i128)
+    }
+
+    /// The value of each part is w times its rank: a law, with nothing to do.
+    pub fn values_are_ranks(&self)
+        ensures { IsRankFunction (length self.now.places) self.now.w (IsForest self.now.ends) (graphic_value self.now.w self.now.ends) }
+    {}
+
+    /// The value of a count of elements that are independent together.
+    fn ranked(&self, count: i128) -> i128
+        requires low { pos 0 ≤ℤ count }
+        requires high { count ≤ℤ pos 256 }
+        ensures value { result ≡ self.now.w *ℤ count }
+        ensures small { IsAtMost (10 ^ 21) result }
+    {
+        self.w * count
+    }
+
+    /// The greatest value: that of all elements.
+    pub fn size_of(&self) -> i128
+        ensures value { result ≡ graphic_size self.now.w self.now.ends }
+        ensures small { IsAtMost (10 ^ 21) result }
+    {
+        self.ranked(self.basis.size() as i128)
+    }
+
+    /// The value of a part: w times its rank.
+    ///
+    /// # Errors
+    ///
+    /// `Memory` where there is none.
+    pub fn value_of(&self, alloc: Global, s: &Set) -> Result<Option<i128>, Memory>
+        requires { length s.now ≡ length self.now.places }
+        ensures { IfOk result (λ r. r ≡ graphic_value self.now.w self.now.ends s.now) }
+    {
+        let rank = self.rank(alloc, s)?;
+        Ok(Some(self.ranked(rank)))
+    }
+
+    /// Writes the base with q·w at each edge of the forest that is kept, and 0 at the others.
+    pub fn start_of(&self, q: i128, x: &mut [i128])
+        requires factor { IsFactor q }
+        requires entries { length x.old ≡ length self.now.places }
+        ensures start { x.new ≡ graphic_start q self.now.w self.now.ends }
+        ensures greedy { IsGreedy q (graphic_value self.now.w self.now.ends) (length self.now.places) x.new }
+        ensures base { IsBase (times q (graphic_value self.now.w self.now.ends)) x.new }
+    {
+        self.write_start(q, x);
+    }
+
+    /// Writes q·w at the edges of the forest that is kept, and 0 at the others.
+    fn write_start(&self, q: i128, x: &mut [i128])
+        requires factor { IsFactor q }
+        requires entries { length x.old ≡ length self.now.places }
+        ensures { x.new ≡ graphic_start q self.now.w self.now.ends }
+    {
+        for (j, a) in x.iter_mut().enumerate() {
+            *a = self.share(q, j);
+        }
+    }
+
+    /// What the place j gets of the first base.
+    fn share(&self, q: i128, j: usize) -> i128
+        requires factor { IsFactor q }
+        requires place { j < length self.now.places }
+        ensures { result ≡ slice_index_or (graphic_start q self.now.w self.now.ends) j (pos 0) }
+    {
+        if !self.basis.contains(j) {
+            return 0;
+        }
+        product(q, self.w)
+    }
+
+    /// Whether no edges get more than a number for each of their ends but one, whichever one.
+    fn passes_all(&self, alloc: Global, x: &[i128], most: i128) -> Result<bool, Memory>
+        requires entries { length x.now ≡ length self.now.places }
+        requires amounts { All IsAmount x.now }
+        requires low { pos 0 ≤ℤ most }
+        requires high { most ≤ℤ pos (10 ^ 24) }
+        ensures { IfOk result (λ r. IsTrue r ↔ ((a : ℕ) → a < 2 * length self.now.ends → IsWithinEnds (numbered self.now.ends) (2 * length self.now.ends) most x.now a)) }
+    {
+        let ends = numbered(alloc, self.ends.as_slice())?;
+        for a in 0..2 * ends.len() {
+            if !passes(alloc, &ends, x, most, a)? {
+                return Ok(false);
+            }
+        }
+        Ok(true)
+    }
+
+    /// Whether x is a base of q times the term.
+    ///
+    /// # Errors
+    ///
+    /// `Memory` where there is none.
+    pub fn is_base_of(&self, alloc: Global, q: i128, x: &[i128]) -> Result<bool, Memory>
+        requires factor { IsFactor q }
+        requires entries { length x.now ≡ length self.now.places }
+        requires small { All IsEntry x.now }
+        ensures { IfOk result (λ r. IsTrue r ↔ IsBase (times q (graphic_value self.now.w self.now.ends)) x.now) }
+    {
+        let most = product(q, self.w);
+        if !are_within(x, most) {
+            return Ok(false);
+        }
+        let whole = product(q, self.size_of());
+        if !has_sum(x, whole) {
+            return Ok(false);
+        }
+        let passed = self.passes_all(alloc, x, most)?;
+        Ok(passed)
+    }
+}

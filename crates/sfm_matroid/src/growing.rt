@@ -1,0 +1,67 @@
+// The edges that are taken one after another where they close no trail. Each end of each edge has a label, at first its
+// vertex. An edge closes a trail exactly where its two labels are equal; when it is taken, the label of its tail becomes
+// that of its head wherever it stands, so labels are equal exactly where a trail of taken edges joins the ends. No table of
+// vertices is needed, and k edges take k·k steps at most.
+ghost use Rattle.std.specs.Prelude.{◌≡◌, ◌<◌, true, length, map, slice_set, nat_eq, if◌then◌else◌, IfOk};
+ghost use Rattle.sfm_spec.specs.Sets.{whole_set};
+ghost use Rattle.sfm_matroid.specs.Runs.{renamed, taken};
+ghost use Rattle.sfm_matroid.specs.Ends.{edges_of, both_renamed, labels_at};
+
+use sfm_base::{Memory, Set};
+use std::alloc::Global;
+
+/// All of k places.
+pub(crate) fn whole(alloc: Global, k: usize) -> Result<Set, Memory>
+    ensures { IfOk result (λ s. s ≡ whole_set k) }
+{
+    let mut s = Set::empty(alloc, k)?;
+    for e in 0..k {
+        s.insert(e);
+    }
+    Ok(s)
+}
+
+/// A label, or another where it is the one that goes.
+fn renamed(from: u32, to: u32, label: u32) -> u32
+    ensures { result ≡ renamed from to label }
+{
+    if label == from { to } else { label }
+}
+
+/// Puts one label for another wherever it stands.
+fn rename(labels: &mut [(u32, u32)], from: u32, to: u32)
+    ensures { labels.new ≡ map (both_renamed from to) labels.old }
+{
+    for pair in labels.iter_mut() {
+        *pair = (renamed(from, to, pair.0), renamed(from, to, pair.1));
+    }
+}
+
+/// Takes an edge to t, unless its labels are equal.
+fn take(labels: &mut [(u32, u32)], t: &mut Set, e: usize)
+    requires edge { e < length labels.old }
+    requires place { e < length t.old }
+    ensures labels { labels.new ≡ map (both_renamed (labels_at labels.old e).0 (labels_at labels.old e).1) labels.old }
+    ensures taken { t.new ≡ (if nat_eq (labels_at labels.old e).0 (labels_at labels.old e).1 then t.old else slice_set t.old e true) }
+{
+    let (tail, head) = labels[e];
+    if tail != head {
+        t.insert(e);
+        rename(labels, tail, head);
+    }
+}
+
+/// The edges of a set that are taken one after another.
+pub(crate) fn grow(alloc: Global, ends: &[(u32, u32)], s: &Set) -> Result<Set, Memory>
+    requires { length s.now ≡ length ends.now }
+    ensures { IfOk result (λ t. t ≡ taken (edges_of ends.now) s.now (length ends.now)) }
+{
+    let mut labels = Vec::from_slice(alloc, ends)?;
+    let mut t = Set::empty(alloc, s.len())?;
+    for e in 0..s.len() {
+        if s.contains(e) {
+            take(&mut labels, &mut t, e);
+        }
+    }
+    Ok(t)
+}
