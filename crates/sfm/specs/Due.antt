@@ -1,5 +1,5 @@
 -- What is due for the texts that a command names: the text that is to be written, and the code that goes with it.
-use Rattle.std.specs.Prelude.{◌≡◌, ◌↔◌, ◌⊎◌, ℕ, ◌≤◌, List, ◌++◌, length, codes, decimal}
+use Rattle.std.specs.Prelude.{◌≡◌, ◌↔◌, ◌⊎◌, ℕ, List, ◌++◌, codes, decimal}
 use Rattle.sfm_spec.specs.Families.{Meaning, meanings}
 use Rattle.sfm_kind.specs.declared.kind.Kind.{Kind}
 use Rattle.sfm_kind.specs.Kinds.{kind_places, kind_value}

@@ -1,5 +1,5 @@
 // What is due for texts that were read: a file, a refusal or a verdict, made whole before any of it is written.
-ghost use Rattle.std.specs.Prelude.{◌≡◌, ◌⊎◌, ◌+◌, ◌++◌, ℕ, List, codes, decimal, IfOk, IfErr};
+ghost use Rattle.std.specs.Prelude.{◌≡◌, ◌⊎◌, ◌+◌, ◌++◌, ◌<◌, ℕ, List, length, codes, decimal, IfOk, IfErr};
 ghost use Rattle.sfm_cert.specs.Solved.{form_of};
 ghost use Rattle.sfm.specs.Due.{refusal, verdict_line, verdict_code, wrong_word, meanings_of, IsVerdict, IsRefused};
 ghost use Rattle.sfm.specs.Status.{code_of};
@@ -137,6 +137,18 @@ pub fn due_to_solve(alloc: Global, bytes: &Option<Vec<u8>>) -> Result<Due, Memor
     }
 }
 
+/// The verdict on an answer that is too long. No right file is: an instance has few names, and few terms over few places.
+fn verdict_on_long(instance: &Instance) -> Verdict
+    ensures { (answer : List ℕ) → answer_limit < length answer → IsVerdict (form_of instance.now) (meanings_of instance.now.terms) answer result }
+{
+    let _count = instance.names_len();
+    let _terms = instance.terms();
+    Verdict::Invalid {
+        line: 0,
+        reason: Wrong::Long,
+    }
+}
+
 /// The verdict on an answer that was read, or, for None, on one that is too long.
 fn verdict_on(
     alloc: Global,
@@ -147,10 +159,7 @@ fn verdict_on(
 {
     match bytes {
         Some(bytes) => judge(alloc, instance, bytes.as_slice()),
-        None => Ok(Verdict::Invalid {
-            line: 0,
-            reason: Wrong::Long,
-        }),
+        None => Ok(verdict_on_long(instance)),
     }
 }
 
