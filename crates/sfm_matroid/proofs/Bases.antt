@@ -86,7 +86,7 @@ module _ (k n : ℕ) (q w : ℤ) (low : pos 0 ≤ℤ (q *ℤ w)) (IsIndependent 
         pub under_most : (t : ℕ) → t < n → (r : ℤ) × IsMostAt t r × (a ≤ℤ (r -ℤ get_or x u (pos 0)))
         pub reached : (a ≡ get_or x v (pos 0)) ⊎ ((a ≡ ((q *ℤ w) -ℤ get_or x u (pos 0))) ⊎ ((t : ℕ) × (t < n) × (r : ℤ) × IsMostAt t r × (a ≡ (r -ℤ get_or x u (pos 0)))))
 
-      raised-places : (r : ℤ) → length (raised r) ≡ k
+      pub raised-places : (r : ℤ) → length (raised r) ≡ k
       raised-places r = length-set (set x v (pos 0)) u r ∙ (length-set x v (pos 0) ∙ sized)
 
       raised-u : (r : ℤ) → get_or (raised r) u (pos 0) ≡ r
@@ -107,7 +107,7 @@ module _ (k n : ℕ) (q w : ℤ) (low : pos 0 ≤ℤ (q *ℤ w)) (IsIndependent 
       moved-other : (a : ℤ) (e : ℕ) → e ≢ u → e ≢ v → get_or (exchanged x u v a) e (pos 0) ≡ get_or x e (pos 0)
       moved-other a e eu ev = get_or-set_other (set x u (get_or x u (pos 0) +ℤ a)) v e (get_or x v (pos 0) -ℤ a) (pos 0) ev ∙ get_or-set_other x u e (get_or x u (pos 0) +ℤ a) (pos 0) eu
 
-      counts : AreCounts x
+      pub counts : AreCounts x
       counts = base_counts x sized base
 
       passes : PassesTests x
@@ -123,7 +123,7 @@ module _ (k n : ℕ) (q w : ℤ) (low : pos 0 ≤ℤ (q *ℤ w)) (IsIndependent 
           (cases_eq e v))
           (cases_eq e u)
 
-      raised-counts : (r : ℤ) → pos 0 ≤ℤ r → AreCounts (raised r)
+      pub raised-counts : (r : ℤ) → pos 0 ≤ℤ r → AreCounts (raised r)
       raised-counts r hr e h = by_place r (λ e y. e < k → pos 0 ≤ℤ y) (λ l. hr) (λ l. omega (arith, ints)) (λ e eu ev l. counts e (omega (arith, l, sized))) e (let p = raised-places r in omega (arith, h, p))
 
       -- what is met with more at u is met with less
@@ -148,6 +148,10 @@ module _ (k n : ℕ) (q w : ℤ) (low : pos 0 ≤ℤ (q *ℤ w)) (IsIndependent 
       met_now : (t : ℕ) → t < n → Meets t (raised (get_or x u (pos 0)))
       met_now t lt = tests.smaller t (raised (get_or x u (pos 0))) x lt (raised-places (get_or x u (pos 0))) sized (raised-counts (get_or x u (pos 0)) (counts u (omega (arith, sized, ku))))
           (λ e h. by_place (get_or x u (pos 0)) (λ e y. y ≤ℤ get_or x e (pos 0)) (omega (arith, ints)) (counts v (omega (arith, sized, kv))) (λ e eu ev. omega (arith, ints)) e) (passes.met t lt)
+
+      -- and with nothing at u too
+      pub met_nothing : (t : ℕ) → t < n → Meets t (raised (pos 0))
+      met_nothing t lt = lower t (pos 0) (get_or x u (pos 0)) lt (omega (arith, ints)) (counts u (omega (arith, sized, ku))) (met_now t lt)
 
       least-low : (a : ℤ) → IsLeastRoom a → pos 0 ≤ℤ a
       least-low a least = ⊎_elim

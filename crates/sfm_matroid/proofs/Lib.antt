@@ -4,6 +4,9 @@ mod SplitTests
 mod Numbering
 mod Totals
 mod GraphicBases
+mod GraphicRooms
+mod LeastSteps
+mod Puts
 mod Fits
 mod Kept
 mod Labels

@@ -1,7 +1,7 @@
 -- The tests of bases as demands that are split over slots: each edge over its two ends, the capacity of one vertex being 0; each
 -- member over the slots of its entry. Demands that are split pass the test, and demands of which a set is short do not.
 -- Textbook: Schrijver, Combinatorial Optimization, section 22 (Hall's condition).
-use Rattle.std.proofs.Common.{◌≡◌, ℕ, zero, suc, ◌<◌, Bool, true, false, not, ◌&&◌, ◌||◌, List, [], ◌∷◌, length, get_or, set, replicate, nat_eq, ℤ, pos, ◌*ℤ◌, refl, sym, ap, ◌∙◌, arith, ⊎_elim, length-set, get_or-set_other, get_or-set_same}
+use Rattle.std.proofs.Common.{◌≡◌, ◌≢◌, ℕ, zero, suc, ◌<◌, Bool, true, false, not, ◌&&◌, ◌||◌, List, [], ◌∷◌, length, get_or, set, replicate, nat_eq, ℤ, pos, ◌*ℤ◌, ◌≤ℤ◌, refl, sym, ap, ◌∙◌, arith, ⊎_elim, length-set, get_or-set_other, get_or-set_same}
 use Rattle.std.specs.List.{All}
 use Rattle.std.proofs.lemmas.Bool.{cases_eq, eq-eqb}
 use Rattle.std.proofs.lemmas.Int.{ints}
@@ -12,6 +12,8 @@ use Rattle.sfm_spec.proofs.Sets.{get_or-union}
 use Rattle.sfm_assign.specs.Splits.{set_of, slots_of, CanBeMet, IsShort}
 use Rattle.sfm_assign.proofs.Rows.{AreBelow, length-slots_of}
 use Rattle.sfm_assign.proofs.Hall.{hall_easy}
+use Rattle.sfm_assign.proofs.Filling.{hall}
+use Rattle.sfm_law.proofs.Monotone.{AreCounts}
 use Rattle.sfm_matroid.specs.Counts.{count_below, count-same, eqb_apart, size-count}
 use Rattle.sfm_matroid.specs.Runs.{EndsBelow}
 use Rattle.sfm_matroid.specs.Cuts.{touches, ends_but, IsWithinEnds}
@@ -101,6 +103,20 @@ module _ (edges : List Edge) (m : ℕ) (below : EndsBelow edges m) (c : ℤ) (x 
       let h = hall_easy x (end_lists edges) (vertex_capacities m c a) s (length-ends edges ∙ sym sized) exist (ks ∙ sym sized) can in
       let e = held s in
       omega (arith, ints, h, e)
+
+  -- what passes it is split
+  pub within_ends_split : pos 0 ≤ℤ c → AreCounts x → IsWithinEnds edges m c x a → CanBeMet x (end_lists edges) (vertex_capacities m c a)
+  within_ends_split low counts within =
+      let exist : AreBelow (length (vertex_capacities m c a)) (end_lists edges) = rw vertices (ends_exist edges m below) in
+      hall x (end_lists edges) (vertex_capacities m c a) (length-ends edges ∙ sym sized) exist counts caps (λ s ks. let h = within s (ks ∙ sized) in let e = held s in omega (arith, ints, h, e)) where
+        caps : (s : ℕ) → s < length (vertex_capacities m c a) → pos 0 ≤ℤ get_or (vertex_capacities m c a) s (pos 0)
+        caps s ls =
+            let v = vertices in
+            let l = length-replicate m c in
+            ⊎_elim
+            (λ (same : s ≡ a). rw (same, get_or-set_same (replicate m c) a (pos 0) (pos 0) (omega (arith, l, lt))) (omega (arith, ints)))
+            (λ (ne : s ≢ a). rw (get_or-set_other (replicate m c) a s (pos 0) (pos 0) ne, get_or-replicate m s c (pos 0) (omega (arith, ls, v))) low)
+            (cases_eq s a)
 
   -- what is short does not
   pub short_beyond_ends : (s : List Bool) → IsShort x (end_lists edges) (vertex_capacities m c a) s → IsWithinEnds edges m c x a → ⊥

@@ -9,6 +9,7 @@ pub mod Forests
 pub mod Ends
 pub mod GraphicLaws
 pub mod Numbered
+pub mod Leasts
 pub mod Matchings
 pub mod Cuts
 pub mod Ore

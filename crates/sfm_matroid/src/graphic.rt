@@ -1,23 +1,27 @@
 // A number w times the rank of a graphic matroid. A part of the edges is independent where no closed trail takes distinct
 // edges of it: where it is a forest. The edges that are taken one after another, unless they close a trail, are a greatest
-// forest of a part, so their count is the rank.
-ghost use Rattle.std.specs.Prelude.{◌≡◌, ◌↔◌, ◌*◌, IsTrue, ℕ, ◌<◌, ◌≤◌, ◌^◌, Bool, List, length, slice_index_or, ℤ, pos, ◌*ℤ◌, ◌≤ℤ◌, IfOk};
+// forest of a part, so their count is the rank. The bases of q times the term are told by a test for each vertex, and the room
+// of (u, v) is the least of what v has, what u lacks of q·w, and what u lacks of the most that it gets in each test without v.
+ghost use Rattle.std.specs.Prelude.{◌≡◌, ◌≢◌, ◌↔◌, ◌*◌, IsTrue, ℕ, ◌<◌, ◌≤◌, ◌^◌, Bool, List, length, slice_index_or, slice_set, ℤ, pos, neg_ℤ, ◌+ℤ◌, ◌-ℤ◌, ◌*ℤ◌, ◌≤ℤ◌, IfOk, OnOk, Some};
 ghost use Rattle.std.specs.List.{All};
 ghost use Rattle.sfm_assign.specs.Splits.{IsAmount};
 ghost use Rattle.sfm_spec.specs.Bounds.{IsAtMost, IsEntry, IsFactor, IsGiven, AreElements};
-ghost use Rattle.sfm_spec.specs.Terms.{IsBase, IsGreedy, times};
+ghost use Rattle.sfm_spec.specs.Terms.{SetFunction, IsBase, IsCapacity, IsFamily, IsSubmodular, IsGreedy, HasRoom, exchanged, times};
+ghost use Rattle.sfm_law.specs.Room.{IsRoom, IsReach, IsWithinRoom};
 ghost use Rattle.sfm_spec.specs.Kinds.{IsForest, IsRank, IsRankFunction};
 ghost use Rattle.sfm_matroid.specs.Ends.{edges_of};
 ghost use Rattle.sfm_matroid.specs.Cuts.{IsWithinEnds};
 ghost use Rattle.sfm_matroid.specs.Numbered.{numbered};
 ghost use Rattle.sfm_matroid.specs.Forests.{graphic_rank};
-ghost use Rattle.sfm_matroid.specs.GraphicLaws.{graphic_value, graphic_size, graphic_start, graphic_basis};
+ghost use Rattle.sfm_matroid.specs.GraphicLaws.{graphic_value, graphic_size, graphic_start, graphic_basis, graphic-family, graphic-submodular, graphic-bounded, graphic-starts, graphic-starts_small};
 
 use crate::ends::Ends;
 use crate::growing::{grow, whole};
 use crate::number::{are_within, has_sum, product};
+use crate::room::least_left;
 use crate::testing::{numbered, passes};
 use sfm_base::{Memory, Places, Set};
+use sfm_law::{Room, Term};
 use std::alloc::Global;
 
 /// A number for each element of a greatest independent part: elements are edges, and independent where they are a forest
@@ -191,5 +195,209 @@ impl Graphic {
         }
         let passed = self.passes_all(alloc, x, most)?;
         Ok(passed)
+    }
+
+    /// The greatest number that can be exchanged at a base.
+    fn capacity(
+        &self,
+        alloc: Global,
+        q: i128,
+        x: &[i128],
+        u: usize,
+        v: usize,
+    ) -> Result<i128, Memory>
+        requires factor { IsFactor q }
+        requires entries { length x.now ≡ length self.now.places }
+        requires small { All IsEntry x.now }
+        requires base { IsBase (times q (graphic_value self.now.w self.now.ends)) x.now }
+        requires apart { u ≢ v }
+        requires from { u < length x.now }
+        requires onto { v < length x.now }
+        ensures { IfOk result (IsCapacity (times q (graphic_value self.now.w self.now.ends)) x.now u v) }
+    {
+        let cap = product(q, self.w);
+        let ends = numbered(alloc, self.ends.as_slice())?;
+        let least = least_left(alloc, &ends, x, cap, u, v)?;
+        Ok(least)
+    }
+
+    /// The room of (u, v) at a base.
+    ///
+    /// # Errors
+    ///
+    /// `Memory` where there is none.
+    pub fn room_of(
+        &self,
+        alloc: Global,
+        q: i128,
+        x: &[i128],
+        u: usize,
+        v: usize,
+    ) -> Result<Room, Memory>
+        requires factor { IsFactor q }
+        requires entries { length x.now ≡ length self.now.places }
+        requires small { All IsEntry x.now }
+        requires base { IsBase (times q (graphic_value self.now.w self.now.ends)) x.now }
+        requires apart { u ≢ v }
+        requires from { u < length x.now }
+        requires onto { v < length x.now }
+        ensures { IfOk result (IsRoom (times q (graphic_value self.now.w self.now.ends)) x.now u v) }
+    {
+        let most = self.capacity(alloc, q, x, u, v)?;
+        Ok(Room::Upto(most))
+    }
+
+    /// Whether v is not u, and u has room to it.
+    fn has_room(
+        &self,
+        alloc: Global,
+        q: i128,
+        x: &[i128],
+        u: usize,
+        v: usize,
+    ) -> Result<bool, Memory>
+        requires factor { IsFactor q }
+        requires entries { length x.now ≡ length self.now.places }
+        requires small { All IsEntry x.now }
+        requires base { IsBase (times q (graphic_value self.now.w self.now.ends)) x.now }
+        requires from { u < length x.now }
+        requires onto { v < length x.now }
+        ensures { IfOk result (λ r. IsTrue r ↔ ((v ≢ u) × HasRoom (times q (graphic_value self.now.w self.now.ends)) x.now u v)) }
+    {
+        if v == u {
+            return Ok(false);
+        }
+        let most = self.capacity(alloc, q, x, u, v)?;
+        Ok(most >= 1)
+    }
+
+    /// Writes the places other than u to which u has room at a base.
+    ///
+    /// # Errors
+    ///
+    /// `Memory` where there is none.
+    pub fn reach_of(
+        &self,
+        alloc: Global,
+        q: i128,
+        x: &[i128],
+        u: usize,
+        to: &mut Set,
+    ) -> Result<(), Memory>
+        requires factor { IsFactor q }
+        requires entries { length x.now ≡ length self.now.places }
+        requires small { All IsEntry x.now }
+        requires base { IsBase (times q (graphic_value self.now.w self.now.ends)) x.now }
+        requires from { u < length x.now }
+        requires room_for_answer { length to.old ≡ length x.now }
+        ensures places { length to.new ≡ length to.old }
+        ensures reached { OnOk result (IsReach (times q (graphic_value self.now.w self.now.ends)) x.now u to.new) }
+    {
+        for v in 0..x.len() {
+            let member = self.has_room(alloc, q, x, u, v)?;
+            put(to, v, member);
+        }
+        Ok(())
+    }
+}
+
+impl Term for Graphic {
+    type Note = ();
+
+    ghost places = { λ s. s.places };
+
+    ghost value_of = { λ s. graphic_value s.w s.ends };
+
+    ghost size_of = { λ s. graphic_size s.w s.ends };
+
+    ghost start_of = { λ s q. graphic_start q s.w s.ends };
+
+    ghost fits = { λ s note q x. Unit {0} };
+
+    ghost family = { λ s. graphic-family (length s.places) s.w s.ends s.same_count };
+
+    ghost submodular = { λ s. graphic-submodular (length s.places) s.w s.ends s.same_count s.low };
+
+    ghost bounded = { λ s t a h e. graphic-bounded (length s.places) s.w s.ends s.same_count s.low t a h e };
+
+    ghost starts = { λ s q low. graphic-starts (length s.places) s.w s.ends s.same_count s.low q low };
+
+    ghost starts_small = { λ s q low. graphic-starts_small (length s.places) s.w s.ends s.same_count s.low q low };
+
+    fn elements(&self) -> &[usize] {
+        self.places.as_slice()
+    }
+
+    fn size(&self) -> i128 {
+        self.size_of()
+    }
+
+    fn value(&self, alloc: Global, s: &Set) -> Result<Option<i128>, Memory> {
+        self.value_of(alloc, s)
+    }
+
+    fn start(&self, _alloc: Global, q: i128, x: &mut [i128]) -> Result<(), Memory> {
+        self.start_of(q, x);
+        Ok(())
+    }
+
+    fn is_base(&self, alloc: Global, q: i128, x: &[i128]) -> Result<bool, Memory> {
+        self.is_base_of(alloc, q, x)
+    }
+
+    fn room(&self, alloc: Global, q: i128, x: &[i128], u: usize, v: usize) -> Result<Room, Memory> {
+        self.room_of(alloc, q, x, u, v)
+    }
+
+    fn reach(
+        &self,
+        alloc: Global,
+        q: i128,
+        x: &[i128],
+        u: usize,
+        to: &mut Set,
+    ) -> Result<(), Memory> {
+        self.reach_of(alloc, q, x, u, to)
+    }
+
+    fn note(&self, _alloc: Global, _q: i128, _x: &[i128]) -> Result<(), Memory> {
+        Ok(())
+    }
+
+    fn reach_by(
+        &self,
+        alloc: Global,
+        q: i128,
+        x: &[i128],
+        _note: &(),
+        u: usize,
+        to: &mut Set,
+    ) -> Result<(), Memory> {
+        self.reach_of(alloc, q, x, u, to)
+    }
+
+    fn moved(
+        &self,
+        _alloc: Global,
+        _q: i128,
+        _x: &[i128],
+        _note: &mut (),
+        _u: usize,
+        _v: usize,
+        _a: i128,
+    ) -> Result<(), Memory> {
+        Ok(())
+    }
+}
+
+/// Puts a place into a set where it is to be a member, and takes it out where it is not.
+fn put(to: &mut Set, v: usize, member: bool)
+    requires { v < length to.old }
+    ensures { to.new ≡ slice_set to.old v member }
+{
+    if member {
+        to.insert(v);
+    } else {
+        to.remove(v);
     }
 }

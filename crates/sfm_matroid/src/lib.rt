@@ -5,6 +5,7 @@ pub mod ends;
 pub mod graphic;
 mod growing;
 mod number;
+mod room;
 mod testing;
 
 pub use ends::Ends;

@@ -41,7 +41,7 @@ pub(crate) fn numbered(alloc: Global, ends: &[(u32, u32)]) -> Result<Vec<(usize,
 }
 
 /// The edges as demands that are split over their ends, of which each holds a number, and the vertex a nothing.
-fn demand(
+pub(crate) fn demand(
     alloc: Global,
     ends: &[(usize, usize)],
     x: &[i128],

@@ -1,12 +1,36 @@
 // Ranks of all parts of small graphs, worked by hand: loops, edges side by side, a path, a triangle, and a square whose edges
-// come in an order that joins two labels. Bases of twice a triangle's values, told from vectors that are none.
-ghost use Rattle.std.specs.Prelude.{◌≡◌, length, IfOk};
+// come in an order that joins two labels. Bases of a triangle and of edges side by side, told from vectors that are none, and what
+// can be exchanged at them.
+ghost use Rattle.std.specs.Prelude.{◌≡◌, ◌↔◌, length, IfOk, IsTrue};
+ghost use Rattle.std.specs.List.{All};
+ghost use Rattle.sfm_spec.specs.Bounds.{IsEntry};
 
 use crate::Graphic;
 use sfm_base::{Memory, Set};
+use sfm_law::{Room, Term};
 use std::alloc::Global;
 use std::process::Abort;
 use std::test::Fail;
+
+const MOST_ENTRY: i128 = 1_000_000_000_000_000_000_000_000_000_000;
+
+/// What a term is to answer at a base. Parts are told by their numbers, place j counting 2^j.
+#[derive(Clone, Copy)]
+struct Wanted<'a> {
+    size: i128,
+    q: i128,
+    start: &'a [i128],
+    base: &'a [i128],
+    rooms: &'a [(usize, usize, i128)],
+    reaches: &'a [(usize, usize)],
+}
+
+/// Whether each number is a possible entry of a base.
+fn are_entries(x: &[i128]) -> bool
+    ensures { IsTrue result ↔ All IsEntry x.now }
+{
+    x.iter().all(|a| -MOST_ENTRY <= *a && *a <= MOST_ENTRY)
+}
 
 /// The part of k places with a number, place j counting 2^j.
 fn part(alloc: Global, k: usize, number: usize) -> Result<Set, Memory>
@@ -106,5 +130,96 @@ fn bases_by_all_vertices(rt: HostRuntime) -> Result<(), Fail> {
     assert!(rt; term.is_base_of(rt.alloc(), 1, &[0, 1, 1, 2])?);
     assert!(rt; !term.is_base_of(rt.alloc(), 1, &[0, 2, 1, 1])?);
     assert!(rt; !term.is_base_of(rt.alloc(), 1, &[1, 1, 0, 2])?);
+    Ok(())
+}
+
+/// Asserts the size and the first base of a term, and that a vector is a base.
+fn has_bases<T: Term>(
+    rt: &impl Abort,
+    alloc: Global,
+    term: &T,
+    wanted: &Wanted,
+) -> Result<(), Memory> {
+    let k = term.elements().len();
+    let q = wanted.q;
+    assert_eq!(rt; term.size(), wanted.size);
+    assert!(rt; 1 <= q && q <= 1_000_000);
+    assert!(rt; term.size() <= 1_000_000_000_000_000_000);
+    let mut x = vec![in alloc; 1; k]?;
+    term.start(alloc, q, x.as_mut_slice())?;
+    assert_eq!(rt; x.as_slice(), wanted.start);
+    let base = wanted.base;
+    assert!(rt; base.len() == k && are_entries(base));
+    let is_base = term.is_base(alloc, q, base)?;
+    assert!(rt; is_base);
+    Ok(())
+}
+
+/// Asserts the room of pairs of places and the reach of places at a base.
+fn has_rooms<T: Term>(
+    rt: &impl Abort,
+    alloc: Global,
+    term: &T,
+    wanted: &Wanted,
+) -> Result<(), Memory> {
+    let k = term.elements().len();
+    let q = wanted.q;
+    let x = wanted.base;
+    assert!(rt; 1 <= q && q <= 1_000_000);
+    assert!(rt; term.size() <= 1_000_000_000_000_000_000);
+    assert!(rt; x.len() == k && are_entries(x));
+    let is_base = term.is_base(alloc, q, x)?;
+    assert!(rt; is_base);
+    for (u, v, room) in wanted.rooms {
+        assert!(rt; *u < k && *v < k && *u != *v);
+        assert_eq!(rt;
+            term.room(alloc, q, x, *u, *v)?,
+            Room::Upto(*room),
+            "room of {u} and {v}"
+        );
+    }
+    for (u, number) in wanted.reaches {
+        assert!(rt; *u < k);
+        let reached = part(alloc, k, *number)?;
+        let mut to = part(alloc, k, 5)?;
+        term.reach(alloc, q, x, *u, &mut to)?;
+        for v in 0..k {
+            assert_eq!(rt; to.contains(v), reached.contains(v), "reach of {u} at {v}");
+        }
+    }
+    Ok(())
+}
+
+#[test]
+fn exchanges_in_triangles(rt: HostRuntime) -> Result<(), Fail> {
+    let ends = [(0, 1), (1, 2), (2, 0)];
+    let term = Graphic::new(rt.alloc(), &[4, 0, 2], 2, &ends)?;
+    let wanted = Wanted {
+        size: 4,
+        q: 2,
+        start: &[4, 4, 0],
+        base: &[3, 1, 4],
+        rooms: &[(0, 1, 1), (1, 0, 3), (1, 2, 3), (2, 0, 0)],
+        reaches: &[(0, 6), (1, 5), (2, 0)],
+    };
+    has_bases(&rt, rt.alloc(), &term, &wanted)?;
+    has_rooms(&rt, rt.alloc(), &term, &wanted)?;
+    Ok(())
+}
+
+#[test]
+fn exchanges_by_cuts(rt: HostRuntime) -> Result<(), Fail> {
+    let ends = [(7, 7), (3, 9), (9, 3), (9, 5)];
+    let term = Graphic::new(rt.alloc(), &[0, 1, 2, 3], 2, &ends)?;
+    let wanted = Wanted {
+        size: 4,
+        q: 1,
+        start: &[0, 2, 0, 2],
+        base: &[0, 1, 1, 2],
+        rooms: &[(1, 2, 1), (1, 3, 0), (0, 1, 0), (3, 1, 0)],
+        reaches: &[(0, 0), (1, 4), (2, 2), (3, 0)],
+    };
+    has_bases(&rt, rt.alloc(), &term, &wanted)?;
+    has_rooms(&rt, rt.alloc(), &term, &wanted)?;
     Ok(())
 }

@@ -1,0 +1,69 @@
+-- How much can be exchanged at a base of a graphic term: by the most that an edge gets in each test, without another edge.
+use Rattle.std.proofs.Common.{◌≡◌, ◌≢◌, ℕ, ◌*◌, ◌<◌, List, [], length, get_or, set, ℤ, pos, ◌-ℤ◌, ◌*ℤ◌, ◌≤ℤ◌, sym, ◌∙◌, arith, inl, inr, ⊎_elim}
+use Rattle.std.proofs.lemmas.Int.{ints, by_lt_z}
+use Rattle.sfm_spec.specs.Terms.{times, IsBase, IsCapacity}
+use Rattle.sfm_spec.specs.Kinds.{Edge, IsForest}
+use Rattle.sfm_assign.specs.Splits.{CanBeMet}
+use Rattle.sfm_matroid.specs.Cuts.{IsWithinEnds}
+use Rattle.sfm_matroid.specs.Ends.{edges_of}
+use Rattle.sfm_matroid.specs.Numbered.{numbered, length-numbered, numbered_below, end_lists, vertex_capacities}
+use Rattle.sfm_matroid.specs.Forests.{graphic_rank, forest-matroid, graphic-ranks}
+use Rattle.sfm_matroid.specs.GraphicLaws.{graphic_value}
+use Rattle.sfm_matroid.proofs.Bases.{IsMostAt, raised-places, raised-counts, met_nothing, least_capacity}
+use Rattle.sfm_matroid.proofs.GraphicBases.{as_many}
+use Rattle.sfm_matroid.proofs.MatroidTests.{numbered_tests}
+use Rattle.sfm_matroid.proofs.SplitTests.{split_within_ends, within_ends_split}
+use Rattle.sfm_matroid.specs.Leasts.{IsLeastOf, IsMostOf}
+
+module _ (k : ℕ) (q w : ℤ) (edges : List Edge) (same : length edges ≡ k) (low : pos 0 ≤ℤ (q *ℤ w)) (x : List ℤ) (kx : length x ≡ k) (base : IsBase (times q (graphic_value w edges)) x)
+    (u v : ℕ) (xu : u < length x) (xv : v < length x) (ne : u ≢ v) where
+  sized : length x ≡ length edges
+  sized = kx ∙ sym same
+
+  ku : u < length edges
+  ku = let s = sized in omega (arith, xu, s)
+
+  kv : v < length edges
+  kv = let s = sized in omega (arith, xv, s)
+
+  abbrev with_u : ℤ → List ℤ
+  with_u r = set (set x v (pos 0)) u r
+
+  places : (r : ℤ) → length (with_u r) ≡ length (numbered edges)
+  places r = raised-places (length edges) (2 * length edges) q w low (IsForest edges) (graphic_rank edges) (forest-matroid edges) (graphic-ranks edges) (λ a x. IsWithinEnds (numbered edges) (2 * length edges) (q *ℤ w) x a) (numbered_tests edges q w low) x sized base u v ku kv ne r
+      ∙ sym (length-numbered edges [])
+
+  split : (t : ℕ) → t < 2 * length edges → (r : ℤ) → pos 0 ≤ℤ r → IsWithinEnds (numbered edges) (2 * length edges) (q *ℤ w) (with_u r) t → CanBeMet (with_u r) (end_lists (numbered edges)) (vertex_capacities (2 * length edges) (q *ℤ w) t)
+  split t lt r hr met = within_ends_split (numbered edges) (2 * length edges) (numbered_below edges []) (q *ℤ w) (with_u r) (places r) t lt low
+      (raised-counts (length edges) (2 * length edges) q w low (IsForest edges) (graphic_rank edges) (forest-matroid edges) (graphic-ranks edges) (λ a x. IsWithinEnds (numbered edges) (2 * length edges) (q *ℤ w) x a) (numbered_tests edges q w low) x sized base u v ku kv ne r hr) met
+
+  -- the others are met in each test
+  pub others_met : (t : ℕ) → t < 2 * length edges → CanBeMet (set (set x v (pos 0)) u (pos 0)) (end_lists (numbered edges)) (vertex_capacities (2 * length edges) (q *ℤ w) t)
+  others_met t lt = split t lt (pos 0) (omega (arith, ints)) (met_nothing (length edges) (2 * length edges) q w low (IsForest edges) (graphic_rank edges) (forest-matroid edges) (graphic-ranks edges) (λ a x. IsWithinEnds (numbered edges) (2 * length edges) (q *ℤ w) x a) (numbered_tests edges q w low) x sized base u v ku kv ne t lt)
+
+  most_at : (t : ℕ) → t < 2 * length edges → (r : ℤ) → IsMostOf (numbered edges) (2 * length edges) (q *ℤ w) (set x v (pos 0)) u t r
+      → IsMostAt (length edges) (2 * length edges) q w low (IsForest edges) (graphic_rank edges) (forest-matroid edges) (graphic-ranks edges) (λ a x. IsWithinEnds (numbered edges) (2 * length edges) (q *ℤ w) x a) (numbered_tests edges q w low) x sized base u v ku kv ne t r
+  most_at t lt r most = record {
+    reached = split_within_ends (numbered edges) (2 * length edges) (numbered_below edges []) (q *ℤ w) (with_u r) (places r) t lt most.reached;
+    greatest = λ b met. by_lt_z b (pos 0)
+        (λ less. let h = most.greatest (pos 0) (others_met t lt) in omega (arith, ints, less, h))
+        (λ ge. most.greatest b (split t lt b (omega (arith, ints, ge)) met));
+  }
+
+  -- the room of (u, v)
+  pub room_capacity : (a : ℤ) → IsLeastOf (IsMostOf (numbered edges) (2 * length edges) (q *ℤ w) (set x v (pos 0)) u) (get_or x v (pos 0)) ((q *ℤ w) -ℤ get_or x u (pos 0)) (get_or x u (pos 0)) (2 * length edges) a → IsCapacity (times q (graphic_value w edges)) x u v a
+  room_capacity a least = least_capacity (length edges) (2 * length edges) q w low (IsForest edges) (graphic_rank edges) (forest-matroid edges) (graphic-ranks edges) (λ a x. IsWithinEnds (numbered edges) (2 * length edges) (q *ℤ w) x a) (numbered_tests edges q w low) x sized base u v ku kv ne a (record {
+    under_v = least.under_first;
+    under_cap = least.under_second;
+    under_most = λ t lt. let (r, most, le) = least.under_each t lt in (r, most_at t lt r most, le);
+    reached = ⊎_elim (λ e. inl e) (λ rest. ⊎_elim (λ e. inr (inl e)) (λ (t, lt, r, most, e). inr (inr (t, lt, r, most_at t lt r most, e))) rest) least.reached;
+  })
+
+-- ---- numbered ends as they are kept
+
+module _ (edges : List Edge) (items : List (ℕ × ℕ)) (are : edges_of items ≡ numbered edges) (given : List (ℕ × ℕ)) (is : given ≡ items) (c : ℤ) (x : List ℤ) where
+  pub others_kept : ((t : ℕ) → t < 2 * length edges → CanBeMet x (end_lists (numbered edges)) (vertex_capacities (2 * length edges) c t)) → (t : ℕ) → t < 2 * length given → CanBeMet x (end_lists (edges_of given)) (vertex_capacities (2 * length given) c t)
+  others_kept h = rw (is, are, as_many edges items are) h
+
+  pub least_kept : (u : ℕ) (first second less a : ℤ) → IsLeastOf (IsMostOf (edges_of given) (2 * length given) c x u) first second less (2 * length given) a → IsLeastOf (IsMostOf (numbered edges) (2 * length edges) c x u) first second less (2 * length edges) a
+  least_kept u first second less a h = rw (is, are, as_many edges items are) at h
