@@ -51,13 +51,44 @@ fn two_ask_for_too_much(rt: HostRuntime) -> Result<(), Fail> {
     Ok(())
 }
 
-/// The most of the first demand, which asks for nothing, if the others can be met.
-fn most_of_first(alloc: Global, demand: &Demand) -> Result<Option<i128>, Memory>
-    requires place { 0 < length demand.now.demands }
-    requires nothing { slice_set demand.now.demands 0 (pos 0) ≡ demand.now.demands }
+/// Two demands of one slot that holds 3.
+fn one_slot(alloc: Global, first: u8, second: u8) -> Result<Demand, Memory>
+    ensures { IfOk result (λ d. d.demands ≡ pos first ∷ pos second ∷ []) }
+{
+    let mut demand = Demand::new(alloc, &[3])?;
+    demand.push(i128::from(first), vec![in alloc; 0]?)?;
+    demand.push(i128::from(second), vec![in alloc; 0]?)?;
+    Ok(demand)
+}
+
+#[test]
+fn one_slot_for_two(rt: HostRuntime) -> Result<(), Fail> {
+    let short = one_slot(rt.alloc(), 2, 2)?;
+    match assign(rt.alloc(), &short) {
+        Err(AssignEnd::Shortage { set }) => {
+            assert!(rt; set.len() == 2);
+            assert!(rt; set.contains(0) && set.contains(1));
+        }
+        _ => panic!(rt; "no shortage"),
+    }
+    let demand = one_slot(rt.alloc(), 2, 1)?;
+    match assign(rt.alloc(), &demand) {
+        Ok(split) => {
+            has_row(&rt, &split, 0, &[2]);
+            has_row(&rt, &split, 1, &[1]);
+        }
+        Err(_) => panic!(rt; "no split"),
+    }
+    Ok(())
+}
+
+/// The most of a demand that asks for nothing, if the others can be met.
+fn most_of(alloc: Global, demand: &Demand, u: usize) -> Result<Option<i128>, Memory>
+    requires place { u < length demand.now.demands }
+    requires nothing { slice_set demand.now.demands u (pos 0) ≡ demand.now.demands }
 {
     match assign(alloc, demand) {
-        Ok(_) => Ok(Some(most(alloc, demand, 0)?)),
+        Ok(_) => Ok(Some(most(alloc, demand, u)?)),
         Err(_) => Ok(None),
     }
 }
@@ -65,6 +96,8 @@ fn most_of_first(alloc: Global, demand: &Demand) -> Result<Option<i128>, Memory>
 #[test]
 fn most_of_one(rt: HostRuntime) -> Result<(), Fail> {
     let demand = demands(rt.alloc(), 0, 2, 1)?;
-    assert_eq!(rt; most_of_first(rt.alloc(), &demand)?, Some(2));
+    assert_eq!(rt; most_of(rt.alloc(), &demand, 0)?, Some(2));
+    let demand = one_slot(rt.alloc(), 2, 0)?;
+    assert_eq!(rt; most_of(rt.alloc(), &demand, 1)?, Some(1));
     Ok(())
 }
