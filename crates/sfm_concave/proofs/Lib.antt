@@ -6,6 +6,7 @@ pub mod Fits
 pub mod Increments
 pub mod LeastSoFar
 pub mod Puts
+pub mod Ranks
 pub mod Shares
 pub mod Totals
 pub mod UniformRooms

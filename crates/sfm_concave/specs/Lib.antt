@@ -1,4 +1,5 @@
 pub mod ConcaveLaws
 pub mod Counts
+pub mod Rankings
 pub mod Thresholds
 pub mod UniformLaws

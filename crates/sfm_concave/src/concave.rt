@@ -7,11 +7,13 @@ ghost use Rattle.sfm_spec.specs.Bounds.{IsEntry, IsFactor, IsGiven, AreElements}
 ghost use Rattle.sfm_spec.specs.Terms.{SetFunction, times, IsBase, IsFamily, IsSubmodular, IsGreedy, exchanged};
 ghost use Rattle.sfm_spec.specs.Kinds.{concave_value};
 ghost use Rattle.sfm_law.specs.Room.{IsRoom, IsReach, IsWithinRoom};
+ghost use Rattle.sfm_concave.specs.Rankings.{IsRanking};
 ghost use Rattle.sfm_concave.specs.Thresholds.{above, slack, IsShareOf, IsSomeShare, IsLeastSlack, Blocks, IsOver};
 ghost use Rattle.sfm_concave.specs.ConcaveLaws.{number_of, scaled, IsFirstRise, NeverRises, greatest, gain_of, concave_start, concave-family, concave-submodular, concave-bounded, concave-starts, concave-starts_small};
 
 use crate::number::{has_sum, magnitude, product};
 use crate::place::put;
+use crate::ranking::{Ranking, ranking_of};
 use crate::rise::first_rise;
 use crate::share::{Share, share_above, share_between, share_with, share_without};
 use sfm_base::{Memory, Numbers, Places, Set};
@@ -175,8 +177,9 @@ impl Concave {
         requires small { All IsEntry x.now }
         ensures { IsTrue result ↔ ((w : ℕ) → w < length x.now → pos 0 ≤ℤ slack (scaled q self.now.values) x.now (above (slice_index_or x.now w (pos 0)) x.now)) }
     {
+        let ranking = ranking_of(x);
         for a in x {
-            if self.slack(q, x, share_above(x, *a)) < 0 {
+            if self.slack(q, x, share_above(x, &ranking, *a)) < 0 {
                 return false;
             }
         }
@@ -192,6 +195,7 @@ impl Concave {
     {
         has_sum(x, product(q, self.number(x.len()))) && self.is_within(q, x)
     }
+
     /// The least slack of a part with u and not v.
     fn least_slack(&self, q: i128, x: &[i128], u: usize, v: usize) -> i128
         requires factor { IsFactor q }
@@ -202,9 +206,11 @@ impl Concave {
         requires onto { v < length x.now }
         ensures { IsLeastSlack (scaled q self.now.values) x.now u v result }
     {
+        let ranking = ranking_of(x);
         let mut least = self.slack(q, x, share_without(x, v));
         for a in x {
-            least = least.min(self.slack(q, x, share_between(x, *a, u, v)));
+            let share = share_between(x, &ranking, *a, u, v);
+            least = least.min(self.slack(q, x, share));
         }
         least
     }
@@ -225,27 +231,37 @@ impl Concave {
 
     /// Whether u and the places above w, which is not above u, leave nothing: then u has no room to a place that is not
     /// above w.
-    fn blocks(&self, q: i128, x: &[i128], u: usize, w: usize) -> bool
+    fn blocks(&self, q: i128, x: &[i128], ranking: &Ranking, u: usize, w: usize) -> bool
         requires factor { IsFactor q }
         requires entries { length x.now ≡ length self.now.places }
         requires small { All IsEntry x.now }
+        requires ranked { IsRanking x.now ranking.now.sorted ranking.now.sums ranking.now.len }
         requires from { u < length x.now }
         requires place { w < length x.now }
         ensures { IsTrue result ↔ Blocks (scaled q self.now.values) x.now u w }
     {
-        x[w] <= x[u] && self.slack(q, x, share_with(x, x[w], u)) == 0
+        x[w] <= x[u] && self.slack(q, x, share_with(x, ranking, x[w], u)) == 0
     }
 
     /// Whether u has no room to a place like w, and this is not known by a bar that is at least as high.
-    fn lifts(&self, q: i128, x: &[i128], u: usize, w: usize, bar: Option<i128>) -> bool
+    fn lifts(
+        &self,
+        q: i128,
+        x: &[i128],
+        ranking: &Ranking,
+        u: usize,
+        w: usize,
+        bar: Option<i128>,
+    ) -> bool
         requires factor { IsFactor q }
         requires entries { length x.now ≡ length self.now.places }
         requires small { All IsEntry x.now }
+        requires ranked { IsRanking x.now ranking.now.sorted ranking.now.sums ranking.now.len }
         requires from { u < length x.now }
         requires place { w < length x.now }
         ensures { IsTrue result ↔ (IsOver bar (slice_index_or x.now w (pos 0)) × Blocks (scaled q self.now.values) x.now u w) }
     {
-        is_over(bar, x[w]) && self.blocks(q, x, u, w)
+        is_over(bar, x[w]) && self.blocks(q, x, ranking, u, w)
     }
 
     /// The greatest entry to which u has no room, if there is one.
@@ -256,9 +272,10 @@ impl Concave {
         requires from { u < length x.now }
         ensures { (a : ℤ) → IsOver result a ↔ ((w : ℕ) → Blocks (scaled q self.now.values) x.now u w → slice_index_or x.now w (pos 0) <ℤ a) }
     {
+        let ranking = ranking_of(x);
         let mut bar = None;
         for (w, a) in x.iter().enumerate() {
-            if self.lifts(q, x, u, w, bar) {
+            if self.lifts(q, x, &ranking, u, w, bar) {
                 bar = Some(*a);
             }
         }

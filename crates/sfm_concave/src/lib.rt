@@ -4,6 +4,7 @@
 pub mod concave;
 mod number;
 mod place;
+mod ranking;
 mod rise;
 mod share;
 pub mod uniform;

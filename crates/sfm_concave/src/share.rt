@@ -5,8 +5,10 @@ ghost use Rattle.sfm_spec.specs.Bounds.{IsEntry};
 ghost use Rattle.sfm_spec.specs.Sets.{whole_set};
 ghost use Rattle.sfm_concave.specs.Thresholds.{above, above_with, above_between};
 ghost use Rattle.sfm_concave.specs.Thresholds.{IsShareOf};
+ghost use Rattle.sfm_concave.specs.Rankings.{IsRanking};
 
 use crate::number::sum_of;
+use crate::ranking::{Ranking, count_upto};
 
 /// A count of places, and the sum of their entries.
 #[derive(Clone, Copy, Debug, PartialEq, Eq)]
@@ -16,30 +18,28 @@ pub(crate) struct Share {
 }
 
 /// The share of the places with more than a number.
-pub(crate) fn share_above(x: &[i128], bar: i128) -> Share
-    requires few { length x.now ≤ 256 }
-    requires small { All IsEntry x.now }
-    ensures { IsShareOf result.count result.sum x.now (above bar x.now) }
+pub(crate) fn share_above(_x: &[i128], ranking: &Ranking, bar: i128) -> Share
+    requires few { length _x.now ≤ 256 }
+    requires small { All IsEntry _x.now }
+    requires ranked { IsRanking _x.now ranking.now.sorted ranking.now.sums ranking.now.len }
+    ensures { IsShareOf result.count result.sum _x.now (above bar _x.now) }
 {
-    let mut count = 0;
-    let mut sum = 0;
-    for a in x {
-        if *a > bar {
-            count += 1;
-            sum += *a;
-        }
+    let upto = count_upto(&ranking.sorted[..ranking.len], bar);
+    Share {
+        count: ranking.len - upto,
+        sum: ranking.sums[ranking.len] - ranking.sums[upto],
     }
-    Share { count, sum }
 }
 
 /// The share of the places with more than a number and u.
-pub(crate) fn share_with(x: &[i128], bar: i128, u: usize) -> Share
+pub(crate) fn share_with(x: &[i128], ranking: &Ranking, bar: i128, u: usize) -> Share
     requires few { length x.now ≤ 256 }
     requires small { All IsEntry x.now }
+    requires ranked { IsRanking x.now ranking.now.sorted ranking.now.sums ranking.now.len }
     requires from { u < length x.now }
     ensures { IsShareOf result.count result.sum x.now (above_with bar x.now u) }
 {
-    let share = share_above(x, bar);
+    let share = share_above(x, ranking, bar);
     if x[u] > bar {
         return share;
     }
@@ -50,15 +50,16 @@ pub(crate) fn share_with(x: &[i128], bar: i128, u: usize) -> Share
 }
 
 /// The share of the places with more than a number and u, without v.
-pub(crate) fn share_between(x: &[i128], bar: i128, u: usize, v: usize) -> Share
+pub(crate) fn share_between(x: &[i128], ranking: &Ranking, bar: i128, u: usize, v: usize) -> Share
     requires few { length x.now ≤ 256 }
     requires small { All IsEntry x.now }
+    requires ranked { IsRanking x.now ranking.now.sorted ranking.now.sums ranking.now.len }
     requires from { u < length x.now }
     requires onto { v < length x.now }
     requires apart { u ≢ v }
     ensures { IsShareOf result.count result.sum x.now (above_between bar x.now u v) }
 {
-    let share = share_with(x, bar, u);
+    let share = share_with(x, ranking, bar, u);
     if x[v] <= bar {
         return share;
     }

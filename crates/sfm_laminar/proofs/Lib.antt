@@ -7,3 +7,5 @@ pub mod Listed
 pub mod Kept
 pub mod Leasts
 pub mod Ends
+mod Holders
+mod Repeats

@@ -1,6 +1,6 @@
 -- Groups of places with their caps, and when two of them cross.
 -- Textbook: Schrijver, Combinatorial Optimization, section 39 (laminar matroids).
-use Rattle.std.specs.Prelude.{ℕ, ◌<◌, List, [], length, slice_index_or, pos, ◌≤ℤ◌, Contains}
+use Rattle.std.specs.Prelude.{◌≡◌, ℕ, ◌<◌, List, [], length, slice_index_or, pos, ◌≤ℤ◌, Contains}
 use Rattle.std.specs.List.{All}
 use Rattle.sfm_spec.specs.Bounds.{IsGiven}
 use Rattle.sfm_spec.specs.Kinds.{Group}
@@ -54,6 +54,10 @@ pub record IsFirstCrossing (groups : List Group) (i j : ℕ) : Type 0 where
 
 abbrev pub NoneCross : List Group → Type 0
 NoneCross groups = (i j : ℕ) → IsCrossing groups i j → ⊥
+
+-- an earlier group has the same members as the group j
+abbrev pub IsRepeated : List Group → ℕ → Type 0
+IsRepeated groups j = (i : ℕ) × (i < j) × ((group_at groups i).members ≡ (group_at groups j).members)
 
 -- what a term is made of: groups of k places of which no two cross
 pub record AreGroups (k : ℕ) (groups : List Group) : Type 0 where

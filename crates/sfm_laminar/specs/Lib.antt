@@ -4,4 +4,5 @@ pub mod Groups
 pub mod Grown
 pub mod Ranks
 pub mod LaminarLaws
+pub mod Indexes
 pub mod Rooms

@@ -2,7 +2,7 @@
 ghost use Rattle.std.specs.Prelude.{◌≡◌, ◌↔◌, ℕ, ◌<◌, List, length, slice_index_or, IsTrue, Contains, MatchOption};
 ghost use Rattle.std.specs.List.{All};
 ghost use Rattle.sfm_laminar.specs.Masks.{IsAscending};
-ghost use Rattle.sfm_laminar.specs.Groups.{IsGroup, ListsAll, ListsSome, AreCrossing, IsCrossing, IsFirstCrossing, NoneCross};
+ghost use Rattle.sfm_laminar.specs.Groups.{IsGroup, ListsAll, ListsSome, AreCrossing, IsCrossing, IsFirstCrossing, NoneCross, IsRepeated};
 
 use crate::groups::{CappedGroup, Groups};
 use crate::place::lists;
@@ -72,12 +72,39 @@ fn first_before(groups: &Groups, second: usize) -> Option<usize>
     None
 }
 
+/// Whether an earlier group has the same members as the group `second`. The nearest are tried first, so that all the tests
+/// together are at most as many as there are groups for each that is different.
+fn is_repeated(groups: &Groups, second: usize) -> bool
+    requires { second < length groups.now }
+    ensures { IsTrue result ↔ IsRepeated groups.now second }
+{
+    let members = groups.group(second).members();
+    for i in (0..second).rev() {
+        if groups.group(i).members() == members {
+            return true;
+        }
+    }
+    false
+}
+
+/// The same where no earlier groups cross: then a group that an earlier one repeats is crossed by none.
+fn first_new_before(groups: &Groups, second: usize) -> Option<usize>
+    requires place { second < length groups.now }
+    requires none { (i j : ℕ) → j < second → IsCrossing groups.now i j → ⊥ }
+    ensures { MatchOption result ((i : ℕ) → i < second → IsCrossing groups.now i second → ⊥) (λ i. IsCrossing groups.now i second × ((a : ℕ) → a < i → IsCrossing groups.now a second → ⊥)) }
+{
+    if is_repeated(groups, second) {
+        return None;
+    }
+    first_before(groups, second)
+}
+
 /// The crossing with the least second group, and of these with the least first, if there is one.
 pub(crate) fn first_crossing(groups: &Groups) -> Option<Crossing>
     ensures { MatchOption result (NoneCross groups.now) (λ r. IsFirstCrossing groups.now r.first r.second) }
 {
     for second in 0..groups.len() {
-        if let Some(first) = first_before(groups, second) {
+        if let Some(first) = first_new_before(groups, second) {
             return Some(Crossing { first, second });
         }
     }

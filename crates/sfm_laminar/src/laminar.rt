@@ -11,12 +11,14 @@ ghost use Rattle.sfm_spec.specs.Kinds.{IsWithinCaps, IsRank, IsRankFunction};
 ghost use Rattle.sfm_law.specs.Room.{IsRoom, IsReach, IsWithinRoom};
 ghost use Rattle.sfm_laminar.specs.Groups.{IsBelow, AreGroups, NoneCross, IsFirstCrossing, group_at};
 ghost use Rattle.sfm_laminar.specs.Ranks.{rank};
-ghost use Rattle.sfm_laminar.specs.Rooms.{slack_of, Splits, IsLeast, IsHeld};
+ghost use Rattle.sfm_laminar.specs.Indexes.{IsIndex};
+ghost use Rattle.sfm_laminar.specs.Rooms.{slack_of, IsLeast, IsHeld};
 ghost use Rattle.sfm_laminar.specs.LaminarLaws.{laminar_value, laminar_size, laminar_start, basis_of, laminar-family, laminar-submodular, laminar-bounded, laminar-starts, laminar-starts_small};
 
 use crate::crossing::first_crossing;
 use crate::groups::Groups;
 use crate::growing::{grow, whole};
+use crate::index::Index;
 use crate::number::{are_within, bound, has_sum, product, sum_listed};
 use crate::place::{keep_listed, lists, put};
 use sfm_base::{Memory, Places, Set};
@@ -51,12 +53,15 @@ pub struct Laminar {
     pub groups: Groups,
     /// The elements that are taken one after another while they stay independent.
     pub basis: Set,
+    /// For each place the groups that hold it.
+    index: Index,
     pub ghost elements: { AreElements places },
     pub ghost few: { length places ≤ 256 },
     pub ghost low: { pos 0 ≤ℤ w },
     pub ghost given: { IsGiven w },
     pub ghost grouped: { AreGroups (length places) groups },
     pub ghost based: { basis ≡ basis_of (length places) groups },
+    pub ghost indexed: { IsIndex (length places) groups index },
 }
 
 /// Whether v is not u and has something, where u lacks something.
@@ -95,11 +100,13 @@ impl Laminar {
         let places = Places::from_slice(alloc, elements)?;
         let all = whole(alloc, elements.len())?;
         let basis = grow(alloc, &groups, &all)?;
+        let index = Index::new(alloc, &groups, elements.len())?;
         Ok(Laminar {
             places,
             w,
             groups,
             basis,
+            index,
         })
     }
 
@@ -218,13 +225,12 @@ impl Laminar {
         self.are_bounded(q, x)
     }
 
-    /// Whether the group i has u and not v.
-    fn splits(&self, i: usize, u: usize, v: usize) -> bool
+    /// Whether the group i has v.
+    fn has(&self, i: usize, v: usize) -> bool
         requires { i < length self.now.groups }
-        ensures { IsTrue result ↔ Splits (group_at self.now.groups i) u v }
+        ensures { IsTrue result ↔ Contains (group_at self.now.groups i).members v }
     {
-        let group = self.groups.group(i);
-        lists(group.members(), u) && !lists(group.members(), v)
+        lists(self.groups.group(i).members(), v)
     }
 
     /// What v has, or what u lacks of q·w where that is less.
@@ -248,9 +254,10 @@ impl Laminar {
         ensures { IsLeast q self.now.w self.now.groups x.now u v (length self.now.groups) result }
     {
         let mut least = self.least_entry(q, x, u, v);
-        for i in 0..self.groups.len() {
-            if self.splits(i, u, v) {
-                least = least.min(self.slack(q, x, i));
+        let holders = self.index.of(u);
+        for i in holders {
+            if !self.has(*i, v) {
+                least = least.min(self.slack(q, x, *i));
             }
         }
         least
@@ -271,15 +278,15 @@ impl Laminar {
         Room::Upto(self.least_left(q, x, u, v))
     }
 
-    /// Whether the group i has u and lacks nothing.
-    fn holds_full(&self, q: i128, x: &[i128], i: usize, u: usize) -> bool
+    /// Whether the group i lacks nothing.
+    fn is_full(&self, q: i128, x: &[i128], i: usize) -> bool
         requires factor { IsFactor q }
         requires entries { length x.now ≡ length self.now.places }
         requires small { All IsEntry x.now }
         requires group { i < length self.now.groups }
-        ensures { IsTrue result ↔ (Contains (group_at self.now.groups i).members u × (slack_of q self.now.w x.now (group_at self.now.groups i) ≡ pos 0)) }
+        ensures { IsTrue result ↔ (slack_of q self.now.w x.now (group_at self.now.groups i) ≡ pos 0) }
     {
-        lists(self.groups.group(i).members(), u) && self.slack(q, x, i) == 0
+        self.slack(q, x, i) == 0
     }
 
     /// Takes out what is not in each group that has u and lacks nothing.
@@ -287,13 +294,14 @@ impl Laminar {
         requires factor { IsFactor q }
         requires entries { length x.now ≡ length self.now.places }
         requires small { All IsEntry x.now }
+        requires from { u < length x.now }
         ensures places { length to.new ≡ length to.old }
         ensures kept { (v : ℕ) → v < length to.old → Has to.new v ↔ (Has to.old v × IsHeld q self.now.w self.now.groups x.now u (length self.now.groups) v) }
     {
-        for i in 0..self.groups.len() {
-            if self.holds_full(q, x, i, u) {
-                let group = self.groups.group(i);
-                keep_listed(group.members(), to);
+        let holders = self.index.of(u);
+        for i in holders {
+            if self.is_full(q, x, *i) {
+                keep_listed(self.groups.group(*i).members(), to);
             }
         }
     }

@@ -5,6 +5,7 @@
 mod crossing;
 pub mod groups;
 mod growing;
+mod index;
 pub mod laminar;
 mod number;
 mod place;

@@ -41,7 +41,7 @@ pub(crate) fn keep_listed(members: &[usize], to: &mut Set)
     ensures kept { (v : ℕ) → v < length to.old → Has to.new v ↔ (Has to.old v × Contains members.now v) }
 {
     for v in 0..to.len() {
-        if !lists(members, v) {
+        if to.contains(v) && !lists(members, v) {
             to.remove(v);
         }
     }

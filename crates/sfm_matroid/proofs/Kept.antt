@@ -1,15 +1,14 @@
 -- The greatest forest that is kept, and the base that it gives.
-use Rattle.std.proofs.Common.{◌≡◌, ℕ, ◌<◌, ◌≤◌, Bool, true, false, List, length, get_or, ℤ, pos, ◌*ℤ◌, refl, sym, ap, ◌∙◌, arith}
+use Rattle.std.proofs.Common.{◌≡◌, ℕ, ◌<◌, ◌≤◌, Bool, true, false, List, length, sym, ap, ◌∙◌, arith}
 use Rattle.std.proofs.lemmas.List.{ext_get_or, length-replicate}
 use Rattle.sfm_spec.specs.Sets.{Has, whole_set, size}
 use Rattle.sfm_spec.specs.Kinds.{Edge}
 use Rattle.sfm_spec.proofs.Sets.{Has-whole}
 use Rattle.sfm_spec.proofs.Sizes.{size_below_length}
-use Rattle.sfm_matroid.specs.RankTerms.{at_places-at}
 use Rattle.sfm_matroid.specs.Runs.{taken, taken-places}
 use Rattle.sfm_matroid.specs.Ends.{edges_of}
 use Rattle.sfm_matroid.proofs.Labels.{length-edges}
-use Rattle.sfm_matroid.specs.GraphicLaws.{graphic_basis, graphic_start}
+use Rattle.sfm_matroid.specs.GraphicLaws.{graphic_basis}
 
 pub all_in : (s : List Bool) (k : ℕ) → length s ≡ k → ((j : ℕ) → j < k → Has s j) → s ≡ whole_set k
 all_in s k ks all = ext_get_or false s (whole_set k) (ks ∙ sym (length-replicate k true)) (λ j lt. let l : j < k = omega (arith, ks) in all j l ∙ sym (Has-whole k j l))
@@ -19,12 +18,6 @@ length-basis edges = taken-places edges (whole_set (length edges)) (length-repli
 
 pub taken-few : (edges : List Edge) (s : List Bool) → length s ≡ length edges → size (taken edges s (length edges)) ≤ length edges
 taken-few edges s ks = let b = size_below_length (taken edges s (length edges)) in let l = taken-places edges s ks (length edges) in omega (arith, b, l)
-
-pub share-out : (q w : ℤ) (edges : List Edge) (j : ℕ) → get_or (graphic_basis edges) j false ≡ false → get_or (graphic_start q w edges) j (pos 0) ≡ pos 0
-share-out q w edges j out = at_places-at (q *ℤ w) (graphic_basis edges) j ∙ rw out refl
-
-pub share-in : (q w : ℤ) (edges : List Edge) (j : ℕ) → Has (graphic_basis edges) j → get_or (graphic_start q w edges) j (pos 0) ≡ (q *ℤ w)
-share-in q w edges j has = at_places-at (q *ℤ w) (graphic_basis edges) j ∙ rw has refl
 
 pub basis_from : (pairs : List (ℕ × ℕ)) (edges : List Edge) (all basis : List Bool) → edges ≡ edges_of pairs → all ≡ whole_set (length pairs) → basis ≡ taken (edges_of pairs) all (length pairs) → basis ≡ graphic_basis edges
 basis_from pairs edges all basis es e b =

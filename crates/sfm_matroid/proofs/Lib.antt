@@ -1,12 +1,15 @@
 mod Bases
 mod MatroidTests
 mod SplitTests
+mod Matched
 mod Numbering
 mod Totals
 mod GraphicBases
 mod GraphicRooms
+mod TransversalBases
 mod LeastSteps
 mod Puts
 mod Fits
 mod Kept
+mod Shares
 mod Labels

@@ -20,7 +20,7 @@ use Rattle.sfm_matroid.specs.Forests.{graphic_rank, forest-matroid, graphic-rank
 use Rattle.sfm_matroid.specs.Numbered.{numbered, length-numbered, numbered_below, rank-number}
 use Rattle.sfm_matroid.specs.Cuts.{IsWithinEnds, ends_from_rank, rank_from_ends}
 use Rattle.sfm_matroid.specs.Matchings.{matching-matroid}
-use Rattle.sfm_matroid.specs.Ore.{slots_count, AreSlotsBelow, slots_from_rank, rank_from_slots}
+use Rattle.sfm_matroid.specs.Ore.{AreSlotsBelow, IsWithinSlots, slots_from_rank, rank_from_slots}
 use Rattle.sfm_matroid.specs.Transversals.{transversal_rank, transversal-ranks}
 use Rattle.sfm_matroid.proofs.Bases.{AreTests}
 
@@ -90,10 +90,6 @@ numbered_tests edges q w low = record {
 
   below : (s : List Bool) → EndsBelow (numbered edges) (2 * length edges)
   below s = numbered_below edges s
-
--- no members get more than c for each of m slots that are listed for them
-abbrev pub IsWithinSlots : List (List ℕ) → ℕ → ℤ → List ℤ → Type 0
-IsWithinSlots entries m c x = (s : List Bool) → length s ≡ length entries → sum_over s x ≤ℤ (c *ℤ pos (slots_count entries m s))
 
 -- one test
 pub transversal_tests : (entries : List (List ℕ)) (m : ℕ) (below : AreSlotsBelow entries m) (q w : ℤ) (low : pos 0 ≤ℤ (q *ℤ w))

@@ -18,8 +18,8 @@ use Rattle.sfm_matroid.specs.Counts.{count_below, count-same, eqb_apart, size-co
 use Rattle.sfm_matroid.specs.Runs.{EndsBelow}
 use Rattle.sfm_matroid.specs.Cuts.{touches, ends_but, IsWithinEnds}
 use Rattle.sfm_matroid.specs.Numbered.{end_lists, vertex_capacities}
-use Rattle.sfm_matroid.specs.Ore.{lists_slot, listed, slots_count}
-use Rattle.sfm_matroid.proofs.MatroidTests.{IsWithinSlots, sum-level, sum-but}
+use Rattle.sfm_matroid.specs.Ore.{lists_slot, listed, slots_count, IsWithinSlots}
+use Rattle.sfm_matroid.proofs.MatroidTests.{sum-level, sum-but}
 
 -- ---- the slots of a set, one by one
 
@@ -137,6 +137,14 @@ module _ (entries : List (List ℕ)) (m : ℕ) (exist : AreBelow m entries) (c :
       let h = hall_easy x entries (replicate m c) s (sym sized) below (ks ∙ sym sized) can in
       let e = held_slots s in
       omega (arith, ints, h, e)
+
+  -- what passes it is split
+  pub within_slots_split : pos 0 ≤ℤ c → AreCounts x → IsWithinSlots entries m c x → CanBeMet x entries (replicate m c)
+  within_slots_split low counts within =
+      let below : AreBelow (length (replicate m c)) entries = rw slots exist in
+      hall x entries (replicate m c) (sym sized) below counts caps (λ s ks. let h = within s (ks ∙ sized) in let e = held_slots s in omega (arith, ints, h, e)) where
+        caps : (s : ℕ) → s < length (replicate m c) → pos 0 ≤ℤ get_or (replicate m c) s (pos 0)
+        caps s ls = let l = slots in rw (get_or-replicate m s c (pos 0) (omega (arith, ls, l))) low
 
   pub short_beyond_slots : (s : List Bool) → IsShort x entries (replicate m c) s → IsWithinSlots entries m c x → ⊥
   short_beyond_slots s short within = let h = within s (short.places ∙ sized) in let e = held_slots s in let more = short.more in omega (arith, ints, h, e, more)

@@ -14,3 +14,4 @@ pub mod Matchings
 pub mod Cuts
 pub mod Ore
 pub mod Transversals
+pub mod TransversalLaws

@@ -305,6 +305,10 @@ module _ (k m : ℕ) (entries : List (List ℕ)) (s i : List Bool) (f : ℕ → 
 abbrev pub AreSlotsBelow : List (List ℕ) → ℕ → Type 0
 AreSlotsBelow entries m = (e v : ℕ) → Contains (get_or entries e []) v → v < m
 
+-- no members get more than c for each of m slots that are listed for them
+abbrev pub IsWithinSlots : List (List ℕ) → ℕ → ℤ → List ℤ → Type 0
+IsWithinSlots entries m c x = (s : List Bool) → length s ≡ length entries → sum_over s x ≤ℤ (c *ℤ pos (slots_count entries m s))
+
 -- a part of s with slots of its own, as large as what of s is not in another part, and the slots of that
 pub record IsGreatest (entries : List (List ℕ)) (m : ℕ) (s b : List Bool) : Type 0 where
   pub places : length b ≡ length s

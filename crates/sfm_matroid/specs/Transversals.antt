@@ -7,6 +7,7 @@ use Rattle.std.proofs.lemmas.List.{length-replicate}
 use Rattle.sfm_spec.specs.Sets.{empty_set, whole_set, intersection, size}
 use Rattle.sfm_spec.specs.Kinds.{IsMatchable}
 use Rattle.sfm_spec.proofs.Sets.{in_both, in_first, in_second, same_sets}
+use Rattle.sfm_spec.proofs.Sizes.{size_below_length}
 use Rattle.sfm_spec.proofs.Sums.{length-intersection}
 use Rattle.sfm_matroid.specs.Matroids.{AreRanks}
 use Rattle.sfm_matroid.specs.RankTerms.{IsFirstBasis}
@@ -132,3 +133,9 @@ module _ (entries : List (List ℕ)) where
 
   pub transversal-first : IsFirstBasis (length entries) transversal_rank transversal_basis
   transversal-first = first_basis (length entries) (IsMatchable entries) transversal_rank (matching-matroid (length entries) entries) transversal-ranks (suited entries (whole_set (length entries))) (suited-growth (whole_set (length entries)))
+
+  pub length-transversal_basis : length transversal_basis ≡ length entries
+  length-transversal_basis = suited-places (whole_set (length entries)) (length entries)
+
+  pub transversal-few : size transversal_basis ≤ length entries
+  transversal-few = let b = size_below_length transversal_basis in let l = length-transversal_basis in omega (arith, b, l)

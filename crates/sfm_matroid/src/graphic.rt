@@ -2,7 +2,7 @@
 // edges of it: where it is a forest. The edges that are taken one after another, unless they close a trail, are a greatest
 // forest of a part, so their count is the rank. The bases of q times the term are told by a test for each vertex, and the room
 // of (u, v) is the least of what v has, what u lacks of q·w, and what u lacks of the most that it gets in each test without v.
-ghost use Rattle.std.specs.Prelude.{◌≡◌, ◌≢◌, ◌↔◌, ◌*◌, IsTrue, ℕ, ◌<◌, ◌≤◌, ◌^◌, Bool, List, length, slice_index_or, slice_set, ℤ, pos, neg_ℤ, ◌+ℤ◌, ◌-ℤ◌, ◌*ℤ◌, ◌≤ℤ◌, IfOk, OnOk, Some};
+ghost use Rattle.std.specs.Prelude.{◌≡◌, ◌≢◌, ◌↔◌, ◌*◌, IsTrue, ℕ, ◌<◌, ◌≤◌, ◌^◌, Bool, List, length, slice_index_or, ℤ, pos, neg_ℤ, ◌+ℤ◌, ◌-ℤ◌, ◌*ℤ◌, ◌≤ℤ◌, IfOk, OnOk, Some};
 ghost use Rattle.std.specs.List.{All};
 ghost use Rattle.sfm_assign.specs.Splits.{IsAmount};
 ghost use Rattle.sfm_spec.specs.Bounds.{IsAtMost, IsEntry, IsFactor, IsGiven, AreElements};
@@ -18,6 +18,7 @@ ghost use Rattle.sfm_matroid.specs.GraphicLaws.{graphic_value, graphic_size, gra
 use crate::ends::Ends;
 use crate::growing::{grow, whole};
 use crate::number::{are_within, has_sum, product};
+use crate::place::put;
 use crate::room::least_left;
 use crate::testing::{numbered, passes};
 use sfm_base::{Memory, Places, Set};
@@ -387,17 +388,5 @@ impl Term for Graphic {
         _a: i128,
     ) -> Result<(), Memory> {
         Ok(())
-    }
-}
-
-/// Puts a place into a set where it is to be a member, and takes it out where it is not.
-fn put(to: &mut Set, v: usize, member: bool)
-    requires { v < length to.old }
-    ensures { to.new ≡ slice_set to.old v member }
-{
-    if member {
-        to.insert(v);
-    } else {
-        to.remove(v);
     }
 }

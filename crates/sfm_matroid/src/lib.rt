@@ -1,15 +1,25 @@
-// Weighted ranks of graphic matroids as terms: edges of a graph, of which some are independent where they close no trail.
+// Weighted ranks of graphic and transversal matroids as terms: edges of a graph, of which some are independent where they close
+// no trail; and elements, of which some are independent where they have slots of their own entries, all distinct.
 #![tactic(auto)]
 
 pub mod ends;
+pub mod entries;
 pub mod graphic;
 mod growing;
+mod matching;
 mod number;
+mod place;
 mod room;
+mod slot_room;
 mod testing;
+pub mod transversal;
 
 pub use ends::Ends;
+pub use entries::Entries;
 pub use graphic::Graphic;
+pub use transversal::Transversal;
 
+#[cfg(test)]
+mod slot_tests;
 #[cfg(test)]
 mod tests;

@@ -15,7 +15,7 @@ use sfm_base::Memory;
 use std::alloc::Global;
 
 /// The entries, with nothing in a place.
-fn without(alloc: Global, x: &[i128], v: usize) -> Result<Vec<i128>, Memory>
+pub(crate) fn without(alloc: Global, x: &[i128], v: usize) -> Result<Vec<i128>, Memory>
     requires { v < length x.now }
     ensures { IfOk result (λ r. r.items ≡ slice_set x.now v (pos 0)) }
 {

@@ -16,13 +16,13 @@ const MOST_ENTRY: i128 = 1_000_000_000_000_000_000_000_000_000_000;
 
 /// What a term is to answer at a base. Parts are told by their numbers, place j counting 2^j.
 #[derive(Clone, Copy)]
-struct Wanted<'a> {
-    size: i128,
-    q: i128,
-    start: &'a [i128],
-    base: &'a [i128],
-    rooms: &'a [(usize, usize, i128)],
-    reaches: &'a [(usize, usize)],
+pub(crate) struct Wanted<'a> {
+    pub size: i128,
+    pub q: i128,
+    pub start: &'a [i128],
+    pub base: &'a [i128],
+    pub rooms: &'a [(usize, usize, i128)],
+    pub reaches: &'a [(usize, usize)],
 }
 
 /// Whether each number is a possible entry of a base.
@@ -33,7 +33,7 @@ fn are_entries(x: &[i128]) -> bool
 }
 
 /// The part of k places with a number, place j counting 2^j.
-fn part(alloc: Global, k: usize, number: usize) -> Result<Set, Memory>
+pub(crate) fn part(alloc: Global, k: usize, number: usize) -> Result<Set, Memory>
     ensures { IfOk result (λ s. length s ≡ k) }
 {
     let mut s = Set::empty(alloc, k)?;
@@ -134,7 +134,7 @@ fn bases_by_all_vertices(rt: HostRuntime) -> Result<(), Fail> {
 }
 
 /// Asserts the size and the first base of a term, and that a vector is a base.
-fn has_bases<T: Term>(
+pub(crate) fn has_bases<T: Term>(
     rt: &impl Abort,
     alloc: Global,
     term: &T,
@@ -156,7 +156,7 @@ fn has_bases<T: Term>(
 }
 
 /// Asserts the room of pairs of places and the reach of places at a base.
-fn has_rooms<T: Term>(
+pub(crate) fn has_rooms<T: Term>(
     rt: &impl Abort,
     alloc: Global,
     term: &T,

@@ -1,10 +1,29 @@
-use Rattle.std.proofs.Common.{◌≡◌, ◌<◌, ◌∙◌, length, refl, arith, rules, FitsSigned, to_z, of_z, ℤ}
-use Rattle.std.proofs.lemmas.Bool.{false≢true}
+use Rattle.std.proofs.Common.{◌≡◌, ◌∙◌, length, arith, rules, FitsSigned, to_z, of_z, ℤ}
+use Rattle.std.proofs.lemmas.Bool.{both_ways}
 use Rattle.std.proofs.lemmas.Int.{to_z-of_z}
 use mir.Syntax.{w128}
-use Rattle.sfm_laminar.proofs.Leasts.{least_with, least_without, least_all}
+use Rattle.sfm_laminar.proofs.Holders.{holder_at, holders_at, holder_below}
+use Rattle.sfm_laminar.proofs.Leasts.{least_begin, least_with, least_without, least_all}
 use Rattle.sfm_laminar.proofs.laminar.Laminar.least_left.Goals as goal
-use Rattle.sfm_laminar.proofs.laminar.Laminar.least_left.Goals.{then-splits, else-splits}
+use Rattle.sfm_laminar.proofs.laminar.Laminar.least_left.Goals.{then-not-has, else-not-has}
+
+pub loop-i-init : goal.loop-i-init
+loop-i-init c =
+    let s = c.args.self.now in
+    let fq : FitsSigned w128 c.args.q = c.ranges.q in
+    let fl : FitsSigned w128 c.least_entry-least.result = search rules in
+    let entry = simp to_z-of_z at c.least_entry-least.ensures in
+    simp to_z-of_z (least_begin c.args.q s.w s.groups c.args.x.now c.of-holders.result.now c.args.u c.args.v c.least_entry-least.result entry)
+
+pub has-requires : goal.has-requires
+has-requires c =
+    let s = c.args.self.now in
+    holder_below (length s.places) s.groups s.index c.args.u _ s.indexed (omega (arith, c.requires.from, c.requires.entries)) c.of-holders.ensures c.loop-i.i-index c.loop-i-test.true
+
+pub slack-requires-clause-group : goal.slack-requires-clause-group
+slack-requires-clause-group c =
+    let s = c.args.self.now in
+    holder_below (length s.places) s.groups s.index c.args.u _ s.indexed (omega (arith, c.requires.from, c.requires.entries)) c.of-holders.ensures c.loop-i.i-index c.loop-i-test.true
 
 pub loop-i-preserved : goal.loop-i-preserved
 loop-i-preserved c =
@@ -13,22 +32,26 @@ loop-i-preserved c =
     let q : ℤ = to_z w128 (of_z w128 c.args.q) in
     let u = c.args.u in
     let v = c.args.v in
-    let i = c.loop-i.i in
+    let es = c.of-holders.result.now in
+    let i = c.loop-i.i-index in
     let inv = c.loop-i.invariant in
-    let lt : i < length s.groups = omega (arith, c.loop-i-test.true, c.len-i-end.ensures) in
-    elim c.if-splits.branch [
-      | then-splits w ↦
+    let at = holders_at (length s.places) s.groups s.index u es s.indexed (omega (arith, c.requires.from, c.requires.entries)) c.of-holders.ensures in
+    let here = holder_at s.groups es u i at c.loop-i-test.true in
+    elim c.if-not-has.branch [
+      | then-not-has w ↦
           (let fs : FitsSigned w128 w.slack.result = search rules in
           let fm : FitsSigned w128 w.min-least.result = search rules in
-          let is : to_z w128 c.if-splits.least-bits ≡ w.min-least.result = w.least-is ∙ to_z-of_z w128 w.min-least.result fm in
+          let is : to_z w128 c.if-not-has.least-bits ≡ w.min-least.result = w.least-is ∙ to_z-of_z w128 w.min-least.result fm in
           let b = to_z-of_z w128 w.slack.result fs ∙ w.slack.ensures in
-          rw is (least_with q s.w s.groups x u v i _ _ _ inv lt (w.if-splits.ensures.0 refl) b w.min-least.ensures.value))
-      | else-splits w ↦ rw w.least-is (least_without q s.w s.groups x u v i _ inv (λ h. false≢true (w.if-splits.ensures.1 h)))
+          rw is (least_with q s.w s.groups x es u v i _ _ _ inv here.0 (here.1, λ h. both_ways c.has.result w.if-not-has.true (c.has.ensures.1 h)) b w.min-least.ensures.value))
+      | else-not-has w ↦ rw w.least-is (least_without q s.w s.groups x es u v i _ inv (c.has.ensures.0 w.if-not-has.false))
     ]
 
 pub returns : goal.returns
 returns c =
     let s = c.args.self.now in
+    let es = c.of-holders.result.now in
     let fq : FitsSigned w128 c.args.q = c.ranges.q in
     let inv = simp to_z-of_z at c.loop-i.invariant in
-    least_all c.args.q s.w s.groups c.args.x.now c.args.u c.args.v c.loop-i.i _ inv (omega (arith, c.loop-i-test.false, c.len-i-end.ensures))
+    let at = holders_at (length s.places) s.groups s.index c.args.u es s.indexed (omega (arith, c.requires.from, c.requires.entries)) c.of-holders.ensures in
+    least_all c.args.q s.w s.groups c.args.x.now es c.args.u c.args.v c.loop-i.i-index _ inv (omega (arith, c.loop-i-test.false)) at

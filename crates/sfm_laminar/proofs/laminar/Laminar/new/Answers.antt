@@ -33,6 +33,12 @@ returns-in_err-basis-clause-crosses c = λ first second. (
   (λ x. absurd (c.in_default.ensures first second x.crossing)),
 )
 
+pub returns-in_err-index-clause-crosses : goal.returns-in_err-index-clause-crosses
+returns-in_err-index-clause-crosses c = λ first second. (
+  (λ e. absurd (memory_apart _ _ first second (memory_told _ _ c.from_residual-in_err-index.ensures.1) e)),
+  (λ x. absurd (c.in_default.ensures first second x.crossing)),
+)
+
 pub returns-clause-crosses : goal.returns-clause-crosses
 returns-clause-crosses c = λ first second. ((λ e. absurd (ok_apart _ _ _ first second refl e)), (λ x. absurd (c.in_default.ensures first second x.crossing)))
 
@@ -47,3 +53,6 @@ invariant_of-result-clause-grouped c =
 pub invariant_of-result-clause-based : goal.invariant_of-result-clause-based
 invariant_of-result-clause-based c =
     basis_from (length c.args.elements.now) c.args.groups _ _ c.in_ok-all.ensures c.in_ok-basis.ensures ∙ ap (λ n. basis_of n c.args.groups) (ap length (sym c.in_ok-places.ensures))
+
+pub invariant_of-result-clause-indexed : goal.invariant_of-result-clause-indexed
+invariant_of-result-clause-indexed c = rw c.in_ok-places.ensures c.in_ok-index.ensures

@@ -1,0 +1,95 @@
+-- Bases of a transversal term by the test of its code, and how much can be exchanged at one: by the most that an element gets in
+-- the test, without another element.
+use Rattle.std.proofs.Common.{◌≡◌, ◌≢◌, ℕ, ◌<◌, List, length, get_or, set, replicate, ℤ, pos, ◌-ℤ◌, ◌*ℤ◌, ◌≤ℤ◌, sym, ap, ◌∙◌, arith, inl, inr, ⊎_elim}
+use Rattle.std.specs.List.{All}
+use Rattle.std.proofs.lemmas.Int.{ints, by_lt_z}
+use Rattle.std.proofs.lemmas.List.{get_or_default}
+use Rattle.sfm_spec.specs.Bounds.{total_of}
+use Rattle.sfm_spec.specs.Sets.{whole_set, sum_over}
+use Rattle.sfm_spec.specs.Terms.{times, IsBase, IsCapacity}
+use Rattle.sfm_spec.specs.Kinds.{IsMatchable}
+use Rattle.sfm_spec.proofs.Scaled.{times-assoc}
+use Rattle.sfm_assign.specs.Splits.{CanBeMet, IsMost}
+use Rattle.sfm_matroid.specs.Leasts.{IsLeastOf}
+use Rattle.sfm_matroid.specs.Matchings.{matching-matroid}
+use Rattle.sfm_matroid.specs.Ore.{IsWithinSlots}
+use Rattle.sfm_matroid.specs.Transversals.{transversal_rank, transversal-ranks}
+use Rattle.sfm_matroid.specs.TransversalLaws.{transversal_value, transversal_size}
+use Rattle.sfm_matroid.proofs.Bases.{IsMostAt, base_counts, base_total, base_passes, passes_base, raised-places, raised-counts, met_nothing, least_capacity}
+use Rattle.sfm_matroid.proofs.Matched.{slots_each}
+use Rattle.sfm_matroid.proofs.MatroidTests.{transversal_tests}
+use Rattle.sfm_matroid.proofs.SplitTests.{split_within_slots, within_slots_split}
+use Rattle.sfm_matroid.proofs.Totals.{total_of-whole}
+
+module _ (k : ℕ) (q w : ℤ) (entries : List (List ℕ)) (m : ℕ) (exist : All (All (λ v. v < m)) entries) (same : length entries ≡ k) (low : pos 0 ≤ℤ (q *ℤ w)) (x : List ℤ) (kx : length x ≡ k) where
+  sized : length x ≡ length entries
+  sized = kx ∙ sym same
+
+  sum-is : total_of x ≡ sum_over (whole_set (length entries)) x
+  sum-is = total_of-whole x ∙ ap (λ n. sum_over (whole_set n) x) sized
+
+  -- what a base is like
+  pub base_within_cap : IsBase (times q (transversal_value w entries)) x → All (λ a. (pos 0 ≤ℤ a) × (a ≤ℤ (q *ℤ w))) x
+  base_within_cap base e d lt =
+      let counts = base_counts (length entries) 1 q w low (IsMatchable entries) (transversal_rank entries) (matching-matroid (length entries) entries) (transversal-ranks entries) (λ a x. IsWithinSlots entries m (q *ℤ w) x) x sized base in
+      let p = base_passes (length entries) 1 q w low (IsMatchable entries) (transversal_rank entries) (matching-matroid (length entries) entries) (transversal-ranks entries) (λ a x. IsWithinSlots entries m (q *ℤ w) x) (transversal_tests entries m (slots_each entries m exist) q w low) x sized base in
+      let s = sized in
+      rw (get_or_default x e d (pos 0) lt) (counts e lt, p.capped e (omega (arith, lt, s)))
+
+  pub base_sum : IsBase (times q (transversal_value w entries)) x → total_of x ≡ (q *ℤ transversal_size w entries)
+  base_sum base =
+      sum-is ∙ (base_total (length entries) 1 q w low (IsMatchable entries) (transversal_rank entries) (matching-matroid (length entries) entries) (transversal-ranks entries) (λ a x. IsWithinSlots entries m (q *ℤ w) x) x sized base
+      ∙ times-assoc q w (pos (transversal_rank entries (whole_set (length entries)))))
+
+  pub base_held : IsBase (times q (transversal_value w entries)) x → IsWithinSlots entries m (q *ℤ w) x
+  base_held base = (base_passes (length entries) 1 q w low (IsMatchable entries) (transversal_rank entries) (matching-matroid (length entries) entries) (transversal-ranks entries) (λ a x. IsWithinSlots entries m (q *ℤ w) x) (transversal_tests entries m (slots_each entries m exist) q w low) x sized base).met 0 (omega arith)
+
+  -- and what is like that is one
+  pub held_base : All (λ a. (pos 0 ≤ℤ a) × (a ≤ℤ (q *ℤ w))) x → total_of x ≡ (q *ℤ transversal_size w entries) → IsWithinSlots entries m (q *ℤ w) x → IsBase (times q (transversal_value w entries)) x
+  held_base within sum held =
+      let s = sized in
+      passes_base (length entries) 1 q w low (IsMatchable entries) (transversal_rank entries) (matching-matroid (length entries) entries) (transversal-ranks entries) (λ a x. IsWithinSlots entries m (q *ℤ w) x) (transversal_tests entries m (slots_each entries m exist) q w low) x sized
+      (λ e lt. (within e (pos 0) lt).0)
+      (record { capped = λ e lt. (within e (pos 0) (omega (arith, lt, s))).1; met = λ a lt. held })
+      (sym sum-is ∙ (sum ∙ sym (times-assoc q w (pos (transversal_rank entries (whole_set (length entries)))))))
+
+  -- ---- how much can be exchanged
+
+  module _ (base : IsBase (times q (transversal_value w entries)) x) (u v : ℕ) (xu : u < length x) (xv : v < length x) (ne : u ≢ v) where
+    ku : u < length entries
+    ku = let s = sized in omega (arith, xu, s)
+
+    kv : v < length entries
+    kv = let s = sized in omega (arith, xv, s)
+
+    abbrev with_u : ℤ → List ℤ
+    with_u r = set (set x v (pos 0)) u r
+
+    places : (r : ℤ) → length (with_u r) ≡ length entries
+    places r = raised-places (length entries) 1 q w low (IsMatchable entries) (transversal_rank entries) (matching-matroid (length entries) entries) (transversal-ranks entries) (λ a x. IsWithinSlots entries m (q *ℤ w) x) (transversal_tests entries m (slots_each entries m exist) q w low) x sized base u v ku kv ne r
+
+    split : (r : ℤ) → pos 0 ≤ℤ r → IsWithinSlots entries m (q *ℤ w) (with_u r) → CanBeMet (with_u r) entries (replicate m (q *ℤ w))
+    split r hr met = within_slots_split entries m exist (q *ℤ w) (with_u r) (places r) low
+        (raised-counts (length entries) 1 q w low (IsMatchable entries) (transversal_rank entries) (matching-matroid (length entries) entries) (transversal-ranks entries) (λ a x. IsWithinSlots entries m (q *ℤ w) x) (transversal_tests entries m (slots_each entries m exist) q w low) x sized base u v ku kv ne r hr) met
+
+    -- the others are met
+    pub others_met : CanBeMet (set (set x v (pos 0)) u (pos 0)) entries (replicate m (q *ℤ w))
+    others_met = split (pos 0) (omega (arith, ints)) (met_nothing (length entries) 1 q w low (IsMatchable entries) (transversal_rank entries) (matching-matroid (length entries) entries) (transversal-ranks entries) (λ a x. IsWithinSlots entries m (q *ℤ w) x) (transversal_tests entries m (slots_each entries m exist) q w low) x sized base u v ku kv ne 0 (omega arith))
+
+    most_at : (t : ℕ) (r : ℤ) → IsMost (set x v (pos 0)) entries (replicate m (q *ℤ w)) u r
+        → IsMostAt (length entries) 1 q w low (IsMatchable entries) (transversal_rank entries) (matching-matroid (length entries) entries) (transversal-ranks entries) (λ a x. IsWithinSlots entries m (q *ℤ w) x) (transversal_tests entries m (slots_each entries m exist) q w low) x sized base u v ku kv ne t r
+    most_at t r most = record {
+      reached = split_within_slots entries m exist (q *ℤ w) (with_u r) (places r) most.reached;
+      greatest = λ b met. by_lt_z b (pos 0)
+          (λ less. let h = most.greatest (pos 0) others_met in omega (arith, ints, less, h))
+          (λ ge. most.greatest b (split b (omega (arith, ints, ge)) met));
+    }
+
+    -- the room of (u, v)
+    pub slot_capacity : (a : ℤ) → IsLeastOf (λ t. IsMost (set x v (pos 0)) entries (replicate m (q *ℤ w)) u) (get_or x v (pos 0)) ((q *ℤ w) -ℤ get_or x u (pos 0)) (get_or x u (pos 0)) 1 a → IsCapacity (times q (transversal_value w entries)) x u v a
+    slot_capacity a least = least_capacity (length entries) 1 q w low (IsMatchable entries) (transversal_rank entries) (matching-matroid (length entries) entries) (transversal-ranks entries) (λ a x. IsWithinSlots entries m (q *ℤ w) x) (transversal_tests entries m (slots_each entries m exist) q w low) x sized base u v ku kv ne a (record {
+      under_v = least.under_first;
+      under_cap = least.under_second;
+      under_most = λ t lt. let (r, most, le) = least.under_each t lt in (r, most_at t r most, le);
+      reached = ⊎_elim (λ e. inl e) (λ rest. ⊎_elim (λ e. inr (inl e)) (λ (t, lt, r, most, e). inr (inr (t, lt, r, most_at t r most, e))) rest) least.reached;
+    })

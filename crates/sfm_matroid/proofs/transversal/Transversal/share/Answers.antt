@@ -1,0 +1,29 @@
+use Rattle.std.proofs.Common.{◌∙◌, ◌*ℤ◌, false, get_or, ap, sym, FitsSigned}
+use Rattle.std.proofs.lemmas.Int.{to_z-of_z}
+use mir.Syntax.{w128}
+use Rattle.sfm_matroid.specs.Transversals.{length-transversal_basis, transversal_basis}
+use Rattle.sfm_matroid.proofs.Fits.{given_fits, given_more, product_fits}
+use Rattle.sfm_matroid.proofs.Shares.{share-in, share-out}
+use Rattle.sfm_matroid.proofs.transversal.Transversal.share.Goals as goal
+
+pub contains-requires : goal.contains-requires
+contains-requires c =
+    let s = c.args.self.now in
+    rw (s.based, length-transversal_basis s.entries, s.same_count) c.requires.place
+
+pub returns-then-not-contains : goal.returns-then-not-contains
+returns-then-not-contains c =
+    let s = c.args.self.now in
+    let fq : FitsSigned w128 c.args.q = c.ranges.q in
+    let out = ap (λ t. get_or t c.args.j false) (sym s.based) ∙ (sym c.contains.ensures ∙ c.if-not-contains.true) in
+    sym (share-out c.args.q s.w (transversal_basis s.entries) c.args.j out)
+
+pub returns : goal.returns
+returns c =
+    let s = c.args.self.now in
+    let fq : FitsSigned w128 c.args.q = c.ranges.q in
+    let fw : FitsSigned w128 s.w = given_fits _ s.given in
+    let fp : FitsSigned w128 (c.args.q *ℤ s.w) = product_fits _ _ c.requires.factor (given_more _ s.given) in
+    let p = simp to_z-of_z at c.product.ensures in
+    let has = ap (λ t. get_or t c.args.j false) (sym s.based) ∙ (sym c.contains.ensures ∙ c.if-not-contains.false) in
+    rw p (simp to_z-of_z (sym (share-in c.args.q s.w (transversal_basis s.entries) c.args.j has)))

@@ -1,0 +1,17 @@
+use Rattle.std.proofs.Common.{◌≡◌, ◌∙◌, ◌*ℤ◌, length, pos, sym, arith, FitsSigned}
+use Rattle.std.proofs.lemmas.Int.{to_z-of_z}
+use Rattle.std.proofs.lemmas.List.{ext_get_or}
+use mir.Syntax.{w128}
+use Rattle.sfm_matroid.specs.RankTerms.{at_places-length}
+use Rattle.sfm_matroid.specs.Transversals.{transversal_basis, length-transversal_basis}
+use Rattle.sfm_matroid.specs.TransversalLaws.{transversal_start}
+use Rattle.sfm_matroid.proofs.transversal.Transversal.write_start.Goals as goal
+
+pub returns : goal.returns
+returns c =
+    let s = c.args.self.now in
+    let q = c.args.q in
+    let fq : FitsSigned w128 q = c.ranges.q in
+    let inv = simp to_z-of_z at c.loop-j.invariant in
+    let sized : length c.loop-j.x ≡ length s.places = omega (arith, c.loop-j.auto.x, c.requires.entries) in
+    ext_get_or (pos 0) c.loop-j.x (transversal_start q s.w s.entries) (sized ∙ sym (at_places-length (q *ℤ s.w) (transversal_basis s.entries) ∙ (length-transversal_basis s.entries ∙ s.same_count))) (λ j h. inv j (omega (arith, h, sized)))

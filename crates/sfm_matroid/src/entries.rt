@@ -1,0 +1,112 @@
+// The slots of elements, entry by entry in the order in which they come, with a number above all slots.
+ghost use Rattle.std.specs.Prelude.{◌≡◌, ℕ, ◌<◌, ◌≤◌, ◌^◌, List, [], ◌∷◌, ◌++◌, length, slice_index_or, is_ok, if◌then◌else◌};
+ghost use Rattle.std.specs.List.{All};
+
+use sfm_base::Memory;
+use std::alloc::Global;
+use std::marker::Model;
+
+/// The slots of an element, seen as a list of numbers.
+#[derive(Debug, Drop)]
+pub(crate) struct Slots {
+    items: Vec<u32>,
+}
+
+impl Model for Slots {
+    ghost use Rattle.std.specs.Prelude.{List, ℕ};
+
+    ghost Value = { List ℕ };
+
+    ghost view = { λ s. s.items.items };
+}
+
+impl Slots {
+    /// The slots in their order.
+    pub(crate) fn as_slice(&self) -> &[u32]
+        ensures { result.now ≡ self.now }
+    {
+        self.items.as_slice()
+    }
+}
+
+/// The slots of each element, seen as a list of lists. A slot may stand more than once in an entry.
+#[derive(Debug, Drop)]
+pub struct Entries {
+    items: Vec<Slots>,
+    above: usize,
+}
+
+impl Model for Entries {
+    ghost use Rattle.std.specs.Prelude.{List, ℕ, ◌<◌, ◌≤◌, ◌^◌};
+    ghost use Rattle.std.specs.List.{All};
+
+    ghost Value = { List (List ℕ) };
+
+    ghost view = { λ s. s.items.items };
+
+    ghost invariant = { λ s. All (All (λ v. v < s.above)) s.items.items × (s.above ≤ 2 ^ 24) };
+}
+
+impl Entries {
+    /// No entries.
+    pub fn new(alloc: Global) -> Entries
+        ensures { result ≡ [] }
+    {
+        Entries {
+            items: Vec::new(alloc),
+            above: 0,
+        }
+    }
+
+    /// Puts an entry with these slots at the end.
+    ///
+    /// # Errors
+    ///
+    /// `Memory` where there is none; the entries are then as they were.
+    pub fn push(&mut self, slots: Vec<u32>) -> Result<(), Memory>
+        requires { All (λ v. v < 2 ^ 24) slots.items }
+        ensures { self.new ≡ (if is_ok result then self.old ++ slots.items ∷ [] else self.old) }
+    {
+        let above = above(&slots, self.above);
+        self.items.push(Slots { items: slots })?;
+        self.above = above;
+        Ok(())
+    }
+
+    /// How many entries there are.
+    pub fn len(&self) -> usize
+        ensures { result ≡ length self.now }
+    {
+        self.items.len()
+    }
+
+    /// A number above each slot.
+    pub(crate) fn above(&self) -> usize
+        ensures below { All (All (λ v. v < result)) self.now }
+        ensures high { result ≤ 2 ^ 24 }
+    {
+        self.above
+    }
+
+    /// The entries in order.
+    pub(crate) fn as_slice(&self) -> &[Slots]
+        ensures { result.now ≡ self.now }
+    {
+        self.items.as_slice()
+    }
+}
+
+/// The least number above each slot of a list and not below another.
+fn above(slots: &[u32], least: usize) -> usize
+    requires low { least ≤ 2 ^ 24 }
+    requires bounded { All (λ v. v < 2 ^ 24) slots.now }
+    ensures slots { All (λ v. v < result) slots.now }
+    ensures least { least ≤ result }
+    ensures high { result ≤ 2 ^ 24 }
+{
+    let mut above = least;
+    for v in slots {
+        above = above.max(*v as usize + 1);
+    }
+    above
+}

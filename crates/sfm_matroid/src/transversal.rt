@@ -1,0 +1,373 @@
+// A number w times the rank of a transversal matroid. A part of the elements is independent where its members have slots of
+// their own entries, all distinct. The elements that are taken one after another while their slots suffice are a greatest
+// independent part, so their count is the rank. The bases of q times the term are told by one test: the entries are split over
+// slots that hold q·w each. The room of (u, v) is the least of what v has, what u lacks of q·w, and what u lacks of the most
+// that it gets in the test without v.
+ghost use Rattle.std.specs.Prelude.{◌≡◌, ◌≢◌, ◌↔◌, ◌*◌, IsTrue, ℕ, ◌<◌, ◌≤◌, ◌^◌, Bool, List, length, slice_index_or, slice_set, ℤ, pos, neg_ℤ, ◌+ℤ◌, ◌-ℤ◌, ◌*ℤ◌, ◌≤ℤ◌, IfOk, OnOk, Some};
+ghost use Rattle.std.specs.List.{All};
+ghost use Rattle.sfm_spec.specs.Bounds.{IsAtMost, IsEntry, IsFactor, IsGiven, AreElements};
+ghost use Rattle.sfm_spec.specs.Terms.{SetFunction, IsBase, IsCapacity, IsFamily, IsSubmodular, IsGreedy, HasRoom, exchanged, times};
+ghost use Rattle.sfm_law.specs.Room.{IsRoom, IsReach, IsWithinRoom};
+ghost use Rattle.sfm_spec.specs.Kinds.{IsMatchable, IsRank, IsRankFunction};
+ghost use Rattle.sfm_matroid.specs.Transversals.{transversal_rank, transversal_basis};
+ghost use Rattle.sfm_matroid.specs.TransversalLaws.{transversal_value, transversal_size, transversal_start, transversal-family, transversal-submodular, transversal-bounded, transversal-starts, transversal-starts_small};
+
+use crate::entries::Entries;
+use crate::growing::whole;
+use crate::matching::{are_held, matched};
+use crate::number::{are_within, has_sum, product};
+use crate::place::put;
+use crate::slot_room::least_unheld;
+use sfm_base::{Memory, Places, Set};
+use sfm_law::{Room, Term};
+use std::alloc::Global;
+
+/// A number for each element of a greatest independent part: elements are independent where they have slots of their own
+/// entries, all distinct (Schrijver, Combinatorial Optimization, section 39).
+#[derive(Drop)]
+pub struct Transversal {
+    pub places: Places,
+    pub w: i128,
+    pub entries: Entries,
+    /// The elements that are taken one after another while their slots suffice.
+    pub basis: Set,
+    pub ghost elements: { AreElements places },
+    pub ghost few: { length places ≤ 256 },
+    pub ghost low: { pos 0 ≤ℤ w },
+    pub ghost given: { IsGiven w },
+    pub ghost same_count: { length entries ≡ length places },
+    pub ghost based: { basis ≡ transversal_basis entries },
+}
+
+impl Transversal {
+    /// The term that is worth w for each element of a greatest part with slots of their own; the elements are copied, and the
+    /// entries are taken over.
+    ///
+    /// # Errors
+    ///
+    /// `Memory` where there is none.
+    pub fn new(
+        alloc: Global,
+        elements: &[usize],
+        w: i128,
+        entries: Entries,
+    ) -> Result<Transversal, Memory>
+        requires elements { AreElements elements.now }
+        requires low { pos 0 ≤ℤ w }
+        requires given { IsGiven w }
+        requires same_count { length entries ≡ length elements.now }
+        ensures places { IfOk result (λ r. r.places ≡ elements.now) }
+        ensures number { IfOk result (λ r. r.w ≡ w) }
+        ensures entries { IfOk result (λ r. r.entries ≡ entries) }
+    {
+        let places = Places::from_slice(alloc, elements)?;
+        let all = whole(alloc, elements.len())?;
+        let basis = matched(alloc, &entries, &all)?;
+        Ok(Transversal {
+            places,
+            w,
+            entries,
+            basis,
+        })
+    }
+
+    /// How many elements of a part may be independent together, and no more.
+    ///
+    /// # Errors
+    ///
+    /// `Memory` where there is none.
+    pub fn rank(&self, alloc: Global, s: &Set) -> Result<i128, Memory>
+        requires { length s.now ≡ length self.now.places }
+        ensures rank { IfOk result (λ r. r ≡ pos (transversal_rank self.now.entries s.now)) }
+        ensures greatest { IfOk result (λ r. (n : ℕ) × (r ≡ pos n) × IsRank (IsMatchable self.now.entries) s.now n) }
+    {
+        let taken = matched(alloc, &self.entries, s)?;
+        Ok(taken.size() as i128)
+    }
+
+    /// The value of each part is w times its rank: a law, with nothing to do.
+    pub fn values_are_ranks(&self)
+        ensures { IsRankFunction (length self.now.places) self.now.w (IsMatchable self.now.entries) (transversal_value self.now.w self.now.entries) }
+    {}
+
+    /// The value of a count of elements that are independent together.
+    fn ranked(&self, count: i128) -> i128
+        requires low { pos 0 ≤ℤ count }
+        requires high { count ≤ℤ pos 256 }
+        ensures value { result ≡ self.now.w *ℤ count }
+        ensures small { IsAtMost (10 ^ 21) result }
+    {
+        self.w * count
+    }
+
+    /// The greatest value: that of all elements.
+    pub fn size_of(&self) -> i128
+        ensures value { result ≡ transversal_size self.now.w self.now.entries }
+        ensures small { IsAtMost (10 ^ 21) result }
+    {
+        self.ranked(self.basis.size() as i128)
+    }
+
+    /// The value of a part: w times its rank.
+    ///
+    /// # Errors
+    ///
+    /// `Memory` where there is none.
+    pub fn value_of(&self, alloc: Global, s: &Set) -> Result<Option<i128>, Memory>
+        requires { length s.now ≡ length self.now.places }
+        ensures { IfOk result (λ r. r ≡ transversal_value self.now.w self.now.entries s.now) }
+    {
+        let rank = self.rank(alloc, s)?;
+        Ok(Some(self.ranked(rank)))
+    }
+
+    /// Writes the base with q·w at each element of the part that is kept, and 0 at the others.
+    pub fn start_of(&self, q: i128, x: &mut [i128])
+        requires factor { IsFactor q }
+        requires entries { length x.old ≡ length self.now.places }
+        ensures start { x.new ≡ transversal_start q self.now.w self.now.entries }
+        ensures greedy { IsGreedy q (transversal_value self.now.w self.now.entries) (length self.now.places) x.new }
+        ensures base { IsBase (times q (transversal_value self.now.w self.now.entries)) x.new }
+    {
+        self.write_start(q, x);
+    }
+
+    /// Writes q·w at the elements of the part that is kept, and 0 at the others.
+    fn write_start(&self, q: i128, x: &mut [i128])
+        requires factor { IsFactor q }
+        requires entries { length x.old ≡ length self.now.places }
+        ensures { x.new ≡ transversal_start q self.now.w self.now.entries }
+    {
+        for (j, a) in x.iter_mut().enumerate() {
+            *a = self.share(q, j);
+        }
+    }
+
+    /// What the place j gets of the first base.
+    fn share(&self, q: i128, j: usize) -> i128
+        requires factor { IsFactor q }
+        requires place { j < length self.now.places }
+        ensures { result ≡ slice_index_or (transversal_start q self.now.w self.now.entries) j (pos 0) }
+    {
+        if !self.basis.contains(j) {
+            return 0;
+        }
+        product(q, self.w)
+    }
+
+    /// Whether x is a base of q times the term.
+    ///
+    /// # Errors
+    ///
+    /// `Memory` where there is none.
+    pub fn is_base_of(&self, alloc: Global, q: i128, x: &[i128]) -> Result<bool, Memory>
+        requires factor { IsFactor q }
+        requires entries { length x.now ≡ length self.now.places }
+        requires small { All IsEntry x.now }
+        ensures { IfOk result (λ r. IsTrue r ↔ IsBase (times q (transversal_value self.now.w self.now.entries)) x.now) }
+    {
+        let m = self.entries.above();
+        let most = product(q, self.w);
+        if !are_within(x, most) {
+            return Ok(false);
+        }
+        let whole = product(q, self.size_of());
+        if !has_sum(x, whole) {
+            return Ok(false);
+        }
+        let held = are_held(alloc, &self.entries, m, x, most)?;
+        Ok(held)
+    }
+
+    /// The greatest number that can be exchanged at a base.
+    fn capacity(
+        &self,
+        alloc: Global,
+        q: i128,
+        x: &[i128],
+        u: usize,
+        v: usize,
+    ) -> Result<i128, Memory>
+        requires factor { IsFactor q }
+        requires entries { length x.now ≡ length self.now.places }
+        requires small { All IsEntry x.now }
+        requires base { IsBase (times q (transversal_value self.now.w self.now.entries)) x.now }
+        requires apart { u ≢ v }
+        requires from { u < length x.now }
+        requires onto { v < length x.now }
+        ensures { IfOk result (IsCapacity (times q (transversal_value self.now.w self.now.entries)) x.now u v) }
+    {
+        let cap = product(q, self.w);
+        let m = self.entries.above();
+        let least = least_unheld(alloc, &self.entries, m, x, cap, u, v)?;
+        Ok(least)
+    }
+
+    /// The room of (u, v) at a base.
+    ///
+    /// # Errors
+    ///
+    /// `Memory` where there is none.
+    pub fn room_of(
+        &self,
+        alloc: Global,
+        q: i128,
+        x: &[i128],
+        u: usize,
+        v: usize,
+    ) -> Result<Room, Memory>
+        requires factor { IsFactor q }
+        requires entries { length x.now ≡ length self.now.places }
+        requires small { All IsEntry x.now }
+        requires base { IsBase (times q (transversal_value self.now.w self.now.entries)) x.now }
+        requires apart { u ≢ v }
+        requires from { u < length x.now }
+        requires onto { v < length x.now }
+        ensures { IfOk result (IsRoom (times q (transversal_value self.now.w self.now.entries)) x.now u v) }
+    {
+        let most = self.capacity(alloc, q, x, u, v)?;
+        Ok(Room::Upto(most))
+    }
+
+    /// Whether v is not u, and u has room to it.
+    fn has_room(
+        &self,
+        alloc: Global,
+        q: i128,
+        x: &[i128],
+        u: usize,
+        v: usize,
+    ) -> Result<bool, Memory>
+        requires factor { IsFactor q }
+        requires entries { length x.now ≡ length self.now.places }
+        requires small { All IsEntry x.now }
+        requires base { IsBase (times q (transversal_value self.now.w self.now.entries)) x.now }
+        requires from { u < length x.now }
+        requires onto { v < length x.now }
+        ensures { IfOk result (λ r. IsTrue r ↔ ((v ≢ u) × HasRoom (times q (transversal_value self.now.w self.now.entries)) x.now u v)) }
+    {
+        if v == u {
+            return Ok(false);
+        }
+        let most = self.capacity(alloc, q, x, u, v)?;
+        Ok(most >= 1)
+    }
+
+    /// Writes the places other than u to which u has room at a base.
+    ///
+    /// # Errors
+    ///
+    /// `Memory` where there is none.
+    pub fn reach_of(
+        &self,
+        alloc: Global,
+        q: i128,
+        x: &[i128],
+        u: usize,
+        to: &mut Set,
+    ) -> Result<(), Memory>
+        requires factor { IsFactor q }
+        requires entries { length x.now ≡ length self.now.places }
+        requires small { All IsEntry x.now }
+        requires base { IsBase (times q (transversal_value self.now.w self.now.entries)) x.now }
+        requires from { u < length x.now }
+        requires room_for_answer { length to.old ≡ length x.now }
+        ensures places { length to.new ≡ length to.old }
+        ensures reached { OnOk result (IsReach (times q (transversal_value self.now.w self.now.entries)) x.now u to.new) }
+    {
+        for v in 0..x.len() {
+            let member = self.has_room(alloc, q, x, u, v)?;
+            put(to, v, member);
+        }
+        Ok(())
+    }
+}
+
+impl Term for Transversal {
+    type Note = ();
+
+    ghost places = { λ s. s.places };
+
+    ghost value_of = { λ s. transversal_value s.w s.entries };
+
+    ghost size_of = { λ s. transversal_size s.w s.entries };
+
+    ghost start_of = { λ s q. transversal_start q s.w s.entries };
+
+    ghost fits = { λ s note q x. Unit {0} };
+
+    ghost family = { λ s. transversal-family (length s.places) s.w s.entries s.same_count };
+
+    ghost submodular = { λ s. transversal-submodular (length s.places) s.w s.entries s.same_count s.low };
+
+    ghost bounded = { λ s t a h e. transversal-bounded (length s.places) s.w s.entries s.same_count s.low t a h e };
+
+    ghost starts = { λ s q low. transversal-starts (length s.places) s.w s.entries s.same_count s.low q low };
+
+    ghost starts_small = { λ s q low. transversal-starts_small (length s.places) s.w s.entries s.same_count s.low q low };
+
+    fn elements(&self) -> &[usize] {
+        self.places.as_slice()
+    }
+
+    fn size(&self) -> i128 {
+        self.size_of()
+    }
+
+    fn value(&self, alloc: Global, s: &Set) -> Result<Option<i128>, Memory> {
+        self.value_of(alloc, s)
+    }
+
+    fn start(&self, _alloc: Global, q: i128, x: &mut [i128]) -> Result<(), Memory> {
+        self.start_of(q, x);
+        Ok(())
+    }
+
+    fn is_base(&self, alloc: Global, q: i128, x: &[i128]) -> Result<bool, Memory> {
+        self.is_base_of(alloc, q, x)
+    }
+
+    fn room(&self, alloc: Global, q: i128, x: &[i128], u: usize, v: usize) -> Result<Room, Memory> {
+        self.room_of(alloc, q, x, u, v)
+    }
+
+    fn reach(
+        &self,
+        alloc: Global,
+        q: i128,
+        x: &[i128],
+        u: usize,
+        to: &mut Set,
+    ) -> Result<(), Memory> {
+        self.reach_of(alloc, q, x, u, to)
+    }
+
+    fn note(&self, _alloc: Global, _q: i128, _x: &[i128]) -> Result<(), Memory> {
+        Ok(())
+    }
+
+    fn reach_by(
+        &self,
+        alloc: Global,
+        q: i128,
+        x: &[i128],
+        _note: &(),
+        u: usize,
+        to: &mut Set,
+    ) -> Result<(), Memory> {
+        self.reach_of(alloc, q, x, u, to)
+    }
+
+    fn moved(
+        &self,
+        _alloc: Global,
+        _q: i128,
+        _x: &[i128],
+        _note: &mut (),
+        _u: usize,
+        _v: usize,
+        _a: i128,
+    ) -> Result<(), Memory> {
+        Ok(())
+    }
+}
