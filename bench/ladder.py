@@ -72,7 +72,34 @@ def groups(names, rng):
     return lines
 
 
-KINDS = {"grid": grid, "covers": covers, "needs": needs, "counts": counts, "groups": groups}
+def links(names, rng):
+    """An eighth as many ranks of graphs as there are elements, each over eight edges between five vertices."""
+    lines = weights(names, rng, -200, -1)
+    for _ in range(len(names) // 8):
+        edges = [f"{name}={rng.randint(1, 5)}-{rng.randint(1, 5)}" for name in rng.sample(names, 8)]
+        lines.append(" ".join(["rank", str(rng.randint(0, 400)), "graphic", ":", *edges]))
+    return lines
+
+
+def slots(names, rng):
+    """A quarter as many ranks of transversal matroids, each over eight elements with two of five slots."""
+    lines = weights(names, rng, -200, -1)
+    for _ in range(len(names) // 4):
+        some = rng.sample(names, 8)
+        entries = [name + "=" + ",".join(str(s) for s in rng.sample(range(1, 6), 2)) for name in some]
+        lines.append(" ".join(["rank", str(rng.randint(0, 400)), "transversal", ":", *entries]))
+    return lines
+
+
+KINDS = {
+    "grid": grid,
+    "covers": covers,
+    "needs": needs,
+    "counts": counts,
+    "groups": groups,
+    "links": links,
+    "slots": slots,
+}
 
 
 def write_instance(path, kind, size, seed):

@@ -257,3 +257,41 @@ fn verdicts_over_a_rank(rt: HostRuntime) -> Result<(), Fail> {
     }
     Ok(())
 }
+
+#[test]
+fn verdicts_over_a_graph_and_over_slots(rt: HostRuntime) -> Result<(), Fail> {
+    let triangle =
+        b"sfm 1\nground a b c\nweight a:-2 b:-2 c:-2\nrank 2 graphic : a=u-v b=v-w c=u-w\nend\n";
+    let lone = b"sfm 1\nground a\nweight a:-1\nrank 5 graphic : a=u-u\nend\n";
+    let shared = b"sfm 1\nground a b\nweight a:-1 b:-3\nrank 2 transversal : a=t b=t\nend\n";
+    let rows: [(&[u8], &[u8], u8, &[u8]); 4] = [
+        (
+            triangle,
+            b"answer 1\nminimum -2\nleast a b c\ngreatest a b c\nslope -2/3 a b c\nat 0/1\nbase 1 -2 -2 -2\nbase 2 2 1 1\nat -2/3\nbase 1 -6 -6 -6\nbase 2 4 4 4\nend\n",
+            0,
+            b"valid\n",
+        ),
+        (
+            lone,
+            b"answer 1\nminimum -1\nleast a\ngreatest a\nslope -1/1 a\nat 0/1\nbase 1 -1\nbase 2 1\nat -1/1\nbase 1 -1\nbase 2 0\nend\n",
+            1,
+            b"invalid 8 base\n",
+        ),
+        (
+            shared,
+            b"answer 1\nminimum -2\nleast a b\ngreatest a b\nslope -1/1 a b\nat 0/1\nbase 1 -1 -3\nbase 2 1 1\nat -1/1\nbase 1 -1 -3\nbase 2 0 2\nend\n",
+            0,
+            b"valid\n",
+        ),
+        (
+            shared,
+            b"answer 1\nminimum -2\nleast a b\ngreatest a b\nslope -1/1 a b\nat 0/1\nbase 1 -1 -3\nbase 2 -1 3\nat -1/1\nbase 1 -1 -3\nbase 2 0 2\nend\n",
+            1,
+            b"invalid 8 base\n",
+        ),
+    ];
+    for (text, answer, code, line) in rows {
+        try_case(&rt, rt.alloc(), &check(text, answer, code, line))?;
+    }
+    Ok(())
+}

@@ -4,7 +4,7 @@ use std::test::Fail;
 
 #[test]
 fn names_the_first_fault(rt: HostRuntime) -> Result<(), Fail> {
-    let rows: [(&[u8], &[u8]); 13] = [
+    let rows: [(&[u8], &[u8]); 16] = [
         (
             b"sfm 1\nground a b\nweight z:1000000000001\ncut 1 a b\ncut 1 a a\nend\n",
             b"refused 3 number\n",
@@ -32,6 +32,18 @@ fn names_the_first_fault(rt: HostRuntime) -> Result<(), Fail> {
         (
             b"sfm 1\nground a b c\nrank 1 laminar : a b ; 1 a c\nend\n",
             b"refused 3 name\n",
+        ),
+        (
+            b"sfm 1\nground a b\nrank 1 graphic : a=u-v-w b=u-v\nend\n",
+            b"refused 3 shape\n",
+        ),
+        (
+            b"sfm 1\nground a b\nrank 1 graphic : a=u- b=u-v\nend\n",
+            b"refused 3 name\n",
+        ),
+        (
+            b"sfm 1\nground a b\nrank 1 transversal : a=s,t,s b=t\nend\n",
+            b"refused 3 twice\n",
         ),
         (
             b"sfm 1\nground a b\ntable 1 1 1 1 : a b\nend\n",

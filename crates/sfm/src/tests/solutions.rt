@@ -150,3 +150,25 @@ fn solves_concave_functions_and_ranks(rt: HostRuntime) -> Result<(), Fail> {
     }
     Ok(())
 }
+
+#[test]
+fn solves_ranks_of_graphs_and_of_slots(rt: HostRuntime) -> Result<(), Fail> {
+    let rows: [(&[u8], &[u8]); 3] = [
+        (
+            b"sfm 1\nground a b c\nweight a:-2 b:-2 c:-2\nrank 2 graphic : a=u-v b=v-w c=u-w\nend\n",
+            b"answer 1\nminimum -2\nleast a b c\ngreatest a b c\nslope -2/3 a b c\nat 0/1\nbase 1 -2 -2 -2\nbase 2 *\nat -2/3\nbase 1 -6 -6 -6\nbase 2 4 4 4\nend\n",
+        ),
+        (
+            b"sfm 1\nground a\nweight a:-1\nrank 5 graphic : a=u-u\nend\n",
+            b"answer 1\nminimum -1\nleast a\ngreatest a\nslope -1/1 a\nat 0/1\nbase 1 -1\nbase 2 0\nat -1/1\nbase 1 -1\nbase 2 0\nend\n",
+        ),
+        (
+            b"sfm 1\nground a b\nweight a:-1 b:-3\nrank 2 transversal : a=t b=t\nend\n",
+            b"answer 1\nminimum -2\nleast a b\ngreatest a b\nslope -1/1 a b\nat 0/1\nbase 1 -1 -3\nbase 2 *\nat -1/1\nbase 1 -1 -3\nbase 2 0 2\nend\n",
+        ),
+    ];
+    for (text, wanted) in rows {
+        try_solution(&rt, rt.alloc(), text, 7, wanted)?;
+    }
+    Ok(())
+}
