@@ -19,49 +19,6 @@ pub record IsNextTo (unions : List Bits) (level old left next : Bits) (k : ℕ) 
   pub leads : (e : ℕ) → bit_in next e ≡ 1 → LeadsInto unions e level
   pub closed : (e : ℕ) → e < k → LeadsInto unions e level → bit_in left e ≡ 0
 
--- the same of the places that have been looked at: all that were left but those ahead
-pub record IsPicking (unions : List Bits) (level old left next ahead : Bits) : Type 0 where
-  pub parted : (e : ℕ) → bit_in left e + bit_in next e ≡ bit_in old e
-  pub inside : (e : ℕ) → bit_in ahead e ≤ bit_in left e
-  pub leads : (e : ℕ) → bit_in next e ≡ 1 → LeadsInto unions e level
-  pub closed : (e : ℕ) → bit_in ahead e ≡ 0 → LeadsInto unions e level → bit_in left e ≡ 0
-
--- none has been looked at
-pub picking_begun : (unions : List Bits) (level old next : Bits) → ((e : ℕ) → bit_in next e ≡ 0) → IsPicking unions level old old next old
-picking_begun unions level old next none = record {
-  parted = λ e. let z = none e in omega (arith, z);
-  inside = λ e. omega arith;
-  leads = λ e one. absurd (let z = none e in omega (arith, z, one));
-  closed = λ e z into. z;
-}
-
--- a place ahead was left at first
-pub ahead_old : (unions : List Bits) (level old left next ahead : Bits) (e : ℕ) → IsPicking unions level old left next ahead → bit_in ahead e ≡ 1 → bit_in old e ≡ 1
-ahead_old unions level old left next ahead e h one = let p = h.parted e in let i = h.inside e in let o = bit_in-lt old e in omega (arith, p, i, o, one)
-
--- a place more that is one of them
-pub picking_put : (unions : List Bits) (level old left next ahead left' next' ahead' : Bits) (k : ℕ) → IsPicking unions level old left next ahead → bit_in ahead k ≡ 1 → LeadsInto unions k level
-    → bit_in next' k ≡ 1 → ((e : ℕ) → e ≢ k → bit_in next' e ≡ bit_in next e) → bit_in left' k ≡ 0 → ((e : ℕ) → e ≢ k → bit_in left' e ≡ bit_in left e)
-    → bit_in ahead' k ≡ 0 → ((e : ℕ) → e ≢ k → bit_in ahead' e ≡ bit_in ahead e) → IsPicking unions level old left' next' ahead'
-picking_put unions level old left next ahead left' next' ahead' k h has into put others out others' gone rest = record {
-  parted = λ e. ⊎_elim
-      (λ same. rw same (let p = h.parted k in let i = h.inside k in let o = bit_in-lt old k in let n = bit_in-lt next k in omega (arith, p, i, o, n, has, put, out)))
-      (λ ne. let p = h.parted e in let a = others e ne in let b = others' e ne in omega (arith, p, a, b)) (cases_eq e k);
-  inside = λ e. ⊎_elim (λ same. rw same (omega (arith, gone))) (λ ne. let i = h.inside e in let b = others' e ne in let r = rest e ne in omega (arith, i, b, r)) (cases_eq e k);
-  leads = λ e one. ⊎_elim (λ same. rw same into) (λ ne. h.leads e (sym (others e ne) ∙ one)) (cases_eq e k);
-  closed = λ e z to. ⊎_elim (λ same. rw same out) (λ ne. others' e ne ∙ h.closed e (sym (rest e ne) ∙ z) to) (cases_eq e k);
-}
-
--- a place more that is not
-pub picking_skip : (unions : List Bits) (level old left next ahead ahead' : Bits) (k : ℕ) → IsPicking unions level old left next ahead → (LeadsInto unions k level → ⊥)
-    → bit_in ahead' k ≡ 0 → ((e : ℕ) → e ≢ k → bit_in ahead' e ≡ bit_in ahead e) → IsPicking unions level old left next ahead'
-picking_skip unions level old left next ahead ahead' k h lacks gone rest = record {
-  parted = h.parted;
-  inside = λ e. ⊎_elim (λ same. rw same (omega (arith, gone))) (λ ne. let i = h.inside e in let r = rest e ne in omega (arith, i, r)) (cases_eq e k);
-  leads = h.leads;
-  closed = λ e z to. ⊎_elim (λ same. absurd (lacks (rw same at to))) (λ ne. h.closed e (sym (rest e ne) ∙ z) to) (cases_eq e k);
-}
-
 -- fewer are ahead
 pub picking_shrinks : (ahead ahead' : Bits) (k : ℕ) → k < 256 → bit_in ahead k ≡ 1 → bit_in ahead' k ≡ 0 → ((e : ℕ) → e ≢ k → bit_in ahead' e ≡ bit_in ahead e) → sum_below 256 (bit_in ahead') < sum_below 256 (bit_in ahead)
 picking_shrinks ahead ahead' k l one gone rest = sum_below-lt 256 (bit_in ahead') (bit_in ahead) k

@@ -6,6 +6,7 @@ pub mod Following
 pub mod Spotting
 pub mod Levelling
 pub mod Uniting
+pub mod Turning
 pub mod Noting
 pub mod Reaching
 pub mod Amounts

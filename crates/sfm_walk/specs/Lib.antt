@@ -2,6 +2,7 @@ pub mod Bits
 pub mod Spots
 pub mod Reach
 pub mod Unions
+pub mod Turned
 pub mod Levels
 pub mod Signs
 pub mod Hops

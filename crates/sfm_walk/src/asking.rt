@@ -1,5 +1,5 @@
 // The rows of the terms are asked at first, and after each walk those of the terms that the walk used, whose bases have
-// changed; the union rows are brought up with them.
+// changed; the union rows are brought up with them, and the same rows turned round.
 ghost use Rattle.std.specs.Prelude.{◌≡◌, ◌≢◌, ◌^◌, ◌<◌, ◌≤◌, ℕ, map, pos, ◌≤ℤ◌, length, OnOk};
 ghost use Rattle.std.specs.List.{All};
 ghost use Rattle.sfm_spec.specs.Sets.{IsPlaced};
@@ -8,6 +8,7 @@ ghost use Rattle.sfm_spec.specs.Families.{meanings, AreBases};
 ghost use Rattle.sfm_walk.specs.Spots.{AreSpots};
 ghost use Rattle.sfm_walk.specs.Reach.{AreNotes, AreSized, IsTable, table_at};
 ghost use Rattle.sfm_walk.specs.Unions.{AreUnions};
+ghost use Rattle.sfm_walk.specs.Turned.{AreTurned};
 ghost use Rattle.sfm_walk.specs.Hops.{hop_at};
 
 use crate::bits::Bits;
@@ -97,6 +98,7 @@ pub fn ask_again<T: Term>(
     parts: &mut Vec<Set>,
     rows: &mut Vec<BitRows>,
     unions: &mut Vec<Bits>,
+    back: &mut Vec<Bits>,
 ) -> Result<(), Memory>
     requires few { n ≤ 256 }
     requires factor { IsFactor q }
@@ -110,6 +112,7 @@ pub fn ask_again<T: Term>(
     requires rows { AreSized (map T.places terms.now) rows.old.items }
     requires spots { AreSpots (meanings T.places T.value_of terms.now) n spots.now }
     requires unions { AreUnions rows.old.items spots.now unions.old.items }
+    requires turned { AreTurned unions.old.items back.old.items }
     requires hops { (k : ℕ) → k < length hops.now → (hop_at hops.now k).term < length terms.now }
     requires kept { (i : ℕ) → i < length terms.now → ((k : ℕ) → 0 ≤ k → k < length hops.now → (hop_at hops.now k).term ≢ i)
         → IsTable (meanings T.places T.value_of terms.now) q bases.now i (table_at rows.old.items i) }
@@ -117,10 +120,11 @@ pub fn ask_again<T: Term>(
     ensures rows { OnOk result (AreSized (map T.places terms.now) rows.new.items) }
     ensures tables { OnOk result ((i : ℕ) → i < length terms.now → IsTable (meanings T.places T.value_of terms.now) q bases.now i (table_at rows.new.items i)) }
     ensures unions { OnOk result (AreUnions rows.new.items spots.now unions.new.items) }
+    ensures turned { OnOk result (AreTurned unions.new.items back.new.items) }
 {
     for hop in hops {
         ask_one(alloc, terms, n, q, bases, notes, hop.term, parts, rows)?;
-        renew(spots, rows, terms[hop.term].elements(), unions);
+        renew(spots, rows, terms[hop.term].elements(), unions, back);
     }
     Ok(())
 }

@@ -13,6 +13,7 @@ mod reached;
 mod rest;
 mod signs;
 mod spots;
+mod turned;
 mod unions;
 mod walk;
 

@@ -12,6 +12,7 @@ ghost use Rattle.sfm_walk.specs.Engine.{IsEngine};
 ghost use Rattle.sfm_walk.specs.Levels.{IsFirst};
 ghost use Rattle.sfm_walk.specs.Signs.{AreSigns};
 ghost use Rattle.sfm_walk.specs.State.{IsState, IsUpTo};
+ghost use Rattle.sfm_walk.specs.Turned.{AreTurned};
 
 use crate::asking::{ask_again, ask_all};
 use crate::bits::Bits;
@@ -23,6 +24,7 @@ use crate::reached::{reached_from, set_of};
 use crate::rest::{most_of, move_rest, rest_of};
 use crate::signs::{Signs, move_signs, signs_of};
 use crate::spots::Spots;
+use crate::turned::turned_of;
 use crate::unions::unions_of;
 use crate::walk::{Hop, follow, last_place};
 use sfm_base::{Memory, Numbers, Rows, Set, Steps};
@@ -173,10 +175,11 @@ fn improve<T: Term>(
         &mut engine.rows,
     )?;
     let mut unions = unions_of(alloc, &engine.spots, &engine.rows)?;
+    let mut back = turned_of(alloc, &unions)?;
     let mut levels = Vec::new(alloc);
     let mut hops = Vec::new(alloc);
     let mut signs = signs_of(&z);
-    while let Some(first) = find_levels(&unions, &z, &signs, &mut levels)? {
+    while let Some(first) = find_levels(&back, &unions, &z, &signs, &mut levels)? {
         advance(
             alloc,
             terms,
@@ -192,6 +195,7 @@ fn improve<T: Term>(
             &mut engine.parts,
             &mut engine.rows,
             &mut unions,
+            &mut back,
             &mut hops,
         )?;
         count_one(steps);
@@ -231,6 +235,7 @@ fn advance<T: Term>(
     parts: &mut Vec<Set>,
     rows: &mut Vec<BitRows>,
     unions: &mut Vec<Bits>,
+    back: &mut Vec<Bits>,
     hops: &mut Vec<Hop>,
 ) -> Result<(), Memory>
     requires bounded { AreBounded (length shift.now) (map T.places terms.now) (map T.size_of terms.now) }
@@ -239,11 +244,13 @@ fn advance<T: Term>(
     requires factor { IsFactor q }
     requires state { IsState T.places T.value_of T.fits terms.now q shift.now bases.old z.old.items notes.old.items parts.old.items rows.old.items spots.now unions.old.items }
     requires signs { AreSigns z.old.items signs.old }
+    requires turned { AreTurned unions.old.items back.old.items }
     requires first { IsFirst (length z.old.items) unions.old.items z.old.items levels.now first }
     requires small { All (λ x. All (IsAtMost (5 * 10 ^ 29)) x) bases.old }
     requires gap { neg_ℤ (pos (5 * 10 ^ 29)) ≤ℤ deficit (length shift.now) (rest_at (meanings T.places T.value_of terms.now) bases.old shift.now) }
     ensures state { OnOk result (IsState T.places T.value_of T.fits terms.now q shift.now bases.new z.new.items notes.new.items parts.new.items rows.new.items spots.now unions.new.items) }
     ensures signs { OnOk result (AreSigns z.new.items signs.new) }
+    ensures turned { OnOk result (AreTurned unions.new.items back.new.items) }
     ensures moves { OnOk result (MovesAlong (meanings T.places T.value_of terms.now) q shift.now bases.old bases.new) }
     ensures spread { OnOk result ((b : ℤ) → All (λ x. All (IsUpTo b) x) bases.old → All (λ x. All (IsUpTo (b +ℤ (deficit (length shift.now) (rest_at (meanings T.places T.value_of terms.now) bases.new shift.now)
         -ℤ deficit (length shift.now) (rest_at (meanings T.places T.value_of terms.now) bases.old shift.now)))) x) bases.new) }
@@ -266,6 +273,7 @@ fn advance<T: Term>(
         parts,
         rows,
         unions,
+        back,
     )?;
     move_signs(signs, z, first, last);
     Ok(())

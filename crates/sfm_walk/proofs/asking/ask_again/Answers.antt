@@ -58,13 +58,22 @@ loop-hop-preserved g c =
     let T : List Bits → Type 0 = λ table. IsTable ts c.args.q c.args.bases.now i table in
     ⊎_elim
     (λ same. subst I (sym same) asked)
-    (λ ne. subst T (sym (e.others i ne)) (inv.3 i l (λ j lj lh. ⊎_elim (λ less. none j (omega (arith, less)) lh) (λ ge. let here : j ≡ k = omega (arith, ge, lj) in λ at. ne (sym at ∙ ap (λ z. (hop_at c.args.hops.now z).term) here)) (cases_lt k j))))
+    (λ ne. subst T (sym (e.others i ne)) (inv.4 i l (λ j lj lh. ⊎_elim (λ less. none j (omega (arith, less)) lh) (λ ge. let here : j ≡ k = omega (arith, ge, lj) in λ at. ne (sym at ∙ ap (λ z. (hop_at c.args.hops.now z).term) here)) (cases_lt k j))))
     (cases_eq i hop.term) in
-    (e.parts, e.rows, are, simp to_z-of_z each)
+    (e.parts, e.rows, are, c.renew.ensures.turned, simp to_z-of_z each)
 
 pub returns-clause-tables : goal.returns-clause-tables
 returns-clause-tables g c =
     let t = g.T.Term in
     let fq : FitsSigned w128 c.args.q = c.ranges.q in
     let inv = simp to_z-of_z at c.loop-hop.invariant in
-    λ i l. inv.3 i l (λ j lj lh. absurd (omega (arith, lj, lh, c.loop-hop-test.false)))
+    λ i l. inv.4 i l (λ j lj lh. absurd (omega (arith, lj, lh, c.loop-hop-test.false)))
+
+pub renew-requires-clause-few : goal.renew-requires-clause-few
+renew-requires-clause-few g c = omega (arith, c.requires.few, c.requires.spots.count)
+
+pub renew-requires-clause-count : goal.renew-requires-clause-count
+renew-requires-clause-count g c =
+    let fq : FitsSigned w128 c.args.q = c.ranges.q in
+    let inv = simp to_z-of_z at c.loop-hop.invariant in
+    inv.2.count

@@ -175,7 +175,7 @@ loop-hops-init g c =
       risen = omega (arith, ints);
       small = same_bound init (pos (10 ^ 25) +ℤ (D init -ℤ D init)) c.requires.small (omega (arith, ints));
     } in
-    simp to_z-of_z (r, omega arith, rw c.deref-4.ensures.value at c.signs_of-signs.ensures, counted_none ts q shift init c.args.steps.now)
+    simp to_z-of_z (r, omega arith, rw c.deref-5.ensures.value at c.signs_of-signs.ensures, counted_none ts q shift init c.args.steps.now, rw c.deref-4.ensures.value at c.in_ok-back.ensures)
 
 pub advance-requires-clause-sizes : goal.advance-requires-clause-sizes
 advance-requires-clause-sizes g c =
@@ -320,7 +320,7 @@ loop-hops-preserved g c =
       risen = omega (arith, ints, risen, more);
       small = bound_is after ((pos (10 ^ 25) +ℤ (D rows -ℤ D init)) +ℤ (D after -ℤ D rows)) (pos (10 ^ 25) +ℤ (D after -ℤ D init)) (e.spread (pos (10 ^ 25) +ℤ (D rows -ℤ D init)) inv.small) (omega (arith, ints));
     } in
-    simp to_z-of_z (r, omega (arith, c.loop-hops.invariant.1, c.count_one.ensures.kept), e.signs, counted_more ts q shift init rows after c.args.steps.now c.loop-hops.steps c.count_one.new.steps (simp to_z-of_z at c.loop-hops.invariant.3) (simp to_z-of_z at e.moves) c.count_one.ensures.one)
+    simp to_z-of_z (r, omega (arith, c.loop-hops.invariant.1, c.count_one.ensures.kept), e.signs, counted_more ts q shift init rows after c.args.steps.now c.loop-hops.steps c.count_one.new.steps (simp to_z-of_z at c.loop-hops.invariant.3) (simp to_z-of_z at e.moves) c.count_one.ensures.one, e.turned)
 
 pub returns-clause-small : goal.returns-clause-small
 returns-clause-small g c =
@@ -403,7 +403,7 @@ returns-clause-ends g c =
     let risen : D init ≤ℤ D rows = inv.risen in
     let z = c.loop-hops.z.items in
     let closed0 = match_none c.in_ok-first.field-0 _ _ c.in_ok-first.ensures c.in_default.not-Some in
-    let closed1 = rw (c.deref-in-loop-hops.ensures.value, c.deref-in-loop-hops-2.ensures.value) at closed0 in
+    let closed1 = rw (c.deref-in-loop-hops-2.ensures.value, c.deref-in-loop-hops-3.ensures.value) at closed0 in
     let zn : length z ≡ n = s.is_rest.places in
     let F : ℕ → Type 0 = λ k. AreClosed k c.loop-hops.unions.items z c.find_levels.new.levels.items in
     let closed : AreClosed n c.loop-hops.unions.items z c.find_levels.new.levels.items = subst F zn closed1 in
@@ -439,7 +439,7 @@ returns-clause-proves g c =
     let risen : D init ≤ℤ D rows = inv.risen in
     let z = c.loop-hops.z.items in
     let closed0 = match_none c.in_ok-first.field-0 _ _ c.in_ok-first.ensures c.in_default.not-Some in
-    let closed1 = rw (c.deref-in-loop-hops.ensures.value, c.deref-in-loop-hops-2.ensures.value) at closed0 in
+    let closed1 = rw (c.deref-in-loop-hops-2.ensures.value, c.deref-in-loop-hops-3.ensures.value) at closed0 in
     let zn : length z ≡ n = s.is_rest.places in
     let F : ℕ → Type 0 = λ k. AreClosed k c.loop-hops.unions.items z c.find_levels.new.levels.items in
     let closed : AreClosed n c.loop-hops.unions.items z c.find_levels.new.levels.items = subst F zn closed1 in
@@ -475,14 +475,14 @@ reached_from-reached-requires-clause-firsts g c =
     let risen : D init ≤ℤ D rows = inv.risen in
     let z = c.loop-hops.z.items in
     let closed0 = match_none c.in_ok-first.field-0 _ _ c.in_ok-first.ensures c.in_default.not-Some in
-    let closed1 = rw (c.deref-in-loop-hops.ensures.value, c.deref-in-loop-hops-2.ensures.value) at closed0 in
+    let closed1 = rw (c.deref-in-loop-hops-2.ensures.value, c.deref-in-loop-hops-3.ensures.value) at closed0 in
     let zn : length z ≡ n = s.is_rest.places in
     let F : ℕ → Type 0 = λ k. AreClosed k c.loop-hops.unions.items z c.find_levels.new.levels.items in
     let closed : AreClosed n c.loop-hops.unions.items z c.find_levels.new.levels.items = subst F zn closed1 in
     let right : (i : ℕ) → i < length ts → IsTable ts q rows i (table_at c.loop-hops.engine.rows.items i) = λ i l. s.tables i (rw count at l) in
     let links = links_of ts n q rows c.loop-hops.engine.spots.items c.loop-hops.engine.rows.items c.loop-hops.unions.items s.are_spots s.are_unions right in
     let none = none_joins ts rows n q shift z low fit s.are_bases zn s.is_rest c.loop-hops.unions.items links c.find_levels.new.levels.items closed in
-    let uv = c.deref-5.ensures.value in
+    let uv = c.deref-6.ensures.value in
     let cu = s.are_unions.count in
     let cs = s.are_spots.count in
     λ e one. let u = ((c.loop-hops.invariant.2.below e).0 one).0 in let l : e < n = rw zn at u in rw (uv, cu, cs) l
@@ -514,14 +514,14 @@ reached_from-reached-requires-clause-links g c =
     let risen : D init ≤ℤ D rows = inv.risen in
     let z = c.loop-hops.z.items in
     let closed0 = match_none c.in_ok-first.field-0 _ _ c.in_ok-first.ensures c.in_default.not-Some in
-    let closed1 = rw (c.deref-in-loop-hops.ensures.value, c.deref-in-loop-hops-2.ensures.value) at closed0 in
+    let closed1 = rw (c.deref-in-loop-hops-2.ensures.value, c.deref-in-loop-hops-3.ensures.value) at closed0 in
     let zn : length z ≡ n = s.is_rest.places in
     let F : ℕ → Type 0 = λ k. AreClosed k c.loop-hops.unions.items z c.find_levels.new.levels.items in
     let closed : AreClosed n c.loop-hops.unions.items z c.find_levels.new.levels.items = subst F zn closed1 in
     let right : (i : ℕ) → i < length ts → IsTable ts q rows i (table_at c.loop-hops.engine.rows.items i) = λ i l. s.tables i (rw count at l) in
     let links = links_of ts n q rows c.loop-hops.engine.spots.items c.loop-hops.engine.rows.items c.loop-hops.unions.items s.are_spots s.are_unions right in
     let none = none_joins ts rows n q shift z low fit s.are_bases zn s.is_rest c.loop-hops.unions.items links c.find_levels.new.levels.items closed in
-    let uv = c.deref-5.ensures.value in
+    let uv = c.deref-6.ensures.value in
     let cu = s.are_unions.count in
     let cs = s.are_spots.count in
     λ e t l bit. rw (uv, cu, cs) (link_below ts rows n q shift z low fit s.are_bases zn s.is_rest c.loop-hops.unions.items links e t (rw (uv, cu, cs) at l) (rw uv at bit))
@@ -553,14 +553,14 @@ returns-clause-least g c =
     let risen : D init ≤ℤ D rows = inv.risen in
     let z = c.loop-hops.z.items in
     let closed0 = match_none c.in_ok-first.field-0 _ _ c.in_ok-first.ensures c.in_default.not-Some in
-    let closed1 = rw (c.deref-in-loop-hops.ensures.value, c.deref-in-loop-hops-2.ensures.value) at closed0 in
+    let closed1 = rw (c.deref-in-loop-hops-2.ensures.value, c.deref-in-loop-hops-3.ensures.value) at closed0 in
     let zn : length z ≡ n = s.is_rest.places in
     let F : ℕ → Type 0 = λ k. AreClosed k c.loop-hops.unions.items z c.find_levels.new.levels.items in
     let closed : AreClosed n c.loop-hops.unions.items z c.find_levels.new.levels.items = subst F zn closed1 in
     let right : (i : ℕ) → i < length ts → IsTable ts q rows i (table_at c.loop-hops.engine.rows.items i) = λ i l. s.tables i (rw count at l) in
     let links = links_of ts n q rows c.loop-hops.engine.spots.items c.loop-hops.engine.rows.items c.loop-hops.unions.items s.are_spots s.are_unions right in
     let none = none_joins ts rows n q shift z low fit s.are_bases zn s.is_rest c.loop-hops.unions.items links c.find_levels.new.levels.items closed in
-    least_is ts rows n q shift z low fit s.are_bases zn s.is_rest c.loop-hops.unions.items links c.loop-hops.signs.under c.reached_from-reached.result c.loop-hops.invariant.2.below (rw c.deref-5.ensures.value at c.reached_from-reached.ensures) c.in_ok-least.least c.in_ok-least.ensures none
+    least_is ts rows n q shift z low fit s.are_bases zn s.is_rest c.loop-hops.unions.items links c.loop-hops.signs.under c.reached_from-reached.result c.loop-hops.invariant.2.below (rw c.deref-6.ensures.value at c.reached_from-reached.ensures) c.in_ok-least.least c.in_ok-least.ensures none
 
 pub returns-clause-counted : goal.returns-clause-counted
 returns-clause-counted g c =
