@@ -1,10 +1,11 @@
 -- What one more element, word or line adds, and the generator as its wrapping operations compute it.
-use Rattle.std.proofs.Common.{◌≡◌, ℕ, ◌+◌, ◌*◌, ◌/◌, ◌%◌, ◌^◌, List, [], ◌∷◌, ◌++◌, map, refl, sym, ap, ◌∙◌, append_assoc, arith}
+use Rattle.std.proofs.Common.{◌≡◌, ℕ, ◌+◌, ◌*◌, ◌/◌, ◌%◌, ◌^◌, ◌<◌, List, [], ◌∷◌, ◌++◌, length, get_or, take, map, ℤ, pos, ◌+ℤ◌, ◌-ℤ◌, refl, sym, ap, ◌∙◌, append_assoc, arith, add-one}
 use Rattle.std.proofs.Math.Nat.{mod-add-mod}
-use Rattle.std.proofs.lemmas.List.{append-nil, map-append}
+use Rattle.std.proofs.lemmas.List.{append-nil, map-append, take_more}
 use Rattle.std.proofs.lemmas.List.FromFn.{map-range_with_len_more}
+use Rattle.std.specs.Fmt.{signed_decimal}
 use Rattle.sfm_demo.specs.Draws.{Drawn, Drawing, next, top}
-use Rattle.sfm_demo.specs.DemoText.{each, element, names, run, spaced}
+use Rattle.sfm_demo.specs.DemoText.{each, element, further, names, numbers, run, spaced, sums}
 
 pub next-wrapping : (s : ℕ) → (s * 6364136223846793005 % 2 ^ 64 + 1442695040888963407) % 2 ^ 64 ≡ next s
 unfolding next
@@ -45,10 +46,10 @@ pub state_more : (word : ℕ → Drawing (List ℕ)) (p step j e s s' s'' : ℕ)
 state_more word p step j e s s' s'' h state after =
     after ∙ ap (λ t. (word e t).state) state ∙ sym (ap (λ (d : Drawn (List (List ℕ))). d.state) (ap (λ es. each word es s) (run-more p step j e h) ∙ each-more word (run p step j) e s))
 
-pub names_more : (p step j e : ℕ) (out out' more : List ℕ) → (p + step * j) % 200 ≡ e → out' ≡ out ++ spaced (names (run p step j)) → more ≡ out' ++ spaced (element e ∷ [])
+pub names_more : (p step j e : ℕ) (out out' more : List ℕ) → (p + step * j) % 200 ≡ e → out' ≡ out ++ spaced (names (run p step j)) → more ≡ out' ++ (32 ∷ element e)
     → more ≡ out ++ spaced (names (run p step (j + 1)))
 names_more p step j e out out' more h text put =
-    put ∙ ap (λ o. o ++ spaced (element e ∷ [])) text ∙ append_assoc out (spaced (names (run p step j))) (spaced (element e ∷ []))
+    put ∙ ap (λ w. out' ++ (32 ∷ w)) (sym (append-nil (element e))) ∙ ap (λ o. o ++ spaced (element e ∷ [])) text ∙ append_assoc out (spaced (names (run p step j))) (spaced (element e ∷ []))
     ∙ ap (λ w. out ++ w) (sym (spaced-append (names (run p step j)) (element e ∷ [])) ∙ ap spaced (sym (map-append element (run p step j) (e ∷ []))) ∙ ap (λ es. spaced (names es)) (sym (run-more p step j e h)))
 
 -- no word of no element
@@ -60,3 +61,32 @@ state_none word p step s = ap (λ es. (each word es s).state) (sym (run-zero p s
 
 pub names_none : (p step : ℕ) (out : List ℕ) → out ≡ out ++ spaced (names (run p step 0))
 names_none p step out = sym (append-nil out) ∙ ap (λ es. out ++ spaced (names es)) (sym (run-zero p step))
+
+-- what is left to be written after one more sum
+pub sums_more : (out more : List ℕ) (sum sum' d d' : ℤ) (n m s s' : ℕ) → n ≡ m + 1 → d' ≡ d -ℤ pos (top 150 (next s)) → sum' ≡ sum +ℤ d' → s' ≡ next s
+    → more ≡ out ++ (32 ∷ signed_decimal sum') → more ++ spaced (numbers (sums sum' (further m d' s').value)) ≡ out ++ spaced (numbers (sums sum (further n d s).value))
+unfolding further
+sums_more out more sum sum' d d' n m s s' left less added after put =
+    rw (left, add-one, put, added, after, less) (append_assoc out (32 ∷ signed_decimal (sum +ℤ (d -ℤ pos (top 150 (next s))))) (spaced (numbers (sums (sum +ℤ (d -ℤ pos (top 150 (next s)))) (further m (d -ℤ pos (top 150 (next s))) (next s)).value))))
+
+pub increments_more : (d d' : ℤ) (n m s s' : ℕ) → n ≡ m + 1 → d' ≡ d -ℤ pos (top 150 (next s)) → s' ≡ next s → (further m d' s').state ≡ (further n d s).state
+unfolding further
+increments_more d d' n m s s' left less after = rw (left, add-one, after, less) refl
+
+pub sums_all : (out start : List ℕ) (sum d : ℤ) (n s : ℕ) → n ≡ 0 → out ++ spaced (numbers (sums sum (further n d s).value)) ≡ start → out ≡ start
+unfolding further
+sums_all out start sum d n s none h = sym (append-nil out) ∙ (rw none at h)
+
+pub increments_all : (d : ℤ) (n s t : ℕ) → n ≡ 0 → (further n d s).state ≡ t → s ≡ t
+unfolding further
+increments_all d n s t none h = rw none at h
+
+-- a text that holds the first numbers of a list holds one more, once that is behind it
+pub numbers_more : (x : List ℤ) (i : ℕ) (out out' more : List ℕ) → i < length x → out' ≡ out ++ spaced (numbers (take i x)) → more ≡ out' ++ (32 ∷ signed_decimal (get_or x i (pos 0)))
+    → more ≡ out ++ spaced (numbers (take (i + 1) x))
+numbers_more x i out out' more h text put =
+    let a = get_or x i (pos 0) in
+    put ∙ ap (λ w. out' ++ (32 ∷ w)) (sym (append-nil (signed_decimal a))) ∙ ap (λ o. o ++ spaced (signed_decimal a ∷ [])) text ∙ append_assoc out (spaced (numbers (take i x))) (spaced (signed_decimal a ∷ []))
+    ∙ ap (λ w. out ++ w) (sym (spaced-append (numbers (take i x)) (signed_decimal a ∷ [])) ∙ ap spaced (sym (map-append signed_decimal (take i x) (a ∷ []))) ∙ ap (λ y. spaced (numbers y)) (sym (take_more x i (pos 0) h)))
+
+pub ruleset spacing = (spaced-append, append_assoc)

@@ -87,7 +87,7 @@ concave_line = do
   p ← draw 200
   d ← draw 600
   ds ← further 7 (pos d)
-  done (line (codes "concave") (numbers (sums (pos 0) (pos d ∷ ds)) ++ codes ":" ∷ names (run p 11 8)))
+  done (line (codes "concave") (numbers (pos d ∷ sums (pos d) ds) ++ codes ":" ∷ names (run p 11 8)))
 
 abbrev pub rank_line : ℕ → List ℕ → List (List ℕ) → List ℕ
 rank_line w kind words = line (codes "rank") (decimal w ∷ kind ∷ words)
@@ -133,7 +133,7 @@ transversal_line = do
   entries ← each entry (run p 9 8)
   done (rank_line w (codes "transversal") (codes ":" ∷ entries))
 
-abbrev pub level : Drawing ℤ
+unfoldable pub level : Drawing ℤ
 level = do
   n ← draw 401
   done (pos n -ℤ pos 200)
@@ -143,7 +143,7 @@ abbrev pub table_value : ℤ → ℤ → ℤ → ℕ → ℕ → ℤ
 table_value x y z t i = (if bit_at i 0 == 1 then x else pos 0) +ℤ (if bit_at i 1 == 1 then y else pos 0) +ℤ (if bit_at i 2 == 1 then z else pos 0)
     +ℤ (if i == 0 then pos 0 else pos t)
 
-abbrev pub table_values : ℤ → ℤ → ℤ → ℕ → List ℤ
+unfoldable pub table_values : ℤ → ℤ → ℤ → ℕ → List ℤ
 table_values x y z t = map (table_value x y z t) (range_with_len 0 8)
 
 abbrev pub table_line : Drawing (List ℕ)

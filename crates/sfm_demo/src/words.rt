@@ -1,12 +1,13 @@
 // Words of a line, put at the end of a text with a space in front of each: elements, numbers, and what is drawn for an element.
 ghost use Rattle.std.specs.Prelude.{◌≡◌, ◌+◌, ◌%◌, ◌<◌, ◌≤◌, ◌∷◌, ◌++◌, [], OnOk, pos, ◌-ℤ◌, ◌≤ℤ◌, neg_ℤ};
 ghost use Rattle.std.specs.String.{string_bytes};
-ghost use Rattle.sfm_demo.specs.DemoText.{each, edge, entry, ground, further, names, numbers, pair, run, spaced, sums, table_values};
+ghost use Rattle.sfm_demo.specs.DemoText.{each, edge, entry, ground, further, names, numbers, pair, run, spaced, sums};
 
 use crate::draws::Draws;
 use std::alloc::AllocError;
 
-const ELEMENTS: u64 = 200;
+/// How many elements there are.
+pub const ELEMENTS: u64 = 200;
 
 const SLOTS: u64 = 5;
 
@@ -103,7 +104,7 @@ pub fn write_sums(
 {
     let mut sum = first;
     let mut increment = first;
-    for _ in 0..count {
+    for _i in 0..count {
         increment -= draws.draw(150) as i64;
         sum += increment;
         write!(out, " {sum}")?;
@@ -111,26 +112,12 @@ pub fn write_sums(
     Ok(())
 }
 
-/// The values of the sets of three elements, the number of a set having a bit for each element that it holds.
-fn table_values(x: i64, y: i64, z: i64, t: u64) -> [i64; 8]
-    requires x_low { neg_ℤ (pos 200) ≤ℤ x }
-    requires x_high { x ≤ℤ pos 200 }
-    requires y_low { neg_ℤ (pos 200) ≤ℤ y }
-    requires y_high { y ≤ℤ pos 200 }
-    requires z_low { neg_ℤ (pos 200) ≤ℤ z }
-    requires z_high { z ≤ℤ pos 200 }
-    requires t { t < 300 }
-    ensures { result ≡ table_values x y z t }
+/// Numbers.
+pub fn write_numbers(out: &mut String, values: &[i64]) -> Result<(), AllocError>
+    ensures { OnOk result (string_bytes out.new ≡ string_bytes out.old ++ spaced (numbers values.now)) }
 {
-    let t = t as i64;
-    [
-        0,
-        x + t,
-        y + t,
-        x + y + t,
-        z + t,
-        x + z + t,
-        y + z + t,
-        x + y + z + t,
-    ]
+    for value in values {
+        write!(out, " {value}")?;
+    }
+    Ok(())
 }

@@ -11,6 +11,6 @@ loop-e-init c = record {
 
 pub loop-e-preserved : goal.loop-e-preserved
 loop-e-preserved c = record {
-  text = words_more pair 0 1 c.loop-e.e _ c.args.draws.now c.loop-e.draws _ _ _ (omega arith) c.loop-e.invariant.text c.loop-e.invariant.state c.in_ok-write_pair.ensures.text;
-  state = state_more pair 0 1 c.loop-e.e _ c.args.draws.now c.loop-e.draws _ (omega arith) c.loop-e.invariant.state c.in_ok-write_pair.ensures.after;
+  text = words_more pair 0 1 c.loop-e.e c.loop-e.e c.args.draws.now c.loop-e.draws _ _ _ (omega arith) c.loop-e.invariant.text c.loop-e.invariant.state c.in_ok-write_pair.ensures.text;
+  state = state_more pair 0 1 c.loop-e.e c.loop-e.e c.args.draws.now c.loop-e.draws _ (omega arith) c.loop-e.invariant.state c.in_ok-write_pair.ensures.after;
 }
