@@ -3,9 +3,10 @@ use Rattle.std.proofs.Common.{◌≡◌, ℕ, ◌+◌, ◌*◌, ◌/◌, ◌%◌
 use Rattle.std.proofs.Math.Nat.{mod-add-mod}
 use Rattle.std.proofs.lemmas.List.{append-nil, map-append, take_more}
 use Rattle.std.proofs.lemmas.List.FromFn.{map-range_with_len_more}
+use Rattle.std.specs.Prelude.{codes}
 use Rattle.std.specs.Fmt.{signed_decimal}
-use Rattle.sfm_demo.specs.Draws.{Drawn, Drawing, next, top}
-use Rattle.sfm_demo.specs.DemoText.{each, element, further, names, numbers, run, spaced, sums}
+use Rattle.sfm_demo.specs.Draws.{Drawn, Drawing, next, top, ◌>>◌}
+use Rattle.sfm_demo.specs.DemoText.{demo_text_of, each, element, further, level, line, names, numbers, lines, run, spaced, sums, table_values, term_lines, weight_line}
 
 pub next-wrapping : (s : ℕ) → (s * 6364136223846793005 % 2 ^ 64 + 1442695040888963407) % 2 ^ 64 ≡ next s
 unfolding next
@@ -90,3 +91,52 @@ numbers_more x i out out' more h text put =
     ∙ ap (λ w. out ++ w) (sym (spaced-append (numbers (take i x)) (signed_decimal a ∷ [])) ∙ ap spaced (sym (map-append signed_decimal (take i x) (a ∷ []))) ∙ ap (λ y. spaced (numbers y)) (sym (take_more x i (pos 0) h)))
 
 pub ruleset spacing = (spaced-append, append_assoc)
+
+pub level_of : (s n : ℕ) (a : ℤ) → n ≡ top 401 (next s) → a ≡ pos n -ℤ pos 200 → a ≡ (level s).value
+unfolding level
+level_of s n a h e = e ∙ ap (λ k. pos k -ℤ pos 200) h
+
+pub level-state : (s : ℕ) → (level s).state ≡ next s
+unfolding level
+level-state s = refl
+
+-- a line of numbers, a colon and names, in the pieces that it is put down in
+pub divided : (o o1 o2 o3 o4 o5 first : List ℕ) (xs ys : List (List ℕ)) → o1 ≡ o ++ first → o2 ≡ o1 ++ spaced xs → o3 ≡ o2 ++ (32 ∷ 58 ∷ []) → o4 ≡ o3 ++ spaced ys → o5 ≡ o4 ++ (10 ∷ [])
+    → o5 ≡ o ++ line first (xs ++ (58 ∷ []) ∷ ys)
+divided o o1 o2 o3 o4 o5 first xs ys h1 h2 h3 h4 h5 = grind (arith, spacing)
+
+pub table_drawn : (s s0 s1 s2 s3 t : ℕ) (x y z : ℤ) (v : List ℤ) → s0 ≡ s → v ≡ table_values x y z t → x ≡ (level s0).value → s1 ≡ (level s0).state → y ≡ (level s1).value → s2 ≡ (level s1).state
+    → z ≡ (level s2).value → s3 ≡ (level s2).state → t ≡ top 300 (next s3)
+    → v ≡ table_values (level s).value (level (level s).state).value (level (level (level s).state).state).value (top 300 (next (level (level (level s).state).state).state))
+table_drawn s s0 s1 s2 s3 t x y z v e0 ev ex e1 ey e2 ez e3 et = rw (ev, ex, ey, ez, et, e3, e2, e1, e0) refl
+
+-- a line more of a kind
+pub lines_none : (one : Drawing (List ℕ)) (s : ℕ) (out : List ℕ) → out ≡ out ++ (lines 0 one s).value
+unfolding lines
+lines_none one s out = sym (append-nil out)
+
+pub after_none : (one : Drawing (List ℕ)) (s : ℕ) → s ≡ (lines 0 one s).state
+unfolding lines
+after_none one s = refl
+
+pub lines_more : (one : Drawing (List ℕ)) (n s s' : ℕ) (out out' more : List ℕ) → out' ≡ out ++ (lines n one s).value → s' ≡ (lines n one s).state → more ≡ out' ++ (one s').value
+    → more ≡ out ++ (lines (n + 1) one s).value
+unfolding lines
+lines_more one n s s' out out' more text after put =
+    rw add-one (put ∙ ap (λ o. o ++ (one s').value) text ∙ append_assoc out (lines n one s).value (one s').value ∙ ap (λ t. out ++ ((lines n one s).value ++ (one t).value)) after)
+
+pub after_more : (one : Drawing (List ℕ)) (n s s' s'' : ℕ) → s' ≡ (lines n one s).state → s'' ≡ (one s').state → s'' ≡ (lines (n + 1) one s).state
+unfolding lines
+after_more one n s s' s'' after put = rw add-one (put ∙ ap (λ t. (one t).state) after)
+
+-- a text behind which another stands
+pub behind : (m n : Drawing (List ℕ)) (s s' : ℕ) (out out' more : List ℕ) → out' ≡ out ++ (m s).value → s' ≡ (m s).state → more ≡ out' ++ (n s').value
+    → more ≡ out ++ ((m >> n) s).value
+behind m n s s' out out' more text after put =
+    put ∙ ap (λ o. o ++ (n s').value) text ∙ append_assoc out (m s).value (n s').value ∙ ap (λ t. out ++ ((m s).value ++ (n t).value)) after
+
+-- the pieces of the whole text
+pub whole : (o o1 o2 o3 o4 o5 o6 : List ℕ) (seed s s' : ℕ) → o ≡ [] → o1 ≡ o ++ codes "sfm 1\nground" → o2 ≡ o1 ++ spaced (names (run 0 1 200)) → o3 ≡ o2 ++ codes "\n" → s ≡ seed
+    → o4 ≡ o3 ++ (weight_line s).value → s' ≡ (weight_line s).state → o5 ≡ o4 ++ (term_lines s').value → o6 ≡ o5 ++ codes "end\n" → o6 ≡ demo_text_of seed
+unfolding demo_text_of
+whole o o1 o2 o3 o4 o5 o6 seed s s' h h1 h2 h3 e h4 e' h5 h6 = rw (h6, h5, h4, h3, h2, h1, h, e', e) (simp append_assoc)

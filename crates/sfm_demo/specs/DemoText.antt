@@ -162,12 +162,9 @@ lines (suc n) one = do
   lines n one
   one
 
--- each of these is text, and they stand one behind another
-unfoldable pub demo : Drawing (List ℕ)
-demo = do
-  done (line (codes "sfm") (codes "1" ∷ []))
-  done (line (codes "ground") (names ground))
-  weight_line
+-- in the next two, each line of the block is text, which stands behind that of the lines above it
+unfoldable pub term_lines : Drawing (List ℕ)
+term_lines = do
   lines 100 cut_line
   lines 20 need_line
   lines 20 cover_line
@@ -177,6 +174,13 @@ demo = do
   lines 5 graphic_line
   lines 5 transversal_line
   lines 5 table_line
+
+abbrev pub demo : Drawing (List ℕ)
+demo = do
+  done (line (codes "sfm") (codes "1" ∷ []))
+  done (line (codes "ground") (names ground))
+  weight_line
+  term_lines
   done (line (codes "end") [])
 
 unfoldable pub demo_text_of : ℕ → List ℕ

@@ -7,3 +7,5 @@ mod lines;
 mod text;
 mod words;
 
+pub use text::demo_text;
+
