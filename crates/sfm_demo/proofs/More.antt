@@ -135,8 +135,14 @@ pub behind : (m n : Drawing (List ℕ)) (s s' : ℕ) (out out' more : List ℕ) 
 behind m n s s' out out' more text after put =
     put ∙ ap (λ o. o ++ (n s').value) text ∙ append_assoc out (m s).value (n s').value ∙ ap (λ t. out ++ ((m s).value ++ (n t).value)) after
 
--- the pieces of the whole text
+-- seven pieces, one behind another
+pieces : (o o1 o2 o3 o4 o5 o6 ground weights terms : List ℕ) → o ≡ [] → o1 ≡ o ++ codes "sfm 1\nground" → o2 ≡ o1 ++ ground → o3 ≡ o2 ++ codes "\n" → o4 ≡ o3 ++ weights → o5 ≡ o4 ++ terms
+    → o6 ≡ o5 ++ codes "end\n" → o6 ≡ codes "sfm 1\n" ++ (codes "ground" ++ ground ++ codes "\n" ++ (weights ++ (terms ++ codes "end\n")))
+pieces o o1 o2 o3 o4 o5 o6 ground weights terms h h1 h2 h3 h4 h5 h6 = rw (h6, h5, h4, h3, h2, h1, h) (simp append_assoc)
+
 pub whole : (o o1 o2 o3 o4 o5 o6 : List ℕ) (seed s s' : ℕ) → o ≡ [] → o1 ≡ o ++ codes "sfm 1\nground" → o2 ≡ o1 ++ spaced (names (run 0 1 200)) → o3 ≡ o2 ++ codes "\n" → s ≡ seed
     → o4 ≡ o3 ++ (weight_line s).value → s' ≡ (weight_line s).state → o5 ≡ o4 ++ (term_lines s').value → o6 ≡ o5 ++ codes "end\n" → o6 ≡ demo_text_of seed
 unfolding demo_text_of
-whole o o1 o2 o3 o4 o5 o6 seed s s' h h1 h2 h3 e h4 e' h5 h6 = rw (h6, h5, h4, h3, h2, h1, h, e', e) (simp append_assoc)
+whole o o1 o2 o3 o4 o5 o6 seed s s' h h1 h2 h3 e h4 e' h5 h6 =
+    pieces o o1 o2 o3 o4 o5 o6 (spaced (names (run 0 1 200))) (weight_line seed).value (term_lines (weight_line seed).state).value h h1 h2 h3 (h4 ∙ ap (λ t. o3 ++ (weight_line t).value) e)
+    (h5 ∙ ap (λ t. o4 ++ (term_lines t).value) (e' ∙ ap (λ t. (weight_line t).state) e)) h6
