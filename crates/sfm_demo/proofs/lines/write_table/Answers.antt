@@ -1,0 +1,28 @@
+use Rattle.std.proofs.Common.{◌≡◌, ◌++◌, FitsSigned, ap, ◌∙◌, arith}
+use Rattle.std.proofs.lemmas.Int.{ints, to_z-of_z}
+use mir.Syntax.{w64}
+use Rattle.std.specs.Prelude.{codes}
+use Rattle.std.specs.String.{string_bytes}
+use Rattle.sfm_demo.specs.Draws.{next, top}
+use Rattle.sfm_demo.specs.DemoText.{level, names, numbers, run, spaced, table_values}
+use Rattle.sfm_demo.proofs.More.{divided, table_drawn}
+use Rattle.sfm_demo.proofs.lines.write_table.Goals as goal
+
+pub returns-clause-text : goal.returns-clause-text
+returns-clause-text c =
+    let s = next c.args.draws.now in
+    let x = level s in
+    let y = level x.state in
+    let z = level y.state in
+    let v = table_values x.value y.value z.value (top 300 (next z.state)) in
+    let fx : FitsSigned w64 c.draw_level-x.result = omega (arith, ints) in
+    let fy : FitsSigned w64 c.draw_level-y.result = omega (arith, ints) in
+    let fz : FitsSigned w64 c.draw_level-z.result = omega (arith, ints) in
+    let same : c.table_values.result ≡ v =
+    table_drawn s c.draw-p.new.self c.draw_level-x.new.draws c.draw_level-y.new.draws c.draw_level-z.new.draws _ _ _ _ _ c.draw-p.ensures.after (simp to_z-of_z at c.table_values.ensures) c.draw_level-x.ensures.value c.draw_level-x.ensures.after
+    c.draw_level-y.ensures.value c.draw_level-y.ensures.after c.draw_level-z.ensures.value c.draw_level-z.ensures.after c.draw-t.ensures.value in
+    let p : c.draw-p.result ≡ top 200 s = c.draw-p.ensures.value in
+    divided _ _ _ _ _ _ (codes "table") (numbers v) (names (run (top 200 s) 17 3)) c.in_ok-write.ensures.bytes
+    (c.in_ok-write_numbers.ensures ∙ ap (λ w. string_bytes c.write.new.self ++ spaced (numbers w)) same)
+    c.in_ok-write-2.ensures.bytes (c.in_ok-write_run.ensures ∙ ap (λ q. string_bytes c.write-2.new.self ++ spaced (names (run q 17 3))) p)
+    c.in_ok-writeln.ensures.bytes

@@ -1,0 +1,86 @@
+// The whole text: the ground, the weights, so many lines of each kind, and the end.
+ghost use Rattle.std.specs.Prelude.{◌≡◌, ◌≤◌, ◌++◌, IfOk, OnOk};
+ghost use Rattle.std.specs.String.{string_bytes};
+ghost use Rattle.sfm_demo.specs.DemoText.{demo_text_of, lines, term_lines};
+ghost use Rattle.sfm_demo.specs.Kinds.{line_of};
+
+use crate::draws::Draws;
+use crate::kind::Kind;
+use crate::lines::{
+    write_concave, write_cover, write_cut, write_graphic, write_laminar, write_need, write_table,
+    write_transversal, write_uniform, write_weight,
+};
+use crate::words::{ELEMENTS, write_run};
+use sfm_base::Memory;
+use std::alloc::{AllocError, Global};
+
+/// One line of a kind.
+#[tactic(auto, unfolding(crate::specs::Kinds::line_of))]
+fn write_line(out: &mut String, draws: &mut Draws, kind: Kind) -> Result<(), AllocError>
+    ensures text { OnOk result (string_bytes out.new ≡ string_bytes out.old ++ (line_of kind draws.old).value) }
+    ensures after { OnOk result (draws.new ≡ (line_of kind draws.old).state) }
+{
+    match kind {
+        Kind::Cut => write_cut(out, draws),
+        Kind::Need => write_need(out, draws),
+        Kind::Cover => write_cover(out, draws),
+        Kind::Concave => write_concave(out, draws),
+        Kind::Uniform => write_uniform(out, draws),
+        Kind::Laminar => write_laminar(out, draws),
+        Kind::Graphic => write_graphic(out, draws),
+        Kind::Transversal => write_transversal(out, draws),
+        Kind::Table => write_table(out, draws),
+    }
+}
+
+/// So many lines of a kind.
+fn write_lines(
+    out: &mut String,
+    draws: &mut Draws,
+    kind: Kind,
+    count: usize,
+) -> Result<(), AllocError>
+    ensures text { OnOk result (string_bytes out.new ≡ string_bytes out.old ++ (lines count (line_of kind) draws.old).value) }
+    ensures after { OnOk result (draws.new ≡ (lines count (line_of kind) draws.old).state) }
+{
+    for _i in 0..count {
+        write_line(out, draws, kind)?;
+    }
+    Ok(())
+}
+
+/// The lines of the terms behind the weights.
+fn write_terms(out: &mut String, draws: &mut Draws) -> Result<(), AllocError>
+    ensures { OnOk result (string_bytes out.new ≡ string_bytes out.old ++ (term_lines draws.old).value) }
+{
+    write_lines(out, draws, Kind::Cut, 100)?;
+    write_lines(out, draws, Kind::Need, 20)?;
+    write_lines(out, draws, Kind::Cover, 20)?;
+    write_lines(out, draws, Kind::Concave, 10)?;
+    write_lines(out, draws, Kind::Uniform, 5)?;
+    write_lines(out, draws, Kind::Laminar, 5)?;
+    write_lines(out, draws, Kind::Graphic, 5)?;
+    write_lines(out, draws, Kind::Transversal, 5)?;
+    write_lines(out, draws, Kind::Table, 5)?;
+    Ok(())
+}
+
+/// The text of the demonstration instance of a seed.
+///
+/// # Errors
+///
+/// `Memory` where there is none.
+pub fn demo_text(alloc: Global, seed: u64) -> Result<Vec<u8>, Memory>
+    requires { seed ≤ 999999999 }
+    ensures { IfOk result (λ r. r.items ≡ demo_text_of seed) }
+{
+    let mut out = String::new(alloc);
+    let mut draws = Draws::new(seed);
+    write!(out, "sfm 1\nground")?;
+    write_run(&mut out, 0, 1, ELEMENTS)?;
+    writeln!(out)?;
+    write_weight(&mut out, &mut draws)?;
+    write_terms(&mut out, &mut draws)?;
+    writeln!(out, "end")?;
+    Ok(out.into_bytes())
+}
