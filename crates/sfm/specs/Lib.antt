@@ -1,6 +1,7 @@
 pub mod Status
 pub mod Command
 pub mod Due
+pub mod Demo
 pub mod Headline
 pub mod Reading
 pub mod Solving

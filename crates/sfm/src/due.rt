@@ -80,7 +80,7 @@ fn due_for_verdict(alloc: Global, verdict: Verdict) -> Result<Due, AllocError>
 }
 
 /// The refusal of a text with this fault.
-fn refuse(alloc: Global, line: usize, reason: Reason) -> Result<Due, AllocError>
+pub fn refuse(alloc: Global, line: usize, reason: Reason) -> Result<Due, AllocError>
     ensures { IfOk result (λ due. (due.text.items ≡ refusal line reason) × (due.status ≡ Status.Refused)) }
 {
     let text = write_refusal(alloc, line, reason)?;

@@ -2,6 +2,7 @@
 #![tactic(auto)]
 
 pub mod command;
+pub mod demo;
 pub mod due;
 pub mod run;
 pub mod solve;

@@ -41,7 +41,7 @@ fn answer_by(
 }
 
 /// The answer of an instance, with bases that prove it.
-fn solve_instance(alloc: Global, instance: &Instance) -> Result<Solved, Memory>
+pub fn solve_instance(alloc: Global, instance: &Instance) -> Result<Solved, Memory>
     ensures { IfOk result (λ s. IsTrueAnswer instance.now (answer_of s)) }
 {
     let terms = instance.terms();
