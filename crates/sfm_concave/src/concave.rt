@@ -1,7 +1,7 @@
 // A concave function of the count of a part. What a part leaves of its value is its slack, and a base leaves none negative.
 // Of the parts of one count those with the greatest entries leave least; and of these, only those that have all the entries above
 // some entry need to be tried: with u put in and v taken out for the room of (u, v).
-ghost use Rattle.std.specs.Prelude.{◌≡◌, ◌≢◌, ◌↔◌, ℕ, ◌+◌, ◌-◌, ◌<◌, ◌≤◌, ◌^◌, Bool, true, false, List, length, slice_index_or, ℤ, pos, neg_ℤ, ◌*ℤ◌, ◌+ℤ◌, ◌-ℤ◌, ◌≤ℤ◌, ◌<ℤ◌, IfOk, OnOk, IsTrue, Option, Some, Ok, Err};
+ghost use Rattle.std.specs.Prelude.{◌≡◌, ◌≢◌, ◌↔◌, ℕ, ◌+◌, ◌-◌, ◌<◌, ◌≤◌, ◌^◌, Bool, true, false, List, length, slice_index_or, ℤ, pos, neg_ℤ, ◌*ℤ◌, ◌+ℤ◌, ◌-ℤ◌, ◌≤ℤ◌, ◌<ℤ◌, IfOk, IfSome, OnOk, IsTrue, Option, Some, Ok, Err};
 ghost use Rattle.std.specs.List.{All};
 ghost use Rattle.sfm_spec.specs.Bounds.{IsEntry, IsFactor, IsGiven, AreElements};
 ghost use Rattle.sfm_spec.specs.Terms.{SetFunction, times, IsBase, IsFamily, IsSubmodular, IsGreedy, exchanged};
@@ -231,11 +231,11 @@ impl Concave {
 
     /// Whether u and the places above w, which is not above u, leave nothing: then u has no room to a place that is not
     /// above w.
-    fn blocks(&self, q: i128, x: &[i128], ranking: &Ranking, u: usize, w: usize) -> bool
+    fn blocks(&self, q: i128, x: &[i128], ranking: &Option<Ranking>, u: usize, w: usize) -> bool
         requires factor { IsFactor q }
         requires entries { length x.now ≡ length self.now.places }
         requires small { All IsEntry x.now }
-        requires ranked { IsRanking x.now ranking.now.sorted ranking.now.sums ranking.now.len }
+        requires ranked { IfSome ranking.now (λ r. IsRanking x.now r.sorted r.sums r.len) }
         requires from { u < length x.now }
         requires place { w < length x.now }
         ensures { IsTrue result ↔ Blocks (scaled q self.now.values) x.now u w }
@@ -248,7 +248,7 @@ impl Concave {
         &self,
         q: i128,
         x: &[i128],
-        ranking: &Ranking,
+        ranking: &Option<Ranking>,
         u: usize,
         w: usize,
         bar: Option<i128>,
@@ -256,7 +256,7 @@ impl Concave {
         requires factor { IsFactor q }
         requires entries { length x.now ≡ length self.now.places }
         requires small { All IsEntry x.now }
-        requires ranked { IsRanking x.now ranking.now.sorted ranking.now.sums ranking.now.len }
+        requires ranked { IfSome ranking.now (λ r. IsRanking x.now r.sorted r.sums r.len) }
         requires from { u < length x.now }
         requires place { w < length x.now }
         ensures { IsTrue result ↔ (IsOver bar (slice_index_or x.now w (pos 0)) × Blocks (scaled q self.now.values) x.now u w) }
