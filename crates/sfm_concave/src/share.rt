@@ -50,10 +50,10 @@ fn share_by_scan(x: &[i128], bar: i128) -> Share
 }
 
 /// The share of the places with more than a number.
-pub(crate) fn share_above(x: &[i128], ranking: &Option<Ranking>, bar: i128) -> Share
+pub(crate) fn share_above(x: &[i128], ranking: Option<&Ranking>, bar: i128) -> Share
     requires few { length x.now ≤ 256 }
     requires small { All IsEntry x.now }
-    requires ranked { IfSome ranking.now (λ r. IsRanking x.now r.sorted r.sums r.len) }
+    requires ranked { IfSome ranking (λ r. IsRanking x.now r.now.sorted r.now.sums r.now.len) }
     ensures { IsShareOf result.count result.sum x.now (above bar x.now) }
 {
     match ranking {
@@ -63,10 +63,10 @@ pub(crate) fn share_above(x: &[i128], ranking: &Option<Ranking>, bar: i128) -> S
 }
 
 /// The share of the places with more than a number and u.
-pub(crate) fn share_with(x: &[i128], ranking: &Option<Ranking>, bar: i128, u: usize) -> Share
+pub(crate) fn share_with(x: &[i128], ranking: Option<&Ranking>, bar: i128, u: usize) -> Share
     requires few { length x.now ≤ 256 }
     requires small { All IsEntry x.now }
-    requires ranked { IfSome ranking.now (λ r. IsRanking x.now r.sorted r.sums r.len) }
+    requires ranked { IfSome ranking (λ r. IsRanking x.now r.now.sorted r.now.sums r.now.len) }
     requires from { u < length x.now }
     ensures { IsShareOf result.count result.sum x.now (above_with bar x.now u) }
 {
@@ -83,14 +83,14 @@ pub(crate) fn share_with(x: &[i128], ranking: &Option<Ranking>, bar: i128, u: us
 /// The share of the places with more than a number and u, without v.
 pub(crate) fn share_between(
     x: &[i128],
-    ranking: &Option<Ranking>,
+    ranking: Option<&Ranking>,
     bar: i128,
     u: usize,
     v: usize,
 ) -> Share
     requires few { length x.now ≤ 256 }
     requires small { All IsEntry x.now }
-    requires ranked { IfSome ranking.now (λ r. IsRanking x.now r.sorted r.sums r.len) }
+    requires ranked { IfSome ranking (λ r. IsRanking x.now r.now.sorted r.now.sums r.now.len) }
     requires from { u < length x.now }
     requires onto { v < length x.now }
     requires apart { u ≢ v }
