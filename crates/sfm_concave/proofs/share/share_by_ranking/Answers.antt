@@ -2,7 +2,7 @@ use Rattle.std.proofs.Common.{◌-ℤ◌, get_or, pos, arith, FitsSigned}
 use Rattle.std.proofs.lemmas.Int.{to_z-of_z}
 use mir.Syntax.{w128}
 use Rattle.sfm_concave.proofs.Ranks.{ranked_sized, ranked_small, ranked_fits, ranked_share, ranked_share_fits}
-use Rattle.sfm_concave.proofs.share.share_above.Goals as goal
+use Rattle.sfm_concave.proofs.share.share_by_ranking.Goals as goal
 
 pub count_upto-upto-requires-clause-small : goal.count_upto-upto-requires-clause-small
 count_upto-upto-requires-clause-small c =

@@ -10,7 +10,7 @@ use Rattle.sfm_concave.proofs.Above.{without_split}
 use Rattle.sfm_concave.specs.ConcaveLaws.{scaled}
 use Rattle.sfm_concave.proofs.LeastSoFar.{least_more}
 use Rattle.sfm_concave.proofs.ConcaveRooms.{concave_least}
-use Rattle.sfm_concave.proofs.concave.Concave.least_slack.Goals as goal
+use Rattle.sfm_concave.proofs.concave.Concave.least_slack_by.Goals as goal
 
 pub loop-a-init : goal.loop-a-init
 loop-a-init c =
