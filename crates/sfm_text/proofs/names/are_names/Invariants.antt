@@ -2,7 +2,7 @@ use Rattle.std.proofs.Common.{take}
 use Rattle.std.specs.List.{All}
 use Rattle.sfm_spec.specs.Names.{IsName}
 use Rattle.sfm_text.specs.Lines.{texts_of}
-use Rattle.sfm_text.proofs.reading.are_names.Given as goal
+use Rattle.sfm_text.proofs.names.are_names.Given as goal
 
-abbrev pub invariant-loop-token : goal.invariant-loop-token
-invariant-loop-token l = All IsName (texts_of (take l.token-index l.tokens))
+abbrev pub invariant-loop-text : goal.invariant-loop-text
+invariant-loop-text l = All IsName (texts_of (take l.text-index l.texts))
