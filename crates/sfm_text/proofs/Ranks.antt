@@ -1,5 +1,5 @@
 -- Lines of ranks: each is a line of one rank, which its third word tells, and has one list of parts.
-use Rattle.std.proofs.Common.{◌≡◌, ℕ, ◌≤◌, nat_eq, length, List, [], ◌∷◌, Bool, if◌then◌else◌, get_or, map, codes, Option, Some, None, MatchOption, refl, sym, ap, ◌∙◌, inl, inr, subst}
+use Rattle.std.proofs.Common.{◌≡◌, ℕ, nat_eq, List, [], ◌∷◌, if◌then◌else◌, get_or, codes, Option, Some, None, MatchOption, refl, sym, ap, ◌∙◌, inl, inr, subst}
 use Rattle.sfm_text.specs.Matched.{Matched}
 use Rattle.sfm_text.specs.declared.word.RankKind.{RankKind}
 use Rattle.sfm_text.specs.declared.word.RankKind.TheVariants.{NoRank, UniformRank, LaminarRank, GraphicRank, TransversalRank}

@@ -1,5 +1,5 @@
 -- Each edge is that of its element, by the places of its ends among the different ones.
-use Rattle.std.proofs.Common.{◌≡◌, List, [], ◌∷◌, ◌++◌, ℕ, ◌<◌, length, get_or, map, refl, ap, sym, ◌∙◌, Bor, arith}
+use Rattle.std.proofs.Common.{◌≡◌, List, [], ◌∷◌, ℕ, length, get_or, map, refl, ap, sym, ◌∙◌, Bor, arith}
 use Rattle.std.proofs.lemmas.List.{map-append, length-map}
 use Rattle.sfm_matroid.specs.Ends.{edge_of, edges_of}
 use Rattle.sfm_text.specs.Lines.{texts_of}
