@@ -1,5 +1,5 @@
 -- The different texts of a list, as insertions into a set make them, and the place of a text among them.
-use Rattle.std.proofs.Common.{◌≡◌, ℕ, ◌+◌, ◌<◌, ◌≤◌, Bool, true, false, not, cond, ◌||◌, if◌then◌else◌, List, [], ◌∷◌, ◌++◌, length, get_or, take, map, Bor, Option, Some, None, nat_eq, refl, sym, ap, ◌∙◌, arith}
+use Rattle.std.proofs.Common.{◌≡◌, ℕ, ◌+◌, ◌<◌, ◌≤◌, Bool, true, false, not, cond, ◌||◌, if◌then◌else◌, List, [], ◌∷◌, ◌++◌, length, get_or, take, map, Bor, refl, sym, ap, ◌∙◌, arith}
 use Rattle.std.specs.Prelude.{bytes_eq}
 use Rattle.std.specs.Option.{unwrap_or}
 use Rattle.std.specs.List.{filter, list_any, position, position_or_len}
@@ -11,13 +11,12 @@ use Rattle.std.proofs.lemmas.List.Elements.{filter-append}
 use Rattle.sfm_text.specs.LabelTerms.{distinct_of, joined, place_among}
 
 -- whether a text is one of some
-has : List ℕ → List (List ℕ) → Bool
+abbrev has : List ℕ → List (List ℕ) → Bool
 has x texts = list_any (λ y. bytes_eq x y) texts
 
 -- texts that are not some other text are kept by the filter that leaves it out
 module _ (t x : List ℕ) (apart : bytes_eq x t ≡ false) where
   has-others : (texts : List (List ℕ)) → has x (filter (λ y. not (bytes_eq t y)) texts) ≡ has x texts
-  unfolding has
   has-others [] = refl
   has-others (y ∷ texts) = at (bytes_eq t y) refl (has-others texts)
     where
@@ -44,22 +43,23 @@ append-none (x ∷ xs) = ap (λ (l : List (List ℕ)). x ∷ l) (append-none xs)
 -- one more text stands behind the different ones where it is none of them
 pub distinct-push : (texts : List (List ℕ)) (x : List ℕ) → distinct_of (texts ++ x ∷ []) ≡ (if list_any (λ y. bytes_eq x y) (distinct_of texts) then distinct_of texts else distinct_of texts ++ x ∷ [])
 distinct-push [] x = refl
-distinct-push (t ∷ texts) x = at (bytes_eq x t) refl (list_any (λ y. bytes_eq x y) (distinct_of texts)) refl
+distinct-push (t ∷ texts) x = at (bytes_eq x t) refl (list_any (λ y. bytes_eq x y) (distinct_of texts)) refl (distinct-push texts x)
   where
     at : (b : Bool) → bytes_eq x t ≡ b → (a : Bool) → list_any (λ y. bytes_eq x y) (distinct_of texts) ≡ a
+        → distinct_of (texts ++ x ∷ []) ≡ (if list_any (λ y. bytes_eq x y) (distinct_of texts) then distinct_of texts else distinct_of texts ++ x ∷ [])
         → t ∷ filter (λ y. not (bytes_eq t y)) (distinct_of (texts ++ x ∷ [])) ≡ (if (bytes_eq x t || list_any (λ y. bytes_eq x y) (filter (λ y. not (bytes_eq t y)) (distinct_of texts))) then t ∷ filter (λ y. not (bytes_eq t y)) (distinct_of texts) else (t ∷ filter (λ y. not (bytes_eq t y)) (distinct_of texts)) ++ x ∷ [])
-    at true e true f = rw (distinct-push texts x, f, e) refl
-    at true e false f =
+    at true e true f more = rw (more, f, e) refl
+    at true e false f more =
         let same : x ≡ t = (bytes_eq-Decides x t).0 e in
         let out : bytes_eq t x ≡ true = (bytes_eq-Decides t x).1 (sym same) in
-        rw (distinct-push texts x, f, e, filter-append (λ y. not (bytes_eq t y)) (distinct_of texts) (x ∷ []), out) (ap (λ (l : List (List ℕ)). t ∷ l) (append-none (filter (λ y. not (bytes_eq t y)) (distinct_of texts))))
-    at false e true f =
+        rw (more, f, e, filter-append (λ y. not (bytes_eq t y)) (distinct_of texts) (x ∷ []), out) (ap (λ (l : List (List ℕ)). t ∷ l) (append-none (filter (λ y. not (bytes_eq t y)) (distinct_of texts))))
+    at false e true f more =
         let in_ : list_any (λ y. bytes_eq x y) (filter (λ y. not (bytes_eq t y)) (distinct_of texts)) ≡ true = has-others t x e (distinct_of texts) ∙ f in
-        rw (distinct-push texts x, f, e, in_) refl
-    at false e false f =
+        rw (more, f, e, in_) refl
+    at false e false f more =
         let out : list_any (λ y. bytes_eq x y) (filter (λ y. not (bytes_eq t y)) (distinct_of texts)) ≡ false = has-others t x e (distinct_of texts) ∙ f in
         let one : not (bytes_eq t x) ≡ true = kept t x e in
-        rw (distinct-push texts x, f, e, out, filter-append (λ y. not (bytes_eq t y)) (distinct_of texts) (x ∷ []), one) refl
+        rw (more, f, e, out, filter-append (λ y. not (bytes_eq t y)) (distinct_of texts) (x ∷ []), one) refl
 
 -- what is told of texts is told of what points to them
 any-now : (x : List ℕ) (keys : List (Bor (List ℕ))) → list_any (λ y. bytes_eq x y) (map (λ k. k.now) keys) ≡ list_any (λ k. bytes_eq x k.now) keys

@@ -1,5 +1,5 @@
 -- Lines of ranks: each is a line of one rank, which its third word tells, and has one list of parts.
-use Rattle.std.proofs.Common.{◌≡◌, ℕ, ◌≤◌, nat_eq, length, List, [], ◌∷◌, Bool, if◌then◌else◌, get_or, map, codes, Option, Some, None, MatchOption, refl, sym, ap, ◌∙◌, inl, inr, arith}
+use Rattle.std.proofs.Common.{◌≡◌, ℕ, nat_eq, List, [], ◌∷◌, if◌then◌else◌, get_or, codes, Option, Some, None, MatchOption, refl, sym, ap, ◌∙◌, inl, inr, subst}
 use Rattle.sfm_text.specs.Matched.{Matched}
 use Rattle.sfm_text.specs.declared.word.RankKind.{RankKind}
 use Rattle.sfm_text.specs.declared.word.RankKind.TheVariants.{NoRank, UniformRank, LaminarRank, GraphicRank, TransversalRank}
@@ -10,7 +10,7 @@ use Rattle.sfm_text.proofs.Pieces.{uniform-same, laminar-same}
 use Rattle.sfm_text.proofs.Matches.{Matched-same}
 
 -- a token is cut in one way
-cut-same : (b : ℕ) (token x y x' y' : List ℕ) → IsCutAt b token x y → IsCutAt b token x' y' → (x ≡ x') × (y ≡ y')
+pub cut-same : (b : ℕ) (token x y x' y' : List ℕ) → IsCutAt b token x y → IsCutAt b token x' y' → (x ≡ x') × (y ≡ y')
 cut-same b token x y x' y' h g = front-same b x y x' y' h.none_before g.none_before (sym h.cut ∙ g.cut)
 
 edge-same : (token : List ℕ) (a b : List ℕ × List (List ℕ)) → IsEdgeToken token a → IsEdgeToken token b → a ≡ b
@@ -70,20 +70,19 @@ rank-of-labelled : (rank : RankKind) (word : List ℕ) (tokens : List (List ℕ)
 rank-of-labelled rank word tokens parts h = ap (λ (p : LineParts). p.rank) h.parts_are
 
 pub line-of-rank : (tokens : List (List ℕ)) (parts : LineParts) → IsRankLine tokens parts → IsLineOfRank parts.rank tokens parts
-line-of-rank tokens parts (inl h) = rw (rank-of-uniform tokens parts h) h
-line-of-rank tokens parts (inr (inl h)) = rw (rank-of-laminar tokens parts h) h
-line-of-rank tokens parts (inr (inr (inl h))) = rw (rank-of-labelled GraphicRank (codes "graphic") tokens parts h) h
-line-of-rank tokens parts (inr (inr (inr h))) = rw (rank-of-labelled TransversalRank (codes "transversal") tokens parts h) h
+line-of-rank tokens parts (inl h) = subst (λ (r : RankKind). IsLineOfRank r tokens parts) (sym (rank-of-uniform tokens parts h)) h
+line-of-rank tokens parts (inr (inl h)) = subst (λ (r : RankKind). IsLineOfRank r tokens parts) (sym (rank-of-laminar tokens parts h)) h
+line-of-rank tokens parts (inr (inr (inl h))) = subst (λ (r : RankKind). IsLineOfRank r tokens parts) (sym (rank-of-labelled GraphicRank (codes "graphic") tokens parts h)) h
+line-of-rank tokens parts (inr (inr (inr h))) = subst (λ (r : RankKind). IsLineOfRank r tokens parts) (sym (rank-of-labelled TransversalRank (codes "transversal") tokens parts h)) h
 
 -- the first byte of the second token tells the rank
-second-of : List (List ℕ) → ℕ
+abbrev second-of : List (List ℕ) → ℕ
 second-of tokens = get_or (get_or tokens 1 []) 0 0
 
-by_byte : ℕ → RankKind
+abbrev by_byte : ℕ → RankKind
 by_byte c = if nat_eq c 117 then UniformRank else (if nat_eq c 108 then LaminarRank else (if nat_eq c 103 then GraphicRank else TransversalRank))
 
 told-rank : (tokens : List (List ℕ)) (parts : LineParts) → IsRankLine tokens parts → by_byte (second-of tokens) ≡ parts.rank
-unfolding second-of, by_byte
 told-rank tokens parts (inl h) = ap (λ (t : List (List ℕ)). by_byte (second-of t)) h.cut.cut ∙ sym (rank-of-uniform tokens parts h)
 told-rank tokens parts (inr (inl h)) = ap (λ (t : List (List ℕ)). by_byte (second-of t)) h.head.tokens_are ∙ sym (rank-of-laminar tokens parts h)
 told-rank tokens parts (inr (inr (inl h))) = ap (λ (t : List (List ℕ)). by_byte (second-of t)) h.head.tokens_are ∙ sym (rank-of-labelled GraphicRank (codes "graphic") tokens parts h)
@@ -92,7 +91,7 @@ told-rank tokens parts (inr (inr (inr h))) = ap (λ (t : List (List ℕ)). by_by
 one-rank : (tokens : List (List ℕ)) (p q : LineParts) (rank : RankKind) → IsRankLine tokens p → IsRankLine tokens q → p.rank ≡ rank → IsLineOfRank rank tokens q
 one-rank tokens p q rank h g is =
     let same : q.rank ≡ rank = sym (told-rank tokens q g) ∙ (told-rank tokens p h ∙ is) in
-    rw same at line-of-rank tokens q g
+    subst (λ (r : RankKind). IsLineOfRank r tokens q) same (line-of-rank tokens q g)
 
 -- the tokens of a rank line have one list of parts
 pub rank-same : (tokens : List (List ℕ)) (p q : LineParts) → IsRankLine tokens p → IsRankLine tokens q → p ≡ q

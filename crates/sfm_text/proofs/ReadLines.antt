@@ -1,5 +1,5 @@
 -- What has been read of a line makes the term of its word.
-use Rattle.std.proofs.Common.{◌≡◌, ℕ, ◌+◌, ◌-◌, ◌<◌, ◌≤◌, ◌^◌, List, [], ◌∷◌, length, get_or, map, take, drop, min, codes, Bor, ℤ, pos, ◌≤ℤ◌, to_z, of_z, refl, sym, ap, ◌∙◌, arith}
+use Rattle.std.proofs.Common.{◌≡◌, ℕ, ◌+◌, ◌-◌, ◌<◌, ◌≤◌, ◌^◌, List, [], ◌∷◌, length, get_or, map, take, drop, min, codes, Bor, ℤ, pos, ◌≤ℤ◌, to_z, of_z, refl, sym, ap, subst, ◌∙◌, arith}
 use Rattle.std.specs.Int.{w128}
 use Rattle.std.proofs.lemmas.Int.{ints}
 use Rattle.std.specs.List.{All}
@@ -15,7 +15,7 @@ use Rattle.sfm_text.specs.declared.word.TermWord.{TermWord}
 use Rattle.sfm_text.specs.declared.word.TermWord.TheVariants.{WeightWord, CutWord, NeedWord, CoverWord, TableWord, ConcaveWord, RankWord}
 use Rattle.sfm_text.proofs.Matches.{length-Matched, All-Matched}
 use Rattle.sfm_text.proofs.Numbers.{small-number}
-use Rattle.sfm_text.proofs.Ranks.{line-of-rank}
+use Rattle.sfm_text.proofs.Ranks.{IsLineOfRank, line-of-rank}
 
 -- the parts that are cut off before and behind a place
 pub split-parts : (tokens : List (Bor (List ℕ))) (count : ℕ) (numbers elements : List (Bor (List ℕ))) → numbers ≡ take count tokens → elements ≡ take (length tokens - count) (drop count tokens) → plain_parts (map (λ t. t.now) numbers) (map (λ t. t.now) elements) ≡ plain_parts (take count (map (λ t. t.now) tokens)) (drop count (map (λ t. t.now) tokens))
@@ -104,11 +104,11 @@ concave-elements parts values places h = read-elements ConcaveWord parts values 
 
 module _ (parts : LineParts) (values : List ℤ) (places : List ℕ) (h : AreRead RankWord parts values places) where
   pub rank-some : parts.rank ≡ NoRank → ⊥
-  rank-some is = rw is at line-of-rank h.tokens parts h.shape
+  rank-some is = subst (λ (r : RankKind). IsLineOfRank r h.tokens parts) is (line-of-rank h.tokens parts h.shape)
 
   module _ (is : parts.rank ≡ UniformRank) where
     as-uniform : IsUniformLine h.tokens parts
-    as-uniform = rw is at line-of-rank h.tokens parts h.shape
+    as-uniform = subst (λ (r : RankKind). IsLineOfRank r h.tokens parts) is (line-of-rank h.tokens parts h.shape)
 
     pub uniform-two : length values ≡ 2
     uniform-two = values-count RankWord parts values places h ∙ ap (λ (p : LineParts). length p.numbers) as-uniform.parts_are
@@ -118,7 +118,7 @@ module _ (parts : LineParts) (values : List ℤ) (places : List ℕ) (h : AreRea
 
   module _ (is : parts.rank ≡ LaminarRank) where
     as-laminar : IsLaminarLine h.tokens parts
-    as-laminar = rw is at line-of-rank h.tokens parts h.shape
+    as-laminar = subst (λ (r : RankKind). IsLineOfRank r h.tokens parts) is (line-of-rank h.tokens parts h.shape)
 
     pub laminar-each : length values ≡ length parts.groups + 1
     laminar-each =
@@ -144,7 +144,7 @@ module _ (parts : LineParts) (values : List ℤ) (places : List ℕ) (h : AreRea
 
   module _ (is : parts.rank ≡ GraphicRank) where
     as-graphic : IsGraphicLine h.tokens parts
-    as-graphic = rw is at line-of-rank h.tokens parts h.shape
+    as-graphic = subst (λ (r : RankKind). IsLineOfRank r h.tokens parts) is (line-of-rank h.tokens parts h.shape)
 
     pub graphic-one : length values ≡ 1
     graphic-one = labelled-one GraphicRank (codes "graphic") as-graphic
@@ -165,7 +165,7 @@ module _ (parts : LineParts) (values : List ℤ) (places : List ℕ) (h : AreRea
 
   module _ (is : parts.rank ≡ TransversalRank) where
     as-transversal : IsTransversalLine h.tokens parts
-    as-transversal = rw is at line-of-rank h.tokens parts h.shape
+    as-transversal = subst (λ (r : RankKind). IsLineOfRank r h.tokens parts) is (line-of-rank h.tokens parts h.shape)
 
     pub transversal-one : length values ≡ 1
     transversal-one = labelled-one TransversalRank (codes "transversal") as-transversal

@@ -5,7 +5,7 @@ ghost use Rattle.sfm_spec.specs.Bounds.{IsAtMost, AreElements};
 ghost use Rattle.sfm_matroid.specs.Ends.{edges_of};
 ghost use Rattle.sfm_text.specs.Lines.{texts_of};
 ghost use Rattle.sfm_text.specs.Parts.{LineParts, IsGraphicLine};
-ghost use Rattle.sfm_text.specs.LabelTerms.{numbers_of, edge_between, IsGraphicTerm};
+ghost use Rattle.sfm_text.specs.LabelTerms.{place_among, edge_between, IsGraphicTerm};
 ghost use Rattle.sfm_text.specs.ReadParts.{parts_of, label_lists_of};
 
 use crate::labelled_line::labelled_parts;
@@ -13,6 +13,7 @@ use crate::labels::{Labels, different, number_of};
 use crate::parts::Parts;
 use crate::rank_head::cut_head;
 use crate::word::RankKind;
+use indexmap::IndexSet;
 use sfm_base::Memory;
 use sfm_kind::Kind;
 use sfm_matroid::Graphic;
@@ -33,16 +34,19 @@ pub fn graphic_parts<'a, 'b>(
     labelled_parts(alloc, RankKind::GraphicRank, number, behind)
 }
 
-/// The ends of the edges, by their numbers.
-fn ends(alloc: Global, labels: &[Labels]) -> Result<Vec<(u32, u32)>, Memory>
+/// The ends of the edges, by the places of their names among these.
+fn ends(
+    alloc: Global,
+    names: &IndexSet<&[u8]>,
+    labels: &[Labels],
+) -> Result<Vec<(u32, u32)>, Memory>
     requires two { All (λ texts. length texts ≡ 2) (label_lists_of labels.now) }
-    ensures { IfOk result (λ r. edges_of r.items ≡ map edge_between (numbers_of (label_lists_of labels.now))) }
+    ensures { IfOk result (λ r. edges_of r.items ≡ map (λ texts. edge_between (map (place_among (texts_of names.now.keys)) texts)) (label_lists_of labels.now)) }
 {
-    let names = different(alloc, labels)?;
     let mut ends = Vec::new(alloc);
     for element in labels {
-        let tail = number_of(&names, element.texts[0])?;
-        let head = number_of(&names, element.texts[1])?;
+        let tail = number_of(names, element.texts[0])?;
+        let head = number_of(names, element.texts[1])?;
         ends.push((tail, head))?;
     }
     Ok(ends)
@@ -63,7 +67,8 @@ pub fn graphic_term(
     requires small { All (IsAtMost (10 ^ 12)) values.now }
     ensures { IfOk result (IsGraphicTerm (parts_of parts.now) values.now places.now) }
 {
-    let ends = ends(alloc, &parts.labels)?;
+    let names = different(alloc, &parts.labels)?;
+    let ends = ends(alloc, &names, &parts.labels)?;
     let graphic = Graphic::new(alloc, places, values[0], &ends)?;
     Ok(Kind::Graphic(graphic))
 }

@@ -62,10 +62,8 @@ pub fn has_slot_twice(alloc: Global, rank: RankKind, labels: &[Labels]) -> Resul
 {
     match rank {
         RankKind::TransversalRank => has_label_twice(alloc, labels),
-        RankKind::NoRank
-        | RankKind::UniformRank
-        | RankKind::LaminarRank
-        | RankKind::GraphicRank => Ok(false),
+        RankKind::NoRank | RankKind::UniformRank | RankKind::LaminarRank | RankKind::GraphicRank =>
+            Ok(false),
     }
 }
 
@@ -104,11 +102,7 @@ pub fn number_of(names: &IndexSet<&[u8]>, label: &[u8]) -> Result<u32, Memory>
 }
 
 /// The numbers of labels.
-pub fn numbers(
-    alloc: Global,
-    names: &IndexSet<&[u8]>,
-    labels: &[&[u8]],
-) -> Result<Vec<u32>, Memory>
+pub fn numbers(alloc: Global, names: &IndexSet<&[u8]>, labels: &[&[u8]]) -> Result<Vec<u32>, Memory>
     ensures numbers { IfOk result (λ r. r.items ≡ map (place_among (texts_of names.now.keys)) (texts_of labels.now)) }
     ensures small { IfOk result (λ r. All (λ v. v < 2 ^ 24) r.items) }
 {

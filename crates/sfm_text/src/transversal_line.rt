@@ -1,10 +1,10 @@
 // The line `rank`, a number, `transversal`, a colon, and at least one entry `name=slot,slot,..`.
-ghost use Rattle.std.specs.Prelude.{◌≡◌, ℕ, length, pos, ◌^◌, ◌≤ℤ◌, MatchOption, IfOk};
+ghost use Rattle.std.specs.Prelude.{◌≡◌, ℕ, length, map, pos, ◌^◌, ◌≤ℤ◌, MatchOption, IfOk};
 ghost use Rattle.std.specs.List.{All};
 ghost use Rattle.sfm_spec.specs.Bounds.{IsAtMost, AreElements};
 ghost use Rattle.sfm_text.specs.Lines.{texts_of};
 ghost use Rattle.sfm_text.specs.Parts.{LineParts, IsTransversalLine};
-ghost use Rattle.sfm_text.specs.LabelTerms.{numbers_of, IsTransversalTerm};
+ghost use Rattle.sfm_text.specs.LabelTerms.{place_among, IsTransversalTerm};
 ghost use Rattle.sfm_text.specs.ReadParts.{parts_of, label_lists_of};
 
 use crate::labelled_line::labelled_parts;
@@ -12,6 +12,7 @@ use crate::labels::{Labels, different, numbers};
 use crate::parts::Parts;
 use crate::rank_head::cut_head;
 use crate::word::RankKind;
+use indexmap::IndexSet;
 use sfm_base::Memory;
 use sfm_kind::Kind;
 use sfm_matroid::{Entries, Transversal};
@@ -32,14 +33,13 @@ pub fn transversal_parts<'a, 'b>(
     labelled_parts(alloc, RankKind::TransversalRank, number, behind)
 }
 
-/// The slots of the elements, by their numbers.
-fn entries(alloc: Global, labels: &[Labels]) -> Result<Entries, Memory>
-    ensures { IfOk result (λ r. r ≡ numbers_of (label_lists_of labels.now)) }
+/// The slots of the elements, by the places of their names among these.
+fn entries(alloc: Global, names: &IndexSet<&[u8]>, labels: &[Labels]) -> Result<Entries, Memory>
+    ensures { IfOk result (λ r. r ≡ map (λ texts. map (place_among (texts_of names.now.keys)) texts) (label_lists_of labels.now)) }
 {
-    let names = different(alloc, labels)?;
     let mut entries = Entries::new(alloc);
     for element in labels {
-        let slots = numbers(alloc, &names, &element.texts)?;
+        let slots = numbers(alloc, names, &element.texts)?;
         entries.push(slots)?;
     }
     Ok(entries)
@@ -59,7 +59,8 @@ pub fn transversal_term(
     requires small { All (IsAtMost (10 ^ 12)) values.now }
     ensures { IfOk result (IsTransversalTerm (parts_of parts.now) values.now places.now) }
 {
-    let entries = entries(alloc, &parts.labels)?;
+    let names = different(alloc, &parts.labels)?;
+    let entries = entries(alloc, &names, &parts.labels)?;
     let transversal = Transversal::new(alloc, places, values[0], entries)?;
     Ok(Kind::Transversal(transversal))
 }

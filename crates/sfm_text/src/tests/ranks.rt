@@ -132,7 +132,11 @@ fn laminar_lines(rt: HostRuntime) -> Result<(), Fail> {
 #[test]
 fn graphic_lines(rt: HostRuntime) -> Result<(), Fail> {
     let rows: [(&str, usize, &[u8]); 31] = [
-        ("rank 2 graphic : a=u-v b=v-w c=w-u / rank 0 graphic : d=x-x", 0, b"good"),
+        (
+            "rank 2 graphic : a=u-v b=v-w c=w-u / rank 0 graphic : d=x-x",
+            0,
+            b"good",
+        ),
         ("rank 2 graphic : a=u-u b=u-v c=v-u d=u-v", 0, b"good"),
         ("rank 1000000000000 graphic : a=a-b b=1-_", 0, b"good"),
         ("rank 2 graphic", 3, b"shape"),
@@ -173,7 +177,11 @@ fn graphic_lines(rt: HostRuntime) -> Result<(), Fail> {
 #[test]
 fn transversal_lines(rt: HostRuntime) -> Result<(), Fail> {
     let rows: [(&str, usize, &[u8]); 25] = [
-        ("rank 2 transversal : a=s b=s,t c=t,u / rank 0 transversal : d=x", 0, b"good"),
+        (
+            "rank 2 transversal : a=s b=s,t c=t,u / rank 0 transversal : d=x",
+            0,
+            b"good",
+        ),
         ("rank 2 transversal : a=s b=s c=s d=a,b,c,d", 0, b"good"),
         ("rank 2 transversal", 3, b"shape"),
         ("rank 2 transversal :", 3, b"shape"),
@@ -245,7 +253,10 @@ fn vertices_and_slots_are_told_by_their_names(rt: HostRuntime) -> Result<(), Fai
     if let Kind::Graphic(graphic) = &terms[0] {
         assert_eq!(rt; graphic.places.as_slice(), [3, 0, 1, 2].as_slice());
         assert_eq!(rt; graphic.w, 3);
-        assert_eq!(rt; graphic.ends.as_slice(), [(0, 1), (1, 2), (0, 2), (2, 2)].as_slice());
+        assert_eq!(rt;
+            graphic.ends.as_slice(),
+            [(0, 1), (1, 2), (0, 2), (2, 2)].as_slice()
+        );
     } else {
         panic!(rt; "no graphic rank");
     }

@@ -1,5 +1,4 @@
 -- The set holds the different texts so far, and an insertion puts the next one behind them where it is none of them.
-use Rattle.std.proofs.Common.{◌++◌, Bor, ℕ, List}
 use Rattle.sfm_text.proofs.Numbering.{keys-in}
 use Rattle.sfm_text.proofs.labels.add_names.Goals as goal
 

@@ -1,5 +1,4 @@
 -- Each rank is tried in turn, and a line of none of them is of no rank.
-use Rattle.std.proofs.Common.{inl, inr}
 use Rattle.std.proofs.lemmas.Result.{IfOk-weaker}
 use Rattle.sfm_text.specs.Lines.{texts_of}
 use Rattle.sfm_text.specs.ReadParts.{parts_of}
