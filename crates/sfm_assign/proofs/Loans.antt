@@ -13,7 +13,8 @@ use Rattle.sfm_assign.specs.Lenders.{one_more, IsLenders}
 use Rattle.sfm_assign.proofs.Amounts.{only-same, only-other}
 use Rattle.sfm_assign.proofs.Rows.{split_of_part}
 use Rattle.sfm_assign.proofs.Hall.{closed_bounds}
-use Rattle.sfm_assign.proofs.Outcomes.{changed-at, changed-other, asked_part}
+use Rattle.sfm_assign.proofs.Outcomes.{changed-at, changed-other, asked_part, amounts_low, capacities_low}
+use Rattle.sfm_assign.proofs.Filling.{smaller}
 
 module _ (d : Demands) (sound : AreDemands d) (u : ℕ) (lu : u < length d.demands) (y : List ℤ) (part : IsPart d.demands d.capacities (owners 0 d.lists) (joined d.lists) y) (met : IsMet d.demands (owners 0 d.lists) y) where
   abbrev whos : List ℕ
@@ -142,3 +143,30 @@ module _ (d : Demands) (sound : AreDemands d) (u : ℕ) (lu : u < length d.deman
       → MatchOption found (CanBeMet (one_more d.demands u) d.lists d.capacities) (IsLenders d.demands d.lists d.capacities u)
   lenders_from None g = more_met g
   lenders_from (Some s) found = lenders_are s found
+
+-- where u can get one more as it is, each demand that asks for something can lend to it
+pub lent_from_more : (d : Demands) → AreDemands d → (u v : ℕ) → u < length d.demands → v < length d.demands → v ≢ u → pos 1 ≤ℤ amount_at d.demands v → CanBeMet (one_more d.demands u) d.lists d.capacities → CanBeMet (exchanged d.demands u v (pos 1)) d.lists d.capacities
+lent_from_more d sound u v lu lv ne some can = smaller (one_more d.demands u) (exchanged d.demands u v (pos 1)) d.lists d.capacities (sound.same ∙ sym places) (length-exchanged d.demands u v (pos 1) ∙ sym places) sound.exist (λ i lt. each i (omega (arith, lt, places))) (capacities_low d sound) can where
+  places : length (one_more d.demands u) ≡ length d.demands
+  places = length-set d.demands u (amount_at d.demands u +ℤ pos 1)
+
+  more-low : (i : ℕ) → i < length d.demands → pos 0 ≤ℤ amount_at (one_more d.demands u) i
+  more-low i lt =
+      let low = amounts_low d sound i lt in
+      ⊎_elim
+      (λ (q : i ≡ u). let e = changed-at d.demands u lu (amount_at d.demands u +ℤ pos 1) in let p = ap (λ j. amount_at (one_more d.demands u) j) q in let r = ap (λ j. amount_at d.demands j) q in omega (arith, ints, low, e, p, r))
+      (λ nu. let e = changed-other d.demands u lu (amount_at d.demands u +ℤ pos 1) i nu in omega (arith, ints, low, e))
+      (cases_eq i u)
+
+  each : (i : ℕ) → i < length d.demands → (pos 0 ≤ℤ amount_at (exchanged d.demands u v (pos 1)) i) × (amount_at (exchanged d.demands u v (pos 1)) i ≤ℤ amount_at (one_more d.demands u) i)
+  each i lt =
+      let low = more-low i lt in
+      ⊎_elim
+      (λ (q : i ≡ v).
+      let g = get_or-set_same (one_more d.demands u) v (amount_at d.demands v -ℤ pos 1) (pos 0) (omega (arith, lv, places)) in
+      let m = changed-other d.demands u lu (amount_at d.demands u +ℤ pos 1) v ne in
+      let x = ap (λ j. amount_at (exchanged d.demands u v (pos 1)) j) q in
+      let z = ap (λ j. amount_at (one_more d.demands u) j) q in
+      (omega (arith, ints, g, x, some), omega (arith, ints, g, m, x, z)))
+      (λ nv. let g = get_or-set_other (one_more d.demands u) v i (amount_at d.demands v -ℤ pos 1) (pos 0) nv in (omega (arith, ints, g, low), omega (arith, ints, g)))
+      (cases_eq i v)

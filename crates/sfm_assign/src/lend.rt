@@ -3,7 +3,7 @@
 // gives it on a slot that a demand found before can use, and so on to the one that the search began with.
 ghost use Rattle.std.specs.Prelude.{◌≡◌, ◌<◌, ◌^◌, length, pos, IfOk, MatchOption};
 ghost use Rattle.std.specs.List.{All};
-ghost use Rattle.sfm_assign.specs.Splits.{IsCapacity, CanBeMet};
+ghost use Rattle.sfm_assign.specs.Splits.{IsCapacity, CanBeMet, AreDemands};
 ghost use Rattle.sfm_assign.specs.Cells.{AreCells, IsPart};
 ghost use Rattle.sfm_assign.specs.Search.{GetsOne, IsFoundFrom};
 ghost use Rattle.sfm_assign.specs.Lenders.{one_more, IsLenders};
@@ -51,7 +51,8 @@ fn found_from(
 pub fn lenders(alloc: Global, demand: &Demand, u: usize) -> Result<Option<Set>, Memory>
     requires place { u < length demand.now.demands }
     requires met { CanBeMet demand.now.demands demand.now.lists demand.now.capacities }
-    ensures { IfOk result (λ r. MatchOption r
+    ensures sound { AreDemands demand.now }
+    ensures lenders { IfOk result (λ r. MatchOption r
         (CanBeMet (one_more demand.now.demands u) demand.now.lists demand.now.capacities)
         (IsLenders demand.now.demands demand.now.lists demand.now.capacities u)) }
 {

@@ -69,8 +69,8 @@ found_from-requires-clause-part c =
     let met = met_from d.demands d.lists d.capacities z c.in_ok-fill.field-0 sound.same sound.exist part filled c.requires.met in
     rw (asked, caps, w, s, e) (more_part d sound u c.requires.place z part met)
 
-pub returns : goal.returns
-returns c =
+pub returns-clause-lenders : goal.returns-clause-lenders
+returns-clause-lenders c =
     let d = c.args.demand.now in
     let u = c.args.u in
     let sound = c.demands-demands.ensures.sound in
