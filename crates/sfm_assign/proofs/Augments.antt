@@ -20,14 +20,14 @@ pub record IsMoving (whos slots : List ℕ) (nodes : List (Option Node)) (last :
   pub enough : a ≤ℤ here.flow
   pub kept : (e : ℕ) (b : Node) → node_at nodes (label_at whos e) ≡ Some b → b.level ≤ here.level → amount_at y e ≤ℤ amount_at z e
 
-only-neg : (j k : ℕ) (a : ℤ) → only j k (neg_ℤ a) ≡ neg_ℤ (only j k a)
+pub only-neg : (j k : ℕ) (a : ℤ) → only j k (neg_ℤ a) ≡ neg_ℤ (only j k a)
 only-neg j k a = at (nat_eq j k) where
   at : (t : _) → (if t then neg_ℤ a else pos 0) ≡ neg_ℤ (if t then a else pos 0)
   at true = refl
   at false = refl
 
 -- one amount changed by a
-put-sum : (k : ℕ) (js : List ℕ) (y : List ℤ) (e : ℕ) (a b : ℤ) → b ≡ (amount_at y e +ℤ a) → length y ≡ length js → e < length js → sum_at k js (set y e b) ≡ (sum_at k js y +ℤ only (label_at js e) k a)
+pub put-sum : (k : ℕ) (js : List ℕ) (y : List ℤ) (e : ℕ) (a b : ℤ) → b ≡ (amount_at y e +ℤ a) → length y ≡ length js → e < length js → sum_at k js (set y e b) ≡ (sum_at k js y +ℤ only (label_at js e) k a)
 put-sum k js y e a b is same lt = ap (λ x. sum_at k js (set y e x)) is ∙ sum_at-set k js y e a same lt
 
 some_same : {a b : Node} → Some a ≡ Some b → b ≡ a

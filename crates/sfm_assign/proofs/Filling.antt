@@ -20,7 +20,7 @@ use Rattle.sfm_assign.proofs.Fills.{total_bound, to_nat, to_nat_falls, raised_pa
 use Rattle.sfm_assign.proofs.Outcomes.{nothing_part}
 
 -- an option has a value, or it has none
-either : {A P : Type 0} (o : Option A) → ((x : A) → o ≡ Some x → P) → (o ≡ None → P) → P
+pub either : {A P : Type 0} (o : Option A) → ((x : A) → o ≡ Some x → P) → (o ≡ None → P) → P
 either None f g = g refl
 either (Some x) f g = f x refl
 
@@ -189,7 +189,7 @@ module _ (n m : ℕ) (whos slots : List ℕ) (cells : AreCells n m whos slots) w
 
   -- ---- the moves
 
-  move_exists : (fuel : ℕ) (nodes : List (Option Node)) (last : ℕ) (a : ℤ) (y z : List ℤ) (who : ℕ) → length y ≡ length whos → AreNodes whos slots y nodes → pos 0 ≤ℤ a → (inv : IsMoving whos slots nodes last a y z who) → inv.here.level < fuel
+  pub move_exists : (fuel : ℕ) (nodes : List (Option Node)) (last : ℕ) (a : ℤ) (y z : List ℤ) (who : ℕ) → length y ≡ length whos → AreNodes whos slots y nodes → pos 0 ≤ℤ a → (inv : IsMoving whos slots nodes last a y z who) → inv.here.level < fuel
       → (z' : List ℤ) × IsRaised whos slots nodes last a y z'
   move_exists zero nodes last a y z who same tree some inv few = absurd (omega arith)
   move_exists (suc fuel) nodes last a y z who same tree some inv few = at (move_exists fuel nodes last a y) where

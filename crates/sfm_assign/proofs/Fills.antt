@@ -76,7 +76,7 @@ left_small capacities slots y rooms bounded h s lt =
     let b = (All-get_or IsCapacity capacities s (pos 0) lk bounded).high in
     omega (arith, ints, e, b)
 
-below_nodes : (nodes : List (Option Node)) (i : ℕ) (b : Node) → node_at nodes i ≡ Some b → i < length nodes
+pub below_nodes : (nodes : List (Option Node)) (i : ℕ) (b : Node) → node_at nodes i ≡ Some b → i < length nodes
 below_nodes [] i b is = cc
 below_nodes (o ∷ nodes) zero b is = omega arith
 below_nodes (o ∷ nodes) (suc i) b is = let r = below_nodes nodes i b is in omega (arith, r)

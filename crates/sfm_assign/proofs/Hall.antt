@@ -152,3 +152,16 @@ module _ (demands capacities : List ℤ) (lists : List (List ℕ)) (y : List ℤ
         (λ ne. let o = get_or-set_other demands u j b (pos 0) ne in let p = part.got j lj' in omega (arith, ints, o, p, gj))
         (cases_eq j u)) has (omega (arith, ints, g, asks, more)) in
         absurd (omega (arith, ints, t, h, m))
+
+  -- demands that can be met ask for no more within a closed set than those that get what they have
+  pub closed_bounds : (x : List ℤ) → length x ≡ length demands → CanBeMet x lists capacities → sum_over s x ≤ℤ sum_over s demands
+  unfolding z
+  closed_bounds x lx can =
+      let t = tight in
+      let h = hall_easy x lists capacities s (same ∙ sym lx) below (ls ∙ sym lx) can in
+      let m = sum_over-le s got demands (ls ∙ sym length-got) (sym length-got) (λ j hj.
+      let lj = has_place s j hj in
+      let g = got-at j (omega (arith, lj, ls)) in
+      let p = part.got j (omega (arith, lj, ls)) in
+      omega (arith, ints, g, p)) in
+      omega (arith, ints, t, h, m)

@@ -8,3 +8,5 @@ pub mod Fills
 pub mod Cutting
 pub mod Outcomes
 pub mod Filling
+pub mod Lending
+pub mod Loans

@@ -56,7 +56,7 @@ short_from d y s i sound part filled lt less =
 -- ---- the most of one demand
 
 -- demands that can be met are met once they are filled
-met_from : (demands : List ℤ) (lists : List (List ℕ)) (capacities y : List ℤ) (s : List Bool) → length lists ≡ length demands → AreBelow (length capacities) lists → IsPart demands capacities (owners 0 lists) (joined lists) y
+pub met_from : (demands : List ℤ) (lists : List (List ℕ)) (capacities y : List ℤ) (s : List Bool) → length lists ≡ length demands → AreBelow (length capacities) lists → IsPart demands capacities (owners 0 lists) (joined lists) y
     → IsFilled demands capacities (owners 0 lists) (joined lists) y s → CanBeMet demands lists capacities → IsMet demands (owners 0 lists) y
 met_from demands lists capacities y s same below part filled can i lt = by_lt_z (sum_at i (owners 0 lists) y) (amount_at demands i)
     (λ less. absurd (short_refuses demands lists capacities s same below (short_of_closed demands capacities lists y same below part s filled.places filled.closed i (filled.lacking i lt less) less) can))

@@ -2,3 +2,4 @@ pub mod Splits
 pub mod Cells
 pub mod Search
 pub mod Ends
+pub mod Lenders

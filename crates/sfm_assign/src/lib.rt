@@ -7,6 +7,7 @@ mod demand;
 mod fill;
 mod greatest;
 mod left;
+mod lend;
 mod nodes;
 mod search;
 mod split;
@@ -14,6 +15,7 @@ mod splitting;
 
 pub use demand::Demand;
 pub use greatest::most;
+pub use lend::lenders;
 pub use split::Split;
 pub use splitting::{AssignEnd, assign};
 

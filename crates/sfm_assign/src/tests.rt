@@ -1,8 +1,8 @@
 // Small demands over two slots that hold 3 and 2, with answers worked by hand.
 ghost use Rattle.std.specs.Prelude.{◌≡◌, ◌<◌, IfOk, [], ◌∷◌, length, slice_set, pos};
 
-use crate::{AssignEnd, Demand, Split, assign, most};
-use sfm_base::Memory;
+use crate::{AssignEnd, Demand, Split, assign, lenders, most};
+use sfm_base::{Memory, Set};
 use std::alloc::Global;
 use std::process::Abort;
 use std::test::Fail;
@@ -99,5 +99,85 @@ fn most_of_one(rt: HostRuntime) -> Result<(), Fail> {
     assert_eq!(rt; most_of(rt.alloc(), &demand, 0)?, Some(2));
     let demand = one_slot(rt.alloc(), 2, 0)?;
     assert_eq!(rt; most_of(rt.alloc(), &demand, 1)?, Some(1));
+    Ok(())
+}
+
+/// Who can lend to a demand, if all can be met.
+fn lenders_to(
+    rt: &impl Abort,
+    alloc: Global,
+    demand: &Demand,
+    u: usize,
+) -> Result<Option<Set>, Memory>
+    requires { u < length demand.now.demands }
+{
+    match assign(alloc, demand) {
+        Ok(_) => lenders(alloc, demand, u),
+        Err(_) => panic!(rt; "no split"),
+    }
+}
+
+/// Asserts which of the demands other than u can lend to it.
+fn has_lenders(rt: &impl Abort, set: Option<Set>, u: usize, members: &[bool]) {
+    match set {
+        Some(set) => {
+            assert_eq!(rt; set.len(), members.len());
+            for (v, member) in members.iter().enumerate() {
+                assert!(rt; v == u || set.contains(v) == *member, "demand {v}");
+            }
+        }
+        None => panic!(rt; "room for one more"),
+    }
+}
+
+#[test]
+fn lends_on_one_slot(rt: HostRuntime) -> Result<(), Fail> {
+    let full = one_slot(rt.alloc(), 2, 1)?;
+    has_lenders(
+        &rt,
+        lenders_to(&rt, rt.alloc(), &full, 1)?,
+        1,
+        &[true, false],
+    );
+    let nothing = one_slot(rt.alloc(), 3, 0)?;
+    has_lenders(
+        &rt,
+        lenders_to(&rt, rt.alloc(), &nothing, 0)?,
+        0,
+        &[false, false],
+    );
+    let room = one_slot(rt.alloc(), 1, 1)?;
+    assert!(rt; lenders_to(&rt, rt.alloc(), &room, 0)?.is_none());
+    Ok(())
+}
+
+/// Demands of 0, 1, 1 and 1 over three slots that hold 1 each: the third shares a slot with the second alone, and the last
+/// shares with none.
+fn in_a_row(alloc: Global) -> Result<Demand, Memory>
+    ensures { IfOk result (λ d. length d.demands ≡ 4) }
+{
+    let mut demand = Demand::new(alloc, &[1, 1, 1])?;
+    demand.push(0, vec![in alloc; 0]?)?;
+    demand.push(1, vec![in alloc; 0, 1]?)?;
+    demand.push(1, vec![in alloc; 1]?)?;
+    demand.push(1, vec![in alloc; 2]?)?;
+    Ok(demand)
+}
+
+#[test]
+fn lends_by_way_of_another(rt: HostRuntime) -> Result<(), Fail> {
+    let demand = in_a_row(rt.alloc())?;
+    has_lenders(
+        &rt,
+        lenders_to(&rt, rt.alloc(), &demand, 0)?,
+        0,
+        &[false, true, true, false],
+    );
+    has_lenders(
+        &rt,
+        lenders_to(&rt, rt.alloc(), &demand, 2)?,
+        2,
+        &[false, false, false, false],
+    );
     Ok(())
 }

@@ -1,15 +1,39 @@
--- The count and the sum of the places above a number, with one place put in or taken out.
-use Rattle.std.proofs.Common.{◌≡◌, ◌≢◌, ℕ, ◌+◌, ◌-◌, ◌<◌, ◌≤◌, Bool, true, false, List, length, get_or, set, ℤ, pos, ◌+ℤ◌, ◌-ℤ◌, ◌≤ℤ◌, ◌<ℤ◌, sym, ◌∙◌, arith, length-set, get_or-set_other}
+-- The count and the sum of the places above a number, one place after another, and with one place put in or taken out.
+use Rattle.std.proofs.Common.{◌≡◌, ◌≢◌, ℕ, ◌+◌, ◌-◌, ◌<◌, ◌≤◌, Bool, true, false, List, length, get_or, set, drop, ℤ, pos, ◌+ℤ◌, ◌-ℤ◌, ◌≤ℤ◌, ◌<ℤ◌, if◌then◌else◌, sym, ◌∙◌, arith, length-set, get_or-set_other}
 use Rattle.std.proofs.lemmas.Int.{ints}
-use Rattle.std.proofs.lemmas.List.{length-replicate}
+use Rattle.std.proofs.lemmas.List.{drop_more, length-replicate}
 use Rattle.sfm_spec.specs.Bounds.{total_of}
-use Rattle.sfm_spec.specs.Sets.{Has, whole_set}
+use Rattle.sfm_spec.specs.Sets.{Has, whole_set, size, sum_over}
+use Rattle.sfm_spec.proofs.Where.{size-cons}
 use Rattle.sfm_spec.proofs.Sets.{Has-whole}
 use Rattle.sfm_spec.proofs.Sizes.{size-whole}
+use Rattle.sfm_spec.proofs.Sums.{sum_over-drop}
 use Rattle.sfm_concave.specs.Counts.{size-put, sum_over-put, size-in, size-out, sum_over-in, sum_over-out}
 use Rattle.sfm_concave.specs.Thresholds.{above, above_with, above_between, IsShareOf}
 use Rattle.sfm_concave.proofs.Totals.{total_of-whole}
 use Rattle.sfm_concave.proofs.Above.{length-above, length-above_with, is_above, is_not_above, has_with}
+
+-- ---- one place after another
+
+-- a place more is still to be counted
+pub record IsNext (bar : ℤ) (x : List ℤ) (i n : ℕ) (a : ℤ) : Type 0 where
+  pub counts : size (drop i (above bar x)) ≡ n + size (drop (i + 1) (above bar x))
+  pub sums : sum_over (drop i (above bar x)) (drop i x) ≡ (a +ℤ sum_over (drop (i + 1) (above bar x)) (drop (i + 1) x))
+
+size-drop : (s : List Bool) (i : ℕ) → i < length s → size (drop i s) ≡ (if get_or s i false then 1 else 0) + size (drop (i + 1) s)
+size-drop s i h = rw (drop_more s i false h) (size-cons (get_or s i false) (drop (i + 1) s))
+
+pub next_above : (bar : ℤ) (x : List ℤ) (i : ℕ) → i < length x → bar <ℤ get_or x i (pos 0) → IsNext bar x i 1 (get_or x i (pos 0))
+next_above bar x i h more =
+    let lt : i < length (above bar x) = omega (arith, length-above bar x) in
+    let is = is_above bar x i h more in
+    record { counts = rw is at (size-drop (above bar x) i lt); sums = rw is at (sum_over-drop (above bar x) x i lt h) }
+
+pub next_below : (bar : ℤ) (x : List ℤ) (i : ℕ) → i < length x → get_or x i (pos 0) ≤ℤ bar → IsNext bar x i 0 (pos 0)
+next_below bar x i h less =
+    let lt : i < length (above bar x) = omega (arith, length-above bar x) in
+    let is = is_not_above bar x i h less in
+    record { counts = rw is at (size-drop (above bar x) i lt); sums = rw is at (sum_over-drop (above bar x) x i lt h) }
 
 -- ---- one place put in or taken out
 

@@ -1,5 +1,5 @@
 -- The places with more than a number, and what a set leaves to a vector of the number of its count.
-use Rattle.std.specs.Prelude.{◌≡◌, ℕ, ◌<◌, Bool, true, false, List, length, map, slice_index_or, set, ℤ, pos, ◌-ℤ◌, ◌≤ℤ◌, ◌<ℤ◌, Option, Some, None}
+use Rattle.std.specs.Prelude.{◌≡◌, ◌↔◌, ℕ, ◌<◌, Bool, true, false, List, length, map, slice_index_or, set, ℤ, pos, ◌-ℤ◌, ◌≤ℤ◌, ◌<ℤ◌, Option, Some, None}
 use Rattle.std.specs.Int.Signed.{lt_z}
 use Rattle.sfm_spec.specs.Sets.{Has, size, sum_over}
 
@@ -40,6 +40,14 @@ pub record Blocks (h : ℕ → ℤ) (x : List ℤ) (u w : ℕ) : Type 0 where
 abbrev pub IsOver : Option ℤ → ℤ → Type 0
 IsOver None a = Unit {0}
 IsOver (Some bar) a = bar <ℤ a
+
+-- the places above each entry leave something
+abbrev pub LeavesAbove : (ℕ → ℤ) → List ℤ → Type 0
+LeavesAbove h x = (w : ℕ) → w < length x → pos 0 ≤ℤ slack h x (above (slice_index_or x w (pos 0)) x)
+
+-- the bar is the greatest entry of a place that blocks u, if there is one
+abbrev pub IsBar : (ℕ → ℤ) → List ℤ → ℕ → Option ℤ → Type 0
+IsBar h x u bar = (a : ℤ) → IsOver bar a ↔ ((w : ℕ) → Blocks h x u w → slice_index_or x w (pos 0) <ℤ a)
 
 -- a count and a sum are those of a set
 pub record IsShareOf (count : ℕ) (sum : ℤ) (x : List ℤ) (s : List Bool) : Type 0 where

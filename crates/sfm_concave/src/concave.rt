@@ -1,19 +1,19 @@
 // A concave function of the count of a part. What a part leaves of its value is its slack, and a base leaves none negative.
 // Of the parts of one count those with the greatest entries leave least; and of these, only those that have all the entries above
 // some entry need to be tried: with u put in and v taken out for the room of (u, v).
-ghost use Rattle.std.specs.Prelude.{◌≡◌, ◌≢◌, ◌↔◌, ℕ, ◌+◌, ◌-◌, ◌<◌, ◌≤◌, ◌^◌, Bool, true, false, List, length, slice_index_or, ℤ, pos, neg_ℤ, ◌*ℤ◌, ◌+ℤ◌, ◌-ℤ◌, ◌≤ℤ◌, ◌<ℤ◌, IfOk, OnOk, IsTrue, Option, Some, Ok, Err};
+ghost use Rattle.std.specs.Prelude.{◌≡◌, ◌≢◌, ◌↔◌, ℕ, ◌+◌, ◌-◌, ◌<◌, ◌≤◌, ◌^◌, Bool, true, false, List, length, slice_index_or, ℤ, pos, neg_ℤ, ◌*ℤ◌, ◌+ℤ◌, ◌-ℤ◌, ◌≤ℤ◌, ◌<ℤ◌, IfOk, IfSome, OnOk, IsTrue, Option, Some, Ok, Err};
 ghost use Rattle.std.specs.List.{All};
 ghost use Rattle.sfm_spec.specs.Bounds.{IsEntry, IsFactor, IsGiven, AreElements};
 ghost use Rattle.sfm_spec.specs.Terms.{SetFunction, times, IsBase, IsFamily, IsSubmodular, IsGreedy, exchanged};
 ghost use Rattle.sfm_spec.specs.Kinds.{concave_value};
 ghost use Rattle.sfm_law.specs.Room.{IsRoom, IsReach, IsWithinRoom};
 ghost use Rattle.sfm_concave.specs.Rankings.{IsRanking};
-ghost use Rattle.sfm_concave.specs.Thresholds.{above, slack, IsShareOf, IsSomeShare, IsLeastSlack, Blocks, IsOver};
+ghost use Rattle.sfm_concave.specs.Thresholds.{slack, IsShareOf, IsSomeShare, IsLeastSlack, Blocks, IsOver, IsBar, LeavesAbove};
 ghost use Rattle.sfm_concave.specs.ConcaveLaws.{number_of, scaled, IsFirstRise, NeverRises, greatest, gain_of, concave_start, concave-family, concave-submodular, concave-bounded, concave-starts, concave-starts_small};
 
 use crate::number::{has_sum, magnitude, product};
 use crate::place::put;
-use crate::ranking::{Ranking, ranking_of};
+use crate::ranking::{FEW, Ranking, ranking_of};
 use crate::rise::first_rise;
 use crate::share::{Share, share_above, share_between, share_with, share_without};
 use sfm_base::{Memory, Numbers, Places, Set};
@@ -175,11 +175,35 @@ impl Concave {
         requires factor { IsFactor q }
         requires entries { length x.now ≡ length self.now.places }
         requires small { All IsEntry x.now }
-        ensures { IsTrue result ↔ ((w : ℕ) → w < length x.now → pos 0 ≤ℤ slack (scaled q self.now.values) x.now (above (slice_index_or x.now w (pos 0)) x.now)) }
+        ensures { IsTrue result ↔ LeavesAbove (scaled q self.now.values) x.now }
+    {
+        if x.len() <= FEW {
+            return self.is_within_by(q, x, None);
+        }
+        self.is_within_ranked(q, x)
+    }
+
+    /// The same, by a ranking. This stands apart, since a function pays as it begins for the room of all that it holds.
+    fn is_within_ranked(&self, q: i128, x: &[i128]) -> bool
+        requires factor { IsFactor q }
+        requires entries { length x.now ≡ length self.now.places }
+        requires small { All IsEntry x.now }
+        ensures { IsTrue result ↔ LeavesAbove (scaled q self.now.values) x.now }
     {
         let ranking = ranking_of(x);
+        self.is_within_by(q, x, Some(&ranking))
+    }
+
+    /// The same, by a ranking if there is one.
+    fn is_within_by(&self, q: i128, x: &[i128], ranking: Option<&Ranking>) -> bool
+        requires factor { IsFactor q }
+        requires entries { length x.now ≡ length self.now.places }
+        requires small { All IsEntry x.now }
+        requires ranked { IfSome ranking (λ r. IsRanking x.now r.now.sorted r.now.sums r.now.len) }
+        ensures { IsTrue result ↔ LeavesAbove (scaled q self.now.values) x.now }
+    {
         for a in x {
-            if self.slack(q, x, share_above(x, &ranking, *a)) < 0 {
+            if self.slack(q, x, share_above(x, ranking, *a)) < 0 {
                 return false;
             }
         }
@@ -206,10 +230,47 @@ impl Concave {
         requires onto { v < length x.now }
         ensures { IsLeastSlack (scaled q self.now.values) x.now u v result }
     {
+        if x.len() <= FEW {
+            return self.least_slack_by(q, x, None, u, v);
+        }
+        self.least_slack_ranked(q, x, u, v)
+    }
+
+    /// The same, by a ranking.
+    fn least_slack_ranked(&self, q: i128, x: &[i128], u: usize, v: usize) -> i128
+        requires factor { IsFactor q }
+        requires entries { length x.now ≡ length self.now.places }
+        requires small { All IsEntry x.now }
+        requires apart { u ≢ v }
+        requires from { u < length x.now }
+        requires onto { v < length x.now }
+        ensures { IsLeastSlack (scaled q self.now.values) x.now u v result }
+    {
         let ranking = ranking_of(x);
+        self.least_slack_by(q, x, Some(&ranking), u, v)
+    }
+
+    /// The same, by a ranking if there is one.
+    fn least_slack_by(
+        &self,
+        q: i128,
+        x: &[i128],
+        ranking: Option<&Ranking>,
+        u: usize,
+        v: usize,
+    ) -> i128
+        requires factor { IsFactor q }
+        requires entries { length x.now ≡ length self.now.places }
+        requires small { All IsEntry x.now }
+        requires ranked { IfSome ranking (λ r. IsRanking x.now r.now.sorted r.now.sums r.now.len) }
+        requires apart { u ≢ v }
+        requires from { u < length x.now }
+        requires onto { v < length x.now }
+        ensures { IsLeastSlack (scaled q self.now.values) x.now u v result }
+    {
         let mut least = self.slack(q, x, share_without(x, v));
         for a in x {
-            let share = share_between(x, &ranking, *a, u, v);
+            let share = share_between(x, ranking, *a, u, v);
             least = least.min(self.slack(q, x, share));
         }
         least
@@ -231,11 +292,11 @@ impl Concave {
 
     /// Whether u and the places above w, which is not above u, leave nothing: then u has no room to a place that is not
     /// above w.
-    fn blocks(&self, q: i128, x: &[i128], ranking: &Ranking, u: usize, w: usize) -> bool
+    fn blocks(&self, q: i128, x: &[i128], ranking: Option<&Ranking>, u: usize, w: usize) -> bool
         requires factor { IsFactor q }
         requires entries { length x.now ≡ length self.now.places }
         requires small { All IsEntry x.now }
-        requires ranked { IsRanking x.now ranking.now.sorted ranking.now.sums ranking.now.len }
+        requires ranked { IfSome ranking (λ r. IsRanking x.now r.now.sorted r.now.sums r.now.len) }
         requires from { u < length x.now }
         requires place { w < length x.now }
         ensures { IsTrue result ↔ Blocks (scaled q self.now.values) x.now u w }
@@ -248,7 +309,7 @@ impl Concave {
         &self,
         q: i128,
         x: &[i128],
-        ranking: &Ranking,
+        ranking: Option<&Ranking>,
         u: usize,
         w: usize,
         bar: Option<i128>,
@@ -256,7 +317,7 @@ impl Concave {
         requires factor { IsFactor q }
         requires entries { length x.now ≡ length self.now.places }
         requires small { All IsEntry x.now }
-        requires ranked { IsRanking x.now ranking.now.sorted ranking.now.sums ranking.now.len }
+        requires ranked { IfSome ranking (λ r. IsRanking x.now r.now.sorted r.now.sums r.now.len) }
         requires from { u < length x.now }
         requires place { w < length x.now }
         ensures { IsTrue result ↔ (IsOver bar (slice_index_or x.now w (pos 0)) × Blocks (scaled q self.now.values) x.now u w) }
@@ -270,12 +331,38 @@ impl Concave {
         requires entries { length x.now ≡ length self.now.places }
         requires small { All IsEntry x.now }
         requires from { u < length x.now }
-        ensures { (a : ℤ) → IsOver result a ↔ ((w : ℕ) → Blocks (scaled q self.now.values) x.now u w → slice_index_or x.now w (pos 0) <ℤ a) }
+        ensures { IsBar (scaled q self.now.values) x.now u result }
+    {
+        if x.len() <= FEW {
+            return self.bar_by(q, x, None, u);
+        }
+        self.bar_ranked(q, x, u)
+    }
+
+    /// The same, by a ranking.
+    fn bar_ranked(&self, q: i128, x: &[i128], u: usize) -> Option<i128>
+        requires factor { IsFactor q }
+        requires entries { length x.now ≡ length self.now.places }
+        requires small { All IsEntry x.now }
+        requires from { u < length x.now }
+        ensures { IsBar (scaled q self.now.values) x.now u result }
     {
         let ranking = ranking_of(x);
+        self.bar_by(q, x, Some(&ranking), u)
+    }
+
+    /// The same, by a ranking if there is one.
+    fn bar_by(&self, q: i128, x: &[i128], ranking: Option<&Ranking>, u: usize) -> Option<i128>
+        requires factor { IsFactor q }
+        requires entries { length x.now ≡ length self.now.places }
+        requires small { All IsEntry x.now }
+        requires ranked { IfSome ranking (λ r. IsRanking x.now r.now.sorted r.now.sums r.now.len) }
+        requires from { u < length x.now }
+        ensures { IsBar (scaled q self.now.values) x.now u result }
+    {
         let mut bar = None;
         for (w, a) in x.iter().enumerate() {
-            if self.lifts(q, x, &ranking, u, w, bar) {
+            if self.lifts(q, x, ranking, u, w, bar) {
                 bar = Some(*a);
             }
         }

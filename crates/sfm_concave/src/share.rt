@@ -1,5 +1,6 @@
-// How many places a set has, and what they have in all, for the sets of places above an entry.
-ghost use Rattle.std.specs.Prelude.{◌≢◌, ◌<◌, ◌≤◌, false, length, slice_set};
+// How many places a set has, and what they have in all, for the sets of places above an entry: by the ranking of the entries
+// where there is one, else by a look at each.
+ghost use Rattle.std.specs.Prelude.{◌≢◌, ◌<◌, ◌≤◌, IfSome, false, length, slice_set};
 ghost use Rattle.std.specs.List.{All};
 ghost use Rattle.sfm_spec.specs.Bounds.{IsEntry};
 ghost use Rattle.sfm_spec.specs.Sets.{whole_set};
@@ -17,8 +18,8 @@ pub(crate) struct Share {
     pub sum: i128,
 }
 
-/// The share of the places with more than a number.
-pub(crate) fn share_above(_x: &[i128], ranking: &Ranking, bar: i128) -> Share
+/// The share of the places with more than a number, from the ranking of the entries.
+fn share_by_ranking(_x: &[i128], ranking: &Ranking, bar: i128) -> Share
     requires few { length _x.now ≤ 256 }
     requires small { All IsEntry _x.now }
     requires ranked { IsRanking _x.now ranking.now.sorted ranking.now.sums ranking.now.len }
@@ -31,11 +32,41 @@ pub(crate) fn share_above(_x: &[i128], ranking: &Ranking, bar: i128) -> Share
     }
 }
 
-/// The share of the places with more than a number and u.
-pub(crate) fn share_with(x: &[i128], ranking: &Ranking, bar: i128, u: usize) -> Share
+/// The share of the places with more than a number, from each entry in turn.
+fn share_by_scan(x: &[i128], bar: i128) -> Share
     requires few { length x.now ≤ 256 }
     requires small { All IsEntry x.now }
-    requires ranked { IsRanking x.now ranking.now.sorted ranking.now.sums ranking.now.len }
+    ensures { IsShareOf result.count result.sum x.now (above bar x.now) }
+{
+    let mut count = 0;
+    let mut sum = 0;
+    for a in x {
+        if *a > bar {
+            count += 1;
+            sum += *a;
+        }
+    }
+    Share { count, sum }
+}
+
+/// The share of the places with more than a number.
+pub(crate) fn share_above(x: &[i128], ranking: Option<&Ranking>, bar: i128) -> Share
+    requires few { length x.now ≤ 256 }
+    requires small { All IsEntry x.now }
+    requires ranked { IfSome ranking (λ r. IsRanking x.now r.now.sorted r.now.sums r.now.len) }
+    ensures { IsShareOf result.count result.sum x.now (above bar x.now) }
+{
+    match ranking {
+        None => share_by_scan(x, bar),
+        Some(ranking) => share_by_ranking(x, ranking, bar),
+    }
+}
+
+/// The share of the places with more than a number and u.
+pub(crate) fn share_with(x: &[i128], ranking: Option<&Ranking>, bar: i128, u: usize) -> Share
+    requires few { length x.now ≤ 256 }
+    requires small { All IsEntry x.now }
+    requires ranked { IfSome ranking (λ r. IsRanking x.now r.now.sorted r.now.sums r.now.len) }
     requires from { u < length x.now }
     ensures { IsShareOf result.count result.sum x.now (above_with bar x.now u) }
 {
@@ -50,10 +81,16 @@ pub(crate) fn share_with(x: &[i128], ranking: &Ranking, bar: i128, u: usize) -> 
 }
 
 /// The share of the places with more than a number and u, without v.
-pub(crate) fn share_between(x: &[i128], ranking: &Ranking, bar: i128, u: usize, v: usize) -> Share
+pub(crate) fn share_between(
+    x: &[i128],
+    ranking: Option<&Ranking>,
+    bar: i128,
+    u: usize,
+    v: usize,
+) -> Share
     requires few { length x.now ≤ 256 }
     requires small { All IsEntry x.now }
-    requires ranked { IsRanking x.now ranking.now.sorted ranking.now.sums ranking.now.len }
+    requires ranked { IfSome ranking (λ r. IsRanking x.now r.now.sorted r.now.sums r.now.len) }
     requires from { u < length x.now }
     requires onto { v < length x.now }
     requires apart { u ≢ v }

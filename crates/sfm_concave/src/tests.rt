@@ -1,8 +1,11 @@
-// Each kind once through the trait's calls, with answers worked by hand, and the refusals of numbers that rise.
+// Each kind once through the trait's calls, with answers worked by hand, the refusals of numbers that rise, and shares of few
+// and of many entries.
 ghost use Rattle.std.specs.Prelude.{◌≡◌, ◌↔◌, length, IsTrue, IfOk};
 ghost use Rattle.std.specs.List.{All};
 ghost use Rattle.sfm_spec.specs.Bounds.{IsEntry};
 
+use crate::ranking::ranking_of;
+use crate::share::{Share, share_above};
 use crate::{Concave, ConcaveEnd, Uniform};
 use sfm_base::{Memory, Set};
 use sfm_law::{Room, Term};
@@ -155,6 +158,27 @@ fn concaves_refused(rt: HostRuntime) {
         Concave::new(rt.alloc(), &[0, 1, 2, 3], &[-2, -4, -5, -4]).err(),
         Some(ConcaveEnd::Rises { at: 3 })
     );
+}
+
+/// Asserts the share of the places with more than a number, with no ranking and with one.
+fn has_share(rt: &impl Abort, x: &[i128], bar: i128, share: Share) {
+    assert!(rt; x.len() <= 256 && are_entries(x));
+    assert_eq!(rt; share_above(x, None, bar), share);
+    let ranking = ranking_of(x);
+    assert_eq!(rt; share_above(x, Some(&ranking), bar), share);
+}
+
+#[test]
+fn shares_of_few_and_of_many(rt: HostRuntime) {
+    let few = [4, -1, 7, 0, 4];
+    let mut many = [-1; 40];
+    many[3] = 4;
+    many[20] = 7;
+    many[39] = 4;
+    has_share(&rt, &few, 3, Share { count: 3, sum: 15 });
+    has_share(&rt, &many, 3, Share { count: 3, sum: 15 });
+    has_share(&rt, &few, 4, Share { count: 1, sum: 7 });
+    has_share(&rt, &many, 4, Share { count: 1, sum: 7 });
 }
 
 #[test]

@@ -16,7 +16,7 @@ use Rattle.sfm_kind.specs.Instance.{AreInBounds, HasRoomFor, support_of, total_s
 use lib.Signed.{le_z}
 use borrow.Author.Differences.{le_out, true_is_le}
 use Rattle.sfm_kind.specs.declared.kind.Kind.{Kind}
-use Rattle.sfm_kind.specs.declared.kind.Kind.TheVariants.{Weight, Cut, Cover, Need, Table, Concave, Uniform, Laminar}
+use Rattle.sfm_kind.specs.declared.kind.Kind.TheVariants.{Weight, Cut, Cover, Need, Table, Concave, Uniform, Laminar, Graphic, Transversal}
 
 -- no size is negative: the empty part has the value 0
 pub kind_size-low : (kind : Kind) → pos 0 ≤ℤ kind_size kind
@@ -34,6 +34,8 @@ kind-elements (Table term) = term.elements
 kind-elements (Concave term) = term.elements
 kind-elements (Uniform term) = term.elements
 kind-elements (Laminar term) = term.elements
+kind-elements (Graphic term) = term.elements
+kind-elements (Transversal term) = term.elements
 
 pub total_size-low : (terms : List Kind) → pos 0 ≤ℤ total_size_of terms
 total_size-low [] = omega (arith, ints)

@@ -13,8 +13,10 @@ use Rattle.sfm_concave.specs.ConcaveLaws.{concave_start, concave-family, concave
 use Rattle.sfm_concave.specs.ConcaveLaws as concaves
 use Rattle.sfm_concave.specs.UniformLaws.{uniform_size, uniform_start, uniform-family, uniform-submodular, uniform-bounded, uniform-starts, uniform-starts_small}
 use Rattle.sfm_laminar.specs.LaminarLaws.{laminar_value, laminar_size, laminar_start, laminar-family, laminar-submodular, laminar-bounded, laminar-starts, laminar-starts_small}
+use Rattle.sfm_matroid.specs.GraphicLaws.{graphic_value, graphic_size, graphic_start, graphic-family, graphic-submodular, graphic-bounded, graphic-starts, graphic-starts_small}
+use Rattle.sfm_matroid.specs.TransversalLaws.{transversal_value, transversal_size, transversal_start, transversal-family, transversal-submodular, transversal-bounded, transversal-starts, transversal-starts_small}
 use Rattle.sfm_kind.specs.declared.kind.Kind.{Kind}
-use Rattle.sfm_kind.specs.declared.kind.Kind.TheVariants.{Weight, Cut, Cover, Need, Table, Concave, Uniform, Laminar}
+use Rattle.sfm_kind.specs.declared.kind.Kind.TheVariants.{Weight, Cut, Cover, Need, Table, Concave, Uniform, Laminar, Graphic, Transversal}
 use Rattle.sfm_kind.specs.declared.kind.KindNote.{KindNote}
 
 -- the places of the ground, by local place
@@ -27,6 +29,8 @@ kind_places (Table term) = term.places
 kind_places (Concave term) = term.places
 kind_places (Uniform term) = term.places
 kind_places (Laminar term) = term.places
+kind_places (Graphic term) = term.places
+kind_places (Transversal term) = term.places
 
 -- the value at each allowed part
 abbrev pub kind_value : Kind → SetFunction
@@ -38,6 +42,8 @@ kind_value (Table term) = table_value term.values
 kind_value (Concave term) = concave_value term.values
 kind_value (Uniform term) = uniform_value term.w term.cap
 kind_value (Laminar term) = laminar_value (length term.places) term.w term.groups
+kind_value (Graphic term) = graphic_value term.w term.ends
+kind_value (Transversal term) = transversal_value term.w term.entries
 
 -- a bound on the magnitude of each value
 abbrev pub kind_size : Kind → ℤ
@@ -49,6 +55,8 @@ kind_size (Table term) = greatest term.values
 kind_size (Concave term) = concaves.greatest term.values
 kind_size (Uniform term) = uniform_size term.w term.cap (length term.places)
 kind_size (Laminar term) = laminar_size (length term.places) term.w term.groups
+kind_size (Graphic term) = graphic_size term.w term.ends
+kind_size (Transversal term) = transversal_size term.w term.entries
 
 -- the first base at a factor
 abbrev pub kind_start : Kind → ℤ → List ℤ
@@ -60,6 +68,8 @@ kind_start (Table term) q = table_start q term.values (length term.places)
 kind_start (Concave term) q = concave_start q term.values (length term.places)
 kind_start (Uniform term) q = uniform_start q term.w term.cap (length term.places)
 kind_start (Laminar term) q = laminar_start (length term.places) q term.w term.groups
+kind_start (Graphic term) q = graphic_start q term.w term.ends
+kind_start (Transversal term) q = transversal_start q term.w term.entries
 
 -- what a note keeps is true of a base: the plain kinds keep nothing
 abbrev pub kind_fits : Kind → KindNote → ℤ → List ℤ → Type 0
@@ -71,6 +81,8 @@ kind_fits (Table term) note q x = Unit {0}
 kind_fits (Concave term) note q x = Unit {0}
 kind_fits (Uniform term) note q x = Unit {0}
 kind_fits (Laminar term) note q x = Unit {0}
+kind_fits (Graphic term) note q x = Unit {0}
+kind_fits (Transversal term) note q x = Unit {0}
 
 pub kind-family : (kind : Kind) → IsFamily (length (kind_places kind)) (kind_value kind)
 kind-family (Weight term) = weight-family term.weights
@@ -81,6 +93,8 @@ kind-family (Table term) = table-family term.values
 kind-family (Concave term) = concave-family term.values
 kind-family (Uniform term) = uniform-family term.w term.cap
 kind-family (Laminar term) = laminar-family (length term.places) term.w term.groups
+kind-family (Graphic term) = graphic-family (length term.places) term.w term.ends term.same_count
+kind-family (Transversal term) = transversal-family (length term.places) term.w term.entries term.same_count
 
 pub kind-submodular : (kind : Kind) → IsSubmodular (length (kind_places kind)) (kind_value kind)
 kind-submodular (Weight term) = weight-submodular _ term.weights term.same_count
@@ -91,6 +105,8 @@ kind-submodular (Table term) = term.lawful
 kind-submodular (Concave term) = concave-submodular _ term.values term.counted term.falling
 kind-submodular (Uniform term) = uniform-submodular _ term.w term.cap term.low term.cap_low
 kind-submodular (Laminar term) = laminar-submodular (length term.places) term.w term.groups term.low term.grouped
+kind-submodular (Graphic term) = graphic-submodular (length term.places) term.w term.ends term.same_count term.low
+kind-submodular (Transversal term) = transversal-submodular (length term.places) term.w term.entries term.same_count term.low
 
 pub kind-bounded : (kind : Kind) (s : List Bool) (a : ℤ) → length s ≡ length (kind_places kind) → kind_value kind s ≡ Some a → (neg_ℤ (kind_size kind) ≤ℤ a) × (a ≤ℤ kind_size kind)
 kind-bounded (Weight term) s a h e = weight-bounded term.weights s a e
@@ -101,6 +117,8 @@ kind-bounded (Table term) s a h e = table-bounded term.values s a e
 kind-bounded (Concave term) s a h e = concave-bounded term.values s a e
 kind-bounded (Uniform term) s a h e = uniform-bounded _ term.w term.cap s a term.low term.cap_low h e
 kind-bounded (Laminar term) s a h e = laminar-bounded (length term.places) term.w term.groups term.low term.grouped s a h e
+kind-bounded (Graphic term) s a h e = graphic-bounded (length term.places) term.w term.ends term.same_count term.low s a h e
+kind-bounded (Transversal term) s a h e = transversal-bounded (length term.places) term.w term.entries term.same_count term.low s a h e
 
 pub kind-starts : (kind : Kind) (q : ℤ) → pos 1 ≤ℤ q → (length (kind_start kind q) ≡ length (kind_places kind)) × IsBase (times q (kind_value kind)) (kind_start kind q)
 kind-starts (Weight term) q low = weight-starts _ term.weights q term.same_count
@@ -111,6 +129,8 @@ kind-starts (Table term) q low = table-starts _ q term.values low term.lawful
 kind-starts (Concave term) q low = concave-starts _ q term.values low term.counted term.falling
 kind-starts (Uniform term) q low = uniform-starts _ q term.w term.cap low term.low term.cap_low
 kind-starts (Laminar term) q low = laminar-starts (length term.places) term.w term.groups term.low term.grouped q low
+kind-starts (Graphic term) q low = graphic-starts (length term.places) term.w term.ends term.same_count term.low q low
+kind-starts (Transversal term) q low = transversal-starts (length term.places) term.w term.entries term.same_count term.low q low
 
 pub kind-starts_small : (kind : Kind) (q : ℤ) → pos 1 ≤ℤ q → All (λ a. (neg_ℤ ((pos 2 *ℤ q) *ℤ kind_size kind) ≤ℤ a) × (a ≤ℤ ((pos 2 *ℤ q) *ℤ kind_size kind))) (kind_start kind q)
 kind-starts_small (Weight term) q low = weight-starts_small term.weights q low
@@ -121,3 +141,5 @@ kind-starts_small (Table term) q low = table-starts_small _ q term.values low
 kind-starts_small (Concave term) q low = concave-starts_small _ q term.values low
 kind-starts_small (Uniform term) q low = uniform-starts_small _ q term.w term.cap low term.low term.cap_low
 kind-starts_small (Laminar term) q low = laminar-starts_small (length term.places) term.w term.groups term.low term.grouped q low
+kind-starts_small (Graphic term) q low = graphic-starts_small (length term.places) term.w term.ends term.same_count term.low q low
+kind-starts_small (Transversal term) q low = transversal-starts_small (length term.places) term.w term.entries term.same_count term.low q low

@@ -11,6 +11,7 @@ use sfm_base::{Memory, Set};
 use sfm_concave::{Concave, Uniform};
 use sfm_laminar::Laminar;
 use sfm_law::{Room, Term};
+use sfm_matroid::{Graphic, Transversal};
 use sfm_simple::{Cover, Cut, Need, Table, Weight};
 use std::alloc::Global;
 
@@ -33,6 +34,10 @@ pub enum Kind {
     Uniform(Uniform),
     /// A number for each element that is independent, where groups have caps.
     Laminar(Laminar),
+    /// A number for each edge of a greatest forest.
+    Graphic(Graphic),
+    /// A number for each element of a greatest part with slots of their own.
+    Transversal(Transversal),
 }
 
 /// What is kept beside a base of a kind, so that its reach is found sooner.
@@ -75,6 +80,8 @@ impl Term for Kind {
             Kind::Concave(term) => term.elements(),
             Kind::Uniform(term) => term.elements(),
             Kind::Laminar(term) => term.elements(),
+            Kind::Graphic(term) => term.elements(),
+            Kind::Transversal(term) => term.elements(),
         }
     }
 
@@ -88,6 +95,8 @@ impl Term for Kind {
             Kind::Concave(term) => term.size(),
             Kind::Uniform(term) => term.size(),
             Kind::Laminar(term) => term.size(),
+            Kind::Graphic(term) => term.size(),
+            Kind::Transversal(term) => term.size(),
         }
     }
 
@@ -101,6 +110,8 @@ impl Term for Kind {
             Kind::Concave(term) => term.value(alloc, s),
             Kind::Uniform(term) => term.value(alloc, s),
             Kind::Laminar(term) => term.value(alloc, s),
+            Kind::Graphic(term) => term.value(alloc, s),
+            Kind::Transversal(term) => term.value(alloc, s),
         }
     }
 
@@ -114,6 +125,8 @@ impl Term for Kind {
             Kind::Concave(term) => term.start(alloc, q, x),
             Kind::Uniform(term) => term.start(alloc, q, x),
             Kind::Laminar(term) => term.start(alloc, q, x),
+            Kind::Graphic(term) => term.start(alloc, q, x),
+            Kind::Transversal(term) => term.start(alloc, q, x),
         }
     }
 
@@ -127,6 +140,8 @@ impl Term for Kind {
             Kind::Concave(term) => term.is_base(alloc, q, x),
             Kind::Uniform(term) => term.is_base(alloc, q, x),
             Kind::Laminar(term) => term.is_base(alloc, q, x),
+            Kind::Graphic(term) => term.is_base(alloc, q, x),
+            Kind::Transversal(term) => term.is_base(alloc, q, x),
         }
     }
 
@@ -140,6 +155,8 @@ impl Term for Kind {
             Kind::Concave(term) => term.room(alloc, q, x, u, v),
             Kind::Uniform(term) => term.room(alloc, q, x, u, v),
             Kind::Laminar(term) => term.room(alloc, q, x, u, v),
+            Kind::Graphic(term) => term.room(alloc, q, x, u, v),
+            Kind::Transversal(term) => term.room(alloc, q, x, u, v),
         }
     }
 
@@ -160,6 +177,8 @@ impl Term for Kind {
             Kind::Concave(term) => term.reach(alloc, q, x, u, to),
             Kind::Uniform(term) => term.reach(alloc, q, x, u, to),
             Kind::Laminar(term) => term.reach(alloc, q, x, u, to),
+            Kind::Graphic(term) => term.reach(alloc, q, x, u, to),
+            Kind::Transversal(term) => term.reach(alloc, q, x, u, to),
         }
     }
 
@@ -173,6 +192,8 @@ impl Term for Kind {
             Kind::Concave(term) => term.note(alloc, q, x)?,
             Kind::Uniform(term) => term.note(alloc, q, x)?,
             Kind::Laminar(term) => term.note(alloc, q, x)?,
+            Kind::Graphic(term) => term.note(alloc, q, x)?,
+            Kind::Transversal(term) => term.note(alloc, q, x)?,
         }
         Ok(KindNote::Nothing)
     }
@@ -195,6 +216,8 @@ impl Term for Kind {
             Kind::Concave(term) => term.reach_by(alloc, q, x, &(), u, to),
             Kind::Uniform(term) => term.reach_by(alloc, q, x, &(), u, to),
             Kind::Laminar(term) => term.reach_by(alloc, q, x, &(), u, to),
+            Kind::Graphic(term) => term.reach_by(alloc, q, x, &(), u, to),
+            Kind::Transversal(term) => term.reach_by(alloc, q, x, &(), u, to),
         }
     }
 
@@ -217,6 +240,8 @@ impl Term for Kind {
             Kind::Concave(term) => term.moved(alloc, q, x, &mut (), u, v, a),
             Kind::Uniform(term) => term.moved(alloc, q, x, &mut (), u, v, a),
             Kind::Laminar(term) => term.moved(alloc, q, x, &mut (), u, v, a),
+            Kind::Graphic(term) => term.moved(alloc, q, x, &mut (), u, v, a),
+            Kind::Transversal(term) => term.moved(alloc, q, x, &mut (), u, v, a),
         }
     }
 }

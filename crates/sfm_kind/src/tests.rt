@@ -8,6 +8,7 @@ use sfm_base::{Memory, Set};
 use sfm_concave::{Concave, Uniform};
 use sfm_laminar::{Groups, Laminar};
 use sfm_law::{Room, Term};
+use sfm_matroid::{Entries, Graphic, Transversal};
 use sfm_simple::{Cover, Cut, Need, Table, Weight};
 use std::alloc::Global;
 use std::process::Abort;
@@ -248,6 +249,39 @@ fn laminars(rt: HostRuntime) -> Result<(), Fail> {
         other: &[7, 5],
         room: 0,
         reach: 0,
+    };
+    holds(&rt, rt.alloc(), &kind, &wanted)?;
+    Ok(())
+}
+
+#[test]
+fn graphics(rt: HostRuntime) -> Result<(), Fail> {
+    let kind = Kind::Graphic(Graphic::new(rt.alloc(), &[0, 1], 3, &[(0, 1), (1, 0)])?);
+    let wanted = Wanted {
+        size: 3,
+        values: &[Some(0), Some(3), Some(3), Some(3)],
+        start: &[6, 0],
+        other: &[7, -1],
+        room: 6,
+        reach: 1,
+    };
+    holds(&rt, rt.alloc(), &kind, &wanted)?;
+    Ok(())
+}
+
+#[test]
+fn transversals(rt: HostRuntime) -> Result<(), Fail> {
+    let mut entries = Entries::new(rt.alloc());
+    entries.push(vec![in rt.alloc(); 0u32]?)?;
+    entries.push(vec![in rt.alloc(); 0u32]?)?;
+    let kind = Kind::Transversal(Transversal::new(rt.alloc(), &[0, 1], 3, entries)?);
+    let wanted = Wanted {
+        size: 3,
+        values: &[Some(0), Some(3), Some(3), Some(3)],
+        start: &[6, 0],
+        other: &[7, -1],
+        room: 6,
+        reach: 1,
     };
     holds(&rt, rt.alloc(), &kind, &wanted)?;
     Ok(())

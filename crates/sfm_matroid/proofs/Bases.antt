@@ -1,15 +1,17 @@
 -- Bases of a number times a rank, and how much can be exchanged at one, where what is within the rank is told by tests of its
 -- entries: no entry is above a number, and each test is met. The tests are left open here.
 -- Textbook: Fujishige, Submodular Functions and Optimization, section 4 (exchange capacities).
-use Rattle.std.proofs.Common.{◌≡◌, ◌≢◌, ◌⊎◌, ℕ, ◌<◌, Bool, true, false, List, length, get_or, set, ℤ, pos, ◌+ℤ◌, ◌-ℤ◌, ◌*ℤ◌, ◌≤ℤ◌, Some, sym, ap, ◌∙◌, arith, ⊎_elim, length-set, get_or-set_other, get_or-set_same}
+use Rattle.std.proofs.Common.{◌≡◌, ◌≢◌, ◌⊎◌, ℕ, ◌<◌, Bool, true, false, List, length, get_or, set, ℤ, pos, ◌+ℤ◌, ◌-ℤ◌, ◌*ℤ◌, ◌≤ℤ◌, ◌<ℤ◌, Some, refl, sym, ap, ◌∙◌, arith, ⊎_elim, length-set, get_or-set_other, get_or-set_same}
 use Rattle.std.proofs.lemmas.Bool.{cases_eq}
 use Rattle.std.proofs.lemmas.Int.{ints}
 use Rattle.std.proofs.lemmas.List.{length-replicate}
 use Rattle.sfm_spec.specs.Sets.{Has, whole_set, sum_over}
-use Rattle.sfm_spec.specs.Terms.{times, IsBase, IsCapacity, exchanged}
+use Rattle.sfm_spec.specs.Terms.{times, IsBase, IsCapacity, HasRoom, exchanged}
 use Rattle.sfm_spec.proofs.Scaled.{times-mono, times-assoc}
 use Rattle.sfm_spec.proofs.Search.{within_whole}
-use Rattle.sfm_spec.proofs.Sums.{sum_over-set, length-exchanged}
+use Rattle.sfm_spec.proofs.Sums.{share, sum_over-set, length-exchanged, sum_over-exchanged}
+use Rattle.sfm_spec.proofs.Sets.{Has-whole}
+use Rattle.sfm_spec.proofs.Exchange.{base_between}
 use Rattle.sfm_law.proofs.Listing.{own_listing, base_from_leaves}
 use Rattle.sfm_law.proofs.Monotone.{AreCounts, without, sum_over-without}
 use Rattle.sfm_matroid.specs.Matroids.{IsMatroid, AreRanks, rank-mono}
@@ -203,3 +205,53 @@ module _ (k n : ℕ) (q w : ℤ) (low : pos 0 ≤ℤ (q *ℤ w)) (IsIndependent 
       } where
         some_same : {a b : ℤ} → Some a ≡ Some b → a ≡ b
         some_same h = cc
+
+      -- ---- what v can give to u
+
+      exchanged-places : (a : ℤ) → length (exchanged x u v a) ≡ k
+      exchanged-places a = length-exchanged x u v a ∙ sized
+
+      -- a fact of each entry of x once u got a of v
+      by_exchange : (a : ℤ) (P : ℕ → ℤ → Type 0) → P u (get_or x u (pos 0) +ℤ a) → P v (get_or x v (pos 0) -ℤ a) → ((e : ℕ) → e ≢ u → e ≢ v → P e (get_or x e (pos 0))) → (e : ℕ) → P e (get_or (exchanged x u v a) e (pos 0))
+      by_exchange a P atu atv others e = ⊎_elim
+          (λ (same : e ≡ u). rw (same, moved-u a) atu)
+          (λ (eu : e ≢ u). ⊎_elim
+          (λ (same : e ≡ v). rw (same, moved-v a) atv)
+          (λ (ev : e ≢ v). rw (moved-other a e eu ev) (others e eu ev))
+          (cases_eq e v))
+          (cases_eq e u)
+
+      pub given-counts : pos 1 ≤ℤ get_or x v (pos 0) → AreCounts (exchanged x u v (pos 1))
+      given-counts has e h = by_exchange (pos 1) (λ e y. e < k → pos 0 ≤ℤ y) (λ l. let c = counts u (omega (arith, sized, ku)) in omega (arith, ints, c)) (λ l. omega (arith, ints, has)) (λ e eu ev l. counts e (omega (arith, l, sized))) e (let p = exchanged-places (pos 1) in omega (arith, h, p))
+
+      -- u has less than q·w, v has something, and each test is met once v gave one to u
+      pub record CanGive : Type 0 where
+        pub under_cap : get_or x u (pos 0) <ℤ (q *ℤ w)
+        pub has : pos 1 ≤ℤ get_or x v (pos 0)
+        pub met : (t : ℕ) → t < n → Meets t (exchanged x u v (pos 1))
+
+      pub gives_room : CanGive → HasRoom (times q (rank_value w rank)) x u v
+      gives_room give = (pos 1, omega (arith, ints), passes_base (exchanged x u v (pos 1)) (exchanged-places (pos 1)) (given-counts give.has) pass total) where
+        pass : PassesTests (exchanged x u v (pos 1))
+        pass = record { capped = λ e lt. by_exchange (pos 1) (λ e y. e < k → y ≤ℤ (q *ℤ w)) (λ l. let c = give.under_cap in omega (arith, ints, c)) (λ l. let p = passes.capped v l in omega (arith, ints, p)) (λ e eu ev l. passes.capped e l) e lt; met = give.met }
+
+        total : sum_over (whole_set k) (exchanged x u v (pos 1)) ≡ ((q *ℤ w) *ℤ pos (rank (whole_set k)))
+        total =
+            let hu : share (whole_set k) u (pos 1) ≡ pos 1 = rw (Has-whole k u ku) refl in
+            let hv : share (whole_set k) v (pos 1) ≡ pos 1 = rw (Has-whole k v kv) refl in
+            let e = sum_over-exchanged (whole_set k) x u v (pos 1) (length-replicate k true ∙ sym sized) (omega (arith, sized, ku)) (omega (arith, sized, kv)) ne in
+            let t = base_total x sized base in
+            omega (arith, ints, hu, hv, e, t)
+
+      pub room_gives : HasRoom (times q (rank_value w rank)) x u v → CanGive
+      room_gives (a, one, moved) =
+          let lu : u < length x = omega (arith, sized, ku) in
+          let lv : v < length x = omega (arith, sized, kv) in
+          let next = base_between base lu lv ne (pos 1) a (omega (arith, ints)) one moved in
+          let km = exchanged-places (pos 1) in
+          let p = base_passes (exchanged x u v (pos 1)) km next in
+          let c = base_counts (exchanged x u v (pos 1)) km next v (omega (arith, km, kv)) in
+          let h = p.capped u ku in
+          let mu = moved-u (pos 1) in
+          let mv = moved-v (pos 1) in
+          record { under_cap = omega (arith, ints, h, mu); has = omega (arith, ints, c, mv); met = p.met }

@@ -10,7 +10,8 @@ use Rattle.sfm_spec.proofs.Scaled.{times-assoc}
 use Rattle.sfm_matroid.specs.Cuts.{IsWithinEnds}
 use Rattle.sfm_matroid.specs.Runs.{EndsBelow}
 use Rattle.sfm_matroid.specs.Ends.{edges_of}
-use Rattle.sfm_matroid.specs.Numbered.{numbered, length-numbered, numbered_below}
+use Rattle.sfm_matroid.specs.Numbered.{IsEnd, numbered, length-numbered, numbered_below}
+use Rattle.sfm_matroid.proofs.UsedEnds.{within_all}
 use Rattle.sfm_matroid.proofs.Labels.{length-edges}
 use Rattle.sfm_matroid.specs.Forests.{graphic_rank, forest-matroid, graphic-ranks}
 use Rattle.sfm_matroid.specs.GraphicLaws.{graphic_value, graphic_size}
@@ -62,8 +63,9 @@ module _ (edges : List Edge) (items : List (ℕ × ℕ)) (are : edges_of items �
   pub kept_below : (given : List (ℕ × ℕ)) → given ≡ items → EndsBelow (edges_of given) (2 * length given)
   kept_below given is = rw (is, are, as_many) (numbered_below edges [])
 
-  pub kept_within : (given : List (ℕ × ℕ)) → given ≡ items → (c : ℤ) (x : List ℤ) (a : ℕ) → IsWithinEnds (numbered edges) (2 * length edges) c x a → IsWithinEnds (edges_of given) (2 * length given) c x a
-  kept_within given is c x a h = rw (is, are, as_many) h
+  pub ends_kept : (given : List (ℕ × ℕ)) → given ≡ items → (c : ℤ) (x : List ℤ) (a : ℕ) → (IsEnd (numbered edges) a → IsWithinEnds (numbered edges) (2 * length edges) c x a) → IsEnd (edges_of given) a → IsWithinEnds (edges_of given) (2 * length given) c x a
+  ends_kept given is c x a h = rw (is, are, as_many) h
 
-  pub within_kept : (c : ℤ) (x : List ℤ) (a : ℕ) → IsWithinEnds (edges_of items) (2 * length items) c x a → IsWithinEnds (numbered edges) (2 * length edges) c x a
-  within_kept c x a h = rw (← are, ← as_many) h
+  -- the tests of the ends are enough
+  pub all_ends : (c : ℤ) (x : List ℤ) → pos 0 ≤ℤ c → ((a : ℕ) → a < 2 * length items → IsEnd (edges_of items) a → IsWithinEnds (edges_of items) (2 * length items) c x a) → (a : ℕ) → a < 2 * length edges → IsWithinEnds (numbered edges) (2 * length edges) c x a
+  all_ends c x low within a lt = within_all (numbered edges) (2 * length edges) c x low (numbered_below edges []) (let l = length-numbered edges [] in omega (arith, lt, l)) (rw (are, as_many) at within) a lt

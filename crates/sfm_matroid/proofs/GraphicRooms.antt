@@ -1,7 +1,8 @@
--- How much can be exchanged at a base of a graphic term: by the most that an edge gets in each test, without another edge.
-use Rattle.std.proofs.Common.{◌≡◌, ◌≢◌, ℕ, ◌*◌, ◌<◌, List, [], length, get_or, set, ℤ, pos, ◌-ℤ◌, ◌*ℤ◌, ◌≤ℤ◌, sym, ◌∙◌, arith, inl, inr, ⊎_elim}
+-- How much can be exchanged at a base of a graphic term: by the most that an edge gets in each test, without
+-- another edge; and to whom an edge has room, by those that can lend to it in each test.
+use Rattle.std.proofs.Common.{◌≡◌, ◌≢◌, ◌↔◌, ℕ, ◌*◌, ◌<◌, Bool, List, [], length, get_or, set, ℤ, pos, ◌-ℤ◌, ◌*ℤ◌, ◌≤ℤ◌, sym, ◌∙◌, arith, inl, inr, ⊎_elim}
 use Rattle.std.proofs.lemmas.Int.{ints, by_lt_z}
-use Rattle.sfm_spec.specs.Terms.{times, IsBase, IsCapacity}
+use Rattle.sfm_spec.specs.Terms.{times, IsBase, IsCapacity, HasRoom, exchanged}
 use Rattle.sfm_spec.specs.Kinds.{Edge, IsForest}
 use Rattle.sfm_assign.specs.Splits.{CanBeMet}
 use Rattle.sfm_matroid.specs.Cuts.{IsWithinEnds}
@@ -9,11 +10,17 @@ use Rattle.sfm_matroid.specs.Ends.{edges_of}
 use Rattle.sfm_matroid.specs.Numbered.{numbered, length-numbered, numbered_below, end_lists, vertex_capacities}
 use Rattle.sfm_matroid.specs.Forests.{graphic_rank, forest-matroid, graphic-ranks}
 use Rattle.sfm_matroid.specs.GraphicLaws.{graphic_value}
-use Rattle.sfm_matroid.proofs.Bases.{IsMostAt, raised-places, raised-counts, met_nothing, least_capacity}
-use Rattle.sfm_matroid.proofs.GraphicBases.{as_many}
+use Rattle.sfm_matroid.proofs.Bases.{IsMostAt, raised-places, raised-counts, met_nothing, least_capacity, base_counts, CanGive, given-counts, gives_room, room_gives}
+use Rattle.sfm_matroid.proofs.GraphicBases.{as_many, base_tests}
+use Rattle.sfm_spec.specs.Sets.{Has}
+use Rattle.sfm_law.specs.Room.{IsReach}
+use Rattle.sfm_matroid.proofs.Keeping.{reach_kept}
+use Rattle.sfm_matroid.proofs.UsedEnds.{within_all}
 use Rattle.sfm_matroid.proofs.MatroidTests.{numbered_tests}
 use Rattle.sfm_matroid.proofs.SplitTests.{split_within_ends, within_ends_split}
 use Rattle.sfm_matroid.specs.Leasts.{IsLeastOf, IsMostOf}
+use Rattle.sfm_matroid.specs.Givers.{IsGiver, AreKept, CanLend}
+use Rattle.sfm_spec.proofs.Sums.{length-exchanged}
 
 module _ (k : ℕ) (q w : ℤ) (edges : List Edge) (same : length edges ≡ k) (low : pos 0 ≤ℤ (q *ℤ w)) (x : List ℤ) (kx : length x ≡ k) (base : IsBase (times q (graphic_value w edges)) x)
     (u v : ℕ) (xu : u < length x) (xv : v < length x) (ne : u ≢ v) where
@@ -59,6 +66,35 @@ module _ (k : ℕ) (q w : ℤ) (edges : List Edge) (same : length edges ≡ k) (
     reached = ⊎_elim (λ e. inl e) (λ rest. ⊎_elim (λ e. inr (inl e)) (λ (t, lt, r, most, e). inr (inr (t, lt, r, most_at t lt r most, e))) rest) least.reached;
   })
 
+  exchanged-places : length (exchanged x u v (pos 1)) ≡ length (numbered edges)
+  exchanged-places = length-exchanged x u v (pos 1) ∙ (sized ∙ sym (length-numbered edges []))
+
+  -- v can lend to u in each test
+  abbrev CanLendAll : Type 0
+  CanLendAll = (a : ℕ) → a < 2 * length edges → CanLend (numbered edges) (2 * length edges) (q *ℤ w) x u v a
+
+  giver_room : IsGiver x (q *ℤ w) u v → CanLendAll → HasRoom (times q (graphic_value w edges)) x u v
+  giver_room giver lend = gives_room (length edges) (2 * length edges) q w low (IsForest edges) (graphic_rank edges) (forest-matroid edges) (graphic-ranks edges) (λ a x. IsWithinEnds (numbered edges) (2 * length edges) (q *ℤ w) x a) (numbered_tests edges q w low) x sized base u v ku kv ne (record { under_cap = giver.1; has = giver.2; met = within_all (numbered edges) (2 * length edges) (q *ℤ w) (exchanged x u v (pos 1)) low (numbered_below edges []) (let h = ku in let l = length-numbered edges [] in omega (arith, h, l)) (λ a lt end. split_within_ends (numbered edges) (2 * length edges) (numbered_below edges []) (q *ℤ w) (exchanged x u v (pos 1)) exchanged-places a lt (lend a lt end)) })
+
+  room_giver : HasRoom (times q (graphic_value w edges)) x u v → IsGiver x (q *ℤ w) u v × CanLendAll
+  room_giver room =
+      let give = room_gives (length edges) (2 * length edges) q w low (IsForest edges) (graphic_rank edges) (forest-matroid edges) (graphic-ranks edges) (λ a x. IsWithinEnds (numbered edges) (2 * length edges) (q *ℤ w) x a) (numbered_tests edges q w low) x sized base u v ku kv ne room in
+      let counts = given-counts (length edges) (2 * length edges) q w low (IsForest edges) (graphic_rank edges) (forest-matroid edges) (graphic-ranks edges) (λ a x. IsWithinEnds (numbered edges) (2 * length edges) (q *ℤ w) x a) (numbered_tests edges q w low) x sized base u v ku kv ne give.has in
+      (((λ e. ne (sym e)), give.under_cap, give.has), (λ a lt end. within_ends_split (numbered edges) (2 * length edges) (numbered_below edges []) (q *ℤ w) (exchanged x u v (pos 1)) exchanged-places a lt low counts (give.met a lt)))
+
+module _ (k : ℕ) (q w : ℤ) (edges : List Edge) (same : length edges ≡ k) (low : pos 0 ≤ℤ (q *ℤ w)) (x : List ℤ) (kx : length x ≡ k) (base : IsBase (times q (graphic_value w edges)) x) where
+  -- a base is split itself in each test
+  pub base_split : (t : ℕ) → t < 2 * length edges → CanBeMet x (end_lists (numbered edges)) (vertex_capacities (2 * length edges) (q *ℤ w) t)
+  base_split t lt = within_ends_split (numbered edges) (2 * length edges) (numbered_below edges []) (q *ℤ w) x (kx ∙ sym (length-numbered edges [] ∙ same)) t lt low
+      (base_counts (length edges) (2 * length edges) q w low (IsForest edges) (graphic_rank edges) (forest-matroid edges) (graphic-ranks edges) (λ a x. IsWithinEnds (numbered edges) (2 * length edges) (q *ℤ w) x a) x (kx ∙ sym same) base)
+      (base_tests k q w edges same low x kx base t lt)
+
+  -- what is kept of the givers is the reach
+  pub reach_ends : (u : ℕ) → u < length x → (before after : List Bool) → length after ≡ length x → ((v : ℕ) → v < length x → Has before v ↔ IsGiver x (q *ℤ w) u v)
+      → AreKept (λ v. (a : ℕ) → a < 2 * length edges → CanLend (numbered edges) (2 * length edges) (q *ℤ w) x u v a) before after → IsReach (times q (graphic_value w edges)) x u after
+  reach_ends u xu before after places exact kept = reach_kept (times q (graphic_value w edges)) x (q *ℤ w) u (λ v. (a : ℕ) → a < 2 * length edges → CanLend (numbered edges) (2 * length edges) (q *ℤ w) x u v a) before after places exact kept
+      (λ v xv ne. giver_room k q w edges same low x kx base u v xu xv ne) (λ v xv ne. room_giver k q w edges same low x kx base u v xu xv ne)
+
 -- ---- numbered ends as they are kept
 
 module _ (edges : List Edge) (items : List (ℕ × ℕ)) (are : edges_of items ≡ numbered edges) (given : List (ℕ × ℕ)) (is : given ≡ items) (c : ℤ) (x : List ℤ) where
@@ -67,3 +103,6 @@ module _ (edges : List Edge) (items : List (ℕ × ℕ)) (are : edges_of items �
 
   pub least_kept : (u : ℕ) (first second less a : ℤ) → IsLeastOf (IsMostOf (edges_of given) (2 * length given) c x u) first second less (2 * length given) a → IsLeastOf (IsMostOf (numbered edges) (2 * length edges) c x u) first second less (2 * length edges) a
   least_kept u first second less a h = rw (is, are, as_many edges items are) at h
+
+  pub lend_kept : (u : ℕ) (before after : List Bool) → AreKept (λ v. (a : ℕ) → a < 2 * length given → CanLend (edges_of given) (2 * length given) c x u v a) before after → AreKept (λ v. (a : ℕ) → a < 2 * length edges → CanLend (numbered edges) (2 * length edges) c x u v a) before after
+  lend_kept u before after h = rw (is, are, as_many edges items are) at h

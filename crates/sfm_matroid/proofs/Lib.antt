@@ -4,10 +4,12 @@ mod SplitTests
 mod Matched
 mod Numbering
 mod Totals
+mod UsedEnds
 mod GraphicBases
 mod GraphicRooms
 mod TransversalBases
 mod LeastSteps
+mod Keeping
 mod Puts
 mod Fits
 mod Kept

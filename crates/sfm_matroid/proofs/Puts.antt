@@ -15,7 +15,3 @@ put_more P k to n b same is lt here = record {
       (λ ge. let i : e ≡ n = omega arith in rw (i, get_or-set_same to n b false (omega (arith, same))) here)
       (cases_lt e n);
 }
-
--- a test of a number
-pub some_test : (a : ℤ) → IsTrue (le_z (pos 1) a) ↔ (pos 1 ≤ℤ a)
-some_test a = ((λ t. omega (arith, ints, t)), (λ h. ⊎_elim (λ t. t) (λ t. absurd (omega (arith, ints, t, h))) (cases_Bool (le_z (pos 1) a))))

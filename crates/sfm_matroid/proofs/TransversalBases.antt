@@ -1,12 +1,16 @@
 -- Bases of a transversal term by the test of its code, and how much can be exchanged at one: by the most that an element gets in
--- the test, without another element.
-use Rattle.std.proofs.Common.{◌≡◌, ◌≢◌, ℕ, ◌<◌, List, length, get_or, set, replicate, ℤ, pos, ◌-ℤ◌, ◌*ℤ◌, ◌≤ℤ◌, sym, ap, ◌∙◌, arith, inl, inr, ⊎_elim}
+-- the test, without another element; and to whom an element has room, by those that can lend to it.
+use Rattle.std.proofs.Common.{◌≡◌, ◌≢◌, ◌↔◌, ℕ, ◌<◌, Bool, List, length, get_or, set, replicate, ℤ, pos, ◌-ℤ◌, ◌*ℤ◌, ◌≤ℤ◌, sym, ap, ◌∙◌, arith, inl, inr, ⊎_elim}
 use Rattle.std.specs.List.{All}
 use Rattle.std.proofs.lemmas.Int.{ints, by_lt_z}
 use Rattle.std.proofs.lemmas.List.{get_or_default}
 use Rattle.sfm_spec.specs.Bounds.{total_of}
-use Rattle.sfm_spec.specs.Sets.{whole_set, sum_over}
-use Rattle.sfm_spec.specs.Terms.{times, IsBase, IsCapacity}
+use Rattle.sfm_spec.specs.Sets.{Has, whole_set, sum_over}
+use Rattle.sfm_spec.specs.Terms.{times, IsBase, IsCapacity, HasRoom, exchanged}
+use Rattle.sfm_spec.proofs.Sums.{length-exchanged}
+use Rattle.sfm_law.specs.Room.{IsReach}
+use Rattle.sfm_matroid.specs.Givers.{IsGiver, AreKept}
+use Rattle.sfm_matroid.proofs.Keeping.{reach_kept}
 use Rattle.sfm_spec.specs.Kinds.{IsMatchable}
 use Rattle.sfm_spec.proofs.Scaled.{times-assoc}
 use Rattle.sfm_assign.specs.Splits.{CanBeMet, IsMost}
@@ -15,7 +19,7 @@ use Rattle.sfm_matroid.specs.Matchings.{matching-matroid}
 use Rattle.sfm_matroid.specs.Ore.{IsWithinSlots}
 use Rattle.sfm_matroid.specs.Transversals.{transversal_rank, transversal-ranks}
 use Rattle.sfm_matroid.specs.TransversalLaws.{transversal_value, transversal_size}
-use Rattle.sfm_matroid.proofs.Bases.{IsMostAt, base_counts, base_total, base_passes, passes_base, raised-places, raised-counts, met_nothing, least_capacity}
+use Rattle.sfm_matroid.proofs.Bases.{IsMostAt, base_counts, base_total, base_passes, passes_base, raised-places, raised-counts, met_nothing, least_capacity, CanGive, given-counts, gives_room, room_gives}
 use Rattle.sfm_matroid.proofs.Matched.{slots_each}
 use Rattle.sfm_matroid.proofs.MatroidTests.{transversal_tests}
 use Rattle.sfm_matroid.proofs.SplitTests.{split_within_slots, within_slots_split}
@@ -93,3 +97,27 @@ module _ (k : ℕ) (q w : ℤ) (entries : List (List ℕ)) (m : ℕ) (exist : Al
       under_most = λ t lt. let (r, most, le) = least.under_each t lt in (r, most_at t r most, le);
       reached = ⊎_elim (λ e. inl e) (λ rest. ⊎_elim (λ e. inr (inl e)) (λ (t, lt, r, most, e). inr (inr (t, lt, r, most_at t r most, e))) rest) least.reached;
     })
+
+    -- ---- what v can give to u
+
+    exchanged-places : length (exchanged x u v (pos 1)) ≡ length entries
+    exchanged-places = length-exchanged x u v (pos 1) ∙ sized
+
+    giver_room : IsGiver x (q *ℤ w) u v → CanBeMet (exchanged x u v (pos 1)) entries (replicate m (q *ℤ w)) → HasRoom (times q (transversal_value w entries)) x u v
+    giver_room giver lend = gives_room (length entries) 1 q w low (IsMatchable entries) (transversal_rank entries) (matching-matroid (length entries) entries) (transversal-ranks entries) (λ a x. IsWithinSlots entries m (q *ℤ w) x) (transversal_tests entries m (slots_each entries m exist) q w low) x sized base u v ku kv ne (record { under_cap = giver.1; has = giver.2; met = λ t lt. split_within_slots entries m exist (q *ℤ w) (exchanged x u v (pos 1)) exchanged-places lend })
+
+    room_giver : HasRoom (times q (transversal_value w entries)) x u v → IsGiver x (q *ℤ w) u v × CanBeMet (exchanged x u v (pos 1)) entries (replicate m (q *ℤ w))
+    room_giver room =
+        let give = room_gives (length entries) 1 q w low (IsMatchable entries) (transversal_rank entries) (matching-matroid (length entries) entries) (transversal-ranks entries) (λ a x. IsWithinSlots entries m (q *ℤ w) x) (transversal_tests entries m (slots_each entries m exist) q w low) x sized base u v ku kv ne room in
+        let counts = given-counts (length entries) 1 q w low (IsMatchable entries) (transversal_rank entries) (matching-matroid (length entries) entries) (transversal-ranks entries) (λ a x. IsWithinSlots entries m (q *ℤ w) x) (transversal_tests entries m (slots_each entries m exist) q w low) x sized base u v ku kv ne give.has in
+        (((λ e. ne (sym e)), give.under_cap, give.has), within_slots_split entries m exist (q *ℤ w) (exchanged x u v (pos 1)) exchanged-places low counts (give.met 0 (omega arith)))
+
+  -- a base is split itself
+  pub base_split : IsBase (times q (transversal_value w entries)) x → CanBeMet x entries (replicate m (q *ℤ w))
+  base_split base = within_slots_split entries m exist (q *ℤ w) x sized low (base_counts (length entries) 1 q w low (IsMatchable entries) (transversal_rank entries) (matching-matroid (length entries) entries) (transversal-ranks entries) (λ a x. IsWithinSlots entries m (q *ℤ w) x) x sized base) (base_held base)
+
+  -- what is kept of the givers is the reach
+  pub reach_slots : IsBase (times q (transversal_value w entries)) x → (u : ℕ) → u < length x → (before after : List Bool) → length after ≡ length x → ((v : ℕ) → v < length x → Has before v ↔ IsGiver x (q *ℤ w) u v)
+      → AreKept (λ v. CanBeMet (exchanged x u v (pos 1)) entries (replicate m (q *ℤ w))) before after → IsReach (times q (transversal_value w entries)) x u after
+  reach_slots base u xu before after places exact kept = reach_kept (times q (transversal_value w entries)) x (q *ℤ w) u (λ v. CanBeMet (exchanged x u v (pos 1)) entries (replicate m (q *ℤ w))) before after places exact kept
+      (λ v xv ne. giver_room base u v xu xv ne) (λ v xv ne. room_giver base u v xu xv ne)

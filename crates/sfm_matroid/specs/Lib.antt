@@ -10,6 +10,7 @@ pub mod Ends
 pub mod GraphicLaws
 pub mod Numbered
 pub mod Leasts
+pub mod Givers
 pub mod Matchings
 pub mod Cuts
 pub mod Ore

@@ -2,25 +2,28 @@
 // edges of it: where it is a forest. The edges that are taken one after another, unless they close a trail, are a greatest
 // forest of a part, so their count is the rank. The bases of q times the term are told by a test for each vertex, and the room
 // of (u, v) is the least of what v has, what u lacks of q·w, and what u lacks of the most that it gets in each test without v.
+// To whom u has room is told by one search in each test: to those that have something and can lend to u in all of them.
 ghost use Rattle.std.specs.Prelude.{◌≡◌, ◌≢◌, ◌↔◌, ◌*◌, IsTrue, ℕ, ◌<◌, ◌≤◌, ◌^◌, Bool, List, length, slice_index_or, ℤ, pos, neg_ℤ, ◌+ℤ◌, ◌-ℤ◌, ◌*ℤ◌, ◌≤ℤ◌, IfOk, OnOk, Some};
 ghost use Rattle.std.specs.List.{All};
-ghost use Rattle.sfm_assign.specs.Splits.{IsAmount};
+ghost use Rattle.sfm_spec.specs.Sets.{Has};
+ghost use Rattle.sfm_assign.specs.Splits.{IsAmount, CanBeMet};
 ghost use Rattle.sfm_spec.specs.Bounds.{IsAtMost, IsEntry, IsFactor, IsGiven, AreElements};
 ghost use Rattle.sfm_spec.specs.Terms.{SetFunction, IsBase, IsCapacity, IsFamily, IsSubmodular, IsGreedy, HasRoom, exchanged, times};
 ghost use Rattle.sfm_law.specs.Room.{IsRoom, IsReach, IsWithinRoom};
 ghost use Rattle.sfm_spec.specs.Kinds.{IsForest, IsRank, IsRankFunction};
 ghost use Rattle.sfm_matroid.specs.Ends.{edges_of};
 ghost use Rattle.sfm_matroid.specs.Cuts.{IsWithinEnds};
-ghost use Rattle.sfm_matroid.specs.Numbered.{numbered};
+ghost use Rattle.sfm_matroid.specs.Numbered.{numbered, end_lists, vertex_capacities};
+ghost use Rattle.sfm_matroid.specs.Givers.{AreKept, CanLend};
 ghost use Rattle.sfm_matroid.specs.Forests.{graphic_rank};
 ghost use Rattle.sfm_matroid.specs.GraphicLaws.{graphic_value, graphic_size, graphic_start, graphic_basis, graphic-family, graphic-submodular, graphic-bounded, graphic-starts, graphic-starts_small};
 
 use crate::ends::Ends;
+use crate::givers::{givers, keep_by_ends};
 use crate::growing::{grow, whole};
 use crate::number::{are_within, has_sum, product};
-use crate::place::put;
 use crate::room::least_left;
-use crate::testing::{numbered, passes};
+use crate::testing::{numbered, passes_end};
 use sfm_base::{Memory, Places, Set};
 use sfm_law::{Room, Term};
 use std::alloc::Global;
@@ -34,12 +37,15 @@ pub struct Graphic {
     pub ends: Ends,
     /// The edges that are taken one after another unless they close a trail.
     pub basis: Set,
+    /// The ends by their numbers: the tests that tell bases go over these.
+    numbers: Vec<(usize, usize)>,
     pub ghost elements: { AreElements places },
     pub ghost few: { length places ≤ 256 },
     pub ghost low: { pos 0 ≤ℤ w },
     pub ghost given: { IsGiven w },
     pub ghost same_count: { length ends ≡ length places },
     pub ghost based: { basis ≡ graphic_basis ends },
+    ghost of_ends: { edges_of numbers.items ≡ numbered ends },
 }
 
 impl Graphic {
@@ -65,12 +71,14 @@ impl Graphic {
         let places = Places::from_slice(alloc, elements)?;
         let all = whole(alloc, ends.len())?;
         let basis = grow(alloc, ends, &all)?;
+        let numbers = numbered(alloc, ends)?;
         let ends = Ends::from_slice(alloc, ends)?;
         Ok(Graphic {
             places,
             w,
             ends,
             basis,
+            numbers,
         })
     }
 
@@ -166,9 +174,8 @@ impl Graphic {
         requires high { most ≤ℤ pos (10 ^ 24) }
         ensures { IfOk result (λ r. IsTrue r ↔ ((a : ℕ) → a < 2 * length self.now.ends → IsWithinEnds (numbered self.now.ends) (2 * length self.now.ends) most x.now a)) }
     {
-        let ends = numbered(alloc, self.ends.as_slice())?;
-        for a in 0..2 * ends.len() {
-            if !passes(alloc, &ends, x, most, a)? {
+        for a in 0..2 * self.numbers.len() {
+            if !passes_end(alloc, &self.numbers, x, most, a)? {
                 return Ok(false);
             }
         }
@@ -217,8 +224,7 @@ impl Graphic {
         ensures { IfOk result (IsCapacity (times q (graphic_value self.now.w self.now.ends)) x.now u v) }
     {
         let cap = product(q, self.w);
-        let ends = numbered(alloc, self.ends.as_slice())?;
-        let least = least_left(alloc, &ends, x, cap, u, v)?;
+        let least = least_left(alloc, &self.numbers, x, cap, u, v)?;
         Ok(least)
     }
 
@@ -248,28 +254,30 @@ impl Graphic {
         Ok(Room::Upto(most))
     }
 
-    /// Whether v is not u, and u has room to it.
-    fn has_room(
+    /// Keeps those edges of a set that can lend to u in each test.
+    fn keep_all(
         &self,
         alloc: Global,
-        q: i128,
         x: &[i128],
+        cap: i128,
         u: usize,
-        v: usize,
-    ) -> Result<bool, Memory>
-        requires factor { IsFactor q }
+        to: &mut Set,
+    ) -> Result<(), Memory>
         requires entries { length x.now ≡ length self.now.places }
-        requires small { All IsEntry x.now }
-        requires base { IsBase (times q (graphic_value self.now.w self.now.ends)) x.now }
-        requires from { u < length x.now }
-        requires onto { v < length x.now }
-        ensures { IfOk result (λ r. IsTrue r ↔ ((v ≢ u) × HasRoom (times q (graphic_value self.now.w self.now.ends)) x.now u v)) }
+        requires amounts { All IsAmount x.now }
+        requires low { pos 0 ≤ℤ cap }
+        requires high { cap ≤ℤ pos (10 ^ 24) }
+        requires place { u < length x.now }
+        requires met { (t : ℕ) → t < 2 * length self.now.ends → CanBeMet x.now (end_lists (numbered self.now.ends)) (vertex_capacities (2 * length self.now.ends) cap t) }
+        requires sized { length to.old ≡ length x.now }
+        requires givers { (v : ℕ) → Has to.old v → (v ≢ u) × (pos 1 ≤ℤ slice_index_or x.now v (pos 0)) }
+        ensures places { length to.new ≡ length to.old }
+        ensures kept { OnOk result (AreKept (λ v. (a : ℕ) → a < 2 * length self.now.ends → CanLend (numbered self.now.ends) (2 * length self.now.ends) cap x.now u v a) to.old to.new) }
     {
-        if v == u {
-            return Ok(false);
+        for a in 0..2 * self.numbers.len() {
+            keep_by_ends(alloc, &self.numbers, x, cap, a, u, to)?;
         }
-        let most = self.capacity(alloc, q, x, u, v)?;
-        Ok(most >= 1)
+        Ok(())
     }
 
     /// Writes the places other than u to which u has room at a base.
@@ -294,10 +302,9 @@ impl Graphic {
         ensures places { length to.new ≡ length to.old }
         ensures reached { OnOk result (IsReach (times q (graphic_value self.now.w self.now.ends)) x.now u to.new) }
     {
-        for v in 0..x.len() {
-            let member = self.has_room(alloc, q, x, u, v)?;
-            put(to, v, member);
-        }
+        let cap = product(q, self.w);
+        givers(x, cap, u, to);
+        self.keep_all(alloc, x, cap, u, to)?;
         Ok(())
     }
 }

@@ -4,6 +4,7 @@
 
 pub mod ends;
 pub mod entries;
+mod givers;
 pub mod graphic;
 mod growing;
 mod matching;

@@ -1,12 +1,13 @@
 // The tests that tell a base of a graphic term. For each vertex, each edge is a demand that is split over its two ends, which
-// hold the same number at most, and that vertex nothing. The vertices are numbered by where they first stand among the ends.
+// hold the same number at most, and that vertex nothing. The vertices are numbered by where they first stand among the ends. A
+// number that no end has is left out: its test asks no more than that of any end.
 ghost use Rattle.std.specs.Prelude.{◌≡◌, ◌↔◌, ◌*◌, ◌<◌, ◌≤◌, ◌^◌, length, pos, ◌≤ℤ◌, IfOk, IsTrue};
 ghost use Rattle.std.specs.List.{All};
 ghost use Rattle.sfm_assign.specs.Splits.{IsAmount};
 ghost use Rattle.sfm_matroid.specs.Ends.{edges_of};
 ghost use Rattle.sfm_matroid.specs.Cuts.{IsWithinEnds};
 ghost use Rattle.sfm_matroid.specs.Runs.{EndsBelow};
-ghost use Rattle.sfm_matroid.specs.Numbered.{number, numbered, end_lists, vertex_capacities};
+ghost use Rattle.sfm_matroid.specs.Numbered.{IsEnd, number, numbered, end_lists, vertex_capacities};
 
 use sfm_assign::{AssignEnd, Demand, assign};
 use sfm_base::Memory;
@@ -66,8 +67,15 @@ pub(crate) fn demand(
     Ok(demand)
 }
 
+/// Whether a vertex is an end of an edge.
+pub(crate) fn is_end(ends: &[(usize, usize)], a: usize) -> bool
+    ensures { IsTrue result ↔ IsEnd (edges_of ends.now) a }
+{
+    ends.iter().any(|pair| pair.0 == a || pair.1 == a)
+}
+
 /// Whether no edges get more than a number for each of their ends but a.
-pub(crate) fn passes(
+fn passes(
     alloc: Global,
     ends: &[(usize, usize)],
     x: &[i128],
@@ -89,4 +97,28 @@ pub(crate) fn passes(
         Err(AssignEnd::Shortage { .. }) => Ok(false),
         Err(AssignEnd::Memory) => Err(Memory),
     }
+}
+
+/// The same, told of ends alone.
+pub(crate) fn passes_end(
+    alloc: Global,
+    ends: &[(usize, usize)],
+    x: &[i128],
+    most: i128,
+    a: usize,
+) -> Result<bool, Memory>
+    requires few { length ends.now ≤ 256 }
+    requires entries { length x.now ≡ length ends.now }
+    requires amounts { All IsAmount x.now }
+    requires low { pos 0 ≤ℤ most }
+    requires high { most ≤ℤ pos (10 ^ 24) }
+    requires vertex { a < 2 * length ends.now }
+    requires below { EndsBelow (edges_of ends.now) (2 * length ends.now) }
+    ensures { IfOk result (λ r. IsTrue r ↔ (IsEnd (edges_of ends.now) a → IsWithinEnds (edges_of ends.now) (2 * length ends.now) most x.now a)) }
+{
+    if !is_end(ends, a) {
+        return Ok(true);
+    }
+    let passed = passes(alloc, ends, x, most, a)?;
+    Ok(passed)
 }

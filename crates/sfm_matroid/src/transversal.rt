@@ -2,7 +2,7 @@
 // their own entries, all distinct. The elements that are taken one after another while their slots suffice are a greatest
 // independent part, so their count is the rank. The bases of q times the term are told by one test: the entries are split over
 // slots that hold q·w each. The room of (u, v) is the least of what v has, what u lacks of q·w, and what u lacks of the most
-// that it gets in the test without v.
+// that it gets in the test without v. To whom u has room is told by one search in the test: to those that can lend to u.
 ghost use Rattle.std.specs.Prelude.{◌≡◌, ◌≢◌, ◌↔◌, ◌*◌, IsTrue, ℕ, ◌<◌, ◌≤◌, ◌^◌, Bool, List, length, slice_index_or, slice_set, ℤ, pos, neg_ℤ, ◌+ℤ◌, ◌-ℤ◌, ◌*ℤ◌, ◌≤ℤ◌, IfOk, OnOk, Some};
 ghost use Rattle.std.specs.List.{All};
 ghost use Rattle.sfm_spec.specs.Bounds.{IsAtMost, IsEntry, IsFactor, IsGiven, AreElements};
@@ -13,10 +13,10 @@ ghost use Rattle.sfm_matroid.specs.Transversals.{transversal_rank, transversal_b
 ghost use Rattle.sfm_matroid.specs.TransversalLaws.{transversal_value, transversal_size, transversal_start, transversal-family, transversal-submodular, transversal-bounded, transversal-starts, transversal-starts_small};
 
 use crate::entries::Entries;
+use crate::givers::{givers, keep_by_slots};
 use crate::growing::whole;
 use crate::matching::{are_held, matched};
 use crate::number::{are_within, has_sum, product};
-use crate::place::put;
 use crate::slot_room::least_unheld;
 use sfm_base::{Memory, Places, Set};
 use sfm_law::{Room, Term};
@@ -229,30 +229,6 @@ impl Transversal {
         Ok(Room::Upto(most))
     }
 
-    /// Whether v is not u, and u has room to it.
-    fn has_room(
-        &self,
-        alloc: Global,
-        q: i128,
-        x: &[i128],
-        u: usize,
-        v: usize,
-    ) -> Result<bool, Memory>
-        requires factor { IsFactor q }
-        requires entries { length x.now ≡ length self.now.places }
-        requires small { All IsEntry x.now }
-        requires base { IsBase (times q (transversal_value self.now.w self.now.entries)) x.now }
-        requires from { u < length x.now }
-        requires onto { v < length x.now }
-        ensures { IfOk result (λ r. IsTrue r ↔ ((v ≢ u) × HasRoom (times q (transversal_value self.now.w self.now.entries)) x.now u v)) }
-    {
-        if v == u {
-            return Ok(false);
-        }
-        let most = self.capacity(alloc, q, x, u, v)?;
-        Ok(most >= 1)
-    }
-
     /// Writes the places other than u to which u has room at a base.
     ///
     /// # Errors
@@ -275,10 +251,10 @@ impl Transversal {
         ensures places { length to.new ≡ length to.old }
         ensures reached { OnOk result (IsReach (times q (transversal_value self.now.w self.now.entries)) x.now u to.new) }
     {
-        for v in 0..x.len() {
-            let member = self.has_room(alloc, q, x, u, v)?;
-            put(to, v, member);
-        }
+        let cap = product(q, self.w);
+        let m = self.entries.above();
+        givers(x, cap, u, to);
+        keep_by_slots(alloc, &self.entries, m, x, cap, u, to)?;
         Ok(())
     }
 }

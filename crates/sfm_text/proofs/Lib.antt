@@ -7,6 +7,8 @@ pub mod Breaches
 pub mod Matches
 pub mod Steps
 pub mod Pieces
+pub mod Ranks
+pub mod Numbering
 pub mod Members
 pub mod Numbers
 pub mod Repeats

@@ -1,12 +1,12 @@
 -- Tokens that are cut at semicolons, and that a line is cut in one way.
-use Rattle.std.proofs.Common.{◌≡◌, ℕ, suc, ◌≤◌, nat_eq, length, List, [], ◌∷◌, Bool, true, false, cond, get_or, map, codes, Bor, Option, Some, None, MatchOption, refl, sym, ap, ◌∙◌, inl, inr, arith}
+use Rattle.std.proofs.Common.{◌≡◌, ℕ, suc, ◌≤◌, nat_eq, length, List, [], ◌∷◌, Bool, true, false, cond, get_or, map, codes, Bor, Option, Some, None, MatchOption, refl, sym, ap, ◌∙◌, arith}
 use Rattle.std.proofs.lemmas.Bool.{false≢true}
 use Rattle.std.proofs.lemmas.Bool.Decides.{nat_tests}
 use Rattle.std.specs.List.{slice_split, onto_first, IsFirstAndRest}
 use Rattle.sfm_text.specs.Matched.{Matched}
 use Rattle.std.proofs.lemmas.List.{length-map}
 use Rattle.sfm_text.specs.declared.word.RankKind.TheVariants.{UniformRank}
-use Rattle.sfm_text.specs.Parts.{LineParts, plain_parts, IsCutAtColon, IsConcaveLine, IsUniformLine, IsGroupCut, AreGroupsCut, IsLaminarHead, IsLaminarLine, IsRankLine, is_semicolon, cut_at_semicolons, laminar_parts_of}
+use Rattle.sfm_text.specs.Parts.{LineParts, plain_parts, IsCutAtColon, IsConcaveLine, IsUniformLine, IsGroupCut, AreGroupsCut, IsRankHead, IsLaminarLine, is_semicolon, cut_at_semicolons, laminar_parts_of}
 use Rattle.sfm_text.proofs.Colons.{colon-same}
 use Rattle.sfm_text.proofs.Repeats.{text-at}
 use Rattle.sfm_text.proofs.Matches.{Matched-same}
@@ -40,7 +40,7 @@ concave-same tokens p q h g =
     let (numbers, elements) = colon-same tokens h.numbers h.elements g.numbers g.elements h.cut g.cut in
     h.parts_are ∙ (ap (λ (n : List (List ℕ)). plain_parts n h.elements) numbers ∙ (ap (λ (e : List (List ℕ)). plain_parts g.numbers e) elements ∙ sym g.parts_are))
 
-uniform-same : (tokens : List (List ℕ)) (p q : LineParts) → IsUniformLine tokens p → IsUniformLine tokens q → p ≡ q
+pub uniform-same : (tokens : List (List ℕ)) (p q : LineParts) → IsUniformLine tokens p → IsUniformLine tokens q → p ≡ q
 uniform-same tokens p q h g =
     let (front, elements) = colon-same tokens (h.number ∷ codes "uniform" ∷ h.cap ∷ []) h.elements (g.number ∷ codes "uniform" ∷ g.cap ∷ []) g.elements h.cut g.cut in
     let number : h.number ≡ g.number = cc in
@@ -61,7 +61,7 @@ groups-same pieces elements elements' groups groups' h g =
     let each : Matched IsGroupCut g.rest groups = rw rest at h.each in
     (first, Matched-same IsGroupCut group-same g.rest groups groups' each g.each)
 
-laminar-same : (tokens : List (List ℕ)) (p q : LineParts) → IsLaminarLine tokens p → IsLaminarLine tokens q → p ≡ q
+pub laminar-same : (tokens : List (List ℕ)) (p q : LineParts) → IsLaminarLine tokens p → IsLaminarLine tokens q → p ≡ q
 laminar-same tokens p q h g =
     let both : h.number ∷ codes "laminar" ∷ codes ":" ∷ h.behind ≡ g.number ∷ codes "laminar" ∷ codes ":" ∷ g.behind = sym h.head.tokens_are ∙ g.head.tokens_are in
     let number : h.number ≡ g.number = cc in
@@ -88,7 +88,7 @@ uniform-word before number most d e =
 
 pub uniform-made : (tokens : List (List ℕ)) (before elements : List (Bor (List ℕ))) (a m b : Bor (List ℕ)) (numbers : List (Bor (List ℕ))) → IsCutAtColon tokens (map (λ t. t.now) before) (map (λ t. t.now) elements) → length before ≡ 3
     → (get_or before 1 m).now ≡ codes "uniform" → 1 ≤ length (map (λ t. t.now) elements) → numbers ≡ get_or before 0 a ∷ get_or before 2 b ∷ []
-    → IsUniformLine tokens (record { numbers = map (λ t. t.now) numbers; elements = map (λ t. t.now) elements; rank = UniformRank; groups = [] })
+    → IsUniformLine tokens (record { numbers = map (λ t. t.now) numbers; elements = map (λ t. t.now) elements; rank = UniformRank; groups = []; labels = [] })
 uniform-made tokens [] elements a m b numbers cut three word some is = absurd (omega (arith, three))
 uniform-made tokens (x ∷ []) elements a m b numbers cut three word some is = absurd (omega (arith, three))
 uniform-made tokens (x ∷ y ∷ []) elements a m b numbers cut three word some is = absurd (omega (arith, three))
@@ -101,16 +101,6 @@ uniform-made tokens (x ∷ y ∷ z ∷ []) elements a m b numbers cut three word
   parts_are = rw is refl;
 }
 uniform-made tokens (x ∷ y ∷ z ∷ w ∷ before) elements a m b numbers cut three word some is = absurd (omega (arith, three))
-
--- a line that is not of the first rank
-pub rank-made : {P : Type 0} (f : P → LineParts) (tokens : List (List ℕ)) → ((parts : LineParts) → IsUniformLine tokens parts → ⊥) → (r : Option P)
-    → MatchOption r ((parts : LineParts) → IsLaminarLine tokens parts → ⊥) (λ parts. IsLaminarLine tokens (f parts)) → MatchOption r ((parts : LineParts) → IsRankLine tokens parts → ⊥) (λ parts. IsRankLine tokens (f parts))
-rank-made f tokens none None h = none-of
-  where
-    none-of : (parts : LineParts) → IsRankLine tokens parts → ⊥
-    none-of parts (inl u) = none parts u
-    none-of parts (inr l) = h parts l
-rank-made f tokens none (Some parts) h = inr h
 
 -- the first of lists of tokens, and the others
 pub first-lists : (pieces : List (Bor (List (Bor (List ℕ))))) (first : Bor (List (Bor (List ℕ)))) (rest : List (Bor (List (Bor (List ℕ))))) → IsFirstAndRest pieces first rest
@@ -125,7 +115,7 @@ each-cut pieces first rest elements groups e h =
     rw same at h.each
 
 -- a line that begins so has the parts that its pieces have, or none
-pub laminar-made : {P : Type 0} (f : P → LineParts) (tokens : List (List ℕ)) (number : List ℕ) (behind : List (List ℕ)) → IsLaminarHead tokens number behind → (r : Option P)
+pub laminar-made : {P : Type 0} (f : P → LineParts) (tokens : List (List ℕ)) (number : List ℕ) (behind : List (List ℕ)) → IsRankHead (codes "laminar") tokens number behind → (r : Option P)
     → MatchOption r ((elements : List (List ℕ)) (groups : List (List ℕ × List (List ℕ))) → AreGroupsCut (cut_at_semicolons behind) elements groups → ⊥) (λ parts. (elements : List (List ℕ)) × (groups : List (List ℕ × List (List ℕ))) × AreGroupsCut (cut_at_semicolons behind) elements groups × (f parts ≡ laminar_parts_of number elements groups))
     → MatchOption r ((parts : LineParts) → IsLaminarLine tokens parts → ⊥) (λ parts. IsLaminarLine tokens (f parts))
 laminar-made f tokens number behind head None none = λ parts line.
@@ -133,20 +123,3 @@ laminar-made f tokens number behind head None none = λ parts line.
     let same : line.behind ≡ behind = cc in
     none line.elements line.groups (rw same at line.cut)
 laminar-made f tokens number behind head (Some parts) (elements, groups, cut, is) = record { number = number; behind = behind; elements = elements; groups = groups; head = head; cut = cut; parts_are = is }
-
--- no line is one of both ranks
-second-of : List (List ℕ) → ℕ
-second-of tokens = get_or (get_or tokens 1 []) 0 0
-
-apart : (tokens : List (List ℕ)) (p q : LineParts) → IsUniformLine tokens p → IsLaminarLine tokens q → ⊥
-unfolding second-of
-apart tokens p q h g =
-    let u : second-of tokens ≡ 117 = ap second-of h.cut.cut in
-    let l : second-of tokens ≡ 108 = ap second-of g.head.tokens_are in
-    omega (arith, u, l)
-
-pub rank-same : (tokens : List (List ℕ)) (p q : LineParts) → IsRankLine tokens p → IsRankLine tokens q → p ≡ q
-rank-same tokens p q (inl h) (inl g) = uniform-same tokens p q h g
-rank-same tokens p q (inl h) (inr g) = absurd (apart tokens p q h g)
-rank-same tokens p q (inr h) (inl g) = absurd (apart tokens q p g h)
-rank-same tokens p q (inr h) (inr g) = laminar-same tokens p q h g

@@ -1,18 +1,21 @@
 -- What has been read of a line makes the term of its word.
-use Rattle.std.proofs.Common.{◌≡◌, ℕ, ◌+◌, ◌-◌, ◌<◌, ◌≤◌, ◌^◌, inl, inr, List, [], ◌∷◌, length, get_or, map, take, drop, min, Bor, ℤ, pos, ◌≤ℤ◌, to_z, of_z, refl, sym, ap, ◌∙◌, arith}
+use Rattle.std.proofs.Common.{◌≡◌, ℕ, ◌+◌, ◌-◌, ◌<◌, ◌≤◌, ◌^◌, List, [], ◌∷◌, length, get_or, map, take, drop, min, codes, Bor, ℤ, pos, ◌≤ℤ◌, to_z, of_z, refl, sym, ap, subst, ◌∙◌, arith}
 use Rattle.std.specs.Int.{w128}
 use Rattle.std.proofs.lemmas.Int.{ints}
 use Rattle.std.specs.List.{All}
 use Rattle.std.proofs.lemmas.List.{length-map, length-take, length-drop, take-map, drop-map, take_rest}
+use Rattle.std.proofs.lemmas.List.Elements.{All-map}
 use Rattle.sfm_spec.specs.Bounds.{IsAtMost, AreElements}
-use Rattle.sfm_text.specs.Parts.{LineParts, plain_parts, IsPairToken, IsSplitAt, IsTableCount, IsUniformLine, IsLaminarLine, IsRankLine}
+use Rattle.sfm_text.specs.Parts.{LineParts, plain_parts, IsPairToken, IsSplitAt, IsTableCount, IsUniformLine, IsLaminarLine, IsLabelToken, IsLabelledLine, IsGraphicLine, IsTransversalLine}
 use Rattle.sfm_text.specs.Words.{lowest_of}
 use Rattle.sfm_text.specs.TermLines.{AreRead, IsNumberFrom}
-use Rattle.sfm_text.specs.declared.word.RankKind.TheVariants.{NoRank, UniformRank, LaminarRank}
+use Rattle.sfm_text.specs.declared.word.RankKind.{RankKind}
+use Rattle.sfm_text.specs.declared.word.RankKind.TheVariants.{NoRank, UniformRank, LaminarRank, GraphicRank, TransversalRank}
 use Rattle.sfm_text.specs.declared.word.TermWord.{TermWord}
 use Rattle.sfm_text.specs.declared.word.TermWord.TheVariants.{WeightWord, CutWord, NeedWord, CoverWord, TableWord, ConcaveWord, RankWord}
 use Rattle.sfm_text.proofs.Matches.{length-Matched, All-Matched}
 use Rattle.sfm_text.proofs.Numbers.{small-number}
+use Rattle.sfm_text.proofs.Ranks.{IsLineOfRank, line-of-rank}
 
 -- the parts that are cut off before and behind a place
 pub split-parts : (tokens : List (Bor (List ℕ))) (count : ℕ) (numbers elements : List (Bor (List ℕ))) → numbers ≡ take count tokens → elements ≡ take (length tokens - count) (drop count tokens) → plain_parts (map (λ t. t.now) numbers) (map (λ t. t.now) elements) ≡ plain_parts (take count (map (λ t. t.now) tokens)) (drop count (map (λ t. t.now) tokens))
@@ -99,37 +102,13 @@ concave-count parts values places h =
 pub concave-elements : (parts : LineParts) (values : List ℤ) (places : List ℕ) → AreRead ConcaveWord parts values places → AreElements places
 concave-elements parts values places h = read-elements ConcaveWord parts values places h (omega (arith, h.elements, h.shape.count.some, ap (λ (p : LineParts). length p.elements) h.shape.parts_are))
 
--- the ranks are told apart
-uniform-other : UniformRank ≡ LaminarRank → ⊥
-uniform-other e = cc
-
-none-uniform : NoRank ≡ UniformRank → ⊥
-none-uniform e = cc
-
-none-laminar : NoRank ≡ LaminarRank → ⊥
-none-laminar e = cc
-
-rank-of-uniform : (tokens : List (List ℕ)) (parts : LineParts) → IsUniformLine tokens parts → parts.rank ≡ UniformRank
-rank-of-uniform tokens parts h = ap (λ (p : LineParts). p.rank) h.parts_are
-
-rank-of-laminar : (tokens : List (List ℕ)) (parts : LineParts) → IsLaminarLine tokens parts → parts.rank ≡ LaminarRank
-rank-of-laminar tokens parts h = ap (λ (p : LineParts). p.rank) h.parts_are
-
 module _ (parts : LineParts) (values : List ℤ) (places : List ℕ) (h : AreRead RankWord parts values places) where
   pub rank-some : parts.rank ≡ NoRank → ⊥
-  rank-some none = at h.shape
-    where
-      at : IsRankLine h.tokens parts → ⊥
-      at (inl u) = none-uniform (sym none ∙ rank-of-uniform h.tokens parts u)
-      at (inr l) = none-laminar (sym none ∙ rank-of-laminar h.tokens parts l)
+  rank-some is = subst (λ (r : RankKind). IsLineOfRank r h.tokens parts) is (line-of-rank h.tokens parts h.shape)
 
   module _ (is : parts.rank ≡ UniformRank) where
     as-uniform : IsUniformLine h.tokens parts
-    as-uniform = at h.shape
-      where
-        at : IsRankLine h.tokens parts → IsUniformLine h.tokens parts
-        at (inl u) = u
-        at (inr l) = absurd (uniform-other (sym is ∙ rank-of-laminar h.tokens parts l))
+    as-uniform = subst (λ (r : RankKind). IsLineOfRank r h.tokens parts) is (line-of-rank h.tokens parts h.shape)
 
     pub uniform-two : length values ≡ 2
     uniform-two = values-count RankWord parts values places h ∙ ap (λ (p : LineParts). length p.numbers) as-uniform.parts_are
@@ -139,11 +118,7 @@ module _ (parts : LineParts) (values : List ℤ) (places : List ℕ) (h : AreRea
 
   module _ (is : parts.rank ≡ LaminarRank) where
     as-laminar : IsLaminarLine h.tokens parts
-    as-laminar = at h.shape
-      where
-        at : IsRankLine h.tokens parts → IsLaminarLine h.tokens parts
-        at (inl u) = absurd (uniform-other (sym (rank-of-uniform h.tokens parts u) ∙ is))
-        at (inr l) = l
+    as-laminar = subst (λ (r : RankKind). IsLineOfRank r h.tokens parts) is (line-of-rank h.tokens parts h.shape)
 
     pub laminar-each : length values ≡ length parts.groups + 1
     laminar-each =
@@ -152,6 +127,54 @@ module _ (parts : LineParts) (values : List ℤ) (places : List ℕ) (h : AreRea
 
     pub laminar-elements : AreElements places
     laminar-elements = read-elements RankWord parts values places h (omega (arith, h.elements, as-laminar.cut.some, ap (λ (p : LineParts). length p.elements) as-laminar.parts_are))
+
+  -- what has been read of a line with labels
+  module _ (rank : RankKind) (word : List ℕ) (line : IsLabelledLine rank word h.tokens parts) where
+    entries-count : length places ≡ length line.entries
+    entries-count = h.elements ∙ (ap (λ (p : LineParts). length p.elements) line.parts_are ∙ length-map line.entries (λ (e : List ℕ × List (List ℕ)). e.0))
+
+    labelled-one : length values ≡ 1
+    labelled-one = values-count RankWord parts values places h ∙ ap (λ (p : LineParts). length p.numbers) line.parts_are
+
+    labelled-each : length parts.labels ≡ length places
+    labelled-each = ap (λ (p : LineParts). length p.labels) line.parts_are ∙ (length-map line.entries (λ (e : List ℕ × List (List ℕ)). e.1) ∙ sym entries-count)
+
+    labelled-elements : AreElements places
+    labelled-elements = read-elements RankWord parts values places h (omega (arith, entries-count, line.labelled.some, length-Matched (IsLabelToken rank) line.behind line.entries line.labelled.each))
+
+  module _ (is : parts.rank ≡ GraphicRank) where
+    as-graphic : IsGraphicLine h.tokens parts
+    as-graphic = subst (λ (r : RankKind). IsLineOfRank r h.tokens parts) is (line-of-rank h.tokens parts h.shape)
+
+    pub graphic-one : length values ≡ 1
+    graphic-one = labelled-one GraphicRank (codes "graphic") as-graphic
+
+    pub graphic-each : length parts.labels ≡ length places
+    graphic-each = labelled-each GraphicRank (codes "graphic") as-graphic
+
+    pub graphic-elements : AreElements places
+    graphic-elements = labelled-elements GraphicRank (codes "graphic") as-graphic
+
+    -- an edge has two ends
+    pub graphic-two : All (λ texts. length texts ≡ 2) parts.labels
+    graphic-two =
+        let line = as-graphic in
+        let each : All (λ (e : List ℕ × List (List ℕ)). length e.1 ≡ 2) line.entries = All-Matched (IsLabelToken GraphicRank) (λ (e : List ℕ × List (List ℕ)). length e.1 ≡ 2) (λ token e edge. ap length edge.labels) line.behind line.entries line.labelled.each in
+        let all = All-map (λ texts. length texts ≡ 2) (λ (e : List ℕ × List (List ℕ)). e.1) line.entries each in
+        rw (ap (λ (p : LineParts). p.labels) line.parts_are) all
+
+  module _ (is : parts.rank ≡ TransversalRank) where
+    as-transversal : IsTransversalLine h.tokens parts
+    as-transversal = subst (λ (r : RankKind). IsLineOfRank r h.tokens parts) is (line-of-rank h.tokens parts h.shape)
+
+    pub transversal-one : length values ≡ 1
+    transversal-one = labelled-one TransversalRank (codes "transversal") as-transversal
+
+    pub transversal-each : length parts.labels ≡ length places
+    transversal-each = labelled-each TransversalRank (codes "transversal") as-transversal
+
+    pub transversal-elements : AreElements places
+    transversal-elements = labelled-elements TransversalRank (codes "transversal") as-transversal
 
 -- a list of two
 two-of : (values : List ℤ) (d e : ℤ) → length values ≡ 2 → get_or values 0 d ∷ get_or values 1 e ∷ [] ≡ values

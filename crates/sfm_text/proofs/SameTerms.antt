@@ -17,7 +17,7 @@ use Rattle.sfm_text.specs.Parts.{LineParts}
 use Rattle.sfm_text.specs.Words.{lowest_of, IsTermOf}
 use Rattle.sfm_text.specs.RankLines.{IsRankTerm}
 use Rattle.sfm_text.specs.declared.word.RankKind.{RankKind}
-use Rattle.sfm_text.specs.declared.word.RankKind.TheVariants.{NoRank, UniformRank, LaminarRank}
+use Rattle.sfm_text.specs.declared.word.RankKind.TheVariants.{NoRank, UniformRank, LaminarRank, GraphicRank, TransversalRank}
 use Rattle.sfm_text.specs.TermLines.{IsNumberFrom, IsElement, StandsFor}
 use Rattle.sfm_text.specs.Reading.{AreTooMuch}
 use Rattle.sfm_text.specs.declared.word.TermWord.{TermWord}
@@ -38,6 +38,8 @@ rank-places : (rank : RankKind) (parts : LineParts) (values : List ℤ) (places 
 rank-places NoRank parts values places term h = absurd h
 rank-places UniformRank parts values places term h = ap kind_places h.kind ∙ h.same_places
 rank-places LaminarRank parts values places term h = ap kind_places h.kind ∙ h.same_places
+rank-places GraphicRank parts values places term h = ap kind_places h.kind ∙ h.same_places
+rank-places TransversalRank parts values places term h = ap kind_places h.kind ∙ h.same_places
 
 rank-size : (rank : RankKind) (parts : LineParts) (values : List ℤ) (places : List ℕ) (s t : Kind) → IsRankTerm rank parts values places s → IsRankTerm rank parts values places t → kind_size s ≡ kind_size t
 rank-size NoRank parts values places s t h g = absurd h
@@ -45,6 +47,8 @@ rank-size UniformRank parts values places s t h g =
     let (number, cap) = same_both h.uniform.w h.uniform.cap g.uniform.w g.uniform.cap (h.same_numbers ∙ sym g.same_numbers) in
     ap kind_size h.kind ∙ (rw (number, cap, h.same_places, g.same_places) refl ∙ sym (ap kind_size g.kind))
 rank-size LaminarRank parts values places s t h g = ap kind_size h.kind ∙ (rw (h.same_places, g.same_places, h.same_number, g.same_number, h.same_groups, g.same_groups) refl ∙ sym (ap kind_size g.kind))
+rank-size GraphicRank parts values places s t h g = ap kind_size h.kind ∙ (rw (h.same_number, g.same_number, h.same_ends, g.same_ends) refl ∙ sym (ap kind_size g.kind))
+rank-size TransversalRank parts values places s t h g = ap kind_size h.kind ∙ (rw (h.same_number, g.same_number, h.same_entries, g.same_entries) refl ∙ sym (ap kind_size g.kind))
 
 -- the places of a term are those that it was made of
 pub term-places : (word : TermWord) (parts : LineParts) (values : List ℤ) (places : List ℕ) (term : Kind) → IsTermOf word parts values places term → kind_places term ≡ places

@@ -33,3 +33,16 @@ map-push f g front xs more x zs z h e is = rw (e, map-append f xs (x ∷ []), ma
     assoc : {Y : Type 0} (a b : List Y) (y : Y) → (a ++ b) ++ y ∷ [] ≡ a ++ (b ++ y ∷ [])
     assoc [] b y = refl
     assoc (x ∷ a) b y = ap (λ l. x ∷ l) (assoc a b y)
+
+-- one more element of what stands for the elements that a loop has come to
+pub maps-step : {X Y Z : Type 0} (f : X → Y) (g : Y → Z) (xs : List X) (i : ℕ) (d : X) (old more : List Z) (z : Z) → i < length xs → old ≡ map g (map f (take i xs)) → more ≡ old ++ z ∷ [] → z ≡ g (f (get_or xs i d)) → more ≡ map g (map f (take (i + 1) xs))
+maps-step f g xs i d old more z lt h e is = rw (e, map_more f xs i d lt, map-append g (map f (take i xs)) (f (get_or xs i d) ∷ []), h, is) refl
+
+pub maps-end : {X Y Z : Type 0} (f : X → Y) (g : Y → Z) (xs : List X) (i : ℕ) (all : List Z) → length xs ≤ i → all ≡ map g (map f (take i xs)) → all ≡ map g (map f xs)
+maps-end f g xs i all ge h = rw (take_all i xs ge) at h
+
+-- what holds of what each element stands for
+pub All-here : {X Y : Type 0} (P : Y → Type 0) (f : X → Y) (xs : List X) (i : ℕ) (d : X) → i < length xs → All P (map f xs) → P (f (get_or xs i d))
+All-here P f xs i d lt all =
+    let at = all i (f d) (omega (arith, lt, length-map xs f)) in
+    rw (get_or-map f xs i d (f d) lt) at at

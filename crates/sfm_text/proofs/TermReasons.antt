@@ -18,7 +18,7 @@ use Rattle.sfm_text.specs.Matched.{Matched}
 use Rattle.sfm_text.specs.Parts.{LineParts}
 use Rattle.sfm_text.specs.Words.{word_text, lowest_of, HasParts, BreaksLaw}
 use Rattle.sfm_text.specs.TermLines.{IsNumberFrom, IsElement, StandsTwice}
-use Rattle.sfm_text.specs.Reading.{State, Has, HasStranger, FirstReason, reason_order}
+use Rattle.sfm_text.specs.Reading.{State, Has, HasStranger, HasWrongLabel, HasSlotTwice, FirstReason, reason_order}
 use Rattle.sfm_text.specs.ReadParts.{state_at, IsLineOf}
 use Rattle.sfm_text.proofs.WordLines.{of-term-line, not-end, shaped-here}
 use Rattle.sfm_text.proofs.Matches.{Matched-at, Matched-both, Matched-same, length-Matched}
@@ -129,21 +129,33 @@ module _ (instance : InstanceData) (word : TermWord) (rest : List (List ℕ)) (l
 
       pub at-stranger : HasStranger parts → FirstReason (state_at Terms instance) line Name
       at-stranger stranger = record {
-        holds = (word, rest, parts, record { first = is.tokens_are; shape = shape }, inr stranger);
+        holds = (word, rest, parts, record { first = is.tokens_are; shape = shape }, inr (inl stranger));
         first = none-name;
       }
 
-      module _ (places : List ℕ) (named : AreElementNames instance.names) (elements : Matched (IsElement instance.names) parts.elements places) (members : All (λ names. All (Contains parts.elements) names) parts.groups) where
+      pub at-label : HasWrongLabel parts → FirstReason (state_at Terms instance) line Name
+      at-label wrong = record {
+        holds = (word, rest, parts, record { first = is.tokens_are; shape = shape }, inr (inr wrong));
+        first = none-name;
+      }
+
+      module _ (places : List ℕ) (named : AreElementNames instance.names) (elements : Matched (IsElement instance.names) parts.elements places) (members : All (λ names. All (Contains parts.elements) names) parts.groups) (labels : All (λ texts. All IsName texts) parts.labels) where
         no-stranger : HasStranger parts → ⊥
         no-stranger (k, names, lt, e, (j, text, within, f, out)) =
             let all : All (Contains parts.elements) names = rw e at (members k names lt) in
             out (rw f at (all j text within))
 
+        no-label : HasWrongLabel parts → ⊥
+        no-label (k, texts, lt, e, (j, text, within, f, out)) =
+            let all : All IsName texts = rw e at (labels k texts lt) in
+            out (rw f at (all j text within))
+
         no-name : Has (state_at Terms instance) line Name → ⊥
-        no-name h = at (of-term-line word (tokens_of line) rest parts (λ word' rest' parts'. Any (λ text. IsName text → Contains instance.names text → ⊥) parts'.elements ⊎ HasStranger parts') is.tokens_are shape h)
+        no-name h = at (of-term-line word (tokens_of line) rest parts (λ word' rest' parts'. Any (λ text. IsName text → Contains instance.names text → ⊥) parts'.elements ⊎ HasStranger parts' ⊎ HasWrongLabel parts') is.tokens_are shape h)
           where
-            at : Any (λ text. IsName text → Contains instance.names text → ⊥) parts.elements ⊎ HasStranger parts → ⊥
-            at (inr stranger) = no-stranger stranger
+            at : Any (λ text. IsName text → Contains instance.names text → ⊥) parts.elements ⊎ HasStranger parts ⊎ HasWrongLabel parts → ⊥
+            at (inr (inl stranger)) = no-stranger stranger
+            at (inr (inr wrong)) = no-label wrong
             at (inl (k, text, lt, e, wrong)) =
                 let (place, found) = Matched-at (IsElement instance.names) parts.elements places k text elements lt in
                 let here : IsElement instance.names text place = rw e at found in
@@ -152,7 +164,7 @@ module _ (instance : InstanceData) (word : TermWord) (rest : List (List ℕ)) (l
                 let form : IsName (get_or instance.names place text) = All-get_or IsName instance.names place text within named.forms in
                 wrong (rw there at form) (place, within, there)
 
-        -- the elements are names of the ground, and the members are elements
+        -- the elements are names of the ground, the members are elements, and the labels have the form of names
         pub none-twice : (reason : Reason) → reason_order reason < 6 → Has (state_at Terms instance) line reason → ⊥
         none-twice = none-below (state_at Terms instance) line 6 (λ lt h. is.good_bytes h) (λ lt h. h.1 word rest is.tokens_are) (λ lt h. h.1 word rest parts (record { first = is.tokens_are; shape = shape })) (λ lt h. no-number h) (λ lt h. no-name h) (λ lt. absurd (omega arith)) (λ lt. absurd (omega arith)) (λ lt. absurd (omega arith))
 
@@ -164,17 +176,24 @@ module _ (instance : InstanceData) (word : TermWord) (rest : List (List ℕ)) (l
 
         pub at-member-twice : Any (λ names. StandsTwice names) parts.groups → FirstReason (state_at Terms instance) line Twice
         at-member-twice any = record {
-          holds = (word, rest, parts, record { first = is.tokens_are; shape = shape }, inr any);
+          holds = (word, rest, parts, record { first = is.tokens_are; shape = shape }, inr (inl any));
           first = none-twice;
         }
 
-        module _ (once : StandsTwice places → ⊥) (members_once : All (λ names. StandsTwice names → ⊥) parts.groups) where
+        pub at-slot-twice : HasSlotTwice parts.rank parts.labels → FirstReason (state_at Terms instance) line Twice
+        at-slot-twice twice = record {
+          holds = (word, rest, parts, record { first = is.tokens_are; shape = shape }, inr (inr twice));
+          first = none-twice;
+        }
+
+        module _ (once : StandsTwice places → ⊥) (members_once : All (λ names. StandsTwice names → ⊥) parts.groups) (slots_once : HasSlotTwice parts.rank parts.labels → ⊥) where
           no-twice : Has (state_at Terms instance) line Twice → ⊥
-          no-twice h = at (of-term-line word (tokens_of line) rest parts (λ word' rest' parts'. StandsTwice parts'.elements ⊎ Any (λ names. StandsTwice names) parts'.groups) is.tokens_are shape h)
+          no-twice h = at (of-term-line word (tokens_of line) rest parts (λ word' rest' parts'. StandsTwice parts'.elements ⊎ Any (λ names. StandsTwice names) parts'.groups ⊎ HasSlotTwice parts'.rank parts'.labels) is.tokens_are shape h)
             where
-              at : StandsTwice parts.elements ⊎ Any (λ names. StandsTwice names) parts.groups → ⊥
+              at : StandsTwice parts.elements ⊎ Any (λ names. StandsTwice names) parts.groups ⊎ HasSlotTwice parts.rank parts.labels → ⊥
               at (inl twice) = once (twice-texts instance.names parts.elements places named.distinct elements twice)
-              at (inr any) = none-any (λ names. StandsTwice names) parts.groups members_once any
+              at (inr (inl any)) = none-any (λ names. StandsTwice names) parts.groups members_once any
+              at (inr (inr twice)) = slots_once twice
 
           -- no element stands twice
           pub none-law : (reason : Reason) → reason_order reason < 7 → Has (state_at Terms instance) line reason → ⊥

@@ -9,7 +9,8 @@ use Rattle.sfm_text.specs.declared.word.TermWord.TheVariants.{WeightWord, CutWor
 use Rattle.sfm_text.proofs.Cutting.{front-same}
 use Rattle.sfm_text.proofs.Colons.{colon-same}
 use Rattle.sfm_text.proofs.Matches.{Matched-same}
-use Rattle.sfm_text.proofs.Pieces.{concave-same, rank-same}
+use Rattle.sfm_text.proofs.Pieces.{concave-same}
+use Rattle.sfm_text.proofs.Ranks.{rank-same}
 
 -- the word whose third byte and first byte are those
 abbrev by_bytes : ℕ → ℕ → TermWord

@@ -3,6 +3,7 @@ pub mod Cursor
 pub mod Matched
 pub mod Parts
 pub mod LineTerms
+pub mod LabelTerms
 pub mod RankLines
 pub mod Words
 pub mod TermLines

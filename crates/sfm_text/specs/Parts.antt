@@ -3,20 +3,22 @@
 use Rattle.std.specs.Prelude.{◌≡◌, ◌≢◌, ◌⊎◌, ℕ, ◌<◌, ◌≤◌, ◌^◌, take, drop, slice_index, slice_get, Some, Bool, List, [], ◌∷◌, ◌++◌, length, map, codes, bytes_eq}
 use Rattle.std.specs.List.{All, slice_split}
 use Rattle.sfm_text.specs.declared.word.RankKind.{RankKind}
-use Rattle.sfm_text.specs.declared.word.RankKind.TheVariants.{NoRank, UniformRank, LaminarRank}
+use Rattle.sfm_text.specs.declared.word.RankKind.TheVariants.{NoRank, UniformRank, LaminarRank, GraphicRank, TransversalRank}
+use Rattle.sfm_text.specs.Lines.{pieces_of}
 use Rattle.sfm_text.specs.Matched.{Matched}
 
 -- the texts that stand in the places of numbers, and those that stand in the places of elements; which rank a line means,
--- and the names of each of its groups
+-- the names of each of its groups, and the labels of each element: the two ends of an edge, or the slots of an entry
 pub record LineParts : Type 0 where
   pub numbers : List (List ℕ)
   pub elements : List (List ℕ)
   pub rank : RankKind
   pub groups : List (List (List ℕ))
+  pub labels : List (List (List ℕ))
 
 -- numbers and elements alone
 abbrev pub plain_parts : List (List ℕ) → List (List ℕ) → LineParts
-plain_parts numbers elements = record { numbers = numbers; elements = elements; rank = NoRank; groups = [] }
+plain_parts numbers elements = record { numbers = numbers; elements = elements; rank = NoRank; groups = []; labels = [] }
 
 -- a colon or a semicolon alone
 abbrev pub IsMark : List ℕ → Type 0
@@ -115,7 +117,7 @@ pub record IsUniformLine (tokens : List (List ℕ)) (parts : LineParts) : Type 0
   pub elements : List (List ℕ)
   pub cut : IsCutAtColon tokens (number ∷ codes "uniform" ∷ cap ∷ []) elements
   pub some : 1 ≤ length elements
-  pub parts_are : parts ≡ record { numbers = number ∷ cap ∷ []; elements = elements; rank = UniformRank; groups = [] }
+  pub parts_are : parts ≡ record { numbers = number ∷ cap ∷ []; elements = elements; rank = UniformRank; groups = []; labels = [] }
 
 -- a semicolon alone
 abbrev pub is_semicolon : List ℕ → Bool
@@ -139,14 +141,14 @@ pub record AreGroupsCut (pieces : List (List (List ℕ))) (elements : List (List
   pub unmarked : AreUnmarked elements
   pub each : Matched IsGroupCut rest groups
 
--- a number, the word `laminar`, a colon, and what stands behind it
-pub record IsLaminarHead (tokens : List (List ℕ)) (number : List ℕ) (behind : List (List ℕ)) : Type 0 where
-  pub tokens_are : tokens ≡ number ∷ codes "laminar" ∷ codes ":" ∷ behind
+-- a number, the word of the rank, a colon, and what stands behind it
+pub record IsRankHead (word : List ℕ) (tokens : List (List ℕ)) (number : List ℕ) (behind : List (List ℕ)) : Type 0 where
+  pub tokens_are : tokens ≡ number ∷ word ∷ codes ":" ∷ behind
   pub no_mark : IsMark number → ⊥
 
 -- the number and the caps, the elements, and the names of the groups
 abbrev pub laminar_parts_of : List ℕ → List (List ℕ) → List (List ℕ × List (List ℕ)) → LineParts
-laminar_parts_of number elements groups = record { numbers = number ∷ map (λ group. group.0) groups; elements = elements; rank = LaminarRank; groups = map (λ group. group.1) groups }
+laminar_parts_of number elements groups = record { numbers = number ∷ map (λ group. group.0) groups; elements = elements; rank = LaminarRank; groups = map (λ group. group.1) groups; labels = [] }
 
 -- behind the colon elements, and for each group a semicolon, its cap and its names
 pub record IsLaminarLine (tokens : List (List ℕ)) (parts : LineParts) : Type 0 where
@@ -154,10 +156,59 @@ pub record IsLaminarLine (tokens : List (List ℕ)) (parts : LineParts) : Type 0
   pub behind : List (List ℕ)
   pub elements : List (List ℕ)
   pub groups : List (List ℕ × List (List ℕ))
-  pub head : IsLaminarHead tokens number behind
+  pub head : IsRankHead (codes "laminar") tokens number behind
   pub cut : AreGroupsCut (cut_at_semicolons behind) elements groups
   pub parts_are : parts ≡ laminar_parts_of number elements groups
 
+-- a token `name=vertex-vertex`: exactly one `=`, and behind it exactly one `-`
+pub record IsEdgeToken (token : List ℕ) (entry : List ℕ × List (List ℕ)) : Type 0 where
+  pub behind : List ℕ
+  pub tail : List ℕ
+  pub head : List ℕ
+  pub named : IsCutAt 61 token entry.0 behind
+  pub ends : IsCutAt 45 behind tail head
+  pub labels : entry.1 ≡ tail ∷ head ∷ []
+
+-- a token `name=slot,slot,..`: exactly one `=`, and behind it slots between commas
+pub record IsEntryToken (token : List ℕ) (entry : List ℕ × List (List ℕ)) : Type 0 where
+  pub behind : List ℕ
+  pub named : IsCutAt 61 token entry.0 behind
+  pub labels : entry.1 ≡ pieces_of 44 behind
+
+-- a token with an element and its labels, in the line of that rank
+abbrev pub IsLabelToken : RankKind → List ℕ → List ℕ × List (List ℕ) → Type 0
+IsLabelToken NoRank token entry = ⊥
+IsLabelToken UniformRank token entry = ⊥
+IsLabelToken LaminarRank token entry = ⊥
+IsLabelToken GraphicRank token entry = IsEdgeToken token entry
+IsLabelToken TransversalRank token entry = IsEntryToken token entry
+
+-- at least one such token
+pub record AreLabelled (rank : RankKind) (tokens : List (List ℕ)) (entries : List (List ℕ × List (List ℕ))) : Type 0 where
+  pub some : 1 ≤ length tokens
+  pub each : Matched (IsLabelToken rank) tokens entries
+
+-- the number, the elements, and their labels
+abbrev pub labelled_parts_of : RankKind → List ℕ → List (List ℕ × List (List ℕ)) → LineParts
+labelled_parts_of rank number entries = record { numbers = number ∷ []; elements = map (λ entry. entry.0) entries; rank = rank; groups = []; labels = map (λ entry. entry.1) entries }
+
+-- behind the colon elements with their labels
+pub record IsLabelledLine (rank : RankKind) (word : List ℕ) (tokens : List (List ℕ)) (parts : LineParts) : Type 0 where
+  pub number : List ℕ
+  pub behind : List (List ℕ)
+  pub entries : List (List ℕ × List (List ℕ))
+  pub head : IsRankHead word tokens number behind
+  pub labelled : AreLabelled rank behind entries
+  pub parts_are : parts ≡ labelled_parts_of rank number entries
+
+-- a number, the word `graphic`, a colon, and edges
+abbrev pub IsGraphicLine : List (List ℕ) → LineParts → Type 0
+IsGraphicLine tokens parts = IsLabelledLine GraphicRank (codes "graphic") tokens parts
+
+-- a number, the word `transversal`, a colon, and entries
+abbrev pub IsTransversalLine : List (List ℕ) → LineParts → Type 0
+IsTransversalLine tokens parts = IsLabelledLine TransversalRank (codes "transversal") tokens parts
+
 -- a line of one of the ranks
 abbrev pub IsRankLine : List (List ℕ) → LineParts → Type 0
-IsRankLine tokens parts = IsUniformLine tokens parts ⊎ IsLaminarLine tokens parts
+IsRankLine tokens parts = IsUniformLine tokens parts ⊎ IsLaminarLine tokens parts ⊎ IsGraphicLine tokens parts ⊎ IsTransversalLine tokens parts

@@ -8,9 +8,10 @@ use Rattle.sfm_kind.specs.declared.kind.Kind.TheVariants.{Laminar}
 use Rattle.sfm_laminar.specs.declared.laminar.Laminar as laminars
 use Rattle.sfm_laminar.specs.Groups.{IsCrossing}
 use Rattle.sfm_text.specs.declared.word.RankKind.{RankKind}
-use Rattle.sfm_text.specs.declared.word.RankKind.TheVariants.{NoRank, UniformRank, LaminarRank}
+use Rattle.sfm_text.specs.declared.word.RankKind.TheVariants.{NoRank, UniformRank, LaminarRank, GraphicRank, TransversalRank}
 use Rattle.sfm_text.specs.Parts.{LineParts}
 use Rattle.sfm_text.specs.LineTerms.{IsUniformTerm}
+use Rattle.sfm_text.specs.LabelTerms.{IsGraphicTerm, IsTransversalTerm}
 
 -- whether a text is one of the texts
 abbrev pub is_among : List (List ℕ) → List ℕ → Bool
@@ -43,8 +44,12 @@ abbrev pub BreaksRankLaw : RankKind → LineParts → List ℤ → Type 0
 BreaksRankLaw NoRank parts values = ⊥
 BreaksRankLaw UniformRank parts values = ⊥
 BreaksRankLaw LaminarRank parts values = HasCrossing (groups_of values parts)
+BreaksRankLaw GraphicRank parts values = ⊥
+BreaksRankLaw TransversalRank parts values = ⊥
 
 abbrev pub IsRankTerm : RankKind → LineParts → List ℤ → List ℕ → Kind → Type 0
 IsRankTerm NoRank parts values places term = ⊥
 IsRankTerm UniformRank parts values places term = IsUniformTerm values places term
 IsRankTerm LaminarRank parts values places term = IsLaminarTerm parts values places term
+IsRankTerm GraphicRank parts values places term = IsGraphicTerm parts values places term
+IsRankTerm TransversalRank parts values places term = IsTransversalTerm parts values places term

@@ -1,5 +1,5 @@
 -- What the parts of a line, the state of a reading and the end of a line's reading stand for.
-use Rattle.std.specs.Prelude.{◌≡◌, ◌<◌, ℕ, List, ◌∷◌, Any, Result, MatchResult}
+use Rattle.std.specs.Prelude.{◌≡◌, ◌<◌, ℕ, List, ◌∷◌, map, Any, Result, MatchResult}
 use Rattle.sfm_kind.specs.Instance.{InstanceData}
 use Rattle.sfm_kind.specs.declared.kind.Kind.{Kind}
 use Rattle.sfm_text.specs.declared.end.TextEnd.{TextEnd}
@@ -10,6 +10,7 @@ use Rattle.sfm_text.specs.declared.reading.Reading.{Reading}
 use Rattle.sfm_text.specs.declared.reason.Reason.{Reason}
 use Rattle.sfm_text.specs.declared.stage.Stage.{Stage}
 use Rattle.sfm_text.specs.declared.stage.Stage.TheVariants.{Terms}
+use Rattle.sfm_text.specs.declared.labels.Labels.{Labels}
 use Rattle.sfm_text.specs.declared.parts.Parts.{Parts}
 use Rattle.sfm_text.specs.declared.word.TermWord.{TermWord}
 use Rattle.sfm_text.specs.Lines.{texts_of, text_lists_of, tokens_of}
@@ -18,9 +19,13 @@ use Rattle.sfm_text.specs.Words.{word_text}
 use Rattle.sfm_text.specs.TermLines.{StandsFor}
 use Rattle.sfm_text.specs.Reading.{State, IsBadByte, Has, Takes, IsLineRefusal, reason_order}
 
+-- the texts that labels point to
+abbrev pub label_lists_of : List Labels → List (List (List ℕ))
+label_lists_of lists = map (λ labels. texts_of labels.texts.items) lists
+
 -- the texts that the parts point to
 abbrev pub parts_of : Parts → LineParts
-parts_of parts = record { numbers = texts_of parts.numbers.items; elements = texts_of parts.elements.items; rank = parts.rank; groups = text_lists_of parts.groups.items }
+parts_of parts = record { numbers = texts_of parts.numbers.items; elements = texts_of parts.elements.items; rank = parts.rank; groups = text_lists_of parts.groups.items; labels = label_lists_of parts.labels.items }
 
 -- the state with that stage and the names and terms of an instance
 abbrev pub state_at : Stage → InstanceData → State

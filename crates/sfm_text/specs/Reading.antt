@@ -10,6 +10,8 @@ use Rattle.sfm_text.specs.declared.stage.Stage.{Stage}
 use Rattle.sfm_text.specs.declared.stage.Stage.TheVariants.{Header, Ground, Terms, Ended}
 use Rattle.sfm_text.specs.declared.line_fault.LineEnd.{LineEnd}
 use Rattle.sfm_text.specs.declared.line_fault.LineEnd.TheVariants.{Fault, Memory}
+use Rattle.sfm_text.specs.declared.word.RankKind.{RankKind}
+use Rattle.sfm_text.specs.declared.word.RankKind.TheVariants.{NoRank, UniformRank, LaminarRank, GraphicRank, TransversalRank}
 use Rattle.sfm_text.specs.declared.word.TermWord.{TermWord}
 use Rattle.sfm_text.specs.Lines.{tokens_of}
 use Rattle.sfm_text.specs.Matched.{Matched}
@@ -73,19 +75,31 @@ HasWrongNumber Ended tokens = ⊥
 abbrev pub HasStranger : LineParts → Type 0
 HasStranger parts = Any (λ names. Any (λ text. Contains parts.elements text → ⊥) names) parts.groups
 
+-- some label is not of the form of a name
+abbrev pub HasWrongLabel : LineParts → Type 0
+HasWrongLabel parts = Any (λ labels. Any (λ text. IsName text → ⊥) labels) parts.labels
+
 -- what stands in a name's place is no name, or none of the ground where an element is meant, or no element of the line
 -- where one of a group is meant
 abbrev pub HasWrongName : Stage → List (List ℕ) → List (List ℕ) → Type 0
 HasWrongName Header names tokens = ⊥
 HasWrongName Ground names tokens = (rest : List (List ℕ)) × (tokens ≡ codes "ground" ∷ rest) × Any (λ text. IsName text → ⊥) rest
-HasWrongName Terms names tokens = HasTermLine tokens (λ word rest parts. Any (λ text. IsName text → Contains names text → ⊥) parts.elements ⊎ HasStranger parts)
+HasWrongName Terms names tokens = HasTermLine tokens (λ word rest parts. Any (λ text. IsName text → Contains names text → ⊥) parts.elements ⊎ HasStranger parts ⊎ HasWrongLabel parts)
 HasWrongName Ended names tokens = ⊥
 
--- a name stands twice in the ground line, or an element twice in a term line or in one of its groups
+-- a slot stands twice in one entry; both ends of an edge may be one vertex
+abbrev pub HasSlotTwice : RankKind → List (List (List ℕ)) → Type 0
+HasSlotTwice NoRank labels = ⊥
+HasSlotTwice UniformRank labels = ⊥
+HasSlotTwice LaminarRank labels = ⊥
+HasSlotTwice GraphicRank labels = ⊥
+HasSlotTwice TransversalRank labels = Any (λ slots. StandsTwice slots) labels
+
+-- a name stands twice in the ground line, or an element twice in a term line or in one of its groups, or a slot in an entry
 abbrev pub HasTwice : Stage → List (List ℕ) → Type 0
 HasTwice Header tokens = ⊥
 HasTwice Ground tokens = (rest : List (List ℕ)) × (tokens ≡ codes "ground" ∷ rest) × StandsTwice rest
-HasTwice Terms tokens = HasTermLine tokens (λ word rest parts. StandsTwice parts.elements ⊎ Any (λ names. StandsTwice names) parts.groups)
+HasTwice Terms tokens = HasTermLine tokens (λ word rest parts. StandsTwice parts.elements ⊎ Any (λ names. StandsTwice names) parts.groups ⊎ HasSlotTwice parts.rank parts.labels)
 HasTwice Ended tokens = ⊥
 
 -- the numbers break the law of the kind

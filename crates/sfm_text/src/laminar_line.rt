@@ -2,11 +2,12 @@
 // and at least one name of an element of the line.
 ghost use Rattle.std.specs.Prelude.{◌≡◌, ℕ, List, MatchOption, IfOk};
 ghost use Rattle.sfm_text.specs.Lines.{texts_of, text_lists_of};
-ghost use Rattle.sfm_text.specs.Parts.{LineParts, is_semicolon, cut_at_semicolons, IsGroupCut, AreGroupsCut, IsLaminarHead, IsLaminarLine, laminar_parts_of};
+ghost use Rattle.sfm_text.specs.Parts.{LineParts, is_semicolon, cut_at_semicolons, IsGroupCut, AreGroupsCut, IsLaminarLine, laminar_parts_of};
 ghost use Rattle.sfm_text.specs.ReadParts.{parts_of};
 
-use crate::mark::{has_mark, is_mark};
+use crate::mark::has_mark;
 use crate::parts::Parts;
+use crate::rank_head::cut_head;
 use crate::word::RankKind;
 use std::alloc::{AllocError, Global};
 
@@ -72,22 +73,8 @@ fn group_parts<'a, 'b>(
         elements,
         rank: RankKind::LaminarRank,
         groups,
+        labels: Vec::new(alloc),
     }))
-}
-
-/// The number and the tokens behind the colon of a line, or None where it does not begin so.
-fn cut_head<'a, 'b>(tokens: &'b [&'a [u8]]) -> Option<(&'a [u8], &'b [&'a [u8]])>
-    ensures { MatchOption result
-        ((number : List ℕ) (behind : List (List ℕ)) → IsLaminarHead (texts_of tokens.now) number behind → ⊥)
-        (λ r. IsLaminarHead (texts_of tokens.now) r.0.now (texts_of r.1.now)) }
-{
-    let (number, rest) = tokens.split_first()?;
-    let (kind, rest) = rest.split_first()?;
-    let (colon, rest) = rest.split_first()?;
-    if is_mark(number) || *kind != b"laminar".as_slice() || *colon != b":".as_slice() {
-        return None;
-    }
-    Some((*number, rest))
 }
 
 /// The parts of the tokens behind the word, or None where they do not have the line's shape.
@@ -99,7 +86,7 @@ pub fn laminar_parts<'a, 'b>(
         ((parts : LineParts) → IsLaminarLine (texts_of tokens.now) parts → ⊥)
         (λ parts. IsLaminarLine (texts_of tokens.now) (parts_of parts))) }
 {
-    let Some((number, behind)) = cut_head(tokens) else {
+    let Some((number, behind)) = cut_head(b"laminar", tokens) else {
         return Ok(None);
     };
     let pieces = pieces(alloc, behind)?;

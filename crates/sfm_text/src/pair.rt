@@ -16,7 +16,7 @@ fn place_of_byte(text: &[u8], b: u8) -> Option<usize>
 }
 
 /// What stands before the one byte b of a token and behind it, or None where the token has none or more of them.
-fn cut_once(token: &[u8], b: u8) -> Option<(&[u8], &[u8])>
+pub fn cut_once(token: &[u8], b: u8) -> Option<(&[u8], &[u8])>
     ensures { MatchOption result
         ((before behind : List ℕ) → IsCutAt b token.now before behind → ⊥)
         (λ r. IsCutAt b token.now r.0.now r.1.now) }

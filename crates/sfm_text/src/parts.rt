@@ -4,18 +4,20 @@ ghost use Rattle.sfm_text.specs.Lines.{texts_of};
 ghost use Rattle.sfm_text.specs.Parts.{IsMark, plain_parts, IsSplitAt};
 ghost use Rattle.sfm_text.specs.ReadParts.{parts_of};
 
+use crate::labels::Labels;
 use crate::mark::has_mark;
 use crate::word::RankKind;
 use std::alloc::{AllocError, Global};
 
 /// The texts of a term line in the places of numbers, and in the places of elements; which rank it means, and the names of
-/// each of its groups.
+/// each of its groups, and the labels of each element.
 #[derive(Drop)]
 pub struct Parts<'a, 'b> {
     pub numbers: Vec<&'a [u8]>,
     pub elements: Vec<&'a [u8]>,
     pub rank: RankKind,
     pub groups: Vec<&'b [&'a [u8]]>,
+    pub labels: Vec<Labels<'a>>,
 }
 
 impl<'a, 'b> Parts<'a, 'b> {
@@ -28,6 +30,7 @@ impl<'a, 'b> Parts<'a, 'b> {
             elements,
             rank: RankKind::NoRank,
             groups: Vec::new(alloc),
+            labels: Vec::new(alloc),
         }
     }
 }

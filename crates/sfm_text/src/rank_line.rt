@@ -7,9 +7,11 @@ ghost use Rattle.sfm_text.specs.TermLines.{AreRead};
 ghost use Rattle.sfm_text.specs.ReadParts.{parts_of};
 ghost use Rattle.sfm_text.specs.declared.word.TermWord.TheVariants.{RankWord};
 
+use crate::graphic_line::{graphic_parts, graphic_term};
 use crate::groups::laminar_term;
 use crate::laminar_line::laminar_parts;
 use crate::parts::Parts;
+use crate::transversal_line::{transversal_parts, transversal_term};
 use crate::uniform_line::{uniform_parts, uniform_term};
 use crate::word::RankKind;
 use sfm_base::Memory;
@@ -28,7 +30,13 @@ pub fn rank_parts<'a, 'b>(
     if let Some(parts) = uniform_parts(alloc, tokens)? {
         return Ok(Some(parts));
     }
-    laminar_parts(alloc, tokens)
+    if let Some(parts) = laminar_parts(alloc, tokens)? {
+        return Ok(Some(parts));
+    }
+    if let Some(parts) = graphic_parts(alloc, tokens)? {
+        return Ok(Some(parts));
+    }
+    transversal_parts(alloc, tokens)
 }
 
 /// The term of a line with these parts, or None where its groups break the law of their rank.
@@ -48,5 +56,7 @@ pub fn rank_term(
         RankKind::NoRank => Ok(None),
         RankKind::UniformRank => Ok(Some(uniform_term(alloc, values, places)?)),
         RankKind::LaminarRank => laminar_term(alloc, parts, values, places),
+        RankKind::GraphicRank => Ok(Some(graphic_term(alloc, parts, values, places)?)),
+        RankKind::TransversalRank => Ok(Some(transversal_term(alloc, parts, values, places)?)),
     }
 }

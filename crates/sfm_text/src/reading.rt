@@ -13,13 +13,14 @@ ghost use Rattle.sfm_text.specs.declared.word.TermWord.{TermWord};
 use crate::cut::tokens;
 use crate::line_fault::LineEnd;
 use crate::mark::has_mark;
+use crate::names::are_names;
 use crate::reason::Reason;
 use crate::repeat::has_repeat;
 use crate::stage::Stage;
 use crate::term_line::read_term;
 use crate::word::{TermWord, term_word};
 use sfm_base::Memory;
-use sfm_kind::{Instance, Kind, is_name};
+use sfm_kind::{Instance, Kind};
 use sfm_law::Term;
 use std::alloc::Global;
 
@@ -66,20 +67,6 @@ fn term_line<'a, 'b>(tokens: &'b [&'a [u8]]) -> Option<(TermWord, &'b [&'a [u8]]
     let (first, rest) = tokens.split_first()?;
     let word = term_word(first)?;
     Some((word, rest))
-}
-
-/// Whether each token is a name.
-fn are_names(tokens: &[&[u8]]) -> bool
-    ensures { MatchBool result
-        (All IsName (texts_of tokens.now))
-        (Any (λ text. IsName text → ⊥) (texts_of tokens.now)) }
-{
-    for token in tokens {
-        if !is_name(token) {
-            return false;
-        }
-    }
-    true
 }
 
 /// Whether there is too much in all with one more term.

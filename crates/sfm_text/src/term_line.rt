@@ -17,6 +17,7 @@ use crate::concave_line::{concave_parts, concave_term};
 use crate::cover_line::{cover_parts, cover_term};
 use crate::cut_line::{cut_parts, cut_term};
 use crate::groups::{are_members, has_member_twice};
+use crate::labels::{are_labels, has_slot_twice};
 use crate::line_fault::LineEnd;
 use crate::need_line::{need_parts, need_term};
 use crate::parts::Parts;
@@ -179,10 +180,16 @@ pub fn read_term(
     if !are_members(&parts.elements, &parts.groups) {
         return Err(LineEnd::Fault(Reason::Name));
     }
+    if !are_labels(&parts.labels) {
+        return Err(LineEnd::Fault(Reason::Name));
+    }
     if has_place_twice(&places) {
         return Err(LineEnd::Fault(Reason::Twice));
     }
     if has_member_twice(alloc, &parts.groups)? {
+        return Err(LineEnd::Fault(Reason::Twice));
+    }
+    if has_slot_twice(alloc, parts.rank, &parts.labels)? {
         return Err(LineEnd::Fault(Reason::Twice));
     }
     match make_term(alloc, word, &parts, &values, &places)? {

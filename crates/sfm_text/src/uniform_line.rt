@@ -37,6 +37,7 @@ pub fn uniform_parts<'a, 'b>(
         elements,
         rank: RankKind::UniformRank,
         groups: Vec::new(alloc),
+        labels: Vec::new(alloc),
     }))
 }
 

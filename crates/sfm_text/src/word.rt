@@ -31,6 +31,10 @@ pub enum RankKind {
     UniformRank,
     /// `laminar`
     LaminarRank,
+    /// `graphic`
+    GraphicRank,
+    /// `transversal`
+    TransversalRank,
 }
 
 /// The word that a token is, or None where it is none.

@@ -37,5 +37,5 @@ returns c =
         unmarked = c.if-has_mark.ensures;
         each = Matched-end IsGroupCut (λ (t : Bor (List (Bor (List ℕ)))). texts_of t.now) c.in-Some.rest.now now.cut c.loop-piece.piece-index c.loop-piece-test.false now.each;
       },
-      rw (now.numbers, now.groups, c.in_ok-elements.ensures.items) refl,
+      rw (now.numbers, now.groups, c.in_ok-elements.ensures.items, c.new.ensures.items) refl,
     )

@@ -1,7 +1,7 @@
 use Rattle.std.proofs.Common.{refl}
 use Rattle.sfm_text.specs.ReadParts.{parts_of}
 use Rattle.sfm_text.specs.declared.word.TermWord.TheVariants.{RankWord}
-use Rattle.sfm_text.proofs.ReadLines.{read-small, read-low, laminar-each}
+use Rattle.sfm_text.proofs.ReadLines.{read-small, read-low, laminar-each, graphic-one, graphic-two, graphic-each, graphic-elements, transversal-one, transversal-each, transversal-elements}
 use Rattle.sfm_text.proofs.rank_line.rank_term.Goals as goal
 
 pub laminar_term-requires-clause-each : goal.laminar_term-requires-clause-each
@@ -12,3 +12,36 @@ laminar_term-requires-clause-low c = read-low RankWord (parts_of c.args.parts.no
 
 pub laminar_term-requires-clause-small : goal.laminar_term-requires-clause-small
 laminar_term-requires-clause-small c = read-small RankWord (parts_of c.args.parts.now) c.args.values.now c.args.places.now c.requires
+
+pub graphic_term-requires-clause-one : goal.graphic_term-requires-clause-one
+graphic_term-requires-clause-one c = graphic-one (parts_of c.args.parts.now) c.args.values.now c.args.places.now c.requires c.in-GraphicRank.is
+
+pub graphic_term-requires-clause-two : goal.graphic_term-requires-clause-two
+graphic_term-requires-clause-two c = graphic-two (parts_of c.args.parts.now) c.args.values.now c.args.places.now c.requires c.in-GraphicRank.is
+
+pub graphic_term-requires-clause-each : goal.graphic_term-requires-clause-each
+graphic_term-requires-clause-each c = graphic-each (parts_of c.args.parts.now) c.args.values.now c.args.places.now c.requires c.in-GraphicRank.is
+
+pub graphic_term-requires-clause-elements : goal.graphic_term-requires-clause-elements
+graphic_term-requires-clause-elements c = graphic-elements (parts_of c.args.parts.now) c.args.values.now c.args.places.now c.requires c.in-GraphicRank.is
+
+pub graphic_term-requires-clause-low : goal.graphic_term-requires-clause-low
+graphic_term-requires-clause-low c = read-low RankWord (parts_of c.args.parts.now) c.args.values.now c.args.places.now c.requires refl
+
+pub graphic_term-requires-clause-small : goal.graphic_term-requires-clause-small
+graphic_term-requires-clause-small c = read-small RankWord (parts_of c.args.parts.now) c.args.values.now c.args.places.now c.requires
+
+pub transversal_term-requires-clause-one : goal.transversal_term-requires-clause-one
+transversal_term-requires-clause-one c = transversal-one (parts_of c.args.parts.now) c.args.values.now c.args.places.now c.requires c.in-TransversalRank.is
+
+pub transversal_term-requires-clause-each : goal.transversal_term-requires-clause-each
+transversal_term-requires-clause-each c = transversal-each (parts_of c.args.parts.now) c.args.values.now c.args.places.now c.requires c.in-TransversalRank.is
+
+pub transversal_term-requires-clause-elements : goal.transversal_term-requires-clause-elements
+transversal_term-requires-clause-elements c = transversal-elements (parts_of c.args.parts.now) c.args.values.now c.args.places.now c.requires c.in-TransversalRank.is
+
+pub transversal_term-requires-clause-low : goal.transversal_term-requires-clause-low
+transversal_term-requires-clause-low c = read-low RankWord (parts_of c.args.parts.now) c.args.values.now c.args.places.now c.requires refl
+
+pub transversal_term-requires-clause-small : goal.transversal_term-requires-clause-small
+transversal_term-requires-clause-small c = read-small RankWord (parts_of c.args.parts.now) c.args.values.now c.args.places.now c.requires

@@ -1,6 +1,7 @@
 -- Each kind of part is read in turn, and what was read before rules out the reasons that come earlier.
 use Rattle.std.proofs.Common.{ℕ, ℤ, List, Contains, refl}
 use Rattle.std.proofs.lemmas.Bool.{false≢true}
+use Rattle.sfm_spec.specs.Names.{IsName}
 use Rattle.sfm_kind.specs.Names.{IsNewName}
 use Rattle.std.specs.List.{All, Any}
 use Rattle.sfm_text.specs.Lines.{texts_of}
@@ -8,10 +9,10 @@ use Rattle.sfm_text.specs.Matched.{Matched}
 use Rattle.sfm_text.specs.Parts.{LineParts}
 use Rattle.sfm_text.specs.Words.{HasParts, lowest_of, BreaksLaw, IsTermOf}
 use Rattle.sfm_text.specs.TermLines.{IsNumberFrom, IsElement, StandsTwice}
-use Rattle.sfm_text.specs.Reading.{HasStranger}
+use Rattle.sfm_text.specs.Reading.{HasStranger, HasWrongLabel, HasSlotTwice}
 use Rattle.sfm_text.specs.ReadParts.{parts_of}
 use Rattle.sfm_text.proofs.Matches.{length-Matched}
-use Rattle.sfm_text.proofs.TermReasons.{at-number, at-name, at-stranger, at-twice, at-member-twice, at-law, none-total, elements-placed}
+use Rattle.sfm_text.proofs.TermReasons.{at-number, at-name, at-stranger, at-label, at-twice, at-member-twice, at-slot-twice, at-law, none-total, elements-placed}
 use Rattle.sfm_text.proofs.term_line.read_term.Goals as goal
 
 pub returns-in_default-3-clause-refused : goal.returns-in_default-3-clause-refused
@@ -31,9 +32,10 @@ returns-then-has_place_twice-clause-refused c =
     let shape : HasParts c.args.word rest parts = rw c.in-Some.is at c.in_ok-parts.ensures in
     let numbers : Matched (IsNumberFrom (lowest_of c.args.word)) parts.numbers c.in-Some-2.values.items = rw c.deref.ensures.value at rw c.in-Some-2.is at c.in_ok-values.ensures in
     let elements : Matched (IsElement names) parts.elements c.in-Some-3.places.items = rw c.deref-2.ensures.value at rw c.in-Some-3.is at c.in_ok-places.ensures in
-    let twice : StandsTwice c.in-Some-3.places.items = rw c.deref-5.ensures.value at (c.if-has_place_twice.ensures.0 refl) in
+    let twice : StandsTwice c.in-Some-3.places.items = rw c.deref-6.ensures.value at (c.if-has_place_twice.ensures.0 refl) in
     let members : All (λ names. All (Contains parts.elements) names) parts.groups = rw (c.deref-3.ensures.value, c.deref-4.ensures.value) at c.if-not-are_members.ensures in
-    λ line is. at-twice c.args.instance.now c.args.word rest line is parts shape c.in-Some-2.values.items numbers c.in-Some-3.places.items c.requires elements members twice
+    let labels : All (λ texts. All IsName texts) parts.labels = rw c.deref-5.ensures.value at c.if-not-are_labels.ensures in
+    λ line is. at-twice c.args.instance.now c.args.word rest line is parts shape c.in-Some-2.values.items numbers c.in-Some-3.places.items c.requires elements members labels twice
 
 pub returns-in_default-2-clause-refused : goal.returns-in_default-2-clause-refused
 returns-in_default-2-clause-refused c =
@@ -52,6 +54,15 @@ returns-then-not-are_members-clause-refused c =
     let stranger : HasStranger parts = rw (c.deref-3.ensures.value, c.deref-4.ensures.value) at c.if-not-are_members.ensures in
     λ line is. at-stranger c.args.instance.now c.args.word rest line is parts shape c.in-Some-2.values.items numbers stranger
 
+pub returns-then-not-are_labels-clause-refused : goal.returns-then-not-are_labels-clause-refused
+returns-then-not-are_labels-clause-refused c =
+    let rest = texts_of c.args.tokens.now in
+    let parts : LineParts = parts_of c.in-Some.parts in
+    let shape : HasParts c.args.word rest parts = rw c.in-Some.is at c.in_ok-parts.ensures in
+    let numbers : Matched (IsNumberFrom (lowest_of c.args.word)) parts.numbers c.in-Some-2.values.items = rw c.deref.ensures.value at rw c.in-Some-2.is at c.in_ok-values.ensures in
+    let wrong : HasWrongLabel parts = rw c.deref-5.ensures.value at c.if-not-are_labels.ensures in
+    λ line is. at-label c.args.instance.now c.args.word rest line is parts shape c.in-Some-2.values.items numbers wrong
+
 pub returns-then-branch-clause-refused : goal.returns-then-branch-clause-refused
 returns-then-branch-clause-refused c =
     let rest = texts_of c.args.tokens.now in
@@ -61,8 +72,22 @@ returns-then-branch-clause-refused c =
     let numbers : Matched (IsNumberFrom (lowest_of c.args.word)) parts.numbers c.in-Some-2.values.items = rw c.deref.ensures.value at rw c.in-Some-2.is at c.in_ok-values.ensures in
     let elements : Matched (IsElement names) parts.elements c.in-Some-3.places.items = rw c.deref-2.ensures.value at rw c.in-Some-3.is at c.in_ok-places.ensures in
     let members : All (λ names. All (Contains parts.elements) names) parts.groups = rw (c.deref-3.ensures.value, c.deref-4.ensures.value) at c.if-not-are_members.ensures in
-    let twice : Any (λ names. StandsTwice names) parts.groups = rw c.deref-6.ensures.value at rw c.if-branch.true at c.in_ok-has_member_twice.ensures in
-    λ line is. at-member-twice c.args.instance.now c.args.word rest line is parts shape c.in-Some-2.values.items numbers c.in-Some-3.places.items c.requires elements members twice
+    let labels : All (λ texts. All IsName texts) parts.labels = rw c.deref-5.ensures.value at c.if-not-are_labels.ensures in
+    let twice : Any (λ names. StandsTwice names) parts.groups = rw c.deref-7.ensures.value at rw c.if-branch.true at c.in_ok-has_member_twice.ensures in
+    λ line is. at-member-twice c.args.instance.now c.args.word rest line is parts shape c.in-Some-2.values.items numbers c.in-Some-3.places.items c.requires elements members labels twice
+
+pub returns-then-branch-2-clause-refused : goal.returns-then-branch-2-clause-refused
+returns-then-branch-2-clause-refused c =
+    let rest = texts_of c.args.tokens.now in
+    let names = c.args.instance.now.names in
+    let parts : LineParts = parts_of c.in-Some.parts in
+    let shape : HasParts c.args.word rest parts = rw c.in-Some.is at c.in_ok-parts.ensures in
+    let numbers : Matched (IsNumberFrom (lowest_of c.args.word)) parts.numbers c.in-Some-2.values.items = rw c.deref.ensures.value at rw c.in-Some-2.is at c.in_ok-values.ensures in
+    let elements : Matched (IsElement names) parts.elements c.in-Some-3.places.items = rw c.deref-2.ensures.value at rw c.in-Some-3.is at c.in_ok-places.ensures in
+    let members : All (λ names. All (Contains parts.elements) names) parts.groups = rw (c.deref-3.ensures.value, c.deref-4.ensures.value) at c.if-not-are_members.ensures in
+    let labels : All (λ texts. All IsName texts) parts.labels = rw c.deref-5.ensures.value at c.if-not-are_labels.ensures in
+    let twice : HasSlotTwice parts.rank parts.labels = rw c.deref-8.ensures.value at rw c.if-branch-2.true at c.in_ok-has_slot_twice.ensures in
+    λ line is. at-slot-twice c.args.instance.now c.args.word rest line is parts shape c.in-Some-2.values.items numbers c.in-Some-3.places.items c.requires elements members labels twice
 
 pub make_term-requires : goal.make_term-requires
 make_term-requires c =
@@ -72,8 +97,8 @@ make_term-requires c =
     let shape : HasParts c.args.word rest parts = rw c.in-Some.is at c.in_ok-parts.ensures in
     let numbers : Matched (IsNumberFrom (lowest_of c.args.word)) parts.numbers c.in-Some-2.values.items = rw c.deref.ensures.value at rw c.in-Some-2.is at c.in_ok-values.ensures in
     let elements : Matched (IsElement names) parts.elements c.in-Some-3.places.items = rw c.deref-2.ensures.value at rw c.in-Some-3.is at c.in_ok-places.ensures in
-    let once : StandsTwice c.in-Some-3.places.items → ⊥ = λ t. false≢true (c.if-has_place_twice.ensures.1 (rw c.deref-5.ensures.value t)) in
-    rw (c.deref-7.ensures.value, c.deref-8.ensures.value) (record {
+    let once : StandsTwice c.in-Some-3.places.items → ⊥ = λ t. false≢true (c.if-has_place_twice.ensures.1 (rw c.deref-6.ensures.value t)) in
+    rw (c.deref-9.ensures.value, c.deref-10.ensures.value) (record {
       tokens = rest;
       shape = shape;
       numbers = numbers;
@@ -91,11 +116,13 @@ returns-clause-refused c =
     let shape : HasParts c.args.word rest parts = rw c.in-Some.is at c.in_ok-parts.ensures in
     let numbers : Matched (IsNumberFrom (lowest_of c.args.word)) parts.numbers values = rw c.deref.ensures.value at rw c.in-Some-2.is at c.in_ok-values.ensures in
     let elements : Matched (IsElement names) parts.elements places = rw c.deref-2.ensures.value at rw c.in-Some-3.is at c.in_ok-places.ensures in
-    let once : StandsTwice places → ⊥ = λ t. false≢true (c.if-has_place_twice.ensures.1 (rw c.deref-5.ensures.value t)) in
-    let breaks : BreaksLaw c.args.word parts values = rw c.deref-7.ensures.value at rw c.in-None.is at c.in_ok-term.ensures in
+    let once : StandsTwice places → ⊥ = λ t. false≢true (c.if-has_place_twice.ensures.1 (rw c.deref-6.ensures.value t)) in
+    let breaks : BreaksLaw c.args.word parts values = rw c.deref-9.ensures.value at rw c.in-None.is at c.in_ok-term.ensures in
     let members : All (λ names. All (Contains parts.elements) names) parts.groups = rw (c.deref-3.ensures.value, c.deref-4.ensures.value) at c.if-not-are_members.ensures in
-    let members_once : All (λ names. StandsTwice names → ⊥) parts.groups = rw c.deref-6.ensures.value at rw c.if-branch.false at c.in_ok-has_member_twice.ensures in
-    λ line is. at-law c.args.instance.now c.args.word rest line is parts shape values numbers places c.requires elements members once members_once breaks
+    let labels : All (λ texts. All IsName texts) parts.labels = rw c.deref-5.ensures.value at c.if-not-are_labels.ensures in
+    let members_once : All (λ names. StandsTwice names → ⊥) parts.groups = rw c.deref-7.ensures.value at rw c.if-branch.false at c.in_ok-has_member_twice.ensures in
+    let slots_once : HasSlotTwice parts.rank parts.labels → ⊥ = rw c.deref-8.ensures.value at rw c.if-branch-2.false at c.in_ok-has_slot_twice.ensures in
+    λ line is. at-law c.args.instance.now c.args.word rest line is parts shape values numbers places c.requires elements members labels once members_once slots_once breaks
 
 pub returns-in-Some-4-clause-read : goal.returns-in-Some-4-clause-read
 returns-in-Some-4-clause-read c =
@@ -107,10 +134,12 @@ returns-in-Some-4-clause-read c =
     let shape : HasParts c.args.word rest parts = rw c.in-Some.is at c.in_ok-parts.ensures in
     let numbers : Matched (IsNumberFrom (lowest_of c.args.word)) parts.numbers values = rw c.deref.ensures.value at rw c.in-Some-2.is at c.in_ok-values.ensures in
     let elements : Matched (IsElement names) parts.elements places = rw c.deref-2.ensures.value at rw c.in-Some-3.is at c.in_ok-places.ensures in
-    let once : StandsTwice places → ⊥ = λ t. false≢true (c.if-has_place_twice.ensures.1 (rw c.deref-5.ensures.value t)) in
-    let made : IsTermOf c.args.word parts values places c.in-Some-4.term × (BreaksLaw c.args.word parts values → ⊥) = rw (c.deref-7.ensures.value, c.deref-8.ensures.value) at rw c.in-Some-4.is at c.in_ok-term.ensures in
+    let once : StandsTwice places → ⊥ = λ t. false≢true (c.if-has_place_twice.ensures.1 (rw c.deref-6.ensures.value t)) in
+    let made : IsTermOf c.args.word parts values places c.in-Some-4.term × (BreaksLaw c.args.word parts values → ⊥) = rw (c.deref-9.ensures.value, c.deref-10.ensures.value) at rw c.in-Some-4.is at c.in_ok-term.ensures in
     let members : All (λ names. All (Contains parts.elements) names) parts.groups = rw (c.deref-3.ensures.value, c.deref-4.ensures.value) at c.if-not-are_members.ensures in
-    let members_once : All (λ names. StandsTwice names → ⊥) parts.groups = rw c.deref-6.ensures.value at rw c.if-branch.false at c.in_ok-has_member_twice.ensures in
+    let labels : All (λ texts. All IsName texts) parts.labels = rw c.deref-5.ensures.value at c.if-not-are_labels.ensures in
+    let members_once : All (λ names. StandsTwice names → ⊥) parts.groups = rw c.deref-7.ensures.value at rw c.if-branch.false at c.in_ok-has_member_twice.ensures in
+    let slots_once : HasSlotTwice parts.rank parts.labels → ⊥ = rw c.deref-8.ensures.value at rw c.if-branch-2.false at c.in_ok-has_slot_twice.ensures in
     record {
       stands = record {
         word = c.args.word;
@@ -123,5 +152,5 @@ returns-in-Some-4-clause-read c =
         elements = elements;
         made = made.0;
       };
-      good = λ line reason is. none-total c.args.instance.now c.args.word rest line is parts shape values numbers places c.requires elements members once members_once made.1 reason;
+      good = λ line reason is. none-total c.args.instance.now c.args.word rest line is parts shape values numbers places c.requires elements members labels once members_once slots_once made.1 reason;
     }

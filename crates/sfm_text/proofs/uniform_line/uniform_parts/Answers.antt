@@ -23,5 +23,5 @@ returns-then-before-ne3 c = λ parts h.
     ]
 
 pub returns : goal.returns
-returns c = rw (c.in_ok-elements.ensures.items, c.new.ensures.items)
+returns c = rw (c.in_ok-elements.ensures.items, c.new.ensures.items, c.new-2.ensures.items)
     (uniform-made (texts_of c.args.tokens.now) c.in-Some.before.now c.in-Some.elements.now _ _ _ c.in_ok-numbers.numbers.items c.in-Some.ensures c.if-before-ne3.false (same_bytes _ _ c.if-ne.ensures ∙ c.as_slice.ensures) (some-texts c.in-Some.elements.now c.if-is_empty.ensures) c.in_ok-numbers.ensures.items)

@@ -38,8 +38,7 @@ least_left-requires-clause-high c =
 
 pub least_left-requires-clause-below : goal.least_left-requires-clause-below
 least_left-requires-clause-below c =
-    let are = c.in_ok-ends.ensures ∙ ap numbered c.as_slice.ensures in
-    kept_below c.args.self.now.ends c.in_ok-ends.ends.items are c.deref.result.now c.deref.ensures.value
+    let s = c.args.self.now in kept_below s.ends s.numbers.items s.of_ends c.deref.result.now c.deref.ensures.value
 
 pub least_left-requires-clause-others : goal.least_left-requires-clause-others
 least_left-requires-clause-others c =
@@ -47,13 +46,12 @@ least_left-requires-clause-others c =
     let s = c.args.self.now in
     let q = c.args.q in
     let x = c.args.x.now in
-    let are = c.in_ok-ends.ensures ∙ ap numbered c.as_slice.ensures in
     let fq : FitsSigned w128 q = c.ranges.q in
     let fw : FitsSigned w128 s.w = given_fits _ s.given in
     let fp : FitsSigned w128 (q *ℤ s.w) = product_fits _ _ r.factor (given_more _ s.given) in
     let p = simp to_z-of_z at c.product-cap.ensures in
     let met = others_met (length s.places) q s.w s.ends s.same_count (product_low q s.w r.factor s.low) x r.entries r.base c.args.u c.args.v r.from r.onto r.apart in
-    rw p (simp to_z-of_z (others_kept s.ends c.in_ok-ends.ends.items are c.deref.result.now c.deref.ensures.value (q *ℤ s.w) (set (set x c.args.v (pos 0)) c.args.u (pos 0)) met))
+    rw p (simp to_z-of_z (others_kept s.ends s.numbers.items s.of_ends c.deref.result.now c.deref.ensures.value (q *ℤ s.w) (set (set x c.args.v (pos 0)) c.args.u (pos 0)) met))
 
 pub returns : goal.returns
 returns c =
@@ -63,7 +61,6 @@ returns c =
     let x = c.args.x.now in
     let u = c.args.u in
     let v = c.args.v in
-    let are = c.in_ok-ends.ensures ∙ ap numbered c.as_slice.ensures in
     let fq : FitsSigned w128 q = c.ranges.q in
     let fw : FitsSigned w128 s.w = given_fits _ s.given in
     let fp : FitsSigned w128 (q *ℤ s.w) = product_fits _ _ r.factor (given_more _ s.given) in
@@ -71,4 +68,4 @@ returns c =
     let fl : FitsSigned w128 c.in_ok-least.least = search rules in
     let told = simp to_z-of_z at (rw p at c.in_ok-least.ensures) in
     simp to_z-of_z (room_capacity (length s.places) q s.w s.ends s.same_count (product_low q s.w r.factor s.low) x r.entries r.base u v r.from r.onto r.apart c.in_ok-least.least
-    (least_kept s.ends c.in_ok-ends.ends.items are c.deref.result.now c.deref.ensures.value (q *ℤ s.w) (set x v (pos 0)) u _ _ _ c.in_ok-least.least told))
+    (least_kept s.ends s.numbers.items s.of_ends c.deref.result.now c.deref.ensures.value (q *ℤ s.w) (set x v (pos 0)) u _ _ _ c.in_ok-least.least told))

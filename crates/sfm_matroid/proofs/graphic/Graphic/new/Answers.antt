@@ -1,8 +1,12 @@
-use Rattle.std.proofs.Common.{◌∙◌, length, ap, sym}
+use Rattle.std.proofs.Common.{◌∙◌, length, ap, sym, arith}
 use Rattle.sfm_base.proofs.Elements.{placed_few}
+use Rattle.sfm_matroid.specs.Numbered.{numbered}
 use Rattle.sfm_matroid.proofs.Labels.{length-edges}
 use Rattle.sfm_matroid.proofs.Kept.{basis_from}
 use Rattle.sfm_matroid.proofs.graphic.Graphic.new.Goals as goal
+
+pub numbered-requires : goal.numbered-requires
+numbered-requires c = let few = placed_few 256 c.args.elements.now c.requires.elements.placed in omega (arith, few, c.requires.same_count)
 
 pub invariant_of-result-clause-few : goal.invariant_of-result-clause-few
 invariant_of-result-clause-few c = rw c.in_ok-places.ensures (placed_few 256 c.args.elements.now c.requires.elements.placed)
@@ -12,3 +16,6 @@ invariant_of-result-clause-same_count c = ap length c.in_ok-ends.ensures ∙ (le
 
 pub invariant_of-result-clause-based : goal.invariant_of-result-clause-based
 invariant_of-result-clause-based c = basis_from c.args.ends.now _ _ _ c.in_ok-ends.ensures c.in_ok-all.ensures c.in_ok-basis.ensures
+
+pub invariant_of-result-clause-of_ends : goal.invariant_of-result-clause-of_ends
+invariant_of-result-clause-of_ends c = c.in_ok-numbers.ensures ∙ ap numbered (sym c.in_ok-ends.ensures)

@@ -1,0 +1,172 @@
+-- Who can lend, by one search from a demand as if it lacked one while all demands are met.
+use Rattle.std.proofs.Common.{◌≡◌, ◌≢◌, Option, Some, None, MatchOption, ℕ, ◌<◌, Bool, false, List, length, get_or, ℤ, pos, ◌+ℤ◌, ◌-ℤ◌, ◌≤ℤ◌, refl, sym, ap, ◌∙◌, arith, ⊎_elim, length-set, get_or-set_other, get_or-set_same}
+use Rattle.std.proofs.lemmas.Int.{ints}
+use Rattle.std.proofs.lemmas.Bool.{cases_eq, cases_Bool}
+use Rattle.std.proofs.lemmas.List.{set-get_or}
+use Rattle.sfm_spec.specs.Sets.{Has, sum_over}
+use Rattle.sfm_spec.specs.Terms.{exchanged}
+use Rattle.sfm_spec.proofs.Sums.{share, sum_over-set, length-exchanged, sum_over-exchanged}
+use Rattle.sfm_assign.specs.Splits.{sum_at, amount_at, CanBeMet, Demands, AreDemands}
+use Rattle.sfm_assign.specs.Cells.{joined, owners, cut, IsPart, IsMet}
+use Rattle.sfm_assign.specs.Search.{only, GetsOne, IsFoundFrom}
+use Rattle.sfm_assign.specs.Lenders.{one_more, IsLenders}
+use Rattle.sfm_assign.proofs.Amounts.{only-same, only-other}
+use Rattle.sfm_assign.proofs.Rows.{split_of_part}
+use Rattle.sfm_assign.proofs.Hall.{closed_bounds}
+use Rattle.sfm_assign.proofs.Outcomes.{changed-at, changed-other, asked_part, amounts_low, capacities_low}
+use Rattle.sfm_assign.proofs.Filling.{smaller}
+
+module _ (d : Demands) (sound : AreDemands d) (u : ℕ) (lu : u < length d.demands) (y : List ℤ) (part : IsPart d.demands d.capacities (owners 0 d.lists) (joined d.lists) y) (met : IsMet d.demands (owners 0 d.lists) y) where
+  abbrev whos : List ℕ
+  whos = owners 0 d.lists
+
+  abbrev slots : List ℕ
+  slots = joined d.lists
+
+  abbrev more : List ℤ
+  more = one_more d.demands u
+
+  more-places : length more ≡ length d.demands
+  more-places = length-set d.demands u (amount_at d.demands u +ℤ pos 1)
+
+  more-u : amount_at more u ≡ (amount_at d.demands u +ℤ pos 1)
+  more-u = changed-at d.demands u lu (amount_at d.demands u +ℤ pos 1)
+
+  more-other : (i : ℕ) → (i ≡ u → ⊥) → amount_at more i ≡ amount_at d.demands i
+  more-other i ne = changed-other d.demands u lu (amount_at d.demands u +ℤ pos 1) i ne
+
+  pub more_part : IsPart more d.capacities whos slots y
+  more_part = asked_part d sound u lu (amount_at d.demands u) (amount_at d.demands u +ℤ pos 1) y (omega (arith, ints)) (rw (set-get_or d.demands u (pos 0)) part)
+
+  gets : (i : ℕ) → i < length d.demands → sum_at i whos y ≡ amount_at d.demands i
+  gets i lt = let p = part.got i lt in let m = met i lt in omega (arith, ints, p, m)
+
+  -- only u lacks something
+  to_u : (less : ℕ → ℤ) (g : GetsOne more d.capacities whos slots y less) → g.to ≡ u
+  to_u less g = ⊎_elim (λ q. q)
+      (λ ne.
+      let o = more-other g.to ne in
+      let l = more-places in
+      let lt = g.in_range in
+      let m = met g.to (omega (arith, lt, l)) in
+      let h = g.lacking in
+      absurd (omega (arith, ints, o, m, h)))
+      (cases_eq g.to u)
+
+  -- what each demand gets then
+  got-after : (less : ℕ → ℤ) (g : GetsOne more d.capacities whos slots y less) (i : ℕ) → i < length d.demands → sum_at i whos g.after ≡ (amount_at more i -ℤ less i)
+  got-after less g i lt =
+      let h = g.got i in
+      let e = gets i lt in
+      let q = ap (λ j. only j i (pos 1)) (to_u less g) in
+      ⊎_elim
+      (λ (s : i ≡ u). let o = only-same u i (pos 1) (sym s) in let m = more-u in let x = ap (λ j. amount_at more j) s in let z = ap (λ j. amount_at d.demands j) s in omega (arith, ints, h, e, q, o, m, x, z))
+      (λ ne. let o = only-other u i (pos 1) (λ s. ne (sym s)) in let m = more-other i ne in omega (arith, ints, h, e, q, o, m))
+      (cases_eq i u)
+
+  -- demands that get exactly what they ask for are met
+  met_by : (x : List ℤ) (less : ℕ → ℤ) (g : GetsOne more d.capacities whos slots y less) → length x ≡ length d.demands → ((i : ℕ) → i < length d.demands → amount_at x i ≡ (amount_at more i -ℤ less i)) → CanBeMet x d.lists d.capacities
+  met_by x less g lx is = (
+    cut d.lists g.after,
+    split_of_part x d.lists d.capacities g.after (sound.same ∙ sym lx)
+        (record {
+          cells = g.part.cells;
+          amounts = g.part.amounts;
+          got = λ i lt. let li : i < length d.demands = omega (arith, lt, lx) in let h = got-after less g i li in let e = is i li in omega (arith, ints, h, e);
+          within = g.part.within;
+        })
+        (λ i lt. let li : i < length d.demands = omega (arith, lt, lx) in let h = got-after less g i li in let e = is i li in omega (arith, ints, h, e)),
+  )
+
+  more_met : GetsOne more d.capacities whos slots y (λ i. pos 0) → CanBeMet (one_more d.demands u) d.lists d.capacities
+  more_met g = met_by more (λ i. pos 0) g more-places (λ i lt. omega (arith, ints))
+
+  module _ (v : ℕ) (lv : v < length d.demands) (ne : v ≢ u) where
+    exchanged-at : (i : ℕ) → i < length d.demands → amount_at (exchanged d.demands u v (pos 1)) i ≡ (amount_at more i -ℤ only v i (pos 1))
+    exchanged-at i lt =
+        let l = more-places in
+        ⊎_elim
+        (λ (q : i ≡ v).
+        let o = only-same v i (pos 1) (sym q) in
+        let g = get_or-set_same more v (amount_at d.demands v -ℤ pos 1) (pos 0) (omega (arith, lv, l)) in
+        let m = more-other v ne in
+        let x = ap (λ j. amount_at (exchanged d.demands u v (pos 1)) j) q in
+        let z = ap (λ j. amount_at more j) q in
+        omega (arith, ints, o, g, m, x, z))
+        (λ nv.
+        let o = only-other v i (pos 1) (λ s. nv (sym s)) in
+        let g = get_or-set_other more v i (amount_at d.demands v -ℤ pos 1) (pos 0) nv in
+        omega (arith, ints, o, g))
+        (cases_eq i v)
+
+    lent_met : GetsOne more d.capacities whos slots y (λ i. only v i (pos 1)) → CanBeMet (exchanged d.demands u v (pos 1)) d.lists d.capacities
+    lent_met g = met_by (exchanged d.demands u v (pos 1)) (λ i. only v i (pos 1)) g (length-exchanged d.demands u v (pos 1)) exchanged-at
+
+  -- u was found, with a closed set
+  module _ (s : List Bool) (found : IsFoundFrom more d.capacities whos slots y s) where
+    has_u : Has s u
+    has_u = let l = more-places in let m = more-u in let g = gets u lu in found.filled.lacking u (omega (arith, lu, l)) (omega (arith, ints, m, g))
+
+    places : length s ≡ length d.demands
+    places = found.filled.places ∙ more-places
+
+    -- demands that can be met ask for no more within the set
+    bound : (x : List ℤ) → length x ≡ length d.demands → CanBeMet x d.lists d.capacities → sum_over s x ≤ℤ sum_over s d.demands
+    bound x lx can = closed_bounds d.demands d.capacities d.lists y sound.same sound.exist part s places found.filled.closed x lx can
+
+    not_more : CanBeMet (one_more d.demands u) d.lists d.capacities → ⊥
+    not_more can =
+        let p = places in
+        let b = bound more more-places can in
+        let e = rw has_u at (sum_over-set s d.demands u (amount_at d.demands u +ℤ pos 1) p lu) in
+        absurd (omega (arith, ints, b, e))
+
+    not_lent : (v : ℕ) → v < length d.demands → v ≢ u → CanBeMet (exchanged d.demands u v (pos 1)) d.lists d.capacities → Has s v
+    not_lent v lv ne can = ⊎_elim (λ has. has)
+        (λ out.
+        let b = bound (exchanged d.demands u v (pos 1)) (length-exchanged d.demands u v (pos 1)) can in
+        let e = sum_over-exchanged s d.demands u v (pos 1) places lu lv (λ q. ne (sym q)) in
+        let su : share s u (pos 1) ≡ pos 1 = rw has_u refl in
+        let sv : share s v (pos 1) ≡ pos 0 = rw out refl in
+        absurd (omega (arith, ints, b, e, su, sv)))
+        (cases_Bool (get_or s v false))
+
+    lenders_are : IsLenders d.demands d.lists d.capacities u s
+    lenders_are = record {
+      places = places;
+      full = not_more;
+      exact = λ v lv ne. ((λ has. lent_met v lv ne (found.lends v has)), (λ can. not_lent v lv ne can));
+    }
+
+  -- what the search told
+  pub lenders_from : (found : Option (List Bool)) → MatchOption found (GetsOne more d.capacities whos slots y (λ i. pos 0)) (IsFoundFrom more d.capacities whos slots y)
+      → MatchOption found (CanBeMet (one_more d.demands u) d.lists d.capacities) (IsLenders d.demands d.lists d.capacities u)
+  lenders_from None g = more_met g
+  lenders_from (Some s) found = lenders_are s found
+
+-- where u can get one more as it is, each demand that asks for something can lend to it
+pub lent_from_more : (d : Demands) → AreDemands d → (u v : ℕ) → u < length d.demands → v < length d.demands → v ≢ u → pos 1 ≤ℤ amount_at d.demands v → CanBeMet (one_more d.demands u) d.lists d.capacities → CanBeMet (exchanged d.demands u v (pos 1)) d.lists d.capacities
+lent_from_more d sound u v lu lv ne some can = smaller (one_more d.demands u) (exchanged d.demands u v (pos 1)) d.lists d.capacities (sound.same ∙ sym places) (length-exchanged d.demands u v (pos 1) ∙ sym places) sound.exist (λ i lt. each i (omega (arith, lt, places))) (capacities_low d sound) can where
+  places : length (one_more d.demands u) ≡ length d.demands
+  places = length-set d.demands u (amount_at d.demands u +ℤ pos 1)
+
+  more-low : (i : ℕ) → i < length d.demands → pos 0 ≤ℤ amount_at (one_more d.demands u) i
+  more-low i lt =
+      let low = amounts_low d sound i lt in
+      ⊎_elim
+      (λ (q : i ≡ u). let e = changed-at d.demands u lu (amount_at d.demands u +ℤ pos 1) in let p = ap (λ j. amount_at (one_more d.demands u) j) q in let r = ap (λ j. amount_at d.demands j) q in omega (arith, ints, low, e, p, r))
+      (λ nu. let e = changed-other d.demands u lu (amount_at d.demands u +ℤ pos 1) i nu in omega (arith, ints, low, e))
+      (cases_eq i u)
+
+  each : (i : ℕ) → i < length d.demands → (pos 0 ≤ℤ amount_at (exchanged d.demands u v (pos 1)) i) × (amount_at (exchanged d.demands u v (pos 1)) i ≤ℤ amount_at (one_more d.demands u) i)
+  each i lt =
+      let low = more-low i lt in
+      ⊎_elim
+      (λ (q : i ≡ v).
+      let g = get_or-set_same (one_more d.demands u) v (amount_at d.demands v -ℤ pos 1) (pos 0) (omega (arith, lv, places)) in
+      let m = changed-other d.demands u lu (amount_at d.demands u +ℤ pos 1) v ne in
+      let x = ap (λ j. amount_at (exchanged d.demands u v (pos 1)) j) q in
+      let z = ap (λ j. amount_at (one_more d.demands u) j) q in
+      (omega (arith, ints, g, x, some), omega (arith, ints, g, m, x, z)))
+      (λ nv. let g = get_or-set_other (one_more d.demands u) v i (amount_at d.demands v -ℤ pos 1) (pos 0) nv in (omega (arith, ints, g, low), omega (arith, ints, g)))
+      (cases_eq i v)

@@ -1,0 +1,78 @@
+-- Places kept in a set that can give something: by what a search tells of all at once, test after test.
+use Rattle.std.proofs.Common.{◌≡◌, ◌≢◌, ◌↔◌, ℕ, zero, suc, ◌+◌, ◌<◌, Bool, true, false, Option, Some, None, MatchOption, List, [], ◌∷◌, length, get_or, ℤ, pos, ◌≤ℤ◌, ◌<ℤ◌, refl, sym, ap, ◌∙◌, arith, ⊎_elim}
+use Rattle.std.proofs.lemmas.Bool.{cases_lt, and_parts, and_from, false≢true}
+use Rattle.std.proofs.lemmas.Int.{ints}
+use Rattle.sfm_spec.specs.Sets.{Has, size, intersection}
+use Rattle.sfm_spec.specs.Terms.{SetFunction, HasRoom, exchanged}
+use Rattle.sfm_spec.proofs.Sets.{get_or-intersection}
+use Rattle.sfm_spec.proofs.Where.{size-cons}
+use Rattle.sfm_law.specs.Room.{IsReach}
+use Rattle.sfm_assign.specs.Splits.{CanBeMet, Demands, AreDemands}
+use Rattle.sfm_assign.specs.Lenders.{one_more, IsLenders}
+use Rattle.sfm_assign.proofs.Loans.{lent_from_more}
+use Rattle.sfm_matroid.specs.Members.{has_place}
+use Rattle.sfm_matroid.specs.Givers.{IsGiver, AreKept}
+
+-- a set without members has none to be kept
+pub kept_nothing : (IsKept : ℕ → Type 0) (s : List Bool) → size s ≡ 0 → AreKept IsKept s s
+kept_nothing IsKept s none v = ((λ has. absurd (out s v none has)), (λ h. h.0)) where
+  out : (s : List Bool) (v : ℕ) → size s ≡ 0 → Has s v → ⊥
+  out [] v none has = false≢true has
+  out (true ∷ s) v none has = let c = size-cons true s in omega (arith, c, none)
+  out (false ∷ s) zero none has = false≢true has
+  out (false ∷ s) (suc v) none has = let c = size-cons false s in out s v (omega (arith, c, none)) has
+
+-- what is told under a condition that is true
+pub kept_where : (Where : Type 0) (IsKept : ℕ → Type 0) (before after : List Bool) → Where → AreKept IsKept before after → AreKept (λ v. Where → IsKept v) before after
+kept_where Where IsKept before after here kept v = ((λ has. let (b, k) = (kept v).0 has in (b, λ w. k)), (λ (b, k). (kept v).1 (b, k here)))
+
+-- ---- one test
+
+module _ (d : Demands) (u : ℕ) (before : List Bool) (places : length before ≡ length d.demands) (givers : (v : ℕ) → Has before v → (v ≢ u) × (pos 1 ≤ℤ get_or d.demands v (pos 0))) where
+  abbrev CanLend : ℕ → Type 0
+  CanLend v = CanBeMet (exchanged d.demands u v (pos 1)) d.lists d.capacities
+
+  -- the lenders are kept
+  pub kept_lenders : (s : List Bool) → IsLenders d.demands d.lists d.capacities u s → AreKept CanLend before (intersection before s)
+  kept_lenders s lend v =
+      let same : length before ≡ length s = places ∙ sym lend.places in
+      let at = get_or-intersection before s v same in
+      let below : Has before v → v < length d.demands = λ h. let p = has_place before v h in omega (arith, p, places) in (
+        (λ has. let (b, l) = and_parts (get_or before v false) (get_or s v false) (sym at ∙ has) in (b, (lend.exact v (below b) (givers v b).0).0 l)),
+        (λ (b, can). at ∙ and_from (get_or before v false) (get_or s v false) b ((lend.exact v (below b) (givers v b).0).1 can)),
+      )
+
+  -- where u can get one more as it is, each can lend
+  pub kept_all : AreDemands d → u < length d.demands → CanBeMet (one_more d.demands u) d.lists d.capacities → AreKept CanLend before before
+  kept_all sound lu more v = (
+    (λ has. let p = has_place before v has in let g = givers v has in (has, lent_from_more d sound u v lu (omega (arith, p, places)) g.0 g.1 more)),
+    (λ h. h.0),
+  )
+
+-- ---- one test after another
+
+pub kept_more : (IsKept : ℕ → ℕ → Type 0) (a : ℕ) (first before after : List Bool) → AreKept (λ v. (b : ℕ) → b < a → IsKept b v) first before → AreKept (IsKept a) before after → AreKept (λ v. (b : ℕ) → b < a + 1 → IsKept b v) first after
+kept_more IsKept a first before after far near v = (
+  (λ has. let (h, here) = (near v).0 has in let (f, all) = (far v).0 h in (f, λ b lt. ⊎_elim (λ (l : b < a). all b l) (λ ge. let q : b ≡ a = omega (arith, ge, lt) in rw q here) (cases_lt b a))),
+  (λ (f, all). (near v).1 ((far v).1 (f, λ b lt. all b (omega (arith, lt))), all a (omega arith))),
+)
+
+pub kept_none : (IsKept : ℕ → ℕ → Type 0) (s : List Bool) → AreKept (λ v. (b : ℕ) → b < 0 → IsKept b v) s s
+kept_none IsKept s v = ((λ has. (has, λ b lt. absurd (omega arith))), (λ h. h.0))
+
+-- ---- the reach
+
+-- what is kept of the givers is the reach, if u has room to exactly those that can lend in each test
+pub reach_kept : (f : SetFunction) (x : List ℤ) (c : ℤ) (u : ℕ) (CanLend : ℕ → Type 0) (before after : List Bool) → length after ≡ length x → ((v : ℕ) → v < length x → Has before v ↔ IsGiver x c u v) → AreKept CanLend before after
+    → ((v : ℕ) → v < length x → u ≢ v → IsGiver x c u v → CanLend v → HasRoom f x u v) → ((v : ℕ) → v < length x → u ≢ v → HasRoom f x u v → IsGiver x c u v × CanLend v) → IsReach f x u after
+reach_kept f x c u CanLend before after places exact kept to from = record {
+  places = places;
+  exact = λ v lt. (
+    (λ has. let (b, lend) = (kept v).0 has in let g = (exact v lt).0 b in (g.0, to v lt (λ e. g.0 (sym e)) g lend)),
+    (λ (ne, room). let (g, lend) = from v lt (λ e. ne (sym e)) room in (kept v).1 ((exact v lt).1 g, lend)),
+  );
+}
+
+-- those that are written have something
+pub givers_have : (x : List ℤ) (c : ℤ) (u : ℕ) (s : List Bool) → length s ≡ length x → ((v : ℕ) → v < length x → Has s v ↔ IsGiver x c u v) → (v : ℕ) → Has s v → (v ≢ u) × (pos 1 ≤ℤ get_or x v (pos 0))
+givers_have x c u s places exact v has = let p = has_place s v has in let g = (exact v (omega (arith, p, places))).0 has in (g.0, g.2)

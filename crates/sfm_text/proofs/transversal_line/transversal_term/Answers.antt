@@ -1,0 +1,19 @@
+use Rattle.std.proofs.Common.{◌≡◌, List, ℕ, map, refl, ◌∙◌, arith}
+use Rattle.sfm_text.specs.Lines.{texts_of}
+use Rattle.sfm_text.specs.LabelTerms.{distinct_of, joined, place_among}
+use Rattle.sfm_text.specs.ReadParts.{label_lists_of}
+use Rattle.sfm_text.proofs.ReadLines.{kept-at}
+use Rattle.sfm_text.proofs.transversal_line.transversal_term.Goals as goal
+
+pub returns : goal.returns
+returns c =
+    let lists = label_lists_of c.args.parts.now.labels.items in
+    let names : texts_of c.in_ok-names.names.keys ≡ distinct_of (joined lists) = rw c.deref.ensures.value at c.in_ok-names.ensures in
+    let entries : c.in_ok-entries.entries ≡ map (λ (texts : List (List ℕ)). map (place_among (texts_of c.in_ok-names.names.keys)) texts) lists = rw c.deref-2.ensures.value at c.in_ok-entries.ensures in
+    record {
+      transversal = c.in_ok-transversal.transversal;
+      kind = refl;
+      same_places = c.in_ok-transversal.ensures.places;
+      same_number = c.in_ok-transversal.ensures.number ∙ kept-at c.args.values.now 0 (omega (arith, c.requires.one)) c.requires.small;
+      same_entries = c.in_ok-transversal.ensures.entries ∙ (rw names at entries);
+    }

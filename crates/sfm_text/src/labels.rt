@@ -1,0 +1,115 @@
+// The labels of the elements of a line: the ends of edges, or the slots of entries. Whether they have the form of names,
+// whether a slot stands twice in an entry, and the numbers that stand for them. Equal labels of a line have one number, and
+// the numbers go up from 0 in the order in which labels first appear, as an insertion into a set in that order counts them.
+ghost use Rattle.std.specs.Prelude.{◌≡◌, ◌<◌, ◌^◌, ◌++◌, ℕ, List, map, Any, IfOk, OnOk, MatchBool};
+ghost use Rattle.std.specs.List.{All};
+ghost use Rattle.sfm_spec.specs.Names.{IsName};
+ghost use Rattle.sfm_text.specs.Lines.{texts_of};
+ghost use Rattle.sfm_text.specs.LabelTerms.{distinct_of, joined, place_among};
+ghost use Rattle.sfm_text.specs.TermLines.{StandsTwice};
+ghost use Rattle.sfm_text.specs.Reading.{HasSlotTwice};
+ghost use Rattle.sfm_text.specs.ReadParts.{label_lists_of};
+
+use crate::names::are_names;
+use crate::repeat::has_repeat;
+use crate::word::RankKind;
+use indexmap::IndexSet;
+use sfm_base::Memory;
+use std::alloc::Global;
+
+/// A number above each number of a label: a text of the permitted length has fewer labels.
+const MOST_LABELS: usize = 16_777_216;
+
+/// The labels of an element.
+#[derive(Drop)]
+pub struct Labels<'a> {
+    pub texts: Vec<&'a [u8]>,
+}
+
+/// Whether each label of each element has the form of a name.
+pub fn are_labels(labels: &[Labels]) -> bool
+    ensures { MatchBool result
+        (All (λ texts. All IsName texts) (label_lists_of labels.now))
+        (Any (λ texts. Any (λ text. IsName text → ⊥) texts) (label_lists_of labels.now)) }
+{
+    for element in labels {
+        if !are_names(&element.texts) {
+            return false;
+        }
+    }
+    true
+}
+
+/// Whether a label stands twice at some element.
+fn has_label_twice(alloc: Global, labels: &[Labels]) -> Result<bool, Memory>
+    ensures { IfOk result (λ r. MatchBool r
+        (Any (λ texts. StandsTwice texts) (label_lists_of labels.now))
+        (All (λ texts. StandsTwice texts → ⊥) (label_lists_of labels.now))) }
+{
+    for element in labels {
+        if has_repeat(alloc, &element.texts)? {
+            return Ok(true);
+        }
+    }
+    Ok(false)
+}
+
+/// Whether a slot stands twice in some entry of a line of this rank.
+pub fn has_slot_twice(alloc: Global, rank: RankKind, labels: &[Labels]) -> Result<bool, Memory>
+    ensures { IfOk result (λ r. MatchBool r
+        (HasSlotTwice rank (label_lists_of labels.now))
+        (HasSlotTwice rank (label_lists_of labels.now) → ⊥)) }
+{
+    match rank {
+        RankKind::TransversalRank => has_label_twice(alloc, labels),
+        RankKind::NoRank | RankKind::UniformRank | RankKind::LaminarRank | RankKind::GraphicRank =>
+            Ok(false),
+    }
+}
+
+/// Puts those of the texts that are new behind the names.
+fn add_names<'a>(names: &mut IndexSet<&'a [u8]>, texts: &[&'a [u8]]) -> Result<(), Memory>
+    ensures { OnOk result ((before : List (List ℕ)) → texts_of names.old.keys ≡ distinct_of before
+        → texts_of names.new.keys ≡ distinct_of (before ++ texts_of texts.now)) }
+{
+    for text in texts {
+        names.insert(*text)?;
+    }
+    Ok(())
+}
+
+/// The different labels of a line, in the order in which they first appear.
+pub fn different<'a>(alloc: Global, labels: &[Labels<'a>]) -> Result<IndexSet<&'a [u8]>, Memory>
+    ensures { IfOk result (λ r. texts_of r.keys ≡ distinct_of (joined (label_lists_of labels.now))) }
+{
+    let mut names = IndexSet::new(alloc);
+    for element in labels {
+        add_names(&mut names, &element.texts)?;
+    }
+    Ok(names)
+}
+
+/// The number of a label: its place among the different ones.
+pub fn number_of(names: &IndexSet<&[u8]>, label: &[u8]) -> Result<u32, Memory>
+    ensures number { IfOk result (λ r. r ≡ place_among (texts_of names.now.keys) label.now) }
+    ensures small { IfOk result (λ r. r < 2 ^ 24) }
+{
+    let number = names.get_index_of(label).unwrap_or(names.len());
+    if number >= MOST_LABELS {
+        return Err(Memory);
+    }
+    Ok(number as u32)
+}
+
+/// The numbers of labels.
+pub fn numbers(alloc: Global, names: &IndexSet<&[u8]>, labels: &[&[u8]]) -> Result<Vec<u32>, Memory>
+    ensures numbers { IfOk result (λ r. r.items ≡ map (place_among (texts_of names.now.keys)) (texts_of labels.now)) }
+    ensures small { IfOk result (λ r. All (λ v. v < 2 ^ 24) r.items) }
+{
+    let mut numbers = Vec::new(alloc);
+    for label in labels {
+        let number = number_of(names, label)?;
+        numbers.push(number)?;
+    }
+    Ok(numbers)
+}
