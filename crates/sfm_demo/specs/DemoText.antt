@@ -1,5 +1,5 @@
 -- The text of a demonstration instance: 200 elements, and 176 terms of all kinds, drawn from a seed. In a `do` block the draws are made
--- in the order of its lines.
+-- in the order of its lines. A line with no `←` is what the block makes; where it is text, texts of several lines stand one behind another.
 use Rattle.std.specs.Prelude.{ℕ, zero, suc, ◌+◌, ◌*◌, ◌%◌, List, [], ◌∷◌, ◌++◌, codes, map, ℤ, pos, ◌+ℤ◌, ◌-ℤ◌, ◌==◌, if◌then◌else◌}
 use Rattle.std.specs.Int.{bit_at}
 use Rattle.std.specs.List.{range_with_len}
@@ -74,7 +74,7 @@ further (suc n) d = do
   more ← further n (d -ℤ pos less)
   done ((d -ℤ pos less) ∷ more)
 
--- what a becomes by each increment
+-- what a becomes by each increment, one after another
 abbrev pub sums : ℤ → List ℤ → List ℤ
 sums a [] = []
 sums a (d ∷ ds) = (a +ℤ d) ∷ sums (a +ℤ d) ds
@@ -82,6 +82,7 @@ sums a (d ∷ ds) = (a +ℤ d) ∷ sums (a +ℤ d) ds
 abbrev pub numbers : List ℤ → List (List ℕ)
 numbers x = map signed_decimal x
 
+-- its numbers are the partial sums of the increments
 abbrev pub concave_line : Drawing (List ℕ)
 concave_line = do
   p ← draw 200
@@ -105,7 +106,7 @@ laminar_line = do
   c ← draw 2
   p ← draw 200
   done (rank_line w (codes "laminar") (codes ":" ∷ names (run p 1 10) ++ codes ";" ∷ codes "4" ∷ names (run p 1 6)
-    ++ codes ";" ∷ decimal (1 + c) ∷ names (run p 1 3)))
+      ++ codes ";" ∷ decimal (1 + c) ∷ names (run p 1 3)))
 
 abbrev pub edge : ℕ → Drawing (List ℕ)
 edge e = do
@@ -162,7 +163,7 @@ lines (suc n) one = do
   lines n one
   one
 
--- in the next two, each line of the block is text, which stands behind that of the lines above it
+-- the lines of the terms behind the weights
 unfoldable pub term_lines : Drawing (List ℕ)
 term_lines = do
   lines 100 cut_line

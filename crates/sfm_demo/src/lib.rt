@@ -9,3 +9,5 @@ mod words;
 
 pub use text::demo_text;
 
+#[cfg(test)]
+mod tests;

@@ -4,7 +4,9 @@ ghost use Rattle.std.specs.String.{string_bytes};
 ghost use Rattle.sfm_demo.specs.DemoText.{weight_line, cut_line, need_line, cover_line, concave_line, uniform_line, laminar_line, graphic_line, transversal_line, table_line, level, table_values};
 
 use crate::draws::Draws;
-use crate::words::{ELEMENTS, write_edges, write_entries, write_numbers, write_pairs, write_run, write_sums};
+use crate::words::{
+    ELEMENTS, write_edges, write_entries, write_numbers, write_pairs, write_run, write_sums,
+};
 use std::alloc::AllocError;
 
 /// The element that stands d + 1 behind a.

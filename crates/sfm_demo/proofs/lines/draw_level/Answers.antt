@@ -1,6 +1,6 @@
 use Rattle.std.proofs.Common.{sym, ◌∙◌, arith}
 use Rattle.std.proofs.lemmas.Int.{ints}
-use Rattle.sfm_demo.proofs.More.{level_of, level-state}
+use Rattle.sfm_demo.proofs.Pieces.{level_of, level-state}
 use Rattle.sfm_demo.proofs.lines.draw_level.Goals as goal
 
 pub returns-clause-value : goal.returns-clause-value

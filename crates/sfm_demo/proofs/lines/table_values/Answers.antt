@@ -1,4 +1,4 @@
-use Rattle.std.proofs.Common.{◌≡◌, List, [], ◌∷◌, ℤ, refl, arith}
+use Rattle.std.proofs.Common.{◌≡◌, [], ◌∷◌, ℤ, arith}
 use Rattle.std.proofs.lemmas.Int.{ints}
 use Rattle.sfm_demo.specs.DemoText.{table_values}
 use Rattle.sfm_demo.proofs.lines.table_values.Goals as goal

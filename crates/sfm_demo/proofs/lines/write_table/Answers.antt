@@ -5,7 +5,7 @@ use Rattle.std.specs.Prelude.{codes}
 use Rattle.std.specs.String.{string_bytes}
 use Rattle.sfm_demo.specs.Draws.{next, top}
 use Rattle.sfm_demo.specs.DemoText.{level, names, numbers, run, spaced, table_values}
-use Rattle.sfm_demo.proofs.More.{divided, table_drawn}
+use Rattle.sfm_demo.proofs.Pieces.{divided, table_drawn}
 use Rattle.sfm_demo.proofs.lines.write_table.Goals as goal
 
 pub returns-clause-text : goal.returns-clause-text

@@ -1,5 +1,5 @@
 use Rattle.std.proofs.Common.{ap, ◌∙◌}
-use Rattle.sfm_demo.proofs.More.{whole}
+use Rattle.sfm_demo.proofs.Pieces.{whole}
 use Rattle.sfm_demo.proofs.text.demo_text.Goals as goal
 
 pub returns : goal.returns

@@ -1,5 +1,5 @@
 use Rattle.sfm_demo.specs.Kinds.{line_of}
-use Rattle.sfm_demo.proofs.More.{lines_none, lines_more, after_none, after_more}
+use Rattle.sfm_demo.proofs.Pieces.{lines_none, lines_more, after_none, after_more}
 use Rattle.sfm_demo.proofs.text.write_lines.Goals as goal
 
 pub loop-i-init : goal.loop-i-init

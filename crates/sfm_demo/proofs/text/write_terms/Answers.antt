@@ -1,7 +1,7 @@
 use Rattle.sfm_demo.specs.Draws.{◌>>◌}
 use Rattle.sfm_demo.specs.DemoText.{lines, term_lines, cut_line, need_line, cover_line, concave_line, uniform_line, laminar_line, graphic_line, transversal_line, table_line}
 use Rattle.sfm_demo.specs.Kinds.{line_of}
-use Rattle.sfm_demo.proofs.More.{behind}
+use Rattle.sfm_demo.proofs.Pieces.{behind}
 use Rattle.sfm_demo.proofs.text.write_terms.Goals as goal
 
 pub returns : goal.returns

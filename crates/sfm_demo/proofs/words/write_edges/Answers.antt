@@ -1,6 +1,6 @@
 use Rattle.std.proofs.Common.{refl}
 use Rattle.sfm_demo.specs.DemoText.{edge}
-use Rattle.sfm_demo.proofs.More.{words_more, words_none, state_more, state_none}
+use Rattle.sfm_demo.proofs.Pieces.{words_more, words_none, state_more, state_none}
 use Rattle.sfm_demo.proofs.words.write_edges.Goals as goal
 
 pub loop-j-init : goal.loop-j-init

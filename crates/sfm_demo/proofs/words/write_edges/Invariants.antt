@@ -6,5 +6,5 @@ use Rattle.sfm_demo.proofs.words.write_edges.Given as goal
 abbrev pub invariant-loop-j : goal.invariant-loop-j
 invariant-loop-j l = record {
   text : string_bytes l.out ≡ string_bytes l.initial.out ++ spaced (each edge (run l.p 13 l.j) l.initial.draws).value;
-  state : l.draws ≡ (each edge (run l.p 13 l.j) l.initial.draws).state
+  state : l.draws ≡ (each edge (run l.p 13 l.j) l.initial.draws).state;
 }

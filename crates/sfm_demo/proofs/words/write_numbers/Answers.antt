@@ -1,4 +1,4 @@
-use Rattle.sfm_demo.proofs.More.{numbers_more}
+use Rattle.sfm_demo.proofs.Pieces.{numbers_more}
 use Rattle.sfm_demo.proofs.words.write_numbers.Goals as goal
 
 pub loop-value-preserved : goal.loop-value-preserved

@@ -1,6 +1,6 @@
 use Rattle.std.proofs.Common.{arith}
 use Rattle.sfm_demo.specs.DemoText.{pair}
-use Rattle.sfm_demo.proofs.More.{words_more, words_none, state_more, state_none}
+use Rattle.sfm_demo.proofs.Pieces.{words_more, words_none, state_more, state_none}
 use Rattle.sfm_demo.proofs.words.write_pairs.Goals as goal
 
 pub loop-e-init : goal.loop-e-init

@@ -6,5 +6,5 @@ use Rattle.sfm_demo.proofs.words.write_pairs.Given as goal
 abbrev pub invariant-loop-e : goal.invariant-loop-e
 invariant-loop-e l = record {
   text : string_bytes l.out ≡ string_bytes l.initial.out ++ spaced (each pair (run 0 1 l.e) l.initial.draws).value;
-  state : l.draws ≡ (each pair (run 0 1 l.e) l.initial.draws).state
+  state : l.draws ≡ (each pair (run 0 1 l.e) l.initial.draws).state;
 }

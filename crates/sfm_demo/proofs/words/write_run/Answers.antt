@@ -1,5 +1,5 @@
 use Rattle.std.proofs.Common.{refl}
-use Rattle.sfm_demo.proofs.More.{names_more, names_none}
+use Rattle.sfm_demo.proofs.Pieces.{names_more, names_none}
 use Rattle.sfm_demo.proofs.words.write_run.Goals as goal
 
 pub loop-j-init : goal.loop-j-init

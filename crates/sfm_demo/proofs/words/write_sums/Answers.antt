@@ -1,7 +1,7 @@
-use Rattle.std.proofs.Common.{◌≡◌, ◌+◌, ◌-◌, ◌∙◌, FitsSigned, arith}
+use Rattle.std.proofs.Common.{◌+◌, ◌-◌, ◌∙◌, FitsSigned, arith}
 use Rattle.std.proofs.lemmas.Int.{ints, to_z-of_z}
 use mir.Syntax.{w64}
-use Rattle.sfm_demo.proofs.More.{sums_more, increments_more, sums_all, increments_all}
+use Rattle.sfm_demo.proofs.Pieces.{sums_more, increments_more, sums_all, increments_all}
 use Rattle.sfm_demo.proofs.words.write_sums.Goals as goal
 
 pub loop-i-preserved : goal.loop-i-preserved

@@ -11,5 +11,5 @@ invariant-loop-i l = record {
   increment_low : neg_ℤ (pos (150 * l._i)) ≤ℤ l.increment;
   increment_high : l.increment ≤ℤ pos 600;
   sum_low : neg_ℤ (pos (1500 * l._i)) ≤ℤ l.sum;
-  sum_high : l.sum ≤ℤ pos (600 * (l._i + 1))
+  sum_high : l.sum ≤ℤ pos (600 * (l._i + 1));
 }

@@ -1,6 +1,6 @@
 use Rattle.std.proofs.Common.{ap, ◌∙◌}
 use Rattle.sfm_demo.specs.Draws.{next, top}
-use Rattle.sfm_demo.proofs.More.{next-wrapping, top-lem}
+use Rattle.sfm_demo.proofs.Pieces.{next-wrapping, top-lem}
 use Rattle.sfm_demo.proofs.draws.Draws.draw.Goals as goal
 
 pub returns-clause-value : goal.returns-clause-value

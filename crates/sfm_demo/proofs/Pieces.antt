@@ -1,4 +1,4 @@
--- What one more element, word or line adds, and the generator as its wrapping operations compute it.
+-- How the text grows by a piece: one more element, word, number or line; and the generator as its wrapping operations compute it.
 use Rattle.std.proofs.Common.{◌≡◌, ℕ, ◌+◌, ◌*◌, ◌/◌, ◌%◌, ◌^◌, ◌<◌, List, [], ◌∷◌, ◌++◌, length, get_or, take, map, ℤ, pos, ◌+ℤ◌, ◌-ℤ◌, refl, sym, ap, ◌∙◌, append_assoc, arith, add-one}
 use Rattle.std.proofs.Math.Nat.{mod-add-mod}
 use Rattle.std.proofs.lemmas.List.{append-nil, map-append, take_more}
