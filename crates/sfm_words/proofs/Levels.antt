@@ -13,7 +13,7 @@ use Rattle.sfm_words.specs.Command.{Command, command_by}
 use Rattle.sfm_words.proofs.Turns.{HasHelpOnly, at, dashes, dashes_or_value, holding, none_of, not_none, value_fault, value_passes, value_walks}
 
 -- the fault of what is held at the end, and the same as a test
-abbrev end_fault : Shape → Held → Kinds
+abbrev pub end_fault : Shape → Held → Kinds
 end_fault s h = or_else (settle_fault s.rules s.args_override_self h)
     (or_else (defaults_fault (settled s.rules h).rows s.rules) (check_fault s (finished s.rules h) false))
 
@@ -77,10 +77,10 @@ module _ (s : Shape) (only : HasHelpOnly s.rules) (rows : List Row) (pending : O
       more s (at rows pending k false) dashes words refl (subst (λ w. Reaches s w words) (sym (after_dashes s.rules rows pending k)) (then next))
 
   -- no place is left
-  pub full : arg_by_index s.rules k ≡ None → HoldsCommand s (holding rows pending) → (is_trailing : Bool) (words : List Text)
+  pub full : arg_by_index s.rules k ≡ None → (end_fault s (holding rows pending) ≡ [] → HoldsCommand s (holding rows pending)) → (is_trailing : Bool) (words : List Text)
       → IsFree s (at rows pending k is_trailing) words → Reaches s (at rows pending k is_trailing) words
   unfolding walk_passes
-  full none holds is_trailing [] e = record { walk = refl; end = holds }
+  full none holds is_trailing [] e = record { walk = refl; end = holds e.end }
   full none holds true (word ∷ words) e = absurd (stray s k (holding rows pending) none (turn_of s (at rows pending k true) word words e))
   full none holds false (word ∷ words) e = elim (dashes_or_value s [] rows pending k word only refl (turn_of s (at rows pending k false) word words e)) [
     | inl is ↦ subst (λ v. Reaches s (at rows pending k false) (v ∷ words)) (sym is)
@@ -93,20 +93,21 @@ module _ (s : Shape) (only : HasHelpOnly s.rules) (rows : List Row) (pending : O
   after a is_trailing word = to_positional s.rules (Some a) word (at rows pending k is_trailing) (holding rows pending)
 
   -- the place of an argument that has to be there
-  pub one : (a : Rule) → arg_by_index s.rules k ≡ Some a → step_passes s k (holding rows pending) value ≡ true → (end_fault s (holding rows pending) ≡ [] → ⊥)
+  pub one : (a : Rule) → arg_by_index s.rules k ≡ Some a → (step_fault s k (holding rows pending) value ≡ [] → step_passes s k (holding rows pending) value ≡ true) → (end_fault s (holding rows pending) ≡ [] → ⊥)
       → ((is_trailing : Bool) (word : Text) (words : List Text) → IsFree s (after a is_trailing word) words → Reaches s (after a is_trailing word) words)
       → (is_trailing : Bool) (words : List Text) → IsFree s (at rows pending k is_trailing) words → Reaches s (at rows pending k is_trailing) words
   one a here passes wants then is_trailing [] e = absurd (wants e.end)
   one a here passes wants then true (word ∷ words) e =
       let goes = after_trailing s.rules rows pending k word ∙ ap (λ o. to_positional s.rules o word (at rows pending k true) (holding rows pending)) here in
       let next = subst (λ w. IsFree s w words) goes (next_of s (at rows pending k true) word words e) in
-      more s (at rows pending k true) word words passes (subst (λ w. Reaches s w words) (sym goes) (then true word words next))
+      more s (at rows pending k true) word words (passes (turn_of s (at rows pending k true) word words e)) (subst (λ w. Reaches s w words) (sym goes) (then true word words next))
   one a here passes wants then false (word ∷ words) e = elim (dashes_or_value s [] rows pending k word only refl (turn_of s (at rows pending k false) word words e)) [
     | inl is ↦ subst (λ v. Reaches s (at rows pending k false) (v ∷ words)) (sym is)
         (past_dashes words (one a here passes wants then true words) (subst (λ v. IsFree s (at rows pending k false) (v ∷ words)) is e))
     | inr is ↦
         let goes = value_walks s.rules [] word refl is rows pending k ∙ ap (λ o. to_positional s.rules o word (at rows pending k false) (holding rows pending)) here in
         let next = subst (λ w. IsFree s w words) goes (next_of s (at rows pending k false) word words e) in
-        more s (at rows pending k false) word words (value_passes s [] word refl is rows pending k passes)
+        more s (at rows pending k false) word words
+        (value_passes s [] word refl is rows pending k (passes (value_fault s [] word refl is rows pending k (turn_of s (at rows pending k false) word words e))))
         (subst (λ w. Reaches s w words) (sym goes) (then false word words next))
   ]

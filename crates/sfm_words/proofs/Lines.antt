@@ -1,6 +1,6 @@
 -- The words of the whole command line: where clap finds no fault it takes them, and its matches hold a command.
 use Rattle.std.proofs.Common.{◌≡◌, ◌∙◌, ◌==◌, ◌||◌, Bool, List, [], ◌∷◌, ◌++◌, arith, refl, sym, ap, subst, true, false, Some, None, inl, inr, codes}
-use Rattle.std.specs.Prelude.{find, fold, is_some, option_and_then, option_map}
+use Rattle.std.specs.Prelude.{length, nat_lt, find, fold, is_some, option_and_then, option_map}
 use Rattle.std.specs.Option.{option_map_or}
 use Rattle.std.specs.Str.{bytes_eq}
 use Rattle.std.proofs.lemmas.Slice.Eq.{bytes_eq-Decides}
@@ -15,7 +15,7 @@ use Rattle.clap.specs.Takes.{entered_passes, level_passes, turn_passes, walk_pas
 use Rattle.clap.proofs.WalkLemmas.{walk_stopped}
 use Rattle.sfm_words.specs.Command.{Asks, Command, IsFileName, IsForm, check, command_by, solve}
 use Rattle.sfm_words.specs.Line.{sfm_line}
-use Rattle.sfm_words.proofs.Turns.{HasHelpOnly, at, dashes, dashes_or_value, none_of, not_none, value_fault}
+use Rattle.sfm_words.proofs.Turns.{HasHelpOnly, at, dashes, dashes_or_value, none_of, not_none, value_fault, some_word}
 use Rattle.sfm_words.proofs.Levels.{IsFree, Reaches}
 use Rattle.sfm_words.proofs.Forms.{check_sub, check_words, help_or_none, solve_sub, solve_words}
 
@@ -150,6 +150,7 @@ record IsPlain (name : Text) : Type 0 where
   apart : bytes_eq name dashes ≡ false
   long : long_of name ≡ None
   short : short_of name ≡ None
+  some : nat_lt 0 (length name) ≡ true
 
 name_is_plain : (name : Text) → IsFileName name → IsPlain name
 name_is_plain [] is = absurd (omega (arith, is.some))
@@ -157,15 +158,15 @@ name_is_plain (x ∷ xs) is = go (x == 45) refl
   where
     go : (b : Bool) → (x == 45) ≡ b → IsPlain (x ∷ xs)
     go true e = absurd (is.plain ((Decides-eqb x 45).0 e))
-    go false e = record { apart = rw e refl; long = rw e refl; short = rw e refl }
+    go false e = record { apart = rw e refl; long = rw e refl; short = rw e refl; some = some_word x xs }
 
 solve_form : (file : Text) → IsPlain file → Asks (codes "solve" ∷ file ∷ []) (solve file)
 unfolding clap_on_literals
-solve_form file f = rw (f.apart, f.long, f.short) (refl, refl)
+solve_form file f = rw (f.apart, f.long, f.short, f.some) (refl, refl)
 
 check_form : (file answer : Text) → IsPlain file → IsPlain answer → Asks (codes "check" ∷ file ∷ answer ∷ []) (check file answer)
 unfolding clap_on_literals
-check_form file answer f a = rw (f.apart, f.long, f.short, a.apart, a.long, a.short) (refl, refl)
+check_form file answer f a = rw (f.apart, f.long, f.short, a.apart, a.long, a.short, f.some, a.some) (refl, refl)
 
 pub form_asks : (words : List Text) (command : Command) → IsForm words command → Asks words command
 form_asks words (solve file) form = subst (λ v. Asks v (solve file)) (sym form.0) (solve_form file (name_is_plain file form.1))

@@ -1,5 +1,5 @@
 -- What a word is to a command with no flag but that for help: two hyphens, a value, or a fault.
-use Rattle.std.proofs.Common.{◌≡◌, ◌∙◌, ◌⊎◌, arith, ℕ, zero, suc, Bool, List, [], ◌∷◌, refl, sym, ap, true, false, Some, None, Option, inl, inr, cond, length}
+use Rattle.std.proofs.Common.{◌≡◌, ◌∙◌, ◌⊎◌, arith, ℕ, zero, suc, Bool, List, [], ◌∷◌, refl, sym, ap, true, false, Some, None, Option, inl, inr, cond, length, lt-ltb, nat_lt}
 use Rattle.std.specs.Prelude.{slice_get}
 use Rattle.std.specs.Option.{option_map_or}
 use Rattle.std.specs.Str.{bytes_eq, chars}
@@ -20,6 +20,10 @@ not_none x xs e = let bad : suc (length xs) ≡ 0 = ap length e in absurd (omega
 pub none_of : (a b : Kinds) → or_else a b ≡ [] → (a ≡ []) × (b ≡ [])
 none_of [] b e = (refl, e)
 none_of (k ∷ ks) b e = absurd (not_none k ks e)
+
+-- a word with a first byte is not empty
+pub some_word : (x : ℕ) (xs : Text) → nat_lt 0 (length (x ∷ xs)) ≡ true
+some_word x xs = lt-ltb 0 (length (x ∷ xs)) (omega arith)
 
 -- ---- where a level stands
 

@@ -1,10 +1,11 @@
 -- The command line of the program, as what clap reads of it: `solve FILE` and `check FILE ANSWER`.
-use Rattle.std.specs.Prelude.{codes, true}
+use Rattle.std.specs.Prelude.{Some, codes, true}
+use Rattle.clap.specs.declared.builder.value_parser.ValueParser.TheVariants.{NonEmptyString}
 use Rattle.clap.specs.Words.{App, Rule, Text, new_app, new_rule, with_rule, with_subcommand}
 
--- an argument of one word, which has to be there
+-- an argument of one word, which has to be there and not to be empty
 abbrev pub word_rule : Text → Rule
-word_rule id = record (new_rule id) { required = true }
+word_rule id = record (new_rule id) { required = true; parser = Some NonEmptyString }
 
 -- `solve FILE`
 abbrev pub solve_line : App

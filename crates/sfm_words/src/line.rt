@@ -4,15 +4,18 @@ ghost use Rattle.clap.specs.Words.{app_of, rule_of};
 ghost use Rattle.clap.specs.declared.builder.command.Command.TheViews.{out-Command as fields_of};
 ghost use Rattle.sfm_words.specs.Line.{word_rule, solve_line, check_line, sfm_line};
 
+use clap::builder::ValueParser;
 use clap::{Arg, Command};
 use std::alloc::{AllocError, Global};
 
-/// An argument of one word, which has to be there.
+/// An argument of one word, which has to be there and not to be empty.
 fn required_word<'a>(alloc: Global, id: &'a str) -> Arg<'a>
     ensures rule { rule_of result ≡ word_rule id.entry.now }
     ensures local { result.global ≡ false }
 {
-    Arg::new(alloc, id).required(true)
+    Arg::new(alloc, id)
+        .required(true)
+        .value_parser(ValueParser::NonEmptyString)
 }
 
 /// `solve FILE`
