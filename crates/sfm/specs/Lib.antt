@@ -1,5 +1,4 @@
 pub mod Status
-pub mod Command
 pub mod Due
 pub mod Headline
 pub mod Reading

@@ -1,5 +1,5 @@
 -- The commands, and the words that ask for them.
-use Rattle.std.specs.Prelude.{◌≡◌, ◌≢◌, ◌<◌, List, [], ◌∷◌, true, Option, Some, None, if◌then◌else◌, length, slice_index, codes, option_map, option_and_then}
+use Rattle.std.specs.Prelude.{◌≡◌, ◌≢◌, ◌<◌, List, [], ◌∷◌, true, false, Option, Some, None, if◌then◌else◌, length, slice_index, codes, option_map, option_and_then}
 use Rattle.std.specs.Str.{bytes_eq}
 use Rattle.clap.specs.Words.{Row, Text, first_of, subcommand_of, takes}
 use Rattle.clap.specs.declared.error.kind.ErrorKind.{ErrorKind}
@@ -36,6 +36,10 @@ command_by found = if bytes_eq found.0 (codes "solve") then solve_by found.1
 -- clap takes the words, and its matches of them are the command
 abbrev pub Asks : List Text → Command → Type 0
 Asks words command = (takes sfm_line words ≡ true) × (option_and_then command_by (subcommand_of sfm_line words) ≡ Some command)
+
+-- clap does not take the words
+abbrev pub IsNotTaken : List Text → Type 0
+IsNotTaken words = takes sfm_line words ≡ false
 
 -- an error of this kind ends as this refusal: only want of memory as such
 abbrev pub IsToldAs : ErrorKind → Refusal → Type 0

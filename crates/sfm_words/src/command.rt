@@ -9,7 +9,7 @@ use clap::error::ErrorKind;
 use std::alloc::AllocError;
 
 /// What the program is asked for.
-#[derive(Clone, Copy)]
+#[derive(Clone, Copy, PartialEq, Eq, Debug)]
 pub enum Command<'a> {
     /// To solve the instance in a file.
     Solve { file: &'a str },

@@ -7,3 +7,6 @@ mod read;
 
 pub use command::{Command, Refusal};
 pub use read::read_command;
+
+#[cfg(test)]
+mod tests;

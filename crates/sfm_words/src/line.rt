@@ -2,7 +2,7 @@
 ghost use Rattle.std.specs.Prelude.{◌≡◌, IfOk, false};
 ghost use Rattle.clap.specs.Words.{app_of, rule_of};
 ghost use Rattle.clap.specs.declared.builder.command.Command.TheViews.{out-Command as fields_of};
-ghost use Rattle.sfm_words.specs.Line.{word_rule, solve_line, check_line, sfm_line};
+ghost use Rattle.sfm_words.specs.Line.{program, word_rule, solve_line, check_line, sfm_line};
 
 use clap::builder::ValueParser;
 use clap::{Arg, Command};
@@ -36,13 +36,20 @@ fn check_line<'a>(alloc: Global) -> Result<Command<'a>, AllocError>
         .arg(required_word(alloc, "ANSWER"))
 }
 
-/// The command line, of the words after the program's name.
-pub(crate) fn command_line<'a>(alloc: Global) -> Result<Command<'a>, AllocError>
-    ensures { IfOk result (λ line. app_of line ≡ sfm_line) }
+/// The program, without its subcommands: its words begin after its name, and have to name a subcommand.
+fn program<'a>(alloc: Global) -> Command<'a>
+    ensures { app_of result ≡ program }
 {
     Command::new(alloc, "sfm")
         .no_binary_name(true)
         .subcommand_required(true)
+}
+
+/// The command line, of the words after the program's name.
+pub(crate) fn command_line<'a>(alloc: Global) -> Result<Command<'a>, AllocError>
+    ensures { IfOk result (λ line. app_of line ≡ sfm_line) }
+{
+    program(alloc)
         .subcommand(solve_line(alloc)?)?
         .subcommand(check_line(alloc)?)
 }

@@ -1,8 +1,7 @@
 // The command that the words ask for: the subcommand in clap's matches of them, with its arguments.
-ghost use Rattle.std.specs.Prelude.{◌≡◌, ℕ, List, map, option_map, option_and_then, IfOk, IfErr, IsTrue, false, MatchResult};
-ghost use Rattle.clap.specs.Words.{first_of, found_of, rows_of, subcommand_rows_of, takes};
-ghost use Rattle.sfm_words.specs.Line.{sfm_line};
-ghost use Rattle.sfm_words.specs.Command.{Asks, IsForm, check_by, command_by, command_of, solve_by};
+ghost use Rattle.std.specs.Prelude.{◌≡◌, ℕ, List, map, option_map, option_and_then, IfOk, IfErr, MatchResult};
+ghost use Rattle.clap.specs.Words.{first_of, found_of, rows_of, subcommand_rows_of};
+ghost use Rattle.sfm_words.specs.Command.{Asks, IsForm, IsNotTaken, check_by, command_by, command_of, solve_by};
 ghost use Rattle.sfm_words.specs.Command.{Command as Asked};
 
 use crate::command::{Command, Refusal};
@@ -57,7 +56,7 @@ fn command_in<'a>(matches: &ArgMatches<'a>) -> Option<Command<'a>>
 /// calls for help.
 pub fn read_command<'a>(alloc: Global, words: &'a [&'a str]) -> Result<Command<'a>, Refusal>
     ensures read { IfOk result (λ command. Asks (map (λ word. word.now) words.now) (command_of command)) }
-    ensures refused { IfErr result (λ refusal. refusal ≡ Refusal.Usage → takes sfm_line (map (λ word. word.now) words.now) ≡ false) }
+    ensures refused { IfErr result (λ refusal. refusal ≡ Refusal.Usage → IsNotTaken (map (λ word. word.now) words.now)) }
     ensures form { (command : Asked) → IsForm (map (λ word. word.now) words.now) command
         → MatchResult result (λ read. command_of read ≡ command) (λ refusal. refusal ≡ Refusal.Memory) }
 {
