@@ -50,7 +50,7 @@ module _ (verb : Text) (sub : Shape) (first : walked top.rules names (walk_from 
   fault_below words e =
       let entering = ap (λ stop. entered_fault (built sfm_line) stop) (stop_is words) ∙ ap (λ o. option_map_or (λ (s : Shape). level_fault s [] nothing_held words false []) o []) named in
       let below : level_fault sub [] nothing_held words false [] ≡ [] =
-          sym entering ∙ (none_of _ _ (none_of (walk_fault top names (walk_from nothing_held) (verb ∷ words)) _ e).1).0 in
+      sym entering ∙ (none_of _ _ (none_of (walk_fault top names (walk_from nothing_held) (verb ∷ words)) _ e).1).0 in
       let parts = none_of (walk_fault sub [] (walk_from nothing_held) words) _ below in
       record { walk = parts.0; end = parts.1 }
 
@@ -69,7 +69,7 @@ module _ (verb : Text) (sub : Shape) (first : walked top.rules names (walk_from 
   unfolding walk_passes
   top_passes words =
       let rest : walk_passes top names (walked top.rules names (walk_from nothing_held) verb) words ≡ true =
-          ap (λ w. walk_passes top names w words) first ∙ stopped_passes top names (at [] None 1 false) (verb, []) words in
+      ap (λ w. walk_passes top names w words) first ∙ stopped_passes top names (at [] None 1 false) (verb, []) words in
       let end : (fold (walked top.rules names) (walked top.rules names (walk_from nothing_held) verb) words).held ≡ nothing_held = ap (λ (w : Walk). w.held) (walk_is words) in
       rw (passes, rest, end) refl
 
@@ -77,8 +77,8 @@ module _ (verb : Text) (sub : Shape) (first : walked top.rules names (walk_from 
   asks words r =
       let below = entered_passes_of words r in
       let above : level_passes top names nothing_held (verb ∷ words)
-          (is_some (entered (built sfm_line) (fold (walked top.rules names) (walk_from nothing_held) (verb ∷ words)).stopped)) ≡ true =
-          ap (λ o. level_passes top names nothing_held (verb ∷ words) (is_some o)) (entered_is words) ∙ top_passes words in
+      (is_some (entered (built sfm_line) (fold (walked top.rules names) (walk_from nothing_held) (verb ∷ words)).stopped)) ≡ true =
+      ap (λ o. level_passes top names nothing_held (verb ∷ words) (is_some o)) (entered_is words) ∙ top_passes words in
       (rw (below, above) refl, ap (option_and_then command_by) (entered_is words) ∙ r.end.found)
 
 -- ---- the first word
