@@ -4,7 +4,7 @@ use Rattle.sfm_io.specs.Shelf.{ShelfState, KeepsShelf}
 use Rattle.sfm_kind.specs.Instance.{InstanceData}
 use Rattle.sfm.specs.declared.status.Status.{Status}
 use Rattle.sfm.specs.declared.due.Due.{Due as DueText}
-use Rattle.sfm.specs.Command.{check}
+use Rattle.sfm_words.specs.Command.{check}
 use Rattle.sfm.specs.Headline.{IsNamed, IsSurelyHeld, FailsToRead}
 use Rattle.sfm.specs.Opening.{ChecksAnswer, IsGoodFile}
 use Rattle.sfm.specs.Reading.{MissesText, Prepares}

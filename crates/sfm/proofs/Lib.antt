@@ -1,5 +1,4 @@
 pub mod ReadLemmas
-pub mod Words
 pub mod Checks
 pub mod Rows
 pub mod Slopes

@@ -8,7 +8,7 @@ use Rattle.sfm_text.specs.GoodText.{text_limit}
 use Rattle.sfm_cert.specs.Grammar.{answer_limit}
 use Rattle.sfm.specs.declared.status.Status.{Status}
 use Rattle.sfm.specs.declared.status.Status.TheVariants.{Done, Invalid, Refused, ReadFault, WriteFault, Memory, Usage}
-use Rattle.sfm.specs.Command.{Command, Asks, solve, check}
+use Rattle.sfm_words.specs.Command.{Command, Asks, IsForm, IsNotTaken, solve, check}
 use Rattle.sfm.specs.Due.{IsDueToSolve, IsGood, IsJudged, IsRefused}
 
 -- the shelf is sound and holds the name
@@ -86,17 +86,29 @@ EndsFor command shelf shelf' out out' WriteFault = FailsToWrite command shelf sh
 EndsFor command shelf shelf' out out' Memory = out' ≡ out
 EndsFor command shelf shelf' out out' Usage = ⊥
 
--- the words are no command, and nothing was touched
+-- clap does not take the words, and nothing was touched
 pub record IsUsage (words : List (List ℕ)) (shelf shelf' : ShelfState) (out out' : SinkState) (status : Status) : Type 0 where
   pub answered : status ≡ Usage
-  pub no_command : (command : Command) → Asks words command → ⊥
+  pub not_taken : IsNotTaken words
+  pub shelf_stays : shelf' ≡ shelf
+  pub out_stays : out' ≡ out
+
+-- memory was wanting to read the words, and nothing was touched
+pub record IsUnread (shelf shelf' : ShelfState) (out out' : SinkState) (status : Status) : Type 0 where
+  pub answered : status ≡ Memory
   pub shelf_stays : shelf' ≡ shelf
   pub out_stays : out' ≡ out
 
 -- how a call with these words ends
 abbrev pub Ends : List (List ℕ) → (shelf shelf' : ShelfState) → (out out' : SinkState) → Status → Type 0
 Ends words shelf shelf' out out' status =
-    IsUsage words shelf shelf' out out' status ⊎ ((command : Command) × Asks words command × EndsFor command shelf shelf' out out' status)
+    IsUsage words shelf shelf' out out' status ⊎ IsUnread shelf shelf' out out' status
+    ⊎ ((command : Command) × Asks words command × EndsFor command shelf shelf' out out' status)
+
+-- words of the form `solve FILE` or `check FILE ANSWER` ask for that command, and the call ends as it does
+abbrev pub EndsByForm : List (List ℕ) → (shelf shelf' : ShelfState) → (out out' : SinkState) → Status → Type 0
+EndsByForm words shelf shelf' out out' status =
+    (command : Command) → IsForm words command → Asks words command × EndsFor command shelf shelf' out out' status
 
 -- a line was written, or a front of it with a fault of the sink
 pub record Says (line : List ℕ) (err err' : SinkState) : Type 0 where

@@ -1,5 +1,4 @@
 pub mod Status
-pub mod Command
 pub mod Due
 pub mod Demo
 pub mod Headline

@@ -13,7 +13,7 @@ use Rattle.sfm.specs.declared.status.Status.{Status}
 use Rattle.sfm.specs.declared.status.Status.TheVariants.{Done, Invalid, Refused, ReadFault, Memory}
 use Rattle.sfm.specs.declared.due.Due.{Due}
 use Rattle.sfm.specs.Status.{code_of}
-use Rattle.sfm.specs.Command.{Command}
+use Rattle.sfm_words.specs.Command.{Command}
 use Rattle.sfm_cert.specs.Grammar.{answer_limit}
 use Rattle.sfm.specs.Due.{IsDueToSolve, IsRefused, IsVerdict, meanings_of, verdict_code, verdict_line}
 use Rattle.sfm.specs.Headline.{IsDue, IsNamed, IsSurelyHeld, WasRead, FailsToRead}

@@ -1,7 +1,6 @@
 // The program `sfm`: it passes its words, the files and the two streams to `run`, and ends with the code of the status.
 #![tactic(auto)]
 
-pub mod command;
 pub mod demo;
 pub mod due;
 pub mod run;

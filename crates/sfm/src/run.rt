@@ -1,18 +1,18 @@
 // One call of the program, from its words to its status.
 ghost use Rattle.std.specs.Prelude.{◌≡◌, ◌⊎◌, ◌+◌, ◌≤◌, ℕ, List, [], ◌∷◌, map, length, codes, IfOk, MatchOption};
 ghost use Rattle.sfm_io.specs.Shelf.{KeepsShelf};
-ghost use Rattle.sfm.specs.Command.{command_of, solve as Solving, check as Checking};
-ghost use Rattle.sfm.specs.Headline.{EndsFor, Ends, Says, Complains, IsComplete};
+ghost use Rattle.sfm_words.specs.Command.{command_of, solve as Solving, check as Checking};
+ghost use Rattle.sfm.specs.Headline.{EndsFor, Ends, EndsByForm, Says, Complains, IsComplete};
 ghost use Rattle.sfm.specs.Reading.{ReadsOpen, ReadsText, Prepares};
 ghost use Rattle.sfm.specs.Opening.{OpensInstance, ChecksAnswer};
 
-use crate::command::{Command, read_command};
 use crate::due::{Due, due_for_end, due_to_check, due_to_solve, instance_of};
 use crate::status::Status;
 use sfm_cert::ANSWER_LIMIT;
 use sfm_io::{ReadEnd, Shelf, Sink, read_all, write_all};
 use sfm_kind::Instance;
 use sfm_text::TEXT_LIMIT;
+use sfm_words::{Command, Refusal, read_command};
 use std::alloc::Global;
 
 /// The rest of the open text, or None where it is longer than the limit.
@@ -166,12 +166,14 @@ pub fn run<'a, S: Shelf, K: Sink, E: Sink>(
     err: &mut E,
 ) -> Status
     ensures ended { Ends (map (λ word. word.now) words.now) (S.state shelf.old) (S.state shelf.new) (K.state out.old) (K.state out.new) result }
+    ensures by_form { EndsByForm (map (λ word. word.now) words.now) (S.state shelf.old) (S.state shelf.new) (K.state out.old) (K.state out.new) result }
     ensures said { Complains (E.state err.old) (E.state err.new) result }
     ensures complete { IsComplete (map (λ word. word.now) words.now) (S.state shelf.old) (S.state shelf.new) (K.state out.old) (K.state out.new) result }
 {
-    let status = match read_command(words) {
-        Some(command) => obey(alloc, command, shelf, out),
-        None => Status::Usage,
+    let status = match read_command(alloc, words) {
+        Ok(command) => obey(alloc, command, shelf, out),
+        Err(Refusal::Usage) => Status::Usage,
+        Err(Refusal::Memory) => Status::Memory,
     };
     complain(err, status);
     status

@@ -1,0 +1,5 @@
+pub mod Turns
+pub mod Levels
+pub mod Forms
+pub mod Lines
+pub mod Found

@@ -1,0 +1,174 @@
+-- The words of the whole command line: where clap finds no fault it takes them, and its matches hold a command.
+use Rattle.std.proofs.Common.{◌≡◌, ◌∙◌, ◌==◌, ◌||◌, Bool, List, [], ◌∷◌, ◌++◌, arith, refl, sym, ap, subst, true, false, Some, None, inl, inr, codes}
+use Rattle.std.specs.Prelude.{length, nat_lt, find, fold, is_some, option_and_then, option_map}
+use Rattle.std.specs.Option.{option_map_or}
+use Rattle.std.specs.Str.{bytes_eq}
+use Rattle.std.proofs.lemmas.Slice.Eq.{bytes_eq-Decides}
+use Rattle.std.proofs.lemmas.Bool.Decides.{Decides-eqb}
+use Rattle.clap.specs.Lexer.{long_of, short_of}
+use Rattle.clap.proofs.OnLiterals.{clap_on_literals}
+use Rattle.clap.specs.Words.{Shape, Text, built}
+use Rattle.clap.specs.Walk.{Names, Walk, answers_to, nothing_held, subcommand_met, idle, walk_from, walked}
+use Rattle.clap.specs.Simple.{entered, label_of, names_of, rows_at}
+use Rattle.clap.specs.Faults.{defaults_fault, entered_fault, fault_of, is_simple_and_free, level_fault, turn_fault, walk_fault}
+use Rattle.clap.specs.Takes.{entered_passes, level_passes, turn_passes, walk_passes}
+use Rattle.clap.proofs.WalkLemmas.{walk_stopped}
+use Rattle.sfm_words.specs.Command.{Asks, Command, IsFileName, IsForm, check, command_by, solve}
+use Rattle.sfm_words.specs.Line.{sfm_line}
+use Rattle.sfm_words.proofs.Turns.{HasHelpOnly, at, dashes, dashes_or_value, none_of, not_none, value_fault, some_word}
+use Rattle.sfm_words.proofs.Levels.{IsFree, Reaches}
+use Rattle.sfm_words.proofs.Forms.{check_sub, check_words, help_or_none, solve_sub, solve_words}
+
+pub line_is_simple : is_simple_and_free sfm_line ≡ true
+line_is_simple = refl
+
+abbrev top : Shape
+top = (built sfm_line).top
+
+abbrev names : Names
+names = names_of (built sfm_line)
+
+-- the walk that has met a subcommand
+abbrev met_with : Text → List Text → Walk
+met_with verb words = record (at [] None 1 false) { stopped = Some (verb, words) }
+
+stopped_passes : (s : Shape) (ns : Names) (w : Walk) (p : Text × List Text) (words : List Text) → walk_passes s ns (record w { stopped = Some p }) words ≡ true
+unfolding walk_passes walked
+stopped_passes s ns w p [] = refl
+stopped_passes s ns w p (x ∷ xs) = stopped_passes s ns w (p.0, p.1 ++ x ∷ []) xs
+
+-- a verb, and the subcommand that it names
+module _ (verb : Text) (sub : Shape) (first : walked top.rules names (walk_from nothing_held) verb ≡ met_with verb [])
+    (passes : turn_passes top names (walk_from nothing_held) verb ≡ true) (named : find (λ s. answers_to verb (label_of s)) (built sfm_line).subs ≡ Some sub) where
+  walk_is : (words : List Text) → fold (walked top.rules names) (walk_from nothing_held) (verb ∷ words) ≡ met_with verb words
+  walk_is words = ap (λ w. fold (walked top.rules names) w words) first ∙ sym (walk_stopped top.rules names (at [] None 1 false) verb [] words)
+
+  stop_is : (words : List Text) → (fold (walked top.rules names) (walk_from nothing_held) (verb ∷ words)).stopped ≡ Some (verb, words)
+  stop_is words = ap (λ (w : Walk). w.stopped) (walk_is words)
+
+  fault_below : (words : List Text) → fault_of sfm_line (verb ∷ words) ≡ [] → IsFree sub (at [] None 1 false) words
+  fault_below words e =
+      let entering = ap (λ stop. entered_fault (built sfm_line) stop) (stop_is words) ∙ ap (λ o. option_map_or (λ (s : Shape). level_fault s [] nothing_held words false []) o []) named in
+      let below : level_fault sub [] nothing_held words false [] ≡ [] =
+      sym entering ∙ (none_of _ _ (none_of (walk_fault top names (walk_from nothing_held) (verb ∷ words)) _ e).1).0 in
+      let parts = none_of (walk_fault sub [] (walk_from nothing_held) words) _ below in
+      record { walk = parts.0; end = parts.1 }
+
+  level_passes_of : (words : List Text) → Reaches sub (at [] None 1 false) words → level_passes sub [] nothing_held words false ≡ true
+  level_passes_of words r = rw (r.walk, r.end.passes) refl
+
+  entered_passes_of : (words : List Text) → Reaches sub (at [] None 1 false) words
+      → entered_passes (built sfm_line) (fold (walked top.rules names) (walk_from nothing_held) (verb ∷ words)).stopped ≡ true
+  entered_passes_of words r = ap (λ stop. entered_passes (built sfm_line) stop) (stop_is words)
+      ∙ ap (λ o. option_map_or (λ (s : Shape). level_passes s [] nothing_held words false) o true) named ∙ level_passes_of words r
+
+  entered_is : (words : List Text) → entered (built sfm_line) (fold (walked top.rules names) (walk_from nothing_held) (verb ∷ words)).stopped ≡ Some (rows_at sub words)
+  entered_is words = ap (λ stop. entered (built sfm_line) stop) (stop_is words) ∙ ap (λ o. option_map (λ (s : Shape). rows_at s words) o) named
+
+  top_passes : (words : List Text) → level_passes top names nothing_held (verb ∷ words) true ≡ true
+  unfolding walk_passes
+  top_passes words =
+      let rest : walk_passes top names (walked top.rules names (walk_from nothing_held) verb) words ≡ true =
+      ap (λ w. walk_passes top names w words) first ∙ stopped_passes top names (at [] None 1 false) (verb, []) words in
+      let end : (fold (walked top.rules names) (walked top.rules names (walk_from nothing_held) verb) words).held ≡ nothing_held = ap (λ (w : Walk). w.held) (walk_is words) in
+      rw (passes, rest, end) refl
+
+  pub asks : (words : List Text) (r : Reaches sub (at [] None 1 false) words) → Asks (verb ∷ words) r.end.command
+  asks words r =
+      let below = entered_passes_of words r in
+      let above : level_passes top names nothing_held (verb ∷ words)
+      (is_some (entered (built sfm_line) (fold (walked top.rules names) (walk_from nothing_held) (verb ∷ words)).stopped)) ≡ true =
+      ap (λ o. level_passes top names nothing_held (verb ∷ words) (is_some o)) (entered_is words) ∙ top_passes words in
+      (rw (below, above) refl, ap (option_and_then command_by) (entered_is words) ∙ r.end.found)
+
+-- ---- the first word
+
+-- the words ask for a command
+abbrev pub AskSome : List Text → Type 0
+AskSome words = (command : Command) × Asks words command
+
+solve_asks : (words : List Text) → fault_of sfm_line (codes "solve" ∷ words) ≡ [] → AskSome (codes "solve" ∷ words)
+unfolding walked
+solve_asks words e =
+    let r = solve_words false words (fault_below (codes "solve") solve_sub refl refl refl words e) in
+    (r.end.command, asks (codes "solve") solve_sub refl refl refl words r)
+
+check_asks : (words : List Text) → fault_of sfm_line (codes "check" ∷ words) ≡ [] → AskSome (codes "check" ∷ words)
+unfolding walked
+check_asks words e =
+    let r = check_words false words (fault_below (codes "check") check_sub refl refl refl words e) in
+    (r.end.command, asks (codes "check") check_sub refl refl refl words r)
+
+no_help : (words : List Text) → fault_of sfm_line (codes "help" ∷ words) ≡ [] → ⊥
+unfolding walk_fault
+no_help words e = not_none _ _ e
+
+no_dashes : (words : List Text) → fault_of sfm_line (dashes ∷ words) ≡ [] → ⊥
+unfolding walk_fault walked defaults_fault
+no_dashes [] e = not_none _ _ e
+no_dashes (word ∷ words) e = not_none _ _ e
+
+top_helps : HasHelpOnly top.rules
+top_helps = record {
+  long = λ name. help_or_none (bytes_eq (codes "help") name || false);
+  short = λ x. help_or_none ((104 == x) || false);
+}
+
+no_other : (word : Text) (words : List Text) → subcommand_met names idle word ≡ None → fault_of sfm_line (word ∷ words) ≡ [] → ⊥
+unfolding walk_fault
+no_other word words met e =
+    let turn : turn_fault top names (at [] None 1 false) word ≡ [] = (none_of _ _ (none_of (walk_fault top names (walk_from nothing_held) (word ∷ words)) _ e).0).0 in
+    elim (dashes_or_value top names [] None 1 word top_helps met turn) [
+      | inl is ↦ no_dashes words (subst (λ w. fault_of sfm_line (w ∷ words) ≡ []) is e)
+      | inr is ↦ not_none _ _ (value_fault top names word met is [] None 1 turn)
+    ]
+
+-- where clap finds no fault, it takes the words, and they ask for a command
+pub reads : (words : List Text) → fault_of sfm_line words ≡ [] → AskSome words
+unfolding walk_fault defaults_fault
+reads [] e = absurd (not_none _ _ e)
+reads (word ∷ words) e = go (bytes_eq (codes "solve") word) (bytes_eq (codes "check") word) (bytes_eq (codes "help") word) refl refl refl
+  where
+    is : (verb : Text) → bytes_eq verb word ≡ true → fault_of sfm_line (verb ∷ words) ≡ []
+    is verb same = subst (λ w. fault_of sfm_line (w ∷ words) ≡ []) (sym ((bytes_eq-Decides verb word).0 same)) e
+
+    back : (verb : Text) → bytes_eq verb word ≡ true → AskSome (verb ∷ words) → AskSome (word ∷ words)
+    back verb same = subst (λ w. AskSome (w ∷ words)) ((bytes_eq-Decides verb word).0 same)
+
+    go : (a b c : Bool) → bytes_eq (codes "solve") word ≡ a → bytes_eq (codes "check") word ≡ b → bytes_eq (codes "help") word ≡ c → AskSome (word ∷ words)
+    go true b c at_a at_b at_c = back (codes "solve") at_a (solve_asks words (is (codes "solve") at_a))
+    go false true c at_a at_b at_c = back (codes "check") at_b (check_asks words (is (codes "check") at_b))
+    go false false true at_a at_b at_c = absurd (no_help words (is (codes "help") at_c))
+    go false false false at_a at_b at_c =
+        let met : subcommand_met names idle word ≡ None = rw (at_a, at_b, at_c) refl in
+        absurd (no_other word words met e)
+
+-- ---- the listed forms
+
+-- what a name that is no option looks like to clap
+record IsPlain (name : Text) : Type 0 where
+  apart : bytes_eq name dashes ≡ false
+  long : long_of name ≡ None
+  short : short_of name ≡ None
+  some : nat_lt 0 (length name) ≡ true
+
+name_is_plain : (name : Text) → IsFileName name → IsPlain name
+name_is_plain [] is = absurd (omega (arith, is.some))
+name_is_plain (x ∷ xs) is = go (x == 45) refl
+  where
+    go : (b : Bool) → (x == 45) ≡ b → IsPlain (x ∷ xs)
+    go true e = absurd (is.plain ((Decides-eqb x 45).0 e))
+    go false e = record { apart = rw e refl; long = rw e refl; short = rw e refl; some = some_word x xs }
+
+solve_form : (file : Text) → IsPlain file → Asks (codes "solve" ∷ file ∷ []) (solve file)
+unfolding clap_on_literals
+solve_form file f = rw (f.apart, f.long, f.short, f.some) (refl, refl)
+
+check_form : (file answer : Text) → IsPlain file → IsPlain answer → Asks (codes "check" ∷ file ∷ answer ∷ []) (check file answer)
+unfolding clap_on_literals
+check_form file answer f a = rw (f.apart, f.long, f.short, a.apart, a.long, a.short, f.some, a.some) (refl, refl)
+
+pub form_asks : (words : List Text) (command : Command) → IsForm words command → Asks words command
+form_asks words (solve file) form = subst (λ v. Asks v (solve file)) (sym form.0) (solve_form file (name_is_plain file form.1))
+form_asks words (check file answer) form =
+    subst (λ v. Asks v (check file answer)) (sym form.0) (check_form file answer (name_is_plain file form.1) (name_is_plain answer form.2))

@@ -1,0 +1,59 @@
+-- The commands, and the words that ask for them.
+use Rattle.std.specs.Prelude.{◌≡◌, ◌≢◌, ◌<◌, List, [], ◌∷◌, true, false, Option, Some, None, if◌then◌else◌, length, slice_index, codes, option_map, option_and_then}
+use Rattle.std.specs.Str.{bytes_eq}
+use Rattle.clap.specs.Words.{Row, Text, first_of, subcommand_of, takes}
+use Rattle.clap.specs.declared.error.kind.ErrorKind.{ErrorKind}
+use Rattle.clap.specs.declared.error.kind.ErrorKind.TheVariants.{OutOfMemory}
+use Rattle.sfm_words.specs.Line.{sfm_line}
+use Rattle.sfm_words.specs.declared.command.Command.{Command as Read}
+use Rattle.sfm_words.specs.declared.command.Command.TheVariants.{Solve as ReadSolve, Check as ReadCheck}
+use Rattle.sfm_words.specs.declared.command.Refusal.{Refusal}
+use Rattle.sfm_words.specs.declared.command.Refusal.TheVariants.{Memory, Usage}
+
+-- to solve an instance, or to check an answer of one: each by the names of files
+pub data Command : Type 0 where
+  solve : Text → Command
+  check : Text → Text → Command
+
+-- the command that was read
+abbrev pub command_of : Read → Command
+command_of (ReadSolve file) = solve file.now
+command_of (ReadCheck file answer) = check file.now answer.now
+
+-- ---- what clap finds in the words
+
+abbrev pub solve_by : List Row → Option Command
+solve_by rows = option_map solve (first_of (codes "FILE") rows)
+
+abbrev pub check_by : List Row → Option Command
+check_by rows = option_and_then (λ file. option_map (check file) (first_of (codes "ANSWER") rows)) (first_of (codes "FILE") rows)
+
+-- the command that a subcommand is, by its name and its matches
+abbrev pub command_by : Text × List Row → Option Command
+command_by found = if bytes_eq found.0 (codes "solve") then solve_by found.1
+    else (if bytes_eq found.0 (codes "check") then check_by found.1 else None)
+
+-- clap takes the words, and its matches of them are the command
+abbrev pub Asks : List Text → Command → Type 0
+Asks words command = (takes sfm_line words ≡ true) × (option_and_then command_by (subcommand_of sfm_line words) ≡ Some command)
+
+-- clap does not take the words
+abbrev pub IsNotTaken : List Text → Type 0
+IsNotTaken words = takes sfm_line words ≡ false
+
+-- an error of this kind ends as this refusal: only want of memory as such
+abbrev pub IsToldAs : ErrorKind → Refusal → Type 0
+IsToldAs kind Memory = kind ≡ OutOfMemory
+IsToldAs kind Usage = kind ≢ OutOfMemory
+
+-- ---- the plain forms of a command
+
+-- a name of a file: not empty, and no option
+pub record IsFileName (name : Text) : Type 0 where
+  pub some : 0 < length name
+  pub plain : slice_index name 0 ≢ 45
+
+-- the words are `solve FILE` or `check FILE ANSWER`
+abbrev pub IsForm : List Text → Command → Type 0
+IsForm words (solve file) = (words ≡ codes "solve" ∷ file ∷ []) × IsFileName file
+IsForm words (check file answer) = (words ≡ codes "check" ∷ file ∷ answer ∷ []) × IsFileName file × IsFileName answer

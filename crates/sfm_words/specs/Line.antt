@@ -1,0 +1,24 @@
+-- The command line of the program, as what clap reads of it: `solve FILE` and `check FILE ANSWER`.
+use Rattle.std.specs.Prelude.{Some, codes, true}
+use Rattle.clap.specs.declared.builder.value_parser.ValueParser.TheVariants.{NonEmptyString}
+use Rattle.clap.specs.Words.{App, Rule, Text, new_app, new_rule, with_rule, with_subcommand}
+
+-- an argument of one word, which has to be there and not to be empty
+abbrev pub word_rule : Text → Rule
+word_rule id = record (new_rule id) { required = true; parser = Some NonEmptyString }
+
+-- `solve FILE`
+abbrev pub solve_line : App
+solve_line = with_rule (new_app (codes "solve")) (word_rule (codes "FILE"))
+
+-- `check FILE ANSWER`
+abbrev pub check_line : App
+check_line = with_rule (with_rule (new_app (codes "check")) (word_rule (codes "FILE"))) (word_rule (codes "ANSWER"))
+
+-- a program of which a subcommand has to be called; its words begin after its name
+abbrev pub program : App
+program = record (new_app (codes "sfm")) { top = record (new_app (codes "sfm")).top { no_binary_name = true; subcommand_required = true } }
+
+-- the command line
+abbrev pub sfm_line : App
+sfm_line = with_subcommand (with_subcommand program solve_line.top) check_line.top

@@ -1,0 +1,46 @@
+// What the program can be asked for, and why the words may ask for nothing.
+ghost use Rattle.std.specs.Prelude.{◌≡◌};
+ghost use Rattle.clap.specs.Words.{kind_of};
+ghost use Rattle.clap.specs.declared.error.kind.ErrorKind.TheVariants.{OutOfMemory};
+ghost use Rattle.sfm_words.specs.Command.{IsToldAs};
+ghost use Rattle.sfm_words.specs.declared.command.Refusal.TheVariants.{Memory};
+
+use clap::error::ErrorKind;
+use std::alloc::AllocError;
+
+/// What the program is asked for.
+#[derive(Clone, Copy, PartialEq, Eq, Debug)]
+pub enum Command<'a> {
+    /// To solve the instance in a file.
+    Solve { file: &'a str },
+    /// To check the answer in a second file against the instance in the first.
+    Check { file: &'a str, answer: &'a str },
+}
+
+/// Why no command was read.
+#[derive(Clone, Copy, PartialEq, Eq, Debug, Drop)]
+pub enum Refusal {
+    /// The words ask for no command, or for help.
+    Usage,
+    /// Memory was wanting.
+    Memory,
+}
+
+impl From<AllocError> for Refusal {
+    ghost from_gives = { λ _ refusal. refusal ≡ Memory };
+
+    fn from(_error: AllocError) -> Refusal {
+        Refusal::Memory
+    }
+}
+
+impl From<clap::Error> for Refusal {
+    ghost from_gives = { λ error refusal. IsToldAs (kind_of error) refusal };
+
+    fn from(error: clap::Error) -> Refusal {
+        match error.kind() {
+            ErrorKind::OutOfMemory => Refusal::Memory,
+            _ => Refusal::Usage,
+        }
+    }
+}

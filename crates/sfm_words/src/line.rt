@@ -1,0 +1,55 @@
+// The command line of the program as clap is told of it: two subcommands, each with the names of files.
+ghost use Rattle.std.specs.Prelude.{◌≡◌, IfOk, false};
+ghost use Rattle.clap.specs.Words.{app_of, rule_of};
+ghost use Rattle.clap.specs.declared.builder.command.Command.TheViews.{out-Command as fields_of};
+ghost use Rattle.sfm_words.specs.Line.{program, word_rule, solve_line, check_line, sfm_line};
+
+use clap::builder::ValueParser;
+use clap::{Arg, Command};
+use std::alloc::{AllocError, Global};
+
+/// An argument of one word, which has to be there and not to be empty.
+fn required_word<'a>(alloc: Global, id: &'a str) -> Arg<'a>
+    ensures rule { rule_of result ≡ word_rule id.entry.now }
+    ensures local { result.global ≡ false }
+{
+    Arg::new(alloc, id)
+        .required(true)
+        .value_parser(ValueParser::NonEmptyString)
+}
+
+/// `solve FILE`
+fn solve_line<'a>(alloc: Global) -> Result<Command<'a>, AllocError>
+    ensures app { IfOk result (λ line. app_of line ≡ solve_line) }
+    ensures local { IfOk result (λ line. (fields_of line).has_globals ≡ false) }
+{
+    Command::new(alloc, "solve").arg(required_word(alloc, "FILE"))
+}
+
+/// `check FILE ANSWER`
+fn check_line<'a>(alloc: Global) -> Result<Command<'a>, AllocError>
+    ensures app { IfOk result (λ line. app_of line ≡ check_line) }
+    ensures local { IfOk result (λ line. (fields_of line).has_globals ≡ false) }
+{
+    Command::new(alloc, "check")
+        .arg(required_word(alloc, "FILE"))?
+        .arg(required_word(alloc, "ANSWER"))
+}
+
+/// The program, without its subcommands: its words begin after its name, and have to name a subcommand.
+fn program<'a>(alloc: Global) -> Command<'a>
+    ensures { app_of result ≡ program }
+{
+    Command::new(alloc, "sfm")
+        .no_binary_name(true)
+        .subcommand_required(true)
+}
+
+/// The command line, of the words after the program's name.
+pub(crate) fn command_line<'a>(alloc: Global) -> Result<Command<'a>, AllocError>
+    ensures { IfOk result (λ line. app_of line ≡ sfm_line) }
+{
+    program(alloc)
+        .subcommand(solve_line(alloc)?)?
+        .subcommand(check_line(alloc)?)
+}

@@ -1,0 +1,66 @@
+// The command that the words ask for: the subcommand in clap's matches of them, with its arguments.
+ghost use Rattle.std.specs.Prelude.{◌≡◌, ℕ, List, map, option_map, option_and_then, IfOk, IfErr, MatchResult};
+ghost use Rattle.clap.specs.Words.{first_of, found_of, rows_of, subcommand_rows_of};
+ghost use Rattle.sfm_words.specs.Command.{Asks, IsForm, IsNotTaken, check_by, command_by, command_of, solve_by};
+ghost use Rattle.sfm_words.specs.Command.{Command as Asked};
+
+use crate::command::{Command, Refusal};
+use crate::line::command_line;
+use clap::ArgMatches;
+use std::alloc::Global;
+
+/// The word of an argument.
+fn word_of<'a>(found: &ArgMatches<'a>, id: &str) -> Option<&'a str>
+    ensures { option_map (λ word. word.now) result ≡ first_of id.now (rows_of (found_of found.now)) }
+{
+    found.get_str(id)
+}
+
+/// `solve`, by its matches.
+fn solve_in<'a>(found: &ArgMatches<'a>) -> Option<Command<'a>>
+    ensures { option_map command_of result ≡ solve_by (rows_of (found_of found.now)) }
+{
+    let file = word_of(found, "FILE")?;
+    Some(Command::Solve { file })
+}
+
+/// `check`, by its matches.
+fn check_in<'a>(found: &ArgMatches<'a>) -> Option<Command<'a>>
+    ensures { option_map command_of result ≡ check_by (rows_of (found_of found.now)) }
+{
+    let file = word_of(found, "FILE")?;
+    let answer = word_of(found, "ANSWER")?;
+    Some(Command::Check { file, answer })
+}
+
+/// The command of this name, by its matches.
+fn command_named<'a>(verb: &str, found: &ArgMatches<'a>) -> Option<Command<'a>>
+    ensures { option_map command_of result ≡ command_by (verb.now, rows_of (found_of found.now)) }
+{
+    match verb {
+        "solve" => solve_in(found),
+        "check" => check_in(found),
+        _ => None,
+    }
+}
+
+/// The command that clap found.
+fn command_in<'a>(matches: &ArgMatches<'a>) -> Option<Command<'a>>
+    ensures { option_map command_of result ≡ option_and_then command_by (subcommand_rows_of matches.now) }
+{
+    let (verb, found) = matches.subcommand()?;
+    command_named(verb, found)
+}
+
+/// The command that the words after the program's name ask for. Only words that clap does not take are `Usage`, and so are
+/// calls for help.
+pub fn read_command<'a>(alloc: Global, words: &'a [&'a str]) -> Result<Command<'a>, Refusal>
+    ensures read { IfOk result (λ command. Asks (map (λ word. word.now) words.now) (command_of command)) }
+    ensures refused { IfErr result (λ refusal. refusal ≡ Refusal.Usage → IsNotTaken (map (λ word. word.now) words.now)) }
+    ensures form { (command : Asked) → IsForm (map (λ word. word.now) words.now) command
+        → MatchResult result (λ read. command_of read ≡ command) (λ refusal. refusal ≡ Refusal.Memory) }
+{
+    let line = command_line(alloc)?;
+    let matches = line.try_get_matches_from(words)?;
+    command_in(&matches).ok_or(Refusal::Usage)
+}
