@@ -41,4 +41,4 @@ checks file answer instance before mid after (Err status) kept good (inl (fault,
     unsure = λ held. miss.unsure (held_later before mid answer kept (held.1 good.text good.named (instance.names, instance.terms, good.good)));
   },
 )
-checks file answer instance before mid after (Err status) kept good (inr memory) = inr memory
+checks file answer instance before mid after (Err status) kept good (inr memory) = inr (memory, tt)

@@ -8,8 +8,9 @@ use Rattle.sfm_text.specs.GoodText.{text_limit}
 use Rattle.sfm_cert.specs.Grammar.{answer_limit}
 use Rattle.sfm.specs.declared.status.Status.{Status}
 use Rattle.sfm.specs.declared.status.Status.TheVariants.{Done, Invalid, Refused, ReadFault, WriteFault, Memory, Usage}
-use Rattle.sfm_words.specs.Command.{Command, Asks, IsForm, IsNotTaken, solve, check}
+use Rattle.sfm_words.specs.Command.{Command, Asks, IsForm, IsNotTaken, solve, check, demo}
 use Rattle.sfm.specs.Due.{IsDueToSolve, IsGood, IsJudged, IsRefused}
+use Rattle.sfm.specs.Demo.{IsDueToDemo}
 
 -- the shelf is sound and holds the name
 abbrev pub IsSurelyHeld : ShelfState → List ℕ → Type 0
@@ -23,10 +24,12 @@ IsNamed shelf name text = (texts : Texts) → shelf.texts ≡ Some texts → tex
 abbrev pub WasRead : ShelfState → ShelfState → ℕ → List ℕ → Type 0
 WasRead before after limit text = (texts : Texts) → before.texts ≡ Some texts → after.rest ≡ Some (drop (limit + 1) text)
 
--- the shelf surely holds each name that the command needs: the first, and the second where the text of the first has no fault
+-- the shelf surely holds each name that the command needs: the first, and the second where the text of the first has no fault;
+-- a demonstration needs none
 abbrev pub HoldsNeeded : ShelfState → Command → Type 0
 HoldsNeeded shelf (solve file) = IsSurelyHeld shelf file
 HoldsNeeded shelf (check file answer) = IsSurelyHeld shelf file × ((text : List ℕ) → IsNamed shelf file text → IsGood text → IsSurelyHeld shelf answer)
+HoldsNeeded shelf (demo seed) = Unit {0}
 
 -- what is due for an instance that is to be solved, which was read
 pub record IsSolveDue (file : List ℕ) (shelf shelf' : ShelfState) (written : List ℕ) (code : ℕ) : Type 0 where
@@ -56,6 +59,7 @@ pub record IsVerdictDue (file answer : List ℕ) (shelf shelf' : ShelfState) (wr
 abbrev pub IsDue : Command → (shelf shelf' : ShelfState) → List ℕ → ℕ → Type 0
 IsDue (solve file) shelf shelf' written code = IsSolveDue file shelf shelf' written code
 IsDue (check file answer) shelf shelf' written code = IsRefusalDue file shelf shelf' written code ⊎ IsVerdictDue file answer shelf shelf' written code
+IsDue (demo seed) shelf shelf' written code = IsDueToDemo seed written code × (shelf' ≡ shelf)
 
 -- what was due was written whole
 abbrev pub WritesDue : Command → (shelf shelf' : ShelfState) → (out out' : SinkState) → ℕ → Type 0
@@ -76,6 +80,12 @@ pub record FailsToWrite (command : Command) (shelf shelf' : ShelfState) (out out
   pub gained : out'.written ≡ append_known out.written (take count written)
   pub rose : Rose out.faults out'.faults
 
+-- a demonstration opens nothing
+abbrev pub LeavesShelf : Command → (shelf shelf' : ShelfState) → Type 0
+LeavesShelf (solve file) shelf shelf' = Unit {0}
+LeavesShelf (check file answer) shelf shelf' = Unit {0}
+LeavesShelf (demo seed) shelf shelf' = shelf' ≡ shelf
+
 -- how a command ends: each status with its cause and with what it leaves
 abbrev pub EndsFor : Command → (shelf shelf' : ShelfState) → (out out' : SinkState) → Status → Type 0
 EndsFor command shelf shelf' out out' Done = WritesDue command shelf shelf' out out' 0
@@ -83,7 +93,7 @@ EndsFor command shelf shelf' out out' Invalid = WritesDue command shelf shelf' o
 EndsFor command shelf shelf' out out' Refused = WritesDue command shelf shelf' out out' 2
 EndsFor command shelf shelf' out out' ReadFault = FailsToRead command shelf shelf' × (out' ≡ out)
 EndsFor command shelf shelf' out out' WriteFault = FailsToWrite command shelf shelf' out out'
-EndsFor command shelf shelf' out out' Memory = out' ≡ out
+EndsFor command shelf shelf' out out' Memory = (out' ≡ out) × LeavesShelf command shelf shelf'
 EndsFor command shelf shelf' out out' Usage = ⊥
 
 -- clap does not take the words, and nothing was touched
@@ -105,7 +115,7 @@ Ends words shelf shelf' out out' status =
     IsUsage words shelf shelf' out out' status ⊎ IsUnread shelf shelf' out out' status
     ⊎ ((command : Command) × Asks words command × EndsFor command shelf shelf' out out' status)
 
--- words of the form `solve FILE` or `check FILE ANSWER` ask for that command, and the call ends as it does
+-- words of the form `solve FILE`, `check FILE ANSWER` or `demo SEED` ask for that command, and the call ends as it does
 abbrev pub EndsByForm : List (List ℕ) → (shelf shelf' : ShelfState) → (out out' : SinkState) → Status → Type 0
 EndsByForm words shelf shelf' out out' status =
     (command : Command) → IsForm words command → Asks words command × EndsFor command shelf shelf' out out' status
@@ -124,7 +134,7 @@ Complains err err' Invalid = err' ≡ err
 Complains err err' ReadFault = Says (codes "sfm: read failed\n") err err'
 Complains err err' WriteFault = Says (codes "sfm: write failed\n") err err'
 Complains err err' Memory = Says (codes "sfm: out of memory\n") err err'
-Complains err err' Usage = Says (codes "usage: sfm solve FILE | check FILE ANSWER\n") err err'
+Complains err err' Usage = Says (codes "usage: sfm solve FILE | check FILE ANSWER | demo SEED\n") err err'
 
 -- where the words are a command whose names are surely there, or no fault of the shelf comes, and no fault of the sink comes, what is
 -- due is written, or memory was wanting

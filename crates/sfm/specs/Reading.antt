@@ -16,7 +16,7 @@ use Rattle.sfm.specs.Status.{code_of}
 use Rattle.sfm_words.specs.Command.{Command}
 use Rattle.sfm_cert.specs.Grammar.{answer_limit}
 use Rattle.sfm.specs.Due.{IsDueToSolve, IsRefused, IsVerdict, meanings_of, verdict_code, verdict_line}
-use Rattle.sfm.specs.Headline.{IsDue, IsNamed, IsSurelyHeld, WasRead, FailsToRead}
+use Rattle.sfm.specs.Headline.{IsDue, IsNamed, IsSurelyHeld, WasRead, FailsToRead, LeavesShelf}
 
 -- the bytes that were read are the text; where none are given it is longer than the limit
 abbrev pub IsReadAs : ℕ → Option (Vec ℕ Global) → List ℕ → Type 0
@@ -60,7 +60,7 @@ pub record IsSolveDueOf (bytes : Option (Vec ℕ Global)) (due : Due) : Type 0 w
 -- what is due for a command, or why nothing is
 abbrev pub Prepares : Command → (shelf shelf' : ShelfState) → Result Due Status → Type 0
 Prepares command shelf shelf' (Ok due) = IsDue command shelf shelf' due.text.items (code_of due.status) × ((due.status ≡ Done) ⊎ (due.status ≡ Invalid) ⊎ (due.status ≡ Refused))
-Prepares command shelf shelf' (Err status) = ((status ≡ ReadFault) × FailsToRead command shelf shelf') ⊎ (status ≡ Memory)
+Prepares command shelf shelf' (Err status) = ((status ≡ ReadFault) × FailsToRead command shelf shelf') ⊎ ((status ≡ Memory) × LeavesShelf command shelf shelf')
 
 -- the verdict is due on each answer that was so read
 pub record IsCheckDueOf (instance : InstanceData) (bytes : Option (Vec ℕ Global)) (due : Due) : Type 0 where

@@ -1,11 +1,12 @@
 // One call of the program, from its words to its status.
 ghost use Rattle.std.specs.Prelude.{◌≡◌, ◌⊎◌, ◌+◌, ◌≤◌, ℕ, List, [], ◌∷◌, map, length, codes, IfOk, MatchOption};
-ghost use Rattle.sfm_io.specs.Shelf.{KeepsShelf};
-ghost use Rattle.sfm_words.specs.Command.{command_of, solve as Solving, check as Checking};
+ghost use Rattle.sfm_io.specs.Shelf.{KeepsShelf, ShelfState};
+ghost use Rattle.sfm_words.specs.Command.{command_of, solve as Solving, check as Checking, demo as Showing};
 ghost use Rattle.sfm.specs.Headline.{EndsFor, Ends, EndsByForm, Says, Complains, IsComplete};
 ghost use Rattle.sfm.specs.Reading.{ReadsOpen, ReadsText, Prepares};
 ghost use Rattle.sfm.specs.Opening.{OpensInstance, ChecksAnswer};
 
+use crate::demo::due_to_demo;
 use crate::due::{Due, due_for_end, due_to_check, due_to_solve, instance_of};
 use crate::status::Status;
 use sfm_cert::ANSWER_LIMIT;
@@ -112,18 +113,32 @@ fn prepare_check<S: Shelf>(
     }
 }
 
+/// Makes what is due for a demonstration; no file is opened.
+fn prepare_demo(alloc: Global, seed: u64) -> Result<Due, Status>
+    requires { seed ≤ 999999999 }
+    ensures { (shelf : ShelfState) → Prepares (Showing seed) shelf shelf result }
+{
+    match due_to_demo(alloc, seed) {
+        Ok(due) => Ok(due),
+        Err(_) => Err(Status::Memory),
+    }
+}
+
 /// Makes what is due for a command whole.
 fn prepare<S: Shelf>(alloc: Global, shelf: &mut S, command: Command) -> Result<Due, Status>
+    requires { (seed : ℕ) → command_of command.entry ≡ Showing seed → seed ≤ 999999999 }
     ensures { Prepares (command_of command.entry) (S.state shelf.old) (S.state shelf.new) result }
 {
     match command {
         Command::Solve { file } => prepare_solve(alloc, shelf, file),
         Command::Check { file, answer } => prepare_check(alloc, shelf, file, answer),
+        Command::Demo { seed } => prepare_demo(alloc, seed),
     }
 }
 
 /// Makes what is due for a command whole, and writes that.
 fn obey<S: Shelf, K: Sink>(alloc: Global, command: Command, shelf: &mut S, out: &mut K) -> Status
+    requires { (seed : ℕ) → command_of command.entry ≡ Showing seed → seed ≤ 999999999 }
     ensures { EndsFor (command_of command.entry) (S.state shelf.old) (S.state shelf.new) (K.state out.old) (K.state out.new) result }
 {
     let due = match prepare(alloc, shelf, command) {
@@ -152,7 +167,7 @@ fn complain<E: Sink>(err: &mut E, status: Status)
         Status::ReadFault => say(err, b"sfm: read failed\n"),
         Status::WriteFault => say(err, b"sfm: write failed\n"),
         Status::Memory => say(err, b"sfm: out of memory\n"),
-        Status::Usage => say(err, b"usage: sfm solve FILE | check FILE ANSWER\n"),
+        Status::Usage => say(err, b"usage: sfm solve FILE | check FILE ANSWER | demo SEED\n"),
     }
 }
 
