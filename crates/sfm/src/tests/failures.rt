@@ -9,7 +9,7 @@ const FIRST: &[u8] = b"sfm 1\nground a b\nweight a:-3 b:2\nend\n";
 const FIRST_ANSWER: &[u8] =
     b"answer 1\nminimum -3\nleast a\ngreatest a\nslope -3/1 a\nslope 2/1 a b\nat 0/1\nbase 1 -3 2\nat -3/1\nbase 1 -3 2\nat 2/1\nbase 1 -3 2\nend\n";
 
-const USAGE: &[u8] = b"usage: sfm solve FILE | check FILE ANSWER\n";
+const USAGE: &[u8] = b"usage: sfm solve FILE | check FILE ANSWER | demo SEED\n";
 
 #[test]
 fn pieces_and_faults_of_the_outside(rt: HostRuntime) -> Result<(), Fail> {
