@@ -171,6 +171,24 @@ fn complain<E: Sink>(err: &mut E, status: Status)
     }
 }
 
+/// Reads the words, and does what they ask for.
+fn obey_words<'a, S: Shelf, K: Sink>(
+    alloc: Global,
+    words: &'a [&'a str],
+    shelf: &mut S,
+    out: &mut K,
+) -> Status
+    ensures ended { Ends (map (λ word. word.now) words.now) (S.state shelf.old) (S.state shelf.new) (K.state out.old) (K.state out.new) result }
+    ensures by_form { EndsByForm (map (λ word. word.now) words.now) (S.state shelf.old) (S.state shelf.new) (K.state out.old) (K.state out.new) result }
+    ensures complete { IsComplete (map (λ word. word.now) words.now) (S.state shelf.old) (S.state shelf.new) (K.state out.old) (K.state out.new) result }
+{
+    match read_command(alloc, words) {
+        Ok(command) => obey(alloc, command, shelf, out),
+        Err(Refusal::Usage) => Status::Usage,
+        Err(Refusal::Memory) => Status::Memory,
+    }
+}
+
 /// One call of the program with the words after its own name. It opens files on the shelf, writes what is due to `out`
 /// and why it failed to `err`.
 pub fn run<'a, S: Shelf, K: Sink, E: Sink>(
@@ -185,11 +203,7 @@ pub fn run<'a, S: Shelf, K: Sink, E: Sink>(
     ensures said { Complains (E.state err.old) (E.state err.new) result }
     ensures complete { IsComplete (map (λ word. word.now) words.now) (S.state shelf.old) (S.state shelf.new) (K.state out.old) (K.state out.new) result }
 {
-    let status = match read_command(alloc, words) {
-        Ok(command) => obey(alloc, command, shelf, out),
-        Err(Refusal::Usage) => Status::Usage,
-        Err(Refusal::Memory) => Status::Memory,
-    };
+    let status = obey_words(alloc, words, shelf, out);
     complain(err, status);
     status
 }
