@@ -12,7 +12,7 @@ use Rattle.sfm_words.specs.declared.command.Command.TheVariants.{Solve as ReadSo
 use Rattle.sfm_words.specs.declared.command.Refusal.{Refusal}
 use Rattle.sfm_words.specs.declared.command.Refusal.TheVariants.{Memory, Usage}
 
--- to solve an instance, or to check an answer of one, each by the names of files; or to show the instance of a seed
+-- to solve an instance, or to check an answer of one, each by the names of files; or a demonstration, on the instance of a seed
 pub data Command : Type 0 where
   solve : Text → Command
   check : Text → Text → Command

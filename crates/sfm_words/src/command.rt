@@ -15,7 +15,7 @@ pub enum Command<'a> {
     Solve { file: &'a str },
     /// To check the answer in a second file against the instance in the first.
     Check { file: &'a str, answer: &'a str },
-    /// To show the instance of a seed, and its answer.
+    /// A demonstration, on the instance of a seed.
     Demo { seed: u64 },
 }
 

@@ -18,7 +18,7 @@ fn required_word<'a>(alloc: Global, id: &'a str) -> Arg<'a>
         .value_parser(ValueParser::NonEmptyString)
 }
 
-/// The seed of an instance: a whole number of up to nine digits, which has to be there.
+/// The seed of an instance: a whole number from 0 to 999,999,999, which has to be there.
 fn required_seed<'a>(alloc: Global) -> Arg<'a>
     ensures rule { rule_of result ≡ seed_rule }
     ensures local { result.global ≡ false }
