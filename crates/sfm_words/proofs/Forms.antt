@@ -1,13 +1,20 @@
--- The words of `solve` and of `check`: where clap finds no fault it takes them, and finds the command.
-use Rattle.std.proofs.Common.{◌≡◌, ◌⊎◌, ◌==◌, ◌||◌, ℕ, Bool, List, [], ◌∷◌, refl, true, false, Some, None, inl, inr, codes, cond}
+-- The words of `solve`, of `check` and of `demo`: where clap finds no fault it takes them, and finds the command.
+use Rattle.std.specs.Prelude.{nat_lt}
+use Rattle.std.proofs.Common.{◌^◌, ◌≡◌, ◌⊎◌, ◌==◌, ◌||◌, ℕ, Bool, List, [], ◌∷◌, refl, true, false, Some, None, inl, inr, codes, cond}
 use Rattle.std.specs.Str.{bytes_eq}
 use Rattle.clap.specs.Words.{Rule, Shape, Text}
 use Rattle.clap.specs.Walk.{Row, used, value}
 use Rattle.clap.specs.Takes.{step_passes}
+use Rattle.std.specs.Str.Parse.{digits_value, without_leading_plus}
+use Rattle.std.proofs.lemmas.Bool.{leb-true}
+use Rattle.clap.specs.Kinds.{or_else}
+use Rattle.clap.specs.ValueTests.{is_numeral, is_unsigned_in}
+use Rattle.clap.specs.declared.error.kind.ErrorKind.TheVariants.{ValueValidation}
+use Rattle.clap.proofs.WalkLemmas.{both}
 use Rattle.clap.specs.Simple.{built_leaf, filled, inherited, with_leaf_noted}
 use Rattle.clap.specs.Faults.{settle_fault, defaults_fault, step_fault}
-use Rattle.sfm_words.specs.Line.{check_line, sfm_line, solve_line, word_rule}
-use Rattle.sfm_words.specs.Command.{check, solve}
+use Rattle.sfm_words.specs.Line.{check_line, demo_line, seed_rule, sfm_line, solve_line, word_rule}
+use Rattle.sfm_words.specs.Command.{check, demo, solve}
 use Rattle.sfm_words.proofs.Turns.{none_of, HasHelpOnly, help, at, not_none, holding, some_word}
 use Rattle.sfm_words.proofs.Levels.{HoldsCommand, end_fault, IsFree, Reaches, after, full, one}
 
@@ -37,7 +44,7 @@ solve_helps = record {
 solve_holds : (word : Text) → end_fault solve_sub (holding [] (Some (codes "FILE", word ∷ []))) ≡ [] → HoldsCommand solve_sub (holding [] (Some (codes "FILE", word ∷ [])))
 unfolding defaults_fault
 solve_holds [] e = absurd (not_none _ _ e)
-solve_holds (x ∷ xs) e = record { passes = rw (some_word x xs) refl; command = solve (x ∷ xs); found = refl }
+solve_holds (x ∷ xs) e = record { passes = rw (some_word x xs) refl; command = solve (x ∷ xs); found = refl; small = tt }
 
 pub solve_words : (is_trailing : Bool) (words : List Text) → IsFree solve_sub (at [] None 1 is_trailing) words → Reaches solve_sub (at [] None 1 is_trailing) words
 unfolding defaults_fault
@@ -66,7 +73,7 @@ check_holds : (file word : Text) → end_fault check_sub (holding (file_row file
     → HoldsCommand check_sub (holding (file_row file) (Some (codes "ANSWER", word ∷ [])))
 unfolding defaults_fault file_row
 check_holds file [] e = absurd (not_none _ _ e)
-check_holds file (x ∷ xs) e = record { passes = rw (some_word x xs) refl; command = check file (x ∷ xs); found = refl }
+check_holds file (x ∷ xs) e = record { passes = rw (some_word x xs) refl; command = check file (x ∷ xs); found = refl; small = tt }
 
 -- the file's name passes, where the next word finds no fault in it
 file_passes : (file : Text) → step_fault check_sub 2 (holding [] (Some (codes "FILE", file ∷ []))) value ≡ []
@@ -92,3 +99,51 @@ check_words = one check_sub check_helps [] None 1 (place 1 (codes "FILE")) refl 
         → Reaches check_sub (after check_sub check_helps [] None 1 (place 1 (codes "FILE")) is_trailing word) words
     then true word = one check_sub check_helps [] (Some (codes "FILE", word ∷ [])) 2 (place 2 (codes "ANSWER")) refl (file_passes word) (no_answer word) (last word) true
     then false word = one check_sub check_helps [] (Some (codes "FILE", word ∷ [])) 2 (place 2 (codes "ANSWER")) refl (file_passes word) (no_answer word) (last word) false
+
+-- ---- demo
+
+abbrev pub demo_sub : Shape
+demo_sub = built_sub demo_line.top
+
+demo_helps : HasHelpOnly demo_sub.rules
+demo_helps = record {
+  long = λ name. help_or_none (bytes_eq (codes "help") name || false);
+  short = λ x. help_or_none ((104 == x) || false);
+}
+
+-- the place of the seed
+abbrev seed_place : Rule
+seed_place = record (filled seed_rule) { index = Some 1 }
+
+-- a value that is no fault is a number that the line takes
+number_in : (word : Text) → settle_fault demo_sub.rules demo_sub.args_override_self (holding [] (Some (codes "SEED", word ∷ []))) ≡ [] → is_unsigned_in 0 999999999 word ≡ true
+number_in word e = go (is_unsigned_in 0 999999999 word) e
+  where
+    go : (b : Bool) → or_else (cond b [] (ValueValidation ∷ [])) [] ≡ [] → b ≡ true
+    go true e = refl
+    go false e = absurd (not_none _ _ e)
+
+demo_holds : (word : Text) → end_fault demo_sub (holding [] (Some (codes "SEED", word ∷ []))) ≡ [] → HoldsCommand demo_sub (holding [] (Some (codes "SEED", word ∷ [])))
+unfolding defaults_fault
+demo_holds word e =
+    let digits = without_leading_plus word in
+    let is = number_in word (none_of _ _ e).0 in
+    let read = both _ _ is in
+    let bounds = both _ _ read.1 in
+    let numeral : is_numeral digits ≡ true = read.0 in
+    let fits : nat_lt (digits_value 10 digits) (2 ^ 64) ≡ true = bounds.0 in
+    record {
+      passes = rw is refl;
+      command = demo (digits_value 10 digits);
+      found = rw (numeral, fits) refl;
+      small = leb-true _ _ (both _ _ bounds.1).1;
+    }
+
+pub demo_words : (is_trailing : Bool) (words : List Text) → IsFree demo_sub (at [] None 1 is_trailing) words → Reaches demo_sub (at [] None 1 is_trailing) words
+unfolding defaults_fault
+demo_words = one demo_sub demo_helps [] None 1 seed_place refl (λ _. refl) (λ e. not_none _ _ e) then
+  where
+    then : (is_trailing : Bool) (word : Text) (words : List Text) → IsFree demo_sub (after demo_sub demo_helps [] None 1 seed_place is_trailing word) words
+        → Reaches demo_sub (after demo_sub demo_helps [] None 1 seed_place is_trailing word) words
+    then true word = full demo_sub demo_helps [] (Some (codes "SEED", word ∷ [])) 2 refl (demo_holds word) true
+    then false word = full demo_sub demo_helps [] (Some (codes "SEED", word ∷ [])) 2 refl (demo_holds word) false

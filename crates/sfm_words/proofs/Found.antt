@@ -1,5 +1,5 @@
 -- What the getters of clap's matches give, by the rows.
-use Rattle.std.proofs.Common.{true≢false, ap₂, ◌≡◌, ◌∙◌, List, [], Bool, Result, Ok, Err, IsErrAnd, IfErr, MatchResult, IfOk, rules, true, false, subst, refl, sym, ap, Some, None, Option, option_map, option_and_then}
+use Rattle.std.proofs.Common.{true≢false, ap₂, ◌≡◌, ◌≤◌, ◌∙◌, ℕ, List, [], Bool, Result, Ok, Err, IsErrAnd, IfErr, MatchResult, IfOk, rules, true, false, subst, refl, sym, ap, Some, None, Option, option_map, option_and_then}
 use Rattle.std.specs.Option.{is_some, ok_or, unwrap_or}
 use Rattle.std.specs.Prelude.{Box}
 use Rattle.std.specs.Box.{box_value}
@@ -11,10 +11,11 @@ use Rattle.clap.specs.Words.{App, HasMatchesOf, fault_of, is_simple_and_free, ta
 use Rattle.clap.specs.declared.error.kind.ErrorKind.{ErrorKind}
 use Rattle.clap.specs.declared.error.kind.ErrorKind.TheVariants.{OutOfMemory}
 use Rattle.sfm_words.specs.Line.{sfm_line}
-use Rattle.sfm_words.specs.Command.{Asks, Command, IsForm, IsToldAs, command_by, command_of}
+use Rattle.sfm_words.specs.Command.{Asks, Command, IsForm, IsToldAs, command_by, command_of, demo}
 use Rattle.sfm_words.specs.declared.command.Command.{Command as Read}
 use Rattle.sfm_words.specs.declared.command.Refusal.{Refusal}
 use Rattle.sfm_words.specs.declared.command.Refusal.TheVariants.{Memory, Usage}
+use Rattle.sfm_words.proofs.Levels.{HasSmallSeed}
 use Rattle.sfm_words.proofs.Lines.{AskSome, form_asks, line_is_simple, reads}
 
 some_not_none : {X : Type 0} (x : X) → Some x ≡ None → ⊥
@@ -40,9 +41,16 @@ none_found m = by_none (out-ArgMatches m).subcommand
 
 -- ---- what a parse comes to
 
+-- the command that was found, or that is the answer, is one that the words ask for, of a seed that the line takes
+abbrev pub IsFound : List Text → Option Read → Type 0
+IsFound words found = (read : Read) × (found ≡ Some read) × Asks words (command_of read) × HasSmallSeed (command_of read)
+
+abbrev pub IsAnswer : List Text → Result Read Refusal → Type 0
+IsAnswer words r = (read : Read) × (r ≡ Ok read) × Asks words (command_of read) × HasSmallSeed (command_of read)
+
 -- the command that was found, of words with no fault
 pub read_is : (line : App) (words : List Text) (m : ArgMatches) (found : Option Read) → line ≡ sfm_line → (is_simple_and_free line ≡ true → fault_of line words ≡ [])
-    → HasMatchesOf line words m → option_map command_of found ≡ option_and_then command_by (subcommand_rows_of m) → (read : Read) × (found ≡ Some read) × Asks words (command_of read)
+    → HasMatchesOf line words m → option_map command_of found ≡ option_and_then command_by (subcommand_rows_of m) → IsFound words found
 read_is line words m found is free has by = go found same
   where
     no_fault : fault_of sfm_line words ≡ []
@@ -57,23 +65,25 @@ read_is line words m found is free has by = go found same
     same : option_map command_of found ≡ Some some.0
     same = by ∙ ap (option_and_then command_by) (matches refl).1 ∙ some.1.1
 
-    go : (o : Option Read) → option_map command_of o ≡ Some some.0 → (read : Read) × (o ≡ Some read) × Asks words (command_of read)
+    go : (o : Option Read) → option_map command_of o ≡ Some some.0 → IsFound words o
     go None e = absurd (some_not_none some.0 (sym e))
-    go (Some read) e = (read, refl, (some.1.0, some.1.1 ∙ sym e))
+    go (Some read) e = (read, refl, (some.1.0, some.1.1 ∙ sym e), subst HasSmallSeed (sym (ap (λ o. unwrap_or o some.0) e)) some.2)
 
-pub answered : (words : List Text) (found : Option Read) (r : Result Read Refusal) → r ≡ ok_or found Usage → (read : Read) × (found ≡ Some read) × Asks words (command_of read)
-    → (read : Read) × (r ≡ Ok read) × Asks words (command_of read)
-answered words found r is some = (some.0, is ∙ ap (λ o. ok_or o Usage) some.1, some.2)
+pub answered : (words : List Text) (found : Option Read) (r : Result Read Refusal) → r ≡ ok_or found Usage → IsFound words found → IsAnswer words r
+answered words found r is some = (some.0, is ∙ ap (λ o. ok_or o Usage) some.1, some.2, some.3)
 
-pub answer_asks : (words : List Text) (r : Result Read Refusal) → (read : Read) × (r ≡ Ok read) × Asks words (command_of read)
-    → IfOk r (λ read. Asks words (command_of read))
+pub answer_asks : (words : List Text) (r : Result Read Refusal) → IsAnswer words r → IfOk r (λ read. Asks words (command_of read))
 answer_asks words r some = subst (λ r. IfOk r (λ read. Asks words (command_of read))) (sym some.1) some.2
 
-pub answer_is_no_refusal : (words : List Text) (r : Result Read Refusal) (P : Refusal → Type 0) → (read : Read) × (r ≡ Ok read) × Asks words (command_of read) → IfErr r P
+pub answer_is_small : (words : List Text) (r : Result Read Refusal) → IsAnswer words r → IfOk r (λ read. (seed : ℕ) → command_of read ≡ demo seed → seed ≤ 999999999)
+answer_is_small words r some =
+    subst (λ r. IfOk r (λ read. (seed : ℕ) → command_of read ≡ demo seed → seed ≤ 999999999)) (sym some.1) (λ seed is. subst HasSmallSeed is some.3)
+
+pub answer_is_no_refusal : (words : List Text) (r : Result Read Refusal) (P : Refusal → Type 0) → IsAnswer words r → IfErr r P
 answer_is_no_refusal words r P some = subst (λ r. IfErr r P) (sym some.1) tt
 
 -- words ask for at most one command
-pub answer_is_form : (words : List Text) (r : Result Read Refusal) → (read : Read) × (r ≡ Ok read) × Asks words (command_of read) → (command : Command) → IsForm words command
+pub answer_is_form : (words : List Text) (r : Result Read Refusal) → IsAnswer words r → (command : Command) → IsForm words command
     → MatchResult r (λ read. command_of read ≡ command) (λ refusal. refusal ≡ Memory)
 answer_is_form words r some command form =
     let one : command_of some.0 ≡ command = ap (λ o. unwrap_or o command) (sym some.2.1 ∙ (form_asks words command form).1) in

@@ -1,6 +1,6 @@
 -- The words of one subcommand: where clap finds no fault it takes them, and its matches hold a command.
-use Rattle.std.proofs.Common.{◌≡◌, ◌∙◌, ◌&&◌, ℕ, Bool, List, [], ◌∷◌, refl, sym, ap, subst, true, false, Some, None, Option, inl, inr, cond}
-use Rattle.std.specs.Prelude.{fold}
+use Rattle.std.proofs.Common.{◌≡◌, ◌∙◌, ◌&&◌, ◌≤◌, ℕ, Bool, List, [], ◌∷◌, refl, sym, ap, subst, true, false, Some, None, Option, inl, inr, cond}
+use Rattle.std.specs.Prelude.{⊤, fold}
 use Rattle.std.specs.List.{list_all}
 use Rattle.std.specs.Option.{option_map_or}
 use Rattle.clap.specs.declared.error.kind.ErrorKind.TheVariants.{UnknownArgument, InvalidSubcommand}
@@ -9,7 +9,7 @@ use Rattle.clap.specs.Faults.{check_fault, defaults_fault, positional_fault, set
 use Rattle.clap.specs.Takes.{default_passes, is_valid, settle_passes, step_passes, turn_passes, walk_passes}
 use Rattle.clap.specs.Walk.{Held, Row, Rule, Text, Walk, arg_by_index, finished, settled, to_positional, value, walked}
 use Rattle.clap.specs.Simple.{Shape}
-use Rattle.sfm_words.specs.Command.{Command, command_by}
+use Rattle.sfm_words.specs.Command.{Command, check, command_by, demo, solve}
 use Rattle.sfm_words.proofs.Turns.{HasHelpOnly, at, dashes, dashes_or_value, holding, none_of, not_none, value_fault, value_passes, value_walks}
 
 -- the fault of what is held at the end, and the same as a test
@@ -25,11 +25,18 @@ pub record IsFree (s : Shape) (w : Walk) (words : List Text) : Type 0 where
   pub walk : walk_fault s [] w words ≡ []
   pub end : end_fault s (fold (walked s.rules []) w words).held ≡ []
 
+-- a seed is one of those that the line takes
+abbrev pub HasSmallSeed : Command → Type 0
+HasSmallSeed (solve file) = ⊤
+HasSmallSeed (check file answer) = ⊤
+HasSmallSeed (demo seed) = seed ≤ 999999999
+
 -- what is held at the end passes, and holds a command
 pub record HoldsCommand (s : Shape) (h : Held) : Type 0 where
   pub passes : end_passes s h ≡ true
   pub command : Command
   pub found : command_by (s.name, finished s.rules h) ≡ Some command
+  pub small : HasSmallSeed command
 
 -- the walk over the rest of the words passes, and comes to a command
 pub record Reaches (s : Shape) (w : Walk) (words : List Text) : Type 0 where

@@ -1,10 +1,15 @@
 -- The words of the whole command line: where clap finds no fault it takes them, and its matches hold a command.
-use Rattle.std.proofs.Common.{◌≡◌, ◌∙◌, ◌==◌, ◌||◌, Bool, List, [], ◌∷◌, ◌++◌, arith, refl, sym, ap, subst, true, false, Some, None, inl, inr, codes}
-use Rattle.std.specs.Prelude.{length, nat_lt, find, fold, is_some, option_and_then, option_map}
+use Rattle.std.proofs.Common.{◌≡◌, ◌∙◌, ◌==◌, ◌||◌, ◌<◌, ◌^◌, ℕ, lt-ltb, le-leb, Bool, List, [], ◌∷◌, ◌++◌, arith, refl, sym, ap, subst, true, false, Some, None, inl, inr, codes}
+use Rattle.std.specs.Prelude.{length, nat_le, nat_lt, find, fold, is_some, option_and_then, option_map}
 use Rattle.std.specs.Option.{option_map_or}
 use Rattle.std.specs.Str.{bytes_eq}
 use Rattle.std.proofs.lemmas.Slice.Eq.{bytes_eq-Decides}
 use Rattle.std.proofs.lemmas.Bool.Decides.{Decides-eqb}
+use Rattle.std.specs.Str.Parse.{digits_value, without_leading_plus}
+use Rattle.std.proofs.lemmas.Int.Digits.{digits_value-lt}
+use Rattle.std.proofs.lemmas.Str.Parse.{digit_from_value, without_leading_plus_none}
+use Rattle.std.proofs.Math.Nat.{pow-le-pow_right}
+use Rattle.clap.specs.ValueTests.{is_numeral}
 use Rattle.clap.specs.Lexer.{long_of, short_of}
 use Rattle.clap.proofs.OnLiterals.{clap_on_literals}
 use Rattle.clap.specs.Words.{Shape, Text, built}
@@ -13,11 +18,12 @@ use Rattle.clap.specs.Simple.{entered, label_of, names_of, rows_at}
 use Rattle.clap.specs.Faults.{defaults_fault, entered_fault, fault_of, is_simple_and_free, level_fault, turn_fault, walk_fault}
 use Rattle.clap.specs.Takes.{entered_passes, level_passes, turn_passes, walk_passes}
 use Rattle.clap.proofs.WalkLemmas.{walk_stopped}
-use Rattle.sfm_words.specs.Command.{Asks, Command, IsFileName, IsForm, check, command_by, solve}
+use Rattle.sfm_words.specs.Command.{Asks, Command, IsFileName, IsForm, IsSeed, check, command_by, demo, solve}
 use Rattle.sfm_words.specs.Line.{sfm_line}
+use Rattle.sfm_words.proofs.Numbers.{numeral_told}
 use Rattle.sfm_words.proofs.Turns.{HasHelpOnly, at, dashes, dashes_or_value, none_of, not_none, value_fault, some_word}
-use Rattle.sfm_words.proofs.Levels.{IsFree, Reaches}
-use Rattle.sfm_words.proofs.Forms.{check_sub, check_words, help_or_none, solve_sub, solve_words}
+use Rattle.sfm_words.proofs.Levels.{HasSmallSeed, IsFree, Reaches}
+use Rattle.sfm_words.proofs.Forms.{check_sub, check_words, demo_sub, demo_words, help_or_none, solve_sub, solve_words}
 
 pub line_is_simple : is_simple_and_free sfm_line ≡ true
 line_is_simple = refl
@@ -83,21 +89,27 @@ module _ (verb : Text) (sub : Shape) (first : walked top.rules names (walk_from 
 
 -- ---- the first word
 
--- the words ask for a command
+-- the words ask for a command, of a seed that the line takes
 abbrev pub AskSome : List Text → Type 0
-AskSome words = (command : Command) × Asks words command
+AskSome words = (command : Command) × Asks words command × HasSmallSeed command
 
 solve_asks : (words : List Text) → fault_of sfm_line (codes "solve" ∷ words) ≡ [] → AskSome (codes "solve" ∷ words)
 unfolding walked
 solve_asks words e =
     let r = solve_words false words (fault_below (codes "solve") solve_sub refl refl refl words e) in
-    (r.end.command, asks (codes "solve") solve_sub refl refl refl words r)
+    (r.end.command, asks (codes "solve") solve_sub refl refl refl words r, r.end.small)
 
 check_asks : (words : List Text) → fault_of sfm_line (codes "check" ∷ words) ≡ [] → AskSome (codes "check" ∷ words)
 unfolding walked
 check_asks words e =
     let r = check_words false words (fault_below (codes "check") check_sub refl refl refl words e) in
-    (r.end.command, asks (codes "check") check_sub refl refl refl words r)
+    (r.end.command, asks (codes "check") check_sub refl refl refl words r, r.end.small)
+
+demo_asks : (words : List Text) → fault_of sfm_line (codes "demo" ∷ words) ≡ [] → AskSome (codes "demo" ∷ words)
+unfolding walked
+demo_asks words e =
+    let r = demo_words false words (fault_below (codes "demo") demo_sub refl refl refl words e) in
+    (r.end.command, asks (codes "demo") demo_sub refl refl refl words r, r.end.small)
 
 no_help : (words : List Text) → fault_of sfm_line (codes "help" ∷ words) ≡ [] → ⊥
 unfolding walk_fault
@@ -127,7 +139,7 @@ no_other word words met e =
 pub reads : (words : List Text) → fault_of sfm_line words ≡ [] → AskSome words
 unfolding walk_fault defaults_fault
 reads [] e = absurd (not_none _ _ e)
-reads (word ∷ words) e = go (bytes_eq (codes "solve") word) (bytes_eq (codes "check") word) (bytes_eq (codes "help") word) refl refl refl
+reads (word ∷ words) e = go (bytes_eq (codes "solve") word) (bytes_eq (codes "check") word) (bytes_eq (codes "demo") word) (bytes_eq (codes "help") word) refl refl refl refl
   where
     is : (verb : Text) → bytes_eq verb word ≡ true → fault_of sfm_line (verb ∷ words) ≡ []
     is verb same = subst (λ w. fault_of sfm_line (w ∷ words) ≡ []) (sym ((bytes_eq-Decides verb word).0 same)) e
@@ -135,12 +147,13 @@ reads (word ∷ words) e = go (bytes_eq (codes "solve") word) (bytes_eq (codes "
     back : (verb : Text) → bytes_eq verb word ≡ true → AskSome (verb ∷ words) → AskSome (word ∷ words)
     back verb same = subst (λ w. AskSome (w ∷ words)) ((bytes_eq-Decides verb word).0 same)
 
-    go : (a b c : Bool) → bytes_eq (codes "solve") word ≡ a → bytes_eq (codes "check") word ≡ b → bytes_eq (codes "help") word ≡ c → AskSome (word ∷ words)
-    go true b c at_a at_b at_c = back (codes "solve") at_a (solve_asks words (is (codes "solve") at_a))
-    go false true c at_a at_b at_c = back (codes "check") at_b (check_asks words (is (codes "check") at_b))
-    go false false true at_a at_b at_c = absurd (no_help words (is (codes "help") at_c))
-    go false false false at_a at_b at_c =
-        let met : subcommand_met names idle word ≡ None = rw (at_a, at_b, at_c) refl in
+    go : (a b c d : Bool) → bytes_eq (codes "solve") word ≡ a → bytes_eq (codes "check") word ≡ b → bytes_eq (codes "demo") word ≡ c → bytes_eq (codes "help") word ≡ d → AskSome (word ∷ words)
+    go true b c d at_a at_b at_c at_d = back (codes "solve") at_a (solve_asks words (is (codes "solve") at_a))
+    go false true c d at_a at_b at_c at_d = back (codes "check") at_b (check_asks words (is (codes "check") at_b))
+    go false false true d at_a at_b at_c at_d = back (codes "demo") at_c (demo_asks words (is (codes "demo") at_c))
+    go false false false true at_a at_b at_c at_d = absurd (no_help words (is (codes "help") at_d))
+    go false false false false at_a at_b at_c at_d =
+        let met : subcommand_met names idle word ≡ None = rw (at_a, at_b, at_c, at_d) refl in
         absurd (no_other word words met e)
 
 -- ---- the listed forms
@@ -168,7 +181,36 @@ check_form : (file answer : Text) → IsPlain file → IsPlain answer → Asks (
 unfolding clap_on_literals
 check_form file answer f a = rw (f.apart, f.long, f.short, a.apart, a.long, a.short, f.some, a.some) (refl, refl)
 
+-- what the text of a seed looks like to clap
+record IsNumber (text : Text) : Type 0 where
+  plain : IsPlain text
+  unsigned : without_leading_plus text ≡ text
+  numeral : is_numeral text ≡ true
+  fits : nat_lt (digits_value 10 text) (2 ^ 64) ≡ true
+  large : nat_le 0 (digits_value 10 text) ≡ true
+  small : nat_le (digits_value 10 text) 999999999 ≡ true
+
+seed_is_number : (text : Text) (seed : ℕ) → IsSeed text seed → IsNumber text
+seed_is_number [] seed is = absurd (omega (arith, is.some))
+seed_is_number (x ∷ xs) seed is =
+    let first = digit_from_value x is.digits.0 in
+    let below : digits_value 10 (x ∷ xs) < 10 ^ 9 = omega (arith, digits_value-lt 10 (x ∷ xs) is.digits, pow-le-pow_right {n = 10} (omega arith) is.short) in
+    record {
+      plain = name_is_plain (x ∷ xs) (record { some = omega arith; plain = λ e. omega (arith, first, e) });
+      unsigned = without_leading_plus_none (x ∷ xs) (λ e. omega (arith, first, e));
+      numeral = numeral_told (x ∷ xs) (is.some, is.digits);
+      fits = lt-ltb _ _ (omega (arith, below));
+      large = le-leb _ _ (omega arith);
+      small = le-leb _ _ (omega (arith, below));
+    }
+
+demo_form : (text : Text) → IsNumber text → Asks (codes "demo" ∷ text ∷ []) (demo (digits_value 10 text))
+unfolding clap_on_literals
+demo_form text f = rw (f.plain.apart, f.plain.long, f.plain.short, f.unsigned, f.numeral, f.fits, f.large, f.small) (refl, refl)
+
 pub form_asks : (words : List Text) (command : Command) → IsForm words command → Asks words command
 form_asks words (solve file) form = subst (λ v. Asks v (solve file)) (sym form.0) (solve_form file (name_is_plain file form.1))
 form_asks words (check file answer) form =
     subst (λ v. Asks v (check file answer)) (sym form.0) (check_form file answer (name_is_plain file form.1) (name_is_plain answer form.2))
+form_asks words (demo seed) form =
+    subst (λ v. Asks v (demo seed)) (sym form.1) (subst (λ n. Asks (codes "demo" ∷ form.0 ∷ []) (demo n)) form.2.value (demo_form form.0 (seed_is_number form.0 seed form.2)))

@@ -1,24 +1,28 @@
 -- The commands, and the words that ask for them.
-use Rattle.std.specs.Prelude.{◌≡◌, ◌≢◌, ◌<◌, List, [], ◌∷◌, true, false, Option, Some, None, if◌then◌else◌, length, slice_index, codes, option_map, option_and_then}
+use Rattle.std.specs.Prelude.{◌≡◌, ◌≢◌, ◌<◌, ◌≤◌, ◌^◌, ◌&&◌, ℕ, List, [], ◌∷◌, true, false, Option, Some, None, if◌then◌else◌, length, slice_index, nat_lt, codes, option_map, option_and_then}
 use Rattle.std.specs.Str.{bytes_eq}
-use Rattle.clap.specs.Words.{Row, Text, first_of, subcommand_of, takes}
+use Rattle.std.specs.Str.Parse.{AllDigits, digits_value, without_leading_plus}
+use Rattle.clap.specs.ValueTests.{is_numeral}
+use Rattle.clap.specs.Words.{Row, Text, first_of, one_of, subcommand_of, takes}
 use Rattle.clap.specs.declared.error.kind.ErrorKind.{ErrorKind}
 use Rattle.clap.specs.declared.error.kind.ErrorKind.TheVariants.{OutOfMemory}
 use Rattle.sfm_words.specs.Line.{sfm_line}
 use Rattle.sfm_words.specs.declared.command.Command.{Command as Read}
-use Rattle.sfm_words.specs.declared.command.Command.TheVariants.{Solve as ReadSolve, Check as ReadCheck}
+use Rattle.sfm_words.specs.declared.command.Command.TheVariants.{Solve as ReadSolve, Check as ReadCheck, Demo as ReadDemo}
 use Rattle.sfm_words.specs.declared.command.Refusal.{Refusal}
 use Rattle.sfm_words.specs.declared.command.Refusal.TheVariants.{Memory, Usage}
 
--- to solve an instance, or to check an answer of one: each by the names of files
+-- to solve an instance, or to check an answer of one, each by the names of files; or a demonstration, on the instance of a seed
 pub data Command : Type 0 where
   solve : Text → Command
   check : Text → Text → Command
+  demo : ℕ → Command
 
 -- the command that was read
 abbrev pub command_of : Read → Command
 command_of (ReadSolve file) = solve file.now
 command_of (ReadCheck file answer) = check file.now answer.now
+command_of (ReadDemo seed) = demo seed
 
 -- ---- what clap finds in the words
 
@@ -28,10 +32,20 @@ solve_by rows = option_map solve (first_of (codes "FILE") rows)
 abbrev pub check_by : List Row → Option Command
 check_by rows = option_and_then (λ file. option_map (check file) (first_of (codes "ANSWER") rows)) (first_of (codes "FILE") rows)
 
+-- the number that `u64` reads from a text
+abbrev pub number_of : Text → Option ℕ
+number_of text =
+    let digits = without_leading_plus text in
+    if is_numeral digits && nat_lt (digits_value 10 digits) (2 ^ 64) then Some (digits_value 10 digits) else None
+
+abbrev pub demo_by : List Row → Option Command
+demo_by rows = option_map demo (option_and_then number_of (one_of (codes "SEED") rows))
+
 -- the command that a subcommand is, by its name and its matches
 abbrev pub command_by : Text × List Row → Option Command
 command_by found = if bytes_eq found.0 (codes "solve") then solve_by found.1
-    else (if bytes_eq found.0 (codes "check") then check_by found.1 else None)
+    else (if bytes_eq found.0 (codes "check") then check_by found.1
+    else (if bytes_eq found.0 (codes "demo") then demo_by found.1 else None))
 
 -- clap takes the words, and its matches of them are the command
 abbrev pub Asks : List Text → Command → Type 0
@@ -53,7 +67,15 @@ pub record IsFileName (name : Text) : Type 0 where
   pub some : 0 < length name
   pub plain : slice_index name 0 ≢ 45
 
--- the words are `solve FILE` or `check FILE ANSWER`
+-- the text of a seed: 1 to 9 decimal digits, of its value in base ten
+pub record IsSeed (text : Text) (seed : ℕ) : Type 0 where
+  pub some : 0 < length text
+  pub short : length text ≤ 9
+  pub digits : AllDigits 10 text
+  pub value : digits_value 10 text ≡ seed
+
+-- the words are `solve FILE`, `check FILE ANSWER` or `demo SEED`
 abbrev pub IsForm : List Text → Command → Type 0
 IsForm words (solve file) = (words ≡ codes "solve" ∷ file ∷ []) × IsFileName file
 IsForm words (check file answer) = (words ≡ codes "check" ∷ file ∷ answer ∷ []) × IsFileName file × IsFileName answer
+IsForm words (demo seed) = (text : Text) × (words ≡ codes "demo" ∷ text ∷ []) × IsSeed text seed

@@ -1,6 +1,6 @@
--- The command line of the program, as what clap reads of it: `solve FILE` and `check FILE ANSWER`.
+-- The command line of the program, as what clap reads of it: `solve FILE`, `check FILE ANSWER` and `demo SEED`.
 use Rattle.std.specs.Prelude.{Some, codes, true}
-use Rattle.clap.specs.declared.builder.value_parser.ValueParser.TheVariants.{NonEmptyString}
+use Rattle.clap.specs.declared.builder.value_parser.ValueParser.TheVariants.{NonEmptyString, Unsigned}
 use Rattle.clap.specs.Words.{App, Rule, Text, new_app, new_rule, with_rule, with_subcommand}
 
 -- an argument of one word, which has to be there and not to be empty
@@ -15,10 +15,18 @@ solve_line = with_rule (new_app (codes "solve")) (word_rule (codes "FILE"))
 abbrev pub check_line : App
 check_line = with_rule (with_rule (new_app (codes "check")) (word_rule (codes "FILE"))) (word_rule (codes "ANSWER"))
 
+-- the seed of an instance: a whole number from 0 to 999,999,999, which has to be there
+abbrev pub seed_rule : Rule
+seed_rule = record (new_rule (codes "SEED")) { required = true; parser = Some (Unsigned 0 999999999) }
+
+-- `demo SEED`
+abbrev pub demo_line : App
+demo_line = with_rule (new_app (codes "demo")) seed_rule
+
 -- a program of which a subcommand has to be called; its words begin after its name
 abbrev pub program : App
 program = record (new_app (codes "sfm")) { top = record (new_app (codes "sfm")).top { no_binary_name = true; subcommand_required = true } }
 
 -- the command line
 abbrev pub sfm_line : App
-sfm_line = with_subcommand (with_subcommand program solve_line.top) check_line.top
+sfm_line = with_subcommand (with_subcommand (with_subcommand program solve_line.top) check_line.top) demo_line.top

@@ -15,6 +15,8 @@ pub enum Command<'a> {
     Solve { file: &'a str },
     /// To check the answer in a second file against the instance in the first.
     Check { file: &'a str, answer: &'a str },
+    /// A demonstration, on the instance of a seed.
+    Demo { seed: u64 },
 }
 
 /// Why no command was read.

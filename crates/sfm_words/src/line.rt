@@ -1,8 +1,8 @@
-// The command line of the program as clap is told of it: two subcommands, each with the names of files.
+// The command line of the program as clap is told of it: two subcommands with the names of files, and one with a seed.
 ghost use Rattle.std.specs.Prelude.{◌≡◌, IfOk, false};
 ghost use Rattle.clap.specs.Words.{app_of, rule_of};
 ghost use Rattle.clap.specs.declared.builder.command.Command.TheViews.{out-Command as fields_of};
-ghost use Rattle.sfm_words.specs.Line.{program, word_rule, solve_line, check_line, sfm_line};
+ghost use Rattle.sfm_words.specs.Line.{program, word_rule, seed_rule, solve_line, check_line, demo_line, sfm_line};
 
 use clap::builder::ValueParser;
 use clap::{Arg, Command};
@@ -16,6 +16,16 @@ fn required_word<'a>(alloc: Global, id: &'a str) -> Arg<'a>
     Arg::new(alloc, id)
         .required(true)
         .value_parser(ValueParser::NonEmptyString)
+}
+
+/// The seed of an instance: a whole number from 0 to 999,999,999, which has to be there.
+fn required_seed<'a>(alloc: Global) -> Arg<'a>
+    ensures rule { rule_of result ≡ seed_rule }
+    ensures local { result.global ≡ false }
+{
+    Arg::new(alloc, "SEED")
+        .required(true)
+        .value_parser(ValueParser::Unsigned(0, 999_999_999))
 }
 
 /// `solve FILE`
@@ -36,6 +46,14 @@ fn check_line<'a>(alloc: Global) -> Result<Command<'a>, AllocError>
         .arg(required_word(alloc, "ANSWER"))
 }
 
+/// `demo SEED`
+fn demo_line<'a>(alloc: Global) -> Result<Command<'a>, AllocError>
+    ensures app { IfOk result (λ line. app_of line ≡ demo_line) }
+    ensures local { IfOk result (λ line. (fields_of line).has_globals ≡ false) }
+{
+    Command::new(alloc, "demo").arg(required_seed(alloc))
+}
+
 /// The program, without its subcommands: its words begin after its name, and have to name a subcommand.
 fn program<'a>(alloc: Global) -> Command<'a>
     ensures { app_of result ≡ program }
@@ -51,5 +69,6 @@ pub(crate) fn command_line<'a>(alloc: Global) -> Result<Command<'a>, AllocError>
 {
     program(alloc)
         .subcommand(solve_line(alloc)?)?
-        .subcommand(check_line(alloc)?)
+        .subcommand(check_line(alloc)?)?
+        .subcommand(demo_line(alloc)?)
 }

@@ -1,7 +1,7 @@
 // The command that the words ask for: the subcommand in clap's matches of them, with its arguments.
-ghost use Rattle.std.specs.Prelude.{◌≡◌, ℕ, List, map, option_map, option_and_then, IfOk, IfErr, MatchResult};
-ghost use Rattle.clap.specs.Words.{first_of, found_of, rows_of, subcommand_rows_of};
-ghost use Rattle.sfm_words.specs.Command.{Asks, IsForm, IsNotTaken, check_by, command_by, command_of, solve_by};
+ghost use Rattle.std.specs.Prelude.{◌≡◌, ◌≤◌, ℕ, List, map, option_map, option_and_then, IfOk, IfErr, MatchResult};
+ghost use Rattle.clap.specs.Words.{first_of, found_of, one_of, rows_of, subcommand_rows_of};
+ghost use Rattle.sfm_words.specs.Command.{Asks, IsForm, IsNotTaken, check_by, command_by, command_of, demo, demo_by, number_of, solve_by};
 ghost use Rattle.sfm_words.specs.Command.{Command as Asked};
 
 use crate::command::{Command, Refusal};
@@ -14,6 +14,13 @@ fn word_of<'a>(found: &ArgMatches<'a>, id: &str) -> Option<&'a str>
     ensures { option_map (λ word. word.now) result ≡ first_of id.now (rows_of (found_of found.now)) }
 {
     found.get_str(id)
+}
+
+/// The number of an argument.
+fn number_of(found: &ArgMatches<'_>, id: &str) -> Option<u64>
+    ensures { result ≡ option_and_then number_of (one_of id.now (rows_of (found_of found.now))) }
+{
+    found.get_one::<u64>(id)
 }
 
 /// `solve`, by its matches.
@@ -33,6 +40,14 @@ fn check_in<'a>(found: &ArgMatches<'a>) -> Option<Command<'a>>
     Some(Command::Check { file, answer })
 }
 
+/// `demo`, by its matches.
+fn demo_in<'a>(found: &ArgMatches<'a>) -> Option<Command<'a>>
+    ensures { option_map command_of result ≡ demo_by (rows_of (found_of found.now)) }
+{
+    let seed = number_of(found, "SEED")?;
+    Some(Command::Demo { seed })
+}
+
 /// The command of this name, by its matches.
 fn command_named<'a>(verb: &str, found: &ArgMatches<'a>) -> Option<Command<'a>>
     ensures { option_map command_of result ≡ command_by (verb.now, rows_of (found_of found.now)) }
@@ -40,6 +55,7 @@ fn command_named<'a>(verb: &str, found: &ArgMatches<'a>) -> Option<Command<'a>>
     match verb {
         "solve" => solve_in(found),
         "check" => check_in(found),
+        "demo" => demo_in(found),
         _ => None,
     }
 }
@@ -59,6 +75,7 @@ pub fn read_command<'a>(alloc: Global, words: &'a [&'a str]) -> Result<Command<'
     ensures refused { IfErr result (λ refusal. refusal ≡ Refusal.Usage → IsNotTaken (map (λ word. word.now) words.now)) }
     ensures form { (command : Asked) → IsForm (map (λ word. word.now) words.now) command
         → MatchResult result (λ read. command_of read ≡ command) (λ refusal. refusal ≡ Refusal.Memory) }
+    ensures seeds { IfOk result (λ command. (seed : ℕ) → command_of command ≡ demo seed → seed ≤ 999999999) }
 {
     let line = command_line(alloc)?;
     let matches = line.try_get_matches_from(words)?;

@@ -26,12 +26,26 @@ fn reads_the_words_of_a_command(rt: HostRuntime) -> Result<(), Fail> {
     for (words, file, answer) in checked {
         assert!(rt; read_command(alloc, words) == Ok(Command::Check { file, answer }));
     }
+    let shown: [(&[&str], u64); 9] = [
+        (&["demo", "0"], 0),
+        (&["demo", "7"], 7),
+        (&["demo", "007"], 7),
+        (&["demo", "999999999"], 999_999_999),
+        (&["demo", "000000000"], 0),
+        (&["demo", "0000000001"], 1),
+        (&["demo", "+1"], 1),
+        (&["demo", "--", "12"], 12),
+        (&["demo", "12", "--"], 12),
+    ];
+    for (words, seed) in shown {
+        assert!(rt; read_command(alloc, words) == Ok(Command::Demo { seed }));
+    }
     Ok(())
 }
 
 #[test]
 fn refuses_other_words(rt: HostRuntime) {
-    let wordings: [&[&str]; 28] = [
+    let wordings: [&[&str]; 45] = [
         &[],
         &[""],
         &["solve"],
@@ -48,6 +62,23 @@ fn refuses_other_words(rt: HostRuntime) {
         &["check", "", "second"],
         &["check", "first", "-second"],
         &["check", "first", "second", "third"],
+        &["demo"],
+        &["demo", ""],
+        &["demo", "1000000000"],
+        &["demo", "18446744073709551616"],
+        &["demo", "x"],
+        &["demo", "1x"],
+        &["demo", "-1"],
+        &["demo", "--", "-1"],
+        &["demo", "-0"],
+        &["demo", "+"],
+        &["demo", "++1"],
+        &["demo", " 1"],
+        &["demo", "1", "2"],
+        &["demo", "--"],
+        &["demo", "--help"],
+        &["demo", "1", "-h"],
+        &["help", "demo"],
         &["solv", "first"],
         &["Solve", "first"],
         &["first"],

@@ -1,6 +1,6 @@
 use Rattle.std.proofs.Common.{map}
 use Rattle.clap.specs.Words.{app_of, kind_of}
-use Rattle.sfm_words.proofs.Found.{answer_asks, answer_is_form, answer_is_no_refusal, answered, form_is_no_usage, read_is, usage_is_not_taken}
+use Rattle.sfm_words.proofs.Found.{answer_asks, answer_is_form, answer_is_no_refusal, answer_is_small, answered, form_is_no_usage, read_is, usage_is_not_taken}
 use Rattle.sfm_words.proofs.read.read_command.Goals as goal
 
 pub returns-in_err-matches-clause-refused : goal.returns-in_err-matches-clause-refused
@@ -30,3 +30,9 @@ returns-clause-form c =
     let words = map (λ word. word.now) c.args.words.now in
     let read = read_is (app_of c.in_ok-line.line) words c.in_ok-matches.matches c.command_in.result c.in_ok-line.ensures c.in_ok-matches.ensures.kinds c.in_ok-matches.ensures.matches c.command_in.ensures in
     answer_is_form words c.ok_or.result (answered words c.command_in.result c.ok_or.result c.ok_or.ensures.value read)
+
+pub returns-clause-seeds : goal.returns-clause-seeds
+returns-clause-seeds c =
+    let words = map (λ word. word.now) c.args.words.now in
+    let read = read_is (app_of c.in_ok-line.line) words c.in_ok-matches.matches c.command_in.result c.in_ok-line.ensures c.in_ok-matches.ensures.kinds c.in_ok-matches.ensures.matches c.command_in.ensures in
+    answer_is_small words c.ok_or.result (answered words c.command_in.result c.ok_or.result c.ok_or.ensures.value read)
