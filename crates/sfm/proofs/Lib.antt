@@ -1,5 +1,6 @@
 pub mod ReadLemmas
 pub mod Checks
+pub mod Demos
 pub mod Rows
 pub mod Slopes
 pub mod Solves

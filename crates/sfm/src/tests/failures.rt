@@ -54,13 +54,15 @@ fn pieces_and_faults_of_the_outside(rt: HostRuntime) -> Result<(), Fail> {
 
 #[test]
 fn words_that_are_no_command(rt: HostRuntime) -> Result<(), Fail> {
-    let wordings: [&[&str]; 6] = [
+    let wordings: [&[&str]; 8] = [
         &["solv", "first"],
         &["solve", "-first"],
         &["solve", ""],
         &["check", "first"],
         &["check", "first", "-second"],
         &["solve", "first", "second"],
+        &["demo"],
+        &["demo", "1000000000"],
     ];
     for words in wordings {
         let case = Case {
