@@ -1,18 +1,18 @@
 -- The words of `solve`, of `check` and of `demo`: where clap finds no fault it takes them, and finds the command.
-use Rattle.std.specs.Prelude.{nat_lt}
 use Rattle.std.proofs.Common.{◌^◌, ◌≡◌, ◌⊎◌, ◌==◌, ◌||◌, ℕ, Bool, List, [], ◌∷◌, refl, true, false, Some, None, inl, inr, codes, cond}
+use Rattle.std.specs.Prelude.{nat_lt}
 use Rattle.std.specs.Str.{bytes_eq}
+use Rattle.std.specs.Str.Parse.{digits_value, without_leading_plus}
+use Rattle.std.proofs.lemmas.Bool.{leb-true}
 use Rattle.clap.specs.Words.{Rule, Shape, Text}
 use Rattle.clap.specs.Walk.{Row, used, value}
 use Rattle.clap.specs.Takes.{step_passes}
-use Rattle.std.specs.Str.Parse.{digits_value, without_leading_plus}
-use Rattle.std.proofs.lemmas.Bool.{leb-true}
+use Rattle.clap.specs.Simple.{built_leaf, filled, inherited, with_leaf_noted}
+use Rattle.clap.specs.Faults.{settle_fault, defaults_fault, step_fault}
 use Rattle.clap.specs.Kinds.{or_else}
 use Rattle.clap.specs.ValueTests.{is_numeral, is_unsigned_in}
 use Rattle.clap.specs.declared.error.kind.ErrorKind.TheVariants.{ValueValidation}
 use Rattle.clap.proofs.WalkLemmas.{both}
-use Rattle.clap.specs.Simple.{built_leaf, filled, inherited, with_leaf_noted}
-use Rattle.clap.specs.Faults.{settle_fault, defaults_fault, step_fault}
 use Rattle.sfm_words.specs.Line.{check_line, demo_line, seed_rule, sfm_line, solve_line, word_rule}
 use Rattle.sfm_words.specs.Command.{check, demo, solve}
 use Rattle.sfm_words.proofs.Turns.{none_of, HasHelpOnly, help, at, not_none, holding, some_word}

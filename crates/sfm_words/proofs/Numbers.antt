@@ -1,5 +1,5 @@
 -- The number that `u64` reads from a text, as a test.
-use Rattle.std.proofs.Common.{◌≡◌, ◌∙◌, ◌<◌, ◌^◌, ◌&&◌, ℕ, Bool, List, [], ◌∷◌, Result, Ok, Err, Option, Some, None, refl, sym, ap, true, false, cond, lt-ltb, length}
+use Rattle.std.proofs.Common.{◌≡◌, ◌^◌, ◌&&◌, ℕ, Bool, [], ◌∷◌, Result, Ok, Err, Option, Some, None, refl, sym, ap, true, false, cond, lt-ltb, length}
 use Rattle.std.specs.Prelude.{nat_lt, option_and_then}
 use Rattle.std.specs.List.{list_all}
 use Rattle.std.specs.Char.{digit_value}
