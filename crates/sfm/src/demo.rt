@@ -20,8 +20,7 @@ use std::alloc::{AllocError, Global};
 fn write_line(alloc: Global, seed: u64, solved: &Solved) -> Result<Vec<u8>, AllocError>
     ensures { IfOk result (λ line. line.items ≡ demo_line seed (answer_of solved.now)) }
 {
-    let line = format!(
-        in alloc;
+    let line = format!(in alloc;
         "demo {} minimum {} least {} greatest {} blocks {} slopes {} valid\n",
         seed,
         solved.value,

@@ -167,7 +167,10 @@ fn complain<E: Sink>(err: &mut E, status: Status)
         Status::ReadFault => say(err, b"sfm: read failed\n"),
         Status::WriteFault => say(err, b"sfm: write failed\n"),
         Status::Memory => say(err, b"sfm: out of memory\n"),
-        Status::Usage => say(err, b"usage: sfm solve FILE | check FILE ANSWER | demo SEED\n"),
+        Status::Usage => say(
+            err,
+            b"usage: sfm solve FILE | check FILE ANSWER | demo SEED\n",
+        ),
     }
 }
 

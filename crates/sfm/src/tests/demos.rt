@@ -50,7 +50,9 @@ fn says_what_the_answer_says(rt: HostRuntime) -> Result<(), Fail> {
     let blocks = lines_of(&answer, b"block ");
     let slopes = lines_of(&answer, b"slope ");
     assert_eq!(rt; minimum, b"minimum -9501".as_slice());
-    let rest = format!(in alloc; "least {least} greatest {greatest} blocks {blocks} slopes {slopes} valid\n")?;
+    let rest = format!(in alloc;
+        "least {least} greatest {greatest} blocks {blocks} slopes {slopes} valid\n"
+    )?;
     let line = written(&rt, alloc, &["demo", "0"], b"", b"")?;
     assert!(rt; line.starts_with(b"demo 0 minimum -9501 least "));
     assert!(rt; line.ends_with(rest.as_bytes()));
