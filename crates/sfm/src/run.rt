@@ -126,7 +126,7 @@ fn prepare_demo(alloc: Global, seed: u64) -> Result<Due, Status>
 
 /// Makes what is due for a command whole.
 fn prepare<S: Shelf>(alloc: Global, shelf: &mut S, command: Command) -> Result<Due, Status>
-    requires { (seed : ℕ) → command_of command.entry ≡ Showing seed → seed ≤ 999999999 }
+    requires { (seed : ℕ) → command_of command ≡ Showing seed → seed ≤ 999999999 }
     ensures { Prepares (command_of command.entry) (S.state shelf.old) (S.state shelf.new) result }
 {
     match command {
@@ -138,7 +138,7 @@ fn prepare<S: Shelf>(alloc: Global, shelf: &mut S, command: Command) -> Result<D
 
 /// Makes what is due for a command whole, and writes that.
 fn obey<S: Shelf, K: Sink>(alloc: Global, command: Command, shelf: &mut S, out: &mut K) -> Status
-    requires { (seed : ℕ) → command_of command.entry ≡ Showing seed → seed ≤ 999999999 }
+    requires { (seed : ℕ) → command_of command ≡ Showing seed → seed ≤ 999999999 }
     ensures { EndsFor (command_of command.entry) (S.state shelf.old) (S.state shelf.new) (K.state out.old) (K.state out.new) result }
 {
     let due = match prepare(alloc, shelf, command) {
