@@ -1,5 +1,5 @@
 -- What a demonstration writes: what an answer of its instance says, in one line, or the first fault of its text.
-use Rattle.std.specs.Prelude.{◌≡◌, ◌⊎◌, ℕ, List, ◌++◌, length, codes}
+use Rattle.std.specs.Prelude.{◌≡◌, ◌⊎◌, ℕ, List, ◌++◌, length, codes, ℤ}
 use Rattle.std.specs.Fmt.{decimal, signed_decimal}
 use Rattle.sfm_spec.specs.Sets.{size}
 use Rattle.sfm_kind.specs.declared.kind.Kind.{Kind}
@@ -10,9 +10,12 @@ use Rattle.sfm_demo.specs.DemoText.{demo_text_of}
 use Rattle.sfm.specs.Due.{form_for, meanings_of, IsRefused}
 
 -- the least value, how many elements the least and the greatest minimiser have, and how many blocks and slopes there are
+abbrev pub line_of : (seed : ℕ) (value : ℤ) (least greatest blocks slopes : ℕ) → List ℕ
+line_of seed value least greatest blocks slopes = codes "demo " ++ decimal seed ++ codes " minimum " ++ signed_decimal value ++ codes " least " ++ decimal least ++ codes " greatest " ++ decimal greatest
+    ++ codes " blocks " ++ decimal blocks ++ codes " slopes " ++ decimal slopes ++ codes " valid\n"
+
 abbrev pub demo_line : ℕ → Answer → List ℕ
-demo_line seed a = codes "demo " ++ decimal seed ++ codes " minimum " ++ signed_decimal a.value ++ codes " least " ++ decimal (size a.least) ++ codes " greatest " ++ decimal (size a.greatest)
-    ++ codes " blocks " ++ decimal (length a.blocks) ++ codes " slopes " ++ decimal (length a.breaks) ++ codes " valid\n"
+demo_line seed a = line_of seed a.value (size a.least) (size a.greatest) (length a.blocks) (length a.breaks)
 
 -- the written line tells what a right file for the text says
 pub record IsDemoed (seed : ℕ) (text written : List ℕ) : Type 0 where

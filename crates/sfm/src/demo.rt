@@ -1,13 +1,14 @@
 // A demonstration: the instance of a seed is solved, its answer is judged as any other, and one line tells what it says.
-ghost use Rattle.std.specs.Prelude.{◌≡◌, ◌⊎◌, ◌≤◌, IfOk};
+ghost use Rattle.std.specs.Prelude.{◌≡◌, ◌⊎◌, ◌≤◌, ◌++◌, decimal, IfOk, OnOk};
 ghost use Rattle.sfm_cert.specs.Solved.{answer_of};
-ghost use Rattle.sfm.specs.Demo.{demo_line, IsDueToDemo};
+ghost use Rattle.sfm.specs.Demo.{line_of, demo_line, IsDueToDemo};
 ghost use Rattle.sfm.specs.Solving.{IsTrueAnswer};
 ghost use Rattle.sfm.specs.Status.{code_of};
 
 use crate::due::{Due, refuse};
 use crate::solve::solve_instance;
 use crate::status::Status;
+use itoa::Buffer;
 use sfm_base::Memory;
 use sfm_cert::{Solved, write_answer};
 use sfm_check::{Verdict, judge};
@@ -16,20 +17,54 @@ use sfm_kind::Instance;
 use sfm_text::{TextEnd, read_instance};
 use std::alloc::{AllocError, Global};
 
+/// A word and a count.
+fn put_count(out: &mut Vec<u8>, word: &[u8], n: usize) -> Result<(), AllocError>
+    ensures { OnOk result (out.new.items ≡ out.old.items ++ word.now ++ decimal n) }
+{
+    let mut buffer = Buffer::new();
+    out.extend_from_slice(word)?;
+    out.extend_from_slice(buffer.format(n).as_bytes())?;
+    Ok(())
+}
+
+/// The line with these numbers.
+fn write_line(
+    alloc: Global,
+    seed: u64,
+    value: i128,
+    least: usize,
+    greatest: usize,
+    blocks: usize,
+    slopes: usize,
+) -> Result<Vec<u8>, AllocError>
+    ensures { IfOk result (λ line. line.items ≡ line_of seed value least greatest blocks slopes) }
+{
+    let mut buffer = Buffer::new();
+    let mut out = Vec::from_slice(alloc, b"demo ")?;
+    out.extend_from_slice(buffer.format(seed).as_bytes())?;
+    out.extend_from_slice(b" minimum ")?;
+    out.extend_from_slice(buffer.format(value).as_bytes())?;
+    put_count(&mut out, b" least ", least)?;
+    put_count(&mut out, b" greatest ", greatest)?;
+    put_count(&mut out, b" blocks ", blocks)?;
+    put_count(&mut out, b" slopes ", slopes)?;
+    out.extend_from_slice(b" valid\n")?;
+    Ok(out)
+}
+
 /// The line that tells what an answer says.
-fn write_line(alloc: Global, seed: u64, solved: &Solved) -> Result<Vec<u8>, AllocError>
+fn line_for(alloc: Global, seed: u64, solved: &Solved) -> Result<Vec<u8>, AllocError>
     ensures { IfOk result (λ line. line.items ≡ demo_line seed (answer_of solved.now)) }
 {
-    let line = format!(in alloc;
-        "demo {} minimum {} least {} greatest {} blocks {} slopes {} valid\n",
+    write_line(
+        alloc,
         seed,
         solved.value,
         solved.least.size(),
         solved.greatest.size(),
         solved.blocks.len(),
-        solved.breaks.len()
-    )?;
-    Ok(line.into_bytes())
+        solved.breaks.len(),
+    )
 }
 
 /// The answer of an instance, which was judged.
@@ -55,7 +90,7 @@ pub fn due_to_demo(alloc: Global, seed: u64) -> Result<Due, Memory>
         Ok(instance) => {
             let solved = judged_answer(alloc, &instance)?;
             Ok(Due {
-                text: write_line(alloc, seed, &solved)?,
+                text: line_for(alloc, seed, &solved)?,
                 status: Status::Done,
             })
         }
