@@ -17,7 +17,7 @@ fn written(
     let mut shelf = MemoryShelf::new(alloc, 65536, &[])?;
     shelf.add("first", text)?;
     shelf.add("second", answer)?;
-    let mut out = MemorySink::new(alloc, 65536, 65536, &[])?;
+    let mut out = MemorySink::new(alloc, 4_194_304, 65536, &[])?;
     let mut err = MemorySink::new(alloc, 64, 64, &[])?;
     let status = run(alloc, words, &mut shelf, &mut out, &mut err);
     assert_eq!(rt; status.code(), 0);
