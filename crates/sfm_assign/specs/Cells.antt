@@ -2,7 +2,7 @@
 -- length, the demand of each and the slot of each, and amounts on them by a third.
 use Rattle.std.specs.Prelude.{◌≡◌, ℕ, suc, ◌<◌, Bool, false, List, [], ◌∷◌, ◌++◌, length, replicate, slice_index_or, take, drop, ℤ, pos, ◌+ℤ◌, ◌≤ℤ◌, if◌then◌else◌}
 use Rattle.sfm_spec.specs.Sets.{Has}
-use Rattle.sfm_assign.specs.Splits.{sum_at, amount_at}
+use Rattle.sfm_assign.specs.Splits.{sum_at, amount_at, Demands}
 
 -- lists joined end to end
 abbrev pub joined : {A : Type 0} → List (List A) → List A
@@ -50,3 +50,10 @@ pub record IsClosed (capacities : List ℤ) (whos slots : List ℕ) (y : List �
 -- no demand lacks anything
 abbrev pub IsMet : List ℤ → List ℕ → List ℤ → Type 0
 IsMet demands whos y = (i : ℕ) → i < length demands → amount_at demands i ≤ℤ sum_at i whos y
+
+-- amounts on the cells of demands, by which each demand gets what it asks for
+pub record AreMet (d : Demands) (whos slots : List ℕ) (y : List ℤ) : Type 0 where
+  pub in_order : whos ≡ owners 0 d.lists
+  pub in_lists : slots ≡ joined d.lists
+  pub part : IsPart d.demands d.capacities whos slots y
+  pub met : IsMet d.demands whos y

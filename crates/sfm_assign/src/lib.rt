@@ -6,6 +6,7 @@ mod cells;
 mod demand;
 mod fill;
 mod greatest;
+mod kept;
 mod left;
 mod lend;
 mod nodes;
@@ -15,7 +16,7 @@ mod splitting;
 
 pub use demand::Demand;
 pub use greatest::most;
-pub use lend::lenders;
+pub use kept::KeptSplit;
 pub use split::Split;
 pub use splitting::{AssignEnd, assign};
 

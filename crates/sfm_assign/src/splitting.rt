@@ -1,7 +1,8 @@
-// A split of all demands, or a set of them that asks for more than its slots have.
+// A split of all demands, or a set of them that asks for more than its slots have. The amounts on the cells are raised as far as
+// they go; where a demand still lacks something, those that were found ask for too much.
 ghost use Rattle.std.specs.Prelude.{◌≡◌, ℕ, ◌<◌, List, length, ℤ, pos, ◌≤ℤ◌, ◌<ℤ◌, IfOk, MatchOption, MatchResult};
-ghost use Rattle.sfm_assign.specs.Splits.{sum_at, amount_at, IsSplit};
-ghost use Rattle.sfm_assign.specs.Cells.{AreCells, IsPart, IsMet};
+ghost use Rattle.sfm_assign.specs.Splits.{sum_at, amount_at, AreDemands, IsSplit};
+ghost use Rattle.sfm_assign.specs.Cells.{AreCells, IsPart, IsMet, AreMet};
 ghost use Rattle.sfm_assign.specs.Ends.{IsAssignEnd};
 
 use crate::cells::Cells;
@@ -58,13 +59,17 @@ fn unmet(
     Ok(first_lacking(&lacks))
 }
 
-/// Splits each demand over its slots, no slot getting more than its capacity.
-///
-/// # Errors
-///
-/// `Shortage` where there is no split; `Memory` where there is none.
-pub fn assign(alloc: Global, demand: &Demand) -> Result<Split, AssignEnd>
-    ensures { MatchResult result (IsSplit demand.now.demands demand.now.lists demand.now.capacities) (IsAssignEnd demand.now.demands demand.now.lists demand.now.capacities) }
+/// The cells of demands, and the amount on each.
+#[derive(Drop)]
+pub(crate) struct Shares {
+    pub cells: Cells,
+    pub y: Vec<i128>,
+}
+
+/// Amounts by which each demand gets what it asks for.
+pub(crate) fn met_shares(alloc: Global, demand: &Demand) -> Result<Shares, AssignEnd>
+    ensures sound { AreDemands demand.now }
+    ensures shares { MatchResult result (λ r. AreMet demand.now r.cells.whos.items r.cells.slots.items r.y.items) (IsAssignEnd demand.now.demands demand.now.lists demand.now.capacities) }
 {
     let demands = demand.demands();
     let cells = Cells::of(alloc, demand.lists())?;
@@ -74,6 +79,18 @@ pub fn assign(alloc: Global, demand: &Demand) -> Result<Split, AssignEnd>
     if lacking.is_some() {
         return Err(AssignEnd::Shortage { set });
     }
-    let split = Split::cut(alloc, demand.lists(), &y)?;
+    Ok(Shares { cells, y })
+}
+
+/// Splits each demand over its slots, no slot getting more than its capacity.
+///
+/// # Errors
+///
+/// `Shortage` where there is no split; `Memory` where there is none.
+pub fn assign(alloc: Global, demand: &Demand) -> Result<Split, AssignEnd>
+    ensures { MatchResult result (IsSplit demand.now.demands demand.now.lists demand.now.capacities) (IsAssignEnd demand.now.demands demand.now.lists demand.now.capacities) }
+{
+    let shares = met_shares(alloc, demand)?;
+    let split = Split::cut(alloc, demand.lists(), &shares.y)?;
     Ok(split)
 }

@@ -1,7 +1,7 @@
 // Small demands over two slots that hold 3 and 2, with answers worked by hand.
 ghost use Rattle.std.specs.Prelude.{◌≡◌, ◌<◌, IfOk, [], ◌∷◌, length, slice_set, pos};
 
-use crate::{AssignEnd, Demand, Split, assign, lenders, most};
+use crate::{AssignEnd, Demand, KeptSplit, Split, assign, most};
 use sfm_base::{Memory, Set};
 use std::alloc::Global;
 use std::process::Abort;
@@ -102,17 +102,12 @@ fn most_of_one(rt: HostRuntime) -> Result<(), Fail> {
     Ok(())
 }
 
-/// Who can lend to a demand, if all can be met.
-fn lenders_to(
-    rt: &impl Abort,
-    alloc: Global,
-    demand: &Demand,
-    u: usize,
-) -> Result<Option<Set>, Memory>
-    requires { u < length demand.now.demands }
+/// A split of demands, if all can be met.
+fn kept(rt: &impl Abort, alloc: Global, demand: Demand) -> KeptSplit
+    ensures { result.demand ≡ demand }
 {
-    match assign(alloc, demand) {
-        Ok(_) => lenders(alloc, demand, u),
+    match KeptSplit::of(alloc, demand) {
+        Ok(kept) => kept,
         Err(_) => panic!(rt; "no split"),
     }
 }
@@ -132,22 +127,25 @@ fn has_lenders(rt: &impl Abort, set: Option<Set>, u: usize, members: &[bool]) {
 
 #[test]
 fn lends_on_one_slot(rt: HostRuntime) -> Result<(), Fail> {
-    let full = one_slot(rt.alloc(), 2, 1)?;
-    has_lenders(
-        &rt,
-        lenders_to(&rt, rt.alloc(), &full, 1)?,
-        1,
-        &[true, false],
-    );
-    let nothing = one_slot(rt.alloc(), 3, 0)?;
-    has_lenders(
-        &rt,
-        lenders_to(&rt, rt.alloc(), &nothing, 0)?,
-        0,
-        &[false, false],
-    );
-    let room = one_slot(rt.alloc(), 1, 1)?;
-    assert!(rt; lenders_to(&rt, rt.alloc(), &room, 0)?.is_none());
+    let full = kept(&rt, rt.alloc(), one_slot(rt.alloc(), 2, 1)?);
+    has_lenders(&rt, full.lenders(rt.alloc(), 1)?, 1, &[true, false]);
+    let nothing = kept(&rt, rt.alloc(), one_slot(rt.alloc(), 3, 0)?);
+    has_lenders(&rt, nothing.lenders(rt.alloc(), 0)?, 0, &[false, false]);
+    let room = kept(&rt, rt.alloc(), one_slot(rt.alloc(), 1, 1)?);
+    assert!(rt; room.lenders(rt.alloc(), 0)?.is_none());
+    Ok(())
+}
+
+#[test]
+fn keeps_no_split_of_too_much(rt: HostRuntime) -> Result<(), Fail> {
+    let short = one_slot(rt.alloc(), 2, 2)?;
+    match KeptSplit::of(rt.alloc(), short) {
+        Err(AssignEnd::Shortage { set }) => {
+            assert!(rt; set.len() == 2);
+            assert!(rt; set.contains(0) && set.contains(1));
+        }
+        _ => panic!(rt; "no shortage"),
+    }
     Ok(())
 }
 
@@ -166,18 +164,10 @@ fn in_a_row(alloc: Global) -> Result<Demand, Memory>
 
 #[test]
 fn lends_by_way_of_another(rt: HostRuntime) -> Result<(), Fail> {
-    let demand = in_a_row(rt.alloc())?;
-    has_lenders(
-        &rt,
-        lenders_to(&rt, rt.alloc(), &demand, 0)?,
-        0,
-        &[false, true, true, false],
-    );
-    has_lenders(
-        &rt,
-        lenders_to(&rt, rt.alloc(), &demand, 2)?,
-        2,
-        &[false, false, false, false],
-    );
+    let kept = kept(&rt, rt.alloc(), in_a_row(rt.alloc())?);
+    let first = [false, true, true, false];
+    has_lenders(&rt, kept.lenders(rt.alloc(), 0)?, 0, &first);
+    let third = [false, false, false, false];
+    has_lenders(&rt, kept.lenders(rt.alloc(), 2)?, 2, &third);
     Ok(())
 }

@@ -18,6 +18,7 @@ use Rattle.sfm_matroid.specs.TransversalLaws.{transversal_value, transversal_siz
 use Rattle.sfm_kind.specs.declared.kind.Kind.{Kind}
 use Rattle.sfm_kind.specs.declared.kind.Kind.TheVariants.{Weight, Cut, Cover, Need, Table, Concave, Uniform, Laminar, Graphic, Transversal}
 use Rattle.sfm_kind.specs.declared.kind.KindNote.{KindNote}
+use Rattle.sfm_kind.specs.Notes.{graphic_note_fits, transversal_note_fits}
 
 -- the places of the ground, by local place
 abbrev pub kind_places : Kind → List ℕ
@@ -81,8 +82,8 @@ kind_fits (Table term) note q x = Unit {0}
 kind_fits (Concave term) note q x = Unit {0}
 kind_fits (Uniform term) note q x = Unit {0}
 kind_fits (Laminar term) note q x = Unit {0}
-kind_fits (Graphic term) note q x = Unit {0}
-kind_fits (Transversal term) note q x = Unit {0}
+kind_fits (Graphic term) note q x = graphic_note_fits term.w term.ends note q x
+kind_fits (Transversal term) note q x = transversal_note_fits term.w term.entries note q x
 
 pub kind-family : (kind : Kind) → IsFamily (length (kind_places kind)) (kind_value kind)
 kind-family (Weight term) = weight-family term.weights

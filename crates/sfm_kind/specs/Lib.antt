@@ -1,3 +1,4 @@
+pub mod Notes
 pub mod Kinds
 pub mod Names
 pub mod Instance

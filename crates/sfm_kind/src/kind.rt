@@ -7,11 +7,12 @@ ghost use Rattle.sfm_spec.specs.Terms.{SetFunction, times, IsBase, IsFamily, IsS
 ghost use Rattle.sfm_law.specs.Room.{IsRoom, IsReach, IsWithinRoom};
 ghost use Rattle.sfm_kind.specs.Kinds.{kind_places, kind_value, kind_size, kind_start, kind_fits, kind-family, kind-submodular, kind-bounded, kind-starts, kind-starts_small};
 
+use sfm_assign::KeptSplit;
 use sfm_base::{Memory, Set};
 use sfm_concave::{Concave, Uniform};
 use sfm_laminar::Laminar;
 use sfm_law::{Room, Term};
-use sfm_matroid::{Graphic, Transversal};
+use sfm_matroid::{EndSplits, Graphic, Transversal};
 use sfm_simple::{Cover, Cut, Need, Table, Weight};
 use std::alloc::Global;
 
@@ -45,6 +46,10 @@ pub enum Kind {
 pub enum KindNote {
     /// Nothing, as beside the plain kinds.
     Nothing,
+    /// The splits in the tests of a graphic rank.
+    Graphic(EndSplits),
+    /// The split in the test of a transversal rank.
+    Transversal(KeptSplit),
 }
 
 impl Term for Kind {
@@ -192,8 +197,8 @@ impl Term for Kind {
             Kind::Concave(term) => term.note(alloc, q, x)?,
             Kind::Uniform(term) => term.note(alloc, q, x)?,
             Kind::Laminar(term) => term.note(alloc, q, x)?,
-            Kind::Graphic(term) => term.note(alloc, q, x)?,
-            Kind::Transversal(term) => term.note(alloc, q, x)?,
+            Kind::Graphic(term) => return Ok(KindNote::Graphic(term.note(alloc, q, x)?)),
+            Kind::Transversal(term) => return Ok(KindNote::Transversal(term.note(alloc, q, x)?)),
         }
         Ok(KindNote::Nothing)
     }
@@ -203,7 +208,7 @@ impl Term for Kind {
         alloc: Global,
         q: i128,
         x: &[i128],
-        _note: &KindNote,
+        note: &KindNote,
         u: usize,
         to: &mut Set,
     ) -> Result<(), Memory> {
@@ -216,8 +221,14 @@ impl Term for Kind {
             Kind::Concave(term) => term.reach_by(alloc, q, x, &(), u, to),
             Kind::Uniform(term) => term.reach_by(alloc, q, x, &(), u, to),
             Kind::Laminar(term) => term.reach_by(alloc, q, x, &(), u, to),
-            Kind::Graphic(term) => term.reach_by(alloc, q, x, &(), u, to),
-            Kind::Transversal(term) => term.reach_by(alloc, q, x, &(), u, to),
+            Kind::Graphic(term) => match note {
+                KindNote::Graphic(note) => term.reach_by(alloc, q, x, note, u, to),
+                _ => unreachable!(),
+            },
+            Kind::Transversal(term) => match note {
+                KindNote::Transversal(note) => term.reach_by(alloc, q, x, note, u, to),
+                _ => unreachable!(),
+            },
         }
     }
 
@@ -226,7 +237,7 @@ impl Term for Kind {
         alloc: Global,
         q: i128,
         x: &[i128],
-        _note: &mut KindNote,
+        note: &mut KindNote,
         u: usize,
         v: usize,
         a: i128,
@@ -240,8 +251,14 @@ impl Term for Kind {
             Kind::Concave(term) => term.moved(alloc, q, x, &mut (), u, v, a),
             Kind::Uniform(term) => term.moved(alloc, q, x, &mut (), u, v, a),
             Kind::Laminar(term) => term.moved(alloc, q, x, &mut (), u, v, a),
-            Kind::Graphic(term) => term.moved(alloc, q, x, &mut (), u, v, a),
-            Kind::Transversal(term) => term.moved(alloc, q, x, &mut (), u, v, a),
+            Kind::Graphic(term) => match note {
+                KindNote::Graphic(note) => term.moved(alloc, q, x, note, u, v, a),
+                _ => unreachable!(),
+            },
+            Kind::Transversal(term) => match note {
+                KindNote::Transversal(note) => term.moved(alloc, q, x, note, u, v, a),
+                _ => unreachable!(),
+            },
         }
     }
 }

@@ -1,6 +1,6 @@
 -- How much can be exchanged at a base of a graphic term: by the most that an edge gets in each test, without
 -- another edge; and to whom an edge has room, by those that can lend to it in each test.
-use Rattle.std.proofs.Common.{◌≡◌, ◌≢◌, ◌↔◌, ℕ, ◌*◌, ◌<◌, Bool, List, [], length, get_or, set, ℤ, pos, ◌-ℤ◌, ◌*ℤ◌, ◌≤ℤ◌, sym, ◌∙◌, arith, inl, inr, ⊎_elim}
+use Rattle.std.proofs.Common.{◌≡◌, ◌≢◌, ◌↔◌, Option, ℕ, ◌*◌, ◌<◌, Bool, List, [], length, get_or, set, ℤ, pos, ◌-ℤ◌, ◌*ℤ◌, ◌≤ℤ◌, sym, ◌∙◌, arith, inl, inr, ⊎_elim}
 use Rattle.std.proofs.lemmas.Int.{ints, by_lt_z}
 use Rattle.sfm_spec.specs.Terms.{times, IsBase, IsCapacity, HasRoom, exchanged}
 use Rattle.sfm_spec.specs.Kinds.{Edge, IsForest}
@@ -10,7 +10,7 @@ use Rattle.sfm_matroid.specs.Ends.{edges_of}
 use Rattle.sfm_matroid.specs.Numbered.{numbered, length-numbered, numbered_below, end_lists, vertex_capacities}
 use Rattle.sfm_matroid.specs.Forests.{graphic_rank, forest-matroid, graphic-ranks}
 use Rattle.sfm_matroid.specs.GraphicLaws.{graphic_value}
-use Rattle.sfm_matroid.proofs.Bases.{IsMostAt, raised-places, raised-counts, met_nothing, least_capacity, base_counts, CanGive, given-counts, gives_room, room_gives}
+use Rattle.sfm_matroid.proofs.Bases.{IsMostAt, raised-places, raised-counts, met_nothing, least_capacity, base_counts, given-counts, gives_room, room_gives}
 use Rattle.sfm_matroid.proofs.GraphicBases.{as_many, base_tests}
 use Rattle.sfm_spec.specs.Sets.{Has}
 use Rattle.sfm_law.specs.Room.{IsReach}
@@ -20,6 +20,8 @@ use Rattle.sfm_matroid.proofs.MatroidTests.{numbered_tests}
 use Rattle.sfm_matroid.proofs.SplitTests.{split_within_ends, within_ends_split}
 use Rattle.sfm_matroid.specs.Leasts.{IsLeastOf, IsMostOf}
 use Rattle.sfm_matroid.specs.Givers.{IsGiver, AreKept, CanLend}
+use Rattle.sfm_assign.specs.declared.kept.KeptSplit.{KeptSplit}
+use Rattle.sfm_matroid.specs.Notes.{AreSplits}
 use Rattle.sfm_spec.proofs.Sums.{length-exchanged}
 
 module _ (k : ℕ) (q w : ℤ) (edges : List Edge) (same : length edges ≡ k) (low : pos 0 ≤ℤ (q *ℤ w)) (x : List ℤ) (kx : length x ≡ k) (base : IsBase (times q (graphic_value w edges)) x)
@@ -104,5 +106,5 @@ module _ (edges : List Edge) (items : List (ℕ × ℕ)) (are : edges_of items �
   pub least_kept : (u : ℕ) (first second less a : ℤ) → IsLeastOf (IsMostOf (edges_of given) (2 * length given) c x u) first second less (2 * length given) a → IsLeastOf (IsMostOf (numbered edges) (2 * length edges) c x u) first second less (2 * length edges) a
   least_kept u first second less a h = rw (is, are, as_many edges items are) at h
 
-  pub lend_kept : (u : ℕ) (before after : List Bool) → AreKept (λ v. (a : ℕ) → a < 2 * length given → CanLend (edges_of given) (2 * length given) c x u v a) before after → AreKept (λ v. (a : ℕ) → a < 2 * length edges → CanLend (numbered edges) (2 * length edges) c x u v a) before after
-  lend_kept u before after h = rw (is, are, as_many edges items are) at h
+  pub splits_kept : (splits : List (Option KeptSplit)) → AreSplits (edges_of given) (2 * length given) c x splits → AreSplits (numbered edges) (2 * length edges) c x splits
+  splits_kept splits h = rw (is, are, as_many edges items are) at h

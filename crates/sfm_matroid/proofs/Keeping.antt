@@ -1,7 +1,6 @@
 -- Places kept in a set that can give something: by what a search tells of all at once, test after test.
-use Rattle.std.proofs.Common.{◌≡◌, ◌≢◌, ◌↔◌, ℕ, zero, suc, ◌+◌, ◌<◌, Bool, true, false, Option, Some, None, MatchOption, List, [], ◌∷◌, length, get_or, ℤ, pos, ◌≤ℤ◌, ◌<ℤ◌, refl, sym, ap, ◌∙◌, arith, ⊎_elim}
+use Rattle.std.proofs.Common.{◌≡◌, ◌≢◌, ◌↔◌, ℕ, zero, suc, ◌+◌, ◌<◌, Bool, true, false, List, [], ◌∷◌, length, get_or, ℤ, pos, ◌≤ℤ◌, sym, ◌∙◌, arith, ⊎_elim}
 use Rattle.std.proofs.lemmas.Bool.{cases_lt, and_parts, and_from, false≢true}
-use Rattle.std.proofs.lemmas.Int.{ints}
 use Rattle.sfm_spec.specs.Sets.{Has, size, intersection}
 use Rattle.sfm_spec.specs.Terms.{SetFunction, HasRoom, exchanged}
 use Rattle.sfm_spec.proofs.Sets.{get_or-intersection}
@@ -21,10 +20,6 @@ kept_nothing IsKept s none v = ((λ has. absurd (out s v none has)), (λ h. h.0)
   out (true ∷ s) v none has = let c = size-cons true s in omega (arith, c, none)
   out (false ∷ s) zero none has = false≢true has
   out (false ∷ s) (suc v) none has = let c = size-cons false s in out s v (omega (arith, c, none)) has
-
--- what is told under a condition that is true
-pub kept_where : (Where : Type 0) (IsKept : ℕ → Type 0) (before after : List Bool) → Where → AreKept IsKept before after → AreKept (λ v. Where → IsKept v) before after
-kept_where Where IsKept before after here kept v = ((λ has. let (b, k) = (kept v).0 has in (b, λ w. k)), (λ (b, k). (kept v).1 (b, k here)))
 
 -- ---- one test
 

@@ -10,6 +10,7 @@ mod GraphicRooms
 mod TransversalBases
 mod LeastSteps
 mod Keeping
+mod Noted
 mod Puts
 mod Fits
 mod Kept

@@ -1,8 +1,6 @@
 -- Places put into a set one after another.
-use Rattle.std.proofs.Common.{◌≡◌, ◌≢◌, ◌↔◌, ℕ, ◌+◌, ◌<◌, Bool, false, List, length, set, ℤ, pos, ◌≤ℤ◌, IsTrue, ◌∙◌, arith, ⊎_elim, length-set, get_or-set_other, get_or-set_same}
-use Rattle.std.specs.Int.Signed.{le_z}
-use Rattle.std.proofs.lemmas.Bool.{cases_lt, cases_Bool}
-use Rattle.std.proofs.lemmas.Int.{ints}
+use Rattle.std.proofs.Common.{◌≡◌, ◌≢◌, ◌↔◌, ℕ, ◌+◌, ◌<◌, Bool, false, List, length, set, IsTrue, ◌∙◌, arith, ⊎_elim, length-set, get_or-set_other, get_or-set_same}
+use Rattle.std.proofs.lemmas.Bool.{cases_lt}
 use Rattle.sfm_spec.specs.Sets.{Has}
 
 -- a place more is told

@@ -19,7 +19,7 @@ use Rattle.sfm_matroid.specs.Matchings.{matching-matroid}
 use Rattle.sfm_matroid.specs.Ore.{IsWithinSlots}
 use Rattle.sfm_matroid.specs.Transversals.{transversal_rank, transversal-ranks}
 use Rattle.sfm_matroid.specs.TransversalLaws.{transversal_value, transversal_size}
-use Rattle.sfm_matroid.proofs.Bases.{IsMostAt, base_counts, base_total, base_passes, passes_base, raised-places, raised-counts, met_nothing, least_capacity, CanGive, given-counts, gives_room, room_gives}
+use Rattle.sfm_matroid.proofs.Bases.{IsMostAt, base_counts, base_total, base_passes, passes_base, raised-places, raised-counts, met_nothing, least_capacity, given-counts, gives_room, room_gives}
 use Rattle.sfm_matroid.proofs.Matched.{slots_each}
 use Rattle.sfm_matroid.proofs.MatroidTests.{transversal_tests}
 use Rattle.sfm_matroid.proofs.SplitTests.{split_within_slots, within_slots_split}

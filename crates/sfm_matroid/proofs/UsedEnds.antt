@@ -1,11 +1,11 @@
 -- The test of a vertex that is no end asks no more than that of any other.
-use Rattle.std.proofs.Common.{◌≡◌, ◌≢◌, ◌⊎◌, ℕ, zero, suc, ◌+◌, ◌*◌, ◌<◌, ◌≤◌, Bool, true, false, not, ◌&&◌, ◌||◌, List, [], ◌∷◌, length, get_or, nat_eq, IsTrue, ◌↔◌, ℤ, pos, ◌*ℤ◌, ◌≤ℤ◌, refl, sym, ap, ◌∙◌, arith, inl, inr, ⊎_elim}
+use Rattle.std.proofs.Common.{◌≡◌, ◌≢◌, ◌⊎◌, ℕ, zero, suc, ◌<◌, ◌≤◌, Bool, true, false, not, ◌&&◌, ◌||◌, List, [], ◌∷◌, length, nat_eq, IsTrue, ◌↔◌, ℤ, pos, ◌≤ℤ◌, refl, sym, ap, ◌∙◌, arith, inl, inr, ⊎_elim}
 use Rattle.std.specs.List.{list_any}
 use Rattle.std.proofs.lemmas.Bool.{cases_eq, eq-eqb, eqb-true, and_parts, and_from, or_cases, or_left, or_right, false≢true}
 use Rattle.std.proofs.lemmas.Int.{ints}
 use Rattle.sfm_spec.specs.Kinds.{Edge}
 use Rattle.sfm_spec.proofs.Scaled.{times-mono}
-use Rattle.sfm_matroid.specs.Counts.{count_below, unit_of, eqb_apart, count-into}
+use Rattle.sfm_matroid.specs.Counts.{eqb_apart, count-into}
 use Rattle.sfm_matroid.specs.Runs.{edge_at, EndsBelow}
 use Rattle.sfm_matroid.specs.Cuts.{touches, ends_but, IsWithinEnds}
 use Rattle.sfm_matroid.specs.Ends.{edges_of}

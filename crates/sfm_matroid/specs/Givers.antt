@@ -1,9 +1,10 @@
 -- The places that can give something to another at a base.
-use Rattle.std.specs.Prelude.{◌≢◌, ◌↔◌, ℕ, Bool, List, slice_index_or, ℤ, pos, ◌≤ℤ◌, ◌<ℤ◌}
+use Rattle.std.specs.Prelude.{◌≡◌, ◌≢◌, ◌↔◌, ℕ, ◌<◌, Bool, List, length, slice_index_or, ℤ, pos, ◌≤ℤ◌, ◌<ℤ◌, Option, Some, None}
 use Rattle.sfm_spec.specs.Sets.{Has}
 use Rattle.sfm_spec.specs.Kinds.{Edge}
 use Rattle.sfm_spec.specs.Terms.{exchanged}
 use Rattle.sfm_assign.specs.Splits.{CanBeMet}
+use Rattle.sfm_assign.specs.declared.kept.KeptSplit.{KeptSplit}
 use Rattle.sfm_matroid.specs.Numbered.{IsEnd, end_lists, vertex_capacities}
 
 -- a place other than u that has something, while u has less than c
@@ -17,3 +18,14 @@ AreKept IsKept before after = (v : ℕ) → Has after v ↔ (Has before v × IsK
 -- where each of m vertices holds c, but a nothing, v can give one of what it has to u; told of ends alone
 abbrev pub CanLend : List Edge → ℕ → ℤ → List ℤ → ℕ → ℕ → ℕ → Type 0
 CanLend edges m c x u v a = IsEnd edges a → CanBeMet (exchanged x u v (pos 1)) (end_lists edges) (vertex_capacities m c a)
+
+-- each member of a set of demands is another one than u, and asks for something
+pub record AreOthers (demands : List ℤ) (u : ℕ) (set : List Bool) : Type 0 where
+  pub place : u < length demands
+  pub places : length set ≡ length demands
+  pub others : (v : ℕ) → Has set v → (v ≢ u) × (pos 1 ≤ℤ slice_index_or demands v (pos 0))
+
+-- v can give one of what it has to u in the test of a split, if one is kept
+abbrev pub CanLendIn : Option KeptSplit → ℕ → ℕ → Type 0
+CanLendIn None u v = Unit {0}
+CanLendIn (Some kept) u v = CanBeMet (exchanged kept.demand.demands u v (pos 1)) kept.demand.lists kept.demand.capacities

@@ -16,3 +16,4 @@ pub mod Cuts
 pub mod Ore
 pub mod Transversals
 pub mod TransversalLaws
+pub mod Notes

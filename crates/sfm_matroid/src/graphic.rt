@@ -5,7 +5,6 @@
 // To whom u has room is told by one search in each test: to those that have something and can lend to u in all of them.
 ghost use Rattle.std.specs.Prelude.{◌≡◌, ◌≢◌, ◌↔◌, ◌*◌, IsTrue, ℕ, ◌<◌, ◌≤◌, ◌^◌, Bool, List, length, slice_index_or, ℤ, pos, neg_ℤ, ◌+ℤ◌, ◌-ℤ◌, ◌*ℤ◌, ◌≤ℤ◌, IfOk, OnOk, Some};
 ghost use Rattle.std.specs.List.{All};
-ghost use Rattle.sfm_spec.specs.Sets.{Has};
 ghost use Rattle.sfm_assign.specs.Splits.{IsAmount, CanBeMet};
 ghost use Rattle.sfm_spec.specs.Bounds.{IsAtMost, IsEntry, IsFactor, IsGiven, AreElements};
 ghost use Rattle.sfm_spec.specs.Terms.{SetFunction, IsBase, IsCapacity, IsFamily, IsSubmodular, IsGreedy, HasRoom, exchanged, times};
@@ -14,15 +13,17 @@ ghost use Rattle.sfm_spec.specs.Kinds.{IsForest, IsRank, IsRankFunction};
 ghost use Rattle.sfm_matroid.specs.Ends.{edges_of};
 ghost use Rattle.sfm_matroid.specs.Cuts.{IsWithinEnds};
 ghost use Rattle.sfm_matroid.specs.Numbered.{numbered, end_lists, vertex_capacities};
-ghost use Rattle.sfm_matroid.specs.Givers.{AreKept, CanLend};
+ghost use Rattle.sfm_matroid.specs.Notes.{graphic_fits};
 ghost use Rattle.sfm_matroid.specs.Forests.{graphic_rank};
 ghost use Rattle.sfm_matroid.specs.GraphicLaws.{graphic_value, graphic_size, graphic_start, graphic_basis, graphic-family, graphic-submodular, graphic-bounded, graphic-starts, graphic-starts_small};
 
 use crate::ends::Ends;
-use crate::givers::{givers, keep_by_ends};
+use crate::exchange::moved_row;
+use crate::givers::{givers, keep_by_splits};
 use crate::growing::{grow, whole};
 use crate::number::{are_within, has_sum, product};
 use crate::room::least_left;
+use crate::splits::{EndSplits, end_splits};
 use crate::testing::{numbered, passes_end};
 use sfm_base::{Memory, Places, Set};
 use sfm_law::{Room, Term};
@@ -254,33 +255,23 @@ impl Graphic {
         Ok(Room::Upto(most))
     }
 
-    /// Keeps those edges of a set that can lend to u in each test.
-    fn keep_all(
-        &self,
-        alloc: Global,
-        x: &[i128],
-        cap: i128,
-        u: usize,
-        to: &mut Set,
-    ) -> Result<(), Memory>
+    /// The splits in the tests that tell a base, which are kept beside it.
+    ///
+    /// # Errors
+    ///
+    /// `Memory` where there is none.
+    pub fn note_of(&self, alloc: Global, q: i128, x: &[i128]) -> Result<EndSplits, Memory>
+        requires factor { IsFactor q }
         requires entries { length x.now ≡ length self.now.places }
-        requires amounts { All IsAmount x.now }
-        requires low { pos 0 ≤ℤ cap }
-        requires high { cap ≤ℤ pos (10 ^ 24) }
-        requires place { u < length x.now }
-        requires met { (t : ℕ) → t < 2 * length self.now.ends → CanBeMet x.now (end_lists (numbered self.now.ends)) (vertex_capacities (2 * length self.now.ends) cap t) }
-        requires sized { length to.old ≡ length x.now }
-        requires givers { (v : ℕ) → Has to.old v → (v ≢ u) × (pos 1 ≤ℤ slice_index_or x.now v (pos 0)) }
-        ensures places { length to.new ≡ length to.old }
-        ensures kept { OnOk result (AreKept (λ v. (a : ℕ) → a < 2 * length self.now.ends → CanLend (numbered self.now.ends) (2 * length self.now.ends) cap x.now u v a) to.old to.new) }
+        requires base { IsBase (times q (graphic_value self.now.w self.now.ends)) x.now }
+        ensures { IfOk result (λ r. graphic_fits self.now.w self.now.ends r.kept.items q x.now) }
     {
-        for a in 0..2 * self.numbers.len() {
-            keep_by_ends(alloc, &self.numbers, x, cap, a, u, to)?;
-        }
-        Ok(())
+        let cap = product(q, self.w);
+        let note = end_splits(alloc, &self.numbers, x, cap)?;
+        Ok(note)
     }
 
-    /// Writes the places other than u to which u has room at a base.
+    /// Writes the places other than u to which u has room at a base, by the splits that are kept beside it.
     ///
     /// # Errors
     ///
@@ -290,13 +281,14 @@ impl Graphic {
         alloc: Global,
         q: i128,
         x: &[i128],
+        note: &EndSplits,
         u: usize,
         to: &mut Set,
     ) -> Result<(), Memory>
         requires factor { IsFactor q }
         requires entries { length x.now ≡ length self.now.places }
-        requires small { All IsEntry x.now }
         requires base { IsBase (times q (graphic_value self.now.w self.now.ends)) x.now }
+        requires noted { graphic_fits self.now.w self.now.ends note.now.kept.items q x.now }
         requires from { u < length x.now }
         requires room_for_answer { length to.old ≡ length x.now }
         ensures places { length to.new ≡ length to.old }
@@ -304,13 +296,13 @@ impl Graphic {
     {
         let cap = product(q, self.w);
         givers(x, cap, u, to);
-        self.keep_all(alloc, x, cap, u, to)?;
+        keep_by_splits(alloc, &note.kept, u, to)?;
         Ok(())
     }
 }
 
 impl Term for Graphic {
-    type Note = ();
+    type Note = EndSplits;
 
     ghost places = { λ s. s.places };
 
@@ -320,7 +312,7 @@ impl Term for Graphic {
 
     ghost start_of = { λ s q. graphic_start q s.w s.ends };
 
-    ghost fits = { λ s note q x. Unit {0} };
+    ghost fits = { λ s note q x. graphic_fits s.w s.ends note.kept.items q x };
 
     ghost family = { λ s. graphic-family (length s.places) s.w s.ends s.same_count };
 
@@ -365,11 +357,12 @@ impl Term for Graphic {
         u: usize,
         to: &mut Set,
     ) -> Result<(), Memory> {
-        self.reach_of(alloc, q, x, u, to)
+        let note = self.note_of(alloc, q, x)?;
+        self.reach_of(alloc, q, x, &note, u, to)
     }
 
-    fn note(&self, _alloc: Global, _q: i128, _x: &[i128]) -> Result<(), Memory> {
-        Ok(())
+    fn note(&self, alloc: Global, q: i128, x: &[i128]) -> Result<EndSplits, Memory> {
+        self.note_of(alloc, q, x)
     }
 
     fn reach_by(
@@ -377,23 +370,25 @@ impl Term for Graphic {
         alloc: Global,
         q: i128,
         x: &[i128],
-        _note: &(),
+        note: &EndSplits,
         u: usize,
         to: &mut Set,
     ) -> Result<(), Memory> {
-        self.reach_of(alloc, q, x, u, to)
+        self.reach_of(alloc, q, x, note, u, to)
     }
 
     fn moved(
         &self,
-        _alloc: Global,
-        _q: i128,
-        _x: &[i128],
-        _note: &mut (),
-        _u: usize,
-        _v: usize,
-        _a: i128,
+        alloc: Global,
+        q: i128,
+        x: &[i128],
+        note: &mut EndSplits,
+        u: usize,
+        v: usize,
+        a: i128,
     ) -> Result<(), Memory> {
+        let y = moved_row(alloc, x, u, v, a)?;
+        *note = self.note_of(alloc, q, &y)?;
         Ok(())
     }
 }

@@ -4,6 +4,7 @@
 
 pub mod ends;
 pub mod entries;
+mod exchange;
 mod givers;
 pub mod graphic;
 mod growing;
@@ -12,12 +13,14 @@ mod number;
 mod place;
 mod room;
 mod slot_room;
+pub mod splits;
 mod testing;
 pub mod transversal;
 
 pub use ends::Ends;
 pub use entries::Entries;
 pub use graphic::Graphic;
+pub use splits::EndSplits;
 pub use transversal::Transversal;
 
 #[cfg(test)]

@@ -10,14 +10,18 @@ ghost use Rattle.sfm_spec.specs.Terms.{SetFunction, IsBase, IsCapacity, IsFamily
 ghost use Rattle.sfm_law.specs.Room.{IsRoom, IsReach, IsWithinRoom};
 ghost use Rattle.sfm_spec.specs.Kinds.{IsMatchable, IsRank, IsRankFunction};
 ghost use Rattle.sfm_matroid.specs.Transversals.{transversal_rank, transversal_basis};
+ghost use Rattle.sfm_matroid.specs.Notes.{transversal_fits};
 ghost use Rattle.sfm_matroid.specs.TransversalLaws.{transversal_value, transversal_size, transversal_start, transversal-family, transversal-submodular, transversal-bounded, transversal-starts, transversal-starts_small};
 
 use crate::entries::Entries;
-use crate::givers::{givers, keep_by_slots};
+use crate::exchange::moved_row;
+use crate::givers::{givers, keep_lenders};
 use crate::growing::whole;
 use crate::matching::{are_held, matched};
 use crate::number::{are_within, has_sum, product};
 use crate::slot_room::least_unheld;
+use crate::splits::slot_split;
+use sfm_assign::KeptSplit;
 use sfm_base::{Memory, Places, Set};
 use sfm_law::{Room, Term};
 use std::alloc::Global;
@@ -229,7 +233,24 @@ impl Transversal {
         Ok(Room::Upto(most))
     }
 
-    /// Writes the places other than u to which u has room at a base.
+    /// The split in the test that tells a base, which is kept beside it.
+    ///
+    /// # Errors
+    ///
+    /// `Memory` where there is none.
+    pub fn note_of(&self, alloc: Global, q: i128, x: &[i128]) -> Result<KeptSplit, Memory>
+        requires factor { IsFactor q }
+        requires entries { length x.now ≡ length self.now.places }
+        requires base { IsBase (times q (transversal_value self.now.w self.now.entries)) x.now }
+        ensures { IfOk result (λ r. transversal_fits self.now.w self.now.entries r q x.now) }
+    {
+        let cap = product(q, self.w);
+        let m = self.entries.above();
+        let note = slot_split(alloc, &self.entries, m, x, cap)?;
+        Ok(note)
+    }
+
+    /// Writes the places other than u to which u has room at a base, by the split that is kept beside it.
     ///
     /// # Errors
     ///
@@ -239,28 +260,28 @@ impl Transversal {
         alloc: Global,
         q: i128,
         x: &[i128],
+        note: &KeptSplit,
         u: usize,
         to: &mut Set,
     ) -> Result<(), Memory>
         requires factor { IsFactor q }
         requires entries { length x.now ≡ length self.now.places }
-        requires small { All IsEntry x.now }
         requires base { IsBase (times q (transversal_value self.now.w self.now.entries)) x.now }
+        requires noted { transversal_fits self.now.w self.now.entries note.now q x.now }
         requires from { u < length x.now }
         requires room_for_answer { length to.old ≡ length x.now }
         ensures places { length to.new ≡ length to.old }
         ensures reached { OnOk result (IsReach (times q (transversal_value self.now.w self.now.entries)) x.now u to.new) }
     {
         let cap = product(q, self.w);
-        let m = self.entries.above();
         givers(x, cap, u, to);
-        keep_by_slots(alloc, &self.entries, m, x, cap, u, to)?;
+        keep_lenders(alloc, note, u, to)?;
         Ok(())
     }
 }
 
 impl Term for Transversal {
-    type Note = ();
+    type Note = KeptSplit;
 
     ghost places = { λ s. s.places };
 
@@ -270,7 +291,7 @@ impl Term for Transversal {
 
     ghost start_of = { λ s q. transversal_start q s.w s.entries };
 
-    ghost fits = { λ s note q x. Unit {0} };
+    ghost fits = { λ s note q x. transversal_fits s.w s.entries note q x };
 
     ghost family = { λ s. transversal-family (length s.places) s.w s.entries s.same_count };
 
@@ -315,11 +336,12 @@ impl Term for Transversal {
         u: usize,
         to: &mut Set,
     ) -> Result<(), Memory> {
-        self.reach_of(alloc, q, x, u, to)
+        let note = self.note_of(alloc, q, x)?;
+        self.reach_of(alloc, q, x, &note, u, to)
     }
 
-    fn note(&self, _alloc: Global, _q: i128, _x: &[i128]) -> Result<(), Memory> {
-        Ok(())
+    fn note(&self, alloc: Global, q: i128, x: &[i128]) -> Result<KeptSplit, Memory> {
+        self.note_of(alloc, q, x)
     }
 
     fn reach_by(
@@ -327,23 +349,25 @@ impl Term for Transversal {
         alloc: Global,
         q: i128,
         x: &[i128],
-        _note: &(),
+        note: &KeptSplit,
         u: usize,
         to: &mut Set,
     ) -> Result<(), Memory> {
-        self.reach_of(alloc, q, x, u, to)
+        self.reach_of(alloc, q, x, note, u, to)
     }
 
     fn moved(
         &self,
-        _alloc: Global,
-        _q: i128,
-        _x: &[i128],
-        _note: &mut (),
-        _u: usize,
-        _v: usize,
-        _a: i128,
+        alloc: Global,
+        q: i128,
+        x: &[i128],
+        note: &mut KeptSplit,
+        u: usize,
+        v: usize,
+        a: i128,
     ) -> Result<(), Memory> {
+        let y = moved_row(alloc, x, u, v, a)?;
+        *note = self.note_of(alloc, q, &y)?;
         Ok(())
     }
 }

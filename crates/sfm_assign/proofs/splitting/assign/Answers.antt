@@ -1,64 +1,19 @@
-use Rattle.std.proofs.Common.{length, drop, ap, sym, ◌∙◌}
-use Rattle.sfm_assign.specs.Cells.{joined, owners}
+use Rattle.std.proofs.Common.{length, ap, ◌∙◌}
 use Rattle.sfm_assign.proofs.Rows.{length-owners}
-use Rattle.sfm_assign.proofs.Searches.{written}
-use Rattle.sfm_assign.proofs.Outcomes.{capacities_low, nothing_part, cells_for, split_from, short_from, some_here, none_here, amounts_low}
+use Rattle.sfm_assign.proofs.Outcomes.{split_from}
 use Rattle.sfm_assign.proofs.splitting.assign.Goals as goal
-
-pub fill-requires-clause-cells : goal.fill-requires-clause-cells
-fill-requires-clause-cells c =
-    let d = c.args.demand.now in
-    let w = c.in_ok-cells.ensures.whos ∙ ap (owners 0) c.lists.ensures in
-    let s = c.in_ok-cells.ensures.slots ∙ ap joined c.lists.ensures in
-    rw (c.demands-demands.ensures.value, c.capacities.ensures, w, s) (cells_for d c.demands-demands.ensures.sound)
-
-pub fill-requires-clause-part : goal.fill-requires-clause-part
-fill-requires-clause-part c =
-    let d = c.args.demand.now in
-    let sound = c.demands-demands.ensures.sound in
-    let w = c.in_ok-cells.ensures.whos ∙ ap (owners 0) c.lists.ensures in
-    let s = c.in_ok-cells.ensures.slots ∙ ap joined c.lists.ensures in
-    rw (c.deref_mut.ensures.value, c.in_ok-y.ensures, c.demands-demands.ensures.value, c.capacities.ensures, w, s) (nothing_part d.demands d.capacities (owners 0 d.lists) (joined d.lists) (amounts_low d sound) (capacities_low d sound))
-
-pub unmet-requires-clause-cells : goal.unmet-requires-clause-cells
-unmet-requires-clause-cells c =
-    let d = c.args.demand.now in
-    let w = c.in_ok-cells.ensures.whos ∙ ap (owners 0) c.lists.ensures in
-    let s = c.in_ok-cells.ensures.slots ∙ ap joined c.lists.ensures in
-    (length d.capacities, rw (c.demands-demands.ensures.value, w, s) (cells_for d c.demands-demands.ensures.sound))
-
-pub returns-then-is_some : goal.returns-then-is_some
-returns-then-is_some c =
-    let d = c.args.demand.now in
-    let w = c.in_ok-cells.ensures.whos ∙ ap (owners 0) c.lists.ensures in
-    let s = c.in_ok-cells.ensures.slots ∙ ap joined c.lists.ensures in
-    let y = c.in_ok-y.y in
-    let z = c.fill.new.y in
-    let e = c.deref.ensures.value ∙ written z (drop (length z) y.items) y.len (c.fill.auto.y ∙ (ap length c.deref_mut.ensures.value ∙ sym y.ok.0)) in
-    let part = rw (c.demands-demands.ensures.value, c.capacities.ensures, w, s) at c.in_ok-set.ensures.part in
-    let filled = rw (c.demands-demands.ensures.value, c.capacities.ensures, w, s) at c.in_ok-set.ensures.filled in
-    let found = rw (e, c.demands-demands.ensures.value, w) at c.in_ok-lacking.ensures in
-    let (i, h) = some_here c.in_ok-lacking.lacking _ _ (sym c.is_some.ensures ∙ c.if-is_some.true) found in
-    short_from d z c.in_ok-set.set i c.demands-demands.ensures.sound part filled h.0 h.1
 
 pub cut-requires : goal.cut-requires
 cut-requires c =
     let d = c.args.demand.now in
-    let w = c.in_ok-cells.ensures.whos ∙ ap (owners 0) c.lists.ensures in
-    let y = c.in_ok-y.y in
-    let z = c.fill.new.y in
-    let e = c.deref-2.ensures.value ∙ written z (drop (length z) y.items) y.len (c.fill.auto.y ∙ (ap length c.deref_mut.ensures.value ∙ sym y.ok.0)) in
-    rw (e, c.lists-2.ensures) (c.in_ok-set.ensures.part.cells ∙ (ap length w ∙ length-owners 0 d.lists))
+    let k = c.in_ok-shares.ensures.shares in
+    rw (c.deref.ensures.value, c.lists.ensures) (k.part.cells ∙ (ap length k.in_order ∙ length-owners 0 d.lists))
 
 pub returns : goal.returns
 returns c =
     let d = c.args.demand.now in
-    let w = c.in_ok-cells.ensures.whos ∙ ap (owners 0) c.lists.ensures in
-    let s = c.in_ok-cells.ensures.slots ∙ ap joined c.lists.ensures in
-    let y = c.in_ok-y.y in
-    let z = c.fill.new.y in
-    let q = written z (drop (length z) y.items) y.len (c.fill.auto.y ∙ (ap length c.deref_mut.ensures.value ∙ sym y.ok.0)) in
-    let part = rw (c.demands-demands.ensures.value, c.capacities.ensures, w, s) at c.in_ok-set.ensures.part in
-    let found = rw (c.deref.ensures.value ∙ q, c.demands-demands.ensures.value, w) at c.in_ok-lacking.ensures in
-    let met = none_here c.in_ok-lacking.lacking _ _ (sym c.is_some.ensures ∙ c.if-is_some.false) found in
-    rw (c.in_ok-split.ensures, c.lists-2.ensures, c.deref-2.ensures.value ∙ q) (split_from d z c.demands-demands.ensures.sound part met)
+    let y = c.in_ok-shares.shares.y.items in
+    let k = c.in_ok-shares.ensures.shares in
+    let part = rw (k.in_order, k.in_lists) at k.part in
+    let met = rw k.in_order at k.met in
+    rw (c.in_ok-split.ensures, c.lists.ensures, c.deref.ensures.value) (split_from d y c.met_shares.ensures.sound part met)

@@ -23,14 +23,14 @@ moved-requires-in-Laminar-clause-room c =
     let same : to_z w128 (of_z w128 c.args.a) ≡ c.args.a = omega (arith, ints, c.requires.low.le, c.requires.high.le) in
     rw (kept, same) (rw c.in-Laminar.is at c.requires.room)
 
-pub moved-requires-in-Graphic-clause-room : goal.moved-requires-in-Graphic-clause-room
-moved-requires-in-Graphic-clause-room c =
+pub moved-requires-in-Graphic-note-clause-room : goal.moved-requires-in-Graphic-note-clause-room
+moved-requires-in-Graphic-note-clause-room c =
     let kept : to_z w128 (of_z w128 c.args.q) ≡ c.args.q = omega (arith, ints, c.requires.factor.low, c.requires.factor.high) in
     let same : to_z w128 (of_z w128 c.args.a) ≡ c.args.a = omega (arith, ints, c.requires.low.le, c.requires.high.le) in
     rw (kept, same) (rw c.in-Graphic.is at c.requires.room)
 
-pub moved-requires-in-Transversal-clause-room : goal.moved-requires-in-Transversal-clause-room
-moved-requires-in-Transversal-clause-room c =
+pub moved-requires-in-Transversal-note-clause-room : goal.moved-requires-in-Transversal-note-clause-room
+moved-requires-in-Transversal-note-clause-room c =
     let kept : to_z w128 (of_z w128 c.args.q) ≡ c.args.q = omega (arith, ints, c.requires.factor.low, c.requires.factor.high) in
     let same : to_z w128 (of_z w128 c.args.a) ≡ c.args.a = omega (arith, ints, c.requires.low.le, c.requires.high.le) in
     rw (kept, same) (rw c.in-Transversal.is at c.requires.room)

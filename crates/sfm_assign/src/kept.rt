@@ -1,0 +1,63 @@
+// A split that is kept, for all that is asked of it later. Who can lend to a demand is told by one search from that demand, as if
+// it lacked one, over the amounts that are kept. Where it finds a slot with room, the demand can get one more as it is. Else
+// what it finds are exactly those that can give up one.
+ghost use Rattle.std.specs.Prelude.{◌≡◌, ◌<◌, length, pos, IfOk, MatchOption, MatchResult};
+ghost use Rattle.sfm_assign.specs.Splits.{CanBeMet, AreDemands};
+ghost use Rattle.sfm_assign.specs.Cells.{AreMet};
+ghost use Rattle.sfm_assign.specs.Ends.{IsAssignEnd};
+ghost use Rattle.sfm_assign.specs.Lenders.{one_more, IsLenders};
+
+use crate::demand::Demand;
+use crate::greatest::with_demand;
+use crate::lend::found_from;
+use crate::splitting::{AssignEnd, Shares, met_shares};
+use sfm_base::{Memory, Set};
+use std::alloc::Global;
+
+/// Demands with a split of them, which is kept by the amount on each cell.
+#[derive(Drop)]
+pub struct KeptSplit {
+    pub demand: Demand,
+    shares: Shares,
+    ghost met: { AreMet demand shares.cells.whos.items shares.cells.slots.items shares.y.items },
+}
+
+impl KeptSplit {
+    /// Splits each demand over its slots, no slot getting more than its capacity; the demands are taken over.
+    ///
+    /// # Errors
+    ///
+    /// `Shortage` where there is no split; `Memory` where there is none.
+    pub fn of(alloc: Global, demand: Demand) -> Result<KeptSplit, AssignEnd>
+        ensures { MatchResult result (λ r. r.demand ≡ demand) (IsAssignEnd demand.demands demand.lists demand.capacities) }
+    {
+        let shares = met_shares(alloc, &demand)?;
+        Ok(KeptSplit { demand, shares })
+    }
+
+    /// Who can lend: the demands of which each, given one less, leaves room for the demand u to get one more with all others
+    /// met; or None where u can get one more as it is. Of u itself nothing is told.
+    ///
+    /// # Errors
+    ///
+    /// `Memory` where there is none.
+    pub fn lenders(&self, alloc: Global, u: usize) -> Result<Option<Set>, Memory>
+        requires place { u < length self.now.demand.demands }
+        ensures sound { AreDemands self.now.demand }
+        ensures lenders { IfOk result (λ r. MatchOption r
+            (CanBeMet (one_more self.now.demand.demands u) self.now.demand.lists self.now.demand.capacities)
+            (IsLenders self.now.demand.demands self.now.demand.lists self.now.demand.capacities u)) }
+    {
+        let demands = self.demand.demands();
+        let capacities = self.demand.capacities();
+        let asked = with_demand(alloc, demands, u, demands[u] + 1)?;
+        let found = found_from(
+            alloc,
+            &self.shares.cells,
+            &asked,
+            capacities,
+            &self.shares.y,
+        )?;
+        Ok(found)
+    }
+}

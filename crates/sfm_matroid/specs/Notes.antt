@@ -1,0 +1,39 @@
+-- What is kept beside a base: a split of it in each test that tells bases.
+use Rattle.std.specs.Prelude.{◌≡◌, ℕ, ◌*◌, ◌<◌, List, length, replicate, slice_index_or, ℤ, ◌*ℤ◌, Option, Some, None}
+use Rattle.std.specs.List.{All}
+use Rattle.sfm_spec.specs.Kinds.{Edge}
+use Rattle.sfm_assign.specs.Splits.{Demands}
+use Rattle.sfm_assign.specs.declared.kept.KeptSplit.{KeptSplit}
+use Rattle.sfm_matroid.specs.Numbered.{IsEnd, numbered, end_lists, vertex_capacities}
+
+-- edges as demands that are split over their ends, where each of m vertices holds c, but a nothing
+abbrev pub end_demands : List Edge → ℕ → ℤ → List ℤ → ℕ → Demands
+end_demands edges m c x a = record { demands = x; lists = end_lists edges; capacities = vertex_capacities m c a }
+
+-- elements as demands that are split over the slots of their entries, where each of m slots holds c
+abbrev pub slot_demands : List (List ℕ) → ℕ → ℤ → List ℤ → Demands
+slot_demands entries m c x = record { demands = x; lists = entries; capacities = replicate m c }
+
+-- the split in the test of a, or none where a is no end
+abbrev pub IsSplitAt : List Edge → ℕ → ℤ → List ℤ → ℕ → Option KeptSplit → Type 0
+IsSplitAt edges m c x a None = IsEnd edges a → ⊥
+IsSplitAt edges m c x a (Some kept) = IsEnd edges a × (kept.demand ≡ end_demands edges m c x a)
+
+-- the splits in the tests of m vertices
+pub record AreSplits (edges : List Edge) (m : ℕ) (c : ℤ) (x : List ℤ) (splits : List (Option KeptSplit)) : Type 0 where
+  pub places : length splits ≡ m
+  pub each : (a : ℕ) → a < m → IsSplitAt edges m c x a (slice_index_or splits a None)
+
+-- the split where each slot holds c
+pub record IsSlotSplit (entries : List (List ℕ)) (c : ℤ) (x : List ℤ) (kept : KeptSplit) : Type 0 where
+  pub m : ℕ
+  pub below : All (All (λ v. v < m)) entries
+  pub split : kept.demand ≡ slot_demands entries m c x
+
+-- what is kept beside a base of q times a graphic term: the splits in all tests
+abbrev pub graphic_fits : ℤ → List Edge → List (Option KeptSplit) → ℤ → List ℤ → Type 0
+graphic_fits w edges splits q x = AreSplits (numbered edges) (2 * length edges) (q *ℤ w) x splits
+
+-- what is kept beside a base of q times a transversal term: the split in its test
+abbrev pub transversal_fits : ℤ → List (List ℕ) → KeptSplit → ℤ → List ℤ → Type 0
+transversal_fits w entries kept q x = IsSlotSplit entries (q *ℤ w) x kept
