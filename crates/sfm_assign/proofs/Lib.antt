@@ -7,6 +7,8 @@ pub mod Augments
 pub mod Fills
 pub mod Cutting
 pub mod Outcomes
+pub mod Pours
+pub mod Lowers
 pub mod Filling
 pub mod Lending
 pub mod Loans

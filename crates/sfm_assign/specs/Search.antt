@@ -178,3 +178,10 @@ pub record GetsOne (demands capacities : List ℤ) (whos slots : List ℕ) (y : 
 pub record IsFoundFrom (demands capacities : List ℤ) (whos slots : List ℕ) (y : List ℤ) (set : List Bool) : Type 0 where
   pub filled : IsFilled demands capacities whos slots y set
   pub lends : (v : ℕ) → Has set v → GetsOne demands capacities whos slots y (λ i. only v i (pos 1))
+
+-- the demand v gets a less, each other as much as before, and no slot has more
+pub record IsLowered (whos slots : List ℕ) (v : ℕ) (a : ℤ) (y z : List ℤ) : Type 0 where
+  pub cells : length z ≡ length y
+  pub amounts : (e : ℕ) → pos 0 ≤ℤ amount_at z e
+  pub got : (i : ℕ) → sum_at i whos z ≡ (sum_at i whos y -ℤ only v i a)
+  pub loads : (s : ℕ) → sum_at s slots z ≤ℤ sum_at s slots y

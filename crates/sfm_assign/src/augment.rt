@@ -8,7 +8,7 @@ use crate::cells::Cells;
 use crate::nodes::{Node, link_of};
 
 /// Adds to the amount on a cell.
-fn put(y: &mut [i128], e: usize, a: i128)
+pub(crate) fn put(y: &mut [i128], e: usize, a: i128)
     requires place { e < length y.old }
     requires low { pos 0 ≤ℤ (amount_at y.old e +ℤ a) }
     requires high { (amount_at y.old e +ℤ a) ≤ℤ pos (10 ^ 24) }

@@ -1,7 +1,9 @@
 // Demands in the order in which they come, each with the list of the slots that it may use, and the capacities of the slots.
-ghost use Rattle.std.specs.Prelude.{◌≡◌, ◌<◌, ◌≤◌, ◌^◌, [], ◌∷◌, ◌++◌, length, is_ok, IfOk, if◌then◌else◌};
+ghost use Rattle.std.specs.Prelude.{◌≡◌, ◌≢◌, ◌<◌, ◌≤◌, ◌^◌, [], ◌∷◌, ◌++◌, length, pos, ◌≤ℤ◌, is_ok, IfOk, if◌then◌else◌};
 ghost use Rattle.std.specs.List.{All};
+ghost use Rattle.sfm_spec.specs.Terms.{exchanged};
 ghost use Rattle.sfm_assign.specs.Splits.{IsAmount, IsCapacity, AreDemands};
+ghost use Rattle.sfm_assign.specs.Lenders.{exchanged_in};
 
 use sfm_base::Memory;
 use std::alloc::Global;
@@ -86,6 +88,21 @@ impl Demand {
         Ok(())
     }
 
+    /// Raises the demand u by a, and lowers v.
+    pub(crate) fn exchange(&mut self, u: usize, v: usize, a: i128)
+        requires from { u < length self.old.demands }
+        requires onto { v < length self.old.demands }
+        requires apart { u ≢ v }
+        requires low { pos 0 ≤ℤ a }
+        requires amounts { All IsAmount (exchanged self.old.demands u v a) }
+        ensures { self.new ≡ exchanged_in self.old u v a }
+    {
+        let raised = self.demands[u] + a;
+        let lowered = self.demands[v] - a;
+        self.demands[u] = raised;
+        self.demands[v] = lowered;
+    }
+
     /// The demands in order.
     pub(crate) fn demands(&self) -> &[i128]
         ensures value { result.now ≡ self.now.demands }
@@ -96,7 +113,8 @@ impl Demand {
 
     /// The lists in order.
     pub(crate) fn lists(&self) -> &[Slots]
-        ensures { result.now ≡ self.now.lists }
+        ensures value { result.now ≡ self.now.lists }
+        ensures sound { AreDemands self.now }
     {
         self.lists.as_slice()
     }

@@ -1,5 +1,5 @@
-// Amounts raised as far as they go: a search for room, and the amount that it shows moved, until no slot has room for a
-// demand that lacks something.
+// Amounts raised as far as they go: first poured over the cells, and then a search for room, and the amount that it shows
+// moved, until no slot has room for a demand that lacks something.
 ghost use Rattle.std.specs.Prelude.{◌≡◌, ℕ, ◌<◌, ◌^◌, length, ℤ, pos, ◌+ℤ◌, ◌≤ℤ◌, ◌<ℤ◌, IfOk, MatchOption};
 ghost use Rattle.std.specs.List.{All};
 ghost use Rattle.sfm_spec.specs.Bounds.{total_of};
@@ -11,6 +11,7 @@ use crate::augment::augment;
 use crate::cells::Cells;
 use crate::left::left_of;
 use crate::nodes::{Node, flow_of, found_set};
+use crate::pour::pour;
 use crate::search::search;
 use sfm_base::{Memory, Set};
 use std::alloc::Global;
@@ -72,6 +73,7 @@ pub(crate) fn fill(
     ensures more { GetsMore cells.now.whos.items y.old y.new }
     ensures filled { IfOk result (IsFilled demands.now capacities.now cells.now.whos.items cells.now.slots.items y.new) }
 {
+    pour(alloc, cells, demands, capacities, y)?;
     loop {
         if let Some(set) = step(alloc, cells, demands, capacities, y)? {
             return Ok(set);

@@ -1,16 +1,19 @@
 // A split that is kept, for all that is asked of it later. Who can lend to a demand is told by one search from that demand, as if
 // it lacked one, over the amounts that are kept. Where it finds a slot with room, the demand can get one more as it is. Else
 // what it finds are exactly those that can give up one.
-ghost use Rattle.std.specs.Prelude.{◌≡◌, ◌<◌, length, pos, IfOk, MatchOption, MatchResult};
-ghost use Rattle.sfm_assign.specs.Splits.{CanBeMet, AreDemands};
+ghost use Rattle.std.specs.Prelude.{◌≡◌, ◌≢◌, ◌<◌, length, pos, ◌≤ℤ◌, IfOk, MatchOption, MatchResult};
+ghost use Rattle.std.specs.List.{All};
+ghost use Rattle.sfm_spec.specs.Terms.{exchanged};
+ghost use Rattle.sfm_assign.specs.Splits.{IsAmount, CanBeMet, AreDemands};
 ghost use Rattle.sfm_assign.specs.Cells.{AreMet};
 ghost use Rattle.sfm_assign.specs.Ends.{IsAssignEnd};
-ghost use Rattle.sfm_assign.specs.Lenders.{one_more, IsLenders};
+ghost use Rattle.sfm_assign.specs.Lenders.{one_more, exchanged_in, IsLenders};
 
 use crate::demand::Demand;
 use crate::greatest::with_demand;
 use crate::lend::found_from;
-use crate::splitting::{AssignEnd, Shares, met_shares};
+use crate::lower::lower;
+use crate::splitting::{AssignEnd, Shares, met_shares, raised};
 use sfm_base::{Memory, Set};
 use std::alloc::Global;
 
@@ -32,6 +35,33 @@ impl KeptSplit {
         ensures { MatchResult result (λ r. r.demand ≡ demand) (IsAssignEnd demand.demands demand.lists demand.capacities) }
     {
         let shares = met_shares(alloc, &demand)?;
+        Ok(KeptSplit { demand, shares })
+    }
+
+    /// The split brought up to demands of which u has a more and v has a less.
+    ///
+    /// # Errors
+    ///
+    /// `Shortage` where there is no split; `Memory` where there is none.
+    pub fn exchanged(
+        self,
+        alloc: Global,
+        u: usize,
+        v: usize,
+        a: i128,
+    ) -> Result<KeptSplit, AssignEnd>
+        requires from { u < length self.demand.demands }
+        requires onto { v < length self.demand.demands }
+        requires apart { u ≢ v }
+        requires low { pos 0 ≤ℤ a }
+        requires amounts { All IsAmount (exchanged self.demand.demands u v a) }
+        ensures { MatchResult result (λ r. r.demand ≡ exchanged_in self.demand u v a) (IsAssignEnd (exchanged self.demand.demands u v a) self.demand.lists self.demand.capacities) }
+    {
+        let KeptSplit { mut demand, shares } = self;
+        let Shares { cells, mut y } = shares;
+        lower(&cells, v, a, &mut y);
+        demand.exchange(u, v, a);
+        let shares = raised(alloc, &demand, Shares { cells, y })?;
         Ok(KeptSplit { demand, shares })
     }
 

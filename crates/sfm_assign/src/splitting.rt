@@ -2,7 +2,7 @@
 // they go; where a demand still lacks something, those that were found ask for too much.
 ghost use Rattle.std.specs.Prelude.{◌≡◌, ℕ, ◌<◌, List, length, ℤ, pos, ◌≤ℤ◌, ◌<ℤ◌, IfOk, MatchOption, MatchResult};
 ghost use Rattle.sfm_assign.specs.Splits.{sum_at, amount_at, AreDemands, IsSplit};
-ghost use Rattle.sfm_assign.specs.Cells.{AreCells, IsPart, IsMet, AreMet};
+ghost use Rattle.sfm_assign.specs.Cells.{joined, owners, AreCells, IsPart, IsMet, AreMet};
 ghost use Rattle.sfm_assign.specs.Ends.{IsAssignEnd};
 
 use crate::cells::Cells;
@@ -66,20 +66,33 @@ pub(crate) struct Shares {
     pub y: Vec<i128>,
 }
 
-/// Amounts by which each demand gets what it asks for.
-pub(crate) fn met_shares(alloc: Global, demand: &Demand) -> Result<Shares, AssignEnd>
-    ensures sound { AreDemands demand.now }
+/// Amounts raised until each demand gets what it asks for.
+pub(crate) fn raised(alloc: Global, demand: &Demand, shares: Shares) -> Result<Shares, AssignEnd>
+    requires in_order { shares.cells.whos.items ≡ owners 0 demand.now.lists }
+    requires in_lists { shares.cells.slots.items ≡ joined demand.now.lists }
+    requires part { IsPart demand.now.demands demand.now.capacities shares.cells.whos.items shares.cells.slots.items shares.y.items }
+    ensures sound { IfOk result (λ _. AreDemands demand.now) }
     ensures shares { MatchResult result (λ r. AreMet demand.now r.cells.whos.items r.cells.slots.items r.y.items) (IsAssignEnd demand.now.demands demand.now.lists demand.now.capacities) }
 {
+    let Shares { cells, mut y } = shares;
     let demands = demand.demands();
-    let cells = Cells::of(alloc, demand.lists())?;
-    let mut y = cells.nothing(alloc)?;
     let set = fill(alloc, &cells, demands, demand.capacities(), &mut y)?;
     let lacking = unmet(alloc, &cells, demands, &y)?;
     if lacking.is_some() {
         return Err(AssignEnd::Shortage { set });
     }
     Ok(Shares { cells, y })
+}
+
+/// Amounts by which each demand gets what it asks for.
+pub(crate) fn met_shares(alloc: Global, demand: &Demand) -> Result<Shares, AssignEnd>
+    ensures sound { IfOk result (λ _. AreDemands demand.now) }
+    ensures shares { MatchResult result (λ r. AreMet demand.now r.cells.whos.items r.cells.slots.items r.y.items) (IsAssignEnd demand.now.demands demand.now.lists demand.now.capacities) }
+{
+    let cells = Cells::of(alloc, demand.lists())?;
+    let y = cells.nothing(alloc)?;
+    let shares = raised(alloc, demand, Shares { cells, y })?;
+    Ok(shares)
 }
 
 /// Splits each demand over its slots, no slot getting more than its capacity.

@@ -152,7 +152,7 @@ fn keeps_no_split_of_too_much(rt: HostRuntime) -> Result<(), Fail> {
 /// Demands of 0, 1, 1 and 1 over three slots that hold 1 each: the third shares a slot with the second alone, and the last
 /// shares with none.
 fn in_a_row(alloc: Global) -> Result<Demand, Memory>
-    ensures { IfOk result (λ d. length d.demands ≡ 4) }
+    ensures { IfOk result (λ d. d.demands ≡ pos 0 ∷ pos 1 ∷ pos 1 ∷ pos 1 ∷ []) }
 {
     let mut demand = Demand::new(alloc, &[1, 1, 1])?;
     demand.push(0, vec![in alloc; 0]?)?;
@@ -169,5 +169,30 @@ fn lends_by_way_of_another(rt: HostRuntime) -> Result<(), Fail> {
     has_lenders(&rt, kept.lenders(rt.alloc(), 0)?, 0, &first);
     let third = [false, false, false, false];
     has_lenders(&rt, kept.lenders(rt.alloc(), 2)?, 2, &third);
+    Ok(())
+}
+
+#[test]
+fn goes_on_after_an_exchange(rt: HostRuntime) -> Result<(), Fail> {
+    let before = kept(&rt, rt.alloc(), in_a_row(rt.alloc())?);
+    let after = before.exchanged(rt.alloc(), 0, 1, 1).ok();
+    let kept = after.expect(&rt, "a split of 1, 0, 1 and 1");
+    let none = [false, false, false, false];
+    has_lenders(&rt, kept.lenders(rt.alloc(), 0)?, 0, &none);
+    let first = [true, false, true, false];
+    has_lenders(&rt, kept.lenders(rt.alloc(), 1)?, 1, &first);
+    Ok(())
+}
+
+#[test]
+fn no_split_after_an_exchange(rt: HostRuntime) -> Result<(), Fail> {
+    let before = kept(&rt, rt.alloc(), in_a_row(rt.alloc())?);
+    match before.exchanged(rt.alloc(), 0, 3, 1) {
+        Err(AssignEnd::Shortage { set }) => {
+            assert!(rt; set.len() == 4);
+            assert!(rt; set.contains(0) && set.contains(1) && set.contains(2));
+        }
+        _ => panic!(rt; "no shortage"),
+    }
     Ok(())
 }

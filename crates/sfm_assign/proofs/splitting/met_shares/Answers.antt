@@ -1,54 +1,12 @@
-use Rattle.std.proofs.Common.{length, drop, ap, sym, ◌∙◌}
+use Rattle.std.proofs.Common.{ap, ◌∙◌}
 use Rattle.sfm_assign.specs.Cells.{joined, owners}
-use Rattle.sfm_assign.proofs.Searches.{written}
-use Rattle.sfm_assign.proofs.Outcomes.{capacities_low, nothing_part, cells_for, short_from, some_here, none_here, amounts_low}
+use Rattle.sfm_assign.proofs.Outcomes.{capacities_low, nothing_part, amounts_low}
 use Rattle.sfm_assign.proofs.splitting.met_shares.Goals as goal
 
-pub fill-requires-clause-cells : goal.fill-requires-clause-cells
-fill-requires-clause-cells c =
+pub raised-requires-clause-part : goal.raised-requires-clause-part
+raised-requires-clause-part c =
     let d = c.args.demand.now in
-    let w = c.in_ok-cells.ensures.whos ∙ ap (owners 0) c.lists.ensures in
-    let s = c.in_ok-cells.ensures.slots ∙ ap joined c.lists.ensures in
-    rw (c.demands-demands.ensures.value, c.capacities.ensures, w, s) (cells_for d c.demands-demands.ensures.sound)
-
-pub fill-requires-clause-part : goal.fill-requires-clause-part
-fill-requires-clause-part c =
-    let d = c.args.demand.now in
-    let sound = c.demands-demands.ensures.sound in
-    let w = c.in_ok-cells.ensures.whos ∙ ap (owners 0) c.lists.ensures in
-    let s = c.in_ok-cells.ensures.slots ∙ ap joined c.lists.ensures in
-    rw (c.deref_mut.ensures.value, c.in_ok-y.ensures, c.demands-demands.ensures.value, c.capacities.ensures, w, s) (nothing_part d.demands d.capacities (owners 0 d.lists) (joined d.lists) (amounts_low d sound) (capacities_low d sound))
-
-pub unmet-requires-clause-cells : goal.unmet-requires-clause-cells
-unmet-requires-clause-cells c =
-    let d = c.args.demand.now in
-    let w = c.in_ok-cells.ensures.whos ∙ ap (owners 0) c.lists.ensures in
-    let s = c.in_ok-cells.ensures.slots ∙ ap joined c.lists.ensures in
-    (length d.capacities, rw (c.demands-demands.ensures.value, w, s) (cells_for d c.demands-demands.ensures.sound))
-
-pub returns-then-is_some-clause-shares : goal.returns-then-is_some-clause-shares
-returns-then-is_some-clause-shares c =
-    let d = c.args.demand.now in
-    let w = c.in_ok-cells.ensures.whos ∙ ap (owners 0) c.lists.ensures in
-    let s = c.in_ok-cells.ensures.slots ∙ ap joined c.lists.ensures in
-    let y = c.in_ok-y.y in
-    let z = c.fill.new.y in
-    let e = c.deref.ensures.value ∙ written z (drop (length z) y.items) y.len (c.fill.auto.y ∙ (ap length c.deref_mut.ensures.value ∙ sym y.ok.0)) in
-    let part = rw (c.demands-demands.ensures.value, c.capacities.ensures, w, s) at c.in_ok-set.ensures.part in
-    let filled = rw (c.demands-demands.ensures.value, c.capacities.ensures, w, s) at c.in_ok-set.ensures.filled in
-    let found = rw (e, c.demands-demands.ensures.value, w) at c.in_ok-lacking.ensures in
-    let (i, h) = some_here c.in_ok-lacking.lacking _ _ (sym c.is_some.ensures ∙ c.if-is_some.true) found in
-    short_from d z c.in_ok-set.set i c.demands-demands.ensures.sound part filled h.0 h.1
-
-pub returns-clause-shares : goal.returns-clause-shares
-returns-clause-shares c =
-    let d = c.args.demand.now in
-    let w = c.in_ok-cells.ensures.whos ∙ ap (owners 0) c.lists.ensures in
-    let s = c.in_ok-cells.ensures.slots ∙ ap joined c.lists.ensures in
-    let y = c.in_ok-y.y in
-    let z = c.fill.new.y in
-    let q = written z (drop (length z) y.items) y.len (c.fill.auto.y ∙ (ap length c.deref_mut.ensures.value ∙ sym y.ok.0)) in
-    let part = rw (c.demands-demands.ensures.value, c.capacities.ensures) at c.in_ok-set.ensures.part in
-    let found = rw (c.deref.ensures.value ∙ q, c.demands-demands.ensures.value) at c.in_ok-lacking.ensures in
-    let met = none_here c.in_ok-lacking.lacking _ _ (sym c.is_some.ensures ∙ c.if-is_some.false) found in
-    record { in_order = w; in_lists = s; part = rw q part; met = rw q met }
+    let sound = c.lists.ensures.sound in
+    let w = c.in_ok-cells.ensures.whos ∙ ap (owners 0) c.lists.ensures.value in
+    let s = c.in_ok-cells.ensures.slots ∙ ap joined c.lists.ensures.value in
+    rw (c.in_ok-y.ensures, w, s) (nothing_part d.demands d.capacities (owners 0 d.lists) (joined d.lists) (amounts_low d sound) (capacities_low d sound))
