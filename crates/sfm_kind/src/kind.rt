@@ -7,12 +7,11 @@ ghost use Rattle.sfm_spec.specs.Terms.{SetFunction, times, IsBase, IsFamily, IsS
 ghost use Rattle.sfm_law.specs.Room.{IsRoom, IsReach, IsWithinRoom};
 ghost use Rattle.sfm_kind.specs.Kinds.{kind_places, kind_value, kind_size, kind_start, kind_fits, kind-family, kind-submodular, kind-bounded, kind-starts, kind-starts_small};
 
-use sfm_assign::KeptSplit;
 use sfm_base::{Memory, Set};
 use sfm_concave::{Concave, Uniform};
 use sfm_laminar::Laminar;
 use sfm_law::{Room, Term};
-use sfm_matroid::{EndSplits, Graphic, Transversal};
+use sfm_matroid::{EndSplits, Graphic, SlotSplit, Transversal};
 use sfm_simple::{Cover, Cut, Need, Table, Weight};
 use std::alloc::Global;
 
@@ -49,7 +48,7 @@ pub enum KindNote {
     /// The splits in the tests of a graphic rank.
     Graphic(EndSplits),
     /// The split in the test of a transversal rank.
-    Transversal(KeptSplit),
+    Transversal(SlotSplit),
 }
 
 impl Term for Kind {

@@ -1,12 +1,17 @@
 -- The splits that are kept beside a base: who can lend in each of them.
-use Rattle.std.proofs.Common.{◌≡◌, ◌↔◌, ℕ, ◌+◌, ◌<◌, Bool, List, [], ◌∷◌, ◌++◌, length, get_or, ℤ, Option, Some, None, ap, ◌∙◌, arith, ⊎_elim}
+use Rattle.std.proofs.Common.{◌≡◌, ◌↔◌, ℕ, ◌+◌, ◌<◌, ◌≤◌, Bool, List, [], ◌∷◌, ◌++◌, length, get_or, set, replicate, ℤ, Option, Some, None, refl, ap, ◌∙◌, arith, ⊎_elim, length-set, get_or-set_other, get_or-set_same}
+use Rattle.std.specs.List.{All}
 use Rattle.std.proofs.lemmas.Bool.{cases_lt}
 use Rattle.std.proofs.lemmas.List.{get_or_append_left, get_or_push}
 use Rattle.sfm_spec.specs.Sets.{Has}
 use Rattle.sfm_spec.specs.Kinds.{Edge}
+use Rattle.sfm_spec.specs.Terms.{exchanged}
+use Rattle.sfm_assign.specs.Splits.{IsAmount, CanBeMet}
+use Rattle.sfm_assign.specs.Lenders.{exchanged_in}
 use Rattle.sfm_assign.specs.declared.kept.KeptSplit.{KeptSplit}
 use Rattle.sfm_matroid.specs.Givers.{AreKept, AreOthers, CanLend, CanLendIn}
-use Rattle.sfm_matroid.specs.Notes.{IsSplitAt, AreSplits}
+use Rattle.sfm_matroid.specs.Numbered.{end_lists, vertex_capacities}
+use Rattle.sfm_matroid.specs.Notes.{IsSplitAt, AreSplits, IsSlotSplit, IsSlotSplitIn, IsMovable, IsMoved}
 
 -- some of a set of other demands
 pub fewer_others : (demands : List ℤ) (u : ℕ) (first set : List Bool) → length set ≡ length first → ((v : ℕ) → Has set v → Has first v) → AreOthers demands u first → AreOthers demands u set
@@ -48,3 +53,65 @@ splits_more edges m c x splits after a o sized is each here b lt = ⊎_elim
     let e : get_or after b None ≡ o = ap (λ s. get_or s b None) is ∙ get_or_push splits o None b (sized ∙ q) in
     rw (e, ← q) here)
     (cases_lt b a)
+
+-- ---- an exchange
+
+module _ (u v : ℕ) (a : ℤ) where
+  -- splits brought up one by one: the first t of them, and the others as before
+  pub record AreMovedTo (before after : List (Option KeptSplit)) (t : ℕ) : Type 0 where
+    pub places : length after ≡ length before
+    pub moved : (b : ℕ) → b < t → b < length before → IsMoved u v a (get_or before b None) (get_or after b None)
+    pub others : (b : ℕ) → t ≤ b → get_or after b None ≡ get_or before b None
+
+  pub moved_none : (before : List (Option KeptSplit)) → AreMovedTo before before 0
+  moved_none before = record { places = refl; moved = λ b lt. absurd (omega (arith, lt)); others = λ b le. refl }
+
+  pub moved_more : (before after : List (Option KeptSplit)) (t : ℕ) (o : Option KeptSplit) → t < length before → AreMovedTo before after t → IsMoved u v a (get_or before t None) o → AreMovedTo before (set after t o) (t + 1)
+  moved_more before after t o lt h here = record {
+    places = length-set after t o ∙ h.places;
+    moved = λ b lb in_range. ⊎_elim
+        (λ (l : b < t). rw (get_or-set_other after t b o None (λ q. omega (arith, q, l))) (h.moved b l in_range))
+        (λ ge.
+        let q : t ≡ b = omega (arith, ge, lb) in
+        let p = h.places in
+        rw (← q, get_or-set_same after t o None (omega (arith, p, lt))) here)
+        (cases_lt b t);
+    others = λ b le. get_or-set_other after t b o None (λ q. omega (arith, q, le)) ∙ h.others b (omega (arith, le));
+  }
+
+  module _ (x : List ℤ) (from : u < length x) (onto : v < length x) (amounts : All IsAmount (exchanged x u v a)) where
+    pub splits_movable : (edges : List Edge) (m : ℕ) (c : ℤ) (splits : List (Option KeptSplit)) → AreSplits edges m c x splits → ((t : ℕ) → t < m → CanBeMet (exchanged x u v a) (end_lists edges) (vertex_capacities m c t))
+        → (t : ℕ) (kept : KeptSplit) → t < length splits → get_or splits t None ≡ Some kept → IsMovable u v a kept.demand
+    splits_movable edges m c splits are met t kept lt is =
+        let p = are.places in
+        let l : t < m = omega (arith, lt, p) in
+        let (end, e) = rw is at (are.each t l) in
+        rw e (record { from = from; onto = onto; amounts = amounts; met = met t l })
+
+    pub slots_movable : (entries : List (List ℕ)) (c : ℤ) (o : Option KeptSplit) → IsSlotSplitIn entries c x o → ((m : ℕ) → All (All (λ v. v < m)) entries → CanBeMet (exchanged x u v a) entries (replicate m c))
+        → (kept : KeptSplit) → o ≡ Some kept → IsMovable u v a kept.demand
+    slots_movable entries c o fits met kept is =
+        let s = rw is at fits in
+        rw s.split (record { from = from; onto = onto; amounts = amounts; met = met s.m s.below })
+
+  split_moved : (edges : List Edge) (m : ℕ) (c : ℤ) (x : List ℤ) (t : ℕ) (o p : Option KeptSplit) → IsSplitAt edges m c x t o → IsMoved u v a o p → IsSplitAt edges m c (exchanged x u v a) t p
+  split_moved edges m c x t None p none q = rw q none
+  split_moved edges m c x t (Some kept) None (end, e) q = absurd q
+  split_moved edges m c x t (Some kept) (Some moved) (end, e) q = (end, q ∙ ap (λ d. exchanged_in d u v a) e)
+
+  pub splits_moved : (edges : List Edge) (m : ℕ) (c : ℤ) (x : List ℤ) (before after : List (Option KeptSplit)) → AreSplits edges m c x before → length after ≡ length before
+      → ((t : ℕ) → t < length before → IsMoved u v a (get_or before t None) (get_or after t None)) → AreSplits edges m c (exchanged x u v a) after
+  splits_moved edges m c x before after are same moved = record {
+    places = same ∙ are.places;
+    each = λ t lt. let p = are.places in split_moved edges m c x t (get_or before t None) (get_or after t None) (are.each t lt) (moved t (omega (arith, lt, p)));
+  }
+
+  pub slots_moved : (entries : List (List ℕ)) (c : ℤ) (x : List ℤ) (o p : Option KeptSplit) → IsSlotSplitIn entries c x o → IsMoved u v a o p → IsSlotSplitIn entries c (exchanged x u v a) p
+  slots_moved entries c x None p none q = absurd none
+  slots_moved entries c x (Some kept) None s q = absurd q
+  slots_moved entries c x (Some kept) (Some moved) s q = record { m = s.m; below = s.below; split = q ∙ ap (λ d. exchanged_in d u v a) s.split }
+
+-- what is kept of a transversal term is a split
+pub slot_known : (entries : List (List ℕ)) (c : ℤ) (x : List ℤ) (o : Option KeptSplit) → IsSlotSplitIn entries c x o → (kept : KeptSplit) × (o ≡ Some kept) × IsSlotSplit entries c x kept
+slot_known entries c x None none = absurd none
+slot_known entries c x (Some kept) s = (kept, refl, s)

@@ -1,8 +1,10 @@
 -- What is kept beside a base: a split of it in each test that tells bases.
 use Rattle.std.specs.Prelude.{◌≡◌, ℕ, ◌*◌, ◌<◌, List, length, replicate, slice_index_or, ℤ, ◌*ℤ◌, Option, Some, None}
 use Rattle.std.specs.List.{All}
+use Rattle.sfm_spec.specs.Terms.{exchanged}
 use Rattle.sfm_spec.specs.Kinds.{Edge}
-use Rattle.sfm_assign.specs.Splits.{Demands}
+use Rattle.sfm_assign.specs.Splits.{IsAmount, CanBeMet, Demands}
+use Rattle.sfm_assign.specs.Lenders.{exchanged_in}
 use Rattle.sfm_assign.specs.declared.kept.KeptSplit.{KeptSplit}
 use Rattle.sfm_matroid.specs.Numbered.{IsEnd, numbered, end_lists, vertex_capacities}
 
@@ -30,10 +32,27 @@ pub record IsSlotSplit (entries : List (List ℕ)) (c : ℤ) (x : List ℤ) (kep
   pub below : All (All (λ v. v < m)) entries
   pub split : kept.demand ≡ slot_demands entries m c x
 
+abbrev pub IsSlotSplitIn : List (List ℕ) → ℤ → List ℤ → Option KeptSplit → Type 0
+IsSlotSplitIn entries c x None = ⊥
+IsSlotSplitIn entries c x (Some kept) = IsSlotSplit entries c x kept
+
+-- demands that can be met after an exchange
+pub record IsMovable (u v : ℕ) (a : ℤ) (d : Demands) : Type 0 where
+  pub from : u < length d.demands
+  pub onto : v < length d.demands
+  pub amounts : All IsAmount (exchanged d.demands u v a)
+  pub met : CanBeMet (exchanged d.demands u v a) d.lists d.capacities
+
+-- a split before and after an exchange, if there is one
+abbrev pub IsMoved : ℕ → ℕ → ℤ → Option KeptSplit → Option KeptSplit → Type 0
+IsMoved u v a None after = after ≡ None
+IsMoved u v a (Some kept) None = ⊥
+IsMoved u v a (Some kept) (Some moved) = moved.demand ≡ exchanged_in kept.demand u v a
+
 -- what is kept beside a base of q times a graphic term: the splits in all tests
 abbrev pub graphic_fits : ℤ → List Edge → List (Option KeptSplit) → ℤ → List ℤ → Type 0
 graphic_fits w edges splits q x = AreSplits (numbered edges) (2 * length edges) (q *ℤ w) x splits
 
 -- what is kept beside a base of q times a transversal term: the split in its test
-abbrev pub transversal_fits : ℤ → List (List ℕ) → KeptSplit → ℤ → List ℤ → Type 0
-transversal_fits w entries kept q x = IsSlotSplit entries (q *ℤ w) x kept
+abbrev pub transversal_fits : ℤ → List (List ℕ) → Option KeptSplit → ℤ → List ℤ → Type 0
+transversal_fits w entries kept q x = IsSlotSplitIn entries (q *ℤ w) x kept

@@ -33,12 +33,7 @@ pub(crate) fn givers(x: &[i128], cap: i128, u: usize, to: &mut Set)
 }
 
 /// Keeps those places of a set that can lend to u where demands are split.
-pub(crate) fn keep_lenders(
-    alloc: Global,
-    kept: &KeptSplit,
-    u: usize,
-    to: &mut Set,
-) -> Result<(), Memory>
+fn keep_lenders(alloc: Global, kept: &KeptSplit, u: usize, to: &mut Set) -> Result<(), Memory>
     requires { AreOthers kept.now.demand.demands u to.old }
     ensures places { length to.new ≡ length to.old }
     ensures kept { OnOk result (AreKept (λ v. CanBeMet (exchanged kept.now.demand.demands u v (pos 1)) kept.now.demand.lists kept.now.demand.capacities) to.old to.new) }
@@ -53,7 +48,7 @@ pub(crate) fn keep_lenders(
 }
 
 /// Keeps those places of a set that can lend to u in a split, if there is one.
-fn keep_by_split(
+pub(crate) fn keep_by_split(
     alloc: Global,
     split: &Option<KeptSplit>,
     u: usize,

@@ -18,12 +18,11 @@ ghost use Rattle.sfm_matroid.specs.Forests.{graphic_rank};
 ghost use Rattle.sfm_matroid.specs.GraphicLaws.{graphic_value, graphic_size, graphic_start, graphic_basis, graphic-family, graphic-submodular, graphic-bounded, graphic-starts, graphic-starts_small};
 
 use crate::ends::Ends;
-use crate::exchange::moved_row;
 use crate::givers::{givers, keep_by_splits};
 use crate::growing::{grow, whole};
 use crate::number::{are_within, has_sum, product};
 use crate::room::least_left;
-use crate::splits::{EndSplits, end_splits};
+use crate::splits::{EndSplits, end_splits, move_splits};
 use crate::testing::{numbered, passes_end};
 use sfm_base::{Memory, Places, Set};
 use sfm_law::{Room, Term};
@@ -380,15 +379,14 @@ impl Term for Graphic {
     fn moved(
         &self,
         alloc: Global,
-        q: i128,
-        x: &[i128],
+        _q: i128,
+        _x: &[i128],
         note: &mut EndSplits,
         u: usize,
         v: usize,
         a: i128,
     ) -> Result<(), Memory> {
-        let y = moved_row(alloc, x, u, v, a)?;
-        *note = self.note_of(alloc, q, &y)?;
+        move_splits(alloc, &mut note.kept, u, v, a)?;
         Ok(())
     }
 }

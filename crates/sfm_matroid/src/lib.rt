@@ -4,7 +4,6 @@
 
 pub mod ends;
 pub mod entries;
-mod exchange;
 mod givers;
 pub mod graphic;
 mod growing;
@@ -20,7 +19,7 @@ pub mod transversal;
 pub use ends::Ends;
 pub use entries::Entries;
 pub use graphic::Graphic;
-pub use splits::EndSplits;
+pub use splits::{EndSplits, SlotSplit};
 pub use transversal::Transversal;
 
 #[cfg(test)]

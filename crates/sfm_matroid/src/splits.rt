@@ -1,12 +1,13 @@
 // The splits that are kept beside a base, for all searches at it: one in each test that tells bases. A base passes each test, so
-// there is a split in each.
-ghost use Rattle.std.specs.Prelude.{◌≡◌, ◌*◌, ℕ, ◌<◌, ◌≤◌, ◌^◌, length, replicate, pos, ◌≤ℤ◌, IfOk};
+// there is a split in each. An exchange changes two entries, and each split is brought up to it where it stands.
+ghost use Rattle.std.specs.Prelude.{◌≡◌, ◌≢◌, ◌*◌, ℕ, ◌<◌, ◌≤◌, ◌^◌, length, replicate, slice_index_or, pos, ◌≤ℤ◌, IfOk, OnOk, Some, None};
 ghost use Rattle.std.specs.List.{All};
 ghost use Rattle.sfm_assign.specs.Splits.{IsAmount, CanBeMet};
+ghost use Rattle.sfm_assign.specs.Lenders.{exchanged_in};
 ghost use Rattle.sfm_matroid.specs.Ends.{edges_of};
 ghost use Rattle.sfm_matroid.specs.Runs.{EndsBelow};
 ghost use Rattle.sfm_matroid.specs.Numbered.{end_lists, vertex_capacities};
-ghost use Rattle.sfm_matroid.specs.Notes.{IsSplitAt, AreSplits, IsSlotSplit};
+ghost use Rattle.sfm_matroid.specs.Notes.{IsSplitAt, AreSplits, IsSlotSplitIn, IsMovable, IsMoved};
 
 use crate::entries::Entries;
 use crate::matching::slot_demand;
@@ -19,6 +20,12 @@ use std::alloc::Global;
 #[derive(Drop)]
 pub struct EndSplits {
     pub kept: Vec<Option<KeptSplit>>,
+}
+
+/// The split over slots; None once memory was wanted while it was brought up to an exchange.
+#[derive(Drop)]
+pub struct SlotSplit {
+    pub kept: Option<KeptSplit>,
 }
 
 /// A split of demands that can be met.
@@ -89,7 +96,7 @@ pub(crate) fn slot_split(
     m: usize,
     x: &[i128],
     most: i128,
-) -> Result<KeptSplit, Memory>
+) -> Result<SlotSplit, Memory>
     requires few { length entries.now ≤ 256 }
     requires sized { length x.now ≡ length entries.now }
     requires amounts { All IsAmount x.now }
@@ -98,9 +105,68 @@ pub(crate) fn slot_split(
     requires few_slots { m ≤ 2 ^ 24 }
     requires below { All (All (λ v. v < m)) entries.now }
     requires met { CanBeMet x.now entries.now (replicate m most) }
-    ensures { IfOk result (IsSlotSplit entries.now most x.now) }
+    ensures { IfOk result (λ r. IsSlotSplitIn entries.now most x.now r.kept) }
 {
     let demand = slot_demand(alloc, entries, m, x, most)?;
     let kept = split_of(alloc, demand)?;
-    Ok(kept)
+    Ok(SlotSplit { kept: Some(kept) })
+}
+
+/// A split brought up to an exchange after which its demands can be met.
+fn split_after(
+    alloc: Global,
+    kept: KeptSplit,
+    u: usize,
+    v: usize,
+    a: i128,
+) -> Result<KeptSplit, Memory>
+    requires apart { u ≢ v }
+    requires low { pos 0 ≤ℤ a }
+    requires movable { IsMovable u v a kept.demand }
+    ensures { IfOk result (λ r. r.demand ≡ exchanged_in kept.demand u v a) }
+{
+    match kept.exchanged(alloc, u, v, a) {
+        Ok(kept) => Ok(kept),
+        Err(AssignEnd::Shortage { .. }) => unreachable!(),
+        Err(AssignEnd::Memory) => Err(Memory),
+    }
+}
+
+/// Brings a split up to an exchange, if there is one.
+pub(crate) fn move_split(
+    alloc: Global,
+    split: &mut Option<KeptSplit>,
+    u: usize,
+    v: usize,
+    a: i128,
+) -> Result<(), Memory>
+    requires apart { u ≢ v }
+    requires low { pos 0 ≤ℤ a }
+    requires movable { (kept : KeptSplit) → split.old ≡ Some kept → IsMovable u v a kept.demand }
+    ensures { OnOk result (IsMoved u v a split.old split.new) }
+{
+    if let Some(kept) = split.take() {
+        *split = Some(split_after(alloc, kept, u, v, a)?);
+    }
+    Ok(())
+}
+
+/// Brings each split that there is up to an exchange.
+pub(crate) fn move_splits(
+    alloc: Global,
+    splits: &mut [Option<KeptSplit>],
+    u: usize,
+    v: usize,
+    a: i128,
+) -> Result<(), Memory>
+    requires apart { u ≢ v }
+    requires low { pos 0 ≤ℤ a }
+    requires movable { (t : ℕ) (kept : KeptSplit) → t < length splits.old → slice_index_or splits.old t None ≡ Some kept → IsMovable u v a kept.demand }
+    ensures places { length splits.new ≡ length splits.old }
+    ensures moved { OnOk result ((t : ℕ) → t < length splits.old → IsMoved u v a (slice_index_or splits.old t None) (slice_index_or splits.new t None)) }
+{
+    for t in 0..splits.len() {
+        move_split(alloc, &mut splits[t], u, v, a)?;
+    }
+    Ok(())
 }

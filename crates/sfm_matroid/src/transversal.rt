@@ -14,14 +14,12 @@ ghost use Rattle.sfm_matroid.specs.Notes.{transversal_fits};
 ghost use Rattle.sfm_matroid.specs.TransversalLaws.{transversal_value, transversal_size, transversal_start, transversal-family, transversal-submodular, transversal-bounded, transversal-starts, transversal-starts_small};
 
 use crate::entries::Entries;
-use crate::exchange::moved_row;
-use crate::givers::{givers, keep_lenders};
+use crate::givers::{givers, keep_by_split};
 use crate::growing::whole;
 use crate::matching::{are_held, matched};
 use crate::number::{are_within, has_sum, product};
 use crate::slot_room::least_unheld;
-use crate::splits::slot_split;
-use sfm_assign::KeptSplit;
+use crate::splits::{SlotSplit, move_split, slot_split};
 use sfm_base::{Memory, Places, Set};
 use sfm_law::{Room, Term};
 use std::alloc::Global;
@@ -238,11 +236,11 @@ impl Transversal {
     /// # Errors
     ///
     /// `Memory` where there is none.
-    pub fn note_of(&self, alloc: Global, q: i128, x: &[i128]) -> Result<KeptSplit, Memory>
+    pub fn note_of(&self, alloc: Global, q: i128, x: &[i128]) -> Result<SlotSplit, Memory>
         requires factor { IsFactor q }
         requires entries { length x.now ≡ length self.now.places }
         requires base { IsBase (times q (transversal_value self.now.w self.now.entries)) x.now }
-        ensures { IfOk result (λ r. transversal_fits self.now.w self.now.entries r q x.now) }
+        ensures { IfOk result (λ r. transversal_fits self.now.w self.now.entries r.kept q x.now) }
     {
         let cap = product(q, self.w);
         let m = self.entries.above();
@@ -260,14 +258,14 @@ impl Transversal {
         alloc: Global,
         q: i128,
         x: &[i128],
-        note: &KeptSplit,
+        note: &SlotSplit,
         u: usize,
         to: &mut Set,
     ) -> Result<(), Memory>
         requires factor { IsFactor q }
         requires entries { length x.now ≡ length self.now.places }
         requires base { IsBase (times q (transversal_value self.now.w self.now.entries)) x.now }
-        requires noted { transversal_fits self.now.w self.now.entries note.now q x.now }
+        requires noted { transversal_fits self.now.w self.now.entries note.now.kept q x.now }
         requires from { u < length x.now }
         requires room_for_answer { length to.old ≡ length x.now }
         ensures places { length to.new ≡ length to.old }
@@ -275,13 +273,13 @@ impl Transversal {
     {
         let cap = product(q, self.w);
         givers(x, cap, u, to);
-        keep_lenders(alloc, note, u, to)?;
+        keep_by_split(alloc, &note.kept, u, to)?;
         Ok(())
     }
 }
 
 impl Term for Transversal {
-    type Note = KeptSplit;
+    type Note = SlotSplit;
 
     ghost places = { λ s. s.places };
 
@@ -291,7 +289,7 @@ impl Term for Transversal {
 
     ghost start_of = { λ s q. transversal_start q s.w s.entries };
 
-    ghost fits = { λ s note q x. transversal_fits s.w s.entries note q x };
+    ghost fits = { λ s note q x. transversal_fits s.w s.entries note.kept q x };
 
     ghost family = { λ s. transversal-family (length s.places) s.w s.entries s.same_count };
 
@@ -340,7 +338,7 @@ impl Term for Transversal {
         self.reach_of(alloc, q, x, &note, u, to)
     }
 
-    fn note(&self, alloc: Global, q: i128, x: &[i128]) -> Result<KeptSplit, Memory> {
+    fn note(&self, alloc: Global, q: i128, x: &[i128]) -> Result<SlotSplit, Memory> {
         self.note_of(alloc, q, x)
     }
 
@@ -349,7 +347,7 @@ impl Term for Transversal {
         alloc: Global,
         q: i128,
         x: &[i128],
-        note: &KeptSplit,
+        note: &SlotSplit,
         u: usize,
         to: &mut Set,
     ) -> Result<(), Memory> {
@@ -359,15 +357,14 @@ impl Term for Transversal {
     fn moved(
         &self,
         alloc: Global,
-        q: i128,
-        x: &[i128],
-        note: &mut KeptSplit,
+        _q: i128,
+        _x: &[i128],
+        note: &mut SlotSplit,
         u: usize,
         v: usize,
         a: i128,
     ) -> Result<(), Memory> {
-        let y = moved_row(alloc, x, u, v, a)?;
-        *note = self.note_of(alloc, q, &y)?;
+        move_split(alloc, &mut note.kept, u, v, a)?;
         Ok(())
     }
 }

@@ -1,27 +1,35 @@
-use Rattle.std.proofs.Common.{◌∙◌, FitsSigned}
+use Rattle.std.proofs.Common.{◌*ℤ◌, ◌∙◌, length, FitsSigned}
 use Rattle.std.proofs.lemmas.Int.{to_z-of_z}
 use mir.Syntax.{w128}
+use Rattle.sfm_spec.specs.Terms.{exchanged}
 use Rattle.sfm_spec.proofs.Sums.{length-exchanged}
 use Rattle.sfm_law.proofs.Rooms.{base_within_room}
+use Rattle.sfm_matroid.proofs.Fits.{product_low, product_high, within_amounts}
+use Rattle.sfm_matroid.proofs.TransversalBases.{base_within_cap, base_split}
+use Rattle.sfm_matroid.proofs.Noted.{slots_movable, slots_moved, slot_known}
 use Rattle.sfm_matroid.proofs.transversal.TransversalTerm.moved.Goals as goal
 
-pub note_of-requires-clause-entries : goal.note_of-requires-clause-entries
-note_of-requires-clause-entries c =
-    let fa : FitsSigned w128 c.args.a = c.ranges.a in
-    let y = c.deref.ensures.value ∙ simp to_z-of_z at c.in_ok-y.ensures in
-    rw y (length-exchanged c.args.x.now c.args.u c.args.v c.args.a ∙ c.requires.entries)
-
-pub note_of-requires-clause-base : goal.note_of-requires-clause-base
-note_of-requires-clause-base c =
+pub move_split-requires-clause-movable : goal.move_split-requires-clause-movable
+move_split-requires-clause-movable c =
     let r = c.requires in
-    let fq : FitsSigned w128 c.args.q = c.ranges.q in
-    let fa : FitsSigned w128 c.args.a = c.ranges.a in
-    let y = c.deref.ensures.value ∙ simp to_z-of_z at c.in_ok-y.ensures in
-    rw y (simp to_z-of_z (base_within_room c.args.a r.base r.from r.onto r.apart r.low r.room))
+    let s = c.args.self.now in
+    let q = c.args._q in
+    let x = c.args._x.now in
+    let u = c.args.u in
+    let v = c.args.v in
+    let a = c.args.a in
+    let fa : FitsSigned w128 a = c.ranges.a in
+    let y = exchanged x u v a in
+    let base = base_within_room a r.base r.from r.onto r.apart r.low r.room in
+    let sized = length-exchanged x u v a ∙ r.entries in
+    let low = product_low q s.w r.factor s.low in
+    let (k, is, n) = slot_known s.entries (q *ℤ s.w) x c.args.note.now.kept r.noted in
+    let amounts = within_amounts y (q *ℤ s.w) (product_high q s.w r.factor s.given) (base_within_cap (length s.places) q s.w s.entries n.m n.below s.same_count low y sized base) in
+    simp to_z-of_z (slots_movable u v a x r.from r.onto amounts s.entries (q *ℤ s.w) c.args.note.now.kept r.noted (λ m below. base_split (length s.places) q s.w s.entries m below s.same_count low y sized base))
 
 pub returns : goal.returns
 returns c =
-    let fq : FitsSigned w128 c.args.q = c.ranges.q in
+    let r = c.requires in
+    let s = c.args.self.now in
     let fa : FitsSigned w128 c.args.a = c.ranges.a in
-    let y = c.deref.ensures.value ∙ simp to_z-of_z at c.in_ok-y.ensures in
-    simp to_z-of_z at (rw y at c.in_ok-note.ensures)
+    slots_moved c.args.u c.args.v c.args.a s.entries (c.args._q *ℤ s.w) c.args._x.now c.args.note.now.kept c.move_split.new.split r.noted (simp to_z-of_z at c.in_ok-move_split.ensures)
