@@ -13,15 +13,25 @@ pub(crate) struct Cells {
     pub slots: Vec<usize>,
 }
 
+/// How many cells lists have, to set aside room for them.
+fn count(lists: &[Slots]) -> usize {
+    let mut count: usize = 0;
+    for list in lists {
+        count = count.saturating_add(list.as_slice().len());
+    }
+    count
+}
+
 impl Cells {
     /// The cells of the lists.
     pub(crate) fn of(alloc: Global, lists: &[Slots]) -> Result<Cells, Memory>
         ensures whos { IfOk result (λ r. r.whos.items ≡ owners 0 lists.now) }
         ensures slots { IfOk result (λ r. r.slots.items ≡ joined lists.now) }
     {
+        let count = count(lists);
         let mut cells = Cells {
-            whos: Vec::new(alloc),
-            slots: Vec::new(alloc),
+            whos: Vec::with_capacity(alloc, count)?,
+            slots: Vec::with_capacity(alloc, count)?,
         };
         for (i, list) in lists.iter().enumerate() {
             cells.add(i, list.as_slice())?;

@@ -68,7 +68,7 @@ fn root(lack: i128) -> Option<Node>
 fn roots(alloc: Global, lacks: &[i128]) -> Result<Vec<Option<Node>>, Memory>
     ensures { IfOk result (λ r. AreRootsOf lacks.now r.items) }
 {
-    let mut nodes = Vec::new(alloc);
+    let mut nodes = Vec::with_capacity(alloc, lacks.len())?;
     for lack in lacks {
         nodes.push(root(*lack))?;
     }
@@ -79,10 +79,7 @@ fn roots(alloc: Global, lacks: &[i128]) -> Result<Vec<Option<Node>>, Memory>
 fn unmarked(alloc: Global, m: usize) -> Result<Vec<Option<usize>>, Memory>
     ensures { IfOk result (λ marks. marks.items ≡ replicate m None) }
 {
-    let mut marks = Vec::new(alloc);
-    for _ in 0..m {
-        marks.push(None)?;
-    }
+    let marks = vec![in alloc; None; m]?;
     Ok(marks)
 }
 

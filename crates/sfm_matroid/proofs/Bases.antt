@@ -85,7 +85,7 @@ module _ (k n : ℕ) (q w : ℤ) (low : pos 0 ≤ℤ (q *ℤ w)) (IsIndependent 
       pub record IsLeastRoom (a : ℤ) : Type 0 where
         pub under_v : a ≤ℤ get_or x v (pos 0)
         pub under_cap : a ≤ℤ ((q *ℤ w) -ℤ get_or x u (pos 0))
-        pub under_most : (t : ℕ) → t < n → (r : ℤ) × IsMostAt t r × (a ≤ℤ (r -ℤ get_or x u (pos 0)))
+        pub under_most : (t : ℕ) → t < n → (r : ℤ) × Meets t (raised r) × (a ≤ℤ (r -ℤ get_or x u (pos 0)))
         pub reached : (a ≡ get_or x v (pos 0)) ⊎ ((a ≡ ((q *ℤ w) -ℤ get_or x u (pos 0))) ⊎ ((t : ℕ) × (t < n) × (r : ℤ) × IsMostAt t r × (a ≡ (r -ℤ get_or x u (pos 0)))))
 
       pub raised-places : (r : ℤ) → length (raised r) ≡ k
@@ -180,7 +180,7 @@ module _ (k n : ℕ) (q w : ℤ) (low : pos 0 ≤ℤ (q *ℤ w)) (IsIndependent 
           let under = least.under_cap in
           let pass : PassesTests (raised r) = record {
             capped = λ e h. by_place r (λ e y. e < k → y ≤ℤ (q *ℤ w)) (λ l. omega (arith, ints, under)) (λ l. low) (λ e eu ev l. passes.capped e l) e h;
-            met = λ t lt. let (b, most, le) = least.under_most t lt in lower t r b lt (omega (arith, ints, la, cu)) (omega (arith, ints, le)) most.reached;
+            met = λ t lt. let (b, met, le) = least.under_most t lt in lower t r b lt (omega (arith, ints, la, cu)) (omega (arith, ints, le)) met;
           } in
           let w' = tests.enough (raised r) (raised-places r) (raised-counts r (omega (arith, ints, la, cu))) pass s ks in
           let e = sum-raised s a ks hu ov in

@@ -1,13 +1,14 @@
 -- How much can be exchanged at a base of a graphic term: by the most that an edge gets in each test, without
 -- another edge; and to whom an edge has room, by those that can lend to it in each test.
-use Rattle.std.proofs.Common.{◌≡◌, ◌≢◌, ◌↔◌, Option, ℕ, ◌*◌, ◌<◌, Bool, List, [], length, get_or, set, ℤ, pos, ◌-ℤ◌, ◌*ℤ◌, ◌≤ℤ◌, sym, ◌∙◌, arith, inl, inr, ⊎_elim}
+use Rattle.std.proofs.Common.{◌≡◌, ◌≢◌, ◌↔◌, Option, ℕ, ◌*◌, ◌<◌, Bool, List, [], length, get_or, set, ℤ, pos, ◌-ℤ◌, ◌*ℤ◌, ◌≤ℤ◌, refl, sym, ◌∙◌, arith, inl, inr, ⊎_elim}
 use Rattle.std.proofs.lemmas.Int.{ints, by_lt_z}
 use Rattle.sfm_spec.specs.Terms.{times, IsBase, IsCapacity, HasRoom, exchanged}
 use Rattle.sfm_spec.specs.Kinds.{Edge, IsForest}
 use Rattle.sfm_assign.specs.Splits.{CanBeMet}
 use Rattle.sfm_matroid.specs.Cuts.{IsWithinEnds}
 use Rattle.sfm_matroid.specs.Ends.{edges_of}
-use Rattle.sfm_matroid.specs.Numbered.{numbered, length-numbered, numbered_below, end_lists, vertex_capacities}
+use Rattle.sfm_matroid.specs.Numbered.{IsEnd, numbered, length-numbered, numbered_below, end_lists, vertex_capacities}
+use Rattle.sfm_matroid.specs.Runs.{edge_at}
 use Rattle.sfm_matroid.specs.Forests.{graphic_rank, forest-matroid, graphic-ranks}
 use Rattle.sfm_matroid.specs.GraphicLaws.{graphic_value}
 use Rattle.sfm_matroid.proofs.Bases.{IsMostAt, raised-places, raised-counts, met_nothing, least_capacity, base_counts, given-counts, gives_room, room_gives}
@@ -15,7 +16,7 @@ use Rattle.sfm_matroid.proofs.GraphicBases.{as_many, base_tests}
 use Rattle.sfm_spec.specs.Sets.{Has}
 use Rattle.sfm_law.specs.Room.{IsReach}
 use Rattle.sfm_matroid.proofs.Keeping.{reach_kept}
-use Rattle.sfm_matroid.proofs.UsedEnds.{within_all}
+use Rattle.sfm_matroid.proofs.UsedEnds.{end_or_not, within_out, within_all}
 use Rattle.sfm_matroid.proofs.MatroidTests.{numbered_tests}
 use Rattle.sfm_matroid.proofs.SplitTests.{split_within_ends, within_ends_split}
 use Rattle.sfm_matroid.specs.Leasts.{IsLeastOf, IsMostOf}
@@ -60,13 +61,28 @@ module _ (k : ℕ) (q w : ℤ) (edges : List Edge) (same : length edges ≡ k) (
   }
 
   -- the room of (u, v)
-  pub room_capacity : (a : ℤ) → IsLeastOf (IsMostOf (numbered edges) (2 * length edges) (q *ℤ w) (set x v (pos 0)) u) (get_or x v (pos 0)) ((q *ℤ w) -ℤ get_or x u (pos 0)) (get_or x u (pos 0)) (2 * length edges) a → IsCapacity (times q (graphic_value w edges)) x u v a
+  pub room_capacity : (a : ℤ) → IsLeastOf (IsEnd (numbered edges)) (IsMostOf (numbered edges) (2 * length edges) (q *ℤ w) (set x v (pos 0)) u) (get_or x v (pos 0)) ((q *ℤ w) -ℤ get_or x u (pos 0)) (get_or x u (pos 0)) (2 * length edges) a → IsCapacity (times q (graphic_value w edges)) x u v a
   room_capacity a least = least_capacity (length edges) (2 * length edges) q w low (IsForest edges) (graphic_rank edges) (forest-matroid edges) (graphic-ranks edges) (λ a x. IsWithinEnds (numbered edges) (2 * length edges) (q *ℤ w) x a) (numbered_tests edges q w low) x sized base u v ku kv ne a (record {
     under_v = least.under_first;
     under_cap = least.under_second;
-    under_most = λ t lt. let (r, most, le) = least.under_each t lt in (r, most_at t lt r most, le);
+    under_most = λ t lt. ⊎_elim (λ end. at_end t lt end) (λ none. let (r, met, le) = at_end first first_below first_end in (r, within_out (numbered edges) (2 * length edges) (q *ℤ w) (with_u r) low t first none met, le)) (end_or_not (numbered edges) t);
     reached = ⊎_elim (λ e. inl e) (λ rest. ⊎_elim (λ e. inr (inl e)) (λ (t, lt, r, most, e). inr (inr (t, lt, r, most_at t lt r most, e))) rest) least.reached;
-  })
+  }) where
+    -- an end: there is an edge
+    first : ℕ
+    first = (edge_at (numbered edges) 0).tail
+
+    some : 0 < length (numbered edges)
+    some = let h = ku in let l = length-numbered edges [] in omega (arith, h, l)
+
+    first_below : (edge_at (numbered edges) 0).tail < 2 * length edges
+    first_below = (numbered_below edges [] 0 some).0
+
+    first_end : IsEnd (numbered edges) (edge_at (numbered edges) 0).tail
+    first_end = (0, some, inl refl)
+
+    at_end : (t : ℕ) → t < 2 * length edges → IsEnd (numbered edges) t → (r : ℤ) × IsWithinEnds (numbered edges) (2 * length edges) (q *ℤ w) (with_u r) t × (a ≤ℤ (r -ℤ get_or x u (pos 0)))
+    at_end t lt end = let (r, most, le) = least.under_each t lt end in (r, (most_at t lt r most).reached, le)
 
   exchanged-places : length (exchanged x u v (pos 1)) ≡ length (numbered edges)
   exchanged-places = length-exchanged x u v (pos 1) ∙ (sized ∙ sym (length-numbered edges []))
@@ -103,7 +119,7 @@ module _ (edges : List Edge) (items : List (ℕ × ℕ)) (are : edges_of items �
   pub others_kept : ((t : ℕ) → t < 2 * length edges → CanBeMet x (end_lists (numbered edges)) (vertex_capacities (2 * length edges) c t)) → (t : ℕ) → t < 2 * length given → CanBeMet x (end_lists (edges_of given)) (vertex_capacities (2 * length given) c t)
   others_kept h = rw (is, are, as_many edges items are) h
 
-  pub least_kept : (u : ℕ) (first second less a : ℤ) → IsLeastOf (IsMostOf (edges_of given) (2 * length given) c x u) first second less (2 * length given) a → IsLeastOf (IsMostOf (numbered edges) (2 * length edges) c x u) first second less (2 * length edges) a
+  pub least_kept : (u : ℕ) (first second less a : ℤ) → IsLeastOf (IsEnd (edges_of given)) (IsMostOf (edges_of given) (2 * length given) c x u) first second less (2 * length given) a → IsLeastOf (IsEnd (numbered edges)) (IsMostOf (numbered edges) (2 * length edges) c x u) first second less (2 * length edges) a
   least_kept u first second less a h = rw (is, are, as_many edges items are) at h
 
   pub splits_kept : (splits : List (Option KeptSplit)) → AreSplits (edges_of given) (2 * length given) c x splits → AreSplits (numbered edges) (2 * length edges) c x splits

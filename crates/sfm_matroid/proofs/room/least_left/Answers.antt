@@ -4,9 +4,10 @@ use Rattle.std.proofs.lemmas.List.Elements.{All-get_or}
 use mir.Syntax.{w128}
 use Rattle.sfm_assign.specs.Splits.{IsAmount}
 use Rattle.sfm_matroid.specs.Ends.{edges_of}
+use Rattle.sfm_matroid.specs.Numbered.{IsEnd}
 use Rattle.sfm_matroid.specs.Leasts.{IsMostOf}
-use Rattle.sfm_matroid.proofs.Fits.{amount_fits, left_fits, most_left_fits, without_amounts}
-use Rattle.sfm_matroid.proofs.LeastSteps.{least_start, least_next, least_all}
+use Rattle.sfm_matroid.proofs.Fits.{amount_fits, left_fits, without_amounts}
+use Rattle.sfm_matroid.proofs.LeastSteps.{least_start, least_lesser, least_all}
 use Rattle.sfm_matroid.proofs.room.least_left.Goals as goal
 
 pub overflow_sub-cap : goal.overflow_sub-cap
@@ -32,23 +33,22 @@ loop-t-init c =
     let fd : FitsSigned w128 (cap -ℤ get_or x u (pos 0)) = left_fits _ _ r.low r.high a in
     let fm : FitsSigned w128 c.min-least.result = search rules in
     let m = simp to_z-of_z at c.min-least.ensures.value in
-    simp to_z-of_z (least_start (IsMostOf (edges_of ends) (2 * length ends) cap (set x v (pos 0)) u) (get_or x v (pos 0)) (cap -ℤ get_or x u (pos 0)) (get_or x u (pos 0)) c.min-least.result m)
+    simp to_z-of_z (least_start (IsEnd (edges_of ends)) (IsMostOf (edges_of ends) (2 * length ends) cap (set x v (pos 0)) u) (get_or x v (pos 0)) (cap -ℤ get_or x u (pos 0)) (get_or x u (pos 0)) c.min-least.result m)
 
-pub most_at-requires-clause-amounts : goal.most_at-requires-clause-amounts
-most_at-requires-clause-amounts c = rw (c.deref.ensures.value, c.in_ok-rest.ensures) (without_amounts c.args.x.now c.args.v c.requires.amounts)
+pub lesser_at-requires-clause-amounts : goal.lesser_at-requires-clause-amounts
+lesser_at-requires-clause-amounts c = rw (c.deref.ensures.value, c.in_ok-rest.ensures) (without_amounts c.args.x.now c.args.v c.requires.amounts)
 
-pub most_at-requires-clause-others : goal.most_at-requires-clause-others
-most_at-requires-clause-others c =
+pub lesser_at-requires-clause-others : goal.lesser_at-requires-clause-others
+lesser_at-requires-clause-others c =
     let fc : FitsSigned w128 c.args.cap = c.ranges.cap in
     rw (c.deref.ensures.value, c.in_ok-rest.ensures) (simp to_z-of_z (c.requires.others c.loop-t.t (omega (arith, c.loop-t-test.true))))
 
-pub overflow_sub-most : goal.overflow_sub-most
-overflow_sub-most c =
+pub lesser_at-requires-clause-has : goal.lesser_at-requires-clause-has
+lesser_at-requires-clause-has c =
     let r = c.requires in
     let a : IsAmount (get_or c.args.x.now c.args.u (pos 0)) = All-get_or IsAmount c.args.x.now c.args.u (pos 0) r.from r.amounts in
     let fa : FitsSigned w128 (get_or c.args.x.now c.args.u (pos 0)) = amount_fits _ a in
-    let fm : FitsSigned w128 c.in_ok-most.most = search rules in
-    simp to_z-of_z (most_left_fits _ _ fm c.in_ok-most.ensures.low a)
+    simp to_z-of_z a
 
 pub loop-t-preserved : goal.loop-t-preserved
 loop-t-preserved c =
@@ -61,13 +61,10 @@ loop-t-preserved c =
     let a : IsAmount (get_or x u (pos 0)) = All-get_or IsAmount x u (pos 0) r.from r.amounts in
     let fc : FitsSigned w128 cap = c.ranges.cap in
     let fa : FitsSigned w128 (get_or x u (pos 0)) = amount_fits _ a in
-    let fm : FitsSigned w128 c.in_ok-most.most = search rules in
-    let fd : FitsSigned w128 (c.in_ok-most.most -ℤ get_or x u (pos 0)) = most_left_fits _ _ fm c.in_ok-most.ensures.low a in
-    let fr : FitsSigned w128 c.min-least-in-loop-t.result = search rules in
-    let most = simp to_z-of_z at (rw (c.deref.ensures.value, c.in_ok-rest.ensures) at c.in_ok-most.ensures.most) in
-    let m = simp to_z-of_z at c.min-least-in-loop-t.ensures.value in
+    let fr : FitsSigned w128 c.in_ok-least.least = search rules in
     let inv = simp to_z-of_z at c.loop-t.invariant in
-    simp to_z-of_z (least_next (IsMostOf (edges_of ends) (2 * length ends) cap (set x v (pos 0)) u) (get_or x v (pos 0)) (cap -ℤ get_or x u (pos 0)) (get_or x u (pos 0)) c.loop-t.t _ c.min-least-in-loop-t.result c.in_ok-most.most inv most m)
+    let lesser = simp to_z-of_z at (rw (c.deref.ensures.value, c.in_ok-rest.ensures) at c.in_ok-least.ensures) in
+    simp to_z-of_z (least_lesser (IsEnd (edges_of ends)) (IsMostOf (edges_of ends) (2 * length ends) cap (set x v (pos 0)) u) (get_or x v (pos 0)) (cap -ℤ get_or x u (pos 0)) (get_or x u (pos 0)) c.loop-t.t _ c.in_ok-least.least inv lesser)
 
 pub returns : goal.returns
 returns c =
@@ -77,4 +74,4 @@ returns c =
     let cap = c.args.cap in
     let fc : FitsSigned w128 cap = c.ranges.cap in
     let inv = simp to_z-of_z at c.loop-t.invariant in
-    least_all (IsMostOf (edges_of ends) (2 * length ends) cap (set x c.args.v (pos 0)) u) (get_or x c.args.v (pos 0)) (cap -ℤ get_or x u (pos 0)) (get_or x u (pos 0)) c.loop-t.t (2 * length ends) _ inv (omega (arith, c.loop-t-test.false, c.loop-t.auto.t-end))
+    least_all (IsEnd (edges_of ends)) (IsMostOf (edges_of ends) (2 * length ends) cap (set x c.args.v (pos 0)) u) (get_or x c.args.v (pos 0)) (cap -ℤ get_or x u (pos 0)) (get_or x u (pos 0)) c.loop-t.t (2 * length ends) _ inv (omega (arith, c.loop-t-test.false, c.loop-t.auto.t-end))
