@@ -51,20 +51,20 @@ impl Model for Demand {
 }
 
 impl Demand {
-    /// No demands, over slots with these capacities, which are copied.
+    /// No demands, with memory set aside for some, over slots with these capacities, which are copied.
     ///
     /// # Errors
     ///
     /// `Memory` where there is none.
-    pub fn new(alloc: Global, capacities: &[i128]) -> Result<Demand, Memory>
+    pub fn new(alloc: Global, some: usize, capacities: &[i128]) -> Result<Demand, Memory>
         requires few { length capacities.now ≤ 2 ^ 24 }
         requires bounded { All IsCapacity capacities.now }
         ensures { IfOk result (λ r. r ≡ record { demands = []; lists = []; capacities = capacities.now }) }
     {
         let capacities = Vec::from_slice(alloc, capacities)?;
         Ok(Demand {
-            demands: Vec::new(alloc),
-            lists: Vec::new(alloc),
+            demands: Vec::with_capacity(alloc, some)?,
+            lists: Vec::with_capacity(alloc, some)?,
             capacities,
         })
     }

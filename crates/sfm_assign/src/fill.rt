@@ -9,7 +9,7 @@ ghost use Rattle.sfm_assign.specs.Search.{AreNodes, IsEnd, IsRaised, GetsMore, I
 
 use crate::augment::augment;
 use crate::cells::Cells;
-use crate::left::left_of;
+use crate::left::{first_lacking, left_of};
 use crate::nodes::{Node, flow_of, found_set};
 use crate::pour::pour;
 use crate::search::search;
@@ -48,6 +48,10 @@ fn step(
     ensures end { IfOk result (λ end. MatchOption end (total_of y.old <ℤ total_of y.new) (IsFilled demands.now capacities.now cells.now.whos.items cells.now.slots.items y.new)) }
 {
     let lacks = left_of(alloc, demands, &cells.whos, y)?;
+    if first_lacking(&lacks).is_none() {
+        let nobody = Set::empty(alloc, demands.len())?;
+        return Ok(Some(nobody));
+    }
     let rooms = left_of(alloc, capacities, &cells.slots, y)?;
     let found = search(alloc, cells, y, &lacks, &rooms)?;
     if let Some(last) = found.last {

@@ -1,5 +1,5 @@
 // What is left of demands or of capacities once the amounts on the cells are taken off.
-ghost use Rattle.std.specs.Prelude.{◌≡◌, ℕ, ◌<◌, length, pos, ◌≤ℤ◌, IfOk};
+ghost use Rattle.std.specs.Prelude.{◌≡◌, ℕ, ◌<◌, length, pos, ◌≤ℤ◌, ◌<ℤ◌, IfOk, MatchOption};
 ghost use Rattle.sfm_assign.specs.Splits.{sum_at, amount_at};
 ghost use Rattle.sfm_assign.specs.Cells.{label_at};
 ghost use Rattle.sfm_assign.specs.Search.{AreLeft};
@@ -25,4 +25,16 @@ pub(crate) fn left_of(
         left[labels[e]] -= y[e];
     }
     Ok(left)
+}
+
+/// The first demand that lacks something.
+pub(crate) fn first_lacking(lacks: &[i128]) -> Option<usize>
+    ensures { MatchOption result ((i : ℕ) → i < length lacks.now → amount_at lacks.now i ≤ℤ pos 0) (λ i. (i < length lacks.now) × (pos 0 <ℤ amount_at lacks.now i)) }
+{
+    for (i, a) in lacks.iter().enumerate() {
+        if *a > 0 {
+            return Some(i);
+        }
+    }
+    None
 }

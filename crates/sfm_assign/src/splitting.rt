@@ -8,7 +8,7 @@ ghost use Rattle.sfm_assign.specs.Ends.{IsAssignEnd};
 use crate::cells::Cells;
 use crate::demand::Demand;
 use crate::fill::fill;
-use crate::left::left_of;
+use crate::left::{first_lacking, left_of};
 use crate::split::Split;
 use sfm_base::{Memory, Set};
 use std::alloc::Global;
@@ -30,18 +30,6 @@ impl From<Memory> for AssignEnd {
     fn from(_: Memory) -> Self {
         AssignEnd::Memory
     }
-}
-
-/// The first demand that lacks something.
-fn first_lacking(lacks: &[i128]) -> Option<usize>
-    ensures { MatchOption result ((i : ℕ) → i < length lacks.now → amount_at lacks.now i ≤ℤ pos 0) (λ i. (i < length lacks.now) × (pos 0 <ℤ amount_at lacks.now i)) }
-{
-    for (i, a) in lacks.iter().enumerate() {
-        if *a > 0 {
-            return Some(i);
-        }
-    }
-    None
 }
 
 /// A demand that does not get what it asks for.

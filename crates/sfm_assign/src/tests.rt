@@ -11,7 +11,7 @@ use std::test::Fail;
 fn demands(alloc: Global, both: u8, first: u8, second: u8) -> Result<Demand, Memory>
     ensures { IfOk result (λ d. d.demands ≡ pos both ∷ pos first ∷ pos second ∷ []) }
 {
-    let mut demand = Demand::new(alloc, &[3, 2])?;
+    let mut demand = Demand::new(alloc, 3, &[3, 2])?;
     demand.push(i128::from(both), vec![in alloc; 0, 1]?)?;
     demand.push(i128::from(first), vec![in alloc; 0]?)?;
     demand.push(i128::from(second), vec![in alloc; 0]?)?;
@@ -55,7 +55,7 @@ fn two_ask_for_too_much(rt: HostRuntime) -> Result<(), Fail> {
 fn one_slot(alloc: Global, first: u8, second: u8) -> Result<Demand, Memory>
     ensures { IfOk result (λ d. d.demands ≡ pos first ∷ pos second ∷ []) }
 {
-    let mut demand = Demand::new(alloc, &[3])?;
+    let mut demand = Demand::new(alloc, 2, &[3])?;
     demand.push(i128::from(first), vec![in alloc; 0]?)?;
     demand.push(i128::from(second), vec![in alloc; 0]?)?;
     Ok(demand)
@@ -154,7 +154,7 @@ fn keeps_no_split_of_too_much(rt: HostRuntime) -> Result<(), Fail> {
 fn in_a_row(alloc: Global) -> Result<Demand, Memory>
     ensures { IfOk result (λ d. d.demands ≡ pos 0 ∷ pos 1 ∷ pos 1 ∷ pos 1 ∷ []) }
 {
-    let mut demand = Demand::new(alloc, &[1, 1, 1])?;
+    let mut demand = Demand::new(alloc, 4, &[1, 1, 1])?;
     demand.push(0, vec![in alloc; 0]?)?;
     demand.push(1, vec![in alloc; 0, 1]?)?;
     demand.push(1, vec![in alloc; 1]?)?;

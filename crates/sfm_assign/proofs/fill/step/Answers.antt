@@ -7,8 +7,8 @@ raise-requires-clause-tree c = rw c.deref-in-Some.ensures.value c.in_ok-found.en
 pub returns-in-Some-clause-part : goal.returns-in-Some-clause-part
 returns-in-Some-clause-part c =
     let ll = rw c.deref.ensures.value at c.in_ok-lacks.ensures in
-    let lr = rw c.deref-2.ensures.value at c.in_ok-rooms.ensures in
-    let s = rw (c.deref-3.ensures.value, c.deref-4.ensures.value) at c.in_ok-found.ensures in
+    let lr = rw c.deref-3.ensures.value at c.in_ok-rooms.ensures in
+    let s = rw (c.deref-4.ensures.value, c.deref-5.ensures.value) at c.in_ok-found.ensures in
     let end = rw c.in-Some.is at s.ended in
     let (a, some, fits, r) = rw (c.deref-in-Some.ensures.value, c.deref-in-Some-2.ensures.value) at c.raise.ensures in
     raised_part c.args.demands.now c.args.capacities.now c.args.cells.now.whos.items c.args.cells.now.slots.items c.args.y.now c.in_ok-lacks.lacks.items c.in_ok-rooms.rooms.items c.in_ok-found.found.nodes.items c.in-Some.last a c.raise.new.y c.requires.cells c.requires.part ll lr s.places s.roots end.cell some fits r
@@ -16,8 +16,8 @@ returns-in-Some-clause-part c =
 pub returns-in-Some-clause-more : goal.returns-in-Some-clause-more
 returns-in-Some-clause-more c =
     let ll = rw c.deref.ensures.value at c.in_ok-lacks.ensures in
-    let lr = rw c.deref-2.ensures.value at c.in_ok-rooms.ensures in
-    let s = rw (c.deref-3.ensures.value, c.deref-4.ensures.value) at c.in_ok-found.ensures in
+    let lr = rw c.deref-3.ensures.value at c.in_ok-rooms.ensures in
+    let s = rw (c.deref-4.ensures.value, c.deref-5.ensures.value) at c.in_ok-found.ensures in
     let end = rw c.in-Some.is at s.ended in
     let (a, some, fits, r) = rw (c.deref-in-Some.ensures.value, c.deref-in-Some-2.ensures.value) at c.raise.ensures in
     raised_more c.args.demands.now c.args.capacities.now c.args.cells.now.whos.items c.args.cells.now.slots.items c.args.y.now c.in_ok-lacks.lacks.items c.in_ok-rooms.rooms.items c.in_ok-found.found.nodes.items c.in-Some.last a c.raise.new.y c.requires.cells c.requires.part ll lr s.places s.roots end.cell some fits r
@@ -25,8 +25,8 @@ returns-in-Some-clause-more c =
 pub returns-in-Some-clause-end : goal.returns-in-Some-clause-end
 returns-in-Some-clause-end c =
     let ll = rw c.deref.ensures.value at c.in_ok-lacks.ensures in
-    let lr = rw c.deref-2.ensures.value at c.in_ok-rooms.ensures in
-    let s = rw (c.deref-3.ensures.value, c.deref-4.ensures.value) at c.in_ok-found.ensures in
+    let lr = rw c.deref-3.ensures.value at c.in_ok-rooms.ensures in
+    let s = rw (c.deref-4.ensures.value, c.deref-5.ensures.value) at c.in_ok-found.ensures in
     let end = rw c.in-Some.is at s.ended in
     let (a, some, fits, r) = rw (c.deref-in-Some.ensures.value, c.deref-in-Some-2.ensures.value) at c.raise.ensures in
     raised_total c.args.demands.now c.args.capacities.now c.args.cells.now.whos.items c.args.cells.now.slots.items c.args.y.now c.in_ok-lacks.lacks.items c.in_ok-rooms.rooms.items c.in_ok-found.found.nodes.items c.in-Some.last a c.raise.new.y c.requires.cells c.requires.part ll lr s.places s.roots end.cell some fits r
@@ -34,7 +34,7 @@ returns-in-Some-clause-end c =
 pub returns-clause-end : goal.returns-clause-end
 returns-clause-end c =
     let ll = rw c.deref.ensures.value at c.in_ok-lacks.ensures in
-    let lr = rw c.deref-2.ensures.value at c.in_ok-rooms.ensures in
-    let s = rw (c.deref-3.ensures.value, c.deref-4.ensures.value) at c.in_ok-found.ensures in
+    let lr = rw c.deref-3.ensures.value at c.in_ok-rooms.ensures in
+    let s = rw (c.deref-4.ensures.value, c.deref-5.ensures.value) at c.in_ok-found.ensures in
     let stuck = rw c.in_default.is at s.ended in
-    stuck_filled c.args.demands.now c.args.capacities.now c.args.cells.now.whos.items c.args.cells.now.slots.items c.args.y.now c.in_ok-lacks.lacks.items c.in_ok-rooms.rooms.items c.in_ok-found.found.nodes.items c.in_ok-set.set c.requires.cells c.requires.part ll lr s.places s.begins stuck (rw c.deref-5.ensures.value at c.in_ok-set.ensures)
+    stuck_filled c.args.demands.now c.args.capacities.now c.args.cells.now.whos.items c.args.cells.now.slots.items c.args.y.now c.in_ok-lacks.lacks.items c.in_ok-rooms.rooms.items c.in_ok-found.found.nodes.items c.in_ok-set.set c.requires.cells c.requires.part ll lr s.places s.begins stuck (rw c.deref-6.ensures.value at c.in_ok-set.ensures)
