@@ -1,14 +1,14 @@
 -- Who can lend, by one search from a demand as if it lacked one while all demands are met.
-use Rattle.std.proofs.Common.{◌≡◌, ◌≢◌, Option, Some, None, MatchOption, ℕ, ◌<◌, Bool, false, List, length, get_or, ℤ, pos, ◌+ℤ◌, ◌-ℤ◌, ◌≤ℤ◌, refl, sym, ap, ◌∙◌, arith, ⊎_elim, length-set, get_or-set_other, get_or-set_same}
+use Rattle.std.proofs.Common.{◌≡◌, ◌≢◌, Option, Some, None, MatchOption, ℕ, ◌<◌, Bool, false, List, length, get_or, set, replicate, ℤ, pos, ◌+ℤ◌, ◌-ℤ◌, ◌≤ℤ◌, refl, sym, ap, ◌∙◌, arith, ⊎_elim, length-set, get_or-set_other, get_or-set_same}
 use Rattle.std.proofs.lemmas.Int.{ints}
 use Rattle.std.proofs.lemmas.Bool.{cases_eq, cases_Bool}
-use Rattle.std.proofs.lemmas.List.{set-get_or}
+use Rattle.std.proofs.lemmas.List.{set-get_or, length-replicate, get_or-replicate}
 use Rattle.sfm_spec.specs.Sets.{Has, sum_over}
 use Rattle.sfm_spec.specs.Terms.{exchanged}
 use Rattle.sfm_spec.proofs.Sums.{share, sum_over-set, length-exchanged, sum_over-exchanged}
 use Rattle.sfm_assign.specs.Splits.{sum_at, amount_at, CanBeMet, Demands, AreDemands}
 use Rattle.sfm_assign.specs.Cells.{joined, owners, cut, IsPart, IsMet}
-use Rattle.sfm_assign.specs.Search.{only, GetsOne, IsFoundFrom}
+use Rattle.sfm_assign.specs.Search.{AreLeft, only, GetsOne, IsFoundFrom}
 use Rattle.sfm_assign.specs.Lenders.{one_more, IsLenders}
 use Rattle.sfm_assign.proofs.Amounts.{only-same, only-other}
 use Rattle.sfm_assign.proofs.Rows.{split_of_part}
@@ -40,6 +40,32 @@ module _ (d : Demands) (sound : AreDemands d) (u : ℕ) (lu : u < length d.deman
 
   gets : (i : ℕ) → i < length d.demands → sum_at i whos y ≡ amount_at d.demands i
   gets i lt = let p = part.got i lt in let m = met i lt in omega (arith, ints, p, m)
+
+  -- as if one lacked: 1 at u, and nothing else
+  pub lack_one : AreLeft more whos y (set (replicate (length d.demands) (pos 0)) u (pos 1))
+  lack_one = record {
+    places = length-set (replicate (length d.demands) (pos 0)) u (pos 1) ∙ (length-replicate (length d.demands) (pos 0) ∙ sym more-places);
+    each = λ k lk.
+        let n = length d.demands in
+        let l = more-places in
+        let lr = length-replicate n (pos 0) in
+        let ln : k < length d.demands = omega (arith, lk, l) in
+        let g = gets k ln in
+        ⊎_elim
+        (λ (q : k ≡ u).
+        let s = get_or-set_same (replicate n (pos 0)) u (pos 1) (pos 0) (omega (arith, lu, lr)) in
+        let m = more-u in
+        let x = ap (λ i. amount_at (set (replicate n (pos 0)) u (pos 1)) i) q in
+        let w = ap (λ i. amount_at more i) q in
+        let z = ap (λ i. amount_at d.demands i) q in
+        omega (arith, ints, g, s, m, x, w, z))
+        (λ ne.
+        let s = get_or-set_other (replicate n (pos 0)) u k (pos 1) (pos 0) ne in
+        let r = get_or-replicate n k (pos 0) (pos 0) ln in
+        let m = more-other k ne in
+        omega (arith, ints, g, s, r, m))
+        (cases_eq k u);
+  }
 
   -- only u lacks something
   to_u : (less : ℕ → ℤ) (g : GetsOne more d.capacities whos slots y less) → g.to ≡ u

@@ -8,7 +8,6 @@ mod fill;
 mod greatest;
 mod kept;
 mod left;
-mod lend;
 mod lower;
 mod nodes;
 mod pour;

@@ -1,6 +1,6 @@
 -- How much can be exchanged at a base of a graphic term: by the most that an edge gets in each test, without
 -- another edge; and to whom an edge has room, by those that can lend to it in each test.
-use Rattle.std.proofs.Common.{◌≡◌, ◌≢◌, ◌↔◌, Option, ℕ, ◌*◌, ◌<◌, Bool, List, [], length, get_or, set, ℤ, pos, ◌-ℤ◌, ◌*ℤ◌, ◌≤ℤ◌, refl, sym, ◌∙◌, arith, inl, inr, ⊎_elim}
+use Rattle.std.proofs.Common.{◌≡◌, ◌≢◌, ◌↔◌, Option, ℕ, ◌*◌, ◌<◌, Bool, List, [], length, get_or, set, ℤ, pos, ◌-ℤ◌, ◌*ℤ◌, ◌≤ℤ◌, refl, sym, ap, ◌∙◌, arith, inl, inr, ⊎_elim}
 use Rattle.std.proofs.lemmas.Int.{ints, by_lt_z}
 use Rattle.sfm_spec.specs.Terms.{times, IsBase, IsCapacity, HasRoom, exchanged}
 use Rattle.sfm_spec.specs.Kinds.{Edge, IsForest}
@@ -16,7 +16,8 @@ use Rattle.sfm_matroid.proofs.GraphicBases.{as_many, base_tests}
 use Rattle.sfm_spec.specs.Sets.{Has}
 use Rattle.sfm_law.specs.Room.{IsReach}
 use Rattle.sfm_matroid.proofs.Keeping.{reach_kept}
-use Rattle.sfm_matroid.proofs.UsedEnds.{end_or_not, within_out, within_all}
+use Rattle.sfm_matroid.proofs.Numbering.{pair-edge}
+use Rattle.sfm_matroid.proofs.OneTest.{IsLessWithout, tail_enough, less_exchanged, less_raised}
 use Rattle.sfm_matroid.proofs.MatroidTests.{numbered_tests}
 use Rattle.sfm_matroid.proofs.SplitTests.{split_within_ends, within_ends_split}
 use Rattle.sfm_matroid.specs.Leasts.{IsLeastOf, IsMostOf}
@@ -60,45 +61,57 @@ module _ (k : ℕ) (q w : ℤ) (edges : List Edge) (same : length edges ≡ k) (
         (λ ge. most.greatest b (split t lt b (omega (arith, ints, ge)) met));
   }
 
+  -- the numbered tail of u
+  abbrev tail : ℕ
+  tail = (edge_at (numbered edges) u).tail
+
+  nu : u < length (numbered edges)
+  nu = let l = length-numbered edges [] in let h = ku in omega (arith, h, l)
+
+  tail_below : (edge_at (numbered edges) u).tail < 2 * length edges
+  tail_below = (numbered_below edges [] u nu).0
+
+  numbered-sized : length x ≡ length (numbered edges)
+  numbered-sized = sized ∙ sym (length-numbered edges [])
+
+  -- what the test of the tail allows u, all tests do
+  by_tail : (y : List ℤ) → IsLessWithout u x y → IsWithinEnds (numbered edges) (2 * length edges) (q *ℤ w) y (edge_at (numbered edges) u).tail → (t : ℕ) → t < 2 * length edges → IsWithinEnds (numbered edges) (2 * length edges) (q *ℤ w) y t
+  by_tail y less here = tail_enough (numbered edges) (2 * length edges) (numbered_below edges []) u nu (q *ℤ w) low x y numbered-sized less (λ t lt. base_tests k q w edges same low x kx base t lt) here
+
+  has_low : pos 0 ≤ℤ get_or x v (pos 0)
+  has_low = base_counts (length edges) (2 * length edges) q w low (IsForest edges) (graphic_rank edges) (forest-matroid edges) (graphic-ranks edges) (λ a x. IsWithinEnds (numbered edges) (2 * length edges) (q *ℤ w) x a) x sized base v xv
+
   -- the room of (u, v)
-  pub room_capacity : (a : ℤ) → IsLeastOf (IsEnd (numbered edges)) (IsMostOf (numbered edges) (2 * length edges) (q *ℤ w) (set x v (pos 0)) u) (get_or x v (pos 0)) ((q *ℤ w) -ℤ get_or x u (pos 0)) (get_or x u (pos 0)) (2 * length edges) a → IsCapacity (times q (graphic_value w edges)) x u v a
+  pub room_capacity : (a : ℤ) → IsLeastOf (λ t. IsMostOf (numbered edges) (2 * length edges) (q *ℤ w) (set x v (pos 0)) u (edge_at (numbered edges) u).tail) (get_or x v (pos 0)) ((q *ℤ w) -ℤ get_or x u (pos 0)) (get_or x u (pos 0)) 1 a → IsCapacity (times q (graphic_value w edges)) x u v a
   room_capacity a least = least_capacity (length edges) (2 * length edges) q w low (IsForest edges) (graphic_rank edges) (forest-matroid edges) (graphic-ranks edges) (λ a x. IsWithinEnds (numbered edges) (2 * length edges) (q *ℤ w) x a) (numbered_tests edges q w low) x sized base u v ku kv ne a (record {
     under_v = least.under_first;
     under_cap = least.under_second;
-    under_most = λ t lt. ⊎_elim (λ end. at_end t lt end) (λ none. let (r, met, le) = at_end first first_below first_end in (r, within_out (numbered edges) (2 * length edges) (q *ℤ w) (with_u r) low t first none met, le)) (end_or_not (numbered edges) t);
-    reached = ⊎_elim (λ e. inl e) (λ rest. ⊎_elim (λ e. inr (inl e)) (λ (t, lt, r, most, e). inr (inr (t, lt, r, most_at t lt r most, e))) rest) least.reached;
-  }) where
-    -- an end: there is an edge
-    first : ℕ
-    first = (edge_at (numbered edges) 0).tail
-
-    some : 0 < length (numbered edges)
-    some = let h = ku in let l = length-numbered edges [] in omega (arith, h, l)
-
-    first_below : (edge_at (numbered edges) 0).tail < 2 * length edges
-    first_below = (numbered_below edges [] 0 some).0
-
-    first_end : IsEnd (numbered edges) (edge_at (numbered edges) 0).tail
-    first_end = (0, some, inl refl)
-
-    at_end : (t : ℕ) → t < 2 * length edges → IsEnd (numbered edges) t → (r : ℤ) × IsWithinEnds (numbered edges) (2 * length edges) (q *ℤ w) (with_u r) t × (a ≤ℤ (r -ℤ get_or x u (pos 0)))
-    at_end t lt end = let (r, most, le) = least.under_each t lt end in (r, (most_at t lt r most).reached, le)
+    under_most = λ t lt. let (r, most, le) = least.under_each 0 (omega arith) in (r, by_tail (with_u r) (less_raised x u v r xu xv has_low) (most_at tail tail_below r most).reached t lt, le);
+    reached = ⊎_elim (λ e. inl e) (λ rest. ⊎_elim (λ e. inr (inl e)) (λ (t, lt, r, most, e). inr (inr (tail, tail_below, r, most_at tail tail_below r most, e))) rest) least.reached;
+  })
 
   exchanged-places : length (exchanged x u v (pos 1)) ≡ length (numbered edges)
   exchanged-places = length-exchanged x u v (pos 1) ∙ (sized ∙ sym (length-numbered edges []))
 
-  -- v can lend to u in each test
-  abbrev CanLendAll : Type 0
-  CanLendAll = (a : ℕ) → a < 2 * length edges → CanLend (numbered edges) (2 * length edges) (q *ℤ w) x u v a
+  -- v can lend to u in the test of the tail of u
+  abbrev CanLendThere : Type 0
+  CanLendThere = CanLend (numbered edges) (2 * length edges) (q *ℤ w) x u v (edge_at (numbered edges) u).tail
 
-  giver_room : IsGiver x (q *ℤ w) u v → CanLendAll → HasRoom (times q (graphic_value w edges)) x u v
-  giver_room giver lend = gives_room (length edges) (2 * length edges) q w low (IsForest edges) (graphic_rank edges) (forest-matroid edges) (graphic-ranks edges) (λ a x. IsWithinEnds (numbered edges) (2 * length edges) (q *ℤ w) x a) (numbered_tests edges q w low) x sized base u v ku kv ne (record { under_cap = giver.1; has = giver.2; met = within_all (numbered edges) (2 * length edges) (q *ℤ w) (exchanged x u v (pos 1)) low (numbered_below edges []) (let h = ku in let l = length-numbered edges [] in omega (arith, h, l)) (λ a lt end. split_within_ends (numbered edges) (2 * length edges) (numbered_below edges []) (q *ℤ w) (exchanged x u v (pos 1)) exchanged-places a lt (lend a lt end)) })
+  tail_end : IsEnd (numbered edges) (edge_at (numbered edges) u).tail
+  tail_end = (u, nu, inl refl)
 
-  room_giver : HasRoom (times q (graphic_value w edges)) x u v → IsGiver x (q *ℤ w) u v × CanLendAll
+  giver_room : IsGiver x (q *ℤ w) u v → CanLendThere → HasRoom (times q (graphic_value w edges)) x u v
+  giver_room giver lend = gives_room (length edges) (2 * length edges) q w low (IsForest edges) (graphic_rank edges) (forest-matroid edges) (graphic-ranks edges) (λ a x. IsWithinEnds (numbered edges) (2 * length edges) (q *ℤ w) x a) (numbered_tests edges q w low) x sized base u v ku kv ne (record {
+    under_cap = giver.1;
+    has = giver.2;
+    met = by_tail (exchanged x u v (pos 1)) (less_exchanged x u v (pos 1) xu xv ne (omega (arith, ints))) (split_within_ends (numbered edges) (2 * length edges) (numbered_below edges []) (q *ℤ w) (exchanged x u v (pos 1)) exchanged-places tail tail_below (lend tail_end));
+  })
+
+  room_giver : HasRoom (times q (graphic_value w edges)) x u v → IsGiver x (q *ℤ w) u v × CanLendThere
   room_giver room =
       let give = room_gives (length edges) (2 * length edges) q w low (IsForest edges) (graphic_rank edges) (forest-matroid edges) (graphic-ranks edges) (λ a x. IsWithinEnds (numbered edges) (2 * length edges) (q *ℤ w) x a) (numbered_tests edges q w low) x sized base u v ku kv ne room in
       let counts = given-counts (length edges) (2 * length edges) q w low (IsForest edges) (graphic_rank edges) (forest-matroid edges) (graphic-ranks edges) (λ a x. IsWithinEnds (numbered edges) (2 * length edges) (q *ℤ w) x a) (numbered_tests edges q w low) x sized base u v ku kv ne give.has in
-      (((λ e. ne (sym e)), give.under_cap, give.has), (λ a lt end. within_ends_split (numbered edges) (2 * length edges) (numbered_below edges []) (q *ℤ w) (exchanged x u v (pos 1)) exchanged-places a lt low counts (give.met a lt)))
+      (((λ e. ne (sym e)), give.under_cap, give.has), (λ end. within_ends_split (numbered edges) (2 * length edges) (numbered_below edges []) (q *ℤ w) (exchanged x u v (pos 1)) exchanged-places tail tail_below low counts (give.met tail tail_below)))
 
 module _ (k : ℕ) (q w : ℤ) (edges : List Edge) (same : length edges ≡ k) (low : pos 0 ≤ℤ (q *ℤ w)) (x : List ℤ) (kx : length x ≡ k) (base : IsBase (times q (graphic_value w edges)) x) where
   -- a base is split itself in each test
@@ -109,17 +122,25 @@ module _ (k : ℕ) (q w : ℤ) (edges : List Edge) (same : length edges ≡ k) (
 
   -- what is kept of the givers is the reach
   pub reach_ends : (u : ℕ) → u < length x → (before after : List Bool) → length after ≡ length x → ((v : ℕ) → v < length x → Has before v ↔ IsGiver x (q *ℤ w) u v)
-      → AreKept (λ v. (a : ℕ) → a < 2 * length edges → CanLend (numbered edges) (2 * length edges) (q *ℤ w) x u v a) before after → IsReach (times q (graphic_value w edges)) x u after
-  reach_ends u xu before after places exact kept = reach_kept (times q (graphic_value w edges)) x (q *ℤ w) u (λ v. (a : ℕ) → a < 2 * length edges → CanLend (numbered edges) (2 * length edges) (q *ℤ w) x u v a) before after places exact kept
+      → AreKept (λ v. CanLend (numbered edges) (2 * length edges) (q *ℤ w) x u v (edge_at (numbered edges) u).tail) before after → IsReach (times q (graphic_value w edges)) x u after
+  reach_ends u xu before after places exact kept = reach_kept (times q (graphic_value w edges)) x (q *ℤ w) u (λ v. CanLend (numbered edges) (2 * length edges) (q *ℤ w) x u v (edge_at (numbered edges) u).tail) before after places exact kept
       (λ v xv ne. giver_room k q w edges same low x kx base u v xu xv ne) (λ v xv ne. room_giver k q w edges same low x kx base u v xu xv ne)
 
 -- ---- numbered ends as they are kept
+
+module _ (edges : List Edge) (items : List (ℕ × ℕ)) (are : edges_of items ≡ numbered edges) where
+  -- the tail that is kept of an edge
+  pub kept_tail : (u : ℕ) → u < length edges → (get_or items u (0, 0)).0 ≡ (edge_at (numbered edges) u).tail
+  kept_tail u lt = let n = as_many edges items are in sym (ap (λ (edge : Edge). edge.tail) (ap (λ es. edge_at es u) (sym are) ∙ pair-edge items u (omega (arith, lt, n))))
+
+  pub tail_in : (u : ℕ) → u < length edges → (edge_at (numbered edges) u).tail < 2 * length edges
+  tail_in u lt = (numbered_below edges [] u (let l = length-numbered edges [] in omega (arith, lt, l))).0
 
 module _ (edges : List Edge) (items : List (ℕ × ℕ)) (are : edges_of items ≡ numbered edges) (given : List (ℕ × ℕ)) (is : given ≡ items) (c : ℤ) (x : List ℤ) where
   pub others_kept : ((t : ℕ) → t < 2 * length edges → CanBeMet x (end_lists (numbered edges)) (vertex_capacities (2 * length edges) c t)) → (t : ℕ) → t < 2 * length given → CanBeMet x (end_lists (edges_of given)) (vertex_capacities (2 * length given) c t)
   others_kept h = rw (is, are, as_many edges items are) h
 
-  pub least_kept : (u : ℕ) (first second less a : ℤ) → IsLeastOf (IsEnd (edges_of given)) (IsMostOf (edges_of given) (2 * length given) c x u) first second less (2 * length given) a → IsLeastOf (IsEnd (numbered edges)) (IsMostOf (numbered edges) (2 * length edges) c x u) first second less (2 * length edges) a
+  pub least_kept : (u : ℕ) (first second less a : ℤ) → IsLeastOf (λ t. IsMostOf (edges_of given) (2 * length given) c x u (edge_at (edges_of given) u).tail) first second less 1 a → IsLeastOf (λ t. IsMostOf (numbered edges) (2 * length edges) c x u (edge_at (numbered edges) u).tail) first second less 1 a
   least_kept u first second less a h = rw (is, are, as_many edges items are) at h
 
   pub splits_kept : (splits : List (Option KeptSplit)) → AreSplits (edges_of given) (2 * length given) c x splits → AreSplits (numbered edges) (2 * length edges) c x splits

@@ -5,6 +5,7 @@ mod Matched
 mod Numbering
 mod Totals
 mod UsedEnds
+mod OneTest
 mod GraphicBases
 mod GraphicRooms
 mod TransversalBases

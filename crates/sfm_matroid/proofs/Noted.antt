@@ -27,12 +27,12 @@ lend_in edges m c x a None none u v = ((λ k end. absurd (none end)), (λ h. tt)
 lend_in edges m c x a (Some kept) (end, is) u v = rw is ((λ can e. can), (λ h. h end))
 
 module _ (edges : List Edge) (m : ℕ) (c : ℤ) (x : List ℤ) (u : ℕ) (splits : List (Option KeptSplit)) (are : AreSplits edges m c x splits) where
-  pub lend_splits : (before after : List Bool) → AreKept (λ v. (a : ℕ) → a < length splits → CanLendIn (get_or splits a None) u v) before after → AreKept (λ v. (a : ℕ) → a < m → CanLend edges m c x u v a) before after
-  lend_splits before after h v =
-      let p = are.places in (
-        (λ has. let (b, k) = (h v).0 has in (b, λ a lt. (lend_in edges m c x a (get_or splits a None) (are.each a lt) u v).0 (k a (omega (arith, lt, p))))),
-        (λ (b, k). (h v).1 (b, λ a lt. let l : a < m = omega (arith, lt, p) in (lend_in edges m c x a (get_or splits a None) (are.each a l) u v).1 (k a l))),
-      )
+  -- what is kept by the split in a test is kept by the test
+  pub lend_split : (a : ℕ) → a < m → (before after : List Bool) → AreKept (CanLendIn (get_or splits a None) u) before after → AreKept (λ v. CanLend edges m c x u v a) before after
+  lend_split a lt before after h v = (
+    (λ has. let (b, k) = (h v).0 has in (b, (lend_in edges m c x a (get_or splits a None) (are.each a lt) u v).0 k)),
+    (λ (b, k). (h v).1 (b, (lend_in edges m c x a (get_or splits a None) (are.each a lt) u v).1 k)),
+  )
 
   -- each split is of the entries
   pub others_splits : (set : List Bool) → AreOthers x u set → (a : ℕ) (kept : KeptSplit) → a < length splits → get_or splits a None ≡ Some kept → AreOthers kept.demand.demands u set

@@ -90,11 +90,11 @@ module _ (k : ℕ) (q w : ℤ) (entries : List (List ℕ)) (m : ℕ) (exist : Al
     }
 
     -- the room of (u, v)
-    pub slot_capacity : (a : ℤ) → IsLeastOf (λ t. Unit {0}) (λ t. IsMost (set x v (pos 0)) entries (replicate m (q *ℤ w)) u) (get_or x v (pos 0)) ((q *ℤ w) -ℤ get_or x u (pos 0)) (get_or x u (pos 0)) 1 a → IsCapacity (times q (transversal_value w entries)) x u v a
+    pub slot_capacity : (a : ℤ) → IsLeastOf (λ t. IsMost (set x v (pos 0)) entries (replicate m (q *ℤ w)) u) (get_or x v (pos 0)) ((q *ℤ w) -ℤ get_or x u (pos 0)) (get_or x u (pos 0)) 1 a → IsCapacity (times q (transversal_value w entries)) x u v a
     slot_capacity a least = least_capacity (length entries) 1 q w low (IsMatchable entries) (transversal_rank entries) (matching-matroid (length entries) entries) (transversal-ranks entries) (λ a x. IsWithinSlots entries m (q *ℤ w) x) (transversal_tests entries m (slots_each entries m exist) q w low) x sized base u v ku kv ne a (record {
       under_v = least.under_first;
       under_cap = least.under_second;
-      under_most = λ t lt. let (r, most, le) = least.under_each t lt tt in (r, (most_at t r most).reached, le);
+      under_most = λ t lt. let (r, most, le) = least.under_each t lt in (r, (most_at t r most).reached, le);
       reached = ⊎_elim (λ e. inl e) (λ rest. ⊎_elim (λ e. inr (inl e)) (λ (t, lt, r, most, e). inr (inr (t, lt, r, most_at t r most, e))) rest) least.reached;
     })
 

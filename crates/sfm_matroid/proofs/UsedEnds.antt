@@ -12,7 +12,7 @@ use Rattle.sfm_matroid.specs.Ends.{edges_of}
 use Rattle.sfm_matroid.specs.Numbered.{IsEnd}
 
 -- a vertex is an end, or it is none
-pub end_or_not : (edges : List Edge) (v : ℕ) → IsEnd edges v ⊎ (IsEnd edges v → ⊥)
+end_or_not : (edges : List Edge) (v : ℕ) → IsEnd edges v ⊎ (IsEnd edges v → ⊥)
 end_or_not [] v = inr (λ (e, lt, is). omega (arith, lt))
 end_or_not (edge ∷ edges) v = at (cases_eq v edge.tail) (cases_eq v edge.head) (end_or_not edges v) where
   at : (v ≡ edge.tail) ⊎ (v ≢ edge.tail) → (v ≡ edge.head) ⊎ (v ≢ edge.head) → IsEnd edges v ⊎ (IsEnd edges v → ⊥) → IsEnd (edge ∷ edges) v ⊎ (IsEnd (edge ∷ edges) v → ⊥)
@@ -42,7 +42,7 @@ module _ (edges : List Edge) (m : ℕ) (c : ℤ) (x : List ℤ) (low : pos 0 ≤
       let ne : v ≢ a = λ e. false≢true (sym (untouched edges s a none) ∙ (ap (touches edges s) (sym e) ∙ t)) in
       (lt, and_from (touches edges s v) (not (nat_eq v a)) t (ap not (eqb_apart v a ne)), refl))
 
-  pub within_out : (a b : ℕ) → (IsEnd edges a → ⊥) → IsWithinEnds edges m c x b → IsWithinEnds edges m c x a
+  within_out : (a b : ℕ) → (IsEnd edges a → ⊥) → IsWithinEnds edges m c x b → IsWithinEnds edges m c x a
   within_out a b none within s ks =
       let h = within s ks in
       let n = ends-more a b s none in

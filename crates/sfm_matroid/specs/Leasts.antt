@@ -1,6 +1,5 @@
 -- The most that an edge gets in the test of a vertex, and the least that is left over all tests.
 use Rattle.std.specs.Prelude.{◌≡◌, ◌⊎◌, ℕ, ◌<◌, List, ℤ, ◌-ℤ◌, ◌≤ℤ◌}
-use Rattle.std.specs.Int.{int_min}
 use Rattle.sfm_spec.specs.Kinds.{Edge}
 use Rattle.sfm_assign.specs.Splits.{IsMost}
 use Rattle.sfm_matroid.specs.Numbered.{end_lists, vertex_capacities}
@@ -9,13 +8,9 @@ use Rattle.sfm_matroid.specs.Numbered.{end_lists, vertex_capacities}
 abbrev pub IsMostOf : List Edge → ℕ → ℤ → List ℤ → ℕ → ℕ → ℤ → Type 0
 IsMostOf edges m c x u t r = IsMost x (end_lists edges) (vertex_capacities m c t) u r
 
--- a is the least of two numbers, and of what the numbers of those of n tests have above another that are to be asked
-pub record IsLeastOf (IsAsked : ℕ → Type 0) (IsOne : ℕ → ℤ → Type 0) (first second less : ℤ) (n : ℕ) (a : ℤ) : Type 0 where
+-- a is the least of two numbers, and of what the numbers of n tests have above another
+pub record IsLeastOf (IsOne : ℕ → ℤ → Type 0) (first second less : ℤ) (n : ℕ) (a : ℤ) : Type 0 where
   pub under_first : a ≤ℤ first
   pub under_second : a ≤ℤ second
-  pub under_each : (t : ℕ) → t < n → IsAsked t → (r : ℤ) × IsOne t r × (a ≤ℤ (r -ℤ less))
+  pub under_each : (t : ℕ) → t < n → (r : ℤ) × IsOne t r × (a ≤ℤ (r -ℤ less))
   pub reached : (a ≡ first) ⊎ ((a ≡ second) ⊎ ((t : ℕ) × (t < n) × (r : ℤ) × IsOne t r × (a ≡ (r -ℤ less))))
-
--- b is the lesser of a and of what the number of a test has above another; a itself where the test is not to be asked
-abbrev pub IsLesserOf : Type 0 → (ℤ → Type 0) → ℤ → ℤ → ℤ → Type 0
-IsLesserOf IsAsked IsOne less a b = ((IsAsked → ⊥) × (b ≡ a)) ⊎ ((r : ℤ) × IsOne r × (b ≡ int_min a (r -ℤ less)))

@@ -1,6 +1,6 @@
 // Who can give something to a place u at a base. A place can if it is another one that has something, u has less than any may
-// have, and in each test that tells bases it can lend to u. One search in a test tells this of all places at once.
-ghost use Rattle.std.specs.Prelude.{◌≡◌, ◌↔◌, ℕ, ◌<◌, IsTrue, length, slice_index_or, pos, OnOk, Some, None};
+// have, and it can lend to u in the test that tells what u may get. One search in that test tells this of all places at once.
+ghost use Rattle.std.specs.Prelude.{◌≡◌, ◌↔◌, ℕ, ◌<◌, IsTrue, length, pos, OnOk, Some};
 ghost use Rattle.sfm_spec.specs.Sets.{Has};
 ghost use Rattle.sfm_spec.specs.Terms.{exchanged};
 ghost use Rattle.sfm_assign.specs.Splits.{CanBeMet};
@@ -62,21 +62,4 @@ pub(crate) fn keep_by_split(
         Some(kept) => keep_lenders(alloc, kept, u, to),
         None => Ok(()),
     }
-}
-
-/// Keeps those places of a set that can lend to u in each of the splits that there are.
-pub(crate) fn keep_by_splits(
-    alloc: Global,
-    splits: &[Option<KeptSplit>],
-    u: usize,
-    to: &mut Set,
-) -> Result<(), Memory>
-    requires { (a : ℕ) (kept : KeptSplit) → a < length splits.now → slice_index_or splits.now a None ≡ Some kept → AreOthers kept.demand.demands u to.old }
-    ensures places { length to.new ≡ length to.old }
-    ensures kept { OnOk result (AreKept (λ v. (a : ℕ) → a < length splits.now → CanLendIn (slice_index_or splits.now a None) u v) to.old to.new) }
-{
-    for split in splits {
-        keep_by_split(alloc, split, u, to)?;
-    }
-    Ok(())
 }

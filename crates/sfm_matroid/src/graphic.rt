@@ -1,8 +1,8 @@
 // A number w times the rank of a graphic matroid. A part of the edges is independent where no closed trail takes distinct
 // edges of it: where it is a forest. The edges that are taken one after another, unless they close a trail, are a greatest
-// forest of a part, so their count is the rank. The bases of q times the term are told by a test for each vertex, and the room
-// of (u, v) is the least of what v has, what u lacks of q·w, and what u lacks of the most that it gets in each test without v.
-// To whom u has room is told by one search in each test: to those that have something and can lend to u in all of them.
+// forest of a part, so their count is the rank. The bases of q times the term are told by a test for each vertex. What an edge u
+// may get is told by the test of its tail alone: the room of (u, v) is the least of what v has, what u lacks of q·w, and what u
+// lacks of the most that it gets in that test without v, and to whom u has room is told by one search in it.
 ghost use Rattle.std.specs.Prelude.{◌≡◌, ◌≢◌, ◌↔◌, ◌*◌, IsTrue, ℕ, ◌<◌, ◌≤◌, ◌^◌, Bool, List, length, slice_index_or, ℤ, pos, neg_ℤ, ◌+ℤ◌, ◌-ℤ◌, ◌*ℤ◌, ◌≤ℤ◌, IfOk, OnOk, Some};
 ghost use Rattle.std.specs.List.{All};
 ghost use Rattle.sfm_assign.specs.Splits.{IsAmount, CanBeMet};
@@ -18,7 +18,7 @@ ghost use Rattle.sfm_matroid.specs.Forests.{graphic_rank};
 ghost use Rattle.sfm_matroid.specs.GraphicLaws.{graphic_value, graphic_size, graphic_start, graphic_basis, graphic-family, graphic-submodular, graphic-bounded, graphic-starts, graphic-starts_small};
 
 use crate::ends::Ends;
-use crate::givers::{givers, keep_by_splits};
+use crate::givers::{givers, keep_by_split};
 use crate::growing::{grow, whole};
 use crate::number::{are_within, has_sum, product};
 use crate::room::least_left;
@@ -295,7 +295,8 @@ impl Graphic {
     {
         let cap = product(q, self.w);
         givers(x, cap, u, to);
-        keep_by_splits(alloc, &note.kept, u, to)?;
+        let tail = self.numbers[u].0;
+        keep_by_split(alloc, &note.kept[tail], u, to)?;
         Ok(())
     }
 }

@@ -1,15 +1,16 @@
 // The room of a pair of edges at a base. In each test that tells bases, an edge gets some most while the others have what they
-// have, but the one that gives has nothing. The room is the least of what the other has, of what the one lacks of the number
-// that no edge exceeds, and of what it lacks of the most in each test.
+// have, but the one that gives has nothing. The test of an end of the edge allows the least: parts with the edge have that end,
+// and without it they have one end less. So the room is the least of what the other has, of what the one lacks of the number
+// that no edge exceeds, and of what it lacks of the most in the test of its tail.
 ghost use Rattle.std.specs.Prelude.{◌≡◌, ℕ, ◌*◌, ◌<◌, ◌≤◌, ◌^◌, length, slice_set, slice_index_or, pos, ◌-ℤ◌, ◌≤ℤ◌, IfOk};
 ghost use Rattle.std.specs.List.{All};
 ghost use Rattle.sfm_assign.specs.Splits.{IsAmount, CanBeMet, IsMost};
 ghost use Rattle.sfm_matroid.specs.Ends.{edges_of};
-ghost use Rattle.sfm_matroid.specs.Runs.{EndsBelow};
-ghost use Rattle.sfm_matroid.specs.Numbered.{IsEnd, end_lists, vertex_capacities};
-ghost use Rattle.sfm_matroid.specs.Leasts.{IsLeastOf, IsLesserOf, IsMostOf};
+ghost use Rattle.sfm_matroid.specs.Runs.{EndsBelow, edge_at};
+ghost use Rattle.sfm_matroid.specs.Numbered.{end_lists, vertex_capacities};
+ghost use Rattle.sfm_matroid.specs.Leasts.{IsLeastOf, IsMostOf};
 
-use crate::testing::{demand, is_end};
+use crate::testing::demand;
 use sfm_assign::most;
 use sfm_base::Memory;
 use std::alloc::Global;
@@ -50,38 +51,8 @@ fn most_at(
     Ok(most)
 }
 
-/// The lesser of a number and of what an edge that has some of it lacks of the most that it gets in the test of a vertex, if
-/// that is an end; a vertex that is no end asks no more than any end.
-fn lesser_at(
-    alloc: Global,
-    ends: &[(usize, usize)],
-    x: &[i128],
-    cap: i128,
-    a: usize,
-    u: usize,
-    has: i128,
-    least: i128,
-) -> Result<i128, Memory>
-    requires few { length ends.now ≤ 256 }
-    requires entries { length x.now ≡ length ends.now }
-    requires amounts { All IsAmount x.now }
-    requires low { pos 0 ≤ℤ cap }
-    requires high { cap ≤ℤ pos (10 ^ 24) }
-    requires vertex { a < 2 * length ends.now }
-    requires below { EndsBelow (edges_of ends.now) (2 * length ends.now) }
-    requires place { u < length x.now }
-    requires others { CanBeMet (slice_set x.now u (pos 0)) (end_lists (edges_of ends.now)) (vertex_capacities (2 * length ends.now) cap a) }
-    requires has { IsAmount has }
-    ensures { IfOk result (IsLesserOf (IsEnd (edges_of ends.now) a) (IsMostOf (edges_of ends.now) (2 * length ends.now) cap x.now u a) has least) }
-{
-    if !is_end(ends, a) {
-        return Ok(least);
-    }
-    let most = most_at(alloc, ends, x, cap, a, u)?;
-    Ok(least.min(most - has))
-}
-
-/// The least of what v has, what u lacks of a number, and what u lacks of the most that it gets in each test once v has nothing.
+/// The least of what v has, what u lacks of a number, and what u lacks of the most that it gets in the test of its tail once v
+/// has nothing.
 pub(crate) fn least_left(
     alloc: Global,
     ends: &[(usize, usize)],
@@ -99,12 +70,11 @@ pub(crate) fn least_left(
     requires from { u < length x.now }
     requires onto { v < length x.now }
     requires others { (t : ℕ) → t < 2 * length ends.now → CanBeMet (slice_set (slice_set x.now v (pos 0)) u (pos 0)) (end_lists (edges_of ends.now)) (vertex_capacities (2 * length ends.now) cap t) }
-    ensures { IfOk result (IsLeastOf (IsEnd (edges_of ends.now)) (IsMostOf (edges_of ends.now) (2 * length ends.now) cap (slice_set x.now v (pos 0)) u) (slice_index_or x.now v (pos 0)) (cap -ℤ slice_index_or x.now u (pos 0)) (slice_index_or x.now u (pos 0)) (2 * length ends.now)) }
+    ensures { IfOk result (IsLeastOf (λ t. IsMostOf (edges_of ends.now) (2 * length ends.now) cap (slice_set x.now v (pos 0)) u (edge_at (edges_of ends.now) u).tail) (slice_index_or x.now v (pos 0)) (cap -ℤ slice_index_or x.now u (pos 0)) (slice_index_or x.now u (pos 0)) 1) }
 {
     let rest = without(alloc, x, v)?;
-    let mut least = x[v].min(cap - x[u]);
-    for t in 0..2 * ends.len() {
-        least = lesser_at(alloc, ends, &rest, cap, t, u, x[u], least)?;
-    }
-    Ok(least)
+    let tail = ends[u].0;
+    let most = most_at(alloc, ends, &rest, cap, tail, u)?;
+    let first = x[v].min(cap - x[u]);
+    Ok(first.min(most - x[u]))
 }

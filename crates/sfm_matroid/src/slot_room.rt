@@ -58,7 +58,7 @@ pub(crate) fn least_unheld(
     requires from { u < length x.now }
     requires onto { v < length x.now }
     requires others { CanBeMet (slice_set (slice_set x.now v (pos 0)) u (pos 0)) entries.now (replicate m cap) }
-    ensures { IfOk result (IsLeastOf (λ t. Unit {0}) (λ t. IsMost (slice_set x.now v (pos 0)) entries.now (replicate m cap) u) (slice_index_or x.now v (pos 0)) (cap -ℤ slice_index_or x.now u (pos 0)) (slice_index_or x.now u (pos 0)) 1) }
+    ensures { IfOk result (IsLeastOf (λ t. IsMost (slice_set x.now v (pos 0)) entries.now (replicate m cap) u) (slice_index_or x.now v (pos 0)) (cap -ℤ slice_index_or x.now u (pos 0)) (slice_index_or x.now u (pos 0)) 1) }
 {
     let rest = without(alloc, x, v)?;
     let most = most_held(alloc, entries, m, &rest, cap, u)?;

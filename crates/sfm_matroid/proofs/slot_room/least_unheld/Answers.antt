@@ -52,5 +52,5 @@ returns c =
     let most = simp to_z-of_z at (rw (c.deref.ensures.value, c.in_ok-rest.ensures) at c.in_ok-most.ensures.most) in
     let start = simp to_z-of_z at c.min-first.ensures.value in
     let next = simp to_z-of_z at c.min.ensures.value in
-    let first = least_start (λ t. Unit {0}) (λ t. IsMost (set x v (pos 0)) entries (replicate m cap) u) (get_or x v (pos 0)) (cap -ℤ get_or x u (pos 0)) (get_or x u (pos 0)) c.min-first.result start in
-    simp to_z-of_z (least_next (λ t. Unit {0}) (λ t. IsMost (set x v (pos 0)) entries (replicate m cap) u) (get_or x v (pos 0)) (cap -ℤ get_or x u (pos 0)) (get_or x u (pos 0)) 0 c.min-first.result c.min.result c.in_ok-most.most first most next)
+    let first = least_start (λ t. IsMost (set x v (pos 0)) entries (replicate m cap) u) (get_or x v (pos 0)) (cap -ℤ get_or x u (pos 0)) (get_or x u (pos 0)) c.min-first.result start in
+    simp to_z-of_z (least_next (λ t. IsMost (set x v (pos 0)) entries (replicate m cap) u) (get_or x v (pos 0)) (cap -ℤ get_or x u (pos 0)) (get_or x u (pos 0)) 0 c.min-first.result c.min.result c.in_ok-most.most first most next)
