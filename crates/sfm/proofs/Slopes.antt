@@ -7,7 +7,7 @@ use Rattle.std.proofs.lemmas.List.Elements.{All-from_get_or, All-nil}
 use Rattle.sfm_spec.specs.Sets.{Has, size}
 use Rattle.sfm_spec.specs.Slopes.{IsLowest}
 use Rattle.sfm_spec.specs.Families.{IsBreakpoint}
-use Rattle.sfm_spec.specs.Laws.{AreBreakpoints, Mark, no_mark}
+use Rattle.sfm_spec.specs.Laws.{AreBreakpoints, Mark, no_mark, ones}
 use Rattle.sfm_spec.specs.Search.{mark_at}
 use Rattle.sfm_spec.proofs.Sizes.{size_grows}
 use Rattle.sfm_law.specs.declared.breaks.Break.{Break as Found}
@@ -16,7 +16,7 @@ use Rattle.sfm_slope.specs.Marks.{HasBases, mark_of as kept_mark}
 use Rattle.sfm_cert.specs.Answer.{mark_of}
 use Rattle.sfm_cert.specs.Form.{IsFormedBreak}
 use Rattle.sfm_cert.specs.Solved.{break_of, form_of}
-use Rattle.sfm_check.specs.Truth.{IsProvedSection, no_section, ones, section_of}
+use Rattle.sfm_check.specs.Truth.{IsProvedSection, no_section, section_of}
 use Rattle.sfm_check.proofs.AllSlopes.{due_plain}
 use Rattle.sfm_check.proofs.OneToOne.{IsPlainMark}
 use Rattle.sfm.specs.Due.{meanings_of}

@@ -4,13 +4,13 @@ use Rattle.std.specs.List.{All}
 use Rattle.std.proofs.lemmas.List.Elements.{All-cons}
 use Rattle.sfm_spec.specs.Bounds.{IsEntry}
 use Rattle.sfm_spec.specs.Blocks.{AreBlocks}
-use Rattle.sfm_spec.specs.Laws.{AreBreakpoints}
+use Rattle.sfm_spec.specs.Laws.{AreBreakpoints, ones}
 use Rattle.sfm_spec.specs.Families.{AreBases, IsGreatest, IsLeast, Prove, even_shift, shifted_at}
 use Rattle.sfm_kind.specs.Instance.{AreInBounds, InstanceData}
 use Rattle.sfm_cert.specs.Answer.{Answer, mark_of}
 use Rattle.sfm_cert.specs.Form.{IsFormedBreak}
 use Rattle.sfm_cert.specs.Solved.{form_of}
-use Rattle.sfm_check.specs.Truth.{IsProvedSection, ones, section_of}
+use Rattle.sfm_check.specs.Truth.{IsProvedSection, section_of}
 use Rattle.sfm_check.proofs.BlockOrder.{blocks_formed}
 use Rattle.sfm_check.proofs.Small.{value_small}
 use Rattle.sfm.proofs.Rows.{formed_rows}

@@ -2,15 +2,30 @@
 use Rattle.std.proofs.Common.{◌≡◌, ℕ, ◌<◌, Bool, true, false, nat_eq, if◌then◌else◌, List, [], ◌∷◌, zero, suc, length, set, ℤ, pos, neg_ℤ, ◌+ℤ◌, ◌-ℤ◌, ◌≤ℤ◌, ◌<ℤ◌, Option, Some, None, is_some, refl, sym, ap, ◌∙◌, arith, ⊎_elim, length-set, get_or-set_other, get_or-set_same}
 use Rattle.std.proofs.lemmas.Int.{ints}
 use Rattle.std.proofs.lemmas.Bool.{cases_eq, cases_lt, false≢true}
+use Rattle.sfm_spec.specs.Sets.{Has}
 use Rattle.sfm_assign.specs.Splits.{sum_at, amount_at}
 use Rattle.sfm_assign.specs.Cells.{label_at, AreCells, IsPart}
-use Rattle.sfm_assign.specs.Search.{AreLeft, only, node_at, IsLinked, AreNodes, AreRoots, IsEnd, IsSearchEnd, GetsOne, HasRoots, IsStuck, IsFoundSet, IsFoundFrom}
+use Rattle.sfm_assign.specs.Search.{AreLeft, only, node_at, IsLinked, AreNodes, AreRoots, IsEnd, IsSearchEnd, HasRoots, IsStuck, IsFoundSet, IsFilled}
 use Rattle.sfm_assign.specs.declared.nodes.Link.{Link}
 use Rattle.sfm_assign.specs.declared.nodes.Node.{Node}
 use Rattle.sfm_assign.proofs.Amounts.{AreAmounts, only-same, only-other}
 use Rattle.sfm_assign.proofs.Augments.{put-sum, only-neg, moving_begun}
 use Rattle.sfm_assign.proofs.Fills.{below_nodes, raised_part, stuck_filled}
 use Rattle.sfm_assign.proofs.Filling.{either, move_exists}
+
+-- amounts by which a demand that lacks something gets one more, and each demand otherwise what it got less what is told
+pub record GetsOne (demands capacities : List ℤ) (whos slots : List ℕ) (y : List ℤ) (less : ℕ → ℤ) : Type 0 where
+  pub after : List ℤ
+  pub part : IsPart demands capacities whos slots after
+  pub to : ℕ
+  pub in_range : to < length demands
+  pub lacking : sum_at to whos y <ℤ amount_at demands to
+  pub got : (i : ℕ) → sum_at i whos after ≡ ((sum_at i whos y +ℤ only to i (pos 1)) -ℤ less i)
+
+-- a closed set with all demands that lack something, to one of which each of its members can give up one of what it gets
+pub record IsFoundFrom (demands capacities : List ℤ) (whos slots : List ℕ) (y : List ℤ) (set : List Bool) : Type 0 where
+  pub filled : IsFilled demands capacities whos slots y set
+  pub lends : (v : ℕ) → Has set v → GetsOne demands capacities whos slots y (λ i. only v i (pos 1))
 
 apart : {A : Type 0} {b : A} → None ≡ Some b → ⊥
 apart h = cc

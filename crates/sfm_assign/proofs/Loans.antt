@@ -8,13 +8,14 @@ use Rattle.sfm_spec.specs.Terms.{exchanged}
 use Rattle.sfm_spec.proofs.Sums.{share, sum_over-set, length-exchanged, sum_over-exchanged}
 use Rattle.sfm_assign.specs.Splits.{sum_at, amount_at, CanBeMet, Demands, AreDemands}
 use Rattle.sfm_assign.specs.Cells.{joined, owners, cut, IsPart, IsMet}
-use Rattle.sfm_assign.specs.Search.{AreLeft, only, GetsOne, IsFoundFrom}
+use Rattle.sfm_assign.specs.Search.{AreLeft, only}
 use Rattle.sfm_assign.specs.Lenders.{one_more, IsLenders}
 use Rattle.sfm_assign.proofs.Amounts.{only-same, only-other}
 use Rattle.sfm_assign.proofs.Rows.{split_of_part}
 use Rattle.sfm_assign.proofs.Hall.{closed_bounds}
 use Rattle.sfm_assign.proofs.Outcomes.{changed-at, changed-other, asked_part, amounts_low, capacities_low}
 use Rattle.sfm_assign.proofs.Filling.{smaller}
+use Rattle.sfm_assign.proofs.Lending.{GetsOne, IsFoundFrom}
 
 module _ (d : Demands) (sound : AreDemands d) (u : ℕ) (lu : u < length d.demands) (y : List ℤ) (part : IsPart d.demands d.capacities (owners 0 d.lists) (joined d.lists) y) (met : IsMet d.demands (owners 0 d.lists) y) where
   abbrev whos : List ℕ

@@ -3,7 +3,7 @@
 use Rattle.std.specs.Prelude.{◌≡◌, ℕ, suc, ◌<◌, Bool, false, List, [], ◌∷◌, length, slice_index_or, ℤ, pos, ◌+ℤ◌, ◌-ℤ◌, ◌≤ℤ◌, ◌<ℤ◌, Option, Some, None, nat_eq, if◌then◌else◌}
 use Rattle.sfm_spec.specs.Sets.{Has}
 use Rattle.sfm_assign.specs.Splits.{sum_at, amount_at}
-use Rattle.sfm_assign.specs.Cells.{label_at, IsPart, IsClosed}
+use Rattle.sfm_assign.specs.Cells.{label_at, IsClosed}
 use Rattle.sfm_assign.specs.declared.nodes.Link.{Link}
 use Rattle.sfm_assign.specs.declared.nodes.Node.{Node}
 
@@ -164,20 +164,6 @@ pub record IsFilled (demands capacities : List ℤ) (whos slots : List ℕ) (y :
   pub places : length set ≡ length demands
   pub closed : IsClosed capacities whos slots y set
   pub lacking : (i : ℕ) → i < length demands → sum_at i whos y <ℤ amount_at demands i → Has set i
-
--- amounts by which a demand that lacks something gets one more, and each demand otherwise what it got less what is told
-pub record GetsOne (demands capacities : List ℤ) (whos slots : List ℕ) (y : List ℤ) (less : ℕ → ℤ) : Type 0 where
-  pub after : List ℤ
-  pub part : IsPart demands capacities whos slots after
-  pub to : ℕ
-  pub in_range : to < length demands
-  pub lacking : sum_at to whos y <ℤ amount_at demands to
-  pub got : (i : ℕ) → sum_at i whos after ≡ ((sum_at i whos y +ℤ only to i (pos 1)) -ℤ less i)
-
--- a closed set with all demands that lack something, to one of which each of its members can give up one of what it gets
-pub record IsFoundFrom (demands capacities : List ℤ) (whos slots : List ℕ) (y : List ℤ) (set : List Bool) : Type 0 where
-  pub filled : IsFilled demands capacities whos slots y set
-  pub lends : (v : ℕ) → Has set v → GetsOne demands capacities whos slots y (λ i. only v i (pos 1))
 
 -- the demand v gets a less, each other as much as before, and no slot has more
 pub record IsLowered (whos slots : List ℕ) (v : ℕ) (a : ℤ) (y z : List ℤ) : Type 0 where

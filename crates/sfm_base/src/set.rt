@@ -82,6 +82,14 @@ impl Set {
         self.members[e] = false;
     }
 
+    /// Puts the place e in where it is to be a member, and takes it out where it is not.
+    pub fn put(&mut self, e: usize, member: bool)
+        requires { e < length self.old }
+        ensures { self.new ≡ slice_set self.old e member }
+    {
+        self.members[e] = member;
+    }
+
     /// Takes every place out.
     pub fn clear(&mut self)
         ensures { self.new ≡ empty_set (length self.old) }

@@ -1,5 +1,5 @@
 -- All breakpoints of the terms of an instance, against the slopes of an answer.
-use Rattle.std.proofs.Common.{◌≡◌, ◌≢◌, ◌⊎◌, inl, inr, ℕ, zero, suc, ◌+◌, ◌<◌, ◌≤◌, ◌^◌, Bool, List, [], ◌∷◌, ◌++◌, length, map, get_or, take, drop, pos, refl, sym, ap, ◌∙◌, arith, subst}
+use Rattle.std.proofs.Common.{◌≡◌, ◌≢◌, ◌⊎◌, inl, inr, ℕ, ◌+◌, ◌<◌, ◌≤◌, ◌^◌, Bool, List, [], ◌∷◌, ◌++◌, length, map, get_or, take, drop, pos, refl, sym, ap, ◌∙◌, arith, subst}
 use Rattle.std.specs.Prelude.{unsigned_abs}
 use borrow.Author.Differences.{abs_is}
 use Rattle.std.specs.List.{All}
@@ -7,24 +7,23 @@ use Rattle.std.proofs.lemmas.Int.{ints}
 use Rattle.std.proofs.lemmas.List.{at_drop_all, get_or-drop, get_or-map, length-drop, length-map, length-take-le, take-append-drop}
 use Rattle.std.proofs.Math.Seq.{drop-append_seam}
 use Rattle.std.proofs.lemmas.List.Elements.{All-drop, All-from_get_or}
-use Rattle.sfm_spec.specs.Bounds.{total_of}
 use Rattle.sfm_spec.specs.Slopes.{IsLowest}
 use Rattle.sfm_spec.specs.Families.{AreTerms, IsAllowed, meanings, sum_at}
-use Rattle.sfm_spec.specs.Laws.{AreBreakpoints, Mark, no_mark}
+use Rattle.sfm_spec.specs.Laws.{AreBreakpoints, Mark, no_mark, ones}
 use Rattle.sfm_spec.specs.Search.{AreLowest, mark_at}
 use Rattle.sfm_spec.proofs.Breakpoints.{breakpoint_bounds, breakpoints_exist, breakpoints_unique}
 use Rattle.sfm_spec.proofs.Duality.{meanings-terms}
-use Rattle.sfm_extreme.proofs.Lists.{placed-meanings}
+use Rattle.sfm_spec.proofs.Ones.{ones-places, ones-sizes, total-ones}
+use Rattle.sfm_law.proofs.Lists.{placed-meanings}
 use Rattle.sfm_kind.specs.declared.kind.Kind.{Kind}
 use Rattle.sfm_kind.specs.Instance.{AreInBounds}
 use Rattle.sfm_kind.specs.Names.{AreElementNames}
 use Rattle.sfm_kind.specs.Kinds.{kind_places, kind_value, kind-family, kind-submodular}
 use Rattle.sfm_cert.specs.Answer.{Answer, Break, Form, mark_of}
 use Rattle.sfm_cert.specs.Form.{IsFormed, IsFormedBreak}
-use Rattle.sfm_check.specs.Truth.{ones}
 use Rattle.sfm_check.specs.Due.{break_at}
 use Rattle.sfm_check.specs.Findings.{IsFirstWrongSlope, IsWrongLine, SaysTheSame}
-use Rattle.sfm_check.proofs.Following.{sized_ones, small_ones, wrong_slope_departs}
+use Rattle.sfm_check.proofs.Following.{wrong_slope_departs}
 use Rattle.sfm_check.proofs.OneToOne.{IsPlainMark}
 use Rattle.sfm_check.proofs.Small.{sum_small}
 use Rattle.sfm_check.proofs.WrongLines.{wrong_slope}
@@ -33,10 +32,6 @@ use Rattle.sfm_check.proofs.WrongLines.{wrong_slope}
 pub marks_kept : (marks : List Mark) → map mark_of (map break_at marks) ≡ marks
 marks_kept [] = refl
 marks_kept (m ∷ marks) = ap (λ z. m ∷ z) (marks_kept marks)
-
-total_ones : (n : ℕ) → total_of (ones n) ≡ pos n
-total_ones zero = refl
-total_ones (suc n) = let r = total_ones n in omega (arith, ints, r)
 
 no_break : Break
 no_break = record { num = pos 0; den = pos 1; members = []; bases = [] }
@@ -69,10 +64,10 @@ module _ (n : ℕ) (ts : List Kind) (bounded : AreInBounds n ts) where
   fit = meanings-terms n kind_places kind_value kind-family kind-submodular ts (placed-meanings n kind_places kind_value ts bounded.placed)
 
   pub all_slopes : (marks : List Mark) × AreBreakpoints (meanings kind_places kind_value ts) n (ones n) marks
-  all_slopes = breakpoints_exist (meanings kind_places kind_value ts) n (ones n) fit (sized_ones n) (small_ones n)
+  all_slopes = breakpoints_exist (meanings kind_places kind_value ts) n (ones n) fit (ones-places n) (ones-sizes n)
 
   pub same_slopes : (marks marks' : List Mark) → AreBreakpoints (meanings kind_places kind_value ts) n (ones n) marks → AreBreakpoints (meanings kind_places kind_value ts) n (ones n) marks' → marks ≡ marks'
-  same_slopes = breakpoints_unique (meanings kind_places kind_value ts) n (ones n) fit (sized_ones n) (small_ones n)
+  same_slopes = breakpoints_unique (meanings kind_places kind_value ts) n (ones n) fit (ones-places n) (ones-sizes n)
 
   sum_within : (s : List Bool) → length s ≡ n → IsAllowed (meanings kind_places kind_value ts) s → unsigned_abs (sum_at (meanings kind_places kind_value ts) s) ≤ 10 ^ 18
   sum_within s places allowed =
@@ -88,10 +83,10 @@ module _ (n : ℕ) (ts : List Kind) (bounded : AreInBounds n ts) where
         let m = mark_at marks i in
         let b = are.sound i l in
         let low = are.lowest i l in
-        let small = breakpoint_bounds (meanings kind_places kind_value ts) n (ones n) fit (sized_ones n) (small_ones n) (10 ^ 18) sum_within m.num m.den m.members low b in
+        let small = breakpoint_bounds (meanings kind_places kind_value ts) n (ones n) fit (ones-places n) (ones-sizes n) (10 ^ 18) sum_within m.num m.den m.members low b in
         let x = abs_is m.num in
         let one = low.positive in
-        let t = total_ones n in
+        let t = total-ones n in
         record {
           num = record { low = omega (arith, ints, small.1, x); high = omega (arith, ints, small.1, x) };
           den = record { low = omega (arith, ints, one); high = omega (arith, ints, small.0, t, few) };

@@ -1,43 +1,28 @@
 -- Slopes that are each the next one, up to the whole set, are all breakpoints; and the first that is not the next one differs
 -- from the breakpoint that is due, or stands where none is.
-use Rattle.std.proofs.Common.{◌≡◌, ◌≢◌, ◌⊎◌, inl, inr, ℕ, zero, suc, ◌<◌, ◌≤◌, Bool, List, [], ◌∷◌, ◌++◌, length, take, ℤ, pos, ◌*ℤ◌, ◌≤ℤ◌, refl, sym, ap, ◌∙◌, arith, subst}
-use Rattle.std.proofs.lemmas.Int.{ints}
-use Rattle.std.proofs.lemmas.List.{length-replicate}
-use Rattle.std.proofs.lemmas.List.Elements.{All-replicate}
+use Rattle.std.proofs.Common.{◌≡◌, ◌≢◌, ◌⊎◌, inl, inr, ℕ, zero, suc, ◌<◌, ◌≤◌, Bool, List, [], ◌∷◌, ◌++◌, length, take, refl, sym, ap, ◌∙◌, arith, subst}
 use Rattle.sfm_spec.specs.Sets.{empty_set, size, whole_set}
-use Rattle.sfm_spec.specs.Families.{Meaning, AreTerms, IsLeast, IsGreatest, even_shift, sized_shift}
-use Rattle.sfm_spec.specs.Laws.{AreBreakpoints, IsChain, Mark}
+use Rattle.sfm_spec.specs.Families.{Meaning, AreTerms, IsLeast, IsGreatest, sized_shift}
+use Rattle.sfm_spec.specs.Laws.{AreBreakpoints, IsChain, Mark, ones}
 use Rattle.sfm_spec.specs.Search.{AreLowest, mark_at}
 use Rattle.sfm_spec.proofs.Chain.{breakpoints_of_chain, chain_of_breakpoints}
 use Rattle.sfm_spec.proofs.Breakpoints.{next_exactly, none_left_exactly}
-use Rattle.sfm_spec.proofs.Sizes.{AreSizes}
-use Rattle.sfm_check.specs.Truth.{ones}
+use Rattle.sfm_spec.proofs.Ones.{ones-places, ones-shift, ones-sizes}
 use Rattle.sfm_check.specs.Findings.{IsFirstWrongSlope, IsFullChain, IsNextSlope, set_before}
-
-pub sized_ones : (n : ℕ) → length (ones n) ≡ n
-sized_ones n = length-replicate n (pos 1)
-
-pub small_ones : (n : ℕ) → AreSizes (ones n)
-small_ones n = All-replicate (λ w. pos 1 ≤ℤ w) n (pos 1) (omega (arith, ints))
-
--- with sizes of one a slope shifts each element by its numerator
-pub ones_shift : (n : ℕ) (p : ℤ) → sized_shift (ones n) p ≡ even_shift n p
-ones_shift zero p = refl
-ones_shift (suc n) p = let one : (p *ℤ pos 1) ≡ p = omega (arith, ints) in ap (λ z. z ∷ sized_shift (ones n) p) one ∙ ap (λ z. p ∷ z) (ones_shift n p)
 
 module _ (terms : List Meaning) (n : ℕ) (fit : AreTerms n terms) where
   -- the next slope, in the words of chains
   next_in : (a : List Bool) (m : Mark) → IsNextSlope terms n a m → IsLeast terms n m.den (sized_shift (ones n) m.num) a × IsGreatest terms n m.den (sized_shift (ones n) m.num) m.members × (size a < size m.members)
   next_in a m h = (
-    subst (λ z. IsLeast terms n m.den z a) (sym (ones_shift n m.num)) h.least,
-    subst (λ z. IsGreatest terms n m.den z m.members) (sym (ones_shift n m.num)) h.greatest,
+    subst (λ z. IsLeast terms n m.den z a) (sym (ones-shift n m.num)) h.least,
+    subst (λ z. IsGreatest terms n m.den z m.members) (sym (ones-shift n m.num)) h.greatest,
     h.larger,
   )
 
   next_out : (a : List Bool) (m : Mark) → IsLeast terms n m.den (sized_shift (ones n) m.num) a × IsGreatest terms n m.den (sized_shift (ones n) m.num) m.members × (size a < size m.members) → IsNextSlope terms n a m
   next_out a m h = record {
-    least = subst (λ z. IsLeast terms n m.den z a) (ones_shift n m.num) h.0;
-    greatest = subst (λ z. IsGreatest terms n m.den z m.members) (ones_shift n m.num) h.1;
+    least = subst (λ z. IsLeast terms n m.den z a) (ones-shift n m.num) h.0;
+    greatest = subst (λ z. IsGreatest terms n m.den z m.members) (ones-shift n m.num) h.1;
     larger = h.2;
   }
 
@@ -58,7 +43,7 @@ module _ (terms : List Meaning) (n : ℕ) (fit : AreTerms n terms) where
       ((low 0 (omega arith)).positive, h.1, h.0, h.2, chain_by m.members marks (λ i l. low (suc i) (omega arith)) (λ k l. rest_next a m marks k (each (suc k) (omega arith))) (sym (before_step a m marks (length marks)) ∙ ends))
 
   pub full_chain : (marks : List Mark) → AreLowest marks → IsFullChain terms n marks → AreBreakpoints terms n (ones n) marks
-  full_chain marks low h = breakpoints_of_chain terms n (ones n) fit (sized_ones n) (small_ones n) marks (chain_by (empty_set n) marks low h.each h.ends) low
+  full_chain marks low h = breakpoints_of_chain terms n (ones n) fit (ones-places n) (ones-sizes n) marks (chain_by (empty_set n) marks low h.each h.ends) low
 
   -- ---- the first slope that is not
 
@@ -75,7 +60,7 @@ module _ (terms : List Meaning) (n : ℕ) (fit : AreTerms n terms) where
   follows a [] due (suc k) chain low lowest few right = absurd (omega arith)
   follows a (g ∷ given) due (suc k) chain low lowest few right = at due chain low head (λ due' c l. follows g.members given due' k c l (λ i h. lowest (suc i) (omega arith)) (omega arith) (λ j h. rest_next a g given j (right (suc j) (omega arith)))) where
     head : (0 < length due) × (mark_at due 0 ≡ record { num = g.num; den = g.den; members = g.members })
-    head = (next_exactly terms n (ones n) fit (sized_ones n) (small_ones n) a due g.num g.den g.members chain low (lowest 0 (omega arith))).1 (next_in a g (right 0 (omega arith)))
+    head = (next_exactly terms n (ones n) fit (ones-places n) (ones-sizes n) a due g.num g.den g.members chain low (lowest 0 (omega arith))).1 (next_in a g (right 0 (omega arith)))
 
     at : (due : List Mark) → IsChain terms n (ones n) a due → AreLowest due → (0 < length due) × (mark_at due 0 ≡ record { num = g.num; den = g.den; members = g.members })
         → ((due' : List Mark) → IsChain terms n (ones n) g.members due' → AreLowest due' → Follows g.members given due' k) → Follows a (g ∷ given) due (suc k)
@@ -99,14 +84,14 @@ module _ (terms : List Meaning) (n : ℕ) (fit : AreTerms n terms) where
   pub wrong_slope_departs : (given due : List Mark) (k : ℕ) → AreLowest given → AreBreakpoints terms n (ones n) due → IsFirstWrongSlope terms n given k → Departs given due k
   wrong_slope_departs given due k lowest breaks w = at w.wrong where
     chain : IsChain terms n (ones n) (empty_set n) due
-    chain = chain_of_breakpoints terms n (ones n) fit (sized_ones n) (small_ones n) due breaks
+    chain = chain_of_breakpoints terms n (ones n) fit (ones-places n) (ones-sizes n) due breaks
 
     at : ((k < length given) × (IsNextSlope terms n (set_before (empty_set n) given k) (mark_at given k) → ⊥)) ⊎ ((k ≡ length given) × (set_before (empty_set n) given k ≢ whole_set n)) → Departs given due k
     at (inl (l, not_next)) =
         let f = follows (empty_set n) given due k chain breaks.lowest lowest (omega (arith, l)) w.before in
         let g = mark_at given k in
-        let exact = next_exactly terms n (ones n) fit (sized_ones n) (small_ones n) (set_before (empty_set n) given k) f.rest g.num g.den g.members f.chain f.low (lowest k l) in
+        let exact = next_exactly terms n (ones n) fit (ones-places n) (ones-sizes n) (set_before (empty_set n) given k) f.rest g.num g.den g.members f.chain f.low (lowest k l) in
         record { rest = f.rest; parts = f.parts; in_given = omega (arith, l); departs = inl (l, (λ (some, same). not_next (next_out (set_before (empty_set n) given k) g (exact.0 (some, same))))) }
     at (inr (e, not_whole)) =
         let f = follows (empty_set n) given due k chain breaks.lowest lowest (omega (arith, e)) w.before in
-        record { rest = f.rest; parts = f.parts; in_given = omega (arith, e); departs = inr (e, (λ none. not_whole ((none_left_exactly terms n (ones n) fit (sized_ones n) (small_ones n) (set_before (empty_set n) given k) f.rest f.chain).0 none))) }
+        record { rest = f.rest; parts = f.parts; in_given = omega (arith, e); departs = inr (e, (λ none. not_whole ((none_left_exactly terms n (ones n) fit (ones-places n) (ones-sizes n) (set_before (empty_set n) given k) f.rest f.chain).0 none))) }

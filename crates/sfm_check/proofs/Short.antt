@@ -3,8 +3,9 @@ use Rattle.std.proofs.Common.{◌≡◌, ℕ, ◌≤◌, List, [], ◌∷◌, le
 use Rattle.std.proofs.lemmas.List.{length-map}
 use Rattle.sfm_spec.specs.Sets.{empty_set}
 use Rattle.sfm_spec.specs.Families.{even_shift, meanings}
-use Rattle.sfm_spec.specs.Laws.{AreBreakpoints, Mark}
+use Rattle.sfm_spec.specs.Laws.{AreBreakpoints, Mark, ones}
 use Rattle.sfm_spec.proofs.Chain.{chain_count, chain_of_breakpoints}
+use Rattle.sfm_spec.proofs.Ones.{ones-places, ones-sizes}
 use Rattle.sfm_kind.specs.declared.kind.Kind.{Kind}
 use Rattle.sfm_kind.specs.Instance.{AreInBounds, InstanceData}
 use Rattle.sfm_kind.specs.Kinds.{kind_places, kind_value}
@@ -12,10 +13,9 @@ use Rattle.sfm_kind.specs.Names.{AreElementNames}
 use Rattle.sfm_cert.specs.Answer.{mark_of}
 use Rattle.sfm_cert.specs.Grammar.{answer_limit}
 use Rattle.sfm_cert.specs.Solved.{form_of}
-use Rattle.sfm_check.specs.Truth.{IsRightFile, ones}
+use Rattle.sfm_check.specs.Truth.{IsRightFile}
 use Rattle.sfm_check.proofs.AllSlopes.{fit}
 use Rattle.sfm_check.proofs.BlockOrder.{few_blocks}
-use Rattle.sfm_check.proofs.Following.{sized_ones, small_ones}
 use Rattle.sfm_check.proofs.Lengths.{AreFewWidths, IsSmallAnswer, answer_short}
 
 same_widths : (ts : List Kind) → map length (map kind_places ts) ≡ map (λ term. length (kind_places term)) ts
@@ -33,7 +33,7 @@ few_widths n ts bounded =
 -- there are at most as many slopes as elements
 few_slopes : (n : ℕ) (ts : List Kind) → AreInBounds n ts → (marks : List Mark) → AreBreakpoints (meanings kind_places kind_value ts) n (ones n) marks → length marks ≤ n
 few_slopes n ts bounded marks b =
-    let chain = chain_of_breakpoints (meanings kind_places kind_value ts) n (ones n) (fit n ts bounded) (sized_ones n) (small_ones n) marks b in
+    let chain = chain_of_breakpoints (meanings kind_places kind_value ts) n (ones n) (fit n ts bounded) (ones-places n) (ones-sizes n) marks b in
     let count = chain_count (meanings kind_places kind_value ts) n (ones n) (empty_set n) marks chain in
     omega (arith, count)
 

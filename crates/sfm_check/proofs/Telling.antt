@@ -7,11 +7,13 @@ use Rattle.sfm_spec.specs.Families.{AreTerms, Meaning, even_shift, shifted_at}
 use Rattle.sfm_spec.proofs.Breakpoints.{breakpoints_unique}
 use Rattle.sfm_spec.proofs.Nest.{same_least, same_greatest}
 use Rattle.sfm_spec.proofs.Walks.{bases-at}
+use Rattle.sfm_spec.proofs.Ones.{ones-places, ones-sizes}
+use Rattle.sfm_spec.specs.Laws.{ones}
 use Rattle.sfm_kind.specs.Names.{AreElementNames}
 use Rattle.sfm_cert.specs.Answer.{Answer, Form, mark_of, answer_lines, text_of}
 use Rattle.sfm_cert.specs.Grammar.{IsAnswerText, IsLine, answer_limit}
 use Rattle.sfm_cert.proofs.OneAnswer.{one_answer}
-use Rattle.sfm_check.specs.Truth.{ones, IsProvedSection, IsRightFile, IsTrueHead, no_section, section_at, sections_of}
+use Rattle.sfm_check.specs.Truth.{IsProvedSection, IsRightFile, IsTrueHead, no_section, section_at, sections_of}
 use Rattle.sfm_check.specs.declared.verdicts.Wrong.TheVariants.{Long, Grammar, Base, Unproved, Answer as AnswerLine}
 use Rattle.sfm_check.specs.declared.verdicts.Verdict.{Verdict}
 use Rattle.sfm_check.specs.declared.verdicts.Verdict.TheVariants.{Valid, Invalid}
@@ -19,7 +21,6 @@ use Rattle.sfm_check.specs.Verdict.{AllAreProved, IsFirstNoBase, IsFirstUnproved
 use Rattle.sfm_check.specs.Findings.{IsFound}
 use Rattle.sfm_check.proofs.Forming.{few_lines}
 use Rattle.sfm_check.proofs.OneBlocks.{one_blocks}
-use Rattle.sfm_check.proofs.Following.{sized_ones, small_ones}
 use Rattle.sfm_check.proofs.WrongLines.{line_due, slope_lines-same}
 
 -- a text has a byte for each line
@@ -69,7 +70,7 @@ module _ (form : Form) (terms : List Meaning) (text : List ℕ) (a : Answer) (cl
       let greatest = same_greatest terms n (pos 1) zero' x.greatest y.greatest hx.greatest hy.greatest in
       let value : x.value ≡ y.value = hx.value ∙ (ap (shifted_at terms (pos 1) zero') least ∙ sym hy.value) in
       let blocks = one_blocks terms n (pos 1) zero' x.blocks y.blocks hx.blocks hy.blocks in
-      let marks = breakpoints_unique terms n (ones n) fit (sized_ones n) (small_ones n) (map mark_of x.breaks) (map mark_of y.breaks) hx.breaks hy.breaks in
+      let marks = breakpoints_unique terms n (ones n) fit (ones-places n) (ones-sizes n) (map mark_of x.breaks) (map mark_of y.breaks) hx.breaks hy.breaks in
       let slopes = slope_lines-same form.names x.breaks y.breaks marks in
       cc (value, least, greatest, blocks, slopes)
 

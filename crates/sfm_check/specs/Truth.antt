@@ -1,15 +1,11 @@
 -- Which answers are true of a sum of terms, with bases that prove them; which texts are right.
-use Rattle.std.specs.Prelude.{◌≡◌, ℕ, List, [], ◌∷◌, map, length, slice_index_or, replicate, ℤ, pos}
+use Rattle.std.specs.Prelude.{◌≡◌, ℕ, List, [], ◌∷◌, map, length, slice_index_or, ℤ, pos}
 use Rattle.std.specs.List.{All}
 use Rattle.sfm_spec.specs.Families.{Meaning, IsLeast, IsGreatest, AreBases, Prove, even_shift, shifted_at}
 use Rattle.sfm_spec.specs.Blocks.{AreBlocks}
-use Rattle.sfm_spec.specs.Laws.{AreBreakpoints}
+use Rattle.sfm_spec.specs.Laws.{AreBreakpoints, ones}
 use Rattle.sfm_cert.specs.Answer.{Answer, Break, Form, mark_of}
 use Rattle.sfm_cert.specs.Grammar.{IsAnswerText}
-
--- each element counts one
-abbrev pub ones : ℕ → List ℤ
-ones n = replicate n (pos 1)
 
 -- what the answer lines say is true: the least value, the extreme minimisers, the blocks that generate all minimisers, and
 -- every slope with two or more minimisers, with the greatest

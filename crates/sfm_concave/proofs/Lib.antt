@@ -2,11 +2,8 @@ pub mod Above
 pub mod Bars
 pub mod Bases
 pub mod ConcaveRooms
-pub mod Fits
 pub mod Increments
 pub mod LeastSoFar
-pub mod Puts
 pub mod Ranks
 pub mod Shares
-pub mod Totals
 pub mod UniformRooms

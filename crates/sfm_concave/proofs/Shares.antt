@@ -10,7 +10,7 @@ use Rattle.sfm_spec.proofs.Sizes.{size-whole}
 use Rattle.sfm_spec.proofs.Sums.{sum_over-drop}
 use Rattle.sfm_concave.specs.Counts.{size-put, sum_over-put, size-in, size-out, sum_over-in, sum_over-out}
 use Rattle.sfm_concave.specs.Thresholds.{above, above_with, above_between, IsShareOf}
-use Rattle.sfm_concave.proofs.Totals.{total_of-whole}
+use Rattle.sfm_law.proofs.Totals.{total_of-whole}
 use Rattle.sfm_concave.proofs.Above.{length-above, length-above_with, is_above, is_not_above, has_with}
 
 -- ---- one place after another

@@ -11,13 +11,11 @@ ghost use Rattle.sfm_concave.specs.Rankings.{IsRanking};
 ghost use Rattle.sfm_concave.specs.Thresholds.{slack, IsShareOf, IsSomeShare, IsLeastSlack, Blocks, IsOver, IsBar, LeavesAbove};
 ghost use Rattle.sfm_concave.specs.ConcaveLaws.{number_of, scaled, IsFirstRise, NeverRises, greatest, gain_of, concave_start, concave-family, concave-submodular, concave-bounded, concave-starts, concave-starts_small};
 
-use crate::number::{has_sum, magnitude, product};
-use crate::place::put;
 use crate::ranking::{FEW, Ranking, ranking_of};
 use crate::rise::first_rise;
 use crate::share::{Share, share_above, share_between, share_with, share_without};
 use sfm_base::{Memory, Numbers, Places, Set};
-use sfm_law::{Room, Term};
+use sfm_law::{Room, Term, has_sum, magnitude, product};
 use std::alloc::Global;
 
 /// Why numbers make no concave function.
@@ -382,7 +380,7 @@ impl Concave {
     {
         let bar = self.bar(q, x, u);
         for (v, a) in x.iter().enumerate() {
-            put(to, v, is_other_over(v, u, bar, *a));
+            to.put(v, is_other_over(v, u, bar, *a));
         }
     }
 }

@@ -2,8 +2,6 @@
 #![tactic(auto)]
 
 pub mod concave;
-mod number;
-mod place;
 mod ranking;
 mod rise;
 mod share;

@@ -8,8 +8,8 @@ ghost use Rattle.sfm_concave.specs.Thresholds.{above, above_with, above_between}
 ghost use Rattle.sfm_concave.specs.Thresholds.{IsShareOf};
 ghost use Rattle.sfm_concave.specs.Rankings.{IsRanking};
 
-use crate::number::sum_of;
 use crate::ranking::{Ranking, count_upto};
+use sfm_law::sum_of;
 
 /// A count of places, and the sum of their entries.
 #[derive(Clone, Copy, Debug, PartialEq, Eq)]

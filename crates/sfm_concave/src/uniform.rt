@@ -9,10 +9,8 @@ ghost use Rattle.sfm_spec.specs.Kinds.{uniform_value};
 ghost use Rattle.sfm_law.specs.Room.{IsRoom, IsReach, IsWithinRoom};
 ghost use Rattle.sfm_concave.specs.UniformLaws.{rank_of, IsUniformRoom, uniform_size, uniform_gain, uniform_start, uniform-family, uniform-submodular, uniform-bounded, uniform-starts, uniform-starts_small};
 
-use crate::number::{has_sum, product};
-use crate::place::put;
 use sfm_base::{Memory, Places, Set};
-use sfm_law::{Room, Term};
+use sfm_law::{Room, Term, has_sum, product};
 use std::alloc::Global;
 
 /// A number for each element of a part, but for at most `cap` of them: the weighted rank of a uniform matroid (Schrijver,
@@ -158,7 +156,7 @@ impl Uniform {
     {
         let lacks = x[u] < product(q, self.w);
         for (v, a) in x.iter().enumerate() {
-            put(to, v, is_other_some(v, u, lacks, *a));
+            to.put(v, is_other_some(v, u, lacks, *a));
         }
     }
 }

@@ -10,7 +10,7 @@ use Rattle.sfm_spec.proofs.Extremes.{leads_step, no_join_exactly, no_join_exactl
 use Rattle.sfm_spec.proofs.Proving.{no_join}
 use Rattle.sfm_extreme.specs.declared.search.Visit.{Visit}
 use Rattle.sfm_extreme.specs.declared.search.Way.TheVariants.{Onward, Back}
-use Rattle.sfm_extreme.specs.Rest.{IsRest}
+use Rattle.sfm_law.specs.Rest.{IsRest}
 use Rattle.sfm_extreme.specs.Links.{AreLinks}
 use Rattle.sfm_extreme.specs.Search.{IsSetOf, IsSearch, AreLinkedSteps, link_by, place_at, earlier_at}
 use Rattle.sfm_extreme.proofs.Adding.{value_of_some}

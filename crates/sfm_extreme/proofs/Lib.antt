@@ -1,6 +1,4 @@
-pub mod Lists
 pub mod Deficits
-pub mod Rests
 pub mod Adding
 pub mod Searches
 pub mod Marking

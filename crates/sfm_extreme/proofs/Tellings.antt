@@ -10,7 +10,7 @@ use Rattle.sfm_spec.proofs.Sets.{has_or_not}
 use Rattle.sfm_spec.proofs.Walks.{has_below}
 use Rattle.sfm_spec.proofs.Extremes.{in_complement, not_in_complement}
 use Rattle.sfm_spec.proofs.Pulls.{free_exactly, pulls_exactly}
-use Rattle.sfm_extreme.specs.Rest.{IsRest}
+use Rattle.sfm_law.specs.Rest.{IsRest}
 use Rattle.sfm_extreme.specs.Links.{AreLinks}
 use Rattle.sfm_extreme.specs.Pulls.{ArePullRows, IsBetween, IsReachedRow, Pulls, row_of}
 use Rattle.sfm_extreme.proofs.Answering.{greatest_by_prove, least_found, reached_by_search}

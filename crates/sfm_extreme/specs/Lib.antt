@@ -1,4 +1,3 @@
-pub mod Rest
 pub mod Links
 pub mod Search
 pub mod Certified

@@ -11,12 +11,11 @@ ghost use Rattle.sfm_extreme.specs.Certified.{IsAnswer, IsProved};
 
 use crate::deficit::deficit_of;
 use crate::links::links_of;
-use crate::rest::rest_of;
 use crate::search::{Way, search_from};
 use crate::signs::{complement_of, places_over, places_under};
 use crate::walk::{visit_under, walk_of};
 use sfm_base::{Memory, Rows, Set};
-use sfm_law::{Term, Walk};
+use sfm_law::{Term, Walk, rest_of};
 use std::alloc::Global;
 
 /// The minimum that bases prove, with the extreme sets that attain it (Fujishige, Submodular Functions and

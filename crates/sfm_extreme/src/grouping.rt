@@ -12,9 +12,8 @@ ghost use Rattle.sfm_extreme.specs.Pulls.{AreGrouped, AreSquare, IsMembers, need
 use crate::between::{between, pull_rows};
 use crate::firsts::firsts_in_order;
 use crate::links::links_of;
-use crate::rest::rest_of;
 use sfm_base::{Memory, Rows, Set};
-use sfm_law::Term;
+use sfm_law::{Term, rest_of};
 use std::alloc::Global;
 
 /// Places that are in the same minimisers, and the blocks that each minimiser with them has too.

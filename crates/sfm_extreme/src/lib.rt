@@ -9,7 +9,6 @@ mod extremes;
 mod firsts;
 mod grouping;
 mod links;
-mod rest;
 mod search;
 mod signs;
 mod walk;

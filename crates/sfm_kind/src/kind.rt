@@ -11,7 +11,7 @@ use sfm_base::{Memory, Set};
 use sfm_concave::{Concave, Uniform};
 use sfm_laminar::Laminar;
 use sfm_law::{Room, Term};
-use sfm_matroid::{EndSplits, Graphic, SlotSplit, Transversal};
+use sfm_matroid::{Graphic, SlotSplit, TailSplits, Transversal};
 use sfm_simple::{Cover, Cut, Need, Table, Weight};
 use std::alloc::Global;
 
@@ -46,7 +46,7 @@ pub enum KindNote {
     /// Nothing, as beside the plain kinds.
     Nothing,
     /// The splits in the tests of a graphic rank.
-    Graphic(EndSplits),
+    Graphic(TailSplits),
     /// The split in the test of a transversal rank.
     Transversal(SlotSplit),
 }

@@ -1,8 +1,6 @@
 pub mod Bases
 pub mod Exchanges
 pub mod Fits
-pub mod Puts
-pub mod Totals
 pub mod Listed
 pub mod Kept
 pub mod Leasts

@@ -19,10 +19,10 @@ use crate::crossing::first_crossing;
 use crate::groups::Groups;
 use crate::growing::{grow, whole};
 use crate::index::Index;
-use crate::number::{are_within, bound, has_sum, product, sum_listed};
-use crate::place::{keep_listed, lists, put};
+use crate::number::{bound, sum_listed};
+use crate::place::{keep_listed, lists};
 use sfm_base::{Memory, Places, Set};
-use sfm_law::{Room, Term};
+use sfm_law::{Room, Term, are_within, has_sum, product};
 use std::alloc::Global;
 
 /// Why groups make no laminar matroid.
@@ -317,7 +317,7 @@ impl Laminar {
     {
         let lacks = x[u] < product(q, self.w);
         for (v, a) in x.iter().enumerate() {
-            put(to, v, is_other_some(v, u, lacks, *a));
+            to.put(v, is_other_some(v, u, lacks, *a));
         }
     }
 

@@ -1,4 +1,4 @@
-// Products and sums of the numbers that a term and its bases are made of.
+// What a group gets at the most, and what its members have together.
 ghost use Rattle.std.specs.Prelude.{◌≡◌, ◌↔◌, ◌<◌, ◌≤◌, ◌^◌, IsTrue, length, ℤ, ◌*ℤ◌, ◌≤ℤ◌, pos};
 ghost use Rattle.std.specs.Int.{int_min};
 ghost use Rattle.std.specs.List.{All};
@@ -7,44 +7,6 @@ ghost use Rattle.sfm_laminar.specs.Groups.{IsGroup};
 ghost use Rattle.sfm_laminar.specs.Masks.{sum_listed};
 
 use crate::groups::CappedGroup;
-
-/// A factor times a number.
-pub(crate) fn product(q: i128, w: i128) -> i128
-    requires factor { IsFactor q }
-    requires given { IsAtMost (10 ^ 21) w }
-    ensures { result ≡ q *ℤ w }
-{
-    q * w
-}
-
-/// The sum of the entries.
-pub(crate) fn sum_of(x: &[i128]) -> i128
-    requires few { length x.now ≤ 256 }
-    requires small { All IsEntry x.now }
-    ensures { result ≡ total_of x.now }
-{
-    let mut sum = 0;
-    for a in x {
-        sum += *a;
-    }
-    sum
-}
-
-/// Whether the entries add to a number.
-pub(crate) fn has_sum(x: &[i128], sum: i128) -> bool
-    requires few { length x.now ≤ 256 }
-    requires small { All IsEntry x.now }
-    ensures { IsTrue result ↔ (total_of x.now ≡ sum) }
-{
-    sum_of(x) == sum
-}
-
-/// Whether each entry is from 0 to a number.
-pub(crate) fn are_within(x: &[i128], most: i128) -> bool
-    ensures { IsTrue result ↔ All (λ a. (pos 0 ≤ℤ a) × (a ≤ℤ most)) x.now }
-{
-    x.iter().all(|a| 0 <= *a && *a <= most)
-}
 
 /// The most that a group gets: a number for each member, or for as many as its cap where that is less. The lesser is taken
 /// before multiplying, so that the product stays small.

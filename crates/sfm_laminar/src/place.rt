@@ -6,18 +6,6 @@ ghost use Rattle.sfm_laminar.specs.Masks.{IsAscending};
 
 use sfm_base::Set;
 
-/// Puts a place into a set where it is to be a member, and takes it out where it is not.
-pub(crate) fn put(to: &mut Set, v: usize, member: bool)
-    requires { v < length to.old }
-    ensures { to.new ≡ slice_set to.old v member }
-{
-    if member {
-        to.insert(v);
-    } else {
-        to.remove(v);
-    }
-}
-
 /// Whether a place is listed.
 pub(crate) fn lists(members: &[usize], e: usize) -> bool
     requires { IsAscending members.now }

@@ -5,3 +5,8 @@ pub mod Greedy
 pub mod Listing
 pub mod Monotone
 pub mod FirstBases
+pub mod Lists
+pub mod Rests
+pub mod Fits
+pub mod Totals
+pub mod Puts

@@ -4,6 +4,8 @@
 pub mod breaks;
 pub mod laws;
 pub mod moves;
+pub mod numbers;
+pub mod rest;
 pub mod room;
 pub mod starts;
 pub mod term;
@@ -13,6 +15,8 @@ pub mod walk;
 
 pub use breaks::Break;
 pub use moves::exchange;
+pub use numbers::{are_within, has_sum, magnitude, product, sum_of};
+pub use rest::rest_of;
 pub use room::Room;
 pub use starts::{start_row, start_rows};
 pub use term::Term;

@@ -17,7 +17,7 @@ use Rattle.sfm_matroid.specs.Forests.{graphic_rank, forest-matroid, graphic-rank
 use Rattle.sfm_matroid.specs.GraphicLaws.{graphic_value, graphic_size}
 use Rattle.sfm_matroid.proofs.Bases.{AreTests, base_counts, base_total, base_passes, passes_base}
 use Rattle.sfm_matroid.proofs.MatroidTests.{numbered_tests}
-use Rattle.sfm_matroid.proofs.Totals.{total_of-whole}
+use Rattle.sfm_law.proofs.Totals.{total_of-whole}
 
 module _ (k : ℕ) (q w : ℤ) (edges : List Edge) (same : length edges ≡ k) (low : pos 0 ≤ℤ (q *ℤ w)) (x : List ℤ) (kx : length x ≡ k) where
   sized : length x ≡ length edges

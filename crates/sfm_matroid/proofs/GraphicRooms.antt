@@ -1,13 +1,13 @@
 -- How much can be exchanged at a base of a graphic term: by the most that an edge gets in each test, without
 -- another edge; and to whom an edge has room, by those that can lend to it in each test.
-use Rattle.std.proofs.Common.{◌≡◌, ◌≢◌, ◌↔◌, Option, ℕ, ◌*◌, ◌<◌, Bool, List, [], length, get_or, set, ℤ, pos, ◌-ℤ◌, ◌*ℤ◌, ◌≤ℤ◌, refl, sym, ap, ◌∙◌, arith, inl, inr, ⊎_elim}
+use Rattle.std.proofs.Common.{◌≡◌, ◌≢◌, ◌↔◌, Option, ℕ, ◌*◌, ◌<◌, Bool, List, [], length, get_or, set, ℤ, pos, ◌*ℤ◌, ◌≤ℤ◌, refl, sym, ap, ◌∙◌, arith, inl, inr, ⊎_elim}
 use Rattle.std.proofs.lemmas.Int.{ints, by_lt_z}
 use Rattle.sfm_spec.specs.Terms.{times, IsBase, IsCapacity, HasRoom, exchanged}
 use Rattle.sfm_spec.specs.Kinds.{Edge, IsForest}
 use Rattle.sfm_assign.specs.Splits.{CanBeMet}
 use Rattle.sfm_matroid.specs.Cuts.{IsWithinEnds}
 use Rattle.sfm_matroid.specs.Ends.{edges_of}
-use Rattle.sfm_matroid.specs.Numbered.{IsEnd, numbered, length-numbered, numbered_below, end_lists, vertex_capacities}
+use Rattle.sfm_matroid.specs.Numbered.{IsTail, numbered, length-numbered, numbered_below, end_lists, vertex_capacities}
 use Rattle.sfm_matroid.specs.Runs.{edge_at}
 use Rattle.sfm_matroid.specs.Forests.{graphic_rank, forest-matroid, graphic-ranks}
 use Rattle.sfm_matroid.specs.GraphicLaws.{graphic_value}
@@ -82,12 +82,12 @@ module _ (k : ℕ) (q w : ℤ) (edges : List Edge) (same : length edges ≡ k) (
   has_low = base_counts (length edges) (2 * length edges) q w low (IsForest edges) (graphic_rank edges) (forest-matroid edges) (graphic-ranks edges) (λ a x. IsWithinEnds (numbered edges) (2 * length edges) (q *ℤ w) x a) x sized base v xv
 
   -- the room of (u, v)
-  pub room_capacity : (a : ℤ) → IsLeastOf (λ t. IsMostOf (numbered edges) (2 * length edges) (q *ℤ w) (set x v (pos 0)) u (edge_at (numbered edges) u).tail) (get_or x v (pos 0)) ((q *ℤ w) -ℤ get_or x u (pos 0)) (get_or x u (pos 0)) 1 a → IsCapacity (times q (graphic_value w edges)) x u v a
+  pub room_capacity : (a : ℤ) → IsLeastOf (IsMostOf (numbered edges) (2 * length edges) (q *ℤ w) (set x v (pos 0)) u (edge_at (numbered edges) u).tail) (get_or x v (pos 0)) (q *ℤ w) (get_or x u (pos 0)) a → IsCapacity (times q (graphic_value w edges)) x u v a
   room_capacity a least = least_capacity (length edges) (2 * length edges) q w low (IsForest edges) (graphic_rank edges) (forest-matroid edges) (graphic-ranks edges) (λ a x. IsWithinEnds (numbered edges) (2 * length edges) (q *ℤ w) x a) (numbered_tests edges q w low) x sized base u v ku kv ne a (record {
-    under_v = least.under_first;
-    under_cap = least.under_second;
-    under_most = λ t lt. let (r, most, le) = least.under_each 0 (omega arith) in (r, by_tail (with_u r) (less_raised x u v r xu xv has_low) (most_at tail tail_below r most).reached t lt, le);
-    reached = ⊎_elim (λ e. inl e) (λ rest. ⊎_elim (λ e. inr (inl e)) (λ (t, lt, r, most, e). inr (inr (tail, tail_below, r, most_at tail tail_below r most, e))) rest) least.reached;
+    under_v = least.under_v;
+    under_cap = least.under_cap;
+    under_most = λ t lt. let (r, most, le) = least.under_most in (r, by_tail (with_u r) (less_raised x u v r xu xv has_low) (most_at tail tail_below r most).reached t lt, le);
+    reached = ⊎_elim (λ e. inl e) (λ rest. ⊎_elim (λ e. inr (inl e)) (λ (r, most, e). inr (inr (tail, tail_below, r, most_at tail tail_below r most, e))) rest) least.reached;
   })
 
   exchanged-places : length (exchanged x u v (pos 1)) ≡ length (numbered edges)
@@ -97,14 +97,14 @@ module _ (k : ℕ) (q w : ℤ) (edges : List Edge) (same : length edges ≡ k) (
   abbrev CanLendThere : Type 0
   CanLendThere = CanLend (numbered edges) (2 * length edges) (q *ℤ w) x u v (edge_at (numbered edges) u).tail
 
-  tail_end : IsEnd (numbered edges) (edge_at (numbered edges) u).tail
-  tail_end = (u, nu, inl refl)
+  is_tail : IsTail (numbered edges) (edge_at (numbered edges) u).tail
+  is_tail = (u, nu, refl)
 
   giver_room : IsGiver x (q *ℤ w) u v → CanLendThere → HasRoom (times q (graphic_value w edges)) x u v
   giver_room giver lend = gives_room (length edges) (2 * length edges) q w low (IsForest edges) (graphic_rank edges) (forest-matroid edges) (graphic-ranks edges) (λ a x. IsWithinEnds (numbered edges) (2 * length edges) (q *ℤ w) x a) (numbered_tests edges q w low) x sized base u v ku kv ne (record {
     under_cap = giver.1;
     has = giver.2;
-    met = by_tail (exchanged x u v (pos 1)) (less_exchanged x u v (pos 1) xu xv ne (omega (arith, ints))) (split_within_ends (numbered edges) (2 * length edges) (numbered_below edges []) (q *ℤ w) (exchanged x u v (pos 1)) exchanged-places tail tail_below (lend tail_end));
+    met = by_tail (exchanged x u v (pos 1)) (less_exchanged x u v (pos 1) xu xv ne (omega (arith, ints))) (split_within_ends (numbered edges) (2 * length edges) (numbered_below edges []) (q *ℤ w) (exchanged x u v (pos 1)) exchanged-places tail tail_below (lend is_tail));
   })
 
   room_giver : HasRoom (times q (graphic_value w edges)) x u v → IsGiver x (q *ℤ w) u v × CanLendThere
@@ -140,8 +140,8 @@ module _ (edges : List Edge) (items : List (ℕ × ℕ)) (are : edges_of items �
   pub others_kept : ((t : ℕ) → t < 2 * length edges → CanBeMet x (end_lists (numbered edges)) (vertex_capacities (2 * length edges) c t)) → (t : ℕ) → t < 2 * length given → CanBeMet x (end_lists (edges_of given)) (vertex_capacities (2 * length given) c t)
   others_kept h = rw (is, are, as_many edges items are) h
 
-  pub least_kept : (u : ℕ) (first second less a : ℤ) → IsLeastOf (λ t. IsMostOf (edges_of given) (2 * length given) c x u (edge_at (edges_of given) u).tail) first second less 1 a → IsLeastOf (λ t. IsMostOf (numbered edges) (2 * length edges) c x u (edge_at (numbered edges) u).tail) first second less 1 a
-  least_kept u first second less a h = rw (is, are, as_many edges items are) at h
+  pub least_kept : (u : ℕ) (has_v cap has_u a : ℤ) → IsLeastOf (IsMostOf (edges_of given) (2 * length given) c x u (edge_at (edges_of given) u).tail) has_v cap has_u a → IsLeastOf (IsMostOf (numbered edges) (2 * length edges) c x u (edge_at (numbered edges) u).tail) has_v cap has_u a
+  least_kept u has_v cap has_u a h = rw (is, are, as_many edges items are) at h
 
   pub splits_kept : (splits : List (Option KeptSplit)) → AreSplits (edges_of given) (2 * length given) c x splits → AreSplits (numbered edges) (2 * length edges) c x splits
   splits_kept splits h = rw (is, are, as_many edges items are) at h

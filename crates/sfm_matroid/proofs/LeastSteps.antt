@@ -1,35 +1,19 @@
--- The least of what is left, test after test.
-use Rattle.std.proofs.Common.{◌≡◌, ◌⊎◌, ℕ, ◌+◌, ◌≤◌, ℤ, ◌-ℤ◌, ◌∙◌, arith, inl, inr, ⊎_elim}
+-- The least of three numbers, of which one is a most.
+use Rattle.std.proofs.Common.{◌≡◌, ◌⊎◌, ℤ, ◌-ℤ◌, ◌∙◌, arith, inl, inr, ⊎_elim}
 use Rattle.std.specs.Int.{int_min}
-use Rattle.std.proofs.lemmas.Bool.{cases_lt}
 use Rattle.std.proofs.lemmas.Int.{ints, clamps, by_lt_z}
 use Rattle.sfm_matroid.specs.Leasts.{IsLeastOf}
 
 one_of : (r a b : ℤ) → r ≡ int_min a b → (r ≡ a) ⊎ (r ≡ b)
 one_of r a b e = by_lt_z a b (λ lower. inl (omega (arith, ints, clamps, e, lower))) (λ more. inr (omega (arith, ints, clamps, e, more)))
 
-module _ (IsOne : ℕ → ℤ → Type 0) (first second less : ℤ) where
-  pub least_start : (a : ℤ) → a ≡ int_min first second → IsLeastOf IsOne first second less 0 a
-  least_start a e = record {
-    under_first = omega (arith, ints, clamps, e);
-    under_second = omega (arith, ints, clamps, e);
-    under_each = λ t h. absurd (omega arith);
-    reached = ⊎_elim (λ o. inl o) (λ f. inr (inl f)) (one_of a first second e);
-  }
-
-  pub least_next : (n : ℕ) (a b r : ℤ) → IsLeastOf IsOne first second less n a → IsOne n r → b ≡ int_min a (r -ℤ less) → IsLeastOf IsOne first second less (n + 1) b
-  least_next n a b r h one m = record {
-    under_first = (let k = h.under_first in omega (arith, ints, clamps, k, m));
-    under_second = (let k = h.under_second in omega (arith, ints, clamps, k, m));
-    under_each = λ t lt. ⊎_elim
-        (λ l. let (s, is, k) = h.under_each t l in (s, is, omega (arith, ints, clamps, k, m)))
-        (λ (ge : n ≤ t). let same : t ≡ n = omega arith in (r, rw same one, omega (arith, ints, clamps, m)))
-        (cases_lt t n);
-    reached = ⊎_elim
-        (λ old. ⊎_elim (λ o. inl (old ∙ o)) (λ rest. ⊎_elim (λ f. inr (inl (old ∙ f))) (λ (t, lt, s, is, k). inr (inr (t, omega arith, s, is, old ∙ k))) rest) h.reached)
-        (λ new. inr (inr (n, omega arith, r, one, new)))
-        (one_of b a (r -ℤ less) m);
-  }
-
-  pub least_all : (n m : ℕ) (a : ℤ) → IsLeastOf IsOne first second less n a → n ≡ m → IsLeastOf IsOne first second less m a
-  least_all n m a h same = rw (← same) h
+pub least_of : (IsMostThere : ℤ → Type 0) (has_v cap has_u first r a : ℤ) → first ≡ int_min has_v (cap -ℤ has_u) → IsMostThere r → a ≡ int_min first (r -ℤ has_u) → IsLeastOf IsMostThere has_v cap has_u a
+least_of IsMostThere has_v cap has_u first r a e most l = record {
+  under_v = omega (arith, ints, clamps, e, l);
+  under_cap = omega (arith, ints, clamps, e, l);
+  under_most = (r, most, omega (arith, ints, clamps, l));
+  reached = ⊎_elim
+      (λ f. ⊎_elim (λ o. inl (f ∙ o)) (λ o. inr (inl (f ∙ o))) (one_of first has_v (cap -ℤ has_u) e))
+      (λ new. inr (inr (r, most, new)))
+      (one_of a first (r -ℤ has_u) l);
+}

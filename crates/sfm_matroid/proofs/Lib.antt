@@ -3,7 +3,6 @@ mod MatroidTests
 mod SplitTests
 mod Matched
 mod Numbering
-mod Totals
 mod UsedEnds
 mod OneTest
 mod GraphicBases
@@ -12,7 +11,6 @@ mod TransversalBases
 mod LeastSteps
 mod Keeping
 mod Noted
-mod Puts
 mod Fits
 mod Kept
 mod Shares

@@ -1,6 +1,6 @@
 -- Bases of a transversal term by the test of its code, and how much can be exchanged at one: by the most that an element gets in
 -- the test, without another element; and to whom an element has room, by those that can lend to it.
-use Rattle.std.proofs.Common.{◌≡◌, ◌≢◌, ◌↔◌, ℕ, ◌<◌, Bool, List, length, get_or, set, replicate, ℤ, pos, ◌-ℤ◌, ◌*ℤ◌, ◌≤ℤ◌, sym, ap, ◌∙◌, arith, inl, inr, ⊎_elim}
+use Rattle.std.proofs.Common.{◌≡◌, ◌≢◌, ◌↔◌, ℕ, ◌<◌, Bool, List, length, get_or, set, replicate, ℤ, pos, ◌*ℤ◌, ◌≤ℤ◌, sym, ap, ◌∙◌, arith, inl, inr, ⊎_elim}
 use Rattle.std.specs.List.{All}
 use Rattle.std.proofs.lemmas.Int.{ints, by_lt_z}
 use Rattle.std.proofs.lemmas.List.{get_or_default}
@@ -23,7 +23,7 @@ use Rattle.sfm_matroid.proofs.Bases.{IsMostAt, base_counts, base_total, base_pas
 use Rattle.sfm_matroid.proofs.Matched.{slots_each}
 use Rattle.sfm_matroid.proofs.MatroidTests.{transversal_tests}
 use Rattle.sfm_matroid.proofs.SplitTests.{split_within_slots, within_slots_split}
-use Rattle.sfm_matroid.proofs.Totals.{total_of-whole}
+use Rattle.sfm_law.proofs.Totals.{total_of-whole}
 
 module _ (k : ℕ) (q w : ℤ) (entries : List (List ℕ)) (m : ℕ) (exist : All (All (λ v. v < m)) entries) (same : length entries ≡ k) (low : pos 0 ≤ℤ (q *ℤ w)) (x : List ℤ) (kx : length x ≡ k) where
   sized : length x ≡ length entries
@@ -90,12 +90,12 @@ module _ (k : ℕ) (q w : ℤ) (entries : List (List ℕ)) (m : ℕ) (exist : Al
     }
 
     -- the room of (u, v)
-    pub slot_capacity : (a : ℤ) → IsLeastOf (λ t. IsMost (set x v (pos 0)) entries (replicate m (q *ℤ w)) u) (get_or x v (pos 0)) ((q *ℤ w) -ℤ get_or x u (pos 0)) (get_or x u (pos 0)) 1 a → IsCapacity (times q (transversal_value w entries)) x u v a
+    pub slot_capacity : (a : ℤ) → IsLeastOf (IsMost (set x v (pos 0)) entries (replicate m (q *ℤ w)) u) (get_or x v (pos 0)) (q *ℤ w) (get_or x u (pos 0)) a → IsCapacity (times q (transversal_value w entries)) x u v a
     slot_capacity a least = least_capacity (length entries) 1 q w low (IsMatchable entries) (transversal_rank entries) (matching-matroid (length entries) entries) (transversal-ranks entries) (λ a x. IsWithinSlots entries m (q *ℤ w) x) (transversal_tests entries m (slots_each entries m exist) q w low) x sized base u v ku kv ne a (record {
-      under_v = least.under_first;
-      under_cap = least.under_second;
-      under_most = λ t lt. let (r, most, le) = least.under_each t lt in (r, (most_at t r most).reached, le);
-      reached = ⊎_elim (λ e. inl e) (λ rest. ⊎_elim (λ e. inr (inl e)) (λ (t, lt, r, most, e). inr (inr (t, lt, r, most_at t r most, e))) rest) least.reached;
+      under_v = least.under_v;
+      under_cap = least.under_cap;
+      under_most = λ t lt. let (r, most, le) = least.under_most in (r, (most_at t r most).reached, le);
+      reached = ⊎_elim (λ e. inl e) (λ rest. ⊎_elim (λ e. inr (inl e)) (λ (r, most, e). inr (inr (0, omega arith, r, most_at 0 r most, e))) rest) least.reached;
     })
 
     -- ---- what v can give to u

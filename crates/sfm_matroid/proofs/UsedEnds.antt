@@ -9,7 +9,7 @@ use Rattle.sfm_matroid.specs.Counts.{eqb_apart, count-into}
 use Rattle.sfm_matroid.specs.Runs.{edge_at, EndsBelow}
 use Rattle.sfm_matroid.specs.Cuts.{touches, ends_but, IsWithinEnds}
 use Rattle.sfm_matroid.specs.Ends.{edges_of}
-use Rattle.sfm_matroid.specs.Numbered.{IsEnd}
+use Rattle.sfm_matroid.specs.Numbered.{IsEnd, IsTail}
 
 -- a vertex is an end, or it is none
 end_or_not : (edges : List Edge) (v : ℕ) → IsEnd edges v ⊎ (IsEnd edges v → ⊥)
@@ -56,7 +56,7 @@ module _ (edges : List Edge) (m : ℕ) (c : ℤ) (x : List ℤ) (low : pos 0 ≤
       (λ none. within_out a (edge_at edges 0).tail none (within (edge_at edges 0).tail (below 0 some).0 (0, some, inl refl)))
       (end_or_not edges a)
 
--- ---- how the code tells ends
+-- ---- how the code tells ends and tails
 
 abbrev pub has_end : ℕ → ℕ × ℕ → Bool
 has_end a pair = nat_eq pair.0 a || nat_eq pair.1 a
@@ -75,3 +75,20 @@ end_test pairs a = (there pairs, here pairs) where
   here (pair ∷ pairs) (zero, lt, inl is) = or_left (has_end a pair) (list_any (has_end a) pairs) (or_left (nat_eq pair.0 a) (nat_eq pair.1 a) (eq-eqb pair.0 a (sym is)))
   here (pair ∷ pairs) (zero, lt, inr is) = or_left (has_end a pair) (list_any (has_end a) pairs) (or_right (nat_eq pair.0 a) (nat_eq pair.1 a) (eq-eqb pair.1 a (sym is)))
   here (pair ∷ pairs) (suc e, lt, is) = or_right (has_end a pair) (list_any (has_end a) pairs) (here pairs (e, omega arith, is))
+
+abbrev pub has_tail : ℕ → ℕ × ℕ → Bool
+has_tail a pair = nat_eq pair.0 a
+
+pub tail_test : (pairs : List (ℕ × ℕ)) (a : ℕ) → IsTrue (list_any (has_tail a) pairs) ↔ IsTail (edges_of pairs) a
+tail_test pairs a = (there pairs, here pairs) where
+  there : (pairs : List (ℕ × ℕ)) → list_any (has_tail a) pairs ≡ true → IsTail (edges_of pairs) a
+  there [] t = absurd (false≢true t)
+  there (pair ∷ pairs) t = ⊎_elim
+      (λ first. (0, omega arith, sym (eqb-true pair.0 a first)))
+      (λ rest. let (e, lt, is) = there pairs rest in (suc e, omega arith, is))
+      (or_cases (has_tail a pair) (list_any (has_tail a) pairs) t)
+
+  here : (pairs : List (ℕ × ℕ)) → IsTail (edges_of pairs) a → list_any (has_tail a) pairs ≡ true
+  here [] (e, lt, is) = absurd (omega (arith, lt))
+  here (pair ∷ pairs) (zero, lt, is) = or_left (has_tail a pair) (list_any (has_tail a) pairs) (eq-eqb pair.0 a (sym is))
+  here (pair ∷ pairs) (suc e, lt, is) = or_right (has_tail a pair) (list_any (has_tail a) pairs) (here pairs (e, omega arith, is))

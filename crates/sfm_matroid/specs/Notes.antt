@@ -1,4 +1,4 @@
--- What is kept beside a base: a split of it in each test that tells bases.
+-- What is kept beside a base: a split of it in each test that tells reach.
 use Rattle.std.specs.Prelude.{◌≡◌, ℕ, ◌*◌, ◌<◌, List, length, replicate, slice_index_or, ℤ, ◌*ℤ◌, Option, Some, None}
 use Rattle.std.specs.List.{All}
 use Rattle.sfm_spec.specs.Terms.{exchanged}
@@ -6,7 +6,7 @@ use Rattle.sfm_spec.specs.Kinds.{Edge}
 use Rattle.sfm_assign.specs.Splits.{IsAmount, CanBeMet, Demands}
 use Rattle.sfm_assign.specs.Lenders.{exchanged_in}
 use Rattle.sfm_assign.specs.declared.kept.KeptSplit.{KeptSplit}
-use Rattle.sfm_matroid.specs.Numbered.{IsEnd, numbered, end_lists, vertex_capacities}
+use Rattle.sfm_matroid.specs.Numbered.{IsTail, numbered, end_lists, vertex_capacities}
 
 -- edges as demands that are split over their ends, where each of m vertices holds c, but a nothing
 abbrev pub end_demands : List Edge → ℕ → ℤ → List ℤ → ℕ → Demands
@@ -16,12 +16,12 @@ end_demands edges m c x a = record { demands = x; lists = end_lists edges; capac
 abbrev pub slot_demands : List (List ℕ) → ℕ → ℤ → List ℤ → Demands
 slot_demands entries m c x = record { demands = x; lists = entries; capacities = replicate m c }
 
--- the split in the test of a, or none where a is no end
+-- the split in the test of a, or none where a is no tail
 abbrev pub IsSplitAt : List Edge → ℕ → ℤ → List ℤ → ℕ → Option KeptSplit → Type 0
-IsSplitAt edges m c x a None = IsEnd edges a → ⊥
-IsSplitAt edges m c x a (Some kept) = IsEnd edges a × (kept.demand ≡ end_demands edges m c x a)
+IsSplitAt edges m c x a None = IsTail edges a → ⊥
+IsSplitAt edges m c x a (Some kept) = IsTail edges a × (kept.demand ≡ end_demands edges m c x a)
 
--- the splits in the tests of m vertices
+-- the splits in the tests of those of m vertices that are tails
 pub record AreSplits (edges : List Edge) (m : ℕ) (c : ℤ) (x : List ℤ) (splits : List (Option KeptSplit)) : Type 0 where
   pub places : length splits ≡ m
   pub each : (a : ℕ) → a < m → IsSplitAt edges m c x a (slice_index_or splits a None)
@@ -32,6 +32,7 @@ pub record IsSlotSplit (entries : List (List ℕ)) (c : ℤ) (x : List ℤ) (kep
   pub below : All (All (λ v. v < m)) entries
   pub split : kept.demand ≡ slot_demands entries m c x
 
+-- the split is there; None stands for one that is lost
 abbrev pub IsSlotSplitIn : List (List ℕ) → ℤ → List ℤ → Option KeptSplit → Type 0
 IsSlotSplitIn entries c x None = ⊥
 IsSlotSplitIn entries c x (Some kept) = IsSlotSplit entries c x kept
@@ -49,7 +50,7 @@ IsMoved u v a None after = after ≡ None
 IsMoved u v a (Some kept) None = ⊥
 IsMoved u v a (Some kept) (Some moved) = moved.demand ≡ exchanged_in kept.demand u v a
 
--- what is kept beside a base of q times a graphic term: the splits in all tests
+-- what is kept beside a base of q times a graphic term: the splits in the tests of all tails
 abbrev pub graphic_fits : ℤ → List Edge → List (Option KeptSplit) → ℤ → List ℤ → Type 0
 graphic_fits w edges splits q x = AreSplits (numbered edges) (2 * length edges) (q *ℤ w) x splits
 

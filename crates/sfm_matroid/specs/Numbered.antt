@@ -32,6 +32,10 @@ numbered edges = map (renumbered (number edges)) edges
 abbrev pub IsEnd : List Edge → ℕ → Type 0
 IsEnd edges v = (e : ℕ) × (e < length edges) × ((v ≡ (edge_at edges e).tail) ⊎ (v ≡ (edge_at edges e).head))
 
+-- v is the tail of an edge
+abbrev pub IsTail : List Edge → ℕ → Type 0
+IsTail edges v = (e : ℕ) × (e < length edges) × (v ≡ (edge_at edges e).tail)
+
 end_tail : (edges : List Edge) (e : ℕ) → e < length edges → IsEnd edges (edge_at edges e).tail
 end_tail edges e lt = (e, lt, inl refl)
 

@@ -6,7 +6,6 @@ ghost use Rattle.sfm_spec.specs.Terms.{exchanged};
 ghost use Rattle.sfm_assign.specs.Splits.{CanBeMet};
 ghost use Rattle.sfm_matroid.specs.Givers.{IsGiver, AreKept, AreOthers, CanLendIn};
 
-use crate::place::put;
 use sfm_assign::KeptSplit;
 use sfm_base::{Memory, Set};
 use std::alloc::Global;
@@ -28,7 +27,7 @@ pub(crate) fn givers(x: &[i128], cap: i128, u: usize, to: &mut Set)
     ensures exact { (v : ℕ) → v < length x.now → Has to.new v ↔ IsGiver x.now cap u v }
 {
     for v in 0..x.len() {
-        put(to, v, is_giver(x, cap, u, v));
+        to.put(v, is_giver(x, cap, u, v));
     }
 }
 

@@ -20,12 +20,11 @@ ghost use Rattle.sfm_matroid.specs.GraphicLaws.{graphic_value, graphic_size, gra
 use crate::ends::Ends;
 use crate::givers::{givers, keep_by_split};
 use crate::growing::{grow, whole};
-use crate::number::{are_within, has_sum, product};
 use crate::room::least_left;
-use crate::splits::{EndSplits, end_splits, move_splits};
+use crate::splits::{TailSplits, move_splits, tail_splits};
 use crate::testing::{numbered, passes_end};
 use sfm_base::{Memory, Places, Set};
-use sfm_law::{Room, Term};
+use sfm_law::{Room, Term, are_within, has_sum, product};
 use std::alloc::Global;
 
 /// A number for each element of a greatest independent part: elements are edges, and independent where they are a forest
@@ -259,14 +258,14 @@ impl Graphic {
     /// # Errors
     ///
     /// `Memory` where there is none.
-    pub fn note_of(&self, alloc: Global, q: i128, x: &[i128]) -> Result<EndSplits, Memory>
+    pub fn note_of(&self, alloc: Global, q: i128, x: &[i128]) -> Result<TailSplits, Memory>
         requires factor { IsFactor q }
         requires entries { length x.now ≡ length self.now.places }
         requires base { IsBase (times q (graphic_value self.now.w self.now.ends)) x.now }
         ensures { IfOk result (λ r. graphic_fits self.now.w self.now.ends r.kept.items q x.now) }
     {
         let cap = product(q, self.w);
-        let note = end_splits(alloc, &self.numbers, x, cap)?;
+        let note = tail_splits(alloc, &self.numbers, x, cap)?;
         Ok(note)
     }
 
@@ -280,7 +279,7 @@ impl Graphic {
         alloc: Global,
         q: i128,
         x: &[i128],
-        note: &EndSplits,
+        note: &TailSplits,
         u: usize,
         to: &mut Set,
     ) -> Result<(), Memory>
@@ -302,7 +301,7 @@ impl Graphic {
 }
 
 impl Term for Graphic {
-    type Note = EndSplits;
+    type Note = TailSplits;
 
     ghost places = { λ s. s.places };
 
@@ -361,7 +360,7 @@ impl Term for Graphic {
         self.reach_of(alloc, q, x, &note, u, to)
     }
 
-    fn note(&self, alloc: Global, q: i128, x: &[i128]) -> Result<EndSplits, Memory> {
+    fn note(&self, alloc: Global, q: i128, x: &[i128]) -> Result<TailSplits, Memory> {
         self.note_of(alloc, q, x)
     }
 
@@ -370,7 +369,7 @@ impl Term for Graphic {
         alloc: Global,
         q: i128,
         x: &[i128],
-        note: &EndSplits,
+        note: &TailSplits,
         u: usize,
         to: &mut Set,
     ) -> Result<(), Memory> {
@@ -382,7 +381,7 @@ impl Term for Graphic {
         alloc: Global,
         _q: i128,
         _x: &[i128],
-        note: &mut EndSplits,
+        note: &mut TailSplits,
         u: usize,
         v: usize,
         a: i128,

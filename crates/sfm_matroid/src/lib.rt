@@ -8,8 +8,6 @@ mod givers;
 pub mod graphic;
 mod growing;
 mod matching;
-mod number;
-mod place;
 mod room;
 mod slot_room;
 pub mod splits;
@@ -19,7 +17,7 @@ pub mod transversal;
 pub use ends::Ends;
 pub use entries::Entries;
 pub use graphic::Graphic;
-pub use splits::{EndSplits, SlotSplit};
+pub use splits::{SlotSplit, TailSplits};
 pub use transversal::Transversal;
 
 #[cfg(test)]

@@ -2,7 +2,7 @@
 // have, but the one that gives has nothing. The test of an end of the edge allows the least: parts with the edge have that end,
 // and without it they have one end less. So the room is the least of what the other has, of what the one lacks of the number
 // that no edge exceeds, and of what it lacks of the most in the test of its tail.
-ghost use Rattle.std.specs.Prelude.{◌≡◌, ℕ, ◌*◌, ◌<◌, ◌≤◌, ◌^◌, length, slice_set, slice_index_or, pos, ◌-ℤ◌, ◌≤ℤ◌, IfOk};
+ghost use Rattle.std.specs.Prelude.{◌≡◌, ℕ, ◌*◌, ◌<◌, ◌≤◌, ◌^◌, length, slice_set, slice_index_or, pos, ◌≤ℤ◌, IfOk};
 ghost use Rattle.std.specs.List.{All};
 ghost use Rattle.sfm_assign.specs.Splits.{IsAmount, CanBeMet, IsMost};
 ghost use Rattle.sfm_matroid.specs.Ends.{edges_of};
@@ -70,7 +70,7 @@ pub(crate) fn least_left(
     requires from { u < length x.now }
     requires onto { v < length x.now }
     requires others { (t : ℕ) → t < 2 * length ends.now → CanBeMet (slice_set (slice_set x.now v (pos 0)) u (pos 0)) (end_lists (edges_of ends.now)) (vertex_capacities (2 * length ends.now) cap t) }
-    ensures { IfOk result (IsLeastOf (λ t. IsMostOf (edges_of ends.now) (2 * length ends.now) cap (slice_set x.now v (pos 0)) u (edge_at (edges_of ends.now) u).tail) (slice_index_or x.now v (pos 0)) (cap -ℤ slice_index_or x.now u (pos 0)) (slice_index_or x.now u (pos 0)) 1) }
+    ensures { IfOk result (IsLeastOf (IsMostOf (edges_of ends.now) (2 * length ends.now) cap (slice_set x.now v (pos 0)) u (edge_at (edges_of ends.now) u).tail) (slice_index_or x.now v (pos 0)) cap (slice_index_or x.now u (pos 0))) }
 {
     let rest = without(alloc, x, v)?;
     let tail = ends[u].0;

@@ -1,6 +1,6 @@
 // The room of a pair of elements at a base by their slots: the least of what the other has, of what the one lacks of the number
 // that no element exceeds, and of what it lacks of the most that its slots give it while the other has nothing.
-ghost use Rattle.std.specs.Prelude.{◌≡◌, ◌<◌, ◌≤◌, ◌^◌, length, replicate, slice_set, slice_index_or, pos, ◌-ℤ◌, ◌≤ℤ◌, IfOk};
+ghost use Rattle.std.specs.Prelude.{◌≡◌, ◌<◌, ◌≤◌, ◌^◌, length, replicate, slice_set, slice_index_or, pos, ◌≤ℤ◌, IfOk};
 ghost use Rattle.std.specs.List.{All};
 ghost use Rattle.sfm_assign.specs.Splits.{IsAmount, CanBeMet, IsMost};
 ghost use Rattle.sfm_matroid.specs.Leasts.{IsLeastOf};
@@ -58,7 +58,7 @@ pub(crate) fn least_unheld(
     requires from { u < length x.now }
     requires onto { v < length x.now }
     requires others { CanBeMet (slice_set (slice_set x.now v (pos 0)) u (pos 0)) entries.now (replicate m cap) }
-    ensures { IfOk result (IsLeastOf (λ t. IsMost (slice_set x.now v (pos 0)) entries.now (replicate m cap) u) (slice_index_or x.now v (pos 0)) (cap -ℤ slice_index_or x.now u (pos 0)) (slice_index_or x.now u (pos 0)) 1) }
+    ensures { IfOk result (IsLeastOf (IsMost (slice_set x.now v (pos 0)) entries.now (replicate m cap) u) (slice_index_or x.now v (pos 0)) cap (slice_index_or x.now u (pos 0))) }
 {
     let rest = without(alloc, x, v)?;
     let most = most_held(alloc, entries, m, &rest, cap, u)?;

@@ -1,24 +1,25 @@
-// The splits that are kept beside a base, for all searches at it: one in each test that tells bases. A base passes each test, so
-// there is a split in each. An exchange changes two entries, and each split is brought up to it where it stands.
-ghost use Rattle.std.specs.Prelude.{◌≡◌, ◌≢◌, ◌*◌, ℕ, ◌<◌, ◌≤◌, ◌^◌, length, replicate, slice_index_or, pos, ◌≤ℤ◌, IfOk, OnOk, Some, None};
+// The splits that are kept beside a base, for all searches at it: one in each test that is asked what an edge may get, which is
+// that of its tail. A base passes each test, so there is a split in each. An exchange changes two entries, and each split is
+// brought up to it where it stands.
+ghost use Rattle.std.specs.Prelude.{◌≡◌, ◌≢◌, ◌↔◌, ◌*◌, ℕ, ◌<◌, ◌≤◌, ◌^◌, length, replicate, slice_index_or, pos, ◌≤ℤ◌, IfOk, IsTrue, OnOk, Some, None};
 ghost use Rattle.std.specs.List.{All};
 ghost use Rattle.sfm_assign.specs.Splits.{IsAmount, CanBeMet};
 ghost use Rattle.sfm_assign.specs.Lenders.{exchanged_in};
 ghost use Rattle.sfm_matroid.specs.Ends.{edges_of};
 ghost use Rattle.sfm_matroid.specs.Runs.{EndsBelow};
-ghost use Rattle.sfm_matroid.specs.Numbered.{end_lists, vertex_capacities};
+ghost use Rattle.sfm_matroid.specs.Numbered.{IsTail, end_lists, vertex_capacities};
 ghost use Rattle.sfm_matroid.specs.Notes.{IsSplitAt, AreSplits, IsSlotSplitIn, IsMovable, IsMoved};
 
 use crate::entries::Entries;
 use crate::matching::slot_demand;
-use crate::testing::{demand, is_end};
+use crate::testing::demand;
 use sfm_assign::{AssignEnd, Demand, KeptSplit};
 use sfm_base::Memory;
 use std::alloc::Global;
 
-/// For each vertex, by its number, the split in its test; None where it is no end.
+/// For each vertex, by its number, the split in its test; None where it is no tail.
 #[derive(Drop)]
-pub struct EndSplits {
+pub struct TailSplits {
     pub kept: Vec<Option<KeptSplit>>,
 }
 
@@ -40,8 +41,15 @@ fn split_of(alloc: Global, demand: Demand) -> Result<KeptSplit, Memory>
     }
 }
 
-/// The split in the test of a vertex, if that is an end.
-fn end_split(
+/// Whether a vertex is the tail of an edge.
+fn is_tail(ends: &[(usize, usize)], a: usize) -> bool
+    ensures { IsTrue result ↔ IsTail (edges_of ends.now) a }
+{
+    ends.iter().any(|pair| pair.0 == a)
+}
+
+/// The split in the test of a vertex, if that is a tail.
+fn tail_split(
     alloc: Global,
     ends: &[(usize, usize)],
     x: &[i128],
@@ -58,7 +66,7 @@ fn end_split(
     requires met { CanBeMet x.now (end_lists (edges_of ends.now)) (vertex_capacities (2 * length ends.now) most a) }
     ensures { IfOk result (IsSplitAt (edges_of ends.now) (2 * length ends.now) most x.now a) }
 {
-    if !is_end(ends, a) {
+    if !is_tail(ends, a) {
         return Ok(None);
     }
     let demand = demand(alloc, ends, x, most, a)?;
@@ -66,13 +74,13 @@ fn end_split(
     Ok(Some(kept))
 }
 
-/// The splits in the tests of all vertices.
-pub(crate) fn end_splits(
+/// The splits in the tests of all tails.
+pub(crate) fn tail_splits(
     alloc: Global,
     ends: &[(usize, usize)],
     x: &[i128],
     most: i128,
-) -> Result<EndSplits, Memory>
+) -> Result<TailSplits, Memory>
     requires few { length ends.now ≤ 256 }
     requires entries { length x.now ≡ length ends.now }
     requires amounts { All IsAmount x.now }
@@ -84,9 +92,9 @@ pub(crate) fn end_splits(
 {
     let mut kept = Vec::new(alloc);
     for a in 0..2 * ends.len() {
-        kept.push(end_split(alloc, ends, x, most, a)?)?;
+        kept.push(tail_split(alloc, ends, x, most, a)?)?;
     }
-    Ok(EndSplits { kept })
+    Ok(TailSplits { kept })
 }
 
 /// The split over the slots of entries, of which there are m.

@@ -17,11 +17,10 @@ use crate::entries::Entries;
 use crate::givers::{givers, keep_by_split};
 use crate::growing::whole;
 use crate::matching::{are_held, matched};
-use crate::number::{are_within, has_sum, product};
 use crate::slot_room::least_unheld;
 use crate::splits::{SlotSplit, move_split, slot_split};
 use sfm_base::{Memory, Places, Set};
-use sfm_law::{Room, Term};
+use sfm_law::{Room, Term, are_within, has_sum, product};
 use std::alloc::Global;
 
 /// A number for each element of a greatest independent part: elements are independent where they have slots of their own

@@ -1,15 +1,9 @@
--- Sums and products of given numbers fit 128 bits.
+-- The slack of a table fits 128 bits.
 use Rattle.std.proofs.Common.{◌^◌, ℤ, pos, neg_ℤ, ◌-ℤ◌, ◌*ℤ◌, arith, FitsSigned}
-use Rattle.std.proofs.lemmas.Int.{ints, fits_signed_mul}
+use Rattle.std.proofs.lemmas.Int.{ints}
 use Rattle.sfm_spec.proofs.Scaled.{times-mono}
 use mir.Syntax.{w128}
 use Rattle.sfm_spec.specs.Bounds.{IsAtMost, IsFactor, IsGiven}
-
-pub given_fits : (a : ℤ) → IsGiven a → FitsSigned w128 a
-given_fits a h = omega (arith, ints)
-
-pub product_fits : (q a : ℤ) → IsFactor q → IsGiven a → FitsSigned w128 (q *ℤ a)
-product_fits q a f h = fits_signed_mul w128 q a (10 ^ 6) (10 ^ 18) (omega (arith, ints)) (omega (arith, ints)) (omega arith)
 
 -- a factor times a given number
 pub product_small : (q a : ℤ) → IsFactor q → IsGiven a → IsAtMost (10 ^ 24) (q *ℤ a)

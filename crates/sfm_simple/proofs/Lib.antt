@@ -7,5 +7,4 @@ pub mod Pairs
 pub mod Places
 pub mod Steps
 pub mod TableRooms
-pub mod Totals
 pub mod WeightRooms

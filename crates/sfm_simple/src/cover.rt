@@ -8,10 +8,8 @@ ghost use Rattle.sfm_spec.specs.Kinds.{cover_value};
 ghost use Rattle.sfm_law.specs.Room.{IsRoom, IsReach, IsWithinRoom};
 ghost use Rattle.sfm_simple.specs.CoverLaws.{cover_start, cover-family, cover-submodular, cover-bounded, cover-starts, cover-starts_small};
 
-use crate::number::{has_sum, product};
-use crate::place::put;
 use sfm_base::{Memory, Places, Set};
-use sfm_law::{Room, Term};
+use sfm_law::{Room, Term, has_sum, product};
 use std::alloc::Global;
 
 /// A number for meeting the elements: the rank of a matroid of rank 1, times the number (Schrijver, Combinatorial
@@ -113,7 +111,7 @@ impl Cover {
         ensures reached { IsReach (times _q (cover_value self.now.w)) x.now u to.new }
     {
         for (v, a) in x.iter().enumerate() {
-            put(to, v, v != u && *a >= 1);
+            to.put(v, v != u && *a >= 1);
         }
     }
 }

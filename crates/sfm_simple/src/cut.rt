@@ -9,10 +9,9 @@ ghost use Rattle.sfm_law.specs.Room.{IsRoom, IsReach, IsWithinRoom};
 ghost use Rattle.sfm_simple.specs.Pairs.{IsOpen};
 ghost use Rattle.sfm_simple.specs.CutLaws.{cut_start, cut-family, cut-submodular, cut-bounded, cut-starts, cut-starts_small, IsCutBase};
 
-use crate::number::product;
 use crate::pair::is_open;
 use sfm_base::{Memory, Set};
-use sfm_law::{Room, Term};
+use sfm_law::{Room, Term, product};
 use std::alloc::Global;
 
 /// The capacity of an arc from the first element to the second: a cut function (Schrijver, Combinatorial Optimization,

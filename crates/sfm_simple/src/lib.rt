@@ -5,7 +5,6 @@ mod breach;
 pub mod cover;
 pub mod cut;
 pub mod need;
-mod number;
 mod pair;
 mod place;
 mod subset;

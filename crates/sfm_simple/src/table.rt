@@ -13,11 +13,10 @@ ghost use Rattle.sfm_simple.specs.Breaches.{IsFirstBreach};
 ghost use Rattle.sfm_simple.specs.TableLaws.{greatest, gain_of, table_start, slack_of, IsSplit, IsLeastSlack, table-family, table-bounded, table-starts, table-starts_small};
 
 use crate::breach::first_breach;
-use crate::number::{magnitude, product};
 use crate::place::all_but;
 use crate::subset::{has, keep_members, number_of, sum_at, unit};
 use sfm_base::{Memory, Numbers, Places, Set};
-use sfm_law::{Room, Term};
+use sfm_law::{Room, Term, magnitude, product};
 use std::alloc::Global;
 
 /// Why numbers make no table.

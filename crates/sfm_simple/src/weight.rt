@@ -9,9 +9,8 @@ ghost use Rattle.sfm_spec.specs.Kinds.{weight_value};
 ghost use Rattle.sfm_law.specs.Room.{IsRoom, IsReach, IsWithinRoom};
 ghost use Rattle.sfm_simple.specs.WeightLaws.{scaled, weight-family, weight-submodular, weight-bounded, weight-starts, weight-starts_small};
 
-use crate::number::{magnitude, product};
 use sfm_base::{Memory, Numbers, Places, Set};
-use sfm_law::{Room, Term};
+use sfm_law::{Room, Term, magnitude, product};
 use std::alloc::Global;
 
 /// A number for each element: a modular function (Schrijver, Combinatorial Optimization, section 44).

@@ -1,5 +1,4 @@
 pub mod Gaps
-pub mod Worths
 pub mod Values
 pub mod Ratios
 pub mod Parts

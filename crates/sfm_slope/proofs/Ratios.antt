@@ -1,7 +1,6 @@
 -- The slope at which two sets are worth as much, and its bounds.
 use Rattle.std.proofs.Common.{◌≡◌, ℕ, ◌^◌, ◌≤◌, Bool, List, length, ℤ, pos, unsigned_abs, ◌-ℤ◌, ◌≤ℤ◌, sym, arith}
 use Rattle.std.proofs.lemmas.Int.{ints}
-use Rattle.std.proofs.lemmas.List.{length-replicate}
 use Rattle.sfm_spec.specs.Sets.{sum_over}
 use Rattle.sfm_spec.specs.Slopes.{IsLowest, IsSameSlope}
 use Rattle.sfm_spec.specs.Bounds.{IsAtMost, IsGiven, total_of}
@@ -10,12 +9,12 @@ use Rattle.sfm_spec.specs.Search.{IsEven}
 use Rattle.sfm_spec.proofs.Sizes.{AreSizes}
 use Rattle.sfm_spec.proofs.Nest.{same_by_ratio}
 use Rattle.sfm_spec.proofs.Breakpoints.{abs_difference, even_bounds, weight_difference}
+use Rattle.sfm_spec.specs.Laws.{ones}
 use Rattle.sfm_base.proofs.Slopes.{abs-at_most, at_most_from_abs}
 use Rattle.sfm_slope.specs.declared.worth.Worth.{Worth}
 use Rattle.sfm_slope.specs.Gaps.{IsGap}
-use Rattle.sfm_slope.specs.Marks.{ones}
 use Rattle.sfm_slope.specs.Worths.{IsWorth}
-use Rattle.sfm_slope.proofs.Worths.{ones-sizes, sum-ones}
+use Rattle.sfm_spec.proofs.Ones.{ones-places, ones-sizes, sum-ones}
 
 -- the slope p/q at which two sets are worth as much, in lowest terms
 pub record IsRatio (terms : List Meaning) (n : ℕ) (sizes : List ℤ) (a t : List Bool) (p q : ℤ) : Type 0 where
@@ -52,5 +51,5 @@ ratio_between terms n sizes a t p q fit sized positive la gap ga gt lowest same 
 pub ratio_of_worths : (terms : List Meaning) (n : ℕ) (low high : Worth) (p q : ℤ) → AreTerms n terms → length low.set ≡ n → IsWorth terms low → IsWorth terms high
     → IsGap terms n (ones n) low.set high.set → IsLowest p q → IsSameSlope (high.sum -ℤ low.sum) (pos high.size -ℤ pos low.size) p q → IsRatio terms n (ones n) low.set high.set p q
 ratio_of_worths terms n low high p q fit la wl wh gap lowest same =
-    ratio_between terms n (ones n) low.set high.set p q fit (length-replicate n (pos 1)) (ones-sizes n) la gap (rw (← wl.sum) wl.small) (rw (← wh.sum) wh.small) lowest
+    ratio_between terms n (ones n) low.set high.set p q fit (ones-places n) (ones-sizes n) la gap (rw (← wl.sum) wl.small) (rw (← wh.sum) wh.small) lowest
     (rw (sum-ones n low.set la, sum-ones n high.set gap.places, ← wl.sum, ← wh.sum, ← wl.size, ← wh.size) (sym same))

@@ -1,5 +1,5 @@
 -- Breakpoints as the program keeps them.
-use Rattle.std.specs.Prelude.{ℕ, List, ℤ, pos, ◌≤ℤ◌, replicate}
+use Rattle.std.specs.Prelude.{ℕ, List, pos, ◌≤ℤ◌}
 use Rattle.std.specs.List.{All}
 use Rattle.sfm_spec.specs.Bounds.{IsEntry}
 use Rattle.sfm_spec.specs.Families.{Meaning, AreBases, Prove, even_shift}
@@ -16,7 +16,3 @@ pub record HasBases (terms : List Meaning) (n : ℕ) (b : Break) : Type 0 where
   pub small : All (λ x. All IsEntry x) b.bases
   pub proves : Prove terms n b.slope.den (even_shift n b.slope.num) b.bases
   pub few : b.slope.den ≤ℤ pos n
-
--- each place counts once
-abbrev pub ones : ℕ → List ℤ
-ones n = replicate n (pos 1)

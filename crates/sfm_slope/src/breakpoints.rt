@@ -6,10 +6,10 @@ ghost use Rattle.std.specs.Prelude.{length, map, pos, IfOk, OnOk};
 ghost use Rattle.std.specs.List.{All};
 ghost use Rattle.sfm_spec.specs.Bounds.{AreBounded};
 ghost use Rattle.sfm_spec.specs.Families.{meanings};
-ghost use Rattle.sfm_spec.specs.Laws.{AreBreakpoints};
+ghost use Rattle.sfm_spec.specs.Laws.{AreBreakpoints, ones};
 ghost use Rattle.sfm_walk.specs.Engine.{IsEngine};
 ghost use Rattle.sfm_slope.specs.Gaps.{IsGap};
-ghost use Rattle.sfm_slope.specs.Marks.{HasBases, mark_of, ones};
+ghost use Rattle.sfm_slope.specs.Marks.{HasBases, mark_of};
 ghost use Rattle.sfm_slope.specs.Parts.{IsPartTo};
 ghost use Rattle.sfm_slope.specs.Worths.{IsWorth};
 

@@ -6,9 +6,9 @@ ghost use Rattle.std.specs.Prelude.{◌<◌, ◌≤◌, ◌^◌, length, map, po
 ghost use Rattle.sfm_spec.specs.Bounds.{AreBounded, IsAtMost, IsGiven};
 ghost use Rattle.sfm_spec.specs.Families.{meanings};
 ghost use Rattle.sfm_spec.specs.Slopes.{IsSameSlope};
+ghost use Rattle.sfm_spec.specs.Laws.{ones};
 ghost use Rattle.sfm_walk.specs.Engine.{IsEngine};
 ghost use Rattle.sfm_slope.specs.Gaps.{IsBegun, IsGap};
-ghost use Rattle.sfm_slope.specs.Marks.{ones};
 ghost use Rattle.sfm_slope.specs.Worths.{IsWorth};
 ghost use Rattle.sfm_slope.specs.Turns.{IsLeastAt, IsTurn};
 

@@ -27,3 +27,4 @@ pub mod FewWalks
 pub mod Moves
 pub mod Capacity
 pub mod Pulls
+pub mod Ones

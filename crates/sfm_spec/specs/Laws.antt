@@ -1,5 +1,5 @@
 -- The facts on sums of submodular functions, as statements over the meanings of terms.
-use Rattle.std.specs.Prelude.{◌≡◌, ◌↔◌, ℕ, ◌<◌, Bool, List, [], ◌∷◌, ◌++◌, length, slice_index_or, ℤ, pos, ◌+ℤ◌, ◌≤ℤ◌}
+use Rattle.std.specs.Prelude.{◌≡◌, ◌↔◌, ℕ, ◌<◌, Bool, List, [], ◌∷◌, ◌++◌, length, replicate, slice_index_or, ℤ, pos, ◌+ℤ◌, ◌≤ℤ◌}
 use Rattle.sfm_spec.specs.Sets.{whole_set, size, IsWithin}
 use Rattle.sfm_spec.specs.Slopes.{IsLowest, IsLowerSlope}
 use Rattle.sfm_spec.specs.Families.{Meaning, IsMinimiser, IsLeast, IsGreatest, IsBreakpoint, Prove, IsSigned, AreTight, AreBases, rest_at, deficit, sized_shift}
@@ -34,6 +34,10 @@ pub record Mark : Type 0 where
 
 abbrev pub no_mark : Mark
 no_mark = record { num = pos 0; den = pos 1; members = [] }
+
+-- each element counts one
+abbrev pub ones : ℕ → List ℤ
+ones n = replicate n (pos 1)
 
 -- each set is the greatest minimiser at its slope and larger than the set before, which is the least minimiser there;
 -- the last set is the whole

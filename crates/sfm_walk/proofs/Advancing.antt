@@ -18,7 +18,7 @@ use Rattle.sfm_spec.proofs.Gain.{move_laws, rest_moved}
 use Rattle.sfm_walk.specs.declared.bits.Bits.{Bits}
 use Rattle.sfm_walk.specs.declared.walk.Hop.{Hop}
 use Rattle.sfm_walk.specs.Bits.{bit_in, set_at}
-use Rattle.sfm_walk.specs.Rest.{IsRest}
+use Rattle.sfm_law.specs.Rest.{IsRest}
 use Rattle.sfm_walk.specs.Reach.{IsTable, table_at}
 use Rattle.sfm_walk.specs.Unions.{AreLinks, IsReadable}
 use Rattle.sfm_walk.specs.Levels.{depth_of, IsFirst, AreClosed}

@@ -1,7 +1,5 @@
 pub mod Options
 pub mod Words
-pub mod Lists
-pub mod Rests
 pub mod Following
 pub mod Spotting
 pub mod Levelling

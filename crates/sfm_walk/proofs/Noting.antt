@@ -7,7 +7,7 @@ use Rattle.std.proofs.Math.Seq.{get_or-append_seam}
 use Rattle.sfm_spec.specs.Terms.{SetFunction}
 use Rattle.sfm_spec.specs.Families.{Meaning, meanings}
 use Rattle.sfm_spec.specs.Walks.{row_at, term_at}
-use Rattle.sfm_walk.proofs.Lists.{length-meanings, meanings-at}
+use Rattle.sfm_law.proofs.Lists.{length-meanings, meanings-at}
 use Rattle.sfm_walk.specs.Reach.{AreNotes, AreSized}
 
 -- the notes of the first k terms fit

@@ -6,7 +6,6 @@ pub mod Turned
 pub mod Levels
 pub mod Signs
 pub mod Hops
-pub mod Rest
 pub mod State
 pub mod Engine
 pub mod Reached

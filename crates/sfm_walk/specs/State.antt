@@ -4,7 +4,7 @@ use Rattle.sfm_spec.specs.Terms.{SetFunction}
 use Rattle.sfm_spec.specs.Families.{meanings, AreBases}
 use Rattle.sfm_walk.specs.declared.bits.Bits.{Bits}
 use Rattle.sfm_walk.specs.declared.spots.Spot.{Spot}
-use Rattle.sfm_walk.specs.Rest.{IsRest}
+use Rattle.sfm_law.specs.Rest.{IsRest}
 use Rattle.sfm_walk.specs.Spots.{AreSpots}
 use Rattle.sfm_walk.specs.Reach.{AreNotes, AreSized, IsTable, table_at}
 use Rattle.sfm_walk.specs.Unions.{AreUnions}

@@ -21,14 +21,14 @@ use crate::levels::find_levels;
 use crate::moving::{amount_of, move_along};
 use crate::reach::{BitRows, notes_of};
 use crate::reached::{reached_from, set_of};
-use crate::rest::{most_of, move_rest, rest_of};
+use crate::rest::{most_of, move_rest};
 use crate::signs::{Signs, move_signs, signs_of};
 use crate::spots::Spots;
 use crate::turned::turned_of;
 use crate::unions::unions_of;
 use crate::walk::{Hop, follow, last_place};
 use sfm_base::{Memory, Numbers, Rows, Set, Steps};
-use sfm_law::{Term, start_rows};
+use sfm_law::{Term, rest_of, start_rows};
 use std::alloc::Global;
 
 /// Bases of q times the terms that prove the minimum, with z: their sum at each place of the ground, less the shift.

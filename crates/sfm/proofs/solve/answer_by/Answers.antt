@@ -5,9 +5,8 @@ use mir.Syntax.{w128}
 use Rattle.sfm_spec.specs.Bounds.{IsEntry}
 use Rattle.sfm_spec.specs.Blocks.{AreBlocks}
 use Rattle.sfm_spec.specs.Families.{even_shift}
-use Rattle.sfm_spec.specs.Laws.{AreBreakpoints}
+use Rattle.sfm_spec.specs.Laws.{AreBreakpoints, ones}
 use Rattle.sfm_slope.specs.Marks.{HasBases, mark_of as kept_mark}
-use Rattle.sfm_check.specs.Truth.{ones}
 use Rattle.sfm_extreme.specs.Blocks.{block_of}
 use Rattle.sfm_cert.specs.Answer.{Answer}
 use Rattle.sfm_cert.specs.Solved.{break_of}

@@ -8,7 +8,7 @@ use Rattle.sfm_kind.specs.declared.kind.Kind.{Kind}
 use Rattle.sfm_kind.specs.Instance.{AreInBounds}
 use Rattle.sfm_kind.specs.Kinds.{kind_places, kind_value, kind_size}
 use Rattle.sfm_extreme.specs.Blocks.{block_of}
-use Rattle.sfm_extreme.proofs.Lists.{length-meanings}
+use Rattle.sfm_law.proofs.Lists.{length-meanings}
 use Rattle.sfm_cert.specs.Answer.{line_base}
 use Rattle.sfm_cert.specs.Form.{AreFormedRows}
 use Rattle.sfm_cert.specs.Solved.{answer_of, break_of, form_of}

@@ -7,7 +7,7 @@ use Rattle.sfm_spec.specs.Families.{Meaning, meanings}
 use Rattle.sfm_spec.specs.Terms.{times, IsBase}
 use Rattle.sfm_spec.specs.Walks.{term_at, row_at}
 use Rattle.sfm_kind.specs.Kinds.{kind_places, kind_value}
-use Rattle.sfm_extreme.proofs.Lists.{length-meanings, meanings-at}
+use Rattle.sfm_law.proofs.Lists.{length-meanings, meanings-at}
 use Rattle.sfm_check.proofs.Forming.{row_width}
 use Rattle.sfm_check.proofs.bases.first_no_base_in.Goals as goal
 

@@ -3,7 +3,7 @@ use Rattle.std.specs.Prelude.{MatchOption}
 use Rattle.std.proofs.lemmas.List.{length-map}
 use Rattle.sfm_spec.specs.Bounds.{IsEntry}
 use Rattle.sfm_spec.specs.Blocks.{AreBlocks}
-use Rattle.sfm_spec.specs.Laws.{AreBreakpoints, Mark}
+use Rattle.sfm_spec.specs.Laws.{AreBreakpoints, Mark, ones}
 use Rattle.sfm_spec.specs.Families.{Meaning, Prove, meanings, even_shift, IsLeast, IsGreatest, shifted_at}
 use Rattle.sfm_kind.specs.Kinds.{kind_places, kind_value}
 use Rattle.sfm_extreme.specs.declared.extremes.Proved.{Proved}
@@ -11,7 +11,7 @@ use Rattle.sfm_extreme.specs.declared.grouping.Block.{Block}
 use Rattle.sfm_extreme.specs.Blocks.{block_of}
 use Rattle.sfm_cert.specs.Answer.{Answer, Form, mark_of}
 use Rattle.sfm_cert.specs.Solved.{answer_of, form_of}
-use Rattle.sfm_check.specs.Truth.{IsTrueHead, ones, section_at}
+use Rattle.sfm_check.specs.Truth.{IsTrueHead, section_at}
 use Rattle.sfm_check.specs.Due.{due_answer}
 use Rattle.sfm_check.specs.Verdict.{IsFirstWrong}
 use Rattle.sfm_check.specs.Findings.{IsFirstWrongSlope, IsToldOf, IsWrongLine, SaysTheSame}

@@ -11,7 +11,7 @@ use Rattle.sfm_extreme.specs.declared.extremes.Proved.{Proved}
 use Rattle.sfm_extreme.specs.declared.extremes.Certified.TheVariants.{Proved as Proves}
 use Rattle.sfm_extreme.specs.Blocks.{block_of}
 use Rattle.sfm_extreme.specs.Certified.{IsAnswer}
-use Rattle.sfm_extreme.proofs.Lists.{length-meanings}
+use Rattle.sfm_law.proofs.Lists.{length-meanings}
 use Rattle.sfm_cert.specs.Answer.{line_at}
 use Rattle.sfm_cert.specs.Solved.{answer_of, break_of, form_of}
 use Rattle.sfm_check.specs.Truth.{Section, section_at, section_of as section_from, sections_of}

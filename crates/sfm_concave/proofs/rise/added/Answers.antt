@@ -3,7 +3,7 @@ use Rattle.std.proofs.lemmas.Int.{to_z-of_z}
 use Rattle.std.proofs.lemmas.List.Elements.{All-get_or}
 use mir.Syntax.{w128}
 use Rattle.sfm_spec.specs.Bounds.{IsGiven}
-use Rattle.sfm_concave.proofs.Fits.{given_fits, given_difference_fits}
+use Rattle.sfm_law.proofs.Fits.{given_fits, given_difference_fits}
 use Rattle.sfm_concave.proofs.Increments.{increment-is}
 use Rattle.sfm_concave.proofs.rise.added.Goals as goal
 

@@ -4,7 +4,7 @@ use Rattle.std.proofs.lemmas.List.Elements.{All-get_or}
 use mir.Syntax.{w128}
 use Rattle.sfm_spec.specs.Bounds.{IsAtMost, IsEntry}
 use Rattle.sfm_law.proofs.Writes.{entry_fits}
-use Rattle.sfm_concave.proofs.Fits.{share_small, share_fits, less_fits}
+use Rattle.sfm_law.proofs.Fits.{share_small, share_fits, less_fits}
 use Rattle.sfm_concave.proofs.Shares.{between_same, between_some, between_less}
 use Rattle.sfm_concave.proofs.share.share_between.Goals as goal
 

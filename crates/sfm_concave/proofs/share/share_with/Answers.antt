@@ -4,7 +4,7 @@ use Rattle.std.proofs.lemmas.List.Elements.{All-get_or}
 use mir.Syntax.{w128}
 use Rattle.sfm_spec.specs.Bounds.{IsAtMost, IsEntry}
 use Rattle.sfm_law.proofs.Writes.{entry_fits}
-use Rattle.sfm_concave.proofs.Fits.{share_small, share_fits, more_fits}
+use Rattle.sfm_law.proofs.Fits.{share_small, share_fits, more_fits}
 use Rattle.sfm_concave.proofs.Shares.{with_same, with_more}
 use Rattle.sfm_concave.proofs.share.share_with.Goals as goal
 

@@ -5,9 +5,9 @@ use mir.Syntax.{w128}
 use Rattle.sfm_spec.specs.Bounds.{IsAtMost, IsEntry, total_of}
 use Rattle.sfm_spec.specs.Sets.{whole_set}
 use Rattle.sfm_law.proofs.Writes.{entry_fits}
-use Rattle.sfm_concave.proofs.Fits.{share_small, share_fits, less_fits}
+use Rattle.sfm_law.proofs.Fits.{share_small, share_fits, less_fits}
 use Rattle.sfm_concave.proofs.Shares.{without_share}
-use Rattle.sfm_concave.proofs.Totals.{total_of-whole}
+use Rattle.sfm_law.proofs.Totals.{total_of-whole}
 use Rattle.sfm_concave.proofs.share.share_without.Goals as goal
 
 pub overflow_sub-result-2 : goal.overflow_sub-result-2

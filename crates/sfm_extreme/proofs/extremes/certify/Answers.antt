@@ -1,6 +1,6 @@
 use Rattle.std.proofs.Common.{◌≡◌, replicate, rules, arith}
 use Rattle.std.proofs.lemmas.Int.{ints}
-use Rattle.sfm_extreme.proofs.Rests.{magnitudes-replicate}
+use Rattle.sfm_law.proofs.Rests.{magnitudes-replicate}
 use Rattle.sfm_extreme.proofs.extremes.certify.Goals as goal
 
 pub certify_by-requires-clause-shifts : goal.certify_by-requires-clause-shifts

@@ -9,11 +9,11 @@ use Rattle.sfm_spec.proofs.Duality.{meanings-terms}
 use Rattle.sfm_spec.proofs.Proving.{no_join}
 use Rattle.sfm_spec.proofs.Walks.{bases-at, has_below}
 use Rattle.sfm_extreme.specs.declared.search.Way.TheVariants.{Onward, Back}
-use Rattle.sfm_extreme.specs.Rest.{IsRest}
+use Rattle.sfm_law.specs.Rest.{IsRest}
 use Rattle.sfm_extreme.specs.Links.{AreLinks, link_at}
 use Rattle.sfm_extreme.specs.Search.{AreLinkedSteps, IsSearch, IsSetOf, link_by, place_at}
-use Rattle.sfm_extreme.proofs.Lists.{below-total, length-bases, length-meanings, placed-meanings}
-use Rattle.sfm_extreme.proofs.Rests.{rest-total}
+use Rattle.sfm_law.proofs.Lists.{below-total, length-bases, length-meanings, placed-meanings}
+use Rattle.sfm_law.proofs.Rests.{rest-total}
 use Rattle.sfm_extreme.proofs.Answering.{deficit_by_rest, greatest_found, joins_found, least_found, value_by_prove}
 use Rattle.sfm_extreme.proofs.extremes.certify_by.Goals as goal
 

@@ -12,9 +12,9 @@ use Rattle.sfm_spec.proofs.Walks.{bases-at}
 use Rattle.sfm_extreme.specs.Links.{AreLinks, link_at}
 use Rattle.sfm_extreme.specs.Pulls.{AreFirsts, AreGrouped, ArePullRows, IsBetween}
 use Rattle.sfm_extreme.specs.Blocks.{block_of}
-use Rattle.sfm_extreme.specs.Rest.{IsRest}
-use Rattle.sfm_extreme.proofs.Lists.{below-total, length-bases, length-meanings, placed-meanings}
-use Rattle.sfm_extreme.proofs.Rests.{magnitudes-replicate}
+use Rattle.sfm_law.specs.Rest.{IsRest}
+use Rattle.sfm_law.proofs.Lists.{below-total, length-bases, length-meanings, placed-meanings}
+use Rattle.sfm_law.proofs.Rests.{magnitudes-replicate}
 use Rattle.sfm_extreme.proofs.Generating.{blocks_are}
 use Rattle.sfm_extreme.proofs.Tellings.{tells}
 use Rattle.sfm_extreme.proofs.grouping.blocks.Goals as goal

@@ -9,7 +9,7 @@ use Rattle.sfm_spec.specs.Families.{Meaning, meanings}
 use Rattle.sfm_spec.specs.Walks.{term_at}
 use Rattle.sfm_spec.proofs.Walks.{bases-at}
 use Rattle.sfm_extreme.specs.Links.{link_at}
-use Rattle.sfm_extreme.proofs.Lists.{all-at, meanings-at, length-meanings, length-bases}
+use Rattle.sfm_law.proofs.Lists.{all-at, meanings-at, length-meanings, length-bases}
 use Rattle.sfm_extreme.proofs.Adding.{links_all, links_more}
 use Rattle.sfm_extreme.proofs.links.links_of.Goals as goal
 

@@ -1,10 +1,9 @@
-use Rattle.std.proofs.Common.{◌≡◌, ◌≤◌, List, length, take, map, sym, ap, subst, arith, FitsSigned, ℤ}
+use Rattle.std.proofs.Common.{◌≡◌, List, map, sym, subst, FitsSigned, ℤ}
 use Rattle.std.specs.List.{All}
 use Rattle.std.proofs.lemmas.List.{take_all}
 use Rattle.std.proofs.lemmas.Int.{to_z-of_z}
 use mir.Syntax.{w128}
 use Rattle.sfm_spec.specs.Bounds.{IsEntry}
-use Rattle.sfm_spec.specs.Families.{meanings, AreBases}
 use Rattle.sfm_law.proofs.FirstBases.{starts-bases, starts-small}
 use Rattle.sfm_law.proofs.starts.start_rows.Goals as goal
 

@@ -2,7 +2,7 @@ use Rattle.std.proofs.Common.{length, FitsSigned}
 use Rattle.std.proofs.lemmas.Int.{to_z-of_z}
 use mir.Syntax.{w128}
 use Rattle.sfm_matroid.specs.Givers.{IsGiver}
-use Rattle.sfm_matroid.proofs.Puts.{put_more}
+use Rattle.sfm_law.proofs.Puts.{put_more}
 use Rattle.sfm_matroid.proofs.givers.givers.Goals as goal
 
 pub loop-v-preserved : goal.loop-v-preserved

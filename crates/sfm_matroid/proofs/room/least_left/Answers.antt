@@ -8,7 +8,7 @@ use Rattle.sfm_matroid.specs.Ends.{edges_of}
 use Rattle.sfm_matroid.specs.Runs.{edge_at}
 use Rattle.sfm_matroid.specs.Leasts.{IsMostOf}
 use Rattle.sfm_matroid.proofs.Fits.{amount_fits, left_fits, most_left_fits, without_amounts}
-use Rattle.sfm_matroid.proofs.LeastSteps.{least_start, least_next}
+use Rattle.sfm_matroid.proofs.LeastSteps.{least_of}
 use Rattle.sfm_matroid.proofs.Numbering.{pair-edge, pair-below}
 use Rattle.sfm_matroid.proofs.room.least_left.Goals as goal
 
@@ -76,5 +76,4 @@ returns c =
     let most = simp to_z-of_z at (rw (c.deref.ensures.value, c.in_ok-rest.ensures, ← tail) at c.in_ok-most.ensures.most) in
     let start = simp to_z-of_z at c.min-first.ensures.value in
     let next = simp to_z-of_z at c.min.ensures.value in
-    let first = least_start (λ t. IsMostOf (edges_of ends) (2 * length ends) cap (set x v (pos 0)) u (edge_at (edges_of ends) u).tail) (get_or x v (pos 0)) (cap -ℤ get_or x u (pos 0)) (get_or x u (pos 0)) c.min-first.result start in
-    simp to_z-of_z (least_next (λ t. IsMostOf (edges_of ends) (2 * length ends) cap (set x v (pos 0)) u (edge_at (edges_of ends) u).tail) (get_or x v (pos 0)) (cap -ℤ get_or x u (pos 0)) (get_or x u (pos 0)) 0 c.min-first.result c.min.result c.in_ok-most.most first most next)
+    simp to_z-of_z (least_of (IsMostOf (edges_of ends) (2 * length ends) cap (set x v (pos 0)) u (edge_at (edges_of ends) u).tail) (get_or x v (pos 0)) cap (get_or x u (pos 0)) c.min-first.result c.in_ok-most.most c.min.result start most next)

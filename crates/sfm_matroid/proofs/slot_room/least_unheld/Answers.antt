@@ -4,7 +4,7 @@ use Rattle.std.proofs.lemmas.List.Elements.{All-get_or}
 use mir.Syntax.{w128}
 use Rattle.sfm_assign.specs.Splits.{IsAmount, IsMost}
 use Rattle.sfm_matroid.proofs.Fits.{amount_fits, left_fits, most_left_fits, without_amounts}
-use Rattle.sfm_matroid.proofs.LeastSteps.{least_start, least_next}
+use Rattle.sfm_matroid.proofs.LeastSteps.{least_of}
 use Rattle.sfm_matroid.proofs.slot_room.least_unheld.Goals as goal
 
 pub most_held-requires-clause-amounts : goal.most_held-requires-clause-amounts
@@ -52,5 +52,4 @@ returns c =
     let most = simp to_z-of_z at (rw (c.deref.ensures.value, c.in_ok-rest.ensures) at c.in_ok-most.ensures.most) in
     let start = simp to_z-of_z at c.min-first.ensures.value in
     let next = simp to_z-of_z at c.min.ensures.value in
-    let first = least_start (λ t. IsMost (set x v (pos 0)) entries (replicate m cap) u) (get_or x v (pos 0)) (cap -ℤ get_or x u (pos 0)) (get_or x u (pos 0)) c.min-first.result start in
-    simp to_z-of_z (least_next (λ t. IsMost (set x v (pos 0)) entries (replicate m cap) u) (get_or x v (pos 0)) (cap -ℤ get_or x u (pos 0)) (get_or x u (pos 0)) 0 c.min-first.result c.min.result c.in_ok-most.most first most next)
+    simp to_z-of_z (least_of (IsMost (set x v (pos 0)) entries (replicate m cap) u) (get_or x v (pos 0)) cap (get_or x u (pos 0)) c.min-first.result c.in_ok-most.most c.min.result start most next)

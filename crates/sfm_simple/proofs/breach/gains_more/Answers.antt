@@ -5,7 +5,7 @@ use Rattle.std.proofs.lemmas.List.Elements.{All-get_or}
 use mir.Syntax.{w128}
 use Rattle.sfm_spec.specs.Bounds.{IsGiven}
 use Rattle.sfm_simple.specs.Subsets.{binary-members}
-use Rattle.sfm_simple.proofs.Fits.{given_fits}
+use Rattle.sfm_law.proofs.Fits.{given_fits}
 use Rattle.sfm_simple.proofs.Places.{number_with_place, number_with_both, place_below, both_below}
 use Rattle.sfm_simple.proofs.breach.gains_more.Goals as goal
 

@@ -4,7 +4,7 @@ use Rattle.std.proofs.lemmas.List.Elements.{All-get_or}
 use mir.Syntax.{w128}
 use Rattle.sfm_spec.proofs.Sums.{magnitudes-drop}
 use Rattle.sfm_spec.specs.Bounds.{IsGiven}
-use Rattle.sfm_simple.proofs.Fits.{given_fits}
+use Rattle.sfm_law.proofs.Fits.{given_fits}
 use Rattle.sfm_simple.proofs.weight.sum_magnitudes.Goals as goal
 
 pub loop-w-preserved : goal.loop-w-preserved

@@ -1,12 +1,12 @@
-use Rattle.std.proofs.Common.{map, pos, refl, None}
-use Rattle.std.proofs.lemmas.List.{length-replicate}
+use Rattle.std.proofs.Common.{map, refl, None}
 use Rattle.sfm_spec.specs.Sets.{empty_set}
 use Rattle.sfm_spec.specs.Families.{meanings}
 use Rattle.sfm_spec.proofs.Duality.{meanings-terms}
-use Rattle.sfm_walk.proofs.Lists.{placed-meanings}
-use Rattle.sfm_slope.specs.Marks.{mark_of, ones}
+use Rattle.sfm_spec.specs.Laws.{ones}
+use Rattle.sfm_law.proofs.Lists.{placed-meanings}
+use Rattle.sfm_slope.specs.Marks.{mark_of}
 use Rattle.sfm_slope.proofs.Gaps.{chain_begun}
-use Rattle.sfm_slope.proofs.Worths.{ones-sizes}
+use Rattle.sfm_spec.proofs.Ones.{ones-places, ones-sizes}
 use Rattle.sfm_slope.proofs.Parts.{part_push}
 use Rattle.sfm_slope.proofs.breakpoints.+fill.Goals as goal
 
@@ -17,7 +17,7 @@ take_turn-requires-clause-begun g t c =
     let n = c.args.n in
     let ts = meanings d.places d.value_of c.args.terms.now in
     let fit = meanings-terms n d.places d.value_of m.family m.submodular c.args.terms.now (placed-meanings n d.places d.value_of c.args.terms.now c.requires.bounded.placed) in
-    chain_begun ts n (ones n) fit (length-replicate n (pos 1)) (ones-sizes n) None (empty_set n) (map mark_of c.args.breaks.now.items) c.args.low.now.set refl c.requires.before.chain
+    chain_begun ts n (ones n) fit (ones-places n) (ones-sizes n) None (empty_set n) (map mark_of c.args.breaks.now.items) c.args.low.now.set refl c.requires.before.chain
 
 pub returns-in_ok-push-in-Next-clause-part : goal.returns-in_ok-push-in-Next-clause-part
 returns-in_ok-push-in-Next-clause-part g t c =

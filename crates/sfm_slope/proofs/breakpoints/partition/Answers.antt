@@ -1,14 +1,14 @@
-use Rattle.std.proofs.Common.{◌≡◌, [], pos, refl, ◌∙◌, arith}
-use Rattle.std.proofs.lemmas.List.{length-replicate}
+use Rattle.std.proofs.Common.{◌≡◌, [], refl, ◌∙◌, arith}
 use Rattle.std.proofs.lemmas.List.Elements.{All-nil}
 use Rattle.sfm_spec.specs.Sets.{empty_set, whole_set}
 use Rattle.sfm_spec.specs.Families.{meanings}
 use Rattle.sfm_spec.proofs.Duality.{meanings-terms}
 use Rattle.sfm_spec.proofs.Lattice.{empty_allowed, whole_allowed}
-use Rattle.sfm_walk.proofs.Lists.{placed-meanings}
-use Rattle.sfm_slope.specs.Marks.{HasBases, ones}
+use Rattle.sfm_spec.specs.Laws.{ones}
+use Rattle.sfm_law.proofs.Lists.{placed-meanings}
+use Rattle.sfm_slope.specs.Marks.{HasBases}
 use Rattle.sfm_slope.proofs.Parts.{part_all, part_none}
-use Rattle.sfm_slope.proofs.Worths.{ones-sizes}
+use Rattle.sfm_spec.proofs.Ones.{ones-places, ones-sizes}
 use Rattle.sfm_slope.proofs.breakpoints.partition.Goals as goal
 use Rattle.sfm_slope.proofs.breakpoints.partition.Goals.{then-n-gt0+in_ok-fill, else-n-gt0}
 
@@ -39,10 +39,10 @@ returns-clause-slopes g c =
     let fit = meanings-terms n t.places t.value_of m.family m.submodular c.args.terms.now (placed-meanings n t.places t.value_of c.args.terms.now c.requires.bounded.placed) in
     let whole : c.in_ok-high.high.set ≡ whole_set n = c.in_ok-high.ensures.same ∙ c.in_ok-whole_ground.ensures in
     elim c.if-n-gt0.branch [
-      | then-n-gt0+in_ok-fill w ↦ rw w.breaks-is (part_all ts n (ones n) fit (length-replicate n (pos 1)) (ones-sizes n) w.fill.new.breaks.items c.in_ok-high.high.set w.in_ok-fill.ensures.part whole)
+      | then-n-gt0+in_ok-fill w ↦ rw w.breaks-is (part_all ts n (ones n) fit (ones-places n) (ones-sizes n) w.fill.new.breaks.items c.in_ok-high.high.set w.in_ok-fill.ensures.part whole)
       | else-n-gt0 w ↦
           let none : n ≡ 0 = omega (arith, w.if-n-gt0.false) in
-          rw (w.breaks-is, c.new-breaks.ensures.items) (part_all ts n (ones n) fit (length-replicate n (pos 1)) (ones-sizes n) [] (empty_set n) (part_none ts n (ones n)) (rw none refl))
+          rw (w.breaks-is, c.new-breaks.ensures.items) (part_all ts n (ones n) fit (ones-places n) (ones-sizes n) [] (empty_set n) (part_none ts n (ones n)) (rw none refl))
     ]
 
 pub returns-clause-bases : goal.returns-clause-bases

@@ -2,7 +2,7 @@ use Rattle.std.proofs.Common.{◌≡◌, sym, ◌∙◌}
 use Rattle.sfm_spec.specs.Sets.{size}
 use Rattle.sfm_spec.specs.Families.{meanings}
 use Rattle.sfm_spec.proofs.Duality.{meanings-terms}
-use Rattle.sfm_walk.proofs.Lists.{placed-meanings}
+use Rattle.sfm_law.proofs.Lists.{placed-meanings}
 use Rattle.sfm_slope.proofs.Turns.{turn_between, turn_next, turn_ratio}
 use Rattle.sfm_slope.proofs.turn.take_turn.Goals as goal
 

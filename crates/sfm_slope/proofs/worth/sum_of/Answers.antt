@@ -2,7 +2,7 @@ use Rattle.std.proofs.Common.{◌≡◌, ◌+◌, length, unwrap_or, pos, FitsSi
 use Rattle.std.proofs.lemmas.Int.{ints}
 use mir.Syntax.{w128}
 use Rattle.sfm_spec.specs.Sets.{IsPlaced, part}
-use Rattle.sfm_walk.proofs.Lists.{all-at}
+use Rattle.sfm_law.proofs.Lists.{all-at}
 use Rattle.sfm_slope.proofs.Values.{sum_given, sum_more, value_small}
 use Rattle.sfm_slope.proofs.worth.sum_of.Goals as goal
 

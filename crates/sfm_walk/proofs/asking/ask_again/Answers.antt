@@ -9,7 +9,7 @@ use Rattle.sfm_walk.specs.declared.bits.Bits.{Bits}
 use Rattle.sfm_walk.specs.Reach.{IsTable, table_at}
 use Rattle.sfm_walk.specs.Unions.{HaveRows}
 use Rattle.sfm_walk.specs.Hops.{hop_at}
-use Rattle.sfm_walk.proofs.Lists.{all-at, meanings-at}
+use Rattle.sfm_law.proofs.Lists.{all-at, meanings-at}
 use Rattle.sfm_walk.proofs.Noting.{sized_meanings}
 use Rattle.sfm_walk.proofs.Uniting.{IsRenewed, have_rows, unions_renewed}
 use Rattle.sfm_walk.proofs.asking.ask_again.Goals as goal

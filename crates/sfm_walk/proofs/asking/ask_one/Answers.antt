@@ -12,7 +12,7 @@ use Rattle.sfm_spec.specs.Walks.{term_at, row_at}
 use Rattle.sfm_spec.proofs.Walks.{bases-at}
 use Rattle.sfm_walk.specs.declared.bits.Bits.{Bits}
 use Rattle.sfm_walk.specs.Reach.{IsReachTable, IsTable}
-use Rattle.sfm_walk.proofs.Lists.{all-at, meanings-at, length-meanings, length-bases}
+use Rattle.sfm_law.proofs.Lists.{all-at, meanings-at, length-meanings, length-bases}
 use Rattle.sfm_walk.proofs.Noting.{sized_read}
 use Rattle.sfm_walk.proofs.Reaching.{table_steps}
 use Rattle.sfm_walk.proofs.asking.ask_one.Goals as goal

@@ -10,7 +10,7 @@ use Rattle.sfm_spec.specs.Walks.{term_at, row_at}
 use Rattle.sfm_spec.proofs.Walks.{bases-at}
 use Rattle.sfm_law.specs.Room.{IsRoom}
 use Rattle.sfm_walk.specs.Hops.{hop_at}
-use Rattle.sfm_walk.proofs.Lists.{all-at, meanings-at, length-meanings, length-bases}
+use Rattle.sfm_law.proofs.Lists.{all-at, meanings-at, length-meanings, length-bases}
 use Rattle.sfm_walk.proofs.Amounts.{amount_more}
 use Rattle.sfm_walk.proofs.moving.amount_of.Goals as goal
 

@@ -9,7 +9,7 @@ use Rattle.sfm_spec.proofs.Duality.{meanings-terms}
 use Rattle.sfm_spec.proofs.Sums.{length-exchanged}
 use Rattle.sfm_spec.proofs.Walks.{bases-at}
 use Rattle.sfm_walk.specs.Hops.{hop_at}
-use Rattle.sfm_walk.proofs.Lists.{all-at, meanings-at, length-meanings, length-bases, placed-meanings}
+use Rattle.sfm_law.proofs.Lists.{all-at, meanings-at, length-meanings, length-bases, placed-meanings}
 use Rattle.sfm_walk.proofs.Noting.{notes_set}
 use Rattle.sfm_walk.proofs.Exchanging.{HaveMoved, have_moved_more, moved_small, names, next_apart, next_room, row_base}
 use Rattle.sfm_walk.proofs.moving.move_along.Goals as goal

@@ -9,13 +9,13 @@ use Rattle.sfm_spec.proofs.Duality.{meanings-terms}
 use Rattle.sfm_spec.proofs.Gain.{row_kept}
 use Rattle.sfm_spec.proofs.Moves.{deficit_at_place, deficit_not_above}
 use Rattle.sfm_spec.proofs.Sums.{length-exchanged}
-use Rattle.sfm_walk.specs.Rest.{IsRest}
+use Rattle.sfm_law.specs.Rest.{IsRest}
 use Rattle.sfm_walk.specs.Levels.{IsFirst, depth_of}
 use Rattle.sfm_walk.specs.Reach.{IsTable, table_at}
 use Rattle.sfm_walk.specs.Unions.{HaveRows, IsReadable}
 use Rattle.sfm_walk.specs.Hops.{AreHops, hop_at, steps_of}
-use Rattle.sfm_walk.proofs.Lists.{length-meanings, placed-meanings}
-use Rattle.sfm_walk.proofs.Rests.{rest-small}
+use Rattle.sfm_law.proofs.Lists.{length-meanings, placed-meanings}
+use Rattle.sfm_law.proofs.Rests.{rest-small}
 use Rattle.sfm_walk.proofs.Following.{length-steps_of}
 use Rattle.sfm_walk.proofs.Noting.{sized_meanings}
 use Rattle.sfm_walk.proofs.Uniting.{have_rows, links_of}

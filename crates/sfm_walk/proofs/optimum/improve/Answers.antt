@@ -14,7 +14,7 @@ use Rattle.sfm_walk.specs.Levels.{AreClosed}
 use Rattle.sfm_walk.specs.Reach.{IsTable, table_at}
 use Rattle.sfm_walk.specs.Unions.{HaveRows}
 use Rattle.sfm_walk.proofs.Options.{match_none}
-use Rattle.sfm_walk.proofs.Lists.{below-total, length-meanings, length-bases, placed-meanings}
+use Rattle.sfm_law.proofs.Lists.{below-total, length-meanings, length-bases, placed-meanings}
 use Rattle.sfm_walk.proofs.Noting.{sized_meanings}
 use Rattle.sfm_walk.proofs.Uniting.{have_rows, links_of}
 use Rattle.sfm_walk.proofs.Advancing.{none_joins}

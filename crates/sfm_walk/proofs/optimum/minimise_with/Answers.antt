@@ -5,7 +5,7 @@ use Rattle.std.proofs.lemmas.List.{length-replicate, length-map, get_or-map}
 use Rattle.std.proofs.lemmas.List.Elements.{All-map}
 use mir.Syntax.{w128}
 use Rattle.sfm_spec.specs.Sets.{empty_set}
-use Rattle.sfm_walk.proofs.Lists.{below-total}
+use Rattle.sfm_law.proofs.Lists.{below-total}
 use Rattle.sfm_walk.proofs.Starting.{magnitudes-even, starts_within}
 use Rattle.sfm_walk.proofs.optimum.minimise_with.Goals as goal
 

@@ -8,7 +8,7 @@ use Rattle.sfm_spec.specs.Bounds.{IsEntry}
 use Rattle.sfm_spec.specs.Families.{Meaning, meanings}
 use Rattle.sfm_spec.specs.Walks.{term_at}
 use Rattle.sfm_spec.proofs.Walks.{bases-at}
-use Rattle.sfm_walk.proofs.Lists.{all-at, meanings-at, length-meanings, length-bases}
+use Rattle.sfm_law.proofs.Lists.{all-at, meanings-at, length-meanings, length-bases}
 use Rattle.sfm_walk.proofs.Noting.{notes_push}
 use Rattle.sfm_walk.proofs.reach.notes_of.Goals as goal
 

@@ -2,7 +2,7 @@ use Rattle.std.proofs.Common.{◌≡◌, length, sym, ap, ◌∙◌, arith}
 use Rattle.sfm_spec.specs.Sets.{IsPlaced}
 use Rattle.sfm_spec.specs.Families.{Meaning, meanings}
 use Rattle.sfm_spec.specs.Walks.{term_at}
-use Rattle.sfm_walk.proofs.Lists.{all-at, length-meanings, meanings-at}
+use Rattle.sfm_law.proofs.Lists.{all-at, length-meanings, meanings-at}
 use Rattle.sfm_walk.proofs.Spotting.{spots_none, spots_more, spots_all}
 use Rattle.sfm_walk.proofs.spots.spots_of.Goals as goal
 

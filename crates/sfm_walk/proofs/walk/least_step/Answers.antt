@@ -2,7 +2,7 @@ use Rattle.std.proofs.Common.{◌≡◌, ◌<◌, length, sym, ap, ◌∙◌, ar
 use Rattle.sfm_spec.specs.Families.{Meaning, meanings}
 use Rattle.sfm_spec.specs.Walks.{term_at}
 use Rattle.sfm_walk.proofs.Options.{match_some, some_if_not}
-use Rattle.sfm_walk.proofs.Lists.{length-meanings, meanings-at}
+use Rattle.sfm_law.proofs.Lists.{length-meanings, meanings-at}
 use Rattle.sfm_walk.proofs.Spotting.{spot_found}
 use Rattle.sfm_walk.proofs.walk.least_step.Goals as goal
 

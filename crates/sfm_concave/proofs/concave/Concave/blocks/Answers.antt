@@ -5,7 +5,7 @@ use mir.Syntax.{w128}
 use Rattle.sfm_spec.specs.Bounds.{IsEntry}
 use Rattle.sfm_law.proofs.Writes.{entry_fits}
 use Rattle.sfm_concave.specs.Thresholds.{above_with}
-use Rattle.sfm_concave.proofs.Fits.{is_zero}
+use Rattle.sfm_law.proofs.Fits.{is_zero}
 use Rattle.sfm_concave.proofs.concave.Concave.blocks.Goals as goal
 
 pub returns-then-x-w : goal.returns-then-x-w

@@ -3,7 +3,7 @@ use Rattle.std.proofs.lemmas.Int.{to_z-of_z}
 use mir.Syntax.{w128}
 use Rattle.sfm_spec.proofs.Scaled.{times-sub}
 use Rattle.sfm_concave.specs.ConcaveLaws.{number_of, gain_of}
-use Rattle.sfm_concave.proofs.Fits.{given_fits, given_more, product_fits, product_small, difference_fits, at_most_more}
+use Rattle.sfm_law.proofs.Fits.{given_fits, given_more, product_fits, product_small, difference_fits, at_most_more}
 use Rattle.sfm_concave.proofs.concave.Concave.gain.Goals as goal
 
 pub overflow_sub-result : goal.overflow_sub-result

@@ -4,8 +4,8 @@ use Rattle.std.proofs.lemmas.Int.{to_z-of_z}
 use mir.Syntax.{w128}
 use Rattle.sfm_concave.proofs.Above.{length-above}
 use Rattle.sfm_concave.proofs.ConcaveRooms.{base_by_thresholds, concave_slack, concave_total}
-use Rattle.sfm_concave.proofs.Fits.{given_fits, given_more, product_fits}
-use Rattle.sfm_concave.proofs.Totals.{total_of-whole}
+use Rattle.sfm_law.proofs.Fits.{given_fits, given_more, product_fits}
+use Rattle.sfm_law.proofs.Totals.{total_of-whole}
 use Rattle.sfm_concave.proofs.concave.Concave.is_base_of.Goals as goal
 
 pub returns-then-has_sum : goal.returns-then-has_sum

@@ -4,7 +4,7 @@ use Rattle.std.proofs.lemmas.List.Elements.{All-get_or}
 use mir.Syntax.{w128}
 use Rattle.sfm_spec.specs.Bounds.{IsEntry}
 use Rattle.sfm_law.proofs.Writes.{entry_fits}
-use Rattle.sfm_concave.proofs.Puts.{put_more}
+use Rattle.sfm_law.proofs.Puts.{put_more}
 use Rattle.sfm_concave.specs.Thresholds.{IsOver}
 use Rattle.sfm_concave.proofs.ConcaveRooms.{concave-reach}
 use Rattle.sfm_concave.proofs.concave.Concave.reach_of.Goals as goal

@@ -6,7 +6,7 @@ use Rattle.sfm_spec.proofs.Sizes.{size_below_length}
 use Rattle.sfm_concave.specs.ConcaveLaws.{number_of, scaled}
 use Rattle.sfm_concave.specs.Thresholds.{slack}
 use Rattle.sfm_spec.specs.Sets.{size}
-use Rattle.sfm_concave.proofs.Fits.{given_fits, given_more, product_fits, product_small, difference_fits, share_fits, share_small}
+use Rattle.sfm_law.proofs.Fits.{given_fits, given_more, product_fits, product_small, difference_fits, share_fits, share_small}
 use Rattle.sfm_concave.proofs.concave.Concave.slack.Goals as goal
 
 pub number-requires : goal.number-requires

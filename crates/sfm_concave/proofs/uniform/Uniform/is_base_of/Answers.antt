@@ -4,8 +4,8 @@ use Rattle.std.proofs.lemmas.Int.{to_z-of_z}
 use Rattle.std.proofs.lemmas.List.Elements.{All-get_or}
 use Rattle.std.proofs.lemmas.List.{get_or_default}
 use mir.Syntax.{w128}
-use Rattle.sfm_concave.proofs.Fits.{given_fits, given_more, product_fits, rank_fits}
-use Rattle.sfm_concave.proofs.Totals.{total_of-whole}
+use Rattle.sfm_law.proofs.Fits.{given_fits, given_more, product_fits, rank_fits}
+use Rattle.sfm_law.proofs.Totals.{total_of-whole}
 use Rattle.sfm_concave.proofs.UniformRooms.{uniform_base, uniform_base_back}
 use Rattle.sfm_concave.proofs.uniform.Uniform.is_base_of.Goals as goal
 

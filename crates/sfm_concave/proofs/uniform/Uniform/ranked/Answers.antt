@@ -1,7 +1,7 @@
 use Rattle.std.proofs.Common.{◌≤ℤ◌, ◌*ℤ◌, pos, arith, rules, FitsSigned}
 use Rattle.std.proofs.lemmas.Int.{ints, clamps, to_z-of_z}
 use mir.Syntax.{w128}
-use Rattle.sfm_concave.proofs.Fits.{given_fits, rank_small, rank_fits}
+use Rattle.sfm_law.proofs.Fits.{given_fits, rank_small, rank_fits}
 use Rattle.sfm_concave.proofs.uniform.Uniform.ranked.Goals as goal
 
 pub returns-clause-small : goal.returns-clause-small

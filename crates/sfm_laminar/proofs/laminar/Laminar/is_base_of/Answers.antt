@@ -6,8 +6,8 @@ use Rattle.std.proofs.lemmas.List.{get_or_default}
 use mir.Syntax.{w128}
 use Rattle.sfm_spec.specs.Sets.{whole_set, sum_over}
 use Rattle.sfm_laminar.proofs.Bases.{laminar_base, laminar_base_back}
-use Rattle.sfm_laminar.proofs.Fits.{given_fits, given_more, product_fits, rank_fits}
-use Rattle.sfm_laminar.proofs.Totals.{total_of-whole}
+use Rattle.sfm_law.proofs.Fits.{given_fits, given_more, product_fits, rank_fits}
+use Rattle.sfm_law.proofs.Totals.{total_of-whole}
 use Rattle.sfm_laminar.proofs.laminar.Laminar.is_base_of.Goals as goal
 
 pub returns-then-not-are_within : goal.returns-then-not-are_within

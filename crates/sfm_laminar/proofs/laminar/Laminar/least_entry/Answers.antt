@@ -4,7 +4,7 @@ use Rattle.std.proofs.lemmas.List.Elements.{All-get_or}
 use mir.Syntax.{w128}
 use Rattle.sfm_spec.specs.Bounds.{IsEntry}
 use Rattle.sfm_law.proofs.Writes.{entry_fits}
-use Rattle.sfm_laminar.proofs.Fits.{given_fits, given_more, product_fits, product_left_fits}
+use Rattle.sfm_law.proofs.Fits.{given_fits, given_more, product_fits, product_left_fits}
 use Rattle.sfm_laminar.proofs.Leasts.{least_first}
 use Rattle.sfm_laminar.proofs.laminar.Laminar.least_entry.Goals as goal
 

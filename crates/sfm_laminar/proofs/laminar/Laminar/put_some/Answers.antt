@@ -5,8 +5,8 @@ use Rattle.std.proofs.lemmas.List.Elements.{All-get_or}
 use mir.Syntax.{w128}
 use Rattle.sfm_spec.specs.Bounds.{IsEntry}
 use Rattle.sfm_law.proofs.Writes.{entry_fits}
-use Rattle.sfm_laminar.proofs.Fits.{given_fits, given_more, product_fits}
-use Rattle.sfm_laminar.proofs.Puts.{put_more, less_test}
+use Rattle.sfm_law.proofs.Fits.{given_fits, given_more, product_fits}
+use Rattle.sfm_law.proofs.Puts.{put_more, less_test}
 use Rattle.sfm_laminar.proofs.laminar.Laminar.put_some.Goals as goal
 
 pub put-requires : goal.put-requires

@@ -1,7 +1,7 @@
 use Rattle.std.proofs.Common.{◌∙◌, ◌*ℤ◌, false, length, get_or, ap, sym, FitsSigned}
 use Rattle.std.proofs.lemmas.Int.{to_z-of_z}
 use mir.Syntax.{w128}
-use Rattle.sfm_laminar.proofs.Fits.{given_fits, given_more, product_fits}
+use Rattle.sfm_law.proofs.Fits.{given_fits, given_more, product_fits}
 use Rattle.sfm_laminar.proofs.Kept.{length-basis, share-in, share-out}
 use Rattle.sfm_laminar.proofs.laminar.Laminar.share.Goals as goal
 

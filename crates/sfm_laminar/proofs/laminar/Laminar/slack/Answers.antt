@@ -5,7 +5,8 @@ use mir.Syntax.{w128}
 use Rattle.sfm_laminar.specs.Groups.{no_group, group_at}
 use Rattle.sfm_laminar.specs.Masks.{sum_listed}
 use Rattle.sfm_laminar.specs.Rooms.{bound_of}
-use Rattle.sfm_laminar.proofs.Fits.{given_fits, given_more, product_fits, most_high, bound_fits, share_fits, difference_fits}
+use Rattle.sfm_law.proofs.Fits.{given_fits, given_more, product_fits, share_fits, difference_fits, product_high}
+use Rattle.sfm_laminar.proofs.Fits.{bound_fits}
 use Rattle.sfm_laminar.proofs.Listed.{few_members}
 use Rattle.sfm_laminar.proofs.laminar.Laminar.slack.Goals as goal
 
@@ -16,7 +17,7 @@ bound-requires-clause-high c =
     let fw : FitsSigned w128 s.w = given_fits _ s.given in
     let fp : FitsSigned w128 (c.args.q *ℤ s.w) = product_fits _ _ c.requires.factor (given_more _ s.given) in
     let p = simp to_z-of_z at c.product.ensures in
-    rw p (simp to_z-of_z (most_high _ _ c.requires.factor s.given))
+    rw p (simp to_z-of_z (product_high _ _ c.requires.factor s.given))
 
 pub bound-requires-clause-few : goal.bound-requires-clause-few
 bound-requires-clause-few c =

@@ -1,7 +1,8 @@
 use Rattle.std.proofs.Common.{◌*ℤ◌, set, pos, length, rules, FitsSigned}
 use Rattle.std.proofs.lemmas.Int.{to_z-of_z}
 use mir.Syntax.{w128}
-use Rattle.sfm_matroid.proofs.Fits.{given_fits, given_more, product_fits, product_low, product_high, within_amounts}
+use Rattle.sfm_law.proofs.Fits.{given_fits, given_more, product_fits, product_low, product_high}
+use Rattle.sfm_matroid.proofs.Fits.{within_amounts}
 use Rattle.sfm_matroid.proofs.GraphicBases.{base_within_cap, kept_below}
 use Rattle.sfm_matroid.proofs.GraphicRooms.{others_met, room_capacity, others_kept, least_kept}
 use Rattle.sfm_matroid.proofs.graphic.Graphic.capacity.Goals as goal

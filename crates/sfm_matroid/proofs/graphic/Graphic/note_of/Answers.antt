@@ -1,13 +1,14 @@
 use Rattle.std.proofs.Common.{◌*ℤ◌, length, FitsSigned}
 use Rattle.std.proofs.lemmas.Int.{to_z-of_z}
 use mir.Syntax.{w128}
-use Rattle.sfm_matroid.proofs.Fits.{given_fits, given_more, product_fits, product_low, product_high, within_amounts}
+use Rattle.sfm_law.proofs.Fits.{given_fits, given_more, product_fits, product_low, product_high}
+use Rattle.sfm_matroid.proofs.Fits.{within_amounts}
 use Rattle.sfm_matroid.proofs.GraphicBases.{kept_below, base_within_cap}
 use Rattle.sfm_matroid.proofs.GraphicRooms.{base_split, others_kept, splits_kept}
 use Rattle.sfm_matroid.proofs.graphic.Graphic.note_of.Goals as goal
 
-pub end_splits-requires-clause-amounts : goal.end_splits-requires-clause-amounts
-end_splits-requires-clause-amounts c =
+pub tail_splits-requires-clause-amounts : goal.tail_splits-requires-clause-amounts
+tail_splits-requires-clause-amounts c =
     let r = c.requires in
     let s = c.args.self.now in
     let q = c.args.q in
@@ -19,8 +20,8 @@ end_splits-requires-clause-amounts c =
     let low = product_low q s.w r.factor s.low in
     within_amounts x (q *ℤ s.w) (product_high q s.w r.factor s.given) (base_within_cap (length s.places) q s.w s.ends s.same_count low x r.entries r.base)
 
-pub end_splits-requires-clause-low : goal.end_splits-requires-clause-low
-end_splits-requires-clause-low c =
+pub tail_splits-requires-clause-low : goal.tail_splits-requires-clause-low
+tail_splits-requires-clause-low c =
     let r = c.requires in
     let s = c.args.self.now in
     let q = c.args.q in
@@ -32,8 +33,8 @@ end_splits-requires-clause-low c =
     let low = product_low q s.w r.factor s.low in
     rw p (simp to_z-of_z low)
 
-pub end_splits-requires-clause-high : goal.end_splits-requires-clause-high
-end_splits-requires-clause-high c =
+pub tail_splits-requires-clause-high : goal.tail_splits-requires-clause-high
+tail_splits-requires-clause-high c =
     let r = c.requires in
     let s = c.args.self.now in
     let q = c.args.q in
@@ -45,11 +46,11 @@ end_splits-requires-clause-high c =
     let low = product_low q s.w r.factor s.low in
     rw p (simp to_z-of_z (product_high q s.w r.factor s.given))
 
-pub end_splits-requires-clause-below : goal.end_splits-requires-clause-below
-end_splits-requires-clause-below c = let s = c.args.self.now in kept_below s.ends s.numbers.items s.of_ends c.deref.result.now c.deref.ensures.value
+pub tail_splits-requires-clause-below : goal.tail_splits-requires-clause-below
+tail_splits-requires-clause-below c = let s = c.args.self.now in kept_below s.ends s.numbers.items s.of_ends c.deref.result.now c.deref.ensures.value
 
-pub end_splits-requires-clause-met : goal.end_splits-requires-clause-met
-end_splits-requires-clause-met c =
+pub tail_splits-requires-clause-met : goal.tail_splits-requires-clause-met
+tail_splits-requires-clause-met c =
     let r = c.requires in
     let s = c.args.self.now in
     let q = c.args.q in

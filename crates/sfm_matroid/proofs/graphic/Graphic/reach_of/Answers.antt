@@ -2,7 +2,7 @@ use Rattle.std.proofs.Common.{ℕ, ◌*◌, ◌<◌, ◌*ℤ◌, ◌∙◌, leng
 use Rattle.std.proofs.lemmas.Int.{to_z-of_z}
 use Rattle.std.proofs.lemmas.List.{get_or_read}
 use mir.Syntax.{w128}
-use Rattle.sfm_matroid.proofs.Fits.{given_fits, given_more, product_fits, product_low}
+use Rattle.sfm_law.proofs.Fits.{given_fits, given_more, product_fits, product_low}
 use Rattle.sfm_matroid.proofs.Keeping.{givers_have}
 use Rattle.sfm_matroid.proofs.Noted.{lend_split, others_splits}
 use Rattle.sfm_matroid.proofs.GraphicBases.{as_many}

@@ -5,8 +5,9 @@ use mir.Syntax.{w128}
 use Rattle.sfm_spec.specs.Terms.{exchanged}
 use Rattle.sfm_spec.proofs.Sums.{length-exchanged}
 use Rattle.sfm_law.proofs.Rooms.{base_within_room}
+use Rattle.sfm_law.proofs.Fits.{product_low, product_high}
 use Rattle.sfm_matroid.specs.Numbered.{numbered}
-use Rattle.sfm_matroid.proofs.Fits.{product_low, product_high, within_amounts}
+use Rattle.sfm_matroid.proofs.Fits.{within_amounts}
 use Rattle.sfm_matroid.proofs.GraphicBases.{base_within_cap}
 use Rattle.sfm_matroid.proofs.GraphicRooms.{base_split}
 use Rattle.sfm_matroid.proofs.Noted.{splits_movable, splits_moved}

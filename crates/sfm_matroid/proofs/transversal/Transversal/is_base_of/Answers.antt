@@ -2,7 +2,8 @@ use Rattle.std.proofs.Common.{◌*ℤ◌, ◌∙◌, ap, sym, length, FitsSigned
 use Rattle.std.proofs.lemmas.Bool.{both_ways, false≢true}
 use Rattle.std.proofs.lemmas.Int.{to_z-of_z}
 use mir.Syntax.{w128}
-use Rattle.sfm_matroid.proofs.Fits.{given_fits, given_more, rank_fits, product_fits, product_low, product_high, within_amounts}
+use Rattle.sfm_law.proofs.Fits.{given_fits, given_more, rank_fits, product_fits, product_low, product_high}
+use Rattle.sfm_matroid.proofs.Fits.{within_amounts}
 use Rattle.sfm_matroid.proofs.TransversalBases.{base_within_cap, base_sum, base_held, held_base}
 use Rattle.sfm_matroid.proofs.transversal.Transversal.is_base_of.Goals as goal
 

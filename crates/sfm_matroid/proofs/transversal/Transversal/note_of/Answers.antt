@@ -1,7 +1,8 @@
 use Rattle.std.proofs.Common.{◌*ℤ◌, length, FitsSigned}
 use Rattle.std.proofs.lemmas.Int.{to_z-of_z}
 use mir.Syntax.{w128}
-use Rattle.sfm_matroid.proofs.Fits.{given_fits, given_more, product_fits, product_low, product_high, within_amounts}
+use Rattle.sfm_law.proofs.Fits.{given_fits, given_more, product_fits, product_low, product_high}
+use Rattle.sfm_matroid.proofs.Fits.{within_amounts}
 use Rattle.sfm_matroid.proofs.TransversalBases.{base_within_cap, base_split}
 use Rattle.sfm_matroid.proofs.transversal.Transversal.note_of.Goals as goal
 

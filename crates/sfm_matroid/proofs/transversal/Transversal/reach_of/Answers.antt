@@ -1,7 +1,7 @@
 use Rattle.std.proofs.Common.{◌*ℤ◌, ◌∙◌, ap, length, FitsSigned}
 use Rattle.std.proofs.lemmas.Int.{to_z-of_z}
 use mir.Syntax.{w128}
-use Rattle.sfm_matroid.proofs.Fits.{given_fits, given_more, product_fits, product_low}
+use Rattle.sfm_law.proofs.Fits.{given_fits, given_more, product_fits, product_low}
 use Rattle.sfm_matroid.proofs.Keeping.{givers_have}
 use Rattle.sfm_matroid.proofs.Noted.{slot_known}
 use Rattle.sfm_matroid.proofs.TransversalBases.{reach_slots}

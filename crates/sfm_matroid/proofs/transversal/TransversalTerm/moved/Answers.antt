@@ -4,7 +4,8 @@ use mir.Syntax.{w128}
 use Rattle.sfm_spec.specs.Terms.{exchanged}
 use Rattle.sfm_spec.proofs.Sums.{length-exchanged}
 use Rattle.sfm_law.proofs.Rooms.{base_within_room}
-use Rattle.sfm_matroid.proofs.Fits.{product_low, product_high, within_amounts}
+use Rattle.sfm_law.proofs.Fits.{product_low, product_high}
+use Rattle.sfm_matroid.proofs.Fits.{within_amounts}
 use Rattle.sfm_matroid.proofs.TransversalBases.{base_within_cap, base_split}
 use Rattle.sfm_matroid.proofs.Noted.{slots_movable, slots_moved, slot_known}
 use Rattle.sfm_matroid.proofs.transversal.TransversalTerm.moved.Goals as goal

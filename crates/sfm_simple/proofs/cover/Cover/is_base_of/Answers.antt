@@ -4,8 +4,8 @@ use Rattle.std.proofs.lemmas.Int.{to_z-of_z}
 use Rattle.std.proofs.lemmas.List.Elements.{All-get_or}
 use Rattle.std.proofs.lemmas.List.{get_or_default}
 use mir.Syntax.{w128}
-use Rattle.sfm_simple.proofs.Fits.{given_fits, product_fits}
-use Rattle.sfm_simple.proofs.Totals.{total_of-whole}
+use Rattle.sfm_law.proofs.Fits.{given_fits, given_more, product_fits}
+use Rattle.sfm_law.proofs.Totals.{total_of-whole}
 use Rattle.sfm_simple.specs.CoverLaws.{cover_base, cover_base_back}
 use Rattle.sfm_simple.proofs.cover.Cover.is_base_of.Goals as goal
 
@@ -17,7 +17,7 @@ returns-then-are_counts c =
     let some : 0 < length x = omega (arith, r.entries, s.elements.some) in
     let fq : FitsSigned w128 c.args.q = c.ranges.q in
     let fw : FitsSigned w128 s.w = given_fits _ s.given in
-    let fp : FitsSigned w128 (c.args.q *ℤ s.w) = product_fits _ _ r.factor s.given in
+    let fp : FitsSigned w128 (c.args.q *ℤ s.w) = product_fits _ _ r.factor (given_more _ s.given) in
     let counts = c.if-are_counts.ensures.0 refl in
     let p = simp to_z-of_z at c.product.ensures in
     let i = simp to_z-of_z at (rw p at c.has_sum.ensures) in (

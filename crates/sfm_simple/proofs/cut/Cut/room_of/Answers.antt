@@ -4,7 +4,7 @@ use Rattle.std.proofs.lemmas.List.Elements.{All-get_or}
 use mir.Syntax.{w128}
 use Rattle.sfm_spec.specs.Bounds.{IsEntry}
 use Rattle.sfm_law.proofs.Writes.{entry_fits}
-use Rattle.sfm_simple.proofs.Fits.{given_fits, product_fits}
+use Rattle.sfm_law.proofs.Fits.{given_fits, given_more, product_fits}
 use Rattle.sfm_simple.specs.CutLaws.{cut_base_back}
 use Rattle.sfm_simple.proofs.CutRooms.{cut-capacity_up, cut-capacity_down}
 use Rattle.sfm_simple.proofs.cut.Cut.room_of.Goals as goal
@@ -20,7 +20,7 @@ returns-then-u-eq0 c =
     let fq : FitsSigned w128 c.args.q = c.ranges.q in
     let fc : FitsSigned w128 s.c = given_fits _ s.given in
     let f0 : FitsSigned w128 (get_or x 0 (pos 0)) = entry_fits _ (All-get_or IsEntry x 0 (pos 0) (omega (arith, two)) r.small) in
-    let fm : FitsSigned w128 (c.args.q *ℤ s.c) = product_fits _ _ r.factor s.given in
+    let fm : FitsSigned w128 (c.args.q *ℤ s.c) = product_fits _ _ r.factor (given_more _ s.given) in
     let h = cut_base_back c.args.q s.c x two r.base in
     let fd : FitsSigned w128 ((c.args.q *ℤ s.c) -ℤ get_or x 0 (pos 0)) = omega (arith, ints, h.low, h.high, fm) in
     let p = simp to_z-of_z at c.product.ensures in

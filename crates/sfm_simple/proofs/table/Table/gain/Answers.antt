@@ -5,7 +5,8 @@ use Rattle.std.proofs.lemmas.Nat.{pow_pos}
 use mir.Syntax.{w128}
 use Rattle.sfm_spec.proofs.Scaled.{times-sub}
 use Rattle.sfm_simple.specs.TableLaws.{gain_of}
-use Rattle.sfm_simple.proofs.Fits.{given_fits, product_fits, product_small, difference_fits, at_most_more}
+use Rattle.sfm_law.proofs.Fits.{given_fits, given_more, product_fits}
+use Rattle.sfm_simple.proofs.Fits.{product_small, difference_fits, at_most_more}
 use Rattle.sfm_simple.proofs.table.Table.gain.Goals as goal
 
 pub listed-after-requires : goal.listed-after-requires
@@ -28,8 +29,8 @@ overflow_sub-result c =
     let fb : FitsSigned w128 c.listed-before.result = given_fits _ before in
     let pa = simp to_z-of_z at c.product.ensures in
     let pb = simp to_z-of_z at c.product-2.ensures in
-    let ga : FitsSigned w128 (c.args.q *ℤ c.listed-after.result) = product_fits _ _ f after in
-    let gb : FitsSigned w128 (c.args.q *ℤ c.listed-before.result) = product_fits _ _ f before in
+    let ga : FitsSigned w128 (c.args.q *ℤ c.listed-after.result) = product_fits _ _ f (given_more _ after) in
+    let gb : FitsSigned w128 (c.args.q *ℤ c.listed-before.result) = product_fits _ _ f (given_more _ before) in
     rw (pa, pb) (simp to_z-of_z (difference_fits _ _ (product_small _ _ f after) (at_most_more _ (product_small _ _ f before))))
 
 pub returns : goal.returns
@@ -44,8 +45,8 @@ returns c =
     let fb : FitsSigned w128 c.listed-before.result = given_fits _ before in
     let pa = simp to_z-of_z at c.product.ensures in
     let pb = simp to_z-of_z at c.product-2.ensures in
-    let ga : FitsSigned w128 (q *ℤ c.listed-after.result) = product_fits _ _ f after in
-    let gb : FitsSigned w128 (q *ℤ c.listed-before.result) = product_fits _ _ f before in
+    let ga : FitsSigned w128 (q *ℤ c.listed-after.result) = product_fits _ _ f (given_more _ after) in
+    let gb : FitsSigned w128 (q *ℤ c.listed-before.result) = product_fits _ _ f (given_more _ before) in
     let gd : FitsSigned w128 ((q *ℤ c.listed-after.result) -ℤ (q *ℤ c.listed-before.result)) = difference_fits _ _ (product_small _ _ f after) (at_most_more _ (product_small _ _ f before)) in
     let one : c.listed-after.result ≡ get_or values (2 ^ (c.args.j + 1) - 1) (pos 0) = c.listed-after.ensures.value ∙ ap (λ n. get_or values (n - 1) (pos 0)) c.unit.ensures in
     let two : c.listed-before.result ≡ get_or values (2 ^ c.args.j - 1) (pos 0) = c.listed-before.ensures.value ∙ ap (λ n. get_or values (n - 1) (pos 0)) c.unit-2.ensures in

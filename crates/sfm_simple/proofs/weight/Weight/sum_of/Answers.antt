@@ -4,7 +4,7 @@ use Rattle.std.proofs.lemmas.List.Elements.{All-get_or}
 use mir.Syntax.{w128}
 use Rattle.sfm_spec.proofs.Sums.{sum_over-drop}
 use Rattle.sfm_spec.specs.Bounds.{IsGiven}
-use Rattle.sfm_simple.proofs.Fits.{given_fits}
+use Rattle.sfm_law.proofs.Fits.{given_fits}
 use Rattle.sfm_simple.proofs.weight.Weight.sum_of.Goals as goal
 
 pub loop-j-preserved : goal.loop-j-preserved

@@ -1,0 +1,50 @@
+// Products and sums of the numbers that a term and its bases are made of.
+ghost use Rattle.std.specs.Prelude.{◌≡◌, ◌↔◌, ◌≤◌, ◌^◌, IsTrue, length, nat_abs, ℤ, ◌*ℤ◌, ◌≤ℤ◌, pos};
+ghost use Rattle.std.specs.List.{All};
+ghost use Rattle.sfm_spec.specs.Bounds.{IsAtMost, IsEntry, IsFactor, IsGiven, total_of};
+
+/// The magnitude of a number.
+pub fn magnitude(w: i128) -> i128
+    requires { IsGiven w }
+    ensures { result ≡ pos (nat_abs w) }
+{
+    if w < 0 { -w } else { w }
+}
+
+/// A factor times a number.
+pub fn product(q: i128, w: i128) -> i128
+    requires factor { IsFactor q }
+    requires given { IsAtMost (10 ^ 21) w }
+    ensures { result ≡ q *ℤ w }
+{
+    q * w
+}
+
+/// The sum of the entries.
+pub fn sum_of(x: &[i128]) -> i128
+    requires few { length x.now ≤ 256 }
+    requires small { All IsEntry x.now }
+    ensures { result ≡ total_of x.now }
+{
+    let mut sum = 0;
+    for a in x {
+        sum += *a;
+    }
+    sum
+}
+
+/// Whether the entries add to a number.
+pub fn has_sum(x: &[i128], sum: i128) -> bool
+    requires few { length x.now ≤ 256 }
+    requires small { All IsEntry x.now }
+    ensures { IsTrue result ↔ (total_of x.now ≡ sum) }
+{
+    sum_of(x) == sum
+}
+
+/// Whether each entry is from 0 to a number.
+pub fn are_within(x: &[i128], most: i128) -> bool
+    ensures { IsTrue result ↔ All (λ a. (pos 0 ≤ℤ a) × (a ≤ℤ most)) x.now }
+{
+    x.iter().all(|a| 0 <= *a && *a <= most)
+}
