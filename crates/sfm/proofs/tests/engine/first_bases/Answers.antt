@@ -4,7 +4,7 @@ use Rattle.std.proofs.lemmas.List.{length-replicate, length-map, get_or-map}
 use Rattle.std.proofs.lemmas.List.Elements.{All-map}
 use Rattle.sfm_spec.specs.Sets.{empty_set}
 use Rattle.sfm_kind.specs.Kinds.{kind_places, kind_size, kind-bounded, kind-submodular}
-use Rattle.sfm_walk.proofs.Lists.{below-total}
+use Rattle.sfm_law.proofs.Lists.{below-total}
 use Rattle.sfm.proofs.tests.engine.first_bases.Goals as goal
 
 pub start_rows-requires-clause-bounded : goal.start_rows-requires-clause-bounded
