@@ -8,6 +8,7 @@ use Rattle.sfm_spec.specs.Families.{Meaning, AreTerms, AreBases, Prove, rest_at}
 use Rattle.sfm_spec.specs.Walks.{Step, Joins, last_of}
 use Rattle.sfm_spec.specs.Laws.{BaseLaws}
 use Rattle.sfm_spec.specs.Reach.{IsReached, IsReachedSet, IsUnder}
+use Rattle.sfm_spec.proofs.Lattice.{minimisers_lattice}
 use Rattle.sfm_spec.proofs.Reach.{reached_set}
 use Rattle.sfm_spec.proofs.Walks.{has_below, walk_inside, tight_closed_set, closed_tight_set, first_below}
 use Rattle.sfm_spec.proofs.Duality.{minimisers_are, proved_by, reached_back}
@@ -70,4 +71,6 @@ module _ (terms : List Meaning) (rows : List (List ℤ)) (n : ℕ) (q : ℤ) (sh
   base_laws = record {
     exact = (no_join, prove_if_none);
     minimisers = minimisers_are terms rows n q shift fit bases;
+    unions = λ prove s t hs ht. (minimisers_lattice terms n q shift low fit s t hs ht).0;
+    intersections = λ prove s t hs ht. (minimisers_lattice terms n q shift low fit s t hs ht).1;
   }

@@ -1,16 +1,19 @@
 -- The facts on sums of submodular functions, as statements over the meanings of terms.
 use Rattle.std.specs.Prelude.{◌≡◌, ◌↔◌, ℕ, ◌<◌, Bool, List, [], ◌∷◌, ◌++◌, length, replicate, slice_index_or, ℤ, pos, ◌+ℤ◌, ◌≤ℤ◌}
-use Rattle.sfm_spec.specs.Sets.{whole_set, size, IsWithin}
+use Rattle.sfm_spec.specs.Sets.{whole_set, size, union, intersection, IsWithin}
 use Rattle.sfm_spec.specs.Slopes.{IsLowest, IsLowerSlope}
 use Rattle.sfm_spec.specs.Families.{Meaning, IsMinimiser, IsLeast, IsGreatest, IsBreakpoint, Prove, IsSigned, AreTight, AreBases, rest_at, deficit, sized_shift}
 use Rattle.sfm_spec.specs.Walks.{Step, Joins, IsWalkMove, CanMove, last_of}
 
 -- minimisers from bases: the bases prove exactly where no walk joins; where they prove, the minimisers are the sets
--- that have all places with z < 0 and none with z > 0, with a tight part in each term
+-- that have all places with z < 0 and none with z > 0, with a tight part in each term, and the union and the intersection
+-- of two of them are minimisers
 pub record BaseLaws (terms : List Meaning) (n : ℕ) (q : ℤ) (shift : List ℤ) (rows : List (List ℤ)) : Type 0 where
   pub exact : Prove terms n q shift rows ↔ ((first : ℕ) (steps : List Step) → Joins terms q shift rows first steps → ⊥)
   pub minimisers : Prove terms n q shift rows → (s : List Bool) → length s ≡ n
       → IsMinimiser terms n q shift s ↔ (IsSigned n (rest_at terms rows shift) s × AreTight q terms rows s)
+  pub unions : Prove terms n q shift rows → (s t : List Bool) → IsMinimiser terms n q shift s → IsMinimiser terms n q shift t → IsMinimiser terms n q shift (union s t)
+  pub intersections : Prove terms n q shift rows → (s t : List Bool) → IsMinimiser terms n q shift s → IsMinimiser terms n q shift t → IsMinimiser terms n q shift (intersection s t)
 
 -- order of exchanges: along a joining shortest walk, from its last step to its first, each step can still move a after
 -- the steps behind it have moved; the rows afterwards are bases, and the deficit rises by exactly a
