@@ -11,7 +11,7 @@ use Rattle.sfm_spec.specs.Slopes.{IsLowest}
 use Rattle.sfm_spec.specs.Families.{AreTerms, IsAllowed, meanings, sum_at}
 use Rattle.sfm_spec.specs.Laws.{AreBreakpoints, Mark, no_mark, ones}
 use Rattle.sfm_spec.specs.Search.{AreLowest, mark_at}
-use Rattle.sfm_spec.proofs.Breakpoints.{breakpoint_bounds, breakpoints_exist, breakpoints_unique}
+use Rattle.sfm_spec.proofs.Breakpoints.{breakpoint_den, breakpoint_num, breakpoints_exist, breakpoints_unique}
 use Rattle.sfm_spec.proofs.Duality.{meanings-terms}
 use Rattle.sfm_spec.proofs.Ones.{ones-places, ones-sizes, total-ones}
 use Rattle.sfm_law.proofs.Lists.{placed-meanings}
@@ -83,13 +83,14 @@ module _ (n : ℕ) (ts : List Kind) (bounded : AreInBounds n ts) where
         let m = mark_at marks i in
         let b = are.sound i l in
         let low = are.lowest i l in
-        let small = breakpoint_bounds (meanings kind_places kind_value ts) n (ones n) fit (ones-places n) (ones-sizes n) (10 ^ 18) sum_within m.num m.den m.members low b in
+        let small = breakpoint_num (meanings kind_places kind_value ts) n (ones n) fit (ones-places n) (ones-sizes n) (10 ^ 18) sum_within m.num m.den m.members low b in
+        let short = breakpoint_den (meanings kind_places kind_value ts) n (ones n) fit (ones-places n) (ones-sizes n) m.num m.den m.members low b in
         let x = abs_is m.num in
         let one = low.positive in
         let t = total-ones n in
         record {
-          num = record { low = omega (arith, ints, small.1, x); high = omega (arith, ints, small.1, x) };
-          den = record { low = omega (arith, ints, one); high = omega (arith, ints, small.0, t, few) };
+          num = record { low = omega (arith, ints, small, x); high = omega (arith, ints, small, x) };
+          den = record { low = omega (arith, ints, one); high = omega (arith, ints, short, t, few) };
           places = b.greatest.minimiser.places ∙ sym ln;
         }
 

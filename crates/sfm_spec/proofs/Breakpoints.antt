@@ -60,27 +60,41 @@ module _ (terms : List Meaning) (n : ℕ) (sizes : List ℤ) (fit : AreTerms n t
       let all = weight-whole n sizes sized in
       omega (arith, ints, low, high, zero', all)
 
-  -- a breakpoint in lowest terms has at most all sizes together as its denominator, and as its numerator at most twice what
-  -- an allowed set is worth
-  pub breakpoint_bounds : (bound : ℕ) → ((s : List Bool) → length s ≡ n → IsAllowed terms s → unsigned_abs (sum_at terms s) ≤ bound)
-      → (p q : ℤ) (s : List Bool) → IsLowest p q → IsBreakpoint terms n sizes p q s → (q ≤ℤ total_of sizes) × (unsigned_abs p ≤ 2 * bound)
-  breakpoint_bounds bound bounded p q s low b = from b.another where
-    m : IsMinimiser terms n q (sized_shift sizes p) s
-    m = b.greatest.minimiser
+  -- at a breakpoint another minimiser lies within the greatest, is smaller, and is worth as much
+  smaller_at : (p q : ℤ) (s : List Bool) → IsBreakpoint terms n sizes p q s
+      → (t : List Bool) × IsMinimiser terms n q (sized_shift sizes p) t × IsWithin t s × (size t < size s) × IsEven terms sizes p q t s
+  smaller_at p q s b =
+      let m = b.greatest.minimiser in
+      let (t, other, ne) = b.another in
+      let inside = b.greatest.within t other in
+      let up' = m.least t other.places other.allowed in
+      let down' = other.least s m.places m.allowed in
+      (t, other, inside, ⊎_elim (λ e. absurd (ne e)) (λ l. l) (size_grows t s (other.places ∙ sym m.places) inside), omega (arith, ints, up', down'))
 
-    from : (t : List Bool) × IsMinimiser terms n q (sized_shift sizes p) t × (t ≢ s) → (q ≤ℤ total_of sizes) × (unsigned_abs p ≤ 2 * bound)
-    from (t, other, ne) =
-        let inside = b.greatest.within t other in
-        let less : size t < size s = ⊎_elim (λ e. absurd (ne e)) (λ l. l) (size_grows t s (other.places ∙ sym m.places) inside) in
-        let up' = m.least t other.places other.allowed in
-        let down' = other.least s m.places m.allowed in
-        let even : IsEven terms sizes p q t s = omega (arith, ints, up', down') in
-        let (den, num) = even_bounds p q t s low even other.places m.places inside less in
-        let w = weight_difference t s other.places m.places in
-        let d = abs_difference (sum_at terms s) (sum_at terms t) in
-        let x = bounded s m.places m.allowed in
-        let y = bounded t other.places other.allowed in
-        (omega (arith, ints, den, w), omega (arith, num, d, x, y))
+  -- a breakpoint in lowest terms has at most all sizes together as its denominator
+  pub breakpoint_den : (p q : ℤ) (s : List Bool) → IsLowest p q → IsBreakpoint terms n sizes p q s → q ≤ℤ total_of sizes
+  breakpoint_den p q s low b =
+      let (t, other, inside, less, even) = smaller_at p q s b in
+      let m = b.greatest.minimiser in
+      let d = (even_bounds p q t s low even other.places m.places inside less).0 in
+      let w = weight_difference t s other.places m.places in
+      omega (arith, ints, d, w)
+
+  -- and as its numerator at most twice what an allowed set is worth
+  pub breakpoint_num : (bound : ℕ) → ((s : List Bool) → length s ≡ n → IsAllowed terms s → unsigned_abs (sum_at terms s) ≤ bound)
+      → (p q : ℤ) (s : List Bool) → IsLowest p q → IsBreakpoint terms n sizes p q s → unsigned_abs p ≤ 2 * bound
+  breakpoint_num bound bounded p q s low b =
+      let (t, other, inside, less, even) = smaller_at p q s b in
+      let m = b.greatest.minimiser in
+      let num = (even_bounds p q t s low even other.places m.places inside less).1 in
+      let d = abs_difference (sum_at terms s) (sum_at terms t) in
+      let x = bounded s m.places m.allowed in
+      let y = bounded t other.places other.allowed in
+      omega (arith, num, d, x, y)
+
+  -- of all breakpoints no denominator exceeds all sizes together
+  pub low_breakpoints : (marks : List Mark) → AreBreakpoints terms n sizes marks → (i : ℕ) → i < length marks → (mark_at marks i).den ≤ℤ total_of sizes
+  low_breakpoints marks b i l = breakpoint_den (mark_at marks i).num (mark_at marks i).den (mark_at marks i).members (b.lowest i l) (b.sound i l)
 
   -- ---- the next mark of a chain
 

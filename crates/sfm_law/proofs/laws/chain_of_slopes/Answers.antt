@@ -1,4 +1,5 @@
 use Rattle.sfm_spec.proofs.Duality.{meanings-terms}
+use Rattle.sfm_spec.proofs.Breakpoints.{low_breakpoints}
 use Rattle.sfm_spec.proofs.Nest.{slopes_nest}
 use Rattle.sfm_spec.proofs.Chain.{chain_exact, few_breakpoints}
 use Rattle.sfm_law.proofs.laws.chain_of_slopes.Goals as goal
@@ -13,4 +14,5 @@ returns g c =
       nested = slopes_nest _ c.args._n c.args._sizes.now fit r.sized r.positive;
       exact = chain_exact _ c.args._n c.args._sizes.now fit r.sized r.positive;
       few = few_breakpoints _ c.args._n c.args._sizes.now fit r.sized r.positive;
+      low = low_breakpoints _ c.args._n c.args._sizes.now fit r.sized r.positive;
     }
