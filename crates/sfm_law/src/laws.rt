@@ -1,6 +1,7 @@
 // Facts that hold of every term, by its meaning alone. The functions do nothing: each states a fact, and callers' proofs cite it.
 ghost use Rattle.std.specs.Prelude.{◌≡◌, List, ℕ, length, pos, neg_ℤ, ◌≤ℤ◌};
 ghost use Rattle.std.specs.List.{All};
+ghost use Rattle.sfm_spec.specs.Blocks.{Block, AreBlocks, Generate};
 ghost use Rattle.sfm_spec.specs.Families.{meanings, AreBases, ArePlaced, rest_at};
 ghost use Rattle.sfm_spec.specs.Chains.{ChainLaws};
 ghost use Rattle.sfm_spec.specs.Laws.{BaseLaws, MoveLaws};
@@ -65,4 +66,14 @@ pub fn chain_of_slopes<T: Term>(_terms: &[T], _n: usize, _sizes: &[i128])
     requires sized { length _sizes.now ≡ _n }
     requires positive { All (λ w. pos 1 ≤ℤ w) _sizes.now }
     ensures { ChainLaws (meanings T.places T.value_of _terms.now) _n _sizes.now }
+{}
+
+/// The blocks of all minimisers generate them: the minimisers are exactly the unions of the least one with the
+/// members of chosen blocks, where each chosen block has all blocks that it needs chosen too (Fujishige, Submodular
+/// Functions and Optimization, section 3).
+pub fn blocks_generate<T: Term>(_terms: &[T], _n: usize, _q: i128, _shift: &[i128])
+    requires factor { pos 0 ≤ℤ _q }
+    requires placed { ArePlaced _n (meanings T.places T.value_of _terms.now) }
+    ensures { (blocks : List Block) → AreBlocks (meanings T.places T.value_of _terms.now) _n _q _shift.now blocks
+        → Generate (meanings T.places T.value_of _terms.now) _n _q _shift.now blocks }
 {}

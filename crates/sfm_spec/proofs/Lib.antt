@@ -27,4 +27,5 @@ pub mod FewWalks
 pub mod Moves
 pub mod Capacity
 pub mod Pulls
+pub mod Generated
 pub mod Ones

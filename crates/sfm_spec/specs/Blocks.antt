@@ -3,7 +3,7 @@
 use Rattle.std.specs.Prelude.{◌≡◌, ◌≢◌, ◌↔◌, ◌⊎◌, ℕ, ◌+◌, ◌-◌, ◌<◌, ◌≤◌, Bool, List, [], length, slice_index_or, ℤ, sum_by, Contains}
 use Rattle.std.specs.List.Sorted.{IsStrictlyIncreasing}
 use Rattle.sfm_spec.specs.Sets.{Has, size}
-use Rattle.sfm_spec.specs.Families.{Meaning, IsMinimiser}
+use Rattle.sfm_spec.specs.Families.{Meaning, IsMinimiser, IsLeast}
 
 -- every minimiser that has e has e' too
 abbrev pub PullsAlong : List Meaning → ℕ → ℤ → List ℤ → ℕ → ℕ → Type 0
@@ -51,3 +51,17 @@ pub record AreBlocks (terms : List Meaning) (n : ℕ) (q : ℤ) (shift : List �
   pub numbered : (i j : ℕ) → i < length blocks → Contains (block_at blocks i).needs j → (1 ≤ j) × (j ≤ length blocks) × (j ≢ i + 1)
   pub ascending : (i : ℕ) → i < length blocks → IsStrictlyIncreasing (block_at blocks i).needs
   pub ordered : (i j : ℕ) → i < j → j < length blocks → ComesBefore blocks i j
+
+-- a choice of blocks, with the number i or without it, that has with each block all that it needs
+pub record IsClosedChoice (blocks : List Block) (chosen : List Bool) : Type 0 where
+  pub blocks_told : length chosen ≡ length blocks
+  pub closed : (i j : ℕ) → Has chosen i → Contains (block_at blocks i).needs (j + 1) → Has chosen j
+
+-- the set s has the places of the least set and those of the members of the chosen blocks, and no others
+abbrev pub IsUnionOf : List Bool → List Block → List Bool → List Bool → Type 0
+IsUnionOf least blocks chosen s = (e : ℕ) → Has s e ↔ (Has least e ⊎ ((i : ℕ) × Has chosen i × Has (block_at blocks i).members e))
+
+-- the minimisers are exactly the unions of the least one with the blocks of a closed choice
+abbrev pub Generate : List Meaning → ℕ → ℤ → List ℤ → List Block → Type 0
+Generate terms n q shift blocks = (least s : List Bool) → IsLeast terms n q shift least → length s ≡ n
+    → IsMinimiser terms n q shift s ↔ ((chosen : List Bool) × IsClosedChoice blocks chosen × IsUnionOf least blocks chosen s)

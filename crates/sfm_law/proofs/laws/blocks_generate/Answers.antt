@@ -1,0 +1,10 @@
+use Rattle.sfm_spec.proofs.Duality.{meanings-terms}
+use Rattle.sfm_spec.proofs.Generated.{blocks_generate}
+use Rattle.sfm_law.proofs.laws.blocks_generate.Goals as goal
+
+pub returns : goal.returns
+returns g c =
+    let t = g.T.Term in
+    let m = g.met.T.Term in
+    let fit = meanings-terms c.args._n t.places t.value_of m.family m.submodular c.args._terms.now c.requires.placed in
+    blocks_generate _ c.args._n c.args._q c.args._shift.now c.requires.factor fit
