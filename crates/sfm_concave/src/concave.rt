@@ -396,6 +396,10 @@ impl Term for Concave {
 
     ghost start_of = { λ s q. concave_start q s.values (length s.places) };
 
+    ghost lean_value = { λ s. Unit {0} };
+
+    ghost lean_calls = { λ s. Unit {0} };
+
     ghost fits = { λ s note q x. Unit {0} };
 
     ghost family = { λ s. concave-family s.values };

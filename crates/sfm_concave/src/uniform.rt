@@ -172,6 +172,10 @@ impl Term for Uniform {
 
     ghost start_of = { λ s q. uniform_start q s.w s.cap (length s.places) };
 
+    ghost lean_value = { λ s. Unit {0} };
+
+    ghost lean_calls = { λ s. Unit {0} };
+
     ghost fits = { λ s note q x. Unit {0} };
 
     ghost family = { λ s. uniform-family s.w s.cap };

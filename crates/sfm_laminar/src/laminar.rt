@@ -349,6 +349,10 @@ impl Term for Laminar {
 
     ghost start_of = { λ s q. laminar_start (length s.places) q s.w s.groups };
 
+    ghost lean_value = { λ s. ⊥ };
+
+    ghost lean_calls = { λ s. Unit {0} };
+
     ghost fits = { λ s note q x. Unit {0} };
 
     ghost family = { λ s. laminar-family (length s.places) s.w s.groups };

@@ -1,6 +1,6 @@
 // What a term of a sum is: a submodular function of a few places, with a test of bases, exchange capacities,
 // and a first base. Everything above speaks of terms by this trait alone.
-ghost use Rattle.std.specs.Prelude.{◌≡◌, ◌≢◌, ◌↔◌, ℕ, ◌<◌, ◌^◌, Bool, List, length, ℤ, pos, neg_ℤ, ◌*ℤ◌, ◌≤ℤ◌, IfOk, OnOk, IsTrue, Some};
+ghost use Rattle.std.specs.Prelude.{◌≡◌, ◌≢◌, ◌↔◌, ℕ, ◌<◌, ◌^◌, Bool, List, length, ℤ, pos, neg_ℤ, ◌*ℤ◌, ◌≤ℤ◌, IfOk, IsOk, OnOk, IsTrue, Some};
 ghost use Rattle.std.specs.List.{All};
 ghost use Rattle.sfm_spec.specs.Bounds.{IsEntry, IsFactor};
 ghost use Rattle.sfm_spec.specs.Terms.{SetFunction, times, IsBase, IsFamily, IsSubmodular, exchanged};
@@ -30,6 +30,12 @@ pub trait Term {
     /// The base that `start` gives at a factor.
     ghost start_of: { Self → ℤ → List ℤ };
 
+    /// Where it holds, `value` takes no memory and answers Ok.
+    ghost lean_value: { Self → Type 0 };
+
+    /// Where it holds, `start`, `is_base`, `room` and `reach` take no memory and answer Ok.
+    ghost lean_calls: { Self → Type 0 };
+
     /// What a note keeps is true of a base at a factor.
     ghost fits: { Self → Self.Note → ℤ → List ℤ → Type 0 };
 
@@ -44,14 +50,16 @@ pub trait Term {
     /// The value of a part, or None exactly where the part is not allowed.
     fn value(&self, alloc: Global, s: &Set) -> Result<Option<i128>, Memory>
         requires { length s.now ≡ length (places self.now) }
-        ensures { IfOk result (λ r. r ≡ value_of self.now s.now) };
+        ensures value { IfOk result (λ r. r ≡ value_of self.now s.now) }
+        ensures sure { lean_value self.now → IsOk result };
 
     /// Writes a first base of q times the term.
     fn start(&self, alloc: Global, q: i128, x: &mut [i128]) -> Result<(), Memory>
         requires factor { IsFactor q }
         requires entries { length x.old ≡ length (places self.now) }
         requires bounded { size_of self.now ≤ℤ pos (10 ^ 18) }
-        ensures { OnOk result (x.new ≡ start_of self.now q) };
+        ensures start { OnOk result (x.new ≡ start_of self.now q) }
+        ensures sure { lean_calls self.now → IsOk result };
 
     /// Whether x is a base of q times the term.
     fn is_base(&self, alloc: Global, q: i128, x: &[i128]) -> Result<bool, Memory>
@@ -59,7 +67,8 @@ pub trait Term {
         requires entries { length x.now ≡ length (places self.now) }
         requires bounded { size_of self.now ≤ℤ pos (10 ^ 18) }
         requires small { All IsEntry x.now }
-        ensures { IfOk result (λ r. IsTrue r ↔ IsBase (times q (value_of self.now)) x.now) };
+        ensures told { IfOk result (λ r. IsTrue r ↔ IsBase (times q (value_of self.now)) x.now) }
+        ensures sure { lean_calls self.now → IsOk result };
 
     /// The room of (u, v) at a base.
     fn room(&self, alloc: Global, q: i128, x: &[i128], u: usize, v: usize) -> Result<Room, Memory>
@@ -71,7 +80,8 @@ pub trait Term {
         requires apart { u ≢ v }
         requires from { u < length x.now }
         requires onto { v < length x.now }
-        ensures { IfOk result (IsRoom (times q (value_of self.now)) x.now u v) };
+        ensures room { IfOk result (IsRoom (times q (value_of self.now)) x.now u v) }
+        ensures sure { lean_calls self.now → IsOk result };
 
     /// Writes the places other than u to which u has room at a base.
     fn reach(
@@ -90,7 +100,8 @@ pub trait Term {
         requires from { u < length x.now }
         requires room_for_answer { length to.old ≡ length x.now }
         ensures places { length to.new ≡ length to.old }
-        ensures reached { OnOk result (IsReach (times q (value_of self.now)) x.now u to.new) };
+        ensures reached { OnOk result (IsReach (times q (value_of self.now)) x.now u to.new) }
+        ensures sure { lean_calls self.now → IsOk result };
 
     /// A note that fits a base.
     fn note(&self, alloc: Global, q: i128, x: &[i128]) -> Result<Self::Note, Memory>

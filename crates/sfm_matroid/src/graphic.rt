@@ -311,6 +311,11 @@ impl Term for Graphic {
 
     ghost start_of = { λ s q. graphic_start q s.w s.ends };
 
+    // Nothing is said: the calls take memory.
+    ghost lean_value = { λ s. ⊥ };
+
+    ghost lean_calls = { λ s. ⊥ };
+
     ghost fits = { λ s note q x. graphic_fits s.w s.ends note.kept.items q x };
 
     ghost family = { λ s. graphic-family (length s.places) s.w s.ends s.same_count };

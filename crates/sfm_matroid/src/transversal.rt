@@ -288,6 +288,11 @@ impl Term for Transversal {
 
     ghost start_of = { λ s q. transversal_start q s.w s.entries };
 
+    // Nothing is said: the calls take memory.
+    ghost lean_value = { λ s. ⊥ };
+
+    ghost lean_calls = { λ s. ⊥ };
+
     ghost fits = { λ s note q x. transversal_fits s.w s.entries note.kept q x };
 
     ghost family = { λ s. transversal-family (length s.places) s.w s.entries s.same_count };

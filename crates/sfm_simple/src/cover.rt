@@ -127,6 +127,10 @@ impl Term for Cover {
 
     ghost start_of = { λ s q. cover_start q s.w (length s.places) };
 
+    ghost lean_value = { λ s. Unit {0} };
+
+    ghost lean_calls = { λ s. Unit {0} };
+
     ghost fits = { λ s note q x. Unit {0} };
 
     ghost family = { λ s. cover-family s.w };

@@ -130,6 +130,10 @@ impl Term for Cut {
 
     ghost start_of = { λ s q. cut_start q s.c };
 
+    ghost lean_value = { λ s. Unit {0} };
+
+    ghost lean_calls = { λ s. Unit {0} };
+
     ghost fits = { λ s note q x. Unit {0} };
 
     ghost family = { λ s. cut-family s.c };

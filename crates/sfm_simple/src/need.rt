@@ -123,6 +123,10 @@ impl Term for Need {
 
     ghost start_of = { λ s q. pos 0 ∷ pos 0 ∷ [] };
 
+    ghost lean_value = { λ s. Unit {0} };
+
+    ghost lean_calls = { λ s. Unit {0} };
+
     ghost fits = { λ s note q x. Unit {0} };
 
     ghost family = { λ s. need-family _ s.two };

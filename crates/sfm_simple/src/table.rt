@@ -305,6 +305,10 @@ impl Term for Table {
 
     ghost start_of = { λ s q. table_start q s.values (length s.places) };
 
+    ghost lean_value = { λ s. Unit {0} };
+
+    ghost lean_calls = { λ s. Unit {0} };
+
     ghost fits = { λ s note q x. Unit {0} };
 
     ghost family = { λ s. table-family s.values };

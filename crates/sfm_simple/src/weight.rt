@@ -173,6 +173,10 @@ impl Term for Weight {
 
     ghost start_of = { λ s q. scaled q s.weights };
 
+    ghost lean_value = { λ s. Unit {0} };
+
+    ghost lean_calls = { λ s. Unit {0} };
+
     ghost fits = { λ s note q x. Unit {0} };
 
     ghost family = { λ s. weight-family s.weights };
