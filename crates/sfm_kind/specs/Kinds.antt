@@ -72,6 +72,32 @@ kind_start (Laminar term) q = laminar_start (length term.places) q term.w term.g
 kind_start (Graphic term) q = graphic_start q term.w term.ends
 kind_start (Transversal term) q = transversal_start q term.w term.entries
 
+-- where the value of a part takes no memory and is always told: the kinds whose values come by counting alone
+abbrev pub kind_lean_value : Kind → Type 0
+kind_lean_value (Weight term) = Unit {0}
+kind_lean_value (Cut term) = Unit {0}
+kind_lean_value (Cover term) = Unit {0}
+kind_lean_value (Need term) = Unit {0}
+kind_lean_value (Table term) = Unit {0}
+kind_lean_value (Concave term) = Unit {0}
+kind_lean_value (Uniform term) = Unit {0}
+kind_lean_value (Laminar term) = ⊥
+kind_lean_value (Graphic term) = ⊥
+kind_lean_value (Transversal term) = ⊥
+
+-- where first bases, tests of bases, rooms and reach take no memory and are always told
+abbrev pub kind_lean_calls : Kind → Type 0
+kind_lean_calls (Weight term) = Unit {0}
+kind_lean_calls (Cut term) = Unit {0}
+kind_lean_calls (Cover term) = Unit {0}
+kind_lean_calls (Need term) = Unit {0}
+kind_lean_calls (Table term) = Unit {0}
+kind_lean_calls (Concave term) = Unit {0}
+kind_lean_calls (Uniform term) = Unit {0}
+kind_lean_calls (Laminar term) = Unit {0}
+kind_lean_calls (Graphic term) = ⊥
+kind_lean_calls (Transversal term) = ⊥
+
 -- what a note keeps is true of a base: the plain kinds keep nothing
 abbrev pub kind_fits : Kind → KindNote → ℤ → List ℤ → Type 0
 kind_fits (Weight term) note q x = Unit {0}

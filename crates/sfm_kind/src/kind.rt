@@ -5,7 +5,7 @@ ghost use Rattle.std.specs.List.{All};
 ghost use Rattle.sfm_spec.specs.Bounds.{IsEntry, IsFactor};
 ghost use Rattle.sfm_spec.specs.Terms.{SetFunction, times, IsBase, IsFamily, IsSubmodular, exchanged};
 ghost use Rattle.sfm_law.specs.Room.{IsRoom, IsReach, IsWithinRoom};
-ghost use Rattle.sfm_kind.specs.Kinds.{kind_places, kind_value, kind_size, kind_start, kind_fits, kind-family, kind-submodular, kind-bounded, kind-starts, kind-starts_small};
+ghost use Rattle.sfm_kind.specs.Kinds.{kind_places, kind_value, kind_size, kind_start, kind_lean_value, kind_lean_calls, kind_fits, kind-family, kind-submodular, kind-bounded, kind-starts, kind-starts_small};
 
 use sfm_base::{Memory, Set};
 use sfm_concave::{Concave, Uniform};
@@ -61,6 +61,10 @@ impl Term for Kind {
     ghost size_of = { kind_size };
 
     ghost start_of = { kind_start };
+
+    ghost lean_value = { kind_lean_value };
+
+    ghost lean_calls = { kind_lean_calls };
 
     ghost fits = { kind_fits };
 

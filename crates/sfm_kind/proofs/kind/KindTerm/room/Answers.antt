@@ -4,22 +4,22 @@ use Rattle.std.specs.Int.{w128}
 use Rattle.std.proofs.lemmas.Int.{ints}
 use Rattle.sfm_kind.proofs.kind.KindTerm.room.Goals as goal
 
-pub returns-in-Concave : goal.returns-in-Concave
-returns-in-Concave c =
+pub returns-in-Concave-clause-room : goal.returns-in-Concave-clause-room
+returns-in-Concave-clause-room c =
     let kept : to_z w128 (of_z w128 c.args.q) ≡ c.args.q = omega (arith, ints, c.requires.factor.low, c.requires.factor.high) in
-    rw c.in-Concave.is (rw kept at c.room-in-Concave.ensures)
+    rw c.in-Concave.is (rw kept at c.room-in-Concave.ensures.room)
 
-pub returns-in-Uniform : goal.returns-in-Uniform
-returns-in-Uniform c =
+pub returns-in-Uniform-clause-room : goal.returns-in-Uniform-clause-room
+returns-in-Uniform-clause-room c =
     let kept : to_z w128 (of_z w128 c.args.q) ≡ c.args.q = omega (arith, ints, c.requires.factor.low, c.requires.factor.high) in
-    rw c.in-Uniform.is (rw kept at c.room-in-Uniform.ensures)
+    rw c.in-Uniform.is (rw kept at c.room-in-Uniform.ensures.room)
 
-pub returns-in-Graphic : goal.returns-in-Graphic
-returns-in-Graphic c =
+pub returns-in-Graphic-clause-room : goal.returns-in-Graphic-clause-room
+returns-in-Graphic-clause-room c =
     let kept : to_z w128 (of_z w128 c.args.q) ≡ c.args.q = omega (arith, ints, c.requires.factor.low, c.requires.factor.high) in
-    rw c.in-Graphic.is (rw kept at c.room-in-Graphic.ensures)
+    rw c.in-Graphic.is (rw kept at c.room-in-Graphic.ensures.room)
 
-pub returns-in-Transversal : goal.returns-in-Transversal
-returns-in-Transversal c =
+pub returns-in-Transversal-clause-room : goal.returns-in-Transversal-clause-room
+returns-in-Transversal-clause-room c =
     let kept : to_z w128 (of_z w128 c.args.q) ≡ c.args.q = omega (arith, ints, c.requires.factor.low, c.requires.factor.high) in
-    rw c.in-Transversal.is (rw kept at c.room-in-Transversal.ensures)
+    rw c.in-Transversal.is (rw kept at c.room-in-Transversal.ensures.room)
