@@ -11,7 +11,8 @@ use Rattle.sfm_spec.specs.Laws.{AreBreakpoints, Mark, no_mark, ones}
 use Rattle.sfm_spec.specs.Search.{mark_at}
 use Rattle.sfm_spec.proofs.Sizes.{size_grows}
 use Rattle.sfm_law.specs.declared.breaks.Break.{Break as Found}
-use Rattle.sfm_kind.specs.Instance.{AreInBounds, InstanceData}
+use Rattle.sfm_kind.specs.Instance.{InstanceData}
+use Rattle.sfm_kind.specs.Limits.{AreInBounds}
 use Rattle.sfm_slope.specs.Marks.{HasBases, mark_of as kept_mark}
 use Rattle.sfm_cert.specs.Answer.{mark_of}
 use Rattle.sfm_cert.specs.Form.{IsFormedBreak}

@@ -6,7 +6,8 @@ use Rattle.sfm_spec.specs.Bounds.{IsEntry}
 use Rattle.sfm_spec.specs.Blocks.{AreBlocks}
 use Rattle.sfm_spec.specs.Laws.{AreBreakpoints, ones}
 use Rattle.sfm_spec.specs.Families.{AreBases, IsGreatest, IsLeast, Prove, even_shift, shifted_at}
-use Rattle.sfm_kind.specs.Instance.{AreInBounds, InstanceData}
+use Rattle.sfm_kind.specs.Instance.{InstanceData}
+use Rattle.sfm_kind.specs.Limits.{AreInBounds}
 use Rattle.sfm_cert.specs.Answer.{Answer, mark_of}
 use Rattle.sfm_cert.specs.Form.{IsFormedBreak}
 use Rattle.sfm_cert.specs.Solved.{form_of}

@@ -16,7 +16,7 @@ use Rattle.sfm_spec.proofs.Duality.{meanings-terms}
 use Rattle.sfm_spec.proofs.Ones.{ones-places, ones-sizes, total-ones}
 use Rattle.sfm_law.proofs.Lists.{placed-meanings}
 use Rattle.sfm_kind.specs.declared.kind.Kind.{Kind}
-use Rattle.sfm_kind.specs.Instance.{AreInBounds}
+use Rattle.sfm_kind.specs.Limits.{AreInBounds}
 use Rattle.sfm_kind.specs.Names.{AreElementNames}
 use Rattle.sfm_kind.specs.Kinds.{kind_places, kind_value, kind-family, kind-submodular}
 use Rattle.sfm_cert.specs.Answer.{Answer, Break, Form, mark_of}

@@ -11,7 +11,7 @@ use Rattle.sfm_spec.specs.Families.{AreBases, meanings}
 use Rattle.sfm_spec.specs.Blocks.{Block}
 use Rattle.sfm_spec.specs.Walks.{term_at, row_at}
 use Rattle.sfm_kind.specs.declared.kind.Kind.{Kind}
-use Rattle.sfm_kind.specs.Instance.{AreInBounds}
+use Rattle.sfm_kind.specs.Limits.{AreInBounds}
 use Rattle.sfm_kind.specs.Kinds.{kind_places, kind_size, kind_value, kind-bounded, kind-submodular}
 use Rattle.sfm_law.proofs.Lists.{below-total}
 use Rattle.sfm_cert.specs.Answer.{Answer, Break, Form, answer_lines, block_lines, break_lines, head_lines, section_lines, slope_lines}

@@ -7,7 +7,8 @@ use Rattle.sfm_spec.specs.Laws.{AreBreakpoints, Mark, ones}
 use Rattle.sfm_spec.proofs.Chain.{chain_count, chain_of_breakpoints}
 use Rattle.sfm_spec.proofs.Ones.{ones-places, ones-sizes}
 use Rattle.sfm_kind.specs.declared.kind.Kind.{Kind}
-use Rattle.sfm_kind.specs.Instance.{AreInBounds, InstanceData}
+use Rattle.sfm_kind.specs.Instance.{InstanceData}
+use Rattle.sfm_kind.specs.Limits.{AreInBounds}
 use Rattle.sfm_kind.specs.Kinds.{kind_places, kind_value}
 use Rattle.sfm_kind.specs.Names.{AreElementNames}
 use Rattle.sfm_cert.specs.Answer.{mark_of}

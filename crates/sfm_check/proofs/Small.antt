@@ -8,7 +8,7 @@ use Rattle.sfm_spec.specs.Families.{meanings, IsAllowed, even_shift, shifted_at,
 use Rattle.sfm_spec.proofs.Tight.{some_of}
 use Rattle.sfm_spec.proofs.Lattice.{value_is}
 use Rattle.sfm_kind.specs.declared.kind.Kind.{Kind}
-use Rattle.sfm_kind.specs.Instance.{AreInBounds}
+use Rattle.sfm_kind.specs.Limits.{AreInBounds}
 use Rattle.sfm_kind.specs.Kinds.{kind_places, kind_size, kind_value, kind-bounded}
 
 pub sum_small : (ts : List Kind) (s : List Bool) → IsAllowed (meanings kind_places kind_value ts) s

@@ -12,7 +12,8 @@ use Rattle.sfm_spec.specs.Names.{IsName}
 use Rattle.sfm_spec.specs.Bounds.{AreElements}
 use Rattle.sfm_kind.specs.Kinds.{kind_places, kind_size, kind-submodular, kind-bounded}
 use Rattle.sfm_kind.specs.Names.{IsNewName, AreElementNames}
-use Rattle.sfm_kind.specs.Instance.{AreInBounds, HasRoomFor, support_of, total_size_of, IsKept}
+use Rattle.sfm_kind.specs.Instance.{support_of}
+use Rattle.sfm_kind.specs.Limits.{AreInBounds, HasRoomFor, total_size_of, IsKept}
 use lib.Signed.{le_z}
 use borrow.Author.Differences.{le_out, true_is_le}
 use Rattle.sfm_kind.specs.declared.kind.Kind.{Kind}

@@ -18,20 +18,8 @@ use Rattle.sfm_matroid.specs.TransversalLaws.{transversal_value, transversal_siz
 use Rattle.sfm_kind.specs.declared.kind.Kind.{Kind}
 use Rattle.sfm_kind.specs.declared.kind.Kind.TheVariants.{Weight, Cut, Cover, Need, Table, Concave, Uniform, Laminar, Graphic, Transversal}
 use Rattle.sfm_kind.specs.declared.kind.KindNote.{KindNote}
+pub use Rattle.sfm_kind.specs.Meanings.{kind_places}
 use Rattle.sfm_kind.specs.Notes.{graphic_note_fits, transversal_note_fits}
-
--- the places of the ground, by local place
-abbrev pub kind_places : Kind → List ℕ
-kind_places (Weight term) = term.places
-kind_places (Cut term) = term.places
-kind_places (Cover term) = term.places
-kind_places (Need term) = term.places
-kind_places (Table term) = term.places
-kind_places (Concave term) = term.places
-kind_places (Uniform term) = term.places
-kind_places (Laminar term) = term.places
-kind_places (Graphic term) = term.places
-kind_places (Transversal term) = term.places
 
 -- the value at each allowed part
 abbrev pub kind_value : Kind → SetFunction

@@ -5,7 +5,8 @@ ghost use Rattle.std.specs.Prelude.{◌≡◌, ◌↔◌, ℕ, ◌<◌, ◌≤�
 ghost use Rattle.std.specs.List.{All};
 ghost use Rattle.sfm_spec.specs.Names.{IsName};
 ghost use Rattle.sfm_kind.specs.Names.{IsNewName, AreElementNames};
-ghost use Rattle.sfm_kind.specs.Instance.{AreInBounds, HasRoomFor, support_of, total_size_of};
+ghost use Rattle.sfm_kind.specs.Instance.{support_of};
+ghost use Rattle.sfm_kind.specs.Limits.{AreInBounds, HasRoomFor, total_size_of};
 
 use crate::kind::Kind;
 use crate::names::Names;
@@ -33,7 +34,8 @@ pub struct Instance {
 }
 
 impl Model for Instance {
-    ghost use Rattle.sfm_kind.specs.Instance.{InstanceData, IsKept};
+    ghost use Rattle.sfm_kind.specs.Instance.{InstanceData};
+    ghost use Rattle.sfm_kind.specs.Limits.{IsKept};
 
     ghost Value = { InstanceData };
 

@@ -5,7 +5,8 @@ ghost use Rattle.std.specs.List.{All};
 ghost use Rattle.sfm_spec.specs.Bounds.{IsEntry, IsFactor};
 ghost use Rattle.sfm_spec.specs.Terms.{SetFunction, times, IsBase, IsFamily, IsSubmodular, exchanged};
 ghost use Rattle.sfm_law.specs.Room.{IsRoom, IsReach, IsWithinRoom};
-ghost use Rattle.sfm_kind.specs.Kinds.{kind_places, kind_value, kind_size, kind_start, kind_lean_value, kind_lean_calls, kind_fits, kind-family, kind-submodular, kind-bounded, kind-starts, kind-starts_small};
+ghost use Rattle.sfm_kind.specs.Meanings.{kind_places, IsValueOf, IsMeaningOf, size_by, IsStartOf};
+ghost use Rattle.sfm_kind.specs.Kinds.{kind_value, kind_size, kind_start, kind_lean_value, kind_lean_calls, kind_fits, kind-family, kind-submodular, kind-bounded, kind-starts, kind-starts_small};
 
 use sfm_base::{Memory, Set};
 use sfm_concave::{Concave, Uniform};
@@ -49,6 +50,18 @@ pub enum KindNote {
     Graphic(TailSplits),
     /// The split in the test of a transversal rank.
     Transversal(SlotSplit),
+}
+
+impl Kind {
+    /// What a term tells of itself is what its meaning says by definition (Schrijver, Combinatorial Optimization, sections 39
+    /// and 44): its places and values are a meaning, any two meanings have the same value on each part of its places, and the
+    /// size and the first base are those of each meaning. A law, with nothing to do.
+    pub fn means(&self)
+        ensures meaning { IsMeaningOf self.now (record { places = kind_places self.now; value = kind_value self.now }) }
+        ensures agree { (f g : SetFunction) → IsValueOf self.now f → IsValueOf self.now g → (s : List Bool) → length s ≡ length (kind_places self.now) → f s ≡ g s }
+        ensures size { (f : SetFunction) → IsValueOf self.now f → size_by self.now f ≡ kind_size self.now }
+        ensures starts { (f : SetFunction) (q : ℤ) → IsValueOf self.now f → IsStartOf self.now f q (kind_start self.now q) }
+    {}
 }
 
 impl Term for Kind {

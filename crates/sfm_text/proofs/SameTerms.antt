@@ -9,7 +9,8 @@ use Rattle.sfm_spec.specs.Sets.{IsPlaced, magnitudes}
 use Rattle.sfm_kind.specs.Kinds.{kind_places, kind_size}
 use Rattle.sfm_simple.specs.TableLaws.{greatest}
 use Rattle.sfm_concave.specs.ConcaveLaws as concaves
-use Rattle.sfm_kind.specs.Instance.{AreInBounds, support_of, total_size_of}
+use Rattle.sfm_kind.specs.Instance.{support_of}
+use Rattle.sfm_kind.specs.Limits.{AreInBounds, total_size_of}
 use Rattle.sfm_kind.specs.declared.kind.Kind.{Kind}
 use Rattle.sfm_kind.proofs.Bounds.{kind-elements, total_size-push, support-push, in_bounds-push}
 use Rattle.sfm_text.specs.Matched.{Matched}

@@ -5,7 +5,8 @@ use lib.Signed.{lt_z, mag}
 use Rattle.std.proofs.lemmas.Int.{ints}
 use Rattle.std.proofs.lemmas.List.{length_push}
 use Rattle.sfm_kind.specs.Kinds.{kind_places, kind_size}
-use Rattle.sfm_kind.specs.Instance.{AreInBounds, support_of, total_size_of}
+use Rattle.sfm_kind.specs.Instance.{support_of}
+use Rattle.sfm_kind.specs.Limits.{AreInBounds, total_size_of}
 use Rattle.sfm_kind.specs.declared.kind.Kind.{Kind}
 use Rattle.sfm_kind.proofs.Bounds.{kind_size-low, total_size-low, total_size-push, support-push}
 use Rattle.sfm_text.specs.Reading.{AreTooMuch}

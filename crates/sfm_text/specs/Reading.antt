@@ -2,7 +2,8 @@
 -- leads from and to.
 use Rattle.std.specs.Prelude.{◌≡◌, ◌≢◌, ◌⊎◌, ℕ, ◌<◌, ◌^◌, List, [], ◌∷◌, ◌++◌, length, codes, Any, Contains, ℤ, pos, ◌<ℤ◌}
 use Rattle.sfm_spec.specs.Names.{IsName}
-use Rattle.sfm_kind.specs.Instance.{support_of, total_size_of}
+use Rattle.sfm_kind.specs.Instance.{support_of}
+use Rattle.sfm_kind.specs.Limits.{total_size_of}
 use Rattle.sfm_kind.specs.declared.kind.Kind.{Kind}
 use Rattle.sfm_text.specs.declared.reason.Reason.{Reason}
 use Rattle.sfm_text.specs.declared.reason.Reason.TheVariants.{Long, Bytes, Word, Shape, Number, Name, Twice, Law, Total, Short}

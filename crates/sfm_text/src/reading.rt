@@ -3,7 +3,7 @@ ghost use Rattle.std.specs.Prelude.{◌≡◌, ◌≢◌, ◌↔◌, ◌≤◌, 
 ghost use Rattle.std.specs.List.{All};
 ghost use Rattle.sfm_spec.specs.Names.{IsName};
 ghost use Rattle.sfm_kind.specs.Names.{AreElementNames};
-ghost use Rattle.sfm_kind.specs.Instance.{AreInBounds};
+ghost use Rattle.sfm_kind.specs.Limits.{AreInBounds};
 ghost use Rattle.sfm_text.specs.Lines.{texts_of};
 ghost use Rattle.sfm_text.specs.Words.{word_text};
 ghost use Rattle.sfm_text.specs.TermLines.{StandsTwice};

@@ -5,7 +5,7 @@ use mir.Syntax.{w128}
 use Rattle.sfm_spec.specs.Bounds.{IsFactor}
 use Rattle.sfm_spec.specs.Families.{meanings}
 use Rattle.sfm_kind.specs.declared.kind.Kind.{Kind}
-use Rattle.sfm_kind.specs.Instance.{AreInBounds}
+use Rattle.sfm_kind.specs.Limits.{AreInBounds}
 use Rattle.sfm_kind.specs.Kinds.{kind_places, kind_value, kind_size}
 use Rattle.sfm_extreme.specs.Blocks.{block_of}
 use Rattle.sfm_law.proofs.Lists.{length-meanings}

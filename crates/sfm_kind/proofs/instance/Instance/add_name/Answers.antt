@@ -2,7 +2,7 @@
 use Rattle.std.proofs.Common.{◌≡◌, [], ◌∷◌, ◌++◌, Result, Ok, Err, OnOk, OnErr}
 use Rattle.sfm_base.specs.declared.memory.Memory.{Memory}
 use Rattle.sfm_kind.specs.Names.{IsNewName}
-use Rattle.sfm_kind.specs.Instance.{IsKept}
+use Rattle.sfm_kind.specs.Limits.{IsKept}
 use Rattle.sfm_kind.proofs.Bounds.{kept-named}
 use Rattle.sfm_kind.proofs.instance.Instance.add_name.Goals as goal
 

@@ -3,7 +3,7 @@ use Rattle.std.proofs.Common.{◌^◌, [], ◌∷◌, ◌++◌, length, pos, ◌
 use Rattle.std.proofs.lemmas.Int.{ints, to_z-of_z}
 use mir.Syntax.{w128}
 use Rattle.sfm_kind.specs.Kinds.{kind_size}
-use Rattle.sfm_kind.specs.Instance.{AreInBounds}
+use Rattle.sfm_kind.specs.Limits.{AreInBounds}
 use Rattle.sfm_kind.proofs.Bounds.{in_bounds-last, kept-total, kept-added, kind_size-low}
 use Rattle.sfm_kind.proofs.instance.Instance.add_term.Goals as goal
 

@@ -3,7 +3,7 @@ use Rattle.std.proofs.Common.{length, sym, ◌∙◌, FitsSigned, true≢false}
 use Rattle.std.proofs.lemmas.Int.{to_z-of_z}
 use mir.Syntax.{w128}
 use Rattle.sfm_kind.specs.Kinds.{kind_places, kind_size}
-use Rattle.sfm_kind.specs.Instance.{HasRoomFor}
+use Rattle.sfm_kind.specs.Limits.{HasRoomFor}
 use Rattle.sfm_kind.proofs.Bounds.{in_bounds-last, fits_where_below, below_where_fits}
 use Rattle.sfm_kind.proofs.instance.Instance.takes.Goals as goal
 

@@ -1,0 +1,93 @@
+-- What a term of each kind means: its places, its values, its size and its first base, each by definition. The values of a
+-- rank are told by the relation of the textbook, so that nothing here says how a rank is found.
+-- Textbook: Schrijver, Combinatorial Optimization, sections 39, 44 and 45.
+use Rattle.std.specs.Prelude.{◌≡◌, ℕ, List, [], ◌∷◌, length, unwrap_or, ℤ, pos, ◌+ℤ◌}
+use Rattle.sfm_spec.specs.Sets.{magnitudes, whole_set}
+use Rattle.sfm_spec.specs.Terms.{SetFunction, IsGreedy}
+use Rattle.sfm_spec.specs.Families.{Meaning}
+use Rattle.sfm_spec.specs.Kinds.{weight_value, cut_value, cover_value, need_value, table_value, concave_value, uniform_value, IsWithinCaps, IsForest, IsMatchable, IsRankFunction}
+use Rattle.sfm_simple.specs.TableLaws.{greatest}
+use Rattle.sfm_kind.specs.declared.kind.Kind.{Kind}
+use Rattle.sfm_kind.specs.declared.kind.Kind.TheVariants.{Weight, Cut, Cover, Need, Table, Concave, Uniform, Laminar, Graphic, Transversal}
+
+-- the places of the ground, by local place
+abbrev pub kind_places : Kind → List ℕ
+kind_places (Weight term) = term.places
+kind_places (Cut term) = term.places
+kind_places (Cover term) = term.places
+kind_places (Need term) = term.places
+kind_places (Table term) = term.places
+kind_places (Concave term) = term.places
+kind_places (Uniform term) = term.places
+kind_places (Laminar term) = term.places
+kind_places (Graphic term) = term.places
+kind_places (Transversal term) = term.places
+
+-- these are the values of a term, by definition: those of a rank are w times the greatest number of places that are
+-- independent together
+abbrev pub IsValueOf : Kind → SetFunction → Type 0
+IsValueOf (Weight term) f = f ≡ weight_value term.weights
+IsValueOf (Cut term) f = f ≡ cut_value term.c
+IsValueOf (Cover term) f = f ≡ cover_value term.w
+IsValueOf (Need term) f = f ≡ need_value
+IsValueOf (Table term) f = f ≡ table_value term.values
+IsValueOf (Concave term) f = f ≡ concave_value term.values
+IsValueOf (Uniform term) f = f ≡ uniform_value term.w term.cap
+IsValueOf (Laminar term) f = IsRankFunction (length term.places) term.w (IsWithinCaps term.groups) f
+IsValueOf (Graphic term) f = IsRankFunction (length term.places) term.w (IsForest term.ends) f
+IsValueOf (Transversal term) f = IsRankFunction (length term.places) term.w (IsMatchable term.entries) f
+
+-- what a term means: its places, and its values by definition
+pub record IsMeaningOf (kind : Kind) (term : Meaning) : Type 0 where
+  pub places : term.places ≡ kind_places kind
+  pub values : IsValueOf kind term.value
+
+-- one meaning for each term, in order
+abbrev pub AreMeanings : List Kind → List Meaning → Type 0
+AreMeanings [] [] = Unit {0}
+AreMeanings [] (term ∷ meant) = ⊥
+AreMeanings (kind ∷ kinds) [] = ⊥
+AreMeanings (kind ∷ kinds) (term ∷ meant) = IsMeaningOf kind term × AreMeanings kinds meant
+
+-- the value of all k places
+abbrev pub value_of_all : ℕ → SetFunction → ℤ
+value_of_all k f = unwrap_or (f (whole_set k)) (pos 0)
+
+-- the size of a term with the values f: the magnitudes of weights, added; the number of a cut or a cover; 0 for a
+-- condition; the greatest magnitude that is listed; for a rank the value of all places
+abbrev pub size_by : Kind → SetFunction → ℤ
+size_by (Weight term) f = magnitudes term.weights
+size_by (Cut term) f = term.c
+size_by (Cover term) f = term.w
+size_by (Need term) f = pos 0
+size_by (Table term) f = greatest term.values
+size_by (Concave term) f = greatest term.values
+size_by (Uniform term) f = value_of_all (length term.places) f
+size_by (Laminar term) f = value_of_all (length term.places) f
+size_by (Graphic term) f = value_of_all (length term.places) f
+size_by (Transversal term) f = value_of_all (length term.places) f
+
+-- the sizes of all terms, added
+abbrev pub total_by : List Kind → List Meaning → ℤ
+total_by [] meant = pos 0
+total_by (kind ∷ kinds) [] = pos 0
+total_by (kind ∷ kinds) (term ∷ meant) = size_by kind term.value +ℤ total_by kinds meant
+
+-- the first base of q times a term with the values f: 0 and 0 for a condition, and else the greedy vector
+abbrev pub IsStartOf : Kind → SetFunction → ℤ → List ℤ → Type 0
+IsStartOf (Weight term) f q x = IsGreedy q f (length term.places) x
+IsStartOf (Cut term) f q x = IsGreedy q f (length term.places) x
+IsStartOf (Cover term) f q x = IsGreedy q f (length term.places) x
+IsStartOf (Need term) f q x = x ≡ pos 0 ∷ pos 0 ∷ []
+IsStartOf (Table term) f q x = IsGreedy q f (length term.places) x
+IsStartOf (Concave term) f q x = IsGreedy q f (length term.places) x
+IsStartOf (Uniform term) f q x = IsGreedy q f (length term.places) x
+IsStartOf (Laminar term) f q x = IsGreedy q f (length term.places) x
+IsStartOf (Graphic term) f q x = IsGreedy q f (length term.places) x
+IsStartOf (Transversal term) f q x = IsGreedy q f (length term.places) x
+
+-- the first bases of q times all terms, in order
+abbrev pub AreStarts : List Kind → List Meaning → ℤ → List (List ℤ) → Type 0
+AreStarts [] [] q [] = Unit {0}
+AreStarts (kind ∷ kinds) (term ∷ meant) q (x ∷ rows) = IsStartOf kind term.value q x × AreStarts kinds meant q rows
+AreStarts kinds meant q rows = ⊥
