@@ -1,6 +1,8 @@
 #!/usr/bin/env python3
-"""Writes instances into a temporary directory, runs `PROGRAM solve` on each some times, and prints the least time."""
+"""Writes instances, runs `PROGRAM solve` on each some times, and prints the least times: of the processor for the program itself
+(user), and by the clock."""
 import argparse
+import math
 import os
 import random
 import subprocess
@@ -91,6 +93,39 @@ def slots(names, rng):
     return lines
 
 
+def one_graph(names, vertices, rng):
+    """One rank of a graph that has all elements as edges, each between two different vertices."""
+    edges = [name + "=" + "-".join(f"v{v}" for v in rng.sample(range(vertices), 2)) for name in names]
+    return [*weights(names, rng, -200, -1), " ".join(["rank 100 graphic :", *edges])]
+
+
+def one_sparse_graph(names, rng):
+    """Half as many vertices as edges."""
+    return one_graph(names, len(names) // 2, rng)
+
+
+def one_dense_graph(names, rng):
+    """About as many vertices as a whole graph of so many edges has."""
+    return one_graph(names, math.isqrt(2 * len(names)) + 2, rng)
+
+
+def one_slots(names, rng):
+    """One rank of a transversal matroid over all elements, each with three of half as many slots."""
+    entries = [name + "=" + ",".join(f"s{s}" for s in rng.sample(range(len(names) // 2), 3)) for name in names]
+    return [*weights(names, rng, -200, -1), " ".join(["rank 100 transversal :", *entries])]
+
+
+def one_laminar(names, rng):
+    """One rank of a laminar matroid over all elements, with groups that are halved down to four elements."""
+    groups, waiting = [], [names]
+    while waiting:
+        some = waiting.pop()
+        groups += [";", str(rng.randint(len(some) // 4, len(some))), *some]
+        if len(some) >= 8:
+            waiting += [some[: len(some) // 2], some[len(some) // 2 :]]
+    return [*weights(names, rng, -200, -1), " ".join(["rank 100 laminar :", *names, *groups])]
+
+
 KINDS = {
     "grid": grid,
     "covers": covers,
@@ -99,6 +134,10 @@ KINDS = {
     "groups": groups,
     "links": links,
     "slots": slots,
+    "onegraph-sparse": one_sparse_graph,
+    "onegraph-dense": one_dense_graph,
+    "oneslots": one_slots,
+    "onelaminar": one_laminar,
 }
 
 
@@ -112,17 +151,17 @@ def write_instance(path, kind, size, seed):
 
 
 def solve(program, path, answer, limit):
-    """Runs the program, and gives the seconds that it took and its exit code, or None for the code past the limit."""
-    # a wait with a timeout would look only now and then, and add milliseconds
+    """Runs the program, and gives its user time and its time by the clock in seconds, and its exit code or None past the limit."""
     with open(answer, "wb") as out:
         start = time.perf_counter()
         process = subprocess.Popen([program, "solve", path], stdout=out)
         timer = threading.Timer(limit, process.kill)
         timer.start()
-        code = process.wait()
+        _, status, usage = os.wait4(process.pid, 0)
         seconds = time.perf_counter() - start
         timer.cancel()
-    return seconds, None if seconds >= limit else code
+        process.returncode = os.waitstatus_to_exitcode(status)
+    return usage.ru_utime, seconds, None if seconds >= limit else process.returncode
 
 
 def check(program, path, answer):
@@ -138,6 +177,7 @@ def parse_words():
     parser.add_argument("--seed", type=int, default=1)
     parser.add_argument("--runs", type=int, default=3, help="how often each is run")
     parser.add_argument("--limit", type=float, default=600, help="seconds for each run")
+    parser.add_argument("--keep", help="a folder for the instances and answers, which else are removed")
     parser.add_argument("--check", action="store_true", help="judge each answer too")
     options = parser.parse_args()
     if any(not 16 <= size <= 256 for size in options.sizes):
@@ -147,28 +187,33 @@ def parse_words():
     return options
 
 
+def measure(options, folder, kind, size):
+    """Prints the row of one instance, and gives whether each run ended well."""
+    path = os.path.join(folder, f"{kind}_{size}.sfm")
+    answer = os.path.join(folder, f"{kind}_{size}.answer")
+    terms = write_instance(path, kind, size, options.seed)
+    program = os.path.abspath(options.program)
+    runs = [solve(program, path, answer, options.limit) for _ in range(options.runs)]
+    codes = [code for _, _, code in runs if code != 0]
+    user, seconds = (f"{min(run[place] for run in runs):.4f}" for place in (0, 1))
+    if codes:
+        user, seconds = "", f"over {options.limit:g}" if codes[0] is None else f"exit {codes[0]}"
+    print(f"| {kind} | {size} | {terms} | {user} | {seconds} | {os.path.getsize(answer)} |", flush=True)
+    verdict = check(program, path, answer) if options.check and not codes else "valid"
+    if verdict != "valid":
+        print(f"{kind} {size}: {verdict}", file=sys.stderr, flush=True)
+    return not codes and verdict == "valid"
+
+
 def main():
     options = parse_words()
-    program = os.path.abspath(options.program)
-    failed = False
-    print("| Instance | Elements | Terms | Seconds | Answer in bytes |")
-    print("|---|---|---|---|---|")
-    with tempfile.TemporaryDirectory() as folder:
-        for kind in options.kinds:
-            for size in options.sizes:
-                path = os.path.join(folder, f"{kind}_{size}.sfm")
-                answer = os.path.join(folder, f"{kind}_{size}.answer")
-                terms = write_instance(path, kind, size, options.seed)
-                runs = [solve(program, path, answer, options.limit) for _ in range(options.runs)]
-                seconds, code = min(runs, key=lambda run: (run[1] != 0, run[0]))
-                taken = f"{seconds:.4f}" if code == 0 else f"over {options.limit:g}" if code is None else f"exit {code}"
-                print(f"| {kind} | {size} | {terms} | {taken} | {os.path.getsize(answer)} |", flush=True)
-                failed = failed or any(code != 0 for _, code in runs)
-                if options.check and code == 0:
-                    verdict = check(program, path, answer)
-                    failed = failed or verdict != "valid"
-                    print(f"{kind} {size}: {verdict}", file=sys.stderr, flush=True)
-    return 1 if failed else 0
+    print(f"| Instance, seed {options.seed} | Elements | Terms | User seconds | By the clock | Answer in bytes |")
+    print("|---|---|---|---|---|---|")
+    with tempfile.TemporaryDirectory() as temporary:
+        folder = options.keep or temporary
+        os.makedirs(folder, exist_ok=True)
+        ended = [measure(options, folder, kind, size) for kind in options.kinds for size in options.sizes]
+    return 0 if all(ended) else 1
 
 
 if __name__ == "__main__":
