@@ -1,0 +1,132 @@
+#!/usr/bin/env python3
+"""Chooses projects that need one another, and draws what the choice costs and brings as a bounty for each project grows.
+
+PROJECTS is a table in CSV with the columns name, cost, worth and needs (names with a space between). A choice takes with each
+project all that it needs (a closure). The slopes say how the best choice grows as each project chosen brings a bounty more.
+
+    python3 projects.py data/projects.csv --svg projects.svg
+"""
+import argparse
+import csv
+import math
+from collections import namedtuple
+
+from answers import in_lines, solve
+
+Project = namedtuple("Project", "cost worth needs")
+WIDE, TALL, LEFT, TOP = 640, 300, 60, 40
+
+
+def read_projects(path):
+    """The projects of a table by their names."""
+    with open(path, encoding="ascii", newline="") as file:
+        rows = list(csv.DictReader(file))
+    return {row["name"]: Project(int(row["cost"]), int(row["worth"]), row["needs"].split()) for row in rows}
+
+
+def instance(projects):
+    """A project weighs its cost less its worth, and a choice that has it has what it needs."""
+    lines = ["sfm 1", "ground " + " ".join(projects)]
+    lines.append("weight " + " ".join(f"{name}:{it.cost - it.worth}" for name, it in projects.items()))
+    lines += [f"need {name} {other}" for name, it in projects.items() for other in it.needs]
+    return [*lines, "end"]
+
+
+def curve(projects, answer):
+    """For each slope: the slope, and what the choice from there on costs and is worth."""
+    return [
+        (step.slope, sum(projects[name].cost for name in step.names), sum(projects[name].worth for name in step.names))
+        for step in answer.steps
+    ]
+
+
+def tell(projects, answer):
+    """What is best, and the first slopes beyond it, as lines of text."""
+    chosen = [projects[name] for name in answer.least]
+    cost, worth = sum(it.cost for it in chosen), sum(it.worth for it in chosen)
+    lines = [f"{len(projects)} projects, {len(answer.steps)} slopes"]
+    lines.append(f"best: {len(chosen)} projects for {cost}, worth {worth}, gain {-answer.minimum}")
+    lines.append(in_lines(answer.least))
+    for step in [step for step in answer.steps if step.slope > 0][:3]:
+        lines.append(f"with a bounty of {step.slope} for each: {len(step.new)} more, gain without it {-step.value}")
+        lines.append(in_lines(step.new))
+    return lines
+
+
+def stairs(points, across, up, last):
+    """The path of a line that keeps its height from each point to the next one."""
+    path = f"M{across(points[0][0]):.1f} {up(0):.1f}"
+    for x, y in points:
+        path += f" H{across(x):.1f} V{up(y):.1f}"
+    return path + f" H{across(last):.1f}"
+
+
+def axis(across, up, marks, heights):
+    """Lines and numbers for the bounty across and for the money upwards."""
+    parts = []
+    for mark in marks:
+        x = across(mark)
+        parts.append(f'<line x1="{x:.1f}" y1="{TOP}" x2="{x:.1f}" y2="{TOP + TALL}" class="mark"/>')
+        parts.append(f'<text x="{x:.1f}" y="{TOP + TALL + 16}" text-anchor="middle">{mark}</text>')
+    for height in heights:
+        y = up(height)
+        parts.append(f'<line x1="{LEFT}" y1="{y:.1f}" x2="{LEFT + WIDE}" y2="{y:.1f}" class="mark"/>')
+        parts.append(f'<text x="{LEFT - 6}" y="{y + 4:.1f}" text-anchor="end">{height}</text>')
+    return parts
+
+
+def rounded(least, greatest, count):
+    """At most about so many round numbers from the one to the other."""
+    steps = (digit * 10**power for power in range(16) for digit in (1, 2, 5))
+    step = next(it for it in steps if (greatest - least) / it <= count)
+    return range(math.ceil(least / step) * step, math.floor(greatest) + 1, step)
+
+
+def draw(points):
+    """An SVG of two lines over the bounty: what the best choice costs, and what it is worth."""
+    first, last = min(0, points[0][0]), max(0, points[-1][0])
+    margin = (last - first) / 20 or 1
+    first, last = first - margin, last + margin
+    most = max(max(cost, worth) for _, cost, worth in points) or 1
+
+    def across(slope):
+        return LEFT + float((slope - first) / (last - first)) * WIDE
+
+    def up(money):
+        return TOP + TALL - money / most * TALL
+
+    costs = stairs([(slope, cost) for slope, cost, _ in points], across, up, last)
+    worths = stairs([(slope, worth) for slope, _, worth in points], across, up, last)
+    wide, tall = LEFT + WIDE + 20, TOP + TALL + 44
+    parts = [
+        f'<svg xmlns="http://www.w3.org/2000/svg" width="{wide}" height="{tall}" viewBox="0 0 {wide} {tall}">',
+        "<style>text { font: 13px sans-serif; fill: #222 } .mark { stroke: #ddd } path { fill: none; stroke-width: 2 }</style>",
+        f'<rect width="{wide}" height="{tall}" fill="#fff"/>',
+        *axis(across, up, rounded(first, last, 12), rounded(0, most, 8)),
+        f'<line x1="{across(0):.1f}" y1="{TOP}" x2="{across(0):.1f}" y2="{TOP + TALL}" stroke="#777"/>',
+        f'<path d="{worths}" stroke="#1b7837"/>',
+        f'<path d="{costs}" stroke="#b2182b"/>',
+        f'<text x="{LEFT + 12}" y="22" style="fill: #1b7837">worth of the best choice</text>',
+        f'<text x="{LEFT + 212}" y="22" style="fill: #b2182b">its cost</text>',
+        f'<text x="{LEFT + WIDE}" y="{TOP + TALL + 36}" text-anchor="end">bounty for each project chosen (slope)</text>',
+        "</svg>",
+    ]
+    return "\n".join(parts) + "\n"
+
+
+def main():
+    parser = argparse.ArgumentParser(description=__doc__, formatter_class=argparse.RawDescriptionHelpFormatter)
+    parser.add_argument("projects", help="a table of projects in CSV")
+    parser.add_argument("--svg", help="where to draw cost and worth")
+    parser.add_argument("--instance", help="where to keep the instance")
+    options = parser.parse_args()
+    projects = read_projects(options.projects)
+    answer = solve(instance(projects), options.instance)
+    print("\n".join(tell(projects, answer)))
+    if options.svg:
+        with open(options.svg, "w", encoding="ascii", newline="\n") as file:
+            file.write(draw(curve(projects, answer)))
+
+
+if __name__ == "__main__":
+    main()

@@ -1,0 +1,51 @@
+#!/usr/bin/env bash
+# run.sh: runs each command that README.md, docs/GUIDE.md, docs/FORMATS.md and docs/sfm.1 quote, each script of this folder and
+# each instance, and compares what they print and draw with what is stored. The program is `sfm` on the path, or the one that SFM
+# names. Nothing in the repository is changed. With --write what is stored (expected/ and pictures/) is written anew.
+# The commands that build the program stand in README.md without a prompt, and are not run.
+here=$(cd "$(dirname "$0")" && pwd)
+top=$(dirname "$here")
+work=$(mktemp -d)
+trap 'rm -rf "$work"' EXIT
+mkdir "$work/bin" "$work/expected" "$work/pictures"
+program=$(command -v "${SFM:-sfm}") || { echo "run.sh: there is no program ${SFM:-sfm}"; exit 3; }
+ln -s "$(realpath "$program")" "$work/bin/sfm"
+export PATH="$work/bin:$PATH" PYTHONDONTWRITEBYTECODE=1
+unset SFM
+
+# The answer of each instance up to its proof, 100 letters of a line, and the verdict on the whole.
+instances() {
+  for file in "$here"/*.sfm; do
+    echo "$(basename "$file")"
+    sfm solve "$file" >"$work/answer"
+    sed '/^at /Q' "$work/answer" | cut -c1-100
+    sfm check "$file" "$work/answer"
+  done
+}
+
+cd "$here" || exit 3
+instances >"$work/expected/instances.txt"
+python3 picture.py data/cells.pgm --svg "$work/pictures/cells.svg" >"$work/expected/cells.txt"
+python3 projects.py data/projects.csv --svg "$work/pictures/projects.svg" >"$work/expected/projects.txt"
+for name in karate petersen grid; do
+  python3 network.py "data/$name.edges" --svg "$work/pictures/$name.svg" >"$work/expected/$name.txt"
+done
+sfm solve projects.sfm >"$work/answer" && python3 show.py "$work/answer" >"$work/expected/show.txt"
+bash batch.sh mistakes "$work/answers" 2 >"$work/expected/batch.txt"
+for task in 1 2; do
+  SLURM_ARRAY_TASK_ID=$task bash array.sh mistakes "$work/answers"
+done >"$work/expected/array.txt"
+
+if [ "$1" = --write ]; then
+  mkdir -p expected pictures
+  cp "$work"/expected/* expected/
+  cp "$work"/pictures/* pictures/
+fi
+failed=0
+for folder in expected pictures; do
+  diff -r "$folder" "$work/$folder" >"$work/difference" || { failed=1; head -40 "$work/difference"; }
+  echo "examples/$folder: $(ls "$folder" | wc -l) files compared"
+done
+python3 quoted.py "$top" README.md docs/GUIDE.md docs/FORMATS.md docs/sfm.1 || failed=1
+[ "$failed" -eq 0 ] && echo "all as stored"
+exit "$failed"

@@ -1,0 +1,45 @@
+#!/usr/bin/env python3
+"""Prints an answer for people: what is best, what may come along, and for each slope what comes in and what the set is worth.
+
+    sfm solve towns.sfm > towns.answer
+    python3 show.py towns.answer
+"""
+import argparse
+
+from answers import Answer
+
+
+def listed(names):
+    return " ".join(names) if names else "(nothing)"
+
+
+def head(answer):
+    """The minimum, and the sets that attain it."""
+    lines = [f"least value {answer.minimum}"]
+    if answer.least == answer.greatest:
+        return [*lines, f"at one set alone: {listed(answer.least)}"]
+    lines += [f"smallest such set: {listed(answer.least)}", f"greatest such set: {listed(answer.greatest)}"]
+    for number, block in enumerate(answer.blocks, 1):
+        needs = " with " + ", ".join(f"choice {need}" for need in block.needs) if block.needs else ""
+        lines.append(f"choice {number}{needs}: {listed(block.names)} may come along, all or none")
+    return lines
+
+
+def table(answer):
+    """A row for each slope: from there on, so many elements, worth so much, and those that are new."""
+    rows = [("from slope", "elements", "value", "new")]
+    rows += [(str(step.slope), str(len(step.names)), str(step.value), listed(step.new)) for step in answer.steps]
+    widths = [max(len(row[column]) for row in rows) for column in range(3)]
+    return ["  ".join([*(row[i].rjust(widths[i]) for i in range(3)), row[3]]) for row in rows]
+
+
+def main():
+    parser = argparse.ArgumentParser(description=__doc__, formatter_class=argparse.RawDescriptionHelpFormatter)
+    parser.add_argument("answer", help="a file that sfm solve wrote")
+    with open(parser.parse_args().answer, encoding="ascii") as file:
+        answer = Answer(file.read())
+    print("\n".join([*head(answer), "", *table(answer)]))
+
+
+if __name__ == "__main__":
+    main()
