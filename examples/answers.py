@@ -50,7 +50,11 @@ class Answer:
 
 def run(*words):
     """Runs the program, and gives its exit code and what it printed."""
-    done = subprocess.run([os.environ.get("SFM", "sfm"), *words], stdout=subprocess.PIPE, text=True)
+    program = os.environ.get("SFM", "sfm")
+    try:
+        done = subprocess.run([program, *words], stdout=subprocess.PIPE, text=True)
+    except OSError as error:
+        sys.exit(f"{program}: {error.strerror}; put sfm on the path, or name it by SFM")
     return done.returncode, done.stdout
 
 

@@ -8,9 +8,12 @@ which a pixel comes in, added to LEVEL, is its grey in a picture made smooth by 
     python3 picture.py data/cells.pgm --svg cells.svg
 """
 import argparse
+import re
 
 from answers import solve
 
+# The kind of a PGM, its width, height and greatest grey; a comment goes from # to the end of a line.
+PGM_HEAD = re.compile(rb"(P[25])" + 3 * rb"(?:\s|#[^\n]*\n)+(\d+)" + rb"\s")
 CELL = 12
 GAP = 28
 # Colours of the heat map from early to late.
@@ -21,27 +24,14 @@ def read_pgm(path):
     """The rows of a picture, each grey from 0 (black) to 255 (white). Plain (P2) and raw (P5) files are read."""
     with open(path, "rb") as file:
         data = file.read()
-    words, at = [], 0
-    while len(words) < 4:
-        while data[at : at + 1].isspace():
-            at += 1
-        end = at
-        if data[at : at + 1] == b"#":
-            at = data.index(b"\n", at)
-            continue
-        while not data[end : end + 1].isspace():
-            end += 1
-        words.append(data[at:end])
-        at = end
-    kind, (width, height, most) = words[0], (int(word) for word in words[1:])
-    if kind == b"P2":
-        greys = [int(word) for word in data[at:].split()]
-    elif kind == b"P5" and most < 256:
-        greys = list(data[at + 1 :])
-    else:
-        raise SystemExit(f"{path}: only PGM with one byte a pixel is read")
-    if len(greys) < width * height or width * height > 256:
-        raise SystemExit(f"{path}: {width} by {height} pixels; they must be there, and no more than 256")
+    head = PGM_HEAD.match(data)
+    width, height, most = (int(word) for word in head.groups()[1:]) if head else (0, 0, 0)
+    if not 0 < width * height <= 256 or not 0 < most < 256:
+        raise SystemExit(f"{path}: it needs to be a PGM of 1 to 256 pixels with one byte each")
+    body = data[head.end() :]
+    greys = list(body) if head[1] == b"P5" else [int(word) for word in body.split()]
+    if len(greys) < width * height:
+        raise SystemExit(f"{path}: it ends too early")
     greys = [grey * 255 // most for grey in greys]
     return [greys[row * width : (row + 1) * width] for row in range(height)]
 
