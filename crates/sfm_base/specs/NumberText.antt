@@ -8,6 +8,7 @@ pub record IsCount (bytes : List ℕ) (n : ℕ) : Type 0 where
   pub digits : AllDigits 10 bytes
   pub value : digits_value 10 bytes ≡ n
 
+-- the bytes are the text of the number: `0`, or a digit 1 to 9 and further digits, behind a `-` where it is negative
 pub data IsNumber (bytes : List ℕ) (a : ℤ) : Type 0 where
   is_zero : bytes ≡ codes "0" → a ≡ pos 0 → IsNumber bytes a
   is_positive : (n : ℕ) → IsCount bytes n → a ≡ pos n → IsNumber bytes a

@@ -15,9 +15,11 @@ spaced (word ∷ words) = (32 ∷ word) ++ spaced words
 abbrev pub line : List ℕ → List (List ℕ) → List ℕ
 line first words = first ++ spaced words ++ codes "\n"
 
+-- the name of an element
 abbrev pub element : ℕ → List ℕ
 element e = codes "e" ++ decimal e
 
+-- the names of some elements
 abbrev pub names : List ℕ → List (List ℕ)
 names es = map element es
 
@@ -37,16 +39,19 @@ each word (e ∷ es) = do
 abbrev pub ground : List ℕ
 ground = run 0 1 200
 
+-- an element and its weight, from -1000 to 1000
 abbrev pub pair : ℕ → Drawing (List ℕ)
 pair e = do
   w ← draw 2001
   done (element e ++ codes ":" ++ signed_decimal (pos w -ℤ pos 1000))
 
+-- a weight for each element
 abbrev pub weight_line : Drawing (List ℕ)
 weight_line = do
   pairs ← each pair ground
   done (line (codes "weight") pairs)
 
+-- a cut between two different elements
 abbrev pub cut_line : Drawing (List ℕ)
 cut_line = do
   c ← draw 400
@@ -54,12 +59,14 @@ cut_line = do
   d ← draw 199
   done (line (codes "cut") (decimal c ∷ element a ∷ element ((a + 1 + d) % 200) ∷ []))
 
+-- a condition between two different elements
 abbrev pub need_line : Drawing (List ℕ)
 need_line = do
   a ← draw 200
   d ← draw 199
   done (line (codes "need") (element a ∷ element ((a + 1 + d) % 200) ∷ []))
 
+-- a coverage of six elements
 abbrev pub cover_line : Drawing (List ℕ)
 cover_line = do
   w ← draw 1500
@@ -79,6 +86,7 @@ abbrev pub sums : ℤ → List ℤ → List ℤ
 sums a [] = []
 sums a (d ∷ ds) = (a +ℤ d) ∷ sums (a +ℤ d) ds
 
+-- the texts of some numbers
 abbrev pub numbers : List ℤ → List (List ℕ)
 numbers x = map signed_decimal x
 
@@ -90,9 +98,11 @@ concave_line = do
   ds ← further 7 (pos d)
   done (line (codes "concave") (numbers (pos d ∷ sums (pos d) ds) ++ codes ":" ∷ names (run p 11 8)))
 
+-- a rank: its number, its word, and what follows
 abbrev pub rank_line : ℕ → List ℕ → List (List ℕ) → List ℕ
 rank_line w kind words = line (codes "rank") (decimal w ∷ kind ∷ words)
 
+-- a uniform rank of ten elements
 abbrev pub uniform_line : Drawing (List ℕ)
 uniform_line = do
   w ← draw 500
@@ -100,6 +110,7 @@ uniform_line = do
   p ← draw 200
   done (rank_line w (codes "uniform") (decimal (1 + c) ∷ codes ":" ∷ names (run p 3 10)))
 
+-- a laminar rank of ten elements with two groups, one in the other
 abbrev pub laminar_line : Drawing (List ℕ)
 laminar_line = do
   w ← draw 500
@@ -108,12 +119,14 @@ laminar_line = do
   done (rank_line w (codes "laminar") (codes ":" ∷ names (run p 1 10) ++ codes ";" ∷ codes "4" ∷ names (run p 1 6)
       ++ codes ";" ∷ decimal (1 + c) ∷ names (run p 1 3)))
 
+-- an element and two of six vertices
 abbrev pub edge : ℕ → Drawing (List ℕ)
 edge e = do
   u ← draw 6
   x ← draw 6
   done (element e ++ codes "=v" ++ decimal u ++ codes "-v" ++ decimal x)
 
+-- a graphic rank of ten edges
 abbrev pub graphic_line : Drawing (List ℕ)
 graphic_line = do
   w ← draw 500
@@ -121,12 +134,14 @@ graphic_line = do
   edges ← each edge (run p 13 10)
   done (rank_line w (codes "graphic") (codes ":" ∷ edges))
 
+-- an element and two different ones of five slots
 abbrev pub entry : ℕ → Drawing (List ℕ)
 entry e = do
   a ← draw 5
   d ← draw 4
   done (element e ++ codes "=s" ++ decimal a ++ codes ",s" ++ decimal ((a + 1 + d) % 5))
 
+-- a transversal rank of eight elements
 abbrev pub transversal_line : Drawing (List ℕ)
 transversal_line = do
   w ← draw 500
@@ -134,6 +149,7 @@ transversal_line = do
   entries ← each entry (run p 9 8)
   done (rank_line w (codes "transversal") (codes ":" ∷ entries))
 
+-- a number from -200 to 200
 unfoldable pub level : Drawing ℤ
 level = do
   n ← draw 401
@@ -144,9 +160,11 @@ abbrev pub table_value : ℤ → ℤ → ℤ → ℕ → ℕ → ℤ
 table_value x y z t i = (if bit_at i 0 == 1 then x else pos 0) +ℤ (if bit_at i 1 == 1 then y else pos 0) +ℤ (if bit_at i 2 == 1 then z else pos 0)
     +ℤ (if i == 0 then pos 0 else pos t)
 
+-- the values of the eight sets of three elements
 unfoldable pub table_values : ℤ → ℤ → ℤ → ℕ → List ℤ
 table_values x y z t = map (table_value x y z t) (range_with_len 0 8)
 
+-- a table over three elements
 abbrev pub table_line : Drawing (List ℕ)
 table_line = do
   p ← draw 200
@@ -176,6 +194,7 @@ term_lines = do
   lines 5 transversal_line
   lines 5 table_line
 
+-- all lines
 abbrev pub demo : Drawing (List ℕ)
 demo = do
   done (line (codes "sfm") (codes "1" ∷ []))
@@ -184,5 +203,6 @@ demo = do
   term_lines
   done (line (codes "end") [])
 
+-- the text of a seed
 unfoldable pub demo_text_of : ℕ → List ℕ
 demo_text_of seed = (demo seed).value

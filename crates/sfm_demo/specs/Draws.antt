@@ -9,6 +9,7 @@ next state = (state * 6364136223846793005 + 1442695040888963407) % 2 ^ 64
 unfoldable pub top : ℕ → ℕ → ℕ
 top k state = state / 2 ^ 32 % k
 
+-- a value that was made, and the state after the draws that made it
 pub record Drawn (A : Type 0) : Type 0 where
   pub value : A
   pub state : ℕ

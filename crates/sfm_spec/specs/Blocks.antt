@@ -19,9 +19,11 @@ pub record Block : Type 0 where
   pub members : List Bool
   pub needs : List ℕ
 
+-- what stands past the end of a list of blocks
 abbrev pub no_block : Block
 no_block = record { members = []; needs = [] }
 
+-- the block number i, counted from 0
 abbrev pub block_at : List Block → ℕ → Block
 block_at blocks i = slice_index_or blocks i no_block
 

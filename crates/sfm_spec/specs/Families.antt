@@ -37,6 +37,7 @@ even_shift n p = replicate n p
 abbrev pub sized_shift : List ℤ → ℤ → List ℤ
 sized_shift sizes p = map (λ w. p *ℤ w) sizes
 
+-- an allowed set of which q times the sum less the shift is least
 pub record IsMinimiser (terms : List Meaning) (n : ℕ) (q : ℤ) (shift : List ℤ) (s : List Bool) : Type 0 where
   pub places : length s ≡ n
   pub allowed : IsAllowed terms s
@@ -57,6 +58,7 @@ pub record IsBreakpoint (terms : List Meaning) (n : ℕ) (sizes : List ℤ) (p q
   pub greatest : IsGreatest terms n q (sized_shift sizes p) s
   pub another : (t : List Bool) × IsMinimiser terms n q (sized_shift sizes p) t × (t ≢ s)
 
+-- the places of each term are different ones of the ground
 abbrev pub ArePlaced : ℕ → List Meaning → Type 0
 ArePlaced n [] = Unit {0}
 ArePlaced n (term ∷ terms) = IsPlaced n term.places × ArePlaced n terms
@@ -67,6 +69,7 @@ pub record IsTerm (n : ℕ) (term : Meaning) : Type 0 where
   pub family : IsFamily (length term.places) term.value
   pub submodular : IsSubmodular (length term.places) term.value
 
+-- each is a term over the ground
 abbrev pub AreTerms : ℕ → List Meaning → Type 0
 AreTerms n [] = Unit {0}
 AreTerms n (term ∷ terms) = IsTerm n term × AreTerms n terms

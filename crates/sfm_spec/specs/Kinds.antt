@@ -71,6 +71,7 @@ pub record Way : Type 0 where
   pub edge : ℕ
   pub is_back : Bool
 
+-- what stands past the end of a list of edges
 abbrev pub no_edge : Edge
 no_edge = record { tail = 0; head = 0 }
 
@@ -92,6 +93,7 @@ pub record IsClosedTrail (edges : List Edge) (t : List Bool) (first : Way) (ways
   pub distinct : AreDistinct (map (λ way. way.edge) (first ∷ ways))
   pub closed : LeadsHome edges (begin_of edges first) (end_of edges first) ways
 
+-- no closed trail takes edges of the part
 abbrev pub IsForest : List Edge → List Bool → Type 0
 IsForest edges t = (first : Way) (ways : List Way) → IsClosedTrail edges t first ways → ⊥
 
@@ -100,5 +102,6 @@ pub record IsMatching (entries : List (List ℕ)) (t : List Bool) (slots : List 
   pub own : (e : ℕ) → Has t e → Contains (slice_index_or entries e []) (slice_index_or slots e 0)
   pub distinct : (d e : ℕ) → Has t d → Has t e → slice_index_or slots d 0 ≡ slice_index_or slots e 0 → d ≡ e
 
+-- the members of the part can be given slots of their own
 abbrev pub IsMatchable : List (List ℕ) → List Bool → Type 0
 IsMatchable entries t = (slots : List ℕ) × IsMatching entries t slots

@@ -35,6 +35,7 @@ pub record Mark : Type 0 where
   pub den : ℤ
   pub members : List Bool
 
+-- what stands past the end of a list of marks
 abbrev pub no_mark : Mark
 no_mark = record { num = pos 0; den = pos 1; members = [] }
 

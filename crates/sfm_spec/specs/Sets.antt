@@ -5,17 +5,21 @@ use Rattle.std.specs.Prelude.{◌≡◌, ℕ, ◌<◌, Bool, true, false, ◌&&�
 abbrev pub Has : List Bool → ℕ → Type 0
 Has s e = slice_index_or s e false ≡ true
 
+-- the set of none of n places
 abbrev pub empty_set : ℕ → List Bool
 empty_set n = replicate n false
 
+-- the set of all of n places
 abbrev pub whole_set : ℕ → List Bool
 whole_set n = replicate n true
 
+-- the places that are in either set
 abbrev pub union : List Bool → List Bool → List Bool
 union [] t = []
 union (a ∷ s) [] = []
 union (a ∷ s) (b ∷ t) = (a || b) ∷ union s t
 
+-- the places that are in both sets
 abbrev pub intersection : List Bool → List Bool → List Bool
 intersection [] t = []
 intersection (a ∷ s) [] = []

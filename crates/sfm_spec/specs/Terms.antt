@@ -18,6 +18,7 @@ pub record IsFamily (k : ℕ) (f : SetFunction) : Type 0 where
   pub unions : (s t : List Bool) → length s ≡ k → length t ≡ k → IsSome (f s) → IsSome (f t) → IsSome (f (union s t))
   pub intersections : (s t : List Bool) → length s ≡ k → length t ≡ k → IsSome (f s) → IsSome (f t) → IsSome (f (intersection s t))
 
+-- the empty set has the value 0, and no two allowed sets have less in all than their union and their intersection
 pub record IsSubmodular (k : ℕ) (f : SetFunction) : Type 0 where
   pub at_empty : f (empty_set k) ≡ Some (pos 0)
   pub submodular : (s t : List Bool) (a b c d : ℤ) → length s ≡ k → length t ≡ k

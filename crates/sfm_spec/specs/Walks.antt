@@ -9,12 +9,15 @@ pub record Step : Type 0 where
   pub to : ℕ
   pub term : ℕ
 
+-- what stands past the end of a list of terms
 abbrev pub no_term : Meaning
 no_term = record { places = []; value = λ _. None }
 
+-- the term number i, counted from 0
 abbrev pub term_at : List Meaning → ℕ → Meaning
 term_at terms i = slice_index_or terms i no_term
 
+-- the row number i, counted from 0
 abbrev pub row_at : List (List ℤ) → ℕ → List ℤ
 row_at rows i = slice_index_or rows i []
 
@@ -44,6 +47,7 @@ abbrev pub last_of : ℕ → List Step → ℕ
 last_of from [] = from
 last_of from (step ∷ steps) = last_of step.to steps
 
+-- a list of steps, at least one, each of which begins where the one before ends
 pub record IsWalk (terms : List Meaning) (q : ℤ) (rows : List (List ℤ)) (first : ℕ) (steps : List Step) : Type 0 where
   pub steps_exist : 0 < length steps
   pub steps_fit : AreSteps terms q rows first steps

@@ -26,9 +26,11 @@ command_of (ReadDemo seed) = demo seed
 
 -- ---- what clap finds in the words
 
+-- what the matches of `solve` ask for
 abbrev pub solve_by : List Row → Option Command
 solve_by rows = option_map solve (first_of (codes "FILE") rows)
 
+-- what the matches of `check` ask for
 abbrev pub check_by : List Row → Option Command
 check_by rows = option_and_then (λ file. option_map (check file) (first_of (codes "ANSWER") rows)) (first_of (codes "FILE") rows)
 
@@ -38,6 +40,7 @@ number_of text =
     let digits = without_leading_plus text in
     if is_numeral digits && nat_lt (digits_value 10 digits) (2 ^ 64) then Some (digits_value 10 digits) else None
 
+-- what the matches of `demo` ask for
 abbrev pub demo_by : List Row → Option Command
 demo_by rows = option_map demo (option_and_then number_of (one_of (codes "SEED") rows))
 
