@@ -2,15 +2,15 @@
 -- A union is a minimiser since each of its places lies in a minimiser within it: the least one that has the place, which has
 -- only what comes along with it. A minimiser is the union with the blocks that it meets, since it has with each place all
 -- that comes along with it.
-use Rattle.std.proofs.Common.{◌≡◌, ◌≢◌, ◌↔◌, ◌⊎◌, ℕ, zero, suc, ◌+◌, ◌<◌, ◌≤◌, Bool, true, false, ◌&&◌, ◌||◌, List, [], ◌∷◌, length, map, get_or, ℤ, pos, ◌≤ℤ◌, if◌then◌else◌, refl, sym, ap, ◌∙◌, arith, inl, inr, ⊎_elim, Contains}
+use Rattle.std.proofs.Common.{◌≡◌, ◌≢◌, ◌↔◌, ◌⊎◌, ℕ, zero, suc, ◌+◌, ◌<◌, Bool, true, false, ◌&&◌, ◌||◌, List, [], ◌∷◌, length, map, get_or, ℤ, pos, ◌≤ℤ◌, if◌then◌else◌, sym, ap, ◌∙◌, arith, inl, inr, ⊎_elim, Contains}
 use Rattle.std.proofs.lemmas.Bool.{false≢true, both_ways, or_cases, or_left, or_right, and_from, and_parts, cases_lt, cases_eq}
 use Rattle.std.proofs.lemmas.Int.{ints}
 use Rattle.std.proofs.lemmas.List.{length-map, get_or-map}
 use Rattle.sfm_spec.specs.Sets.{Has, size, union, intersection, IsWithin}
 use Rattle.sfm_spec.specs.Families.{Meaning, AreTerms, IsMinimiser, IsLeast}
 use Rattle.sfm_spec.specs.Blocks.{Block, PullsAlong, IsFree, AreBlocks, Generate, IsClosedChoice, IsUnionOf, block_at, no_block}
-use Rattle.sfm_spec.proofs.Sets.{in_union, union_left, union_right, in_both, in_first, in_second, has_or_not, same_sets}
-use Rattle.sfm_spec.proofs.Sums.{length-union, length-intersection}
+use Rattle.sfm_spec.proofs.Sets.{in_union, union_left, union_right, in_both, in_first, has_or_not, same_sets}
+use Rattle.sfm_spec.proofs.Sums.{length-intersection}
 use Rattle.sfm_spec.proofs.Sizes.{size_grows, size_below_length, within_by_intersection}
 use Rattle.sfm_spec.proofs.Walks.{has_below}
 use Rattle.sfm_spec.proofs.Lattice.{minimisers_lattice, best_minimiser}
