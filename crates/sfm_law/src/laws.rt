@@ -1,11 +1,12 @@
 // Facts that hold of every term, by its meaning alone. The functions do nothing: each states a fact, and callers' proofs cite it.
-ghost use Rattle.std.specs.Prelude.{◌≡◌, List, ℕ, length, pos, neg_ℤ, ◌≤ℤ◌};
+ghost use Rattle.std.specs.Prelude.{◌≡◌, ◌≢◌, List, ℕ, ◌<◌, length, pos, neg_ℤ, ◌≤ℤ◌};
 ghost use Rattle.std.specs.List.{All};
 ghost use Rattle.sfm_spec.specs.Blocks.{Block, AreBlocks, Generate};
 ghost use Rattle.sfm_spec.specs.Families.{meanings, AreBases, ArePlaced, rest_at};
 ghost use Rattle.sfm_spec.specs.Chains.{ChainLaws};
 ghost use Rattle.sfm_spec.specs.Laws.{BaseLaws, MoveLaws};
-ghost use Rattle.sfm_spec.specs.Terms.{times, IsBase, TightLaws};
+ghost use Rattle.sfm_spec.specs.Rows.{LeastTight, RowLaws};
+ghost use Rattle.sfm_spec.specs.Terms.{times, exchanged, IsBase, TightLaws};
 ghost use Rattle.sfm_spec.specs.Walks.{Step, AllCanMove, IsShortest, last_of};
 
 use crate::term::Term;
@@ -76,4 +77,34 @@ pub fn blocks_generate<T: Term>(_terms: &[T], _n: usize, _q: i128, _shift: &[i12
     requires placed { ArePlaced _n (meanings T.places T.value_of _terms.now) }
     ensures { (blocks : List Block) → AreBlocks (meanings T.places T.value_of _terms.now) _n _q _shift.now blocks
         → Generate (meanings T.places T.value_of _terms.now) _n _q _shift.now blocks }
+{}
+
+/// At a base, what a place depends on is what all tight parts with the place have in common: the least tight part
+/// (Fujishige, Submodular Functions and Optimization, section 2).
+pub fn least_tight_parts<T: Term>(_term: &T, _q: i128, _x: &[i128])
+    requires factor { pos 0 ≤ℤ _q }
+    requires entries { length _x.now ≡ length (T.places _term.now) }
+    requires base { IsBase (times _q (T.value_of _term.now)) _x.now }
+    ensures { LeastTight (times _q (T.value_of _term.now)) _x.now }
+{}
+
+/// After an exchange that raises s and lowers t, which places depend on which, told by which did before (Fujishige,
+/// Submodular Functions and Optimization, section 4).
+pub fn rows_after_exchange<T: Term>(
+    _term: &T,
+    _q: i128,
+    _x: &[i128],
+    _s: usize,
+    _t: usize,
+    _a: i128,
+)
+    requires factor { pos 0 ≤ℤ _q }
+    requires entries { length _x.now ≡ length (T.places _term.now) }
+    requires base { IsBase (times _q (T.value_of _term.now)) _x.now }
+    requires apart { _s ≢ _t }
+    requires from { _s < length _x.now }
+    requires onto { _t < length _x.now }
+    requires amount { pos 1 ≤ℤ _a }
+    requires after { IsBase (times _q (T.value_of _term.now)) (exchanged _x.now _s _t _a) }
+    ensures { RowLaws (times _q (T.value_of _term.now)) _x.now _s _t _a }
 {}

@@ -21,6 +21,7 @@ pub mod Order
 pub mod MoveOrder
 pub mod Gain
 pub mod NewSteps
+pub mod RowLaw
 pub mod Labels
 pub mod Counts
 pub mod FewWalks

@@ -9,6 +9,7 @@ pub mod Laws
 pub mod Reach
 pub mod Labels
 pub mod Search
+pub mod Rows
 pub mod Bounds
 pub mod Chains
 pub mod Names
