@@ -4,7 +4,7 @@
 ghost use Rattle.std.specs.Prelude.{◌≡◌, ℕ, ◌<◌, length, map, pos, IfOk, slice_index};
 ghost use Rattle.std.specs.List.{All};
 ghost use Rattle.sfm_spec.specs.Bounds.{AreBounded, IsEntry};
-ghost use Rattle.sfm_spec.specs.Blocks.{AreBlocks};
+ghost use Rattle.sfm_spec.specs.Blocks.{AreBlocks, Generate};
 ghost use Rattle.sfm_spec.specs.Families.{meanings, even_shift, AreBases, Prove};
 ghost use Rattle.sfm_extreme.specs.Blocks.{block_of};
 ghost use Rattle.sfm_extreme.specs.Pulls.{AreGrouped, AreSquare, IsMembers, needs_upto};
@@ -25,9 +25,10 @@ pub struct Block {
     pub needs: Vec<usize>,
 }
 
-/// The blocks that generate the minimisers, from bases of the terms that prove the minimum: each minimiser is the least
-/// one with blocks that are taken together with all that they need (Fujishige, Submodular Functions and Optimization,
-/// section 3). They come by how many places are in a block and all that it needs, then by its first place.
+/// The blocks that generate the minimisers, from bases of the terms that prove the minimum: the minimisers are exactly
+/// the unions of the least one with blocks that are taken together with all that they need (Fujishige, Submodular
+/// Functions and Optimization, section 3). They come by how many places are in a block and all that it needs, then by
+/// its first place.
 ///
 /// # Errors
 ///
@@ -42,7 +43,8 @@ pub fn blocks<T: Term>(
     requires bases { AreBases (pos 1) (meanings T.places T.value_of terms.now) bases.now }
     requires small { All (λ x. All IsEntry x) bases.now }
     requires prove { Prove (meanings T.places T.value_of terms.now) n (pos 1) (even_shift n (pos 0)) bases.now }
-    ensures { IfOk result (λ r. AreBlocks (meanings T.places T.value_of terms.now) n (pos 1) (even_shift n (pos 0)) (map block_of r.items)) }
+    ensures exact { IfOk result (λ r. AreBlocks (meanings T.places T.value_of terms.now) n (pos 1) (even_shift n (pos 0)) (map block_of r.items)) }
+    ensures generate { IfOk result (λ r. Generate (meanings T.places T.value_of terms.now) n (pos 1) (even_shift n (pos 0)) (map block_of r.items)) }
 {
     let shift = vec![in alloc; 0i128; n]?;
     let z = rest_of(alloc, terms, &shift, bases)?;

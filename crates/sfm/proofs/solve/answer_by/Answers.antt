@@ -24,7 +24,7 @@ returns c =
     let h = c.requires in
     let entry : IsEntry c.args.found.value = subst IsEntry (sym h.value) (value_small n instance.terms c.args.found.least c.terms-terms.ensures.bounded h.least.minimiser.allowed) in
     let fits : FitsSigned w128 c.args.found.value = omega (arith, ints, entry) in
-    let blocks : AreBlocks (meanings_of instance.terms) n (pos 1) (even_shift n (pos 0)) (map block_of c.in_ok-blocks.blocks.items) = rw (c.terms-terms.ensures.terms, c.names_len-n.ensures.len) at c.in_ok-blocks.ensures in
+    let blocks : AreBlocks (meanings_of instance.terms) n (pos 1) (even_shift n (pos 0)) (map block_of c.in_ok-blocks.blocks.items) = rw (c.terms-terms.ensures.terms, c.names_len-n.ensures.len) at c.in_ok-blocks.ensures.exact in
     let found = c.in_ok-breaks.breaks.items in
     let a : Answer = record { value = c.args.found.value; least = c.args.found.least; greatest = c.args.found.greatest; blocks = map block_of c.in_ok-blocks.blocks.items; bases = c.args.optimum.bases; breaks = map break_of found } in
     let slopes : AreBreakpoints (meanings_of instance.terms) n (ones n) (map kept_mark found) = rw (c.terms-terms.ensures.terms, c.names_len-n.ensures.len) at c.in_ok-breaks.ensures.slopes in

@@ -76,7 +76,7 @@ first_wrong_line-requires-clause-blocks c =
     let ts = c.args.instance.now.terms in
     let n = length c.args.instance.now.names in
     let due = c.in_ok-due.due.items in
-    let are : AreBlocks (meanings kind_places kind_value ts) n (pos 1) (even_shift n (pos 0)) (map block_of due) = rw (c.terms.ensures.terms, c.names_len-n.ensures.len) at c.in_ok-due.ensures in
+    let are : AreBlocks (meanings kind_places kind_value ts) n (pos 1) (even_shift n (pos 0)) (map block_of due) = rw (c.terms.ensures.terms, c.names_len-n.ensures.len) at c.in_ok-due.ensures.exact in
     λ i l. rw c.deref.ensures.value (blocks_formed (meanings kind_places kind_value ts) n (pos 1) (even_shift n (pos 0)) (map block_of due) are i (let e = ap length c.deref.ensures.value in omega (arith, l, e, length-map due block_of)))
 
 pub returns-in-Some : goal.returns-in-Some
@@ -88,7 +88,7 @@ returns-in-Some c =
     let (marks, slopes) = all_slopes n ts c.terms.ensures.bounded in
     let told = c.requires.told.each 0 c.index-found-0.result (omega arith) in
     let here : IsToldOf (meanings kind_places kind_value ts) n (section_at a 0) c.index-found-0.result = subst (λ (z : Proved). IsToldOf (meanings kind_places kind_value ts) n (section_at a 0) z) (sym c.index-found-0.is) told in
-    let are : AreBlocks (meanings kind_places kind_value ts) n (pos 1) (even_shift n (pos 0)) (map block_of due) = rw (c.terms.ensures.terms, c.names_len-n.ensures.len) at c.in_ok-due.ensures in
+    let are : AreBlocks (meanings kind_places kind_value ts) n (pos 1) (even_shift n (pos 0)) (map block_of due) = rw (c.terms.ensures.terms, c.names_len-n.ensures.len) at c.in_ok-due.ensures.exact in
     let truth = true_due (meanings kind_places kind_value ts) n a c.index-found-0.result due marks here are slopes in
     found_wrong (form_of c.args.instance.now) (meanings kind_places kind_value ts) a (due_answer c.index-found-0.result due marks) c.in-Some.line truth (let w = c.first_wrong_line.ensures marks in rw (c.deref.ensures.value, c.in-Some.is) at w)
 
@@ -101,7 +101,7 @@ returns-in-Some-2 c =
     let (marks, slopes) = all_slopes n ts c.terms.ensures.bounded in
     let told = c.requires.told.each 0 c.index-found-0.result (omega arith) in
     let here : IsToldOf (meanings kind_places kind_value ts) n (section_at a 0) c.index-found-0.result = subst (λ (z : Proved). IsToldOf (meanings kind_places kind_value ts) n (section_at a 0) z) (sym c.index-found-0.is) told in
-    let are : AreBlocks (meanings kind_places kind_value ts) n (pos 1) (even_shift n (pos 0)) (map block_of due) = rw (c.terms.ensures.terms, c.names_len-n.ensures.len) at c.in_ok-due.ensures in
+    let are : AreBlocks (meanings kind_places kind_value ts) n (pos 1) (even_shift n (pos 0)) (map block_of due) = rw (c.terms.ensures.terms, c.names_len-n.ensures.len) at c.in_ok-due.ensures.exact in
     let truth = true_due (meanings kind_places kind_value ts) n a c.index-found-0.result due marks here are slopes in
     let same : SaysTheSame a (due_answer c.index-found-0.result due marks) = (let w = c.first_wrong_line.ensures marks in none_of _ _ c.first_wrong_line.result c.in_default.not-Some (rw c.deref.ensures.value at w)) in
     let w : IsFirstWrongSlope (meanings kind_places kind_value ts) n (map mark_of a.breaks) c.in-Some-2.k = rw c.in-Some-2.is at c.in_ok-k.ensures in
@@ -118,7 +118,7 @@ returns c =
     let (marks, slopes) = all_slopes n ts c.terms.ensures.bounded in
     let told = c.requires.told.each 0 c.index-found-0.result (omega arith) in
     let here : IsToldOf (meanings kind_places kind_value ts) n (section_at a 0) c.index-found-0.result = subst (λ (z : Proved). IsToldOf (meanings kind_places kind_value ts) n (section_at a 0) z) (sym c.index-found-0.is) told in
-    let are : AreBlocks (meanings kind_places kind_value ts) n (pos 1) (even_shift n (pos 0)) (map block_of due) = rw (c.terms.ensures.terms, c.names_len-n.ensures.len) at c.in_ok-due.ensures in
+    let are : AreBlocks (meanings kind_places kind_value ts) n (pos 1) (even_shift n (pos 0)) (map block_of due) = rw (c.terms.ensures.terms, c.names_len-n.ensures.len) at c.in_ok-due.ensures.exact in
     let truth = true_due (meanings kind_places kind_value ts) n a c.index-found-0.result due marks here are slopes in
     let same : SaysTheSame a (due_answer c.index-found-0.result due marks) = (let w = c.first_wrong_line.ensures marks in none_of _ _ c.first_wrong_line.result c.in_default.not-Some (rw c.deref.ensures.value at w)) in
     found_true (form_of c.args.instance.now) (meanings kind_places kind_value ts) a (due_answer c.index-found-0.result due marks) truth same (full_chain (meanings kind_places kind_value ts) n (fit n ts c.terms.ensures.bounded) (map mark_of a.breaks) (given_lowest (form_of c.args.instance.now) a c.requires.formed) (rw c.in-None.is at c.in_ok-k.ensures))

@@ -5,9 +5,10 @@ use Rattle.std.proofs.lemmas.List.Elements.{All-map}
 use Rattle.std.proofs.lemmas.Result.{IfOk-weaker}
 use Rattle.sfm_spec.specs.Sets.{empty_set}
 use Rattle.sfm_spec.specs.Bounds.{IsEntry}
-use Rattle.sfm_spec.specs.Blocks.{AreBlocks}
-use Rattle.sfm_spec.specs.Families.{meanings, AreTerms}
+use Rattle.sfm_spec.specs.Blocks.{AreBlocks, Generate}
+use Rattle.sfm_spec.specs.Families.{meanings, even_shift, AreTerms}
 use Rattle.sfm_spec.proofs.Duality.{meanings-terms}
+use Rattle.sfm_spec.proofs.Generated.{blocks_generate}
 use Rattle.sfm_spec.proofs.Walks.{bases-at}
 use Rattle.sfm_extreme.specs.Links.{AreLinks, link_at}
 use Rattle.sfm_extreme.specs.Pulls.{AreFirsts, AreGrouped, ArePullRows, IsBetween}
@@ -53,8 +54,8 @@ links_of-requires-clause-bounded g c =
     (m.bounded x (empty_set (length (t.places x))) (pos 0) (length-replicate (length (t.places x)) _) (m.submodular x).at_empty).1))
     c.requires.bounded.small
 
-pub returns : goal.returns
-returns g c =
+pub returns-clause-exact : goal.returns-clause-exact
+returns-clause-exact g c =
     let t = g.T.Term in
     let m = g.met.T.Term in
     let n = c.args.n in
@@ -76,3 +77,14 @@ returns g c =
     let grouped = IfOk-weaker c.grouped.result _ (λ r. AreBlocks ts n (pos 1) shift (map block_of r.items)) (λ r (h : AreGrouped c.in_ok-rows.rows.items c.in_ok-firsts.firsts.items (map block_of r.items)).
     blocks_are ts n (pos 1) shift mid c.in_ok-rows.rows.items told c.in_ok-firsts.firsts.items firsts (map block_of r.items) h) (rw (c.deref-4.ensures.value, c.deref-5.ensures.value) at c.grouped.ensures) in
     grouped
+
+pub returns-clause-generate : goal.returns-clause-generate
+returns-clause-generate g c =
+    let t = g.T.Term in
+    let m = g.met.T.Term in
+    let n = c.args.n in
+    let ts = meanings t.places t.value_of c.args.terms.now in
+    let fit : AreTerms n ts = meanings-terms n t.places t.value_of m.family m.submodular c.args.terms.now (placed-meanings n t.places t.value_of c.args.terms.now c.requires.bounded.placed) in
+    let low : pos 0 ≤ℤ pos 1 = omega (arith, ints) in
+    IfOk-weaker c.grouped.result _ (λ r. Generate ts n (pos 1) (even_shift n (pos 0)) (map block_of r.items)) (λ r (h : AreBlocks ts n (pos 1) (even_shift n (pos 0)) (map block_of r.items)).
+    blocks_generate ts n (pos 1) (even_shift n (pos 0)) low fit (map block_of r.items) h) (returns-clause-exact g c)
