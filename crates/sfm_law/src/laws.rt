@@ -4,6 +4,7 @@ ghost use Rattle.std.specs.List.{All};
 ghost use Rattle.sfm_spec.specs.Blocks.{Block, AreBlocks, Generate};
 ghost use Rattle.sfm_spec.specs.Families.{meanings, AreBases, ArePlaced, rest_at};
 ghost use Rattle.sfm_spec.specs.Chains.{ChainLaws};
+ghost use Rattle.sfm_spec.specs.Labels.{FewWalksLaws};
 ghost use Rattle.sfm_spec.specs.Laws.{BaseLaws, MoveLaws};
 ghost use Rattle.sfm_spec.specs.Rows.{LeastTight, RowLaws};
 ghost use Rattle.sfm_spec.specs.Terms.{times, exchanged, IsBase, TightLaws};
@@ -107,4 +108,14 @@ pub fn rows_after_exchange<T: Term>(
     requires amount { pos 1 ≤ℤ _a }
     requires after { IsBase (times _q (T.value_of _term.now)) (exchanged _x.now _s _t _a) }
     ensures { RowLaws (times _q (T.value_of _term.now)) _x.now _s _t _a }
+{}
+
+/// A move along a walk of least steps by the greatest amount lets no place's pair of distance and least step fall, and makes z
+/// zero at an end of the walk or raises the pair of a place on it. So such moves, one after the other, are few: never more
+/// than n + n (n + 1)(n m + 1), of n places and m terms.
+pub fn few_walks<T: Term>(_terms: &[T], _n: usize, _q: i128, _shift: &[i128], _rows: &Rows)
+    requires factor { pos 0 ≤ℤ _q }
+    requires placed { ArePlaced _n (meanings T.places T.value_of _terms.now) }
+    requires bases { AreBases _q (meanings T.places T.value_of _terms.now) _rows.now }
+    ensures { FewWalksLaws (meanings T.places T.value_of _terms.now) _n _q _shift.now _rows.now }
 {}

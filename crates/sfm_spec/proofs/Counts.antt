@@ -1,13 +1,9 @@
 -- Sums of whole numbers over the first places, by which walks are counted.
-use Rattle.std.proofs.Common.{◌≡◌, ◌⊎◌, ℕ, zero, suc, ◌+◌, ◌*◌, ◌<◌, ◌≤◌, ap, arith, inl, inr}
+use Rattle.std.proofs.Common.{◌≡◌, ◌⊎◌, ℕ, zero, suc, ◌+◌, ◌-◌, ◌*◌, ◌<◌, ◌≤◌, ap, arith, inl, inr}
 use Rattle.std.proofs.Math.Nat.{mul-le-mul_left}
 use Rattle.std.proofs.lemmas.Bool.{cases_lt}
 use Rattle.sfm_spec.specs.Labels.{code_of}
-
--- the sum of f at the first n places
-abbrev pub sum_below : ℕ → (ℕ → ℕ) → ℕ
-sum_below zero f = 0
-sum_below (suc n) f = f 0 + sum_below n (λ e. f (suc e))
+use Rattle.sfm_spec.specs.Progress.{sum_below, rank_of}
 
 -- no summand falls: the sum does not
 pub sum_below-le : (n : ℕ) (f g : ℕ → ℕ) → ((e : ℕ) → e < n → f e ≤ g e) → sum_below n f ≤ sum_below n g
@@ -36,6 +32,24 @@ sum_below-bound (suc n) f b h =
     let z = h 0 (omega arith) in
     omega (arith, r, z)
 
+-- d takes each of the first k numbers at one of the first n places: k is at most n
+pub few_values : (n k : ℕ) (d : ℕ → ℕ) → ((j : ℕ) → j < k → (e : ℕ) × (e < n) × (d e ≡ j)) → k ≤ n
+few_values n k d h =
+    let r = reach k h in
+    let b = sum_below-bound n (flag k) 1 (λ e le. omega arith) in
+    omega (arith, r, b) where
+      -- 1 where d is less than k
+      flag : ℕ → ℕ → ℕ
+      flag k e = (k - d e) - ((k - 1) - d e)
+
+      reach : (k : ℕ) → ((j : ℕ) → j < k → (e : ℕ) × (e < n) × (d e ≡ j)) → k ≤ sum_below n (flag k)
+      reach zero h = omega arith
+      reach (suc k) h =
+          let r = reach k (λ j l. h j (omega (arith, l))) in
+          let (e, le, is) = h k (omega arith) in
+          let s = sum_below-lt n (flag k) (flag (suc k)) e (λ e le. omega arith) le (omega (arith, is)) in
+          omega (arith, r, s)
+
 -- ---- a pair of numbers as one number
 
 -- of n places and m terms the code is less than n m
@@ -49,10 +63,6 @@ code_same m v i v' i' li li' e = at (cases_lt v v') (cases_lt v' v) where
   at (inl lt) o = let g = mul-le-mul_left m lt in absurd (omega (arith, g, li, li', e))
   at (inr ge) (inl lt) = let g = mul-le-mul_left m lt in absurd (omega (arith, g, li, li', e))
   at (inr ge) (inr le) = let same : v ≡ v' = omega arith in let f = ap (λ z. z * m) same in (same, omega (arith, e, f))
-
--- d and l as one number, where l is at most k: in the order of d, and at the same d in that of l
-abbrev pub rank_of : ℕ → ℕ → ℕ → ℕ
-rank_of k d l = d * k + l
 
 -- a greater d makes the number no smaller, whatever l is
 pub rank_rises : (k d l d' l' : ℕ) → d < d' → l ≤ k → rank_of k d l ≤ rank_of k d' l'

@@ -1,44 +1,45 @@
--- Few walks: each walk follows the least step of each of its places, and moves the greatest amount.
--- The pair of a place is its distance to the places with z > 0, and its least step among those that lower the distance. Then no
--- pair falls, and each move makes z zero at an end of the walk, or raises the pair of a place on it. So a sum rises at each move
--- that is never greater than n + n(n+1)nm, of n places and m terms.
-use Rattle.std.proofs.Common.{◌≡◌, ◌≢◌, ◌⊎◌, ℕ, zero, suc, ◌+◌, ◌*◌, ◌<◌, ◌≤◌, List, [], ◌∷◌, length, get_or, ℤ, pos, negsuc, neg_ℤ, ◌+ℤ◌, ◌-ℤ◌, ◌≤ℤ◌, ◌<ℤ◌, refl, sym, ap, subst, ◌∙◌, arith, inl, inr}
+-- Few walks: a move along a walk that meets some lower bounds on distances and on least steps leaves them lower bounds, and makes z
+-- zero at an end of the walk, or lets the bound on a step of it rise. So the potential of the bounds rises, and it is never greater
+-- than the number of few walks.
+use Rattle.std.proofs.Common.{◌≡◌, ◌≢◌, ◌⊎◌, ℕ, zero, suc, ◌+◌, ◌*◌, ◌<◌, ◌≤◌, List, [], ◌∷◌, length, get_or, nat_eq, ℤ, pos, negsuc, neg_ℤ, ◌+ℤ◌, ◌-ℤ◌, ◌≤ℤ◌, ◌<ℤ◌, if◌then◌else◌, refl, sym, ap, subst, ◌∙◌, arith, inl, inr}
 use Rattle.std.proofs.lemmas.Bool.{cases_lt, cases_eq, eq-eqb, ne_eqb}
 use Rattle.std.proofs.lemmas.Int.{ints}
 use Rattle.sfm_spec.specs.Terms.{times, IsBase, exchanged}
 use Rattle.sfm_spec.specs.Families.{Meaning, AreTerms, AreBases, rest_at}
-use Rattle.sfm_spec.specs.Walks.{Step, term_at, row_at, CanMove, IsStep, AreSteps, IsOver, AllCanMove, last_of}
-use Rattle.sfm_spec.specs.Labels.{AreLabels, FallsAlong, FollowsLabels, HasFull, IsLeastMove, code_of, step_code}
+use Rattle.sfm_spec.specs.Walks.{Step, term_at, row_at, CanMove, IsStep, AreSteps, IsOver, AllCanMove, last_of, few_walks}
+use Rattle.sfm_spec.specs.Labels.{FallsAlong, FollowsLabels, Passes, HasFull, code_of, step_code}
+use Rattle.sfm_spec.specs.Progress.{AreLowerBounds, IsMoveAtBounds, sum_below, rank_of, zero_flag, potential}
 use Rattle.sfm_spec.proofs.Walks.{terms-at, bases-at, first_below, step_below}
 use Rattle.sfm_spec.proofs.Order.{moved}
 use Rattle.sfm_spec.proofs.MoveOrder.{Follows, AtStep, follow, family, law, base, in_order, row_is_moved}
 use Rattle.sfm_spec.proofs.NewSteps.{IsLabelled, EachMove, IsMove, labels_kept_all, filled_gone}
-use Rattle.sfm_spec.proofs.Gain.{rest_moved, moves_along}
+use Rattle.sfm_spec.proofs.Gain.{rest_moved}
 use Rattle.sfm_spec.proofs.Labels.{falls_all, falls_within, walk_ends_below}
-use Rattle.sfm_spec.proofs.Counts.{sum_below, sum_below-lt, sum_below-bound, code_below, code_same, rank_of, rank_rises, rank_rises_more, rank_same, rank_same_more, rank_bound}
+use Rattle.sfm_spec.proofs.Counts.{sum_below-le, sum_below-lt, sum_below-bound, code_below, code_same, rank_bound}
 
 -- along a walk of least steps the distance falls by one at each step
 pub falls_along : (terms : List Meaning) (d l : ℕ → ℕ) (from : ℕ) (steps : List Step) → FollowsLabels terms d l from steps → FallsAlong d from steps
 falls_along terms d l from [] h = tt
 falls_along terms d l from (step ∷ steps) h = (h.0, falls_along terms d l step.to steps h.2)
 
--- the step stands on the walk
+-- the step stands on the walk, and begins at the place
 abbrev OnWalk : ℕ → List Step → ℕ → Step → Type 0
 OnWalk from [] at step = ⊥
 OnWalk from (s ∷ ss) at step = ((from ≡ at) × (s ≡ step)) ⊎ OnWalk s.to ss at step
 
--- 1 at zero
-abbrev pub zero_flag : ℤ → ℕ
-zero_flag (pos zero) = 1
-zero_flag (pos (suc k)) = 0
-zero_flag (negsuc k) = 0
+passes_on : (from : ℕ) (steps : List Step) (at : ℕ) (step : Step) → OnWalk from steps at step → Passes from steps at
+passes_on from [] at step on = on
+passes_on from (s ∷ ss) at step (inl (e, es)) = inl e
+passes_on from (s ∷ ss) at step (inr on) = inr (passes_on s.to ss at step on)
 
-flag_kept : (z w : ℤ) → (z ≡ pos 0 → w ≡ pos 0) → zero_flag z ≤ zero_flag w
+-- where z stays zero the flag does not fall
+pub flag_kept : (z w : ℤ) → (z ≡ pos 0 → w ≡ pos 0) → zero_flag z ≤ zero_flag w
 flag_kept (pos zero) w h = rw (h refl) (omega arith)
 flag_kept (pos (suc k)) w h = omega arith
 flag_kept (negsuc k) w h = omega arith
 
-flag_rises : (z w : ℤ) → z ≢ pos 0 → w ≡ pos 0 → zero_flag z < zero_flag w
+-- where z comes to be zero it rises
+pub flag_rises : (z w : ℤ) → z ≢ pos 0 → w ≡ pos 0 → zero_flag z < zero_flag w
 flag_rises (pos zero) w ne e = absurd (ne refl)
 flag_rises (pos (suc k)) w ne e = rw e (omega arith)
 flag_rises (negsuc k) w ne e = rw e (omega arith)
@@ -48,46 +49,36 @@ flag_bound (pos zero) = omega arith
 flag_bound (pos (suc k)) = omega arith
 flag_bound (negsuc k) = omega arith
 
--- what rises at each move: how many places have z = 0, and the pairs of all places
-abbrev pub potential : List Meaning → ℕ → List ℤ → List (List ℤ) → (ℕ → ℕ) → (ℕ → ℕ) → ℕ
-potential terms n shift rows d l = sum_below n (λ e. zero_flag (rest_at terms rows shift e) + rank_of (n * length terms) (d e) (l e))
+-- no summand falls: the potential does not
+pub potential-le : (terms : List Meaning) (n : ℕ) (shift : List ℤ) (rows : List (List ℤ)) (d l d' l' : ℕ → ℕ)
+    → ((e : ℕ) → e < n → rank_of (n * length terms + 1) (d e) (l e) ≤ rank_of (n * length terms + 1) (d' e) (l' e)) → potential terms n shift rows d l ≤ potential terms n shift rows d' l'
+unfolding potential
+potential-le terms n shift rows d l d' l' h =
+    sum_below-le n (λ e. zero_flag (rest_at terms rows shift e) + rank_of (n * length terms + 1) (d e) (l e)) (λ e. zero_flag (rest_at terms rows shift e) + rank_of (n * length terms + 1) (d' e) (l' e))
+    (λ e le. let r = h e le in omega (arith, r))
 
-module _ (terms : List Meaning) (rows : List (List ℤ)) (n : ℕ) (q : ℤ) (shift : List ℤ) (low : pos 0 ≤ℤ q) (fit : AreTerms n terms) (bases : AreBases q terms rows) (d l : ℕ → ℕ) where
-  module _ (labels : AreLabels terms n q rows (IsOver terms rows shift) d l) where
-    -- a least step is less than n m, and where there is none it is 0
-    label_small : (e : ℕ) → e < n → 1 ≤ d e → d e ≤ n → l e < n * length terms
-    label_small e le some few =
-        let (step, h, falls, code) = labels.best e le some few in
-        let c = code_below n (length terms) step.to step.term (step_below terms rows n q low fit bases e step h) h.2.in_range in
-        omega (arith, c, code)
+-- the potential of lower bounds is never greater than the number of few walks
+pub potential_bounded : (terms : List Meaning) (n : ℕ) (q : ℤ) (shift : List ℤ) (rows : List (List ℤ)) (IsLast : ℕ → Type 0) (d l : ℕ → ℕ) → AreLowerBounds terms n q rows IsLast d l
+    → potential terms n shift rows d l ≤ few_walks n (length terms)
+unfolding potential few_walks
+potential_bounded terms n q shift rows IsLast d l bounds =
+    let s = sum_below-bound n (λ e. zero_flag (rest_at terms rows shift e) + rank_of k (d e) (l e)) (1 + (n + 1) * k)
+    (λ e le. let f = flag_bound (rest_at terms rows shift e) in let r = rank_bounded e le (cases_lt n (d e)) in omega (arith, f, r)) in
+    omega (arith, s) where
+      k : ℕ
+      k = n * length terms + 1
 
-    label_bounded : (e : ℕ) → e < n → l e ≤ n * length terms
-    label_bounded e le = at (cases_lt 0 (d e)) (cases_lt n (d e)) where
-      at : (0 < d e) ⊎ (d e ≤ 0) → (n < d e) ⊎ (d e ≤ n) → l e ≤ n * length terms
-      at (inr zero') o = let z = labels.none e le (inl (omega arith)) in omega (arith, z)
-      at (inl some) (inl far) = let b = labels.distances.bounded e le in let z = labels.none e le (inr (omega (arith, b))) in omega (arith, z)
-      at (inl some) (inr near) = let s = label_small e le some near in omega (arith, s)
-
-    rank_bounded : (e : ℕ) → e < n → rank_of (n * length terms) (d e) (l e) ≤ (n + 1) * (n * length terms)
-    rank_bounded e le = at (cases_lt n (d e)) where
-      at : (n < d e) ⊎ (d e ≤ n) → rank_of (n * length terms) (d e) (l e) ≤ (n + 1) * (n * length terms)
-      at (inr near) = rank_bound (n * length terms) n (d e) (l e) near (label_bounded e le)
-      at (inl far) =
-          let b = labels.distances.bounded e le in
-          let is : d e ≡ n + 1 = omega (arith, b) in
-          let z = labels.none e le (inr is) in
-          let f = ap (λ y. y * (n * length terms)) is in
+      rank_bounded : (e : ℕ) → e < n → (n < d e) ⊎ (d e ≤ n) → rank_of k (d e) (l e) ≤ (n + 1) * k
+      rank_bounded e le (inr near) = rank_bound k n (d e) (l e) near (let c = bounds.codes e le in omega (arith, c))
+      rank_bounded e le (inl more) =
+          let b = bounds.bounded e le in
+          let is : d e ≡ n + 1 = omega (arith, b, more) in
+          let z = bounds.far e le is in
+          let f = ap (λ y. y * k) is in
           omega (arith, z, f)
 
-    -- the sum is never greater than n + n (n + 1) n m
-    pub potential_bounded : potential terms n shift rows d l ≤ n + n * ((n + 1) * (n * length terms))
-    potential_bounded =
-        let k : ℕ = (n + 1) * (n * length terms) in
-        let s = sum_below-bound n (λ e. zero_flag (rest_at terms rows shift e) + rank_of (n * length terms) (d e) (l e)) (1 + k)
-        (λ e le. let f = flag_bound (rest_at terms rows shift e) in let r = rank_bounded e le in omega (arith, f, r)) in
-        omega (arith, s)
-
-  module _ (after : List (List ℤ)) (move : IsLeastMove terms n q shift rows after d l) where
+module _ (terms : List Meaning) (rows : List (List ℤ)) (n : ℕ) (q : ℤ) (shift : List ℤ) (low : pos 0 ≤ℤ q) (fit : AreTerms n terms) (bases : AreBases q terms rows) (d l : ℕ → ℕ) where
+  module _ (after : List (List ℤ)) (move : IsMoveAtBounds terms n q shift rows after d l) where
     abbrev first : ℕ
     first = move.along.first
 
@@ -106,7 +97,7 @@ module _ (terms : List Meaning) (rows : List (List ℤ)) (n : ℕ) (q : ℤ) (sh
     few : (other : List Step) → AreSteps terms q rows first other → last_of first other ≡ last_of first steps → length steps ≤ length other
     few other fits same =
         let mine = falls_all d first steps (falls_along terms d l first steps move.follows) in
-        let theirs = falls_within terms q rows d move.labels.distances.falls first other fits in
+        let theirs = falls_within terms q rows d move.bounds.falls first other fits in
         let e = ap d same in
         omega (arith, mine, theirs, e)
 
@@ -126,7 +117,7 @@ module _ (terms : List Meaning) (rows : List (List ℤ)) (n : ℕ) (q : ℤ) (sh
       old_labels u v ku kv ne room =
           let step : Step = record { to = place v; term = i } in
           let h : IsStep terms q rows (place u) step = (room.0, room.1, record { in_range = li; u = u; v = v; u_in = rw (← sized) ku; v_in = rw (← sized) kv; begins = refl; ends = refl; apart = ne; base = room.2 }) in
-          (move.labels.distances.falls (place u) step h, move.labels.least (place u) step h)
+          (move.bounds.falls (place u) step h, move.bounds.least (place u) step h)
 
       each_labelled : (from : ℕ) (steps : List Step) (moves : List (ℕ × ℕ)) → Follows terms rows n q low fit bases a one i from steps moves → FollowsLabels terms d l from steps
           → EachMove (λ u v. (d (place u) ≡ d (place v) + 1) × (l (place u) ≡ code_of (length terms) (place v) i)) moves
@@ -207,7 +198,7 @@ module _ (terms : List Meaning) (rows : List (List ℤ)) (n : ℕ) (q : ℤ) (sh
     first_in = first_below terms rows n q low fit bases first steps move.along.shortest.shortest.walk
 
     last_in : last_of first steps < n
-    last_in = walk_ends_below terms rows n q low fit bases (IsOver terms rows shift) d move.labels.distances first steps move.along.shortest.shortest.walk
+    last_in = walk_ends_below terms rows n q low fit bases first steps move.along.shortest.shortest.walk
 
     at_first : rest_at terms after shift first ≡ (rest_at terms rows shift first +ℤ a)
     at_first =
@@ -243,143 +234,122 @@ module _ (terms : List Meaning) (rows : List (List ℤ)) (n : ℕ) (q : ℤ) (sh
       at (inr nf) (inl same) = let b = move.along.shortest.shortest.arrives in let z' : rest_at terms rows shift (last_of first steps) ≡ pos 0 = rw same z in absurd (omega (arith, ints, b, z'))
       at (inr nf) (inr nl) = at_other e nf nl ∙ z
 
-    bases_after_move : AreBases q terms after
-    bases_after_move = (moves_along terms rows n q shift low fit bases after move.along).0
+    -- the bounds are lower bounds still
+    pub bounds_after : AreLowerBounds terms n q after (IsOver terms after shift) d l
+    bounds_after = record {
+      lasts = λ e le over. move.bounds.lasts e le (over_before e over);
+      falls = λ from step h. (step_after from step h).0;
+      least = λ from step h. (step_after from step h).1;
+      bounded = move.bounds.bounded;
+      codes = move.bounds.codes;
+      far = move.bounds.far;
+    }
 
-    module _ (d' l' : ℕ → ℕ) (labels' : AreLabels terms n q after (IsOver terms after shift) d' l') where
-      distance_within : (k e : ℕ) → e < n → d' e ≡ k → k ≤ n → d e ≤ k
-      distance_within zero e le is kn = let z = move.labels.distances.lasts e le (over_before e (labels'.distances.at_last e le is)) in omega (arith, z)
-      distance_within (suc k) e le is kn = at (distance_within k) (labels'.distances.leads e le (omega (arith, is)) (omega (arith, is, kn))) where
-        at : ((e : ℕ) → e < n → d' e ≡ k → k ≤ n → d e ≤ k) → (step : Step) × IsStep terms q after e step × (d' e ≡ d' step.to + 1) → d e ≤ suc k
-        at next (step, h, falls) =
-            let lt = step_below terms after n q low fit bases_after_move e step h in
-            let r = next step.to lt (omega (arith, falls, is)) (omega (arith, kn)) in
-            let s = (step_after e step h).0 in
-            omega (arith, r, s)
+    flags : (e : ℕ) → zero_flag (rest_at terms rows shift e) ≤ zero_flag (rest_at terms after shift e)
+    flags e = flag_kept (rest_at terms rows shift e) (rest_at terms after shift e) (zero_kept e)
 
-      -- no distance falls
-      pub distance_kept : (e : ℕ) → e < n → d e ≤ d' e
-      distance_kept e le = at (cases_lt n (d' e)) where
-        at : (n < d' e) ⊎ (d' e ≤ n) → d e ≤ d' e
-        at (inl far) = let b = move.labels.distances.bounded e le in omega (arith, b, far)
-        at (inr near) = distance_within (d' e) e le refl near
+    -- no bound on a distance is greater on the walk than at its first place
+    near_walk : (from : ℕ) (steps : List Step) → FollowsLabels terms d l from steps → d from ≤ n → (at : ℕ) (step : Step) → OnWalk from steps at step → d at ≤ n
+    near_walk from [] h near at step on = absurd on
+    near_walk from (s ∷ ss) h near at step (inl (e, es)) = let q = ap d e in omega (arith, q, near)
+    near_walk from (s ∷ ss) h near at step (inr on) = near_walk s.to ss h.2 (let f = h.0 in omega (arith, f, near)) at step on
 
-      abbrev size_of_codes : ℕ
-      size_of_codes = n * length terms
+    -- a step of the walk begins at the place, and after the move there are bounds of which that on its least step is greater
+    abbrev Raised : Type 0
+    Raised = (at : ℕ) × Passes first steps at × (at < n) × (l' : ℕ → ℕ) × AreLowerBounds terms n q after (IsOver terms after shift) d l' × ((e : ℕ) → l e ≤ l' e) × (l at < l' at)
 
-      -- at the same distance the least step does not fall either
-      label_kept : (e : ℕ) → e < n → d e ≡ d' e → l e ≤ l' e
-      label_kept e le same = at (cases_lt 0 (d e)) (cases_lt n (d e)) where
-        at : (0 < d e) ⊎ (d e ≤ 0) → (n < d e) ⊎ (d e ≤ n) → l e ≤ l' e
-        at (inr zero') o = let z = move.labels.none e le (inl (omega arith)) in omega (arith, z)
-        at (inl some) (inl far) = let b = move.labels.distances.bounded e le in let z = move.labels.none e le (inr (omega (arith, b, far))) in omega (arith, z)
-        at (inl some) (inr near) =
-            let (step, h, falls, code) = labels'.best e le (omega (arith, same, some)) (omega (arith, same, near)) in
-            let lt = step_below terms after n q low fit bases_after_move e step h in
-            let k = distance_kept step.to lt in
-            let (s, t) = step_after e step h in
-            let u = t (omega (arith, k, s, same, falls)) in
-            omega (arith, u, code)
+    raised_at : (at : ℕ) (step : Step) → OnWalk first steps at step → CanMove terms q rows at step a → (CanMove terms q rows at step (a +ℤ pos 1) → ⊥) → l at ≡ step_code terms step → Raised
+    raised_at at step on c full' code = (at, passes_on first steps at step on, le, l', record { lasts = bounds_after.lasts; falls = bounds_after.falls; least = least; bounded = bounds_after.bounded; codes = codes; far = far }, up, let w = here in omega (arith, w)) where
+      h : IsStep terms q rows at step
+      h = (a, one, c)
 
-      -- so no pair falls
-      pub pair_kept : (e : ℕ) → e < n → rank_of (n * length terms) (d e) (l e) ≤ rank_of (n * length terms) (d' e) (l' e)
-      pair_kept e le = at (cases_lt (d e) (d' e)) where
-        at : (d e < d' e) ⊎ (d' e ≤ d e) → rank_of (n * length terms) (d e) (l e) ≤ rank_of (n * length terms) (d' e) (l' e)
-        at (inl less) = rank_rises (n * length terms) (d e) (l e) (d' e) (l' e) less (label_bounded move.labels e le)
-        at (inr ge) =
-            let k = distance_kept e le in
-            let same : d e ≡ d' e = omega (arith, k, ge) in
-            rank_same (n * length terms) (d e) (l e) (d' e) (l' e) same (label_kept e le same)
+      le : at < n
+      le = first_below terms rows n q low fit bases at (step ∷ []) (record { steps_exist = omega arith; steps_fit = (h, tt) })
 
-      -- the pair of the beginning of a full step rises
-      full_rises : (at : ℕ) (step : Step) → OnWalk first steps at step → CanMove terms q rows at step a → (CanMove terms q rows at step (a +ℤ pos 1) → ⊥) → d at ≡ d step.to + 1 → l at ≡ step_code terms step
-          → (at < n) × (rank_of (n * length terms) (d at) (l at) < rank_of (n * length terms) (d' at) (l' at))
-      full_rises at step on c full falls code = (le, by (cases_lt (d at) (d' at)) (cases_lt (l at) (l' at))) where
-        h : IsStep terms q rows at step
-        h = (a, one, c)
+      near : d at ≤ n
+      near = near_walk first steps move.follows move.near at step on
 
-        le : at < n
-        le = first_below terms rows n q low fit bases at (step ∷ []) (record { steps_exist = omega arith; steps_fit = (h, tt) })
+      l' : ℕ → ℕ
+      l' e = if nat_eq at e then l e + 1 else l e
 
-        near : d at ≤ n
-        near = at_most (cases_lt n (d at)) where
-          at_most : (n < d at) ⊎ (d at ≤ n) → d at ≤ n
-          at_most (inr k) = k
-          at_most (inl far) =
-              let b = move.labels.distances.bounded at le in
-              move.labels.distances.closed at step h (omega (arith, b, falls))
+      here : l' at ≡ l at + 1
+      here = rw (eq-eqb at at refl) refl
 
-        by : (d at < d' at) ⊎ (d' at ≤ d at) → (l at < l' at) ⊎ (l' at ≤ l at) → rank_of (n * length terms) (d at) (l at) < rank_of (n * length terms) (d' at) (l' at)
-        by (inl less) o = rank_rises_more (n * length terms) (d at) (l at) (d' at) (l' at) less (label_small move.labels at le (omega (arith, falls)) near)
-        by (inr ge) (inl less) = let k = distance_kept at le in rank_same_more (n * length terms) (d at) (l at) (d' at) (l' at) (omega (arith, k, ge)) less
-        by (inr ge) (inr more) = absurd (clash (labels'.best at le (omega (arith, same, falls)) (omega (arith, same, near)))) where
-          same : d at ≡ d' at
-          same = let k = distance_kept at le in omega (arith, k, ge)
+      other : (e : ℕ) → at ≢ e → l' e ≡ l e
+      other e ne = rw (ne_eqb at e ne) refl
 
-          clash : (step' : Step) × IsStep terms q after at step' × (d' at ≡ d' step'.to + 1) × (l' at ≡ step_code terms step') → ⊥
-          clash (step', h', falls', code') =
-              let k = label_kept at le same in
-              let equal : step_code terms step ≡ step_code terms step' = omega (arith, k, more, code, code') in
-              let (to, term) = code_same (length terms) step.to step.term step'.to step'.term c.in_range h'.2.in_range equal in
-              full_gone at step on c full (subst (λ z. IsStep terms q after at z) (step_is step' step to term) h') where
-                step_is : (r s : Step) → s.to ≡ r.to → s.term ≡ r.term → r ≡ s
-                step_is r s e f = sym (ap (λ z. record { to = z; term = s.term }) e ∙ ap (λ z. record { to = r.to; term = z }) f)
+      step_is : (r s : Step) → s.to ≡ r.to → s.term ≡ r.term → r ≡ s
+      step_is r s e f = sym (ap (λ z. record { to = z; term = s.term }) e ∙ ap (λ z. record { to = r.to; term = z }) f)
 
-      -- each move makes z zero at an end of the walk, or raises the pair of a place on it
-      pub move_progress : (e : ℕ) × (e < n) × ((zero_flag (rest_at terms rows shift e) + rank_of (n * length terms) (d e) (l e)) < (zero_flag (rest_at terms after shift e) + rank_of (n * length terms) (d' e) (l' e)))
-      move_progress = at move.full where
-        flags : (e : ℕ) → zero_flag (rest_at terms rows shift e) ≤ zero_flag (rest_at terms after shift e)
-        flags e = flag_kept (rest_at terms rows shift e) (rest_at terms after shift e) (zero_kept e)
+      -- any other step that lowers d has a greater code
+      later : (step' : Step) → IsStep terms q after at step' → d at ≡ d step'.to + 1 → l at + 1 ≤ step_code terms step'
+      later step' h' falls' = more (cases_lt (l at) (step_code terms step')) where
+        more : (l at < step_code terms step') ⊎ (step_code terms step' ≤ l at) → l at + 1 ≤ step_code terms step'
+        more (inl k) = omega (arith, k)
+        more (inr k) =
+            let s = (step_after at step' h').1 falls' in
+            let equal : step_code terms step ≡ step_code terms step' = omega (arith, k, s, code) in
+            let (to, term) = code_same (length terms) step.to step.term step'.to step'.term c.in_range h'.2.in_range equal in
+            absurd (full_gone at step on c full' (subst (λ z. IsStep terms q after at z) (step_is step' step to term) h'))
 
-        at : (a ≡ neg_ℤ (rest_at terms rows shift first)) ⊎ ((a ≡ rest_at terms rows shift (last_of first steps)) ⊎ HasFull terms q rows first steps a)
-            → (e : ℕ) × (e < n) × ((zero_flag (rest_at terms rows shift e) + rank_of (n * length terms) (d e) (l e)) < (zero_flag (rest_at terms after shift e) + rank_of (n * length terms) (d' e) (l' e)))
-        at (inl is) =
-            let b = move.along.shortest.below in
-            let r = at_first in
-            let f = flag_rises (rest_at terms rows shift first) (rest_at terms after shift first) (λ z. omega (arith, ints, b, z)) (omega (arith, ints, r, is)) in
-            let k = pair_kept first first_in in
-            (first, first_in, omega (arith, f, k))
-        at (inr (inl is)) =
-            let b = move.along.shortest.shortest.arrives in
-            let r = at_last_place in
-            let f = flag_rises (rest_at terms rows shift (last_of first steps)) (rest_at terms after shift (last_of first steps)) (λ z. omega (arith, ints, b, z)) (omega (arith, ints, r, is)) in
-            let k = pair_kept (last_of first steps) last_in in
-            (last_of first steps, last_in, omega (arith, f, k))
-        at (inr (inr full)) =
-            let (e, step, on, c, full', falls, code) = full_step first steps can move.follows full in
-            let (le, rises) = full_rises e step on c full' falls code in
-            let f = flags e in
-            (e, le, omega (arith, f, rises))
+      up : (e : ℕ) → l e ≤ l' e
+      up e = by_place (cases_eq at e) where
+        by_place : (at ≡ e) ⊎ (at ≢ e) → l e ≤ l' e
+        by_place (inl same) = rw (← same) (let k = here in omega (arith, k))
+        by_place (inr ne) = let k = other e ne in omega (arith, k)
 
-      -- so the sum rises
-      pub potential_rises : potential terms n shift rows d l < potential terms n shift after d' l'
-      potential_rises =
-          let (e, le, rises) = move_progress in
-          sum_below-lt n (λ e. zero_flag (rest_at terms rows shift e) + rank_of (n * length terms) (d e) (l e)) (λ e. zero_flag (rest_at terms after shift e) + rank_of (n * length terms) (d' e) (l' e)) e
-          (λ e le. let f = flag_kept (rest_at terms rows shift e) (rest_at terms after shift e) (zero_kept e) in let k = pair_kept e le in omega (arith, f, k)) le rises
+      least : (from : ℕ) (s : Step) → IsStep terms q after from s → d from ≡ d s.to + 1 → l' from ≤ step_code terms s
+      least from s k f = by_place (cases_eq at from) where
+        by_place : (at ≡ from) ⊎ (at ≢ from) → l' from ≤ step_code terms s
+        by_place (inl same) = let P : ℕ → Type 0 = λ z. IsStep terms q after z s → d z ≡ d s.to + 1 → l' z ≤ step_code terms s in subst P same (λ k f. let m = later s k f in let w = here in omega (arith, m, w)) k f
+        by_place (inr ne) = let w = other from ne in let m = (step_after from s k).1 f in omega (arith, w, m)
 
--- ---- counting moves
+      codes : (e : ℕ) → e < n → l' e ≤ n * length terms
+      codes e k = by_place (cases_eq at e) where
+        by_place : (at ≡ e) ⊎ (at ≢ e) → l' e ≤ n * length terms
+        by_place (inl same) =
+            let to_in = step_below terms rows n q low fit bases at step h in
+            let b = code_below n (length terms) step.to step.term to_in c.in_range in
+            rw (← same) (let w = here in omega (arith, b, w, code))
+        by_place (inr ne) = let w = other e ne in let m = move.bounds.codes e k in omega (arith, w, m)
 
--- so many moves of least steps can have led to the rows
-abbrev pub CountsWithin : List Meaning → ℕ → ℤ → List ℤ → List (List ℤ) → ℕ → Type 0
-CountsWithin terms n q shift rows t = (d l : ℕ → ℕ) → AreLabels terms n q rows (IsOver terms rows shift) d l → t ≤ potential terms n shift rows d l
+      far : (e : ℕ) → e < n → d e ≡ n + 1 → l' e ≡ 0
+      far e k f = by_place (cases_eq at e) where
+        by_place : (at ≡ e) ⊎ (at ≢ e) → l' e ≡ 0
+        by_place (inl same) = let g = ap d same in absurd (omega (arith, g, f, near))
+        by_place (inr ne) = other e ne ∙ move.bounds.far e k f
 
--- no move leads from the first rows to themselves
-pub counts_none : (terms : List Meaning) (n : ℕ) (q : ℤ) (shift : List ℤ) (rows : List (List ℤ)) → CountsWithin terms n q shift rows 0
-counts_none terms n q shift rows d l labels = omega arith
+    -- the move makes z zero at an end of the walk, or it is so
+    pub zero_or_raised : (rest_at terms after shift first ≡ pos 0) ⊎ ((rest_at terms after shift (last_of first steps) ≡ pos 0) ⊎ Raised)
+    zero_or_raised = at move.full where
+      at : (a ≡ neg_ℤ (rest_at terms rows shift first)) ⊎ ((a ≡ rest_at terms rows shift (last_of first steps)) ⊎ HasFull terms q rows first steps a)
+          → (rest_at terms after shift first ≡ pos 0) ⊎ ((rest_at terms after shift (last_of first steps) ≡ pos 0) ⊎ Raised)
+      at (inl is) = let r = at_first in inl (omega (arith, ints, r, is))
+      at (inr (inl is)) = let r = at_last_place in inr (inl (omega (arith, ints, r, is)))
+      at (inr (inr full)) =
+          let (at, step, on, c, full', falls, code) = full_step first steps can move.follows full in
+          inr (inr (raised_at at step on c full' code))
 
--- one move more
-pub counts_more : (terms : List Meaning) (rows : List (List ℤ)) (n : ℕ) (q : ℤ) (shift : List ℤ) → pos 0 ≤ℤ q → AreTerms n terms → AreBases q terms rows → (after : List (List ℤ)) (d l : ℕ → ℕ) (t : ℕ)
-    → CountsWithin terms n q shift rows t → IsLeastMove terms n q shift rows after d l → CountsWithin terms n q shift after (t + 1)
-counts_more terms rows n q shift low fit bases after d l t h move d' l' labels' =
-    let r = potential_rises terms rows n q shift low fit bases d l after move d' l' labels' in
-    let k = h d l move.labels in
-    omega (arith, r, k)
+    -- so there are bounds of a greater potential
+    pub bounds_rise : (l' : ℕ → ℕ) × AreLowerBounds terms n q after (IsOver terms after shift) d l' × (potential terms n shift rows d l < potential terms n shift after d l')
+    unfolding potential
+    bounds_rise = at zero_or_raised where
+      Rises : (ℕ → ℕ) → Type 0
+      Rises l' = sum_below n (λ e. zero_flag (rest_at terms rows shift e) + rank_of (n * length terms + 1) (d e) (l e)) < sum_below n (λ e. zero_flag (rest_at terms after shift e) + rank_of (n * length terms + 1) (d e) (l' e))
 
--- there are at most n + n (n + 1) n m of them
-pub counts_bound : (terms : List Meaning) (rows : List (List ℤ)) (n : ℕ) (q : ℤ) (shift : List ℤ) → pos 0 ≤ℤ q → AreTerms n terms → AreBases q terms rows → (d l : ℕ → ℕ) (t : ℕ)
-    → CountsWithin terms n q shift rows t → AreLabels terms n q rows (IsOver terms rows shift) d l → t ≤ n + n * ((n + 1) * (n * length terms))
-counts_bound terms rows n q shift low fit bases d l t h labels =
-    let k = h d l labels in
-    let b = potential_bounded terms rows n q shift low fit bases d l labels in
-    omega (arith, k, b)
+      rises_at : (l' : ℕ → ℕ) (e : ℕ) → ((e : ℕ) → l e ≤ l' e) → e < n → zero_flag (rest_at terms rows shift e) + l e < zero_flag (rest_at terms after shift e) + l' e → Rises l'
+      rises_at l' e up le less =
+          sum_below-lt n (λ e. zero_flag (rest_at terms rows shift e) + rank_of (n * length terms + 1) (d e) (l e)) (λ e. zero_flag (rest_at terms after shift e) + rank_of (n * length terms + 1) (d e) (l' e)) e
+          (λ e le. let f = flags e in let u = up e in omega (arith, f, u)) le (omega (arith, less))
+
+      at : (rest_at terms after shift first ≡ pos 0) ⊎ ((rest_at terms after shift (last_of first steps) ≡ pos 0) ⊎ Raised)
+          → (l' : ℕ → ℕ) × AreLowerBounds terms n q after (IsOver terms after shift) d l' × Rises l'
+      at (inl is) =
+          let b = move.along.shortest.below in
+          let f = flag_rises (rest_at terms rows shift first) (rest_at terms after shift first) (λ z. omega (arith, ints, b, z)) is in
+          (l, bounds_after, rises_at l first (λ e. omega arith) first_in (omega (arith, f)))
+      at (inr (inl is)) =
+          let b = move.along.shortest.shortest.arrives in
+          let f = flag_rises (rest_at terms rows shift (last_of first steps)) (rest_at terms after shift (last_of first steps)) (λ z. omega (arith, ints, b, z)) is in
+          (l, bounds_after, rises_at l (last_of first steps) (λ e. omega arith) last_in (omega (arith, f)))
+      at (inr (inr (e, on, le, l', bounds', up, less))) = (l', bounds', rises_at l' e up le (let f = flags e in omega (arith, f, less)))

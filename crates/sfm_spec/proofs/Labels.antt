@@ -21,8 +21,9 @@ pub falls_within : (terms : List Meaning) (q : ℤ) (rows : List (List ℤ)) (d 
 falls_within terms q rows d falls from [] h = omega arith
 falls_within terms q rows d falls from (step ∷ steps) h = let r = falls_within terms q rows d falls step.to steps h.1 in let e = falls from step h.0 in omega (arith, r, e)
 
-module _ (terms : List Meaning) (rows : List (List ℤ)) (n : ℕ) (q : ℤ) (low : pos 0 ≤ℤ q) (fit : AreTerms n terms) (bases : AreBases q terms rows) (IsLast : ℕ → Type 0) (d : ℕ → ℕ) (distances : AreDistances terms n q rows IsLast d) where
-  steps_end_below : (at : ℕ) (steps : List Step) → at < n → AreSteps terms q rows at steps → last_of at steps < n
+module _ (terms : List Meaning) (rows : List (List ℤ)) (n : ℕ) (q : ℤ) (low : pos 0 ≤ℤ q) (fit : AreTerms n terms) (bases : AreBases q terms rows) where
+  -- steps from a place of the ground end at one
+  pub steps_end_below : (at : ℕ) (steps : List Step) → at < n → AreSteps terms q rows at steps → last_of at steps < n
   steps_end_below at [] l h = l
   steps_end_below at (s ∷ ss) l h = steps_end_below s.to ss (step_below terms rows n q low fit bases at s h.0) h.1
 
@@ -30,6 +31,7 @@ module _ (terms : List Meaning) (rows : List (List ℤ)) (n : ℕ) (q : ℤ) (lo
   pub walk_ends_below : (from : ℕ) (steps : List Step) → IsWalk terms q rows from steps → last_of from steps < n
   walk_ends_below from steps h = steps_end_below from steps (first_below terms rows n q low fit bases from steps h) h.steps_fit
 
+module _ (terms : List Meaning) (rows : List (List ℤ)) (n : ℕ) (q : ℤ) (low : pos 0 ≤ℤ q) (fit : AreTerms n terms) (bases : AreBases q terms rows) (IsLast : ℕ → Type 0) (d : ℕ → ℕ) (distances : AreDistances terms n q rows IsLast d) where
   -- a walk to a last place along which d falls by one at each step is a shortest one
   pub shortest_by_distances : (first : ℕ) (steps : List Step) → IsWalk terms q rows first steps → FallsAlong d first steps → IsLast (last_of first steps) → IsShortestTo terms q rows IsLast first steps
   shortest_by_distances first steps walk falls arrives = record { walk = walk; arrives = arrives; fewest = fewest } where
@@ -37,7 +39,7 @@ module _ (terms : List Meaning) (rows : List (List ℤ)) (n : ℕ) (q : ℤ) (lo
     fewest other walk' arrives' =
         let mine = falls_all d first steps falls in
         let theirs = falls_within terms q rows d distances.falls first other walk'.steps_fit in
-        let ends = distances.lasts (last_of first other) (walk_ends_below first other walk') arrives' in
+        let ends = distances.lasts (last_of first other) (walk_ends_below terms rows n q low fit bases first other walk') arrives' in
         omega (arith, mine, theirs, ends)
 
   leads_at : (fuel : ℕ) (e : ℕ) → e < n → d e ≤ n → d e ≤ fuel → Leads terms q rows IsLast e

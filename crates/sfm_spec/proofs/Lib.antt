@@ -26,6 +26,8 @@ pub mod Labels
 pub mod Counts
 pub mod FewWalks
 pub mod Moves
+pub mod LeastWalks
+pub mod LeastMoves
 pub mod Capacity
 pub mod Pulls
 pub mod Generated

@@ -1,7 +1,7 @@
 -- Distances to the last places, the least step of each place, and the moves along walks of least steps.
-use Rattle.std.specs.Prelude.{◌≡◌, ◌⊎◌, ℕ, ◌+◌, ◌*◌, ◌<◌, ◌≤◌, List, [], ◌∷◌, length, ℤ, pos, neg_ℤ, ◌+ℤ◌}
+use Rattle.std.specs.Prelude.{◌≡◌, ◌⊎◌, ℕ, zero, suc, ◌+◌, ◌*◌, ◌<◌, ◌≤◌, List, [], ◌∷◌, length, ℤ, pos, neg_ℤ, ◌+ℤ◌}
 use Rattle.sfm_spec.specs.Families.{Meaning, rest_at}
-use Rattle.sfm_spec.specs.Walks.{Step, CanMove, IsStep, IsOver, MovesAlong, last_of}
+use Rattle.sfm_spec.specs.Walks.{Step, CanMove, IsStep, IsOver, MovesAlong, last_of, few_walks}
 
 -- d tells how many steps lead from each place to a last one, and n + 1 where none do
 pub record AreDistances (terms : List Meaning) (n : ℕ) (q : ℤ) (rows : List (List ℤ)) (IsLast : ℕ → Type 0) (d : ℕ → ℕ) : Type 0 where
@@ -48,3 +48,33 @@ pub record IsLeastMove (terms : List Meaning) (n : ℕ) (q : ℤ) (shift : List 
   pub along : MovesAlong terms q shift rows after
   pub follows : FollowsLabels terms d l along.first along.steps
   pub full : (along.a ≡ neg_ℤ (rest_at terms rows shift along.first)) ⊎ ((along.a ≡ rest_at terms rows shift (last_of along.first along.steps)) ⊎ HasFull terms q rows along.first along.steps along.a)
+
+-- t such moves, one after the other, lead from the rows to the last ones
+abbrev pub IsLeastChain : List Meaning → ℕ → ℤ → List ℤ → ℕ → List (List ℤ) → List (List ℤ) → Type 0
+IsLeastChain terms n q shift zero rows last = last ≡ rows
+IsLeastChain terms n q shift (suc t) rows last =
+    (mid : List (List ℤ)) × (d : ℕ → ℕ) × (l : ℕ → ℕ) × IsLeastMove terms n q shift rows mid d l × IsLeastChain terms n q shift t mid last
+
+-- a step of the walk begins at the place
+abbrev pub Passes : ℕ → List Step → ℕ → Type 0
+Passes from [] e = ⊥
+Passes from (step ∷ steps) e = (from ≡ e) ⊎ Passes step.to steps e
+
+-- a pair of a distance and a least step is at most another: by the distance, and at the same distance by the step
+abbrev pub IsPairUpTo : ℕ → ℕ → ℕ → ℕ → Type 0
+IsPairUpTo d l d' l' = (d < d') ⊎ ((d ≡ d') × (l ≤ l'))
+
+-- and it is less than another
+abbrev pub IsPairBelow : ℕ → ℕ → ℕ → ℕ → Type 0
+IsPairBelow d l d' l' = (d < d') ⊎ ((d ≡ d') × (l < l'))
+
+-- few walks: a move along a walk of least steps, by the greatest amount, lets no place's pair of distance and least step fall; it makes z
+-- zero at an end of the walk, or the pair of a place on it rises; and there are never more such moves, one after the other, than the
+-- number of few walks
+pub record FewWalksLaws (terms : List Meaning) (n : ℕ) (q : ℤ) (shift : List ℤ) (rows : List (List ℤ)) : Type 0 where
+  pub kept : (after : List (List ℤ)) (d l d' l' : ℕ → ℕ) → IsLeastMove terms n q shift rows after d l → AreLabels terms n q after (IsOver terms after shift) d' l'
+      → (e : ℕ) → e < n → IsPairUpTo (d e) (l e) (d' e) (l' e)
+  pub raised : (after : List (List ℤ)) (d l d' l' : ℕ → ℕ) (move : IsLeastMove terms n q shift rows after d l) → AreLabels terms n q after (IsOver terms after shift) d' l'
+      → (rest_at terms after shift move.along.first ≡ pos 0) ⊎ ((rest_at terms after shift (last_of move.along.first move.along.steps) ≡ pos 0)
+      ⊎ ((e : ℕ) × Passes move.along.first move.along.steps e × IsPairBelow (d e) (l e) (d' e) (l' e)))
+  pub few : (t : ℕ) (last : List (List ℤ)) → IsLeastChain terms n q shift t rows last → t ≤ few_walks n (length terms)

@@ -8,6 +8,7 @@ pub mod Walks
 pub mod Laws
 pub mod Reach
 pub mod Labels
+pub mod Progress
 pub mod Search
 pub mod Rows
 pub mod Bounds

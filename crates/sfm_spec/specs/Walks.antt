@@ -1,6 +1,6 @@
 -- Walks of exchanges, and what moving along one does to the bases.
 -- Textbook: Fujishige, Submodular Functions and Optimization, section 4 (exchange capacities, auxiliary networks).
-use Rattle.std.specs.Prelude.{◌≡◌, ◌≢◌, ℕ, zero, suc, ◌<◌, ◌≤◌, List, [], ◌∷◌, None, length, slice_index_or, nat_eq, ℤ, pos, neg_ℤ, ◌+ℤ◌, ◌-ℤ◌, ◌≤ℤ◌, ◌<ℤ◌, if◌then◌else◌}
+use Rattle.std.specs.Prelude.{◌≡◌, ◌≢◌, ℕ, zero, suc, ◌+◌, ◌*◌, ◌<◌, ◌≤◌, List, [], ◌∷◌, None, length, slice_index_or, nat_eq, ℤ, pos, neg_ℤ, ◌+ℤ◌, ◌-ℤ◌, ◌≤ℤ◌, ◌<ℤ◌, if◌then◌else◌}
 use Rattle.sfm_spec.specs.Terms.{times, IsBase, exchanged}
 use Rattle.sfm_spec.specs.Families.{Meaning, rest_at}
 
@@ -108,3 +108,11 @@ pub record MovesAlong (terms : List Meaning) (q : ℤ) (shift : List ℤ) (rows 
 abbrev pub IsWalkChain : List Meaning → ℤ → List ℤ → ℕ → List (List ℤ) → List (List ℤ) → Type 0
 IsWalkChain terms q shift zero rows last = last ≡ rows
 IsWalkChain terms q shift (suc t) rows last = (mid : List (List ℤ)) × MovesAlong terms q shift rows mid × IsWalkChain terms q shift t mid last
+
+-- the most walks that a minimisation over n elements and m terms takes: n + n (n + 1) (n m + 1)
+unfoldable pub few_walks : ℕ → ℕ → ℕ
+few_walks n m = n + n * (n + 1) * (n * m + 1)
+
+-- so few walk moves, or fewer, one after the other, lead from the first bases to the bases
+abbrev pub IsFewWalks : List Meaning → ℕ → ℤ → List ℤ → List (List ℤ) → List (List ℤ) → Type 0
+IsFewWalks terms n q shift firsts bases = (t : ℕ) × (t ≤ few_walks n (length terms)) × IsWalkChain terms q shift t firsts bases

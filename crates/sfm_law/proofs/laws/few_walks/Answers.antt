@@ -1,0 +1,11 @@
+use Rattle.sfm_spec.proofs.Duality.{meanings-terms}
+use Rattle.sfm_spec.proofs.LeastMoves.{few_walks_laws}
+use Rattle.sfm_law.proofs.laws.few_walks.Goals as goal
+
+pub returns : goal.returns
+returns g c =
+    let t = g.T.Term in
+    let m = g.met.T.Term in
+    let r = c.requires in
+    let fit = meanings-terms c.args._n t.places t.value_of m.family m.submodular c.args._terms.now r.placed in
+    few_walks_laws _ c.args._n c.args._q c.args._shift.now r.factor fit c.args._rows.now r.bases
