@@ -1,6 +1,6 @@
 #!/usr/bin/env python3
-"""Writes instances, runs `PROGRAM solve` on each some times, and prints the least times: of the processor for the program itself
-(user), and by the clock."""
+"""Writes instances, runs `PROGRAM solve` on each some times, and prints the least times: of the processor (user and system
+added), and by the clock."""
 import argparse
 import math
 import os
@@ -151,7 +151,7 @@ def write_instance(path, kind, size, seed):
 
 
 def solve(program, path, answer, limit):
-    """Runs the program, and gives its user time and its time by the clock in seconds, and its exit code or None past the limit."""
+    """Runs the program, and gives its time of the processor and by the clock in seconds, and its exit code, None past the limit."""
     with open(answer, "wb") as out:
         start = time.perf_counter()
         process = subprocess.Popen([program, "solve", path], stdout=out)
@@ -161,7 +161,7 @@ def solve(program, path, answer, limit):
         seconds = time.perf_counter() - start
         timer.cancel()
         process.returncode = os.waitstatus_to_exitcode(status)
-    return usage.ru_utime, seconds, None if seconds >= limit else process.returncode
+    return usage.ru_utime + usage.ru_stime, seconds, None if seconds >= limit else process.returncode
 
 
 def check(program, path, answer):
@@ -195,10 +195,10 @@ def measure(options, folder, kind, size):
     program = os.path.abspath(options.program)
     runs = [solve(program, path, answer, options.limit) for _ in range(options.runs)]
     codes = [code for _, _, code in runs if code != 0]
-    user, seconds = (f"{min(run[place] for run in runs):.4f}" for place in (0, 1))
+    processor, seconds = (f"{min(run[place] for run in runs):.4f}" for place in (0, 1))
     if codes:
-        user, seconds = "", f"over {options.limit:g}" if codes[0] is None else f"exit {codes[0]}"
-    print(f"| {kind} | {size} | {terms} | {user} | {seconds} | {os.path.getsize(answer)} |", flush=True)
+        processor, seconds = "", f"over {options.limit:g}" if codes[0] is None else f"exit {codes[0]}"
+    print(f"| {kind} | {size} | {terms} | {processor} | {seconds} | {os.path.getsize(answer)} |", flush=True)
     verdict = check(program, path, answer) if options.check and not codes else "valid"
     if verdict != "valid":
         print(f"{kind} {size}: {verdict}", file=sys.stderr, flush=True)
@@ -207,7 +207,7 @@ def measure(options, folder, kind, size):
 
 def main():
     options = parse_words()
-    print(f"| Instance, seed {options.seed} | Elements | Terms | User seconds | By the clock | Answer in bytes |")
+    print(f"| Instance, seed {options.seed} | Elements | Terms | Processor seconds | By the clock | Answer in bytes |")
     print("|---|---|---|---|---|---|")
     with tempfile.TemporaryDirectory() as temporary:
         folder = options.keep or temporary
