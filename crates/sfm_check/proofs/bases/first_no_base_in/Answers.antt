@@ -23,7 +23,7 @@ returns-then-not-branch c =
     let m = meanings-at kind_places kind_value ts i c.index-terms-i.result c.loop-i-test.true c.index-terms-i.is in
     let count = length-meanings kind_places kind_value ts in
     let before : (j : ℕ) → j < i → IsBase (times c.args.q (term_at (meanings kind_places kind_value ts) j).value) (row_at c.args.rows.now j) = simp to_z-of_z at c.loop-i.invariant in
-    let told = simp to_z-of_z at (c.in_ok-is_base.ensures) in
+    let told = simp to_z-of_z at c.in_ok-is_base.ensures.told in
     record {
       is_term = let l = c.loop-i-test.true in omega (arith, l, count);
       no_base = λ b.
@@ -38,7 +38,7 @@ loop-i-preserved c = λ j l.
     let ts = c.args.terms.now in
     let q = to_z w128 (of_z w128 c.args.q) in
     let m = meanings-at kind_places kind_value ts i c.index-terms-i.result c.loop-i-test.true c.index-terms-i.is in
-    let here = c.in_ok-is_base.ensures.0 c.if-not-branch.false in
+    let here = c.in_ok-is_base.ensures.told.0 c.if-not-branch.false in
     let here' : IsBase (times q (kind_value c.index-terms-i.result)) (row_at c.args.rows.now i) = subst (λ (x : List ℤ). IsBase (times q (kind_value c.index-terms-i.result)) x) c.row.ensures here in
     let at : IsBase (times q (term_at (meanings kind_places kind_value ts) i).value) (row_at c.args.rows.now i) = subst (λ (z : Meaning). IsBase (times q z.value) (row_at c.args.rows.now i)) (sym m) here' in
     ⊎_elim
