@@ -1,9 +1,9 @@
 -- Moves along walks of least steps, by distances and least steps themselves: they are lower bounds, and no lower bounds are greater.
-use Rattle.std.proofs.Common.{◌≡◌, ◌⊎◌, ℕ, zero, suc, ◌+◌, ◌*◌, ◌<◌, ◌≤◌, List, [], ◌∷◌, length, ℤ, pos, ◌≤ℤ◌, refl, sym, ◌∙◌, subst, add-zero, arith, inl, inr}
+use Rattle.std.proofs.Common.{◌≡◌, ◌⊎◌, ℕ, zero, suc, ◌+◌, ◌*◌, ◌<◌, ◌≤◌, List, [], ◌∷◌, length, ℤ, pos, ◌≤ℤ◌, refl, subst, add-zero, arith, inl, inr}
 use Rattle.std.proofs.lemmas.Bool.{cases_lt}
 use Rattle.sfm_spec.specs.Families.{Meaning, AreTerms, AreBases, rest_at}
-use Rattle.sfm_spec.specs.Walks.{Step, IsStep, AreSteps, IsOver, few_walks, last_of}
-use Rattle.sfm_spec.specs.Labels.{AreDistances, AreLabels, FallsAlong, FollowsLabels, IsLeastMove, IsLeastChain, IsPairUpTo, IsPairBelow, Passes, FewWalksLaws, step_code}
+use Rattle.sfm_spec.specs.Walks.{Step, IsStep, AreSteps, IsOver, last_of}
+use Rattle.sfm_spec.specs.Labels.{AreLabels, FollowsLabels, IsLeastMove, IsLeastChain, IsPairUpTo, IsPairBelow, Passes, FewWalksLaws, step_code}
 use Rattle.sfm_spec.specs.Progress.{AreLowerBounds, IsMoveAtBounds, TakesLeastSteps, IsProgress, IsCountedChain}
 use Rattle.sfm_spec.proofs.Walks.{first_below, step_below}
 use Rattle.sfm_spec.proofs.Gain.{moves_along}

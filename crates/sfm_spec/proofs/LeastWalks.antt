@@ -1,7 +1,7 @@
 -- A walk of least steps: each lowers the distance by one, and none that does so has a lesser code. Whatever lower bounds there are,
 -- they can be raised so that the walk meets them, and that lowers no potential. So a move along the walk is progress, and moves are
 -- counted by their bounds.
-use Rattle.std.proofs.Common.{◌≡◌, ◌≢◌, ◌⊎◌, ℕ, zero, suc, ◌+◌, ◌*◌, ◌^◌, ◌<◌, ◌≤◌, min, max, List, [], ◌∷◌, length, nat_eq, ℤ, pos, neg_ℤ, ◌≤ℤ◌, if◌then◌else◌, refl, sym, ap, subst, ◌∙◌, arith, inl, inr}
+use Rattle.std.proofs.Common.{◌≡◌, ◌≢◌, ◌⊎◌, ℕ, ◌+◌, ◌*◌, ◌^◌, ◌<◌, ◌≤◌, min, max, List, [], ◌∷◌, length, nat_eq, ℤ, pos, neg_ℤ, ◌≤ℤ◌, if◌then◌else◌, refl, ap, subst, ◌∙◌, arith, inl, inr}
 use Rattle.std.proofs.Math.Nat.{mul-le-mul}
 use Rattle.std.proofs.lemmas.Bool.{cases_lt, cases_eq, eq-eqb, ne_eqb}
 use Rattle.sfm_spec.specs.Families.{Meaning, AreTerms, AreBases, rest_at}
