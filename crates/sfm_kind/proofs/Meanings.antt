@@ -1,10 +1,10 @@
 -- The members of each kind are what its meaning says by definition, and a meaning leaves no choice: two of one term have the
 -- same value on each part of its places, and so the same size and the same first bases.
-use Rattle.std.proofs.Common.{◌≡◌, ℕ, ◌+◌, ◌-◌, ◌<◌, ◌≤◌, Bool, true, false, List, [], ◌∷◌, ◌++◌, length, map, replicate, ℤ, pos, ◌+ℤ◌, ◌*ℤ◌, ◌≤ℤ◌, Some, unwrap_or, refl, sym, ap, ◌∙◌, arith}
+use Rattle.std.proofs.Common.{◌≡◌, ℕ, ◌+◌, ◌-◌, ◌≤◌, Bool, true, false, List, [], ◌∷◌, length, map, replicate, ℤ, pos, ◌*ℤ◌, Some, unwrap_or, refl, sym, ap, ◌∙◌, arith}
 use Rattle.std.specs.Int.{int_min}
 use Rattle.std.proofs.lemmas.Int.{ints}
 use Rattle.std.proofs.lemmas.List.{length-append, length-replicate}
-use Rattle.sfm_spec.specs.Sets.{whole_set, size}
+use Rattle.sfm_spec.specs.Sets.{whole_set}
 use Rattle.sfm_spec.specs.Terms.{SetFunction, first_places, IsGreedy}
 use Rattle.sfm_spec.specs.Families.{Meaning, meanings}
 use Rattle.sfm_spec.specs.Kinds.{IsRank, IsRankFunction}
@@ -44,9 +44,6 @@ kinds-mean [] = tt
 kinds-mean (kind ∷ terms) = (kind-means kind, kinds-mean terms)
 
 -- ---- two meanings of one term agree
-
-Agree : Kind → SetFunction → SetFunction → Type 0
-Agree kind f g = (s : List Bool) → length s ≡ length (kind_places kind) → f s ≡ g s
 
 -- a part has one rank
 rank-one : (IsIndependent : List Bool → Type 0) (s : List Bool) (a b : ℕ) → IsRank IsIndependent s a → IsRank IsIndependent s b → a ≡ b

@@ -1,5 +1,5 @@
 -- What each kind of term tells of itself: a function by cases for each member of a term, then each law by cases.
-use Rattle.std.specs.Prelude.{◌≡◌, ℕ, Bool, List, [], ◌∷◌, length, ℤ, pos, neg_ℤ, ◌*ℤ◌, ◌≤ℤ◌, Some}
+use Rattle.std.specs.Prelude.{◌≡◌, Bool, List, [], ◌∷◌, length, ℤ, pos, neg_ℤ, ◌*ℤ◌, ◌≤ℤ◌, Some}
 use Rattle.std.specs.List.{All}
 use Rattle.sfm_spec.specs.Sets.{magnitudes}
 use Rattle.sfm_spec.specs.Terms.{SetFunction, times, IsBase, IsFamily, IsSubmodular}
