@@ -3,7 +3,7 @@ use Rattle.std.specs.Prelude.{ℕ, List, length, map, codes}
 use Rattle.sfm_law.specs.declared.breaks.Break.{Break as Found}
 use Rattle.sfm_extreme.specs.Blocks.{block_of}
 use Rattle.sfm_kind.specs.Instance.{InstanceData}
-use Rattle.sfm_kind.specs.Kinds.{kind_places}
+use Rattle.sfm_kind.specs.Meanings.{kind_places}
 use Rattle.sfm_cert.specs.declared.solved.Solved.{Solved}
 use Rattle.sfm_cert.specs.declared.solved.AnswerEnd.{AnswerEnd}
 use Rattle.sfm_cert.specs.declared.solved.AnswerEnd.TheVariants.{BadLine, Memory}

@@ -27,6 +27,7 @@ use Rattle.sfm_text.proofs.WordLines.{of-term-line}
 use Rattle.sfm_text.proofs.Matches.{Matched-same, Matched-both, length-Matched}
 use Rattle.sfm_text.proofs.Numbers.{from-same}
 use Rattle.sfm_text.proofs.TermReasons.{place-same}
+use Rattle.sfm_text.proofs.TooMuch.{much-by-total, total-by-much}
 
 same_first : (a b : ℤ) → a ∷ [] ≡ b ∷ [] → a ≡ b
 same_first a b e = cc
@@ -92,7 +93,8 @@ stands-same names tokens s t distinct h g =
 pub much-same : (terms : List Kind) (s t : Kind) → AgreeInTotal s t → AreTooMuch (terms ++ t ∷ []) → AreTooMuch (terms ++ s ∷ [])
 much-same terms s t same (inl many) = inl (omega (arith, many, length_push terms s, length_push terms t))
 much-same terms s t same (inr (inl many)) = inr (inl (omega (arith, many, support-push terms s, support-push terms t, ap length same.places)))
-much-same terms s t same (inr (inr many)) = inr (inr (omega (arith, ints, many, total_size-push terms s, total_size-push terms t, same.size)))
+much-same terms s t same (inr (inr (meant, means, many))) =
+    much-by-total (terms ++ s ∷ []) (omega (arith, ints, total-by-much (terms ++ t ∷ []) meant means many, total_size-push terms s, total_size-push terms t, same.size))
 
 -- the places of the term are places of the ground
 pub stands-placed : (names tokens : List (List ℕ)) (term : Kind) → StandsFor names tokens term → IsPlaced (length names) (kind_places term)
@@ -112,5 +114,5 @@ pub bounded-more : (n : ℕ) (terms : List Kind) (term : Kind) → AreInBounds n
 bounded-more n terms term h placed few = in_bounds-push n terms term h placed (record {
   few_terms = ⊎_elim (λ (lt : 4096 < length (terms ++ term ∷ [])). absurd (few (inl lt))) (λ (le : length (terms ++ term ∷ []) ≤ 4096). omega (arith, le, length_push terms term)) (cases_lt 4096 (length (terms ++ term ∷ [])));
   few_places = ⊎_elim (λ (lt : 16384 < support_of (terms ++ term ∷ [])). absurd (few (inr (inl lt)))) (λ (le : support_of (terms ++ term ∷ []) ≤ 16384). omega (arith, le, support-push terms term)) (cases_lt 16384 (support_of (terms ++ term ∷ [])));
-  small = by_lt_z (pos (10 ^ 15)) (total_size_of (terms ++ term ∷ [])) (λ lt. absurd (few (inr (inr lt)))) (λ le. omega (arith, ints, le, total_size-push terms term));
+  small = by_lt_z (pos (10 ^ 15)) (total_size_of (terms ++ term ∷ [])) (λ lt. absurd (few (much-by-total (terms ++ term ∷ []) lt))) (λ le. omega (arith, ints, le, total_size-push terms term));
 })

@@ -2,8 +2,9 @@
 -- leads from and to.
 use Rattle.std.specs.Prelude.{◌≡◌, ◌≢◌, ◌⊎◌, ℕ, ◌<◌, ◌^◌, List, [], ◌∷◌, ◌++◌, length, codes, Any, Contains, ℤ, pos, ◌<ℤ◌}
 use Rattle.sfm_spec.specs.Names.{IsName}
+use Rattle.sfm_spec.specs.Families.{Meaning}
 use Rattle.sfm_kind.specs.Instance.{support_of}
-use Rattle.sfm_kind.specs.Limits.{total_size_of}
+use Rattle.sfm_kind.specs.Meanings.{AreMeanings, total_by}
 use Rattle.sfm_kind.specs.declared.kind.Kind.{Kind}
 use Rattle.sfm_text.specs.declared.reason.Reason.{Reason}
 use Rattle.sfm_text.specs.declared.reason.Reason.TheVariants.{Long, Bytes, Word, Shape, Number, Name, Twice, Law, Total, Short}
@@ -110,9 +111,9 @@ HasBrokenLaw Ground tokens = ⊥
 HasBrokenLaw Terms tokens = HasTermLine tokens (λ word rest parts. (values : List ℤ) × Matched (IsNumberFrom (lowest_of word)) parts.numbers values × BreaksLaw word parts values)
 HasBrokenLaw Ended tokens = ⊥
 
--- more terms, places or sizes than a text may have in all
+-- more terms, places or sizes than a text may have in all; the size of a term is that of its meaning
 abbrev pub AreTooMuch : List Kind → Type 0
-AreTooMuch terms = (4096 < length terms) ⊎ (16384 < support_of terms) ⊎ (pos (10 ^ 15) <ℤ total_size_of terms)
+AreTooMuch terms = (4096 < length terms) ⊎ (16384 < support_of terms) ⊎ ((meant : List Meaning) × AreMeanings terms meant × (pos (10 ^ 15) <ℤ total_by terms meant))
 
 -- too many names, or with this line too much in all
 abbrev pub HasTooMuch : State → List (List ℕ) → Stage → Type 0
