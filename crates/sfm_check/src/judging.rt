@@ -67,6 +67,7 @@ fn judge_solved(alloc: Global, instance: &Instance, solved: &Solved) -> Result<V
 /// `Memory` where there is none.
 pub fn judge(alloc: Global, instance: &Instance, text: &[u8]) -> Result<Verdict, Memory>
     ensures valid { IfOk result (λ v. IsValid v ↔ IsRightFile (form_of instance.now) (meanings kind_places kind_value instance.now.terms) text.now) }
+    ensures short { IfOk result (λ v. IsValid v → length text.now ≤ answer_limit) }
     ensures told { IfOk result (IsTold (form_of instance.now) (meanings kind_places kind_value instance.now.terms) text.now) }
 {
     tell_kept(instance);

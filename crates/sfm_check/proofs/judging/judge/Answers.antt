@@ -21,6 +21,9 @@ pub returns-in-Ok-clause-valid : goal.returns-in-Ok-clause-valid
 returns-in-Ok-clause-valid c =
     if_ok c.judge_solved.result _ _ (found_valid (form_of c.args.instance.now) (meanings kind_places kind_value c.args.instance.now.terms) c.args.text.now (answer_of c.in-Ok.solved) header_line c.tell_kept.ensures.named (fit (length c.args.instance.now.names) c.args.instance.now.terms c.tell_kept.ensures.bounded) c.in-Ok.ensures.read c.if-text-gt-ANSWER_LIMIT.false) c.judge_solved.ensures
 
+pub returns-in-Ok-clause-short : goal.returns-in-Ok-clause-short
+returns-in-Ok-clause-short c = if_ok c.judge_solved.result _ _ (λ v found valid. c.if-text-gt-ANSWER_LIMIT.false) c.judge_solved.ensures
+
 pub returns-in-Ok-clause-told : goal.returns-in-Ok-clause-told
 returns-in-Ok-clause-told c =
     if_ok c.judge_solved.result _ _ (found_told (form_of c.args.instance.now) (meanings kind_places kind_value c.args.instance.now.terms) c.args.text.now (answer_of c.in-Ok.solved) header_line c.tell_kept.ensures.named (fit (length c.args.instance.now.names) c.args.instance.now.terms c.tell_kept.ensures.bounded) c.in-Ok.ensures.read c.if-text-gt-ANSWER_LIMIT.false) c.judge_solved.ensures
