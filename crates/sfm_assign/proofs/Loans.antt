@@ -1,15 +1,15 @@
 -- Who can lend, by one search from a demand as if it lacked one while all demands are met.
-use Rattle.std.proofs.Common.{◌≡◌, ◌≢◌, Option, Some, None, MatchOption, ℕ, ◌<◌, Bool, false, List, length, get_or, set, replicate, ℤ, pos, ◌+ℤ◌, ◌-ℤ◌, ◌≤ℤ◌, refl, sym, ap, ◌∙◌, arith, ⊎_elim, length-set, get_or-set_other, get_or-set_same}
+use Rattle.std.proofs.Common.{◌≡◌, ◌≢◌, ◌↔◌, ◌+◌, ◌<ℤ◌, IsTrue, Option, Some, None, MatchOption, ℕ, ◌<◌, Bool, false, List, length, get_or, set, replicate, ℤ, pos, ◌+ℤ◌, ◌-ℤ◌, ◌≤ℤ◌, refl, sym, ap, ◌∙◌, arith, ⊎_elim, length-set, get_or-set_other, get_or-set_same}
 use Rattle.std.proofs.lemmas.Int.{ints}
-use Rattle.std.proofs.lemmas.Bool.{cases_eq, cases_Bool}
+use Rattle.std.proofs.lemmas.Bool.{cases_eq, cases_lt, cases_Bool}
 use Rattle.std.proofs.lemmas.List.{set-get_or, length-replicate, get_or-replicate}
 use Rattle.sfm_spec.specs.Sets.{Has, sum_over}
 use Rattle.sfm_spec.specs.Terms.{exchanged}
 use Rattle.sfm_spec.proofs.Sums.{share, sum_over-set, length-exchanged, sum_over-exchanged}
 use Rattle.sfm_assign.specs.Splits.{sum_at, amount_at, CanBeMet, Demands, AreDemands}
 use Rattle.sfm_assign.specs.Cells.{joined, owners, cut, IsPart, IsMet}
-use Rattle.sfm_assign.specs.Search.{AreLeft, only}
-use Rattle.sfm_assign.specs.Lenders.{one_more, IsLenders}
+use Rattle.sfm_assign.specs.Search.{AreLeft, only, one_more, AreLenders}
+use Rattle.sfm_assign.specs.Lenders.{IsLender}
 use Rattle.sfm_assign.proofs.Amounts.{only-same, only-other}
 use Rattle.sfm_assign.proofs.Rows.{split_of_part}
 use Rattle.sfm_assign.proofs.Hall.{closed_bounds}
@@ -158,7 +158,7 @@ module _ (d : Demands) (sound : AreDemands d) (u : ℕ) (lu : u < length d.deman
         absurd (omega (arith, ints, b, e, su, sv)))
         (cases_Bool (get_or s v false))
 
-    lenders_are : IsLenders d.demands d.lists d.capacities u s
+    lenders_are : AreLenders d.demands d.lists d.capacities u s
     lenders_are = record {
       places = places;
       full = not_more;
@@ -167,7 +167,7 @@ module _ (d : Demands) (sound : AreDemands d) (u : ℕ) (lu : u < length d.deman
 
   -- what the search told
   pub lenders_from : (found : Option (List Bool)) → MatchOption found (GetsOne more d.capacities whos slots y (λ i. pos 0)) (IsFoundFrom more d.capacities whos slots y)
-      → MatchOption found (CanBeMet (one_more d.demands u) d.lists d.capacities) (IsLenders d.demands d.lists d.capacities u)
+      → MatchOption found (CanBeMet (one_more d.demands u) d.lists d.capacities) (AreLenders d.demands d.lists d.capacities u)
   lenders_from None g = more_met g
   lenders_from (Some s) found = lenders_are s found
 
@@ -197,3 +197,27 @@ lent_from_more d sound u v lu lv ne some can = smaller (one_more d.demands u) (e
       (omega (arith, ints, g, x, some), omega (arith, ints, g, m, x, z)))
       (λ nv. let g = get_or-set_other (one_more d.demands u) v i (amount_at d.demands v -ℤ pos 1) (pos 0) nv in (omega (arith, ints, g, low), omega (arith, ints, g)))
       (cases_eq i v)
+
+-- what the search told of v: whether it can lend
+pub lender_found : (d : Demands) → AreDemands d → (u v : ℕ) → u < length d.demands → v < length d.demands → (found : Option (List Bool)) → MatchOption found (CanBeMet (one_more d.demands u) d.lists d.capacities) (AreLenders d.demands d.lists d.capacities u)
+    → ((v ≢ u) × (pos 0 <ℤ amount_at d.demands v) × MatchOption found (Unit {0}) (λ s. Has s v)) ↔ IsLender d.demands d.lists d.capacities u v
+lender_found d sound u v lu lv None more = (
+  (λ (ne, some, _). record { other = ne; asks = some; met = lent_from_more d sound u v lu lv ne (omega (arith, ints, some)) more }),
+  (λ h. (h.other, h.asks, tt)),
+)
+lender_found d sound u v lu lv (Some s) lend = (
+  (λ (ne, some, has). record { other = ne; asks = some; met = (lend.exact v lv ne).0 has }),
+  (λ h. (h.other, h.asks, (lend.exact v lv h.other).1 h.met)),
+)
+
+-- the set that was found has a place for each demand
+pub found_places : (d : Demands) (u v : ℕ) → v < length d.demands → (found : Option (List Bool)) → MatchOption found (CanBeMet (one_more d.demands u) d.lists d.capacities) (AreLenders d.demands d.lists d.capacities u) → MatchOption found (Unit {0}) (λ s. v < length s)
+found_places d u v lv None more = tt
+found_places d u v lv (Some s) lend = let p = lend.places in omega (arith, lv, p)
+
+-- one demand more is told
+pub told_more : (IsTold : ℕ → Type 0) (to : List Bool) (n : ℕ) (b : Bool) → n < length to → ((v : ℕ) → v < n → Has to v ↔ IsTold v) → IsTrue b ↔ IsTold n → (v : ℕ) → v < n + 1 → Has (set to n b) v ↔ IsTold v
+told_more IsTold to n b lt told here v le = ⊎_elim
+    (λ (l : v < n). rw (get_or-set_other to n v b false (λ q. omega (arith, q, l))) (told v l))
+    (λ ge. let q : v ≡ n = omega (arith, ge, le) in rw (q, get_or-set_same to n b false lt) here)
+    (cases_lt v n)

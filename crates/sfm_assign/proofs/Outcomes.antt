@@ -8,7 +8,7 @@ use Rattle.std.proofs.lemmas.List.Elements.{All-get_or, All-head, All-tail}
 use Rattle.sfm_spec.specs.Sets.{empty_set, sum_over}
 use Rattle.sfm_spec.specs.Bounds.{total_of}
 use Rattle.sfm_spec.proofs.Sizes.{weight-empty}
-use Rattle.sfm_assign.specs.Splits.{sum_at, amount_at, slots_of, IsAmount, IsCapacity, IsSplit, CanBeMet, IsShort, IsMost, Demands, AreDemands}
+use Rattle.sfm_assign.specs.Splits.{sum_at, amount_at, slots_of, IsAmount, IsCapacity, IsAssignment, CanBeMet, IsShort, IsMost, Demands, AreDemands}
 use Rattle.sfm_assign.specs.Cells.{joined, owners, cut, AreCells, IsPart, IsMet}
 use Rattle.sfm_assign.specs.Search.{GetsMore, IsFilled}
 use Rattle.sfm_assign.proofs.Rows.{AreBelow, cells_of, split_of_part}
@@ -44,7 +44,7 @@ cells_for d sound = rw (← sound.same) (cells_of (length d.capacities) d.lists 
 
 -- ---- a split, or a set that asks for too much
 
-pub split_from : (d : Demands) (y : List ℤ) → AreDemands d → IsPart d.demands d.capacities (owners 0 d.lists) (joined d.lists) y → IsMet d.demands (owners 0 d.lists) y → IsSplit d.demands d.lists d.capacities (cut d.lists y)
+pub split_from : (d : Demands) (y : List ℤ) → AreDemands d → IsPart d.demands d.capacities (owners 0 d.lists) (joined d.lists) y → IsMet d.demands (owners 0 d.lists) y → IsAssignment d.demands d.lists d.capacities (cut d.lists y)
 split_from d y sound part met = split_of_part d.demands d.lists d.capacities y sound.same part met
 
 pub short_from : (d : Demands) (y : List ℤ) (s : List Bool) (i : ℕ) → AreDemands d → IsPart d.demands d.capacities (owners 0 d.lists) (joined d.lists) y → IsFilled d.demands d.capacities (owners 0 d.lists) (joined d.lists) y s
@@ -134,7 +134,7 @@ module _ (d : Demands) (sound : AreDemands d) (u : ℕ) (lu : u < length d.deman
     met : IsMet (set d.demands u (pos 0)) (owners 0 d.lists) y
     met = met_from (set d.demands u (pos 0)) d.lists d.capacities y s (sound.same ∙ sym (length0 (pos 0))) sound.exist py fy can
 
-    reached : IsSplit (set d.demands u (sum_at u (owners 0 d.lists) z)) d.lists d.capacities (cut d.lists z)
+    reached : IsAssignment (set d.demands u (sum_at u (owners 0 d.lists) z)) d.lists d.capacities (cut d.lists z)
     reached = split_of_part (set d.demands u (sum_at u (owners 0 d.lists) z)) d.lists d.capacities z (sound.same ∙ sym (length0 (sum_at u (owners 0 d.lists) z))) (record {
       cells = pz.cells;
       amounts = pz.amounts;

@@ -9,7 +9,7 @@ use Rattle.sfm_spec.specs.Sets.{Has, empty_set}
 use Rattle.sfm_spec.specs.Bounds.{total_of}
 use Rattle.sfm_spec.proofs.Sets.{in_union, union_left, union_right}
 use Rattle.sfm_spec.proofs.Sums.{length-union}
-use Rattle.sfm_assign.specs.Splits.{sum_at, load, amount_at, list_at, row_at, set_of, slots_of, IsSplit}
+use Rattle.sfm_assign.specs.Splits.{sum_at, load, amount_at, list_at, row_at, set_of, slots_of, IsAssignment}
 use Rattle.sfm_assign.specs.Cells.{joined, owners, cut, label_at, AreCells, IsPart, IsMet}
 use Rattle.sfm_assign.proofs.Amounts.{AreAmounts, only-same, only-other}
 
@@ -149,7 +149,7 @@ cut-low (slots ∷ lists) y low (suc i) j = cut-low lists (drop (length slots) y
 
 -- ---- splits, as amounts on cells
 
-pub part_of_split : (demands : List ℤ) (lists : List (List ℕ)) (capacities : List ℤ) (rows : List (List ℤ)) → length lists ≡ length demands → IsSplit demands lists capacities rows
+pub part_of_split : (demands : List ℤ) (lists : List (List ℕ)) (capacities : List ℤ) (rows : List (List ℤ)) → length lists ≡ length demands → IsAssignment demands lists capacities rows
     → IsPart demands capacities (owners 0 lists) (joined lists) (joined rows) × IsMet demands (owners 0 lists) (joined rows)
 part_of_split demands lists capacities rows same h = (
   record {
@@ -171,7 +171,7 @@ part_of_split demands lists capacities rows same h = (
       sym q ∙ (sym (got-joined 0 i lists rows fits li) ∙ h.met i li)
 
 pub split_of_part : (demands : List ℤ) (lists : List (List ℕ)) (capacities y : List ℤ) → length lists ≡ length demands
-    → IsPart demands capacities (owners 0 lists) (joined lists) y → IsMet demands (owners 0 lists) y → IsSplit demands lists capacities (cut lists y)
+    → IsPart demands capacities (owners 0 lists) (joined lists) y → IsMet demands (owners 0 lists) y → IsAssignment demands lists capacities (cut lists y)
 split_of_part demands lists capacities y same h met = record {
   row_each = fits.row_each;
   cells = fits.cells;

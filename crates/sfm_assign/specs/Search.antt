@@ -1,8 +1,9 @@
 -- What a search for room finds. A demand is found where it lacks something, or where it has an amount on a slot that a
 -- demand found before could use instead; so an amount can move from each found demand to one that lacks something.
-use Rattle.std.specs.Prelude.{◌≡◌, ℕ, suc, ◌<◌, Bool, false, List, [], ◌∷◌, length, slice_index_or, ℤ, pos, ◌+ℤ◌, ◌-ℤ◌, ◌≤ℤ◌, ◌<ℤ◌, Option, Some, None, nat_eq, if◌then◌else◌}
+use Rattle.std.specs.Prelude.{◌≡◌, ◌≢◌, ◌↔◌, ℕ, suc, ◌<◌, Bool, false, List, [], ◌∷◌, length, slice_index_or, slice_set, ℤ, pos, ◌+ℤ◌, ◌-ℤ◌, ◌≤ℤ◌, ◌<ℤ◌, Option, Some, None, nat_eq, if◌then◌else◌}
 use Rattle.sfm_spec.specs.Sets.{Has}
-use Rattle.sfm_assign.specs.Splits.{sum_at, amount_at}
+use Rattle.sfm_spec.specs.Terms.{exchanged}
+use Rattle.sfm_assign.specs.Splits.{sum_at, amount_at, CanBeMet}
 use Rattle.sfm_assign.specs.Cells.{label_at, IsClosed}
 use Rattle.sfm_assign.specs.declared.nodes.Link.{Link}
 use Rattle.sfm_assign.specs.declared.nodes.Node.{Node}
@@ -171,3 +172,13 @@ pub record IsLowered (whos slots : List ℕ) (v : ℕ) (a : ℤ) (y z : List ℤ
   pub amounts : (e : ℕ) → pos 0 ≤ℤ amount_at z e
   pub got : (i : ℕ) → sum_at i whos z ≡ (sum_at i whos y -ℤ only v i a)
   pub loads : (s : ℕ) → sum_at s slots z ≤ℤ sum_at s slots y
+
+-- the demands, with one more at u
+abbrev pub one_more : List ℤ → ℕ → List ℤ
+one_more demands u = slice_set demands u (amount_at demands u +ℤ pos 1)
+
+-- u cannot get one more with all others met; and the other members of the set are exactly the demands that can lend to it
+pub record AreLenders (demands : List ℤ) (lists : List (List ℕ)) (capacities : List ℤ) (u : ℕ) (set : List Bool) : Type 0 where
+  pub places : length set ≡ length demands
+  pub full : CanBeMet (one_more demands u) lists capacities → ⊥
+  pub exact : (v : ℕ) → v < length demands → v ≢ u → Has set v ↔ CanBeMet (exchanged demands u v (pos 1)) lists capacities

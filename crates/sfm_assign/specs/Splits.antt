@@ -27,7 +27,7 @@ abbrev pub row_at : List (List ℤ) → ℕ → List ℤ
 row_at rows i = slice_index_or rows i []
 
 -- each demand has an amount, not negative, for each slot of its list; its amounts add up to it; no slot has more than its capacity
-pub record IsSplit (demands : List ℤ) (lists : List (List ℕ)) (capacities : List ℤ) (rows : List (List ℤ)) : Type 0 where
+pub record IsAssignment (demands : List ℤ) (lists : List (List ℕ)) (capacities : List ℤ) (rows : List (List ℤ)) : Type 0 where
   pub row_each : length rows ≡ length lists
   pub cells : (i : ℕ) → i < length lists → length (row_at rows i) ≡ length (list_at lists i)
   pub amounts : (i j : ℕ) → pos 0 ≤ℤ amount_at (row_at rows i) j
@@ -35,7 +35,7 @@ pub record IsSplit (demands : List ℤ) (lists : List (List ℕ)) (capacities : 
   pub within : (s : ℕ) → s < length capacities → load lists rows s ≤ℤ amount_at capacities s
 
 abbrev pub CanBeMet : List ℤ → List (List ℕ) → List ℤ → Type 0
-CanBeMet demands lists capacities = (rows : List (List ℤ)) × IsSplit demands lists capacities rows
+CanBeMet demands lists capacities = (rows : List (List ℤ)) × IsAssignment demands lists capacities rows
 
 -- the numbers of a list, as a set of m
 abbrev pub set_of : ℕ → List ℕ → List Bool

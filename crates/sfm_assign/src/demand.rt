@@ -1,9 +1,7 @@
 // Demands in the order in which they come, each with the list of the slots that it may use, and the capacities of the slots.
-ghost use Rattle.std.specs.Prelude.{◌≡◌, ◌≢◌, ◌<◌, ◌≤◌, ◌^◌, [], ◌∷◌, ◌++◌, length, pos, ◌≤ℤ◌, is_ok, IfOk, if◌then◌else◌};
+ghost use Rattle.std.specs.Prelude.{◌≡◌, ◌<◌, ◌≤◌, ◌^◌, [], ◌∷◌, ◌++◌, length, is_ok, IfOk, if◌then◌else◌};
 ghost use Rattle.std.specs.List.{All};
-ghost use Rattle.sfm_spec.specs.Terms.{exchanged};
 ghost use Rattle.sfm_assign.specs.Splits.{IsAmount, IsCapacity, AreDemands};
-ghost use Rattle.sfm_assign.specs.Lenders.{exchanged_in};
 
 use sfm_base::Memory;
 use std::alloc::Global;
@@ -51,20 +49,20 @@ impl Model for Demand {
 }
 
 impl Demand {
-    /// No demands, with memory set aside for some, over slots with these capacities, which are copied.
+    /// No demands, over slots with these capacities, which are copied.
     ///
     /// # Errors
     ///
     /// `Memory` where there is none.
-    pub fn new(alloc: Global, some: usize, capacities: &[i128]) -> Result<Demand, Memory>
+    pub fn new(alloc: Global, capacities: &[i128]) -> Result<Demand, Memory>
         requires few { length capacities.now ≤ 2 ^ 24 }
         requires bounded { All IsCapacity capacities.now }
         ensures { IfOk result (λ r. r ≡ record { demands = []; lists = []; capacities = capacities.now }) }
     {
         let capacities = Vec::from_slice(alloc, capacities)?;
         Ok(Demand {
-            demands: Vec::with_capacity(alloc, some)?,
-            lists: Vec::with_capacity(alloc, some)?,
+            demands: Vec::new(alloc),
+            lists: Vec::new(alloc),
             capacities,
         })
     }
@@ -88,19 +86,13 @@ impl Demand {
         Ok(())
     }
 
-    /// Raises the demand u by a, and lowers v.
-    pub(crate) fn exchange(&mut self, u: usize, v: usize, a: i128)
-        requires from { u < length self.old.demands }
-        requires onto { v < length self.old.demands }
-        requires apart { u ≢ v }
-        requires low { pos 0 ≤ℤ a }
-        requires amounts { All IsAmount (exchanged self.old.demands u v a) }
-        ensures { self.new ≡ exchanged_in self.old u v a }
+    /// Puts other demands in place of these, over the same slots.
+    pub(crate) fn replace(&mut self, demands: Vec<i128>)
+        requires places { length demands.items ≡ length self.old.demands }
+        requires amounts { All IsAmount demands.items }
+        ensures { self.new ≡ record { demands = demands.items; lists = self.old.lists; capacities = self.old.capacities } }
     {
-        let raised = self.demands[u] + a;
-        let lowered = self.demands[v] - a;
-        self.demands[u] = raised;
-        self.demands[v] = lowered;
+        self.demands = demands;
     }
 
     /// The demands in order.

@@ -1,27 +1,30 @@
 // A split that is kept, for all that is asked of it later. Who can lend to a demand is told by one search from that demand, as if
 // it lacked one, over the amounts that are kept. Where it finds a slot with room, the demand can get one more as it is. Else
-// what it finds are exactly those that can give up one.
-ghost use Rattle.std.specs.Prelude.{◌≡◌, ◌≢◌, ◌<◌, length, replicate, slice_set, pos, ◌≤ℤ◌, IfOk, MatchOption, MatchResult};
+// what it finds are exactly those that can give up one. The amounts that an exchange leads to are found beside those that are
+// kept and then put in their place, so that want of memory leaves all as it was.
+ghost use Rattle.std.specs.Prelude.{◌≡◌, ◌≢◌, ◌↔◌, ℕ, ◌<◌, length, replicate, slice_set, pos, ◌≤ℤ◌, ◌<ℤ◌, IsTrue, IfOk, OnOk, OnErr, MatchOption, MatchResult};
 ghost use Rattle.std.specs.List.{All};
+ghost use Rattle.sfm_spec.specs.Sets.{Has};
 ghost use Rattle.sfm_spec.specs.Terms.{exchanged};
-ghost use Rattle.sfm_assign.specs.Splits.{IsAmount, CanBeMet, AreDemands};
+ghost use Rattle.sfm_assign.specs.Splits.{amount_at, IsAmount, CanBeMet, AreDemands};
 ghost use Rattle.sfm_assign.specs.Cells.{AreMet};
-ghost use Rattle.sfm_assign.specs.Search.{AreLeft};
+ghost use Rattle.sfm_assign.specs.Search.{AreLeft, one_more, AreLenders};
 ghost use Rattle.sfm_assign.specs.Ends.{IsAssignEnd};
-ghost use Rattle.sfm_assign.specs.Lenders.{one_more, exchanged_in, IsLenders};
+ghost use Rattle.sfm_assign.specs.Lenders.{exchanged_in, IsLender};
 
 use crate::demand::Demand;
+use crate::fill::fill;
 use crate::left::left_of;
 use crate::lower::lower;
 use crate::nodes::found_set;
 use crate::search::search;
-use crate::splitting::{AssignEnd, Shares, met_shares, raised};
+use crate::splitting::{AssignEnd, Shares, met_shares};
 use sfm_base::{Memory, Set};
 use std::alloc::Global;
 
-/// Demands with a split of them, which is kept by the amount on each cell.
+/// Demands with a split that meets them, which is kept by the amount on each cell.
 #[derive(Drop)]
-pub struct KeptSplit {
+pub struct Kept {
     pub demand: Demand,
     shares: Shares,
     /// What each slot has left.
@@ -40,77 +43,128 @@ fn one_at(alloc: Global, n: usize, u: usize) -> Result<Vec<i128>, Memory>
     Ok(lacks)
 }
 
-impl KeptSplit {
-    /// Keeps amounts by which the demands are met.
-    fn by(alloc: Global, demand: Demand, shares: Shares) -> Result<KeptSplit, Memory>
-        requires { AreMet demand shares.cells.whos.items shares.cells.slots.items shares.y.items }
-        ensures { IfOk result (λ r. r.demand ≡ demand) }
+/// The demands, with a more at u and a less at v.
+fn exchanged_demands(
+    alloc: Global,
+    demands: &[i128],
+    u: usize,
+    v: usize,
+    a: i128,
+) -> Result<Vec<i128>, Memory>
+    requires from { u < length demands.now }
+    requires onto { v < length demands.now }
+    requires apart { u ≢ v }
+    requires before { All IsAmount demands.now }
+    requires amounts { All IsAmount (exchanged demands.now u v a) }
+    ensures { IfOk result (λ r. r.items ≡ exchanged demands.now u v a) }
+{
+    let mut changed = Vec::from_slice(alloc, demands)?;
+    changed[u] = demands[u] + a;
+    changed[v] = demands[v] - a;
+    Ok(changed)
+}
+
+/// Whether a demand is one of those that were found; each is, where none were looked for.
+fn is_among(found: &Option<Set>, v: usize) -> bool
+    requires { MatchOption found.now (Unit {0}) (λ s. v < length s) }
+    ensures { IsTrue result ↔ MatchOption found.now (Unit {0}) (λ s. Has s v) }
+{
+    match found {
+        Some(set) => set.contains(v),
+        None => true,
+    }
+}
+
+/// Whether v is another demand than u, asks for something, and is one of those that were found.
+fn may_lend(demands: &[i128], found: &Option<Set>, u: usize, v: usize) -> bool
+    requires place { v < length demands.now }
+    requires places { MatchOption found.now (Unit {0}) (λ s. v < length s) }
+    ensures { IsTrue result ↔ ((v ≢ u) × (pos 0 <ℤ amount_at demands.now v) × MatchOption found.now (Unit {0}) (λ s. Has s v)) }
+{
+    v != u && demands[v] > 0 && is_among(found, v)
+}
+
+impl Kept {
+    /// Splits each demand over its slots, no slot getting more than its capacity; the demands are taken over.
+    ///
+    /// # Errors
+    ///
+    /// `Shortage` where there is no split, as `assign`; `Memory` where there is none.
+    pub fn new(alloc: Global, demand: Demand) -> Result<Kept, AssignEnd>
+        ensures { MatchResult result (λ r. r.demand ≡ demand) (IsAssignEnd demand.demands demand.lists demand.capacities) }
     {
+        let shares = met_shares(alloc, &demand)?;
         let rooms = left_of(alloc, demand.capacities(), &shares.cells.slots, &shares.y)?;
-        Ok(KeptSplit {
+        Ok(Kept {
             demand,
             shares,
             rooms,
         })
     }
 
-    /// Splits each demand over its slots, no slot getting more than its capacity; the demands are taken over.
-    ///
-    /// # Errors
-    ///
-    /// `Shortage` where there is no split; `Memory` where there is none.
-    pub fn of(alloc: Global, demand: Demand) -> Result<KeptSplit, AssignEnd>
-        ensures { MatchResult result (λ r. r.demand ≡ demand) (IsAssignEnd demand.demands demand.lists demand.capacities) }
-    {
-        let shares = met_shares(alloc, &demand)?;
-        let kept = KeptSplit::by(alloc, demand, shares)?;
-        Ok(kept)
-    }
-
-    /// The split brought up to demands of which u has a more and v has a less.
-    ///
-    /// # Errors
-    ///
-    /// `Shortage` where there is no split; `Memory` where there is none.
-    pub fn exchanged(
-        self,
+    /// Amounts by which these demands are met, which have a more at u and a less at v.
+    fn amounts_for(
+        &self,
         alloc: Global,
+        demands: &[i128],
         u: usize,
         v: usize,
         a: i128,
-    ) -> Result<KeptSplit, AssignEnd>
-        requires from { u < length self.demand.demands }
-        requires onto { v < length self.demand.demands }
+    ) -> Result<Vec<i128>, Memory>
+        requires sound { AreDemands self.now.demand }
+        requires from { u < length self.now.demand.demands }
+        requires onto { v < length self.now.demand.demands }
         requires apart { u ≢ v }
         requires low { pos 0 ≤ℤ a }
-        requires amounts { All IsAmount (exchanged self.demand.demands u v a) }
-        ensures { MatchResult result (λ r. r.demand ≡ exchanged_in self.demand u v a) (IsAssignEnd (exchanged self.demand.demands u v a) self.demand.lists self.demand.capacities) }
+        requires demands { demands.now ≡ exchanged self.now.demand.demands u v a }
+        requires amounts { All IsAmount demands.now }
+        requires met { CanBeMet demands.now self.now.demand.lists self.now.demand.capacities }
+        ensures { IfOk result (λ y. AreMet (exchanged_in self.now.demand u v a) self.now.shares.cells.whos.items self.now.shares.cells.slots.items y.items) }
     {
-        let KeptSplit {
-            mut demand,
-            shares,
-            ..
-        } = self;
-        let Shares { cells, mut y } = shares;
-        lower(&cells, v, a, &mut y);
-        demand.exchange(u, v, a);
-        let shares = raised(alloc, &demand, Shares { cells, y })?;
-        let kept = KeptSplit::by(alloc, demand, shares)?;
-        Ok(kept)
+        let cells = &self.shares.cells;
+        let mut y = Vec::from_slice(alloc, &self.shares.y)?;
+        lower(cells, v, a, &mut y);
+        fill(alloc, cells, demands, self.demand.capacities(), &mut y)?;
+        Ok(y)
     }
 
-    /// Who can lend: the demands of which each, given one less, leaves room for the demand u to get one more with all others
-    /// met; or None where u can get one more as it is. Of u itself nothing is told.
+    /// Raises the demand u by a, lowers v by as much, and splits them anew, from the split as it stands.
     ///
     /// # Errors
     ///
-    /// `Memory` where there is none.
-    pub fn lenders(&self, alloc: Global, u: usize) -> Result<Option<Set>, Memory>
+    /// `Memory` where there is none; the demands are then as they were.
+    pub fn shift(&mut self, alloc: Global, u: usize, v: usize, a: i128) -> Result<(), Memory>
+        requires from { u < length self.old.demand.demands }
+        requires onto { v < length self.old.demand.demands }
+        requires apart { u ≢ v }
+        requires low { pos 0 ≤ℤ a }
+        requires amounts { All IsAmount (exchanged self.old.demand.demands u v a) }
+        requires met { CanBeMet (exchanged self.old.demand.demands u v a) self.old.demand.lists self.old.demand.capacities }
+        ensures shifted { OnOk result (self.new.demand ≡ exchanged_in self.old.demand u v a) }
+        ensures unchanged { OnErr result (self.new ≡ self.old) }
+    {
+        let demands = exchanged_demands(alloc, self.demand.demands(), u, v, a)?;
+        let y = self.amounts_for(alloc, &demands, u, v, a)?;
+        let rooms = left_of(
+            alloc,
+            self.demand.capacities(),
+            &self.shares.cells.slots,
+            &y,
+        )?;
+        self.demand.replace(demands);
+        self.shares.y = y;
+        self.rooms = rooms;
+        Ok(())
+    }
+
+    /// The demands of which each, given one less, leaves room for the demand u to get one more with all others met; or None
+    /// where u can get one more as it is. Of u itself nothing is told.
+    fn lenders(&self, alloc: Global, u: usize) -> Result<Option<Set>, Memory>
         requires place { u < length self.now.demand.demands }
         ensures sound { AreDemands self.now.demand }
         ensures lenders { IfOk result (λ r. MatchOption r
             (CanBeMet (one_more self.now.demand.demands u) self.now.demand.lists self.now.demand.capacities)
-            (IsLenders self.now.demand.demands self.now.demand.lists self.now.demand.capacities u)) }
+            (AreLenders self.now.demand.demands self.now.demand.lists self.now.demand.capacities u)) }
     {
         let lacks = one_at(alloc, self.demand.demands().len(), u)?;
         let cells = &self.shares.cells;
@@ -120,5 +174,25 @@ impl KeptSplit {
         }
         let set = found_set(alloc, &found.nodes)?;
         Ok(Some(set))
+    }
+
+    /// Writes the demands that can lend to u: those that ask for something and that, given one less, leave room for u to get
+    /// one more with all others met.
+    ///
+    /// # Errors
+    ///
+    /// `Memory` where there is none.
+    pub fn reach(&self, alloc: Global, u: usize, to: &mut Set) -> Result<(), Memory>
+        requires place { u < length self.now.demand.demands }
+        requires room_for_answer { length to.old ≡ length self.now.demand.demands }
+        ensures places { length to.new ≡ length to.old }
+        ensures reached { OnOk result ((v : ℕ) → v < length to.new → Has to.new v ↔ IsLender self.now.demand.demands self.now.demand.lists self.now.demand.capacities u v) }
+    {
+        let found = self.lenders(alloc, u)?;
+        let demands = self.demand.demands();
+        for v in 0..to.len() {
+            to.put(v, may_lend(demands, &found, u, v));
+        }
+        Ok(())
     }
 }

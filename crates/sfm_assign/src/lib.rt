@@ -17,7 +17,7 @@ mod splitting;
 
 pub use demand::Demand;
 pub use greatest::most;
-pub use kept::KeptSplit;
+pub use kept::Kept;
 pub use split::Split;
 pub use splitting::{AssignEnd, assign};
 

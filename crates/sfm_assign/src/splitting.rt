@@ -1,7 +1,7 @@
 // A split of all demands, or a set of them that asks for more than its slots have. The amounts on the cells are raised as far as
 // they go; where a demand still lacks something, those that were found ask for too much.
 ghost use Rattle.std.specs.Prelude.{◌≡◌, ℕ, ◌<◌, List, length, ℤ, pos, ◌≤ℤ◌, ◌<ℤ◌, IfOk, MatchOption, MatchResult};
-ghost use Rattle.sfm_assign.specs.Splits.{sum_at, amount_at, AreDemands, IsSplit};
+ghost use Rattle.sfm_assign.specs.Splits.{sum_at, amount_at, AreDemands, IsAssignment};
 ghost use Rattle.sfm_assign.specs.Cells.{joined, owners, AreCells, IsPart, IsMet, AreMet};
 ghost use Rattle.sfm_assign.specs.Ends.{IsAssignEnd};
 
@@ -89,7 +89,7 @@ pub(crate) fn met_shares(alloc: Global, demand: &Demand) -> Result<Shares, Assig
 ///
 /// `Shortage` where there is no split; `Memory` where there is none.
 pub fn assign(alloc: Global, demand: &Demand) -> Result<Split, AssignEnd>
-    ensures { MatchResult result (IsSplit demand.now.demands demand.now.lists demand.now.capacities) (IsAssignEnd demand.now.demands demand.now.lists demand.now.capacities) }
+    ensures { MatchResult result (IsAssignment demand.now.demands demand.now.lists demand.now.capacities) (IsAssignEnd demand.now.demands demand.now.lists demand.now.capacities) }
 {
     let shares = met_shares(alloc, demand)?;
     let split = Split::cut(alloc, demand.lists(), &shares.y)?;

@@ -1,7 +1,7 @@
 // Small demands over two slots that hold 3 and 2, with answers worked by hand.
 ghost use Rattle.std.specs.Prelude.{◌≡◌, ◌<◌, IfOk, [], ◌∷◌, length, slice_set, pos};
 
-use crate::{AssignEnd, Demand, KeptSplit, Split, assign, most};
+use crate::{AssignEnd, Demand, Kept, Split, assign, most};
 use sfm_base::{Memory, Set};
 use std::alloc::Global;
 use std::process::Abort;
@@ -11,7 +11,7 @@ use std::test::Fail;
 fn demands(alloc: Global, both: u8, first: u8, second: u8) -> Result<Demand, Memory>
     ensures { IfOk result (λ d. d.demands ≡ pos both ∷ pos first ∷ pos second ∷ []) }
 {
-    let mut demand = Demand::new(alloc, 3, &[3, 2])?;
+    let mut demand = Demand::new(alloc, &[3, 2])?;
     demand.push(i128::from(both), vec![in alloc; 0, 1]?)?;
     demand.push(i128::from(first), vec![in alloc; 0]?)?;
     demand.push(i128::from(second), vec![in alloc; 0]?)?;
@@ -55,7 +55,7 @@ fn two_ask_for_too_much(rt: HostRuntime) -> Result<(), Fail> {
 fn one_slot(alloc: Global, first: u8, second: u8) -> Result<Demand, Memory>
     ensures { IfOk result (λ d. d.demands ≡ pos first ∷ pos second ∷ []) }
 {
-    let mut demand = Demand::new(alloc, 2, &[3])?;
+    let mut demand = Demand::new(alloc, &[3])?;
     demand.push(i128::from(first), vec![in alloc; 0]?)?;
     demand.push(i128::from(second), vec![in alloc; 0]?)?;
     Ok(demand)
@@ -103,43 +103,53 @@ fn most_of_one(rt: HostRuntime) -> Result<(), Fail> {
 }
 
 /// A split of demands, if all can be met.
-fn kept(rt: &impl Abort, alloc: Global, demand: Demand) -> KeptSplit
+fn kept(rt: &impl Abort, alloc: Global, demand: Demand) -> Kept
     ensures { result.demand ≡ demand }
 {
-    match KeptSplit::of(alloc, demand) {
+    match Kept::new(alloc, demand) {
         Ok(kept) => kept,
         Err(_) => panic!(rt; "no split"),
     }
 }
 
-/// Asserts which of the demands other than u can lend to it.
-fn has_lenders(rt: &impl Abort, set: Option<Set>, u: usize, members: &[bool]) {
-    match set {
-        Some(set) => {
-            assert_eq!(rt; set.len(), members.len());
-            for (v, member) in members.iter().enumerate() {
-                assert!(rt; v == u || set.contains(v) == *member, "demand {v}");
-            }
-        }
-        None => panic!(rt; "room for one more"),
+/// Asserts which demands can lend to u.
+fn reaches(
+    rt: &impl Abort,
+    alloc: Global,
+    kept: &Kept,
+    u: usize,
+    lenders: &[bool],
+) -> Result<(), Memory>
+    requires place { u < length kept.now.demand.demands }
+    requires each { length lenders.now ≡ length kept.now.demand.demands }
+{
+    let mut to = Set::empty(alloc, lenders.len())?;
+    kept.reach(alloc, u, &mut to)?;
+    for (v, lends) in lenders.iter().enumerate() {
+        assert_eq!(rt; to.contains(v), *lends, "demand {v}");
     }
+    Ok(())
 }
 
 #[test]
 fn lends_on_one_slot(rt: HostRuntime) -> Result<(), Fail> {
-    let full = kept(&rt, rt.alloc(), one_slot(rt.alloc(), 2, 1)?);
-    has_lenders(&rt, full.lenders(rt.alloc(), 1)?, 1, &[true, false]);
-    let nothing = kept(&rt, rt.alloc(), one_slot(rt.alloc(), 3, 0)?);
-    has_lenders(&rt, nothing.lenders(rt.alloc(), 0)?, 0, &[false, false]);
-    let room = kept(&rt, rt.alloc(), one_slot(rt.alloc(), 1, 1)?);
-    assert!(rt; room.lenders(rt.alloc(), 0)?.is_none());
+    let alloc = rt.alloc();
+    let full = kept(&rt, alloc, one_slot(alloc, 2, 1)?);
+    reaches(&rt, alloc, &full, 1, &[true, false])?;
+    let nothing = kept(&rt, alloc, one_slot(alloc, 3, 0)?);
+    reaches(&rt, alloc, &nothing, 0, &[false, false])?;
+    let room = kept(&rt, alloc, one_slot(alloc, 1, 1)?);
+    reaches(&rt, alloc, &room, 0, &[false, true])?;
+    let both = kept(&rt, alloc, one_slot(alloc, 2, 0)?);
+    reaches(&rt, alloc, &both, 0, &[false, false])?;
+    reaches(&rt, alloc, &both, 1, &[true, false])?;
     Ok(())
 }
 
 #[test]
 fn keeps_no_split_of_too_much(rt: HostRuntime) -> Result<(), Fail> {
     let short = one_slot(rt.alloc(), 2, 2)?;
-    match KeptSplit::of(rt.alloc(), short) {
+    match Kept::new(rt.alloc(), short) {
         Err(AssignEnd::Shortage { set }) => {
             assert!(rt; set.len() == 2);
             assert!(rt; set.contains(0) && set.contains(1));
@@ -149,14 +159,14 @@ fn keeps_no_split_of_too_much(rt: HostRuntime) -> Result<(), Fail> {
     Ok(())
 }
 
-/// Demands of 0, 1, 1 and 1 over three slots that hold 1 each: the third shares a slot with the second alone, and the last
-/// shares with none.
-fn in_a_row(alloc: Global) -> Result<Demand, Memory>
-    ensures { IfOk result (λ d. d.demands ≡ pos 0 ∷ pos 1 ∷ pos 1 ∷ pos 1 ∷ []) }
+/// Four demands, the last two of 1, over three slots that hold 1 each: the third shares a slot with the second alone, and the
+/// last shares with none.
+fn in_a_row(alloc: Global, first: u8, second: u8) -> Result<Demand, Memory>
+    ensures { IfOk result (λ d. d ≡ record { demands = pos first ∷ pos second ∷ pos 1 ∷ pos 1 ∷ []; lists = (0 ∷ []) ∷ (0 ∷ 1 ∷ []) ∷ (1 ∷ []) ∷ (2 ∷ []) ∷ []; capacities = pos 1 ∷ pos 1 ∷ pos 1 ∷ [] }) }
 {
-    let mut demand = Demand::new(alloc, 4, &[1, 1, 1])?;
-    demand.push(0, vec![in alloc; 0]?)?;
-    demand.push(1, vec![in alloc; 0, 1]?)?;
+    let mut demand = Demand::new(alloc, &[1, 1, 1])?;
+    demand.push(i128::from(first), vec![in alloc; 0]?)?;
+    demand.push(i128::from(second), vec![in alloc; 0, 1]?)?;
     demand.push(1, vec![in alloc; 1]?)?;
     demand.push(1, vec![in alloc; 2]?)?;
     Ok(demand)
@@ -164,35 +174,23 @@ fn in_a_row(alloc: Global) -> Result<Demand, Memory>
 
 #[test]
 fn lends_by_way_of_another(rt: HostRuntime) -> Result<(), Fail> {
-    let kept = kept(&rt, rt.alloc(), in_a_row(rt.alloc())?);
-    let first = [false, true, true, false];
-    has_lenders(&rt, kept.lenders(rt.alloc(), 0)?, 0, &first);
-    let third = [false, false, false, false];
-    has_lenders(&rt, kept.lenders(rt.alloc(), 2)?, 2, &third);
+    let kept = kept(&rt, rt.alloc(), in_a_row(rt.alloc(), 0, 1)?);
+    reaches(&rt, rt.alloc(), &kept, 0, &[false, true, true, false])?;
+    reaches(&rt, rt.alloc(), &kept, 2, &[false, false, false, false])?;
     Ok(())
 }
 
 #[test]
-fn goes_on_after_an_exchange(rt: HostRuntime) -> Result<(), Fail> {
-    let before = kept(&rt, rt.alloc(), in_a_row(rt.alloc())?);
-    let after = before.exchanged(rt.alloc(), 0, 1, 1).ok();
-    let kept = after.expect(&rt, "a split of 1, 0, 1 and 1");
-    let none = [false, false, false, false];
-    has_lenders(&rt, kept.lenders(rt.alloc(), 0)?, 0, &none);
-    let first = [true, false, true, false];
-    has_lenders(&rt, kept.lenders(rt.alloc(), 1)?, 1, &first);
-    Ok(())
-}
-
-#[test]
-fn no_split_after_an_exchange(rt: HostRuntime) -> Result<(), Fail> {
-    let before = kept(&rt, rt.alloc(), in_a_row(rt.alloc())?);
-    match before.exchanged(rt.alloc(), 0, 3, 1) {
-        Err(AssignEnd::Shortage { set }) => {
-            assert!(rt; set.len() == 4);
-            assert!(rt; set.contains(0) && set.contains(1) && set.contains(2));
+fn goes_on_after_a_shift(rt: HostRuntime) -> Result<(), Fail> {
+    let mut kept = kept(&rt, rt.alloc(), in_a_row(rt.alloc(), 0, 1)?);
+    let after = in_a_row(rt.alloc(), 1, 0)?;
+    match assign(rt.alloc(), &after) {
+        Ok(_) => {
+            kept.shift(rt.alloc(), 0, 1, 1)?;
+            reaches(&rt, rt.alloc(), &kept, 0, &[false, false, false, false])?;
+            reaches(&rt, rt.alloc(), &kept, 1, &[true, false, true, false])?;
         }
-        _ => panic!(rt; "no shortage"),
+        Err(_) => panic!(rt; "no split"),
     }
     Ok(())
 }

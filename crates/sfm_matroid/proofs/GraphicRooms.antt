@@ -22,7 +22,7 @@ use Rattle.sfm_matroid.proofs.MatroidTests.{numbered_tests}
 use Rattle.sfm_matroid.proofs.SplitTests.{split_within_ends, within_ends_split}
 use Rattle.sfm_matroid.specs.Leasts.{IsLeastOf, IsMostOf}
 use Rattle.sfm_matroid.specs.Givers.{IsGiver, AreKept, CanLend}
-use Rattle.sfm_assign.specs.declared.kept.KeptSplit.{KeptSplit}
+use Rattle.sfm_assign.specs.declared.kept.Kept.{Kept}
 use Rattle.sfm_matroid.specs.Notes.{AreSplits}
 use Rattle.sfm_spec.proofs.Sums.{length-exchanged}
 
@@ -143,5 +143,5 @@ module _ (edges : List Edge) (items : List (ℕ × ℕ)) (are : edges_of items �
   pub least_kept : (u : ℕ) (has_v cap has_u a : ℤ) → IsLeastOf (IsMostOf (edges_of given) (2 * length given) c x u (edge_at (edges_of given) u).tail) has_v cap has_u a → IsLeastOf (IsMostOf (numbered edges) (2 * length edges) c x u (edge_at (numbered edges) u).tail) has_v cap has_u a
   least_kept u has_v cap has_u a h = rw (is, are, as_many edges items are) at h
 
-  pub splits_kept : (splits : List (Option KeptSplit)) → AreSplits (edges_of given) (2 * length given) c x splits → AreSplits (numbered edges) (2 * length edges) c x splits
+  pub splits_kept : (splits : List (Option Kept)) → AreSplits (edges_of given) (2 * length given) c x splits → AreSplits (numbered edges) (2 * length edges) c x splits
   splits_kept splits h = rw (is, are, as_many edges items are) at h

@@ -1,14 +1,14 @@
 -- Places kept in a set that can give something: by what a search tells of all at once, test after test.
 use Rattle.std.proofs.Common.{◌≡◌, ◌≢◌, ◌↔◌, ℕ, zero, suc, ◌+◌, ◌<◌, Bool, true, false, List, [], ◌∷◌, length, get_or, ℤ, pos, ◌≤ℤ◌, sym, ◌∙◌, arith, ⊎_elim}
+use Rattle.std.proofs.lemmas.Int.{ints}
 use Rattle.std.proofs.lemmas.Bool.{cases_lt, and_parts, and_from, false≢true}
 use Rattle.sfm_spec.specs.Sets.{Has, size, intersection}
 use Rattle.sfm_spec.specs.Terms.{SetFunction, HasRoom, exchanged}
 use Rattle.sfm_spec.proofs.Sets.{get_or-intersection}
 use Rattle.sfm_spec.proofs.Where.{size-cons}
 use Rattle.sfm_law.specs.Room.{IsReach}
-use Rattle.sfm_assign.specs.Splits.{CanBeMet, Demands, AreDemands}
-use Rattle.sfm_assign.specs.Lenders.{one_more, IsLenders}
-use Rattle.sfm_assign.proofs.Loans.{lent_from_more}
+use Rattle.sfm_assign.specs.Splits.{CanBeMet, Demands}
+use Rattle.sfm_assign.specs.Lenders.{IsLender}
 use Rattle.sfm_matroid.specs.Members.{has_place}
 use Rattle.sfm_matroid.specs.Givers.{IsGiver, AreKept}
 
@@ -28,21 +28,13 @@ module _ (d : Demands) (u : ℕ) (before : List Bool) (places : length before �
   CanLend v = CanBeMet (exchanged d.demands u v (pos 1)) d.lists d.capacities
 
   -- the lenders are kept
-  pub kept_lenders : (s : List Bool) → IsLenders d.demands d.lists d.capacities u s → AreKept CanLend before (intersection before s)
-  kept_lenders s lend v =
-      let same : length before ≡ length s = places ∙ sym lend.places in
-      let at = get_or-intersection before s v same in
-      let below : Has before v → v < length d.demands = λ h. let p = has_place before v h in omega (arith, p, places) in (
-        (λ has. let (b, l) = and_parts (get_or before v false) (get_or s v false) (sym at ∙ has) in (b, (lend.exact v (below b) (givers v b).0).0 l)),
-        (λ (b, can). at ∙ and_from (get_or before v false) (get_or s v false) b ((lend.exact v (below b) (givers v b).0).1 can)),
+  pub kept_lenders : (s : List Bool) → length s ≡ length d.demands → ((v : ℕ) → v < length s → Has s v ↔ IsLender d.demands d.lists d.capacities u v) → AreKept CanLend before (intersection before s)
+  kept_lenders s sized lend v =
+      let at = get_or-intersection before s v (places ∙ sym sized) in
+      let below : Has before v → v < length s = λ h. let p = has_place before v h in omega (arith, p, places, sized) in (
+        (λ has. let (b, l) = and_parts (get_or before v false) (get_or s v false) (sym at ∙ has) in (b, ((lend v (below b)).0 l).met)),
+        (λ (b, can). let (ne, some) = givers v b in at ∙ and_from (get_or before v false) (get_or s v false) b ((lend v (below b)).1 (record { other = ne; asks = omega (arith, ints, some); met = can }))),
       )
-
-  -- where u can get one more as it is, each can lend
-  pub kept_all : AreDemands d → u < length d.demands → CanBeMet (one_more d.demands u) d.lists d.capacities → AreKept CanLend before before
-  kept_all sound lu more v = (
-    (λ has. let p = has_place before v has in let g = givers v has in (has, lent_from_more d sound u v lu (omega (arith, p, places)) g.0 g.1 more)),
-    (λ h. h.0),
-  )
 
 -- ---- one test after another
 

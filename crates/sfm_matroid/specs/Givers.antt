@@ -4,7 +4,7 @@ use Rattle.sfm_spec.specs.Sets.{Has}
 use Rattle.sfm_spec.specs.Kinds.{Edge}
 use Rattle.sfm_spec.specs.Terms.{exchanged}
 use Rattle.sfm_assign.specs.Splits.{CanBeMet}
-use Rattle.sfm_assign.specs.declared.kept.KeptSplit.{KeptSplit}
+use Rattle.sfm_assign.specs.declared.kept.Kept.{Kept}
 use Rattle.sfm_matroid.specs.Numbered.{IsTail, end_lists, vertex_capacities}
 
 -- a place other than u that has something, while u has less than c
@@ -26,6 +26,6 @@ pub record AreOthers (demands : List ℤ) (u : ℕ) (set : List Bool) : Type 0 w
   pub others : (v : ℕ) → Has set v → (v ≢ u) × (pos 1 ≤ℤ slice_index_or demands v (pos 0))
 
 -- v can give one of what it has to u in the test of a split, if one is kept
-abbrev pub CanLendIn : Option KeptSplit → ℕ → ℕ → Type 0
+abbrev pub CanLendIn : Option Kept → ℕ → ℕ → Type 0
 CanLendIn None u v = Unit {0}
 CanLendIn (Some kept) u v = CanBeMet (exchanged kept.demand.demands u v (pos 1)) kept.demand.lists kept.demand.capacities

@@ -5,7 +5,7 @@ use Rattle.sfm_spec.specs.Terms.{exchanged}
 use Rattle.sfm_spec.specs.Kinds.{Edge}
 use Rattle.sfm_assign.specs.Splits.{IsAmount, CanBeMet, Demands}
 use Rattle.sfm_assign.specs.Lenders.{exchanged_in}
-use Rattle.sfm_assign.specs.declared.kept.KeptSplit.{KeptSplit}
+use Rattle.sfm_assign.specs.declared.kept.Kept.{Kept}
 use Rattle.sfm_matroid.specs.Numbered.{IsTail, numbered, end_lists, vertex_capacities}
 
 -- edges as demands that are split over their ends, where each of m vertices holds c, but a nothing
@@ -17,43 +17,38 @@ abbrev pub slot_demands : List (List ℕ) → ℕ → ℤ → List ℤ → Deman
 slot_demands entries m c x = record { demands = x; lists = entries; capacities = replicate m c }
 
 -- the split in the test of a, or none where a is no tail
-abbrev pub IsSplitAt : List Edge → ℕ → ℤ → List ℤ → ℕ → Option KeptSplit → Type 0
+abbrev pub IsSplitAt : List Edge → ℕ → ℤ → List ℤ → ℕ → Option Kept → Type 0
 IsSplitAt edges m c x a None = IsTail edges a → ⊥
 IsSplitAt edges m c x a (Some kept) = IsTail edges a × (kept.demand ≡ end_demands edges m c x a)
 
 -- the splits in the tests of those of m vertices that are tails
-pub record AreSplits (edges : List Edge) (m : ℕ) (c : ℤ) (x : List ℤ) (splits : List (Option KeptSplit)) : Type 0 where
+pub record AreSplits (edges : List Edge) (m : ℕ) (c : ℤ) (x : List ℤ) (splits : List (Option Kept)) : Type 0 where
   pub places : length splits ≡ m
   pub each : (a : ℕ) → a < m → IsSplitAt edges m c x a (slice_index_or splits a None)
 
 -- the split where each slot holds c
-pub record IsSlotSplit (entries : List (List ℕ)) (c : ℤ) (x : List ℤ) (kept : KeptSplit) : Type 0 where
+pub record IsSlotSplit (entries : List (List ℕ)) (c : ℤ) (x : List ℤ) (kept : Kept) : Type 0 where
   pub m : ℕ
   pub below : All (All (λ v. v < m)) entries
   pub split : kept.demand ≡ slot_demands entries m c x
 
--- the split is there; None stands for one that is lost
-abbrev pub IsSlotSplitIn : List (List ℕ) → ℤ → List ℤ → Option KeptSplit → Type 0
-IsSlotSplitIn entries c x None = ⊥
-IsSlotSplitIn entries c x (Some kept) = IsSlotSplit entries c x kept
-
 -- demands that can be met after an exchange
-pub record IsMovable (u v : ℕ) (a : ℤ) (d : Demands) : Type 0 where
+pub record IsShiftable (u v : ℕ) (a : ℤ) (d : Demands) : Type 0 where
   pub from : u < length d.demands
   pub onto : v < length d.demands
   pub amounts : All IsAmount (exchanged d.demands u v a)
   pub met : CanBeMet (exchanged d.demands u v a) d.lists d.capacities
 
 -- a split before and after an exchange, if there is one
-abbrev pub IsMoved : ℕ → ℕ → ℤ → Option KeptSplit → Option KeptSplit → Type 0
+abbrev pub IsMoved : ℕ → ℕ → ℤ → Option Kept → Option Kept → Type 0
 IsMoved u v a None after = after ≡ None
 IsMoved u v a (Some kept) None = ⊥
 IsMoved u v a (Some kept) (Some moved) = moved.demand ≡ exchanged_in kept.demand u v a
 
 -- what is kept beside a base of q times a graphic term: the splits in the tests of all tails
-abbrev pub graphic_fits : ℤ → List Edge → List (Option KeptSplit) → ℤ → List ℤ → Type 0
+abbrev pub graphic_fits : ℤ → List Edge → List (Option Kept) → ℤ → List ℤ → Type 0
 graphic_fits w edges splits q x = AreSplits (numbered edges) (2 * length edges) (q *ℤ w) x splits
 
 -- what is kept beside a base of q times a transversal term: the split in its test
-abbrev pub transversal_fits : ℤ → List (List ℕ) → Option KeptSplit → ℤ → List ℤ → Type 0
-transversal_fits w entries kept q x = IsSlotSplitIn entries (q *ℤ w) x kept
+abbrev pub transversal_fits : ℤ → List (List ℕ) → Kept → ℤ → List ℤ → Type 0
+transversal_fits w entries kept q x = IsSlotSplit entries (q *ℤ w) x kept

@@ -109,7 +109,7 @@ module _ (k m : ℕ) (entries : List (List ℕ)) (s i : List Bool) (f : ℕ → 
   IsIn u e j = (j ≢ e) × ((j ≡ u) ⊎ Has i j)
 
   -- e can give way to a member of s outside i: the others have slots of their own, of those that i has by f, and the same where r is not
-  pub record IsMovable (r : List Bool) (e : ℕ) : Type 0 where
+  pub record CanGiveWay (r : List Bool) (e : ℕ) : Type 0 where
     pub u : ℕ
     pub wanted : Has s u
     pub outside : get_or i u false ≡ false
@@ -123,7 +123,7 @@ module _ (k m : ℕ) (entries : List (List ℕ)) (s i : List Bool) (f : ℕ → 
     pub places : length r ≡ k
     pub inside : IsWithin r s
     pub holds : (e : ℕ) → Has s e → get_or i e false ≡ false → Has r e
-    pub movable : (e : ℕ) → Has r e → IsMovable r e
+    pub movable : (e : ℕ) → Has r e → CanGiveWay r e
 
   -- a member of s can be taken to i
   abbrev pub Grows : Type 0
@@ -158,7 +158,7 @@ module _ (k m : ℕ) (entries : List (List ℕ)) (s i : List Bool) (f : ℕ → 
     parts e has = let (hs, out) = and_parts (get_or s e false) (not (get_or i e false)) (sym (minus-at s i e) ∙ has) in (hs, not-true (get_or i e false) out)
 
   -- the slot v of e for e, where no other of i with u and without e has it
-  pub raised : (r : List Bool) (e v : ℕ) (h : IsMovable r e) → Contains (get_or entries e []) v → ((p : ℕ) → Has i p → f p ≢ v) → Grows
+  pub raised : (r : List Bool) (e v : ℕ) (h : CanGiveWay r e) → Contains (get_or entries e []) v → ((p : ℕ) → Has i p → f p ≢ v) → Grows
   raised r e v h c free = (h.u, h.wanted, h.outside, matchable_from entries (set i h.u true) (redirected h.by e v) (record { own = own; distinct = λ a b ha hb same. both a b ha hb same (cases_eq a e) (cases_eq b e) })) where
     unused : (j : ℕ) → IsIn h.u e j → h.by j ≢ v
     unused j hj same = let (p, hp, is) = h.used j hj in free p hp (is ∙ same)
@@ -173,7 +173,7 @@ module _ (k m : ℕ) (entries : List (List ℕ)) (s i : List Bool) (f : ℕ → 
     both a b ha hb same (inr na) (inr nb) = h.distinct a b (na, has_set i h.u a ha) (nb, has_set i h.u b hb) (sym (redirected-other h.by e v a na) ∙ (same ∙ redirected-other h.by e v b nb))
 
   -- the slot of p for e, so that p can give way
-  moved : (r : List Bool) (e p : ℕ) → Has r e → get_or r p false ≡ false → Has i p → Contains (get_or entries e []) (f p) → IsMovable r e → IsMovable (set r p true) p
+  moved : (r : List Bool) (e p : ℕ) → Has r e → get_or r p false ≡ false → Has i p → Contains (get_or entries e []) (f p) → CanGiveWay r e → CanGiveWay (set r p true) p
   moved r e p he out hp c h = record {
     u = h.u;
     wanted = h.wanted;

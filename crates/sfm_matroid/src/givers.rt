@@ -6,7 +6,7 @@ ghost use Rattle.sfm_spec.specs.Terms.{exchanged};
 ghost use Rattle.sfm_assign.specs.Splits.{CanBeMet};
 ghost use Rattle.sfm_matroid.specs.Givers.{IsGiver, AreKept, AreOthers, CanLendIn};
 
-use sfm_assign::KeptSplit;
+use sfm_assign::Kept;
 use sfm_base::{Memory, Set};
 use std::alloc::Global;
 
@@ -32,7 +32,7 @@ pub(crate) fn givers(x: &[i128], cap: i128, u: usize, to: &mut Set)
 }
 
 /// Keeps those places of a set that can lend to u where demands are split.
-fn keep_lenders(alloc: Global, kept: &KeptSplit, u: usize, to: &mut Set) -> Result<(), Memory>
+pub(crate) fn keep_lenders(alloc: Global, kept: &Kept, u: usize, to: &mut Set) -> Result<(), Memory>
     requires { AreOthers kept.now.demand.demands u to.old }
     ensures places { length to.new ≡ length to.old }
     ensures kept { OnOk result (AreKept (λ v. CanBeMet (exchanged kept.now.demand.demands u v (pos 1)) kept.now.demand.lists kept.now.demand.capacities) to.old to.new) }
@@ -40,20 +40,20 @@ fn keep_lenders(alloc: Global, kept: &KeptSplit, u: usize, to: &mut Set) -> Resu
     if to.size() == 0 {
         return Ok(());
     }
-    if let Some(set) = kept.lenders(alloc, u)? {
-        to.keep_with(&set);
-    }
+    let mut lenders = Set::empty(alloc, to.len())?;
+    kept.reach(alloc, u, &mut lenders)?;
+    to.keep_with(&lenders);
     Ok(())
 }
 
 /// Keeps those places of a set that can lend to u in a split, if there is one.
 pub(crate) fn keep_by_split(
     alloc: Global,
-    split: &Option<KeptSplit>,
+    split: &Option<Kept>,
     u: usize,
     to: &mut Set,
 ) -> Result<(), Memory>
-    requires { (kept : KeptSplit) → split.now ≡ Some kept → AreOthers kept.demand.demands u to.old }
+    requires { (kept : Kept) → split.now ≡ Some kept → AreOthers kept.demand.demands u to.old }
     ensures places { length to.new ≡ length to.old }
     ensures kept { OnOk result (AreKept (CanLendIn split.now u) to.old to.new) }
 {

@@ -41,7 +41,7 @@ pub(crate) fn slot_demand(
     ensures { IfOk result (λ r. r ≡ record { demands = x.now; lists = entries.now; capacities = replicate m most }) }
 {
     let capacities = vec![in alloc; most; m]?;
-    let mut demand = Demand::new(alloc, entries.len(), &capacities)?;
+    let mut demand = Demand::new(alloc, &capacities)?;
     for (e, slots) in entries.as_slice().iter().enumerate() {
         demand.push(x[e], numbers(alloc, slots.as_slice())?)?;
     }

@@ -8,33 +8,33 @@ ghost use Rattle.sfm_assign.specs.Lenders.{exchanged_in};
 ghost use Rattle.sfm_matroid.specs.Ends.{edges_of};
 ghost use Rattle.sfm_matroid.specs.Runs.{EndsBelow};
 ghost use Rattle.sfm_matroid.specs.Numbered.{IsTail, end_lists, vertex_capacities};
-ghost use Rattle.sfm_matroid.specs.Notes.{IsSplitAt, AreSplits, IsSlotSplitIn, IsMovable, IsMoved};
+ghost use Rattle.sfm_matroid.specs.Notes.{IsSplitAt, AreSplits, IsSlotSplit, IsShiftable, IsMoved};
 
 use crate::entries::Entries;
 use crate::matching::slot_demand;
 use crate::testing::demand;
-use sfm_assign::{AssignEnd, Demand, KeptSplit};
+use sfm_assign::{AssignEnd, Demand, Kept};
 use sfm_base::Memory;
 use std::alloc::Global;
 
 /// For each vertex, by its number, the split in its test; None where it is no tail.
 #[derive(Drop)]
 pub struct TailSplits {
-    pub kept: Vec<Option<KeptSplit>>,
+    pub kept: Vec<Option<Kept>>,
 }
 
-/// The split over slots; None once memory was wanted while it was brought up to an exchange.
+/// The split over slots.
 #[derive(Drop)]
 pub struct SlotSplit {
-    pub kept: Option<KeptSplit>,
+    pub kept: Kept,
 }
 
 /// A split of demands that can be met.
-fn split_of(alloc: Global, demand: Demand) -> Result<KeptSplit, Memory>
+fn split_of(alloc: Global, demand: Demand) -> Result<Kept, Memory>
     requires { CanBeMet demand.demands demand.lists demand.capacities }
     ensures { IfOk result (λ r. r.demand ≡ demand) }
 {
-    match KeptSplit::of(alloc, demand) {
+    match Kept::new(alloc, demand) {
         Ok(kept) => Ok(kept),
         Err(AssignEnd::Shortage { .. }) => unreachable!(),
         Err(AssignEnd::Memory) => Err(Memory),
@@ -55,7 +55,7 @@ fn tail_split(
     x: &[i128],
     most: i128,
     a: usize,
-) -> Result<Option<KeptSplit>, Memory>
+) -> Result<Option<Kept>, Memory>
     requires few { length ends.now ≤ 256 }
     requires entries { length x.now ≡ length ends.now }
     requires amounts { All IsAmount x.now }
@@ -113,48 +113,44 @@ pub(crate) fn slot_split(
     requires few_slots { m ≤ 2 ^ 24 }
     requires below { All (All (λ v. v < m)) entries.now }
     requires met { CanBeMet x.now entries.now (replicate m most) }
-    ensures { IfOk result (λ r. IsSlotSplitIn entries.now most x.now r.kept) }
+    ensures { IfOk result (λ r. IsSlotSplit entries.now most x.now r.kept) }
 {
     let demand = slot_demand(alloc, entries, m, x, most)?;
     let kept = split_of(alloc, demand)?;
-    Ok(SlotSplit { kept: Some(kept) })
+    Ok(SlotSplit { kept })
 }
 
-/// A split brought up to an exchange after which its demands can be met.
-fn split_after(
-    alloc: Global,
-    kept: KeptSplit,
-    u: usize,
-    v: usize,
-    a: i128,
-) -> Result<KeptSplit, Memory>
-    requires apart { u ≢ v }
-    requires low { pos 0 ≤ℤ a }
-    requires movable { IsMovable u v a kept.demand }
-    ensures { IfOk result (λ r. r.demand ≡ exchanged_in kept.demand u v a) }
-{
-    match kept.exchanged(alloc, u, v, a) {
-        Ok(kept) => Ok(kept),
-        Err(AssignEnd::Shortage { .. }) => unreachable!(),
-        Err(AssignEnd::Memory) => Err(Memory),
-    }
-}
-
-/// Brings a split up to an exchange, if there is one.
+/// Brings a split up to an exchange after which its demands can be met.
 pub(crate) fn move_split(
     alloc: Global,
-    split: &mut Option<KeptSplit>,
+    kept: &mut Kept,
     u: usize,
     v: usize,
     a: i128,
 ) -> Result<(), Memory>
     requires apart { u ≢ v }
     requires low { pos 0 ≤ℤ a }
-    requires movable { (kept : KeptSplit) → split.old ≡ Some kept → IsMovable u v a kept.demand }
+    requires shiftable { IsShiftable u v a kept.old.demand }
+    ensures { OnOk result (kept.new.demand ≡ exchanged_in kept.old.demand u v a) }
+{
+    kept.shift(alloc, u, v, a)
+}
+
+/// Brings the split in the test of a vertex up to an exchange, if there is one.
+fn move_tail(
+    alloc: Global,
+    split: &mut Option<Kept>,
+    u: usize,
+    v: usize,
+    a: i128,
+) -> Result<(), Memory>
+    requires apart { u ≢ v }
+    requires low { pos 0 ≤ℤ a }
+    requires shiftable { (kept : Kept) → split.old ≡ Some kept → IsShiftable u v a kept.demand }
     ensures { OnOk result (IsMoved u v a split.old split.new) }
 {
-    if let Some(kept) = split.take() {
-        *split = Some(split_after(alloc, kept, u, v, a)?);
+    if let Some(kept) = split {
+        move_split(alloc, kept, u, v, a)?;
     }
     Ok(())
 }
@@ -162,19 +158,19 @@ pub(crate) fn move_split(
 /// Brings each split that there is up to an exchange.
 pub(crate) fn move_splits(
     alloc: Global,
-    splits: &mut [Option<KeptSplit>],
+    splits: &mut [Option<Kept>],
     u: usize,
     v: usize,
     a: i128,
 ) -> Result<(), Memory>
     requires apart { u ≢ v }
     requires low { pos 0 ≤ℤ a }
-    requires movable { (t : ℕ) (kept : KeptSplit) → t < length splits.old → slice_index_or splits.old t None ≡ Some kept → IsMovable u v a kept.demand }
+    requires shiftable { (t : ℕ) (kept : Kept) → t < length splits.old → slice_index_or splits.old t None ≡ Some kept → IsShiftable u v a kept.demand }
     ensures places { length splits.new ≡ length splits.old }
     ensures moved { OnOk result ((t : ℕ) → t < length splits.old → IsMoved u v a (slice_index_or splits.old t None) (slice_index_or splits.new t None)) }
 {
     for t in 0..splits.len() {
-        move_split(alloc, &mut splits[t], u, v, a)?;
+        move_tail(alloc, &mut splits[t], u, v, a)?;
     }
     Ok(())
 }

@@ -60,7 +60,7 @@ pub(crate) fn demand(
 {
     let mut capacities = vec![in alloc; most; 2 * ends.len()]?;
     capacities[a] = 0;
-    let mut demand = Demand::new(alloc, ends.len(), &capacities)?;
+    let mut demand = Demand::new(alloc, &capacities)?;
     for (e, pair) in ends.iter().enumerate() {
         demand.push(x[e], vec![in alloc; pair.0, pair.1]?)?;
     }

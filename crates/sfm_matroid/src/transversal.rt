@@ -14,7 +14,7 @@ ghost use Rattle.sfm_matroid.specs.Notes.{transversal_fits};
 ghost use Rattle.sfm_matroid.specs.TransversalLaws.{transversal_value, transversal_size, transversal_start, transversal-family, transversal-submodular, transversal-bounded, transversal-starts, transversal-starts_small};
 
 use crate::entries::Entries;
-use crate::givers::{givers, keep_by_split};
+use crate::givers::{givers, keep_lenders};
 use crate::growing::whole;
 use crate::matching::{are_held, matched};
 use crate::slot_room::least_unheld;
@@ -272,7 +272,7 @@ impl Transversal {
     {
         let cap = product(q, self.w);
         givers(x, cap, u, to);
-        keep_by_split(alloc, &note.kept, u, to)?;
+        keep_lenders(alloc, &note.kept, u, to)?;
         Ok(())
     }
 }

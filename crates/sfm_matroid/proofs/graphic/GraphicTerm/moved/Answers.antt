@@ -10,11 +10,11 @@ use Rattle.sfm_matroid.specs.Numbered.{numbered}
 use Rattle.sfm_matroid.proofs.Fits.{within_amounts}
 use Rattle.sfm_matroid.proofs.GraphicBases.{base_within_cap}
 use Rattle.sfm_matroid.proofs.GraphicRooms.{base_split}
-use Rattle.sfm_matroid.proofs.Noted.{splits_movable, splits_moved}
+use Rattle.sfm_matroid.proofs.Noted.{splits_shiftable, splits_moved}
 use Rattle.sfm_matroid.proofs.graphic.GraphicTerm.moved.Goals as goal
 
-pub move_splits-requires-clause-movable : goal.move_splits-requires-clause-movable
-move_splits-requires-clause-movable c =
+pub move_splits-requires-clause-shiftable : goal.move_splits-requires-clause-shiftable
+move_splits-requires-clause-shiftable c =
     let r = c.requires in
     let s = c.args.self.now in
     let q = c.args._q in
@@ -28,7 +28,7 @@ move_splits-requires-clause-movable c =
     let sized = length-exchanged x u v a ∙ r.entries in
     let low = product_low q s.w r.factor s.low in
     let amounts = within_amounts y (q *ℤ s.w) (product_high q s.w r.factor s.given) (base_within_cap (length s.places) q s.w s.ends s.same_count low y sized base) in
-    rw c.deref_mut.ensures.value (simp to_z-of_z (splits_movable u v a x r.from r.onto amounts (numbered s.ends) _ _ c.args.note.now.kept.items r.noted (base_split (length s.places) q s.w s.ends s.same_count low y sized base)))
+    rw c.deref_mut.ensures.value (simp to_z-of_z (splits_shiftable u v a x r.from r.onto amounts (numbered s.ends) _ _ c.args.note.now.kept.items r.noted (base_split (length s.places) q s.w s.ends s.same_count low y sized base)))
 
 pub returns : goal.returns
 returns c =

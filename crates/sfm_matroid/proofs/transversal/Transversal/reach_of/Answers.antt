@@ -3,13 +3,12 @@ use Rattle.std.proofs.lemmas.Int.{to_z-of_z}
 use mir.Syntax.{w128}
 use Rattle.sfm_law.proofs.Fits.{given_fits, given_more, product_fits, product_low}
 use Rattle.sfm_matroid.proofs.Keeping.{givers_have}
-use Rattle.sfm_matroid.proofs.Noted.{slot_known}
 use Rattle.sfm_matroid.proofs.TransversalBases.{reach_slots}
 use Rattle.sfm_matroid.specs.Givers.{AreOthers}
 use Rattle.sfm_matroid.proofs.transversal.Transversal.reach_of.Goals as goal
 
-pub keep_by_split-requires : goal.keep_by_split-requires
-keep_by_split-requires c =
+pub keep_lenders-requires : goal.keep_lenders-requires
+keep_lenders-requires c =
     let r = c.requires in
     let s = c.args.self.now in
     let q = c.args.q in
@@ -21,7 +20,7 @@ keep_by_split-requires c =
     let low = product_low q s.w r.factor s.low in
     let exact = simp to_z-of_z at (rw p at c.givers.ensures.exact) in
     let others : AreOthers x c.args.u c.givers.new.to = record { place = r.from; places = c.givers.ensures.places; others = givers_have x (q *ℤ s.w) c.args.u c.givers.new.to c.givers.ensures.places exact } in
-    λ kept some. let n = rw some at r.noted in rw (ap (λ d. d.demands) n.split) others
+    rw (ap (λ d. d.demands) r.noted.split) others
 
 pub returns-clause-reached : goal.returns-clause-reached
 returns-clause-reached c =
@@ -35,7 +34,6 @@ returns-clause-reached c =
     let p = simp to_z-of_z at c.product-cap.ensures in
     let low = product_low q s.w r.factor s.low in
     let exact = simp to_z-of_z at (rw p at c.givers.ensures.exact) in
-    let (k, is, n) = slot_known s.entries (q *ℤ s.w) x c.args.note.now.kept r.noted in
-    let lent = rw is at c.in_ok-keep_by_split.ensures.kept in
-    let kept = rw n.split at lent in
-    reach_slots (length s.places) q s.w s.entries n.m n.below s.same_count low x r.entries r.base c.args.u r.from c.givers.new.to c.keep_by_split.new.to (c.in_ok-keep_by_split.ensures.places ∙ c.givers.ensures.places) exact kept
+    let n = r.noted in
+    let kept = rw n.split at c.in_ok-keep_lenders.ensures.kept in
+    reach_slots (length s.places) q s.w s.entries n.m n.below s.same_count low x r.entries r.base c.args.u r.from c.givers.new.to c.keep_lenders.new.to (c.in_ok-keep_lenders.ensures.places ∙ c.givers.ensures.places) exact kept

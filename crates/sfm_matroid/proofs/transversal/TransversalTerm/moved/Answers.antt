@@ -7,11 +7,11 @@ use Rattle.sfm_law.proofs.Rooms.{base_within_room}
 use Rattle.sfm_law.proofs.Fits.{product_low, product_high}
 use Rattle.sfm_matroid.proofs.Fits.{within_amounts}
 use Rattle.sfm_matroid.proofs.TransversalBases.{base_within_cap, base_split}
-use Rattle.sfm_matroid.proofs.Noted.{slots_movable, slots_moved, slot_known}
+use Rattle.sfm_matroid.proofs.Noted.{slots_shiftable, slots_moved}
 use Rattle.sfm_matroid.proofs.transversal.TransversalTerm.moved.Goals as goal
 
-pub move_split-requires-clause-movable : goal.move_split-requires-clause-movable
-move_split-requires-clause-movable c =
+pub move_split-requires-clause-shiftable : goal.move_split-requires-clause-shiftable
+move_split-requires-clause-shiftable c =
     let r = c.requires in
     let s = c.args.self.now in
     let q = c.args._q in
@@ -24,13 +24,13 @@ move_split-requires-clause-movable c =
     let base = base_within_room a r.base r.from r.onto r.apart r.low r.room in
     let sized = length-exchanged x u v a ∙ r.entries in
     let low = product_low q s.w r.factor s.low in
-    let (k, is, n) = slot_known s.entries (q *ℤ s.w) x c.args.note.now.kept r.noted in
+    let n = r.noted in
     let amounts = within_amounts y (q *ℤ s.w) (product_high q s.w r.factor s.given) (base_within_cap (length s.places) q s.w s.entries n.m n.below s.same_count low y sized base) in
-    simp to_z-of_z (slots_movable u v a x r.from r.onto amounts s.entries (q *ℤ s.w) c.args.note.now.kept r.noted (λ m below. base_split (length s.places) q s.w s.entries m below s.same_count low y sized base))
+    simp to_z-of_z (slots_shiftable u v a x r.from r.onto amounts s.entries (q *ℤ s.w) c.args.note.now.kept r.noted (λ m below. base_split (length s.places) q s.w s.entries m below s.same_count low y sized base))
 
 pub returns : goal.returns
 returns c =
     let r = c.requires in
     let s = c.args.self.now in
     let fa : FitsSigned w128 c.args.a = c.ranges.a in
-    slots_moved c.args.u c.args.v c.args.a s.entries (c.args._q *ℤ s.w) c.args._x.now c.args.note.now.kept c.move_split.new.split r.noted (simp to_z-of_z at c.in_ok-move_split.ensures)
+    slots_moved c.args.u c.args.v c.args.a s.entries (c.args._q *ℤ s.w) c.args._x.now c.args.note.now.kept c.move_split.new.kept r.noted (simp to_z-of_z at c.in_ok-move_split.ensures)

@@ -2,11 +2,11 @@ use Rattle.std.proofs.Common.{length, set, replicate, pos, ◌+ℤ◌, Some, Non
 use Rattle.std.proofs.lemmas.List.{length-replicate}
 use Rattle.sfm_assign.specs.Splits.{amount_at}
 use Rattle.sfm_assign.specs.Cells.{joined, owners, AreCells}
-use Rattle.sfm_assign.specs.Lenders.{one_more}
+use Rattle.sfm_assign.specs.Search.{one_more}
 use Rattle.sfm_assign.proofs.Outcomes.{cells_for}
 use Rattle.sfm_assign.proofs.Lending.{end_some, end_none, found_lend}
 use Rattle.sfm_assign.proofs.Loans.{more_part, lack_one, lenders_from}
-use Rattle.sfm_assign.proofs.kept.KeptSplit.lenders.Goals as goal
+use Rattle.sfm_assign.proofs.kept.Kept.lenders.Goals as goal
 
 pub search-requires-clause-cells : goal.search-requires-clause-cells
 search-requires-clause-cells c =
