@@ -16,7 +16,8 @@ use Rattle.sfm_simple.specs.CoverLaws.{cover-greedy}
 use Rattle.sfm_concave.specs.ConcaveLaws.{concave-greedy}
 use Rattle.sfm_concave.specs.ConcaveLaws as concaves
 use Rattle.sfm_concave.specs.UniformLaws.{uniform-greedy}
-use Rattle.sfm_laminar.specs.LaminarLaws.{laminar-rank, laminar-greedy}
+use Rattle.sfm_laminar.proofs.Ranked.{laminar-rank}
+use Rattle.sfm_laminar.specs.LaminarLaws.{laminar-greedy}
 use Rattle.sfm_matroid.specs.GraphicLaws.{graphic-function, graphic-greedy}
 use Rattle.sfm_matroid.specs.TransversalLaws.{transversal-function, transversal-greedy}
 use Rattle.sfm_kind.specs.Kinds.{kind_value, kind_size, kind_start}

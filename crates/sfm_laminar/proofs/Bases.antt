@@ -12,10 +12,13 @@ use Rattle.sfm_spec.proofs.Search.{within_whole}
 use Rattle.sfm_spec.proofs.Sizes.{size-empty, weight-empty}
 use Rattle.sfm_law.proofs.Listing.{IsListing}
 use Rattle.sfm_law.proofs.Monotone.{AreCounts, without, sum_over-without}
-use Rattle.sfm_laminar.specs.Masks.{mask, length-mask, sum_listed, sum-mask, size-mask, size-in, sum_over-in}
-use Rattle.sfm_laminar.specs.Groups.{AreGroups, no_group, group_at}
+use Rattle.sfm_laminar.specs.Masks.{mask, length-mask, sum_listed, size-in}
+use Rattle.sfm_laminar.proofs.Masked.{sum-mask, size-mask, sum_over-in}
+use Rattle.sfm_laminar.specs.Groups.{AreGroups}
+use Rattle.sfm_laminar.specs.Crossing.{no_group, group_at}
 use Rattle.sfm_laminar.specs.Grown.{grown, is_grown}
-use Rattle.sfm_laminar.specs.Ranks.{rank, held, blocks, rank-mono, rank-size, rank-cap}
+use Rattle.sfm_laminar.specs.Ranks.{rank, held, blocks, rank-mono, rank-size}
+use Rattle.sfm_laminar.proofs.Ranked.{rank-cap}
 use Rattle.sfm_laminar.specs.LaminarLaws.{laminar_value, laminar_size}
 use Rattle.sfm_laminar.specs.Rooms.{bound_of}
 

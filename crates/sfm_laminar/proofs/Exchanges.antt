@@ -12,7 +12,8 @@ use Rattle.sfm_law.specs.Room.{IsReach}
 use Rattle.sfm_law.proofs.Listing.{listed_capacity, listed_room, room_leaves}
 use Rattle.sfm_law.proofs.Monotone.{without, sum_over-without}
 use Rattle.sfm_laminar.specs.Masks.{mask, has_set}
-use Rattle.sfm_laminar.specs.Groups.{AreGroups, no_group, group_at}
+use Rattle.sfm_laminar.specs.Groups.{AreGroups}
+use Rattle.sfm_laminar.specs.Crossing.{no_group, group_at}
 use Rattle.sfm_laminar.specs.Grown.{has_or_out}
 use Rattle.sfm_laminar.specs.Ranks.{contains-mask, mask-contains}
 use Rattle.sfm_laminar.specs.LaminarLaws.{laminar_value, laminar_size}

@@ -6,7 +6,7 @@ use Rattle.std.proofs.lemmas.Map.Views.{Contains-from_any}
 use Rattle.std.proofs.lemmas.List.{get_or_default, get_or_push, get_or_append_left, length_push}
 use Rattle.std.proofs.lemmas.List.Elements.{Contains-get_or, Contains-push, Contains-push_cases, Contains-append_left}
 use Rattle.sfm_spec.specs.Kinds.{Group}
-use Rattle.sfm_laminar.specs.Groups.{group_at}
+use Rattle.sfm_laminar.specs.Crossing.{group_at}
 use Rattle.sfm_laminar.specs.Indexes.{holders, IsIndex}
 
 -- the numbers are those of the first n groups that have e, and no other

@@ -5,7 +5,8 @@ use Rattle.std.specs.Int.{int_min}
 use Rattle.std.proofs.lemmas.Bool.{cases_lt}
 use Rattle.std.proofs.lemmas.Int.{ints, clamps, by_lt_z}
 use Rattle.sfm_spec.specs.Kinds.{Group}
-use Rattle.sfm_laminar.specs.Groups.{group_at, IsFirstCrossing}
+use Rattle.sfm_laminar.specs.Crossing.{group_at}
+use Rattle.sfm_laminar.specs.Groups.{IsFirstCrossing}
 use Rattle.sfm_laminar.specs.Rooms.{slack_of, Splits, IsLeast, IsHeld}
 use Rattle.sfm_laminar.proofs.Holders.{AreHolders, number_of, holder_at}
 

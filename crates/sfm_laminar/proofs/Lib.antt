@@ -1,3 +1,5 @@
+pub mod Masked
+pub mod Ranked
 pub mod Bases
 pub mod Exchanges
 pub mod Fits

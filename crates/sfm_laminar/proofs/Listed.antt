@@ -10,8 +10,9 @@ use Rattle.sfm_spec.specs.Sets.{Has, whole_set}
 use Rattle.sfm_spec.specs.Kinds.{Group}
 use Rattle.sfm_spec.proofs.Sets.{Has-whole}
 use Rattle.sfm_spec.proofs.Sizes.{size_below_length}
-use Rattle.sfm_laminar.specs.Masks.{IsAscending, mask, length-mask, size-mask, sum_listed}
-use Rattle.sfm_laminar.specs.Groups.{IsGroup, IsBelow}
+use Rattle.sfm_laminar.specs.Groups.{IsAscending, IsGroup, IsBelow}
+use Rattle.sfm_laminar.specs.Masks.{mask, length-mask, sum_listed}
+use Rattle.sfm_laminar.proofs.Masked.{size-mask}
 
 pub listed : (xs : List ℕ) (x : ℕ) (r : Result ℕ ℕ) → IsBinarySearchResult (λ y. nat_cmp y x) xs r → IsAscending xs → IsTrue (is_ok r) ↔ Contains xs x
 listed xs x r found up = at r (searched xs x r found steady) where

@@ -2,7 +2,8 @@
 use Rattle.std.proofs.Common.{◌≡◌, ℕ, ◌<◌, ◌≤◌, List, length, sym, subst, arith, ⊎_elim}
 use Rattle.std.proofs.lemmas.Bool.{cases_lt}
 use Rattle.sfm_spec.specs.Kinds.{Group}
-use Rattle.sfm_laminar.specs.Groups.{group_at, ListsAll, ListsSome, AreCrossing, IsCrossing, IsRepeated}
+use Rattle.sfm_laminar.specs.Crossing.{group_at, ListsAll, ListsSome, AreCrossing, IsCrossing}
+use Rattle.sfm_laminar.specs.Groups.{IsRepeated}
 
 turned : (g h : Group) → AreCrossing g h → AreCrossing h g
 turned g h x = let (e, a, b) = x.shared in record { shared = (e, b, a); first_beyond = x.second_beyond; second_beyond = x.first_beyond }

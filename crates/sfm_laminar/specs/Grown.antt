@@ -9,7 +9,8 @@ use Rattle.sfm_spec.specs.Sets.{Has, IsWithin, empty_set, intersection, size}
 use Rattle.sfm_spec.specs.Kinds.{Group, count_in, IsWithinCaps}
 use Rattle.sfm_spec.proofs.Where.{size-cons}
 use Rattle.sfm_laminar.specs.Masks.{mask, length-mask, count-mask, count_listed, count-cons, has_set, set_has}
-use Rattle.sfm_laminar.specs.Groups.{IsGroup, IsBelow, AreGroups, no_group, group_at}
+use Rattle.sfm_laminar.specs.Groups.{IsGroup, IsBelow, AreGroups}
+use Rattle.sfm_laminar.specs.Crossing.{no_group, group_at}
 
 -- a group with the place e has no room
 abbrev pub is_full : ℕ → Group → List Bool → ℕ → Bool

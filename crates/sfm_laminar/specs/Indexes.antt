@@ -2,7 +2,7 @@
 use Rattle.std.specs.Prelude.{◌≡◌, ℕ, zero, suc, ◌<◌, List, [], ◌∷◌, ◌++◌, length, slice_index_or, nat_eq, if◌then◌else◌}
 use Rattle.std.specs.List.{list_any}
 use Rattle.sfm_spec.specs.Kinds.{Group}
-use Rattle.sfm_laminar.specs.Groups.{group_at}
+use Rattle.sfm_laminar.specs.Crossing.{group_at}
 
 -- the numbers of those of the first n groups that have the place e, in ascending order
 abbrev pub holders : List Group → ℕ → ℕ → List ℕ

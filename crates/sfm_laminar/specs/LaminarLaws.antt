@@ -8,7 +8,7 @@ use Rattle.std.proofs.lemmas.List.{length-replicate}
 use Rattle.std.proofs.Math.IntN.{*ℤ-zero}
 use Rattle.sfm_spec.specs.Sets.{whole_set, size}
 use Rattle.sfm_spec.specs.Terms.{SetFunction, times, first_places, IsBase, IsFamily, IsSubmodular, IsGreedy}
-use Rattle.sfm_spec.specs.Kinds.{Group, IsWithinCaps, IsRankFunction}
+use Rattle.sfm_spec.specs.Kinds.{Group}
 use Rattle.sfm_spec.proofs.Scaled.{times-mono, times-add}
 use Rattle.sfm_spec.proofs.Search.{within_whole}
 use Rattle.sfm_spec.proofs.Sets.{Has-whole}
@@ -16,7 +16,7 @@ use Rattle.sfm_law.proofs.Greedy.{front, first_places-front, first_places-more, 
 use Rattle.sfm_laminar.specs.Masks.{size-in}
 use Rattle.sfm_laminar.specs.Groups.{AreGroups}
 use Rattle.sfm_laminar.specs.Grown.{is_blocked, takes, step, grown, is_grown, has_or_out}
-use Rattle.sfm_laminar.specs.Ranks.{rank, is_rank, rank-mono, rank-submodular}
+use Rattle.sfm_laminar.specs.Ranks.{rank, rank-mono, rank-submodular}
 
 abbrev pub laminar_value : ℕ → ℤ → List Group → SetFunction
 laminar_value k w groups s = Some (w *ℤ pos (rank k groups s))
@@ -91,9 +91,6 @@ kept k groups s j (suc n) lt = ⊎_elim
           → get_or (if b then set (grown k groups s n) n true else grown k groups s n) j false ≡ get_or (grown k groups s (suc j)) j false
       at true l r = get_or-set_other (grown k groups s n) n j true false (λ e. absurd (omega (arith, e, l))) ∙ r
       at false l r = r
-
-pub laminar-rank : (k : ℕ) (w : ℤ) (groups : List Group) → AreGroups k groups → IsRankFunction k w (IsWithinCaps groups) (laminar_value k w groups)
-laminar-rank k w groups ok s ks = (rank k groups s, is_rank k groups ok s ks, refl)
 
 pub laminar-family : (k : ℕ) (w : ℤ) (groups : List Group) → IsFamily k (laminar_value k w groups)
 laminar-family k w groups = record { empty = refl; whole = refl; unions = λ s t l g a b. refl; intersections = λ s t l g a b. refl }

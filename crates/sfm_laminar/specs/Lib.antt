@@ -1,6 +1,7 @@
 pub mod Unions
-pub mod Masks
+pub mod Crossing
 pub mod Groups
+pub mod Masks
 pub mod Grown
 pub mod Ranks
 pub mod LaminarLaws

@@ -8,11 +8,8 @@ use Rattle.std.proofs.lemmas.List.Sums.{sum_by-cons}
 use Rattle.std.proofs.lemmas.List.Elements.{All-head, All-tail}
 use Rattle.sfm_spec.specs.Sets.{Has, empty_set, intersection, size, sum_over}
 use Rattle.sfm_spec.proofs.Where.{size-cons}
+use Rattle.sfm_laminar.specs.Groups.{IsAscending}
 use Rattle.sfm_spec.proofs.Sizes.{size-empty, weight-empty}
-
--- strictly ascending
-abbrev pub IsAscending : List ℕ → Type 0
-IsAscending es = (i j : ℕ) → i < j → j < length es → get_or es i 0 < get_or es j 0
 
 -- the set of some of k places
 abbrev pub mask : ℕ → List ℕ → List Bool
@@ -32,19 +29,6 @@ size-put (a ∷ s) (suc e) b h = let l = size-cons a s in let m = size-cons a (s
 
 pub size-in : (s : List Bool) (e : ℕ) → e < length s → get_or s e false ≡ false → size (set s e true) ≡ suc (size s)
 size-in s e h out = let r = rw out at (size-put s e true h) in omega (arith, r)
-
-pub size-out : (s : List Bool) (e : ℕ) → e < length s → Has s e → suc (size (set s e false)) ≡ size s
-size-out s e h has = let r = rw has at (size-put s e false h) in omega (arith, r)
-
-pub sum_over-put : (s : List Bool) (e : ℕ) (b : Bool) (x : List ℤ) → e < length s → length s ≡ length x
-    → (sum_over (set s e b) x +ℤ (if get_or s e false then get_or x e (pos 0) else pos 0)) ≡ (sum_over s x +ℤ (if b then get_or x e (pos 0) else pos 0))
-sum_over-put [] e b x h same = absurd (omega arith)
-sum_over-put (a ∷ s) e b [] h same = absurd (omega arith)
-sum_over-put (a ∷ s) zero b (y ∷ x) h same = omega (arith, ints)
-sum_over-put (a ∷ s) (suc e) b (y ∷ x) h same = let r = sum_over-put s e b x (omega arith) (omega arith) in omega (arith, ints, r)
-
-pub sum_over-in : (s : List Bool) (e : ℕ) (x : List ℤ) → e < length s → length s ≡ length x → get_or s e false ≡ false → sum_over (set s e true) x ≡ (sum_over s x +ℤ get_or x e (pos 0))
-sum_over-in s e x h same out = let r = rw out at (sum_over-put s e true x h same) in omega (arith, ints, r)
 
 pub has_place : (s : List Bool) (e : ℕ) → Has s e → e < length s
 has_place [] e h = absurd (false≢true h)
@@ -89,32 +73,14 @@ abbrev pub sum_listed : List ℕ → List ℤ → ℤ
 sum_listed [] x = pos 0
 sum_listed (e ∷ es) x = get_or x e (pos 0) +ℤ sum_listed es x
 
-fresh : (k e : ℕ) (es : List ℕ) → IsAscending (e ∷ es) → get_or (mask k es) e false ≡ false
+pub fresh : (k e : ℕ) (es : List ℕ) → IsAscending (e ∷ es) → get_or (mask k es) e false ≡ false
 fresh k e es up = ⊎_elim
     (λ has. let (i, lt, is) = mask-lists k es e has in let u = up 0 (suc i) (omega arith) (omega arith) in absurd (omega (arith, u, is)))
     (λ out. out)
     (cases_Bool (get_or (mask k es) e false))
 
-ascending-tail : (e : ℕ) (es : List ℕ) → IsAscending (e ∷ es) → IsAscending es
+pub ascending-tail : (e : ℕ) (es : List ℕ) → IsAscending (e ∷ es) → IsAscending es
 ascending-tail e es up i j lt in_range = up (suc i) (suc j) (omega arith) (omega arith)
-
-pub sum-mask : (k : ℕ) (es : List ℕ) (x : List ℤ) → length x ≡ k → IsAscending es → All (λ i. i < k) es → sum_over (mask k es) x ≡ sum_listed es x
-sum-mask k [] x kx up below = weight-empty k x
-sum-mask k (e ∷ es) x kx up below =
-    let h = All-head (λ i. i < k) e es below in
-    let len = length-mask k es in
-    let r = sum-mask k es x kx (ascending-tail e es up) (All-tail (λ i. i < k) e es below) in
-    let p = sum_over-in (mask k es) e x (omega (arith, h, len)) (len ∙ sym kx) (fresh k e es up) in
-    omega (arith, ints, r, p)
-
-pub size-mask : (k : ℕ) (es : List ℕ) → IsAscending es → All (λ i. i < k) es → size (mask k es) ≡ length es
-size-mask k [] up below = size-empty k
-size-mask k (e ∷ es) up below =
-    let h = All-head (λ i. i < k) e es below in
-    let len = length-mask k es in
-    let r = size-mask k es (ascending-tail e es up) (All-tail (λ i. i < k) e es below) in
-    let p = size-in (mask k es) e (omega (arith, h, len)) (fresh k e es up) in
-    omega (arith, r, p)
 
 -- how many of the numbers are in t
 abbrev pub count_listed : List ℕ → List Bool → ℕ

@@ -15,7 +15,8 @@ use Rattle.sfm_spec.proofs.Sizes.{size-empty}
 use Rattle.sfm_law.proofs.LocalLaw.{on_all, local_law}
 use Rattle.sfm_laminar.specs.Unions.{AreApart, IsNested, AreLaminar, within_or_not, amount-size, gap, gap-sum, filled}
 use Rattle.sfm_laminar.specs.Masks.{Lists, mask, length-mask, mask-lists, lists-mask, count-mask, has_set, set_has, has_place, size-in, size-put}
-use Rattle.sfm_laminar.specs.Groups.{IsBelow, AreCrossing, AreGroups, no_group, group_at}
+use Rattle.sfm_laminar.specs.Groups.{IsBelow, AreGroups}
+use Rattle.sfm_laminar.specs.Crossing.{AreCrossing, no_group, group_at}
 use Rattle.sfm_laminar.specs.Grown.{is_blocked, IsBlocked, blocked_from, grown, IsGrown, is_grown, count-within, capped-set, set_within, has_or_out}
 
 -- ---- sets of the groups
@@ -118,7 +119,7 @@ ones-small (true ∷ s) zero = (omega (arith, ints), omega (arith, ints))
 ones-small (false ∷ s) zero = (omega (arith, ints), omega (arith, ints))
 ones-small (b ∷ s) (suc p) = ones-small s p
 
-sum-ones : (m s : List Bool) → length m ≡ length s → sum_over m (ones s) ≡ pos (size (intersection m s))
+pub sum-ones : (m s : List Bool) → length m ≡ length s → sum_over m (ones s) ≡ pos (size (intersection m s))
 sum-ones [] s h = refl
 sum-ones (a ∷ m) [] h = absurd (omega arith)
 sum-ones (a ∷ m) (b ∷ s) h = at a b (size-cons (a && b) (intersection m s)) (sum-ones m s (omega arith)) where
@@ -128,7 +129,7 @@ sum-ones (a ∷ m) (b ∷ s) h = at a b (size-cons (a && b) (intersection m s)) 
   at false true c r = omega (arith, ints, c, r)
   at false false c r = omega (arith, ints, c, r)
 
-sum-ones_within : (s j : List Bool) → length s ≡ length j → IsWithin j s → sum_over s (ones j) ≡ pos (size j)
+pub sum-ones_within : (s j : List Bool) → length s ≡ length j → IsWithin j s → sum_over s (ones j) ≡ pos (size j)
 sum-ones_within [] [] h w = refl
 sum-ones_within [] (b ∷ j) h w = absurd (omega arith)
 sum-ones_within (a ∷ s) [] h w = absurd (omega arith)
@@ -166,7 +167,7 @@ abbrev pub rank : ℕ → List Group → List Bool → ℕ
 rank k groups s = size (grown k groups s k)
 
 module _ (k : ℕ) (groups : List Group) (ok : AreGroups k groups) where
-  whole_grown : (s : List Bool) → length s ≡ k → IsGrown k groups s k (grown k groups s k)
+  pub whole_grown : (s : List Bool) → length s ≡ k → IsGrown k groups s k (grown k groups s k)
   whole_grown s ks = is_grown k groups s k ok ks (omega arith)
 
   pub blocks : (s : List Bool) → length s ≡ k → (p : ℕ) → Has s p → get_or (grown k groups s k) p false ≡ false → IsBlocked k groups (grown k groups s k) p
@@ -176,12 +177,6 @@ module _ (k : ℕ) (groups : List Group) (ok : AreGroups k groups) where
   pub rank-most : (s j : List Bool) → length s ≡ k → length j ≡ k → IsWithin j s → IsWithinCaps groups j → size j ≤ rank k groups s
   rank-most s j ks kj within capped = largest k groups s (grown k groups s k) j ok ks (whole_grown s ks).places kj (blocks s ks) within capped
 
-  pub is_rank : (s : List Bool) → length s ≡ k → IsRank (IsWithinCaps groups) s (rank k groups s)
-  is_rank s ks = let h = whole_grown s ks in record {
-    reached = (grown k groups s k, h.places ∙ sym ks, h.within, h.capped, refl);
-    greatest = λ t lt within capped. rank-most s t ks (lt ∙ ks) within capped;
-  }
-
   pub rank-mono : (s t : List Bool) → length s ≡ k → length t ≡ k → IsWithin s t → rank k groups s ≤ rank k groups t
   rank-mono s t ks kt within = let h = whole_grown s ks in rank-most t (grown k groups s k) kt h.places (λ e he. within e (h.within e he)) h.capped
 
@@ -189,19 +184,6 @@ module _ (k : ℕ) (groups : List Group) (ok : AreGroups k groups) where
   rank-size s ks = let h = whole_grown s ks in largest k [] s s (grown k groups s k) none ks ks h.places (λ p hp out. absurd (false≢true (sym out ∙ hp))) h.within (λ i d lt. absurd (omega arith)) where
     none : AreGroups k []
     none = record { each = λ i d lt. absurd (omega arith); below = λ i d lt. absurd (omega arith); none = λ i j c. let l = c.in_range in absurd (omega (arith, l)) }
-
-  -- a group has no larger part than its cap
-  pub rank-cap : (i : ℕ) → i < length groups → pos (rank k groups (mask k (group_at groups i).members)) ≤ℤ (group_at groups i).cap
-  rank-cap i lt =
-      let g = group_at groups i in
-      let km = length-mask k g.members in
-      let h = whole_grown (mask k g.members) km in
-      let t = grown k groups (mask k g.members) k in
-      let a = sum-ones (mask k g.members) t (km ∙ sym h.places) in
-      let b = sum-ones_within (mask k g.members) t (km ∙ sym h.places) h.within in
-      let c = count-mask k g.members t h.places (ok.each i no_group lt).ascending (ok.below i no_group lt) in
-      let d = h.capped i no_group lt in
-      omega (arith, ints, a, b, c, d)
 
   -- a place more adds at most 1
   pub rank-one : (s : List Bool) (e : ℕ) → length s ≡ k → e < k → rank k groups (set s e true) ≤ suc (rank k groups s)

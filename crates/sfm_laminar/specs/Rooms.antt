@@ -3,7 +3,7 @@ use Rattle.std.specs.Prelude.{◌≡◌, ◌⊎◌, ℕ, ◌<◌, List, length, 
 use Rattle.std.specs.Int.{int_min}
 use Rattle.sfm_spec.specs.Kinds.{Group}
 use Rattle.sfm_laminar.specs.Masks.{sum_listed}
-use Rattle.sfm_laminar.specs.Groups.{group_at}
+use Rattle.sfm_laminar.specs.Crossing.{group_at}
 
 -- the most that a group gets: q·w for each member, or for as many as its cap where that is less
 abbrev pub bound_of : ℤ → ℤ → Group → ℤ

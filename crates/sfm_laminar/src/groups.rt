@@ -2,8 +2,8 @@
 ghost use Rattle.std.specs.Prelude.{◌≡◌, ◌↔◌, ℕ, ◌<◌, ◌≤◌, List, [], ◌∷◌, ◌++◌, length, slice_index_or, is_ok, ℤ, pos, ◌≤ℤ◌, if◌then◌else◌, IsTrue, Contains};
 ghost use Rattle.std.specs.List.{All};
 ghost use Rattle.sfm_spec.specs.Bounds.{IsGiven};
-ghost use Rattle.sfm_laminar.specs.Masks.{IsAscending};
-ghost use Rattle.sfm_laminar.specs.Groups.{IsGroup, group_at};
+ghost use Rattle.sfm_laminar.specs.Groups.{IsAscending, IsGroup};
+ghost use Rattle.sfm_laminar.specs.Crossing.{group_at};
 
 use sfm_base::Memory;
 use std::alloc::Global;

@@ -2,7 +2,7 @@
 ghost use Rattle.std.specs.Prelude.{◌≡◌, ◌↔◌, ℕ, ◌<◌, length, slice_set, slice_index_or, count_by, false, IsTrue, Contains};
 ghost use Rattle.std.specs.List.{All};
 ghost use Rattle.sfm_spec.specs.Sets.{Has};
-ghost use Rattle.sfm_laminar.specs.Masks.{IsAscending};
+ghost use Rattle.sfm_laminar.specs.Groups.{IsAscending};
 
 use sfm_base::Set;
 

@@ -8,8 +8,7 @@ use Rattle.std.proofs.lemmas.List.Kept.{IsStrictlyIncreasing-filter, AllPairs-fr
 use Rattle.std.proofs.lemmas.List.Folds.{Any-from_list_any}
 use Rattle.std.proofs.lemmas.List.FromFn.{length-range_with_len, get_or-range_with_len, length-map-range_with_len, get_or-map-range_with_len, map-range_with_len_more}
 use Rattle.sfm_spec.specs.Kinds.{Group}
-use Rattle.sfm_laminar.specs.Groups.{IsBelow}
-use Rattle.sfm_laminar.specs.Masks.{IsAscending}
+use Rattle.sfm_laminar.specs.Groups.{IsBelow, IsAscending}
 use Rattle.sfm_text.specs.Parts.{LineParts}
 use Rattle.sfm_text.specs.RankLines.{is_among, members_of, group_of, groups_of}
 use Rattle.sfm_text.proofs.Repeats.{text-at}

@@ -6,7 +6,7 @@ use Rattle.sfm_spec.specs.Kinds.{Group}
 use Rattle.sfm_kind.specs.declared.kind.Kind.{Kind}
 use Rattle.sfm_kind.specs.declared.kind.Kind.TheVariants.{Laminar}
 use Rattle.sfm_laminar.specs.declared.laminar.Laminar as laminars
-use Rattle.sfm_laminar.specs.Groups.{IsCrossing}
+use Rattle.sfm_laminar.specs.Crossing.{IsCrossing}
 use Rattle.sfm_text.specs.declared.word.RankKind.{RankKind}
 use Rattle.sfm_text.specs.declared.word.RankKind.TheVariants.{NoRank, UniformRank, LaminarRank, GraphicRank, TransversalRank}
 use Rattle.sfm_text.specs.Parts.{LineParts}

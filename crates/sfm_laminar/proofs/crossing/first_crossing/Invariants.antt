@@ -1,5 +1,5 @@
 use Rattle.std.proofs.Common.{ℕ, ◌<◌}
-use Rattle.sfm_laminar.specs.Groups.{IsCrossing}
+use Rattle.sfm_laminar.specs.Crossing.{IsCrossing}
 use Rattle.sfm_laminar.proofs.crossing.first_crossing.Given as goal
 
 abbrev pub invariant-loop-second : goal.invariant-loop-second

@@ -1,5 +1,5 @@
 use Rattle.std.proofs.Common.{◌≡◌, ℕ, ◌<◌, ◌≤◌}
-use Rattle.sfm_laminar.specs.Groups.{group_at}
+use Rattle.sfm_laminar.specs.Crossing.{group_at}
 use Rattle.sfm_laminar.proofs.crossing.is_repeated.Given as goal
 
 abbrev pub invariant-loop-i : goal.invariant-loop-i

@@ -1,5 +1,5 @@
 use Rattle.std.proofs.Common.{ℕ, ◌<◌, pos, ◌≤ℤ◌}
-use Rattle.sfm_laminar.specs.Groups.{group_at}
+use Rattle.sfm_laminar.specs.Crossing.{group_at}
 use Rattle.sfm_laminar.specs.Rooms.{slack_of}
 use Rattle.sfm_laminar.proofs.laminar.Laminar.are_bounded.Given as goal
 

@@ -3,7 +3,8 @@ use Rattle.std.proofs.lemmas.Int.{ints}
 use mir.Syntax.{w64, w128}
 use Rattle.sfm_spec.specs.Sets.{size}
 use Rattle.sfm_laminar.specs.Grown.{grown}
-use Rattle.sfm_laminar.specs.Ranks.{rank, is_rank}
+use Rattle.sfm_laminar.specs.Ranks.{rank}
+use Rattle.sfm_laminar.proofs.Ranked.{is_rank}
 use Rattle.sfm_laminar.proofs.laminar.Laminar.rank.Goals as goal
 
 pub returns-clause-greatest : goal.returns-clause-greatest

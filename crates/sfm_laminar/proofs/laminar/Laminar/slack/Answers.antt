@@ -2,7 +2,7 @@ use Rattle.std.proofs.Common.{◌≡◌, ◌∙◌, ◌*ℤ◌, ◌-ℤ◌, leng
 use Rattle.std.specs.Int.{int_min}
 use Rattle.std.proofs.lemmas.Int.{to_z-of_z}
 use mir.Syntax.{w128}
-use Rattle.sfm_laminar.specs.Groups.{no_group, group_at}
+use Rattle.sfm_laminar.specs.Crossing.{no_group, group_at}
 use Rattle.sfm_laminar.specs.Masks.{sum_listed}
 use Rattle.sfm_laminar.specs.Rooms.{bound_of}
 use Rattle.sfm_law.proofs.Fits.{given_fits, given_more, product_fits, share_fits, difference_fits, product_high}

@@ -1,5 +1,5 @@
 use Rattle.std.proofs.Common.{length}
-use Rattle.sfm_laminar.specs.LaminarLaws.{laminar-rank}
+use Rattle.sfm_laminar.proofs.Ranked.{laminar-rank}
 use Rattle.sfm_laminar.proofs.laminar.Laminar.values_are_ranks.Goals as goal
 
 pub returns : goal.returns
