@@ -5,6 +5,7 @@
 mod memory;
 mod number_text;
 mod numbers;
+mod page;
 mod places;
 mod rows;
 mod set;
@@ -14,6 +15,7 @@ mod steps;
 pub use memory::Memory;
 pub use number_text::read_number;
 pub use numbers::Numbers;
+pub use page::Page;
 pub use places::Places;
 pub use rows::Rows;
 pub use set::Set;

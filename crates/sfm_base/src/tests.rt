@@ -1,5 +1,5 @@
 // Each call once with ample memory, and the reader of numbers on the texts at the edges of its grammar and its bound.
-use crate::{Numbers, Places, Rows, Set, Slope, Steps, read_number};
+use crate::{Numbers, Page, Places, Rows, Set, Slope, Steps, read_number};
 use std::cmp::Ordering;
 use std::test::Fail;
 
@@ -105,4 +105,17 @@ fn steps_are_counted(rt: HostRuntime) {
     steps.tick();
     steps.tick();
     assert_eq!(rt; steps.count(), 2);
+}
+
+#[test]
+fn pages_take_what_there_is_room_for(rt: HostRuntime) -> Result<(), Fail> {
+    let mut page = Page::new(rt.alloc());
+    page.reserve(5)?;
+    page.put(b"ab");
+    assert!(rt; page.spare() >= 3);
+    page.put(b"cde");
+    assert_eq!(rt; page.bytes(), b"abcde".as_slice());
+    let bytes = page.into_vec();
+    assert_eq!(rt; bytes.as_slice(), b"abcde".as_slice());
+    Ok(())
 }
