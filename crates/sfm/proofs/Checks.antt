@@ -2,6 +2,8 @@
 use Rattle.std.proofs.Common.{ℕ, List, Result, Ok, Err, sym, ◌∙◌, inl, inr, ⊎_elim}
 use Rattle.sfm_io.specs.Shelf.{ShelfState, KeepsShelf}
 use Rattle.sfm_kind.specs.Instance.{InstanceData}
+use Rattle.sfm_kind.proofs.Meanings.{kinds-mean}
+use Rattle.sfm.specs.Meanings.{meanings_of}
 use Rattle.sfm.specs.declared.status.Status.{Status}
 use Rattle.sfm.specs.declared.due.Due.{Due as DueText}
 use Rattle.sfm_words.specs.Command.{check}
@@ -30,7 +32,7 @@ checks file answer instance before mid after (Ok due) kept good h = (
     named = good.named;
     answer_named = named_before before mid answer h.text kept h.named;
     read = λ texts are. h.read texts (kept.texts ∙ are);
-    judged = record { names = instance.names; terms = instance.terms; verdict = h.verdict; good = good.good; judged = h.judged; named = h.written; coded = h.coded };
+    judged = record { names = instance.names; terms = instance.terms; verdict = h.verdict; good = good.good; meant = meanings_of instance.terms; means = kinds-mean instance.terms; judged = h.judged; named = h.written; coded = h.coded };
   }),
   ⊎_elim (λ e. inl e) (λ e. inr (inl e)) h.answered,
 )

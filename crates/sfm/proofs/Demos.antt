@@ -7,6 +7,8 @@ use Rattle.sfm_cert.specs.declared.solved.Solved.{Solved}
 use Rattle.sfm_cert.specs.Answer.{answer_text}
 use Rattle.sfm_cert.specs.Solved.{answer_of, form_of}
 use Rattle.sfm_words.specs.Command.{Command, solve, check, demo}
+use Rattle.sfm_kind.proofs.Meanings.{kinds-mean}
+use Rattle.sfm.specs.Meanings.{meanings_of}
 use Rattle.sfm.specs.Demo.{demo_line, IsDemoed}
 use Rattle.sfm.specs.Headline.{LeavesShelf}
 use Rattle.sfm.specs.Solving.{IsTrueAnswer}
@@ -24,6 +26,8 @@ demoed seed text written instance s good h named = record {
   names = instance.names;
   terms = instance.terms;
   good = good;
+  meant = meanings_of instance.terms;
+  means = kinds-mean instance.terms;
   file = answer_text (form_of instance) (answer_of s);
   right = record { answer = answer_of s; is_text = record { formed = h.formed; written = refl }; head = h.head; sections = h.sections };
   named = named;

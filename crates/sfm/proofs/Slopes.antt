@@ -20,7 +20,7 @@ use Rattle.sfm_cert.specs.Solved.{break_of, form_of}
 use Rattle.sfm_check.specs.Truth.{IsProvedSection, no_section, section_of}
 use Rattle.sfm_check.proofs.AllSlopes.{due_plain}
 use Rattle.sfm_check.proofs.OneToOne.{IsPlainMark}
-use Rattle.sfm.specs.Due.{meanings_of}
+use Rattle.sfm.specs.Meanings.{meanings_of}
 use Rattle.sfm.proofs.Rows.{formed_rows}
 
 -- the marks as they are found and as an answer has them

@@ -1,5 +1,5 @@
 -- What bases that prove tell makes a true answer of the right form.
-use Rattle.std.proofs.Common.{◌≡◌, length, map, pos, sym, subst}
+use Rattle.std.proofs.Common.{◌≡◌, ℕ, List, length, map, pos, sym, subst}
 use Rattle.std.specs.List.{All}
 use Rattle.std.proofs.lemmas.List.Elements.{All-cons}
 use Rattle.sfm_spec.specs.Bounds.{IsEntry}
@@ -8,14 +8,17 @@ use Rattle.sfm_spec.specs.Laws.{AreBreakpoints, ones}
 use Rattle.sfm_spec.specs.Families.{AreBases, IsGreatest, IsLeast, Prove, even_shift, shifted_at}
 use Rattle.sfm_kind.specs.Instance.{InstanceData}
 use Rattle.sfm_kind.specs.Limits.{AreInBounds}
-use Rattle.sfm_cert.specs.Answer.{Answer, mark_of}
+use Rattle.sfm_kind.proofs.Meanings.{kinds-mean}
+use Rattle.sfm_text.specs.GoodText.{IsTextOf}
+use Rattle.sfm_cert.specs.Answer.{Answer, answer_text, mark_of}
 use Rattle.sfm_cert.specs.Form.{IsFormedBreak}
 use Rattle.sfm_cert.specs.Solved.{form_of}
 use Rattle.sfm_check.specs.Truth.{IsProvedSection, section_of}
 use Rattle.sfm_check.proofs.BlockOrder.{blocks_formed}
 use Rattle.sfm_check.proofs.Small.{value_small}
 use Rattle.sfm.proofs.Rows.{formed_rows}
-use Rattle.sfm.specs.Due.{meanings_of}
+use Rattle.sfm.specs.Meanings.{meanings_of}
+use Rattle.sfm.specs.Due.{IsSolved}
 use Rattle.sfm.specs.Solving.{IsTrueAnswer}
 
 pub record IsRead (instance : InstanceData) (a : Answer) : Type 0 where
@@ -44,4 +47,15 @@ true_answer instance a bounded h = record {
   sections = All-cons (IsProvedSection (meanings_of instance.terms) (length instance.names)) (record { num = pos 0; den = pos 1; bases = a.bases }) (map section_of a.breaks)
       (record { bases = h.bases; proves = h.proves })
       h.proved;
+}
+
+-- the text of a true answer is a right file
+pub solved : (text file : List ℕ) (instance : InstanceData) (a : Answer) → IsTextOf text instance.names instance.terms → IsTrueAnswer instance a → file ≡ answer_text (form_of instance) a → IsSolved text file
+solved text file instance a good h written = record {
+  names = instance.names;
+  terms = instance.terms;
+  good = good;
+  meant = meanings_of instance.terms;
+  means = kinds-mean instance.terms;
+  right = record { answer = a; is_text = record { formed = h.formed; written = written }; head = h.head; sections = h.sections };
 }

@@ -2,12 +2,14 @@
 use Rattle.std.specs.Prelude.{◌≡◌, ◌⊎◌, ℕ, List, ◌++◌, length, codes, ℤ}
 use Rattle.std.specs.Fmt.{decimal, signed_decimal}
 use Rattle.sfm_spec.specs.Sets.{size}
+use Rattle.sfm_spec.specs.Families.{Meaning}
+use Rattle.sfm_kind.specs.Meanings.{AreMeanings}
 use Rattle.sfm_kind.specs.declared.kind.Kind.{Kind}
 use Rattle.sfm_text.specs.GoodText.{IsTextOf}
 use Rattle.sfm_cert.specs.Answer.{Answer}
 use Rattle.sfm_check.specs.Truth.{IsRightFile}
 use Rattle.sfm_demo.specs.DemoText.{demo_text_of}
-use Rattle.sfm.specs.Due.{form_for, meanings_of, IsRefused}
+use Rattle.sfm.specs.Due.{form_for, IsRefused}
 
 -- the least value, how many elements the least and the greatest minimiser have, and how many blocks and slopes there are
 abbrev pub line_of : (seed : ℕ) (value : ℤ) (least greatest blocks slopes : ℕ) → List ℕ
@@ -22,8 +24,10 @@ pub record IsDemoed (seed : ℕ) (text written : List ℕ) : Type 0 where
   pub names : List (List ℕ)
   pub terms : List Kind
   pub good : IsTextOf text names terms
+  pub meant : List Meaning
+  pub means : AreMeanings terms meant
   pub file : List ℕ
-  pub right : IsRightFile (form_for names terms) (meanings_of terms) file
+  pub right : IsRightFile (form_for names terms) meant file
   pub named : written ≡ demo_line seed right.answer
 
 -- what is due to be written for a seed, and the code

@@ -1,8 +1,8 @@
 -- What is due for the texts that a command names: the text that is to be written, and the code that goes with it.
 use Rattle.std.specs.Prelude.{◌≡◌, ◌↔◌, ◌⊎◌, ℕ, List, ◌++◌, codes, decimal}
-use Rattle.sfm_spec.specs.Families.{Meaning, meanings}
+use Rattle.sfm_spec.specs.Families.{Meaning}
 use Rattle.sfm_kind.specs.declared.kind.Kind.{Kind}
-use Rattle.sfm_kind.specs.Kinds.{kind_places, kind_value}
+use Rattle.sfm_kind.specs.Meanings.{AreMeanings}
 use Rattle.sfm_text.specs.declared.reason.Reason.{Reason}
 use Rattle.sfm_text.specs.Reasons.{reason_word}
 use Rattle.sfm_text.specs.GoodText.{IsTextOf, IsFaultOf}
@@ -39,19 +39,18 @@ verdict_code (Invalid line reason) = 1
 abbrev pub form_for : List (List ℕ) → List Kind → Form
 form_for names terms = form_of (record { names = names; terms = terms })
 
-abbrev pub meanings_of : List Kind → List Meaning
-meanings_of terms = meanings kind_places kind_value terms
-
 -- the text has no fault
 abbrev pub IsGood : List ℕ → Type 0
 IsGood text = (names : List (List ℕ)) × (terms : List Kind) × IsTextOf text names terms
 
--- the file is a right one for the text, which is good
+-- the file is a right one for the text, which is good: for the names and terms that it stands for, by their meanings
 pub record IsSolved (text file : List ℕ) : Type 0 where
   pub names : List (List ℕ)
   pub terms : List Kind
   pub good : IsTextOf text names terms
-  pub right : IsRightFile (form_for names terms) (meanings_of terms) file
+  pub meant : List Meaning
+  pub means : AreMeanings terms meant
+  pub right : IsRightFile (form_for names terms) meant file
 
 -- the written text names the first fault of the text
 pub record IsRefused (text written : List ℕ) : Type 0 where
@@ -71,7 +70,9 @@ pub record IsJudged (text answer written : List ℕ) (code : ℕ) : Type 0 where
   pub terms : List Kind
   pub verdict : Verdict
   pub good : IsTextOf text names terms
-  pub judged : IsVerdict (form_for names terms) (meanings_of terms) answer verdict
+  pub meant : List Meaning
+  pub means : AreMeanings terms meant
+  pub judged : IsVerdict (form_for names terms) meant answer verdict
   pub named : written ≡ verdict_line verdict
   pub coded : code ≡ verdict_code verdict
 

@@ -1,4 +1,5 @@
 pub mod Status
+pub mod Meanings
 pub mod Due
 pub mod Demo
 pub mod Headline

@@ -12,7 +12,8 @@ use Rattle.sfm.specs.declared.due.Due.{Due as DueText}
 use Rattle.sfm.specs.declared.run.Opened.{Opened}
 use Rattle.sfm.specs.declared.run.Opened.TheVariants.{Good, Faulty}
 use Rattle.sfm.specs.Status.{code_of}
-use Rattle.sfm.specs.Due.{IsVerdict, meanings_of, verdict_code, verdict_line}
+use Rattle.sfm.specs.Due.{IsVerdict, verdict_code, verdict_line}
+use Rattle.sfm.specs.Meanings.{meanings_of}
 use Rattle.sfm.specs.Headline.{IsNamed, IsRefusalDue, WasRead}
 use Rattle.sfm.specs.Reading.{MissesText}
 

@@ -15,7 +15,8 @@ use Rattle.sfm.specs.declared.due.Due.{Due}
 use Rattle.sfm.specs.Status.{code_of}
 use Rattle.sfm_words.specs.Command.{Command}
 use Rattle.sfm_cert.specs.Grammar.{answer_limit}
-use Rattle.sfm.specs.Due.{IsDueToSolve, IsRefused, IsVerdict, meanings_of, verdict_code, verdict_line}
+use Rattle.sfm.specs.Due.{IsDueToSolve, IsRefused, IsVerdict, verdict_code, verdict_line}
+use Rattle.sfm.specs.Meanings.{meanings_of}
 use Rattle.sfm.specs.Headline.{IsDue, IsNamed, IsSurelyHeld, WasRead, FailsToRead, LeavesShelf}
 
 -- the bytes that were read are the text; where none are given it is longer than the limit

@@ -11,7 +11,7 @@ use Rattle.sfm_cert.specs.Answer.{Answer}
 use Rattle.sfm_cert.specs.Form.{IsFormed}
 use Rattle.sfm_cert.specs.Solved.{form_of}
 use Rattle.sfm_check.specs.Truth.{IsProvedSection, IsTrueHead, sections_of}
-use Rattle.sfm.specs.Due.{meanings_of}
+use Rattle.sfm.specs.Meanings.{meanings_of}
 
 -- an answer of the instance's form that is true, with bases that prove it
 pub record IsTrueAnswer (instance : InstanceData) (a : Answer) : Type 0 where

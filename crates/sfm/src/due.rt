@@ -1,7 +1,8 @@
 // What is due for texts that were read: a file, a refusal or a verdict, made whole before any of it is written.
 ghost use Rattle.std.specs.Prelude.{◌≡◌, ◌⊎◌, ◌+◌, ◌++◌, ◌<◌, ℕ, List, length, codes, decimal, IfOk, IfErr};
 ghost use Rattle.sfm_cert.specs.Solved.{form_of};
-ghost use Rattle.sfm.specs.Due.{refusal, verdict_line, verdict_code, wrong_word, meanings_of, IsVerdict, IsRefused};
+ghost use Rattle.sfm.specs.Due.{refusal, verdict_line, verdict_code, wrong_word, IsVerdict, IsRefused};
+ghost use Rattle.sfm.specs.Meanings.{meanings_of};
 ghost use Rattle.sfm.specs.Status.{code_of};
 ghost use Rattle.sfm.specs.Reading.{IsReadAs, IsInstanceOf, IsEndOf, IsRefusalOfAll, IsSolveDueOf, IsCheckDueOf};
 ghost use Rattle.sfm_cert.specs.Grammar.{answer_limit};

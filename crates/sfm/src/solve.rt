@@ -4,7 +4,8 @@ ghost use Rattle.std.specs.Prelude.{IfOk, IfErr, length, []};
 ghost use Rattle.sfm_cert.specs.Form.{IsFormed};
 ghost use Rattle.sfm_cert.specs.Solved.{answer_of, form_of};
 ghost use Rattle.sfm_text.specs.GoodText.{IsRefusalOf};
-ghost use Rattle.sfm.specs.Due.{IsSolved, meanings_of};
+ghost use Rattle.sfm.specs.Due.{IsSolved};
+ghost use Rattle.sfm.specs.Meanings.{meanings_of};
 ghost use Rattle.sfm.specs.Solving.{Gives, IsTrueAnswer};
 
 use sfm_base::Memory;

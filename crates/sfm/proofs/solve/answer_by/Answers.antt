@@ -11,7 +11,7 @@ use Rattle.sfm_extreme.specs.Blocks.{block_of}
 use Rattle.sfm_cert.specs.Answer.{Answer}
 use Rattle.sfm_cert.specs.Solved.{break_of}
 use Rattle.sfm_check.proofs.Small.{value_small}
-use Rattle.sfm.specs.Due.{meanings_of}
+use Rattle.sfm.specs.Meanings.{meanings_of}
 use Rattle.sfm.specs.Solving.{IsTrueAnswer}
 use Rattle.sfm.proofs.Slopes.{formed_breaks, proved_breaks, same_marks}
 use Rattle.sfm.proofs.Solves.{true_answer}

@@ -1,0 +1,9 @@
+-- The meanings that the terms of an instance tell of themselves, of which the contracts of the program's parts speak.
+use Rattle.std.specs.Prelude.{List}
+use Rattle.sfm_spec.specs.Families.{Meaning, meanings}
+use Rattle.sfm_kind.specs.Meanings.{kind_places}
+use Rattle.sfm_kind.specs.Kinds.{kind_value}
+use Rattle.sfm_kind.specs.declared.kind.Kind.{Kind}
+
+abbrev pub meanings_of : List Kind → List Meaning
+meanings_of terms = meanings kind_places kind_value terms
