@@ -8,13 +8,15 @@ use Rattle.sfm_spec.specs.Laws.{AreBreakpoints, ones}
 use Rattle.sfm_spec.specs.Families.{AreBases, IsGreatest, IsLeast, Prove, even_shift, shifted_at}
 use Rattle.sfm_kind.specs.Instance.{InstanceData}
 use Rattle.sfm_kind.specs.Limits.{AreInBounds}
+use Rattle.sfm_kind.specs.Names.{AreElementNames}
 use Rattle.sfm_kind.proofs.Meanings.{kinds-mean}
 use Rattle.sfm_text.specs.GoodText.{IsTextOf}
 use Rattle.sfm_cert.specs.Answer.{Answer, answer_text, mark_of}
 use Rattle.sfm_cert.specs.Form.{IsFormedBreak}
 use Rattle.sfm_cert.specs.Solved.{form_of}
-use Rattle.sfm_check.specs.Truth.{IsProvedSection, section_of}
+use Rattle.sfm_check.specs.Truth.{IsProvedSection, IsTrueHead, section_of}
 use Rattle.sfm_check.proofs.BlockOrder.{blocks_formed}
+use Rattle.sfm_check.proofs.Short.{head_few}
 use Rattle.sfm_check.proofs.Small.{value_small}
 use Rattle.sfm.proofs.Rows.{formed_rows}
 use Rattle.sfm.specs.Meanings.{meanings_of}
@@ -33,8 +35,8 @@ pub record IsRead (instance : InstanceData) (a : Answer) : Type 0 where
   pub breaks : All (IsFormedBreak (length instance.names) (form_of instance).widths) a.breaks
   pub proved : All (IsProvedSection (meanings_of instance.terms) (length instance.names)) (map section_of a.breaks)
 
-pub true_answer : (instance : InstanceData) (a : Answer) → AreInBounds (length instance.names) instance.terms → IsRead instance a → IsTrueAnswer instance a
-true_answer instance a bounded h = record {
+pub true_answer : (instance : InstanceData) (a : Answer) → AreElementNames instance.names → AreInBounds (length instance.names) instance.terms → IsRead instance a → IsTrueAnswer instance a
+true_answer instance a named bounded h = record {
   formed = record {
     value = subst IsEntry (sym h.value) (value_small (length instance.names) instance.terms a.least bounded h.least.minimiser.allowed);
     least = h.least.minimiser.places;
@@ -43,11 +45,14 @@ true_answer instance a bounded h = record {
     bases = record { widths_are = formed_rows (pos 1) instance.terms a.bases h.bases; small = h.small };
     breaks = h.breaks;
   };
-  head = record { least = h.least; greatest = h.greatest; value = h.value; blocks = h.blocks; breaks = h.slopes };
+  few = head_few instance a named bounded head;
+  head = head;
   sections = All-cons (IsProvedSection (meanings_of instance.terms) (length instance.names)) (record { num = pos 0; den = pos 1; bases = a.bases }) (map section_of a.breaks)
       (record { bases = h.bases; proves = h.proves })
       h.proved;
-}
+} where
+  head : IsTrueHead (meanings_of instance.terms) (length instance.names) a
+  head = record { least = h.least; greatest = h.greatest; value = h.value; blocks = h.blocks; breaks = h.slopes }
 
 -- the text of a true answer is a right file
 pub solved : (text file : List ℕ) (instance : InstanceData) (a : Answer) → IsTextOf text instance.names instance.terms → IsTrueAnswer instance a → file ≡ answer_text (form_of instance) a → IsSolved text file

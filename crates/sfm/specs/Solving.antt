@@ -8,14 +8,16 @@ use Rattle.sfm_kind.specs.Instance.{InstanceData}
 use Rattle.sfm_extreme.specs.declared.extremes.Proved.{Proved}
 use Rattle.sfm_walk.specs.declared.optimum.Optimum.{Optimum}
 use Rattle.sfm_cert.specs.Answer.{Answer}
+use Rattle.sfm_cert.specs.Few.{HasFewLines}
 use Rattle.sfm_cert.specs.Form.{IsFormed}
 use Rattle.sfm_cert.specs.Solved.{form_of}
 use Rattle.sfm_check.specs.Truth.{IsProvedSection, IsTrueHead, sections_of}
 use Rattle.sfm.specs.Meanings.{meanings_of}
 
--- an answer of the instance's form that is true, with bases that prove it
+-- an answer of the instance's form that is true, with bases that prove it; it has few lines
 pub record IsTrueAnswer (instance : InstanceData) (a : Answer) : Type 0 where
   pub formed : IsFormed (form_of instance) a
+  pub few : HasFewLines a
   pub head : IsTrueHead (meanings_of instance.terms) (length instance.names) a
   pub sections : All (IsProvedSection (meanings_of instance.terms) (length instance.names)) (sections_of a)
 

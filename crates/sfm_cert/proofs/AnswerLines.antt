@@ -65,15 +65,7 @@ pub break_lines-push : (breaks : List Break) (b : Break) → break_lines (breaks
 break_lines-push [] b = append-nil (section_lines b.num b.den b.bases)
 break_lines-push (c ∷ breaks) b = ap (λ r. section_lines c.num c.den c.bases ++ r) (break_lines-push breaks b) ∙ sym (append_assoc (section_lines c.num c.den c.bases) (break_lines breaks) (section_lines b.num b.den b.bases))
 
--- ---- what was written so far, and one more piece behind it
-
-pub appended : (from out new lines line more : List ℕ) → out ≡ from ++ lines → new ≡ out ++ line → more ≡ lines ++ line → new ≡ from ++ more
-appended from out new lines line more so_far put next = put ∙ (ap (λ y. y ++ line) so_far ∙ (append_assoc from lines line ∙ ap (λ y. from ++ y) (sym next)))
-
--- the same where the pieces are lines
-pub appended_lines : (from out new : List ℕ) (lines line more : List (List ℕ)) → out ≡ from ++ text_of lines → new ≡ out ++ text_of line → more ≡ lines ++ line → new ≡ from ++ text_of more
-appended_lines from out new lines line more so_far put next =
-    appended from out new (text_of lines) (text_of line) (text_of more) so_far put (ap text_of next ∙ text_of-append lines line)
+-- ---- numbers that fit
 
 pub entry_fits : (a : ℤ) → IsEntry a → FitsSigned w128 a
 entry_fits a h = omega (arith, ints, h.low, h.high)
@@ -103,18 +95,6 @@ pub break_lines-more : (breaks : List Break) (i : ℕ) (d b : Break) → i < len
 break_lines-more breaks i d b h e =
     ap break_lines (take_more breaks i d h) ∙ break_lines-push (take i breaks) (get_or breaks i d)
     ∙ ap (λ c. break_lines (take i breaks) ++ section_lines c.num c.den c.bases) e
-
--- four pieces, one behind another
-pub four : (o o1 o2 o3 o4 a b c d : List ℕ) → o1 ≡ o ++ a → o2 ≡ o1 ++ b → o3 ≡ o2 ++ c → o4 ≡ o3 ++ d → o4 ≡ o ++ (a ++ (b ++ (c ++ d)))
-four o o1 o2 o3 o4 a b c d h1 h2 h3 h4 =
-    h4 ∙ ap (λ y. y ++ d) (h3 ∙ ap (λ y. y ++ c) (h2 ∙ ap (λ y. y ++ b) h1)) ∙ simp append_assoc
-
--- the pieces of a head, and of an answer, one behind another
-pub three_lines : (o o1 o2 o3 : List ℕ) (a b c : List (List ℕ)) → o1 ≡ o ++ text_of a → o2 ≡ o1 ++ text_of b → o3 ≡ o2 ++ text_of c → o3 ≡ o ++ text_of (a ++ b ++ c)
-three_lines o o1 o2 o3 a b c h1 h2 h3 =
-    h3 ∙ ap (λ y. y ++ text_of c) (h2 ∙ ap (λ y. y ++ text_of b) h1)
-    ∙ append_assoc (o ++ text_of a) (text_of b) (text_of c) ∙ append_assoc o (text_of a) (text_of b ++ text_of c)
-    ∙ ap (λ y. o ++ y) (sym (append_assoc (text_of a) (text_of b) (text_of c)) ∙ ap (λ y. y ++ text_of c) (sym (text_of-append a b)) ∙ sym (text_of-append (a ++ b) c))
 
 pub factor_fits : (q : ℤ) → IsFactor q → FitsSigned w128 q
 factor_fits q h = omega (arith, ints, h.low, h.high)

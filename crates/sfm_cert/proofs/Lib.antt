@@ -13,3 +13,6 @@ pub mod First
 pub mod Whole
 pub mod Unique
 pub mod OneAnswer
+pub mod Pieces
+pub mod Lengths
+pub mod InstanceLengths

@@ -1,8 +1,10 @@
 pub mod Answer
+pub mod Few
 pub mod Form
 pub mod Grammar
 pub mod Solved
 pub mod Reading
 pub mod Lists
 pub mod Lines
+pub mod Pages
 pub mod Parts

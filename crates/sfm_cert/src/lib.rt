@@ -7,6 +7,7 @@ mod lines;
 mod lists;
 mod next;
 mod numbers;
+mod out;
 mod put;
 mod read;
 mod solved;
@@ -16,7 +17,7 @@ mod write;
 pub use lines::{line_of_at, line_of_base};
 pub use read::{ANSWER_LIMIT, read_answer};
 pub use solved::{AnswerEnd, Solved};
-pub use write::write_answer;
+pub use write::{answer_len, put_answer, write_answer};
 
 #[cfg(test)]
 mod tests;

@@ -11,12 +11,15 @@ use crate::cursor::Cursor;
 use crate::head::Head;
 use crate::lists::{base_of, block_of_line, head_of_line, minimum_of, set_of};
 use crate::next::{expect, take_line};
-use crate::put::put_slope;
+use crate::put::put_at;
 use crate::solved::AnswerEnd;
-use sfm_base::{Set, Slope};
+use sfm_base::{Page, Set, Slope};
 use sfm_extreme::Block;
 use sfm_kind::Instance;
 use std::alloc::Global;
+
+/// The most bytes of the line that tells a slope: the word, the space, two numbers and what parts them.
+const MOST_AT: usize = 68;
 
 /// The number of the minimum line.
 pub fn read_minimum(text: &[u8], cursor: &mut Cursor) -> Result<i128, AnswerEnd>
@@ -133,8 +136,9 @@ pub fn read_at(
     ensures read { IfOk result (λ _. TakesSome text.now cursor.old cursor.new (λ line. line ≡ at_line slope.now.num slope.now.den)) }
     ensures stuck { IfErr result (EndsStuck text.now cursor.old (λ line. line ≡ at_line slope.now.num slope.now.den)) }
 {
-    let mut due = Vec::from_slice(alloc, b"at ")?;
-    put_slope(&mut due, slope.num, slope.den)?;
-    expect(text, cursor, &due)?;
+    let mut due = Page::new(alloc);
+    due.reserve(MOST_AT)?;
+    put_at(&mut due, slope);
+    expect(text, cursor, due.bytes())?;
     Ok(())
 }

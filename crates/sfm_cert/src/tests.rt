@@ -1,6 +1,6 @@
 // Small texts, each worked by hand against the grammar: a right text is read and written back the same, and a broken one is
 // bad at its line.
-use crate::{AnswerEnd, line_of_at, line_of_base, read_answer, write_answer};
+use crate::{AnswerEnd, answer_len, line_of_at, line_of_base, read_answer, write_answer};
 use sfm_base::Memory;
 use sfm_kind::{Instance, Kind, is_name};
 use sfm_simple::{Cut, Weight};
@@ -39,7 +39,9 @@ fn bad_line(
 ) -> Result<usize, Memory> {
     match read_answer(alloc, instance, text) {
         Ok(solved) => {
+            assert!(rt; solved.blocks.len() <= 256 && solved.breaks.len() <= 256);
             let written = write_answer(alloc, instance, &solved)?;
+            assert_eq!(rt; answer_len(instance, &solved), text.len());
             assert_eq!(rt; written.as_slice(), text);
             Ok(0)
         }

@@ -1,80 +1,104 @@
-// Writing an answer: a line for each thing that it says, then the bases that prove it.
-ghost use Rattle.std.specs.Prelude.{◌≡◌, ◌++◌, length, map, pos, IfOk, OnOk};
+// Writing an answer: a line for each thing that it says, then the bases that prove it. The same walk tells how long the
+// text is and writes it, so that room is made once, before the first byte, and nothing is refused behind that.
+ghost use Rattle.std.specs.Prelude.{◌≡◌, ◌-◌, ◌≤◌, ◌++◌, length, map, pos, IfOk};
 ghost use Rattle.std.specs.List.{All};
 ghost use Rattle.sfm_spec.specs.Bounds.{IsEntry};
 ghost use Rattle.sfm_cert.specs.Answer.{answer_text, break_lines, head_lines, text_of};
 ghost use Rattle.sfm_cert.specs.Reading.{first_lines};
+ghost use Rattle.sfm_cert.specs.Few.{HasFewLines};
 ghost use Rattle.sfm_cert.specs.Form.{IsFormed, IsFormedBreak};
 ghost use Rattle.sfm_cert.specs.Solved.{answer_of, break_of, form_of};
 
+use crate::out::{Gauge, Out};
 use crate::put::{put_blocks, put_breaks, put_names, put_number, put_section};
 use crate::solved::Solved;
-use sfm_base::{Memory, Slope};
+use sfm_base::{Memory, Page, Slope};
 use sfm_kind::Instance;
 use sfm_law::Break;
-use std::alloc::{AllocError, Global};
+use std::alloc::Global;
 
 /// The first lines: the minimum and its extreme minimisers.
-fn put_extremes(out: &mut Vec<u8>, instance: &Instance, solved: &Solved) -> Result<(), AllocError>
+fn put_extremes<O: Out>(out: &mut O, instance: &Instance, solved: &Solved)
     requires value { IsEntry solved.now.value }
     requires least { length instance.now.names ≡ length solved.now.least }
     requires greatest { length instance.now.names ≡ length solved.now.greatest }
-    ensures { OnOk result (out.new.items ≡ out.old.items ++ text_of (first_lines (form_of instance.now) (answer_of solved.now))) }
+    ensures { out.new ≡ O.after out.old (text_of (first_lines (form_of instance.now) (answer_of solved.now))) }
 {
-    out.extend_from_slice(b"answer 1\nminimum ")?;
-    put_number(out, solved.value)?;
-    out.extend_from_slice(b"\nleast")?;
-    put_names(out, instance, &solved.least)?;
-    out.extend_from_slice(b"\ngreatest")?;
-    put_names(out, instance, &solved.greatest)?;
-    out.extend_from_slice(b"\n")?;
-    Ok(())
+    out.put(b"answer 1\nminimum ");
+    put_number(out, solved.value);
+    out.put(b"\nleast");
+    put_names(out, instance, &solved.least);
+    out.put(b"\ngreatest");
+    put_names(out, instance, &solved.greatest);
+    out.put(b"\n");
 }
 
 /// The answer lines: the first lines, the blocks and the slopes.
-fn put_head(out: &mut Vec<u8>, instance: &Instance, solved: &Solved) -> Result<(), AllocError>
+fn put_head<O: Out>(out: &mut O, instance: &Instance, solved: &Solved)
     requires { IsFormed (form_of instance.now) (answer_of solved.now) }
-    ensures { OnOk result (out.new.items ≡ out.old.items ++ text_of (head_lines (form_of instance.now) (answer_of solved.now))) }
+    ensures { out.new ≡ O.after out.old (text_of (head_lines (form_of instance.now) (answer_of solved.now))) }
 {
-    put_extremes(out, instance, solved)?;
-    put_blocks(out, instance, &solved.blocks)?;
-    put_breaks(out, instance, &solved.breaks)?;
-    Ok(())
+    put_extremes(out, instance, solved);
+    put_blocks(out, instance, &solved.blocks);
+    put_breaks(out, instance, &solved.breaks);
 }
 
 /// The bases at each slope.
-fn put_proofs(out: &mut Vec<u8>, breaks: &[Break]) -> Result<(), AllocError>
+fn put_proofs<O: Out>(out: &mut O, breaks: &[Break])
     requires { All (λ b. All (λ base. All IsEntry base) b.bases) (map break_of breaks.now) }
-    ensures { OnOk result (out.new.items ≡ out.old.items ++ text_of (break_lines (map break_of breaks.now))) }
+    ensures { out.new ≡ O.after out.old (text_of (break_lines (map break_of breaks.now))) }
 {
     for b in breaks {
-        put_section(out, &b.slope, &b.bases)?;
+        put_section(out, &b.slope, &b.bases);
     }
-    Ok(())
 }
 
-/// Puts the text of an answer behind what the buffer holds.
-pub fn put_answer(out: &mut Vec<u8>, instance: &Instance, solved: &Solved) -> Result<(), AllocError>
+/// The text of an answer, piece by piece.
+fn put_text<O: Out>(out: &mut O, instance: &Instance, solved: &Solved)
     requires { IsFormed (form_of instance.now) (answer_of solved.now) }
-    ensures { OnOk result (out.new.items ≡ out.old.items ++ answer_text (form_of instance.now) (answer_of solved.now)) }
+    ensures { out.new ≡ O.after out.old (answer_text (form_of instance.now) (answer_of solved.now)) }
 {
-    put_head(out, instance, solved)?;
-    put_section(out, &Slope::new(0, 1), &solved.bases)?;
-    put_proofs(out, &solved.breaks)?;
-    out.extend_from_slice(b"end\n")?;
-    Ok(())
+    put_head(out, instance, solved);
+    put_section(out, &Slope::new(0, 1), &solved.bases);
+    put_proofs(out, &solved.breaks);
+    out.put(b"end\n");
 }
 
-/// The text of an answer.
+/// How many bytes the text of an answer has. It takes no memory.
+pub fn answer_len(instance: &Instance, solved: &Solved) -> usize
+    requires formed { IsFormed (form_of instance.now) (answer_of solved.now) }
+    requires few { HasFewLines (answer_of solved.now) }
+    ensures { result ≡ length (answer_text (form_of instance.now) (answer_of solved.now)) }
+{
+    let _ = instance.terms();
+    let _ = instance.names_len();
+    let mut gauge = Gauge::new();
+    put_text(&mut gauge, instance, solved);
+    gauge.used()
+}
+
+/// Puts the text of an answer at the end of a page that has room for it. It takes no memory.
+pub fn put_answer(page: &mut Page, instance: &Instance, solved: &Solved)
+    requires formed { IsFormed (form_of instance.now) (answer_of solved.now) }
+    requires room { length (answer_text (form_of instance.now) (answer_of solved.now)) ≤ page.old.spare }
+    ensures bytes { page.new.bytes ≡ page.old.bytes ++ answer_text (form_of instance.now) (answer_of solved.now) }
+    ensures spare { page.new.spare ≡ page.old.spare - length (answer_text (form_of instance.now) (answer_of solved.now)) }
+{
+    put_text(page, instance, solved);
+}
+
+/// The text of an answer. Room for all of it is made first, and nothing is refused behind that.
 ///
 /// # Errors
 ///
 /// `Memory` where there is none.
 pub fn write_answer(alloc: Global, instance: &Instance, solved: &Solved) -> Result<Vec<u8>, Memory>
-    requires { IsFormed (form_of instance.now) (answer_of solved.now) }
+    requires formed { IsFormed (form_of instance.now) (answer_of solved.now) }
+    requires few { HasFewLines (answer_of solved.now) }
     ensures { IfOk result (λ text. text.items ≡ answer_text (form_of instance.now) (answer_of solved.now)) }
 {
-    let mut out = Vec::new(alloc);
-    put_answer(&mut out, instance, solved)?;
-    Ok(out)
+    let mut page = Page::new(alloc);
+    page.reserve(answer_len(instance, solved))?;
+    put_answer(&mut page, instance, solved);
+    Ok(page.into_vec())
 }

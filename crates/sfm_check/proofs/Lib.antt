@@ -8,6 +8,5 @@ pub mod OneToOne
 pub mod WrongLines
 pub mod Small
 pub mod AllSlopes
-pub mod Lengths
 pub mod Short
 pub mod Telling

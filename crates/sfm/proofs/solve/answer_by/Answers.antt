@@ -29,7 +29,7 @@ returns c =
     let a : Answer = record { value = c.args.found.value; least = c.args.found.least; greatest = c.args.found.greatest; blocks = map block_of c.in_ok-blocks.blocks.items; bases = c.args.optimum.bases; breaks = map break_of found } in
     let slopes : AreBreakpoints (meanings_of instance.terms) n (ones n) (map kept_mark found) = rw (c.terms-terms.ensures.terms, c.names_len-n.ensures.len) at c.in_ok-breaks.ensures.slopes in
     let has : All (HasBases (meanings_of instance.terms) n) found = rw (c.terms-terms.ensures.terms, c.names_len-n.ensures.len) at c.in_ok-breaks.ensures.bases in
-    let done : IsTrueAnswer instance a = true_answer instance a c.terms-terms.ensures.bounded (record {
+    let done : IsTrueAnswer instance a = true_answer instance a c.names_len-n.ensures.named c.terms-terms.ensures.bounded (record {
       bases = h.bases;
       small = h.small;
       proves = h.proves;

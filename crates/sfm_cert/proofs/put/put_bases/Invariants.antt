@@ -1,6 +1,6 @@
-use Rattle.std.proofs.Common.{◌≡◌, ◌++◌, take}
+use Rattle.std.proofs.Common.{◌≡◌, take}
 use Rattle.sfm_cert.specs.Answer.{base_lines, text_of}
 use Rattle.sfm_cert.proofs.put.put_bases.Given as goal
 
 abbrev pub invariant-loop-i : goal.invariant-loop-i
-invariant-loop-i l = l.out.items ≡ l.initial.out.items ++ text_of (base_lines 1 (take l.i l.bases))
+invariant-loop-i g l = l.out ≡ g.O.Out.after l.initial.out (text_of (base_lines 1 (take l.i l.bases)))

@@ -1,12 +1,12 @@
 use Rattle.std.proofs.Common.{◌≡◌, ◌++◌, ◌∷◌, [], get_or, ap, ◌∙◌, append_assoc}
 use Rattle.std.specs.Fmt.{decimal}
-use Rattle.sfm_cert.proofs.AnswerLines.{counted-more, appended}
+use Rattle.sfm_cert.proofs.AnswerLines.{counted-more}
+use Rattle.sfm_cert.proofs.Pieces.{both, appended}
 use Rattle.sfm_cert.proofs.put.put_counts.Goals as goal
 
 pub loop-n-preserved : goal.loop-n-preserved
-loop-n-preserved c =
+loop-n-preserved g c =
     let x = c.args.counts.now in
     let i = c.loop-n.n-index in
-    let put : c.put_count.new.out.items ≡ c.loop-n.out.items ++ (32 ∷ decimal (get_or x i 0))
-    = c.in_ok-put_count.ensures ∙ ap (λ y. y ++ decimal (get_or x i 0)) c.in_ok-extend_from_slice.ensures.items ∙ append_assoc c.loop-n.out.items (32 ∷ []) (decimal (get_or x i 0)) in
-    appended _ _ _ _ _ _ c.loop-n.invariant put (counted-more x i c.loop-n-test.true)
+    let put : c.put_count.new.out ≡ g.O.Out.after c.loop-n.out (32 ∷ decimal (get_or x i 0)) = both g.O.Out.after g.met.O.Out.joined _ _ _ (32 ∷ []) (decimal (get_or x i 0)) c.put.ensures c.put_count.ensures in
+    appended g.O.Out.after g.met.O.Out.joined _ _ _ _ _ _ c.loop-n.invariant put (counted-more x i c.loop-n-test.true)

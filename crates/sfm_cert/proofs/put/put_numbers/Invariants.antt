@@ -1,6 +1,6 @@
-use Rattle.std.proofs.Common.{◌≡◌, ◌++◌, take}
+use Rattle.std.proofs.Common.{◌≡◌, take}
 use Rattle.sfm_cert.specs.Answer.{numbered}
 use Rattle.sfm_cert.proofs.put.put_numbers.Given as goal
 
 abbrev pub invariant-loop-a : goal.invariant-loop-a
-invariant-loop-a l = l.out.items ≡ l.initial.out.items ++ numbered (take l.a-index l.numbers)
+invariant-loop-a g l = l.out ≡ g.O.Out.after l.initial.out (numbered (take l.a-index l.numbers))

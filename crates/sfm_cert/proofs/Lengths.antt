@@ -31,7 +31,7 @@ number_text (negsuc n) e =
     let d = length-decimal-le_wide 31 (suc n) (omega arith) (omega (arith, ints, h)) (omega (arith, ints, h)) in
     omega (arith, d)
 
-factor_entry : (q : ℤ) → IsFactor q → IsEntry q
+pub factor_entry : (q : ℤ) → IsFactor q → IsEntry q
 factor_entry q f = let low = f.low in let high = f.high in record { low = omega (arith, ints, low); high = omega (arith, ints, high) }
 
 -- ---- lists in a line
@@ -99,7 +99,7 @@ slope_line_short names b short few ep eq =
     let two = length-append (codes "slope " ++ slope_text b.num b.den) (listed names b.members) in
     omega (arith, text, members, few, one, two)
 
-at_line_short : (p q : ℤ) → IsEntry p → IsEntry q → length (at_line p q) ≤ 68
+pub at_line_short : (p q : ℤ) → IsEntry p → IsEntry q → length (at_line p q) ≤ 68
 at_line_short p q ep eq =
     let text = slope_text_short p q ep eq in
     omega (arith, text, length-append (codes "at ") (slope_text p q))

@@ -1,0 +1,37 @@
+-- The texts of the answers for an instance are short: an instance has few names and terms, and its terms have few places.
+use Rattle.std.proofs.Common.{◌≡◌, ℕ, ◌≤◌, List, [], ◌∷◌, length, map, sum, refl, ap, arith, subst}
+use Rattle.std.proofs.lemmas.List.{length-map}
+use Rattle.sfm_kind.specs.declared.kind.Kind.{Kind}
+use Rattle.sfm_kind.specs.Instance.{AreInBounds, InstanceData}
+use Rattle.sfm_kind.specs.Kinds.{kind_places}
+use Rattle.sfm_kind.specs.Names.{AreElementNames}
+use Rattle.sfm_cert.specs.Answer.{Answer, answer_text}
+use Rattle.sfm_cert.specs.Few.{HasFewLines}
+use Rattle.sfm_cert.specs.Form.{IsFormed}
+use Rattle.sfm_cert.specs.Solved.{form_of}
+use Rattle.sfm_cert.proofs.Lengths.{AreFewWidths, IsSmallAnswer, answer_short}
+
+same_widths : (ts : List Kind) → map length (map kind_places ts) ≡ map (λ term. length (kind_places term)) ts
+same_widths [] = refl
+same_widths (t ∷ ts) = ap (λ z. length (kind_places t) ∷ z) (same_widths ts)
+
+pub few_widths : (n : ℕ) (ts : List Kind) → AreInBounds n ts → AreFewWidths (map (λ term. length (kind_places term)) ts)
+few_widths n ts bounded =
+    let few = bounded.few_terms in
+    record {
+      terms = omega (arith, few, length-map ts kind_places, length-map ts (λ term. length (kind_places term)));
+      places = subst (λ (z : List ℕ). sum z ≤ 16384) (same_widths ts) bounded.few_places;
+    }
+
+pub instance_text_short : (instance : InstanceData) (a : Answer) → AreElementNames instance.names → AreInBounds (length instance.names) instance.terms → IsFormed (form_of instance) a
+    → HasFewLines a → length (answer_text (form_of instance) a) ≤ 268435456
+instance_text_short instance a fine bounded formed few =
+    let small : IsSmallAnswer (form_of instance) a = record {
+      header = omega arith;
+      names = λ i d l. (fine.forms i d l).short;
+      few_names = fine.few;
+      widths = few_widths (length instance.names) instance.terms bounded;
+      few_blocks = few.blocks;
+      few_breaks = few.breaks;
+    } in
+    answer_short (form_of instance) a formed small

@@ -1,0 +1,77 @@
+// Where the text of an answer goes. One walk over an answer makes its text, piece by piece; run over a gauge it tells how
+// long the text is, and run over a page it writes the text. Two pieces do what the longer piece does that they make, so it
+// is known what the whole text does.
+ghost use Rattle.std.specs.Prelude.{◌≡◌, ◌-◌, ◌^◌, List, [], ◌++◌, ℕ, length};
+ghost use Rattle.sfm_cert.specs.Pages.{after_page, page_nothing, page_joined, left_nothing, left_joined};
+
+use sfm_base::Page;
+use std::marker::Model;
+
+/// Takes the pieces of a text, in order.
+pub trait Out {
+    /// What it becomes by a piece.
+    ghost after: { Self → List ℕ → Self };
+
+    /// Takes a piece, or as much of it as there is room for.
+    fn put(&mut self, piece: &[u8])
+        ensures { self.new ≡ after self.old piece.now };
+
+    /// No bytes change nothing.
+    ghost nothing: { (out : Self) → after out [] ≡ out };
+
+    /// Two pieces do what the longer piece does that they make.
+    ghost joined: { (out : Self) (x y : List ℕ) → after (after out x) y ≡ after out (x ++ y) };
+}
+
+/// Measures a text by the room that it uses up, seen as the number of further bytes that there is room for.
+#[derive(Drop)]
+pub struct Gauge {
+    left: usize,
+}
+
+impl Model for Gauge {
+    ghost Value = { ℕ };
+
+    ghost view = { λ gauge. gauge.left };
+}
+
+impl Gauge {
+    /// Room for the longest text whose length is a number of 64 bits.
+    pub fn new() -> Gauge
+        ensures { result ≡ 2 ^ 64 - 1 }
+    {
+        Gauge { left: usize::MAX }
+    }
+
+    /// How many bytes were used up.
+    pub fn used(&self) -> usize
+        ensures { result ≡ 2 ^ 64 - 1 - self.now }
+    {
+        usize::MAX - self.left
+    }
+}
+
+impl Out for Gauge {
+    ghost after = { λ left piece. left - length piece };
+
+    fn put(&mut self, piece: &[u8]) {
+        self.left = self.left.saturating_sub(piece.len());
+    }
+
+    ghost nothing = { left_nothing };
+
+    ghost joined = { left_joined };
+}
+
+impl Out for Page {
+    ghost after = { after_page };
+
+    fn put(&mut self, piece: &[u8]) {
+        let count = piece.len().min(self.spare());
+        Page::put(self, &piece[..count]);
+    }
+
+    ghost nothing = { page_nothing };
+
+    ghost joined = { page_joined };
+}
