@@ -2,7 +2,8 @@
 use Rattle.std.proofs.Common.{◌≡◌, ℕ, ◌≤◌, List, [], ◌∷◌, length, map, sum, refl, ap, arith, subst}
 use Rattle.std.proofs.lemmas.List.{length-map}
 use Rattle.sfm_kind.specs.declared.kind.Kind.{Kind}
-use Rattle.sfm_kind.specs.Instance.{AreInBounds, InstanceData}
+use Rattle.sfm_kind.specs.Instance.{InstanceData}
+use Rattle.sfm_kind.specs.Limits.{AreInBounds}
 use Rattle.sfm_kind.specs.Kinds.{kind_places}
 use Rattle.sfm_kind.specs.Names.{AreElementNames}
 use Rattle.sfm_cert.specs.Answer.{Answer, answer_text}
