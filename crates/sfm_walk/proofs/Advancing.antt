@@ -9,10 +9,12 @@ use Rattle.sfm_spec.specs.Bounds.{IsAtMost, IsEntry}
 use Rattle.sfm_spec.specs.Families.{Meaning, AreTerms, AreBases, rest_at, deficit}
 use Rattle.sfm_spec.specs.Labels.{FallsAlong}
 use Rattle.sfm_spec.specs.Laws.{MoveLaws}
+use Rattle.sfm_spec.specs.Progress.{TakesLeastSteps, IsProgress}
 use Rattle.sfm_spec.specs.Walks.{Step, term_at, row_at, IsStep, AreSteps, IsWalk, IsWalkMove, IsShortest, AllCanMove, MovesAlong, Joins, last_of}
 use Rattle.sfm_spec.proofs.Walks.{terms-at, first_below, step_below}
 use Rattle.sfm_spec.proofs.Labels.{falls_all, falls_within}
-use Rattle.sfm_spec.proofs.Moves.{change_small}
+use Rattle.sfm_spec.proofs.LeastWalks.{least_progress}
+use Rattle.sfm_spec.proofs.Moves.{change_small, full_by_greatest}
 use Rattle.sfm_spec.proofs.MoveOrder.{exchanged-first, exchanged-second, exchanged-other}
 use Rattle.sfm_spec.proofs.Gain.{move_laws, rest_moved}
 use Rattle.sfm_walk.specs.declared.bits.Bits.{Bits}
@@ -22,7 +24,7 @@ use Rattle.sfm_law.specs.Rest.{IsRest}
 use Rattle.sfm_walk.specs.Reach.{IsTable, table_at}
 use Rattle.sfm_walk.specs.Unions.{AreLinks, IsReadable}
 use Rattle.sfm_walk.specs.Levels.{depth_of, IsFirst, AreClosed}
-use Rattle.sfm_walk.specs.Hops.{IsHop, AreHops, AreNamed, IsMovable, Moves, hop_at, step_of, steps_of}
+use Rattle.sfm_walk.specs.Hops.{IsHop, IsTold, AreHops, AreLeast, AreNamed, IsMovable, Moves, hop_at, step_of, steps_of}
 use Rattle.sfm_walk.specs.State.{IsUpTo}
 use Rattle.sfm_walk.proofs.Following.{depth_has, depth_le, depth_bound}
 
@@ -63,6 +65,29 @@ module _ (terms : List Meaning) (rows : List (List ℤ)) (n : ℕ) (q : ℤ) (fi
         record { in_range = is.term_in; u = x.u; v = x.v; u_in = is.u_in; v_in = is.v_in; begins = is.begins; ends = is.ends; apart = m.apart; base = moves 0 (omega arith) },
         hops_can a x.to hops h.2 (λ k l. moves (suc k) (omega arith)),
       )
+
+  -- a step is told by the rows
+  step_told : (from : ℕ) (step : Step) → IsStep terms q rows from step → IsTold terms tables from step
+  step_told from step h =
+      let c = h.2 in
+      record { term_in = c.in_range; u = c.u; u_in = c.u_in; begins = c.begins; has_end = (right step.term c.in_range c.u step.to c.u_in).1 (rw c.begins h) }
+
+  -- steps that are least of those that the rows tell are least of all
+  pub hops_least : (d : ℕ → ℕ) (from : ℕ) (hops : List Hop) → FallsAlong d from (steps_of hops) → AreLeast terms tables d from hops → TakesLeastSteps terms q rows d from (steps_of hops)
+  hops_least d from [] falls least = tt
+  hops_least d from (x ∷ hops) falls least = (falls.0, (λ other h f. least.0 other (step_told from other h) f), hops_least d x.to hops falls.1 least.1)
+
+  -- what each can move, told by its places
+  pub can_moves : (a : ℤ) (from : ℕ) (hops : List Hop) → AreHops terms tables from hops → AllCanMove terms q rows from (steps_of hops) a → (k : ℕ) → k < length hops → Moves terms q rows (hop_at hops k) a
+  can_moves a from [] h can k l = absurd (omega arith)
+  can_moves a from (x ∷ hops) h can zero l =
+      let is = h.0 in
+      let c = can.0 in
+      let distinct = (terms-at n terms x.term fit is.term_in).placed.distinct in
+      let eu : c.u ≡ x.u = distinct c.u x.u c.u_in is.u_in (c.begins ∙ sym is.begins) in
+      let ev : c.v ≡ x.v = distinct c.v x.v c.v_in is.v_in (c.ends ∙ sym is.ends) in
+      rw (eu, ev) at c.base
+  can_moves a from (x ∷ hops) h can (suc k) l = can_moves a x.to hops h.2 can.1 k (omega arith)
 
 module _ (terms : List Meaning) (rows : List (List ℤ)) (n : ℕ) (q : ℤ) (shift z : List ℤ) (low : pos 0 ≤ℤ q) (fit : AreTerms n terms) (bases : AreBases q terms rows) (zn : length z ≡ n) (rest : IsRest terms shift rows z) (unions : List Bits) (links : AreLinks terms n q rows unions)
     (levels : List Bits) (first : ℕ) (begin : IsFirst n unions z levels first) where
@@ -131,8 +156,14 @@ module _ (terms : List Meaning) (rows : List (List ℤ)) (n : ℕ) (q : ℤ) (sh
       pub laws : MoveLaws terms n q shift rows first steps a
       laws = move_laws terms rows n q shift low fit bases first steps a walk_shortest one can by_first by_last
 
-      pub moves : (after : List (List ℤ)) → IsWalkMove terms rows first steps a after → MovesAlong terms q shift rows after
-      moves after w = record { first = first; steps = steps; a = a; shortest = walk_shortest; some = one; by_steps = can; by_first = by_first; by_last = by_last; moved = w }
+      -- it is progress, where the steps are least and no greater amount is allowed
+      pub progress : (after : List (List ℤ)) → IsWalkMove terms rows first steps a after → TakesLeastSteps terms q rows (depth_of levels) first steps
+          → ((b : ℤ) → AllCanMove terms q rows first steps b → b ≤ℤ neg_ℤ (get_or z first (pos 0)) → b ≤ℤ get_or z (last_of first steps) (pos 0) → b ≤ℤ a) → IsProgress terms n q shift rows after
+      progress after w least greatest =
+          least_progress terms rows n q shift low fit bases (depth_of levels) over_depth depth_falls after
+          (record { first = first; steps = steps; a = a; shortest = walk_shortest; some = one; by_steps = can; by_first = by_first; by_last = by_last; moved = w }) least
+          (full_by_greatest terms rows n q low fit bases a one shift first steps can by_first by_last
+          (λ b can' under' over'. greatest b can' (rw (rest.exact first (rw zn first_in)) under') (rw (rest.exact (last_of first steps) (rw zn last_in)) over')))
 
       -- z after the move
       pub rest_after : (after : List (List ℤ)) (z' : List ℤ) → IsWalkMove terms rows first steps a after → length z' ≡ length z

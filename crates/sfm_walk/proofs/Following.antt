@@ -2,14 +2,14 @@
 use Rattle.std.proofs.Common.{◌≡◌, ◌⊎◌, ℕ, zero, suc, ◌+◌, ◌<◌, ◌≤◌, Bool, true, false, List, [], ◌∷◌, ◌++◌, length, nat_eq, if◌then◌else◌, refl, ap, arith, inl, inr}
 use Rattle.std.proofs.lemmas.Bool.{cases_eq, eq-eqb, ne_eqb}
 use Rattle.sfm_spec.specs.Families.{Meaning}
-use Rattle.sfm_spec.specs.Labels.{FallsAlong}
+use Rattle.sfm_spec.specs.Labels.{FallsAlong, step_code}
 use Rattle.sfm_spec.specs.Walks.{Step, last_of}
 use Rattle.sfm_walk.specs.declared.bits.Bits.{Bits}
 use Rattle.sfm_walk.specs.declared.walk.Hop.{Hop}
 use Rattle.sfm_walk.specs.Bits.{bit_in, set_at}
 use Rattle.sfm_walk.specs.Levels.{depth_of}
 use Rattle.sfm_walk.specs.Reach.{table_at}
-use Rattle.sfm_walk.specs.Hops.{IsHop, AreHops, steps_of, step_of}
+use Rattle.sfm_walk.specs.Hops.{IsHop, IsTold, AreHops, AreLeast, steps_of, step_of}
 
 pub steps_of-push : (hops : List Hop) (hop : Hop) → steps_of (hops ++ hop ∷ []) ≡ steps_of hops ++ step_of hop ∷ []
 steps_of-push [] hop = refl
@@ -27,6 +27,12 @@ hops_push terms tables from (x ∷ hops) hop h is bit = (h.0, h.1, hops_push ter
 pub falls_push : (d : ℕ → ℕ) (from : ℕ) (steps : List Step) (step : Step) → FallsAlong d from steps → d (last_of from steps) ≡ d step.to + 1 → FallsAlong d from (steps ++ step ∷ [])
 falls_push d from [] step h e = (e, tt)
 falls_push d from (s ∷ steps) step h e = (h.0, falls_push d s.to steps step h.1 e)
+
+pub least_push : (terms : List Meaning) (tables : List (List Bits)) (d : ℕ → ℕ) (from : ℕ) (hops : List Hop) (hop : Hop) → AreLeast terms tables d from hops
+    → ((other : Step) → IsTold terms tables (last_of from (steps_of hops)) other → d (last_of from (steps_of hops)) ≡ d other.to + 1 → step_code terms (step_of hop) ≤ step_code terms other)
+    → AreLeast terms tables d from (hops ++ hop ∷ [])
+least_push terms tables d from [] hop h least = (least, tt)
+least_push terms tables d from (x ∷ hops) hop h least = (h.0, least_push terms tables d x.to hops hop h.1 least)
 
 -- a place of a level is no deeper than it
 pub depth_le : (levels : List Bits) (k e : ℕ) → k < length levels → bit_in (set_at levels k) e ≡ 1 → depth_of levels e ≤ k

@@ -8,7 +8,8 @@ use Rattle.std.proofs.Math.Seq.{get_or-append_seam}
 use Rattle.sfm_walk.specs.declared.bits.Bits.{Bits}
 use Rattle.sfm_walk.specs.Bits.{bit_in, set_at, blank_bits}
 use Rattle.sfm_walk.specs.Levels.{LeadsInto, AreLevels, AreClosed, IsFirst, depth_of}
-use Rattle.sfm_spec.proofs.Counts.{sum_below, sum_below-lt}
+use Rattle.sfm_spec.specs.Progress.{sum_below}
+use Rattle.sfm_spec.proofs.Counts.{sum_below-lt}
 use Rattle.sfm_walk.proofs.Words.{bit_in-lt}
 use Rattle.sfm_walk.proofs.Following.{depth_has, depth_le}
 

@@ -2,7 +2,8 @@
 use Rattle.std.proofs.Common.{◌≡◌, ◌≢◌, ⊎_elim, ℕ, ◌+◌, ◌*◌, ◌-◌, ◌<◌, ◌≤◌, max, Bool, List, length, arith}
 use Rattle.std.proofs.lemmas.Bool.{cases_eq}
 use Rattle.sfm_spec.specs.Sets.{Has}
-use Rattle.sfm_spec.proofs.Counts.{sum_below, sum_below-lt}
+use Rattle.sfm_spec.specs.Progress.{sum_below}
+use Rattle.sfm_spec.proofs.Counts.{sum_below-lt}
 use Rattle.sfm_walk.specs.declared.bits.Bits.{Bits}
 use Rattle.sfm_walk.specs.Bits.{bit_in, set_at}
 use Rattle.sfm_walk.specs.Reached.{AreReached}

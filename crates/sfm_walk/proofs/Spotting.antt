@@ -87,12 +87,16 @@ pub record AreSpotsTo (terms : List Meaning) (n i : ℕ) (spots : List (List Spo
   pub sound : (e k : ℕ) → e < n → k < length (spots_at spots e) → IsSpot terms e (spot_at (spots_at spots e) k)
   pub complete : (j u : ℕ) → j < i → u < length (term_at terms j).places
       → (k : ℕ) × (k < length (spots_at spots (get_or (term_at terms j).places u 0))) × (spot_at (spots_at spots (get_or (term_at terms j).places u 0)) k ≡ record { term = j; local = u })
+  pub first : (e k : ℕ) → e < n → k < length (spots_at spots e) → (spot_at (spots_at spots e) k).term < i
+  pub ordered : (e j k : ℕ) → e < n → j < k → k < length (spots_at spots e) → (spot_at (spots_at spots e) j).term ≤ (spot_at (spots_at spots e) k).term
 
 pub spots_none : (terms : List Meaning) (n : ℕ) → AreSpotsTo terms n 0 (replicate n [])
 spots_none terms n = record {
   count = length-replicate n [];
   sound = λ e k l lk. absurd (let lk' = rw (get_or-replicate n e l) at lk in omega (arith, lk'));
   complete = λ j u l lu. absurd (omega arith);
+  first = λ e k l lk. absurd (let lk' = rw (get_or-replicate n e l) at lk in omega (arith, lk'));
+  ordered = λ e j k l jk lk. absurd (let lk' = rw (get_or-replicate n e l) at lk in omega (arith, lk'));
 } where
   get_or-replicate : (n e : ℕ) → e < n → spots_at (replicate n []) e ≡ []
   get_or-replicate zero e l = absurd (omega arith)
@@ -112,7 +116,25 @@ spots_more terms n i before after li h adds = record {
       (λ less. let (k, lk, is) = h.complete j u less lu in let g = adds.grown (get_or (term_at terms j).places u 0) in (k, omega (arith, lk, g), adds.kept (get_or (term_at terms j).places u 0) k lk ∙ is))
       (λ ge. let same : j ≡ i = omega (arith, ge, lj) in rw same (adds.put u (rw same at lu)))
       (cases_lt j i);
-}
+  first = λ e k l lk. up_to e k l lk;
+  ordered = λ e j k l jk lk. ⊎_elim
+      (λ less.
+      let a = ap (λ s. s.term) (adds.kept e k less) in
+      let b = ap (λ s. s.term) (adds.kept e j (omega (arith, jk, less))) in
+      let o = h.ordered e j k l jk less in
+      omega (arith, a, b, o))
+      (λ ge.
+      let (u, lu, at, is) = adds.only e k ge lk in
+      let a = ap (λ s. s.term) is in
+      let b = up_to e j l (omega (arith, jk, lk)) in
+      omega (arith, a, b))
+      (cases_lt k (length (spots_at before e)));
+} where
+  up_to : (e k : ℕ) → e < n → k < length (spots_at after e) → (spot_at (spots_at after e) k).term < i + 1
+  up_to e k l lk = ⊎_elim
+      (λ less. let a = ap (λ s. s.term) (adds.kept e k less) in let o = h.first e k l less in omega (arith, a, o))
+      (λ ge. let (u, lu, at, is) = adds.only e k ge lk in let a = ap (λ s. s.term) is in omega (arith, a))
+      (cases_lt k (length (spots_at before e)))
 
 pub spots_all : (terms : List Meaning) (n : ℕ) (spots : List (List Spot)) → AreSpotsTo terms n (length terms) spots → AreSpots terms n spots
-spots_all terms n spots h = record { count = h.count; sound = h.sound; complete = h.complete }
+spots_all terms n spots h = record { count = h.count; sound = h.sound; complete = h.complete; ordered = h.ordered }

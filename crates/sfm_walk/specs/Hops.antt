@@ -1,8 +1,9 @@
 -- The steps of a walk as the engine keeps them.
-use Rattle.std.specs.Prelude.{◌≡◌, ◌≢◌, ℕ, ◌<◌, List, [], ◌∷◌, ◌++◌, length, map, slice_index_or, ℤ}
+use Rattle.std.specs.Prelude.{◌≡◌, ◌≢◌, ℕ, ◌<◌, List, [], ◌∷◌, ◌++◌, ◌+◌, ◌≤◌, length, map, slice_index_or, ℤ}
 use Rattle.sfm_spec.specs.Terms.{times, IsBase, HasRoom, exchanged}
 use Rattle.sfm_spec.specs.Families.{Meaning}
 use Rattle.sfm_spec.specs.Walks.{Step, term_at, row_at, IsWalkMove, CanMove, last_of}
+use Rattle.sfm_spec.specs.Labels.{step_code}
 use Rattle.sfm_walk.specs.declared.bits.Bits.{Bits}
 use Rattle.sfm_walk.specs.Bits.{bit_in, set_at}
 use Rattle.sfm_walk.specs.Reach.{table_at}
@@ -32,6 +33,20 @@ pub record IsHop (terms : List Meaning) (from : ℕ) (hop : Hop) : Type 0 where
 abbrev pub AreHops : List Meaning → List (List Bits) → ℕ → List Hop → Type 0
 AreHops terms tables from [] = Unit {0}
 AreHops terms tables from (hop ∷ hops) = IsHop terms from hop × (bit_in (set_at (table_at tables hop.term) hop.u) hop.to ≡ 1) × AreHops terms tables hop.to hops
+
+-- a step that the rows tell: the term has its beginning, whose row has its end
+pub record IsTold (terms : List Meaning) (tables : List (List Bits)) (from : ℕ) (step : Step) : Type 0 where
+  pub term_in : step.term < length terms
+  pub u : ℕ
+  pub u_in : u < length (term_at terms step.term).places
+  pub begins : slice_index_or (term_at terms step.term).places u 0 ≡ from
+  pub has_end : bit_in (set_at (table_at tables step.term) u) step.to ≡ 1
+
+-- no step that the rows tell from each place, and that lowers d, has a lesser code than the one that is taken
+abbrev pub AreLeast : List Meaning → List (List Bits) → (ℕ → ℕ) → ℕ → List Hop → Type 0
+AreLeast terms tables d from [] = Unit {0}
+AreLeast terms tables d from (hop ∷ hops) =
+    ((other : Step) → IsTold terms tables from other → d from ≡ d other.to + 1 → step_code terms (step_of hop) ≤ step_code terms other) × AreLeast terms tables d hop.to hops
 
 -- the step can move something between its places
 pub record IsMovable (terms : List Meaning) (q : ℤ) (rows : List (List ℤ)) (hop : Hop) : Type 0 where

@@ -19,12 +19,13 @@ pub record IsSpot (terms : List Meaning) (e : ℕ) (spot : Spot) : Type 0 where
   pub local_in : spot.local < length (term_at terms spot.term).places
   pub at : slice_index_or (term_at terms spot.term).places spot.local 0 ≡ e
 
--- the spots of each of n places are those of the terms
+-- the spots of each of n places are those of the terms, in their order
 pub record AreSpots (terms : List Meaning) (n : ℕ) (spots : List (List Spot)) : Type 0 where
   pub count : length spots ≡ n
   pub sound : (e k : ℕ) → e < n → k < length (spots_at spots e) → IsSpot terms e (spot_at (spots_at spots e) k)
   pub complete : (i u : ℕ) → i < length terms → u < length (term_at terms i).places
       → (k : ℕ) × (k < length (spots_at spots (slice_index_or (term_at terms i).places u 0))) × (spot_at (spots_at spots (slice_index_or (term_at terms i).places u 0)) k ≡ record { term = i; local = u })
+  pub ordered : (e j k : ℕ) → e < n → j < k → k < length (spots_at spots e) → (spot_at (spots_at spots e) j).term ≤ (spot_at (spots_at spots e) k).term
 
 -- the spots of the first k places of the term i are put behind those that were there
 pub record AddsSpots (places : List ℕ) (i k : ℕ) (before after : List (List Spot)) : Type 0 where

@@ -1,12 +1,14 @@
-// Bases that prove the minimum. While a walk joins, a shortest one is moved along by the greatest amount, and what is kept
-// beside the bases is brought up. Each walk raises the sum of min(z, 0) by at least 1, so this ends, and then no walk joins
-// (Schrijver, Combinatorial Optimization, section 45; Fujishige, Submodular Functions and Optimization, section 4).
+// Bases that prove the minimum. While a walk joins, one of least steps is moved along by the greatest amount, and what is
+// kept beside the bases is brought up. Each walk raises the sum of min(z, 0) by at least 1, so this ends, and then no walk
+// joins (Schrijver, Combinatorial Optimization, section 45; Fujishige, Submodular Functions and Optimization, section 4).
+// And each walk raises the potential of any lower bounds on distances and on least steps, so walks are few.
 ghost use Rattle.std.specs.Prelude.{◌≡◌, ◌+◌, ◌*◌, ◌^◌, ◌<◌, ◌≤◌, ℕ, ℤ, List, map, pos, neg_ℤ, ◌+ℤ◌, ◌-ℤ◌, ◌≤ℤ◌, length, OnOk, IfOk, slice_index_or};
 ghost use Rattle.std.specs.List.{All};
 ghost use Rattle.sfm_spec.specs.Sets.{magnitudes};
 ghost use Rattle.sfm_spec.specs.Bounds.{AreBounded, IsAtMost, IsEntry, IsFactor};
 ghost use Rattle.sfm_spec.specs.Families.{meanings, even_shift, rest_at, deficit, AreBases, IsLeast, Prove};
-ghost use Rattle.sfm_spec.specs.Walks.{Step, Joins, MovesAlong};
+ghost use Rattle.sfm_spec.specs.Progress.{IsProgress};
+ghost use Rattle.sfm_spec.specs.Walks.{Step, Joins, IsFewWalks, few_walks};
 ghost use Rattle.sfm_walk.specs.Counted.{IsCounted};
 ghost use Rattle.sfm_walk.specs.Engine.{IsEngine};
 ghost use Rattle.sfm_walk.specs.Levels.{IsFirst};
@@ -47,8 +49,9 @@ pub struct Minimum {
 
 /// Bases that prove the minimum of q times the sum of the terms, less p for each element, over a ground of n places.
 ///
-/// The walks begin at the first bases of the terms. No walk joins the bases that are given, so they prove the minimum
-/// (Edmonds' min-max; Schrijver, Combinatorial Optimization, section 45).
+/// The walks begin at the first bases of the terms, and there are at most n + n (n + 1)(n m + 1) of them, of n elements and
+/// m terms. No walk joins the bases that are given, so they prove the minimum (Edmonds' min-max; Schrijver, Combinatorial
+/// Optimization, section 45).
 ///
 /// # Errors
 ///
@@ -68,12 +71,14 @@ pub fn minimise<T: Term>(
     ensures rest { IfOk result (λ r. (length r.z ≡ n) × ((e : ℕ) → e < n → slice_index_or r.z e (pos 0) ≡ rest_at (meanings T.places T.value_of terms.now) r.bases (even_shift n p) e)) }
     ensures ends { IfOk result (λ r. (first : ℕ) (steps : List Step) → Joins (meanings T.places T.value_of terms.now) q (even_shift n p) r.bases first steps → ⊥) }
     ensures proves { IfOk result (λ r. Prove (meanings T.places T.value_of terms.now) n q (even_shift n p) r.bases) }
+    ensures few { IfOk result (λ r. IsFewWalks (meanings T.places T.value_of terms.now) n q (even_shift n p) (map (λ term. T.start_of term q) terms.now) r.bases) }
 {
     let mut steps = Steps::new();
     minimise_counted(alloc, terms, n, p, q, &mut steps)
 }
 
-/// The same, and each walk is counted, up to the greatest number of 64 bits.
+/// The same, and each walk is counted, from a count below 2^63. With an answer the count has risen by the number of walks
+/// that led to its bases, and without one by no more than there may be.
 ///
 /// # Errors
 ///
@@ -86,6 +91,7 @@ pub fn minimise_counted<T: Term>(
     q: i128,
     steps: &mut Steps,
 ) -> Result<Optimum, Memory>
+    requires room { steps.old < 2 ^ 63 }
     requires bounded { AreBounded n (map T.places terms.now) (map T.size_of terms.now) }
     requires slope { IsAtMost (10 ^ 24) p }
     requires factor { IsFactor q }
@@ -94,7 +100,8 @@ pub fn minimise_counted<T: Term>(
     ensures rest { IfOk result (λ r. (length r.z ≡ n) × ((e : ℕ) → e < n → slice_index_or r.z e (pos 0) ≡ rest_at (meanings T.places T.value_of terms.now) r.bases (even_shift n p) e)) }
     ensures ends { IfOk result (λ r. (first : ℕ) (steps : List Step) → Joins (meanings T.places T.value_of terms.now) q (even_shift n p) r.bases first steps → ⊥) }
     ensures proves { IfOk result (λ r. Prove (meanings T.places T.value_of terms.now) n q (even_shift n p) r.bases) }
-    ensures counted { IfOk result (λ r. IsCounted (meanings T.places T.value_of terms.now) q (even_shift n p) (map (λ term. T.start_of term q) terms.now) r.bases steps.old steps.new) }
+    ensures counted { IfOk result (λ r. IsCounted (meanings T.places T.value_of terms.now) n q (even_shift n p) (map (λ term. T.start_of term q) terms.now) r.bases steps.old steps.new) }
+    ensures few { steps.new ≤ steps.old + few_walks n (length terms.now) }
     ensures kept { steps.old ≤ steps.new }
 {
     let mut engine = Engine::new(alloc, terms, n)?;
@@ -116,6 +123,7 @@ pub fn minimise_with<T: Term>(
     q: i128,
     steps: &mut Steps,
 ) -> Result<Minimum, Memory>
+    requires room { steps.old < 2 ^ 63 }
     requires engine { IsEngine T.places T.value_of terms.now n engine.old }
     requires bounded { AreBounded n (map T.places terms.now) (map T.size_of terms.now) }
     requires slope { IsAtMost (10 ^ 24) p }
@@ -127,7 +135,8 @@ pub fn minimise_with<T: Term>(
     ensures proves { IfOk result (λ r. Prove (meanings T.places T.value_of terms.now) n q (even_shift n p) r.optimum.bases) }
     ensures least { IfOk result (λ r. IsLeast (meanings T.places T.value_of terms.now) n q (even_shift n p) r.least) }
     ensures engine { OnOk result (IsEngine T.places T.value_of terms.now n engine.new) }
-    ensures counted { IfOk result (λ r. IsCounted (meanings T.places T.value_of terms.now) q (even_shift n p) (map (λ term. T.start_of term q) terms.now) r.optimum.bases steps.old steps.new) }
+    ensures counted { IfOk result (λ r. IsCounted (meanings T.places T.value_of terms.now) n q (even_shift n p) (map (λ term. T.start_of term q) terms.now) r.optimum.bases steps.old steps.new) }
+    ensures few { steps.new ≤ steps.old + few_walks n (length terms.now) }
     ensures kept { steps.old ≤ steps.new }
 {
     let shift = vec![in alloc; p; n]?;
@@ -145,6 +154,7 @@ fn improve<T: Term>(
     first_bases: Rows,
     steps: &mut Steps,
 ) -> Result<Minimum, Memory>
+    requires room { steps.old < 2 ^ 63 }
     requires engine { IsEngine T.places T.value_of terms.now (length shift.now) engine.old }
     requires bounded { AreBounded (length shift.now) (map T.places terms.now) (map T.size_of terms.now) }
     requires shifts { magnitudes shift.now ≤ℤ pos (10 ^ 27) }
@@ -158,7 +168,8 @@ fn improve<T: Term>(
     ensures proves { IfOk result (λ r. Prove (meanings T.places T.value_of terms.now) (length shift.now) q shift.now r.optimum.bases) }
     ensures least { IfOk result (λ r. IsLeast (meanings T.places T.value_of terms.now) (length shift.now) q shift.now r.least) }
     ensures engine { OnOk result (IsEngine T.places T.value_of terms.now (length shift.now) engine.new) }
-    ensures counted { IfOk result (λ r. IsCounted (meanings T.places T.value_of terms.now) q shift.now first_bases r.optimum.bases steps.old steps.new) }
+    ensures counted { IfOk result (λ r. IsCounted (meanings T.places T.value_of terms.now) (length shift.now) q shift.now first_bases r.optimum.bases steps.old steps.new) }
+    ensures few { steps.new ≤ steps.old + few_walks (length shift.now) (length terms.now) }
     ensures kept { steps.old ≤ steps.new }
 {
     let mut bases = first_bases;
@@ -198,7 +209,7 @@ fn improve<T: Term>(
             &mut back,
             &mut hops,
         )?;
-        count_one(steps);
+        steps.tick();
     }
     let reached = reached_from(&unions, &signs.under);
     let least = set_of(alloc, &reached, shift.len())?;
@@ -207,16 +218,6 @@ fn improve<T: Term>(
         optimum: Optimum { bases, z },
         least,
     })
-}
-
-// Counts one more, unless the count is as great as it can be.
-fn count_one(steps: &mut Steps)
-    ensures one { steps.old + 1 < 2 ^ 64 → steps.new ≡ steps.old + 1 }
-    ensures kept { steps.old ≤ steps.new }
-{
-    if steps.count() < u64::MAX {
-        steps.tick();
-    }
 }
 
 // Moves along the walk from a first place by the greatest amount, and brings all that is kept up to the bases.
@@ -251,7 +252,7 @@ fn advance<T: Term>(
     ensures state { OnOk result (IsState T.places T.value_of T.fits terms.now q shift.now bases.new z.new.items notes.new.items parts.new.items rows.new.items spots.now unions.new.items) }
     ensures signs { OnOk result (AreSigns z.new.items signs.new) }
     ensures turned { OnOk result (AreTurned unions.new.items back.new.items) }
-    ensures moves { OnOk result (MovesAlong (meanings T.places T.value_of terms.now) q shift.now bases.old bases.new) }
+    ensures moves { OnOk result (IsProgress (meanings T.places T.value_of terms.now) (length shift.now) q shift.now bases.old bases.new) }
     ensures spread { OnOk result ((b : ℤ) → All (λ x. All (IsUpTo b) x) bases.old → All (λ x. All (IsUpTo (b +ℤ (deficit (length shift.now) (rest_at (meanings T.places T.value_of terms.now) bases.new shift.now)
         -ℤ deficit (length shift.now) (rest_at (meanings T.places T.value_of terms.now) bases.old shift.now)))) x) bases.new) }
 {

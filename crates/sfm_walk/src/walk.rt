@@ -1,15 +1,15 @@
 // One walk of least steps: from each place the walk takes, among the steps into the level below, the one to the least place,
 // and to that place the one of the first term. So no walk from its first place to a place with z > 0 has fewer steps.
-ghost use Rattle.std.specs.Prelude.{◌≡◌, ◌-◌, ◌<◌, ℕ, length, OnOk, MatchOption, slice_index_or};
+ghost use Rattle.std.specs.Prelude.{◌≡◌, ◌-◌, ◌<◌, ◌≤◌, ℕ, length, OnOk, MatchOption, slice_index_or};
 ghost use Rattle.sfm_spec.specs.Families.{meanings};
-ghost use Rattle.sfm_spec.specs.Labels.{FallsAlong};
-ghost use Rattle.sfm_spec.specs.Walks.{last_of};
+ghost use Rattle.sfm_spec.specs.Labels.{FallsAlong, step_code};
+ghost use Rattle.sfm_spec.specs.Walks.{Step, last_of};
 ghost use Rattle.sfm_walk.specs.Bits.{bit_in, set_at};
 ghost use Rattle.sfm_walk.specs.Levels.{depth_of, IsFirst, LeadsInto};
 ghost use Rattle.sfm_walk.specs.Spots.{AreSpots, spot_at};
 ghost use Rattle.sfm_walk.specs.Unions.{AreUnions, HasRows, HaveRows, IsReadable, spot_row};
 ghost use Rattle.sfm_walk.specs.Reach.{table_at};
-ghost use Rattle.sfm_walk.specs.Hops.{AreHops, IsHop, hop_at, steps_of};
+ghost use Rattle.sfm_walk.specs.Hops.{AreHops, AreLeast, IsHop, IsTold, hop_at, step_of, steps_of};
 
 use crate::bits::Bits;
 use crate::reach::BitRows;
@@ -31,7 +31,8 @@ fn first_spot(spots: &[Spot], rows: &[BitRows], to: usize) -> Option<Spot>
     requires rows { HasRows rows.now spots.now }
     requires place { to < 256 }
     ensures { MatchOption result ((j : ℕ) → j < length spots.now → bit_in (spot_row rows.now (spot_at spots.now j)) to ≡ 1 → ⊥)
-        (λ spot. (j : ℕ) × (j < length spots.now) × (spot_at spots.now j ≡ spot) × (bit_in (spot_row rows.now spot) to ≡ 1)) }
+        (λ spot. (j : ℕ) × (j < length spots.now) × (spot_at spots.now j ≡ spot) × (bit_in (spot_row rows.now spot) to ≡ 1)
+        × ((i : ℕ) → i < j → bit_in (spot_row rows.now (spot_at spots.now i)) to ≡ 1 → ⊥)) }
 {
     for spot in spots {
         let row = &rows[spot.term];
@@ -73,6 +74,8 @@ fn least_step<T: Term>(
     ensures named { IsHop (meanings T.places T.value_of terms.now) at result }
     ensures reached { bit_in (set_at (table_at rows.now result.term) result.u) result.to ≡ 1 }
     ensures onto { bit_in level.now result.to ≡ 1 }
+    ensures least { (other : Step) → IsTold (meanings T.places T.value_of terms.now) rows.now at other → bit_in level.now other.to ≡ 1
+        → step_code (meanings T.places T.value_of terms.now) (step_of result) ≤ step_code (meanings T.places T.value_of terms.now) other }
 {
     let to = unions[at].first_common(level).unwrap();
     let here = &spots[at];
@@ -112,6 +115,7 @@ pub fn follow<T: Term>(
     requires first { IsFirst (length unions.now) unions.now z.now levels.now first }
     ensures hops { OnOk result (AreHops (meanings T.places T.value_of terms.now) rows.now first hops.new.items) }
     ensures falls { OnOk result (FallsAlong (depth_of levels.now) first (steps_of hops.new.items)) }
+    ensures least { OnOk result (AreLeast (meanings T.places T.value_of terms.now) rows.now (depth_of levels.now) first hops.new.items) }
     ensures last { OnOk result (bit_in (set_at levels.now 0) (last_of first (steps_of hops.new.items)) ≡ 1) }
     ensures some { OnOk result (0 < length hops.new.items) }
 {

@@ -1,6 +1,6 @@
 -- the levels so far
 use Rattle.std.proofs.Common.{length}
-use Rattle.sfm_spec.proofs.Counts.{sum_below}
+use Rattle.sfm_spec.specs.Progress.{sum_below}
 use Rattle.sfm_walk.specs.Bits.{bit_in}
 use Rattle.sfm_walk.proofs.Levelling.{IsLevelling}
 use Rattle.sfm_walk.proofs.levels.find_levels.Given as goal

@@ -1,5 +1,5 @@
 -- the sets of the places of the level that have been looked at are joined
-use Rattle.sfm_spec.proofs.Counts.{sum_below}
+use Rattle.sfm_spec.specs.Progress.{sum_below}
 use Rattle.sfm_walk.specs.Bits.{bit_in}
 use Rattle.sfm_walk.proofs.Turning.{IsJoining}
 use Rattle.sfm_walk.proofs.levels.leading_into.Given as goal

@@ -4,7 +4,7 @@ use Rattle.std.proofs.lemmas.List.{take_at}
 use mir.Syntax.{w128}
 use Rattle.sfm_spec.specs.Terms.{exchanged}
 use Rattle.sfm_spec.specs.Families.{meanings, AreTerms, rest_at, deficit}
-use Rattle.sfm_spec.specs.Walks.{last_of}
+use Rattle.sfm_spec.specs.Walks.{AllCanMove, last_of}
 use Rattle.sfm_spec.proofs.Duality.{meanings-terms}
 use Rattle.sfm_spec.proofs.Gain.{row_kept}
 use Rattle.sfm_spec.proofs.Moves.{deficit_at_place, deficit_not_above}
@@ -19,7 +19,7 @@ use Rattle.sfm_law.proofs.Rests.{rest-small}
 use Rattle.sfm_walk.proofs.Following.{length-steps_of}
 use Rattle.sfm_walk.proofs.Noting.{sized_meanings}
 use Rattle.sfm_walk.proofs.Uniting.{have_rows, links_of}
-use Rattle.sfm_walk.proofs.Advancing.{ends_apart, entries_small, entries_spread, exchanged-each, first_in, hops_can, hops_movable, hops_named, hops_others, hops_steps, last_in, last_is, last_over, laws, moves, rest_after, spread, table_kept, tables_readable, up_to_small}
+use Rattle.sfm_walk.proofs.Advancing.{ends_apart, entries_small, entries_spread, exchanged-each, first_in, can_moves, hops_can, hops_least, hops_movable, hops_named, hops_others, hops_steps, last_in, last_is, last_over, laws, progress, rest_after, spread, table_kept, tables_readable, up_to_small}
 use Rattle.sfm_walk.specs.Signs.{AreMoved}
 use Rattle.sfm_walk.proofs.Signing.{moved_ends}
 use Rattle.sfm_walk.proofs.optimum.advance.Goals as goal
@@ -690,7 +690,12 @@ returns-clause-moves g c =
     let after = c.move_along.new.bases in
     let me = c.in_ok-move_along.ensures in
     let moved = rw c.deref-7.ensures.value at (simp to_z-of_z at me.moved) in
-    moves ts rows n q shift z low fit s.are_bases zn s.is_rest unions links levels first begin steps fits some e.falls e.last a ae can under over after moved
+    let least = hops_least ts rows n q fit tables right (depth_of levels) first hops e.falls (rw c.deref.ensures.value at e.least) in
+    let at_most = rw (c.deref-5.ensures.value, last) at c.most_of-most.ensures.greatest in
+    let at_most' = rw c.deref-6.ensures.value at (simp to_z-of_z at c.in_ok-a.ensures.greatest) in
+    let greatest : (b : ℤ) → AllCanMove ts q rows first steps b → b ≤ℤ neg_ℤ (get_or z first (pos 0)) → b ≤ℤ get_or z (last_of first steps) (pos 0) → b ≤ℤ a = λ b can' under' over'.
+    at_most' b (at_most b under' over') (can_moves ts rows n q fit tables right b first hops hh can') in
+    progress ts rows n q shift z low fit s.are_bases zn s.is_rest unions links levels first begin steps fits some e.falls e.last a ae can under over after moved least greatest
 
 pub returns-clause-spread : goal.returns-clause-spread
 returns-clause-spread g c =

@@ -1,10 +1,12 @@
 use Rattle.std.proofs.Common.{◌≡◌, ◌*◌, ◌^◌, ◌<◌, ℕ, List, length, map, get_or, pos, neg_ℤ, ℤ, ◌+ℤ◌, ◌-ℤ◌, ◌≤ℤ◌, subst, ◌∙◌, arith, FitsSigned}
 use Rattle.std.proofs.lemmas.Int.{ints, to_z-of_z}
-use Rattle.std.proofs.lemmas.List.{length-replicate}
+use Rattle.std.proofs.lemmas.List.{length-map, length-replicate}
 use Rattle.std.proofs.lemmas.List.Elements.{All-map}
 use mir.Syntax.{w128}
 use Rattle.sfm_spec.specs.Sets.{empty_set}
 use Rattle.sfm_spec.specs.Families.{meanings, AreTerms, rest_at, deficit}
+use Rattle.sfm_spec.specs.Progress.{IsProgress}
+use Rattle.sfm_spec.proofs.LeastWalks.{few_walks_small}
 use Rattle.sfm_spec.proofs.Duality.{meanings-terms}
 use Rattle.sfm_spec.proofs.Gain.{moves_along}
 use Rattle.sfm_spec.proofs.Moves.{deficit_not_above}
@@ -19,7 +21,7 @@ use Rattle.sfm_walk.proofs.Noting.{sized_meanings}
 use Rattle.sfm_walk.proofs.Uniting.{have_rows, links_of}
 use Rattle.sfm_walk.proofs.Advancing.{none_joins}
 use Rattle.sfm_walk.proofs.Gaps.{abs_falls, deficit_low}
-use Rattle.sfm_walk.proofs.Counting.{counted_none, counted_more}
+use Rattle.sfm_walk.proofs.Counting.{IsCounting, counting_none, counting_more, counting_few, counting_is}
 use Rattle.sfm_walk.proofs.Least.{least_is, link_below}
 use Rattle.sfm_walk.proofs.Improving.{IsRun, at_most, bound_is, same_bound}
 use Rattle.sfm_walk.proofs.optimum.improve.Goals as goal
@@ -175,7 +177,7 @@ loop-hops-init g c =
       risen = omega (arith, ints);
       small = same_bound init (pos (10 ^ 25) +ℤ (D init -ℤ D init)) c.requires.small (omega (arith, ints));
     } in
-    simp to_z-of_z (r, omega arith, rw c.deref-5.ensures.value at c.signs_of-signs.ensures, counted_none ts q shift init c.args.steps.now, rw c.deref-4.ensures.value at c.in_ok-back.ensures)
+    simp to_z-of_z (r, omega arith, rw c.deref-5.ensures.value at c.signs_of-signs.ensures, counting_none ts n q shift init c.args.steps.now, rw c.deref-4.ensures.value at c.in_ok-back.ensures, omega arith)
 
 pub advance-requires-clause-sizes : goal.advance-requires-clause-sizes
 advance-requires-clause-sizes g c =
@@ -280,7 +282,8 @@ loop-hops-smaller g c =
     let risen : D init ≤ℤ D rows = inv.risen in
     let after = c.advance.new.bases in
     let e = c.in_ok-advance.ensures in
-    let mv = moves_along ts rows n q shift low fit s.are_bases after (simp to_z-of_z at e.moves) in
+    let p : IsProgress ts n q shift rows after = simp to_z-of_z at e.moves in
+    let mv = moves_along ts rows n q shift low fit s.are_bases after p.along in
     let more : (D rows +ℤ pos 1) ≤ℤ D after = mv.1 in
     let up' : D after ≤ℤ pos 0 = deficit_not_above n (rest_at ts after shift) in
     abs_falls (D rows) (D after) (omega (arith, ints, more)) up'
@@ -312,7 +315,8 @@ loop-hops-preserved g c =
     let risen : D init ≤ℤ D rows = inv.risen in
     let after = c.advance.new.bases in
     let e = c.in_ok-advance.ensures in
-    let mv = moves_along ts rows n q shift low fit s.are_bases after (simp to_z-of_z at e.moves) in
+    let p : IsProgress ts n q shift rows after = simp to_z-of_z at e.moves in
+    let mv = moves_along ts rows n q shift low fit s.are_bases after p.along in
     let more : (D rows +ℤ pos 1) ≤ℤ D after = mv.1 in
     let up' : D after ≤ℤ pos 0 = deficit_not_above n (rest_at ts after shift) in
     let r : IsRun t.places t.value_of t.fits c.args.terms.now q shift init after c.advance.new.z.items c.advance.new.notes.items c.advance.new.parts.items c.advance.new.rows.items c.loop-hops.engine.spots.items c.advance.new.unions.items = record {
@@ -320,7 +324,8 @@ loop-hops-preserved g c =
       risen = omega (arith, ints, risen, more);
       small = bound_is after ((pos (10 ^ 25) +ℤ (D rows -ℤ D init)) +ℤ (D after -ℤ D rows)) (pos (10 ^ 25) +ℤ (D after -ℤ D init)) (e.spread (pos (10 ^ 25) +ℤ (D rows -ℤ D init)) inv.small) (omega (arith, ints));
     } in
-    simp to_z-of_z (r, omega (arith, c.loop-hops.invariant.1, c.count_one.ensures.kept), e.signs, counted_more ts q shift init rows after c.args.steps.now c.loop-hops.steps c.count_one.new.steps (simp to_z-of_z at c.loop-hops.invariant.3) (simp to_z-of_z at e.moves) c.count_one.ensures.one, e.turned)
+    let counting : IsCounting ts n q shift init after c.args.steps.now c.tick.new.self = counting_more ts n q shift init rows after c.args.steps.now c.loop-hops.steps c.tick.new.self (simp to_z-of_z at c.loop-hops.invariant.3) p c.tick.ensures in
+    simp to_z-of_z (r, omega (arith, c.loop-hops.invariant.1, c.tick.ensures), e.signs, counting, e.turned, counting_few ts n (length c.args.terms.now) q shift init after c.args.steps.now c.tick.new.self count counting)
 
 pub returns-clause-small : goal.returns-clause-small
 returns-clause-small g c =
@@ -564,5 +569,12 @@ returns-clause-least g c =
 
 pub returns-clause-counted : goal.returns-clause-counted
 returns-clause-counted g c =
+    let t = g.T.Term in
     let fq : FitsSigned w128 c.args.q = c.ranges.q in
-    simp to_z-of_z at c.loop-hops.invariant.3
+    let ts = meanings t.places t.value_of c.args.terms.now in
+    counting_is ts (length c.args.shift.now) c.args.q c.args.shift.now c.args.first_bases c.loop-hops.bases c.args.steps.now c.loop-hops.steps (simp to_z-of_z at c.loop-hops.invariant.3)
+
+pub tick-requires : goal.tick-requires
+tick-requires g c =
+    let few = few_walks_small (length c.args.shift.now) (length c.args.terms.now) c.requires.bounded.few (rw length-map at c.requires.bounded.few_terms) in
+    omega (arith, few, c.requires.room, c.loop-hops.invariant.5)

@@ -65,7 +65,7 @@ pub returns-clause-counted : goal.returns-clause-counted
 returns-clause-counted g c =
     let fq : FitsSigned w128 c.args.q = c.ranges.q in
     let same : c.deref.result.now ≡ replicate c.args.n c.args.p = search rules in
-    let h = rw (same, c.in_ok-first_bases.ensures.starts) at c.improve.ensures.counted in
+    let h = rw (same, length-replicate c.args.n c.args.p, c.in_ok-first_bases.ensures.starts) at c.improve.ensures.counted in
     simp to_z-of_z at h
 
 pub returns-clause-rest : goal.returns-clause-rest
@@ -73,3 +73,8 @@ returns-clause-rest g c =
     let fq : FitsSigned w128 c.args.q = c.ranges.q in
     let same : c.deref.result.now ≡ replicate c.args.n c.args.p = search rules in
     rw (same, length-replicate c.args.n c.args.p) at c.improve.ensures.rest
+
+pub returns-clause-few : goal.returns-clause-few
+returns-clause-few g c =
+    let same : c.deref.result.now ≡ replicate c.args.n c.args.p = search rules in
+    rw (same, length-replicate c.args.n c.args.p) at c.improve.ensures.few

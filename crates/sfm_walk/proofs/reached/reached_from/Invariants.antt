@@ -1,5 +1,5 @@
 -- the search so far
-use Rattle.sfm_spec.proofs.Counts.{sum_below}
+use Rattle.sfm_spec.specs.Progress.{sum_below}
 use Rattle.sfm_walk.proofs.Searching.{IsSearching, work}
 use Rattle.sfm_walk.proofs.reached.reached_from.Given as goal
 

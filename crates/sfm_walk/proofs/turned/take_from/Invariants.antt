@@ -1,5 +1,5 @@
 -- the places so far no longer have e
-use Rattle.sfm_spec.proofs.Counts.{sum_below}
+use Rattle.sfm_spec.specs.Progress.{sum_below}
 use Rattle.sfm_walk.specs.Bits.{bit_in}
 use Rattle.sfm_walk.proofs.Turning.{IsTurning}
 use Rattle.sfm_walk.proofs.turned.take_from.Given as goal

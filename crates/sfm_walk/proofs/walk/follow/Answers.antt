@@ -1,12 +1,12 @@
 use Rattle.std.proofs.Common.{◌≡◌, ◌+◌, ◌-◌, ◌<◌, [], ◌∷◌, length, sym, ap, ◌∙◌, arith}
 use Rattle.std.proofs.lemmas.List.{length-append}
 use Rattle.sfm_spec.specs.Families.{meanings}
-use Rattle.sfm_spec.specs.Walks.{last_of}
+use Rattle.sfm_spec.specs.Walks.{Step, last_of}
 use Rattle.sfm_spec.proofs.Walks.{last-push}
 use Rattle.sfm_walk.specs.Bits.{bit_in, set_at}
 use Rattle.sfm_walk.specs.Levels.{depth_of}
 use Rattle.sfm_walk.specs.Hops.{steps_of, step_of}
-use Rattle.sfm_walk.proofs.Following.{depth_is, falls_push, hops_push, steps_of-push}
+use Rattle.sfm_walk.proofs.Following.{depth_has, depth_is, falls_push, hops_push, least_push, steps_of-push}
 use Rattle.sfm_walk.proofs.walk.follow.Goals as goal
 
 pub loop-k-preserved : goal.loop-k-preserved
@@ -30,6 +30,10 @@ loop-k-preserved g c =
     let named = rw at_last at c.least_step-hop.ensures.named in
     let more = hops_push ts c.args.rows.now first hops hop inv.3 named c.least_step-hop.ensures.reached in
     let falls = falls_push (depth_of levels) first (steps_of hops) (step_of hop) inv.4 d_last in
+    let into : (other : Step) → depth_of levels (last_of first (steps_of hops)) ≡ depth_of levels other.to + 1 → bit_in (set_at levels (k - 1)) other.to ≡ 1 = λ other f.
+    let d : depth_of levels other.to ≡ k - 1 = omega (arith, f, d_last, d_to) in
+    rw d at (depth_has levels other.to (omega (arith, d, lk))) in
+    let least = least_push ts c.args.rows.now (depth_of levels) first hops hop inv.6 (λ other told f. rw at_last at c.least_step-hop.ensures.least other told (into other f)) in
     let same = steps_of-push hops hop in
     let count = length-append hops (hop ∷ []) in
-    rw c.in_ok-push.ensures.items (lk, onto, (sym (last-push first (steps_of hops) (step_of hop)) ∙ ap (λ s. last_of first s) (sym same)), more, rw same falls, omega (arith, count, inv.5, positive))
+    rw c.in_ok-push.ensures.items (lk, onto, (sym (last-push first (steps_of hops) (step_of hop)) ∙ ap (λ s. last_of first s) (sym same)), more, rw same falls, omega (arith, count, inv.5, positive), least)

@@ -5,7 +5,7 @@ use Rattle.sfm_spec.specs.Labels.{FallsAlong}
 use Rattle.sfm_spec.specs.Walks.{last_of}
 use Rattle.sfm_walk.specs.Bits.{bit_in, set_at}
 use Rattle.sfm_walk.specs.Levels.{depth_of}
-use Rattle.sfm_walk.specs.Hops.{AreHops, steps_of}
+use Rattle.sfm_walk.specs.Hops.{AreHops, AreLeast, steps_of}
 use Rattle.sfm_walk.proofs.walk.follow.Given as goal
 
 abbrev pub invariant-loop-k : goal.invariant-loop-k
@@ -15,6 +15,7 @@ invariant-loop-k g l = let t = g.T.Term in (l.k < length l.levels)
     × AreHops (meanings t.places t.value_of l.terms) l.rows l.first l.hops.items
     × FallsAlong (depth_of l.levels) l.first (steps_of l.hops.items)
     × (length l.hops.items + l.k + 1 ≡ length l.levels)
+    × AreLeast (meanings t.places t.value_of l.terms) l.rows (depth_of l.levels) l.first l.hops.items
 
 abbrev pub decreases-loop-k : goal.decreases-loop-k
 decreases-loop-k g l = l.k

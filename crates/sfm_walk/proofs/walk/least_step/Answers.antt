@@ -3,7 +3,9 @@ use Rattle.sfm_spec.specs.Families.{Meaning, meanings}
 use Rattle.sfm_spec.specs.Walks.{term_at}
 use Rattle.sfm_walk.proofs.Options.{match_some, some_if_not}
 use Rattle.sfm_law.proofs.Lists.{length-meanings, meanings-at}
-use Rattle.sfm_walk.proofs.Spotting.{spot_found}
+use Rattle.sfm_walk.proofs.Spotting.{spot_found, spots_read}
+use Rattle.sfm_walk.proofs.Uniting.{least_into}
+use Rattle.sfm_walk.specs.Spots.{spots_at}
 use Rattle.sfm_walk.proofs.walk.least_step.Goals as goal
 
 pub bounds-terms-spot : goal.bounds-terms-spot
@@ -43,3 +45,15 @@ returns-clause-named g c =
     let places : (term_at ts c.unwrap-spot.result.term).places ≡ c.elements.result.now = ap (λ (u : Meaning). u.places) m ∙ sym c.elements.ensures in
     let v = match_some c.local_of.result c.unwrap-v.result _ _ c.local_of.ensures c.unwrap-v.ensures in
     record { term_in = spot.term_in; u_in = spot.local_in; v_in = rw places v.0; begins = spot.at; ends = rw places v.1 }
+
+pub returns-clause-least : goal.returns-clause-least
+returns-clause-least g c =
+    let t = g.T.Term in
+    let ts = meanings t.places t.value_of c.args.terms.now in
+    let common = match_some c.first_common.result c.unwrap-to.result _ _ c.first_common.ensures c.unwrap-to.ensures in
+    let h = match_some c.first_spot.result c.unwrap-spot.result _ _ c.first_spot.ensures c.unwrap-spot.ensures in
+    let spots = c.args.spots.now in
+    let inside : c.args.at < length spots = omega (arith, c.requires.at, c.requires.spots.count) in
+    let look : spots_at spots c.args.at ≡ c.as_slice.result.now = spots_read spots c.args.at c.index-spots-at.result inside c.index-spots-at.is ∙ sym c.as_slice.ensures in
+    least_into ts (length c.args.unions.now) spots c.args.rows.now c.args.unions.now c.requires.spots c.requires.unions c.args.at c.requires.at c.args.level.now c.unwrap-to.result
+    common.3 c.as_slice.result.now look h.0 h.1 h.4 c.unwrap-spot.result.term (ap (λ s. s.term) h.2)
