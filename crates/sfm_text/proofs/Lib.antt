@@ -1,6 +1,7 @@
 pub mod Tokens
 pub mod Cuts
 pub mod LineCuts
+pub mod Appended
 pub mod Cutting
 pub mod Colons
 pub mod Breaches
