@@ -21,3 +21,4 @@ pub mod StageReasons
 pub mod SameTerms
 pub mod LaterLines
 pub mod Following
+pub mod Alike

@@ -12,6 +12,7 @@ mod labelled_line;
 mod labels;
 mod laminar_line;
 mod line_fault;
+pub mod laws;
 mod lines;
 mod mark;
 mod names;
