@@ -177,11 +177,9 @@ pub record IsEntryToken (token : List ℕ) (entry : List ℕ × List (List ℕ))
 
 -- a token with an element and its labels, in the line of that rank
 abbrev pub IsLabelToken : RankKind → List ℕ → List ℕ × List (List ℕ) → Type 0
-IsLabelToken NoRank token entry = ⊥
-IsLabelToken UniformRank token entry = ⊥
-IsLabelToken LaminarRank token entry = ⊥
 IsLabelToken GraphicRank token entry = IsEdgeToken token entry
 IsLabelToken TransversalRank token entry = IsEntryToken token entry
+IsLabelToken _ token entry = ⊥
 
 -- at least one such token
 pub record AreLabelled (rank : RankKind) (tokens : List (List ℕ)) (entries : List (List ℕ × List (List ℕ))) : Type 0 where

@@ -41,11 +41,8 @@ abbrev pub HasCrossing : List Group → Type 0
 HasCrossing groups = (i : ℕ) × (j : ℕ) × IsCrossing groups i j
 
 abbrev pub BreaksRankLaw : RankKind → LineParts → List ℤ → Type 0
-BreaksRankLaw NoRank parts values = ⊥
-BreaksRankLaw UniformRank parts values = ⊥
 BreaksRankLaw LaminarRank parts values = HasCrossing (groups_of values parts)
-BreaksRankLaw GraphicRank parts values = ⊥
-BreaksRankLaw TransversalRank parts values = ⊥
+BreaksRankLaw _ parts values = ⊥
 
 abbrev pub IsRankTerm : RankKind → LineParts → List ℤ → List ℕ → Kind → Type 0
 IsRankTerm NoRank parts values places term = ⊥

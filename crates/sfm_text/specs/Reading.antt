@@ -13,7 +13,7 @@ use Rattle.sfm_text.specs.declared.stage.Stage.TheVariants.{Header, Ground, Term
 use Rattle.sfm_text.specs.declared.line_fault.LineEnd.{LineEnd}
 use Rattle.sfm_text.specs.declared.line_fault.LineEnd.TheVariants.{Fault, Memory}
 use Rattle.sfm_text.specs.declared.word.RankKind.{RankKind}
-use Rattle.sfm_text.specs.declared.word.RankKind.TheVariants.{NoRank, UniformRank, LaminarRank, GraphicRank, TransversalRank}
+use Rattle.sfm_text.specs.declared.word.RankKind.TheVariants.{TransversalRank}
 use Rattle.sfm_text.specs.declared.word.TermWord.{TermWord}
 use Rattle.sfm_text.specs.Lines.{tokens_of}
 use Rattle.sfm_text.specs.Matched.{Matched}
@@ -68,10 +68,8 @@ HasTermLine tokens P = (word : TermWord) × (rest : List (List ℕ)) × (parts :
 
 -- what stands in a number's place is no number, or one outside its range
 abbrev pub HasWrongNumber : Stage → List (List ℕ) → Type 0
-HasWrongNumber Header tokens = ⊥
-HasWrongNumber Ground tokens = ⊥
 HasWrongNumber Terms tokens = HasTermLine tokens (λ word rest parts. Any (λ text. (value : ℤ) → IsNumberFrom (lowest_of word) text value → ⊥) parts.numbers)
-HasWrongNumber Ended tokens = ⊥
+HasWrongNumber _ tokens = ⊥
 
 -- some name of a group is not one of the elements of its line
 abbrev pub HasStranger : LineParts → Type 0
@@ -84,32 +82,25 @@ HasWrongLabel parts = Any (λ labels. Any (λ text. IsName text → ⊥) labels)
 -- what stands in a name's place is no name, or none of the ground where an element is meant, or no element of the line
 -- where one of a group is meant
 abbrev pub HasWrongName : Stage → List (List ℕ) → List (List ℕ) → Type 0
-HasWrongName Header names tokens = ⊥
 HasWrongName Ground names tokens = (rest : List (List ℕ)) × (tokens ≡ codes "ground" ∷ rest) × Any (λ text. IsName text → ⊥) rest
 HasWrongName Terms names tokens = HasTermLine tokens (λ word rest parts. Any (λ text. IsName text → Contains names text → ⊥) parts.elements ⊎ HasStranger parts ⊎ HasWrongLabel parts)
-HasWrongName Ended names tokens = ⊥
+HasWrongName _ names tokens = ⊥
 
 -- a slot stands twice in one entry; both ends of an edge may be one vertex
 abbrev pub HasSlotTwice : RankKind → List (List (List ℕ)) → Type 0
-HasSlotTwice NoRank labels = ⊥
-HasSlotTwice UniformRank labels = ⊥
-HasSlotTwice LaminarRank labels = ⊥
-HasSlotTwice GraphicRank labels = ⊥
 HasSlotTwice TransversalRank labels = Any (λ slots. StandsTwice slots) labels
+HasSlotTwice _ labels = ⊥
 
 -- a name stands twice in the ground line, or an element twice in a term line or in one of its groups, or a slot in an entry
 abbrev pub HasTwice : Stage → List (List ℕ) → Type 0
-HasTwice Header tokens = ⊥
 HasTwice Ground tokens = (rest : List (List ℕ)) × (tokens ≡ codes "ground" ∷ rest) × StandsTwice rest
 HasTwice Terms tokens = HasTermLine tokens (λ word rest parts. StandsTwice parts.elements ⊎ Any (λ names. StandsTwice names) parts.groups ⊎ HasSlotTwice parts.rank parts.labels)
-HasTwice Ended tokens = ⊥
+HasTwice _ tokens = ⊥
 
 -- the numbers break the law of the kind
 abbrev pub HasBrokenLaw : Stage → List (List ℕ) → Type 0
-HasBrokenLaw Header tokens = ⊥
-HasBrokenLaw Ground tokens = ⊥
 HasBrokenLaw Terms tokens = HasTermLine tokens (λ word rest parts. (values : List ℤ) × Matched (IsNumberFrom (lowest_of word)) parts.numbers values × BreaksLaw word parts values)
-HasBrokenLaw Ended tokens = ⊥
+HasBrokenLaw _ tokens = ⊥
 
 -- more terms, places or sizes than a text may have in all; the size of a term is that of its meaning
 abbrev pub AreTooMuch : List Kind → Type 0

@@ -23,12 +23,9 @@ word_text RankWord = codes "rank"
 -- the least number that may stand in its line
 abbrev pub lowest_of : TermWord → ℤ
 lowest_of WeightWord = neg_ℤ (pos (10 ^ 12))
-lowest_of CutWord = pos 0
-lowest_of NeedWord = pos 0
-lowest_of CoverWord = pos 0
 lowest_of TableWord = neg_ℤ (pos (10 ^ 12))
 lowest_of ConcaveWord = neg_ℤ (pos (10 ^ 12))
-lowest_of RankWord = pos 0
+lowest_of _ = pos 0
 
 -- the tokens behind the word have its shape and these parts
 abbrev pub HasParts : TermWord → List (List ℕ) → LineParts → Type 0
@@ -44,13 +41,10 @@ HasParts RankWord tokens parts = IsRankLine tokens parts
 -- with 0 at the empty part; those of a concave line, where some increment is above the one before; and groups, where two
 -- cross
 abbrev pub BreaksLaw : TermWord → LineParts → List ℤ → Type 0
-BreaksLaw WeightWord parts values = ⊥
-BreaksLaw CutWord parts values = ⊥
-BreaksLaw NeedWord parts values = ⊥
-BreaksLaw CoverWord parts values = ⊥
 BreaksLaw TableWord parts values = IsSubmodular (length parts.elements) (table_value values) → ⊥
 BreaksLaw ConcaveWord parts values = HasRise values
 BreaksLaw RankWord parts values = BreaksRankLaw parts.rank parts values
+BreaksLaw _ parts values = ⊥
 
 -- the term that a line with these parts stands for, with these numbers and elements at these places
 abbrev pub IsTermOf : TermWord → LineParts → List ℤ → List ℕ → Kind → Type 0
