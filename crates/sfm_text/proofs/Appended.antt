@@ -1,5 +1,5 @@
 -- How a text is cut into lines when more bytes come behind it: the pieces that have ended stay, and the last one goes on.
-use Rattle.std.proofs.Common.{◌≡◌, ℕ, ◌+◌, ◌<◌, List, [], ◌∷◌, ◌++◌, length, true, false, cond, refl, sym, ap, ◌∙◌, arith, append_assoc, length-append}
+use Rattle.std.proofs.Common.{◌≡◌, ℕ, ◌+◌, ◌<◌, List, [], ◌∷◌, ◌++◌, length, Bool, true, false, cond, refl, sym, ap, ◌∙◌, arith, append_assoc, length-append}
 use Rattle.std.specs.Prelude.{◌==◌}
 use Rattle.std.specs.List.{All, slice_split, onto_first}
 use Rattle.std.specs.Str.Lines.{strip_carriage_return}
@@ -20,7 +20,7 @@ onto-behind : (c : ℕ) (front : List ℕ) (pieces : List (List ℕ)) → onto_f
 onto-behind c front [] = refl
 onto-behind c front (piece ∷ pieces) = refl
 
-some-pieces : (p : ℕ → Bool) (text : List ℕ) → 0 < length (slice_split p text)
+pub some-pieces : (p : ℕ → Bool) (text : List ℕ) → 0 < length (slice_split p text)
 some-pieces p text = omega (arith, length-slice_split p text)
 
 -- what is cut of one text goes on to what is cut of a longer one

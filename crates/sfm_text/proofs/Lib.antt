@@ -22,3 +22,4 @@ pub mod SameTerms
 pub mod LaterLines
 pub mod Following
 pub mod Alike
+pub mod Standing

@@ -21,13 +21,13 @@ split-none p (x ∷ xs) h =
     elim (p x) as (λ b. (length (x ∷ xs) ≤ cond (not b) (1 + position_or_len p xs) 0) → cond b ([] ∷ slice_split p xs) (onto_first x (slice_split p xs)) ≡ (x ∷ xs) ∷ []) [ true ↦ λ k. absurd (omega arith) | false ↦ λ k. rw (split-none p xs (omega arith)) refl ] h
 
 -- a piece that is not the last stays
-without_empty_last-cons : (piece : List ℕ) (pieces : List (List ℕ)) → 0 < length pieces → without_empty_last (piece ∷ pieces) ≡ piece ∷ without_empty_last pieces
+pub without_empty_last-cons : (piece : List ℕ) (pieces : List (List ℕ)) → 0 < length pieces → without_empty_last (piece ∷ pieces) ≡ piece ∷ without_empty_last pieces
 without_empty_last-cons piece [] h = absurd (omega arith)
 without_empty_last-cons [] (next ∷ pieces) h = refl
 without_empty_last-cons (c ∷ piece) (next ∷ pieces) h = refl
 
 -- one piece that is not empty stays
-without_empty_last-one : (piece : List ℕ) → 0 < length piece → without_empty_last (piece ∷ []) ≡ piece ∷ []
+pub without_empty_last-one : (piece : List ℕ) → 0 < length piece → without_empty_last (piece ∷ []) ≡ piece ∷ []
 without_empty_last-one [] h = absurd (omega arith)
 without_empty_last-one (c ∷ piece) h = refl
 

@@ -11,3 +11,4 @@ pub mod Reading
 pub mod GoodText
 pub mod Reasons
 pub mod ReadParts
+pub mod Standing

@@ -1,5 +1,5 @@
 -- What the parts of a line, the state of a reading and the end of a line's reading stand for.
-use Rattle.std.specs.Prelude.{◌≡◌, ◌<◌, ℕ, List, ◌∷◌, map, Any, Result, MatchResult}
+use Rattle.std.specs.Prelude.{◌≡◌, ◌<◌, ℕ, Bool, true, false, List, ◌∷◌, map, Any, Result, MatchResult}
 use Rattle.sfm_kind.specs.Instance.{InstanceData}
 use Rattle.sfm_kind.specs.declared.kind.Kind.{Kind}
 use Rattle.sfm_text.specs.declared.end.TextEnd.{TextEnd}
@@ -13,7 +13,7 @@ use Rattle.sfm_text.specs.declared.stage.Stage.TheVariants.{Terms}
 use Rattle.sfm_text.specs.declared.labels.Labels.{Labels}
 use Rattle.sfm_text.specs.declared.parts.Parts.{Parts}
 use Rattle.sfm_text.specs.declared.word.TermWord.{TermWord}
-use Rattle.sfm_text.specs.Lines.{texts_of, text_lists_of, tokens_of}
+use Rattle.sfm_text.specs.Lines.{texts_of, text_lists_of, tokens_of, are_skipped}
 use Rattle.sfm_text.specs.Parts.{LineParts}
 use Rattle.sfm_text.specs.Words.{word_text}
 use Rattle.sfm_text.specs.TermLines.{StandsFor}
@@ -52,3 +52,12 @@ pub record IsTermRead (instance : InstanceData) (word : TermWord) (rest : List (
 -- a line with these tokens was taken in the state s and led to t, or is refused for its first reason
 abbrev pub IsOutcome : State → List (List ℕ) → Result (Unit {0}) LineEnd → State → Type 0
 IsOutcome s tokens result t = (line : List ℕ) → IsLineOf line tokens → MatchResult result (λ _. Takes s line t) (IsLineRefusal s line)
+
+-- a line that counts is taken, and another changes nothing
+abbrev pub Passes : Bool → State → List ℕ → State → Type 0
+Passes true s line t = (are_skipped (tokens_of line) ≡ false) × Takes s line t
+Passes false s line t = (are_skipped (tokens_of line) ≡ true) × (t ≡ s)
+
+-- the line counts, and is refused
+abbrev pub Fails : State → List ℕ → LineEnd → Type 0
+Fails s line end = (are_skipped (tokens_of line) ≡ false) × IsLineRefusal s line end

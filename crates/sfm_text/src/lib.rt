@@ -11,8 +11,8 @@ mod groups;
 mod labelled_line;
 mod labels;
 mod laminar_line;
-mod line_fault;
 pub mod laws;
+mod line_fault;
 mod lines;
 mod mark;
 mod names;
@@ -37,7 +37,7 @@ pub use cut::token;
 pub use end::TextEnd;
 pub use line_fault::LineEnd;
 pub use lines::content_lines;
-pub use reader::{TEXT_LIMIT, read_instance};
+pub use reader::{Reader, TEXT_LIMIT, read_instance, read_pieces};
 pub use reason::Reason;
 
 #[cfg(test)]

@@ -6,6 +6,15 @@ use crate::end::TextEnd;
 use crate::reason::Reason;
 use std::alloc::AllocError;
 
+/// The first fault of a text.
+#[derive(Clone, Copy, Debug, PartialEq, Eq)]
+pub struct Fault {
+    /// The number of the line, counted from 1.
+    pub line: usize,
+    /// The first reason that the line has.
+    pub reason: Reason,
+}
+
 /// Why a line was not taken.
 #[derive(Clone, Copy, Debug, PartialEq, Eq)]
 pub enum LineEnd {

@@ -30,7 +30,7 @@ pub struct Lines<'a> {
 }
 
 /// The line without a carriage return at its end.
-fn without_return(line: &[u8]) -> &[u8]
+pub fn without_return(line: &[u8]) -> &[u8]
     ensures { result.now ≡ strip_carriage_return line.now }
 {
     match line {
@@ -40,7 +40,7 @@ fn without_return(line: &[u8]) -> &[u8]
 }
 
 /// The place of the first line feed, or the length where there is none.
-fn line_end(text: &[u8]) -> usize
+pub fn line_end(text: &[u8]) -> usize
     ensures { result ≡ position_or_len (λ c. c == 10) text.now }
 {
     text.iter().position(|c| *c == b'\n').unwrap_or(text.len())

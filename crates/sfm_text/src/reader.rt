@@ -1,17 +1,237 @@
-// Reading an instance text in one pass over its content lines.
-ghost use Rattle.std.specs.Prelude.{IfOk, IfErr};
-ghost use Rattle.sfm_text.specs.GoodText.{IsTextOf, IsRefusalOf};
+// Reading an instance text in pieces. A line is judged as soon as it ends, against what the lines before it led to. So only
+// the names, the terms and the line that has not ended are kept, and behind the first fault no more than a count of bytes.
+ghost use Rattle.std.specs.Prelude.{◌≡◌, ◌==◌, ◌+◌, ◌≤◌, ◌<◌, ℕ, List, [], ◌∷◌, ◌++◌, length, true, false, None, Err, IfOk, IfErr, OnOk, OnErr};
+ghost use Rattle.std.specs.List.{All, concat};
+ghost use Rattle.sfm_text.specs.Lines.{texts_of};
+ghost use Rattle.sfm_text.specs.GoodText.{text_limit, IsTextOf, IsRefusalOf};
+ghost use Rattle.sfm_text.specs.declared.end.TextEnd.TheVariants as ends;
 
 use crate::end::TextEnd;
-use crate::lines::Lines;
+use crate::line_fault::{Fault, LineEnd};
+use crate::lines::line_end;
 use crate::reading::Reading;
 use crate::reason::Reason;
 use crate::stage::Stage;
+use sfm_base::Memory;
 use sfm_kind::Instance;
 use std::alloc::Global;
+use std::mem;
 
 /// The most bytes of an instance text.
 pub const TEXT_LIMIT: usize = 16_777_216;
+
+/// A reader of an instance text that comes in pieces, cut anywhere.
+#[derive(Drop)]
+pub struct Reader {
+    /// Whether memory was wanting: then all further calls say so.
+    spent: bool,
+    /// How many bytes have come, or one more than a text may have where more have come.
+    count: usize,
+    /// How many lines have ended.
+    lines: usize,
+    /// The numbers of the content lines that were taken, of the header first and of the ground line second.
+    numbers: Vec<usize>,
+    /// The bytes of the line that has not ended.
+    rest: Vec<u8>,
+    /// What the lines that have ended led to.
+    reading: Reading,
+    /// The first fault of a line that has ended.
+    fault: Option<Fault>,
+    ghost counted: { count ≤ 16777217 },
+    ghost fewer: { lines + length rest.items ≤ count },
+}
+
+impl Reader {
+    ghost use Rattle.sfm_text.specs.Standing.{Stands, HasRead, HasReadAll, IsOpen, JudgesLine, progress_of};
+
+    /// Nothing has been read.
+    ///
+    /// # Errors
+    ///
+    /// None: nothing is asked of memory before the first piece.
+    pub fn new(alloc: Global) -> Result<Reader, Memory>
+        ensures stands { IfOk result (λ reader. Stands reader []) }
+        ensures fresh { IfOk result (λ reader. reader.spent ≡ false) }
+    {
+        Ok(Reader {
+            spent: false,
+            count: 0,
+            lines: 0,
+            numbers: Vec::new(alloc),
+            rest: Vec::new(alloc),
+            reading: Reading::new(alloc),
+            fault: None,
+        })
+    }
+
+    /// Reads the next piece of the text.
+    ///
+    /// # Errors
+    ///
+    /// `Memory` where there is none. The reader is then spent, and all further calls answer `Memory` too.
+    pub fn feed(&mut self, alloc: Global, piece: &[u8]) -> Result<(), Memory>
+        ensures stands { OnOk result ((text : List ℕ) → Stands self.old text → Stands self.new (text ++ piece.now)) }
+        ensures fresh { OnOk result ((self.old.spent ≡ false) × (self.new.spent ≡ false)) }
+        ensures spent { OnErr result (self.new.spent ≡ true) }
+    {
+        if self.spent {
+            return Err(Memory);
+        }
+        match self.read_piece(alloc, piece) {
+            Ok(()) => Ok(()),
+            Err(_) => {
+                self.spent = true;
+                Err(Memory)
+            }
+        }
+    }
+
+    /// The instance of the whole text, or its first fault.
+    ///
+    /// # Errors
+    ///
+    /// `Refused` with the line and the reason of the first fault; `Memory` where there is none, and where the reader is
+    /// spent.
+    pub fn finish(mut self, alloc: Global) -> Result<Instance, TextEnd>
+        ensures read { IfOk result (λ instance. (text : List ℕ) → Stands self text → IsTextOf text instance.names instance.terms) }
+        ensures refused { IfErr result (λ end. (text : List ℕ) → Stands self text → IsRefusalOf text end) }
+        ensures spent { self.spent ≡ true → result ≡ Err ends.Memory }
+    {
+        if self.spent {
+            return Err(TextEnd::Memory);
+        }
+        let count = self.count;
+        if count > TEXT_LIMIT {
+            return Err(TextEnd::Refused {
+                line: 0,
+                reason: Reason::Long,
+            });
+        }
+        self.read_end(alloc)?;
+        match self.fault {
+            Some(fault) => Err(TextEnd::Refused {
+                line: fault.line,
+                reason: fault.reason,
+            }),
+            None => self.conclude(),
+        }
+    }
+
+    /// The instance of a text that has been read to its end and has no faulty line, or the fault that it ends too early.
+    fn conclude(self) -> Result<Instance, TextEnd>
+        requires { self.fault ≡ None }
+        ensures read { IfOk result (λ instance. (text : List ℕ) → length text ≤ text_limit → HasReadAll self text → IsTextOf text instance.names instance.terms) }
+        ensures refused { IfErr result (λ end. (text : List ℕ) → length text ≤ text_limit → HasReadAll self text → IsRefusalOf text end) }
+    {
+        if self.reading.stage != Stage::Ended {
+            return Err(TextEnd::Refused {
+                line: self.lines + 1,
+                reason: Reason::Short,
+            });
+        }
+        Ok(self.reading.instance)
+    }
+
+    /// Counts the bytes of a piece, and reads it where the text is neither too long nor faulty before it.
+    fn read_piece(&mut self, alloc: Global, piece: &[u8]) -> Result<(), Memory>
+        ensures stands { OnOk result ((text : List ℕ) → Stands self.old text → Stands self.new (text ++ piece.now)) }
+        ensures spent { self.new.spent ≡ self.old.spent }
+    {
+        let count = (self.count + piece.len()).min(TEXT_LIMIT + 1);
+        self.count = count;
+        if count > TEXT_LIMIT {
+            return Ok(());
+        }
+        if self.fault.is_some() {
+            return Ok(());
+        }
+        self.read_lines(alloc, piece)
+    }
+
+    /// Reads a piece, whose bytes have been counted, up to the first fault.
+    fn read_lines(&mut self, alloc: Global, piece: &[u8]) -> Result<(), Memory>
+        requires faultless { self.old.fault ≡ None }
+        requires room { self.old.lines + length self.old.rest.items + length piece.now ≤ self.old.count }
+        ensures read { OnOk result ((text : List ℕ) → IsOpen (progress_of self.old) self.old.rest.items text → HasRead self.new (text ++ piece.now)) }
+        ensures count { self.new.count ≡ self.old.count }
+        ensures spent { self.new.spent ≡ self.old.spent }
+    {
+        let mut left = piece;
+        let mut end = line_end(left);
+        while end < left.len() {
+            self.read_line(alloc, &left[..end])?;
+            if self.fault.is_some() {
+                return Ok(());
+            }
+            left = &left[end + 1..];
+            end = line_end(left);
+        }
+        self.rest.extend_from_slice(left)?;
+        Ok(())
+    }
+
+    /// Ends the line that has not ended with these bytes, which hold no line feed, and judges it.
+    fn read_line(&mut self, alloc: Global, front: &[u8]) -> Result<(), Memory>
+        requires faultless { self.old.fault ≡ None }
+        requires room { self.old.lines + length self.old.rest.items + length front.now < self.old.count }
+        requires plain { All (λ c. (c == 10) ≡ false) front.now }
+        ensures read { OnOk result ((text : List ℕ) → IsOpen (progress_of self.old) self.old.rest.items text → HasRead self.new (text ++ front.now ++ 10 ∷ [])) }
+        ensures rest { self.new.rest.items ≡ [] }
+        ensures lines { self.new.lines ≤ self.old.lines + 1 }
+        ensures count { self.new.count ≡ self.old.count }
+        ensures spent { self.new.spent ≡ self.old.spent }
+    {
+        if self.rest.is_empty() {
+            return self.judge(alloc, front);
+        }
+        let mut line = mem::replace(&mut self.rest, Vec::new(alloc));
+        line.extend_from_slice(front)?;
+        self.judge(alloc, &line)
+    }
+
+    /// Reads the last line, where it has not ended.
+    fn read_end(&mut self, alloc: Global) -> Result<(), Memory>
+        ensures read { OnOk result ((text : List ℕ) → HasRead self.old text → HasReadAll self.new text) }
+    {
+        if self.fault.is_some() {
+            return Ok(());
+        }
+        if self.rest.is_empty() {
+            return Ok(());
+        }
+        let line = mem::replace(&mut self.rest, Vec::new(alloc));
+        self.judge(alloc, &line)
+    }
+
+    /// Judges a piece of the text as a line.
+    fn judge(&mut self, alloc: Global, piece: &[u8]) -> Result<(), Memory>
+        requires faultless { self.old.fault ≡ None }
+        requires room { self.old.lines + length self.old.rest.items < self.old.count }
+        ensures judged { OnOk result (JudgesLine self.old piece.now self.new) }
+        ensures rest { self.new.rest.items ≡ self.old.rest.items }
+        ensures lines { self.new.lines ≤ self.old.lines + 1 }
+        ensures count { self.new.count ≡ self.old.count }
+        ensures spent { self.new.spent ≡ self.old.spent }
+    {
+        match self.reading.take_line(alloc, piece) {
+            Ok(true) => {
+                self.lines += 1;
+                self.numbers.push(self.lines)?;
+                Ok(())
+            }
+            Ok(false) => {
+                self.lines += 1;
+                Ok(())
+            }
+            Err(LineEnd::Fault(reason)) => {
+                let line = self.lines + 1;
+                self.fault = Some(Fault { line, reason });
+                Ok(())
+            }
+            Err(LineEnd::Memory) => Err(Memory),
+        }
+    }
+}
 
 /// The instance that a text stands for, or its first fault.
 ///
@@ -22,25 +242,23 @@ pub fn read_instance(alloc: Global, text: &[u8]) -> Result<Instance, TextEnd>
     ensures read { IfOk result (λ instance. IsTextOf text.now instance.names instance.terms) }
     ensures refused { IfErr result (IsRefusalOf text.now) }
 {
-    if text.len() > TEXT_LIMIT {
-        return Err(TextEnd::Refused {
-            line: 0,
-            reason: Reason::Long,
-        });
+    let mut reader = Reader::new(alloc)?;
+    reader.feed(alloc, text)?;
+    reader.finish(alloc)
+}
+
+/// The instance of a text that comes in pieces, or its first fault: the same wherever the text is cut.
+///
+/// # Errors
+///
+/// `Refused` with the line and the reason of the first fault; `Memory` where there is none.
+pub fn read_pieces(alloc: Global, pieces: &[&[u8]]) -> Result<Instance, TextEnd>
+    ensures read { IfOk result (λ instance. IsTextOf (concat (texts_of pieces.now)) instance.names instance.terms) }
+    ensures refused { IfErr result (IsRefusalOf (concat (texts_of pieces.now))) }
+{
+    let mut reader = Reader::new(alloc)?;
+    for piece in pieces {
+        reader.feed(alloc, piece)?;
     }
-    let mut reading = Reading::new(alloc);
-    let mut lines = Lines::new(text);
-    while let Some(line) = lines.next_content() {
-        match reading.take(alloc, line.bytes) {
-            Ok(()) => {}
-            Err(end) => return Err(end.at(line.number)),
-        }
-    }
-    if reading.stage != Stage::Ended {
-        return Err(TextEnd::Refused {
-            line: lines.number(),
-            reason: Reason::Short,
-        });
-    }
-    Ok(reading.instance)
+    reader.finish(alloc)
 }

@@ -1,8 +1,8 @@
 // Reading line by line: what a content line adds to what was read before it, or the first reason for which it is refused.
-ghost use Rattle.std.specs.Prelude.{◌≡◌, ◌≢◌, ◌↔◌, ◌≤◌, ℕ, List, [], ◌∷◌, ◌++◌, length, IsTrue, Any, MatchBool, IfOk, MatchOption, MatchResult, OnOk};
+ghost use Rattle.std.specs.Prelude.{◌≡◌, ◌≢◌, ◌↔◌, ◌≤◌, ℕ, List, [], ◌∷◌, ◌++◌, length, IsTrue, Any, MatchBool, IfOk, MatchOption, MatchResult};
 ghost use Rattle.std.specs.List.{All};
+ghost use Rattle.std.specs.Str.Lines.{strip_carriage_return};
 ghost use Rattle.sfm_spec.specs.Names.{IsName};
-ghost use Rattle.sfm_kind.specs.Names.{AreElementNames};
 ghost use Rattle.sfm_kind.specs.Limits.{AreInBounds};
 ghost use Rattle.sfm_text.specs.Lines.{texts_of};
 ghost use Rattle.sfm_text.specs.Words.{word_text};
@@ -10,8 +10,9 @@ ghost use Rattle.sfm_text.specs.TermLines.{StandsTwice};
 ghost use Rattle.sfm_text.specs.Reading.{IsBadByte, AreTooMuch, start, Takes, IsLineRefusal};
 ghost use Rattle.sfm_text.specs.declared.word.TermWord.{TermWord};
 
-use crate::cut::tokens;
+use crate::cut::{is_skipped, tokens};
 use crate::line_fault::LineEnd;
+use crate::lines::without_return;
 use crate::mark::has_mark;
 use crate::names::are_names;
 use crate::reason::Reason;
@@ -96,7 +97,7 @@ fn with_names(alloc: Global, names: &[&[u8]]) -> Result<Instance, Memory>
 }
 
 impl Reading {
-    ghost use Rattle.sfm_text.specs.ReadParts.{state_at, state_of, IsOutcome};
+    ghost use Rattle.sfm_text.specs.ReadParts.{state_at, state_of, IsOutcome, Passes, Fails};
     ghost use Rattle.sfm_text.specs.declared.stage.Stage.TheVariants.{Header, Ground, Terms};
 
     /// Nothing has been read.
@@ -109,17 +110,29 @@ impl Reading {
         }
     }
 
-    /// Takes the next content line.
+    /// Takes the next line, and tells whether it counts: a blank line or a comment changes nothing.
     ///
     /// # Errors
     ///
     /// `Fault` with the first reason that the line has; `Memory` where there is none.
-    pub fn take(&mut self, alloc: Global, line: &[u8]) -> Result<(), LineEnd>
-        requires { AreElementNames self.old.instance.names }
-        ensures outcome { MatchResult result
+    pub fn take_line(&mut self, alloc: Global, piece: &[u8]) -> Result<bool, LineEnd>
+        ensures { MatchResult result
+            (λ counts. Passes counts (state_of self.old) (strip_carriage_return piece.now) (state_of self.new))
+            (Fails (state_of self.old) (strip_carriage_return piece.now)) }
+    {
+        let line = without_return(piece);
+        if is_skipped(line) {
+            return Ok(false);
+        }
+        self.take(alloc, line)?;
+        Ok(true)
+    }
+
+    /// Takes the next content line.
+    fn take(&mut self, alloc: Global, line: &[u8]) -> Result<(), LineEnd>
+        ensures { MatchResult result
             (λ _. Takes (state_of self.old) line.now (state_of self.new))
             (IsLineRefusal (state_of self.old) line.now) }
-        ensures named { OnOk result (AreElementNames self.new.instance.names) }
     {
         if !line.iter().all(|c| is_good_byte(*c)) {
             return Err(LineEnd::Fault(Reason::Bytes));
@@ -135,8 +148,7 @@ impl Reading {
 
     /// Takes the header `sfm 1`.
     fn take_header(&mut self, tokens: &[&[u8]]) -> Result<(), LineEnd>
-        ensures outcome { IsOutcome (state_at Header self.old.instance) (texts_of tokens.now) result (state_of self.new) }
-        ensures names { self.new.instance.names ≡ self.old.instance.names }
+        ensures { IsOutcome (state_at Header self.old.instance) (texts_of tokens.now) result (state_of self.new) }
     {
         let Some(rest) = behind(b"sfm", tokens) else {
             return Err(LineEnd::Fault(Reason::Word));
@@ -150,8 +162,7 @@ impl Reading {
 
     /// Takes the line with the names of the ground.
     fn take_ground(&mut self, alloc: Global, tokens: &[&[u8]]) -> Result<(), LineEnd>
-        ensures outcome { IsOutcome (state_at Ground self.old.instance) (texts_of tokens.now) result (state_of self.new) }
-        ensures named { OnOk result (AreElementNames self.new.instance.names) }
+        ensures { IsOutcome (state_at Ground self.old.instance) (texts_of tokens.now) result (state_of self.new) }
     {
         let Some(names) = behind(b"ground", tokens) else {
             return Err(LineEnd::Fault(Reason::Word));
@@ -175,10 +186,8 @@ impl Reading {
 
     /// Takes a term line or the end.
     fn take_later(&mut self, alloc: Global, tokens: &[&[u8]]) -> Result<(), LineEnd>
-        requires terms { self.old.stage ≡ Terms }
-        requires named { AreElementNames self.old.instance.names }
-        ensures outcome { IsOutcome (state_at Terms self.old.instance) (texts_of tokens.now) result (state_of self.new) }
-        ensures names { self.new.instance.names ≡ self.old.instance.names }
+        requires { self.old.stage ≡ Terms }
+        ensures { IsOutcome (state_at Terms self.old.instance) (texts_of tokens.now) result (state_of self.new) }
     {
         if let Some(rest) = behind(b"end", tokens) {
             if !rest.is_empty() {
@@ -190,6 +199,7 @@ impl Reading {
         let Some((word, rest)) = term_line(tokens) else {
             return Err(LineEnd::Fault(Reason::Word));
         };
+        let _count = self.instance.names_len();
         let term = read_term(alloc, &self.instance, word, rest)?;
         if is_too_much(&self.instance, &term) {
             return Err(LineEnd::Fault(Reason::Total));

@@ -5,8 +5,8 @@ use Rattle.sfm_text.specs.Lines.{texts_of}
 use Rattle.sfm_text.proofs.StageReasons.{ground-good, line-as}
 use Rattle.sfm_text.proofs.reading.Reading.take_ground.Goals as goal
 
-pub returns-clause-outcome : goal.returns-clause-outcome
-returns-clause-outcome c = λ line is.
+pub returns : goal.returns
+returns c = λ line is.
     let names = texts_of c.in-Some.names.now in
     let ground = line-as line (texts_of c.args.tokens.now) (codes "ground" ∷ names) c.in-Some.ensures is in
     rw (c.in_ok-self.ensures.names, c.in_ok-self.ensures.terms)
