@@ -7,6 +7,7 @@ use std::alloc::{AllocError, Global};
 use std::process::Abort;
 use std::test::Fail;
 
+mod pieces;
 mod ranks;
 
 /// The line and the word of a text's first fault, or `good` at line 0.
