@@ -7,7 +7,8 @@ use Rattle.std.proofs.lemmas.List.{map-append, length_push}
 use Rattle.std.proofs.lemmas.List.Sums.{sum_by-cons}
 use Rattle.sfm_kind.specs.declared.kind.Kind.{Kind}
 use Rattle.sfm_kind.specs.Kinds.{kind_places}
-use Rattle.sfm_kind.specs.Instance.{support_of, total_size_of}
+use Rattle.sfm_kind.specs.Instance.{support_of}
+use Rattle.sfm_kind.specs.Limits.{total_size_of}
 use Rattle.sfm_kind.proofs.Bounds.{support-push, total_size-push}
 use Rattle.sfm_text.specs.declared.reason.Reason.{Reason}
 use Rattle.sfm_text.specs.declared.reason.Reason.TheVariants.{Long, Bytes, Word, Shape, Number, Name, Twice, Law, Total, Short}
@@ -17,6 +18,7 @@ use Rattle.sfm_text.specs.Matched.{Matched}
 use Rattle.sfm_text.specs.Lines.{TextLine, content_of, lines_of, tokens_of}
 use Rattle.sfm_text.specs.Words.{word_text}
 use Rattle.sfm_text.specs.TermLines.{StandsTwice, StandsFor}
+use Rattle.sfm_text.proofs.TooMuch.{much-by-total, total-by-much}
 use Rattle.sfm_text.specs.Reading.{State, start, reason_order, Has, HasTwice, HasTooMuch, AreTooMuch, FirstReason, AddsTerm, Adds, Takes, Follows}
 use Rattle.sfm_text.specs.GoodText.{text_limit, bytes_of, IsTextOf, HasFaultyLine, EndsEarly, IsFaultOf, is_long, is_faulty, is_short}
 use Rattle.sfm_text.proofs.WordLines.{not-end}
@@ -48,7 +50,8 @@ much-alike a b term h many =
     at : length a ≡ length b → support_of a ≡ support_of b → total_size_of a ≡ total_size_of b → AreTooMuch (a ++ term ∷ []) → AreTooMuch (b ++ term ∷ [])
     at count places size (inl many) = inl (omega (arith, many, count, length_push a term, length_push b term))
     at count places size (inr (inl many)) = inr (inl (omega (arith, many, places, support-push a term, support-push b term)))
-    at count places size (inr (inr many)) = inr (inr (omega (arith, ints, many, size, total_size-push a term, total_size-push b term)))
+    at count places size (inr (inr (meant, means, many))) =
+        much-by-total (b ++ term ∷ []) (omega (arith, ints, total-by-much (a ++ term ∷ []) meant means many, size, total_size-push a term, total_size-push b term))
 
 -- two states that no reason tells apart
 pub record Alike (s t : State) : Type 0 where
