@@ -1,5 +1,5 @@
 -- What a turn finds, by the slope at which both sets are worth as much and the least minimiser there.
-use Rattle.std.proofs.Common.{◌≡◌, ◌≢◌, ℕ, List, pos, ◌-ℤ◌, refl, sym, subst, ◌∙◌}
+use Rattle.std.proofs.Common.{◌≡◌, ◌≢◌, ℕ, List, ℤ, pos, ◌-ℤ◌, refl, sym, subst, ◌∙◌}
 use Rattle.sfm_spec.specs.Sets.{size}
 use Rattle.sfm_spec.specs.Slopes.{IsSameSlope}
 use Rattle.sfm_spec.specs.Families.{Meaning, AreTerms, IsLeast, IsGreatest, sized_shift}
@@ -16,18 +16,18 @@ use Rattle.sfm_slope.proofs.Gaps.{gap_between, gap_greatest, gap_same}
 use Rattle.sfm_slope.proofs.Ratios.{IsRatio, ratio_of_worths}
 use Rattle.sfm_spec.proofs.Ones.{ones-places, ones-shift, ones-sizes, total-ones}
 
-module _ (terms : List Meaning) (n : ℕ) (fit : AreTerms n terms) (low high : Worth) (wl : IsWorth terms low) (wh : IsWorth terms high)
+module _ (terms : List Meaning) (firsts : ℤ → List (List ℤ)) (n : ℕ) (fit : AreTerms n terms) (low high : Worth) (wl : IsWorth terms low) (wh : IsWorth terms high)
     (begun : IsBegun terms n (ones n) low.set) (gap : IsGap terms n (ones n) low.set high.set)
     (slope : Slope) (same : IsSameSlope (high.sum -ℤ low.sum) (pos high.size -ℤ pos low.size) slope.num slope.den) where
   pub turn_ratio : IsRatio terms n (ones n) low.set high.set slope.num slope.den
   turn_ratio = ratio_of_worths terms n low high slope.num slope.den fit (floor_places terms n (ones n) fit (ones-places n) (ones-sizes n) begun.0 low.set begun.1) wl wh gap slope.lowest same
 
-  module _ (found : Minimum) (at : IsLeastAt terms n slope.num slope.den found) where
+  module _ (found : Minimum) (at : IsLeastAt terms firsts n slope.num slope.den found) where
     least : IsLeast terms n slope.den (sized_shift (ones n) slope.num) found.least
     least = rw (ones-shift n slope.num) at.is_least
 
     pub turn_next : size found.least ≡ low.size → IsLeast terms n slope.den (sized_shift (ones n) slope.num) low.set × IsGreatest terms n slope.den (sized_shift (ones n) slope.num) high.set
-        × (high.set ≡ high.set) × HasBases terms n (record { slope = slope; set = high.set; bases = found.optimum.bases })
+        × (high.set ≡ high.set) × HasBases terms firsts n (record { slope = slope; set = high.set; bases = found.optimum.bases })
     turn_next e =
         let r = turn_ratio in
         let is : found.least ≡ low.set = gap_same terms n (ones n) fit (ones-places n) (ones-sizes n) low.set high.set begun gap slope.num slope.den r.positive r.even found.least least (e ∙ wl.size) in
@@ -35,7 +35,7 @@ module _ (terms : List Meaning) (n : ℕ) (fit : AreTerms n terms) (low high : W
           here,
           gap_greatest terms n (ones n) fit (ones-places n) (ones-sizes n) low.set high.set begun gap slope.num slope.den r.positive r.even here,
           refl,
-          record { bases = at.bases; small = at.small; proves = at.proves; few = rw (← total-ones n) r.few },
+          record { bases = at.bases; small = at.small; proves = at.proves; reached = at.reached; few = rw (← total-ones n) r.few },
         )
 
     pub turn_between : size found.least ≢ low.size → IsGap terms n (ones n) low.set found.least × IsGap terms n (ones n) found.least high.set

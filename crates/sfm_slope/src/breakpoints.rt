@@ -21,7 +21,7 @@ use sfm_walk::Engine;
 use std::alloc::Global;
 
 /// All slopes at which there are two or more minimisers, ascending and in lowest terms, each with its greatest minimiser
-/// and with bases that prove there, over a ground of n places (Fujishige, Submodular Functions and Optimization,
+/// and with bases that prove there, reached from the first bases at the slope by few walks, over a ground of n places (Fujishige, Submodular Functions and Optimization,
 /// section 7: the principal partition). There are at most n, and no denominator exceeds n.
 ///
 /// # Errors
@@ -30,7 +30,7 @@ use std::alloc::Global;
 pub fn partition<T: Term>(alloc: Global, terms: &[T], n: usize) -> Result<Vec<Break>, Memory>
     requires bounded { AreBounded n (map T.places terms.now) (map T.size_of terms.now) }
     ensures slopes { IfOk result (λ r. AreBreakpoints (meanings T.places T.value_of terms.now) n (ones n) (map mark_of r.items)) }
-    ensures bases { IfOk result (λ r. All (HasBases (meanings T.places T.value_of terms.now) n) r.items) }
+    ensures bases { IfOk result (λ r. All (HasBases (meanings T.places T.value_of terms.now) (λ q. map (λ term. T.start_of term q) terms.now) n) r.items) }
 {
     let low = worth_of(alloc, terms, Set::empty(alloc, n)?)?;
     let high = worth_of(alloc, terms, whole_ground(alloc, n)?)?;
@@ -54,12 +54,12 @@ fn fill<T: Term>(
 ) -> Result<(), Memory>
     requires bounded { AreBounded n (map T.places terms.now) (map T.size_of terms.now) }
     requires engine { IsEngine T.places T.value_of terms.now n engine.old }
-    requires before { IsPartTo (meanings T.places T.value_of terms.now) n (ones n) breaks.old.items low.now.set }
+    requires before { IsPartTo (meanings T.places T.value_of terms.now) (λ q. map (λ term. T.start_of term q) terms.now) n (ones n) breaks.old.items low.now.set }
     requires gap { IsGap (meanings T.places T.value_of terms.now) n (ones n) low.now.set high.now.set }
     requires low_worth { IsWorth (meanings T.places T.value_of terms.now) low.now }
     requires high_worth { IsWorth (meanings T.places T.value_of terms.now) high.now }
     ensures engine { OnOk result (IsEngine T.places T.value_of terms.now n engine.new) }
-    ensures part { OnOk result (IsPartTo (meanings T.places T.value_of terms.now) n (ones n) breaks.new.items high.now.set) }
+    ensures part { OnOk result (IsPartTo (meanings T.places T.value_of terms.now) (λ q. map (λ term. T.start_of term q) terms.now) n (ones n) breaks.new.items high.now.set) }
 {
     match take_turn(alloc, engine, terms, n, low, high)? {
         Turn::Next(found) => {

@@ -1,10 +1,9 @@
-// What sets are worth, the slope between two sets, a ground of no places, and how many walks a minimum takes.
+// What sets are worth, the slope between two sets, and a ground of no places.
 use crate::partition;
 use crate::turn::slope_between;
 use crate::worth::{whole_ground, worth_of};
-use sfm_base::{Set, Steps};
-use sfm_simple::{Cut, Weight};
-use sfm_walk::minimise_counted;
+use sfm_base::Set;
+use sfm_simple::Weight;
 use std::process::Abort;
 use std::test::Fail;
 
@@ -28,24 +27,6 @@ fn slope_of_two_sets(rt: HostRuntime) -> Result<(), Fail> {
     let slope = slope_between(&low, &high);
     assert_eq!(rt; slope.num, 1);
     assert_eq!(rt; slope.den, 1);
-    Ok(())
-}
-
-#[test]
-fn no_walk(rt: HostRuntime) -> Result<(), Fail> {
-    let terms = [Weight::new(rt.alloc(), &[0, 1], &[-3, 5])?];
-    let mut steps = Steps::new();
-    minimise_counted(rt.alloc(), &terms, 2, 0, 1, &mut steps)?;
-    assert_eq!(rt; steps.count(), 0);
-    Ok(())
-}
-
-#[test]
-fn one_walk(rt: HostRuntime) -> Result<(), Fail> {
-    let terms = [Cut::new(4, 0, 1)];
-    let mut steps = Steps::new();
-    minimise_counted(rt.alloc(), &terms, 2, 0, 1, &mut steps)?;
-    assert_eq!(rt; steps.count(), 1);
     Ok(())
 }
 

@@ -43,7 +43,7 @@ pub fn take_turn<T: Term>(
     requires low_worth { IsWorth (meanings T.places T.value_of terms.now) low.now }
     requires high_worth { IsWorth (meanings T.places T.value_of terms.now) high.now }
     ensures engine { OnOk result (IsEngine T.places T.value_of terms.now n engine.new) }
-    ensures turn { IfOk result (IsTurn (meanings T.places T.value_of terms.now) n (ones n) low.now.set high.now.set) }
+    ensures turn { IfOk result (IsTurn (meanings T.places T.value_of terms.now) (λ q. map (λ term. T.start_of term q) terms.now) n (ones n) low.now.set high.now.set) }
 {
     let slope = slope_between(low, high);
     let found = least_at(alloc, engine, terms, n, slope)?;
@@ -84,7 +84,7 @@ fn least_at<T: Term>(
     requires engine { IsEngine T.places T.value_of terms.now n engine.old }
     requires small { IsAtMost (10 ^ 24) slope.num }
     ensures engine { OnOk result (IsEngine T.places T.value_of terms.now n engine.new) }
-    ensures least { IfOk result (IsLeastAt (meanings T.places T.value_of terms.now) n slope.num slope.den) }
+    ensures least { IfOk result (IsLeastAt (meanings T.places T.value_of terms.now) (λ q. map (λ term. T.start_of term q) terms.now) n slope.num slope.den) }
 {
     let mut steps = Steps::new();
     let minimum = minimise_with(alloc, engine, terms, n, slope.num, slope.den, &mut steps)?;

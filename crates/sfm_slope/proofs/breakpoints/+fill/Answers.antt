@@ -25,4 +25,4 @@ returns-in_ok-push-in-Next-clause-part g t c =
     let n = c.args.n in
     let ts = meanings d.places d.value_of c.args.terms.now in
     let h = rw c.in-Next.is at c.in_ok-found.ensures.turn in
-    rw c.in_ok-push-in-Next.ensures.items (part_push ts n (ones n) c.args.breaks.now.items c.in-Next.found c.args.low.now.set c.args.high.now.set c.requires.before h.0 h.1 h.2 c.requires.gap.larger h.3)
+    rw c.in_ok-push-in-Next.ensures.items (part_push ts (λ q. map (λ x. d.start_of x q) c.args.terms.now) n (ones n) c.args.breaks.now.items c.in-Next.found c.args.low.now.set c.args.high.now.set c.requires.before h.0 h.1 h.2 c.requires.gap.larger h.3)

@@ -13,4 +13,5 @@ returns-clause-least g c =
     let bases = simp to_z-of_z at h.bases in
     let proves = simp to_z-of_z at h.proves in
     let least = simp to_z-of_z at h.least in
-    record { bases = bases; small = h.small; proves = proves; is_least = least }
+    let counted = simp to_z-of_z at h.counted in
+    record { bases = bases; small = h.small; proves = proves; reached = (counted.0, counted.1, counted.2); is_least = least }
