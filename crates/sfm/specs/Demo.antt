@@ -16,6 +16,7 @@ abbrev pub line_of : (seed : ℕ) (value : ℤ) (least greatest blocks slopes : 
 line_of seed value least greatest blocks slopes = codes "demo " ++ decimal seed ++ codes " minimum " ++ signed_decimal value ++ codes " least " ++ decimal least ++ codes " greatest " ++ decimal greatest
     ++ codes " blocks " ++ decimal blocks ++ codes " slopes " ++ decimal slopes ++ codes " valid\n"
 
+-- the line of what an answer says
 abbrev pub demo_line : ℕ → Answer → List ℕ
 demo_line seed a = line_of seed a.value (size a.least) (size a.greatest) (length a.blocks) (length a.breaks)
 

@@ -11,6 +11,7 @@ pub record Break : Type 0 where
   pub members : List Bool
   pub bases : List (List ℤ)
 
+-- what an answer says: the least value, the extreme minimisers, the blocks, the bases at 0/1, and the slopes with their sets and bases
 pub record Answer : Type 0 where
   pub value : ℤ
   pub least : List Bool
@@ -37,13 +38,16 @@ abbrev pub counted : List ℕ → List ℕ
 counted [] = []
 counted (i ∷ x) = (32 ∷ decimal i) ++ counted x
 
+-- numbers behind a word, each behind a space
 abbrev pub numbered : List ℤ → List ℕ
 numbered [] = []
 numbered (a ∷ x) = (32 ∷ signed_decimal a) ++ numbered x
 
+-- a slope as its two numbers with a `/` between
 abbrev pub slope_text : ℤ → ℤ → List ℕ
 slope_text p q = signed_decimal p ++ codes "/" ++ signed_decimal q
 
+-- the line of a block: its number, its names, a colon, and the numbers of the blocks that it needs
 abbrev pub block_line : List (List ℕ) → ℕ → Block → List ℕ
 block_line names i block = codes "block " ++ decimal i ++ listed names block.members ++ codes " :" ++ counted block.needs
 
@@ -52,9 +56,11 @@ abbrev pub block_lines : List (List ℕ) → ℕ → List Block → List (List �
 block_lines names i [] = []
 block_lines names i (block ∷ blocks) = block_line names i block ∷ block_lines names (i + 1) blocks
 
+-- the line of a slope: the slope, and the names of its set
 abbrev pub slope_line : List (List ℕ) → Break → List ℕ
 slope_line names b = codes "slope " ++ slope_text b.num b.den ++ listed names b.members
 
+-- the lines of all slopes
 abbrev pub slope_lines : List (List ℕ) → List Break → List (List ℕ)
 slope_lines names [] = []
 slope_lines names (b ∷ breaks) = slope_line names b ∷ slope_lines names breaks
@@ -64,9 +70,11 @@ abbrev pub head_lines : Form → Answer → List (List ℕ)
 head_lines form a = form.header ∷ (codes "minimum " ++ signed_decimal a.value) ∷ (codes "least" ++ listed form.names a.least)
     ∷ (codes "greatest" ++ listed form.names a.greatest) ∷ (block_lines form.names 1 a.blocks ++ slope_lines form.names a.breaks)
 
+-- the line that a section begins with
 abbrev pub at_line : ℤ → ℤ → List ℕ
 at_line p q = codes "at " ++ slope_text p q
 
+-- the line of a base: the number of its term, and its entries
 abbrev pub base_line : ℕ → List ℤ → List ℕ
 base_line i x = codes "base " ++ decimal i ++ numbered x
 
@@ -75,6 +83,7 @@ abbrev pub base_lines : ℕ → List (List ℤ) → List (List ℕ)
 base_lines i [] = []
 base_lines i (x ∷ rows) = base_line i x ∷ base_lines (i + 1) rows
 
+-- the lines of a section: its slope, and a base for each term
 abbrev pub section_lines : ℤ → ℤ → List (List ℤ) → List (List ℕ)
 section_lines p q rows = at_line p q ∷ base_lines 1 rows
 
@@ -92,9 +101,11 @@ abbrev pub text_of : List (List ℕ) → List ℕ
 text_of [] = []
 text_of (line ∷ lines) = line ++ (10 ∷ text_of lines)
 
+-- the lines of an answer, each with a line feed behind it
 abbrev pub answer_text : Form → Answer → List ℕ
 answer_text form a = text_of (answer_lines form a)
 
+-- the slope and the set of a breakpoint
 abbrev pub mark_of : Break → Mark
 mark_of b = record { num = b.num; den = b.den; members = b.members }
 

@@ -32,6 +32,7 @@ pub record IsFormedBreak (n : ℕ) (widths : List ℕ) (b : Break) : Type 0 wher
   pub members : IsSomeSet n b.members
   pub bases : AreFormedRows widths b.bases
 
+-- the answer has the form that names and terms ask of it
 pub record IsFormed (form : Form) (a : Answer) : Type 0 where
   pub value : IsEntry a.value
   pub least : length a.least ≡ length form.names

@@ -22,6 +22,7 @@ pub record Section : Type 0 where
   pub den : ℤ
   pub bases : List (List ℤ)
 
+-- the section of a slope
 abbrev pub section_of : Break → Section
 section_of b = record { num = b.num; den = b.den; bases = b.bases }
 
@@ -29,9 +30,11 @@ section_of b = record { num = b.num; den = b.den; bases = b.bases }
 abbrev pub sections_of : Answer → List Section
 sections_of a = record { num = pos 0; den = pos 1; bases = a.bases } ∷ map section_of a.breaks
 
+-- what stands past the end of a list of sections
 abbrev pub no_section : Section
 no_section = record { num = pos 0; den = pos 1; bases = [] }
 
+-- the section number s, counted from 0
 abbrev pub section_at : Answer → ℕ → Section
 section_at a s = slice_index_or (sections_of a) s no_section
 

@@ -42,6 +42,7 @@ pub record IsFirstUnproved (terms : List Meaning) (n : ℕ) (a : Answer) (line :
   pub unproved : IsProvedSection terms n (section_at a section) → ⊥
   pub before : (s : ℕ) → s < section → IsProvedSection terms n (section_at a s)
 
+-- the bases of each section prove the minimum there
 abbrev pub AllAreProved : List Meaning → ℕ → Answer → Type 0
 AllAreProved terms n a = (s : ℕ) → s < length (sections_of a) → IsProvedSection terms n (section_at a s)
 
@@ -73,6 +74,7 @@ abbrev pub IsTold : Form → List Meaning → List ℕ → Verdict → Type 0
 IsTold form terms text Valid = Unit {0}
 IsTold form terms text (Invalid line reason) = IsFaultOf form terms text line reason
 
+-- the verdict is `valid`
 abbrev pub IsValid : Verdict → Type 0
 IsValid Valid = Unit {0}
 IsValid (Invalid line reason) = ⊥

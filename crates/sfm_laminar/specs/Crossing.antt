@@ -21,9 +21,11 @@ pub record AreCrossing (g h : Group) : Type 0 where
   pub first_beyond : Holds h g → ⊥
   pub second_beyond : Holds g h → ⊥
 
+-- what stands past the end of a list of groups
 abbrev pub no_group : Group
 no_group = record { cap = pos 0; members = [] }
 
+-- the group number i, counted from 0
 abbrev pub group_at : List Group → ℕ → Group
 group_at groups i = slice_index_or groups i no_group
 

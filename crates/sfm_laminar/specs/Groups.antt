@@ -26,6 +26,7 @@ pub record IsFirstCrossing (groups : List Group) (i j : ℕ) : Type 0 where
   pub least_second : (a b : ℕ) → b < j → IsCrossing groups a b → ⊥
   pub least_first : (a : ℕ) → a < i → IsCrossing groups a j → ⊥
 
+-- no two groups cross
 abbrev pub NoneCross : List Group → Type 0
 NoneCross groups = (i j : ℕ) → IsCrossing groups i j → ⊥
 

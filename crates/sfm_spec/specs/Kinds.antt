@@ -75,10 +75,11 @@ pub record Way : Type 0 where
 abbrev pub no_edge : Edge
 no_edge = record { tail = 0; head = 0 }
 
--- where a way begins and ends
+-- where a way begins
 abbrev pub begin_of : List Edge → Way → ℕ
 begin_of edges way = let e = slice_index_or edges way.edge no_edge in if way.is_back then e.head else e.tail
 
+-- where a way ends
 abbrev pub end_of : List Edge → Way → ℕ
 end_of edges way = let e = slice_index_or edges way.edge no_edge in if way.is_back then e.tail else e.head
 

@@ -47,6 +47,7 @@ text_lists_of lists = map (λ list. texts_of list.now) lists
 abbrev pub is_blank : ℕ → Bool
 is_blank c = (c == 32) || (c == 9)
 
+-- there is at least one byte
 abbrev pub has_bytes : List ℕ → Bool
 has_bytes [] = false
 has_bytes (c ∷ piece) = true
@@ -69,6 +70,7 @@ are_skipped (token ∷ tokens) = begins_comment token
 abbrev pub content_among : List TextLine → List TextLine
 content_among lines = filter (λ line. not (are_skipped (tokens_of line.bytes))) lines
 
+-- the lines of a text that are neither blank nor comments
 abbrev pub content_of : List ℕ → List TextLine
 content_of text = content_among (lines_of text)
 

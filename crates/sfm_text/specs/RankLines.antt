@@ -25,6 +25,7 @@ members_of elements names = filter (λ e. is_among names (slice_index_or element
 abbrev pub group_of : List ℤ → LineParts → ℕ → Group
 group_of values parts i = record { cap = slice_index_or values (i + 1) (pos 0); members = members_of parts.elements (slice_index_or parts.groups i []) }
 
+-- the groups of a line, in their order
 abbrev pub groups_of : List ℤ → LineParts → List Group
 groups_of values parts = map (λ i. group_of values parts i) (range_with_len 0 (length parts.groups))
 
@@ -40,10 +41,12 @@ pub record IsLaminarTerm (parts : LineParts) (values : List ℤ) (places : List 
 abbrev pub HasCrossing : List Group → Type 0
 HasCrossing groups = (i : ℕ) × (j : ℕ) × IsCrossing groups i j
 
+-- the groups of a laminar rank cross; no other rank has a law to break
 abbrev pub BreaksRankLaw : RankKind → LineParts → List ℤ → Type 0
 BreaksRankLaw LaminarRank parts values = HasCrossing (groups_of values parts)
 BreaksRankLaw _ parts values = ⊥
 
+-- the term that the line of a rank stands for
 abbrev pub IsRankTerm : RankKind → LineParts → List ℤ → List ℕ → Kind → Type 0
 IsRankTerm NoRank parts values places term = ⊥
 IsRankTerm UniformRank parts values places term = IsUniformTerm values places term

@@ -3,6 +3,7 @@ use Rattle.std.specs.Prelude.{ℕ, List, codes}
 use Rattle.sfm_text.specs.declared.reason.Reason.{Reason}
 use Rattle.sfm_text.specs.declared.reason.Reason.TheVariants.{Long, Bytes, Word, Shape, Number, Name, Twice, Law, Total, Short}
 
+-- the word of a reason
 abbrev pub reason_word : Reason → List ℕ
 reason_word Long = codes "long"
 reason_word Bytes = codes "bytes"
