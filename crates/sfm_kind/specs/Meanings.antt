@@ -62,10 +62,7 @@ size_by (Cover term) f = term.w
 size_by (Need term) f = pos 0
 size_by (Table term) f = greatest term.values
 size_by (Concave term) f = greatest term.values
-size_by (Uniform term) f = value_of_all (length term.places) f
-size_by (Laminar term) f = value_of_all (length term.places) f
-size_by (Graphic term) f = value_of_all (length term.places) f
-size_by (Transversal term) f = value_of_all (length term.places) f
+size_by kind f = value_of_all (length (kind_places kind)) f
 
 -- the sizes of all terms, added
 abbrev pub total_by : List Kind → List Meaning → ℤ
@@ -75,16 +72,8 @@ total_by (kind ∷ kinds) (term ∷ meant) = size_by kind term.value +ℤ total_
 
 -- the first base of q times a term with the values f: 0 and 0 for a condition, and else the greedy vector
 abbrev pub IsStartOf : Kind → SetFunction → ℤ → List ℤ → Type 0
-IsStartOf (Weight term) f q x = IsGreedy q f (length term.places) x
-IsStartOf (Cut term) f q x = IsGreedy q f (length term.places) x
-IsStartOf (Cover term) f q x = IsGreedy q f (length term.places) x
 IsStartOf (Need term) f q x = x ≡ pos 0 ∷ pos 0 ∷ []
-IsStartOf (Table term) f q x = IsGreedy q f (length term.places) x
-IsStartOf (Concave term) f q x = IsGreedy q f (length term.places) x
-IsStartOf (Uniform term) f q x = IsGreedy q f (length term.places) x
-IsStartOf (Laminar term) f q x = IsGreedy q f (length term.places) x
-IsStartOf (Graphic term) f q x = IsGreedy q f (length term.places) x
-IsStartOf (Transversal term) f q x = IsGreedy q f (length term.places) x
+IsStartOf kind f q x = IsGreedy q f (length (kind_places kind)) x
 
 -- the first bases of q times all terms, in order
 abbrev pub AreStarts : List Kind → List Meaning → ℤ → List (List ℤ) → Type 0
