@@ -20,7 +20,10 @@ use Rattle.sfm_cert.specs.Solved.{break_of, form_of}
 use Rattle.sfm_check.specs.Truth.{IsProvedSection, no_section, section_of}
 use Rattle.sfm_check.proofs.AllSlopes.{due_plain}
 use Rattle.sfm_check.proofs.OneToOne.{IsPlainMark}
+use Rattle.sfm_kind.specs.Kinds.{kind_start}
+use Rattle.sfm_kind.proofs.Meanings.{kinds-mean, kinds-start}
 use Rattle.sfm.specs.Meanings.{meanings_of}
+use Rattle.sfm.specs.Due.{IsReached}
 use Rattle.sfm.proofs.Rows.{formed_rows}
 
 -- the marks as they are found and as an answer has them
@@ -43,7 +46,7 @@ module _ (instance : InstanceData) (bounded : AreInBounds (length instance.names
       some_member m.members (omega (arith, less))
 
   formed_break : (b : Found) → IsLowest b.slope.num b.slope.den → IsBreakpoint (meanings_of instance.terms) (length instance.names) (ones (length instance.names)) b.slope.num b.slope.den b.set
-      → IsPlainMark instance.names (kept_mark b) → HasBases (meanings_of instance.terms) (length instance.names) b → IsFormedBreak (length instance.names) (form_of instance).widths (break_of b)
+      → IsPlainMark instance.names (kept_mark b) → HasBases (meanings_of instance.terms) (λ q. map (λ kind. kind_start kind q) instance.terms) (length instance.names) b → IsFormedBreak (length instance.names) (form_of instance).widths (break_of b)
   formed_break b low point plain has =
       let f = has.few in
       let g = bounded.few in
@@ -56,7 +59,7 @@ module _ (instance : InstanceData) (bounded : AreInBounds (length instance.names
       }
 
   -- d stands for a breakpoint behind the last
-  module _ (d : Found) (items : List Found) (slopes : AreBreakpoints (meanings_of instance.terms) (length instance.names) (ones (length instance.names)) (map kept_mark items)) (has : All (HasBases (meanings_of instance.terms) (length instance.names)) items) where
+  module _ (d : Found) (items : List Found) (slopes : AreBreakpoints (meanings_of instance.terms) (length instance.names) (ones (length instance.names)) (map kept_mark items)) (has : All (HasBases (meanings_of instance.terms) (λ q. map (λ kind. kind_start kind q) instance.terms) (length instance.names)) items) where
     mark_is : (i : ℕ) → i < length items → mark_at (map kept_mark items) i ≡ kept_mark (get_or items i d)
     mark_is i l = get_or-map kept_mark items i d no_mark l
 
@@ -80,12 +83,26 @@ module _ (instance : InstanceData) (bounded : AreInBounds (length instance.names
         let h = has i d li in
         subst (IsProvedSection (meanings_of instance.terms) (length instance.names)) (sym is) (record { bases = h.bases; proves = h.proves }))
 
-  pub formed_breaks : (items : List Found) → AreBreakpoints (meanings_of instance.terms) (length instance.names) (ones (length instance.names)) (map kept_mark items) → All (HasBases (meanings_of instance.terms) (length instance.names)) items
+    reached_behind : All (IsReached instance.terms (meanings_of instance.terms) (length instance.names)) (map section_of (map break_of items))
+    reached_behind = All-from_get_or (IsReached instance.terms (meanings_of instance.terms) (length instance.names)) (map section_of (map break_of items)) no_section (λ i l.
+        let lb : i < length (map break_of items) = omega (arith, l, length-map (map break_of items) section_of) in
+        let li : i < length items = omega (arith, lb, length-map items break_of) in
+        let is : get_or (map section_of (map break_of items)) i no_section ≡ section_of (break_of (get_or items i d))
+        = get_or-map section_of (map break_of items) i (break_of d) no_section lb ∙ ap section_of (get_or-map break_of items i d (break_of d) li) in
+        let h = has i d li in
+        subst (IsReached instance.terms (meanings_of instance.terms) (length instance.names)) (sym is) (record { firsts = map (λ kind. kind_start kind (get_or items i d).slope.den) instance.terms; starts = kinds-start instance.terms (meanings_of instance.terms) (get_or items i d).slope.den (kinds-mean instance.terms); few = h.reached }))
+
+  pub formed_breaks : (items : List Found) → AreBreakpoints (meanings_of instance.terms) (length instance.names) (ones (length instance.names)) (map kept_mark items) → All (HasBases (meanings_of instance.terms) (λ q. map (λ kind. kind_start kind q) instance.terms) (length instance.names)) items
       → All (IsFormedBreak (length instance.names) (form_of instance).widths) (map break_of items)
   formed_breaks [] slopes has = All-nil (IsFormedBreak (length instance.names) (form_of instance).widths)
   formed_breaks (b ∷ items) slopes has = formed_behind b (b ∷ items) slopes has
 
-  pub proved_breaks : (items : List Found) → AreBreakpoints (meanings_of instance.terms) (length instance.names) (ones (length instance.names)) (map kept_mark items) → All (HasBases (meanings_of instance.terms) (length instance.names)) items
+  pub proved_breaks : (items : List Found) → AreBreakpoints (meanings_of instance.terms) (length instance.names) (ones (length instance.names)) (map kept_mark items) → All (HasBases (meanings_of instance.terms) (λ q. map (λ kind. kind_start kind q) instance.terms) (length instance.names)) items
       → All (IsProvedSection (meanings_of instance.terms) (length instance.names)) (map section_of (map break_of items))
   proved_breaks [] slopes has = All-nil (IsProvedSection (meanings_of instance.terms) (length instance.names))
   proved_breaks (b ∷ items) slopes has = proved_behind b (b ∷ items) slopes has
+
+  pub reached_breaks : (items : List Found) → AreBreakpoints (meanings_of instance.terms) (length instance.names) (ones (length instance.names)) (map kept_mark items) → All (HasBases (meanings_of instance.terms) (λ q. map (λ kind. kind_start kind q) instance.terms) (length instance.names)) items
+      → All (IsReached instance.terms (meanings_of instance.terms) (length instance.names)) (map section_of (map break_of items))
+  reached_breaks [] slopes has = All-nil (IsReached instance.terms (meanings_of instance.terms) (length instance.names))
+  reached_breaks (b ∷ items) slopes has = reached_behind b (b ∷ items) slopes has

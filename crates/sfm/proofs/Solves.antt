@@ -9,7 +9,9 @@ use Rattle.sfm_spec.specs.Families.{AreBases, IsGreatest, IsLeast, Prove, even_s
 use Rattle.sfm_kind.specs.Instance.{InstanceData}
 use Rattle.sfm_kind.specs.Limits.{AreInBounds}
 use Rattle.sfm_kind.specs.Names.{AreElementNames}
-use Rattle.sfm_kind.proofs.Meanings.{kinds-mean}
+use Rattle.sfm_spec.specs.Walks.{IsFewWalks}
+use Rattle.sfm_kind.specs.Kinds.{kind_start}
+use Rattle.sfm_kind.proofs.Meanings.{kinds-mean, kinds-start}
 use Rattle.sfm_text.specs.GoodText.{IsTextOf}
 use Rattle.sfm_cert.specs.Answer.{Answer, answer_text, mark_of}
 use Rattle.sfm_cert.specs.Form.{IsFormedBreak}
@@ -20,7 +22,7 @@ use Rattle.sfm_check.proofs.Short.{head_few}
 use Rattle.sfm_check.proofs.Small.{value_small}
 use Rattle.sfm.proofs.Rows.{formed_rows}
 use Rattle.sfm.specs.Meanings.{meanings_of}
-use Rattle.sfm.specs.Due.{IsSolved}
+use Rattle.sfm.specs.Due.{IsSolved, IsReached}
 use Rattle.sfm.specs.Solving.{IsTrueAnswer}
 
 pub record IsRead (instance : InstanceData) (a : Answer) : Type 0 where
@@ -34,6 +36,8 @@ pub record IsRead (instance : InstanceData) (a : Answer) : Type 0 where
   pub slopes : AreBreakpoints (meanings_of instance.terms) (length instance.names) (ones (length instance.names)) (map mark_of a.breaks)
   pub breaks : All (IsFormedBreak (length instance.names) (form_of instance).widths) a.breaks
   pub proved : All (IsProvedSection (meanings_of instance.terms) (length instance.names)) (map section_of a.breaks)
+  pub few : IsFewWalks (meanings_of instance.terms) (length instance.names) (pos 1) (even_shift (length instance.names) (pos 0)) (map (λ kind. kind_start kind (pos 1)) instance.terms) a.bases
+  pub reached : All (IsReached instance.terms (meanings_of instance.terms) (length instance.names)) (map section_of a.breaks)
 
 pub true_answer : (instance : InstanceData) (a : Answer) → AreElementNames instance.names → AreInBounds (length instance.names) instance.terms → IsRead instance a → IsTrueAnswer instance a
 true_answer instance a named bounded h = record {
@@ -50,6 +54,9 @@ true_answer instance a named bounded h = record {
   sections = All-cons (IsProvedSection (meanings_of instance.terms) (length instance.names)) (record { num = pos 0; den = pos 1; bases = a.bases }) (map section_of a.breaks)
       (record { bases = h.bases; proves = h.proves })
       h.proved;
+  reached = All-cons (IsReached instance.terms (meanings_of instance.terms) (length instance.names)) (record { num = pos 0; den = pos 1; bases = a.bases }) (map section_of a.breaks)
+      (record { firsts = map (λ kind. kind_start kind (pos 1)) instance.terms; starts = kinds-start instance.terms (meanings_of instance.terms) (pos 1) (kinds-mean instance.terms); few = h.few })
+      h.reached;
 } where
   head : IsTrueHead (meanings_of instance.terms) (length instance.names) a
   head = record { least = h.least; greatest = h.greatest; value = h.value; blocks = h.blocks; breaks = h.slopes }
@@ -63,4 +70,5 @@ solved text file instance a good h written = record {
   meant = meanings_of instance.terms;
   means = kinds-mean instance.terms;
   right = record { answer = a; is_text = record { formed = h.formed; written = written }; head = h.head; sections = h.sections };
+  reached = h.reached;
 }

@@ -1,14 +1,16 @@
 -- What is due for the texts that a command names: the text that is to be written, and the code that goes with it.
-use Rattle.std.specs.Prelude.{◌≡◌, ◌↔◌, ◌⊎◌, ℕ, List, ◌++◌, codes, decimal}
-use Rattle.sfm_spec.specs.Families.{Meaning}
+use Rattle.std.specs.Prelude.{◌≡◌, ◌↔◌, ◌⊎◌, ℕ, List, ◌++◌, length, codes, decimal, ℤ}
+use Rattle.std.specs.List.{All}
+use Rattle.sfm_spec.specs.Families.{Meaning, even_shift}
+use Rattle.sfm_spec.specs.Walks.{IsFewWalks}
 use Rattle.sfm_kind.specs.declared.kind.Kind.{Kind}
-use Rattle.sfm_kind.specs.Meanings.{AreMeanings}
+use Rattle.sfm_kind.specs.Meanings.{AreMeanings, AreStarts}
 use Rattle.sfm_text.specs.declared.reason.Reason.{Reason}
 use Rattle.sfm_text.specs.Reasons.{reason_word}
 use Rattle.sfm_text.specs.GoodText.{IsTextOf, IsFaultOf}
 use Rattle.sfm_cert.specs.Answer.{Form}
 use Rattle.sfm_cert.specs.Solved.{form_of}
-use Rattle.sfm_check.specs.Truth.{IsRightFile}
+use Rattle.sfm_check.specs.Truth.{IsRightFile, Section, sections_of}
 use Rattle.sfm_check.specs.declared.verdicts.Verdict.{Verdict}
 use Rattle.sfm_check.specs.declared.verdicts.Verdict.TheVariants.{Valid, Invalid}
 use Rattle.sfm_check.specs.declared.verdicts.Wrong.{Wrong}
@@ -19,6 +21,7 @@ use Rattle.sfm_check.specs.Verdict.{IsTold, IsValid}
 abbrev pub refusal : ℕ → Reason → List ℕ
 refusal line reason = codes "refused " ++ decimal line ++ codes " " ++ reason_word reason ++ codes "\n"
 
+-- the word of a reason
 abbrev pub wrong_word : Wrong → List ℕ
 wrong_word Long = codes "long"
 wrong_word Grammar = codes "grammar"
@@ -31,6 +34,7 @@ abbrev pub verdict_line : Verdict → List ℕ
 verdict_line Valid = codes "valid\n"
 verdict_line (Invalid line reason) = codes "invalid " ++ decimal line ++ codes " " ++ wrong_word reason ++ codes "\n"
 
+-- the exit code of a verdict
 abbrev pub verdict_code : Verdict → ℕ
 verdict_code Valid = 0
 verdict_code (Invalid line reason) = 1
@@ -43,7 +47,14 @@ form_for names terms = form_of (record { names = names; terms = terms })
 abbrev pub IsGood : List ℕ → Type 0
 IsGood text = (names : List (List ℕ)) × (terms : List Kind) × IsTextOf text names terms
 
--- the file is a right one for the text, which is good: for the names and terms that it stands for, by their meanings
+-- the bases of a section are reached by few walks at its slope, from the first bases of the terms
+pub record IsReached (terms : List Kind) (meant : List Meaning) (n : ℕ) (section : Section) : Type 0 where
+  pub firsts : List (List ℤ)
+  pub starts : AreStarts terms meant section.den firsts
+  pub few : IsFewWalks meant n section.den (even_shift n section.num) firsts section.bases
+
+-- the file is a right one for the text, which is good: for the names and terms that it stands for, by their meanings; and few walks
+-- lead to the bases of each section
 pub record IsSolved (text file : List ℕ) : Type 0 where
   pub names : List (List ℕ)
   pub terms : List Kind
@@ -51,6 +62,7 @@ pub record IsSolved (text file : List ℕ) : Type 0 where
   pub meant : List Meaning
   pub means : AreMeanings terms meant
   pub right : IsRightFile (form_for names terms) meant file
+  pub reached : All (IsReached terms meant (length names)) (sections_of right.answer)
 
 -- the written text names the first fault of the text
 pub record IsRefused (text written : List ℕ) : Type 0 where

@@ -1,4 +1,4 @@
-// The engine on small instances, against every set. Every set is tried here, and nowhere else; a set is a number whose
+// The engine on small instances, against every set, and how many walks it takes. Every set is tried here, and nowhere else; a set is a number whose
 // bit e says whether it has the place e.
 ghost use Rattle.std.specs.Prelude.{pos, IfOk};
 ghost use Rattle.std.specs.List.{All};
@@ -6,12 +6,12 @@ ghost use Rattle.sfm_spec.specs.Bounds.{IsEntry};
 ghost use Rattle.sfm_spec.specs.Families.{meanings, AreBases};
 ghost use Rattle.sfm_kind.specs.Kinds.{kind_places, kind_value};
 
-use sfm_base::{Memory, Rows, Set};
+use sfm_base::{Memory, Rows, Set, Steps};
 use sfm_extreme::{Block, Certified, blocks, certify};
 use sfm_kind::Instance;
 use sfm_law::start_rows;
 use sfm_text::read_instance;
-use sfm_walk::minimise;
+use sfm_walk::{minimise, minimise_counted};
 use std::alloc::Global;
 use std::process::Abort;
 use std::test::Fail;
@@ -247,5 +247,42 @@ fn bases_that_do_not_prove_are_left_by_a_walk(rt: HostRuntime) -> Result<(), Fai
             assert_eq!(rt; walk.steps.as_slice(), [(0, 1)].as_slice());
         }
     }
+    Ok(())
+}
+
+/// Tries how many walks a minimum takes, and the row of the last term then.
+fn try_walks(
+    rt: &impl Abort,
+    alloc: Global,
+    text: &[u8],
+    walks: u64,
+    last: &[i128],
+) -> Result<(), Fail> {
+    let instance = read_instance(alloc, text)?;
+    let mut steps = Steps::new();
+    let optimum = minimise_counted(
+        alloc,
+        instance.terms(),
+        instance.names_len(),
+        0,
+        1,
+        &mut steps,
+    )?;
+    assert_eq!(rt; steps.count(), walks);
+    let rows = optimum.bases.len();
+    assert!(rt; rows > 0);
+    assert_eq!(rt; optimum.bases.row(rows - 1), last);
+    Ok(())
+}
+
+#[test]
+fn walks_are_counted(rt: HostRuntime) -> Result<(), Fail> {
+    let alloc = rt.alloc();
+    let weight = b"sfm 1\nground a b\nweight a:-3 b:2\nend\n";
+    let need = b"sfm 1\nground a b\nweight a:-3 b:2\nneed a b\nend\n";
+    let cut = b"sfm 1\nground a b\nweight a:-3 b:2\ncut 4 a b\nend\n";
+    try_walks(&rt, alloc, weight, 0, &[-3, 2])?;
+    try_walks(&rt, alloc, need, 1, &[2, -2])?;
+    try_walks(&rt, alloc, cut, 1, &[3, -3])?;
     Ok(())
 }
