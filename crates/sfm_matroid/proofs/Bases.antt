@@ -15,7 +15,7 @@ use Rattle.sfm_spec.proofs.Exchange.{base_between}
 use Rattle.sfm_law.proofs.Listing.{own_listing, base_from_leaves}
 use Rattle.sfm_law.proofs.Monotone.{AreCounts, without, sum_over-without}
 use Rattle.sfm_matroid.specs.Matroids.{IsMatroid, AreRanks, rank-mono}
-use Rattle.sfm_matroid.specs.RankTerms.{rank_value}
+use Rattle.sfm_matroid.specs.Ranks.{rank_value}
 
 module _ (k n : ℕ) (q w : ℤ) (low : pos 0 ≤ℤ (q *ℤ w)) (IsIndependent : List Bool → Type 0) (rank : List Bool → ℕ) (matroid : IsMatroid k IsIndependent) (ranks : AreRanks k IsIndependent rank) (Meets : ℕ → List ℤ → Type 0) where
   abbrev pub IsWithinRanks : List ℤ → Type 0

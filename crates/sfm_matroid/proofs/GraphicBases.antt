@@ -8,13 +8,13 @@ use Rattle.sfm_spec.specs.Terms.{times, IsBase}
 use Rattle.sfm_spec.specs.Kinds.{Edge, IsForest}
 use Rattle.sfm_spec.proofs.Scaled.{times-assoc}
 use Rattle.sfm_matroid.specs.Cuts.{IsWithinEnds}
-use Rattle.sfm_matroid.specs.Runs.{EndsBelow}
+use Rattle.sfm_matroid.specs.Graphs.{EndsBelow, graphic_rank, graphic_value, graphic_size}
 use Rattle.sfm_matroid.specs.Ends.{edges_of}
-use Rattle.sfm_matroid.specs.Numbered.{IsEnd, numbered, length-numbered, numbered_below}
+use Rattle.sfm_matroid.specs.Numbered.{IsEnd, numbered}
+use Rattle.sfm_matroid.proofs.Numbers.{length-numbered, numbered_below}
 use Rattle.sfm_matroid.proofs.UsedEnds.{within_all}
 use Rattle.sfm_matroid.proofs.Labels.{length-edges}
-use Rattle.sfm_matroid.specs.Forests.{graphic_rank, forest-matroid, graphic-ranks}
-use Rattle.sfm_matroid.specs.GraphicLaws.{graphic_value, graphic_size}
+use Rattle.sfm_matroid.specs.Forests.{forest-matroid, graphic-ranks}
 use Rattle.sfm_matroid.proofs.Bases.{AreTests, base_counts, base_total, base_passes, passes_base}
 use Rattle.sfm_matroid.proofs.MatroidTests.{numbered_tests}
 use Rattle.sfm_law.proofs.Totals.{total_of-whole}

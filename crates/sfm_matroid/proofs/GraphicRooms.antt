@@ -7,21 +7,21 @@ use Rattle.sfm_spec.specs.Kinds.{Edge, IsForest}
 use Rattle.sfm_assign.specs.Splits.{CanBeMet}
 use Rattle.sfm_matroid.specs.Cuts.{IsWithinEnds}
 use Rattle.sfm_matroid.specs.Ends.{edges_of}
-use Rattle.sfm_matroid.specs.Numbered.{IsTail, numbered, length-numbered, numbered_below, end_lists, vertex_capacities}
-use Rattle.sfm_matroid.specs.Runs.{edge_at}
-use Rattle.sfm_matroid.specs.Forests.{graphic_rank, forest-matroid, graphic-ranks}
-use Rattle.sfm_matroid.specs.GraphicLaws.{graphic_value}
+use Rattle.sfm_matroid.specs.Numbered.{IsTail, numbered, end_lists, vertex_capacities}
+use Rattle.sfm_matroid.proofs.Numbers.{length-numbered, numbered_below}
+use Rattle.sfm_matroid.specs.Graphs.{edge_at, graphic_rank, graphic_value}
+use Rattle.sfm_matroid.specs.Forests.{forest-matroid, graphic-ranks}
 use Rattle.sfm_matroid.proofs.Bases.{IsMostAt, raised-places, raised-counts, met_nothing, least_capacity, base_counts, given-counts, gives_room, room_gives}
 use Rattle.sfm_matroid.proofs.GraphicBases.{as_many, base_tests}
 use Rattle.sfm_spec.specs.Sets.{Has}
 use Rattle.sfm_law.specs.Room.{IsReach}
-use Rattle.sfm_matroid.proofs.Keeping.{reach_kept}
+use Rattle.sfm_matroid.proofs.Keeping.{reach_kept, CanLend}
 use Rattle.sfm_matroid.proofs.Numbering.{pair-edge}
 use Rattle.sfm_matroid.proofs.OneTest.{IsLessWithout, tail_enough, less_exchanged, less_raised}
 use Rattle.sfm_matroid.proofs.MatroidTests.{numbered_tests}
 use Rattle.sfm_matroid.proofs.SplitTests.{split_within_ends, within_ends_split}
 use Rattle.sfm_matroid.specs.Leasts.{IsLeastOf, IsMostOf}
-use Rattle.sfm_matroid.specs.Givers.{IsGiver, AreKept, CanLend}
+use Rattle.sfm_matroid.specs.Givers.{IsGiver, AreKept}
 use Rattle.sfm_assign.specs.declared.kept.Kept.{Kept}
 use Rattle.sfm_matroid.specs.Notes.{AreSplits}
 use Rattle.sfm_spec.proofs.Sums.{length-exchanged}

@@ -9,8 +9,14 @@ use Rattle.sfm_spec.proofs.Where.{size-cons}
 use Rattle.sfm_law.specs.Room.{IsReach}
 use Rattle.sfm_assign.specs.Splits.{CanBeMet, Demands}
 use Rattle.sfm_assign.specs.Lenders.{IsLender}
+use Rattle.sfm_spec.specs.Kinds.{Edge}
+use Rattle.sfm_matroid.specs.Numbered.{IsTail, end_lists, vertex_capacities}
 use Rattle.sfm_matroid.specs.Members.{has_place}
 use Rattle.sfm_matroid.specs.Givers.{IsGiver, AreKept}
+
+-- where each of m vertices holds c, but a nothing, v can give one of what it has to u; told of tails alone
+abbrev pub CanLend : List Edge → ℕ → ℤ → List ℤ → ℕ → ℕ → ℕ → Type 0
+CanLend edges m c x u v a = IsTail edges a → CanBeMet (exchanged x u v (pos 1)) (end_lists edges) (vertex_capacities m c a)
 
 -- a set without members has none to be kept
 pub kept_nothing : (IsKept : ℕ → Type 0) (s : List Bool) → size s ≡ 0 → AreKept IsKept s s
@@ -24,11 +30,11 @@ kept_nothing IsKept s none v = ((λ has. absurd (out s v none has)), (λ h. h.0)
 -- ---- one test
 
 module _ (d : Demands) (u : ℕ) (before : List Bool) (places : length before ≡ length d.demands) (givers : (v : ℕ) → Has before v → (v ≢ u) × (pos 1 ≤ℤ get_or d.demands v (pos 0))) where
-  abbrev CanLend : ℕ → Type 0
-  CanLend v = CanBeMet (exchanged d.demands u v (pos 1)) d.lists d.capacities
+  abbrev GivesOne : ℕ → Type 0
+  GivesOne v = CanBeMet (exchanged d.demands u v (pos 1)) d.lists d.capacities
 
   -- the lenders are kept
-  pub kept_lenders : (s : List Bool) → length s ≡ length d.demands → ((v : ℕ) → v < length s → Has s v ↔ IsLender d.demands d.lists d.capacities u v) → AreKept CanLend before (intersection before s)
+  pub kept_lenders : (s : List Bool) → length s ≡ length d.demands → ((v : ℕ) → v < length s → Has s v ↔ IsLender d.demands d.lists d.capacities u v) → AreKept GivesOne before (intersection before s)
   kept_lenders s sized lend v =
       let at = get_or-intersection before s v (places ∙ sym sized) in
       let below : Has before v → v < length s = λ h. let p = has_place before v h in omega (arith, p, places, sized) in (
@@ -50,9 +56,9 @@ kept_none IsKept s v = ((λ has. (has, λ b lt. absurd (omega arith))), (λ h. h
 -- ---- the reach
 
 -- what is kept of the givers is the reach, if u has room to exactly those that can lend in each test
-pub reach_kept : (f : SetFunction) (x : List ℤ) (c : ℤ) (u : ℕ) (CanLend : ℕ → Type 0) (before after : List Bool) → length after ≡ length x → ((v : ℕ) → v < length x → Has before v ↔ IsGiver x c u v) → AreKept CanLend before after
-    → ((v : ℕ) → v < length x → u ≢ v → IsGiver x c u v → CanLend v → HasRoom f x u v) → ((v : ℕ) → v < length x → u ≢ v → HasRoom f x u v → IsGiver x c u v × CanLend v) → IsReach f x u after
-reach_kept f x c u CanLend before after places exact kept to from = record {
+pub reach_kept : (f : SetFunction) (x : List ℤ) (c : ℤ) (u : ℕ) (Lends : ℕ → Type 0) (before after : List Bool) → length after ≡ length x → ((v : ℕ) → v < length x → Has before v ↔ IsGiver x c u v) → AreKept Lends before after
+    → ((v : ℕ) → v < length x → u ≢ v → IsGiver x c u v → Lends v → HasRoom f x u v) → ((v : ℕ) → v < length x → u ≢ v → HasRoom f x u v → IsGiver x c u v × Lends v) → IsReach f x u after
+reach_kept f x c u Lends before after places exact kept to from = record {
   places = places;
   exact = λ v lt. (
     (λ has. let (b, lend) = (kept v).0 has in let g = (exact v lt).0 b in (g.0, to v lt (λ e. g.0 (sym e)) g lend)),

@@ -5,10 +5,10 @@ use Rattle.sfm_spec.specs.Sets.{Has, whole_set, size}
 use Rattle.sfm_spec.specs.Kinds.{Edge}
 use Rattle.sfm_spec.proofs.Sets.{Has-whole}
 use Rattle.sfm_spec.proofs.Sizes.{size_below_length}
-use Rattle.sfm_matroid.specs.Runs.{taken, taken-places}
+use Rattle.sfm_matroid.specs.Graphs.{taken, graphic_basis}
+use Rattle.sfm_matroid.specs.Runs.{taken-places}
 use Rattle.sfm_matroid.specs.Ends.{edges_of}
 use Rattle.sfm_matroid.proofs.Labels.{length-edges}
-use Rattle.sfm_matroid.specs.GraphicLaws.{graphic_basis}
 
 pub all_in : (s : List Bool) (k : ℕ) → length s ≡ k → ((j : ℕ) → j < k → Has s j) → s ≡ whole_set k
 all_in s k ks all = ext_get_or false s (whole_set k) (ks ∙ sym (length-replicate k true)) (λ j lt. let l : j < k = omega (arith, ks) in all j l ∙ sym (Has-whole k j l))

@@ -4,9 +4,16 @@ use Rattle.std.proofs.Math.Seq.{take-append_seam}
 use Rattle.std.proofs.lemmas.Bool.{cases_eq, eq-eqb}
 use Rattle.sfm_spec.specs.Sets.{Has}
 use Rattle.sfm_spec.specs.Kinds.{Edge}
-use Rattle.sfm_matroid.specs.Counts.{eqb_apart}
-use Rattle.sfm_matroid.specs.Runs.{edge_at, renamed, label, taken}
-use Rattle.sfm_matroid.specs.Ends.{edges_of, both_renamed, end_labels, labels_of, labels_at}
+use Rattle.sfm_matroid.specs.Counting.{eqb_apart}
+use Rattle.sfm_matroid.specs.Graphs.{edge_at, renamed, label, taken}
+use Rattle.sfm_matroid.specs.Ends.{edges_of, both_renamed, labels_at}
+
+-- the labels of the ends of an edge, and of all edges, after those edges of s that are numbered below n
+abbrev pub end_labels : List Edge → List Bool → ℕ → Edge → ℕ × ℕ
+end_labels edges s n edge = (label edges s n edge.tail, label edges s n edge.head)
+
+abbrev pub labels_of : List Edge → List Bool → ℕ → List (ℕ × ℕ)
+labels_of edges s n = map (end_labels edges s n) edges
 
 pub length-edges : (pairs : List (ℕ × ℕ)) → length (edges_of pairs) ≡ length pairs
 length-edges [] = refl

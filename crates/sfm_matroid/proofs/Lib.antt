@@ -15,3 +15,6 @@ mod Fits
 mod Kept
 mod Shares
 mod Labels
+mod CutForms
+mod Numbers
+mod SlotForms

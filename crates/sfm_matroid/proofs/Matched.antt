@@ -11,9 +11,11 @@ use Rattle.sfm_spec.specs.Kinds.{IsMatchable}
 use Rattle.sfm_spec.proofs.Sets.{in_both, in_first, in_second, same_sets}
 use Rattle.sfm_spec.proofs.Sums.{length-intersection}
 use Rattle.sfm_spec.proofs.Where.{size-cons}
-use Rattle.sfm_matroid.specs.RankTerms.{at_places, at_places-length, at_places-at}
-use Rattle.sfm_matroid.specs.Ore.{slots_count, AreSlotsBelow, IsWithinSlots, matched_slots, matchable_by_slots}
-use Rattle.sfm_matroid.specs.Transversals.{have_slots, above_slots, slots_below, slots_suffice, slots_needed, suited}
+use Rattle.sfm_matroid.specs.Ranks.{at_places}
+use Rattle.sfm_matroid.specs.RankTerms.{at_places-length, at_places-at}
+use Rattle.sfm_matroid.specs.Slots.{slots_count, IsWithinSlots, have_slots, above_slots, suited}
+use Rattle.sfm_matroid.specs.Ore.{AreSlotsBelow, matched_slots, matchable_by_slots}
+use Rattle.sfm_matroid.specs.Transversals.{slots_below, slots_suffice, slots_needed}
 
 -- slots that exist, one by one
 pub slots_each : (entries : List (List ℕ)) (m : ℕ) → All (All (λ v. v < m)) entries → AreSlotsBelow entries m

@@ -13,15 +13,20 @@ use Rattle.sfm_spec.proofs.Sizes.{size-empty, weight-empty}
 use Rattle.sfm_spec.proofs.Sums.{sum_over-set}
 use Rattle.sfm_spec.proofs.Where.{size-cons}
 use Rattle.sfm_matroid.specs.Members.{has_or_out, nothing, size-in}
-use Rattle.sfm_matroid.specs.Counts.{eqb_apart, unit_of, count_below, count-same, count-without, size-count}
+use Rattle.sfm_matroid.specs.Counting.{eqb_apart, count-same, count-without, size-count}
+use Rattle.sfm_matroid.specs.Counts.{unit_of, count_below}
 use Rattle.sfm_matroid.specs.Matroids.{IsMatroid, AreRanks, rank-size}
-use Rattle.sfm_matroid.specs.Runs.{EndsBelow}
-use Rattle.sfm_matroid.specs.Forests.{graphic_rank, forest-matroid, graphic-ranks}
-use Rattle.sfm_matroid.specs.Numbered.{numbered, length-numbered, numbered_below, rank-number}
-use Rattle.sfm_matroid.specs.Cuts.{IsWithinEnds, ends_from_rank, rank_from_ends}
+use Rattle.sfm_matroid.specs.Graphs.{EndsBelow, graphic_rank}
+use Rattle.sfm_matroid.specs.Forests.{forest-matroid, graphic-ranks}
+use Rattle.sfm_matroid.specs.Numbered.{numbered}
+use Rattle.sfm_matroid.proofs.Numbers.{length-numbered, numbered_below, rank-number}
+use Rattle.sfm_matroid.specs.Cuts.{IsWithinEnds}
+use Rattle.sfm_matroid.proofs.CutForms.{ends_from_rank, rank_from_ends}
 use Rattle.sfm_matroid.specs.Matchings.{matching-matroid}
-use Rattle.sfm_matroid.specs.Ore.{AreSlotsBelow, IsWithinSlots, slots_from_rank, rank_from_slots}
-use Rattle.sfm_matroid.specs.Transversals.{transversal_rank, transversal-ranks}
+use Rattle.sfm_matroid.specs.Ore.{AreSlotsBelow}
+use Rattle.sfm_matroid.specs.Slots.{IsWithinSlots, transversal_rank}
+use Rattle.sfm_matroid.proofs.SlotForms.{slots_from_rank, rank_from_slots}
+use Rattle.sfm_matroid.specs.Transversals.{transversal-ranks}
 use Rattle.sfm_matroid.proofs.Bases.{AreTests}
 
 sum_over-below : (s : List Bool) (x y : List ℤ) → length x ≡ length y → ((e : ℕ) → e < length x → get_or x e (pos 0) ≤ℤ get_or y e (pos 0)) → sum_over s x ≤ℤ sum_over s y

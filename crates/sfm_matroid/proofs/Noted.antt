@@ -8,7 +8,8 @@ use Rattle.sfm_spec.specs.Terms.{exchanged}
 use Rattle.sfm_assign.specs.Splits.{IsAmount, CanBeMet}
 use Rattle.sfm_assign.specs.Lenders.{exchanged_in}
 use Rattle.sfm_assign.specs.declared.kept.Kept.{Kept}
-use Rattle.sfm_matroid.specs.Givers.{AreKept, AreOthers, CanLend, CanLendIn}
+use Rattle.sfm_matroid.specs.Givers.{AreKept, AreOthers, CanLendIn}
+use Rattle.sfm_matroid.proofs.Keeping.{CanLend}
 use Rattle.sfm_matroid.specs.Numbered.{end_lists, vertex_capacities}
 use Rattle.sfm_matroid.specs.Notes.{IsSplitAt, AreSplits, IsSlotSplit, IsShiftable, IsMoved}
 

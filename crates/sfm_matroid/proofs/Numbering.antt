@@ -4,7 +4,7 @@ use Rattle.std.proofs.lemmas.List.{drop_more, get_or-map, length-map, length-rep
 use Rattle.std.proofs.lemmas.Grind.{take_at_read}
 use Rattle.sfm_spec.specs.Kinds.{no_edge}
 use Rattle.sfm_matroid.specs.Ends.{edges_of, edge_of}
-use Rattle.sfm_matroid.specs.Runs.{edge_at, EndsBelow}
+use Rattle.sfm_matroid.specs.Graphs.{edge_at, EndsBelow}
 use Rattle.sfm_matroid.specs.Numbered.{number, numbered, renumbered, ends_of, end_lists, vertex_capacities}
 use Rattle.sfm_matroid.proofs.Labels.{length-edges}
 

@@ -8,9 +8,10 @@ use Rattle.sfm_spec.specs.Terms.{exchanged}
 use Rattle.sfm_spec.specs.Kinds.{Edge}
 use Rattle.sfm_spec.proofs.Scaled.{times-mono}
 use Rattle.sfm_spec.proofs.Sums.{share, sum_over-set, sum_over-exchanged}
-use Rattle.sfm_matroid.specs.Counts.{eqb_apart, count-into}
-use Rattle.sfm_matroid.specs.Runs.{edge_at, EndsBelow}
-use Rattle.sfm_matroid.specs.Cuts.{touches, touches-ends, ends_but, IsWithinEnds}
+use Rattle.sfm_matroid.specs.Counting.{eqb_apart, count-into}
+use Rattle.sfm_matroid.specs.Graphs.{edge_at, EndsBelow}
+use Rattle.sfm_matroid.specs.Cuts.{touches, ends_but, IsWithinEnds}
+use Rattle.sfm_matroid.proofs.CutForms.{touches-ends}
 
 -- no part without u has more than before
 abbrev pub IsLessWithout : ℕ → List ℤ → List ℤ → Type 0

@@ -14,11 +14,12 @@ use Rattle.sfm_assign.proofs.Rows.{AreBelow, length-slots_of}
 use Rattle.sfm_assign.proofs.Hall.{hall_easy}
 use Rattle.sfm_assign.proofs.Filling.{hall}
 use Rattle.sfm_law.proofs.Monotone.{AreCounts}
-use Rattle.sfm_matroid.specs.Counts.{count_below, count-same, eqb_apart, size-count}
-use Rattle.sfm_matroid.specs.Runs.{EndsBelow}
+use Rattle.sfm_matroid.specs.Counts.{count_below}
+use Rattle.sfm_matroid.specs.Counting.{count-same, eqb_apart, size-count}
+use Rattle.sfm_matroid.specs.Graphs.{EndsBelow}
 use Rattle.sfm_matroid.specs.Cuts.{touches, ends_but, IsWithinEnds}
 use Rattle.sfm_matroid.specs.Numbered.{end_lists, vertex_capacities}
-use Rattle.sfm_matroid.specs.Ore.{lists_slot, listed, slots_count, IsWithinSlots}
+use Rattle.sfm_matroid.specs.Slots.{lists_slot, listed, slots_count, IsWithinSlots}
 use Rattle.sfm_matroid.proofs.MatroidTests.{sum-level, sum-but}
 
 -- ---- the slots of a set, one by one

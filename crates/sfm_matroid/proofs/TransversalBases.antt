@@ -16,9 +16,8 @@ use Rattle.sfm_spec.proofs.Scaled.{times-assoc}
 use Rattle.sfm_assign.specs.Splits.{CanBeMet, IsMost}
 use Rattle.sfm_matroid.specs.Leasts.{IsLeastOf}
 use Rattle.sfm_matroid.specs.Matchings.{matching-matroid}
-use Rattle.sfm_matroid.specs.Ore.{IsWithinSlots}
-use Rattle.sfm_matroid.specs.Transversals.{transversal_rank, transversal-ranks}
-use Rattle.sfm_matroid.specs.TransversalLaws.{transversal_value, transversal_size}
+use Rattle.sfm_matroid.specs.Slots.{IsWithinSlots, transversal_rank, transversal_value, transversal_size}
+use Rattle.sfm_matroid.specs.Transversals.{transversal-ranks}
 use Rattle.sfm_matroid.proofs.Bases.{IsMostAt, base_counts, base_total, base_passes, passes_base, raised-places, raised-counts, met_nothing, least_capacity, given-counts, gives_room, room_gives}
 use Rattle.sfm_matroid.proofs.Matched.{slots_each}
 use Rattle.sfm_matroid.proofs.MatroidTests.{transversal_tests}

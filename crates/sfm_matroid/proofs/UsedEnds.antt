@@ -5,8 +5,8 @@ use Rattle.std.proofs.lemmas.Bool.{cases_eq, eq-eqb, eqb-true, and_parts, and_fr
 use Rattle.std.proofs.lemmas.Int.{ints}
 use Rattle.sfm_spec.specs.Kinds.{Edge}
 use Rattle.sfm_spec.proofs.Scaled.{times-mono}
-use Rattle.sfm_matroid.specs.Counts.{eqb_apart, count-into}
-use Rattle.sfm_matroid.specs.Runs.{edge_at, EndsBelow}
+use Rattle.sfm_matroid.specs.Counting.{eqb_apart, count-into}
+use Rattle.sfm_matroid.specs.Graphs.{edge_at, EndsBelow}
 use Rattle.sfm_matroid.specs.Cuts.{touches, ends_but, IsWithinEnds}
 use Rattle.sfm_matroid.specs.Ends.{edges_of}
 use Rattle.sfm_matroid.specs.Numbered.{IsEnd, IsTail}

@@ -5,11 +5,12 @@ use Rattle.std.proofs.lemmas.Bool.{false≢true, cases_eq, cases_Bool, cases_lt,
 use Rattle.sfm_spec.specs.Sets.{Has, IsWithin, size}
 use Rattle.sfm_spec.specs.Kinds.{Edge, Way, begin_of, end_of, IsForest}
 use Rattle.sfm_spec.proofs.Sets.{same_sets}
-use Rattle.sfm_matroid.specs.Members.{has_place, nothing, has_or_out, set_has, set_here, set_within}
-use Rattle.sfm_matroid.specs.Counts.{count-into, eqb_apart}
-use Rattle.sfm_matroid.specs.Matroids.{IsMatroid, AreRanks}
-use Rattle.sfm_matroid.specs.Runs.{edge_at, label, takes, taken, above_ends, ends_below, label-moved, label-kept, label-idle, label-twice, label-joins, label-blind, label_below, taken-places, taken_within, taken_under, taken-new, taken-roots}
-use Rattle.sfm_matroid.specs.Trails.{IsTrail, IsBlind, closed_from, with_edge, never_on, joined, forest_more}
+use Rattle.sfm_matroid.specs.Graphs.{edge_at, graphic_rank, label, taken, takes}
+use Rattle.sfm_matroid.specs.Members.{has_or_out, has_place, nothing, set_has, set_here, set_within}
+use Rattle.sfm_matroid.specs.Counting.{count-into, eqb_apart}
+use Rattle.sfm_matroid.specs.Matroids.{AreRanks, IsMatroid}
+use Rattle.sfm_matroid.specs.Runs.{above_ends, ends_below, label-blind, label-idle, label-joins, label-kept, label-moved, label-twice, label_below, taken-new, taken-places, taken-roots, taken_under, taken_within}
+use Rattle.sfm_matroid.specs.Trails.{IsBlind, IsTrail, closed_from, forest_more, joined, never_on, with_edge}
 use Rattle.sfm_matroid.specs.Growing.{IsGrowth, grown-rank}
 
 module _ (edges : List Edge) (s : List Bool) (ks : length s ≡ length edges) where
@@ -166,9 +167,5 @@ module _ (edges : List Edge) where
         (cases_Bool (takes edges s j));
   }
 
-  -- how many edges are taken of a set
-  abbrev pub graphic_rank : List Bool → ℕ
-  graphic_rank s = size (taken edges s (length edges))
-
-  pub graphic-ranks : AreRanks (length edges) (IsForest edges) graphic_rank
+  pub graphic-ranks : AreRanks (length edges) (IsForest edges) (graphic_rank edges)
   graphic-ranks s ks = grown-rank (length edges) (IsForest edges) forest-matroid s (taken edges s) (forest-growth s ks) ks

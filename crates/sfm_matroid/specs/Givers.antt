@@ -1,11 +1,9 @@
 -- The places that can give something to another at a base.
 use Rattle.std.specs.Prelude.{◌≡◌, ◌≢◌, ◌↔◌, ℕ, ◌<◌, Bool, List, length, slice_index_or, ℤ, pos, ◌≤ℤ◌, ◌<ℤ◌, Option, Some, None}
 use Rattle.sfm_spec.specs.Sets.{Has}
-use Rattle.sfm_spec.specs.Kinds.{Edge}
 use Rattle.sfm_spec.specs.Terms.{exchanged}
 use Rattle.sfm_assign.specs.Splits.{CanBeMet}
 use Rattle.sfm_assign.specs.declared.kept.Kept.{Kept}
-use Rattle.sfm_matroid.specs.Numbered.{IsTail, end_lists, vertex_capacities}
 
 -- a place other than u that has something, while u has less than c
 abbrev pub IsGiver : List ℤ → ℤ → ℕ → ℕ → Type 0
@@ -14,10 +12,6 @@ IsGiver x c u v = (v ≢ u) × (slice_index_or x u (pos 0) <ℤ c) × (pos 1 ≤
 -- of the members of a set exactly those are kept of which something is true
 abbrev pub AreKept : (ℕ → Type 0) → List Bool → List Bool → Type 0
 AreKept IsKept before after = (v : ℕ) → Has after v ↔ (Has before v × IsKept v)
-
--- where each of m vertices holds c, but a nothing, v can give one of what it has to u; told of tails alone
-abbrev pub CanLend : List Edge → ℕ → ℤ → List ℤ → ℕ → ℕ → ℕ → Type 0
-CanLend edges m c x u v a = IsTail edges a → CanBeMet (exchanged x u v (pos 1)) (end_lists edges) (vertex_capacities m c a)
 
 -- each member of a set of demands is another one than u, and asks for something
 pub record AreOthers (demands : List ℤ) (u : ℕ) (set : List Bool) : Type 0 where

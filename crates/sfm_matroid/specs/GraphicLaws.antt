@@ -1,30 +1,15 @@
--- The weighted rank of the forests of a graph, and its laws.
+-- The laws of the weighted rank of the forests of a graph.
 -- Textbook: Schrijver, Combinatorial Optimization, sections 39, 44 and 50.
 use Rattle.std.proofs.Common.{◌≡◌, ℕ, Bool, true, List, length, ℤ, pos, neg_ℤ, ◌*ℤ◌, ◌≤ℤ◌, Some}
 use Rattle.std.specs.List.{All}
 use Rattle.std.proofs.lemmas.List.{length-replicate}
-use Rattle.sfm_spec.specs.Sets.{whole_set, size}
-use Rattle.sfm_spec.specs.Terms.{SetFunction, times, IsBase, IsFamily, IsSubmodular, IsGreedy}
+use Rattle.sfm_spec.specs.Sets.{whole_set}
+use Rattle.sfm_spec.specs.Terms.{times, IsBase, IsFamily, IsSubmodular, IsGreedy}
 use Rattle.sfm_spec.specs.Kinds.{Edge, IsForest, IsRankFunction}
-use Rattle.sfm_matroid.specs.RankTerms.{rank_value, at_places, IsFirstBasis, rank-function, rank-family, rank-law, rank-bounded, rank-greedy, rank-starts, rank-starts_small}
-use Rattle.sfm_matroid.specs.Runs.{taken}
+use Rattle.sfm_matroid.specs.Graphs.{graphic_basis, graphic_rank, graphic_size, graphic_start, graphic_value, taken}
+use Rattle.sfm_matroid.specs.RankTerms.{IsFirstBasis, rank-bounded, rank-family, rank-function, rank-greedy, rank-law, rank-starts, rank-starts_small}
 use Rattle.sfm_matroid.specs.Growing.{first_basis}
-use Rattle.sfm_matroid.specs.Forests.{graphic_rank, forest-matroid, forest-growth, graphic-ranks}
-
-abbrev pub graphic_value : ℤ → List Edge → SetFunction
-graphic_value w edges = rank_value w (graphic_rank edges)
-
--- the edges that are taken one after another when all may be: a greatest forest
-abbrev pub graphic_basis : List Edge → List Bool
-graphic_basis edges = taken edges (whole_set (length edges)) (length edges)
-
--- the greatest value: that of all edges
-abbrev pub graphic_size : ℤ → List Edge → ℤ
-graphic_size w edges = w *ℤ pos (size (graphic_basis edges))
-
--- q·w at each edge of the greatest forest
-abbrev pub graphic_start : ℤ → ℤ → List Edge → List ℤ
-graphic_start q w edges = at_places (q *ℤ w) (graphic_basis edges)
+use Rattle.sfm_matroid.specs.Forests.{forest-growth, forest-matroid, graphic-ranks}
 
 basis-first : (edges : List Edge) → IsFirstBasis (length edges) (graphic_rank edges) (graphic_basis edges)
 basis-first edges = first_basis (length edges) (IsForest edges) (graphic_rank edges) (forest-matroid edges) (graphic-ranks edges) (taken edges (whole_set (length edges))) (forest-growth edges (whole_set (length edges)) (length-replicate (length edges) true))

@@ -8,8 +8,8 @@ use Rattle.sfm_spec.specs.Kinds.{IsRank}
 use Rattle.sfm_spec.proofs.Sets.{Has-whole}
 use Rattle.sfm_spec.proofs.Sizes.{size-empty}
 use Rattle.sfm_law.proofs.Greedy.{front, length-front, front-none}
-use Rattle.sfm_matroid.specs.Members.{has_place, nothing, has_or_out, size-in, has_set, set_has, set_here, set_within}
-use Rattle.sfm_matroid.specs.Matroids.{IsMatroid, AreRanks, rank-size, rank-same, rank-more}
+use Rattle.sfm_matroid.specs.Members.{has_or_out, has_place, has_set, nothing, set_has, set_here, set_within, size-in}
+use Rattle.sfm_matroid.specs.Matroids.{AreRanks, IsMatroid, rank-more, rank-same, rank-size}
 use Rattle.sfm_matroid.specs.RankTerms.{IsFirstBasis}
 
 -- the place j of s is taken where the set stays independent with it

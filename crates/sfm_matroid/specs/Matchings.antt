@@ -5,8 +5,9 @@ use Rattle.std.specs.List.{Contains}
 use Rattle.std.proofs.lemmas.Bool.{false≢true, cases_eq, cases_Bool, eq-eqb, eqb-true, and_parts, and_from}
 use Rattle.sfm_spec.specs.Sets.{Has, IsWithin, size}
 use Rattle.sfm_spec.specs.Kinds.{IsMatching, IsMatchable}
-use Rattle.sfm_matroid.specs.Members.{has_place, nothing, has_set, set_has}
-use Rattle.sfm_matroid.specs.Counts.{count_below, eqb_apart, count-same, count-without, count-into, chosen, chosen_is, some_or_none, size-count}
+use Rattle.sfm_matroid.specs.Counts.{count_below}
+use Rattle.sfm_matroid.specs.Members.{has_place, has_set, nothing, set_has}
+use Rattle.sfm_matroid.specs.Counting.{chosen, chosen_is, count-into, count-same, count-without, eqb_apart, size-count, some_or_none}
 use Rattle.sfm_matroid.specs.Matroids.{IsMatroid}
 
 -- the members of t have slots of their own entries by f, all distinct

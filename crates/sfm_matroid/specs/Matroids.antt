@@ -11,7 +11,7 @@ use Rattle.sfm_spec.specs.Kinds.{IsRank}
 use Rattle.sfm_spec.proofs.Scaled.{times-mono, times-add}
 use Rattle.sfm_spec.proofs.Sizes.{size-empty, size_within}
 use Rattle.sfm_law.proofs.LocalLaw.{on_all, local_law}
-use Rattle.sfm_matroid.specs.Members.{has_place, has_or_out, size-in, size-out, has_set, set_has, set_here, set_within, set_wider, out_has, out_gone}
+use Rattle.sfm_matroid.specs.Members.{has_or_out, has_place, has_set, out_gone, out_has, set_has, set_here, set_wider, set_within, size-in, size-out}
 
 -- the empty set is independent, parts of independent sets are, and of two the smaller can take a place of the larger
 pub record IsMatroid (k : ℕ) (IsIndependent : List Bool → Type 0) : Type 0 where

@@ -6,7 +6,7 @@ use Rattle.sfm_spec.specs.Kinds.{Edge}
 use Rattle.sfm_assign.specs.Splits.{IsAmount, CanBeMet, Demands}
 use Rattle.sfm_assign.specs.Lenders.{exchanged_in}
 use Rattle.sfm_assign.specs.declared.kept.Kept.{Kept}
-use Rattle.sfm_matroid.specs.Numbered.{IsTail, numbered, end_lists, vertex_capacities}
+use Rattle.sfm_matroid.specs.Numbered.{IsTail, end_lists, numbered, vertex_capacities}
 
 -- edges as demands that are split over their ends, where each of m vertices holds c, but a nothing
 abbrev pub end_demands : List Edge → ℕ → ℤ → List ℤ → ℕ → Demands

@@ -1,4 +1,4 @@
--- A number w times the rank of a matroid, as a term: its laws, and the base that a greatest independent set gives.
+-- A number w times the rank of a matroid is a term: its laws, and the base that a greatest independent set gives.
 -- Textbook: Schrijver, Combinatorial Optimization, sections 39, 40 and 44.
 use Rattle.std.proofs.Common.{◌≡◌, ℕ, zero, suc, ◌+◌, ◌<◌, Bool, true, false, cond, List, [], ◌∷◌, length, get_or, ℤ, pos, neg_ℤ, ◌+ℤ◌, ◌-ℤ◌, ◌*ℤ◌, ◌≤ℤ◌, if◌then◌else◌, Some, refl, sym, ap, ◌∙◌, arith}
 use Rattle.std.specs.List.{All}
@@ -6,20 +6,13 @@ use Rattle.std.proofs.lemmas.Int.{ints}
 use Rattle.std.proofs.lemmas.List.{length-replicate}
 use Rattle.std.proofs.Math.IntN.{*ℤ-zero}
 use Rattle.sfm_spec.specs.Sets.{whole_set}
-use Rattle.sfm_spec.specs.Terms.{SetFunction, times, first_places, IsBase, IsFamily, IsSubmodular, IsGreedy}
+use Rattle.sfm_spec.specs.Terms.{times, first_places, IsBase, IsFamily, IsSubmodular, IsGreedy}
 use Rattle.sfm_spec.specs.Kinds.{IsRankFunction}
 use Rattle.sfm_spec.proofs.Scaled.{times-mono, times-add}
 use Rattle.sfm_spec.proofs.Search.{within_whole}
 use Rattle.sfm_law.proofs.Greedy.{front, first_places-front, first_places-more, greedy_base, greedy_small}
-use Rattle.sfm_matroid.specs.Matroids.{IsMatroid, AreRanks, rank-mono, rank-submodular}
-
-abbrev pub rank_value : ℤ → (List Bool → ℕ) → SetFunction
-rank_value w rank s = Some (w *ℤ pos (rank s))
-
--- m at the places of a set, and 0 elsewhere
-abbrev pub at_places : ℤ → List Bool → List ℤ
-at_places m [] = []
-at_places m (b ∷ s) = (if b then m else pos 0) ∷ at_places m s
+use Rattle.sfm_matroid.specs.Ranks.{at_places, rank_value}
+use Rattle.sfm_matroid.specs.Matroids.{AreRanks, IsMatroid, rank-mono, rank-submodular}
 
 pub at_places-length : (m : ℤ) (s : List Bool) → length (at_places m s) ≡ length s
 at_places-length m [] = refl

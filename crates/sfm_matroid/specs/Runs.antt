@@ -3,32 +3,13 @@
 use Rattle.std.proofs.Common.{◌≡◌, ◌≢◌, ◌⊎◌, ℕ, zero, suc, ◌+◌, ◌<◌, ◌≤◌, Bool, true, false, not, ◌&&◌, List, [], ◌∷◌, length, get_or, set, nat_eq, if◌then◌else◌, refl, sym, ap, ◌∙◌, arith, inl, inr, ⊎_elim, length-set}
 use Rattle.std.proofs.lemmas.Bool.{false≢true, cases_eq, cases_Bool, cases_lt, eq-eqb, and_parts}
 use Rattle.std.proofs.lemmas.List.{length-replicate}
-use Rattle.sfm_spec.specs.Sets.{Has, IsWithin, empty_set, size}
-use Rattle.sfm_spec.specs.Kinds.{Edge, no_edge}
+use Rattle.sfm_spec.specs.Sets.{Has, IsWithin, size}
+use Rattle.sfm_spec.specs.Kinds.{Edge}
 use Rattle.sfm_spec.proofs.Sizes.{size-empty}
-use Rattle.sfm_matroid.specs.Members.{nothing, has_or_out, size-in, has_set, set_within}
-use Rattle.sfm_matroid.specs.Counts.{unit_of, count_below, eqb_apart, count-same, count-without}
-
-abbrev pub edge_at : List Edge → ℕ → Edge
-edge_at edges n = get_or edges n no_edge
-
--- what had the label b gets the label a
-abbrev pub renamed : ℕ → ℕ → ℕ → ℕ
-renamed b a l = if nat_eq l b then a else l
-
--- the labels after those edges of s that are numbered below n
-abbrev pub label : List Edge → List Bool → ℕ → ℕ → ℕ
-label edges s zero x = x
-label edges s (suc n) x = if get_or s n false then renamed (label edges s n (edge_at edges n).tail) (label edges s n (edge_at edges n).head) (label edges s n x) else label edges s n x
-
--- the edge n of s is taken: its ends are not joined before
-abbrev pub takes : List Edge → List Bool → ℕ → Bool
-takes edges s n = get_or s n false && not (nat_eq (label edges s n (edge_at edges n).tail) (label edges s n (edge_at edges n).head))
-
--- the edges of s below n that are taken
-abbrev pub taken : List Edge → List Bool → ℕ → List Bool
-taken edges s zero = empty_set (length edges)
-taken edges s (suc n) = if takes edges s n then set (taken edges s n) n true else taken edges s n
+use Rattle.sfm_matroid.specs.Counts.{count_below, unit_of}
+use Rattle.sfm_matroid.specs.Graphs.{EndsBelow, edge_at, label, renamed, taken, takes}
+use Rattle.sfm_matroid.specs.Members.{has_or_out, has_set, nothing, set_within, size-in}
+use Rattle.sfm_matroid.specs.Counting.{count-same, count-without, eqb_apart}
 
 -- g does not tell the ends of the edges of s below n apart
 abbrev pub Joins : List Edge → List Bool → ℕ → (ℕ → ℕ) → Type 0
@@ -114,10 +95,6 @@ module _ (edges : List Edge) (s : List Bool) where
         inside h (inr ne) r = ap g (label-kept n x h ne) ∙ r x
 
 -- ---- vertices
-
--- each end of each edge is one of m vertices
-abbrev pub EndsBelow : List Edge → ℕ → Type 0
-EndsBelow edges m = (e : ℕ) → e < length edges → ((edge_at edges e).tail < m) × ((edge_at edges e).head < m)
 
 -- more than each end of each edge
 abbrev pub above_ends : List Edge → ℕ

@@ -4,10 +4,10 @@ use Rattle.std.proofs.Common.{◌≡◌, ◌≢◌, ◌⊎◌, ℕ, zero, suc, �
 use Rattle.std.specs.List.{All}
 use Rattle.std.proofs.lemmas.Bool.{false≢true, cases_eq}
 use Rattle.std.proofs.lemmas.List.Elements.{All-head, All-tail}
-use Rattle.sfm_spec.specs.Sets.{Has, IsWithin, AreDistinct}
+use Rattle.sfm_spec.specs.Sets.{Has, AreDistinct}
 use Rattle.sfm_spec.specs.Kinds.{Edge, Way, begin_of, end_of, LeadsHome, IsClosedTrail, IsForest}
+use Rattle.sfm_matroid.specs.Graphs.{edge_at}
 use Rattle.sfm_matroid.specs.Members.{has_set, set_has, set_here}
-use Rattle.sfm_matroid.specs.Runs.{edge_at}
 
 -- no way takes the edge e
 abbrev pub Misses : ℕ → List Way → Type 0
@@ -158,7 +158,3 @@ module _ (edges : List Edge) (t : List Bool) (e : ℕ) where
         misses-join w.edge ways way more first.2 (λ eq. false≢true (sym out ∙ (let m : Has t w.edge = first.0 in rw (sym eq ∙ is) at m))) (off_trail edges t g blind home (end_of edges way) more w.edge second (λ eq. apart (sym here ∙ (sym (way-tail edges g w same) ∙ eq)))),
         joined g blind lt out home (end_of edges w) way ways more is (λ eq. apart (sym here ∙ (way-ends edges g w same ∙ eq))) first.3 second,
       )
-
-pub trail_within : (edges : List Edge) (s t : List Bool) → IsWithin s t → (home at : ℕ) (ways : List Way) → IsTrail edges s home at ways → IsTrail edges t home at ways
-trail_within edges s t within home at [] h = h
-trail_within edges s t within home at (way ∷ ways) h = (within way.edge h.0, h.1, h.2, trail_within edges s t within home (end_of edges way) ways h.3)

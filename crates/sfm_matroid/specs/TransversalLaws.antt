@@ -1,24 +1,13 @@
--- The weighted rank of the sets whose members have distinct slots of their own entries, and its laws.
+-- The laws of the weighted rank of the sets whose members have distinct slots of their own entries.
 -- Textbook: Schrijver, Combinatorial Optimization, sections 39 and 44.
 use Rattle.std.proofs.Common.{◌≡◌, ℕ, Bool, List, length, ℤ, pos, neg_ℤ, ◌*ℤ◌, ◌≤ℤ◌, Some}
 use Rattle.std.specs.List.{All}
-use Rattle.sfm_spec.specs.Sets.{size}
-use Rattle.sfm_spec.specs.Terms.{SetFunction, times, IsBase, IsFamily, IsSubmodular, IsGreedy}
+use Rattle.sfm_spec.specs.Terms.{times, IsBase, IsFamily, IsSubmodular, IsGreedy}
 use Rattle.sfm_spec.specs.Kinds.{IsMatchable, IsRankFunction}
-use Rattle.sfm_matroid.specs.RankTerms.{rank_value, at_places, rank-function, rank-family, rank-law, rank-bounded, rank-greedy, rank-starts, rank-starts_small}
+use Rattle.sfm_matroid.specs.Slots.{transversal_basis, transversal_rank, transversal_size, transversal_start, transversal_value}
+use Rattle.sfm_matroid.specs.RankTerms.{rank-bounded, rank-family, rank-function, rank-greedy, rank-law, rank-starts, rank-starts_small}
 use Rattle.sfm_matroid.specs.Matchings.{matching-matroid}
-use Rattle.sfm_matroid.specs.Transversals.{transversal_rank, transversal-ranks, transversal_basis, transversal-first}
-
-abbrev pub transversal_value : ℤ → List (List ℕ) → SetFunction
-transversal_value w entries = rank_value w (transversal_rank entries)
-
--- the greatest value: that of all elements
-abbrev pub transversal_size : ℤ → List (List ℕ) → ℤ
-transversal_size w entries = w *ℤ pos (size (transversal_basis entries))
-
--- q·w at each element of the greatest part with slots of their own
-abbrev pub transversal_start : ℤ → ℤ → List (List ℕ) → List ℤ
-transversal_start q w entries = at_places (q *ℤ w) (transversal_basis entries)
+use Rattle.sfm_matroid.specs.Transversals.{transversal-first, transversal-ranks}
 
 module _ (k : ℕ) (w : ℤ) (entries : List (List ℕ)) (same : length entries ≡ k) where
   pub transversal-function : IsRankFunction k w (IsMatchable entries) (transversal_value w entries)

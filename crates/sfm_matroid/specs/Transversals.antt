@@ -1,34 +1,22 @@
 -- Places that are taken one after another while their slots suffice: a greatest set with slots of its own.
 -- Textbook: Schrijver, Combinatorial Optimization, sections 22 (Hall's theorem), 39 and 40.
-use Rattle.std.proofs.Common.{◌≡◌, ℕ, zero, suc, ◌+◌, ◌<◌, ◌≤◌, Bool, true, false, not, ◌&&◌, ◌||◌, List, [], ◌∷◌, length, get_or, set, nat_lt, if◌then◌else◌, refl, sym, ap, ◌∙◌, arith, inl, inr, ⊎_elim, length-set}
+use Rattle.std.proofs.Common.{◌≡◌, ℕ, zero, suc, ◌<◌, ◌≤◌, Bool, true, false, not, ◌&&◌, List, [], ◌∷◌, length, get_or, set, if◌then◌else◌, refl, sym, ap, ◌∙◌, arith, inl, inr, ⊎_elim, length-set}
 use Rattle.std.specs.List.{Contains}
 use Rattle.std.proofs.lemmas.Bool.{false≢true, cases_lt, cases_Bool, and_parts, or_cases, or_left, or_right, ltb-true, lt-ltb}
 use Rattle.std.proofs.lemmas.List.{length-replicate}
-use Rattle.sfm_spec.specs.Sets.{empty_set, whole_set, intersection, size}
+use Rattle.sfm_spec.specs.Sets.{whole_set, intersection, size}
 use Rattle.sfm_spec.specs.Kinds.{IsMatchable}
 use Rattle.sfm_spec.proofs.Sets.{in_both, in_first, in_second, same_sets}
 use Rattle.sfm_spec.proofs.Sizes.{size_below_length}
 use Rattle.sfm_spec.proofs.Sums.{length-intersection}
+use Rattle.sfm_matroid.specs.Slots.{above_list, above_slots, have_slots, lack_slots, slots_count, some_set, suited, suits, transversal_basis, transversal_rank}
 use Rattle.sfm_matroid.specs.Matroids.{AreRanks}
 use Rattle.sfm_matroid.specs.RankTerms.{IsFirstBasis}
-use Rattle.sfm_matroid.specs.Growing.{IsGrowth, grown-rank, first_basis}
+use Rattle.sfm_matroid.specs.Growing.{IsGrowth, first_basis, grown-rank}
 use Rattle.sfm_matroid.specs.Matchings.{matching-matroid}
-use Rattle.sfm_matroid.specs.Ore.{slots_count, AreSlotsBelow, matched_slots, matchable_by_slots}
+use Rattle.sfm_matroid.specs.Ore.{AreSlotsBelow, matchable_by_slots, matched_slots}
 
 -- ---- a test of independence
-
--- some set of k places passes
-abbrev pub some_set : ℕ → (List Bool → Bool) → Bool
-some_set zero p = p []
-some_set (suc k) p = some_set k (λ s. p (true ∷ s)) || some_set k (λ s. p (false ∷ s))
-
--- the members of t that are in r have fewer slots than they are
-abbrev pub lack_slots : List (List ℕ) → ℕ → List Bool → List Bool → Bool
-lack_slots entries m t r = nat_lt (slots_count entries m (intersection r t)) (size (intersection r t))
-
--- no part of t has fewer slots than members
-abbrev pub have_slots : List (List ℕ) → ℕ → List Bool → Bool
-have_slots entries m t = not (some_set (length t) (lack_slots entries m t))
 
 some_from : (k : ℕ) (p : List Bool → Bool) (s : List Bool) → length s ≡ k → p s ≡ true → some_set k p ≡ true
 some_from zero p [] same h = h
@@ -67,15 +55,6 @@ module _ (k m : ℕ) (entries : List (List ℕ)) (below : AreSlotsBelow entries 
 
 -- ---- places taken one after another
 
--- more than each slot of each entry
-abbrev pub above_list : List ℕ → ℕ
-above_list [] = 0
-above_list (a ∷ slots) = suc (a + above_list slots)
-
-abbrev pub above_slots : List (List ℕ) → ℕ
-above_slots [] = 0
-above_slots (slots ∷ entries) = above_list slots + above_slots entries
-
 list_below : (slots : List ℕ) (v : ℕ) → Contains slots v → v < above_list slots
 list_below [] v (i, lt, is) = absurd (omega (arith, lt))
 list_below (a ∷ slots) v (zero, lt, is) = let e : a ≡ v = is in omega (arith, e)
@@ -85,15 +64,6 @@ pub slots_below : (entries : List (List ℕ)) → AreSlotsBelow entries (above_s
 slots_below [] e v (i, lt, is) = absurd (omega (arith, lt))
 slots_below (slots ∷ entries) zero v c = let r = list_below slots v c in omega (arith, r)
 slots_below (slots ∷ entries) (suc e) v c = let r = slots_below entries e v c in omega (arith, r)
-
--- the place n of s is taken to t: it has slots with it
-abbrev pub suits : List (List ℕ) → List Bool → List Bool → ℕ → Bool
-suits entries s t n = get_or s n false && have_slots entries (above_slots entries) (set t n true)
-
--- the places of s below n that are taken
-abbrev pub suited : List (List ℕ) → List Bool → ℕ → List Bool
-suited entries s zero = empty_set (length entries)
-suited entries s (suc n) = if suits entries s (suited entries s n) n then set (suited entries s n) n true else suited entries s n
 
 module _ (entries : List (List ℕ)) where
   suited-places : (s : List Bool) (n : ℕ) → length (suited entries s n) ≡ length entries
@@ -120,22 +90,14 @@ module _ (entries : List (List ℕ)) where
     second true b h e = e
     second false b h e = absurd (false≢true h)
 
-  -- how many places are taken of a set
-  abbrev pub transversal_rank : List Bool → ℕ
-  transversal_rank s = size (suited entries s (length entries))
-
-  pub transversal-ranks : AreRanks (length entries) (IsMatchable entries) transversal_rank
+  pub transversal-ranks : AreRanks (length entries) (IsMatchable entries) (transversal_rank entries)
   transversal-ranks s ks = grown-rank (length entries) (IsMatchable entries) (matching-matroid (length entries) entries) s (suited entries s) (suited-growth s) ks
 
-  -- the places that are taken one after another when all may be
-  abbrev pub transversal_basis : List Bool
-  transversal_basis = suited entries (whole_set (length entries)) (length entries)
+  pub transversal-first : IsFirstBasis (length entries) (transversal_rank entries) (transversal_basis entries)
+  transversal-first = first_basis (length entries) (IsMatchable entries) (transversal_rank entries) (matching-matroid (length entries) entries) transversal-ranks (suited entries (whole_set (length entries))) (suited-growth (whole_set (length entries)))
 
-  pub transversal-first : IsFirstBasis (length entries) transversal_rank transversal_basis
-  transversal-first = first_basis (length entries) (IsMatchable entries) transversal_rank (matching-matroid (length entries) entries) transversal-ranks (suited entries (whole_set (length entries))) (suited-growth (whole_set (length entries)))
-
-  pub length-transversal_basis : length transversal_basis ≡ length entries
+  pub length-transversal_basis : length (transversal_basis entries) ≡ length entries
   length-transversal_basis = suited-places (whole_set (length entries)) (length entries)
 
-  pub transversal-few : size transversal_basis ≤ length entries
-  transversal-few = let b = size_below_length transversal_basis in let l = length-transversal_basis in omega (arith, b, l)
+  pub transversal-few : size (transversal_basis entries) ≤ length entries
+  transversal-few = let b = size_below_length (transversal_basis entries) in let l = length-transversal_basis in omega (arith, b, l)

@@ -14,8 +14,8 @@ ghost use Rattle.sfm_matroid.specs.Ends.{edges_of};
 ghost use Rattle.sfm_matroid.specs.Cuts.{IsWithinEnds};
 ghost use Rattle.sfm_matroid.specs.Numbered.{numbered, end_lists, vertex_capacities};
 ghost use Rattle.sfm_matroid.specs.Notes.{graphic_fits};
-ghost use Rattle.sfm_matroid.specs.Forests.{graphic_rank};
-ghost use Rattle.sfm_matroid.specs.GraphicLaws.{graphic_value, graphic_size, graphic_start, graphic_basis, graphic-family, graphic-submodular, graphic-bounded, graphic-starts, graphic-starts_small};
+ghost use Rattle.sfm_matroid.specs.Graphs.{graphic_rank, graphic_value, graphic_size, graphic_start, graphic_basis};
+ghost use Rattle.sfm_matroid.specs.GraphicLaws.{graphic-family, graphic-submodular, graphic-bounded, graphic-starts, graphic-starts_small};
 
 use crate::ends::Ends;
 use crate::givers::{givers, keep_by_split};

@@ -4,7 +4,7 @@
 // vertices is needed, and k edges take k·k steps at most.
 ghost use Rattle.std.specs.Prelude.{◌≡◌, ◌<◌, true, length, map, slice_set, nat_eq, if◌then◌else◌, IfOk};
 ghost use Rattle.sfm_spec.specs.Sets.{whole_set};
-ghost use Rattle.sfm_matroid.specs.Runs.{renamed, taken};
+ghost use Rattle.sfm_matroid.specs.Graphs.{renamed, taken};
 ghost use Rattle.sfm_matroid.specs.Ends.{edges_of, both_renamed, labels_at};
 
 use sfm_base::{Memory, Set};

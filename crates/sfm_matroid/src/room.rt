@@ -6,7 +6,7 @@ ghost use Rattle.std.specs.Prelude.{◌≡◌, ℕ, ◌*◌, ◌<◌, ◌≤◌,
 ghost use Rattle.std.specs.List.{All};
 ghost use Rattle.sfm_assign.specs.Splits.{IsAmount, CanBeMet, IsMost};
 ghost use Rattle.sfm_matroid.specs.Ends.{edges_of};
-ghost use Rattle.sfm_matroid.specs.Runs.{EndsBelow, edge_at};
+ghost use Rattle.sfm_matroid.specs.Graphs.{EndsBelow, edge_at};
 ghost use Rattle.sfm_matroid.specs.Numbered.{end_lists, vertex_capacities};
 ghost use Rattle.sfm_matroid.specs.Leasts.{IsLeastOf, IsMostOf};
 

@@ -6,7 +6,7 @@ ghost use Rattle.std.specs.List.{All};
 ghost use Rattle.sfm_assign.specs.Splits.{IsAmount, CanBeMet};
 ghost use Rattle.sfm_assign.specs.Lenders.{exchanged_in};
 ghost use Rattle.sfm_matroid.specs.Ends.{edges_of};
-ghost use Rattle.sfm_matroid.specs.Runs.{EndsBelow};
+ghost use Rattle.sfm_matroid.specs.Graphs.{EndsBelow};
 ghost use Rattle.sfm_matroid.specs.Numbered.{IsTail, end_lists, vertex_capacities};
 ghost use Rattle.sfm_matroid.specs.Notes.{IsSplitAt, AreSplits, IsSlotSplit, IsShiftable, IsMoved};
 

@@ -6,7 +6,7 @@ ghost use Rattle.std.specs.List.{All};
 ghost use Rattle.sfm_assign.specs.Splits.{IsAmount};
 ghost use Rattle.sfm_matroid.specs.Ends.{edges_of};
 ghost use Rattle.sfm_matroid.specs.Cuts.{IsWithinEnds};
-ghost use Rattle.sfm_matroid.specs.Runs.{EndsBelow};
+ghost use Rattle.sfm_matroid.specs.Graphs.{EndsBelow};
 ghost use Rattle.sfm_matroid.specs.Numbered.{IsEnd, number, numbered, end_lists, vertex_capacities};
 
 use sfm_assign::{AssignEnd, Demand, assign};

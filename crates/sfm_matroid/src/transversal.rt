@@ -9,9 +9,9 @@ ghost use Rattle.sfm_spec.specs.Bounds.{IsAtMost, IsEntry, IsFactor, IsGiven, Ar
 ghost use Rattle.sfm_spec.specs.Terms.{SetFunction, IsBase, IsCapacity, IsFamily, IsSubmodular, IsGreedy, HasRoom, exchanged, times};
 ghost use Rattle.sfm_law.specs.Room.{IsRoom, IsReach, IsWithinRoom};
 ghost use Rattle.sfm_spec.specs.Kinds.{IsMatchable, IsRank, IsRankFunction};
-ghost use Rattle.sfm_matroid.specs.Transversals.{transversal_rank, transversal_basis};
+ghost use Rattle.sfm_matroid.specs.Slots.{transversal_rank, transversal_basis, transversal_value, transversal_size, transversal_start};
 ghost use Rattle.sfm_matroid.specs.Notes.{transversal_fits};
-ghost use Rattle.sfm_matroid.specs.TransversalLaws.{transversal_value, transversal_size, transversal_start, transversal-family, transversal-submodular, transversal-bounded, transversal-starts, transversal-starts_small};
+ghost use Rattle.sfm_matroid.specs.TransversalLaws.{transversal-family, transversal-submodular, transversal-bounded, transversal-starts, transversal-starts_small};
 
 use crate::entries::Entries;
 use crate::givers::{givers, keep_lenders};

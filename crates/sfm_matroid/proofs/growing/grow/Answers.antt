@@ -1,9 +1,9 @@
 use Rattle.std.proofs.Common.{◌≡◌, ◌∙◌, ◌+◌, ◌<◌, length, arith, sym, ap}
 use Rattle.std.proofs.lemmas.List.{length-replicate}
 use Rattle.sfm_spec.specs.Sets.{empty_set}
-use Rattle.sfm_matroid.specs.Ends.{edges_of, labels_of}
+use Rattle.sfm_matroid.specs.Ends.{edges_of}
+use Rattle.sfm_matroid.proofs.Labels.{labels_of, length-edges, labels-first, labels-next, labels-same, refilled, taken-next, taken-same}
 use Rattle.sfm_matroid.specs.Runs.{taken-places}
-use Rattle.sfm_matroid.proofs.Labels.{length-edges, labels-first, labels-next, labels-same, refilled, taken-next, taken-same}
 use Rattle.sfm_matroid.proofs.growing.grow.Goals as goal
 use Rattle.sfm_matroid.proofs.growing.grow.Goals.{then-contains, else-contains}
 

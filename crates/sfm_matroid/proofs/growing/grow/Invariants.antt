@@ -1,6 +1,7 @@
 use Rattle.std.proofs.Common.{◌≡◌, length}
-use Rattle.sfm_matroid.specs.Runs.{taken}
-use Rattle.sfm_matroid.specs.Ends.{edges_of, labels_of}
+use Rattle.sfm_matroid.specs.Graphs.{taken}
+use Rattle.sfm_matroid.specs.Ends.{edges_of}
+use Rattle.sfm_matroid.proofs.Labels.{labels_of}
 use Rattle.sfm_matroid.proofs.growing.grow.Given as goal
 
 abbrev pub invariant-loop-e : goal.invariant-loop-e

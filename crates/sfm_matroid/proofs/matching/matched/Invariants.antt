@@ -1,5 +1,5 @@
 use Rattle.std.proofs.Common.{◌≡◌, length}
-use Rattle.sfm_matroid.specs.Transversals.{suited}
+use Rattle.sfm_matroid.specs.Slots.{suited}
 use Rattle.sfm_matroid.proofs.matching.matched.Given as goal
 
 abbrev pub invariant-loop-e : goal.invariant-loop-e

@@ -5,7 +5,7 @@ use mir.Syntax.{w128}
 use Rattle.sfm_spec.specs.Kinds.{Edge}
 use Rattle.sfm_assign.specs.Splits.{IsAmount}
 use Rattle.sfm_matroid.specs.Ends.{edges_of}
-use Rattle.sfm_matroid.specs.Runs.{edge_at}
+use Rattle.sfm_matroid.specs.Graphs.{edge_at}
 use Rattle.sfm_matroid.specs.Leasts.{IsMostOf}
 use Rattle.sfm_matroid.proofs.Fits.{amount_fits, left_fits, most_left_fits, without_amounts}
 use Rattle.sfm_matroid.proofs.LeastSteps.{least_of}

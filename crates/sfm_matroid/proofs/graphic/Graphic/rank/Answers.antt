@@ -3,8 +3,8 @@ use Rattle.std.proofs.lemmas.Int.{ints}
 use mir.Syntax.{w64, w128}
 use Rattle.sfm_spec.specs.Sets.{size}
 use Rattle.sfm_matroid.specs.Ends.{edges_of}
-use Rattle.sfm_matroid.specs.Runs.{taken}
-use Rattle.sfm_matroid.specs.Forests.{graphic_rank, graphic-ranks}
+use Rattle.sfm_matroid.specs.Graphs.{taken, graphic_rank}
+use Rattle.sfm_matroid.specs.Forests.{graphic-ranks}
 use Rattle.sfm_matroid.proofs.Labels.{length-edges}
 use Rattle.sfm_matroid.proofs.graphic.Graphic.rank.Goals as goal
 

@@ -9,7 +9,7 @@ use Rattle.sfm_matroid.proofs.GraphicBases.{as_many}
 use Rattle.sfm_matroid.proofs.GraphicRooms.{reach_ends, kept_tail, tail_in}
 use Rattle.sfm_matroid.specs.Givers.{AreOthers}
 use Rattle.sfm_matroid.specs.Numbered.{numbered}
-use Rattle.sfm_matroid.specs.Runs.{edge_at}
+use Rattle.sfm_matroid.specs.Graphs.{edge_at}
 use Rattle.sfm_matroid.proofs.graphic.Graphic.reach_of.Goals as goal
 
 pub index-requires-2 : goal.index-requires-2

@@ -3,7 +3,7 @@ use Rattle.std.proofs.lemmas.Int.{ints}
 use Rattle.std.proofs.lemmas.List.{length-replicate}
 use mir.Syntax.{w64, w128}
 use Rattle.sfm_spec.specs.Sets.{whole_set, size}
-use Rattle.sfm_matroid.specs.GraphicLaws.{graphic_basis}
+use Rattle.sfm_matroid.specs.Graphs.{graphic_basis}
 use Rattle.sfm_matroid.proofs.Kept.{taken-few}
 use Rattle.sfm_matroid.proofs.graphic.Graphic.size_of.Goals as goal
 

@@ -1,5 +1,5 @@
 use Rattle.std.proofs.Common.{◌≡◌, ℕ, ◌<◌, get_or, pos}
-use Rattle.sfm_matroid.specs.GraphicLaws.{graphic_start}
+use Rattle.sfm_matroid.specs.Graphs.{graphic_start}
 use Rattle.sfm_matroid.proofs.graphic.Graphic.write_start.Given as goal
 
 abbrev pub invariant-loop-j : goal.invariant-loop-j

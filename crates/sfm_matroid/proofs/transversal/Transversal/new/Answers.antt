@@ -1,7 +1,7 @@
 use Rattle.std.proofs.Common.{◌∙◌, length, ap, sym, arith}
 use Rattle.sfm_base.proofs.Elements.{placed_few}
 use Rattle.sfm_spec.specs.Sets.{whole_set}
-use Rattle.sfm_matroid.specs.Transversals.{suited}
+use Rattle.sfm_matroid.specs.Slots.{suited}
 use Rattle.sfm_matroid.proofs.transversal.Transversal.new.Goals as goal
 
 pub invariant_of-result-clause-few : goal.invariant_of-result-clause-few

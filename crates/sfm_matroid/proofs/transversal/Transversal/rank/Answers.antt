@@ -2,7 +2,8 @@ use Rattle.std.proofs.Common.{◌≡◌, ◌∙◌, ap, pos, sym, arith, rules, 
 use Rattle.std.proofs.lemmas.Int.{ints}
 use mir.Syntax.{w64, w128}
 use Rattle.sfm_spec.specs.Sets.{size}
-use Rattle.sfm_matroid.specs.Transversals.{transversal_rank, transversal-ranks}
+use Rattle.sfm_matroid.specs.Slots.{transversal_rank}
+use Rattle.sfm_matroid.specs.Transversals.{transversal-ranks}
 use Rattle.sfm_matroid.proofs.transversal.Transversal.rank.Goals as goal
 
 pub returns-clause-greatest : goal.returns-clause-greatest

@@ -2,7 +2,8 @@ use Rattle.std.proofs.Common.{◌≡◌, ◌∙◌, ap, pos, arith, rules, to_z,
 use Rattle.std.proofs.lemmas.Int.{ints}
 use mir.Syntax.{w64, w128}
 use Rattle.sfm_spec.specs.Sets.{size}
-use Rattle.sfm_matroid.specs.Transversals.{transversal_basis, transversal-few}
+use Rattle.sfm_matroid.specs.Slots.{transversal_basis}
+use Rattle.sfm_matroid.specs.Transversals.{transversal-few}
 use Rattle.sfm_matroid.proofs.transversal.Transversal.size_of.Goals as goal
 
 pub ranked-requires-clause-high : goal.ranked-requires-clause-high

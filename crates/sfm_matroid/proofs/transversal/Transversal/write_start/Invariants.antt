@@ -1,5 +1,5 @@
 use Rattle.std.proofs.Common.{◌≡◌, ℕ, ◌<◌, get_or, pos}
-use Rattle.sfm_matroid.specs.TransversalLaws.{transversal_start}
+use Rattle.sfm_matroid.specs.Slots.{transversal_start}
 use Rattle.sfm_matroid.proofs.transversal.Transversal.write_start.Given as goal
 
 abbrev pub invariant-loop-j : goal.invariant-loop-j
