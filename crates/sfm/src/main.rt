@@ -9,32 +9,51 @@ pub mod status;
 #[cfg(test)]
 mod tests;
 
-use run::run;
+use run::{complain, run};
 use sfm_io::{FileShelf, StreamSink};
+use status::Status;
+use std::alloc::AllocError;
+use std::env;
+use std::io::ErrorKind;
 use std::process::ExitCode;
 use std::rt::Env;
-use std::{env, io};
 
-/// The words after the program's own name. Where they can't be read the program is called with none, which is no command.
-fn words_of(rt: &(impl Env + AllocGlobal)) -> io::Result<Vec<String>> {
+/// The words after the program's own name. Where one can't be read the program is called with none, which is no command.
+fn words_of(rt: &(impl Env + AllocGlobal)) -> Result<Vec<String>, AllocError> {
     let mut words = Vec::new(rt.alloc());
-    for word in env::args(rt)?.skip(1) {
-        words.push(word)?;
+    match env::args(rt) {
+        Ok(args) => {
+            for word in args.skip(1) {
+                words.push(word)?;
+            }
+            Ok(words)
+        }
+        Err(error) if error.kind() == ErrorKind::OutOfMemory => Err(AllocError),
+        Err(_) => Ok(words),
     }
-    Ok(words)
 }
 
-fn main(rt: HostRuntime) -> ExitCode {
+/// One call over the files and the two streams, or Err where there is no memory for the words.
+fn call(rt: &HostRuntime) -> Result<Status, AllocError> {
     let alloc = rt.alloc();
-    let mut shelf = FileShelf::new(&rt);
-    let mut out = StreamSink::new(rt.stdout());
-    let mut err = StreamSink::new(rt.stderr());
-    let words = words_of(&rt).unwrap_or(Vec::new(alloc));
+    let words = words_of(rt)?;
     let words = words
         .iter()
         .map(|word| word.as_str())
-        .collect::<Vec<&str>>(alloc)
-        .unwrap_or(Vec::new(alloc));
-    let status = run(alloc, words.as_slice(), &mut shelf, &mut out, &mut err);
+        .collect::<Vec<&str>>(alloc)?;
+    let mut shelf = FileShelf::new(rt);
+    let mut out = StreamSink::new(rt.stdout());
+    let mut err = StreamSink::new(rt.stderr());
+    Ok(run(alloc, words.as_slice(), &mut shelf, &mut out, &mut err))
+}
+
+fn main(rt: HostRuntime) -> ExitCode {
+    let status = match call(&rt) {
+        Ok(status) => status,
+        Err(_) => {
+            complain(&mut StreamSink::new(rt.stderr()), Status::Memory);
+            Status::Memory
+        }
+    };
     ExitCode::from(status.code())
 }

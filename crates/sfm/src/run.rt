@@ -159,7 +159,7 @@ fn say<E: Sink>(err: &mut E, line: &[u8])
 }
 
 /// Says on the second sink why a call failed.
-fn complain<E: Sink>(err: &mut E, status: Status)
+pub fn complain<E: Sink>(err: &mut E, status: Status)
     ensures { Complains (E.state err.old) (E.state err.new) status }
 {
     match status {
