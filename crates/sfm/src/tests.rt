@@ -4,5 +4,7 @@ mod checks;
 mod demos;
 mod engine;
 mod failures;
+mod hostile;
 mod refusals;
+mod shelves;
 mod solutions;

@@ -1,15 +1,17 @@
-// The engine on small instances, against every set, and how many walks it takes. Every set is tried here, and nowhere else; a set is a number whose
-// bit e says whether it has the place e.
-ghost use Rattle.std.specs.Prelude.{pos, IfOk};
+// The engine on small instances, against every set, and how many walks it takes. Every set is tried here, and nowhere else;
+// a set is a number whose bit e says whether it has the place e.
+ghost use Rattle.std.specs.Prelude.{pos, length, map, ◌^◌, ◌≤ℤ◌, IfOk, IfSome, IsTrue};
 ghost use Rattle.std.specs.List.{All};
 ghost use Rattle.sfm_spec.specs.Bounds.{IsEntry};
 ghost use Rattle.sfm_spec.specs.Families.{meanings, AreBases};
-ghost use Rattle.sfm_kind.specs.Kinds.{kind_places, kind_value};
+ghost use Rattle.sfm_kind.specs.Kinds.{kind_places, kind_size, kind_value};
+ghost use Rattle.sfm_cert.specs.Form.{AreFormedRows};
 
 use sfm_base::{Memory, Rows, Set, Steps};
+use sfm_cert::read_answer;
 use sfm_extreme::{Block, Certified, blocks, certify};
-use sfm_kind::Instance;
-use sfm_law::start_rows;
+use sfm_kind::{Instance, Kind};
+use sfm_law::{Term, start_rows};
 use sfm_text::read_instance;
 use sfm_walk::{minimise, minimise_counted};
 use std::alloc::Global;
@@ -284,5 +286,55 @@ fn walks_are_counted(rt: HostRuntime) -> Result<(), Fail> {
     try_walks(&rt, alloc, weight, 0, &[-3, 2])?;
     try_walks(&rt, alloc, need, 1, &[2, -2])?;
     try_walks(&rt, alloc, cut, 1, &[3, -3])?;
+    Ok(())
+}
+
+/// Whether each row is a base of its term.
+fn are_bases(alloc: Global, terms: &[Kind], rows: &Rows) -> Result<bool, Memory>
+    requires bounded { All (λ term. kind_size term ≤ℤ pos (10 ^ 18)) terms.now }
+    requires rows { AreFormedRows (map (λ term. length (kind_places term)) terms.now) rows.now }
+    ensures { IfOk result (λ r. IsTrue r → AreBases (pos 1) (meanings kind_places kind_value terms.now) rows.now) }
+{
+    for (i, term) in terms.iter().enumerate() {
+        if !term.is_base(alloc, 1, rows.row(i))? {
+            return Ok(false);
+        }
+    }
+    Ok(true)
+}
+
+/// The rows at 0/1 of an answer text, where they are bases of the terms.
+fn bases_in(alloc: Global, instance: &Instance, text: &[u8]) -> Result<Option<Rows>, Memory>
+    ensures bases { IfOk result (λ r. IfSome r (λ rows. AreBases (pos 1) (meanings kind_places kind_value instance.now.terms) rows)) }
+    ensures small { IfOk result (λ r. IfSome r (λ rows. All (λ row. All IsEntry row) rows)) }
+{
+    let Ok(solved) = read_answer(alloc, instance, text) else {
+        return Ok(None);
+    };
+    if !are_bases(alloc, instance.terms(), &solved.bases)? {
+        return Ok(None);
+    }
+    Ok(Some(solved.bases))
+}
+
+#[test]
+fn zero_as_the_base_of_a_cut_is_left_by_its_one_walk(rt: HostRuntime) -> Result<(), Fail> {
+    let alloc = rt.alloc();
+    let instance = read_instance(
+        alloc,
+        b"sfm 1\nground a b\nweight a:-3 b:2\ncut 4 a b\nend\n",
+    )?;
+    let text = b"answer 1\nminimum 0\nleast\ngreatest\nat 0/1\nbase 1 -3 2\nbase 2 0 0\nend\n";
+    let Some(bases) = bases_in(alloc, &instance, text)? else {
+        assert!(rt; false);
+        return Ok(());
+    };
+    match certify(alloc, instance.terms(), instance.names_len(), 0, 1, &bases)? {
+        Certified::Proved(_) => assert!(rt; false),
+        Certified::NotOptimal { walk } => {
+            assert_eq!(rt; walk.first, 0);
+            assert_eq!(rt; walk.steps.as_slice(), [(1, 1)].as_slice());
+        }
+    }
     Ok(())
 }

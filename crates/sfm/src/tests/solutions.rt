@@ -69,7 +69,7 @@ fn solves_weights_and_cuts(rt: HostRuntime) -> Result<(), Fail> {
         ),
         (
             b"sfm 1\nground a b\nweight a:-3 b:2\ncut 4 a b\nend\n",
-            b"answer 1\nminimum -1\nleast a b\ngreatest a b\nslope -1/2 a b\nat 0/1\nbase 1 -3 2\nbase 2 *\nat -1/2\nbase 1 -6 4\nbase 2 *\nend\n",
+            b"answer 1\nminimum -1\nleast a b\ngreatest a b\nslope -1/2 a b\nat 0/1\nbase 1 -3 2\nbase 2 *\nat -1/2\nbase 1 -6 4\nbase 2 5 -5\nend\n",
         ),
         (
             b"sfm 1\nground\nend\n",
@@ -104,15 +104,15 @@ fn solves_needs_covers_and_tables(rt: HostRuntime) -> Result<(), Fail> {
     let rows: [(&[u8], &[u8]); 4] = [
         (
             b"sfm 1\nground a b\nneed a b\nend\n",
-            b"answer 1\nminimum 0\nleast\ngreatest a b\nblock 1 b :\nblock 2 a : 1\nslope 0/1 a b\nat 0/1\nbase 1 0 0\nat 0/1\nbase 1 *\nend\n",
+            b"answer 1\nminimum 0\nleast\ngreatest a b\nblock 1 b :\nblock 2 a : 1\nslope 0/1 a b\nat 0/1\nbase 1 0 0\nat 0/1\nbase 1 0 0\nend\n",
         ),
         (
             b"sfm 1\nground a b c\nweight a:-2 b:-2 c:-1\ncover 3 a b c\nend\n",
-            b"answer 1\nminimum -2\nleast a b c\ngreatest a b c\nslope -2/3 a b c\nat 0/1\nbase 1 -2 -2 -1\nbase 2 *\nat -2/3\nbase 1 -6 -6 -3\nbase 2 *\nend\n",
+            b"answer 1\nminimum -2\nleast a b c\ngreatest a b c\nslope -2/3 a b c\nat 0/1\nbase 1 -2 -2 -1\nbase 2 *\nat -2/3\nbase 1 -6 -6 -3\nbase 2 4 4 1\nend\n",
         ),
         (
             b"sfm 1\nground a b\nweight a:-1000000000000 b:1000000000000\nweight a:-1000000000000 b:1000000000000\nweight b:1000000000000\nneed a b\nend\n",
-            b"answer 1\nminimum 0\nleast\ngreatest\nslope 500000000000/1 a b\nat 0/1\nbase 1 -1000000000000 1000000000000\nbase 2 -1000000000000 1000000000000\nbase 3 1000000000000\nbase 4 *\nat 500000000000/1\nbase 1 -1000000000000 1000000000000\nbase 2 -1000000000000 1000000000000\nbase 3 1000000000000\nbase 4 *\nend\n",
+            b"answer 1\nminimum 0\nleast\ngreatest\nslope 500000000000/1 a b\nat 0/1\nbase 1 -1000000000000 1000000000000\nbase 2 -1000000000000 1000000000000\nbase 3 1000000000000\nbase 4 *\nat 500000000000/1\nbase 1 -1000000000000 1000000000000\nbase 2 -1000000000000 1000000000000\nbase 3 1000000000000\nbase 4 2500000000000 -2500000000000\nend\n",
         ),
         (
             b"sfm 1\nground a b\nweight a:-1 b:-1\ntable 0 2 2 3 : a b\nend\n",

@@ -1,0 +1,549 @@
+// Hostile use, in tables: calls of the outside that fail, one after another; answers that were tampered with; instances
+// that are broken; texts that end too soon. Each row is what the definitions ask for, worked by hand.
+use crate::run::run;
+use crate::tests::cases::{solve, try_case};
+use crate::tests::shelves::WatchedShelf;
+use sfm_check::{Verdict, Wrong, judge};
+use sfm_io::{MemoryShelf, MemorySink};
+use sfm_text::{TextEnd, read_instance};
+use std::alloc::Global;
+use std::process::Abort;
+use std::test::Fail;
+
+/// An instance and a right file for it.
+#[derive(Clone, Copy)]
+struct Worked<'a> {
+    text: &'a [u8],
+    answer: &'a [u8],
+}
+
+const CUT: Worked = Worked {
+    text: b"sfm 1\nground a b\nweight a:-3 b:2\ncut 4 a b\nend\n",
+    answer: b"answer 1\nminimum -1\nleast a b\ngreatest a b\nslope -1/2 a b\nat 0/1\nbase 1 -3 2\nbase 2 3 -3\nat -1/2\nbase 1 -6 4\nbase 2 5 -5\nend\n",
+};
+
+const NEED: Worked = Worked {
+    text: b"sfm 1\nground a b\nneed a b\nend\n",
+    answer: b"answer 1\nminimum 0\nleast\ngreatest a b\nblock 1 b :\nblock 2 a : 1\nslope 0/1 a b\nat 0/1\nbase 1 0 0\nat 0/1\nbase 1 0 0\nend\n",
+};
+
+const THREE: Worked = Worked {
+    text: b"sfm 1\nground a b c\nweight a:1 b:1 c:-2\nend\n",
+    answer: b"answer 1\nminimum -2\nleast c\ngreatest c\nslope -2/1 c\nslope 1/1 a b c\nat 0/1\nbase 1 1 1 -2\nat -2/1\nbase 1 1 1 -2\nat 1/1\nbase 1 1 1 -2\nend\n",
+};
+
+/// What fails in a call of the program.
+#[derive(Clone, Copy, PartialEq, Eq)]
+enum Failing {
+    /// A call of the shelf.
+    Read,
+    /// A call of the sink.
+    Write,
+    /// The sink, once it has taken so many bytes.
+    Room,
+    /// A call of the shelf, and the first call of the sink that is to say so.
+    ReadAndSay,
+}
+
+/// Calls that fail, one in each run: from the first number to the last.
+#[derive(Clone, Copy)]
+struct Faults<'a> {
+    words: &'a [&'a str],
+    failing: Failing,
+    first: usize,
+    last: usize,
+    code: u8,
+}
+
+const SOLVE: &[&str] = &["solve", "first"];
+
+const CHECK: &[&str] = &["check", "first", "second"];
+
+/// How many of the due bytes are written where the call of that number fails.
+fn written_before(failing: Failing, number: usize, code: u8) -> usize {
+    match failing {
+        Failing::Write => number.saturating_sub(1).saturating_mul(10),
+        Failing::Room => number,
+        Failing::Read | Failing::ReadAndSay => if code == 0 { 4096 } else { 0 },
+    }
+}
+
+/// What is said where a call ends with that code.
+fn line_of(failing: Failing, code: u8) -> &'static [u8] {
+    match (failing, code) {
+        (Failing::ReadAndSay, _) => b"",
+        (_, 3) => b"sfm: read failed\n",
+        (_, 4) => b"sfm: write failed\n",
+        _ => b"",
+    }
+}
+
+/// One run, in pieces of 10 bytes, in which the call of that number fails; `due` is written where none does.
+fn try_fault(
+    rt: &impl Abort,
+    alloc: Global,
+    row: &Faults,
+    number: usize,
+    due: &[u8],
+) -> Result<(), Fail> {
+    let call = [number];
+    let reads: &[usize] = match row.failing {
+        Failing::Read | Failing::ReadAndSay => &call,
+        _ => &[],
+    };
+    let writes: &[usize] = if row.failing == Failing::Write {
+        &call
+    } else {
+        &[]
+    };
+    let says: &[usize] = if row.failing == Failing::ReadAndSay {
+        &[1]
+    } else {
+        &[]
+    };
+    let room = if row.failing == Failing::Room {
+        number
+    } else {
+        4096
+    };
+    let mut shelf = MemoryShelf::new(alloc, 10, reads)?;
+    shelf.add("first", CUT.text)?;
+    shelf.add("second", CUT.answer)?;
+    let mut out = MemorySink::new(alloc, room, 10, writes)?;
+    let mut err = MemorySink::new(alloc, 64, 64, says)?;
+    let status = run(alloc, row.words, &mut shelf, &mut out, &mut err);
+    let written = written_before(row.failing, number, row.code).min(due.len());
+    assert_eq!(rt; status.code(), row.code, "call {number}");
+    assert_eq!(rt; out.taken(), &due[..written], "call {number}");
+    assert_eq!(rt;
+        err.taken(),
+        line_of(row.failing, row.code),
+        "call {number}"
+    );
+    Ok(())
+}
+
+/// What a run writes that nothing fails: it reads 1, 2 and 3 bytes in turn, and writes one byte at a time.
+fn due_of(rt: &impl Abort, alloc: Global, words: &[&str]) -> Result<Vec<u8>, Fail> {
+    let mut shelf = WatchedShelf::new(alloc, CUT.text, CUT.answer)?;
+    let mut out = MemorySink::new(alloc, 4096, 1, &[])?;
+    let mut err = MemorySink::new(alloc, 64, 64, &[])?;
+    let status = run(alloc, words, &mut shelf, &mut out, &mut err);
+    assert_eq!(rt; status.code(), 0);
+    Ok(Vec::from_slice(alloc, out.taken())?)
+}
+
+#[test]
+fn calls_that_fail(rt: HostRuntime) -> Result<(), Fail> {
+    let alloc = rt.alloc();
+    let rows = [
+        Faults {
+            words: SOLVE,
+            failing: Failing::Read,
+            first: 1,
+            last: 7,
+            code: 3,
+        },
+        Faults {
+            words: SOLVE,
+            failing: Failing::Read,
+            first: 8,
+            last: 8,
+            code: 0,
+        },
+        Faults {
+            words: CHECK,
+            failing: Failing::Read,
+            first: 1,
+            last: 22,
+            code: 3,
+        },
+        Faults {
+            words: CHECK,
+            failing: Failing::Read,
+            first: 23,
+            last: 23,
+            code: 0,
+        },
+        Faults {
+            words: SOLVE,
+            failing: Failing::Write,
+            first: 1,
+            last: 13,
+            code: 4,
+        },
+        Faults {
+            words: SOLVE,
+            failing: Failing::Room,
+            first: 20,
+            last: 20,
+            code: 4,
+        },
+        Faults {
+            words: CHECK,
+            failing: Failing::Write,
+            first: 1,
+            last: 1,
+            code: 4,
+        },
+        Faults {
+            words: SOLVE,
+            failing: Failing::ReadAndSay,
+            first: 1,
+            last: 1,
+            code: 3,
+        },
+    ];
+    for row in &rows {
+        let due = due_of(&rt, alloc, row.words)?;
+        for number in row.first..row.last + 1 {
+            try_fault(&rt, alloc, row, number, due.as_slice())?;
+        }
+    }
+    Ok(())
+}
+
+/// A right file with another text in place of the line of that number, or that text alone where the number is 0; and the
+/// verdict.
+#[derive(Clone, Copy)]
+struct Change<'a> {
+    of: &'a Worked<'a>,
+    line: usize,
+    text: &'a [u8],
+    verdict: Verdict,
+}
+
+/// The file that a change makes.
+fn changed(alloc: Global, change: &Change) -> Result<Vec<u8>, Fail> {
+    if change.line == 0 {
+        return Ok(Vec::from_slice(alloc, change.text)?);
+    }
+    let mut file = Vec::new(alloc);
+    let lines = change.of.answer.split(|c| *c == b'\n');
+    for (i, line) in lines.enumerate() {
+        if i > 0 {
+            file.push(b'\n')?;
+        }
+        let text = if i == change.line.wrapping_sub(1) {
+            change.text
+        } else {
+            line
+        };
+        file.extend_from_slice(text)?;
+    }
+    Ok(file)
+}
+
+const fn invalid(line: usize, reason: Wrong) -> Verdict {
+    Verdict::Invalid { line, reason }
+}
+
+#[test]
+fn answers_that_were_tampered_with(rt: HostRuntime) -> Result<(), Fail> {
+    let alloc = rt.alloc();
+    let rows = [
+        Change {
+            of: &CUT,
+            line: 8,
+            text: b"base 2 1000000000000000000000000000000 -1000000000000000000000000000000",
+            verdict: invalid(8, Wrong::Base),
+        },
+        Change {
+            of: &CUT,
+            line: 8,
+            text: b"base 2 1000000000000000000000000000001 -1000000000000000000000000000001",
+            verdict: invalid(8, Wrong::Grammar),
+        },
+        Change {
+            of: &CUT,
+            line: 8,
+            text: b"base 2 -1 1",
+            verdict: invalid(8, Wrong::Base),
+        },
+        Change {
+            of: &CUT,
+            line: 11,
+            text: b"base 2 9 -9",
+            verdict: invalid(11, Wrong::Base),
+        },
+        Change {
+            of: &CUT,
+            line: 11,
+            text: b"base 2 6 -6",
+            verdict: invalid(9, Wrong::Unproved),
+        },
+        Change {
+            of: &CUT,
+            line: 2,
+            text: b"minimum -1000000000000000000000000000000",
+            verdict: invalid(2, Wrong::Answer),
+        },
+        Change {
+            of: &CUT,
+            line: 3,
+            text: b"least b a",
+            verdict: invalid(3, Wrong::Grammar),
+        },
+        Change {
+            of: &CUT,
+            line: 3,
+            text: b"least a a",
+            verdict: invalid(3, Wrong::Grammar),
+        },
+        Change {
+            of: &CUT,
+            line: 3,
+            text: b"least z",
+            verdict: invalid(3, Wrong::Grammar),
+        },
+        Change {
+            of: &CUT,
+            line: 5,
+            text: b"slope -1/1000001 a b",
+            verdict: invalid(5, Wrong::Grammar),
+        },
+        Change {
+            of: &CUT,
+            line: 5,
+            text: b"slope -1/1000000 a b",
+            verdict: invalid(9, Wrong::Grammar),
+        },
+        Change {
+            of: &CUT,
+            line: 12,
+            text: b"end\nend",
+            verdict: invalid(13, Wrong::Grammar),
+        },
+        Change {
+            of: &CUT,
+            line: 0,
+            text: b"answer 1\n",
+            verdict: invalid(2, Wrong::Grammar),
+        },
+        Change {
+            of: &CUT,
+            line: 0,
+            text: b"",
+            verdict: invalid(1, Wrong::Grammar),
+        },
+        Change {
+            of: &THREE,
+            line: 0,
+            text: b"answer 1\nminimum -2\nleast c\ngreatest c\nslope -2/1 c\nslope 1/1 a b c\nat 0/1\nbase 1 1 1 -2\nat 1/1\nbase 1 1 1 -2\nat -2/1\nbase 1 1 1 -2\nend\n",
+            verdict: invalid(9, Wrong::Grammar),
+        },
+        Change {
+            of: &THREE,
+            line: 0,
+            text: b"answer 1\nminimum -2\nleast c\ngreatest c\nslope 1/1 a b c\nslope -2/1 c\nat 0/1\nbase 1 1 1 -2\nat 1/1\nbase 1 1 1 -2\nat -2/1\nbase 1 1 1 -2\nend\n",
+            verdict: invalid(5, Wrong::Answer),
+        },
+        Change {
+            of: &THREE,
+            line: 0,
+            text: b"answer 1\nminimum -2\nleast c\ngreatest c\nslope -2/1 c\nslope 0/1 c\nslope 1/1 a b c\nat 0/1\nbase 1 1 1 -2\nat -2/1\nbase 1 1 1 -2\nat 0/1\nbase 1 1 1 -2\nat 1/1\nbase 1 1 1 -2\nend\n",
+            verdict: invalid(6, Wrong::Answer),
+        },
+        Change {
+            of: &NEED,
+            line: 5,
+            text: b"block 1 b : 2",
+            verdict: invalid(5, Wrong::Grammar),
+        },
+        Change {
+            of: &CUT,
+            line: 8,
+            text: b"base 2 2 -2",
+            verdict: Verdict::Valid,
+        },
+        Change {
+            of: &NEED,
+            line: 1,
+            text: b"answer 1",
+            verdict: Verdict::Valid,
+        },
+    ];
+    for (number, row) in rows.iter().enumerate() {
+        let instance = read_instance(alloc, row.of.text)?;
+        let file = changed(alloc, row)?;
+        assert_eq!(rt;
+            judge(alloc, &instance, file.as_slice())?,
+            row.verdict,
+            "row {number}"
+        );
+    }
+    Ok(())
+}
+
+/// How many line feeds a text has.
+fn count_lines(text: &[u8]) -> usize {
+    text.iter().filter(|c| **c == b'\n').count()
+}
+
+#[test]
+fn answers_that_end_too_soon(rt: HostRuntime) -> Result<(), Fail> {
+    let alloc = rt.alloc();
+    let instance = read_instance(alloc, NEED.text)?;
+    for end in 0..NEED.answer.len() {
+        let text = &NEED.answer[..end];
+        let verdict = invalid(count_lines(text).wrapping_add(1), Wrong::Grammar);
+        assert_eq!(rt;
+            judge(alloc, &instance, text)?,
+            verdict,
+            "the first {end} bytes"
+        );
+    }
+    Ok(())
+}
+
+#[test]
+fn answers_with_another_byte(rt: HostRuntime) -> Result<(), Fail> {
+    let alloc = rt.alloc();
+    let instance = read_instance(alloc, NEED.text)?;
+    let mut file = Vec::from_slice(alloc, NEED.answer)?;
+    for (place, right) in NEED.answer.iter().enumerate() {
+        for byte in 0..=255u8 {
+            file[place] = byte;
+            let is_valid = judge(alloc, &instance, file.as_slice())? == Verdict::Valid;
+            assert_eq!(rt; is_valid, byte == *right, "byte {byte} at {place}");
+        }
+        file[place] = *right;
+    }
+    Ok(())
+}
+
+const EVERY_WORD: &[u8] =
+    b"sfm 1\nground a b c d\nweight a:-3 b:2 c:-1 d:0\ncut 4 a b\nneed c d\ncover 3 a b c\nconcave 2 3 : b d\ntable 0 1 1 1 : a c\nrank 2 uniform 1 : a b\nrank 1 laminar : a b c ; 2 a b c ; 1 a b\nrank 2 graphic : a=u-v b=v-w c=u-w\nrank 1 transversal : c=s,t d=t\nend\n";
+
+#[test]
+fn instances_that_end_too_soon(rt: HostRuntime) -> Result<(), Fail> {
+    let alloc = rt.alloc();
+    for end in 0..EVERY_WORD.len() {
+        let text = &EVERY_WORD[..end];
+        let last = count_lines(text).wrapping_add(1);
+        match read_instance(alloc, text) {
+            Ok(_) => assert_eq!(rt; end, EVERY_WORD.len().wrapping_sub(1)),
+            Err(TextEnd::Refused { line, .. }) => {
+                assert!(rt;
+                    line == last || line == last.wrapping_add(1),
+                    "the first {end} bytes"
+                );
+            }
+            Err(TextEnd::Memory) => assert!(rt; false),
+        }
+    }
+    Ok(())
+}
+
+#[test]
+fn instances_that_are_broken(rt: HostRuntime) -> Result<(), Fail> {
+    let rows: [(&[u8], u8, &[u8]); 4] = [
+        (
+            b"sfm 1\nground\n# \xff\nend\n",
+            0,
+            b"answer 1\nminimum 0\nleast\ngreatest\nat 0/1\nend\n",
+        ),
+        (
+            b"sfm 1\nground a\nweight a:\xff\nend\n",
+            2,
+            b"refused 3 bytes\n",
+        ),
+        (
+            b"sfm 1\nground a b c d e f g h i\ntable 0 : a b c d e f g h i\nend\n",
+            2,
+            b"refused 3 shape\n",
+        ),
+        (
+            b"sfm 1\nground abcdefghijabcdefghijabcdefghijabc\nend\n",
+            2,
+            b"refused 2 name\n",
+        ),
+    ];
+    for (text, code, out) in rows {
+        try_case(&rt, rt.alloc(), &solve(text, code, out))?;
+    }
+    Ok(())
+}
+
+#[test]
+fn a_refused_instance_leaves_the_answer_unopened(rt: HostRuntime) -> Result<(), Fail> {
+    let alloc = rt.alloc();
+    let rows: [(&[u8], u8, bool); 2] = [(b"sfm 2\n", 2, false), (CUT.text, 0, true)];
+    for (text, code, asked) in rows {
+        let mut shelf = WatchedShelf::new(alloc, text, CUT.answer)?;
+        let mut out = MemorySink::new(alloc, 64, 64, &[])?;
+        let mut err = MemorySink::new(alloc, 64, 64, &[])?;
+        let status = run(alloc, CHECK, &mut shelf, &mut out, &mut err);
+        assert_eq!(rt; status.code(), code);
+        assert_eq!(rt; shelf.second, asked);
+    }
+    Ok(())
+}
+
+#[test]
+fn a_file_longer_than_the_limit(rt: HostRuntime) -> Result<(), Fail> {
+    let alloc = rt.alloc();
+    let instance = read_instance(alloc, CUT.text)?;
+    let file = vec![in alloc; b'a'; 268_435_457]?;
+    assert_eq!(rt;
+        judge(alloc, &instance, file.as_slice())?,
+        invalid(0, Wrong::Long)
+    );
+    Ok(())
+}
+
+/// What solving a text writes.
+fn solved(rt: &impl Abort, alloc: Global, text: &[u8]) -> Result<Vec<u8>, Fail> {
+    let mut shelf = MemoryShelf::new(alloc, 1_048_576, &[])?;
+    shelf.add("first", text)?;
+    let mut out = MemorySink::new(alloc, 65536, 65536, &[])?;
+    let mut err = MemorySink::new(alloc, 64, 64, &[])?;
+    let status = run(alloc, SOLVE, &mut shelf, &mut out, &mut err);
+    assert!(rt; err.taken().is_empty());
+    assert_eq!(rt; status.code(), 0);
+    Ok(Vec::from_slice(alloc, out.taken())?)
+}
+
+/// A text with comment lines behind it, up to that size.
+fn filled_up(alloc: Global, text: &[u8], size: usize) -> Result<Vec<u8>, Fail> {
+    let mut filled = Vec::from_slice(alloc, text)?;
+    for place in filled.len()..size {
+        filled.push(if place % 64 == 63 { b'\n' } else { b'#' })?;
+    }
+    Ok(filled)
+}
+
+#[test]
+fn comments_up_to_the_limit(rt: HostRuntime) -> Result<(), Fail> {
+    let alloc = rt.alloc();
+    let text = filled_up(alloc, CUT.text, 16_777_216)?;
+    let file = solved(&rt, alloc, text.as_slice())?;
+    assert_eq!(rt; text.len(), 16_777_216);
+    assert!(rt;
+        file.starts_with(b"answer 1\nminimum -1\nleast a b\ngreatest a b\nslope -1/2 a b\nat 0/1\n")
+    );
+    Ok(())
+}
+
+#[test]
+fn weights_up_to_the_bound(rt: HostRuntime) -> Result<(), Fail> {
+    let alloc = rt.alloc();
+    let mut text = Vec::from_slice(alloc, b"sfm 1\nground a\n")?;
+    for _ in 0..1000 {
+        text.extend_from_slice(b"weight a:1000000000000\n")?;
+    }
+    let mut more = Vec::from_slice(alloc, text.as_slice())?;
+    text.extend_from_slice(b"end\n")?;
+    let file = solved(&rt, alloc, text.as_slice())?;
+    assert!(rt;
+        file.starts_with(
+            b"answer 1\nminimum 0\nleast\ngreatest\nslope 1000000000000000/1 a\nat 0/1\n"
+        )
+    );
+    more.extend_from_slice(b"weight a:1\nend\n")?;
+    try_case(
+        &rt,
+        alloc,
+        &solve(more.as_slice(), 2, b"refused 1003 total\n"),
+    )
+}
