@@ -17,7 +17,7 @@ loop-i-preserved c = λ j l.
     let i = c.loop-i.i in
     let ts = c.args.terms.now in
     let m = meanings-at kind_places kind_value ts i c.index-terms-i.result c.loop-i-test.true c.index-terms-i.is in
-    let here = c.in_ok-is_base.ensures.0 c.if-not-branch.false in
+    let here = c.in_ok-is_base.ensures.told.0 c.if-not-branch.false in
     let here' : IsBase (times (pos 1) (kind_value c.index-terms-i.result)) (row_at c.args.rows.now i) = subst (λ (x : List ℤ). IsBase (times (pos 1) (kind_value c.index-terms-i.result)) x) c.row.ensures here in
     let at : IsBase (times (pos 1) (term_at (meanings kind_places kind_value ts) i).value) (row_at c.args.rows.now i) = subst (λ (z : Meaning). IsBase (times (pos 1) z.value) (row_at c.args.rows.now i)) (sym m) here' in
     ⊎_elim
