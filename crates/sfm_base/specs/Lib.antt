@@ -1,3 +1,4 @@
 pub mod Lending
 pub mod NumberText
 pub mod Page
+pub mod Words

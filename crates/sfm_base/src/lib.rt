@@ -11,6 +11,7 @@ mod rows;
 mod set;
 mod slope;
 mod steps;
+mod words;
 
 pub use memory::Memory;
 pub use number_text::read_number;

@@ -1,22 +1,29 @@
-// Sets of places. A set of a ground of n places is a list of n truth values, the value at e telling whether e is in
-// the set, so each call is the operation on that list. After it is made, a set takes no more memory.
-ghost use Rattle.std.specs.Prelude.{◌≡◌, ◌↔◌, ◌<◌, Bool, true, false, List, length, slice_index_or, slice_set, IfOk, IsTrue};
-ghost use Rattle.sfm_spec.specs.Sets.{empty_set, union, intersection, size, IsWithin};
+// Sets of places. A set of a ground of n places is seen as a list of n truth values, the value at e telling whether e is
+// in the set, so each call is the operation on that list. It is kept as words of 64 places each, and what is done with all
+// places goes word by word. The bits past the ground are 0, so that counts and tests of words need no care for the last.
+// After it is made, a set takes no more memory.
+ghost use Rattle.std.specs.Prelude.{◌≡◌, ◌↔◌, ℕ, ◌<◌, Bool, true, false, List, length, slice_index, slice_index_or, slice_set, IfOk, IsTrue, MatchOption};
+ghost use Rattle.sfm_spec.specs.Sets.{Has, empty_set, whole_set, union, intersection, complement, size, part, IsWithin};
+ghost use Rattle.sfm_base.specs.Words.{members, AreWords};
 
 use crate::Memory;
+use crate::words::{are_within, count, first, join, keep, take_out};
 use std::alloc::Global;
 use std::marker::Model;
 
 /// A set of places of a ground, seen as a list of truth values, one for each place.
 #[derive(Debug, Drop)]
 pub struct Set {
-    members: Vec<bool>,
+    n: usize,
+    words: Vec<u64>,
 }
 
 impl Model for Set {
     ghost Value = { List Bool };
 
-    ghost view = { λ s. s.members.items };
+    ghost view = { λ s. members s.n s.words.items };
+
+    ghost invariant = { λ s. AreWords s.n s.words.items };
 }
 
 impl Set {
@@ -28,8 +35,23 @@ impl Set {
     pub fn empty(alloc: Global, n: usize) -> Result<Set, Memory>
         ensures { IfOk result (λ s. s ≡ empty_set n) }
     {
-        let members = vec![in alloc; false; n]?;
-        Ok(Set { members })
+        let words = vec![in alloc; 0u64; n.div_ceil(64)]?;
+        Ok(Set { n, words })
+    }
+
+    /// The set with every place, of a ground of n.
+    ///
+    /// # Errors
+    ///
+    /// `Memory` where there is none.
+    pub fn whole(alloc: Global, n: usize) -> Result<Set, Memory>
+        ensures { IfOk result (λ s. s ≡ whole_set n) }
+    {
+        let mut words = vec![in alloc; u64::MAX; n.div_ceil(64)]?;
+        if n % 64 != 0 {
+            words[n / 64] = (1 << (n % 64)) - 1;
+        }
+        Ok(Set { n, words })
     }
 
     /// A set with the same places.
@@ -40,22 +62,65 @@ impl Set {
     pub fn copy(&self, alloc: Global) -> Result<Set, Memory>
         ensures { IfOk result (λ s. s ≡ self.now) }
     {
-        let members = Vec::from_slice(alloc, &self.members)?;
-        Ok(Set { members })
+        let words = Vec::from_slice(alloc, &self.words)?;
+        Ok(Set { n: self.n, words })
+    }
+
+    /// The set of the places that this one has not.
+    ///
+    /// # Errors
+    ///
+    /// `Memory` where there is none.
+    pub fn complement(&self, alloc: Global) -> Result<Set, Memory>
+        ensures { IfOk result (λ s. s ≡ complement self.now) }
+    {
+        let mut rest = Set::whole(alloc, self.len())?;
+        rest.remove_all(self);
+        Ok(rest)
+    }
+
+    /// The part of the set at the places of a term, by the term's local places.
+    ///
+    /// # Errors
+    ///
+    /// `Memory` where there is none.
+    pub fn part(&self, alloc: Global, places: &[usize]) -> Result<Set, Memory>
+        requires { (j : ℕ) → j < length places.now → slice_index places.now j < length self.now }
+        ensures { IfOk result (λ s. s ≡ part places.now self.now) }
+    {
+        let mut part = Set::empty(alloc, places.len())?;
+        for (j, place) in places.iter().enumerate() {
+            part.put(j, self.contains(*place));
+        }
+        Ok(part)
     }
 
     /// How many places the ground has.
     pub fn len(&self) -> usize
         ensures { result ≡ length self.now }
     {
-        self.members.len()
+        self.n
     }
 
     /// How many places are in the set.
     pub fn size(&self) -> usize
         ensures { result ≡ size self.now }
     {
-        self.members.iter().filter(|member| **member).count()
+        count(&self.words)
+    }
+
+    /// Whether the set has no place.
+    pub fn is_empty(&self) -> bool
+        ensures { IsTrue result ↔ (self.now ≡ empty_set (length self.now)) }
+    {
+        self.first().is_none()
+    }
+
+    /// The least place of the set.
+    pub fn first(&self) -> Option<usize>
+        ensures { MatchOption result (self.now ≡ empty_set (length self.now)) (λ e. Has self.now e × ((k : ℕ) → k < e → ¬ Has self.now k)) }
+    {
+        first(&self.words)
     }
 
     /// Whether the place e is in the set.
@@ -63,7 +128,7 @@ impl Set {
         requires { e < length self.now }
         ensures { result ≡ slice_index_or self.now e false }
     {
-        self.members[e]
+        (self.words[e / 64] >> (e % 64)) % 2 == 1
     }
 
     /// Puts the place e in.
@@ -71,7 +136,7 @@ impl Set {
         requires { e < length self.old }
         ensures { self.new ≡ slice_set self.old e true }
     {
-        self.members[e] = true;
+        self.words[e / 64] |= 1 << (e % 64);
     }
 
     /// Takes the place e out.
@@ -79,7 +144,7 @@ impl Set {
         requires { e < length self.old }
         ensures { self.new ≡ slice_set self.old e false }
     {
-        self.members[e] = false;
+        self.words[e / 64] &= !(1 << (e % 64));
     }
 
     /// Puts the place e in where it is to be a member, and takes it out where it is not.
@@ -87,14 +152,18 @@ impl Set {
         requires { e < length self.old }
         ensures { self.new ≡ slice_set self.old e member }
     {
-        self.members[e] = member;
+        if member {
+            self.insert(e);
+        } else {
+            self.remove(e);
+        }
     }
 
     /// Takes every place out.
     pub fn clear(&mut self)
         ensures { self.new ≡ empty_set (length self.old) }
     {
-        self.members.fill(false);
+        self.words.fill(0);
     }
 
     /// Whether each place of this set is in the other.
@@ -102,12 +171,7 @@ impl Set {
         requires { length self.now ≡ length other.now }
         ensures { IsTrue result ↔ IsWithin self.now other.now }
     {
-        for e in 0..self.len() {
-            if self.contains(e) && !other.contains(e) {
-                return false;
-            }
-        }
-        true
+        are_within(&self.words, &other.words)
     }
 
     /// Puts each place of the other set in.
@@ -115,11 +179,7 @@ impl Set {
         requires { length self.old ≡ length other.now }
         ensures { self.new ≡ union self.old other.now }
     {
-        for e in 0..self.len() {
-            if other.contains(e) {
-                self.insert(e);
-            }
-        }
+        join(&mut self.words, &other.words);
     }
 
     /// Takes each place out that is not in the other set.
@@ -127,10 +187,14 @@ impl Set {
         requires { length self.old ≡ length other.now }
         ensures { self.new ≡ intersection self.old other.now }
     {
-        for e in 0..self.len() {
-            if !other.contains(e) {
-                self.remove(e);
-            }
-        }
+        keep(&mut self.words, &other.words);
+    }
+
+    /// Takes each place out that is in the other set.
+    pub fn remove_all(&mut self, other: &Set)
+        requires { length self.old ≡ length other.now }
+        ensures { self.new ≡ intersection self.old (complement other.now) }
+    {
+        take_out(&mut self.words, &other.words);
     }
 }

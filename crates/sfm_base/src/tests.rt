@@ -1,6 +1,8 @@
 // Each call once with ample memory, and the reader of numbers on the texts at the edges of its grammar and its bound.
-use crate::{Numbers, Page, Places, Rows, Set, Slope, Steps, read_number};
+use crate::{Memory, Numbers, Page, Places, Rows, Set, Slope, Steps, read_number};
+use std::alloc::Global;
 use std::cmp::Ordering;
+use std::process::Abort;
 use std::test::Fail;
 
 #[test]
@@ -77,6 +79,37 @@ fn sets_join_and_meet(rt: HostRuntime) -> Result<(), Fail> {
     assert!(rt; low.size() == 1 && low.contains(1));
     low.clear();
     assert_eq!(rt; low.size(), 0);
+    Ok(())
+}
+
+/// Asserts what the whole, the empty and the last part of a ground of n places tell.
+fn fills_its_words(rt: &impl Abort, alloc: Global, n: usize) -> Result<(), Memory> {
+    let whole = Set::whole(alloc, n)?;
+    let mut some = whole.complement(alloc)?;
+    assert_eq!(rt; (whole.len(), some.len()), (n, n));
+    assert_eq!(rt; (whole.size(), some.size()), (n, 0));
+    assert!(rt; some.is_empty() && some.first().is_none());
+    if n > 0 {
+        some.put(n - 1, true);
+        assert_eq!(rt; (some.size(), some.first()), (1, Some(n - 1)));
+        some.remove_all(&whole);
+        assert!(rt; some.is_empty());
+    }
+    Ok(())
+}
+
+#[test]
+fn sets_of_many_words_fill_them(rt: HostRuntime) -> Result<(), Fail> {
+    for n in [0, 1, 64, 65, 130] {
+        fills_its_words(&rt, rt.alloc(), n)?;
+    }
+    let mut some = Set::empty(rt.alloc(), 130)?;
+    assert_eq!(rt; some.len(), 130);
+    some.insert(64);
+    some.insert(129);
+    let part = some.part(rt.alloc(), &[63, 64, 129])?;
+    assert_eq!(rt; part.len(), 3);
+    assert!(rt; !part.contains(0) && part.contains(1) && part.contains(2));
     Ok(())
 }
 

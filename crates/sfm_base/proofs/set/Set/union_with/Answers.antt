@@ -1,10 +1,37 @@
--- at the end every place has what either set has, which is the union place by place
-use Rattle.std.proofs.Common.{false, sym, ◌∙◌, arith}
-use Rattle.std.proofs.lemmas.List.{ext_get_or}
-use Rattle.sfm_spec.proofs.Sets.{get_or-union}
-use Rattle.sfm_spec.proofs.Sums.{length-union}
+use Rattle.std.proofs.Common.{◌≡◌, ℕ, ◌-◌, min, max, Bool, List, length, sym, ap, ◌∙◌, subst, arith}
+use Rattle.std.proofs.lemmas.List.{with_items_is}
+use Rattle.sfm_spec.specs.Sets.{union, intersection, complement}
+use Rattle.sfm_base.specs.Words.{bit_of, members, AreWords}
+use Rattle.sfm_base.proofs.Members.{same_places, same_count}
+use Rattle.sfm_base.proofs.Joining.{joined_words, joined_set}
 use Rattle.sfm_base.proofs.set.Set.union_with.Goals as goal
 
+pub join-requires : goal.join-requires
+join-requires c =
+    let a = c.self.inside.words.items in
+    let b = c.other.inside.words.items in
+    ap length c.deref_mut.ensures.value ∙ (same_count _ _ a b (same_places _ _ a b _ _ c.self.view_is c.other.view_is c.requires) c.self.invariant c.other.invariant ∙ sym (ap length c.deref.ensures.value))
+
+pub invariant_of-self : goal.invariant_of-self
+invariant_of-self c =
+    let a = c.self.inside.words.items in
+    let b = c.other.inside.words.items in
+    let r = c.join.new.words in
+    let same = same_places _ _ a b _ _ c.self.view_is c.other.view_is c.requires in
+    let kept : length r ≡ c.self.inside.words.len = c.join.auto.words ∙ c.deref_mut.ensures.len in
+    let each : (e : ℕ) → bit_of r e ≡ max (bit_of a e) (bit_of b e) = rw (c.deref_mut.ensures.value, c.deref.ensures.value) at c.join.ensures in
+    subst (λ words. AreWords c.self.inside.n words) (sym (with_items_is c.self.inside.words r kept)) (joined_words _ a b r c.self.invariant (subst (λ n. AreWords n b) same c.other.invariant) (kept ∙ c.self.inside.words.ok.0) each)
+
 pub returns : goal.returns
-returns c = ext_get_or false _ _ (c.loop-e.invariant.0 ∙ sym (length-union c.args.self.now c.args.other.now c.requires))
-    (λ k lt. c.loop-e.invariant.1 k (omega arith) ∙ sym (get_or-union c.args.self.now c.args.other.now k c.requires))
+returns c =
+    let a = c.self.inside.words.items in
+    let b = c.other.inside.words.items in
+    let r = c.join.new.words in
+    let same = same_places _ _ a b _ _ c.self.view_is c.other.view_is c.requires in
+    let kept : length r ≡ c.self.inside.words.len = c.join.auto.words ∙ c.deref_mut.ensures.len in
+    let each : (e : ℕ) → bit_of r e ≡ max (bit_of a e) (bit_of b e) = rw (c.deref_mut.ensures.value, c.deref.ensures.value) at c.join.ensures in
+    let n = c.self.inside.n in
+    let first : members n a ≡ c.args.self.now = c.self.view_is in
+    let second : members n b ≡ c.args.other.now = ap (λ m. members m b) (sym same) ∙ c.other.view_is in
+    ap (λ words. members n words) (with_items_is c.self.inside.words r kept) ∙ (joined_set n a b r each
+    ∙ (ap (λ s. union s ((members n b))) first ∙ ap (λ t. union c.args.self.now (t)) second))
