@@ -1,14 +1,14 @@
 -- The words of the empty and of the whole set.
-use Rattle.std.proofs.Common.{◌≡◌, ◌≢◌, ◌==◌, ℕ, ◌+◌, ◌-◌, ◌*◌, ◌<◌, ◌≤◌, ◌/◌, ◌%◌, ◌^◌, true, false, ◌⊎◌, ⊎_elim, inl, inr, List, length, get_or, set, replicate, sym, ap, ◌∙◌, arith, get_or-set_same, get_or-set_other}
+use Rattle.std.proofs.Common.{◌≡◌, ◌≢◌, ◌==◌, ℕ, ◌-◌, ◌*◌, ◌<◌, ◌≤◌, ◌/◌, ◌%◌, ◌^◌, true, false, ⊎_elim, List, length, get_or, set, replicate, sym, ap, ◌∙◌, arith, get_or-set_same, get_or-set_other}
 use Rattle.std.proofs.lemmas.Bool.{cases_lt, cases_eq}
-use Rattle.std.proofs.lemmas.List.{length-set, length-replicate, get_or-replicate, get_or_past}
+use Rattle.std.proofs.lemmas.List.{length-set, length-replicate, get_or-replicate}
 use Rattle.std.proofs.Math.Nat.{one-mul, mod-eq_of_lt}
 use Rattle.std.proofs.Math.Pow.{pow-lt}
 use Rattle.std.proofs.lemmas.Nat.Bits.{bit_at-zero, bit_at_ones, bit_at_ones_above}
 use Rattle.std.specs.Int.{bit_at, div_ceil}
 use Rattle.sfm_spec.specs.Sets.{empty_set, whole_set}
 use Rattle.sfm_base.specs.Words.{bit_of, members, AreWords}
-use Rattle.sfm_base.proofs.Members.{length-members, members-are, past_words}
+use Rattle.sfm_base.proofs.Members.{members-are, past_words}
 
 bit_of-blank : (k e : ℕ) → bit_of (replicate k 0) e ≡ 0
 bit_of-blank k e = ⊎_elim

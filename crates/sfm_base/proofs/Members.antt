@@ -1,15 +1,13 @@
 -- Sets as words: what the words tell place by place, and what a change of the words does to the set.
-use Rattle.std.proofs.Common.{◌≡◌, ◌≢◌, ◌==◌, ℕ, ◌+◌, ◌-◌, ◌*◌, ◌<◌, ◌≤◌, ◌/◌, ◌%◌, ◌^◌, Bool, true, false, cond, not, ◌&&◌, ◌||◌, max, min, ◌⊎◌, ⊎_elim, inl, inr, List, [], ◌∷◌, length, get_or, set, map, replicate, refl, sym, ap, ◌∙◌, arith, get_or-set_same, get_or-set_other}
-use Rattle.std.proofs.lemmas.Bool.{cases_lt, cases_eq, eq-eqb, eqb-true}
-use Rattle.std.proofs.lemmas.List.{ext_get_or, get_or_past, get_or-map, length-set, length-map}
+use Rattle.std.proofs.Common.{◌≡◌, ◌==◌, ℕ, ◌+◌, ◌*◌, ◌<◌, ◌≤◌, ◌/◌, ◌%◌, ◌^◌, Bool, true, false, ⊎_elim, List, [], ◌∷◌, length, get_or, replicate, refl, sym, ap, ◌∙◌, arith}
+use Rattle.std.proofs.lemmas.Bool.{cases_lt, eq-eqb, eqb-true}
+use Rattle.std.proofs.lemmas.List.{ext_get_or, get_or_past}
 use Rattle.std.proofs.lemmas.List.FromFn.{length-map-range_with_len, get_or-map-range_with_len}
 use Rattle.std.proofs.lemmas.Nat.{and_le_l}
 use Rattle.std.proofs.lemmas.Nat.Bits.{bit_at-lt, bit_at-zero, bit_at_and, same_from_bits_below}
 use Rattle.std.specs.Int.{bit_at, div_ceil}
 use Rattle.std.specs.Int.Bits.{bit_and}
-use Rattle.sfm_spec.specs.Sets.{Has, union, intersection, complement, IsWithin}
-use Rattle.sfm_spec.proofs.Sets.{get_or-union, get_or-intersection}
-use Rattle.sfm_spec.proofs.Sums.{length-union, length-intersection}
+use Rattle.sfm_spec.specs.Sets.{Has, intersection}
 use Rattle.sfm_base.specs.Words.{bit_of, members, AreWords}
 
 -- a bit is 0 or 1

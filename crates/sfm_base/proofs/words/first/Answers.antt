@@ -1,4 +1,4 @@
-use Rattle.std.proofs.Common.{◌≡◌, ⊎_elim, ℕ, ◌<◌, ◌/◌, ◌^◌, length, get_or, rules, arith}
+use Rattle.std.proofs.Common.{⊎_elim, ◌<◌, ◌/◌, ◌^◌, get_or, rules, arith}
 use Rattle.std.proofs.lemmas.Bool.{cases_lt}
 use Rattle.sfm_base.proofs.Members.{past_words}
 use Rattle.sfm_base.proofs.Counting.{no_bit, first_bit}

@@ -1,4 +1,4 @@
-use Rattle.std.proofs.Common.{not, length, sym, ap, ◌∙◌}
+use Rattle.std.proofs.Common.{not, sym, ap, ◌∙◌}
 use Rattle.std.proofs.lemmas.List.{length-map}
 use Rattle.sfm_spec.specs.Sets.{whole_set, intersection, complement}
 use Rattle.sfm_base.proofs.Members.{whole_with}

@@ -1,6 +1,6 @@
-use Rattle.std.proofs.Common.{◌≡◌, ℕ, ◌≤◌, Bool, List, length, sym, ap, ◌∙◌, subst}
+use Rattle.std.proofs.Common.{◌≡◌, Bool, List, length, sym, ap, ◌∙◌, subst}
 use Rattle.sfm_spec.specs.Sets.{IsWithin}
-use Rattle.sfm_base.specs.Words.{bit_of, members, AreWords}
+use Rattle.sfm_base.specs.Words.{members, AreWords}
 use Rattle.sfm_base.proofs.Members.{same_places, same_count}
 use Rattle.sfm_base.proofs.Joining.{set_within, words_within}
 use Rattle.sfm_base.proofs.set.Set.is_within.Goals as goal

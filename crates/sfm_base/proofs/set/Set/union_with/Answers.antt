@@ -1,6 +1,6 @@
-use Rattle.std.proofs.Common.{◌≡◌, ℕ, ◌-◌, min, max, Bool, List, length, sym, ap, ◌∙◌, subst, arith}
+use Rattle.std.proofs.Common.{◌≡◌, ℕ, max, length, sym, ap, ◌∙◌, subst}
 use Rattle.std.proofs.lemmas.List.{with_items_is}
-use Rattle.sfm_spec.specs.Sets.{union, intersection, complement}
+use Rattle.sfm_spec.specs.Sets.{union}
 use Rattle.sfm_base.specs.Words.{bit_of, members, AreWords}
 use Rattle.sfm_base.proofs.Members.{same_places, same_count}
 use Rattle.sfm_base.proofs.Joining.{joined_words, joined_set}

@@ -1,4 +1,4 @@
-use Rattle.std.proofs.Common.{◌≡◌, ℕ, ◌-◌, ◌*◌, ◌/◌, ◌%◌, ◌^◌, List, replicate, set, sym, ap, ◌∙◌, subst, arith, rules, ◌<◌}
+use Rattle.std.proofs.Common.{◌≡◌, ℕ, ◌-◌, ◌*◌, ◌/◌, ◌%◌, ◌^◌, replicate, set, sym, ap, ◌∙◌, subst, arith, rules, ◌<◌}
 use Rattle.sfm_base.proofs.Filling.{HaveAll, all_ones, full_words, cut_words, all_words, all_set, one_shifted}
 use Rattle.sfm_base.proofs.set.Set.whole.Goals.{then-n-ne0, else-n-ne0}
 use Rattle.sfm_base.proofs.set.Set.whole.Goals as goal
