@@ -110,9 +110,9 @@ pub fn rows_after_exchange<T: Term>(
     ensures { RowLaws (times _q (T.value_of _term.now)) _x.now _s _t _a }
 {}
 
-/// A move along a walk of least steps by the greatest amount lets no place's pair of distance and least step fall, and makes z
-/// zero at an end of the walk or raises the pair of a place on it. So such moves, one after the other, are few: never more
-/// than n + n (n + 1)(n m + 1), of n places and m terms.
+/// At any bases each place has a distance to the places with z > 0 and a least step. A move along a walk of least steps by
+/// the greatest amount lets no place's pair of both fall, and makes z zero at an end of the walk or raises the pair of a
+/// place on it. So such moves, one after the other, are few: never more than n + n (n + 1)(n m + 1), of n places and m terms.
 pub fn few_walks<T: Term>(_terms: &[T], _n: usize, _q: i128, _shift: &[i128], _rows: &Rows)
     requires factor { pos 0 ≤ℤ _q }
     requires placed { ArePlaced _n (meanings T.places T.value_of _terms.now) }

@@ -1,6 +1,7 @@
 -- Moves along walks of least steps, by distances and least steps themselves: they are lower bounds, and no lower bounds are greater.
 use Rattle.std.proofs.Common.{◌≡◌, ◌⊎◌, ℕ, zero, suc, ◌+◌, ◌*◌, ◌<◌, ◌≤◌, List, [], ◌∷◌, length, ℤ, pos, ◌≤ℤ◌, refl, subst, add-zero, arith, inl, inr}
 use Rattle.std.proofs.lemmas.Bool.{cases_lt}
+use Rattle.std.proofs.lemmas.Int.{ints, by_lt_z}
 use Rattle.sfm_spec.specs.Families.{Meaning, AreTerms, AreBases, rest_at}
 use Rattle.sfm_spec.specs.Walks.{Step, IsStep, AreSteps, IsOver, last_of}
 use Rattle.sfm_spec.specs.Labels.{AreLabels, FollowsLabels, IsLeastMove, IsLeastChain, IsPairUpTo, IsPairBelow, Passes, FewWalksLaws, step_code}
@@ -10,6 +11,7 @@ use Rattle.sfm_spec.proofs.Gain.{moves_along}
 use Rattle.sfm_spec.proofs.Labels.{steps_end_below}
 use Rattle.sfm_spec.proofs.Counts.{code_below}
 use Rattle.sfm_spec.proofs.FewWalks.{bounds_after, zero_or_raised}
+use Rattle.sfm_spec.proofs.FindLabels.{labels_exist}
 use Rattle.sfm_spec.proofs.LeastWalks.{least_progress, counted_none, counted_more, counted_few}
 
 module _ (terms : List Meaning) (rows : List (List ℤ)) (n : ℕ) (q : ℤ) (low : pos 0 ≤ℤ q) (fit : AreTerms n terms) (bases : AreBases q terms rows) (IsLast : ℕ → Type 0) (d l : ℕ → ℕ) (labels : AreLabels terms n q rows IsLast d l) where
@@ -138,6 +140,7 @@ module _ (terms : List Meaning) (n : ℕ) (q : ℤ) (shift : List ℤ) (low : po
   -- the laws of few walks
   pub few_walks_laws : (rows : List (List ℤ)) → AreBases q terms rows → FewWalksLaws terms n q shift rows
   few_walks_laws rows bases = record {
+    exist = labels_exist terms rows n q low fit bases (IsOver terms rows shift) (λ e. by_lt_z (pos 0) (rest_at terms rows shift e) (λ over. inl over) (λ le. inr (λ over. omega (arith, ints, over, le))));
     kept = λ after d l d' l' move labels' e le. pair_kept rows bases after d l move d' l' labels' e le;
     raised = λ after d l d' l' move labels'. zero_or_rises rows bases after d l move d' l' labels';
     few = λ t last chain. let h = chain_counts rows t 0 rows last bases (counted_none terms n q shift rows) chain in let f = counted_few terms n q shift rows last (0 + t) h in omega (arith, f);

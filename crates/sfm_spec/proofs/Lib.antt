@@ -27,6 +27,7 @@ pub mod Counts
 pub mod FewWalks
 pub mod Moves
 pub mod LeastWalks
+pub mod FindLabels
 pub mod LeastMoves
 pub mod Capacity
 pub mod Pulls

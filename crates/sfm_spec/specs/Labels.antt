@@ -68,10 +68,11 @@ IsPairUpTo d l d' l' = (d < d') ⊎ ((d ≡ d') × (l ≤ l'))
 abbrev pub IsPairBelow : ℕ → ℕ → ℕ → ℕ → Type 0
 IsPairBelow d l d' l' = (d < d') ⊎ ((d ≡ d') × (l < l'))
 
--- few walks: a move along a walk of least steps, by the greatest amount, lets no place's pair of distance and least step fall; it makes z
--- zero at an end of the walk, or the pair of a place on it rises; and there are never more such moves, one after the other, than the
--- number of few walks
+-- few walks: each place has a distance and a least step; a move along a walk of least steps, by the greatest amount, lets no place's
+-- pair of both fall; it makes z zero at an end of the walk, or the pair of a place on it rises; and there are never more such moves, one
+-- after the other, than the number of few walks
 pub record FewWalksLaws (terms : List Meaning) (n : ℕ) (q : ℤ) (shift : List ℤ) (rows : List (List ℤ)) : Type 0 where
+  pub exist : (d : ℕ → ℕ) × (l : ℕ → ℕ) × AreLabels terms n q rows (IsOver terms rows shift) d l
   pub kept : (after : List (List ℤ)) (d l d' l' : ℕ → ℕ) → IsLeastMove terms n q shift rows after d l → AreLabels terms n q after (IsOver terms after shift) d' l'
       → (e : ℕ) → e < n → IsPairUpTo (d e) (l e) (d' e) (l' e)
   pub raised : (after : List (List ℤ)) (d l d' l' : ℕ → ℕ) (move : IsLeastMove terms n q shift rows after d l) → AreLabels terms n q after (IsOver terms after shift) d' l'
