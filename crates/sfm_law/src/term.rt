@@ -3,6 +3,7 @@
 ghost use Rattle.std.specs.Prelude.{◌≡◌, ◌≢◌, ◌↔◌, ℕ, ◌<◌, ◌^◌, Bool, List, length, ℤ, pos, neg_ℤ, ◌*ℤ◌, ◌≤ℤ◌, IfOk, IsOk, OnOk, IsTrue, Some};
 ghost use Rattle.std.specs.List.{All};
 ghost use Rattle.sfm_spec.specs.Bounds.{IsEntry, IsFactor};
+ghost use Rattle.sfm_spec.specs.Rows.{Depends};
 ghost use Rattle.sfm_spec.specs.Terms.{SetFunction, times, IsBase, IsFamily, IsSubmodular, exchanged};
 ghost use Rattle.sfm_law.specs.Room.{IsRoom, IsReach, IsWithinRoom};
 
@@ -132,6 +133,60 @@ pub trait Term {
         requires room_for_answer { length to.old ≡ length x.now }
         ensures places { length to.new ≡ length to.old }
         ensures reached { OnOk result (IsReach (times q (value_of self.now)) x.now u to.new) };
+
+    /// The room of (u, v) at a base, by a note that fits it, which fits it still. After want of memory nothing is said
+    /// of the note.
+    fn room_by(
+        &self,
+        alloc: Global,
+        q: i128,
+        x: &[i128],
+        _note: &mut Self::Note,
+        u: usize,
+        v: usize,
+    ) -> Result<Room, Memory>
+        requires factor { IsFactor q }
+        requires entries { length x.now ≡ length (places self.now) }
+        requires bounded { size_of self.now ≤ℤ pos (10 ^ 18) }
+        requires small { All IsEntry x.now }
+        requires base { IsBase (times q (value_of self.now)) x.now }
+        requires noted { fits self.now _note.old q x.now }
+        requires apart { u ≢ v }
+        requires from { u < length x.now }
+        requires onto { v < length x.now }
+        ensures room { IfOk result (IsRoom (times q (value_of self.now)) x.now u v) }
+        ensures noted { OnOk result (fits self.now _note.new q x.now) }
+    {
+        self.room(alloc, q, x, u, v)
+    }
+
+    /// Writes what `reach` does from a place that is s or has room to it, by a note that fits the base. A note that was
+    /// last moved to raise s may find that sooner.
+    fn reach_with(
+        &self,
+        alloc: Global,
+        q: i128,
+        x: &[i128],
+        note: &Self::Note,
+        _s: usize,
+        u: usize,
+        to: &mut Set,
+    ) -> Result<(), Memory>
+        requires factor { IsFactor q }
+        requires entries { length x.now ≡ length (places self.now) }
+        requires bounded { size_of self.now ≤ℤ pos (10 ^ 18) }
+        requires small { All IsEntry x.now }
+        requires base { IsBase (times q (value_of self.now)) x.now }
+        requires noted { fits self.now note.now q x.now }
+        requires onto { _s < length x.now }
+        requires from { u < length x.now }
+        requires leads { Depends (times q (value_of self.now)) x.now u _s }
+        requires room_for_answer { length to.old ≡ length x.now }
+        ensures places { length to.new ≡ length to.old }
+        ensures reached { OnOk result (IsReach (times q (value_of self.now)) x.now u to.new) }
+    {
+        self.reach_by(alloc, q, x, note, u, to)
+    }
 
     /// Brings a note that fits a base up to the base with u raised and v lowered by a. After want of memory nothing
     /// is said of the note.
