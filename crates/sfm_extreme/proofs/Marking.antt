@@ -1,10 +1,11 @@
 -- Sets that are marked place by place.
-use Rattle.std.proofs.Common.{◌≡◌, ◌↔◌, ⊎_elim, ℕ, ◌+◌, ◌<◌, ◌≤◌, Bool, true, false, not, List, length, get_or, set, refl, sym, ap, ◌∙◌, arith, length-set, get_or-set_same, get_or-set_other}
+use Rattle.std.proofs.Common.{◌≡◌, ◌↔◌, ⊎_elim, ℕ, ◌+◌, ◌<◌, ◌≤◌, Bool, true, false, ◌||◌, List, length, get_or, set, refl, sym, ap, ◌∙◌, arith, length-set, get_or-set_same, get_or-set_other}
 use Rattle.std.proofs.lemmas.Bool.{both_ways, cases_eq}
-use Rattle.std.proofs.lemmas.List.{ext_get_or, length-replicate, get_or-map}
-use Rattle.sfm_spec.specs.Sets.{Has, complement, empty_set}
-use Rattle.sfm_spec.proofs.Sets.{has_or_not}
-use Rattle.sfm_spec.proofs.Extremes.{length-complement}
+use Rattle.std.proofs.lemmas.List.{length-replicate}
+use Rattle.sfm_spec.specs.Sets.{Has, complement, empty_set, union}
+use Rattle.sfm_spec.proofs.Sets.{get_or-union, has_or_not, union_left, union_right}
+use Rattle.sfm_spec.proofs.Sums.{length-union}
+use Rattle.sfm_spec.proofs.Extremes.{in_complement, not_in_complement}
 use Rattle.sfm_spec.proofs.Lattice.{none_in_empty}
 use Rattle.sfm_extreme.specs.Search.{IsSetOf}
 
@@ -46,12 +47,21 @@ marked_out n m P s h no' = record {
 pub marked_all : (n m : ℕ) (P : ℕ → Type 0) (s : List Bool) → IsMarked n m P s → n ≤ m → IsSetOf n P s
 marked_all n m P s h l = record { places = h.places; exact = λ e le. h.exact e (omega arith) }
 
--- the places that are not in a set make its complement
-pub marked_complement : (s t : List Bool) → IsSetOf (length s) (λ e. get_or s e false ≡ false) t → t ≡ complement s
-marked_complement s t h = ext_get_or false t (complement s) (h.places ∙ sym (length-complement s)) (λ e l. let le : e < length s = rw (← h.places) l in at e le (get_or s e false) refl) where
-  at : (e : ℕ) → e < length s → (b : Bool) → get_or s e false ≡ b → get_or t e false ≡ get_or (complement s) e false
-  at e le false is = (h.exact e le).1 is ∙ sym (get_or-map not s e false false le ∙ ap not is)
-  at e le true is = ⊎_elim (λ has. absurd (both_ways (get_or s e false) ((h.exact e le).0 has) is)) (λ lacks. lacks ∙ sym (get_or-map not s e false false le ∙ ap not is)) (has_or_not t e)
+-- a place is outside the union of two sets where it is in neither
+pub outside_both : (s t : List Bool) (e : ℕ) → length s ≡ length t → e < length s → Has (complement (union s t)) e ↔ ((Has s e → ⊥) × (Has t e → ⊥))
+outside_both s t e same l = (to, from) where
+  to : Has (complement (union s t)) e → (Has s e → ⊥) × (Has t e → ⊥)
+  to h = (
+    (λ in_s. both_ways (get_or (union s t) e false) (not_in_complement (union s t) e h) (union_left s t e same in_s)),
+    (λ in_t. both_ways (get_or (union s t) e false) (not_in_complement (union s t) e h) (union_right s t e same in_t)),
+  )
+
+  lacks : (r : List Bool) → (Has r e → ⊥) → get_or r e false ≡ false
+  lacks r out = ⊎_elim (λ has. absurd (out has)) (λ none. none) (has_or_not r e)
+
+  from : (Has s e → ⊥) × (Has t e → ⊥) → Has (complement (union s t)) e
+  from (out_s, out_t) = in_complement (union s t) e (rw (length-union s t same) l)
+      (get_or-union s t e same ∙ (ap (λ a. a || get_or t e false) (lacks s out_s) ∙ lacks t out_t))
 
 -- a set of one place
 pub single_set : (n e : ℕ) → e < n → IsSetOf n (λ d. d ≡ e) (set (empty_set n) e true)

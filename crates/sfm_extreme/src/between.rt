@@ -19,12 +19,9 @@ pub fn between(alloc: Global, links: &Links, z: &[i128]) -> Result<Set, Memory>
     let leading = search_from(alloc, links, Way::Back, &over)?;
     let under = places_under(alloc, z)?;
     let reached = search_from(alloc, links, Way::Onward, &under)?;
-    let mut mid = Set::empty(alloc, links.n)?;
-    for e in 0..links.n {
-        if !leading.found.contains(e) && !reached.found.contains(e) {
-            mid.insert(e);
-        }
-    }
+    let mut outside = leading.found;
+    outside.union_with(&reached.found);
+    let mid = outside.complement(alloc)?;
     Ok(mid)
 }
 

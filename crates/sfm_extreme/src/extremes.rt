@@ -12,7 +12,7 @@ ghost use Rattle.sfm_extreme.specs.Certified.{IsAnswer, IsProved};
 use crate::deficit::deficit_of;
 use crate::links::links_of;
 use crate::search::{Way, search_from};
-use crate::signs::{complement_of, places_over, places_under};
+use crate::signs::{places_over, places_under};
 use crate::walk::{visit_under, walk_of};
 use sfm_base::{Memory, Rows, Set};
 use sfm_law::{Term, Walk, rest_of};
@@ -93,7 +93,7 @@ fn certify_by<T: Term>(
             Ok(Certified::NotOptimal { walk })
         }
         None => {
-            let greatest = complement_of(alloc, &leading.found)?;
+            let greatest = leading.found.complement(alloc)?;
             let under = places_under(alloc, &z)?;
             let reached = search_from(alloc, &links, Way::Onward, &under)?;
             Ok(Certified::Proved(Proved {

@@ -1,6 +1,5 @@
-// The places at which z is below or above 0, where the searches begin, and the complement of a set.
+// The places at which z is below or above 0, where the searches begin.
 ghost use Rattle.std.specs.Prelude.{◌≡◌, ℤ, length, slice_index_or, pos, ◌<ℤ◌, IfOk};
-ghost use Rattle.sfm_spec.specs.Sets.{complement};
 ghost use Rattle.sfm_extreme.specs.Search.{IsSetOf};
 
 use sfm_base::{Memory, Set};
@@ -30,17 +29,4 @@ pub fn places_over(alloc: Global, z: &[i128]) -> Result<Set, Memory>
         }
     }
     Ok(over)
-}
-
-// The places that are not in the set.
-pub fn complement_of(alloc: Global, s: &Set) -> Result<Set, Memory>
-    ensures { IfOk result (λ t. t ≡ complement s.now) }
-{
-    let mut others = Set::empty(alloc, s.len())?;
-    for e in 0..s.len() {
-        if !s.contains(e) {
-            others.insert(e);
-        }
-    }
-    Ok(others)
 }
