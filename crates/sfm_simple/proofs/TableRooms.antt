@@ -14,7 +14,7 @@ use Rattle.sfm_law.proofs.Listing.{IsListing, own_listing, listed_capacity, list
 use Rattle.sfm_law.specs.Room.{IsReach}
 use Rattle.sfm_simple.specs.Breaches.{listed_at}
 use Rattle.sfm_simple.specs.Subsets.{members, length-members, members-binary, binary-members, binary-lt, binary-set, binary-none, binary-front}
-use Rattle.sfm_simple.specs.TableLaws.{slack_of, IsSplit, IsLeastSlack}
+use Rattle.sfm_simple.specs.TableLaws.{slack_of, Separates, IsLeastSlack}
 
 module _ (q : ℤ) (values x : List ℤ) (counted : length values ≡ 2 ^ length x) where
   -- a set's slack by its number
@@ -75,7 +75,7 @@ module _ (q : ℤ) (values x : List ℤ) (counted : length values ≡ 2 ^ length
     listing : IsListing (times q (table_value values)) (length x) Lists most
     listing = own_listing (times q (table_value values)) (length x) most refl
 
-    split_of : (s : List Bool) → length s ≡ length x → Has s u → get_or s v false ≡ false → IsSplit (length x) (binary s) u v
+    split_of : (s : List Bool) → length s ≡ length x → Has s u → get_or s v false ≡ false → Separates (length x) (binary s) u v
     split_of s same su sv =
         let is : members (length x) (binary s) ≡ s = rw (← same) (members-binary s) in
         record { first_in = rw is su; second_out = rw is sv }
@@ -90,7 +90,7 @@ module _ (q : ℤ) (values x : List ℤ) (counted : length values ≡ 2 ^ length
           let n = slack-binary s h.0 in
           rw (← f) (omega (arith, ints, l, n))
 
-      from : (n : ℕ) × (n < length values) × IsSplit (length x) n u v × (a ≡ slack_of q values x n) → IsCapacity (times q (table_value values)) x u v a
+      from : (n : ℕ) × (n < length values) × Separates (length x) n u v × (a ≡ slack_of q values x n) → IsCapacity (times q (table_value values)) x u v a
       from (n, lt, split, e) =
           let low = slack_low base n lt in
           let plain = ap (λ b. q *ℤ b) (listed-members n lt) in
@@ -166,7 +166,7 @@ kept_without q values x u m v old to before other = (
 )
 
 -- the part that is u alone
-pub unit_split : (k u v : ℕ) → u < k → v < k → u ≢ v → IsSplit k (2 ^ u) u v
+pub unit_split : (k u v : ℕ) → u < k → v < k → u ≢ v → Separates k (2 ^ u) u v
 unit_split k u v ku kv ne = record { first_in = rw is (get_or-set_same (empty_set k) u true false (omega (arith, length-replicate k false))); second_out = rw is out } where
   is : members k (2 ^ u) ≡ set (empty_set k) u true
   is =
@@ -182,14 +182,14 @@ unit_split k u v ku kv ne = record { first_in = rw is (get_or-set_same (empty_se
 -- ---- the least slack so far
 
 abbrev pub IsReached : ℤ → List ℤ → List ℤ → ℕ → ℕ → ℤ → Type 0
-IsReached q values x u v a = (n : ℕ) × (n < length values) × IsSplit (length x) n u v × (a ≡ slack_of q values x n)
+IsReached q values x u v a = (n : ℕ) × (n < length values) × Separates (length x) n u v × (a ≡ slack_of q values x n)
 
-pub least_more : (q : ℤ) (values x : List ℤ) (u v m : ℕ) (a r : ℤ) → ((n : ℕ) → n < m → IsSplit (length x) n u v → a ≤ℤ slack_of q values x n) → r ≤ℤ a
-    → (IsSplit (length x) m u v → r ≤ℤ slack_of q values x m) → (n : ℕ) → n < m + 1 → IsSplit (length x) n u v → r ≤ℤ slack_of q values x n
-least_more q values x u v m a r below less here = below_more (λ n. IsSplit (length x) n u v → r ≤ℤ slack_of q values x n) m
+pub least_more : (q : ℤ) (values x : List ℤ) (u v m : ℕ) (a r : ℤ) → ((n : ℕ) → n < m → Separates (length x) n u v → a ≤ℤ slack_of q values x n) → r ≤ℤ a
+    → (Separates (length x) m u v → r ≤ℤ slack_of q values x m) → (n : ℕ) → n < m + 1 → Separates (length x) n u v → r ≤ℤ slack_of q values x n
+least_more q values x u v m a r below less here = below_more (λ n. Separates (length x) n u v → r ≤ℤ slack_of q values x n) m
     (λ n h split. let b = below n h split in omega (arith, ints, b, less)) here
 
-pub reached_min : (q : ℤ) (values x : List ℤ) (u v m : ℕ) (a b r : ℤ) → IsReached q values x u v a → m < length values → IsSplit (length x) m u v → b ≡ slack_of q values x m
+pub reached_min : (q : ℤ) (values x : List ℤ) (u v m : ℕ) (a b r : ℤ) → IsReached q values x u v a → m < length values → Separates (length x) m u v → b ≡ slack_of q values x m
     → r ≡ int_min a b → IsReached q values x u v r
 reached_min q values x u v m a b r (n, lt, split, e) lt' split' e' is = by_lt_z a b
     (λ below. (n, lt, split, omega (arith, ints, clamps, is, below, e)))

@@ -30,14 +30,14 @@ abbrev pub slack_of : ℤ → List ℤ → List ℤ → ℕ → ℤ
 slack_of q values x n = (q *ℤ get_or values n (pos 0)) -ℤ sum_over (members (length x) n) x
 
 -- the set of k places with the number n has u and not v
-pub record IsSplit (k n u v : ℕ) : Type 0 where
+pub record Separates (k n u v : ℕ) : Type 0 where
   pub first_in : Has (members k n) u
   pub second_out : get_or (members k n) v false ≡ false
 
 -- a is the least that a set with u and not v leaves
 pub record IsLeastSlack (q : ℤ) (values x : List ℤ) (u v : ℕ) (a : ℤ) : Type 0 where
-  pub least : (n : ℕ) → n < length values → IsSplit (length x) n u v → a ≤ℤ slack_of q values x n
-  pub reached : (n : ℕ) × (n < length values) × IsSplit (length x) n u v × (a ≡ slack_of q values x n)
+  pub least : (n : ℕ) → n < length values → Separates (length x) n u v → a ≤ℤ slack_of q values x n
+  pub reached : (n : ℕ) × (n < length values) × Separates (length x) n u v × (a ≡ slack_of q values x n)
 
 -- ---- the law
 

@@ -10,7 +10,7 @@ ghost use Rattle.sfm_spec.specs.Kinds.{table_value};
 ghost use Rattle.sfm_law.specs.Room.{IsRoom, IsReach, IsWithinRoom};
 ghost use Rattle.sfm_simple.specs.Subsets.{members};
 ghost use Rattle.sfm_simple.specs.Breaches.{IsFirstBreach};
-ghost use Rattle.sfm_simple.specs.TableLaws.{greatest, gain_of, table_start, slack_of, IsSplit, IsLeastSlack, table-family, table-bounded, table-starts, table-starts_small};
+ghost use Rattle.sfm_simple.specs.TableLaws.{greatest, gain_of, table_start, slack_of, Separates, IsLeastSlack, table-family, table-bounded, table-starts, table-starts_small};
 
 use crate::breach::first_breach;
 use crate::place::all_but;
@@ -75,7 +75,7 @@ fn splits(_k: usize, s: usize, u: usize, v: usize) -> bool
     requires few { _k ≤ 8 }
     requires from { u < _k }
     requires onto { v < _k }
-    ensures { IsTrue result ↔ IsSplit _k s u v }
+    ensures { IsTrue result ↔ Separates _k s u v }
 {
     has(s, u) && !has(s, v)
 }
