@@ -27,10 +27,7 @@ impl Links {
         requires { n ≤ 256 }
         ensures { IfOk result (λ r. (r.n ≡ n) × ((from to : ℕ) → link_at n r.table.items from to ≡ None)) }
     {
-        let mut table = Vec::new(alloc);
-        for _ in 0..n * n {
-            table.push(None)?;
-        }
+        let table = vec![in alloc; None; n * n]?;
         Ok(Links { n, table })
     }
 
