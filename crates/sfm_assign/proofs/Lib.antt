@@ -7,6 +7,7 @@ pub mod Augments
 pub mod Fills
 pub mod Cutting
 pub mod Outcomes
+pub mod Growing
 pub mod Pours
 pub mod Lowers
 pub mod Filling

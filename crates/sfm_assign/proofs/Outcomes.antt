@@ -10,13 +10,13 @@ use Rattle.sfm_spec.specs.Bounds.{total_of}
 use Rattle.sfm_spec.proofs.Sizes.{weight-empty}
 use Rattle.sfm_assign.specs.Splits.{sum_at, amount_at, slots_of, IsAmount, IsCapacity, IsAssignment, CanBeMet, IsShort, IsMost, Demands, AreDemands}
 use Rattle.sfm_assign.specs.Cells.{joined, owners, cut, AreCells, IsPart, IsMet}
-use Rattle.sfm_assign.specs.Search.{GetsMore, IsFilled}
+use Rattle.sfm_assign.specs.Search.{GetsMore, IsFilled, IsLacking}
 use Rattle.sfm_assign.proofs.Rows.{AreBelow, cells_of, split_of_part}
 use Rattle.sfm_assign.proofs.Hall.{hall_easy, short_refuses, short_of_closed, most_of_closed}
 
 -- ---- nothing on each cell
 
-sum_at-nothing : (k n : ℕ) (js : List ℕ) → sum_at k js (replicate n (pos 0)) ≡ pos 0
+pub sum_at-nothing : (k n : ℕ) (js : List ℕ) → sum_at k js (replicate n (pos 0)) ≡ pos 0
 sum_at-nothing k n [] = refl
 sum_at-nothing k zero (j ∷ js) = refl
 sum_at-nothing k (suc n) (j ∷ js) = let r = sum_at-nothing k n js in at (nat_eq j k) r where
@@ -52,6 +52,10 @@ pub short_from : (d : Demands) (y : List ℤ) (s : List Bool) (i : ℕ) → AreD
 short_from d y s i sound part filled lt less =
     let short = short_of_closed d.demands d.capacities d.lists y sound.same sound.exist part s filled.places filled.closed i (filled.lacking i lt less) less in
     (short, short_refuses d.demands d.lists d.capacities s sound.same sound.exist short)
+
+pub lacking_end : (d : Demands) (y : List ℤ) (s : List Bool) → AreDemands d → IsPart d.demands d.capacities (owners 0 d.lists) (joined d.lists) y → IsLacking d.demands d.capacities (owners 0 d.lists) (joined d.lists) y s
+    → IsShort d.demands d.lists d.capacities s × (CanBeMet d.demands d.lists d.capacities → ⊥)
+lacking_end d y s sound part h = short_from d y s h.one sound part h.filled h.in_range h.less
 
 -- ---- the most of one demand
 

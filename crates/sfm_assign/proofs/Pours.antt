@@ -1,20 +1,16 @@
 -- What one cell after another gets in a first filling: within what its demand lacks and what its slot has left.
-use Rattle.std.proofs.Common.{◌≡◌, ℕ, ◌<◌, ◌^◌, List, length, set, ℤ, pos, ◌+ℤ◌, ◌-ℤ◌, ◌≤ℤ◌, sym, ap, ◌∙◌, arith, ⊎_elim, length-set, get_or-set_other, get_or-set_same}
+use Rattle.std.proofs.Common.{◌≡◌, ℕ, ◌<◌, ◌^◌, List, length, set, ℤ, pos, ◌+ℤ◌, ◌-ℤ◌, ◌≤ℤ◌, sym, ap, ◌∙◌, arith, refl, replicate, ⊎_elim, length-set, get_or-set_other, get_or-set_same}
 use Rattle.std.specs.List.{All}
 use Rattle.std.proofs.lemmas.Int.{ints}
 use Rattle.std.proofs.lemmas.Bool.{cases_eq}
 use Rattle.std.proofs.lemmas.List.Elements.{All-get_or}
-use Rattle.sfm_assign.specs.Splits.{sum_at, amount_at, IsCapacity}
+use Rattle.sfm_assign.specs.Splits.{sum_at, amount_at, IsAmount, IsCapacity}
 use Rattle.sfm_assign.specs.Cells.{label_at, AreCells, IsPart}
-use Rattle.sfm_assign.specs.Search.{AreLeft, GetsMore}
+use Rattle.sfm_assign.specs.Search.{AreLeft}
+use Rattle.sfm_assign.specs.Pours.{IsPouring, IsPoured}
 use Rattle.sfm_assign.proofs.Amounts.{AreAmounts, sum_at-set, sum_at-holds, only-same, only-other}
-
--- amounts by which no demand gets less than before, and what they leave of demands and of capacities
-pub record IsPouring (demands capacities : List ℤ) (whos slots : List ℕ) (y z lacks rooms : List ℤ) : Type 0 where
-  pub part : IsPart demands capacities whos slots z
-  pub more : GetsMore whos y z
-  pub lacks_are : AreLeft demands whos z lacks
-  pub rooms_are : AreLeft capacities slots z rooms
+use Rattle.sfm_assign.proofs.Outcomes.{sum_at-nothing, nothing_part}
+use Rattle.sfm_assign.proofs.Fills.{left_low}
 
 -- an amount changed at a cell leaves none negative
 pub amounts_set : (z : List ℤ) (e : ℕ) (b : ℤ) → AreAmounts z → e < length z → pos 0 ≤ℤ b → AreAmounts (set z e b)
@@ -105,3 +101,28 @@ module _ (demands capacities : List ℤ) (whos slots : List ℕ) (y z lacks room
       lacks_are = left_less demands whos z lacks e a inv.part.cells lt (cells.owned e lt) inv.lacks_are;
       rooms_are = left_less capacities slots z rooms e a same_slots in_slots (cells.exist e lt) inv.rooms_are;
     }
+
+-- neither what a demand lacks nor what a slot has left is negative
+pub pour_low : (demands capacities : List ℤ) (whos slots : List ℕ) (y z lacks rooms : List ℤ) (e i s : ℕ) → AreCells (length demands) (length capacities) whos slots → IsPouring demands capacities whos slots y z lacks rooms → e < length whos
+    → label_at whos e ≡ i → label_at slots e ≡ s → (pos 0 ≤ℤ amount_at lacks i) × (pos 0 ≤ℤ amount_at rooms s)
+pour_low demands capacities whos slots y z lacks rooms e i s cells inv lt who slot =
+    let pl = inv.lacks_are.places in
+    let pr = inv.rooms_are.places in
+    let li = cells.owned e lt in
+    let ls = cells.exist e lt in
+    (left_low demands whos z lacks inv.lacks_are inv.part.got i (omega (arith, pl, li, who)), left_low capacities slots z rooms inv.rooms_are inv.part.within s (omega (arith, pr, ls, slot)))
+
+-- one cell more has got what it can get
+pub poured_more : (demands capacities : List ℤ) (whos slots : List ℕ) (y z lacks rooms : List ℤ) (e : ℕ) (most : ℤ) (z' lacks' rooms' : List ℤ) → AreCells (length demands) (length capacities) whos slots → e < length whos
+    → IsPouring demands capacities whos slots y z lacks rooms → IsPoured whos slots e most z lacks rooms z' lacks' rooms' → IsPouring demands capacities whos slots y z' lacks' rooms'
+poured_more demands capacities whos slots y z lacks rooms e most z' lacks' rooms' cells lt inv h =
+    rw (h.got, h.lacks_less, h.rooms_less) (poured demands capacities whos slots y z lacks rooms e h.amount cells inv lt h.low h.fits h.lacking)
+
+-- nothing on any cell leaves all
+pub pouring_nothing : (demands capacities : List ℤ) (whos slots : List ℕ) → All IsAmount demands → All IsCapacity capacities → IsPouring demands capacities whos slots (replicate (length whos) (pos 0)) (replicate (length whos) (pos 0)) demands capacities
+pouring_nothing demands capacities whos slots amounts bounded = record {
+  part = nothing_part demands capacities whos slots (λ i lt. (All-get_or IsAmount demands i (pos 0) lt amounts).low) (λ s lt. (All-get_or IsCapacity capacities s (pos 0) lt bounded).low);
+  more = λ i. omega (arith, ints);
+  lacks_are = record { places = refl; each = λ k lt. let z = sum_at-nothing k (length whos) whos in omega (arith, ints, z) };
+  rooms_are = record { places = refl; each = λ k lt. let z = sum_at-nothing k (length whos) slots in omega (arith, ints, z) };
+}

@@ -1,5 +1,6 @@
 pub mod Splits
 pub mod Cells
 pub mod Search
+pub mod Pours
 pub mod Ends
 pub mod Lenders

@@ -166,6 +166,13 @@ pub record IsFilled (demands capacities : List ℤ) (whos slots : List ℕ) (y :
   pub closed : IsClosed capacities whos slots y set
   pub lacking : (i : ℕ) → i < length demands → sum_at i whos y <ℤ amount_at demands i → Has set i
 
+-- some demand lacks something, and the set is closed and has all that do
+pub record IsLacking (demands capacities : List ℤ) (whos slots : List ℕ) (y : List ℤ) (set : List Bool) : Type 0 where
+  pub filled : IsFilled demands capacities whos slots y set
+  pub one : ℕ
+  pub in_range : one < length demands
+  pub less : sum_at one whos y <ℤ amount_at demands one
+
 -- the demand v gets a less, each other as much as before, and no slot has more
 pub record IsLowered (whos slots : List ℕ) (v : ℕ) (a : ℤ) (y z : List ℤ) : Type 0 where
   pub cells : length z ≡ length y

@@ -28,6 +28,15 @@ impl Slots {
     {
         self.items.as_slice()
     }
+
+    /// A copy.
+    fn copy(&self, alloc: Global) -> Result<Slots, Memory>
+        ensures { IfOk result (λ r. r ≡ self.now) }
+    {
+        Ok(Slots {
+            items: Vec::from_slice(alloc, &self.items)?,
+        })
+    }
 }
 
 /// Demands, the slots that each may use, and what each slot holds at most. A slot may stand more than once in a list.
@@ -83,6 +92,41 @@ impl Demand {
             self.demands.pop();
             return Err(Memory);
         }
+        Ok(())
+    }
+
+    /// A copy.
+    pub(crate) fn copy(&self, alloc: Global) -> Result<Demand, Memory>
+        ensures { IfOk result (λ r. r ≡ self.now) }
+    {
+        let mut lists = Vec::with_capacity(alloc, self.lists.len())?;
+        for list in &self.lists {
+            lists.push(list.copy(alloc)?)?;
+        }
+        Ok(Demand {
+            demands: Vec::from_slice(alloc, &self.demands)?,
+            lists,
+            capacities: Vec::from_slice(alloc, &self.capacities)?,
+        })
+    }
+
+    /// Puts copies of other demands and of other capacities in place of these, over the same lists.
+    pub(crate) fn copy_from(
+        &mut self,
+        alloc: Global,
+        demands: &[i128],
+        capacities: &[i128],
+    ) -> Result<(), Memory>
+        requires places { length demands.now ≡ length self.old.demands }
+        requires slots { length capacities.now ≡ length self.old.capacities }
+        requires amounts { All IsAmount demands.now }
+        requires bounded { All IsCapacity capacities.now }
+        ensures { self.new ≡ (if is_ok result then record { demands = demands.now; lists = self.old.lists; capacities = capacities.now } else self.old) }
+    {
+        let demands = Vec::from_slice(alloc, demands)?;
+        let capacities = Vec::from_slice(alloc, capacities)?;
+        self.demands = demands;
+        self.capacities = capacities;
         Ok(())
     }
 

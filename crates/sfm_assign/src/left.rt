@@ -1,5 +1,5 @@
 // What is left of demands or of capacities once the amounts on the cells are taken off.
-ghost use Rattle.std.specs.Prelude.{◌≡◌, ℕ, ◌<◌, length, pos, ◌≤ℤ◌, ◌<ℤ◌, IfOk, MatchOption};
+ghost use Rattle.std.specs.Prelude.{◌≡◌, ℕ, ◌<◌, length, pos, ◌-ℤ◌, ◌≤ℤ◌, ◌<ℤ◌, IfOk, MatchOption};
 ghost use Rattle.sfm_assign.specs.Splits.{sum_at, amount_at};
 ghost use Rattle.sfm_assign.specs.Cells.{label_at};
 ghost use Rattle.sfm_assign.specs.Search.{AreLeft};
@@ -25,6 +25,25 @@ pub(crate) fn left_of(
         left[labels[e]] -= y[e];
     }
     Ok(left)
+}
+
+/// What is left of one total.
+pub(crate) fn left_at(
+    alloc: Global,
+    totals: &[i128],
+    labels: &[usize],
+    y: &[i128],
+    k: usize,
+) -> Result<i128, Memory>
+    requires same { length y.now ≡ length labels.now }
+    requires below { (e : ℕ) → e < length labels.now → label_at labels.now e < length totals.now }
+    requires amounts { (e : ℕ) → pos 0 ≤ℤ amount_at y.now e }
+    requires within { (k : ℕ) → k < length totals.now → sum_at k labels.now y.now ≤ℤ amount_at totals.now k }
+    requires place { k < length totals.now }
+    ensures { IfOk result (λ r. r ≡ (amount_at totals.now k -ℤ sum_at k labels.now y.now)) }
+{
+    let left = left_of(alloc, totals, labels, y)?;
+    Ok(left[k])
 }
 
 /// The first demand that lacks something.

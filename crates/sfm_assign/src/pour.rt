@@ -1,10 +1,12 @@
 // A first filling: one cell after another gets what its demand still lacks, as far as its slot has room. It leaves little to
-// the searches, and takes nothing from any demand.
-ghost use Rattle.std.specs.Prelude.{◌≡◌, ◌<◌, length, pos, ◌-ℤ◌, ◌≤ℤ◌, slice_set};
+// the searches, and takes nothing from any demand. From amounts that are too much for other demands or capacities it keeps
+// what these allow, in the same way, begun with nothing: each cell gets no more than it had.
+ghost use Rattle.std.specs.Prelude.{◌≡◌, ℕ, List, ℤ, ◌<◌, length, pos, ◌-ℤ◌, ◌≤ℤ◌, slice_set, IfOk};
 ghost use Rattle.std.specs.List.{All};
-ghost use Rattle.sfm_assign.specs.Splits.{amount_at, IsCapacity};
+ghost use Rattle.sfm_assign.specs.Splits.{amount_at, IsAmount, IsCapacity};
 ghost use Rattle.sfm_assign.specs.Cells.{AreCells, IsPart};
 ghost use Rattle.sfm_assign.specs.Search.{GetsMore};
+ghost use Rattle.sfm_assign.specs.Pours.{IsPouring, IsPoured};
 
 use crate::augment::put;
 use crate::cells::Cells;
@@ -20,6 +22,28 @@ pub(crate) fn take(from: &mut [i128], k: usize, a: i128)
     ensures { from.new ≡ slice_set from.old k (amount_at from.old k -ℤ a) }
 {
     from[k] -= a;
+}
+
+/// Puts on a cell as much of an amount as its demand lacks and its slot has room for.
+fn pour_on(
+    cells: &Cells,
+    e: usize,
+    most: i128,
+    lacks: &mut [i128],
+    rooms: &mut [i128],
+    y: &mut [i128],
+)
+    requires cell { e < length cells.now.whos.items }
+    requires low { pos 0 ≤ℤ most }
+    requires pouring { (demands capacities before : List ℤ) × AreCells (length demands) (length capacities) cells.now.whos.items cells.now.slots.items × All IsCapacity capacities × IsPouring demands capacities cells.now.whos.items cells.now.slots.items before y.old lacks.old rooms.old }
+    ensures { IsPoured cells.now.whos.items cells.now.slots.items e most y.old lacks.old rooms.old y.new lacks.new rooms.new }
+{
+    let i = cells.whos[e];
+    let s = cells.slots[e];
+    let a = most.min(lacks[i]).min(rooms[s]);
+    take(lacks, i, a);
+    take(rooms, s, a);
+    put(y, e, a);
 }
 
 /// Puts on each cell in turn as much as its demand lacks and its slot has room for.
@@ -39,12 +63,31 @@ pub(crate) fn pour(
     let mut lacks = left_of(alloc, demands, &cells.whos, y)?;
     let mut rooms = left_of(alloc, capacities, &cells.slots, y)?;
     for e in 0..cells.whos.len() {
-        let i = cells.whos[e];
-        let s = cells.slots[e];
-        let a = lacks[i].min(rooms[s]);
-        take(&mut lacks, i, a);
-        take(&mut rooms, s, a);
-        put(y, e, a);
+        pour_on(cells, e, i128::MAX, &mut lacks, &mut rooms, y);
     }
     Ok(())
+}
+
+/// What is kept of amounts on the cells, so that no demand gets more than it asks for and no slot more than its capacity.
+pub(crate) fn trimmed(
+    alloc: Global,
+    cells: &Cells,
+    demands: &[i128],
+    capacities: &[i128],
+    y: &[i128],
+) -> Result<Vec<i128>, Memory>
+    requires cells { AreCells (length demands.now) (length capacities.now) cells.now.whos.items cells.now.slots.items }
+    requires low { All IsAmount demands.now }
+    requires bounded { All IsCapacity capacities.now }
+    requires same { length y.now ≡ length cells.now.whos.items }
+    requires amounts { (e : ℕ) → pos 0 ≤ℤ amount_at y.now e }
+    ensures { IfOk result (λ z. IsPart demands.now capacities.now cells.now.whos.items cells.now.slots.items z.items) }
+{
+    let mut kept = cells.nothing(alloc)?;
+    let mut lacks = Vec::from_slice(alloc, demands)?;
+    let mut rooms = Vec::from_slice(alloc, capacities)?;
+    for e in 0..cells.whos.len() {
+        pour_on(cells, e, y[e], &mut lacks, &mut rooms, &mut kept);
+    }
+    Ok(kept)
 }

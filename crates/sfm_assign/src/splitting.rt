@@ -1,8 +1,10 @@
 // A split of all demands, or a set of them that asks for more than its slots have. The amounts on the cells are raised as far as
 // they go; where a demand still lacks something, those that were found ask for too much.
 ghost use Rattle.std.specs.Prelude.{◌≡◌, ℕ, ◌<◌, List, length, ℤ, pos, ◌≤ℤ◌, ◌<ℤ◌, IfOk, MatchOption, MatchResult};
-ghost use Rattle.sfm_assign.specs.Splits.{sum_at, amount_at, AreDemands, IsAssignment};
+ghost use Rattle.std.specs.List.{All};
+ghost use Rattle.sfm_assign.specs.Splits.{sum_at, amount_at, IsCapacity, AreDemands, IsAssignment};
 ghost use Rattle.sfm_assign.specs.Cells.{joined, owners, AreCells, IsPart, IsMet, AreMet};
+ghost use Rattle.sfm_assign.specs.Search.{IsLacking};
 ghost use Rattle.sfm_assign.specs.Ends.{IsAssignEnd};
 
 use crate::cells::Cells;
@@ -54,6 +56,43 @@ pub(crate) struct Shares {
     pub y: Vec<i128>,
 }
 
+impl Shares {
+    /// A copy.
+    pub(crate) fn copy(&self, alloc: Global) -> Result<Shares, Memory>
+        ensures whos { IfOk result (λ r. r.cells.whos.items ≡ self.now.cells.whos.items) }
+        ensures slots { IfOk result (λ r. r.cells.slots.items ≡ self.now.cells.slots.items) }
+        ensures amounts { IfOk result (λ r. r.y.items ≡ self.now.y.items) }
+    {
+        Ok(Shares {
+            cells: self.cells.copy(alloc)?,
+            y: Vec::from_slice(alloc, &self.y)?,
+        })
+    }
+}
+
+/// Raises amounts until each demand gets what it asks for; or, where one still lacks something, tells a closed set with all
+/// that do.
+pub(crate) fn raise_all(
+    alloc: Global,
+    cells: &Cells,
+    demands: &[i128],
+    capacities: &[i128],
+    y: &mut [i128],
+) -> Result<Option<Set>, Memory>
+    requires cells { AreCells (length demands.now) (length capacities.now) cells.now.whos.items cells.now.slots.items }
+    requires bounded { All IsCapacity capacities.now }
+    requires part { IsPart demands.now capacities.now cells.now.whos.items cells.now.slots.items y.old }
+    ensures part { IsPart demands.now capacities.now cells.now.whos.items cells.now.slots.items y.new }
+    ensures told { IfOk result (λ r. MatchOption r (IsMet demands.now cells.now.whos.items y.new) (IsLacking demands.now capacities.now cells.now.whos.items cells.now.slots.items y.new)) }
+{
+    let set = fill(alloc, cells, demands, capacities, y)?;
+    let lacking = unmet(alloc, cells, demands, y)?;
+    if lacking.is_some() {
+        return Ok(Some(set));
+    }
+    Ok(None)
+}
+
 /// Amounts raised until each demand gets what it asks for.
 pub(crate) fn raised(alloc: Global, demand: &Demand, shares: Shares) -> Result<Shares, AssignEnd>
     requires in_order { shares.cells.whos.items ≡ owners 0 demand.now.lists }
@@ -64,9 +103,8 @@ pub(crate) fn raised(alloc: Global, demand: &Demand, shares: Shares) -> Result<S
 {
     let Shares { cells, mut y } = shares;
     let demands = demand.demands();
-    let set = fill(alloc, &cells, demands, demand.capacities(), &mut y)?;
-    let lacking = unmet(alloc, &cells, demands, &y)?;
-    if lacking.is_some() {
+    let lacking = raise_all(alloc, &cells, demands, demand.capacities(), &mut y)?;
+    if let Some(set) = lacking {
         return Err(AssignEnd::Shortage { set });
     }
     Ok(Shares { cells, y })

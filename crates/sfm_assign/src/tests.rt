@@ -1,5 +1,7 @@
 // Small demands over two slots that hold 3 and 2, with answers worked by hand.
 ghost use Rattle.std.specs.Prelude.{◌≡◌, ◌<◌, IfOk, [], ◌∷◌, length, slice_set, pos};
+ghost use Rattle.std.specs.List.{All};
+ghost use Rattle.sfm_assign.specs.Splits.{IsAmount, IsCapacity};
 
 use crate::{AssignEnd, Demand, Kept, Split, assign, most};
 use sfm_base::{Memory, Set};
@@ -192,5 +194,54 @@ fn goes_on_after_a_shift(rt: HostRuntime) -> Result<(), Fail> {
         }
         Err(_) => panic!(rt; "no split"),
     }
+    Ok(())
+}
+
+/// Asserts that other demands and capacities are split over the same lists.
+fn brings(rt: &impl Abort, alloc: Global, kept: &mut Kept, demands: &[i128], capacities: &[i128])
+    requires sized { length demands.now ≡ length kept.old.demand.demands }
+    requires slots { length capacities.now ≡ length kept.old.demand.capacities }
+    requires amounts { All IsAmount demands.now }
+    requires bounded { All IsCapacity capacities.now }
+    ensures { kept.new.demand ≡ record { demands = demands.now; lists = kept.old.demand.lists; capacities = capacities.now } }
+{
+    match kept.bring(alloc, demands, capacities) {
+        Ok(()) => {}
+        Err(_) => panic!(rt; "no split"),
+    }
+}
+
+#[test]
+fn brings_a_copy_to_other_demands(rt: HostRuntime) -> Result<(), Fail> {
+    let alloc = rt.alloc();
+    let first = kept(&rt, alloc, in_a_row(alloc, 0, 1)?);
+    let mut other = first.copy(alloc)?;
+    brings(&rt, alloc, &mut other, &[1, 0, 1, 1], &[1, 1, 1]);
+    reaches(&rt, alloc, &other, 1, &[true, false, true, false])?;
+    brings(&rt, alloc, &mut other, &[0, 3, 0, 0], &[2, 1, 0]);
+    reaches(&rt, alloc, &other, 2, &[false, true, false, false])?;
+    brings(&rt, alloc, &mut other, &[0, 1, 1, 1], &[1, 1, 1]);
+    reaches(&rt, alloc, &other, 0, &[false, true, true, false])?;
+    reaches(&rt, alloc, &first, 0, &[false, true, true, false])?;
+    match other.bring(alloc, &[1, 1, 1, 0], &[1, 1, 1]) {
+        Err(AssignEnd::Shortage { set }) => {
+            assert!(rt; set.len() == 4);
+            assert!(rt; set.contains(0) && set.contains(1) && set.contains(2));
+        }
+        _ => panic!(rt; "no shortage"),
+    }
+    reaches(&rt, alloc, &other, 0, &[false, true, true, false])?;
+    Ok(())
+}
+
+#[test]
+fn grows_as_far_as_it_can(rt: HostRuntime) -> Result<(), Fail> {
+    let alloc = rt.alloc();
+    let mut full = kept(&rt, alloc, in_a_row(alloc, 0, 0)?);
+    assert_eq!(rt; full.grow(alloc, 1, 5)?, 1);
+    assert_eq!(rt; full.grow(alloc, 0, 5)?, 0);
+    let mut room = kept(&rt, alloc, demands(alloc, 1, 1, 0)?);
+    assert_eq!(rt; room.grow(alloc, 0, 2)?, 2);
+    assert_eq!(rt; room.grow(alloc, 0, 2)?, 1);
     Ok(())
 }

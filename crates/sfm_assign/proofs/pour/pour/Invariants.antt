@@ -1,5 +1,5 @@
 -- the amounts so far, and what they leave
-use Rattle.sfm_assign.proofs.Pours.{IsPouring}
+use Rattle.sfm_assign.specs.Pours.{IsPouring}
 use Rattle.sfm_assign.proofs.pour.pour.Given as goal
 
 abbrev pub invariant-loop-e : goal.invariant-loop-e

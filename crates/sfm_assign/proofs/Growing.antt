@@ -1,0 +1,93 @@
+-- One demand raised as far as it goes, up to a limit, while all others are met.
+use Rattle.std.proofs.Common.{◌≡◌, ℕ, ◌<◌, Bool, false, List, length, get_or, ℤ, pos, ◌+ℤ◌, ◌-ℤ◌, ◌≤ℤ◌, sym, ap, arith, ⊎_elim, length-set, ◌∙◌}
+use Rattle.std.specs.List.{All}
+use Rattle.std.proofs.lemmas.Int.{ints, by_lt_z}
+use Rattle.std.proofs.lemmas.Bool.{cases_eq, cases_Bool, false≢true}
+use Rattle.std.proofs.lemmas.List.{set-set, set-get_or}
+use Rattle.sfm_assign.specs.Splits.{sum_at, amount_at, IsAmount, IsCapacity, Demands, AreDemands}
+use Rattle.sfm_assign.specs.Cells.{joined, owners, cut, IsPart, IsMet}
+use Rattle.sfm_assign.specs.Search.{GetsMore, IsFilled}
+use Rattle.sfm_assign.specs.Lenders.{with_more, IsMostUpto}
+use Rattle.sfm_assign.proofs.Rows.{split_of_part}
+use Rattle.sfm_assign.proofs.Hall.{most_of_closed}
+use Rattle.sfm_assign.proofs.Outcomes.{changed-at, changed-other, asked_part}
+
+module _ (d : Demands) (sound : AreDemands d) (u : ℕ) (lu : u < length d.demands) (limit : ℤ) (low : pos 0 ≤ℤ limit) (y : List ℤ) (part : IsPart d.demands d.capacities (owners 0 d.lists) (joined d.lists) y) where
+  -- the amounts by which the demands are met are still amounts when one of them asks for more
+  pub growing_part : IsPart (with_more d u limit).demands d.capacities (owners 0 d.lists) (joined d.lists) y
+  growing_part = asked_part d sound u lu (amount_at d.demands u) (amount_at d.demands u +ℤ limit) y (omega (arith, ints, low)) (rw (set-get_or d.demands u (pos 0)) part)
+
+  module _ (met : IsMet d.demands (owners 0 d.lists) y) (z : List ℤ) (t : List Bool) (pz : IsPart (with_more d u limit).demands d.capacities (owners 0 d.lists) (joined d.lists) z) (fz : IsFilled (with_more d u limit).demands d.capacities (owners 0 d.lists) (joined d.lists) z t)
+      (more : GetsMore (owners 0 d.lists) y z) (g : ℤ) (is : g ≡ (sum_at u (owners 0 d.lists) z -ℤ amount_at d.demands u)) where
+    abbrev asked : ℤ → List ℤ
+    asked b = (with_more d u b).demands
+
+    places : (b : ℤ) → length (asked b) ≡ length d.demands
+    places b = length-set d.demands u (amount_at d.demands u +ℤ b)
+
+    at_u : (b : ℤ) → amount_at (asked b) u ≡ (amount_at d.demands u +ℤ b)
+    at_u b = changed-at d.demands u lu (amount_at d.demands u +ℤ b)
+
+    at_other : (b : ℤ) (i : ℕ) → (i ≡ u → ⊥) → amount_at (asked b) i ≡ amount_at d.demands i
+    at_other b i ne = changed-other d.demands u lu (amount_at d.demands u +ℤ b) i ne
+
+    -- u gets exactly what it asks for then
+    gets : (i : ℕ) → i ≡ u → sum_at i (owners 0 d.lists) z ≡ amount_at (asked g) i
+    gets i q =
+        let a = ap (λ k. amount_at (asked g) k) q in
+        let b = ap (λ k. sum_at k (owners 0 d.lists) z) q in
+        let e = at_u g in
+        omega (arith, ints, a, b, e, is)
+
+    pub grown_part : IsPart (asked g) d.capacities (owners 0 d.lists) (joined d.lists) z
+    grown_part = record {
+      cells = pz.cells;
+      amounts = pz.amounts;
+      got = λ i lt.
+          let lg = places g in
+          let ll = places limit in
+          let p = pz.got i (omega (arith, lt, lg, ll)) in
+          ⊎_elim
+          (λ (q : i ≡ u). let h = gets i q in omega (arith, ints, h))
+          (λ ne. let a = at_other g i ne in let b = at_other limit i ne in omega (arith, ints, p, a, b))
+          (cases_eq i u);
+      within = pz.within;
+    }
+
+    pub grown_met : IsMet (asked g) (owners 0 d.lists) z
+    grown_met i lt =
+        let lg = places g in
+        ⊎_elim
+        (λ (q : i ≡ u). let h = gets i q in omega (arith, ints, h))
+        (λ ne. let m = met i (omega (arith, lt, lg)) in let a = at_other g i ne in let r = more i in omega (arith, ints, m, a, r))
+        (cases_eq i u)
+
+    pub grown_most : IsMostUpto d u limit g
+    grown_most = record {
+      low = (let m = met u lu in let r = more u in omega (arith, ints, m, r, is));
+      high = (let l = places limit in let p = pz.got u (omega (arith, l, lu)) in let e = at_u limit in omega (arith, ints, p, e, is));
+      reached = (cut d.lists z, split_of_part (asked g) d.lists d.capacities z (sound.same ∙ sym (places g)) grown_part grown_met);
+      greatest = λ b some le can.
+          let l = places limit in
+          let e = at_u limit in
+          ⊎_elim
+          (λ has.
+          let h = most_of_closed (asked limit) d.capacities d.lists z (sound.same ∙ sym (places limit)) sound.exist pz t fz.places fz.closed u has (amount_at d.demands u +ℤ b) (rw (set-set d.demands u (amount_at d.demands u +ℤ limit) (amount_at d.demands u +ℤ b)) can) in
+          omega (arith, ints, h, is))
+          (λ out. by_lt_z (sum_at u (owners 0 d.lists) z) (amount_at (asked limit) u)
+          (λ less. absurd (false≢true (sym out ∙ fz.lacking u (omega (arith, lu, l)) less)))
+          (λ ge. omega (arith, ints, ge, e, is, le)))
+          (cases_Bool (get_or t u false));
+    }
+
+-- other demands and capacities over the same lists
+pub other_demands : (d : Demands) → AreDemands d → (demands capacities : List ℤ) → length demands ≡ length d.demands → length capacities ≡ length d.capacities → All IsAmount demands → All IsCapacity capacities
+    → AreDemands (record { demands = demands; lists = d.lists; capacities = capacities })
+other_demands d sound demands capacities sized slots amounts bounded = record {
+  same = sound.same ∙ sym sized;
+  few = rw sized sound.few;
+  few_slots = rw slots sound.few_slots;
+  amounts = amounts;
+  bounded = bounded;
+  exist = rw slots sound.exist;
+}
