@@ -9,6 +9,7 @@ mod greatest;
 mod kept;
 mod left;
 mod lower;
+mod met;
 mod nodes;
 mod pour;
 mod search;
