@@ -5,10 +5,15 @@ use Rattle.std.proofs.lemmas.Int.{ints}
 use Rattle.std.specs.List.{All}
 use mir.Syntax.{w128}
 use Rattle.sfm_assign.specs.Splits.{IsAmount}
+use Rattle.sfm_law.proofs.Monotone.{AreCounts}
 
 -- entries from 0 to a number
 pub within_amounts : (x : List ℤ) (c : ℤ) → c ≤ℤ pos (10 ^ 24) → All (λ a. (pos 0 ≤ℤ a) × (a ≤ℤ c)) x → All IsAmount x
 within_amounts x c h all k d lt = let r = all k d lt in record { low = r.0; high = omega (arith, ints, r.1, h) }
+
+-- amounts are not negative
+pub amounts_count : (x : List ℤ) → All IsAmount x → AreCounts x
+amounts_count x all e lt = (all e (pos 0) lt).low
 
 pub amount_fits : (a : ℤ) → IsAmount a → FitsSigned w128 a
 amount_fits a h = omega (arith, ints)

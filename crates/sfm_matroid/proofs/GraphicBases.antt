@@ -10,9 +10,9 @@ use Rattle.sfm_spec.proofs.Scaled.{times-assoc}
 use Rattle.sfm_matroid.specs.Cuts.{IsWithinEnds}
 use Rattle.sfm_matroid.specs.Graphs.{EndsBelow, graphic_rank, graphic_value, graphic_size}
 use Rattle.sfm_matroid.specs.Ends.{edges_of}
-use Rattle.sfm_matroid.specs.Numbered.{IsEnd, numbered}
+use Rattle.sfm_matroid.specs.Numbered.{IsTail, numbered}
 use Rattle.sfm_matroid.proofs.Numbers.{length-numbered, numbered_below}
-use Rattle.sfm_matroid.proofs.UsedEnds.{within_all}
+use Rattle.sfm_matroid.proofs.OneTest.{tails_enough}
 use Rattle.sfm_matroid.proofs.Labels.{length-edges}
 use Rattle.sfm_matroid.specs.Forests.{forest-matroid, graphic-ranks}
 use Rattle.sfm_matroid.proofs.Bases.{AreTests, base_counts, base_total, base_passes, passes_base}
@@ -63,9 +63,11 @@ module _ (edges : List Edge) (items : List (ℕ × ℕ)) (are : edges_of items �
   pub kept_below : (given : List (ℕ × ℕ)) → given ≡ items → EndsBelow (edges_of given) (2 * length given)
   kept_below given is = rw (is, are, as_many) (numbered_below edges [])
 
-  pub ends_kept : (given : List (ℕ × ℕ)) → given ≡ items → (c : ℤ) (x : List ℤ) (a : ℕ) → (IsEnd (numbered edges) a → IsWithinEnds (numbered edges) (2 * length edges) c x a) → IsEnd (edges_of given) a → IsWithinEnds (edges_of given) (2 * length given) c x a
-  ends_kept given is c x a h = rw (is, are, as_many) h
+  -- the tests of the tails are enough
+  pub all_tails : (given : List (ℕ × ℕ)) → given ≡ items → (c : ℤ) (x : List ℤ) → pos 0 ≤ℤ c → ((a : ℕ) → a < 2 * length given → IsTail (edges_of given) a → IsWithinEnds (edges_of given) (2 * length given) c x a)
+      → (a : ℕ) → a < 2 * length edges → IsWithinEnds (numbered edges) (2 * length edges) c x a
+  all_tails given is c x low within = tails_enough (numbered edges) (2 * length edges) (numbered_below edges []) c low x (rw (is, are, as_many) at within)
 
-  -- the tests of the ends are enough
-  pub all_ends : (c : ℤ) (x : List ℤ) → pos 0 ≤ℤ c → ((a : ℕ) → a < 2 * length items → IsEnd (edges_of items) a → IsWithinEnds (edges_of items) (2 * length items) c x a) → (a : ℕ) → a < 2 * length edges → IsWithinEnds (numbered edges) (2 * length edges) c x a
-  all_ends c x low within a lt = within_all (numbered edges) (2 * length edges) c x low (numbered_below edges []) (let l = length-numbered edges [] in omega (arith, lt, l)) (rw (are, as_many) at within) a lt
+  pub tails_kept : (given : List (ℕ × ℕ)) → given ≡ items → (c : ℤ) (x : List ℤ) → ((a : ℕ) → a < 2 * length edges → IsWithinEnds (numbered edges) (2 * length edges) c x a)
+      → (a : ℕ) → a < 2 * length given → IsTail (edges_of given) a → IsWithinEnds (edges_of given) (2 * length given) c x a
+  tails_kept given is c x h = rw (is, are, as_many) (λ a lt tail. h a lt)

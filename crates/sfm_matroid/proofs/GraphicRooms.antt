@@ -1,6 +1,7 @@
 -- How much can be exchanged at a base of a graphic term: by the most that an edge gets in each test, without
 -- another edge; and to whom an edge has room, by those that can lend to it in each test.
 use Rattle.std.proofs.Common.{◌≡◌, ◌≢◌, ◌↔◌, Option, ℕ, ◌*◌, ◌<◌, Bool, List, [], length, get_or, set, ℤ, pos, ◌*ℤ◌, ◌≤ℤ◌, refl, sym, ap, ◌∙◌, arith, inl, inr, ⊎_elim}
+use Rattle.std.proofs.lemmas.Bool.{false≢true}
 use Rattle.std.proofs.lemmas.Int.{ints, by_lt_z}
 use Rattle.sfm_spec.specs.Terms.{times, IsBase, IsCapacity, HasRoom, exchanged}
 use Rattle.sfm_spec.specs.Kinds.{Edge, IsForest}
@@ -17,7 +18,7 @@ use Rattle.sfm_spec.specs.Sets.{Has}
 use Rattle.sfm_law.specs.Room.{IsReach}
 use Rattle.sfm_matroid.proofs.Keeping.{reach_kept, CanLend}
 use Rattle.sfm_matroid.proofs.Numbering.{pair-edge}
-use Rattle.sfm_matroid.proofs.OneTest.{IsLessWithout, tail_enough, less_exchanged, less_raised}
+use Rattle.sfm_matroid.proofs.OneTest.{IsLessWithout, end_enough, less_exchanged, less_raised}
 use Rattle.sfm_matroid.proofs.MatroidTests.{numbered_tests}
 use Rattle.sfm_matroid.proofs.SplitTests.{split_within_ends, within_ends_split}
 use Rattle.sfm_matroid.specs.Leasts.{IsLeastOf, IsMostOf}
@@ -76,7 +77,8 @@ module _ (k : ℕ) (q w : ℤ) (edges : List Edge) (same : length edges ≡ k) (
 
   -- what the test of the tail allows u, all tests do
   by_tail : (y : List ℤ) → IsLessWithout u x y → IsWithinEnds (numbered edges) (2 * length edges) (q *ℤ w) y (edge_at (numbered edges) u).tail → (t : ℕ) → t < 2 * length edges → IsWithinEnds (numbered edges) (2 * length edges) (q *ℤ w) y t
-  by_tail y less here = tail_enough (numbered edges) (2 * length edges) (numbered_below edges []) u nu (q *ℤ w) low x y numbered-sized less (λ t lt. base_tests k q w edges same low x kx base t lt) here
+  by_tail y less here = end_enough (numbered edges) (2 * length edges) (numbered_below edges []) (q *ℤ w) low x y x numbered-sized numbered-sized u u (edge_at (numbered edges) u).tail nu (inl refl) less (λ s ks has out. absurd (false≢true (sym out ∙ has)))
+      (λ t lt. base_tests k q w edges same low x kx base t lt) (λ t lt. base_tests k q w edges same low x kx base t lt) here
 
   has_low : pos 0 ≤ℤ get_or x v (pos 0)
   has_low = base_counts (length edges) (2 * length edges) q w low (IsForest edges) (graphic_rank edges) (forest-matroid edges) (graphic-ranks edges) (λ a x. IsWithinEnds (numbered edges) (2 * length edges) (q *ℤ w) x a) x sized base v xv

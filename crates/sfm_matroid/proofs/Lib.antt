@@ -3,7 +3,7 @@ mod MatroidTests
 mod SplitTests
 mod Matched
 mod Numbering
-mod UsedEnds
+mod Tails
 mod OneTest
 mod GraphicBases
 mod GraphicRooms

@@ -1,8 +1,12 @@
 -- Numbers of ends and demands of edges, place by place.
-use Rattle.std.proofs.Common.{◌≡◌, ℕ, zero, suc, ◌+◌, ◌<◌, List, [], ◌∷◌, ◌++◌, length, take, drop, get_or, nat_eq, ℤ, if◌then◌else◌, refl, sym, ap, ◌∙◌, arith, length-set}
-use Rattle.std.proofs.lemmas.List.{drop_more, get_or-map, length-map, length-replicate}
+use Rattle.std.proofs.Common.{◌≡◌, ℕ, zero, suc, ◌+◌, ◌<◌, ◌≤◌, ◌^◌, List, [], ◌∷◌, ◌++◌, length, take, drop, get_or, replicate, nat_eq, ℤ, pos, ◌≤ℤ◌, if◌then◌else◌, refl, sym, ap, ◌∙◌, arith, length-set}
+use Rattle.std.specs.List.{All}
+use Rattle.std.proofs.lemmas.Int.{ints}
+use Rattle.std.proofs.lemmas.List.{drop_more, get_or-map, get_or-replicate, length-map, length-replicate, set_past}
+use Rattle.std.proofs.lemmas.List.Elements.{All-set}
 use Rattle.std.proofs.lemmas.Grind.{take_at_read}
 use Rattle.sfm_spec.specs.Kinds.{no_edge}
+use Rattle.sfm_assign.specs.Splits.{IsCapacity}
 use Rattle.sfm_matroid.specs.Ends.{edges_of, edge_of}
 use Rattle.sfm_matroid.specs.Graphs.{edge_at, EndsBelow}
 use Rattle.sfm_matroid.specs.Numbered.{number, numbered, renumbered, ends_of, end_lists, vertex_capacities}
@@ -34,6 +38,14 @@ numbers-push pairs items i a b lt inv ea eb =
 
 pub length-vertices : (m : ℕ) (c : ℤ) (a : ℕ) → length (vertex_capacities m c a) ≡ m
 length-vertices m c a = length-set _ a _ ∙ length-replicate m c
+
+-- a number past all vertices is no vertex
+pub vertices-past : (m : ℕ) (c : ℤ) (a : ℕ) → m ≤ a → vertex_capacities m c a ≡ replicate m c
+vertices-past m c a le = set_past (replicate m c) a (pos 0) (let l = length-replicate m c in omega (arith, l, le))
+
+pub vertices_bounded : (m : ℕ) (c : ℤ) (a : ℕ) → pos 0 ≤ℤ c → c ≤ℤ pos (10 ^ 24) → All IsCapacity (vertex_capacities m c a)
+vertices_bounded m c a low high = All-set IsCapacity (replicate m c) a (pos 0) (record { low = omega (arith, ints); high = omega (arith, ints) })
+    (λ k d lt. let l = length-replicate m c in rw (get_or-replicate m k c d (omega (arith, l, lt))) (record { low = low; high = high }))
 
 -- two slots of m
 pub two-below : (items : List ℕ) (a b m : ℕ) → items ≡ a ∷ b ∷ [] → a < m → b < m → (k d : ℕ) → k < length items → get_or items k d < m

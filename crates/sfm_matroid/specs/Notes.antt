@@ -16,6 +16,17 @@ end_demands edges m c x a = record { demands = x; lists = end_lists edges; capac
 abbrev pub slot_demands : List (List ℕ) → ℕ → ℤ → List ℤ → Demands
 slot_demands entries m c x = record { demands = x; lists = entries; capacities = replicate m c }
 
+-- whatever is split over the ends of edges, of which m vertices hold something
+pub record IsOverEnds (edges : List Edge) (m : ℕ) (d : Demands) : Type 0 where
+  pub places : length d.demands ≡ length edges
+  pub lists : d.lists ≡ end_lists edges
+  pub vertices : length d.capacities ≡ m
+
+-- the split of demands, or none where they cannot be met
+abbrev pub IsSplitOrNone : Demands → Option Kept → Type 0
+IsSplitOrNone d None = CanBeMet d.demands d.lists d.capacities → ⊥
+IsSplitOrNone d (Some kept) = (kept.demand ≡ d) × CanBeMet d.demands d.lists d.capacities
+
 -- the split in the test of a, or none where a is no tail
 abbrev pub IsSplitAt : List Edge → ℕ → ℤ → List ℤ → ℕ → Option Kept → Type 0
 IsSplitAt edges m c x a None = IsTail edges a → ⊥

@@ -15,9 +15,13 @@ renumbered f edge = record { tail = f edge.tail; head = f edge.head }
 abbrev pub numbered : List Edge → List Edge
 numbered edges = map (renumbered (number edges)) edges
 
+-- v is an end of the edge e
+abbrev pub IsEndOf : List Edge → ℕ → ℕ → Type 0
+IsEndOf edges e v = (v ≡ (edge_at edges e).tail) ⊎ (v ≡ (edge_at edges e).head)
+
 -- v is an end of an edge
 abbrev pub IsEnd : List Edge → ℕ → Type 0
-IsEnd edges v = (e : ℕ) × (e < length edges) × ((v ≡ (edge_at edges e).tail) ⊎ (v ≡ (edge_at edges e).head))
+IsEnd edges v = (e : ℕ) × (e < length edges) × IsEndOf edges e v
 
 -- v is the tail of an edge
 abbrev pub IsTail : List Edge → ℕ → Type 0

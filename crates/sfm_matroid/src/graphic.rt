@@ -22,7 +22,7 @@ use crate::givers::{givers, keep_by_split};
 use crate::growing::{grow, whole};
 use crate::room::least_left;
 use crate::splits::{TailSplits, move_splits, tail_splits};
-use crate::testing::{numbered, passes_end};
+use crate::testing::{numbered, passes_tails};
 use sfm_base::{Memory, Places, Set};
 use sfm_law::{Room, Term, are_within, has_sum, product};
 use std::alloc::Global;
@@ -173,12 +173,8 @@ impl Graphic {
         requires high { most ≤ℤ pos (10 ^ 24) }
         ensures { IfOk result (λ r. IsTrue r ↔ ((a : ℕ) → a < 2 * length self.now.ends → IsWithinEnds (numbered self.now.ends) (2 * length self.now.ends) most x.now a)) }
     {
-        for a in 0..2 * self.numbers.len() {
-            if !passes_end(alloc, &self.numbers, x, most, a)? {
-                return Ok(false);
-            }
-        }
-        Ok(true)
+        let passed = passes_tails(alloc, &self.numbers, x, most)?;
+        Ok(passed)
     }
 
     /// Whether x is a base of q times the term.

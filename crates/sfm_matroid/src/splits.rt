@@ -12,7 +12,7 @@ ghost use Rattle.sfm_matroid.specs.Notes.{IsSplitAt, AreSplits, IsSlotSplit, IsS
 
 use crate::entries::Entries;
 use crate::matching::slot_demand;
-use crate::testing::demand;
+use crate::testing::{demand, is_tail};
 use sfm_assign::{AssignEnd, Demand, Kept};
 use sfm_base::Memory;
 use std::alloc::Global;
@@ -39,13 +39,6 @@ fn split_of(alloc: Global, demand: Demand) -> Result<Kept, Memory>
         Err(AssignEnd::Shortage { .. }) => unreachable!(),
         Err(AssignEnd::Memory) => Err(Memory),
     }
-}
-
-/// Whether a vertex is the tail of an edge.
-fn is_tail(ends: &[(usize, usize)], a: usize) -> bool
-    ensures { IsTrue result ↔ IsTail (edges_of ends.now) a }
-{
-    ends.iter().any(|pair| pair.0 == a)
 }
 
 /// The split in the test of a vertex, if that is a tail.

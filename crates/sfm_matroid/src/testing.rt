@@ -1,15 +1,17 @@
 // The tests that tell a base of a graphic term. For each vertex, each edge is a demand that is split over its two ends, which
-// hold the same number at most, and that vertex nothing. The vertices are numbered by where they first stand among the ends. A
-// number that no end has is left out: its test asks no more than that of any end.
-ghost use Rattle.std.specs.Prelude.{◌≡◌, ◌↔◌, ◌*◌, ◌<◌, ◌≤◌, ◌^◌, length, pos, ◌≤ℤ◌, IfOk, IsTrue};
+// hold the same number at most, and that vertex nothing. The vertices are numbered by where they first stand among the ends. The
+// tests of the tails are enough: a part of the edges has the tail of each of its edges, so the test of that tail asks no less
+// of it than any other. One split is made from nothing, and brought from each tail to the next.
+ghost use Rattle.std.specs.Prelude.{◌≡◌, ℕ, ◌↔◌, ◌*◌, ◌<◌, ◌≤◌, ◌^◌, length, pos, ◌≤ℤ◌, IfOk, IsTrue};
 ghost use Rattle.std.specs.List.{All};
-ghost use Rattle.sfm_assign.specs.Splits.{IsAmount};
+ghost use Rattle.sfm_assign.specs.Splits.{IsAmount, CanBeMet};
 ghost use Rattle.sfm_matroid.specs.Ends.{edges_of};
 ghost use Rattle.sfm_matroid.specs.Cuts.{IsWithinEnds};
 ghost use Rattle.sfm_matroid.specs.Graphs.{EndsBelow};
-ghost use Rattle.sfm_matroid.specs.Numbered.{IsEnd, number, numbered, end_lists, vertex_capacities};
+ghost use Rattle.sfm_matroid.specs.Notes.{end_demands, IsOverEnds, IsSplitOrNone};
+ghost use Rattle.sfm_matroid.specs.Numbered.{IsTail, number, numbered, end_lists, vertex_capacities};
 
-use sfm_assign::{AssignEnd, Demand, assign};
+use sfm_assign::{AssignEnd, Demand, Kept};
 use sfm_base::Memory;
 use std::alloc::Global;
 
@@ -41,6 +43,17 @@ pub(crate) fn numbered(alloc: Global, ends: &[(u32, u32)]) -> Result<Vec<(usize,
     Ok(numbers)
 }
 
+/// What each of m vertices may hold: a number, and the vertex a nothing.
+fn capacities(alloc: Global, m: usize, most: i128, a: usize) -> Result<Vec<i128>, Memory>
+    ensures { IfOk result (λ r. r.items ≡ vertex_capacities m most a) }
+{
+    let mut capacities = vec![in alloc; most; m]?;
+    if a < m {
+        capacities[a] = 0;
+    }
+    Ok(capacities)
+}
+
 /// The edges as demands that are split over their ends, of which each holds a number, and the vertex a nothing.
 pub(crate) fn demand(
     alloc: Global,
@@ -54,12 +67,10 @@ pub(crate) fn demand(
     requires amounts { All IsAmount x.now }
     requires low { pos 0 ≤ℤ most }
     requires high { most ≤ℤ pos (10 ^ 24) }
-    requires vertex { a < 2 * length ends.now }
     requires below { EndsBelow (edges_of ends.now) (2 * length ends.now) }
-    ensures { IfOk result (λ r. r ≡ record { demands = x.now; lists = end_lists (edges_of ends.now); capacities = vertex_capacities (2 * length ends.now) most a }) }
+    ensures { IfOk result (λ r. r ≡ end_demands (edges_of ends.now) (2 * length ends.now) most x.now a) }
 {
-    let mut capacities = vec![in alloc; most; 2 * ends.len()]?;
-    capacities[a] = 0;
+    let capacities = capacities(alloc, 2 * ends.len(), most, a)?;
     let mut demand = Demand::new(alloc, &capacities)?;
     for (e, pair) in ends.iter().enumerate() {
         demand.push(x[e], vec![in alloc; pair.0, pair.1]?)?;
@@ -67,42 +78,75 @@ pub(crate) fn demand(
     Ok(demand)
 }
 
-/// Whether a vertex is an end of an edge.
-pub(crate) fn is_end(ends: &[(usize, usize)], a: usize) -> bool
-    ensures { IsTrue result ↔ IsEnd (edges_of ends.now) a }
-{
-    ends.iter().any(|pair| pair.0 == a || pair.1 == a)
-}
-
-/// Whether no edges get more than a number for each of their ends but a.
-fn passes(
+/// The split of amounts from nothing, where each vertex holds a number, and the vertex a nothing; None where there is none.
+pub(crate) fn split(
     alloc: Global,
     ends: &[(usize, usize)],
     x: &[i128],
     most: i128,
     a: usize,
-) -> Result<bool, Memory>
+) -> Result<Option<Kept>, Memory>
     requires few { length ends.now ≤ 256 }
     requires entries { length x.now ≡ length ends.now }
     requires amounts { All IsAmount x.now }
     requires low { pos 0 ≤ℤ most }
     requires high { most ≤ℤ pos (10 ^ 24) }
-    requires vertex { a < 2 * length ends.now }
     requires below { EndsBelow (edges_of ends.now) (2 * length ends.now) }
-    ensures { IfOk result (λ r. IsTrue r ↔ IsWithinEnds (edges_of ends.now) (2 * length ends.now) most x.now a) }
+    ensures { IfOk result (IsSplitOrNone (end_demands (edges_of ends.now) (2 * length ends.now) most x.now a)) }
 {
     let demand = demand(alloc, ends, x, most, a)?;
-    match assign(alloc, &demand) {
-        Ok(_) => Ok(true),
+    match Kept::new(alloc, demand) {
+        Ok(kept) => {
+            kept.are_met();
+            Ok(Some(kept))
+        }
+        Err(AssignEnd::Shortage { .. }) => Ok(None),
+        Err(AssignEnd::Memory) => Err(Memory),
+    }
+}
+
+/// Brings a split to other amounts, where each vertex holds a number, and the vertex a nothing; false where there is no such
+/// split.
+pub(crate) fn brought(
+    alloc: Global,
+    kept: &mut Kept,
+    x: &[i128],
+    most: i128,
+    a: usize,
+) -> Result<bool, Memory>
+    requires few { length x.now ≤ 256 }
+    requires entries { length x.now ≡ length kept.old.demand.demands }
+    requires vertices { length kept.old.demand.capacities ≡ 2 * length x.now }
+    requires amounts { All IsAmount x.now }
+    requires low { pos 0 ≤ℤ most }
+    requires high { most ≤ℤ pos (10 ^ 24) }
+    ensures told { IfOk result (λ r. IsTrue r ↔ CanBeMet x.now kept.old.demand.lists (vertex_capacities (2 * length x.now) most a)) }
+    ensures brought { IfOk result (λ r. IsTrue r → kept.new.demand ≡ record { demands = x.now; lists = kept.old.demand.lists; capacities = vertex_capacities (2 * length x.now) most a }) }
+{
+    let capacities = capacities(alloc, 2 * x.len(), most, a)?;
+    match kept.bring(alloc, x, &capacities) {
+        Ok(()) => {
+            kept.are_met();
+            Ok(true)
+        }
         Err(AssignEnd::Shortage { .. }) => Ok(false),
         Err(AssignEnd::Memory) => Err(Memory),
     }
 }
 
-/// The same, told of ends alone.
-pub(crate) fn passes_end(
+/// Whether a vertex is the tail of an edge.
+pub(crate) fn is_tail(ends: &[(usize, usize)], a: usize) -> bool
+    ensures { IsTrue result ↔ IsTail (edges_of ends.now) a }
+{
+    ends.iter().any(|pair| pair.0 == a)
+}
+
+/// Whether no edges get more than a number for each of their ends but a, if that is a tail: told by a split over the ends,
+/// which is brought there.
+fn passes_tail(
     alloc: Global,
     ends: &[(usize, usize)],
+    kept: &mut Kept,
     x: &[i128],
     most: i128,
     a: usize,
@@ -114,11 +158,71 @@ pub(crate) fn passes_end(
     requires high { most ≤ℤ pos (10 ^ 24) }
     requires vertex { a < 2 * length ends.now }
     requires below { EndsBelow (edges_of ends.now) (2 * length ends.now) }
-    ensures { IfOk result (λ r. IsTrue r ↔ (IsEnd (edges_of ends.now) a → IsWithinEnds (edges_of ends.now) (2 * length ends.now) most x.now a)) }
+    requires over { IsOverEnds (edges_of ends.now) (2 * length ends.now) kept.old.demand }
+    ensures told { IfOk result (λ r. IsTrue r ↔ (IsTail (edges_of ends.now) a → IsWithinEnds (edges_of ends.now) (2 * length ends.now) most x.now a)) }
+    ensures over { IfOk result (λ r. IsTrue r → IsOverEnds (edges_of ends.now) (2 * length ends.now) kept.new.demand) }
 {
-    if !is_end(ends, a) {
+    if !is_tail(ends, a) {
         return Ok(true);
     }
-    let passed = passes(alloc, ends, x, most, a)?;
+    let passed = brought(alloc, kept, x, most, a)?;
     Ok(passed)
+}
+
+/// Whether no edges get more than a number for each of their ends but one, whichever tail that is: told by a split over the
+/// ends, which is brought from each to the next.
+fn passes_each(
+    alloc: Global,
+    ends: &[(usize, usize)],
+    kept: &mut Kept,
+    x: &[i128],
+    most: i128,
+) -> Result<bool, Memory>
+    requires few { length ends.now ≤ 256 }
+    requires entries { length x.now ≡ length ends.now }
+    requires amounts { All IsAmount x.now }
+    requires low { pos 0 ≤ℤ most }
+    requires high { most ≤ℤ pos (10 ^ 24) }
+    requires below { EndsBelow (edges_of ends.now) (2 * length ends.now) }
+    requires over { IsOverEnds (edges_of ends.now) (2 * length ends.now) kept.old.demand }
+    ensures { IfOk result (λ r. IsTrue r ↔ ((a : ℕ) → a < 2 * length ends.now → IsTail (edges_of ends.now) a → IsWithinEnds (edges_of ends.now) (2 * length ends.now) most x.now a)) }
+{
+    for a in 0..2 * ends.len() {
+        if !passes_tail(alloc, ends, kept, x, most, a)? {
+            return Ok(false);
+        }
+    }
+    Ok(true)
+}
+
+/// Whether no edges get more than a number for each of their ends but one, whichever tail that is.
+///
+/// # Errors
+///
+/// `Memory` where there is none.
+pub(crate) fn passes_tails(
+    alloc: Global,
+    ends: &[(usize, usize)],
+    x: &[i128],
+    most: i128,
+) -> Result<bool, Memory>
+    requires few { length ends.now ≤ 256 }
+    requires entries { length x.now ≡ length ends.now }
+    requires amounts { All IsAmount x.now }
+    requires low { pos 0 ≤ℤ most }
+    requires high { most ≤ℤ pos (10 ^ 24) }
+    requires below { EndsBelow (edges_of ends.now) (2 * length ends.now) }
+    ensures { IfOk result (λ r. IsTrue r ↔ ((a : ℕ) → a < 2 * length ends.now → IsTail (edges_of ends.now) a → IsWithinEnds (edges_of ends.now) (2 * length ends.now) most x.now a)) }
+{
+    if ends.is_empty() {
+        return Ok(true);
+    }
+    let first = ends[0].0;
+    match split(alloc, ends, x, most, first)? {
+        Some(mut kept) => {
+            let passed = passes_each(alloc, ends, &mut kept, x, most)?;
+            Ok(passed)
+        }
+        None => Ok(false),
+    }
 }
