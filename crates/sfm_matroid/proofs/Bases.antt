@@ -129,7 +129,7 @@ module _ (k n : ℕ) (q w : ℤ) (low : pos 0 ≤ℤ (q *ℤ w)) (IsIndependent 
       raised-counts r hr e h = by_place r (λ e y. e < k → pos 0 ≤ℤ y) (λ l. hr) (λ l. omega (arith, ints)) (λ e eu ev l. counts e (omega (arith, l, sized))) e (let p = raised-places r in omega (arith, h, p))
 
       -- what is met with more at u is met with less
-      lower : (t : ℕ) (r b : ℤ) → t < n → pos 0 ≤ℤ r → r ≤ℤ b → Meets t (raised b) → Meets t (raised r)
+      pub lower : (t : ℕ) (r b : ℤ) → t < n → pos 0 ≤ℤ r → r ≤ℤ b → Meets t (raised b) → Meets t (raised r)
       lower t r b lt hr le met = tests.smaller t (raised r) (raised b) lt (raised-places r) (raised-places b) (raised-counts r hr)
           (λ e h. by_place r (λ e y. y ≤ℤ get_or (raised b) e (pos 0)) (rw (raised-u b) le) (rw (raised-v b) (omega (arith, ints))) (λ e eu ev. rw (raised-other b e eu ev) (omega (arith, ints))) e) met
 

@@ -1,7 +1,8 @@
 -- Amounts of a base fit 128 bits, and so does what is left of a number.
-use Rattle.std.proofs.Common.{◌≡◌, ◌≢◌, ◌^◌, ℕ, List, set, ℤ, pos, ◌-ℤ◌, ◌≤ℤ◌, arith, ⊎_elim, FitsSigned, length-set, get_or-set_other, get_or-set_same}
+use Rattle.std.proofs.Common.{◌≡◌, ◌≢◌, ◌^◌, ℕ, List, set, ℤ, pos, ◌+ℤ◌, ◌-ℤ◌, ◌≤ℤ◌, arith, ⊎_elim, FitsSigned, length-set, get_or-set_other, get_or-set_same}
 use Rattle.std.proofs.lemmas.Bool.{cases_eq}
-use Rattle.std.proofs.lemmas.Int.{ints}
+use Rattle.std.proofs.lemmas.Int.{ints, clamps}
+use Rattle.std.specs.Int.{int_min}
 use Rattle.std.specs.List.{All}
 use mir.Syntax.{w128}
 use Rattle.sfm_assign.specs.Splits.{IsAmount}
@@ -24,6 +25,20 @@ left_fits c a low high h = omega (arith, ints)
 
 pub most_left_fits : (r a : ℤ) → FitsSigned w128 r → pos 0 ≤ℤ r → IsAmount a → FitsSigned w128 (r -ℤ a)
 most_left_fits r a f low h = omega (arith, ints)
+
+-- entries from 0 to a cap, and what they lack of it
+pub within_fits : (a cap : ℤ) → pos 0 ≤ℤ a → a ≤ℤ cap → cap ≤ℤ pos (10 ^ 24) → FitsSigned w128 a
+within_fits a cap low under high = omega (arith, ints)
+
+pub lack_fits : (a cap : ℤ) → pos 0 ≤ℤ a → a ≤ℤ cap → cap ≤ℤ pos (10 ^ 24) → FitsSigned w128 (cap -ℤ a)
+lack_fits a cap low under high = omega (arith, ints)
+
+-- the least of what one has and what another lacks
+pub limit_low : (a b cap : ℤ) → pos 0 ≤ℤ a → b ≤ℤ cap → pos 0 ≤ℤ int_min a (cap -ℤ b)
+limit_low a b cap la hb = omega (arith, ints, clamps)
+
+pub limit_amount : (a b cap : ℤ) → pos 0 ≤ℤ a → pos 0 ≤ℤ b → b ≤ℤ cap → cap ≤ℤ pos (10 ^ 24) → IsAmount (b +ℤ int_min a (cap -ℤ b))
+limit_amount a b cap la lb hb high = record { low = omega (arith, ints, clamps); high = omega (arith, ints, clamps) }
 
 -- amounts, of which one becomes 0
 pub without_amounts : (x : List ℤ) (v : ℕ) → All IsAmount x → All IsAmount (set x v (pos 0))

@@ -1,149 +1,216 @@
--- How much can be exchanged at a base of a graphic term: by the most that an edge gets in each test, without
--- another edge; and to whom an edge has room, by those that can lend to it in each test.
-use Rattle.std.proofs.Common.{◌≡◌, ◌≢◌, ◌↔◌, Option, ℕ, ◌*◌, ◌<◌, Bool, List, [], length, get_or, set, ℤ, pos, ◌*ℤ◌, ◌≤ℤ◌, refl, sym, ap, ◌∙◌, arith, inl, inr, ⊎_elim}
-use Rattle.std.proofs.lemmas.Bool.{false≢true}
-use Rattle.std.proofs.lemmas.Int.{ints, by_lt_z}
+-- How much can be exchanged at a base of a graphic term, and to whom an edge has room: by a split in the test of one vertex, its
+-- root. Parts with an edge have its ends, so no test asks less of them than that of an end. Where an edge u has room to another
+-- one e, a part with u and without e has something left in each test, so the test of an end of e tells what u may get one of.
+use Rattle.std.proofs.Common.{◌≡◌, ◌≢◌, ◌↔◌, ℕ, ◌*◌, ◌<◌, Bool, false, List, [], ◌∷◌, length, get_or, set, ℤ, pos, ◌+ℤ◌, ◌-ℤ◌, ◌*ℤ◌, ◌≤ℤ◌, ◌<ℤ◌, refl, sym, ap, ◌∙◌, arith, inl, inr, ⊎_elim, length-set, get_or-set_other, get_or-set_same}
+use Rattle.std.proofs.lemmas.Bool.{cases_eq, cases_lt, false≢true}
+use Rattle.std.proofs.lemmas.Int.{ints, clamps, by_lt_z}
+use Rattle.std.specs.Int.{int_min}
+use Rattle.sfm_spec.specs.Rows.{Depends}
+use Rattle.sfm_spec.specs.Sets.{Has, sum_over}
 use Rattle.sfm_spec.specs.Terms.{times, IsBase, IsCapacity, HasRoom, exchanged}
 use Rattle.sfm_spec.specs.Kinds.{Edge, IsForest}
+use Rattle.sfm_spec.proofs.Exchange.{base_between}
+use Rattle.sfm_spec.proofs.Sums.{share, length-exchanged, sum_over-exchanged}
 use Rattle.sfm_assign.specs.Splits.{CanBeMet}
+use Rattle.sfm_assign.specs.Lenders.{IsMostUpto}
+use Rattle.sfm_law.specs.Room.{IsReach}
+use Rattle.sfm_law.proofs.Monotone.{AreCounts}
 use Rattle.sfm_matroid.specs.Cuts.{IsWithinEnds}
 use Rattle.sfm_matroid.specs.Ends.{edges_of}
-use Rattle.sfm_matroid.specs.Numbered.{IsTail, numbered, end_lists, vertex_capacities}
-use Rattle.sfm_matroid.proofs.Numbers.{length-numbered, numbered_below}
-use Rattle.sfm_matroid.specs.Graphs.{edge_at, graphic_rank, graphic_value}
 use Rattle.sfm_matroid.specs.Forests.{forest-matroid, graphic-ranks}
-use Rattle.sfm_matroid.proofs.Bases.{IsMostAt, raised-places, raised-counts, met_nothing, least_capacity, base_counts, given-counts, gives_room, room_gives}
+use Rattle.sfm_matroid.specs.Givers.{IsGiver, IsRowIn}
+use Rattle.sfm_matroid.specs.Graphs.{graphic_rank, graphic_value}
+use Rattle.sfm_matroid.specs.Notes.{end_demands, IsRootSplit}
+use Rattle.sfm_matroid.specs.Numbered.{IsEndOf, numbered, end_lists, vertex_capacities}
+use Rattle.sfm_matroid.specs.declared.rooted.RootSplit.{RootSplit}
+use Rattle.sfm_matroid.proofs.Bases.{IsMostAt, raised-places, raised-counts, lower, least_capacity, base_counts, given-counts, gives_room, room_gives}
 use Rattle.sfm_matroid.proofs.GraphicBases.{as_many, base_tests}
-use Rattle.sfm_spec.specs.Sets.{Has}
-use Rattle.sfm_law.specs.Room.{IsReach}
-use Rattle.sfm_matroid.proofs.Keeping.{reach_kept, CanLend}
-use Rattle.sfm_matroid.proofs.Numbering.{pair-edge}
-use Rattle.sfm_matroid.proofs.OneTest.{IsLessWithout, end_enough, less_exchanged, less_raised}
 use Rattle.sfm_matroid.proofs.MatroidTests.{numbered_tests}
+use Rattle.sfm_matroid.proofs.Numbers.{length-numbered, numbered_below}
+use Rattle.sfm_matroid.proofs.OneTest.{IsLessWithout, end_below, end_enough, less_exchanged, less_raised, more_exchanged}
 use Rattle.sfm_matroid.proofs.SplitTests.{split_within_ends, within_ends_split}
-use Rattle.sfm_matroid.specs.Leasts.{IsLeastOf, IsMostOf}
-use Rattle.sfm_matroid.specs.Givers.{IsGiver, AreKept}
-use Rattle.sfm_assign.specs.declared.kept.Kept.{Kept}
-use Rattle.sfm_matroid.specs.Notes.{AreSplits}
-use Rattle.sfm_spec.proofs.Sums.{length-exchanged}
 
-module _ (k : ℕ) (q w : ℤ) (edges : List Edge) (same : length edges ≡ k) (low : pos 0 ≤ℤ (q *ℤ w)) (x : List ℤ) (kx : length x ≡ k) (base : IsBase (times q (graphic_value w edges)) x)
-    (u v : ℕ) (xu : u < length x) (xv : v < length x) (ne : u ≢ v) where
+-- y passes the test of t
+abbrev Passes : List Edge → ℤ → List ℤ → ℕ → Type 0
+Passes edges c y t = IsWithinEnds (numbered edges) (2 * length edges) c y t
+
+-- y is split in the test of t
+abbrev pub Splits : List Edge → ℤ → List ℤ → ℕ → Type 0
+Splits edges c y t = CanBeMet y (end_lists (numbered edges)) (vertex_capacities (2 * length edges) c t)
+
+module _ (k : ℕ) (q w : ℤ) (edges : List Edge) (same : length edges ≡ k) (low : pos 0 ≤ℤ (q *ℤ w)) (x : List ℤ) (kx : length x ≡ k) (base : IsBase (times q (graphic_value w edges)) x) where
   sized : length x ≡ length edges
   sized = kx ∙ sym same
 
-  ku : u < length edges
-  ku = let s = sized in omega (arith, xu, s)
+  numbered-sized : (y : List ℤ) → length y ≡ length x → length y ≡ length (numbered edges)
+  numbered-sized y ky = ky ∙ (sized ∙ sym (length-numbered edges []))
 
-  kv : v < length edges
-  kv = let s = sized in omega (arith, xv, s)
+  edge : (u : ℕ) → u < length x → u < length (numbered edges)
+  edge u xu = let l = length-numbered edges [] in let s = sized in omega (arith, xu, s, l)
 
-  abbrev with_u : ℤ → List ℤ
-  with_u r = set (set x v (pos 0)) u r
+  pub root_below : (u r : ℕ) → u < length x → IsEndOf (numbered edges) u r → r < 2 * length edges
+  root_below u r xu end = end_below (numbered edges) (2 * length edges) (numbered_below edges []) u r (edge u xu) end
 
-  places : (r : ℤ) → length (with_u r) ≡ length (numbered edges)
-  places r = raised-places (length edges) (2 * length edges) q w low (IsForest edges) (graphic_rank edges) (forest-matroid edges) (graphic-ranks edges) (λ a x. IsWithinEnds (numbered edges) (2 * length edges) (q *ℤ w) x a) (numbered_tests edges q w low) x sized base u v ku kv ne r
-      ∙ sym (length-numbered edges [])
+  counts : AreCounts x
+  counts = base_counts (length edges) (2 * length edges) q w low (IsForest edges) (graphic_rank edges) (forest-matroid edges) (graphic-ranks edges) (λ a x. IsWithinEnds (numbered edges) (2 * length edges) (q *ℤ w) x a) x sized base
 
-  split : (t : ℕ) → t < 2 * length edges → (r : ℤ) → pos 0 ≤ℤ r → IsWithinEnds (numbered edges) (2 * length edges) (q *ℤ w) (with_u r) t → CanBeMet (with_u r) (end_lists (numbered edges)) (vertex_capacities (2 * length edges) (q *ℤ w) t)
-  split t lt r hr met = within_ends_split (numbered edges) (2 * length edges) (numbered_below edges []) (q *ℤ w) (with_u r) (places r) t lt low
-      (raised-counts (length edges) (2 * length edges) q w low (IsForest edges) (graphic_rank edges) (forest-matroid edges) (graphic-ranks edges) (λ a x. IsWithinEnds (numbered edges) (2 * length edges) (q *ℤ w) x a) (numbered_tests edges q w low) x sized base u v ku kv ne r hr) met
+  passes : (t : ℕ) → t < 2 * length edges → Passes edges (q *ℤ w) x t
+  passes t lt = base_tests k q w edges same low x kx base t lt
 
-  -- the others are met in each test
-  pub others_met : (t : ℕ) → t < 2 * length edges → CanBeMet (set (set x v (pos 0)) u (pos 0)) (end_lists (numbered edges)) (vertex_capacities (2 * length edges) (q *ℤ w) t)
-  others_met t lt = split t lt (pos 0) (omega (arith, ints)) (met_nothing (length edges) (2 * length edges) q w low (IsForest edges) (graphic_rank edges) (forest-matroid edges) (graphic-ranks edges) (λ a x. IsWithinEnds (numbered edges) (2 * length edges) (q *ℤ w) x a) (numbered_tests edges q w low) x sized base u v ku kv ne t lt)
+  split : (y : List ℤ) → length y ≡ length x → AreCounts y → (t : ℕ) → t < 2 * length edges → Passes edges (q *ℤ w) y t → Splits edges (q *ℤ w) y t
+  split y ky cy t lt met = within_ends_split (numbered edges) (2 * length edges) (numbered_below edges []) (q *ℤ w) y (numbered-sized y ky) t lt low cy met
 
-  most_at : (t : ℕ) → t < 2 * length edges → (r : ℤ) → IsMostOf (numbered edges) (2 * length edges) (q *ℤ w) (set x v (pos 0)) u t r
-      → IsMostAt (length edges) (2 * length edges) q w low (IsForest edges) (graphic_rank edges) (forest-matroid edges) (graphic-ranks edges) (λ a x. IsWithinEnds (numbered edges) (2 * length edges) (q *ℤ w) x a) (numbered_tests edges q w low) x sized base u v ku kv ne t r
-  most_at t lt r most = record {
-    reached = split_within_ends (numbered edges) (2 * length edges) (numbered_below edges []) (q *ℤ w) (with_u r) (places r) t lt most.reached;
-    greatest = λ b met. by_lt_z b (pos 0)
-        (λ less. let h = most.greatest (pos 0) (others_met t lt) in omega (arith, ints, less, h))
-        (λ ge. most.greatest b (split t lt b (omega (arith, ints, ge)) met));
+  passed : (y : List ℤ) → length y ≡ length x → (t : ℕ) → t < 2 * length edges → Splits edges (q *ℤ w) y t → Passes edges (q *ℤ w) y t
+  passed y ky t lt can = split_within_ends (numbered edges) (2 * length edges) (numbered_below edges []) (q *ℤ w) y (numbered-sized y ky) t lt can
+
+  -- a base is split in each test
+  pub base_split : (t : ℕ) → t < 2 * length edges → Splits edges (q *ℤ w) x t
+  base_split t lt = split x refl counts t lt (passes t lt)
+
+  -- and so it is with nothing at a place
+  pub rest_split : (v t : ℕ) → v < length x → t < 2 * length edges → Splits edges (q *ℤ w) (set x v (pos 0)) t
+  rest_split v t xv lt = split (set x v (pos 0)) (length-set x v (pos 0)) few t lt
+      ((numbered_tests edges q w low).smaller t (set x v (pos 0)) x lt (length-set x v (pos 0) ∙ sized) sized few (λ e h. at e (λ y. y ≤ℤ get_or x e (pos 0)) (λ same. let c = counts v xv in rw same c) (omega (arith, ints))) (passes t lt)) where
+        at : (e : ℕ) (P : ℤ → Type 0) → (e ≡ v → P (pos 0)) → P (get_or x e (pos 0)) → P (get_or (set x v (pos 0)) e (pos 0))
+        at e P here there = ⊎_elim
+            (λ (same : e ≡ v). rw (same, get_or-set_same x v (pos 0) (pos 0) xv) (here same))
+            (λ (ne : e ≢ v). rw (get_or-set_other x v e (pos 0) (pos 0) ne) there)
+            (cases_eq e v)
+
+        few : AreCounts (set x v (pos 0))
+        few e lt = let l = length-set x v (pos 0) in at e (λ y. pos 0 ≤ℤ y) (λ same. omega (arith, ints)) (counts e (omega (arith, lt, l)))
+
+  -- what the test of an end allows an edge, all tests do
+  own_end : (u r : ℕ) → u < length x → IsEndOf (numbered edges) u r → (y : List ℤ) → IsLessWithout u x y → Passes edges (q *ℤ w) y r → (t : ℕ) → t < 2 * length edges → Passes edges (q *ℤ w) y t
+  own_end u r xu end y less here = end_enough (numbered edges) (2 * length edges) (numbered_below edges []) (q *ℤ w) low x y x (numbered-sized x refl) (numbered-sized x refl) u u r (edge u xu) end less (λ s ks has out. absurd (false≢true (sym out ∙ has))) passes passes here
+
+  -- and so does that of an end of another edge to which it has room, of one more
+  led_end : (e r u : ℕ) → e < length x → IsEndOf (numbered edges) e r → u < length x → Depends (times q (graphic_value w edges)) x u e → (y : List ℤ) → IsLessWithout u x y → ((s : List Bool) → length s ≡ length x → sum_over s y ≤ℤ (sum_over s x +ℤ pos 1))
+      → Passes edges (q *ℤ w) y r → (t : ℕ) → t < 2 * length edges → Passes edges (q *ℤ w) y t
+  led_end e r u xe end xu lead y less more here = ⊎_elim
+      (λ (is : e ≡ u). own_end u r xu (rw is at end) y less here)
+      (λ (a, one, moved). ⊎_elim
+      (λ (is : u ≡ e). own_end u r xu (rw (← is) at end) y less here)
+      (λ (ne : u ≢ e).
+      let z = exchanged x u e (pos 1) in
+      let lz = length-exchanged x u e (pos 1) in
+      let next = base_between base xu xe ne (pos 1) a (omega (arith, ints)) one moved in
+      end_enough (numbered edges) (2 * length edges) (numbered_below edges []) (q *ℤ w) low x y z (numbered-sized x refl) (numbered-sized z lz) u e r (edge e xe) end less (between ne lz) passes (λ t lt. base_tests k q w edges same low z (lz ∙ kx) next t lt) here)
+      (cases_eq u e))
+      lead where
+        between : u ≢ e → length (exchanged x u e (pos 1)) ≡ length x → (s : List Bool) → length s ≡ length (exchanged x u e (pos 1)) → Has s u → get_or s e false ≡ false → sum_over s y ≤ℤ sum_over s (exchanged x u e (pos 1))
+        between ne lz s ks has out =
+            let m = more s (ks ∙ lz) in
+            let sum = sum_over-exchanged s x u e (pos 1) (ks ∙ lz) xu xe ne in
+            let su : share s u (pos 1) ≡ pos 1 = rw has refl in
+            let se : share s e (pos 1) ≡ pos 0 = rw out refl in
+            omega (arith, ints, m, sum, su, se)
+
+  module _ (u v : ℕ) (xu : u < length x) (xv : v < length x) (ne : u ≢ v) where
+    ku : u < length edges
+    ku = let s = sized in omega (arith, xu, s)
+
+    kv : v < length edges
+    kv = let s = sized in omega (arith, xv, s)
+
+    exchanged-places : length (exchanged x u v (pos 1)) ≡ length x
+    exchanged-places = length-exchanged x u v (pos 1)
+
+    giver_room : (e r : ℕ) → e < length x → IsEndOf (numbered edges) e r → Depends (times q (graphic_value w edges)) x u e → IsGiver x (q *ℤ w) u v → Splits edges (q *ℤ w) (exchanged x u v (pos 1)) r → HasRoom (times q (graphic_value w edges)) x u v
+    giver_room e r xe end lead giver can = gives_room (length edges) (2 * length edges) q w low (IsForest edges) (graphic_rank edges) (forest-matroid edges) (graphic-ranks edges) (λ a x. IsWithinEnds (numbered edges) (2 * length edges) (q *ℤ w) x a) (numbered_tests edges q w low) x sized base u v ku kv ne (record {
+      under_cap = giver.1;
+      has = giver.2;
+      met = led_end e r u xe end xu lead (exchanged x u v (pos 1)) (less_exchanged x u v (pos 1) xu xv ne (omega (arith, ints))) (more_exchanged x u v xu xv ne) (passed (exchanged x u v (pos 1)) exchanged-places r (root_below e r xe end) can);
+    })
+
+    room_giver : (r : ℕ) → r < 2 * length edges → HasRoom (times q (graphic_value w edges)) x u v → IsGiver x (q *ℤ w) u v × Splits edges (q *ℤ w) (exchanged x u v (pos 1)) r
+    room_giver r lr room =
+        let give = room_gives (length edges) (2 * length edges) q w low (IsForest edges) (graphic_rank edges) (forest-matroid edges) (graphic-ranks edges) (λ a x. IsWithinEnds (numbered edges) (2 * length edges) (q *ℤ w) x a) (numbered_tests edges q w low) x sized base u v ku kv ne room in
+        let cy = given-counts (length edges) (2 * length edges) q w low (IsForest edges) (graphic_rank edges) (forest-matroid edges) (graphic-ranks edges) (λ a x. IsWithinEnds (numbered edges) (2 * length edges) (q *ℤ w) x a) (numbered_tests edges q w low) x sized base u v ku kv ne give.has in
+        (((λ e. ne (sym e)), give.under_cap, give.has), split (exchanged x u v (pos 1)) exchanged-places cy r lr (give.met r lr))
+
+    -- x with u at a number and nothing at v
+    abbrev with_u : ℤ → List ℤ
+    with_u a = set (set x v (pos 0)) u a
+
+    with-places : (a : ℤ) → length (with_u a) ≡ length x
+    with-places a = length-set (set x v (pos 0)) u a ∙ length-set x v (pos 0)
+
+    with-counts : (a : ℤ) → pos 0 ≤ℤ a → AreCounts (with_u a)
+    with-counts a h = raised-counts (length edges) (2 * length edges) q w low (IsForest edges) (graphic_rank edges) (forest-matroid edges) (graphic-ranks edges) (λ a x. IsWithinEnds (numbered edges) (2 * length edges) (q *ℤ w) x a) (numbered_tests edges q w low) x sized base u v ku kv ne a h
+
+    -- the most that u gets in the test of an end of it, up to what v has and what u lacks of q·w, is the room of (u, v)
+    pub grown_capacity : (r : ℕ) → IsEndOf (numbered edges) u r → (g : ℤ) → IsMostUpto (end_demands (numbered edges) (2 * length edges) (q *ℤ w) (set x v (pos 0)) r) u (int_min (get_or x v (pos 0)) ((q *ℤ w) -ℤ get_or x u (pos 0))) g
+        → IsCapacity (times q (graphic_value w edges)) x u v g
+    grown_capacity r end g most = least_capacity (length edges) (2 * length edges) q w low (IsForest edges) (graphic_rank edges) (forest-matroid edges) (graphic-ranks edges) (λ a x. IsWithinEnds (numbered edges) (2 * length edges) (q *ℤ w) x a) (numbered_tests edges q w low) x sized base u v ku kv ne g (record {
+      under_v = let h = most.high in omega (arith, ints, clamps, h);
+      under_cap = let h = most.high in omega (arith, ints, clamps, h);
+      under_most = λ t lt. (get_or x u (pos 0) +ℤ g, own_end u r xu end (with_u (get_or x u (pos 0) +ℤ g)) (less_raised x u v (get_or x u (pos 0) +ℤ g) xu xv (counts v xv)) met t lt, omega (arith, ints));
+      reached = by_lt_z g (int_min (get_or x v (pos 0)) ((q *ℤ w) -ℤ get_or x u (pos 0)))
+          (λ less. inr (inr (r, lr, get_or x u (pos 0) +ℤ g, record { reached = met; greatest = greatest less }, omega (arith, ints))))
+          (λ ge. let h = most.high in by_lt_z (get_or x v (pos 0)) ((q *ℤ w) -ℤ get_or x u (pos 0))
+          (λ first. inl (omega (arith, ints, clamps, h, ge, first)))
+          (λ second. inr (inl (omega (arith, ints, clamps, h, ge, second)))));
+    }) where
+      lr : r < 2 * length edges
+      lr = root_below u r xu end
+
+      same_u : get_or (set x v (pos 0)) u (pos 0) ≡ get_or x u (pos 0)
+      same_u = get_or-set_other x v u (pos 0) (pos 0) ne
+
+      met : Passes edges (q *ℤ w) (with_u (get_or x u (pos 0) +ℤ g)) r
+      met = passed (with_u (get_or x u (pos 0) +ℤ g)) (with-places (get_or x u (pos 0) +ℤ g)) r lr (rw same_u at most.reached)
+
+      -- with one more than the most, the test is not met
+      greatest : g <ℤ int_min (get_or x v (pos 0)) ((q *ℤ w) -ℤ get_or x u (pos 0)) → (b : ℤ) → Passes edges (q *ℤ w) (with_u b) r → b ≤ℤ (get_or x u (pos 0) +ℤ g)
+      greatest less b pb = by_lt_z (get_or x u (pos 0) +ℤ g) b
+          (λ over.
+          let cu = counts u xu in
+          let lg = most.low in
+          let next = get_or x u (pos 0) +ℤ (g +ℤ pos 1) in
+          let hn : pos 0 ≤ℤ next = omega (arith, ints, cu, lg) in
+          let pn = lower (length edges) (2 * length edges) q w low (IsForest edges) (graphic_rank edges) (forest-matroid edges) (graphic-ranks edges) (λ a x. IsWithinEnds (numbered edges) (2 * length edges) (q *ℤ w) x a) (numbered_tests edges q w low) x sized base u v ku kv ne r next b lr hn (omega (arith, ints, over)) pb in
+          let can = split (with_u next) (with-places next) (with-counts next hn) r lr pn in
+          let h = most.greatest (g +ℤ pos 1) (omega (arith, ints, lg)) (omega (arith, ints, less)) (rw same_u can) in
+          absurd (omega (arith, ints, h)))
+          (λ ge. ge)
+
+  -- a row in the split with the root at an end of an edge to which u has room, or which it is, is the reach of u
+  pub row_reach : (e r u : ℕ) → e < length x → IsEndOf (numbered edges) e r → u < length x → Depends (times q (graphic_value w edges)) x u e → (to : List Bool) → length to ≡ length x
+      → IsRowIn (end_demands (numbered edges) (2 * length edges) (q *ℤ w) x r) (q *ℤ w) u to → IsReach (times q (graphic_value w edges)) x u to
+  row_reach e r u xe end xu lead to places row = record {
+    places = places;
+    exact = λ v xv. (
+      (λ has. let (giver, can) = (row v xv).0 has in (giver.0, giver_room u v xu xv (λ is. giver.0 (sym is)) e r xe end lead giver can)),
+      (λ (ne, room). (row v xv).1 (room_giver u v xu xv (λ is. ne (sym is)) r (root_below e r xe end) room)),
+    );
   }
 
-  -- the numbered tail of u
-  abbrev tail : ℕ
-  tail = (edge_at (numbered edges) u).tail
+-- ---- no edges
 
-  nu : u < length (numbered edges)
-  nu = let l = length-numbered edges [] in let h = ku in omega (arith, h, l)
+no_edges : (edges : List Edge) (c : ℤ) (x : List ℤ) → length x ≡ length edges → length edges ≡ 0 → Splits edges c x 0
+no_edges [] c [] s z = (
+  [],
+  record {
+    row_each = refl;
+    cells = λ i lt. absurd (omega (arith, lt));
+    amounts = λ i j. omega (arith, ints);
+    met = λ i lt. absurd (omega (arith, lt));
+    within = λ t lt. absurd (omega (arith, lt));
+  },
+)
+no_edges [] c (y ∷ x) s z = absurd (omega (arith, s))
+no_edges (edge ∷ edges) c x s z = absurd (omega (arith, z))
 
-  tail_below : (edge_at (numbered edges) u).tail < 2 * length edges
-  tail_below = (numbered_below edges [] u nu).0
-
-  numbered-sized : length x ≡ length (numbered edges)
-  numbered-sized = sized ∙ sym (length-numbered edges [])
-
-  -- what the test of the tail allows u, all tests do
-  by_tail : (y : List ℤ) → IsLessWithout u x y → IsWithinEnds (numbered edges) (2 * length edges) (q *ℤ w) y (edge_at (numbered edges) u).tail → (t : ℕ) → t < 2 * length edges → IsWithinEnds (numbered edges) (2 * length edges) (q *ℤ w) y t
-  by_tail y less here = end_enough (numbered edges) (2 * length edges) (numbered_below edges []) (q *ℤ w) low x y x numbered-sized numbered-sized u u (edge_at (numbered edges) u).tail nu (inl refl) less (λ s ks has out. absurd (false≢true (sym out ∙ has)))
-      (λ t lt. base_tests k q w edges same low x kx base t lt) (λ t lt. base_tests k q w edges same low x kx base t lt) here
-
-  has_low : pos 0 ≤ℤ get_or x v (pos 0)
-  has_low = base_counts (length edges) (2 * length edges) q w low (IsForest edges) (graphic_rank edges) (forest-matroid edges) (graphic-ranks edges) (λ a x. IsWithinEnds (numbered edges) (2 * length edges) (q *ℤ w) x a) x sized base v xv
-
-  -- the room of (u, v)
-  pub room_capacity : (a : ℤ) → IsLeastOf (IsMostOf (numbered edges) (2 * length edges) (q *ℤ w) (set x v (pos 0)) u (edge_at (numbered edges) u).tail) (get_or x v (pos 0)) (q *ℤ w) (get_or x u (pos 0)) a → IsCapacity (times q (graphic_value w edges)) x u v a
-  room_capacity a least = least_capacity (length edges) (2 * length edges) q w low (IsForest edges) (graphic_rank edges) (forest-matroid edges) (graphic-ranks edges) (λ a x. IsWithinEnds (numbered edges) (2 * length edges) (q *ℤ w) x a) (numbered_tests edges q w low) x sized base u v ku kv ne a (record {
-    under_v = least.under_v;
-    under_cap = least.under_cap;
-    under_most = λ t lt. let (r, most, le) = least.under_most in (r, by_tail (with_u r) (less_raised x u v r xu xv has_low) (most_at tail tail_below r most).reached t lt, le);
-    reached = ⊎_elim (λ e. inl e) (λ rest. ⊎_elim (λ e. inr (inl e)) (λ (r, most, e). inr (inr (tail, tail_below, r, most_at tail tail_below r most, e))) rest) least.reached;
-  })
-
-  exchanged-places : length (exchanged x u v (pos 1)) ≡ length (numbered edges)
-  exchanged-places = length-exchanged x u v (pos 1) ∙ (sized ∙ sym (length-numbered edges []))
-
-  -- v can lend to u in the test of the tail of u
-  abbrev CanLendThere : Type 0
-  CanLendThere = CanLend (numbered edges) (2 * length edges) (q *ℤ w) x u v (edge_at (numbered edges) u).tail
-
-  is_tail : IsTail (numbered edges) (edge_at (numbered edges) u).tail
-  is_tail = (u, nu, refl)
-
-  giver_room : IsGiver x (q *ℤ w) u v → CanLendThere → HasRoom (times q (graphic_value w edges)) x u v
-  giver_room giver lend = gives_room (length edges) (2 * length edges) q w low (IsForest edges) (graphic_rank edges) (forest-matroid edges) (graphic-ranks edges) (λ a x. IsWithinEnds (numbered edges) (2 * length edges) (q *ℤ w) x a) (numbered_tests edges q w low) x sized base u v ku kv ne (record {
-    under_cap = giver.1;
-    has = giver.2;
-    met = by_tail (exchanged x u v (pos 1)) (less_exchanged x u v (pos 1) xu xv ne (omega (arith, ints))) (split_within_ends (numbered edges) (2 * length edges) (numbered_below edges []) (q *ℤ w) (exchanged x u v (pos 1)) exchanged-places tail tail_below (lend is_tail));
-  })
-
-  room_giver : HasRoom (times q (graphic_value w edges)) x u v → IsGiver x (q *ℤ w) u v × CanLendThere
-  room_giver room =
-      let give = room_gives (length edges) (2 * length edges) q w low (IsForest edges) (graphic_rank edges) (forest-matroid edges) (graphic-ranks edges) (λ a x. IsWithinEnds (numbered edges) (2 * length edges) (q *ℤ w) x a) (numbered_tests edges q w low) x sized base u v ku kv ne room in
-      let counts = given-counts (length edges) (2 * length edges) q w low (IsForest edges) (graphic_rank edges) (forest-matroid edges) (graphic-ranks edges) (λ a x. IsWithinEnds (numbered edges) (2 * length edges) (q *ℤ w) x a) (numbered_tests edges q w low) x sized base u v ku kv ne give.has in
-      (((λ e. ne (sym e)), give.under_cap, give.has), (λ end. within_ends_split (numbered edges) (2 * length edges) (numbered_below edges []) (q *ℤ w) (exchanged x u v (pos 1)) exchanged-places tail tail_below low counts (give.met tail tail_below)))
-
-module _ (k : ℕ) (q w : ℤ) (edges : List Edge) (same : length edges ≡ k) (low : pos 0 ≤ℤ (q *ℤ w)) (x : List ℤ) (kx : length x ≡ k) (base : IsBase (times q (graphic_value w edges)) x) where
-  -- a base is split itself in each test
-  pub base_split : (t : ℕ) → t < 2 * length edges → CanBeMet x (end_lists (numbered edges)) (vertex_capacities (2 * length edges) (q *ℤ w) t)
-  base_split t lt = within_ends_split (numbered edges) (2 * length edges) (numbered_below edges []) (q *ℤ w) x (kx ∙ sym (length-numbered edges [] ∙ same)) t lt low
-      (base_counts (length edges) (2 * length edges) q w low (IsForest edges) (graphic_rank edges) (forest-matroid edges) (graphic-ranks edges) (λ a x. IsWithinEnds (numbered edges) (2 * length edges) (q *ℤ w) x a) x (kx ∙ sym same) base)
-      (base_tests k q w edges same low x kx base t lt)
-
-  -- what is kept of the givers is the reach
-  pub reach_ends : (u : ℕ) → u < length x → (before after : List Bool) → length after ≡ length x → ((v : ℕ) → v < length x → Has before v ↔ IsGiver x (q *ℤ w) u v)
-      → AreKept (λ v. CanLend (numbered edges) (2 * length edges) (q *ℤ w) x u v (edge_at (numbered edges) u).tail) before after → IsReach (times q (graphic_value w edges)) x u after
-  reach_ends u xu before after places exact kept = reach_kept (times q (graphic_value w edges)) x (q *ℤ w) u (λ v. CanLend (numbered edges) (2 * length edges) (q *ℤ w) x u v (edge_at (numbered edges) u).tail) before after places exact kept
-      (λ v xv ne. giver_room k q w edges same low x kx base u v xu xv ne) (λ v xv ne. room_giver k q w edges same low x kx base u v xu xv ne)
+-- a base is split in the test of the first vertex
+pub first_split : (k : ℕ) (q w : ℤ) (edges : List Edge) → length edges ≡ k → pos 0 ≤ℤ (q *ℤ w) → (x : List ℤ) → length x ≡ k → IsBase (times q (graphic_value w edges)) x → Splits edges (q *ℤ w) x 0
+first_split k q w edges same low x kx base = ⊎_elim
+    (λ (some : 0 < length edges). base_split k q w edges same low x kx base 0 (omega (arith, some)))
+    (λ none. no_edges edges (q *ℤ w) x (kx ∙ sym same) (omega (arith, none)))
+    (cases_lt 0 (length edges))
 
 -- ---- numbered ends as they are kept
 
-module _ (edges : List Edge) (items : List (ℕ × ℕ)) (are : edges_of items ≡ numbered edges) where
-  -- the tail that is kept of an edge
-  pub kept_tail : (u : ℕ) → u < length edges → (get_or items u (0, 0)).0 ≡ (edge_at (numbered edges) u).tail
-  kept_tail u lt = let n = as_many edges items are in sym (ap (λ (edge : Edge). edge.tail) (ap (λ es. edge_at es u) (sym are) ∙ pair-edge items u (omega (arith, lt, n))))
-
-  pub tail_in : (u : ℕ) → u < length edges → (edge_at (numbered edges) u).tail < 2 * length edges
-  tail_in u lt = (numbered_below edges [] u (let l = length-numbered edges [] in omega (arith, lt, l))).0
-
-module _ (edges : List Edge) (items : List (ℕ × ℕ)) (are : edges_of items ≡ numbered edges) (given : List (ℕ × ℕ)) (is : given ≡ items) (c : ℤ) (x : List ℤ) where
-  pub others_kept : ((t : ℕ) → t < 2 * length edges → CanBeMet x (end_lists (numbered edges)) (vertex_capacities (2 * length edges) c t)) → (t : ℕ) → t < 2 * length given → CanBeMet x (end_lists (edges_of given)) (vertex_capacities (2 * length given) c t)
-  others_kept h = rw (is, are, as_many edges items are) h
-
-  pub least_kept : (u : ℕ) (has_v cap has_u a : ℤ) → IsLeastOf (IsMostOf (edges_of given) (2 * length given) c x u (edge_at (edges_of given) u).tail) has_v cap has_u a → IsLeastOf (IsMostOf (numbered edges) (2 * length edges) c x u (edge_at (numbered edges) u).tail) has_v cap has_u a
-  least_kept u has_v cap has_u a h = rw (is, are, as_many edges items are) at h
-
-  pub splits_kept : (splits : List (Option Kept)) → AreSplits (edges_of given) (2 * length given) c x splits → AreSplits (numbered edges) (2 * length edges) c x splits
-  splits_kept splits h = rw (is, are, as_many edges items are) at h
+pub note_kept : (edges : List Edge) (items : List (ℕ × ℕ)) → edges_of items ≡ numbered edges → (given : List (ℕ × ℕ)) → given ≡ items → (c : ℤ) (x : List ℤ) (note : RootSplit)
+    → IsRootSplit (edges_of given) (2 * length given) c x note → IsRootSplit (numbered edges) (2 * length edges) c x note
+note_kept edges items are given is c x note h = rw (is, are, as_many edges items are) at h

@@ -1,4 +1,4 @@
--- Places kept in a set that can give something: by what a search tells of all at once, test after test.
+-- Places kept in a set that can give something: by what a search tells of all at once.
 use Rattle.std.proofs.Common.{◌≡◌, ◌≢◌, ◌↔◌, ℕ, zero, suc, ◌+◌, ◌<◌, Bool, true, false, List, [], ◌∷◌, length, get_or, ℤ, pos, ◌≤ℤ◌, sym, ◌∙◌, arith, ⊎_elim}
 use Rattle.std.proofs.lemmas.Int.{ints}
 use Rattle.std.proofs.lemmas.Bool.{cases_lt, and_parts, and_from, false≢true}
@@ -13,10 +13,6 @@ use Rattle.sfm_spec.specs.Kinds.{Edge}
 use Rattle.sfm_matroid.specs.Numbered.{IsTail, end_lists, vertex_capacities}
 use Rattle.sfm_matroid.specs.Members.{has_place}
 use Rattle.sfm_matroid.specs.Givers.{IsGiver, AreKept}
-
--- where each of m vertices holds c, but a nothing, v can give one of what it has to u; told of tails alone
-abbrev pub CanLend : List Edge → ℕ → ℤ → List ℤ → ℕ → ℕ → ℕ → Type 0
-CanLend edges m c x u v a = IsTail edges a → CanBeMet (exchanged x u v (pos 1)) (end_lists edges) (vertex_capacities m c a)
 
 -- a set without members has none to be kept
 pub kept_nothing : (IsKept : ℕ → Type 0) (s : List Bool) → size s ≡ 0 → AreKept IsKept s s
@@ -41,17 +37,6 @@ module _ (d : Demands) (u : ℕ) (before : List Bool) (places : length before �
         (λ has. let (b, l) = and_parts (get_or before v false) (get_or s v false) (sym at ∙ has) in (b, ((lend v (below b)).0 l).met)),
         (λ (b, can). let (ne, some) = givers v b in at ∙ and_from (get_or before v false) (get_or s v false) b ((lend v (below b)).1 (record { other = ne; asks = omega (arith, ints, some); met = can }))),
       )
-
--- ---- one test after another
-
-pub kept_more : (IsKept : ℕ → ℕ → Type 0) (a : ℕ) (first before after : List Bool) → AreKept (λ v. (b : ℕ) → b < a → IsKept b v) first before → AreKept (IsKept a) before after → AreKept (λ v. (b : ℕ) → b < a + 1 → IsKept b v) first after
-kept_more IsKept a first before after far near v = (
-  (λ has. let (h, here) = (near v).0 has in let (f, all) = (far v).0 h in (f, λ b lt. ⊎_elim (λ (l : b < a). all b l) (λ ge. let q : b ≡ a = omega (arith, ge, lt) in rw q here) (cases_lt b a))),
-  (λ (f, all). (near v).1 ((far v).1 (f, λ b lt. all b (omega (arith, lt))), all a (omega arith))),
-)
-
-pub kept_none : (IsKept : ℕ → ℕ → Type 0) (s : List Bool) → AreKept (λ v. (b : ℕ) → b < 0 → IsKept b v) s s
-kept_none IsKept s v = ((λ has. (has, λ b lt. absurd (omega arith))), (λ h. h.0))
 
 -- ---- the reach
 

@@ -1,6 +1,6 @@
 -- What an edge may get is told by one test. A part with an edge has the ends of that edge, so the test of one of them leaves out
 -- an end of the part, and no test leaves out more than one.
-use Rattle.std.proofs.Common.{◌≡◌, ◌≢◌, ◌⊎◌, ℕ, suc, ◌<◌, ◌≤◌, Bool, true, false, not, ◌&&◌, List, [], ◌∷◌, length, get_or, set, nat_eq, ℤ, pos, ◌*ℤ◌, ◌≤ℤ◌, if◌then◌else◌, refl, sym, ap, ◌∙◌, arith, inl, inr, ⊎_elim, length-set}
+use Rattle.std.proofs.Common.{◌≡◌, ◌≢◌, ◌⊎◌, ℕ, suc, ◌<◌, ◌≤◌, Bool, true, false, not, ◌&&◌, List, [], ◌∷◌, length, get_or, set, nat_eq, ℤ, pos, ◌+ℤ◌, ◌*ℤ◌, ◌≤ℤ◌, if◌then◌else◌, refl, sym, ap, ◌∙◌, arith, inl, inr, ⊎_elim, length-set}
 use Rattle.std.proofs.lemmas.Bool.{cases_eq, cases_Bool, eq-eqb, and_parts, and_from, false≢true}
 use Rattle.std.proofs.lemmas.Int.{ints}
 use Rattle.std.proofs.Math.IntN.{*ℤ-zero}
@@ -93,6 +93,21 @@ less_exchanged x u v a xu xv ne low s ks out =
       at : (b : Bool) → pos 0 ≤ℤ (if b then a else pos 0)
       at true = low
       at false = omega (arith, ints)
+
+-- nor any part more than one, where one is given
+pub more_exchanged : (x : List ℤ) (u v : ℕ) → u < length x → v < length x → u ≢ v → (s : List Bool) → length s ≡ length x → sum_over s (exchanged x u v (pos 1)) ≤ℤ (sum_over s x +ℤ pos 1)
+more_exchanged x u v xu xv ne s ks =
+    let e = sum_over-exchanged s x u v (pos 1) ks xu xv ne in
+    let su = most (get_or s u false) in
+    let sv = least (get_or s v false) in
+    omega (arith, ints, e, su, sv) where
+      most : (b : Bool) → (if b then pos 1 else pos 0) ≤ℤ pos 1
+      most true = omega (arith, ints)
+      most false = omega (arith, ints)
+
+      least : (b : Bool) → pos 0 ≤ℤ (if b then pos 1 else pos 0)
+      least true = omega (arith, ints)
+      least false = omega (arith, ints)
 
 pub less_raised : (x : List ℤ) (u v : ℕ) (r : ℤ) → u < length x → v < length x → pos 0 ≤ℤ get_or x v (pos 0) → IsLessWithout u x (set (set x v (pos 0)) u r)
 less_raised x u v r xu xv low s ks out =

@@ -1,9 +1,8 @@
 -- The places that can give something to another at a base.
-use Rattle.std.specs.Prelude.{◌≡◌, ◌≢◌, ◌↔◌, ℕ, ◌<◌, Bool, List, length, slice_index_or, ℤ, pos, ◌≤ℤ◌, ◌<ℤ◌, Option, Some, None}
+use Rattle.std.specs.Prelude.{◌≡◌, ◌≢◌, ◌↔◌, ℕ, ◌<◌, Bool, List, length, slice_index_or, ℤ, pos, ◌≤ℤ◌, ◌<ℤ◌}
 use Rattle.sfm_spec.specs.Sets.{Has}
 use Rattle.sfm_spec.specs.Terms.{exchanged}
-use Rattle.sfm_assign.specs.Splits.{CanBeMet}
-use Rattle.sfm_assign.specs.declared.kept.Kept.{Kept}
+use Rattle.sfm_assign.specs.Splits.{CanBeMet, Demands}
 
 -- a place other than u that has something, while u has less than c
 abbrev pub IsGiver : List ℤ → ℤ → ℕ → ℕ → Type 0
@@ -19,7 +18,6 @@ pub record AreOthers (demands : List ℤ) (u : ℕ) (set : List Bool) : Type 0 w
   pub places : length set ≡ length demands
   pub others : (v : ℕ) → Has set v → (v ≢ u) × (pos 1 ≤ℤ slice_index_or demands v (pos 0))
 
--- v can give one of what it has to u in the test of a split, if one is kept
-abbrev pub CanLendIn : Option Kept → ℕ → ℕ → Type 0
-CanLendIn None u v = Unit {0}
-CanLendIn (Some kept) u v = CanBeMet (exchanged kept.demand.demands u v (pos 1)) kept.demand.lists kept.demand.capacities
+-- the places other than u that have something and can lend to u in a split, if u has less than c
+abbrev pub IsRowIn : Demands → ℤ → ℕ → List Bool → Type 0
+IsRowIn d c u to = (v : ℕ) → v < length d.demands → Has to v ↔ (IsGiver d.demands c u v × CanBeMet (exchanged d.demands u v (pos 1)) d.lists d.capacities)

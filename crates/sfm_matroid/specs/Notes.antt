@@ -1,12 +1,13 @@
--- What is kept beside a base: a split of it in each test that tells reach.
+-- What is kept beside a base: a split of it in a test.
 use Rattle.std.specs.Prelude.{◌≡◌, ℕ, ◌*◌, ◌<◌, List, length, replicate, slice_index_or, ℤ, ◌*ℤ◌, Option, Some, None}
 use Rattle.std.specs.List.{All}
 use Rattle.sfm_spec.specs.Terms.{exchanged}
 use Rattle.sfm_spec.specs.Kinds.{Edge}
 use Rattle.sfm_assign.specs.Splits.{IsAmount, CanBeMet, Demands}
-use Rattle.sfm_assign.specs.Lenders.{exchanged_in}
 use Rattle.sfm_assign.specs.declared.kept.Kept.{Kept}
-use Rattle.sfm_matroid.specs.Numbered.{IsTail, end_lists, numbered, vertex_capacities}
+use Rattle.sfm_matroid.specs.Numbered.{end_lists, numbered, vertex_capacities}
+use Rattle.sfm_matroid.specs.declared.rooted.RootSplit.{RootSplit}
+use Rattle.sfm_matroid.specs.declared.rooted.Spare.{Spare}
 
 -- edges as demands that are split over their ends, where each of m vertices holds c, but a nothing
 abbrev pub end_demands : List Edge → ℕ → ℤ → List ℤ → ℕ → Demands
@@ -27,15 +28,10 @@ abbrev pub IsSplitOrNone : Demands → Option Kept → Type 0
 IsSplitOrNone d None = CanBeMet d.demands d.lists d.capacities → ⊥
 IsSplitOrNone d (Some kept) = (kept.demand ≡ d) × CanBeMet d.demands d.lists d.capacities
 
--- the split in the test of a, or none where a is no tail
-abbrev pub IsSplitAt : List Edge → ℕ → ℤ → List ℤ → ℕ → Option Kept → Type 0
-IsSplitAt edges m c x a None = IsTail edges a → ⊥
-IsSplitAt edges m c x a (Some kept) = IsTail edges a × (kept.demand ≡ end_demands edges m c x a)
-
--- the splits in the tests of those of m vertices that are tails
-pub record AreSplits (edges : List Edge) (m : ℕ) (c : ℤ) (x : List ℤ) (splits : List (Option Kept)) : Type 0 where
-  pub places : length splits ≡ m
-  pub each : (a : ℕ) → a < m → IsSplitAt edges m c x a (slice_index_or splits a None)
+-- the split of x in the test of its root, where each of m vertices holds c; and a spare one over the same ends
+pub record IsRootSplit (edges : List Edge) (m : ℕ) (c : ℤ) (x : List ℤ) (note : RootSplit) : Type 0 where
+  pub split : note.kept.demand ≡ end_demands edges m c x note.root
+  pub spare : (s : Spare) → note.spare ≡ Some s → IsOverEnds edges m s.kept.demand
 
 -- the split where each slot holds c
 pub record IsSlotSplit (entries : List (List ℕ)) (c : ℤ) (x : List ℤ) (kept : Kept) : Type 0 where
@@ -50,15 +46,9 @@ pub record IsShiftable (u v : ℕ) (a : ℤ) (d : Demands) : Type 0 where
   pub amounts : All IsAmount (exchanged d.demands u v a)
   pub met : CanBeMet (exchanged d.demands u v a) d.lists d.capacities
 
--- a split before and after an exchange, if there is one
-abbrev pub IsMoved : ℕ → ℕ → ℤ → Option Kept → Option Kept → Type 0
-IsMoved u v a None after = after ≡ None
-IsMoved u v a (Some kept) None = ⊥
-IsMoved u v a (Some kept) (Some moved) = moved.demand ≡ exchanged_in kept.demand u v a
-
--- what is kept beside a base of q times a graphic term: the splits in the tests of all tails
-abbrev pub graphic_fits : ℤ → List Edge → List (Option Kept) → ℤ → List ℤ → Type 0
-graphic_fits w edges splits q x = AreSplits (numbered edges) (2 * length edges) (q *ℤ w) x splits
+-- what is kept beside a base of q times a graphic term: the split in the test of one vertex
+abbrev pub graphic_fits : ℤ → List Edge → RootSplit → ℤ → List ℤ → Type 0
+graphic_fits w edges note q x = IsRootSplit (numbered edges) (2 * length edges) (q *ℤ w) x note
 
 -- what is kept beside a base of q times a transversal term: the split in its test
 abbrev pub transversal_fits : ℤ → List (List ℕ) → Kept → ℤ → List ℤ → Type 0

@@ -1,10 +1,10 @@
 // Who can give something to a place u at a base. A place can if it is another one that has something, u has less than any may
 // have, and it can lend to u in the test that tells what u may get. One search in that test tells this of all places at once.
-ghost use Rattle.std.specs.Prelude.{◌≡◌, ◌↔◌, ℕ, ◌<◌, IsTrue, length, pos, OnOk, Some};
+ghost use Rattle.std.specs.Prelude.{◌≡◌, ◌↔◌, ℕ, ◌<◌, IsTrue, length, pos, OnOk};
 ghost use Rattle.sfm_spec.specs.Sets.{Has};
 ghost use Rattle.sfm_spec.specs.Terms.{exchanged};
 ghost use Rattle.sfm_assign.specs.Splits.{CanBeMet};
-ghost use Rattle.sfm_matroid.specs.Givers.{IsGiver, AreKept, AreOthers, CanLendIn};
+ghost use Rattle.sfm_matroid.specs.Givers.{IsGiver, AreKept, AreOthers, IsRowIn};
 
 use sfm_assign::Kept;
 use sfm_base::{Memory, Set};
@@ -46,19 +46,27 @@ pub(crate) fn keep_lenders(alloc: Global, kept: &Kept, u: usize, to: &mut Set) -
     Ok(())
 }
 
-/// Keeps those places of a set that can lend to u in a split, if there is one.
-pub(crate) fn keep_by_split(
+/// Writes the places other than u that have something and can lend to u where the entries are split, if u has less than a
+/// number; none otherwise.
+///
+/// # Errors
+///
+/// `Memory` where there is none.
+pub(crate) fn row(
     alloc: Global,
-    split: &Option<Kept>,
+    kept: &Kept,
+    x: &[i128],
+    cap: i128,
     u: usize,
     to: &mut Set,
 ) -> Result<(), Memory>
-    requires { (kept : Kept) → split.now ≡ Some kept → AreOthers kept.demand.demands u to.old }
-    ensures places { length to.new ≡ length to.old }
-    ensures kept { OnOk result (AreKept (CanLendIn split.now u) to.old to.new) }
+    requires entries { kept.now.demand.demands ≡ x.now }
+    requires place { u < length x.now }
+    requires sized { length to.old ≡ length x.now }
+    ensures places { length to.new ≡ length x.now }
+    ensures row { OnOk result (IsRowIn kept.now.demand cap u to.new) }
 {
-    match split {
-        Some(kept) => keep_lenders(alloc, kept, u, to),
-        None => Ok(()),
-    }
+    givers(x, cap, u, to);
+    keep_lenders(alloc, kept, u, to)?;
+    Ok(())
 }

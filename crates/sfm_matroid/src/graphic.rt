@@ -1,9 +1,10 @@
 // A number w times the rank of a graphic matroid. A part of the edges is independent where no closed trail takes distinct
 // edges of it: where it is a forest. The edges that are taken one after another, unless they close a trail, are a greatest
-// forest of a part, so their count is the rank. The bases of q times the term are told by a test for each vertex. What an edge u
-// may get is told by the test of its tail alone: the room of (u, v) is the least of what v has, what u lacks of q·w, and what u
-// lacks of the most that it gets in that test without v, and to whom u has room is told by one search in it.
-ghost use Rattle.std.specs.Prelude.{◌≡◌, ◌≢◌, ◌↔◌, ◌*◌, IsTrue, ℕ, ◌<◌, ◌≤◌, ◌^◌, Bool, List, length, slice_index_or, ℤ, pos, neg_ℤ, ◌+ℤ◌, ◌-ℤ◌, ◌*ℤ◌, ◌≤ℤ◌, IfOk, OnOk, Some};
+// forest of a part, so their count is the rank. The bases of q times the term are told by a test for each vertex, and those of the
+// tails are enough. What an edge u may get is told by the test of an end of it alone: the room of (u, v) is the least of what v
+// has, what u lacks of q·w, and what u lacks of the most that it gets in that test without v, and to whom u has room is told by
+// one search in it.
+ghost use Rattle.std.specs.Prelude.{◌≡◌, ◌≢◌, ◌↔◌, ◌*◌, IsTrue, ℕ, ◌<◌, ◌≤◌, ◌^◌, Bool, List, length, slice_index_or, ℤ, pos, neg_ℤ, ◌+ℤ◌, ◌-ℤ◌, ◌*ℤ◌, ◌≤ℤ◌, IfOk, OnOk, Some, None};
 ghost use Rattle.std.specs.List.{All};
 ghost use Rattle.sfm_assign.specs.Splits.{IsAmount, CanBeMet};
 ghost use Rattle.sfm_spec.specs.Bounds.{IsAtMost, IsEntry, IsFactor, IsGiven, AreElements};
@@ -12,17 +13,20 @@ ghost use Rattle.sfm_law.specs.Room.{IsRoom, IsReach, IsWithinRoom};
 ghost use Rattle.sfm_spec.specs.Kinds.{IsForest, IsRank, IsRankFunction};
 ghost use Rattle.sfm_matroid.specs.Ends.{edges_of};
 ghost use Rattle.sfm_matroid.specs.Cuts.{IsWithinEnds};
-ghost use Rattle.sfm_matroid.specs.Numbered.{numbered, end_lists, vertex_capacities};
-ghost use Rattle.sfm_matroid.specs.Notes.{graphic_fits};
+ghost use Rattle.sfm_matroid.specs.Numbered.{IsEndOf, numbered, end_lists, vertex_capacities};
+ghost use Rattle.sfm_matroid.specs.Notes.{end_demands, graphic_fits, IsOverEnds, IsRootSplit};
+ghost use Rattle.sfm_matroid.specs.declared.rooted.Spare.{Spare};
+ghost use Rattle.sfm_spec.specs.Rows.{Depends};
 ghost use Rattle.sfm_matroid.specs.Graphs.{graphic_rank, graphic_value, graphic_size, graphic_start, graphic_basis};
 ghost use Rattle.sfm_matroid.specs.GraphicLaws.{graphic-family, graphic-submodular, graphic-bounded, graphic-starts, graphic-starts_small};
 
 use crate::ends::Ends;
-use crate::givers::{givers, keep_by_split};
+use crate::givers::row;
 use crate::growing::{grow, whole};
-use crate::room::least_left;
-use crate::splits::{TailSplits, move_splits, tail_splits};
-use crate::testing::{numbered, passes_tails};
+use crate::room::{moved, raise, without};
+use crate::rooted::{RootSplit, Spare, root_split};
+use crate::testing::{brought, numbered, passes_tails};
+use sfm_assign::Kept;
 use sfm_base::{Memory, Places, Set};
 use sfm_law::{Room, Term, are_within, has_sum, product};
 use std::alloc::Global;
@@ -200,27 +204,68 @@ impl Graphic {
         Ok(passed)
     }
 
-    /// The greatest number that can be exchanged at a base.
-    fn capacity(
+    /// What no entry of a base of q times the term exceeds.
+    fn cap(&self, q: i128) -> i128
+        requires factor { IsFactor q }
+        ensures value { result ≡ q *ℤ self.now.w }
+        ensures low { pos 0 ≤ℤ result }
+        ensures high { result ≤ℤ pos (10 ^ 24) }
+    {
+        product(q, self.w)
+    }
+
+    /// The root if it is an end of an edge, and else the tail of that.
+    fn end_near(&self, root: usize, u: usize) -> usize
+        requires { u < length self.now.places }
+        ensures { IsEndOf (numbered self.now.ends) u result }
+    {
+        let (tail, head) = self.numbers[u];
+        if root == head { head } else { tail }
+    }
+
+    /// Brings a split over the ends to entries that can be met with the root.
+    ///
+    /// # Errors
+    ///
+    /// `Memory` where there is none.
+    fn bring(
         &self,
         alloc: Global,
-        q: i128,
+        kept: &mut Kept,
         x: &[i128],
-        u: usize,
-        v: usize,
-    ) -> Result<i128, Memory>
-        requires factor { IsFactor q }
+        cap: i128,
+        root: usize,
+    ) -> Result<(), Memory>
+        requires over { IsOverEnds (numbered self.now.ends) (2 * length self.now.ends) kept.old.demand }
         requires entries { length x.now ≡ length self.now.places }
-        requires small { All IsEntry x.now }
-        requires base { IsBase (times q (graphic_value self.now.w self.now.ends)) x.now }
-        requires apart { u ≢ v }
-        requires from { u < length x.now }
-        requires onto { v < length x.now }
-        ensures { IfOk result (IsCapacity (times q (graphic_value self.now.w self.now.ends)) x.now u v) }
+        requires amounts { All IsAmount x.now }
+        requires low { pos 0 ≤ℤ cap }
+        requires high { cap ≤ℤ pos (10 ^ 24) }
+        requires met { CanBeMet x.now (end_lists (numbered self.now.ends)) (vertex_capacities (2 * length self.now.ends) cap root) }
+        ensures { OnOk result (kept.new.demand ≡ end_demands (numbered self.now.ends) (2 * length self.now.ends) cap x.now root) }
     {
-        let cap = product(q, self.w);
-        let least = least_left(alloc, &self.numbers, x, cap, u, v)?;
-        Ok(least)
+        if !brought(alloc, kept, x, cap, root)? {
+            unreachable!();
+        }
+        Ok(())
+    }
+
+    /// The split from nothing of entries that can be met with the root.
+    ///
+    /// # Errors
+    ///
+    /// `Memory` where there is none.
+    fn split(&self, alloc: Global, x: &[i128], cap: i128, root: usize) -> Result<RootSplit, Memory>
+        requires entries { length x.now ≡ length self.now.places }
+        requires amounts { All IsAmount x.now }
+        requires low { pos 0 ≤ℤ cap }
+        requires high { cap ≤ℤ pos (10 ^ 24) }
+        requires met { CanBeMet x.now (end_lists (numbered self.now.ends)) (vertex_capacities (2 * length self.now.ends) cap root) }
+        ensures root { IfOk result (λ r. r.root ≡ root) }
+        ensures split { IfOk result (IsRootSplit (numbered self.now.ends) (2 * length self.now.ends) cap x.now) }
+    {
+        let note = root_split(alloc, &self.numbers, x, cap, root)?;
+        Ok(note)
     }
 
     /// The room of (u, v) at a base.
@@ -245,27 +290,32 @@ impl Graphic {
         requires onto { v < length x.now }
         ensures { IfOk result (IsRoom (times q (graphic_value self.now.w self.now.ends)) x.now u v) }
     {
-        let most = self.capacity(alloc, q, x, u, v)?;
+        let cap = self.cap(q);
+        let root = self.end_near(0, u);
+        let rest = without(alloc, x, v)?;
+        let mut note = self.split(alloc, &rest, cap, root)?;
+        let most = raise(alloc, &mut note.kept, x, cap, u, v)?;
         Ok(Room::Upto(most))
     }
 
-    /// The splits in the tests that tell a base, which are kept beside it.
+    /// The split in the test of a vertex, which is kept beside a base.
     ///
     /// # Errors
     ///
     /// `Memory` where there is none.
-    pub fn note_of(&self, alloc: Global, q: i128, x: &[i128]) -> Result<TailSplits, Memory>
+    pub fn note_of(&self, alloc: Global, q: i128, x: &[i128]) -> Result<RootSplit, Memory>
         requires factor { IsFactor q }
         requires entries { length x.now ≡ length self.now.places }
         requires base { IsBase (times q (graphic_value self.now.w self.now.ends)) x.now }
-        ensures { IfOk result (λ r. graphic_fits self.now.w self.now.ends r.kept.items q x.now) }
+        ensures { IfOk result (λ r. graphic_fits self.now.w self.now.ends r q x.now) }
     {
-        let cap = product(q, self.w);
-        let note = tail_splits(alloc, &self.numbers, x, cap)?;
+        let cap = self.cap(q);
+        let note = self.split(alloc, x, cap, 0)?;
         Ok(note)
     }
 
-    /// Writes the places other than u to which u has room at a base, by the splits that are kept beside it.
+    /// Writes the places other than u to which u has room at a base, by a split with the root at an end of u: the one that is kept,
+    /// or a copy that is brought there.
     ///
     /// # Errors
     ///
@@ -275,29 +325,150 @@ impl Graphic {
         alloc: Global,
         q: i128,
         x: &[i128],
-        note: &TailSplits,
+        note: &RootSplit,
         u: usize,
         to: &mut Set,
     ) -> Result<(), Memory>
         requires factor { IsFactor q }
         requires entries { length x.now ≡ length self.now.places }
         requires base { IsBase (times q (graphic_value self.now.w self.now.ends)) x.now }
-        requires noted { graphic_fits self.now.w self.now.ends note.now.kept.items q x.now }
+        requires noted { graphic_fits self.now.w self.now.ends note.now q x.now }
         requires from { u < length x.now }
         requires room_for_answer { length to.old ≡ length x.now }
         ensures places { length to.new ≡ length to.old }
         ensures reached { OnOk result (IsReach (times q (graphic_value self.now.w self.now.ends)) x.now u to.new) }
     {
-        let cap = product(q, self.w);
-        givers(x, cap, u, to);
-        let tail = self.numbers[u].0;
-        keep_by_split(alloc, &note.kept[tail], u, to)?;
+        let cap = self.cap(q);
+        let root = self.end_near(note.root, u);
+        if root == note.root {
+            row(alloc, &note.kept, x, cap, u, to)?;
+            return Ok(());
+        }
+        let mut kept = note.kept.copy(alloc)?;
+        self.bring(alloc, &mut kept, x, cap, root)?;
+        row(alloc, &kept, x, cap, u, to)?;
+        Ok(())
+    }
+
+    /// Writes the places other than u to which u has room at a base, where u is s or has room to it: by the split that is kept, if
+    /// its root is an end of s.
+    ///
+    /// # Errors
+    ///
+    /// `Memory` where there is none.
+    fn reach_near(
+        &self,
+        alloc: Global,
+        q: i128,
+        x: &[i128],
+        note: &RootSplit,
+        s: usize,
+        u: usize,
+        to: &mut Set,
+    ) -> Result<(), Memory>
+        requires factor { IsFactor q }
+        requires entries { length x.now ≡ length self.now.places }
+        requires base { IsBase (times q (graphic_value self.now.w self.now.ends)) x.now }
+        requires noted { graphic_fits self.now.w self.now.ends note.now q x.now }
+        requires onto { s < length x.now }
+        requires from { u < length x.now }
+        requires leads { Depends (times q (graphic_value self.now.w self.now.ends)) x.now u s }
+        requires room_for_answer { length to.old ≡ length x.now }
+        ensures places { length to.new ≡ length to.old }
+        ensures reached { OnOk result (IsReach (times q (graphic_value self.now.w self.now.ends)) x.now u to.new) }
+    {
+        if self.end_near(note.root, s) != note.root {
+            return self.reach_of(alloc, q, x, note, u, to);
+        }
+        let cap = self.cap(q);
+        row(alloc, &note.kept, x, cap, u, to)?;
+        Ok(())
+    }
+
+    /// The room of (u, v) at a base, by a copy of the split that is kept, which is brought to what stays without v, with the root
+    /// at an end of u, and stays in the note.
+    ///
+    /// # Errors
+    ///
+    /// `Memory` where there is none.
+    fn room_near(
+        &self,
+        alloc: Global,
+        q: i128,
+        x: &[i128],
+        note: &mut RootSplit,
+        u: usize,
+        v: usize,
+    ) -> Result<Room, Memory>
+        requires factor { IsFactor q }
+        requires entries { length x.now ≡ length self.now.places }
+        requires base { IsBase (times q (graphic_value self.now.w self.now.ends)) x.now }
+        requires noted { graphic_fits self.now.w self.now.ends note.old q x.now }
+        requires apart { u ≢ v }
+        requires from { u < length x.now }
+        requires onto { v < length x.now }
+        ensures room { IfOk result (IsRoom (times q (graphic_value self.now.w self.now.ends)) x.now u v) }
+        ensures noted { OnOk result (graphic_fits self.now.w self.now.ends note.new q x.now) }
+    {
+        let cap = self.cap(q);
+        let root = self.end_near(note.root, u);
+        let rest = without(alloc, x, v)?;
+        let mut kept = note.kept.copy(alloc)?;
+        self.bring(alloc, &mut kept, &rest, cap, root)?;
+        let most = raise(alloc, &mut kept, x, cap, u, v)?;
+        note.spare = Some(Spare { root, kept });
+        Ok(Room::Upto(most))
+    }
+
+    /// Takes the spare split in place of the one that is kept, if its root is an end of u.
+    fn take_spare(&self, note: &mut RootSplit, u: usize)
+        requires place { u < length self.now.places }
+        requires kept { IsOverEnds (numbered self.now.ends) (2 * length self.now.ends) note.old.kept.demand }
+        requires spare { (s : Spare) → note.old.spare ≡ Some s → IsOverEnds (numbered self.now.ends) (2 * length self.now.ends) s.kept.demand }
+        ensures kept { IsOverEnds (numbered self.now.ends) (2 * length self.now.ends) note.new.kept.demand }
+        ensures spare { note.new.spare ≡ None }
+    {
+        if let Some(spare) = note.spare.take() {
+            if self.end_near(spare.root, u) == spare.root {
+                note.root = spare.root;
+                note.kept = spare.kept;
+            }
+        }
+    }
+
+    /// Brings what is kept beside a base to another one, with the root at an end of u: the spare split, or else the one that is
+    /// kept.
+    ///
+    /// # Errors
+    ///
+    /// `Memory` where there is none.
+    fn move_to(
+        &self,
+        alloc: Global,
+        q: i128,
+        x: &[i128],
+        note: &mut RootSplit,
+        u: usize,
+    ) -> Result<(), Memory>
+        requires factor { IsFactor q }
+        requires entries { length x.now ≡ length self.now.places }
+        requires base { IsBase (times q (graphic_value self.now.w self.now.ends)) x.now }
+        requires place { u < length x.now }
+        requires kept { IsOverEnds (numbered self.now.ends) (2 * length self.now.ends) note.old.kept.demand }
+        requires spare { (s : Spare) → note.old.spare ≡ Some s → IsOverEnds (numbered self.now.ends) (2 * length self.now.ends) s.kept.demand }
+        ensures { OnOk result (graphic_fits self.now.w self.now.ends note.new q x.now) }
+    {
+        self.take_spare(note, u);
+        let cap = self.cap(q);
+        let root = self.end_near(note.root, u);
+        self.bring(alloc, &mut note.kept, x, cap, root)?;
+        note.root = root;
         Ok(())
     }
 }
 
 impl Term for Graphic {
-    type Note = TailSplits;
+    type Note = RootSplit;
 
     ghost places = { λ s. s.places };
 
@@ -312,7 +483,7 @@ impl Term for Graphic {
 
     ghost lean_calls = { λ s. ⊥ };
 
-    ghost fits = { λ s note q x. graphic_fits s.w s.ends note.kept.items q x };
+    ghost fits = { λ s note q x. graphic_fits s.w s.ends note q x };
 
     ghost family = { λ s. graphic-family (length s.places) s.w s.ends s.same_count };
 
@@ -361,7 +532,7 @@ impl Term for Graphic {
         self.reach_of(alloc, q, x, &note, u, to)
     }
 
-    fn note(&self, alloc: Global, q: i128, x: &[i128]) -> Result<TailSplits, Memory> {
+    fn note(&self, alloc: Global, q: i128, x: &[i128]) -> Result<RootSplit, Memory> {
         self.note_of(alloc, q, x)
     }
 
@@ -370,24 +541,50 @@ impl Term for Graphic {
         alloc: Global,
         q: i128,
         x: &[i128],
-        note: &TailSplits,
+        note: &RootSplit,
         u: usize,
         to: &mut Set,
     ) -> Result<(), Memory> {
         self.reach_of(alloc, q, x, note, u, to)
     }
 
+    fn room_by(
+        &self,
+        alloc: Global,
+        q: i128,
+        x: &[i128],
+        note: &mut RootSplit,
+        u: usize,
+        v: usize,
+    ) -> Result<Room, Memory> {
+        self.room_near(alloc, q, x, note, u, v)
+    }
+
+    fn reach_with(
+        &self,
+        alloc: Global,
+        q: i128,
+        x: &[i128],
+        note: &RootSplit,
+        s: usize,
+        u: usize,
+        to: &mut Set,
+    ) -> Result<(), Memory> {
+        self.reach_near(alloc, q, x, note, s, u, to)
+    }
+
     fn moved(
         &self,
         alloc: Global,
-        _q: i128,
-        _x: &[i128],
-        note: &mut TailSplits,
+        q: i128,
+        x: &[i128],
+        note: &mut RootSplit,
         u: usize,
         v: usize,
         a: i128,
     ) -> Result<(), Memory> {
-        move_splits(alloc, &mut note.kept, u, v, a)?;
+        let after = moved(alloc, x, u, v, a)?;
+        self.move_to(alloc, q, &after, note, u)?;
         Ok(())
     }
 }

@@ -9,6 +9,7 @@ pub mod graphic;
 mod growing;
 mod matching;
 mod room;
+pub mod rooted;
 mod slot_room;
 pub mod splits;
 mod testing;
@@ -17,7 +18,8 @@ pub mod transversal;
 pub use ends::Ends;
 pub use entries::Entries;
 pub use graphic::Graphic;
-pub use splits::{SlotSplit, TailSplits};
+pub use rooted::{RootSplit, Spare};
+pub use splits::SlotSplit;
 pub use transversal::Transversal;
 
 #[cfg(test)]

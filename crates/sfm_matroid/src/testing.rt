@@ -55,7 +55,7 @@ fn capacities(alloc: Global, m: usize, most: i128, a: usize) -> Result<Vec<i128>
 }
 
 /// The edges as demands that are split over their ends, of which each holds a number, and the vertex a nothing.
-pub(crate) fn demand(
+fn demand(
     alloc: Global,
     ends: &[(usize, usize)],
     x: &[i128],
@@ -135,7 +135,7 @@ pub(crate) fn brought(
 }
 
 /// Whether a vertex is the tail of an edge.
-pub(crate) fn is_tail(ends: &[(usize, usize)], a: usize) -> bool
+fn is_tail(ends: &[(usize, usize)], a: usize) -> bool
     ensures { IsTrue result ↔ IsTail (edges_of ends.now) a }
 {
     ends.iter().any(|pair| pair.0 == a)

@@ -1,0 +1,81 @@
+use Rattle.std.proofs.Common.{◌∙◌, ◌*◌, [], set, pos, ◌*ℤ◌, length, sym, rules, FitsSigned, length-set}
+use Rattle.std.proofs.lemmas.Int.{to_z-of_z}
+use mir.Syntax.{w128}
+use Rattle.sfm_law.proofs.Fits.{given_fits, given_more, product_fits, product_low, product_high}
+use Rattle.sfm_matroid.proofs.Fits.{within_amounts, without_amounts}
+use Rattle.sfm_matroid.proofs.GraphicBases.{base_within_cap}
+use Rattle.sfm_matroid.proofs.GraphicRooms.{rest_split, root_below, grown_capacity}
+use Rattle.sfm_matroid.specs.Numbered.{numbered}
+use Rattle.sfm_matroid.proofs.Noted.{note_with, over_grown}
+use Rattle.sfm_matroid.proofs.Numbers.{length-numbered}
+use Rattle.sfm_matroid.proofs.graphic.Graphic.room_near.Goals as goal
+
+pub bring-requires-clause-amounts : goal.bring-requires-clause-amounts
+bring-requires-clause-amounts c =
+    let r = c.requires in
+    let s = c.args.self.now in
+    let q = c.args.q in
+    let x = c.args.x.now in
+    let fq : FitsSigned w128 q = c.ranges.q in
+    let fw : FitsSigned w128 s.w = given_fits _ s.given in
+    let fp : FitsSigned w128 (q *ℤ s.w) = product_fits _ _ r.factor (given_more _ s.given) in
+    let p = simp to_z-of_z at c.cap-cap.ensures.value in
+    let low = product_low q s.w r.factor s.low in
+    rw (c.deref.ensures.value, c.in_ok-rest.ensures) (without_amounts x c.args.v (within_amounts x (q *ℤ s.w) (product_high q s.w r.factor s.given) (base_within_cap (length s.places) q s.w s.ends s.same_count low x r.entries r.base)))
+
+pub bring-requires-clause-met : goal.bring-requires-clause-met
+bring-requires-clause-met c =
+    let r = c.requires in
+    let s = c.args.self.now in
+    let q = c.args.q in
+    let x = c.args.x.now in
+    let fq : FitsSigned w128 q = c.ranges.q in
+    let fw : FitsSigned w128 s.w = given_fits _ s.given in
+    let fp : FitsSigned w128 (q *ℤ s.w) = product_fits _ _ r.factor (given_more _ s.given) in
+    let p = simp to_z-of_z at c.cap-cap.ensures.value in
+    let low = product_low q s.w r.factor s.low in
+    rw (c.deref.ensures.value, c.in_ok-rest.ensures, p) (simp to_z-of_z (rest_split (length s.places) q s.w s.ends s.same_count low x r.entries r.base c.args.v c.end_near-root.result r.onto (root_below (length s.places) q s.w s.ends s.same_count low x r.entries r.base c.args.u c.end_near-root.result r.from c.end_near-root.ensures)))
+
+pub raise-requires-clause-within : goal.raise-requires-clause-within
+raise-requires-clause-within c =
+    let r = c.requires in
+    let s = c.args.self.now in
+    let q = c.args.q in
+    let x = c.args.x.now in
+    let fq : FitsSigned w128 q = c.ranges.q in
+    let fw : FitsSigned w128 s.w = given_fits _ s.given in
+    let fp : FitsSigned w128 (q *ℤ s.w) = product_fits _ _ r.factor (given_more _ s.given) in
+    let p = simp to_z-of_z at c.cap-cap.ensures.value in
+    let low = product_low q s.w r.factor s.low in
+    rw p (simp to_z-of_z (base_within_cap (length s.places) q s.w s.ends s.same_count low x r.entries r.base))
+
+pub returns-clause-room : goal.returns-clause-room
+returns-clause-room c =
+    let r = c.requires in
+    let s = c.args.self.now in
+    let q = c.args.q in
+    let x = c.args.x.now in
+    let fq : FitsSigned w128 q = c.ranges.q in
+    let fw : FitsSigned w128 s.w = given_fits _ s.given in
+    let fp : FitsSigned w128 (q *ℤ s.w) = product_fits _ _ r.factor (given_more _ s.given) in
+    let p = simp to_z-of_z at c.cap-cap.ensures.value in
+    let low = product_low q s.w r.factor s.low in
+    let fm : FitsSigned w128 c.in_ok-most.most = search rules in
+    let is = simp to_z-of_z at (rw (c.deref.ensures.value, c.in_ok-rest.ensures, p) at c.in_ok-bring.ensures) in
+    simp to_z-of_z (grown_capacity (length s.places) q s.w s.ends s.same_count low x r.entries r.base c.args.u c.args.v r.from r.onto r.apart c.end_near-root.result c.end_near-root.ensures c.in_ok-most.most (simp to_z-of_z at (rw (is, p) at c.in_ok-most.ensures.most)))
+
+pub returns-clause-noted : goal.returns-clause-noted
+returns-clause-noted c =
+    let r = c.requires in
+    let s = c.args.self.now in
+    let q = c.args.q in
+    let x = c.args.x.now in
+    let fq : FitsSigned w128 q = c.ranges.q in
+    let fw : FitsSigned w128 s.w = given_fits _ s.given in
+    let fp : FitsSigned w128 (q *ℤ s.w) = product_fits _ _ r.factor (given_more _ s.given) in
+    let p = simp to_z-of_z at c.cap-cap.ensures.value in
+    let low = product_low q s.w r.factor s.low in
+    let is = simp to_z-of_z at (rw (c.deref.ensures.value, c.in_ok-rest.ensures, p) at c.in_ok-bring.ensures) in
+    let more = c.in_ok-most.ensures.raised in
+    let sized = length-set x c.args.v (pos 0) ∙ (r.entries ∙ (sym s.same_count ∙ sym (length-numbered s.ends []))) in
+    note_with (numbered s.ends) (2 * length s.ends) (q *ℤ s.w) x c.args.note.now.root c.args.note.now.kept _ r.noted.split (over_grown (numbered s.ends) (2 * length s.ends) (q *ℤ s.w) (set x c.args.v (pos 0)) c.end_near-root.result _ c.raise.new.kept.demand c.args.u _ sized is more)

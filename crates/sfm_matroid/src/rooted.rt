@@ -1,0 +1,59 @@
+// The split that is kept beside a base of a graphic term: one, in the test of one vertex, its root. At a base there is a split
+// for each root, so a split can be brought to another root from where it stands. What an edge may get is told with the root at
+// an end of it; and so it is of an edge that has room to another one, with the root at an end of that. A room leaves a second
+// split, from which an exchange goes on.
+ghost use Rattle.std.specs.Prelude.{◌≡◌, ◌*◌, ◌≤◌, ◌^◌, length, pos, ◌≤ℤ◌, IfOk};
+ghost use Rattle.std.specs.List.{All};
+ghost use Rattle.sfm_assign.specs.Splits.{IsAmount, CanBeMet};
+ghost use Rattle.sfm_matroid.specs.Ends.{edges_of};
+ghost use Rattle.sfm_matroid.specs.Graphs.{EndsBelow};
+ghost use Rattle.sfm_matroid.specs.Notes.{IsRootSplit};
+ghost use Rattle.sfm_matroid.specs.Numbered.{end_lists, vertex_capacities};
+
+use crate::testing::split;
+use sfm_assign::Kept;
+use sfm_base::Memory;
+use std::alloc::Global;
+
+/// A split over the ends, in the test of a vertex.
+#[derive(Drop)]
+pub struct Spare {
+    pub root: usize,
+    pub kept: Kept,
+}
+
+/// The split of a base in the test of a vertex, and the split that the last room left, of whatever amounts.
+#[derive(Drop)]
+pub struct RootSplit {
+    pub root: usize,
+    pub kept: Kept,
+    pub spare: Option<Spare>,
+}
+
+/// The split from nothing of amounts that can be met with the root.
+pub(crate) fn root_split(
+    alloc: Global,
+    ends: &[(usize, usize)],
+    x: &[i128],
+    most: i128,
+    root: usize,
+) -> Result<RootSplit, Memory>
+    requires few { length ends.now ≤ 256 }
+    requires entries { length x.now ≡ length ends.now }
+    requires amounts { All IsAmount x.now }
+    requires low { pos 0 ≤ℤ most }
+    requires high { most ≤ℤ pos (10 ^ 24) }
+    requires below { EndsBelow (edges_of ends.now) (2 * length ends.now) }
+    requires met { CanBeMet x.now (end_lists (edges_of ends.now)) (vertex_capacities (2 * length ends.now) most root) }
+    ensures root { IfOk result (λ r. r.root ≡ root) }
+    ensures split { IfOk result (IsRootSplit (edges_of ends.now) (2 * length ends.now) most x.now) }
+{
+    match split(alloc, ends, x, most, root)? {
+        Some(kept) => Ok(RootSplit {
+            root,
+            kept,
+            spare: None,
+        }),
+        None => unreachable!(),
+    }
+}
