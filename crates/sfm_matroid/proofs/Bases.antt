@@ -147,7 +147,7 @@ module _ (k n : ℕ) (q w : ℤ) (low : pos 0 ≤ℤ (q *ℤ w)) (IsIndependent 
           (p.met t lt)
 
       -- x itself meets them
-      met_now : (t : ℕ) → t < n → Meets t (raised (get_or x u (pos 0)))
+      pub met_now : (t : ℕ) → t < n → Meets t (raised (get_or x u (pos 0)))
       met_now t lt = tests.smaller t (raised (get_or x u (pos 0))) x lt (raised-places (get_or x u (pos 0))) sized (raised-counts (get_or x u (pos 0)) (counts u (omega (arith, sized, ku))))
           (λ e h. by_place (get_or x u (pos 0)) (λ e y. y ≤ℤ get_or x e (pos 0)) (omega (arith, ints)) (counts v (omega (arith, sized, kv))) (λ e eu ev. omega (arith, ints)) e) (passes.met t lt)
 

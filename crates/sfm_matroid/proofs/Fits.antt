@@ -1,5 +1,5 @@
 -- Amounts of a base fit 128 bits, and so does what is left of a number.
-use Rattle.std.proofs.Common.{◌≡◌, ◌≢◌, ◌^◌, ℕ, List, set, ℤ, pos, ◌+ℤ◌, ◌-ℤ◌, ◌≤ℤ◌, arith, ⊎_elim, FitsSigned, length-set, get_or-set_other, get_or-set_same}
+use Rattle.std.proofs.Common.{◌≡◌, ◌≢◌, ◌^◌, ℕ, ◌<◌, List, length, get_or, set, ℤ, pos, ◌+ℤ◌, ◌-ℤ◌, ◌≤ℤ◌, arith, ⊎_elim, FitsSigned, length-set, get_or-set_other, get_or-set_same}
 use Rattle.std.proofs.lemmas.Bool.{cases_eq}
 use Rattle.std.proofs.lemmas.Int.{ints, clamps}
 use Rattle.std.specs.Int.{int_min}
@@ -48,3 +48,18 @@ without_amounts x v all k d lt =
     (λ (same : k ≡ v). rw (same, get_or-set_same x v (pos 0) d (omega (arith, l, lt, same))) (record { low = omega (arith, ints); high = omega (arith, ints) }))
     (λ (ne : k ≢ v). rw (get_or-set_other x v k (pos 0) d ne) (all k d (omega (arith, l, lt))))
     (cases_eq k v)
+
+-- the lesser of what v has and what u lacks of a number, where entries lie from 0 to that number
+module _ (x : List ℤ) (c : ℤ) (u v : ℕ) (limit : ℤ) (is : limit ≡ int_min (get_or x v (pos 0)) (c -ℤ get_or x u (pos 0))) where
+  pub limit_low : u < length x → v < length x → All (λ a. (pos 0 ≤ℤ a) × (a ≤ℤ c)) x → pos 0 ≤ℤ limit
+  limit_low from onto all =
+      let a = all u (pos 0) from in
+      let b = all v (pos 0) onto in
+      omega (arith, ints, clamps, is, a.1, b.0)
+
+  pub limit_small : u ≢ v → u < length x → v < length x → c ≤ℤ pos (10 ^ 24) → All (λ a. (pos 0 ≤ℤ a) × (a ≤ℤ c)) x → IsAmount (get_or (set x v (pos 0)) u (pos 0) +ℤ limit)
+  limit_small ne from onto high all =
+      let a = all u (pos 0) from in
+      let l = limit_low from onto all in
+      let e = get_or-set_other x v u (pos 0) (pos 0) ne in
+      record { low = omega (arith, ints, e, l, a.0); high = omega (arith, ints, clamps, is, e, high) }

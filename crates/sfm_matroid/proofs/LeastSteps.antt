@@ -4,7 +4,7 @@ use Rattle.std.specs.Int.{int_min}
 use Rattle.std.proofs.lemmas.Int.{ints, clamps, by_lt_z}
 use Rattle.sfm_matroid.specs.Leasts.{IsLeastOf}
 
-one_of : (r a b : ℤ) → r ≡ int_min a b → (r ≡ a) ⊎ (r ≡ b)
+pub one_of : (r a b : ℤ) → r ≡ int_min a b → (r ≡ a) ⊎ (r ≡ b)
 one_of r a b e = by_lt_z a b (λ lower. inl (omega (arith, ints, clamps, e, lower))) (λ more. inr (omega (arith, ints, clamps, e, more)))
 
 pub least_of : (IsMostThere : ℤ → Type 0) (has_v cap has_u first r a : ℤ) → first ≡ int_min has_v (cap -ℤ has_u) → IsMostThere r → a ≡ int_min first (r -ℤ has_u) → IsLeastOf IsMostThere has_v cap has_u a

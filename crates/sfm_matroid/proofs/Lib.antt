@@ -11,6 +11,7 @@ mod TransversalBases
 mod LeastSteps
 mod Keeping
 mod Noted
+mod SlotNotes
 mod Fits
 mod Kept
 mod Shares

@@ -1,9 +1,10 @@
 -- Bases of a transversal term by the test of its code, and how much can be exchanged at one: by the most that an element gets in
 -- the test, without another element; and to whom an element has room, by those that can lend to it.
-use Rattle.std.proofs.Common.{◌≡◌, ◌≢◌, ◌↔◌, ℕ, ◌<◌, Bool, List, length, get_or, set, replicate, ℤ, pos, ◌*ℤ◌, ◌≤ℤ◌, sym, ap, ◌∙◌, arith, inl, inr, ⊎_elim}
+use Rattle.std.proofs.Common.{◌≡◌, ◌≢◌, ◌↔◌, ℕ, ◌<◌, Bool, List, length, get_or, set, replicate, ℤ, pos, ◌+ℤ◌, ◌-ℤ◌, ◌*ℤ◌, ◌≤ℤ◌, ◌<ℤ◌, sym, ap, ◌∙◌, arith, inl, inr, ⊎_elim, get_or-set_other}
+use Rattle.std.specs.Int.{int_min}
 use Rattle.std.specs.List.{All}
-use Rattle.std.proofs.lemmas.Int.{ints, by_lt_z}
-use Rattle.std.proofs.lemmas.List.{get_or_default}
+use Rattle.std.proofs.lemmas.Int.{ints, clamps, by_lt_z}
+use Rattle.std.proofs.lemmas.List.{get_or_default, set-get_or}
 use Rattle.sfm_spec.specs.Bounds.{total_of}
 use Rattle.sfm_spec.specs.Sets.{Has, whole_set, sum_over}
 use Rattle.sfm_spec.specs.Terms.{times, IsBase, IsCapacity, HasRoom, exchanged}
@@ -13,12 +14,15 @@ use Rattle.sfm_matroid.specs.Givers.{IsGiver, AreKept}
 use Rattle.sfm_matroid.proofs.Keeping.{reach_kept}
 use Rattle.sfm_spec.specs.Kinds.{IsMatchable}
 use Rattle.sfm_spec.proofs.Scaled.{times-assoc}
-use Rattle.sfm_assign.specs.Splits.{CanBeMet, IsMost}
+use Rattle.sfm_assign.specs.Splits.{CanBeMet, IsMost, Demands}
+use Rattle.sfm_assign.specs.Lenders.{IsMostUpto}
+use Rattle.sfm_matroid.specs.Notes.{slot_demands}
+use Rattle.sfm_matroid.proofs.LeastSteps.{one_of}
 use Rattle.sfm_matroid.specs.Leasts.{IsLeastOf}
 use Rattle.sfm_matroid.specs.Matchings.{matching-matroid}
 use Rattle.sfm_matroid.specs.Slots.{IsWithinSlots, transversal_rank, transversal_value, transversal_size}
 use Rattle.sfm_matroid.specs.Transversals.{transversal-ranks}
-use Rattle.sfm_matroid.proofs.Bases.{IsMostAt, base_counts, base_total, base_passes, passes_base, raised-places, raised-counts, met_nothing, least_capacity, given-counts, gives_room, room_gives}
+use Rattle.sfm_matroid.proofs.Bases.{IsMostAt, base_counts, base_total, base_passes, passes_base, raised-places, raised-counts, met_now, met_nothing, lower, least_capacity, given-counts, gives_room, room_gives}
 use Rattle.sfm_matroid.proofs.Matched.{slots_each}
 use Rattle.sfm_matroid.proofs.MatroidTests.{transversal_tests}
 use Rattle.sfm_matroid.proofs.SplitTests.{split_within_slots, within_slots_split}
@@ -95,6 +99,64 @@ module _ (k : ℕ) (q w : ℤ) (entries : List (List ℕ)) (m : ℕ) (exist : Al
       under_cap = least.under_cap;
       under_most = λ t lt. let (r, most, le) = least.under_most in (r, (most_at t r most).reached, le);
       reached = ⊎_elim (λ e. inl e) (λ rest. ⊎_elim (λ e. inr (inl e)) (λ (r, most, e). inr (inr (0, omega arith, r, most_at 0 r most, e))) rest) least.reached;
+    })
+
+    -- ---- and by what u gets besides, once v has nothing
+
+    -- x without what v has
+    abbrev rest : Demands
+    rest = slot_demands entries m (q *ℤ w) (set x v (pos 0))
+
+    abbrev has_u : ℤ
+    has_u = get_or x u (pos 0)
+
+    rest_u : get_or (set x v (pos 0)) u (pos 0) ≡ has_u
+    rest_u = get_or-set_other x v u (pos 0) (pos 0) ne
+
+    has_u-low : pos 0 ≤ℤ has_u
+    has_u-low = base_counts (length entries) 1 q w low (IsMatchable entries) (transversal_rank entries) (matching-matroid (length entries) entries) (transversal-ranks entries) (λ a x. IsWithinSlots entries m (q *ℤ w) x) x sized base u xu
+
+    with_now : IsWithinSlots entries m (q *ℤ w) (with_u has_u)
+    with_now = met_now (length entries) 1 q w low (IsMatchable entries) (transversal_rank entries) (matching-matroid (length entries) entries) (transversal-ranks entries) (λ a x. IsWithinSlots entries m (q *ℤ w) x) (transversal_tests entries m (slots_each entries m exist) q w low) x sized base u v ku kv ne 0 (omega arith)
+
+    -- what is left can be met
+    pub rest_met : CanBeMet (set x v (pos 0)) entries (replicate m (q *ℤ w))
+    rest_met =
+        let e : with_u has_u ≡ set x v (pos 0) = ap (λ a. set (set x v (pos 0)) u a) (sym rest_u) ∙ set-get_or (set x v (pos 0)) u (pos 0) in
+        rw e at (split has_u has_u-low with_now)
+
+    -- where the most besides is below the limit, no more can be got at all
+    got_most : (limit g : ℤ) → IsMostUpto rest u limit g → g <ℤ limit → (b : ℤ) → IsWithinSlots entries m (q *ℤ w) (with_u b) → b ≤ℤ (has_u +ℤ g)
+    got_most limit g most less b met = by_lt_z (has_u +ℤ g) b
+        (λ more.
+        let gl = most.low in
+        let hl = has_u-low in
+        let one : (get_or (set x v (pos 0)) u (pos 0) +ℤ (g +ℤ pos 1)) ≡ ((has_u +ℤ g) +ℤ pos 1) = let e = rest_u in omega (arith, ints, e) in
+        let next : IsWithinSlots entries m (q *ℤ w) (with_u ((has_u +ℤ g) +ℤ pos 1)) = lower (length entries) 1 q w low (IsMatchable entries) (transversal_rank entries) (matching-matroid (length entries) entries) (transversal-ranks entries) (λ a x. IsWithinSlots entries m (q *ℤ w) x) (transversal_tests entries m (slots_each entries m exist) q w low) x sized base u v ku kv ne 0 ((has_u +ℤ g) +ℤ pos 1) b (omega arith) (omega (arith, ints, gl, hl)) (omega (arith, ints, more)) met in
+        let can : CanBeMet (with_u ((has_u +ℤ g) +ℤ pos 1)) entries (replicate m (q *ℤ w)) = split ((has_u +ℤ g) +ℤ pos 1) (omega (arith, ints, gl, hl)) next in
+        let h = most.greatest (g +ℤ pos 1) (omega (arith, ints, gl)) (omega (arith, ints, less)) (rw one can) in
+        omega (arith, ints, h))
+        (λ ge. omega (arith, ints, ge))
+
+    pub grown_capacity : (limit g : ℤ) → limit ≡ int_min (get_or x v (pos 0)) ((q *ℤ w) -ℤ has_u) → IsMostUpto rest u limit g → IsCapacity (times q (transversal_value w entries)) x u v g
+    grown_capacity limit g is most = least_capacity (length entries) 1 q w low (IsMatchable entries) (transversal_rank entries) (matching-matroid (length entries) entries) (transversal-ranks entries) (λ a x. IsWithinSlots entries m (q *ℤ w) x) (transversal_tests entries m (slots_each entries m exist) q w low) x sized base u v ku kv ne g (record {
+      under_v = let h = most.high in omega (arith, ints, clamps, is, h);
+      under_cap = let h = most.high in omega (arith, ints, clamps, is, h);
+      under_most = λ t lt. (has_u +ℤ g, met, omega (arith, ints));
+      reached = by_lt_z g limit
+          (λ less. inr (inr (0, omega arith, has_u +ℤ g, record { reached = met; greatest = got_most limit g most less }, omega (arith, ints))))
+          (λ ge. let h = most.high in let e : g ≡ limit = omega (arith, ints, ge, h) in ⊎_elim (λ o. inl (e ∙ o)) (λ o. inr (inl (e ∙ o))) (one_of limit (get_or x v (pos 0)) ((q *ℤ w) -ℤ has_u) is));
+    }) where
+      met : IsWithinSlots entries m (q *ℤ w) (with_u (has_u +ℤ g))
+      met = split_within_slots entries m exist (q *ℤ w) (with_u (has_u +ℤ g)) (places (has_u +ℤ g)) (rw rest_u at most.reached)
+
+    -- nothing, where v has nothing or u has all that it may
+    pub no_capacity : int_min (get_or x v (pos 0)) ((q *ℤ w) -ℤ has_u) ≡ pos 0 → IsCapacity (times q (transversal_value w entries)) x u v (pos 0)
+    no_capacity none = grown_capacity (pos 0) (pos 0) (sym none) (record {
+      low = omega (arith, ints);
+      high = omega (arith, ints);
+      reached = let e : (get_or (set x v (pos 0)) u (pos 0) +ℤ pos 0) ≡ has_u = let r = rest_u in omega (arith, ints, r) in rw e (split has_u has_u-low with_now);
+      greatest = λ b l h met. h;
     })
 
     -- ---- what v can give to u

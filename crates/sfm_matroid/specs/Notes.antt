@@ -1,13 +1,13 @@
 -- What is kept beside a base: a split of it in a test.
-use Rattle.std.specs.Prelude.{◌≡◌, ℕ, ◌*◌, ◌<◌, List, length, replicate, slice_index_or, ℤ, ◌*ℤ◌, Option, Some, None}
+use Rattle.std.specs.Prelude.{◌≡◌, ℕ, ◌*◌, ◌<◌, List, length, replicate, ℤ, ◌*ℤ◌, Option, Some, None}
 use Rattle.std.specs.List.{All}
-use Rattle.sfm_spec.specs.Terms.{exchanged}
 use Rattle.sfm_spec.specs.Kinds.{Edge}
-use Rattle.sfm_assign.specs.Splits.{IsAmount, CanBeMet, Demands}
+use Rattle.sfm_assign.specs.Splits.{CanBeMet, Demands}
 use Rattle.sfm_assign.specs.declared.kept.Kept.{Kept}
 use Rattle.sfm_matroid.specs.Numbered.{end_lists, numbered, vertex_capacities}
 use Rattle.sfm_matroid.specs.declared.rooted.RootSplit.{RootSplit}
 use Rattle.sfm_matroid.specs.declared.rooted.Spare.{Spare}
+use Rattle.sfm_matroid.specs.declared.splits.SlotSplit.{SlotSplit}
 
 -- edges as demands that are split over their ends, where each of m vertices holds c, but a nothing
 abbrev pub end_demands : List Edge → ℕ → ℤ → List ℤ → ℕ → Demands
@@ -33,23 +33,29 @@ pub record IsRootSplit (edges : List Edge) (m : ℕ) (c : ℤ) (x : List ℤ) (n
   pub split : note.kept.demand ≡ end_demands edges m c x note.root
   pub spare : (s : Spare) → note.spare ≡ Some s → IsOverEnds edges m s.kept.demand
 
--- the split where each slot holds c
-pub record IsSlotSplit (entries : List (List ℕ)) (c : ℤ) (x : List ℤ) (kept : Kept) : Type 0 where
+-- a split of any demands over the slots of these entries, of which there are m
+pub record IsOver (entries : List (List ℕ)) (m : ℕ) (kept : Kept) : Type 0 where
+  pub lists : kept.demand.lists ≡ entries
+  pub places : length kept.demand.demands ≡ length entries
+  pub slots : length kept.demand.capacities ≡ m
+
+-- the same of a split, if there is one
+abbrev pub IsSpare : List (List ℕ) → ℕ → Option Kept → Type 0
+IsSpare entries m None = Unit {0}
+IsSpare entries m (Some spare) = IsOver entries m spare
+
+-- the split of the entries where each slot holds c, with what the slots hold, and perhaps a spare one
+pub record IsSlotSplit (entries : List (List ℕ)) (c : ℤ) (x : List ℤ) (note : SlotSplit) : Type 0 where
   pub m : ℕ
   pub below : All (All (λ v. v < m)) entries
-  pub split : kept.demand ≡ slot_demands entries m c x
-
--- demands that can be met after an exchange
-pub record IsShiftable (u v : ℕ) (a : ℤ) (d : Demands) : Type 0 where
-  pub from : u < length d.demands
-  pub onto : v < length d.demands
-  pub amounts : All IsAmount (exchanged d.demands u v a)
-  pub met : CanBeMet (exchanged d.demands u v a) d.lists d.capacities
+  pub holds : note.capacities.items ≡ replicate m c
+  pub split : note.kept.demand ≡ slot_demands entries m c x
+  pub spare : IsSpare entries m note.spare
 
 -- what is kept beside a base of q times a graphic term: the split in the test of one vertex
 abbrev pub graphic_fits : ℤ → List Edge → RootSplit → ℤ → List ℤ → Type 0
 graphic_fits w edges note q x = IsRootSplit (numbered edges) (2 * length edges) (q *ℤ w) x note
 
 -- what is kept beside a base of q times a transversal term: the split in its test
-abbrev pub transversal_fits : ℤ → List (List ℕ) → Kept → ℤ → List ℤ → Type 0
-transversal_fits w entries kept q x = IsSlotSplit entries (q *ℤ w) x kept
+abbrev pub transversal_fits : ℤ → List (List ℕ) → SlotSplit → ℤ → List ℤ → Type 0
+transversal_fits w entries note q x = IsSlotSplit entries (q *ℤ w) x note

@@ -1,6 +1,7 @@
 // The room of a pair of elements at a base by their slots: the least of what the other has, of what the one lacks of the number
 // that no element exceeds, and of what it lacks of the most that its slots give it while the other has nothing.
-ghost use Rattle.std.specs.Prelude.{◌≡◌, ◌<◌, ◌≤◌, ◌^◌, length, replicate, slice_set, slice_index_or, pos, ◌≤ℤ◌, IfOk};
+ghost use Rattle.std.specs.Prelude.{◌≡◌, ◌<◌, ◌≤◌, ◌^◌, length, replicate, slice_set, slice_index_or, pos, ◌-ℤ◌, ◌≤ℤ◌, IfOk};
+ghost use Rattle.std.specs.Int.{int_min};
 ghost use Rattle.std.specs.List.{All};
 ghost use Rattle.sfm_assign.specs.Splits.{IsAmount, CanBeMet, IsMost};
 ghost use Rattle.sfm_matroid.specs.Leasts.{IsLeastOf};
@@ -38,6 +39,18 @@ fn most_held(
     Ok(most)
 }
 
+/// The lesser of what v has and what u lacks of a number.
+pub(crate) fn limit_of(x: &[i128], cap: i128, u: usize, v: usize) -> i128
+    requires amounts { All IsAmount x.now }
+    requires low { pos 0 ≤ℤ cap }
+    requires high { cap ≤ℤ pos (10 ^ 24) }
+    requires from { u < length x.now }
+    requires onto { v < length x.now }
+    ensures { result ≡ int_min (slice_index_or x.now v (pos 0)) (cap -ℤ slice_index_or x.now u (pos 0)) }
+{
+    x[v].min(cap - x[u])
+}
+
 /// The least of what v has, what u lacks of a number, and what u lacks of the most that it gets once v has nothing.
 pub(crate) fn least_unheld(
     alloc: Global,
@@ -62,6 +75,6 @@ pub(crate) fn least_unheld(
 {
     let rest = without(alloc, x, v)?;
     let most = most_held(alloc, entries, m, &rest, cap, u)?;
-    let first = x[v].min(cap - x[u]);
+    let first = limit_of(x, cap, u, v);
     Ok(first.min(most - x[u]))
 }

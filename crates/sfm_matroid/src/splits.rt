@@ -1,10 +1,11 @@
 // The split that is kept beside a base of a transversal term, for all searches at it. A base passes the test, so there is a split.
-// An exchange changes two entries, and the split is brought up to it where it stands.
-ghost use Rattle.std.specs.Prelude.{◌≡◌, ◌≢◌, ◌<◌, ◌≤◌, ◌^◌, length, replicate, pos, ◌≤ℤ◌, IfOk, OnOk};
+// A room leaves a second split near the exchange that may come, and an exchange brings that one up, or else the one that is kept.
+ghost use Rattle.std.specs.Prelude.{◌≡◌, ◌≢◌, ◌<◌, ◌≤◌, ◌^◌, length, replicate, slice_index_or, pos, ◌+ℤ◌, ◌≤ℤ◌, IfOk, OnOk, List, Some, None};
 ghost use Rattle.std.specs.List.{All};
-ghost use Rattle.sfm_assign.specs.Splits.{IsAmount, CanBeMet};
-ghost use Rattle.sfm_assign.specs.Lenders.{exchanged_in};
-ghost use Rattle.sfm_matroid.specs.Notes.{IsSlotSplit, IsShiftable};
+ghost use Rattle.sfm_spec.specs.Terms.{exchanged};
+ghost use Rattle.sfm_assign.specs.Splits.{amount_at, IsAmount, IsCapacity, CanBeMet};
+ghost use Rattle.sfm_assign.specs.Lenders.{with_more, IsMostUpto};
+ghost use Rattle.sfm_matroid.specs.Notes.{IsSlotSplit, IsOver, IsSpare};
 
 use crate::entries::Entries;
 use crate::matching::slot_demand;
@@ -16,6 +17,11 @@ use std::alloc::Global;
 #[derive(Drop)]
 pub struct SlotSplit {
     pub kept: Kept,
+    /// What each slot holds at most.
+    pub capacities: Vec<i128>,
+    /// Another split over the same slots, if there is one: where it was left for demands that are near those of an exchange,
+    /// it is brought up to these sooner.
+    pub spare: Option<Kept>,
 }
 
 /// A split of demands that can be met.
@@ -46,25 +52,94 @@ pub(crate) fn slot_split(
     requires few_slots { m ≤ 2 ^ 24 }
     requires below { All (All (λ v. v < m)) entries.now }
     requires met { CanBeMet x.now entries.now (replicate m most) }
-    ensures { IfOk result (λ r. IsSlotSplit entries.now most x.now r.kept) }
+    ensures { IfOk result (IsSlotSplit entries.now most x.now) }
 {
+    let capacities = vec![in alloc; most; m]?;
     let demand = slot_demand(alloc, entries, m, x, most)?;
     let kept = split_of(alloc, demand)?;
-    Ok(SlotSplit { kept })
+    Ok(SlotSplit {
+        kept,
+        capacities,
+        spare: None,
+    })
 }
 
-/// Brings a split up to an exchange after which its demands can be met.
-pub(crate) fn move_split(
+/// The entries, with a more at u and a less at v.
+pub(crate) fn exchanged_entries(
     alloc: Global,
-    kept: &mut Kept,
+    x: &[i128],
     u: usize,
     v: usize,
     a: i128,
-) -> Result<(), Memory>
+) -> Result<Vec<i128>, Memory>
+    requires from { u < length x.now }
+    requires onto { v < length x.now }
     requires apart { u ≢ v }
-    requires low { pos 0 ≤ℤ a }
-    requires shiftable { IsShiftable u v a kept.old.demand }
-    ensures { OnOk result (kept.new.demand ≡ exchanged_in kept.old.demand u v a) }
+    requires before { All IsAmount x.now }
+    requires amounts { All IsAmount (exchanged x.now u v a) }
+    ensures { IfOk result (λ r. r.items ≡ exchanged x.now u v a) }
 {
-    kept.shift(alloc, u, v, a)
+    let mut after = Vec::from_slice(alloc, x)?;
+    after[u] = x[u] + a;
+    after[v] = x[v] - a;
+    Ok(after)
+}
+
+/// Keeps the spare split, if there is one, in place of the one that is kept.
+pub(crate) fn keep_spare(note: &mut SlotSplit)
+    ensures over { (entries : List (List ℕ)) (m : ℕ) → IsOver entries m note.old.kept → IsSpare entries m note.old.spare → IsOver entries m note.new.kept }
+    ensures capacities { note.new.capacities ≡ note.old.capacities }
+    ensures spent { note.new.spare ≡ None }
+{
+    if let Some(spare) = note.spare.take() {
+        note.kept = spare;
+    }
+}
+
+/// Brings a split to other demands over the same lists that can be met.
+pub(crate) fn bring_split(
+    alloc: Global,
+    kept: &mut Kept,
+    demands: &[i128],
+    capacities: &[i128],
+) -> Result<(), Memory>
+    requires sized { length demands.now ≡ length kept.old.demand.demands }
+    requires slots { length capacities.now ≡ length kept.old.demand.capacities }
+    requires amounts { All IsAmount demands.now }
+    requires bounded { All IsCapacity capacities.now }
+    requires met { CanBeMet demands.now kept.old.demand.lists capacities.now }
+    ensures { OnOk result (kept.new.demand ≡ record { demands = demands.now; lists = kept.old.demand.lists; capacities = capacities.now }) }
+{
+    match kept.bring(alloc, demands, capacities) {
+        Ok(()) => Ok(()),
+        Err(AssignEnd::Shortage { .. }) => unreachable!(),
+        Err(AssignEnd::Memory) => Err(Memory),
+    }
+}
+
+/// A copy of a split with other demands that can be met, of which u is then raised by as much as can be met, up to a limit; and
+/// by how much.
+pub(crate) fn grown_copy(
+    alloc: Global,
+    kept: &Kept,
+    demands: &[i128],
+    capacities: &[i128],
+    u: usize,
+    limit: i128,
+) -> Result<(Kept, i128), Memory>
+    requires sized { length demands.now ≡ length kept.now.demand.demands }
+    requires slots { length capacities.now ≡ length kept.now.demand.capacities }
+    requires amounts { All IsAmount demands.now }
+    requires bounded { All IsCapacity capacities.now }
+    requires met { CanBeMet demands.now kept.now.demand.lists capacities.now }
+    requires place { u < length demands.now }
+    requires low { pos 0 ≤ℤ limit }
+    requires small { IsAmount (amount_at demands.now u +ℤ limit) }
+    ensures grown { IfOk result (λ r. r.0.demand ≡ with_more (record { demands = demands.now; lists = kept.now.demand.lists; capacities = capacities.now }) u r.1) }
+    ensures most { IfOk result (λ r. IsMostUpto (record { demands = demands.now; lists = kept.now.demand.lists; capacities = capacities.now }) u limit r.1) }
+{
+    let mut copy = kept.copy(alloc)?;
+    bring_split(alloc, &mut copy, demands, capacities)?;
+    let more = copy.grow(alloc, u, limit)?;
+    Ok((copy, more))
 }

@@ -3,6 +3,8 @@
 // independent part, so their count is the rank. The bases of q times the term are told by one test: the entries are split over
 // slots that hold q·w each. The room of (u, v) is the least of what v has, what u lacks of q·w, and what u lacks of the most
 // that it gets in the test without v. To whom u has room is told by one search in the test: to those that can lend to u.
+// The split of a base is kept beside it. A room is then told in a copy of it, in which v gives up what it has and u is raised;
+// an exchange takes that copy, as it lacks only what v keeps.
 ghost use Rattle.std.specs.Prelude.{◌≡◌, ◌≢◌, ◌↔◌, ◌*◌, IsTrue, ℕ, ◌<◌, ◌≤◌, ◌^◌, Bool, List, length, slice_index_or, slice_set, ℤ, pos, neg_ℤ, ◌+ℤ◌, ◌-ℤ◌, ◌*ℤ◌, ◌≤ℤ◌, IfOk, OnOk, Some};
 ghost use Rattle.std.specs.List.{All};
 ghost use Rattle.sfm_spec.specs.Bounds.{IsAtMost, IsEntry, IsFactor, IsGiven, AreElements};
@@ -17,8 +19,11 @@ use crate::entries::Entries;
 use crate::givers::{givers, keep_lenders};
 use crate::growing::whole;
 use crate::matching::{are_held, matched};
-use crate::slot_room::least_unheld;
-use crate::splits::{SlotSplit, move_split, slot_split};
+use crate::room::without;
+use crate::slot_room::{least_unheld, limit_of};
+use crate::splits::{
+    SlotSplit, bring_split, exchanged_entries, grown_copy, keep_spare, slot_split,
+};
 use sfm_base::{Memory, Places, Set};
 use sfm_law::{Room, Term, are_within, has_sum, product};
 use std::alloc::Global;
@@ -239,12 +244,48 @@ impl Transversal {
         requires factor { IsFactor q }
         requires entries { length x.now ≡ length self.now.places }
         requires base { IsBase (times q (transversal_value self.now.w self.now.entries)) x.now }
-        ensures { IfOk result (λ r. transversal_fits self.now.w self.now.entries r.kept q x.now) }
+        ensures { IfOk result (λ r. transversal_fits self.now.w self.now.entries r q x.now) }
     {
         let cap = product(q, self.w);
         let m = self.entries.above();
         let note = slot_split(alloc, &self.entries, m, x, cap)?;
         Ok(note)
+    }
+
+    /// The room of (u, v) at a base, by the split that is kept beside it, which stays. A copy of it, with nothing at v and as
+    /// much more at u, is left as the spare.
+    ///
+    /// # Errors
+    ///
+    /// `Memory` where there is none.
+    pub fn room_in(
+        &self,
+        alloc: Global,
+        q: i128,
+        x: &[i128],
+        note: &mut SlotSplit,
+        u: usize,
+        v: usize,
+    ) -> Result<Room, Memory>
+        requires factor { IsFactor q }
+        requires entries { length x.now ≡ length self.now.places }
+        requires base { IsBase (times q (transversal_value self.now.w self.now.entries)) x.now }
+        requires noted { transversal_fits self.now.w self.now.entries note.old q x.now }
+        requires apart { u ≢ v }
+        requires from { u < length x.now }
+        requires onto { v < length x.now }
+        ensures room { IfOk result (IsRoom (times q (transversal_value self.now.w self.now.entries)) x.now u v) }
+        ensures noted { OnOk result (transversal_fits self.now.w self.now.entries note.new q x.now) }
+    {
+        let cap = product(q, self.w);
+        let limit = limit_of(x, cap, u, v);
+        if limit == 0 {
+            return Ok(Room::Upto(0));
+        }
+        let rest = without(alloc, x, v)?;
+        let (spare, most) = grown_copy(alloc, &note.kept, &rest, &note.capacities, u, limit)?;
+        note.spare = Some(spare);
+        Ok(Room::Upto(most))
     }
 
     /// Writes the places other than u to which u has room at a base, by the split that is kept beside it.
@@ -264,7 +305,7 @@ impl Transversal {
         requires factor { IsFactor q }
         requires entries { length x.now ≡ length self.now.places }
         requires base { IsBase (times q (transversal_value self.now.w self.now.entries)) x.now }
-        requires noted { transversal_fits self.now.w self.now.entries note.now.kept q x.now }
+        requires noted { transversal_fits self.now.w self.now.entries note.now q x.now }
         requires from { u < length x.now }
         requires room_for_answer { length to.old ≡ length x.now }
         ensures places { length to.new ≡ length to.old }
@@ -293,7 +334,7 @@ impl Term for Transversal {
 
     ghost lean_calls = { λ s. ⊥ };
 
-    ghost fits = { λ s note q x. transversal_fits s.w s.entries note.kept q x };
+    ghost fits = { λ s note q x. transversal_fits s.w s.entries note q x };
 
     ghost family = { λ s. transversal-family (length s.places) s.w s.entries s.same_count };
 
@@ -358,17 +399,30 @@ impl Term for Transversal {
         self.reach_of(alloc, q, x, note, u, to)
     }
 
+    fn room_by(
+        &self,
+        alloc: Global,
+        q: i128,
+        x: &[i128],
+        note: &mut SlotSplit,
+        u: usize,
+        v: usize,
+    ) -> Result<Room, Memory> {
+        self.room_in(alloc, q, x, note, u, v)
+    }
+
     fn moved(
         &self,
         alloc: Global,
         _q: i128,
-        _x: &[i128],
+        x: &[i128],
         note: &mut SlotSplit,
         u: usize,
         v: usize,
         a: i128,
     ) -> Result<(), Memory> {
-        move_split(alloc, &mut note.kept, u, v, a)?;
-        Ok(())
+        let after = exchanged_entries(alloc, x, u, v, a)?;
+        keep_spare(note);
+        bring_split(alloc, &mut note.kept, &after, &note.capacities)
     }
 }

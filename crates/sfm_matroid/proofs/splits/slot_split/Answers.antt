@@ -1,4 +1,4 @@
-use Rattle.std.proofs.Common.{◌∙◌, FitsSigned}
+use Rattle.std.proofs.Common.{◌≡◌, ◌∙◌, replicate, rules, FitsSigned}
 use Rattle.std.proofs.lemmas.Int.{to_z-of_z}
 use mir.Syntax.{w128}
 use Rattle.sfm_matroid.proofs.splits.slot_split.Goals as goal
@@ -12,4 +12,5 @@ pub returns : goal.returns
 returns c =
     let fm : FitsSigned w128 c.args.most = c.ranges.most in
     let e = simp to_z-of_z at c.in_ok-demand.ensures in
-    record { m = c.args.m; below = c.requires.below; split = c.in_ok-kept.ensures ∙ e }
+    let h : c.in_ok-capacities.capacities.items ≡ replicate c.args.m c.args.most = search rules in
+    record { m = c.args.m; below = c.requires.below; holds = h; split = c.in_ok-kept.ensures ∙ e; spare = tt }

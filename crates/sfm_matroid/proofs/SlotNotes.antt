@@ -1,0 +1,29 @@
+-- The splits over slots that are kept beside a base.
+use Rattle.std.proofs.Common.{◌≡◌, ℕ, ◌<◌, List, length, get_or, set, replicate, ℤ, pos, ◌+ℤ◌, None, Result, Ok, Err, OnOk, ap, ◌∙◌, length-set}
+use Rattle.std.specs.List.{All}
+use Rattle.std.proofs.lemmas.List.{length-replicate}
+use Rattle.sfm_assign.specs.Lenders.{with_more}
+use Rattle.sfm_assign.specs.declared.kept.Kept.{Kept}
+use Rattle.sfm_matroid.specs.declared.splits.SlotSplit.{SlotSplit}
+use Rattle.sfm_matroid.specs.Notes.{slot_demands, IsOver, IsSlotSplit}
+
+module _ (entries : List (List ℕ)) (m : ℕ) (c : ℤ) where
+  -- where each slot holds c, whatever the demands are
+  pub over_slots : (x : List ℤ) (kept : Kept) → length x ≡ length entries → kept.demand ≡ slot_demands entries m c x → IsOver entries m kept
+  over_slots x kept sized is = record {
+    lists = ap (λ d. d.lists) is;
+    places = ap (λ d. length d.demands) is ∙ sized;
+    slots = ap (λ d. length d.capacities) is ∙ length-replicate m c;
+  }
+
+  -- with nothing at v and g more at u
+  pub over_grown : (x : List ℤ) (u v : ℕ) (g : ℤ) (kept : Kept) → length x ≡ length entries → kept.demand ≡ with_more (slot_demands entries m c (set x v (pos 0))) u g → IsOver entries m kept
+  over_grown x u v g kept sized is =
+      let r = get_or (set x v (pos 0)) u (pos 0) +ℤ g in
+      over_slots (set (set x v (pos 0)) u r) kept (length-set (set x v (pos 0)) u r ∙ (length-set x v (pos 0) ∙ sized)) is
+
+  -- brought to other entries, where there was memory for it
+  pub slots_moved : All (All (λ v. v < m)) entries → (y : List ℤ) (note : SlotSplit) {E : Type 0} (result : Result (Unit {0}) E) → note.capacities.items ≡ replicate m c → note.spare ≡ None
+      → OnOk result (note.kept.demand ≡ slot_demands entries m c y) → OnOk result (IsSlotSplit entries c y note)
+  slots_moved below y note (Ok done) holds spent is = record { m = m; below = below; holds = holds; split = is; spare = rw spent tt }
+  slots_moved below y note (Err end) holds spent is = tt
