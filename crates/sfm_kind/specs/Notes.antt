@@ -15,4 +15,4 @@ graphic_note_fits w edges (Transversal kept) q x = ⊥
 abbrev pub transversal_note_fits : ℤ → List (List ℕ) → KindNote → ℤ → List ℤ → Type 0
 transversal_note_fits w entries Nothing q x = ⊥
 transversal_note_fits w entries (Graphic splits) q x = ⊥
-transversal_note_fits w entries (Transversal split) q x = transversal_fits w entries split.kept q x
+transversal_note_fits w entries (Transversal split) q x = transversal_fits w entries split q x

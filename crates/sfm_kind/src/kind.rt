@@ -12,7 +12,7 @@ use sfm_base::{Memory, Set};
 use sfm_concave::{Concave, Uniform};
 use sfm_laminar::Laminar;
 use sfm_law::{Room, Term};
-use sfm_matroid::{Graphic, SlotSplit, TailSplits, Transversal};
+use sfm_matroid::{Graphic, Transversal};
 use sfm_simple::{Cover, Cut, Need, Table, Weight};
 use std::alloc::Global;
 
@@ -47,9 +47,9 @@ pub enum KindNote {
     /// Nothing, as beside the plain kinds.
     Nothing,
     /// The splits in the tests of a graphic rank.
-    Graphic(TailSplits),
+    Graphic(<Graphic as Term>::Note),
     /// The split in the test of a transversal rank.
-    Transversal(SlotSplit),
+    Transversal(<Transversal as Term>::Note),
 }
 
 impl Kind {
@@ -243,6 +243,65 @@ impl Term for Kind {
             },
             Kind::Transversal(term) => match note {
                 KindNote::Transversal(note) => term.reach_by(alloc, q, x, note, u, to),
+                _ => unreachable!(),
+            },
+        }
+    }
+
+    fn room_by(
+        &self,
+        alloc: Global,
+        q: i128,
+        x: &[i128],
+        note: &mut KindNote,
+        u: usize,
+        v: usize,
+    ) -> Result<Room, Memory> {
+        match self {
+            Kind::Weight(term) => term.room_by(alloc, q, x, &mut (), u, v),
+            Kind::Cut(term) => term.room_by(alloc, q, x, &mut (), u, v),
+            Kind::Cover(term) => term.room_by(alloc, q, x, &mut (), u, v),
+            Kind::Need(term) => term.room_by(alloc, q, x, &mut (), u, v),
+            Kind::Table(term) => term.room_by(alloc, q, x, &mut (), u, v),
+            Kind::Concave(term) => term.room_by(alloc, q, x, &mut (), u, v),
+            Kind::Uniform(term) => term.room_by(alloc, q, x, &mut (), u, v),
+            Kind::Laminar(term) => term.room_by(alloc, q, x, &mut (), u, v),
+            Kind::Graphic(term) => match note {
+                KindNote::Graphic(note) => term.room_by(alloc, q, x, note, u, v),
+                _ => unreachable!(),
+            },
+            Kind::Transversal(term) => match note {
+                KindNote::Transversal(note) => term.room_by(alloc, q, x, note, u, v),
+                _ => unreachable!(),
+            },
+        }
+    }
+
+    fn reach_with(
+        &self,
+        alloc: Global,
+        q: i128,
+        x: &[i128],
+        note: &KindNote,
+        s: usize,
+        u: usize,
+        to: &mut Set,
+    ) -> Result<(), Memory> {
+        match self {
+            Kind::Weight(term) => term.reach_with(alloc, q, x, &(), s, u, to),
+            Kind::Cut(term) => term.reach_with(alloc, q, x, &(), s, u, to),
+            Kind::Cover(term) => term.reach_with(alloc, q, x, &(), s, u, to),
+            Kind::Need(term) => term.reach_with(alloc, q, x, &(), s, u, to),
+            Kind::Table(term) => term.reach_with(alloc, q, x, &(), s, u, to),
+            Kind::Concave(term) => term.reach_with(alloc, q, x, &(), s, u, to),
+            Kind::Uniform(term) => term.reach_with(alloc, q, x, &(), s, u, to),
+            Kind::Laminar(term) => term.reach_with(alloc, q, x, &(), s, u, to),
+            Kind::Graphic(term) => match note {
+                KindNote::Graphic(note) => term.reach_with(alloc, q, x, note, s, u, to),
+                _ => unreachable!(),
+            },
+            Kind::Transversal(term) => match note {
+                KindNote::Transversal(note) => term.reach_with(alloc, q, x, note, s, u, to),
                 _ => unreachable!(),
             },
         }
