@@ -5,14 +5,14 @@ use Rattle.sfm_matroid.specs.Notes.{graphic_fits, transversal_fits}
 use Rattle.sfm_kind.specs.declared.kind.KindNote.{KindNote}
 use Rattle.sfm_kind.specs.declared.kind.KindNote.TheVariants.{Nothing, Graphic, Transversal}
 
--- the splits in all tests of a graphic rank
+-- the split in the test of one vertex of a graphic rank
 abbrev pub graphic_note_fits : ℤ → List Edge → KindNote → ℤ → List ℤ → Type 0
 graphic_note_fits w edges Nothing q x = ⊥
-graphic_note_fits w edges (Graphic splits) q x = graphic_fits w edges splits.kept.items q x
-graphic_note_fits w edges (Transversal kept) q x = ⊥
+graphic_note_fits w edges (Graphic split) q x = graphic_fits w edges split q x
+graphic_note_fits w edges (Transversal split) q x = ⊥
 
 -- the split in the test of a transversal rank
 abbrev pub transversal_note_fits : ℤ → List (List ℕ) → KindNote → ℤ → List ℤ → Type 0
 transversal_note_fits w entries Nothing q x = ⊥
-transversal_note_fits w entries (Graphic splits) q x = ⊥
+transversal_note_fits w entries (Graphic split) q x = ⊥
 transversal_note_fits w entries (Transversal split) q x = transversal_fits w entries split q x

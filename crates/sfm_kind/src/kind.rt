@@ -46,7 +46,7 @@ pub enum Kind {
 pub enum KindNote {
     /// Nothing, as beside the plain kinds.
     Nothing,
-    /// The splits in the tests of a graphic rank.
+    /// The split in the test of one vertex of a graphic rank.
     Graphic(<Graphic as Term>::Note),
     /// The split in the test of a transversal rank.
     Transversal(<Transversal as Term>::Note),

@@ -34,11 +34,11 @@ pub lack_fits : (a cap : ℤ) → pos 0 ≤ℤ a → a ≤ℤ cap → cap ≤ℤ
 lack_fits a cap low under high = omega (arith, ints)
 
 -- the least of what one has and what another lacks
-pub limit_low : (a b cap : ℤ) → pos 0 ≤ℤ a → b ≤ℤ cap → pos 0 ≤ℤ int_min a (cap -ℤ b)
-limit_low a b cap la hb = omega (arith, ints, clamps)
+pub least_low : (a b cap : ℤ) → pos 0 ≤ℤ a → b ≤ℤ cap → pos 0 ≤ℤ int_min a (cap -ℤ b)
+least_low a b cap la hb = omega (arith, ints, clamps)
 
-pub limit_amount : (a b cap : ℤ) → pos 0 ≤ℤ a → pos 0 ≤ℤ b → b ≤ℤ cap → cap ≤ℤ pos (10 ^ 24) → IsAmount (b +ℤ int_min a (cap -ℤ b))
-limit_amount a b cap la lb hb high = record { low = omega (arith, ints, clamps); high = omega (arith, ints, clamps) }
+pub least_amount : (a b cap : ℤ) → pos 0 ≤ℤ a → pos 0 ≤ℤ b → b ≤ℤ cap → cap ≤ℤ pos (10 ^ 24) → IsAmount (b +ℤ int_min a (cap -ℤ b))
+least_amount a b cap la lb hb high = record { low = omega (arith, ints, clamps); high = omega (arith, ints, clamps) }
 
 -- amounts, of which one becomes 0
 pub without_amounts : (x : List ℤ) (v : ℕ) → All IsAmount x → All IsAmount (set x v (pos 0))

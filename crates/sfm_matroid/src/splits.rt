@@ -1,6 +1,6 @@
 // The split that is kept beside a base of a transversal term, for all searches at it. A base passes the test, so there is a split.
 // A room leaves a second split near the exchange that may come, and an exchange brings that one up, or else the one that is kept.
-ghost use Rattle.std.specs.Prelude.{◌≡◌, ◌≢◌, ◌<◌, ◌≤◌, ◌^◌, length, replicate, slice_index_or, pos, ◌+ℤ◌, ◌≤ℤ◌, IfOk, OnOk, List, Some, None};
+ghost use Rattle.std.specs.Prelude.{◌≡◌, ◌≢◌, ◌<◌, ◌≤◌, ◌^◌, length, replicate, slice_index_or, pos, ◌+ℤ◌, ◌≤ℤ◌, ℕ, IfOk, OnOk, List, Some, None};
 ghost use Rattle.std.specs.List.{All};
 ghost use Rattle.sfm_spec.specs.Terms.{exchanged};
 ghost use Rattle.sfm_assign.specs.Splits.{amount_at, IsAmount, IsCapacity, CanBeMet};

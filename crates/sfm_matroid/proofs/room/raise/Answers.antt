@@ -1,7 +1,7 @@
 use Rattle.std.proofs.Common.{get_or, pos, ◌-ℤ◌, ◌≤ℤ◌, rules, arith, FitsSigned, get_or-set_other}
 use Rattle.std.proofs.lemmas.Int.{ints, clamps, to_z-of_z}
 use mir.Syntax.{w128}
-use Rattle.sfm_matroid.proofs.Fits.{within_fits, lack_fits, limit_low, limit_amount}
+use Rattle.sfm_matroid.proofs.Fits.{within_fits, lack_fits, least_low, least_amount}
 use Rattle.sfm_matroid.proofs.room.raise.Goals as goal
 
 pub grow-requires-clause-low : goal.grow-requires-clause-low
@@ -17,7 +17,7 @@ grow-requires-clause-low c =
     let fl : FitsSigned w128 (cap -ℤ get_or x c.args.u (pos 0)) = lack_fits _ cap hu.0 hu.1 r.high in
     let ff : FitsSigned w128 c.min-limit.result = search rules in
     let is = simp to_z-of_z at c.min-limit.ensures.value in
-    simp to_z-of_z (rw is (limit_low _ _ cap hv.0 hu.1))
+    simp to_z-of_z (rw is (least_low _ _ cap hv.0 hu.1))
 
 pub grow-requires-clause-small : goal.grow-requires-clause-small
 grow-requires-clause-small c =
@@ -32,7 +32,7 @@ grow-requires-clause-small c =
     let fl : FitsSigned w128 (cap -ℤ get_or x c.args.u (pos 0)) = lack_fits _ cap hu.0 hu.1 r.high in
     let ff : FitsSigned w128 c.min-limit.result = search rules in
     let is = simp to_z-of_z at c.min-limit.ensures.value in
-    rw (r.rest, get_or-set_other x c.args.v c.args.u (pos 0) (pos 0) r.apart) (simp to_z-of_z (rw is (limit_amount _ _ cap hv.0 hu.0 hu.1 r.high)))
+    rw (r.rest, get_or-set_other x c.args.v c.args.u (pos 0) (pos 0) r.apart) (simp to_z-of_z (rw is (least_amount _ _ cap hv.0 hu.0 hu.1 r.high)))
 
 pub returns-clause-most : goal.returns-clause-most
 returns-clause-most c =
