@@ -1,26 +1,12 @@
--- Parts of sets, and sums of values with their bounds.
+-- Sums of values, with their bounds.
 use Rattle.std.proofs.Common.{◌≡◌, ⊎_elim, ℕ, zero, suc, ◌+◌, ◌<◌, ◌^◌, Bool, true, false, List, [], ◌∷◌, ◌++◌, length, map, get_or, take, Option, Some, None, unwrap_or, ℤ, pos, neg_ℤ, ◌+ℤ◌, ◌≤ℤ◌, refl, sym, ap, ◌∙◌, arith}
-use Rattle.std.proofs.lemmas.Bool.{both_ways}
 use Rattle.std.proofs.lemmas.Int.{ints}
 use Rattle.std.proofs.lemmas.List.{ext_get_or, length-map, length-replicate, get_or-map}
 use Rattle.sfm_spec.specs.Sets.{Has, empty_set, part, whole_set}
 use Rattle.sfm_spec.specs.Terms.{SetFunction}
 use Rattle.sfm_spec.specs.Bounds.{IsGiven, total_of}
 use Rattle.sfm_spec.specs.Families.{Meaning, meanings, sum_at, value_at}
-use Rattle.sfm_spec.proofs.Sets.{Has-whole, has_or_not}
 use Rattle.sfm_spec.proofs.Duality.{meanings_more}
-use Rattle.sfm_extreme.specs.Search.{IsSetOf}
-
--- the places of a term that are in the set make its part
-pub marked_part : (places : List ℕ) (s t : List Bool) → IsSetOf (length places) (λ k. Has s (get_or places k 0)) t → t ≡ part places s
-marked_part places s t h = ext_get_or false t (part places s) (h.places ∙ rw length-map refl) (λ e l. let le : e < length places = rw (← h.places) l in at e le (get_or s (get_or places e 0) false) refl) where
-  at : (e : ℕ) → e < length places → (b : Bool) → get_or s (get_or places e 0) false ≡ b → get_or t e false ≡ get_or (part places s) e false
-  at e le true is = (h.exact e le).1 is ∙ sym (get_or-map (λ d. get_or s d false) places e 0 false le ∙ is)
-  at e le false is = ⊎_elim (λ has. absurd (both_ways (get_or s (get_or places e 0) false) is ((h.exact e le).0 has))) (λ lacks. lacks ∙ sym (get_or-map (λ d. get_or s d false) places e 0 false le ∙ is)) (has_or_not t e)
-
--- all places make the whole set
-pub marked_whole : (n : ℕ) (t : List Bool) → IsSetOf n (λ e. Unit {0}) t → t ≡ whole_set n
-marked_whole n t h = ext_get_or false t (whole_set n) (h.places ∙ sym (length-replicate n true)) (λ e l. let le : e < n = rw (← h.places) l in (h.exact e le).1 tt ∙ sym (Has-whole n e le))
 
 -- the sum with one term more
 sum-push : (terms : List Meaning) (m : Meaning) (s : List Bool) → sum_at (terms ++ m ∷ []) s ≡ (sum_at terms s +ℤ unwrap_or (value_at m s) (pos 0))

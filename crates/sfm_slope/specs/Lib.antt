@@ -1,5 +1,8 @@
 pub mod Marks
+pub mod Points
 pub mod Worths
 pub mod Gaps
+pub mod Searches
 pub mod Turns
 pub mod Parts
+pub mod Sections

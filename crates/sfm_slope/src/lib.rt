@@ -3,6 +3,11 @@
 #![tactic(auto)]
 
 mod breakpoints;
+mod chain;
+mod least;
+mod rows;
+mod search;
+mod sections;
 #[cfg(test)]
 mod tests;
 mod turn;

@@ -3,7 +3,7 @@
 // values exceeds that.
 ghost use Rattle.std.specs.Prelude.{◌≡◌, ℕ, ◌<◌, length, map, pos, unwrap_or, slice_index, IfOk};
 ghost use Rattle.sfm_spec.specs.Bounds.{AreBounded, IsGiven};
-ghost use Rattle.sfm_spec.specs.Sets.{part, whole_set};
+ghost use Rattle.sfm_spec.specs.Sets.{part};
 ghost use Rattle.sfm_spec.specs.Families.{meanings, sum_at, IsAllowed};
 ghost use Rattle.sfm_slope.specs.Worths.{IsWorth};
 
@@ -49,32 +49,7 @@ fn value_at<T: Term>(alloc: Global, term: &T, set: &Set) -> Result<i128, Memory>
     requires placed { (j : ℕ) → j < length (T.places term.now) → slice_index (T.places term.now) j < length set.now }
     ensures { IfOk result (λ r. r ≡ unwrap_or (T.value_of term.now (part (T.places term.now) set.now)) (pos 0)) }
 {
-    let part = part_of(alloc, term.elements(), set)?;
+    let part = set.part(alloc, term.elements())?;
     let value = term.value(alloc, &part)?;
     Ok(value.unwrap_or(0))
-}
-
-// The part of a set at the places of a term.
-fn part_of(alloc: Global, places: &[usize], set: &Set) -> Result<Set, Memory>
-    requires placed { (j : ℕ) → j < length places.now → slice_index places.now j < length set.now }
-    ensures { IfOk result (λ r. r ≡ part places.now set.now) }
-{
-    let mut part = Set::empty(alloc, places.len())?;
-    for (j, place) in places.iter().enumerate() {
-        if set.contains(*place) {
-            part.insert(j);
-        }
-    }
-    Ok(part)
-}
-
-// The whole ground of n places.
-pub fn whole_ground(alloc: Global, n: usize) -> Result<Set, Memory>
-    ensures { IfOk result (λ r. r ≡ whole_set n) }
-{
-    let mut whole = Set::empty(alloc, n)?;
-    for e in 0..n {
-        whole.insert(e);
-    }
-    Ok(whole)
 }

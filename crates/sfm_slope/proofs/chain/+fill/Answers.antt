@@ -4,11 +4,11 @@ use Rattle.sfm_spec.specs.Families.{meanings}
 use Rattle.sfm_spec.proofs.Duality.{meanings-terms}
 use Rattle.sfm_spec.specs.Laws.{ones}
 use Rattle.sfm_law.proofs.Lists.{placed-meanings}
-use Rattle.sfm_slope.specs.Marks.{mark_of}
+use Rattle.sfm_slope.specs.Points.{found_mark}
 use Rattle.sfm_slope.proofs.Gaps.{chain_begun}
 use Rattle.sfm_spec.proofs.Ones.{ones-places, ones-sizes}
 use Rattle.sfm_slope.proofs.Parts.{part_push}
-use Rattle.sfm_slope.proofs.breakpoints.+fill.Goals as goal
+use Rattle.sfm_slope.proofs.chain.+fill.Goals as goal
 
 pub take_turn-requires-clause-begun : goal.take_turn-requires-clause-begun
 take_turn-requires-clause-begun g t c =
@@ -17,12 +17,12 @@ take_turn-requires-clause-begun g t c =
     let n = c.args.n in
     let ts = meanings d.places d.value_of c.args.terms.now in
     let fit = meanings-terms n d.places d.value_of m.family m.submodular c.args.terms.now (placed-meanings n d.places d.value_of c.args.terms.now c.requires.bounded.placed) in
-    chain_begun ts n (ones n) fit (ones-places n) (ones-sizes n) None (empty_set n) (map mark_of c.args.breaks.now.items) c.args.low.now.set refl c.requires.before.chain
+    chain_begun ts n (ones n) fit (ones-places n) (ones-sizes n) None (empty_set n) (map found_mark c.args.found.now.items) c.args.low.now.set refl c.requires.before.chain
 
 pub returns-in_ok-push-in-Next-clause-part : goal.returns-in_ok-push-in-Next-clause-part
 returns-in_ok-push-in-Next-clause-part g t c =
     let d = g.T.Term in
     let n = c.args.n in
     let ts = meanings d.places d.value_of c.args.terms.now in
-    let h = rw c.in-Next.is at c.in_ok-found.ensures.turn in
-    rw c.in_ok-push-in-Next.ensures.items (part_push ts (λ q. map (λ x. d.start_of x q) c.args.terms.now) n (ones n) c.args.breaks.now.items c.in-Next.found c.args.low.now.set c.args.high.now.set c.requires.before h.0 h.1 h.2 c.requires.gap.larger h.3)
+    let h = rw c.in-Next.is at c.in_ok-next.ensures.turn in
+    rw c.in_ok-push-in-Next.ensures.items (part_push ts n (ones n) c.args.found.now.items c.in-Next.next c.args.low.now.set c.args.high.now.set c.requires.before h.0 h.1 h.2 c.requires.gap.larger h.3)

@@ -1,0 +1,53 @@
+use Rattle.std.proofs.Common.{◌≡◌, [], map, refl, ◌∙◌, arith}
+use Rattle.std.proofs.lemmas.List.Elements.{All-nil}
+use Rattle.sfm_spec.specs.Sets.{empty_set, whole_set}
+use Rattle.sfm_spec.specs.Families.{meanings}
+use Rattle.sfm_spec.proofs.Duality.{meanings-terms}
+use Rattle.sfm_spec.proofs.Lattice.{empty_allowed, whole_allowed}
+use Rattle.sfm_spec.specs.Laws.{ones}
+use Rattle.sfm_law.proofs.Lists.{placed-meanings}
+use Rattle.sfm_slope.specs.Points.{IsInRange}
+use Rattle.sfm_slope.proofs.Parts.{part_all, part_none}
+use Rattle.sfm_spec.proofs.Ones.{ones-places, ones-sizes}
+use Rattle.sfm_slope.proofs.chain.chain.Goals as goal
+use Rattle.sfm_slope.proofs.chain.chain.Goals.{then-n-gt0+in_ok-fill, else-n-gt0}
+
+pub worth_of-requires-clause-allowed : goal.worth_of-requires-clause-allowed
+worth_of-requires-clause-allowed g c =
+    let t = g.T.Term in
+    let m = g.met.T.Term in
+    let n = c.args.n in
+    let ts = meanings t.places t.value_of c.args.terms.now in
+    let fit = meanings-terms n t.places t.value_of m.family m.submodular c.args.terms.now (placed-meanings n t.places t.value_of c.args.terms.now c.requires.bounded.placed) in
+    rw c.in_ok-empty.ensures (empty_allowed n ts fit)
+
+pub worth_of-requires-2-clause-allowed : goal.worth_of-requires-2-clause-allowed
+worth_of-requires-2-clause-allowed g c =
+    let t = g.T.Term in
+    let m = g.met.T.Term in
+    let n = c.args.n in
+    let ts = meanings t.places t.value_of c.args.terms.now in
+    let fit = meanings-terms n t.places t.value_of m.family m.submodular c.args.terms.now (placed-meanings n t.places t.value_of c.args.terms.now c.requires.bounded.placed) in
+    rw c.in_ok-whole.ensures (whole_allowed n ts fit)
+
+pub returns-clause-slopes : goal.returns-clause-slopes
+returns-clause-slopes g c =
+    let t = g.T.Term in
+    let m = g.met.T.Term in
+    let n = c.args.n in
+    let ts = meanings t.places t.value_of c.args.terms.now in
+    let fit = meanings-terms n t.places t.value_of m.family m.submodular c.args.terms.now (placed-meanings n t.places t.value_of c.args.terms.now c.requires.bounded.placed) in
+    let whole : c.in_ok-high.high.set ≡ whole_set n = c.in_ok-high.ensures.same ∙ c.in_ok-whole.ensures in
+    elim c.if-n-gt0.branch [
+      | then-n-gt0+in_ok-fill w ↦ rw w.found-is (part_all ts n (ones n) fit (ones-places n) (ones-sizes n) w.fill.new.found.items c.in_ok-high.high.set w.in_ok-fill.ensures.part whole)
+      | else-n-gt0 w ↦
+          let none : n ≡ 0 = omega (arith, w.if-n-gt0.false) in
+          rw (w.found-is, c.new-found.ensures.items) (part_all ts n (ones n) fit (ones-places n) (ones-sizes n) [] (empty_set n) (part_none ts n (ones n)) (rw none refl))
+    ]
+
+pub returns-clause-ranges : goal.returns-clause-ranges
+returns-clause-ranges g c =
+    elim c.if-n-gt0.branch [
+      | then-n-gt0+in_ok-fill w ↦ rw w.found-is w.in_ok-fill.ensures.part.ranges
+      | else-n-gt0 w ↦ rw (w.found-is, c.new-found.ensures.items) (All-nil (IsInRange c.args.n))
+    ]

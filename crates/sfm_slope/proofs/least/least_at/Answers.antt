@@ -1,0 +1,73 @@
+use Rattle.std.proofs.Common.{◌≡◌, length, ap, sym, subst, ◌∙◌, ℤ, pos, ◌*ℤ◌, ◌+ℤ◌, ◌≤ℤ◌, ◌<ℤ◌, FitsSigned, arith}
+use Rattle.std.proofs.lemmas.Int.{ints, to_z-of_z}
+use Rattle.std.proofs.lemmas.List.{with_items_is}
+use Rattle.std.specs.Vec.{with_items}
+use mir.Syntax.{w128}
+use mir.Val.{to_z}
+use Rattle.sfm_spec.specs.Families.{meanings, even_shift, IsLeast}
+use Rattle.sfm_walk.specs.Graph.{IsGraph}
+use Rattle.sfm_slope.proofs.Scaled.{rows-entries}
+use Rattle.sfm_slope.proofs.least.least_at.Goals as goal
+
+pub returns-then-slope-eq1-clause-search : goal.returns-then-slope-eq1-clause-search
+returns-then-slope-eq1-clause-search g c =
+    let t = g.T.Term in
+    let n = c.args.n in
+    let v = c.args.search.now.shift in
+    let ws = c.least_by.new.shift in
+    let sized : length c.deref_mut.result.now ≡ n = ap length c.deref_mut.ensures.value ∙ c.requires.search.shift in
+    let graph : IsGraph t.places t.value_of t.fits c.args.terms.now n (pos 1) c.least_by.new.graph
+    = subst (λ k. IsGraph t.places t.value_of t.fits c.args.terms.now k (pos 1) c.least_by.new.graph) sized c.in_ok-below.ensures.graph in
+    record {
+      warm = graph;
+      cold = c.requires.search.cold;
+      shift = ap length (with_items_is v ws (c.least_by.auto.shift ∙ c.deref_mut.ensures.len)) ∙ c.least_by.auto.shift ∙ sized;
+    }
+
+pub returns-then-slope-eq1-clause-least : goal.returns-then-slope-eq1-clause-least
+returns-then-slope-eq1-clause-least g c =
+    let t = g.T.Term in
+    let n = c.args.n in
+    let s = c.args.slope in
+    let ts = meanings t.places t.value_of c.args.terms.now in
+    let floor = c.floor_of-floor.result in
+    let small = c.floor_of-floor.ensures.small in
+    let ff : FitsSigned w128 floor = omega (arith, ints, small.low, small.high) in
+    let fq : FitsSigned w128 s.den = omega (arith, ints, s.factor.low, s.factor.high) in
+    let one : s.den ≡ pos 1 = sym (to_z-of_z w128 s.den fq) ∙ ap (to_z w128) c.if-slope-eq1.true in
+    let sized : length c.deref_mut.result.now ≡ n = ap length c.deref_mut.ensures.value ∙ c.requires.search.shift in
+    let low : (pos 1 *ℤ floor) ≤ℤ s.num = rw one at c.floor_of-floor.ensures.least in
+    let high : s.num <ℤ (pos 1 *ℤ (floor +ℤ pos 1)) = rw one at c.floor_of-floor.ensures.next in
+    let is : floor ≡ s.num = omega (arith, ints, low, high) in
+    let found : IsLeast ts (length c.deref_mut.result.now) (pos 1) (even_shift (length c.deref_mut.result.now) floor) c.in_ok-below.below = simp to_z-of_z at c.in_ok-below.ensures.least in
+    let here : IsLeast ts n (pos 1) (even_shift n s.num) c.in_ok-below.below = rw (← is, ← sized) found in
+    rw one here
+
+pub restart-requires-clause-small : goal.restart-requires-clause-small
+restart-requires-clause-small g c = rows-entries c.in_ok-bases.bases c.in_ok-bases.ensures.small
+
+pub least_by-requires-2-clause-small : goal.least_by-requires-2-clause-small
+least_by-requires-2-clause-small g c = rw c.in_ok-restart.ensures.bases c.in_ok-bases.ensures.small
+
+pub returns-clause-search : goal.returns-clause-search
+returns-clause-search g c =
+    let t = g.T.Term in
+    let n = c.args.n in
+    let v = c.args.search.now.shift in
+    let ws = c.least_by.new.shift in
+    let ws2 = c.least_by-2.new.shift in
+    let sized : length c.deref_mut.result.now ≡ n = ap length c.deref_mut.ensures.value ∙ c.requires.search.shift in
+    let graph : IsGraph t.places t.value_of t.fits c.args.terms.now n (pos 1) c.least_by.new.graph
+    = subst (λ k. IsGraph t.places t.value_of t.fits c.args.terms.now k (pos 1) c.least_by.new.graph) sized c.in_ok-below.ensures.graph in
+    let mid : length (with_items v ws).items ≡ n = ap length (with_items_is v ws (c.least_by.auto.shift ∙ c.deref_mut.ensures.len)) ∙ c.least_by.auto.shift ∙ sized in
+    let sized2 : length c.deref_mut-2.result.now ≡ n = ap length c.deref_mut-2.ensures.value ∙ mid in
+    let s = c.args.slope in
+    let fq : FitsSigned w128 s.den = omega (arith, ints, s.factor.low, s.factor.high) in
+    let told : IsGraph t.places t.value_of t.fits c.args.terms.now (length c.deref_mut-2.result.now) s.den c.least_by-2.new.graph = simp to_z-of_z at c.in_ok-least.ensures.graph in
+    let graph2 : IsGraph t.places t.value_of t.fits c.args.terms.now n s.den c.least_by-2.new.graph
+    = subst (λ k. IsGraph t.places t.value_of t.fits c.args.terms.now k s.den c.least_by-2.new.graph) sized2 told in
+    record {
+      warm = graph;
+      cold = (s.den, graph2);
+      shift = ap length (with_items_is (with_items v ws) ws2 (c.least_by-2.auto.shift ∙ c.deref_mut-2.ensures.len)) ∙ c.least_by-2.auto.shift ∙ sized2;
+    }

@@ -1,0 +1,30 @@
+use Rattle.std.proofs.Common.{◌≡◌, length, replicate, FitsSigned, arith}
+use Rattle.std.proofs.lemmas.Int.{ints, to_z-of_z}
+use Rattle.std.proofs.lemmas.List.{length-replicate}
+use mir.Syntax.{w128}
+use Rattle.sfm_walk.proofs.Starting.{magnitudes-even}
+use Rattle.sfm_slope.proofs.sections.bases_at.Goals as goal
+
+pub minimise_from_start-requires-clause-shifts : goal.minimise_from_start-requires-clause-shifts
+minimise_from_start-requires-clause-shifts g c =
+    let n = length c.args.shift.now in
+    let s = c.args.slope in
+    let fp : FitsSigned w128 s.num = omega (arith, ints, s.entry.low, s.entry.high) in
+    let same : c.write_even.new.shift ≡ replicate n s.num = simp to_z-of_z at c.write_even.ensures in
+    let m = magnitudes-even n s.num c.requires.small in
+    let few = c.requires.bounded.few in
+    rw same (omega (arith, ints, m, few))
+
+pub returns-clause-bases : goal.returns-clause-bases
+returns-clause-bases g c =
+    let n = length c.args.shift.now in
+    let s = c.args.slope in
+    let fp : FitsSigned w128 s.num = omega (arith, ints, s.entry.low, s.entry.high) in
+    let fq : FitsSigned w128 s.den = omega (arith, ints, s.factor.low, s.factor.high) in
+    let same : c.write_even.new.shift ≡ replicate n s.num = simp to_z-of_z at c.write_even.ensures in
+    let h = c.in_ok-minimum.ensures in
+    let bases = simp to_z-of_z at h.bases in
+    let proves = rw (same, length-replicate n s.num) at h.proves in
+    let counted = rw (same, length-replicate n s.num) at h.counted in
+    let told = simp to_z-of_z at counted in
+    record { are_bases = bases; small = h.small; proves = simp to_z-of_z at proves; reached = (told.0, told.1, told.2) }

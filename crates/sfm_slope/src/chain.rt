@@ -1,0 +1,71 @@
+// The chain of breakpoints, with no bases. Between the empty set and the whole ground, a turn finds either the one breakpoint
+// between two sets or a set strictly between them that is itself the set of a breakpoint; the breakpoints are then those below
+// this set and those above it. So for each breakpoint but the first there is one turn that finds no breakpoint: with J
+// breakpoints there are 2J - 1 turns. The sets lie within one another, so at most n calls are open at a time.
+ghost use Rattle.std.specs.Prelude.{map, IfOk, OnOk};
+ghost use Rattle.std.specs.List.{All};
+ghost use Rattle.sfm_spec.specs.Bounds.{AreBounded};
+ghost use Rattle.sfm_spec.specs.Families.{meanings};
+ghost use Rattle.sfm_spec.specs.Laws.{AreBreakpoints, ones};
+ghost use Rattle.sfm_slope.specs.Gaps.{IsGap};
+ghost use Rattle.sfm_slope.specs.Points.{IsInRange, found_mark};
+ghost use Rattle.sfm_slope.specs.Parts.{IsPartTo};
+ghost use Rattle.sfm_slope.specs.Searches.{IsSearch};
+ghost use Rattle.sfm_slope.specs.Worths.{IsWorth};
+
+use crate::search::Search;
+use crate::turn::{Breakpoint, Turn, take_turn};
+use crate::worth::{Worth, worth_of};
+use sfm_base::{Memory, Set};
+use sfm_law::Term;
+
+// All breakpoints, ascending, each with its greatest minimiser.
+pub fn chain<T: Term>(
+    search: &mut Search<T::Note>,
+    terms: &[T],
+    n: usize,
+) -> Result<Vec<Breakpoint>, Memory>
+    requires bounded { AreBounded n (map T.places terms.now) (map T.size_of terms.now) }
+    requires search { IsSearch T.places T.value_of T.fits terms.now n search.old }
+    ensures search { OnOk result (IsSearch T.places T.value_of T.fits terms.now n search.new) }
+    ensures slopes { IfOk result (λ r. AreBreakpoints (meanings T.places T.value_of terms.now) n (ones n) (map found_mark r.items)) }
+    ensures ranges { IfOk result (λ r. All (IsInRange n) r.items) }
+{
+    let low = worth_of(search.alloc, terms, Set::empty(search.alloc, n)?)?;
+    let high = worth_of(search.alloc, terms, Set::whole(search.alloc, n)?)?;
+    let mut found = Vec::new(search.alloc);
+    if n > 0 {
+        fill(search, terms, n, &low, &high, &mut found)?;
+    }
+    Ok(found)
+}
+
+// Puts the breakpoints between two sets behind those up to the lower one.
+fn fill<T: Term>(
+    search: &mut Search<T::Note>,
+    terms: &[T],
+    n: usize,
+    low: &Worth,
+    high: &Worth,
+    found: &mut Vec<Breakpoint>,
+) -> Result<(), Memory>
+    requires bounded { AreBounded n (map T.places terms.now) (map T.size_of terms.now) }
+    requires search { IsSearch T.places T.value_of T.fits terms.now n search.old }
+    requires before { IsPartTo (meanings T.places T.value_of terms.now) n (ones n) found.old.items low.now.set }
+    requires gap { IsGap (meanings T.places T.value_of terms.now) n (ones n) low.now.set high.now.set }
+    requires low_worth { IsWorth (meanings T.places T.value_of terms.now) low.now }
+    requires high_worth { IsWorth (meanings T.places T.value_of terms.now) high.now }
+    ensures search { OnOk result (IsSearch T.places T.value_of T.fits terms.now n search.new) }
+    ensures part { OnOk result (IsPartTo (meanings T.places T.value_of terms.now) n (ones n) found.new.items high.now.set) }
+{
+    match take_turn(search, terms, n, low, high)? {
+        Turn::Next(next) => {
+            found.push(next)?;
+            Ok(())
+        }
+        Turn::Between(mid) => {
+            fill(search, terms, n, low, &mid, found)?;
+            fill(search, terms, n, &mid, high, found)
+        }
+    }
+}

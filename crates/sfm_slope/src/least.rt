@@ -1,0 +1,106 @@
+// The least minimiser at a slope. A graph of the terms themselves goes from slope to slope: its bases at the slope before are
+// bases still, and z differs by the shift alone, so few walks are left. At a slope p/q with q > 1 it is taken to the whole
+// number below p/q, and q times its bases are where the walks for p/q begin.
+ghost use Rattle.std.specs.Prelude.{◌^◌, length, map, pos, ◌+ℤ◌, ◌*ℤ◌, ◌≤ℤ◌, ◌<ℤ◌, IfOk, OnOk};
+ghost use Rattle.std.specs.List.{All};
+ghost use Rattle.sfm_spec.specs.Bounds.{AreBounded, IsAtMost, IsFactor};
+ghost use Rattle.sfm_spec.specs.Families.{meanings, even_shift, IsLeast};
+ghost use Rattle.sfm_walk.specs.Graph.{IsGraph};
+ghost use Rattle.sfm_slope.specs.Searches.{IsSearch};
+
+use crate::rows::{are_small, first_rows, rows_times};
+use crate::search::{Search, write_even};
+use sfm_base::{Memory, Set, Slope, Steps};
+use sfm_law::Term;
+use sfm_walk::{Graph, improve, restart};
+use std::alloc::Global;
+
+/// The least minimiser at a slope.
+///
+/// # Errors
+///
+/// `Memory` where there is none; nothing is then said of the search.
+pub fn least_at<T: Term>(
+    search: &mut Search<T::Note>,
+    terms: &[T],
+    n: usize,
+    slope: Slope,
+) -> Result<Set, Memory>
+    requires bounded { AreBounded n (map T.places terms.now) (map T.size_of terms.now) }
+    requires search { IsSearch T.places T.value_of T.fits terms.now n search.old }
+    requires small { IsAtMost (10 ^ 24) slope.num }
+    ensures search { OnOk result (IsSearch T.places T.value_of T.fits terms.now n search.new) }
+    ensures least { IfOk result (IsLeast (meanings T.places T.value_of terms.now) n slope.den (even_shift n slope.num)) }
+{
+    let alloc = search.alloc;
+    keep_small(alloc, &mut search.warm, terms, n)?;
+    let floor = floor_of(slope);
+    let below = least_by(alloc, &mut search.warm, terms, 1, floor, &mut search.shift)?;
+    if slope.den == 1 {
+        return Ok(below);
+    }
+    let bases = rows_times(alloc, terms, slope.den, &search.warm.bases)?;
+    restart(alloc, &mut search.cold, terms, n, slope.den, bases)?;
+    let least = least_by(
+        alloc,
+        &mut search.cold,
+        terms,
+        slope.den,
+        slope.num,
+        &mut search.shift,
+    )?;
+    Ok(least)
+}
+
+/// The greatest whole number that is at most a slope.
+pub fn floor_of(slope: Slope) -> i128
+    requires { IsAtMost (10 ^ 24) slope.num }
+    ensures small { IsAtMost (10 ^ 24) result }
+    ensures least { (slope.den *ℤ result) ≤ℤ slope.num }
+    ensures next { slope.num <ℤ (slope.den *ℤ (result +ℤ pos 1)) }
+{
+    slope.num.div_euclid(slope.den)
+}
+
+// Leaves a graph of the terms as it is where its entries are small, and else takes it to the first bases.
+fn keep_small<T: Term>(
+    alloc: Global,
+    graph: &mut Graph<T::Note>,
+    terms: &[T],
+    n: usize,
+) -> Result<(), Memory>
+    requires bounded { AreBounded n (map T.places terms.now) (map T.size_of terms.now) }
+    requires graph { IsGraph T.places T.value_of T.fits terms.now n (pos 1) graph.old }
+    ensures graph { OnOk result (IsGraph T.places T.value_of T.fits terms.now n (pos 1) graph.new) }
+    ensures small { OnOk result (All (λ x. All (IsAtMost (10 ^ 25)) x) graph.new.bases) }
+{
+    if are_small(&graph.bases, 10_000_000_000_000_000_000_000_000) {
+        return Ok(());
+    }
+    let bases = first_rows(alloc, terms, 1)?;
+    restart(alloc, graph, terms, n, 1, bases)?;
+    Ok(())
+}
+
+// The least minimiser at p/q, from the bases of the graph; all of the shift is written.
+fn least_by<T: Term>(
+    alloc: Global,
+    graph: &mut Graph<T::Note>,
+    terms: &[T],
+    q: i128,
+    p: i128,
+    shift: &mut [i128],
+) -> Result<Set, Memory>
+    requires bounded { AreBounded (length shift.old) (map T.places terms.now) (map T.size_of terms.now) }
+    requires factor { IsFactor q }
+    requires slope { IsAtMost (10 ^ 24) p }
+    requires graph { IsGraph T.places T.value_of T.fits terms.now (length shift.old) q graph.old }
+    requires small { All (λ x. All (IsAtMost (10 ^ 25)) x) graph.old.bases }
+    ensures graph { OnOk result (IsGraph T.places T.value_of T.fits terms.now (length shift.old) q graph.new) }
+    ensures least { IfOk result (IsLeast (meanings T.places T.value_of terms.now) (length shift.old) q (even_shift (length shift.old) p)) }
+{
+    write_even(shift, p);
+    let mut steps = Steps::new();
+    let rested = improve(alloc, graph, terms, q, shift, &mut steps)?;
+    Ok(rested.least)
+}

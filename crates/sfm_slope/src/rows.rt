@@ -1,0 +1,96 @@
+// Bases to begin at: those of a slope that was looked at before, where their entries are small, and else the first bases of the
+// terms, whose entries always are. Bases of the terms hang on no slope, and q times a base of a term is one of q times the
+// term, so bases found at one slope serve at any other; they only have fewer walks before them.
+ghost use Rattle.std.specs.Prelude.{◌≡◌, ◌↔◌, ◌≤◌, ◌^◌, map, pos, unsigned_abs, ◌*ℤ◌, ◌≤ℤ◌, IsTrue, IfOk};
+ghost use Rattle.std.specs.List.{All};
+ghost use Rattle.sfm_spec.specs.Bounds.{IsAtMost, IsFactor, total_of};
+ghost use Rattle.sfm_spec.specs.Families.{meanings, AreBases};
+
+use sfm_base::{Memory, Rows};
+use sfm_law::{Term, product, start_rows};
+use std::alloc::Global;
+
+/// The first bases of q times the terms, with entries of magnitude at most 10^25.
+///
+/// # Errors
+///
+/// `Memory` where there is none.
+pub fn first_rows<T: Term>(alloc: Global, terms: &[T], q: i128) -> Result<Rows, Memory>
+    requires sizes { total_of (map T.size_of terms.now) ≤ℤ pos (10 ^ 18) }
+    requires factor { IsFactor q }
+    ensures bases { IfOk result (AreBases q (meanings T.places T.value_of terms.now)) }
+    ensures small { IfOk result (λ r. All (λ x. All (IsAtMost (10 ^ 25)) x) r) }
+{
+    let rows = start_rows(alloc, terms, q)?;
+    Ok(rows)
+}
+
+/// Bases of q times the terms with entries of magnitude at most 10^25: q times the given bases of the terms where these have
+/// entries of at most 10^19, and else the first bases.
+///
+/// # Errors
+///
+/// `Memory` where there is none.
+pub fn rows_times<T: Term>(
+    alloc: Global,
+    terms: &[T],
+    q: i128,
+    bases: &Rows,
+) -> Result<Rows, Memory>
+    requires sizes { total_of (map T.size_of terms.now) ≤ℤ pos (10 ^ 18) }
+    requires factor { IsFactor q }
+    requires bases { AreBases (pos 1) (meanings T.places T.value_of terms.now) bases.now }
+    ensures bases { IfOk result (AreBases q (meanings T.places T.value_of terms.now)) }
+    ensures small { IfOk result (λ r. All (λ x. All (IsAtMost (10 ^ 25)) x) r) }
+{
+    if are_small(bases, 10_000_000_000_000_000_000) {
+        let rows = all_times(alloc, q, bases)?;
+        return Ok(rows);
+    }
+    first_rows(alloc, terms, q)
+}
+
+/// Whether each entry of each row has a magnitude of at most `most`.
+pub fn are_small(rows: &Rows, most: u128) -> bool
+    ensures { IsTrue result ↔ All (λ x. All (λ a. unsigned_abs a ≤ most) x) rows.now }
+{
+    for i in 0..rows.len() {
+        if !is_small(rows.row(i), most) {
+            return false;
+        }
+    }
+    true
+}
+
+// Whether each entry has a magnitude of at most `most`.
+fn is_small(x: &[i128], most: u128) -> bool
+    ensures { IsTrue result ↔ All (λ a. unsigned_abs a ≤ most) x.now }
+{
+    x.iter().all(|a| a.unsigned_abs() <= most)
+}
+
+// q times each entry of each row.
+fn all_times(alloc: Global, q: i128, rows: &Rows) -> Result<Rows, Memory>
+    requires factor { IsFactor q }
+    requires small { All (λ x. All (IsAtMost (10 ^ 21)) x) rows.now }
+    ensures { IfOk result (λ r. r ≡ map (λ x. map (λ a. q *ℤ a) x) rows.now) }
+{
+    let mut all = Rows::new(alloc);
+    for i in 0..rows.len() {
+        all.push(row_times(alloc, q, rows.row(i))?)?;
+    }
+    Ok(all)
+}
+
+// q times each entry.
+fn row_times(alloc: Global, q: i128, x: &[i128]) -> Result<Vec<i128>, Memory>
+    requires factor { IsFactor q }
+    requires small { All (IsAtMost (10 ^ 21)) x.now }
+    ensures { IfOk result (λ r. r.items ≡ map (λ a. q *ℤ a) x.now) }
+{
+    let mut row = Vec::new(alloc);
+    for a in x {
+        row.push(product(q, *a))?;
+    }
+    Ok(row)
+}

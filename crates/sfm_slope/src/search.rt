@@ -1,0 +1,54 @@
+// What the search for the breakpoints and the runs for their sections share: two exchange graphs of the terms and a shift,
+// which are made once and used again at each slope.
+ghost use Rattle.std.specs.Prelude.{◌≡◌, length, map, IfOk};
+ghost use Rattle.sfm_spec.specs.Bounds.{AreBounded};
+ghost use Rattle.sfm_spec.specs.Families.{even_shift};
+ghost use Rattle.sfm_slope.specs.Searches.{IsSearch};
+
+use crate::rows::first_rows;
+use sfm_base::Memory;
+use sfm_law::Term;
+use sfm_walk::{Graph, graph_at};
+use std::alloc::Global;
+
+/// Two exchange graphs of the terms over one ground.
+#[derive(Drop)]
+pub struct Search<N> {
+    /// Where lists are made.
+    pub alloc: Global,
+    /// Of the terms themselves, at the bases of the slope that was looked at last.
+    pub warm: Graph<N>,
+    /// Of some factor times the terms, made one at other bases before each use.
+    pub cold: Graph<N>,
+    /// A number for each place of the ground.
+    pub shift: Vec<i128>,
+}
+
+impl<N> Search<N> {
+    /// A search over some terms on a ground of n places, at the first bases.
+    ///
+    /// # Errors
+    ///
+    /// `Memory` where there is none.
+    pub fn new<T: Term<Note = N>>(alloc: Global, terms: &[T], n: usize) -> Result<Search<N>, Memory>
+        requires bounded { AreBounded n (map T.places terms.now) (map T.size_of terms.now) }
+        ensures { IfOk result (IsSearch T.places T.value_of T.fits terms.now n) }
+    {
+        let warm = graph_at(alloc, terms, n, 1, first_rows(alloc, terms, 1)?)?;
+        let cold = graph_at(alloc, terms, n, 1, first_rows(alloc, terms, 1)?)?;
+        let shift = vec![in alloc; 0i128; n]?;
+        Ok(Search {
+            alloc,
+            warm,
+            cold,
+            shift,
+        })
+    }
+}
+
+/// Makes each number of a shift the same.
+pub fn write_even(shift: &mut [i128], p: i128)
+    ensures { shift.new ≡ even_shift (length shift.old) p }
+{
+    shift.fill(p);
+}

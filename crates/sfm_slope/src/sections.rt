@@ -1,0 +1,85 @@
+// The bases of each breakpoint. They are found by a run of their own from the first bases, so they hang on the terms and the
+// slope alone, and few walks lead to them, however the breakpoint was found.
+ghost use Rattle.std.specs.Prelude.{◌≡◌, ◌^◌, ℤ, length, map, IfOk, OnOk};
+ghost use Rattle.std.specs.List.{All};
+ghost use Rattle.sfm_spec.specs.Bounds.{AreBounded, IsAtMost};
+ghost use Rattle.sfm_spec.specs.Families.{meanings};
+ghost use Rattle.sfm_walk.specs.Graph.{IsGraph};
+ghost use Rattle.sfm_slope.specs.Marks.{HasBases, mark_of};
+ghost use Rattle.sfm_slope.specs.Points.{IsInRange, found_mark};
+ghost use Rattle.sfm_slope.specs.Searches.{IsSearch};
+ghost use Rattle.sfm_slope.specs.Sections.{IsSection};
+
+use crate::search::{Search, write_even};
+use crate::turn::Breakpoint;
+use sfm_base::{Memory, Rows, Slope, Steps};
+use sfm_law::{Break, Term};
+use sfm_walk::{Graph, minimise_from_start};
+use std::alloc::Global;
+
+// Each breakpoint with bases that prove at its slope.
+pub fn sections<T: Term>(
+    search: &mut Search<T::Note>,
+    terms: &[T],
+    n: usize,
+    found: &[Breakpoint],
+) -> Result<Vec<Break>, Memory>
+    requires bounded { AreBounded n (map T.places terms.now) (map T.size_of terms.now) }
+    requires search { IsSearch T.places T.value_of T.fits terms.now n search.old }
+    requires ranges { All (IsInRange n) found.now }
+    ensures marks { IfOk result (λ r. map mark_of r.items ≡ map found_mark found.now) }
+    ensures bases { IfOk result (λ r. All (HasBases (meanings T.places T.value_of terms.now) (λ q. map (λ term. T.start_of term q) terms.now) n) r.items) }
+{
+    let mut breaks = Vec::new(search.alloc);
+    for point in found {
+        breaks.push(section(search, terms, n, point)?)?;
+    }
+    Ok(breaks)
+}
+
+// A breakpoint with bases that prove at its slope.
+fn section<T: Term>(
+    search: &mut Search<T::Note>,
+    terms: &[T],
+    n: usize,
+    point: &Breakpoint,
+) -> Result<Break, Memory>
+    requires bounded { AreBounded n (map T.places terms.now) (map T.size_of terms.now) }
+    requires search { IsSearch T.places T.value_of T.fits terms.now n search.old }
+    requires range { IsInRange n point.now }
+    ensures search { OnOk result (IsSearch T.places T.value_of T.fits terms.now n search.new) }
+    ensures mark { IfOk result (λ r. mark_of r ≡ found_mark point.now) }
+    ensures bases { IfOk result (HasBases (meanings T.places T.value_of terms.now) (λ q. map (λ term. T.start_of term q) terms.now) n) }
+{
+    let slope = point.slope;
+    let set = point.set.copy(search.alloc)?;
+    let bases = bases_at(
+        search.alloc,
+        &mut search.cold,
+        terms,
+        slope,
+        &mut search.shift,
+    )?;
+    Ok(Break { slope, set, bases })
+}
+
+// Bases that prove at a slope, from the first bases there; all of the shift is written.
+fn bases_at<T: Term>(
+    alloc: Global,
+    graph: &mut Graph<T::Note>,
+    terms: &[T],
+    slope: Slope,
+    shift: &mut [i128],
+) -> Result<Rows, Memory>
+    requires bounded { AreBounded (length shift.old) (map T.places terms.now) (map T.size_of terms.now) }
+    requires graph { (q : ℤ) × IsGraph T.places T.value_of T.fits terms.now (length shift.old) q graph.old }
+    requires small { IsAtMost (10 ^ 24) slope.num }
+    ensures graph { OnOk result (IsGraph T.places T.value_of T.fits terms.now (length shift.old) slope.den graph.new) }
+    ensures bases { IfOk result (IsSection (meanings T.places T.value_of terms.now) (λ q. map (λ term. T.start_of term q) terms.now) (length shift.old) slope.num slope.den) }
+{
+    write_even(shift, slope.num);
+    let mut steps = Steps::new();
+    let minimum = minimise_from_start(alloc, graph, terms, slope.den, shift, &mut steps)?;
+    let optimum = minimum.optimum;
+    Ok(optimum.bases)
+}
