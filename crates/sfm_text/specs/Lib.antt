@@ -11,4 +11,5 @@ pub mod Reading
 pub mod GoodText
 pub mod Reasons
 pub mod ReadParts
+pub mod Adding
 pub mod Standing

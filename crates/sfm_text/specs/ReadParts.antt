@@ -1,5 +1,5 @@
 -- What the parts of a line, the state of a reading and the end of a line's reading stand for.
-use Rattle.std.specs.Prelude.{◌≡◌, ◌<◌, ℕ, Bool, true, false, List, ◌∷◌, map, Any, Result, MatchResult}
+use Rattle.std.specs.Prelude.{◌≡◌, ◌<◌, ℕ, Bool, true, false, List, ◌∷◌, codes, map, Any, Result, MatchResult}
 use Rattle.sfm_kind.specs.Instance.{InstanceData}
 use Rattle.sfm_kind.specs.declared.kind.Kind.{Kind}
 use Rattle.sfm_text.specs.declared.end.TextEnd.{TextEnd}
@@ -52,6 +52,10 @@ pub record IsTermRead (instance : InstanceData) (word : TermWord) (rest : List (
 -- a line with these tokens was taken in the state s and led to t, or is refused for its first reason
 abbrev pub IsOutcome : State → List (List ℕ) → Result (Unit {0}) LineEnd → State → Type 0
 IsOutcome s tokens result t = (line : List ℕ) → IsLineOf line tokens → MatchResult result (λ _. Takes s line t) (IsLineRefusal s line)
+
+-- the first token is `end`
+abbrev pub BeginsEnd : List (List ℕ) → Type 0
+BeginsEnd tokens = (rest : List (List ℕ)) × (tokens ≡ codes "end" ∷ rest)
 
 -- a line that counts is taken, and another changes nothing
 abbrev pub Passes : Bool → State → List ℕ → State → Type 0

@@ -1,6 +1,7 @@
 // Reading instance texts: what is a good one, which instance it stands for, and the first fault of one that is not good.
 #![tactic(auto)]
 
+mod added;
 mod concave_line;
 mod cover_line;
 mod cut;
@@ -33,6 +34,7 @@ mod uniform_line;
 mod weight_line;
 mod word;
 
+pub use added::add_line;
 pub use cut::token;
 pub use end::TextEnd;
 pub use line_fault::LineEnd;

@@ -1,16 +1,15 @@
 // Reading line by line: what a content line adds to what was read before it, or the first reason for which it is refused.
-ghost use Rattle.std.specs.Prelude.{◌≡◌, ◌≢◌, ◌↔◌, ◌≤◌, ℕ, List, [], ◌∷◌, ◌++◌, length, IsTrue, Any, MatchBool, IfOk, MatchOption, MatchResult};
+ghost use Rattle.std.specs.Prelude.{◌≡◌, ◌≢◌, ◌≤◌, ℕ, List, [], ◌∷◌, length, bytes_eq, codes, MatchBool, IfOk, MatchOption, MatchResult};
 ghost use Rattle.std.specs.List.{All};
 ghost use Rattle.std.specs.Str.Lines.{strip_carriage_return};
 ghost use Rattle.sfm_spec.specs.Names.{IsName};
-ghost use Rattle.sfm_kind.specs.Limits.{AreInBounds};
-ghost use Rattle.sfm_text.specs.Lines.{texts_of};
-ghost use Rattle.sfm_text.specs.Words.{word_text};
+ghost use Rattle.sfm_text.specs.Lines.{texts_of, tokens_of};
 ghost use Rattle.sfm_text.specs.TermLines.{StandsTwice};
-ghost use Rattle.sfm_text.specs.Reading.{IsBadByte, AreTooMuch, start, Takes, IsLineRefusal};
-ghost use Rattle.sfm_text.specs.declared.word.TermWord.{TermWord};
+ghost use Rattle.sfm_text.specs.Reading.{start, Takes, IsLineRefusal};
+ghost use Rattle.sfm_text.specs.ReadParts.{BeginsEnd};
 
-use crate::cut::{is_skipped, tokens};
+use crate::added::{add_line, are_good_bytes};
+use crate::cut::{is_skipped, token, tokens};
 use crate::line_fault::LineEnd;
 use crate::lines::without_return;
 use crate::mark::has_mark;
@@ -18,19 +17,9 @@ use crate::names::are_names;
 use crate::reason::Reason;
 use crate::repeat::has_repeat;
 use crate::stage::Stage;
-use crate::term_line::read_term;
-use crate::word::{TermWord, term_word};
 use sfm_base::Memory;
-use sfm_kind::{Instance, Kind};
-use sfm_law::Term;
+use sfm_kind::Instance;
 use std::alloc::Global;
-
-/// The most terms, places and sizes of a text in all.
-const MOST_TERMS: usize = 4_096;
-
-const MOST_PLACES: usize = 16_384;
-
-const MOST_SIZE: i128 = 1_000_000_000_000_000;
 
 /// The most names of a ground.
 const MOST_NAMES: usize = 256;
@@ -40,13 +29,6 @@ const MOST_NAMES: usize = 256;
 pub struct Reading {
     pub stage: Stage,
     pub instance: Instance,
-}
-
-/// Whether a content line may hold the byte: a tab, or one from the space to `~`.
-fn is_good_byte(c: u8) -> bool
-    ensures { IsTrue result ↔ (IsBadByte c → ⊥) }
-{
-    c == b'\t' || (b' ' <= c && c <= b'~')
 }
 
 /// The tokens behind a word, or None where the first token is another.
@@ -59,26 +41,21 @@ fn behind<'a, 'b>(word: &[u8], tokens: &'b [&'a [u8]]) -> Option<&'b [&'a [u8]]>
     if *first == word { Some(rest) } else { None }
 }
 
-/// The word of a term line and the tokens behind it, or None where the first token is none of the words.
-fn term_line<'a, 'b>(tokens: &'b [&'a [u8]]) -> Option<(TermWord, &'b [&'a [u8]])>
-    ensures { MatchOption result
-        ((word : TermWord) (rest : List (List ℕ)) → texts_of tokens.now ≢ word_text word ∷ rest)
-        (λ r. texts_of tokens.now ≡ word_text r.0 ∷ texts_of r.1.now) }
+/// Whether a token is `end`.
+fn is_end(token: &[u8]) -> bool
+    ensures { result ≡ bytes_eq token.now (codes "end") }
 {
-    let (first, rest) = tokens.split_first()?;
-    let word = term_word(first)?;
-    Some((word, rest))
+    token == b"end".as_slice()
 }
 
-/// Whether there is too much in all with one more term.
-fn is_too_much(instance: &Instance, term: &Kind) -> bool
-    ensures much { IsTrue result ↔ AreTooMuch (instance.now.terms ++ term.now ∷ []) }
-    ensures bounded { AreInBounds (length instance.now.names) instance.now.terms }
+/// Whether the first token of a line is `end`.
+fn is_last(line: &[u8]) -> bool
+    ensures { MatchBool result (BeginsEnd (tokens_of line.now)) (BeginsEnd (tokens_of line.now) → ⊥) }
 {
-    let terms = instance.terms();
-    let places_left = MOST_PLACES - instance.support();
-    let size_left = MOST_SIZE - instance.total_size();
-    terms.len() >= MOST_TERMS || term.elements().len() > places_left || term.size() > size_left
+    match token(line, 0) {
+        Some(first) => is_end(first),
+        None => false,
+    }
 }
 
 /// The instance with these names and no terms.
@@ -134,15 +111,17 @@ impl Reading {
             (λ _. Takes (state_of self.old) line.now (state_of self.new))
             (IsLineRefusal (state_of self.old) line.now) }
     {
-        if !line.iter().all(|c| is_good_byte(*c)) {
+        if self.stage == Stage::Terms {
+            return self.take_later(alloc, line);
+        }
+        if !are_good_bytes(line) {
             return Err(LineEnd::Fault(Reason::Bytes));
         }
         let tokens = tokens(alloc, line)?;
         match self.stage {
             Stage::Header => self.take_header(&tokens),
             Stage::Ground => self.take_ground(alloc, &tokens),
-            Stage::Terms => self.take_later(alloc, &tokens),
-            Stage::Ended => Err(LineEnd::Fault(Reason::Word)),
+            Stage::Terms | Stage::Ended => Err(LineEnd::Fault(Reason::Word)),
         }
     }
 
@@ -185,26 +164,22 @@ impl Reading {
     }
 
     /// Takes a term line or the end.
-    fn take_later(&mut self, alloc: Global, tokens: &[&[u8]]) -> Result<(), LineEnd>
+    fn take_later(&mut self, alloc: Global, line: &[u8]) -> Result<(), LineEnd>
         requires { self.old.stage ≡ Terms }
-        ensures { IsOutcome (state_at Terms self.old.instance) (texts_of tokens.now) result (state_of self.new) }
+        ensures { MatchResult result
+            (λ _. Takes (state_of self.old) line.now (state_of self.new))
+            (IsLineRefusal (state_of self.old) line.now) }
     {
-        if let Some(rest) = behind(b"end", tokens) {
-            if !rest.is_empty() {
-                return Err(LineEnd::Fault(Reason::Shape));
-            }
-            self.stage = Stage::Ended;
-            return Ok(());
+        if !is_last(line) {
+            return add_line(alloc, &mut self.instance, line);
         }
-        let Some((word, rest)) = term_line(tokens) else {
-            return Err(LineEnd::Fault(Reason::Word));
-        };
-        let _count = self.instance.names_len();
-        let term = read_term(alloc, &self.instance, word, rest)?;
-        if is_too_much(&self.instance, &term) {
-            return Err(LineEnd::Fault(Reason::Total));
+        if !are_good_bytes(line) {
+            return Err(LineEnd::Fault(Reason::Bytes));
         }
-        self.instance.add_term(term)?;
+        if token(line, 1).is_some() {
+            return Err(LineEnd::Fault(Reason::Shape));
+        }
+        self.stage = Stage::Ended;
         Ok(())
     }
 }

@@ -1,7 +1,7 @@
 // Texts in pieces: what is answered does not depend on where a text is cut.
 ghost use Rattle.std.specs.Prelude.{◌<◌};
 
-use crate::{Reader, TextEnd, read_pieces};
+use crate::{Reader, TEXT_LIMIT, TextEnd, read_pieces};
 use sfm_kind::Instance;
 use std::alloc::Global;
 use std::test::Fail;
@@ -17,7 +17,7 @@ fn told(read: Result<Instance, TextEnd>) -> (usize, &'static [u8], usize, usize)
 
 #[test]
 fn pieces_are_cut_anywhere(rt: HostRuntime) -> Result<(), Fail> {
-    let rows: [(&[&[u8]], (usize, &[u8], usize, usize)); 8] = [
+    let rows: [(&[&[u8]], (usize, &[u8], usize, usize)); 11] = [
         (&[], (1, b"short", 0, 0)),
         (&[b"", b""], (1, b"short", 0, 0)),
         (&[b"sfm 1\ngro", b"und\nend\n"], (0, b"good", 0, 0)),
@@ -37,6 +37,15 @@ fn pieces_are_cut_anywhere(rt: HostRuntime) -> Result<(), Fail> {
         (
             &[b"sfm 1\nground a\nend\n", b"x", b"\nx\n"],
             (4, b"word", 0, 0),
+        ),
+        (&[b"sfm 1\n", b"\x07ground\nend\n"], (2, b"bytes", 0, 0)),
+        (
+            &[b"sfm 1\nground a\nne\x07ed a a\nend\n"],
+            (3, b"bytes", 0, 0),
+        ),
+        (
+            &[b"sfm 1\nground a\nneed a\x07", b" a\nend\n"],
+            (3, b"bytes", 0, 0),
         ),
     ];
     for (pieces, found) in rows {
@@ -63,4 +72,16 @@ fn pieces_of_one_length(rt: HostRuntime) {
     assert_eq!(rt; told(read_cut(rt.alloc(), text, 1)), found);
     assert_eq!(rt; told(read_cut(rt.alloc(), text, 7)), found);
     assert_eq!(rt; told(read_cut(rt.alloc(), text, 65_536)), found);
+}
+
+#[test]
+fn a_long_text_byte_by_byte(rt: HostRuntime) -> Result<(), Fail> {
+    let alloc = rt.alloc();
+    let mut reader = Reader::new(alloc)?;
+    for _ in 0..TEXT_LIMIT {
+        reader.feed(alloc, b"#")?;
+    }
+    reader.feed(alloc, b"\n")?;
+    assert_eq!(rt; told(reader.finish(alloc)), (0, b"long".as_slice(), 0, 0));
+    Ok(())
 }

@@ -1,8 +1,8 @@
 use Rattle.std.proofs.Common.{length, sym, ap, ◌∙◌, arith}
 use Rattle.std.proofs.lemmas.Bool.{leb-false, ltb-false}
 use Rattle.sfm_text.proofs.TooMuch.{kept-room, much-by-size}
-use Rattle.sfm_text.proofs.reading.is_too_much.Goals as goal
-use Rattle.sfm_text.proofs.reading.is_too_much.Goals.{then-terms-ge-MOST_TERMS, else-terms-ge-MOST_TERMS}
+use Rattle.sfm_text.proofs.added.is_too_much.Goals as goal
+use Rattle.sfm_text.proofs.added.is_too_much.Goals.{then-terms-ge-MOST_TERMS, else-terms-ge-MOST_TERMS}
 
 pub overflow_sub-size_left : goal.overflow_sub-size_left
 overflow_sub-size_left c = kept-room _ c.args.instance.now.terms c.total_size-size_left.result c.terms-terms.ensures.bounded c.total_size-size_left.ensures.total

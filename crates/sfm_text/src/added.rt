@@ -1,0 +1,103 @@
+// One term line, judged against an instance: its term is added behind the others, or the first reason is told for which the
+// line has none. A text's term lines are read by this call too, so that a line is judged alike wherever it comes from.
+ghost use Rattle.std.specs.Prelude.{◌≡◌, ◌≢◌, ◌↔◌, ℕ, List, [], ◌∷◌, ◌++◌, length, IsTrue, Any, MatchBool, MatchOption, MatchResult, OnErr};
+ghost use Rattle.std.specs.List.{All};
+ghost use Rattle.sfm_kind.specs.Limits.{AreInBounds};
+ghost use Rattle.sfm_text.specs.Lines.{texts_of};
+ghost use Rattle.sfm_text.specs.Words.{word_text};
+ghost use Rattle.sfm_text.specs.Reading.{IsBadByte, AreTooMuch};
+ghost use Rattle.sfm_text.specs.ReadParts.{state_at, IsOutcome};
+ghost use Rattle.sfm_text.specs.Adding.{IsTermAdded, IsTermRefusal};
+ghost use Rattle.sfm_text.specs.declared.stage.Stage.TheVariants.{Terms};
+ghost use Rattle.sfm_text.specs.declared.word.TermWord.{TermWord};
+
+use crate::cut::tokens;
+use crate::line_fault::LineEnd;
+use crate::reason::Reason;
+use crate::term_line::read_term;
+use crate::word::{TermWord, term_word};
+use sfm_kind::{Instance, Kind};
+use sfm_law::Term;
+use std::alloc::Global;
+
+/// The most terms, places and sizes of a text in all.
+const MOST_TERMS: usize = 4_096;
+
+const MOST_PLACES: usize = 16_384;
+
+const MOST_SIZE: i128 = 1_000_000_000_000_000;
+
+/// Whether a content line may hold the byte: a tab, or one from the space to `~`.
+fn is_good_byte(c: u8) -> bool
+    ensures { IsTrue result ↔ (IsBadByte c → ⊥) }
+{
+    c == b'\t' || (b' ' <= c && c <= b'~')
+}
+
+/// Whether a content line may hold each of the bytes.
+pub(crate) fn are_good_bytes(line: &[u8]) -> bool
+    ensures { MatchBool result (Any IsBadByte line.now → ⊥) (Any IsBadByte line.now) }
+{
+    line.iter().all(|c| is_good_byte(*c))
+}
+
+/// The word of a term line and the tokens behind it, or None where the first token is none of the words.
+fn term_line<'a, 'b>(tokens: &'b [&'a [u8]]) -> Option<(TermWord, &'b [&'a [u8]])>
+    ensures { MatchOption result
+        ((word : TermWord) (rest : List (List ℕ)) → texts_of tokens.now ≢ word_text word ∷ rest)
+        (λ r. texts_of tokens.now ≡ word_text r.0 ∷ texts_of r.1.now) }
+{
+    let (first, rest) = tokens.split_first()?;
+    let word = term_word(first)?;
+    Some((word, rest))
+}
+
+/// Whether there is too much in all with one more term.
+fn is_too_much(instance: &Instance, term: &Kind) -> bool
+    ensures much { IsTrue result ↔ AreTooMuch (instance.now.terms ++ term.now ∷ []) }
+    ensures bounded { AreInBounds (length instance.now.names) instance.now.terms }
+{
+    let terms = instance.terms();
+    let places_left = MOST_PLACES - instance.support();
+    let size_left = MOST_SIZE - instance.total_size();
+    terms.len() >= MOST_TERMS || term.elements().len() > places_left || term.size() > size_left
+}
+
+/// Adds the term of a line with this word and these tokens behind it.
+fn add_read(
+    alloc: Global,
+    instance: &mut Instance,
+    word: TermWord,
+    tokens: &[&[u8]],
+) -> Result<(), LineEnd>
+    ensures outcome { IsOutcome (state_at Terms instance.old) (word_text word ∷ texts_of tokens.now) result (state_at Terms instance.new) }
+    ensures unchanged { OnErr result (instance.new ≡ instance.old) }
+{
+    let _count = instance.names_len();
+    let term = read_term(alloc, instance, word, tokens)?;
+    if is_too_much(instance, &term) {
+        return Err(LineEnd::Fault(Reason::Total));
+    }
+    instance.add_term(term)?;
+    Ok(())
+}
+
+/// Adds the term of a term line behind those of an instance.
+///
+/// # Errors
+///
+/// `Fault` with the first reason for which the line is no term line behind the others, `word` where its first token is not
+/// the word of one or it has no token; `Memory` where there is none. The instance is then as it was.
+pub fn add_line(alloc: Global, instance: &mut Instance, line: &[u8]) -> Result<(), LineEnd>
+    ensures judged { MatchResult result (λ _. IsTermAdded instance.old line.now instance.new) (IsTermRefusal instance.old line.now) }
+    ensures unchanged { OnErr result (instance.new ≡ instance.old) }
+{
+    if !are_good_bytes(line) {
+        return Err(LineEnd::Fault(Reason::Bytes));
+    }
+    let tokens = tokens(alloc, line)?;
+    match term_line(&tokens) {
+        Some((word, rest)) => add_read(alloc, instance, word, rest),
+        None => Err(LineEnd::Fault(Reason::Word)),
+    }
+}
