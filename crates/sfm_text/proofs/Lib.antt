@@ -20,6 +20,7 @@ pub mod TermReasons
 pub mod StageReasons
 pub mod SameTerms
 pub mod LaterLines
+pub mod FewLabels
 pub mod Adding
 pub mod Following
 pub mod Alike

@@ -1,5 +1,5 @@
 -- What the parts of a line, the state of a reading and the end of a line's reading stand for.
-use Rattle.std.specs.Prelude.{◌≡◌, ◌<◌, ℕ, Bool, true, false, List, ◌∷◌, codes, map, Any, Result, MatchResult}
+use Rattle.std.specs.Prelude.{◌≡◌, ◌+◌, ◌<◌, ℕ, Bool, true, false, List, [], ◌∷◌, length, codes, map, Any, Result, MatchResult}
 use Rattle.sfm_kind.specs.Instance.{InstanceData}
 use Rattle.sfm_kind.specs.declared.kind.Kind.{Kind}
 use Rattle.sfm_text.specs.declared.end.TextEnd.{TextEnd}
@@ -26,6 +26,11 @@ label_lists_of lists = map (λ labels. texts_of labels.texts.items) lists
 -- the texts that the parts point to
 abbrev pub parts_of : Parts → LineParts
 parts_of parts = record { numbers = texts_of parts.numbers.items; elements = texts_of parts.elements.items; rank = parts.rank; groups = text_lists_of parts.groups.items; labels = label_lists_of parts.labels.items }
+
+-- how many bytes texts have in all
+abbrev pub bytes_in : List (List ℕ) → ℕ
+bytes_in [] = 0
+bytes_in (text ∷ texts) = length text + bytes_in texts
 
 -- the state with that stage and the names and terms of an instance
 abbrev pub state_at : Stage → InstanceData → State

@@ -1,12 +1,13 @@
 // One term line, judged against an instance: its term is added behind the others, or the first reason is told for which the
 // line has none. A text's term lines are read by this call too, so that a line is judged alike wherever it comes from.
-ghost use Rattle.std.specs.Prelude.{◌≡◌, ◌≢◌, ◌↔◌, ℕ, List, [], ◌∷◌, ◌++◌, length, IsTrue, Any, MatchBool, MatchOption, MatchResult, OnErr};
+ghost use Rattle.std.specs.Prelude.{◌≡◌, ◌≢◌, ◌↔◌, ◌<◌, ◌≤◌, ◌^◌, ℕ, List, [], ◌∷◌, ◌++◌, length, IsTrue, Any, MatchBool, MatchOption, MatchResult, OnErr};
 ghost use Rattle.std.specs.List.{All};
 ghost use Rattle.sfm_kind.specs.Limits.{AreInBounds};
 ghost use Rattle.sfm_text.specs.Lines.{texts_of};
 ghost use Rattle.sfm_text.specs.Words.{word_text};
 ghost use Rattle.sfm_text.specs.Reading.{IsBadByte, AreTooMuch};
-ghost use Rattle.sfm_text.specs.ReadParts.{state_at, IsOutcome};
+ghost use Rattle.sfm_text.specs.ReadParts.{bytes_in, state_at, IsOutcome};
+ghost use Rattle.sfm_text.specs.GoodText.{text_limit};
 ghost use Rattle.sfm_text.specs.Adding.{IsTermAdded, IsTermRefusal};
 ghost use Rattle.sfm_text.specs.declared.stage.Stage.TheVariants.{Terms};
 ghost use Rattle.sfm_text.specs.declared.word.TermWord.{TermWord};
@@ -70,6 +71,7 @@ fn add_read(
     word: TermWord,
     tokens: &[&[u8]],
 ) -> Result<(), LineEnd>
+    requires short { bytes_in (texts_of tokens.now) < 2 ^ 24 }
     ensures outcome { IsOutcome (state_at Terms instance.old) (word_text word ∷ texts_of tokens.now) result (state_at Terms instance.new) }
     ensures unchanged { OnErr result (instance.new ≡ instance.old) }
 {
@@ -82,13 +84,14 @@ fn add_read(
     Ok(())
 }
 
-/// Adds the term of a term line behind those of an instance.
+/// Adds the term of a term line, which is no longer than a text may be, behind those of an instance.
 ///
 /// # Errors
 ///
 /// `Fault` with the first reason for which the line is no term line behind the others, `word` where its first token is not
 /// the word of one or it has no token; `Memory` where there is none. The instance is then as it was.
 pub fn add_line(alloc: Global, instance: &mut Instance, line: &[u8]) -> Result<(), LineEnd>
+    requires short { length line.now ≤ text_limit }
     ensures judged { MatchResult result (λ _. IsTermAdded instance.old line.now instance.new) (IsTermRefusal instance.old line.now) }
     ensures unchanged { OnErr result (instance.new ≡ instance.old) }
 {

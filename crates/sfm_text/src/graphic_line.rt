@@ -1,11 +1,11 @@
 // The line `rank`, a number, `graphic`, a colon, and at least one edge `name=vertex-vertex`.
-ghost use Rattle.std.specs.Prelude.{◌≡◌, ℕ, length, map, pos, ◌^◌, ◌≤ℤ◌, MatchOption, IfOk};
+ghost use Rattle.std.specs.Prelude.{◌≡◌, ◌<◌, ℕ, length, map, pos, ◌^◌, ◌≤ℤ◌, MatchOption, IfOk};
 ghost use Rattle.std.specs.List.{All};
 ghost use Rattle.sfm_spec.specs.Bounds.{IsAtMost, AreElements};
 ghost use Rattle.sfm_matroid.specs.Ends.{edges_of};
 ghost use Rattle.sfm_text.specs.Lines.{texts_of};
 ghost use Rattle.sfm_text.specs.Parts.{LineParts, IsGraphicLine};
-ghost use Rattle.sfm_text.specs.LabelTerms.{place_among, edge_between, IsGraphicTerm};
+ghost use Rattle.sfm_text.specs.LabelTerms.{joined, place_among, edge_between, IsGraphicTerm};
 ghost use Rattle.sfm_text.specs.ReadParts.{parts_of, label_lists_of};
 
 use crate::labelled_line::labelled_parts;
@@ -40,13 +40,14 @@ fn ends(
     names: &IndexSet<&[u8]>,
     labels: &[Labels],
 ) -> Result<Vec<(u32, u32)>, Memory>
+    requires few { length names.now.keys < 2 ^ 24 }
     requires two { All (λ texts. length texts ≡ 2) (label_lists_of labels.now) }
     ensures { IfOk result (λ r. edges_of r.items ≡ map (λ texts. edge_between (map (place_among (texts_of names.now.keys)) texts)) (label_lists_of labels.now)) }
 {
     let mut ends = Vec::new(alloc);
     for element in labels {
-        let tail = number_of(names, element.texts[0])?;
-        let head = number_of(names, element.texts[1])?;
+        let tail = number_of(names, element.texts[0]);
+        let head = number_of(names, element.texts[1]);
         ends.push((tail, head))?;
     }
     Ok(ends)
@@ -60,6 +61,7 @@ pub fn graphic_term(
     places: &[usize],
 ) -> Result<Kind, Memory>
     requires one { length values.now ≡ 1 }
+    requires few { length (joined (parts_of parts.now).labels) < 2 ^ 24 }
     requires two { All (λ texts. length texts ≡ 2) (parts_of parts.now).labels }
     requires each { length (parts_of parts.now).labels ≡ length places.now }
     requires elements { AreElements places.now }

@@ -1,7 +1,7 @@
 // The labels of the elements of a line: the ends of edges, or the slots of entries. Whether they have the form of names,
 // whether a slot stands twice in an entry, and the numbers that stand for them. Equal labels of a line have one number, and
 // the numbers go up from 0 in the order in which labels first appear, as an insertion into a set in that order counts them.
-ghost use Rattle.std.specs.Prelude.{◌≡◌, ◌<◌, ◌^◌, ◌++◌, ℕ, List, map, Any, IfOk, OnOk, MatchBool};
+ghost use Rattle.std.specs.Prelude.{◌≡◌, ◌<◌, ◌^◌, ◌++◌, ℕ, List, length, map, Any, IfOk, OnOk, MatchBool};
 ghost use Rattle.std.specs.List.{All};
 ghost use Rattle.sfm_spec.specs.Names.{IsName};
 ghost use Rattle.sfm_text.specs.Lines.{texts_of};
@@ -16,9 +16,6 @@ use crate::word::RankKind;
 use indexmap::IndexSet;
 use sfm_base::Memory;
 use std::alloc::Global;
-
-/// A number above each number of a label: a text of the permitted length has fewer labels.
-const MOST_LABELS: usize = 16_777_216;
 
 /// The labels of an element.
 #[derive(Drop)]
@@ -89,27 +86,25 @@ pub fn different<'a>(alloc: Global, labels: &[Labels<'a>]) -> Result<IndexSet<&'
     Ok(names)
 }
 
-/// The number of a label: its place among the different ones.
-pub fn number_of(names: &IndexSet<&[u8]>, label: &[u8]) -> Result<u32, Memory>
-    ensures number { IfOk result (λ r. r ≡ place_among (texts_of names.now.keys) label.now) }
-    ensures small { IfOk result (λ r. r < 2 ^ 24) }
+/// The number of a label: its place among the different ones, of which a line of the permitted length has less than 2^24.
+pub fn number_of(names: &IndexSet<&[u8]>, label: &[u8]) -> u32
+    requires few { length names.now.keys < 2 ^ 24 }
+    ensures number { result ≡ place_among (texts_of names.now.keys) label.now }
+    ensures small { result < 2 ^ 24 }
 {
     let number = names.get_index_of(label).unwrap_or(names.len());
-    if number >= MOST_LABELS {
-        return Err(Memory);
-    }
-    Ok(number as u32)
+    number as u32
 }
 
 /// The numbers of labels.
 pub fn numbers(alloc: Global, names: &IndexSet<&[u8]>, labels: &[&[u8]]) -> Result<Vec<u32>, Memory>
+    requires few { length names.now.keys < 2 ^ 24 }
     ensures numbers { IfOk result (λ r. r.items ≡ map (place_among (texts_of names.now.keys)) (texts_of labels.now)) }
     ensures small { IfOk result (λ r. All (λ v. v < 2 ^ 24) r.items) }
 {
     let mut numbers = Vec::new(alloc);
     for label in labels {
-        let number = number_of(names, label)?;
-        numbers.push(number)?;
+        numbers.push(number_of(names, label))?;
     }
     Ok(numbers)
 }

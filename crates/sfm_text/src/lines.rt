@@ -31,7 +31,8 @@ pub struct Lines<'a> {
 
 /// The line without a carriage return at its end.
 pub fn without_return(line: &[u8]) -> &[u8]
-    ensures { result.now ≡ strip_carriage_return line.now }
+    ensures stripped { result.now ≡ strip_carriage_return line.now }
+    ensures shorter { length result.now ≤ length line.now }
 {
     match line {
         [front @ .., b'\r'] => front,

@@ -1,7 +1,8 @@
 // The line `rank`: its third word tells which rank it means. Each rank has its own shape and its own term.
-ghost use Rattle.std.specs.Prelude.{◌≡◌, MatchOption, IfOk};
+ghost use Rattle.std.specs.Prelude.{◌≡◌, ◌<◌, ◌^◌, length, MatchOption, IfOk};
 ghost use Rattle.sfm_text.specs.Lines.{texts_of};
 ghost use Rattle.sfm_text.specs.Parts.{LineParts, IsRankLine};
+ghost use Rattle.sfm_text.specs.LabelTerms.{joined};
 ghost use Rattle.sfm_text.specs.RankLines.{BreaksRankLaw, IsRankTerm};
 ghost use Rattle.sfm_text.specs.TermLines.{AreRead};
 ghost use Rattle.sfm_text.specs.ReadParts.{parts_of};
@@ -46,7 +47,8 @@ pub fn rank_term(
     values: &[i128],
     places: &[usize],
 ) -> Result<Option<Kind>, Memory>
-    requires { AreRead RankWord (parts_of parts.now) values.now places.now }
+    requires read { AreRead RankWord (parts_of parts.now) values.now places.now }
+    requires few { length (joined (parts_of parts.now).labels) < 2 ^ 24 }
     ensures { IfOk result (λ r. MatchOption r
         (BreaksRankLaw (parts_of parts.now).rank (parts_of parts.now) values.now)
         (λ term. IsRankTerm (parts_of parts.now).rank (parts_of parts.now) values.now places.now term

@@ -191,6 +191,7 @@ impl Reader {
 
     /// Reads the last line, where it has not ended.
     fn read_end(&mut self, alloc: Global) -> Result<(), Memory>
+        requires { self.old.count ≤ text_limit }
         ensures read { OnOk result ((text : List ℕ) → HasRead self.old text → HasReadAll self.new text) }
     {
         if self.fault.is_some() {
@@ -207,6 +208,7 @@ impl Reader {
     fn judge(&mut self, alloc: Global, piece: &[u8]) -> Result<(), Memory>
         requires faultless { self.old.fault ≡ None }
         requires room { self.old.lines + length self.old.rest.items < self.old.count }
+        requires short { length piece.now ≤ text_limit }
         ensures judged { OnOk result (JudgesLine self.old piece.now self.new) }
         ensures rest { self.new.rest.items ≡ self.old.rest.items }
         ensures lines { self.new.lines ≤ self.old.lines + 1 }

@@ -7,6 +7,7 @@ ghost use Rattle.sfm_text.specs.Lines.{texts_of, tokens_of};
 ghost use Rattle.sfm_text.specs.TermLines.{StandsTwice};
 ghost use Rattle.sfm_text.specs.Reading.{start, Takes, IsLineRefusal};
 ghost use Rattle.sfm_text.specs.ReadParts.{BeginsEnd};
+ghost use Rattle.sfm_text.specs.GoodText.{text_limit};
 
 use crate::added::{add_line, are_good_bytes};
 use crate::cut::{is_skipped, token, tokens};
@@ -87,12 +88,14 @@ impl Reading {
         }
     }
 
-    /// Takes the next line, and tells whether it counts: a blank line or a comment changes nothing.
+    /// Takes the next line, which is no longer than a text may be, and tells whether it counts: a blank line or a comment
+    /// changes nothing.
     ///
     /// # Errors
     ///
     /// `Fault` with the first reason that the line has; `Memory` where there is none.
     pub fn take_line(&mut self, alloc: Global, piece: &[u8]) -> Result<bool, LineEnd>
+        requires { length piece.now ≤ text_limit }
         ensures { MatchResult result
             (λ counts. Passes counts (state_of self.old) (strip_carriage_return piece.now) (state_of self.new))
             (Fails (state_of self.old) (strip_carriage_return piece.now)) }
@@ -107,6 +110,7 @@ impl Reading {
 
     /// Takes the next content line.
     fn take(&mut self, alloc: Global, line: &[u8]) -> Result<(), LineEnd>
+        requires { length line.now ≤ text_limit }
         ensures { MatchResult result
             (λ _. Takes (state_of self.old) line.now (state_of self.new))
             (IsLineRefusal (state_of self.old) line.now) }
@@ -165,7 +169,8 @@ impl Reading {
 
     /// Takes a term line or the end.
     fn take_later(&mut self, alloc: Global, line: &[u8]) -> Result<(), LineEnd>
-        requires { self.old.stage ≡ Terms }
+        requires stage { self.old.stage ≡ Terms }
+        requires short { length line.now ≤ text_limit }
         ensures { MatchResult result
             (λ _. Takes (state_of self.old) line.now (state_of self.new))
             (IsLineRefusal (state_of self.old) line.now) }

@@ -8,8 +8,9 @@ ghost use Rattle.sfm_text.specs.Matched.{Matched};
 ghost use Rattle.sfm_text.specs.Parts.{LineParts};
 ghost use Rattle.sfm_text.specs.Words.{lowest_of, word_text, HasParts, BreaksLaw, IsTermOf};
 ghost use Rattle.sfm_text.specs.TermLines.{AreRead, IsNumberFrom, IsElement, StandsTwice};
+ghost use Rattle.sfm_text.specs.LabelTerms.{joined};
 ghost use Rattle.sfm_text.specs.Reading.{IsLineRefusal};
-ghost use Rattle.sfm_text.specs.ReadParts.{parts_of, state_at, IsLineOf, IsTermRead};
+ghost use Rattle.sfm_text.specs.ReadParts.{parts_of, bytes_in, state_at, IsLineOf, IsTermRead};
 ghost use Rattle.sfm_text.specs.declared.stage.Stage.TheVariants.{Terms};
 ghost use Rattle.std.specs.Prelude.{◌∷◌};
 
@@ -62,7 +63,8 @@ fn make_term(
     values: &[i128],
     places: &[usize],
 ) -> Result<Option<Kind>, Memory>
-    requires { AreRead word (parts_of parts.now) values.now places.now }
+    requires read { AreRead word (parts_of parts.now) values.now places.now }
+    requires few { length (joined (parts_of parts.now).labels) < 2 ^ 24 }
     ensures { IfOk result (λ r. MatchOption r
         (BreaksLaw word (parts_of parts.now) values.now)
         (λ term. IsTermOf word (parts_of parts.now) values.now places.now term
@@ -162,7 +164,8 @@ pub fn read_term(
     word: TermWord,
     tokens: &[&[u8]],
 ) -> Result<Kind, LineEnd>
-    requires { AreElementNames instance.now.names }
+    requires names { AreElementNames instance.now.names }
+    requires short { bytes_in (texts_of tokens.now) < 2 ^ 24 }
     ensures read { IfOk result (IsTermRead instance.now word (texts_of tokens.now)) }
     ensures refused { IfErr result (λ e. (line : List ℕ)
         → IsLineOf line (word_text word ∷ texts_of tokens.now)

@@ -1,10 +1,10 @@
 // The line `rank`, a number, `transversal`, a colon, and at least one entry `name=slot,slot,..`.
-ghost use Rattle.std.specs.Prelude.{◌≡◌, ℕ, length, map, pos, ◌^◌, ◌≤ℤ◌, MatchOption, IfOk};
+ghost use Rattle.std.specs.Prelude.{◌≡◌, ◌<◌, ℕ, length, map, pos, ◌^◌, ◌≤ℤ◌, MatchOption, IfOk};
 ghost use Rattle.std.specs.List.{All};
 ghost use Rattle.sfm_spec.specs.Bounds.{IsAtMost, AreElements};
 ghost use Rattle.sfm_text.specs.Lines.{texts_of};
 ghost use Rattle.sfm_text.specs.Parts.{LineParts, IsTransversalLine};
-ghost use Rattle.sfm_text.specs.LabelTerms.{place_among, IsTransversalTerm};
+ghost use Rattle.sfm_text.specs.LabelTerms.{joined, place_among, IsTransversalTerm};
 ghost use Rattle.sfm_text.specs.ReadParts.{parts_of, label_lists_of};
 
 use crate::labelled_line::labelled_parts;
@@ -35,6 +35,7 @@ pub fn transversal_parts<'a, 'b>(
 
 /// The slots of the elements, by the places of their names among these.
 fn entries(alloc: Global, names: &IndexSet<&[u8]>, labels: &[Labels]) -> Result<Entries, Memory>
+    requires few { length names.now.keys < 2 ^ 24 }
     ensures { IfOk result (λ r. r ≡ map (λ texts. map (place_among (texts_of names.now.keys)) texts) (label_lists_of labels.now)) }
 {
     let mut entries = Entries::new(alloc);
@@ -53,6 +54,7 @@ pub fn transversal_term(
     places: &[usize],
 ) -> Result<Kind, Memory>
     requires one { length values.now ≡ 1 }
+    requires few { length (joined (parts_of parts.now).labels) < 2 ^ 24 }
     requires each { length (parts_of parts.now).labels ≡ length places.now }
     requires elements { AreElements places.now }
     requires low { All (λ value. pos 0 ≤ℤ value) values.now }

@@ -27,8 +27,8 @@ loop-element-preserved c =
     maps-step element (λ (texts : List (List ℕ)). edge_between (map p texts)) c.args.labels.now i _ (edges_of c.loop-element.ends.items) (edges_of c.push.new.self.items) _ c.loop-element-test.true c.loop-element.invariant
     (ap edges_of c.in_ok-push.ensures.items ∙ map-append edge_of c.loop-element.ends.items _)
     (two-ends p _ _ _ two
-    (c.in_ok-tail.ensures.number ∙ ap p (ap now c.index.ensures ∙ (sym (text-at c.element-item.result.texts.items 0 _ (omega (arith, count))) ∙ ap (λ (t : Labels). get_or (element t) 0 []) c.element-item.is)))
-    (c.in_ok-head.ensures.number ∙ ap p (ap now c.index-in-loop-element.ensures ∙ (sym (text-at c.element-item.result.texts.items 1 _ (omega (arith, count))) ∙ ap (λ (t : Labels). get_or (element t) 1 []) c.element-item.is))))
+    (c.number_of-tail.ensures.number ∙ ap p (ap now c.index.ensures ∙ (sym (text-at c.element-item.result.texts.items 0 _ (omega (arith, count))) ∙ ap (λ (t : Labels). get_or (element t) 0 []) c.element-item.is)))
+    (c.number_of-head.ensures.number ∙ ap p (ap now c.index-in-loop-element.ensures ∙ (sym (text-at c.element-item.result.texts.items 1 _ (omega (arith, count))) ∙ ap (λ (t : Labels). get_or (element t) 1 []) c.element-item.is))))
 
 pub returns : goal.returns
 returns c =

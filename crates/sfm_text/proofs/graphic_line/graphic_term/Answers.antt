@@ -5,7 +5,14 @@ use Rattle.sfm_text.specs.Lines.{texts_of}
 use Rattle.sfm_text.specs.LabelTerms.{distinct_of, joined, place_among, edge_between}
 use Rattle.sfm_text.specs.ReadParts.{label_lists_of}
 use Rattle.sfm_text.proofs.ReadLines.{kept-at}
+use Rattle.sfm_text.proofs.FewLabels.{keys-few}
 use Rattle.sfm_text.proofs.graphic_line.graphic_term.Goals as goal
+
+pub ends-requires-clause-few : goal.ends-requires-clause-few
+ends-requires-clause-few c =
+    let lists = label_lists_of c.args.parts.now.labels.items in
+    let names : texts_of c.in_ok-names.names.keys ≡ distinct_of (joined lists) = rw c.deref.ensures.value at c.in_ok-names.ensures in
+    keys-few c.in_ok-names.names.keys (joined lists) names c.requires.few
 
 pub returns : goal.returns
 returns c =

@@ -5,43 +5,43 @@ use Rattle.sfm_text.proofs.ReadLines.{read-small, read-low, laminar-each, graphi
 use Rattle.sfm_text.proofs.rank_line.rank_term.Goals as goal
 
 pub laminar_term-requires-clause-each : goal.laminar_term-requires-clause-each
-laminar_term-requires-clause-each c = laminar-each (parts_of c.args.parts.now) c.args.values.now c.args.places.now c.requires c.in-LaminarRank.is
+laminar_term-requires-clause-each c = laminar-each (parts_of c.args.parts.now) c.args.values.now c.args.places.now c.requires.read c.in-LaminarRank.is
 
 pub laminar_term-requires-clause-low : goal.laminar_term-requires-clause-low
-laminar_term-requires-clause-low c = read-low RankWord (parts_of c.args.parts.now) c.args.values.now c.args.places.now c.requires refl
+laminar_term-requires-clause-low c = read-low RankWord (parts_of c.args.parts.now) c.args.values.now c.args.places.now c.requires.read refl
 
 pub laminar_term-requires-clause-small : goal.laminar_term-requires-clause-small
-laminar_term-requires-clause-small c = read-small RankWord (parts_of c.args.parts.now) c.args.values.now c.args.places.now c.requires
+laminar_term-requires-clause-small c = read-small RankWord (parts_of c.args.parts.now) c.args.values.now c.args.places.now c.requires.read
 
 pub graphic_term-requires-clause-one : goal.graphic_term-requires-clause-one
-graphic_term-requires-clause-one c = graphic-one (parts_of c.args.parts.now) c.args.values.now c.args.places.now c.requires c.in-GraphicRank.is
+graphic_term-requires-clause-one c = graphic-one (parts_of c.args.parts.now) c.args.values.now c.args.places.now c.requires.read c.in-GraphicRank.is
 
 pub graphic_term-requires-clause-two : goal.graphic_term-requires-clause-two
-graphic_term-requires-clause-two c = graphic-two (parts_of c.args.parts.now) c.args.values.now c.args.places.now c.requires c.in-GraphicRank.is
+graphic_term-requires-clause-two c = graphic-two (parts_of c.args.parts.now) c.args.values.now c.args.places.now c.requires.read c.in-GraphicRank.is
 
 pub graphic_term-requires-clause-each : goal.graphic_term-requires-clause-each
-graphic_term-requires-clause-each c = graphic-each (parts_of c.args.parts.now) c.args.values.now c.args.places.now c.requires c.in-GraphicRank.is
+graphic_term-requires-clause-each c = graphic-each (parts_of c.args.parts.now) c.args.values.now c.args.places.now c.requires.read c.in-GraphicRank.is
 
 pub graphic_term-requires-clause-elements : goal.graphic_term-requires-clause-elements
-graphic_term-requires-clause-elements c = graphic-elements (parts_of c.args.parts.now) c.args.values.now c.args.places.now c.requires c.in-GraphicRank.is
+graphic_term-requires-clause-elements c = graphic-elements (parts_of c.args.parts.now) c.args.values.now c.args.places.now c.requires.read c.in-GraphicRank.is
 
 pub graphic_term-requires-clause-low : goal.graphic_term-requires-clause-low
-graphic_term-requires-clause-low c = read-low RankWord (parts_of c.args.parts.now) c.args.values.now c.args.places.now c.requires refl
+graphic_term-requires-clause-low c = read-low RankWord (parts_of c.args.parts.now) c.args.values.now c.args.places.now c.requires.read refl
 
 pub graphic_term-requires-clause-small : goal.graphic_term-requires-clause-small
-graphic_term-requires-clause-small c = read-small RankWord (parts_of c.args.parts.now) c.args.values.now c.args.places.now c.requires
+graphic_term-requires-clause-small c = read-small RankWord (parts_of c.args.parts.now) c.args.values.now c.args.places.now c.requires.read
 
 pub transversal_term-requires-clause-one : goal.transversal_term-requires-clause-one
-transversal_term-requires-clause-one c = transversal-one (parts_of c.args.parts.now) c.args.values.now c.args.places.now c.requires c.in-TransversalRank.is
+transversal_term-requires-clause-one c = transversal-one (parts_of c.args.parts.now) c.args.values.now c.args.places.now c.requires.read c.in-TransversalRank.is
 
 pub transversal_term-requires-clause-each : goal.transversal_term-requires-clause-each
-transversal_term-requires-clause-each c = transversal-each (parts_of c.args.parts.now) c.args.values.now c.args.places.now c.requires c.in-TransversalRank.is
+transversal_term-requires-clause-each c = transversal-each (parts_of c.args.parts.now) c.args.values.now c.args.places.now c.requires.read c.in-TransversalRank.is
 
 pub transversal_term-requires-clause-elements : goal.transversal_term-requires-clause-elements
-transversal_term-requires-clause-elements c = transversal-elements (parts_of c.args.parts.now) c.args.values.now c.args.places.now c.requires c.in-TransversalRank.is
+transversal_term-requires-clause-elements c = transversal-elements (parts_of c.args.parts.now) c.args.values.now c.args.places.now c.requires.read c.in-TransversalRank.is
 
 pub transversal_term-requires-clause-low : goal.transversal_term-requires-clause-low
-transversal_term-requires-clause-low c = read-low RankWord (parts_of c.args.parts.now) c.args.values.now c.args.places.now c.requires refl
+transversal_term-requires-clause-low c = read-low RankWord (parts_of c.args.parts.now) c.args.values.now c.args.places.now c.requires.read refl
 
 pub transversal_term-requires-clause-small : goal.transversal_term-requires-clause-small
-transversal_term-requires-clause-small c = read-small RankWord (parts_of c.args.parts.now) c.args.values.now c.args.places.now c.requires
+transversal_term-requires-clause-small c = read-small RankWord (parts_of c.args.parts.now) c.args.values.now c.args.places.now c.requires.read

@@ -1,5 +1,5 @@
 -- Each kind of part is read in turn, and what was read before rules out the reasons that come earlier.
-use Rattle.std.proofs.Common.{ℕ, ℤ, List, Contains, refl}
+use Rattle.std.proofs.Common.{ℕ, ℤ, List, Contains, refl, arith}
 use Rattle.std.proofs.lemmas.Bool.{false≢true}
 use Rattle.sfm_spec.specs.Names.{IsName}
 use Rattle.sfm_kind.specs.Names.{IsNewName}
@@ -11,6 +11,7 @@ use Rattle.sfm_text.specs.Words.{HasParts, lowest_of, BreaksLaw, IsTermOf}
 use Rattle.sfm_text.specs.TermLines.{IsNumberFrom, IsElement, StandsTwice}
 use Rattle.sfm_text.specs.Reading.{HasStranger, HasWrongLabel, HasSlotTwice}
 use Rattle.sfm_text.specs.ReadParts.{parts_of}
+use Rattle.sfm_text.proofs.FewLabels.{parts-few}
 use Rattle.sfm_text.proofs.Matches.{length-Matched}
 use Rattle.sfm_text.proofs.TermReasons.{at-number, at-name, at-stranger, at-label, at-twice, at-member-twice, at-slot-twice, at-law, none-total, elements-placed}
 use Rattle.sfm_text.proofs.term_line.read_term.Goals as goal
@@ -35,7 +36,7 @@ returns-then-has_place_twice-clause-refused c =
     let twice : StandsTwice c.in-Some-3.places.items = rw c.deref-6.ensures.value at (c.if-has_place_twice.ensures.0 refl) in
     let members : All (λ names. All (Contains parts.elements) names) parts.groups = rw (c.deref-3.ensures.value, c.deref-4.ensures.value) at c.if-not-are_members.ensures in
     let labels : All (λ texts. All IsName texts) parts.labels = rw c.deref-5.ensures.value at c.if-not-are_labels.ensures in
-    λ line is. at-twice c.args.instance.now c.args.word rest line is parts shape c.in-Some-2.values.items numbers c.in-Some-3.places.items c.requires elements members labels twice
+    λ line is. at-twice c.args.instance.now c.args.word rest line is parts shape c.in-Some-2.values.items numbers c.in-Some-3.places.items c.requires.names elements members labels twice
 
 pub returns-in_default-2-clause-refused : goal.returns-in_default-2-clause-refused
 returns-in_default-2-clause-refused c =
@@ -74,7 +75,7 @@ returns-then-branch-clause-refused c =
     let members : All (λ names. All (Contains parts.elements) names) parts.groups = rw (c.deref-3.ensures.value, c.deref-4.ensures.value) at c.if-not-are_members.ensures in
     let labels : All (λ texts. All IsName texts) parts.labels = rw c.deref-5.ensures.value at c.if-not-are_labels.ensures in
     let twice : Any (λ names. StandsTwice names) parts.groups = rw c.deref-7.ensures.value at rw c.if-branch.true at c.in_ok-has_member_twice.ensures in
-    λ line is. at-member-twice c.args.instance.now c.args.word rest line is parts shape c.in-Some-2.values.items numbers c.in-Some-3.places.items c.requires elements members labels twice
+    λ line is. at-member-twice c.args.instance.now c.args.word rest line is parts shape c.in-Some-2.values.items numbers c.in-Some-3.places.items c.requires.names elements members labels twice
 
 pub returns-then-branch-2-clause-refused : goal.returns-then-branch-2-clause-refused
 returns-then-branch-2-clause-refused c =
@@ -87,10 +88,10 @@ returns-then-branch-2-clause-refused c =
     let members : All (λ names. All (Contains parts.elements) names) parts.groups = rw (c.deref-3.ensures.value, c.deref-4.ensures.value) at c.if-not-are_members.ensures in
     let labels : All (λ texts. All IsName texts) parts.labels = rw c.deref-5.ensures.value at c.if-not-are_labels.ensures in
     let twice : HasSlotTwice parts.rank parts.labels = rw c.deref-8.ensures.value at rw c.if-branch-2.true at c.in_ok-has_slot_twice.ensures in
-    λ line is. at-slot-twice c.args.instance.now c.args.word rest line is parts shape c.in-Some-2.values.items numbers c.in-Some-3.places.items c.requires elements members labels twice
+    λ line is. at-slot-twice c.args.instance.now c.args.word rest line is parts shape c.in-Some-2.values.items numbers c.in-Some-3.places.items c.requires.names elements members labels twice
 
-pub make_term-requires : goal.make_term-requires
-make_term-requires c =
+pub make_term-requires-clause-read : goal.make_term-requires-clause-read
+make_term-requires-clause-read c =
     let rest = texts_of c.args.tokens.now in
     let names = c.args.instance.now.names in
     let parts : LineParts = parts_of c.in-Some.parts in
@@ -103,7 +104,7 @@ make_term-requires c =
       shape = shape;
       numbers = numbers;
       elements = length-Matched (IsElement names) parts.elements c.in-Some-3.places.items elements;
-      placed = elements-placed names parts.elements c.in-Some-3.places.items (c.requires.few) elements once;
+      placed = elements-placed names parts.elements c.in-Some-3.places.items (c.requires.names.few) elements once;
     })
 
 pub returns-clause-refused : goal.returns-clause-refused
@@ -122,7 +123,7 @@ returns-clause-refused c =
     let labels : All (λ texts. All IsName texts) parts.labels = rw c.deref-5.ensures.value at c.if-not-are_labels.ensures in
     let members_once : All (λ names. StandsTwice names → ⊥) parts.groups = rw c.deref-7.ensures.value at rw c.if-branch.false at c.in_ok-has_member_twice.ensures in
     let slots_once : HasSlotTwice parts.rank parts.labels → ⊥ = rw c.deref-8.ensures.value at rw c.if-branch-2.false at c.in_ok-has_slot_twice.ensures in
-    λ line is. at-law c.args.instance.now c.args.word rest line is parts shape values numbers places c.requires elements members labels once members_once slots_once breaks
+    λ line is. at-law c.args.instance.now c.args.word rest line is parts shape values numbers places c.requires.names elements members labels once members_once slots_once breaks
 
 pub returns-in-Some-4-clause-read : goal.returns-in-Some-4-clause-read
 returns-in-Some-4-clause-read c =
@@ -152,5 +153,14 @@ returns-in-Some-4-clause-read c =
         elements = elements;
         made = made.0;
       };
-      good = λ line reason is. none-total c.args.instance.now c.args.word rest line is parts shape values numbers places c.requires elements members labels once members_once slots_once made.1 reason;
+      good = λ line reason is. none-total c.args.instance.now c.args.word rest line is parts shape values numbers places c.requires.names elements members labels once members_once slots_once made.1 reason;
     }
+
+pub make_term-requires-clause-few : goal.make_term-requires-clause-few
+make_term-requires-clause-few c =
+    let rest = texts_of c.args.tokens.now in
+    let parts : LineParts = parts_of c.in-Some.parts in
+    let shape : HasParts c.args.word rest parts = rw c.in-Some.is at c.in_ok-parts.ensures in
+    let few = parts-few c.args.word rest parts shape in
+    let short = c.requires.short in
+    omega (arith, few, short)

@@ -3,7 +3,14 @@ use Rattle.sfm_text.specs.Lines.{texts_of}
 use Rattle.sfm_text.specs.LabelTerms.{distinct_of, joined, place_among}
 use Rattle.sfm_text.specs.ReadParts.{label_lists_of}
 use Rattle.sfm_text.proofs.ReadLines.{kept-at}
+use Rattle.sfm_text.proofs.FewLabels.{keys-few}
 use Rattle.sfm_text.proofs.transversal_line.transversal_term.Goals as goal
+
+pub entries-requires : goal.entries-requires
+entries-requires c =
+    let lists = label_lists_of c.args.parts.now.labels.items in
+    let names : texts_of c.in_ok-names.names.keys ≡ distinct_of (joined lists) = rw c.deref.ensures.value at c.in_ok-names.ensures in
+    record { few = keys-few c.in_ok-names.names.keys (joined lists) names c.requires.few }
 
 pub returns : goal.returns
 returns c =

@@ -5,12 +5,12 @@ use Rattle.sfm_text.proofs.lines.Lines.next_line.Goals as goal
 pub returns-clause-next : goal.returns-clause-next
 returns-clause-next c =
     let s = c.args.self.now in
-    lines_from-at s.text.now s.number s.at c.line_end-end.result c.min.result c.without_return.result.now _ (rest-is s.text.now s.at s.within) (not_empty _ (c.if-is_empty.ensures)) c.line_end-end.ensures c.min.ensures c.without_return.ensures
+    lines_from-at s.text.now s.number s.at c.line_end-end.result c.min.result c.without_return.result.now _ (rest-is s.text.now s.at s.within) (not_empty _ (c.if-is_empty.ensures)) c.line_end-end.ensures c.min.ensures c.without_return.ensures.stripped
 
 pub returns-clause-placed : goal.returns-clause-placed
 returns-clause-placed c =
     let s = c.args.self.now in
-    lies-at s.text.now s.number s.at c.line_end-end.result c.without_return.result.now _ (rest-is s.text.now s.at s.within) s.within c.without_return.ensures
+    lies-at s.text.now s.number s.at c.line_end-end.result c.without_return.result.now _ (rest-is s.text.now s.at s.within) s.within c.without_return.ensures.stripped
 
 pub returns-clause-same_text : goal.returns-clause-same_text
 returns-clause-same_text c = record { text = refl; last = omega (arith, ap length (returns-clause-next c)) }
