@@ -10,6 +10,7 @@ pub mod Steps
 pub mod Pieces
 pub mod Ranks
 pub mod Numbering
+pub mod Known
 pub mod Members
 pub mod Numbers
 pub mod Repeats

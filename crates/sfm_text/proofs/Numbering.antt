@@ -16,7 +16,7 @@ has x texts = list_any (λ y. bytes_eq x y) texts
 
 -- texts that are not some other text are kept by the filter that leaves it out
 module _ (t x : List ℕ) (apart : bytes_eq x t ≡ false) where
-  has-others : (texts : List (List ℕ)) → has x (filter (λ y. not (bytes_eq t y)) texts) ≡ has x texts
+  pub has-others : (texts : List (List ℕ)) → has x (filter (λ y. not (bytes_eq t y)) texts) ≡ has x texts
   has-others [] = refl
   has-others (y ∷ texts) = at (bytes_eq t y) refl (has-others texts)
     where

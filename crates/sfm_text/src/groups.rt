@@ -1,15 +1,19 @@
 // The groups of a line: whether their names are those of the line's elements, whether one stands twice, and the term that
-// they make. A group's members are found by going through the elements in order, so that they ascend.
-ghost use Rattle.std.specs.Prelude.{◌≡◌, ◌+◌, ◌^◌, length, pos, ◌≤ℤ◌, Any, Contains, IfOk, MatchBool, MatchOption};
+// they make. Names are sought in a set of the elements, since a line may have millions of either. A group's members are
+// found by going through the elements in order, so that they ascend.
+ghost use Rattle.std.specs.Prelude.{◌≡◌, ◌+◌, ◌^◌, ℕ, List, length, pos, ◌≤ℤ◌, Any, Contains, IfOk, MatchBool, MatchOption};
 ghost use Rattle.std.specs.List.{All};
 ghost use Rattle.sfm_spec.specs.Bounds.{IsAtMost, AreElements};
 ghost use Rattle.sfm_text.specs.Lines.{texts_of, text_lists_of};
+ghost use Rattle.sfm_text.specs.LabelTerms.{distinct_of};
 ghost use Rattle.sfm_text.specs.RankLines.{is_among, members_of, groups_of, HasCrossing, IsLaminarTerm};
 ghost use Rattle.sfm_text.specs.TermLines.{StandsTwice};
 ghost use Rattle.sfm_text.specs.ReadParts.{parts_of};
 
+use crate::labels::add_names;
 use crate::parts::Parts;
 use crate::repeat::has_repeat;
+use indexmap::IndexSet;
 use sfm_base::Memory;
 use sfm_kind::Kind;
 use sfm_laminar::{Groups, Laminar, LaminarEnd};
@@ -22,14 +26,30 @@ fn is_one_of(texts: &[&[u8]], text: &[u8]) -> bool
     texts.iter().any(|other| *other == text)
 }
 
-/// Whether each name is one of the elements.
-fn are_elements(elements: &[&[u8]], names: &[&[u8]]) -> bool
-    ensures { MatchBool result
-        (All (Contains (texts_of elements.now)) (texts_of names.now))
-        (Any (λ name. Contains (texts_of elements.now) name → ⊥) (texts_of names.now)) }
+/// The different elements.
+fn known<'a>(alloc: Global, elements: &[&'a [u8]]) -> Result<IndexSet<&'a [u8]>, Memory>
+    ensures { IfOk result (λ r. texts_of r.keys ≡ distinct_of (texts_of elements.now)) }
+{
+    let mut known = IndexSet::new(alloc);
+    add_names(&mut known, elements)?;
+    Ok(known)
+}
+
+/// Whether a text is one of the texts of which these are the different ones.
+fn is_known(known: &IndexSet<&[u8]>, text: &[u8]) -> bool
+    ensures { (texts : List (List ℕ)) → texts_of known.now.keys ≡ distinct_of texts → result ≡ is_among texts text.now }
+{
+    known.contains(text)
+}
+
+/// Whether each name is one of the texts of which these are the different ones.
+fn are_known(known: &IndexSet<&[u8]>, names: &[&[u8]]) -> bool
+    ensures { (texts : List (List ℕ)) → texts_of known.now.keys ≡ distinct_of texts → MatchBool result
+        (All (Contains texts) (texts_of names.now))
+        (Any (λ name. Contains texts name → ⊥) (texts_of names.now)) }
 {
     for name in names {
-        if !is_one_of(elements, name) {
+        if !is_known(known, name) {
             return false;
         }
     }
@@ -37,17 +57,18 @@ fn are_elements(elements: &[&[u8]], names: &[&[u8]]) -> bool
 }
 
 /// Whether each name of each group is one of the elements of the line.
-pub fn are_members(elements: &[&[u8]], groups: &[&[&[u8]]]) -> bool
-    ensures { MatchBool result
+pub fn are_members(alloc: Global, elements: &[&[u8]], groups: &[&[&[u8]]]) -> Result<bool, Memory>
+    ensures { IfOk result (λ r. MatchBool r
         (All (λ names. All (Contains (texts_of elements.now)) names) (text_lists_of groups.now))
-        (Any (λ names. Any (λ name. Contains (texts_of elements.now) name → ⊥) names) (text_lists_of groups.now)) }
+        (Any (λ names. Any (λ name. Contains (texts_of elements.now) name → ⊥) names) (text_lists_of groups.now))) }
 {
+    let known = known(alloc, elements)?;
     for names in groups {
-        if !are_elements(elements, names) {
-            return false;
+        if !are_known(&known, names) {
+            return Ok(false);
         }
     }
-    true
+    Ok(true)
 }
 
 /// Whether a name stands twice in some group.

@@ -65,7 +65,7 @@ pub fn has_slot_twice(alloc: Global, rank: RankKind, labels: &[Labels]) -> Resul
 }
 
 /// Puts those of the texts that are new behind the names.
-fn add_names<'a>(names: &mut IndexSet<&'a [u8]>, texts: &[&'a [u8]]) -> Result<(), Memory>
+pub fn add_names<'a>(names: &mut IndexSet<&'a [u8]>, texts: &[&'a [u8]]) -> Result<(), Memory>
     ensures { OnOk result ((before : List (List ℕ)) → texts_of names.old.keys ≡ distinct_of before
         → texts_of names.new.keys ≡ distinct_of (before ++ texts_of texts.now)) }
 {

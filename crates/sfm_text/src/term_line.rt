@@ -180,7 +180,7 @@ pub fn read_term(
     let Some(places) = read_places(alloc, instance, &parts.elements)? else {
         return Err(LineEnd::Fault(Reason::Name));
     };
-    if !are_members(&parts.elements, &parts.groups) {
+    if !are_members(alloc, &parts.elements, &parts.groups)? {
         return Err(LineEnd::Fault(Reason::Name));
     }
     if !are_labels(&parts.labels) {

@@ -34,7 +34,7 @@ returns-then-has_place_twice-clause-refused c =
     let numbers : Matched (IsNumberFrom (lowest_of c.args.word)) parts.numbers c.in-Some-2.values.items = rw c.deref.ensures.value at rw c.in-Some-2.is at c.in_ok-values.ensures in
     let elements : Matched (IsElement names) parts.elements c.in-Some-3.places.items = rw c.deref-2.ensures.value at rw c.in-Some-3.is at c.in_ok-places.ensures in
     let twice : StandsTwice c.in-Some-3.places.items = rw c.deref-6.ensures.value at (c.if-has_place_twice.ensures.0 refl) in
-    let members : All (λ names. All (Contains parts.elements) names) parts.groups = rw (c.deref-3.ensures.value, c.deref-4.ensures.value) at c.if-not-are_members.ensures in
+    let members : All (λ names. All (Contains parts.elements) names) parts.groups = rw (c.deref-3.ensures.value, c.deref-4.ensures.value) at rw c.if-not-branch.false at c.in_ok-are_members.ensures in
     let labels : All (λ texts. All IsName texts) parts.labels = rw c.deref-5.ensures.value at c.if-not-are_labels.ensures in
     λ line is. at-twice c.args.instance.now c.args.word rest line is parts shape c.in-Some-2.values.items numbers c.in-Some-3.places.items c.requires.names elements members labels twice
 
@@ -46,13 +46,13 @@ returns-in_default-2-clause-refused c =
     let wrong : Any (λ text. (value : ℤ) → IsNumberFrom (lowest_of c.args.word) text value → ⊥) parts.numbers = rw c.deref.ensures.value at rw c.in_default-2.is at c.in_ok-values.ensures in
     λ line is. at-number c.args.instance.now c.args.word rest line is parts shape wrong
 
-pub returns-then-not-are_members-clause-refused : goal.returns-then-not-are_members-clause-refused
-returns-then-not-are_members-clause-refused c =
+pub returns-then-not-branch-clause-refused : goal.returns-then-not-branch-clause-refused
+returns-then-not-branch-clause-refused c =
     let rest = texts_of c.args.tokens.now in
     let parts : LineParts = parts_of c.in-Some.parts in
     let shape : HasParts c.args.word rest parts = rw c.in-Some.is at c.in_ok-parts.ensures in
     let numbers : Matched (IsNumberFrom (lowest_of c.args.word)) parts.numbers c.in-Some-2.values.items = rw c.deref.ensures.value at rw c.in-Some-2.is at c.in_ok-values.ensures in
-    let stranger : HasStranger parts = rw (c.deref-3.ensures.value, c.deref-4.ensures.value) at c.if-not-are_members.ensures in
+    let stranger : HasStranger parts = rw (c.deref-3.ensures.value, c.deref-4.ensures.value) at rw c.if-not-branch.true at c.in_ok-are_members.ensures in
     λ line is. at-stranger c.args.instance.now c.args.word rest line is parts shape c.in-Some-2.values.items numbers stranger
 
 pub returns-then-not-are_labels-clause-refused : goal.returns-then-not-are_labels-clause-refused
@@ -72,7 +72,7 @@ returns-then-branch-clause-refused c =
     let shape : HasParts c.args.word rest parts = rw c.in-Some.is at c.in_ok-parts.ensures in
     let numbers : Matched (IsNumberFrom (lowest_of c.args.word)) parts.numbers c.in-Some-2.values.items = rw c.deref.ensures.value at rw c.in-Some-2.is at c.in_ok-values.ensures in
     let elements : Matched (IsElement names) parts.elements c.in-Some-3.places.items = rw c.deref-2.ensures.value at rw c.in-Some-3.is at c.in_ok-places.ensures in
-    let members : All (λ names. All (Contains parts.elements) names) parts.groups = rw (c.deref-3.ensures.value, c.deref-4.ensures.value) at c.if-not-are_members.ensures in
+    let members : All (λ names. All (Contains parts.elements) names) parts.groups = rw (c.deref-3.ensures.value, c.deref-4.ensures.value) at rw c.if-not-branch.false at c.in_ok-are_members.ensures in
     let labels : All (λ texts. All IsName texts) parts.labels = rw c.deref-5.ensures.value at c.if-not-are_labels.ensures in
     let twice : Any (λ names. StandsTwice names) parts.groups = rw c.deref-7.ensures.value at rw c.if-branch.true at c.in_ok-has_member_twice.ensures in
     λ line is. at-member-twice c.args.instance.now c.args.word rest line is parts shape c.in-Some-2.values.items numbers c.in-Some-3.places.items c.requires.names elements members labels twice
@@ -85,7 +85,7 @@ returns-then-branch-2-clause-refused c =
     let shape : HasParts c.args.word rest parts = rw c.in-Some.is at c.in_ok-parts.ensures in
     let numbers : Matched (IsNumberFrom (lowest_of c.args.word)) parts.numbers c.in-Some-2.values.items = rw c.deref.ensures.value at rw c.in-Some-2.is at c.in_ok-values.ensures in
     let elements : Matched (IsElement names) parts.elements c.in-Some-3.places.items = rw c.deref-2.ensures.value at rw c.in-Some-3.is at c.in_ok-places.ensures in
-    let members : All (λ names. All (Contains parts.elements) names) parts.groups = rw (c.deref-3.ensures.value, c.deref-4.ensures.value) at c.if-not-are_members.ensures in
+    let members : All (λ names. All (Contains parts.elements) names) parts.groups = rw (c.deref-3.ensures.value, c.deref-4.ensures.value) at rw c.if-not-branch.false at c.in_ok-are_members.ensures in
     let labels : All (λ texts. All IsName texts) parts.labels = rw c.deref-5.ensures.value at c.if-not-are_labels.ensures in
     let twice : HasSlotTwice parts.rank parts.labels = rw c.deref-8.ensures.value at rw c.if-branch-2.true at c.in_ok-has_slot_twice.ensures in
     λ line is. at-slot-twice c.args.instance.now c.args.word rest line is parts shape c.in-Some-2.values.items numbers c.in-Some-3.places.items c.requires.names elements members labels twice
@@ -119,7 +119,7 @@ returns-clause-refused c =
     let elements : Matched (IsElement names) parts.elements places = rw c.deref-2.ensures.value at rw c.in-Some-3.is at c.in_ok-places.ensures in
     let once : StandsTwice places → ⊥ = λ t. false≢true (c.if-has_place_twice.ensures.1 (rw c.deref-6.ensures.value t)) in
     let breaks : BreaksLaw c.args.word parts values = rw c.deref-9.ensures.value at rw c.in-None.is at c.in_ok-term.ensures in
-    let members : All (λ names. All (Contains parts.elements) names) parts.groups = rw (c.deref-3.ensures.value, c.deref-4.ensures.value) at c.if-not-are_members.ensures in
+    let members : All (λ names. All (Contains parts.elements) names) parts.groups = rw (c.deref-3.ensures.value, c.deref-4.ensures.value) at rw c.if-not-branch.false at c.in_ok-are_members.ensures in
     let labels : All (λ texts. All IsName texts) parts.labels = rw c.deref-5.ensures.value at c.if-not-are_labels.ensures in
     let members_once : All (λ names. StandsTwice names → ⊥) parts.groups = rw c.deref-7.ensures.value at rw c.if-branch.false at c.in_ok-has_member_twice.ensures in
     let slots_once : HasSlotTwice parts.rank parts.labels → ⊥ = rw c.deref-8.ensures.value at rw c.if-branch-2.false at c.in_ok-has_slot_twice.ensures in
@@ -137,7 +137,7 @@ returns-in-Some-4-clause-read c =
     let elements : Matched (IsElement names) parts.elements places = rw c.deref-2.ensures.value at rw c.in-Some-3.is at c.in_ok-places.ensures in
     let once : StandsTwice places → ⊥ = λ t. false≢true (c.if-has_place_twice.ensures.1 (rw c.deref-6.ensures.value t)) in
     let made : IsTermOf c.args.word parts values places c.in-Some-4.term × (BreaksLaw c.args.word parts values → ⊥) = rw (c.deref-9.ensures.value, c.deref-10.ensures.value) at rw c.in-Some-4.is at c.in_ok-term.ensures in
-    let members : All (λ names. All (Contains parts.elements) names) parts.groups = rw (c.deref-3.ensures.value, c.deref-4.ensures.value) at c.if-not-are_members.ensures in
+    let members : All (λ names. All (Contains parts.elements) names) parts.groups = rw (c.deref-3.ensures.value, c.deref-4.ensures.value) at rw c.if-not-branch.false at c.in_ok-are_members.ensures in
     let labels : All (λ texts. All IsName texts) parts.labels = rw c.deref-5.ensures.value at c.if-not-are_labels.ensures in
     let members_once : All (λ names. StandsTwice names → ⊥) parts.groups = rw c.deref-7.ensures.value at rw c.if-branch.false at c.in_ok-has_member_twice.ensures in
     let slots_once : HasSlotTwice parts.rank parts.labels → ⊥ = rw c.deref-8.ensures.value at rw c.if-branch-2.false at c.in_ok-has_slot_twice.ensures in

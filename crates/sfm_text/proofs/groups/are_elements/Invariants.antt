@@ -1,7 +1,0 @@
-use Rattle.std.proofs.Common.{Contains, take}
-use Rattle.std.specs.List.{All}
-use Rattle.sfm_text.specs.Lines.{texts_of}
-use Rattle.sfm_text.proofs.groups.are_elements.Given as goal
-
-abbrev pub invariant-loop-name : goal.invariant-loop-name
-invariant-loop-name l = All (Contains (texts_of l.elements)) (texts_of (take l.name-index l.names))
