@@ -1,22 +1,18 @@
 -- One walk: that it is a shortest joining one, and what moving along it makes of the bases and of z.
-use Rattle.std.proofs.Common.{◌≡◌, ◌≢◌, ◌⊎◌, ⊎_elim, ℕ, zero, suc, ◌+◌, ◌*◌, ◌^◌, ◌-◌, ◌<◌, ◌≤◌, List, [], ◌∷◌, length, get_or, nat_eq, ℤ, pos, neg_ℤ, ◌+ℤ◌, ◌-ℤ◌, ◌≤ℤ◌, ◌<ℤ◌, if◌then◌else◌, refl, subst, sym, ap, ◌∙◌, arith, inl, inr}
+use Rattle.std.proofs.Common.{◌≡◌, ◌≢◌, ◌⊎◌, ⊎_elim, ℕ, zero, suc, ◌+◌, ◌*◌, ◌^◌, ◌-◌, ◌<◌, ◌≤◌, List, [], ◌∷◌, length, get_or, nat_eq, ℤ, pos, ◌+ℤ◌, ◌-ℤ◌, ◌≤ℤ◌, ◌<ℤ◌, if◌then◌else◌, refl, subst, sym, ap, ◌∙◌, arith, inl, inr}
 use Rattle.std.specs.List.{All}
 use Rattle.std.proofs.lemmas.Bool.{cases_eq, cases_lt, eq-eqb, ne_eqb}
 use Rattle.std.proofs.lemmas.Int.{ints}
-use Rattle.std.proofs.lemmas.List.Elements.{All-get_or, All-from_get_or, All-nil, All-cons}
+use Rattle.std.proofs.lemmas.List.Elements.{All-get_or, All-from_get_or}
 use Rattle.sfm_spec.specs.Terms.{exchanged}
 use Rattle.sfm_spec.specs.Bounds.{IsAtMost, IsEntry}
-use Rattle.sfm_spec.specs.Families.{Meaning, AreTerms, AreBases, rest_at, deficit}
+use Rattle.sfm_spec.specs.Families.{Meaning, AreTerms, AreBases, rest_at}
 use Rattle.sfm_spec.specs.Labels.{FallsAlong}
-use Rattle.sfm_spec.specs.Laws.{MoveLaws}
-use Rattle.sfm_spec.specs.Progress.{TakesLeastSteps, IsProgress}
-use Rattle.sfm_spec.specs.Walks.{Step, term_at, row_at, IsStep, AreSteps, IsWalk, IsWalkMove, IsShortest, AllCanMove, MovesAlong, Joins, last_of}
+use Rattle.sfm_spec.specs.Progress.{TakesLeastSteps}
+use Rattle.sfm_spec.specs.Walks.{Step, term_at, row_at, IsStep, AreSteps, IsWalk, IsShortest, Joins, last_of}
 use Rattle.sfm_spec.proofs.Walks.{terms-at, first_below, step_below}
 use Rattle.sfm_spec.proofs.Labels.{falls_all, falls_within}
-use Rattle.sfm_spec.proofs.LeastWalks.{least_progress}
-use Rattle.sfm_spec.proofs.Moves.{change_small, full_by_greatest}
 use Rattle.sfm_spec.proofs.MoveOrder.{exchanged-first, exchanged-second, exchanged-other}
-use Rattle.sfm_spec.proofs.Gain.{move_laws, rest_moved}
 use Rattle.sfm_walk.specs.declared.bits.Bits.{Bits}
 use Rattle.sfm_walk.specs.declared.walk.Hop.{Hop}
 use Rattle.sfm_walk.specs.Bits.{bit_in, set_at}
@@ -24,9 +20,9 @@ use Rattle.sfm_law.specs.Rest.{IsRest}
 use Rattle.sfm_walk.specs.Reach.{IsTable, table_at}
 use Rattle.sfm_walk.specs.Unions.{AreLinks, IsReadable}
 use Rattle.sfm_walk.specs.Levels.{depth_of, IsFirst, AreClosed}
-use Rattle.sfm_walk.specs.Hops.{IsHop, IsTold, AreHops, AreLeast, AreNamed, IsMovable, Moves, hop_at, step_of, steps_of}
-use Rattle.sfm_walk.specs.State.{IsUpTo}
-use Rattle.sfm_walk.proofs.Following.{depth_has, depth_le, depth_bound}
+use Rattle.sfm_walk.specs.Hops.{IsHop, IsTold, AreHops, AreLeast, AreNamed, IsMovable, hop_at, step_of, steps_of}
+use Rattle.sfm_walk.specs.Run.{IsLeastWalk, IsUpTo}
+use Rattle.sfm_walk.proofs.Following.{length-steps_of, depth_has, depth_le, depth_bound}
 
 -- the steps name their places
 pub hops_named : (terms : List Meaning) (tables : List (List Bits)) (from : ℕ) (hops : List Hop) → AreHops terms tables from hops → AreNamed terms from hops
@@ -56,16 +52,6 @@ module _ (terms : List Meaning) (rows : List (List ℤ)) (n : ℕ) (q : ℤ) (fi
   hops_movable from (x ∷ hops) h zero l = hop_movable from x h.0 h.1
   hops_movable from (x ∷ hops) h (suc k) l = hops_movable x.to hops h.2 k (omega arith)
 
-  -- an amount that each can move
-  pub hops_can : (a : ℤ) (from : ℕ) (hops : List Hop) → AreHops terms tables from hops → ((k : ℕ) → k < length hops → Moves terms q rows (hop_at hops k) a) → AllCanMove terms q rows from (steps_of hops) a
-  hops_can a from [] h moves = tt
-  hops_can a from (x ∷ hops) h moves =
-      let is = h.0 in
-      let m = hop_movable from x h.0 h.1 in (
-        record { in_range = is.term_in; u = x.u; v = x.v; u_in = is.u_in; v_in = is.v_in; begins = is.begins; ends = is.ends; apart = m.apart; base = moves 0 (omega arith) },
-        hops_can a x.to hops h.2 (λ k l. moves (suc k) (omega arith)),
-      )
-
   -- a step is told by the rows
   step_told : (from : ℕ) (step : Step) → IsStep terms q rows from step → IsTold terms tables from step
   step_told from step h =
@@ -76,18 +62,6 @@ module _ (terms : List Meaning) (rows : List (List ℤ)) (n : ℕ) (q : ℤ) (fi
   pub hops_least : (d : ℕ → ℕ) (from : ℕ) (hops : List Hop) → FallsAlong d from (steps_of hops) → AreLeast terms tables d from hops → TakesLeastSteps terms q rows d from (steps_of hops)
   hops_least d from [] falls least = tt
   hops_least d from (x ∷ hops) falls least = (falls.0, (λ other h f. least.0 other (step_told from other h) f), hops_least d x.to hops falls.1 least.1)
-
-  -- what each can move, told by its places
-  pub can_moves : (a : ℤ) (from : ℕ) (hops : List Hop) → AreHops terms tables from hops → AllCanMove terms q rows from (steps_of hops) a → (k : ℕ) → k < length hops → Moves terms q rows (hop_at hops k) a
-  can_moves a from [] h can k l = absurd (omega arith)
-  can_moves a from (x ∷ hops) h can zero l =
-      let is = h.0 in
-      let c = can.0 in
-      let distinct = (terms-at n terms x.term fit is.term_in).placed.distinct in
-      let eu : c.u ≡ x.u = distinct c.u x.u c.u_in is.u_in (c.begins ∙ sym is.begins) in
-      let ev : c.v ≡ x.v = distinct c.v x.v c.v_in is.v_in (c.ends ∙ sym is.ends) in
-      rw (eu, ev) at c.base
-  can_moves a from (x ∷ hops) h can (suc k) l = can_moves a x.to hops h.2 can.1 k (omega arith)
 
 module _ (terms : List Meaning) (rows : List (List ℤ)) (n : ℕ) (q : ℤ) (shift z : List ℤ) (low : pos 0 ≤ℤ q) (fit : AreTerms n terms) (bases : AreBases q terms rows) (zn : length z ≡ n) (rest : IsRest terms shift rows z) (unions : List Bits) (links : AreLinks terms n q rows unions)
     (levels : List Bits) (first : ℕ) (begin : IsFirst n unions z levels first) where
@@ -146,56 +120,28 @@ module _ (terms : List Meaning) (rows : List (List ℤ)) (n : ℕ) (q : ℤ) (sh
       ends_below from [] l h = l
       ends_below from (s ∷ ss) l h = ends_below s.to ss (step_below terms rows n q low fit bases from s h.0) h.1
 
-    module _ (a : ℤ) (one : pos 1 ≤ℤ a) (can : AllCanMove terms q rows first steps a) (under : a ≤ℤ neg_ℤ (get_or z first (pos 0))) (over : a ≤ℤ get_or z (last_of first steps) (pos 0)) where
-      by_first : a ≤ℤ neg_ℤ (rest_at terms rows shift first)
-      by_first = rw (← rest.exact first (rw zn first_in)) under
+  -- the walk of least steps that the levels and the rows tell
+  pub least_walk : (tables : List (List Bits)) → ((i : ℕ) → i < length terms → IsTable terms q rows i (table_at tables i)) → (hops : List Hop) → 0 < length hops → AreHops terms tables first hops → FallsAlong (depth_of levels) first (steps_of hops)
+      → AreLeast terms tables (depth_of levels) first hops → bit_in (set_at levels 0) (last_of first (steps_of hops)) ≡ 1 → IsLeastWalk terms n q shift rows z (depth_of levels) first hops
+  least_walk tables right hops some hh falls least arrives = record {
+    some = some;
+    named = hops_named terms tables first hops hh;
+    movable = hops_movable terms rows n q fit tables right first hops hh;
+    shortest = walk_shortest (steps_of hops) fits more falls arrives;
+    first_in = first_in (steps_of hops) fits more falls arrives;
+    last_in = last_in (steps_of hops) fits more falls arrives;
+    under = begin.under;
+    over = last_over (steps_of hops) fits more falls arrives;
+    falls = falls;
+    least = hops_least terms rows n q fit tables right (depth_of levels) first hops falls least;
+    no_faster = depth_falls;
+    ends = over_depth;
+  } where
+    fits : AreSteps terms q rows first (steps_of hops)
+    fits = hops_steps terms rows n q fit tables right first hops hh
 
-      by_last : a ≤ℤ rest_at terms rows shift (last_of first steps)
-      by_last = rw (← rest.exact (last_of first steps) (rw zn last_in)) over
-
-      pub laws : MoveLaws terms n q shift rows first steps a
-      laws = move_laws terms rows n q shift low fit bases first steps a walk_shortest one can by_first by_last
-
-      -- it is progress, where the steps are least and no greater amount is allowed
-      pub progress : (after : List (List ℤ)) → IsWalkMove terms rows first steps a after → TakesLeastSteps terms q rows (depth_of levels) first steps
-          → ((b : ℤ) → AllCanMove terms q rows first steps b → b ≤ℤ neg_ℤ (get_or z first (pos 0)) → b ≤ℤ get_or z (last_of first steps) (pos 0) → b ≤ℤ a) → IsProgress terms n q shift rows after
-      progress after w least greatest =
-          least_progress terms rows n q shift low fit bases (depth_of levels) over_depth depth_falls after
-          (record { first = first; steps = steps; a = a; shortest = walk_shortest; some = one; by_steps = can; by_first = by_first; by_last = by_last; moved = w }) least
-          (full_by_greatest terms rows n q low fit bases a one shift first steps can by_first by_last
-          (λ b can' under' over'. greatest b can' (rw (rest.exact first (rw zn first_in)) under') (rw (rest.exact (last_of first steps) (rw zn last_in)) over')))
-
-      -- z after the move
-      pub rest_after : (after : List (List ℤ)) (z' : List ℤ) → IsWalkMove terms rows first steps a after → length z' ≡ length z
-          → ((e : ℕ) → e < length z → get_or z' e (pos 0) ≡ (get_or z e (pos 0) +ℤ ((if nat_eq first e then a else pos 0) -ℤ (if nat_eq (last_of first steps) e then a else pos 0)))) → IsRest terms shift after z'
-      rest_after after z' w same each = record {
-        places = same ∙ rest.places;
-        exact = λ e l.
-            let l' : e < length z = rw same at l in
-            let m = rest_moved terms rows n q low fit bases first steps a one can shift after w e in
-            let r = rest.exact e l' in
-            let k = each e l' in
-            k ∙ (ap (λ y. y +ℤ ((if nat_eq first e then a else pos 0) -ℤ (if nat_eq (last_of first steps) e then a else pos 0))) r ∙ sym m);
-      }
-
-      -- no entry has changed by more than the deficit has risen
-      pub spread : (after : List (List ℤ)) → IsWalkMove terms rows first steps a after → (b : ℤ) → All (λ x. All (IsUpTo b) x) rows
-          → All (λ x. All (IsUpTo (b +ℤ (deficit n (rest_at terms after shift) -ℤ deficit n (rest_at terms rows shift)))) x) after
-      spread after w b small =
-          let gain = laws.gains after w in
-          All-from_get_or (λ x. All (IsUpTo (b +ℤ (deficit n (rest_at terms after shift) -ℤ deficit n (rest_at terms rows shift)))) x) after [] (λ i li.
-          All-from_get_or (IsUpTo (b +ℤ (deficit n (rest_at terms after shift) -ℤ deficit n (rest_at terms rows shift)))) (row_at after i) (pos 0) (λ j lj.
-          let li' : i < length rows = rw w.same_count at li in
-          let lj' : j < length (row_at rows i) = rw (w.same_lengths i) at lj in
-          let c = w.changed i j lj' in
-          let s = change_small (depth_of levels) first steps i (get_or (term_at terms i).places j 0) a (omega (arith, ints, one)) falls in
-          let o : IsUpTo b (get_or (row_at rows i) j (pos 0)) = All-get_or (IsUpTo b) (row_at rows i) j (pos 0) lj' (All-get_or (λ x. All (IsUpTo b) x) rows i [] li' small) in
-          record { low = omega (arith, ints, c, s, o.low, gain); high = omega (arith, ints, c, s, o.high, gain) }))
-
--- the steps of hops none of which is of the term i
-pub hops_others : (hops : List Hop) (i : ℕ) → ((k : ℕ) → k < length hops → (hop_at hops k).term ≢ i) → All (λ step. step.term ≢ i) (steps_of hops)
-hops_others [] i h = All-nil (λ step. step.term ≢ i)
-hops_others (x ∷ hops) i h = All-cons (λ step. step.term ≢ i) (step_of x) (steps_of hops) (h 0 (omega arith)) (hops_others hops i (λ k l. h (suc k) (omega arith)))
+    more : 0 < length (steps_of hops)
+    more = omega (arith, some, length-steps_of hops)
 
 -- where the row of a term is the same its rows of reach stay right
 pub table_kept : (terms : List Meaning) (q : ℤ) (rows after : List (List ℤ)) (i : ℕ) (table : List Bits) → row_at after i ≡ row_at rows i → IsTable terms q rows i table → IsTable terms q after i table

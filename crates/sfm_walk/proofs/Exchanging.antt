@@ -1,5 +1,5 @@
 -- The exchanges of a walk, from its last step to its first.
-use Rattle.std.proofs.Common.{◌≡◌, ◌≢◌, ⊎_elim, ℕ, zero, suc, ◌*◌, ◌^◌, ◌<◌, ◌≤◌, List, [], ◌∷◌, ◌++◌, length, get_or, set, take, drop, ℤ, pos, ◌≤ℤ◌, refl, sym, ap, ◌∙◌, arith}
+use Rattle.std.proofs.Common.{◌≡◌, ◌≢◌, ⊎_elim, ℕ, zero, suc, ◌*◌, ◌^◌, ◌<◌, ◌≤◌, List, [], ◌∷◌, ◌++◌, length, get_or, set, take, drop, ℤ, pos, ◌≤ℤ◌, refl, sym, ap, subst, ◌∙◌, arith, get_or-set_same}
 use Rattle.std.proofs.lemmas.Int.{ints}
 use Rattle.std.proofs.lemmas.List.Elements.{All-get_or, All-from_get_or}
 use Rattle.std.specs.List.{All}
@@ -13,10 +13,11 @@ use Rattle.sfm_spec.proofs.Sums.{length-exchanged}
 use Rattle.sfm_spec.proofs.Walks.{terms-at, bases-at}
 use Rattle.sfm_spec.proofs.Moves.{move_none, move_more, change_small}
 use Rattle.sfm_spec.proofs.Capacity.{capacity_or_unsplit}
+use Rattle.sfm_law.proofs.Lists.{length-bases}
 use Rattle.sfm_law.specs.declared.room.Room.TheVariants.{Upto, Unbounded}
 use Rattle.sfm_law.specs.Room.{IsWithinRoom}
 use Rattle.sfm_walk.specs.declared.walk.Hop.{Hop}
-use Rattle.sfm_walk.specs.Hops.{IsHop, AreNamed, AreInOrder, hop_at, step_of, steps_of}
+use Rattle.sfm_walk.specs.Hops.{IsHop, AreNamed, AreInOrder, CanExchange, hop_at, step_of, steps_of}
 
 -- with a row that is a base the rows stay bases
 pub bases_set : (q : ℤ) (terms : List Meaning) (rows : List (List ℤ)) (i : ℕ) (y : List ℤ) → AreBases q terms rows → i < length terms → length y ≡ length (term_at terms i).places
@@ -120,6 +121,11 @@ module _ (terms : List Meaning) (n : ℕ) (q : ℤ) (fit : AreTerms n terms) (in
           (length-exchanged (row_at rows (hop_at hops k).term) (hop_at hops k).u (hop_at hops k).v a ∙ row_base.0) next_base;
     }
 
+  -- the exchange of the step, from bases
+  pub exchange_moved : AreBases q terms init → (k : ℕ) (rows : List (List ℤ)) → HaveMoved terms q init first hops a (suc k) rows
+      → HaveMoved terms q init first hops a k (set rows (hop_at hops k).term (exchanged (row_at rows (hop_at hops k).term) (hop_at hops k).u (hop_at hops k).v a))
+  exchange_moved bases k rows h = have_moved_more k rows h (bases-at q terms init (hop_at hops k).term bases (names k rows h).term_in).0 (length-bases q terms init bases)
+
   -- no entry has changed by more than the amount
   pub moved_small : (d : ℕ → ℕ) → FallsAlong d first (steps_of hops) → All (λ x. All (IsAtMost (5 * 10 ^ 29)) x) init → a ≤ℤ pos (5 * 10 ^ 29) → (k : ℕ) (rows : List (List ℤ)) → HaveMoved terms q init first hops a k rows
       → (i : ℕ) → i < length init → All IsEntry (row_at rows i)
@@ -129,6 +135,33 @@ module _ (terms : List Meaning) (n : ℕ) (q : ℤ) (fit : AreTerms n terms) (in
       let b : IsAtMost (5 * 10 ^ 29) (get_or (row_at init i) j (pos 0)) = All-get_or (IsAtMost (5 * 10 ^ 29)) (row_at init i) j (pos 0) l' (All-get_or (λ x. All (IsAtMost (5 * 10 ^ 29)) x) init i [] li small) in
       let s = change_small d (begin_of first hops k) (steps_of (drop k hops)) i (get_or (term_at terms i).places j 0) a (omega (arith, ints, one)) (falls_drop d first hops k h.few falls) in
       record { low = omega (arith, ints, c, b.low, s, high); high = omega (arith, ints, c, b.high, s, high) })
+
+  -- so the next exchange can be made
+  pub can_exchange : (d : ℕ → ℕ) → FallsAlong d first (steps_of hops) → All (λ x. All (IsAtMost (5 * 10 ^ 29)) x) init → a ≤ℤ pos (5 * 10 ^ 29) → AreBases q terms init → (k : ℕ) (rows : List (List ℤ)) → HaveMoved terms q init first hops a (suc k) rows
+      → CanExchange terms q rows (hop_at hops k) a
+  can_exchange d falls small high bases k rows h = record {
+    term_in = named'.term_in;
+    small = moved_small d falls small high (suc k) rows h i li;
+    after = subst (All IsEntry) (get_or-set_same rows i y [] lr) (moved_small d falls small high k (set rows i y) (exchange_moved bases k rows h) i li);
+    apart = next_apart k rows h;
+    raised = rw (row_base k rows h).0 named'.u_in;
+    lowered = rw (row_base k rows h).0 named'.v_in;
+    room = next_room k rows h;
+  } where
+    named' : IsHop terms (begin_of first hops k) (hop_at hops k)
+    named' = names k rows h
+
+    i : ℕ
+    i = (hop_at hops k).term
+
+    y : List ℤ
+    y = exchanged (row_at rows (hop_at hops k).term) (hop_at hops k).u (hop_at hops k).v a
+
+    li : (hop_at hops k).term < length init
+    li = rw (length-bases q terms init bases) named'.term_in
+
+    lr : (hop_at hops k).term < length rows
+    lr = rw (length-bases q terms rows h.bases) named'.term_in
 
   -- before the first exchange
   pub have_moved_none : AreBases q terms init → HaveMoved terms q init first hops a (length hops) init

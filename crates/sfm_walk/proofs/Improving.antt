@@ -1,22 +1,38 @@
--- The state at the start of each walk.
-use Rattle.std.proofs.Common.{◌≡◌, ℕ, ◌^◌, Bool, List, [], length, ℤ, pos, ◌+ℤ◌, ◌-ℤ◌, ◌≤ℤ◌, get_or, arith}
+-- The run at the start of each walk.
+use Rattle.std.proofs.Common.{◌≡◌, ℕ, ◌*◌, ◌^◌, ◌<◌, ◌≤◌, Bool, List, [], length, ℤ, pos, neg_ℤ, nat_abs, ◌+ℤ◌, ◌-ℤ◌, ◌≤ℤ◌, get_or, subst, arith}
 use Rattle.std.specs.List.{All}
 use Rattle.std.proofs.lemmas.Int.{ints}
 use Rattle.std.proofs.lemmas.List.Elements.{All-get_or, All-from_get_or}
 use Rattle.sfm_spec.specs.Bounds.{IsAtMost}
-use Rattle.sfm_spec.specs.Terms.{SetFunction}
-use Rattle.sfm_spec.specs.Families.{meanings, rest_at, deficit}
-use Rattle.sfm_spec.specs.Walks.{row_at}
+use Rattle.sfm_spec.specs.Terms.{SetFunction, IsFamily, IsSubmodular}
+use Rattle.sfm_spec.specs.Families.{meanings, rest_at, deficit, AreTerms, IsLeast, Prove}
+use Rattle.sfm_spec.specs.Progress.{IsProgress}
+use Rattle.sfm_spec.specs.Walks.{Step, Joins, row_at}
+use Rattle.sfm_spec.proofs.Gain.{moves_along}
+use Rattle.sfm_spec.proofs.Moves.{deficit_not_above}
+use Rattle.sfm_spec.proofs.Proving.{prove_if_none}
 use Rattle.sfm_walk.specs.declared.bits.Bits.{Bits}
-use Rattle.sfm_walk.specs.declared.spots.Spot.{Spot}
-use Rattle.sfm_walk.specs.State.{IsState, IsUpTo}
+use Rattle.sfm_walk.specs.declared.graph.Graph.{Graph}
+use Rattle.sfm_walk.specs.declared.run.Run.{Run}
+use Rattle.sfm_walk.specs.Bits.{bit_in, set_at}
+use Rattle.sfm_walk.specs.Graph.{IsWhole}
+use Rattle.sfm_walk.specs.Levels.{AreClosed}
+use Rattle.sfm_walk.specs.Reached.{AreReached, IsSetOf}
+use Rattle.sfm_walk.specs.Run.{IsRunAt, IsUpTo}
+use Rattle.sfm_walk.specs.Unions.{AreLinks}
+use Rattle.sfm_walk.proofs.Advancing.{none_joins}
+use Rattle.sfm_walk.proofs.Gaps.{abs_falls}
+use Rattle.sfm_walk.proofs.Least.{least_is, link_below}
+use Rattle.sfm_walk.proofs.Uniting.{links_of}
+use Rattle.sfm_walk.proofs.WholeGraphs.{are_terms, counted, low, unions_count}
 
--- what is kept is right, the sum of min(z, 0) is not below that at first, and no entry has changed by more than it has risen
-pub record IsRun {X N : Type 0} (places : X → List ℕ) (value : X → SetFunction) (fits : X → N → ℤ → List ℤ → Type 0) (terms : List X) (q : ℤ) (shift : List ℤ) (init bases : List (List ℤ)) (z : List ℤ) (notes : List N)
-    (parts : List (List Bool)) (rows : List (List Bits)) (spots : List (List Spot)) (unions : List Bits) : Type 0 where
-  pub state : IsState places value fits terms q shift bases z notes parts rows spots unions
-  pub risen : deficit (length shift) (rest_at (meanings places value terms) init shift) ≤ℤ deficit (length shift) (rest_at (meanings places value terms) bases shift)
-  pub small : All (λ x. All (IsUpTo (pos (10 ^ 25) +ℤ (deficit (length shift) (rest_at (meanings places value terms) bases shift) -ℤ deficit (length shift) (rest_at (meanings places value terms) init shift)))) x) bases
+-- the graph is whole, z and its signs are those of its bases, the sum of min(z, 0) is not below that at first, and no entry
+-- has changed by more than it has risen
+pub record IsImproving {X N : Type 0} (places : X → List ℕ) (value : X → SetFunction) (size : X → ℤ) (fits : X → N → ℤ → List ℤ → Type 0) (terms : List X) (q : ℤ) (shift : List ℤ) (init : List (List ℤ)) (graph : Graph N) (run : Run) : Type 0 where
+  pub whole : IsWhole places value size fits terms (length shift) q graph
+  pub at : IsRunAt (meanings places value terms) shift graph.bases run
+  pub risen : deficit (length shift) (rest_at (meanings places value terms) init shift) ≤ℤ deficit (length shift) (rest_at (meanings places value terms) graph.bases shift)
+  pub small : All (λ x. All (IsUpTo (pos (10 ^ 25) +ℤ (deficit (length shift) (rest_at (meanings places value terms) graph.bases shift) -ℤ deficit (length shift) (rest_at (meanings places value terms) init shift)))) x) graph.bases
 
 -- entries of a bound that has not grown
 pub same_bound : (rows : List (List ℤ)) (b : ℤ) → All (λ x. All (IsAtMost (10 ^ 25)) x) rows → pos (10 ^ 25) ≤ℤ b → All (λ x. All (IsUpTo b) x) rows
@@ -33,3 +49,65 @@ at_most m rows b h le = All-from_get_or (λ x. All (IsAtMost m) x) rows [] (λ i
 -- a bound told otherwise
 pub bound_is : (rows : List (List ℤ)) (b c : ℤ) → All (λ x. All (IsUpTo b) x) rows → b ≡ c → All (λ x. All (IsUpTo c) x) rows
 bound_is rows b c h e = rw e at h
+
+module _ {X N : Type 0} {places : X → List ℕ} {value : X → SetFunction} {size : X → ℤ} {fits : X → N → ℤ → List ℤ → Type 0} {terms : List X} {q : ℤ} {shift : List ℤ} {init : List (List ℤ)} {graph : Graph N} {run : Run}
+    (h : IsImproving places value size fits terms q shift init graph run) where
+  -- the sum of min(z, 0), at some rows
+  abbrev D : List (List ℤ) → ℤ
+  D rows = deficit (length shift) (rest_at (meanings places value terms) rows shift)
+
+  -- the entries are small, where the sum of min(z, 0) was not low at first
+  pub small_still : (m : ℕ) → neg_ℤ (pos (4 * 10 ^ 29)) ≤ℤ D init → 5 * 10 ^ 29 ≤ m → All (λ x. All (IsAtMost m) x) graph.bases
+  small_still m gap wide =
+      let up = deficit_not_above (length shift) (rest_at (meanings places value terms) graph.bases shift) in
+      at_most m graph.bases (pos (10 ^ 25) +ℤ (D graph.bases -ℤ D init)) h.small (omega (arith, ints, gap, up, wide))
+
+  pub gap_still : neg_ℤ (pos (4 * 10 ^ 29)) ≤ℤ D init → neg_ℤ (pos (5 * 10 ^ 29)) ≤ℤ D graph.bases
+  gap_still gap = let r = h.risen in omega (arith, ints, gap, r)
+
+  module _ (family : (x : X) → IsFamily (length (places x)) (value x)) (law : (x : X) → IsSubmodular (length (places x)) (value x)) where
+    fit : AreTerms (length shift) (meanings places value terms)
+    fit = are_terms h.whole family law
+
+    -- one walk more
+    module _ (after : List (List ℤ)) (p : IsProgress (meanings places value terms) (length shift) q shift graph.bases after) where
+      rises : (D graph.bases +ℤ pos 1) ≤ℤ D after
+      rises = (moves_along (meanings places value terms) graph.bases (length shift) q shift (low h.whole) fit h.whole.exact.are_bases after p.along).1
+
+      pub falls : nat_abs (D after) < nat_abs (D graph.bases)
+      falls = abs_falls (D graph.bases) (D after) (omega (arith, ints, rises)) (deficit_not_above (length shift) (rest_at (meanings places value terms) after shift))
+
+      pub improving_after : (graph' : Graph N) (run' : Run) → graph'.bases ≡ after → IsWhole places value size fits terms (length shift) q graph' → IsRunAt (meanings places value terms) shift after run'
+          → ((b : ℤ) → All (λ x. All (IsUpTo b) x) graph.bases → All (λ x. All (IsUpTo (b +ℤ (D after -ℤ D graph.bases))) x) after) → IsImproving places value size fits terms q shift init graph' run'
+      improving_after graph' run' same whole at spread = record {
+        whole = whole;
+        at = rw same at;
+        risen = rw same (let r = h.risen in omega (arith, ints, r, rises));
+        small = rw same (bound_is after ((pos (10 ^ 25) +ℤ (D graph.bases -ℤ D init)) +ℤ (D after -ℤ D graph.bases)) (pos (10 ^ 25) +ℤ (D after -ℤ D init)) (spread (pos (10 ^ 25) +ℤ (D graph.bases -ℤ D init)) h.small) (omega (arith, ints)));
+      }
+
+    -- where the levels are closed
+    module _ (levels : List Bits) (closed' : AreClosed (length run.z.items) graph.unions.items run.z.items levels) where
+      zn : length run.z.items ≡ length shift
+      zn = h.at.is_rest.places
+
+      closed : AreClosed (length shift) graph.unions.items run.z.items levels
+      closed = subst (λ k. AreClosed k graph.unions.items run.z.items levels) zn closed'
+
+      links : AreLinks (meanings places value terms) (length shift) q graph.bases graph.unions.items
+      links = links_of (meanings places value terms) (length shift) q graph.bases graph.spots.items graph.rows.items graph.unions.items h.whole.exact.are_spots h.whole.exact.are_unions (λ i l. h.whole.exact.tables i (rw (counted h.whole) at l))
+
+      pub none : (first : ℕ) (steps : List Step) → Joins (meanings places value terms) q shift graph.bases first steps → ⊥
+      none = none_joins (meanings places value terms) graph.bases (length shift) q shift run.z.items (low h.whole) fit h.whole.exact.are_bases zn h.at.is_rest graph.unions.items links levels closed
+
+      pub proves : Prove (meanings places value terms) (length shift) q shift graph.bases
+      proves = prove_if_none (meanings places value terms) graph.bases (length shift) q shift (low h.whole) fit h.whole.exact.are_bases none
+
+      pub link_in : (e t : ℕ) → e < length graph.unions.items → bit_in (set_at graph.unions.items e) t ≡ 1 → t < length graph.unions.items
+      link_in e t l bit = rw (unions_count h.whole) (link_below (meanings places value terms) graph.bases (length shift) q shift run.z.items (low h.whole) fit h.whole.exact.are_bases zn h.at.is_rest graph.unions.items links e t (rw (unions_count h.whole) at l) bit)
+
+      pub first_below : (e : ℕ) → bit_in run.signs.under e ≡ 1 → e < length graph.unions.items
+      first_below e one = rw (unions_count h.whole) (let l = ((h.at.signs.below e).0 one).0 in rw zn at l)
+
+      pub least : (found : Bits) → AreReached graph.unions.items run.signs.under found → (s : List Bool) → IsSetOf found (length shift) s → IsLeast (meanings places value terms) (length shift) q shift s
+      least found reached s is = least_is (meanings places value terms) graph.bases (length shift) q shift run.z.items (low h.whole) fit h.whole.exact.are_bases zn h.at.is_rest graph.unions.items links run.signs.under found h.at.signs.below reached s is none

@@ -17,3 +17,6 @@ pub mod Searching
 pub mod Counting
 pub mod Signing
 pub mod Least
+pub mod RowsAfter
+pub mod WholeGraphs
+pub mod Augmenting

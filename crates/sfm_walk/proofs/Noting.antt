@@ -1,5 +1,5 @@
 -- Notes, rows and sets, one for each term.
-use Rattle.std.proofs.Common.{◌≡◌, ⊎_elim, ℕ, zero, suc, ◌+◌, ◌<◌, List, [], ◌∷◌, ◌++◌, length, map, get_or, set, ℤ, refl, sym, ap, ◌∙◌, arith, get_or-set_same, get_or-set_other}
+use Rattle.std.proofs.Common.{◌≡◌, ⊎_elim, ℕ, zero, suc, ◌+◌, ◌<◌, List, [], ◌∷◌, ◌++◌, length, map, get_or, set, ℤ, refl, sym, ap, ◌∙◌, arith, get_or-set_same, get_or-set_other, length-set}
 use Rattle.std.proofs.lemmas.Bool.{cases_eq, cases_lt}
 use Rattle.std.proofs.lemmas.List.{get_or_default, length-append, length-map, get_or-map}
 use Rattle.std.proofs.Math.ListN.{get_or-append}
@@ -98,3 +98,15 @@ sized_meanings places value terms lists h = (
       let (x, is) = there_is terms i l' in
       sized_at places terms lists i x h l' is ∙ sym (ap (λ (u : Meaning). length u.places) (meanings-at places value terms i x l' is))),
 )
+
+-- a list put in place of one as long
+pub sized_set : {A : Type 0} (places : List (List ℕ)) (lists : List (List A)) (i : ℕ) (y : List A) → AreSized places lists → length y ≡ length (get_or lists i []) → AreSized places (set lists i y)
+sized_set places lists i y h same = record {
+  count = length-set lists i y ∙ h.count;
+  lengths = λ j l. ⊎_elim
+      (λ here.
+      let inside : i < length lists = omega (arith, h.count, l, here) in
+      ap (λ z. length (get_or (set lists i y) z [])) here ∙ (ap length (get_or-set_same lists i y [] inside) ∙ (same ∙ (ap (λ z. length (get_or lists z [])) (sym here) ∙ h.lengths j l))))
+      (λ ne. ap length (get_or-set_other lists i j y [] ne) ∙ h.lengths j l)
+      (cases_eq j i);
+}

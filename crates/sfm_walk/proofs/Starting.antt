@@ -3,8 +3,10 @@ use Rattle.std.proofs.Common.{ℕ, zero, suc, ◌*◌, ◌^◌, List, [], ◌∷
 use Rattle.std.specs.List.{All}
 use Rattle.std.proofs.lemmas.Int.{ints}
 use Rattle.sfm_spec.specs.Sets.{magnitudes}
-use Rattle.sfm_spec.specs.Bounds.{IsAtMost, IsFactor}
+use Rattle.sfm_spec.specs.Bounds.{IsAtMost, IsFactor, total_of}
 use Rattle.sfm_spec.proofs.Scaled.{times-mono}
+use Rattle.std.proofs.lemmas.List.{length-map, get_or-map}
+use Rattle.sfm_walk.proofs.WholeGraphs.{sizes_all}
 
 -- the same number for each place
 pub magnitudes-even : (n : ℕ) (p : ℤ) → IsAtMost (10 ^ 24) p → magnitudes (replicate n p) ≤ℤ pos (10 ^ 24 * n)
@@ -30,3 +32,9 @@ module _ {X : Type 0} (size : X → ℤ) (start : X → ℤ → List ℤ) (q : �
       let b = product_small (size x) f (h 0 x (omega arith)) in
       record { low = omega (arith, ints, s.0, b); high = omega (arith, ints, s.1, b) }
   starts_within f (x ∷ xs) h (suc k) d l = starts_within f xs (λ i e lt. h (suc i) e (omega arith)) k d (omega arith)
+
+-- where the sum of all bounds is small that of each term is
+pub each_bounded : {X : Type 0} (size : X → ℤ) (xs : List X) → ((x : X) → pos 0 ≤ℤ size x) → total_of (map size xs) ≤ℤ pos (10 ^ 18) → All (λ x. size x ≤ℤ pos (10 ^ 18)) xs
+each_bounded size xs sound small k d l =
+    let b = sizes_all size xs sound small k (pos 0) (rw length-map l) in
+    rw (← get_or-map size xs k d (pos 0) l) b

@@ -1,5 +1,5 @@
 -- The union rows of places.
-use Rattle.std.proofs.Common.{◌≡◌, ◌≢◌, ◌⊎◌, ⊎_elim, ℕ, ◌+◌, ◌*◌, ◌<◌, ◌≤◌, max, List, [], ◌∷◌, ◌++◌, length, get_or, set, ℤ, zero, suc, refl, sym, ap, ◌∙◌, arith, inl, inr, length-set, get_or-set_same, get_or-set_other}
+use Rattle.std.proofs.Common.{◌≡◌, ◌≢◌, ◌⊎◌, ⊎_elim, ℕ, ◌+◌, ◌*◌, ◌<◌, ◌≤◌, max, List, [], ◌∷◌, ◌++◌, length, get_or, set, ℤ, refl, sym, ap, ◌∙◌, arith, inl, inr, length-set, get_or-set_same, get_or-set_other}
 use Rattle.std.proofs.lemmas.Bool.{cases_eq, cases_lt}
 use Rattle.sfm_walk.specs.declared.bits.Bits.{Bits}
 use Rattle.sfm_walk.specs.declared.spots.Spot.{Spot}
@@ -7,25 +7,16 @@ use Rattle.sfm_walk.specs.Bits.{bit_in, set_at, blank_bits}
 use Rattle.sfm_spec.specs.Families.{Meaning}
 use Rattle.sfm_spec.specs.Walks.{Step, term_at, IsStep}
 use Rattle.sfm_spec.specs.Labels.{step_code}
-use Rattle.sfm_walk.specs.Spots.{AreSpots, spots_at, spot_at}
+use Rattle.sfm_walk.specs.Spots.{AreSpots, IsSpot, spots_at, spot_at}
 use Rattle.sfm_walk.specs.Hops.{IsTold}
 use Rattle.sfm_walk.specs.Reach.{IsTable, table_at}
-use Rattle.sfm_walk.specs.Unions.{IsUnion, AreUnions, AreLinks, HasRows, HaveRows, spot_row}
+use Rattle.sfm_walk.specs.Unions.{IsUnion, AreRenewed, AreUnions, AreLinks, HasRows, HaveRows, spot_row}
 use Rattle.std.proofs.lemmas.List.{get_or_default, length-append}
 use Rattle.std.proofs.Math.Nat.{mul-le-mul_left}
 use Rattle.std.proofs.Math.ListN.{get_or-append}
 use Rattle.std.proofs.Math.Seq.{get_or-append_seam}
 use Rattle.sfm_walk.proofs.Words.{bit_in-lt}
 use Rattle.sfm_walk.proofs.Spotting.{spots_read}
-
--- of the numbers below k one fulfils P, or none does
-some_or_none : {P : ℕ → Type 0} (k : ℕ) → ((u : ℕ) → P u ⊎ (P u → ⊥)) → ((u : ℕ) × (u < k) × P u) ⊎ ((u : ℕ) → u < k → P u → ⊥)
-some_or_none zero test = inr (λ u l p. omega arith)
-some_or_none {P = P} (suc k) test = at (some_or_none k test) (test k) where
-  at : ((u : ℕ) × (u < k) × P u) ⊎ ((u : ℕ) → u < k → P u → ⊥) → P k ⊎ (P k → ⊥) → ((u : ℕ) × (u < suc k) × P u) ⊎ ((u : ℕ) → u < suc k → P u → ⊥)
-  at (inl (u, l, p)) o = inl (u, omega (arith, l), p)
-  at (inr none) (inl p) = inl (k, omega arith, p)
-  at (inr none) (inr lacks) = inr (λ u l p. ⊎_elim (λ less. none u less p) (λ ge. let same : u ≡ k = omega (arith, ge, l) in lacks (rw same at p)) (cases_lt u k))
 
 -- no row joined
 pub union_none : (tables : List (List Bits)) (spots : List Spot) (s : Bits) → ((e : ℕ) → bit_in s e ≡ 0) → IsUnion tables spots 0 s
@@ -53,34 +44,28 @@ union_more tables spots k s s' row h is joined t = (to, from) where
       (λ ge. let same : j ≡ k = omega (arith, ge, lj) in let one : bit_in row t ≡ 1 = rw (is, ← same) bit in omega (arith, m, one, a))
       (cases_lt j k)
 
--- the first k of some places are brought up to the rows, and all other places stay
-pub record IsRenewed (tables : List (List Bits)) (spots : List (List Spot)) (places : List ℕ) (k : ℕ) (before after : List Bits) : Type 0 where
+-- the rows of the places of a set but those ahead are brought up, and all others stay
+pub record IsRenewing (tables : List (List Bits)) (spots : List (List Spot)) (places ahead : Bits) (before after : List Bits) : Type 0 where
   pub count : length after ≡ length before
-  pub renewed : (u : ℕ) → u < k → IsUnion tables (spots_at spots (get_or places u 0)) (length (spots_at spots (get_or places u 0))) (set_at after (get_or places u 0))
-  pub others : (e : ℕ) → ((u : ℕ) → u < k → get_or places u 0 ≡ e → ⊥) → set_at after e ≡ set_at before e
+  pub inside : (e : ℕ) → bit_in ahead e ≡ 1 → bit_in places e ≡ 1
+  pub renewed : (e : ℕ) → bit_in places e ≡ 1 → bit_in ahead e ≡ 0 → IsUnion tables (spots_at spots e) (length (spots_at spots e)) (set_at after e)
+  pub others : (e : ℕ) → bit_in places e ≢ 1 → set_at after e ≡ set_at before e
 
-pub renewed_none : (tables : List (List Bits)) (spots : List (List Spot)) (places : List ℕ) (unions : List Bits) → IsRenewed tables spots places 0 unions unions
-renewed_none tables spots places unions = record { count = refl; renewed = λ u l. absurd (omega arith); others = λ e h. refl }
+pub renewing_begun : (tables : List (List Bits)) (spots : List (List Spot)) (places : Bits) (unions : List Bits) → IsRenewing tables spots places places unions unions
+renewing_begun tables spots places unions = record { count = refl; inside = λ e one. one; renewed = λ e one none. absurd (omega (arith, one, none)); others = λ e h. refl }
 
 -- one place more
-pub renewed_more : (tables : List (List Bits)) (spots : List (List Spot)) (places : List ℕ) (k : ℕ) (before mid : List Bits) (row : Bits) → IsRenewed tables spots places k before mid
-    → get_or places k 0 < length mid → IsUnion tables (spots_at spots (get_or places k 0)) (length (spots_at spots (get_or places k 0))) row
-    → IsRenewed tables spots places (k + 1) before (set mid (get_or places k 0) row)
-renewed_more tables spots places k before mid row h inside union = record {
-  count = length-set mid p row ∙ h.count;
-  renewed = λ u l. at u (cases_eq (get_or places u 0) p) (cases_lt u k) l;
-  others = λ e none. get_or-set_other mid p e row blank_bits (λ same. none k (omega arith) (sym same)) ∙ h.others e (λ u l. none u (omega (arith, l)));
+pub renewing_more : (tables : List (List Bits)) (spots : List (List Spot)) (places ahead ahead' : Bits) (before mid : List Bits) (e : ℕ) (row : Bits) → IsRenewing tables spots places ahead before mid → e < length mid → bit_in ahead e ≡ 1
+    → bit_in ahead' e ≡ 0 → ((k : ℕ) → k ≢ e → bit_in ahead' k ≡ bit_in ahead k) → IsUnion tables (spots_at spots e) (length (spots_at spots e)) row → IsRenewing tables spots places ahead' before (set mid e row)
+renewing_more tables spots places ahead ahead' before mid e row h inside one gone rest union = record {
+  count = length-set mid e row ∙ h.count;
+  inside = λ k bit. ⊎_elim (λ same. absurd (let z : bit_in ahead' e ≡ 1 = rw same at bit in omega (arith, z, gone))) (λ ne. h.inside k (sym (rest k ne) ∙ bit)) (cases_eq k e);
+  renewed = λ k has none. at k (cases_eq k e) has none;
+  others = λ k none. get_or-set_other mid e k row blank_bits (λ same. none (rw same (h.inside e one))) ∙ h.others k none;
 } where
-  p : ℕ
-  p = get_or places k 0
-
-  Right : ℕ → Type 0
-  Right e = IsUnion tables (spots_at spots e) (length (spots_at spots e)) (set_at (set mid p row) e)
-
-  at : (u : ℕ) → (get_or places u 0 ≡ p) ⊎ (get_or places u 0 ≢ p) → (u < k) ⊎ (k ≤ u) → u < k + 1 → Right (get_or places u 0)
-  at u (inl same) o l = rw (same, get_or-set_same mid p row blank_bits inside) union
-  at u (inr ne) (inl less) l = rw (get_or-set_other mid p (get_or places u 0) row blank_bits ne) (h.renewed u less)
-  at u (inr ne) (inr ge) l = absurd (ne (let same : u ≡ k = omega (arith, ge, l) in ap (λ z. get_or places z 0) same))
+  at : (k : ℕ) → (k ≡ e) ⊎ (k ≢ e) → bit_in places k ≡ 1 → bit_in ahead' k ≡ 0 → IsUnion tables (spots_at spots k) (length (spots_at spots k)) (set_at (set mid e row) k)
+  at k (inl same) has none = rw (same, get_or-set_same mid e row blank_bits inside) union
+  at k (inr ne) has none = rw (get_or-set_other mid e k row blank_bits ne) (h.renewed k has (sym (rest k ne) ∙ none))
 
 -- the rows of a term that were read
 pub table_read : (tables : List (List Bits)) (i : ℕ) (table shown : List Bits) → i < length tables → table ≡ get_or tables i table → shown ≡ table → table_at tables i ≡ shown
@@ -124,22 +109,22 @@ union_same tables tables' spots k s same h t = (
   (λ (j, lj, bit). (h t).1 (j, lj, rw (same j lj) at bit)),
 )
 
--- after the rows of one term have changed and the unions of its places are brought up
-pub unions_renewed : (terms : List Meaning) (n : ℕ) (spots : List (List Spot)) (tables tables' : List (List Bits)) (unions unions' : List Bits) (i : ℕ) → AreSpots terms n spots → AreUnions tables spots unions
-    → ((j : ℕ) → j ≢ i → table_at tables' j ≡ table_at tables j) → IsRenewed tables' spots (term_at terms i).places (length (term_at terms i).places) unions unions' → AreUnions tables' spots unions'
-unions_renewed terms n spots tables tables' unions unions' i h all others r = record { count = r.count ∙ all.count; exact = exact } where
-  exact : (e : ℕ) → e < length spots → IsUnion tables' (spots_at spots e) (length (spots_at spots e)) (set_at unions' e)
-  exact e l = at (find (length (term_at terms i).places)) where
-    find : (k : ℕ) → ((u : ℕ) × (u < k) × (get_or (term_at terms i).places u 0 ≡ e)) ⊎ ((u : ℕ) → u < k → get_or (term_at terms i).places u 0 ≡ e → ⊥)
-    find k = some_or_none k (λ u. cases_eq (get_or (term_at terms i).places u 0) e)
-
-    at : ((u : ℕ) × (u < length (term_at terms i).places) × (get_or (term_at terms i).places u 0 ≡ e)) ⊎ ((u : ℕ) → u < length (term_at terms i).places → get_or (term_at terms i).places u 0 ≡ e → ⊥)
-        → IsUnion tables' (spots_at spots e) (length (spots_at spots e)) (set_at unions' e)
-    at (inl (u, lu, is)) = rw is at (r.renewed u lu)
-    at (inr none) = rw (r.others e none) (union_same tables tables' (spots_at spots e) (length (spots_at spots e)) (set_at unions e)
-        (λ j lj. let s = h.sound e j (omega (arith, l, h.count)) lj in
-        ap (λ table. set_at table (spot_at (spots_at spots e) j).local) (others (spot_at (spots_at spots e) j).term (λ same. none (spot_at (spots_at spots e) j).local (rw same at s.local_in) (rw same at s.at))))
-        (all.exact e l))
+-- after some rows of one term have changed and the unions of their places are brought up
+pub unions_renewed : (terms : List Meaning) (n : ℕ) (spots : List (List Spot)) (tables tables' : List (List Bits)) (unions unions' : List Bits) (i : ℕ) (places : Bits) → AreSpots terms n spots → AreUnions tables spots unions
+    → ((j : ℕ) → j ≢ i → table_at tables' j ≡ table_at tables j)
+    → ((u : ℕ) → u < length (term_at terms i).places → bit_in places (get_or (term_at terms i).places u 0) ≢ 1 → set_at (table_at tables' i) u ≡ set_at (table_at tables i) u)
+    → AreRenewed tables' spots places unions unions' → AreUnions tables' spots unions'
+unions_renewed terms n spots tables tables' unions unions' i places h all others rows r = record { count = r.count ∙ all.count; exact = λ e l. exact e l (cases_eq (bit_in places e) 1) } where
+  exact : (e : ℕ) → e < length spots → (bit_in places e ≡ 1) ⊎ (bit_in places e ≢ 1) → IsUnion tables' (spots_at spots e) (length (spots_at spots e)) (set_at unions' e)
+  exact e l (inl one) = r.renewed e one
+  exact e l (inr none) = rw (r.others e none) (union_same tables tables' (spots_at spots e) (length (spots_at spots e)) (set_at unions e) (λ j lj. same j (h.sound e j (omega (arith, l, h.count)) lj) (cases_eq (spot_at (spots_at spots e) j).term i)) (all.exact e l)) where
+    same : (j : ℕ) → IsSpot terms e (spot_at (spots_at spots e) j) → ((spot_at (spots_at spots e) j).term ≡ i) ⊎ ((spot_at (spots_at spots e) j).term ≢ i) → spot_row tables' (spot_at (spots_at spots e) j) ≡ spot_row tables (spot_at (spots_at spots e) j)
+    same j s (inl is) =
+        let k = (spot_at (spots_at spots e) j).local in
+        let at : get_or (term_at terms i).places k 0 ≡ e = rw is at s.at in
+        let row = rows k (rw is at s.local_in) (λ one. none (rw at at one)) in
+        ap (λ z. set_at (table_at tables' z) k) is ∙ (row ∙ sym (ap (λ z. set_at (table_at tables z) k) is))
+    same j s (inr ne) = ap (λ table. set_at table (spot_at (spots_at spots e) j).local) (others (spot_at (spots_at spots e) j).term ne)
 
 -- the union rows tell the steps
 pub links_of : (terms : List Meaning) (n : ℕ) (q : ℤ) (rows : List (List ℤ)) (spots : List (List Spot)) (tables : List (List Bits)) (unions : List Bits) → AreSpots terms n spots → AreUnions tables spots unions

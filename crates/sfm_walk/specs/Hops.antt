@@ -1,9 +1,12 @@
 -- The steps of a walk as the engine keeps them.
 use Rattle.std.specs.Prelude.{◌≡◌, ◌≢◌, ℕ, ◌<◌, List, [], ◌∷◌, ◌++◌, ◌+◌, ◌≤◌, length, map, slice_index_or, ℤ}
+use Rattle.std.specs.List.{All}
+use Rattle.sfm_spec.specs.Bounds.{IsEntry}
 use Rattle.sfm_spec.specs.Terms.{times, IsBase, HasRoom, exchanged}
 use Rattle.sfm_spec.specs.Families.{Meaning}
 use Rattle.sfm_spec.specs.Walks.{Step, term_at, row_at, IsWalkMove, CanMove, last_of}
 use Rattle.sfm_spec.specs.Labels.{step_code}
+use Rattle.sfm_law.specs.Room.{IsWithinRoom}
 use Rattle.sfm_walk.specs.declared.bits.Bits.{Bits}
 use Rattle.sfm_walk.specs.Bits.{bit_in, set_at}
 use Rattle.sfm_walk.specs.Reach.{table_at}
@@ -69,3 +72,13 @@ AreInOrder terms q rows first steps a = (front back : List Step) (step : Step) (
 abbrev pub AreNamed : List Meaning → ℕ → List Hop → Type 0
 AreNamed terms from [] = Unit {0}
 AreNamed terms from (hop ∷ hops) = IsHop terms from hop × AreNamed terms hop.to hops
+
+-- the exchange of the step is within the room, and the entries of the row are within the bounds before it and after it
+pub record CanExchange (terms : List Meaning) (q : ℤ) (rows : List (List ℤ)) (hop : Hop) (a : ℤ) : Type 0 where
+  pub term_in : hop.term < length terms
+  pub small : All IsEntry (row_at rows hop.term)
+  pub after : All IsEntry (exchanged (row_at rows hop.term) hop.u hop.v a)
+  pub apart : hop.u ≢ hop.v
+  pub raised : hop.u < length (row_at rows hop.term)
+  pub lowered : hop.v < length (row_at rows hop.term)
+  pub room : IsWithinRoom (times q (term_at terms hop.term).value) (row_at rows hop.term) hop.u hop.v a

@@ -11,6 +11,10 @@ abbrev pub IsReachTable : List ℕ → SetFunction → List ℤ → ℕ → List
 IsReachTable places f x k table = (u e : ℕ) → u < k
     → (bit_in (set_at table u) e ≡ 1) ↔ ((v : ℕ) × (v < length places) × (v ≢ u) × HasRoom f x u v × (slice_index_or places v 0 ≡ e))
 
+-- the row of the place u has the ground places to which it has room
+abbrev pub IsRow : List ℕ → SetFunction → List ℤ → ℕ → Bits → Type 0
+IsRow places f x u row = (e : ℕ) → (bit_in row e ≡ 1) ↔ ((v : ℕ) × (v < length places) × (v ≢ u) × HasRoom f x u v × (slice_index_or places v 0 ≡ e))
+
 abbrev pub table_at : List (List Bits) → ℕ → List Bits
 table_at tables i = slice_index_or tables i []
 

@@ -1,5 +1,5 @@
 -- One row for each place of the ground.
-use Rattle.std.specs.Prelude.{◌≡◌, ◌↔◌, ℕ, ◌<◌, List, length, slice_index_or, ℤ}
+use Rattle.std.specs.Prelude.{◌≡◌, ◌≢◌, ◌↔◌, ℕ, ◌<◌, List, length, slice_index_or, ℤ}
 use Rattle.sfm_spec.specs.Families.{Meaning}
 use Rattle.sfm_spec.specs.Walks.{term_at, IsStep}
 use Rattle.sfm_walk.specs.declared.bits.Bits.{Bits}
@@ -37,3 +37,9 @@ pub record AreUnions (tables : List (List Bits)) (spots : List (List Spot)) (uni
 -- the row of each place has the places to which steps lead from there
 abbrev pub AreLinks : List Meaning → ℕ → ℤ → List (List ℤ) → List Bits → Type 0
 AreLinks terms n q rows unions = (e t : ℕ) → e < n → (bit_in (set_at unions e) t ≡ 1) ↔ ((i : ℕ) × IsStep terms q rows e (record { to = t; term = i }))
+
+-- the rows of the places of a set are brought up to the unions, and all others stay
+pub record AreRenewed (tables : List (List Bits)) (spots : List (List Spot)) (places : Bits) (before after : List Bits) : Type 0 where
+  pub count : length after ≡ length before
+  pub renewed : (e : ℕ) → bit_in places e ≡ 1 → IsUnion tables (spots_at spots e) (length (spots_at spots e)) (set_at after e)
+  pub others : (e : ℕ) → bit_in places e ≢ 1 → set_at after e ≡ set_at before e

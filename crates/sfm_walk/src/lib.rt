@@ -4,18 +4,22 @@
 
 mod asking;
 mod bits;
-mod engine;
+mod graph;
 mod levels;
 mod moving;
 mod optimum;
 mod reach;
 mod reached;
+mod renewing;
 mod rest;
+mod run;
 mod signs;
 mod spots;
 mod turned;
 mod unions;
 mod walk;
 
-pub use engine::Engine;
-pub use optimum::{Minimum, Optimum, minimise, minimise_counted, minimise_with};
+pub use graph::{Graph, graph_at, restart};
+pub use optimum::{
+    Minimum, Optimum, Rested, improve, minimise, minimise_counted, minimise_from_start,
+};

@@ -1,48 +1,73 @@
 // The move along a walk: the greatest amount that the walk's steps and its ends allow, and its exchanges from the last step to
-// the first, each at the base that the exchanges behind it have left.
-ghost use Rattle.std.specs.Prelude.{◌≡◌, ◌≢◌, ◌*◌, ◌^◌, ◌<◌, ◌≤◌, ℕ, ℤ, map, pos, ◌≤ℤ◌, length, OnOk, IfOk};
+// the first, each at the base that the exchanges behind it have left. What the graph keeps is brought up with each exchange,
+// so the graph is exact at every step.
+ghost use Rattle.std.specs.Prelude.{◌≡◌, ◌≢◌, ◌*◌, ◌^◌, ◌<◌, ◌≤◌, ℕ, ℤ, map, pos, ◌≤ℤ◌, length, slice_set, OnOk, IfOk};
 ghost use Rattle.std.specs.List.{All};
-ghost use Rattle.sfm_spec.specs.Sets.{IsPlaced};
-ghost use Rattle.sfm_spec.specs.Bounds.{IsAtMost, IsEntry, IsFactor};
-ghost use Rattle.sfm_spec.specs.Terms.{times, IsBase, exchanged};
-ghost use Rattle.sfm_spec.specs.Families.{meanings, AreBases};
+ghost use Rattle.sfm_spec.specs.Bounds.{IsAtMost, IsEntry};
+ghost use Rattle.sfm_spec.specs.Terms.{times, exchanged};
+ghost use Rattle.sfm_spec.specs.Families.{meanings};
 ghost use Rattle.sfm_spec.specs.Labels.{FallsAlong};
-ghost use Rattle.sfm_spec.specs.Walks.{IsWalkMove};
-ghost use Rattle.sfm_law.specs.Room.{AtMostRoom, IsWithinRoom};
-ghost use Rattle.sfm_walk.specs.Reach.{AreNotes};
-ghost use Rattle.sfm_walk.specs.Hops.{IsMovable, Moves, AreNamed, AreInOrder, hop_at, steps_of};
+ghost use Rattle.sfm_spec.specs.Walks.{IsWalkMove, row_at, term_at};
+ghost use Rattle.sfm_law.specs.Room.{AtMostRoom, IsRoom};
+ghost use Rattle.sfm_walk.specs.Graph.{IsWhole};
+ghost use Rattle.sfm_walk.specs.Hops.{CanExchange, IsMovable, Moves, AreNamed, AreInOrder, hop_at, steps_of};
 
+use crate::graph::Graph;
+use crate::renewing::carry;
+use crate::run::Run;
+use crate::unions::renew;
 use crate::walk::Hop;
-use sfm_base::{Memory, Rows};
-use sfm_law::{Room, Term, exchange};
+use sfm_base::Memory;
+use sfm_law::{Room, Term};
 use std::alloc::Global;
 
 /// The greatest amount up to a given one that each step can move.
 pub fn amount_of<T: Term>(
     alloc: Global,
+    graph: &mut Graph<T::Note>,
     terms: &[T],
     q: i128,
-    bases: &Rows,
     hops: &[Hop],
     most: i128,
 ) -> Result<i128, Memory>
-    requires factor { IsFactor q }
-    requires bounded { All (λ a. a ≤ℤ pos (10 ^ 18)) (map T.size_of terms.now) }
-    requires bases { AreBases q (meanings T.places T.value_of terms.now) bases.now }
-    requires small { All (λ x. All IsEntry x) bases.now }
-    requires movable { (k : ℕ) → k < length hops.now → IsMovable (meanings T.places T.value_of terms.now) q bases.now (hop_at hops.now k) }
+    requires graph { IsWhole T.places T.value_of T.size_of T.fits terms.now (length graph.old.spots.items) q graph.old }
+    requires small { All (λ x. All IsEntry x) graph.old.bases }
+    requires movable { (k : ℕ) → k < length hops.now → IsMovable (meanings T.places T.value_of terms.now) q graph.old.bases (hop_at hops.now k) }
     requires most { pos 1 ≤ℤ most }
+    ensures graph { OnOk result (IsWhole T.places T.value_of T.size_of T.fits terms.now (length graph.old.spots.items) q graph.new) }
+    ensures bases { OnOk result (graph.new.bases ≡ graph.old.bases) }
     ensures some { IfOk result (λ a. pos 1 ≤ℤ a) }
     ensures within { IfOk result (λ a. a ≤ℤ most) }
-    ensures moves { IfOk result (λ a. (k : ℕ) → k < length hops.now → Moves (meanings T.places T.value_of terms.now) q bases.now (hop_at hops.now k) a) }
-    ensures greatest { IfOk result (λ a. (b : ℤ) → b ≤ℤ most → ((k : ℕ) → k < length hops.now → Moves (meanings T.places T.value_of terms.now) q bases.now (hop_at hops.now k) b) → b ≤ℤ a) }
+    ensures moves { IfOk result (λ a. (k : ℕ) → k < length hops.now → Moves (meanings T.places T.value_of terms.now) q graph.old.bases (hop_at hops.now k) a) }
+    ensures greatest { IfOk result (λ a. (b : ℤ) → b ≤ℤ most → ((k : ℕ) → k < length hops.now → Moves (meanings T.places T.value_of terms.now) q graph.old.bases (hop_at hops.now k) b) → b ≤ℤ a) }
 {
     let mut a = most;
     for hop in hops {
-        let room = terms[hop.term].room(alloc, q, bases.row(hop.term), hop.u, hop.v)?;
+        let room = room_of(alloc, graph, terms, q, *hop)?;
         a = within(a, room);
     }
     Ok(a)
+}
+
+// The room of a step.
+fn room_of<T: Term>(
+    alloc: Global,
+    graph: &mut Graph<T::Note>,
+    terms: &[T],
+    q: i128,
+    hop: Hop,
+) -> Result<Room, Memory>
+    requires graph { IsWhole T.places T.value_of T.size_of T.fits terms.now (length graph.old.spots.items) q graph.old }
+    requires small { All (λ x. All IsEntry x) graph.old.bases }
+    requires movable { IsMovable (meanings T.places T.value_of terms.now) q graph.old.bases hop }
+    ensures graph { OnOk result (IsWhole T.places T.value_of T.size_of T.fits terms.now (length graph.old.spots.items) q graph.new) }
+    ensures bases { OnOk result (graph.new.bases ≡ graph.old.bases) }
+    ensures room { IfOk result (IsRoom (times q (term_at (meanings T.places T.value_of terms.now) hop.term).value) (row_at graph.old.bases hop.term) hop.u hop.v) }
+{
+    let i = hop.term;
+    let note = &mut graph.notes[i];
+    let room = terms[i].room_by(alloc, q, graph.bases.row(i), note, hop.u, hop.v)?;
+    Ok(room)
 }
 
 // An amount, no more than the room.
@@ -57,80 +82,62 @@ fn within(a: i128, room: Room) -> i128
     }
 }
 
-// One exchange, and the note with it.
-fn move_one<T: Term>(
+// One exchange of a term, and all that is kept with it.
+fn exchange_at<T: Term>(
     alloc: Global,
-    term: &T,
+    graph: &mut Graph<T::Note>,
+    terms: &[T],
     q: i128,
-    x: &mut [i128],
-    note: &mut T::Note,
     hop: Hop,
     a: i128,
 ) -> Result<(), Memory>
-    requires factor { IsFactor q }
-    requires entries { length x.old ≡ length (T.places term.now) }
-    requires bounded { T.size_of term.now ≤ℤ pos (10 ^ 18) }
-    requires small { All IsEntry x.old }
-    requires base { IsBase (times q (T.value_of term.now)) x.old }
-    requires noted { T.fits term.now note.old q x.old }
-    requires apart { hop.u ≢ hop.v }
-    requires from { hop.u < length x.old }
-    requires onto { hop.v < length x.old }
-    requires low { pos 0 ≤ℤ a }
+    requires graph { IsWhole T.places T.value_of T.size_of T.fits terms.now (length graph.old.spots.items) q graph.old }
+    requires inside { hop.term < length terms.now }
+    requires can { CanExchange (meanings T.places T.value_of terms.now) q graph.old.bases hop a }
+    requires low { pos 1 ≤ℤ a }
     requires high { a ≤ℤ pos (10 ^ 30) }
-    requires room { IsWithinRoom (times q (T.value_of term.now)) x.old hop.u hop.v a }
-    ensures moved { OnOk result (x.new ≡ exchanged x.old hop.u hop.v a) }
-    ensures base { OnOk result (IsBase (times q (T.value_of term.now)) x.new) }
-    ensures noted { OnOk result (T.fits term.now note.new q x.new) }
+    ensures moved { OnOk result (graph.new.bases ≡ slice_set graph.old.bases hop.term (exchanged (row_at graph.old.bases hop.term) hop.u hop.v a)) }
+    ensures graph { OnOk result (IsWhole T.places T.value_of T.size_of T.fits terms.now (length graph.old.spots.items) q graph.new) }
 {
-    term.moved(alloc, q, x, note, hop.u, hop.v, a)?;
-    exchange(term, q, x, hop.u, hop.v, a);
+    let i = hop.term;
+    let note = &mut graph.notes[i];
+    let part = &mut graph.parts[i];
+    let rows = &mut graph.rows[i];
+    let x = graph.bases.row_mut(i);
+    let changed = carry(alloc, &terms[i], q, x, note, part, rows, hop, a)?;
+    renew(
+        &graph.spots,
+        &graph.rows,
+        &changed,
+        &mut graph.unions,
+        &mut graph.back,
+    );
     Ok(())
 }
 
 /// The exchanges of a walk, from its last step to its first.
 pub fn move_along<T: Term>(
     alloc: Global,
+    graph: &mut Graph<T::Note>,
     terms: &[T],
-    n: usize,
     q: i128,
-    bases: &mut Rows,
-    notes: &mut Vec<T::Note>,
-    first: usize,
-    hops: &[Hop],
+    run: &Run,
     a: i128,
 ) -> Result<(), Memory>
-    requires factor { IsFactor q }
-    requires placed { All (IsPlaced n) (map T.places terms.now) }
-    requires bounded { All (λ a. a ≤ℤ pos (10 ^ 18)) (map T.size_of terms.now) }
-    requires bases { AreBases q (meanings T.places T.value_of terms.now) bases.old }
-    requires count { length notes.old.items ≡ length terms.now }
-    requires noted { AreNotes T.fits q terms.now notes.old.items bases.old }
-    requires small { All (λ x. All (IsAtMost (5 * 10 ^ 29)) x) bases.old }
+    requires graph { IsWhole T.places T.value_of T.size_of T.fits terms.now (length graph.old.spots.items) q graph.old }
+    requires small { All (λ x. All (IsAtMost (5 * 10 ^ 29)) x) graph.old.bases }
     requires low { pos 1 ≤ℤ a }
     requires high { a ≤ℤ pos (5 * 10 ^ 29) }
-    requires named { AreNamed (meanings T.places T.value_of terms.now) first hops.now }
-    requires order { AreInOrder (meanings T.places T.value_of terms.now) q bases.old first (steps_of hops.now) a }
-    requires falls { (d : ℕ → ℕ) × FallsAlong d first (steps_of hops.now) }
-    ensures moved { OnOk result (IsWalkMove (meanings T.places T.value_of terms.now) bases.old first (steps_of hops.now) a bases.new) }
-    ensures bases { OnOk result (AreBases q (meanings T.places T.value_of terms.now) bases.new) }
-    ensures count { OnOk result (length notes.new.items ≡ length terms.now) }
-    ensures noted { OnOk result (AreNotes T.fits q terms.now notes.new.items bases.new) }
+    requires named { AreNamed (meanings T.places T.value_of terms.now) run.now.first run.now.hops.items }
+    requires order { AreInOrder (meanings T.places T.value_of terms.now) q graph.old.bases run.now.first (steps_of run.now.hops.items) a }
+    requires falls { (d : ℕ → ℕ) × FallsAlong d run.now.first (steps_of run.now.hops.items) }
+    ensures graph { OnOk result (IsWhole T.places T.value_of T.size_of T.fits terms.now (length graph.old.spots.items) q graph.new) }
+    ensures moved { OnOk result (IsWalkMove (meanings T.places T.value_of terms.now) graph.old.bases run.now.first (steps_of run.now.hops.items) a graph.new.bases) }
 {
-    let mut k = hops.len();
+    let mut k = run.hops.len();
     while k > 0 {
         k -= 1;
-        let hop = hops[k];
-        let note = &mut notes[hop.term];
-        move_one(
-            alloc,
-            &terms[hop.term],
-            q,
-            bases.row_mut(hop.term),
-            note,
-            hop,
-            a,
-        )?;
+        exchange_at(alloc, graph, terms, q, run.hops[k], a)?;
     }
     Ok(())
 }

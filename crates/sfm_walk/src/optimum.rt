@@ -10,25 +10,19 @@ ghost use Rattle.sfm_spec.specs.Families.{meanings, even_shift, rest_at, deficit
 ghost use Rattle.sfm_spec.specs.Progress.{IsProgress};
 ghost use Rattle.sfm_spec.specs.Walks.{Step, Joins, IsFewWalks, few_walks};
 ghost use Rattle.sfm_walk.specs.Counted.{IsCounted};
-ghost use Rattle.sfm_walk.specs.Engine.{IsEngine};
+ghost use Rattle.sfm_walk.specs.Graph.{IsGraph, IsWhole};
 ghost use Rattle.sfm_walk.specs.Levels.{IsFirst};
+ghost use Rattle.sfm_walk.specs.Run.{IsRunAt, IsUpTo};
 ghost use Rattle.sfm_walk.specs.Signs.{AreSigns};
-ghost use Rattle.sfm_walk.specs.State.{IsState, IsUpTo};
-ghost use Rattle.sfm_walk.specs.Turned.{AreTurned};
 
-use crate::asking::{ask_again, ask_all};
-use crate::bits::Bits;
-use crate::engine::Engine;
+use crate::graph::{Graph, graph_at, restart};
 use crate::levels::find_levels;
 use crate::moving::{amount_of, move_along};
-use crate::reach::{BitRows, notes_of};
 use crate::reached::{reached_from, set_of};
 use crate::rest::{most_of, move_rest};
-use crate::signs::{Signs, move_signs, signs_of};
-use crate::spots::Spots;
-use crate::turned::turned_of;
-use crate::unions::unions_of;
-use crate::walk::{Hop, follow, last_place};
+use crate::run::Run;
+use crate::signs::{move_signs, signs_of};
+use crate::walk::{last_place, least_walk};
 use sfm_base::{Memory, Numbers, Rows, Set, Steps};
 use sfm_law::{Term, rest_of, start_rows};
 use std::alloc::Global;
@@ -44,6 +38,14 @@ pub struct Optimum {
 #[derive(Drop)]
 pub struct Minimum {
     pub optimum: Optimum,
+    pub least: Set,
+}
+
+/// What bases that prove the minimum come with: z, which is their sum at each place less the shift, and the minimiser that
+/// lies within every other.
+#[derive(Drop)]
+pub struct Rested {
+    pub z: Numbers,
     pub least: Set,
 }
 
@@ -104,178 +106,165 @@ pub fn minimise_counted<T: Term>(
     ensures few { steps.new ≤ steps.old + few_walks n (length terms.now) }
     ensures kept { steps.old ≤ steps.new }
 {
-    let mut engine = Engine::new(alloc, terms, n)?;
-    let minimum = minimise_with(alloc, &mut engine, terms, n, p, q, steps)?;
-    Ok(minimum.optimum)
+    let shift = vec![in alloc; p; n]?;
+    let first_bases = start_rows(alloc, terms, q)?;
+    let mut graph = graph_at(alloc, terms, n, q, first_bases)?;
+    let rested = improve(alloc, &mut graph, terms, q, &shift, steps)?;
+    Ok(Optimum {
+        bases: graph.bases,
+        z: rested.z,
+    })
 }
 
-/// The same with an engine for the terms, which stays one for them, and with the least minimiser.
+/// Bases that prove the minimum of q times the sum of the terms less the shift, reached from the first bases of the terms,
+/// with z and the least minimiser. The graph is made one at these bases, whatever bases and factor it was at before, and its
+/// lists are used again. Counts as `improve` does.
 ///
 /// # Errors
 ///
 /// `Memory` where there is none.
-pub fn minimise_with<T: Term>(
+pub fn minimise_from_start<T: Term>(
     alloc: Global,
-    engine: &mut Engine,
-    terms: &[T],
-    n: usize,
-    p: i128,
-    q: i128,
-    steps: &mut Steps,
-) -> Result<Minimum, Memory>
-    requires room { steps.old < 2 ^ 63 }
-    requires engine { IsEngine T.places T.value_of terms.now n engine.old }
-    requires bounded { AreBounded n (map T.places terms.now) (map T.size_of terms.now) }
-    requires slope { IsAtMost (10 ^ 24) p }
-    requires factor { IsFactor q }
-    ensures bases { IfOk result (λ r. AreBases q (meanings T.places T.value_of terms.now) r.optimum.bases) }
-    ensures small { IfOk result (λ r. All (λ x. All IsEntry x) r.optimum.bases) }
-    ensures rest { IfOk result (λ r. (length r.optimum.z ≡ n) × ((e : ℕ) → e < n → slice_index_or r.optimum.z e (pos 0) ≡ rest_at (meanings T.places T.value_of terms.now) r.optimum.bases (even_shift n p) e)) }
-    ensures ends { IfOk result (λ r. (first : ℕ) (steps : List Step) → Joins (meanings T.places T.value_of terms.now) q (even_shift n p) r.optimum.bases first steps → ⊥) }
-    ensures proves { IfOk result (λ r. Prove (meanings T.places T.value_of terms.now) n q (even_shift n p) r.optimum.bases) }
-    ensures least { IfOk result (λ r. IsLeast (meanings T.places T.value_of terms.now) n q (even_shift n p) r.least) }
-    ensures engine { OnOk result (IsEngine T.places T.value_of terms.now n engine.new) }
-    ensures counted { IfOk result (λ r. IsCounted (meanings T.places T.value_of terms.now) n q (even_shift n p) (map (λ term. T.start_of term q) terms.now) r.optimum.bases steps.old steps.new) }
-    ensures few { steps.new ≤ steps.old + few_walks n (length terms.now) }
-    ensures kept { steps.old ≤ steps.new }
-{
-    let shift = vec![in alloc; p; n]?;
-    let first_bases = start_rows(alloc, terms, q)?;
-    improve(alloc, engine, terms, q, &shift, first_bases, steps)
-}
-
-// The same with a shift for each place in place of p, and from any first bases.
-fn improve<T: Term>(
-    alloc: Global,
-    engine: &mut Engine,
+    graph: &mut Graph<T::Note>,
     terms: &[T],
     q: i128,
     shift: &[i128],
-    first_bases: Rows,
     steps: &mut Steps,
 ) -> Result<Minimum, Memory>
     requires room { steps.old < 2 ^ 63 }
-    requires engine { IsEngine T.places T.value_of terms.now (length shift.now) engine.old }
     requires bounded { AreBounded (length shift.now) (map T.places terms.now) (map T.size_of terms.now) }
     requires shifts { magnitudes shift.now ≤ℤ pos (10 ^ 27) }
     requires factor { IsFactor q }
-    requires bases { AreBases q (meanings T.places T.value_of terms.now) first_bases }
-    requires small { All (λ x. All (IsAtMost (10 ^ 25)) x) first_bases }
+    requires graph { (q0 : ℤ) × IsGraph T.places T.value_of T.fits terms.now (length shift.now) q0 graph.old }
+    ensures graph { OnOk result (IsGraph T.places T.value_of T.fits terms.now (length shift.now) q graph.new) }
+    ensures same { IfOk result (λ r. r.optimum.bases ≡ graph.new.bases) }
     ensures bases { IfOk result (λ r. AreBases q (meanings T.places T.value_of terms.now) r.optimum.bases) }
     ensures small { IfOk result (λ r. All (λ x. All IsEntry x) r.optimum.bases) }
     ensures rest { IfOk result (λ r. (length r.optimum.z ≡ length shift.now) × ((e : ℕ) → e < length shift.now → slice_index_or r.optimum.z e (pos 0) ≡ rest_at (meanings T.places T.value_of terms.now) r.optimum.bases shift.now e)) }
     ensures ends { IfOk result (λ r. (first : ℕ) (steps : List Step) → Joins (meanings T.places T.value_of terms.now) q shift.now r.optimum.bases first steps → ⊥) }
     ensures proves { IfOk result (λ r. Prove (meanings T.places T.value_of terms.now) (length shift.now) q shift.now r.optimum.bases) }
     ensures least { IfOk result (λ r. IsLeast (meanings T.places T.value_of terms.now) (length shift.now) q shift.now r.least) }
-    ensures engine { OnOk result (IsEngine T.places T.value_of terms.now (length shift.now) engine.new) }
-    ensures counted { IfOk result (λ r. IsCounted (meanings T.places T.value_of terms.now) (length shift.now) q shift.now first_bases r.optimum.bases steps.old steps.new) }
+    ensures counted { IfOk result (λ r. IsCounted (meanings T.places T.value_of terms.now) (length shift.now) q shift.now (map (λ term. T.start_of term q) terms.now) r.optimum.bases steps.old steps.new) }
     ensures few { steps.new ≤ steps.old + few_walks (length shift.now) (length terms.now) }
     ensures kept { steps.old ≤ steps.new }
 {
-    let mut bases = first_bases;
-    let mut z = rest_of(alloc, terms, shift, &bases)?;
-    let mut notes = notes_of(alloc, terms, q, &bases)?;
-    ask_all(
-        alloc,
-        terms,
-        shift.len(),
-        q,
-        &bases,
-        &notes,
-        &mut engine.parts,
-        &mut engine.rows,
-    )?;
-    let mut unions = unions_of(alloc, &engine.spots, &engine.rows)?;
-    let mut back = turned_of(alloc, &unions)?;
-    let mut levels = Vec::new(alloc);
-    let mut hops = Vec::new(alloc);
-    let mut signs = signs_of(&z);
-    while let Some(first) = find_levels(&back, &unions, &z, &signs, &mut levels)? {
-        advance(
-            alloc,
-            terms,
-            q,
-            shift,
-            &engine.spots,
-            &levels,
-            first,
-            &mut bases,
-            &mut z,
-            &mut signs,
-            &mut notes,
-            &mut engine.parts,
-            &mut engine.rows,
-            &mut unions,
-            &mut back,
-            &mut hops,
-        )?;
+    let first_bases = start_rows(alloc, terms, q)?;
+    restart(alloc, graph, terms, shift.len(), q, first_bases)?;
+    let rested = improve(alloc, graph, terms, q, shift, steps)?;
+    let bases = copy_rows(alloc, &graph.bases)?;
+    Ok(Minimum {
+        optimum: Optimum { bases, z: rested.z },
+        least: rested.least,
+    })
+}
+
+// The same rows once more.
+fn copy_rows(alloc: Global, rows: &Rows) -> Result<Rows, Memory>
+    ensures { IfOk result (λ r. r ≡ rows.now) }
+{
+    let mut copied = Rows::new(alloc);
+    for i in 0..rows.len() {
+        copied.push(Vec::from_slice(alloc, rows.row(i))?)?;
+    }
+    Ok(copied)
+}
+
+/// Moves the bases of the graph along walks of least steps, each by the greatest amount, until no walk joins. Then they
+/// prove the minimum of q times the sum of the terms less the shift. Each walk is counted, from a count below 2^63; without
+/// an answer the count has risen by no more than there may be, and nothing is said of the graph.
+///
+/// # Errors
+///
+/// `Memory` where there is none.
+pub fn improve<T: Term>(
+    alloc: Global,
+    graph: &mut Graph<T::Note>,
+    terms: &[T],
+    q: i128,
+    shift: &[i128],
+    steps: &mut Steps,
+) -> Result<Rested, Memory>
+    requires room { steps.old < 2 ^ 63 }
+    requires bounded { AreBounded (length shift.now) (map T.places terms.now) (map T.size_of terms.now) }
+    requires shifts { magnitudes shift.now ≤ℤ pos (10 ^ 27) }
+    requires factor { IsFactor q }
+    requires graph { IsGraph T.places T.value_of T.fits terms.now (length shift.now) q graph.old }
+    requires small { All (λ x. All (IsAtMost (10 ^ 25)) x) graph.old.bases }
+    ensures graph { OnOk result (IsGraph T.places T.value_of T.fits terms.now (length shift.now) q graph.new) }
+    ensures bases { OnOk result (AreBases q (meanings T.places T.value_of terms.now) graph.new.bases) }
+    ensures small { OnOk result (All (λ x. All IsEntry x) graph.new.bases) }
+    ensures rest { IfOk result (λ r. (length r.z ≡ length shift.now) × ((e : ℕ) → e < length shift.now → slice_index_or r.z e (pos 0) ≡ rest_at (meanings T.places T.value_of terms.now) graph.new.bases shift.now e)) }
+    ensures ends { OnOk result ((first : ℕ) (steps : List Step) → Joins (meanings T.places T.value_of terms.now) q shift.now graph.new.bases first steps → ⊥) }
+    ensures proves { OnOk result (Prove (meanings T.places T.value_of terms.now) (length shift.now) q shift.now graph.new.bases) }
+    ensures least { IfOk result (λ r. IsLeast (meanings T.places T.value_of terms.now) (length shift.now) q shift.now r.least) }
+    ensures counted { OnOk result (IsCounted (meanings T.places T.value_of terms.now) (length shift.now) q shift.now graph.old.bases graph.new.bases steps.old steps.new) }
+    ensures few { steps.new ≤ steps.old + few_walks (length shift.now) (length terms.now) }
+    ensures kept { steps.old ≤ steps.new }
+{
+    let z = rest_of(alloc, terms, shift, &graph.bases)?;
+    let mut run = run_at(alloc, z);
+    while let Some(first) = find_levels(
+        &graph.back,
+        &graph.unions,
+        &run.z,
+        &run.signs,
+        &mut run.levels,
+    )? {
+        run.first = first;
+        advance(alloc, graph, terms, q, shift, &mut run)?;
         steps.tick();
     }
-    let reached = reached_from(&unions, &signs.under);
+    let reached = reached_from(&graph.unions, &run.signs.under);
     let least = set_of(alloc, &reached, shift.len())?;
-    let z = Numbers::from_vec(z);
-    Ok(Minimum {
-        optimum: Optimum { bases, z },
+    Ok(Rested {
+        z: Numbers::from_vec(run.z),
         least,
     })
 }
 
-// Moves along the walk from a first place by the greatest amount, and brings all that is kept up to the bases.
+// A run at z, before any search.
+fn run_at(alloc: Global, z: Vec<i128>) -> Run
+    requires { length z.items ≤ 256 }
+    ensures z { result.z ≡ z }
+    ensures signs { AreSigns z.items result.signs }
+{
+    let signs = signs_of(&z);
+    Run {
+        z,
+        signs,
+        levels: Vec::new(alloc),
+        first: 0,
+        hops: Vec::new(alloc),
+    }
+}
+
+// Moves along the walk from a first place by the greatest amount, and brings z and its signs up with it.
 fn advance<T: Term>(
     alloc: Global,
+    graph: &mut Graph<T::Note>,
     terms: &[T],
     q: i128,
     shift: &[i128],
-    spots: &[Spots],
-    levels: &[Bits],
-    first: usize,
-    bases: &mut Rows,
-    z: &mut Vec<i128>,
-    signs: &mut Signs,
-    notes: &mut Vec<T::Note>,
-    parts: &mut Vec<Set>,
-    rows: &mut Vec<BitRows>,
-    unions: &mut Vec<Bits>,
-    back: &mut Vec<Bits>,
-    hops: &mut Vec<Hop>,
+    run: &mut Run,
 ) -> Result<(), Memory>
-    requires bounded { AreBounded (length shift.now) (map T.places terms.now) (map T.size_of terms.now) }
-    requires sizes { All (λ a. a ≤ℤ pos (10 ^ 18)) (map T.size_of terms.now) }
+    requires graph { IsWhole T.places T.value_of T.size_of T.fits terms.now (length shift.now) q graph.old }
     requires shifts { magnitudes shift.now ≤ℤ pos (10 ^ 27) }
-    requires factor { IsFactor q }
-    requires state { IsState T.places T.value_of T.fits terms.now q shift.now bases.old z.old.items notes.old.items parts.old.items rows.old.items spots.now unions.old.items }
-    requires signs { AreSigns z.old.items signs.old }
-    requires turned { AreTurned unions.old.items back.old.items }
-    requires first { IsFirst (length z.old.items) unions.old.items z.old.items levels.now first }
-    requires small { All (λ x. All (IsAtMost (5 * 10 ^ 29)) x) bases.old }
-    requires gap { neg_ℤ (pos (5 * 10 ^ 29)) ≤ℤ deficit (length shift.now) (rest_at (meanings T.places T.value_of terms.now) bases.old shift.now) }
-    ensures state { OnOk result (IsState T.places T.value_of T.fits terms.now q shift.now bases.new z.new.items notes.new.items parts.new.items rows.new.items spots.now unions.new.items) }
-    ensures signs { OnOk result (AreSigns z.new.items signs.new) }
-    ensures turned { OnOk result (AreTurned unions.new.items back.new.items) }
-    ensures moves { OnOk result (IsProgress (meanings T.places T.value_of terms.now) (length shift.now) q shift.now bases.old bases.new) }
-    ensures spread { OnOk result ((b : ℤ) → All (λ x. All (IsUpTo b) x) bases.old → All (λ x. All (IsUpTo (b +ℤ (deficit (length shift.now) (rest_at (meanings T.places T.value_of terms.now) bases.new shift.now)
-        -ℤ deficit (length shift.now) (rest_at (meanings T.places T.value_of terms.now) bases.old shift.now)))) x) bases.new) }
+    requires run { IsRunAt (meanings T.places T.value_of terms.now) shift.now graph.old.bases run.old }
+    requires first { IsFirst (length shift.now) graph.old.unions.items run.old.z.items run.old.levels.items run.old.first }
+    requires small { All (λ x. All (IsAtMost (5 * 10 ^ 29)) x) graph.old.bases }
+    requires gap { neg_ℤ (pos (5 * 10 ^ 29)) ≤ℤ deficit (length shift.now) (rest_at (meanings T.places T.value_of terms.now) graph.old.bases shift.now) }
+    ensures graph { OnOk result (IsWhole T.places T.value_of T.size_of T.fits terms.now (length shift.now) q graph.new) }
+    ensures run { OnOk result (IsRunAt (meanings T.places T.value_of terms.now) shift.now graph.new.bases run.new) }
+    ensures moves { OnOk result (IsProgress (meanings T.places T.value_of terms.now) (length shift.now) q shift.now graph.old.bases graph.new.bases) }
+    ensures spread { OnOk result ((b : ℤ) → All (λ x. All (IsUpTo b) x) graph.old.bases → All (λ x. All (IsUpTo (b +ℤ (deficit (length shift.now) (rest_at (meanings T.places T.value_of terms.now) graph.new.bases shift.now)
+        -ℤ deficit (length shift.now) (rest_at (meanings T.places T.value_of terms.now) graph.old.bases shift.now)))) x) graph.new.bases) }
 {
-    follow(terms, spots, rows, unions, z, levels, first, hops)?;
-    let last = last_place(hops);
-    let most = most_of(z, first, last);
-    let a = amount_of(alloc, terms, q, bases, hops, most)?;
-    move_along(alloc, terms, shift.len(), q, bases, notes, first, hops, a)?;
-    move_rest(z, first, last, a);
-    ask_again(
-        alloc,
-        terms,
-        shift.len(),
-        q,
-        bases,
-        notes,
-        hops,
-        spots,
-        parts,
-        rows,
-        unions,
-        back,
-    )?;
-    move_signs(signs, z, first, last);
+    least_walk(terms, graph, q, shift, run)?;
+    let last = last_place(&run.hops);
+    let most = most_of(&run.z, run.first, last);
+    let a = amount_of(alloc, graph, terms, q, &run.hops, most)?;
+    move_along(alloc, graph, terms, q, run, a)?;
+    move_rest(&mut run.z, run.first, last, a);
+    move_signs(&mut run.signs, &run.z, run.first, last);
     Ok(())
 }

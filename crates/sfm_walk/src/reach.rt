@@ -39,7 +39,7 @@ impl BitRows {
         Ok(BitRows { rows })
     }
 
-    fn set(&mut self, u: usize, row: Bits)
+    pub fn set(&mut self, u: usize, row: Bits)
         requires { u < length self.old }
         ensures { self.new ≡ slice_set self.old u row }
     {
@@ -54,7 +54,7 @@ impl BitRows {
 }
 
 // The ground places of a part of a term.
-fn placed_bits(places: &[usize], part: &Set) -> Bits
+pub fn placed_bits(places: &[usize], part: &Set) -> Bits
     requires placed { IsPlaced 256 places.now }
     requires part { length part.now ≡ length places.now }
     ensures { HasPlaces places.now part.now (length places.now) result }

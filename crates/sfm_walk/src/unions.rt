@@ -1,9 +1,8 @@
 // One row for each place of the ground: all places that a step by any term leads to from there.
-ghost use Rattle.std.specs.Prelude.{◌≡◌, ◌<◌, ◌≤◌, ℕ, length, IfOk, slice_index_or};
-ghost use Rattle.sfm_walk.specs.Bits.{set_at};
-ghost use Rattle.sfm_walk.specs.Spots.{spots_at};
+ghost use Rattle.std.specs.Prelude.{◌≡◌, ◌<◌, ◌≤◌, ℕ, length, IfOk};
+ghost use Rattle.sfm_walk.specs.Bits.{bit_in};
 ghost use Rattle.sfm_walk.specs.Turned.{AreTurned};
-ghost use Rattle.sfm_walk.specs.Unions.{IsUnion, AreUnions, HasRows, HaveRows};
+ghost use Rattle.sfm_walk.specs.Unions.{IsUnion, AreRenewed, AreUnions, HasRows, HaveRows};
 
 use crate::bits::{Bits, no_bits};
 use crate::reach::BitRows;
@@ -42,7 +41,7 @@ pub fn unions_of(alloc: Global, spots: &[Spots], rows: &[BitRows]) -> Result<Vec
 pub fn renew(
     spots: &[Spots],
     rows: &[BitRows],
-    places: &[usize],
+    places: &Bits,
     unions: &mut Vec<Bits>,
     back: &mut Vec<Bits>,
 )
@@ -50,18 +49,16 @@ pub fn renew(
     requires few { length spots.now ≤ 256 }
     requires count { length unions.old.items ≡ length spots.now }
     requires turned { AreTurned unions.old.items back.old.items }
-    requires placed { (u : ℕ) → u < length places.now → slice_index_or places.now u 0 < length spots.now }
-    ensures count { length unions.new.items ≡ length unions.old.items }
-    ensures renewed { (u : ℕ) → u < length places.now
-        → IsUnion rows.now (spots_at spots.now (slice_index_or places.now u 0)) (length (spots_at spots.now (slice_index_or places.now u 0))) (set_at unions.new.items (slice_index_or places.now u 0)) }
-    ensures others { (e : ℕ) → ((u : ℕ) → u < length places.now → slice_index_or places.now u 0 ≡ e → ⊥)
-        → set_at unions.new.items e ≡ set_at unions.old.items e }
+    requires placed { (e : ℕ) → bit_in places.now e ≡ 1 → e < length spots.now }
+    ensures renewed { AreRenewed rows.now spots.now places.now unions.old.items unions.new.items }
     ensures turned { AreTurned unions.new.items back.new.items }
 {
-    for place in places {
-        let at = &spots[*place];
+    let mut ahead = *places;
+    while let Some(e) = ahead.first() {
+        ahead.remove(e);
+        let at = &spots[e];
         let row = union_at(at.as_slice(), rows);
-        turn(back, *place, &unions[*place], &row);
-        unions[*place] = row;
+        turn(back, e, &unions[e], &row);
+        unions[e] = row;
     }
 }

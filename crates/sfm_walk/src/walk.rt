@@ -9,10 +9,14 @@ ghost use Rattle.sfm_walk.specs.Levels.{depth_of, IsFirst, LeadsInto};
 ghost use Rattle.sfm_walk.specs.Spots.{AreSpots, spot_at};
 ghost use Rattle.sfm_walk.specs.Unions.{AreUnions, HasRows, HaveRows, IsReadable, spot_row};
 ghost use Rattle.sfm_walk.specs.Reach.{table_at};
+ghost use Rattle.sfm_walk.specs.Graph.{IsWhole};
+ghost use Rattle.sfm_walk.specs.Run.{IsLeastWalk, IsRunAt};
 ghost use Rattle.sfm_walk.specs.Hops.{AreHops, AreLeast, IsHop, IsTold, hop_at, step_of, steps_of};
 
 use crate::bits::Bits;
+use crate::graph::Graph;
 use crate::reach::BitRows;
+use crate::run::Run;
 use crate::spots::{Spot, Spots};
 use sfm_base::Memory;
 use sfm_law::Term;
@@ -98,24 +102,22 @@ pub fn last_place(hops: &[Hop]) -> usize
 }
 
 /// Writes the walk of least steps from a place of the last level.
-pub fn follow<T: Term>(
+fn follow<T: Term>(
     terms: &[T],
-    spots: &[Spots],
-    rows: &[BitRows],
-    unions: &[Bits],
-    z: &[i128],
+    graph: &Graph<T::Note>,
+    _z: &[i128],
     levels: &[Bits],
     first: usize,
     hops: &mut Vec<Hop>,
 ) -> Result<(), Memory>
-    requires spots { AreSpots (meanings T.places T.value_of terms.now) (length unions.now) spots.now }
-    requires rows { HaveRows rows.now spots.now }
-    requires unions { AreUnions rows.now spots.now unions.now }
-    requires placed { (i : ℕ) → i < length terms.now → IsReadable (meanings T.places T.value_of terms.now) rows.now i }
-    requires first { IsFirst (length unions.now) unions.now z.now levels.now first }
-    ensures hops { OnOk result (AreHops (meanings T.places T.value_of terms.now) rows.now first hops.new.items) }
+    requires spots { AreSpots (meanings T.places T.value_of terms.now) (length graph.now.unions.items) graph.now.spots.items }
+    requires rows { HaveRows graph.now.rows.items graph.now.spots.items }
+    requires unions { AreUnions graph.now.rows.items graph.now.spots.items graph.now.unions.items }
+    requires placed { (i : ℕ) → i < length terms.now → IsReadable (meanings T.places T.value_of terms.now) graph.now.rows.items i }
+    requires first { IsFirst (length graph.now.unions.items) graph.now.unions.items _z.now levels.now first }
+    ensures hops { OnOk result (AreHops (meanings T.places T.value_of terms.now) graph.now.rows.items first hops.new.items) }
     ensures falls { OnOk result (FallsAlong (depth_of levels.now) first (steps_of hops.new.items)) }
-    ensures least { OnOk result (AreLeast (meanings T.places T.value_of terms.now) rows.now (depth_of levels.now) first hops.new.items) }
+    ensures least { OnOk result (AreLeast (meanings T.places T.value_of terms.now) graph.now.rows.items (depth_of levels.now) first hops.new.items) }
     ensures last { OnOk result (bit_in (set_at levels.now 0) (last_of first (steps_of hops.new.items)) ≡ 1) }
     ensures some { OnOk result (0 < length hops.new.items) }
 {
@@ -124,9 +126,34 @@ pub fn follow<T: Term>(
     let mut k = levels.len() - 1;
     while k > 0 {
         k -= 1;
-        let hop = least_step(terms, spots, rows, unions, at, &levels[k]);
+        let hop = least_step(
+            terms,
+            &graph.spots,
+            &graph.rows,
+            &graph.unions,
+            at,
+            &levels[k],
+        );
         hops.push(hop)?;
         at = hop.to;
     }
+    Ok(())
+}
+
+/// Writes the walk of least steps from the first place of a run.
+pub fn least_walk<T: Term>(
+    terms: &[T],
+    graph: &Graph<T::Note>,
+    _q: i128,
+    _shift: &[i128],
+    run: &mut Run,
+) -> Result<(), Memory>
+    requires graph { IsWhole T.places T.value_of T.size_of T.fits terms.now (length _shift.now) _q graph.now }
+    requires run { IsRunAt (meanings T.places T.value_of terms.now) _shift.now graph.now.bases run.old }
+    requires first { IsFirst (length _shift.now) graph.now.unions.items run.old.z.items run.old.levels.items run.old.first }
+    ensures run { OnOk result (IsRunAt (meanings T.places T.value_of terms.now) _shift.now graph.now.bases run.new) }
+    ensures walk { OnOk result (IsLeastWalk (meanings T.places T.value_of terms.now) (length _shift.now) _q _shift.now graph.now.bases run.new.z.items (depth_of run.new.levels.items) run.new.first run.new.hops.items) }
+{
+    follow(terms, graph, &run.z, &run.levels, run.first, &mut run.hops)?;
     Ok(())
 }

@@ -1,333 +1,85 @@
-use Rattle.std.proofs.Common.{◌≡◌, ◌++◌, ◌-◌, ◌^◌, ◌<◌, ℕ, suc, length, take, drop, pos, ◌≤ℤ◌, subst, ap, ◌∙◌, arith, FitsSigned, length-set}
+use Rattle.std.proofs.Common.{◌≡◌, ◌-◌, ℕ, suc, length, subst, ◌∙◌, arith, FitsSigned}
 use Rattle.std.proofs.lemmas.Int.{to_z-of_z}
-use Rattle.std.proofs.lemmas.List.{take_at}
+use Rattle.std.proofs.lemmas.List.{get_or_default}
 use mir.Syntax.{w128}
-use Rattle.sfm_spec.specs.Terms.{exchanged}
-use Rattle.sfm_spec.specs.Families.{Meaning, meanings, AreTerms}
-use Rattle.sfm_spec.specs.Walks.{term_at, row_at}
-use Rattle.sfm_spec.proofs.Duality.{meanings-terms}
-use Rattle.sfm_spec.proofs.Sums.{length-exchanged}
-use Rattle.sfm_spec.proofs.Walks.{bases-at}
-use Rattle.sfm_walk.specs.Hops.{hop_at}
-use Rattle.sfm_law.proofs.Lists.{all-at, meanings-at, length-meanings, length-bases, placed-meanings}
-use Rattle.sfm_walk.proofs.Noting.{notes_set}
-use Rattle.sfm_walk.proofs.Exchanging.{HaveMoved, have_moved_more, moved_small, names, next_apart, next_room, row_base}
+use Rattle.sfm_spec.specs.Families.{meanings}
+use Rattle.sfm_walk.specs.Graph.{IsWhole}
+use Rattle.sfm_walk.specs.Hops.{hop_at, no_hop}
+use Rattle.sfm_walk.proofs.Exchanging.{HaveMoved, can_exchange, exchange_moved, have_moved_none}
+use Rattle.sfm_walk.proofs.WholeGraphs.{are_terms, counted, own}
 use Rattle.sfm_walk.proofs.moving.move_along.Goals as goal
 
-pub index_mut-note-requires : goal.index_mut-note-requires
-index_mut-note-requires g c =
+pub loop-k-init : goal.loop-k-init
+loop-k-init g c =
     let t = g.T.Term in
     let m = g.met.T.Term in
     let fq : FitsSigned w128 c.args.q = c.ranges.q in
     let fa : FitsSigned w128 c.args.a = c.ranges.a in
     let ts = meanings t.places t.value_of c.args.terms.now in
-    let fit : AreTerms c.args.n ts = meanings-terms c.args.n t.places t.value_of m.family m.submodular c.args.terms.now (placed-meanings c.args.n t.places t.value_of c.args.terms.now c.requires.placed) in
-    let k : ℕ = c.loop-k.k - 1 in
-    let hop = hop_at c.args.hops.now k in
-    let inv = simp to_z-of_z at c.loop-k.invariant in
-    let back : c.loop-k.k ≡ suc k = omega (arith, c.loop-k-test.true) in
-    let h : HaveMoved ts c.args.q c.args.bases.now c.args.first c.args.hops.now c.args.a (suc k) c.loop-k.bases =
-    let P : ℕ → Type 0 = λ z. HaveMoved ts c.args.q c.args.bases.now c.args.first c.args.hops.now c.args.a z c.loop-k.bases in subst P back inv.0 in
-    let named = names ts c.args.n c.args.q fit c.args.bases.now c.args.first c.args.hops.now c.args.a c.requires.low c.requires.named c.requires.order k c.loop-k.bases h in
-    let row = row_base ts c.args.n c.args.q fit c.args.bases.now c.args.first c.args.hops.now c.args.a c.requires.low c.requires.named c.requires.order k c.loop-k.bases h in
-    let count = length-meanings t.places t.value_of c.args.terms.now in
-    let lt : hop.term < length c.args.terms.now = omega (arith, count, named.term_in) in
-    omega (arith, lt, inv.1, c.loop-k.notes.ok.0)
+    let r = c.requires in
+    let init = c.args.graph.now.bases in
+    let first = c.args.run.now.first in
+    let hops = c.args.run.now.hops.items in
+    let n = length c.args.graph.now.spots.items in
+    let fit = are_terms r.graph m.family m.submodular in
+    let count : c.len-k.result ≡ length hops = omega (arith, c.len-k.ensures, c.args.run.now.hops.ok.0) in
+    rw count (simp to_z-of_z (have_moved_none ts n c.args.q fit init first hops c.args.a r.low r.named r.order r.graph.exact.are_bases, r.graph))
 
-pub bounds-terms-hop : goal.bounds-terms-hop
-bounds-terms-hop g c =
-    let t = g.T.Term in
-    let m = g.met.T.Term in
+pub exchange_at-requires-clause-graph : goal.exchange_at-requires-clause-graph
+exchange_at-requires-clause-graph g c =
     let fq : FitsSigned w128 c.args.q = c.ranges.q in
     let fa : FitsSigned w128 c.args.a = c.ranges.a in
-    let ts = meanings t.places t.value_of c.args.terms.now in
-    let fit : AreTerms c.args.n ts = meanings-terms c.args.n t.places t.value_of m.family m.submodular c.args.terms.now (placed-meanings c.args.n t.places t.value_of c.args.terms.now c.requires.placed) in
-    let k : ℕ = c.loop-k.k - 1 in
-    let hop = hop_at c.args.hops.now k in
     let inv = simp to_z-of_z at c.loop-k.invariant in
-    let back : c.loop-k.k ≡ suc k = omega (arith, c.loop-k-test.true) in
-    let h : HaveMoved ts c.args.q c.args.bases.now c.args.first c.args.hops.now c.args.a (suc k) c.loop-k.bases =
-    let P : ℕ → Type 0 = λ z. HaveMoved ts c.args.q c.args.bases.now c.args.first c.args.hops.now c.args.a z c.loop-k.bases in subst P back inv.0 in
-    let named = names ts c.args.n c.args.q fit c.args.bases.now c.args.first c.args.hops.now c.args.a c.requires.low c.requires.named c.requires.order k c.loop-k.bases h in
-    let row = row_base ts c.args.n c.args.q fit c.args.bases.now c.args.first c.args.hops.now c.args.a c.requires.low c.requires.named c.requires.order k c.loop-k.bases h in
-    let count = length-meanings t.places t.value_of c.args.terms.now in
-    let lt : hop.term < length c.args.terms.now = omega (arith, count, named.term_in) in
-    lt
+    simp to_z-of_z (own inv.1)
 
-pub offset_bounds-terms-hop : goal.offset_bounds-terms-hop
-offset_bounds-terms-hop g c =
+pub exchange_at-requires-clause-inside : goal.exchange_at-requires-clause-inside
+exchange_at-requires-clause-inside g c =
     let t = g.T.Term in
     let m = g.met.T.Term in
     let fq : FitsSigned w128 c.args.q = c.ranges.q in
     let fa : FitsSigned w128 c.args.a = c.ranges.a in
     let ts = meanings t.places t.value_of c.args.terms.now in
-    let fit : AreTerms c.args.n ts = meanings-terms c.args.n t.places t.value_of m.family m.submodular c.args.terms.now (placed-meanings c.args.n t.places t.value_of c.args.terms.now c.requires.placed) in
+    let r = c.requires in
+    let init = c.args.graph.now.bases in
+    let first = c.args.run.now.first in
+    let hops = c.args.run.now.hops.items in
+    let n = length c.args.graph.now.spots.items in
+    let fit = are_terms r.graph m.family m.submodular in
     let k : ℕ = c.loop-k.k - 1 in
-    let hop = hop_at c.args.hops.now k in
+    let rows = c.loop-k.graph.bases in
     let inv = simp to_z-of_z at c.loop-k.invariant in
     let back : c.loop-k.k ≡ suc k = omega (arith, c.loop-k-test.true) in
-    let h : HaveMoved ts c.args.q c.args.bases.now c.args.first c.args.hops.now c.args.a (suc k) c.loop-k.bases =
-    let P : ℕ → Type 0 = λ z. HaveMoved ts c.args.q c.args.bases.now c.args.first c.args.hops.now c.args.a z c.loop-k.bases in subst P back inv.0 in
-    let named = names ts c.args.n c.args.q fit c.args.bases.now c.args.first c.args.hops.now c.args.a c.requires.low c.requires.named c.requires.order k c.loop-k.bases h in
-    let row = row_base ts c.args.n c.args.q fit c.args.bases.now c.args.first c.args.hops.now c.args.a c.requires.low c.requires.named c.requires.order k c.loop-k.bases h in
-    let count = length-meanings t.places t.value_of c.args.terms.now in
-    let lt : hop.term < length c.args.terms.now = omega (arith, count, named.term_in) in
-    omega (arith, lt)
+    let P : ℕ → Type 0 = λ z. HaveMoved ts c.args.q init first hops c.args.a z rows in
+    let h : HaveMoved ts c.args.q init first hops c.args.a (suc k) rows = subst P back inv.0 in
+    let (d, falls) = r.falls in
+    let can = can_exchange ts n c.args.q fit init first hops c.args.a r.low r.named r.order d falls r.small r.high r.graph.exact.are_bases k rows h in
+    let hop_is : c.index.result.now ≡ hop_at hops k = c.index.ensures ∙ get_or_default hops k c.index.result.now no_hop (let l = h.few in omega (arith, l)) in
+    let inside = rw (counted r.graph) at can.term_in in
+    rw hop_is inside
 
-pub row_mut-requires : goal.row_mut-requires
-row_mut-requires g c =
+pub exchange_at-requires-clause-can : goal.exchange_at-requires-clause-can
+exchange_at-requires-clause-can g c =
     let t = g.T.Term in
     let m = g.met.T.Term in
     let fq : FitsSigned w128 c.args.q = c.ranges.q in
     let fa : FitsSigned w128 c.args.a = c.ranges.a in
     let ts = meanings t.places t.value_of c.args.terms.now in
-    let fit : AreTerms c.args.n ts = meanings-terms c.args.n t.places t.value_of m.family m.submodular c.args.terms.now (placed-meanings c.args.n t.places t.value_of c.args.terms.now c.requires.placed) in
+    let r = c.requires in
+    let init = c.args.graph.now.bases in
+    let first = c.args.run.now.first in
+    let hops = c.args.run.now.hops.items in
+    let n = length c.args.graph.now.spots.items in
+    let fit = are_terms r.graph m.family m.submodular in
     let k : ℕ = c.loop-k.k - 1 in
-    let hop = hop_at c.args.hops.now k in
+    let rows = c.loop-k.graph.bases in
     let inv = simp to_z-of_z at c.loop-k.invariant in
     let back : c.loop-k.k ≡ suc k = omega (arith, c.loop-k-test.true) in
-    let h : HaveMoved ts c.args.q c.args.bases.now c.args.first c.args.hops.now c.args.a (suc k) c.loop-k.bases =
-    let P : ℕ → Type 0 = λ z. HaveMoved ts c.args.q c.args.bases.now c.args.first c.args.hops.now c.args.a z c.loop-k.bases in subst P back inv.0 in
-    let named = names ts c.args.n c.args.q fit c.args.bases.now c.args.first c.args.hops.now c.args.a c.requires.low c.requires.named c.requires.order k c.loop-k.bases h in
-    let row = row_base ts c.args.n c.args.q fit c.args.bases.now c.args.first c.args.hops.now c.args.a c.requires.low c.requires.named c.requires.order k c.loop-k.bases h in
-    let count = length-meanings t.places t.value_of c.args.terms.now in
-    let lt : hop.term < length c.args.terms.now = omega (arith, count, named.term_in) in
-    let mm = meanings-at t.places t.value_of c.args.terms.now hop.term c.index-terms-hop.result lt c.index-terms-hop.is in
-    let places : length (term_at ts hop.term).places ≡ length (t.places c.index-terms-hop.result) = ap (λ (u : Meaning). length u.places) mm in
-    let rows = length-bases c.args.q ts c.loop-k.bases h.bases in
-    let lr : hop.term < length c.loop-k.bases = omega (arith, rows, named.term_in) in
-    lr
-
-pub move_one-requires-clause-entries : goal.move_one-requires-clause-entries
-move_one-requires-clause-entries g c =
-    let t = g.T.Term in
-    let m = g.met.T.Term in
-    let fq : FitsSigned w128 c.args.q = c.ranges.q in
-    let fa : FitsSigned w128 c.args.a = c.ranges.a in
-    let ts = meanings t.places t.value_of c.args.terms.now in
-    let fit : AreTerms c.args.n ts = meanings-terms c.args.n t.places t.value_of m.family m.submodular c.args.terms.now (placed-meanings c.args.n t.places t.value_of c.args.terms.now c.requires.placed) in
-    let k : ℕ = c.loop-k.k - 1 in
-    let hop = hop_at c.args.hops.now k in
-    let inv = simp to_z-of_z at c.loop-k.invariant in
-    let back : c.loop-k.k ≡ suc k = omega (arith, c.loop-k-test.true) in
-    let h : HaveMoved ts c.args.q c.args.bases.now c.args.first c.args.hops.now c.args.a (suc k) c.loop-k.bases =
-    let P : ℕ → Type 0 = λ z. HaveMoved ts c.args.q c.args.bases.now c.args.first c.args.hops.now c.args.a z c.loop-k.bases in subst P back inv.0 in
-    let named = names ts c.args.n c.args.q fit c.args.bases.now c.args.first c.args.hops.now c.args.a c.requires.low c.requires.named c.requires.order k c.loop-k.bases h in
-    let row = row_base ts c.args.n c.args.q fit c.args.bases.now c.args.first c.args.hops.now c.args.a c.requires.low c.requires.named c.requires.order k c.loop-k.bases h in
-    let count = length-meanings t.places t.value_of c.args.terms.now in
-    let lt : hop.term < length c.args.terms.now = omega (arith, count, named.term_in) in
-    let mm = meanings-at t.places t.value_of c.args.terms.now hop.term c.index-terms-hop.result lt c.index-terms-hop.is in
-    let places : length (term_at ts hop.term).places ≡ length (t.places c.index-terms-hop.result) = ap (λ (u : Meaning). length u.places) mm in
-    let rows = length-bases c.args.q ts c.loop-k.bases h.bases in
-    let lr : hop.term < length c.loop-k.bases = omega (arith, rows, named.term_in) in
-    let shown : c.row_mut.result.now ≡ row_at c.loop-k.bases hop.term = c.row_mut.ensures.value in
-    let sized : length c.row_mut.result.now ≡ length (term_at ts hop.term).places = ap length shown ∙ row.0 in
-    sized ∙ places
-
-pub move_one-requires-clause-bounded : goal.move_one-requires-clause-bounded
-move_one-requires-clause-bounded g c =
-    let t = g.T.Term in
-    let m = g.met.T.Term in
-    let fq : FitsSigned w128 c.args.q = c.ranges.q in
-    let fa : FitsSigned w128 c.args.a = c.ranges.a in
-    let ts = meanings t.places t.value_of c.args.terms.now in
-    let fit : AreTerms c.args.n ts = meanings-terms c.args.n t.places t.value_of m.family m.submodular c.args.terms.now (placed-meanings c.args.n t.places t.value_of c.args.terms.now c.requires.placed) in
-    let k : ℕ = c.loop-k.k - 1 in
-    let hop = hop_at c.args.hops.now k in
-    let inv = simp to_z-of_z at c.loop-k.invariant in
-    let back : c.loop-k.k ≡ suc k = omega (arith, c.loop-k-test.true) in
-    let h : HaveMoved ts c.args.q c.args.bases.now c.args.first c.args.hops.now c.args.a (suc k) c.loop-k.bases =
-    let P : ℕ → Type 0 = λ z. HaveMoved ts c.args.q c.args.bases.now c.args.first c.args.hops.now c.args.a z c.loop-k.bases in subst P back inv.0 in
-    let named = names ts c.args.n c.args.q fit c.args.bases.now c.args.first c.args.hops.now c.args.a c.requires.low c.requires.named c.requires.order k c.loop-k.bases h in
-    let row = row_base ts c.args.n c.args.q fit c.args.bases.now c.args.first c.args.hops.now c.args.a c.requires.low c.requires.named c.requires.order k c.loop-k.bases h in
-    let count = length-meanings t.places t.value_of c.args.terms.now in
-    let lt : hop.term < length c.args.terms.now = omega (arith, count, named.term_in) in
-    let mm = meanings-at t.places t.value_of c.args.terms.now hop.term c.index-terms-hop.result lt c.index-terms-hop.is in
-    let places : length (term_at ts hop.term).places ≡ length (t.places c.index-terms-hop.result) = ap (λ (u : Meaning). length u.places) mm in
-    let rows = length-bases c.args.q ts c.loop-k.bases h.bases in
-    let lr : hop.term < length c.loop-k.bases = omega (arith, rows, named.term_in) in
-    all-at (λ a. a ≤ℤ pos (10 ^ 18)) t.size_of c.args.terms.now hop.term c.index-terms-hop.result lt c.index-terms-hop.is c.requires.bounded
-
-pub move_one-requires-clause-small : goal.move_one-requires-clause-small
-move_one-requires-clause-small g c =
-    let t = g.T.Term in
-    let m = g.met.T.Term in
-    let fq : FitsSigned w128 c.args.q = c.ranges.q in
-    let fa : FitsSigned w128 c.args.a = c.ranges.a in
-    let ts = meanings t.places t.value_of c.args.terms.now in
-    let fit : AreTerms c.args.n ts = meanings-terms c.args.n t.places t.value_of m.family m.submodular c.args.terms.now (placed-meanings c.args.n t.places t.value_of c.args.terms.now c.requires.placed) in
-    let k : ℕ = c.loop-k.k - 1 in
-    let hop = hop_at c.args.hops.now k in
-    let inv = simp to_z-of_z at c.loop-k.invariant in
-    let back : c.loop-k.k ≡ suc k = omega (arith, c.loop-k-test.true) in
-    let h : HaveMoved ts c.args.q c.args.bases.now c.args.first c.args.hops.now c.args.a (suc k) c.loop-k.bases =
-    let P : ℕ → Type 0 = λ z. HaveMoved ts c.args.q c.args.bases.now c.args.first c.args.hops.now c.args.a z c.loop-k.bases in subst P back inv.0 in
-    let named = names ts c.args.n c.args.q fit c.args.bases.now c.args.first c.args.hops.now c.args.a c.requires.low c.requires.named c.requires.order k c.loop-k.bases h in
-    let row = row_base ts c.args.n c.args.q fit c.args.bases.now c.args.first c.args.hops.now c.args.a c.requires.low c.requires.named c.requires.order k c.loop-k.bases h in
-    let count = length-meanings t.places t.value_of c.args.terms.now in
-    let lt : hop.term < length c.args.terms.now = omega (arith, count, named.term_in) in
-    let mm = meanings-at t.places t.value_of c.args.terms.now hop.term c.index-terms-hop.result lt c.index-terms-hop.is in
-    let places : length (term_at ts hop.term).places ≡ length (t.places c.index-terms-hop.result) = ap (λ (u : Meaning). length u.places) mm in
-    let rows = length-bases c.args.q ts c.loop-k.bases h.bases in
-    let lr : hop.term < length c.loop-k.bases = omega (arith, rows, named.term_in) in
-    let shown : c.row_mut.result.now ≡ row_at c.loop-k.bases hop.term = c.row_mut.ensures.value in
-    let sized : length c.row_mut.result.now ≡ length (term_at ts hop.term).places = ap length shown ∙ row.0 in
-    let (d, falls) = c.requires.falls in
-    let init = length-bases c.args.q ts c.args.bases.now c.requires.bases in
-    rw shown (moved_small ts c.args.n c.args.q fit c.args.bases.now c.args.first c.args.hops.now c.args.a c.requires.low c.requires.named c.requires.order d falls c.requires.small c.requires.high (suc k) c.loop-k.bases h hop.term (omega (arith, init, named.term_in)))
-
-pub move_one-requires-clause-base : goal.move_one-requires-clause-base
-move_one-requires-clause-base g c =
-    let t = g.T.Term in
-    let m = g.met.T.Term in
-    let fq : FitsSigned w128 c.args.q = c.ranges.q in
-    let fa : FitsSigned w128 c.args.a = c.ranges.a in
-    let ts = meanings t.places t.value_of c.args.terms.now in
-    let fit : AreTerms c.args.n ts = meanings-terms c.args.n t.places t.value_of m.family m.submodular c.args.terms.now (placed-meanings c.args.n t.places t.value_of c.args.terms.now c.requires.placed) in
-    let k : ℕ = c.loop-k.k - 1 in
-    let hop = hop_at c.args.hops.now k in
-    let inv = simp to_z-of_z at c.loop-k.invariant in
-    let back : c.loop-k.k ≡ suc k = omega (arith, c.loop-k-test.true) in
-    let h : HaveMoved ts c.args.q c.args.bases.now c.args.first c.args.hops.now c.args.a (suc k) c.loop-k.bases =
-    let P : ℕ → Type 0 = λ z. HaveMoved ts c.args.q c.args.bases.now c.args.first c.args.hops.now c.args.a z c.loop-k.bases in subst P back inv.0 in
-    let named = names ts c.args.n c.args.q fit c.args.bases.now c.args.first c.args.hops.now c.args.a c.requires.low c.requires.named c.requires.order k c.loop-k.bases h in
-    let row = row_base ts c.args.n c.args.q fit c.args.bases.now c.args.first c.args.hops.now c.args.a c.requires.low c.requires.named c.requires.order k c.loop-k.bases h in
-    let count = length-meanings t.places t.value_of c.args.terms.now in
-    let lt : hop.term < length c.args.terms.now = omega (arith, count, named.term_in) in
-    let mm = meanings-at t.places t.value_of c.args.terms.now hop.term c.index-terms-hop.result lt c.index-terms-hop.is in
-    let places : length (term_at ts hop.term).places ≡ length (t.places c.index-terms-hop.result) = ap (λ (u : Meaning). length u.places) mm in
-    let rows = length-bases c.args.q ts c.loop-k.bases h.bases in
-    let lr : hop.term < length c.loop-k.bases = omega (arith, rows, named.term_in) in
-    let shown : c.row_mut.result.now ≡ row_at c.loop-k.bases hop.term = c.row_mut.ensures.value in
-    let sized : length c.row_mut.result.now ≡ length (term_at ts hop.term).places = ap length shown ∙ row.0 in
-    let b = rw mm at row.1 in
-    simp to_z-of_z (rw shown b)
-
-pub move_one-requires-clause-noted : goal.move_one-requires-clause-noted
-move_one-requires-clause-noted g c =
-    let t = g.T.Term in
-    let m = g.met.T.Term in
-    let fq : FitsSigned w128 c.args.q = c.ranges.q in
-    let fa : FitsSigned w128 c.args.a = c.ranges.a in
-    let ts = meanings t.places t.value_of c.args.terms.now in
-    let fit : AreTerms c.args.n ts = meanings-terms c.args.n t.places t.value_of m.family m.submodular c.args.terms.now (placed-meanings c.args.n t.places t.value_of c.args.terms.now c.requires.placed) in
-    let k : ℕ = c.loop-k.k - 1 in
-    let hop = hop_at c.args.hops.now k in
-    let inv = simp to_z-of_z at c.loop-k.invariant in
-    let back : c.loop-k.k ≡ suc k = omega (arith, c.loop-k-test.true) in
-    let h : HaveMoved ts c.args.q c.args.bases.now c.args.first c.args.hops.now c.args.a (suc k) c.loop-k.bases =
-    let P : ℕ → Type 0 = λ z. HaveMoved ts c.args.q c.args.bases.now c.args.first c.args.hops.now c.args.a z c.loop-k.bases in subst P back inv.0 in
-    let named = names ts c.args.n c.args.q fit c.args.bases.now c.args.first c.args.hops.now c.args.a c.requires.low c.requires.named c.requires.order k c.loop-k.bases h in
-    let row = row_base ts c.args.n c.args.q fit c.args.bases.now c.args.first c.args.hops.now c.args.a c.requires.low c.requires.named c.requires.order k c.loop-k.bases h in
-    let count = length-meanings t.places t.value_of c.args.terms.now in
-    let lt : hop.term < length c.args.terms.now = omega (arith, count, named.term_in) in
-    let mm = meanings-at t.places t.value_of c.args.terms.now hop.term c.index-terms-hop.result lt c.index-terms-hop.is in
-    let places : length (term_at ts hop.term).places ≡ length (t.places c.index-terms-hop.result) = ap (λ (u : Meaning). length u.places) mm in
-    let rows = length-bases c.args.q ts c.loop-k.bases h.bases in
-    let lr : hop.term < length c.loop-k.bases = omega (arith, rows, named.term_in) in
-    let shown : c.row_mut.result.now ≡ row_at c.loop-k.bases hop.term = c.row_mut.ensures.value in
-    let sized : length c.row_mut.result.now ≡ length (term_at ts hop.term).places = ap length shown ∙ row.0 in
-    let fit' = inv.2 hop.term lt c.index-terms-hop.result c.index-terms-hop.is c.index_mut-note.result.now c.index_mut-note.ensures.value in
-    simp to_z-of_z (rw shown fit')
-
-pub move_one-requires-clause-apart : goal.move_one-requires-clause-apart
-move_one-requires-clause-apart g c =
-    let t = g.T.Term in
-    let m = g.met.T.Term in
-    let fq : FitsSigned w128 c.args.q = c.ranges.q in
-    let fa : FitsSigned w128 c.args.a = c.ranges.a in
-    let ts = meanings t.places t.value_of c.args.terms.now in
-    let fit : AreTerms c.args.n ts = meanings-terms c.args.n t.places t.value_of m.family m.submodular c.args.terms.now (placed-meanings c.args.n t.places t.value_of c.args.terms.now c.requires.placed) in
-    let k : ℕ = c.loop-k.k - 1 in
-    let hop = hop_at c.args.hops.now k in
-    let inv = simp to_z-of_z at c.loop-k.invariant in
-    let back : c.loop-k.k ≡ suc k = omega (arith, c.loop-k-test.true) in
-    let h : HaveMoved ts c.args.q c.args.bases.now c.args.first c.args.hops.now c.args.a (suc k) c.loop-k.bases =
-    let P : ℕ → Type 0 = λ z. HaveMoved ts c.args.q c.args.bases.now c.args.first c.args.hops.now c.args.a z c.loop-k.bases in subst P back inv.0 in
-    let named = names ts c.args.n c.args.q fit c.args.bases.now c.args.first c.args.hops.now c.args.a c.requires.low c.requires.named c.requires.order k c.loop-k.bases h in
-    let row = row_base ts c.args.n c.args.q fit c.args.bases.now c.args.first c.args.hops.now c.args.a c.requires.low c.requires.named c.requires.order k c.loop-k.bases h in
-    let count = length-meanings t.places t.value_of c.args.terms.now in
-    let lt : hop.term < length c.args.terms.now = omega (arith, count, named.term_in) in
-    next_apart ts c.args.n c.args.q fit c.args.bases.now c.args.first c.args.hops.now c.args.a c.requires.low c.requires.named c.requires.order k c.loop-k.bases h
-
-pub move_one-requires-clause-from : goal.move_one-requires-clause-from
-move_one-requires-clause-from g c =
-    let t = g.T.Term in
-    let m = g.met.T.Term in
-    let fq : FitsSigned w128 c.args.q = c.ranges.q in
-    let fa : FitsSigned w128 c.args.a = c.ranges.a in
-    let ts = meanings t.places t.value_of c.args.terms.now in
-    let fit : AreTerms c.args.n ts = meanings-terms c.args.n t.places t.value_of m.family m.submodular c.args.terms.now (placed-meanings c.args.n t.places t.value_of c.args.terms.now c.requires.placed) in
-    let k : ℕ = c.loop-k.k - 1 in
-    let hop = hop_at c.args.hops.now k in
-    let inv = simp to_z-of_z at c.loop-k.invariant in
-    let back : c.loop-k.k ≡ suc k = omega (arith, c.loop-k-test.true) in
-    let h : HaveMoved ts c.args.q c.args.bases.now c.args.first c.args.hops.now c.args.a (suc k) c.loop-k.bases =
-    let P : ℕ → Type 0 = λ z. HaveMoved ts c.args.q c.args.bases.now c.args.first c.args.hops.now c.args.a z c.loop-k.bases in subst P back inv.0 in
-    let named = names ts c.args.n c.args.q fit c.args.bases.now c.args.first c.args.hops.now c.args.a c.requires.low c.requires.named c.requires.order k c.loop-k.bases h in
-    let row = row_base ts c.args.n c.args.q fit c.args.bases.now c.args.first c.args.hops.now c.args.a c.requires.low c.requires.named c.requires.order k c.loop-k.bases h in
-    let count = length-meanings t.places t.value_of c.args.terms.now in
-    let lt : hop.term < length c.args.terms.now = omega (arith, count, named.term_in) in
-    let mm = meanings-at t.places t.value_of c.args.terms.now hop.term c.index-terms-hop.result lt c.index-terms-hop.is in
-    let places : length (term_at ts hop.term).places ≡ length (t.places c.index-terms-hop.result) = ap (λ (u : Meaning). length u.places) mm in
-    let rows = length-bases c.args.q ts c.loop-k.bases h.bases in
-    let lr : hop.term < length c.loop-k.bases = omega (arith, rows, named.term_in) in
-    let shown : c.row_mut.result.now ≡ row_at c.loop-k.bases hop.term = c.row_mut.ensures.value in
-    let sized : length c.row_mut.result.now ≡ length (term_at ts hop.term).places = ap length shown ∙ row.0 in
-    omega (arith, sized, named.u_in)
-
-pub move_one-requires-clause-onto : goal.move_one-requires-clause-onto
-move_one-requires-clause-onto g c =
-    let t = g.T.Term in
-    let m = g.met.T.Term in
-    let fq : FitsSigned w128 c.args.q = c.ranges.q in
-    let fa : FitsSigned w128 c.args.a = c.ranges.a in
-    let ts = meanings t.places t.value_of c.args.terms.now in
-    let fit : AreTerms c.args.n ts = meanings-terms c.args.n t.places t.value_of m.family m.submodular c.args.terms.now (placed-meanings c.args.n t.places t.value_of c.args.terms.now c.requires.placed) in
-    let k : ℕ = c.loop-k.k - 1 in
-    let hop = hop_at c.args.hops.now k in
-    let inv = simp to_z-of_z at c.loop-k.invariant in
-    let back : c.loop-k.k ≡ suc k = omega (arith, c.loop-k-test.true) in
-    let h : HaveMoved ts c.args.q c.args.bases.now c.args.first c.args.hops.now c.args.a (suc k) c.loop-k.bases =
-    let P : ℕ → Type 0 = λ z. HaveMoved ts c.args.q c.args.bases.now c.args.first c.args.hops.now c.args.a z c.loop-k.bases in subst P back inv.0 in
-    let named = names ts c.args.n c.args.q fit c.args.bases.now c.args.first c.args.hops.now c.args.a c.requires.low c.requires.named c.requires.order k c.loop-k.bases h in
-    let row = row_base ts c.args.n c.args.q fit c.args.bases.now c.args.first c.args.hops.now c.args.a c.requires.low c.requires.named c.requires.order k c.loop-k.bases h in
-    let count = length-meanings t.places t.value_of c.args.terms.now in
-    let lt : hop.term < length c.args.terms.now = omega (arith, count, named.term_in) in
-    let mm = meanings-at t.places t.value_of c.args.terms.now hop.term c.index-terms-hop.result lt c.index-terms-hop.is in
-    let places : length (term_at ts hop.term).places ≡ length (t.places c.index-terms-hop.result) = ap (λ (u : Meaning). length u.places) mm in
-    let rows = length-bases c.args.q ts c.loop-k.bases h.bases in
-    let lr : hop.term < length c.loop-k.bases = omega (arith, rows, named.term_in) in
-    let shown : c.row_mut.result.now ≡ row_at c.loop-k.bases hop.term = c.row_mut.ensures.value in
-    let sized : length c.row_mut.result.now ≡ length (term_at ts hop.term).places = ap length shown ∙ row.0 in
-    omega (arith, sized, named.v_in)
-
-pub move_one-requires-clause-room : goal.move_one-requires-clause-room
-move_one-requires-clause-room g c =
-    let t = g.T.Term in
-    let m = g.met.T.Term in
-    let fq : FitsSigned w128 c.args.q = c.ranges.q in
-    let fa : FitsSigned w128 c.args.a = c.ranges.a in
-    let ts = meanings t.places t.value_of c.args.terms.now in
-    let fit : AreTerms c.args.n ts = meanings-terms c.args.n t.places t.value_of m.family m.submodular c.args.terms.now (placed-meanings c.args.n t.places t.value_of c.args.terms.now c.requires.placed) in
-    let k : ℕ = c.loop-k.k - 1 in
-    let hop = hop_at c.args.hops.now k in
-    let inv = simp to_z-of_z at c.loop-k.invariant in
-    let back : c.loop-k.k ≡ suc k = omega (arith, c.loop-k-test.true) in
-    let h : HaveMoved ts c.args.q c.args.bases.now c.args.first c.args.hops.now c.args.a (suc k) c.loop-k.bases =
-    let P : ℕ → Type 0 = λ z. HaveMoved ts c.args.q c.args.bases.now c.args.first c.args.hops.now c.args.a z c.loop-k.bases in subst P back inv.0 in
-    let named = names ts c.args.n c.args.q fit c.args.bases.now c.args.first c.args.hops.now c.args.a c.requires.low c.requires.named c.requires.order k c.loop-k.bases h in
-    let row = row_base ts c.args.n c.args.q fit c.args.bases.now c.args.first c.args.hops.now c.args.a c.requires.low c.requires.named c.requires.order k c.loop-k.bases h in
-    let count = length-meanings t.places t.value_of c.args.terms.now in
-    let lt : hop.term < length c.args.terms.now = omega (arith, count, named.term_in) in
-    let mm = meanings-at t.places t.value_of c.args.terms.now hop.term c.index-terms-hop.result lt c.index-terms-hop.is in
-    let places : length (term_at ts hop.term).places ≡ length (t.places c.index-terms-hop.result) = ap (λ (u : Meaning). length u.places) mm in
-    let rows = length-bases c.args.q ts c.loop-k.bases h.bases in
-    let lr : hop.term < length c.loop-k.bases = omega (arith, rows, named.term_in) in
-    let shown : c.row_mut.result.now ≡ row_at c.loop-k.bases hop.term = c.row_mut.ensures.value in
-    let sized : length c.row_mut.result.now ≡ length (term_at ts hop.term).places = ap length shown ∙ row.0 in
-    let room = rw mm at (next_room ts c.args.n c.args.q fit c.args.bases.now c.args.first c.args.hops.now c.args.a c.requires.low c.requires.named c.requires.order k c.loop-k.bases h) in
-    simp to_z-of_z (rw shown room)
+    let P : ℕ → Type 0 = λ z. HaveMoved ts c.args.q init first hops c.args.a z rows in
+    let h : HaveMoved ts c.args.q init first hops c.args.a (suc k) rows = subst P back inv.0 in
+    let (d, falls) = r.falls in
+    let can = can_exchange ts n c.args.q fit init first hops c.args.a r.low r.named r.order d falls r.small r.high r.graph.exact.are_bases k rows h in
+    let hop_is : c.index.result.now ≡ hop_at hops k = c.index.ensures ∙ get_or_default hops k c.index.result.now no_hop (let l = h.few in omega (arith, l)) in
+    rw hop_is (simp to_z-of_z can)
 
 pub loop-k-preserved : goal.loop-k-preserved
 loop-k-preserved g c =
@@ -336,33 +88,28 @@ loop-k-preserved g c =
     let fq : FitsSigned w128 c.args.q = c.ranges.q in
     let fa : FitsSigned w128 c.args.a = c.ranges.a in
     let ts = meanings t.places t.value_of c.args.terms.now in
-    let fit : AreTerms c.args.n ts = meanings-terms c.args.n t.places t.value_of m.family m.submodular c.args.terms.now (placed-meanings c.args.n t.places t.value_of c.args.terms.now c.requires.placed) in
+    let r = c.requires in
+    let init = c.args.graph.now.bases in
+    let first = c.args.run.now.first in
+    let hops = c.args.run.now.hops.items in
+    let n = length c.args.graph.now.spots.items in
+    let fit = are_terms r.graph m.family m.submodular in
     let k : ℕ = c.loop-k.k - 1 in
-    let hop = hop_at c.args.hops.now k in
+    let rows = c.loop-k.graph.bases in
     let inv = simp to_z-of_z at c.loop-k.invariant in
     let back : c.loop-k.k ≡ suc k = omega (arith, c.loop-k-test.true) in
-    let h : HaveMoved ts c.args.q c.args.bases.now c.args.first c.args.hops.now c.args.a (suc k) c.loop-k.bases =
-    let P : ℕ → Type 0 = λ z. HaveMoved ts c.args.q c.args.bases.now c.args.first c.args.hops.now c.args.a z c.loop-k.bases in subst P back inv.0 in
-    let named = names ts c.args.n c.args.q fit c.args.bases.now c.args.first c.args.hops.now c.args.a c.requires.low c.requires.named c.requires.order k c.loop-k.bases h in
-    let row = row_base ts c.args.n c.args.q fit c.args.bases.now c.args.first c.args.hops.now c.args.a c.requires.low c.requires.named c.requires.order k c.loop-k.bases h in
-    let count = length-meanings t.places t.value_of c.args.terms.now in
-    let lt : hop.term < length c.args.terms.now = omega (arith, count, named.term_in) in
-    let mm = meanings-at t.places t.value_of c.args.terms.now hop.term c.index-terms-hop.result lt c.index-terms-hop.is in
-    let places : length (term_at ts hop.term).places ≡ length (t.places c.index-terms-hop.result) = ap (λ (u : Meaning). length u.places) mm in
-    let rows = length-bases c.args.q ts c.loop-k.bases h.bases in
-    let lr : hop.term < length c.loop-k.bases = omega (arith, rows, named.term_in) in
-    let shown : c.row_mut.result.now ≡ row_at c.loop-k.bases hop.term = c.row_mut.ensures.value in
-    let sized : length c.row_mut.result.now ≡ length (term_at ts hop.term).places = ap length shown ∙ row.0 in
-    let old = row_at c.loop-k.bases hop.term in
-    let x' = c.move_one.new.x in
-    let init = length-bases c.args.q ts c.args.bases.now c.requires.bases in
-    let first_base = bases-at c.args.q ts c.args.bases.now hop.term c.requires.bases named.term_in in
-    let moved : x' ≡ exchanged old hop.u hop.v c.args.a = simp to_z-of_z at (rw shown at c.in_ok-move_one.ensures.moved) in
-    let same : length x' ≡ length old = ap length moved ∙ length-exchanged old hop.u hop.v c.args.a in
-    let whole : take (length old) (x' ++ drop (length x') old) ≡ x' = take_at x' (drop (length x') old) (length old) same in
-    let more = have_moved_more ts c.args.n c.args.q fit c.args.bases.now c.args.first c.args.hops.now c.args.a c.requires.low c.requires.named c.requires.order k c.loop-k.bases h first_base.0 (init) in
-    let more' = rw (← moved) at more in
-    let noted = simp to_z-of_z at c.in_ok-move_one.ensures.noted in
-    let rows_count : length c.loop-k.bases ≡ length c.args.terms.now = rows ∙ count in
-    let notes = notes_set t.fits c.args.q c.args.terms.now c.loop-k.notes.items c.loop-k.bases hop.term c.index-terms-hop.result c.move_one.new.note x' inv.1 rows_count lt inv.2 c.index-terms-hop.is noted in
-    rw whole (simp to_z-of_z (more', length-set c.loop-k.notes.items hop.term c.move_one.new.note ∙ inv.1, notes))
+    let P : ℕ → Type 0 = λ z. HaveMoved ts c.args.q init first hops c.args.a z rows in
+    let h : HaveMoved ts c.args.q init first hops c.args.a (suc k) rows = subst P back inv.0 in
+    let hop_is : c.index.result.now ≡ hop_at hops k = c.index.ensures ∙ get_or_default hops k c.index.result.now no_hop (let l = h.few in omega (arith, l)) in
+    let e = c.in_ok-exchange_at.ensures in
+    let moved = rw hop_is at (simp to_z-of_z at e.moved) in
+    let more = exchange_moved ts n c.args.q fit init first hops c.args.a r.low r.named r.order r.graph.exact.are_bases k rows h in
+    let W : ℕ → Type 0 = λ z. IsWhole t.places t.value_of t.size_of t.fits c.args.terms.now z c.args.q c.exchange_at.new.graph in
+    simp to_z-of_z (rw moved more, subst W inv.1.exact.are_spots.count (simp to_z-of_z at e.graph))
+
+pub returns-clause-graph : goal.returns-clause-graph
+returns-clause-graph g c =
+    let fq : FitsSigned w128 c.args.q = c.ranges.q in
+    let fa : FitsSigned w128 c.args.a = c.ranges.a in
+    let inv = simp to_z-of_z at c.loop-k.invariant in
+    inv.1

@@ -12,10 +12,10 @@ abbrev pub invariant-loop-k : goal.invariant-loop-k
 invariant-loop-k g l = let t = g.T.Term in (l.k < length l.levels)
     × (bit_in (set_at l.levels l.k) l.at ≡ 1)
     × (l.at ≡ last_of l.first (steps_of l.hops.items))
-    × AreHops (meanings t.places t.value_of l.terms) l.rows l.first l.hops.items
+    × AreHops (meanings t.places t.value_of l.terms) l.graph.rows.items l.first l.hops.items
     × FallsAlong (depth_of l.levels) l.first (steps_of l.hops.items)
     × (length l.hops.items + l.k + 1 ≡ length l.levels)
-    × AreLeast (meanings t.places t.value_of l.terms) l.rows (depth_of l.levels) l.first l.hops.items
+    × AreLeast (meanings t.places t.value_of l.terms) l.graph.rows.items (depth_of l.levels) l.first l.hops.items
 
 abbrev pub decreases-loop-k : goal.decreases-loop-k
 decreases-loop-k g l = l.k

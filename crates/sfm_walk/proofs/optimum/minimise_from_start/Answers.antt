@@ -1,0 +1,64 @@
+use Rattle.std.proofs.Common.{FitsSigned}
+use Rattle.std.proofs.lemmas.Int.{to_z-of_z}
+use mir.Syntax.{w128}
+use Rattle.sfm_walk.proofs.Starting.{each_bounded, starts_within}
+use Rattle.sfm_walk.proofs.WholeGraphs.{size_low}
+use Rattle.sfm_walk.proofs.optimum.minimise_from_start.Goals as goal
+
+pub start_rows-requires-clause-bounded : goal.start_rows-requires-clause-bounded
+start_rows-requires-clause-bounded g c =
+    let t = g.T.Term in
+    let m = g.met.T.Term in
+    let fq : FitsSigned w128 c.args.q = c.ranges.q in
+    let each = each_bounded t.size_of c.args.terms.now (size_low t.places t.value_of t.size_of m.submodular m.bounded) c.requires.bounded.small in
+    each
+
+pub improve-requires-clause-small : goal.improve-requires-clause-small
+improve-requires-clause-small g c =
+    let t = g.T.Term in
+    let m = g.met.T.Term in
+    let fq : FitsSigned w128 c.args.q = c.ranges.q in
+    let each = each_bounded t.size_of c.args.terms.now (size_low t.places t.value_of t.size_of m.submodular m.bounded) c.requires.bounded.small in
+    let rows = simp to_z-of_z at c.in_ok-first_bases.ensures.starts in
+    rw (c.in_ok-restart.ensures.bases, rows) (starts_within t.size_of t.start_of c.args.q (λ x. m.starts_small x c.args.q c.requires.factor.low) c.requires.factor c.args.terms.now each)
+
+pub returns-clause-bases : goal.returns-clause-bases
+returns-clause-bases g c =
+    let fq : FitsSigned w128 c.args.q = c.ranges.q in
+    let known = simp to_z-of_z at c.in_ok-rested.ensures.bases in
+    rw c.in_ok-bases.ensures known
+
+pub returns-clause-small : goal.returns-clause-small
+returns-clause-small g c =
+    let fq : FitsSigned w128 c.args.q = c.ranges.q in
+    let known = c.in_ok-rested.ensures.small in
+    rw c.in_ok-bases.ensures known
+
+pub returns-clause-rest : goal.returns-clause-rest
+returns-clause-rest g c =
+    let fq : FitsSigned w128 c.args.q = c.ranges.q in
+    let known = c.in_ok-rested.ensures.rest in
+    rw c.in_ok-bases.ensures known
+
+pub returns-clause-ends : goal.returns-clause-ends
+returns-clause-ends g c =
+    let fq : FitsSigned w128 c.args.q = c.ranges.q in
+    let known = simp to_z-of_z at c.in_ok-rested.ensures.ends in
+    rw c.in_ok-bases.ensures known
+
+pub returns-clause-proves : goal.returns-clause-proves
+returns-clause-proves g c =
+    let fq : FitsSigned w128 c.args.q = c.ranges.q in
+    let known = simp to_z-of_z at c.in_ok-rested.ensures.proves in
+    rw c.in_ok-bases.ensures known
+
+pub returns-clause-counted : goal.returns-clause-counted
+returns-clause-counted g c =
+    let fq : FitsSigned w128 c.args.q = c.ranges.q in
+    let known = simp to_z-of_z at (rw (c.in_ok-restart.ensures.bases, c.in_ok-first_bases.ensures.starts) at c.in_ok-rested.ensures.counted) in
+    rw c.in_ok-bases.ensures known
+
+pub returns-clause-graph : goal.returns-clause-graph
+returns-clause-graph g c =
+    let fq : FitsSigned w128 c.args.q = c.ranges.q in
+    simp to_z-of_z at c.in_ok-rested.ensures.graph

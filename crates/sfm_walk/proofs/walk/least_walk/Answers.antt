@@ -1,0 +1,66 @@
+use Rattle.std.proofs.Common.{◌<◌, ℕ, length, subst, sym}
+use Rattle.sfm_spec.specs.Families.{meanings}
+use Rattle.sfm_walk.specs.Levels.{IsFirst}
+use Rattle.sfm_walk.specs.Reach.{IsTable, table_at}
+use Rattle.sfm_walk.specs.Spots.{AreSpots}
+use Rattle.sfm_walk.specs.Unions.{IsReadable}
+use Rattle.sfm_walk.proofs.Advancing.{least_walk, tables_readable}
+use Rattle.sfm_walk.proofs.Uniting.{links_of}
+use Rattle.sfm_walk.proofs.WholeGraphs.{are_terms, counted, low, spot_rows, unions_count}
+use Rattle.sfm_walk.proofs.walk.least_walk.Goals as goal
+
+pub follow-requires-clause-spots : goal.follow-requires-clause-spots
+follow-requires-clause-spots g c =
+    let t = g.T.Term in
+    let h = c.requires.graph in
+    let graph = c.args.graph.now in
+    let ts = meanings t.places t.value_of c.args.terms.now in
+    let S : ℕ → Type 0 = λ k. AreSpots ts k graph.spots.items in
+    subst S (sym (unions_count h)) h.exact.are_spots
+
+pub follow-requires-clause-rows : goal.follow-requires-clause-rows
+follow-requires-clause-rows g c = spot_rows c.requires.graph
+
+pub follow-requires-clause-unions : goal.follow-requires-clause-unions
+follow-requires-clause-unions g c = c.requires.graph.exact.are_unions
+
+pub follow-requires-clause-placed : goal.follow-requires-clause-placed
+follow-requires-clause-placed g c =
+    let t = g.T.Term in
+    let m = g.met.T.Term in
+    let h = c.requires.graph in
+    let graph = c.args.graph.now in
+    let ts = meanings t.places t.value_of c.args.terms.now in
+    let n = length c.args._shift.now in
+    let fit = are_terms h m.family m.submodular in
+    let right : (i : ℕ) → i < length ts → IsTable ts c.args._q graph.bases i (table_at graph.rows.items i) = λ i l. h.exact.tables i (rw (counted h) at l) in
+    let each : (i : ℕ) → i < length c.args.terms.now → IsReadable ts graph.rows.items i = λ i l.
+    let l' : i < length ts = rw (counted h) l in
+    tables_readable ts graph.bases n c.args._q (low h) fit h.exact.are_bases h.bounded.few graph.rows.items i l' (right i l') in
+    each
+
+pub follow-requires-clause-first : goal.follow-requires-clause-first
+follow-requires-clause-first g c =
+    let h = c.requires.graph in
+    let graph = c.args.graph.now in
+    let F : ℕ → Type 0 = λ k. IsFirst k graph.unions.items c.args.run.now.z.items c.args.run.now.levels.items c.args.run.now.first in
+    rw (c.deref.ensures.value, c.deref-2.ensures.value) (subst F (sym (unions_count h)) c.requires.first)
+
+pub returns-clause-walk : goal.returns-clause-walk
+returns-clause-walk g c =
+    let t = g.T.Term in
+    let m = g.met.T.Term in
+    let h = c.requires.graph in
+    let graph = c.args.graph.now in
+    let ts = meanings t.places t.value_of c.args.terms.now in
+    let n = length c.args._shift.now in
+    let fit = are_terms h m.family m.submodular in
+    let right : (i : ℕ) → i < length ts → IsTable ts c.args._q graph.bases i (table_at graph.rows.items i) = λ i l. h.exact.tables i (rw (counted h) at l) in
+    let z = c.args.run.now.z.items in
+    let levels = c.args.run.now.levels.items in
+    let rest = c.requires.run.is_rest in
+    let links = links_of ts n c.args._q graph.bases graph.spots.items graph.rows.items graph.unions.items h.exact.are_spots h.exact.are_unions right in
+    let e = c.in_ok-follow.ensures in
+    let v = c.deref-2.ensures.value in
+    least_walk ts graph.bases n c.args._q c.args._shift.now z (low h) fit h.exact.are_bases rest.places rest graph.unions.items links levels c.args.run.now.first c.requires.first
+    graph.rows.items right c.follow.new.hops.items e.some e.hops (rw v at e.falls) (rw v at e.least) (rw v at e.last)

@@ -1,0 +1,36 @@
+-- What a minimisation keeps beside the graph.
+use Rattle.std.specs.Prelude.{◌≡◌, ℕ, ◌+◌, ◌<◌, ◌≤◌, List, length, slice_index_or, ℤ, pos, ◌<ℤ◌, ◌≤ℤ◌, neg_ℤ}
+use Rattle.sfm_spec.specs.Families.{Meaning, rest_at}
+use Rattle.sfm_spec.specs.Labels.{FallsAlong}
+use Rattle.sfm_spec.specs.Progress.{TakesLeastSteps}
+use Rattle.sfm_spec.specs.Walks.{Step, IsStep, IsShortest, last_of}
+use Rattle.sfm_law.specs.Rest.{IsRest}
+use Rattle.sfm_walk.specs.declared.run.Run.{Run}
+use Rattle.sfm_walk.specs.declared.walk.Hop.{Hop}
+use Rattle.sfm_walk.specs.Hops.{AreNamed, IsMovable, hop_at, steps_of}
+use Rattle.sfm_walk.specs.Signs.{AreSigns}
+
+-- z is the residual of the rows, and the signs are those of z
+pub record IsRunAt (terms : List Meaning) (shift : List ℤ) (rows : List (List ℤ)) (run : Run) : Type 0 where
+  pub is_rest : IsRest terms shift rows run.z.items
+  pub signs : AreSigns run.z.items run.signs
+
+-- a shortest joining walk of least steps, by distances d that fall along it and by no step faster
+pub record IsLeastWalk (terms : List Meaning) (n : ℕ) (q : ℤ) (shift : List ℤ) (rows : List (List ℤ)) (z : List ℤ) (d : ℕ → ℕ) (first : ℕ) (hops : List Hop) : Type 0 where
+  pub some : 0 < length hops
+  pub named : AreNamed terms first hops
+  pub movable : (k : ℕ) → k < length hops → IsMovable terms q rows (hop_at hops k)
+  pub shortest : IsShortest terms q shift rows first (steps_of hops)
+  pub first_in : first < n
+  pub last_in : last_of first (steps_of hops) < n
+  pub under : slice_index_or z first (pos 0) <ℤ pos 0
+  pub over : pos 0 <ℤ slice_index_or z (last_of first (steps_of hops)) (pos 0)
+  pub falls : FallsAlong d first (steps_of hops)
+  pub least : TakesLeastSteps terms q rows d first (steps_of hops)
+  pub no_faster : (from : ℕ) (step : Step) → IsStep terms q rows from step → d from ≤ d step.to + 1
+  pub ends : (e : ℕ) → e < n → pos 0 <ℤ rest_at terms rows shift e → d e ≡ 0
+
+-- a magnitude of at most b
+pub record IsUpTo (b a : ℤ) : Type 0 where
+  pub low : neg_ℤ b ≤ℤ a
+  pub high : a ≤ℤ b
