@@ -4,3 +4,4 @@ pub mod Demos
 pub mod Rows
 pub mod Slopes
 pub mod Solves
+pub mod Feeds

@@ -6,3 +6,4 @@ pub mod Headline
 pub mod Reading
 pub mod Solving
 pub mod Opening
+pub mod Feeding

@@ -6,7 +6,9 @@ use Rattle.sfm_io.specs.Transfer.{IsRest, IsLong, IsFault}
 use Rattle.sfm_io.specs.Faults.{Rose}
 use Rattle.sfm_kind.specs.Instance.{InstanceData}
 use Rattle.sfm_text.specs.declared.end.TextEnd.{TextEnd}
-use Rattle.sfm_text.specs.GoodText.{text_limit, IsTextOf, IsRefusalOf}
+use Rattle.sfm_text.specs.declared.reader.Reader.{Reader}
+use Rattle.sfm_text.specs.GoodText.{IsRefusalOf}
+use Rattle.sfm_text.specs.Standing.{Stands}
 use Rattle.sfm_cert.specs.Solved.{form_of}
 use Rattle.sfm_check.specs.declared.verdicts.Verdict.{Verdict}
 use Rattle.sfm.specs.declared.status.Status.{Status}
@@ -40,22 +42,14 @@ abbrev pub ReadsText : ℕ → List ℕ → (shelf shelf' : ShelfState) → Resu
 ReadsText limit name shelf shelf' (Ok bytes) = (text : List ℕ) × IsReadAs limit bytes text × IsNamed shelf name text × WasRead shelf shelf' limit text
 ReadsText limit name shelf shelf' (Err status) = ((status ≡ ReadFault) × MissesText name shelf shelf') ⊎ (status ≡ Memory)
 
--- the instance of each text that was so read
-abbrev pub IsInstanceOf : Option (Vec ℕ Global) → InstanceData → Type 0
-IsInstanceOf bytes instance = (text : List ℕ) → IsReadAs text_limit bytes text → IsTextOf text instance.names instance.terms
-
--- the first fault of each text that was so read
-abbrev pub IsEndOf : Option (Vec ℕ Global) → TextEnd → Type 0
-IsEndOf bytes end = (text : List ℕ) → IsReadAs text_limit bytes text → IsRefusalOf text end
-
--- it is due as the refusal of each text that was so read
-pub record IsRefusalOfAll (bytes : Option (Vec ℕ Global)) (due : Due) : Type 0 where
-  pub refused : (text : List ℕ) → IsReadAs text_limit bytes text → IsRefused text due.text.items
+-- it is due as the refusal of each text whose reading so ended
+pub record IsRefusalFor (end : TextEnd) (due : Due) : Type 0 where
+  pub refused : (text : List ℕ) → IsRefusalOf text end → IsRefused text due.text.items
   pub answered : due.status ≡ Refused
 
--- what is due to solve each text that was so read
-pub record IsSolveDueOf (bytes : Option (Vec ℕ Global)) (due : Due) : Type 0 where
-  pub due_for : (text : List ℕ) → IsReadAs text_limit bytes text → IsDueToSolve text due.text.items (code_of due.status)
+-- what is due to solve each text that the reader stands for
+pub record IsSolveDueOf (reader : Reader) (due : Due) : Type 0 where
+  pub due_for : (text : List ℕ) → Stands reader text → IsDueToSolve text due.text.items (code_of due.status)
   pub answered : (due.status ≡ Done) ⊎ (due.status ≡ Refused)
 
 -- what is due for a command, or why nothing is

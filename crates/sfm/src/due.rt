@@ -1,19 +1,19 @@
 // What is due for texts that were read: a file, a refusal or a verdict, made whole before any of it is written.
-ghost use Rattle.std.specs.Prelude.{◌≡◌, ◌⊎◌, ◌+◌, ◌++◌, ◌<◌, ℕ, List, length, codes, decimal, IfOk, IfErr};
+ghost use Rattle.std.specs.Prelude.{◌≡◌, ◌⊎◌, ◌+◌, ◌++◌, ◌<◌, ℕ, List, length, codes, decimal, IfOk};
 ghost use Rattle.sfm_cert.specs.Solved.{form_of};
 ghost use Rattle.sfm.specs.Due.{refusal, verdict_line, verdict_code, wrong_word, IsVerdict, IsRefused};
 ghost use Rattle.sfm.specs.Meanings.{meanings_of};
 ghost use Rattle.sfm.specs.Status.{code_of};
-ghost use Rattle.sfm.specs.Reading.{IsReadAs, IsInstanceOf, IsEndOf, IsRefusalOfAll, IsSolveDueOf, IsCheckDueOf};
+ghost use Rattle.sfm.specs.Reading.{IsReadAs, IsRefusalFor, IsSolveDueOf, IsCheckDueOf};
 ghost use Rattle.sfm_cert.specs.Grammar.{answer_limit};
 
-use crate::solve::solve_text;
+use crate::solve::solve_read;
 use crate::status::Status;
 use itoa::Buffer;
 use sfm_base::Memory;
 use sfm_check::{Verdict, Wrong, judge};
 use sfm_kind::Instance;
-use sfm_text::{Reason, TextEnd, read_instance};
+use sfm_text::{Reader, Reason, TextEnd};
 use std::alloc::{AllocError, Global};
 
 /// A text that is to be written, and the status that goes with it.
@@ -92,49 +92,25 @@ pub fn refuse(alloc: Global, line: usize, reason: Reason) -> Result<Due, AllocEr
 }
 
 /// The refusal that ends the reading of a text, where it is no want of memory.
-pub fn due_for_end(alloc: Global, bytes: &Option<Vec<u8>>, end: TextEnd) -> Result<Due, Memory>
-    requires { IsEndOf bytes.now end }
-    ensures { IfOk result (IsRefusalOfAll bytes.now) }
+pub fn due_for_end(alloc: Global, end: TextEnd) -> Result<Due, Memory>
+    ensures { IfOk result (IsRefusalFor end) }
 {
-    let _bytes = bytes;
     match end {
         TextEnd::Refused { line, reason } => Ok(refuse(alloc, line, reason)?),
         TextEnd::Memory => Err(Memory),
     }
 }
 
-/// The instance of a text that was read, or, for None, of one that is too long: then the end of its reading.
-pub fn instance_of(alloc: Global, bytes: &Option<Vec<u8>>) -> Result<Instance, TextEnd>
-    ensures read { IfOk result (IsInstanceOf bytes.now) }
-    ensures refused { IfErr result (IsEndOf bytes.now) }
+/// What is due to solve the text that a reader stands for.
+pub fn due_to_solve(alloc: Global, reader: Reader) -> Result<Due, Memory>
+    ensures { IfOk result (IsSolveDueOf reader) }
 {
-    match bytes {
-        Some(bytes) => read_instance(alloc, bytes.as_slice()),
-        None => Err(TextEnd::Refused {
-            line: 0,
-            reason: Reason::Long,
-        }),
-    }
-}
-
-/// What is due to solve a text that was read, or, for None, one that is too long.
-pub fn due_to_solve(alloc: Global, bytes: &Option<Vec<u8>>) -> Result<Due, Memory>
-    ensures { IfOk result (IsSolveDueOf bytes.now) }
-{
-    let solved = match bytes {
-        Some(bytes) => solve_text(alloc, bytes.as_slice()),
-        None => Err(TextEnd::Refused {
-            line: 0,
-            reason: Reason::Long,
-        }),
-    };
-    match solved {
+    match solve_read(alloc, reader) {
         Ok(text) => Ok(Due {
             text,
             status: Status::Done,
         }),
-        Err(TextEnd::Refused { line, reason }) => Ok(refuse(alloc, line, reason)?),
-        Err(TextEnd::Memory) => Err(Memory),
+        Err(end) => due_for_end(alloc, end),
     }
 }
 

@@ -3,6 +3,7 @@
 
 pub mod demo;
 pub mod due;
+pub mod feed;
 pub mod run;
 pub mod solve;
 pub mod status;

@@ -7,12 +7,12 @@ ghost use Rattle.sfm.specs.Reading.{ReadsOpen, ReadsText, Prepares};
 ghost use Rattle.sfm.specs.Opening.{OpensInstance, ChecksAnswer};
 
 use crate::demo::due_to_demo;
-use crate::due::{Due, due_for_end, due_to_check, due_to_solve, instance_of};
+use crate::due::{Due, due_for_end, due_to_check, due_to_solve};
+use crate::feed::feed_text;
 use crate::status::Status;
 use sfm_cert::ANSWER_LIMIT;
 use sfm_io::{ReadEnd, Shelf, Sink, read_all, write_all};
 use sfm_kind::Instance;
-use sfm_text::TEXT_LIMIT;
 use sfm_words::{Command, Refusal, read_command};
 use std::alloc::Global;
 
@@ -53,8 +53,8 @@ fn read_text<S: Shelf>(
 fn prepare_solve<S: Shelf>(alloc: Global, shelf: &mut S, file: &str) -> Result<Due, Status>
     ensures { Prepares (Solving file.now) (S.state shelf.old) (S.state shelf.new) result }
 {
-    let text = read_text(alloc, shelf, file, TEXT_LIMIT)?;
-    match due_to_solve(alloc, &text) {
+    let reader = feed_text(alloc, shelf, file)?;
+    match due_to_solve(alloc, reader) {
         Ok(due) => Ok(due),
         Err(_) => Err(Status::Memory),
     }
@@ -72,10 +72,10 @@ fn open_instance<S: Shelf>(alloc: Global, shelf: &mut S, file: &str) -> Result<O
     ensures kept { KeepsShelf (S.state shelf.old) (S.state shelf.new) }
     ensures opened { OpensInstance file.now (S.state shelf.old) (S.state shelf.new) result }
 {
-    let text = read_text(alloc, shelf, file, TEXT_LIMIT)?;
-    match instance_of(alloc, &text) {
+    let reader = feed_text(alloc, shelf, file)?;
+    match reader.finish(alloc) {
         Ok(instance) => Ok(Opened::Good(instance)),
-        Err(end) => match due_for_end(alloc, &text, end) {
+        Err(end) => match due_for_end(alloc, end) {
             Ok(due) => Ok(Opened::Faulty(due)),
             Err(_) => Err(Status::Memory),
         },

@@ -1,9 +1,10 @@
 // From the bytes of an instance to the bytes of its answer: bases that prove the minimum are found by walks of exchanges,
 // what they tell is read off them, and all slopes are sought, each with its bases.
-ghost use Rattle.std.specs.Prelude.{IfOk, IfErr, length, []};
+ghost use Rattle.std.specs.Prelude.{ℕ, List, IfOk, IfErr, length, []};
 ghost use Rattle.sfm_cert.specs.Form.{IsFormed};
 ghost use Rattle.sfm_cert.specs.Solved.{answer_of, form_of};
 ghost use Rattle.sfm_text.specs.GoodText.{IsRefusalOf};
+ghost use Rattle.sfm_text.specs.Standing.{Stands};
 ghost use Rattle.sfm.specs.Due.{IsSolved};
 ghost use Rattle.sfm.specs.Meanings.{meanings_of};
 ghost use Rattle.sfm.specs.Solving.{Gives, IsTrueAnswer};
@@ -13,7 +14,7 @@ use sfm_cert::{Solved, write_answer};
 use sfm_extreme::{Certified, Proved, blocks, certify};
 use sfm_kind::Instance;
 use sfm_slope::partition;
-use sfm_text::{TextEnd, read_instance};
+use sfm_text::{Reader, TextEnd};
 use sfm_walk::{Optimum, minimise};
 use std::alloc::Global;
 
@@ -54,12 +55,22 @@ pub fn solve_instance(alloc: Global, instance: &Instance) -> Result<Solved, Memo
     }
 }
 
+/// The text of a right file for the text that a reader stands for, or the first fault of that text.
+pub fn solve_read(alloc: Global, reader: Reader) -> Result<Vec<u8>, TextEnd>
+    ensures solved { IfOk result (λ file. (text : List ℕ) → Stands reader text → IsSolved text file.items) }
+    ensures refused { IfErr result (λ end. (text : List ℕ) → Stands reader text → IsRefusalOf text end) }
+{
+    let instance = reader.finish(alloc)?;
+    let solved = solve_instance(alloc, &instance)?;
+    Ok(write_answer(alloc, &instance, &solved)?)
+}
+
 /// The text of a right file for an instance text, or the first fault of that text.
 pub fn solve_text(alloc: Global, text: &[u8]) -> Result<Vec<u8>, TextEnd>
     ensures solved { IfOk result (λ file. IsSolved text.now file.items) }
     ensures refused { IfErr result (IsRefusalOf text.now) }
 {
-    let instance = read_instance(alloc, text)?;
-    let solved = solve_instance(alloc, &instance)?;
-    Ok(write_answer(alloc, &instance, &solved)?)
+    let mut reader = Reader::new(alloc)?;
+    reader.feed(alloc, text)?;
+    solve_read(alloc, reader)
 }

@@ -26,6 +26,16 @@ fn pieces_and_faults_of_the_outside(rt: HostRuntime) -> Result<(), Fail> {
             ..solve(FIRST, 3, b"")
         },
         Case {
+            read_piece: 3,
+            ..solve(b"sfm 1\nground a\ncut 1 a b\nend\n", 2, b"refused 3 name\n")
+        },
+        Case {
+            read_piece: 10,
+            failing_reads: &[4],
+            err: b"sfm: read failed\n",
+            ..solve(b"sfm 2\nground a b\nweight a:-3 b:2\nend\n", 3, b"")
+        },
+        Case {
             write_piece: 10,
             failing_writes: &[3],
             err: b"sfm: write failed\n",
