@@ -242,6 +242,6 @@ fn grows_as_far_as_it_can(rt: HostRuntime) -> Result<(), Fail> {
     assert_eq!(rt; full.grow(alloc, 0, 5)?, 0);
     let mut room = kept(&rt, alloc, demands(alloc, 1, 1, 0)?);
     assert_eq!(rt; room.grow(alloc, 0, 2)?, 2);
-    assert_eq!(rt; room.grow(alloc, 0, 2)?, 1);
+    assert_eq!(rt; room.grow(alloc, 2, 2)?, 1);
     Ok(())
 }
