@@ -58,3 +58,8 @@ pub returns-in-Transversal-note-clause-reached : goal.returns-in-Transversal-not
 returns-in-Transversal-note-clause-reached c =
     let kept : to_z w128 (of_z w128 c.args.q) ≡ c.args.q = omega (arith, ints, c.requires.factor.low, c.requires.factor.high) in
     rw c.in-Transversal.is (rw kept at c.reach_with-in-Transversal-note.ensures.reached)
+
+pub returns-in-Graphic-note-clause-reached : goal.returns-in-Graphic-note-clause-reached
+returns-in-Graphic-note-clause-reached c =
+    let kept : to_z w128 (of_z w128 c.args.q) ≡ c.args.q = omega (arith, ints, c.requires.factor.low, c.requires.factor.high) in
+    rw c.in-Graphic.is (rw kept at c.reach_with-in-Graphic-note.ensures.reached)
