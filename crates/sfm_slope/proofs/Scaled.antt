@@ -22,7 +22,8 @@ sum_over-times : (q : ℤ) (s : List Bool) (x : List ℤ) → sum_over s (row_ti
 sum_over-times q [] x = sym (*ℤ-zero q)
 sum_over-times q (b ∷ s) [] = sym (*ℤ-zero q)
 sum_over-times q (true ∷ s) (a ∷ x) = ap (λ z. (q *ℤ a) +ℤ z) (sum_over-times q s x) ∙ sym (times-add q a (sum_over s x))
-sum_over-times q (false ∷ s) (a ∷ x) = ap (λ z. pos 0 +ℤ z) (sum_over-times q s x) ∙ ap (λ z. z +ℤ (q *ℤ sum_over s x)) (sym (*ℤ-zero q)) ∙ sym (times-add q (pos 0) (sum_over s x))
+sum_over-times q (false ∷ s) (a ∷ x) =
+    ap (λ z. pos 0 +ℤ z) (sum_over-times q s x) ∙ ap (λ z. z +ℤ (q *ℤ sum_over s x)) (sym (*ℤ-zero q)) ∙ sym (times-add q (pos 0) (sum_over s x))
 
 one-times : (a : ℤ) → (pos 1 *ℤ a) ≡ a
 one-times a = omega (arith, ints)
@@ -68,7 +69,8 @@ row-small q x f h = All-map (IsAtMost (10 ^ 25)) (λ a. q *ℤ a) x (λ k d l. o
       let down = times-mono q (neg_ℤ (pos (10 ^ 19))) a (omega (arith, ints, f.low)) g.low in
       record { low = omega (arith, ints, down, f.high); high = omega (arith, ints, up, f.high) }
 
-pub rows-small : (q : ℤ) (rows : List (List ℤ)) → IsFactor q → All (λ x. All (IsAtMost (10 ^ 19)) x) rows → All (λ x. All (IsAtMost (10 ^ 25)) x) (map (row_times q) rows)
+pub rows-small : (q : ℤ) (rows : List (List ℤ)) → IsFactor q → All (λ x. All (IsAtMost (10 ^ 19)) x) rows
+    → All (λ x. All (IsAtMost (10 ^ 25)) x) (map (row_times q) rows)
 rows-small q rows f h = All-map (λ x. All (IsAtMost (10 ^ 25)) x) (row_times q) rows (λ k d l. row-small q (get_or rows k d) f (h k d l))
 
 -- entries that are small are entries

@@ -1,8 +1,8 @@
 -- Sums of values, with their bounds.
-use Rattle.std.proofs.Common.{◌≡◌, ⊎_elim, ℕ, zero, suc, ◌+◌, ◌<◌, ◌^◌, Bool, true, false, List, [], ◌∷◌, ◌++◌, length, map, get_or, take, Option, Some, None, unwrap_or, ℤ, pos, neg_ℤ, ◌+ℤ◌, ◌≤ℤ◌, refl, sym, ap, ◌∙◌, arith}
+use Rattle.std.proofs.Common.{◌≡◌, ℕ, zero, suc, ◌+◌, ◌<◌, ◌^◌, Bool, false, List, [], ◌∷◌, ◌++◌, length, map, get_or, take, Option, Some, None, unwrap_or, ℤ, pos, neg_ℤ, ◌+ℤ◌, ◌≤ℤ◌, refl, ap, ◌∙◌, arith}
 use Rattle.std.proofs.lemmas.Int.{ints}
-use Rattle.std.proofs.lemmas.List.{ext_get_or, length-map, length-replicate, get_or-map}
-use Rattle.sfm_spec.specs.Sets.{Has, empty_set, part, whole_set}
+use Rattle.std.proofs.lemmas.List.{length-map, length-replicate}
+use Rattle.sfm_spec.specs.Sets.{empty_set, part}
 use Rattle.sfm_spec.specs.Terms.{SetFunction}
 use Rattle.sfm_spec.specs.Bounds.{IsGiven, total_of}
 use Rattle.sfm_spec.specs.Families.{Meaning, meanings, sum_at, value_at}

@@ -1,4 +1,4 @@
-use Rattle.std.proofs.Common.{◌≡◌, [], map, refl, ◌∙◌, arith}
+use Rattle.std.proofs.Common.{◌≡◌, [], refl, ◌∙◌, arith}
 use Rattle.std.proofs.lemmas.List.Elements.{All-nil}
 use Rattle.sfm_spec.specs.Sets.{empty_set, whole_set}
 use Rattle.sfm_spec.specs.Families.{meanings}
