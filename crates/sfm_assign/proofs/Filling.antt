@@ -8,13 +8,13 @@ use Rattle.sfm_spec.specs.Sets.{Has, sum_over}
 use Rattle.sfm_spec.specs.Bounds.{total_of}
 use Rattle.sfm_assign.specs.Splits.{sum_at, amount_at, slots_of, CanBeMet, IsShort}
 use Rattle.sfm_assign.specs.Cells.{joined, owners, cut, label_at, AreCells, IsPart}
-use Rattle.sfm_assign.specs.Search.{AreLeft, node_at, missing, IsFound, IsNode, AreNodes, IsRoot, AreRootsOf, mark_at, IsMarkOf, IsEnd, IsSearch, IsFoundSet, IsRaised, GetsMore, IsFilled}
+use Rattle.sfm_assign.specs.Search.{AreLeft, node_at, missing, IsFound, IsNode, AreNodes, IsRoot, AreRootsOf, IsMarkOf, IsEnd, IsSearch, IsFoundSet, IsRaised, GetsMore, IsFilled}
 use Rattle.sfm_assign.specs.declared.nodes.Link.{Link}
 use Rattle.sfm_assign.specs.declared.nodes.Node.{Node}
 use Rattle.sfm_assign.proofs.Amounts.{tally, tally-at, sum_over-le}
 use Rattle.sfm_assign.proofs.Rows.{AreBelow, cells_of, split_of_part}
 use Rattle.sfm_assign.proofs.Hall.{hall_easy, short_of_closed}
-use Rattle.sfm_assign.proofs.Searches.{IsMarkingTo, mark_put, mark_skip, IsGrowingTo, grow_none, grow_put, grow_skip, IsSearching, marks_below, marks_kept, search_begun, search_turned, some_apart, none_marked}
+use Rattle.sfm_assign.proofs.Searches.{mark_at, IsMarkingTo, mark_put, mark_skip, IsGrowingTo, grow_none, grow_put, grow_skip, IsSearching, marks_below, marks_kept, search_begun, search_turned, some_apart, none_marked}
 use Rattle.sfm_assign.proofs.Augments.{IsMoving, moving_begun, moving_step, moving_lower, moving_done}
 use Rattle.sfm_assign.proofs.Fills.{total_bound, to_nat, to_nat_falls, raised_part, raised_more, raised_total, stuck_filled}
 use Rattle.sfm_assign.proofs.Outcomes.{nothing_part}

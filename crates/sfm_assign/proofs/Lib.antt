@@ -2,7 +2,9 @@ pub mod Amounts
 pub mod Rows
 pub mod Hall
 pub mod Lefts
+pub mod Linking
 pub mod Searches
+pub mod Queues
 pub mod Augments
 pub mod Fills
 pub mod Cutting

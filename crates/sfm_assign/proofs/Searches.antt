@@ -1,4 +1,5 @@
--- The turns of a search: marks on slots, and nodes that are found from them.
+-- A search level by level, which no code makes: marks on slots, and nodes that are found from them. By it amounts that cannot be
+-- raised are shown to exist.
 use Rattle.std.proofs.Common.{◌≡◌, ℕ, zero, suc, ◌+◌, ◌<◌, ◌≤◌, Bool, true, false, List, [], ◌∷◌, ◌++◌, is_some, length, get_or, set, take, replicate, ℤ, pos, ◌≤ℤ◌, ◌<ℤ◌, Option, Some, None, refl, sym, ap, ◌∙◌, arith, cond, ⊎_elim, length-set, get_or-set_other, get_or-set_same}
 use Rattle.std.proofs.lemmas.Int.{ints}
 use Rattle.std.specs.Bool.{MatchBool}
@@ -7,9 +8,46 @@ use Rattle.std.proofs.lemmas.Bool.{cases_eq, cases_lt, false≢true}
 use Rattle.std.proofs.lemmas.List.{length_push, get_or_push, get_or_append_left, length-replicate, take_at}
 use Rattle.sfm_assign.specs.Splits.{amount_at}
 use Rattle.sfm_assign.specs.Cells.{label_at}
-use Rattle.sfm_assign.specs.Search.{node_at, missing, IsFound, IsNode, AreNodes, AreRoots, HasRoots, IsRoot, AreRootsOf, mark_at, IsMarkOf, IsNewNode, AreMarks, AllMarked, NoneHas, IsStuck, IsGrown}
+use Rattle.sfm_assign.specs.Search.{node_at, missing, IsFound, IsNode, AreNodes, AreRoots, HasRoots, IsRoot, AreRootsOf, IsMarkOf, IsStuck}
 use Rattle.sfm_assign.specs.declared.nodes.Link.{Link}
 use Rattle.sfm_assign.specs.declared.nodes.Node.{Node}
+
+-- ---- words of a search by levels
+
+-- a demand is found at a level, from another
+pub record IsNewNode (whos slots : List ℕ) (y : List ℤ) (nodes : List (Option Node)) (level i : ℕ) (b : Node) : Type 0 where
+  pub out : node_at nodes i ≡ None
+  pub at_level : b.level ≡ level
+  pub linked : (b.link ≡ None) → ⊥
+  pub node : IsNode whos slots y nodes i b
+
+-- more nodes, all of one level; those of before stay
+pub record IsGrown (whos slots : List ℕ) (y : List ℤ) (level : ℕ) (before after : List (Option Node)) : Type 0 where
+  pub places : length after ≡ length before
+  pub tree : AreNodes whos slots y after
+  pub kept : (i : ℕ) (b : Node) → node_at before i ≡ Some b → node_at after i ≡ Some b
+  pub new : (i : ℕ) (b : Node) → node_at before i ≡ None → node_at after i ≡ Some b → (b.level ≡ level) × ((b.link ≡ None) → ⊥)
+
+-- a slot is marked with a cell of a demand that was found, and has no room
+pub record IsMark (whos slots : List ℕ) (rooms : List ℤ) (nodes : List (Option Node)) (s e : ℕ) : Type 0 where
+  pub cell : e < length whos
+  pub slot : label_at slots e ≡ s
+  pub found : IsFound nodes (label_at whos e)
+  pub full : amount_at rooms s ≤ℤ pos 0
+
+abbrev pub mark_at : List (Option ℕ) → ℕ → Option ℕ
+mark_at marks s = get_or marks s None
+
+abbrev pub AreMarks : List ℕ → List ℕ → List ℤ → List (Option Node) → List (Option ℕ) → Type 0
+AreMarks whos slots rooms nodes marks = (s e : ℕ) → mark_at marks s ≡ Some e → IsMark whos slots rooms nodes s e
+
+-- each slot of a demand that was found is marked
+abbrev pub AllMarked : List ℕ → List ℕ → List (Option Node) → List (Option ℕ) → Type 0
+AllMarked whos slots nodes marks = (e : ℕ) → e < length whos → IsFound nodes (label_at whos e) → (f : ℕ) × (mark_at marks (label_at slots e) ≡ Some f)
+
+-- no demand that was not found has anything on a marked slot
+abbrev pub NoneHas : List ℕ → List ℕ → List ℤ → List (Option Node) → List (Option ℕ) → Type 0
+NoneHas whos slots y nodes marks = (e f : ℕ) → e < length whos → node_at nodes (label_at whos e) ≡ None → mark_at marks (label_at slots e) ≡ Some f → amount_at y e ≤ℤ pos 0
 
 -- ---- the first nodes
 
@@ -74,14 +112,14 @@ mark_skip whos slots rooms nodes marks e skipped inv = record {
 -- ---- nodes that are found from marks
 
 -- what is told of a node stays true when nodes are added
-node_kept : (whos slots : List ℕ) (y : List ℤ) (before after : List (Option Node)) (i : ℕ) (b : Node) → ((j : ℕ) (d : Node) → node_at before j ≡ Some d → node_at after j ≡ Some d)
+pub node_kept : (whos slots : List ℕ) (y : List ℤ) (before after : List (Option Node)) (i : ℕ) (b : Node) → ((j : ℕ) (d : Node) → node_at before j ≡ Some d → node_at after j ≡ Some d)
     → IsNode whos slots y before i b → IsNode whos slots y after i b
 node_kept whos slots y before after i b kept h = record {
   some = h.some;
   linked = λ l is. let k = h.linked l is in record { own_in = k.own_in; other_in = k.other_in; mine = k.mine; shared = k.shared; has = k.has; parent = k.parent; is_parent = kept (label_at whos l.other) k.parent k.is_parent; lower = k.lower; within = k.within };
 }
 
-missing-set : (nodes : List (Option Node)) (i : ℕ) (b : Node) → i < length nodes → node_at nodes i ≡ None → suc (missing (set nodes i (Some b))) ≡ missing nodes
+pub missing-set : (nodes : List (Option Node)) (i : ℕ) (b : Node) → i < length nodes → node_at nodes i ≡ None → suc (missing (set nodes i (Some b))) ≡ missing nodes
 missing-set [] i b lt none = absurd (omega arith)
 missing-set (None ∷ nodes) zero b lt none = refl
 missing-set (Some d ∷ nodes) zero b lt none = cc

@@ -1,6 +1,6 @@
 -- What a search for room finds. A demand is found where it lacks something, or where it has an amount on a slot that a
 -- demand found before could use instead; so an amount can move from each found demand to one that lacks something.
-use Rattle.std.specs.Prelude.{◌≡◌, ◌≢◌, ◌↔◌, ℕ, suc, ◌<◌, Bool, false, List, [], ◌∷◌, length, slice_index_or, slice_set, ℤ, pos, ◌+ℤ◌, ◌-ℤ◌, ◌≤ℤ◌, ◌<ℤ◌, Option, Some, None, nat_eq, if◌then◌else◌}
+use Rattle.std.specs.Prelude.{◌≡◌, ◌≢◌, ◌↔◌, ℕ, suc, ◌+◌, ◌<◌, Bool, false, List, [], ◌∷◌, length, slice_index_or, slice_set, ℤ, pos, ◌+ℤ◌, ◌-ℤ◌, ◌≤ℤ◌, ◌<ℤ◌, Option, Some, None, nat_eq, if◌then◌else◌}
 use Rattle.sfm_spec.specs.Sets.{Has}
 use Rattle.sfm_spec.specs.Terms.{exchanged}
 use Rattle.sfm_assign.specs.Splits.{sum_at, amount_at, CanBeMet}
@@ -77,40 +77,25 @@ pub record IsMarkOf (whos slots : List ℕ) (nodes : List (Option Node)) (level 
   pub is_node : node_at nodes (label_at whos e) ≡ Some node
   pub lower : node.level < level
 
--- a demand is found at a level, from another
-pub record IsNewNode (whos slots : List ℕ) (y : List ℤ) (nodes : List (Option Node)) (level i : ℕ) (b : Node) : Type 0 where
-  pub out : node_at nodes i ≡ None
-  pub at_level : b.level ≡ level
-  pub linked : (b.link ≡ None) → ⊥
-  pub node : IsNode whos slots y nodes i b
+-- a queue has each demand that was found once
+pub record AreQueued (nodes : List (Option Node)) (queue : List ℕ) : Type 0 where
+  pub queued : (i : ℕ) → IsFound nodes i → (k : ℕ) × (k < length queue) × (label_at queue k ≡ i)
+  pub members : (k : ℕ) → k < length queue → IsFound nodes (label_at queue k)
+  pub counted : length queue + missing nodes ≡ length nodes
 
--- more nodes, all of one level; those of before stay
-pub record IsGrown (whos slots : List ℕ) (y : List ℤ) (level : ℕ) (before after : List (Option Node)) : Type 0 where
+-- how far a search is: nodes of the demands that were found, which stand in a queue; and of each marked slot, all demands that have something there were found
+pub record IsProgress (whos slots : List ℕ) (y : List ℤ) (nodes : List (Option Node)) (marks : List Bool) (queue : List ℕ) : Type 0 where
+  pub tree : AreNodes whos slots y nodes
+  pub levels : (i : ℕ) (b : Node) → node_at nodes i ≡ Some b → b.level < length queue
+  pub in_queue : AreQueued nodes queue
+  pub swept : (s f : ℕ) → Has marks s → f < length whos → label_at slots f ≡ s → node_at nodes (label_at whos f) ≡ None → amount_at y f ≤ℤ pos 0
+
+-- more demands were found, each from another; those of before stay
+pub record IsFurther (before : List (Option Node)) (queue : List ℕ) (after : List (Option Node)) (longer : List ℕ) : Type 0 where
   pub places : length after ≡ length before
-  pub tree : AreNodes whos slots y after
   pub kept : (i : ℕ) (b : Node) → node_at before i ≡ Some b → node_at after i ≡ Some b
-  pub new : (i : ℕ) (b : Node) → node_at before i ≡ None → node_at after i ≡ Some b → (b.level ≡ level) × ((b.link ≡ None) → ⊥)
-
--- a slot is marked with a cell of a demand that was found, and has no room
-pub record IsMark (whos slots : List ℕ) (rooms : List ℤ) (nodes : List (Option Node)) (s e : ℕ) : Type 0 where
-  pub cell : e < length whos
-  pub slot : label_at slots e ≡ s
-  pub found : IsFound nodes (label_at whos e)
-  pub full : amount_at rooms s ≤ℤ pos 0
-
-abbrev pub mark_at : List (Option ℕ) → ℕ → Option ℕ
-mark_at marks s = slice_index_or marks s None
-
-abbrev pub AreMarks : List ℕ → List ℕ → List ℤ → List (Option Node) → List (Option ℕ) → Type 0
-AreMarks whos slots rooms nodes marks = (s e : ℕ) → mark_at marks s ≡ Some e → IsMark whos slots rooms nodes s e
-
--- each slot of a demand that was found is marked
-abbrev pub AllMarked : List ℕ → List ℕ → List (Option Node) → List (Option ℕ) → Type 0
-AllMarked whos slots nodes marks = (e : ℕ) → e < length whos → IsFound nodes (label_at whos e) → (f : ℕ) × (mark_at marks (label_at slots e) ≡ Some f)
-
--- no demand that was not found has anything on a marked slot
-abbrev pub NoneHas : List ℕ → List ℕ → List ℤ → List (Option Node) → List (Option ℕ) → Type 0
-NoneHas whos slots y nodes marks = (e f : ℕ) → e < length whos → node_at nodes (label_at whos e) ≡ None → mark_at marks (label_at slots e) ≡ Some f → amount_at y e ≤ℤ pos 0
+  pub new : (i : ℕ) (b : Node) → node_at before i ≡ None → node_at after i ≡ Some b → (b.link ≡ None) → ⊥
+  pub first : (k : ℕ) → k < length queue → (k < length longer) × (label_at longer k ≡ label_at queue k)
 
 -- a slot of a found demand has room
 pub record IsEnd (whos slots : List ℕ) (rooms : List ℤ) (nodes : List (Option Node)) (last : ℕ) : Type 0 where

@@ -50,7 +50,7 @@ pub fn most(alloc: Global, demand: &Demand, u: usize) -> Result<i128, Memory>
     ensures { IfOk result (IsMost demand.now.demands demand.now.lists demand.now.capacities u) }
 {
     let capacities = demand.capacities();
-    let cells = Cells::of(alloc, demand.lists())?;
+    let cells = Cells::of(alloc, demand.lists(), capacities.len())?;
     let mut y = cells.nothing(alloc)?;
     let others = with_demand(alloc, demand.demands(), u, 0)?;
     fill(alloc, &cells, &others, capacities, &mut y)?;

@@ -3,6 +3,7 @@
 
 mod augment;
 mod cells;
+mod chains;
 mod demand;
 mod fill;
 mod greatest;

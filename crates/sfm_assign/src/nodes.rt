@@ -12,8 +12,9 @@ pub(crate) struct Link {
     pub other: usize,
 }
 
-/// A found demand: how much can move from it to one that lacks something, and by which link; None where it lacks
-/// something itself.
+/// A found demand: how much can move from it to one that lacks something, and by which link; None where it lacks something
+/// itself. Its level is above that of the demand that it was found from: as many demands were found before it, or 0 without a
+/// link.
 #[derive(Clone, Copy)]
 pub(crate) struct Node {
     pub flow: i128,

@@ -1,12 +1,12 @@
-// The search for room on a slot, level by level: first from all demands that lack something, then from all that have an
-// amount on a slot that a found demand could use instead. Each turn marks the slots of the demands found so far, and ends
-// where one has room. Else it finds the demands that have something on a marked slot. Where there are none, the demands
-// that were found share their slots with no other, and these slots are full.
-ghost use Rattle.std.specs.Prelude.{◌≡◌, ℕ, ◌+◌, ◌<◌, ◌≤◌, true, false, List, length, replicate, pos, ◌≤ℤ◌, IfOk, MatchOption, MatchBool, Option, Some, None};
-ghost use Rattle.std.specs.Bool.{OnTrue, OnFalse};
+// The search for room on a slot, from all demands that lack something: the demands that were found stand in a queue, and each is
+// handled once. One that is handled marks its slots, each with all cells that have something on it, whose demands are found
+// then; it ends the search where one of its slots has room. So each cell is looked at no more than twice. Where the queue runs
+// out, the demands that were found share their slots with no other that has something there, and these slots are full.
+ghost use Rattle.std.specs.Prelude.{◌≡◌, ℕ, ◌+◌, ◌<◌, ◌≤◌, true, false, List, [], length, replicate, slice_set, pos, ◌≤ℤ◌, IfOk, OnOk, MatchOption, Option, Some, None};
+ghost use Rattle.sfm_spec.specs.Sets.{Has};
 ghost use Rattle.sfm_assign.specs.Splits.{amount_at};
 ghost use Rattle.sfm_assign.specs.Cells.{label_at, AreCells};
-ghost use Rattle.sfm_assign.specs.Search.{node_at, missing, IsFound, IsNode, IsRoot, AreRootsOf, IsMarkOf, IsGrown, IsNewNode, AreNodes, AreRoots, HasRoots, mark_at, AreMarks, AllMarked, NoneHas, IsEnd, IsSearch};
+ghost use Rattle.sfm_assign.specs.Search.{node_at, IsFound, IsNode, IsRoot, AreRootsOf, IsMarkOf, AreQueued, IsProgress, IsFurther, IsEnd, IsSearch};
 
 use crate::cells::Cells;
 use crate::nodes::{Link, Node, flow_of, is_found};
@@ -18,6 +18,15 @@ use std::alloc::Global;
 pub(crate) struct Found {
     pub nodes: Vec<Option<Node>>,
     pub last: Option<usize>,
+}
+
+/// How far a search is: the node of each demand that was found, whether each slot is marked, and the demands that were found, in
+/// this order.
+#[derive(Drop)]
+struct Progress {
+    nodes: Vec<Option<Node>>,
+    marks: Vec<bool>,
+    queue: Vec<usize>,
 }
 
 /// Searches for a slot with room.
@@ -32,21 +41,22 @@ pub(crate) fn search(
     requires same { length y.now ≡ length cells.now.whos.items }
     ensures { IfOk result (λ r. IsSearch cells.now.whos.items cells.now.slots.items y.now lacks.now rooms.now r.nodes.items r.last) }
 {
-    let mut nodes = roots(alloc, lacks)?;
-    let mut marks = unmarked(alloc, rooms.len())?;
-    let mut level = 0;
-    let mut grew = true;
-    while grew {
-        if let Some(last) = mark(cells, rooms, &nodes, &mut marks) {
+    let mut at = begun(alloc, lacks, rooms.len())?;
+    let mut next = 0;
+    while next < at.queue.len() {
+        let i = at.queue[next];
+        if let Some(last) = at.handle(cells, y, rooms, i)? {
             return Ok(Found {
-                nodes,
+                nodes: at.nodes,
                 last: Some(last),
             });
         }
-        level += 1;
-        grew = grow(cells, y, &marks, level, &mut nodes);
+        next += 1;
     }
-    Ok(Found { nodes, last: None })
+    Ok(Found {
+        nodes: at.nodes,
+        last: None,
+    })
 }
 
 /// The node of a demand that lacks something.
@@ -75,59 +85,32 @@ fn roots(alloc: Global, lacks: &[i128]) -> Result<Vec<Option<Node>>, Memory>
     Ok(nodes)
 }
 
-/// Marks of m slots, none of which is marked.
-fn unmarked(alloc: Global, m: usize) -> Result<Vec<Option<usize>>, Memory>
-    ensures { IfOk result (λ marks. marks.items ≡ replicate m None) }
+/// The demands that were found, in their order.
+fn queued(alloc: Global, nodes: &[Option<Node>]) -> Result<Vec<usize>, Memory>
+    ensures { IfOk result (λ r. AreQueued nodes.now r.items) }
 {
-    let marks = vec![in alloc; None; m]?;
-    Ok(marks)
-}
-
-/// Whether a slot is marked.
-fn is_marked(marks: &[Option<usize>], s: usize) -> bool
-    requires { s < length marks.now }
-    ensures { MatchBool result ((f : ℕ) × (mark_at marks.now s ≡ Some f)) (mark_at marks.now s ≡ None) }
-{
-    marks[s].is_some()
-}
-
-/// Whether a cell is one of a found demand, and its slot is not marked.
-fn needs_mark(cells: &Cells, nodes: &[Option<Node>], marks: &[Option<usize>], e: usize) -> bool
-    requires cells { AreCells (length nodes.now) (length marks.now) cells.now.whos.items cells.now.slots.items }
-    requires cell { e < length cells.now.whos.items }
-    ensures found { OnTrue result (IsFound nodes.now (label_at cells.now.whos.items e)) }
-    ensures marked { OnFalse result (IsFound nodes.now (label_at cells.now.whos.items e) → (f : ℕ) × (mark_at marks.now (label_at cells.now.slots.items e) ≡ Some f)) }
-{
-    if is_found(nodes, cells.whos[e]) {
-        return !is_marked(marks, cells.slots[e]);
-    }
-    false
-}
-
-/// Marks each slot of a demand that was found with a cell, unless one of these slots has room: then its cell is told.
-fn mark(
-    cells: &Cells,
-    rooms: &[i128],
-    nodes: &[Option<Node>],
-    marks: &mut [Option<usize>],
-) -> Option<usize>
-    requires cells { AreCells (length nodes.now) (length rooms.now) cells.now.whos.items cells.now.slots.items }
-    requires places { length marks.old ≡ length rooms.now }
-    requires marks { AreMarks cells.now.whos.items cells.now.slots.items rooms.now nodes.now marks.old }
-    ensures places { length marks.new ≡ length marks.old }
-    ensures marks { AreMarks cells.now.whos.items cells.now.slots.items rooms.now nodes.now marks.new }
-    ensures all { MatchOption result (AllMarked cells.now.whos.items cells.now.slots.items nodes.now marks.new) (IsEnd cells.now.whos.items cells.now.slots.items rooms.now nodes.now) }
-{
-    for e in 0..cells.whos.len() {
-        if needs_mark(cells, nodes, marks, e) {
-            let s = cells.slots[e];
-            if rooms[s] > 0 {
-                return Some(e);
-            }
-            marks[s] = Some(e);
+    let mut queue = Vec::with_capacity(alloc, nodes.len())?;
+    for i in 0..nodes.len() {
+        if is_found(nodes, i) {
+            queue.push(i)?;
         }
     }
-    None
+    Ok(queue)
+}
+
+/// A search that begins: the demands that lack something were found, and of m slots none is marked.
+fn begun(alloc: Global, lacks: &[i128], m: usize) -> Result<Progress, Memory>
+    ensures nodes { IfOk result (λ r. AreRootsOf lacks.now r.nodes.items) }
+    ensures marks { IfOk result (λ r. r.marks.items ≡ replicate m false) }
+    ensures queue { IfOk result (λ r. AreQueued r.nodes.items r.queue.items) }
+{
+    let nodes = roots(alloc, lacks)?;
+    let queue = queued(alloc, &nodes)?;
+    Ok(Progress {
+        nodes,
+        marks: vec![in alloc; false; m]?,
+        queue,
+    })
 }
 
 /// The node of the demand of a cell that has something on a slot, where the slot is marked with another cell.
@@ -150,59 +133,89 @@ fn linked(cells: &Cells, y: &[i128], level: usize, nodes: &[Option<Node>], link:
     }
 }
 
-/// The node by which the demand of a cell is found: it was not found before, and has something on a marked slot.
-fn node_by(
-    cells: &Cells,
-    y: &[i128],
-    marks: &[Option<usize>],
-    level: usize,
-    nodes: &[Option<Node>],
-    own: usize,
-) -> Option<Node>
-    requires cells { AreCells (length nodes.now) (length marks.now) cells.now.whos.items cells.now.slots.items }
-    requires same { length y.now ≡ length cells.now.whos.items }
-    requires own { own < length cells.now.whos.items }
-    requires some { (i : ℕ) (b : Node) → node_at nodes.now i ≡ Some b → pos 1 ≤ℤ b.flow }
-    requires marked { (s e : ℕ) → mark_at marks.now s ≡ Some e → IsMarkOf cells.now.whos.items cells.now.slots.items nodes.now level s e }
-    ensures { MatchOption result
-        (node_at nodes.now (label_at cells.now.whos.items own) ≡ None → (f : ℕ) → mark_at marks.now (label_at cells.now.slots.items own) ≡ Some f → amount_at y.now own ≤ℤ pos 0)
-        (λ b. IsNewNode cells.now.whos.items cells.now.slots.items y.now nodes.now level (label_at cells.now.whos.items own) b) }
-{
-    if is_found(nodes, cells.whos[own]) {
-        return None;
-    }
-    if y[own] <= 0 {
-        return None;
-    }
-    match marks[cells.slots[own]] {
-        Some(other) => Some(linked(cells, y, level, nodes, Link { own, other })),
-        None => None,
-    }
-}
-
-/// Finds the demands that have something on a marked slot. Whether there were any.
-fn grow(
-    cells: &Cells,
-    y: &[i128],
-    marks: &[Option<usize>],
-    level: usize,
-    nodes: &mut [Option<Node>],
-) -> bool
-    requires cells { AreCells (length nodes.old) (length marks.now) cells.now.whos.items cells.now.slots.items }
-    requires same { length y.now ≡ length cells.now.whos.items }
-    requires tree { AreNodes cells.now.whos.items cells.now.slots.items y.now nodes.old }
-    requires marked { (s e : ℕ) → mark_at marks.now s ≡ Some e → IsMarkOf cells.now.whos.items cells.now.slots.items nodes.old level s e }
-    ensures grown { IsGrown cells.now.whos.items cells.now.slots.items y.now level nodes.old nodes.new }
-    ensures none { NoneHas cells.now.whos.items cells.now.slots.items y.now nodes.new marks.now }
-    ensures more { OnTrue result (missing nodes.new < missing nodes.old) }
-    ensures same { OnFalse result (nodes.new ≡ nodes.old) }
-{
-    let mut grew = false;
-    for e in 0..cells.whos.len() {
-        if let Some(node) = node_by(cells, y, marks, level, nodes, e) {
-            nodes[cells.whos[e]] = Some(node);
-            grew = true;
+impl Progress {
+    /// Finds the demand of a cell from another on its slot, where it has something there and was not found before.
+    fn find(&mut self, cells: &Cells, y: &[i128], link: Link) -> Result<(), Memory>
+        requires cells { AreCells (length self.old.nodes.items) (length self.old.marks.items) cells.now.whos.items cells.now.slots.items }
+        requires same { length y.now ≡ length cells.now.whos.items }
+        requires own { link.own < length cells.now.whos.items }
+        requires other { link.other < length cells.now.whos.items }
+        requires shared { label_at cells.now.slots.items link.own ≡ label_at cells.now.slots.items link.other }
+        requires found { IsFound self.old.nodes.items (label_at cells.now.whos.items link.other) }
+        requires progress { IsProgress cells.now.whos.items cells.now.slots.items y.now self.old.nodes.items self.old.marks.items self.old.queue.items }
+        ensures marks { self.new.marks.items ≡ self.old.marks.items }
+        ensures progress { OnOk result (IsProgress cells.now.whos.items cells.now.slots.items y.now self.new.nodes.items self.new.marks.items self.new.queue.items) }
+        ensures further { OnOk result (IsFurther self.old.nodes.items self.old.queue.items self.new.nodes.items self.new.queue.items) }
+        ensures seen { OnOk result (node_at self.new.nodes.items (label_at cells.now.whos.items link.own) ≡ None → amount_at y.now link.own ≤ℤ pos 0) }
+    {
+        let i = cells.whos[link.own];
+        if is_found(&self.nodes, i) {
+            return Ok(());
         }
+        if y[link.own] <= 0 {
+            return Ok(());
+        }
+        let node = linked(cells, y, self.queue.len(), &self.nodes, link);
+        self.queue.push(i)?;
+        self.nodes[i] = Some(node);
+        Ok(())
     }
-    grew
+
+    /// Marks the slot of a cell of a found demand, and finds all demands that have something on it.
+    fn sweep(&mut self, cells: &Cells, y: &[i128], e: usize) -> Result<(), Memory>
+        requires cells { AreCells (length self.old.nodes.items) (length self.old.marks.items) cells.now.whos.items cells.now.slots.items }
+        requires same { length y.now ≡ length cells.now.whos.items }
+        requires cell { e < length cells.now.whos.items }
+        requires found { IsFound self.old.nodes.items (label_at cells.now.whos.items e) }
+        requires progress { IsProgress cells.now.whos.items cells.now.slots.items y.now self.old.nodes.items self.old.marks.items self.old.queue.items }
+        ensures marks { OnOk result (self.new.marks.items ≡ slice_set self.old.marks.items (label_at cells.now.slots.items e) true) }
+        ensures progress { OnOk result (IsProgress cells.now.whos.items cells.now.slots.items y.now self.new.nodes.items self.new.marks.items self.new.queue.items) }
+        ensures further { OnOk result (IsFurther self.old.nodes.items self.old.queue.items self.new.nodes.items self.new.queue.items) }
+    {
+        let s = cells.slots[e];
+        let mut at = cells.by_slot.head(s);
+        while let Some(own) = at {
+            self.find(cells, y, Link { own, other: e })?;
+            at = cells.by_slot.nexts[own];
+        }
+        self.marks[s] = true;
+        Ok(())
+    }
+
+    /// Handles a demand that was found: marks its slots, or tells its cell whose slot has room.
+    fn handle(
+        &mut self,
+        cells: &Cells,
+        y: &[i128],
+        rooms: &[i128],
+        i: usize,
+    ) -> Result<Option<usize>, Memory>
+        requires cells { AreCells (length self.old.nodes.items) (length rooms.now) cells.now.whos.items cells.now.slots.items }
+        requires same { length y.now ≡ length cells.now.whos.items }
+        requires places { length self.old.marks.items ≡ length rooms.now }
+        requires found { IsFound self.old.nodes.items i }
+        requires progress { IsProgress cells.now.whos.items cells.now.slots.items y.now self.old.nodes.items self.old.marks.items self.old.queue.items }
+        requires full { (s : ℕ) → Has self.old.marks.items s → amount_at rooms.now s ≤ℤ pos 0 }
+        ensures places { OnOk result (length self.new.marks.items ≡ length rooms.now) }
+        ensures progress { OnOk result (IsProgress cells.now.whos.items cells.now.slots.items y.now self.new.nodes.items self.new.marks.items self.new.queue.items) }
+        ensures further { OnOk result (IsFurther self.old.nodes.items self.old.queue.items self.new.nodes.items self.new.queue.items) }
+        ensures full { OnOk result ((s : ℕ) → Has self.new.marks.items s → amount_at rooms.now s ≤ℤ pos 0) }
+        ensures kept { OnOk result ((s : ℕ) → Has self.old.marks.items s → Has self.new.marks.items s) }
+        ensures told { IfOk result (λ r. MatchOption r
+            ((e : ℕ) → e < length cells.now.whos.items → label_at cells.now.whos.items e ≡ i → Has self.new.marks.items (label_at cells.now.slots.items e))
+            (IsEnd cells.now.whos.items cells.now.slots.items rooms.now self.new.nodes.items)) }
+    {
+        let mut at = cells.by_who.head(i);
+        while let Some(e) = at {
+            let s = cells.slots[e];
+            if !self.marks[s] {
+                if rooms[s] > 0 {
+                    return Ok(Some(e));
+                }
+                self.sweep(cells, y, e)?;
+            }
+            at = cells.by_who.nexts[e];
+        }
+        Ok(None)
+    }
 }

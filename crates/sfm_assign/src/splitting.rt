@@ -115,7 +115,7 @@ pub(crate) fn met_shares(alloc: Global, demand: &Demand) -> Result<Shares, Assig
     ensures sound { IfOk result (λ _. AreDemands demand.now) }
     ensures shares { MatchResult result (λ r. AreMet demand.now r.cells.whos.items r.cells.slots.items r.y.items) (IsAssignEnd demand.now.demands demand.now.lists demand.now.capacities) }
 {
-    let cells = Cells::of(alloc, demand.lists())?;
+    let cells = Cells::of(alloc, demand.lists(), demand.capacities().len())?;
     let y = cells.nothing(alloc)?;
     let shares = raised(alloc, demand, Shares { cells, y })?;
     Ok(shares)

@@ -28,3 +28,18 @@ augment-requires-clause-some c =
     let fm : FitsSigned w128 c.min-a.result = search rules in
     let value = c.min-a.ensures.value in
     omega (arith, ints, clamps, value, is, one, q, room)
+
+pub augment-requires-clause-room : goal.augment-requires-clause-room
+augment-requires-clause-room c =
+    let slots = c.args.cells.now.slots.items in
+    let rooms = c.args.rooms.now in
+    let last = c.args.last in
+    let same = c.requires.cells.same in
+    let lt = c.requires.end.cell in
+    let small = c.requires.small (label_at slots last) (c.requires.cells.exist last lt) in
+    let w = get_or_read slots last c.index-2.result.now (omega (arith, same, lt)) c.index-2.ensures 0 in
+    let q = ap (λ i. amount_at rooms i) w in
+    let fr : FitsSigned w128 (get_or rooms c.index-2.result.now (pos 0)) = search rules in
+    let fm : FitsSigned w128 c.min-a.result = search rules in
+    let high = c.min-a.ensures.other_bound in
+    omega (arith, ints, high, q, small)

@@ -1,48 +1,75 @@
-use Rattle.std.proofs.Common.{length, drop, None, replicate, ap, sym, ◌∙◌}
-use Rattle.std.proofs.lemmas.List.{length-replicate}
-use Rattle.std.proofs.lemmas.Bool.{OnTrue_at, OnFalse_at}
-use Rattle.sfm_assign.proofs.Searches.{marks_below, search_begun, search_turned, written, none_marked}
+use Rattle.std.proofs.Common.{◌<◌, ◌≤◌, length, arith}
+use Rattle.std.proofs.lemmas.List.{get_or_read}
+use Rattle.sfm_assign.proofs.Queues.{IsHandled, searched_begun, searched_more, searched_end, searched_stuck, queue_few}
 use Rattle.sfm_assign.proofs.search.search.Goals as goal
 
-pub loop-grew-init : goal.loop-grew-init
-loop-grew-init c =
-    let rooms = c.args.rooms.now in
+pub loop-next-init : goal.loop-next-init
+loop-next-init c =
+    let at = c.in_ok-at.at in
+    let told = c.in_ok-at.ensures in
+    rw told.marks (searched_begun c.args.cells.now.whos.items c.args.cells.now.slots.items c.args.y.now c.args.lacks.now c.args.rooms.now at.nodes.items at.queue.items told.nodes told.queue)
+
+pub handle-requires-clause-found : goal.handle-requires-clause-found
+handle-requires-clause-found c =
     let whos = c.args.cells.now.whos.items in
     let slots = c.args.cells.now.slots.items in
-    rw c.in_ok-marks.ensures (search_begun whos slots c.args.y.now c.args.lacks.now rooms c.in_ok-nodes.nodes.items (replicate (length rooms) None) (length-replicate (length rooms) None) (none_marked (length rooms)) c.in_ok-nodes.ensures)
+    let at = c.loop-next.at in
+    let next = c.loop-next.next in
+    let inv = c.loop-next.invariant in
+    let ok = at.queue.ok.0 in
+    let lt : next < length at.queue.items = omega arith in
+    let is = get_or_read at.queue.items next c.index-i.result.now lt c.index-i.ensures 0 in
+    rw is (inv.progress.in_queue.members next lt)
 
-pub mark-requires-clause-marks : goal.mark-requires-clause-marks
-mark-requires-clause-marks c = rw (c.deref_mut.ensures.value, c.deref.ensures.value) c.loop-grew.invariant.sound
-
-pub grow-grew-requires-clause-tree : goal.grow-grew-requires-clause-tree
-grow-grew-requires-clause-tree c = rw c.deref_mut-in-loop-grew.ensures.value c.loop-grew.invariant.tree
-
-pub grow-grew-requires-clause-marked : goal.grow-grew-requires-clause-marked
-grow-grew-requires-clause-marked c =
+pub loop-next-smaller : goal.loop-next-smaller
+loop-next-smaller c =
     let whos = c.args.cells.now.whos.items in
     let slots = c.args.cells.now.slots.items in
-    let marks = c.loop-grew.marks in
-    let places = c.mark.ensures.places ∙ (ap length c.deref_mut.ensures.value ∙ sym marks.ok.0) in
-    let e = written c.mark.new.marks (drop (length c.mark.new.marks) marks.items) marks.len places in
-    let sound = rw c.deref.ensures.value at c.mark.ensures.marks in
-    rw (c.deref-in-loop-grew.ensures.value, c.deref_mut-in-loop-grew.ensures.value, e) (marks_below whos slots c.args.rooms.now c.loop-grew.nodes.items c.mark.new.marks c.loop-grew.level sound c.loop-grew.invariant.levels)
+    let at = c.loop-next.at in
+    let next = c.loop-next.next in
+    let inv = c.loop-next.invariant in
+    let ok = at.queue.ok.0 in
+    let lt : next < length at.queue.items = omega arith in
+    let few = queue_few whos slots c.args.y.now c.args.lacks.now c.args.rooms.now at.nodes.items at.marks.items at.queue.items next inv in
+    omega (arith, lt, few)
 
-pub loop-grew-preserved : goal.loop-grew-preserved
-loop-grew-preserved c =
+pub loop-next-preserved : goal.loop-next-preserved
+loop-next-preserved c =
     let whos = c.args.cells.now.whos.items in
     let slots = c.args.cells.now.slots.items in
-    let y = c.args.y.now in
-    let marks = c.loop-grew.marks in
-    let nodes = c.loop-grew.nodes in
-    let inv = c.loop-grew.invariant in
-    let places = c.mark.ensures.places ∙ (ap length c.deref_mut.ensures.value ∙ sym marks.ok.0) in
-    let e = written c.mark.new.marks (drop (length c.mark.new.marks) marks.items) marks.len places in
-    let sound = rw c.deref.ensures.value at c.mark.ensures.marks in
-    let all = rw c.deref.ensures.value at c.in_default.ensures.all in
-    let grown = rw c.deref_mut-in-loop-grew.ensures.value at c.grow-grew.ensures.grown in
-    let none = rw (c.deref-in-loop-grew.ensures.value, e) at c.grow-grew.ensures.none in
-    let more = rw c.deref_mut-in-loop-grew.ensures.value at c.grow-grew.ensures.more in
-    let same = rw c.deref_mut-in-loop-grew.ensures.value at c.grow-grew.ensures.same in
-    let f = written c.grow-grew.new.nodes (drop (length c.grow-grew.new.nodes) nodes.items) nodes.len (grown.places ∙ sym nodes.ok.0) in
-    rw (e, f) (search_turned whos slots y c.args.lacks.now c.args.rooms.now nodes.items c.grow-grew.new.nodes marks.items c.mark.new.marks c.loop-grew.level c.loop-grew.grew c.grow-grew.result c.loop-grew-test.true inv
-    (c.mark.ensures.places ∙ (ap length c.deref_mut.ensures.value ∙ inv.mark_places)) sound all grown none (λ t. OnTrue_at t more) (λ t. OnFalse_at t same))
+    let at = c.loop-next.at in
+    let next = c.loop-next.next in
+    let inv = c.loop-next.invariant in
+    let ok = at.queue.ok.0 in
+    let after = c.handle.new.self in
+    let told = c.in_ok-last.ensures in
+    let lt : next < length at.queue.items = omega arith in
+    let is = get_or_read at.queue.items next c.index-i.result.now lt c.index-i.ensures 0 in
+    let h : IsHandled whos slots c.args.y.now c.args.rooms.now at.nodes.items at.marks.items at.queue.items c.index-i.result.now after.nodes.items after.marks.items after.queue.items = record { places = told.places; progress = told.progress; further = told.further; full = told.full; kept = told.kept } in
+    searched_more whos slots c.args.y.now c.args.lacks.now c.args.rooms.now at.nodes.items at.marks.items at.queue.items next c.index-i.result.now after.nodes.items after.marks.items after.queue.items inv lt is h (rw c.in_default.is at told.told)
+
+pub returns-in-Some : goal.returns-in-Some
+returns-in-Some c =
+    let whos = c.args.cells.now.whos.items in
+    let slots = c.args.cells.now.slots.items in
+    let at = c.loop-next.at in
+    let next = c.loop-next.next in
+    let inv = c.loop-next.invariant in
+    let ok = at.queue.ok.0 in
+    let after = c.handle.new.self in
+    let told = c.in_ok-last.ensures in
+    let lt : next < length at.queue.items = omega arith in
+    let is = get_or_read at.queue.items next c.index-i.result.now lt c.index-i.ensures 0 in
+    let h : IsHandled whos slots c.args.y.now c.args.rooms.now at.nodes.items at.marks.items at.queue.items c.index-i.result.now after.nodes.items after.marks.items after.queue.items = record { places = told.places; progress = told.progress; further = told.further; full = told.full; kept = told.kept } in
+    searched_end whos slots c.args.y.now c.args.lacks.now c.args.rooms.now at.nodes.items at.marks.items at.queue.items next c.index-i.result.now after.nodes.items after.marks.items after.queue.items inv lt is h c.in-Some.last (rw c.in-Some.is at told.told)
+
+pub returns : goal.returns
+returns c =
+    let whos = c.args.cells.now.whos.items in
+    let slots = c.args.cells.now.slots.items in
+    let at = c.loop-next.at in
+    let next = c.loop-next.next in
+    let inv = c.loop-next.invariant in
+    let ok = at.queue.ok.0 in
+    let past : length at.queue.items ≤ next = omega arith in
+    searched_stuck whos slots c.args.y.now c.args.lacks.now c.args.rooms.now at.nodes.items at.marks.items at.queue.items next past inv

@@ -1,11 +1,10 @@
--- a search after some turns; each turn but the last finds a demand
-use Rattle.std.proofs.Common.{◌+◌, cond}
-use Rattle.sfm_assign.specs.Search.{missing}
-use Rattle.sfm_assign.proofs.Searches.{IsSearching}
+-- the demands of the queue so far are handled
+use Rattle.std.proofs.Common.{length, ◌-◌}
+use Rattle.sfm_assign.proofs.Queues.{IsSearchedTo}
 use Rattle.sfm_assign.proofs.search.search.Given as goal
 
-abbrev pub invariant-loop-grew : goal.invariant-loop-grew
-invariant-loop-grew l = IsSearching l.cells.whos.items l.cells.slots.items l.y l.lacks l.rooms l.nodes.items l.marks.items l.level l.grew
+abbrev pub invariant-loop-next : goal.invariant-loop-next
+invariant-loop-next l = IsSearchedTo l.cells.whos.items l.cells.slots.items l.y l.lacks l.rooms l.at.nodes.items l.at.marks.items l.at.queue.items l.next
 
-abbrev pub decreases-loop-grew : goal.decreases-loop-grew
-decreases-loop-grew l = missing l.nodes.items + cond l.grew 1 0
+abbrev pub decreases-loop-next : goal.decreases-loop-next
+decreases-loop-next l = length l.lacks - l.next
