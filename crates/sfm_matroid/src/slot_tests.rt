@@ -6,7 +6,6 @@ ghost use Rattle.std.specs.List.{All};
 use crate::tests::{Wanted, has_bases, has_rooms, part};
 use crate::{Entries, Transversal};
 use sfm_base::Memory;
-use sfm_law::{Room, Term};
 use std::alloc::Global;
 use std::process::Abort;
 use std::test::Fail;
@@ -118,35 +117,5 @@ fn exchanges_up_to_the_number(rt: HostRuntime) -> Result<(), Fail> {
     };
     has_bases(&rt, rt.alloc(), &term, &wanted)?;
     has_rooms(&rt, rt.alloc(), &term, &wanted)?;
-    Ok(())
-}
-
-#[test]
-fn exchanges_by_what_is_kept(rt: HostRuntime) -> Result<(), Fail> {
-    let alloc = rt.alloc();
-    let entries = entries_of(&rt, alloc, &[&[0, 1], &[0, 1], &[1, 2], &[2]])?;
-    let term = Transversal::new(alloc, &[0, 1, 2, 3], 4, entries)?;
-    let x = [4, 3, 3, 2];
-    assert!(rt; term.is_base(alloc, 1, &x)?);
-    let mut note = term.note(alloc, 1, &x)?;
-    let none = term.room_by(alloc, 1, &x, &mut note, 0, 1)?;
-    assert_eq!(rt; none, Room::Upto(0));
-    let whole = term.room_by(alloc, 1, &x, &mut note, 1, 0)?;
-    assert_eq!(rt; whole, Room::Upto(1));
-    let room = term.room_by(alloc, 1, &x, &mut note, 3, 2)?;
-    assert_eq!(rt; room, Room::Upto(2));
-    term.moved(alloc, 1, &x, &mut note, 3, 2, 2)?;
-    let y = [4, 3, 1, 4];
-    assert!(rt; term.is_base(alloc, 1, &y)?);
-    let mut to = part(alloc, 4, 0)?;
-    term.reach_by(alloc, 1, &y, &note, 1, &mut to)?;
-    assert!(rt; to.contains(0) && !to.contains(1) && to.contains(2) && to.contains(3));
-    let one = term.room(alloc, 1, &y, 1, 0)?;
-    assert_eq!(rt; one, Room::Upto(1));
-    term.moved(alloc, 1, &y, &mut note, 1, 0, 1)?;
-    let z = [3, 4, 1, 4];
-    assert!(rt; term.is_base(alloc, 1, &z)?);
-    term.reach_with(alloc, 1, &z, &note, 0, 0, &mut to)?;
-    assert!(rt; !to.contains(0) && to.contains(1) && to.contains(2) && to.contains(3));
     Ok(())
 }

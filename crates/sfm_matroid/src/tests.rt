@@ -1,9 +1,10 @@
 // Ranks of all parts of small graphs, worked by hand: loops, edges side by side, a path, a triangle, and a square whose edges
 // come in an order that joins two labels. Bases of a triangle and of edges side by side, told from vectors that are none, and what
 // can be exchanged at them.
-ghost use Rattle.std.specs.Prelude.{◌≡◌, ◌↔◌, length, IfOk, IsTrue};
+ghost use Rattle.std.specs.Prelude.{◌≡◌, ◌↔◌, ◌^◌, length, pos, ◌≤ℤ◌, IfOk, IsTrue, OnOk};
 ghost use Rattle.std.specs.List.{All};
-ghost use Rattle.sfm_spec.specs.Bounds.{IsEntry};
+ghost use Rattle.sfm_spec.specs.Bounds.{IsEntry, IsFactor};
+ghost use Rattle.sfm_spec.specs.Terms.{IsBase, times};
 
 use crate::Graphic;
 use sfm_base::{Memory, Set};
@@ -133,6 +134,29 @@ fn bases_by_all_vertices(rt: HostRuntime) -> Result<(), Fail> {
     Ok(())
 }
 
+/// Asserts that a vector is a base of q times a term, with all numbers within the bounds.
+fn is_base<T: Term>(
+    rt: &impl Abort,
+    alloc: Global,
+    term: &T,
+    q: i128,
+    x: &[i128],
+) -> Result<(), Memory>
+    ensures factor { OnOk result (IsFactor q) }
+    ensures bounded { OnOk result (T.size_of term.now ≤ℤ pos (10 ^ 18)) }
+    ensures entries { OnOk result (length x.now ≡ length (T.places term.now)) }
+    ensures small { OnOk result (All IsEntry x.now) }
+    ensures base { OnOk result (IsBase (times q (T.value_of term.now)) x.now) }
+{
+    assert!(rt; 1 <= q && q <= 1_000_000);
+    assert!(rt; term.size() <= 1_000_000_000_000_000_000);
+    assert!(rt; x.len() == term.elements().len());
+    assert!(rt; are_entries(x));
+    let is_base = term.is_base(alloc, q, x)?;
+    assert!(rt; is_base);
+    Ok(())
+}
+
 /// Asserts the size and the first base of a term, and that a vector is a base.
 pub(crate) fn has_bases<T: Term>(
     rt: &impl Abort,
@@ -165,11 +189,7 @@ pub(crate) fn has_rooms<T: Term>(
     let k = term.elements().len();
     let q = wanted.q;
     let x = wanted.base;
-    assert!(rt; 1 <= q && q <= 1_000_000);
-    assert!(rt; term.size() <= 1_000_000_000_000_000_000);
-    assert!(rt; x.len() == k && are_entries(x));
-    let is_base = term.is_base(alloc, q, x)?;
-    assert!(rt; is_base);
+    is_base(rt, alloc, term, q, x)?;
     for (u, v, room) in wanted.rooms {
         assert!(rt; *u < k && *v < k && *u != *v);
         assert_eq!(rt;
