@@ -9,3 +9,4 @@ pub mod Leasts
 pub mod Ends
 mod Holders
 mod Repeats
+mod Slacking

@@ -7,3 +7,4 @@ pub mod Ranks
 pub mod LaminarLaws
 pub mod Indexes
 pub mod Rooms
+pub mod Slacks

@@ -1,8 +1,9 @@
 // A number w times the rank of a laminar matroid. A part is independent where no group has more of it than its cap.
 // The bases of q times the term are the vectors with entries from 0 to q·w that give no group more than q·w times its cap,
 // or its size where that is less, and that have q times the whole value in all. So the room of (u, v) is the least of what
-// v has, what u lacks of q·w, and what each group lacks that has u and not v.
-ghost use Rattle.std.specs.Prelude.{◌≡◌, ◌≢◌, ◌↔◌, ℕ, ◌<◌, ◌≤◌, ◌^◌, Bool, true, false, List, length, slice_index_or, ℤ, pos, neg_ℤ, ◌*ℤ◌, ◌+ℤ◌, ◌-ℤ◌, ◌≤ℤ◌, ◌<ℤ◌, IfOk, OnOk, IsTrue, Option, Some, Ok, Err, Contains};
+// v has, what u lacks of q·w, and what each group lacks that has u and not v. What each group lacks is kept beside a base, as the
+// places that have something are: a row is then made word by word, and a room is the least of a few numbers.
+ghost use Rattle.std.specs.Prelude.{◌≡◌, ◌≢◌, ◌↔◌, ℕ, ◌<◌, ◌≤◌, ◌^◌, Bool, true, false, List, length, slice_index_or, ℤ, pos, neg_ℤ, ◌*ℤ◌, ◌+ℤ◌, ◌-ℤ◌, ◌≤ℤ◌, ◌<ℤ◌, IfOk, IfSome, OnOk, IsTrue, Option, Some, Ok, Err, Contains};
 ghost use Rattle.std.specs.List.{All};
 ghost use Rattle.sfm_spec.specs.Bounds.{IsAtMost, IsEntry, IsFactor, IsGiven, AreElements};
 ghost use Rattle.sfm_spec.specs.Sets.{Has, size};
@@ -12,7 +13,9 @@ ghost use Rattle.sfm_law.specs.Room.{IsRoom, IsReach, IsWithinRoom};
 ghost use Rattle.sfm_laminar.specs.Groups.{IsBelow, AreGroups, NoneCross, IsFirstCrossing};
 ghost use Rattle.sfm_laminar.specs.Crossing.{group_at};
 ghost use Rattle.sfm_laminar.specs.Ranks.{rank};
-ghost use Rattle.sfm_laminar.specs.Indexes.{IsIndex};
+ghost use Rattle.sfm_laminar.specs.Indexes.{IsIndex, AreMasks};
+ghost use Rattle.sfm_laminar.specs.Masks.{mask};
+ghost use Rattle.sfm_laminar.specs.Slacks.{AreSlacks, IsSupport, laminar_fits, share_of};
 ghost use Rattle.sfm_laminar.specs.Rooms.{slack_of, IsLeast, IsHeld};
 ghost use Rattle.sfm_laminar.specs.LaminarLaws.{laminar_value, laminar_size, laminar_start, basis_of, laminar-family, laminar-submodular, laminar-bounded, laminar-starts, laminar-starts_small};
 
@@ -20,8 +23,9 @@ use crate::crossing::first_crossing;
 use crate::groups::Groups;
 use crate::growing::{grow, whole};
 use crate::index::Index;
+use crate::masks::Masks;
 use crate::number::{bound, sum_listed};
-use crate::place::{keep_listed, lists};
+use crate::slacks::{Slacks, move_support, share, support_of};
 use sfm_base::{Memory, Places, Set};
 use sfm_law::{Room, Term, are_within, has_sum, product};
 use std::alloc::Global;
@@ -56,6 +60,8 @@ pub struct Laminar {
     pub basis: Set,
     /// For each place the groups that hold it.
     index: Index,
+    /// For each group the set of its members.
+    masks: Masks,
     pub ghost elements: { AreElements places },
     pub ghost few: { length places ≤ 256 },
     pub ghost low: { pos 0 ≤ℤ w },
@@ -63,6 +69,7 @@ pub struct Laminar {
     pub ghost grouped: { AreGroups (length places) groups },
     pub ghost based: { basis ≡ basis_of (length places) groups },
     pub ghost indexed: { IsIndex (length places) groups index },
+    pub ghost masked: { AreMasks (length places) groups masks },
 }
 
 /// Whether v is not u and has something, where u lacks something.
@@ -102,12 +109,14 @@ impl Laminar {
         let all = whole(alloc, elements.len())?;
         let basis = grow(alloc, &groups, &all)?;
         let index = Index::new(alloc, &groups, elements.len())?;
+        let masks = Masks::new(alloc, &groups, elements.len())?;
         Ok(Laminar {
             places,
             w,
             groups,
             basis,
             index,
+            masks,
         })
     }
 
@@ -226,12 +235,29 @@ impl Laminar {
         self.are_bounded(q, x)
     }
 
+    /// What the group i lacks, by what is kept if there is something.
+    fn slack_by(&self, q: i128, x: &[i128], note: Option<&Slacks>, i: usize) -> i128
+        requires factor { IsFactor q }
+        requires entries { length x.now ≡ length self.now.places }
+        requires small { All IsEntry x.now }
+        requires noted { IfSome note (λ n. AreSlacks q self.now.w self.now.groups x.now n.now.slacks.items) }
+        requires group { i < length self.now.groups }
+        ensures { result ≡ slack_of q self.now.w x.now (group_at self.now.groups i) }
+    {
+        match note {
+            Some(note) => note.slacks[i],
+            None => self.slack(q, x, i),
+        }
+    }
+
     /// Whether the group i has v.
     fn has(&self, i: usize, v: usize) -> bool
-        requires { i < length self.now.groups }
-        ensures { IsTrue result ↔ Contains (group_at self.now.groups i).members v }
+        requires group { i < length self.now.groups }
+        requires place { v < length self.now.places }
+        ensures member { IsTrue result ↔ Contains (group_at self.now.groups i).members v }
+        ensures masked { result ≡ slice_index_or (mask (length self.now.places) (group_at self.now.groups i).members) v false }
     {
-        lists(self.groups.group(i).members(), v)
+        self.masks.of(i).contains(v)
     }
 
     /// What v has, or what u lacks of q·w where that is less.
@@ -246,10 +272,11 @@ impl Laminar {
     }
 
     /// The least of what v has, what u lacks of q·w, and what each group lacks that has u and not v.
-    fn least_left(&self, q: i128, x: &[i128], u: usize, v: usize) -> i128
+    fn least_left(&self, q: i128, x: &[i128], note: Option<&Slacks>, u: usize, v: usize) -> i128
         requires factor { IsFactor q }
         requires entries { length x.now ≡ length self.now.places }
         requires small { All IsEntry x.now }
+        requires noted { IfSome note (λ n. AreSlacks q self.now.w self.now.groups x.now n.now.slacks.items) }
         requires from { u < length x.now }
         requires onto { v < length x.now }
         ensures { IsLeast q self.now.w self.now.groups x.now u v (length self.now.groups) result }
@@ -258,7 +285,7 @@ impl Laminar {
         let holders = self.index.of(u);
         for i in holders {
             if !self.has(*i, v) {
-                least = least.min(self.slack(q, x, *i));
+                least = least.min(self.slack_by(q, x, note, *i));
             }
         }
         least
@@ -276,33 +303,61 @@ impl Laminar {
         requires onto { v < length x.now }
         ensures { IsRoom (times q (laminar_value (length self.now.places) self.now.w self.now.groups)) x.now u v result }
     {
-        Room::Upto(self.least_left(q, x, u, v))
+        Room::Upto(self.least_left(q, x, None, u, v))
+    }
+
+    /// The room of (u, v) at a base, by what is kept beside it.
+    pub fn room_in(&self, q: i128, x: &[i128], note: &Slacks, u: usize, v: usize) -> Room
+        requires factor { IsFactor q }
+        requires entries { length x.now ≡ length self.now.places }
+        requires small { All IsEntry x.now }
+        requires base { IsBase (times q (laminar_value (length self.now.places) self.now.w self.now.groups)) x.now }
+        requires noted { laminar_fits self.now.w self.now.groups note.now q x.now }
+        requires apart { u ≢ v }
+        requires from { u < length x.now }
+        requires onto { v < length x.now }
+        ensures { IsRoom (times q (laminar_value (length self.now.places) self.now.w self.now.groups)) x.now u v result }
+    {
+        Room::Upto(self.least_left(q, x, Some(note), u, v))
     }
 
     /// Whether the group i lacks nothing.
-    fn is_full(&self, q: i128, x: &[i128], i: usize) -> bool
+    fn is_full(&self, q: i128, x: &[i128], note: Option<&Slacks>, i: usize) -> bool
         requires factor { IsFactor q }
         requires entries { length x.now ≡ length self.now.places }
         requires small { All IsEntry x.now }
+        requires noted { IfSome note (λ n. AreSlacks q self.now.w self.now.groups x.now n.now.slacks.items) }
         requires group { i < length self.now.groups }
         ensures { IsTrue result ↔ (slack_of q self.now.w x.now (group_at self.now.groups i) ≡ pos 0) }
     {
-        self.slack(q, x, i) == 0
+        self.slack_by(q, x, note, i) == 0
+    }
+
+    /// Takes out what is not in the group i.
+    fn keep_group(&self, i: usize, to: &mut Set)
+        requires group { i < length self.now.groups }
+        requires sized { length to.old ≡ length self.now.places }
+        ensures places { length to.new ≡ length to.old }
+        ensures kept { (v : ℕ) → v < length to.old → Has to.new v ↔ (Has to.old v × Contains (group_at self.now.groups i).members v) }
+    {
+        to.keep_with(self.masks.of(i));
     }
 
     /// Takes out what is not in each group that has u and lacks nothing.
-    fn keep_full(&self, q: i128, x: &[i128], u: usize, to: &mut Set)
+    fn keep_full(&self, q: i128, x: &[i128], note: Option<&Slacks>, u: usize, to: &mut Set)
         requires factor { IsFactor q }
         requires entries { length x.now ≡ length self.now.places }
         requires small { All IsEntry x.now }
+        requires noted { IfSome note (λ n. AreSlacks q self.now.w self.now.groups x.now n.now.slacks.items) }
         requires from { u < length x.now }
+        requires sized { length to.old ≡ length self.now.places }
         ensures places { length to.new ≡ length to.old }
         ensures kept { (v : ℕ) → v < length to.old → Has to.new v ↔ (Has to.old v × IsHeld q self.now.w self.now.groups x.now u (length self.now.groups) v) }
     {
         let holders = self.index.of(u);
         for i in holders {
-            if self.is_full(q, x, *i) {
-                keep_listed(self.groups.group(*i).members(), to);
+            if self.is_full(q, x, note, *i) {
+                self.keep_group(*i, to);
             }
         }
     }
@@ -335,12 +390,106 @@ impl Laminar {
         ensures reached { IsReach (times q (laminar_value (length self.now.places) self.now.w self.now.groups)) x.now u to.new }
     {
         self.put_some(q, x, u, to);
-        self.keep_full(q, x, u, to);
+        self.keep_full(q, x, None, u, to);
+    }
+
+    /// Puts the places other than u in that have something, where u lacks something of q·w, by what is kept.
+    fn put_support(&self, q: i128, x: &[i128], note: &Slacks, u: usize, to: &mut Set)
+        requires factor { IsFactor q }
+        requires small { All IsEntry x.now }
+        requires noted { IsSupport x.now note.now.support }
+        requires from { u < length x.now }
+        requires room_for_answer { length to.old ≡ length x.now }
+        ensures places { length to.new ≡ length to.old }
+        ensures some { (v : ℕ) → v < length x.now → Has to.new v ↔ ((v ≢ u) × (slice_index_or x.now u (pos 0) <ℤ (q *ℤ self.now.w)) × (pos 1 ≤ℤ slice_index_or x.now v (pos 0))) }
+    {
+        to.clear();
+        if x[u] < product(q, self.w) {
+            to.union_with(&note.support);
+            to.remove(u);
+        }
+    }
+
+    /// Writes what `reach_of` does, by what is kept beside the base.
+    pub fn reach_in(&self, q: i128, x: &[i128], note: &Slacks, u: usize, to: &mut Set)
+        requires factor { IsFactor q }
+        requires entries { length x.now ≡ length self.now.places }
+        requires small { All IsEntry x.now }
+        requires base { IsBase (times q (laminar_value (length self.now.places) self.now.w self.now.groups)) x.now }
+        requires noted { laminar_fits self.now.w self.now.groups note.now q x.now }
+        requires from { u < length x.now }
+        requires room_for_answer { length to.old ≡ length x.now }
+        ensures places { length to.new ≡ length to.old }
+        ensures reached { IsReach (times q (laminar_value (length self.now.places) self.now.w self.now.groups)) x.now u to.new }
+    {
+        self.put_support(q, x, note, u, to);
+        self.keep_full(q, x, Some(note), u, to);
+    }
+
+    /// What each group lacks.
+    fn slacks_of(&self, alloc: Global, q: i128, x: &[i128]) -> Result<Vec<i128>, Memory>
+        requires factor { IsFactor q }
+        requires entries { length x.now ≡ length self.now.places }
+        requires small { All IsEntry x.now }
+        ensures { IfOk result (λ r. AreSlacks q self.now.w self.now.groups x.now r.items) }
+    {
+        let mut slacks = Vec::new(alloc);
+        for i in 0..self.groups.len() {
+            slacks.push(self.slack(q, x, i))?;
+        }
+        Ok(slacks)
+    }
+
+    /// What each group lacks, and the places that have something.
+    ///
+    /// # Errors
+    ///
+    /// `Memory` where there is none.
+    pub fn note_of(&self, alloc: Global, q: i128, x: &[i128]) -> Result<Slacks, Memory>
+        requires factor { IsFactor q }
+        requires entries { length x.now ≡ length self.now.places }
+        requires small { All IsEntry x.now }
+        ensures { IfOk result (λ r. laminar_fits self.now.w self.now.groups r q x.now) }
+    {
+        let slacks = self.slacks_of(alloc, q, x)?;
+        let support = support_of(alloc, x)?;
+        Ok(Slacks { slacks, support })
+    }
+
+    /// What the group i lacks once u is raised and v lowered by a.
+    fn moved_slack(&self, slack: i128, i: usize, u: usize, v: usize, a: i128) -> i128
+        requires small { IsAtMost (10 ^ 27) slack }
+        requires group { i < length self.now.groups }
+        requires from { u < length self.now.places }
+        requires onto { v < length self.now.places }
+        requires low { pos 0 ≤ℤ a }
+        requires high { a ≤ℤ pos (10 ^ 30) }
+        ensures { result ≡ ((slack -ℤ share_of (length self.now.places) (group_at self.now.groups i) u a) +ℤ share_of (length self.now.places) (group_at self.now.groups i) v a) }
+    {
+        let less = share(self.has(i, u), a);
+        let more = share(self.has(i, v), a);
+        slack - less + more
+    }
+
+    /// Brings what each group lacks up to an exchange.
+    fn move_slacks(&self, slacks: &mut [i128], u: usize, v: usize, a: i128)
+        requires groups { length slacks.old ≡ length self.now.groups }
+        requires small { All (IsAtMost (10 ^ 27)) slacks.old }
+        requires from { u < length self.now.places }
+        requires onto { v < length self.now.places }
+        requires low { pos 0 ≤ℤ a }
+        requires high { a ≤ℤ pos (10 ^ 30) }
+        ensures places { length slacks.new ≡ length slacks.old }
+        ensures moved { (i : ℕ) → i < length slacks.old → slice_index_or slacks.new i (pos 0) ≡ ((slice_index_or slacks.old i (pos 0) -ℤ share_of (length self.now.places) (group_at self.now.groups i) u a) +ℤ share_of (length self.now.places) (group_at self.now.groups i) v a) }
+    {
+        for i in 0..slacks.len() {
+            slacks[i] = self.moved_slack(slacks[i], i, u, v, a);
+        }
     }
 }
 
 impl Term for Laminar {
-    type Note = ();
+    type Note = Slacks;
 
     ghost places = { λ s. s.places };
 
@@ -354,7 +503,7 @@ impl Term for Laminar {
 
     ghost lean_calls = { λ s. Unit {0} };
 
-    ghost fits = { λ s note q x. Unit {0} };
+    ghost fits = { λ s note q x. laminar_fits s.w s.groups note q x };
 
     ghost family = { λ s. laminar-family (length s.places) s.w s.groups };
 
@@ -411,8 +560,8 @@ impl Term for Laminar {
         Ok(())
     }
 
-    fn note(&self, _alloc: Global, _q: i128, _x: &[i128]) -> Result<(), Memory> {
-        Ok(())
+    fn note(&self, alloc: Global, q: i128, x: &[i128]) -> Result<Slacks, Memory> {
+        self.note_of(alloc, q, x)
     }
 
     fn reach_by(
@@ -420,24 +569,38 @@ impl Term for Laminar {
         _alloc: Global,
         q: i128,
         x: &[i128],
-        _note: &(),
+        note: &Slacks,
         u: usize,
         to: &mut Set,
     ) -> Result<(), Memory> {
-        self.reach_of(q, x, u, to);
+        self.reach_in(q, x, note, u, to);
         Ok(())
+    }
+
+    fn room_by(
+        &self,
+        _alloc: Global,
+        q: i128,
+        x: &[i128],
+        note: &mut Slacks,
+        u: usize,
+        v: usize,
+    ) -> Result<Room, Memory> {
+        Ok(self.room_in(q, x, note, u, v))
     }
 
     fn moved(
         &self,
         _alloc: Global,
         _q: i128,
-        _x: &[i128],
-        _note: &mut (),
-        _u: usize,
-        _v: usize,
-        _a: i128,
+        x: &[i128],
+        note: &mut Slacks,
+        u: usize,
+        v: usize,
+        a: i128,
     ) -> Result<(), Memory> {
+        self.move_slacks(&mut note.slacks, u, v, a);
+        move_support(x, &mut note.support, u, v, a);
         Ok(())
     }
 }

@@ -7,11 +7,14 @@ pub mod groups;
 mod growing;
 mod index;
 pub mod laminar;
+mod masks;
 mod number;
 mod place;
+pub mod slacks;
 
 pub use groups::{CappedGroup, Groups};
 pub use laminar::{Laminar, LaminarEnd};
+pub use slacks::Slacks;
 
 #[cfg(test)]
 mod tests;

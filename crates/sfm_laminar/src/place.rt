@@ -1,7 +1,6 @@
-// Places listed in ascending order, and places put into a set or taken out of it.
-ghost use Rattle.std.specs.Prelude.{◌≡◌, ◌↔◌, ℕ, ◌<◌, length, slice_set, slice_index_or, count_by, false, IsTrue, Contains};
+// Places listed in ascending order: whether one is listed, and how many of them a set has.
+ghost use Rattle.std.specs.Prelude.{◌≡◌, ◌↔◌, ◌<◌, length, slice_index_or, count_by, false, IsTrue, Contains};
 ghost use Rattle.std.specs.List.{All};
-ghost use Rattle.sfm_spec.specs.Sets.{Has};
 ghost use Rattle.sfm_laminar.specs.Groups.{IsAscending};
 
 use sfm_base::Set;
@@ -20,17 +19,4 @@ pub(crate) fn count_in(members: &[usize], t: &Set) -> usize
     ensures { result ≡ count_by (λ e. slice_index_or t.now e false) members.now }
 {
     members.iter().filter(|e| t.contains(**e)).count()
-}
-
-/// Takes the places that are not listed out of a set.
-pub(crate) fn keep_listed(members: &[usize], to: &mut Set)
-    requires { IsAscending members.now }
-    ensures places { length to.new ≡ length to.old }
-    ensures kept { (v : ℕ) → v < length to.old → Has to.new v ↔ (Has to.old v × Contains members.now v) }
-{
-    for v in 0..to.len() {
-        if to.contains(v) && !lists(members, v) {
-            to.remove(v);
-        }
-    }
 }

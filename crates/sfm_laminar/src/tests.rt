@@ -1,7 +1,8 @@
 // The term once through the trait's calls, with answers worked by hand, and the refusal of groups that cross.
-ghost use Rattle.std.specs.Prelude.{◌≡◌, ◌↔◌, ◌<◌, [], ◌∷◌, length, IsTrue, IfOk};
+ghost use Rattle.std.specs.Prelude.{◌≡◌, ◌↔◌, ◌<◌, ◌^◌, [], ◌∷◌, length, pos, ◌≤ℤ◌, IsTrue, IfOk, OnOk};
 ghost use Rattle.std.specs.List.{All};
-ghost use Rattle.sfm_spec.specs.Bounds.{IsEntry};
+ghost use Rattle.sfm_spec.specs.Bounds.{IsEntry, IsFactor};
+ghost use Rattle.sfm_spec.specs.Terms.{IsBase, times};
 ghost use Rattle.sfm_laminar.specs.Groups.{IsBelow};
 
 use crate::{Groups, Laminar, LaminarEnd};
@@ -63,6 +64,29 @@ fn has_values<T: Term>(
     Ok(())
 }
 
+/// Asserts that a vector is a base of q times a term, with all numbers within the bounds.
+fn is_base<T: Term>(
+    rt: &impl Abort,
+    alloc: Global,
+    term: &T,
+    q: i128,
+    x: &[i128],
+) -> Result<(), Memory>
+    ensures factor { OnOk result (IsFactor q) }
+    ensures bounded { OnOk result (T.size_of term.now ≤ℤ pos (10 ^ 18)) }
+    ensures entries { OnOk result (length x.now ≡ length (T.places term.now)) }
+    ensures small { OnOk result (All IsEntry x.now) }
+    ensures base { OnOk result (IsBase (times q (T.value_of term.now)) x.now) }
+{
+    assert!(rt; 1 <= q && q <= 1_000_000);
+    assert!(rt; term.size() <= 1_000_000_000_000_000_000);
+    assert!(rt; x.len() == term.elements().len());
+    assert!(rt; are_entries(x));
+    let is_base = term.is_base(alloc, q, x)?;
+    assert!(rt; is_base);
+    Ok(())
+}
+
 /// Asserts the room of pairs of places and the reach of places at a base.
 fn has_rooms<T: Term>(
     rt: &impl Abort,
@@ -73,11 +97,7 @@ fn has_rooms<T: Term>(
     let k = term.elements().len();
     let q = wanted.q;
     let x = wanted.base;
-    assert!(rt; 1 <= q && q <= 1_000_000);
-    assert!(rt; term.size() <= 1_000_000_000_000_000_000);
-    assert!(rt; x.len() == k && are_entries(x));
-    let is_base = term.is_base(alloc, q, x)?;
-    assert!(rt; is_base);
+    is_base(rt, alloc, term, q, x)?;
     for (u, v, room) in wanted.rooms {
         assert!(rt; *u < k && *v < k && *u != *v);
         assert_eq!(rt;
@@ -172,6 +192,35 @@ fn laminars(rt: HostRuntime) -> Result<(), Fail> {
     let s = part(rt.alloc(), 3, 3)?;
     assert!(rt; term.elements().len() == 3);
     assert_eq!(rt; term.rank(rt.alloc(), &s)?, 1);
+    Ok(())
+}
+
+#[test]
+fn exchanges_by_what_is_kept(rt: HostRuntime) -> Result<(), Fail> {
+    let alloc = rt.alloc();
+    let mut groups = Groups::new(alloc);
+    push_all(&mut groups, alloc, 2)?;
+    push_first(&mut groups, alloc, 1)?;
+    let term = Laminar::new(alloc, &[0, 1, 2], 3, groups)?;
+    let x = [2, 1, 3];
+    is_base(&rt, alloc, &term, 1, &x)?;
+    let mut note = term.note(alloc, 1, &x)?;
+    let mut to = part(alloc, 3, 7)?;
+    term.reach_by(alloc, 1, &x, &note, 1, &mut to)?;
+    assert!(rt; to.contains(0) && !to.contains(1) && !to.contains(2));
+    term.reach_by(alloc, 1, &x, &note, 2, &mut to)?;
+    assert!(rt; !to.contains(0) && !to.contains(1) && !to.contains(2));
+    let none = term.room_by(alloc, 1, &x, &mut note, 0, 2)?;
+    assert_eq!(rt; none, Room::Upto(0));
+    let room = term.room_by(alloc, 1, &x, &mut note, 1, 0)?;
+    assert_eq!(rt; room, Room::Upto(2));
+    term.moved(alloc, 1, &x, &mut note, 1, 0, 2)?;
+    let y = [0, 3, 3];
+    is_base(&rt, alloc, &term, 1, &y)?;
+    term.reach_by(alloc, 1, &y, &note, 0, &mut to)?;
+    assert!(rt; !to.contains(0) && to.contains(1) && !to.contains(2));
+    let back = term.room_by(alloc, 1, &y, &mut note, 0, 1)?;
+    assert_eq!(rt; back, Room::Upto(3));
     Ok(())
 }
 

@@ -12,10 +12,15 @@ is_full-requires-clause-group c =
     let s = c.args.self.now in
     holder_below (length s.places) s.groups s.index c.args.u _ s.indexed (omega (arith, c.requires.from, c.requires.entries)) c.of-holders.ensures c.loop-i.i-index c.loop-i-test.true
 
-pub group-requires : goal.group-requires
-group-requires c =
+pub keep_group-requires-clause-group : goal.keep_group-requires-clause-group
+keep_group-requires-clause-group c =
     let s = c.args.self.now in
     holder_below (length s.places) s.groups s.index c.args.u _ s.indexed (omega (arith, c.requires.from, c.requires.entries)) c.of-holders.ensures c.loop-i.i-index c.loop-i-test.true
+
+pub is_full-requires-clause-noted : goal.is_full-requires-clause-noted
+is_full-requires-clause-noted c =
+    let fq : FitsSigned w128 c.args.q = c.ranges.q in
+    simp to_z-of_z c.requires.noted
 
 pub loop-i-preserved : goal.loop-i-preserved
 loop-i-preserved c =
@@ -28,9 +33,9 @@ loop-i-preserved c =
     elim c.if-is_full.branch [
       | then-is_full w ↦
           (let full = w.if-is_full.ensures.0 refl in
-          let kept = rw (w.members.ensures, w.group.ensures.group) at w.keep_listed.ensures.kept in
+          let kept = w.keep_group.ensures.kept in
           record {
-            places = rw w.to-is (w.keep_listed.ensures.places ∙ inv.places);
+            places = rw w.to-is (w.keep_group.ensures.places ∙ inv.places);
             kept = λ v lt. rw w.to-is (
               (λ h. let a = (kept v (omega (arith, lt, inv.places))).0 h in let b = (inv.kept v lt).0 a.0 in (b.0, (held_with q s.w s.groups x es i v full).1 (b.1, a.1))),
               (λ (h, held). let p = (held_with q s.w s.groups x es i v full).0 held in (kept v (omega (arith, lt, inv.places))).1 ((inv.kept v lt).1 (h, p.0), p.1)),

@@ -15,15 +15,20 @@ loop-i-init c =
     let entry = simp to_z-of_z at c.least_entry-least.ensures in
     simp to_z-of_z (least_begin c.args.q s.w s.groups c.args.x.now c.of-holders.result.now c.args.u c.args.v c.least_entry-least.result entry)
 
-pub has-requires : goal.has-requires
-has-requires c =
+pub has-requires-clause-group : goal.has-requires-clause-group
+has-requires-clause-group c =
     let s = c.args.self.now in
     holder_below (length s.places) s.groups s.index c.args.u _ s.indexed (omega (arith, c.requires.from, c.requires.entries)) c.of-holders.ensures c.loop-i.i-index c.loop-i-test.true
 
-pub slack-requires-clause-group : goal.slack-requires-clause-group
-slack-requires-clause-group c =
+pub slack_by-requires-clause-group : goal.slack_by-requires-clause-group
+slack_by-requires-clause-group c =
     let s = c.args.self.now in
     holder_below (length s.places) s.groups s.index c.args.u _ s.indexed (omega (arith, c.requires.from, c.requires.entries)) c.of-holders.ensures c.loop-i.i-index c.loop-i-test.true
+
+pub slack_by-requires-clause-noted : goal.slack_by-requires-clause-noted
+slack_by-requires-clause-noted c =
+    let fq : FitsSigned w128 c.args.q = c.ranges.q in
+    simp to_z-of_z c.requires.noted
 
 pub loop-i-preserved : goal.loop-i-preserved
 loop-i-preserved c =
@@ -39,12 +44,12 @@ loop-i-preserved c =
     let here = holder_at s.groups es u i at c.loop-i-test.true in
     elim c.if-not-has.branch [
       | then-not-has w ↦
-          (let fs : FitsSigned w128 w.slack.result = search rules in
+          (let fs : FitsSigned w128 w.slack_by.result = search rules in
           let fm : FitsSigned w128 w.min-least.result = search rules in
           let is : to_z w128 c.if-not-has.least-bits ≡ w.min-least.result = w.least-is ∙ to_z-of_z w128 w.min-least.result fm in
-          let b = to_z-of_z w128 w.slack.result fs ∙ w.slack.ensures in
-          rw is (least_with q s.w s.groups x es u v i _ _ _ inv here.0 (here.1, λ h. both_ways c.has.result w.if-not-has.true (c.has.ensures.1 h)) b w.min-least.ensures.value))
-      | else-not-has w ↦ rw w.least-is (least_without q s.w s.groups x es u v i _ inv (c.has.ensures.0 w.if-not-has.false))
+          let b = to_z-of_z w128 w.slack_by.result fs ∙ w.slack_by.ensures in
+          rw is (least_with q s.w s.groups x es u v i _ _ _ inv here.0 (here.1, λ h. both_ways c.has.result w.if-not-has.true (c.has.ensures.member.1 h)) b w.min-least.ensures.value))
+      | else-not-has w ↦ rw w.least-is (least_without q s.w s.groups x es u v i _ inv (c.has.ensures.member.0 w.if-not-has.false))
     ]
 
 pub returns : goal.returns

@@ -39,6 +39,12 @@ returns-in_err-index-clause-crosses c = λ first second. (
   (λ x. absurd (c.in_default.ensures first second x.crossing)),
 )
 
+pub returns-in_err-masks-clause-crosses : goal.returns-in_err-masks-clause-crosses
+returns-in_err-masks-clause-crosses c = λ first second. (
+  (λ e. absurd (memory_apart _ _ first second (memory_told _ _ c.from_residual-in_err-masks.ensures.1) e)),
+  (λ x. absurd (c.in_default.ensures first second x.crossing)),
+)
+
 pub returns-clause-crosses : goal.returns-clause-crosses
 returns-clause-crosses c = λ first second. ((λ e. absurd (ok_apart _ _ _ first second refl e)), (λ x. absurd (c.in_default.ensures first second x.crossing)))
 
@@ -56,3 +62,6 @@ invariant_of-result-clause-based c =
 
 pub invariant_of-result-clause-indexed : goal.invariant_of-result-clause-indexed
 invariant_of-result-clause-indexed c = rw c.in_ok-places.ensures c.in_ok-index.ensures
+
+pub invariant_of-result-clause-masked : goal.invariant_of-result-clause-masked
+invariant_of-result-clause-masked c = rw c.in_ok-places.ensures c.in_ok-masks.ensures

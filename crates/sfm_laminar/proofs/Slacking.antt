@@ -1,0 +1,182 @@
+-- What is kept beside a base: the members of groups as sets, what each group lacks, and the places that have something.
+use Rattle.std.proofs.Common.{◌≡◌, ◌≢◌, ◌↔◌, ℕ, zero, suc, ◌+◌, ◌<◌, ◌≤◌, ◌^◌, Bool, true, false, List, [], ◌∷◌, ◌++◌, length, get_or, set, ℤ, pos, ◌+ℤ◌, ◌-ℤ◌, ◌*ℤ◌, ◌≤ℤ◌, ◌<ℤ◌, if◌then◌else◌, refl, sym, ap, ◌∙◌, arith, inl, inr, ⊎_elim, length-set, get_or-set_same, get_or-set_other}
+use Rattle.std.specs.List.{All, Contains}
+use Rattle.std.specs.Int.{int_min}
+use Rattle.std.proofs.lemmas.Bool.{false≢true, cases_lt, cases_eq}
+use Rattle.std.proofs.lemmas.Int.{ints, clamps}
+use Rattle.std.proofs.lemmas.List.{get_or_default, get_or_push, get_or_append_left, length_push, length-replicate, get_or-replicate}
+use Rattle.std.proofs.lemmas.List.Elements.{All-head, All-tail}
+use Rattle.sfm_spec.specs.Bounds.{IsAtMost}
+use Rattle.sfm_spec.specs.Sets.{Has, empty_set, union}
+use Rattle.sfm_spec.specs.Terms.{times, IsBase, exchanged}
+use Rattle.sfm_spec.specs.Kinds.{Group}
+use Rattle.sfm_spec.proofs.Scaled.{times-mono}
+use Rattle.sfm_spec.proofs.Sets.{same_sets, in_union, union_right}
+use Rattle.sfm_spec.proofs.Sums.{length-union, length-exchanged, sum_over-exchanged}
+use Rattle.sfm_spec.proofs.MoveOrder.{exchanged-first, exchanged-second, exchanged-other}
+use Rattle.sfm_law.proofs.Monotone.{AreCounts}
+use Rattle.sfm_laminar.specs.Groups.{AreGroups, IsBelow}
+use Rattle.sfm_laminar.specs.Crossing.{no_group, group_at}
+use Rattle.sfm_laminar.specs.Masks.{mask, length-mask, sum_listed}
+use Rattle.sfm_laminar.specs.Ranks.{contains-mask, mask-contains}
+use Rattle.sfm_laminar.specs.Rooms.{bound_of, slack_of}
+use Rattle.sfm_laminar.specs.LaminarLaws.{laminar_value}
+use Rattle.sfm_laminar.specs.Slacks.{AreSlacks, IsSupport, share_of}
+use Rattle.sfm_laminar.proofs.Bases.{sum-group, laminar_base_back}
+use Rattle.sfm_laminar.proofs.Fits.{bound_small}
+use Rattle.sfm_laminar.proofs.Listed.{few_members}
+
+-- ---- the members of groups as sets
+
+-- a set of those that are listed
+pub mask_from : (k : ℕ) (es : List ℕ) (s : List Bool) → length s ≡ k → All (λ e. e < k) es → ((e : ℕ) → e < k → Has s e ↔ Contains es e) → s ≡ mask k es
+mask_from k es s ks below exact =
+    let g : Group = record { cap = pos 0; members = es } in
+    same_sets s (mask k es) (ks ∙ sym (length-mask k es))
+    (λ e lt h. contains-mask k g e below ((exact e (omega (arith, lt, ks))).0 h))
+    (λ e lt h. (exact e (omega (arith, lt, ks))).1 (mask-contains k g e h))
+
+pub masks_more : (k : ℕ) (groups : List Group) (sets : List (List Bool)) (n : ℕ) (s : List Bool) → length sets ≡ n → ((p : ℕ) → p < n → get_or sets p [] ≡ mask k (group_at groups p).members) → s ≡ mask k (group_at groups n).members
+    → record { places : length (sets ++ s ∷ []) ≡ n + 1; sets : (p : ℕ) → p < n + 1 → get_or (sets ++ s ∷ []) p [] ≡ mask k (group_at groups p).members }
+masks_more k groups sets n s same h here = record {
+  places = (let l = length_push sets s in omega (arith, l, same));
+  sets = λ p lt. ⊎_elim
+      (λ (l : p < n). get_or_append_left sets (s ∷ []) [] p (omega (arith, same, l)) ∙ h p l)
+      (λ (ge : n ≤ p). let at : p ≡ n = omega arith in rw at (get_or_push sets s [] n same ∙ here))
+      (cases_lt p n);
+}
+
+-- ---- what each group lacks
+
+pub slacks_more : (q w : ℤ) (groups : List Group) (x slacks : List ℤ) (n : ℕ) (a : ℤ) → length slacks ≡ n → ((p : ℕ) → p < n → get_or slacks p (pos 0) ≡ slack_of q w x (group_at groups p)) → a ≡ slack_of q w x (group_at groups n)
+    → record { places : length (slacks ++ a ∷ []) ≡ n + 1; each : (p : ℕ) → p < n + 1 → get_or (slacks ++ a ∷ []) p (pos 0) ≡ slack_of q w x (group_at groups p) }
+slacks_more q w groups x slacks n a same h here = record {
+  places = (let l = length_push slacks a in omega (arith, l, same));
+  each = λ p lt. ⊎_elim
+      (λ (l : p < n). get_or_append_left slacks (a ∷ []) (pos 0) p (omega (arith, same, l)) ∙ h p l)
+      (λ (ge : n ≤ p). let at : p ≡ n = omega arith in rw at (get_or_push slacks a (pos 0) n same ∙ here))
+      (cases_lt p n);
+}
+
+sum-counts : (es : List ℕ) (x : List ℤ) → AreCounts x → All (λ e. e < length x) es → pos 0 ≤ℤ sum_listed es x
+sum-counts [] x counts below = omega (arith, ints)
+sum-counts (e ∷ es) x counts below =
+    let a = counts e (All-head (λ e. e < length x) e es below) in
+    let r = sum-counts es x counts (All-tail (λ e. e < length x) e es below) in
+    omega (arith, ints, a, r)
+
+module _ (k : ℕ) (q w : ℤ) (groups : List Group) (hq : pos 1 ≤ℤ q) (hw : pos 0 ≤ℤ w) (ok : AreGroups k groups) (x : List ℤ) (kx : length x ≡ k) where
+  -- a base leaves no group more than its bound, and none less than nothing
+  pub slack_small : k ≤ 256 → (q *ℤ w) ≤ℤ pos (10 ^ 24) → IsBase (times q (laminar_value k w groups)) x → (i : ℕ) → i < length groups → IsAtMost (10 ^ 27) (slack_of q w x (group_at groups i))
+  slack_small few high base i lt =
+      let g = group_at groups i in
+      let h = laminar_base_back k q w groups hq hw ok x kx base in
+      let b = h.bounded i lt in
+      let s = sum-counts g.members x h.counts (rw kx (ok.below i no_group lt)) in
+      let cap = (ok.each i no_group lt).low in
+      let low : pos 0 ≤ℤ (q *ℤ w) = let up = times-mono q (pos 0) w (omega (arith, ints)) hw in omega (arith, ints, up) in
+      let n = few_members k g (ok.each i no_group lt) (ok.below i no_group lt) in
+      let rl : pos 0 ≤ℤ int_min g.cap (pos (length g.members)) = omega (arith, ints, clamps, cap) in
+      let rh : int_min g.cap (pos (length g.members)) ≤ℤ pos 256 = omega (arith, ints, clamps, n, few) in
+      let small = bound_small (q *ℤ w) (int_min g.cap (pos (length g.members))) low high rl rh in
+      record { low = omega (arith, ints, b); high = omega (arith, ints, s, small.high) }
+
+  pub slacks_small : k ≤ 256 → (q *ℤ w) ≤ℤ pos (10 ^ 24) → IsBase (times q (laminar_value k w groups)) x → (slacks : List ℤ) → AreSlacks q w groups x slacks → All (IsAtMost (10 ^ 27)) slacks
+  slacks_small few high base slacks are i d lt =
+      let p = are.places in
+      let li : i < length groups = omega (arith, p, lt) in
+      rw (get_or_default slacks i d (pos 0) lt, are.each i li) (slack_small few high base i li)
+
+  module _ (u v : ℕ) (a : ℤ) (xu : u < length x) (xv : v < length x) (ne : u ≢ v) where
+    slack-exchanged : (i : ℕ) → i < length groups → slack_of q w (exchanged x u v a) (group_at groups i) ≡ ((slack_of q w x (group_at groups i) -ℤ share_of k (group_at groups i) u a) +ℤ share_of k (group_at groups i) v a)
+    slack-exchanged i lt =
+        let g = group_at groups i in
+        let s = sum-group k q w groups hq hw ok i x lt kx in
+        let t = sum-group k q w groups hq hw ok i (exchanged x u v a) lt (length-exchanged x u v a ∙ kx) in
+        let e = sum_over-exchanged (mask k g.members) x u v a (length-mask k g.members ∙ sym kx) xu xv ne in
+        omega (arith, ints, s, t, e)
+
+    pub slacks_moved : (before after : List ℤ) → AreSlacks q w groups x before → length after ≡ length before
+        → ((i : ℕ) → i < length before → get_or after i (pos 0) ≡ ((get_or before i (pos 0) -ℤ share_of k (group_at groups i) u a) +ℤ share_of k (group_at groups i) v a)) → AreSlacks q w groups (exchanged x u v a) after
+    slacks_moved before after are same moved = record {
+      places = same ∙ are.places;
+      each = λ i lt.
+          let p = are.places in
+          let m = moved i (omega (arith, lt, p)) in
+          let b = are.each i lt in
+          let e = slack-exchanged i lt in
+          omega (arith, ints, m, b, e);
+    }
+
+pub share_at : (k : ℕ) (g : Group) (v : ℕ) (a : ℤ) (b : Bool) (r : ℤ) → b ≡ get_or (mask k g.members) v false → r ≡ (if b then a else pos 0) → r ≡ share_of k g v a
+share_at k g v a b r told is = is ∙ ap (λ t. if t then a else pos 0) told
+
+pub share_low : (k : ℕ) (g : Group) (v : ℕ) (a : ℤ) → pos 0 ≤ℤ a → pos 0 ≤ℤ share_of k g v a
+share_low k g v a low = at (get_or (mask k g.members) v false) where
+  at : (b : Bool) → pos 0 ≤ℤ (if b then a else pos 0)
+  at true = low
+  at false = omega (arith, ints)
+
+pub share_high : (k : ℕ) (g : Group) (v : ℕ) (a : ℤ) → pos 0 ≤ℤ a → share_of k g v a ≤ℤ a
+share_high k g v a low = at (get_or (mask k g.members) v false) where
+  at : (b : Bool) → (if b then a else pos 0) ≤ℤ a
+  at true = omega (arith, ints)
+  at false = low
+
+-- the first n numbers are written, and the others as before
+pub written_more : (to : ℕ → ℤ) (before after : List ℤ) (n : ℕ) (a : ℤ) → length after ≡ length before → n < length before → ((i : ℕ) → i < n → get_or after i (pos 0) ≡ to i) → ((i : ℕ) → n ≤ i → get_or after i (pos 0) ≡ get_or before i (pos 0)) → a ≡ to n
+    → record { places : length (set after n a) ≡ length before; done : (i : ℕ) → i < n + 1 → get_or (set after n a) i (pos 0) ≡ to i; rest : (i : ℕ) → n + 1 ≤ i → get_or (set after n a) i (pos 0) ≡ get_or before i (pos 0) }
+written_more to before after n a same lt done rest here = record {
+  places = length-set after n a ∙ same;
+  done = λ i li. ⊎_elim
+      (λ (l : i < n). get_or-set_other after n i a (pos 0) (λ e. omega (arith, e, l)) ∙ done i l)
+      (λ (ge : n ≤ i). let at : i ≡ n = omega arith in rw at (get_or-set_same after n a (pos 0) (omega (arith, same, lt)) ∙ here))
+      (cases_lt i n);
+  rest = λ i le. get_or-set_other after n i a (pos 0) (λ e. omega (arith, e, le)) ∙ rest i (omega (arith, le));
+}
+
+-- ---- the places that have something
+
+pub support_moved : (x : List ℤ) (s : List Bool) (u v : ℕ) (a : ℤ) (bu bv : Bool) → u < length x → v < length x → u ≢ v → IsSupport x s → bu ≡ true ↔ (pos 1 ≤ℤ (get_or x u (pos 0) +ℤ a)) → bv ≡ true ↔ (pos 1 ≤ℤ (get_or x v (pos 0) -ℤ a))
+    → IsSupport (exchanged x u v a) (set (set s u bu) v bv)
+support_moved x s u v a bu bv xu xv ne h tu tv = record {
+  places = length-set (set s u bu) v bv ∙ (length-set s u bu ∙ (h.places ∙ sym len));
+  exact = λ e lt. ⊎_elim
+      (λ (same : e ≡ v). rw (same, get_or-set_same (set s u bu) v bv false (omega (arith, l1, p, xv)), exchanged-second x u v a xv) tv)
+      (λ (ev : e ≢ v). ⊎_elim
+      (λ (same : e ≡ u). rw (same, get_or-set_other (set s u bu) v u bv false ne, get_or-set_same s u bu false (omega (arith, p, xu)), exchanged-first x u v a xu ne) tu)
+      (λ (eu : e ≢ u). rw (get_or-set_other (set s u bu) v e bv false ev, get_or-set_other s u e bu false eu, exchanged-other x u v e a eu ev) (h.exact e (omega (arith, lt, len))))
+      (cases_eq e u))
+      (cases_eq e v);
+} where
+  len : length (exchanged x u v a) ≡ length x
+  len = length-exchanged x u v a
+
+  l1 : length (set s u bu) ≡ length s
+  l1 = length-set s u bu
+
+  p : length s ≡ length x
+  p = h.places
+
+-- those of a support other than u
+pub others_in : (x : List ℤ) (s : List Bool) (u : ℕ) → u < length x → IsSupport x s → (v : ℕ) → v < length x → Has (set (union (empty_set (length x)) s) u false) v ↔ ((v ≢ u) × (pos 1 ≤ℤ get_or x v (pos 0)))
+others_in x s u xu h v xv = ⊎_elim
+    (λ (same : v ≡ u). ((λ has. absurd (false≢true (sym (get_or-set_same both u false false (omega (arith, lb, xu))) ∙ (rw same at has)))), (λ (ne, some). absurd (ne same))))
+    (λ (ne : v ≢ u). (
+      (λ has. (ne, (h.exact v xv).0 (⊎_elim (λ none. absurd (false≢true (sym (get_or-replicate (length x) v false false xv) ∙ none))) (λ in_s. in_s) (in_union (empty_set (length x)) s v le (sym (get_or-set_other both u v false false ne) ∙ has))))),
+      (λ (ne', some). get_or-set_other both u v false false ne ∙ union_right (empty_set (length x)) s v le ((h.exact v xv).1 some)),
+    ))
+    (cases_eq v u) where
+      both : List Bool
+      both = union (empty_set (length x)) s
+
+      le : length (empty_set (length x)) ≡ length s
+      le = length-replicate (length x) false ∙ sym h.places
+
+      lb : length both ≡ length x
+      lb = length-union (empty_set (length x)) s le ∙ length-replicate (length x) false
+
+pub none_in : (n v : ℕ) → Has (empty_set n) v → ⊥
+none_in zero v h = false≢true h
+none_in (suc n) zero h = false≢true h
+none_in (suc n) (suc v) h = none_in n v h

@@ -1,0 +1,21 @@
+use Rattle.std.proofs.Common.{rules, length, ◌<◌, FitsSigned}
+use Rattle.std.proofs.lemmas.Int.{to_z-of_z}
+use mir.Syntax.{w128}
+use Rattle.sfm_laminar.proofs.Exchanges.{laminar-capacity}
+use Rattle.sfm_laminar.proofs.laminar.Laminar.room_in.Goals as goal
+
+pub least_left-requires-clause-noted : goal.least_left-requires-clause-noted
+least_left-requires-clause-noted c =
+    let fq : FitsSigned w128 c.args.q = c.ranges.q in
+    simp to_z-of_z c.requires.noted.0
+
+pub returns : goal.returns
+returns c =
+    let r = c.requires in
+    let s = c.args.self.now in
+    let fq : FitsSigned w128 c.args.q = c.ranges.q in
+    let fl : FitsSigned w128 c.least_left.result = search rules in
+    let is = simp to_z-of_z at c.least_left.ensures in
+    let ku : c.args.u < length s.places = rw (← r.entries) r.from in
+    let kv : c.args.v < length s.places = rw (← r.entries) r.onto in
+    simp to_z-of_z (laminar-capacity (length s.places) c.args.q s.w s.groups r.factor.low s.low s.grouped c.args.x.now r.entries r.base c.args.u c.args.v ku kv r.apart c.least_left.result is)

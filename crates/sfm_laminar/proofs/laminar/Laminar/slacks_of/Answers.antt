@@ -1,0 +1,22 @@
+use Rattle.std.proofs.Common.{◌≡◌, ◌∙◌, length, arith, rules, FitsSigned}
+use Rattle.std.proofs.lemmas.Int.{to_z-of_z}
+use mir.Syntax.{w128}
+use Rattle.sfm_laminar.proofs.Slacking.{slacks_more}
+use Rattle.sfm_laminar.proofs.laminar.Laminar.slacks_of.Goals as goal
+
+pub loop-i-preserved : goal.loop-i-preserved
+loop-i-preserved c =
+    let s = c.args.self.now in
+    let fq : FitsSigned w128 c.args.q = c.ranges.q in
+    let fs : FitsSigned w128 c.slack.result = search rules in
+    let inv = simp to_z-of_z at c.loop-i.invariant in
+    let e = simp to_z-of_z at c.slack.ensures in
+    rw c.in_ok-push.ensures.items (simp to_z-of_z (slacks_more c.args.q s.w s.groups c.args.x.now c.loop-i.slacks.items c.loop-i.i c.slack.result inv.places inv.each e))
+
+pub returns : goal.returns
+returns c =
+    let s = c.args.self.now in
+    let fq : FitsSigned w128 c.args.q = c.ranges.q in
+    let inv = simp to_z-of_z at c.loop-i.invariant in
+    let n : c.loop-i.i ≡ length s.groups = omega (arith, c.loop-i-test.false, c.loop-i.auto.i-end) in
+    record { places = inv.places ∙ n; each = λ p lt. inv.each p (omega (arith, lt, n)) }

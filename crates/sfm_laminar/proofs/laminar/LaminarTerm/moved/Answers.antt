@@ -1,0 +1,39 @@
+use Rattle.std.proofs.Common.{◌∙◌, ◌^◌, ℕ, length, drop, pos, ap, sym, arith, FitsSigned}
+use Rattle.std.proofs.lemmas.Int.{to_z-of_z}
+use Rattle.std.proofs.lemmas.List.{get_or_default, take_at}
+use mir.Syntax.{w128}
+use Rattle.sfm_spec.specs.Bounds.{IsAtMost}
+use Rattle.sfm_law.proofs.Fits.{product_high}
+use Rattle.sfm_laminar.proofs.Slacking.{slacks_small, slacks_moved}
+use Rattle.sfm_laminar.proofs.laminar.LaminarTerm.moved.Goals as goal
+
+pub move_slacks-requires-clause-groups : goal.move_slacks-requires-clause-groups
+move_slacks-requires-clause-groups c = ap length c.deref_mut.ensures.value ∙ c.requires.noted.0.places
+
+pub move_slacks-requires-clause-small : goal.move_slacks-requires-clause-small
+move_slacks-requires-clause-small c =
+    let r = c.requires in
+    let s = c.args.self.now in
+    let q = c.args._q in
+    let x = c.args.x.now in
+    let kept = c.args.note.now.slacks in
+    let k = length s.places in
+    rw c.deref_mut.ensures.value (slacks_small k q s.w s.groups r.factor.low s.low s.grouped x r.entries s.few (product_high q s.w r.factor s.given) r.base kept.items r.noted.0)
+
+pub returns : goal.returns
+returns c =
+    let r = c.requires in
+    let s = c.args.self.now in
+    let q = c.args._q in
+    let x = c.args.x.now in
+    let kept = c.args.note.now.slacks in
+    let k = length s.places in
+    let fa : FitsSigned w128 c.args.a = c.ranges.a in
+    let z = c.move_slacks.new.slacks in
+    let e = c.deref_mut.ensures.value in
+    let same = c.move_slacks.ensures.places ∙ ap length e in
+    let moved = rw e at (simp to_z-of_z at c.move_slacks.ensures.moved) in
+    let support = simp to_z-of_z at c.move_support.ensures in (
+      rw (take_at z (drop (length z) kept.items) kept.len (same ∙ sym kept.ok.0)) (slacks_moved k q s.w s.groups r.factor.low s.low s.grouped x r.entries c.args.u c.args.v c.args.a r.from r.onto r.apart kept.items z r.noted.0 same moved),
+      support,
+    )

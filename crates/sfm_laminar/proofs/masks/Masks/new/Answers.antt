@@ -1,0 +1,23 @@
+use Rattle.std.proofs.Common.{◌≡◌, ◌∙◌, ap, length, arith}
+use Rattle.sfm_laminar.specs.Crossing.{no_group}
+use Rattle.sfm_laminar.specs.Masks.{mask}
+use Rattle.sfm_laminar.proofs.Slacking.{masks_more}
+use Rattle.sfm_laminar.proofs.masks.Masks.new.Goals as goal
+
+pub set_of-requires-clause-ascending : goal.set_of-requires-clause-ascending
+set_of-requires-clause-ascending c = rw (c.members.ensures, c.group-group.ensures.group) c.group-group.ensures.sound.ascending
+
+pub set_of-requires-clause-below : goal.set_of-requires-clause-below
+set_of-requires-clause-below c = rw (c.members.ensures, c.group-group.ensures.group) (c.requires.below c.loop-i.i no_group (omega (arith, c.loop-i-test.true, c.len-i-end.ensures)))
+
+pub loop-i-preserved : goal.loop-i-preserved
+loop-i-preserved c =
+    let inv = c.loop-i.invariant in
+    let members = c.members.ensures ∙ ap (λ g. g.members) c.group-group.ensures.group in
+    rw c.in_ok-push.ensures.items (masks_more c.args.k c.args.groups.now _ c.loop-i.i _ inv.places inv.sets (c.in_ok-set_of.ensures ∙ ap (λ es. mask c.args.k es) members))
+
+pub returns : goal.returns
+returns c =
+    let inv = c.loop-i.invariant in
+    let n : c.loop-i.i ≡ length c.args.groups.now = omega (arith, c.loop-i-test.false, c.loop-i.auto.i-end) in
+    record { places = inv.places ∙ n; sets = λ p lt. inv.sets p (omega (arith, lt, n)) }

@@ -1,0 +1,58 @@
+// What is kept beside a base, so that rooms and rows are told without a sum over the members of a group: what each group lacks,
+// and the places that have something. An exchange changes what those groups lack that have one of its places, by its amount.
+ghost use Rattle.std.specs.Prelude.{◌≡◌, ◌≢◌, ◌↔◌, ◌<◌, ◌^◌, IsTrue, length, pos, ◌≤ℤ◌, if◌then◌else◌, IfOk};
+ghost use Rattle.std.specs.List.{All};
+ghost use Rattle.sfm_spec.specs.Bounds.{IsEntry};
+ghost use Rattle.sfm_spec.specs.Terms.{exchanged};
+ghost use Rattle.sfm_laminar.specs.Slacks.{IsSupport};
+
+use sfm_base::{Memory, Set};
+use std::alloc::Global;
+
+/// What each group lacks, and the places that have something.
+#[derive(Drop)]
+pub struct Slacks {
+    pub slacks: Vec<i128>,
+    pub support: Set,
+}
+
+/// Whether an entry is something.
+fn is_some(a: i128) -> bool
+    ensures { IsTrue result ↔ (pos 1 ≤ℤ a) }
+{
+    a >= 1
+}
+
+/// An amount where it is had, and else nothing.
+pub(crate) fn share(has: bool, a: i128) -> i128
+    ensures { result ≡ (if has then a else pos 0) }
+{
+    if has { a } else { 0 }
+}
+
+/// The places that have something.
+pub(crate) fn support_of(alloc: Global, x: &[i128]) -> Result<Set, Memory>
+    requires small { All IsEntry x.now }
+    ensures { IfOk result (IsSupport x.now) }
+{
+    let mut support = Set::empty(alloc, x.len())?;
+    for (v, a) in x.iter().enumerate() {
+        support.put(v, is_some(*a));
+    }
+    Ok(support)
+}
+
+/// Brings the places that have something up to an exchange.
+pub(crate) fn move_support(x: &[i128], support: &mut Set, u: usize, v: usize, a: i128)
+    requires small { All IsEntry x.now }
+    requires apart { u ≢ v }
+    requires from { u < length x.now }
+    requires onto { v < length x.now }
+    requires low { pos 0 ≤ℤ a }
+    requires high { a ≤ℤ pos (10 ^ 30) }
+    requires before { IsSupport x.now support.old }
+    ensures { IsSupport (exchanged x.now u v a) support.new }
+{
+    support.put(u, is_some(x[u] + a));
+    support.put(v, is_some(x[v] - a));
+}
