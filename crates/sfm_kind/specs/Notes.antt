@@ -1,18 +1,28 @@
 -- What is kept beside a base of a kind that keeps something: a note of that kind, and nothing less.
 use Rattle.std.specs.Prelude.{ℕ, List, ℤ}
-use Rattle.sfm_spec.specs.Kinds.{Edge}
+use Rattle.sfm_spec.specs.Kinds.{Edge, Group}
+use Rattle.sfm_laminar.specs.Slacks.{laminar_fits}
 use Rattle.sfm_matroid.specs.Notes.{graphic_fits, transversal_fits}
 use Rattle.sfm_kind.specs.declared.kind.KindNote.{KindNote}
-use Rattle.sfm_kind.specs.declared.kind.KindNote.TheVariants.{Nothing, Graphic, Transversal}
+use Rattle.sfm_kind.specs.declared.kind.KindNote.TheVariants.{Nothing, Laminar, Graphic, Transversal}
+
+-- what the groups of a laminar rank lack
+abbrev pub laminar_note_fits : ℤ → List Group → KindNote → ℤ → List ℤ → Type 0
+laminar_note_fits w groups Nothing q x = ⊥
+laminar_note_fits w groups (Laminar slacks) q x = laminar_fits w groups slacks q x
+laminar_note_fits w groups (Graphic split) q x = ⊥
+laminar_note_fits w groups (Transversal split) q x = ⊥
 
 -- the split in the test of one vertex of a graphic rank
 abbrev pub graphic_note_fits : ℤ → List Edge → KindNote → ℤ → List ℤ → Type 0
 graphic_note_fits w edges Nothing q x = ⊥
+graphic_note_fits w edges (Laminar slacks) q x = ⊥
 graphic_note_fits w edges (Graphic split) q x = graphic_fits w edges split q x
 graphic_note_fits w edges (Transversal split) q x = ⊥
 
 -- the split in the test of a transversal rank
 abbrev pub transversal_note_fits : ℤ → List (List ℕ) → KindNote → ℤ → List ℤ → Type 0
 transversal_note_fits w entries Nothing q x = ⊥
+transversal_note_fits w entries (Laminar slacks) q x = ⊥
 transversal_note_fits w entries (Graphic split) q x = ⊥
 transversal_note_fits w entries (Transversal split) q x = transversal_fits w entries split q x

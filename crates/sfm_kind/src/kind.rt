@@ -46,6 +46,8 @@ pub enum Kind {
 pub enum KindNote {
     /// Nothing, as beside the plain kinds.
     Nothing,
+    /// What the groups of a laminar rank lack.
+    Laminar(<Laminar as Term>::Note),
     /// The split in the test of one vertex of a graphic rank.
     Graphic(<Graphic as Term>::Note),
     /// The split in the test of a transversal rank.
@@ -212,7 +214,7 @@ impl Term for Kind {
             Kind::Table(term) => term.note(alloc, q, x)?,
             Kind::Concave(term) => term.note(alloc, q, x)?,
             Kind::Uniform(term) => term.note(alloc, q, x)?,
-            Kind::Laminar(term) => term.note(alloc, q, x)?,
+            Kind::Laminar(term) => return Ok(KindNote::Laminar(term.note(alloc, q, x)?)),
             Kind::Graphic(term) => return Ok(KindNote::Graphic(term.note(alloc, q, x)?)),
             Kind::Transversal(term) => return Ok(KindNote::Transversal(term.note(alloc, q, x)?)),
         }
@@ -236,7 +238,10 @@ impl Term for Kind {
             Kind::Table(term) => term.reach_by(alloc, q, x, &(), u, to),
             Kind::Concave(term) => term.reach_by(alloc, q, x, &(), u, to),
             Kind::Uniform(term) => term.reach_by(alloc, q, x, &(), u, to),
-            Kind::Laminar(term) => term.reach_by(alloc, q, x, &(), u, to),
+            Kind::Laminar(term) => match note {
+                KindNote::Laminar(note) => term.reach_by(alloc, q, x, note, u, to),
+                _ => unreachable!(),
+            },
             Kind::Graphic(term) => match note {
                 KindNote::Graphic(note) => term.reach_by(alloc, q, x, note, u, to),
                 _ => unreachable!(),
@@ -265,7 +270,10 @@ impl Term for Kind {
             Kind::Table(term) => term.room_by(alloc, q, x, &mut (), u, v),
             Kind::Concave(term) => term.room_by(alloc, q, x, &mut (), u, v),
             Kind::Uniform(term) => term.room_by(alloc, q, x, &mut (), u, v),
-            Kind::Laminar(term) => term.room_by(alloc, q, x, &mut (), u, v),
+            Kind::Laminar(term) => match note {
+                KindNote::Laminar(note) => term.room_by(alloc, q, x, note, u, v),
+                _ => unreachable!(),
+            },
             Kind::Graphic(term) => match note {
                 KindNote::Graphic(note) => term.room_by(alloc, q, x, note, u, v),
                 _ => unreachable!(),
@@ -295,7 +303,10 @@ impl Term for Kind {
             Kind::Table(term) => term.reach_with(alloc, q, x, &(), s, u, to),
             Kind::Concave(term) => term.reach_with(alloc, q, x, &(), s, u, to),
             Kind::Uniform(term) => term.reach_with(alloc, q, x, &(), s, u, to),
-            Kind::Laminar(term) => term.reach_with(alloc, q, x, &(), s, u, to),
+            Kind::Laminar(term) => match note {
+                KindNote::Laminar(note) => term.reach_with(alloc, q, x, note, s, u, to),
+                _ => unreachable!(),
+            },
             Kind::Graphic(term) => match note {
                 KindNote::Graphic(note) => term.reach_with(alloc, q, x, note, s, u, to),
                 _ => unreachable!(),
@@ -325,7 +336,10 @@ impl Term for Kind {
             Kind::Table(term) => term.moved(alloc, q, x, &mut (), u, v, a),
             Kind::Concave(term) => term.moved(alloc, q, x, &mut (), u, v, a),
             Kind::Uniform(term) => term.moved(alloc, q, x, &mut (), u, v, a),
-            Kind::Laminar(term) => term.moved(alloc, q, x, &mut (), u, v, a),
+            Kind::Laminar(term) => match note {
+                KindNote::Laminar(note) => term.moved(alloc, q, x, note, u, v, a),
+                _ => unreachable!(),
+            },
             Kind::Graphic(term) => match note {
                 KindNote::Graphic(note) => term.moved(alloc, q, x, note, u, v, a),
                 _ => unreachable!(),

@@ -17,8 +17,8 @@ moved-requires-in-Uniform-clause-room c =
     let same : to_z w128 (of_z w128 c.args.a) ≡ c.args.a = omega (arith, ints, c.requires.low.le, c.requires.high.le) in
     rw (kept, same) (rw c.in-Uniform.is at c.requires.room)
 
-pub moved-requires-in-Laminar-clause-room : goal.moved-requires-in-Laminar-clause-room
-moved-requires-in-Laminar-clause-room c =
+pub moved-requires-in-Laminar-note-clause-room : goal.moved-requires-in-Laminar-note-clause-room
+moved-requires-in-Laminar-note-clause-room c =
     let kept : to_z w128 (of_z w128 c.args.q) ≡ c.args.q = omega (arith, ints, c.requires.factor.low, c.requires.factor.high) in
     let same : to_z w128 (of_z w128 c.args.a) ≡ c.args.a = omega (arith, ints, c.requires.low.le, c.requires.high.le) in
     rw (kept, same) (rw c.in-Laminar.is at c.requires.room)

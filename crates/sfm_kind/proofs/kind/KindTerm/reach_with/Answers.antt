@@ -39,8 +39,8 @@ reach_with-requires-in-Uniform-clause-leads c =
     let kept : to_z w128 (of_z w128 c.args.q) ≡ c.args.q = omega (arith, ints, c.requires.factor.low, c.requires.factor.high) in
     rw kept (rw c.in-Uniform.is at c.requires.leads)
 
-pub reach_with-requires-in-Laminar-clause-leads : goal.reach_with-requires-in-Laminar-clause-leads
-reach_with-requires-in-Laminar-clause-leads c =
+pub reach_with-requires-in-Laminar-note-clause-leads : goal.reach_with-requires-in-Laminar-note-clause-leads
+reach_with-requires-in-Laminar-note-clause-leads c =
     let kept : to_z w128 (of_z w128 c.args.q) ≡ c.args.q = omega (arith, ints, c.requires.factor.low, c.requires.factor.high) in
     rw kept (rw c.in-Laminar.is at c.requires.leads)
 
