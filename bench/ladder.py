@@ -5,6 +5,7 @@ import argparse
 import math
 import os
 import random
+import shlex
 import subprocess
 import sys
 import tempfile
@@ -150,11 +151,11 @@ def write_instance(path, kind, size, seed):
     return len(lines)
 
 
-def solve(program, path, answer, limit):
-    """Runs the program, and gives its time of the processor and by the clock in seconds, and its exit code, None past the limit."""
+def timed(words, answer, limit):
+    """Runs a command, and gives its time of the processor and by the clock in seconds, and its exit code, None past the limit."""
     with open(answer, "wb") as out:
         start = time.perf_counter()
-        process = subprocess.Popen([program, "solve", path], stdout=out)
+        process = subprocess.Popen(words, stdout=out)
         timer = threading.Timer(limit, process.kill)
         timer.start()
         _, status, usage = os.wait4(process.pid, 0)
@@ -164,9 +165,31 @@ def solve(program, path, answer, limit):
     return usage.ru_utime + usage.ru_stime, seconds, None if seconds >= limit else process.returncode
 
 
-def check(program, path, answer):
-    done = subprocess.run([program, "check", path, answer], stdout=subprocess.PIPE)
-    return done.stdout.decode("ascii", "replace").strip() or f"exit {done.returncode}"
+def text_of(path):
+    with open(path, "rb") as file:
+        return file.read().decode("ascii", "replace")
+
+
+def forced_lines(path):
+    """The lines of an answer that no other right answer may say otherwise: all but the bases."""
+    return [line for line in text_of(path).split("\n") if not line.startswith("base")]
+
+
+def judge(options, path, answer):
+    """Has an answer judged, and gives the time of the processor and the verdict."""
+    verdict = answer + ".verdict"
+    processor, _, code = timed([os.path.abspath(options.program), "check", path, answer], verdict, options.limit)
+    return processor, text_of(verdict).strip() or f"exit {code}"
+
+
+def solve_beside(options, path, answer):
+    """Has another program solve the instance, and gives the least time of the processor and what is to be said of it."""
+    other = answer + ".beside"
+    runs = [timed([*shlex.split(options.beside), path], other, options.limit) for _ in range(options.runs)]
+    if any(code != 0 for _, _, code in runs):
+        return None, "the program beside failed"
+    same = forced_lines(other) == forced_lines(answer)
+    return min(processor for processor, _, _ in runs), "" if same else "the program beside says other lines"
 
 
 def parse_words():
@@ -179,6 +202,7 @@ def parse_words():
     parser.add_argument("--limit", type=float, default=600, help="seconds for each run")
     parser.add_argument("--keep", help="a folder for the instances and answers, which else are removed")
     parser.add_argument("--check", action="store_true", help="judge each answer too")
+    parser.add_argument("--beside", metavar="COMMAND", help="another solver, run as COMMAND FILE, whose answer is compared but for its bases")
     options = parser.parse_args()
     if any(not 16 <= size <= 256 for size in options.sizes):
         parser.error("sizes are from 16 to 256")
@@ -193,22 +217,38 @@ def measure(options, folder, kind, size):
     answer = os.path.join(folder, f"{kind}_{size}.answer")
     terms = write_instance(path, kind, size, options.seed)
     program = os.path.abspath(options.program)
-    runs = [solve(program, path, answer, options.limit) for _ in range(options.runs)]
+    runs = [timed([program, "solve", path], answer, options.limit) for _ in range(options.runs)]
     codes = [code for _, _, code in runs if code != 0]
-    processor, seconds = (f"{min(run[place] for run in runs):.4f}" for place in (0, 1))
+    processor, seconds = (min(run[place] for run in runs) for place in (0, 1))
+    row = [kind, size, terms, f"{processor:.4f}", f"{seconds:.4f}", os.path.getsize(answer)]
+    faults = []
     if codes:
-        processor, seconds = "", f"over {options.limit:g}" if codes[0] is None else f"exit {codes[0]}"
-    print(f"| {kind} | {size} | {terms} | {processor} | {seconds} | {os.path.getsize(answer)} |", flush=True)
-    verdict = check(program, path, answer) if options.check and not codes else "valid"
-    if verdict != "valid":
-        print(f"{kind} {size}: {verdict}", file=sys.stderr, flush=True)
-    return not codes and verdict == "valid"
+        row[3:5] = ["", f"over {options.limit:g}" if codes[0] is None else f"exit {codes[0]}"]
+        faults.append("no answer")
+    if options.check:
+        judged, verdict = judge(options, path, answer) if not codes else (0, "valid")
+        row.append(f"{judged:.4f}")
+        faults += [verdict] * (verdict != "valid")
+    if options.beside:
+        beside, fault = solve_beside(options, path, answer) if not codes else (None, "")
+        row += ["", ""] if beside is None else [f"{beside:.4f}", f"{processor / max(beside, 0.0005):.1f}"]
+        faults += [fault] * (fault != "")
+    print("| " + " | ".join(str(cell) for cell in row) + " |", flush=True)
+    for fault in faults:
+        print(f"{kind} {size}: {fault}", file=sys.stderr, flush=True)
+    return not faults
+
+
+def print_head(options):
+    head = [f"Instance, seed {options.seed}", "Elements", "Terms", "Processor seconds", "By the clock", "Answer in bytes"]
+    head += ["Judged in"] * options.check + ["Beside", "Times"] * bool(options.beside)
+    print("| " + " | ".join(head) + " |")
+    print("|---" * len(head) + "|", flush=True)
 
 
 def main():
     options = parse_words()
-    print(f"| Instance, seed {options.seed} | Elements | Terms | Processor seconds | By the clock | Answer in bytes |")
-    print("|---|---|---|---|---|---|")
+    print_head(options)
     with tempfile.TemporaryDirectory() as temporary:
         folder = options.keep or temporary
         os.makedirs(folder, exist_ok=True)
