@@ -18,17 +18,13 @@ row_of places f x u row part sized reach has e = (
 )
 
 -- one row more
-pub table_more : (places : List ℕ) (f : SetFunction) (x : List ℤ) (k : ℕ) (table : List Bits) (row : Bits) (part : List Bool) → IsReachTable places f x k table → k < length table → length x ≡ length places
-    → IsReach f x k part → HasPlaces places part (length places) row → IsReachTable places f x (k + 1) (set table k row)
-table_more places f x k table row part h inside sized reach has u e l = at (cases_eq u k) where
+pub table_more : (places : List ℕ) (f : SetFunction) (x : List ℤ) (k : ℕ) (table : List Bits) (row : Bits) → IsReachTable places f x k table → k < length table → IsRow places f x k row → IsReachTable places f x (k + 1) (set table k row)
+table_more places f x k table row h inside is u e l = at (cases_eq u k) where
   Goal : Bits → ℕ → Type 0
   Goal s u = (bit_in s e ≡ 1) ↔ ((v : ℕ) × (v < length places) × (v ≢ u) × HasRoom f x u v × (get_or places v 0 ≡ e))
 
-  here : Goal row k
-  here = row_of places f x k row part sized reach has e
-
   at : (u ≡ k) ⊎ (u ≢ k) → Goal (set_at (set table k row) u) u
-  at (inl same) = rw (same, get_or-set_same table k row blank_bits inside) here
+  at (inl same) = rw (same, get_or-set_same table k row blank_bits inside) (is e)
   at (inr ne) = rw (get_or-set_other table k u row blank_bits ne) (h u e (omega (arith, l, ne)))
 
 -- the rows of a term tell its steps

@@ -1,24 +1,21 @@
 -- The exchange graph of q times some terms at bases of theirs.
-use Rattle.std.specs.Prelude.{◌≡◌, ℕ, ◌<◌, ◌^◌, List, length, map, ℤ, pos, ◌≤ℤ◌}
-use Rattle.sfm_spec.specs.Sets.{IsPlaced}
+use Rattle.std.specs.Prelude.{◌≡◌, ℕ, ◌<◌, List, length, map, ℤ}
 use Rattle.sfm_spec.specs.Bounds.{AreBounded, IsFactor}
-use Rattle.sfm_spec.specs.Terms.{SetFunction, times, IsBase}
-use Rattle.sfm_walk.specs.declared.bits.Bits.{Bits}
+use Rattle.sfm_spec.specs.Terms.{SetFunction}
 use Rattle.sfm_spec.specs.Families.{meanings, AreBases}
 use Rattle.sfm_walk.specs.declared.graph.Graph.{Graph}
 use Rattle.sfm_walk.specs.Spots.{AreSpots}
-use Rattle.sfm_walk.specs.Reach.{AreNotes, AreSized, IsReachTable, IsTable, table_at}
+use Rattle.sfm_walk.specs.Reach.{AreNotes, AreSized, IsTable, table_at}
 use Rattle.sfm_walk.specs.Turned.{AreTurned}
 use Rattle.sfm_walk.specs.Unions.{AreUnions}
 
--- the graph is one of q times the terms over n places: its rows are bases, the note of each fits it, there are a set for the
--- parts of each term and a row for each place of it, which tells the steps by the term; the spots of each place are those
--- of the terms, the adjacency of each place is the union of the rows of its spots, and the same is told backwards
+-- the graph is one of q times the terms over n places: its rows are bases, the note of each fits it, there is a row for each
+-- place of each term, which tells the steps by the term; the spots of each place are those of the terms, the adjacency of
+-- each place is the union of the rows of its spots, and the same is told backwards
 pub record IsGraph {X N : Type 0} (places : X → List ℕ) (value : X → SetFunction) (fits : X → N → ℤ → List ℤ → Type 0) (terms : List X) (n : ℕ) (q : ℤ) (graph : Graph N) : Type 0 where
   pub are_bases : AreBases q (meanings places value terms) graph.bases
   pub note_count : length graph.notes.items ≡ length terms
   pub noted : AreNotes fits q terms graph.notes.items graph.bases
-  pub sized_parts : AreSized (map places terms) graph.parts.items
   pub sized_rows : AreSized (map places terms) graph.rows.items
   pub tables : (i : ℕ) → i < length terms → IsTable (meanings places value terms) q graph.bases i (table_at graph.rows.items i)
   pub are_spots : AreSpots (meanings places value terms) n graph.spots.items
@@ -30,13 +27,3 @@ pub record IsWhole {X N : Type 0} (places : X → List ℕ) (value : X → SetFu
   pub bounded : AreBounded n (map places terms) (map size terms)
   pub factor : IsFactor q
   pub exact : IsGraph places value fits terms n q graph
-
--- what is kept of one term is right: x is a base, the note fits it, and the rows tell its steps
-pub record IsTermAt {X N : Type 0} (places : X → List ℕ) (value : X → SetFunction) (size : X → ℤ) (fits : X → N → ℤ → List ℤ → Type 0) (term : X) (q : ℤ) (x : List ℤ) (note : N) (rows : List Bits) : Type 0 where
-  pub placed : IsPlaced 256 (places term)
-  pub bounded : size term ≤ℤ pos (10 ^ 18)
-  pub entries : length x ≡ length (places term)
-  pub base : IsBase (times q (value term)) x
-  pub noted : fits term note q x
-  pub count : length rows ≡ length x
-  pub table : IsReachTable (places term) (times q (value term)) x (length (places term)) rows

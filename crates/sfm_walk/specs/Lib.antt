@@ -1,3 +1,4 @@
+pub mod Based
 pub mod Bits
 pub mod Spots
 pub mod Reach

@@ -7,11 +7,11 @@ ghost use Rattle.sfm_walk.specs.Graph.{IsGraph};
 
 use crate::asking::ask_all;
 use crate::bits::Bits;
-use crate::reach::{BitRows, blank_rows, notes_of, parts_of};
+use crate::reach::{BitRows, blank_rows, notes_of};
 use crate::spots::{Spots, spots_of};
 use crate::turned::turned_of;
 use crate::unions::unions_of;
-use sfm_base::{Memory, Rows, Set};
+use sfm_base::{Memory, Rows};
 use sfm_law::Term;
 use std::alloc::Global;
 
@@ -22,7 +22,6 @@ pub struct Graph<N> {
     pub bases: Rows,
     pub(crate) spots: Vec<Spots>,
     pub(crate) notes: Vec<N>,
-    pub(crate) parts: Vec<Set>,
     pub(crate) rows: Vec<BitRows>,
     pub(crate) unions: Vec<Bits>,
     pub(crate) back: Vec<Bits>,
@@ -48,17 +47,15 @@ pub fn graph_at<T: Term>(
     ensures bases { IfOk result (λ r. r.bases ≡ bases) }
 {
     let spots = spots_of(alloc, terms, n)?;
-    let mut parts = parts_of(alloc, terms)?;
     let mut rows = blank_rows(alloc, terms)?;
     let notes = notes_of(alloc, terms, q, &bases)?;
-    ask_all(alloc, terms, n, q, &bases, &notes, &mut parts, &mut rows)?;
+    ask_all(alloc, terms, q, &bases, &notes, &mut rows)?;
     let unions = unions_of(alloc, &spots, &rows)?;
     let back = turned_of(alloc, &unions)?;
     Ok(Graph {
         bases,
         spots,
         notes,
-        parts,
         rows,
         unions,
         back,
@@ -88,16 +85,7 @@ pub fn restart<T: Term>(
     ensures bases { OnOk result (graph.new.bases ≡ bases) }
 {
     graph.notes = notes_of(alloc, terms, q, &bases)?;
-    ask_all(
-        alloc,
-        terms,
-        n,
-        q,
-        &bases,
-        &graph.notes,
-        &mut graph.parts,
-        &mut graph.rows,
-    )?;
+    ask_all(alloc, terms, q, &bases, &graph.notes, &mut graph.rows)?;
     graph.bases = bases;
     graph.unions = unions_of(alloc, &graph.spots, &graph.rows)?;
     graph.back = turned_of(alloc, &graph.unions)?;

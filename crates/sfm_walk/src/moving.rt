@@ -13,12 +13,13 @@ ghost use Rattle.sfm_walk.specs.Graph.{IsWhole};
 ghost use Rattle.sfm_walk.specs.Hops.{CanExchange, IsMovable, Moves, AreNamed, AreInOrder, hop_at, steps_of};
 
 use crate::graph::Graph;
-use crate::renewing::carry;
+use crate::reach::Based;
+use crate::renewing::renew_rows;
 use crate::run::Run;
 use crate::unions::renew;
 use crate::walk::Hop;
 use sfm_base::Memory;
-use sfm_law::{Room, Term};
+use sfm_law::{Room, Term, exchange};
 use std::alloc::Global;
 
 /// The greatest amount up to a given one that each step can move.
@@ -100,11 +101,14 @@ fn exchange_at<T: Term>(
     ensures graph { OnOk result (IsWhole T.places T.value_of T.size_of T.fits terms.now (length graph.old.spots.items) q graph.new) }
 {
     let i = hop.term;
+    let term = &terms[i];
     let note = &mut graph.notes[i];
-    let part = &mut graph.parts[i];
-    let rows = &mut graph.rows[i];
     let x = graph.bases.row_mut(i);
-    let changed = carry(alloc, &terms[i], q, x, note, part, rows, hop, a)?;
+    term.moved(alloc, q, x, note, hop.u, hop.v, a)?;
+    exchange(term, q, x, hop.u, hop.v, a);
+    let at = Based { term, q, x };
+    let rows = &mut graph.rows[i];
+    let changed = renew_rows(alloc, &at, note, hop.u, hop.v, rows)?;
     renew(
         &graph.spots,
         &graph.rows,

@@ -1,13 +1,12 @@
 // What each place of each term reaches at its base, kept as sets of ground places: one row for each place of the term.
 // Only the terms whose base has changed are asked again.
-ghost use Rattle.std.specs.Prelude.{◌≡◌, ◌<◌, ◌≤◌, ◌^◌, List, length, map, IfOk, OnOk, slice_set, pos, ◌≤ℤ◌};
-ghost use Rattle.std.specs.List.{All};
+ghost use Rattle.std.specs.Prelude.{◌≡◌, ◌<◌, List, length, map, IfOk, OnOk, slice_set};
 ghost use Rattle.sfm_spec.specs.Sets.{IsPlaced};
-ghost use Rattle.sfm_spec.specs.Bounds.{IsEntry, IsFactor};
-ghost use Rattle.sfm_spec.specs.Terms.{times, IsBase};
-ghost use Rattle.sfm_spec.specs.Families.{meanings, AreBases};
+ghost use Rattle.sfm_spec.specs.Rows.{Depends};
+ghost use Rattle.sfm_spec.specs.Terms.{times};
+ghost use Rattle.sfm_walk.specs.Based.{AreBased, IsBased};
 ghost use Rattle.sfm_walk.specs.Bits.{HasPlaces};
-ghost use Rattle.sfm_walk.specs.Reach.{IsReachTable, AreNotes, AreSized};
+ghost use Rattle.sfm_walk.specs.Reach.{IsReachTable, IsRow, AreNotes, AreSized};
 
 use crate::bits::{Bits, no_bits};
 use sfm_base::{Memory, Rows, Set};
@@ -15,19 +14,30 @@ use sfm_law::Term;
 use std::alloc::Global;
 use std::marker::Model;
 
-/// The rows of one term, seen as a list of sets.
+/// A term, and a base of q times it.
+#[derive(Drop)]
+pub struct Based<'a, T> {
+    pub term: &'a T,
+    pub q: i128,
+    pub x: &'a [i128],
+}
+
+/// The rows of one term, seen as a list of sets, with a set for the parts that the term tells.
 #[derive(Drop)]
 pub struct BitRows {
     rows: Vec<Bits>,
+    part: Set,
 }
 
 impl Model for BitRows {
-    ghost use Rattle.std.specs.Prelude.{List};
+    ghost use Rattle.std.specs.Prelude.{◌≡◌, List, length};
     ghost use Rattle.sfm_walk.specs.declared.bits.Bits.{Bits};
 
     ghost Value = { List Bits };
 
     ghost view = { λ s. s.rows.items };
+
+    ghost invariant = { λ s. length s.part ≡ length s.rows.items };
 }
 
 impl BitRows {
@@ -36,7 +46,8 @@ impl BitRows {
         ensures { IfOk result (λ r. length r ≡ len) }
     {
         let rows = vec![in alloc; no_bits(); len]?;
-        Ok(BitRows { rows })
+        let part = Set::empty(alloc, len)?;
+        Ok(BitRows { rows, part })
     }
 
     pub fn set(&mut self, u: usize, row: Bits)
@@ -68,33 +79,65 @@ pub fn placed_bits(places: &[usize], part: &Set) -> Bits
     bits
 }
 
+// The row of the place u.
+fn row_by<T: Term>(
+    alloc: Global,
+    at: &Based<'_, T>,
+    note: &T::Note,
+    u: usize,
+    rows: &mut BitRows,
+) -> Result<Bits, Memory>
+    requires based { IsBased T.places T.value_of T.size_of at.now.term.now at.now.q at.now.x.now }
+    requires noted { T.fits at.now.term.now note.now at.now.q at.now.x.now }
+    requires from { u < length at.now.x.now }
+    requires rows { length rows.old ≡ length at.now.x.now }
+    ensures same { rows.new ≡ rows.old }
+    ensures row { IfOk result (IsRow (T.places at.now.term.now) (times at.now.q (T.value_of at.now.term.now)) at.now.x.now u) }
+{
+    at.term
+        .reach_by(alloc, at.q, at.x, note, u, &mut rows.part)?;
+    Ok(placed_bits(at.term.elements(), &rows.part))
+}
+
+/// The row of the place u, which is s or has room to it.
+pub fn row_with<T: Term>(
+    alloc: Global,
+    at: &Based<'_, T>,
+    note: &T::Note,
+    s: usize,
+    u: usize,
+    rows: &mut BitRows,
+) -> Result<Bits, Memory>
+    requires based { IsBased T.places T.value_of T.size_of at.now.term.now at.now.q at.now.x.now }
+    requires noted { T.fits at.now.term.now note.now at.now.q at.now.x.now }
+    requires onto { s < length at.now.x.now }
+    requires from { u < length at.now.x.now }
+    requires leads { Depends (times at.now.q (T.value_of at.now.term.now)) at.now.x.now u s }
+    requires rows { length rows.old ≡ length at.now.x.now }
+    ensures same { rows.new ≡ rows.old }
+    ensures row { IfOk result (IsRow (T.places at.now.term.now) (times at.now.q (T.value_of at.now.term.now)) at.now.x.now u) }
+{
+    at.term
+        .reach_with(alloc, at.q, at.x, note, s, u, &mut rows.part)?;
+    Ok(placed_bits(at.term.elements(), &rows.part))
+}
+
 /// Asks for each row of a term at its base.
 pub fn ask<T: Term>(
     alloc: Global,
-    term: &T,
-    q: i128,
-    x: &[i128],
+    at: &Based<'_, T>,
     note: &T::Note,
-    part: &mut Set,
     rows: &mut BitRows,
 ) -> Result<(), Memory>
-    requires factor { IsFactor q }
-    requires placed { IsPlaced 256 (T.places term.now) }
-    requires entries { length x.now ≡ length (T.places term.now) }
-    requires bounded { T.size_of term.now ≤ℤ pos (10 ^ 18) }
-    requires small { All IsEntry x.now }
-    requires base { IsBase (times q (T.value_of term.now)) x.now }
-    requires noted { T.fits term.now note.now q x.now }
-    requires part { length part.old ≡ length (T.places term.now) }
-    requires rows { length rows.old ≡ length (T.places term.now) }
-    ensures part { length part.new ≡ length part.old }
+    requires based { IsBased T.places T.value_of T.size_of at.now.term.now at.now.q at.now.x.now }
+    requires noted { T.fits at.now.term.now note.now at.now.q at.now.x.now }
+    requires rows { length rows.old ≡ length at.now.x.now }
     ensures rows { length rows.new ≡ length rows.old }
-    ensures asked { OnOk result (IsReachTable (T.places term.now) (times q (T.value_of term.now)) x.now (length (T.places term.now)) rows.new) }
+    ensures asked { OnOk result (IsReachTable (T.places at.now.term.now) (times at.now.q (T.value_of at.now.term.now)) at.now.x.now (length (T.places at.now.term.now)) rows.new) }
 {
-    let places = term.elements();
-    for u in 0..places.len() {
-        term.reach_by(alloc, q, x, note, u, part)?;
-        rows.set(u, placed_bits(places, part));
+    for u in 0..at.x.len() {
+        let row = row_by(alloc, at, note, u, rows)?;
+        rows.set(u, row);
     }
     Ok(())
 }
@@ -106,10 +149,7 @@ pub fn notes_of<T: Term>(
     q: i128,
     bases: &Rows,
 ) -> Result<Vec<T::Note>, Memory>
-    requires factor { IsFactor q }
-    requires bounded { All (λ a. a ≤ℤ pos (10 ^ 18)) (map T.size_of terms.now) }
-    requires small { All (λ x. All IsEntry x) bases.now }
-    requires bases { AreBases q (meanings T.places T.value_of terms.now) bases.now }
+    requires { AreBased T.places T.value_of T.size_of terms.now q bases.now }
     ensures count { IfOk result (λ r. length r.items ≡ length terms.now) }
     ensures fit { IfOk result (λ r. AreNotes T.fits q terms.now r.items bases.now) }
 {
@@ -118,17 +158,6 @@ pub fn notes_of<T: Term>(
         notes.push(term.note(alloc, q, bases.row(i))?)?;
     }
     Ok(notes)
-}
-
-/// One set for the parts of each term.
-pub fn parts_of<T: Term>(alloc: Global, terms: &[T]) -> Result<Vec<Set>, Memory>
-    ensures { IfOk result (λ r. AreSized (map T.places terms.now) r.items) }
-{
-    let mut parts = Vec::new(alloc);
-    for term in terms {
-        parts.push(Set::empty(alloc, term.elements().len())?)?;
-    }
-    Ok(parts)
 }
 
 /// Rows for each term, none of them asked.

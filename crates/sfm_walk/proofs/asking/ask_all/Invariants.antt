@@ -5,6 +5,5 @@ use Rattle.sfm_walk.specs.Reach.{AreSized, IsTable, table_at}
 use Rattle.sfm_walk.proofs.asking.ask_all.Given as goal
 
 abbrev pub invariant-loop-i : goal.invariant-loop-i
-invariant-loop-i g l = let t = g.T.Term in AreSized (map t.places l.terms) l.parts.items
-    × AreSized (map t.places l.terms) l.rows.items
+invariant-loop-i g l = let t = g.T.Term in AreSized (map t.places l.terms) l.rows.items
     × ((i : ℕ) → i < l.i → IsTable (meanings t.places t.value_of l.terms) l.q l.bases i (table_at l.rows.items i))

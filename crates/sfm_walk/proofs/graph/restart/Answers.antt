@@ -5,20 +5,24 @@ use Rattle.sfm_spec.specs.Families.{meanings}
 use Rattle.sfm_walk.specs.Unions.{HaveRows}
 use Rattle.sfm_walk.proofs.Noting.{sized_meanings}
 use Rattle.sfm_walk.proofs.Uniting.{have_rows}
-use Rattle.sfm_walk.proofs.WholeGraphs.{size_low, sizes_all}
+use Rattle.sfm_walk.proofs.WholeGraphs.{are_based, size_low}
 use Rattle.sfm_walk.proofs.graph.restart.Goals as goal
 
-pub notes_of-requires-clause-bounded : goal.notes_of-requires-clause-bounded
-notes_of-requires-clause-bounded g c =
+pub notes_of-requires : goal.notes_of-requires
+notes_of-requires g c =
     let t = g.T.Term in
     let m = g.met.T.Term in
-    sizes_all t.size_of c.args.terms.now (size_low t.places t.value_of t.size_of m.submodular m.bounded) c.requires.bounded.small
+    let fq : FitsSigned w128 c.args.q = c.ranges.q in
+    let r = c.requires in
+    simp to_z-of_z (are_based t.places t.value_of t.size_of (size_low t.places t.value_of t.size_of m.submodular m.bounded) c.args.terms.now c.args.n c.args.q c.args.bases r.bounded r.factor r.bases r.small)
 
-pub ask_all-requires-clause-bounded : goal.ask_all-requires-clause-bounded
-ask_all-requires-clause-bounded g c =
+pub ask_all-requires-clause-based : goal.ask_all-requires-clause-based
+ask_all-requires-clause-based g c =
     let t = g.T.Term in
     let m = g.met.T.Term in
-    sizes_all t.size_of c.args.terms.now (size_low t.places t.value_of t.size_of m.submodular m.bounded) c.requires.bounded.small
+    let fq : FitsSigned w128 c.args.q = c.ranges.q in
+    let r = c.requires in
+    simp to_z-of_z (are_based t.places t.value_of t.size_of (size_low t.places t.value_of t.size_of m.submodular m.bounded) c.args.terms.now c.args.n c.args.q c.args.bases r.bounded r.factor r.bases r.small)
 
 pub unions_of-requires : goal.unions_of-requires
 unions_of-requires g c =
@@ -38,7 +42,6 @@ returns-clause-graph g c =
       are_bases = c.requires.bases;
       note_count = c.in_ok-graph.ensures.count;
       noted = simp to_z-of_z at c.in_ok-graph.ensures.fit;
-      sized_parts = ask.parts;
       sized_rows = ask.rows;
       tables = simp to_z-of_z at ask.tables;
       are_spots = c.requires.graph.1.are_spots;

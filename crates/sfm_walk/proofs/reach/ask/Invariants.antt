@@ -5,6 +5,5 @@ use Rattle.sfm_walk.specs.Reach.{IsReachTable}
 use Rattle.sfm_walk.proofs.reach.ask.Given as goal
 
 abbrev pub invariant-loop-u : goal.invariant-loop-u
-invariant-loop-u g l = let t = g.T.Term in (length l.part ≡ length (t.places l.term))
-    × (length l.rows ≡ length (t.places l.term))
-    × IsReachTable (t.places l.term) (times l.q (t.value_of l.term)) l.x l.u l.rows
+invariant-loop-u g l = let t = g.T.Term in (length l.rows ≡ length l.initial.rows)
+    × IsReachTable (t.places l.at.term.now) (times l.at.q (t.value_of l.at.term.now)) l.at.x.now l.u l.rows
