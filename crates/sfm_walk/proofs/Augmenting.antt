@@ -1,5 +1,5 @@
 -- What the move along a walk of least steps by the greatest amount makes of the bases and of z.
-use Rattle.std.proofs.Common.{◌≡◌, ◌≢◌, ℕ, zero, suc, ◌*◌, ◌^◌, ◌<◌, List, [], ◌∷◌, length, get_or, nat_eq, ℤ, pos, neg_ℤ, ◌+ℤ◌, ◌-ℤ◌, ◌≤ℤ◌, if◌then◌else◌, refl, sym, ap, ◌∙◌, arith}
+use Rattle.std.proofs.Common.{◌≡◌, ◌≢◌, ℕ, zero, suc, ◌+◌, ◌*◌, ◌^◌, ◌<◌, ◌≤◌, List, [], ◌∷◌, length, get_or, nat_eq, ℤ, pos, neg_ℤ, ◌+ℤ◌, ◌-ℤ◌, ◌≤ℤ◌, ◌<ℤ◌, if◌then◌else◌, refl, subst, sym, ap, ◌∙◌, arith}
 use Rattle.std.specs.List.{All}
 use Rattle.std.proofs.lemmas.Int.{ints}
 use Rattle.std.proofs.lemmas.List.Elements.{All-get_or, All-from_get_or}
@@ -7,7 +7,7 @@ use Rattle.sfm_spec.specs.Terms.{exchanged}
 use Rattle.sfm_spec.specs.Families.{Meaning, AreTerms, AreBases, rest_at, deficit}
 use Rattle.sfm_spec.specs.Laws.{MoveLaws}
 use Rattle.sfm_spec.specs.Progress.{IsProgress}
-use Rattle.sfm_spec.specs.Walks.{term_at, row_at, IsWalkMove, AllCanMove, last_of}
+use Rattle.sfm_spec.specs.Walks.{Step, term_at, row_at, IsWalkMove, AllCanMove, last_of}
 use Rattle.sfm_spec.proofs.Walks.{terms-at}
 use Rattle.sfm_spec.proofs.LeastWalks.{least_progress}
 use Rattle.sfm_spec.proofs.Moves.{change_small, full_by_greatest, deficit_at_place}
@@ -16,7 +16,7 @@ use Rattle.sfm_spec.proofs.Sums.{length-exchanged}
 use Rattle.sfm_law.specs.Rest.{IsRest}
 use Rattle.sfm_walk.specs.declared.walk.Hop.{Hop}
 use Rattle.sfm_walk.specs.Hops.{AreNamed, AreInOrder, IsMovable, Moves, hop_at, steps_of}
-use Rattle.sfm_walk.specs.Run.{IsLeastWalk, IsUpTo}
+use Rattle.sfm_walk.specs.Run.{IsGreatest, IsLeastWalk, IsUpTo}
 use Rattle.sfm_walk.specs.Signs.{AreMoved}
 use Rattle.sfm_walk.proofs.Advancing.{ends_apart, exchanged-each}
 use Rattle.sfm_walk.proofs.Signing.{moved_ends}
@@ -66,16 +66,18 @@ module _ {terms : List Meaning} {n : ℕ} {q : ℤ} {shift : List ℤ} {rows : L
       let r = rest.exact first first_at in
       omega (arith, ints, deep, r, under, gap)
 
-  module _ (low : pos 0 ≤ℤ q) (fit : AreTerms n terms) (bases : AreBases q terms rows) (a : ℤ) (one : pos 1 ≤ℤ a) (moves : (k : ℕ) → k < length hops → Moves terms q rows (hop_at hops k) a)
-      (under : a ≤ℤ neg_ℤ (get_or z first (pos 0))) (over : a ≤ℤ get_or z (last_of first (steps_of hops)) (pos 0)) where
+  module _ (low : pos 0 ≤ℤ q) (fit : AreTerms n terms) (bases : AreBases q terms rows) (a : ℤ) (most : IsGreatest terms q rows z first hops a) where
+    one : pos 1 ≤ℤ a
+    one = most.some
+
     can : AllCanMove terms q rows first (steps_of hops) a
-    can = all_can terms n q rows fit a first hops w.named w.movable moves
+    can = all_can terms n q rows fit a first hops w.named w.movable most.moves
 
     by_first : a ≤ℤ neg_ℤ (rest_at terms rows shift first)
-    by_first = rw (← rest.exact first first_at) under
+    by_first = rw (← rest.exact first first_at) most.under
 
     by_last : a ≤ℤ rest_at terms rows shift last
-    by_last = rw (← rest.exact last last_at) over
+    by_last = rw (← rest.exact last last_at) most.over
 
     laws : MoveLaws terms n q shift rows first (steps_of hops) a
     laws = move_laws terms rows n q shift low fit bases first (steps_of hops) a w.shortest one can by_first by_last
@@ -84,13 +86,12 @@ module _ {terms : List Meaning} {n : ℕ} {q : ℤ} {shift : List ℤ} {rows : L
     in_order = laws.in_order
 
     -- it is progress, where no greater amount is allowed
-    pub progress : (after : List (List ℤ)) → IsWalkMove terms rows first (steps_of hops) a after
-        → ((b : ℤ) → b ≤ℤ neg_ℤ (get_or z first (pos 0)) → b ≤ℤ get_or z (last_of first (steps_of hops)) (pos 0) → ((k : ℕ) → k < length hops → Moves terms q rows (hop_at hops k) b) → b ≤ℤ a) → IsProgress terms n q shift rows after
-    progress after moved greatest =
+    pub progress : (after : List (List ℤ)) → IsWalkMove terms rows first (steps_of hops) a after → IsProgress terms n q shift rows after
+    progress after moved =
         least_progress terms rows n q shift low fit bases d w.ends w.no_faster after
         (record { first = first; steps = steps_of hops; a = a; shortest = w.shortest; some = one; by_steps = can; by_first = by_first; by_last = by_last; moved = moved }) w.least
         (full_by_greatest terms rows n q low fit bases a one shift first (steps_of hops) can by_first by_last
-        (λ b can' under' over'. greatest b (rw (rest.exact first first_at) under') (rw (rest.exact last last_at) over') (each_moves terms n q rows fit b first hops w.named can')))
+        (λ b can' under' over'. most.greatest b (rw (rest.exact first first_at) under') (rw (rest.exact last last_at) over') (each_moves terms n q rows fit b first hops w.named can')))
 
     -- z after the move
     pub rest_after : (after : List (List ℤ)) → IsWalkMove terms rows first (steps_of hops) a after → IsRest terms shift after (exchanged z first (last_of first (steps_of hops)) a)
@@ -106,7 +107,7 @@ module _ {terms : List Meaning} {n : ℕ} {q : ℤ} {shift : List ℤ} {rows : L
 
     -- only the ends have changed, and no sign has turned
     pub ends_moved : AreMoved z (exchanged z first (last_of first (steps_of hops)) a) first (last_of first (steps_of hops))
-    ends_moved = moved_ends z first last a first_at last_at apart w.under w.over under over
+    ends_moved = moved_ends z first last a first_at last_at apart w.under w.over most.under most.over
 
     -- no entry has changed by more than the deficit has risen
     pub spread : (after : List (List ℤ)) → IsWalkMove terms rows first (steps_of hops) a after → (b : ℤ) → All (λ x. All (IsUpTo b) x) rows

@@ -7,7 +7,7 @@ use Rattle.sfm_spec.specs.Walks.{Step, IsStep, IsShortest, last_of}
 use Rattle.sfm_law.specs.Rest.{IsRest}
 use Rattle.sfm_walk.specs.declared.run.Run.{Run}
 use Rattle.sfm_walk.specs.declared.walk.Hop.{Hop}
-use Rattle.sfm_walk.specs.Hops.{AreNamed, IsMovable, hop_at, steps_of}
+use Rattle.sfm_walk.specs.Hops.{AreNamed, IsMovable, Moves, hop_at, steps_of}
 use Rattle.sfm_walk.specs.Signs.{AreSigns}
 
 -- z is the residual of the rows, and the signs are those of z
@@ -29,6 +29,14 @@ pub record IsLeastWalk (terms : List Meaning) (n : ℕ) (q : ℤ) (shift : List 
   pub least : TakesLeastSteps terms q rows d first (steps_of hops)
   pub no_faster : (from : ℕ) (step : Step) → IsStep terms q rows from step → d from ≤ d step.to + 1
   pub ends : (e : ℕ) → e < n → pos 0 <ℤ rest_at terms rows shift e → d e ≡ 0
+
+-- the greatest amount that each step and both ends of a walk allow
+pub record IsGreatest (terms : List Meaning) (q : ℤ) (rows : List (List ℤ)) (z : List ℤ) (first : ℕ) (hops : List Hop) (a : ℤ) : Type 0 where
+  pub some : pos 1 ≤ℤ a
+  pub under : a ≤ℤ neg_ℤ (slice_index_or z first (pos 0))
+  pub over : a ≤ℤ slice_index_or z (last_of first (steps_of hops)) (pos 0)
+  pub moves : (k : ℕ) → k < length hops → Moves terms q rows (hop_at hops k) a
+  pub greatest : (b : ℤ) → b ≤ℤ neg_ℤ (slice_index_or z first (pos 0)) → b ≤ℤ slice_index_or z (last_of first (steps_of hops)) (pos 0) → ((k : ℕ) → k < length hops → Moves terms q rows (hop_at hops k) b) → b ≤ℤ a
 
 -- a magnitude of at most b
 pub record IsUpTo (b a : ℤ) : Type 0 where

@@ -2,18 +2,20 @@
 // kept beside the bases is brought up. Each walk raises the sum of min(z, 0) by at least 1, so this ends, and then no walk
 // joins (Schrijver, Combinatorial Optimization, section 45; Fujishige, Submodular Functions and Optimization, section 4).
 // And each walk raises the potential of any lower bounds on distances and on least steps, so walks are few.
-ghost use Rattle.std.specs.Prelude.{◌≡◌, ◌+◌, ◌*◌, ◌^◌, ◌<◌, ◌≤◌, ℕ, ℤ, List, map, pos, neg_ℤ, ◌+ℤ◌, ◌-ℤ◌, ◌≤ℤ◌, length, OnOk, IfOk, slice_index_or};
+ghost use Rattle.std.specs.Prelude.{◌≡◌, ◌+◌, ◌*◌, ◌^◌, ◌≢◌, ◌<◌, ◌≤◌, ℕ, ℤ, List, map, pos, neg_ℤ, ◌+ℤ◌, ◌-ℤ◌, ◌≤ℤ◌, length, OnOk, IfOk, slice_index_or};
 ghost use Rattle.std.specs.List.{All};
 ghost use Rattle.sfm_spec.specs.Sets.{magnitudes};
 ghost use Rattle.sfm_spec.specs.Bounds.{AreBounded, IsAtMost, IsEntry, IsFactor};
 ghost use Rattle.sfm_spec.specs.Families.{meanings, even_shift, rest_at, deficit, AreBases, IsLeast, Prove};
 ghost use Rattle.sfm_spec.specs.Progress.{IsProgress};
-ghost use Rattle.sfm_spec.specs.Walks.{Step, Joins, IsFewWalks, few_walks};
+ghost use Rattle.sfm_spec.specs.Terms.{exchanged};
+ghost use Rattle.sfm_spec.specs.Walks.{Step, Joins, IsFewWalks, few_walks, last_of};
 ghost use Rattle.sfm_walk.specs.Counted.{IsCounted};
 ghost use Rattle.sfm_walk.specs.Graph.{IsGraph, IsWhole};
-ghost use Rattle.sfm_walk.specs.Levels.{IsFirst};
-ghost use Rattle.sfm_walk.specs.Run.{IsRunAt, IsUpTo};
-ghost use Rattle.sfm_walk.specs.Signs.{AreSigns};
+ghost use Rattle.sfm_walk.specs.Hops.{steps_of};
+ghost use Rattle.sfm_walk.specs.Levels.{IsFirst, depth_of};
+ghost use Rattle.sfm_walk.specs.Run.{IsGreatest, IsLeastWalk, IsRunAt, IsUpTo};
+ghost use Rattle.sfm_walk.specs.Signs.{AreMoved, AreSigns};
 
 use crate::graph::{Graph, graph_at, restart};
 use crate::levels::find_levels;
@@ -260,11 +262,51 @@ fn advance<T: Term>(
         -ℤ deficit (length shift.now) (rest_at (meanings T.places T.value_of terms.now) graph.old.bases shift.now)))) x) graph.new.bases) }
 {
     least_walk(terms, graph, q, shift, run)?;
+    let a = greatest_amount(alloc, graph, terms, q, shift, run)?;
+    move_along(alloc, graph, terms, q, run, a)?;
+    settle(run, a);
+    Ok(())
+}
+
+// The greatest amount that the walk and its ends allow.
+fn greatest_amount<T: Term>(
+    alloc: Global,
+    graph: &mut Graph<T::Note>,
+    terms: &[T],
+    q: i128,
+    shift: &[i128],
+    run: &Run,
+) -> Result<i128, Memory>
+    requires graph { IsWhole T.places T.value_of T.size_of T.fits terms.now (length shift.now) q graph.old }
+    requires shifts { magnitudes shift.now ≤ℤ pos (10 ^ 27) }
+    requires small { All (λ x. All IsEntry x) graph.old.bases }
+    requires run { IsRunAt (meanings T.places T.value_of terms.now) shift.now graph.old.bases run.now }
+    requires walk { IsLeastWalk (meanings T.places T.value_of terms.now) (length shift.now) q shift.now graph.old.bases run.now.z.items (depth_of run.now.levels.items) run.now.first run.now.hops.items }
+    ensures graph { OnOk result (IsWhole T.places T.value_of T.size_of T.fits terms.now (length shift.now) q graph.new) }
+    ensures bases { OnOk result (graph.new.bases ≡ graph.old.bases) }
+    ensures greatest { IfOk result (IsGreatest (meanings T.places T.value_of terms.now) q graph.old.bases run.now.z.items run.now.first run.now.hops.items) }
+{
     let last = last_place(&run.hops);
     let most = most_of(&run.z, run.first, last);
     let a = amount_of(alloc, graph, terms, q, &run.hops, most)?;
-    move_along(alloc, graph, terms, q, run, a)?;
+    Ok(a)
+}
+
+// Brings z and its signs up once the walk has moved a.
+fn settle(run: &mut Run, a: i128)
+    requires few { length run.old.z.items ≤ 256 }
+    requires some { 0 < length run.old.hops.items }
+    requires first { run.old.first < length run.old.z.items }
+    requires last { last_of run.old.first (steps_of run.old.hops.items) < length run.old.z.items }
+    requires apart { run.old.first ≢ last_of run.old.first (steps_of run.old.hops.items) }
+    requires low { pos 0 ≤ℤ a }
+    requires under { a ≤ℤ neg_ℤ (slice_index_or run.old.z.items run.old.first (pos 0)) }
+    requires over { a ≤ℤ slice_index_or run.old.z.items (last_of run.old.first (steps_of run.old.hops.items)) (pos 0) }
+    ensures z { run.new.z.items ≡ exchanged run.old.z.items run.old.first (last_of run.old.first (steps_of run.old.hops.items)) a }
+    ensures signs { AreMoved run.old.z.items (exchanged run.old.z.items run.old.first (last_of run.old.first (steps_of run.old.hops.items)) a) run.old.first (last_of run.old.first (steps_of run.old.hops.items))
+        → AreSigns run.old.z.items run.old.signs → AreSigns run.new.z.items run.new.signs }
+{
+    let last = last_place(&run.hops);
     move_rest(&mut run.z, run.first, last, a);
     move_signs(&mut run.signs, &run.z, run.first, last);
-    Ok(())
 }

@@ -1,4 +1,4 @@
-use Rattle.std.proofs.Common.{◌*◌, ◌^◌, ℕ, List, length, pos, neg_ℤ, ℤ, ◌-ℤ◌, ◌+ℤ◌, ◌≤ℤ◌, refl, subst, arith, FitsSigned}
+use Rattle.std.proofs.Common.{◌≡◌, ◌*◌, ◌^◌, ◌<◌, ℕ, List, length, pos, neg_ℤ, ℤ, ◌-ℤ◌, ◌+ℤ◌, ◌≤ℤ◌, refl, subst, ◌∙◌, arith, FitsSigned}
 use Rattle.std.proofs.lemmas.Int.{ints, to_z-of_z}
 use Rattle.std.proofs.lemmas.List.{length-map}
 use mir.Syntax.{w128}
@@ -8,6 +8,7 @@ use Rattle.sfm_spec.proofs.LeastWalks.{few_walks_small}
 use Rattle.sfm_spec.proofs.Walks.{bases-at}
 use Rattle.sfm_walk.specs.Graph.{IsWhole}
 use Rattle.sfm_walk.specs.Levels.{AreClosed, IsFirst}
+use Rattle.sfm_walk.specs.Signs.{AreSigns}
 use Rattle.sfm_walk.proofs.Options.{match_none, match_some}
 use Rattle.sfm_walk.proofs.Gaps.{deficit_low}
 use Rattle.sfm_walk.proofs.Counting.{IsCounting, counting_none, counting_more, counting_few, counting_is}
@@ -62,43 +63,11 @@ loop-run-init g c =
     } in
     simp to_z-of_z (start, omega arith, counting_none ts n q shift init c.args.steps.now, omega arith)
 
-pub find_levels-requires-clause-few : goal.find_levels-requires-clause-few
-find_levels-requires-clause-few g c =
-    let fq : FitsSigned w128 c.args.q = c.ranges.q in
-    let r = c.requires in
-    let inv = simp to_z-of_z at c.loop-run.invariant.0 in
-    let few = r.bounded.few in
-    rw (c.deref-in-loop-run-2.ensures.value, inv.at.is_rest.places) few
-
-pub find_levels-requires-clause-count : goal.find_levels-requires-clause-count
-find_levels-requires-clause-count g c =
-    let fq : FitsSigned w128 c.args.q = c.ranges.q in
-    let inv = simp to_z-of_z at c.loop-run.invariant.0 in
-    rw (c.deref-in-loop-run.ensures.value, c.deref-in-loop-run-2.ensures.value, inv.at.is_rest.places) (unions_count inv.whole)
-
-pub find_levels-requires-clause-turned : goal.find_levels-requires-clause-turned
-find_levels-requires-clause-turned g c =
-    let fq : FitsSigned w128 c.args.q = c.ranges.q in
-    let inv = simp to_z-of_z at c.loop-run.invariant.0 in
-    rw (c.deref.ensures.value, c.deref-in-loop-run.ensures.value) inv.whole.exact.are_turned
-
-pub find_levels-requires-clause-signs : goal.find_levels-requires-clause-signs
-find_levels-requires-clause-signs g c =
-    let fq : FitsSigned w128 c.args.q = c.ranges.q in
-    let inv = simp to_z-of_z at c.loop-run.invariant.0 in
-    rw c.deref-in-loop-run-2.ensures.value inv.at.signs
-
 pub advance-requires-clause-graph : goal.advance-requires-clause-graph
 advance-requires-clause-graph g c =
     let fq : FitsSigned w128 c.args.q = c.ranges.q in
     let inv = simp to_z-of_z at c.loop-run.invariant.0 in
     simp to_z-of_z inv.whole
-
-pub advance-requires-clause-run : goal.advance-requires-clause-run
-advance-requires-clause-run g c =
-    let fq : FitsSigned w128 c.args.q = c.ranges.q in
-    let inv = simp to_z-of_z at c.loop-run.invariant.0 in
-    record { is_rest = inv.at.is_rest; signs = inv.at.signs }
 
 pub advance-requires-clause-first : goal.advance-requires-clause-first
 advance-requires-clause-first g c =
@@ -180,14 +149,6 @@ tick-requires g c =
     let few = few_walks_small (length c.args.shift.now) (length c.args.terms.now) c.requires.bounded.few (rw length-map at c.requires.bounded.few_terms) in
     omega (arith, few, c.requires.room, c.loop-run.invariant.3)
 
-pub reached_from-reached-requires-clause-few : goal.reached_from-reached-requires-clause-few
-reached_from-reached-requires-clause-few g c =
-    let fq : FitsSigned w128 c.args.q = c.ranges.q in
-    let r = c.requires in
-    let inv = simp to_z-of_z at c.loop-run.invariant.0 in
-    let few = r.bounded.few in
-    rw (c.deref-2.ensures.value, unions_count inv.whole) few
-
 pub reached_from-reached-requires-clause-firsts : goal.reached_from-reached-requires-clause-firsts
 reached_from-reached-requires-clause-firsts g c =
     let m = g.met.T.Term in
@@ -217,12 +178,6 @@ returns-clause-graph g c =
     let fq : FitsSigned w128 c.args.q = c.ranges.q in
     let inv = simp to_z-of_z at c.loop-run.invariant.0 in
     inv.whole.exact
-
-pub returns-clause-bases : goal.returns-clause-bases
-returns-clause-bases g c =
-    let fq : FitsSigned w128 c.args.q = c.ranges.q in
-    let inv = simp to_z-of_z at c.loop-run.invariant.0 in
-    inv.whole.exact.are_bases
 
 pub returns-clause-small : goal.returns-clause-small
 returns-clause-small g c =
