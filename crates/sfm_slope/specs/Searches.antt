@@ -1,7 +1,7 @@
 -- What the search for the breakpoints keeps.
 use Rattle.std.specs.Prelude.{◌≡◌, ℕ, List, ℤ, pos, length}
 use Rattle.sfm_spec.specs.Terms.{SetFunction}
-use Rattle.sfm_walk.specs.Graph.{IsGraph}
+use Rattle.sfm_exchange.specs.Graph.{IsGraph}
 use Rattle.sfm_slope.specs.declared.search.Search.{Search}
 
 -- both graphs are of the terms over n places, the warm one at the terms themselves; a shift has a number for each place

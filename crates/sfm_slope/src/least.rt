@@ -5,14 +5,15 @@ ghost use Rattle.std.specs.Prelude.{◌^◌, length, map, pos, ◌+ℤ◌, ◌*�
 ghost use Rattle.std.specs.List.{All};
 ghost use Rattle.sfm_spec.specs.Bounds.{AreBounded, IsAtMost, IsFactor};
 ghost use Rattle.sfm_spec.specs.Families.{meanings, even_shift, IsLeast};
-ghost use Rattle.sfm_walk.specs.Graph.{IsGraph};
+ghost use Rattle.sfm_exchange.specs.Graph.{IsGraph};
 ghost use Rattle.sfm_slope.specs.Searches.{IsSearch};
 
 use crate::rows::{are_small, first_rows, rows_times};
 use crate::search::{Search, write_even};
 use sfm_base::{Memory, Set, Slope, Steps};
+use sfm_exchange::{Graph, restart};
 use sfm_law::Term;
-use sfm_walk::{Graph, improve, restart};
+use sfm_walk::improve;
 use std::alloc::Global;
 
 /// The least minimiser at a slope.

@@ -7,8 +7,8 @@ ghost use Rattle.sfm_slope.specs.Searches.{IsSearch};
 
 use crate::rows::first_rows;
 use sfm_base::Memory;
+use sfm_exchange::{Graph, graph_at};
 use sfm_law::Term;
-use sfm_walk::{Graph, graph_at};
 use std::alloc::Global;
 
 /// Two exchange graphs of the terms over one ground.

@@ -4,7 +4,7 @@ ghost use Rattle.std.specs.Prelude.{◌≡◌, ◌^◌, ℤ, length, map, IfOk, 
 ghost use Rattle.std.specs.List.{All};
 ghost use Rattle.sfm_spec.specs.Bounds.{AreBounded, IsAtMost};
 ghost use Rattle.sfm_spec.specs.Families.{meanings};
-ghost use Rattle.sfm_walk.specs.Graph.{IsGraph};
+ghost use Rattle.sfm_exchange.specs.Graph.{IsGraph};
 ghost use Rattle.sfm_slope.specs.Marks.{HasBases, mark_of};
 ghost use Rattle.sfm_slope.specs.Points.{IsInRange, found_mark};
 ghost use Rattle.sfm_slope.specs.Searches.{IsSearch};
@@ -13,8 +13,9 @@ ghost use Rattle.sfm_slope.specs.Sections.{IsSection};
 use crate::search::{Search, write_even};
 use crate::turn::Breakpoint;
 use sfm_base::{Memory, Rows, Slope, Steps};
+use sfm_exchange::Graph;
 use sfm_law::{Break, Term};
-use sfm_walk::{Graph, minimise_from_start};
+use sfm_walk::minimise_from_start;
 use std::alloc::Global;
 
 // Each breakpoint with bases that prove at its slope.

@@ -13,55 +13,17 @@ use Rattle.sfm_spec.specs.Walks.{Step, term_at, row_at, IsStep, AreSteps, IsWalk
 use Rattle.sfm_spec.proofs.Walks.{terms-at, first_below, step_below}
 use Rattle.sfm_spec.proofs.Labels.{falls_all, falls_within}
 use Rattle.sfm_spec.proofs.MoveOrder.{exchanged-first, exchanged-second, exchanged-other}
-use Rattle.sfm_walk.specs.declared.bits.Bits.{Bits}
-use Rattle.sfm_walk.specs.declared.walk.Hop.{Hop}
-use Rattle.sfm_walk.specs.Bits.{bit_in, set_at}
+use Rattle.sfm_exchange.specs.declared.bits.Bits.{Bits}
+use Rattle.sfm_exchange.specs.declared.path.Hop.{Hop}
+use Rattle.sfm_exchange.specs.Bits.{bit_in, set_at}
 use Rattle.sfm_law.specs.Rest.{IsRest}
-use Rattle.sfm_walk.specs.Reach.{IsTable, table_at}
-use Rattle.sfm_walk.specs.Unions.{AreLinks, IsReadable}
-use Rattle.sfm_walk.specs.Levels.{depth_of, IsFirst, AreClosed}
-use Rattle.sfm_walk.specs.Hops.{IsHop, IsTold, AreHops, AreLeast, AreNamed, IsMovable, hop_at, step_of, steps_of}
+use Rattle.sfm_exchange.specs.Reach.{IsTable, table_at}
+use Rattle.sfm_exchange.specs.Unions.{AreLinks, IsReadable}
+use Rattle.sfm_exchange.specs.Levels.{depth_of, IsFirst, AreClosed}
+use Rattle.sfm_exchange.specs.Hops.{IsHop, IsTold, AreHops, AreLeast, AreNamed, IsMovable, hop_at, step_of, steps_of}
 use Rattle.sfm_walk.specs.Run.{IsLeastWalk, IsUpTo}
-use Rattle.sfm_walk.proofs.Following.{length-steps_of, depth_has, depth_le, depth_bound}
-
--- the steps name their places
-pub hops_named : (terms : List Meaning) (tables : List (List Bits)) (from : ℕ) (hops : List Hop) → AreHops terms tables from hops → AreNamed terms from hops
-hops_named terms tables from [] h = tt
-hops_named terms tables from (x ∷ hops) h = (h.0, hops_named terms tables x.to hops h.2)
-
-module _ (terms : List Meaning) (rows : List (List ℤ)) (n : ℕ) (q : ℤ) (fit : AreTerms n terms) (tables : List (List Bits)) (right : (i : ℕ) → i < length terms → IsTable terms q rows i (table_at tables i)) where
-  hop_step : (from : ℕ) (hop : Hop) → IsHop terms from hop → bit_in (set_at (table_at tables hop.term) hop.u) hop.to ≡ 1 → IsStep terms q rows from (step_of hop)
-  hop_step from hop is bit = rw is.begins at ((right hop.term is.term_in hop.u hop.to is.u_in).0 bit)
-
-  -- they are steps
-  pub hops_steps : (from : ℕ) (hops : List Hop) → AreHops terms tables from hops → AreSteps terms q rows from (steps_of hops)
-  hops_steps from [] h = tt
-  hops_steps from (x ∷ hops) h = (hop_step from x h.0 h.1, hops_steps x.to hops h.2)
-
-  hop_movable : (from : ℕ) (hop : Hop) → IsHop terms from hop → bit_in (set_at (table_at tables hop.term) hop.u) hop.to ≡ 1 → IsMovable terms q rows hop
-  hop_movable from hop is bit =
-      let (b, some, c) = hop_step from hop is bit in
-      let distinct = (terms-at n terms hop.term fit is.term_in).placed.distinct in
-      let eu : c.u ≡ hop.u = distinct c.u hop.u c.u_in is.u_in (c.begins ∙ sym is.begins) in
-      let ev : c.v ≡ hop.v = distinct c.v hop.v c.v_in is.v_in (c.ends ∙ sym is.ends) in
-      record { term_in = is.term_in; u_in = is.u_in; v_in = is.v_in; apart = (λ s. c.apart (eu ∙ (s ∙ sym ev))); room = (b, some, rw (eu, ev) at c.base) }
-
-  -- and each can move something
-  pub hops_movable : (from : ℕ) (hops : List Hop) → AreHops terms tables from hops → (k : ℕ) → k < length hops → IsMovable terms q rows (hop_at hops k)
-  hops_movable from [] h k l = absurd (omega arith)
-  hops_movable from (x ∷ hops) h zero l = hop_movable from x h.0 h.1
-  hops_movable from (x ∷ hops) h (suc k) l = hops_movable x.to hops h.2 k (omega arith)
-
-  -- a step is told by the rows
-  step_told : (from : ℕ) (step : Step) → IsStep terms q rows from step → IsTold terms tables from step
-  step_told from step h =
-      let c = h.2 in
-      record { term_in = c.in_range; u = c.u; u_in = c.u_in; begins = c.begins; has_end = (right step.term c.in_range c.u step.to c.u_in).1 (rw c.begins h) }
-
-  -- steps that are least of those that the rows tell are least of all
-  pub hops_least : (d : ℕ → ℕ) (from : ℕ) (hops : List Hop) → FallsAlong d from (steps_of hops) → AreLeast terms tables d from hops → TakesLeastSteps terms q rows d from (steps_of hops)
-  hops_least d from [] falls least = tt
-  hops_least d from (x ∷ hops) falls least = (falls.0, (λ other h f. least.0 other (step_told from other h) f), hops_least d x.to hops falls.1 least.1)
+use Rattle.sfm_exchange.proofs.Telling.{hops_least, hops_movable, hops_named, hops_steps}
+use Rattle.sfm_exchange.proofs.Following.{length-steps_of, depth_has, depth_le, depth_bound}
 
 module _ (terms : List Meaning) (rows : List (List ℤ)) (n : ℕ) (q : ℤ) (shift z : List ℤ) (low : pos 0 ≤ℤ q) (fit : AreTerms n terms) (bases : AreBases q terms rows) (zn : length z ≡ n) (rest : IsRest terms shift rows z) (unions : List Bits) (links : AreLinks terms n q rows unions)
     (levels : List Bits) (first : ℕ) (begin : IsFirst n unions z levels first) where
@@ -142,29 +104,6 @@ module _ (terms : List Meaning) (rows : List (List ℤ)) (n : ℕ) (q : ℤ) (sh
 
     more : 0 < length (steps_of hops)
     more = omega (arith, some, length-steps_of hops)
-
--- where the row of a term is the same its rows of reach stay right
-pub table_kept : (terms : List Meaning) (q : ℤ) (rows after : List (List ℤ)) (i : ℕ) (table : List Bits) → row_at after i ≡ row_at rows i → IsTable terms q rows i table → IsTable terms q after i table
-table_kept terms q rows after i table same h u e l = (
-  (λ one. let (b, some, c) = (h u e l).0 one in (b, some, record { in_range = c.in_range; u = c.u; v = c.v; u_in = c.u_in; v_in = c.v_in; begins = c.begins; ends = c.ends; apart = c.apart; base = rw same c.base })),
-  (λ (b, some, c). (h u e l).1 (b, some, record { in_range = c.in_range; u = c.u; v = c.v; u_in = c.u_in; v_in = c.v_in; begins = c.begins; ends = c.ends; apart = c.apart; base = rw same at c.base })),
-)
-
--- the end of the last step
-pub last_is : (first : ℕ) (hops : List Hop) → 0 < length hops → last_of first (steps_of hops) ≡ (hop_at hops (length hops - 1)).to
-last_is first [] l = absurd (omega arith)
-last_is first (x ∷ []) l = refl
-last_is first (x ∷ y ∷ hops) l = last_is x.to (y ∷ hops) (omega arith) ∙ ap (λ k. (hop_at (x ∷ y ∷ hops) k).to) (shift (length hops)) where
-  shift : (k : ℕ) → suc (suc k - 1) ≡ suc (suc k) - 1
-  shift k = omega arith
-
--- the rows have only places of the ground
-pub tables_readable : (terms : List Meaning) (rows : List (List ℤ)) (n : ℕ) (q : ℤ) → pos 0 ≤ℤ q → AreTerms n terms → AreBases q terms rows → n ≤ 256 → (tables : List (List Bits)) (i : ℕ) → i < length terms → IsTable terms q rows i (table_at tables i) → IsReadable terms tables i
-tables_readable terms rows n q low fit bases few tables i li right u e lu bit =
-    let s = (right u e lu).0 bit in
-    let c = s.2 in
-    let l = step_below terms rows n q low fit bases (get_or (term_at terms i).places u 0) (record { to = e; term = i }) s in
-    (omega (arith, l, few), (c.v, c.v_in, c.ends))
 
 -- an entry of z after the exchange of its ends
 pub exchanged-each : (z : List ℤ) (first last : ℕ) (a : ℤ) → first < length z → last < length z → first ≢ last → (e : ℕ)

@@ -14,12 +14,12 @@ use Rattle.sfm_spec.proofs.Moves.{change_small, full_by_greatest, deficit_at_pla
 use Rattle.sfm_spec.proofs.Gain.{move_laws, rest_moved}
 use Rattle.sfm_spec.proofs.Sums.{length-exchanged}
 use Rattle.sfm_law.specs.Rest.{IsRest}
-use Rattle.sfm_walk.specs.declared.walk.Hop.{Hop}
-use Rattle.sfm_walk.specs.Hops.{AreNamed, AreInOrder, IsMovable, Moves, hop_at, steps_of}
+use Rattle.sfm_exchange.specs.declared.path.Hop.{Hop}
+use Rattle.sfm_exchange.specs.Hops.{AreNamed, AreInOrder, IsMovable, Moves, hop_at, steps_of}
 use Rattle.sfm_walk.specs.Run.{IsGreatest, IsLeastWalk, IsUpTo}
-use Rattle.sfm_walk.specs.Signs.{AreMoved}
+use Rattle.sfm_exchange.specs.Signs.{AreMoved}
 use Rattle.sfm_walk.proofs.Advancing.{ends_apart, exchanged-each}
-use Rattle.sfm_walk.proofs.Signing.{moved_ends}
+use Rattle.sfm_exchange.proofs.Signing.{moved_ends}
 
 module _ (terms : List Meaning) (n : ℕ) (q : ℤ) (rows : List (List ℤ)) (fit : AreTerms n terms) where
   -- an amount that each can move

@@ -11,20 +11,20 @@ use Rattle.sfm_spec.specs.Walks.{Step, Joins, row_at}
 use Rattle.sfm_spec.proofs.Gain.{moves_along}
 use Rattle.sfm_spec.proofs.Moves.{deficit_not_above}
 use Rattle.sfm_spec.proofs.Proving.{prove_if_none}
-use Rattle.sfm_walk.specs.declared.bits.Bits.{Bits}
-use Rattle.sfm_walk.specs.declared.graph.Graph.{Graph}
+use Rattle.sfm_exchange.specs.declared.bits.Bits.{Bits}
+use Rattle.sfm_exchange.specs.declared.graph.Graph.{Graph}
 use Rattle.sfm_walk.specs.declared.run.Run.{Run}
-use Rattle.sfm_walk.specs.Bits.{bit_in, set_at}
-use Rattle.sfm_walk.specs.Graph.{IsWhole}
-use Rattle.sfm_walk.specs.Levels.{AreClosed}
-use Rattle.sfm_walk.specs.Reached.{AreReached, IsSetOf}
+use Rattle.sfm_exchange.specs.Bits.{bit_in, set_at}
+use Rattle.sfm_exchange.specs.Graph.{IsWhole}
+use Rattle.sfm_exchange.specs.Levels.{AreClosed}
+use Rattle.sfm_exchange.specs.Reached.{AreReached, IsSetOf}
 use Rattle.sfm_walk.specs.Run.{IsRunAt, IsUpTo}
-use Rattle.sfm_walk.specs.Unions.{AreLinks}
+use Rattle.sfm_exchange.specs.Unions.{AreLinks}
 use Rattle.sfm_walk.proofs.Advancing.{none_joins}
 use Rattle.sfm_walk.proofs.Gaps.{abs_falls}
 use Rattle.sfm_walk.proofs.Least.{least_is, link_below}
-use Rattle.sfm_walk.proofs.Uniting.{links_of}
-use Rattle.sfm_walk.proofs.WholeGraphs.{are_terms, counted, low, unions_count}
+use Rattle.sfm_exchange.proofs.Uniting.{links_of}
+use Rattle.sfm_exchange.proofs.WholeGraphs.{are_terms, counted, low, unions_count}
 
 -- the graph is whole, z and its signs are those of its bases, the sum of min(z, 0) is not below that at first, and no entry
 -- has changed by more than it has risen

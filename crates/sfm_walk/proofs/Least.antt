@@ -6,11 +6,11 @@ use Rattle.sfm_spec.specs.Reach.{IsLeastClosed, IsReachedSet, IsUnder}
 use Rattle.sfm_spec.specs.Walks.{Step, Joins}
 use Rattle.sfm_spec.proofs.Extremes.{least_of_reached, no_join_exactly, reached_of_least}
 use Rattle.sfm_spec.proofs.Walks.{has_below, step_below}
-use Rattle.sfm_walk.specs.declared.bits.Bits.{Bits}
-use Rattle.sfm_walk.specs.Bits.{bit_in, set_at}
-use Rattle.sfm_walk.specs.Reached.{AreReached, IsSetOf}
+use Rattle.sfm_exchange.specs.declared.bits.Bits.{Bits}
+use Rattle.sfm_exchange.specs.Bits.{bit_in, set_at}
+use Rattle.sfm_exchange.specs.Reached.{AreReached, IsSetOf}
 use Rattle.sfm_law.specs.Rest.{IsRest}
-use Rattle.sfm_walk.specs.Unions.{AreLinks}
+use Rattle.sfm_exchange.specs.Unions.{AreLinks}
 
 module _ (terms : List Meaning) (rows : List (List ℤ)) (n : ℕ) (q : ℤ) (shift z : List ℤ) (low : pos 0 ≤ℤ q) (fit : AreTerms n terms) (bases : AreBases q terms rows) (zn : length z ≡ n) (rest : IsRest terms shift rows z) (unions : List Bits) (links : AreLinks terms n q rows unions) where
   -- a link leads to a place of the ground

@@ -1,14 +1,2 @@
-pub mod Based
-pub mod Bits
-pub mod Spots
-pub mod Reach
-pub mod Renewed
-pub mod Unions
-pub mod Turned
-pub mod Levels
-pub mod Signs
-pub mod Hops
-pub mod Graph
-pub mod Reached
 pub mod Counted
 pub mod Run

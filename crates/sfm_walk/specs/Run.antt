@@ -6,9 +6,9 @@ use Rattle.sfm_spec.specs.Progress.{TakesLeastSteps}
 use Rattle.sfm_spec.specs.Walks.{Step, IsStep, IsShortest, last_of}
 use Rattle.sfm_law.specs.Rest.{IsRest}
 use Rattle.sfm_walk.specs.declared.run.Run.{Run}
-use Rattle.sfm_walk.specs.declared.walk.Hop.{Hop}
-use Rattle.sfm_walk.specs.Hops.{AreNamed, IsMovable, Moves, hop_at, steps_of}
-use Rattle.sfm_walk.specs.Signs.{AreSigns}
+use Rattle.sfm_exchange.specs.declared.path.Hop.{Hop}
+use Rattle.sfm_exchange.specs.Hops.{AreNamed, IsMovable, Moves, hop_at, steps_of}
+use Rattle.sfm_exchange.specs.Signs.{AreSigns}
 
 -- z is the residual of the rows, and the signs are those of z
 pub record IsRunAt (terms : List Meaning) (shift : List ℤ) (rows : List (List ℤ)) (run : Run) : Type 0 where

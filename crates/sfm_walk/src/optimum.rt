@@ -11,21 +11,20 @@ ghost use Rattle.sfm_spec.specs.Progress.{IsProgress};
 ghost use Rattle.sfm_spec.specs.Terms.{exchanged};
 ghost use Rattle.sfm_spec.specs.Walks.{Step, Joins, IsFewWalks, few_walks, last_of};
 ghost use Rattle.sfm_walk.specs.Counted.{IsCounted};
-ghost use Rattle.sfm_walk.specs.Graph.{IsGraph, IsWhole};
-ghost use Rattle.sfm_walk.specs.Hops.{steps_of};
-ghost use Rattle.sfm_walk.specs.Levels.{IsFirst, depth_of};
+ghost use Rattle.sfm_exchange.specs.Graph.{IsGraph, IsWhole};
+ghost use Rattle.sfm_exchange.specs.Hops.{steps_of};
+ghost use Rattle.sfm_exchange.specs.Levels.{IsFirst, depth_of};
 ghost use Rattle.sfm_walk.specs.Run.{IsGreatest, IsLeastWalk, IsRunAt, IsUpTo};
-ghost use Rattle.sfm_walk.specs.Signs.{AreMoved, AreSigns};
+ghost use Rattle.sfm_exchange.specs.Signs.{AreMoved, AreSigns};
 
-use crate::graph::{Graph, graph_at, restart};
-use crate::levels::find_levels;
-use crate::moving::{amount_of, move_along};
-use crate::reached::{reached_from, set_of};
 use crate::rest::{most_of, move_rest};
 use crate::run::Run;
-use crate::signs::{move_signs, signs_of};
-use crate::walk::{last_place, least_walk};
+use crate::walk::least_walk;
 use sfm_base::{Memory, Numbers, Rows, Set, Steps};
+use sfm_exchange::{
+    Graph, Path, amount_of, find_levels, graph_at, move_along, move_signs, reached_from, restart,
+    set_of, signs_of,
+};
 use sfm_law::{Term, rest_of, start_rows};
 use std::alloc::Global;
 
@@ -212,7 +211,7 @@ pub fn improve<T: Term>(
         &run.signs,
         &mut run.levels,
     )? {
-        run.first = first;
+        run.path.first = first;
         advance(alloc, graph, terms, q, shift, &mut run)?;
         steps.tick();
     }
@@ -235,8 +234,10 @@ fn run_at(alloc: Global, z: Vec<i128>) -> Run
         z,
         signs,
         levels: Vec::new(alloc),
-        first: 0,
-        hops: Vec::new(alloc),
+        path: Path {
+            first: 0,
+            hops: Vec::new(alloc),
+        },
     }
 }
 
@@ -252,7 +253,7 @@ fn advance<T: Term>(
     requires graph { IsWhole T.places T.value_of T.size_of T.fits terms.now (length shift.now) q graph.old }
     requires shifts { magnitudes shift.now ≤ℤ pos (10 ^ 27) }
     requires run { IsRunAt (meanings T.places T.value_of terms.now) shift.now graph.old.bases run.old }
-    requires first { IsFirst (length shift.now) graph.old.unions.items run.old.z.items run.old.levels.items run.old.first }
+    requires first { IsFirst (length shift.now) graph.old.unions.items run.old.z.items run.old.levels.items run.old.path.first }
     requires small { All (λ x. All (IsAtMost (5 * 10 ^ 29)) x) graph.old.bases }
     requires gap { neg_ℤ (pos (5 * 10 ^ 29)) ≤ℤ deficit (length shift.now) (rest_at (meanings T.places T.value_of terms.now) graph.old.bases shift.now) }
     ensures graph { OnOk result (IsWhole T.places T.value_of T.size_of T.fits terms.now (length shift.now) q graph.new) }
@@ -263,7 +264,7 @@ fn advance<T: Term>(
 {
     least_walk(terms, graph, q, shift, run)?;
     let a = greatest_amount(alloc, graph, terms, q, shift, run)?;
-    move_along(alloc, graph, terms, q, run, a)?;
+    move_along(alloc, graph, terms, q, &run.path, a)?;
     settle(run, a);
     Ok(())
 }
@@ -281,32 +282,31 @@ fn greatest_amount<T: Term>(
     requires shifts { magnitudes shift.now ≤ℤ pos (10 ^ 27) }
     requires small { All (λ x. All IsEntry x) graph.old.bases }
     requires run { IsRunAt (meanings T.places T.value_of terms.now) shift.now graph.old.bases run.now }
-    requires walk { IsLeastWalk (meanings T.places T.value_of terms.now) (length shift.now) q shift.now graph.old.bases run.now.z.items (depth_of run.now.levels.items) run.now.first run.now.hops.items }
+    requires walk { IsLeastWalk (meanings T.places T.value_of terms.now) (length shift.now) q shift.now graph.old.bases run.now.z.items (depth_of run.now.levels.items) run.now.path.first run.now.path.hops.items }
     ensures graph { OnOk result (IsWhole T.places T.value_of T.size_of T.fits terms.now (length shift.now) q graph.new) }
     ensures bases { OnOk result (graph.new.bases ≡ graph.old.bases) }
-    ensures greatest { IfOk result (IsGreatest (meanings T.places T.value_of terms.now) q graph.old.bases run.now.z.items run.now.first run.now.hops.items) }
+    ensures greatest { IfOk result (IsGreatest (meanings T.places T.value_of terms.now) q graph.old.bases run.now.z.items run.now.path.first run.now.path.hops.items) }
 {
-    let last = last_place(&run.hops);
-    let most = most_of(&run.z, run.first, last);
-    let a = amount_of(alloc, graph, terms, q, &run.hops, most)?;
+    let last = run.path.last();
+    let most = most_of(&run.z, run.path.first, last);
+    let a = amount_of(alloc, graph, terms, q, &run.path.hops, most)?;
     Ok(a)
 }
 
 // Brings z and its signs up once the walk has moved a.
 fn settle(run: &mut Run, a: i128)
     requires few { length run.old.z.items ≤ 256 }
-    requires some { 0 < length run.old.hops.items }
-    requires first { run.old.first < length run.old.z.items }
-    requires last { last_of run.old.first (steps_of run.old.hops.items) < length run.old.z.items }
-    requires apart { run.old.first ≢ last_of run.old.first (steps_of run.old.hops.items) }
+    requires first { run.old.path.first < length run.old.z.items }
+    requires last { last_of run.old.path.first (steps_of run.old.path.hops.items) < length run.old.z.items }
+    requires apart { run.old.path.first ≢ last_of run.old.path.first (steps_of run.old.path.hops.items) }
     requires low { pos 0 ≤ℤ a }
-    requires under { a ≤ℤ neg_ℤ (slice_index_or run.old.z.items run.old.first (pos 0)) }
-    requires over { a ≤ℤ slice_index_or run.old.z.items (last_of run.old.first (steps_of run.old.hops.items)) (pos 0) }
-    ensures z { run.new.z.items ≡ exchanged run.old.z.items run.old.first (last_of run.old.first (steps_of run.old.hops.items)) a }
-    ensures signs { AreMoved run.old.z.items (exchanged run.old.z.items run.old.first (last_of run.old.first (steps_of run.old.hops.items)) a) run.old.first (last_of run.old.first (steps_of run.old.hops.items))
+    requires under { a ≤ℤ neg_ℤ (slice_index_or run.old.z.items run.old.path.first (pos 0)) }
+    requires over { a ≤ℤ slice_index_or run.old.z.items (last_of run.old.path.first (steps_of run.old.path.hops.items)) (pos 0) }
+    ensures z { run.new.z.items ≡ exchanged run.old.z.items run.old.path.first (last_of run.old.path.first (steps_of run.old.path.hops.items)) a }
+    ensures signs { AreMoved run.old.z.items (exchanged run.old.z.items run.old.path.first (last_of run.old.path.first (steps_of run.old.path.hops.items)) a) run.old.path.first (last_of run.old.path.first (steps_of run.old.path.hops.items))
         → AreSigns run.old.z.items run.old.signs → AreSigns run.new.z.items run.new.signs }
 {
-    let last = last_place(&run.hops);
-    move_rest(&mut run.z, run.first, last, a);
-    move_signs(&mut run.signs, &run.z, run.first, last);
+    let last = run.path.last();
+    move_rest(&mut run.z, run.path.first, last, a);
+    move_signs(&mut run.signs, &run.z, run.path.first, last);
 }

@@ -1,144 +1,15 @@
-// One walk of least steps: from each place the walk takes, among the steps into the level below, the one to the least place,
-// and to that place the one of the first term. So no walk from its first place to a place with z > 0 has fewer steps.
-ghost use Rattle.std.specs.Prelude.{◌≡◌, ◌-◌, ◌<◌, ◌≤◌, ℕ, length, OnOk, MatchOption, slice_index_or};
+// The walk of least steps from the first place that a search has found: no walk from there to a place with z > 0 has fewer
+// steps, and each step is the least of those that lead on.
+ghost use Rattle.std.specs.Prelude.{length, OnOk};
 ghost use Rattle.sfm_spec.specs.Families.{meanings};
-ghost use Rattle.sfm_spec.specs.Labels.{FallsAlong, step_code};
-ghost use Rattle.sfm_spec.specs.Walks.{Step, last_of};
-ghost use Rattle.sfm_walk.specs.Bits.{bit_in, set_at};
-ghost use Rattle.sfm_walk.specs.Levels.{depth_of, IsFirst, LeadsInto};
-ghost use Rattle.sfm_walk.specs.Spots.{AreSpots, spot_at};
-ghost use Rattle.sfm_walk.specs.Unions.{AreUnions, HasRows, HaveRows, IsReadable, spot_row};
-ghost use Rattle.sfm_walk.specs.Reach.{table_at};
-ghost use Rattle.sfm_walk.specs.Graph.{IsWhole};
+ghost use Rattle.sfm_exchange.specs.Levels.{depth_of, IsFirst};
+ghost use Rattle.sfm_exchange.specs.Graph.{IsWhole};
 ghost use Rattle.sfm_walk.specs.Run.{IsLeastWalk, IsRunAt};
-ghost use Rattle.sfm_walk.specs.Hops.{AreHops, AreLeast, IsHop, IsTold, hop_at, step_of, steps_of};
 
-use crate::bits::Bits;
-use crate::graph::Graph;
-use crate::reach::BitRows;
 use crate::run::Run;
-use crate::spots::{Spot, Spots};
 use sfm_base::Memory;
+use sfm_exchange::{Graph, follow};
 use sfm_law::Term;
-
-/// A step of a walk: from one place to another by a term, and the numbers that the places have in the term.
-#[derive(Clone, Copy, Debug)]
-pub struct Hop {
-    pub to: usize,
-    pub term: usize,
-    pub u: usize,
-    pub v: usize,
-}
-
-// The first spot whose row has a place.
-fn first_spot(spots: &[Spot], rows: &[BitRows], to: usize) -> Option<Spot>
-    requires rows { HasRows rows.now spots.now }
-    requires place { to < 256 }
-    ensures { MatchOption result ((j : ℕ) → j < length spots.now → bit_in (spot_row rows.now (spot_at spots.now j)) to ≡ 1 → ⊥)
-        (λ spot. (j : ℕ) × (j < length spots.now) × (spot_at spots.now j ≡ spot) × (bit_in (spot_row rows.now spot) to ≡ 1)
-        × ((i : ℕ) → i < j → bit_in (spot_row rows.now (spot_at spots.now i)) to ≡ 1 → ⊥)) }
-{
-    for spot in spots {
-        let row = &rows[spot.term];
-        if row.as_slice()[spot.local].contains(to) {
-            return Some(*spot);
-        }
-    }
-    None
-}
-
-// The number of a place in a term.
-fn local_of(places: &[usize], place: usize) -> Option<usize>
-    ensures { MatchOption result ((v : ℕ) → v < length places.now → slice_index_or places.now v 0 ≡ place → ⊥)
-        (λ v. (v < length places.now) × (slice_index_or places.now v 0 ≡ place)) }
-{
-    for (v, at) in places.iter().enumerate() {
-        if *at == place {
-            return Some(v);
-        }
-    }
-    None
-}
-
-// The least step from a place into a level.
-fn least_step<T: Term>(
-    terms: &[T],
-    spots: &[Spots],
-    rows: &[BitRows],
-    unions: &[Bits],
-    at: usize,
-    level: &Bits,
-) -> Hop
-    requires spots { AreSpots (meanings T.places T.value_of terms.now) (length unions.now) spots.now }
-    requires rows { HaveRows rows.now spots.now }
-    requires unions { AreUnions rows.now spots.now unions.now }
-    requires placed { (i : ℕ) → i < length terms.now → IsReadable (meanings T.places T.value_of terms.now) rows.now i }
-    requires at { at < length unions.now }
-    requires leads { LeadsInto unions.now at level.now }
-    ensures named { IsHop (meanings T.places T.value_of terms.now) at result }
-    ensures reached { bit_in (set_at (table_at rows.now result.term) result.u) result.to ≡ 1 }
-    ensures onto { bit_in level.now result.to ≡ 1 }
-    ensures least { (other : Step) → IsTold (meanings T.places T.value_of terms.now) rows.now at other → bit_in level.now other.to ≡ 1
-        → step_code (meanings T.places T.value_of terms.now) (step_of result) ≤ step_code (meanings T.places T.value_of terms.now) other }
-{
-    let to = unions[at].first_common(level).unwrap();
-    let here = &spots[at];
-    let spot = first_spot(here.as_slice(), rows, to).unwrap();
-    let v = local_of(terms[spot.term].elements(), to).unwrap();
-    Hop {
-        to,
-        term: spot.term,
-        u: spot.local,
-        v,
-    }
-}
-
-/// The place at which a walk ends.
-pub fn last_place(hops: &[Hop]) -> usize
-    requires { 0 < length hops.now }
-    ensures { result ≡ (hop_at hops.now (length hops.now - 1)).to }
-{
-    hops[hops.len() - 1].to
-}
-
-/// Writes the walk of least steps from a place of the last level.
-fn follow<T: Term>(
-    terms: &[T],
-    graph: &Graph<T::Note>,
-    _z: &[i128],
-    levels: &[Bits],
-    first: usize,
-    hops: &mut Vec<Hop>,
-) -> Result<(), Memory>
-    requires spots { AreSpots (meanings T.places T.value_of terms.now) (length graph.now.unions.items) graph.now.spots.items }
-    requires rows { HaveRows graph.now.rows.items graph.now.spots.items }
-    requires unions { AreUnions graph.now.rows.items graph.now.spots.items graph.now.unions.items }
-    requires placed { (i : ℕ) → i < length terms.now → IsReadable (meanings T.places T.value_of terms.now) graph.now.rows.items i }
-    requires first { IsFirst (length graph.now.unions.items) graph.now.unions.items _z.now levels.now first }
-    ensures hops { OnOk result (AreHops (meanings T.places T.value_of terms.now) graph.now.rows.items first hops.new.items) }
-    ensures falls { OnOk result (FallsAlong (depth_of levels.now) first (steps_of hops.new.items)) }
-    ensures least { OnOk result (AreLeast (meanings T.places T.value_of terms.now) graph.now.rows.items (depth_of levels.now) first hops.new.items) }
-    ensures last { OnOk result (bit_in (set_at levels.now 0) (last_of first (steps_of hops.new.items)) ≡ 1) }
-    ensures some { OnOk result (0 < length hops.new.items) }
-{
-    hops.clear();
-    let mut at = first;
-    let mut k = levels.len() - 1;
-    while k > 0 {
-        k -= 1;
-        let hop = least_step(
-            terms,
-            &graph.spots,
-            &graph.rows,
-            &graph.unions,
-            at,
-            &levels[k],
-        );
-        hops.push(hop)?;
-        at = hop.to;
-    }
-    Ok(())
-}
 
 /// Writes the walk of least steps from the first place of a run.
 pub fn least_walk<T: Term>(
@@ -150,10 +21,18 @@ pub fn least_walk<T: Term>(
 ) -> Result<(), Memory>
     requires graph { IsWhole T.places T.value_of T.size_of T.fits terms.now (length _shift.now) _q graph.now }
     requires run { IsRunAt (meanings T.places T.value_of terms.now) _shift.now graph.now.bases run.old }
-    requires first { IsFirst (length _shift.now) graph.now.unions.items run.old.z.items run.old.levels.items run.old.first }
+    requires first { IsFirst (length _shift.now) graph.now.unions.items run.old.z.items run.old.levels.items run.old.path.first }
     ensures run { OnOk result (IsRunAt (meanings T.places T.value_of terms.now) _shift.now graph.now.bases run.new) }
-    ensures walk { OnOk result (IsLeastWalk (meanings T.places T.value_of terms.now) (length _shift.now) _q _shift.now graph.now.bases run.new.z.items (depth_of run.new.levels.items) run.new.first run.new.hops.items) }
+    ensures walk { OnOk result (IsLeastWalk (meanings T.places T.value_of terms.now) (length _shift.now) _q _shift.now graph.now.bases run.new.z.items (depth_of run.new.levels.items) run.new.path.first run.new.path.hops.items) }
 {
-    follow(terms, graph, &run.z, &run.levels, run.first, &mut run.hops)?;
+    let path = &mut run.path;
+    follow(
+        terms,
+        graph,
+        &run.z,
+        &run.levels,
+        path.first,
+        &mut path.hops,
+    )?;
     Ok(())
 }

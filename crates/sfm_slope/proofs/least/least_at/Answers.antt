@@ -5,7 +5,7 @@ use Rattle.std.specs.Vec.{with_items}
 use mir.Syntax.{w128}
 use mir.Val.{to_z}
 use Rattle.sfm_spec.specs.Families.{meanings, even_shift, IsLeast}
-use Rattle.sfm_walk.specs.Graph.{IsGraph}
+use Rattle.sfm_exchange.specs.Graph.{IsGraph}
 use Rattle.sfm_slope.proofs.Scaled.{rows-entries}
 use Rattle.sfm_slope.proofs.least.least_at.Goals as goal
 

@@ -1,7 +1,7 @@
 use Rattle.std.proofs.Common.{◌≡◌, List, ℤ, length, map, ap, subst, ◌∙◌}
 use Rattle.std.proofs.lemmas.List.{with_items_is}
 use Rattle.sfm_spec.specs.Families.{meanings}
-use Rattle.sfm_walk.specs.Graph.{IsGraph}
+use Rattle.sfm_exchange.specs.Graph.{IsGraph}
 use Rattle.sfm_slope.specs.Sections.{IsSection}
 use Rattle.sfm_slope.proofs.sections.section.Goals as goal
 

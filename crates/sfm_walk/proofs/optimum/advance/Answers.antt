@@ -1,11 +1,11 @@
 use Rattle.std.proofs.Common.{◌≡◌, ℕ, length, pos, ◌≤ℤ◌, subst, sym, rules, arith, FitsSigned}
 use Rattle.std.proofs.lemmas.Int.{ints, to_z-of_z}
 use mir.Syntax.{w128}
-use Rattle.sfm_walk.specs.Graph.{IsWhole}
-use Rattle.sfm_walk.specs.Levels.{depth_of}
+use Rattle.sfm_exchange.specs.Graph.{IsWhole}
+use Rattle.sfm_exchange.specs.Levels.{depth_of}
 use Rattle.sfm_walk.proofs.Advancing.{entries_small}
 use Rattle.sfm_walk.proofs.Augmenting.{amount_small, apart, ends_moved, first_at, in_order, last_at, progress, rest_after, spread}
-use Rattle.sfm_walk.proofs.WholeGraphs.{are_terms, low, own}
+use Rattle.sfm_exchange.proofs.WholeGraphs.{are_terms, low, own}
 use Rattle.sfm_walk.proofs.optimum.advance.Goals as goal
 
 pub greatest_amount-requires-clause-small : goal.greatest_amount-requires-clause-small

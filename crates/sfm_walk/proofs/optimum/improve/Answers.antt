@@ -6,14 +6,14 @@ use Rattle.sfm_spec.specs.Families.{meanings, rest_at, deficit}
 use Rattle.sfm_spec.specs.Progress.{IsProgress}
 use Rattle.sfm_spec.proofs.LeastWalks.{few_walks_small}
 use Rattle.sfm_spec.proofs.Walks.{bases-at}
-use Rattle.sfm_walk.specs.Graph.{IsWhole}
-use Rattle.sfm_walk.specs.Levels.{AreClosed, IsFirst}
-use Rattle.sfm_walk.specs.Signs.{AreSigns}
-use Rattle.sfm_walk.proofs.Options.{match_none, match_some}
+use Rattle.sfm_exchange.specs.Graph.{IsWhole}
+use Rattle.sfm_exchange.specs.Levels.{AreClosed, IsFirst}
+use Rattle.sfm_exchange.specs.Signs.{AreSigns}
+use Rattle.sfm_exchange.proofs.Options.{match_none, match_some}
 use Rattle.sfm_walk.proofs.Gaps.{deficit_low}
 use Rattle.sfm_walk.proofs.Counting.{IsCounting, counting_none, counting_more, counting_few, counting_is}
 use Rattle.sfm_walk.proofs.Improving.{IsImproving, falls, first_below, gap_still, improving_after, least, link_in, none, proves, same_bound, small_still}
-use Rattle.sfm_walk.proofs.WholeGraphs.{base_count, counted, unions_count}
+use Rattle.sfm_exchange.proofs.WholeGraphs.{base_count, counted, unions_count}
 use Rattle.sfm_walk.proofs.optimum.improve.Goals as goal
 
 pub rest_of-requires-clause-rows : goal.rest_of-requires-clause-rows

@@ -1,12 +1,13 @@
 use Rattle.std.proofs.Common.{◌<◌, ℕ, length, subst, sym}
 use Rattle.sfm_spec.specs.Families.{meanings}
-use Rattle.sfm_walk.specs.Levels.{IsFirst}
-use Rattle.sfm_walk.specs.Reach.{IsTable, table_at}
-use Rattle.sfm_walk.specs.Spots.{AreSpots}
-use Rattle.sfm_walk.specs.Unions.{IsReadable}
-use Rattle.sfm_walk.proofs.Advancing.{least_walk, tables_readable}
-use Rattle.sfm_walk.proofs.Uniting.{links_of}
-use Rattle.sfm_walk.proofs.WholeGraphs.{are_terms, counted, low, spot_rows, unions_count}
+use Rattle.sfm_exchange.specs.Levels.{IsFirst}
+use Rattle.sfm_exchange.specs.Reach.{IsTable, table_at}
+use Rattle.sfm_exchange.specs.Spots.{AreSpots}
+use Rattle.sfm_exchange.specs.Unions.{IsReadable}
+use Rattle.sfm_walk.proofs.Advancing.{least_walk}
+use Rattle.sfm_exchange.proofs.Telling.{tables_readable}
+use Rattle.sfm_exchange.proofs.Uniting.{links_of}
+use Rattle.sfm_exchange.proofs.WholeGraphs.{are_terms, counted, low, spot_rows, unions_count}
 use Rattle.sfm_walk.proofs.walk.least_walk.Goals as goal
 
 pub follow-requires-clause-spots : goal.follow-requires-clause-spots
@@ -43,7 +44,7 @@ pub follow-requires-clause-first : goal.follow-requires-clause-first
 follow-requires-clause-first g c =
     let h = c.requires.graph in
     let graph = c.args.graph.now in
-    let F : ℕ → Type 0 = λ k. IsFirst k graph.unions.items c.args.run.now.z.items c.args.run.now.levels.items c.args.run.now.first in
+    let F : ℕ → Type 0 = λ k. IsFirst k graph.unions.items c.args.run.now.z.items c.args.run.now.levels.items c.args.run.now.path.first in
     rw (c.deref.ensures.value, c.deref-2.ensures.value) (subst F (sym (unions_count h)) c.requires.first)
 
 pub returns-clause-walk : goal.returns-clause-walk
@@ -62,5 +63,5 @@ returns-clause-walk g c =
     let links = links_of ts n c.args._q graph.bases graph.spots.items graph.rows.items graph.unions.items h.exact.are_spots h.exact.are_unions right in
     let e = c.in_ok-follow.ensures in
     let v = c.deref-2.ensures.value in
-    least_walk ts graph.bases n c.args._q c.args._shift.now z (low h) fit h.exact.are_bases rest.places rest graph.unions.items links levels c.args.run.now.first c.requires.first
+    least_walk ts graph.bases n c.args._q c.args._shift.now z (low h) fit h.exact.are_bases rest.places rest graph.unions.items links levels c.args.run.now.path.first c.requires.first
     graph.rows.items right c.follow.new.hops.items e.some e.hops (rw v at e.falls) (rw v at e.least) (rw v at e.last)

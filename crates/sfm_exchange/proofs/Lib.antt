@@ -1,0 +1,16 @@
+pub mod Options
+pub mod Words
+pub mod Following
+pub mod Telling
+pub mod Spotting
+pub mod Levelling
+pub mod Uniting
+pub mod Turning
+pub mod Noting
+pub mod Reaching
+pub mod Amounts
+pub mod Exchanging
+pub mod Searching
+pub mod Signing
+pub mod RowsAfter
+pub mod WholeGraphs

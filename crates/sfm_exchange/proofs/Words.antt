@@ -1,0 +1,96 @@
+-- Sets of places as words of 64 bits.
+use Rattle.std.proofs.Common.{◌≡◌, ◌≢◌, ◌⊎◌, ℕ, ◌+◌, ◌*◌, ◌<◌, ◌≤◌, ◌/◌, ◌%◌, ◌^◌, List, length, get_or, set, refl, sym, ap, ◌∙◌, arith, inl, inr, get_or-set_same, get_or-set_other}
+use Rattle.std.proofs.lemmas.Bool.{cases_eq}
+use Rattle.std.proofs.lemmas.List.{get_or_past}
+use Rattle.std.proofs.lemmas.Nat.Bits.{bit_at_and, bit_at-lt, bit_at-zero, bit_at-trailing_zeros}
+use Rattle.std.specs.Int.{bit_at, trailing_zeros}
+use Rattle.std.specs.Int.Bits.{bit_and}
+use mir.Syntax.{w64}
+use Rattle.sfm_exchange.specs.declared.bits.Bits.{Bits}
+use Rattle.sfm_exchange.specs.Bits.{bit_in}
+
+-- the bit at e of a list of words
+abbrev pub word_bit : List ℕ → ℕ → ℕ
+word_bit words e = bit_at (get_or words (e / 64) 0) (e % 64)
+
+pub bit_in-words : (s : Bits) (e : ℕ) → bit_in s e ≡ word_bit s.words e
+unfolding bit_in
+bit_in-words s e = refl
+
+-- a bit is 0 or 1
+pub bit_in-lt : (s : Bits) (e : ℕ) → bit_in s e < 2
+bit_in-lt s e = rw (bit_in-words s e) (bit_at-lt (get_or s.words (e / 64) 0) (e % 64))
+
+-- where the word of e is changed, all others keep their bits
+pub word_bit-other : (words : List ℕ) (e k w : ℕ) → e / 64 < length words → k ≢ e → (k % 64 ≢ e % 64 → bit_at w (k % 64) ≡ bit_at (get_or words (e / 64) 0) (k % 64)) → word_bit (set words (e / 64) w) k ≡ word_bit words k
+word_bit-other words e k w l ne h = at (cases_eq (k / 64) (e / 64)) where
+  at : (k / 64 ≡ e / 64) ⊎ (k / 64 ≢ e / 64) → word_bit (set words (e / 64) w) k ≡ word_bit words k
+  at (inl same) =
+      let apart : k % 64 ≢ e % 64 = λ r. ne (omega (arith, same, r)) in
+      ap (λ z. bit_at z (k % 64)) (ap (λ j. get_or (set words (e / 64) w) j 0) same ∙ get_or-set_same words (e / 64) w 0 l) ∙ (h apart ∙ ap (λ j. bit_at (get_or words j 0) (k % 64)) (sym same))
+  at (inr other) = ap (λ z. bit_at z (k % 64)) (get_or-set_other words (e / 64) (k / 64) w 0 other)
+
+pub word_bit-here : (words : List ℕ) (e w : ℕ) → e / 64 < length words → word_bit (set words (e / 64) w) e ≡ bit_at w (e % 64)
+word_bit-here words e w l = ap (λ z. bit_at z (e % 64)) (get_or-set_same words (e / 64) w 0 l)
+
+-- the place of a bit of word k
+pub word_of : (k t : ℕ) → t < 64 → ((64 * k + t) / 64 ≡ k) × ((64 * k + t) % 64 ≡ t)
+word_of k t l = (omega arith, omega arith)
+
+-- where the words have no bit in common, the sets have no place in common
+pub apart_by_words : (s o : Bits) (e : ℕ) → bit_and (get_or s.words (e / 64) 0) (get_or o.words (e / 64) 0) ≡ 0 → bit_in s e ≡ 1 → bit_in o e ≢ 1
+apart_by_words s o e z hs ho =
+    let w = get_or s.words (e / 64) 0 in
+    let v = get_or o.words (e / 64) 0 in
+    let both = bit_at_and w v (e % 64) in
+    let none : bit_at (bit_and w v) (e % 64) ≡ 0 = ap (λ x. bit_at x (e % 64)) z ∙ bit_at-zero (e % 64) in
+    let a : bit_at w (e % 64) ≡ 1 = sym (bit_in-words s e) ∙ hs in
+    let b : bit_at v (e % 64) ≡ 1 = sym (bit_in-words o e) ∙ ho in
+    omega (arith, both, none, a, b)
+
+-- past the words there is no place
+pub within_words : (s : Bits) (e : ℕ) → length s.words ≤ e / 64 → bit_in s e ≡ 0
+within_words s e past = bit_in-words s e ∙ (ap (λ w. bit_at w (e % 64)) (get_or_past s.words (e / 64) 0 past) ∙ bit_at-zero (e % 64))
+
+-- the lowest bit that a word has in common is a common place, and no lesser place of that word is
+pub common_first : (s o : Bits) (k : ℕ) → bit_and (get_or s.words k 0) (get_or o.words k 0) ≢ 0 → bit_and (get_or s.words k 0) (get_or o.words k 0) < 2 ^ 64
+    → (trailing_zeros w64 (bit_and (get_or s.words k 0) (get_or o.words k 0)) < 64)
+    × (bit_in s (64 * k + trailing_zeros w64 (bit_and (get_or s.words k 0) (get_or o.words k 0))) ≡ 1)
+    × (bit_in o (64 * k + trailing_zeros w64 (bit_and (get_or s.words k 0) (get_or o.words k 0))) ≡ 1)
+    × ((e : ℕ) → e / 64 ≡ k → e < 64 * k + trailing_zeros w64 (bit_and (get_or s.words k 0) (get_or o.words k 0)) → bit_in s e ≡ 1 → bit_in o e ≢ 1)
+common_first s o k some fits = (below, at_place s w refl both.0, at_place o v refl both.1, least) where
+  w : ℕ
+  w = get_or s.words k 0
+
+  v : ℕ
+  v = get_or o.words k 0
+
+  t : ℕ
+  t = trailing_zeros w64 (bit_and w v)
+
+  low : (t < 64) × (bit_at (bit_and w v) t ≡ 1) × ((i : ℕ) → i < t → bit_at (bit_and w v) i ≡ 0)
+  low = bit_at-trailing_zeros w64 (bit_and w v) (omega (arith, some)) fits
+
+  below : t < 64
+  below = low.0
+
+  both : (bit_at w t ≡ 1) × (bit_at v t ≡ 1)
+  both =
+      let m = bit_at_and w v t in
+      let h = low.1 in
+      let a = bit_at-lt w t in
+      let b = bit_at-lt v t in
+      (omega (arith, m, h, a, b), omega (arith, m, h, a, b))
+
+  at_place : (r : Bits) (x : ℕ) → get_or r.words k 0 ≡ x → bit_at x t ≡ 1 → bit_in r (64 * k + t) ≡ 1
+  at_place r x e h =
+      let (d, m) = word_of k t low.0 in
+      bit_in-words r (64 * k + t) ∙ (ap (λ j. bit_at (get_or r.words j 0) ((64 * k + t) % 64)) d ∙ (ap (λ j. bit_at (get_or r.words k 0) j) m ∙ (ap (λ y. bit_at y t) e ∙ h)))
+
+  least : (e : ℕ) → e / 64 ≡ k → e < 64 * k + t → bit_in s e ≡ 1 → bit_in o e ≢ 1
+  least e is l hs ho =
+      let m = bit_at_and w v (e % 64) in
+      let z = low.2 (e % 64) (omega (arith, is, l)) in
+      let a : bit_at w (e % 64) ≡ 1 = ap (λ j. bit_at (get_or s.words j 0) (e % 64)) (sym is) ∙ (sym (bit_in-words s e) ∙ hs) in
+      let b : bit_at v (e % 64) ≡ 1 = ap (λ j. bit_at (get_or o.words j 0) (e % 64)) (sym is) ∙ (sym (bit_in-words o e) ∙ ho) in
+      omega (arith, m, z, a, b)

@@ -1,0 +1,50 @@
+use Rattle.std.proofs.Common.{FitsSigned}
+use Rattle.std.proofs.lemmas.Int.{to_z-of_z}
+use mir.Syntax.{w128}
+use Rattle.sfm_spec.specs.Families.{meanings}
+use Rattle.sfm_exchange.specs.Unions.{HaveRows}
+use Rattle.sfm_exchange.proofs.Noting.{sized_meanings}
+use Rattle.sfm_exchange.proofs.Uniting.{have_rows}
+use Rattle.sfm_exchange.proofs.WholeGraphs.{are_based, size_low}
+use Rattle.sfm_exchange.proofs.graph.graph_at.Goals as goal
+
+pub notes_of-requires : goal.notes_of-requires
+notes_of-requires g c =
+    let t = g.T.Term in
+    let m = g.met.T.Term in
+    let fq : FitsSigned w128 c.args.q = c.ranges.q in
+    let r = c.requires in
+    simp to_z-of_z (are_based t.places t.value_of t.size_of (size_low t.places t.value_of t.size_of m.submodular m.bounded) c.args.terms.now c.args.n c.args.q c.args.bases r.bounded r.factor r.bases r.small)
+
+pub ask_all-requires-clause-based : goal.ask_all-requires-clause-based
+ask_all-requires-clause-based g c =
+    let t = g.T.Term in
+    let m = g.met.T.Term in
+    let fq : FitsSigned w128 c.args.q = c.ranges.q in
+    let r = c.requires in
+    simp to_z-of_z (are_based t.places t.value_of t.size_of (size_low t.places t.value_of t.size_of m.submodular m.bounded) c.args.terms.now c.args.n c.args.q c.args.bases r.bounded r.factor r.bases r.small)
+
+pub unions_of-requires : goal.unions_of-requires
+unions_of-requires g c =
+    let t = g.T.Term in
+    let ts = meanings t.places t.value_of c.args.terms.now in
+    let tables = c.ask_all.new.rows.items in
+    let spots = c.in_ok-spots.spots.items in
+    let sized = sized_meanings t.places t.value_of c.args.terms.now tables c.in_ok-ask_all.ensures.rows in
+    let have : HaveRows tables spots = have_rows ts c.args.n spots tables c.in_ok-spots.ensures sized.0 sized.1 in
+    rw (c.deref-2.ensures.value, c.deref-3.ensures.value) have
+
+pub returns-clause-graph : goal.returns-clause-graph
+returns-clause-graph g c =
+    let fq : FitsSigned w128 c.args.q = c.ranges.q in
+    let ask = c.in_ok-ask_all.ensures in
+    record {
+      are_bases = c.requires.bases;
+      note_count = c.in_ok-notes.ensures.count;
+      noted = simp to_z-of_z at c.in_ok-notes.ensures.fit;
+      sized_rows = ask.rows;
+      tables = simp to_z-of_z at ask.tables;
+      are_spots = c.in_ok-spots.ensures;
+      are_unions = rw (c.deref-2.ensures.value, c.deref-3.ensures.value) at c.in_ok-unions.ensures;
+      are_turned = rw c.deref-4.ensures.value at c.in_ok-back.ensures;
+    }

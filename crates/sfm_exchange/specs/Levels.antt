@@ -1,0 +1,37 @@
+-- Levels of places by their distances to those with z > 0.
+use Rattle.std.specs.Prelude.{◌≡◌, ◌↔◌, ℕ, suc, ◌+◌, ◌<◌, ◌≤◌, List, [], ◌∷◌, length, slice_index_or, nat_eq, ℤ, pos, ◌<ℤ◌, if◌then◌else◌}
+use Rattle.sfm_exchange.specs.declared.bits.Bits.{Bits}
+use Rattle.sfm_exchange.specs.Bits.{bit_in, set_at}
+
+-- from e a link leads into the set
+abbrev pub LeadsInto : List Bits → ℕ → Bits → Type 0
+LeadsInto unions e s = (t : ℕ) × (bit_in (set_at unions e) t ≡ 1) × (bit_in s t ≡ 1)
+
+-- the number of the first level that has e, and that of all levels where none has
+abbrev pub depth_of : List Bits → ℕ → ℕ
+depth_of [] e = 0
+depth_of (level ∷ levels) e = if nat_eq (bit_in level e) 1 then 0 else suc (depth_of levels e)
+
+-- levels of n places: the first has those with z > 0, no two have a place in common, each place of a further level leads into
+-- the one before, and all that lead into a level but the last are in levels up to the next; only the last may have z < 0
+pub record AreLevels (n : ℕ) (unions : List Bits) (z : List ℤ) (levels : List Bits) : Type 0 where
+  pub some : 0 < length levels
+  pub over : (e : ℕ) → (bit_in (set_at levels 0) e ≡ 1) ↔ ((e < n) × (pos 0 <ℤ slice_index_or z e (pos 0)))
+  pub below : (k e : ℕ) → k < length levels → bit_in (set_at levels k) e ≡ 1 → e < n
+  pub apart : (j k e : ℕ) → j < length levels → k < length levels → bit_in (set_at levels j) e ≡ 1 → bit_in (set_at levels k) e ≡ 1 → j ≡ k
+  pub leads : (k e : ℕ) → k + 1 < length levels → bit_in (set_at levels (k + 1)) e ≡ 1 → LeadsInto unions e (set_at levels k)
+  pub closed : (k e : ℕ) → k + 1 < length levels → e < n → LeadsInto unions e (set_at levels k) → (j : ℕ) × (j ≤ k + 1) × (bit_in (set_at levels j) e ≡ 1)
+  pub above : (k e : ℕ) → k + 1 < length levels → bit_in (set_at levels k) e ≡ 1 → slice_index_or z e (pos 0) <ℤ pos 0 → ⊥
+
+-- all places that lead into a level are in one, and none has z < 0
+pub record AreClosed (n : ℕ) (unions : List Bits) (z : List ℤ) (levels : List Bits) : Type 0 where
+  pub levelled : AreLevels n unions z levels
+  pub closed : (k e : ℕ) → k < length levels → e < n → LeadsInto unions e (set_at levels k) → (j : ℕ) × (j < length levels) × (bit_in (set_at levels j) e ≡ 1)
+  pub above : (k e : ℕ) → k < length levels → bit_in (set_at levels k) e ≡ 1 → slice_index_or z e (pos 0) <ℤ pos 0 → ⊥
+
+-- the first place of a walk: the last level has it, and z < 0 there
+pub record IsFirst (n : ℕ) (unions : List Bits) (z : List ℤ) (levels : List Bits) (first : ℕ) : Type 0 where
+  pub levelled : AreLevels n unions z levels
+  pub further : 1 < length levels
+  pub last : (k : ℕ) → k + 1 ≡ length levels → bit_in (set_at levels k) first ≡ 1
+  pub under : slice_index_or z first (pos 0) <ℤ pos 0

@@ -1,0 +1,12 @@
+pub mod Bits
+pub mod Spots
+pub mod Reach
+pub mod Renewed
+pub mod Unions
+pub mod Turned
+pub mod Levels
+pub mod Signs
+pub mod Hops
+pub mod Graph
+pub mod Reached
+pub mod Based

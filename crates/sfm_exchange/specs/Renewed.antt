@@ -1,0 +1,34 @@
+-- The rows of one term after an exchange.
+use Rattle.std.specs.Prelude.{◌≡◌, ◌≢◌, ◌↔◌, ◌⊎◌, ℕ, ◌<◌, ◌≤◌, List, length, slice_index_or, ℤ, pos, ◌≤ℤ◌}
+use Rattle.sfm_spec.specs.Terms.{SetFunction, IsBase, exchanged}
+use Rattle.sfm_exchange.specs.declared.bits.Bits.{Bits}
+use Rattle.sfm_exchange.specs.Bits.{bit_in, set_at}
+use Rattle.sfm_exchange.specs.Reach.{IsRow}
+
+-- a base from which another vector comes by raising s and lowering t
+pub record IsExchanged (f : SetFunction) (before after : List ℤ) (s t : ℕ) : Type 0 where
+  pub base : IsBase f before
+  pub amount : ℤ
+  pub some : pos 1 ≤ℤ amount
+  pub is : after ≡ exchanged before s t amount
+
+-- found has the ground places of t and of those of the first k places whose rows have that of t
+abbrev pub AreDepending : List ℕ → List Bits → ℕ → ℕ → Bits → Type 0
+AreDepending places rows t k found = (e : ℕ) → (bit_in found e ≡ 1) ↔ ((u : ℕ) × (u < k) × (slice_index_or places u 0 ≡ e) × ((u ≡ t) ⊎ (bit_in (set_at rows u) (slice_index_or places t 0) ≡ 1)))
+
+-- joined has what either row has and the place to, but not the place out
+abbrev pub IsJoined : Bits → Bits → ℕ → ℕ → Bits → Type 0
+IsJoined row more to out joined = (e : ℕ) → (bit_in joined e ≡ 1) ↔ ((e ≢ out) × ((bit_in row e ≡ 1) ⊎ (bit_in more e ≡ 1) ⊎ (e ≡ to)))
+
+-- of the first k rows those whose ground places are in the set are joined with one row and with the place to; all others stay
+pub record AreJoined (places : List ℕ) (changed : Bits) (more : Bits) (to k : ℕ) (before after : List Bits) : Type 0 where
+  pub count : length after ≡ length before
+  pub joined : (u : ℕ) → u < k → bit_in changed (slice_index_or places u 0) ≡ 1 → IsJoined (set_at before u) more to (slice_index_or places u 0) (set_at after u)
+  pub others : (u : ℕ) → u < length places → bit_in changed (slice_index_or places u 0) ≢ 1 → set_at after u ≡ set_at before u
+  pub ahead : (u : ℕ) → k ≤ u → set_at after u ≡ set_at before u
+
+-- of the first k rows those whose ground places are in the set are those of the base x; all others stay
+pub record AreAsked (places : List ℕ) (f : SetFunction) (x : List ℤ) (changed : Bits) (k : ℕ) (before after : List Bits) : Type 0 where
+  pub count : length after ≡ length before
+  pub asked : (u : ℕ) → u < k → bit_in changed (slice_index_or places u 0) ≡ 1 → IsRow places f x u (set_at after u)
+  pub others : (u : ℕ) → u < length places → bit_in changed (slice_index_or places u 0) ≢ 1 → set_at after u ≡ set_at before u

@@ -1,0 +1,100 @@
+// Sets of places below 256, as four words of 64 bits: the rows of what each place reaches, and the levels of a search. A
+// set is a plain value and takes no memory of its own, and two sets are joined or compared a word at a time.
+ghost use Rattle.std.specs.Prelude.{◌≡◌, ◌≢◌, ◌↔◌, ℕ, ◌-◌, ◌<◌, max, true, false, IsTrue, MatchOption};
+ghost use Rattle.sfm_exchange.specs.Bits.{bit_in};
+
+/// A set of places below 256.
+#[derive(Clone, Copy, Debug)]
+pub struct Bits {
+    pub words: [u64; 4],
+}
+
+/// The set with no place.
+pub fn no_bits() -> Bits
+    ensures { (e : ℕ) → bit_in result e ≡ 0 }
+{
+    Bits { words: [0; 4] }
+}
+
+impl Bits {
+    /// Whether the place e is in the set.
+    pub fn contains(&self, e: usize) -> bool
+        requires { e < 256 }
+        ensures { IsTrue result ↔ (bit_in self.now e ≡ 1) }
+    {
+        (self.words[e / 64] >> (e % 64)) % 2 == 1
+    }
+
+    /// Puts the place e in.
+    pub fn insert(&mut self, e: usize)
+        requires { e < 256 }
+        ensures put { bit_in self.new e ≡ 1 }
+        ensures others { (k : ℕ) → k ≢ e → bit_in self.new k ≡ bit_in self.old k }
+    {
+        self.words[e / 64] |= 1 << (e % 64);
+    }
+
+    /// Takes the place e out.
+    pub fn remove(&mut self, e: usize)
+        requires { e < 256 }
+        ensures out { bit_in self.new e ≡ 0 }
+        ensures others { (k : ℕ) → k ≢ e → bit_in self.new k ≡ bit_in self.old k }
+    {
+        self.words[e / 64] &= !(1 << (e % 64));
+    }
+
+    /// Puts each place of the other set in.
+    pub fn union_with(&mut self, other: &Bits)
+        ensures { (e : ℕ) → bit_in self.new e ≡ max (bit_in self.old e) (bit_in other.now e) }
+    {
+        for k in 0..4 {
+            self.words[k] |= other.words[k];
+        }
+    }
+
+    /// Takes each place of the other set out.
+    pub fn remove_all(&mut self, other: &Bits)
+        ensures { (e : ℕ) → bit_in self.new e ≡ bit_in self.old e - bit_in other.now e }
+    {
+        for k in 0..4 {
+            self.words[k] ^= self.words[k] & other.words[k];
+        }
+    }
+
+    /// The least place of the set.
+    pub fn first(&self) -> Option<usize>
+        ensures { MatchOption result ((e : ℕ) → bit_in self.now e ≢ 1) (λ e. (e < 256) × (bit_in self.now e ≡ 1)) }
+    {
+        self.first_common(self)
+    }
+
+    /// The least place that both sets have.
+    pub fn first_common(&self, other: &Bits) -> Option<usize>
+        ensures { MatchOption result ((e : ℕ) → bit_in self.now e ≡ 1 → bit_in other.now e ≢ 1)
+            (λ e. (e < 256) × (bit_in self.now e ≡ 1) × (bit_in other.now e ≡ 1)
+            × ((k : ℕ) → k < e → bit_in self.now k ≡ 1 → bit_in other.now k ≢ 1)) }
+    {
+        for k in 0..4 {
+            let common = self.words[k] & other.words[k];
+            if common != 0 {
+                return Some(64 * k + common.trailing_zeros() as usize);
+            }
+        }
+        None
+    }
+
+    /// Whether the set has no place.
+    pub fn is_empty(&self) -> bool
+        ensures empty { result ≡ true → (e : ℕ) → bit_in self.now e ≢ 1 }
+        ensures some { result ≡ false → (e : ℕ) × (bit_in self.now e ≡ 1) }
+    {
+        self.first_common(self).is_none()
+    }
+
+    /// Whether the sets have a place in common.
+    pub fn meets(&self, other: &Bits) -> bool
+        ensures { IsTrue result ↔ ((e : ℕ) × (bit_in self.now e ≡ 1) × (bit_in other.now e ≡ 1)) }
+    {
+        self.first_common(other).is_some()
+    }
+}

@@ -1,0 +1,103 @@
+// The exchange graph as one value: bases of q times some terms, and all that is read off them (Fujishige, Submodular
+// Functions and Optimization, section 4: auxiliary networks). Each term has a note beside its base, and for each of its
+// places a row of the ground places to which that has room. The incidence of a place of the ground is its list of spots, its
+// adjacency the union of the rows of these, and the same is kept turned round, for searches backwards. That all of this is
+// so is one fact, `IsGraph`, which each call over a graph asks for and gives back.
+ghost use Rattle.std.specs.Prelude.{◌≡◌, ℤ, map, OnOk, IfOk};
+ghost use Rattle.std.specs.List.{All};
+ghost use Rattle.sfm_spec.specs.Bounds.{AreBounded, IsEntry, IsFactor};
+ghost use Rattle.sfm_spec.specs.Families.{meanings, AreBases};
+ghost use Rattle.sfm_exchange.specs.Graph.{IsGraph};
+
+use crate::asking::ask_all;
+use crate::bits::Bits;
+use crate::reach::{BitRows, blank_rows, notes_of};
+use crate::spots::{Spots, spots_of};
+use crate::turned::turned_of;
+use crate::unions::unions_of;
+use sfm_base::{Memory, Rows};
+use sfm_law::Term;
+use std::alloc::Global;
+
+/// The exchange graph of q times some terms at bases of theirs. Its vertices are the places of the ground, and an arc leads
+/// from one place to another where a term has room for the exchange that raises the one and lowers the other.
+#[derive(Drop)]
+pub struct Graph<N> {
+    /// The bases, one for each term.
+    pub bases: Rows,
+    /// Incidence: for each place of the ground its terms.
+    pub spots: Vec<Spots>,
+    /// What the kind of each term keeps beside its base.
+    pub notes: Vec<N>,
+    /// For each place of each term the ground places to which it has room.
+    pub rows: Vec<BitRows>,
+    /// Adjacency: for each place of the ground the places that arcs lead to.
+    pub unions: Vec<Bits>,
+    /// The same turned round: the places that arcs come from.
+    pub back: Vec<Bits>,
+}
+
+/// The exchange graph of q times the terms at bases of theirs, over a ground of n places.
+///
+/// # Errors
+///
+/// `Memory` where there is none.
+pub fn graph_at<T: Term>(
+    alloc: Global,
+    terms: &[T],
+    n: usize,
+    q: i128,
+    bases: Rows,
+) -> Result<Graph<T::Note>, Memory>
+    requires bounded { AreBounded n (map T.places terms.now) (map T.size_of terms.now) }
+    requires factor { IsFactor q }
+    requires bases { AreBases q (meanings T.places T.value_of terms.now) bases }
+    requires small { All (λ x. All IsEntry x) bases }
+    ensures graph { IfOk result (IsGraph T.places T.value_of T.fits terms.now n q) }
+    ensures bases { IfOk result (λ r. r.bases ≡ bases) }
+{
+    let spots = spots_of(alloc, terms, n)?;
+    let mut rows = blank_rows(alloc, terms)?;
+    let notes = notes_of(alloc, terms, q, &bases)?;
+    ask_all(alloc, terms, q, &bases, &notes, &mut rows)?;
+    let unions = unions_of(alloc, &spots, &rows)?;
+    let back = turned_of(alloc, &unions)?;
+    Ok(Graph {
+        bases,
+        spots,
+        notes,
+        rows,
+        unions,
+        back,
+    })
+}
+
+/// Makes the graph one of the same terms at other bases, and maybe at another factor. Its lists are used again. After want
+/// of memory nothing is said of the graph.
+///
+/// # Errors
+///
+/// `Memory` where there is none.
+pub fn restart<T: Term>(
+    alloc: Global,
+    graph: &mut Graph<T::Note>,
+    terms: &[T],
+    n: usize,
+    q: i128,
+    bases: Rows,
+) -> Result<(), Memory>
+    requires bounded { AreBounded n (map T.places terms.now) (map T.size_of terms.now) }
+    requires factor { IsFactor q }
+    requires graph { (q0 : ℤ) × IsGraph T.places T.value_of T.fits terms.now n q0 graph.old }
+    requires bases { AreBases q (meanings T.places T.value_of terms.now) bases }
+    requires small { All (λ x. All IsEntry x) bases }
+    ensures graph { OnOk result (IsGraph T.places T.value_of T.fits terms.now n q graph.new) }
+    ensures bases { OnOk result (graph.new.bases ≡ bases) }
+{
+    graph.notes = notes_of(alloc, terms, q, &bases)?;
+    ask_all(alloc, terms, q, &bases, &graph.notes, &mut graph.rows)?;
+    graph.bases = bases;
+    graph.unions = unions_of(alloc, &graph.spots, &graph.rows)?;
+    graph.back = turned_of(alloc, &graph.unions)?;
+    Ok(())
+}

@@ -1,0 +1,146 @@
+// The move along a walk: the greatest amount that the walk's steps and its ends allow, and its exchanges from the last step to
+// the first, each at the base that the exchanges behind it have left. What the graph keeps is brought up with each exchange,
+// so the graph is exact at every step.
+ghost use Rattle.std.specs.Prelude.{◌≡◌, ◌≢◌, ◌*◌, ◌^◌, ◌<◌, ◌≤◌, ℕ, ℤ, map, pos, ◌≤ℤ◌, length, slice_set, OnOk, IfOk};
+ghost use Rattle.std.specs.List.{All};
+ghost use Rattle.sfm_spec.specs.Bounds.{IsAtMost, IsEntry};
+ghost use Rattle.sfm_spec.specs.Terms.{times, exchanged};
+ghost use Rattle.sfm_spec.specs.Families.{meanings};
+ghost use Rattle.sfm_spec.specs.Labels.{FallsAlong};
+ghost use Rattle.sfm_spec.specs.Walks.{IsWalkMove, row_at, term_at};
+ghost use Rattle.sfm_law.specs.Room.{AtMostRoom, IsRoom};
+ghost use Rattle.sfm_exchange.specs.Graph.{IsWhole};
+ghost use Rattle.sfm_exchange.specs.Hops.{CanExchange, IsMovable, Moves, AreNamed, AreInOrder, hop_at, steps_of};
+
+use crate::graph::Graph;
+use crate::path::{Hop, Path};
+use crate::reach::Based;
+use crate::renewing::renew_rows;
+use crate::unions::renew;
+use sfm_base::Memory;
+use sfm_law::{Room, Term, exchange};
+use std::alloc::Global;
+
+/// The greatest amount up to a given one that each step can move.
+pub fn amount_of<T: Term>(
+    alloc: Global,
+    graph: &mut Graph<T::Note>,
+    terms: &[T],
+    q: i128,
+    hops: &[Hop],
+    most: i128,
+) -> Result<i128, Memory>
+    requires graph { IsWhole T.places T.value_of T.size_of T.fits terms.now (length graph.old.spots.items) q graph.old }
+    requires small { All (λ x. All IsEntry x) graph.old.bases }
+    requires movable { (k : ℕ) → k < length hops.now → IsMovable (meanings T.places T.value_of terms.now) q graph.old.bases (hop_at hops.now k) }
+    requires most { pos 1 ≤ℤ most }
+    ensures graph { OnOk result (IsWhole T.places T.value_of T.size_of T.fits terms.now (length graph.old.spots.items) q graph.new) }
+    ensures bases { OnOk result (graph.new.bases ≡ graph.old.bases) }
+    ensures some { IfOk result (λ a. pos 1 ≤ℤ a) }
+    ensures within { IfOk result (λ a. a ≤ℤ most) }
+    ensures moves { IfOk result (λ a. (k : ℕ) → k < length hops.now → Moves (meanings T.places T.value_of terms.now) q graph.old.bases (hop_at hops.now k) a) }
+    ensures greatest { IfOk result (λ a. (b : ℤ) → b ≤ℤ most → ((k : ℕ) → k < length hops.now → Moves (meanings T.places T.value_of terms.now) q graph.old.bases (hop_at hops.now k) b) → b ≤ℤ a) }
+{
+    let mut a = most;
+    for hop in hops {
+        let room = room_of(alloc, graph, terms, q, *hop)?;
+        a = within(a, room);
+    }
+    Ok(a)
+}
+
+// The room of a step.
+fn room_of<T: Term>(
+    alloc: Global,
+    graph: &mut Graph<T::Note>,
+    terms: &[T],
+    q: i128,
+    hop: Hop,
+) -> Result<Room, Memory>
+    requires graph { IsWhole T.places T.value_of T.size_of T.fits terms.now (length graph.old.spots.items) q graph.old }
+    requires small { All (λ x. All IsEntry x) graph.old.bases }
+    requires movable { IsMovable (meanings T.places T.value_of terms.now) q graph.old.bases hop }
+    ensures graph { OnOk result (IsWhole T.places T.value_of T.size_of T.fits terms.now (length graph.old.spots.items) q graph.new) }
+    ensures bases { OnOk result (graph.new.bases ≡ graph.old.bases) }
+    ensures room { IfOk result (IsRoom (times q (term_at (meanings T.places T.value_of terms.now) hop.term).value) (row_at graph.old.bases hop.term) hop.u hop.v) }
+{
+    let i = hop.term;
+    let note = &mut graph.notes[i];
+    let room = terms[i].room_by(alloc, q, graph.bases.row(i), note, hop.u, hop.v)?;
+    Ok(room)
+}
+
+// An amount, no more than the room.
+fn within(a: i128, room: Room) -> i128
+    ensures low { result ≤ℤ a }
+    ensures room { AtMostRoom result room }
+    ensures greatest { (b : ℤ) → b ≤ℤ a → AtMostRoom b room → b ≤ℤ result }
+{
+    match room {
+        Room::Upto(b) => a.min(b),
+        Room::Unbounded => a,
+    }
+}
+
+// One exchange of a term, and all that is kept with it.
+fn exchange_at<T: Term>(
+    alloc: Global,
+    graph: &mut Graph<T::Note>,
+    terms: &[T],
+    q: i128,
+    hop: Hop,
+    a: i128,
+) -> Result<(), Memory>
+    requires graph { IsWhole T.places T.value_of T.size_of T.fits terms.now (length graph.old.spots.items) q graph.old }
+    requires inside { hop.term < length terms.now }
+    requires can { CanExchange (meanings T.places T.value_of terms.now) q graph.old.bases hop a }
+    requires low { pos 1 ≤ℤ a }
+    requires high { a ≤ℤ pos (10 ^ 30) }
+    ensures moved { OnOk result (graph.new.bases ≡ slice_set graph.old.bases hop.term (exchanged (row_at graph.old.bases hop.term) hop.u hop.v a)) }
+    ensures graph { OnOk result (IsWhole T.places T.value_of T.size_of T.fits terms.now (length graph.old.spots.items) q graph.new) }
+{
+    let i = hop.term;
+    let term = &terms[i];
+    let note = &mut graph.notes[i];
+    let x = graph.bases.row_mut(i);
+    term.moved(alloc, q, x, note, hop.u, hop.v, a)?;
+    exchange(term, q, x, hop.u, hop.v, a);
+    let at = Based { term, q, x };
+    let rows = &mut graph.rows[i];
+    let changed = renew_rows(alloc, &at, note, hop.u, hop.v, rows)?;
+    renew(
+        &graph.spots,
+        &graph.rows,
+        &changed,
+        &mut graph.unions,
+        &mut graph.back,
+    );
+    Ok(())
+}
+
+/// The exchanges of a walk, from its last step to its first.
+pub fn move_along<T: Term>(
+    alloc: Global,
+    graph: &mut Graph<T::Note>,
+    terms: &[T],
+    q: i128,
+    path: &Path,
+    a: i128,
+) -> Result<(), Memory>
+    requires graph { IsWhole T.places T.value_of T.size_of T.fits terms.now (length graph.old.spots.items) q graph.old }
+    requires small { All (λ x. All (IsAtMost (5 * 10 ^ 29)) x) graph.old.bases }
+    requires low { pos 1 ≤ℤ a }
+    requires high { a ≤ℤ pos (5 * 10 ^ 29) }
+    requires named { AreNamed (meanings T.places T.value_of terms.now) path.now.first path.now.hops.items }
+    requires order { AreInOrder (meanings T.places T.value_of terms.now) q graph.old.bases path.now.first (steps_of path.now.hops.items) a }
+    requires falls { (d : ℕ → ℕ) × FallsAlong d path.now.first (steps_of path.now.hops.items) }
+    ensures graph { OnOk result (IsWhole T.places T.value_of T.size_of T.fits terms.now (length graph.old.spots.items) q graph.new) }
+    ensures moved { OnOk result (IsWalkMove (meanings T.places T.value_of terms.now) graph.old.bases path.now.first (steps_of path.now.hops.items) a graph.new.bases) }
+{
+    let mut k = path.hops.len();
+    while k > 0 {
+        k -= 1;
+        exchange_at(alloc, graph, terms, q, path.hops[k], a)?;
+    }
+    Ok(())
+}

@@ -1,0 +1,172 @@
+// What each place of each term reaches at its base, kept as sets of ground places: one row for each place of the term.
+// Only the terms whose base has changed are asked again.
+ghost use Rattle.std.specs.Prelude.{◌≡◌, ◌<◌, List, length, map, IfOk, OnOk, slice_set};
+ghost use Rattle.sfm_spec.specs.Sets.{IsPlaced};
+ghost use Rattle.sfm_spec.specs.Rows.{Depends};
+ghost use Rattle.sfm_spec.specs.Terms.{times};
+ghost use Rattle.sfm_exchange.specs.Based.{AreBased, IsBased};
+ghost use Rattle.sfm_exchange.specs.Bits.{HasPlaces};
+ghost use Rattle.sfm_exchange.specs.Reach.{IsReachTable, IsRow, AreNotes, AreSized};
+
+use crate::bits::{Bits, no_bits};
+use sfm_base::{Memory, Rows, Set};
+use sfm_law::Term;
+use std::alloc::Global;
+use std::marker::Model;
+
+/// A term, and a base of q times it.
+#[derive(Drop)]
+pub struct Based<'a, T> {
+    pub term: &'a T,
+    pub q: i128,
+    pub x: &'a [i128],
+}
+
+/// The rows of one term, seen as a list of sets, with a set for the parts that the term tells.
+#[derive(Drop)]
+pub struct BitRows {
+    rows: Vec<Bits>,
+    part: Set,
+}
+
+impl Model for BitRows {
+    ghost use Rattle.std.specs.Prelude.{◌≡◌, List, length};
+    ghost use Rattle.sfm_exchange.specs.declared.bits.Bits.{Bits};
+
+    ghost Value = { List Bits };
+
+    ghost view = { λ s. s.rows.items };
+
+    ghost invariant = { λ s. length s.part ≡ length s.rows.items };
+}
+
+impl BitRows {
+    // Rows with no place.
+    fn blank(alloc: Global, len: usize) -> Result<BitRows, Memory>
+        ensures { IfOk result (λ r. length r ≡ len) }
+    {
+        let rows = vec![in alloc; no_bits(); len]?;
+        let part = Set::empty(alloc, len)?;
+        Ok(BitRows { rows, part })
+    }
+
+    pub fn set(&mut self, u: usize, row: Bits)
+        requires { u < length self.old }
+        ensures { self.new ≡ slice_set self.old u row }
+    {
+        self.rows[u] = row;
+    }
+
+    pub fn as_slice(&self) -> &[Bits]
+        ensures { result.now ≡ self.now }
+    {
+        self.rows.as_slice()
+    }
+}
+
+// The ground places of a part of a term.
+pub fn placed_bits(places: &[usize], part: &Set) -> Bits
+    requires placed { IsPlaced 256 places.now }
+    requires part { length part.now ≡ length places.now }
+    ensures { HasPlaces places.now part.now (length places.now) result }
+{
+    let mut bits = no_bits();
+    for (v, place) in places.iter().enumerate() {
+        if part.contains(v) {
+            bits.insert(*place);
+        }
+    }
+    bits
+}
+
+// The row of the place u.
+fn row_by<T: Term>(
+    alloc: Global,
+    at: &Based<'_, T>,
+    note: &T::Note,
+    u: usize,
+    rows: &mut BitRows,
+) -> Result<Bits, Memory>
+    requires based { IsBased T.places T.value_of T.size_of at.now.term.now at.now.q at.now.x.now }
+    requires noted { T.fits at.now.term.now note.now at.now.q at.now.x.now }
+    requires from { u < length at.now.x.now }
+    requires rows { length rows.old ≡ length at.now.x.now }
+    ensures same { rows.new ≡ rows.old }
+    ensures row { IfOk result (IsRow (T.places at.now.term.now) (times at.now.q (T.value_of at.now.term.now)) at.now.x.now u) }
+{
+    at.term
+        .reach_by(alloc, at.q, at.x, note, u, &mut rows.part)?;
+    Ok(placed_bits(at.term.elements(), &rows.part))
+}
+
+/// The row of the place u, which is s or has room to it.
+pub fn row_with<T: Term>(
+    alloc: Global,
+    at: &Based<'_, T>,
+    note: &T::Note,
+    s: usize,
+    u: usize,
+    rows: &mut BitRows,
+) -> Result<Bits, Memory>
+    requires based { IsBased T.places T.value_of T.size_of at.now.term.now at.now.q at.now.x.now }
+    requires noted { T.fits at.now.term.now note.now at.now.q at.now.x.now }
+    requires onto { s < length at.now.x.now }
+    requires from { u < length at.now.x.now }
+    requires leads { Depends (times at.now.q (T.value_of at.now.term.now)) at.now.x.now u s }
+    requires rows { length rows.old ≡ length at.now.x.now }
+    ensures same { rows.new ≡ rows.old }
+    ensures row { IfOk result (IsRow (T.places at.now.term.now) (times at.now.q (T.value_of at.now.term.now)) at.now.x.now u) }
+{
+    at.term
+        .reach_with(alloc, at.q, at.x, note, s, u, &mut rows.part)?;
+    Ok(placed_bits(at.term.elements(), &rows.part))
+}
+
+/// Asks for each row of a term at its base.
+pub fn ask<T: Term>(
+    alloc: Global,
+    at: &Based<'_, T>,
+    note: &T::Note,
+    rows: &mut BitRows,
+) -> Result<(), Memory>
+    requires based { IsBased T.places T.value_of T.size_of at.now.term.now at.now.q at.now.x.now }
+    requires noted { T.fits at.now.term.now note.now at.now.q at.now.x.now }
+    requires rows { length rows.old ≡ length at.now.x.now }
+    ensures rows { length rows.new ≡ length rows.old }
+    ensures asked { OnOk result (IsReachTable (T.places at.now.term.now) (times at.now.q (T.value_of at.now.term.now)) at.now.x.now (length (T.places at.now.term.now)) rows.new) }
+{
+    for u in 0..at.x.len() {
+        let row = row_by(alloc, at, note, u, rows)?;
+        rows.set(u, row);
+    }
+    Ok(())
+}
+
+/// The notes of all bases.
+pub fn notes_of<T: Term>(
+    alloc: Global,
+    terms: &[T],
+    q: i128,
+    bases: &Rows,
+) -> Result<Vec<T::Note>, Memory>
+    requires { AreBased T.places T.value_of T.size_of terms.now q bases.now }
+    ensures count { IfOk result (λ r. length r.items ≡ length terms.now) }
+    ensures fit { IfOk result (λ r. AreNotes T.fits q terms.now r.items bases.now) }
+{
+    let mut notes = Vec::new(alloc);
+    for (i, term) in terms.iter().enumerate() {
+        notes.push(term.note(alloc, q, bases.row(i))?)?;
+    }
+    Ok(notes)
+}
+
+/// Rows for each term, none of them asked.
+pub fn blank_rows<T: Term>(alloc: Global, terms: &[T]) -> Result<Vec<BitRows>, Memory>
+    ensures { IfOk result (λ r. AreSized (map T.places terms.now) r.items) }
+{
+    let mut rows = Vec::new(alloc);
+    for term in terms {
+        rows.push(BitRows::blank(alloc, term.elements().len())?)?;
+    }
+    Ok(rows)
+}

@@ -1,0 +1,134 @@
+// The rows of one term after an exchange that raises s and lowers t at its base. A place depends on what the least tight set
+// with it has (Fujishige, Submodular Functions and Optimization, section 2). Only places that depended on t have other rows
+// afterwards, and each of them depends on s then. Where s still depends on t, no set has become tight, so each such row is
+// joined with that of s; else the exchange has used up its room, and the term is asked for these rows.
+ghost use Rattle.std.specs.Prelude.{◌≡◌, ◌≢◌, ◌↔◌, ◌⊎◌, IsTrue, ◌<◌, ℕ, List, ℤ, length, IfOk, OnOk, slice_index_or};
+ghost use Rattle.sfm_spec.specs.Sets.{IsPlaced};
+ghost use Rattle.sfm_spec.specs.Rows.{Depends};
+ghost use Rattle.sfm_spec.specs.Terms.{times};
+ghost use Rattle.sfm_exchange.specs.Based.{IsBased};
+ghost use Rattle.sfm_exchange.specs.Bits.{bit_in, set_at};
+ghost use Rattle.sfm_exchange.specs.Reach.{IsReachTable};
+ghost use Rattle.sfm_exchange.specs.Renewed.{AreAsked, AreDepending, AreJoined, IsExchanged, IsJoined};
+
+use crate::bits::{Bits, no_bits};
+use crate::reach::{Based, BitRows, row_with};
+use sfm_base::Memory;
+use sfm_law::Term;
+use std::alloc::Global;
+
+// Whether the place u of a row is t, or the row has the ground place of t.
+fn has_place(row: &Bits, u: usize, t: usize, to: usize) -> bool
+    requires { to < 256 }
+    ensures { IsTrue result ↔ ((u ≡ t) ⊎ (bit_in row.now to ≡ 1)) }
+{
+    u == t || row.contains(to)
+}
+
+// The ground places of t and of the places whose rows have it.
+fn depending(places: &[usize], rows: &[Bits], t: usize) -> Bits
+    requires placed { IsPlaced 256 places.now }
+    requires rows { length rows.now ≡ length places.now }
+    requires lowered { t < length places.now }
+    ensures { AreDepending places.now rows.now t (length places.now) result }
+{
+    let to = places[t];
+    let mut found = no_bits();
+    for (u, place) in places.iter().enumerate() {
+        if has_place(&rows[u], u, t, to) {
+            found.insert(*place);
+        }
+    }
+    found
+}
+
+// The places of two rows, with one place put in and one taken out.
+fn joined(row: &Bits, more: &Bits, to: usize, out: usize) -> Bits
+    requires to { to < 256 }
+    requires out { out < 256 }
+    ensures { IsJoined row.now more.now to out result }
+{
+    let mut all = *row;
+    all.union_with(more);
+    all.insert(to);
+    all.remove(out);
+    all
+}
+
+// Joins the rows of some places with one row and with the place of that.
+fn join_rows(places: &[usize], changed: &Bits, more: &Bits, to: usize, rows: &mut BitRows)
+    requires placed { IsPlaced 256 places.now }
+    requires rows { length rows.old ≡ length places.now }
+    requires to { to < 256 }
+    ensures { AreJoined places.now changed.now more.now to (length places.now) rows.old rows.new }
+{
+    for (u, place) in places.iter().enumerate() {
+        if changed.contains(*place) {
+            let row = joined(&rows.as_slice()[u], more, to, *place);
+            rows.set(u, row);
+        }
+    }
+}
+
+// Asks for the rows of some places, each of which has room to s.
+fn ask_rows<T: Term>(
+    alloc: Global,
+    at: &Based<'_, T>,
+    note: &T::Note,
+    s: usize,
+    changed: &Bits,
+    rows: &mut BitRows,
+) -> Result<(), Memory>
+    requires based { IsBased T.places T.value_of T.size_of at.now.term.now at.now.q at.now.x.now }
+    requires noted { T.fits at.now.term.now note.now at.now.q at.now.x.now }
+    requires onto { s < length at.now.x.now }
+    requires leads { (u : ℕ) → u < length at.now.x.now → bit_in changed.now (slice_index_or (T.places at.now.term.now) u 0) ≡ 1 → Depends (times at.now.q (T.value_of at.now.term.now)) at.now.x.now u s }
+    requires rows { length rows.old ≡ length at.now.x.now }
+    ensures { OnOk result (AreAsked (T.places at.now.term.now) (times at.now.q (T.value_of at.now.term.now)) at.now.x.now changed.now (length (T.places at.now.term.now)) rows.old rows.new) }
+{
+    let places = at.term.elements();
+    for u in 0..places.len() {
+        if changed.contains(places[u]) {
+            let row = row_with(alloc, at, note, s, u, rows)?;
+            rows.set(u, row);
+        }
+    }
+    Ok(())
+}
+
+/// Brings the rows of a term up to the base that came by raising s and lowering t, and gives the ground places whose rows
+/// may have changed.
+pub fn renew_rows<T: Term>(
+    alloc: Global,
+    at: &Based<'_, T>,
+    note: &T::Note,
+    s: usize,
+    t: usize,
+    rows: &mut BitRows,
+) -> Result<Bits, Memory>
+    requires based { IsBased T.places T.value_of T.size_of at.now.term.now at.now.q at.now.x.now }
+    requires noted { T.fits at.now.term.now note.now at.now.q at.now.x.now }
+    requires apart { s ≢ t }
+    requires raised { s < length at.now.x.now }
+    requires lowered { t < length at.now.x.now }
+    requires rows { length rows.old ≡ length at.now.x.now }
+    requires before { (before : List ℤ) × IsExchanged (times at.now.q (T.value_of at.now.term.now)) before at.now.x.now s t
+        × IsReachTable (T.places at.now.term.now) (times at.now.q (T.value_of at.now.term.now)) before (length (T.places at.now.term.now)) rows.old }
+    ensures rows { OnOk result (length rows.new ≡ length rows.old) }
+    ensures exact { OnOk result (IsReachTable (T.places at.now.term.now) (times at.now.q (T.value_of at.now.term.now)) at.now.x.now (length (T.places at.now.term.now)) rows.new) }
+    ensures inside { IfOk result (λ r. (e : ℕ) → bit_in r e ≡ 1 → (u : ℕ) × (u < length (T.places at.now.term.now)) × (slice_index_or (T.places at.now.term.now) u 0 ≡ e)) }
+    ensures others { IfOk result (λ r. (u : ℕ) → u < length (T.places at.now.term.now) → bit_in r (slice_index_or (T.places at.now.term.now) u 0) ≢ 1 → set_at rows.new u ≡ set_at rows.old u) }
+{
+    let places = at.term.elements();
+    let changed = depending(places, rows.as_slice(), t);
+    let of_s = row_with(alloc, at, note, s, s, rows)?;
+    if of_s.contains(places[t]) {
+        join_rows(places, &changed, &of_s, places[s], rows);
+        return Ok(changed);
+    }
+    rows.set(s, of_s);
+    let mut others = changed;
+    others.remove(places[s]);
+    ask_rows(alloc, at, note, s, &others, rows)?;
+    Ok(changed)
+}

@@ -1,0 +1,64 @@
+// One row for each place of the ground: all places that a step by any term leads to from there.
+ghost use Rattle.std.specs.Prelude.{◌≡◌, ◌<◌, ◌≤◌, ℕ, length, IfOk};
+ghost use Rattle.sfm_exchange.specs.Bits.{bit_in};
+ghost use Rattle.sfm_exchange.specs.Turned.{AreTurned};
+ghost use Rattle.sfm_exchange.specs.Unions.{IsUnion, AreRenewed, AreUnions, HasRows, HaveRows};
+
+use crate::bits::{Bits, no_bits};
+use crate::reach::BitRows;
+use crate::spots::{Spot, Spots};
+use crate::turned::turn;
+use sfm_base::Memory;
+use std::alloc::Global;
+
+// The union of the rows of the spots of one place.
+fn union_at(spots: &[Spot], rows: &[BitRows]) -> Bits
+    requires { HasRows rows.now spots.now }
+    ensures { IsUnion rows.now spots.now (length spots.now) result }
+{
+    let mut union = no_bits();
+    for spot in spots {
+        let row = &rows[spot.term];
+        union.union_with(&row.as_slice()[spot.local]);
+    }
+    union
+}
+
+/// The union rows of all places.
+pub fn unions_of(alloc: Global, spots: &[Spots], rows: &[BitRows]) -> Result<Vec<Bits>, Memory>
+    requires { HaveRows rows.now spots.now }
+    ensures { IfOk result (λ r. AreUnions rows.now spots.now r.items) }
+{
+    let mut unions = Vec::new(alloc);
+    for e in 0..spots.len() {
+        let at = &spots[e];
+        unions.push(union_at(at.as_slice(), rows))?;
+    }
+    Ok(unions)
+}
+
+/// Brings the union rows of some places up to the rows, and the same rows turned round.
+pub fn renew(
+    spots: &[Spots],
+    rows: &[BitRows],
+    places: &Bits,
+    unions: &mut Vec<Bits>,
+    back: &mut Vec<Bits>,
+)
+    requires rows { HaveRows rows.now spots.now }
+    requires few { length spots.now ≤ 256 }
+    requires count { length unions.old.items ≡ length spots.now }
+    requires turned { AreTurned unions.old.items back.old.items }
+    requires placed { (e : ℕ) → bit_in places.now e ≡ 1 → e < length spots.now }
+    ensures renewed { AreRenewed rows.now spots.now places.now unions.old.items unions.new.items }
+    ensures turned { AreTurned unions.new.items back.new.items }
+{
+    let mut ahead = *places;
+    while let Some(e) = ahead.first() {
+        ahead.remove(e);
+        let at = &spots[e];
+        let row = union_at(at.as_slice(), rows);
+        turn(back, e, &unions[e], &row);
+        unions[e] = row;
+    }
+}

@@ -1,6 +1,0 @@
--- the ground places of the part so far
-use Rattle.sfm_walk.specs.Bits.{HasPlaces}
-use Rattle.sfm_walk.proofs.reach.placed_bits.Given as goal
-
-abbrev pub invariant-loop-v : goal.invariant-loop-v
-invariant-loop-v l = HasPlaces l.places l.part l.v l.bits

@@ -1,6 +1,0 @@
--- the places so far
-use Rattle.sfm_walk.specs.Renewed.{AreDepending}
-use Rattle.sfm_walk.proofs.renewing.depending.Given as goal
-
-abbrev pub invariant-loop-u : goal.invariant-loop-u
-invariant-loop-u l = AreDepending l.places l.rows l.t l.u l.found

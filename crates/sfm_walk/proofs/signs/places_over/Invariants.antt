@@ -1,7 +1,0 @@
--- the places so far
-use Rattle.std.proofs.Common.{◌≡◌, ◌↔◌, ℕ, ◌<◌, get_or, pos, ◌<ℤ◌}
-use Rattle.sfm_walk.specs.Bits.{bit_in}
-use Rattle.sfm_walk.proofs.signs.places_over.Given as goal
-
-abbrev pub invariant-loop-e : goal.invariant-loop-e
-invariant-loop-e l = (e : ℕ) → (bit_in l.over e ≡ 1) ↔ ((e < l.e) × (pos 0 <ℤ get_or l.z e (pos 0)))
