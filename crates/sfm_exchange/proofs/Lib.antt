@@ -14,3 +14,5 @@ pub mod Searching
 pub mod Signing
 pub mod RowsAfter
 pub mod WholeGraphs
+pub mod Joining
+pub mod Minimisers

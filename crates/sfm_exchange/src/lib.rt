@@ -18,8 +18,8 @@ mod spots;
 mod turned;
 mod unions;
 
-pub use bits::Bits;
-pub use graph::{Graph, graph_at, restart};
+pub use bits::{Bits, no_bits};
+pub use graph::{Graph, copy_rows, graph_at, restart};
 pub use levels::find_levels;
 pub use moving::{amount_of, move_along};
 pub use path::{Hop, Path, follow};

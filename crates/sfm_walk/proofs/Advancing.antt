@@ -146,31 +146,3 @@ pub entries_spread : (rows after : List (List ℤ)) (b d : ℤ) → All (λ x. A
 entries_spread rows after b d h le = All-from_get_or (λ x. All IsEntry x) after [] (λ i li. All-from_get_or IsEntry (row_at after i) (pos 0) (λ j lj.
     let o : IsUpTo (b +ℤ d) (get_or (row_at after i) j (pos 0)) = All-get_or (IsUpTo (b +ℤ d)) (row_at after i) j (pos 0) lj (All-get_or (λ x. All (IsUpTo (b +ℤ d)) x) after i [] li h) in
     record { low = omega (arith, ints, o.low, le); high = omega (arith, ints, o.high, le) }))
-
--- where the levels are closed no walk joins
-pub none_joins : (terms : List Meaning) (rows : List (List ℤ)) (n : ℕ) (q : ℤ) (shift z : List ℤ) → pos 0 ≤ℤ q → AreTerms n terms → AreBases q terms rows → length z ≡ n → IsRest terms shift rows z → (unions : List Bits) → AreLinks terms n q rows unions
-    → (levels : List Bits) → AreClosed n unions z levels → (first : ℕ) (steps : List Step) → Joins terms q shift rows first steps → ⊥
-none_joins terms rows n q shift z low fit bases zn rest unions links levels closed first steps joins =
-    let (k, lk, bit) = back first steps fin joins.walk.steps_fit top in
-    closed.above k first lk bit under where
-      fin : first < n
-      fin = first_below terms rows n q low fit bases first steps joins.walk
-
-      under : get_or z first (pos 0) <ℤ pos 0
-      under = let b = joins.below in rw (rest.exact first (rw zn fin)) b
-
-      ends_below : (from : ℕ) (other : List Step) → from < n → AreSteps terms q rows from other → last_of from other < n
-      ends_below from [] l h = l
-      ends_below from (s ∷ ss) l h = ends_below s.to ss (step_below terms rows n q low fit bases from s h.0) h.1
-
-      top : (k : ℕ) × (k < length levels) × (bit_in (set_at levels k) (last_of first steps) ≡ 1)
-      top =
-          let l = ends_below first steps fin joins.walk.steps_fit in
-          let o = joins.above in
-          (0, closed.levelled.some, (closed.levelled.over (last_of first steps)).1 (l, rw (rest.exact (last_of first steps) (rw zn l)) o))
-
-      back : (from : ℕ) (other : List Step) → from < n → AreSteps terms q rows from other → (k : ℕ) × (k < length levels) × (bit_in (set_at levels k) (last_of from other) ≡ 1) → (k : ℕ) × (k < length levels) × (bit_in (set_at levels k) from ≡ 1)
-      back from [] l h at = at
-      back from (s ∷ ss) l h at =
-          let (k, lk, bit) = back s.to ss (step_below terms rows n q low fit bases from s h.0) h.1 at in
-          closed.closed k from lk l (s.to, (links from s.to l).1 (s.term, h.0), bit)

@@ -10,21 +10,16 @@ use Rattle.sfm_spec.specs.Progress.{IsProgress}
 use Rattle.sfm_spec.specs.Walks.{Step, Joins, row_at}
 use Rattle.sfm_spec.proofs.Gain.{moves_along}
 use Rattle.sfm_spec.proofs.Moves.{deficit_not_above}
-use Rattle.sfm_spec.proofs.Proving.{prove_if_none}
 use Rattle.sfm_exchange.specs.declared.bits.Bits.{Bits}
 use Rattle.sfm_exchange.specs.declared.graph.Graph.{Graph}
 use Rattle.sfm_walk.specs.declared.run.Run.{Run}
-use Rattle.sfm_exchange.specs.Bits.{bit_in, set_at}
 use Rattle.sfm_exchange.specs.Graph.{IsWhole}
 use Rattle.sfm_exchange.specs.Levels.{AreClosed}
 use Rattle.sfm_exchange.specs.Reached.{AreReached, IsSetOf}
 use Rattle.sfm_walk.specs.Run.{IsRunAt, IsUpTo}
-use Rattle.sfm_exchange.specs.Unions.{AreLinks}
-use Rattle.sfm_walk.proofs.Advancing.{none_joins}
+use Rattle.sfm_exchange.proofs.Minimisers.{least, none, proves}
+use Rattle.sfm_exchange.proofs.WholeGraphs.{are_terms, low}
 use Rattle.sfm_walk.proofs.Gaps.{abs_falls}
-use Rattle.sfm_walk.proofs.Least.{least_is, link_below}
-use Rattle.sfm_exchange.proofs.Uniting.{links_of}
-use Rattle.sfm_exchange.proofs.WholeGraphs.{are_terms, counted, low, unions_count}
 
 -- the graph is whole, z and its signs are those of its bases, the sum of min(z, 0) is not below that at first, and no entry
 -- has changed by more than it has risen
@@ -88,26 +83,14 @@ module _ {X N : Type 0} {places : X → List ℕ} {value : X → SetFunction} {s
 
     -- where the levels are closed
     module _ (levels : List Bits) (closed' : AreClosed (length run.z.items) graph.unions.items run.z.items levels) where
-      zn : length run.z.items ≡ length shift
-      zn = h.at.is_rest.places
-
       closed : AreClosed (length shift) graph.unions.items run.z.items levels
-      closed = subst (λ k. AreClosed k graph.unions.items run.z.items levels) zn closed'
+      closed = subst (λ k. AreClosed k graph.unions.items run.z.items levels) h.at.is_rest.places closed'
 
-      links : AreLinks (meanings places value terms) (length shift) q graph.bases graph.unions.items
-      links = links_of (meanings places value terms) (length shift) q graph.bases graph.spots.items graph.rows.items graph.unions.items h.whole.exact.are_spots h.whole.exact.are_unions (λ i l. h.whole.exact.tables i (rw (counted h.whole) at l))
+      pub no_walk : (first : ℕ) (steps : List Step) → Joins (meanings places value terms) q shift graph.bases first steps → ⊥
+      no_walk = none h.whole family law h.at.is_rest.places h.at.is_rest h.at.signs levels closed
 
-      pub none : (first : ℕ) (steps : List Step) → Joins (meanings places value terms) q shift graph.bases first steps → ⊥
-      none = none_joins (meanings places value terms) graph.bases (length shift) q shift run.z.items (low h.whole) fit h.whole.exact.are_bases zn h.at.is_rest graph.unions.items links levels closed
+      pub minimum : Prove (meanings places value terms) (length shift) q shift graph.bases
+      minimum = proves h.whole family law h.at.is_rest.places h.at.is_rest h.at.signs no_walk
 
-      pub proves : Prove (meanings places value terms) (length shift) q shift graph.bases
-      proves = prove_if_none (meanings places value terms) graph.bases (length shift) q shift (low h.whole) fit h.whole.exact.are_bases none
-
-      pub link_in : (e t : ℕ) → e < length graph.unions.items → bit_in (set_at graph.unions.items e) t ≡ 1 → t < length graph.unions.items
-      link_in e t l bit = rw (unions_count h.whole) (link_below (meanings places value terms) graph.bases (length shift) q shift run.z.items (low h.whole) fit h.whole.exact.are_bases zn h.at.is_rest graph.unions.items links e t (rw (unions_count h.whole) at l) bit)
-
-      pub first_below : (e : ℕ) → bit_in run.signs.under e ≡ 1 → e < length graph.unions.items
-      first_below e one = rw (unions_count h.whole) (let l = ((h.at.signs.below e).0 one).0 in rw zn at l)
-
-      pub least : (found : Bits) → AreReached graph.unions.items run.signs.under found → (s : List Bool) → IsSetOf found (length shift) s → IsLeast (meanings places value terms) (length shift) q shift s
-      least found reached s is = least_is (meanings places value terms) graph.bases (length shift) q shift run.z.items (low h.whole) fit h.whole.exact.are_bases zn h.at.is_rest graph.unions.items links run.signs.under found h.at.signs.below reached s is none
+      pub least_found : (found : Bits) → AreReached graph.unions.items run.signs.under found → (s : List Bool) → IsSetOf found (length shift) s → IsLeast (meanings places value terms) (length shift) q shift s
+      least_found found reached s is = least h.whole family law h.at.is_rest.places h.at.is_rest h.at.signs minimum found s is reached

@@ -3,5 +3,4 @@ pub mod Gaps
 pub mod Improving
 pub mod Starting
 pub mod Counting
-pub mod Least
 pub mod Augmenting

@@ -22,8 +22,8 @@ use crate::run::Run;
 use crate::walk::least_walk;
 use sfm_base::{Memory, Numbers, Rows, Set, Steps};
 use sfm_exchange::{
-    Graph, Path, amount_of, find_levels, graph_at, move_along, move_signs, reached_from, restart,
-    set_of, signs_of,
+    Graph, Path, amount_of, copy_rows, find_levels, graph_at, move_along, move_signs, reached_from,
+    restart, set_of, signs_of,
 };
 use sfm_law::{Term, rest_of, start_rows};
 use std::alloc::Global;
@@ -157,17 +157,6 @@ pub fn minimise_from_start<T: Term>(
         optimum: Optimum { bases, z: rested.z },
         least: rested.least,
     })
-}
-
-// The same rows once more.
-fn copy_rows(alloc: Global, rows: &Rows) -> Result<Rows, Memory>
-    ensures { IfOk result (λ r. r ≡ rows.now) }
-{
-    let mut copied = Rows::new(alloc);
-    for i in 0..rows.len() {
-        copied.push(Vec::from_slice(alloc, rows.row(i))?)?;
-    }
-    Ok(copied)
 }
 
 /// Moves the bases of the graph along walks of least steps, each by the greatest amount, until no walk joins. Then they

@@ -12,7 +12,8 @@ use Rattle.sfm_exchange.specs.Signs.{AreSigns}
 use Rattle.sfm_exchange.proofs.Options.{match_none, match_some}
 use Rattle.sfm_walk.proofs.Gaps.{deficit_low}
 use Rattle.sfm_walk.proofs.Counting.{IsCounting, counting_none, counting_more, counting_few, counting_is}
-use Rattle.sfm_walk.proofs.Improving.{IsImproving, falls, first_below, gap_still, improving_after, least, link_in, none, proves, same_bound, small_still}
+use Rattle.sfm_walk.proofs.Improving.{IsImproving, falls, gap_still, improving_after, least_found, minimum, no_walk, same_bound, small_still}
+use Rattle.sfm_exchange.proofs.Minimisers.{link_in, under_in}
 use Rattle.sfm_exchange.proofs.WholeGraphs.{base_count, counted, unions_count}
 use Rattle.sfm_walk.proofs.optimum.improve.Goals as goal
 
@@ -154,24 +155,14 @@ reached_from-reached-requires-clause-firsts g c =
     let m = g.met.T.Term in
     let fq : FitsSigned w128 c.args.q = c.ranges.q in
     let inv = simp to_z-of_z at c.loop-run.invariant.0 in
-    let graph = c.loop-run.graph in
-    let run = c.loop-run.run in
-    let levels = c.find_levels.new.levels.items in
-    let shut = match_none c.in_ok-first.field-0 _ _ c.in_ok-first.ensures c.in_default.not-Some in
-    let closed : AreClosed (length run.z.items) graph.unions.items run.z.items levels = rw (c.deref-in-loop-run.ensures.value, c.deref-in-loop-run-2.ensures.value) at shut in
-    rw c.deref-2.ensures.value (first_below inv m.family m.submodular levels closed)
+    rw c.deref-2.ensures.value (under_in inv.whole m.family m.submodular inv.at.is_rest.places inv.at.is_rest inv.at.signs)
 
 pub reached_from-reached-requires-clause-links : goal.reached_from-reached-requires-clause-links
 reached_from-reached-requires-clause-links g c =
     let m = g.met.T.Term in
     let fq : FitsSigned w128 c.args.q = c.ranges.q in
     let inv = simp to_z-of_z at c.loop-run.invariant.0 in
-    let graph = c.loop-run.graph in
-    let run = c.loop-run.run in
-    let levels = c.find_levels.new.levels.items in
-    let shut = match_none c.in_ok-first.field-0 _ _ c.in_ok-first.ensures c.in_default.not-Some in
-    let closed : AreClosed (length run.z.items) graph.unions.items run.z.items levels = rw (c.deref-in-loop-run.ensures.value, c.deref-in-loop-run-2.ensures.value) at shut in
-    rw c.deref-2.ensures.value (link_in inv m.family m.submodular levels closed)
+    rw c.deref-2.ensures.value (link_in inv.whole m.family m.submodular)
 
 pub returns-clause-graph : goal.returns-clause-graph
 returns-clause-graph g c =
@@ -210,7 +201,7 @@ returns-clause-ends g c =
     let levels = c.find_levels.new.levels.items in
     let shut = match_none c.in_ok-first.field-0 _ _ c.in_ok-first.ensures c.in_default.not-Some in
     let closed : AreClosed (length run.z.items) graph.unions.items run.z.items levels = rw (c.deref-in-loop-run.ensures.value, c.deref-in-loop-run-2.ensures.value) at shut in
-    none inv m.family m.submodular levels closed
+    no_walk inv m.family m.submodular levels closed
 
 pub returns-clause-proves : goal.returns-clause-proves
 returns-clause-proves g c =
@@ -222,7 +213,7 @@ returns-clause-proves g c =
     let levels = c.find_levels.new.levels.items in
     let shut = match_none c.in_ok-first.field-0 _ _ c.in_ok-first.ensures c.in_default.not-Some in
     let closed : AreClosed (length run.z.items) graph.unions.items run.z.items levels = rw (c.deref-in-loop-run.ensures.value, c.deref-in-loop-run-2.ensures.value) at shut in
-    proves inv m.family m.submodular levels closed
+    minimum inv m.family m.submodular levels closed
 
 pub returns-clause-least : goal.returns-clause-least
 returns-clause-least g c =
@@ -234,7 +225,7 @@ returns-clause-least g c =
     let levels = c.find_levels.new.levels.items in
     let shut = match_none c.in_ok-first.field-0 _ _ c.in_ok-first.ensures c.in_default.not-Some in
     let closed : AreClosed (length run.z.items) graph.unions.items run.z.items levels = rw (c.deref-in-loop-run.ensures.value, c.deref-in-loop-run-2.ensures.value) at shut in
-    least inv m.family m.submodular levels closed c.reached_from-reached.result (rw c.deref-2.ensures.value at c.reached_from-reached.ensures) c.in_ok-least.least c.in_ok-least.ensures
+    least_found inv m.family m.submodular levels closed c.reached_from-reached.result (rw c.deref-2.ensures.value at c.reached_from-reached.ensures) c.in_ok-least.least c.in_ok-least.ensures
 
 pub returns-clause-counted : goal.returns-clause-counted
 returns-clause-counted g c =
