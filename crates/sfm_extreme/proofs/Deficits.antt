@@ -1,11 +1,12 @@
 -- The sum of min(z, 0) over a list of numbers.
-use Rattle.std.proofs.Common.{◌≡◌, ℕ, zero, suc, ◌+◌, ◌<◌, List, [], ◌∷◌, length, get_or, drop, ℤ, pos, negsuc, neg_ℤ, ◌+ℤ◌, ◌≤ℤ◌, nat_abs, refl, ap, ◌∙◌, arith}
+use Rattle.std.proofs.Common.{◌≡◌, ℕ, zero, suc, ◌+◌, ◌<◌, Bool, List, [], ◌∷◌, length, get_or, drop, ℤ, pos, negsuc, neg_ℤ, ◌+ℤ◌, ◌≤ℤ◌, nat_abs, refl, ap, ◌∙◌, arith}
 use Rattle.std.specs.Int.{int_min}
 use Rattle.std.proofs.lemmas.Int.{ints, clamps}
 use Rattle.std.proofs.lemmas.List.{drop_more}
 use Rattle.sfm_spec.proofs.Sums.{magnitudes-drop}
 use Rattle.sfm_spec.specs.Sets.{magnitudes}
-use Rattle.sfm_spec.specs.Families.{deficit}
+use Rattle.sfm_spec.specs.Families.{Meaning, IsMinimiser, Prove, deficit, rest_at, shifted_at}
+use Rattle.sfm_law.specs.Rest.{IsRest}
 
 abbrev pub deficit_list : List ℤ → ℤ
 deficit_list [] = pos 0
@@ -47,3 +48,15 @@ deficit_step z i sum l e h k =
     let m = magnitudes-drop z i l in
     let s = min_small (get_or z i (pos 0)) in
     (omega (arith, ints, e, d), omega (arith, ints, h, s.0), omega (arith, ints, k, m, s.1))
+
+-- where bases prove, each minimiser has the deficit as its value
+pub value_by_prove : (terms : List Meaning) (n : ℕ) (q : ℤ) (shift : List ℤ) (rows : List (List ℤ)) (s : List Bool) → Prove terms n q shift rows → IsMinimiser terms n q shift s
+    → deficit n (rest_at terms rows shift) ≡ shifted_at terms q shift s
+value_by_prove terms n q shift rows s (r, m, same) h =
+    let a = h.least r m.places m.allowed in
+    let b = m.least s h.places h.allowed in
+    omega (arith, ints, a, b, same)
+
+-- the deficit by the list of z
+pub deficit_by_rest : (terms : List Meaning) (shift : List ℤ) (rows : List (List ℤ)) (z : List ℤ) → IsRest terms shift rows z → deficit (length z) (λ e. get_or z e (pos 0)) ≡ deficit (length shift) (rest_at terms rows shift)
+deficit_by_rest terms shift rows z h = deficit-same (length z) (λ e. get_or z e (pos 0)) (rest_at terms rows shift) h.exact ∙ ap (λ n. deficit n (rest_at terms rows shift)) h.places

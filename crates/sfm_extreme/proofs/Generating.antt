@@ -10,22 +10,22 @@ use Rattle.sfm_extreme.specs.Pulls.{AreFirsts, AreGrouped, AreSquare, Before, Pu
 use Rattle.sfm_extreme.proofs.Classes.{IsPreorder, first_exists, needs_ascending, needs_exact, pulled_below}
 use Rattle.sfm_extreme.proofs.Weights.{weight_is}
 
--- what the table tells of the minimisers: mid has the places that some have and some have not, and of these it tells
+-- what the table tells of the minimisers: between are the places that some have and some have not, and of these it tells
 -- which come along with which
-pub record TellsPulls (terms : List Meaning) (n : ℕ) (q : ℤ) (shift : List ℤ) (mid : List Bool) (rows : List (List Bool)) : Type 0 where
+pub record TellsPulls (terms : List Meaning) (n : ℕ) (q : ℤ) (shift : List ℤ) (IsMid : ℕ → Type 0) (rows : List (List Bool)) : Type 0 where
   pub count : length rows ≡ n
   pub square : AreSquare rows
-  pub free : (e : ℕ) → e < n → IsFree terms n q shift e ↔ Has mid e
-  pub inside : (e d : ℕ) → Pulls rows e d → (e < n) × (d < n) × Has mid e × Has mid d
-  pub exact : (e d : ℕ) → e < n → d < n → Has mid e → Has mid d → Pulls rows e d ↔ PullsAlong terms n q shift e d
+  pub free : (e : ℕ) → e < n → IsFree terms n q shift e ↔ IsMid e
+  pub inside : (e d : ℕ) → Pulls rows e d → (e < n) × (d < n) × IsMid e × IsMid d
+  pub exact : (e d : ℕ) → e < n → d < n → IsMid e → IsMid d → Pulls rows e d ↔ PullsAlong terms n q shift e d
 
-module _ (terms : List Meaning) (n : ℕ) (q : ℤ) (shift : List ℤ) (mid : List Bool) (rows : List (List Bool)) (tells : TellsPulls terms n q shift mid rows) where
+module _ (terms : List Meaning) (n : ℕ) (q : ℤ) (shift : List ℤ) (IsMid : ℕ → Type 0) (rows : List (List Bool)) (tells : TellsPulls terms n q shift IsMid rows) where
   -- what comes along in the table comes along
   along_of : (e d : ℕ) → Pulls rows e d → PullsAlong terms n q shift e d
   along_of e d h = let (le, ld, me, md) = tells.inside e d h in (tells.exact e d le ld me md).0 h
 
-  -- a place of mid comes along with itself
-  self : (e : ℕ) → e < n → Has mid e → Pulls rows e e
+  -- a place between comes along with itself
+  self : (e : ℕ) → e < n → IsMid e → Pulls rows e e
   self e l m = (tells.exact e e l l m m).1 (λ s hs h. h)
 
   pub preorder : IsPreorder rows
@@ -39,7 +39,7 @@ module _ (terms : List Meaning) (n : ℕ) (q : ℤ) (shift : List ℤ) (mid : Li
   }
 
   -- places that come along both ways with one that some minimisers have and some have not, are such places too
-  free_along : (d e : ℕ) → d < n → e < n → Has mid d → PullsAlong terms n q shift d e → PullsAlong terms n q shift e d → Has mid e
+  free_along : (d e : ℕ) → d < n → e < n → IsMid d → PullsAlong terms n q shift d e → PullsAlong terms n q shift e d → IsMid e
   free_along d e ld le m de ed =
       let free = (tells.free d ld).1 m in
       let (s, hs, has) = free.is_in in

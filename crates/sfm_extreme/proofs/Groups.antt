@@ -1,9 +1,16 @@
--- The blocks are made one after another.
-use Rattle.std.proofs.Common.{◌≡◌, ◌⊎◌, inl, inr, ⊎_elim, ℕ, ◌+◌, ◌<◌, Bool, List, [], ◌∷◌, ◌++◌, length, get_or, refl, sym, ap, ◌∙◌, arith}
+-- The blocks are made one after another, and their members are marked place by place.
+use Rattle.std.proofs.Common.{◌≡◌, ◌↔◌, ◌⊎◌, inl, inr, ⊎_elim, ℕ, ◌+◌, ◌<◌, ◌≤◌, Bool, List, [], ◌∷◌, ◌++◌, length, get_or, refl, sym, ap, ◌∙◌, arith}
 use Rattle.std.proofs.lemmas.Bool.{cases_lt}
 use Rattle.std.proofs.lemmas.List.{length_push, get_or_push, get_or_append_left}
+use Rattle.sfm_spec.specs.Sets.{Has}
 use Rattle.sfm_spec.specs.Blocks.{Block, block_at, no_block}
 use Rattle.sfm_extreme.specs.Pulls.{AreGrouped, IsMembers, needs_upto}
+
+-- of the first m of n places those are marked of which P holds
+pub record IsMarked (n m : ℕ) (P : ℕ → Type 0) (s : List Bool) : Type 0 where
+  pub places : length s ≡ n
+  pub exact : (e : ℕ) → e < m → Has s e ↔ P e
+  pub later : (e : ℕ) → m ≤ e → Has s e → ⊥
 
 -- the blocks of the first i first places
 pub record AreGroupedTo (rows : List (List Bool)) (firsts : List ℕ) (i : ℕ) (blocks : List Block) : Type 0 where

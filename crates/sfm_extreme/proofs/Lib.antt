@@ -1,9 +1,4 @@
 pub mod Deficits
-pub mod Adding
-pub mod Searches
-pub mod Marking
-pub mod Following
-pub mod Answering
 pub mod Orders
 pub mod Classes
 pub mod Groups

@@ -1,5 +1,4 @@
-pub mod Links
-pub mod Search
+pub mod Reading
 pub mod Certified
 pub mod Pulls
 pub mod Blocks

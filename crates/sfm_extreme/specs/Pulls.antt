@@ -1,48 +1,32 @@
 -- Which places come along with which, as the rows of a table, and the blocks that are read off from it.
-use Rattle.std.specs.Prelude.{◌≡◌, ◌↔◌, ◌⊎◌, ℕ, zero, suc, ◌<◌, Bool, false, not, ◌&&◌, List, [], ◌∷◌, ◌++◌, length, slice_index, slice_index_or, nat_eq, if◌then◌else◌, ℤ, pos, ◌<ℤ◌, Option}
+use Rattle.std.specs.Prelude.{◌≡◌, ◌≢◌, ◌↔◌, ◌⊎◌, ℕ, zero, suc, ◌<◌, Bool, false, not, ◌&&◌, List, [], ◌∷◌, ◌++◌, length, slice_index, slice_index_or, nat_eq, if◌then◌else◌}
 use Rattle.sfm_spec.specs.Sets.{Has, size}
 use Rattle.sfm_spec.specs.Blocks.{Block, block_at}
-use Rattle.sfm_extreme.specs.declared.search.Way.TheVariants.{Onward, Back}
-use Rattle.sfm_extreme.specs.declared.search.Visit.{Visit}
-use Rattle.sfm_extreme.specs.Search.{IsSetOf, IsSearch, link_by}
+use Rattle.sfm_exchange.specs.declared.bits.Bits.{Bits}
+use Rattle.sfm_exchange.specs.Bits.{bit_in}
+use Rattle.sfm_exchange.specs.Reached.{AreReached, IsSetOf}
 
--- the places that a search against the links from those with z > 0 does not find, nor one with them from those with z < 0
-pub record IsBetween (n : ℕ) (link : ℕ → ℕ → Option ℕ) (z : List ℤ) (mid : List Bool) : Type 0 where
-  pub places : length mid ≡ n
-  pub over : List Bool
-  pub leading : List Bool
-  pub leading_visits : List Visit
-  pub under : List Bool
-  pub reached : List Bool
-  pub reached_visits : List Visit
-  pub over_is : IsSetOf (length z) (λ e. pos 0 <ℤ slice_index_or z e (pos 0)) over
-  pub leading_is : IsSearch n (link_by Back link) over leading leading_visits
-  pub under_is : IsSetOf (length z) (λ e. slice_index_or z e (pos 0) <ℤ pos 0) under
-  pub reached_is : IsSearch n (link_by Onward link) under reached reached_visits
-  pub exact : (e : ℕ) → e < n → Has mid e ↔ ((Has leading e → ⊥) × (Has reached e → ⊥))
+-- the places not outside that links lead to from e, and none where e is outside
+pub record IsPullRow (unions : List Bits) (outside : Bits) (e : ℕ) (row : Bits) : Type 0 where
+  pub firsts : Bits
+  pub found : Bits
+  pub firsts_are : (d : ℕ) → (bit_in firsts d ≡ 1) ↔ ((d ≡ e) × (bit_in outside d ≢ 1))
+  pub reached : AreReached unions firsts found
+  pub exact : (d : ℕ) → (bit_in row d ≡ 1) ↔ ((bit_in found d ≡ 1) × (bit_in outside d ≢ 1))
 
--- the places of mid that a search with the links finds from e
-pub record IsReachedRow (n : ℕ) (link : ℕ → ℕ → Option ℕ) (mid : List Bool) (e : ℕ) (row : List Bool) : Type 0 where
-  pub firsts : List Bool
-  pub found : List Bool
-  pub visits : List Visit
-  pub firsts_are : IsSetOf n (λ d. d ≡ e) firsts
-  pub search : IsSearch n (link_by Onward link) firsts found visits
-  pub exact : (d : ℕ) → Has row d ↔ (Has found d × Has mid d)
-
--- these places if e is in mid, and none if it is not
-pub record IsPullRow (n : ℕ) (link : ℕ → ℕ → Option ℕ) (mid : List Bool) (e : ℕ) (row : List Bool) : Type 0 where
-  pub places : length row ≡ n
-  pub none : (Has mid e → ⊥) → (d : ℕ) → Has row d → ⊥
-  pub some : Has mid e → IsReachedRow n link mid e row
+-- the same as a set
+pub record IsPullSet (unions : List Bits) (outside : Bits) (e : ℕ) (row : List Bool) : Type 0 where
+  pub bits : Bits
+  pub is_row : IsPullRow unions outside e bits
+  pub same : IsSetOf bits (length unions) row
 
 abbrev pub row_of : List (List Bool) → ℕ → List Bool
 row_of rows e = slice_index_or rows e []
 
--- the row of each of n places
-pub record ArePullRows (n : ℕ) (link : ℕ → ℕ → Option ℕ) (mid : List Bool) (rows : List (List Bool)) : Type 0 where
-  pub count : length rows ≡ n
-  pub each : (e : ℕ) → e < n → IsPullRow n link mid e (row_of rows e)
+-- the row of each place
+pub record ArePullRows (unions : List Bits) (outside : Bits) (rows : List (List Bool)) : Type 0 where
+  pub count : length rows ≡ length unions
+  pub each : (e : ℕ) → e < length unions → IsPullSet unions outside e (row_of rows e)
 
 -- as many places in each row as there are rows
 abbrev pub AreSquare : List (List Bool) → Type 0

@@ -1,7 +1,6 @@
-// Whether bases prove the minimum. A search against the links from the places with z > 0 finds the places from which a
-// walk leads to one of them. Where one of these has z < 0, a walk joins, and no bases with such a walk prove. Where
-// none has, the bases prove: the places not found are the greatest minimiser, the places that a search with the links
-// finds from those with z < 0 are the least, and the value is the sum of min(z, 0). No subset is ever tried.
+// Whether bases prove the minimum. Where a walk joins, no bases with such a walk prove. Where none does, they prove: the
+// places that links of the exchange graph lead to from those with z < 0 are the least minimiser, those from which no link
+// leads to one with z > 0 the greatest, and the value is the sum of min(z, 0). No subset is ever tried.
 ghost use Rattle.std.specs.Prelude.{◌≡◌, ◌↔◌, length, map, pos, ◌^◌, ◌≤ℤ◌, IfOk};
 ghost use Rattle.std.specs.List.{All};
 ghost use Rattle.sfm_spec.specs.Sets.{magnitudes};
@@ -10,12 +9,11 @@ ghost use Rattle.sfm_spec.specs.Families.{meanings, even_shift, AreBases, Prove}
 ghost use Rattle.sfm_extreme.specs.Certified.{IsAnswer, IsProved};
 
 use crate::deficit::deficit_of;
-use crate::links::links_of;
-use crate::search::{Way, search_from};
-use crate::signs::{places_over, places_under};
-use crate::walk::{visit_under, walk_of};
+use crate::joining::joining_walk;
+use crate::reading::read_at;
 use sfm_base::{Memory, Rows, Set};
-use sfm_law::{Term, Walk, rest_of};
+use sfm_exchange::set_of;
+use sfm_law::{Term, Walk};
 use std::alloc::Global;
 
 /// The minimum that bases prove, with the extreme sets that attain it (Fujishige, Submodular Functions and
@@ -83,22 +81,17 @@ fn certify_by<T: Term>(
     ensures { IfOk result (λ r. IsAnswer (meanings T.places T.value_of terms.now) (length shift.now) q shift.now bases.now r
         × (IsProved r ↔ Prove (meanings T.places T.value_of terms.now) (length shift.now) q shift.now bases.now)) }
 {
-    let z = rest_of(alloc, terms, shift, bases)?;
-    let links = links_of(alloc, terms, shift.len(), q, bases)?;
-    let over = places_over(alloc, &z)?;
-    let leading = search_from(alloc, &links, Way::Back, &over)?;
-    match visit_under(&leading.visits, &z) {
-        Some(start) => {
-            let walk = walk_of(alloc, &links, &leading.visits, start)?;
-            Ok(Certified::NotOptimal { walk })
-        }
+    let reading = read_at(alloc, terms, q, shift, bases)?;
+    let joins = joining_walk(alloc, terms, q, shift, &reading)?;
+    match joins {
+        Some(walk) => Ok(Certified::NotOptimal { walk }),
         None => {
-            let greatest = leading.found.complement(alloc)?;
-            let under = places_under(alloc, &z)?;
-            let reached = search_from(alloc, &links, Way::Onward, &under)?;
+            let least = set_of(alloc, &reading.reached, shift.len())?;
+            let outside = set_of(alloc, &reading.leading, shift.len())?;
+            let greatest = outside.complement(alloc)?;
             Ok(Certified::Proved(Proved {
-                value: deficit_of(&z),
-                least: reached.found,
+                value: deficit_of(&reading.z),
+                least,
                 greatest,
             }))
         }

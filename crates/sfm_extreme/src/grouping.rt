@@ -9,11 +9,11 @@ ghost use Rattle.sfm_spec.specs.Families.{meanings, even_shift, AreBases, Prove}
 ghost use Rattle.sfm_extreme.specs.Blocks.{block_of};
 ghost use Rattle.sfm_extreme.specs.Pulls.{AreGrouped, AreSquare, IsMembers, needs_upto};
 
-use crate::between::{between, pull_rows};
 use crate::firsts::firsts_in_order;
-use crate::links::links_of;
+use crate::pulling::pull_rows;
+use crate::reading::read_at;
 use sfm_base::{Memory, Rows, Set};
-use sfm_law::{Term, rest_of};
+use sfm_law::Term;
 use std::alloc::Global;
 
 /// Places that are in the same minimisers, and the blocks that each minimiser with them has too.
@@ -47,10 +47,10 @@ pub fn blocks<T: Term>(
     ensures generate { IfOk result (λ r. Generate (meanings T.places T.value_of terms.now) n (pos 1) (even_shift n (pos 0)) (map block_of r.items)) }
 {
     let shift = vec![in alloc; 0i128; n]?;
-    let z = rest_of(alloc, terms, &shift, bases)?;
-    let links = links_of(alloc, terms, n, 1, bases)?;
-    let mid = between(alloc, &links, &z)?;
-    let rows = pull_rows(alloc, &links, &mid)?;
+    let reading = read_at(alloc, terms, 1, &shift, bases)?;
+    let mut outside = reading.reached;
+    outside.union_with(&reading.leading);
+    let rows = pull_rows(alloc, &reading.graph.unions, &outside)?;
     let firsts = firsts_in_order(alloc, &rows)?;
     grouped(alloc, &rows, &firsts)
 }

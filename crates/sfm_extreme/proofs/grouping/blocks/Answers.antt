@@ -1,58 +1,58 @@
-use Rattle.std.proofs.Common.{◌≡◌, ◌^◌, length, map, replicate, get_or, pos, ◌≤ℤ◌, ap, ◌∙◌, rules, arith}
+use Rattle.std.proofs.Common.{◌≡◌, ℕ, ◌^◌, length, map, replicate, pos, ◌≤ℤ◌, rules, arith}
 use Rattle.std.proofs.lemmas.Int.{ints}
 use Rattle.std.proofs.lemmas.List.{length-replicate}
-use Rattle.std.proofs.lemmas.List.Elements.{All-map}
 use Rattle.std.proofs.lemmas.Result.{IfOk-weaker}
-use Rattle.sfm_spec.specs.Sets.{empty_set}
 use Rattle.sfm_spec.specs.Bounds.{IsEntry}
 use Rattle.sfm_spec.specs.Blocks.{AreBlocks, Generate}
-use Rattle.sfm_spec.specs.Families.{meanings, even_shift, AreTerms}
+use Rattle.sfm_spec.specs.Families.{meanings, even_shift, AreTerms, Prove}
 use Rattle.sfm_spec.proofs.Duality.{meanings-terms}
 use Rattle.sfm_spec.proofs.Generated.{blocks_generate}
-use Rattle.sfm_spec.proofs.Walks.{bases-at}
-use Rattle.sfm_extreme.specs.Links.{AreLinks, link_at}
-use Rattle.sfm_extreme.specs.Pulls.{AreFirsts, AreGrouped, ArePullRows, IsBetween}
-use Rattle.sfm_extreme.specs.Blocks.{block_of}
-use Rattle.sfm_law.specs.Rest.{IsRest}
-use Rattle.sfm_law.proofs.Lists.{below-total, length-bases, length-meanings, placed-meanings}
+use Rattle.sfm_law.proofs.Lists.{placed-meanings}
 use Rattle.sfm_law.proofs.Rests.{magnitudes-replicate}
+use Rattle.sfm_exchange.proofs.Minimisers.{link_in}
+use Rattle.sfm_exchange.proofs.WholeGraphs.{unions_count}
+use Rattle.sfm_extreme.specs.Blocks.{block_of}
+use Rattle.sfm_extreme.specs.Pulls.{AreFirsts, AreGrouped, ArePullRows}
+use Rattle.sfm_extreme.specs.Reading.{IsReading}
 use Rattle.sfm_extreme.proofs.Generating.{blocks_are}
-use Rattle.sfm_extreme.proofs.Tellings.{tells}
+use Rattle.sfm_extreme.proofs.Tellings.{square_of, tells}
 use Rattle.sfm_extreme.proofs.grouping.blocks.Goals as goal
 
-pub rest_of-requires-clause-placed : goal.rest_of-requires-clause-placed
-rest_of-requires-clause-placed g c =
+pub read_at-requires-clause-bounded : goal.read_at-requires-clause-bounded
+read_at-requires-clause-bounded g c =
     let same : c.deref.result.now ≡ replicate c.args.n (pos 0) = search rules in
-    let count : length c.deref.result.now ≡ c.args.n = ap length same ∙ length-replicate c.args.n (pos 0) in
-    rw count c.requires.bounded.placed
+    rw (same, length-replicate c.args.n (pos 0)) c.requires.bounded
 
-pub rest_of-requires-clause-rows : goal.rest_of-requires-clause-rows
-rest_of-requires-clause-rows g c =
-    let t = g.T.Term in
-    length-bases (pos 1) (meanings t.places t.value_of c.args.terms.now) c.args.bases.now c.requires.bases ∙ length-meanings t.places t.value_of c.args.terms.now
-
-pub rest_of-requires-clause-entries : goal.rest_of-requires-clause-entries
-rest_of-requires-clause-entries g c = λ i l.
-    let t = g.T.Term in
-    (bases-at (pos 1) (meanings t.places t.value_of c.args.terms.now) c.args.bases.now i c.requires.bases (rw (length-meanings t.places t.value_of c.args.terms.now) l)).0
-
-pub rest_of-requires-clause-shifts : goal.rest_of-requires-clause-shifts
-rest_of-requires-clause-shifts g c =
+pub read_at-requires-clause-shifts : goal.read_at-requires-clause-shifts
+read_at-requires-clause-shifts g c =
     let same : c.deref.result.now ≡ replicate c.args.n (pos 0) = search rules in
     let zero : IsEntry (pos 0) = record { low = omega (arith, ints); high = omega (arith, ints) } in
     let m = magnitudes-replicate c.args.n (pos 0) zero in
     let few = c.requires.bounded.few in
     rw same (omega (arith, ints, m, few))
 
-pub links_of-requires-clause-bounded : goal.links_of-requires-clause-bounded
-links_of-requires-clause-bounded g c =
-    let t = g.T.Term in
+pub pull_rows-requires-clause-few : goal.pull_rows-requires-clause-few
+pull_rows-requires-clause-few g c =
+    let h = c.in_ok-reading.ensures.reading in
+    let few = h.whole.bounded.few in
+    rw (c.deref-2.ensures.value, unions_count h.whole) few
+
+pub pull_rows-requires-clause-links : goal.pull_rows-requires-clause-links
+pull_rows-requires-clause-links g c =
     let m = g.met.T.Term in
-    below-total (map t.size_of c.args.terms.now) (pos (10 ^ 18))
-    (All-map (λ a. pos 0 ≤ℤ a) t.size_of c.args.terms.now (λ k d l.
-    let x = get_or c.args.terms.now k d in
-    (m.bounded x (empty_set (length (t.places x))) (pos 0) (length-replicate (length (t.places x)) _) (m.submodular x).at_empty).1))
-    c.requires.bounded.small
+    rw c.deref-2.ensures.value (link_in c.in_ok-reading.ensures.reading.whole m.family m.submodular)
+
+pub firsts_in_order-requires-clause-square : goal.firsts_in_order-requires-clause-square
+firsts_in_order-requires-clause-square g c = rw c.deref-3.ensures.value (square_of c.in_ok-rows.ensures)
+
+pub firsts_in_order-requires-clause-few : goal.firsts_in_order-requires-clause-few
+firsts_in_order-requires-clause-few g c =
+    let h = c.in_ok-reading.ensures.reading in
+    let few = h.whole.bounded.few in
+    rw (c.deref-3.ensures.value, c.in_ok-rows.ensures.count, c.deref-2.ensures.value, unions_count h.whole) few
+
+pub grouped-requires-clause-square : goal.grouped-requires-clause-square
+grouped-requires-clause-square g c = rw c.deref-4.ensures.value (square_of c.in_ok-rows.ensures)
 
 pub returns-clause-exact : goal.returns-clause-exact
 returns-clause-exact g c =
@@ -60,23 +60,17 @@ returns-clause-exact g c =
     let m = g.met.T.Term in
     let n = c.args.n in
     let shift = replicate n (pos 0) in
-    let rows = c.args.bases.now in
     let ts = meanings t.places t.value_of c.args.terms.now in
-    let fit : AreTerms n ts = meanings-terms n t.places t.value_of m.family m.submodular c.args.terms.now (placed-meanings n t.places t.value_of c.args.terms.now c.requires.bounded.placed) in
-    let low : pos 0 ≤ℤ pos 1 = omega (arith, ints) in
-    let table = c.in_ok-links.links.table.items in
-    let links : (c.in_ok-links.links.n ≡ n) × AreLinks ts n (pos 1) rows (link_at n table) = c.in_ok-links.ensures in
-    let z = c.in_ok-z.z.items in
+    let reading = c.in_ok-reading.reading in
     let same : c.deref.result.now ≡ shift = search rules in
-    let rest : IsRest ts shift rows z = rw same at c.in_ok-z.ensures in
-    let mid = c.in_ok-mid.mid in
-    let between : IsBetween n (link_at n table) z mid = rw (links.0, c.deref-2.ensures.value) at c.in_ok-mid.ensures in
-    let pulls : ArePullRows n (link_at n table) mid c.in_ok-rows.rows.items = rw links.0 at c.in_ok-rows.ensures in
-    let told = tells ts rows n (pos 1) low fit c.requires.bases (link_at n table) links.1 shift z (length-replicate n (pos 0)) rest c.requires.prove mid between c.in_ok-rows.rows.items pulls in
-    let firsts : AreFirsts c.in_ok-rows.rows.items c.in_ok-firsts.firsts.items = rw c.deref-3.ensures.value at c.in_ok-firsts.ensures in
-    let grouped = IfOk-weaker c.grouped.result _ (λ r. AreBlocks ts n (pos 1) shift (map block_of r.items)) (λ r (h : AreGrouped c.in_ok-rows.rows.items c.in_ok-firsts.firsts.items (map block_of r.items)).
-    blocks_are ts n (pos 1) shift mid c.in_ok-rows.rows.items told c.in_ok-firsts.firsts.items firsts (map block_of r.items) h) (rw (c.deref-4.ensures.value, c.deref-5.ensures.value) at c.grouped.ensures) in
-    grouped
+    let h : IsReading t.places t.value_of t.size_of t.fits c.args.terms.now n (pos 1) shift reading = rw (same, length-replicate n (pos 0)) at c.in_ok-reading.ensures.reading in
+    let prove : Prove ts n (pos 1) shift reading.graph.bases = rw c.in_ok-reading.ensures.bases c.requires.prove in
+    let rows = c.in_ok-rows.rows.items in
+    let pulls : ArePullRows reading.graph.unions.items c.union_with.new.self rows = rw c.deref-2.ensures.value at c.in_ok-rows.ensures in
+    let told = tells h m.family m.submodular prove c.union_with.new.self c.union_with.ensures rows pulls in
+    let firsts : AreFirsts rows c.in_ok-firsts.firsts.items = rw c.deref-3.ensures.value at c.in_ok-firsts.ensures in
+    IfOk-weaker c.grouped.result _ (λ r. AreBlocks ts n (pos 1) shift (map block_of r.items)) (λ r (k : AreGrouped rows c.in_ok-firsts.firsts.items (map block_of r.items)).
+    blocks_are ts n (pos 1) shift _ rows told c.in_ok-firsts.firsts.items firsts (map block_of r.items) k) (rw (c.deref-4.ensures.value, c.deref-5.ensures.value) at c.grouped.ensures)
 
 pub returns-clause-generate : goal.returns-clause-generate
 returns-clause-generate g c =

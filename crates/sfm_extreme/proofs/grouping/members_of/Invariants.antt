@@ -1,7 +1,7 @@
 -- the places so far are marked
 use Rattle.std.proofs.Common.{length}
 use Rattle.sfm_extreme.specs.Pulls.{Pulls}
-use Rattle.sfm_extreme.proofs.Marking.{IsMarked}
+use Rattle.sfm_extreme.proofs.Groups.{IsMarked}
 use Rattle.sfm_extreme.proofs.grouping.members_of.Given as goal
 
 abbrev pub invariant-loop-d : goal.invariant-loop-d
