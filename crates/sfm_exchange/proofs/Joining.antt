@@ -1,7 +1,7 @@
 -- Walks that join, told by the levels: along them one joins, and where they are closed none does.
-use Rattle.std.proofs.Common.{◌≡◌, ◌↔◌, ℕ, ◌+◌, ◌<◌, List, [], ◌∷◌, length, get_or, ℤ, pos, ◌≤ℤ◌, ◌<ℤ◌}
+use Rattle.std.proofs.Common.{◌≡◌, ℕ, ◌<◌, List, [], ◌∷◌, length, get_or, ℤ, pos, ◌≤ℤ◌, ◌<ℤ◌}
 use Rattle.sfm_spec.specs.Families.{Meaning, AreTerms, AreBases}
-use Rattle.sfm_spec.specs.Walks.{Step, IsStep, AreSteps, IsWalk, Joins, last_of}
+use Rattle.sfm_spec.specs.Walks.{Step, AreSteps, IsWalk, Joins, last_of}
 use Rattle.sfm_spec.proofs.Walks.{first_below, step_below}
 use Rattle.sfm_law.specs.Rest.{IsRest}
 use Rattle.sfm_exchange.specs.declared.bits.Bits.{Bits}

@@ -1,7 +1,7 @@
 -- What the graph tells of the minimisers. What links lead to from some places is what walks reach from them, so where the bases
 -- prove, what they lead to from the places with z < 0 is the least minimiser. And each place from which links lead to one with
 -- z > 0 is outside each minimiser, which no step leaves, so the places from which none does are the greatest.
-use Rattle.std.proofs.Common.{◌≡◌, ◌↔◌, ◌⊎◌, ⊎_elim, ℕ, ◌+◌, ◌<◌, ◌≤◌, ◌^◌, Bool, false, List, length, map, get_or, eqb, ℤ, pos, ◌≤ℤ◌, ◌<ℤ◌, sym, ap, ◌∙◌, arith}
+use Rattle.std.proofs.Common.{◌≡◌, ◌↔◌, ⊎_elim, ℕ, ◌<◌, ◌≤◌, Bool, false, List, length, map, get_or, eqb, ℤ, pos, ◌≤ℤ◌, sym, ap, ◌∙◌, arith}
 use Rattle.std.specs.List.{range_with_len}
 use Rattle.std.proofs.lemmas.Bool.{both_ways, cases_lt, eq-eqb, eqb-true}
 use Rattle.std.proofs.lemmas.List.{get_or_past}

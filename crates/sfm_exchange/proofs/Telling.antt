@@ -1,27 +1,16 @@
 -- What rows that are right tell: that the steps of a walk are steps, and the least ones; and where rows stay right.
-use Rattle.std.proofs.Common.{◌≡◌, ◌≢◌, ◌⊎◌, ⊎_elim, ℕ, zero, suc, ◌+◌, ◌*◌, ◌^◌, ◌-◌, ◌<◌, ◌≤◌, List, [], ◌∷◌, length, get_or, nat_eq, ℤ, pos, ◌+ℤ◌, ◌-ℤ◌, ◌≤ℤ◌, ◌<ℤ◌, if◌then◌else◌, refl, subst, sym, ap, ◌∙◌, arith, inl, inr}
-use Rattle.std.specs.List.{All}
-use Rattle.std.proofs.lemmas.Bool.{cases_eq, cases_lt, eq-eqb, ne_eqb}
-use Rattle.std.proofs.lemmas.Int.{ints}
-use Rattle.std.proofs.lemmas.List.Elements.{All-get_or, All-from_get_or}
-use Rattle.sfm_spec.specs.Terms.{exchanged}
-use Rattle.sfm_spec.specs.Bounds.{IsAtMost, IsEntry}
-use Rattle.sfm_spec.specs.Families.{Meaning, AreTerms, AreBases, rest_at}
+use Rattle.std.proofs.Common.{◌≡◌, ℕ, zero, suc, ◌-◌, ◌<◌, ◌≤◌, List, [], ◌∷◌, length, get_or, ℤ, pos, ◌≤ℤ◌, refl, sym, ap, ◌∙◌, arith}
+use Rattle.sfm_spec.specs.Families.{Meaning, AreTerms, AreBases}
 use Rattle.sfm_spec.specs.Labels.{FallsAlong}
 use Rattle.sfm_spec.specs.Progress.{TakesLeastSteps}
-use Rattle.sfm_spec.specs.Walks.{Step, term_at, row_at, IsStep, AreSteps, IsWalk, IsShortest, Joins, last_of}
-use Rattle.sfm_spec.proofs.Walks.{terms-at, first_below, step_below}
-use Rattle.sfm_spec.proofs.Labels.{falls_all, falls_within}
-use Rattle.sfm_spec.proofs.MoveOrder.{exchanged-first, exchanged-second, exchanged-other}
+use Rattle.sfm_spec.specs.Walks.{Step, term_at, row_at, IsStep, AreSteps, last_of}
+use Rattle.sfm_spec.proofs.Walks.{terms-at, step_below}
 use Rattle.sfm_exchange.specs.declared.bits.Bits.{Bits}
 use Rattle.sfm_exchange.specs.declared.path.Hop.{Hop}
 use Rattle.sfm_exchange.specs.Bits.{bit_in, set_at}
-use Rattle.sfm_law.specs.Rest.{IsRest}
 use Rattle.sfm_exchange.specs.Reach.{IsTable, table_at}
-use Rattle.sfm_exchange.specs.Unions.{AreLinks, IsReadable}
-use Rattle.sfm_exchange.specs.Levels.{depth_of, IsFirst, AreClosed}
+use Rattle.sfm_exchange.specs.Unions.{IsReadable}
 use Rattle.sfm_exchange.specs.Hops.{IsHop, IsTold, AreHops, AreLeast, AreNamed, IsMovable, hop_at, step_of, steps_of}
-use Rattle.sfm_exchange.proofs.Following.{length-steps_of, depth_has, depth_le, depth_bound}
 
 -- the steps name their places
 pub hops_named : (terms : List Meaning) (tables : List (List Bits)) (from : ℕ) (hops : List Hop) → AreHops terms tables from hops → AreNamed terms from hops

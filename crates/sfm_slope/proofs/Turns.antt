@@ -1,5 +1,5 @@
 -- What a turn finds, by the slope at which both sets are worth as much and the least minimiser there.
-use Rattle.std.proofs.Common.{◌≡◌, ◌≢◌, ℕ, Bool, List, ℤ, pos, ◌-ℤ◌, refl, sym, subst, ◌∙◌}
+use Rattle.std.proofs.Common.{◌≡◌, ◌≢◌, ℕ, Bool, List, pos, ◌-ℤ◌, refl, sym, subst, ◌∙◌}
 use Rattle.sfm_spec.specs.Sets.{size}
 use Rattle.sfm_spec.specs.Slopes.{IsSameSlope}
 use Rattle.sfm_spec.specs.Families.{Meaning, AreTerms, IsLeast, IsGreatest, even_shift, sized_shift}

@@ -1,5 +1,5 @@
 -- One walk: that it is a shortest joining one, and what moving along it makes of the bases and of z.
-use Rattle.std.proofs.Common.{◌≡◌, ◌≢◌, ◌⊎◌, ⊎_elim, ℕ, zero, suc, ◌+◌, ◌*◌, ◌^◌, ◌-◌, ◌<◌, ◌≤◌, List, [], ◌∷◌, length, get_or, nat_eq, ℤ, pos, ◌+ℤ◌, ◌-ℤ◌, ◌≤ℤ◌, ◌<ℤ◌, if◌then◌else◌, refl, subst, sym, ap, ◌∙◌, arith, inl, inr}
+use Rattle.std.proofs.Common.{◌≡◌, ◌≢◌, ◌⊎◌, ⊎_elim, ℕ, ◌+◌, ◌*◌, ◌^◌, ◌<◌, ◌≤◌, List, [], ◌∷◌, length, get_or, nat_eq, ℤ, pos, ◌+ℤ◌, ◌-ℤ◌, ◌≤ℤ◌, ◌<ℤ◌, if◌then◌else◌, subst, sym, ◌∙◌, arith, inl, inr}
 use Rattle.std.specs.List.{All}
 use Rattle.std.proofs.lemmas.Bool.{cases_eq, cases_lt, eq-eqb, ne_eqb}
 use Rattle.std.proofs.lemmas.Int.{ints}
@@ -8,9 +8,8 @@ use Rattle.sfm_spec.specs.Terms.{exchanged}
 use Rattle.sfm_spec.specs.Bounds.{IsAtMost, IsEntry}
 use Rattle.sfm_spec.specs.Families.{Meaning, AreTerms, AreBases, rest_at}
 use Rattle.sfm_spec.specs.Labels.{FallsAlong}
-use Rattle.sfm_spec.specs.Progress.{TakesLeastSteps}
-use Rattle.sfm_spec.specs.Walks.{Step, term_at, row_at, IsStep, AreSteps, IsWalk, IsShortest, Joins, last_of}
-use Rattle.sfm_spec.proofs.Walks.{terms-at, first_below, step_below}
+use Rattle.sfm_spec.specs.Walks.{Step, row_at, IsStep, AreSteps, IsWalk, IsShortest, last_of}
+use Rattle.sfm_spec.proofs.Walks.{first_below, step_below}
 use Rattle.sfm_spec.proofs.Labels.{falls_all, falls_within}
 use Rattle.sfm_spec.proofs.MoveOrder.{exchanged-first, exchanged-second, exchanged-other}
 use Rattle.sfm_exchange.specs.declared.bits.Bits.{Bits}
@@ -18,9 +17,9 @@ use Rattle.sfm_exchange.specs.declared.path.Hop.{Hop}
 use Rattle.sfm_exchange.specs.Bits.{bit_in, set_at}
 use Rattle.sfm_law.specs.Rest.{IsRest}
 use Rattle.sfm_exchange.specs.Reach.{IsTable, table_at}
-use Rattle.sfm_exchange.specs.Unions.{AreLinks, IsReadable}
-use Rattle.sfm_exchange.specs.Levels.{depth_of, IsFirst, AreClosed}
-use Rattle.sfm_exchange.specs.Hops.{IsHop, IsTold, AreHops, AreLeast, AreNamed, IsMovable, hop_at, step_of, steps_of}
+use Rattle.sfm_exchange.specs.Unions.{AreLinks}
+use Rattle.sfm_exchange.specs.Levels.{depth_of, IsFirst}
+use Rattle.sfm_exchange.specs.Hops.{AreHops, AreLeast, steps_of}
 use Rattle.sfm_walk.specs.Run.{IsLeastWalk, IsUpTo}
 use Rattle.sfm_exchange.proofs.Telling.{hops_least, hops_movable, hops_named, hops_steps}
 use Rattle.sfm_exchange.proofs.Following.{length-steps_of, depth_has, depth_le, depth_bound}

@@ -1,5 +1,5 @@
 -- What the move along a walk of least steps by the greatest amount makes of the bases and of z.
-use Rattle.std.proofs.Common.{◌≡◌, ◌≢◌, ℕ, zero, suc, ◌+◌, ◌*◌, ◌^◌, ◌<◌, ◌≤◌, List, [], ◌∷◌, length, get_or, nat_eq, ℤ, pos, neg_ℤ, ◌+ℤ◌, ◌-ℤ◌, ◌≤ℤ◌, ◌<ℤ◌, if◌then◌else◌, refl, subst, sym, ap, ◌∙◌, arith}
+use Rattle.std.proofs.Common.{◌≡◌, ◌≢◌, ℕ, zero, suc, ◌*◌, ◌^◌, ◌<◌, List, [], ◌∷◌, length, get_or, nat_eq, ℤ, pos, neg_ℤ, ◌+ℤ◌, ◌-ℤ◌, ◌≤ℤ◌, if◌then◌else◌, refl, sym, ap, ◌∙◌, arith}
 use Rattle.std.specs.List.{All}
 use Rattle.std.proofs.lemmas.Int.{ints}
 use Rattle.std.proofs.lemmas.List.Elements.{All-get_or, All-from_get_or}
@@ -7,7 +7,7 @@ use Rattle.sfm_spec.specs.Terms.{exchanged}
 use Rattle.sfm_spec.specs.Families.{Meaning, AreTerms, AreBases, rest_at, deficit}
 use Rattle.sfm_spec.specs.Laws.{MoveLaws}
 use Rattle.sfm_spec.specs.Progress.{IsProgress}
-use Rattle.sfm_spec.specs.Walks.{Step, term_at, row_at, IsWalkMove, AllCanMove, last_of}
+use Rattle.sfm_spec.specs.Walks.{term_at, row_at, IsWalkMove, AllCanMove, last_of}
 use Rattle.sfm_spec.proofs.Walks.{terms-at}
 use Rattle.sfm_spec.proofs.LeastWalks.{least_progress}
 use Rattle.sfm_spec.proofs.Moves.{change_small, full_by_greatest, deficit_at_place}

@@ -1,4 +1,4 @@
-use Rattle.std.proofs.Common.{◌≡◌, ℕ, ◌^◌, length, map, replicate, pos, ◌≤ℤ◌, rules, arith}
+use Rattle.std.proofs.Common.{◌≡◌, map, replicate, pos, ◌≤ℤ◌, rules, arith}
 use Rattle.std.proofs.lemmas.Int.{ints}
 use Rattle.std.proofs.lemmas.List.{length-replicate}
 use Rattle.std.proofs.lemmas.Result.{IfOk-weaker}

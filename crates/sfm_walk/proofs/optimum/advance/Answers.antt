@@ -1,5 +1,5 @@
-use Rattle.std.proofs.Common.{◌≡◌, ℕ, length, pos, ◌≤ℤ◌, subst, sym, rules, arith, FitsSigned}
-use Rattle.std.proofs.lemmas.Int.{ints, to_z-of_z}
+use Rattle.std.proofs.Common.{ℕ, subst, rules, FitsSigned}
+use Rattle.std.proofs.lemmas.Int.{to_z-of_z}
 use mir.Syntax.{w128}
 use Rattle.sfm_exchange.specs.Graph.{IsWhole}
 use Rattle.sfm_exchange.specs.Levels.{depth_of}

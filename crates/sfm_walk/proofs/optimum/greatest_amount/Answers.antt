@@ -1,4 +1,4 @@
-use Rattle.std.proofs.Common.{◌≡◌, ◌^◌, ℕ, length, get_or, pos, neg_ℤ, ◌≤ℤ◌, subst, sym, ◌∙◌, rules, arith, FitsSigned}
+use Rattle.std.proofs.Common.{◌≡◌, ℕ, ◌≤ℤ◌, subst, rules, arith, FitsSigned}
 use Rattle.std.proofs.lemmas.Int.{ints, to_z-of_z}
 use mir.Syntax.{w128}
 use Rattle.sfm_spec.specs.Walks.{last_of}

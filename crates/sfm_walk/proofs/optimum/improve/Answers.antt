@@ -1,4 +1,4 @@
-use Rattle.std.proofs.Common.{◌≡◌, ◌*◌, ◌^◌, ◌<◌, ℕ, List, length, pos, neg_ℤ, ℤ, ◌-ℤ◌, ◌+ℤ◌, ◌≤ℤ◌, refl, subst, ◌∙◌, arith, FitsSigned}
+use Rattle.std.proofs.Common.{◌*◌, ◌^◌, ℕ, List, length, pos, neg_ℤ, ℤ, ◌-ℤ◌, ◌+ℤ◌, ◌≤ℤ◌, refl, subst, arith, FitsSigned}
 use Rattle.std.proofs.lemmas.Int.{ints, to_z-of_z}
 use Rattle.std.proofs.lemmas.List.{length-map}
 use mir.Syntax.{w128}
@@ -8,13 +8,12 @@ use Rattle.sfm_spec.proofs.LeastWalks.{few_walks_small}
 use Rattle.sfm_spec.proofs.Walks.{bases-at}
 use Rattle.sfm_exchange.specs.Graph.{IsWhole}
 use Rattle.sfm_exchange.specs.Levels.{AreClosed, IsFirst}
-use Rattle.sfm_exchange.specs.Signs.{AreSigns}
 use Rattle.sfm_exchange.proofs.Options.{match_none, match_some}
 use Rattle.sfm_walk.proofs.Gaps.{deficit_low}
 use Rattle.sfm_walk.proofs.Counting.{IsCounting, counting_none, counting_more, counting_few, counting_is}
 use Rattle.sfm_walk.proofs.Improving.{IsImproving, falls, gap_still, improving_after, least_found, minimum, no_walk, same_bound, small_still}
 use Rattle.sfm_exchange.proofs.Minimisers.{link_in, under_in}
-use Rattle.sfm_exchange.proofs.WholeGraphs.{base_count, counted, unions_count}
+use Rattle.sfm_exchange.proofs.WholeGraphs.{base_count, counted}
 use Rattle.sfm_walk.proofs.optimum.improve.Goals as goal
 
 pub rest_of-requires-clause-rows : goal.rest_of-requires-clause-rows
