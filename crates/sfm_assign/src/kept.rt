@@ -317,11 +317,12 @@ impl Kept {
     /// # Errors
     ///
     /// `Memory` where there is none.
-    pub fn reach(&self, alloc: Global, u: usize, to: &mut Set) -> Result<(), Memory>
-        requires place { u < length self.now.demand.demands }
-        requires room_for_answer { length to.old ≡ length self.now.demand.demands }
+    pub fn reach(&mut self, alloc: Global, u: usize, to: &mut Set) -> Result<(), Memory>
+        requires place { u < length self.old.demand.demands }
+        requires room_for_answer { length to.old ≡ length self.old.demand.demands }
+        ensures same { self.new.demand ≡ self.old.demand }
         ensures places { length to.new ≡ length to.old }
-        ensures reached { OnOk result ((v : ℕ) → v < length to.new → Has to.new v ↔ IsLender self.now.demand.demands self.now.demand.lists self.now.demand.capacities u v) }
+        ensures reached { OnOk result ((v : ℕ) → v < length to.new → Has to.new v ↔ IsLender self.old.demand.demands self.old.demand.lists self.old.demand.capacities u v) }
     {
         let found = self.lenders(alloc, u)?;
         let demands = self.demand.demands();

@@ -118,12 +118,13 @@ fn kept(rt: &impl Abort, alloc: Global, demand: Demand) -> Kept
 fn reaches(
     rt: &impl Abort,
     alloc: Global,
-    kept: &Kept,
+    kept: &mut Kept,
     u: usize,
     lenders: &[bool],
 ) -> Result<(), Memory>
-    requires place { u < length kept.now.demand.demands }
-    requires each { length lenders.now ≡ length kept.now.demand.demands }
+    requires place { u < length kept.old.demand.demands }
+    requires each { length lenders.now ≡ length kept.old.demand.demands }
+    ensures { kept.new.demand ≡ kept.old.demand }
 {
     let mut to = Set::empty(alloc, lenders.len())?;
     kept.reach(alloc, u, &mut to)?;
@@ -136,15 +137,15 @@ fn reaches(
 #[test]
 fn lends_on_one_slot(rt: HostRuntime) -> Result<(), Fail> {
     let alloc = rt.alloc();
-    let full = kept(&rt, alloc, one_slot(alloc, 2, 1)?);
-    reaches(&rt, alloc, &full, 1, &[true, false])?;
-    let nothing = kept(&rt, alloc, one_slot(alloc, 3, 0)?);
-    reaches(&rt, alloc, &nothing, 0, &[false, false])?;
-    let room = kept(&rt, alloc, one_slot(alloc, 1, 1)?);
-    reaches(&rt, alloc, &room, 0, &[false, true])?;
-    let both = kept(&rt, alloc, one_slot(alloc, 2, 0)?);
-    reaches(&rt, alloc, &both, 0, &[false, false])?;
-    reaches(&rt, alloc, &both, 1, &[true, false])?;
+    let mut full = kept(&rt, alloc, one_slot(alloc, 2, 1)?);
+    reaches(&rt, alloc, &mut full, 1, &[true, false])?;
+    let mut nothing = kept(&rt, alloc, one_slot(alloc, 3, 0)?);
+    reaches(&rt, alloc, &mut nothing, 0, &[false, false])?;
+    let mut room = kept(&rt, alloc, one_slot(alloc, 1, 1)?);
+    reaches(&rt, alloc, &mut room, 0, &[false, true])?;
+    let mut both = kept(&rt, alloc, one_slot(alloc, 2, 0)?);
+    reaches(&rt, alloc, &mut both, 0, &[false, false])?;
+    reaches(&rt, alloc, &mut both, 1, &[true, false])?;
     Ok(())
 }
 
@@ -176,9 +177,9 @@ fn in_a_row(alloc: Global, first: u8, second: u8) -> Result<Demand, Memory>
 
 #[test]
 fn lends_by_way_of_another(rt: HostRuntime) -> Result<(), Fail> {
-    let kept = kept(&rt, rt.alloc(), in_a_row(rt.alloc(), 0, 1)?);
-    reaches(&rt, rt.alloc(), &kept, 0, &[false, true, true, false])?;
-    reaches(&rt, rt.alloc(), &kept, 2, &[false, false, false, false])?;
+    let mut kept = kept(&rt, rt.alloc(), in_a_row(rt.alloc(), 0, 1)?);
+    reaches(&rt, rt.alloc(), &mut kept, 0, &[false, true, true, false])?;
+    reaches(&rt, rt.alloc(), &mut kept, 2, &[false, false, false, false])?;
     Ok(())
 }
 
@@ -189,8 +190,8 @@ fn goes_on_after_a_shift(rt: HostRuntime) -> Result<(), Fail> {
     match assign(rt.alloc(), &after) {
         Ok(_) => {
             kept.shift(rt.alloc(), 0, 1, 1)?;
-            reaches(&rt, rt.alloc(), &kept, 0, &[false, false, false, false])?;
-            reaches(&rt, rt.alloc(), &kept, 1, &[true, false, true, false])?;
+            reaches(&rt, rt.alloc(), &mut kept, 0, &[false, false, false, false])?;
+            reaches(&rt, rt.alloc(), &mut kept, 1, &[true, false, true, false])?;
         }
         Err(_) => panic!(rt; "no split"),
     }
@@ -214,15 +215,15 @@ fn brings(rt: &impl Abort, alloc: Global, kept: &mut Kept, demands: &[i128], cap
 #[test]
 fn brings_a_copy_to_other_demands(rt: HostRuntime) -> Result<(), Fail> {
     let alloc = rt.alloc();
-    let first = kept(&rt, alloc, in_a_row(alloc, 0, 1)?);
+    let mut first = kept(&rt, alloc, in_a_row(alloc, 0, 1)?);
     let mut other = first.copy(alloc)?;
     brings(&rt, alloc, &mut other, &[1, 0, 1, 1], &[1, 1, 1]);
-    reaches(&rt, alloc, &other, 1, &[true, false, true, false])?;
+    reaches(&rt, alloc, &mut other, 1, &[true, false, true, false])?;
     brings(&rt, alloc, &mut other, &[0, 3, 0, 0], &[2, 1, 0]);
-    reaches(&rt, alloc, &other, 2, &[false, true, false, false])?;
+    reaches(&rt, alloc, &mut other, 2, &[false, true, false, false])?;
     brings(&rt, alloc, &mut other, &[0, 1, 1, 1], &[1, 1, 1]);
-    reaches(&rt, alloc, &other, 0, &[false, true, true, false])?;
-    reaches(&rt, alloc, &first, 0, &[false, true, true, false])?;
+    reaches(&rt, alloc, &mut other, 0, &[false, true, true, false])?;
+    reaches(&rt, alloc, &mut first, 0, &[false, true, true, false])?;
     match other.bring(alloc, &[1, 1, 1, 0], &[1, 1, 1]) {
         Err(AssignEnd::Shortage { set }) => {
             assert!(rt; set.len() == 4);
@@ -230,7 +231,7 @@ fn brings_a_copy_to_other_demands(rt: HostRuntime) -> Result<(), Fail> {
         }
         _ => panic!(rt; "no shortage"),
     }
-    reaches(&rt, alloc, &other, 0, &[false, true, true, false])?;
+    reaches(&rt, alloc, &mut other, 0, &[false, true, true, false])?;
     Ok(())
 }
 

@@ -6,6 +6,6 @@ use Rattle.sfm_assign.proofs.kept.Kept.reach.Given as goal
 
 abbrev pub invariant-loop-v : goal.invariant-loop-v
 invariant-loop-v l = record {
-  places : length l.to ≡ length l.self.demand.demands;
-  exact : (v : ℕ) → v < l.v → Has l.to v ↔ IsLender l.self.demand.demands l.self.demand.lists l.self.demand.capacities l.u v;
+  places : length l.to ≡ length l.fn.self.demand.demands;
+  exact : (v : ℕ) → v < l.v → Has l.to v ↔ IsLender l.fn.self.demand.demands l.fn.self.demand.lists l.fn.self.demand.capacities l.u v;
 }
