@@ -465,7 +465,7 @@ impl Term for Concave {
         _alloc: Global,
         q: i128,
         x: &[i128],
-        _note: &(),
+        _note: &mut (),
         u: usize,
         to: &mut Set,
     ) -> Result<(), Memory> {

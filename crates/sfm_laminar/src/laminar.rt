@@ -569,7 +569,7 @@ impl Term for Laminar {
         _alloc: Global,
         q: i128,
         x: &[i128],
-        note: &Slacks,
+        note: &mut Slacks,
         u: usize,
         to: &mut Set,
     ) -> Result<(), Memory> {

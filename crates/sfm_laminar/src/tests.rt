@@ -206,9 +206,9 @@ fn exchanges_by_what_is_kept(rt: HostRuntime) -> Result<(), Fail> {
     is_base(&rt, alloc, &term, 1, &x)?;
     let mut note = term.note(alloc, 1, &x)?;
     let mut to = part(alloc, 3, 7)?;
-    term.reach_by(alloc, 1, &x, &note, 1, &mut to)?;
+    term.reach_by(alloc, 1, &x, &mut note, 1, &mut to)?;
     assert!(rt; to.contains(0) && !to.contains(1) && !to.contains(2));
-    term.reach_by(alloc, 1, &x, &note, 2, &mut to)?;
+    term.reach_by(alloc, 1, &x, &mut note, 2, &mut to)?;
     assert!(rt; !to.contains(0) && !to.contains(1) && !to.contains(2));
     let none = term.room_by(alloc, 1, &x, &mut note, 0, 2)?;
     assert_eq!(rt; none, Room::Upto(0));
@@ -217,7 +217,7 @@ fn exchanges_by_what_is_kept(rt: HostRuntime) -> Result<(), Fail> {
     term.moved(alloc, 1, &x, &mut note, 1, 0, 2)?;
     let y = [0, 3, 3];
     is_base(&rt, alloc, &term, 1, &y)?;
-    term.reach_by(alloc, 1, &y, &note, 0, &mut to)?;
+    term.reach_by(alloc, 1, &y, &mut note, 0, &mut to)?;
     assert!(rt; !to.contains(0) && to.contains(1) && !to.contains(2));
     let back = term.room_by(alloc, 1, &y, &mut note, 0, 1)?;
     assert_eq!(rt; back, Room::Upto(3));

@@ -113,13 +113,14 @@ pub trait Term {
         requires base { IsBase (times q (value_of self.now)) x.now }
         ensures { IfOk result (λ r. fits self.now r q x.now) };
 
-    /// Writes what `reach` does, by a note that fits the base.
+    /// Writes what `reach` does, by a note that fits the base, which fits it still: it may remember what was found. After want
+    /// of memory nothing is said of the note.
     fn reach_by(
         &self,
         alloc: Global,
         q: i128,
         x: &[i128],
-        note: &Self::Note,
+        note: &mut Self::Note,
         u: usize,
         to: &mut Set,
     ) -> Result<(), Memory>
@@ -128,11 +129,12 @@ pub trait Term {
         requires bounded { size_of self.now ≤ℤ pos (10 ^ 18) }
         requires small { All IsEntry x.now }
         requires base { IsBase (times q (value_of self.now)) x.now }
-        requires noted { fits self.now note.now q x.now }
+        requires noted { fits self.now note.old q x.now }
         requires from { u < length x.now }
         requires room_for_answer { length to.old ≡ length x.now }
         ensures places { length to.new ≡ length to.old }
-        ensures reached { OnOk result (IsReach (times q (value_of self.now)) x.now u to.new) };
+        ensures reached { OnOk result (IsReach (times q (value_of self.now)) x.now u to.new) }
+        ensures noted { OnOk result (fits self.now note.new q x.now) };
 
     /// The room of (u, v) at a base, by a note that fits it, which fits it still. After want of memory nothing is said
     /// of the note.
@@ -160,14 +162,14 @@ pub trait Term {
         self.room(alloc, q, x, u, v)
     }
 
-    /// Writes what `reach` does from a place that is s or has room to it, by a note that fits the base. A note that was
-    /// last moved to raise s may find that sooner.
+    /// Writes what `reach` does from a place that is s or has room to it, by a note that fits the base, which fits it still. A
+    /// note that was last moved to raise s may find that sooner. After want of memory nothing is said of the note.
     fn reach_with(
         &self,
         alloc: Global,
         q: i128,
         x: &[i128],
-        note: &Self::Note,
+        note: &mut Self::Note,
         _s: usize,
         u: usize,
         to: &mut Set,
@@ -177,13 +179,14 @@ pub trait Term {
         requires bounded { size_of self.now ≤ℤ pos (10 ^ 18) }
         requires small { All IsEntry x.now }
         requires base { IsBase (times q (value_of self.now)) x.now }
-        requires noted { fits self.now note.now q x.now }
+        requires noted { fits self.now note.old q x.now }
         requires onto { _s < length x.now }
         requires from { u < length x.now }
         requires leads { Depends (times q (value_of self.now)) x.now u _s }
         requires room_for_answer { length to.old ≡ length x.now }
         ensures places { length to.new ≡ length to.old }
         ensures reached { OnOk result (IsReach (times q (value_of self.now)) x.now u to.new) }
+        ensures noted { OnOk result (fits self.now note.new q x.now) }
     {
         self.reach_by(alloc, q, x, note, u, to)
     }

@@ -374,7 +374,7 @@ impl Term for Table {
         _alloc: Global,
         q: i128,
         x: &[i128],
-        _note: &(),
+        _note: &mut (),
         u: usize,
         to: &mut Set,
     ) -> Result<(), Memory> {
