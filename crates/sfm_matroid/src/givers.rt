@@ -32,10 +32,16 @@ pub(crate) fn givers(x: &[i128], cap: i128, u: usize, to: &mut Set)
 }
 
 /// Keeps those places of a set that can lend to u where demands are split.
-pub(crate) fn keep_lenders(alloc: Global, kept: &Kept, u: usize, to: &mut Set) -> Result<(), Memory>
-    requires { AreOthers kept.now.demand.demands u to.old }
+pub(crate) fn keep_lenders(
+    alloc: Global,
+    kept: &mut Kept,
+    u: usize,
+    to: &mut Set,
+) -> Result<(), Memory>
+    requires { AreOthers kept.old.demand.demands u to.old }
     ensures places { length to.new ≡ length to.old }
-    ensures kept { OnOk result (AreKept (λ v. CanBeMet (exchanged kept.now.demand.demands u v (pos 1)) kept.now.demand.lists kept.now.demand.capacities) to.old to.new) }
+    ensures kept { OnOk result (AreKept (λ v. CanBeMet (exchanged kept.old.demand.demands u v (pos 1)) kept.old.demand.lists kept.old.demand.capacities) to.old to.new) }
+    ensures same { kept.new.demand ≡ kept.old.demand }
 {
     if to.size() == 0 {
         return Ok(());
@@ -54,17 +60,18 @@ pub(crate) fn keep_lenders(alloc: Global, kept: &Kept, u: usize, to: &mut Set) -
 /// `Memory` where there is none.
 pub(crate) fn row(
     alloc: Global,
-    kept: &Kept,
+    kept: &mut Kept,
     x: &[i128],
     cap: i128,
     u: usize,
     to: &mut Set,
 ) -> Result<(), Memory>
-    requires entries { kept.now.demand.demands ≡ x.now }
+    requires entries { kept.old.demand.demands ≡ x.now }
     requires place { u < length x.now }
     requires sized { length to.old ≡ length x.now }
     ensures places { length to.new ≡ length x.now }
-    ensures row { OnOk result (IsRowIn kept.now.demand cap u to.new) }
+    ensures row { OnOk result (IsRowIn kept.old.demand cap u to.new) }
+    ensures same { kept.new.demand ≡ kept.old.demand }
 {
     givers(x, cap, u, to);
     keep_lenders(alloc, kept, u, to)?;

@@ -314,44 +314,64 @@ impl Graphic {
         Ok(note)
     }
 
-    /// Writes the places other than u to which u has room at a base, by a split with the root at an end of u: the one that is kept,
-    /// or a copy that is brought there.
+    /// Brings a split of whatever amounts that is kept to a base, with the root at an end of u.
     ///
     /// # Errors
     ///
     /// `Memory` where there is none.
-    pub fn reach_of(
+    fn bring_near(
         &self,
         alloc: Global,
         q: i128,
         x: &[i128],
-        note: &RootSplit,
+        note: &mut RootSplit,
         u: usize,
-        to: &mut Set,
     ) -> Result<(), Memory>
         requires factor { IsFactor q }
         requires entries { length x.now ≡ length self.now.places }
         requires base { IsBase (times q (graphic_value self.now.w self.now.ends)) x.now }
-        requires noted { graphic_fits self.now.w self.now.ends note.now q x.now }
-        requires from { u < length x.now }
-        requires room_for_answer { length to.old ≡ length x.now }
-        ensures places { length to.new ≡ length to.old }
-        ensures reached { OnOk result (IsReach (times q (graphic_value self.now.w self.now.ends)) x.now u to.new) }
+        requires place { u < length x.now }
+        requires kept { IsOverEnds (numbered self.now.ends) (2 * length self.now.ends) note.old.kept.demand }
+        requires spare { (s : Spare) → note.old.spare ≡ Some s → IsOverEnds (numbered self.now.ends) (2 * length self.now.ends) s.kept.demand }
+        ensures end { OnOk result (IsEndOf (numbered self.now.ends) u note.new.root) }
+        ensures noted { OnOk result (graphic_fits self.now.w self.now.ends note.new q x.now) }
     {
         let cap = self.cap(q);
         let root = self.end_near(note.root, u);
-        if root == note.root {
-            row(alloc, &note.kept, x, cap, u, to)?;
-            return Ok(());
-        }
-        let mut kept = note.kept.copy(alloc)?;
-        self.bring(alloc, &mut kept, x, cap, root)?;
-        row(alloc, &kept, x, cap, u, to)?;
+        self.bring(alloc, &mut note.kept, x, cap, root)?;
+        note.root = root;
         Ok(())
     }
 
-    /// Writes the places other than u to which u has room at a base, where u is s or has room to it: by the split that is kept, if
-    /// its root is an end of s.
+    /// Moves the root of the split that is kept beside a base to an end of u, unless it is there.
+    ///
+    /// # Errors
+    ///
+    /// `Memory` where there is none.
+    fn root_near(
+        &self,
+        alloc: Global,
+        q: i128,
+        x: &[i128],
+        note: &mut RootSplit,
+        u: usize,
+    ) -> Result<(), Memory>
+        requires factor { IsFactor q }
+        requires entries { length x.now ≡ length self.now.places }
+        requires base { IsBase (times q (graphic_value self.now.w self.now.ends)) x.now }
+        requires noted { graphic_fits self.now.w self.now.ends note.old q x.now }
+        requires place { u < length x.now }
+        ensures end { OnOk result (IsEndOf (numbered self.now.ends) u note.new.root) }
+        ensures noted { OnOk result (graphic_fits self.now.w self.now.ends note.new q x.now) }
+    {
+        if self.end_near(note.root, u) == note.root {
+            return Ok(());
+        }
+        self.bring_near(alloc, q, x, note, u)
+    }
+
+    /// Writes the places other than u to which u has room at a base, where u is s or has room to it: by the split that is kept,
+    /// with its root at an end of s.
     ///
     /// # Errors
     ///
@@ -361,7 +381,7 @@ impl Graphic {
         alloc: Global,
         q: i128,
         x: &[i128],
-        note: &RootSplit,
+        note: &mut RootSplit,
         s: usize,
         u: usize,
         to: &mut Set,
@@ -369,20 +389,46 @@ impl Graphic {
         requires factor { IsFactor q }
         requires entries { length x.now ≡ length self.now.places }
         requires base { IsBase (times q (graphic_value self.now.w self.now.ends)) x.now }
-        requires noted { graphic_fits self.now.w self.now.ends note.now q x.now }
+        requires noted { graphic_fits self.now.w self.now.ends note.old q x.now }
         requires onto { s < length x.now }
         requires from { u < length x.now }
         requires leads { Depends (times q (graphic_value self.now.w self.now.ends)) x.now u s }
         requires room_for_answer { length to.old ≡ length x.now }
         ensures places { length to.new ≡ length to.old }
         ensures reached { OnOk result (IsReach (times q (graphic_value self.now.w self.now.ends)) x.now u to.new) }
+        ensures noted { OnOk result (graphic_fits self.now.w self.now.ends note.new q x.now) }
     {
-        if self.end_near(note.root, s) != note.root {
-            return self.reach_of(alloc, q, x, note, u, to);
-        }
+        self.root_near(alloc, q, x, note, s)?;
         let cap = self.cap(q);
-        row(alloc, &note.kept, x, cap, u, to)?;
+        row(alloc, &mut note.kept, x, cap, u, to)?;
         Ok(())
+    }
+
+    /// Writes the places other than u to which u has room at a base, by the split that is kept, with its root at an end of u.
+    ///
+    /// # Errors
+    ///
+    /// `Memory` where there is none.
+    pub fn reach_of(
+        &self,
+        alloc: Global,
+        q: i128,
+        x: &[i128],
+        note: &mut RootSplit,
+        u: usize,
+        to: &mut Set,
+    ) -> Result<(), Memory>
+        requires factor { IsFactor q }
+        requires entries { length x.now ≡ length self.now.places }
+        requires base { IsBase (times q (graphic_value self.now.w self.now.ends)) x.now }
+        requires noted { graphic_fits self.now.w self.now.ends note.old q x.now }
+        requires from { u < length x.now }
+        requires room_for_answer { length to.old ≡ length x.now }
+        ensures places { length to.new ≡ length to.old }
+        ensures reached { OnOk result (IsReach (times q (graphic_value self.now.w self.now.ends)) x.now u to.new) }
+        ensures noted { OnOk result (graphic_fits self.now.w self.now.ends note.new q x.now) }
+    {
+        self.reach_near(alloc, q, x, note, u, u, to)
     }
 
     /// The room of (u, v) at a base, by a copy of the split that is kept, which is brought to what stays without v, with the root
@@ -459,11 +505,7 @@ impl Graphic {
         ensures { OnOk result (graphic_fits self.now.w self.now.ends note.new q x.now) }
     {
         self.take_spare(note, u);
-        let cap = self.cap(q);
-        let root = self.end_near(note.root, u);
-        self.bring(alloc, &mut note.kept, x, cap, root)?;
-        note.root = root;
-        Ok(())
+        self.bring_near(alloc, q, x, note, u)
     }
 }
 
@@ -528,8 +570,8 @@ impl Term for Graphic {
         u: usize,
         to: &mut Set,
     ) -> Result<(), Memory> {
-        let note = self.note_of(alloc, q, x)?;
-        self.reach_of(alloc, q, x, &note, u, to)
+        let mut note = self.note_of(alloc, q, x)?;
+        self.reach_of(alloc, q, x, &mut note, u, to)
     }
 
     fn note(&self, alloc: Global, q: i128, x: &[i128]) -> Result<RootSplit, Memory> {
@@ -541,7 +583,7 @@ impl Term for Graphic {
         alloc: Global,
         q: i128,
         x: &[i128],
-        note: &RootSplit,
+        note: &mut RootSplit,
         u: usize,
         to: &mut Set,
     ) -> Result<(), Memory> {
@@ -565,7 +607,7 @@ impl Term for Graphic {
         alloc: Global,
         q: i128,
         x: &[i128],
-        note: &RootSplit,
+        note: &mut RootSplit,
         s: usize,
         u: usize,
         to: &mut Set,

@@ -198,7 +198,7 @@ pub(crate) fn has_rooms<T: Term>(
             "room of {u} and {v}"
         );
     }
-    let note = term.note(alloc, q, x)?;
+    let mut note = term.note(alloc, q, x)?;
     for (u, number) in wanted.reaches {
         assert!(rt; *u < k);
         let reached = part(alloc, k, *number)?;
@@ -207,7 +207,7 @@ pub(crate) fn has_rooms<T: Term>(
         for v in 0..k {
             assert_eq!(rt; to.contains(v), reached.contains(v), "reach of {u} at {v}");
         }
-        term.reach_by(alloc, q, x, &note, *u, &mut to)?;
+        term.reach_by(alloc, q, x, &mut note, *u, &mut to)?;
         for v in 0..k {
             assert_eq!(rt;
                 to.contains(v),

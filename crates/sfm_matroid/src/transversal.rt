@@ -298,22 +298,23 @@ impl Transversal {
         alloc: Global,
         q: i128,
         x: &[i128],
-        note: &SlotSplit,
+        note: &mut SlotSplit,
         u: usize,
         to: &mut Set,
     ) -> Result<(), Memory>
         requires factor { IsFactor q }
         requires entries { length x.now ≡ length self.now.places }
         requires base { IsBase (times q (transversal_value self.now.w self.now.entries)) x.now }
-        requires noted { transversal_fits self.now.w self.now.entries note.now q x.now }
+        requires noted { transversal_fits self.now.w self.now.entries note.old q x.now }
         requires from { u < length x.now }
         requires room_for_answer { length to.old ≡ length x.now }
         ensures places { length to.new ≡ length to.old }
         ensures reached { OnOk result (IsReach (times q (transversal_value self.now.w self.now.entries)) x.now u to.new) }
+        ensures noted { OnOk result (transversal_fits self.now.w self.now.entries note.new q x.now) }
     {
         let cap = product(q, self.w);
         givers(x, cap, u, to);
-        keep_lenders(alloc, &note.kept, u, to)?;
+        keep_lenders(alloc, &mut note.kept, u, to)?;
         Ok(())
     }
 }
@@ -379,8 +380,8 @@ impl Term for Transversal {
         u: usize,
         to: &mut Set,
     ) -> Result<(), Memory> {
-        let note = self.note_of(alloc, q, x)?;
-        self.reach_of(alloc, q, x, &note, u, to)
+        let mut note = self.note_of(alloc, q, x)?;
+        self.reach_of(alloc, q, x, &mut note, u, to)
     }
 
     fn note(&self, alloc: Global, q: i128, x: &[i128]) -> Result<SlotSplit, Memory> {
@@ -392,7 +393,7 @@ impl Term for Transversal {
         alloc: Global,
         q: i128,
         x: &[i128],
-        note: &SlotSplit,
+        note: &mut SlotSplit,
         u: usize,
         to: &mut Set,
     ) -> Result<(), Memory> {

@@ -1,14 +1,9 @@
-use Rattle.std.proofs.Common.{◌*ℤ◌, length, FitsSigned}
+use Rattle.std.proofs.Common.{◌*ℤ◌, ◌∙◌, length, FitsSigned}
 use Rattle.std.proofs.lemmas.Int.{to_z-of_z}
 use mir.Syntax.{w128}
-use Rattle.sfm_law.proofs.Fits.{given_fits, given_more, product_fits, product_low, product_high}
+use Rattle.sfm_law.proofs.Fits.{given_fits, given_more, product_fits, product_low}
 use Rattle.sfm_matroid.proofs.GraphicRooms.{row_reach}
 use Rattle.sfm_matroid.proofs.graphic.Graphic.reach_near.Goals as goal
-
-pub returns-then-end_near-note-clause-reached : goal.returns-then-end_near-note-clause-reached
-returns-then-end_near-note-clause-reached c =
-    let fq : FitsSigned w128 c.args.q = c.ranges.q in
-    simp to_z-of_z at c.reach_of.ensures.reached
 
 pub returns-clause-reached : goal.returns-clause-reached
 returns-clause-reached c =
@@ -21,5 +16,11 @@ returns-clause-reached c =
     let fp : FitsSigned w128 (q *ℤ s.w) = product_fits _ _ r.factor (given_more _ s.given) in
     let p = simp to_z-of_z at c.cap-cap.ensures.value in
     let low = product_low q s.w r.factor s.low in
-    let end = rw c.if-end_near-note.false at c.end_near.ensures in
-    row_reach (length s.places) q s.w s.ends s.same_count low x r.entries r.base c.args.s c.args.note.now.root c.args.u r.onto end r.from r.leads c.row.new.to c.in_ok-row.ensures.places (simp to_z-of_z at (rw (r.noted.split, p) at c.in_ok-row.ensures.row))
+    let noted = simp to_z-of_z at c.in_ok-root_near.ensures.noted in
+    row_reach (length s.places) q s.w s.ends s.same_count low x r.entries r.base c.args.s c.root_near.new.note.root c.args.u r.onto c.in_ok-root_near.ensures.end r.from r.leads c.row.new.to c.in_ok-row.ensures.places (simp to_z-of_z at (rw (noted.split, p) at c.in_ok-row.ensures.row))
+
+pub returns-clause-noted : goal.returns-clause-noted
+returns-clause-noted c =
+    let fq : FitsSigned w128 c.args.q = c.ranges.q in
+    let noted = simp to_z-of_z at c.in_ok-root_near.ensures.noted in
+    record { split = c.row.ensures.same ∙ noted.split; spare = noted.spare }

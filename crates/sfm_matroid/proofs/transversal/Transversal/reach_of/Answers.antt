@@ -37,3 +37,8 @@ returns-clause-reached c =
     let n = r.noted in
     let kept = rw n.split at c.in_ok-keep_lenders.ensures.kept in
     reach_slots (length s.places) q s.w s.entries n.m n.below s.same_count low x r.entries r.base c.args.u r.from c.givers.new.to c.keep_lenders.new.to (c.in_ok-keep_lenders.ensures.places ∙ c.givers.ensures.places) exact kept
+
+pub returns-clause-noted : goal.returns-clause-noted
+returns-clause-noted c =
+    let n = c.requires.noted in
+    record { m = n.m; below = n.below; holds = n.holds; split = c.keep_lenders.ensures.same ∙ n.split; spare = n.spare }

@@ -5,7 +5,7 @@ use Rattle.sfm_law.proofs.Fits.{given_fits, given_more, product_fits, product_lo
 use Rattle.sfm_matroid.proofs.Fits.{within_amounts}
 use Rattle.sfm_matroid.proofs.GraphicBases.{base_within_cap}
 use Rattle.sfm_matroid.proofs.GraphicRooms.{base_split, root_below}
-use Rattle.sfm_matroid.proofs.graphic.Graphic.move_to.Goals as goal
+use Rattle.sfm_matroid.proofs.graphic.Graphic.bring_near.Goals as goal
 
 pub bring-requires-clause-amounts : goal.bring-requires-clause-amounts
 bring-requires-clause-amounts c =
