@@ -1,5 +1,5 @@
 -- Bases of a concave function of the count, and the exchanges at them.
-use Rattle.std.proofs.Common.{◌≡◌, ◌≢◌, ◌↔◌, ℕ, ◌<◌, Bool, false, List, length, get_or, set, ℤ, pos, ◌≤ℤ◌, ◌<ℤ◌, Some, refl, sym, ap, ◌∙◌, arith}
+use Rattle.std.proofs.Common.{◌≡◌, ◌≢◌, ◌↔◌, ℕ, ◌<◌, Bool, false, List, length, get_or, set, ℤ, pos, ◌≤ℤ◌, ◌<ℤ◌, Option, Some, refl, sym, ap, ◌∙◌, arith}
 use Rattle.std.proofs.lemmas.Int.{ints, by_lt_z}
 use Rattle.sfm_spec.specs.Sets.{Has, whole_set, size, sum_over}
 use Rattle.sfm_spec.specs.Terms.{times, IsBase, IsCapacity, HasRoom, exchanged}
@@ -9,11 +9,11 @@ use Rattle.sfm_spec.proofs.Exchange.{base_moved, leaves_room}
 use Rattle.sfm_law.specs.Room.{IsReach}
 use Rattle.sfm_concave.specs.Counts.{IsFalling, falling-times}
 use Rattle.sfm_concave.specs.ConcaveLaws.{scaled, number_of, NeverRises, falling}
-use Rattle.sfm_concave.specs.Thresholds.{above, above_with, above_between, slack, IsSplit, IsLeastSlack, Blocks}
+use Rattle.sfm_concave.specs.Thresholds.{above, above_with, above_between, slack, IsSplit, IsLeastSlack, Blocks, IsOver, IsBar}
 use Rattle.sfm_concave.proofs.Above.{with_split}
 use Rattle.sfm_concave.proofs.Bases.{none_short, least_split, blocked}
 
-scaled-falling : (q : ℤ) (g x : List ℤ) → pos 1 ≤ℤ q → length g ≡ length x → NeverRises g → IsFalling (length x) (scaled q g)
+pub scaled-falling : (q : ℤ) (g x : List ℤ) → pos 1 ≤ℤ q → length g ≡ length x → NeverRises g → IsFalling (length x) (scaled q g)
 scaled-falling q g x low sized never = rw (← sized) (falling-times (length g) q (number_of g) (omega (arith, ints)) (falling g never))
 
 -- ---- the bases
@@ -100,3 +100,11 @@ concave-reach q g x low sized never base u ku to same is = record {
     (λ (ne, room). (is v kv).1 (ne, (concave-room q g x low sized never base u v ku kv (λ e. ne (sym e))).0 room)),
   );
 }
+
+-- the places above the bar are those to which there is room
+pub reach_by_bar : (q : ℤ) (g x : List ℤ) → pos 1 ≤ℤ q → length g ≡ length x → NeverRises g → IsBase (times q (concave_value g)) x → (u : ℕ) → u < length x → (bar : Option ℤ) (to : List Bool) → length to ≡ length x
+    → IsBar (scaled q g) x u bar → ((v : ℕ) → v < length x → Has to v ↔ ((v ≢ u) × IsOver bar (get_or x v (pos 0)))) → IsReach (times q (concave_value g)) x u to
+reach_by_bar q g x low sized never base u ku bar to same is over = concave-reach q g x low sized never base u ku to same (λ v kv. (
+  (λ h. let o = (over v kv).0 h in (o.0, (is (get_or x v (pos 0))).0 o.1)),
+  (λ (ne, all). (over v kv).1 (ne, (is (get_or x v (pos 0))).1 all)),
+))

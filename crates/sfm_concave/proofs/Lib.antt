@@ -1,9 +1,10 @@
 pub mod Above
-pub mod Bars
 pub mod Bases
+pub mod ConcaveBars
 pub mod ConcaveRooms
 pub mod Increments
 pub mod LeastSoFar
 pub mod Ranks
 pub mod Shares
+pub mod Tights
 pub mod UniformRooms

@@ -1,6 +1,7 @@
 -- The places with more than a number, and what a set leaves to a vector of the number of its count.
-use Rattle.std.specs.Prelude.{◌≡◌, ◌↔◌, ℕ, ◌<◌, Bool, true, false, List, length, map, slice_index_or, set, ℤ, pos, ◌-ℤ◌, ◌≤ℤ◌, ◌<ℤ◌, Option, Some, None}
+use Rattle.std.specs.Prelude.{◌≡◌, ◌↔◌, ℕ, ◌-◌, ◌<◌, Bool, true, false, List, length, drop, map, slice_index_or, set, ℤ, pos, ◌-ℤ◌, ◌≤ℤ◌, ◌<ℤ◌, Option, Some, None}
 use Rattle.std.specs.Int.Signed.{lt_z}
+use Rattle.sfm_spec.specs.Bounds.{total_of}
 use Rattle.sfm_spec.specs.Sets.{Has, size, sum_over}
 
 -- the places with more than a number
@@ -35,6 +36,21 @@ pub record Blocks (h : ℕ → ℤ) (x : List ℤ) (u w : ℕ) : Type 0 where
   pub in_range : w < length x
   pub below : slice_index_or x w (pos 0) ≤ℤ slice_index_or x u (pos 0)
   pub tight : slack h x (above_with (slice_index_or x w (pos 0)) x u) ≡ pos 0
+
+-- what all places but the i least leave, where y are the entries in ascending order
+abbrev pub slack_from : (ℕ → ℤ) → List ℤ → ℕ → ℤ
+slack_from h y i = h (length y - i) -ℤ total_of (drop i y)
+
+-- no number before `own`, but for 0, is one of places without which the others leave nothing
+abbrev pub NoneTight : (ℕ → ℤ) → List ℤ → ℕ → Type 0
+NoneTight h y own = (j : ℕ) → 0 < j → j < own → slack_from h y j ≡ pos 0 → ⊥
+
+-- i is the last such number
+pub record IsLastTight (h : ℕ → ℤ) (y : List ℤ) (own i : ℕ) : Type 0 where
+  pub some : 0 < i
+  pub below : i < own
+  pub tight : slack_from h y i ≡ pos 0
+  pub last : (j : ℕ) → i < j → j < own → slack_from h y j ≡ pos 0 → ⊥
 
 -- a is above the bar, if there is one
 abbrev pub IsOver : Option ℤ → ℤ → Type 0

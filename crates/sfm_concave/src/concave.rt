@@ -1,19 +1,21 @@
 // A concave function of the count of a part. What a part leaves of its value is its slack, and a base leaves none negative.
 // Of the parts of one count those with the greatest entries leave least; and of these, only those that have all the entries above
-// some entry need to be tried: with u put in and v taken out for the room of (u, v).
-ghost use Rattle.std.specs.Prelude.{◌≡◌, ◌≢◌, ◌↔◌, ℕ, ◌+◌, ◌-◌, ◌<◌, ◌≤◌, ◌^◌, Bool, true, false, List, length, slice_index_or, ℤ, pos, neg_ℤ, ◌*ℤ◌, ◌+ℤ◌, ◌-ℤ◌, ◌≤ℤ◌, ◌<ℤ◌, IfOk, IfSome, OnOk, IsTrue, Option, Some, Ok, Err};
+// some entry need to be tried: with u put in and v taken out for the room of (u, v). For a row the parts of the greatest entries
+// are tried from u's own entry on, one size after another: the first that leaves nothing tells the row.
+ghost use Rattle.std.specs.Prelude.{◌≡◌, ◌≢◌, ◌↔◌, ℕ, ◌+◌, ◌-◌, ◌<◌, ◌≤◌, ◌^◌, Bool, true, false, List, length, slice_index_or, ℤ, pos, neg_ℤ, ◌*ℤ◌, ◌+ℤ◌, ◌-ℤ◌, ◌≤ℤ◌, ◌<ℤ◌, IfOk, IfSome, MatchOption, OnOk, IsTrue, Option, Some, Ok, Err};
 ghost use Rattle.std.specs.List.{All};
 ghost use Rattle.sfm_spec.specs.Bounds.{IsEntry, IsFactor, IsGiven, AreElements};
+ghost use Rattle.sfm_spec.specs.Sets.{Has};
 ghost use Rattle.sfm_spec.specs.Terms.{SetFunction, times, IsBase, IsFamily, IsSubmodular, IsGreedy, exchanged};
 ghost use Rattle.sfm_spec.specs.Kinds.{concave_value};
 ghost use Rattle.sfm_law.specs.Room.{IsRoom, IsReach, IsWithinRoom};
 ghost use Rattle.sfm_concave.specs.Rankings.{IsRanking};
-ghost use Rattle.sfm_concave.specs.Thresholds.{slack, IsShareOf, IsSomeShare, IsLeastSlack, Blocks, IsOver, IsBar, LeavesAbove};
+ghost use Rattle.sfm_concave.specs.Thresholds.{slack, IsShareOf, IsSomeShare, slack_from, IsLeastSlack, IsOver, IsBar, IsLastTight, NoneTight, LeavesAbove};
 ghost use Rattle.sfm_concave.specs.ConcaveLaws.{number_of, scaled, IsFirstRise, NeverRises, greatest, gain_of, concave_start, concave-family, concave-submodular, concave-bounded, concave-starts, concave-starts_small};
 
-use crate::ranking::{FEW, Ranking, ranking_of};
+use crate::ranking::{FEW, Ranking, RankingArrays, RankingView, count_upto};
 use crate::rise::first_rise;
-use crate::share::{Share, share_above, share_between, share_with, share_without};
+use crate::share::{Share, share_above, share_between, share_without};
 use sfm_base::{Memory, Numbers, Places, Set};
 use sfm_law::{Room, Term, has_sum, magnitude, product};
 use std::alloc::Global;
@@ -80,6 +82,18 @@ fn is_other_over(v: usize, u: usize, bar: Option<i128>, a: i128) -> bool
     ensures { IsTrue result ↔ ((v ≢ u) × IsOver bar a) }
 {
     v != u && is_over(bar, a)
+}
+
+/// Writes the places other than u whose entries are above a bar, if there is one.
+fn put_over(x: &[i128], u: usize, bar: Option<i128>, to: &mut Set)
+    requires small { All IsEntry x.now }
+    requires room_for_answer { length to.old ≡ length x.now }
+    ensures places { length to.new ≡ length to.old }
+    ensures over { (v : ℕ) → v < length x.now → Has to.new v ↔ ((v ≢ u) × IsOver bar (slice_index_or x.now v (pos 0))) }
+{
+    for (v, a) in x.iter().enumerate() {
+        to.put(v, is_other_over(v, u, bar, *a));
+    }
 }
 
 impl Concave {
@@ -188,16 +202,16 @@ impl Concave {
         requires small { All IsEntry x.now }
         ensures { IsTrue result ↔ LeavesAbove (scaled q self.now.values) x.now }
     {
-        let ranking = ranking_of(x);
-        self.is_within_by(q, x, Some(&ranking))
+        let ranking = RankingArrays::new(x);
+        self.is_within_by(q, x, Some(ranking.view()))
     }
 
     /// The same, by a ranking if there is one.
-    fn is_within_by(&self, q: i128, x: &[i128], ranking: Option<&Ranking>) -> bool
+    fn is_within_by(&self, q: i128, x: &[i128], ranking: Option<RankingView>) -> bool
         requires factor { IsFactor q }
         requires entries { length x.now ≡ length self.now.places }
         requires small { All IsEntry x.now }
-        requires ranked { IfSome ranking (λ r. IsRanking x.now r.now.sorted r.now.sums r.now.len) }
+        requires ranked { IfSome ranking (λ r. IsRanking x.now r.sorted.now r.sums.now) }
         ensures { IsTrue result ↔ LeavesAbove (scaled q self.now.values) x.now }
     {
         for a in x {
@@ -244,8 +258,8 @@ impl Concave {
         requires onto { v < length x.now }
         ensures { IsLeastSlack (scaled q self.now.values) x.now u v result }
     {
-        let ranking = ranking_of(x);
-        self.least_slack_by(q, x, Some(&ranking), u, v)
+        let ranking = RankingArrays::new(x);
+        self.least_slack_by(q, x, Some(ranking.view()), u, v)
     }
 
     /// The same, by a ranking if there is one.
@@ -253,14 +267,14 @@ impl Concave {
         &self,
         q: i128,
         x: &[i128],
-        ranking: Option<&Ranking>,
+        ranking: Option<RankingView>,
         u: usize,
         v: usize,
     ) -> i128
         requires factor { IsFactor q }
         requires entries { length x.now ≡ length self.now.places }
         requires small { All IsEntry x.now }
-        requires ranked { IfSome ranking (λ r. IsRanking x.now r.now.sorted r.now.sums r.now.len) }
+        requires ranked { IfSome ranking (λ r. IsRanking x.now r.sorted.now r.sums.now) }
         requires apart { u ≢ v }
         requires from { u < length x.now }
         requires onto { v < length x.now }
@@ -288,83 +302,94 @@ impl Concave {
         Room::Upto(self.least_slack(q, x, u, v))
     }
 
-    /// Whether u and the places above w, which is not above u, leave nothing: then u has no room to a place that is not
-    /// above w.
-    fn blocks(&self, q: i128, x: &[i128], ranking: Option<&Ranking>, u: usize, w: usize) -> bool
+    /// The room of (u, v) at a base, by the ranking that is kept beside it.
+    pub fn room_in(&self, q: i128, x: &[i128], note: &Ranking, u: usize, v: usize) -> Room
         requires factor { IsFactor q }
         requires entries { length x.now ≡ length self.now.places }
         requires small { All IsEntry x.now }
-        requires ranked { IfSome ranking (λ r. IsRanking x.now r.now.sorted r.now.sums r.now.len) }
+        requires base { IsBase (times q (concave_value self.now.values)) x.now }
+        requires noted { IsRanking x.now note.now.sorted.items note.now.sums.items }
+        requires apart { u ≢ v }
         requires from { u < length x.now }
-        requires place { w < length x.now }
-        ensures { IsTrue result ↔ Blocks (scaled q self.now.values) x.now u w }
+        requires onto { v < length x.now }
+        ensures { IsRoom (times q (concave_value self.now.values)) x.now u v result }
     {
-        x[w] <= x[u] && self.slack(q, x, share_with(x, ranking, x[w], u)) == 0
+        Room::Upto(self.least_slack_by(q, x, Some(note.view()), u, v))
     }
 
-    /// Whether u has no room to a place like w, and this is not known by a bar that is at least as high.
-    fn lifts(
-        &self,
-        q: i128,
-        x: &[i128],
-        ranking: Option<&Ranking>,
-        u: usize,
-        w: usize,
-        bar: Option<i128>,
-    ) -> bool
+    /// What all places but the i least leave.
+    fn slack_from(&self, q: i128, _x: &[i128], ranking: RankingView, i: usize) -> i128
+        requires factor { IsFactor q }
+        requires entries { length _x.now ≡ length self.now.places }
+        requires small { All IsEntry _x.now }
+        requires ranked { IsRanking _x.now ranking.sorted.now ranking.sums.now }
+        requires place { i ≤ length ranking.sorted.now }
+        ensures { result ≡ slack_from (scaled q self.now.values) ranking.entry.sorted.now i }
+    {
+        let len = ranking.sorted.len();
+        let rest = ranking.sums[len] - ranking.sums[i];
+        product(q, self.number(len - i)) - rest
+    }
+
+    /// Whether all places but the i least leave nothing.
+    fn is_tight(&self, q: i128, x: &[i128], ranking: RankingView, i: usize) -> bool
         requires factor { IsFactor q }
         requires entries { length x.now ≡ length self.now.places }
         requires small { All IsEntry x.now }
-        requires ranked { IfSome ranking (λ r. IsRanking x.now r.now.sorted r.now.sums r.now.len) }
-        requires from { u < length x.now }
-        requires place { w < length x.now }
-        ensures { IsTrue result ↔ (IsOver bar (slice_index_or x.now w (pos 0)) × Blocks (scaled q self.now.values) x.now u w) }
+        requires ranked { IsRanking x.now ranking.sorted.now ranking.sums.now }
+        requires place { i ≤ length ranking.sorted.now }
+        ensures { IsTrue result ↔ (slack_from (scaled q self.now.values) ranking.entry.sorted.now i ≡ pos 0) }
     {
-        is_over(bar, x[w]) && self.blocks(q, x, ranking, u, w)
+        self.slack_from(q, x, ranking, i) == 0
     }
 
-    /// The greatest entry to which u has no room, if there is one.
+    /// The last number before `own`, but for 0, for which this is so, if there is one.
+    fn last_tight(&self, q: i128, x: &[i128], ranking: RankingView, own: usize) -> Option<usize>
+        requires factor { IsFactor q }
+        requires entries { length x.now ≡ length self.now.places }
+        requires small { All IsEntry x.now }
+        requires ranked { IsRanking x.now ranking.sorted.now ranking.sums.now }
+        requires place { own ≤ length ranking.sorted.now }
+        ensures { MatchOption result (NoneTight (scaled q self.now.values) ranking.entry.sorted.now own) (IsLastTight (scaled q self.now.values) ranking.entry.sorted.now own) }
+    {
+        for i in (1..own).rev() {
+            if self.is_tight(q, x, ranking, i) {
+                return Some(i);
+            }
+        }
+        None
+    }
+
+    /// The greatest entry to which u has no room at a base, if there is one. It is u's own where u and the places above u leave
+    /// nothing; else the one below the last place before u's, in ascending order, from which on the places leave nothing.
+    fn bar_by(&self, q: i128, x: &[i128], ranking: RankingView, u: usize) -> Option<i128>
+        requires factor { IsFactor q }
+        requires entries { length x.now ≡ length self.now.places }
+        requires small { All IsEntry x.now }
+        requires base { IsBase (times q (concave_value self.now.values)) x.now }
+        requires ranked { IsRanking x.now ranking.sorted.now ranking.sums.now }
+        requires from { u < length x.now }
+        ensures { IsBar (scaled q self.now.values) x.now u result }
+    {
+        let own = count_upto(ranking.sorted, x[u]) - 1;
+        if self.is_tight(q, x, ranking, own) {
+            return Some(x[u]);
+        }
+        let i = self.last_tight(q, x, ranking, own)?;
+        Some(ranking.sorted[i - 1])
+    }
+
+    /// The same, by a ranking that is made for it.
     fn bar(&self, q: i128, x: &[i128], u: usize) -> Option<i128>
         requires factor { IsFactor q }
         requires entries { length x.now ≡ length self.now.places }
         requires small { All IsEntry x.now }
+        requires base { IsBase (times q (concave_value self.now.values)) x.now }
         requires from { u < length x.now }
         ensures { IsBar (scaled q self.now.values) x.now u result }
     {
-        if x.len() <= FEW {
-            return self.bar_by(q, x, None, u);
-        }
-        self.bar_ranked(q, x, u)
-    }
-
-    /// The same, by a ranking.
-    fn bar_ranked(&self, q: i128, x: &[i128], u: usize) -> Option<i128>
-        requires factor { IsFactor q }
-        requires entries { length x.now ≡ length self.now.places }
-        requires small { All IsEntry x.now }
-        requires from { u < length x.now }
-        ensures { IsBar (scaled q self.now.values) x.now u result }
-    {
-        let ranking = ranking_of(x);
-        self.bar_by(q, x, Some(&ranking), u)
-    }
-
-    /// The same, by a ranking if there is one.
-    fn bar_by(&self, q: i128, x: &[i128], ranking: Option<&Ranking>, u: usize) -> Option<i128>
-        requires factor { IsFactor q }
-        requires entries { length x.now ≡ length self.now.places }
-        requires small { All IsEntry x.now }
-        requires ranked { IfSome ranking (λ r. IsRanking x.now r.now.sorted r.now.sums r.now.len) }
-        requires from { u < length x.now }
-        ensures { IsBar (scaled q self.now.values) x.now u result }
-    {
-        let mut bar = None;
-        for (w, a) in x.iter().enumerate() {
-            if self.lifts(q, x, ranking, u, w, bar) {
-                bar = Some(*a);
-            }
-        }
-        bar
+        let ranking = RankingArrays::new(x);
+        self.bar_by(q, x, ranking.view(), u)
     }
 
     /// Writes the places other than u to which u has room at a base: those above the greatest entry to which it has none.
@@ -378,15 +403,27 @@ impl Concave {
         ensures places { length to.new ≡ length to.old }
         ensures reached { IsReach (times q (concave_value self.now.values)) x.now u to.new }
     {
-        let bar = self.bar(q, x, u);
-        for (v, a) in x.iter().enumerate() {
-            to.put(v, is_other_over(v, u, bar, *a));
-        }
+        put_over(x, u, self.bar(q, x, u), to);
+    }
+
+    /// Writes what `reach_of` does, by the ranking that is kept beside the base.
+    pub fn reach_in(&self, q: i128, x: &[i128], note: &Ranking, u: usize, to: &mut Set)
+        requires factor { IsFactor q }
+        requires entries { length x.now ≡ length self.now.places }
+        requires small { All IsEntry x.now }
+        requires base { IsBase (times q (concave_value self.now.values)) x.now }
+        requires noted { IsRanking x.now note.now.sorted.items note.now.sums.items }
+        requires from { u < length x.now }
+        requires room_for_answer { length to.old ≡ length x.now }
+        ensures places { length to.new ≡ length to.old }
+        ensures reached { IsReach (times q (concave_value self.now.values)) x.now u to.new }
+    {
+        put_over(x, u, self.bar_by(q, x, note.view(), u), to);
     }
 }
 
 impl Term for Concave {
-    type Note = ();
+    type Note = Ranking;
 
     ghost places = { λ s. s.places };
 
@@ -400,7 +437,7 @@ impl Term for Concave {
 
     ghost lean_calls = { λ s. Unit {0} };
 
-    ghost fits = { λ s note q x. Unit {0} };
+    ghost fits = { λ s note q x. IsRanking x note.sorted.items note.sums.items };
 
     ghost family = { λ s. concave-family s.values };
 
@@ -456,8 +493,8 @@ impl Term for Concave {
         Ok(())
     }
 
-    fn note(&self, _alloc: Global, _q: i128, _x: &[i128]) -> Result<(), Memory> {
-        Ok(())
+    fn note(&self, alloc: Global, _q: i128, x: &[i128]) -> Result<Ranking, Memory> {
+        Ranking::new(alloc, x)
     }
 
     fn reach_by(
@@ -465,24 +502,37 @@ impl Term for Concave {
         _alloc: Global,
         q: i128,
         x: &[i128],
-        _note: &mut (),
+        note: &mut Ranking,
         u: usize,
         to: &mut Set,
     ) -> Result<(), Memory> {
-        self.reach_of(q, x, u, to);
+        self.reach_in(q, x, note, u, to);
         Ok(())
+    }
+
+    fn room_by(
+        &self,
+        _alloc: Global,
+        q: i128,
+        x: &[i128],
+        note: &mut Ranking,
+        u: usize,
+        v: usize,
+    ) -> Result<Room, Memory> {
+        Ok(self.room_in(q, x, note, u, v))
     }
 
     fn moved(
         &self,
         _alloc: Global,
         _q: i128,
-        _x: &[i128],
-        _note: &mut (),
-        _u: usize,
-        _v: usize,
-        _a: i128,
+        x: &[i128],
+        note: &mut Ranking,
+        u: usize,
+        v: usize,
+        a: i128,
     ) -> Result<(), Memory> {
+        note.exchange(x, u, v, a);
         Ok(())
     }
 }

@@ -2,12 +2,13 @@
 #![tactic(auto)]
 
 pub mod concave;
-mod ranking;
+pub mod ranking;
 mod rise;
 mod share;
 pub mod uniform;
 
 pub use concave::{Concave, ConcaveEnd};
+pub use ranking::Ranking;
 pub use uniform::Uniform;
 
 #[cfg(test)]

@@ -8,7 +8,7 @@ ghost use Rattle.sfm_concave.specs.Thresholds.{above, above_with, above_between}
 ghost use Rattle.sfm_concave.specs.Thresholds.{IsShareOf};
 ghost use Rattle.sfm_concave.specs.Rankings.{IsRanking};
 
-use crate::ranking::{Ranking, count_upto};
+use crate::ranking::{RankingView, count_upto};
 use sfm_law::sum_of;
 
 /// A count of places, and the sum of their entries.
@@ -19,16 +19,17 @@ pub(crate) struct Share {
 }
 
 /// The share of the places with more than a number, from the ranking of the entries.
-fn share_by_ranking(_x: &[i128], ranking: &Ranking, bar: i128) -> Share
+fn share_by_ranking(_x: &[i128], ranking: RankingView, bar: i128) -> Share
     requires few { length _x.now ≤ 256 }
     requires small { All IsEntry _x.now }
-    requires ranked { IsRanking _x.now ranking.now.sorted ranking.now.sums ranking.now.len }
+    requires ranked { IsRanking _x.now ranking.sorted.now ranking.sums.now }
     ensures { IsShareOf result.count result.sum _x.now (above bar _x.now) }
 {
-    let upto = count_upto(&ranking.sorted[..ranking.len], bar);
+    let len = ranking.sorted.len();
+    let upto = count_upto(ranking.sorted, bar);
     Share {
-        count: ranking.len - upto,
-        sum: ranking.sums[ranking.len] - ranking.sums[upto],
+        count: len - upto,
+        sum: ranking.sums[len] - ranking.sums[upto],
     }
 }
 
@@ -50,10 +51,10 @@ fn share_by_scan(x: &[i128], bar: i128) -> Share
 }
 
 /// The share of the places with more than a number.
-pub(crate) fn share_above(x: &[i128], ranking: Option<&Ranking>, bar: i128) -> Share
+pub(crate) fn share_above(x: &[i128], ranking: Option<RankingView>, bar: i128) -> Share
     requires few { length x.now ≤ 256 }
     requires small { All IsEntry x.now }
-    requires ranked { IfSome ranking (λ r. IsRanking x.now r.now.sorted r.now.sums r.now.len) }
+    requires ranked { IfSome ranking (λ r. IsRanking x.now r.sorted.now r.sums.now) }
     ensures { IsShareOf result.count result.sum x.now (above bar x.now) }
 {
     match ranking {
@@ -63,10 +64,10 @@ pub(crate) fn share_above(x: &[i128], ranking: Option<&Ranking>, bar: i128) -> S
 }
 
 /// The share of the places with more than a number and u.
-pub(crate) fn share_with(x: &[i128], ranking: Option<&Ranking>, bar: i128, u: usize) -> Share
+pub(crate) fn share_with(x: &[i128], ranking: Option<RankingView>, bar: i128, u: usize) -> Share
     requires few { length x.now ≤ 256 }
     requires small { All IsEntry x.now }
-    requires ranked { IfSome ranking (λ r. IsRanking x.now r.now.sorted r.now.sums r.now.len) }
+    requires ranked { IfSome ranking (λ r. IsRanking x.now r.sorted.now r.sums.now) }
     requires from { u < length x.now }
     ensures { IsShareOf result.count result.sum x.now (above_with bar x.now u) }
 {
@@ -83,14 +84,14 @@ pub(crate) fn share_with(x: &[i128], ranking: Option<&Ranking>, bar: i128, u: us
 /// The share of the places with more than a number and u, without v.
 pub(crate) fn share_between(
     x: &[i128],
-    ranking: Option<&Ranking>,
+    ranking: Option<RankingView>,
     bar: i128,
     u: usize,
     v: usize,
 ) -> Share
     requires few { length x.now ≤ 256 }
     requires small { All IsEntry x.now }
-    requires ranked { IfSome ranking (λ r. IsRanking x.now r.now.sorted r.now.sums r.now.len) }
+    requires ranked { IfSome ranking (λ r. IsRanking x.now r.sorted.now r.sums.now) }
     requires from { u < length x.now }
     requires onto { v < length x.now }
     requires apart { u ≢ v }

@@ -1,14 +1,15 @@
 // Each kind once through the trait's calls, with answers worked by hand, the refusals of numbers that rise, and shares of few
 // and of many entries.
-ghost use Rattle.std.specs.Prelude.{◌≡◌, ◌↔◌, length, IsTrue, IfOk};
+ghost use Rattle.std.specs.Prelude.{◌≡◌, ◌≢◌, ◌↔◌, ◌<◌, ◌^◌, ◌≤ℤ◌, length, pos, IsTrue, IfOk};
 ghost use Rattle.std.specs.List.{All};
-ghost use Rattle.sfm_spec.specs.Bounds.{IsEntry};
+ghost use Rattle.sfm_spec.specs.Bounds.{IsEntry, IsFactor};
+ghost use Rattle.sfm_spec.specs.Terms.{times, IsBase};
 
-use crate::ranking::ranking_of;
+use crate::ranking::RankingArrays;
 use crate::share::{Share, share_above};
 use crate::{Concave, ConcaveEnd, Uniform};
 use sfm_base::{Memory, Set};
-use sfm_law::{Room, Term};
+use sfm_law::{Room, Term, exchange};
 use std::alloc::Global;
 use std::process::Abort;
 use std::test::Fail;
@@ -26,6 +27,15 @@ struct Wanted<'a> {
     other: &'a [i128],
     rooms: &'a [(usize, usize, Room)],
     reaches: &'a [(usize, usize)],
+}
+
+/// Two places at a base of q times a term.
+#[derive(Clone, Copy)]
+struct Pair<'a> {
+    q: i128,
+    x: &'a [i128],
+    u: usize,
+    v: usize,
 }
 
 /// Whether each number is a possible entry of a base.
@@ -65,7 +75,70 @@ fn has_values<T: Term>(
     Ok(())
 }
 
-/// Asserts the room of pairs of places and the reach of places at a base.
+/// Asserts that a note tells the row of u and the room of (u, v) at a base.
+fn tells<T: Term>(
+    rt: &impl Abort,
+    alloc: Global,
+    term: &T,
+    at: Pair,
+    note: &mut T::Note,
+) -> Result<(), Memory>
+    requires factor { IsFactor at.q }
+    requires entries { length at.x.now ≡ length (T.places term.now) }
+    requires bounded { T.size_of term.now ≤ℤ pos (10 ^ 18) }
+    requires small { All IsEntry at.x.now }
+    requires base { IsBase (times at.q (T.value_of term.now)) at.x.now }
+    requires noted { T.fits term.now note.old at.q at.x.now }
+    requires apart { at.u ≢ at.v }
+    requires from { at.u < length at.x.now }
+    requires onto { at.v < length at.x.now }
+{
+    let k = at.x.len();
+    let mut to = part(alloc, k, 5)?;
+    let mut told = part(alloc, k, 6)?;
+    term.reach(alloc, at.q, at.x, at.u, &mut to)?;
+    term.reach_by(alloc, at.q, at.x, note, at.u, &mut told)?;
+    for e in 0..k {
+        assert_eq!(rt; told.contains(e), to.contains(e), "{e} by a note");
+    }
+    let room = term.room(alloc, at.q, at.x, at.u, at.v)?;
+    assert_eq!(rt; term.room_by(alloc, at.q, at.x, note, at.u, at.v)?, room);
+    Ok(())
+}
+
+/// Asserts what a note tells of two places at a base, and at the base after as much as can be is exchanged between them.
+fn keeps_up<T: Term>(rt: &impl Abort, alloc: Global, term: &T, at: Pair) -> Result<(), Memory>
+    requires factor { IsFactor at.q }
+    requires entries { length at.x.now ≡ length (T.places term.now) }
+    requires bounded { T.size_of term.now ≤ℤ pos (10 ^ 18) }
+    requires small { All IsEntry at.x.now }
+    requires base { IsBase (times at.q (T.value_of term.now)) at.x.now }
+    requires apart { at.u ≢ at.v }
+    requires from { at.u < length at.x.now }
+    requires onto { at.v < length at.x.now }
+{
+    let Pair { q, x, u, v } = at;
+    let mut first = term.note(alloc, q, x)?;
+    tells(rt, alloc, term, at, &mut first)?;
+    let Room::Upto(a) = term.room(alloc, q, x, u, v)? else {
+        return Ok(());
+    };
+    assert!(rt; 0 <= a && a <= MOST_ENTRY);
+    let mut note = term.note(alloc, q, x)?;
+    term.moved(alloc, q, x, &mut note, u, v, a)?;
+    let mut y = Vec::from_slice(alloc, x)?;
+    exchange(term, q, &mut y, u, v, a);
+    assert!(rt; are_entries(&y));
+    let back = Pair {
+        q,
+        x: y.as_slice(),
+        u: v,
+        v: u,
+    };
+    tells(rt, alloc, term, back, &mut note)
+}
+
+/// Asserts the room of pairs of places and the reach of places at a base, and that notes tell the same.
 fn has_rooms<T: Term>(
     rt: &impl Abort,
     alloc: Global,
@@ -87,6 +160,8 @@ fn has_rooms<T: Term>(
             *room,
             "room of {u} and {v}"
         );
+        let at = Pair { q, x, u: *u, v: *v };
+        keeps_up(rt, alloc, term, at)?;
     }
     for (u, number) in wanted.reaches {
         assert!(rt; *u < k);
@@ -164,8 +239,8 @@ fn concaves_refused(rt: HostRuntime) {
 fn has_share(rt: &impl Abort, x: &[i128], bar: i128, share: Share) {
     assert!(rt; x.len() <= 256 && are_entries(x));
     assert_eq!(rt; share_above(x, None, bar), share);
-    let ranking = ranking_of(x);
-    assert_eq!(rt; share_above(x, Some(&ranking), bar), share);
+    let ranking = RankingArrays::new(x);
+    assert_eq!(rt; share_above(x, Some(ranking.view()), bar), share);
 }
 
 #[test]

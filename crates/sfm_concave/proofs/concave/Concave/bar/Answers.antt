@@ -3,12 +3,7 @@ use Rattle.std.proofs.lemmas.Int.{to_z-of_z}
 use mir.Syntax.{w128}
 use Rattle.sfm_concave.proofs.concave.Concave.bar.Goals as goal
 
-pub returns-then-x-le-FEW : goal.returns-then-x-le-FEW
-returns-then-x-le-FEW c =
-    let fq : FitsSigned w128 c.args.q = c.ranges.q in
-    simp to_z-of_z at c.bar_by.ensures
-
 pub returns : goal.returns
 returns c =
     let fq : FitsSigned w128 c.args.q = c.ranges.q in
-    simp to_z-of_z at c.bar_ranked.ensures
+    simp to_z-of_z at c.bar_by.ensures

@@ -1,38 +1,103 @@
-use Rattle.std.proofs.Common.{get_or, pos, refl, arith, FitsSigned}
-use Rattle.std.proofs.lemmas.Bool.{false≢true}
+use Rattle.std.proofs.Common.{◌≡◌, ◌≤◌, ◌-◌, ◌∙◌, length, get_or, pos, sym, refl, arith, FitsSigned}
+use Rattle.std.specs.List.{All}
+use Rattle.std.proofs.lemmas.Bool.{both_ways}
 use Rattle.std.proofs.lemmas.Int.{to_z-of_z}
 use Rattle.std.proofs.lemmas.List.Elements.{All-get_or}
 use mir.Syntax.{w128}
 use Rattle.sfm_spec.specs.Bounds.{IsEntry}
 use Rattle.sfm_law.proofs.Writes.{entry_fits}
 use Rattle.sfm_concave.specs.ConcaveLaws.{scaled}
-use Rattle.sfm_concave.proofs.Bars.{bar_raised, bar_kept}
+use Rattle.sfm_concave.specs.Thresholds.{slack_from}
+use Rattle.sfm_concave.proofs.Ranks.{ranked_small}
+use Rattle.sfm_concave.proofs.ConcaveBars.{concave_own_some, concave_own_bar, concave_none_bar, concave_tight_bar}
 use Rattle.sfm_concave.proofs.concave.Concave.bar_by.Goals as goal
-use Rattle.sfm_concave.proofs.concave.Concave.bar_by.Goals.{then-lifts, else-lifts}
 
-pub loop-w-preserved : goal.loop-w-preserved
-loop-w-preserved c =
+pub count_upto-own-requires-clause-small : goal.count_upto-own-requires-clause-small
+count_upto-own-requires-clause-small c =
+    let r = c.requires in
     let x = c.args.x.now in
-    let h = scaled c.args.q c.args.self.now.values in
-    let i = c.loop-w.w in
-    let fq : FitsSigned w128 c.args.q = c.ranges.q in
-    let fa : FitsSigned w128 (get_or x i (pos 0)) = entry_fits _ (All-get_or IsEntry x i (pos 0) c.loop-w-test.true c.requires.small) in
-    let inv = simp to_z-of_z at c.loop-w.invariant in
-    elim c.if-lifts.branch [
-      | then-lifts w ↦
-          (let l = simp to_z-of_z at (w.if-lifts.ensures.0 refl) in
-          let is = simp to_z-of_z at w.bar-is in
-          rw is (simp to_z-of_z (bar_raised h x c.args.u i c.loop-w.bar inv l.0 l.1)))
-      | else-lifts w ↦
-          (let l = simp to_z-of_z at w.if-lifts.ensures in
-          rw w.bar-is (simp to_z-of_z (bar_kept h x c.args.u i c.loop-w.bar inv (λ p. false≢true (l.1 p)))))
-    ]
+    let few : length x ≤ 256 = omega (arith, c.args.self.now.few, r.entries) in
+    ranked_small x c.args.ranking.sorted.now c.args.ranking.sums.now r.ranked few r.small
+
+pub overflow_sub-own : goal.overflow_sub-own
+overflow_sub-own c =
+    let r = c.requires in
+    let s = c.args.self.now in
+    let q = c.args.q in
+    let x = c.args.x.now in
+    let y = c.args.ranking.sorted.now in
+    let sums = c.args.ranking.sums.now in
+    let u = c.args.u in
+    let n = c.count_upto-own.result in
+    let fq : FitsSigned w128 q = c.ranges.q in
+    let fu : FitsSigned w128 (get_or x u (pos 0)) = entry_fits _ (All-get_or IsEntry x u (pos 0) r.from r.small) in
+    let cut = simp to_z-of_z at c.count_upto-own.ensures in
+    let sized : length s.values ≡ length x = s.counted ∙ sym r.entries in
+    concave_own_some q s.values x y sums r.factor.low sized s.falling r.base r.ranked u r.from n cut
+
+pub is_tight-requires-clause-place : goal.is_tight-requires-clause-place
+is_tight-requires-clause-place c = let in_range = c.count_upto-own.ensures.in_range in omega (arith, in_range)
+
+pub last_tight-requires-clause-place : goal.last_tight-requires-clause-place
+last_tight-requires-clause-place c = let in_range = c.count_upto-own.ensures.in_range in omega (arith, in_range)
+
+pub returns-then-is_tight : goal.returns-then-is_tight
+returns-then-is_tight c =
+    let r = c.requires in
+    let s = c.args.self.now in
+    let q = c.args.q in
+    let x = c.args.x.now in
+    let y = c.args.ranking.sorted.now in
+    let sums = c.args.ranking.sums.now in
+    let u = c.args.u in
+    let n = c.count_upto-own.result in
+    let fq : FitsSigned w128 q = c.ranges.q in
+    let fu : FitsSigned w128 (get_or x u (pos 0)) = entry_fits _ (All-get_or IsEntry x u (pos 0) r.from r.small) in
+    let cut = simp to_z-of_z at c.count_upto-own.ensures in
+    let sized : length s.values ≡ length x = s.counted ∙ sym r.entries in
+    let tight = simp to_z-of_z at (c.if-is_tight.ensures.0 refl) in
+    simp to_z-of_z (concave_own_bar q s.values x y sums r.factor.low sized s.falling r.base r.ranked u r.from n cut tight)
+
+pub returns-in_err-i : goal.returns-in_err-i
+returns-in_err-i c =
+    let r = c.requires in
+    let s = c.args.self.now in
+    let q = c.args.q in
+    let x = c.args.x.now in
+    let y = c.args.ranking.sorted.now in
+    let sums = c.args.ranking.sums.now in
+    let u = c.args.u in
+    let n = c.count_upto-own.result in
+    let fq : FitsSigned w128 q = c.ranges.q in
+    let fu : FitsSigned w128 (get_or x u (pos 0)) = entry_fits _ (All-get_or IsEntry x u (pos 0) r.from r.small) in
+    let cut = simp to_z-of_z at c.count_upto-own.ensures in
+    let sized : length s.values ≡ length x = s.counted ∙ sym r.entries in
+    let tight = simp to_z-of_z at c.is_tight.ensures in
+    let loose = λ (t : slack_from (scaled q s.values) y (n - 1) ≡ pos 0). both_ways c.is_tight.result c.if-is_tight.false (tight.1 t) in
+    let none = simp to_z-of_z at c.in_err-i.ensures in
+    rw c.from_residual.ensures (concave_none_bar q s.values x y sums r.factor.low sized s.falling r.base r.ranked u r.from n cut loose none)
 
 pub returns : goal.returns
 returns c =
-    let fq : FitsSigned w128 c.args.q = c.ranges.q in
-    let inv = simp to_z-of_z at c.loop-w.invariant in
-    λ a. (
-      (λ over w b. (inv a).0 over w (let k = b.in_range in omega (arith, k, c.loop-w-test.false)) b),
-      (λ all. (inv a).1 (λ w lt b. all w b)),
-    )
+    let r = c.requires in
+    let s = c.args.self.now in
+    let q = c.args.q in
+    let x = c.args.x.now in
+    let y = c.args.ranking.sorted.now in
+    let sums = c.args.ranking.sums.now in
+    let u = c.args.u in
+    let n = c.count_upto-own.result in
+    let fq : FitsSigned w128 q = c.ranges.q in
+    let fu : FitsSigned w128 (get_or x u (pos 0)) = entry_fits _ (All-get_or IsEntry x u (pos 0) r.from r.small) in
+    let cut = simp to_z-of_z at c.count_upto-own.ensures in
+    let sized : length s.values ≡ length x = s.counted ∙ sym r.entries in
+    let few : length x ≤ 256 = omega (arith, s.few, r.entries) in
+    let small : All IsEntry y = ranked_small x y sums r.ranked few r.small in
+    let tight = simp to_z-of_z at c.is_tight.ensures in
+    let loose = λ (t : slack_from (scaled q s.values) y (n - 1) ≡ pos 0). both_ways c.is_tight.result c.if-is_tight.false (tight.1 t) in
+    let i = c.in_ok-i.i in
+    let is = simp to_z-of_z at c.in_ok-i.ensures in
+    let in_range = cut.in_range in
+    let before = is.below in
+    let fd : FitsSigned w128 (get_or y (i - 1) (pos 0)) = entry_fits _ (All-get_or IsEntry y (i - 1) (pos 0) (omega (arith, in_range, before)) small) in
+    simp to_z-of_z (concave_tight_bar q s.values x y sums r.factor.low sized s.falling r.base r.ranked u r.from n cut loose i is)

@@ -1,7 +1,7 @@
 use Rattle.std.proofs.Common.{◌≡◌, ◌≢◌, ◌↔◌, ℕ, ◌<◌, length, get_or, pos}
 use Rattle.sfm_spec.specs.Sets.{Has}
 use Rattle.sfm_concave.specs.Thresholds.{IsOver}
-use Rattle.sfm_concave.proofs.concave.Concave.reach_of.Given as goal
+use Rattle.sfm_concave.proofs.concave.put_over.Given as goal
 
 abbrev pub invariant-loop-v : goal.invariant-loop-v
 invariant-loop-v l = record {
