@@ -70,7 +70,7 @@ roots_exist (a ∷ lacks) = put (root_exists a) (roots_exist lacks) where
     each zero lt = r
     each (suc i) lt = h.each i (omega arith)
 
-found_exists : (nodes : List (Option Node)) → (s : List Bool) × IsFoundSet nodes s
+pub found_exists : (nodes : List (Option Node)) → (s : List Bool) × IsFoundSet nodes s
 found_exists [] = ([], record { places = refl; members = λ i has. absurd (false≢true has); others = λ i lt. absurd (omega arith) })
 found_exists (None ∷ nodes) = put (found_exists nodes) where
   put : ((s : List Bool) × IsFoundSet nodes s) → (s : List Bool) × IsFoundSet (None ∷ nodes) s
@@ -165,7 +165,7 @@ module _ (n m : ℕ) (whos slots : List ℕ) (cells : AreCells n m whos slots) w
               (λ ge. put (record { flow = amount_at y k; level = level; link = Some (record { own = k; other = f }) }) out refl (link_apart (record { own = k; other = f }))
               (node_exists y level after k f (omega arith) has inv.grown.tree mark (amount_at y k) (omega (arith, ints, has)) (omega (arith, ints)) (λ b is. let q = ap (λ (d : Node). d.flow) (some_same (sym mark.is_node ∙ is)) in omega (arith, ints, q, ge))))
 
-  abbrev Searched : List ℤ → List ℤ → List ℤ → Type 0
+  abbrev pub Searched : List ℤ → List ℤ → List ℤ → Type 0
   Searched y lacks rooms = (nodes : List (Option Node)) × (last : Option ℕ) × IsSearch whos slots y lacks rooms nodes last
 
   search_exists : (fuel : ℕ) (y lacks rooms : List ℤ) → length lacks ≡ n → length rooms ≡ m → (nodes : List (Option Node)) (marks : List (Option ℕ)) (level : ℕ) → missing nodes < fuel
@@ -186,6 +186,12 @@ module _ (n m : ℕ) (whos slots : List ℕ) (cells : AreCells n m whos slots) w
     at : Rest → Marked rooms nodes (length whos) → Searched y lacks rooms
     at rest (inl (last, end)) = (nodes, Some last, record { places = inv.places; tree = inv.tree; roots = inv.roots; begins = inv.begins; ended = end })
     at rest (inr (marks', done)) = grown rest marks' done (grow_exists y (level + 1) marks' nodes (inv.places ∙ ll) inv.tree (marks_below whos slots rooms nodes marks' level done.sound inv.levels) (length whos) (omega arith))
+
+  -- each search has an end
+  pub searched : (y lacks rooms : List ℤ) → length lacks ≡ n → length rooms ≡ m → Searched y lacks rooms
+  searched y lacks rooms ll lr = at (roots_exist lacks) where
+    at : ((nodes : List (Option Node)) × AreRootsOf lacks nodes) → Searched y lacks rooms
+    at (nodes, roots) = search_exists (suc (missing nodes)) y lacks rooms ll lr nodes (replicate (length rooms) None) 0 (omega arith) (search_begun whos slots y lacks rooms nodes (replicate (length rooms) None) (length-replicate (length rooms) None) (none_marked (length rooms)) roots)
 
   -- ---- the moves
 
@@ -225,12 +231,8 @@ module _ (demands capacities : List ℤ) (whos slots : List ℕ) (cells : AreCel
         let some : pos 1 ≤ℤ pos 1 = omega (arith, ints) in
         inr (z, raised_part demands capacities whos slots y lacks rooms nodes last (pos 1) z cells part ll lr h.places h.roots end.cell some end.room r, raised_more demands capacities whos slots y lacks rooms nodes last (pos 1) z cells part ll lr h.places h.roots end.cell some end.room r, raised_total demands capacities whos slots y lacks rooms nodes last (pos 1) z cells part ll lr h.places h.roots end.cell some end.room r)
 
-    with_roots : (lacks rooms : List ℤ) → AreLeft demands whos y lacks → AreLeft capacities slots y rooms → ((nodes : List (Option Node)) × AreRootsOf lacks nodes) → Stepped y
-    with_roots lacks rooms ll lr (nodes, roots) = found lacks rooms ll lr (search_exists (length demands) (length capacities) whos slots cells (suc (missing nodes)) y lacks rooms ll.places lr.places nodes (replicate (length rooms) None) 0 (omega arith)
-        (search_begun whos slots y lacks rooms nodes (replicate (length rooms) None) (length-replicate (length rooms) None) (none_marked (length rooms)) roots))
-
     with_left : ((lacks : List ℤ) × AreLeft demands whos y lacks) → ((rooms : List ℤ) × AreLeft capacities slots y rooms) → Stepped y
-    with_left (lacks, ll) (rooms, lr) = with_roots lacks rooms ll lr (roots_exist lacks)
+    with_left (lacks, ll) (rooms, lr) = found lacks rooms ll lr (searched (length demands) (length capacities) whos slots cells y lacks rooms ll.places lr.places)
 
   abbrev Filled : List ℤ → Type 0
   Filled y = (z : List ℤ) × (s : List Bool) × IsPart demands capacities whos slots z × GetsMore whos y z × IsFilled demands capacities whos slots z s

@@ -22,11 +22,6 @@ pub record GetsOne (demands capacities : List ℤ) (whos slots : List ℕ) (y : 
   pub lacking : sum_at to whos y <ℤ amount_at demands to
   pub got : (i : ℕ) → sum_at i whos after ≡ ((sum_at i whos y +ℤ only to i (pos 1)) -ℤ less i)
 
--- a closed set with all demands that lack something, to one of which each of its members can give up one of what it gets
-pub record IsFoundFrom (demands capacities : List ℤ) (whos slots : List ℕ) (y : List ℤ) (set : List Bool) : Type 0 where
-  pub filled : IsFilled demands capacities whos slots y set
-  pub lends : (v : ℕ) → Has set v → GetsOne demands capacities whos slots y (λ i. only v i (pos 1))
-
 apart : {A : Type 0} {b : A} → None ≡ Some b → ⊥
 apart h = cc
 
@@ -77,7 +72,7 @@ module _ (demands capacities : List ℤ) (whos slots : List ℕ) (y lacks rooms 
       (li, omega (arith, ints, f, one, l))
 
   -- a slot with room gives one more
-  raise_one : (last : ℕ) → IsEnd whos slots rooms nodes last → GetsOne demands capacities whos slots y (λ i. pos 0)
+  pub raise_one : (last : ℕ) → IsEnd whos slots rooms nodes last → GetsOne demands capacities whos slots y (λ i. pos 0)
   raise_one last end =
       let (b, is) = end.found in
       let one = (tree (label_at whos last) b is).some in
@@ -190,23 +185,7 @@ module _ (demands capacities : List ℤ) (whos slots : List ℕ) (y lacks rooms 
           got = λ i. let g = r.got i in let h = given-got i in omega (arith, ints, g, h);
         }
 
-  lend_one : (v : ℕ) (b : Node) → node_at nodes v ≡ Some b → GetsOne demands capacities whos slots y (λ i. only v i (pos 1))
+  pub lend_one : (v : ℕ) (b : Node) → node_at nodes v ≡ Some b → GetsOne demands capacities whos slots y (λ i. only v i (pos 1))
   lend_one v b is = either b.link
       (λ l linked. let (lower, below) = all_below b.level nodes in lend_by v b is l linked lower below)
       (λ none. let (lt, lacking) = root_lacks v b is none in record { after = y; part = part; to = v; in_range = lt; lacking = lacking; got = λ i. omega (arith, ints) })
-
-  -- a search that ended without room
-  pub found_lend : (s : List Bool) → HasRoots lacks nodes → IsStuck whos slots y rooms nodes → IsFoundSet nodes s → IsFoundFrom demands capacities whos slots y s
-  found_lend s begins stuck set = record {
-    filled = stuck_filled demands capacities whos slots y lacks rooms nodes s cells part ll lr places begins stuck set;
-    lends = λ v has. let (b, is) = set.members v has in lend_one v b is;
-  }
-
-  -- the end of a search told by a test
-  pub end_some : (last : Option ℕ) → is_some last ≡ true → IsSearchEnd whos slots y rooms nodes last → GetsOne demands capacities whos slots y (λ i. pos 0)
-  end_some None t end = absurd (false≢true t)
-  end_some (Some last) t end = raise_one last end
-
-  pub end_none : (last : Option ℕ) → is_some last ≡ false → IsSearchEnd whos slots y rooms nodes last → IsStuck whos slots y rooms nodes
-  end_none None t end = end
-  end_none (Some last) t end = absurd (false≢true (sym t))

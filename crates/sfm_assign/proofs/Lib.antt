@@ -11,7 +11,8 @@ pub mod Cutting
 pub mod Outcomes
 pub mod Growing
 pub mod Pours
-pub mod Lowers
+pub mod Spreads
 pub mod Filling
 pub mod Lending
 pub mod Loans
+pub mod Remembered

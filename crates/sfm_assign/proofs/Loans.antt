@@ -1,21 +1,22 @@
--- Who can lend, by one search from a demand as if it lacked one while all demands are met.
-use Rattle.std.proofs.Common.{◌≡◌, ◌≢◌, ◌↔◌, ◌+◌, ◌<ℤ◌, IsTrue, Option, Some, None, MatchOption, ℕ, ◌<◌, Bool, false, List, length, get_or, set, replicate, ℤ, pos, ◌+ℤ◌, ◌-ℤ◌, ◌≤ℤ◌, refl, sym, ap, ◌∙◌, arith, ⊎_elim, length-set, get_or-set_other, get_or-set_same}
+-- Who can lend to a demand, as if it lacked one while all demands are met.
+use Rattle.std.proofs.Common.{◌≡◌, ◌≢◌, ◌↔◌, ◌+◌, ◌<ℤ◌, IsTrue, ℕ, suc, ◌<◌, Bool, false, List, [], ◌∷◌, length, get_or, set, replicate, ℤ, pos, ◌+ℤ◌, ◌-ℤ◌, ◌≤ℤ◌, refl, sym, ap, ◌∙◌, arith, ⊎_elim, length-set, get_or-set_other, get_or-set_same}
 use Rattle.std.proofs.lemmas.Int.{ints}
-use Rattle.std.proofs.lemmas.Bool.{cases_eq, cases_lt, cases_Bool}
+use Rattle.std.proofs.lemmas.Bool.{cases_eq, cases_lt, cases_Bool, false≢true}
 use Rattle.std.proofs.lemmas.List.{set-get_or, length-replicate, get_or-replicate}
 use Rattle.sfm_spec.specs.Sets.{Has, sum_over}
+use Rattle.sfm_spec.specs.Bounds.{total_of}
 use Rattle.sfm_spec.specs.Terms.{exchanged}
 use Rattle.sfm_spec.proofs.Sums.{share, sum_over-set, length-exchanged, sum_over-exchanged}
-use Rattle.sfm_assign.specs.Splits.{sum_at, amount_at, CanBeMet, Demands, AreDemands}
+use Rattle.sfm_assign.specs.Splits.{sum_at, amount_at, row_at, CanBeMet, Demands, AreDemands}
 use Rattle.sfm_assign.specs.Cells.{joined, owners, cut, IsPart, IsMet}
-use Rattle.sfm_assign.specs.Search.{AreLeft, only, one_more, AreLenders}
+use Rattle.sfm_assign.specs.Search.{AreLeft, only, IsFilled, one_more, AreLenders}
 use Rattle.sfm_assign.specs.Lenders.{IsLender}
 use Rattle.sfm_assign.proofs.Amounts.{only-same, only-other}
 use Rattle.sfm_assign.proofs.Rows.{split_of_part}
 use Rattle.sfm_assign.proofs.Hall.{closed_bounds}
 use Rattle.sfm_assign.proofs.Outcomes.{changed-at, changed-other, asked_part, amounts_low, capacities_low}
 use Rattle.sfm_assign.proofs.Filling.{smaller}
-use Rattle.sfm_assign.proofs.Lending.{GetsOne, IsFoundFrom}
+use Rattle.sfm_assign.proofs.Lending.{GetsOne}
 
 module _ (d : Demands) (sound : AreDemands d) (u : ℕ) (lu : u < length d.demands) (y : List ℤ) (part : IsPart d.demands d.capacities (owners 0 d.lists) (joined d.lists) y) (met : IsMet d.demands (owners 0 d.lists) y) where
   abbrev whos : List ℕ
@@ -105,7 +106,7 @@ module _ (d : Demands) (sound : AreDemands d) (u : ℕ) (lu : u < length d.deman
         (λ i lt. let li : i < length d.demands = omega (arith, lt, lx) in let h = got-after less g i li in let e = is i li in omega (arith, ints, h, e)),
   )
 
-  more_met : GetsOne more d.capacities whos slots y (λ i. pos 0) → CanBeMet (one_more d.demands u) d.lists d.capacities
+  pub more_met : GetsOne more d.capacities whos slots y (λ i. pos 0) → CanBeMet (one_more d.demands u) d.lists d.capacities
   more_met g = met_by more (λ i. pos 0) g more-places (λ i lt. omega (arith, ints))
 
   module _ (v : ℕ) (lv : v < length d.demands) (ne : v ≢ u) where
@@ -129,19 +130,19 @@ module _ (d : Demands) (sound : AreDemands d) (u : ℕ) (lu : u < length d.deman
     lent_met : GetsOne more d.capacities whos slots y (λ i. only v i (pos 1)) → CanBeMet (exchanged d.demands u v (pos 1)) d.lists d.capacities
     lent_met g = met_by (exchanged d.demands u v (pos 1)) (λ i. only v i (pos 1)) g (length-exchanged d.demands u v (pos 1)) exchanged-at
 
-  -- u was found, with a closed set
-  module _ (s : List Bool) (found : IsFoundFrom more d.capacities whos slots y s) where
+  -- u lies in a closed set, with all that lack something
+  module _ (s : List Bool) (filled : IsFilled more d.capacities whos slots y s) where
     has_u : Has s u
-    has_u = let l = more-places in let m = more-u in let g = gets u lu in found.filled.lacking u (omega (arith, lu, l)) (omega (arith, ints, m, g))
+    has_u = let l = more-places in let m = more-u in let g = gets u lu in filled.lacking u (omega (arith, lu, l)) (omega (arith, ints, m, g))
 
     places : length s ≡ length d.demands
-    places = found.filled.places ∙ more-places
+    places = filled.places ∙ more-places
 
     -- demands that can be met ask for no more within the set
     bound : (x : List ℤ) → length x ≡ length d.demands → CanBeMet x d.lists d.capacities → sum_over s x ≤ℤ sum_over s d.demands
-    bound x lx can = closed_bounds d.demands d.capacities d.lists y sound.same sound.exist part s places found.filled.closed x lx can
+    bound x lx can = closed_bounds d.demands d.capacities d.lists y sound.same sound.exist part s places filled.closed x lx can
 
-    not_more : CanBeMet (one_more d.demands u) d.lists d.capacities → ⊥
+    pub not_more : CanBeMet (one_more d.demands u) d.lists d.capacities → ⊥
     not_more can =
         let p = places in
         let b = bound more more-places can in
@@ -158,18 +159,13 @@ module _ (d : Demands) (sound : AreDemands d) (u : ℕ) (lu : u < length d.deman
         absurd (omega (arith, ints, b, e, su, sv)))
         (cases_Bool (get_or s v false))
 
-    lenders_are : AreLenders d.demands d.lists d.capacities u s
-    lenders_are = record {
+    -- its other members are those that can lend, if each can give one up
+    pub lenders_are : ((v : ℕ) → Has s v → GetsOne more d.capacities whos slots y (λ i. only v i (pos 1))) → AreLenders d.demands d.lists d.capacities u s
+    lenders_are lends = record {
       places = places;
       full = not_more;
-      exact = λ v lv ne. ((λ has. lent_met v lv ne (found.lends v has)), (λ can. not_lent v lv ne can));
+      exact = λ v lv ne. ((λ has. lent_met v lv ne (lends v has)), (λ can. not_lent v lv ne can));
     }
-
-  -- what the search told
-  pub lenders_from : (found : Option (List Bool)) → MatchOption found (GetsOne more d.capacities whos slots y (λ i. pos 0)) (IsFoundFrom more d.capacities whos slots y)
-      → MatchOption found (CanBeMet (one_more d.demands u) d.lists d.capacities) (AreLenders d.demands d.lists d.capacities u)
-  lenders_from None g = more_met g
-  lenders_from (Some s) found = lenders_are s found
 
 -- where u can get one more as it is, each demand that asks for something can lend to it
 pub lent_from_more : (d : Demands) → AreDemands d → (u v : ℕ) → u < length d.demands → v < length d.demands → v ≢ u → pos 1 ≤ℤ amount_at d.demands v → CanBeMet (one_more d.demands u) d.lists d.capacities → CanBeMet (exchanged d.demands u v (pos 1)) d.lists d.capacities
@@ -198,22 +194,42 @@ lent_from_more d sound u v lu lv ne some can = smaller (one_more d.demands u) (e
       (λ nv. let g = get_or-set_other (one_more d.demands u) v i (amount_at d.demands v -ℤ pos 1) (pos 0) nv in (omega (arith, ints, g, low), omega (arith, ints, g)))
       (cases_eq i v)
 
--- what the search told of v: whether it can lend
-pub lender_found : (d : Demands) → AreDemands d → (u v : ℕ) → u < length d.demands → v < length d.demands → (found : Option (List Bool)) → MatchOption found (CanBeMet (one_more d.demands u) d.lists d.capacities) (AreLenders d.demands d.lists d.capacities u)
-    → ((v ≢ u) × (pos 0 <ℤ amount_at d.demands v) × MatchOption found (Unit {0}) (λ s. Has s v)) ↔ IsLender d.demands d.lists d.capacities u v
-lender_found d sound u v lu lv None more = (
-  (λ (ne, some, _). record { other = ne; asks = some; met = lent_from_more d sound u v lu lv ne (omega (arith, ints, some)) more }),
-  (λ h. (h.other, h.asks, tt)),
-)
-lender_found d sound u v lu lv (Some s) lend = (
-  (λ (ne, some, has). record { other = ne; asks = some; met = (lend.exact v lv ne).0 has }),
-  (λ h. (h.other, h.asks, (lend.exact v lv h.other).1 h.met)),
-)
+-- a demand that can be met is not negative
+amount_low : (x : List ℤ) (lists : List (List ℕ)) (capacities : List ℤ) (i : ℕ) → length lists ≡ length x → i < length x → CanBeMet x lists capacities → pos 0 ≤ℤ amount_at x i
+amount_low x lists capacities i same lt (rows, h) =
+    let l : i < length lists = omega (arith, lt, same) in
+    let t = total_low (row_at rows i) (λ j. h.amounts i j) in
+    let m = h.met i l in
+    omega (arith, ints, t, m) where
+      total_low : (row : List ℤ) → ((j : ℕ) → pos 0 ≤ℤ amount_at row j) → pos 0 ≤ℤ total_of row
+      total_low [] low = omega (arith, ints)
+      total_low (a ∷ row) low = let r = total_low row (λ j. low (suc j)) in let h = low 0 in omega (arith, ints, r, h)
 
--- the set that was found has a place for each demand
-pub found_places : (d : Demands) (u v : ℕ) → v < length d.demands → (found : Option (List Bool)) → MatchOption found (CanBeMet (one_more d.demands u) d.lists d.capacities) (AreLenders d.demands d.lists d.capacities u) → MatchOption found (Unit {0}) (λ s. v < length s)
-found_places d u v lv None more = tt
-found_places d u v lv (Some s) lend = let p = lend.places in omega (arith, lv, p)
+-- those that can lend to u are the others of its set
+pub lenders_but : (d : Demands) → AreDemands d → (u : ℕ) → u < length d.demands → (s : List Bool) → AreLenders d.demands d.lists d.capacities u s → (v : ℕ) → v < length d.demands → Has (set s u false) v ↔ IsLender d.demands d.lists d.capacities u v
+lenders_but d sound u lu s lend v lv = (to, from) where
+  other : Has (set s u false) v → v ≢ u
+  other has q = let p = lend.places in false≢true (sym (ap (λ k. get_or (set s u false) k false) q ∙ get_or-set_same s u false false (omega (arith, p, lu))) ∙ has)
+
+  to : Has (set s u false) v → IsLender d.demands d.lists d.capacities u v
+  to has =
+      let ne = other has in
+      let met = (lend.exact v lv ne).0 (sym (get_or-set_other s u v false false ne) ∙ has) in
+      let l = length-exchanged d.demands u v (pos 1) in
+      let low = amount_low (exchanged d.demands u v (pos 1)) d.lists d.capacities v (sound.same ∙ sym l) (omega (arith, lv, l)) met in
+      let e = get_or-set_same (one_more d.demands u) v (amount_at d.demands v -ℤ pos 1) (pos 0) (let m = length-set d.demands u (amount_at d.demands u +ℤ pos 1) in omega (arith, m, lv)) in
+      record { other = ne; asks = omega (arith, ints, low, e); met = met }
+
+  from : IsLender d.demands d.lists d.capacities u v → Has (set s u false) v
+  from h = get_or-set_other s u v false false h.other ∙ (lend.exact v lv h.other).1 h.met
+
+-- where u can get one more, they are all others that ask for something
+pub lenders_all : (d : Demands) → AreDemands d → (u v : ℕ) → u < length d.demands → v < length d.demands → CanBeMet (one_more d.demands u) d.lists d.capacities
+    → ((v ≢ u) × (pos 0 <ℤ amount_at d.demands v)) ↔ IsLender d.demands d.lists d.capacities u v
+lenders_all d sound u v lu lv more = (
+  (λ (ne, some). record { other = ne; asks = some; met = lent_from_more d sound u v lu lv ne (omega (arith, ints, some)) more }),
+  (λ h. (h.other, h.asks)),
+)
 
 -- one demand more is told
 pub told_more : (IsTold : ℕ → Type 0) (to : List Bool) (n : ℕ) (b : Bool) → n < length to → ((v : ℕ) → v < n → Has to v ↔ IsTold v) → IsTrue b ↔ IsTold n → (v : ℕ) → v < n + 1 → Has (set to n b) v ↔ IsTold v

@@ -5,3 +5,4 @@ pub mod Search
 pub mod Pours
 pub mod Ends
 pub mod Lenders
+pub mod Spread

@@ -158,13 +158,6 @@ pub record IsLacking (demands capacities : List ℤ) (whos slots : List ℕ) (y 
   pub in_range : one < length demands
   pub less : sum_at one whos y <ℤ amount_at demands one
 
--- the demand v gets a less, each other as much as before, and no slot has more
-pub record IsLowered (whos slots : List ℕ) (v : ℕ) (a : ℤ) (y z : List ℤ) : Type 0 where
-  pub cells : length z ≡ length y
-  pub amounts : (e : ℕ) → pos 0 ≤ℤ amount_at z e
-  pub got : (i : ℕ) → sum_at i whos z ≡ (sum_at i whos y -ℤ only v i a)
-  pub loads : (s : ℕ) → sum_at s slots z ≤ℤ sum_at s slots y
-
 -- the demands, with one more at u
 abbrev pub one_more : List ℤ → ℕ → List ℤ
 one_more demands u = slice_set demands u (amount_at demands u +ℤ pos 1)

@@ -1,26 +1,26 @@
-// A split that is kept, for all that is asked of it later. Who can lend to a demand is told by one search from that demand, as if
-// it lacked one, over the amounts that are kept. Where it finds a slot with room, the demand can get one more as it is. Else
-// what it finds are exactly those that can give up one. The amounts that an exchange leads to are found beside those that are
-// kept and then put in their place, so that want of memory leaves all as it was.
-ghost use Rattle.std.specs.Prelude.{◌≡◌, ◌≢◌, ◌↔◌, ℕ, ◌<◌, length, replicate, slice_set, pos, ◌+ℤ◌, ◌≤ℤ◌, ◌<ℤ◌, IsTrue, IfOk, OnOk, OnErr, MatchOption, MatchResult};
+// A split that is kept, for all that is asked of it later. Who can lend to a demand is told by one search from it over the amounts
+// that are kept. Where it finds a slot with room, the demand can get one more as it is. Else what it finds are exactly those
+// that can give up one. What was told of a demand is remembered until the split changes, and later searches go no further where
+// they come to it. The amounts for other demands are found beside those that are kept and then put in their place, so that
+// want of memory leaves all as it was.
+ghost use Rattle.std.specs.Prelude.{◌≡◌, ◌≢◌, ◌↔◌, ℕ, ◌<◌, ◌≤◌, Bool, List, [], false, length, vec_len, slice_set, pos, ◌+ℤ◌, ◌≤ℤ◌, ◌<ℤ◌, IsTrue, IfOk, OnOk, OnErr, MatchResult};
 ghost use Rattle.std.specs.List.{All};
 ghost use Rattle.sfm_spec.specs.Sets.{Has};
-ghost use Rattle.sfm_spec.specs.Terms.{exchanged};
-ghost use Rattle.sfm_assign.specs.Splits.{amount_at, IsAmount, IsCapacity, CanBeMet, AreDemands};
-ghost use Rattle.sfm_assign.specs.Cells.{AreMet};
-ghost use Rattle.sfm_assign.specs.Search.{AreLeft, one_more, AreLenders};
+ghost use Rattle.sfm_assign.specs.Splits.{amount_at, IsAmount, IsCapacity, AreDemands};
+ghost use Rattle.sfm_assign.specs.Cells.{AreCells, AreMet};
+ghost use Rattle.sfm_assign.specs.Search.{AreLeft};
 ghost use Rattle.sfm_assign.specs.Ends.{IsAssignEnd};
-ghost use Rattle.sfm_assign.specs.Lenders.{exchanged_in, IsLender, with_more, IsMostUpto};
+ghost use Rattle.sfm_assign.specs.Lenders.{IsLender, with_more, IsMostUpto};
+ghost use Rattle.sfm_assign.specs.Spread.{AreAnswers, answer_at, IsKnown, IsWritten};
+ghost use Rattle.sfm_assign.specs.declared.spread.Answer.TheVariants.{Full};
 
 use crate::demand::Demand;
 use crate::fill::fill;
 use crate::greatest::with_demand;
 use crate::left::{left_at, left_of};
-use crate::lower::lower;
-use crate::nodes::found_set;
 use crate::pour::trimmed;
-use crate::search::search;
 use crate::splitting::{AssignEnd, Shares, met_shares, raise_all};
+use crate::spread::{Answer, find_answer};
 use sfm_base::{Memory, Set};
 use std::alloc::Global;
 
@@ -31,8 +31,12 @@ pub struct Kept {
     shares: Shares,
     /// What each slot has left.
     rooms: Vec<i128>,
+    /// What is told of each demand, as far as it was asked for since the split changed.
+    answers: Vec<Option<Answer>>,
     ghost met: { AreMet demand shares.cells.whos.items shares.cells.slots.items shares.y.items },
     ghost left: { AreLeft demand.capacities shares.cells.slots.items shares.y.items rooms.items },
+    ghost few: { vec_len answers ≤ length demand.demands },
+    ghost known: { AreAnswers (length demand.demands) shares.cells.whos.items shares.cells.slots.items shares.y.items rooms.items answers.items },
 }
 
 /// Demands of which one has been raised, amounts by which they are met, what each slot then has left, and by how much the
@@ -45,37 +49,6 @@ struct Grown {
     more: i128,
 }
 
-/// 1 for the demand u of n, and 0 for the others.
-fn one_at(alloc: Global, n: usize, u: usize) -> Result<Vec<i128>, Memory>
-    requires { u < n }
-    ensures { IfOk result (λ r. r.items ≡ slice_set (replicate n (pos 0)) u (pos 1)) }
-{
-    let mut lacks = vec![in alloc; 0; n]?;
-    lacks[u] = 1;
-    Ok(lacks)
-}
-
-/// The demands, with a more at u and a less at v.
-fn exchanged_demands(
-    alloc: Global,
-    demands: &[i128],
-    u: usize,
-    v: usize,
-    a: i128,
-) -> Result<Vec<i128>, Memory>
-    requires from { u < length demands.now }
-    requires onto { v < length demands.now }
-    requires apart { u ≢ v }
-    requires before { All IsAmount demands.now }
-    requires amounts { All IsAmount (exchanged demands.now u v a) }
-    ensures { IfOk result (λ r. r.items ≡ exchanged demands.now u v a) }
-{
-    let mut changed = Vec::from_slice(alloc, demands)?;
-    changed[u] = demands[u] + a;
-    changed[v] = demands[v] - a;
-    Ok(changed)
-}
-
 /// The demands, with a more at u.
 fn raised_by(alloc: Global, demands: &[i128], u: usize, a: i128) -> Result<Vec<i128>, Memory>
     requires place { u < length demands.now }
@@ -85,24 +58,95 @@ fn raised_by(alloc: Global, demands: &[i128], u: usize, a: i128) -> Result<Vec<i
     with_demand(alloc, demands, u, demands[u] + a)
 }
 
-/// Whether a demand is one of those that were found; each is, where none were looked for.
-fn is_among(found: &Option<Set>, v: usize) -> bool
-    requires { MatchOption found.now (Unit {0}) (λ s. v < length s) }
-    ensures { IsTrue result ↔ MatchOption found.now (Unit {0}) (λ s. Has s v) }
+/// Whether v is another demand than u and asks for something.
+fn asks_beside(demands: &[i128], u: usize, v: usize) -> bool
+    requires { v < length demands.now }
+    ensures { IsTrue result ↔ ((v ≢ u) × (pos 0 <ℤ amount_at demands.now v)) }
 {
-    match found {
-        Some(set) => set.contains(v),
-        None => true,
+    v != u && demands[v] > 0
+}
+
+/// Writes the demands other than u that ask for something.
+fn write_asking(demands: &[i128], u: usize, to: &mut Set)
+    requires { length to.old ≡ length demands.now }
+    ensures places { length to.new ≡ length demands.now }
+    ensures asking { (v : ℕ) → v < length demands.now → Has to.new v ↔ ((v ≢ u) × (pos 0 <ℤ amount_at demands.now v)) }
+{
+    for v in 0..demands.len() {
+        to.put(v, asks_beside(demands, u, v));
     }
 }
 
-/// Whether v is another demand than u, asks for something, and is one of those that were found.
-fn may_lend(demands: &[i128], found: &Option<Set>, u: usize, v: usize) -> bool
-    requires place { v < length demands.now }
-    requires places { MatchOption found.now (Unit {0}) (λ s. v < length s) }
-    ensures { IsTrue result ↔ ((v ≢ u) × (pos 0 <ℤ amount_at demands.now v) × MatchOption found.now (Unit {0}) (λ s. Has s v)) }
+/// Writes the demands of a set other than u.
+fn write_others(set: &Set, u: usize, to: &mut Set)
+    requires same { length to.old ≡ length set.now }
+    requires place { u < length set.now }
+    ensures { to.new ≡ slice_set set.now u false }
 {
-    v != u && demands[v] > 0 && is_among(found, v)
+    to.clear();
+    to.union_with(set);
+    to.remove(u);
+}
+
+/// Writes the demands that can lend to u, by what is told of it.
+fn write_answer(demands: &[i128], answer: &Answer, u: usize, to: &mut Set)
+    requires sized { (set : List Bool) → answer.now ≡ Full set → length set ≡ length to.old }
+    requires each { length to.old ≡ length demands.now }
+    requires place { u < length demands.now }
+    ensures places { length to.new ≡ length to.old }
+    ensures written { IsWritten answer.now demands.now u to.new }
+{
+    match answer {
+        Answer::Room => write_asking(demands, u, to),
+        Answer::Full(set) => write_others(set, u, to),
+    }
+}
+
+/// Makes room for what is told of n demands, of which nothing new is told.
+fn make_room(answers: &mut Vec<Option<Answer>>, n: usize) -> Result<(), Memory>
+    requires { vec_len answers.old ≤ n }
+    ensures within { vec_len answers.new ≤ n }
+    ensures same { (u : ℕ) → answer_at answers.new.items u ≡ answer_at answers.old.items u }
+    ensures places { OnOk result (vec_len answers.new ≡ n) }
+{
+    for _ in answers.len()..n {
+        answers.push(None)?;
+    }
+    Ok(())
+}
+
+/// Sees to it that the answer for the demand u of n is known.
+fn remember(
+    alloc: Global,
+    shares: &Shares,
+    rooms: &[i128],
+    answers: &mut Vec<Option<Answer>>,
+    n: usize,
+    u: usize,
+) -> Result<(), Memory>
+    requires cells { AreCells n (length rooms.now) shares.now.cells.whos.items shares.now.cells.slots.items }
+    requires same { length shares.now.y.items ≡ length shares.now.cells.whos.items }
+    requires few { vec_len answers.old ≤ n }
+    requires known { AreAnswers n shares.now.cells.whos.items shares.now.cells.slots.items shares.now.y.items rooms.now answers.old.items }
+    requires place { u < n }
+    ensures few { vec_len answers.new ≤ n }
+    ensures known { AreAnswers n shares.now.cells.whos.items shares.now.cells.slots.items shares.now.y.items rooms.now answers.new.items }
+    ensures told { OnOk result (IsKnown answers.new.items u) }
+{
+    make_room(answers, n)?;
+    if answers[u].is_some() {
+        return Ok(());
+    }
+    let answer = find_answer(alloc, shares, rooms, answers.as_slice(), u)?;
+    answers[u] = Some(answer);
+    Ok(())
+}
+
+/// Forgets what was told, as the split changes.
+fn forget(answers: &mut Vec<Option<Answer>>)
+    ensures { answers.new.items ≡ [] }
+{
+    answers.clear();
 }
 
 impl Kept {
@@ -120,65 +164,11 @@ impl Kept {
             demand,
             shares,
             rooms,
+            answers: Vec::new(alloc),
         })
     }
 
-    /// Amounts by which these demands are met, which have a more at u and a less at v.
-    fn amounts_for(
-        &self,
-        alloc: Global,
-        demands: &[i128],
-        u: usize,
-        v: usize,
-        a: i128,
-    ) -> Result<Vec<i128>, Memory>
-        requires sound { AreDemands self.now.demand }
-        requires from { u < length self.now.demand.demands }
-        requires onto { v < length self.now.demand.demands }
-        requires apart { u ≢ v }
-        requires low { pos 0 ≤ℤ a }
-        requires demands { demands.now ≡ exchanged self.now.demand.demands u v a }
-        requires amounts { All IsAmount demands.now }
-        requires met { CanBeMet demands.now self.now.demand.lists self.now.demand.capacities }
-        ensures { IfOk result (λ y. AreMet (exchanged_in self.now.demand u v a) self.now.shares.cells.whos.items self.now.shares.cells.slots.items y.items) }
-    {
-        let cells = &self.shares.cells;
-        let mut y = Vec::from_slice(alloc, &self.shares.y)?;
-        lower(cells, v, a, &mut y);
-        fill(alloc, cells, demands, self.demand.capacities(), &mut y)?;
-        Ok(y)
-    }
-
-    /// Raises the demand u by a, lowers v by as much, and splits them anew, from the split as it stands.
-    ///
-    /// # Errors
-    ///
-    /// `Memory` where there is none; the demands are then as they were.
-    pub fn shift(&mut self, alloc: Global, u: usize, v: usize, a: i128) -> Result<(), Memory>
-        requires from { u < length self.old.demand.demands }
-        requires onto { v < length self.old.demand.demands }
-        requires apart { u ≢ v }
-        requires low { pos 0 ≤ℤ a }
-        requires amounts { All IsAmount (exchanged self.old.demand.demands u v a) }
-        requires met { CanBeMet (exchanged self.old.demand.demands u v a) self.old.demand.lists self.old.demand.capacities }
-        ensures shifted { OnOk result (self.new.demand ≡ exchanged_in self.old.demand u v a) }
-        ensures unchanged { OnErr result (self.new ≡ self.old) }
-    {
-        let demands = exchanged_demands(alloc, self.demand.demands(), u, v, a)?;
-        let y = self.amounts_for(alloc, &demands, u, v, a)?;
-        let rooms = left_of(
-            alloc,
-            self.demand.capacities(),
-            &self.shares.cells.slots,
-            &y,
-        )?;
-        self.demand.replace(demands);
-        self.shares.y = y;
-        self.rooms = rooms;
-        Ok(())
-    }
-
-    /// A copy, for changes beside those that are kept.
+    /// A copy, for changes beside those that are kept. Nothing is remembered of it.
     ///
     /// # Errors
     ///
@@ -190,6 +180,7 @@ impl Kept {
             demand: self.demand.copy(alloc)?,
             shares: self.shares.copy(alloc)?,
             rooms: Vec::from_slice(alloc, &self.rooms)?,
+            answers: Vec::new(alloc),
         })
     }
 
@@ -236,6 +227,7 @@ impl Kept {
         self.demand.copy_from(alloc, demands, capacities)?;
         self.shares.y = y;
         self.rooms = rooms;
+        forget(&mut self.answers);
         Ok(())
     }
 
@@ -289,26 +281,23 @@ impl Kept {
         self.demand.replace(demands);
         self.shares.y = y;
         self.rooms = rooms;
+        forget(&mut self.answers);
         Ok(more)
     }
 
-    /// The demands of which each, given one less, leaves room for the demand u to get one more with all others met; or None
-    /// where u can get one more as it is. Of u itself nothing is told.
-    fn lenders(&self, alloc: Global, u: usize) -> Result<Option<Set>, Memory>
+    /// Writes the demands that can lend to u, by the answer that is known.
+    fn write_lenders(&self, u: usize, to: &mut Set)
+        requires sound { AreDemands self.now.demand }
         requires place { u < length self.now.demand.demands }
-        ensures sound { AreDemands self.now.demand }
-        ensures lenders { IfOk result (λ r. MatchOption r
-            (CanBeMet (one_more self.now.demand.demands u) self.now.demand.lists self.now.demand.capacities)
-            (AreLenders self.now.demand.demands self.now.demand.lists self.now.demand.capacities u)) }
+        requires known { IsKnown self.now.answers.items u }
+        requires room_for_answer { length to.old ≡ length self.now.demand.demands }
+        ensures places { length to.new ≡ length to.old }
+        ensures reached { (v : ℕ) → v < length to.new → Has to.new v ↔ IsLender self.now.demand.demands self.now.demand.lists self.now.demand.capacities u v }
     {
-        let lacks = one_at(alloc, self.demand.demands().len(), u)?;
-        let cells = &self.shares.cells;
-        let found = search(alloc, cells, &self.shares.y, &lacks, &self.rooms)?;
-        if found.last.is_some() {
-            return Ok(None);
+        match &self.answers[u] {
+            Some(answer) => write_answer(self.demand.demands(), answer, u, to),
+            None => unreachable!(),
         }
-        let set = found_set(alloc, &found.nodes)?;
-        Ok(Some(set))
     }
 
     /// Writes the demands that can lend to u: those that ask for something and that, given one less, leave room for u to get
@@ -324,11 +313,9 @@ impl Kept {
         ensures places { length to.new ≡ length to.old }
         ensures reached { OnOk result ((v : ℕ) → v < length to.new → Has to.new v ↔ IsLender self.old.demand.demands self.old.demand.lists self.old.demand.capacities u v) }
     {
-        let found = self.lenders(alloc, u)?;
-        let demands = self.demand.demands();
-        for v in 0..to.len() {
-            to.put(v, may_lend(demands, &found, u, v));
-        }
+        let n = self.demand.demands().len();
+        remember(alloc, &self.shares, &self.rooms, &mut self.answers, n, u)?;
+        self.write_lenders(u, to);
         Ok(())
     }
 }

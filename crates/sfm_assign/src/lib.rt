@@ -9,13 +9,13 @@ mod fill;
 mod greatest;
 mod kept;
 mod left;
-mod lower;
 mod met;
 mod nodes;
 mod pour;
 mod search;
 mod split;
 mod splitting;
+mod spread;
 
 pub use demand::Demand;
 pub use greatest::most;

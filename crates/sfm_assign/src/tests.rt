@@ -180,21 +180,8 @@ fn lends_by_way_of_another(rt: HostRuntime) -> Result<(), Fail> {
     let mut kept = kept(&rt, rt.alloc(), in_a_row(rt.alloc(), 0, 1)?);
     reaches(&rt, rt.alloc(), &mut kept, 0, &[false, true, true, false])?;
     reaches(&rt, rt.alloc(), &mut kept, 2, &[false, false, false, false])?;
-    Ok(())
-}
-
-#[test]
-fn goes_on_after_a_shift(rt: HostRuntime) -> Result<(), Fail> {
-    let mut kept = kept(&rt, rt.alloc(), in_a_row(rt.alloc(), 0, 1)?);
-    let after = in_a_row(rt.alloc(), 1, 0)?;
-    match assign(rt.alloc(), &after) {
-        Ok(_) => {
-            kept.shift(rt.alloc(), 0, 1, 1)?;
-            reaches(&rt, rt.alloc(), &mut kept, 0, &[false, false, false, false])?;
-            reaches(&rt, rt.alloc(), &mut kept, 1, &[true, false, true, false])?;
-        }
-        Err(_) => panic!(rt; "no split"),
-    }
+    reaches(&rt, rt.alloc(), &mut kept, 1, &[false, false, true, false])?;
+    reaches(&rt, rt.alloc(), &mut kept, 0, &[false, true, true, false])?;
     Ok(())
 }
 
@@ -232,6 +219,34 @@ fn brings_a_copy_to_other_demands(rt: HostRuntime) -> Result<(), Fail> {
         _ => panic!(rt; "no shortage"),
     }
     reaches(&rt, alloc, &mut other, 0, &[false, true, true, false])?;
+    Ok(())
+}
+
+/// Two demands of two slots that hold 1 each: what one of them leads to leads back.
+fn in_a_ring(alloc: Global) -> Result<Demand, Memory>
+    ensures { IfOk result (λ d. d.demands ≡ pos 1 ∷ pos 1 ∷ []) }
+{
+    let mut demand = Demand::new(alloc, &[1, 1])?;
+    demand.push(1, vec![in alloc; 0, 1]?)?;
+    demand.push(1, vec![in alloc; 1, 0]?)?;
+    Ok(demand)
+}
+
+#[test]
+fn remembers_until_the_split_changes(rt: HostRuntime) -> Result<(), Fail> {
+    let alloc = rt.alloc();
+    let mut ring = kept(&rt, alloc, in_a_ring(alloc)?);
+    reaches(&rt, alloc, &mut ring, 0, &[false, true])?;
+    reaches(&rt, alloc, &mut ring, 1, &[true, false])?;
+    let mut row = kept(&rt, alloc, in_a_row(alloc, 0, 1)?);
+    reaches(&rt, alloc, &mut row, 0, &[false, true, true, false])?;
+    brings(&rt, alloc, &mut row, &[1, 0, 1, 1], &[1, 1, 1]);
+    reaches(&rt, alloc, &mut row, 0, &[false, false, false, false])?;
+    reaches(&rt, alloc, &mut row, 1, &[true, false, true, false])?;
+    let mut both = kept(&rt, alloc, one_slot(alloc, 1, 1)?);
+    reaches(&rt, alloc, &mut both, 0, &[false, true])?;
+    assert_eq!(rt; both.grow(alloc, 0, 5)?, 1);
+    reaches(&rt, alloc, &mut both, 0, &[false, true])?;
     Ok(())
 }
 
