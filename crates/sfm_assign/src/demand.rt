@@ -110,24 +110,16 @@ impl Demand {
         })
     }
 
-    /// Puts copies of other demands and of other capacities in place of these, over the same lists.
-    pub(crate) fn copy_from(
-        &mut self,
-        alloc: Global,
-        demands: &[i128],
-        capacities: &[i128],
-    ) -> Result<(), Memory>
+    /// Writes other demands and other capacities in place of these, over the same lists.
+    pub(crate) fn copy_from(&mut self, demands: &[i128], capacities: &[i128])
         requires places { length demands.now ≡ length self.old.demands }
         requires slots { length capacities.now ≡ length self.old.capacities }
         requires amounts { All IsAmount demands.now }
         requires bounded { All IsCapacity capacities.now }
-        ensures { self.new ≡ (if is_ok result then record { demands = demands.now; lists = self.old.lists; capacities = capacities.now } else self.old) }
+        ensures { self.new ≡ record { demands = demands.now; lists = self.old.lists; capacities = capacities.now } }
     {
-        let demands = Vec::from_slice(alloc, demands)?;
-        let capacities = Vec::from_slice(alloc, capacities)?;
-        self.demands = demands;
-        self.capacities = capacities;
-        Ok(())
+        self.demands.copy_from_slice(demands);
+        self.capacities.copy_from_slice(capacities);
     }
 
     /// Puts other demands in place of these, over the same slots.

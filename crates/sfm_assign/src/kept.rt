@@ -184,6 +184,21 @@ impl Kept {
         })
     }
 
+    /// Takes over the demands and the capacities of another split over the same lists, and how it splits them, into the memory
+    /// that stands. Nothing is remembered.
+    pub fn copy_from(&mut self, other: &Kept)
+        requires lists { self.old.demand.lists ≡ other.now.demand.lists }
+        requires slots { length self.old.demand.capacities ≡ length other.now.demand.capacities }
+        ensures { self.new.demand ≡ other.now.demand }
+    {
+        let _sound = self.demand.lists();
+        self.demand
+            .copy_from(other.demand.demands(), other.demand.capacities());
+        self.shares.y.copy_from_slice(&other.shares.y);
+        self.rooms.copy_from_slice(&other.rooms);
+        forget(&mut self.answers);
+    }
+
     /// Amounts by which other demands are met, over the same lists and with other capacities.
     fn amounts_with(
         &self,
@@ -224,7 +239,7 @@ impl Kept {
         let _sound = self.demand.lists();
         let y = self.amounts_with(alloc, demands, capacities)?;
         let rooms = left_of(alloc, capacities, &self.shares.cells.slots, &y)?;
-        self.demand.copy_from(alloc, demands, capacities)?;
+        self.demand.copy_from(demands, capacities);
         self.shares.y = y;
         self.rooms = rooms;
         forget(&mut self.answers);
