@@ -39,6 +39,17 @@ notes_set fits q terms notes rows j term note row count counted lj h is fit i l 
     (λ ne. rw (get_or-set_other rows j i row [] ne) (h i l x at w (note_at ∙ get_or-set_other notes j i note w ne)))
     (cases_eq i j)
 
+-- one note put in place of another, where all rows stay
+pub notes_put : {X N : Type 0} (fits : X → N → ℤ → List ℤ → Type 0) (q : ℤ) (terms : List X) (notes : List N) (rows : List (List ℤ)) (j : ℕ) (term : X) (note : N) → length notes ≡ length terms → j < length terms → AreNotes fits q terms notes rows
+    → term ≡ get_or terms j term → fits term note q (row_at rows j) → AreNotes fits q terms (set notes j note) rows
+notes_put fits q terms notes rows j term note count lj h is fit i l x at w note_at = ⊎_elim
+    (λ same.
+    let w_is : w ≡ note = note_at ∙ (ap (λ z. get_or (set notes j note) z w) same ∙ get_or-set_same notes j note w (omega (arith, lj, count))) in
+    let x_is : x ≡ term = at ∙ (ap (λ z. get_or terms z x) same ∙ (get_or_default terms j x term lj ∙ sym is)) in
+    rw (x_is, w_is, same) fit)
+    (λ ne. h i l x at w (note_at ∙ get_or-set_other notes j i note w ne))
+    (cases_eq i j)
+
 -- a list for each of the first k terms, as long as the term has places
 pub record AreSizedTo {X A : Type 0} (places : X → List ℕ) (terms : List X) (k : ℕ) (lists : List (List A)) : Type 0 where
   pub count : length lists ≡ k

@@ -58,8 +58,8 @@ pub fn graph_at<T: Term>(
 {
     let spots = spots_of(alloc, terms, n)?;
     let mut rows = blank_rows(alloc, terms)?;
-    let notes = notes_of(alloc, terms, q, &bases)?;
-    ask_all(alloc, terms, q, &bases, &notes, &mut rows)?;
+    let mut notes = notes_of(alloc, terms, q, &bases)?;
+    ask_all(alloc, terms, q, &bases, &mut notes, &mut rows)?;
     let unions = unions_of(alloc, &spots, &rows)?;
     let back = turned_of(alloc, &unions)?;
     Ok(Graph {
@@ -95,7 +95,7 @@ pub fn restart<T: Term>(
     ensures bases { OnOk result (graph.new.bases ≡ bases) }
 {
     graph.notes = notes_of(alloc, terms, q, &bases)?;
-    ask_all(alloc, terms, q, &bases, &graph.notes, &mut graph.rows)?;
+    ask_all(alloc, terms, q, &bases, &mut graph.notes, &mut graph.rows)?;
     graph.bases = bases;
     graph.unions = unions_of(alloc, &graph.spots, &graph.rows)?;
     graph.back = turned_of(alloc, &graph.unions)?;

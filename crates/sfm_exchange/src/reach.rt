@@ -79,61 +79,67 @@ pub fn placed_bits(places: &[usize], part: &Set) -> Bits
     bits
 }
 
-// The row of the place u.
+// The row of the place u, by a note that fits the base, which fits it still. After want of memory nothing is said of the
+// note.
 fn row_by<T: Term>(
     alloc: Global,
     at: &Based<'_, T>,
-    note: &T::Note,
+    note: &mut T::Note,
     u: usize,
     rows: &mut BitRows,
 ) -> Result<Bits, Memory>
     requires based { IsBased T.places T.value_of T.size_of at.now.term.now at.now.q at.now.x.now }
-    requires noted { T.fits at.now.term.now note.now at.now.q at.now.x.now }
+    requires noted { T.fits at.now.term.now note.old at.now.q at.now.x.now }
     requires from { u < length at.now.x.now }
     requires rows { length rows.old ≡ length at.now.x.now }
     ensures same { rows.new ≡ rows.old }
     ensures row { IfOk result (IsRow (T.places at.now.term.now) (times at.now.q (T.value_of at.now.term.now)) at.now.x.now u) }
+    ensures noted { OnOk result (T.fits at.now.term.now note.new at.now.q at.now.x.now) }
 {
     at.term
         .reach_by(alloc, at.q, at.x, note, u, &mut rows.part)?;
     Ok(placed_bits(at.term.elements(), &rows.part))
 }
 
-/// The row of the place u, which is s or has room to it.
+/// The row of the place u, which is s or has room to it, by a note that fits the base, which fits it still. After want of
+/// memory nothing is said of the note.
 pub fn row_with<T: Term>(
     alloc: Global,
     at: &Based<'_, T>,
-    note: &T::Note,
+    note: &mut T::Note,
     s: usize,
     u: usize,
     rows: &mut BitRows,
 ) -> Result<Bits, Memory>
     requires based { IsBased T.places T.value_of T.size_of at.now.term.now at.now.q at.now.x.now }
-    requires noted { T.fits at.now.term.now note.now at.now.q at.now.x.now }
+    requires noted { T.fits at.now.term.now note.old at.now.q at.now.x.now }
     requires onto { s < length at.now.x.now }
     requires from { u < length at.now.x.now }
     requires leads { Depends (times at.now.q (T.value_of at.now.term.now)) at.now.x.now u s }
     requires rows { length rows.old ≡ length at.now.x.now }
     ensures same { rows.new ≡ rows.old }
     ensures row { IfOk result (IsRow (T.places at.now.term.now) (times at.now.q (T.value_of at.now.term.now)) at.now.x.now u) }
+    ensures noted { OnOk result (T.fits at.now.term.now note.new at.now.q at.now.x.now) }
 {
     at.term
         .reach_with(alloc, at.q, at.x, note, s, u, &mut rows.part)?;
     Ok(placed_bits(at.term.elements(), &rows.part))
 }
 
-/// Asks for each row of a term at its base.
+/// Asks for each row of a term at its base, by a note that fits it, which fits it still. After want of memory nothing is
+/// said of the note.
 pub fn ask<T: Term>(
     alloc: Global,
     at: &Based<'_, T>,
-    note: &T::Note,
+    note: &mut T::Note,
     rows: &mut BitRows,
 ) -> Result<(), Memory>
     requires based { IsBased T.places T.value_of T.size_of at.now.term.now at.now.q at.now.x.now }
-    requires noted { T.fits at.now.term.now note.now at.now.q at.now.x.now }
+    requires noted { T.fits at.now.term.now note.old at.now.q at.now.x.now }
     requires rows { length rows.old ≡ length at.now.x.now }
     ensures rows { length rows.new ≡ length rows.old }
     ensures asked { OnOk result (IsReachTable (T.places at.now.term.now) (times at.now.q (T.value_of at.now.term.now)) at.now.x.now (length (T.places at.now.term.now)) rows.new) }
+    ensures noted { OnOk result (T.fits at.now.term.now note.new at.now.q at.now.x.now) }
 {
     for u in 0..at.x.len() {
         let row = row_by(alloc, at, note, u, rows)?;

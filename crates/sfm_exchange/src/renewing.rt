@@ -70,21 +70,22 @@ fn join_rows(places: &[usize], changed: &Bits, more: &Bits, to: usize, rows: &mu
     }
 }
 
-// Asks for the rows of some places, each of which has room to s.
+// Asks for the rows of some places, each of which has room to s, by a note that fits the base, which fits it still.
 fn ask_rows<T: Term>(
     alloc: Global,
     at: &Based<'_, T>,
-    note: &T::Note,
+    note: &mut T::Note,
     s: usize,
     changed: &Bits,
     rows: &mut BitRows,
 ) -> Result<(), Memory>
     requires based { IsBased T.places T.value_of T.size_of at.now.term.now at.now.q at.now.x.now }
-    requires noted { T.fits at.now.term.now note.now at.now.q at.now.x.now }
+    requires noted { T.fits at.now.term.now note.old at.now.q at.now.x.now }
     requires onto { s < length at.now.x.now }
     requires leads { (u : ℕ) → u < length at.now.x.now → bit_in changed.now (slice_index_or (T.places at.now.term.now) u 0) ≡ 1 → Depends (times at.now.q (T.value_of at.now.term.now)) at.now.x.now u s }
     requires rows { length rows.old ≡ length at.now.x.now }
-    ensures { OnOk result (AreAsked (T.places at.now.term.now) (times at.now.q (T.value_of at.now.term.now)) at.now.x.now changed.now (length (T.places at.now.term.now)) rows.old rows.new) }
+    ensures asked { OnOk result (AreAsked (T.places at.now.term.now) (times at.now.q (T.value_of at.now.term.now)) at.now.x.now changed.now (length (T.places at.now.term.now)) rows.old rows.new) }
+    ensures noted { OnOk result (T.fits at.now.term.now note.new at.now.q at.now.x.now) }
 {
     let places = at.term.elements();
     for u in 0..places.len() {
@@ -97,17 +98,17 @@ fn ask_rows<T: Term>(
 }
 
 /// Brings the rows of a term up to the base that came by raising s and lowering t, and gives the ground places whose rows
-/// may have changed.
+/// may have changed. The note fits the base, and fits it still; after want of memory nothing is said of it.
 pub fn renew_rows<T: Term>(
     alloc: Global,
     at: &Based<'_, T>,
-    note: &T::Note,
+    note: &mut T::Note,
     s: usize,
     t: usize,
     rows: &mut BitRows,
 ) -> Result<Bits, Memory>
     requires based { IsBased T.places T.value_of T.size_of at.now.term.now at.now.q at.now.x.now }
-    requires noted { T.fits at.now.term.now note.now at.now.q at.now.x.now }
+    requires noted { T.fits at.now.term.now note.old at.now.q at.now.x.now }
     requires apart { s ≢ t }
     requires raised { s < length at.now.x.now }
     requires lowered { t < length at.now.x.now }
@@ -116,6 +117,7 @@ pub fn renew_rows<T: Term>(
         × IsReachTable (T.places at.now.term.now) (times at.now.q (T.value_of at.now.term.now)) before (length (T.places at.now.term.now)) rows.old }
     ensures rows { OnOk result (length rows.new ≡ length rows.old) }
     ensures exact { OnOk result (IsReachTable (T.places at.now.term.now) (times at.now.q (T.value_of at.now.term.now)) at.now.x.now (length (T.places at.now.term.now)) rows.new) }
+    ensures noted { OnOk result (T.fits at.now.term.now note.new at.now.q at.now.x.now) }
     ensures inside { IfOk result (λ r. (e : ℕ) → bit_in r e ≡ 1 → (u : ℕ) × (u < length (T.places at.now.term.now)) × (slice_index_or (T.places at.now.term.now) u 0 ≡ e)) }
     ensures others { IfOk result (λ r. (u : ℕ) → u < length (T.places at.now.term.now) → bit_in r (slice_index_or (T.places at.now.term.now) u 0) ≢ 1 → set_at rows.new u ≡ set_at rows.old u) }
 {

@@ -1,4 +1,4 @@
-use Rattle.std.proofs.Common.{◌≡◌, ◌≢◌, ◌⊎◌, inl, inr, ℕ, ◌+◌, ◌<◌, List, [], length, get_or, set, ℤ, sym, ap, subst, ◌∙◌, arith, FitsSigned, get_or-set_same, get_or-set_other}
+use Rattle.std.proofs.Common.{◌≡◌, ◌≢◌, ◌⊎◌, inl, inr, ℕ, ◌+◌, ◌<◌, List, [], length, get_or, set, ℤ, sym, ap, subst, ◌∙◌, arith, FitsSigned, get_or-set_same, get_or-set_other, length-set}
 use Rattle.std.proofs.lemmas.Bool.{cases_eq}
 use Rattle.std.proofs.lemmas.Int.{to_z-of_z}
 use Rattle.std.proofs.lemmas.List.{get_or_default, length-map}
@@ -10,7 +10,7 @@ use Rattle.sfm_spec.specs.Walks.{row_at}
 use Rattle.sfm_law.proofs.Lists.{meanings-at, length-meanings}
 use Rattle.sfm_exchange.specs.declared.bits.Bits.{Bits}
 use Rattle.sfm_exchange.specs.Reach.{IsReachTable, IsTable, table_at}
-use Rattle.sfm_exchange.proofs.Noting.{sized_set}
+use Rattle.sfm_exchange.proofs.Noting.{notes_put, sized_set}
 use Rattle.sfm_exchange.proofs.Reaching.{table_steps}
 use Rattle.sfm_exchange.proofs.asking.ask_all.Goals as goal
 
@@ -30,6 +30,15 @@ tables_more places value terms q bases tables i term rows l is inside distinct b
   at (inl same) = subst Right (sym same) (rw (get_or-set_same tables i rows [] inside) here)
   at (inr ne) = rw (get_or-set_other tables i j rows [] ne) (before j (omega (arith, lj, ne)))
 
+pub ask-requires-clause-noted : goal.ask-requires-clause-noted
+ask-requires-clause-noted g c =
+    let t = g.T.Term in
+    let fq : FitsSigned w128 c.args.q = c.ranges.q in
+    let inv = simp to_z-of_z at c.loop-i.invariant in
+    let F : List ℤ → Type 0 = λ x. t.fits c.index-terms-i.result c.index_mut-note.result.now c.args.q x in
+    let noted : F c.row-x.result.now = subst F (sym c.row-x.ensures) (inv.3 c.loop-i.i c.loop-i-test.true c.index-terms-i.result c.index-terms-i.is c.index_mut-note.result.now c.index_mut-note.ensures.value) in
+    simp to_z-of_z noted
+
 pub loop-i-preserved : goal.loop-i-preserved
 loop-i-preserved g c =
     let t = g.T.Term in
@@ -46,11 +55,24 @@ loop-i-preserved g c =
     let same = e.rows ∙ ap length (c.index_mut.ensures.value ∙ get_or_default tables i c.index_mut.result.now [] inside) in
     let shown : c.row-x.result.now ≡ row_at c.args.bases.now i = c.row-x.ensures in
     let told = simp to_z-of_z at (rw shown at e.asked) in
+    let noted = rw shown at (simp to_z-of_z at e.noted) in
+    let notes = c.loop-i.notes.items in
     let based = c.requires.based.each i l term is in
-    simp to_z-of_z (sized_set _ tables i c.ask.new.rows inv.0 same, tables_more t.places t.value_of terms c.args.q c.args.bases.now tables i term c.ask.new.rows l is inside based.placed.distinct inv.1 told)
+    simp to_z-of_z (
+      sized_set _ tables i c.ask.new.rows inv.0 same,
+      tables_more t.places t.value_of terms c.args.q c.args.bases.now tables i term c.ask.new.rows l is inside based.placed.distinct inv.1 told,
+      length-set notes i c.ask.new.note ∙ inv.2,
+      notes_put t.fits c.args.q terms notes c.args.bases.now i term c.ask.new.note inv.2 l inv.3 is noted,
+    )
 
 pub returns-clause-tables : goal.returns-clause-tables
 returns-clause-tables g c =
     let fq : FitsSigned w128 c.args.q = c.ranges.q in
     let inv = simp to_z-of_z at c.loop-i.invariant in
     λ i l. inv.1 i (omega (arith, l, c.loop-i.auto.i-end, c.loop-i-test.false))
+
+pub returns-clause-noted : goal.returns-clause-noted
+returns-clause-noted g c =
+    let fq : FitsSigned w128 c.args.q = c.ranges.q in
+    let inv = simp to_z-of_z at c.loop-i.invariant in
+    inv.3

@@ -32,7 +32,7 @@ unions_of-requires g c =
     let spots = c.args.graph.now.spots.items in
     let sized = sized_meanings t.places t.value_of c.args.terms.now tables c.in_ok-ask_all.ensures.rows in
     let have : HaveRows tables spots = have_rows ts c.args.n spots tables c.requires.graph.1.are_spots sized.0 sized.1 in
-    rw (c.deref-2.ensures.value, c.deref-3.ensures.value) have
+    rw (c.deref.ensures.value, c.deref-2.ensures.value) have
 
 pub returns-clause-graph : goal.returns-clause-graph
 returns-clause-graph g c =
@@ -40,11 +40,11 @@ returns-clause-graph g c =
     let ask = c.in_ok-ask_all.ensures in
     record {
       are_bases = c.requires.bases;
-      note_count = c.in_ok-graph.ensures.count;
-      noted = simp to_z-of_z at c.in_ok-graph.ensures.fit;
+      note_count = ask.count;
+      noted = simp to_z-of_z at ask.noted;
       sized_rows = ask.rows;
       tables = simp to_z-of_z at ask.tables;
       are_spots = c.requires.graph.1.are_spots;
-      are_unions = rw (c.deref-2.ensures.value, c.deref-3.ensures.value) at c.in_ok-graph-2.ensures;
-      are_turned = rw c.deref-4.ensures.value at c.in_ok-graph-3.ensures;
+      are_unions = rw (c.deref.ensures.value, c.deref-2.ensures.value) at c.in_ok-graph-2.ensures;
+      are_turned = rw c.deref-3.ensures.value at c.in_ok-graph-3.ensures;
     }

@@ -192,7 +192,7 @@ returns-clause-graph g c =
     let same : length y ≡ length (row_at bases i) = ap length moved ∙ length-exchanged (row_at bases i) c.args.hop.u c.args.hop.v c.args.a in
     let whole : take (length (row_at bases i)) (y ++ drop (length y) (row_at bases i)) ≡ y = take_at y (drop (length y) (row_at bases i)) (length (row_at bases i)) same in
     let e = c.in_ok-changed.ensures in
-    let noted : t.fits term c.moved.new.note c.args.q y = rw moved (rw shown at (simp to_z-of_z at c.in_ok-moved.ensures)) in
+    let noted : t.fits term c.renew_rows.new.note c.args.q y = simp to_z-of_z at e.noted in
     let long = sized_read t.places c.args.terms.now c.args.graph.now.rows.items i term c.index_mut-rows.result.now r.graph.exact.sized_rows r.inside is c.index_mut-rows.ensures.value in
-    rw whole (whole_after r.graph i r.inside term is y c.moved.new.note c.renew_rows.new.rows c.in_ok-changed.changed _ by noted (e.rows ∙ long) (simp to_z-of_z at e.exact) (rw rows_are at e.others)
+    rw whole (whole_after r.graph i r.inside term is y c.renew_rows.new.note c.renew_rows.new.rows c.in_ok-changed.changed _ by noted (e.rows ∙ long) (simp to_z-of_z at e.exact) (rw rows_are at e.others)
     (rw (c.deref.ensures.value, c.deref-2.ensures.value) at c.renew.ensures.renewed) c.renew.ensures.turned refl refl refl refl)

@@ -13,7 +13,7 @@ loop-u-preserved g c =
     let e = c.in_ok-row.ensures in
     let l : u < length c.loop-u.rows = omega (arith, inv.0, c.requires.rows, c.loop-u-test.true) in
     let table = table_more (t.places at.term.now) (times at.q (t.value_of at.term.now)) at.x.now u c.loop-u.rows c.in_ok-row.row inv.1 l e.row in
-    rw (c.set.ensures, e.same) (length-set c.loop-u.rows u c.in_ok-row.row ∙ inv.0, table)
+    rw (c.set.ensures, e.same) (length-set c.loop-u.rows u c.in_ok-row.row ∙ inv.0, table, e.noted)
 
 pub returns-clause-asked : goal.returns-clause-asked
 returns-clause-asked g c =

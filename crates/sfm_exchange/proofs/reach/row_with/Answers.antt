@@ -18,3 +18,9 @@ returns-clause-row g c =
     let reach : IsReach f at.x.now c.args.u c.reach_with.new.to = simp to_z-of_z at c.in_ok-reach_with.ensures.reached in
     let has : HasPlaces places c.reach_with.new.to (length places) c.placed_bits.result = rw c.elements.ensures at c.placed_bits.ensures in
     row_of places f at.x.now c.args.u c.placed_bits.result c.reach_with.new.to based.entries reach has
+
+pub returns-clause-noted : goal.returns-clause-noted
+returns-clause-noted g c =
+    let based = c.requires.based in
+    let fq : FitsSigned w128 c.args.at.now.q = omega (arith, ints, based.factor) in
+    simp to_z-of_z at c.in_ok-reach_with.ensures.noted

@@ -59,7 +59,7 @@ returns-clause-exact g c =
     let shown = c.elements-places.ensures in
     let all : AreDepending places c.args.rows.now c.args.t (length places) c.depending-changed.result = rw (shown, c.as_slice.ensures) at c.depending-changed.ensures in
     let hs : IsRow places f at.x.now c.args.s c.in_ok-of_s.of_s = c.in_ok-of_s.ensures.row in
-    let asked = rw (c.set.ensures, c.in_ok-of_s.ensures.same) at c.in_ok-ask_rows.ensures in
+    let asked = rw (c.set.ensures, c.in_ok-of_s.ensures.same) at c.in_ok-ask_rows.ensures.asked in
     exact_asked places b.placed.distinct family law c.args.s c.args.t ls lt r.apart x at.x.now b.entries b.base m c.args.rows.now c.depending-changed.result table all c.in_ok-of_s.of_s hs c.remove.new.self (rw shown at c.remove.ensures.out) (rw shown at c.remove.ensures.others) c.ask_rows.new.rows (r.rows ∙ b.entries) asked
 
 pub returns-clause-others : goal.returns-clause-others
@@ -78,5 +78,5 @@ returns-clause-others g c =
     let shown = c.elements-places.ensures in
     let all : AreDepending places c.args.rows.now c.args.t (length places) c.depending-changed.result = rw (shown, c.as_slice.ensures) at c.depending-changed.ensures in
     let hs : IsRow places f at.x.now c.args.s c.in_ok-of_s.of_s = c.in_ok-of_s.ensures.row in
-    let asked = rw (c.set.ensures, c.in_ok-of_s.ensures.same) at c.in_ok-ask_rows.ensures in
+    let asked = rw (c.set.ensures, c.in_ok-of_s.ensures.same) at c.in_ok-ask_rows.ensures.asked in
     others_stay places b.placed.distinct family law c.args.s c.args.t ls lt r.apart x at.x.now b.entries b.base m c.args.rows.now c.depending-changed.result table all c.in_ok-of_s.of_s hs c.remove.new.self (rw shown at c.remove.ensures.out) (rw shown at c.remove.ensures.others) c.ask_rows.new.rows (r.rows ∙ b.entries) asked
