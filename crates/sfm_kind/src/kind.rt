@@ -1,5 +1,7 @@
 // One type for all kinds of term. Each call of a term passes on to the kind's own, and each member and law of a term goes
-// by cases over the kinds (specs/Kinds.antt), so a kind that is added brings one case to each.
+// by cases over the kinds (specs/Kinds.antt), so a kind that is added brings one case to each. The plain kinds keep nothing
+// beside a base: what is asked by a note is asked of them as without one. Graphic ranks alone have another way to ask for a
+// row with a place to which the place of the row leads.
 ghost use Rattle.std.specs.Prelude.{◌≡◌, ◌≢◌, ◌↔◌, ℕ, ◌<◌, ◌≤◌, ◌^◌, Bool, List, length, ℤ, pos, neg_ℤ, ◌*ℤ◌, ◌≤ℤ◌, IfOk, OnOk, IsTrue, Option, Some};
 ghost use Rattle.std.specs.List.{All};
 ghost use Rattle.sfm_spec.specs.Bounds.{IsEntry, IsFactor};
@@ -207,18 +209,11 @@ impl Term for Kind {
 
     fn note(&self, alloc: Global, q: i128, x: &[i128]) -> Result<KindNote, Memory> {
         match self {
-            Kind::Weight(term) => term.note(alloc, q, x)?,
-            Kind::Cut(term) => term.note(alloc, q, x)?,
-            Kind::Cover(term) => term.note(alloc, q, x)?,
-            Kind::Need(term) => term.note(alloc, q, x)?,
-            Kind::Table(term) => term.note(alloc, q, x)?,
-            Kind::Concave(term) => term.note(alloc, q, x)?,
-            Kind::Uniform(term) => term.note(alloc, q, x)?,
-            Kind::Laminar(term) => return Ok(KindNote::Laminar(term.note(alloc, q, x)?)),
-            Kind::Graphic(term) => return Ok(KindNote::Graphic(term.note(alloc, q, x)?)),
-            Kind::Transversal(term) => return Ok(KindNote::Transversal(term.note(alloc, q, x)?)),
+            Kind::Laminar(term) => Ok(KindNote::Laminar(term.note(alloc, q, x)?)),
+            Kind::Graphic(term) => Ok(KindNote::Graphic(term.note(alloc, q, x)?)),
+            Kind::Transversal(term) => Ok(KindNote::Transversal(term.note(alloc, q, x)?)),
+            _ => Ok(KindNote::Nothing),
         }
-        Ok(KindNote::Nothing)
     }
 
     fn reach_by(
@@ -226,18 +221,11 @@ impl Term for Kind {
         alloc: Global,
         q: i128,
         x: &[i128],
-        note: &KindNote,
+        note: &mut KindNote,
         u: usize,
         to: &mut Set,
     ) -> Result<(), Memory> {
         match self {
-            Kind::Weight(term) => term.reach_by(alloc, q, x, &(), u, to),
-            Kind::Cut(term) => term.reach_by(alloc, q, x, &(), u, to),
-            Kind::Cover(term) => term.reach_by(alloc, q, x, &(), u, to),
-            Kind::Need(term) => term.reach_by(alloc, q, x, &(), u, to),
-            Kind::Table(term) => term.reach_by(alloc, q, x, &(), u, to),
-            Kind::Concave(term) => term.reach_by(alloc, q, x, &(), u, to),
-            Kind::Uniform(term) => term.reach_by(alloc, q, x, &(), u, to),
             Kind::Laminar(term) => match note {
                 KindNote::Laminar(note) => term.reach_by(alloc, q, x, note, u, to),
                 _ => unreachable!(),
@@ -250,6 +238,7 @@ impl Term for Kind {
                 KindNote::Transversal(note) => term.reach_by(alloc, q, x, note, u, to),
                 _ => unreachable!(),
             },
+            _ => self.reach(alloc, q, x, u, to),
         }
     }
 
@@ -263,13 +252,6 @@ impl Term for Kind {
         v: usize,
     ) -> Result<Room, Memory> {
         match self {
-            Kind::Weight(term) => term.room_by(alloc, q, x, &mut (), u, v),
-            Kind::Cut(term) => term.room_by(alloc, q, x, &mut (), u, v),
-            Kind::Cover(term) => term.room_by(alloc, q, x, &mut (), u, v),
-            Kind::Need(term) => term.room_by(alloc, q, x, &mut (), u, v),
-            Kind::Table(term) => term.room_by(alloc, q, x, &mut (), u, v),
-            Kind::Concave(term) => term.room_by(alloc, q, x, &mut (), u, v),
-            Kind::Uniform(term) => term.room_by(alloc, q, x, &mut (), u, v),
             Kind::Laminar(term) => match note {
                 KindNote::Laminar(note) => term.room_by(alloc, q, x, note, u, v),
                 _ => unreachable!(),
@@ -282,6 +264,7 @@ impl Term for Kind {
                 KindNote::Transversal(note) => term.room_by(alloc, q, x, note, u, v),
                 _ => unreachable!(),
             },
+            _ => self.room(alloc, q, x, u, v),
         }
     }
 
@@ -290,31 +273,17 @@ impl Term for Kind {
         alloc: Global,
         q: i128,
         x: &[i128],
-        note: &KindNote,
+        note: &mut KindNote,
         s: usize,
         u: usize,
         to: &mut Set,
     ) -> Result<(), Memory> {
         match self {
-            Kind::Weight(term) => term.reach_with(alloc, q, x, &(), s, u, to),
-            Kind::Cut(term) => term.reach_with(alloc, q, x, &(), s, u, to),
-            Kind::Cover(term) => term.reach_with(alloc, q, x, &(), s, u, to),
-            Kind::Need(term) => term.reach_with(alloc, q, x, &(), s, u, to),
-            Kind::Table(term) => term.reach_with(alloc, q, x, &(), s, u, to),
-            Kind::Concave(term) => term.reach_with(alloc, q, x, &(), s, u, to),
-            Kind::Uniform(term) => term.reach_with(alloc, q, x, &(), s, u, to),
-            Kind::Laminar(term) => match note {
-                KindNote::Laminar(note) => term.reach_with(alloc, q, x, note, s, u, to),
-                _ => unreachable!(),
-            },
             Kind::Graphic(term) => match note {
                 KindNote::Graphic(note) => term.reach_with(alloc, q, x, note, s, u, to),
                 _ => unreachable!(),
             },
-            Kind::Transversal(term) => match note {
-                KindNote::Transversal(note) => term.reach_with(alloc, q, x, note, s, u, to),
-                _ => unreachable!(),
-            },
+            _ => self.reach_by(alloc, q, x, note, u, to),
         }
     }
 
@@ -329,13 +298,6 @@ impl Term for Kind {
         a: i128,
     ) -> Result<(), Memory> {
         match self {
-            Kind::Weight(term) => term.moved(alloc, q, x, &mut (), u, v, a),
-            Kind::Cut(term) => term.moved(alloc, q, x, &mut (), u, v, a),
-            Kind::Cover(term) => term.moved(alloc, q, x, &mut (), u, v, a),
-            Kind::Need(term) => term.moved(alloc, q, x, &mut (), u, v, a),
-            Kind::Table(term) => term.moved(alloc, q, x, &mut (), u, v, a),
-            Kind::Concave(term) => term.moved(alloc, q, x, &mut (), u, v, a),
-            Kind::Uniform(term) => term.moved(alloc, q, x, &mut (), u, v, a),
             Kind::Laminar(term) => match note {
                 KindNote::Laminar(note) => term.moved(alloc, q, x, note, u, v, a),
                 _ => unreachable!(),
@@ -348,6 +310,7 @@ impl Term for Kind {
                 KindNote::Transversal(note) => term.moved(alloc, q, x, note, u, v, a),
                 _ => unreachable!(),
             },
+            _ => Ok(()),
         }
     }
 }

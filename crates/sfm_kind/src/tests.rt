@@ -86,9 +86,9 @@ fn has_reach<T: Term>(
     let reached = part(alloc, wanted.reach)?;
     let mut to = part(alloc, 3)?;
     term.reach(alloc, 2, x, 1, &mut to)?;
-    let note = term.note(alloc, 2, x)?;
+    let mut note = term.note(alloc, 2, x)?;
     let mut by_note = part(alloc, 3)?;
-    term.reach_by(alloc, 2, x, &note, 1, &mut by_note)?;
+    term.reach_by(alloc, 2, x, &mut note, 1, &mut by_note)?;
     for v in 0..2 {
         assert_eq!(rt; to.contains(v), reached.contains(v), "reach at {v}");
         assert_eq!(rt;

@@ -5,20 +5,8 @@ use Rattle.std.specs.Int.{w128}
 use Rattle.std.proofs.lemmas.Int.{ints}
 use Rattle.sfm_kind.proofs.kind.KindTerm.moved.Goals as goal
 
-pub moved-requires-in-Concave-clause-room : goal.moved-requires-in-Concave-clause-room
-moved-requires-in-Concave-clause-room c =
-    let kept : to_z w128 (of_z w128 c.args.q) ≡ c.args.q = omega (arith, ints, c.requires.factor.low, c.requires.factor.high) in
-    let same : to_z w128 (of_z w128 c.args.a) ≡ c.args.a = omega (arith, ints, c.requires.low.le, c.requires.high.le) in
-    rw (kept, same) (rw c.in-Concave.is at c.requires.room)
-
-pub moved-requires-in-Uniform-clause-room : goal.moved-requires-in-Uniform-clause-room
-moved-requires-in-Uniform-clause-room c =
-    let kept : to_z w128 (of_z w128 c.args.q) ≡ c.args.q = omega (arith, ints, c.requires.factor.low, c.requires.factor.high) in
-    let same : to_z w128 (of_z w128 c.args.a) ≡ c.args.a = omega (arith, ints, c.requires.low.le, c.requires.high.le) in
-    rw (kept, same) (rw c.in-Uniform.is at c.requires.room)
-
-pub moved-requires-in-Laminar-note-clause-room : goal.moved-requires-in-Laminar-note-clause-room
-moved-requires-in-Laminar-note-clause-room c =
+pub moved-requires-clause-room : goal.moved-requires-clause-room
+moved-requires-clause-room c =
     let kept : to_z w128 (of_z w128 c.args.q) ≡ c.args.q = omega (arith, ints, c.requires.factor.low, c.requires.factor.high) in
     let same : to_z w128 (of_z w128 c.args.a) ≡ c.args.a = omega (arith, ints, c.requires.low.le, c.requires.high.le) in
     rw (kept, same) (rw c.in-Laminar.is at c.requires.room)

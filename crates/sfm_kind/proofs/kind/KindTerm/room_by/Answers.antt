@@ -4,16 +4,6 @@ use Rattle.std.specs.Int.{w128}
 use Rattle.std.proofs.lemmas.Int.{ints}
 use Rattle.sfm_kind.proofs.kind.KindTerm.room_by.Goals as goal
 
-pub returns-in-Concave-clause-room : goal.returns-in-Concave-clause-room
-returns-in-Concave-clause-room c =
-    let kept : to_z w128 (of_z w128 c.args.q) ≡ c.args.q = omega (arith, ints, c.requires.factor.low, c.requires.factor.high) in
-    rw c.in-Concave.is (rw kept at c.room_by-in-Concave.ensures.room)
-
-pub returns-in-Uniform-clause-room : goal.returns-in-Uniform-clause-room
-returns-in-Uniform-clause-room c =
-    let kept : to_z w128 (of_z w128 c.args.q) ≡ c.args.q = omega (arith, ints, c.requires.factor.low, c.requires.factor.high) in
-    rw c.in-Uniform.is (rw kept at c.room_by-in-Uniform.ensures.room)
-
 pub returns-in-Graphic-note-clause-room : goal.returns-in-Graphic-note-clause-room
 returns-in-Graphic-note-clause-room c =
     let kept : to_z w128 (of_z w128 c.args.q) ≡ c.args.q = omega (arith, ints, c.requires.factor.low, c.requires.factor.high) in
