@@ -21,7 +21,7 @@ use Rattle.sfm_kind.specs.declared.kind.Kind.{Kind}
 use Rattle.sfm_kind.specs.declared.kind.Kind.TheVariants.{Weight, Cut, Cover, Need, Table, Concave, Uniform, Laminar, Graphic, Transversal}
 use Rattle.sfm_kind.specs.declared.kind.KindNote.{KindNote}
 pub use Rattle.sfm_kind.specs.Meanings.{kind_places}
-use Rattle.sfm_kind.specs.Notes.{laminar_note_fits, graphic_note_fits, transversal_note_fits}
+use Rattle.sfm_kind.specs.Notes.{concave_note_fits, laminar_note_fits, graphic_note_fits, transversal_note_fits}
 
 -- the value at each allowed part
 abbrev pub kind_value : Kind → SetFunction
@@ -95,7 +95,7 @@ kind_fits (Cut term) note q x = Unit {0}
 kind_fits (Cover term) note q x = Unit {0}
 kind_fits (Need term) note q x = Unit {0}
 kind_fits (Table term) note q x = Unit {0}
-kind_fits (Concave term) note q x = Unit {0}
+kind_fits (Concave term) note q x = concave_note_fits note x
 kind_fits (Uniform term) note q x = Unit {0}
 kind_fits (Laminar term) note q x = laminar_note_fits term.w term.groups note q x
 kind_fits (Graphic term) note q x = graphic_note_fits term.w term.ends note q x

@@ -54,6 +54,8 @@ pub enum KindNote {
     Graphic(<Graphic as Term>::Note),
     /// The split in the test of a transversal rank.
     Transversal(<Transversal as Term>::Note),
+    /// The entries of a concave term in order.
+    Concave(<Concave as Term>::Note),
 }
 
 impl Kind {
@@ -212,6 +214,7 @@ impl Term for Kind {
             Kind::Laminar(term) => Ok(KindNote::Laminar(term.note(alloc, q, x)?)),
             Kind::Graphic(term) => Ok(KindNote::Graphic(term.note(alloc, q, x)?)),
             Kind::Transversal(term) => Ok(KindNote::Transversal(term.note(alloc, q, x)?)),
+            Kind::Concave(term) => Ok(KindNote::Concave(term.note(alloc, q, x)?)),
             _ => Ok(KindNote::Nothing),
         }
     }
@@ -238,6 +241,10 @@ impl Term for Kind {
                 KindNote::Transversal(note) => term.reach_by(alloc, q, x, note, u, to),
                 _ => unreachable!(),
             },
+            Kind::Concave(term) => match note {
+                KindNote::Concave(note) => term.reach_by(alloc, q, x, note, u, to),
+                _ => unreachable!(),
+            },
             _ => self.reach(alloc, q, x, u, to),
         }
     }
@@ -262,6 +269,10 @@ impl Term for Kind {
             },
             Kind::Transversal(term) => match note {
                 KindNote::Transversal(note) => term.room_by(alloc, q, x, note, u, v),
+                _ => unreachable!(),
+            },
+            Kind::Concave(term) => match note {
+                KindNote::Concave(note) => term.room_by(alloc, q, x, note, u, v),
                 _ => unreachable!(),
             },
             _ => self.room(alloc, q, x, u, v),
@@ -308,6 +319,10 @@ impl Term for Kind {
             },
             Kind::Transversal(term) => match note {
                 KindNote::Transversal(note) => term.moved(alloc, q, x, note, u, v, a),
+                _ => unreachable!(),
+            },
+            Kind::Concave(term) => match note {
+                KindNote::Concave(note) => term.moved(alloc, q, x, note, u, v, a),
                 _ => unreachable!(),
             },
             _ => Ok(()),

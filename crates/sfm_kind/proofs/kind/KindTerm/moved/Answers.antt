@@ -22,3 +22,9 @@ moved-requires-in-Transversal-note-clause-room c =
     let kept : to_z w128 (of_z w128 c.args.q) ≡ c.args.q = omega (arith, ints, c.requires.factor.low, c.requires.factor.high) in
     let same : to_z w128 (of_z w128 c.args.a) ≡ c.args.a = omega (arith, ints, c.requires.low.le, c.requires.high.le) in
     rw (kept, same) (rw c.in-Transversal.is at c.requires.room)
+
+pub moved-requires-in-Concave-note-clause-room : goal.moved-requires-in-Concave-note-clause-room
+moved-requires-in-Concave-note-clause-room c =
+    let kept : to_z w128 (of_z w128 c.args.q) ≡ c.args.q = omega (arith, ints, c.requires.factor.low, c.requires.factor.high) in
+    let same : to_z w128 (of_z w128 c.args.a) ≡ c.args.a = omega (arith, ints, c.requires.low.le, c.requires.high.le) in
+    rw (kept, same) (rw c.in-Concave.is at c.requires.room)

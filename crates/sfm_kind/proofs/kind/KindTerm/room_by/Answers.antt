@@ -13,3 +13,8 @@ pub returns-in-Transversal-note-clause-room : goal.returns-in-Transversal-note-c
 returns-in-Transversal-note-clause-room c =
     let kept : to_z w128 (of_z w128 c.args.q) ≡ c.args.q = omega (arith, ints, c.requires.factor.low, c.requires.factor.high) in
     rw c.in-Transversal.is (rw kept at c.room_by-in-Transversal-note.ensures.room)
+
+pub returns-in-Concave-note-clause-room : goal.returns-in-Concave-note-clause-room
+returns-in-Concave-note-clause-room c =
+    let kept : to_z w128 (of_z w128 c.args.q) ≡ c.args.q = omega (arith, ints, c.requires.factor.low, c.requires.factor.high) in
+    rw c.in-Concave.is (rw kept at c.room_by-in-Concave-note.ensures.room)
