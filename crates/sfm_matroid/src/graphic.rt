@@ -23,8 +23,8 @@ ghost use Rattle.sfm_matroid.specs.GraphicLaws.{graphic-family, graphic-submodul
 use crate::ends::Ends;
 use crate::givers::row;
 use crate::growing::{grow, whole};
-use crate::room::{moved, raise, without};
-use crate::rooted::{RootSplit, Spare, root_split};
+use crate::room::{beside, moved, raise, without};
+use crate::rooted::{RootSplit, Spare, root_split, take_kept};
 use crate::testing::{brought, numbered, passes_tails};
 use sfm_assign::Kept;
 use sfm_base::{Memory, Places, Set};
@@ -431,8 +431,8 @@ impl Graphic {
         self.reach_near(alloc, q, x, note, u, u, to)
     }
 
-    /// The room of (u, v) at a base, by a copy of the split that is kept, which is brought to what stays without v, with the root
-    /// at an end of u, and stays in the note.
+    /// The room of (u, v) at a base, by a second split beside the one that is kept, which is brought to what stays without v, with
+    /// the root at an end of u, and stays in the note.
     ///
     /// # Errors
     ///
@@ -459,7 +459,8 @@ impl Graphic {
         let cap = self.cap(q);
         let root = self.end_near(note.root, u);
         let rest = without(alloc, x, v)?;
-        let mut kept = note.kept.copy(alloc)?;
+        let spare = take_kept(note);
+        let mut kept = beside(alloc, &note.kept, spare)?;
         self.bring(alloc, &mut kept, &rest, cap, root)?;
         let most = raise(alloc, &mut kept, x, cap, u, v)?;
         note.spare = Some(Spare { root, kept });

@@ -1,11 +1,12 @@
 // The room of a pair at a base, by a split of what stays without the one that gives. The one that gets is raised there as far as
 // all others leave room, up to what the other has and to what it lacks itself of the number that none exceeds.
-ghost use Rattle.std.specs.Prelude.{◌≡◌, ◌≢◌, ◌<◌, ◌^◌, length, slice_set, slice_index_or, pos, ◌-ℤ◌, ◌≤ℤ◌, IfOk};
+ghost use Rattle.std.specs.Prelude.{◌≡◌, ◌≢◌, ◌<◌, ◌^◌, length, slice_set, slice_index_or, pos, ◌-ℤ◌, ◌≤ℤ◌, IfOk, Some};
 ghost use Rattle.std.specs.Int.{int_min};
 ghost use Rattle.std.specs.List.{All};
 ghost use Rattle.sfm_spec.specs.Terms.{exchanged};
 ghost use Rattle.sfm_assign.specs.Splits.{IsAmount};
 ghost use Rattle.sfm_assign.specs.Lenders.{with_more, IsMostUpto};
+ghost use Rattle.sfm_assign.specs.declared.kept.Kept.{Kept};
 
 use sfm_assign::Kept;
 use sfm_base::Memory;
@@ -67,4 +68,23 @@ pub(crate) fn raise(
 {
     let limit = x[v].min(cap - x[u]);
     kept.grow(alloc, u, limit)
+}
+
+/// A split with the demands of another one, for changes beside it: one over the same lists that is at hand, or else a copy.
+///
+/// # Errors
+///
+/// `Memory` where there is none.
+pub(crate) fn beside(alloc: Global, kept: &Kept, spare: Option<Kept>) -> Result<Kept, Memory>
+    requires lists { (s : Kept) → spare ≡ Some s → s.demand.lists ≡ kept.now.demand.lists }
+    requires slots { (s : Kept) → spare ≡ Some s → length s.demand.capacities ≡ length kept.now.demand.capacities }
+    ensures { IfOk result (λ r. r.demand ≡ kept.now.demand) }
+{
+    match spare {
+        Some(mut second) => {
+            second.copy_from(kept);
+            Ok(second)
+        }
+        None => kept.copy(alloc),
+    }
 }

@@ -1,10 +1,12 @@
 // The split that is kept beside a base of a graphic term: one, in the test of one vertex, its root. At a base there is a split
 // for each root, so a split can be brought to another root from where it stands. What an edge may get is told with the root at
 // an end of it; and so it is of an edge that has room to another one, with the root at an end of that. A room leaves a second
-// split, from which an exchange goes on.
-ghost use Rattle.std.specs.Prelude.{◌≡◌, ◌*◌, ◌≤◌, ◌^◌, length, pos, ◌≤ℤ◌, IfOk};
+// split, from which an exchange goes on, and which the next room uses again.
+ghost use Rattle.std.specs.Prelude.{◌≡◌, ◌*◌, ◌≤◌, ◌^◌, length, pos, ◌≤ℤ◌, IfOk, Some};
 ghost use Rattle.std.specs.List.{All};
 ghost use Rattle.sfm_assign.specs.Splits.{IsAmount, CanBeMet};
+ghost use Rattle.sfm_assign.specs.declared.kept.Kept.{Kept};
+ghost use Rattle.sfm_matroid.specs.declared.rooted.Spare.{Spare};
 ghost use Rattle.sfm_matroid.specs.Ends.{edges_of};
 ghost use Rattle.sfm_matroid.specs.Graphs.{EndsBelow};
 ghost use Rattle.sfm_matroid.specs.Notes.{IsRootSplit};
@@ -55,5 +57,17 @@ pub(crate) fn root_split(
             spare: None,
         }),
         None => unreachable!(),
+    }
+}
+
+/// Takes the spare split out of a note, whatever its root.
+pub(crate) fn take_kept(note: &mut RootSplit) -> Option<Kept>
+    ensures root { note.new.root ≡ note.old.root }
+    ensures kept { note.new.kept ≡ note.old.kept }
+    ensures taken { (k : Kept) → result ≡ Some k → (s : Spare) × (note.old.spare ≡ Some s) × (s.kept ≡ k) }
+{
+    match note.spare.take() {
+        Some(spare) => Some(spare.kept),
+        None => None,
     }
 }

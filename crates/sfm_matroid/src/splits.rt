@@ -1,5 +1,6 @@
 // The split that is kept beside a base of a transversal term, for all searches at it. A base passes the test, so there is a split.
-// A room leaves a second split near the exchange that may come, and an exchange brings that one up, or else the one that is kept.
+// A room leaves a second split near the exchange that may come, and an exchange brings that one up, or else the one that is kept;
+// the next room uses the second one again.
 ghost use Rattle.std.specs.Prelude.{◌≡◌, ◌≢◌, ◌<◌, ◌≤◌, ◌^◌, length, replicate, slice_index_or, pos, ◌+ℤ◌, ◌≤ℤ◌, ℕ, IfOk, OnOk, List, Some, None};
 ghost use Rattle.std.specs.List.{All};
 ghost use Rattle.sfm_spec.specs.Terms.{exchanged};
@@ -117,29 +118,27 @@ pub(crate) fn bring_split(
     }
 }
 
-/// A copy of a split with other demands that can be met, of which u is then raised by as much as can be met, up to a limit; and
-/// by how much.
-pub(crate) fn grown_copy(
+/// Brings a split to other demands over the same lists that can be met, then raises u by as much as can be met, up to a limit;
+/// and tells by how much.
+pub(crate) fn grow_split(
     alloc: Global,
-    kept: &Kept,
+    kept: &mut Kept,
     demands: &[i128],
     capacities: &[i128],
     u: usize,
     limit: i128,
-) -> Result<(Kept, i128), Memory>
-    requires sized { length demands.now ≡ length kept.now.demand.demands }
-    requires slots { length capacities.now ≡ length kept.now.demand.capacities }
+) -> Result<i128, Memory>
+    requires sized { length demands.now ≡ length kept.old.demand.demands }
+    requires slots { length capacities.now ≡ length kept.old.demand.capacities }
     requires amounts { All IsAmount demands.now }
     requires bounded { All IsCapacity capacities.now }
-    requires met { CanBeMet demands.now kept.now.demand.lists capacities.now }
+    requires met { CanBeMet demands.now kept.old.demand.lists capacities.now }
     requires place { u < length demands.now }
     requires low { pos 0 ≤ℤ limit }
     requires small { IsAmount (amount_at demands.now u +ℤ limit) }
-    ensures grown { IfOk result (λ r. r.0.demand ≡ with_more (record { demands = demands.now; lists = kept.now.demand.lists; capacities = capacities.now }) u r.1) }
-    ensures most { IfOk result (λ r. IsMostUpto (record { demands = demands.now; lists = kept.now.demand.lists; capacities = capacities.now }) u limit r.1) }
+    ensures grown { IfOk result (λ g. kept.new.demand ≡ with_more (record { demands = demands.now; lists = kept.old.demand.lists; capacities = capacities.now }) u g) }
+    ensures most { IfOk result (IsMostUpto (record { demands = demands.now; lists = kept.old.demand.lists; capacities = capacities.now }) u limit) }
 {
-    let mut copy = kept.copy(alloc)?;
-    bring_split(alloc, &mut copy, demands, capacities)?;
-    let more = copy.grow(alloc, u, limit)?;
-    Ok((copy, more))
+    bring_split(alloc, kept, demands, capacities)?;
+    kept.grow(alloc, u, limit)
 }

@@ -19,10 +19,10 @@ use crate::entries::Entries;
 use crate::givers::{givers, keep_lenders};
 use crate::growing::whole;
 use crate::matching::{are_held, matched};
-use crate::room::without;
+use crate::room::{beside, without};
 use crate::slot_room::{least_unheld, limit_of};
 use crate::splits::{
-    SlotSplit, bring_split, exchanged_entries, grown_copy, keep_spare, slot_split,
+    SlotSplit, bring_split, exchanged_entries, grow_split, keep_spare, slot_split,
 };
 use sfm_base::{Memory, Places, Set};
 use sfm_law::{Room, Term, are_within, has_sum, product};
@@ -252,8 +252,8 @@ impl Transversal {
         Ok(note)
     }
 
-    /// The room of (u, v) at a base, by the split that is kept beside it, which stays. A copy of it, with nothing at v and as
-    /// much more at u, is left as the spare.
+    /// The room of (u, v) at a base, by a second split beside the one that is kept, which stays. The second one, with nothing at v
+    /// and as much more at u, is left as the spare.
     ///
     /// # Errors
     ///
@@ -283,8 +283,9 @@ impl Transversal {
             return Ok(Room::Upto(0));
         }
         let rest = without(alloc, x, v)?;
-        let (spare, most) = grown_copy(alloc, &note.kept, &rest, &note.capacities, u, limit)?;
-        note.spare = Some(spare);
+        let mut second = beside(alloc, &note.kept, note.spare.take())?;
+        let most = grow_split(alloc, &mut second, &rest, &note.capacities, u, limit)?;
+        note.spare = Some(second);
         Ok(Room::Upto(most))
     }
 

@@ -1,4 +1,4 @@
-use Rattle.std.proofs.Common.{◌∙◌, ◌*◌, [], set, pos, ◌*ℤ◌, length, sym, rules, FitsSigned, length-set}
+use Rattle.std.proofs.Common.{◌∙◌, ◌*◌, [], set, pos, ◌*ℤ◌, length, refl, sym, ap, rules, FitsSigned, length-set}
 use Rattle.std.proofs.lemmas.Int.{to_z-of_z}
 use mir.Syntax.{w128}
 use Rattle.sfm_law.proofs.Fits.{given_fits, given_more, product_fits, product_low, product_high}
@@ -6,9 +6,34 @@ use Rattle.sfm_matroid.proofs.Fits.{within_amounts, without_amounts}
 use Rattle.sfm_matroid.proofs.GraphicBases.{base_within_cap}
 use Rattle.sfm_matroid.proofs.GraphicRooms.{rest_split, root_below, grown_capacity}
 use Rattle.sfm_matroid.specs.Numbered.{numbered}
+use Rattle.sfm_matroid.specs.Notes.{end_demands}
+use Rattle.sfm_matroid.proofs.Numbering.{length-vertices}
 use Rattle.sfm_matroid.proofs.Noted.{note_with, over_grown}
 use Rattle.sfm_matroid.proofs.Numbers.{length-numbered}
 use Rattle.sfm_matroid.proofs.graphic.Graphic.room_near.Goals as goal
+
+pub beside-requires-clause-lists : goal.beside-requires-clause-lists
+beside-requires-clause-lists c = λ k is.
+    let r = c.requires in
+    let taken = c.take_kept-spare.ensures in
+    let (s, some, same) = taken.taken k is in
+    ap (λ k. k.demand.lists) (sym same) ∙ ((r.noted.spare s some).lists ∙ sym (ap (λ k. k.demand.lists) taken.kept ∙ ap (λ d. d.lists) r.noted.split))
+
+pub beside-requires-clause-slots : goal.beside-requires-clause-slots
+beside-requires-clause-slots c = λ k is.
+    let r = c.requires in
+    let taken = c.take_kept-spare.ensures in
+    let (s, some, same) = taken.taken k is in
+    let caps = ap (λ d. length d.capacities) r.noted.split ∙ length-vertices _ _ _ in
+    ap (λ k. length k.demand.capacities) (sym same) ∙ ((r.noted.spare s some).vertices ∙ sym (ap (λ k. length k.demand.capacities) taken.kept ∙ caps))
+
+pub bring-requires-clause-over : goal.bring-requires-clause-over
+bring-requires-clause-over c =
+    let r = c.requires in
+    let s = c.args.self.now in
+    let is = c.in_ok-kept.ensures ∙ (ap (λ k. k.demand) c.take_kept-spare.ensures.kept ∙ r.noted.split) in
+    let sized = r.entries ∙ (sym s.same_count ∙ sym (length-numbered s.ends [])) in
+    rw is (record { places = sized; lists = refl; vertices = length-vertices _ _ _ })
 
 pub bring-requires-clause-amounts : goal.bring-requires-clause-amounts
 bring-requires-clause-amounts c =
@@ -77,5 +102,7 @@ returns-clause-noted c =
     let low = product_low q s.w r.factor s.low in
     let is = simp to_z-of_z at (rw (c.deref.ensures.value, c.in_ok-rest.ensures, p) at c.in_ok-bring.ensures) in
     let more = c.in_ok-most.ensures.raised in
+    let taken = c.take_kept-spare.ensures in
+    let stays = ap (λ k. k.demand) taken.kept ∙ (r.noted.split ∙ ap (λ t. end_demands (numbered s.ends) (2 * length s.ends) (q *ℤ s.w) x t) (sym taken.root)) in
     let sized = length-set x c.args.v (pos 0) ∙ (r.entries ∙ (sym s.same_count ∙ sym (length-numbered s.ends []))) in
-    note_with (numbered s.ends) (2 * length s.ends) (q *ℤ s.w) x c.args.note.now.root c.args.note.now.kept _ r.noted.split (over_grown (numbered s.ends) (2 * length s.ends) (q *ℤ s.w) (set x c.args.v (pos 0)) c.end_near-root.result _ c.raise.new.kept.demand c.args.u _ sized is more)
+    note_with (numbered s.ends) (2 * length s.ends) (q *ℤ s.w) x c.take_kept-spare.new.note.root c.take_kept-spare.new.note.kept _ stays (over_grown (numbered s.ends) (2 * length s.ends) (q *ℤ s.w) (set x c.args.v (pos 0)) c.end_near-root.result _ c.raise.new.kept.demand c.args.u _ sized is more)
