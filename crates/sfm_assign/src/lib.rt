@@ -22,6 +22,3 @@ pub use greatest::most;
 pub use kept::Kept;
 pub use split::Split;
 pub use splitting::{AssignEnd, assign};
-
-#[cfg(test)]
-mod tests;

@@ -22,6 +22,3 @@ pub use rows::Rows;
 pub use set::Set;
 pub use slope::Slope;
 pub use steps::Steps;
-
-#[cfg(test)]
-mod tests;

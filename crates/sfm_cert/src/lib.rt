@@ -18,6 +18,3 @@ pub use lines::{line_of_at, line_of_base};
 pub use read::{ANSWER_LIMIT, read_answer};
 pub use solved::{AnswerEnd, Solved};
 pub use write::{answer_len, put_answer, write_answer};
-
-#[cfg(test)]
-mod tests;

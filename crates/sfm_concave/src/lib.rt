@@ -10,6 +10,3 @@ pub mod uniform;
 pub use concave::{Concave, ConcaveEnd};
 pub use ranking::Ranking;
 pub use uniform::Uniform;
-
-#[cfg(test)]
-mod tests;

@@ -8,6 +8,3 @@ mod text;
 mod words;
 
 pub use text::demo_text;
-
-#[cfg(test)]
-mod tests;

@@ -18,6 +18,3 @@ pub use shelf::{Failed, Shelf};
 pub use sink::Sink;
 pub use stream_sink::StreamSink;
 pub use transfer::{ReadEnd, read_all, write_all};
-
-#[cfg(test)]
-mod tests;

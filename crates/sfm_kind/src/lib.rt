@@ -8,6 +8,3 @@ mod names;
 pub use instance::Instance;
 pub use kind::{Kind, KindNote};
 pub use names::is_name;
-
-#[cfg(test)]
-mod tests;

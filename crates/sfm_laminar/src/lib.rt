@@ -15,6 +15,3 @@ pub mod slacks;
 pub use groups::{CappedGroup, Groups};
 pub use laminar::{Laminar, LaminarEnd};
 pub use slacks::Slacks;
-
-#[cfg(test)]
-mod tests;

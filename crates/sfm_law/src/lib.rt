@@ -9,8 +9,6 @@ pub mod rest;
 pub mod room;
 pub mod starts;
 pub mod term;
-#[cfg(test)]
-mod tests;
 pub mod walk;
 
 pub use breaks::Break;

@@ -21,8 +21,3 @@ pub use graphic::Graphic;
 pub use rooted::{RootSplit, Spare};
 pub use splits::SlotSplit;
 pub use transversal::Transversal;
-
-#[cfg(test)]
-mod slot_tests;
-#[cfg(test)]
-mod tests;

@@ -16,6 +16,3 @@ pub use cut::Cut;
 pub use need::Need;
 pub use table::{Table, TableEnd};
 pub use weight::Weight;
-
-#[cfg(test)]
-mod tests;

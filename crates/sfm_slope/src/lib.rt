@@ -8,8 +8,6 @@ mod least;
 mod rows;
 mod search;
 mod sections;
-#[cfg(test)]
-mod tests;
 mod turn;
 mod worth;
 

@@ -41,6 +41,3 @@ pub use line_fault::LineEnd;
 pub use lines::content_lines;
 pub use reader::{Reader, TEXT_LIMIT, read_instance, read_pieces};
 pub use reason::Reason;
-
-#[cfg(test)]
-mod tests;

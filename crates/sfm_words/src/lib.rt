@@ -7,6 +7,3 @@ mod read;
 
 pub use command::{Command, Refusal};
 pub use read::read_command;
-
-#[cfg(test)]
-mod tests;

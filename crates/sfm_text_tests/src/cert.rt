@@ -1,0 +1,136 @@
+// Small texts, each worked by hand against the grammar: a right text is read and written back the same, and a broken one is
+// bad at its line.
+use sfm_base::Memory;
+use sfm_cert::{AnswerEnd, answer_len, line_of_at, line_of_base, read_answer, write_answer};
+use sfm_kind::{Instance, Kind, is_name};
+use sfm_simple::{Cut, Weight};
+use std::alloc::Global;
+use std::process::Abort;
+use std::test::Fail;
+
+const FIRST: &[u8] =
+    b"answer 1\nminimum -1\nleast a b\ngreatest a b\nat 0/1\nbase 1 -3 2\nbase 2 3 -3\nend\n";
+
+/// The elements a and b, with weights -3 and 2 and a cut of 4.
+fn instance_of(rt: &impl Abort, alloc: Global) -> Result<Instance, Memory> {
+    let mut instance = Instance::new(alloc);
+    let names: [&[u8]; 2] = [b"a", b"b"];
+    for name in names {
+        assert!(rt; is_name(name));
+        assert!(rt; instance.place_of(name).is_none());
+        assert!(rt; instance.names_len() < 256);
+        instance.add_name(name)?;
+    }
+    let weight = Kind::Weight(Weight::new(alloc, &[0, 1], &[-3, 2])?);
+    assert!(rt; instance.takes(&weight));
+    instance.add_term(weight)?;
+    let cut = Kind::Cut(Cut::new(4, 0, 1));
+    assert!(rt; instance.takes(&cut));
+    instance.add_term(cut)?;
+    Ok(instance)
+}
+
+/// The first bad line, or 0 where the text is an answer and is written back the same.
+fn bad_line(
+    rt: &impl Abort,
+    alloc: Global,
+    instance: &Instance,
+    text: &[u8],
+) -> Result<usize, Memory> {
+    match read_answer(alloc, instance, text) {
+        Ok(solved) => {
+            assert!(rt; solved.blocks.len() <= 256 && solved.breaks.len() <= 256);
+            let written = write_answer(alloc, instance, &solved)?;
+            assert_eq!(rt; answer_len(instance, &solved), text.len());
+            assert_eq!(rt; written.as_slice(), text);
+            Ok(0)
+        }
+        Err(AnswerEnd::BadLine { line }) => Ok(line),
+        Err(AnswerEnd::Memory) => Err(Memory),
+    }
+}
+
+#[test]
+fn texts(rt: HostRuntime) -> Result<(), Fail> {
+    let alloc = rt.alloc();
+    let instance = instance_of(&rt, alloc)?;
+    let rows: [(&[u8], usize); 23] = [
+        (FIRST, 0),
+        (b"answer 1\nminimum -1\nleast  a\n", 3),
+        (b"answer 1\nminimum -1\nleast b a\n", 3),
+        (b"answer 1\nminimum -1\nleast a a\n", 3),
+        (b"answer 1\nminimum -1\nleast z\n", 3),
+        (
+            b"answer 1\nminimum -1\nleast a b\ngreatest a b\nat 0/1\nbase 1 -3 2\nbase 2 3 -3\nend",
+            8,
+        ),
+        (b"", 1),
+        (b"answer 1\n", 2),
+        (
+            b"answer 1\nminimum -1\nleast a b\ngreatest a b\nat 0/1\nbase 1 -3 2\nbase 2 3 -3\nend\nend\n",
+            9,
+        ),
+        (
+            b"answer 1\nminimum 0\nleast\ngreatest\nat 0/1\nbase 1 0 0\nbase 2 1000000000000000000000000000000 -1000000000000000000000000000000\nend\n",
+            0,
+        ),
+        (
+            b"answer 1\nminimum 0\nleast\ngreatest\nat 0/1\nbase 1 0 0\nbase 2 1000000000000000000000000000001 0\nend\n",
+            7,
+        ),
+        (
+            b"answer 1\nminimum 0\nleast\ngreatest\nat 0/1\nbase 1 0 0\nbase 2 0 0 0\nend\n",
+            7,
+        ),
+        (
+            b"answer 1\nminimum 0\nleast\ngreatest b\nblock 1 b : 2\n",
+            5,
+        ),
+        (
+            b"answer 1\nminimum 0\nleast\ngreatest b\nblock 1 b : 1\n",
+            5,
+        ),
+        (b"answer 1\nminimum 0\nleast\ngreatest b\nblock 1 :\n", 5),
+        (b"answer 1\nminimum 0\nleast\ngreatest b\nblock 2 b :\n", 5),
+        (
+            b"answer 1\nminimum 0\nleast\ngreatest a b\nblock 1 b :\nblock 2 a : 1\nat 0/1\nbase 1 0 0\nbase 2 0 0\nend\n",
+            0,
+        ),
+        (
+            b"answer 1\nminimum 0\nleast\ngreatest\nslope 0/1 a\nat 0/1\nbase 1 0 0\nbase 2 0 0\nat 0/1\nbase 1 0 0\nbase 2 0 0\nend\n",
+            0,
+        ),
+        (
+            b"answer 1\nminimum 0\nleast\ngreatest\nslope 0/1 a\nat 0/1\nbase 1 0 0\nbase 2 0 0\nend\n",
+            9,
+        ),
+        (b"answer 1\nminimum 0\nleast\ngreatest\nslope -2/4 a b\n", 5),
+        (
+            b"answer 1\nminimum 0\nleast\ngreatest\nslope 1/1000001 a b\n",
+            5,
+        ),
+        (
+            b"answer 1\nminimum 0\nleast\ngreatest\nslope 1/1000000\n",
+            5,
+        ),
+        (
+            b"answer 1\nminimum 0\nleast\ngreatest\nslope 0/1 a\nblock 1 b :\n",
+            6,
+        ),
+    ];
+    for (number, (text, line)) in rows.iter().enumerate() {
+        assert_eq!(rt;
+            bad_line(&rt, alloc, &instance, text)?,
+            *line,
+            "row {number}"
+        );
+    }
+    Ok(())
+}
+
+#[test]
+fn line_numbers(rt: HostRuntime) {
+    assert_eq!(rt; line_of_at(2, 1, 3, 0), 8);
+    assert_eq!(rt; line_of_at(2, 1, 3, 1), 12);
+    assert_eq!(rt; line_of_base(2, 1, 3, 1, 2), 14);
+}

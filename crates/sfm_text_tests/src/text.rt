@@ -1,0 +1,446 @@
+// What the reader answers over worked texts, each with the line and the reason of its first fault. That every answer is
+// right is proved; here the calls succeed with ample memory, and the reasons are compared with those worked by hand.
+use sfm_kind::Kind;
+use sfm_text::{Reason, TEXT_LIMIT, TextEnd, content_lines, read_instance, token};
+use std::alloc::{AllocError, Global};
+use std::process::Abort;
+use std::test::Fail;
+
+mod pieces;
+mod ranks;
+
+/// The line and the word of a text's first fault, or `good` at line 0.
+fn first_fault(alloc: Global, text: &[u8]) -> (usize, &'static [u8]) {
+    match read_instance(alloc, text) {
+        Ok(_) => (0, b"good"),
+        Err(TextEnd::Refused { line, reason }) => (line, reason.word()),
+        Err(TextEnd::Memory) => (0, b"memory"),
+    }
+}
+
+/// The text with a line feed for each slash.
+fn with_lines(alloc: Global, text: &str) -> Result<String, AllocError> {
+    text.replace(alloc, " / ", "\n")
+}
+
+#[test]
+fn a_good_text_gives_names_and_terms(rt: HostRuntime) -> Result<(), Fail> {
+    let text =
+        b"# a comment\r\n\n sfm\t1 \r\nground a b c\nweight b:2\n\nweight a:-3 b:0\ncut 4 b a\nneed a c\ncover 7 c a b\ntable 0 1 2 2 : c b\nend\n#";
+    let instance = read_instance(rt.alloc(), text)?;
+    assert_eq!(rt; instance.names_len(), 3);
+    assert_eq!(rt; instance.place_of(b"a"), Some(0));
+    assert_eq!(rt; instance.place_of(b"b"), Some(1));
+    let terms = instance.terms();
+    assert_eq!(rt; terms.len(), 6);
+    if let Kind::Weight(first) = &terms[0] {
+        assert_eq!(rt; first.places.as_slice(), [1].as_slice());
+        assert_eq!(rt; first.weights.as_slice(), [2].as_slice());
+    }
+    if let Kind::Weight(second) = &terms[1] {
+        assert_eq!(rt; second.places.as_slice(), [0, 1].as_slice());
+        assert_eq!(rt; second.weights.as_slice(), [-3, 0].as_slice());
+    }
+    if let Kind::Cut(cut) = &terms[2] {
+        assert_eq!(rt; cut.places, [1, 0]);
+        assert_eq!(rt; cut.c, 4);
+    }
+    if let Kind::Need(need) = &terms[3] {
+        assert_eq!(rt; need.places, [0, 2]);
+    }
+    if let Kind::Cover(cover) = &terms[4] {
+        assert_eq!(rt; cover.places.as_slice(), [2, 0, 1].as_slice());
+        assert_eq!(rt; cover.w, 7);
+    }
+    if let Kind::Table(table) = &terms[5] {
+        assert_eq!(rt; table.places.as_slice(), [2, 1].as_slice());
+        assert_eq!(rt; table.values.as_slice(), [0, 1, 2, 2].as_slice());
+    }
+    Ok(())
+}
+
+/// Asserts the first fault of a text, in which slashes stand for line feeds.
+fn has_fault(
+    rt: &impl Abort,
+    alloc: Global,
+    text: &str,
+    line: usize,
+    reason: &[u8],
+) -> Result<(), AllocError> {
+    let lines = with_lines(alloc, text)?;
+    let found = first_fault(alloc, lines.as_bytes());
+    assert_eq!(rt; found, (line, reason), "{text}");
+    Ok(())
+}
+
+/// Asserts the first fault of a text whose third line and perhaps more are these, over a ground of four names.
+fn has_fault_among(
+    rt: &impl Abort,
+    alloc: Global,
+    lines: &str,
+    line: usize,
+    reason: &[u8],
+) -> Result<(), AllocError> {
+    let text = format!(in alloc; "sfm 1 / ground a b c d / {lines} / end")?;
+    has_fault(rt, alloc, text.as_str(), line, reason)
+}
+
+#[test]
+fn headers(rt: HostRuntime) -> Result<(), Fail> {
+    let rows: [(&str, usize, &[u8]); 26] = [
+        ("", 1, b"short"),
+        ("\n", 2, b"short"),
+        ("sfm 1", 2, b"short"),
+        ("sfm 1 / ground", 3, b"short"),
+        ("sfm 1 / ground / end", 0, b"good"),
+        ("sfm 1 / ground a b / end\n", 0, b"good"),
+        ("\tsfm 1 /   ground a\tb  /  end \n\n# more\n\n", 0, b"good"),
+        (
+            "sfm 1\r\nground a\t b\r\nweight a:-3 b:2\r\nend\r\n",
+            0,
+            b"good",
+        ),
+        ("# x\n\n \t\n  # y\nsfm 1 / ground a / end", 0, b"good"),
+        (
+            "sfm 1 / ground a b / weight a:-3 b:2 / cut 4 a b",
+            5,
+            b"short",
+        ),
+        (
+            "sfm 1 / ground a b / weight a:-3 b:2 / cut 4 a b\n",
+            5,
+            b"short",
+        ),
+        ("sfm 1 / ground a b / weight a:-3 b:2\n\n#\n", 6, b"short"),
+        (
+            "sfm 1 / ground a b / weight a:1 / need a b / end / cut 1 a b",
+            6,
+            b"word",
+        ),
+        ("sfm 1 / ground a b / end / end", 4, b"word"),
+        ("sfm 1 / ground a b / end / x:", 4, b"word"),
+        ("sfm 1 / ground a b / end / \x01", 4, b"bytes"),
+        ("sfm 2 / ground a / end", 1, b"shape"),
+        ("sfm / ground a / end", 1, b"shape"),
+        ("sfm 1 1", 1, b"shape"),
+        ("sfm 01", 1, b"shape"),
+        ("Sfm 1", 1, b"word"),
+        ("sfm\x0b1", 1, b"bytes"),
+        ("ground a b", 1, b"word"),
+        ("end", 1, b"word"),
+        ("sfm 1 / end", 2, b"word"),
+        ("sfm 1 / sfm 1", 2, b"word"),
+    ];
+    for (text, line, reason) in rows {
+        has_fault(&rt, rt.alloc(), text, line, reason)?;
+    }
+    Ok(())
+}
+
+#[test]
+fn grounds_and_ends(rt: HostRuntime) -> Result<(), Fail> {
+    let rows: [(&str, usize, &[u8]); 20] = [
+        ("sfm 1 / Ground a", 2, b"word"),
+        ("sfm 1 / ground a a", 2, b"twice"),
+        ("sfm 1 / ground a b c b", 2, b"twice"),
+        ("sfm 1 / ground a : b", 2, b"shape"),
+        ("sfm 1 / ground ; a-b", 2, b"shape"),
+        ("sfm 1 / ground a-b a a", 2, b"name"),
+        ("sfm 1 / ground a:b", 2, b"name"),
+        (
+            "sfm 1 / ground aaaaaaaaaaaaaaaaaaaaaaaaaaaaaaaa / end",
+            0,
+            b"good",
+        ),
+        (
+            "sfm 1 / ground aaaaaaaaaaaaaaaaaaaaaaaaaaaaaaaaa / end",
+            2,
+            b"name",
+        ),
+        ("sfm 1 / ground Az_09 / end", 0, b"good"),
+        ("sfm 1 / ground a\r\r\nend", 2, b"bytes"),
+        ("sfm 1 / ground a\x7f", 2, b"bytes"),
+        ("sfm 1 / ground a\u{e9}", 2, b"bytes"),
+        ("#\u{ff}\nsfm 1 / ground a / #\u{ff}\x00 / end", 0, b"good"),
+        ("sfm 1 / ground a / word\x00", 3, b"bytes"),
+        ("sfm 1 / ground a / end\x00", 3, b"bytes"),
+        ("sfm 1 / ground a / end a", 3, b"shape"),
+        ("sfm 1 / ground a / end :", 3, b"shape"),
+        ("sfm 1 / ground a / ground a", 3, b"word"),
+        ("sfm 1 / ground a / sfm 1", 3, b"word"),
+    ];
+    for (text, line, reason) in rows {
+        has_fault(&rt, rt.alloc(), text, line, reason)?;
+    }
+    Ok(())
+}
+
+#[test]
+fn weight_lines(rt: HostRuntime) -> Result<(), Fail> {
+    let rows: [(&str, usize, &[u8]); 26] = [
+        (
+            "weight a:-1000000000000 / weight a:1000000000000",
+            0,
+            b"good",
+        ),
+        ("weight", 3, b"shape"),
+        ("weight a", 3, b"shape"),
+        ("weight a:1:2", 3, b"shape"),
+        ("weight a: :", 3, b"shape"),
+        ("weight :", 3, b"shape"),
+        ("weight x:y ;", 3, b"shape"),
+        ("weight a:", 3, b"number"),
+        ("weight a:+5", 3, b"number"),
+        ("weight a:05", 3, b"number"),
+        ("weight a:-0", 3, b"number"),
+        ("weight a:1.5", 3, b"number"),
+        ("weight a:1000000000001", 3, b"number"),
+        ("weight a:-1000000000001", 3, b"number"),
+        (
+            "weight a:99999999999999999999999999999999999999999",
+            3,
+            b"number",
+        ),
+        (
+            "weight z:1000000000001 / cut 1 a b / cut 1 a a / end",
+            3,
+            b"number",
+        ),
+        ("weight z:1 / cut 1 a b / cut 1 a a / end", 3, b"name"),
+        ("weight a:1 / cut 1 a b / cut 1 a a / end", 5, b"twice"),
+        ("weight :5", 3, b"name"),
+        ("weight a-b:5", 3, b"name"),
+        ("weight z:1 a:x", 3, b"number"),
+        ("weight a:1 b:1 a:1 z:1", 3, b"name"),
+        ("weight a:1 b:1 a:1", 3, b"twice"),
+        ("weights a:1", 3, b"word"),
+        ("Weight a:1", 3, b"word"),
+        ("weight a:1 / \n#\nweight a:x", 6, b"number"),
+    ];
+    for (text, line, reason) in rows {
+        has_fault_among(&rt, rt.alloc(), text, line, reason)?;
+    }
+    Ok(())
+}
+
+#[test]
+fn cuts_and_conditions(rt: HostRuntime) -> Result<(), Fail> {
+    let rows: [(&str, usize, &[u8]); 22] = [
+        ("cut 1 a b / cut 0 b a / cut 1000000000000 a b", 0, b"good"),
+        ("cut", 3, b"shape"),
+        ("cut 1 a", 3, b"shape"),
+        ("cut 1 a b c", 3, b"shape"),
+        ("cut 1 a :", 3, b"shape"),
+        ("cut : a b", 3, b"shape"),
+        ("cut ; ; ;", 3, b"shape"),
+        ("cut a 1 b", 3, b"number"),
+        ("cut -1 a b", 3, b"number"),
+        ("cut 1000000000001 a b", 3, b"number"),
+        ("cut 1 a: b", 3, b"name"),
+        ("cut 1 z b", 3, b"name"),
+        ("cut 1 z z", 3, b"name"),
+        ("cut 1 a a", 3, b"twice"),
+        ("need a b / need b a / need a b", 0, b"good"),
+        ("need a", 3, b"shape"),
+        ("need a b c", 3, b"shape"),
+        ("need 1 a b", 3, b"shape"),
+        ("need a ;", 3, b"shape"),
+        ("need a z", 3, b"name"),
+        ("need a 1", 3, b"name"),
+        ("need b b", 3, b"twice"),
+    ];
+    for (text, line, reason) in rows {
+        has_fault_among(&rt, rt.alloc(), text, line, reason)?;
+    }
+    Ok(())
+}
+
+#[test]
+fn covers_and_tables(rt: HostRuntime) -> Result<(), Fail> {
+    let rows: [(&str, usize, &[u8]); 28] = [
+        ("cover 5 a / cover 0 a b c d", 0, b"good"),
+        ("cover", 3, b"shape"),
+        ("cover 5", 3, b"shape"),
+        ("cover 5 : a", 3, b"shape"),
+        ("cover a b", 3, b"number"),
+        ("cover -5 a", 3, b"number"),
+        ("cover 5 a z", 3, b"name"),
+        ("cover 5 a b a", 3, b"twice"),
+        (
+            "table 0 1 : a / table 0 -5 : b / table 0 1 1 2 : a b",
+            0,
+            b"good",
+        ),
+        ("table 0 3 3 4 3 4 4 4 : a b c", 0, b"good"),
+        ("table", 3, b"shape"),
+        ("table :", 3, b"shape"),
+        ("table 0 :", 3, b"shape"),
+        ("table 0 1 a", 3, b"shape"),
+        ("table 0 1 : a b", 3, b"shape"),
+        ("table 0 1 2 : a b", 3, b"shape"),
+        ("table 0 1 : : a", 3, b"shape"),
+        ("table 0 1 : a :", 3, b"shape"),
+        ("table 0 ; : a", 3, b"shape"),
+        ("table 0 1 : ;", 3, b"shape"),
+        ("table 0 1 1 x : a a", 3, b"number"),
+        ("table 0 1 1 1000000000001 : a z", 3, b"number"),
+        ("table 1 1 1 1 : a z", 3, b"name"),
+        ("table 1 1 1 1 : a a", 3, b"twice"),
+        ("table 1 1 1 1 : a b", 3, b"law"),
+        ("table 0 1 1 3 : a b", 3, b"law"),
+        ("table 1 1 : a", 3, b"law"),
+        ("table 0 0 0 0 0 0 0 1 : a b c", 3, b"law"),
+    ];
+    for (text, line, reason) in rows {
+        has_fault_among(&rt, rt.alloc(), text, line, reason)?;
+    }
+    Ok(())
+}
+
+/// A text with so many names, so many lines of one weight, and a last one.
+fn text_of(
+    alloc: Global,
+    names: u32,
+    lines: u32,
+    line: &str,
+    last: &str,
+) -> Result<String, AllocError> {
+    let mut text = String::new(alloc);
+    text.push_str("sfm 1\nground")?;
+    for i in 0..names {
+        text.push_str(format!(in alloc; " e{i}")?.as_str())?;
+    }
+    for _ in 0..lines {
+        text.push_str("\n")?;
+        text.push_str(line)?;
+    }
+    text.push_str("\n")?;
+    text.push_str(last)?;
+    text.push_str("\nend\n")?;
+    Ok(text)
+}
+
+#[test]
+fn totals_are_bounded(rt: HostRuntime) -> Result<(), Fail> {
+    let most = "weight e0:1000000000000";
+    let wide = "table 0 0 0 0 0 0 0 0 0 0 0 0 0 0 0 0 : e0 e1 e2 e3";
+    let cases: [(u32, u32, &str, &str, usize, &[u8]); 10] = [
+        (256, 0, "", "", 0, b"good"),
+        (257, 0, "", "", 2, b"total"),
+        (1, 4096, "weight e0:1", "", 0, b"good"),
+        (1, 4096, "weight e0:1", "weight e0:1", 4099, b"total"),
+        (1, 1000, most, "", 0, b"good"),
+        (1, 1000, most, "weight e0:0", 0, b"good"),
+        (1, 1000, most, "weight e0:1", 1003, b"total"),
+        (4, 4096, wide, "", 0, b"good"),
+        (
+            5,
+            3276,
+            "cover 1 e0 e1 e2 e3 e4",
+            "cover 1 e0 e1 e2 e3",
+            0,
+            b"good",
+        ),
+        (
+            5,
+            3276,
+            "cover 1 e0 e1 e2 e3 e4",
+            "cover 1 e0 e1 e2 e3 e4",
+            3279,
+            b"total",
+        ),
+    ];
+    for (names, lines, line, last, fault, reason) in cases {
+        let text = text_of(rt.alloc(), names, lines, line, last)?;
+        let found = first_fault(rt.alloc(), text.as_bytes());
+        assert_eq!(rt; found, (fault, reason));
+    }
+    Ok(())
+}
+
+#[test]
+fn a_table_has_8_names_at_most(rt: HostRuntime) -> Result<(), Fail> {
+    for (names, found) in [(8, (0, b"good".as_slice())), (9, (3, b"shape".as_slice()))] {
+        let mut table = String::new(rt.alloc());
+        table.push_str("table")?;
+        for _ in 0..1_u32 << names {
+            table.push_str(" 0")?;
+        }
+        table.push_str(" :")?;
+        for i in 0..names {
+            table.push_str(format!(in rt.alloc(); " e{i}")?.as_str())?;
+        }
+        let text = text_of(rt.alloc(), 9, 0, "", table.as_str())?;
+        assert_eq!(rt; first_fault(rt.alloc(), text.as_bytes()), found);
+    }
+    Ok(())
+}
+
+#[test]
+fn only_comments_may_hold_any_byte(rt: HostRuntime) {
+    let rows: [(&[u8], usize, &[u8]); 3] = [
+        (
+            b"#\xff\x00\nsfm 1\nground a\n # \xff\nend\n#\xff",
+            0,
+            b"good",
+        ),
+        (b"sfm 1\nground a\nweight a:1 \xff\nend\n", 3, b"bytes"),
+        (b"sfm 1\nground a\nweight a:1\nend\n\xff\n", 5, b"bytes"),
+    ];
+    for (text, line, reason) in rows {
+        assert_eq!(rt; first_fault(rt.alloc(), text), (line, reason));
+    }
+}
+
+#[test]
+fn a_text_of_many_lines_is_read(rt: HostRuntime) -> Result<(), Fail> {
+    let lines = vec![in rt.alloc(); b'\n'; TEXT_LIMIT]?;
+    let ended = read_instance(rt.alloc(), &lines).err();
+    let short = TextEnd::Refused {
+        line: TEXT_LIMIT + 1,
+        reason: Reason::Short,
+    };
+    assert_eq!(rt; ended, Some(short));
+    Ok(())
+}
+
+#[test]
+fn a_text_beyond_the_limit_is_long(rt: HostRuntime) -> Result<(), Fail> {
+    let long = vec![in rt.alloc(); b'#'; TEXT_LIMIT + 1]?;
+    assert_eq!(rt; first_fault(rt.alloc(), &long), (0, b"long".as_slice()));
+    Ok(())
+}
+
+#[test]
+fn a_line_of_many_tokens_is_read(rt: HostRuntime) -> Result<(), Fail> {
+    let mut line = String::new(rt.alloc());
+    line.push_str("weight")?;
+    for _ in 0..400_000_u32 {
+        line.push_str(" a:1")?;
+    }
+    let text = text_of(rt.alloc(), 1, 0, "", line.as_str())?;
+    assert_eq!(rt;
+        first_fault(rt.alloc(), text.as_bytes()),
+        (3, b"name".as_slice())
+    );
+    Ok(())
+}
+
+#[test]
+fn lines_and_tokens_have_their_places(rt: HostRuntime) -> Result<(), Fail> {
+    let spans = content_lines(rt.alloc(), b"#\n a b\r\n\nc")?;
+    assert_eq!(rt; spans.as_slice(), [(2, 2, 6), (4, 9, 10)].as_slice());
+    assert_eq!(rt; token(b" a \tbc", 0), Some(b"a".as_slice()));
+    assert_eq!(rt; token(b" a \tbc", 1), Some(b"bc".as_slice()));
+    assert_eq!(rt; token(b" a \tbc", 2), None);
+    assert_eq!(rt; token(b"\t a  bc ", 1), Some(b"bc".as_slice()));
+    assert_eq!(rt; token(b"\t a  bc ", 2), None);
+    Ok(())
+}
+
+#[test]
+fn reasons_have_their_words(rt: HostRuntime) {
+    assert_eq!(rt; Reason::Long.word(), b"long".as_slice());
+    assert_eq!(rt; Reason::Total.word(), b"total".as_slice());
+    assert_eq!(rt; TextEnd::from(sfm_base::Memory), TextEnd::Memory);
+}

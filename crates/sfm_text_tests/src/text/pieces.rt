@@ -1,0 +1,87 @@
+// Texts in pieces: what is answered does not depend on where a text is cut.
+ghost use Rattle.std.specs.Prelude.{◌<◌};
+
+use sfm_kind::Instance;
+use sfm_text::{Reader, TEXT_LIMIT, TextEnd, read_pieces};
+use std::alloc::Global;
+use std::test::Fail;
+
+/// The line and the word of the first fault, with the count of names and of terms where there is none.
+fn told(read: Result<Instance, TextEnd>) -> (usize, &'static [u8], usize, usize) {
+    match read {
+        Ok(instance) => (0, b"good", instance.names_len(), instance.terms().len()),
+        Err(TextEnd::Refused { line, reason }) => (line, reason.word(), 0, 0),
+        Err(TextEnd::Memory) => (0, b"memory", 0, 0),
+    }
+}
+
+#[test]
+fn pieces_are_cut_anywhere(rt: HostRuntime) -> Result<(), Fail> {
+    let rows: [(&[&[u8]], (usize, &[u8], usize, usize)); 11] = [
+        (&[], (1, b"short", 0, 0)),
+        (&[b"", b""], (1, b"short", 0, 0)),
+        (&[b"sfm 1\ngro", b"und\nend\n"], (0, b"good", 0, 0)),
+        (
+            &[b"sfm 1\r", b"\nground a b\r\nneed a b\r", b"\nend"],
+            (0, b"good", 2, 1),
+        ),
+        (
+            &[b"sfm 1\nground a b\nneed a", b"", b" b\nneed a b\nend\n"],
+            (0, b"good", 2, 2),
+        ),
+        (&[b"sfm 2", b"\nground a\nend\nend\n"], (1, b"shape", 0, 0)),
+        (
+            &[b"sfm 1\nground a\nneed a", b"\nground\nx"],
+            (3, b"shape", 0, 0),
+        ),
+        (
+            &[b"sfm 1\nground a\nend\n", b"x", b"\nx\n"],
+            (4, b"word", 0, 0),
+        ),
+        (&[b"sfm 1\n", b"\x07ground\nend\n"], (2, b"bytes", 0, 0)),
+        (
+            &[b"sfm 1\nground a\nne\x07ed a a\nend\n"],
+            (3, b"bytes", 0, 0),
+        ),
+        (
+            &[b"sfm 1\nground a\nneed a\x07", b" a\nend\n"],
+            (3, b"bytes", 0, 0),
+        ),
+    ];
+    for (pieces, found) in rows {
+        assert_eq!(rt; told(read_pieces(rt.alloc(), pieces)), found);
+    }
+    Ok(())
+}
+
+/// The instance of a text that comes in pieces of that many bytes.
+fn read_cut(alloc: Global, text: &[u8], size: usize) -> Result<Instance, TextEnd>
+    requires { 0 < size }
+{
+    let mut reader = Reader::new(alloc)?;
+    for piece in text.chunks(size) {
+        reader.feed(alloc, piece)?;
+    }
+    reader.finish(alloc)
+}
+
+#[test]
+fn pieces_of_one_length(rt: HostRuntime) {
+    let text = b"sfm 1\r\nground a b\r\nweight a:-3 b:2\r\ncut 4 a b\r\nend\r\n".as_slice();
+    let found = (0, b"good".as_slice(), 2, 2);
+    assert_eq!(rt; told(read_cut(rt.alloc(), text, 1)), found);
+    assert_eq!(rt; told(read_cut(rt.alloc(), text, 7)), found);
+    assert_eq!(rt; told(read_cut(rt.alloc(), text, 65_536)), found);
+}
+
+#[test]
+fn a_long_text_byte_by_byte(rt: HostRuntime) -> Result<(), Fail> {
+    let alloc = rt.alloc();
+    let mut reader = Reader::new(alloc)?;
+    for _ in 0..TEXT_LIMIT {
+        reader.feed(alloc, b"#")?;
+    }
+    reader.feed(alloc, b"\n")?;
+    assert_eq!(rt; told(reader.finish(alloc)), (0, b"long".as_slice(), 0, 0));
+    Ok(())
+}
