@@ -1,7 +1,7 @@
 -- How much can be exchanged at a base of a graphic term, and to whom an edge has room: by a split in the test of one vertex, its
 -- root. Parts with an edge have its ends, so no test asks less of them than that of an end. Where an edge u has room to another
 -- one e, a part with u and without e has something left in each test, so the test of an end of e tells what u may get one of.
-use Rattle.std.proofs.Common.{◌≡◌, ◌≢◌, ◌↔◌, ℕ, ◌*◌, ◌<◌, Bool, false, List, [], ◌∷◌, length, get_or, set, ℤ, pos, ◌+ℤ◌, ◌-ℤ◌, ◌*ℤ◌, ◌≤ℤ◌, ◌<ℤ◌, refl, sym, ap, ◌∙◌, arith, inl, inr, ⊎_elim, length-set, get_or-set_other, get_or-set_same}
+use Rattle.std.proofs.Common.{◌≡◌, ◌≢◌, ℕ, ◌*◌, ◌<◌, Bool, false, List, [], ◌∷◌, length, get_or, set, ℤ, pos, ◌+ℤ◌, ◌-ℤ◌, ◌*ℤ◌, ◌≤ℤ◌, ◌<ℤ◌, refl, sym, ◌∙◌, arith, inl, inr, ⊎_elim, length-set, get_or-set_other, get_or-set_same}
 use Rattle.std.proofs.lemmas.Bool.{cases_eq, cases_lt, false≢true}
 use Rattle.std.proofs.lemmas.Int.{ints, clamps, by_lt_z}
 use Rattle.std.specs.Int.{int_min}
@@ -23,7 +23,7 @@ use Rattle.sfm_matroid.specs.Graphs.{graphic_rank, graphic_value}
 use Rattle.sfm_matroid.specs.Notes.{end_demands, IsRootSplit}
 use Rattle.sfm_matroid.specs.Numbered.{IsEndOf, numbered, end_lists, vertex_capacities}
 use Rattle.sfm_matroid.specs.declared.rooted.RootSplit.{RootSplit}
-use Rattle.sfm_matroid.proofs.Bases.{IsMostAt, raised-places, raised-counts, lower, least_capacity, base_counts, given-counts, gives_room, room_gives}
+use Rattle.sfm_matroid.proofs.Bases.{raised-counts, lower, least_capacity, base_counts, given-counts, gives_room, room_gives}
 use Rattle.sfm_matroid.proofs.GraphicBases.{as_many, base_tests}
 use Rattle.sfm_matroid.proofs.MatroidTests.{numbered_tests}
 use Rattle.sfm_matroid.proofs.Numbers.{length-numbered, numbered_below}

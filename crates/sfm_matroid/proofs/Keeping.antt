@@ -1,7 +1,7 @@
 -- Places kept in a set that can give something: by what a search tells of all at once.
-use Rattle.std.proofs.Common.{◌≡◌, ◌≢◌, ◌↔◌, ℕ, zero, suc, ◌+◌, ◌<◌, Bool, true, false, List, [], ◌∷◌, length, get_or, ℤ, pos, ◌≤ℤ◌, sym, ◌∙◌, arith, ⊎_elim}
+use Rattle.std.proofs.Common.{◌≡◌, ◌≢◌, ◌↔◌, ℕ, zero, suc, ◌<◌, Bool, true, false, List, [], ◌∷◌, length, get_or, ℤ, pos, ◌≤ℤ◌, sym, ◌∙◌, arith}
 use Rattle.std.proofs.lemmas.Int.{ints}
-use Rattle.std.proofs.lemmas.Bool.{cases_lt, and_parts, and_from, false≢true}
+use Rattle.std.proofs.lemmas.Bool.{and_parts, and_from, false≢true}
 use Rattle.sfm_spec.specs.Sets.{Has, size, intersection}
 use Rattle.sfm_spec.specs.Terms.{SetFunction, HasRoom, exchanged}
 use Rattle.sfm_spec.proofs.Sets.{get_or-intersection}
@@ -9,8 +9,6 @@ use Rattle.sfm_spec.proofs.Where.{size-cons}
 use Rattle.sfm_law.specs.Room.{IsReach}
 use Rattle.sfm_assign.specs.Splits.{CanBeMet, Demands}
 use Rattle.sfm_assign.specs.Lenders.{IsLender}
-use Rattle.sfm_spec.specs.Kinds.{Edge}
-use Rattle.sfm_matroid.specs.Numbered.{IsTail, end_lists, vertex_capacities}
 use Rattle.sfm_matroid.specs.Members.{has_place}
 use Rattle.sfm_matroid.specs.Givers.{IsGiver, AreKept}
 

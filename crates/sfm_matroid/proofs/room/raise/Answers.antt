@@ -1,5 +1,5 @@
-use Rattle.std.proofs.Common.{get_or, pos, ◌-ℤ◌, ◌≤ℤ◌, rules, arith, FitsSigned, get_or-set_other}
-use Rattle.std.proofs.lemmas.Int.{ints, clamps, to_z-of_z}
+use Rattle.std.proofs.Common.{get_or, pos, ◌-ℤ◌, rules, FitsSigned, get_or-set_other}
+use Rattle.std.proofs.lemmas.Int.{to_z-of_z}
 use mir.Syntax.{w128}
 use Rattle.sfm_matroid.proofs.Fits.{within_fits, lack_fits, least_low, least_amount}
 use Rattle.sfm_matroid.proofs.room.raise.Goals as goal

@@ -1,4 +1,4 @@
-use Rattle.std.proofs.Common.{◌≡◌, ◌∙◌, ◌*◌, length, sym, ap, FitsSigned}
+use Rattle.std.proofs.Common.{◌∙◌, ◌*◌, length, sym, FitsSigned}
 use Rattle.std.proofs.lemmas.Int.{to_z-of_z}
 use mir.Syntax.{w128}
 use Rattle.sfm_matroid.specs.Ends.{edges_of}
