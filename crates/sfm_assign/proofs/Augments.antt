@@ -155,8 +155,8 @@ module _ (n m : ℕ) (whos slots : List ℕ) (nodes : List (Option Node)) (last 
       let h = k.lower in
       omega (arith, p, h)
 
-  pub moving_done : inv.here.link ≡ None → IsRaised whos slots nodes last a y z
-  moving_done none = record { root = who; node = inv.here; is_node = inv.is_here; is_root = none; enough = inv.enough; cells = inv.cells; amounts = inv.amounts; got = inv.got; loads = inv.loads }
+  pub moving_done : inv.here.link ≡ None → (r : IsRaised whos slots nodes last a y z) × (r.root ≡ who)
+  moving_done none = (record { root = who; node = inv.here; is_node = inv.is_here; is_root = none; enough = inv.enough; cells = inv.cells; amounts = inv.amounts; got = inv.got; loads = inv.loads }, refl)
 
 -- the level of a node
 abbrev pub level_of : Option Node → ℕ

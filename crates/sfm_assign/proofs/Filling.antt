@@ -210,7 +210,7 @@ module _ (n m : ℕ) (whos slots : List ℕ) (cells : AreCells n m whos slots) w
         let step = moving_step n m whos slots nodes last a y z who cells same tree inv l is u v refl refl some in
         let lower = moving_lower n m whos slots nodes last a y z who cells same tree inv l is step.here step.is_here in
         rest (set (set z l.own u) l.other v) (label_at whos l.other) same tree some step (omega (arith, lower, few)))
-        (λ none. (z, moving_done n m whos slots nodes last a y z who cells same tree inv none))
+        (λ none. (z, (moving_done n m whos slots nodes last a y z who cells same tree inv none).0))
 
 -- ---- filling
 

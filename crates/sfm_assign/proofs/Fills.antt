@@ -1,13 +1,12 @@
 -- What a turn of filling changes, and what is told when there is nothing more to change.
-use Rattle.std.proofs.Common.{◌≡◌, ℕ, zero, suc, ◌<◌, ◌^◌, Bool, true, false, List, [], ◌∷◌, length, get_or, ℤ, pos, negsuc, ◌+ℤ◌, ◌≤ℤ◌, ◌<ℤ◌, Option, Some, None, is_some, MatchOption, refl, sym, ap, ◌∙◌, arith, ⊎_elim}
+use Rattle.std.proofs.Common.{◌≡◌, ℕ, zero, suc, ◌<◌, ◌^◌, Bool, true, false, List, [], ◌∷◌, length, get_or, ℤ, pos, negsuc, ◌+ℤ◌, ◌≤ℤ◌, ◌<ℤ◌, Option, Some, refl, sym, ap, ◌∙◌, arith, ⊎_elim}
 use Rattle.std.specs.List.{All}
 use Rattle.std.proofs.lemmas.Int.{ints}
 use Rattle.std.proofs.lemmas.Bool.{cases_eq, cases_Bool, false≢true}
 use Rattle.std.proofs.lemmas.List.{length-replicate}
 use Rattle.std.proofs.lemmas.List.Elements.{All-get_or}
-use Rattle.sfm_spec.specs.Sets.{Has, empty_set, whole_set, sum_over}
+use Rattle.sfm_spec.specs.Sets.{Has, whole_set, sum_over}
 use Rattle.sfm_spec.specs.Bounds.{total_of}
-use Rattle.sfm_spec.proofs.Lattice.{none_in_empty}
 use Rattle.sfm_spec.proofs.Sets.{Has-whole}
 use Rattle.sfm_spec.proofs.Sizes.{weight-whole}
 use Rattle.sfm_assign.specs.Splits.{sum_at, amount_at, IsCapacity}
@@ -85,7 +84,7 @@ below_nodes (o ∷ nodes) (suc i) b is = let r = below_nodes nodes i b is in ome
 -- one demand gets more, within what it lacks, and one slot, within its room
 module _ (demands capacities : List ℤ) (whos slots : List ℕ) (y lacks rooms : List ℤ) (nodes : List (Option Node)) (last : ℕ) (a : ℤ) (z : List ℤ) (cells : AreCells (length demands) (length capacities) whos slots) (part : IsPart demands capacities whos slots y)
     (ll : AreLeft demands whos y lacks) (lr : AreLeft capacities slots y rooms) (places : length nodes ≡ length lacks) (roots : AreRoots lacks nodes) (lt : last < length whos) (some : pos 1 ≤ℤ a) (fits : a ≤ℤ amount_at rooms (label_at slots last)) (r : IsRaised whos slots nodes last a y z) where
-  root_in : r.root < length demands
+  pub root_in : r.root < length demands
   root_in = let b = below_nodes nodes r.root r.node r.is_node in let p = ll.places in omega (arith, b, places, p)
 
   pub raised_more : GetsMore whos y z
@@ -169,24 +168,4 @@ stuck_filled demands capacities whos slots y lacks rooms nodes s cells part ll l
       let p = ll.places in
       let (b, is) = begins i (omega (arith, ints, h, less)) in
       ⊎_elim (λ has. has) (λ out. absurd (some_apart (node_at nodes i) (set.others i (omega (arith, lt, p, places)) out) is)) (cases_Bool (get_or s i false));
-}
-
--- what a test told of a search that found nothing
-pub none_first : {A : Type 0} (o : Option A) (P : Type 0) (Q : A → Type 0) → is_some o ≡ false → MatchOption o P Q → P
-none_first None P Q t h = h
-none_first (Some x) P Q t h = absurd (false≢true (sym t))
-
--- where no demand lacks anything, no demands at all are a closed set with all that do
-pub nobody_filled : (demands capacities : List ℤ) (whos slots : List ℕ) (y lacks : List ℤ) → AreLeft demands whos y lacks → ((i : ℕ) → i < length lacks → amount_at lacks i ≤ℤ pos 0) → IsFilled demands capacities whos slots y (empty_set (length demands))
-nobody_filled demands capacities whos slots y lacks left least = record {
-  places = length-replicate (length demands) false;
-  closed = record {
-    full = λ e lt has. absurd (none_in_empty (length demands) (label_at whos e) has);
-    none = λ e f le lf has same out. absurd (none_in_empty (length demands) (label_at whos e) has);
-  };
-  lacking = λ i lt less.
-      let p = left.places in
-      let l = left.each i lt in
-      let z = least i (omega (arith, lt, p)) in
-      absurd (omega (arith, ints, l, z, less));
 }

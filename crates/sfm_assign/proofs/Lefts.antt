@@ -5,7 +5,7 @@ use Rattle.std.proofs.lemmas.Bool.{cases_eq}
 use Rattle.std.proofs.lemmas.List.{get_or-drop, drop_all}
 use Rattle.sfm_assign.specs.Splits.{sum_at, amount_at}
 use Rattle.sfm_assign.specs.Cells.{label_at}
-use Rattle.sfm_assign.specs.Search.{AreLeft}
+use Rattle.sfm_assign.specs.Search.{AreLeft, only}
 use Rattle.sfm_assign.proofs.Amounts.{AreAmounts, sum_at-drop, sum_at-low, only-same, only-other}
 
 -- what the first e amounts leave
@@ -62,4 +62,27 @@ left_all totals labels y left e past inv = record {
       let d = drop_all e labels past in
       let q = ap (λ ls. sum_at k ls (drop e y)) d in
       omega (arith, ints, h, q);
+}
+
+-- what one number gets is taken from what it has left
+pub left_taken : (totals : List ℤ) (labels : List ℕ) (y z left : List ℤ) (j : ℕ) (a : ℤ) → j < length totals → AreLeft totals labels y left → ((k : ℕ) → sum_at k labels z ≡ (sum_at k labels y +ℤ only j k a))
+    → AreLeft totals labels z (set left j (amount_at left j -ℤ a))
+left_taken totals labels y z left j a below h got = record {
+  places = length-set left j (amount_at left j -ℤ a) ∙ h.places;
+  each = λ k lk.
+      let s = got k in
+      let p = h.each k lk in
+      let len = h.places in
+      ⊎_elim
+      (λ (q : k ≡ j).
+      let o = only-same j k a (sym q) in
+      let g = get_or-set_same left j (amount_at left j -ℤ a) (pos 0) (omega (arith, below, len)) in
+      let x = ap (λ i. amount_at (set left j (amount_at left j -ℤ a)) i) q in
+      let w = ap (λ i. amount_at left i) q in
+      omega (arith, ints, s, p, o, g, x, w))
+      (λ ne.
+      let o = only-other j k a (λ q. ne (sym q)) in
+      let g = get_or-set_other left j k (amount_at left j -ℤ a) (pos 0) ne in
+      omega (arith, ints, s, p, o, g))
+      (cases_eq k j);
 }

@@ -1,16 +1,18 @@
 -- What one cell after another gets in a first filling: within what its demand lacks and what its slot has left.
-use Rattle.std.proofs.Common.{◌≡◌, ℕ, ◌<◌, ◌^◌, List, length, set, ℤ, pos, ◌+ℤ◌, ◌-ℤ◌, ◌≤ℤ◌, sym, ap, ◌∙◌, arith, refl, replicate, ⊎_elim, length-set, get_or-set_other, get_or-set_same}
+use Rattle.std.proofs.Common.{◌≡◌, ℕ, ◌<◌, ◌^◌, List, length, set, ℤ, pos, Option, Some, ◌+ℤ◌, ◌-ℤ◌, ◌≤ℤ◌, sym, ap, ◌∙◌, arith, refl, replicate, ⊎_elim, length-set, get_or-set_other, get_or-set_same}
 use Rattle.std.specs.List.{All}
 use Rattle.std.proofs.lemmas.Int.{ints}
 use Rattle.std.proofs.lemmas.Bool.{cases_eq}
 use Rattle.std.proofs.lemmas.List.Elements.{All-get_or}
 use Rattle.sfm_assign.specs.Splits.{sum_at, amount_at, IsAmount, IsCapacity}
 use Rattle.sfm_assign.specs.Cells.{label_at, AreCells, IsPart}
-use Rattle.sfm_assign.specs.Search.{AreLeft}
+use Rattle.sfm_assign.specs.Search.{AreLeft, IsSearch, IsRaised}
+use Rattle.sfm_assign.specs.declared.nodes.Node.{Node}
 use Rattle.sfm_assign.specs.Pours.{IsPouring, IsPoured}
 use Rattle.sfm_assign.proofs.Amounts.{AreAmounts, sum_at-set, sum_at-holds, only-same, only-other}
 use Rattle.sfm_assign.proofs.Outcomes.{sum_at-nothing, nothing_part}
-use Rattle.sfm_assign.proofs.Fills.{left_low}
+use Rattle.sfm_assign.proofs.Fills.{left_low, root_in, raised_more, raised_part}
+use Rattle.sfm_assign.proofs.Lefts.{left_taken}
 
 -- an amount changed at a cell leaves none negative
 pub amounts_set : (z : List ℤ) (e : ℕ) (b : ℤ) → AreAmounts z → e < length z → pos 0 ≤ℤ b → AreAmounts (set z e b)
@@ -25,26 +27,7 @@ module _ (totals : List ℤ) (labels : List ℕ) (z left : List ℤ) (e : ℕ) (
 
   -- what is put on a cell is taken from what is left
   left_less : AreLeft totals labels (set z e (amount_at z e +ℤ a)) (set left j (amount_at left j -ℤ a))
-  left_less = record {
-    places = length-set left j (amount_at left j -ℤ a) ∙ h.places;
-    each = λ k lk.
-        let s = sum_at-set k labels z e a same lt in
-        let p = h.each k lk in
-        let len = h.places in
-        let b = below in
-        ⊎_elim
-        (λ (q : k ≡ j).
-        let o = only-same j k a (sym q) in
-        let g = get_or-set_same left j (amount_at left j -ℤ a) (pos 0) (omega (arith, b, len)) in
-        let x = ap (λ i. amount_at (set left j (amount_at left j -ℤ a)) i) q in
-        let w = ap (λ i. amount_at left i) q in
-        omega (arith, ints, s, p, o, g, x, w))
-        (λ ne.
-        let o = only-other j k a (λ q. ne (sym q)) in
-        let g = get_or-set_other left j k (amount_at left j -ℤ a) (pos 0) ne in
-        omega (arith, ints, s, p, o, g))
-        (cases_eq k j);
-  }
+  left_less = left_taken totals labels z (set z e (amount_at z e +ℤ a)) left j a below h (λ k. sum_at-set k labels z e a same lt)
 
   -- and so no total is passed
   still_within : ((k : ℕ) → k < length totals → sum_at k labels z ≤ℤ amount_at totals k) → a ≤ℤ amount_at left j → (k : ℕ) → k < length totals → sum_at k labels (set z e (amount_at z e +ℤ a)) ≤ℤ amount_at totals k
@@ -126,3 +109,16 @@ pouring_nothing demands capacities whos slots amounts bounded = record {
   lacks_are = record { places = refl; each = λ k lt. let z = sum_at-nothing k (length whos) whos in omega (arith, ints, z) };
   rooms_are = record { places = refl; each = λ k lt. let z = sum_at-nothing k (length whos) slots in omega (arith, ints, z) };
 }
+
+-- an amount moves that a search shows, and is taken off what its two ends have left
+pub moved_pouring : (demands capacities : List ℤ) (whos slots : List ℕ) (before y lacks rooms : List ℤ) (nodes : List (Option Node)) (last : ℕ) (a : ℤ) (z : List ℤ) → AreCells (length demands) (length capacities) whos slots
+    → IsPouring demands capacities whos slots before y lacks rooms → IsSearch whos slots y lacks rooms nodes (Some last) → pos 1 ≤ℤ a → a ≤ℤ amount_at rooms (label_at slots last) → (r : IsRaised whos slots nodes last a y z)
+    → IsPouring demands capacities whos slots before z (set lacks r.root (amount_at lacks r.root -ℤ a)) (set rooms (label_at slots last) (amount_at rooms (label_at slots last) -ℤ a))
+moved_pouring demands capacities whos slots before y lacks rooms nodes last a z cells inv s some fits r =
+    let end = s.ended in
+    record {
+      part = raised_part demands capacities whos slots y lacks rooms nodes last a z cells inv.part inv.lacks_are inv.rooms_are s.places s.roots end.cell some fits r;
+      more = λ i. let f = inv.more i in let g = raised_more demands capacities whos slots y lacks rooms nodes last a z cells inv.part inv.lacks_are inv.rooms_are s.places s.roots end.cell some fits r i in omega (arith, ints, f, g);
+      lacks_are = left_taken demands whos y z lacks r.root a (root_in demands capacities whos slots y lacks rooms nodes last a z cells inv.part inv.lacks_are inv.rooms_are s.places s.roots end.cell some fits r) inv.lacks_are r.got;
+      rooms_are = left_taken capacities slots y z rooms (label_at slots last) a (cells.exist last end.cell) inv.rooms_are r.loads;
+    }

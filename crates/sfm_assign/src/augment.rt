@@ -18,8 +18,14 @@ pub(crate) fn put(y: &mut [i128], e: usize, a: i128)
 }
 
 /// Puts the amount on the last cell, whose slot has room for it. Each demand on the way gets the amount on a slot of its
-/// own and gives it up on the slot of its link, to the demand that it was found from.
-pub(crate) fn augment(cells: &Cells, nodes: &[Option<Node>], last: usize, a: i128, y: &mut [i128])
+/// own and gives it up on the slot of its link, to the demand that it was found from. Tells the demand that gets it.
+pub(crate) fn augment(
+    cells: &Cells,
+    nodes: &[Option<Node>],
+    last: usize,
+    a: i128,
+    y: &mut [i128],
+) -> usize
     requires cells { (m : ℕ) × AreCells (length nodes.now) m cells.now.whos.items cells.now.slots.items }
     requires same { length y.old ≡ length cells.now.whos.items }
     requires amounts { (e : ℕ) → pos 0 ≤ℤ amount_at y.old e }
@@ -29,7 +35,7 @@ pub(crate) fn augment(cells: &Cells, nodes: &[Option<Node>], last: usize, a: i12
     requires flow { HasFlow nodes.now (label_at cells.now.whos.items last) a }
     requires small { (e : ℕ) → e < length cells.now.whos.items → sum_at (label_at cells.now.slots.items e) cells.now.slots.items y.old ≤ℤ pos (10 ^ 24) }
     requires room { (sum_at (label_at cells.now.slots.items last) cells.now.slots.items y.old +ℤ a) ≤ℤ pos (10 ^ 24) }
-    ensures { IsRaised cells.now.whos.items cells.now.slots.items nodes.now last a y.old y.new }
+    ensures { (r : IsRaised cells.now.whos.items cells.now.slots.items nodes.now last a y.old y.new) × (r.root ≡ result) }
 {
     put(y, last, a);
     let mut who = cells.whos[last];
@@ -38,4 +44,5 @@ pub(crate) fn augment(cells: &Cells, nodes: &[Option<Node>], last: usize, a: i12
         put(y, link.other, a);
         who = cells.whos[link.other];
     }
+    who
 }

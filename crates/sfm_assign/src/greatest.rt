@@ -7,7 +7,6 @@ ghost use Rattle.sfm_assign.specs.Splits.{IsCapacity, CanBeMet, IsMost};
 use crate::cells::Cells;
 use crate::demand::Demand;
 use crate::fill::fill;
-use crate::left::left_of;
 use sfm_base::Memory;
 use std::alloc::Global;
 
@@ -55,7 +54,6 @@ pub fn most(alloc: Global, demand: &Demand, u: usize) -> Result<i128, Memory>
     let others = with_demand(alloc, demand.demands(), u, 0)?;
     fill(alloc, &cells, &others, capacities, &mut y)?;
     let asked = with_demand(alloc, demand.demands(), u, sum_of(capacities))?;
-    fill(alloc, &cells, &asked, capacities, &mut y)?;
-    let lacks = left_of(alloc, &asked, &cells.whos, &y)?;
-    Ok(asked[u] - lacks[u])
+    let filled = fill(alloc, &cells, &asked, capacities, &mut y)?;
+    Ok(asked[u] - filled.left.lacks[u])
 }

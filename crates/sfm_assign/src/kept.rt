@@ -17,7 +17,7 @@ ghost use Rattle.sfm_assign.specs.declared.spread.Answer.TheVariants.{Full};
 use crate::demand::Demand;
 use crate::fill::fill;
 use crate::greatest::with_demand;
-use crate::left::{left_at, left_of};
+use crate::left::{Lefts, left_of};
 use crate::pour::trimmed;
 use crate::splitting::{AssignEnd, Shares, met_shares, raise_all};
 use crate::spread::{Answer, find_answer};
@@ -261,10 +261,15 @@ impl Kept {
         let cells = &self.shares.cells;
         let asked = raised_by(alloc, self.demand.demands(), u, limit)?;
         let mut y = Vec::from_slice(alloc, &self.shares.y)?;
-        fill(alloc, cells, &asked, self.demand.capacities(), &mut y)?;
-        let more = limit - left_at(alloc, &asked, &cells.whos, &y, u)?;
+        let Lefts { lacks, rooms } = fill(
+            alloc,
+            cells,
+            &asked,
+            self.demand.capacities(),
+            &mut y,
+        )?.left;
+        let more = limit - lacks[u];
         let demands = raised_by(alloc, self.demand.demands(), u, more)?;
-        let rooms = left_of(alloc, self.demand.capacities(), &cells.slots, &y)?;
         Ok(Grown {
             demands,
             y,

@@ -7,6 +7,13 @@ ghost use Rattle.sfm_assign.specs.Search.{AreLeft};
 use sfm_base::Memory;
 use std::alloc::Global;
 
+/// What demands lack, and what slots have left.
+#[derive(Drop)]
+pub(crate) struct Lefts {
+    pub lacks: Vec<i128>,
+    pub rooms: Vec<i128>,
+}
+
 /// Each total less the amounts that have its number.
 pub(crate) fn left_of(
     alloc: Global,
@@ -25,25 +32,6 @@ pub(crate) fn left_of(
         left[labels[e]] -= y[e];
     }
     Ok(left)
-}
-
-/// What is left of one total.
-pub(crate) fn left_at(
-    alloc: Global,
-    totals: &[i128],
-    labels: &[usize],
-    y: &[i128],
-    k: usize,
-) -> Result<i128, Memory>
-    requires same { length y.now ≡ length labels.now }
-    requires below { (e : ℕ) → e < length labels.now → label_at labels.now e < length totals.now }
-    requires amounts { (e : ℕ) → pos 0 ≤ℤ amount_at y.now e }
-    requires within { (k : ℕ) → k < length totals.now → sum_at k labels.now y.now ≤ℤ amount_at totals.now k }
-    requires place { k < length totals.now }
-    ensures { IfOk result (λ r. r ≡ (amount_at totals.now k -ℤ sum_at k labels.now y.now)) }
-{
-    let left = left_of(alloc, totals, labels, y)?;
-    Ok(left[k])
 }
 
 /// The first demand that lacks something.

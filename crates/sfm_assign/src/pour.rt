@@ -5,12 +5,12 @@ ghost use Rattle.std.specs.Prelude.{◌≡◌, ℕ, List, ℤ, ◌<◌, length, 
 ghost use Rattle.std.specs.List.{All};
 ghost use Rattle.sfm_assign.specs.Splits.{amount_at, IsAmount, IsCapacity};
 ghost use Rattle.sfm_assign.specs.Cells.{AreCells, IsPart};
-ghost use Rattle.sfm_assign.specs.Search.{GetsMore};
+ghost use Rattle.sfm_assign.specs.Search.{AreLeft, GetsMore};
 ghost use Rattle.sfm_assign.specs.Pours.{IsPouring, IsPoured};
 
 use crate::augment::put;
 use crate::cells::Cells;
-use crate::left::left_of;
+use crate::left::{Lefts, left_of};
 use sfm_base::Memory;
 use std::alloc::Global;
 
@@ -46,26 +46,28 @@ fn pour_on(
     put(y, e, a);
 }
 
-/// Puts on each cell in turn as much as its demand lacks and its slot has room for.
+/// Puts on each cell in turn as much as its demand lacks and its slot has room for; and tells what is then left.
 pub(crate) fn pour(
     alloc: Global,
     cells: &Cells,
     demands: &[i128],
     capacities: &[i128],
     y: &mut [i128],
-) -> Result<(), Memory>
+) -> Result<Lefts, Memory>
     requires cells { AreCells (length demands.now) (length capacities.now) cells.now.whos.items cells.now.slots.items }
     requires bounded { All IsCapacity capacities.now }
     requires part { IsPart demands.now capacities.now cells.now.whos.items cells.now.slots.items y.old }
     ensures part { IsPart demands.now capacities.now cells.now.whos.items cells.now.slots.items y.new }
     ensures more { GetsMore cells.now.whos.items y.old y.new }
+    ensures lacks { IfOk result (λ r. AreLeft demands.now cells.now.whos.items y.new r.lacks.items) }
+    ensures rooms { IfOk result (λ r. AreLeft capacities.now cells.now.slots.items y.new r.rooms.items) }
 {
     let mut lacks = left_of(alloc, demands, &cells.whos, y)?;
     let mut rooms = left_of(alloc, capacities, &cells.slots, y)?;
     for e in 0..cells.whos.len() {
         pour_on(cells, e, i128::MAX, &mut lacks, &mut rooms, y);
     }
-    Ok(())
+    Ok(Lefts { lacks, rooms })
 }
 
 /// What is kept of amounts on the cells, so that no demand gets more than it asks for and no slot more than its capacity.

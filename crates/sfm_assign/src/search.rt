@@ -13,50 +13,13 @@ use crate::nodes::{Link, Node, flow_of, is_found};
 use sfm_base::Memory;
 use std::alloc::Global;
 
-/// The node of each demand that was found, and a cell of one of them whose slot has room, if there is one.
+/// The memory of a search, which the next one uses again: the node of each demand that was found, whether each slot is marked,
+/// and the demands that were found, in this order.
 #[derive(Drop)]
-pub(crate) struct Found {
+pub(crate) struct Search {
     pub nodes: Vec<Option<Node>>,
-    pub last: Option<usize>,
-}
-
-/// How far a search is: the node of each demand that was found, whether each slot is marked, and the demands that were found, in
-/// this order.
-#[derive(Drop)]
-struct Progress {
-    nodes: Vec<Option<Node>>,
-    marks: Vec<bool>,
+    pub marks: Vec<bool>,
     queue: Vec<usize>,
-}
-
-/// Searches for a slot with room.
-pub(crate) fn search(
-    alloc: Global,
-    cells: &Cells,
-    y: &[i128],
-    lacks: &[i128],
-    rooms: &[i128],
-) -> Result<Found, Memory>
-    requires cells { AreCells (length lacks.now) (length rooms.now) cells.now.whos.items cells.now.slots.items }
-    requires same { length y.now ≡ length cells.now.whos.items }
-    ensures { IfOk result (λ r. IsSearch cells.now.whos.items cells.now.slots.items y.now lacks.now rooms.now r.nodes.items r.last) }
-{
-    let mut at = begun(alloc, lacks, rooms.len())?;
-    let mut next = 0;
-    while next < at.queue.len() {
-        let i = at.queue[next];
-        if let Some(last) = at.handle(cells, y, rooms, i)? {
-            return Ok(Found {
-                nodes: at.nodes,
-                last: Some(last),
-            });
-        }
-        next += 1;
-    }
-    Ok(Found {
-        nodes: at.nodes,
-        last: None,
-    })
 }
 
 /// The node of a demand that lacks something.
@@ -74,43 +37,28 @@ fn root(lack: i128) -> Option<Node>
     }
 }
 
-/// The nodes of the demands that lack something.
-fn roots(alloc: Global, lacks: &[i128]) -> Result<Vec<Option<Node>>, Memory>
-    ensures { IfOk result (λ r. AreRootsOf lacks.now r.items) }
+/// Writes the nodes of the demands that lack something.
+fn roots(nodes: &mut Vec<Option<Node>>, lacks: &[i128]) -> Result<(), Memory>
+    ensures { OnOk result (AreRootsOf lacks.now nodes.new.items) }
 {
-    let mut nodes = Vec::with_capacity(alloc, lacks.len())?;
+    nodes.clear();
     for lack in lacks {
         nodes.push(root(*lack))?;
     }
-    Ok(nodes)
+    Ok(())
 }
 
-/// The demands that were found, in their order.
-fn queued(alloc: Global, nodes: &[Option<Node>]) -> Result<Vec<usize>, Memory>
-    ensures { IfOk result (λ r. AreQueued nodes.now r.items) }
+/// Writes the demands that were found, in their order.
+fn queued(nodes: &[Option<Node>], queue: &mut Vec<usize>) -> Result<(), Memory>
+    ensures { OnOk result (AreQueued nodes.now queue.new.items) }
 {
-    let mut queue = Vec::with_capacity(alloc, nodes.len())?;
+    queue.clear();
     for i in 0..nodes.len() {
         if is_found(nodes, i) {
             queue.push(i)?;
         }
     }
-    Ok(queue)
-}
-
-/// A search that begins: the demands that lack something were found, and of m slots none is marked.
-fn begun(alloc: Global, lacks: &[i128], m: usize) -> Result<Progress, Memory>
-    ensures nodes { IfOk result (λ r. AreRootsOf lacks.now r.nodes.items) }
-    ensures marks { IfOk result (λ r. r.marks.items ≡ replicate m false) }
-    ensures queue { IfOk result (λ r. AreQueued r.nodes.items r.queue.items) }
-{
-    let nodes = roots(alloc, lacks)?;
-    let queue = queued(alloc, &nodes)?;
-    Ok(Progress {
-        nodes,
-        marks: vec![in alloc; false; m]?,
-        queue,
-    })
+    Ok(())
 }
 
 /// The node of the demand of a cell that has something on a slot, where the slot is marked with another cell.
@@ -133,7 +81,56 @@ fn linked(cells: &Cells, y: &[i128], level: usize, nodes: &[Option<Node>], link:
     }
 }
 
-impl Progress {
+impl Search {
+    /// Memory for searches among n demands and m slots.
+    pub(crate) fn new(alloc: Global, n: usize, m: usize) -> Result<Search, Memory>
+        ensures { IfOk result (λ r. length r.marks.items ≡ m) }
+    {
+        Ok(Search {
+            nodes: Vec::with_capacity(alloc, n)?,
+            marks: vec![in alloc; false; m]?,
+            queue: Vec::with_capacity(alloc, n)?,
+        })
+    }
+
+    /// Begins: the demands that lack something were found, and no slot is marked.
+    fn begin(&mut self, lacks: &[i128]) -> Result<(), Memory>
+        ensures nodes { OnOk result (AreRootsOf lacks.now self.new.nodes.items) }
+        ensures marks { OnOk result (self.new.marks.items ≡ replicate (length self.old.marks.items) false) }
+        ensures queue { OnOk result (AreQueued self.new.nodes.items self.new.queue.items) }
+    {
+        roots(&mut self.nodes, lacks)?;
+        queued(&self.nodes, &mut self.queue)?;
+        self.marks.fill(false);
+        Ok(())
+    }
+
+    /// Searches for a slot with room: a cell of a demand that was found whose slot has room, if there is one.
+    pub(crate) fn run(
+        &mut self,
+        cells: &Cells,
+        y: &[i128],
+        lacks: &[i128],
+        rooms: &[i128],
+    ) -> Result<Option<usize>, Memory>
+        requires cells { AreCells (length lacks.now) (length rooms.now) cells.now.whos.items cells.now.slots.items }
+        requires same { length y.now ≡ length cells.now.whos.items }
+        requires places { length self.old.marks.items ≡ length rooms.now }
+        ensures places { OnOk result (length self.new.marks.items ≡ length rooms.now) }
+        ensures search { IfOk result (IsSearch cells.now.whos.items cells.now.slots.items y.now lacks.now rooms.now self.new.nodes.items) }
+    {
+        self.begin(lacks)?;
+        let mut next = 0;
+        while next < self.queue.len() {
+            let i = self.queue[next];
+            if let Some(last) = self.handle(cells, y, rooms, i)? {
+                return Ok(Some(last));
+            }
+            next += 1;
+        }
+        Ok(None)
+    }
+
     /// Finds the demand of a cell from another on its slot, where it has something there and was not found before.
     fn find(&mut self, cells: &Cells, y: &[i128], link: Link) -> Result<(), Memory>
         requires cells { AreCells (length self.old.nodes.items) (length self.old.marks.items) cells.now.whos.items cells.now.slots.items }

@@ -9,8 +9,8 @@ ghost use Rattle.sfm_assign.specs.Ends.{IsAssignEnd};
 
 use crate::cells::Cells;
 use crate::demand::Demand;
-use crate::fill::fill;
-use crate::left::{first_lacking, left_of};
+use crate::fill::{Filled, fill};
+use crate::left::first_lacking;
 use crate::split::Split;
 use sfm_base::{Memory, Set};
 use std::alloc::Global;
@@ -32,21 +32,6 @@ impl From<Memory> for AssignEnd {
     fn from(_: Memory) -> Self {
         AssignEnd::Memory
     }
-}
-
-/// A demand that does not get what it asks for.
-fn unmet(
-    alloc: Global,
-    cells: &Cells,
-    demands: &[i128],
-    y: &[i128],
-) -> Result<Option<usize>, Memory>
-    requires cells { (m : ℕ) × AreCells (length demands.now) m cells.now.whos.items cells.now.slots.items }
-    requires part { (capacities : List ℤ) × IsPart demands.now capacities cells.now.whos.items cells.now.slots.items y.now }
-    ensures { IfOk result (λ r. MatchOption r (IsMet demands.now cells.now.whos.items y.now) (λ i. (i < length demands.now) × (sum_at i cells.now.whos.items y.now <ℤ amount_at demands.now i))) }
-{
-    let lacks = left_of(alloc, demands, &cells.whos, y)?;
-    Ok(first_lacking(&lacks))
 }
 
 /// The cells of demands, and the amount on each.
@@ -85,9 +70,8 @@ pub(crate) fn raise_all(
     ensures part { IsPart demands.now capacities.now cells.now.whos.items cells.now.slots.items y.new }
     ensures told { IfOk result (λ r. MatchOption r (IsMet demands.now cells.now.whos.items y.new) (IsLacking demands.now capacities.now cells.now.whos.items cells.now.slots.items y.new)) }
 {
-    let set = fill(alloc, cells, demands, capacities, y)?;
-    let lacking = unmet(alloc, cells, demands, y)?;
-    if lacking.is_some() {
+    let Filled { set, left } = fill(alloc, cells, demands, capacities, y)?;
+    if first_lacking(&left.lacks).is_some() {
         return Ok(Some(set));
     }
     Ok(None)

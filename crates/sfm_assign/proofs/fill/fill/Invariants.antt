@@ -1,13 +1,15 @@
--- no demand gets less, and each turn but the last raises the total
-use Rattle.std.proofs.Common.{◌-ℤ◌}
+-- no demand gets less, and each turn raises the total
+use Rattle.std.proofs.Common.{◌≡◌, length, ◌-ℤ◌}
 use Rattle.sfm_spec.specs.Bounds.{total_of}
-use Rattle.sfm_assign.specs.Cells.{IsPart}
-use Rattle.sfm_assign.specs.Search.{GetsMore}
+use Rattle.sfm_assign.specs.Pours.{IsPouring}
 use Rattle.sfm_assign.proofs.Fills.{to_nat}
 use Rattle.sfm_assign.proofs.fill.fill.Given as goal
 
-abbrev pub invariant-loop-set : goal.invariant-loop-set
-invariant-loop-set l = record { part : IsPart l.demands l.capacities l.cells.whos.items l.cells.slots.items l.y; more : GetsMore l.cells.whos.items l.fn.y l.y }
+abbrev pub invariant-loop-search : goal.invariant-loop-search
+invariant-loop-search l = record {
+  pouring : IsPouring l.demands l.capacities l.cells.whos.items l.cells.slots.items l.fn.y l.y l.left.lacks.items l.left.rooms.items;
+  marks : length l.search.marks.items ≡ length l.capacities;
+}
 
-abbrev pub decreases-loop-set : goal.decreases-loop-set
-decreases-loop-set l = to_nat (total_of l.demands -ℤ total_of l.y)
+abbrev pub decreases-loop-search : goal.decreases-loop-search
+decreases-loop-search l = to_nat (total_of l.demands -ℤ total_of l.y)

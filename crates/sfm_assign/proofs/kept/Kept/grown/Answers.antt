@@ -1,5 +1,6 @@
 use Rattle.std.proofs.Common.{◌≡◌, get_or, length, set, drop, ℤ, pos, ◌+ℤ◌, ◌-ℤ◌, ap, sym, ◌∙◌, arith, rules, FitsSigned, length-set}
 use Rattle.std.proofs.lemmas.Int.{ints, to_z-of_z}
+use Rattle.std.proofs.lemmas.List.{get_or_read}
 use Rattle.std.proofs.lemmas.List.Elements.{All-set}
 use mir.Syntax.{w128}
 use Rattle.sfm_assign.specs.Splits.{sum_at, IsAmount}
@@ -46,60 +47,6 @@ fill-requires-clause-part c =
     let ey = c.deref_mut.ensures.value ∙ (c.in_ok-y.ensures.items ∙ c.deref.ensures.value) in
     rw (ey, o2, caps, k.met.in_order, k.met.in_lists) (growing_part d r.sound u r.place limit r.low y0 part0)
 
-pub left_at-requires-clause-below : goal.left_at-requires-clause-below
-left_at-requires-clause-below c =
-    let k = c.args.self.now in
-    let d = k.demand in
-    let u = c.args.u in
-    let r = c.requires in
-    let limit : ℤ = c.args.limit in
-    let fq : FitsSigned w128 limit = c.ranges.limit in
-    let asked = with_more d u limit in
-    let oa = (simp to_z-of_z at c.in_ok-asked.ensures) ∙ ap (λ x. set x u (get_or x u (pos 0) +ℤ limit)) c.demands.ensures.value in
-    let o2 = c.deref-2.ensures.value ∙ oa in
-    let caps = c.capacities.ensures in
-    let part0 = rw (k.met.in_order, k.met.in_lists) at k.met.part in
-    let met0 = rw k.met.in_order at k.met.met in
-    let y0 = k.shares.y.items in
-    let ey = c.deref_mut.ensures.value ∙ (c.in_ok-y.ensures.items ∙ c.deref.ensures.value) in
-    let y = c.in_ok-y.y in
-    let z = c.fill.new.y in
-    let q = written z (drop (length z) y.items) y.len (c.fill.auto.y ∙ (ap length c.deref_mut.ensures.value ∙ sym y.ok.0)) in
-    let part2 = rw (o2, caps, k.met.in_order, k.met.in_lists) at c.in_ok-fill.ensures.part in
-    let filled2 = rw (o2, caps, k.met.in_order, k.met.in_lists) at c.in_ok-fill.ensures.filled in
-    let more2 = rw (ey, k.met.in_order) at c.in_ok-fill.ensures.more in
-    let o3 = c.deref-3.ensures.value ∙ oa in
-    let w4 = c.deref-4.ensures.value ∙ k.met.in_order in
-    let e5 = c.deref-5.ensures.value ∙ q in
-    rw (w4, o3, length-set d.demands u (get_or d.demands u (pos 0) +ℤ limit)) (cells_for d r.sound).owned
-
-pub left_at-requires-clause-within : goal.left_at-requires-clause-within
-left_at-requires-clause-within c =
-    let k = c.args.self.now in
-    let d = k.demand in
-    let u = c.args.u in
-    let r = c.requires in
-    let limit : ℤ = c.args.limit in
-    let fq : FitsSigned w128 limit = c.ranges.limit in
-    let asked = with_more d u limit in
-    let oa = (simp to_z-of_z at c.in_ok-asked.ensures) ∙ ap (λ x. set x u (get_or x u (pos 0) +ℤ limit)) c.demands.ensures.value in
-    let o2 = c.deref-2.ensures.value ∙ oa in
-    let caps = c.capacities.ensures in
-    let part0 = rw (k.met.in_order, k.met.in_lists) at k.met.part in
-    let met0 = rw k.met.in_order at k.met.met in
-    let y0 = k.shares.y.items in
-    let ey = c.deref_mut.ensures.value ∙ (c.in_ok-y.ensures.items ∙ c.deref.ensures.value) in
-    let y = c.in_ok-y.y in
-    let z = c.fill.new.y in
-    let q = written z (drop (length z) y.items) y.len (c.fill.auto.y ∙ (ap length c.deref_mut.ensures.value ∙ sym y.ok.0)) in
-    let part2 = rw (o2, caps, k.met.in_order, k.met.in_lists) at c.in_ok-fill.ensures.part in
-    let filled2 = rw (o2, caps, k.met.in_order, k.met.in_lists) at c.in_ok-fill.ensures.filled in
-    let more2 = rw (ey, k.met.in_order) at c.in_ok-fill.ensures.more in
-    let o3 = c.deref-3.ensures.value ∙ oa in
-    let w4 = c.deref-4.ensures.value ∙ k.met.in_order in
-    let e5 = c.deref-5.ensures.value ∙ q in
-    rw (w4, e5, o3) part2.got
-
 pub overflow_sub-more : goal.overflow_sub-more
 overflow_sub-more c =
     let k = c.args.self.now in
@@ -119,18 +66,17 @@ overflow_sub-more c =
     let y = c.in_ok-y.y in
     let z = c.fill.new.y in
     let q = written z (drop (length z) y.items) y.len (c.fill.auto.y ∙ (ap length c.deref_mut.ensures.value ∙ sym y.ok.0)) in
-    let part2 = rw (o2, caps, k.met.in_order, k.met.in_lists) at c.in_ok-fill.ensures.part in
-    let filled2 = rw (o2, caps, k.met.in_order, k.met.in_lists) at c.in_ok-fill.ensures.filled in
-    let more2 = rw (ey, k.met.in_order) at c.in_ok-fill.ensures.more in
-    let o3 = c.deref-3.ensures.value ∙ oa in
-    let w4 = c.deref-4.ensures.value ∙ k.met.in_order in
-    let e5 = c.deref-5.ensures.value ∙ q in
-    let left : ℤ = c.in_ok-more.field-0 in
-    let fl : FitsSigned w128 left = search rules in
-    let m = rw (o3, w4, e5) at c.in_ok-more.ensures in
+    let part2 = rw (o2, caps, k.met.in_order, k.met.in_lists) at c.in_ok-lacks.ensures.part in
+    let filled2 = rw (o2, caps, k.met.in_order, k.met.in_lists) at c.in_ok-lacks.ensures.filled in
+    let more2 = rw (ey, k.met.in_order) at c.in_ok-lacks.ensures.more in
     let lu = r.place in
     let at_u = changed-at d.demands u lu (get_or d.demands u (pos 0) +ℤ limit) in
     let la = length-set d.demands u (get_or d.demands u (pos 0) +ℤ limit) in
+    let lacks = rw (o2, k.met.in_order) at c.in_ok-lacks.ensures.lacks in
+    let places = lacks.places in
+    let left : ℤ = c.index.result.now in
+    let fl : FitsSigned w128 left = search rules in
+    let m = get_or_read c.in_ok-lacks.field-0.left.lacks.items u left (omega (arith, lu, la, places)) c.index.ensures (pos 0) ∙ lacks.each u (omega (arith, lu, la)) in
     let got = part2.got u (omega (arith, lu, la)) in
     let low = r.low in
     let fd : FitsSigned w128 (limit -ℤ left) = omega (arith, ints, m, got, low, fl, fq) in
@@ -155,23 +101,22 @@ raised_by-requires-2-clause-amount c =
     let y = c.in_ok-y.y in
     let z = c.fill.new.y in
     let q = written z (drop (length z) y.items) y.len (c.fill.auto.y ∙ (ap length c.deref_mut.ensures.value ∙ sym y.ok.0)) in
-    let part2 = rw (o2, caps, k.met.in_order, k.met.in_lists) at c.in_ok-fill.ensures.part in
-    let filled2 = rw (o2, caps, k.met.in_order, k.met.in_lists) at c.in_ok-fill.ensures.filled in
-    let more2 = rw (ey, k.met.in_order) at c.in_ok-fill.ensures.more in
-    let o3 = c.deref-3.ensures.value ∙ oa in
-    let w4 = c.deref-4.ensures.value ∙ k.met.in_order in
-    let e5 = c.deref-5.ensures.value ∙ q in
-    let left : ℤ = c.in_ok-more.field-0 in
-    let fl : FitsSigned w128 left = search rules in
-    let m = rw (o3, w4, e5) at c.in_ok-more.ensures in
+    let part2 = rw (o2, caps, k.met.in_order, k.met.in_lists) at c.in_ok-lacks.ensures.part in
+    let filled2 = rw (o2, caps, k.met.in_order, k.met.in_lists) at c.in_ok-lacks.ensures.filled in
+    let more2 = rw (ey, k.met.in_order) at c.in_ok-lacks.ensures.more in
     let lu = r.place in
     let at_u = changed-at d.demands u lu (get_or d.demands u (pos 0) +ℤ limit) in
     let la = length-set d.demands u (get_or d.demands u (pos 0) +ℤ limit) in
+    let lacks = rw (o2, k.met.in_order) at c.in_ok-lacks.ensures.lacks in
+    let places = lacks.places in
+    let left : ℤ = c.index.result.now in
+    let fl : FitsSigned w128 left = search rules in
+    let m = get_or_read c.in_ok-lacks.field-0.left.lacks.items u left (omega (arith, lu, la, places)) c.index.ensures (pos 0) ∙ lacks.each u (omega (arith, lu, la)) in
     let got = part2.got u (omega (arith, lu, la)) in
     let low = r.low in
     let fd : FitsSigned w128 (limit -ℤ left) = omega (arith, ints, m, got, low, fl, fq) in
     let is : (limit -ℤ left) ≡ (sum_at u (owners 0 d.lists) z -ℤ get_or d.demands u (pos 0)) = omega (arith, ints, m, at_u) in
-    let most = grown_most d r.sound u lu limit r.low y0 part0 met0 z c.in_ok-fill.field-0 part2 filled2 more2 (limit -ℤ left) is in
+    let most = grown_most d r.sound u lu limit r.low y0 part0 met0 z c.in_ok-lacks.field-0.set part2 filled2 more2 (limit -ℤ left) is in
     let a = amounts_low d r.sound u lu in
     let g0 = most.low in
     let g1 = most.high in
@@ -197,24 +142,23 @@ returns-clause-met c =
     let y = c.in_ok-y.y in
     let z = c.fill.new.y in
     let q = written z (drop (length z) y.items) y.len (c.fill.auto.y ∙ (ap length c.deref_mut.ensures.value ∙ sym y.ok.0)) in
-    let part2 = rw (o2, caps, k.met.in_order, k.met.in_lists) at c.in_ok-fill.ensures.part in
-    let filled2 = rw (o2, caps, k.met.in_order, k.met.in_lists) at c.in_ok-fill.ensures.filled in
-    let more2 = rw (ey, k.met.in_order) at c.in_ok-fill.ensures.more in
-    let o3 = c.deref-3.ensures.value ∙ oa in
-    let w4 = c.deref-4.ensures.value ∙ k.met.in_order in
-    let e5 = c.deref-5.ensures.value ∙ q in
-    let left : ℤ = c.in_ok-more.field-0 in
-    let fl : FitsSigned w128 left = search rules in
-    let m = rw (o3, w4, e5) at c.in_ok-more.ensures in
+    let part2 = rw (o2, caps, k.met.in_order, k.met.in_lists) at c.in_ok-lacks.ensures.part in
+    let filled2 = rw (o2, caps, k.met.in_order, k.met.in_lists) at c.in_ok-lacks.ensures.filled in
+    let more2 = rw (ey, k.met.in_order) at c.in_ok-lacks.ensures.more in
     let lu = r.place in
     let at_u = changed-at d.demands u lu (get_or d.demands u (pos 0) +ℤ limit) in
     let la = length-set d.demands u (get_or d.demands u (pos 0) +ℤ limit) in
+    let lacks = rw (o2, k.met.in_order) at c.in_ok-lacks.ensures.lacks in
+    let places = lacks.places in
+    let left : ℤ = c.index.result.now in
+    let fl : FitsSigned w128 left = search rules in
+    let m = get_or_read c.in_ok-lacks.field-0.left.lacks.items u left (omega (arith, lu, la, places)) c.index.ensures (pos 0) ∙ lacks.each u (omega (arith, lu, la)) in
     let got = part2.got u (omega (arith, lu, la)) in
     let low = r.low in
     let fd : FitsSigned w128 (limit -ℤ left) = omega (arith, ints, m, got, low, fl, fq) in
     let is : (limit -ℤ left) ≡ (sum_at u (owners 0 d.lists) z -ℤ get_or d.demands u (pos 0)) = omega (arith, ints, m, at_u) in
-    let gp = grown_part d r.sound u lu limit r.low y0 part0 met0 z c.in_ok-fill.field-0 part2 filled2 more2 (limit -ℤ left) is in
-    let gm = grown_met d r.sound u lu limit r.low y0 part0 met0 z c.in_ok-fill.field-0 part2 filled2 more2 (limit -ℤ left) is in
+    let gp = grown_part d r.sound u lu limit r.low y0 part0 met0 z c.in_ok-lacks.field-0.set part2 filled2 more2 (limit -ℤ left) is in
+    let gm = grown_met d r.sound u lu limit r.low y0 part0 met0 z c.in_ok-lacks.field-0.set part2 filled2 more2 (limit -ℤ left) is in
     simp to_z-of_z (record { in_order = k.met.in_order; in_lists = k.met.in_lists; part = rw (q, k.met.in_order, k.met.in_lists) gp; met = rw (q, k.met.in_order) gm })
 
 pub returns-clause-most : goal.returns-clause-most
@@ -236,148 +180,22 @@ returns-clause-most c =
     let y = c.in_ok-y.y in
     let z = c.fill.new.y in
     let q = written z (drop (length z) y.items) y.len (c.fill.auto.y ∙ (ap length c.deref_mut.ensures.value ∙ sym y.ok.0)) in
-    let part2 = rw (o2, caps, k.met.in_order, k.met.in_lists) at c.in_ok-fill.ensures.part in
-    let filled2 = rw (o2, caps, k.met.in_order, k.met.in_lists) at c.in_ok-fill.ensures.filled in
-    let more2 = rw (ey, k.met.in_order) at c.in_ok-fill.ensures.more in
-    let o3 = c.deref-3.ensures.value ∙ oa in
-    let w4 = c.deref-4.ensures.value ∙ k.met.in_order in
-    let e5 = c.deref-5.ensures.value ∙ q in
-    let left : ℤ = c.in_ok-more.field-0 in
-    let fl : FitsSigned w128 left = search rules in
-    let m = rw (o3, w4, e5) at c.in_ok-more.ensures in
+    let part2 = rw (o2, caps, k.met.in_order, k.met.in_lists) at c.in_ok-lacks.ensures.part in
+    let filled2 = rw (o2, caps, k.met.in_order, k.met.in_lists) at c.in_ok-lacks.ensures.filled in
+    let more2 = rw (ey, k.met.in_order) at c.in_ok-lacks.ensures.more in
     let lu = r.place in
     let at_u = changed-at d.demands u lu (get_or d.demands u (pos 0) +ℤ limit) in
     let la = length-set d.demands u (get_or d.demands u (pos 0) +ℤ limit) in
+    let lacks = rw (o2, k.met.in_order) at c.in_ok-lacks.ensures.lacks in
+    let places = lacks.places in
+    let left : ℤ = c.index.result.now in
+    let fl : FitsSigned w128 left = search rules in
+    let m = get_or_read c.in_ok-lacks.field-0.left.lacks.items u left (omega (arith, lu, la, places)) c.index.ensures (pos 0) ∙ lacks.each u (omega (arith, lu, la)) in
     let got = part2.got u (omega (arith, lu, la)) in
     let low = r.low in
     let fd : FitsSigned w128 (limit -ℤ left) = omega (arith, ints, m, got, low, fl, fq) in
     let is : (limit -ℤ left) ≡ (sum_at u (owners 0 d.lists) z -ℤ get_or d.demands u (pos 0)) = omega (arith, ints, m, at_u) in
-    simp to_z-of_z (grown_most d r.sound u lu limit r.low y0 part0 met0 z c.in_ok-fill.field-0 part2 filled2 more2 (limit -ℤ left) is)
-
-pub left_of-requires-clause-same : goal.left_of-requires-clause-same
-left_of-requires-clause-same c =
-    let k = c.args.self.now in
-    let d = k.demand in
-    let u = c.args.u in
-    let r = c.requires in
-    let limit : ℤ = c.args.limit in
-    let fq : FitsSigned w128 limit = c.ranges.limit in
-    let asked = with_more d u limit in
-    let oa = (simp to_z-of_z at c.in_ok-asked.ensures) ∙ ap (λ x. set x u (get_or x u (pos 0) +ℤ limit)) c.demands.ensures.value in
-    let o2 = c.deref-2.ensures.value ∙ oa in
-    let caps = c.capacities.ensures in
-    let part0 = rw (k.met.in_order, k.met.in_lists) at k.met.part in
-    let met0 = rw k.met.in_order at k.met.met in
-    let y0 = k.shares.y.items in
-    let ey = c.deref_mut.ensures.value ∙ (c.in_ok-y.ensures.items ∙ c.deref.ensures.value) in
-    let y = c.in_ok-y.y in
-    let z = c.fill.new.y in
-    let q = written z (drop (length z) y.items) y.len (c.fill.auto.y ∙ (ap length c.deref_mut.ensures.value ∙ sym y.ok.0)) in
-    let part2 = rw (o2, caps, k.met.in_order, k.met.in_lists) at c.in_ok-fill.ensures.part in
-    let filled2 = rw (o2, caps, k.met.in_order, k.met.in_lists) at c.in_ok-fill.ensures.filled in
-    let more2 = rw (ey, k.met.in_order) at c.in_ok-fill.ensures.more in
-    let o3 = c.deref-3.ensures.value ∙ oa in
-    let w4 = c.deref-4.ensures.value ∙ k.met.in_order in
-    let e5 = c.deref-5.ensures.value ∙ q in
-    let s6 = c.deref-6.ensures.value ∙ k.met.in_lists in
-    let e7 = c.deref-7.ensures.value ∙ q in
-    let caps2 = c.capacities-2.ensures in
-    let cells = cells_for d r.sound in
-    rw (e7, s6) (part2.cells ∙ sym cells.same)
-
-pub left_of-requires-clause-below : goal.left_of-requires-clause-below
-left_of-requires-clause-below c =
-    let k = c.args.self.now in
-    let d = k.demand in
-    let u = c.args.u in
-    let r = c.requires in
-    let limit : ℤ = c.args.limit in
-    let fq : FitsSigned w128 limit = c.ranges.limit in
-    let asked = with_more d u limit in
-    let oa = (simp to_z-of_z at c.in_ok-asked.ensures) ∙ ap (λ x. set x u (get_or x u (pos 0) +ℤ limit)) c.demands.ensures.value in
-    let o2 = c.deref-2.ensures.value ∙ oa in
-    let caps = c.capacities.ensures in
-    let part0 = rw (k.met.in_order, k.met.in_lists) at k.met.part in
-    let met0 = rw k.met.in_order at k.met.met in
-    let y0 = k.shares.y.items in
-    let ey = c.deref_mut.ensures.value ∙ (c.in_ok-y.ensures.items ∙ c.deref.ensures.value) in
-    let y = c.in_ok-y.y in
-    let z = c.fill.new.y in
-    let q = written z (drop (length z) y.items) y.len (c.fill.auto.y ∙ (ap length c.deref_mut.ensures.value ∙ sym y.ok.0)) in
-    let part2 = rw (o2, caps, k.met.in_order, k.met.in_lists) at c.in_ok-fill.ensures.part in
-    let filled2 = rw (o2, caps, k.met.in_order, k.met.in_lists) at c.in_ok-fill.ensures.filled in
-    let more2 = rw (ey, k.met.in_order) at c.in_ok-fill.ensures.more in
-    let o3 = c.deref-3.ensures.value ∙ oa in
-    let w4 = c.deref-4.ensures.value ∙ k.met.in_order in
-    let e5 = c.deref-5.ensures.value ∙ q in
-    let s6 = c.deref-6.ensures.value ∙ k.met.in_lists in
-    let e7 = c.deref-7.ensures.value ∙ q in
-    let caps2 = c.capacities-2.ensures in
-    let cells = cells_for d r.sound in
-    let same = cells.same in
-    rw (s6, caps2) (λ e lt. cells.exist e (omega (arith, lt, same)))
-
-pub left_of-requires-clause-amounts : goal.left_of-requires-clause-amounts
-left_of-requires-clause-amounts c =
-    let k = c.args.self.now in
-    let d = k.demand in
-    let u = c.args.u in
-    let r = c.requires in
-    let limit : ℤ = c.args.limit in
-    let fq : FitsSigned w128 limit = c.ranges.limit in
-    let asked = with_more d u limit in
-    let oa = (simp to_z-of_z at c.in_ok-asked.ensures) ∙ ap (λ x. set x u (get_or x u (pos 0) +ℤ limit)) c.demands.ensures.value in
-    let o2 = c.deref-2.ensures.value ∙ oa in
-    let caps = c.capacities.ensures in
-    let part0 = rw (k.met.in_order, k.met.in_lists) at k.met.part in
-    let met0 = rw k.met.in_order at k.met.met in
-    let y0 = k.shares.y.items in
-    let ey = c.deref_mut.ensures.value ∙ (c.in_ok-y.ensures.items ∙ c.deref.ensures.value) in
-    let y = c.in_ok-y.y in
-    let z = c.fill.new.y in
-    let q = written z (drop (length z) y.items) y.len (c.fill.auto.y ∙ (ap length c.deref_mut.ensures.value ∙ sym y.ok.0)) in
-    let part2 = rw (o2, caps, k.met.in_order, k.met.in_lists) at c.in_ok-fill.ensures.part in
-    let filled2 = rw (o2, caps, k.met.in_order, k.met.in_lists) at c.in_ok-fill.ensures.filled in
-    let more2 = rw (ey, k.met.in_order) at c.in_ok-fill.ensures.more in
-    let o3 = c.deref-3.ensures.value ∙ oa in
-    let w4 = c.deref-4.ensures.value ∙ k.met.in_order in
-    let e5 = c.deref-5.ensures.value ∙ q in
-    let s6 = c.deref-6.ensures.value ∙ k.met.in_lists in
-    let e7 = c.deref-7.ensures.value ∙ q in
-    let caps2 = c.capacities-2.ensures in
-    let cells = cells_for d r.sound in
-    rw e7 part2.amounts
-
-pub left_of-requires-clause-within : goal.left_of-requires-clause-within
-left_of-requires-clause-within c =
-    let k = c.args.self.now in
-    let d = k.demand in
-    let u = c.args.u in
-    let r = c.requires in
-    let limit : ℤ = c.args.limit in
-    let fq : FitsSigned w128 limit = c.ranges.limit in
-    let asked = with_more d u limit in
-    let oa = (simp to_z-of_z at c.in_ok-asked.ensures) ∙ ap (λ x. set x u (get_or x u (pos 0) +ℤ limit)) c.demands.ensures.value in
-    let o2 = c.deref-2.ensures.value ∙ oa in
-    let caps = c.capacities.ensures in
-    let part0 = rw (k.met.in_order, k.met.in_lists) at k.met.part in
-    let met0 = rw k.met.in_order at k.met.met in
-    let y0 = k.shares.y.items in
-    let ey = c.deref_mut.ensures.value ∙ (c.in_ok-y.ensures.items ∙ c.deref.ensures.value) in
-    let y = c.in_ok-y.y in
-    let z = c.fill.new.y in
-    let q = written z (drop (length z) y.items) y.len (c.fill.auto.y ∙ (ap length c.deref_mut.ensures.value ∙ sym y.ok.0)) in
-    let part2 = rw (o2, caps, k.met.in_order, k.met.in_lists) at c.in_ok-fill.ensures.part in
-    let filled2 = rw (o2, caps, k.met.in_order, k.met.in_lists) at c.in_ok-fill.ensures.filled in
-    let more2 = rw (ey, k.met.in_order) at c.in_ok-fill.ensures.more in
-    let o3 = c.deref-3.ensures.value ∙ oa in
-    let w4 = c.deref-4.ensures.value ∙ k.met.in_order in
-    let e5 = c.deref-5.ensures.value ∙ q in
-    let s6 = c.deref-6.ensures.value ∙ k.met.in_lists in
-    let e7 = c.deref-7.ensures.value ∙ q in
-    let caps2 = c.capacities-2.ensures in
-    let cells = cells_for d r.sound in
-    rw (e7, s6, caps2) part2.within
+    simp to_z-of_z (grown_most d r.sound u lu limit r.low y0 part0 met0 z c.in_ok-lacks.field-0.set part2 filled2 more2 (limit -ℤ left) is)
 
 pub returns-clause-amounts : goal.returns-clause-amounts
 returns-clause-amounts c =
@@ -398,23 +216,22 @@ returns-clause-amounts c =
     let y = c.in_ok-y.y in
     let z = c.fill.new.y in
     let q = written z (drop (length z) y.items) y.len (c.fill.auto.y ∙ (ap length c.deref_mut.ensures.value ∙ sym y.ok.0)) in
-    let part2 = rw (o2, caps, k.met.in_order, k.met.in_lists) at c.in_ok-fill.ensures.part in
-    let filled2 = rw (o2, caps, k.met.in_order, k.met.in_lists) at c.in_ok-fill.ensures.filled in
-    let more2 = rw (ey, k.met.in_order) at c.in_ok-fill.ensures.more in
-    let o3 = c.deref-3.ensures.value ∙ oa in
-    let w4 = c.deref-4.ensures.value ∙ k.met.in_order in
-    let e5 = c.deref-5.ensures.value ∙ q in
-    let left : ℤ = c.in_ok-more.field-0 in
-    let fl : FitsSigned w128 left = search rules in
-    let m = rw (o3, w4, e5) at c.in_ok-more.ensures in
+    let part2 = rw (o2, caps, k.met.in_order, k.met.in_lists) at c.in_ok-lacks.ensures.part in
+    let filled2 = rw (o2, caps, k.met.in_order, k.met.in_lists) at c.in_ok-lacks.ensures.filled in
+    let more2 = rw (ey, k.met.in_order) at c.in_ok-lacks.ensures.more in
     let lu = r.place in
     let at_u = changed-at d.demands u lu (get_or d.demands u (pos 0) +ℤ limit) in
     let la = length-set d.demands u (get_or d.demands u (pos 0) +ℤ limit) in
+    let lacks = rw (o2, k.met.in_order) at c.in_ok-lacks.ensures.lacks in
+    let places = lacks.places in
+    let left : ℤ = c.index.result.now in
+    let fl : FitsSigned w128 left = search rules in
+    let m = get_or_read c.in_ok-lacks.field-0.left.lacks.items u left (omega (arith, lu, la, places)) c.index.ensures (pos 0) ∙ lacks.each u (omega (arith, lu, la)) in
     let got = part2.got u (omega (arith, lu, la)) in
     let low = r.low in
     let fd : FitsSigned w128 (limit -ℤ left) = omega (arith, ints, m, got, low, fl, fq) in
     let is : (limit -ℤ left) ≡ (sum_at u (owners 0 d.lists) z -ℤ get_or d.demands u (pos 0)) = omega (arith, ints, m, at_u) in
-    let most = grown_most d r.sound u lu limit r.low y0 part0 met0 z c.in_ok-fill.field-0 part2 filled2 more2 (limit -ℤ left) is in
+    let most = grown_most d r.sound u lu limit r.low y0 part0 met0 z c.in_ok-lacks.field-0.set part2 filled2 more2 (limit -ℤ left) is in
     let a = amounts_low d r.sound u lu in
     let g0 = most.low in
     let g1 = most.high in

@@ -7,8 +7,8 @@ use Rattle.sfm_assign.specs.Splits.{amount_at}
 use Rattle.sfm_assign.specs.Cells.{label_at}
 use Rattle.sfm_assign.proofs.Linking.{pass_here, pass_more, ahead_falls}
 use Rattle.sfm_assign.proofs.Queues.{further_more, marked_here, marked_kept, marked_full}
-use Rattle.sfm_assign.proofs.search.Progress.handle.Goals as goal
-use Rattle.sfm_assign.proofs.search.Progress.handle.Goals.{then-not-index+else-rooms-s-gt0+in_ok-sweep, else-not-index}
+use Rattle.sfm_assign.proofs.search.Search.handle.Goals as goal
+use Rattle.sfm_assign.proofs.search.Search.handle.Goals.{then-not-index+else-rooms-s-gt0+in_ok-sweep, else-not-index}
 
 pub index-s-requires : goal.index-s-requires
 index-s-requires c =

@@ -1,7 +1,7 @@
 use Rattle.std.proofs.Common.{◌<◌, length, arith}
 use Rattle.std.proofs.lemmas.List.{get_or_read}
 use Rattle.sfm_assign.proofs.Queues.{found_progress, no_link}
-use Rattle.sfm_assign.proofs.search.Progress.find.Goals as goal
+use Rattle.sfm_assign.proofs.search.Search.find.Goals as goal
 
 pub returns-clause-progress : goal.returns-clause-progress
 returns-clause-progress c =

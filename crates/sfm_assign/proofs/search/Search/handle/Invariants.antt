@@ -3,7 +3,7 @@ use Rattle.sfm_spec.specs.Sets.{Has}
 use Rattle.sfm_assign.specs.Cells.{label_at}
 use Rattle.sfm_assign.proofs.Linking.{IsPassed, ahead}
 use Rattle.sfm_assign.proofs.Queues.{IsHandled}
-use Rattle.sfm_assign.proofs.search.Progress.handle.Given as goal
+use Rattle.sfm_assign.proofs.search.Search.handle.Given as goal
 
 abbrev pub invariant-loop-at : goal.invariant-loop-at
 invariant-loop-at l = record {

@@ -4,7 +4,7 @@ use Rattle.sfm_assign.specs.Splits.{amount_at}
 use Rattle.sfm_assign.specs.Cells.{label_at}
 use Rattle.sfm_assign.specs.Search.{node_at, IsProgress, IsFurther}
 use Rattle.sfm_assign.proofs.Linking.{IsPassed, ahead}
-use Rattle.sfm_assign.proofs.search.Progress.sweep.Given as goal
+use Rattle.sfm_assign.proofs.search.Search.sweep.Given as goal
 
 abbrev pub invariant-loop-at : goal.invariant-loop-at
 invariant-loop-at l = record {

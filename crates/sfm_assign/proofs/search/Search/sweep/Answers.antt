@@ -6,7 +6,7 @@ use Rattle.sfm_assign.specs.Search.{node_at}
 use Rattle.sfm_assign.specs.declared.nodes.Node.{Node}
 use Rattle.sfm_assign.proofs.Linking.{pass_here, pass_more, ahead_falls}
 use Rattle.sfm_assign.proofs.Queues.{further_more, out_before}
-use Rattle.sfm_assign.proofs.search.Progress.sweep.Goals as goal
+use Rattle.sfm_assign.proofs.search.Search.sweep.Goals as goal
 
 pub find-requires-clause-own : goal.find-requires-clause-own
 find-requires-clause-own c =

@@ -1,10 +1,10 @@
 -- the demands of the queue so far are handled
 use Rattle.std.proofs.Common.{length, ◌-◌}
 use Rattle.sfm_assign.proofs.Queues.{IsSearchedTo}
-use Rattle.sfm_assign.proofs.search.search.Given as goal
+use Rattle.sfm_assign.proofs.search.Search.run.Given as goal
 
 abbrev pub invariant-loop-next : goal.invariant-loop-next
-invariant-loop-next l = IsSearchedTo l.cells.whos.items l.cells.slots.items l.y l.lacks l.rooms l.at.nodes.items l.at.marks.items l.at.queue.items l.next
+invariant-loop-next l = IsSearchedTo l.cells.whos.items l.cells.slots.items l.y l.lacks l.rooms l.self.nodes.items l.self.marks.items l.self.queue.items l.next
 
 abbrev pub decreases-loop-next : goal.decreases-loop-next
 decreases-loop-next l = length l.lacks - l.next
