@@ -6,7 +6,7 @@ use Rattle.std.proofs.lemmas.List.{length-map, length-replicate}
 use Rattle.std.specs.Int.Signed.{lt_z}
 use Rattle.sfm_spec.specs.Sets.{Has, whole_set}
 use Rattle.sfm_spec.proofs.Sets.{Has-whole}
-use Rattle.sfm_concave.specs.Thresholds.{above, above_with, above_between, IsSplit}
+use Rattle.sfm_concave.specs.Thresholds.{above, above_with, above_between, Separates}
 
 pub length-above : (bar : ℤ) (x : List ℤ) → length (above bar x) ≡ length x
 length-above bar x = length-map x (λ a. lt_z bar a)
@@ -101,7 +101,7 @@ between_parts bar x u v e lt h = ⊎_elim
 pub out_between : (bar : ℤ) (x : List ℤ) (u v e : ℕ) → e ≢ v → get_or (above_between bar x u v) e false ≡ false → get_or (above_with bar x u) e false ≡ false
 out_between bar x u v e ne h = sym (get_or-set_other (above_with bar x u) v e false false ne) ∙ h
 
-pub between_split : (bar : ℤ) (x : List ℤ) (u v : ℕ) → u < length x → v < length x → u ≢ v → IsSplit x u v (above_between bar x u v)
+pub between_split : (bar : ℤ) (x : List ℤ) (u v : ℕ) → u < length x → v < length x → u ≢ v → Separates x u v (above_between bar x u v)
 between_split bar x u v ku kv ne = record {
   places = length-set (above_with bar x u) v false ∙ length-above_with bar x u;
   first_in = get_or-set_other (above_with bar x u) v u false false ne ∙ has_with bar x u ku;
@@ -109,14 +109,14 @@ between_split bar x u v ku kv ne = record {
 }
 
 -- the places with more than a number and u have no place other than u with at most that number
-pub with_split : (bar : ℤ) (x : List ℤ) (u v : ℕ) → u < length x → v < length x → v ≢ u → get_or x v (pos 0) ≤ℤ bar → IsSplit x u v (above_with bar x u)
+pub with_split : (bar : ℤ) (x : List ℤ) (u v : ℕ) → u < length x → v < length x → v ≢ u → get_or x v (pos 0) ≤ℤ bar → Separates x u v (above_with bar x u)
 with_split bar x u v ku kv ne less = record {
   places = length-above_with bar x u;
   first_in = has_with bar x u ku;
   second_out = get_or-set_other (above bar x) u v true false ne ∙ is_not_above bar x v kv less;
 }
 
-pub without_split : (x : List ℤ) (u v : ℕ) → u < length x → v < length x → u ≢ v → IsSplit x u v (set (whole_set (length x)) v false)
+pub without_split : (x : List ℤ) (u v : ℕ) → u < length x → v < length x → u ≢ v → Separates x u v (set (whole_set (length x)) v false)
 without_split x u v ku kv ne = record {
   places = length-set (whole_set (length x)) v false ∙ length-replicate (length x) true;
   first_in = get_or-set_other (whole_set (length x)) v u false false ne ∙ Has-whole (length x) u ku;

@@ -12,7 +12,7 @@ use Rattle.sfm_spec.proofs.Sizes.{size_below_length, size-whole}
 use Rattle.sfm_spec.proofs.Lattice.{NoneOf, LeastOf, least_set}
 use Rattle.sfm_law.proofs.Monotone.{without}
 use Rattle.sfm_concave.specs.Counts.{IsFalling, size-in, size-out, sum_over-in, sum_over-out}
-use Rattle.sfm_concave.specs.Thresholds.{above, above_with, above_between, slack, IsSplit, Blocks}
+use Rattle.sfm_concave.specs.Thresholds.{above, above_with, above_between, slack, Separates, Blocks}
 use Rattle.sfm_concave.proofs.Above.{length-above, length-above_with, above_less, above_more, has_place, with_parts, out_with, between_parts, out_between, between_split, IsGreatestAt, greatest_at}
 
 -- each of the first m counts adds at least t
@@ -153,7 +153,7 @@ module _ (h : ℕ → ℤ) (x : List ℤ) (falling : IsFalling (length x) h) whe
 
   -- all such sets leave at least a, if all places but v do, and u with what is above each entry
   pub least_split : (u v : ℕ) (a : ℤ) → u < length x → v < length x → u ≢ v → a ≤ℤ slack h x (without (length x) v)
-      → ((w : ℕ) → w < length x → a ≤ℤ slack h x (above_between (get_or x w (pos 0)) x u v)) → (s : List Bool) → IsSplit x u v s → a ≤ℤ slack h x s
+      → ((w : ℕ) → w < length x → a ≤ℤ slack h x (above_between (get_or x w (pos 0)) x u v)) → (s : List Bool) → Separates x u v s → a ≤ℤ slack h x s
   least_split u v a ku kv ne rest holds s split = at (least_set (length x) (splits u v) (slack h x)) where
     all_in : (m : List Bool) → length m ≡ length x → Has m u → get_or m v false ≡ false → ((e : ℕ) → e < length x → free v m e ≡ false) → a ≤ℤ slack h x m
     all_in m km hu nv none =
@@ -216,7 +216,7 @@ module _ (h : ℕ → ℤ) (x : List ℤ) (falling : IsFalling (length x) h) whe
   -- ---- a set with u and not v that leaves nothing
 
   pub blocked : (u v : ℕ) → u < length x → v < length x → ((s : List Bool) → length s ≡ length x → pos 0 ≤ℤ slack h x s)
-      → (s : List Bool) → IsSplit x u v s → slack h x s ≤ℤ pos 0 → (w : ℕ) × Blocks h x u w × (get_or x v (pos 0) ≤ℤ get_or x w (pos 0))
+      → (s : List Bool) → Separates x u v s → slack h x s ≤ℤ pos 0 → (w : ℕ) × Blocks h x u w × (get_or x v (pos 0) ≤ℤ get_or x w (pos 0))
   unfolding outside
   blocked u v ku kv low s split tight = ⊎_elim found (λ none. absurd (both_ways (outside s v) (none v kv) (ap not split.second_out))) (greatest_at x (outside s)) where
     found : (w : ℕ) × IsGreatestAt x (outside s) w → (w : ℕ) × Blocks h x u w × (get_or x v (pos 0) ≤ℤ get_or x w (pos 0))

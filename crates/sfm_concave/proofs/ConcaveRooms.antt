@@ -9,7 +9,7 @@ use Rattle.sfm_spec.proofs.Exchange.{base_moved, leaves_room}
 use Rattle.sfm_law.specs.Room.{IsReach}
 use Rattle.sfm_concave.specs.Counts.{IsFalling, falling-times}
 use Rattle.sfm_concave.specs.ConcaveLaws.{scaled, number_of, NeverRises, falling}
-use Rattle.sfm_concave.specs.Thresholds.{above, above_with, above_between, slack, IsSplit, IsLeastSlack, Blocks, IsOver, IsBar}
+use Rattle.sfm_concave.specs.Thresholds.{above, above_with, above_between, slack, Separates, IsLeastSlack, Blocks, IsOver, IsBar}
 use Rattle.sfm_concave.proofs.Above.{with_split}
 use Rattle.sfm_concave.proofs.Bases.{none_short, least_split, blocked}
 
@@ -44,19 +44,19 @@ module _ (q : ℤ) (g x : List ℤ) (low : pos 1 ≤ℤ q) (sized : length g ≡
   -- ---- the room
 
   pub concave_least : (u v : ℕ) (a : ℤ) → u < length x → v < length x → u ≢ v → a ≤ℤ slack (scaled q g) x (set (whole_set (length x)) v false)
-      → ((w : ℕ) → w < length x → a ≤ℤ slack (scaled q g) x (above_between (get_or x w (pos 0)) x u v)) → (s : List Bool) × IsSplit x u v s × (a ≡ slack (scaled q g) x s) → IsLeastSlack (scaled q g) x u v a
+      → ((w : ℕ) → w < length x → a ≤ℤ slack (scaled q g) x (above_between (get_or x w (pos 0)) x u v)) → (s : List Bool) × Separates x u v s × (a ≡ slack (scaled q g) x s) → IsLeastSlack (scaled q g) x u v a
   concave_least u v a ku kv ne rest holds reached = record { least = least_split (scaled q g) x (scaled-falling q g x low sized never) u v a ku kv ne rest holds; reached = reached }
 
   module _ (base : IsBase (times q (concave_value g)) x) (u v : ℕ) (ku : u < length x) (kv : v < length x) (ne : u ≢ v) where
     -- what every set with u and not v leaves can be exchanged
-    moved : (a : ℤ) → pos 0 ≤ℤ a → ((s : List Bool) → IsSplit x u v s → a ≤ℤ slack (scaled q g) x s) → IsBase (times q (concave_value g)) (exchanged x u v a)
+    moved : (a : ℤ) → pos 0 ≤ℤ a → ((s : List Bool) → Separates x u v s → a ≤ℤ slack (scaled q g) x s) → IsBase (times q (concave_value g)) (exchanged x u v a)
     moved a some leaves = base_moved base ku kv ne a some (λ s c same e hu nv.
         let f : scaled q g (size s) ≡ c = cc in
         let l = leaves s (record { places = same; first_in = hu; second_out = nv }) in
         omega (arith, ints, f, l))
 
     -- and no more
-    left : (a : ℤ) → IsBase (times q (concave_value g)) (exchanged x u v a) → (s : List Bool) → IsSplit x u v s → a ≤ℤ slack (scaled q g) x s
+    left : (a : ℤ) → IsBase (times q (concave_value g)) (exchanged x u v a) → (s : List Bool) → Separates x u v s → a ≤ℤ slack (scaled q g) x s
     left a moved s split = let l = leaves_room base ku kv ne a moved s (scaled q g (size s)) split.places refl split.first_in split.second_out in omega (arith, ints, l)
 
     pub concave-capacity : (a : ℤ) → IsLeastSlack (scaled q g) x u v a → IsCapacity (times q (concave_value g)) x u v a

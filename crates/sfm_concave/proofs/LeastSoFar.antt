@@ -4,14 +4,14 @@ use Rattle.std.specs.Int.{int_min}
 use Rattle.std.proofs.lemmas.Bool.{cases_lt}
 use Rattle.std.proofs.lemmas.Int.{ints, clamps, by_lt_z}
 use Rattle.sfm_spec.specs.Sets.{whole_set}
-use Rattle.sfm_concave.specs.Thresholds.{above_between, slack, IsSplit}
+use Rattle.sfm_concave.specs.Thresholds.{above_between, slack, Separates}
 use Rattle.sfm_concave.proofs.Above.{between_split}
 
 -- what all places but v leave, and what is left above each of the first n entries, with u and without v: at least a, which some such part leaves
 pub record IsLeastSoFar (h : ℕ → ℤ) (x : List ℤ) (u v n : ℕ) (a : ℤ) : Type 0 where
   pub rest : a ≤ℤ slack h x (set (whole_set (length x)) v false)
   pub least : (w : ℕ) → w < n → a ≤ℤ slack h x (above_between (get_or x w (pos 0)) x u v)
-  pub reached : (s : List Bool) × IsSplit x u v s × (a ≡ slack h x s)
+  pub reached : (s : List Bool) × Separates x u v s × (a ≡ slack h x s)
 
 one_of : (r a b : ℤ) → r ≡ int_min a b → (r ≡ a) ⊎ (r ≡ b)
 one_of r a b e = by_lt_z a b (λ less. inl (omega (arith, ints, clamps, e, less))) (λ more. inr (omega (arith, ints, clamps, e, more)))

@@ -21,15 +21,15 @@ abbrev pub slack : (ℕ → ℤ) → List ℤ → List Bool → ℤ
 slack h x s = h (size s) -ℤ sum_over s x
 
 -- a set with u and not v
-pub record IsSplit (x : List ℤ) (u v : ℕ) (s : List Bool) : Type 0 where
+pub record Separates (x : List ℤ) (u v : ℕ) (s : List Bool) : Type 0 where
   pub places : length s ≡ length x
   pub first_in : Has s u
   pub second_out : slice_index_or s v false ≡ false
 
 -- a is the least that a set with u and not v leaves
 pub record IsLeastSlack (h : ℕ → ℤ) (x : List ℤ) (u v : ℕ) (a : ℤ) : Type 0 where
-  pub least : (s : List Bool) → IsSplit x u v s → a ≤ℤ slack h x s
-  pub reached : (s : List Bool) × IsSplit x u v s × (a ≡ slack h x s)
+  pub least : (s : List Bool) → Separates x u v s → a ≤ℤ slack h x s
+  pub reached : (s : List Bool) × Separates x u v s × (a ≡ slack h x s)
 
 -- u and the places with more than w, which has no more than u, get all of their number
 pub record Blocks (h : ℕ → ℤ) (x : List ℤ) (u w : ℕ) : Type 0 where
