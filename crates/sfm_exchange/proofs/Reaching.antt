@@ -8,7 +8,7 @@ use Rattle.sfm_spec.specs.Walks.{term_at, row_at, IsStep}
 use Rattle.sfm_law.specs.Room.{IsReach}
 use Rattle.sfm_exchange.specs.declared.bits.Bits.{Bits}
 use Rattle.sfm_exchange.specs.Bits.{bit_in, set_at, blank_bits, HasPlaces}
-use Rattle.sfm_exchange.specs.Reach.{IsReachTable, IsRow, IsTable}
+use Rattle.sfm_exchange.specs.Reach.{IsReachTable, IsRow, AreRowsOf, IsTable}
 
 -- the row of a place is the ground places of its reach
 pub row_of : (places : List ℕ) (f : SetFunction) (x : List ℤ) (u : ℕ) (row : Bits) (part : List Bool) → length x ≡ length places → IsReach f x u part → HasPlaces places part (length places) row → IsRow places f x u row
@@ -26,6 +26,17 @@ table_more places f x k table row h inside is u e l = at (cases_eq u k) where
   at : (u ≡ k) ⊎ (u ≢ k) → Goal (set_at (set table k row) u) u
   at (inl same) = rw (same, get_or-set_same table k row blank_bits inside) (is e)
   at (inr ne) = rw (get_or-set_other table k u row blank_bits ne) (h u e (omega (arith, l, ne)))
+
+-- the row of one more place
+pub rows_more : (places : List ℕ) (f : SetFunction) (x : List ℤ) (k : ℕ) (asked more : Bits) (table : List Bits) (row : Bits) → AreRowsOf places f x asked table → k < length table → IsRow places f x k row
+    → ((v : ℕ) → v ≢ k → bit_in more v ≡ bit_in asked v) → AreRowsOf places f x more (set table k row)
+rows_more places f x k asked more table row h inside is others u one e = at (cases_eq u k) where
+  Goal : Bits → ℕ → Type 0
+  Goal s u = (bit_in s e ≡ 1) ↔ ((v : ℕ) × (v < length places) × (v ≢ u) × HasRoom f x u v × (get_or places v 0 ≡ e))
+
+  at : (u ≡ k) ⊎ (u ≢ k) → Goal (set_at (set table k row) u) u
+  at (inl same) = rw (same, get_or-set_same table k row blank_bits inside) (is e)
+  at (inr ne) = rw (get_or-set_other table k u row blank_bits ne) (h u (sym (others u ne) ∙ one) e)
 
 -- the rows of a term tell its steps
 pub table_steps : (terms : List Meaning) (q : ℤ) (rows : List (List ℤ)) (i : ℕ) (table : List Bits) → i < length terms → AreDistinct (term_at terms i).places

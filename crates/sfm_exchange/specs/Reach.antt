@@ -15,6 +15,10 @@ IsReachTable places f x k table = (u e : ℕ) → u < k
 abbrev pub IsRow : List ℕ → SetFunction → List ℤ → ℕ → Bits → Type 0
 IsRow places f x u row = (e : ℕ) → (bit_in row e ≡ 1) ↔ ((v : ℕ) × (v < length places) × (v ≢ u) × HasRoom f x u v × (slice_index_or places v 0 ≡ e))
 
+-- the rows of the places of a set are those of the base
+abbrev pub AreRowsOf : List ℕ → SetFunction → List ℤ → Bits → List Bits → Type 0
+AreRowsOf places f x asked table = (u : ℕ) → bit_in asked u ≡ 1 → IsRow places f x u (set_at table u)
+
 abbrev pub table_at : List (List Bits) → ℕ → List Bits
 table_at tables i = slice_index_or tables i []
 

@@ -1,12 +1,12 @@
 // What each place of each term reaches at its base, kept as sets of ground places: one row for each place of the term.
 // Only the terms whose base has changed are asked again.
-ghost use Rattle.std.specs.Prelude.{◌≡◌, ◌<◌, List, length, map, IfOk, OnOk, slice_set};
+ghost use Rattle.std.specs.Prelude.{◌≡◌, ℕ, ◌<◌, List, length, map, IfOk, OnOk, slice_set};
 ghost use Rattle.sfm_spec.specs.Sets.{IsPlaced};
 ghost use Rattle.sfm_spec.specs.Rows.{Depends};
 ghost use Rattle.sfm_spec.specs.Terms.{times};
 ghost use Rattle.sfm_exchange.specs.Based.{AreBased, IsBased};
-ghost use Rattle.sfm_exchange.specs.Bits.{HasPlaces};
-ghost use Rattle.sfm_exchange.specs.Reach.{IsReachTable, IsRow, AreNotes, AreSized};
+ghost use Rattle.sfm_exchange.specs.Bits.{HasPlaces, bit_in};
+ghost use Rattle.sfm_exchange.specs.Reach.{IsReachTable, IsRow, AreRowsOf, AreNotes, AreSized};
 
 use crate::bits::{Bits, no_bits};
 use sfm_base::{Memory, Rows, Set};
@@ -126,6 +126,62 @@ pub fn row_with<T: Term>(
     Ok(placed_bits(at.term.elements(), &rows.part))
 }
 
+// Asks for the row of the place u, if there is such a place and its row was not asked for.
+fn ask_row<T: Term>(
+    alloc: Global,
+    at: &Based<'_, T>,
+    note: &mut T::Note,
+    u: usize,
+    asked: &mut Bits,
+    rows: &mut BitRows,
+) -> Result<(), Memory>
+    requires based { IsBased T.places T.value_of T.size_of at.now.term.now at.now.q at.now.x.now }
+    requires noted { T.fits at.now.term.now note.old at.now.q at.now.x.now }
+    requires rows { length rows.old ≡ length at.now.x.now }
+    requires known { AreRowsOf (T.places at.now.term.now) (times at.now.q (T.value_of at.now.term.now)) at.now.x.now asked.old rows.old }
+    ensures rows { length rows.new ≡ length rows.old }
+    ensures known { OnOk result (AreRowsOf (T.places at.now.term.now) (times at.now.q (T.value_of at.now.term.now)) at.now.x.now asked.new rows.new) }
+    ensures kept { (v : ℕ) → bit_in asked.old v ≡ 1 → bit_in asked.new v ≡ 1 }
+    ensures told { OnOk result (u < length at.now.x.now → bit_in asked.new u ≡ 1) }
+    ensures noted { OnOk result (T.fits at.now.term.now note.new at.now.q at.now.x.now) }
+{
+    if u >= at.x.len() {
+        return Ok(());
+    }
+    if asked.contains(u) {
+        return Ok(());
+    }
+    let row = row_by(alloc, at, note, u, rows)?;
+    rows.set(u, row);
+    asked.insert(u);
+    Ok(())
+}
+
+// Asks for the rows of the places that the term names first.
+fn ask_first<T: Term>(
+    alloc: Global,
+    at: &Based<'_, T>,
+    note: &mut T::Note,
+    asked: &mut Bits,
+    rows: &mut BitRows,
+) -> Result<(), Memory>
+    requires based { IsBased T.places T.value_of T.size_of at.now.term.now at.now.q at.now.x.now }
+    requires noted { T.fits at.now.term.now note.old at.now.q at.now.x.now }
+    requires rows { length rows.old ≡ length at.now.x.now }
+    requires known { AreRowsOf (T.places at.now.term.now) (times at.now.q (T.value_of at.now.term.now)) at.now.x.now asked.old rows.old }
+    ensures rows { length rows.new ≡ length rows.old }
+    ensures known { OnOk result (AreRowsOf (T.places at.now.term.now) (times at.now.q (T.value_of at.now.term.now)) at.now.x.now asked.new rows.new) }
+    ensures noted { OnOk result (T.fits at.now.term.now note.new at.now.q at.now.x.now) }
+{
+    let Some(order) = at.term.order() else {
+        return Ok(());
+    };
+    for u in order {
+        ask_row(alloc, at, note, *u, asked, rows)?;
+    }
+    Ok(())
+}
+
 /// Asks for each row of a term at its base, by a note that fits it, which fits it still. After want of memory nothing is
 /// said of the note.
 pub fn ask<T: Term>(
@@ -141,9 +197,10 @@ pub fn ask<T: Term>(
     ensures asked { OnOk result (IsReachTable (T.places at.now.term.now) (times at.now.q (T.value_of at.now.term.now)) at.now.x.now (length (T.places at.now.term.now)) rows.new) }
     ensures noted { OnOk result (T.fits at.now.term.now note.new at.now.q at.now.x.now) }
 {
+    let mut asked = no_bits();
+    ask_first(alloc, at, note, &mut asked, rows)?;
     for u in 0..at.x.len() {
-        let row = row_by(alloc, at, note, u, rows)?;
-        rows.set(u, row);
+        ask_row(alloc, at, note, u, &mut asked, rows)?;
     }
     Ok(())
 }

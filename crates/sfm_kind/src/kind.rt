@@ -112,6 +112,13 @@ impl Term for Kind {
         }
     }
 
+    fn order(&self) -> Option<&[usize]> {
+        match self {
+            Kind::Graphic(term) => term.order(),
+            _ => None,
+        }
+    }
+
     fn size(&self) -> i128 {
         match self {
             Kind::Weight(term) => term.size(),

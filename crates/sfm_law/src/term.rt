@@ -44,6 +44,11 @@ pub trait Term {
     fn elements(&self) -> &[usize]
         ensures { result.now ≡ places self.now };
 
+    /// Places in an order in which their rows are found sooner, one after another. Nothing hangs on it.
+    fn order(&self) -> Option<&[usize]> {
+        None
+    }
+
     /// A bound on the magnitude of each value.
     fn size(&self) -> i128
         ensures { result ≡ size_of self.now };

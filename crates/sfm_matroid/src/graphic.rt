@@ -23,6 +23,7 @@ ghost use Rattle.sfm_matroid.specs.GraphicLaws.{graphic-family, graphic-submodul
 use crate::ends::Ends;
 use crate::givers::row;
 use crate::growing::{grow, whole};
+use crate::order::by_tails;
 use crate::room::{beside, moved, raise, without};
 use crate::rooted::{RootSplit, Spare, root_split, take_kept};
 use crate::testing::{brought, numbered, passes_tails};
@@ -42,6 +43,8 @@ pub struct Graphic {
     pub basis: Set,
     /// The ends by their numbers: the tests that tell bases go over these.
     numbers: Vec<(usize, usize)>,
+    /// The edges by their tails: one move of a root serves those with one tail.
+    order: Vec<usize>,
     pub ghost elements: { AreElements places },
     pub ghost few: { length places ≤ 256 },
     pub ghost low: { pos 0 ≤ℤ w },
@@ -75,6 +78,7 @@ impl Graphic {
         let all = whole(alloc, ends.len())?;
         let basis = grow(alloc, ends, &all)?;
         let numbers = numbered(alloc, ends)?;
+        let order = by_tails(alloc, &numbers)?;
         let ends = Ends::from_slice(alloc, ends)?;
         Ok(Graphic {
             places,
@@ -82,6 +86,7 @@ impl Graphic {
             ends,
             basis,
             numbers,
+            order,
         })
     }
 
@@ -540,6 +545,10 @@ impl Term for Graphic {
 
     fn elements(&self) -> &[usize] {
         self.places.as_slice()
+    }
+
+    fn order(&self) -> Option<&[usize]> {
+        Some(self.order.as_slice())
     }
 
     fn size(&self) -> i128 {

@@ -8,6 +8,7 @@ mod givers;
 pub mod graphic;
 mod growing;
 mod matching;
+mod order;
 mod room;
 pub mod rooted;
 mod slot_room;
