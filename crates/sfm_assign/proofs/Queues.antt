@@ -1,12 +1,12 @@
 -- A search by a queue: what stays true when one more demand is found, when a slot is marked, and when a demand is handled.
-use Rattle.std.proofs.Common.{◌≡◌, ℕ, zero, suc, ◌+◌, ◌<◌, ◌≤◌, Bool, true, false, List, [], ◌∷◌, ◌++◌, length, set, drop, replicate, ℤ, pos, ◌≤ℤ◌, Option, Some, None, refl, sym, ap, ◌∙◌, arith, ⊎_elim, length-set, get_or-set_other, get_or-set_same}
+use Rattle.std.proofs.Common.{◌≡◌, ℕ, zero, suc, ◌+◌, ◌<◌, ◌≤◌, Bool, true, false, List, [], ◌∷◌, ◌++◌, length, set, replicate, ℤ, pos, ◌≤ℤ◌, Option, Some, None, refl, sym, ap, ◌∙◌, arith, ⊎_elim, length-set, get_or-set_other, get_or-set_same}
 use Rattle.std.proofs.lemmas.Bool.{cases_eq, cases_lt}
-use Rattle.std.proofs.lemmas.List.{length_push, get_or_push, get_or_append_left, length-replicate, drop_more, drop_all}
+use Rattle.std.proofs.lemmas.List.{length_push, get_or_push, get_or_append_left, length-replicate}
 use Rattle.sfm_spec.specs.Sets.{Has}
 use Rattle.sfm_spec.proofs.Lattice.{none_in_empty}
 use Rattle.sfm_assign.specs.Splits.{amount_at}
 use Rattle.sfm_assign.specs.Cells.{label_at}
-use Rattle.sfm_assign.specs.Search.{node_at, missing, IsFound, IsNode, AreRoots, HasRoots, AreRootsOf, AreQueued, IsProgress, IsFurther, IsEnd, IsSearch}
+use Rattle.sfm_assign.specs.Search.{node_at, missing, IsFound, IsNode, AreRoots, HasRoots, IsRoot, AreRootsOf, AreQueued, IsProgress, IsFurther, IsEnd, IsSearch}
 use Rattle.sfm_assign.specs.declared.nodes.Link.{Link}
 use Rattle.sfm_assign.specs.declared.nodes.Node.{Node}
 use Rattle.sfm_assign.proofs.Searches.{node_kept, missing-set, search_begun, none_marked, some_apart}
@@ -23,59 +23,129 @@ no_link b l is none = apart (sym none ∙ is) where
   apart : None ≡ Some l → ⊥
   apart h = cc
 
--- ---- the first queue
-
-pub record AreQueuedTo (nodes : List (Option Node)) (queue : List ℕ) (i : ℕ) : Type 0 where
-  pub queued : (j : ℕ) → j < i → IsFound nodes j → (k : ℕ) × (k < length queue) × (label_at queue k ≡ j)
-  pub members : (k : ℕ) → k < length queue → IsFound nodes (label_at queue k)
-  pub counted : length queue + missing nodes ≡ i + missing (drop i nodes)
-
-pub queued_none : (nodes : List (Option Node)) → AreQueuedTo nodes [] 0
-queued_none nodes = record { queued = λ j lt. absurd (omega (arith, lt)); members = λ k lt. absurd (omega (arith, lt)); counted = omega arith }
-
-pub queued_put : (nodes : List (Option Node)) (queue : List ℕ) (i : ℕ) → i < length nodes → IsFound nodes i → AreQueuedTo nodes queue i → AreQueuedTo nodes (queue ++ i ∷ []) (i + 1)
-queued_put nodes queue i lt (b, is) inv = record {
-  queued = λ j less found. ⊎_elim
-      (λ (l : j < i). let (k, lk, q) = inv.queued j l found in (k, (let p = length_push queue i in omega (arith, p, lk)), get_or_append_left queue (i ∷ []) 0 k lk ∙ q))
-      (λ ge. let q : j ≡ i = omega (arith, ge, less) in (length queue, (let p = length_push queue i in omega (arith, p)), get_or_push queue i 0 (length queue) refl ∙ sym q))
-      (cases_lt j i);
-  members = λ k lk. ⊎_elim
-      (λ (l : k < length queue). rw (get_or_append_left queue (i ∷ []) 0 k l) (inv.members k l))
-      (λ ge. let p = length_push queue i in let q : k ≡ length queue = omega (arith, ge, lk, p) in rw (q, get_or_push queue i 0 (length queue) refl) (b, is))
-      (cases_lt k (length queue));
-  counted =
-      (let p = length_push queue i in
-      let c = inv.counted in
-      let d = ap missing (drop_more nodes i None lt) in
-      let m : missing (node_at nodes i ∷ drop (i + 1) nodes) ≡ missing (drop (i + 1) nodes) = rw is refl in
-      omega (arith, p, c, d, m));
-}
-
-pub queued_skip : (nodes : List (Option Node)) (queue : List ℕ) (i : ℕ) → i < length nodes → node_at nodes i ≡ None → AreQueuedTo nodes queue i → AreQueuedTo nodes queue (i + 1)
-queued_skip nodes queue i lt none inv = record {
-  queued = λ j less found. ⊎_elim
-      (λ (l : j < i). inv.queued j l found)
-      (λ ge. let q : j ≡ i = omega (arith, ge, less) in let (b, is) = found in absurd (some_apart (node_at nodes i) none (ap (λ k. node_at nodes k) (sym q) ∙ is)))
-      (cases_lt j i);
-  members = inv.members;
-  counted =
-      (let c = inv.counted in
-      let d = ap missing (drop_more nodes i None lt) in
-      let m : missing (node_at nodes i ∷ drop (i + 1) nodes) ≡ suc (missing (drop (i + 1) nodes)) = rw none refl in
-      omega (arith, c, d, m));
-}
+-- ---- what a queue tells
 
 in_nodes : (nodes : List (Option Node)) (i : ℕ) (b : Node) → node_at nodes i ≡ Some b → i < length nodes
 in_nodes [] i b is = cc
 in_nodes (o ∷ nodes) zero b is = omega arith
 in_nodes (o ∷ nodes) (suc i) b is = let r = in_nodes nodes i b is in omega (arith, r)
 
-pub queued_whole : (nodes : List (Option Node)) (queue : List ℕ) (i : ℕ) → i ≡ length nodes → AreQueuedTo nodes queue i → AreQueued nodes queue
-queued_whole nodes queue i whole inv = record {
-  queued = λ j found. let (b, is) = found in let l = in_nodes nodes j b is in inv.queued j (omega (arith, l, whole)) found;
-  members = inv.members;
-  counted = (let c = inv.counted in let d = ap missing (drop_all i nodes (omega (arith, whole))) in omega (arith, c, d, whole));
+pub member_in : (nodes : List (Option Node)) (queue : List ℕ) (k : ℕ) → AreQueued nodes queue → k < length queue → label_at queue k < length nodes
+member_in nodes queue k q lt = let (b, is) = q.members k lt in in_nodes nodes (label_at queue k) b is
+
+missing_all : (nodes : List (Option Node)) → ((i : ℕ) → node_at nodes i ≡ None) → missing nodes ≡ length nodes
+missing_all [] none = refl
+missing_all (None ∷ nodes) none = let r = missing_all nodes (λ i. none (suc i)) in omega (arith, r)
+missing_all (Some b ∷ nodes) none = absurd (some_apart (Some b) (none 0) refl)
+
+-- where no demand was found, the queue is empty
+pub queued_empty : (nodes : List (Option Node)) → ((i : ℕ) → node_at nodes i ≡ None) → AreQueued nodes []
+queued_empty nodes none = record {
+  queued = λ i found. let (b, is) = found in absurd (some_apart (node_at nodes i) (none i) is);
+  members = λ k lt. absurd (omega (arith, lt));
+  counted = (let m = missing_all nodes none in omega (arith, m));
 }
+
+pub none_found : (n i : ℕ) → node_at (replicate n None) i ≡ None
+none_found zero i = refl
+none_found (suc n) zero = refl
+none_found (suc n) (suc i) = none_found n i
+
+-- one more demand was found, and stands at the end
+pub queued_more : (nodes : List (Option Node)) (queue : List ℕ) (i : ℕ) (b : Node) → i < length nodes → node_at nodes i ≡ None → AreQueued nodes queue → AreQueued (set nodes i (Some b)) (queue ++ i ∷ [])
+queued_more nodes queue i b lt out q = record {
+  queued = λ j found.
+      let (d, is) = found in
+      let p = length_push queue i in
+      ⊎_elim
+      (λ (e : j ≡ i). (length queue, omega (arith, p), get_or_push queue i 0 (length queue) refl ∙ sym e))
+      (λ ne. let (k, lk, e) = q.queued j (d, sym (get_or-set_other nodes i j (Some b) None ne) ∙ is) in (k, omega (arith, p, lk), get_or_append_left queue (i ∷ []) 0 k lk ∙ e))
+      (cases_eq j i);
+  members = λ k lk. ⊎_elim
+      (λ (l : k < length queue). rw (get_or_append_left queue (i ∷ []) 0 k l) (let (d, is) = q.members k l in (d, kept (label_at queue k) d is)))
+      (λ ge. let p = length_push queue i in let e : k ≡ length queue = omega (arith, ge, lk, p) in rw (e, get_or_push queue i 0 (length queue) refl) (b, get_or-set_same nodes i (Some b) None lt))
+      (cases_lt k (length queue));
+  counted = (let p = length_push queue i in let m = missing-set nodes i b lt out in let c = q.counted in let l = length-set nodes i (Some b) in omega (arith, p, m, c, l));
+} where
+  kept : (j : ℕ) (d : Node) → node_at nodes j ≡ Some d → node_at (set nodes i (Some b)) j ≡ Some d
+  kept j d is = ⊎_elim
+      (λ (e : j ≡ i). absurd (some_apart (node_at nodes i) out (ap (λ k. node_at nodes k) (sym e) ∙ is)))
+      (λ ne. get_or-set_other nodes i j (Some b) None ne ∙ is)
+      (cases_eq j i)
+
+-- ---- the first demands
+
+-- of the demands that were found, those at the first k places are forgotten
+pub record IsClearedTo (before : List (Option Node)) (queue : List ℕ) (nodes : List (Option Node)) (k : ℕ) : Type 0 where
+  pub places : length nodes ≡ length before
+  pub old : (i : ℕ) (b : Node) → node_at nodes i ≡ Some b → node_at before i ≡ Some b
+  pub gone : (j : ℕ) → j < k → node_at nodes (label_at queue j) ≡ None
+
+pub cleared_none : (nodes : List (Option Node)) (queue : List ℕ) → IsClearedTo nodes queue nodes 0
+cleared_none nodes queue = record { places = refl; old = λ i b is. is; gone = λ j lt. absurd (omega (arith, lt)) }
+
+pub cleared_more : (before : List (Option Node)) (queue : List ℕ) (nodes : List (Option Node)) (k : ℕ) → label_at queue k < length before → IsClearedTo before queue nodes k → IsClearedTo before queue (set nodes (label_at queue k) None) (k + 1)
+cleared_more before queue nodes k below inv = record {
+  places = length-set nodes i None ∙ inv.places;
+  old = λ j b is. ⊎_elim
+      (λ (q : j ≡ i). absurd (some_apart (node_at (set nodes i None) j) (here j q) is))
+      (λ ne. inv.old j b (sym (get_or-set_other nodes i j None None ne) ∙ is))
+      (cases_eq j i);
+  gone = λ j lt. ⊎_elim
+      (λ (q : label_at queue j ≡ i). here (label_at queue j) q)
+      (λ ne. ⊎_elim
+      (λ (l : j < k). get_or-set_other nodes i (label_at queue j) None None ne ∙ inv.gone j l)
+      (λ ge. let q : j ≡ k = omega (arith, ge, lt) in absurd (ne (ap (λ m. label_at queue m) q)))
+      (cases_lt j k))
+      (cases_eq (label_at queue j) i);
+} where
+  i : ℕ
+  i = label_at queue k
+
+  here : (j : ℕ) → j ≡ label_at queue k → node_at (set nodes (label_at queue k) None) j ≡ None
+  here j q = let p = inv.places in ap (λ m. node_at (set nodes (label_at queue k) None) m) q ∙ get_or-set_same nodes (label_at queue k) None None (omega (arith, p, below))
+
+pub cleared_all : (before : List (Option Node)) (queue : List ℕ) (nodes : List (Option Node)) (k : ℕ) → length queue ≤ k → AreQueued before queue → IsClearedTo before queue nodes k → (i : ℕ) → node_at nodes i ≡ None
+cleared_all before queue nodes k past q inv i = split (node_at nodes i)
+    (λ b is. let (j, lj, e) = q.queued i (b, inv.old i b is) in sym (ap (λ m. node_at nodes m) e) ∙ inv.gone j (omega (arith, lj, past)))
+    (λ out. out)
+
+-- of the demands before i, those that lack something were found
+pub record AreRootsTo (lacks : List ℤ) (nodes : List (Option Node)) (queue : List ℕ) (i : ℕ) : Type 0 where
+  pub places : length nodes ≡ length lacks
+  pub each : (j : ℕ) → j < i → IsRoot (amount_at lacks j) (node_at nodes j)
+  pub rest : (j : ℕ) → i ≤ j → node_at nodes j ≡ None
+  pub in_queue : AreQueued nodes queue
+
+pub roots_none : (lacks : List ℤ) (nodes : List (Option Node)) → length nodes ≡ length lacks → ((i : ℕ) → node_at nodes i ≡ None) → AreRootsTo lacks nodes [] 0
+roots_none lacks nodes places none = record { places = places; each = λ j lt. absurd (omega (arith, lt)); rest = λ j le. none j; in_queue = queued_empty nodes none }
+
+pub roots_skip : (lacks : List ℤ) (nodes : List (Option Node)) (queue : List ℕ) (i : ℕ) → amount_at lacks i ≤ℤ pos 0 → AreRootsTo lacks nodes queue i → AreRootsTo lacks nodes queue (i + 1)
+roots_skip lacks nodes queue i full inv = record {
+  places = inv.places;
+  each = λ j lt. ⊎_elim
+      (λ (l : j < i). inv.each j l)
+      (λ ge. let q : j ≡ i = omega (arith, ge, lt) in rw (q, inv.rest i (omega arith)) full)
+      (cases_lt j i);
+  rest = λ j le. inv.rest j (omega (arith, le));
+  in_queue = inv.in_queue;
+}
+
+pub roots_put : (lacks : List ℤ) (nodes : List (Option Node)) (queue : List ℕ) (i : ℕ) (b : Node) → i < length lacks → IsRoot (amount_at lacks i) (Some b) → AreRootsTo lacks nodes queue i → AreRootsTo lacks (set nodes i (Some b)) (queue ++ i ∷ []) (i + 1)
+roots_put lacks nodes queue i b lt root inv = record {
+  places = length-set nodes i (Some b) ∙ inv.places;
+  each = λ j less. ⊎_elim
+      (λ (l : j < i). rw (get_or-set_other nodes i j (Some b) None (λ q. omega (arith, l, q))) (inv.each j l))
+      (λ ge. let q : j ≡ i = omega (arith, ge, less) in rw (q, get_or-set_same nodes i (Some b) None in_range) root)
+      (cases_lt j i);
+  rest = λ j le. get_or-set_other nodes i j (Some b) None (λ q. omega (arith, le, q)) ∙ inv.rest j (omega (arith, le));
+  in_queue = queued_more nodes queue i b in_range (inv.rest i (omega arith)) inv.in_queue;
+} where
+  in_range : i < length nodes
+  in_range = let p = inv.places in omega (arith, p, lt)
+
+pub roots_all : (lacks : List ℤ) (nodes : List (Option Node)) (queue : List ℕ) (i : ℕ) → length lacks ≤ i → AreRootsTo lacks nodes queue i → AreRootsOf lacks nodes
+roots_all lacks nodes queue i past inv = record { places = inv.places; each = λ j lt. inv.each j (omega (arith, lt, past)) }
 
 -- ---- one more demand
 
@@ -135,20 +205,7 @@ module _ (whos slots : List ℕ) (y : List ℤ) (nodes : List (Option Node)) (ma
           (λ (q : j ≡ i). let h = ap (λ (n : Node). n.level) (at_here j d q is) in omega (arith, p, h, level))
           (λ ne. let l = inv.levels j d (before j d ne is) in omega (arith, p, l))
           (cases_eq j i);
-      in_queue = record {
-        queued = λ j found.
-            let (d, is) = found in
-            let p = length_push queue i in
-            ⊎_elim
-            (λ (q : j ≡ i). (length queue, omega (arith, p), get_or_push queue i 0 (length queue) refl ∙ sym q))
-            (λ ne. let (k, lk, q) = inv.in_queue.queued j (d, before j d ne is) in (k, omega (arith, p, lk), get_or_append_left queue (i ∷ []) 0 k lk ∙ q))
-            (cases_eq j i);
-        members = λ k lk. ⊎_elim
-            (λ (l : k < length queue). rw (get_or_append_left queue (i ∷ []) 0 k l) (let (d, is) = inv.in_queue.members k l in (d, kept (label_at queue k) d is)))
-            (λ ge. let p = length_push queue i in let q : k ≡ length queue = omega (arith, ge, lk, p) in rw (q, get_or_push queue i 0 (length queue) refl) (b, here))
-            (cases_lt k (length queue));
-        counted = (let p = length_push queue i in let m = missing-set nodes i b lt out in let c = inv.in_queue.counted in let l = length-set nodes i (Some b) in omega (arith, p, m, c, l));
-      };
+      in_queue = queued_more nodes queue i b lt out inv.in_queue;
       swept = λ s f has lf is none. inv.swept s f has lf is (⊎_elim
           (λ (q : label_at whos f ≡ i). absurd (some_apart (node_at (set nodes i (Some b)) (label_at whos f)) none (ap (λ k. node_at (set nodes i (Some b)) k) q ∙ here)))
           (λ ne. sym (get_or-set_other nodes i (label_at whos f) (Some b) None ne) ∙ none)

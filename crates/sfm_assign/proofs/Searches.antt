@@ -5,7 +5,7 @@ use Rattle.std.proofs.lemmas.Int.{ints}
 use Rattle.std.specs.Bool.{MatchBool}
 use Rattle.sfm_spec.specs.Sets.{Has, empty_set}
 use Rattle.std.proofs.lemmas.Bool.{cases_eq, cases_lt, false≢true}
-use Rattle.std.proofs.lemmas.List.{length_push, get_or_push, get_or_append_left, length-replicate, take_at}
+use Rattle.std.proofs.lemmas.List.{length-replicate, take_at}
 use Rattle.sfm_assign.specs.Splits.{amount_at}
 use Rattle.sfm_assign.specs.Cells.{label_at}
 use Rattle.sfm_assign.specs.Search.{node_at, missing, IsFound, IsNode, AreNodes, AreRoots, HasRoots, IsRoot, AreRootsOf, IsMarkOf, IsStuck}
@@ -48,21 +48,6 @@ AllMarked whos slots nodes marks = (e : ℕ) → e < length whos → IsFound nod
 -- no demand that was not found has anything on a marked slot
 abbrev pub NoneHas : List ℕ → List ℕ → List ℤ → List (Option Node) → List (Option ℕ) → Type 0
 NoneHas whos slots y nodes marks = (e f : ℕ) → e < length whos → node_at nodes (label_at whos e) ≡ None → mark_at marks (label_at slots e) ≡ Some f → amount_at y e ≤ℤ pos 0
-
--- ---- the first nodes
-
-pub record AreRootsTo (lacks : List ℤ) (nodes : List (Option Node)) (k : ℕ) : Type 0 where
-  pub places : length nodes ≡ k
-  pub each : (i : ℕ) → i < k → IsRoot (amount_at lacks i) (node_at nodes i)
-
-pub roots_push : (lacks : List ℤ) (nodes : List (Option Node)) (k : ℕ) (o : Option Node) → IsRoot (amount_at lacks k) o → AreRootsTo lacks nodes k → AreRootsTo lacks (nodes ++ o ∷ []) (k + 1)
-roots_push lacks nodes k o root inv = record {
-  places = (let l = length_push nodes o in let h = inv.places in omega (arith, l, h));
-  each = λ i lt. ⊎_elim
-      (λ (less : i < k). let h = inv.places in let q = get_or_append_left nodes (o ∷ []) None i (omega (arith, less, h)) in rw q (inv.each i less))
-      (λ (ge : k ≤ i). let e : i ≡ k = omega (arith, ge, lt) in rw e (let q = get_or_push nodes o None k inv.places in rw q root))
-      (cases_lt i k);
-}
 
 -- ---- marks
 

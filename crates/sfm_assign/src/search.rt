@@ -14,51 +14,24 @@ use sfm_base::Memory;
 use std::alloc::Global;
 
 /// The memory of a search, which the next one uses again: the node of each demand that was found, whether each slot is marked,
-/// and the demands that were found, in this order.
+/// and the demands that were found, in this order. So the next one has to clear the nodes of these alone.
 #[derive(Drop)]
 pub(crate) struct Search {
     pub nodes: Vec<Option<Node>>,
     pub marks: Vec<bool>,
-    queue: Vec<usize>,
+    pub queue: Vec<usize>,
 }
 
 /// The node of a demand that lacks something.
-fn root(lack: i128) -> Option<Node>
-    ensures { IsRoot lack result }
+fn root(lack: i128) -> Node
+    requires { pos 1 ≤ℤ lack }
+    ensures { IsRoot lack (Some result) }
 {
-    if lack > 0 {
-        Some(Node {
-            flow: lack,
-            level: 0,
-            link: None,
-        })
-    } else {
-        None
+    Node {
+        flow: lack,
+        level: 0,
+        link: None,
     }
-}
-
-/// Writes the nodes of the demands that lack something.
-fn roots(nodes: &mut Vec<Option<Node>>, lacks: &[i128]) -> Result<(), Memory>
-    ensures { OnOk result (AreRootsOf lacks.now nodes.new.items) }
-{
-    nodes.clear();
-    for lack in lacks {
-        nodes.push(root(*lack))?;
-    }
-    Ok(())
-}
-
-/// Writes the demands that were found, in their order.
-fn queued(nodes: &[Option<Node>], queue: &mut Vec<usize>) -> Result<(), Memory>
-    ensures { OnOk result (AreQueued nodes.now queue.new.items) }
-{
-    queue.clear();
-    for i in 0..nodes.len() {
-        if is_found(nodes, i) {
-            queue.push(i)?;
-        }
-    }
-    Ok(())
 }
 
 /// The node of the demand of a cell that has something on a slot, where the slot is marked with another cell.
@@ -84,23 +57,59 @@ fn linked(cells: &Cells, y: &[i128], level: usize, nodes: &[Option<Node>], link:
 impl Search {
     /// Memory for searches among n demands and m slots.
     pub(crate) fn new(alloc: Global, n: usize, m: usize) -> Result<Search, Memory>
-        ensures { IfOk result (λ r. length r.marks.items ≡ m) }
+        ensures nodes { IfOk result (λ r. length r.nodes.items ≡ n) }
+        ensures marks { IfOk result (λ r. length r.marks.items ≡ m) }
+        ensures queued { IfOk result (λ r. AreQueued r.nodes.items r.queue.items) }
     {
         Ok(Search {
-            nodes: Vec::with_capacity(alloc, n)?,
+            nodes: vec![in alloc; None; n]?,
             marks: vec![in alloc; false; m]?,
             queue: Vec::with_capacity(alloc, n)?,
         })
     }
 
+    /// Forgets the demands that were found.
+    fn clear(&mut self)
+        requires queued { AreQueued self.old.nodes.items self.old.queue.items }
+        ensures places { length self.new.nodes.items ≡ length self.old.nodes.items }
+        ensures none { (i : ℕ) → node_at self.new.nodes.items i ≡ None }
+        ensures marks { self.new.marks.items ≡ self.old.marks.items }
+        ensures queue { self.new.queue.items ≡ [] }
+    {
+        for k in 0..self.queue.len() {
+            self.nodes[self.queue[k]] = None;
+        }
+        self.queue.clear();
+    }
+
+    /// Finds the demands that lack something.
+    fn find_roots(&mut self, lacks: &[i128]) -> Result<(), Memory>
+        requires places { length self.old.nodes.items ≡ length lacks.now }
+        requires none { (i : ℕ) → node_at self.old.nodes.items i ≡ None }
+        requires queue { self.old.queue.items ≡ [] }
+        ensures nodes { OnOk result (AreRootsOf lacks.now self.new.nodes.items) }
+        ensures marks { self.new.marks.items ≡ self.old.marks.items }
+        ensures queue { OnOk result (AreQueued self.new.nodes.items self.new.queue.items) }
+    {
+        for i in 0..lacks.len() {
+            if lacks[i] > 0 {
+                self.queue.push(i)?;
+                self.nodes[i] = Some(root(lacks[i]));
+            }
+        }
+        Ok(())
+    }
+
     /// Begins: the demands that lack something were found, and no slot is marked.
     fn begin(&mut self, lacks: &[i128]) -> Result<(), Memory>
+        requires places { length self.old.nodes.items ≡ length lacks.now }
+        requires queued { AreQueued self.old.nodes.items self.old.queue.items }
         ensures nodes { OnOk result (AreRootsOf lacks.now self.new.nodes.items) }
         ensures marks { OnOk result (self.new.marks.items ≡ replicate (length self.old.marks.items) false) }
         ensures queue { OnOk result (AreQueued self.new.nodes.items self.new.queue.items) }
     {
-        roots(&mut self.nodes, lacks)?;
-        queued(&self.nodes, &mut self.queue)?;
+        self.clear();
+        self.find_roots(lacks)?;
         self.marks.fill(false);
         Ok(())
     }
@@ -115,8 +124,11 @@ impl Search {
     ) -> Result<Option<usize>, Memory>
         requires cells { AreCells (length lacks.now) (length rooms.now) cells.now.whos.items cells.now.slots.items }
         requires same { length y.now ≡ length cells.now.whos.items }
+        requires nodes { length self.old.nodes.items ≡ length lacks.now }
         requires places { length self.old.marks.items ≡ length rooms.now }
+        requires queued { AreQueued self.old.nodes.items self.old.queue.items }
         ensures places { OnOk result (length self.new.marks.items ≡ length rooms.now) }
+        ensures queued { OnOk result (AreQueued self.new.nodes.items self.new.queue.items) }
         ensures search { IfOk result (IsSearch cells.now.whos.items cells.now.slots.items y.now lacks.now rooms.now self.new.nodes.items) }
     {
         self.begin(lacks)?;

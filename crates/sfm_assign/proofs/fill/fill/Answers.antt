@@ -44,7 +44,9 @@ loop-search-preserved c =
     let (a, some, fits, r, ql, qr) = c.raise.ensures in
     record {
       pouring = rw (ql, qr) (moved_pouring d caps whos slots c.args.y.now c.loop-search.y left.lacks.items left.rooms.items c.run.new.self.nodes.items c.in-Some.last a c.raise.new.y c.requires.cells p s some fits r);
+      nodes = s.places ∙ p.lacks_are.places;
       marks = c.in_ok-last.ensures.places ∙ (ap length c.deref-in-loop-search.ensures.value ∙ p.rooms_are.places);
+      queued = c.in_ok-last.ensures.queued;
     }
 
 pub returns-clause-filled : goal.returns-clause-filled
