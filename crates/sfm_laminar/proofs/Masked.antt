@@ -1,12 +1,12 @@
 -- What a set and a list of numbers have at the places of a group.
-use Rattle.std.proofs.Common.{◌≡◌, ℕ, zero, suc, ◌+◌, ◌<◌, Bool, true, false, List, [], ◌∷◌, length, get_or, set, ℤ, pos, ◌+ℤ◌, if◌then◌else◌, sym, ◌∙◌, arith}
+use Rattle.std.proofs.Common.{◌≡◌, ℕ, zero, suc, ◌<◌, Bool, true, false, List, [], ◌∷◌, length, get_or, set, ℤ, pos, ◌+ℤ◌, if◌then◌else◌, sym, ◌∙◌, arith}
 use Rattle.std.specs.List.{All}
 use Rattle.std.proofs.lemmas.Int.{ints}
 use Rattle.std.proofs.lemmas.List.Elements.{All-head, All-tail}
 use Rattle.sfm_spec.specs.Sets.{size, sum_over}
 use Rattle.sfm_spec.proofs.Sizes.{size-empty, weight-empty}
 use Rattle.sfm_laminar.specs.Groups.{IsAscending}
-use Rattle.sfm_laminar.specs.Masks.{mask, length-mask, size-put, size-in, sum_listed, fresh, ascending-tail}
+use Rattle.sfm_laminar.specs.Masks.{mask, length-mask, size-in, sum_listed, fresh, ascending-tail}
 
 sum_over-put : (s : List Bool) (e : ℕ) (b : Bool) (x : List ℤ) → e < length s → length s ≡ length x
     → (sum_over (set s e b) x +ℤ (if get_or s e false then get_or x e (pos 0) else pos 0)) ≡ (sum_over s x +ℤ (if b then get_or x e (pos 0) else pos 0))

@@ -1,5 +1,5 @@
 -- What is kept beside a base: the members of groups as sets, what each group lacks, and the places that have something.
-use Rattle.std.proofs.Common.{◌≡◌, ◌≢◌, ◌↔◌, ℕ, zero, suc, ◌+◌, ◌<◌, ◌≤◌, ◌^◌, Bool, true, false, List, [], ◌∷◌, ◌++◌, length, get_or, set, ℤ, pos, ◌+ℤ◌, ◌-ℤ◌, ◌*ℤ◌, ◌≤ℤ◌, ◌<ℤ◌, if◌then◌else◌, refl, sym, ap, ◌∙◌, arith, inl, inr, ⊎_elim, length-set, get_or-set_same, get_or-set_other}
+use Rattle.std.proofs.Common.{◌≡◌, ◌≢◌, ◌↔◌, ℕ, zero, suc, ◌+◌, ◌<◌, ◌≤◌, ◌^◌, Bool, true, false, List, [], ◌∷◌, ◌++◌, length, get_or, set, ℤ, pos, ◌+ℤ◌, ◌-ℤ◌, ◌*ℤ◌, ◌≤ℤ◌, if◌then◌else◌, sym, ap, ◌∙◌, arith, ⊎_elim, length-set, get_or-set_same, get_or-set_other}
 use Rattle.std.specs.List.{All, Contains}
 use Rattle.std.specs.Int.{int_min}
 use Rattle.std.proofs.lemmas.Bool.{false≢true, cases_lt, cases_eq}
@@ -15,11 +15,11 @@ use Rattle.sfm_spec.proofs.Sets.{same_sets, in_union, union_right}
 use Rattle.sfm_spec.proofs.Sums.{length-union, length-exchanged, sum_over-exchanged}
 use Rattle.sfm_spec.proofs.MoveOrder.{exchanged-first, exchanged-second, exchanged-other}
 use Rattle.sfm_law.proofs.Monotone.{AreCounts}
-use Rattle.sfm_laminar.specs.Groups.{AreGroups, IsBelow}
+use Rattle.sfm_laminar.specs.Groups.{AreGroups}
 use Rattle.sfm_laminar.specs.Crossing.{no_group, group_at}
 use Rattle.sfm_laminar.specs.Masks.{mask, length-mask, sum_listed}
 use Rattle.sfm_laminar.specs.Ranks.{contains-mask, mask-contains}
-use Rattle.sfm_laminar.specs.Rooms.{bound_of, slack_of}
+use Rattle.sfm_laminar.specs.Rooms.{slack_of}
 use Rattle.sfm_laminar.specs.LaminarLaws.{laminar_value}
 use Rattle.sfm_laminar.specs.Slacks.{AreSlacks, IsSupport, share_of}
 use Rattle.sfm_laminar.proofs.Bases.{sum-group, laminar_base_back}

@@ -1,15 +1,13 @@
 -- Groups of places as sets.
-use Rattle.std.proofs.Common.{◌≡◌, ◌⊎◌, ℕ, zero, suc, ◌+◌, ◌<◌, Bool, true, false, cond, ◌&&◌, List, [], ◌∷◌, length, get_or, set, count_by, ℤ, pos, ◌+ℤ◌, if◌then◌else◌, refl, sym, ◌∙◌, arith, inl, inr, ⊎_elim, length-set, get_or-set_other, get_or-set_same}
+use Rattle.std.proofs.Common.{◌≡◌, ◌⊎◌, ℕ, zero, suc, ◌+◌, ◌<◌, Bool, true, false, cond, ◌&&◌, List, [], ◌∷◌, length, get_or, set, count_by, ℤ, pos, ◌+ℤ◌, refl, sym, ◌∙◌, arith, inl, inr, ⊎_elim, length-set, get_or-set_other, get_or-set_same}
 use Rattle.std.specs.List.{All}
 use Rattle.std.proofs.lemmas.Bool.{false≢true, cases_eq, cases_Bool}
-use Rattle.std.proofs.lemmas.Int.{ints}
 use Rattle.std.proofs.lemmas.List.{length-replicate}
 use Rattle.std.proofs.lemmas.List.Sums.{sum_by-cons}
 use Rattle.std.proofs.lemmas.List.Elements.{All-head, All-tail}
-use Rattle.sfm_spec.specs.Sets.{Has, empty_set, intersection, size, sum_over}
+use Rattle.sfm_spec.specs.Sets.{Has, empty_set, intersection, size}
 use Rattle.sfm_spec.proofs.Where.{size-cons}
 use Rattle.sfm_laminar.specs.Groups.{IsAscending}
-use Rattle.sfm_spec.proofs.Sizes.{size-empty, weight-empty}
 
 -- the set of some of k places
 abbrev pub mask : ℕ → List ℕ → List Bool

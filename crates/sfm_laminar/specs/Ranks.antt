@@ -8,7 +8,7 @@ use Rattle.std.proofs.lemmas.List.{length-replicate, get_or_default}
 use Rattle.std.proofs.Math.IntN.{*ℤ-zero}
 use Rattle.sfm_spec.specs.Sets.{Has, IsWithin, empty_set, intersection, size, sum_over}
 use Rattle.sfm_spec.specs.Terms.{IsSubmodular}
-use Rattle.sfm_spec.specs.Kinds.{Group, count_in, IsWithinCaps, IsRank}
+use Rattle.sfm_spec.specs.Kinds.{Group, count_in, IsWithinCaps}
 use Rattle.sfm_spec.proofs.Scaled.{times-mono, times-add}
 use Rattle.sfm_spec.proofs.Where.{size-cons}
 use Rattle.sfm_spec.proofs.Sizes.{size-empty}

@@ -1,5 +1,5 @@
 -- What is kept beside a base: what each group lacks, and the places that have something.
-use Rattle.std.specs.Prelude.{◌≡◌, ◌↔◌, ◌*◌, ℕ, ◌<◌, Bool, List, length, slice_index_or, if◌then◌else◌, false, ℤ, pos, ◌≤ℤ◌}
+use Rattle.std.specs.Prelude.{◌≡◌, ◌↔◌, ℕ, ◌<◌, Bool, List, length, slice_index_or, if◌then◌else◌, false, ℤ, pos, ◌≤ℤ◌}
 use Rattle.sfm_spec.specs.Sets.{Has}
 use Rattle.sfm_spec.specs.Kinds.{Group}
 use Rattle.sfm_laminar.specs.Crossing.{group_at}

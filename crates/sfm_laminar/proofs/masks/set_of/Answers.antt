@@ -1,4 +1,4 @@
-use Rattle.std.proofs.Common.{◌≡◌, arith}
+use Rattle.std.proofs.Common.{arith}
 use Rattle.std.specs.List.{Contains}
 use Rattle.sfm_law.proofs.Puts.{put_more}
 use Rattle.sfm_laminar.proofs.Slacking.{mask_from}

@@ -1,5 +1,4 @@
-use Rattle.std.proofs.Common.{◌≡◌, ◌∙◌, ap, sym, length, arith}
-use Rattle.sfm_spec.specs.Sets.{intersection}
+use Rattle.std.proofs.Common.{◌∙◌, ap, sym, length}
 use Rattle.sfm_spec.proofs.Sets.{in_both, in_first, in_second}
 use Rattle.sfm_spec.proofs.Sums.{length-intersection}
 use Rattle.sfm_laminar.specs.Crossing.{no_group, group_at}

@@ -1,8 +1,7 @@
-use Rattle.std.proofs.Common.{◌≡◌, ◌+ℤ◌, ◌-ℤ◌, length, arith, rules, FitsSigned}
+use Rattle.std.proofs.Common.{◌+ℤ◌, ◌-ℤ◌, length, arith, rules, FitsSigned}
 use Rattle.std.proofs.lemmas.Int.{ints, to_z-of_z}
 use mir.Syntax.{w128}
 use Rattle.sfm_laminar.specs.Crossing.{group_at}
-use Rattle.sfm_laminar.specs.Slacks.{share_of}
 use Rattle.sfm_laminar.proofs.Slacking.{share_at, share_low, share_high}
 use Rattle.sfm_laminar.proofs.laminar.Laminar.moved_slack.Goals as goal
 

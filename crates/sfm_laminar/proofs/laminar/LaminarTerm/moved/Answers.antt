@@ -1,8 +1,7 @@
-use Rattle.std.proofs.Common.{◌∙◌, ◌^◌, ℕ, length, drop, pos, ap, sym, arith, FitsSigned}
+use Rattle.std.proofs.Common.{◌∙◌, length, drop, ap, sym, FitsSigned}
 use Rattle.std.proofs.lemmas.Int.{to_z-of_z}
-use Rattle.std.proofs.lemmas.List.{get_or_default, take_at}
+use Rattle.std.proofs.lemmas.List.{take_at}
 use mir.Syntax.{w128}
-use Rattle.sfm_spec.specs.Bounds.{IsAtMost}
 use Rattle.sfm_law.proofs.Fits.{product_high}
 use Rattle.sfm_laminar.proofs.Slacking.{slacks_small, slacks_moved}
 use Rattle.sfm_laminar.proofs.laminar.LaminarTerm.moved.Goals as goal
