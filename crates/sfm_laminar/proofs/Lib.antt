@@ -8,5 +8,6 @@ pub mod Kept
 pub mod Leasts
 pub mod Ends
 mod Holders
+mod Counted
 mod Repeats
 mod Slacking

@@ -116,7 +116,7 @@ pub record IsGrown (k : ℕ) (groups : List Group) (s : List Bool) (n : ℕ) (t 
   pub capped : IsWithinCaps groups t
   pub refused : (e : ℕ) → e < n → Has s e → get_or t e false ≡ false → IsBlocked k groups t e
 
-nothing : (k p : ℕ) → Has (empty_set k) p → ⊥
+pub nothing : (k p : ℕ) → Has (empty_set k) p → ⊥
 nothing zero p h = false≢true h
 nothing (suc k) zero h = false≢true h
 nothing (suc k) (suc p) h = nothing k p h
@@ -124,7 +124,7 @@ nothing (suc k) (suc p) h = nothing k p h
 pub has_or_out : (t : List Bool) (e : ℕ) → (Has t e → ⊥) → get_or t e false ≡ false
 has_or_out t e h = ⊎_elim (λ has. absurd (h has)) (λ out. out) (cases_Bool (get_or t e false))
 
-count-none : (k : ℕ) (es : List ℕ) → count_listed es (empty_set k) ≡ 0
+pub count-none : (k : ℕ) (es : List ℕ) → count_listed es (empty_set k) ≡ 0
 count-none k [] = refl
 count-none k (e ∷ es) = at (get_or (empty_set k) e false) (has_or_out (empty_set k) e (nothing k e)) (count-cons e es (empty_set k)) (count-none k es) where
   at : (b : Bool) → b ≡ false → count_listed (e ∷ es) (empty_set k) ≡ cond b 1 0 + count_listed es (empty_set k) → count_listed es (empty_set k) ≡ 0 → count_listed (e ∷ es) (empty_set k) ≡ 0

@@ -6,5 +6,6 @@ pub mod Grown
 pub mod Ranks
 pub mod LaminarLaws
 pub mod Indexes
+pub mod Counts
 pub mod Rooms
 pub mod Slacks

@@ -107,8 +107,8 @@ impl Laminar {
         }
         let places = Places::from_slice(alloc, elements)?;
         let all = whole(alloc, elements.len())?;
-        let basis = grow(alloc, &groups, &all)?;
         let index = Index::new(alloc, &groups, elements.len())?;
+        let basis = grow(alloc, &groups, &index, &all)?;
         let masks = Masks::new(alloc, &groups, elements.len())?;
         Ok(Laminar {
             places,
@@ -130,7 +130,7 @@ impl Laminar {
         ensures rank { IfOk result (λ r. r ≡ pos (rank (length self.now.places) self.now.groups s.now)) }
         ensures greatest { IfOk result (λ r. (n : ℕ) × (r ≡ pos n) × IsRank (IsWithinCaps self.now.groups) s.now n) }
     {
-        let most = grow(alloc, &self.groups, s)?;
+        let most = grow(alloc, &self.groups, &self.index, s)?;
         Ok(most.size() as i128)
     }
 

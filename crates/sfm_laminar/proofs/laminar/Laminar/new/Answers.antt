@@ -1,8 +1,9 @@
-use Rattle.std.proofs.Common.{◌∙◌, List, length, ap, sym, refl, subst}
+use Rattle.std.proofs.Common.{◌∙◌, List, length, true, ap, sym, refl, subst}
 use Rattle.std.specs.List.{All}
+use Rattle.std.proofs.lemmas.List.{length-replicate}
 use Rattle.sfm_spec.specs.Kinds.{Group}
 use Rattle.sfm_base.proofs.Elements.{placed_few}
-use Rattle.sfm_laminar.specs.Groups.{IsGroup}
+use Rattle.sfm_laminar.specs.Groups.{IsGroup, AreGroups}
 use Rattle.sfm_laminar.specs.LaminarLaws.{basis_of}
 use Rattle.sfm_laminar.proofs.Ends.{memory_apart, ok_apart, same_crossing, crossing_at, memory_told}
 use Rattle.sfm_laminar.proofs.Kept.{basis_from}
@@ -47,6 +48,18 @@ returns-in_err-masks-clause-crosses c = λ first second. (
 
 pub returns-clause-crosses : goal.returns-clause-crosses
 returns-clause-crosses c = λ first second. ((λ e. absurd (ok_apart _ _ _ first second refl e)), (λ x. absurd (c.in_default.ensures first second x.crossing)))
+
+pub grow-requires-clause-grouped : goal.grow-requires-clause-grouped
+grow-requires-clause-grouped c =
+    let k = length c.args.elements.now in
+    let P : List Group → Type 0 = λ gs. All IsGroup gs in
+    let ok : AreGroups k c.args.groups = record { each = subst P c.groups.view_is c.groups.invariant; below = c.requires.below; none = c.in_default.ensures } in
+    rw (ap length c.in_ok-all.ensures ∙ length-replicate k true) ok
+
+pub grow-requires-clause-few : goal.grow-requires-clause-few
+grow-requires-clause-few c =
+    let k = length c.args.elements.now in
+    rw (ap length c.in_ok-all.ensures ∙ length-replicate k true) (placed_few 256 c.args.elements.now c.requires.elements.placed)
 
 pub invariant_of-result-clause-few : goal.invariant_of-result-clause-few
 invariant_of-result-clause-few c = rw c.in_ok-places.ensures (placed_few 256 c.args.elements.now c.requires.elements.placed)
