@@ -393,8 +393,9 @@ impl Laminar {
         self.keep_full(q, x, None, u, to);
     }
 
-    /// Puts the places other than u in that have something, where u lacks something of q·w, by what is kept.
-    fn put_support(&self, q: i128, x: &[i128], note: &Slacks, u: usize, to: &mut Set)
+    /// Puts the places other than u in that have something, where u lacks something of q·w, by what is kept; and tells
+    /// whether it lacks something.
+    fn put_support(&self, q: i128, x: &[i128], note: &Slacks, u: usize, to: &mut Set) -> bool
         requires factor { IsFactor q }
         requires small { All IsEntry x.now }
         requires noted { IsSupport x.now note.now.support }
@@ -402,12 +403,15 @@ impl Laminar {
         requires room_for_answer { length to.old ≡ length x.now }
         ensures places { length to.new ≡ length to.old }
         ensures some { (v : ℕ) → v < length x.now → Has to.new v ↔ ((v ≢ u) × (slice_index_or x.now u (pos 0) <ℤ (q *ℤ self.now.w)) × (pos 1 ≤ℤ slice_index_or x.now v (pos 0))) }
+        ensures lacks { IsTrue result ↔ (slice_index_or x.now u (pos 0) <ℤ (q *ℤ self.now.w)) }
     {
         to.clear();
         if x[u] < product(q, self.w) {
             to.union_with(&note.support);
             to.remove(u);
+            return true;
         }
+        false
     }
 
     /// Writes what `reach_of` does, by what is kept beside the base.
@@ -422,8 +426,9 @@ impl Laminar {
         ensures places { length to.new ≡ length to.old }
         ensures reached { IsReach (times q (laminar_value (length self.now.places) self.now.w self.now.groups)) x.now u to.new }
     {
-        self.put_support(q, x, note, u, to);
-        self.keep_full(q, x, Some(note), u, to);
+        if self.put_support(q, x, note, u, to) {
+            self.keep_full(q, x, Some(note), u, to);
+        }
     }
 
     /// What each group lacks.

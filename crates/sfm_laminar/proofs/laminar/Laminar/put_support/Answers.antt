@@ -1,4 +1,5 @@
-use Rattle.std.proofs.Common.{◌≡◌, ◌∙◌, ◌*ℤ◌, length, get_or, pos, false, ap, sym, arith, FitsSigned, length-set}
+use Rattle.std.proofs.Common.{◌∙◌, ◌*ℤ◌, length, get_or, pos, false, refl, sym, arith, FitsSigned, length-set}
+use Rattle.std.proofs.lemmas.Bool.{both_ways, false≢true}
 use Rattle.std.proofs.lemmas.Int.{to_z-of_z}
 use Rattle.std.proofs.lemmas.List.{length-replicate}
 use Rattle.std.proofs.lemmas.List.Elements.{All-get_or}
@@ -46,3 +47,31 @@ returns-then-x-u-clause-some c =
       (λ h. let i = (in_all v lt).0 h in (i.0, lacks, i.1)),
       (λ (ne, less, some). (in_all v lt).1 (ne, some)),
     ))
+
+pub returns-then-x-u-clause-lacks : goal.returns-then-x-u-clause-lacks
+returns-then-x-u-clause-lacks c =
+    let r = c.requires in
+    let s = c.args.self.now in
+    let x = c.args.x.now in
+    let q = c.args.q in
+    let fq : FitsSigned w128 q = c.ranges.q in
+    let fa : FitsSigned w128 (get_or x c.args.u (pos 0)) = entry_fits _ (All-get_or IsEntry x c.args.u (pos 0) r.from r.small) in
+    let fw : FitsSigned w128 s.w = given_fits _ s.given in
+    let fp : FitsSigned w128 (q *ℤ s.w) = product_fits _ _ r.factor (given_more _ s.given) in
+    let p = simp to_z-of_z at c.product.ensures in
+    let lacks = (less_test (get_or x c.args.u (pos 0)) (q *ℤ s.w)).0 (simp to_z-of_z at (rw p at c.if-x-u.true)) in
+    ((λ t. lacks), (λ less. refl))
+
+pub returns-clause-lacks : goal.returns-clause-lacks
+returns-clause-lacks c =
+    let r = c.requires in
+    let s = c.args.self.now in
+    let x = c.args.x.now in
+    let q = c.args.q in
+    let fq : FitsSigned w128 q = c.ranges.q in
+    let fa : FitsSigned w128 (get_or x c.args.u (pos 0)) = entry_fits _ (All-get_or IsEntry x c.args.u (pos 0) r.from r.small) in
+    let fw : FitsSigned w128 s.w = given_fits _ s.given in
+    let fp : FitsSigned w128 (q *ℤ s.w) = product_fits _ _ r.factor (given_more _ s.given) in
+    let p = simp to_z-of_z at c.product.ensures in
+    let not_less = simp to_z-of_z at (rw p at c.if-x-u.false) in
+    ((λ t. absurd (false≢true t)), (λ less. absurd (both_ways _ not_less ((less_test (get_or x c.args.u (pos 0)) (q *ℤ s.w)).1 less))))
