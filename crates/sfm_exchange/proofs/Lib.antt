@@ -16,3 +16,4 @@ pub mod RowsAfter
 pub mod WholeGraphs
 pub mod Joining
 pub mod Minimisers
+pub mod Scaling

@@ -10,3 +10,4 @@ pub mod Hops
 pub mod Graph
 pub mod Reached
 pub mod Based
+pub mod Scaled

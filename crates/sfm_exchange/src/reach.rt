@@ -62,6 +62,14 @@ impl BitRows {
     {
         self.rows.as_slice()
     }
+
+    // Takes over other rows, into the memory that stands.
+    pub fn copy_from(&mut self, other: &BitRows)
+        requires { length self.old ≡ length other.now }
+        ensures { self.new ≡ other.now }
+    {
+        self.rows.copy_from_slice(&other.rows);
+    }
 }
 
 // The ground places of a part of a term.

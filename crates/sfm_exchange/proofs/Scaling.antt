@@ -1,0 +1,122 @@
+-- Multiples of bases: the same sets are tight, so the same places depend on each other, and the rows of all terms stay.
+use Rattle.std.proofs.Common.{◌≡◌, ◌≢◌, ◌↔◌, ⊎_elim, inr, ℕ, ◌<◌, Bool, true, false, List, [], ◌∷◌, length, Some, ℤ, pos, ◌+ℤ◌, ◌*ℤ◌, ◌≤ℤ◌, refl, sym, ap, ◌∙◌, arith}
+use Rattle.std.proofs.Math.IntN.{*ℤ-zero}
+use Rattle.std.proofs.lemmas.Int.{ints}
+use Rattle.std.proofs.lemmas.List.{length-map}
+use Rattle.std.specs.Option.{option_map}
+use Rattle.sfm_spec.specs.Sets.{Has, sum_over, AreDistinct}
+use Rattle.sfm_spec.specs.Rows.{Depends}
+use Rattle.sfm_spec.specs.Terms.{SetFunction, times, IsFamily, IsSubmodular, IsBase, IsTight, IsTightSet, HasRoom}
+use Rattle.sfm_spec.specs.Families.{Meaning, AreTerms, AreBases}
+use Rattle.sfm_spec.specs.Walks.{term_at, row_at}
+use Rattle.sfm_spec.proofs.RowLaw.{least_tight}
+use Rattle.sfm_spec.proofs.Scaled.{times_some, times-add, times-cancel, family-times, submodular-times}
+use Rattle.sfm_spec.proofs.Walks.{terms-at, bases-at}
+use Rattle.sfm_exchange.specs.declared.bits.Bits.{Bits}
+use Rattle.sfm_exchange.specs.declared.spots.Spot.{Spot}
+use Rattle.sfm_exchange.specs.Bits.{set_at}
+use Rattle.sfm_exchange.specs.Scaled.{row_times}
+use Rattle.sfm_exchange.specs.Reach.{IsReachTable, IsTable, table_at}
+use Rattle.sfm_exchange.specs.Spots.{AreSpots, spots_at, spot_at}
+use Rattle.sfm_exchange.specs.Unions.{AreUnions, IsUnion}
+use Rattle.sfm_exchange.proofs.Reaching.{steps_table, table_steps}
+
+-- a sum of entries is multiplied with them
+pub sum_over-times : (q : ℤ) (s : List Bool) (x : List ℤ) → sum_over s (row_times q x) ≡ (q *ℤ sum_over s x)
+sum_over-times q [] x = sym (*ℤ-zero q)
+sum_over-times q (b ∷ s) [] = sym (*ℤ-zero q)
+sum_over-times q (true ∷ s) (a ∷ x) = ap (λ z. (q *ℤ a) +ℤ z) (sum_over-times q s x) ∙ sym (times-add q a (sum_over s x))
+sum_over-times q (false ∷ s) (a ∷ x) =
+    ap (λ z. pos 0 +ℤ z) (sum_over-times q s x) ∙ ap (λ z. z +ℤ (q *ℤ sum_over s x)) (sym (*ℤ-zero q)) ∙ sym (times-add q (pos 0) (sum_over s x))
+
+pub one-times : (a : ℤ) → (pos 1 *ℤ a) ≡ a
+one-times a = omega (arith, ints)
+
+module _ (f : SetFunction) (q : ℤ) (low : pos 1 ≤ℤ q) (x : List ℤ) where
+  -- a set that is tight at a base is so at a multiple of it
+  tight_times : (r : List Bool) → IsTight (times (pos 1) f) x r → IsTight (times q f) (row_times q x) r
+  tight_times r h =
+      let (a, fr, e) = times_some (pos 1) (f r) (sum_over r x) h in
+      let same : a ≡ sum_over r x = sym (e ∙ one-times a) in
+      ap (option_map (λ z. q *ℤ z)) fr ∙ ap (λ z. Some (q *ℤ z)) same ∙ ap Some (sym (sum_over-times q r x))
+
+  -- and the other way round
+  tight_back : (r : List Bool) → IsTight (times q f) (row_times q x) r → IsTight (times (pos 1) f) x r
+  tight_back r h =
+      let (a, fr, e) = times_some q (f r) (sum_over r (row_times q x)) h in
+      let same : (q *ℤ sum_over r x) ≡ (q *ℤ a) = sym (sum_over-times q r x) ∙ e in
+      let least : sum_over r x ≤ℤ a = times-cancel q (sum_over r x) a low (omega (arith, ints, same)) in
+      let most : a ≤ℤ sum_over r x = times-cancel q a (sum_over r x) low (omega (arith, ints, same)) in
+      let is : a ≡ sum_over r x = omega (arith, ints, least, most) in
+      ap (option_map (λ z. pos 1 *ℤ z)) fr ∙ ap Some (one-times a ∙ is)
+
+module _ {k : ℕ} {f : SetFunction} (family : IsFamily k f) (law : IsSubmodular k f) (q : ℤ) (low : pos 1 ≤ℤ q) (x : List ℤ) (sized : length x ≡ k) (base : IsBase (times (pos 1) f) x) (after : IsBase (times q f) (row_times q x)) where
+  long : length (row_times q x) ≡ k
+  long = length-map x (λ a. q *ℤ a) ∙ sized
+
+  -- what depends on what stays
+  pub depends_times : (e w : ℕ) → e < k → w < k → Depends (times (pos 1) f) x e w ↔ Depends (times q f) (row_times q x) e w
+  depends_times e w ke kw = (
+    (λ d. there.1 (λ r h has. here.0 d r (record { places = h.places ∙ length-map x (λ a. q *ℤ a); tight = tight_back f q low x r h.tight }) has)),
+    (λ d. here.1 (λ r h has. there.0 d r (record { places = h.places ∙ sym (length-map x (λ a. q *ℤ a)); tight = tight_times f q low x r h.tight }) has)),
+  ) where
+    here : Depends (times (pos 1) f) x e w ↔ ((r : List Bool) → IsTightSet (times (pos 1) f) x r → Has r e → Has r w)
+    here = least_tight (family-times k (pos 1) f family) (submodular-times k (pos 1) f (omega (arith, ints)) law) sized base e w (rw sized ke) (rw sized kw)
+
+    there : Depends (times q f) (row_times q x) e w ↔ ((r : List Bool) → IsTightSet (times q f) (row_times q x) r → Has r e → Has r w)
+    there = least_tight (family-times k q f family) (submodular-times k q f (omega (arith, ints, low)) law) long after e w (rw long ke) (rw long kw)
+
+  -- and so does where there is room
+  room_times : (u v : ℕ) → u < k → v < k → v ≢ u → HasRoom (times (pos 1) f) x u v ↔ HasRoom (times q f) (row_times q x) u v
+  room_times u v ku kv ne = (
+    (λ room. ⊎_elim (λ same. absurd (ne same)) (λ still. still) ((depends_times u v ku kv).0 (inr room))),
+    (λ room. ⊎_elim (λ same. absurd (ne same)) (λ still. still) ((depends_times u v ku kv).1 (inr room))),
+  )
+
+  -- the rows of a term stay
+  pub table_times : (places : List ℕ) → length places ≡ k → (table : List Bits) → IsReachTable places (times (pos 1) f) x (length places) table → IsReachTable places (times q f) (row_times q x) (length places) table
+  table_times places count table h u e lu = (
+    (λ one. let (v, lv, ne, room, is) = (h u e lu).0 one in (v, lv, ne, (room_times u v (rw (← count) lu) (rw (← count) lv) ne).0 room, is)),
+    (λ (v, lv, ne, room, is). (h u e lu).1 (v, lv, ne, (room_times u v (rw (← count) lu) (rw (← count) lv) ne).1 room, is)),
+  )
+
+-- and so do those of all terms
+pub tables_times : (terms : List Meaning) (n : ℕ) (q : ℤ) (rows bases : List (List ℤ)) (tables : List (List Bits)) → pos 1 ≤ℤ q → AreTerms n terms → AreBases (pos 1) terms rows → AreBases q terms bases
+    → ((i : ℕ) → i < length terms → row_at bases i ≡ row_times q (row_at rows i)) → ((i : ℕ) → i < length terms → IsTable terms (pos 1) rows i (table_at tables i)) → (i : ℕ) → i < length terms → IsTable terms q bases i (table_at tables i)
+tables_times terms n q rows bases tables low fit are after multiple right i li = table_steps terms q bases i (table_at tables i) li distinct (rw same told) where
+  term : Meaning
+  term = term_at terms i
+
+  distinct : AreDistinct (term_at terms i).places
+  distinct = (terms-at n terms i fit li).placed.distinct
+
+  same : row_at bases i ≡ row_times q (row_at rows i)
+  same = multiple i li
+
+  told : IsReachTable (term_at terms i).places (times q (term_at terms i).value) (row_times q (row_at rows i)) (length (term_at terms i).places) (table_at tables i)
+  told =
+      let t = terms-at n terms i fit li in
+      let b = bases-at (pos 1) terms rows i are li in
+      let c = bases-at q terms bases i after li in
+      table_times t.family t.submodular q low (row_at rows i) b.0 b.1 (rw same at c.1) (term_at terms i).places refl (table_at tables i) (steps_table terms (pos 1) rows i (table_at tables i) li distinct (right i li))
+
+-- the spots of one list stand in another one
+spot_elsewhere : (terms : List Meaning) (n : ℕ) (spots others : List (List Spot)) → AreSpots terms n spots → AreSpots terms n others → (e j : ℕ) → e < n → j < length (spots_at others e)
+    → (k : ℕ) × (k < length (spots_at spots e)) × (spot_at (spots_at spots e) k ≡ spot_at (spots_at others e) j)
+spot_elsewhere terms n spots others one two e j le lj =
+    let is = two.sound e j le lj in
+    rw is.at at (one.complete (spot_at (spots_at others e) j).term (spot_at (spots_at others e) j).local is.term_in is.local_in)
+
+-- so the unions hang on no list of spots
+pub unions_same : (terms : List Meaning) (n : ℕ) (spots others : List (List Spot)) (tables : List (List Bits)) (unions : List Bits) → AreSpots terms n spots → AreSpots terms n others → AreUnions tables others unions → AreUnions tables spots unions
+unions_same terms n spots others tables unions one two h = record { count = h.count ∙ (two.count ∙ sym one.count); exact = exact } where
+  exact : (e : ℕ) → e < length spots → IsUnion tables (spots_at spots e) (length (spots_at spots e)) (set_at unions e)
+  exact e le t = (
+    (λ bit. let (j, lj, b) = (h.exact e lo t).0 bit in let (k, lk, is) = spot_elsewhere terms n spots others one two e j ln lj in (k, lk, rw is b)),
+    (λ (j, lj, b). let (k, lk, is) = spot_elsewhere terms n others spots two one e j ln lj in (h.exact e lo t).1 (k, lk, rw is b)),
+  ) where
+    ln : e < n
+    ln = rw (← one.count) le
+
+    lo : e < length others
+    lo = rw two.count ln

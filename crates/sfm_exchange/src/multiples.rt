@@ -1,0 +1,141 @@
+// A graph at a multiple of the bases of another one. What depends on what at a base hangs on its tight sets alone, and the
+// sets that are tight at q times a base of a term, for q times the term, are those that are tight at the base. So all rows are
+// the same: they are copied into the memory that stands, and no term is asked.
+ghost use Rattle.std.specs.Prelude.{◌≡◌, ◌<◌, ◌^◌, ℕ, ℤ, List, true, length, map, pos, ◌*ℤ◌, OnOk, IfOk};
+ghost use Rattle.std.specs.List.{All};
+ghost use Rattle.sfm_spec.specs.Bounds.{AreBounded, IsEntry, IsFactor};
+ghost use Rattle.sfm_spec.specs.Families.{meanings, AreBases};
+ghost use Rattle.sfm_spec.specs.Walks.{row_at};
+ghost use Rattle.sfm_exchange.specs.Graph.{IsGraph};
+ghost use Rattle.sfm_exchange.specs.Reach.{AreSized};
+ghost use Rattle.sfm_exchange.specs.Scaled.{row_times};
+
+use crate::graph::{Graph, copy_rows, restart};
+use crate::reach::{BitRows, blank_rows, notes_of};
+use crate::spots::spots_of;
+use sfm_base::{Memory, Rows};
+use sfm_law::{Term, product};
+use std::alloc::Global;
+
+// Whether b is q times a, where a is not too large to tell.
+fn is_times(q: i128, a: i128, b: i128) -> bool
+    requires { IsFactor q }
+    ensures { result ≡ true → b ≡ q *ℤ a }
+{
+    if a.unsigned_abs() > 1_000_000_000_000_000_000_000 {
+        return false;
+    }
+    product(q, a) == b
+}
+
+// Whether each entry of y is q times that of x, where none is too large to tell.
+fn is_multiple(q: i128, x: &[i128], y: &[i128]) -> bool
+    requires { IsFactor q }
+    ensures { result ≡ true → y.now ≡ row_times q x.now }
+{
+    if x.len() != y.len() {
+        return false;
+    }
+    for (j, a) in x.iter().enumerate() {
+        if !is_times(q, *a, y[j]) {
+            return false;
+        }
+    }
+    true
+}
+
+// Whether each of the second rows is q times the first one in its place, where no entry is too large to tell.
+fn are_multiples(q: i128, rows: &Rows, bases: &Rows) -> bool
+    requires factor { IsFactor q }
+    requires count { length bases.now ≡ length rows.now }
+    ensures { result ≡ true → (i : ℕ) → i < length rows.now → row_at bases.now i ≡ row_times q (row_at rows.now i) }
+{
+    for i in 0..rows.len() {
+        if !is_multiple(q, rows.row(i), bases.row(i)) {
+            return false;
+        }
+    }
+    true
+}
+
+// Copies the rows of all terms.
+fn copy_tables(from: &[BitRows], to: &mut Vec<BitRows>)
+    requires { (places : List (List ℕ)) × AreSized places from.now × AreSized places to.old.items }
+    ensures { to.new.items ≡ from.now }
+{
+    for (i, rows) in from.iter().enumerate() {
+        let at = &mut to[i];
+        at.copy_from(rows);
+    }
+}
+
+/// Makes the graph one of q times the terms at other bases of theirs, as `restart` does. Where these are q times the bases
+/// of a second graph, one of the terms themselves, no term is asked: what that graph keeps is copied. After want of memory
+/// nothing is said of the graph.
+///
+/// # Errors
+///
+/// `Memory` where there is none.
+pub fn restart_by<T: Term>(
+    alloc: Global,
+    graph: &mut Graph<T::Note>,
+    terms: &[T],
+    q: i128,
+    bases: Rows,
+    other: &Graph<T::Note>,
+) -> Result<(), Memory>
+    requires bounded { AreBounded (length graph.old.spots.items) (map T.places terms.now) (map T.size_of terms.now) }
+    requires factor { IsFactor q }
+    requires graph { (q0 : ℤ) × IsGraph T.places T.value_of T.fits terms.now (length graph.old.spots.items) q0 graph.old }
+    requires other { IsGraph T.places T.value_of T.fits terms.now (length graph.old.spots.items) (pos 1) other.now }
+    requires bases { AreBases q (meanings T.places T.value_of terms.now) bases }
+    requires small { All (λ x. All IsEntry x) bases }
+    ensures graph { OnOk result (IsGraph T.places T.value_of T.fits terms.now (length graph.old.spots.items) q graph.new) }
+    ensures bases { OnOk result (graph.new.bases ≡ bases) }
+{
+    if !are_multiples(q, &other.bases, &bases) {
+        let n = graph.spots.len();
+        return restart(alloc, graph, terms, n, q, bases);
+    }
+    graph.notes = notes_of(alloc, terms, q, &bases)?;
+    graph.bases = bases;
+    copy_tables(&other.rows, &mut graph.rows);
+    graph.unions.copy_from_slice(&other.unions);
+    graph.back.copy_from_slice(&other.back);
+    Ok(())
+}
+
+/// The same graph once more.
+///
+/// # Errors
+///
+/// `Memory` where there is none.
+pub fn copy_graph<T: Term>(
+    alloc: Global,
+    graph: &Graph<T::Note>,
+    terms: &[T],
+    n: usize,
+    q: i128,
+) -> Result<Graph<T::Note>, Memory>
+    requires bounded { AreBounded n (map T.places terms.now) (map T.size_of terms.now) }
+    requires factor { IsFactor q }
+    requires graph { IsGraph T.places T.value_of T.fits terms.now n q graph.now }
+    requires small { All (λ x. All IsEntry x) graph.now.bases }
+    ensures { IfOk result (IsGraph T.places T.value_of T.fits terms.now n q) }
+{
+    let bases = copy_rows(alloc, &graph.bases)?;
+    let spots = spots_of(alloc, terms, n)?;
+    let notes = notes_of(alloc, terms, q, &bases)?;
+    let mut rows = blank_rows(alloc, terms)?;
+    copy_tables(&graph.rows, &mut rows);
+    let unions = Vec::from_slice(alloc, &graph.unions)?;
+    let back = Vec::from_slice(alloc, &graph.back)?;
+    Ok(Graph {
+        bases,
+        spots,
+        notes,
+        rows,
+        unions,
+        back,
+    })
+}
