@@ -19,7 +19,7 @@ laminar_note_fits w groups (Concave ranking) q x = ⊥
 abbrev pub graphic_note_fits : ℤ → List Edge → KindNote → ℤ → List ℤ → Type 0
 graphic_note_fits w edges Nothing q x = ⊥
 graphic_note_fits w edges (Laminar slacks) q x = ⊥
-graphic_note_fits w edges (Graphic split) q x = graphic_fits w edges split q x
+graphic_note_fits w edges (Graphic split) q x = graphic_fits w edges split.value q x
 graphic_note_fits w edges (Transversal split) q x = ⊥
 graphic_note_fits w edges (Concave ranking) q x = ⊥
 
@@ -28,7 +28,7 @@ abbrev pub transversal_note_fits : ℤ → List (List ℕ) → KindNote → ℤ 
 transversal_note_fits w entries Nothing q x = ⊥
 transversal_note_fits w entries (Laminar slacks) q x = ⊥
 transversal_note_fits w entries (Graphic split) q x = ⊥
-transversal_note_fits w entries (Transversal split) q x = transversal_fits w entries split q x
+transversal_note_fits w entries (Transversal split) q x = transversal_fits w entries split.value q x
 transversal_note_fits w entries (Concave ranking) q x = ⊥
 
 -- the entries of a concave term in order

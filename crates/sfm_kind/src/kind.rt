@@ -43,7 +43,8 @@ pub enum Kind {
     Transversal(Transversal),
 }
 
-/// What is kept beside a base of a kind, so that its reach is found sooner.
+/// What is kept beside a base of a kind, so that its reach is found sooner. The splits, which are large, are boxed: so a note
+/// of any other kind is small, and costs little to make and to move.
 #[derive(Drop)]
 pub enum KindNote {
     /// Nothing, as beside the plain kinds.
@@ -51,9 +52,9 @@ pub enum KindNote {
     /// What the groups of a laminar rank lack.
     Laminar(<Laminar as Term>::Note),
     /// The split in the test of one vertex of a graphic rank.
-    Graphic(<Graphic as Term>::Note),
+    Graphic(Box<<Graphic as Term>::Note>),
     /// The split in the test of a transversal rank.
-    Transversal(<Transversal as Term>::Note),
+    Transversal(Box<<Transversal as Term>::Note>),
     /// The entries of a concave term in order.
     Concave(<Concave as Term>::Note),
 }
@@ -219,8 +220,14 @@ impl Term for Kind {
     fn note(&self, alloc: Global, q: i128, x: &[i128]) -> Result<KindNote, Memory> {
         match self {
             Kind::Laminar(term) => Ok(KindNote::Laminar(term.note(alloc, q, x)?)),
-            Kind::Graphic(term) => Ok(KindNote::Graphic(term.note(alloc, q, x)?)),
-            Kind::Transversal(term) => Ok(KindNote::Transversal(term.note(alloc, q, x)?)),
+            Kind::Graphic(term) => {
+                let note = term.note(alloc, q, x)?;
+                Ok(KindNote::Graphic(Box::new(alloc, note)?))
+            }
+            Kind::Transversal(term) => {
+                let note = term.note(alloc, q, x)?;
+                Ok(KindNote::Transversal(Box::new(alloc, note)?))
+            }
             Kind::Concave(term) => Ok(KindNote::Concave(term.note(alloc, q, x)?)),
             _ => Ok(KindNote::Nothing),
         }
