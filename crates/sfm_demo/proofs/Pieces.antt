@@ -1,12 +1,13 @@
--- How the text grows by a piece: one more element, word, number or line; and the generator as its wrapping operations compute it.
-use Rattle.std.proofs.Common.{◌≡◌, ℕ, ◌+◌, ◌*◌, ◌/◌, ◌%◌, ◌^◌, ◌<◌, List, [], ◌∷◌, ◌++◌, length, get_or, take, map, ℤ, pos, ◌+ℤ◌, ◌-ℤ◌, refl, sym, ap, ◌∙◌, append_assoc, arith, add-one}
+-- How the text grows by a piece: one more element, number or line; and the generator as its wrapping operations compute it.
+use Rattle.std.proofs.Common.{◌≡◌, ℕ, zero, suc, ◌+◌, ◌*◌, ◌/◌, ◌%◌, ◌^◌, ◌<◌, List, [], ◌∷◌, ◌++◌, length, get_or, take, ℤ, pos, ◌+ℤ◌, ◌-ℤ◌, refl, sym, ap, ◌∙◌, append_assoc, add-one}
 use Rattle.std.proofs.Math.Nat.{mod-add-mod}
-use Rattle.std.proofs.lemmas.List.{append-nil, map-append, take_more}
-use Rattle.std.proofs.lemmas.List.FromFn.{map-range_with_len_more}
+use Rattle.std.proofs.lemmas.List.{append-nil, take_more}
 use Rattle.std.specs.Prelude.{codes}
-use Rattle.std.specs.Fmt.{signed_decimal}
-use Rattle.sfm_demo.specs.Draws.{Drawn, Drawing, next, top, ◌>>◌}
-use Rattle.sfm_demo.specs.DemoText.{demo_text_of, each, element, further, level, line, names, numbers, lines, run, spaced, sums, table_values, term_lines, weight_line}
+use Rattle.std.specs.Fmt.{decimal, signed_decimal}
+use Rattle.sfm_demo.specs.declared.kind.Kind.{Kind}
+use Rattle.sfm_demo.specs.Draws.{Drawing, done, next, top, ◌>>◌}
+use Rattle.sfm_demo.specs.DemoText.{demo_text_of, each, element, falling, level, line_of, lines, numbers, pair, series, set_values, term_lines}
+use Rattle.sfm_demo.specs.Names.{names}
 
 pub next-wrapping : (s : ℕ) → (s * 6364136223846793005 % 2 ^ 64 + 1442695040888963407) % 2 ^ 64 ≡ next s
 unfolding next
@@ -16,81 +17,122 @@ pub top-lem : (k s : ℕ) → s / 2 ^ 32 % k ≡ top k s
 unfolding top
 top-lem k s = refl
 
-pub run-more : (p step j e : ℕ) → (p + step * j) % 200 ≡ e → run p step (j + 1) ≡ run p step j ++ e ∷ []
-unfolding run
-run-more p step j e h = map-range_with_len_more (λ i. (p + step * i) % 200) 0 j j (omega arith) ∙ ap (λ x. run p step j ++ x ∷ []) h
+-- a text behind which another stands
+pub behind : (m n : Drawing (List ℕ)) (s s' : ℕ) (out out' more : List ℕ) → out' ≡ out ++ (m s).value → s' ≡ (m s).state → more ≡ out' ++ (n s').value
+    → more ≡ out ++ ((m >> n) s).value
+behind m n s s' out out' more text after put =
+    put ∙ ap (λ o. o ++ (n s').value) text ∙ append_assoc out (m s).value (n s').value ∙ ap (λ t. out ++ ((m s).value ++ (n t).value)) after
 
-pub run-zero : (p step : ℕ) → run p step 0 ≡ []
-unfolding run
-run-zero p step = refl
+-- a text of none, and of one more
+series_none : (text : ℕ → Drawing (List ℕ)) (s : ℕ) (out : List ℕ) → out ≡ out ++ (series 0 text s).value
+unfolding series
+series_none text s out = sym (append-nil out)
 
-pub spaced-append : (xs ys : List (List ℕ)) → spaced (xs ++ ys) ≡ spaced xs ++ spaced ys
-spaced-append [] ys = refl
-spaced-append (x ∷ xs) ys = ap (λ w. (32 ∷ x) ++ w) (spaced-append xs ys) ∙ sym (append_assoc (32 ∷ x) (spaced xs) (spaced ys))
+series_after_none : (text : ℕ → Drawing (List ℕ)) (s : ℕ) → s ≡ (series 0 text s).state
+unfolding series
+series_after_none text s = refl
 
-pub each-more : (word : ℕ → Drawing (List ℕ)) (es : List ℕ) (e s : ℕ)
-    → each word (es ++ e ∷ []) s ≡ record { value = (each word es s).value ++ (word e (each word es s).state).value ∷ []; state = (word e (each word es s).state).state }
-each-more word [] e s = refl
-each-more word (x ∷ es) e s = ap (λ (d : Drawn (List (List ℕ))). record { value = (word x s).value ∷ d.value; state = d.state }) (each-more word es e (word x s).state)
+series_more : (text : ℕ → Drawing (List ℕ)) (n s s' : ℕ) (out out' more : List ℕ) → out' ≡ out ++ (series n text s).value → s' ≡ (series n text s).state
+    → more ≡ out' ++ (text n s').value → more ≡ out ++ (series (n + 1) text s).value
+unfolding series
+series_more text n s s' out out' more before after put = rw add-one (behind (series n text) (text n) s s' out out' more before after put)
 
--- a text that holds the words of some elements holds those of one more, once that word is behind it
-pub words_more : (word : ℕ → Drawing (List ℕ)) (p step j e s s' : ℕ) (out out' more : List ℕ)
-    → (p + step * j) % 200 ≡ e → out' ≡ out ++ spaced (each word (run p step j) s).value → s' ≡ (each word (run p step j) s).state
-    → more ≡ out' ++ spaced ((word e s').value ∷ []) → more ≡ out ++ spaced (each word (run p step (j + 1)) s).value
-words_more word p step j e s s' out out' more h text state put =
-    put ∙ ap (λ o. o ++ spaced ((word e s').value ∷ [])) text ∙ append_assoc out (spaced (each word (run p step j) s).value) (spaced ((word e s').value ∷ []))
-    ∙ ap (λ w. out ++ w) (sym (spaced-append (each word (run p step j) s).value ((word e s').value ∷ [])) ∙ ap (λ t. spaced ((each word (run p step j) s).value ++ (word e t).value ∷ [])) state
-    ∙ sym (ap (λ (d : Drawn (List (List ℕ))). spaced d.value) (ap (λ es. each word es s) (run-more p step j e h) ∙ each-more word (run p step j) e s)))
+series_after_more : (text : ℕ → Drawing (List ℕ)) (n s s' s'' : ℕ) → s' ≡ (series n text s).state → s'' ≡ (text n s').state → s'' ≡ (series (n + 1) text s).state
+unfolding series
+series_after_more text n s s' s'' after put = rw add-one (put ∙ ap (λ t. (text n t).state) after)
 
-pub state_more : (word : ℕ → Drawing (List ℕ)) (p step j e s s' s'' : ℕ)
-    → (p + step * j) % 200 ≡ e → s' ≡ (each word (run p step j) s).state → s'' ≡ (word e s').state → s'' ≡ (each word (run p step (j + 1)) s).state
-state_more word p step j e s s' s'' h state after =
-    after ∙ ap (λ t. (word e t).state) state ∙ sym (ap (λ (d : Drawn (List (List ℕ))). d.state) (ap (λ es. each word es s) (run-more p step j e h) ∙ each-more word (run p step j) e s))
+-- where nothing is drawn, the state stays, and the text is the same from any state
+series_still : (v : ℕ → List ℕ) (n s : ℕ) → (series n (λ i. done (v i)) s).state ≡ s
+unfolding series
+series_still v zero s = refl
+series_still v (suc n) s = series_still v n s
 
-pub names_more : (p step j e : ℕ) (out out' more : List ℕ) → (p + step * j) % 200 ≡ e → out' ≡ out ++ spaced (names (run p step j)) → more ≡ out' ++ (32 ∷ element e)
-    → more ≡ out ++ spaced (names (run p step (j + 1)))
-names_more p step j e out out' more h text put =
-    put ∙ ap (λ w. out' ++ (32 ∷ w)) (sym (append-nil (element e))) ∙ ap (λ o. o ++ spaced (element e ∷ [])) text ∙ append_assoc out (spaced (names (run p step j))) (spaced (element e ∷ []))
-    ∙ ap (λ w. out ++ w) (sym (spaced-append (names (run p step j)) (element e ∷ [])) ∙ ap spaced (sym (map-append element (run p step j) (e ∷ []))) ∙ ap (λ es. spaced (names es)) (sym (run-more p step j e h)))
+series_same : (v : ℕ → List ℕ) (n s t : ℕ) → (series n (λ i. done (v i)) s).value ≡ (series n (λ i. done (v i)) t).value
+unfolding series
+series_same v zero s t = refl
+series_same v (suc n) s t = ap (λ w. w ++ v n) (series_same v n s t)
 
--- no word of no element
-pub words_none : (word : ℕ → Drawing (List ℕ)) (p step s : ℕ) (out : List ℕ) → out ≡ out ++ spaced (each word (run p step 0) s).value
-words_none word p step s out = sym (append-nil out) ∙ ap (λ es. out ++ spaced (each word es s).value) (sym (run-zero p step))
+-- the texts of no element, and of one more
+pub each_none : (text : ℕ → Drawing (List ℕ)) (p step s : ℕ) (out : List ℕ) → out ≡ out ++ (each text p step 0 s).value
+unfolding each
+each_none text p step s out = series_none (λ j. text ((p + step * j) % 200)) s out
 
-pub state_none : (word : ℕ → Drawing (List ℕ)) (p step s : ℕ) → s ≡ (each word (run p step 0) s).state
-state_none word p step s = ap (λ es. (each word es s).state) (sym (run-zero p step))
+pub each_after_none : (text : ℕ → Drawing (List ℕ)) (p step s : ℕ) → s ≡ (each text p step 0 s).state
+unfolding each
+each_after_none text p step s = series_after_none (λ j. text ((p + step * j) % 200)) s
 
-pub names_none : (p step : ℕ) (out : List ℕ) → out ≡ out ++ spaced (names (run p step 0))
-names_none p step out = sym (append-nil out) ∙ ap (λ es. out ++ spaced (names es)) (sym (run-zero p step))
+pub each_more : (text : ℕ → Drawing (List ℕ)) (p step j e s s' : ℕ) (out out' more : List ℕ) → (p + step * j) % 200 ≡ e → out' ≡ out ++ (each text p step j s).value
+    → s' ≡ (each text p step j s).state → more ≡ out' ++ (text e s').value → more ≡ out ++ (each text p step (j + 1) s).value
+unfolding each
+each_more text p step j e s s' out out' more here before after put =
+    series_more (λ i. text ((p + step * i) % 200)) j s s' out out' more before after (put ∙ ap (λ k. out' ++ (text k s').value) (sym here))
 
--- what is left to be written after one more sum
-pub sums_more : (out more : List ℕ) (sum sum' d d' : ℤ) (n m s s' : ℕ) → n ≡ m + 1 → d' ≡ d -ℤ pos (top 150 (next s)) → sum' ≡ sum +ℤ d' → s' ≡ next s
-    → more ≡ out ++ (32 ∷ signed_decimal sum') → more ++ spaced (numbers (sums sum' (further m d' s').value)) ≡ out ++ spaced (numbers (sums sum (further n d s).value))
-unfolding further
-sums_more out more sum sum' d d' n m s s' left less added after put =
-    rw (left, add-one, put, added, after, less) (append_assoc out (32 ∷ signed_decimal (sum +ℤ (d -ℤ pos (top 150 (next s))))) (spaced (numbers (sums (sum +ℤ (d -ℤ pos (top 150 (next s)))) (further m (d -ℤ pos (top 150 (next s))) (next s)).value))))
+pub each_after_more : (text : ℕ → Drawing (List ℕ)) (p step j e s s' s'' : ℕ) → (p + step * j) % 200 ≡ e → s' ≡ (each text p step j s).state → s'' ≡ (text e s').state
+    → s'' ≡ (each text p step (j + 1) s).state
+unfolding each
+each_after_more text p step j e s s' s'' here after put = series_after_more (λ i. text ((p + step * i) % 200)) j s s' s'' after (put ∙ ap (λ k. (text k s').state) (sym here))
 
-pub increments_more : (d d' : ℤ) (n m s s' : ℕ) → n ≡ m + 1 → d' ≡ d -ℤ pos (top 150 (next s)) → s' ≡ next s → (further m d' s').state ≡ (further n d s).state
-unfolding further
-increments_more d d' n m s s' left less after = rw (left, add-one, after, less) refl
+-- nothing is drawn for names
+pub still : (p step count s : ℕ) → (each element p step count s).state ≡ s
+unfolding each element
+still p step count s = series_still (λ j. codes " e" ++ decimal ((p + step * j) % 200)) count s
 
-pub sums_all : (out start : List ℕ) (sum d : ℤ) (n s : ℕ) → n ≡ 0 → out ++ spaced (numbers (sums sum (further n d s).value)) ≡ start → out ≡ start
-unfolding further
-sums_all out start sum d n s none h = sym (append-nil out) ∙ (rw none at h)
+pub named : (p step count s : ℕ) → (each element p step count s).value ≡ names p step count
+unfolding names each element
+named p step count s = series_same (λ j. codes " e" ++ decimal ((p + step * j) % 200)) count s 0
 
-pub increments_all : (d : ℤ) (n s t : ℕ) → n ≡ 0 → (further n d s).state ≡ t → s ≡ t
-unfolding further
-increments_all d n s t none h = rw none at h
+pub names_none : (p step : ℕ) (out : List ℕ) → out ≡ out ++ names p step 0
+unfolding names
+names_none p step out = each_none element p step 0 out
 
--- a text that holds the first numbers of a list holds one more, once that is behind it
-pub numbers_more : (x : List ℤ) (i : ℕ) (out out' more : List ℕ) → i < length x → out' ≡ out ++ spaced (numbers (take i x)) → more ≡ out' ++ (32 ∷ signed_decimal (get_or x i (pos 0)))
-    → more ≡ out ++ spaced (numbers (take (i + 1) x))
+pub names_more : (p step j e : ℕ) (out out' more : List ℕ) → (p + step * j) % 200 ≡ e → out' ≡ out ++ names p step j → more ≡ out' ++ (32 ∷ 101 ∷ decimal e)
+    → more ≡ out ++ names p step (j + 1)
+unfolding names element
+names_more p step j e out out' more here before put = each_more element p step j e 0 (each element p step j 0).state out out' more here before refl put
+
+-- pieces side by side, and names for which nothing is drawn
+pub ruleset joining = (append_assoc, named, still)
+
+-- what is left to be written after one more number
+pub falling_more : (out more : List ℕ) (a a' d d' : ℤ) (n m s s' : ℕ) → n ≡ m + 1 → d' ≡ d -ℤ pos (top 150 (next s)) → a' ≡ a +ℤ d' → s' ≡ next s
+    → more ≡ out ++ (32 ∷ signed_decimal a') → more ++ (falling m a' d' s').value ≡ out ++ (falling n a d s).value
+unfolding falling
+falling_more out more a a' d d' n m s s' left less added after put =
+    rw (left, add-one, put, added, after, less) (append_assoc out (32 ∷ signed_decimal (a +ℤ (d -ℤ pos (top 150 (next s))))) (falling m (a +ℤ (d -ℤ pos (top 150 (next s)))) (d -ℤ pos (top 150 (next s))) (next s)).value)
+
+pub falling_after_more : (a a' d d' : ℤ) (n m s s' : ℕ) → n ≡ m + 1 → d' ≡ d -ℤ pos (top 150 (next s)) → a' ≡ a +ℤ d' → s' ≡ next s
+    → (falling m a' d' s').state ≡ (falling n a d s).state
+unfolding falling
+falling_after_more a a' d d' n m s s' left less added after = rw (left, add-one, added, after, less) refl
+
+pub falling_all : (out start : List ℕ) (a d : ℤ) (n s : ℕ) → n ≡ 0 → out ++ (falling n a d s).value ≡ start → out ≡ start
+unfolding falling
+falling_all out start a d n s none h = sym (append-nil out) ∙ (rw none at h)
+
+pub falling_after_all : (a d : ℤ) (n s t : ℕ) → n ≡ 0 → (falling n a d s).state ≡ t → s ≡ t
+unfolding falling
+falling_after_all a d n s t none h = rw none at h
+
+-- the first numbers of a list, and one more
+numbers-append : (xs ys : List ℤ) → numbers (xs ++ ys) ≡ numbers xs ++ numbers ys
+numbers-append [] ys = refl
+numbers-append (x ∷ xs) ys = ap (λ w. (32 ∷ signed_decimal x) ++ w) (numbers-append xs ys) ∙ sym (append_assoc (32 ∷ signed_decimal x) (numbers xs) (numbers ys))
+
+pub numbers_more : (x : List ℤ) (i : ℕ) (out out' more : List ℕ) → i < length x → out' ≡ out ++ numbers (take i x) → more ≡ out' ++ (32 ∷ signed_decimal (get_or x i (pos 0)))
+    → more ≡ out ++ numbers (take (i + 1) x)
 numbers_more x i out out' more h text put =
     let a = get_or x i (pos 0) in
-    put ∙ ap (λ w. out' ++ (32 ∷ w)) (sym (append-nil (signed_decimal a))) ∙ ap (λ o. o ++ spaced (signed_decimal a ∷ [])) text ∙ append_assoc out (spaced (numbers (take i x))) (spaced (signed_decimal a ∷ []))
-    ∙ ap (λ w. out ++ w) (sym (spaced-append (numbers (take i x)) (signed_decimal a ∷ [])) ∙ ap spaced (sym (map-append signed_decimal (take i x) (a ∷ []))) ∙ ap (λ y. spaced (numbers y)) (sym (take_more x i (pos 0) h)))
+    put ∙ ap (λ w. out' ++ (32 ∷ w)) (sym (append-nil (signed_decimal a))) ∙ ap (λ o. o ++ numbers (a ∷ [])) text ∙ append_assoc out (numbers (take i x)) (numbers (a ∷ []))
+    ∙ ap (λ w. out ++ w) (sym (numbers-append (take i x) (a ∷ [])) ∙ ap numbers (sym (take_more x i (pos 0) h)))
 
-pub ruleset spacing = (spaced-append, append_assoc)
+-- a line of numbers, a colon and names, in the pieces that it is put down in
+pub divided : (o o1 o2 o3 o4 first xs names : List ℕ) → o1 ≡ o ++ first → o2 ≡ o1 ++ xs → o3 ≡ o2 ++ (32 ∷ 58 ∷ []) → o4 ≡ o3 ++ names → o4 ≡ o ++ (first ++ (xs ++ ((32 ∷ 58 ∷ []) ++ names)))
+divided o o1 o2 o3 o4 first xs names h1 h2 h3 h4 = rw (h4, h3, h2, h1) (simp append_assoc)
+
+pub table_drawn : (s s0 s1 s2 s3 t : ℕ) (x y z : ℤ) (v : List ℤ) → s0 ≡ s → v ≡ set_values x y z (pos t) → x ≡ (level s0).value → s1 ≡ (level s0).state → y ≡ (level s1).value → s2 ≡ (level s1).state
+    → z ≡ (level s2).value → s3 ≡ (level s2).state → t ≡ top 300 (next s3)
+    → v ≡ set_values (level s).value (level (level s).state).value (level (level (level s).state).state).value (pos (top 300 (next (level (level (level s).state).state).state)))
+table_drawn s s0 s1 s2 s3 t x y z v e0 ev ex e1 ey e2 ez e3 et = rw (ev, ex, ey, ez, et, e3, e2, e1, e0) refl
 
 pub level_of : (s n : ℕ) (a : ℤ) → n ≡ top 401 (next s) → a ≡ pos n -ℤ pos 200 → a ≡ (level s).value
 unfolding level
@@ -100,49 +142,37 @@ pub level-state : (s : ℕ) → (level s).state ≡ next s
 unfolding level
 level-state s = refl
 
--- a line of numbers, a colon and names, in the pieces that it is put down in
-pub divided : (o o1 o2 o3 o4 o5 first : List ℕ) (xs ys : List (List ℕ)) → o1 ≡ o ++ first → o2 ≡ o1 ++ spaced xs → o3 ≡ o2 ++ (32 ∷ 58 ∷ []) → o4 ≡ o3 ++ spaced ys → o5 ≡ o4 ++ (10 ∷ [])
-    → o5 ≡ o ++ line first (xs ++ (58 ∷ []) ∷ ys)
-divided o o1 o2 o3 o4 o5 first xs ys h1 h2 h3 h4 h5 = grind (arith, spacing)
-
-pub table_drawn : (s s0 s1 s2 s3 t : ℕ) (x y z : ℤ) (v : List ℤ) → s0 ≡ s → v ≡ table_values x y z t → x ≡ (level s0).value → s1 ≡ (level s0).state → y ≡ (level s1).value → s2 ≡ (level s1).state
-    → z ≡ (level s2).value → s3 ≡ (level s2).state → t ≡ top 300 (next s3)
-    → v ≡ table_values (level s).value (level (level s).state).value (level (level (level s).state).state).value (top 300 (next (level (level (level s).state).state).state))
-table_drawn s s0 s1 s2 s3 t x y z v e0 ev ex e1 ey e2 ez e3 et = rw (ev, ex, ey, ez, et, e3, e2, e1, e0) refl
-
 -- a line more of a kind
-pub lines_none : (one : Drawing (List ℕ)) (s : ℕ) (out : List ℕ) → out ≡ out ++ (lines 0 one s).value
+pub lines_none : (kind : Kind) (s : ℕ) (out : List ℕ) → out ≡ out ++ (lines 0 kind s).value
+unfolding lines series
+lines_none kind s out = sym (append-nil out)
+
+pub lines_after_none : (kind : Kind) (s : ℕ) → s ≡ (lines 0 kind s).state
+unfolding lines series
+lines_after_none kind s = refl
+
+pub lines_more : (kind : Kind) (n s s' : ℕ) (out out' put more : List ℕ) → out' ≡ out ++ (lines n kind s).value → s' ≡ (lines n kind s).state
+    → put ≡ out' ++ (line_of kind s').value → more ≡ put ++ codes "\n" → more ≡ out ++ (lines (n + 1) kind s).value
 unfolding lines
-lines_none one s out = sym (append-nil out)
+lines_more kind n s s' out out' put more before after line feed =
+    series_more (λ i. line_of kind >> done (codes "\n")) n s s' out out' more before after (feed ∙ ap (λ o. o ++ codes "\n") line ∙ append_assoc out' (line_of kind s').value (codes "\n"))
 
-pub after_none : (one : Drawing (List ℕ)) (s : ℕ) → s ≡ (lines 0 one s).state
+pub lines_after_more : (kind : Kind) (n s s' s'' : ℕ) → s' ≡ (lines n kind s).state → s'' ≡ (line_of kind s').state → s'' ≡ (lines (n + 1) kind s).state
 unfolding lines
-after_none one s = refl
+lines_after_more kind n s s' s'' after put = series_after_more (λ i. line_of kind >> done (codes "\n")) n s s' s'' after put
 
-pub lines_more : (one : Drawing (List ℕ)) (n s s' : ℕ) (out out' more : List ℕ) → out' ≡ out ++ (lines n one s).value → s' ≡ (lines n one s).state → more ≡ out' ++ (one s').value
-    → more ≡ out ++ (lines (n + 1) one s).value
-unfolding lines
-lines_more one n s s' out out' more text after put =
-    rw add-one (put ∙ ap (λ o. o ++ (one s').value) text ∙ append_assoc out (lines n one s).value (one s').value ∙ ap (λ t. out ++ ((lines n one s).value ++ (one t).value)) after)
+-- eight pieces, one behind another
+pieces : (o o1 o2 o3 o4 o5 o6 o7 ground weights terms : List ℕ) → o ≡ [] → o1 ≡ o ++ codes "sfm 1\nground" → o2 ≡ o1 ++ ground → o3 ≡ o2 ++ codes "\nweight" → o4 ≡ o3 ++ weights
+    → o5 ≡ o4 ++ codes "\n" → o6 ≡ o5 ++ terms → o7 ≡ o6 ++ codes "end\n"
+    → o7 ≡ (codes "sfm 1\nground" ++ ground) ++ ((codes "\nweight" ++ weights) ++ (codes "\n" ++ (terms ++ codes "end\n")))
+pieces o o1 o2 o3 o4 o5 o6 o7 ground weights terms h h1 h2 h3 h4 h5 h6 h7 = rw (h7, h6, h5, h4, h3, h2, h1, h) (simp append_assoc)
 
-pub after_more : (one : Drawing (List ℕ)) (n s s' s'' : ℕ) → s' ≡ (lines n one s).state → s'' ≡ (one s').state → s'' ≡ (lines (n + 1) one s).state
-unfolding lines
-after_more one n s s' s'' after put = rw add-one (put ∙ ap (λ t. (one t).state) after)
-
--- a text behind which another stands
-pub behind : (m n : Drawing (List ℕ)) (s s' : ℕ) (out out' more : List ℕ) → out' ≡ out ++ (m s).value → s' ≡ (m s).state → more ≡ out' ++ (n s').value
-    → more ≡ out ++ ((m >> n) s).value
-behind m n s s' out out' more text after put =
-    put ∙ ap (λ o. o ++ (n s').value) text ∙ append_assoc out (m s).value (n s').value ∙ ap (λ t. out ++ ((m s).value ++ (n t).value)) after
-
--- seven pieces, one behind another
-pieces : (o o1 o2 o3 o4 o5 o6 ground weights terms : List ℕ) → o ≡ [] → o1 ≡ o ++ codes "sfm 1\nground" → o2 ≡ o1 ++ ground → o3 ≡ o2 ++ codes "\n" → o4 ≡ o3 ++ weights → o5 ≡ o4 ++ terms
-    → o6 ≡ o5 ++ codes "end\n" → o6 ≡ codes "sfm 1\n" ++ (codes "ground" ++ ground ++ codes "\n" ++ (weights ++ (terms ++ codes "end\n")))
-pieces o o1 o2 o3 o4 o5 o6 ground weights terms h h1 h2 h3 h4 h5 h6 = rw (h6, h5, h4, h3, h2, h1, h) (simp append_assoc)
-
-pub whole : (o o1 o2 o3 o4 o5 o6 : List ℕ) (seed s s' : ℕ) → o ≡ [] → o1 ≡ o ++ codes "sfm 1\nground" → o2 ≡ o1 ++ spaced (names (run 0 1 200)) → o3 ≡ o2 ++ codes "\n" → s ≡ seed
-    → o4 ≡ o3 ++ (weight_line s).value → s' ≡ (weight_line s).state → o5 ≡ o4 ++ (term_lines s').value → o6 ≡ o5 ++ codes "end\n" → o6 ≡ demo_text_of seed
+pub whole : (o o1 o2 o3 o4 o5 o6 o7 : List ℕ) (seed s s' : ℕ) → o ≡ [] → o1 ≡ o ++ codes "sfm 1\nground" → o2 ≡ o1 ++ names 0 1 200 → o3 ≡ o2 ++ codes "\nweight" → s ≡ seed
+    → o4 ≡ o3 ++ (each pair 0 1 200 s).value → s' ≡ (each pair 0 1 200 s).state → o5 ≡ o4 ++ codes "\n" → o6 ≡ o5 ++ (term_lines s').value → o7 ≡ o6 ++ codes "end\n" → o7 ≡ demo_text_of seed
 unfolding demo_text_of
-whole o o1 o2 o3 o4 o5 o6 seed s s' h h1 h2 h3 e h4 e' h5 h6 =
-    pieces o o1 o2 o3 o4 o5 o6 (spaced (names (run 0 1 200))) (weight_line seed).value (term_lines (weight_line seed).state).value h h1 h2 h3 (h4 ∙ ap (λ t. o3 ++ (weight_line t).value) e)
-    (h5 ∙ ap (λ t. o4 ++ (term_lines t).value) (e' ∙ ap (λ t. (weight_line t).state) e)) h6
+whole o o1 o2 o3 o4 o5 o6 o7 seed s s' h h1 h2 h3 e h4 e' h5 h6 h7 =
+    let same : (each element 0 1 200 seed).state ≡ seed = still 0 1 200 seed in
+    let start : s ≡ (each element 0 1 200 seed).state = e ∙ sym same in
+    pieces o o1 o2 o3 o4 o5 o6 o7 (each element 0 1 200 seed).value (each pair 0 1 200 (each element 0 1 200 seed).state).value (term_lines (each pair 0 1 200 (each element 0 1 200 seed).state).state).value
+    h h1 (h2 ∙ ap (λ w. o1 ++ w) (sym (named 0 1 200 seed))) h3 (h4 ∙ ap (λ t. o3 ++ (each pair 0 1 200 t).value) start) h5
+    (h6 ∙ ap (λ t. o5 ++ (term_lines t).value) (e' ∙ ap (λ t. (each pair 0 1 200 t).state) start)) h7

@@ -1,153 +1,73 @@
--- The text of a demonstration instance: 200 elements, and 176 terms of all kinds, drawn from a seed. In a `do` block the draws are made
--- in the order of its lines. A line with no `←` is what the block makes; where it is text, texts of several lines stand one behind another.
-use Rattle.std.specs.Prelude.{ℕ, zero, suc, ◌+◌, ◌*◌, ◌%◌, List, [], ◌∷◌, ◌++◌, codes, map, ℤ, pos, ◌+ℤ◌, ◌-ℤ◌, ◌==◌, if◌then◌else◌}
-use Rattle.std.specs.Int.{bit_at}
-use Rattle.std.specs.List.{range_with_len}
+-- The text of a demonstration instance: 200 elements, and 176 terms of all kinds, drawn from a seed. Texts that `>>` joins stand one
+-- behind another, and so do those of the lines of a `do` block. The draws are made in the order in which they are named.
+use Prim.Native.String.{String}
+use Rattle.std.specs.Prelude.{ℕ, zero, suc, ◌+◌, ◌-◌, ◌*◌, ◌%◌, List, [], ◌∷◌, ◌++◌, codes, ℤ, pos, ◌+ℤ◌, ◌-ℤ◌}
 use Rattle.std.specs.Fmt.{decimal, signed_decimal}
+use Rattle.sfm_demo.specs.declared.kind.Kind.{Kind}
+use Rattle.sfm_demo.specs.declared.kind.Kind.TheVariants.{Cut, Need, Cover, Concave, Uniform, Laminar, Graphic, Transversal, Table}
 use Rattle.sfm_demo.specs.Draws.{Drawing, draw, done, ◌>>=◌, ◌>>◌}
 
--- a space and a word, for each word
-abbrev pub spaced : List (List ℕ) → List ℕ
-spaced [] = []
-spaced (word ∷ words) = (32 ∷ word) ++ spaced words
+-- a text for which nothing is drawn
+abbrev pub say : String → Drawing (List ℕ)
+say text = done (codes text)
 
--- words with a space between, and a line feed
-abbrev pub line : List ℕ → List (List ℕ) → List ℕ
-line first words = first ++ spaced words ++ codes "\n"
+-- each number behind a space
+abbrev pub numbers : List ℤ → List ℕ
+numbers [] = []
+numbers (x ∷ xs) = 32 ∷ signed_decimal x ++ numbers xs
 
--- the name of an element
-abbrev pub element : ℕ → List ℕ
-element e = codes "e" ++ decimal e
+-- the name of an element behind a space
+unfoldable pub element : ℕ → Drawing (List ℕ)
+element e = done (codes " e" ++ decimal e)
 
--- the names of some elements
-abbrev pub names : List ℕ → List (List ℕ)
-names es = map element es
+-- a drawn number below k
+abbrev pub number : ℕ → Drawing (List ℕ)
+number k = do
+  n ← draw k
+  done (decimal n)
 
--- so many elements, each a step behind the one before, round the 200
-unfoldable pub run : ℕ → ℕ → ℕ → List ℕ
-run p step count = map (λ j. (p + step * j) % 200) (range_with_len 0 count)
+-- two different drawn numbers below k, each behind a text
+abbrev pub two : ℕ → String → String → Drawing (List ℕ)
+two k first second = do
+  a ← draw k
+  d ← draw (k - 1)
+  say first >> done (decimal a) >> say second >> done (decimal ((a + 1 + d) % k))
 
--- a word for each element
-abbrev pub each : (ℕ → Drawing (List ℕ)) → List ℕ → Drawing (List (List ℕ))
-each word [] = done []
-each word (e ∷ es) = do
-  first ← word e
-  more ← each word es
-  done (first ∷ more)
+-- the texts for 0, 1, 2 and so on, n of them
+unfoldable pub series : ℕ → (ℕ → Drawing (List ℕ)) → Drawing (List ℕ)
+series zero text = say ""
+series (suc n) text = series n text >> text n
 
--- e0, e1 and so on to e199
-abbrev pub ground : List ℕ
-ground = run 0 1 200
+-- a text for each of so many elements from p on, each a step behind the one before, round the 200
+unfoldable pub each : (ℕ → Drawing (List ℕ)) → ℕ → ℕ → ℕ → Drawing (List ℕ)
+each text p step count = series count (λ j. text ((p + step * j) % 200))
+
+-- the same from a drawn element on
+abbrev pub some : (ℕ → Drawing (List ℕ)) → ℕ → ℕ → Drawing (List ℕ)
+some text step count = do
+  p ← draw 200
+  each text p step count
 
 -- an element and its weight, from -1000 to 1000
-abbrev pub pair : ℕ → Drawing (List ℕ)
+unfoldable pub pair : ℕ → Drawing (List ℕ)
 pair e = do
   w ← draw 2001
-  done (element e ++ codes ":" ++ signed_decimal (pos w -ℤ pos 1000))
-
--- a weight for each element
-abbrev pub weight_line : Drawing (List ℕ)
-weight_line = do
-  pairs ← each pair ground
-  done (line (codes "weight") pairs)
-
--- a cut between two different elements
-abbrev pub cut_line : Drawing (List ℕ)
-cut_line = do
-  c ← draw 400
-  a ← draw 200
-  d ← draw 199
-  done (line (codes "cut") (decimal c ∷ element a ∷ element ((a + 1 + d) % 200) ∷ []))
-
--- a condition between two different elements
-abbrev pub need_line : Drawing (List ℕ)
-need_line = do
-  a ← draw 200
-  d ← draw 199
-  done (line (codes "need") (element a ∷ element ((a + 1 + d) % 200) ∷ []))
-
--- a coverage of six elements
-abbrev pub cover_line : Drawing (List ℕ)
-cover_line = do
-  w ← draw 1500
-  p ← draw 200
-  done (line (codes "cover") (decimal w ∷ names (run p 7 6)))
-
--- so many increments behind d, each the one before less a draw
-unfoldable pub further : ℕ → ℤ → Drawing (List ℤ)
-further zero d = done []
-further (suc n) d = do
-  less ← draw 150
-  more ← further n (d -ℤ pos less)
-  done ((d -ℤ pos less) ∷ more)
-
--- what a becomes by each increment, one after another
-abbrev pub sums : ℤ → List ℤ → List ℤ
-sums a [] = []
-sums a (d ∷ ds) = (a +ℤ d) ∷ sums (a +ℤ d) ds
-
--- the texts of some numbers
-abbrev pub numbers : List ℤ → List (List ℕ)
-numbers x = map signed_decimal x
-
--- its numbers are the partial sums of the increments
-abbrev pub concave_line : Drawing (List ℕ)
-concave_line = do
-  p ← draw 200
-  d ← draw 600
-  ds ← further 7 (pos d)
-  done (line (codes "concave") (numbers (pos d ∷ sums (pos d) ds) ++ codes ":" ∷ names (run p 11 8)))
-
--- a rank: its number, its word, and what follows
-abbrev pub rank_line : ℕ → List ℕ → List (List ℕ) → List ℕ
-rank_line w kind words = line (codes "rank") (decimal w ∷ kind ∷ words)
-
--- a uniform rank of ten elements
-abbrev pub uniform_line : Drawing (List ℕ)
-uniform_line = do
-  w ← draw 500
-  c ← draw 9
-  p ← draw 200
-  done (rank_line w (codes "uniform") (decimal (1 + c) ∷ codes ":" ∷ names (run p 3 10)))
-
--- a laminar rank of ten elements with two groups, one in the other
-abbrev pub laminar_line : Drawing (List ℕ)
-laminar_line = do
-  w ← draw 500
-  c ← draw 2
-  p ← draw 200
-  done (rank_line w (codes "laminar") (codes ":" ∷ names (run p 1 10) ++ codes ";" ∷ codes "4" ∷ names (run p 1 6)
-      ++ codes ";" ∷ decimal (1 + c) ∷ names (run p 1 3)))
+  element e >> say ":" >> done (signed_decimal (pos w -ℤ pos 1000))
 
 -- an element and two of six vertices
-abbrev pub edge : ℕ → Drawing (List ℕ)
-edge e = do
-  u ← draw 6
-  x ← draw 6
-  done (element e ++ codes "=v" ++ decimal u ++ codes "-v" ++ decimal x)
-
--- a graphic rank of ten edges
-abbrev pub graphic_line : Drawing (List ℕ)
-graphic_line = do
-  w ← draw 500
-  p ← draw 200
-  edges ← each edge (run p 13 10)
-  done (rank_line w (codes "graphic") (codes ":" ∷ edges))
+unfoldable pub edge : ℕ → Drawing (List ℕ)
+edge e = element e >> say "=v" >> number 6 >> say "-v" >> number 6
 
 -- an element and two different ones of five slots
-abbrev pub entry : ℕ → Drawing (List ℕ)
-entry e = do
-  a ← draw 5
-  d ← draw 4
-  done (element e ++ codes "=s" ++ decimal a ++ codes ",s" ++ decimal ((a + 1 + d) % 5))
+unfoldable pub entry : ℕ → Drawing (List ℕ)
+entry e = element e >> two 5 "=s" ",s"
 
--- a transversal rank of eight elements
-abbrev pub transversal_line : Drawing (List ℕ)
-transversal_line = do
-  w ← draw 500
-  p ← draw 200
-  entries ← each entry (run p 9 8)
-  done (rank_line w (codes "transversal") (codes ":" ∷ entries))
+-- so many numbers that follow a: their increments fall, each being the one before, at first d, less a draw
+unfoldable pub falling : ℕ → ℤ → ℤ → Drawing (List ℕ)
+falling zero a d = say ""
+falling (suc n) a d = do
+  less ← draw 150
+  say " " >> done (signed_decimal (a +ℤ (d -ℤ pos less))) >> falling n (a +ℤ (d -ℤ pos less)) (d -ℤ pos less)
 
 -- a number from -200 to 200
 unfoldable pub level : Drawing ℤ
@@ -155,53 +75,56 @@ level = do
   n ← draw 401
   done (pos n -ℤ pos 200)
 
--- the value of the set that holds the first, second and third element exactly where bits 0, 1 and 2 of i are 1
-abbrev pub table_value : ℤ → ℤ → ℤ → ℕ → ℕ → ℤ
-table_value x y z t i = (if bit_at i 0 == 1 then x else pos 0) +ℤ (if bit_at i 1 == 1 then y else pos 0) +ℤ (if bit_at i 2 == 1 then z else pos 0)
-    +ℤ (if i == 0 then pos 0 else pos t)
+-- the values of the sets of three elements, by their numbers: what the members bring, and t where there are any
+unfoldable pub set_values : ℤ → ℤ → ℤ → ℤ → List ℤ
+set_values x y z t = pos 0 ∷ (x +ℤ t) ∷ (y +ℤ t) ∷ (x +ℤ y +ℤ t) ∷ (z +ℤ t) ∷ (x +ℤ z +ℤ t) ∷ (y +ℤ z +ℤ t) ∷ (x +ℤ y +ℤ z +ℤ t) ∷ []
 
--- the values of the eight sets of three elements
-unfoldable pub table_values : ℤ → ℤ → ℤ → ℕ → List ℤ
-table_values x y z t = map (table_value x y z t) (range_with_len 0 8)
-
--- a table over three elements
-abbrev pub table_line : Drawing (List ℕ)
-table_line = do
+-- a line of each kind of term
+unfoldable pub line_of : Kind → Drawing (List ℕ)
+line_of Cut = say "cut " >> number 400 >> two 200 " e" " e"
+line_of Need = say "need" >> two 200 " e" " e"
+line_of Cover = say "cover " >> number 1500 >> some element 7 6
+line_of Concave = do
+  p ← draw 200
+  d ← draw 600
+  say "concave " >> done (decimal d) >> falling 7 (pos d) (pos d)
+  say " :" >> each element p 11 8
+line_of Uniform = do
+  say "rank " >> number 500
+  c ← draw 9
+  say " uniform " >> done (decimal (1 + c)) >> say " :" >> some element 3 10
+line_of Laminar = do
+  say "rank " >> number 500
+  c ← draw 2
+  p ← draw 200
+  say " laminar :" >> each element p 1 10 >> say " ; 4" >> each element p 1 6
+  say " ; " >> done (decimal (1 + c)) >> each element p 1 3
+line_of Graphic = say "rank " >> number 500 >> say " graphic :" >> some edge 13 10
+line_of Transversal = say "rank " >> number 500 >> say " transversal :" >> some entry 9 8
+line_of Table = do
   p ← draw 200
   x ← level
   y ← level
   z ← level
   t ← draw 300
-  done (line (codes "table") (numbers (table_values x y z t) ++ codes ":" ∷ names (run p 17 3)))
+  say "table" >> done (numbers (set_values x y z (pos t))) >> say " :" >> each element p 17 3
 
 -- so many lines of a kind
-unfoldable pub lines : ℕ → Drawing (List ℕ) → Drawing (List ℕ)
-lines zero one = done []
-lines (suc n) one = do
-  lines n one
-  one
+unfoldable pub lines : ℕ → Kind → Drawing (List ℕ)
+lines n kind = series n (λ i. line_of kind >> say "\n")
 
 -- the lines of the terms behind the weights
 unfoldable pub term_lines : Drawing (List ℕ)
 term_lines = do
-  lines 100 cut_line
-  lines 20 need_line
-  lines 20 cover_line
-  lines 10 concave_line
-  lines 5 uniform_line
-  lines 5 laminar_line
-  lines 5 graphic_line
-  lines 5 transversal_line
-  lines 5 table_line
+  lines 100 Cut >> lines 20 Need >> lines 20 Cover >> lines 10 Concave
+  lines 5 Uniform >> lines 5 Laminar >> lines 5 Graphic >> lines 5 Transversal >> lines 5 Table
 
 -- all lines
 abbrev pub demo : Drawing (List ℕ)
 demo = do
-  done (line (codes "sfm") (codes "1" ∷ []))
-  done (line (codes "ground") (names ground))
-  weight_line
-  term_lines
-  done (line (codes "end") [])
+  say "sfm 1\nground" >> each element 0 1 200
+  say "\nweight" >> each pair 0 1 200
+  say "\n" >> term_lines >> say "end\n"
 
 -- the text of a seed
 unfoldable pub demo_text_of : ℕ → List ℕ

@@ -31,6 +31,6 @@ abbrev pub ◌>>=◌ : {A B : Type 0} → Drawing A → (A → Drawing B) → Dr
 m >>= f = λ s. f (m s).value (m s).state
 
 -- one text and then the other
-infixl 10 ◌>>◌
+infixr 10 ◌>>◌
 abbrev pub ◌>>◌ : Drawing (List ℕ) → Drawing (List ℕ) → Drawing (List ℕ)
 m >> n = λ s. record { value = (m s).value ++ (n (m s).state).value; state = (n (m s).state).state }

@@ -1,3 +1,3 @@
 pub mod Draws
 pub mod DemoText
-pub mod Kinds
+pub mod Names

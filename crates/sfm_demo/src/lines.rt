@@ -1,12 +1,14 @@
-// One line of each kind, put at the end of a text. The draws of a line are made in the order in which its definition names them.
+// One line of each kind, put at the end of a text without its line feed. The draws of a line are made in the order in which its
+// definition names them.
+#![tactic(auto, unfolding(crate::specs::DemoText::line_of), using(crate::proofs::Pieces::joining))]
+
 ghost use Rattle.std.specs.Prelude.{◌≡◌, ◌+◌, ◌%◌, ◌<◌, ◌++◌, OnOk, pos, neg_ℤ, ◌≤ℤ◌};
 ghost use Rattle.std.specs.String.{string_bytes};
-ghost use Rattle.sfm_demo.specs.DemoText.{weight_line, cut_line, need_line, cover_line, concave_line, uniform_line, laminar_line, graphic_line, transversal_line, table_line, level, table_values};
+ghost use Rattle.sfm_demo.specs.DemoText.{line_of, level, set_values};
+ghost use Rattle.sfm_demo.specs.declared.kind.Kind.TheVariants.{Cut, Need, Cover, Concave, Uniform, Laminar, Graphic, Transversal, Table};
 
 use crate::draws::Draws;
-use crate::words::{
-    ELEMENTS, write_edges, write_entries, write_numbers, write_pairs, write_run, write_sums,
-};
+use crate::words::{ELEMENTS, write_edges, write_entries, write_numbers, write_run, write_sums};
 use std::alloc::AllocError;
 
 /// The element that stands d + 1 behind a.
@@ -18,81 +20,67 @@ fn behind(a: u64, d: u64) -> u64
     (a + 1 + d) % ELEMENTS
 }
 
-/// The weights of all elements.
-pub fn write_weight(out: &mut String, draws: &mut Draws) -> Result<(), AllocError>
-    ensures text { OnOk result (string_bytes out.new ≡ string_bytes out.old ++ (weight_line draws.old).value) }
-    ensures after { OnOk result (draws.new ≡ (weight_line draws.old).state) }
-{
-    write!(out, "weight")?;
-    write_pairs(out, draws)?;
-    writeln!(out)
-}
-
 /// A cut of two elements.
 pub fn write_cut(out: &mut String, draws: &mut Draws) -> Result<(), AllocError>
-    ensures text { OnOk result (string_bytes out.new ≡ string_bytes out.old ++ (cut_line draws.old).value) }
-    ensures after { OnOk result (draws.new ≡ (cut_line draws.old).state) }
+    ensures text { OnOk result (string_bytes out.new ≡ string_bytes out.old ++ (line_of Cut draws.old).value) }
+    ensures after { OnOk result (draws.new ≡ (line_of Cut draws.old).state) }
 {
     let c = draws.draw(400);
     let a = draws.draw(200);
     let b = behind(a, draws.draw(199));
-    writeln!(out, "cut {c} e{a} e{b}")
+    write!(out, "cut {c} e{a} e{b}")
 }
 
 /// A condition on two elements.
 pub fn write_need(out: &mut String, draws: &mut Draws) -> Result<(), AllocError>
-    ensures text { OnOk result (string_bytes out.new ≡ string_bytes out.old ++ (need_line draws.old).value) }
-    ensures after { OnOk result (draws.new ≡ (need_line draws.old).state) }
+    ensures text { OnOk result (string_bytes out.new ≡ string_bytes out.old ++ (line_of Need draws.old).value) }
+    ensures after { OnOk result (draws.new ≡ (line_of Need draws.old).state) }
 {
     let a = draws.draw(200);
     let b = behind(a, draws.draw(199));
-    writeln!(out, "need e{a} e{b}")
+    write!(out, "need e{a} e{b}")
 }
 
 /// A cover of six elements.
 pub fn write_cover(out: &mut String, draws: &mut Draws) -> Result<(), AllocError>
-    ensures text { OnOk result (string_bytes out.new ≡ string_bytes out.old ++ (cover_line draws.old).value) }
-    ensures after { OnOk result (draws.new ≡ (cover_line draws.old).state) }
+    ensures text { OnOk result (string_bytes out.new ≡ string_bytes out.old ++ (line_of Cover draws.old).value) }
+    ensures after { OnOk result (draws.new ≡ (line_of Cover draws.old).state) }
 {
     let w = draws.draw(1500);
     let p = draws.draw(200);
     write!(out, "cover {w}")?;
-    write_run(out, p, 7, 6)?;
-    writeln!(out)
+    write_run(out, p, 7, 6)
 }
 
 /// A concave function of the number of elements among eight.
 pub fn write_concave(out: &mut String, draws: &mut Draws) -> Result<(), AllocError>
-    ensures text { OnOk result (string_bytes out.new ≡ string_bytes out.old ++ (concave_line draws.old).value) }
-    ensures after { OnOk result (draws.new ≡ (concave_line draws.old).state) }
+    ensures text { OnOk result (string_bytes out.new ≡ string_bytes out.old ++ (line_of Concave draws.old).value) }
+    ensures after { OnOk result (draws.new ≡ (line_of Concave draws.old).state) }
 {
     let p = draws.draw(200);
     let first = draws.draw(600);
     write!(out, "concave {first}")?;
     write_sums(out, draws, first as i64, 7)?;
     write!(out, " :")?;
-    write_run(out, p, 11, 8)?;
-    writeln!(out)?;
-    Ok(())
+    write_run(out, p, 11, 8)
 }
 
 /// The rank of a uniform matroid of ten elements.
 pub fn write_uniform(out: &mut String, draws: &mut Draws) -> Result<(), AllocError>
-    ensures text { OnOk result (string_bytes out.new ≡ string_bytes out.old ++ (uniform_line draws.old).value) }
-    ensures after { OnOk result (draws.new ≡ (uniform_line draws.old).state) }
+    ensures text { OnOk result (string_bytes out.new ≡ string_bytes out.old ++ (line_of Uniform draws.old).value) }
+    ensures after { OnOk result (draws.new ≡ (line_of Uniform draws.old).state) }
 {
     let w = draws.draw(500);
     let c = 1 + draws.draw(9);
     let p = draws.draw(200);
     write!(out, "rank {w} uniform {c} :")?;
-    write_run(out, p, 3, 10)?;
-    writeln!(out)
+    write_run(out, p, 3, 10)
 }
 
 /// The rank of a laminar matroid of ten elements, with two groups.
 pub fn write_laminar(out: &mut String, draws: &mut Draws) -> Result<(), AllocError>
-    ensures text { OnOk result (string_bytes out.new ≡ string_bytes out.old ++ (laminar_line draws.old).value) }
-    ensures after { OnOk result (draws.new ≡ (laminar_line draws.old).state) }
+    ensures text { OnOk result (string_bytes out.new ≡ string_bytes out.old ++ (line_of Laminar draws.old).value) }
+    ensures after { OnOk result (draws.new ≡ (line_of Laminar draws.old).state) }
 {
     let w = draws.draw(500);
     let c = 1 + draws.draw(2);
@@ -102,33 +90,29 @@ pub fn write_laminar(out: &mut String, draws: &mut Draws) -> Result<(), AllocErr
     write!(out, " ; 4")?;
     write_run(out, p, 1, 6)?;
     write!(out, " ; {c}")?;
-    write_run(out, p, 1, 3)?;
-    writeln!(out)?;
-    Ok(())
+    write_run(out, p, 1, 3)
 }
 
 /// The rank of a graphic matroid of ten edges.
 pub fn write_graphic(out: &mut String, draws: &mut Draws) -> Result<(), AllocError>
-    ensures text { OnOk result (string_bytes out.new ≡ string_bytes out.old ++ (graphic_line draws.old).value) }
-    ensures after { OnOk result (draws.new ≡ (graphic_line draws.old).state) }
+    ensures text { OnOk result (string_bytes out.new ≡ string_bytes out.old ++ (line_of Graphic draws.old).value) }
+    ensures after { OnOk result (draws.new ≡ (line_of Graphic draws.old).state) }
 {
     let w = draws.draw(500);
     let p = draws.draw(200);
     write!(out, "rank {w} graphic :")?;
-    write_edges(out, draws, p)?;
-    writeln!(out)
+    write_edges(out, draws, p)
 }
 
 /// The rank of a transversal matroid of eight elements.
 pub fn write_transversal(out: &mut String, draws: &mut Draws) -> Result<(), AllocError>
-    ensures text { OnOk result (string_bytes out.new ≡ string_bytes out.old ++ (transversal_line draws.old).value) }
-    ensures after { OnOk result (draws.new ≡ (transversal_line draws.old).state) }
+    ensures text { OnOk result (string_bytes out.new ≡ string_bytes out.old ++ (line_of Transversal draws.old).value) }
+    ensures after { OnOk result (draws.new ≡ (line_of Transversal draws.old).state) }
 {
     let w = draws.draw(500);
     let p = draws.draw(200);
     write!(out, "rank {w} transversal :")?;
-    write_entries(out, draws, p)?;
-    writeln!(out)
+    write_entries(out, draws, p)
 }
 
 /// A number from -200 to 200.
@@ -150,7 +134,7 @@ fn table_values(x: i64, y: i64, z: i64, t: u64) -> [i64; 8]
     requires z_low { neg_ℤ (pos 200) ≤ℤ z }
     requires z_high { z ≤ℤ pos 200 }
     requires t { t < 300 }
-    ensures { result ≡ table_values x y z t }
+    ensures { result ≡ set_values x y z (pos t) }
 {
     let t = t as i64;
     [
@@ -167,8 +151,8 @@ fn table_values(x: i64, y: i64, z: i64, t: u64) -> [i64; 8]
 
 /// A table of the sets of three elements.
 pub fn write_table(out: &mut String, draws: &mut Draws) -> Result<(), AllocError>
-    ensures text { OnOk result (string_bytes out.new ≡ string_bytes out.old ++ (table_line draws.old).value) }
-    ensures after { OnOk result (draws.new ≡ (table_line draws.old).state) }
+    ensures text { OnOk result (string_bytes out.new ≡ string_bytes out.old ++ (line_of Table draws.old).value) }
+    ensures after { OnOk result (draws.new ≡ (line_of Table draws.old).state) }
 {
     let p = draws.draw(200);
     let x = draw_level(draws);
@@ -179,6 +163,5 @@ pub fn write_table(out: &mut String, draws: &mut Draws) -> Result<(), AllocError
     write_numbers(out, &table_values(x, y, z, t))?;
     write!(out, " :")?;
     write_run(out, p, 17, 3)?;
-    writeln!(out)?;
     Ok(())
 }

@@ -1,21 +1,19 @@
 // The whole text: the ground, the weights, so many lines of each kind, and the end.
 ghost use Rattle.std.specs.Prelude.{◌≡◌, ◌≤◌, ◌++◌, IfOk, OnOk};
 ghost use Rattle.std.specs.String.{string_bytes};
-ghost use Rattle.sfm_demo.specs.DemoText.{demo_text_of, lines, term_lines};
-ghost use Rattle.sfm_demo.specs.Kinds.{line_of};
+ghost use Rattle.sfm_demo.specs.DemoText.{demo_text_of, line_of, lines, term_lines};
 
 use crate::draws::Draws;
 use crate::kind::Kind;
 use crate::lines::{
     write_concave, write_cover, write_cut, write_graphic, write_laminar, write_need, write_table,
-    write_transversal, write_uniform, write_weight,
+    write_transversal, write_uniform,
 };
-use crate::words::{ELEMENTS, write_run};
+use crate::words::{ELEMENTS, write_pairs, write_run};
 use sfm_base::Memory;
 use std::alloc::{AllocError, Global};
 
-/// One line of a kind.
-#[tactic(auto, unfolding(crate::specs::Kinds::line_of))]
+/// One line of a kind, without its line feed.
 fn write_line(out: &mut String, draws: &mut Draws, kind: Kind) -> Result<(), AllocError>
     ensures text { OnOk result (string_bytes out.new ≡ string_bytes out.old ++ (line_of kind draws.old).value) }
     ensures after { OnOk result (draws.new ≡ (line_of kind draws.old).state) }
@@ -40,16 +38,18 @@ fn write_lines(
     kind: Kind,
     count: usize,
 ) -> Result<(), AllocError>
-    ensures text { OnOk result (string_bytes out.new ≡ string_bytes out.old ++ (lines count (line_of kind) draws.old).value) }
-    ensures after { OnOk result (draws.new ≡ (lines count (line_of kind) draws.old).state) }
+    ensures text { OnOk result (string_bytes out.new ≡ string_bytes out.old ++ (lines count kind draws.old).value) }
+    ensures after { OnOk result (draws.new ≡ (lines count kind draws.old).state) }
 {
     for _i in 0..count {
         write_line(out, draws, kind)?;
+        writeln!(out)?;
     }
     Ok(())
 }
 
 /// The lines of the terms behind the weights.
+#[tactic(auto, unfolding(crate::specs::DemoText::term_lines), using(crate::proofs::Pieces::joining))]
 fn write_terms(out: &mut String, draws: &mut Draws) -> Result<(), AllocError>
     ensures { OnOk result (string_bytes out.new ≡ string_bytes out.old ++ (term_lines draws.old).value) }
 {
@@ -78,8 +78,9 @@ pub fn demo_text(alloc: Global, seed: u64) -> Result<Vec<u8>, Memory>
     let mut draws = Draws::new(seed);
     write!(out, "sfm 1\nground")?;
     write_run(&mut out, 0, 1, ELEMENTS)?;
+    write!(out, "\nweight")?;
+    write_pairs(&mut out, &mut draws)?;
     writeln!(out)?;
-    write_weight(&mut out, &mut draws)?;
     write_terms(&mut out, &mut draws)?;
     writeln!(out, "end")?;
     Ok(out.into_bytes())

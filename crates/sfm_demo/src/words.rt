@@ -1,7 +1,8 @@
-// Words of a line, put at the end of a text with a space in front of each: elements, numbers, and what is drawn for an element.
-ghost use Rattle.std.specs.Prelude.{◌≡◌, ◌+◌, ◌%◌, ◌<◌, ◌≤◌, ◌∷◌, ◌++◌, [], OnOk, pos, ◌-ℤ◌, ◌≤ℤ◌, neg_ℤ};
+// Words of a line, put at the end of a text with a space in front of each: elements, what is drawn for an element, and numbers.
+ghost use Rattle.std.specs.Prelude.{◌≡◌, ◌<◌, ◌≤◌, ◌++◌, OnOk, pos, ◌≤ℤ◌};
 ghost use Rattle.std.specs.String.{string_bytes};
-ghost use Rattle.sfm_demo.specs.DemoText.{each, edge, entry, ground, further, names, numbers, pair, run, spaced, sums};
+ghost use Rattle.sfm_demo.specs.DemoText.{each, edge, entry, falling, numbers, pair};
+ghost use Rattle.sfm_demo.specs.Names.{names};
 
 use crate::draws::Draws;
 use std::alloc::AllocError;
@@ -16,7 +17,7 @@ pub fn write_run(out: &mut String, p: u64, step: u64, count: u64) -> Result<(), 
     requires first { p < 200 }
     requires step { step < 200 }
     requires count { count ≤ 200 }
-    ensures { OnOk result (string_bytes out.new ≡ string_bytes out.old ++ spaced (names (run p step count))) }
+    ensures { OnOk result (string_bytes out.new ≡ string_bytes out.old ++ names p step count) }
 {
     for j in 0..count {
         let e = (p + step * j) % ELEMENTS;
@@ -26,8 +27,9 @@ pub fn write_run(out: &mut String, p: u64, step: u64, count: u64) -> Result<(), 
 }
 
 /// An element with a weight.
+#[tactic(auto, unfolding(crate::specs::DemoText::pair, crate::specs::DemoText::element))]
 fn write_pair(out: &mut String, draws: &mut Draws, e: u64) -> Result<(), AllocError>
-    ensures text { OnOk result (string_bytes out.new ≡ string_bytes out.old ++ spaced ((pair e draws.old).value ∷ [])) }
+    ensures text { OnOk result (string_bytes out.new ≡ string_bytes out.old ++ (pair e draws.old).value) }
     ensures after { OnOk result (draws.new ≡ (pair e draws.old).state) }
 {
     let w = draws.draw(2001) as i64 - 1000;
@@ -36,8 +38,8 @@ fn write_pair(out: &mut String, draws: &mut Draws, e: u64) -> Result<(), AllocEr
 
 /// Each element with a weight.
 pub fn write_pairs(out: &mut String, draws: &mut Draws) -> Result<(), AllocError>
-    ensures text { OnOk result (string_bytes out.new ≡ string_bytes out.old ++ spaced (each pair ground draws.old).value) }
-    ensures after { OnOk result (draws.new ≡ (each pair ground draws.old).state) }
+    ensures text { OnOk result (string_bytes out.new ≡ string_bytes out.old ++ (each pair 0 1 200 draws.old).value) }
+    ensures after { OnOk result (draws.new ≡ (each pair 0 1 200 draws.old).state) }
 {
     for e in 0..ELEMENTS {
         write_pair(out, draws, e)?;
@@ -46,8 +48,9 @@ pub fn write_pairs(out: &mut String, draws: &mut Draws) -> Result<(), AllocError
 }
 
 /// An element as an edge of two vertices.
+#[tactic(auto, unfolding(crate::specs::DemoText::edge, crate::specs::DemoText::element))]
 fn write_edge(out: &mut String, draws: &mut Draws, e: u64) -> Result<(), AllocError>
-    ensures text { OnOk result (string_bytes out.new ≡ string_bytes out.old ++ spaced ((edge e draws.old).value ∷ [])) }
+    ensures text { OnOk result (string_bytes out.new ≡ string_bytes out.old ++ (edge e draws.old).value) }
     ensures after { OnOk result (draws.new ≡ (edge e draws.old).state) }
 {
     let u = draws.draw(6);
@@ -58,8 +61,8 @@ fn write_edge(out: &mut String, draws: &mut Draws, e: u64) -> Result<(), AllocEr
 /// Ten edges.
 pub fn write_edges(out: &mut String, draws: &mut Draws, p: u64) -> Result<(), AllocError>
     requires { p < 200 }
-    ensures text { OnOk result (string_bytes out.new ≡ string_bytes out.old ++ spaced (each edge (run p 13 10) draws.old).value) }
-    ensures after { OnOk result (draws.new ≡ (each edge (run p 13 10) draws.old).state) }
+    ensures text { OnOk result (string_bytes out.new ≡ string_bytes out.old ++ (each edge p 13 10 draws.old).value) }
+    ensures after { OnOk result (draws.new ≡ (each edge p 13 10 draws.old).state) }
 {
     for j in 0..10 {
         write_edge(out, draws, (p + 13 * j) % ELEMENTS)?;
@@ -68,8 +71,9 @@ pub fn write_edges(out: &mut String, draws: &mut Draws, p: u64) -> Result<(), Al
 }
 
 /// An element with two slots.
+#[tactic(auto, unfolding(crate::specs::DemoText::entry, crate::specs::DemoText::element))]
 fn write_entry(out: &mut String, draws: &mut Draws, e: u64) -> Result<(), AllocError>
-    ensures text { OnOk result (string_bytes out.new ≡ string_bytes out.old ++ spaced ((entry e draws.old).value ∷ [])) }
+    ensures text { OnOk result (string_bytes out.new ≡ string_bytes out.old ++ (entry e draws.old).value) }
     ensures after { OnOk result (draws.new ≡ (entry e draws.old).state) }
 {
     let a = draws.draw(SLOTS);
@@ -80,8 +84,8 @@ fn write_entry(out: &mut String, draws: &mut Draws, e: u64) -> Result<(), AllocE
 /// Eight elements with slots.
 pub fn write_entries(out: &mut String, draws: &mut Draws, p: u64) -> Result<(), AllocError>
     requires { p < 200 }
-    ensures text { OnOk result (string_bytes out.new ≡ string_bytes out.old ++ spaced (each entry (run p 9 8) draws.old).value) }
-    ensures after { OnOk result (draws.new ≡ (each entry (run p 9 8) draws.old).state) }
+    ensures text { OnOk result (string_bytes out.new ≡ string_bytes out.old ++ (each entry p 9 8 draws.old).value) }
+    ensures after { OnOk result (draws.new ≡ (each entry p 9 8 draws.old).state) }
 {
     for j in 0..8 {
         write_entry(out, draws, (p + 9 * j) % ELEMENTS)?;
@@ -99,8 +103,8 @@ pub fn write_sums(
     requires low { pos 0 ≤ℤ first }
     requires high { first ≤ℤ pos 600 }
     requires count { count ≤ 10 }
-    ensures text { OnOk result (string_bytes out.new ≡ string_bytes out.old ++ spaced (numbers (sums first (further count first draws.old).value))) }
-    ensures after { OnOk result (draws.new ≡ (further count first draws.old).state) }
+    ensures text { OnOk result (string_bytes out.new ≡ string_bytes out.old ++ (falling count first first draws.old).value) }
+    ensures after { OnOk result (draws.new ≡ (falling count first first draws.old).state) }
 {
     let mut sum = first;
     let mut increment = first;
@@ -114,7 +118,7 @@ pub fn write_sums(
 
 /// Numbers.
 pub fn write_numbers(out: &mut String, values: &[i64]) -> Result<(), AllocError>
-    ensures { OnOk result (string_bytes out.new ≡ string_bytes out.old ++ spaced (numbers values.now)) }
+    ensures { OnOk result (string_bytes out.new ≡ string_bytes out.old ++ numbers values.now) }
 {
     for value in values {
         write!(out, " {value}")?;
