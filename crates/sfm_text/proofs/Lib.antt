@@ -1,6 +1,7 @@
 pub mod Tokens
 pub mod Cuts
 pub mod LineCuts
+pub mod FirstTokens
 pub mod Appended
 pub mod Cutting
 pub mod Colons
@@ -14,6 +15,7 @@ pub mod Known
 pub mod Members
 pub mod Numbers
 pub mod Repeats
+pub mod Passed
 pub mod ReadLines
 pub mod TooMuch
 pub mod WordLines

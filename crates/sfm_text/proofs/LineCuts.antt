@@ -15,7 +15,7 @@ abbrev end_of : List ℕ → ℕ
 end_of text = position_or_len (λ c. c == 10) text
 
 -- where nothing is found, the list is the one piece
-split-none : (p : ℕ → Bool) (xs : List ℕ) → length xs ≤ position_or_len p xs → slice_split p xs ≡ xs ∷ []
+pub split-none : (p : ℕ → Bool) (xs : List ℕ) → length xs ≤ position_or_len p xs → slice_split p xs ≡ xs ∷ []
 split-none p [] h = refl
 split-none p (x ∷ xs) h =
     elim (p x) as (λ b. (length (x ∷ xs) ≤ cond (not b) (1 + position_or_len p xs) 0) → cond b ([] ∷ slice_split p xs) (onto_first x (slice_split p xs)) ≡ (x ∷ xs) ∷ []) [ true ↦ λ k. absurd (omega arith) | false ↦ λ k. rw (split-none p xs (omega arith)) refl ] h

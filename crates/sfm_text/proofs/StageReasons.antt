@@ -1,5 +1,5 @@
 -- What the header, the ground line and the last line lead to, and the reasons that they have.
-use Rattle.std.proofs.Common.{◌≡◌, ◌≢◌, ℕ, ◌<◌, ◌≤◌, List, [], ◌∷◌, length, get_or, map, Bor, codes, refl, sym, ap, ◌∙◌, inl, arith}
+use Rattle.std.proofs.Common.{◌≡◌, ◌≢◌, ℕ, ◌<◌, ◌≤◌, List, [], ◌∷◌, length, get_or, map, Bor, codes, refl, sym, ap, ◌∙◌, inl, inr, arith}
 use Rattle.std.specs.List.{All, Any}
 use Rattle.std.proofs.lemmas.List.Elements.{All-get_or}
 use Rattle.sfm_spec.specs.Names.{IsName}
@@ -15,6 +15,7 @@ use Rattle.sfm_text.specs.TermLines.{StandsTwice}
 use Rattle.sfm_text.specs.Reading.{State, Has, FirstReason, Takes, HasTermLine, reason_order}
 use Rattle.sfm_text.specs.ReadParts.{state_at, IsLineOf}
 use Rattle.sfm_text.proofs.Colons.{none-any}
+use Rattle.sfm_text.proofs.Passed.{all-more}
 use Rattle.sfm_text.proofs.WordLines.{not-end}
 use Rattle.sfm_text.proofs.TermReasons.{none-below}
 
@@ -39,6 +40,14 @@ pub one-text : (texts : List (Bor (List ℕ))) (d : Bor (List ℕ)) (x : List �
 one-text [] d x n e = absurd (omega arith)
 one-text (a ∷ []) d x n e = ap (λ (l : List ℕ). l ∷ []) e
 one-text (a ∷ b ∷ texts) d x n e = absurd (omega arith)
+
+-- the word of the ground line is no mark
+pub ground-unmarked : (names : List (List ℕ)) → AreUnmarked names → AreUnmarked (codes "ground" ∷ names)
+ground-unmarked names unmarked = all-more (λ token. IsMark token → ⊥) (codes "ground") names _ refl no-mark unmarked
+  where
+    no-mark : IsMark (codes "ground") → ⊥
+    no-mark (inl e) = absurd (omega (arith, ap length e))
+    no-mark (inr e) = absurd (omega (arith, ap length e))
 
 -- no reason at all
 pub none-at-all : (s : State) (line : List ℕ) → (Has s line Bytes → ⊥) → (Has s line Word → ⊥) → (Has s line Shape → ⊥) → (Has s line Number → ⊥) → (Has s line Name → ⊥) → (Has s line Twice → ⊥) → (Has s line Law → ⊥) → (Has s line Total → ⊥) → (reason : Reason) → Has s line reason → ⊥

@@ -1,5 +1,6 @@
-// Cutting a line into tokens, and telling by the first of them whether the line counts.
-ghost use Rattle.std.specs.Prelude.{◌≡◌, ◌≤◌, ℕ, List, length, map, slice_get, Some, IsTrue, IfOk, MatchOption};
+// Cutting a line into tokens, all at once or one after another, and telling by the first of them whether the line counts.
+ghost use Rattle.std.specs.Prelude.{◌≡◌, ◌≤◌, ◌<◌, ℕ, List, [], ◌∷◌, length, map, slice_get, Some, IsTrue, IfOk, IfSome, MatchBool, MatchOption};
+ghost use Rattle.std.specs.List.{position_or_len};
 ghost use Rattle.sfm_text.specs.Lines.{is_blank, tokens_of, are_skipped};
 
 use std::alloc::{AllocError, Global};
@@ -11,6 +12,39 @@ fn is_blank_byte(c: u8) -> bool
     c == b' ' || c == b'\t'
 }
 
+/// The place of the first space or tab, or the length where there is none.
+fn blank_place(line: &[u8]) -> usize
+    ensures { result ≡ position_or_len is_blank line.now }
+{
+    line.iter()
+        .position(|c| is_blank_byte(*c))
+        .unwrap_or(line.len())
+}
+
+/// The first token of a line and the line behind it, or None where there is no token. So tokens can be looked at one after
+/// another, and no list of them is made.
+pub fn first_token(line: &[u8]) -> Option<(&[u8], &[u8])>
+    ensures cut { MatchOption result
+        (tokens_of line.now ≡ [])
+        (λ r. tokens_of line.now ≡ r.0.now ∷ tokens_of r.1.now) }
+    ensures shorter { IfSome result (λ r. length r.1.now < length line.now) }
+{
+    let mut left = line;
+    let mut end = blank_place(left);
+    while end < left.len() {
+        let behind = &left[end + 1..];
+        if end > 0 {
+            return Some((&left[..end], behind));
+        }
+        left = behind;
+        end = blank_place(left);
+    }
+    if left.is_empty() {
+        return None;
+    }
+    Some((left, &left[left.len()..]))
+}
+
 /// The token number i of a line, counted from 0, or None past the last.
 pub fn token(line: &[u8], i: usize) -> Option<&[u8]>
     ensures { MatchOption result
@@ -20,6 +54,16 @@ pub fn token(line: &[u8], i: usize) -> Option<&[u8]>
     line.split(|c| is_blank_byte(*c))
         .filter(|piece| !piece.is_empty())
         .nth(i)
+}
+
+/// Whether a line has a token number i.
+pub fn has_token(line: &[u8], i: usize) -> bool
+    ensures { MatchBool result (i < length (tokens_of line.now)) (length (tokens_of line.now) ≤ i) }
+{
+    match token(line, i) {
+        Some(_) => true,
+        None => false,
+    }
 }
 
 /// The tokens of a line.

@@ -20,6 +20,7 @@ mod names;
 mod need_line;
 mod pair;
 mod parts;
+mod passes;
 mod rank_head;
 mod rank_line;
 mod reader;

@@ -10,13 +10,11 @@ ghost use Rattle.sfm_text.specs.ReadParts.{BeginsEnd};
 ghost use Rattle.sfm_text.specs.GoodText.{text_limit};
 
 use crate::added::{add_line, are_good_bytes};
-use crate::cut::{is_skipped, token, tokens};
+use crate::cut::{first_token, has_token, is_skipped, token, tokens};
 use crate::line_fault::LineEnd;
 use crate::lines::without_return;
-use crate::mark::has_mark;
-use crate::names::are_names;
+use crate::passes::{are_names_in, has_mark_in, has_repeat_in};
 use crate::reason::Reason;
-use crate::repeat::has_repeat;
 use crate::stage::Stage;
 use sfm_base::Memory;
 use sfm_kind::Instance;
@@ -32,14 +30,26 @@ pub struct Reading {
     pub instance: Instance,
 }
 
-/// The tokens behind a word, or None where the first token is another.
-fn behind<'a, 'b>(word: &[u8], tokens: &'b [&'a [u8]]) -> Option<&'b [&'a [u8]]>
+/// The line behind a word, or None where its first token is another.
+fn behind<'a>(word: &[u8], line: &'a [u8]) -> Option<&'a [u8]>
     ensures { MatchOption result
-        ((rest : List (List ℕ)) → texts_of tokens.now ≢ word.now ∷ rest)
-        (λ rest. texts_of tokens.now ≡ word.now ∷ texts_of rest.now) }
+        ((rest : List (List ℕ)) → tokens_of line.now ≢ word.now ∷ rest)
+        (λ rest. tokens_of line.now ≡ word.now ∷ tokens_of rest.now) }
 {
-    let (first, rest) = tokens.split_first()?;
-    if *first == word { Some(rest) } else { None }
+    let (first, rest) = first_token(line)?;
+    if first == word { Some(rest) } else { None }
+}
+
+/// Whether a line has the one token `1`.
+fn is_version(line: &[u8]) -> bool
+    ensures { MatchBool result
+        (tokens_of line.now ≡ codes "1" ∷ [])
+        (tokens_of line.now ≢ codes "1" ∷ []) }
+{
+    match behind(b"1", line) {
+        Some(more) => first_token(more).is_none(),
+        None => false,
+    }
 }
 
 /// Whether a token is `end`.
@@ -121,48 +131,48 @@ impl Reading {
         if !are_good_bytes(line) {
             return Err(LineEnd::Fault(Reason::Bytes));
         }
-        let tokens = tokens(alloc, line)?;
         match self.stage {
-            Stage::Header => self.take_header(&tokens),
-            Stage::Ground => self.take_ground(alloc, &tokens),
+            Stage::Header => self.take_header(line),
+            Stage::Ground => self.take_ground(alloc, line),
             Stage::Terms | Stage::Ended => Err(LineEnd::Fault(Reason::Word)),
         }
     }
 
     /// Takes the header `sfm 1`.
-    fn take_header(&mut self, tokens: &[&[u8]]) -> Result<(), LineEnd>
-        ensures { IsOutcome (state_at Header self.old.instance) (texts_of tokens.now) result (state_of self.new) }
+    fn take_header(&mut self, line: &[u8]) -> Result<(), LineEnd>
+        ensures { IsOutcome (state_at Header self.old.instance) (tokens_of line.now) result (state_of self.new) }
     {
-        let Some(rest) = behind(b"sfm", tokens) else {
+        let Some(rest) = behind(b"sfm", line) else {
             return Err(LineEnd::Fault(Reason::Word));
         };
-        if rest.len() != 1 || rest[0] != b"1".as_slice() {
+        if !is_version(rest) {
             return Err(LineEnd::Fault(Reason::Shape));
         }
         self.stage = Stage::Ground;
         Ok(())
     }
 
-    /// Takes the line with the names of the ground.
-    fn take_ground(&mut self, alloc: Global, tokens: &[&[u8]]) -> Result<(), LineEnd>
-        ensures { IsOutcome (state_at Ground self.old.instance) (texts_of tokens.now) result (state_of self.new) }
+    /// Takes the line with the names of the ground. A list of its names is made where they are few enough.
+    fn take_ground(&mut self, alloc: Global, line: &[u8]) -> Result<(), LineEnd>
+        ensures { IsOutcome (state_at Ground self.old.instance) (tokens_of line.now) result (state_of self.new) }
     {
-        let Some(names) = behind(b"ground", tokens) else {
+        let Some(rest) = behind(b"ground", line) else {
             return Err(LineEnd::Fault(Reason::Word));
         };
-        if has_mark(tokens) {
+        if has_mark_in(rest) {
             return Err(LineEnd::Fault(Reason::Shape));
         }
-        if !are_names(names) {
+        if !are_names_in(rest) {
             return Err(LineEnd::Fault(Reason::Name));
         }
-        if has_repeat(alloc, names)? {
+        if has_repeat_in(alloc, rest)? {
             return Err(LineEnd::Fault(Reason::Twice));
         }
-        if names.len() > MOST_NAMES {
+        if has_token(rest, MOST_NAMES) {
             return Err(LineEnd::Fault(Reason::Total));
         }
-        self.instance = with_names(alloc, names)?;
+        let names = tokens(alloc, rest)?;
+        self.instance = with_names(alloc, &names)?;
         self.stage = Stage::Terms;
         Ok(())
     }

@@ -1,0 +1,24 @@
+use Rattle.std.proofs.Common.{ℕ, ◌∙◌, length-drop, arith}
+use Rattle.std.proofs.lemmas.List.{length-take}
+use Rattle.sfm_text.proofs.FirstTokens.{token-first, token-behind, token-last, token-none}
+use Rattle.sfm_text.proofs.LineCuts.{not_empty}
+use Rattle.sfm_text.proofs.Standing.{none-count}
+use Rattle.sfm_text.proofs.cut.first_token.Goals as goal
+
+pub returns-then-end-gt0-clause-cut : goal.returns-then-end-gt0-clause-cut
+returns-then-end-gt0-clause-cut c = c.loop-end.invariant.tokens ∙ token-first c.loop-end.left.now c.loop-end.end c.loop-end.invariant.first c.loop-end-test.true c.if-end-gt0.true
+
+pub loop-end-preserved : goal.loop-end-preserved
+loop-end-preserved c =
+    let inv = c.loop-end.invariant in
+    record {
+      tokens = inv.tokens ∙ token-behind c.loop-end.left.now c.loop-end.end inv.first c.loop-end-test.true c.if-end-gt0.false;
+      first = c.blank_place-end-in-loop-end.ensures;
+      shorter = omega (arith, inv.shorter, c.loop-end-test.true, length-take {A = ℕ}, length-drop {A = ℕ});
+    }
+
+pub returns-then-is_empty-clause-cut : goal.returns-then-is_empty-clause-cut
+returns-then-is_empty-clause-cut c = c.loop-end.invariant.tokens ∙ token-none c.loop-end.left.now (omega (arith, none-count _ c.if-is_empty.ensures))
+
+pub returns-clause-cut : goal.returns-clause-cut
+returns-clause-cut c = c.loop-end.invariant.tokens ∙ token-last c.loop-end.left.now c.loop-end.end c.loop-end.invariant.first c.loop-end-test.false (not_empty _ c.if-is_empty.ensures)

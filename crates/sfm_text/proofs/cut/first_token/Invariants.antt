@@ -1,0 +1,14 @@
+use Rattle.std.proofs.Common.{◌≡◌, ◌≤◌, length}
+use Rattle.std.specs.List.{position_or_len}
+use Rattle.sfm_text.specs.Lines.{is_blank, tokens_of}
+use Rattle.sfm_text.proofs.cut.first_token.Given as goal
+
+abbrev pub invariant-loop-end : goal.invariant-loop-end
+invariant-loop-end l = record {
+  tokens : tokens_of l.line ≡ tokens_of l.left;
+  first : l.end ≡ position_or_len is_blank l.left;
+  shorter : length l.left ≤ length l.line;
+}
+
+abbrev pub decreases-loop-end : goal.decreases-loop-end
+decreases-loop-end l = length l.left
