@@ -16,10 +16,13 @@ pub mod Members
 pub mod Numbers
 pub mod Repeats
 pub mod Passed
+pub mod Shaped
 pub mod ReadLines
 pub mod TooMuch
 pub mod WordLines
 pub mod TermReasons
+pub mod LongNames
+pub mod LongReasons
 pub mod StageReasons
 pub mod SameTerms
 pub mod LaterLines

@@ -1,9 +1,10 @@
 -- What a pass over tokens knows, as it comes to one more of them.
-use Rattle.std.proofs.Common.{◌≡◌, ◌≢◌, ℕ, ◌+◌, ◌<◌, List, [], ◌∷◌, ◌++◌, length, get_or, take, map, Bor, Contains, refl, sym, ap, ◌∙◌, append_assoc, length-append, arith}
+use Rattle.std.proofs.Common.{◌≡◌, ◌≢◌, ℕ, ◌+◌, ◌-◌, ◌<◌, ◌≤◌, List, [], ◌∷◌, ◌++◌, length, get_or, take, map, Bor, Contains, refl, sym, ap, ◌∙◌, append_assoc, length-append, arith}
 use Prim.Native.Nat.{zero, suc}
 use Rattle.std.specs.List.{All, Any}
 use Rattle.std.proofs.lemmas.List.{map-append, append-nil, take_all}
 use Rattle.std.proofs.lemmas.List.Elements.{All-cons, All-nil}
+use Rattle.sfm_text.specs.Matched.{Matched}
 use Rattle.sfm_text.specs.TermLines.{StandsTwice}
 use Rattle.sfm_text.proofs.Repeats.{twice-seen, once-more}
 
@@ -18,6 +19,52 @@ all-more P x xs all e p h = rw e (All-cons P x xs p h)
 
 pub all-none : {X : Type 0} (P : X → Type 0) (all : List X) → all ≡ [] → All P all
 all-none P all e = rw e (All-nil P)
+
+-- ---- the first so many of a list
+
+take-suc : {X : Type 0} (n : ℕ) (x : X) (xs : List X) → 0 < n → take n (x ∷ xs) ≡ x ∷ take (n - 1) xs
+take-suc zero x xs some = absurd (omega (arith, some))
+take-suc (suc n) x xs some = let e : n ≡ suc n - 1 = omega arith in ap (λ k. x ∷ take k xs) e
+
+pub take-here : {X : Type 0} (n : ℕ) (x : X) (xs all : List X) → 0 < n → all ≡ x ∷ xs → take n all ≡ x ∷ take (n - 1) xs
+take-here n x xs all some e = rw e (take-suc n x xs some)
+
+pub take-past : {X : Type 0} (n : ℕ) (all : List X) → all ≡ [] → take n all ≡ []
+take-past n all e = rw e (take_all n [] (omega arith))
+
+pub take-nothing : {X : Type 0} (n : ℕ) (all : List X) → n ≤ 0 → take n all ≡ []
+take-nothing zero all none = refl
+take-nothing (suc n) all none = absurd (omega (arith, none))
+
+-- ---- a list that matches
+
+all-tail : {X : Type 0} (P : X → Type 0) (x : X) (xs : List X) → All P (x ∷ xs) → All P xs
+all-tail P x xs h = λ k d lt. h (suc k) d (omega (arith, lt))
+
+-- each has something that it stands to
+pub all-matched : {A B : Type 0} (P : A → B → Type 0) (xs : List A) → All (λ x. (y : B) × P x y) xs → ((ys : List B) × Matched P xs ys)
+all-matched P [] h = ([], tt)
+all-matched P (x ∷ xs) h =
+    let (y, p) = h 0 x (omega arith) in
+    let (ys, m) = all-matched P xs (all-tail (λ z. (w : _) × P z w) x xs h) in
+    (y ∷ ys, (p, m))
+
+-- what is said of each of the first list is said of what it stands to
+pub matched-each : {A B C D : Type 0} (P : A → B → Type 0) (Q : A → Type 0) (f : B → C) (R : C → D → Type 0) → ((x : A) (y : B) → P x y → Q x → (z : D) × R (f y) z) → (xs : List A) (ys : List B) → Matched P xs ys → All Q xs → ((zs : List D) × Matched R (map f ys) zs)
+matched-each P Q f R g [] [] m h = ([], tt)
+matched-each P Q f R g [] (y ∷ ys) m h = absurd m
+matched-each P Q f R g (x ∷ xs) [] m h = absurd m
+matched-each P Q f R g (x ∷ xs) (y ∷ ys) (p, m) h =
+    let (z, r) = g x y p (h 0 x (omega arith)) in
+    let (zs, n) = matched-each P Q f R g xs ys m (all-tail Q x xs h) in
+    (z ∷ zs, (r, n))
+
+-- and what is said of one
+pub matched-one : {A B C : Type 0} (P : A → B → Type 0) (Q : A → Type 0) (f : B → C) (R : C → Type 0) → ((x : A) (y : B) → P x y → Q x → R (f y)) → (xs : List A) (ys : List B) → Matched P xs ys → Any Q xs → Any R (map f ys)
+matched-one P Q f R g [] ys m (k, x, lt, at, q) = absurd (omega (arith, lt))
+matched-one P Q f R g (u ∷ xs) [] m any = absurd m
+matched-one P Q f R g (u ∷ xs) (v ∷ ys) (p, m) (zero, x, lt, at, q) = any-here R (f v) (map f ys) _ refl (g u v p (rw (sym at) at q))
+matched-one P Q f R g (u ∷ xs) (v ∷ ys) (p, m) (suc k, x, lt, at, q) = any-behind R (f v) (map f ys) _ refl (matched-one P Q f R g xs ys m (k, x, omega (arith, lt), at, q))
 
 -- ---- a token that stands behind others
 

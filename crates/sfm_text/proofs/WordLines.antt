@@ -30,7 +30,7 @@ pub word_text-same : (v w : TermWord) → word_text v ≡ word_text w → v ≡ 
 word_text-same v w e = sym (bytes-of v) ∙ (ap (λ (text : List ℕ). by_bytes (get_or text 2 0) (get_or text 0 0)) e ∙ bytes-of w)
 
 -- a token is cut into one pair
-pair-same : (token : List ℕ) (p q : List ℕ × List ℕ) → IsPairToken token p → IsPairToken token q → p ≡ q
+pub pair-same : (token : List ℕ) (p q : List ℕ × List ℕ) → IsPairToken token p → IsPairToken token q → p ≡ q
 pair-same token (a, b) (c, d) h g =
     let same = front-same 58 a b c d (h.cut).none_before (g.cut).none_before (sym (h.cut).cut ∙ (g.cut).cut) in
     let first = same.0 in

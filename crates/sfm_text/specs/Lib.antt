@@ -13,3 +13,4 @@ pub mod Reasons
 pub mod ReadParts
 pub mod Adding
 pub mod Standing
+pub mod Passes

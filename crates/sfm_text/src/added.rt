@@ -3,7 +3,7 @@
 ghost use Rattle.std.specs.Prelude.{◌≡◌, ◌≢◌, ◌↔◌, ◌<◌, ◌≤◌, ◌^◌, ℕ, List, [], ◌∷◌, ◌++◌, length, IsTrue, Any, MatchBool, MatchOption, MatchResult, OnErr};
 ghost use Rattle.std.specs.List.{All};
 ghost use Rattle.sfm_kind.specs.Limits.{AreInBounds};
-ghost use Rattle.sfm_text.specs.Lines.{texts_of};
+ghost use Rattle.sfm_text.specs.Lines.{texts_of, tokens_of};
 ghost use Rattle.sfm_text.specs.Words.{word_text};
 ghost use Rattle.sfm_text.specs.Reading.{IsBadByte, AreTooMuch};
 ghost use Rattle.sfm_text.specs.ReadParts.{bytes_in, state_at, IsOutcome};
@@ -12,8 +12,9 @@ ghost use Rattle.sfm_text.specs.Adding.{IsTermAdded, IsTermRefusal};
 ghost use Rattle.sfm_text.specs.declared.stage.Stage.TheVariants.{Terms};
 ghost use Rattle.sfm_text.specs.declared.word.TermWord.{TermWord};
 
-use crate::cut::tokens;
+use crate::cut::{first_token, tokens};
 use crate::line_fault::LineEnd;
+use crate::long_line::early_reason;
 use crate::reason::Reason;
 use crate::term_line::read_term;
 use crate::word::{TermWord, term_word};
@@ -42,13 +43,13 @@ pub(crate) fn are_good_bytes(line: &[u8]) -> bool
     line.iter().all(|c| is_good_byte(*c))
 }
 
-/// The word of a term line and the tokens behind it, or None where the first token is none of the words.
-fn term_line<'a, 'b>(tokens: &'b [&'a [u8]]) -> Option<(TermWord, &'b [&'a [u8]])>
+/// The word of a term line and the line behind it, or None where the first token is none of the words.
+fn term_line(line: &[u8]) -> Option<(TermWord, &[u8])>
     ensures { MatchOption result
-        ((word : TermWord) (rest : List (List ℕ)) → texts_of tokens.now ≢ word_text word ∷ rest)
-        (λ r. texts_of tokens.now ≡ word_text r.0 ∷ texts_of r.1.now) }
+        ((word : TermWord) (rest : List (List ℕ)) → tokens_of line.now ≢ word_text word ∷ rest)
+        (λ r. tokens_of line.now ≡ word_text r.0 ∷ tokens_of r.1.now) }
 {
-    let (first, rest) = tokens.split_first()?;
+    let (first, rest) = first_token(line)?;
     let word = term_word(first)?;
     Some((word, rest))
 }
@@ -98,9 +99,13 @@ pub fn add_line(alloc: Global, instance: &mut Instance, line: &[u8]) -> Result<(
     if !are_good_bytes(line) {
         return Err(LineEnd::Fault(Reason::Bytes));
     }
-    let tokens = tokens(alloc, line)?;
-    match term_line(&tokens) {
-        Some((word, rest)) => add_read(alloc, instance, word, rest),
-        None => Err(LineEnd::Fault(Reason::Word)),
+    let Some((word, rest)) = term_line(line) else {
+        return Err(LineEnd::Fault(Reason::Word));
+    };
+    let _count = instance.names_len();
+    if let Some(reason) = early_reason(instance, word, rest) {
+        return Err(LineEnd::Fault(reason));
     }
+    let tokens = tokens(alloc, rest)?;
+    add_read(alloc, instance, word, &tokens)
 }

@@ -15,7 +15,7 @@ use sfm_kind::Kind;
 use std::alloc::{AllocError, Global};
 
 /// Whether there are as many numbers as elements, and at least one.
-fn is_concave_count(numbers: usize, elements: usize) -> bool
+pub fn is_concave_count(numbers: usize, elements: usize) -> bool
     ensures { IsTrue result ↔ IsConcaveCount numbers elements }
 {
     1 <= elements && numbers == elements

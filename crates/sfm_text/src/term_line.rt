@@ -93,7 +93,7 @@ fn lowest_number(word: TermWord) -> i128
 }
 
 /// The number that a text is, or None where it is none or outside the range of the word's line.
-fn number_for(word: TermWord, text: &[u8]) -> Option<i128>
+pub fn number_for(word: TermWord, text: &[u8]) -> Option<i128>
     ensures { (value : ℤ) → (result ≡ Some value) ↔ IsNumberFrom (lowest_of word) text.now value }
 {
     let lowest = lowest_number(word);

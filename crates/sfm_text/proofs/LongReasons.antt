@@ -1,0 +1,146 @@
+-- The first reason of a long line, from what passes over its tokens tell.
+use Rattle.std.proofs.Common.{◌≡◌, ◌<◌, ◌≤◌, ℕ, ◌^◌, List, [], ◌∷◌, ◌++◌, length, take, map, codes, ℤ, refl, ap, arith, length-append}
+use Rattle.std.specs.List.{All, Any}
+use Rattle.std.proofs.Math.Pow.{pow_mono}
+use Rattle.std.proofs.lemmas.List.{length-map}
+use Rattle.std.proofs.lemmas.List.Elements.{All-nil}
+use Rattle.sfm_spec.specs.Names.{IsName}
+use Rattle.sfm_kind.specs.Names.{AreElementNames}
+use Rattle.sfm_kind.specs.Instance.{InstanceData}
+use Rattle.sfm_text.specs.declared.reason.Reason.TheVariants.{Shape, Number, Name, Twice}
+use Rattle.sfm_text.specs.declared.token_test.TokenTest.TheVariants.{Pair, PairNumber, PairElement, Value, Element}
+use Rattle.sfm_text.specs.declared.word.TermWord.{TermWord}
+use Rattle.sfm_text.specs.declared.word.TermWord.TheVariants.{WeightWord, CoverWord, ConcaveWord}
+use Rattle.sfm_text.specs.Matched.{Matched}
+use Rattle.sfm_text.specs.Parts.{LineParts, plain_parts, IsMark, AreUnmarked, IsPairToken, IsWeightLine, IsCutLine, IsNeedLine, IsCoverLine, IsCutAtColon, IsTableLine, IsConcaveCount, IsConcaveLine}
+use Rattle.sfm_text.specs.Words.{lowest_of, HasParts}
+use Rattle.sfm_text.specs.TermLines.{IsNumberFrom, IsElement}
+use Rattle.sfm_text.specs.Passes.{IsNumberOf, IsKnown, Holds, IsReasonOf}
+use Rattle.sfm_text.proofs.Colons.{none-any, colon-same}
+use Rattle.sfm_text.proofs.Matches.{Matched-at, length-Matched}
+use Rattle.sfm_text.proofs.LongNames.{unknown-new, many-twice}
+use Rattle.sfm_text.proofs.Passed.{any-here, all-matched, matched-each, matched-one}
+use Rattle.sfm_text.proofs.TermReasons.{at-shape, at-number, at-name, at-twice}
+use Rattle.sfm_text.proofs.WordLines.{pair-same}
+
+-- texts that are numbers of the word's line, and texts that name elements
+abbrev pub AreNumbers : TermWord → List (List ℕ) → Type 0
+AreNumbers word texts = (values : List ℤ) × Matched (IsNumberFrom (lowest_of word)) texts values
+
+abbrev pub AreKnown : List (List ℕ) → List (List ℕ) → Type 0
+AreKnown names texts = (places : List ℕ) × Matched (IsElement names) texts places
+
+module _ (i : InstanceData) (word : TermWord) (rest : List (List ℕ)) where
+  pub long-shape : ((parts : LineParts) → HasParts word rest parts → ⊥) → IsReasonOf i word rest Shape
+  long-shape none = λ line is. at-shape i word rest line is none
+
+  module _ (parts : LineParts) (shape : HasParts word rest parts) where
+    pub long-number : Any (λ text. IsNumberOf word text → ⊥) parts.numbers → IsReasonOf i word rest Number
+    long-number (k, text, lt, e, none) = λ line is. at-number i word rest line is parts shape (k, text, lt, e, λ value h. none (value, h))
+
+    module _ (numbers : AreNumbers word parts.numbers) where
+      pub long-name : Any (λ text. IsKnown i.names text → ⊥) parts.elements → IsReasonOf i word rest Name
+      long-name (k, text, lt, e, none) = λ line is. at-name i word rest line is parts shape numbers.0 numbers.1 (k, text, lt, e, unknown-new i.names text none)
+
+      pub long-twice : AreElementNames i.names → AreKnown i.names parts.elements → parts.groups ≡ [] → All (λ texts. All IsName texts) parts.labels → 256 < length parts.elements → IsReasonOf i word rest Twice
+      long-twice named (places, known) groups labels many = λ line is.
+          at-twice i word rest line is parts shape numbers.0 numbers.1 places named known (rw groups (All-nil _)) labels
+          (many-twice i.names parts.elements places named.few known (omega (arith, many, length-Matched (IsElement i.names) parts.elements places known)))
+
+-- ---- lines with few tokens
+
+pub no-cut : (tokens : List (List ℕ)) → 1024 < length tokens → (parts : LineParts) → IsCutLine tokens parts → ⊥
+no-cut tokens long parts h = omega (arith, long, h.count)
+
+pub no-need : (tokens : List (List ℕ)) → 1024 < length tokens → (parts : LineParts) → IsNeedLine tokens parts → ⊥
+no-need tokens long parts h = omega (arith, long, h.count)
+
+pub no-table : (tokens : List (List ℕ)) → 1024 < length tokens → (parts : LineParts) → IsTableLine tokens parts → ⊥
+no-table tokens long parts h =
+    let most : 2 ^ length h.elements ≤ 2 ^ 8 = pow_mono h.count.few in
+    omega (arith, long, ap length h.cut.cut, length-append h.numbers (codes ":" ∷ h.elements), h.count.few, h.count.each, most)
+
+-- ---- weights
+
+-- some token is no pair
+pub no-weight : (names tokens : List (List ℕ)) → Any (λ token. Holds names Pair token → ⊥) tokens → (parts : LineParts) → IsWeightLine tokens parts → ⊥
+no-weight names tokens (k, token, lt, e, none) parts h =
+    let (pair, p) = Matched-at IsPairToken tokens h.pairs k token h.each lt in
+    none (pair, rw e at p)
+
+module _ (i : InstanceData) (tokens : List (List ℕ)) (long : 1024 < length tokens) (pairs : List (List ℕ × List ℕ)) (each : Matched IsPairToken tokens pairs) where
+  weight-line : IsWeightLine tokens (plain_parts (map (λ pair. pair.1) pairs) (map (λ pair. pair.0) pairs))
+  weight-line = record { pairs = pairs; some = omega (arith, long); each = each; parts_are = refl }
+
+  pub weight-number : Any (λ token. Holds i.names PairNumber token → ⊥) tokens → IsReasonOf i WeightWord tokens Number
+  weight-number any = long-number i WeightWord tokens (plain_parts (map (λ pair. pair.1) pairs) (map (λ pair. pair.0) pairs)) weight-line
+      (matched-one IsPairToken (λ token. Holds i.names PairNumber token → ⊥) (λ (pair : List ℕ × List ℕ). pair.1) (λ text. IsNumberOf WeightWord text → ⊥) (λ token pair p none number. none (pair, p, number)) tokens pairs each any)
+
+  module _ (numbers : All (Holds i.names PairNumber) tokens) where
+    weight-values : AreNumbers WeightWord (map (λ pair. pair.1) pairs)
+    weight-values = matched-each IsPairToken (Holds i.names PairNumber) (λ (pair : List ℕ × List ℕ). pair.1) (IsNumberFrom (lowest_of WeightWord))
+        (λ token pair p (other, q, number). let same : other ≡ pair = pair-same token other pair q p in rw same at number) tokens pairs each numbers
+
+    pub weight-name : Any (λ token. Holds i.names PairElement token → ⊥) tokens → IsReasonOf i WeightWord tokens Name
+    weight-name any = long-name i WeightWord tokens (plain_parts (map (λ pair. pair.1) pairs) (map (λ pair. pair.0) pairs)) weight-line weight-values
+        (matched-one IsPairToken (λ token. Holds i.names PairElement token → ⊥) (λ (pair : List ℕ × List ℕ). pair.0) (λ text. IsKnown i.names text → ⊥) (λ token pair p none known. none (pair, p, known)) tokens pairs each any)
+
+    pub weight-twice : AreElementNames i.names → All (Holds i.names PairElement) tokens → IsReasonOf i WeightWord tokens Twice
+    weight-twice named elements = long-twice i WeightWord tokens (plain_parts (map (λ pair. pair.1) pairs) (map (λ pair. pair.0) pairs)) weight-line weight-values named
+        (matched-each IsPairToken (Holds i.names PairElement) (λ (pair : List ℕ × List ℕ). pair.0) (IsElement i.names)
+        (λ token pair p (other, q, known). let same : other ≡ pair = pair-same token other pair q p in rw same at known) tokens pairs each elements)
+        refl (All-nil _) (omega (arith, long, length-map pairs (λ (pair : List ℕ × List ℕ). pair.0), length-Matched IsPairToken tokens pairs each))
+
+-- ---- a cover
+
+pub no-cover : (tokens : List (List ℕ)) → Any IsMark tokens → (parts : LineParts) → IsCoverLine tokens parts → ⊥
+no-cover tokens any parts h = none-any IsMark tokens h.split.unmarked any
+
+module _ (i : InstanceData) (tokens : List (List ℕ)) (long : 1024 < length tokens) (unmarked : AreUnmarked tokens) (number : List ℕ) (elements : List (List ℕ)) (cut : tokens ≡ number ∷ elements) where
+  cover-line : IsCoverLine tokens (plain_parts (number ∷ []) elements)
+  cover-line = record { count = omega (arith, long); split = record { unmarked = unmarked; parts_are = rw cut refl } }
+
+  pub cover-number : (IsNumberOf CoverWord number → ⊥) → IsReasonOf i CoverWord tokens Number
+  cover-number none = long-number i CoverWord tokens (plain_parts (number ∷ []) elements) cover-line (any-here (λ text. IsNumberOf CoverWord text → ⊥) number [] _ refl none)
+
+  module _ (good : IsNumberOf CoverWord number) where
+    cover-values : AreNumbers CoverWord (number ∷ [])
+    cover-values = (good.0 ∷ [], (good.1, tt))
+
+    pub cover-name : Any (λ token. Holds i.names Element token → ⊥) elements → IsReasonOf i CoverWord tokens Name
+    cover-name any = long-name i CoverWord tokens (plain_parts (number ∷ []) elements) cover-line cover-values any
+
+    pub cover-twice : AreElementNames i.names → All (Holds i.names Element) elements → IsReasonOf i CoverWord tokens Twice
+    cover-twice named known = long-twice i CoverWord tokens (plain_parts (number ∷ []) elements) cover-line cover-values named (all-matched (IsElement i.names) elements known) refl (All-nil _) (omega (arith, long, ap length cut))
+
+-- ---- a concave function
+
+pub no-concave : (tokens before behind : List (List ℕ)) → IsCutAtColon tokens before behind → (IsConcaveCount (length before) (length behind) → ⊥) → (parts : LineParts) → IsConcaveLine tokens parts → ⊥
+no-concave tokens before behind cut none parts h =
+    let same = colon-same tokens h.numbers h.elements before behind h.cut cut in
+    none (rw (same.0, same.1) at h.count)
+
+front-is : {X : Type 0} (before behind : List X) → take (length before) (before ++ behind) ≡ before
+front-is [] behind = refl
+front-is (x ∷ before) behind = ap (λ l. x ∷ l) (front-is before behind)
+
+module _ (i : InstanceData) (tokens : List (List ℕ)) (long : 1024 < length tokens) (before behind : List (List ℕ)) (cut : IsCutAtColon tokens before behind) (count : IsConcaveCount (length before) (length behind)) where
+  concave-line : IsConcaveLine tokens (plain_parts before behind)
+  concave-line = record { numbers = before; elements = behind; cut = cut; count = count; parts_are = refl }
+
+  concave-front : take (length before) tokens ≡ before
+  concave-front = rw (cut.cut) (front-is before (codes ":" ∷ behind))
+
+  pub concave-number : Any (λ token. Holds i.names Value token → ⊥) (take (length before) tokens) → IsReasonOf i ConcaveWord tokens Number
+  concave-number any = long-number i ConcaveWord tokens (plain_parts before behind) concave-line (rw concave-front at any)
+
+  module _ (numbers : All (Holds i.names Value) (take (length before) tokens)) where
+    concave-values : AreNumbers ConcaveWord before
+    concave-values = all-matched (IsNumberFrom (lowest_of ConcaveWord)) before (rw concave-front at numbers)
+
+    pub concave-name : Any (λ token. Holds i.names Element token → ⊥) behind → IsReasonOf i ConcaveWord tokens Name
+    concave-name any = long-name i ConcaveWord tokens (plain_parts before behind) concave-line concave-values any
+
+    pub concave-twice : AreElementNames i.names → All (Holds i.names Element) behind → IsReasonOf i ConcaveWord tokens Twice
+    concave-twice named known = long-twice i ConcaveWord tokens (plain_parts before behind) concave-line concave-values named (all-matched (IsElement i.names) behind known) refl (All-nil _)
+        (omega (arith, long, ap length (cut.cut), length-append before (codes ":" ∷ behind), count.same))

@@ -1,0 +1,115 @@
+// The first reason of a long term line, told by passes over its tokens, so that no list of them is made. A line that names
+// each element at most once has at most 513 tokens behind its word, but where the line of a laminar rank names its groups. So a
+// longer line is not good: where its shape, its numbers and its names are, an element stands twice, as there are at most 256.
+ghost use Rattle.std.specs.Prelude.{◌<◌, length, IsTrue, IfSome};
+ghost use Rattle.sfm_kind.specs.Names.{AreElementNames};
+ghost use Rattle.sfm_text.specs.Lines.{tokens_of};
+ghost use Rattle.sfm_text.specs.Passes.{IsReasonOf};
+ghost use Rattle.sfm_text.specs.declared.word.TermWord.TheVariants.{WeightWord, CoverWord, ConcaveWord};
+
+use crate::concave_line::is_concave_count;
+use crate::cut::{first_token, has_token};
+use crate::passes::{all_hold, colon_cut, first_hold, has_mark_in, token_count};
+use crate::reason::Reason;
+use crate::token_test::{TokenTest, is_number_of};
+use crate::word::TermWord;
+use sfm_kind::Instance;
+
+/// The most tokens behind the word of a line that is not long.
+const MOST_TOKENS: usize = 1_024;
+
+/// Whether the tokens behind the word of a line are more than a good line has, if it has no groups.
+fn is_long(line: &[u8]) -> bool
+    ensures { IsTrue result → 1024 < length (tokens_of line.now) }
+{
+    line.len() > MOST_TOKENS && has_token(line, MOST_TOKENS)
+}
+
+/// The first reason of a long line of weights.
+fn weight_reason(instance: &Instance, line: &[u8]) -> Reason
+    requires names { AreElementNames instance.now.names }
+    requires long { 1024 < length (tokens_of line.now) }
+    ensures { IsReasonOf instance.now WeightWord (tokens_of line.now) result }
+{
+    if !all_hold(instance, TokenTest::Pair, line) {
+        return Reason::Shape;
+    }
+    if !all_hold(instance, TokenTest::PairNumber, line) {
+        return Reason::Number;
+    }
+    if !all_hold(instance, TokenTest::PairElement, line) {
+        return Reason::Name;
+    }
+    Reason::Twice
+}
+
+/// The first reason of a long line of a cover.
+fn cover_reason(instance: &Instance, line: &[u8]) -> Reason
+    requires names { AreElementNames instance.now.names }
+    requires long { 1024 < length (tokens_of line.now) }
+    ensures { IsReasonOf instance.now CoverWord (tokens_of line.now) result }
+{
+    let Some((number, elements)) = first_token(line) else {
+        return Reason::Shape;
+    };
+    if has_mark_in(line) {
+        return Reason::Shape;
+    }
+    if !is_number_of(TermWord::CoverWord, number) {
+        return Reason::Number;
+    }
+    if !all_hold(instance, TokenTest::Element, elements) {
+        return Reason::Name;
+    }
+    Reason::Twice
+}
+
+/// The first reason of a long line of a concave function.
+fn concave_reason(instance: &Instance, line: &[u8]) -> Reason
+    requires names { AreElementNames instance.now.names }
+    requires long { 1024 < length (tokens_of line.now) }
+    ensures { IsReasonOf instance.now ConcaveWord (tokens_of line.now) result }
+{
+    let Some((count, elements)) = colon_cut(line) else {
+        return Reason::Shape;
+    };
+    let places = token_count(elements);
+    if !is_concave_count(count, places) {
+        return Reason::Shape;
+    }
+    if !first_hold(instance, TokenTest::Value, count, line) {
+        return Reason::Number;
+    }
+    if !all_hold(instance, TokenTest::Element, elements) {
+        return Reason::Name;
+    }
+    Reason::Twice
+}
+
+/// The first reason of a long line with this word and these tokens behind it, or None where passes do not tell it.
+fn long_reason(instance: &Instance, word: TermWord, line: &[u8]) -> Option<Reason>
+    requires names { AreElementNames instance.now.names }
+    requires long { 1024 < length (tokens_of line.now) }
+    ensures { IfSome result (IsReasonOf instance.now word (tokens_of line.now)) }
+{
+    match word {
+        TermWord::WeightWord => Some(weight_reason(instance, line)),
+        TermWord::CutWord => Some(Reason::Shape),
+        TermWord::NeedWord => Some(Reason::Shape),
+        TermWord::CoverWord => Some(cover_reason(instance, line)),
+        TermWord::TableWord => Some(Reason::Shape),
+        TermWord::ConcaveWord => Some(concave_reason(instance, line)),
+        TermWord::RankWord => None,
+    }
+}
+
+/// The first reason of a line with this word and these tokens behind it, where the line is long and passes tell it.
+pub fn early_reason(instance: &Instance, word: TermWord, line: &[u8]) -> Option<Reason>
+    requires { AreElementNames instance.now.names }
+    ensures { IfSome result (IsReasonOf instance.now word (tokens_of line.now)) }
+{
+    if !is_long(line) {
+        return None;
+    }
+    long_reason(instance, word, line)
+}

@@ -1,0 +1,110 @@
+// Lines of some thousands of tokens, each with its first reason.
+use super::first_fault;
+use std::alloc::{AllocError, Global};
+use std::test::Fail;
+
+/// A text whose last line begins so, then has a piece 3,000 times, and ends so.
+fn long_text(alloc: Global, head: &str, piece: &str, tail: &str) -> Result<String, AllocError> {
+    let mut text = String::new(alloc);
+    text.push_str(head)?;
+    for _ in 0..3_000_u32 {
+        text.push_str(piece)?;
+    }
+    text.push_str(tail)?;
+    Ok(text)
+}
+
+#[test]
+fn long_headers_and_grounds(rt: HostRuntime) -> Result<(), Fail> {
+    let rows: [(&str, &str, &str, usize, &[u8]); 9] = [
+        ("x", " 1", "", 1, b"word"),
+        ("sfm 1", " 1", "", 1, b"shape"),
+        ("sfm 1\nsfm", " a", "", 2, b"word"),
+        ("sfm 1\nground", " a", "", 2, b"twice"),
+        ("sfm 1\nground", " a-", " ;", 2, b"shape"),
+        ("sfm 1\nground :", " a", "", 2, b"shape"),
+        ("sfm 1\nground", " a", " a-", 2, b"name"),
+        ("sfm 1\nground", " a", " \x7f", 2, b"bytes"),
+        ("sfm 1\nground a\nend", " a", "", 3, b"shape"),
+    ];
+    for (head, piece, tail, line, reason) in rows {
+        let text = long_text(rt.alloc(), head, piece, tail)?;
+        assert_eq!(rt;
+            first_fault(rt.alloc(), text.as_bytes()),
+            (line, reason),
+            "{head}{piece}..{tail}"
+        );
+    }
+    Ok(())
+}
+
+#[test]
+fn long_term_lines(rt: HostRuntime) -> Result<(), Fail> {
+    let rows: [(&str, &str, &str, &[u8]); 33] = [
+        ("x", " a", "", b"word"),
+        ("weight", " a:1", "", b"twice"),
+        ("weight", " a:1", " z:1", b"name"),
+        ("weight", " z:1", " a:x", b"number"),
+        ("weight", " a:x", " a", b"shape"),
+        ("weight :", " a:1", "", b"shape"),
+        ("weight", " a:1", " a:1:1", b"shape"),
+        ("weight", " a:1", " a:1000000000001", b"number"),
+        ("weight", " b:-1000000000000", "", b"twice"),
+        ("weight", " a:1", "\x01", b"bytes"),
+        ("cut 1", " a", "", b"shape"),
+        ("need", " a", "", b"shape"),
+        ("table", " 0", " : a", b"shape"),
+        ("table 0", " 0", " : a b c d", b"shape"),
+        ("cover 1", " a", "", b"twice"),
+        ("cover 1", " a", " z", b"name"),
+        ("cover -1", " a", " z", b"number"),
+        ("cover -1", " a", " :", b"shape"),
+        ("cover 1 ;", " a", "", b"shape"),
+        ("concave", " 1", " : a", b"shape"),
+        ("concave", " 1", "", b"shape"),
+        ("concave 1 :", " :", "", b"shape"),
+        ("concave 1 :", " a", "", b"shape"),
+        ("concave 1 ; :", " a", "", b"shape"),
+        ("rank 1 uniform 1 :", " a", "", b"twice"),
+        ("rank 1 uniform 1 :", " a", " z", b"name"),
+        ("rank 1 uniform x :", " a", " z", b"number"),
+        ("rank 1 uniform x :", " a", " ;", b"shape"),
+        ("rank 1 uniform 1 1 :", " a", "", b"shape"),
+        ("rank 1 other 1 :", " a", "", b"shape"),
+        ("rank 1 laminar :", " a", "", b"twice"),
+        ("rank 1 graphic :", " a=u-v", "", b"twice"),
+        ("rank 1 transversal :", " a=s,t", "", b"twice"),
+    ];
+    for (head, piece, tail, reason) in rows {
+        let mut begin = String::new(rt.alloc());
+        begin.push_str("sfm 1\nground a b c d\n")?;
+        begin.push_str(head)?;
+        let text = long_text(rt.alloc(), begin.as_str(), piece, tail)?;
+        assert_eq!(rt;
+            first_fault(rt.alloc(), text.as_bytes()),
+            (3, reason),
+            "{head}{piece}..{tail}"
+        );
+    }
+    Ok(())
+}
+
+#[test]
+fn long_concave_lines(rt: HostRuntime) -> Result<(), Fail> {
+    let rows: [(&str, &str, &str, &[u8]); 4] = [
+        (" 1", " a", " a", b"twice"),
+        (" 1", " a", " z", b"name"),
+        (" x", " z", " :", b"shape"),
+        (" x", " z", " a", b"number"),
+    ];
+    for (number, element, last, reason) in rows {
+        let head = long_text(rt.alloc(), "sfm 1\nground a b c d\nconcave 1", number, " :")?;
+        let text = long_text(rt.alloc(), head.as_str(), element, last)?;
+        assert_eq!(rt;
+            first_fault(rt.alloc(), text.as_bytes()),
+            (3, reason),
+            "{number} {element} {last}"
+        );
+    }
+    Ok(())
+}
