@@ -23,6 +23,8 @@ pub mod WordLines
 pub mod TermReasons
 pub mod LongNames
 pub mod LongReasons
+pub mod LongRanks
+pub mod LongLabels
 pub mod StageReasons
 pub mod SameTerms
 pub mod LaterLines

@@ -15,12 +15,13 @@ use Rattle.sfm_text.specs.Matched.{Matched}
 use Rattle.sfm_text.specs.Parts.{LineParts, plain_parts, IsMark, AreUnmarked, IsPairToken, IsWeightLine, IsCutLine, IsNeedLine, IsCoverLine, IsCutAtColon, IsTableLine, IsConcaveCount, IsConcaveLine}
 use Rattle.sfm_text.specs.Words.{lowest_of, HasParts}
 use Rattle.sfm_text.specs.TermLines.{IsNumberFrom, IsElement}
+use Rattle.sfm_text.specs.Reading.{HasWrongLabel}
 use Rattle.sfm_text.specs.Passes.{IsNumberOf, IsKnown, Holds, IsReasonOf}
 use Rattle.sfm_text.proofs.Colons.{none-any, colon-same}
 use Rattle.sfm_text.proofs.Matches.{Matched-at, length-Matched}
 use Rattle.sfm_text.proofs.LongNames.{unknown-new, many-twice}
 use Rattle.sfm_text.proofs.Passed.{any-here, all-matched, matched-each, matched-one}
-use Rattle.sfm_text.proofs.TermReasons.{at-shape, at-number, at-name, at-twice}
+use Rattle.sfm_text.proofs.TermReasons.{at-shape, at-number, at-name, at-label, at-twice}
 use Rattle.sfm_text.proofs.WordLines.{pair-same}
 
 -- texts that are numbers of the word's line, and texts that name elements
@@ -41,6 +42,9 @@ module _ (i : InstanceData) (word : TermWord) (rest : List (List ℕ)) where
     module _ (numbers : AreNumbers word parts.numbers) where
       pub long-name : Any (λ text. IsKnown i.names text → ⊥) parts.elements → IsReasonOf i word rest Name
       long-name (k, text, lt, e, none) = λ line is. at-name i word rest line is parts shape numbers.0 numbers.1 (k, text, lt, e, unknown-new i.names text none)
+
+      pub long-label : HasWrongLabel parts → IsReasonOf i word rest Name
+      long-label wrong = λ line is. at-label i word rest line is parts shape numbers.0 numbers.1 wrong
 
       pub long-twice : AreElementNames i.names → AreKnown i.names parts.elements → parts.groups ≡ [] → All (λ texts. All IsName texts) parts.labels → 256 < length parts.elements → IsReasonOf i word rest Twice
       long-twice named (places, known) groups labels many = λ line is.

@@ -59,6 +59,12 @@ matched-each P Q f R g (x ∷ xs) (y ∷ ys) (p, m) h =
     let (zs, n) = matched-each P Q f R g xs ys m (all-tail Q x xs h) in
     (z ∷ zs, (r, n))
 
+pub matched-all : {A B C : Type 0} (P : A → B → Type 0) (Q : A → Type 0) (f : B → C) (R : C → Type 0) → ((x : A) (y : B) → P x y → Q x → R (f y)) → (xs : List A) (ys : List B) → Matched P xs ys → All Q xs → All R (map f ys)
+matched-all P Q f R g [] [] m h = All-nil R
+matched-all P Q f R g [] (y ∷ ys) m h = absurd m
+matched-all P Q f R g (x ∷ xs) [] m h = absurd m
+matched-all P Q f R g (x ∷ xs) (y ∷ ys) (p, m) h = All-cons R (f y) (map f ys) (g x y p (h 0 x (omega arith))) (matched-all P Q f R g xs ys m (all-tail Q x xs h))
+
 -- and what is said of one
 pub matched-one : {A B C : Type 0} (P : A → B → Type 0) (Q : A → Type 0) (f : B → C) (R : C → Type 0) → ((x : A) (y : B) → P x y → Q x → R (f y)) → (xs : List A) (ys : List B) → Matched P xs ys → Any Q xs → Any R (map f ys)
 matched-one P Q f R g [] ys m (k, x, lt, at, q) = absurd (omega (arith, lt))

@@ -26,7 +26,7 @@ entry-same token (x, texts) (y, others) h g =
     let labels : texts ≡ others = h.labels ∙ (ap (λ (t : List ℕ). pieces_of 44 t) behind ∙ sym g.labels) in
     cc
 
-token-same : (rank : RankKind) (token : List ℕ) (a b : List ℕ × List (List ℕ)) → IsLabelToken rank token a → IsLabelToken rank token b → a ≡ b
+pub token-same : (rank : RankKind) (token : List ℕ) (a b : List ℕ × List (List ℕ)) → IsLabelToken rank token a → IsLabelToken rank token b → a ≡ b
 token-same NoRank token a b h g = absurd h
 token-same UniformRank token a b h g = absurd h
 token-same LaminarRank token a b h g = absurd h

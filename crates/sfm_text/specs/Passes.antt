@@ -1,13 +1,18 @@
 -- What a token of a long line is tried for, and what the reason of such a line is.
-use Rattle.std.specs.Prelude.{ℕ, List, ◌∷◌, ℤ}
+use Rattle.std.specs.Prelude.{◌≡◌, ◌≢◌, ℕ, List, [], ◌∷◌, codes, Any, ℤ}
+use Rattle.std.specs.List.{All}
+use Rattle.sfm_spec.specs.Names.{IsName}
 use Rattle.sfm_kind.specs.Instance.{InstanceData}
 use Rattle.sfm_text.specs.declared.reason.Reason.{Reason}
 use Rattle.sfm_text.specs.declared.stage.Stage.TheVariants.{Terms}
 use Rattle.sfm_text.specs.declared.token_test.TokenTest.{TokenTest}
-use Rattle.sfm_text.specs.declared.token_test.TokenTest.TheVariants.{Pair, PairNumber, PairElement, Value, Element}
+use Rattle.sfm_text.specs.declared.token_test.TokenTest.TheVariants.{Pair, PairNumber, PairElement, Value, Element, Labelled, LabelledElement, NamedLabels}
+use Rattle.sfm_text.specs.declared.word.RankKind.{RankKind}
+use Rattle.sfm_text.specs.declared.word.RankKind.TheVariants.{NoRank, UniformRank, LaminarRank, GraphicRank, TransversalRank}
 use Rattle.sfm_text.specs.declared.word.TermWord.{TermWord}
 use Rattle.sfm_text.specs.declared.word.TermWord.TheVariants.{WeightWord, ConcaveWord}
-use Rattle.sfm_text.specs.Parts.{IsPairToken}
+use Rattle.sfm_text.specs.Lines.{pieces_of}
+use Rattle.sfm_text.specs.Parts.{IsPairToken, IsCutAt, IsLabelToken}
 use Rattle.sfm_text.specs.Words.{word_text, lowest_of}
 use Rattle.sfm_text.specs.TermLines.{IsNumberFrom, IsElement}
 use Rattle.sfm_text.specs.Reading.{FirstReason}
@@ -28,6 +33,40 @@ Holds names PairNumber token = (pair : List ℕ × List ℕ) × IsPairToken toke
 Holds names PairElement token = (pair : List ℕ × List ℕ) × IsPairToken token pair × IsKnown names pair.0
 Holds names Value token = IsNumberOf ConcaveWord token
 Holds names Element token = IsKnown names token
+Holds names (Labelled rank) token = (entry : List ℕ × List (List ℕ)) × IsLabelToken rank token entry
+Holds names (LabelledElement rank) token = (entry : List ℕ × List (List ℕ)) × IsLabelToken rank token entry × IsKnown names entry.0
+Holds names (NamedLabels rank) token = (entry : List ℕ × List (List ℕ)) × IsLabelToken rank token entry × All IsName entry.1
+
+-- the token does not pass it; of labels, some has not the form of a name
+abbrev pub Fails : List (List ℕ) → TokenTest → List ℕ → Type 0
+Fails names (NamedLabels rank) token = (entry : List ℕ × List (List ℕ)) → IsLabelToken rank token entry → Any (λ text. IsName text → ⊥) entry.1
+Fails names test token = Holds names test token → ⊥
+
+-- the text of the labels of an element: two vertices with a `-` between them, or slots between commas
+abbrev pub AreLabelsOf : RankKind → List ℕ → List (List ℕ) → Type 0
+AreLabelsOf GraphicRank text labels = (tail : List ℕ) × (head : List ℕ) × IsCutAt 45 text tail head × (labels ≡ tail ∷ head ∷ [])
+AreLabelsOf TransversalRank text labels = labels ≡ pieces_of 44 text
+AreLabelsOf _ text labels = ⊥
+
+-- the elements of a line of that rank have labels
+abbrev pub HasLabels : RankKind → Type 0
+HasLabels GraphicRank = Unit {0}
+HasLabels TransversalRank = Unit {0}
+HasLabels _ = ⊥
+
+-- the word of a rank whose elements have labels
+abbrev pub label_word : RankKind → List ℕ
+label_word GraphicRank = codes "graphic"
+label_word TransversalRank = codes "transversal"
+label_word _ = []
+
+-- the text is the word of that rank, or that of none
+abbrev pub IsRankNamed : RankKind → List ℕ → Type 0
+IsRankNamed NoRank text = (text ≢ codes "uniform") × (text ≢ codes "laminar") × (text ≢ codes "graphic") × (text ≢ codes "transversal")
+IsRankNamed UniformRank text = text ≡ codes "uniform"
+IsRankNamed LaminarRank text = text ≡ codes "laminar"
+IsRankNamed GraphicRank text = text ≡ codes "graphic"
+IsRankNamed TransversalRank text = text ≡ codes "transversal"
 
 -- each line with this word and these tokens behind it has that reason first
 abbrev pub IsReasonOf : InstanceData → TermWord → List (List ℕ) → Reason → Type 0

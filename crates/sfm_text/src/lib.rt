@@ -16,6 +16,7 @@ pub mod laws;
 mod line_fault;
 mod lines;
 mod long_line;
+mod long_rank;
 mod mark;
 mod names;
 mod need_line;

@@ -9,6 +9,7 @@ ghost use Rattle.sfm_text.specs.declared.word.TermWord.TheVariants.{WeightWord, 
 
 use crate::concave_line::is_concave_count;
 use crate::cut::{first_token, has_token};
+use crate::long_rank::rank_reason;
 use crate::passes::{all_hold, colon_cut, first_hold, has_mark_in, token_count};
 use crate::reason::Reason;
 use crate::token_test::{TokenTest, is_number_of};
@@ -99,7 +100,7 @@ fn long_reason(instance: &Instance, word: TermWord, line: &[u8]) -> Option<Reaso
         TermWord::CoverWord => Some(cover_reason(instance, line)),
         TermWord::TableWord => Some(Reason::Shape),
         TermWord::ConcaveWord => Some(concave_reason(instance, line)),
-        TermWord::RankWord => None,
+        TermWord::RankWord => rank_reason(instance, line),
     }
 }
 

@@ -6,7 +6,7 @@ ghost use Rattle.sfm_spec.specs.Names.{IsName};
 ghost use Rattle.sfm_text.specs.Lines.{tokens_of};
 ghost use Rattle.sfm_text.specs.Parts.{IsMark, AreUnmarked, IsCutAtColon};
 ghost use Rattle.sfm_text.specs.TermLines.{StandsTwice};
-ghost use Rattle.sfm_text.specs.Passes.{Holds};
+ghost use Rattle.sfm_text.specs.Passes.{Holds, Fails};
 
 use crate::cut::first_token;
 use crate::mark::is_mark;
@@ -110,7 +110,7 @@ pub fn colon_cut(line: &[u8]) -> Option<(usize, &[u8])>
 pub fn all_hold(instance: &Instance, test: TokenTest, line: &[u8]) -> bool
     ensures { MatchBool result
         (All (Holds instance.now.names test) (tokens_of line.now))
-        (Any (λ token. Holds instance.now.names test token → ⊥) (tokens_of line.now)) }
+        (Any (Fails instance.now.names test) (tokens_of line.now)) }
 {
     let mut left = line;
     while let Some((token, behind)) = first_token(left) {
@@ -126,7 +126,7 @@ pub fn all_hold(instance: &Instance, test: TokenTest, line: &[u8]) -> bool
 pub fn first_hold(instance: &Instance, test: TokenTest, count: usize, line: &[u8]) -> bool
     ensures { MatchBool result
         (All (Holds instance.now.names test) (take count (tokens_of line.now)))
-        (Any (λ token. Holds instance.now.names test token → ⊥) (take count (tokens_of line.now))) }
+        (Any (Fails instance.now.names test) (take count (tokens_of line.now))) }
 {
     let mut due = count;
     let mut left = line;

@@ -1,12 +1,12 @@
 use Rattle.std.proofs.Common.{length}
 use Rattle.std.specs.List.{Any, All}
 use Rattle.sfm_text.specs.Lines.{tokens_of}
-use Rattle.sfm_text.specs.Passes.{Holds}
+use Rattle.sfm_text.specs.Passes.{Holds, Fails}
 use Rattle.sfm_text.proofs.passes.all_hold.Given as goal
 
 abbrev pub invariant-loop-token : goal.invariant-loop-token
 invariant-loop-token l = record {
-  some : Any (λ token. Holds l.instance.names l.test token → ⊥) (tokens_of l.left) → Any (λ token. Holds l.instance.names l.test token → ⊥) (tokens_of l.line);
+  some : Any (Fails l.instance.names l.test) (tokens_of l.left) → Any (Fails l.instance.names l.test) (tokens_of l.line);
   all : All (Holds l.instance.names l.test) (tokens_of l.left) → All (Holds l.instance.names l.test) (tokens_of l.line);
 }
 
