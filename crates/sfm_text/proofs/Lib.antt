@@ -16,6 +16,7 @@ pub mod Members
 pub mod Numbers
 pub mod Repeats
 pub mod Passed
+pub mod KeptTokens
 pub mod Shaped
 pub mod ReadLines
 pub mod TooMuch

@@ -1,5 +1,5 @@
 -- What a token of a long line is tried for, and what the reason of such a line is.
-use Rattle.std.specs.Prelude.{◌≡◌, ◌≢◌, ℕ, List, [], ◌∷◌, codes, Any, ℤ}
+use Rattle.std.specs.Prelude.{◌≡◌, ◌≢◌, ℕ, List, [], ◌∷◌, ◌++◌, codes, Any, ℤ}
 use Rattle.std.specs.List.{All}
 use Rattle.sfm_spec.specs.Names.{IsName}
 use Rattle.sfm_kind.specs.Instance.{InstanceData}
@@ -14,7 +14,7 @@ use Rattle.sfm_text.specs.declared.word.TermWord.TheVariants.{WeightWord, Concav
 use Rattle.sfm_text.specs.Lines.{pieces_of}
 use Rattle.sfm_text.specs.Parts.{IsPairToken, IsCutAt, IsLabelToken}
 use Rattle.sfm_text.specs.Words.{word_text, lowest_of}
-use Rattle.sfm_text.specs.TermLines.{IsNumberFrom, IsElement}
+use Rattle.sfm_text.specs.TermLines.{IsNumberFrom, IsElement, StandsTwice}
 use Rattle.sfm_text.specs.Reading.{FirstReason}
 use Rattle.sfm_text.specs.ReadParts.{state_at, IsLineOf}
 
@@ -67,6 +67,11 @@ IsRankNamed UniformRank text = text ≡ codes "uniform"
 IsRankNamed LaminarRank text = text ≡ codes "laminar"
 IsRankNamed GraphicRank text = text ≡ codes "graphic"
 IsRankNamed TransversalRank text = text ≡ codes "transversal"
+
+-- the tokens are those that are kept and then the rest, and none is kept twice
+pub record IsKept (tokens kept rest : List (List ℕ)) : Type 0 where
+  pub cut : tokens ≡ kept ++ rest
+  pub once : StandsTwice kept → ⊥
 
 -- each line with this word and these tokens behind it has that reason first
 abbrev pub IsReasonOf : InstanceData → TermWord → List (List ℕ) → Reason → Type 0

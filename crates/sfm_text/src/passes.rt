@@ -1,12 +1,12 @@
 // Passes over the tokens of a line. A line that is refused may have millions of tokens, so they are looked at one after
 // another, and no list of them is made.
-ghost use Rattle.std.specs.Prelude.{◌≡◌, ◌↔◌, ℕ, List, length, take, codes, bytes_eq, Any, IsTrue, IfOk, MatchBool, MatchOption};
+ghost use Rattle.std.specs.Prelude.{◌≡◌, ◌↔◌, ◌≤◌, ◌++◌, ℕ, List, length, take, codes, bytes_eq, Any, Contains, IsTrue, IfOk, MatchBool, MatchOption};
 ghost use Rattle.std.specs.List.{All};
 ghost use Rattle.sfm_spec.specs.Names.{IsName};
-ghost use Rattle.sfm_text.specs.Lines.{tokens_of};
+ghost use Rattle.sfm_text.specs.Lines.{texts_of, tokens_of};
 ghost use Rattle.sfm_text.specs.Parts.{IsMark, AreUnmarked, IsCutAtColon};
 ghost use Rattle.sfm_text.specs.TermLines.{StandsTwice};
-ghost use Rattle.sfm_text.specs.Passes.{Holds, Fails};
+ghost use Rattle.sfm_text.specs.Passes.{Holds, Fails, IsKept};
 
 use crate::cut::first_token;
 use crate::mark::is_mark;
@@ -15,6 +15,9 @@ use indexmap::IndexSet;
 use sfm_base::Memory;
 use sfm_kind::{Instance, is_name};
 use std::alloc::Global;
+
+/// The most tokens that are kept at once to tell whether one stands twice.
+const MOST_KEPT: usize = 262_144;
 
 /// Whether some token of a line is a colon or a semicolon alone.
 pub fn has_mark_in(line: &[u8]) -> bool
@@ -46,17 +49,68 @@ pub fn are_names_in(line: &[u8]) -> bool
     true
 }
 
-/// Whether some token of a line stands twice. No more of them are kept than stand before the first that does.
+/// Keeps tokens of a line behind those that are kept, until there are so many, and gives the line behind them; or None where
+/// one of them is kept twice.
+fn keep<'a>(kept: &mut IndexSet<&'a [u8]>, line: &'a [u8]) -> Result<Option<&'a [u8]>, Memory>
+    requires { StandsTwice (texts_of kept.old.keys) → ⊥ }
+    ensures { IfOk result (λ r. MatchOption r
+        (StandsTwice (texts_of kept.old.keys ++ tokens_of line.now))
+        (λ rest. IsKept (texts_of kept.old.keys ++ tokens_of line.now) (texts_of kept.new.keys) (tokens_of rest.now) × (length rest.now ≤ length line.now))) }
+{
+    let mut left = line;
+    while kept.len() < MOST_KEPT {
+        let Some((token, behind)) = first_token(left) else {
+            return Ok(Some(left));
+        };
+        if !kept.insert(token)? {
+            return Ok(None);
+        }
+        left = behind;
+    }
+    Ok(Some(left))
+}
+
+/// Whether a token is kept.
+fn is_kept(kept: &IndexSet<&[u8]>, token: &[u8]) -> bool
+    ensures { MatchBool result
+        (Contains (texts_of kept.now.keys) token.now)
+        (Contains (texts_of kept.now.keys) token.now → ⊥) }
+{
+    kept.contains(token)
+}
+
+/// Whether some token of a line is kept.
+fn has_kept(kept: &IndexSet<&[u8]>, line: &[u8]) -> bool
+    ensures { MatchBool result
+        (Any (Contains (texts_of kept.now.keys)) (tokens_of line.now))
+        (All (λ token. Contains (texts_of kept.now.keys) token → ⊥) (tokens_of line.now)) }
+{
+    let mut left = line;
+    while let Some((token, behind)) = first_token(left) {
+        if is_kept(kept, token) {
+            return true;
+        }
+        left = behind;
+    }
+    false
+}
+
+/// Whether some token of a line stands twice. A part of the tokens is kept, and what stands behind it is compared with it, and
+/// then the next part, so that no more than one part is kept at a time.
 pub fn has_repeat_in(alloc: Global, line: &[u8]) -> Result<bool, Memory>
     ensures { IfOk result (λ r. IsTrue r ↔ StandsTwice (tokens_of line.now)) }
 {
-    let mut seen = IndexSet::new(alloc);
     let mut left = line;
-    while let Some((token, behind)) = first_token(left) {
-        if !seen.insert(token)? {
+    while let Some((first, behind)) = first_token(left) {
+        let mut kept = IndexSet::new(alloc);
+        kept.insert(first)?;
+        let Some(rest) = keep(&mut kept, behind)? else {
+            return Ok(true);
+        };
+        if has_kept(&kept, rest) {
             return Ok(true);
         }
-        left = behind;
+        left = rest;
     }
     Ok(false)
 }

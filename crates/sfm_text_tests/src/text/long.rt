@@ -108,3 +108,24 @@ fn long_concave_lines(rt: HostRuntime) -> Result<(), Fail> {
     }
     Ok(())
 }
+
+#[test]
+fn a_ground_of_many_names_is_refused(rt: HostRuntime) -> Result<(), Fail> {
+    let mut text = String::new(rt.alloc());
+    text.push_str("sfm 1\nground")?;
+    for i in 0..300_000_u32 {
+        text.push_str(format!(in rt.alloc(); " n{i}")?.as_str())?;
+    }
+    assert_eq!(rt;
+        first_fault(rt.alloc(), text.as_bytes()),
+        (2, b"total".as_slice())
+    );
+    for last in [" n0", " n299999"] {
+        let more = format!(in rt.alloc(); "{text}{last}")?;
+        assert_eq!(rt;
+            first_fault(rt.alloc(), more.as_bytes()),
+            (2, b"twice".as_slice())
+        );
+    }
+    Ok(())
+}

@@ -1,47 +1,44 @@
--- The set holds the tokens so far, so it has the next one exactly where that stands among them.
-use Rattle.std.proofs.Common.{◌≡◌, not, true, false, Bool, Bor, ℕ, List, [], ◌∷◌, ◌++◌, refl, ap, ◌∙◌, rules, arith}
+-- A token stands twice among those that are kept, or among those and behind them, or behind them alone.
+use Rattle.std.proofs.Common.{◌≡◌, Bor, ℕ, List, [], ◌∷◌, ◌++◌, length, refl, sym, ap, ◌∙◌, rules, arith}
 use Rattle.std.proofs.lemmas.Bool.{false≢true}
-use Rattle.sfm_kind.proofs.Keys.{new_where_none}
+use Rattle.sfm_text.specs.Lines.{texts_of, tokens_of}
 use Rattle.sfm_text.specs.TermLines.{StandsTwice}
-use Rattle.sfm_text.proofs.Repeats.{found-among}
-use Rattle.sfm_text.proofs.Passed.{twice-behind, once-behind, passed-more, passed-all, keys-push}
+use Rattle.sfm_text.proofs.KeptTokens.{one-once, twice-both, twice-rest, twice-behind-kept}
 use Rattle.sfm_text.proofs.passes.has_repeat_in.Goals as goal
 
-true_from_not : (b r : Bool) → r ≡ not b → r ≡ false → b ≡ true
-true_from_not true r e f = refl
-true_from_not false r e f = cc
+pub loop-first-init : goal.loop-first-init
+loop-first-init c = record { down = λ t. t; up = λ t. t }
 
-false_from_not : (b r : Bool) → r ≡ not b → r ≡ true → b ≡ false
-false_from_not true r e f = cc
-false_from_not false r e f = refl
+pub keep-requires : goal.keep-requires
+keep-requires c =
+    let empty : c.new-kept.result.keys ≡ [] = search (rules, c.new-kept.ensures) in
+    let keys : texts_of c.insert.new.self.keys ≡ c.in-Some.first.now ∷ [] = ap (λ (ks : List (Bor (List ℕ))). texts_of ks) (rw empty at c.in_ok-insert.ensures.keys) in
+    rw keys (one-once c.in-Some.first.now)
 
-nothing-twice : (StandsTwice {X = List ℕ} []) → ⊥
-nothing-twice h = absurd (omega (arith, h.within))
+pub returns-in_default-2 : goal.returns-in_default-2
+returns-in_default-2 c =
+    let empty : c.new-kept.result.keys ≡ [] = search (rules, c.new-kept.ensures) in
+    let keys : texts_of c.insert.new.self.keys ≡ c.in-Some.first.now ∷ [] = ap (λ (ks : List (Bor (List ℕ))). texts_of ks) (rw empty at c.in_ok-insert.ensures.keys) in
+    let twice = rw keys at rw c.in_default-2.is at c.in_ok-rest.ensures in
+    (λ e. c.loop-first.invariant.up (rw c.in-Some.ensures.cut twice), λ h. refl)
 
-pub loop-token-init : goal.loop-token-init
-loop-token-init c = record { done = []; parts = refl; seen = search (rules, c.new-seen.ensures); fresh = nothing-twice }
+pub returns-then-has_kept : goal.returns-then-has_kept
+returns-then-has_kept c =
+    let empty : c.new-kept.result.keys ≡ [] = search (rules, c.new-kept.ensures) in
+    let keys : texts_of c.insert.new.self.keys ≡ c.in-Some.first.now ∷ [] = ap (λ (ks : List (Bor (List ℕ))). texts_of ks) (rw empty at c.in_ok-insert.ensures.keys) in
+    let kept = rw keys at rw c.in-Some-2.is at c.in_ok-rest.ensures in
+    (λ e. c.loop-first.invariant.up (rw (c.in-Some.ensures.cut ∙ kept.0.cut) (twice-both (texts_of c.keep.new.kept.keys) (tokens_of c.in-Some-2.rest.now) c.if-has_kept.ensures)), λ h. refl)
 
-pub returns-then-not-branch : goal.returns-then-not-branch
-returns-then-not-branch c =
-    let inv = c.loop-token.invariant in
-    let found = found-among c.loop-token.seen.keys _ (true_from_not _ _ c.in_ok-insert.ensures.added c.if-not-branch.true) in
-    (λ e. twice-behind inv.done _ _ _ (inv.parts ∙ ap (λ (l : List (List ℕ)). inv.done ++ l) c.in-Some.ensures.cut) (rw inv.seen at found), λ h. refl)
-
-pub loop-token-preserved : goal.loop-token-preserved
-loop-token-preserved c =
-    let inv = c.loop-token.invariant in
-    let none = false_from_not _ _ c.in_ok-insert.ensures.added c.if-not-branch.false in
-    let new = new_where_none (λ (t : Bor (List ℕ)). t.now) _ c.loop-token.seen.keys none in
-    let keys = rw none at c.in_ok-insert.ensures.keys in
+pub loop-first-preserved : goal.loop-first-preserved
+loop-first-preserved c =
+    let empty : c.new-kept.result.keys ≡ [] = search (rules, c.new-kept.ensures) in
+    let keys : texts_of c.insert.new.self.keys ≡ c.in-Some.first.now ∷ [] = ap (λ (ks : List (Bor (List ℕ))). texts_of ks) (rw empty at c.in_ok-insert.ensures.keys) in
+    let kept = rw keys at rw c.in-Some-2.is at c.in_ok-rest.ensures in
+    let whole = c.in-Some.ensures.cut ∙ kept.0.cut in
     record {
-      done = inv.done ++ c.in-Some.token.now ∷ [];
-      parts = passed-more inv.done c.in-Some.token.now _ _ _ inv.parts c.in-Some.ensures.cut;
-      seen = keys-push c.loop-token.seen.keys c.insert.new.self.keys c.in-Some.token inv.done inv.seen keys;
-      fresh = once-behind inv.done c.in-Some.token.now inv.fresh (rw inv.seen at new);
+      down = λ t. twice-behind-kept (texts_of c.keep.new.kept.keys) (tokens_of c.in-Some-2.rest.now) kept.0.once c.if-has_kept.ensures (rw whole at (c.loop-first.invariant.down t));
+      up = λ t. c.loop-first.invariant.up (rw whole (twice-rest (texts_of c.keep.new.kept.keys) (tokens_of c.in-Some-2.rest.now) t));
     }
 
 pub returns : goal.returns
-returns c =
-    let inv = c.loop-token.invariant in
-    let all = passed-all inv.done _ _ inv.parts c.in_default.ensures.cut in
-    (λ e. absurd (false≢true e), λ h. absurd (inv.fresh (rw all at h)))
+returns c = (λ e. absurd (false≢true e), λ h. let t = c.loop-first.invariant.down h in absurd (omega (arith, t.within, ap length c.in_default.ensures.cut)))

@@ -1,15 +1,13 @@
-use Rattle.std.proofs.Common.{◌≡◌, List, ℕ, ◌++◌, length}
-use Rattle.sfm_text.specs.Lines.{texts_of, tokens_of}
+use Rattle.std.proofs.Common.{length}
+use Rattle.sfm_text.specs.Lines.{tokens_of}
 use Rattle.sfm_text.specs.TermLines.{StandsTwice}
 use Rattle.sfm_text.proofs.passes.has_repeat_in.Given as goal
 
-abbrev pub invariant-loop-token : goal.invariant-loop-token
-invariant-loop-token l = record {
-  done : List (List ℕ);
-  parts : tokens_of l.line ≡ done ++ tokens_of l.left;
-  seen : texts_of l.seen.keys ≡ done;
-  fresh : StandsTwice done → ⊥;
+abbrev pub invariant-loop-first : goal.invariant-loop-first
+invariant-loop-first l = record {
+  down : StandsTwice (tokens_of l.line) → StandsTwice (tokens_of l.left);
+  up : StandsTwice (tokens_of l.left) → StandsTwice (tokens_of l.line);
 }
 
-abbrev pub decreases-loop-token : goal.decreases-loop-token
-decreases-loop-token l = length l.left
+abbrev pub decreases-loop-first : goal.decreases-loop-first
+decreases-loop-first l = length l.left
