@@ -13,7 +13,7 @@ use Rattle.sfm_text.specs.declared.stage.Stage.TheVariants.{Terms}
 use Rattle.sfm_text.specs.declared.word.TermWord.{TermWord}
 use Rattle.sfm_text.specs.Lines.{tokens_of}
 use Rattle.sfm_text.specs.Words.{word_text}
-use Rattle.sfm_text.specs.Reading.{Has, FirstReason, Takes, IsBadByte, IsLineRefusal, Adds, AddsTerm, reason_order}
+use Rattle.sfm_text.specs.Reading.{Has, Takes, IsBadByte, IsLineRefusal, Adds, AddsTerm, reason_order}
 use Rattle.sfm_text.specs.ReadParts.{state_at, BeginsEnd, IsLineOf, IsOutcome}
 use Rattle.sfm_text.specs.Adding.{HasAsTerm, IsNoTerm, IsTermRefusal, IsTermAdded}
 use Rattle.sfm_text.proofs.WordLines.{not-end}

@@ -1,6 +1,6 @@
 -- Lines lead to one state, but for what the terms keep that no reason asks of: two readings of the same lines have the same
 -- stage and the same names, and terms of the same places and sizes. So a text is good or has a first fault, and one alone.
-use Rattle.std.proofs.Common.{◌≡◌, ◌≢◌, ◌⊎◌, inl, inr, ℕ, ◌+◌, ◌<◌, ◌≤◌, List, [], ◌∷◌, ◌++◌, length, get_or, map, codes, slice_get, AllPairs, refl, sym, ap, subst, ◌∙◌, arith}
+use Rattle.std.proofs.Common.{◌≡◌, ◌≢◌, ◌⊎◌, inl, inr, ℕ, ◌+◌, ◌<◌, ◌≤◌, List, [], ◌∷◌, ◌++◌, length, get_or, map, codes, AllPairs, refl, sym, ap, subst, ◌∙◌, arith}
 use Rattle.std.proofs.lemmas.Bool.{cases_lt}
 use Rattle.std.proofs.lemmas.Int.{ints}
 use Rattle.std.proofs.lemmas.List.{map-append, length_push}
@@ -15,12 +15,12 @@ use Rattle.sfm_text.specs.declared.reason.Reason.TheVariants.{Long, Bytes, Word,
 use Rattle.sfm_text.specs.declared.stage.Stage.{Stage}
 use Rattle.sfm_text.specs.declared.stage.Stage.TheVariants.{Header, Ground, Terms, Ended}
 use Rattle.sfm_text.specs.Matched.{Matched}
-use Rattle.sfm_text.specs.Lines.{TextLine, content_of, lines_of, tokens_of}
+use Rattle.sfm_text.specs.Lines.{TextLine, content_of, tokens_of}
 use Rattle.sfm_text.specs.Words.{word_text}
 use Rattle.sfm_text.specs.TermLines.{StandsTwice, StandsFor}
 use Rattle.sfm_text.proofs.TooMuch.{much-by-total, total-by-much}
-use Rattle.sfm_text.specs.Reading.{State, start, reason_order, Has, HasTwice, HasTooMuch, AreTooMuch, FirstReason, AddsTerm, Adds, Takes, Follows}
-use Rattle.sfm_text.specs.GoodText.{text_limit, bytes_of, IsTextOf, HasFaultyLine, EndsEarly, IsFaultOf, is_long, is_faulty, is_short}
+use Rattle.sfm_text.specs.Reading.{State, start, reason_order, Has, HasTwice, HasTooMuch, AreTooMuch, FirstReason, Adds, Takes, Follows}
+use Rattle.sfm_text.specs.GoodText.{bytes_of, IsTextOf, HasFaultyLine, IsFaultOf, is_long, is_faulty, is_short}
 use Rattle.sfm_text.proofs.WordLines.{not-end}
 use Rattle.sfm_text.proofs.Matches.{Matched-push}
 use Rattle.sfm_text.proofs.Repeats.{twice-at}

@@ -1,10 +1,10 @@
 -- A line has fewer labels than bytes: each label ends at a byte of its own, and the name of its element stands before the first.
-use Rattle.std.proofs.Common.{◌≡◌, ◌==◌, ℕ, ◌+◌, ◌<◌, ◌≤◌, ◌^◌, Bool, true, false, not, cond, List, [], ◌∷◌, ◌++◌, length, map, Bor, bytes_eq, inl, inr, ap, sym, ◌∙◌, arith, length-append}
-use Rattle.std.specs.List.{slice_split, onto_first, filter, position_or_len}
+use Rattle.std.proofs.Common.{◌≡◌, ◌==◌, ℕ, ◌+◌, ◌<◌, ◌≤◌, ◌^◌, Bool, true, false, not, cond, List, [], ◌∷◌, length, map, Bor, bytes_eq, inl, inr, ap, arith, length-append}
+use Rattle.std.specs.List.{slice_split, onto_first, filter}
 use Rattle.std.proofs.lemmas.List.{length-map}
 use Rattle.std.proofs.lemmas.List.Sums.{length-filter, count_by-le-length}
 use Rattle.std.proofs.lemmas.List.Splits.{length-slice_split}
-use Rattle.sfm_text.specs.Lines.{pieces_of, is_blank, has_bytes, tokens_of, texts_of}
+use Rattle.sfm_text.specs.Lines.{is_blank, has_bytes, tokens_of, texts_of}
 use Rattle.sfm_text.specs.Matched.{Matched}
 use Rattle.sfm_text.specs.Parts.{LineParts, IsLabelToken, IsLabelledLine}
 use Rattle.sfm_text.specs.Words.{word_text, HasParts}

@@ -13,7 +13,7 @@ use Rattle.sfm_text.specs.declared.end.TextEnd.{TextEnd}
 use Rattle.sfm_text.specs.declared.line_fault.Fault.{Fault}
 use Rattle.sfm_text.specs.declared.reader.Reader.{Reader}
 use Rattle.sfm_text.specs.Lines.{TextLine, pieces_of, without_empty_last, numbered, content_among, content_of, lines_of, tokens_of, are_skipped}
-use Rattle.sfm_text.specs.Reading.{State, start, Takes, Follows}
+use Rattle.sfm_text.specs.Reading.{start, Takes, Follows}
 use Rattle.sfm_text.specs.declared.reason.Reason.TheVariants.{Long, Short}
 use Rattle.sfm_text.specs.declared.stage.Stage.{Stage}
 use Rattle.sfm_text.specs.declared.stage.Stage.TheVariants.{Ended}

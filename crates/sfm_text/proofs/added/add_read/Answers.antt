@@ -1,8 +1,7 @@
 -- A term line has no reason before the total, and its total is that of the term that was read.
-use Rattle.std.proofs.Common.{◌∷◌, length, refl}
+use Rattle.std.proofs.Common.{length, refl}
 use Rattle.std.proofs.lemmas.Bool.{false≢true}
 use Rattle.sfm_text.specs.Lines.{texts_of}
-use Rattle.sfm_text.specs.Words.{word_text}
 use Rattle.sfm_text.proofs.SameTerms.{stands-placed, bounded-more}
 use Rattle.sfm_text.proofs.LaterLines.{later-total, later-good}
 use Rattle.sfm_text.proofs.added.add_read.Goals as goal
