@@ -1,6 +1,5 @@
 -- q times a base of a term is a base of q times the term.
-use Rattle.std.proofs.Common.{◌≡◌, ℕ, ◌+◌, ◌<◌, ◌≤◌, ◌^◌, ◌++◌, take, get_or, unsigned_abs, neg_ℤ, Bool, true, false, List, [], ◌∷◌, length, map, Some, ℤ, pos, ◌+ℤ◌, ◌*ℤ◌, ◌≤ℤ◌, refl, sym, ap, ◌∙◌, arith}
-use Rattle.std.proofs.Math.IntN.{*ℤ-zero}
+use Rattle.std.proofs.Common.{◌≡◌, ℕ, ◌+◌, ◌<◌, ◌≤◌, ◌^◌, ◌++◌, take, get_or, unsigned_abs, neg_ℤ, Bool, List, [], ◌∷◌, length, map, Some, ℤ, pos, ◌*ℤ◌, ◌≤ℤ◌, refl, sym, ap, ◌∙◌, arith}
 use Rattle.std.proofs.lemmas.Int.{ints}
 use Rattle.std.proofs.lemmas.List.{length-map, map-append, take_more}
 use Rattle.std.proofs.lemmas.List.Elements.{All-map}
@@ -11,22 +10,9 @@ use Rattle.sfm_spec.specs.Bounds.{IsAtMost, IsEntry, IsFactor}
 use Rattle.sfm_spec.specs.Terms.{SetFunction, times, IsBase}
 use Rattle.sfm_spec.specs.Families.{Meaning, AreBases}
 use Rattle.sfm_base.proofs.Slopes.{at_most_from_abs}
-use Rattle.sfm_spec.proofs.Scaled.{times_some, times-add, times-mono}
-
--- q times each entry
-abbrev pub row_times : ℤ → List ℤ → List ℤ
-row_times q x = map (λ a. q *ℤ a) x
-
--- a sum of entries is multiplied with them
-sum_over-times : (q : ℤ) (s : List Bool) (x : List ℤ) → sum_over s (row_times q x) ≡ (q *ℤ sum_over s x)
-sum_over-times q [] x = sym (*ℤ-zero q)
-sum_over-times q (b ∷ s) [] = sym (*ℤ-zero q)
-sum_over-times q (true ∷ s) (a ∷ x) = ap (λ z. (q *ℤ a) +ℤ z) (sum_over-times q s x) ∙ sym (times-add q a (sum_over s x))
-sum_over-times q (false ∷ s) (a ∷ x) =
-    ap (λ z. pos 0 +ℤ z) (sum_over-times q s x) ∙ ap (λ z. z +ℤ (q *ℤ sum_over s x)) (sym (*ℤ-zero q)) ∙ sym (times-add q (pos 0) (sum_over s x))
-
-one-times : (a : ℤ) → (pos 1 *ℤ a) ≡ a
-one-times a = omega (arith, ints)
+use Rattle.sfm_spec.proofs.Scaled.{times_some, times-mono}
+use Rattle.sfm_exchange.specs.Scaled.{row_times}
+use Rattle.sfm_exchange.proofs.Scaling.{sum_over-times, one-times}
 
 base-times : (q : ℤ) (f : SetFunction) (x : List ℤ) → pos 1 ≤ℤ q → IsBase (times (pos 1) f) x → IsBase (times q f) (row_times q x)
 base-times q f x lq h = record { within = within; total = total } where

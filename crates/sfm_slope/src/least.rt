@@ -11,7 +11,7 @@ ghost use Rattle.sfm_slope.specs.Searches.{IsSearch};
 use crate::rows::{are_small, first_rows, rows_times};
 use crate::search::{Search, write_even};
 use sfm_base::{Memory, Set, Slope, Steps};
-use sfm_exchange::{Graph, restart};
+use sfm_exchange::{Graph, restart, restart_by};
 use sfm_law::Term;
 use sfm_walk::improve;
 use std::alloc::Global;
@@ -41,7 +41,14 @@ pub fn least_at<T: Term>(
         return Ok(below);
     }
     let bases = rows_times(alloc, terms, slope.den, &search.warm.bases)?;
-    restart(alloc, &mut search.cold, terms, n, slope.den, bases)?;
+    restart_by(
+        alloc,
+        &mut search.cold,
+        terms,
+        slope.den,
+        bases,
+        &search.warm,
+    )?;
     let least = least_by(
         alloc,
         &mut search.cold,

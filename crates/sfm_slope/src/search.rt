@@ -1,5 +1,6 @@
-// What the search for the breakpoints and the runs for their sections share: two exchange graphs of the terms and a shift,
-// which are made once and used again at each slope.
+// What the search for the breakpoints and the runs for their sections share: three exchange graphs of the terms and a
+// shift, which are made once and used again at each slope. The rows at the first bases hang on no slope, so one graph stays
+// at these, and no term is asked for them again.
 ghost use Rattle.std.specs.Prelude.{◌≡◌, length, map, IfOk};
 ghost use Rattle.sfm_spec.specs.Bounds.{AreBounded};
 ghost use Rattle.sfm_spec.specs.Families.{even_shift};
@@ -7,15 +8,17 @@ ghost use Rattle.sfm_slope.specs.Searches.{IsSearch};
 
 use crate::rows::first_rows;
 use sfm_base::Memory;
-use sfm_exchange::{Graph, graph_at};
+use sfm_exchange::{Graph, copy_graph, graph_at};
 use sfm_law::Term;
 use std::alloc::Global;
 
-/// Two exchange graphs of the terms over one ground.
+/// Three exchange graphs of the terms over one ground.
 #[derive(Drop)]
 pub struct Search<N> {
     /// Where lists are made.
     pub alloc: Global,
+    /// Of the terms themselves, at their first bases.
+    pub first: Graph<N>,
     /// Of the terms themselves, at the bases of the slope that was looked at last.
     pub warm: Graph<N>,
     /// Of some factor times the terms, made one at other bases before each use.
@@ -34,11 +37,13 @@ impl<N> Search<N> {
         requires bounded { AreBounded n (map T.places terms.now) (map T.size_of terms.now) }
         ensures { IfOk result (IsSearch T.places T.value_of T.fits terms.now n) }
     {
-        let warm = graph_at(alloc, terms, n, 1, first_rows(alloc, terms, 1)?)?;
-        let cold = graph_at(alloc, terms, n, 1, first_rows(alloc, terms, 1)?)?;
+        let first = graph_at(alloc, terms, n, 1, first_rows(alloc, terms, 1)?)?;
+        let warm = copy_graph(alloc, &first, terms, n, 1)?;
+        let cold = copy_graph(alloc, &first, terms, n, 1)?;
         let shift = vec![in alloc; 0i128; n]?;
         Ok(Search {
             alloc,
+            first,
             warm,
             cold,
             shift,

@@ -1,6 +1,6 @@
 // The bases of each breakpoint. They are found by a run of their own from the first bases, so they hang on the terms and the
 // slope alone, and few walks lead to them, however the breakpoint was found.
-ghost use Rattle.std.specs.Prelude.{◌≡◌, ◌^◌, ℤ, length, map, IfOk, OnOk};
+ghost use Rattle.std.specs.Prelude.{◌≡◌, ◌^◌, ℤ, length, map, pos, IfOk, OnOk};
 ghost use Rattle.std.specs.List.{All};
 ghost use Rattle.sfm_spec.specs.Bounds.{AreBounded, IsAtMost};
 ghost use Rattle.sfm_spec.specs.Families.{meanings};
@@ -12,7 +12,7 @@ ghost use Rattle.sfm_slope.specs.Sections.{IsSection};
 
 use crate::search::{Search, write_even};
 use crate::turn::Breakpoint;
-use sfm_base::{Memory, Rows, Slope, Steps};
+use sfm_base::{Memory, Rows, Slope};
 use sfm_exchange::Graph;
 use sfm_law::{Break, Term};
 use sfm_walk::minimise_from_start;
@@ -57,6 +57,7 @@ fn section<T: Term>(
     let bases = bases_at(
         search.alloc,
         &mut search.cold,
+        &search.first,
         terms,
         slope,
         &mut search.shift,
@@ -68,19 +69,20 @@ fn section<T: Term>(
 fn bases_at<T: Term>(
     alloc: Global,
     graph: &mut Graph<T::Note>,
+    firsts: &Graph<T::Note>,
     terms: &[T],
     slope: Slope,
     shift: &mut [i128],
 ) -> Result<Rows, Memory>
     requires bounded { AreBounded (length shift.old) (map T.places terms.now) (map T.size_of terms.now) }
     requires graph { (q : ℤ) × IsGraph T.places T.value_of T.fits terms.now (length shift.old) q graph.old }
+    requires firsts { IsGraph T.places T.value_of T.fits terms.now (length shift.old) (pos 1) firsts.now }
     requires small { IsAtMost (10 ^ 24) slope.num }
     ensures graph { OnOk result (IsGraph T.places T.value_of T.fits terms.now (length shift.old) slope.den graph.new) }
     ensures bases { IfOk result (IsSection (meanings T.places T.value_of terms.now) (λ q. map (λ term. T.start_of term q) terms.now) (length shift.old) slope.num slope.den) }
 {
     write_even(shift, slope.num);
-    let mut steps = Steps::new();
-    let minimum = minimise_from_start(alloc, graph, terms, slope.den, shift, &mut steps)?;
+    let minimum = minimise_from_start(alloc, graph, firsts, terms, slope.den, shift)?;
     let optimum = minimum.optimum;
     Ok(optimum.bases)
 }

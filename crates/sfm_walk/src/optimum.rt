@@ -23,7 +23,7 @@ use crate::walk::least_walk;
 use sfm_base::{Memory, Numbers, Rows, Set, Steps};
 use sfm_exchange::{
     Graph, Path, amount_of, copy_rows, find_levels, graph_at, move_along, move_signs, reached_from,
-    restart, set_of, signs_of,
+    restart_by, set_of, signs_of,
 };
 use sfm_law::{Term, rest_of, start_rows};
 use std::alloc::Global;
@@ -117,9 +117,10 @@ pub fn minimise_counted<T: Term>(
     })
 }
 
-/// Bases that prove the minimum of q times the sum of the terms less the shift, reached from the first bases of the terms,
-/// with z and the least minimiser. The graph is made one at these bases, whatever bases and factor it was at before, and its
-/// lists are used again. Counts as `improve` does.
+/// Bases that prove the minimum of q times the sum of the terms less the shift, reached from the first bases of the terms by
+/// few walks, with z and the least minimiser. The graph is made one at these bases, whatever bases and factor it was at
+/// before, and its lists are used again. Where these bases are q times those of a second graph, one of the terms
+/// themselves, no term is asked for its rows.
 ///
 /// # Errors
 ///
@@ -127,16 +128,16 @@ pub fn minimise_counted<T: Term>(
 pub fn minimise_from_start<T: Term>(
     alloc: Global,
     graph: &mut Graph<T::Note>,
+    firsts: &Graph<T::Note>,
     terms: &[T],
     q: i128,
     shift: &[i128],
-    steps: &mut Steps,
 ) -> Result<Minimum, Memory>
-    requires room { steps.old < 2 ^ 63 }
     requires bounded { AreBounded (length shift.now) (map T.places terms.now) (map T.size_of terms.now) }
     requires shifts { magnitudes shift.now ≤ℤ pos (10 ^ 27) }
     requires factor { IsFactor q }
     requires graph { (q0 : ℤ) × IsGraph T.places T.value_of T.fits terms.now (length shift.now) q0 graph.old }
+    requires firsts { IsGraph T.places T.value_of T.fits terms.now (length shift.now) (pos 1) firsts.now }
     ensures graph { OnOk result (IsGraph T.places T.value_of T.fits terms.now (length shift.now) q graph.new) }
     ensures same { IfOk result (λ r. r.optimum.bases ≡ graph.new.bases) }
     ensures bases { IfOk result (λ r. AreBases q (meanings T.places T.value_of terms.now) r.optimum.bases) }
@@ -145,13 +146,12 @@ pub fn minimise_from_start<T: Term>(
     ensures ends { IfOk result (λ r. (first : ℕ) (steps : List Step) → Joins (meanings T.places T.value_of terms.now) q shift.now r.optimum.bases first steps → ⊥) }
     ensures proves { IfOk result (λ r. Prove (meanings T.places T.value_of terms.now) (length shift.now) q shift.now r.optimum.bases) }
     ensures least { IfOk result (λ r. IsLeast (meanings T.places T.value_of terms.now) (length shift.now) q shift.now r.least) }
-    ensures counted { IfOk result (λ r. IsCounted (meanings T.places T.value_of terms.now) (length shift.now) q shift.now (map (λ term. T.start_of term q) terms.now) r.optimum.bases steps.old steps.new) }
-    ensures few { steps.new ≤ steps.old + few_walks (length shift.now) (length terms.now) }
-    ensures kept { steps.old ≤ steps.new }
+    ensures few { IfOk result (λ r. IsFewWalks (meanings T.places T.value_of terms.now) (length shift.now) q shift.now (map (λ term. T.start_of term q) terms.now) r.optimum.bases) }
 {
     let first_bases = start_rows(alloc, terms, q)?;
-    restart(alloc, graph, terms, shift.len(), q, first_bases)?;
-    let rested = improve(alloc, graph, terms, q, shift, steps)?;
+    restart_by(alloc, graph, terms, q, first_bases, firsts)?;
+    let mut steps = Steps::new();
+    let rested = improve(alloc, graph, terms, q, shift, &mut steps)?;
     let bases = copy_rows(alloc, &graph.bases)?;
     Ok(Minimum {
         optimum: Optimum { bases, z: rested.z },

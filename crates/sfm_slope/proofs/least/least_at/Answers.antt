@@ -19,6 +19,7 @@ returns-then-slope-eq1-clause-search g c =
     let graph : IsGraph t.places t.value_of t.fits c.args.terms.now n (pos 1) c.least_by.new.graph
     = subst (λ k. IsGraph t.places t.value_of t.fits c.args.terms.now k (pos 1) c.least_by.new.graph) sized c.in_ok-below.ensures.graph in
     record {
+      first = c.requires.search.first;
       warm = graph;
       cold = c.requires.search.cold;
       shift = ap length (with_items_is v ws (c.least_by.auto.shift ∙ c.deref_mut.ensures.len)) ∙ c.least_by.auto.shift ∙ sized;
@@ -43,11 +44,11 @@ returns-then-slope-eq1-clause-least g c =
     let here : IsLeast ts n (pos 1) (even_shift n s.num) c.in_ok-below.below = rw (← is, ← sized) found in
     rw one here
 
-pub restart-requires-clause-small : goal.restart-requires-clause-small
-restart-requires-clause-small g c = rows-entries c.in_ok-bases.bases c.in_ok-bases.ensures.small
+pub restart_by-requires-clause-small : goal.restart_by-requires-clause-small
+restart_by-requires-clause-small g c = rows-entries c.in_ok-bases.bases c.in_ok-bases.ensures.small
 
 pub least_by-requires-2-clause-small : goal.least_by-requires-2-clause-small
-least_by-requires-2-clause-small g c = rw c.in_ok-restart.ensures.bases c.in_ok-bases.ensures.small
+least_by-requires-2-clause-small g c = rw c.in_ok-restart_by.ensures.bases c.in_ok-bases.ensures.small
 
 pub returns-clause-search : goal.returns-clause-search
 returns-clause-search g c =
@@ -67,7 +68,23 @@ returns-clause-search g c =
     let graph2 : IsGraph t.places t.value_of t.fits c.args.terms.now n s.den c.least_by-2.new.graph
     = subst (λ k. IsGraph t.places t.value_of t.fits c.args.terms.now k s.den c.least_by-2.new.graph) sized2 told in
     record {
+      first = c.requires.search.first;
       warm = graph;
       cold = (s.den, graph2);
       shift = ap length (with_items_is (with_items v ws) ws2 (c.least_by-2.auto.shift ∙ c.deref_mut-2.ensures.len)) ∙ c.least_by-2.auto.shift ∙ sized2;
     }
+
+pub restart_by-requires-clause-bounded : goal.restart_by-requires-clause-bounded
+restart_by-requires-clause-bounded g c = rw c.requires.search.cold.1.are_spots.count c.requires.bounded
+
+pub restart_by-requires-clause-graph : goal.restart_by-requires-clause-graph
+restart_by-requires-clause-graph g c = rw c.requires.search.cold.1.are_spots.count c.requires.search.cold
+
+pub restart_by-requires-clause-other : goal.restart_by-requires-clause-other
+restart_by-requires-clause-other g c =
+    let t = g.T.Term in
+    let n = c.args.n in
+    let sized : length c.deref_mut.result.now ≡ n = ap length c.deref_mut.ensures.value ∙ c.requires.search.shift in
+    let graph : IsGraph t.places t.value_of t.fits c.args.terms.now n (pos 1) c.least_by.new.graph
+    = subst (λ k. IsGraph t.places t.value_of t.fits c.args.terms.now k (pos 1) c.least_by.new.graph) sized c.in_ok-below.ensures.graph in
+    rw c.requires.search.cold.1.are_spots.count graph

@@ -1,7 +1,8 @@
 use Rattle.std.proofs.Common.{◌≡◌, ◌+◌, ◌<◌, [], ◌∷◌, ◌++◌, length, get_or, map, take, FitsSigned, arith}
 use Rattle.std.proofs.lemmas.Int.{to_z-of_z}
 use mir.Syntax.{w128}
-use Rattle.sfm_slope.proofs.Scaled.{mapped_more, row_times}
+use Rattle.sfm_exchange.specs.Scaled.{row_times}
+use Rattle.sfm_slope.proofs.Scaled.{mapped_more}
 use Rattle.sfm_slope.proofs.rows.all_times.Goals as goal
 
 pub loop-i-preserved : goal.loop-i-preserved

@@ -25,6 +25,5 @@ returns-clause-bases g c =
     let h = c.in_ok-minimum.ensures in
     let bases = simp to_z-of_z at h.bases in
     let proves = rw (same, length-replicate n s.num) at h.proves in
-    let counted = rw (same, length-replicate n s.num) at h.counted in
-    let told = simp to_z-of_z at counted in
-    record { are_bases = bases; small = h.small; proves = simp to_z-of_z at proves; reached = (told.0, told.1, told.2) }
+    let few = rw (same, length-replicate n s.num) at h.few in
+    record { are_bases = bases; small = h.small; proves = simp to_z-of_z at proves; reached = simp to_z-of_z at few }

@@ -15,6 +15,7 @@ returns-clause-search g c =
     let graph : IsGraph t.places t.value_of t.fits c.args.terms.now n q c.bases_at.new.graph
     = subst (λ k. IsGraph t.places t.value_of t.fits c.args.terms.now k q c.bases_at.new.graph) sized c.in_ok-bases.ensures.graph in
     record {
+      first = c.requires.search.first;
       warm = c.requires.search.warm;
       cold = (q, graph);
       shift = ap length (with_items_is c.args.search.now.shift ws (c.bases_at.auto.shift ∙ c.deref_mut.ensures.len)) ∙ c.bases_at.auto.shift ∙ sized;

@@ -20,7 +20,7 @@ improve-requires-clause-small g c =
     let fq : FitsSigned w128 c.args.q = c.ranges.q in
     let each = each_bounded t.size_of c.args.terms.now (size_low t.places t.value_of t.size_of m.submodular m.bounded) c.requires.bounded.small in
     let rows = simp to_z-of_z at c.in_ok-first_bases.ensures.starts in
-    rw (c.in_ok-restart.ensures.bases, rows) (starts_within t.size_of t.start_of c.args.q (λ x. m.starts_small x c.args.q c.requires.factor.low) c.requires.factor c.args.terms.now each)
+    rw (c.in_ok-restart_by.ensures.bases, rows) (starts_within t.size_of t.start_of c.args.q (λ x. m.starts_small x c.args.q c.requires.factor.low) c.requires.factor c.args.terms.now each)
 
 pub returns-clause-bases : goal.returns-clause-bases
 returns-clause-bases g c =
@@ -52,13 +52,33 @@ returns-clause-proves g c =
     let known = simp to_z-of_z at c.in_ok-rested.ensures.proves in
     rw c.in_ok-bases.ensures known
 
-pub returns-clause-counted : goal.returns-clause-counted
-returns-clause-counted g c =
+pub returns-clause-few : goal.returns-clause-few
+returns-clause-few g c =
     let fq : FitsSigned w128 c.args.q = c.ranges.q in
-    let known = simp to_z-of_z at (rw (c.in_ok-restart.ensures.bases, c.in_ok-first_bases.ensures.starts) at c.in_ok-rested.ensures.counted) in
-    rw c.in_ok-bases.ensures known
+    let known = simp to_z-of_z at (rw (c.in_ok-restart_by.ensures.bases, c.in_ok-first_bases.ensures.starts) at c.in_ok-rested.ensures.counted) in
+    rw c.in_ok-bases.ensures (known.0, known.1, known.2)
 
 pub returns-clause-graph : goal.returns-clause-graph
 returns-clause-graph g c =
     let fq : FitsSigned w128 c.args.q = c.ranges.q in
     simp to_z-of_z at c.in_ok-rested.ensures.graph
+
+pub restart_by-requires-clause-bounded : goal.restart_by-requires-clause-bounded
+restart_by-requires-clause-bounded g c =
+    let fq : FitsSigned w128 c.args.q = c.ranges.q in
+    rw c.requires.graph.1.are_spots.count c.requires.bounded
+
+pub restart_by-requires-clause-graph : goal.restart_by-requires-clause-graph
+restart_by-requires-clause-graph g c =
+    let fq : FitsSigned w128 c.args.q = c.ranges.q in
+    rw c.requires.graph.1.are_spots.count c.requires.graph
+
+pub restart_by-requires-clause-other : goal.restart_by-requires-clause-other
+restart_by-requires-clause-other g c =
+    let fq : FitsSigned w128 c.args.q = c.ranges.q in
+    rw c.requires.graph.1.are_spots.count c.requires.firsts
+
+pub improve-requires-clause-graph : goal.improve-requires-clause-graph
+improve-requires-clause-graph g c =
+    let fq : FitsSigned w128 c.args.q = c.ranges.q in
+    rw c.requires.graph.1.are_spots.count at c.in_ok-restart_by.ensures.graph
