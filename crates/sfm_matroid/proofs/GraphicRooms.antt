@@ -19,6 +19,7 @@ use Rattle.sfm_matroid.specs.Cuts.{IsWithinEnds}
 use Rattle.sfm_matroid.specs.Ends.{edges_of}
 use Rattle.sfm_matroid.specs.Forests.{forest-matroid, graphic-ranks}
 use Rattle.sfm_matroid.specs.Givers.{IsGiver, IsRowIn}
+use Rattle.sfm_matroid.proofs.Lending.{reach_row}
 use Rattle.sfm_matroid.specs.Graphs.{graphic_rank, graphic_value}
 use Rattle.sfm_matroid.specs.Notes.{end_demands, IsRootSplit}
 use Rattle.sfm_matroid.specs.Numbered.{IsEndOf, numbered, end_lists, vertex_capacities}
@@ -178,13 +179,9 @@ module _ (k : ℕ) (q w : ℤ) (edges : List Edge) (same : length edges ≡ k) (
   -- a row in the split with the root at an end of an edge to which u has room, or which it is, is the reach of u
   pub row_reach : (e r u : ℕ) → e < length x → IsEndOf (numbered edges) e r → u < length x → Depends (times q (graphic_value w edges)) x u e → (to : List Bool) → length to ≡ length x
       → IsRowIn (end_demands (numbered edges) (2 * length edges) (q *ℤ w) x r) (q *ℤ w) u to → IsReach (times q (graphic_value w edges)) x u to
-  row_reach e r u xe end xu lead to places row = record {
-    places = places;
-    exact = λ v xv. (
-      (λ has. let (giver, can) = (row v xv).0 has in (giver.0, giver_room u v xu xv (λ is. giver.0 (sym is)) e r xe end lead giver can)),
-      (λ (ne, room). (row v xv).1 (room_giver u v xu xv (λ is. ne (sym is)) r (root_below e r xe end) room)),
-    );
-  }
+  row_reach e r u xe end xu lead to places row = reach_row (times q (graphic_value w edges)) (end_demands (numbered edges) (2 * length edges) (q *ℤ w) x r) (q *ℤ w) u to places row
+      (λ v xv ne giver can. giver_room u v xu xv ne e r xe end lead giver can)
+      (λ v xv ne room. room_giver u v xu xv ne r (root_below e r xe end) room)
 
 -- ---- no edges
 

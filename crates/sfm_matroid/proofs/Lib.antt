@@ -9,7 +9,7 @@ mod GraphicBases
 mod GraphicRooms
 mod TransversalBases
 mod LeastSteps
-mod Keeping
+mod Lending
 mod Noted
 mod SlotNotes
 mod Fits

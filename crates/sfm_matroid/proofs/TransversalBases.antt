@@ -1,17 +1,17 @@
 -- Bases of a transversal term by the test of its code, and how much can be exchanged at one: by the most that an element gets in
 -- the test, without another element; and to whom an element has room, by those that can lend to it.
-use Rattle.std.proofs.Common.{◌≡◌, ◌≢◌, ◌↔◌, ℕ, ◌<◌, Bool, List, length, get_or, set, replicate, ℤ, pos, ◌+ℤ◌, ◌-ℤ◌, ◌*ℤ◌, ◌≤ℤ◌, ◌<ℤ◌, sym, ap, ◌∙◌, arith, inl, inr, ⊎_elim, get_or-set_other}
+use Rattle.std.proofs.Common.{◌≡◌, ◌≢◌, ℕ, ◌<◌, Bool, List, length, get_or, set, replicate, ℤ, pos, ◌+ℤ◌, ◌-ℤ◌, ◌*ℤ◌, ◌≤ℤ◌, ◌<ℤ◌, sym, ap, ◌∙◌, arith, inl, inr, ⊎_elim, get_or-set_other}
 use Rattle.std.specs.Int.{int_min}
 use Rattle.std.specs.List.{All}
 use Rattle.std.proofs.lemmas.Int.{ints, clamps, by_lt_z}
 use Rattle.std.proofs.lemmas.List.{get_or_default, set-get_or}
 use Rattle.sfm_spec.specs.Bounds.{total_of}
-use Rattle.sfm_spec.specs.Sets.{Has, whole_set, sum_over}
+use Rattle.sfm_spec.specs.Sets.{whole_set, sum_over}
 use Rattle.sfm_spec.specs.Terms.{times, IsBase, IsCapacity, HasRoom, exchanged}
 use Rattle.sfm_spec.proofs.Sums.{length-exchanged}
 use Rattle.sfm_law.specs.Room.{IsReach}
-use Rattle.sfm_matroid.specs.Givers.{IsGiver, AreKept}
-use Rattle.sfm_matroid.proofs.Keeping.{reach_kept}
+use Rattle.sfm_matroid.specs.Givers.{IsGiver, IsRowIn}
+use Rattle.sfm_matroid.proofs.Lending.{reach_row}
 use Rattle.sfm_spec.specs.Kinds.{IsMatchable}
 use Rattle.sfm_spec.proofs.Scaled.{times-assoc}
 use Rattle.sfm_assign.specs.Splits.{CanBeMet, IsMost, Demands}
@@ -177,8 +177,6 @@ module _ (k : ℕ) (q w : ℤ) (entries : List (List ℕ)) (m : ℕ) (exist : Al
   pub base_split : IsBase (times q (transversal_value w entries)) x → CanBeMet x entries (replicate m (q *ℤ w))
   base_split base = within_slots_split entries m exist (q *ℤ w) x sized low (base_counts (length entries) 1 q w low (IsMatchable entries) (transversal_rank entries) (matching-matroid (length entries) entries) (transversal-ranks entries) (λ a x. IsWithinSlots entries m (q *ℤ w) x) x sized base) (base_held base)
 
-  -- what is kept of the givers is the reach
-  pub reach_slots : IsBase (times q (transversal_value w entries)) x → (u : ℕ) → u < length x → (before after : List Bool) → length after ≡ length x → ((v : ℕ) → v < length x → Has before v ↔ IsGiver x (q *ℤ w) u v)
-      → AreKept (λ v. CanBeMet (exchanged x u v (pos 1)) entries (replicate m (q *ℤ w))) before after → IsReach (times q (transversal_value w entries)) x u after
-  reach_slots base u xu before after places exact kept = reach_kept (times q (transversal_value w entries)) x (q *ℤ w) u (λ v. CanBeMet (exchanged x u v (pos 1)) entries (replicate m (q *ℤ w))) before after places exact kept
-      (λ v xv ne. giver_room base u v xu xv ne) (λ v xv ne. room_giver base u v xu xv ne)
+  -- a row in the split is the reach
+  pub reach_slots : IsBase (times q (transversal_value w entries)) x → (u : ℕ) → u < length x → (to : List Bool) → length to ≡ length x → IsRowIn (slot_demands entries m (q *ℤ w) x) (q *ℤ w) u to → IsReach (times q (transversal_value w entries)) x u to
+  reach_slots base u xu to places row = reach_row (times q (transversal_value w entries)) (slot_demands entries m (q *ℤ w) x) (q *ℤ w) u to places row (λ v xv ne. giver_room base u v xu xv ne) (λ v xv ne. room_giver base u v xu xv ne)

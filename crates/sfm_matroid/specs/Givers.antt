@@ -1,5 +1,5 @@
 -- The places that can give something to another at a base.
-use Rattle.std.specs.Prelude.{◌≡◌, ◌≢◌, ◌↔◌, ℕ, ◌<◌, Bool, List, length, slice_index_or, ℤ, pos, ◌≤ℤ◌, ◌<ℤ◌}
+use Rattle.std.specs.Prelude.{◌≢◌, ◌↔◌, ℕ, ◌<◌, Bool, List, length, slice_index_or, ℤ, pos, ◌≤ℤ◌, ◌<ℤ◌}
 use Rattle.sfm_spec.specs.Sets.{Has}
 use Rattle.sfm_spec.specs.Terms.{exchanged}
 use Rattle.sfm_assign.specs.Splits.{CanBeMet, Demands}
@@ -7,16 +7,6 @@ use Rattle.sfm_assign.specs.Splits.{CanBeMet, Demands}
 -- a place other than u that has something, while u has less than c
 abbrev pub IsGiver : List ℤ → ℤ → ℕ → ℕ → Type 0
 IsGiver x c u v = (v ≢ u) × (slice_index_or x u (pos 0) <ℤ c) × (pos 1 ≤ℤ slice_index_or x v (pos 0))
-
--- of the members of a set exactly those are kept of which something is true
-abbrev pub AreKept : (ℕ → Type 0) → List Bool → List Bool → Type 0
-AreKept IsKept before after = (v : ℕ) → Has after v ↔ (Has before v × IsKept v)
-
--- each member of a set of demands is another one than u, and asks for something
-pub record AreOthers (demands : List ℤ) (u : ℕ) (set : List Bool) : Type 0 where
-  pub place : u < length demands
-  pub places : length set ≡ length demands
-  pub others : (v : ℕ) → Has set v → (v ≢ u) × (pos 1 ≤ℤ slice_index_or demands v (pos 0))
 
 -- the places other than u that have something and can lend to u in a split, if u has less than c
 abbrev pub IsRowIn : Demands → ℤ → ℕ → List Bool → Type 0

@@ -16,7 +16,7 @@ ghost use Rattle.sfm_matroid.specs.Notes.{transversal_fits};
 ghost use Rattle.sfm_matroid.specs.TransversalLaws.{transversal-family, transversal-submodular, transversal-bounded, transversal-starts, transversal-starts_small};
 
 use crate::entries::Entries;
-use crate::givers::{givers, keep_lenders};
+use crate::givers::row;
 use crate::growing::whole;
 use crate::matching::{are_held, matched};
 use crate::room::{beside, without};
@@ -314,8 +314,7 @@ impl Transversal {
         ensures noted { OnOk result (transversal_fits self.now.w self.now.entries note.new q x.now) }
     {
         let cap = product(q, self.w);
-        givers(x, cap, u, to);
-        keep_lenders(alloc, &mut note.kept, u, to)?;
+        row(alloc, &mut note.kept, x, cap, u, to)?;
         Ok(())
     }
 }
