@@ -1,9 +1,8 @@
 // The split that is kept beside a base of a transversal term, for all searches at it. A base passes the test, so there is a split.
 // A room leaves a second split near the exchange that may come, and an exchange brings that one up, or else the one that is kept;
 // the next room uses the second one again.
-ghost use Rattle.std.specs.Prelude.{◌≡◌, ◌≢◌, ◌<◌, ◌≤◌, ◌^◌, length, replicate, slice_index_or, pos, ◌+ℤ◌, ◌≤ℤ◌, ℕ, IfOk, OnOk, List, Some, None};
+ghost use Rattle.std.specs.Prelude.{◌≡◌, ◌<◌, ◌≤◌, ◌^◌, length, replicate, slice_index_or, pos, ◌+ℤ◌, ◌≤ℤ◌, ℕ, IfOk, OnOk, List, Some, None};
 ghost use Rattle.std.specs.List.{All};
-ghost use Rattle.sfm_spec.specs.Terms.{exchanged};
 ghost use Rattle.sfm_assign.specs.Splits.{amount_at, IsAmount, IsCapacity, CanBeMet};
 ghost use Rattle.sfm_assign.specs.Lenders.{with_more, IsMostUpto};
 ghost use Rattle.sfm_matroid.specs.Notes.{IsSlotSplit, IsOver, IsSpare};
@@ -63,27 +62,6 @@ pub(crate) fn slot_split(
         capacities,
         spare: None,
     })
-}
-
-/// The entries, with a more at u and a less at v.
-pub(crate) fn exchanged_entries(
-    alloc: Global,
-    x: &[i128],
-    u: usize,
-    v: usize,
-    a: i128,
-) -> Result<Vec<i128>, Memory>
-    requires from { u < length x.now }
-    requires onto { v < length x.now }
-    requires apart { u ≢ v }
-    requires before { All IsAmount x.now }
-    requires amounts { All IsAmount (exchanged x.now u v a) }
-    ensures { IfOk result (λ r. r.items ≡ exchanged x.now u v a) }
-{
-    let mut after = Vec::from_slice(alloc, x)?;
-    after[u] = x[u] + a;
-    after[v] = x[v] - a;
-    Ok(after)
 }
 
 /// Keeps the spare split, if there is one, in place of the one that is kept.

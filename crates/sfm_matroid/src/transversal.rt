@@ -19,11 +19,9 @@ use crate::entries::Entries;
 use crate::givers::row;
 use crate::growing::whole;
 use crate::matching::{are_held, matched};
-use crate::room::{beside, without};
+use crate::room::{beside, moved, without};
 use crate::slot_room::{least_unheld, limit_of};
-use crate::splits::{
-    SlotSplit, bring_split, exchanged_entries, grow_split, keep_spare, slot_split,
-};
+use crate::splits::{SlotSplit, bring_split, grow_split, keep_spare, slot_split};
 use sfm_base::{Memory, Places, Set};
 use sfm_law::{Room, Term, are_within, has_sum, product};
 use std::alloc::Global;
@@ -422,7 +420,7 @@ impl Term for Transversal {
         v: usize,
         a: i128,
     ) -> Result<(), Memory> {
-        let after = exchanged_entries(alloc, x, u, v, a)?;
+        let after = moved(alloc, x, u, v, a)?;
         keep_spare(note);
         bring_split(alloc, &mut note.kept, &after, &note.capacities)
     }

@@ -14,8 +14,8 @@ use Rattle.sfm_matroid.proofs.SlotNotes.{over_slots, slots_moved}
 use Rattle.sfm_matroid.specs.declared.splits.SlotSplit.{SlotSplit}
 use Rattle.sfm_matroid.proofs.transversal.TransversalTerm.moved.Goals as goal
 
-pub exchanged_entries-requires-clause-before : goal.exchanged_entries-requires-clause-before
-exchanged_entries-requires-clause-before c =
+pub moved-requires-clause-before : goal.moved-requires-clause-before
+moved-requires-clause-before c =
     let r = c.requires in
     let s = c.args.self.now in
     let q = c.args._q in
@@ -27,8 +27,8 @@ exchanged_entries-requires-clause-before c =
     let low = product_low q s.w r.factor s.low in
     within_amounts x (q *ℤ s.w) (product_high q s.w r.factor s.given) (base_within_cap (length s.places) q s.w s.entries n.m n.below s.same_count low x r.entries r.base)
 
-pub exchanged_entries-requires-clause-amounts : goal.exchanged_entries-requires-clause-amounts
-exchanged_entries-requires-clause-amounts c =
+pub moved-requires-clause-after : goal.moved-requires-clause-after
+moved-requires-clause-after c =
     let r = c.requires in
     let s = c.args.self.now in
     let q = c.args._q in
