@@ -1,9 +1,8 @@
-use Rattle.std.proofs.Common.{◌≡◌, ◌∙◌, ◌*ℤ◌, ◌-ℤ◌, get_or, length, pos, set, arith, ap, sym, rules, to_z, FitsSigned, length-set, get_or-set_other}
-use Rattle.std.proofs.lemmas.Int.{ints, clamps, to_z-of_z}
-use Rattle.std.proofs.lemmas.List.{length-replicate}
-use Rattle.std.proofs.lemmas.List.Elements.{All-get_or, All-replicate}
+use Rattle.std.proofs.Common.{◌∙◌, ◌*ℤ◌, length, ap, sym, rules, to_z, FitsSigned}
+use Rattle.std.proofs.lemmas.Int.{to_z-of_z}
+use Rattle.std.proofs.lemmas.List.Elements.{All-replicate}
 use mir.Syntax.{w128}
-use Rattle.sfm_assign.specs.Splits.{IsAmount, IsCapacity}
+use Rattle.sfm_assign.specs.Splits.{IsCapacity}
 use Rattle.sfm_law.proofs.Fits.{given_fits, given_more, product_fits, product_low, product_high}
 use Rattle.sfm_matroid.proofs.Fits.{within_amounts, without_amounts, limit_low, limit_small}
 use Rattle.sfm_matroid.proofs.TransversalBases.{base_within_cap, rest_met, grown_capacity, no_capacity}
