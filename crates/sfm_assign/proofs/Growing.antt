@@ -1,21 +1,66 @@
 -- One demand raised as far as it goes, up to a limit, while all others are met.
-use Rattle.std.proofs.Common.{◌≡◌, ℕ, ◌<◌, Bool, false, List, length, get_or, ℤ, pos, ◌+ℤ◌, ◌-ℤ◌, ◌≤ℤ◌, sym, ap, arith, ⊎_elim, length-set, ◌∙◌}
+use Rattle.std.proofs.Common.{◌≡◌, ℕ, ◌<◌, Bool, false, List, length, get_or, set, replicate, ℤ, pos, ◌+ℤ◌, ◌-ℤ◌, ◌≤ℤ◌, Option, None, sym, ap, arith, ⊎_elim, length-set, get_or-set_other, get_or-set_same, ◌∙◌}
 use Rattle.std.specs.List.{All}
 use Rattle.std.proofs.lemmas.Int.{ints, by_lt_z}
 use Rattle.std.proofs.lemmas.Bool.{cases_eq, cases_Bool, false≢true}
-use Rattle.std.proofs.lemmas.List.{set-set, set-get_or}
+use Rattle.std.proofs.lemmas.List.{length-replicate, set-set, set-get_or}
 use Rattle.sfm_assign.specs.Splits.{sum_at, amount_at, IsAmount, IsCapacity, Demands, AreDemands}
-use Rattle.sfm_assign.specs.Cells.{joined, owners, cut, IsPart, IsMet}
-use Rattle.sfm_assign.specs.Search.{GetsMore, IsFilled}
+use Rattle.sfm_assign.specs.Cells.{joined, owners, cut, AreCells, IsPart, IsMet}
+use Rattle.sfm_assign.specs.Search.{AreLeft, IsSearch, GetsMore, IsFilled}
 use Rattle.sfm_assign.specs.Lenders.{with_more, IsMostUpto}
+use Rattle.sfm_assign.specs.Pours.{IsPouring, AreRaised}
+use Rattle.sfm_assign.specs.declared.nodes.Node.{Node}
 use Rattle.sfm_assign.proofs.Rows.{split_of_part}
 use Rattle.sfm_assign.proofs.Hall.{most_of_closed}
-use Rattle.sfm_assign.proofs.Outcomes.{changed-at, changed-other, asked_part}
+use Rattle.sfm_assign.proofs.Fills.{stuck_filled}
+use Rattle.sfm_assign.proofs.Pours.{pouring_begun}
+use Rattle.sfm_assign.proofs.Searches.{founds, founds_are}
+use Rattle.sfm_assign.proofs.Outcomes.{cells_for, amounts_low, nothing-at, changed-at, changed-other, asked_part}
 
 module _ (d : Demands) (sound : AreDemands d) (u : ℕ) (lu : u < length d.demands) (limit : ℤ) (low : pos 0 ≤ℤ limit) (y : List ℤ) (part : IsPart d.demands d.capacities (owners 0 d.lists) (joined d.lists) y) where
   -- the amounts by which the demands are met are still amounts when one of them asks for more
   pub growing_part : IsPart (with_more d u limit).demands d.capacities (owners 0 d.lists) (joined d.lists) y
   growing_part = asked_part d sound u lu (amount_at d.demands u) (amount_at d.demands u +ℤ limit) y (omega (arith, ints, low)) (rw (set-get_or d.demands u (pos 0)) part)
+
+  -- what they leave then: u lacks what it asks for besides, and the others nothing
+  pub growing_left : IsMet d.demands (owners 0 d.lists) y → AreLeft (with_more d u limit).demands (owners 0 d.lists) y (set (replicate (length d.demands) (pos 0)) u limit)
+  growing_left met =
+      let n = length d.demands in
+      let lr = length-replicate n (pos 0) in
+      let la = length-set d.demands u (amount_at d.demands u +ℤ limit) in
+      record {
+        places = length-set (replicate (length d.demands) (pos 0)) u limit ∙ (lr ∙ sym la);
+        each = λ k lt.
+            let lk : k < n = omega (arith, lt, la) in
+            let m = met k lk in
+            let p = part.got k lk in
+            ⊎_elim
+            (λ (q : k ≡ u).
+            let e = changed-at d.demands u lu (amount_at d.demands u +ℤ limit) in
+            let h = get_or-set_same (replicate (length d.demands) (pos 0)) u limit (pos 0) (omega (arith, lu, lr)) in
+            let f = ap (λ i. amount_at (with_more d u limit).demands i) q in
+            let g = ap (λ i. amount_at (set (replicate (length d.demands) (pos 0)) u limit) i) q in
+            let w = ap (λ i. amount_at d.demands i) q in
+            omega (arith, ints, m, p, e, h, f, g, w))
+            (λ ne.
+            let e = changed-other d.demands u lu (amount_at d.demands u +ℤ limit) k ne in
+            let h = get_or-set_other (replicate (length d.demands) (pos 0)) u k limit (pos 0) ne in
+            let z = nothing-at n k in
+            omega (arith, ints, m, p, e, h, z))
+            (cases_eq k u);
+      }
+
+  -- what a filling then tells
+  module _ (lacks rooms z lacks' rooms' : List ℤ) (nodes : List (Option Node)) (ll : AreLeft (with_more d u limit).demands (owners 0 d.lists) y lacks) (lr : AreLeft d.capacities (joined d.lists) y rooms)
+      (raised : AreRaised (owners 0 d.lists) (joined d.lists) y lacks rooms z lacks' rooms') (s : IsSearch (owners 0 d.lists) (joined d.lists) z lacks' rooms' nodes None) where
+    growing_cells : AreCells (length (with_more d u limit).demands) (length d.capacities) (owners 0 d.lists) (joined d.lists)
+    growing_cells = rw (length-set d.demands u (amount_at d.demands u +ℤ limit)) (cells_for d sound)
+
+    pub growing_pouring : IsPouring (with_more d u limit).demands d.capacities (owners 0 d.lists) (joined d.lists) y z lacks' rooms'
+    growing_pouring = raised.each (with_more d u limit).demands d.capacities y growing_cells (pouring_begun (with_more d u limit).demands d.capacities (owners 0 d.lists) (joined d.lists) y lacks rooms growing_part ll lr)
+
+    pub growing_filled : IsFilled (with_more d u limit).demands d.capacities (owners 0 d.lists) (joined d.lists) z (founds nodes)
+    growing_filled = stuck_filled (with_more d u limit).demands d.capacities (owners 0 d.lists) (joined d.lists) z lacks' rooms' nodes (founds nodes) growing_cells growing_pouring.part growing_pouring.lacks_are growing_pouring.rooms_are s.places s.begins s.ended (founds_are nodes)
 
   module _ (met : IsMet d.demands (owners 0 d.lists) y) (z : List ℤ) (t : List Bool) (pz : IsPart (with_more d u limit).demands d.capacities (owners 0 d.lists) (joined d.lists) z) (fz : IsFilled (with_more d u limit).demands d.capacities (owners 0 d.lists) (joined d.lists) z t)
       (more : GetsMore (owners 0 d.lists) y z) (g : ℤ) (is : g ≡ (sum_at u (owners 0 d.lists) z -ℤ amount_at d.demands u)) where
@@ -79,6 +124,15 @@ module _ (d : Demands) (sound : AreDemands d) (u : ℕ) (lu : u < length d.deman
           (λ ge. omega (arith, ints, ge, e, is, le)))
           (cases_Bool (get_or t u false));
     }
+
+-- and so it stays an amount
+pub grown_amount : (d : Demands) → AreDemands d → (u : ℕ) → u < length d.demands → (limit g : ℤ) → IsAmount (amount_at d.demands u +ℤ limit) → IsMostUpto d u limit g → IsAmount (amount_at d.demands u +ℤ g)
+grown_amount d sound u lu limit g top most =
+    let a = amounts_low d sound u lu in
+    let low = most.low in
+    let high = most.high in
+    let t = top.high in
+    record { low = omega (arith, ints, a, low); high = omega (arith, ints, high, t) }
 
 -- other demands and capacities over the same lists
 pub other_demands : (d : Demands) → AreDemands d → (demands capacities : List ℤ) → length demands ≡ length d.demands → length capacities ≡ length d.capacities → All IsAmount demands → All IsCapacity capacities

@@ -16,3 +16,4 @@ pub mod Filling
 pub mod Lending
 pub mod Loans
 pub mod Remembered
+pub mod Within

@@ -24,7 +24,7 @@ sum_at-nothing k (suc n) (j ∷ js) = let r = sum_at-nothing k n js in at (nat_e
   at true r = omega (arith, ints, r)
   at false r = omega (arith, ints, r)
 
-nothing-at : (n e : ℕ) → amount_at (replicate n (pos 0)) e ≡ pos 0
+pub nothing-at : (n e : ℕ) → amount_at (replicate n (pos 0)) e ≡ pos 0
 nothing-at zero e = refl
 nothing-at (suc n) zero = refl
 nothing-at (suc n) (suc e) = nothing-at n e

@@ -8,7 +8,7 @@ use Rattle.std.proofs.lemmas.Bool.{cases_eq, cases_lt, false≢true}
 use Rattle.std.proofs.lemmas.List.{length-replicate, take_at}
 use Rattle.sfm_assign.specs.Splits.{amount_at}
 use Rattle.sfm_assign.specs.Cells.{label_at}
-use Rattle.sfm_assign.specs.Search.{node_at, missing, IsFound, IsNode, AreNodes, AreRoots, HasRoots, IsRoot, AreRootsOf, IsMarkOf, IsStuck}
+use Rattle.sfm_assign.specs.Search.{node_at, missing, IsFound, IsNode, AreNodes, AreRoots, HasRoots, IsRoot, AreRootsOf, IsMarkOf, IsStuck, IsFoundSet}
 use Rattle.sfm_assign.specs.declared.nodes.Link.{Link}
 use Rattle.sfm_assign.specs.declared.nodes.Node.{Node}
 
@@ -327,6 +327,29 @@ found_skip nodes s i none inv = record {
   members = inv.members;
   others = λ j less out. ⊎_elim (λ (l : j < i). inv.others j l out) (λ (ge : i ≤ j). let q : j ≡ i = omega (arith, ge, less) in rw q none) (cases_lt j i);
 }
+
+-- such a set, where it is not made
+abbrev pub founds : List (Option Node) → List Bool
+founds [] = []
+founds (o ∷ nodes) = is_some o ∷ founds nodes
+
+pub founds_are : (nodes : List (Option Node)) → IsFoundSet nodes (founds nodes)
+founds_are nodes = record { places = places nodes; members = members nodes; others = others nodes } where
+  places : (nodes : List (Option Node)) → length (founds nodes) ≡ length nodes
+  places [] = refl
+  places (o ∷ nodes) = let r = places nodes in omega (arith, r)
+
+  members : (nodes : List (Option Node)) (i : ℕ) → Has (founds nodes) i → IsFound nodes i
+  members [] i h = absurd (false≢true h)
+  members (None ∷ nodes) zero h = absurd (false≢true h)
+  members (Some b ∷ nodes) zero h = (b, refl)
+  members (o ∷ nodes) (suc i) h = members nodes i h
+
+  others : (nodes : List (Option Node)) (i : ℕ) → i < length nodes → get_or (founds nodes) i false ≡ false → node_at nodes i ≡ None
+  others [] i lt out = absurd (omega (arith, lt))
+  others (None ∷ nodes) zero lt out = refl
+  others (Some b ∷ nodes) zero lt out = absurd (false≢true (sym out))
+  others (o ∷ nodes) (suc i) lt out = others nodes i (omega (arith, lt)) out
 
 -- ---- what the code tells
 

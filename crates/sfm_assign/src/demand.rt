@@ -1,7 +1,7 @@
 // Demands in the order in which they come, each with the list of the slots that it may use, and the capacities of the slots.
-ghost use Rattle.std.specs.Prelude.{◌≡◌, ◌<◌, ◌≤◌, ◌^◌, [], ◌∷◌, ◌++◌, length, is_ok, IfOk, if◌then◌else◌};
+ghost use Rattle.std.specs.Prelude.{◌≡◌, ◌<◌, ◌≤◌, ◌^◌, [], ◌∷◌, ◌++◌, length, is_ok, slice_set, ◌+ℤ◌, IfOk, if◌then◌else◌};
 ghost use Rattle.std.specs.List.{All};
-ghost use Rattle.sfm_assign.specs.Splits.{IsAmount, IsCapacity, AreDemands};
+ghost use Rattle.sfm_assign.specs.Splits.{amount_at, IsAmount, IsCapacity, AreDemands};
 
 use sfm_base::Memory;
 use std::alloc::Global;
@@ -122,13 +122,13 @@ impl Demand {
         self.capacities.copy_from_slice(capacities);
     }
 
-    /// Puts other demands in place of these, over the same slots.
-    pub(crate) fn replace(&mut self, demands: Vec<i128>)
-        requires places { length demands.items ≡ length self.old.demands }
-        requires amounts { All IsAmount demands.items }
-        ensures { self.new ≡ record { demands = demands.items; lists = self.old.lists; capacities = self.old.capacities } }
+    /// Adds to the demand u.
+    pub(crate) fn raise(&mut self, u: usize, a: i128)
+        requires place { u < length self.old.demands }
+        requires amount { IsAmount (amount_at self.old.demands u +ℤ a) }
+        ensures { self.new ≡ record { demands = slice_set self.old.demands u (amount_at self.old.demands u +ℤ a); lists = self.old.lists; capacities = self.old.capacities } }
     {
-        self.demands = demands;
+        self.demands[u] += a;
     }
 
     /// The demands in order.

@@ -24,12 +24,7 @@ fn sum_of(capacities: &[i128]) -> i128
 }
 
 /// The demands, with another one in a place.
-pub(crate) fn with_demand(
-    alloc: Global,
-    demands: &[i128],
-    u: usize,
-    d: i128,
-) -> Result<Vec<i128>, Memory>
+fn with_demand(alloc: Global, demands: &[i128], u: usize, d: i128) -> Result<Vec<i128>, Memory>
     requires { u < length demands.now }
     ensures { IfOk result (λ r. r.items ≡ slice_set demands.now u d) }
 {

@@ -15,10 +15,9 @@ ghost use Rattle.sfm_assign.specs.Spread.{AreAnswers, answer_at, IsKnown, IsWrit
 ghost use Rattle.sfm_assign.specs.declared.spread.Answer.TheVariants.{Full};
 
 use crate::demand::Demand;
-use crate::fill::fill;
-use crate::greatest::with_demand;
+use crate::fill::fill_from;
 use crate::left::{Lefts, left_of};
-use crate::pour::trimmed;
+use crate::pour::{Poured, trimmed};
 use crate::splitting::{AssignEnd, Shares, met_shares, raise_all};
 use crate::spread::{Answer, find_answer};
 use sfm_base::{Memory, Set};
@@ -39,23 +38,12 @@ pub struct Kept {
     ghost known: { AreAnswers (length demand.demands) shares.cells.whos.items shares.cells.slots.items shares.y.items rooms.items answers.items },
 }
 
-/// Demands of which one has been raised, amounts by which they are met, what each slot then has left, and by how much the
-/// demand was raised.
+/// Amounts by which demands are met of which one has been raised, what each slot then has left, and by how much it was raised.
 #[derive(Drop)]
 struct Grown {
-    demands: Vec<i128>,
     y: Vec<i128>,
     rooms: Vec<i128>,
     more: i128,
-}
-
-/// The demands, with a more at u.
-fn raised_by(alloc: Global, demands: &[i128], u: usize, a: i128) -> Result<Vec<i128>, Memory>
-    requires place { u < length demands.now }
-    requires amount { IsAmount (amount_at demands.now u +ℤ a) }
-    ensures { IfOk result (λ r. r.items ≡ slice_set demands.now u (amount_at demands.now u +ℤ a)) }
-{
-    with_demand(alloc, demands, u, demands[u] + a)
 }
 
 /// Whether v is another demand than u and asks for something.
@@ -199,22 +187,29 @@ impl Kept {
         forget(&mut self.answers);
     }
 
-    /// Amounts by which other demands are met, over the same lists and with other capacities.
+    /// Amounts by which other demands are met, over the same lists and with other capacities, and what they leave.
     fn amounts_with(
         &self,
         alloc: Global,
         demands: &[i128],
         capacities: &[i128],
-    ) -> Result<Vec<i128>, AssignEnd>
+    ) -> Result<Poured, AssignEnd>
         requires sound { AreDemands (record { demands = demands.now; lists = self.now.demand.lists; capacities = capacities.now }) }
-        ensures { MatchResult result (λ y. AreMet (record { demands = demands.now; lists = self.now.demand.lists; capacities = capacities.now }) self.now.shares.cells.whos.items self.now.shares.cells.slots.items y.items) (IsAssignEnd demands.now self.now.demand.lists capacities.now) }
+        ensures met { MatchResult result (λ r. AreMet (record { demands = demands.now; lists = self.now.demand.lists; capacities = capacities.now }) self.now.shares.cells.whos.items self.now.shares.cells.slots.items r.y.items) (IsAssignEnd demands.now self.now.demand.lists capacities.now) }
+        ensures rooms { IfOk result (λ r. AreLeft capacities.now self.now.shares.cells.slots.items r.y.items r.left.rooms.items) }
     {
         let cells = &self.shares.cells;
-        let mut y = trimmed(alloc, cells, demands, capacities, &self.shares.y)?;
-        if let Some(set) = raise_all(alloc, cells, demands, capacities, &mut y)? {
+        let Poured { mut y, mut left } = trimmed(
+            alloc,
+            cells,
+            demands,
+            capacities,
+            &self.shares.y,
+        )?;
+        if let Some(set) = raise_all(alloc, cells, &mut left, &mut y)? {
             return Err(AssignEnd::Shortage { set });
         }
-        Ok(y)
+        Ok(Poured { y, left })
     }
 
     /// Puts other demands and capacities in place of these, over the same lists, and splits them, from the split as it stands:
@@ -237,13 +232,27 @@ impl Kept {
         ensures unchanged { OnErr result (self.new ≡ self.old) }
     {
         let _sound = self.demand.lists();
-        let y = self.amounts_with(alloc, demands, capacities)?;
-        let rooms = left_of(alloc, capacities, &self.shares.cells.slots, &y)?;
+        let Poured { y, left } = self.amounts_with(alloc, demands, capacities)?;
         self.demand.copy_from(demands, capacities);
         self.shares.y = y;
-        self.rooms = rooms;
+        self.rooms = left.rooms;
         forget(&mut self.answers);
         Ok(())
+    }
+
+    /// What is left where the demand u asks for more: this is all that it lacks, and the others lack nothing.
+    fn lacking(&self, alloc: Global, u: usize, limit: i128) -> Result<Lefts, Memory>
+        requires place { u < length self.now.demand.demands }
+        requires low { pos 0 ≤ℤ limit }
+        ensures lacks { IfOk result (λ r. AreLeft (with_more self.now.demand u limit).demands self.now.shares.cells.whos.items self.now.shares.y.items r.lacks.items) }
+        ensures rooms { IfOk result (λ r. r.rooms.items ≡ self.now.rooms.items) }
+    {
+        let mut lacks = vec![in alloc; 0; self.demand.demands().len()]?;
+        lacks[u] = limit;
+        Ok(Lefts {
+            lacks,
+            rooms: Vec::from_slice(alloc, &self.rooms)?,
+        })
     }
 
     /// Amounts by which all demands are met, and the demand u gets as much more as it can, up to a limit.
@@ -252,28 +261,18 @@ impl Kept {
         requires place { u < length self.now.demand.demands }
         requires low { pos 0 ≤ℤ limit }
         requires small { IsAmount (amount_at self.now.demand.demands u +ℤ limit) }
-        ensures demands { IfOk result (λ r. r.demands.items ≡ (with_more self.now.demand u r.more).demands) }
         ensures met { IfOk result (λ r. AreMet (with_more self.now.demand u r.more) self.now.shares.cells.whos.items self.now.shares.cells.slots.items r.y.items) }
         ensures left { IfOk result (λ r. AreLeft self.now.demand.capacities self.now.shares.cells.slots.items r.y.items r.rooms.items) }
-        ensures amounts { IfOk result (λ r. All IsAmount r.demands.items) }
+        ensures amount { IfOk result (λ r. IsAmount (amount_at self.now.demand.demands u +ℤ r.more)) }
         ensures most { IfOk result (λ r. IsMostUpto self.now.demand u limit r.more) }
     {
-        let cells = &self.shares.cells;
-        let asked = raised_by(alloc, self.demand.demands(), u, limit)?;
+        let mut left = self.lacking(alloc, u, limit)?;
         let mut y = Vec::from_slice(alloc, &self.shares.y)?;
-        let Lefts { lacks, rooms } = fill(
-            alloc,
-            cells,
-            &asked,
-            self.demand.capacities(),
-            &mut y,
-        )?.left;
-        let more = limit - lacks[u];
-        let demands = raised_by(alloc, self.demand.demands(), u, more)?;
+        fill_from(alloc, &self.shares.cells, &mut left, &mut y)?;
+        let more = limit - left.lacks[u];
         Ok(Grown {
-            demands,
             y,
-            rooms,
+            rooms: left.rooms,
             more,
         })
     }
@@ -292,13 +291,8 @@ impl Kept {
         ensures unchanged { OnErr result (self.new ≡ self.old) }
     {
         let _sound = self.demand.lists();
-        let Grown {
-            demands,
-            y,
-            rooms,
-            more,
-        } = self.grown(alloc, u, limit)?;
-        self.demand.replace(demands);
+        let Grown { y, rooms, more } = self.grown(alloc, u, limit)?;
+        self.demand.raise(u, more);
         self.shares.y = y;
         self.rooms = rooms;
         forget(&mut self.answers);

@@ -1,9 +1,10 @@
 // What is left of demands or of capacities once the amounts on the cells are taken off.
 ghost use Rattle.std.specs.Prelude.{◌≡◌, ℕ, ◌<◌, length, pos, ◌-ℤ◌, ◌≤ℤ◌, ◌<ℤ◌, IfOk, MatchOption};
 ghost use Rattle.sfm_assign.specs.Splits.{sum_at, amount_at};
-ghost use Rattle.sfm_assign.specs.Cells.{label_at};
+ghost use Rattle.sfm_assign.specs.Cells.{label_at, AreCells, IsPart};
 ghost use Rattle.sfm_assign.specs.Search.{AreLeft};
 
+use crate::cells::Cells;
 use sfm_base::Memory;
 use std::alloc::Global;
 
@@ -32,6 +33,25 @@ pub(crate) fn left_of(
         left[labels[e]] -= y[e];
     }
     Ok(left)
+}
+
+/// What amounts on the cells leave of demands and of capacities.
+pub(crate) fn lefts_of(
+    alloc: Global,
+    cells: &Cells,
+    demands: &[i128],
+    capacities: &[i128],
+    y: &[i128],
+) -> Result<Lefts, Memory>
+    requires cells { AreCells (length demands.now) (length capacities.now) cells.now.whos.items cells.now.slots.items }
+    requires part { IsPart demands.now capacities.now cells.now.whos.items cells.now.slots.items y.now }
+    ensures lacks { IfOk result (λ r. AreLeft demands.now cells.now.whos.items y.now r.lacks.items) }
+    ensures rooms { IfOk result (λ r. AreLeft capacities.now cells.now.slots.items y.now r.rooms.items) }
+{
+    Ok(Lefts {
+        lacks: left_of(alloc, demands, &cells.whos, y)?,
+        rooms: left_of(alloc, capacities, &cells.slots, y)?,
+    })
 }
 
 /// The first demand that lacks something.

@@ -5,12 +5,12 @@ ghost use Rattle.std.specs.Prelude.{◌≡◌, ℕ, List, ℤ, ◌<◌, length, 
 ghost use Rattle.std.specs.List.{All};
 ghost use Rattle.sfm_assign.specs.Splits.{amount_at, IsAmount, IsCapacity};
 ghost use Rattle.sfm_assign.specs.Cells.{AreCells, IsPart};
-ghost use Rattle.sfm_assign.specs.Search.{AreLeft, GetsMore};
-ghost use Rattle.sfm_assign.specs.Pours.{IsPouring, IsPoured};
+ghost use Rattle.sfm_assign.specs.Search.{AreLeft};
+ghost use Rattle.sfm_assign.specs.Pours.{IsPouring, IsPoured, AreWithin, AreRaised};
 
 use crate::augment::put;
 use crate::cells::Cells;
-use crate::left::{Lefts, left_of};
+use crate::left::Lefts;
 use sfm_base::Memory;
 use std::alloc::Global;
 
@@ -46,28 +46,21 @@ fn pour_on(
     put(y, e, a);
 }
 
-/// Puts on each cell in turn as much as its demand lacks and its slot has room for; and tells what is then left.
-pub(crate) fn pour(
-    alloc: Global,
-    cells: &Cells,
-    demands: &[i128],
-    capacities: &[i128],
-    y: &mut [i128],
-) -> Result<Lefts, Memory>
-    requires cells { AreCells (length demands.now) (length capacities.now) cells.now.whos.items cells.now.slots.items }
-    requires bounded { All IsCapacity capacities.now }
-    requires part { IsPart demands.now capacities.now cells.now.whos.items cells.now.slots.items y.old }
-    ensures part { IsPart demands.now capacities.now cells.now.whos.items cells.now.slots.items y.new }
-    ensures more { GetsMore cells.now.whos.items y.old y.new }
-    ensures lacks { IfOk result (λ r. AreLeft demands.now cells.now.whos.items y.new r.lacks.items) }
-    ensures rooms { IfOk result (λ r. AreLeft capacities.now cells.now.slots.items y.new r.rooms.items) }
+/// Puts on each cell in turn as much as its demand lacks and its slot has room for, and takes it off what these have left.
+pub(crate) fn pour(cells: &Cells, left: &mut Lefts, y: &mut [i128])
+    requires within { AreWithin cells.now.whos.items cells.now.slots.items y.old left.old.lacks.items left.old.rooms.items }
+    ensures { AreRaised cells.now.whos.items cells.now.slots.items y.old left.old.lacks.items left.old.rooms.items y.new left.new.lacks.items left.new.rooms.items }
 {
-    let mut lacks = left_of(alloc, demands, &cells.whos, y)?;
-    let mut rooms = left_of(alloc, capacities, &cells.slots, y)?;
     for e in 0..cells.whos.len() {
-        pour_on(cells, e, i128::MAX, &mut lacks, &mut rooms, y);
+        pour_on(cells, e, i128::MAX, &mut left.lacks, &mut left.rooms, y);
     }
-    Ok(Lefts { lacks, rooms })
+}
+
+/// Amounts on the cells, and what they leave of demands and of capacities.
+#[derive(Drop)]
+pub(crate) struct Poured {
+    pub y: Vec<i128>,
+    pub left: Lefts,
 }
 
 /// What is kept of amounts on the cells, so that no demand gets more than it asks for and no slot more than its capacity.
@@ -77,13 +70,15 @@ pub(crate) fn trimmed(
     demands: &[i128],
     capacities: &[i128],
     y: &[i128],
-) -> Result<Vec<i128>, Memory>
+) -> Result<Poured, Memory>
     requires cells { AreCells (length demands.now) (length capacities.now) cells.now.whos.items cells.now.slots.items }
     requires low { All IsAmount demands.now }
     requires bounded { All IsCapacity capacities.now }
     requires same { length y.now ≡ length cells.now.whos.items }
     requires amounts { (e : ℕ) → pos 0 ≤ℤ amount_at y.now e }
-    ensures { IfOk result (λ z. IsPart demands.now capacities.now cells.now.whos.items cells.now.slots.items z.items) }
+    ensures part { IfOk result (λ z. IsPart demands.now capacities.now cells.now.whos.items cells.now.slots.items z.y.items) }
+    ensures lacks { IfOk result (λ z. AreLeft demands.now cells.now.whos.items z.y.items z.left.lacks.items) }
+    ensures rooms { IfOk result (λ z. AreLeft capacities.now cells.now.slots.items z.y.items z.left.rooms.items) }
 {
     let mut kept = cells.nothing(alloc)?;
     let mut lacks = Vec::from_slice(alloc, demands)?;
@@ -91,5 +86,8 @@ pub(crate) fn trimmed(
     for e in 0..cells.whos.len() {
         pour_on(cells, e, y[e], &mut lacks, &mut rooms, &mut kept);
     }
-    Ok(kept)
+    Ok(Poured {
+        y: kept,
+        left: Lefts { lacks, rooms },
+    })
 }

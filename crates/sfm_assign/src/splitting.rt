@@ -1,16 +1,17 @@
 // A split of all demands, or a set of them that asks for more than its slots have. The amounts on the cells are raised as far as
 // they go; where a demand still lacks something, those that were found ask for too much.
-ghost use Rattle.std.specs.Prelude.{◌≡◌, ℕ, ◌<◌, List, length, ℤ, pos, ◌≤ℤ◌, ◌<ℤ◌, IfOk, MatchOption, MatchResult};
-ghost use Rattle.std.specs.List.{All};
-ghost use Rattle.sfm_assign.specs.Splits.{sum_at, amount_at, IsCapacity, AreDemands, IsAssignment};
-ghost use Rattle.sfm_assign.specs.Cells.{joined, owners, AreCells, IsPart, IsMet, AreMet};
-ghost use Rattle.sfm_assign.specs.Search.{IsLacking};
+ghost use Rattle.std.specs.Prelude.{◌≡◌, IfOk, MatchResult};
+ghost use Rattle.sfm_assign.specs.Splits.{AreDemands, IsAssignment};
+ghost use Rattle.sfm_assign.specs.Cells.{joined, owners, IsPart, AreMet};
+ghost use Rattle.sfm_assign.specs.Pours.{AreWithin, AreRaised, IsToldOf};
 ghost use Rattle.sfm_assign.specs.Ends.{IsAssignEnd};
 
 use crate::cells::Cells;
 use crate::demand::Demand;
-use crate::fill::{Filled, fill};
-use crate::left::first_lacking;
+use crate::fill::fill_from;
+use crate::left::{Lefts, first_lacking, lefts_of};
+use crate::nodes::found_set;
+use crate::pour::pour;
 use crate::split::Split;
 use sfm_base::{Memory, Set};
 use std::alloc::Global;
@@ -55,23 +56,22 @@ impl Shares {
     }
 }
 
-/// Raises amounts until each demand gets what it asks for; or, where one still lacks something, tells a closed set with all
-/// that do.
+/// Raises amounts until each demand gets what it asks for, first cell by cell, then by searches; or, where one still lacks
+/// something, tells a closed set with all that do. What is left is kept with them.
 pub(crate) fn raise_all(
     alloc: Global,
     cells: &Cells,
-    demands: &[i128],
-    capacities: &[i128],
+    left: &mut Lefts,
     y: &mut [i128],
 ) -> Result<Option<Set>, Memory>
-    requires cells { AreCells (length demands.now) (length capacities.now) cells.now.whos.items cells.now.slots.items }
-    requires bounded { All IsCapacity capacities.now }
-    requires part { IsPart demands.now capacities.now cells.now.whos.items cells.now.slots.items y.old }
-    ensures part { IsPart demands.now capacities.now cells.now.whos.items cells.now.slots.items y.new }
-    ensures told { IfOk result (λ r. MatchOption r (IsMet demands.now cells.now.whos.items y.new) (IsLacking demands.now capacities.now cells.now.whos.items cells.now.slots.items y.new)) }
+    requires within { AreWithin cells.now.whos.items cells.now.slots.items y.old left.old.lacks.items left.old.rooms.items }
+    ensures raised { IfOk result (λ _. AreRaised cells.now.whos.items cells.now.slots.items y.old left.old.lacks.items left.old.rooms.items y.new left.new.lacks.items left.new.rooms.items) }
+    ensures told { IfOk result (IsToldOf cells.now.whos.items cells.now.slots.items y.new left.new.lacks.items left.new.rooms.items) }
 {
-    let Filled { set, left } = fill(alloc, cells, demands, capacities, y)?;
+    pour(cells, left, y);
+    let search = fill_from(alloc, cells, left, y)?;
     if first_lacking(&left.lacks).is_some() {
+        let set = found_set(alloc, &search.nodes)?;
         return Ok(Some(set));
     }
     Ok(None)
@@ -87,8 +87,8 @@ pub(crate) fn raised(alloc: Global, demand: &Demand, shares: Shares) -> Result<S
 {
     let Shares { cells, mut y } = shares;
     let demands = demand.demands();
-    let lacking = raise_all(alloc, &cells, demands, demand.capacities(), &mut y)?;
-    if let Some(set) = lacking {
+    let mut left = lefts_of(alloc, &cells, demands, demand.capacities(), &y)?;
+    if let Some(set) = raise_all(alloc, &cells, &mut left, &mut y)? {
         return Err(AssignEnd::Shortage { set });
     }
     Ok(Shares { cells, y })

@@ -1,0 +1,59 @@
+-- Amounts that are raised step by step, with what they leave: what holds whatever the demands and capacities are that they are within.
+use Rattle.std.proofs.Common.{◌≡◌, ℕ, zero, suc, ◌<◌, ◌^◌, List, [], ◌∷◌, length, set, ℤ, pos, ◌+ℤ◌, ◌-ℤ◌, ◌≤ℤ◌, Option, Some, arith}
+use Rattle.std.proofs.lemmas.Int.{ints}
+use Rattle.sfm_spec.specs.Bounds.{total_of}
+use Rattle.sfm_assign.specs.Splits.{sum_at, amount_at}
+use Rattle.sfm_assign.specs.Cells.{label_at, AreCells}
+use Rattle.sfm_assign.specs.Search.{IsSearch, IsRaised}
+use Rattle.sfm_assign.specs.Pours.{IsPouring, IsPoured, AreWithin, AreRaised}
+use Rattle.sfm_assign.specs.declared.nodes.Node.{Node}
+use Rattle.sfm_assign.proofs.Fills.{left_low, left_small}
+use Rattle.sfm_assign.proofs.Pours.{pouring_begun, poured_more, moved_pouring}
+
+module _ (whos slots : List ℕ) (y lacks rooms : List ℤ) where
+  pub raised_nowhere : AreRaised whos slots y lacks rooms y lacks rooms
+  raised_nowhere = record { each = λ demands capacities before cells h. h }
+
+  pub raised_on : (z lacks' rooms' z'' lacks'' rooms'' : List ℤ) → AreRaised whos slots y lacks rooms z lacks' rooms' → AreRaised whos slots z lacks' rooms' z'' lacks'' rooms'' → AreRaised whos slots y lacks rooms z'' lacks'' rooms''
+  raised_on z lacks' rooms' z'' lacks'' rooms'' f g = record { each = λ demands capacities before cells h. g.each demands capacities before cells (f.each demands capacities before cells h) }
+
+  -- one cell gets what it can get
+  pub raised_poured : (e : ℕ) (most : ℤ) (z lacks' rooms' : List ℤ) → e < length whos → IsPoured whos slots e most y lacks rooms z lacks' rooms' → AreRaised whos slots y lacks rooms z lacks' rooms'
+  raised_poured e most z lacks' rooms' lt h = record { each = λ demands capacities before cells inv. poured_more demands capacities whos slots before y lacks rooms e most z lacks' rooms' cells lt inv h }
+
+  -- an amount moves that a search shows
+  pub raised_moved : (nodes : List (Option Node)) (last : ℕ) (a : ℤ) (z : List ℤ) → IsSearch whos slots y lacks rooms nodes (Some last) → pos 1 ≤ℤ a → a ≤ℤ amount_at rooms (label_at slots last) → (r : IsRaised whos slots nodes last a y z)
+      → AreRaised whos slots y lacks rooms z (set lacks r.root (amount_at lacks r.root -ℤ a)) (set rooms (label_at slots last) (amount_at rooms (label_at slots last) -ℤ a))
+  raised_moved nodes last a z s some fits r = record { each = λ demands capacities before cells inv. moved_pouring demands capacities whos slots before y lacks rooms nodes last a z cells inv s some fits r }
+
+  module _ (w : AreWithin whos slots y lacks rooms) where
+    pub within_pouring : IsPouring w.demands w.capacities whos slots y y lacks rooms
+    within_pouring = pouring_begun w.demands w.capacities whos slots y lacks rooms w.part w.lacks_are w.rooms_are
+
+    pub still_within : (z lacks' rooms' : List ℤ) → AreRaised whos slots y lacks rooms z lacks' rooms' → AreWithin whos slots z lacks' rooms'
+    still_within z lacks' rooms' r =
+        let p = r.each w.demands w.capacities y w.cells within_pouring in
+        record { demands = w.demands; capacities = w.capacities; cells = w.cells; bounded = w.bounded; part = p.part; lacks_are = p.lacks_are; rooms_are = p.rooms_are }
+
+    pub within_cells : AreCells (length lacks) (length rooms) whos slots
+    within_cells = rw (w.lacks_are.places, w.rooms_are.places) w.cells
+
+    pub within_lacks : (i : ℕ) → i < length lacks → pos 0 ≤ℤ amount_at lacks i
+    within_lacks = left_low w.demands whos y lacks w.lacks_are w.part.got
+
+    pub within_rooms : (s : ℕ) → s < length rooms → pos 0 ≤ℤ amount_at rooms s
+    within_rooms = left_low w.capacities slots y rooms w.rooms_are w.part.within
+
+    pub within_small : (s : ℕ) → s < length rooms → (sum_at s slots y +ℤ amount_at rooms s) ≤ℤ pos (10 ^ 24)
+    within_small = left_small w.capacities slots y rooms w.bounded w.rooms_are
+
+-- ---- what falls at each turn
+
+pub low_total : (x : List ℤ) → ((i : ℕ) → i < length x → pos 0 ≤ℤ amount_at x i) → pos 0 ≤ℤ total_of x
+low_total [] low = omega (arith, ints)
+low_total (a ∷ x) low = let r = low_total x (λ i lt. low (suc i) (omega (arith, lt))) in let f = low 0 (omega arith) in omega (arith, ints, r, f)
+
+pub total-taken : (x : List ℤ) (i : ℕ) (a : ℤ) → i < length x → total_of (set x i (amount_at x i -ℤ a)) ≡ (total_of x -ℤ a)
+total-taken [] i a lt = absurd (omega arith)
+total-taken (b ∷ x) zero a lt = omega (arith, ints)
+total-taken (b ∷ x) (suc i) a lt = let r = total-taken x i a (omega arith) in omega (arith, ints, r)
