@@ -50,6 +50,7 @@ impl BitRows {
         Ok(BitRows { rows, part })
     }
 
+    /// Puts another row in the place u.
     pub fn set(&mut self, u: usize, row: Bits)
         requires { u < length self.old }
         ensures { self.new ≡ slice_set self.old u row }
@@ -57,13 +58,14 @@ impl BitRows {
         self.rows[u] = row;
     }
 
+    /// The rows, by place of the term.
     pub fn as_slice(&self) -> &[Bits]
         ensures { result.now ≡ self.now }
     {
         self.rows.as_slice()
     }
 
-    // Takes over other rows, into the memory that stands.
+    /// Takes over other rows, into the memory that stands.
     pub fn copy_from(&mut self, other: &BitRows)
         requires { length self.old ≡ length other.now }
         ensures { self.new ≡ other.now }
@@ -72,7 +74,7 @@ impl BitRows {
     }
 }
 
-// The ground places of a part of a term.
+/// The ground places of a part of a term.
 pub fn placed_bits(places: &[usize], part: &Set) -> Bits
     requires placed { IsPlaced 256 places.now }
     requires part { length part.now ≡ length places.now }

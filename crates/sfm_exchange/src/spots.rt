@@ -48,6 +48,7 @@ impl Spots {
         Ok(())
     }
 
+    /// The spots, in the order of the terms.
     pub fn as_slice(&self) -> &[Spot]
         ensures { result.now ≡ self.now }
     {

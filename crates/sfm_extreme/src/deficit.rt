@@ -4,7 +4,7 @@ ghost use Rattle.std.specs.Prelude.{◌≡◌, ◌^◌, ℤ, length, slice_index
 ghost use Rattle.sfm_spec.specs.Sets.{magnitudes};
 ghost use Rattle.sfm_spec.specs.Families.{deficit};
 
-// The sum of min(z, 0).
+/// The sum of min(z, 0).
 pub fn deficit_of(z: &[i128]) -> i128
     requires { magnitudes z.now ≤ℤ pos (10 ^ 37) }
     ensures { result ≡ deficit (length z.now) (λ e. slice_index_or z.now e (pos 0)) }

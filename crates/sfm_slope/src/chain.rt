@@ -19,7 +19,7 @@ use crate::worth::{Worth, worth_of};
 use sfm_base::{Memory, Set};
 use sfm_law::Term;
 
-// All breakpoints, ascending, each with its greatest minimiser.
+/// All breakpoints, ascending, each with its greatest minimiser.
 pub fn chain<T: Term>(
     search: &mut Search<T::Note>,
     terms: &[T],

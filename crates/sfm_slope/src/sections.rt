@@ -18,7 +18,7 @@ use sfm_law::{Break, Term};
 use sfm_walk::minimise_from_start;
 use std::alloc::Global;
 
-// Each breakpoint with bases that prove at its slope.
+/// Each breakpoint with bases that prove at its slope.
 pub fn sections<T: Term>(
     search: &mut Search<T::Note>,
     terms: &[T],

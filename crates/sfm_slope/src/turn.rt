@@ -18,14 +18,14 @@ use crate::worth::{Worth, worth_of};
 use sfm_base::{Memory, Set, Slope};
 use sfm_law::Term;
 
-// A slope at which there are two or more minimisers, with the greatest of them.
+/// A slope at which there are two or more minimisers, with the greatest of them.
 #[derive(Drop)]
 pub struct Breakpoint {
     pub slope: Slope,
     pub set: Set,
 }
 
-// What a turn finds.
+/// What a turn finds.
 #[derive(Drop)]
 pub enum Turn {
     // The next breakpoint above the lower set; its set is the higher one.
@@ -34,7 +34,7 @@ pub enum Turn {
     Between(Worth),
 }
 
-// Looks at the slope at which both sets are worth as much.
+/// Looks at the slope at which both sets are worth as much.
 pub fn take_turn<T: Term>(
     search: &mut Search<T::Note>,
     terms: &[T],
@@ -63,7 +63,7 @@ pub fn take_turn<T: Term>(
     Ok(Turn::Between(between))
 }
 
-// The slope at which both sets are worth as much.
+/// The slope at which both sets are worth as much.
 pub fn slope_between(low: &Worth, high: &Worth) -> Slope
     requires larger { low.now.size < high.now.size }
     requires few { high.now.size ≤ 256 }

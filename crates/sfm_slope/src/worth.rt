@@ -11,7 +11,7 @@ use sfm_base::{Memory, Set};
 use sfm_law::Term;
 use std::alloc::Global;
 
-// An allowed set, with how many places are in it and the sum of all terms there.
+/// An allowed set, with how many places are in it and the sum of all terms there.
 #[derive(Drop)]
 pub struct Worth {
     pub set: Set,
@@ -19,7 +19,7 @@ pub struct Worth {
     pub sum: i128,
 }
 
-// The set with what it is worth.
+/// The set with what it is worth.
 pub fn worth_of<T: Term>(alloc: Global, terms: &[T], set: Set) -> Result<Worth, Memory>
     requires bounded { AreBounded (length set) (map T.places terms.now) (map T.size_of terms.now) }
     requires allowed { IsAllowed (meanings T.places T.value_of terms.now) set }
