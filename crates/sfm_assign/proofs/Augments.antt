@@ -4,20 +4,21 @@ use Rattle.std.proofs.lemmas.Int.{ints}
 use Rattle.std.proofs.lemmas.Bool.{cases_eq}
 use Rattle.sfm_assign.specs.Splits.{sum_at, amount_at}
 use Rattle.sfm_assign.specs.Cells.{label_at, AreCells}
-use Rattle.sfm_assign.specs.Search.{only, node_at, IsLinked, AreNodes, HasFlow, IsRaised}
+use Rattle.sfm_assign.specs.Search.{only, node_at, IsBranch, AreBranches, Carries, IsRaised}
 use Rattle.sfm_assign.specs.declared.nodes.Link.{Link}
 use Rattle.sfm_assign.specs.declared.nodes.Node.{Node}
 use Rattle.sfm_assign.proofs.Amounts.{AreAmounts, sum_at-set, sum_at-holds, only-same, only-other}
+use Rattle.sfm_assign.proofs.Ways.{carries_here, carries_on, carries_end}
 
 -- an amount that the demand `who` holds too much, on its way from the last cell
-pub record IsMoving (whos slots : List ℕ) (nodes : List (Option Node)) (last : ℕ) (a : ℤ) (y z : List ℤ) (who : ℕ) : Type 0 where
+pub record IsMoving (whos slots : List ℕ) (nodes : List (Option Node)) (lacks : List ℤ) (last : ℕ) (a : ℤ) (y z : List ℤ) (who : ℕ) : Type 0 where
   pub cells : length z ≡ length y
   pub amounts : (e : ℕ) → pos 0 ≤ℤ amount_at z e
   pub got : (i : ℕ) → sum_at i whos z ≡ (sum_at i whos y +ℤ only who i a)
   pub loads : (s : ℕ) → sum_at s slots z ≡ (sum_at s slots y +ℤ only (label_at slots last) s a)
   pub here : Node
   pub is_here : node_at nodes who ≡ Some here
-  pub enough : a ≤ℤ here.flow
+  pub way : Carries whos nodes y lacks a who
   pub kept : (e : ℕ) (b : Node) → node_at nodes (label_at whos e) ≡ Some b → b.level ≤ here.level → amount_at y e ≤ℤ amount_at z e
 
 pub only-neg : (j k : ℕ) (a : ℤ) → only j k (neg_ℤ a) ≡ neg_ℤ (only j k a)
@@ -33,16 +34,16 @@ put-sum k js y e a b is same lt = ap (λ x. sum_at k js (set y e x)) is ∙ sum_
 some_same : {a b : Node} → Some a ≡ Some b → b ≡ a
 some_same h = cc
 
-pub moving_begun : (n m : ℕ) (whos slots : List ℕ) (nodes : List (Option Node)) (last : ℕ) (a x : ℤ) (y : List ℤ) → AreCells n m whos slots → length y ≡ length whos → AreAmounts y → last < length whos → pos 0 ≤ℤ a → HasFlow nodes (label_at whos last) a
-    → x ≡ (amount_at y last +ℤ a) → IsMoving whos slots nodes last a y (set y last x) (label_at whos last)
-moving_begun n m whos slots nodes last a x y cells same low lt some flow is = record {
+pub moving_begun : (n m : ℕ) (whos slots : List ℕ) (nodes : List (Option Node)) (lacks : List ℤ) (last : ℕ) (a x : ℤ) (y : List ℤ) → AreCells n m whos slots → length y ≡ length whos → AreAmounts y → last < length whos → pos 0 ≤ℤ a → Carries whos nodes y lacks a (label_at whos last)
+    → x ≡ (amount_at y last +ℤ a) → IsMoving whos slots nodes lacks last a y (set y last x) (label_at whos last)
+moving_begun n m whos slots nodes lacks last a x y cells same low lt some way is = record {
   cells = length-set y last x;
   amounts = λ e. let r = rises e in let l = low e in omega (arith, ints, r, l);
   got = λ i. put-sum i whos y last a x is same lt;
   loads = λ s. let h = cells.same in put-sum s slots y last a x is (same ∙ sym h) (omega (arith, h, lt));
-  here = flow.node;
-  is_here = flow.is_node;
-  enough = flow.enough;
+  here = (carries_here whos nodes y lacks a (label_at whos last) way).0;
+  is_here = (carries_here whos nodes y lacks a (label_at whos last) way).1;
+  way = way;
   kept = λ e b at le. rises e;
 } where
   rises : (e : ℕ) → amount_at y e ≤ℤ amount_at (set y last x) e
@@ -55,7 +56,7 @@ moving_begun n m whos slots nodes last a x y cells same low lt some flow is = re
       (λ ne. let g = get_or-set_other y last e x (pos 0) ne in omega (arith, ints, g))
       (cases_eq e last)
 
-module _ (n m : ℕ) (whos slots : List ℕ) (nodes : List (Option Node)) (last : ℕ) (a : ℤ) (y z : List ℤ) (who : ℕ) (cells : AreCells n m whos slots) (same : length y ≡ length whos) (tree : AreNodes whos slots y nodes) (inv : IsMoving whos slots nodes last a y z who) where
+module _ (n m : ℕ) (whos slots : List ℕ) (nodes : List (Option Node)) (lacks : List ℤ) (last : ℕ) (a : ℤ) (y z : List ℤ) (who : ℕ) (cells : AreCells n m whos slots) (same : length y ≡ length whos) (tree : AreBranches whos slots nodes) (inv : IsMoving whos slots nodes lacks last a y z who) where
   -- no slot holds more than before, but the last one by a
   pub moving_small : (c : ℤ) → ((e : ℕ) → e < length whos → sum_at (label_at slots e) slots y ≤ℤ c) → (sum_at (label_at slots last) slots y +ℤ a) ≤ℤ c → (e : ℕ) → e < length whos → amount_at z e ≤ℤ c
   moving_small c small room e lt =
@@ -71,15 +72,14 @@ module _ (n m : ℕ) (whos slots : List ℕ) (nodes : List (Option Node)) (last 
   -- the amount can be taken off the own cell of the link
   pub moving_has : (l : Link) → inv.here.link ≡ Some l → (l.own < length whos) × (l.other < length whos) × (a ≤ℤ amount_at z l.own)
   moving_has l is =
-      let k = (tree who inv.here inv.is_here).linked l is in
+      let k = tree who inv.here l inv.is_here is in
       let r = inv.kept l.own inv.here (ap (λ i. node_at nodes i) k.mine ∙ inv.is_here) (omega arith) in
-      let h = k.has in
-      let e = inv.enough in
-      (k.own_in, k.other_in, omega (arith, ints, r, h, e))
+      let (h, rest) = carries_on whos nodes y lacks a who inv.here l inv.way inv.is_here is in
+      (k.own_in, k.other_in, omega (arith, ints, r, h))
 
   -- and put on the other one
   pub moving_step : (l : Link) → inv.here.link ≡ Some l → (u v : ℤ) → u ≡ (amount_at z l.own -ℤ a) → v ≡ (amount_at (set z l.own u) l.other +ℤ a) → pos 0 ≤ℤ a
-      → IsMoving whos slots nodes last a y (set (set z l.own u) l.other v) (label_at whos l.other)
+      → IsMoving whos slots nodes lacks last a y (set (set z l.own u) l.other v) (label_at whos l.other)
   moving_step l is u v iu iv some = record {
     cells = length-set (set z l.own u) l.other v ∙ (length-set z l.own u ∙ inv.cells);
     amounts = λ e. second e;
@@ -100,7 +100,7 @@ module _ (n m : ℕ) (whos slots : List ℕ) (nodes : List (Option Node)) (last 
         omega (arith, ints, p, q, o, w, g);
     here = k.parent;
     is_here = k.is_parent;
-    enough = (let e = inv.enough in let w = k.within in omega (arith, ints, e, w));
+    way = (carries_on whos nodes y lacks a who inv.here l inv.way inv.is_here is).1;
     kept = λ e b at le.
         let lower = k.lower in
         let ne : e ≡ l.own → ⊥ = λ q.
@@ -112,8 +112,8 @@ module _ (n m : ℕ) (whos slots : List ℕ) (nodes : List (Option Node)) (last 
         let t = rises e in
         omega (arith, ints, o, r, t);
   } where
-    k : IsLinked whos slots y nodes who inv.here l
-    k = (tree who inv.here inv.is_here).linked l is
+    k : IsBranch whos slots nodes who inv.here l
+    k = tree who inv.here l inv.is_here is
 
     lz : length z ≡ length whos
     lz = inv.cells ∙ same
@@ -149,14 +149,14 @@ module _ (n m : ℕ) (whos slots : List ℕ) (nodes : List (Option Node)) (last 
 
   pub moving_lower : (l : Link) → inv.here.link ≡ Some l → (b : Node) → node_at nodes (label_at whos l.other) ≡ Some b → b.level < inv.here.level
   moving_lower l is b at =
-      let k = (tree who inv.here inv.is_here).linked l is in
+      let k = tree who inv.here l inv.is_here is in
       let q : k.parent ≡ b = some_same (sym at ∙ k.is_parent) in
       let p = ap (λ (d : Node). d.level) q in
       let h = k.lower in
       omega (arith, p, h)
 
-  pub moving_done : inv.here.link ≡ None → (r : IsRaised whos slots nodes last a y z) × (r.root ≡ who)
-  moving_done none = (record { root = who; node = inv.here; is_node = inv.is_here; is_root = none; enough = inv.enough; cells = inv.cells; amounts = inv.amounts; got = inv.got; loads = inv.loads }, refl)
+  pub moving_done : inv.here.link ≡ None → (r : IsRaised whos slots nodes lacks last a y z) × (r.root ≡ who)
+  moving_done none = (record { root = who; node = inv.here; is_node = inv.is_here; is_root = none; enough = carries_end whos nodes y lacks a who inv.here inv.way inv.is_here none; cells = inv.cells; amounts = inv.amounts; got = inv.got; loads = inv.loads }, refl)
 
 -- the level of a node
 abbrev pub level_of : Option Node → ℕ
@@ -177,18 +177,18 @@ pub record Passes (whos : List ℕ) (z : List ℤ) (l : Link) (a n c : ℤ) : Ty
   pub other_low : pos 0 ≤ℤ (amount_at (set z l.own (amount_at z l.own +ℤ n)) l.other +ℤ a)
   pub other_high : (amount_at (set z l.own (amount_at z l.own +ℤ n)) l.other +ℤ a) ≤ℤ c
 
-pub moving_passes : (n m : ℕ) (whos slots : List ℕ) (nodes : List (Option Node)) (last : ℕ) (a : ℤ) (y z : List ℤ) (who : ℕ) → AreCells n m whos slots → length y ≡ length whos → AreNodes whos slots y nodes
-    → (inv : IsMoving whos slots nodes last a y z who) (c : ℤ) → ((e : ℕ) → e < length whos → sum_at (label_at slots e) slots y ≤ℤ c) → (sum_at (label_at slots last) slots y +ℤ a) ≤ℤ c → pos 0 ≤ℤ a
+pub moving_passes : (n m : ℕ) (whos slots : List ℕ) (nodes : List (Option Node)) (lacks : List ℤ) (last : ℕ) (a : ℤ) (y z : List ℤ) (who : ℕ) → AreCells n m whos slots → length y ≡ length whos → AreBranches whos slots nodes
+    → (inv : IsMoving whos slots nodes lacks last a y z who) (c : ℤ) → ((e : ℕ) → e < length whos → sum_at (label_at slots e) slots y ≤ℤ c) → (sum_at (label_at slots last) slots y +ℤ a) ≤ℤ c → pos 0 ≤ℤ a
     → (l : Link) → inv.here.link ≡ Some l → (b : ℤ) → (b +ℤ a) ≡ pos 0 → Passes whos z l a b c
-moving_passes n m whos slots nodes last a y z who cells same tree inv c small room some l is b minus =
-    let (own_in, other_in, has) = moving_has n m whos slots nodes last a y z who cells same tree inv l is in
+moving_passes n m whos slots nodes lacks last a y z who cells same tree inv c small room some l is b minus =
+    let (own_in, other_in, has) = moving_has n m whos slots nodes lacks last a y z who cells same tree inv l is in
     let u = amount_at z l.own +ℤ b in
     let v = amount_at (set z l.own u) l.other +ℤ a in
-    let next = moving_step n m whos slots nodes last a y z who cells same tree inv l is u v (omega (arith, ints, minus)) refl some in
+    let next = moving_step n m whos slots nodes lacks last a y z who cells same tree inv l is u v (omega (arith, ints, minus)) refl some in
     let lz = inv.cells in
     let ls = length-set z l.own u in
-    let small_own = moving_small n m whos slots nodes last a y z who cells same tree inv c small room l.own own_in in
-    let small_other = moving_small n m whos slots nodes last a y (set (set z l.own u) l.other v) (label_at whos l.other) cells same tree next c small room l.other other_in in
+    let small_own = moving_small n m whos slots nodes lacks last a y z who cells same tree inv c small room l.own own_in in
+    let small_other = moving_small n m whos slots nodes lacks last a y (set (set z l.own u) l.other v) (label_at whos l.other) cells same tree next c small room l.other other_in in
     let low_other = next.amounts l.other in
     let other_z : l.other < length (set z l.own u) = omega (arith, other_in, lz, same, ls) in
     let g = get_or-set_same (set z l.own u) l.other v (pos 0) other_z in

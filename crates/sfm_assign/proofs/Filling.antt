@@ -1,6 +1,6 @@
 -- What can be filled: from any amounts there are others by which no demand gets less, with a closed set of all demands that
 -- still lack something. So demands can be met exactly where no set of them asks for more than its slots have.
-use Rattle.std.proofs.Common.{◌≡◌, ◌⊎◌, ℕ, zero, suc, ◌+◌, ◌<◌, ◌≤◌, Bool, true, false, List, [], ◌∷◌, length, get_or, set, replicate, ℤ, pos, ◌+ℤ◌, ◌-ℤ◌, ◌≤ℤ◌, ◌<ℤ◌, Option, Some, None, refl, sym, ap, ◌∙◌, subst, arith, inl, inr, ⊎_elim}
+use Rattle.std.proofs.Common.{◌≡◌, ◌⊎◌, ℕ, zero, suc, ◌+◌, ◌<◌, ◌≤◌, Bool, true, false, List, [], ◌∷◌, length, get_or, set, replicate, ℤ, pos, ◌+ℤ◌, ◌-ℤ◌, ◌≤ℤ◌, ◌<ℤ◌, Option, Some, None, refl, sym, ◌∙◌, subst, arith, inl, inr, ⊎_elim}
 use Rattle.std.proofs.lemmas.Int.{ints, by_lt_z}
 use Rattle.std.proofs.lemmas.Bool.{cases_lt, false≢true}
 use Rattle.std.proofs.lemmas.List.{length-replicate}
@@ -8,13 +8,14 @@ use Rattle.sfm_spec.specs.Sets.{Has, sum_over}
 use Rattle.sfm_spec.specs.Bounds.{total_of}
 use Rattle.sfm_assign.specs.Splits.{sum_at, amount_at, slots_of, CanBeMet, IsShort}
 use Rattle.sfm_assign.specs.Cells.{joined, owners, cut, label_at, AreCells, IsPart}
-use Rattle.sfm_assign.specs.Search.{AreLeft, node_at, missing, IsFound, IsNode, AreNodes, IsRoot, AreRootsOf, IsMarkOf, IsEnd, IsSearch, IsFoundSet, IsRaised, GetsMore, IsFilled}
+use Rattle.sfm_assign.specs.Search.{AreLeft, node_at, missing, IsFound, IsNode, AreNodes, AreBranches, IsRoot, AreRootsOf, IsMarkOf, IsEnd, IsSearch, IsFoundSet, IsRaised, GetsMore, IsFilled}
 use Rattle.sfm_assign.specs.declared.nodes.Link.{Link}
 use Rattle.sfm_assign.specs.declared.nodes.Node.{Node}
 use Rattle.sfm_assign.proofs.Amounts.{tally, tally-at, sum_over-le}
 use Rattle.sfm_assign.proofs.Rows.{AreBelow, cells_of, split_of_part}
 use Rattle.sfm_assign.proofs.Hall.{hall_easy, short_of_closed}
-use Rattle.sfm_assign.proofs.Searches.{mark_at, IsMarkingTo, mark_put, mark_skip, IsGrowingTo, grow_none, grow_put, grow_skip, IsSearching, marks_below, marks_kept, search_begun, search_turned, some_apart, none_marked}
+use Rattle.sfm_assign.proofs.Searches.{mark_at, linked_node, IsMarkingTo, mark_put, mark_skip, IsGrowingTo, grow_none, grow_put, grow_skip, IsSearching, marks_below, marks_kept, search_begun, search_turned, some_apart, none_marked}
+use Rattle.sfm_assign.proofs.Ways.{branches_of, carries_of}
 use Rattle.sfm_assign.proofs.Augments.{IsMoving, moving_begun, moving_step, moving_lower, moving_done}
 use Rattle.sfm_assign.proofs.Fills.{total_bound, to_nat, to_nat_falls, raised_part, raised_more, raised_total, stuck_filled}
 use Rattle.sfm_assign.proofs.Outcomes.{nothing_part}
@@ -59,7 +60,7 @@ left_exists totals labels y = (
 -- ---- the search
 
 root_exists : (a : ℤ) → (o : Option Node) × IsRoot a o
-root_exists a = by_lt_z (pos 0) a (λ l. (Some (record { flow = a; level = 0; link = None }), (refl, refl, refl, omega (arith, ints, l)))) (λ le. (None, le))
+root_exists a = by_lt_z (pos 0) a (λ l. (Some (record { level = 0; link = None }), (refl, refl, omega (arith, ints, l)))) (λ le. (None, le))
 
 roots_exist : (lacks : List ℤ) → (nodes : List (Option Node)) × AreRootsOf lacks nodes
 roots_exist [] = ([], record { places = refl; each = λ i lt. absurd (omega arith) })
@@ -119,16 +120,6 @@ module _ (n m : ℕ) (whos slots : List ℕ) (cells : AreCells n m whos slots) w
   abbrev Grown : List ℤ → ℕ → List (Option ℕ) → List (Option Node) → ℕ → Type 0
   Grown y level marks before k = (after : List (Option Node)) × (grew : Bool) × IsGrowingTo whos slots y level marks before after grew k
 
-  -- the node of a cell with something on a marked slot
-  node_exists : (y : List ℤ) (level : ℕ) (nodes : List (Option Node)) (k f : ℕ) → k < length whos → pos 0 <ℤ amount_at y k → AreNodes whos slots y nodes → IsMarkOf whos slots nodes level (label_at slots k) f
-      → (a : ℤ) → pos 1 ≤ℤ a → a ≤ℤ amount_at y k → ((b : Node) → node_at nodes (label_at whos f) ≡ Some b → a ≤ℤ b.flow) → IsNode whos slots y nodes (label_at whos k) (record { flow = a; level = level; link = Some (record { own = k; other = f }) })
-  node_exists y level nodes k f lt has tree mark a some le within = record {
-    some = some;
-    linked = λ l eq. rw (← same_link (record { own = k; other = f }) l eq) (record { own_in = lt; other_in = mark.cell; mine = refl; shared = sym mark.slot; has = le; parent = mark.node; is_parent = mark.is_node; lower = mark.lower; within = within mark.node mark.is_node });
-  } where
-    same_link : (a b : Link) → Some a ≡ Some b → a ≡ b
-    same_link a b h = cc
-
   grow_exists : (y : List ℤ) (level : ℕ) (marks : List (Option ℕ)) (before : List (Option Node)) → length before ≡ n → AreNodes whos slots y before → ((s e : ℕ) → mark_at marks s ≡ Some e → IsMarkOf whos slots before level s e)
       → (k : ℕ) → k ≤ length whos → Grown y level marks before k
   grow_exists y level marks before ln tree marked zero le = (before, false, grow_none whos slots y level marks before tree)
@@ -137,7 +128,7 @@ module _ (n m : ℕ) (whos slots : List ℕ) (cells : AreCells n m whos slots) w
     at (after, grew, inv) = either (node_at after (label_at whos k))
         (λ b is. skip (λ out. absurd (some_apart (node_at after (label_at whos k)) out is)))
         (λ out. either (mark_at marks (label_at slots k))
-        (λ f is. by_lt_z (pos 0) (amount_at y k) (λ has. by_flow f out has (marks_kept whos slots before after marks level inv.grown.kept marked (label_at slots k) f is)) (λ le. skip (λ o g h. le)))
+        (λ f is. by_lt_z (pos 0) (amount_at y k) (λ has. by_mark f out has (marks_kept whos slots before after marks level inv.grown.kept marked (label_at slots k) f is)) (λ le. skip (λ o g h. le)))
         (λ none. skip (λ o g h. absurd (some_apart (mark_at marks (label_at slots k)) none h)))) where
           skip : (node_at after (label_at whos k) ≡ None → (f : ℕ) → mark_at marks (label_at slots k) ≡ Some f → amount_at y k ≤ℤ pos 0) → Grown y level marks before (suc k)
           skip h = (after, grew, next (λ j. IsGrowingTo whos slots y level marks before after grew j) k (grow_skip whos slots y level marks before after grew k h inv))
@@ -153,17 +144,8 @@ module _ (n m : ℕ) (whos slots : List ℕ) (cells : AreCells n m whos slots) w
           link_apart : (l : Link) → Some l ≡ None → ⊥
           link_apart l h = cc
 
-          some_same : {a b : Node} → Some a ≡ Some b → b ≡ a
-          some_same h = cc
-
-          by_flow : (f : ℕ) → node_at after (label_at whos k) ≡ None → pos 0 <ℤ amount_at y k → IsMarkOf whos slots after level (label_at slots k) f → Grown y level marks before (suc k)
-          by_flow f out has mark =
-              let one = (inv.grown.tree (label_at whos f) mark.node mark.is_node).some in
-              by_lt_z mark.node.flow (amount_at y k)
-              (λ l. put (record { flow = mark.node.flow; level = level; link = Some (record { own = k; other = f }) }) out refl (link_apart (record { own = k; other = f }))
-              (node_exists y level after k f (omega arith) has inv.grown.tree mark mark.node.flow one (omega (arith, ints, l)) (λ b is. let q = ap (λ (d : Node). d.flow) (some_same (sym mark.is_node ∙ is)) in omega (arith, ints, q))))
-              (λ ge. put (record { flow = amount_at y k; level = level; link = Some (record { own = k; other = f }) }) out refl (link_apart (record { own = k; other = f }))
-              (node_exists y level after k f (omega arith) has inv.grown.tree mark (amount_at y k) (omega (arith, ints, has)) (omega (arith, ints)) (λ b is. let q = ap (λ (d : Node). d.flow) (some_same (sym mark.is_node ∙ is)) in omega (arith, ints, q, ge))))
+          by_mark : (f : ℕ) → node_at after (label_at whos k) ≡ None → pos 0 <ℤ amount_at y k → IsMarkOf whos slots after level (label_at slots k) f → Grown y level marks before (suc k)
+          by_mark f out has mark = put (record { level = level; link = Some (record { own = k; other = f }) }) out refl (link_apart (record { own = k; other = f })) (linked_node whos slots y after level (record { own = k; other = f }) (omega arith) mark.cell (sym mark.slot) mark.node mark.is_node mark.lower (omega (arith, ints, has)))
 
   abbrev pub Searched : List ℤ → List ℤ → List ℤ → Type 0
   Searched y lacks rooms = (nodes : List (Option Node)) × (last : Option ℕ) × IsSearch whos slots y lacks rooms nodes last
@@ -195,22 +177,22 @@ module _ (n m : ℕ) (whos slots : List ℕ) (cells : AreCells n m whos slots) w
 
   -- ---- the moves
 
-  pub move_exists : (fuel : ℕ) (nodes : List (Option Node)) (last : ℕ) (a : ℤ) (y z : List ℤ) (who : ℕ) → length y ≡ length whos → AreNodes whos slots y nodes → pos 0 ≤ℤ a → (inv : IsMoving whos slots nodes last a y z who) → inv.here.level < fuel
-      → (z' : List ℤ) × IsRaised whos slots nodes last a y z'
-  move_exists zero nodes last a y z who same tree some inv few = absurd (omega arith)
-  move_exists (suc fuel) nodes last a y z who same tree some inv few = at (move_exists fuel nodes last a y) where
+  pub move_exists : (fuel : ℕ) (nodes : List (Option Node)) (lacks : List ℤ) (last : ℕ) (a : ℤ) (y z : List ℤ) (who : ℕ) → length y ≡ length whos → AreBranches whos slots nodes → pos 0 ≤ℤ a → (inv : IsMoving whos slots nodes lacks last a y z who) → inv.here.level < fuel
+      → (z' : List ℤ) × IsRaised whos slots nodes lacks last a y z'
+  move_exists zero nodes lacks last a y z who same tree some inv few = absurd (omega arith)
+  move_exists (suc fuel) nodes lacks last a y z who same tree some inv few = at (move_exists fuel nodes lacks last a y) where
     Rest : Type 0
-    Rest = (z : List ℤ) (who : ℕ) → length y ≡ length whos → AreNodes whos slots y nodes → pos 0 ≤ℤ a → (inv : IsMoving whos slots nodes last a y z who) → inv.here.level < fuel → (z' : List ℤ) × IsRaised whos slots nodes last a y z'
+    Rest = (z : List ℤ) (who : ℕ) → length y ≡ length whos → AreBranches whos slots nodes → pos 0 ≤ℤ a → (inv : IsMoving whos slots nodes lacks last a y z who) → inv.here.level < fuel → (z' : List ℤ) × IsRaised whos slots nodes lacks last a y z'
 
-    at : Rest → (z' : List ℤ) × IsRaised whos slots nodes last a y z'
+    at : Rest → (z' : List ℤ) × IsRaised whos slots nodes lacks last a y z'
     at rest = either inv.here.link
         (λ l is.
         let u = amount_at z l.own -ℤ a in
         let v = amount_at (set z l.own u) l.other +ℤ a in
-        let step = moving_step n m whos slots nodes last a y z who cells same tree inv l is u v refl refl some in
-        let lower = moving_lower n m whos slots nodes last a y z who cells same tree inv l is step.here step.is_here in
+        let step = moving_step n m whos slots nodes lacks last a y z who cells same tree inv l is u v refl refl some in
+        let lower = moving_lower n m whos slots nodes lacks last a y z who cells same tree inv l is step.here step.is_here in
         rest (set (set z l.own u) l.other v) (label_at whos l.other) same tree some step (omega (arith, lower, few)))
-        (λ none. (z, (moving_done n m whos slots nodes last a y z who cells same tree inv none).0))
+        (λ none. (z, (moving_done n m whos slots nodes lacks last a y z who cells same tree inv none).0))
 
 -- ---- filling
 
@@ -225,11 +207,10 @@ module _ (demands capacities : List ℤ) (whos slots : List ℕ) (cells : AreCel
     found lacks rooms ll lr (nodes, Some last, h) =
         let end = h.ended in
         let (b, is) = end.found in
-        let one = (h.tree (label_at whos last) b is).some in
-        let begun = moving_begun (length demands) (length capacities) whos slots nodes last (pos 1) (amount_at y last +ℤ pos 1) y cells part.cells part.amounts end.cell (omega (arith, ints)) (record { node = b; is_node = is; enough = one }) refl in
-        let (z, r) = move_exists (length demands) (length capacities) whos slots cells (suc begun.here.level) nodes last (pos 1) y (set y last (amount_at y last +ℤ pos 1)) (label_at whos last) part.cells h.tree (omega (arith, ints)) begun (omega arith) in
+        let begun = moving_begun (length demands) (length capacities) whos slots nodes lacks last (pos 1) (amount_at y last +ℤ pos 1) y cells part.cells part.amounts end.cell (omega (arith, ints)) (carries_of whos slots y nodes h.tree lacks h.roots (label_at whos last) b is) refl in
+        let (z, r) = move_exists (length demands) (length capacities) whos slots cells (suc begun.here.level) nodes lacks last (pos 1) y (set y last (amount_at y last +ℤ pos 1)) (label_at whos last) part.cells (branches_of whos slots y nodes h.tree) (omega (arith, ints)) begun (omega arith) in
         let some : pos 1 ≤ℤ pos 1 = omega (arith, ints) in
-        inr (z, raised_part demands capacities whos slots y lacks rooms nodes last (pos 1) z cells part ll lr h.places h.roots end.cell some end.room r, raised_more demands capacities whos slots y lacks rooms nodes last (pos 1) z cells part ll lr h.places h.roots end.cell some end.room r, raised_total demands capacities whos slots y lacks rooms nodes last (pos 1) z cells part ll lr h.places h.roots end.cell some end.room r)
+        inr (z, raised_part demands capacities whos slots y lacks rooms nodes last (pos 1) z cells part ll lr h.places end.cell some end.room r, raised_more demands capacities whos slots y lacks rooms nodes last (pos 1) z cells part ll lr h.places end.cell some end.room r, raised_total demands capacities whos slots y lacks rooms nodes last (pos 1) z cells part ll lr h.places end.cell some end.room r)
 
     with_left : ((lacks : List ℤ) × AreLeft demands whos y lacks) → ((rooms : List ℤ) × AreLeft capacities slots y rooms) → Stepped y
     with_left (lacks, ll) (rooms, lr) = found lacks rooms ll lr (searched (length demands) (length capacities) whos slots cells y lacks rooms ll.places lr.places)

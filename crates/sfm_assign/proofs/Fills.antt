@@ -11,7 +11,7 @@ use Rattle.sfm_spec.proofs.Sets.{Has-whole}
 use Rattle.sfm_spec.proofs.Sizes.{weight-whole}
 use Rattle.sfm_assign.specs.Splits.{sum_at, amount_at, IsCapacity}
 use Rattle.sfm_assign.specs.Cells.{label_at, sum_in, AreCells, IsPart}
-use Rattle.sfm_assign.specs.Search.{AreLeft, node_at, AreRoots, HasRoots, IsStuck, IsFoundSet, IsRaised, GetsMore, IsFilled}
+use Rattle.sfm_assign.specs.Search.{AreLeft, node_at, HasRoots, IsStuck, IsFoundSet, IsRaised, GetsMore, IsFilled}
 use Rattle.sfm_assign.specs.declared.nodes.Node.{Node}
 use Rattle.sfm_assign.proofs.Amounts.{tally, length-tally, tally-at, sum_over-tally, sum_over-le, sum_over-lt, only-same, only-other}
 use Rattle.sfm_assign.proofs.Searches.{some_apart}
@@ -83,7 +83,7 @@ below_nodes (o ∷ nodes) (suc i) b is = let r = below_nodes nodes i b is in ome
 
 -- one demand gets more, within what it lacks, and one slot, within its room
 module _ (demands capacities : List ℤ) (whos slots : List ℕ) (y lacks rooms : List ℤ) (nodes : List (Option Node)) (last : ℕ) (a : ℤ) (z : List ℤ) (cells : AreCells (length demands) (length capacities) whos slots) (part : IsPart demands capacities whos slots y)
-    (ll : AreLeft demands whos y lacks) (lr : AreLeft capacities slots y rooms) (places : length nodes ≡ length lacks) (roots : AreRoots lacks nodes) (lt : last < length whos) (some : pos 1 ≤ℤ a) (fits : a ≤ℤ amount_at rooms (label_at slots last)) (r : IsRaised whos slots nodes last a y z) where
+    (ll : AreLeft demands whos y lacks) (lr : AreLeft capacities slots y rooms) (places : length nodes ≡ length lacks) (lt : last < length whos) (some : pos 1 ≤ℤ a) (fits : a ≤ℤ amount_at rooms (label_at slots last)) (r : IsRaised whos slots nodes lacks last a y z) where
   pub root_in : r.root < length demands
   root_in = let b = below_nodes nodes r.root r.node r.is_node in let p = ll.places in omega (arith, b, places, p)
 
@@ -104,10 +104,9 @@ module _ (demands capacities : List ℤ) (whos slots : List ℕ) (y lacks rooms 
         (λ (q : r.root ≡ i).
         let o = only-same r.root i a q in
         let e = r.enough in
-        let b = roots r.root r.node r.is_node r.is_root in
         let l = ll.each i li in
         let w = ap (λ k. amount_at lacks k) q in
-        omega (arith, ints, g, o, e, b, l, w))
+        omega (arith, ints, g, o, e, l, w))
         (λ ne. let o = only-other r.root i a ne in omega (arith, ints, g, o, p))
         (cases_eq r.root i);
     within = λ s ls.

@@ -1,16 +1,16 @@
 -- One more for a demand that lacks something: by a slot with room, or by a demand that was found and gives up one.
-use Rattle.std.proofs.Common.{◌≡◌, ℕ, ◌<◌, Bool, true, false, nat_eq, if◌then◌else◌, List, [], ◌∷◌, zero, suc, length, set, ℤ, pos, neg_ℤ, ◌+ℤ◌, ◌-ℤ◌, ◌≤ℤ◌, ◌<ℤ◌, Option, Some, None, is_some, refl, sym, ap, ◌∙◌, arith, ⊎_elim, length-set, get_or-set_other, get_or-set_same}
+use Rattle.std.proofs.Common.{◌≡◌, ℕ, ◌<◌, Bool, true, false, nat_eq, if◌then◌else◌, List, [], ◌∷◌, zero, suc, length, set, ℤ, pos, neg_ℤ, ◌+ℤ◌, ◌-ℤ◌, ◌≤ℤ◌, ◌<ℤ◌, Option, Some, None, refl, sym, ap, ◌∙◌, arith, ⊎_elim, length-set, get_or-set_other, get_or-set_same}
 use Rattle.std.proofs.lemmas.Int.{ints}
-use Rattle.std.proofs.lemmas.Bool.{cases_eq, cases_lt, false≢true}
-use Rattle.sfm_spec.specs.Sets.{Has}
+use Rattle.std.proofs.lemmas.Bool.{cases_eq, cases_lt}
 use Rattle.sfm_assign.specs.Splits.{sum_at, amount_at}
 use Rattle.sfm_assign.specs.Cells.{label_at, AreCells, IsPart}
-use Rattle.sfm_assign.specs.Search.{AreLeft, only, node_at, IsLinked, AreNodes, AreRoots, IsEnd, IsSearchEnd, HasRoots, IsStuck, IsFoundSet, IsFilled}
+use Rattle.sfm_assign.specs.Search.{AreLeft, only, node_at, IsBranch, AreNodes, AreRoots, IsEnd}
 use Rattle.sfm_assign.specs.declared.nodes.Link.{Link}
 use Rattle.sfm_assign.specs.declared.nodes.Node.{Node}
 use Rattle.sfm_assign.proofs.Amounts.{AreAmounts, only-same, only-other}
+use Rattle.sfm_assign.proofs.Ways.{branches_of, carries_of}
 use Rattle.sfm_assign.proofs.Augments.{put-sum, only-neg, moving_begun}
-use Rattle.sfm_assign.proofs.Fills.{below_nodes, raised_part, stuck_filled}
+use Rattle.sfm_assign.proofs.Fills.{below_nodes, raised_part}
 use Rattle.sfm_assign.proofs.Filling.{either, move_exists}
 
 -- amounts by which a demand that lacks something gets one more, and each demand otherwise what it got less what is told
@@ -66,23 +66,21 @@ module _ (demands capacities : List ℤ) (whos slots : List ℕ) (y lacks rooms 
       let lt = below_nodes nodes i b is in
       let p = ll.places in
       let li : i < length demands = omega (arith, lt, places, p) in
-      let f = roots i b is none in
-      let one = (tree i b is).some in
+      let one = roots i b is none in
       let l = ll.each i li in
-      (li, omega (arith, ints, f, one, l))
+      (li, omega (arith, ints, one, l))
 
   -- a slot with room gives one more
   pub raise_one : (last : ℕ) → IsEnd whos slots rooms nodes last → GetsOne demands capacities whos slots y (λ i. pos 0)
   raise_one last end =
       let (b, is) = end.found in
-      let one = (tree (label_at whos last) b is).some in
-      let begun = moving_begun (length demands) (length capacities) whos slots nodes last (pos 1) (amount_at y last +ℤ pos 1) y cells part.cells part.amounts end.cell (omega (arith, ints)) (record { node = b; is_node = is; enough = one }) refl in
-      let (z, r) = move_exists (length demands) (length capacities) whos slots cells (suc begun.here.level) nodes last (pos 1) y (set y last (amount_at y last +ℤ pos 1)) (label_at whos last) part.cells tree (omega (arith, ints)) begun (omega arith) in
+      let begun = moving_begun (length demands) (length capacities) whos slots nodes lacks last (pos 1) (amount_at y last +ℤ pos 1) y cells part.cells part.amounts end.cell (omega (arith, ints)) (carries_of whos slots y nodes tree lacks roots (label_at whos last) b is) refl in
+      let (z, r) = move_exists (length demands) (length capacities) whos slots cells (suc begun.here.level) nodes lacks last (pos 1) y (set y last (amount_at y last +ℤ pos 1)) (label_at whos last) part.cells (branches_of whos slots y nodes tree) (omega (arith, ints)) begun (omega arith) in
       let some : pos 1 ≤ℤ pos 1 = omega (arith, ints) in
       let (lt, lacking) = root_lacks r.root r.node r.is_node r.is_root in
       record {
         after = z;
-        part = raised_part demands capacities whos slots y lacks rooms nodes last (pos 1) z cells part ll lr places roots end.cell some end.room r;
+        part = raised_part demands capacities whos slots y lacks rooms nodes last (pos 1) z cells part ll lr places end.cell some end.room r;
         to = r.root;
         in_range = lt;
         lacking = lacking;
@@ -91,8 +89,8 @@ module _ (demands capacities : List ℤ) (whos slots : List ℕ) (y lacks rooms 
 
   -- so does a demand that was found: it gives one up on a slot that the demand can use from which it was found
   module _ (v : ℕ) (b : Node) (is : node_at nodes v ≡ Some b) (l : Link) (linked : b.link ≡ Some l) (lower : List (Option Node)) (below : AreBelow b.level nodes lower) where
-    k : IsLinked whos slots y nodes v b l
-    k = (tree v b is).linked l linked
+    k : IsBranch whos slots nodes v b l
+    k = (tree v b is l linked).branch
 
     abbrev given : List ℤ
     given = set y l.own (amount_at y l.own +ℤ neg_ℤ (pos 1))
@@ -123,44 +121,33 @@ module _ (demands capacities : List ℤ) (whos slots : List ℕ) (y lacks rooms 
         let c = part.cells in
         let g = get_or-set_same y l.own (amount_at y l.own +ℤ neg_ℤ (pos 1)) (pos 0) (omega (arith, lt, c)) in
         let p = ap (λ i. amount_at given i) q in
-        let h = k.has in
-        let one = (tree v b is).some in
-        omega (arith, ints, g, p, h, one))
+        let h = (tree v b is l linked).has in
+        omega (arith, ints, g, p, h))
         (λ ne. let g = get_or-set_other y l.own e (amount_at y l.own +ℤ neg_ℤ (pos 1)) (pos 0) ne in let h = part.amounts e in omega (arith, ints, g, h))
         (cases_eq e l.own)
 
     -- the nodes below that of v have what they can move as before
     lower_tree : AreNodes whos slots given lower
-    lower_tree i d at =
+    lower_tree i d at m eq =
         let (old, lt) = (below i).1 d at in
-        let h = tree i d old in
+        let j = (tree i d old m eq).branch in
+        let low = j.lower in
+        let ne : m.own ≡ l.own → ⊥ = λ q.
+        let same : i ≡ v = sym j.mine ∙ (ap (λ e. label_at whos e) q ∙ k.mine) in
+        let level = ap (λ (n : Node). n.level) (same_some (sym old ∙ (ap (λ e. node_at nodes e) same ∙ is))) in
+        absurd (omega (arith, level, lt)) in
         record {
-          some = h.some;
-          linked = λ m eq.
-              let j = h.linked m eq in
-              let low = j.lower in
-              let ne : m.own ≡ l.own → ⊥ = λ q.
-              let same : i ≡ v = sym j.mine ∙ (ap (λ e. label_at whos e) q ∙ k.mine) in
-              let level = ap (λ (n : Node). n.level) (same_some (sym old ∙ (ap (λ e. node_at nodes e) same ∙ is))) in
-              absurd (omega (arith, level, lt)) in
-              record {
-                own_in = j.own_in;
-                other_in = j.other_in;
-                mine = j.mine;
-                shared = j.shared;
-                has = rw (get_or-set_other y l.own m.own (amount_at y l.own +ℤ neg_ℤ (pos 1)) (pos 0) ne) j.has;
-                parent = j.parent;
-                is_parent = (below (label_at whos m.other)).0 j.parent j.is_parent (omega (arith, low, lt));
-                lower = j.lower;
-                within = j.within;
-              };
+          branch = record { own_in = j.own_in; other_in = j.other_in; mine = j.mine; shared = j.shared; parent = j.parent; is_parent = (below (label_at whos m.other)).0 j.parent j.is_parent (omega (arith, low, lt)); lower = j.lower };
+          has = rw (get_or-set_other y l.own m.own (amount_at y l.own +ℤ neg_ℤ (pos 1)) (pos 0) ne) (tree i d old m eq).has;
         }
+
+    lower_roots : AreRoots lacks lower
+    lower_roots i d at none = roots i d ((below i).1 d at).0 none
 
     lend_by : GetsOne demands capacities whos slots y (λ i. only v i (pos 1))
     lend_by =
-        let one = (tree (label_at whos l.other) k.parent k.is_parent).some in
-        let begun = moving_begun (length demands) (length capacities) whos slots lower l.other (pos 1) (amount_at given l.other +ℤ pos 1) given cells sized amounts k.other_in (omega (arith, ints)) (record { node = k.parent; is_node = (below (label_at whos l.other)).0 k.parent k.is_parent k.lower; enough = one }) refl in
-        let (z, r) = move_exists (length demands) (length capacities) whos slots cells (suc begun.here.level) lower l.other (pos 1) given (set given l.other (amount_at given l.other +ℤ pos 1)) (label_at whos l.other) sized lower_tree (omega (arith, ints)) begun (omega arith) in
+        let begun = moving_begun (length demands) (length capacities) whos slots lower lacks l.other (pos 1) (amount_at given l.other +ℤ pos 1) given cells sized amounts k.other_in (omega (arith, ints)) (carries_of whos slots given lower lower_tree lacks lower_roots (label_at whos l.other) k.parent ((below (label_at whos l.other)).0 k.parent k.is_parent k.lower)) refl in
+        let (z, r) = move_exists (length demands) (length capacities) whos slots cells (suc begun.here.level) lower lacks l.other (pos 1) given (set given l.other (amount_at given l.other +ℤ pos 1)) (label_at whos l.other) sized (branches_of whos slots given lower lower_tree) (omega (arith, ints)) begun (omega arith) in
         let (root, lt) = (below r.root).1 r.node r.is_node in
         let (li, lacking) = root_lacks r.root r.node root r.is_root in
         record {

@@ -5,6 +5,7 @@ pub mod Lefts
 pub mod Linking
 pub mod Searches
 pub mod Queues
+pub mod Ways
 pub mod Augments
 pub mod Fills
 pub mod Cutting

@@ -1,12 +1,12 @@
 -- What one cell after another gets in a first filling: within what its demand lacks and what its slot has left.
-use Rattle.std.proofs.Common.{◌≡◌, ℕ, ◌<◌, ◌^◌, List, length, set, ℤ, pos, Option, Some, ◌+ℤ◌, ◌-ℤ◌, ◌≤ℤ◌, sym, ap, ◌∙◌, arith, refl, replicate, ⊎_elim, length-set, get_or-set_other, get_or-set_same}
+use Rattle.std.proofs.Common.{◌≡◌, ℕ, ◌<◌, ◌^◌, List, length, set, ℤ, pos, Option, ◌+ℤ◌, ◌-ℤ◌, ◌≤ℤ◌, sym, ap, ◌∙◌, arith, refl, replicate, ⊎_elim, length-set, get_or-set_other, get_or-set_same}
 use Rattle.std.specs.List.{All}
 use Rattle.std.proofs.lemmas.Int.{ints}
 use Rattle.std.proofs.lemmas.Bool.{cases_eq}
 use Rattle.std.proofs.lemmas.List.Elements.{All-get_or}
 use Rattle.sfm_assign.specs.Splits.{sum_at, amount_at, IsAmount, IsCapacity}
 use Rattle.sfm_assign.specs.Cells.{label_at, AreCells, IsPart}
-use Rattle.sfm_assign.specs.Search.{AreLeft, IsSearch, IsRaised}
+use Rattle.sfm_assign.specs.Search.{AreLeft, IsRaised}
 use Rattle.sfm_assign.specs.declared.nodes.Node.{Node}
 use Rattle.sfm_assign.specs.Pours.{IsPouring, IsPoured}
 use Rattle.sfm_assign.proofs.Amounts.{AreAmounts, sum_at-set, sum_at-holds, only-same, only-other}
@@ -110,15 +110,14 @@ pouring_nothing demands capacities whos slots amounts bounded = record {
   rooms_are = record { places = refl; each = λ k lt. let z = sum_at-nothing k (length whos) slots in omega (arith, ints, z) };
 }
 
--- an amount moves that a search shows, and is taken off what its two ends have left
+-- an amount moves along links, and is taken off what its two ends have left
 pub moved_pouring : (demands capacities : List ℤ) (whos slots : List ℕ) (before y lacks rooms : List ℤ) (nodes : List (Option Node)) (last : ℕ) (a : ℤ) (z : List ℤ) → AreCells (length demands) (length capacities) whos slots
-    → IsPouring demands capacities whos slots before y lacks rooms → IsSearch whos slots y lacks rooms nodes (Some last) → pos 1 ≤ℤ a → a ≤ℤ amount_at rooms (label_at slots last) → (r : IsRaised whos slots nodes last a y z)
+    → IsPouring demands capacities whos slots before y lacks rooms → length nodes ≡ length lacks → last < length whos → pos 1 ≤ℤ a → a ≤ℤ amount_at rooms (label_at slots last) → (r : IsRaised whos slots nodes lacks last a y z)
     → IsPouring demands capacities whos slots before z (set lacks r.root (amount_at lacks r.root -ℤ a)) (set rooms (label_at slots last) (amount_at rooms (label_at slots last) -ℤ a))
-moved_pouring demands capacities whos slots before y lacks rooms nodes last a z cells inv s some fits r =
-    let end = s.ended in
+moved_pouring demands capacities whos slots before y lacks rooms nodes last a z cells inv places lt some fits r =
     record {
-      part = raised_part demands capacities whos slots y lacks rooms nodes last a z cells inv.part inv.lacks_are inv.rooms_are s.places s.roots end.cell some fits r;
-      more = λ i. let f = inv.more i in let g = raised_more demands capacities whos slots y lacks rooms nodes last a z cells inv.part inv.lacks_are inv.rooms_are s.places s.roots end.cell some fits r i in omega (arith, ints, f, g);
-      lacks_are = left_taken demands whos y z lacks r.root a (root_in demands capacities whos slots y lacks rooms nodes last a z cells inv.part inv.lacks_are inv.rooms_are s.places s.roots end.cell some fits r) inv.lacks_are r.got;
-      rooms_are = left_taken capacities slots y z rooms (label_at slots last) a (cells.exist last end.cell) inv.rooms_are r.loads;
+      part = raised_part demands capacities whos slots y lacks rooms nodes last a z cells inv.part inv.lacks_are inv.rooms_are places lt some fits r;
+      more = λ i. let f = inv.more i in let g = raised_more demands capacities whos slots y lacks rooms nodes last a z cells inv.part inv.lacks_are inv.rooms_are places lt some fits r i in omega (arith, ints, f, g);
+      lacks_are = left_taken demands whos y z lacks r.root a (root_in demands capacities whos slots y lacks rooms nodes last a z cells inv.part inv.lacks_are inv.rooms_are places lt some fits r) inv.lacks_are r.got;
+      rooms_are = left_taken capacities slots y z rooms (label_at slots last) a (cells.exist last lt) inv.rooms_are r.loads;
     }

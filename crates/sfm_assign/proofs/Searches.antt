@@ -99,10 +99,21 @@ mark_skip whos slots rooms nodes marks e skipped inv = record {
 -- what is told of a node stays true when nodes are added
 pub node_kept : (whos slots : List ℕ) (y : List ℤ) (before after : List (Option Node)) (i : ℕ) (b : Node) → ((j : ℕ) (d : Node) → node_at before j ≡ Some d → node_at after j ≡ Some d)
     → IsNode whos slots y before i b → IsNode whos slots y after i b
-node_kept whos slots y before after i b kept h = record {
-  some = h.some;
-  linked = λ l is. let k = h.linked l is in record { own_in = k.own_in; other_in = k.other_in; mine = k.mine; shared = k.shared; has = k.has; parent = k.parent; is_parent = kept (label_at whos l.other) k.parent k.is_parent; lower = k.lower; within = k.within };
-}
+node_kept whos slots y before after i b kept h l is =
+    let k = (h l is).branch in
+    record {
+      branch = record { own_in = k.own_in; other_in = k.other_in; mine = k.mine; shared = k.shared; parent = k.parent; is_parent = kept (label_at whos l.other) k.parent k.is_parent; lower = k.lower };
+      has = (h l is).has;
+    }
+
+-- the node of a demand that has something on a slot that one of a lower level could use
+pub linked_node : (whos slots : List ℕ) (y : List ℤ) (nodes : List (Option Node)) (level : ℕ) (link : Link) → link.own < length whos → link.other < length whos → label_at slots link.own ≡ label_at slots link.other
+    → (parent : Node) → node_at nodes (label_at whos link.other) ≡ Some parent → parent.level < level → pos 1 ≤ℤ amount_at y link.own → IsNode whos slots y nodes (label_at whos link.own) (record { level = level; link = Some link })
+linked_node whos slots y nodes level link own other shared parent is lower has l eq =
+    rw (← same_link link l eq) (record { branch = record { own_in = own; other_in = other; mine = refl; shared = shared; parent = parent; is_parent = is; lower = lower }; has = has })
+  where
+    same_link : (a b : Link) → Some a ≡ Some b → a ≡ b
+    same_link a b h = cc
 
 pub missing-set : (nodes : List (Option Node)) (i : ℕ) (b : Node) → i < length nodes → node_at nodes i ≡ None → suc (missing (set nodes i (Some b))) ≡ missing nodes
 missing-set [] i b lt none = absurd (omega arith)
@@ -227,11 +238,11 @@ pub search_begun : (whos slots : List ℕ) (y lacks rooms : List ℤ) (nodes : L
 search_begun whos slots y lacks rooms nodes marks lm unmarked h = record {
   places = h.places;
   mark_places = lm;
-  tree = λ i b is. let r = root i b is in record { some = (let a = r.0 in let c = r.3 in omega (arith, ints, a, c)); linked = λ l k. absurd (linkless (sym (r.2) ∙ k)) };
-  roots = λ i b is none. let r = root i b is in let a = r.0 in omega (arith, ints, a);
+  tree = λ i b is l k. absurd (linkless (sym ((root i b is).1) ∙ k));
+  roots = λ i b is none. (root i b is).2;
   begins = λ i less. found (amount_at lacks i) (node_at nodes i) less (h.each i (in_range i less));
   sound = λ s e is. absurd (markless (sym (unmarked s) ∙ is));
-  levels = λ i b is. let r = root i b is in let l = r.1 in omega (arith, l);
+  levels = λ i b is. let r = root i b is in let l = r.0 in omega (arith, l);
   counted = (let m = missing_few nodes in let p = h.places in omega (arith, m, p));
   stuck = λ t. absurd (false≢true (sym t));
 } where
@@ -241,7 +252,7 @@ search_begun whos slots y lacks rooms nodes marks lm unmarked h = record {
   markless : {e : ℕ} → None ≡ Some e → ⊥
   markless h = cc
 
-  at : (lack : ℤ) (o : Option Node) (b : Node) → o ≡ Some b → IsRoot lack o → (b.flow ≡ lack) × (b.level ≡ 0) × (b.link ≡ None) × (pos 1 ≤ℤ lack)
+  at : (lack : ℤ) (o : Option Node) (b : Node) → o ≡ Some b → IsRoot lack o → (b.level ≡ 0) × (b.link ≡ None) × (pos 1 ≤ℤ lack)
   at lack None b is r = cc
   at lack (Some d) b is r = let q : d ≡ b = cc in rw (← q) r
 
@@ -250,7 +261,7 @@ search_begun whos slots y lacks rooms nodes marks lm unmarked h = record {
   below (o ∷ nodes) zero b is = omega arith
   below (o ∷ nodes) (suc i) b is = let r = below nodes i b is in omega (arith, r)
 
-  root : (i : ℕ) (b : Node) → node_at nodes i ≡ Some b → (b.flow ≡ amount_at lacks i) × (b.level ≡ 0) × (b.link ≡ None) × (pos 1 ≤ℤ amount_at lacks i)
+  root : (i : ℕ) (b : Node) → node_at nodes i ≡ Some b → (b.level ≡ 0) × (b.link ≡ None) × (pos 1 ≤ℤ amount_at lacks i)
   root i b is = let l = below nodes i b is in let p = h.places in at (amount_at lacks i) (node_at nodes i) b is (h.each i (omega (arith, l, p)))
 
   in_range : (i : ℕ) → pos 0 <ℤ amount_at lacks i → i < length lacks

@@ -1,13 +1,13 @@
 -- Amounts that are raised step by step, with what they leave: what holds whatever the demands and capacities are that they are within.
-use Rattle.std.proofs.Common.{◌≡◌, ℕ, zero, suc, ◌<◌, ◌^◌, List, [], ◌∷◌, length, set, ℤ, pos, ◌+ℤ◌, ◌-ℤ◌, ◌≤ℤ◌, Option, Some, arith}
+use Rattle.std.proofs.Common.{◌≡◌, ℕ, zero, suc, ◌<◌, ◌^◌, List, [], ◌∷◌, length, set, ℤ, pos, ◌+ℤ◌, ◌-ℤ◌, ◌≤ℤ◌, ◌<ℤ◌, Option, sym, ◌∙◌, arith}
 use Rattle.std.proofs.lemmas.Int.{ints}
 use Rattle.sfm_spec.specs.Bounds.{total_of}
 use Rattle.sfm_assign.specs.Splits.{sum_at, amount_at}
 use Rattle.sfm_assign.specs.Cells.{label_at, AreCells}
-use Rattle.sfm_assign.specs.Search.{IsSearch, IsRaised}
+use Rattle.sfm_assign.specs.Search.{IsRaised}
 use Rattle.sfm_assign.specs.Pours.{IsPouring, IsPoured, AreWithin, AreRaised}
 use Rattle.sfm_assign.specs.declared.nodes.Node.{Node}
-use Rattle.sfm_assign.proofs.Fills.{left_low, left_small}
+use Rattle.sfm_assign.proofs.Fills.{left_low, left_small, below_nodes}
 use Rattle.sfm_assign.proofs.Pours.{pouring_begun, poured_more, moved_pouring}
 
 module _ (whos slots : List ℕ) (y lacks rooms : List ℤ) where
@@ -21,10 +21,10 @@ module _ (whos slots : List ℕ) (y lacks rooms : List ℤ) where
   pub raised_poured : (e : ℕ) (most : ℤ) (z lacks' rooms' : List ℤ) → e < length whos → IsPoured whos slots e most y lacks rooms z lacks' rooms' → AreRaised whos slots y lacks rooms z lacks' rooms'
   raised_poured e most z lacks' rooms' lt h = record { each = λ demands capacities before cells inv. poured_more demands capacities whos slots before y lacks rooms e most z lacks' rooms' cells lt inv h }
 
-  -- an amount moves that a search shows
-  pub raised_moved : (nodes : List (Option Node)) (last : ℕ) (a : ℤ) (z : List ℤ) → IsSearch whos slots y lacks rooms nodes (Some last) → pos 1 ≤ℤ a → a ≤ℤ amount_at rooms (label_at slots last) → (r : IsRaised whos slots nodes last a y z)
+  -- an amount moves along links
+  pub raised_moved : (nodes : List (Option Node)) (last : ℕ) (a : ℤ) (z : List ℤ) → length nodes ≡ length lacks → last < length whos → pos 1 ≤ℤ a → a ≤ℤ amount_at rooms (label_at slots last) → (r : IsRaised whos slots nodes lacks last a y z)
       → AreRaised whos slots y lacks rooms z (set lacks r.root (amount_at lacks r.root -ℤ a)) (set rooms (label_at slots last) (amount_at rooms (label_at slots last) -ℤ a))
-  raised_moved nodes last a z s some fits r = record { each = λ demands capacities before cells inv. moved_pouring demands capacities whos slots before y lacks rooms nodes last a z cells inv s some fits r }
+  raised_moved nodes last a z places lt some fits r = record { each = λ demands capacities before cells inv. moved_pouring demands capacities whos slots before y lacks rooms nodes last a z cells inv places lt some fits r }
 
   module _ (w : AreWithin whos slots y lacks rooms) where
     pub within_pouring : IsPouring w.demands w.capacities whos slots y y lacks rooms
@@ -34,6 +34,12 @@ module _ (whos slots : List ℕ) (y lacks rooms : List ℤ) where
     still_within z lacks' rooms' r =
         let p = r.each w.demands w.capacities y w.cells within_pouring in
         record { demands = w.demands; capacities = w.capacities; cells = w.cells; bounded = w.bounded; part = p.part; lacks_are = p.lacks_are; rooms_are = p.rooms_are }
+
+    pub raised_lacks : (z lacks' rooms' : List ℤ) → AreRaised whos slots y lacks rooms z lacks' rooms' → length lacks' ≡ length lacks
+    raised_lacks z lacks' rooms' r = (r.each w.demands w.capacities y w.cells within_pouring).lacks_are.places ∙ sym w.lacks_are.places
+
+    pub raised_rooms : (z lacks' rooms' : List ℤ) → AreRaised whos slots y lacks rooms z lacks' rooms' → length rooms' ≡ length rooms
+    raised_rooms z lacks' rooms' r = (r.each w.demands w.capacities y w.cells within_pouring).rooms_are.places ∙ sym w.rooms_are.places
 
     pub within_cells : AreCells (length lacks) (length rooms) whos slots
     within_cells = rw (w.lacks_are.places, w.rooms_are.places) w.cells
@@ -47,6 +53,13 @@ module _ (whos slots : List ℕ) (y lacks rooms : List ℤ) where
     pub within_small : (s : ℕ) → s < length rooms → (sum_at s slots y +ℤ amount_at rooms s) ≤ℤ pos (10 ^ 24)
     within_small = left_small w.capacities slots y rooms w.bounded w.rooms_are
 
+    pub within_load : (e : ℕ) → e < length whos → sum_at (label_at slots e) slots y ≤ℤ pos (10 ^ 24)
+    within_load e lt =
+        let ls = within_cells.exist e lt in
+        let low = within_rooms (label_at slots e) ls in
+        let small = within_small (label_at slots e) ls in
+        omega (arith, ints, low, small)
+
 -- ---- what falls at each turn
 
 pub low_total : (x : List ℤ) → ((i : ℕ) → i < length x → pos 0 ≤ℤ amount_at x i) → pos 0 ≤ℤ total_of x
@@ -57,3 +70,11 @@ pub total-taken : (x : List ℤ) (i : ℕ) (a : ℤ) → i < length x → total_
 total-taken [] i a lt = absurd (omega arith)
 total-taken (b ∷ x) zero a lt = omega (arith, ints)
 total-taken (b ∷ x) (suc i) a lt = let r = total-taken x i a (omega arith) in omega (arith, ints, r)
+
+-- an amount that moves along links is taken off what demands lack
+pub moved : (whos slots : List ℕ) (y lacks rooms : List ℤ) (nodes : List (Option Node)) (last : ℕ) (a : ℤ) (z lacks' rooms' : List ℤ) → length nodes ≡ length lacks → last < length whos → pos 1 ≤ℤ a → a ≤ℤ amount_at rooms (label_at slots last) → (r : IsRaised whos slots nodes lacks last a y z)
+    → lacks' ≡ set lacks r.root (amount_at lacks r.root -ℤ a) → rooms' ≡ set rooms (label_at slots last) (amount_at rooms (label_at slots last) -ℤ a) → AreRaised whos slots y lacks rooms z lacks' rooms' × (total_of lacks' <ℤ total_of lacks)
+moved whos slots y lacks rooms nodes last a z lacks' rooms' places lt some fits r ql qr =
+    let below = below_nodes nodes r.root r.node r.is_node in
+    let taken = total-taken lacks r.root a (omega (arith, below, places)) in
+    (rw (ql, qr) (raised_moved whos slots y lacks rooms nodes last a z places lt some fits r), rw ql (omega (arith, ints, taken, some)))

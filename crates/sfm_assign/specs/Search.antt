@@ -20,35 +20,39 @@ node_at nodes i = slice_index_or nodes i None
 abbrev pub IsFound : List (Option Node) → ℕ → Type 0
 IsFound nodes i = (b : Node) × (node_at nodes i ≡ Some b)
 
--- the demand i has the amount of its node on a slot that a demand of a lower level could use
-pub record IsLinked (whos slots : List ℕ) (y : List ℤ) (nodes : List (Option Node)) (i : ℕ) (b : Node) (l : Link) : Type 0 where
+-- the link of a demand, whatever the amounts are: a cell of its own and one of a demand of a lower level, on one slot
+pub record IsBranch (whos slots : List ℕ) (nodes : List (Option Node)) (i : ℕ) (b : Node) (l : Link) : Type 0 where
   pub own_in : l.own < length whos
   pub other_in : l.other < length whos
   pub mine : label_at whos l.own ≡ i
   pub shared : label_at slots l.own ≡ label_at slots l.other
-  pub has : b.flow ≤ℤ amount_at y l.own
   pub parent : Node
   pub is_parent : node_at nodes (label_at whos l.other) ≡ Some parent
   pub lower : parent.level < b.level
-  pub within : b.flow ≤ℤ parent.flow
 
--- what a node tells: an amount of at least 1 that its link, where it has one, can move
-pub record IsNode (whos slots : List ℕ) (y : List ℤ) (nodes : List (Option Node)) (i : ℕ) (b : Node) : Type 0 where
-  pub some : pos 1 ≤ℤ b.flow
-  pub linked : (l : Link) → b.link ≡ Some l → IsLinked whos slots y nodes i b l
+abbrev pub AreBranches : List ℕ → List ℕ → List (Option Node) → Type 0
+AreBranches whos slots nodes = (i : ℕ) (b : Node) (l : Link) → node_at nodes i ≡ Some b → b.link ≡ Some l → IsBranch whos slots nodes i b l
+
+-- a link of a demand that has something on the own cell of it
+pub record IsLinked (whos slots : List ℕ) (y : List ℤ) (nodes : List (Option Node)) (i : ℕ) (b : Node) (l : Link) : Type 0 where
+  pub branch : IsBranch whos slots nodes i b l
+  pub has : pos 1 ≤ℤ amount_at y l.own
+
+-- what a node tells: by its link, where it has one, an amount of at least 1 can move
+abbrev pub IsNode : List ℕ → List ℕ → List ℤ → List (Option Node) → ℕ → Node → Type 0
+IsNode whos slots y nodes i b = (l : Link) → b.link ≡ Some l → IsLinked whos slots y nodes i b l
 
 abbrev pub AreNodes : List ℕ → List ℕ → List ℤ → List (Option Node) → Type 0
 AreNodes whos slots y nodes = (i : ℕ) (b : Node) → node_at nodes i ≡ Some b → IsNode whos slots y nodes i b
 
--- a demand was found, and an amount can move from it
-pub record HasFlow (nodes : List (Option Node)) (i : ℕ) (a : ℤ) : Type 0 where
-  pub node : Node
-  pub is_node : node_at nodes i ≡ Some node
-  pub enough : a ≤ℤ node.flow
+-- an amount can move from a demand that was found, along the links, to one that lacks as much
+pub data Carries (whos : List ℕ) (nodes : List (Option Node)) (y lacks : List ℤ) (a : ℤ) : ℕ → Type 0 where
+  at_root : (i : ℕ) (b : Node) → node_at nodes i ≡ Some b → b.link ≡ None → a ≤ℤ amount_at lacks i → Carries whos nodes y lacks a i
+  by_link : (i : ℕ) (b : Node) (l : Link) → node_at nodes i ≡ Some b → b.link ≡ Some l → a ≤ℤ amount_at y l.own → Carries whos nodes y lacks a (label_at whos l.other) → Carries whos nodes y lacks a i
 
--- a node without a link has at most what its demand lacks
+-- the demand of a node without a link lacks something
 abbrev pub AreRoots : List ℤ → List (Option Node) → Type 0
-AreRoots lacks nodes = (i : ℕ) (b : Node) → node_at nodes i ≡ Some b → b.link ≡ None → b.flow ≤ℤ amount_at lacks i
+AreRoots lacks nodes = (i : ℕ) (b : Node) → node_at nodes i ≡ Some b → b.link ≡ None → pos 1 ≤ℤ amount_at lacks i
 
 -- each demand that lacks something was found
 abbrev pub HasRoots : List ℤ → List (Option Node) → Type 0
@@ -57,7 +61,7 @@ HasRoots lacks nodes = (i : ℕ) → pos 0 <ℤ amount_at lacks i → IsFound no
 -- the node of a demand that lacks an amount
 abbrev pub IsRoot : ℤ → Option Node → Type 0
 IsRoot lack None = lack ≤ℤ pos 0
-IsRoot lack (Some b) = (b.flow ≡ lack) × (b.level ≡ 0) × (b.link ≡ None) × (pos 1 ≤ℤ lack)
+IsRoot lack (Some b) = (b.level ≡ 0) × (b.link ≡ None) × (pos 1 ≤ℤ lack)
 
 pub record AreRootsOf (lacks : List ℤ) (nodes : List (Option Node)) : Type 0 where
   pub places : length nodes ≡ length lacks
@@ -103,6 +107,12 @@ pub record IsEnd (whos slots : List ℕ) (rooms : List ℤ) (nodes : List (Optio
   pub found : IsFound nodes (label_at whos last)
   pub room : pos 1 ≤ℤ amount_at rooms (label_at slots last)
 
+-- an amount can move from the slot of a cell: what a search has found still holds, the demand of the cell was found, and the slot has room
+pub record IsOpen (whos slots : List ℕ) (y lacks rooms : List ℤ) (nodes : List (Option Node)) (e : ℕ) : Type 0 where
+  pub tree : AreNodes whos slots y nodes
+  pub roots : AreRoots lacks nodes
+  pub end : IsEnd whos slots rooms nodes e
+
 -- no slot of a found demand has room, and no other demand has anything on one of these slots
 pub record IsStuck (whos slots : List ℕ) (y rooms : List ℤ) (nodes : List (Option Node)) : Type 0 where
   pub full : (e : ℕ) → e < length whos → IsFound nodes (label_at whos e) → amount_at rooms (label_at slots e) ≤ℤ pos 0
@@ -123,13 +133,13 @@ pub record IsSearch (whos slots : List ℕ) (y lacks rooms : List ℤ) (nodes : 
 abbrev pub only : ℕ → ℕ → ℤ → ℤ
 only j k a = if nat_eq j k then a else pos 0
 
--- the demand of a node without a link gets a more, on the slot of the last cell in the end; all else has as much as before
-pub record IsRaised (whos slots : List ℕ) (nodes : List (Option Node)) (last : ℕ) (a : ℤ) (y z : List ℤ) : Type 0 where
+-- the demand of a node without a link gets a more, within what it lacks, on the slot of the last cell in the end; all else has as much as before
+pub record IsRaised (whos slots : List ℕ) (nodes : List (Option Node)) (lacks : List ℤ) (last : ℕ) (a : ℤ) (y z : List ℤ) : Type 0 where
   pub root : ℕ
   pub node : Node
   pub is_node : node_at nodes root ≡ Some node
   pub is_root : node.link ≡ None
-  pub enough : a ≤ℤ node.flow
+  pub enough : a ≤ℤ amount_at lacks root
   pub cells : length z ≡ length y
   pub amounts : (e : ℕ) → pos 0 ≤ℤ amount_at z e
   pub got : (i : ℕ) → sum_at i whos z ≡ (sum_at i whos y +ℤ only root i a)

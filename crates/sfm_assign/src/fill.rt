@@ -1,18 +1,20 @@
-// Amounts raised as far as they go: first poured over the cells, and then a search for room, and the amount that it shows
-// moved, until no slot has room for a demand that lacks something. What demands lack and what slots have left is kept from one
+// Amounts raised as far as they go: first poured over the cells, and then a search for room, and what can move from the slot
+// that it comes to, until no slot has room for a demand that lacks something. The links that a search finds serve for all cells
+// of that slot: what can move along them is seen anew for each. What demands lack and what slots have left is kept from one
 // search to the next, and so is the memory of the searches.
-ghost use Rattle.std.specs.Prelude.{◌≡◌, ℕ, ◌<◌, ◌^◌, length, ℤ, pos, ◌+ℤ◌, ◌-ℤ◌, ◌≤ℤ◌, slice_set, IfOk, None};
+ghost use Rattle.std.specs.Prelude.{◌≡◌, ◌<◌, length, ◌≤ℤ◌, ◌<ℤ◌, IfOk, None};
 ghost use Rattle.std.specs.List.{All};
-ghost use Rattle.sfm_assign.specs.Splits.{sum_at, amount_at, IsCapacity};
-ghost use Rattle.sfm_assign.specs.Cells.{label_at, AreCells, IsPart};
-ghost use Rattle.sfm_assign.specs.Search.{AreLeft, AreNodes, AreRoots, IsEnd, IsSearch, IsRaised, GetsMore, IsFilled};
+ghost use Rattle.sfm_spec.specs.Bounds.{total_of};
+ghost use Rattle.sfm_assign.specs.Splits.{IsCapacity};
+ghost use Rattle.sfm_assign.specs.Cells.{AreCells, IsPart};
+ghost use Rattle.sfm_assign.specs.Search.{AreLeft, AreBranches, IsOpen, IsSearch, GetsMore, IsFilled};
 ghost use Rattle.sfm_assign.specs.Pours.{AreWithin, AreRaised};
 
-use crate::augment::augment;
+use crate::augment::{augment, flow_along, take};
 use crate::cells::Cells;
 use crate::left::{Lefts, lefts_of};
-use crate::nodes::{flow_of, found_set};
-use crate::pour::{pour, take};
+use crate::nodes::{found_set, is_found};
+use crate::pour::pour;
 use crate::search::Search;
 use sfm_base::{Memory, Set};
 use std::alloc::Global;
@@ -24,27 +26,43 @@ pub(crate) struct Filled {
     pub left: Lefts,
 }
 
-/// Moves as much as can move, from a slot with room to a demand that lacks something, and takes it off what these have left.
-fn raise(cells: &Cells, search: &Search, last: usize, left: &mut Lefts, y: &mut [i128])
-    requires cells { AreCells (length left.old.lacks.items) (length left.old.rooms.items) cells.now.whos.items cells.now.slots.items }
+/// Moves as much as can move now, from the slot of a cell to a demand that lacks something, and takes it off what these have
+/// left; where the demand of the cell was found.
+fn raise(cells: &Cells, search: &Search, e: usize, left: &mut Lefts, y: &mut [i128])
+    requires within { AreWithin cells.now.whos.items cells.now.slots.items y.old left.old.lacks.items left.old.rooms.items }
     requires places { length search.now.nodes.items ≡ length left.old.lacks.items }
-    requires same { length y.old ≡ length cells.now.whos.items }
-    requires amounts { (e : ℕ) → pos 0 ≤ℤ amount_at y.old e }
-    requires tree { AreNodes cells.now.whos.items cells.now.slots.items y.old search.now.nodes.items }
-    requires roots { AreRoots left.old.lacks.items search.now.nodes.items }
-    requires end { IsEnd cells.now.whos.items cells.now.slots.items left.old.rooms.items search.now.nodes.items last }
-    requires rooms { (s : ℕ) → s < length left.old.rooms.items → pos 0 ≤ℤ amount_at left.old.rooms.items s }
-    requires small { (s : ℕ) → s < length left.old.rooms.items → (sum_at s cells.now.slots.items y.old +ℤ amount_at left.old.rooms.items s) ≤ℤ pos (10 ^ 24) }
-    ensures { (a : ℤ) × (pos 1 ≤ℤ a) × (a ≤ℤ amount_at left.old.rooms.items (label_at cells.now.slots.items last)) × (r : IsRaised cells.now.whos.items cells.now.slots.items search.now.nodes.items last a y.old y.new)
-        × (left.new.lacks.items ≡ slice_set left.old.lacks.items r.root (amount_at left.old.lacks.items r.root -ℤ a))
-        × (left.new.rooms.items ≡ slice_set left.old.rooms.items (label_at cells.now.slots.items last) (amount_at left.old.rooms.items (label_at cells.now.slots.items last) -ℤ a)) }
+    requires tree { AreBranches cells.now.whos.items cells.now.slots.items search.now.nodes.items }
+    requires cell { e < length cells.now.whos.items }
+    ensures raised { AreRaised cells.now.whos.items cells.now.slots.items y.old left.old.lacks.items left.old.rooms.items y.new left.new.lacks.items left.new.rooms.items }
+    ensures falls { total_of left.new.lacks.items ≤ℤ total_of left.old.lacks.items }
+    ensures more { IsOpen cells.now.whos.items cells.now.slots.items y.old left.old.lacks.items left.old.rooms.items search.now.nodes.items e → total_of left.new.lacks.items <ℤ total_of left.old.lacks.items }
 {
-    let s = cells.slots[last];
-    let flow = flow_of(&search.nodes, cells.whos[last]);
-    let a = flow.min(left.rooms[s]);
-    let root = augment(cells, &search.nodes, last, a, y);
-    take(&mut left.lacks, root, a);
+    let i = cells.whos[e];
+    let s = cells.slots[e];
+    if !is_found(&search.nodes, i) {
+        return;
+    }
+    let a = flow_along(cells, &search.nodes, y, &left.lacks, i, left.rooms[s]);
+    if a <= 0 {
+        return;
+    }
+    augment(cells, &search.nodes, e, a, &mut left.lacks, y);
     take(&mut left.rooms, s, a);
+}
+
+/// Moves as much as can move from a slot along the links that a search found, to whichever demands have a cell there.
+fn drain(cells: &Cells, search: &Search, s: usize, left: &mut Lefts, y: &mut [i128])
+    requires within { AreWithin cells.now.whos.items cells.now.slots.items y.old left.old.lacks.items left.old.rooms.items }
+    requires places { length search.now.nodes.items ≡ length left.old.lacks.items }
+    requires tree { AreBranches cells.now.whos.items cells.now.slots.items search.now.nodes.items }
+    ensures raised { AreRaised cells.now.whos.items cells.now.slots.items y.old left.old.lacks.items left.old.rooms.items y.new left.new.lacks.items left.new.rooms.items }
+    ensures falls { total_of left.new.lacks.items ≤ℤ total_of left.old.lacks.items }
+{
+    let mut at = cells.by_slot.head(s);
+    while let Some(e) = at {
+        raise(cells, search, e, left, y);
+        at = cells.by_slot.nexts[e];
+    }
 }
 
 /// Raises amounts until no demand that lacks something can get more, and keeps what is left with them; tells the last search.
@@ -61,6 +79,7 @@ pub(crate) fn fill_from(
     let mut search = Search::new(alloc, left.lacks.len(), left.rooms.len())?;
     while let Some(last) = search.run(cells, y, &left.lacks, &left.rooms)? {
         raise(cells, &search, last, left, y);
+        drain(cells, &search, cells.slots[last], left, y);
     }
     Ok(search)
 }

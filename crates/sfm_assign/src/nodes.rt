@@ -1,4 +1,4 @@
-// The demands that a search finds, each with how much can move from it to one that lacks something.
+// The demands that a search finds, each with the link by which something can move from it to one that lacks something.
 ghost use Rattle.std.specs.Prelude.{◌≡◌, ℕ, ◌<◌, length, IfOk, MatchBool, Some, None};
 ghost use Rattle.sfm_assign.specs.Search.{node_at, IsFound, IsFoundSet};
 
@@ -12,12 +12,10 @@ pub(crate) struct Link {
     pub other: usize,
 }
 
-/// A found demand: how much can move from it to one that lacks something, and by which link; None where it lacks something
-/// itself. Its level is above that of the demand that it was found from: as many demands were found before it, or 0 without a
-/// link.
+/// A found demand: by which link something can move from it to one that lacks something; None where it lacks something itself.
+/// Its level is above that of the demand that it was found from: as many demands were found before it, or 0 without a link.
 #[derive(Clone, Copy)]
 pub(crate) struct Node {
-    pub flow: i128,
     pub level: usize,
     pub link: Option<Link>,
 }
@@ -28,17 +26,6 @@ pub(crate) fn is_found(nodes: &[Option<Node>], i: usize) -> bool
     ensures { MatchBool result (IsFound nodes.now i) (node_at nodes.now i ≡ None) }
 {
     nodes[i].is_some()
-}
-
-/// How much can move from a demand that was found.
-pub(crate) fn flow_of(nodes: &[Option<Node>], i: usize) -> i128
-    requires { i < length nodes.now }
-    ensures { (b : Node) → node_at nodes.now i ≡ Some b → result ≡ b.flow }
-{
-    match nodes[i] {
-        Some(node) => node.flow,
-        None => 0,
-    }
 }
 
 /// The link of a demand, if it was found by one.

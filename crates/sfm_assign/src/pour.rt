@@ -8,21 +8,11 @@ ghost use Rattle.sfm_assign.specs.Cells.{AreCells, IsPart};
 ghost use Rattle.sfm_assign.specs.Search.{AreLeft};
 ghost use Rattle.sfm_assign.specs.Pours.{IsPouring, IsPoured, AreWithin, AreRaised};
 
-use crate::augment::put;
+use crate::augment::{put, take};
 use crate::cells::Cells;
 use crate::left::Lefts;
 use sfm_base::Memory;
 use std::alloc::Global;
-
-/// Takes an amount from one that is no less.
-pub(crate) fn take(from: &mut [i128], k: usize, a: i128)
-    requires place { k < length from.old }
-    requires low { pos 0 ≤ℤ a }
-    requires enough { a ≤ℤ amount_at from.old k }
-    ensures { from.new ≡ slice_set from.old k (amount_at from.old k -ℤ a) }
-{
-    from[k] -= a;
-}
 
 /// Puts on a cell as much of an amount as its demand lacks and its slot has room for.
 fn pour_on(

@@ -6,10 +6,10 @@ ghost use Rattle.std.specs.Prelude.{◌≡◌, ℕ, ◌+◌, ◌<◌, ◌≤◌,
 ghost use Rattle.sfm_spec.specs.Sets.{Has};
 ghost use Rattle.sfm_assign.specs.Splits.{amount_at};
 ghost use Rattle.sfm_assign.specs.Cells.{label_at, AreCells};
-ghost use Rattle.sfm_assign.specs.Search.{node_at, IsFound, IsNode, IsRoot, AreRootsOf, IsMarkOf, AreQueued, IsProgress, IsFurther, IsEnd, IsSearch};
+ghost use Rattle.sfm_assign.specs.Search.{node_at, IsFound, AreRootsOf, AreQueued, IsProgress, IsFurther, IsEnd, IsSearch};
 
 use crate::cells::Cells;
-use crate::nodes::{Link, Node, flow_of, is_found};
+use crate::nodes::{Link, Node, is_found};
 use sfm_base::Memory;
 use std::alloc::Global;
 
@@ -20,38 +20,6 @@ pub(crate) struct Search {
     pub nodes: Vec<Option<Node>>,
     pub marks: Vec<bool>,
     pub queue: Vec<usize>,
-}
-
-/// The node of a demand that lacks something.
-fn root(lack: i128) -> Node
-    requires { pos 1 ≤ℤ lack }
-    ensures { IsRoot lack (Some result) }
-{
-    Node {
-        flow: lack,
-        level: 0,
-        link: None,
-    }
-}
-
-/// The node of the demand of a cell that has something on a slot, where the slot is marked with another cell.
-fn linked(cells: &Cells, y: &[i128], level: usize, nodes: &[Option<Node>], link: Link) -> Node
-    requires cells { (m : ℕ) × AreCells (length nodes.now) m cells.now.whos.items cells.now.slots.items }
-    requires same { length y.now ≡ length cells.now.whos.items }
-    requires own { link.own < length cells.now.whos.items }
-    requires has { pos 1 ≤ℤ amount_at y.now link.own }
-    requires some { (i : ℕ) (b : Node) → node_at nodes.now i ≡ Some b → pos 1 ≤ℤ b.flow }
-    requires mark { IsMarkOf cells.now.whos.items cells.now.slots.items nodes.now level (label_at cells.now.slots.items link.own) link.other }
-    ensures level { result.level ≡ level }
-    ensures link { result.link ≡ Some link }
-    ensures node { IsNode cells.now.whos.items cells.now.slots.items y.now nodes.now (label_at cells.now.whos.items link.own) result }
-{
-    let flow = flow_of(nodes, cells.whos[link.other]);
-    Node {
-        flow: flow.min(y[link.own]),
-        level,
-        link: Some(link),
-    }
 }
 
 impl Search {
@@ -94,7 +62,10 @@ impl Search {
         for i in 0..lacks.len() {
             if lacks[i] > 0 {
                 self.queue.push(i)?;
-                self.nodes[i] = Some(root(lacks[i]));
+                self.nodes[i] = Some(Node {
+                    level: 0,
+                    link: None,
+                });
             }
         }
         Ok(())
@@ -157,14 +128,17 @@ impl Search {
         ensures further { OnOk result (IsFurther self.old.nodes.items self.old.queue.items self.new.nodes.items self.new.queue.items) }
         ensures seen { OnOk result (node_at self.new.nodes.items (label_at cells.now.whos.items link.own) ≡ None → amount_at y.now link.own ≤ℤ pos 0) }
     {
+        if y[link.own] <= 0 {
+            return Ok(());
+        }
         let i = cells.whos[link.own];
         if is_found(&self.nodes, i) {
             return Ok(());
         }
-        if y[link.own] <= 0 {
-            return Ok(());
-        }
-        let node = linked(cells, y, self.queue.len(), &self.nodes, link);
+        let node = Node {
+            level: self.queue.len(),
+            link: Some(link),
+        };
         self.queue.push(i)?;
         self.nodes[i] = Some(node);
         Ok(())

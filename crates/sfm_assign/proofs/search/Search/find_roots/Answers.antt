@@ -1,5 +1,5 @@
-use Rattle.std.proofs.Common.{refl, length, pos, ◌≤ℤ◌, ◌<◌, get_or, arith, rules, FitsSigned}
-use Rattle.std.proofs.lemmas.Int.{ints, to_z-of_z}
+use Rattle.std.proofs.Common.{refl, None, length, pos, ◌≤ℤ◌, ◌<◌, get_or, arith, rules, FitsSigned}
+use Rattle.std.proofs.lemmas.Int.{ints}
 use mir.Syntax.{w128}
 use Rattle.sfm_assign.proofs.Queues.{roots_none, roots_skip, roots_put}
 use Rattle.sfm_assign.proofs.search.Search.find_roots.Goals as goal
@@ -19,7 +19,10 @@ loop-i-preserved c =
     let lt : i < length lacks = omega arith in
     let f : FitsSigned w128 (get_or lacks i (pos 0)) = search rules in
     elim c.if-lacks-i-gt0.branch [
-      | then-lacks-i-gt0+in_ok-push w ↦ rw (w.self-is, w.in_ok-push.ensures.items) (record { marks = inv.marks; roots = roots_put lacks at.nodes.items at.queue.items i w.root.result lt (simp to_z-of_z at w.root.ensures) inv.roots })
+      | then-lacks-i-gt0+in_ok-push w ↦ (
+          let t = w.if-lacks-i-gt0.true in
+          let some : pos 1 ≤ℤ get_or lacks i (pos 0) = omega (arith, ints, t) in
+          rw (w.self-is, w.in_ok-push.ensures.items) (record { marks = inv.marks; roots = roots_put lacks at.nodes.items at.queue.items i (record { level = 0; link = None }) lt (refl, refl, some) inv.roots }))
       | else-lacks-i-gt0 w ↦ (
           let t = w.if-lacks-i-gt0.false in
           let full : get_or lacks i (pos 0) ≤ℤ pos 0 = omega (arith, ints, t) in
