@@ -1,14 +1,14 @@
 -- What is told of a demand by what it leads to: who can lend to it, or that it can get one more. A search with a tree, which no
 -- code makes here, ends in the same: two least sets that no step leaves are one.
-use Rattle.std.proofs.Common.{◌≡◌, ◌↔◌, ◌<◌, ◌≤ℤ◌, refl, ℕ, Bool, true, false, List, length, get_or, set, replicate, ℤ, pos, ◌+ℤ◌, Option, Some, None, sym, ap, ◌∙◌, arith, ⊎_elim, length-set, get_or-set_same}
+use Rattle.std.proofs.Common.{◌≡◌, ◌↔◌, ◌<◌, refl, ℕ, Bool, List, length, set, replicate, ℤ, pos, ◌+ℤ◌, Option, Some, None, sym, ◌∙◌, arith, ⊎_elim, length-set, get_or-set_same}
 use Rattle.std.proofs.lemmas.Int.{ints, by_lt_z}
 use Rattle.std.proofs.lemmas.Bool.{cases_eq, false≢true}
 use Rattle.std.proofs.lemmas.List.{length-replicate}
 use Rattle.sfm_spec.specs.Sets.{Has}
 use Rattle.sfm_spec.proofs.Sets.{has_or_not}
-use Rattle.sfm_assign.specs.Splits.{sum_at, amount_at, CanBeMet, Demands, AreDemands}
+use Rattle.sfm_assign.specs.Splits.{amount_at, CanBeMet, Demands, AreDemands}
 use Rattle.sfm_assign.specs.Cells.{joined, owners, label_at, AreCells, IsPart, IsMet, IsClosed}
-use Rattle.sfm_assign.specs.Search.{AreLeft, only, node_at, IsFound, IsStuck, IsFoundSet, HasRoots, IsSearch, IsFilled, one_more, AreLenders}
+use Rattle.sfm_assign.specs.Search.{AreLeft, only, node_at, IsFound, IsStuck, IsFoundSet, HasRoots, IsFilled, one_more, AreLenders}
 use Rattle.sfm_assign.specs.Spread.{IsStepClosed, AreLedTo, LeadsToRoom, IsWritten}
 use Rattle.sfm_assign.specs.Lenders.{IsLender}
 use Rattle.sfm_assign.specs.declared.spread.Answer.{Answer}

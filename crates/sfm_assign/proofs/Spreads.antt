@@ -1,7 +1,7 @@
 -- A search for what a demand leads to: what stays true as it goes on, and what it has found once all that were found are settled.
-use Rattle.std.proofs.Common.{◌≡◌, ◌⊎◌, inl, inr, ⊎_elim, ℕ, zero, suc, ◌+◌, ◌<◌, ◌≤◌, Bool, true, false, cond, List, [], ◌∷◌, ◌++◌, length, get_or, set, replicate, ℤ, pos, ◌≤ℤ◌, Option, Some, None, MatchOption, refl, sym, ap, ◌∙◌, arith, length-set, get_or-set_same, get_or-set_other}
+use Rattle.std.proofs.Common.{◌≡◌, ◌⊎◌, inl, inr, ⊎_elim, ℕ, ◌+◌, ◌<◌, ◌≤◌, Bool, true, false, cond, List, [], ◌∷◌, ◌++◌, length, get_or, set, ℤ, pos, ◌≤ℤ◌, Option, Some, None, MatchOption, refl, sym, ap, ◌∙◌, arith, length-set, get_or-set_same, get_or-set_other}
 use Rattle.std.proofs.lemmas.Int.{ints}
-use Rattle.std.proofs.lemmas.Bool.{cases_eq, cases_lt, false≢true}
+use Rattle.std.proofs.lemmas.Bool.{cases_eq, cases_lt}
 use Rattle.std.proofs.lemmas.List.{length_push, get_or_push, get_or_append_left, length-replicate}
 use Rattle.std.proofs.lemmas.List.Sums.{sum_by-set}
 use Rattle.sfm_spec.specs.Sets.{Has, IsWithin, empty_set, union, size}
@@ -11,7 +11,7 @@ use Rattle.sfm_spec.proofs.Sizes.{size_within, size_below_length}
 use Rattle.sfm_spec.proofs.Sums.{length-union}
 use Rattle.sfm_assign.specs.Splits.{amount_at}
 use Rattle.sfm_assign.specs.Cells.{label_at}
-use Rattle.sfm_assign.specs.Spread.{IsStepClosed, LeadsTo, AreLedTo, LeadsToRoom, IsAnswer, AreAnswers, answer_at, IsSettled, Waits, IsSpread, IsJoin, IsWider}
+use Rattle.sfm_assign.specs.Spread.{LeadsTo, AreLedTo, LeadsToRoom, IsAnswer, AreAnswers, answer_at, IsSettled, Waits, IsSpread, IsJoin, IsWider}
 use Rattle.sfm_assign.specs.declared.spread.Answer.{Answer}
 use Rattle.sfm_assign.specs.declared.spread.Answer.TheVariants.{Room, Full}
 

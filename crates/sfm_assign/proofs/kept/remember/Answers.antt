@@ -1,4 +1,4 @@
-use Rattle.std.proofs.Common.{◌≡◌, ◌<◌, Bool, true, false, length, get_or, Option, Some, None, is_some, refl, sym, ◌∙◌, arith, get_or-set_same}
+use Rattle.std.proofs.Common.{◌≡◌, ◌<◌, true, length, Option, Some, None, is_some, refl, sym, ◌∙◌, arith, get_or-set_same}
 use Rattle.std.proofs.lemmas.Bool.{false≢true}
 use Rattle.std.proofs.lemmas.List.{get_or_read}
 use Rattle.sfm_assign.specs.declared.spread.Answer.{Answer}

@@ -1,4 +1,4 @@
-use Rattle.std.proofs.Common.{length, sym, ◌∙◌, length-set}
+use Rattle.std.proofs.Common.{sym, ◌∙◌, length-set}
 use Rattle.sfm_assign.proofs.kept.write_answer.Goals as goal
 
 pub write_others-requires-clause-same : goal.write_others-requires-clause-same

@@ -1,4 +1,4 @@
-use Rattle.std.proofs.Common.{◌≢◌, ℕ, pos, ◌<ℤ◌, ◌∙◌, length, arith, length-set}
+use Rattle.std.proofs.Common.{◌≢◌, ℕ, pos, ◌<ℤ◌, ◌∙◌, arith, length-set}
 use Rattle.sfm_assign.specs.Splits.{amount_at}
 use Rattle.sfm_assign.proofs.Loans.{told_more}
 use Rattle.sfm_assign.proofs.kept.write_asking.Goals as goal

@@ -1,4 +1,4 @@
-use Rattle.std.proofs.Common.{◌<◌, ◌≤◌, length, sym, arith, ◌∙◌}
+use Rattle.std.proofs.Common.{◌≤◌, length, arith, ◌∙◌}
 use Rattle.sfm_assign.proofs.Spreads.{spread_begun, spread_done, spread_few}
 use Rattle.sfm_assign.proofs.spread.find_answer.Goals as goal
 

@@ -1,4 +1,4 @@
-use Rattle.std.proofs.Common.{◌≡◌, ℕ, ◌<◌, Bool, false, List, length, get_or, set, Option, Some, None, ℤ, pos, ◌≤ℤ◌, ap, sym, rules, FitsSigned, arith, ◌∙◌}
+use Rattle.std.proofs.Common.{◌≡◌, ◌<◌, Bool, false, List, length, get_or, Some, None, ℤ, pos, ◌≤ℤ◌, ap, sym, rules, FitsSigned, arith, ◌∙◌}
 use Rattle.std.proofs.lemmas.Int.{ints}
 use Rattle.std.proofs.lemmas.List.{get_or_read}
 use mir.Syntax.{w128}

@@ -1,4 +1,4 @@
-use Rattle.std.proofs.Common.{◌<◌, ℕ, length, get_or, ℤ, pos, ◌≤ℤ◌, true, false, ap, sym, rules, FitsSigned, arith, ◌∙◌}
+use Rattle.std.proofs.Common.{◌<◌, ℕ, length, get_or, pos, ◌≤ℤ◌, false, ap, sym, rules, FitsSigned, arith, ◌∙◌}
 use Rattle.std.proofs.lemmas.Int.{ints}
 use Rattle.std.proofs.lemmas.List.{get_or_read}
 use mir.Syntax.{w128}
