@@ -27,7 +27,7 @@ PARTS = [
     ("Terms as they are kept", [
         "sfm_concave.", "sfm_laminar.", "sfm_matroid.", "sfm_simple.", "sfm_kind."]),
     ("Instance texts", [
-        "sfm_spec.Names", "sfm_base.NumberText", "sfm_text.Lines", "sfm_text.Matched", "sfm_text.Parts", "sfm_text.LineTerms",
+        "sfm_spec.Names", "sfm_base.NumberText", "sfm_text.Lines", "sfm_text.Matched", "sfm_text.Parts",
         "sfm_text.LabelTerms", "sfm_text.RankLines", "sfm_text.Words", "sfm_text.TermLines", "sfm_text.Reading",
         "sfm_text.GoodText", "sfm_text.Reasons", "sfm_text."]),
     ("Answer texts", ["sfm_cert.", "sfm_check."]),

@@ -34,3 +34,4 @@ pub mod Adding
 pub mod Following
 pub mod Alike
 pub mod Standing
+pub mod RankTerms

@@ -1,9 +1,10 @@
 -- Two terms that one line stands for have the same places and the same size.
-use Rattle.std.proofs.Common.{◌≡◌, ◌≢◌, ℕ, ◌<◌, ◌≤◌, ◌^◌, inl, inr, List, [], ◌∷◌, ◌++◌, length, get_or, AllPairs, ℤ, pos, refl, sym, ap, ◌∙◌, arith}
+use Rattle.std.proofs.Common.{◌≡◌, ◌≢◌, ℕ, ◌<◌, ◌≤◌, ◌^◌, inl, inr, List, [], ◌∷◌, ◌++◌, length, map, get_or, AllPairs, ℤ, pos, refl, sym, ap, ◌∙◌, arith}
 use Rattle.std.proofs.lemmas.Int.{ints, by_lt_z}
 use Rattle.std.proofs.lemmas.Bool.{cases_lt}
 use Rattle.std.proofs.lemmas.Option.{slice_get_within}
 use Rattle.std.proofs.lemmas.List.{length_push}
+use Rattle.std.specs.Prelude.{slice_index_or}
 use mathlib.Core.Logic.{⊎_elim}
 use Rattle.sfm_spec.specs.Sets.{IsPlaced, magnitudes}
 use Rattle.sfm_kind.specs.Kinds.{kind_places, kind_size}
@@ -12,11 +13,23 @@ use Rattle.sfm_concave.specs.ConcaveLaws as concaves
 use Rattle.sfm_kind.specs.Instance.{support_of}
 use Rattle.sfm_kind.specs.Limits.{AreInBounds, total_size_of}
 use Rattle.sfm_kind.specs.declared.kind.Kind.{Kind}
+use Rattle.sfm_kind.specs.declared.kind.Kind.TheVariants.{Weight, Cut, Need, Cover, Table, Concave, Uniform, Laminar, Graphic, Transversal}
+use Rattle.sfm_simple.specs.declared.weight.Weight as weights
+use Rattle.sfm_simple.specs.declared.cut.Cut as cuts
+use Rattle.sfm_simple.specs.declared.need.Need as needs
+use Rattle.sfm_simple.specs.declared.cover.Cover as covers
+use Rattle.sfm_simple.specs.declared.table.Table as tables
+use Rattle.sfm_concave.specs.declared.concave.Concave as concave_terms
+use Rattle.sfm_concave.specs.declared.uniform.Uniform as uniforms
+use Rattle.sfm_laminar.specs.declared.laminar.Laminar as laminars
+use Rattle.sfm_matroid.specs.declared.graphic.Graphic as graphics
+use Rattle.sfm_matroid.specs.declared.transversal.Transversal as transversals
 use Rattle.sfm_kind.proofs.Bounds.{kind-elements, total_size-push, support-push, in_bounds-push}
 use Rattle.sfm_text.specs.Matched.{Matched}
 use Rattle.sfm_text.specs.Parts.{LineParts}
-use Rattle.sfm_text.specs.Words.{lowest_of, IsTermOf}
-use Rattle.sfm_text.specs.RankLines.{IsRankTerm}
+use Rattle.sfm_text.specs.Words.{lowest_of, IsMadeOf, IsTermOf}
+use Rattle.sfm_text.specs.RankLines.{groups_of, IsRankMadeOf}
+use Rattle.sfm_text.specs.LabelTerms.{edge_between, numbers_of}
 use Rattle.sfm_text.specs.declared.word.RankKind.{RankKind}
 use Rattle.sfm_text.specs.declared.word.RankKind.TheVariants.{NoRank, UniformRank, LaminarRank, GraphicRank, TransversalRank}
 use Rattle.sfm_text.specs.TermLines.{IsNumberFrom, IsElement, StandsFor}
@@ -35,42 +48,106 @@ same_first a b e = cc
 same_both : (a b c d : ℤ) → a ∷ b ∷ [] ≡ c ∷ d ∷ [] → (a ≡ c) × (b ≡ d)
 same_both a b c d e = let first : a ≡ c = cc in let second : b ≡ d = cc in (first, second)
 
--- the terms of ranks
-rank-places : (rank : RankKind) (parts : LineParts) (values : List ℤ) (places : List ℕ) (term : Kind) → IsRankTerm rank parts values places term → kind_places term ≡ places
-rank-places NoRank parts values places term h = absurd h
-rank-places UniformRank parts values places term h = ap kind_places h.kind ∙ h.same_places
-rank-places LaminarRank parts values places term h = ap kind_places h.kind ∙ h.same_places
-rank-places GraphicRank parts values places term h = ap kind_places h.kind ∙ h.same_places
-rank-places TransversalRank parts values places term h = ap kind_places h.kind ∙ h.same_places
+-- a term that is made of a line is of the kind of its word
+weight-made : (parts : LineParts) (values : List ℤ) (term : Kind) → IsMadeOf WeightWord parts values term → (weight : weights.Weight) × (term ≡ Weight weight) × (weight.weights ≡ values)
+weight-made parts values (Weight weight) h = (weight, refl, h)
+weight-made parts values _ h = absurd h
 
-rank-size : (rank : RankKind) (parts : LineParts) (values : List ℤ) (places : List ℕ) (s t : Kind) → IsRankTerm rank parts values places s → IsRankTerm rank parts values places t → kind_size s ≡ kind_size t
-rank-size NoRank parts values places s t h g = absurd h
-rank-size UniformRank parts values places s t h g =
-    let (number, cap) = same_both h.uniform.w h.uniform.cap g.uniform.w g.uniform.cap (h.same_numbers ∙ sym g.same_numbers) in
-    ap kind_size h.kind ∙ (rw (number, cap, h.same_places, g.same_places) refl ∙ sym (ap kind_size g.kind))
-rank-size LaminarRank parts values places s t h g = ap kind_size h.kind ∙ (rw (h.same_places, g.same_places, h.same_number, g.same_number, h.same_groups, g.same_groups) refl ∙ sym (ap kind_size g.kind))
-rank-size GraphicRank parts values places s t h g = ap kind_size h.kind ∙ (rw (h.same_number, g.same_number, h.same_ends, g.same_ends) refl ∙ sym (ap kind_size g.kind))
-rank-size TransversalRank parts values places s t h g = ap kind_size h.kind ∙ (rw (h.same_number, g.same_number, h.same_entries, g.same_entries) refl ∙ sym (ap kind_size g.kind))
+cut-made : (parts : LineParts) (values : List ℤ) (term : Kind) → IsMadeOf CutWord parts values term → (cut : cuts.Cut) × (term ≡ Cut cut) × (cut.c ∷ [] ≡ values)
+cut-made parts values (Cut cut) h = (cut, refl, h)
+cut-made parts values _ h = absurd h
 
--- the places of a term are those that it was made of
-pub term-places : (word : TermWord) (parts : LineParts) (values : List ℤ) (places : List ℕ) (term : Kind) → IsTermOf word parts values places term → kind_places term ≡ places
-term-places WeightWord parts values places term h = ap kind_places h.kind ∙ h.same_places
-term-places CutWord parts values places term h = ap kind_places h.kind ∙ h.same_places
-term-places NeedWord parts values places term h = ap kind_places h.kind ∙ h.same_places
-term-places CoverWord parts values places term h = ap kind_places h.kind ∙ h.same_places
-term-places TableWord parts values places term h = ap kind_places h.kind ∙ h.same_places
-term-places ConcaveWord parts values places term h = ap kind_places h.kind ∙ h.same_places
-term-places RankWord parts values places term h = rank-places parts.rank parts values places term h
+need-made : (parts : LineParts) (values : List ℤ) (term : Kind) → IsMadeOf NeedWord parts values term → (need : needs.Need) × (term ≡ Need need)
+need-made parts values (Need need) h = (need, refl)
+need-made parts values _ h = absurd h
 
--- and its size is one number
+cover-made : (parts : LineParts) (values : List ℤ) (term : Kind) → IsMadeOf CoverWord parts values term → (cover : covers.Cover) × (term ≡ Cover cover) × (cover.w ∷ [] ≡ values)
+cover-made parts values (Cover cover) h = (cover, refl, h)
+cover-made parts values _ h = absurd h
+
+table-made : (parts : LineParts) (values : List ℤ) (term : Kind) → IsMadeOf TableWord parts values term → (table : tables.Table) × (term ≡ Table table) × (table.values ≡ values)
+table-made parts values (Table table) h = (table, refl, h)
+table-made parts values _ h = absurd h
+
+concave-made : (parts : LineParts) (values : List ℤ) (term : Kind) → IsMadeOf ConcaveWord parts values term → (concave : concave_terms.Concave) × (term ≡ Concave concave) × (concave.values ≡ values)
+concave-made parts values (Concave concave) h = (concave, refl, h)
+concave-made parts values _ h = absurd h
+
+uniform-made : (parts : LineParts) (values : List ℤ) (term : Kind) → IsRankMadeOf UniformRank parts values term → (uniform : uniforms.Uniform) × (term ≡ Uniform uniform) × (uniform.w ∷ uniform.cap ∷ [] ≡ values)
+uniform-made parts values (Uniform uniform) h = (uniform, refl, h)
+uniform-made parts values _ h = absurd h
+
+laminar-made : (parts : LineParts) (values : List ℤ) (term : Kind) → IsRankMadeOf LaminarRank parts values term
+    → (laminar : laminars.Laminar) × (term ≡ Laminar laminar) × (laminar.w ≡ slice_index_or values 0 (pos 0)) × (laminar.groups ≡ groups_of values parts)
+laminar-made parts values (Laminar laminar) h = (laminar, refl, h.0, h.1)
+laminar-made parts values _ h = absurd h
+
+graphic-made : (parts : LineParts) (values : List ℤ) (term : Kind) → IsRankMadeOf GraphicRank parts values term
+    → (graphic : graphics.Graphic) × (term ≡ Graphic graphic) × (graphic.w ≡ slice_index_or values 0 (pos 0)) × (graphic.ends ≡ map edge_between (numbers_of parts.labels))
+graphic-made parts values (Graphic graphic) h = (graphic, refl, h.0, h.1)
+graphic-made parts values _ h = absurd h
+
+transversal-made : (parts : LineParts) (values : List ℤ) (term : Kind) → IsRankMadeOf TransversalRank parts values term
+    → (transversal : transversals.Transversal) × (term ≡ Transversal transversal) × (transversal.w ≡ slice_index_or values 0 (pos 0)) × (transversal.entries ≡ numbers_of parts.labels)
+transversal-made parts values (Transversal transversal) h = (transversal, refl, h.0, h.1)
+transversal-made parts values _ h = absurd h
+
+rank-size : (rank : RankKind) (parts : LineParts) (values : List ℤ) (places : List ℕ) (s t : Kind) → kind_places s ≡ places → kind_places t ≡ places
+    → IsRankMadeOf rank parts values s → IsRankMadeOf rank parts values t → kind_size s ≡ kind_size t
+rank-size NoRank parts values places s t p q h g = absurd h
+rank-size UniformRank parts values places s t p q h g =
+    let (a, is, same) = uniform-made parts values s h in
+    let (b, is', same') = uniform-made parts values t g in
+    let (number, cap) = same_both a.w a.cap b.w b.cap (same ∙ sym same') in
+    let a-places : a.places ≡ places = sym (ap kind_places is) ∙ p in
+    let b-places : b.places ≡ places = sym (ap kind_places is') ∙ q in
+    ap kind_size is ∙ (rw (number, cap, a-places, b-places) refl ∙ sym (ap kind_size is'))
+rank-size LaminarRank parts values places s t p q h g =
+    let (a, is, number, groups) = laminar-made parts values s h in
+    let (b, is', number', groups') = laminar-made parts values t g in
+    let a-places : a.places ≡ places = sym (ap kind_places is) ∙ p in
+    let b-places : b.places ≡ places = sym (ap kind_places is') ∙ q in
+    ap kind_size is ∙ (rw (a-places, b-places, number, number', groups, groups') refl ∙ sym (ap kind_size is'))
+rank-size GraphicRank parts values places s t p q h g =
+    let (a, is, number, ends) = graphic-made parts values s h in
+    let (b, is', number', ends') = graphic-made parts values t g in
+    ap kind_size is ∙ (rw (number, number', ends, ends') refl ∙ sym (ap kind_size is'))
+rank-size TransversalRank parts values places s t p q h g =
+    let (a, is, number, entries) = transversal-made parts values s h in
+    let (b, is', number', entries') = transversal-made parts values t g in
+    ap kind_size is ∙ (rw (number, number', entries, entries') refl ∙ sym (ap kind_size is'))
+
+-- the size of a term is one number
+made-size : (word : TermWord) (parts : LineParts) (values : List ℤ) (places : List ℕ) (s t : Kind) → kind_places s ≡ places → kind_places t ≡ places
+    → IsMadeOf word parts values s → IsMadeOf word parts values t → kind_size s ≡ kind_size t
+made-size WeightWord parts values places s t p q h g =
+    let (a, is, same) = weight-made parts values s h in
+    let (b, is', same') = weight-made parts values t g in
+    ap kind_size is ∙ (ap magnitudes (same ∙ sym same') ∙ sym (ap kind_size is'))
+made-size CutWord parts values places s t p q h g =
+    let (a, is, same) = cut-made parts values s h in
+    let (b, is', same') = cut-made parts values t g in
+    ap kind_size is ∙ (same_first a.c b.c (same ∙ sym same') ∙ sym (ap kind_size is'))
+made-size NeedWord parts values places s t p q h g =
+    let (a, is) = need-made parts values s h in
+    let (b, is') = need-made parts values t g in
+    ap kind_size is ∙ sym (ap kind_size is')
+made-size CoverWord parts values places s t p q h g =
+    let (a, is, same) = cover-made parts values s h in
+    let (b, is', same') = cover-made parts values t g in
+    ap kind_size is ∙ (same_first a.w b.w (same ∙ sym same') ∙ sym (ap kind_size is'))
+made-size TableWord parts values places s t p q h g =
+    let (a, is, same) = table-made parts values s h in
+    let (b, is', same') = table-made parts values t g in
+    ap kind_size is ∙ (ap greatest (same ∙ sym same') ∙ sym (ap kind_size is'))
+made-size ConcaveWord parts values places s t p q h g =
+    let (a, is, same) = concave-made parts values s h in
+    let (b, is', same') = concave-made parts values t g in
+    ap kind_size is ∙ (ap concaves.greatest (same ∙ sym same') ∙ sym (ap kind_size is'))
+made-size RankWord parts values places s t p q h g = rank-size parts.rank parts values places s t p q h g
+
 pub term-size : (word : TermWord) (parts : LineParts) (values : List ℤ) (places : List ℕ) (s t : Kind) → IsTermOf word parts values places s → IsTermOf word parts values places t → kind_size s ≡ kind_size t
-term-size WeightWord parts values places s t h g = ap kind_size h.kind ∙ (ap magnitudes (h.same_weights ∙ sym g.same_weights) ∙ sym (ap kind_size g.kind))
-term-size CutWord parts values places s t h g = ap kind_size h.kind ∙ (same_first h.cut.c g.cut.c (h.same_number ∙ sym g.same_number) ∙ sym (ap kind_size g.kind))
-term-size NeedWord parts values places s t h g = ap kind_size h.kind ∙ sym (ap kind_size g.kind)
-term-size CoverWord parts values places s t h g = ap kind_size h.kind ∙ (same_first h.cover.w g.cover.w (h.same_number ∙ sym g.same_number) ∙ sym (ap kind_size g.kind))
-term-size TableWord parts values places s t h g = ap kind_size h.kind ∙ (ap greatest (h.same_values ∙ sym g.same_values) ∙ sym (ap kind_size g.kind))
-term-size ConcaveWord parts values places s t h g = ap kind_size h.kind ∙ (ap concaves.greatest (h.same_values ∙ sym g.same_values) ∙ sym (ap kind_size g.kind))
-term-size RankWord parts values places s t h g = rank-size parts.rank parts values places s t h g
+term-size word parts values places s t h g = made-size word parts values places s t h.same_places g.same_places h.made g.made
 
 -- the two terms agree in all that a total counts
 pub record AgreeInTotal (s t : Kind) : Type 0 where
@@ -85,7 +162,7 @@ stands-same names tokens s t distinct h g =
     let same_places : places ≡ h.places = Matched-same (IsElement names) (place-same names distinct) h.parts.elements places h.places elements h.elements in
     let made' : IsTermOf h.word h.parts h.values h.places t = rw (same_values, same_places) at made in
     record {
-      places = term-places h.word h.parts h.values h.places s h.made ∙ sym (term-places h.word h.parts h.values h.places t made');
+      places = (h.made).same_places ∙ sym made'.same_places;
       size = term-size h.word h.parts h.values h.places s t h.made made';
     }
 
@@ -99,7 +176,7 @@ much-same terms s t same (inr (inr (meant, means, many))) =
 -- the places of the term are places of the ground
 pub stands-placed : (names tokens : List (List ℕ)) (term : Kind) → StandsFor names tokens term → IsPlaced (length names) (kind_places term)
 stands-placed names tokens term h =
-    let is : kind_places term ≡ h.places = term-places h.word h.parts h.values h.places term h.made in
+    let is : kind_places term ≡ h.places = (h.made).same_places in
     let n = length-Matched (IsElement names) h.parts.elements h.places h.elements in
     record {
       below = λ j lt.

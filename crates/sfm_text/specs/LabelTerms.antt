@@ -1,13 +1,8 @@
--- The labels of a line by their numbers, and the terms that they make: a graphic rank, whose labels are the ends of edges,
--- and a transversal rank, whose labels are the slots of entries.
-use Rattle.std.specs.Prelude.{◌≡◌, ℕ, not, List, [], ◌∷◌, ◌++◌, map, slice_index_or, bytes_eq, ℤ, pos}
+-- The labels of a line by their numbers: those of a graphic rank are the ends of edges, those of a transversal rank the
+-- slots of entries.
+use Rattle.std.specs.Prelude.{ℕ, not, List, [], ◌∷◌, ◌++◌, map, slice_index_or, bytes_eq}
 use Rattle.std.specs.List.{filter, position_or_len}
 use Rattle.sfm_spec.specs.Kinds.{Edge}
-use Rattle.sfm_kind.specs.declared.kind.Kind.{Kind}
-use Rattle.sfm_kind.specs.declared.kind.Kind.TheVariants.{Graphic, Transversal}
-use Rattle.sfm_matroid.specs.declared.graphic.Graphic as graphics
-use Rattle.sfm_matroid.specs.declared.transversal.Transversal as transversals
-use Rattle.sfm_text.specs.Parts.{LineParts}
 
 -- each text once, where it stands first
 abbrev pub distinct_of : List (List ℕ) → List (List ℕ)
@@ -30,19 +25,3 @@ numbers_of lists = map (λ labels. map (place_among (distinct_of (joined lists))
 -- the edge from the first of two vertices to the second
 abbrev pub edge_between : List ℕ → Edge
 edge_between ends = record { tail = slice_index_or ends 0 0; head = slice_index_or ends 1 0 }
-
--- the first number for each edge of a greatest forest
-pub record IsGraphicTerm (parts : LineParts) (values : List ℤ) (places : List ℕ) (term : Kind) : Type 0 where
-  pub graphic : graphics.Graphic
-  pub kind : term ≡ Graphic graphic
-  pub same_places : graphic.places ≡ places
-  pub same_number : graphic.w ≡ slice_index_or values 0 (pos 0)
-  pub same_ends : graphic.ends ≡ map edge_between (numbers_of parts.labels)
-
--- the first number for each element of a greatest part with slots of their own
-pub record IsTransversalTerm (parts : LineParts) (values : List ℤ) (places : List ℕ) (term : Kind) : Type 0 where
-  pub transversal : transversals.Transversal
-  pub kind : term ≡ Transversal transversal
-  pub same_places : transversal.places ≡ places
-  pub same_number : transversal.w ≡ slice_index_or values 0 (pos 0)
-  pub same_entries : transversal.entries ≡ numbers_of parts.labels

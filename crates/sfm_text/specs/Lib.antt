@@ -2,7 +2,6 @@ pub mod Lines
 pub mod Cursor
 pub mod Matched
 pub mod Parts
-pub mod LineTerms
 pub mod LabelTerms
 pub mod RankLines
 pub mod Words

@@ -1,17 +1,15 @@
 -- What a rank line says: the groups that it tells, the law that these may break, and the term that it stands for. Each rank
 -- brings one case to each definition by ranks.
-use Rattle.std.specs.Prelude.{◌≡◌, ℕ, ◌+◌, Bool, List, [], length, map, slice_index_or, bytes_eq, ℤ, pos}
+use Rattle.std.specs.Prelude.{◌≡◌, ℕ, ◌+◌, Bool, List, [], ◌∷◌, length, map, slice_index_or, bytes_eq, ℤ, pos}
 use Rattle.std.specs.List.{filter, list_any, range_with_len}
 use Rattle.sfm_spec.specs.Kinds.{Group}
 use Rattle.sfm_kind.specs.declared.kind.Kind.{Kind}
-use Rattle.sfm_kind.specs.declared.kind.Kind.TheVariants.{Laminar}
-use Rattle.sfm_laminar.specs.declared.laminar.Laminar as laminars
+use Rattle.sfm_kind.specs.declared.kind.Kind.TheVariants.{Uniform, Laminar, Graphic, Transversal}
 use Rattle.sfm_laminar.specs.Crossing.{IsCrossing}
 use Rattle.sfm_text.specs.declared.word.RankKind.{RankKind}
-use Rattle.sfm_text.specs.declared.word.RankKind.TheVariants.{NoRank, UniformRank, LaminarRank, GraphicRank, TransversalRank}
+use Rattle.sfm_text.specs.declared.word.RankKind.TheVariants.{UniformRank, LaminarRank, GraphicRank, TransversalRank}
 use Rattle.sfm_text.specs.Parts.{LineParts}
-use Rattle.sfm_text.specs.LineTerms.{IsUniformTerm}
-use Rattle.sfm_text.specs.LabelTerms.{IsGraphicTerm, IsTransversalTerm}
+use Rattle.sfm_text.specs.LabelTerms.{edge_between, numbers_of}
 
 -- whether a text is one of the texts
 abbrev pub is_among : List (List ℕ) → List ℕ → Bool
@@ -29,14 +27,6 @@ group_of values parts i = record { cap = slice_index_or values (i + 1) (pos 0); 
 abbrev pub groups_of : List ℤ → LineParts → List Group
 groups_of values parts = map (λ i. group_of values parts i) (range_with_len 0 (length parts.groups))
 
--- the first number for each element that is independent under the groups
-pub record IsLaminarTerm (parts : LineParts) (values : List ℤ) (places : List ℕ) (term : Kind) : Type 0 where
-  pub laminar : laminars.Laminar
-  pub kind : term ≡ Laminar laminar
-  pub same_places : laminar.places ≡ places
-  pub same_number : laminar.w ≡ slice_index_or values 0 (pos 0)
-  pub same_groups : laminar.groups ≡ groups_of values parts
-
 -- two groups share an element, and neither holds the other
 abbrev pub HasCrossing : List Group → Type 0
 HasCrossing groups = (i : ℕ) × (j : ℕ) × IsCrossing groups i j
@@ -46,10 +36,11 @@ abbrev pub BreaksRankLaw : RankKind → LineParts → List ℤ → Type 0
 BreaksRankLaw LaminarRank parts values = HasCrossing (groups_of values parts)
 BreaksRankLaw _ parts values = ⊥
 
--- the term that the line of a rank stands for
-abbrev pub IsRankTerm : RankKind → LineParts → List ℤ → List ℕ → Kind → Type 0
-IsRankTerm NoRank parts values places term = ⊥
-IsRankTerm UniformRank parts values places term = IsUniformTerm values places term
-IsRankTerm LaminarRank parts values places term = IsLaminarTerm parts values places term
-IsRankTerm GraphicRank parts values places term = IsGraphicTerm parts values places term
-IsRankTerm TransversalRank parts values places term = IsTransversalTerm parts values places term
+-- the term is of that rank, and has the numbers, groups and labels of the line: the first number is what each independent
+-- element counts, and the second of a uniform rank its cap
+abbrev pub IsRankMadeOf : RankKind → LineParts → List ℤ → Kind → Type 0
+IsRankMadeOf UniformRank parts values (Uniform term) = term.w ∷ term.cap ∷ [] ≡ values
+IsRankMadeOf LaminarRank parts values (Laminar term) = (term.w ≡ slice_index_or values 0 (pos 0)) × (term.groups ≡ groups_of values parts)
+IsRankMadeOf GraphicRank parts values (Graphic term) = (term.w ≡ slice_index_or values 0 (pos 0)) × (term.ends ≡ map edge_between (numbers_of parts.labels))
+IsRankMadeOf TransversalRank parts values (Transversal term) = (term.w ≡ slice_index_or values 0 (pos 0)) × (term.entries ≡ numbers_of parts.labels)
+IsRankMadeOf _ parts values term = ⊥

@@ -1,14 +1,16 @@
 -- The words that a term line begins with. Each brings one case to each definition here: the word itself, the least
 -- number of its line, the parts that its line has, the law that its numbers may break, and the term that it stands for.
-use Rattle.std.specs.Prelude.{ℕ, ◌^◌, List, length, codes, ℤ, pos, neg_ℤ}
+use Rattle.std.specs.Prelude.{◌≡◌, ℕ, ◌^◌, List, [], ◌∷◌, length, codes, ℤ, pos, neg_ℤ}
 use Rattle.sfm_spec.specs.Terms.{IsSubmodular}
 use Rattle.sfm_spec.specs.Kinds.{table_value}
+use Rattle.sfm_concave.specs.ConcaveLaws.{RisesAt}
+use Rattle.sfm_kind.specs.Meanings.{kind_places}
 use Rattle.sfm_kind.specs.declared.kind.Kind.{Kind}
+use Rattle.sfm_kind.specs.declared.kind.Kind.TheVariants.{Weight, Cut, Need, Cover, Table, Concave}
 use Rattle.sfm_text.specs.declared.word.TermWord.{TermWord}
 use Rattle.sfm_text.specs.declared.word.TermWord.TheVariants.{WeightWord, CutWord, NeedWord, CoverWord, TableWord, ConcaveWord, RankWord}
 use Rattle.sfm_text.specs.Parts.{LineParts, IsWeightLine, IsCutLine, IsNeedLine, IsCoverLine, IsTableLine, IsConcaveLine, IsRankLine}
-use Rattle.sfm_text.specs.LineTerms.{IsWeightTerm, IsCutTerm, IsNeedTerm, IsCoverTerm, IsTableTerm, IsConcaveTerm, HasRise}
-use Rattle.sfm_text.specs.RankLines.{BreaksRankLaw, IsRankTerm}
+use Rattle.sfm_text.specs.RankLines.{BreaksRankLaw, IsRankMadeOf}
 
 -- the word
 abbrev pub word_text : TermWord → List ℕ
@@ -37,6 +39,10 @@ HasParts TableWord tokens parts = IsTableLine tokens parts
 HasParts ConcaveWord tokens parts = IsConcaveLine tokens parts
 HasParts RankWord tokens parts = IsRankLine tokens parts
 
+-- some increment is above the one before, the value of none being 0
+abbrev pub HasRise : List ℤ → Type 0
+HasRise values = (at : ℕ) × RisesAt values at
+
 -- the numbers break the law of the word's kind: those of a table, where they are the values of no submodular function
 -- with 0 at the empty part; those of a concave line, where some increment is above the one before; and groups, where two
 -- cross
@@ -46,12 +52,18 @@ BreaksLaw ConcaveWord parts values = HasRise values
 BreaksLaw RankWord parts values = BreaksRankLaw parts.rank parts values
 BreaksLaw _ parts values = ⊥
 
+-- the term is of the word's kind, and has the numbers of the line: as its weights or values in their order, or as its one
+abbrev pub IsMadeOf : TermWord → LineParts → List ℤ → Kind → Type 0
+IsMadeOf WeightWord parts values (Weight term) = term.weights ≡ values
+IsMadeOf CutWord parts values (Cut term) = term.c ∷ [] ≡ values
+IsMadeOf NeedWord parts values (Need term) = Unit {0}
+IsMadeOf CoverWord parts values (Cover term) = term.w ∷ [] ≡ values
+IsMadeOf TableWord parts values (Table term) = term.values ≡ values
+IsMadeOf ConcaveWord parts values (Concave term) = term.values ≡ values
+IsMadeOf RankWord parts values term = IsRankMadeOf parts.rank parts values term
+IsMadeOf _ parts values term = ⊥
+
 -- the term that a line with these parts stands for, with these numbers and elements at these places
-abbrev pub IsTermOf : TermWord → LineParts → List ℤ → List ℕ → Kind → Type 0
-IsTermOf WeightWord parts values places term = IsWeightTerm values places term
-IsTermOf CutWord parts values places term = IsCutTerm values places term
-IsTermOf NeedWord parts values places term = IsNeedTerm places term
-IsTermOf CoverWord parts values places term = IsCoverTerm values places term
-IsTermOf TableWord parts values places term = IsTableTerm values places term
-IsTermOf ConcaveWord parts values places term = IsConcaveTerm values places term
-IsTermOf RankWord parts values places term = IsRankTerm parts.rank parts values places term
+pub record IsTermOf (word : TermWord) (parts : LineParts) (values : List ℤ) (places : List ℕ) (term : Kind) : Type 0 where
+  pub same_places : kind_places term ≡ places
+  pub made : IsMadeOf word parts values term

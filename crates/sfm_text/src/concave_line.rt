@@ -4,8 +4,9 @@ ghost use Rattle.std.specs.List.{All};
 ghost use Rattle.sfm_spec.specs.Bounds.{IsAtMost, AreElements};
 ghost use Rattle.sfm_text.specs.Lines.{texts_of};
 ghost use Rattle.sfm_text.specs.Parts.{LineParts, IsConcaveCount, IsConcaveLine};
-ghost use Rattle.sfm_text.specs.LineTerms.{IsConcaveTerm, HasRise};
+ghost use Rattle.sfm_text.specs.Words.{HasRise, IsTermOf};
 ghost use Rattle.sfm_text.specs.ReadParts.{parts_of};
+ghost use Rattle.sfm_text.specs.declared.word.TermWord.TheVariants.{ConcaveWord};
 
 use crate::mark::cut_at_colon;
 use crate::parts::Parts;
@@ -52,7 +53,7 @@ pub fn concave_term(
     requires small { All (IsAtMost (10 ^ 12)) values.now }
     ensures { IfOk result (λ r. MatchOption r
         (HasRise values.now)
-        (λ term. IsConcaveTerm values.now places.now term × (HasRise values.now → ⊥))) }
+        (λ term. ((parts : LineParts) → IsTermOf ConcaveWord parts values.now places.now term) × (HasRise values.now → ⊥))) }
 {
     match Concave::new(alloc, places, values) {
         Ok(concave) => Ok(Some(Kind::Concave(concave))),

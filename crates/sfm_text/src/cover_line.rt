@@ -4,8 +4,9 @@ ghost use Rattle.std.specs.List.{All};
 ghost use Rattle.sfm_spec.specs.Bounds.{IsAtMost, AreElements};
 ghost use Rattle.sfm_text.specs.Lines.{texts_of};
 ghost use Rattle.sfm_text.specs.Parts.{LineParts, IsCoverLine};
-ghost use Rattle.sfm_text.specs.LineTerms.{IsCoverTerm};
+ghost use Rattle.sfm_text.specs.Words.{IsTermOf};
 ghost use Rattle.sfm_text.specs.ReadParts.{parts_of};
+ghost use Rattle.sfm_text.specs.declared.word.TermWord.TheVariants.{CoverWord};
 
 use crate::parts::{Parts, split_at};
 use sfm_base::Memory;
@@ -34,7 +35,7 @@ pub fn cover_term(alloc: Global, values: &[i128], places: &[usize]) -> Result<Ki
     requires one { length values.now ≡ 1 }
     requires low { All (λ value. pos 0 ≤ℤ value) values.now }
     requires small { All (IsAtMost (10 ^ 12)) values.now }
-    ensures { IfOk result (IsCoverTerm values.now places.now) }
+    ensures { IfOk result (λ term. (parts : LineParts) → IsTermOf CoverWord parts values.now places.now term) }
 {
     let cover = Cover::new(alloc, values[0], places)?;
     Ok(Kind::Cover(cover))

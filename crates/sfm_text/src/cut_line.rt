@@ -5,8 +5,9 @@ ghost use Rattle.sfm_spec.specs.Bounds.{IsAtMost};
 ghost use Rattle.sfm_spec.specs.Sets.{IsPlaced};
 ghost use Rattle.sfm_text.specs.Lines.{texts_of};
 ghost use Rattle.sfm_text.specs.Parts.{LineParts, IsCutLine};
-ghost use Rattle.sfm_text.specs.LineTerms.{IsCutTerm};
+ghost use Rattle.sfm_text.specs.Words.{IsTermOf};
 ghost use Rattle.sfm_text.specs.ReadParts.{parts_of};
+ghost use Rattle.sfm_text.specs.declared.word.TermWord.TheVariants.{CutWord};
 
 use crate::parts::{Parts, split_at};
 use sfm_kind::Kind;
@@ -35,7 +36,7 @@ pub fn cut_term(values: &[i128], places: &[usize]) -> Kind
     requires low { All (λ value. pos 0 ≤ℤ value) values.now }
     requires small { All (IsAtMost (10 ^ 12)) values.now }
     requires placed { IsPlaced 256 places.now }
-    ensures { IsCutTerm values.now places.now result }
+    ensures { (parts : LineParts) → IsTermOf CutWord parts values.now places.now result }
 {
     Kind::Cut(Cut::new(values[0], places[0], places[1]))
 }

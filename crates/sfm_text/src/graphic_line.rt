@@ -5,8 +5,11 @@ ghost use Rattle.sfm_spec.specs.Bounds.{IsAtMost, AreElements};
 ghost use Rattle.sfm_matroid.specs.Ends.{edges_of};
 ghost use Rattle.sfm_text.specs.Lines.{texts_of};
 ghost use Rattle.sfm_text.specs.Parts.{LineParts, IsGraphicLine};
-ghost use Rattle.sfm_text.specs.LabelTerms.{joined, place_among, edge_between, IsGraphicTerm};
+ghost use Rattle.sfm_text.specs.LabelTerms.{joined, place_among, edge_between};
+ghost use Rattle.sfm_text.specs.Words.{IsTermOf};
 ghost use Rattle.sfm_text.specs.ReadParts.{parts_of, label_lists_of};
+ghost use Rattle.sfm_text.specs.declared.word.TermWord.TheVariants.{RankWord};
+ghost use Rattle.sfm_text.specs.declared.word.RankKind.TheVariants.{GraphicRank};
 
 use crate::labelled_line::labelled_parts;
 use crate::labels::{Labels, different, number_of};
@@ -60,6 +63,7 @@ pub fn graphic_term(
     values: &[i128],
     places: &[usize],
 ) -> Result<Kind, Memory>
+    requires rank { (parts_of parts.now).rank ≡ GraphicRank }
     requires one { length values.now ≡ 1 }
     requires few { length (joined (parts_of parts.now).labels) < 2 ^ 24 }
     requires two { All (λ texts. length texts ≡ 2) (parts_of parts.now).labels }
@@ -67,7 +71,7 @@ pub fn graphic_term(
     requires elements { AreElements places.now }
     requires low { All (λ value. pos 0 ≤ℤ value) values.now }
     requires small { All (IsAtMost (10 ^ 12)) values.now }
-    ensures { IfOk result (IsGraphicTerm (parts_of parts.now) values.now places.now) }
+    ensures { IfOk result (IsTermOf RankWord (parts_of parts.now) values.now places.now) }
 {
     let names = different(alloc, &parts.labels)?;
     let ends = ends(alloc, &names, &parts.labels)?;

@@ -6,9 +6,12 @@ ghost use Rattle.std.specs.List.{All};
 ghost use Rattle.sfm_spec.specs.Bounds.{IsAtMost, AreElements};
 ghost use Rattle.sfm_text.specs.Lines.{texts_of, text_lists_of};
 ghost use Rattle.sfm_text.specs.LabelTerms.{distinct_of};
-ghost use Rattle.sfm_text.specs.RankLines.{is_among, members_of, groups_of, HasCrossing, IsLaminarTerm};
+ghost use Rattle.sfm_text.specs.RankLines.{is_among, members_of, groups_of, HasCrossing};
 ghost use Rattle.sfm_text.specs.TermLines.{StandsTwice};
+ghost use Rattle.sfm_text.specs.Words.{IsTermOf};
 ghost use Rattle.sfm_text.specs.ReadParts.{parts_of};
+ghost use Rattle.sfm_text.specs.declared.word.TermWord.TheVariants.{RankWord};
+ghost use Rattle.sfm_text.specs.declared.word.RankKind.TheVariants.{LaminarRank};
 
 use crate::labels::add_names;
 use crate::parts::Parts;
@@ -121,13 +124,14 @@ pub fn laminar_term(
     places: &[usize],
 ) -> Result<Option<Kind>, Memory>
     requires each { length values.now ≡ length (parts_of parts.now).groups + 1 }
+    requires rank { (parts_of parts.now).rank ≡ LaminarRank }
     requires named { length places.now ≡ length (parts_of parts.now).elements }
     requires elements { AreElements places.now }
     requires low { All (λ value. pos 0 ≤ℤ value) values.now }
     requires small { All (IsAtMost (10 ^ 12)) values.now }
     ensures { IfOk result (λ r. MatchOption r
         (HasCrossing (groups_of values.now (parts_of parts.now)))
-        (λ term. IsLaminarTerm (parts_of parts.now) values.now places.now term
+        (λ term. IsTermOf RankWord (parts_of parts.now) values.now places.now term
         × (HasCrossing (groups_of values.now (parts_of parts.now)) → ⊥))) }
 {
     let groups = line_groups(alloc, parts, values)?;

@@ -1,10 +1,11 @@
 // The line `need` and two elements.
-ghost use Rattle.std.specs.Prelude.{◌≡◌, length, IfOk, MatchOption};
+ghost use Rattle.std.specs.Prelude.{◌≡◌, List, length, ℤ, IfOk, MatchOption};
 ghost use Rattle.sfm_spec.specs.Sets.{IsPlaced};
 ghost use Rattle.sfm_text.specs.Lines.{texts_of};
 ghost use Rattle.sfm_text.specs.Parts.{LineParts, IsNeedLine};
-ghost use Rattle.sfm_text.specs.LineTerms.{IsNeedTerm};
+ghost use Rattle.sfm_text.specs.Words.{IsTermOf};
 ghost use Rattle.sfm_text.specs.ReadParts.{parts_of};
+ghost use Rattle.sfm_text.specs.declared.word.TermWord.TheVariants.{NeedWord};
 
 use crate::parts::{Parts, split_at};
 use sfm_kind::Kind;
@@ -30,7 +31,7 @@ pub fn need_parts<'a, 'b>(
 pub fn need_term(places: &[usize]) -> Kind
     requires two { length places.now ≡ 2 }
     requires placed { IsPlaced 256 places.now }
-    ensures { IsNeedTerm places.now result }
+    ensures { (parts : LineParts) (values : List ℤ) → IsTermOf NeedWord parts values places.now result }
 {
     Kind::Need(Need::new(places[0], places[1]))
 }

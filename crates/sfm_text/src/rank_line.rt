@@ -3,7 +3,8 @@ ghost use Rattle.std.specs.Prelude.{◌≡◌, ◌<◌, ◌^◌, length, MatchOp
 ghost use Rattle.sfm_text.specs.Lines.{texts_of};
 ghost use Rattle.sfm_text.specs.Parts.{LineParts, IsRankLine};
 ghost use Rattle.sfm_text.specs.LabelTerms.{joined};
-ghost use Rattle.sfm_text.specs.RankLines.{BreaksRankLaw, IsRankTerm};
+ghost use Rattle.sfm_text.specs.RankLines.{BreaksRankLaw};
+ghost use Rattle.sfm_text.specs.Words.{IsTermOf};
 ghost use Rattle.sfm_text.specs.TermLines.{AreRead};
 ghost use Rattle.sfm_text.specs.ReadParts.{parts_of};
 ghost use Rattle.sfm_text.specs.declared.word.TermWord.TheVariants.{RankWord};
@@ -51,7 +52,7 @@ pub fn rank_term(
     requires few { length (joined (parts_of parts.now).labels) < 2 ^ 24 }
     ensures { IfOk result (λ r. MatchOption r
         (BreaksRankLaw (parts_of parts.now).rank (parts_of parts.now) values.now)
-        (λ term. IsRankTerm (parts_of parts.now).rank (parts_of parts.now) values.now places.now term
+        (λ term. IsTermOf RankWord (parts_of parts.now) values.now places.now term
         × (BreaksRankLaw (parts_of parts.now).rank (parts_of parts.now) values.now → ⊥))) }
 {
     match parts.rank {

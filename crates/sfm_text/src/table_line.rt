@@ -7,8 +7,9 @@ ghost use Rattle.sfm_spec.specs.Terms.{IsSubmodular};
 ghost use Rattle.sfm_spec.specs.Kinds.{table_value};
 ghost use Rattle.sfm_text.specs.Lines.{texts_of};
 ghost use Rattle.sfm_text.specs.Parts.{LineParts, IsTableCount, IsTableLine};
-ghost use Rattle.sfm_text.specs.LineTerms.{IsTableTerm};
+ghost use Rattle.sfm_text.specs.Words.{IsTermOf};
 ghost use Rattle.sfm_text.specs.ReadParts.{parts_of};
+ghost use Rattle.sfm_text.specs.declared.word.TermWord.TheVariants.{TableWord};
 
 use crate::mark::cut_at_colon;
 use crate::parts::Parts;
@@ -51,7 +52,7 @@ pub fn table_term(alloc: Global, values: &[i128], places: &[usize]) -> Result<Op
     requires placed { IsPlaced 256 places.now }
     ensures { IfOk result (λ r. MatchOption r
         (IsSubmodular (length places.now) (table_value values.now) → ⊥)
-        (λ term. IsTableTerm values.now places.now term × IsSubmodular (length places.now) (table_value values.now))) }
+        (λ term. ((parts : LineParts) → IsTermOf TableWord parts values.now places.now term) × IsSubmodular (length places.now) (table_value values.now))) }
 {
     match Table::new(alloc, places, values) {
         Ok(table) => Ok(Some(Kind::Table(table))),

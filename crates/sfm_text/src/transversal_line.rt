@@ -4,8 +4,11 @@ ghost use Rattle.std.specs.List.{All};
 ghost use Rattle.sfm_spec.specs.Bounds.{IsAtMost, AreElements};
 ghost use Rattle.sfm_text.specs.Lines.{texts_of};
 ghost use Rattle.sfm_text.specs.Parts.{LineParts, IsTransversalLine};
-ghost use Rattle.sfm_text.specs.LabelTerms.{joined, place_among, IsTransversalTerm};
+ghost use Rattle.sfm_text.specs.LabelTerms.{joined, place_among};
+ghost use Rattle.sfm_text.specs.Words.{IsTermOf};
 ghost use Rattle.sfm_text.specs.ReadParts.{parts_of, label_lists_of};
+ghost use Rattle.sfm_text.specs.declared.word.TermWord.TheVariants.{RankWord};
+ghost use Rattle.sfm_text.specs.declared.word.RankKind.TheVariants.{TransversalRank};
 
 use crate::labelled_line::labelled_parts;
 use crate::labels::{Labels, different, numbers};
@@ -53,13 +56,14 @@ pub fn transversal_term(
     values: &[i128],
     places: &[usize],
 ) -> Result<Kind, Memory>
+    requires rank { (parts_of parts.now).rank ≡ TransversalRank }
     requires one { length values.now ≡ 1 }
     requires few { length (joined (parts_of parts.now).labels) < 2 ^ 24 }
     requires each { length (parts_of parts.now).labels ≡ length places.now }
     requires elements { AreElements places.now }
     requires low { All (λ value. pos 0 ≤ℤ value) values.now }
     requires small { All (IsAtMost (10 ^ 12)) values.now }
-    ensures { IfOk result (IsTransversalTerm (parts_of parts.now) values.now places.now) }
+    ensures { IfOk result (IsTermOf RankWord (parts_of parts.now) values.now places.now) }
 {
     let names = different(alloc, &parts.labels)?;
     let entries = entries(alloc, &names, &parts.labels)?;

@@ -4,8 +4,10 @@ ghost use Rattle.std.specs.List.{All};
 ghost use Rattle.sfm_spec.specs.Bounds.{IsAtMost, AreElements};
 ghost use Rattle.sfm_text.specs.Lines.{texts_of};
 ghost use Rattle.sfm_text.specs.Parts.{LineParts, IsUniformLine};
-ghost use Rattle.sfm_text.specs.LineTerms.{IsUniformTerm};
+ghost use Rattle.sfm_text.specs.Words.{IsTermOf};
 ghost use Rattle.sfm_text.specs.ReadParts.{parts_of};
+ghost use Rattle.sfm_text.specs.declared.word.TermWord.TheVariants.{RankWord};
+ghost use Rattle.sfm_text.specs.declared.word.RankKind.TheVariants.{UniformRank};
 
 use crate::mark::cut_at_colon;
 use crate::parts::Parts;
@@ -47,7 +49,7 @@ pub fn uniform_term(alloc: Global, values: &[i128], places: &[usize]) -> Result<
     requires two { length values.now ≡ 2 }
     requires low { All (λ value. pos 0 ≤ℤ value) values.now }
     requires small { All (IsAtMost (10 ^ 12)) values.now }
-    ensures { IfOk result (IsUniformTerm values.now places.now) }
+    ensures { IfOk result (λ term. (parts : LineParts) → parts.rank ≡ UniformRank → IsTermOf RankWord parts values.now places.now term) }
 {
     let uniform = Uniform::new(alloc, places, values[0], values[1])?;
     Ok(Kind::Uniform(uniform))

@@ -4,8 +4,9 @@ ghost use Rattle.std.specs.List.{All};
 ghost use Rattle.sfm_spec.specs.Bounds.{IsAtMost, AreElements};
 ghost use Rattle.sfm_text.specs.Lines.{texts_of};
 ghost use Rattle.sfm_text.specs.Parts.{LineParts, IsWeightLine};
-ghost use Rattle.sfm_text.specs.LineTerms.{IsWeightTerm};
+ghost use Rattle.sfm_text.specs.Words.{IsTermOf};
 ghost use Rattle.sfm_text.specs.ReadParts.{parts_of};
+ghost use Rattle.sfm_text.specs.declared.word.TermWord.TheVariants.{WeightWord};
 
 use crate::pair::cut_pair;
 use crate::parts::Parts;
@@ -43,7 +44,7 @@ pub fn weight_term(alloc: Global, values: &[i128], places: &[usize]) -> Result<K
     requires elements { AreElements places.now }
     requires same_count { length places.now ≡ length values.now }
     requires small { All (IsAtMost (10 ^ 12)) values.now }
-    ensures { IfOk result (IsWeightTerm values.now places.now) }
+    ensures { IfOk result (λ term. (parts : LineParts) → IsTermOf WeightWord parts values.now places.now term) }
 {
     let weight = Weight::new(alloc, places, values)?;
     Ok(Kind::Weight(weight))

@@ -1,4 +1,4 @@
-use Rattle.std.proofs.Common.{ap, refl, Err}
+use Rattle.std.proofs.Common.{ap, Err}
 use Rattle.sfm_text.proofs.concave_line.concave_term.Goals as goal
 
 pub returns-in-Err-Rises : goal.returns-in-Err-Rises
@@ -9,11 +9,9 @@ returns-in-Err-Rises c =
 
 pub returns-in-Ok : goal.returns-in-Ok
 returns-in-Ok c = (
-  record {
-    concave = c.in-Ok.concave;
-    kind = refl;
+  λ parts. record {
     same_places = c.in-Ok.ensures.places;
-    same_values = c.in-Ok.ensures.values;
+    made = c.in-Ok.ensures.values;
   },
   λ (at, rises). c.in-Ok.ensures.falling at rises,
 )

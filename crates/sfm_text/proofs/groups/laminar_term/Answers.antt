@@ -1,7 +1,10 @@
 -- The groups are those of the line, and one that crosses another is told by the term.
-use Rattle.std.proofs.Common.{length, refl, ap, Err, ◌∙◌, arith}
+use Rattle.std.proofs.Common.{length, ap, Err, ◌∙◌, arith}
+use Rattle.sfm_kind.specs.declared.kind.Kind.TheVariants.{Laminar}
+use Rattle.sfm_text.specs.declared.word.RankKind.TheVariants.{LaminarRank}
 use Rattle.sfm_text.specs.ReadParts.{parts_of}
 use Rattle.sfm_text.proofs.Members.{groups-below}
+use Rattle.sfm_text.proofs.RankTerms.{of-rank}
 use Rattle.sfm_text.proofs.ReadLines.{kept-at}
 use Rattle.sfm_text.proofs.groups.laminar_term.Goals as goal
 
@@ -11,11 +14,8 @@ new-requires-clause-below c = rw c.in_ok-groups.ensures (groups-below c.args.val
 pub returns-in-Ok : goal.returns-in-Ok
 returns-in-Ok c = (
   record {
-    laminar = c.in-Ok.laminar;
-    kind = refl;
     same_places = c.in-Ok.ensures.places;
-    same_number = c.in-Ok.ensures.number ∙ kept-at c.args.values.now 0 (omega (arith, c.requires.each)) c.requires.small;
-    same_groups = c.in-Ok.ensures.groups ∙ c.in_ok-groups.ensures;
+    made = of-rank LaminarRank (parts_of c.args.parts.now) c.args.values.now (Laminar c.in-Ok.laminar) c.requires.rank (c.in-Ok.ensures.number ∙ kept-at c.args.values.now 0 (omega (arith, c.requires.each)) c.requires.small, c.in-Ok.ensures.groups ∙ c.in_ok-groups.ensures);
   },
   λ (i, j, cross). c.in-Ok.ensures.none i j (rw c.in_ok-groups.ensures cross),
 )

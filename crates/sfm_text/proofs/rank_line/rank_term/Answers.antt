@@ -1,5 +1,7 @@
-use Rattle.std.proofs.Common.{refl}
+use Rattle.std.proofs.Common.{refl, subst}
+use Rattle.sfm_text.specs.RankLines.{BreaksRankLaw}
 use Rattle.sfm_text.specs.ReadParts.{parts_of}
+use Rattle.sfm_text.specs.declared.word.RankKind.{RankKind}
 use Rattle.sfm_text.specs.declared.word.TermWord.TheVariants.{RankWord}
 use Rattle.sfm_text.proofs.ReadLines.{read-small, read-low, laminar-each, graphic-one, graphic-two, graphic-each, graphic-elements, transversal-one, transversal-each, transversal-elements}
 use Rattle.sfm_text.proofs.rank_line.rank_term.Goals as goal
@@ -45,3 +47,10 @@ transversal_term-requires-clause-low c = read-low RankWord (parts_of c.args.part
 
 pub transversal_term-requires-clause-small : goal.transversal_term-requires-clause-small
 transversal_term-requires-clause-small c = read-small RankWord (parts_of c.args.parts.now) c.args.values.now c.args.places.now c.requires.read
+
+pub returns-in_ok-uniform_term-in-UniformRank : goal.returns-in_ok-uniform_term-in-UniformRank
+returns-in_ok-uniform_term-in-UniformRank c =
+    let parts = parts_of c.args.parts.now in (
+      c.in_ok-uniform_term-in-UniformRank.ensures parts c.in-UniformRank.is,
+      λ broken. subst (λ (rank : RankKind). BreaksRankLaw rank parts c.args.values.now) c.in-UniformRank.is broken,
+    )

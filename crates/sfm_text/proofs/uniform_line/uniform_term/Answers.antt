@@ -1,11 +1,11 @@
-use Rattle.std.proofs.Common.{refl}
+use Rattle.std.proofs.Common.{◌≡◌, ◌∷◌, []}
+use Rattle.sfm_kind.specs.declared.kind.Kind.TheVariants.{Uniform}
+use Rattle.sfm_text.specs.declared.word.RankKind.TheVariants.{UniformRank}
 use Rattle.sfm_text.proofs.ReadLines.{kept-two}
+use Rattle.sfm_text.proofs.RankTerms.{of-rank}
 use Rattle.sfm_text.proofs.uniform_line.uniform_term.Goals as goal
 
 pub returns : goal.returns
-returns c = record {
-  uniform = c.in_ok-uniform.uniform;
-  kind = refl;
-  same_places = c.in_ok-uniform.ensures.places;
-  same_numbers = rw (c.in_ok-uniform.ensures.number, c.in_ok-uniform.ensures.cap) (kept-two c.args.values.now c.requires.two c.requires.small);
-}
+returns c = λ parts rank.
+    let same : c.in_ok-uniform.uniform.w ∷ c.in_ok-uniform.uniform.cap ∷ [] ≡ c.args.values.now = rw (c.in_ok-uniform.ensures.number, c.in_ok-uniform.ensures.cap) (kept-two c.args.values.now c.requires.two c.requires.small) in
+    record { same_places = c.in_ok-uniform.ensures.places; made = of-rank UniformRank parts c.args.values.now (Uniform c.in_ok-uniform.uniform) rank same }
