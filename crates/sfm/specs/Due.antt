@@ -1,10 +1,10 @@
 -- What is due for the texts that a command names: the text that is to be written, and the code that goes with it.
 use Rattle.std.specs.Prelude.{◌≡◌, ◌↔◌, ◌⊎◌, ℕ, List, ◌++◌, length, codes, decimal, ℤ}
-use Rattle.std.specs.List.{All}
+use Rattle.std.specs.List.{All, AllZip}
 use Rattle.sfm_spec.specs.Families.{Meaning, even_shift}
 use Rattle.sfm_spec.specs.Walks.{IsFewWalks}
 use Rattle.sfm_kind.specs.declared.kind.Kind.{Kind}
-use Rattle.sfm_kind.specs.Meanings.{AreMeanings, AreStarts}
+use Rattle.sfm_kind.specs.Meanings.{AreStarts, IsMeaningOf}
 use Rattle.sfm_text.specs.declared.reason.Reason.{Reason}
 use Rattle.sfm_text.specs.Reasons.{reason_word}
 use Rattle.sfm_text.specs.GoodText.{IsTextOf, IsFaultOf}
@@ -60,7 +60,7 @@ pub record IsSolved (text file : List ℕ) : Type 0 where
   pub terms : List Kind
   pub good : IsTextOf text names terms
   pub meant : List Meaning
-  pub means : AreMeanings terms meant
+  pub means : AllZip IsMeaningOf terms meant
   pub right : IsRightFile (form_for names terms) meant file
   pub reached : All (IsReached terms meant (length names)) (sections_of right.answer)
 
@@ -83,7 +83,7 @@ pub record IsJudged (text answer written : List ℕ) (code : ℕ) : Type 0 where
   pub verdict : Verdict
   pub good : IsTextOf text names terms
   pub meant : List Meaning
-  pub means : AreMeanings terms meant
+  pub means : AllZip IsMeaningOf terms meant
   pub judged : IsVerdict (form_for names terms) meant answer verdict
   pub named : written ≡ verdict_line verdict
   pub coded : code ≡ verdict_code verdict

@@ -1,6 +1,7 @@
 -- The members of each kind are what its meaning says by definition, and a meaning leaves no choice: two of one term have the
 -- same value on each part of its places, and so the same size and the same first bases.
 use Rattle.std.proofs.Common.{◌≡◌, ℕ, ◌+◌, ◌-◌, ◌≤◌, Bool, true, false, List, [], ◌∷◌, length, map, replicate, ℤ, pos, ◌*ℤ◌, Some, unwrap_or, refl, sym, ap, ◌∙◌, arith}
+use Rattle.std.specs.List.{AllZip}
 use Rattle.std.specs.Int.{int_min}
 use Rattle.std.proofs.lemmas.Int.{ints}
 use Rattle.std.proofs.lemmas.List.{length-append, length-replicate}
@@ -21,7 +22,7 @@ use Rattle.sfm_laminar.specs.LaminarLaws.{laminar-greedy}
 use Rattle.sfm_matroid.specs.GraphicLaws.{graphic-function, graphic-greedy}
 use Rattle.sfm_matroid.specs.TransversalLaws.{transversal-function, transversal-greedy}
 use Rattle.sfm_kind.specs.Kinds.{kind_value, kind_size, kind_start}
-use Rattle.sfm_kind.specs.Meanings.{kind_places, IsValueOf, IsMeaningOf, AreMeanings, value_of_all, size_by, total_by, IsStartOf, AreStarts}
+use Rattle.sfm_kind.specs.Meanings.{kind_places, IsValueOf, IsMeaningOf, value_of_all, size_by, total_by, IsStartOf, AreStarts}
 use Rattle.sfm_kind.specs.Limits.{total_size_of}
 use Rattle.sfm_kind.specs.declared.kind.Kind.{Kind}
 use Rattle.sfm_kind.specs.declared.kind.Kind.TheVariants.{Weight, Cut, Cover, Need, Table, Concave, Uniform, Laminar, Graphic, Transversal}
@@ -40,7 +41,7 @@ kind-means (Laminar term) = record { places = refl; values = laminar-rank (lengt
 kind-means (Graphic term) = record { places = refl; values = graphic-function (length term.places) term.w term.ends term.same_count }
 kind-means (Transversal term) = record { places = refl; values = transversal-function (length term.places) term.w term.entries term.same_count }
 
-pub kinds-mean : (terms : List Kind) → AreMeanings terms (meanings kind_places kind_value terms)
+pub kinds-mean : (terms : List Kind) → AllZip IsMeaningOf terms (meanings kind_places kind_value terms)
 kinds-mean [] = tt
 kinds-mean (kind ∷ terms) = (kind-means kind, kinds-mean terms)
 
@@ -113,7 +114,7 @@ pub kind-size : (kind : Kind) (f : SetFunction) → IsValueOf kind f → size_by
 kind-size kind f is = size-same kind f (kind_value kind) (values-agree kind f (kind_value kind) is (kind-means kind).values) ∙ size-by-value kind
 
 -- and so of all terms
-pub total-size : (terms : List Kind) (meant : List Meaning) → AreMeanings terms meant → total_by terms meant ≡ total_size_of terms
+pub total-size : (terms : List Kind) (meant : List Meaning) → AllZip IsMeaningOf terms meant → total_by terms meant ≡ total_size_of terms
 total-size [] [] h = refl
 total-size [] (term ∷ meant) h = absurd h
 total-size (kind ∷ terms) [] h = absurd h
@@ -159,7 +160,7 @@ pub kind-start : (kind : Kind) (f : SetFunction) (q : ℤ) → IsValueOf kind f 
 kind-start kind f q is = start-same kind q (kind_value kind) f (kind_start kind q) (values-agree kind (kind_value kind) f (kind-means kind).values is) (start-by-value kind q)
 
 -- and so of all terms
-pub kinds-start : (terms : List Kind) (meant : List Meaning) (q : ℤ) → AreMeanings terms meant → AreStarts terms meant q (map (λ kind. kind_start kind q) terms)
+pub kinds-start : (terms : List Kind) (meant : List Meaning) (q : ℤ) → AllZip IsMeaningOf terms meant → AreStarts terms meant q (map (λ kind. kind_start kind q) terms)
 kinds-start [] [] q h = tt
 kinds-start [] (term ∷ meant) q h = absurd h
 kinds-start (kind ∷ terms) [] q h = absurd h

@@ -42,13 +42,6 @@ pub record IsMeaningOf (kind : Kind) (term : Meaning) : Type 0 where
   pub places : term.places ≡ kind_places kind
   pub values : IsValueOf kind term.value
 
--- one meaning for each term, in order
-abbrev pub AreMeanings : List Kind → List Meaning → Type 0
-AreMeanings [] [] = Unit {0}
-AreMeanings [] (term ∷ meant) = ⊥
-AreMeanings (kind ∷ kinds) [] = ⊥
-AreMeanings (kind ∷ kinds) (term ∷ meant) = IsMeaningOf kind term × AreMeanings kinds meant
-
 -- the value of all k places
 abbrev pub value_of_all : ℕ → SetFunction → ℤ
 value_of_all k f = unwrap_or (f (whole_set k)) (pos 0)

@@ -1,6 +1,7 @@
 -- Lines lead to one state, but for what the terms keep that no reason asks of: two readings of the same lines have the same
 -- stage and the same names, and terms of the same places and sizes. So a text is good or has a first fault, and one alone.
 use Rattle.std.proofs.Common.{◌≡◌, ◌≢◌, ◌⊎◌, inl, inr, ℕ, ◌+◌, ◌<◌, ◌≤◌, List, [], ◌∷◌, ◌++◌, length, get_or, map, codes, AllPairs, refl, sym, ap, subst, ◌∙◌, arith}
+use Rattle.std.specs.List.{AllZip, FoldsTo}
 use Rattle.std.proofs.lemmas.Bool.{cases_lt}
 use Rattle.std.proofs.lemmas.Int.{ints}
 use Rattle.std.proofs.lemmas.List.{map-append, length_push}
@@ -14,15 +15,14 @@ use Rattle.sfm_text.specs.declared.reason.Reason.{Reason}
 use Rattle.sfm_text.specs.declared.reason.Reason.TheVariants.{Long, Bytes, Word, Shape, Number, Name, Twice, Law, Total, Short}
 use Rattle.sfm_text.specs.declared.stage.Stage.{Stage}
 use Rattle.sfm_text.specs.declared.stage.Stage.TheVariants.{Header, Ground, Terms, Ended}
-use Rattle.sfm_text.specs.Matched.{Matched}
 use Rattle.sfm_text.specs.Lines.{TextLine, content_of, tokens_of}
 use Rattle.sfm_text.specs.Words.{word_text}
 use Rattle.sfm_text.specs.TermLines.{StandsTwice, StandsFor}
 use Rattle.sfm_text.proofs.TooMuch.{much-by-total, total-by-much}
-use Rattle.sfm_text.specs.Reading.{State, start, reason_order, Has, HasTwice, HasTooMuch, AreTooMuch, FirstReason, Adds, Takes, Follows}
+use Rattle.sfm_text.specs.Reading.{State, start, reason_order, Has, HasTwice, HasTooMuch, AreTooMuch, FirstReason, Adds, Takes}
 use Rattle.sfm_text.specs.GoodText.{bytes_of, IsTextOf, HasFaultyLine, IsFaultOf, is_long, is_faulty, is_short}
 use Rattle.sfm_text.proofs.WordLines.{not-end}
-use Rattle.sfm_text.proofs.Matches.{Matched-push}
+use Rattle.sfm_text.proofs.Matches.{AllZip-push}
 use Rattle.sfm_text.proofs.Repeats.{twice-at}
 use Rattle.sfm_text.proofs.SameTerms.{AgreeInTotal, stands-same}
 
@@ -30,7 +30,7 @@ support-cons : (term : Kind) (terms : List Kind) → support_of (term ∷ terms)
 support-cons term terms = sum_by-cons (λ (n : ℕ). n) (length (kind_places term)) (map length (map kind_places terms))
 
 -- terms of the same places and sizes are as many, and have as much in all
-alike-total : (a b : List Kind) → Matched AgreeInTotal a b → (length a ≡ length b) × (support_of a ≡ support_of b) × (total_size_of a ≡ total_size_of b)
+alike-total : (a b : List Kind) → AllZip AgreeInTotal a b → (length a ≡ length b) × (support_of a ≡ support_of b) × (total_size_of a ≡ total_size_of b)
 alike-total [] [] h = (refl, refl, refl)
 alike-total [] (t ∷ b) h = absurd h
 alike-total (s ∷ a) [] h = absurd h
@@ -42,7 +42,7 @@ alike-total (s ∷ a) (t ∷ b) (same, h) =
     )
 
 -- so there is too much with one more term exactly where there is with the others
-much-alike : (a b : List Kind) (term : Kind) → Matched AgreeInTotal a b → AreTooMuch (a ++ term ∷ []) → AreTooMuch (b ++ term ∷ [])
+much-alike : (a b : List Kind) (term : Kind) → AllZip AgreeInTotal a b → AreTooMuch (a ++ term ∷ []) → AreTooMuch (b ++ term ∷ [])
 much-alike a b term h many =
     let (count, places, size) = alike-total a b h in
     at count places size many
@@ -57,7 +57,7 @@ much-alike a b term h many =
 pub record Alike (s t : State) : Type 0 where
   pub stage : s.stage ≡ t.stage
   pub names : s.names ≡ t.names
-  pub terms : Matched AgreeInTotal s.terms t.terms
+  pub terms : AllZip AgreeInTotal s.terms t.terms
   pub distinct : AllPairs (λ a b. a ≢ b) s.names
 
 start-alike : Alike start start
@@ -113,22 +113,22 @@ takes-alike s t line u v same h g = at s.stage refl h.adds (subst (λ (stage : S
         rw (more.state, more'.state) (record {
           stage = refl;
           names = same.names;
-          terms = Matched-push AgreeInTotal s.terms t.terms more.term more'.term same.terms agree;
+          terms = AllZip-push AgreeInTotal s.terms t.terms more.term more'.term same.terms agree;
           distinct = same.distinct;
         })
     at Ended is a b = absurd a
 
-follows-alike : (lines : List (List ℕ)) (s t u v : State) → Alike s t → Follows s lines u → Follows t lines v → Alike u v
+follows-alike : (lines : List (List ℕ)) (s t u v : State) → Alike s t → FoldsTo Takes s lines u → FoldsTo Takes t lines v → Alike u v
 follows-alike [] s t u v same h g = subst (λ (x : State). Alike x v) h (subst (λ (x : State). Alike s x) g same)
 follows-alike (line ∷ lines) s t u v same (s', h, hs) (t', g, gs) = follows-alike lines s' t' u v (takes-alike s t line s' t' same h g) hs gs
 
 -- lines that are good are so up to each of them
-follows-parts : (before after : List (List ℕ)) (s t : State) → Follows s (before ++ after) t → (u : State) × Follows s before u × Follows u after t
+follows-parts : (before after : List (List ℕ)) (s t : State) → FoldsTo Takes s (before ++ after) t → (u : State) × FoldsTo Takes s before u × FoldsTo Takes u after t
 follows-parts [] after s t h = (s, refl, h)
 follows-parts (line ∷ before) after s t (r, takes, h) = let (u, front, back) = follows-parts before after r t h in (u, (r, takes, front), back)
 
 -- a line with a reason is not good behind the same lines
-not-good : (before after : List (List ℕ)) (line : List ℕ) (s t : State) (reason : Reason) → Follows start before s → Has s line reason → Follows start (before ++ line ∷ after) t → ⊥
+not-good : (before after : List (List ℕ)) (line : List ℕ) (s t : State) (reason : Reason) → FoldsTo Takes start before s → Has s line reason → FoldsTo Takes start (before ++ line ∷ after) t → ⊥
 not-good before after line s t reason h has good =
     let (u, front, (v, takes, back)) = follows-parts before (line ∷ after) start t good in
     takes.good reason (has-alike s u line reason (follows-alike before start start s u start-alike h front) has)
@@ -137,10 +137,10 @@ bytes-parts : (before after : List TextLine) (line : TextLine) → bytes_of (bef
 bytes-parts before after line = map-append (λ (l : TextLine). l.bytes) before (line ∷ after)
 
 -- a text with a faulty line is not good to its end
-pub faulty-or-good : (text : List ℕ) (number : ℕ) (reason : Reason) (t : State) → HasFaultyLine text number reason → Follows start (bytes_of (content_of text)) t → ⊥
+pub faulty-or-good : (text : List ℕ) (number : ℕ) (reason : Reason) (t : State) → HasFaultyLine text number reason → FoldsTo Takes start (bytes_of (content_of text)) t → ⊥
 faulty-or-good text number reason t h good =
     let all : bytes_of (content_of text) ≡ bytes_of h.before ++ (h.line).bytes ∷ bytes_of h.after = ap bytes_of h.content ∙ bytes-parts h.before h.after h.line in
-    not-good (bytes_of h.before) (bytes_of h.after) (h.line).bytes h.state t reason h.good (h.fault).holds (subst (λ (lines : List (List ℕ)). Follows start lines t) all good)
+    not-good (bytes_of h.before) (bytes_of h.after) (h.line).bytes h.state t reason h.good (h.fault).holds (subst (λ (lines : List (List ℕ)). FoldsTo Takes start lines t) all good)
 
 -- the order of the reasons tells them apart
 reason_at : ℕ → Reason
@@ -192,10 +192,10 @@ two-cuts a b (x ∷ xs) ys (z ∷ zs) ws e =
     more first (outside behind is) = outside behind (rw (first, is) refl)
 
 -- a faulty line is not within the good lines before another
-not-inside : (before more zs : List TextLine) (line : TextLine) (s t : State) (reason : Reason) → zs ≡ before ++ line ∷ more → Follows start (bytes_of before) s → Has s line.bytes reason → Follows start (bytes_of zs) t → ⊥
+not-inside : (before more zs : List TextLine) (line : TextLine) (s t : State) (reason : Reason) → zs ≡ before ++ line ∷ more → FoldsTo Takes start (bytes_of before) s → Has s line.bytes reason → FoldsTo Takes start (bytes_of zs) t → ⊥
 not-inside before more zs line s t reason is h has good =
     let all : bytes_of zs ≡ bytes_of before ++ line.bytes ∷ bytes_of more = ap bytes_of is ∙ bytes-parts before more line in
-    not-good (bytes_of before) (bytes_of more) line.bytes s t reason h has (subst (λ (lines : List (List ℕ)). Follows start lines t) all good)
+    not-good (bytes_of before) (bytes_of more) line.bytes s t reason h has (subst (λ (lines : List (List ℕ)). FoldsTo Takes start lines t) all good)
 
 -- two faulty lines of one text are one, with one reason
 faulty-once : (text : List ℕ) (number number' : ℕ) (reason reason' : Reason) → HasFaultyLine text number reason → HasFaultyLine text number' reason' → (number ≡ number') × (reason ≡ reason')
@@ -203,7 +203,7 @@ faulty-once text number number' reason reason' h g = at (two-cuts h.line g.line 
   where
     at : Cuts h.line g.line h.before h.after g.before g.after → (number ≡ number') × (reason ≡ reason')
     at (same_place front line) =
-        let good : Follows start (bytes_of h.before) g.state = rw front g.good in
+        let good : FoldsTo Takes start (bytes_of h.before) g.state = rw front g.good in
         let fault : FirstReason g.state (h.line).bytes reason' = rw line g.fault in
         let forth = follows-alike (bytes_of h.before) start start h.state g.state start-alike h.good good in
         let back = follows-alike (bytes_of h.before) start start g.state h.state start-alike good h.good in (

@@ -1,15 +1,14 @@
 -- A line has fewer labels than bytes: each label ends at a byte of its own, and the name of its element stands before the first.
 use Rattle.std.proofs.Common.{◌≡◌, ◌==◌, ℕ, ◌+◌, ◌<◌, ◌≤◌, ◌^◌, Bool, true, false, not, cond, List, [], ◌∷◌, length, map, Bor, bytes_eq, inl, inr, ap, arith, length-append}
-use Rattle.std.specs.List.{slice_split, onto_first, filter}
+use Rattle.std.specs.List.{slice_split, onto_first, filter, AllZip}
 use Rattle.std.proofs.lemmas.List.{length-map}
 use Rattle.std.proofs.lemmas.List.Sums.{length-filter, count_by-le-length}
 use Rattle.std.proofs.lemmas.List.Splits.{length-slice_split}
 use Rattle.sfm_text.specs.Lines.{is_blank, has_bytes, tokens_of, texts_of}
-use Rattle.sfm_text.specs.Matched.{Matched}
 use Rattle.sfm_text.specs.Parts.{LineParts, IsLabelToken, IsLabelledLine}
 use Rattle.sfm_text.specs.Words.{word_text, HasParts}
-use Rattle.sfm_text.specs.LabelTerms.{distinct_of, joined, place_among}
-use Rattle.sfm_text.specs.ReadParts.{bytes_in}
+use Rattle.sfm_text.specs.LabelTerms.{distinct_of, place_among}
+use Rattle.sfm_text.specs.ReadParts.{bytes_in, joined}
 use Rattle.sfm_text.specs.declared.word.RankKind.{RankKind}
 use Rattle.sfm_text.specs.declared.word.RankKind.TheVariants.{NoRank, UniformRank, LaminarRank, GraphicRank, TransversalRank}
 use Rattle.sfm_text.specs.declared.word.TermWord.{TermWord}
@@ -69,7 +68,7 @@ token-labels TransversalRank token entry h =
     let n = ap length h.labels in
     omega (arith, a, b, c, d, n)
 
-labels-few : (rank : RankKind) (tokens : List (List ℕ)) (entries : List (List ℕ × List (List ℕ))) → Matched (IsLabelToken rank) tokens entries → length (joined (map (λ entry. entry.1) entries)) ≤ bytes_in tokens
+labels-few : (rank : RankKind) (tokens : List (List ℕ)) (entries : List (List ℕ × List (List ℕ))) → AllZip (IsLabelToken rank) tokens entries → length (joined (map (λ entry. entry.1) entries)) ≤ bytes_in tokens
 labels-few rank [] [] h = omega arith
 labels-few rank [] (entry ∷ entries) h = absurd h
 labels-few rank (token ∷ tokens) [] h = absurd h

@@ -1,6 +1,6 @@
 -- The first reason of a long line of elements with labels, from what passes over its tokens tell.
 use Rattle.std.proofs.Common.{◌≡◌, ◌≢◌, ◌↔◌, IsTrue, inl, inr, ◌<◌, ◌≤◌, ℕ, Bool, true, false, MatchBool, List, [], ◌∷◌, ◌++◌, length, get_or, map, codes, ℤ, refl, sym, ap, ◌∙◌, arith}
-use Rattle.std.specs.List.{All, Any, AllWithin, HoldsAt}
+use Rattle.std.specs.List.{All, Any, AllWithin, HoldsAt, AllZip}
 use Rattle.std.proofs.lemmas.Bool.{false≢true}
 use Rattle.std.proofs.lemmas.List.{get_or_default, length-map}
 use Rattle.std.proofs.lemmas.List.Elements.{All-cons, All-nil, All-from_all_within}
@@ -13,14 +13,13 @@ use Rattle.sfm_text.specs.declared.word.RankKind.{RankKind}
 use Rattle.sfm_text.specs.declared.word.RankKind.TheVariants.{NoRank, UniformRank, LaminarRank, GraphicRank, TransversalRank}
 use Rattle.sfm_text.specs.declared.word.TermWord.TheVariants.{RankWord}
 use Rattle.sfm_text.specs.Lines.{pieces_of}
-use Rattle.sfm_text.specs.Matched.{Matched}
 use Rattle.sfm_text.specs.Parts.{LineParts, IsMark, IsCutAt, IsLabelToken, IsEdgeToken, IsEntryToken, IsRankHead, IsLabelledLine, IsRankLine, labelled_parts_of}
 use Rattle.sfm_text.specs.Words.{lowest_of, HasParts}
 use Rattle.sfm_text.specs.TermLines.{IsNumberFrom, IsElement}
 use Rattle.sfm_text.specs.Passes.{IsNumberOf, IsKnown, Holds, Fails, IsReasonOf, AreLabelsOf, label_word, HasLabels}
 use Rattle.sfm_text.proofs.LongNames.{many-twice}
 use Rattle.sfm_text.proofs.LongReasons.{AreNumbers, AreKnown, long-shape, long-number, long-name, long-label, long-twice}
-use Rattle.sfm_text.proofs.Matches.{Matched-at, length-Matched}
+use Rattle.sfm_text.proofs.Matches.{AllZip-at, length-AllZip}
 use Rattle.sfm_text.proofs.Passed.{any-here, any-behind, matched-each, matched-one, matched-all}
 use Rattle.sfm_text.proofs.Ranks.{cut-same, token-same}
 use Rattle.sfm_text.proofs.LongRanks.{other-word}
@@ -119,10 +118,10 @@ labelled-there GraphicRank has tokens parts h = inr (inr (inl h))
 labelled-there TransversalRank has tokens parts h = inr (inr (inr h))
 
 -- some token is none of an element with labels
-entry-none : (rank : RankKind) (tokens behind : List (List ℕ)) (entries : List (List ℕ × List (List ℕ))) → tokens ≡ behind → Matched (IsLabelToken rank) behind entries → Any (λ token. ((entry : List ℕ × List (List ℕ)) × IsLabelToken rank token entry) → ⊥) tokens → ⊥
+entry-none : (rank : RankKind) (tokens behind : List (List ℕ)) (entries : List (List ℕ × List (List ℕ))) → tokens ≡ behind → AllZip (IsLabelToken rank) behind entries → Any (λ token. ((entry : List ℕ × List (List ℕ)) × IsLabelToken rank token entry) → ⊥) tokens → ⊥
 entry-none rank tokens behind entries same each (k, token, lt, e, none) =
-    let each' : Matched (IsLabelToken rank) tokens entries = rw same each in
-    let (entry, p) = Matched-at (IsLabelToken rank) tokens entries k token each' lt in
+    let each' : AllZip (IsLabelToken rank) tokens entries = rw same each in
+    let (entry, p) = AllZip-at (IsLabelToken rank) tokens entries k token each' lt in
     none (entry, rw e at p)
 
 module _ (i : InstanceData) (rank : RankKind) (has : HasLabels rank) (number colon : List ℕ) (tokens more : List (List ℕ)) (is : more ≡ colon ∷ tokens) where
@@ -141,7 +140,7 @@ module _ (i : InstanceData) (rank : RankKind) (has : HasLabels rank) (number col
   pub labelled-entry : Any (λ token. Holds i.names (Labelled rank) token → ⊥) tokens → IsReasonOf i RankWord (number ∷ label_word rank ∷ more) Shape
   labelled-entry any = long-shape i RankWord (number ∷ label_word rank ∷ more) (λ parts h. let (l, same) = labelled-same parts h in entry-none rank tokens l.behind l.entries same.2 l.labelled.each any)
 
-  module _ (long : 1000 < length more) (no_mark : IsMark number → ⊥) (is_colon : colon ≡ codes ":") (entries : List (List ℕ × List (List ℕ))) (each : Matched (IsLabelToken rank) tokens entries) where
+  module _ (long : 1000 < length more) (no_mark : IsMark number → ⊥) (is_colon : colon ≡ codes ":") (entries : List (List ℕ × List (List ℕ))) (each : AllZip (IsLabelToken rank) tokens entries) where
     abbrev labelled-parts : LineParts
     labelled-parts = labelled_parts_of rank number entries
 
@@ -177,4 +176,4 @@ module _ (i : InstanceData) (rank : RankKind) (has : HasLabels rank) (number col
           refl
           (matched-all (IsLabelToken rank) (Holds i.names (NamedLabels rank)) (λ (entry : List ℕ × List (List ℕ)). entry.1) (λ texts. All IsName texts)
           (λ token entry p (other, q, good). let same : other ≡ entry = token-same rank token other entry q p in rw same at good) tokens entries each names)
-          (omega (arith, long, ap length is, length-map entries (λ (entry : List ℕ × List (List ℕ)). entry.0), length-Matched (IsLabelToken rank) tokens entries each))
+          (omega (arith, long, ap length is, length-map entries (λ (entry : List ℕ × List (List ℕ)). entry.0), length-AllZip (IsLabelToken rank) tokens entries each))

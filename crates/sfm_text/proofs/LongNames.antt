@@ -1,13 +1,12 @@
 -- Names of the elements of a ground: one that is none, and more of them than there are, among which one stands twice.
 use Rattle.std.proofs.Common.{◌≡◌, ◌≢◌, ◌⊎◌, inl, inr, ℕ, zero, suc, ◌<◌, ◌≤◌, Some, Contains, List, [], ◌∷◌, length, get_or, true, false, Bool, MatchBool, sym, ap, ◌∙◌, arith}
-use Rattle.std.specs.List.{All}
+use Rattle.std.specs.List.{All, AllZip}
 use Rattle.std.proofs.lemmas.Bool.{cases_lt}
 use Rattle.std.proofs.lemmas.Option.{slice_get-get_or, slice_get_within, same_Some}
 use Rattle.std.proofs.lemmas.List.Elements.{All-cons, All-nil}
 use mathlib.Core.Logic.{⊎_elim}
 use Rattle.sfm_base.proofs.Elements.{placed_few}
 use Rattle.sfm_kind.specs.Names.{IsNewName}
-use Rattle.sfm_text.specs.Matched.{Matched}
 use Rattle.sfm_text.specs.Parts.{IsPairToken}
 use Rattle.sfm_text.specs.TermLines.{IsElement, StandsTwice}
 use Rattle.sfm_text.specs.Passes.{IsKnown}
@@ -63,7 +62,7 @@ twice-or-once (x ∷ xs) = ⊎_elim
     apart (suc i) (suc j) new once lt within e = once (twice-at xs i j 0 (omega (arith, lt)) (omega (arith, within)) e)
 
 -- more elements than there are names
-pub many-twice : (names texts : List (List ℕ)) (places : List ℕ) → length names ≤ 256 → Matched (IsElement names) texts places → 256 < length places → StandsTwice places
+pub many-twice : (names texts : List (List ℕ)) (places : List ℕ) → length names ≤ 256 → AllZip (IsElement names) texts places → 256 < length places → StandsTwice places
 many-twice names texts places few known many = ⊎_elim
     (λ (t : StandsTwice places). t)
     (λ (once : StandsTwice places → ⊥). absurd (omega (arith, many, placed_few 256 places (elements-placed names texts places few known once))))

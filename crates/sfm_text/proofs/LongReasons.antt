@@ -1,6 +1,6 @@
 -- The first reason of a long line, from what passes over its tokens tell.
 use Rattle.std.proofs.Common.{◌≡◌, ◌<◌, ◌≤◌, ℕ, ◌^◌, List, [], ◌∷◌, ◌++◌, length, take, map, codes, ℤ, refl, ap, arith, length-append}
-use Rattle.std.specs.List.{All, Any}
+use Rattle.std.specs.List.{All, Any, AllZip}
 use Rattle.std.proofs.Math.Pow.{pow_mono}
 use Rattle.std.proofs.lemmas.List.{length-map}
 use Rattle.std.proofs.lemmas.List.Elements.{All-nil}
@@ -11,14 +11,13 @@ use Rattle.sfm_text.specs.declared.reason.Reason.TheVariants.{Shape, Number, Nam
 use Rattle.sfm_text.specs.declared.token_test.TokenTest.TheVariants.{Pair, PairNumber, PairElement, Value, Element}
 use Rattle.sfm_text.specs.declared.word.TermWord.{TermWord}
 use Rattle.sfm_text.specs.declared.word.TermWord.TheVariants.{WeightWord, CoverWord, ConcaveWord}
-use Rattle.sfm_text.specs.Matched.{Matched}
 use Rattle.sfm_text.specs.Parts.{LineParts, plain_parts, IsMark, AreUnmarked, IsPairToken, IsWeightLine, IsCutLine, IsNeedLine, IsCoverLine, IsCutAtColon, IsTableLine, IsConcaveCount, IsConcaveLine}
 use Rattle.sfm_text.specs.Words.{lowest_of, HasParts}
 use Rattle.sfm_text.specs.TermLines.{IsNumberFrom, IsElement}
 use Rattle.sfm_text.specs.Reading.{HasWrongLabel}
 use Rattle.sfm_text.specs.Passes.{IsNumberOf, IsKnown, Holds, IsReasonOf}
 use Rattle.sfm_text.proofs.Colons.{none-any, colon-same}
-use Rattle.sfm_text.proofs.Matches.{Matched-at, length-Matched}
+use Rattle.sfm_text.proofs.Matches.{AllZip-at, length-AllZip}
 use Rattle.sfm_text.proofs.LongNames.{unknown-new, many-twice}
 use Rattle.sfm_text.proofs.Passed.{any-here, all-matched, matched-each, matched-one}
 use Rattle.sfm_text.proofs.TermReasons.{at-shape, at-number, at-name, at-label, at-twice}
@@ -26,10 +25,10 @@ use Rattle.sfm_text.proofs.WordLines.{pair-same}
 
 -- texts that are numbers of the word's line, and texts that name elements
 abbrev pub AreNumbers : TermWord → List (List ℕ) → Type 0
-AreNumbers word texts = (values : List ℤ) × Matched (IsNumberFrom (lowest_of word)) texts values
+AreNumbers word texts = (values : List ℤ) × AllZip (IsNumberFrom (lowest_of word)) texts values
 
 abbrev pub AreKnown : List (List ℕ) → List (List ℕ) → Type 0
-AreKnown names texts = (places : List ℕ) × Matched (IsElement names) texts places
+AreKnown names texts = (places : List ℕ) × AllZip (IsElement names) texts places
 
 module _ (i : InstanceData) (word : TermWord) (rest : List (List ℕ)) where
   pub long-shape : ((parts : LineParts) → HasParts word rest parts → ⊥) → IsReasonOf i word rest Shape
@@ -49,7 +48,7 @@ module _ (i : InstanceData) (word : TermWord) (rest : List (List ℕ)) where
       pub long-twice : AreElementNames i.names → AreKnown i.names parts.elements → parts.groups ≡ [] → All (λ texts. All IsName texts) parts.labels → 256 < length parts.elements → IsReasonOf i word rest Twice
       long-twice named (places, known) groups labels many = λ line is.
           at-twice i word rest line is parts shape numbers.0 numbers.1 places named known (rw groups (All-nil _)) labels
-          (many-twice i.names parts.elements places named.few known (omega (arith, many, length-Matched (IsElement i.names) parts.elements places known)))
+          (many-twice i.names parts.elements places named.few known (omega (arith, many, length-AllZip (IsElement i.names) parts.elements places known)))
 
 -- ---- lines with few tokens
 
@@ -69,10 +68,10 @@ no-table tokens long parts h =
 -- some token is no pair
 pub no-weight : (names tokens : List (List ℕ)) → Any (λ token. Holds names Pair token → ⊥) tokens → (parts : LineParts) → IsWeightLine tokens parts → ⊥
 no-weight names tokens (k, token, lt, e, none) parts h =
-    let (pair, p) = Matched-at IsPairToken tokens h.pairs k token h.each lt in
+    let (pair, p) = AllZip-at IsPairToken tokens h.pairs k token h.each lt in
     none (pair, rw e at p)
 
-module _ (i : InstanceData) (tokens : List (List ℕ)) (long : 1024 < length tokens) (pairs : List (List ℕ × List ℕ)) (each : Matched IsPairToken tokens pairs) where
+module _ (i : InstanceData) (tokens : List (List ℕ)) (long : 1024 < length tokens) (pairs : List (List ℕ × List ℕ)) (each : AllZip IsPairToken tokens pairs) where
   weight-line : IsWeightLine tokens (plain_parts (map (λ pair. pair.1) pairs) (map (λ pair. pair.0) pairs))
   weight-line = record { pairs = pairs; some = omega (arith, long); each = each; parts_are = refl }
 
@@ -93,7 +92,7 @@ module _ (i : InstanceData) (tokens : List (List ℕ)) (long : 1024 < length tok
     weight-twice named elements = long-twice i WeightWord tokens (plain_parts (map (λ pair. pair.1) pairs) (map (λ pair. pair.0) pairs)) weight-line weight-values named
         (matched-each IsPairToken (Holds i.names PairElement) (λ (pair : List ℕ × List ℕ). pair.0) (IsElement i.names)
         (λ token pair p (other, q, known). let same : other ≡ pair = pair-same token other pair q p in rw same at known) tokens pairs each elements)
-        refl (All-nil _) (omega (arith, long, length-map pairs (λ (pair : List ℕ × List ℕ). pair.0), length-Matched IsPairToken tokens pairs each))
+        refl (All-nil _) (omega (arith, long, length-map pairs (λ (pair : List ℕ × List ℕ). pair.0), length-AllZip IsPairToken tokens pairs each))
 
 -- ---- a cover
 

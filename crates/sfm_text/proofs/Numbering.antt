@@ -1,5 +1,6 @@
 -- The different texts of a list, as insertions into a set make them, and the place of a text among them.
 use Rattle.std.proofs.Common.{◌≡◌, ℕ, ◌+◌, ◌<◌, ◌≤◌, Bool, true, false, not, cond, ◌||◌, if◌then◌else◌, List, [], ◌∷◌, ◌++◌, length, get_or, take, map, Bor, refl, sym, ap, ◌∙◌, arith}
+use Rattle.sfm_text.specs.ReadParts.{joined}
 use Rattle.std.specs.Prelude.{bytes_eq}
 use Rattle.std.specs.Option.{unwrap_or}
 use Rattle.std.specs.List.{filter, list_any, position, position_or_len}
@@ -8,7 +9,7 @@ use mathlib.Core.Logic.{⊎_elim}
 use Rattle.std.proofs.lemmas.Slice.Eq.{bytes_eq-Decides}
 use Rattle.std.proofs.lemmas.List.{append_assoc, map-append, map_more}
 use Rattle.std.proofs.lemmas.List.Elements.{filter-append}
-use Rattle.sfm_text.specs.LabelTerms.{distinct_of, joined, place_among}
+use Rattle.sfm_text.specs.LabelTerms.{distinct_of, place_among}
 
 -- whether a text is one of some
 abbrev has : List ℕ → List (List ℕ) → Bool

@@ -1,10 +1,9 @@
 -- What a pass over tokens knows, as it comes to one more of them.
 use Rattle.std.proofs.Common.{◌≡◌, ◌≢◌, ℕ, ◌+◌, ◌-◌, ◌<◌, ◌≤◌, List, [], ◌∷◌, ◌++◌, length, get_or, take, map, Bor, Contains, refl, sym, ap, ◌∙◌, append_assoc, length-append, arith}
 use Prim.Native.Nat.{zero, suc}
-use Rattle.std.specs.List.{All, Any}
+use Rattle.std.specs.List.{All, Any, AllZip}
 use Rattle.std.proofs.lemmas.List.{map-append, append-nil, take_all}
 use Rattle.std.proofs.lemmas.List.Elements.{All-cons, All-nil}
-use Rattle.sfm_text.specs.Matched.{Matched}
 use Rattle.sfm_text.specs.TermLines.{StandsTwice}
 use Rattle.sfm_text.proofs.Repeats.{twice-seen, once-more}
 
@@ -42,7 +41,7 @@ all-tail : {X : Type 0} (P : X → Type 0) (x : X) (xs : List X) → All P (x �
 all-tail P x xs h = λ k d lt. h (suc k) d (omega (arith, lt))
 
 -- each has something that it stands to
-pub all-matched : {A B : Type 0} (P : A → B → Type 0) (xs : List A) → All (λ x. (y : B) × P x y) xs → ((ys : List B) × Matched P xs ys)
+pub all-matched : {A B : Type 0} (P : A → B → Type 0) (xs : List A) → All (λ x. (y : B) × P x y) xs → ((ys : List B) × AllZip P xs ys)
 all-matched P [] h = ([], tt)
 all-matched P (x ∷ xs) h =
     let (y, p) = h 0 x (omega arith) in
@@ -50,7 +49,7 @@ all-matched P (x ∷ xs) h =
     (y ∷ ys, (p, m))
 
 -- what is said of each of the first list is said of what it stands to
-pub matched-each : {A B C D : Type 0} (P : A → B → Type 0) (Q : A → Type 0) (f : B → C) (R : C → D → Type 0) → ((x : A) (y : B) → P x y → Q x → (z : D) × R (f y) z) → (xs : List A) (ys : List B) → Matched P xs ys → All Q xs → ((zs : List D) × Matched R (map f ys) zs)
+pub matched-each : {A B C D : Type 0} (P : A → B → Type 0) (Q : A → Type 0) (f : B → C) (R : C → D → Type 0) → ((x : A) (y : B) → P x y → Q x → (z : D) × R (f y) z) → (xs : List A) (ys : List B) → AllZip P xs ys → All Q xs → ((zs : List D) × AllZip R (map f ys) zs)
 matched-each P Q f R g [] [] m h = ([], tt)
 matched-each P Q f R g [] (y ∷ ys) m h = absurd m
 matched-each P Q f R g (x ∷ xs) [] m h = absurd m
@@ -59,14 +58,14 @@ matched-each P Q f R g (x ∷ xs) (y ∷ ys) (p, m) h =
     let (zs, n) = matched-each P Q f R g xs ys m (all-tail Q x xs h) in
     (z ∷ zs, (r, n))
 
-pub matched-all : {A B C : Type 0} (P : A → B → Type 0) (Q : A → Type 0) (f : B → C) (R : C → Type 0) → ((x : A) (y : B) → P x y → Q x → R (f y)) → (xs : List A) (ys : List B) → Matched P xs ys → All Q xs → All R (map f ys)
+pub matched-all : {A B C : Type 0} (P : A → B → Type 0) (Q : A → Type 0) (f : B → C) (R : C → Type 0) → ((x : A) (y : B) → P x y → Q x → R (f y)) → (xs : List A) (ys : List B) → AllZip P xs ys → All Q xs → All R (map f ys)
 matched-all P Q f R g [] [] m h = All-nil R
 matched-all P Q f R g [] (y ∷ ys) m h = absurd m
 matched-all P Q f R g (x ∷ xs) [] m h = absurd m
 matched-all P Q f R g (x ∷ xs) (y ∷ ys) (p, m) h = All-cons R (f y) (map f ys) (g x y p (h 0 x (omega arith))) (matched-all P Q f R g xs ys m (all-tail Q x xs h))
 
 -- and what is said of one
-pub matched-one : {A B C : Type 0} (P : A → B → Type 0) (Q : A → Type 0) (f : B → C) (R : C → Type 0) → ((x : A) (y : B) → P x y → Q x → R (f y)) → (xs : List A) (ys : List B) → Matched P xs ys → Any Q xs → Any R (map f ys)
+pub matched-one : {A B C : Type 0} (P : A → B → Type 0) (Q : A → Type 0) (f : B → C) (R : C → Type 0) → ((x : A) (y : B) → P x y → Q x → R (f y)) → (xs : List A) (ys : List B) → AllZip P xs ys → Any Q xs → Any R (map f ys)
 matched-one P Q f R g [] ys m (k, x, lt, at, q) = absurd (omega (arith, lt))
 matched-one P Q f R g (u ∷ xs) [] m any = absurd m
 matched-one P Q f R g (u ∷ xs) (v ∷ ys) (p, m) (zero, x, lt, at, q) = any-here R (f v) (map f ys) _ refl (g u v p (rw (sym at) at q))

@@ -2,14 +2,13 @@
 use Rattle.std.proofs.Common.{◌≡◌, ℕ, suc, ◌≤◌, nat_eq, length, List, [], ◌∷◌, Bool, true, false, cond, get_or, map, codes, Bor, Option, Some, None, MatchOption, refl, sym, ap, ◌∙◌, arith}
 use Rattle.std.proofs.lemmas.Bool.{false≢true}
 use Rattle.std.proofs.lemmas.Bool.Decides.{nat_tests}
-use Rattle.std.specs.List.{slice_split, onto_first, IsFirstAndRest}
-use Rattle.sfm_text.specs.Matched.{Matched}
+use Rattle.std.specs.List.{slice_split, onto_first, IsFirstAndRest, AllZip}
 use Rattle.std.proofs.lemmas.List.{length-map}
 use Rattle.sfm_text.specs.declared.word.RankKind.TheVariants.{UniformRank}
 use Rattle.sfm_text.specs.Parts.{LineParts, plain_parts, IsCutAtColon, IsConcaveLine, IsUniformLine, IsGroupCut, AreGroupsCut, IsRankHead, IsLaminarLine, is_semicolon, cut_at_semicolons, laminar_parts_of}
 use Rattle.sfm_text.proofs.Colons.{colon-same}
 use Rattle.sfm_text.proofs.Repeats.{text-at}
-use Rattle.sfm_text.proofs.Matches.{Matched-same}
+use Rattle.sfm_text.proofs.Matches.{AllZip-same}
 
 -- cutting commutes with what the elements stand for
 pub split-map : {X Y : Type 0} (f : X → Y) (p : Y → Bool) (xs : List X) → map (λ piece. map f piece) (slice_split (λ x. p (f x)) xs) ≡ slice_split p (map f xs)
@@ -58,8 +57,8 @@ groups-same pieces elements elements' groups groups' h g =
     let both : elements ∷ h.rest ≡ elements' ∷ g.rest = sym h.pieces_are ∙ g.pieces_are in
     let first : elements ≡ elements' = cc in
     let rest : h.rest ≡ g.rest = cc in
-    let each : Matched IsGroupCut g.rest groups = rw rest at h.each in
-    (first, Matched-same IsGroupCut group-same g.rest groups groups' each g.each)
+    let each : AllZip IsGroupCut g.rest groups = rw rest at h.each in
+    (first, AllZip-same IsGroupCut group-same g.rest groups groups' each g.each)
 
 pub laminar-same : (tokens : List (List ℕ)) (p q : LineParts) → IsLaminarLine tokens p → IsLaminarLine tokens q → p ≡ q
 laminar-same tokens p q h g =
@@ -108,7 +107,7 @@ pub first-lists : (pieces : List (Bor (List (Bor (List ℕ))))) (first : Bor (Li
 first-lists pieces first rest h = ap (λ (l : List (Bor (List (Bor (List ℕ))))). map (λ piece. map (λ t. t.now) piece.now) l) h.0
 
 -- what stands behind the elements is cut into the groups
-pub each-cut : (pieces : List (List (List ℕ))) (first : List (List ℕ)) (rest : List (List (List ℕ))) (elements : List (List ℕ)) (groups : List (List ℕ × List (List ℕ))) → pieces ≡ first ∷ rest → AreGroupsCut pieces elements groups → Matched IsGroupCut rest groups
+pub each-cut : (pieces : List (List (List ℕ))) (first : List (List ℕ)) (rest : List (List (List ℕ))) (elements : List (List ℕ)) (groups : List (List ℕ × List (List ℕ))) → pieces ≡ first ∷ rest → AreGroupsCut pieces elements groups → AllZip IsGroupCut rest groups
 each-cut pieces first rest elements groups e h =
     let both : elements ∷ h.rest ≡ first ∷ rest = sym h.pieces_are ∙ e in
     let same : h.rest ≡ rest = cc in

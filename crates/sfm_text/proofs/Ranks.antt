@@ -1,13 +1,13 @@
 -- Lines of ranks: each is a line of one rank, which its third word tells, and has one list of parts.
 use Rattle.std.proofs.Common.{◌≡◌, ℕ, nat_eq, List, [], ◌∷◌, if◌then◌else◌, get_or, codes, Option, Some, None, MatchOption, refl, sym, ap, ◌∙◌, inl, inr, subst}
-use Rattle.sfm_text.specs.Matched.{Matched}
+use Rattle.std.specs.List.{AllZip}
 use Rattle.sfm_text.specs.declared.word.RankKind.{RankKind}
 use Rattle.sfm_text.specs.declared.word.RankKind.TheVariants.{NoRank, UniformRank, LaminarRank, GraphicRank, TransversalRank}
 use Rattle.sfm_text.specs.Lines.{pieces_of}
 use Rattle.sfm_text.specs.Parts.{LineParts, IsCutAt, IsEdgeToken, IsEntryToken, IsLabelToken, AreLabelled, IsRankHead, IsLabelledLine, IsUniformLine, IsLaminarLine, IsGraphicLine, IsTransversalLine, IsRankLine, labelled_parts_of}
 use Rattle.sfm_text.proofs.Cutting.{front-same}
 use Rattle.sfm_text.proofs.Pieces.{uniform-same, laminar-same}
-use Rattle.sfm_text.proofs.Matches.{Matched-same}
+use Rattle.sfm_text.proofs.Matches.{AllZip-same}
 
 -- a token is cut in one way
 pub cut-same : (b : ℕ) (token x y x' y' : List ℕ) → IsCutAt b token x y → IsCutAt b token x' y' → (x ≡ x') × (y ≡ y')
@@ -38,8 +38,8 @@ labelled-same rank word tokens p q h g =
     let both : h.number ∷ word ∷ codes ":" ∷ h.behind ≡ g.number ∷ word ∷ codes ":" ∷ g.behind = sym h.head.tokens_are ∙ g.head.tokens_are in
     let number : h.number ≡ g.number = cc in
     let behind : h.behind ≡ g.behind = cc in
-    let each : Matched (IsLabelToken rank) g.behind h.entries = rw behind at h.labelled.each in
-    let entries : h.entries ≡ g.entries = Matched-same (IsLabelToken rank) (token-same rank) g.behind h.entries g.entries each g.labelled.each in
+    let each : AllZip (IsLabelToken rank) g.behind h.entries = rw behind at h.labelled.each in
+    let entries : h.entries ≡ g.entries = AllZip-same (IsLabelToken rank) (token-same rank) g.behind h.entries g.entries each g.labelled.each in
     h.parts_are ∙ (rw (number, entries) refl ∙ sym g.parts_are)
 
 -- a line that begins so has the parts that its tokens have, or none

@@ -13,7 +13,7 @@ use Rattle.sfm_text.specs.declared.word.RankKind.{RankKind}
 use Rattle.sfm_text.specs.declared.word.RankKind.TheVariants.{NoRank, UniformRank, LaminarRank, GraphicRank, TransversalRank}
 use Rattle.sfm_text.specs.declared.word.TermWord.{TermWord}
 use Rattle.sfm_text.specs.declared.word.TermWord.TheVariants.{WeightWord, CutWord, NeedWord, CoverWord, TableWord, ConcaveWord, RankWord}
-use Rattle.sfm_text.proofs.Matches.{length-Matched, All-Matched}
+use Rattle.sfm_text.proofs.Matches.{length-AllZip, All-AllZip}
 use Rattle.sfm_text.proofs.Numbers.{small-number}
 use Rattle.sfm_text.proofs.Ranks.{IsLineOfRank, line-of-rank}
 
@@ -50,15 +50,15 @@ split-elements count tokens parts h = ap (λ (p : LineParts). length p.elements)
 
 module _ (word : TermWord) (parts : LineParts) (values : List ℤ) (places : List ℕ) (h : AreRead word parts values places) where
   values-count : length values ≡ length parts.numbers
-  values-count = length-Matched (IsNumberFrom (lowest_of word)) parts.numbers values h.numbers
+  values-count = length-AllZip (IsNumberFrom (lowest_of word)) parts.numbers values h.numbers
 
   -- the numbers are small
   pub read-small : All (IsAtMost (10 ^ 12)) values
-  read-small = All-Matched (IsNumberFrom (lowest_of word)) (IsAtMost (10 ^ 12)) (small-number word) parts.numbers values h.numbers
+  read-small = All-AllZip (IsNumberFrom (lowest_of word)) (IsAtMost (10 ^ 12)) (small-number word) parts.numbers values h.numbers
 
   -- and not negative, where none may be
   pub read-low : lowest_of word ≡ pos 0 → All (λ value. pos 0 ≤ℤ value) values
-  read-low zero = All-Matched (IsNumberFrom (lowest_of word)) (λ value. pos 0 ≤ℤ value) (λ text value n. omega (arith, ints, zero, n.low)) parts.numbers values h.numbers
+  read-low zero = All-AllZip (IsNumberFrom (lowest_of word)) (λ value. pos 0 ≤ℤ value) (λ text value n. omega (arith, ints, zero, n.low)) parts.numbers values h.numbers
 
   read-elements : 1 ≤ length places → AreElements places
   read-elements some = record { some = omega (arith, some); placed = h.placed }
@@ -71,7 +71,7 @@ weight-count parts values places h =
 pub weight-elements : (parts : LineParts) (values : List ℤ) (places : List ℕ) → AreRead WeightWord parts values places → AreElements places
 weight-elements parts values places h =
     let each = h.shape.pairs in
-    read-elements WeightWord parts values places h (omega (arith, h.elements, h.shape.some, ap (λ (p : LineParts). length p.elements) h.shape.parts_are, length-map each (λ (p : List ℕ × List ℕ). p.0), length-Matched IsPairToken h.tokens each h.shape.each))
+    read-elements WeightWord parts values places h (omega (arith, h.elements, h.shape.some, ap (λ (p : LineParts). length p.elements) h.shape.parts_are, length-map each (λ (p : List ℕ × List ℕ). p.0), length-AllZip IsPairToken h.tokens each h.shape.each))
 
 pub cut-number : (parts : LineParts) (values : List ℤ) (places : List ℕ) → AreRead CutWord parts values places → length values ≡ 1
 cut-number parts values places h = omega (arith, values-count CutWord parts values places h, split-numbers 1 h.tokens parts h.shape.split, h.shape.count)
@@ -140,7 +140,7 @@ module _ (parts : LineParts) (values : List ℤ) (places : List ℕ) (h : AreRea
     labelled-each = ap (λ (p : LineParts). length p.labels) line.parts_are ∙ (length-map line.entries (λ (e : List ℕ × List (List ℕ)). e.1) ∙ sym entries-count)
 
     labelled-elements : AreElements places
-    labelled-elements = read-elements RankWord parts values places h (omega (arith, entries-count, line.labelled.some, length-Matched (IsLabelToken rank) line.behind line.entries line.labelled.each))
+    labelled-elements = read-elements RankWord parts values places h (omega (arith, entries-count, line.labelled.some, length-AllZip (IsLabelToken rank) line.behind line.entries line.labelled.each))
 
   module _ (is : parts.rank ≡ GraphicRank) where
     as-graphic : IsGraphicLine h.tokens parts
@@ -159,7 +159,7 @@ module _ (parts : LineParts) (values : List ℤ) (places : List ℕ) (h : AreRea
     pub graphic-two : All (λ texts. length texts ≡ 2) parts.labels
     graphic-two =
         let line = as-graphic in
-        let each : All (λ (e : List ℕ × List (List ℕ)). length e.1 ≡ 2) line.entries = All-Matched (IsLabelToken GraphicRank) (λ (e : List ℕ × List (List ℕ)). length e.1 ≡ 2) (λ token e edge. ap length edge.labels) line.behind line.entries line.labelled.each in
+        let each : All (λ (e : List ℕ × List (List ℕ)). length e.1 ≡ 2) line.entries = All-AllZip (IsLabelToken GraphicRank) (λ (e : List ℕ × List (List ℕ)). length e.1 ≡ 2) (λ token e edge. ap length edge.labels) line.behind line.entries line.labelled.each in
         let all = All-map (λ texts. length texts ≡ 2) (λ (e : List ℕ × List (List ℕ)). e.1) line.entries each in
         rw (ap (λ (p : LineParts). p.labels) line.parts_are) all
 

@@ -1,5 +1,6 @@
 -- Two terms that one line stands for have the same places and the same size.
 use Rattle.std.proofs.Common.{◌≡◌, ◌≢◌, ℕ, ◌<◌, ◌≤◌, ◌^◌, inl, inr, List, [], ◌∷◌, ◌++◌, length, map, get_or, AllPairs, ℤ, pos, refl, sym, ap, ◌∙◌, arith}
+use Rattle.std.specs.List.{AllZip}
 use Rattle.std.proofs.lemmas.Int.{ints, by_lt_z}
 use Rattle.std.proofs.lemmas.Bool.{cases_lt}
 use Rattle.std.proofs.lemmas.Option.{slice_get_within}
@@ -25,7 +26,6 @@ use Rattle.sfm_laminar.specs.declared.laminar.Laminar as laminars
 use Rattle.sfm_matroid.specs.declared.graphic.Graphic as graphics
 use Rattle.sfm_matroid.specs.declared.transversal.Transversal as transversals
 use Rattle.sfm_kind.proofs.Bounds.{kind-elements, total_size-push, support-push, in_bounds-push}
-use Rattle.sfm_text.specs.Matched.{Matched}
 use Rattle.sfm_text.specs.Parts.{LineParts}
 use Rattle.sfm_text.specs.Words.{lowest_of, IsMadeOf, IsTermOf}
 use Rattle.sfm_text.specs.RankLines.{groups_of, IsRankMadeOf}
@@ -37,7 +37,7 @@ use Rattle.sfm_text.specs.Reading.{AreTooMuch}
 use Rattle.sfm_text.specs.declared.word.TermWord.{TermWord}
 use Rattle.sfm_text.specs.declared.word.TermWord.TheVariants.{WeightWord, CutWord, NeedWord, CoverWord, TableWord, ConcaveWord, RankWord}
 use Rattle.sfm_text.proofs.WordLines.{of-term-line}
-use Rattle.sfm_text.proofs.Matches.{Matched-same, Matched-both, length-Matched}
+use Rattle.sfm_text.proofs.Matches.{AllZip-same, AllZip-both, length-AllZip}
 use Rattle.sfm_text.proofs.Numbers.{from-same}
 use Rattle.sfm_text.proofs.TermReasons.{place-same}
 use Rattle.sfm_text.proofs.TooMuch.{much-by-total, total-by-much}
@@ -156,10 +156,10 @@ pub record AgreeInTotal (s t : Kind) : Type 0 where
 
 pub stands-same : (names tokens : List (List ℕ)) (s t : Kind) → AllPairs (λ a b. a ≢ b) names → StandsFor names tokens s → StandsFor names tokens t → AgreeInTotal s t
 stands-same names tokens s t distinct h g =
-    let P : TermWord → List (List ℕ) → LineParts → Type 0 = λ word rest parts. (values : List ℤ) × (places : List ℕ) × Matched (IsNumberFrom (lowest_of word)) parts.numbers values × Matched (IsElement names) parts.elements places × IsTermOf word parts values places t in
+    let P : TermWord → List (List ℕ) → LineParts → Type 0 = λ word rest parts. (values : List ℤ) × (places : List ℕ) × AllZip (IsNumberFrom (lowest_of word)) parts.numbers values × AllZip (IsElement names) parts.elements places × IsTermOf word parts values places t in
     let (values, places, numbers, elements, made) = of-term-line h.word tokens h.rest h.parts P (h.shaped).first (h.shaped).shape (g.word, g.rest, g.parts, g.shaped, (g.values, g.places, g.numbers, g.elements, g.made)) in
-    let same_values : values ≡ h.values = Matched-same (IsNumberFrom (lowest_of h.word)) (from-same (lowest_of h.word)) h.parts.numbers values h.values numbers h.numbers in
-    let same_places : places ≡ h.places = Matched-same (IsElement names) (place-same names distinct) h.parts.elements places h.places elements h.elements in
+    let same_values : values ≡ h.values = AllZip-same (IsNumberFrom (lowest_of h.word)) (from-same (lowest_of h.word)) h.parts.numbers values h.values numbers h.numbers in
+    let same_places : places ≡ h.places = AllZip-same (IsElement names) (place-same names distinct) h.parts.elements places h.places elements h.elements in
     let made' : IsTermOf h.word h.parts h.values h.places t = rw (same_values, same_places) at made in
     record {
       places = (h.made).same_places ∙ sym made'.same_places;
@@ -177,12 +177,12 @@ much-same terms s t same (inr (inr (meant, means, many))) =
 pub stands-placed : (names tokens : List (List ℕ)) (term : Kind) → StandsFor names tokens term → IsPlaced (length names) (kind_places term)
 stands-placed names tokens term h =
     let is : kind_places term ≡ h.places = (h.made).same_places in
-    let n = length-Matched (IsElement names) h.parts.elements h.places h.elements in
+    let n = length-AllZip (IsElement names) h.parts.elements h.places h.elements in
     record {
       below = λ j lt.
           let within : j < length h.places = omega (arith, lt, ap length is) in
           let at : get_or (kind_places term) j 0 ≡ get_or h.places j 0 = ap (λ (l : List ℕ). get_or l j 0) is in
-          rw at (slice_get_within names (get_or h.places j 0) (get_or h.parts.elements j []) (Matched-both (IsElement names) h.parts.elements h.places j [] 0 h.elements (omega (arith, within, n))));
+          rw at (slice_get_within names (get_or h.places j 0) (get_or h.parts.elements j []) (AllZip-both (IsElement names) h.parts.elements h.places j [] 0 h.elements (omega (arith, within, n))));
       distinct = ((kind-elements term).placed).distinct;
     }
 

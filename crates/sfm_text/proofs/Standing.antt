@@ -2,7 +2,7 @@
 use Rattle.std.proofs.Common.{◌≡◌, ◌≢◌, ◌⊎◌, Bor, inl, inr, ℕ, ◌+◌, ◌<◌, ◌≤◌, min, List, [], ◌∷◌, ◌++◌, ◌-◌, length, get_or, take, drop, map, not, Bool, true, false, Option, Some, None, MatchOption, is_some, Result, Ok, Err, refl, sym, ap, subst, ◌∙◌, arith, append_assoc, length-append}
 use Prim.Native.Nat.{zero, suc}
 use Rattle.std.specs.Prelude.{◌==◌, OnOk, IfOk, IfErr}
-use Rattle.std.specs.List.{All, concat, filter, position_or_len}
+use Rattle.std.specs.List.{All, concat, filter, position_or_len, FoldsTo}
 use Rattle.std.specs.Str.Lines.{strip_carriage_return}
 use Rattle.std.proofs.lemmas.Bool.{false≢true, eqb-true}
 use Rattle.std.proofs.lemmas.List.{append-nil, map-append, length-take, get_or-take, map_more, take_all}
@@ -13,7 +13,7 @@ use Rattle.sfm_text.specs.declared.end.TextEnd.{TextEnd}
 use Rattle.sfm_text.specs.declared.line_fault.Fault.{Fault}
 use Rattle.sfm_text.specs.declared.reader.Reader.{Reader}
 use Rattle.sfm_text.specs.Lines.{TextLine, pieces_of, without_empty_last, numbered, content_among, content_of, lines_of, tokens_of, are_skipped}
-use Rattle.sfm_text.specs.Reading.{start, Takes, Follows}
+use Rattle.sfm_text.specs.Reading.{start, Takes}
 use Rattle.sfm_text.specs.declared.reason.Reason.TheVariants.{Long, Short}
 use Rattle.sfm_text.specs.declared.stage.Stage.{Stage}
 use Rattle.sfm_text.specs.declared.stage.Stage.TheVariants.{Ended}
@@ -84,7 +84,7 @@ lead-passes ended piece p q lead passes = at passes.kept
         record {
           count = count;
           numbers = more ∙ (rw (lead.numbers, number) (sym (map-append number_of before (line ∷ []))) ∙ ap (map number_of) (sym e));
-          good = subst (λ (lines : List TextLine). Follows start (bytes_of lines) q.state) (sym e) good;
+          good = subst (λ (lines : List TextLine). FoldsTo Takes start (bytes_of lines) q.state) (sym e) good;
         }
     at (inr (skipped, same, state)) =
         let e = content-no ended piece skipped in
@@ -224,7 +224,7 @@ open-last text rest p none is =
     let lines : lines_of text ≡ numbered 1 0 is.ended = ap (λ (pieces : List (List ℕ)). numbered 1 0 (without_empty_last pieces)) cut ∙ ap (numbered 1 0) (without-last is.ended [] [] ∙ append-nil is.ended) in
     record {
       count = (is.lead).count ∙ sym (ap length lines ∙ length-numbered 1 0 is.ended);
-      good = subst (λ (l : List TextLine). Follows start (bytes_of (content_among l)) p.state) (sym lines) (is.lead).good;
+      good = subst (λ (l : List TextLine). FoldsTo Takes start (bytes_of (content_among l)) p.state) (sym lines) (is.lead).good;
     }
 
 -- a text whose last line does not end with a line feed
@@ -239,7 +239,7 @@ line-last text piece old new some is same judged = at new.fault (subst (λ (l : 
         let lead = lead-passes is.ended old.rest.items (progress_of old) (progress_of new) is.lead passes in
         record {
           count = lead.count ∙ sym (ap length lines ∙ length-numbered 1 0 (is.ended ++ old.rest.items ∷ []));
-          good = subst (λ (l : List TextLine). Follows start (bytes_of (content_among l)) (progress_of new).state) (sym lines) lead.good;
+          good = subst (λ (l : List TextLine). FoldsTo Takes start (bytes_of (content_among l)) (progress_of new).state) (sym lines) lead.good;
         }
     at (Some fault) fails = faulty-line text is.ended old.rest.items [] (progress_of old) fault lines is.lead fails
 
@@ -301,7 +301,7 @@ conclude-good reader text short all none stage =
     let lead = leads reader text none all in
     record {
       short = short;
-      lines = subst (λ (s : Stage). Follows start (bytes_of (content_of text)) (record { stage = s; names = reader.reading.instance.names; terms = reader.reading.instance.terms })) stage lead.good;
+      lines = subst (λ (s : Stage). FoldsTo Takes start (bytes_of (content_of text)) (record { stage = s; names = reader.reading.instance.names; terms = reader.reading.instance.terms })) stage lead.good;
     }
 
 -- what is concluded is what the reader comes to

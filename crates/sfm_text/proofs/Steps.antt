@@ -2,9 +2,8 @@
 use Rattle.std.proofs.Common.{◌≡◌, ℕ, ◌+◌, ◌<◌, ◌≤◌, List, [], ◌∷◌, ◌++◌, length, get_or, take, map, refl, ap, arith}
 use Rattle.std.proofs.lemmas.List.{take_all, map_more, map-append, length-map, get_or-map}
 use Rattle.std.proofs.lemmas.List.Elements.{All-push}
-use Rattle.std.specs.List.{Any, All}
-use Rattle.sfm_text.specs.Matched.{Matched}
-use Rattle.sfm_text.proofs.Matches.{Matched-push, Matched-at}
+use Rattle.std.specs.List.{Any, All, AllZip}
+use Rattle.sfm_text.proofs.Matches.{AllZip-push, AllZip-at}
 
 pub Any-step : {X Y : Type 0} (P : Y → Type 0) (f : X → Y) (xs : List X) (i : ℕ) (d : X) → i < length xs → P (f (get_or xs i d)) → Any P (map f xs)
 Any-step P f xs i d lt p = (i, f (get_or xs i d), omega (arith, lt, length-map xs f), get_or-map f xs i d (f (get_or xs i d)) lt, p)
@@ -15,15 +14,15 @@ All-step P f xs i d lt all p = rw (map_more f xs i d lt) (All-push P (map f (tak
 pub All-end : {X Y : Type 0} (P : Y → Type 0) (f : X → Y) (xs : List X) (i : ℕ) → length xs ≤ i → All P (map f (take i xs)) → All P (map f xs)
 All-end P f xs i ge all = rw (take_all i xs ge) at all
 
-pub Matched-step : {X Y B : Type 0} (P : Y → B → Type 0) (f : X → Y) (xs : List X) (ys : List B) (i : ℕ) (d : X) (y : B) → i < length xs → Matched P (map f (take i xs)) ys → P (f (get_or xs i d)) y → Matched P (map f (take (i + 1) xs)) (ys ++ y ∷ [])
-Matched-step P f xs ys i d y lt h p = rw (map_more f xs i d lt) (Matched-push P (map f (take i xs)) ys (f (get_or xs i d)) y h p)
+pub AllZip-step : {X Y B : Type 0} (P : Y → B → Type 0) (f : X → Y) (xs : List X) (ys : List B) (i : ℕ) (d : X) (y : B) → i < length xs → AllZip P (map f (take i xs)) ys → P (f (get_or xs i d)) y → AllZip P (map f (take (i + 1) xs)) (ys ++ y ∷ [])
+AllZip-step P f xs ys i d y lt h p = rw (map_more f xs i d lt) (AllZip-push P (map f (take i xs)) ys (f (get_or xs i d)) y h p)
 
-pub Matched-end : {X Y B : Type 0} (P : Y → B → Type 0) (f : X → Y) (xs : List X) (ys : List B) (i : ℕ) → length xs ≤ i → Matched P (map f (take i xs)) ys → Matched P (map f xs) ys
-Matched-end P f xs ys i ge h = rw (take_all i xs ge) at h
+pub AllZip-end : {X Y B : Type 0} (P : Y → B → Type 0) (f : X → Y) (xs : List X) (ys : List B) (i : ℕ) → length xs ≤ i → AllZip P (map f (take i xs)) ys → AllZip P (map f xs) ys
+AllZip-end P f xs ys i ge h = rw (take_all i xs ge) at h
 
-pub Matched-here : {X Y B : Type 0} (P : Y → B → Type 0) (f : X → Y) (xs : List X) (ys : List B) (i : ℕ) (d : X) → Matched P (map f xs) ys → i < length xs → (y : B) × P (f (get_or xs i d)) y
-Matched-here P f xs ys i d h lt =
-    let at = Matched-at P (map f xs) ys i (f d) h (omega (arith, lt, length-map xs f)) in
+pub AllZip-here : {X Y B : Type 0} (P : Y → B → Type 0) (f : X → Y) (xs : List X) (ys : List B) (i : ℕ) (d : X) → AllZip P (map f xs) ys → i < length xs → (y : B) × P (f (get_or xs i d)) y
+AllZip-here P f xs ys i d h lt =
+    let at = AllZip-at P (map f xs) ys i (f d) h (omega (arith, lt, length-map xs f)) in
     (at.0, rw (get_or-map f xs i d (f d) lt) at at.1)
 
 -- one more on both sides, behind what stands there already

@@ -1,6 +1,6 @@
 -- The reasons that a term line does not have, as its parts are read one kind after another.
 use Rattle.std.proofs.Common.{◌≡◌, ◌≢◌, ◌⊎◌, inl, inr, ℕ, ◌<◌, ◌≤◌, List, [], ◌∷◌, length, get_or, slice_get, Some, Contains, AllPairs, codes, ℤ, sym, ap, ◌∙◌, arith}
-use Rattle.std.specs.List.{All, Any}
+use Rattle.std.specs.List.{All, Any, AllZip}
 use Rattle.std.proofs.lemmas.Option.{slice_get-get_or, slice_get_within, same_Some}
 use Rattle.std.proofs.lemmas.List.Elements.{All-get_or}
 use Rattle.std.proofs.lemmas.Bool.{cases_lt}
@@ -14,14 +14,13 @@ use Rattle.sfm_text.specs.declared.reason.Reason.TheVariants.{Long, Bytes, Word,
 use Rattle.sfm_text.specs.declared.stage.Stage.TheVariants.{Terms}
 use Rattle.sfm_text.specs.declared.word.TermWord.{TermWord}
 use Rattle.sfm_text.specs.Lines.{tokens_of}
-use Rattle.sfm_text.specs.Matched.{Matched}
 use Rattle.sfm_text.specs.Parts.{LineParts}
 use Rattle.sfm_text.specs.Words.{word_text, lowest_of, HasParts, BreaksLaw}
 use Rattle.sfm_text.specs.TermLines.{IsNumberFrom, IsElement, StandsTwice}
 use Rattle.sfm_text.specs.Reading.{State, Has, HasStranger, HasWrongLabel, HasSlotTwice, FirstReason, reason_order}
 use Rattle.sfm_text.specs.ReadParts.{state_at, IsLineOf}
 use Rattle.sfm_text.proofs.WordLines.{of-term-line, not-end, shaped-here}
-use Rattle.sfm_text.proofs.Matches.{Matched-at, Matched-both, Matched-same, length-Matched}
+use Rattle.sfm_text.proofs.Matches.{AllZip-at, AllZip-both, AllZip-same, length-AllZip}
 use Rattle.sfm_text.proofs.Numbers.{from-same}
 use Rattle.sfm_text.proofs.Colons.{none-any}
 use Rattle.sfm_text.proofs.Repeats.{twice-at, twice-same}
@@ -55,30 +54,30 @@ place-same names distinct text a b h g =
     (cases_lt a b)
 
 -- an element stands twice exactly where its place does
-pub twice-places : (names texts : List (List ℕ)) (places : List ℕ) → Matched (IsElement names) texts places → StandsTwice places → StandsTwice texts
+pub twice-places : (names texts : List (List ℕ)) (places : List ℕ) → AllZip (IsElement names) texts places → StandsTwice places → StandsTwice texts
 twice-places names texts places h t =
-    let len = length-Matched (IsElement names) texts places h in
+    let len = length-AllZip (IsElement names) texts places h in
     let lt : t.earlier < length texts = omega (arith, len, t.order, t.within) in
     let lt' : t.later < length texts = omega (arith, len, t.within) in
-    let a = Matched-both (IsElement names) texts places t.earlier [] 0 h lt in
-    let b = Matched-both (IsElement names) texts places t.later [] 0 h lt' in
+    let a = AllZip-both (IsElement names) texts places t.earlier [] 0 h lt in
+    let b = AllZip-both (IsElement names) texts places t.later [] 0 h lt' in
     let same : get_or places t.earlier 0 ≡ get_or places t.later 0 = twice-same places 0 t in
     twice-at texts t.earlier t.later [] t.order lt' (same_Some (get_or texts t.earlier []) (get_or texts t.later []) (sym a ∙ (ap (λ e. slice_get names e) same ∙ b)))
 
-pub twice-texts : (names texts : List (List ℕ)) (places : List ℕ) → AllPairs (λ a b. a ≢ b) names → Matched (IsElement names) texts places → StandsTwice texts → StandsTwice places
+pub twice-texts : (names texts : List (List ℕ)) (places : List ℕ) → AllPairs (λ a b. a ≢ b) names → AllZip (IsElement names) texts places → StandsTwice texts → StandsTwice places
 twice-texts names texts places distinct h t =
-    let len = length-Matched (IsElement names) texts places h in
+    let len = length-AllZip (IsElement names) texts places h in
     let lt : t.earlier < length texts = omega (arith, t.order, t.within) in
-    let a = Matched-both (IsElement names) texts places t.earlier [] 0 h lt in
-    let b = Matched-both (IsElement names) texts places t.later [] 0 h t.within in
+    let a = AllZip-both (IsElement names) texts places t.earlier [] 0 h lt in
+    let b = AllZip-both (IsElement names) texts places t.later [] 0 h t.within in
     let same : get_or texts t.earlier [] ≡ get_or texts t.later [] = twice-same texts [] t in
     let a' : IsElement names (get_or texts t.later []) (get_or places t.earlier 0) = a ∙ ap (λ (l : List ℕ). Some l) same in
     twice-at places t.earlier t.later 0 t.order (omega (arith, len, t.within)) (place-same names distinct (get_or texts t.later []) (get_or places t.earlier 0) (get_or places t.later 0) a' b)
 
 -- places of elements that do not stand twice
-pub elements-placed : (names texts : List (List ℕ)) (places : List ℕ) → length names ≤ 256 → Matched (IsElement names) texts places → (StandsTwice places → ⊥) → IsPlaced 256 places
+pub elements-placed : (names texts : List (List ℕ)) (places : List ℕ) → length names ≤ 256 → AllZip (IsElement names) texts places → (StandsTwice places → ⊥) → IsPlaced 256 places
 elements-placed names texts places few h once = record {
-  below = λ j lt. omega (arith, few, slice_get_within names (get_or places j 0) (get_or texts j []) (Matched-both (IsElement names) texts places j [] 0 h (omega (arith, lt, length-Matched (IsElement names) texts places h))));
+  below = λ j lt. omega (arith, few, slice_get_within names (get_or places j 0) (get_or texts j []) (AllZip-both (IsElement names) texts places j [] 0 h (omega (arith, lt, length-AllZip (IsElement names) texts places h))));
   distinct = λ i j lt_i lt_j same. ⊎_elim
       (λ (lt : i < j). absurd (once (twice-at places i j 0 lt lt_j same)))
       (λ (le : j ≤ i). ⊎_elim
@@ -110,11 +109,11 @@ module _ (instance : InstanceData) (word : TermWord) (rest : List (List ℕ)) (l
     pub at-number : Any (λ text. (value : ℤ) → IsNumberFrom (lowest_of word) text value → ⊥) parts.numbers → FirstReason (state_at Terms instance) line Number
     at-number any = record { holds = (word, rest, parts, record { first = is.tokens_are; shape = shape }, any); first = none-number }
 
-    module _ (values : List ℤ) (numbers : Matched (IsNumberFrom (lowest_of word)) parts.numbers values) where
+    module _ (values : List ℤ) (numbers : AllZip (IsNumberFrom (lowest_of word)) parts.numbers values) where
       no-number : Has (state_at Terms instance) line Number → ⊥
       no-number h =
           let (k, text, lt, e, wrong) = of-term-line word (tokens_of line) rest parts (λ word' rest' parts'. Any (λ text. (value : ℤ) → IsNumberFrom (lowest_of word') text value → ⊥) parts'.numbers) is.tokens_are shape h in
-          let (value, n) = Matched-at (IsNumberFrom (lowest_of word)) parts.numbers values k text numbers lt in
+          let (value, n) = AllZip-at (IsNumberFrom (lowest_of word)) parts.numbers values k text numbers lt in
           wrong value (rw e at n)
 
       -- the numbers are good
@@ -139,7 +138,7 @@ module _ (instance : InstanceData) (word : TermWord) (rest : List (List ℕ)) (l
         first = none-name;
       }
 
-      module _ (places : List ℕ) (named : AreElementNames instance.names) (elements : Matched (IsElement instance.names) parts.elements places) (members : All (λ names. All (Contains parts.elements) names) parts.groups) (labels : All (λ texts. All IsName texts) parts.labels) where
+      module _ (places : List ℕ) (named : AreElementNames instance.names) (elements : AllZip (IsElement instance.names) parts.elements places) (members : All (λ names. All (Contains parts.elements) names) parts.groups) (labels : All (λ texts. All IsName texts) parts.labels) where
         no-stranger : HasStranger parts → ⊥
         no-stranger (k, names, lt, e, (j, text, within, f, out)) =
             let all : All (Contains parts.elements) names = rw e at (members k names lt) in
@@ -157,7 +156,7 @@ module _ (instance : InstanceData) (word : TermWord) (rest : List (List ℕ)) (l
             at (inr (inl stranger)) = no-stranger stranger
             at (inr (inr wrong)) = no-label wrong
             at (inl (k, text, lt, e, wrong)) =
-                let (place, found) = Matched-at (IsElement instance.names) parts.elements places k text elements lt in
+                let (place, found) = AllZip-at (IsElement instance.names) parts.elements places k text elements lt in
                 let here : IsElement instance.names text place = rw e at found in
                 let within = slice_get_within instance.names place text here in
                 let there : get_or instance.names place text ≡ text = same_Some (get_or instance.names place text) text (sym (slice_get-get_or instance.names place text within) ∙ here) in
@@ -208,8 +207,8 @@ module _ (instance : InstanceData) (word : TermWord) (rest : List (List ℕ)) (l
           module _ (lawful : BreaksLaw word parts values → ⊥) where
             no-law : Has (state_at Terms instance) line Law → ⊥
             no-law h =
-                let (values', numbers', breaks) = of-term-line word (tokens_of line) rest parts (λ word' rest' parts'. (vs : List ℤ) × Matched (IsNumberFrom (lowest_of word')) parts'.numbers vs × BreaksLaw word' parts' vs) is.tokens_are shape h in
-                let same : values' ≡ values = Matched-same (IsNumberFrom (lowest_of word)) (from-same (lowest_of word)) parts.numbers values' values numbers' numbers in
+                let (values', numbers', breaks) = of-term-line word (tokens_of line) rest parts (λ word' rest' parts'. (vs : List ℤ) × AllZip (IsNumberFrom (lowest_of word')) parts'.numbers vs × BreaksLaw word' parts' vs) is.tokens_are shape h in
+                let same : values' ≡ values = AllZip-same (IsNumberFrom (lowest_of word)) (from-same (lowest_of word)) parts.numbers values' values numbers' numbers in
                 lawful (rw same at breaks)
 
             -- the law is kept

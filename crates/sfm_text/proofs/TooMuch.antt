@@ -1,11 +1,12 @@
 -- Whether there is too much in all with one more term.
 use Rattle.std.proofs.Common.{◌≡◌, ◌↔◌, inl, inr, ℕ, ◌+◌, ◌<◌, ◌≤◌, ◌^◌, List, [], ◌∷◌, ◌++◌, length, IsTrue, true, ℤ, pos, ◌+ℤ◌, ◌-ℤ◌, ◌≤ℤ◌, ◌<ℤ◌, FitsSigned, to_z, of_z, arith}
+use Rattle.std.specs.List.{AllZip}
 use Rattle.std.specs.Int.{w128}
 use lib.Signed.{lt_z, mag}
 use Rattle.std.proofs.lemmas.Int.{ints}
 use Rattle.std.proofs.lemmas.List.{length_push}
 use Rattle.sfm_spec.specs.Families.{Meaning, meanings}
-use Rattle.sfm_kind.specs.Meanings.{kind_places, AreMeanings, total_by}
+use Rattle.sfm_kind.specs.Meanings.{kind_places, total_by, IsMeaningOf}
 use Rattle.sfm_kind.specs.Kinds.{kind_size, kind_value}
 use Rattle.sfm_kind.specs.Instance.{support_of}
 use Rattle.sfm_kind.specs.Limits.{AreInBounds, total_size_of}
@@ -20,7 +21,7 @@ much-by-total terms much =
     let meant : List Meaning = meanings kind_places kind_value terms in
     inr (inr (meant, kinds-mean terms, omega (arith, ints, much, total-size terms meant (kinds-mean terms))))
 
-pub total-by-much : (terms : List Kind) (meant : List Meaning) → AreMeanings terms meant → pos (10 ^ 15) <ℤ total_by terms meant → pos (10 ^ 15) <ℤ total_size_of terms
+pub total-by-much : (terms : List Kind) (meant : List Meaning) → AllZip IsMeaningOf terms meant → pos (10 ^ 15) <ℤ total_by terms meant → pos (10 ^ 15) <ℤ total_size_of terms
 total-by-much terms meant means much = omega (arith, ints, much, total-size terms meant means)
 
 -- the total of an instance is no negative number and at most 10^18

@@ -8,7 +8,7 @@ use Rattle.sfm_text.specs.declared.word.TermWord.{TermWord}
 use Rattle.sfm_text.specs.declared.word.TermWord.TheVariants.{WeightWord, CutWord, NeedWord, CoverWord, TableWord, ConcaveWord, RankWord}
 use Rattle.sfm_text.proofs.Cutting.{front-same}
 use Rattle.sfm_text.proofs.Colons.{colon-same}
-use Rattle.sfm_text.proofs.Matches.{Matched-same}
+use Rattle.sfm_text.proofs.Matches.{AllZip-same}
 use Rattle.sfm_text.proofs.Pieces.{concave-same}
 use Rattle.sfm_text.proofs.Ranks.{rank-same}
 
@@ -39,7 +39,7 @@ pair-same token (a, b) (c, d) h g =
 
 weight-same : (tokens : List (List ℕ)) (p q : LineParts) → IsWeightLine tokens p → IsWeightLine tokens q → p ≡ q
 weight-same tokens p q h g =
-    let pairs : h.pairs ≡ g.pairs = Matched-same IsPairToken pair-same tokens h.pairs g.pairs h.each g.each in
+    let pairs : h.pairs ≡ g.pairs = AllZip-same IsPairToken pair-same tokens h.pairs g.pairs h.each g.each in
     h.parts_are ∙ (ap (λ (l : List (List ℕ × List ℕ)). plain_parts (map (λ pair. pair.1) l) (map (λ pair. pair.0) l)) pairs ∙ sym g.parts_are)
 
 split-same : (count : ℕ) (tokens : List (List ℕ)) (p q : LineParts) → IsSplitAt count tokens p → IsSplitAt count tokens q → p ≡ q

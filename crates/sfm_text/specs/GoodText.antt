@@ -1,5 +1,6 @@
 -- Which texts are good and the instance that each stands for, and the first fault of a text that is not good.
 use Rattle.std.specs.Prelude.{◌≡◌, ◌≢◌, ℕ, ◌+◌, ◌<◌, ◌≤◌, List, ◌∷◌, ◌++◌, length, map}
+use Rattle.std.specs.List.{FoldsTo}
 use Rattle.sfm_kind.specs.declared.kind.Kind.{Kind}
 use Rattle.sfm_text.specs.declared.end.TextEnd.{TextEnd}
 use Rattle.sfm_text.specs.declared.end.TextEnd.TheVariants.{Refused, Memory}
@@ -7,7 +8,7 @@ use Rattle.sfm_text.specs.declared.reason.Reason.{Reason}
 use Rattle.sfm_text.specs.declared.reason.Reason.TheVariants.{Long, Short}
 use Rattle.sfm_text.specs.declared.stage.Stage.TheVariants.{Ended}
 use Rattle.sfm_text.specs.Lines.{TextLine, lines_of, content_of}
-use Rattle.sfm_text.specs.Reading.{State, start, FirstReason, Follows}
+use Rattle.sfm_text.specs.Reading.{State, start, FirstReason, Takes}
 
 -- the most bytes of an instance text
 abbrev pub text_limit : ℕ
@@ -20,7 +21,7 @@ bytes_of lines = map (λ line. line.bytes) lines
 -- the content lines lead from the start to the end, with these names and terms
 pub record IsTextOf (text : List ℕ) (names : List (List ℕ)) (terms : List Kind) : Type 0 where
   pub short : length text ≤ text_limit
-  pub lines : Follows start (bytes_of (content_of text)) (record { stage = Ended; names = names; terms = terms })
+  pub lines : FoldsTo Takes start (bytes_of (content_of text)) (record { stage = Ended; names = names; terms = terms })
 
 -- the first content line with a reason, all before it being good
 pub record HasFaultyLine (text : List ℕ) (number : ℕ) (reason : Reason) : Type 0 where
@@ -30,13 +31,13 @@ pub record HasFaultyLine (text : List ℕ) (number : ℕ) (reason : Reason) : Ty
   pub state : State
   pub content : content_of text ≡ before ++ line ∷ after
   pub numbered : line.number ≡ number
-  pub good : Follows start (bytes_of before) state
+  pub good : FoldsTo Takes start (bytes_of before) state
   pub fault : FirstReason state line.bytes reason
 
 -- all content lines are good, and do not come to the end
 pub record EndsEarly (text : List ℕ) : Type 0 where
   pub state : State
-  pub good : Follows start (bytes_of (content_of text)) state
+  pub good : FoldsTo Takes start (bytes_of (content_of text)) state
   pub open_ : state.stage ≢ Ended
 
 -- the first fault of a text: at line 0 that it is too long, or else at a line the first reason that it has there, or

@@ -1,6 +1,5 @@
 pub mod Lines
 pub mod Cursor
-pub mod Matched
 pub mod Parts
 pub mod LabelTerms
 pub mod RankLines

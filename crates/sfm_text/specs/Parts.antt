@@ -1,11 +1,10 @@
 -- The shape of each term line, and the parts that the tokens behind its word have. A kind with further parts brings a
 -- field to the parts, which `plain_parts` fills for all lines without it.
 use Rattle.std.specs.Prelude.{◌≡◌, ◌≢◌, ◌⊎◌, ℕ, ◌<◌, ◌≤◌, ◌^◌, take, drop, slice_index, slice_get, Some, Bool, List, [], ◌∷◌, ◌++◌, length, map, codes, bytes_eq}
-use Rattle.std.specs.List.{All, slice_split}
+use Rattle.std.specs.List.{All, slice_split, AllZip}
 use Rattle.sfm_text.specs.declared.word.RankKind.{RankKind}
 use Rattle.sfm_text.specs.declared.word.RankKind.TheVariants.{NoRank, UniformRank, LaminarRank, GraphicRank, TransversalRank}
 use Rattle.sfm_text.specs.Lines.{pieces_of}
-use Rattle.sfm_text.specs.Matched.{Matched}
 
 -- the texts that stand in the places of numbers, and those that stand in the places of elements; which rank a line means,
 -- the names of each of its groups, and the labels of each element: the two ends of an edge, or the slots of an entry
@@ -54,7 +53,7 @@ pub record IsPairToken (token : List ℕ) (pair : List ℕ × List ℕ) : Type 0
 pub record IsWeightLine (tokens : List (List ℕ)) (parts : LineParts) : Type 0 where
   pub pairs : List (List ℕ × List ℕ)
   pub some : 1 ≤ length tokens
-  pub each : Matched IsPairToken tokens pairs
+  pub each : AllZip IsPairToken tokens pairs
   pub parts_are : parts ≡ plain_parts (map (λ pair. pair.1) pairs) (map (λ pair. pair.0) pairs)
 
 -- no mark; so many numbers, and then elements
@@ -139,7 +138,7 @@ pub record AreGroupsCut (pieces : List (List (List ℕ))) (elements : List (List
   pub pieces_are : pieces ≡ elements ∷ rest
   pub some : 1 ≤ length elements
   pub unmarked : AreUnmarked elements
-  pub each : Matched IsGroupCut rest groups
+  pub each : AllZip IsGroupCut rest groups
 
 -- a number, the word of the rank, a colon, and what stands behind it
 pub record IsRankHead (word : List ℕ) (tokens : List (List ℕ)) (number : List ℕ) (behind : List (List ℕ)) : Type 0 where
@@ -184,7 +183,7 @@ IsLabelToken _ token entry = ⊥
 -- at least one such token
 pub record AreLabelled (rank : RankKind) (tokens : List (List ℕ)) (entries : List (List ℕ × List (List ℕ))) : Type 0 where
   pub some : 1 ≤ length tokens
-  pub each : Matched (IsLabelToken rank) tokens entries
+  pub each : AllZip (IsLabelToken rank) tokens entries
 
 -- the number, the elements, and their labels
 abbrev pub labelled_parts_of : RankKind → List ℕ → List (List ℕ × List (List ℕ)) → LineParts

@@ -1,5 +1,6 @@
 -- What the parts of a line, the state of a reading and the end of a line's reading stand for.
 use Rattle.std.specs.Prelude.{◌≡◌, ◌+◌, ◌<◌, ℕ, Bool, true, false, List, [], ◌∷◌, length, codes, map, Any, Result, MatchResult}
+use Rattle.std.specs.List.{flat_map}
 use Rattle.sfm_kind.specs.Instance.{InstanceData}
 use Rattle.sfm_kind.specs.declared.kind.Kind.{Kind}
 use Rattle.sfm_text.specs.declared.end.TextEnd.{TextEnd}
@@ -70,3 +71,7 @@ Passes false s line t = (are_skipped (tokens_of line) ≡ true) × (t ≡ s)
 -- the line counts, and is refused
 abbrev pub Fails : State → List ℕ → LineEnd → Type 0
 Fails s line end = (are_skipped (tokens_of line) ≡ false) × IsLineRefusal s line end
+
+-- the texts of all lists, in their order
+abbrev pub joined : List (List (List ℕ)) → List (List ℕ)
+joined lists = flat_map (λ texts. texts) lists

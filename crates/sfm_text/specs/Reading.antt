@@ -1,10 +1,11 @@
 -- The state in which a text is read, the reasons for which a line is refused in a state, and the states that a good line
 -- leads from and to.
 use Rattle.std.specs.Prelude.{◌≡◌, ◌≢◌, ◌⊎◌, ℕ, ◌<◌, ◌^◌, List, [], ◌∷◌, ◌++◌, length, codes, Any, Contains, ℤ, pos, ◌<ℤ◌}
+use Rattle.std.specs.List.{AllZip}
 use Rattle.sfm_spec.specs.Names.{IsName}
 use Rattle.sfm_spec.specs.Families.{Meaning}
 use Rattle.sfm_kind.specs.Instance.{support_of}
-use Rattle.sfm_kind.specs.Meanings.{AreMeanings, total_by}
+use Rattle.sfm_kind.specs.Meanings.{total_by, IsMeaningOf}
 use Rattle.sfm_kind.specs.declared.kind.Kind.{Kind}
 use Rattle.sfm_text.specs.declared.reason.Reason.{Reason}
 use Rattle.sfm_text.specs.declared.reason.Reason.TheVariants.{Long, Bytes, Word, Shape, Number, Name, Twice, Law, Total, Short}
@@ -16,7 +17,6 @@ use Rattle.sfm_text.specs.declared.word.RankKind.{RankKind}
 use Rattle.sfm_text.specs.declared.word.RankKind.TheVariants.{TransversalRank}
 use Rattle.sfm_text.specs.declared.word.TermWord.{TermWord}
 use Rattle.sfm_text.specs.Lines.{tokens_of}
-use Rattle.sfm_text.specs.Matched.{Matched}
 use Rattle.sfm_text.specs.Parts.{LineParts, IsMark}
 use Rattle.sfm_text.specs.Words.{word_text, lowest_of, BreaksLaw}
 use Rattle.sfm_text.specs.TermLines.{IsShaped, IsNumberFrom, StandsTwice, StandsFor}
@@ -99,12 +99,12 @@ HasTwice _ tokens = ⊥
 
 -- the numbers break the law of the kind
 abbrev pub HasBrokenLaw : Stage → List (List ℕ) → Type 0
-HasBrokenLaw Terms tokens = HasTermLine tokens (λ word rest parts. (values : List ℤ) × Matched (IsNumberFrom (lowest_of word)) parts.numbers values × BreaksLaw word parts values)
+HasBrokenLaw Terms tokens = HasTermLine tokens (λ word rest parts. (values : List ℤ) × AllZip (IsNumberFrom (lowest_of word)) parts.numbers values × BreaksLaw word parts values)
 HasBrokenLaw _ tokens = ⊥
 
 -- more terms, places or sizes than a text may have in all; the size of a term is that of its meaning
 abbrev pub AreTooMuch : List Kind → Type 0
-AreTooMuch terms = (4096 < length terms) ⊎ (16384 < support_of terms) ⊎ ((meant : List Meaning) × AreMeanings terms meant × (pos (10 ^ 15) <ℤ total_by terms meant))
+AreTooMuch terms = (4096 < length terms) ⊎ (16384 < support_of terms) ⊎ ((meant : List Meaning) × AllZip IsMeaningOf terms meant × (pos (10 ^ 15) <ℤ total_by terms meant))
 
 -- too many names, or with this line too much in all
 abbrev pub HasTooMuch : State → List (List ℕ) → Stage → Type 0
@@ -153,8 +153,3 @@ pub record Takes (s : State) (line : List ℕ) (t : State) : Type 0 where
 abbrev pub IsLineRefusal : State → List ℕ → LineEnd → Type 0
 IsLineRefusal s line (Fault reason) = FirstReason s line reason
 IsLineRefusal s line Memory = Unit {0}
-
--- the lines are good one after another and lead from s to t
-abbrev pub Follows : State → List (List ℕ) → State → Type 0
-Follows s [] t = s ≡ t
-Follows s (line ∷ lines) t = (u : State) × Takes s line u × Follows u lines t

@@ -1,10 +1,11 @@
 -- What a reader that takes a text in pieces stands for: the texts of which it has read what it keeps.
 use Rattle.std.specs.Prelude.{◌≡◌, ◌⊎◌, ℕ, ◌+◌, ◌≤◌, min, true, false, List, [], ◌∷◌, ◌++◌, length, map, MatchOption}
+use Rattle.std.specs.List.{FoldsTo}
 use Rattle.std.specs.Str.Lines.{strip_carriage_return}
 use Rattle.sfm_text.specs.declared.line_fault.Fault.{Fault}
 use Rattle.sfm_text.specs.declared.reader.Reader.{Reader}
 use Rattle.sfm_text.specs.Lines.{pieces_of, numbered, content_among, content_of, lines_of, tokens_of, are_skipped}
-use Rattle.sfm_text.specs.Reading.{State, start, Takes, FirstReason, Follows}
+use Rattle.sfm_text.specs.Reading.{State, start, Takes, FirstReason}
 use Rattle.sfm_text.specs.GoodText.{text_limit, bytes_of, HasFaultyLine}
 use Rattle.sfm_text.specs.ReadParts.{state_of}
 
@@ -21,7 +22,7 @@ progress_of reader = record { lines = reader.lines; numbers = reader.numbers.ite
 pub record LeadTo (pieces : List (List ℕ)) (p : Progress) : Type 0 where
   pub count : p.lines ≡ length pieces
   pub numbers : p.numbers ≡ map (λ line. line.number) (content_among (numbered 1 0 pieces))
-  pub good : Follows start (bytes_of (content_among (numbered 1 0 pieces))) p.state
+  pub good : FoldsTo Takes start (bytes_of (content_among (numbered 1 0 pieces))) p.state
 
 -- the lines of the text that have ended lead there, and `rest` stands behind them
 pub record IsOpen (p : Progress) (rest text : List ℕ) : Type 0 where
@@ -61,7 +62,7 @@ JudgesLine old piece new = MatchOption new.fault (PassesLine (progress_of old) (
 -- all lines of the text are good, and lead there
 pub record LeadsTo (text : List ℕ) (p : Progress) : Type 0 where
   pub count : p.lines ≡ length (lines_of text)
-  pub good : Follows start (bytes_of (content_of text)) p.state
+  pub good : FoldsTo Takes start (bytes_of (content_of text)) p.state
 
 -- all that can be read of the text has been
 abbrev pub HasReadAll : Reader → List ℕ → Type 0

@@ -1,11 +1,11 @@
 -- What a term line says, once for all words: the parts in the places of numbers and of elements, and the term that they
 -- make with the names of the ground.
 use Rattle.std.specs.Prelude.{◌≡◌, ℕ, ◌<◌, ◌^◌, List, ◌∷◌, length, slice_get, Some, ℤ, pos, ◌≤ℤ◌}
+use Rattle.std.specs.List.{AllZip}
 use Rattle.sfm_spec.specs.Sets.{IsPlaced}
 use Rattle.sfm_base.specs.NumberText.{IsNumber}
 use Rattle.sfm_kind.specs.declared.kind.Kind.{Kind}
 use Rattle.sfm_text.specs.declared.word.TermWord.{TermWord}
-use Rattle.sfm_text.specs.Matched.{Matched}
 use Rattle.sfm_text.specs.Parts.{LineParts}
 use Rattle.sfm_text.specs.Words.{word_text, lowest_of, HasParts, IsTermOf}
 
@@ -40,14 +40,14 @@ pub record StandsFor (names tokens : List (List ℕ)) (term : Kind) : Type 0 whe
   pub values : List ℤ
   pub places : List ℕ
   pub shaped : IsShaped tokens word rest parts
-  pub numbers : Matched (IsNumberFrom (lowest_of word)) parts.numbers values
-  pub elements : Matched (IsElement names) parts.elements places
+  pub numbers : AllZip (IsNumberFrom (lowest_of word)) parts.numbers values
+  pub elements : AllZip (IsElement names) parts.elements places
   pub made : IsTermOf word parts values places term
 
 -- the parts of a line with this word have been read: what its term is to be made of
 pub record AreRead (word : TermWord) (parts : LineParts) (values : List ℤ) (places : List ℕ) : Type 0 where
   pub tokens : List (List ℕ)
   pub shape : HasParts word tokens parts
-  pub numbers : Matched (IsNumberFrom (lowest_of word)) parts.numbers values
+  pub numbers : AllZip (IsNumberFrom (lowest_of word)) parts.numbers values
   pub elements : length places ≡ length parts.elements
   pub placed : IsPlaced 256 places

@@ -2,11 +2,10 @@
 ghost use Rattle.std.specs.Prelude.{◌≡◌, ◌<◌, ◌^◌, length, MatchOption, IfOk};
 ghost use Rattle.sfm_text.specs.Lines.{texts_of};
 ghost use Rattle.sfm_text.specs.Parts.{LineParts, IsRankLine};
-ghost use Rattle.sfm_text.specs.LabelTerms.{joined};
 ghost use Rattle.sfm_text.specs.RankLines.{BreaksRankLaw};
 ghost use Rattle.sfm_text.specs.Words.{IsTermOf};
 ghost use Rattle.sfm_text.specs.TermLines.{AreRead};
-ghost use Rattle.sfm_text.specs.ReadParts.{parts_of};
+ghost use Rattle.sfm_text.specs.ReadParts.{parts_of, joined};
 ghost use Rattle.sfm_text.specs.declared.word.TermWord.TheVariants.{RankWord};
 
 use crate::graphic_line::{graphic_parts, graphic_term};

@@ -1,16 +1,14 @@
 // Reading a term line: its parts are cut out by its word, and each kind of part is then read once for all words.
 ghost use Rattle.std.specs.Prelude.{◌≡◌, ◌<◌, ◌≤◌, ◌↔◌, ◌^◌, ℕ, List, length, ℤ, pos, neg_ℤ, ◌≤ℤ◌, Any, IsTrue, IfOk, IfErr, MatchOption, Some};
-ghost use Rattle.std.specs.List.{All};
+ghost use Rattle.std.specs.List.{All, AllZip};
 ghost use Rattle.sfm_kind.specs.Names.{IsNewName, AreElementNames};
 ghost use Rattle.sfm_kind.specs.declared.kind.Kind.{Kind};
 ghost use Rattle.sfm_text.specs.Lines.{texts_of};
-ghost use Rattle.sfm_text.specs.Matched.{Matched};
 ghost use Rattle.sfm_text.specs.Parts.{LineParts};
 ghost use Rattle.sfm_text.specs.Words.{lowest_of, word_text, HasParts, BreaksLaw, IsTermOf};
 ghost use Rattle.sfm_text.specs.TermLines.{AreRead, IsNumberFrom, IsElement, StandsTwice};
-ghost use Rattle.sfm_text.specs.LabelTerms.{joined};
 ghost use Rattle.sfm_text.specs.Reading.{IsLineRefusal};
-ghost use Rattle.sfm_text.specs.ReadParts.{parts_of, bytes_in, state_at, IsLineOf, IsTermRead};
+ghost use Rattle.sfm_text.specs.ReadParts.{parts_of, bytes_in, state_at, IsLineOf, IsTermRead, joined};
 ghost use Rattle.sfm_text.specs.declared.stage.Stage.TheVariants.{Terms};
 ghost use Rattle.std.specs.Prelude.{◌∷◌};
 
@@ -113,7 +111,7 @@ fn read_numbers(
 ) -> Result<Option<Vec<i128>>, AllocError>
     ensures { IfOk result (λ r. MatchOption r
         (Any (λ text. (value : ℤ) → IsNumberFrom (lowest_of word) text value → ⊥) (texts_of texts.now))
-        (λ values. Matched (IsNumberFrom (lowest_of word)) (texts_of texts.now) values.items)) }
+        (λ values. AllZip (IsNumberFrom (lowest_of word)) (texts_of texts.now) values.items)) }
 {
     let mut values = Vec::new(alloc);
     for text in texts {
@@ -133,7 +131,7 @@ fn read_places(
 ) -> Result<Option<Vec<usize>>, AllocError>
     ensures { IfOk result (λ r. MatchOption r
         (Any (IsNewName instance.now.names) (texts_of texts.now))
-        (λ places. Matched (IsElement instance.now.names) (texts_of texts.now) places.items)) }
+        (λ places. AllZip (IsElement instance.now.names) (texts_of texts.now) places.items)) }
 {
     let mut places = Vec::new(alloc);
     for text in texts {

@@ -4,9 +4,9 @@ ghost use Rattle.std.specs.List.{All};
 ghost use Rattle.sfm_spec.specs.Bounds.{IsAtMost, AreElements};
 ghost use Rattle.sfm_text.specs.Lines.{texts_of};
 ghost use Rattle.sfm_text.specs.Parts.{LineParts, IsTransversalLine};
-ghost use Rattle.sfm_text.specs.LabelTerms.{joined, place_among};
+ghost use Rattle.sfm_text.specs.LabelTerms.{place_among};
 ghost use Rattle.sfm_text.specs.Words.{IsTermOf};
-ghost use Rattle.sfm_text.specs.ReadParts.{parts_of, label_lists_of};
+ghost use Rattle.sfm_text.specs.ReadParts.{parts_of, label_lists_of, joined};
 ghost use Rattle.sfm_text.specs.declared.word.TermWord.TheVariants.{RankWord};
 ghost use Rattle.sfm_text.specs.declared.word.RankKind.TheVariants.{TransversalRank};
 

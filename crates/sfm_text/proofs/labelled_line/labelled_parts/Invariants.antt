@@ -1,6 +1,6 @@
 use Rattle.std.proofs.Common.{◌≡◌, List, ℕ, map, take}
+use Rattle.std.specs.List.{AllZip}
 use Rattle.sfm_text.specs.Lines.{texts_of}
-use Rattle.sfm_text.specs.Matched.{Matched}
 use Rattle.sfm_text.specs.Parts.{IsLabelToken}
 use Rattle.sfm_text.specs.ReadParts.{label_lists_of}
 use Rattle.sfm_text.proofs.labelled_line.labelled_parts.Given as goal
@@ -8,7 +8,7 @@ use Rattle.sfm_text.proofs.labelled_line.labelled_parts.Given as goal
 abbrev pub invariant-loop-token : goal.invariant-loop-token
 invariant-loop-token l = record {
   entries : List (List ℕ × List (List ℕ));
-  each : Matched (IsLabelToken l.rank) (texts_of (take l.token-index l.tokens)) entries;
+  each : AllZip (IsLabelToken l.rank) (texts_of (take l.token-index l.tokens)) entries;
   elements : texts_of l.elements.items ≡ map (λ entry. entry.0) entries;
   labels : label_lists_of l.labels.items ≡ map (λ entry. entry.1) entries;
 }

@@ -1,8 +1,8 @@
 use Rattle.std.proofs.Common.{take, ap, ◌∙◌}
 use Rattle.std.proofs.lemmas.List.{take_all}
 use Rattle.sfm_text.specs.Lines.{texts_of}
-use Rattle.sfm_text.specs.LabelTerms.{distinct_of, joined}
-use Rattle.sfm_text.specs.ReadParts.{label_lists_of}
+use Rattle.sfm_text.specs.LabelTerms.{distinct_of}
+use Rattle.sfm_text.specs.ReadParts.{label_lists_of, joined}
 use Rattle.sfm_text.specs.declared.labels.Labels.{Labels}
 use Rattle.sfm_text.proofs.Numbering.{joined-more}
 use Rattle.sfm_text.proofs.labels.different.Goals as goal

@@ -2,7 +2,7 @@ use Rattle.std.proofs.Common.{ℤ, ◌++◌, ◌∷◌, [], ap, ◌∙◌, refl}
 use Rattle.std.proofs.lemmas.Option.{none-some}
 use Rattle.sfm_text.specs.Words.{lowest_of}
 use Rattle.sfm_text.specs.TermLines.{IsNumberFrom}
-use Rattle.sfm_text.proofs.Matches.{Any-text, Matched-more}
+use Rattle.sfm_text.proofs.Matches.{Any-text, AllZip-more}
 use Rattle.sfm_text.proofs.Numbers.{kept-number}
 use Rattle.sfm_text.proofs.term_line.read_numbers.Goals as goal
 
@@ -13,5 +13,5 @@ pub loop-text-preserved : goal.loop-text-preserved
 loop-text-preserved c =
     let v = c.in-Some.value in
     let read = (c.in-Some.ensures v).0 refl in
-    Matched-more (IsNumberFrom (lowest_of c.args.word)) c.args.texts.now c.loop-text.values.items c.push.new.self.items c.loop-text.text-index _ v c.loop-text-test.true c.loop-text.invariant read
+    AllZip-more (IsNumberFrom (lowest_of c.args.word)) c.args.texts.now c.loop-text.values.items c.push.new.self.items c.loop-text.text-index _ v c.loop-text-test.true c.loop-text.invariant read
     (c.in_ok-push.ensures.items ∙ ap (λ (z : ℤ). c.loop-text.values.items ++ z ∷ []) (kept-number c.args.word _ v read))

@@ -1,9 +1,9 @@
 use Rattle.std.proofs.Common.{◌≡◌, List, ℕ, map, ◌∙◌, arith}
 use Rattle.sfm_text.specs.Lines.{texts_of}
-use Rattle.sfm_text.specs.LabelTerms.{distinct_of, joined, place_among}
+use Rattle.sfm_text.specs.LabelTerms.{distinct_of, place_among}
 use Rattle.sfm_kind.specs.declared.kind.Kind.TheVariants.{Transversal}
 use Rattle.sfm_text.specs.declared.word.RankKind.TheVariants.{TransversalRank}
-use Rattle.sfm_text.specs.ReadParts.{label_lists_of, parts_of}
+use Rattle.sfm_text.specs.ReadParts.{label_lists_of, parts_of, joined}
 use Rattle.sfm_text.proofs.ReadLines.{kept-at}
 use Rattle.sfm_text.proofs.RankTerms.{of-rank}
 use Rattle.sfm_text.proofs.FewLabels.{keys-few}
