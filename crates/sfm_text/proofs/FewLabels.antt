@@ -91,9 +91,9 @@ none-few tokens parts none = let n = ap (λ l. length (joined l)) none in omega 
 -- the parts of a line have no more labels than its tokens have bytes
 pub parts-few : (word : TermWord) (tokens : List (List ℕ)) (parts : LineParts) → HasParts word tokens parts → length (joined parts.labels) ≤ bytes_in tokens
 parts-few WeightWord tokens parts h = none-few tokens parts (ap (λ (q : LineParts). q.labels) h.parts_are)
-parts-few CutWord tokens parts h = none-few tokens parts (ap (λ (q : LineParts). q.labels) h.split.parts_are)
-parts-few NeedWord tokens parts h = none-few tokens parts (ap (λ (q : LineParts). q.labels) h.split.parts_are)
-parts-few CoverWord tokens parts h = none-few tokens parts (ap (λ (q : LineParts). q.labels) h.split.parts_are)
+parts-few CutWord tokens parts h = none-few tokens parts (ap (λ (q : LineParts). q.labels) h.1.parts_are)
+parts-few NeedWord tokens parts h = none-few tokens parts (ap (λ (q : LineParts). q.labels) h.1.parts_are)
+parts-few CoverWord tokens parts h = none-few tokens parts (ap (λ (q : LineParts). q.labels) h.1.parts_are)
 parts-few TableWord tokens parts h = none-few tokens parts (ap (λ (q : LineParts). q.labels) h.parts_are)
 parts-few ConcaveWord tokens parts h = none-few tokens parts (ap (λ (q : LineParts). q.labels) h.parts_are)
 parts-few RankWord tokens parts (inl h) = none-few tokens parts (ap (λ (q : LineParts). q.labels) h.parts_are)

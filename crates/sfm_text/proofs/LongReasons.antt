@@ -10,8 +10,8 @@ use Rattle.sfm_kind.specs.Instance.{InstanceData}
 use Rattle.sfm_text.specs.declared.reason.Reason.TheVariants.{Shape, Number, Name, Twice}
 use Rattle.sfm_text.specs.declared.token_test.TokenTest.TheVariants.{Pair, PairNumber, PairElement, Value, Element}
 use Rattle.sfm_text.specs.declared.word.TermWord.{TermWord}
-use Rattle.sfm_text.specs.declared.word.TermWord.TheVariants.{WeightWord, CoverWord, ConcaveWord}
-use Rattle.sfm_text.specs.Parts.{LineParts, plain_parts, IsMark, AreUnmarked, IsPairToken, IsWeightLine, IsCutLine, IsNeedLine, IsCoverLine, IsCutAtColon, IsTableLine, IsConcaveCount, IsConcaveLine}
+use Rattle.sfm_text.specs.declared.word.TermWord.TheVariants.{WeightWord, CoverWord, ConcaveWord, CutWord, NeedWord}
+use Rattle.sfm_text.specs.Parts.{LineParts, plain_parts, IsMark, AreUnmarked, IsPairToken, IsWeightLine, IsCutAtColon, IsConcaveCount, IsColonLine, IsTableCount}
 use Rattle.sfm_text.specs.Words.{lowest_of, HasParts}
 use Rattle.sfm_text.specs.TermLines.{IsNumberFrom, IsElement}
 use Rattle.sfm_text.specs.Reading.{HasWrongLabel}
@@ -52,13 +52,13 @@ module _ (i : InstanceData) (word : TermWord) (rest : List (List ℕ)) where
 
 -- ---- lines with few tokens
 
-pub no-cut : (tokens : List (List ℕ)) → 1024 < length tokens → (parts : LineParts) → IsCutLine tokens parts → ⊥
-no-cut tokens long parts h = omega (arith, long, h.count)
+pub no-cut : (tokens : List (List ℕ)) → 1024 < length tokens → (parts : LineParts) → HasParts CutWord tokens parts → ⊥
+no-cut tokens long parts h = omega (arith, long, h.0)
 
-pub no-need : (tokens : List (List ℕ)) → 1024 < length tokens → (parts : LineParts) → IsNeedLine tokens parts → ⊥
-no-need tokens long parts h = omega (arith, long, h.count)
+pub no-need : (tokens : List (List ℕ)) → 1024 < length tokens → (parts : LineParts) → HasParts NeedWord tokens parts → ⊥
+no-need tokens long parts h = omega (arith, long, h.0)
 
-pub no-table : (tokens : List (List ℕ)) → 1024 < length tokens → (parts : LineParts) → IsTableLine tokens parts → ⊥
+pub no-table : (tokens : List (List ℕ)) → 1024 < length tokens → (parts : LineParts) → IsColonLine IsTableCount tokens parts → ⊥
 no-table tokens long parts h =
     let most : 2 ^ length h.elements ≤ 2 ^ 8 = pow_mono h.count.few in
     omega (arith, long, ap length h.cut.cut, length-append h.numbers (codes ":" ∷ h.elements), h.count.few, h.count.each, most)
@@ -96,12 +96,12 @@ module _ (i : InstanceData) (tokens : List (List ℕ)) (long : 1024 < length tok
 
 -- ---- a cover
 
-pub no-cover : (tokens : List (List ℕ)) → Any IsMark tokens → (parts : LineParts) → IsCoverLine tokens parts → ⊥
-no-cover tokens any parts h = none-any IsMark tokens h.split.unmarked any
+pub no-cover : (tokens : List (List ℕ)) → Any IsMark tokens → (parts : LineParts) → HasParts CoverWord tokens parts → ⊥
+no-cover tokens any parts h = none-any IsMark tokens h.1.unmarked any
 
 module _ (i : InstanceData) (tokens : List (List ℕ)) (long : 1024 < length tokens) (unmarked : AreUnmarked tokens) (number : List ℕ) (elements : List (List ℕ)) (cut : tokens ≡ number ∷ elements) where
-  cover-line : IsCoverLine tokens (plain_parts (number ∷ []) elements)
-  cover-line = record { count = omega (arith, long); split = record { unmarked = unmarked; parts_are = rw cut refl } }
+  cover-line : HasParts CoverWord tokens (plain_parts (number ∷ []) elements)
+  cover-line = (omega (arith, long), record { unmarked = unmarked; parts_are = rw cut refl })
 
   pub cover-number : (IsNumberOf CoverWord number → ⊥) → IsReasonOf i CoverWord tokens Number
   cover-number none = long-number i CoverWord tokens (plain_parts (number ∷ []) elements) cover-line (any-here (λ text. IsNumberOf CoverWord text → ⊥) number [] _ refl none)
@@ -118,7 +118,7 @@ module _ (i : InstanceData) (tokens : List (List ℕ)) (long : 1024 < length tok
 
 -- ---- a concave function
 
-pub no-concave : (tokens before behind : List (List ℕ)) → IsCutAtColon tokens before behind → (IsConcaveCount (length before) (length behind) → ⊥) → (parts : LineParts) → IsConcaveLine tokens parts → ⊥
+pub no-concave : (tokens before behind : List (List ℕ)) → IsCutAtColon tokens before behind → (IsConcaveCount (length before) (length behind) → ⊥) → (parts : LineParts) → IsColonLine IsConcaveCount tokens parts → ⊥
 no-concave tokens before behind cut none parts h =
     let same = colon-same tokens h.numbers h.elements before behind h.cut cut in
     none (rw (same.0, same.1) at h.count)
@@ -128,7 +128,7 @@ front-is [] behind = refl
 front-is (x ∷ before) behind = ap (λ l. x ∷ l) (front-is before behind)
 
 module _ (i : InstanceData) (tokens : List (List ℕ)) (long : 1024 < length tokens) (before behind : List (List ℕ)) (cut : IsCutAtColon tokens before behind) (count : IsConcaveCount (length before) (length behind)) where
-  concave-line : IsConcaveLine tokens (plain_parts before behind)
+  concave-line : IsColonLine IsConcaveCount tokens (plain_parts before behind)
   concave-line = record { numbers = before; elements = behind; cut = cut; count = count; parts_are = refl }
 
   concave-front : take (length before) tokens ≡ before

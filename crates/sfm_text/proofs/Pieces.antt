@@ -5,7 +5,7 @@ use Rattle.std.proofs.lemmas.Bool.Decides.{nat_tests}
 use Rattle.std.specs.List.{slice_split, onto_first, IsFirstAndRest, AllZip}
 use Rattle.std.proofs.lemmas.List.{length-map}
 use Rattle.sfm_text.specs.declared.word.RankKind.TheVariants.{UniformRank}
-use Rattle.sfm_text.specs.Parts.{LineParts, plain_parts, IsCutAtColon, IsConcaveLine, IsUniformLine, IsGroupCut, AreGroupsCut, IsRankHead, IsLaminarLine, is_semicolon, cut_at_semicolons, laminar_parts_of}
+use Rattle.sfm_text.specs.Parts.{LineParts, IsCutAtColon, IsUniformLine, IsGroupCut, AreGroupsCut, IsRankHead, IsLaminarLine, is_semicolon, cut_at_semicolons, laminar_parts_of}
 use Rattle.sfm_text.proofs.Colons.{colon-same}
 use Rattle.sfm_text.proofs.Repeats.{text-at}
 use Rattle.sfm_text.proofs.Matches.{AllZip-same}
@@ -33,11 +33,6 @@ lists-cut tokens pieces h =
     twice : (pieces : List (Bor (List (Bor (List ℕ))))) → map (λ piece. map (λ t. t.now) piece.now) pieces ≡ map (λ piece. map (λ t. t.now) piece) (map (λ piece. piece.now) pieces)
     twice [] = refl
     twice (piece ∷ pieces) = ap (λ l. map (λ t. t.now) piece.now ∷ l) (twice pieces)
-
-pub concave-same : (tokens : List (List ℕ)) (p q : LineParts) → IsConcaveLine tokens p → IsConcaveLine tokens q → p ≡ q
-concave-same tokens p q h g =
-    let (numbers, elements) = colon-same tokens h.numbers h.elements g.numbers g.elements h.cut g.cut in
-    h.parts_are ∙ (ap (λ (n : List (List ℕ)). plain_parts n h.elements) numbers ∙ (ap (λ (e : List (List ℕ)). plain_parts g.numbers e) elements ∙ sym g.parts_are))
 
 pub uniform-same : (tokens : List (List ℕ)) (p q : LineParts) → IsUniformLine tokens p → IsUniformLine tokens q → p ≡ q
 uniform-same tokens p q h g =

@@ -4,7 +4,7 @@ use Rattle.std.specs.List.{AllZip}
 use Rattle.sfm_text.specs.declared.word.RankKind.{RankKind}
 use Rattle.sfm_text.specs.declared.word.RankKind.TheVariants.{NoRank, UniformRank, LaminarRank, GraphicRank, TransversalRank}
 use Rattle.sfm_text.specs.Lines.{pieces_of}
-use Rattle.sfm_text.specs.Parts.{LineParts, IsCutAt, IsEdgeToken, IsEntryToken, IsLabelToken, AreLabelled, IsRankHead, IsLabelledLine, IsUniformLine, IsLaminarLine, IsGraphicLine, IsTransversalLine, IsRankLine, labelled_parts_of}
+use Rattle.sfm_text.specs.Parts.{LineParts, IsCutAt, IsEdgeToken, IsEntryToken, IsLabelToken, AreLabelled, IsRankHead, IsLabelledLine, IsUniformLine, IsLaminarLine, IsRankLine, labelled_parts_of}
 use Rattle.sfm_text.proofs.Cutting.{front-same}
 use Rattle.sfm_text.proofs.Pieces.{uniform-same, laminar-same}
 use Rattle.sfm_text.proofs.Matches.{AllZip-same}
@@ -57,8 +57,8 @@ abbrev pub IsLineOfRank : RankKind → List (List ℕ) → LineParts → Type 0
 IsLineOfRank NoRank tokens parts = ⊥
 IsLineOfRank UniformRank tokens parts = IsUniformLine tokens parts
 IsLineOfRank LaminarRank tokens parts = IsLaminarLine tokens parts
-IsLineOfRank GraphicRank tokens parts = IsGraphicLine tokens parts
-IsLineOfRank TransversalRank tokens parts = IsTransversalLine tokens parts
+IsLineOfRank GraphicRank tokens parts = IsLabelledLine GraphicRank (codes "graphic") tokens parts
+IsLineOfRank TransversalRank tokens parts = IsLabelledLine TransversalRank (codes "transversal") tokens parts
 
 rank-of-uniform : (tokens : List (List ℕ)) (parts : LineParts) → IsUniformLine tokens parts → parts.rank ≡ UniformRank
 rank-of-uniform tokens parts h = ap (λ (p : LineParts). p.rank) h.parts_are
@@ -101,8 +101,8 @@ rank-same tokens p q (inr (inr (inl h))) g = labelled-same GraphicRank (codes "g
 rank-same tokens p q (inr (inr (inr h))) g = labelled-same TransversalRank (codes "transversal") tokens p q h (one-rank tokens p q TransversalRank (inr (inr (inr h))) g (rank-of-labelled TransversalRank (codes "transversal") tokens p h))
 
 -- a line that is of none of the ranks but perhaps the last
-pub rank-made : {P : Type 0} (f : P → LineParts) (tokens : List (List ℕ)) → ((parts : LineParts) → IsUniformLine tokens parts → ⊥) → ((parts : LineParts) → IsLaminarLine tokens parts → ⊥) → ((parts : LineParts) → IsGraphicLine tokens parts → ⊥) → (r : Option P)
-    → MatchOption r ((parts : LineParts) → IsTransversalLine tokens parts → ⊥) (λ parts. IsTransversalLine tokens (f parts)) → MatchOption r ((parts : LineParts) → IsRankLine tokens parts → ⊥) (λ parts. IsRankLine tokens (f parts))
+pub rank-made : {P : Type 0} (f : P → LineParts) (tokens : List (List ℕ)) → ((parts : LineParts) → IsUniformLine tokens parts → ⊥) → ((parts : LineParts) → IsLaminarLine tokens parts → ⊥) → ((parts : LineParts) → IsLabelledLine GraphicRank (codes "graphic") tokens parts → ⊥) → (r : Option P)
+    → MatchOption r ((parts : LineParts) → IsLabelledLine TransversalRank (codes "transversal") tokens parts → ⊥) (λ parts. IsLabelledLine TransversalRank (codes "transversal") tokens (f parts)) → MatchOption r ((parts : LineParts) → IsRankLine tokens parts → ⊥) (λ parts. IsRankLine tokens (f parts))
 rank-made f tokens uniform laminar graphic None h = none-of
   where
     none-of : (parts : LineParts) → IsRankLine tokens parts → ⊥

@@ -6,7 +6,7 @@ use Rattle.std.specs.List.{All}
 use Rattle.std.proofs.lemmas.List.{length-map, length-take, length-drop, take-map, drop-map, take_rest}
 use Rattle.std.proofs.lemmas.List.Elements.{All-map}
 use Rattle.sfm_spec.specs.Bounds.{IsAtMost, AreElements}
-use Rattle.sfm_text.specs.Parts.{LineParts, plain_parts, IsPairToken, IsSplitAt, IsTableCount, IsUniformLine, IsLaminarLine, IsLabelToken, IsLabelledLine, IsGraphicLine, IsTransversalLine}
+use Rattle.sfm_text.specs.Parts.{LineParts, plain_parts, IsPairToken, IsSplitAt, IsTableCount, IsUniformLine, IsLaminarLine, IsLabelToken, IsLabelledLine}
 use Rattle.sfm_text.specs.Words.{lowest_of}
 use Rattle.sfm_text.specs.TermLines.{AreRead, IsNumberFrom}
 use Rattle.sfm_text.specs.declared.word.RankKind.{RankKind}
@@ -74,19 +74,19 @@ weight-elements parts values places h =
     read-elements WeightWord parts values places h (omega (arith, h.elements, h.shape.some, ap (λ (p : LineParts). length p.elements) h.shape.parts_are, length-map each (λ (p : List ℕ × List ℕ). p.0), length-AllZip IsPairToken h.tokens each h.shape.each))
 
 pub cut-number : (parts : LineParts) (values : List ℤ) (places : List ℕ) → AreRead CutWord parts values places → length values ≡ 1
-cut-number parts values places h = omega (arith, values-count CutWord parts values places h, split-numbers 1 h.tokens parts h.shape.split, h.shape.count)
+cut-number parts values places h = omega (arith, values-count CutWord parts values places h, split-numbers 1 h.tokens parts h.shape.1, h.shape.0)
 
 pub cut-elements : (parts : LineParts) (values : List ℤ) (places : List ℕ) → AreRead CutWord parts values places → length places ≡ 2
-cut-elements parts values places h = omega (arith, h.elements, split-elements 1 h.tokens parts h.shape.split, h.shape.count)
+cut-elements parts values places h = omega (arith, h.elements, split-elements 1 h.tokens parts h.shape.1, h.shape.0)
 
 pub need-elements : (parts : LineParts) (values : List ℤ) (places : List ℕ) → AreRead NeedWord parts values places → length places ≡ 2
-need-elements parts values places h = omega (arith, h.elements, split-elements 0 h.tokens parts h.shape.split, h.shape.count)
+need-elements parts values places h = omega (arith, h.elements, split-elements 0 h.tokens parts h.shape.1, h.shape.0)
 
 pub cover-number : (parts : LineParts) (values : List ℤ) (places : List ℕ) → AreRead CoverWord parts values places → length values ≡ 1
-cover-number parts values places h = omega (arith, values-count CoverWord parts values places h, split-numbers 1 h.tokens parts h.shape.split, h.shape.count)
+cover-number parts values places h = omega (arith, values-count CoverWord parts values places h, split-numbers 1 h.tokens parts h.shape.1, h.shape.0)
 
 pub cover-elements : (parts : LineParts) (values : List ℤ) (places : List ℕ) → AreRead CoverWord parts values places → AreElements places
-cover-elements parts values places h = read-elements CoverWord parts values places h (omega (arith, h.elements, split-elements 1 h.tokens parts h.shape.split, h.shape.count))
+cover-elements parts values places h = read-elements CoverWord parts values places h (omega (arith, h.elements, split-elements 1 h.tokens parts h.shape.1, h.shape.0))
 
 pub table-count : (parts : LineParts) (values : List ℤ) (places : List ℕ) → AreRead TableWord parts values places → IsTableCount (length values) (length places)
 table-count parts values places h =
@@ -143,7 +143,7 @@ module _ (parts : LineParts) (values : List ℤ) (places : List ℕ) (h : AreRea
     labelled-elements = read-elements RankWord parts values places h (omega (arith, entries-count, line.labelled.some, length-AllZip (IsLabelToken rank) line.behind line.entries line.labelled.each))
 
   module _ (is : parts.rank ≡ GraphicRank) where
-    as-graphic : IsGraphicLine h.tokens parts
+    as-graphic : IsLabelledLine GraphicRank (codes "graphic") h.tokens parts
     as-graphic = subst (λ (r : RankKind). IsLineOfRank r h.tokens parts) is (line-of-rank h.tokens parts h.shape)
 
     pub graphic-one : length values ≡ 1
@@ -164,7 +164,7 @@ module _ (parts : LineParts) (values : List ℤ) (places : List ℕ) (h : AreRea
         rw (ap (λ (p : LineParts). p.labels) line.parts_are) all
 
   module _ (is : parts.rank ≡ TransversalRank) where
-    as-transversal : IsTransversalLine h.tokens parts
+    as-transversal : IsLabelledLine TransversalRank (codes "transversal") h.tokens parts
     as-transversal = subst (λ (r : RankKind). IsLineOfRank r h.tokens parts) is (line-of-rank h.tokens parts h.shape)
 
     pub transversal-one : length values ≡ 1

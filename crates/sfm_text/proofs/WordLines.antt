@@ -1,6 +1,6 @@
 -- A line has one word and one list of parts.
 use Rattle.std.proofs.Common.{◌≡◌, ℕ, List, ◌∷◌, get_or, map, codes, nat_eq, if◌then◌else◌, refl, sym, ap, ◌∙◌, arith}
-use Rattle.sfm_text.specs.Parts.{LineParts, plain_parts, IsPairToken, IsWeightLine, IsSplitAt, IsTableLine}
+use Rattle.sfm_text.specs.Parts.{LineParts, plain_parts, IsPairToken, IsWeightLine, IsSplitAt, IsColonLine, IsTableCount, IsConcaveCount}
 use Rattle.sfm_text.specs.Words.{HasParts, word_text}
 use Rattle.sfm_text.specs.TermLines.{IsShaped}
 use Rattle.sfm_text.specs.Reading.{HasTermLine}
@@ -9,7 +9,6 @@ use Rattle.sfm_text.specs.declared.word.TermWord.TheVariants.{WeightWord, CutWor
 use Rattle.sfm_text.proofs.Cutting.{front-same}
 use Rattle.sfm_text.proofs.Colons.{colon-same}
 use Rattle.sfm_text.proofs.Matches.{AllZip-same}
-use Rattle.sfm_text.proofs.Pieces.{concave-same}
 use Rattle.sfm_text.proofs.Ranks.{rank-same}
 
 -- the word whose third byte and first byte are those
@@ -45,19 +44,19 @@ weight-same tokens p q h g =
 split-same : (count : ℕ) (tokens : List (List ℕ)) (p q : LineParts) → IsSplitAt count tokens p → IsSplitAt count tokens q → p ≡ q
 split-same count tokens p q h g = h.parts_are ∙ sym g.parts_are
 
-table-same : (tokens : List (List ℕ)) (p q : LineParts) → IsTableLine tokens p → IsTableLine tokens q → p ≡ q
-table-same tokens p q h g =
+colon_line-same : (AreCounts : ℕ → ℕ → Type 0) (tokens : List (List ℕ)) (p q : LineParts) → IsColonLine AreCounts tokens p → IsColonLine AreCounts tokens q → p ≡ q
+colon_line-same AreCounts tokens p q h g =
     let (numbers, elements) = colon-same tokens h.numbers h.elements g.numbers g.elements h.cut g.cut in
     h.parts_are ∙ (ap (λ (n : List (List ℕ)). plain_parts n h.elements) numbers ∙ (ap (λ (e : List (List ℕ)). plain_parts g.numbers e) elements ∙ sym g.parts_are))
 
 -- the tokens of a line have one list of parts
 pub parts-same : (word : TermWord) (tokens : List (List ℕ)) (p q : LineParts) → HasParts word tokens p → HasParts word tokens q → p ≡ q
 parts-same WeightWord tokens p q h g = weight-same tokens p q h g
-parts-same CutWord tokens p q h g = split-same 1 tokens p q h.split g.split
-parts-same NeedWord tokens p q h g = split-same 0 tokens p q h.split g.split
-parts-same CoverWord tokens p q h g = split-same 1 tokens p q h.split g.split
-parts-same TableWord tokens p q h g = table-same tokens p q h g
-parts-same ConcaveWord tokens p q h g = concave-same tokens p q h g
+parts-same CutWord tokens p q h g = split-same 1 tokens p q h.1 g.1
+parts-same NeedWord tokens p q h g = split-same 0 tokens p q h.1 g.1
+parts-same CoverWord tokens p q h g = split-same 1 tokens p q h.1 g.1
+parts-same TableWord tokens p q h g = colon_line-same IsTableCount tokens p q h g
+parts-same ConcaveWord tokens p q h g = colon_line-same IsConcaveCount tokens p q h g
 parts-same RankWord tokens p q h g = rank-same tokens p q h g
 
 -- so what holds of the parts of a line holds of these

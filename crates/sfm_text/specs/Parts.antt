@@ -61,21 +61,6 @@ pub record IsSplitAt (count : ℕ) (tokens : List (List ℕ)) (parts : LineParts
   pub unmarked : AreUnmarked tokens
   pub parts_are : parts ≡ plain_parts (take count tokens) (drop count tokens)
 
--- a number and two elements
-pub record IsCutLine (tokens : List (List ℕ)) (parts : LineParts) : Type 0 where
-  pub count : length tokens ≡ 3
-  pub split : IsSplitAt 1 tokens parts
-
--- two elements
-pub record IsNeedLine (tokens : List (List ℕ)) (parts : LineParts) : Type 0 where
-  pub count : length tokens ≡ 2
-  pub split : IsSplitAt 0 tokens parts
-
--- a number and at least one element
-pub record IsCoverLine (tokens : List (List ℕ)) (parts : LineParts) : Type 0 where
-  pub count : 2 ≤ length tokens
-  pub split : IsSplitAt 1 tokens parts
-
 -- tokens before and behind the one colon alone, and no semicolon alone
 pub record IsCutAtColon (tokens before behind : List (List ℕ)) : Type 0 where
   pub cut : tokens ≡ before ++ codes ":" ∷ behind
@@ -88,25 +73,17 @@ pub record IsTableCount (numbers elements : ℕ) : Type 0 where
   pub few : elements ≤ 8
   pub each : numbers ≡ 2 ^ elements
 
--- numbers, a colon, and elements
-pub record IsTableLine (tokens : List (List ℕ)) (parts : LineParts) : Type 0 where
-  pub numbers : List (List ℕ)
-  pub elements : List (List ℕ)
-  pub cut : IsCutAtColon tokens numbers elements
-  pub count : IsTableCount (length numbers) (length elements)
-  pub parts_are : parts ≡ plain_parts numbers elements
-
 -- as many numbers as elements, at least one
 pub record IsConcaveCount (numbers elements : ℕ) : Type 0 where
   pub some : 1 ≤ elements
   pub same : numbers ≡ elements
 
--- numbers, a colon, and elements
-pub record IsConcaveLine (tokens : List (List ℕ)) (parts : LineParts) : Type 0 where
+-- numbers, a colon, and elements, in such counts
+pub record IsColonLine (AreCounts : ℕ → ℕ → Type 0) (tokens : List (List ℕ)) (parts : LineParts) : Type 0 where
   pub numbers : List (List ℕ)
   pub elements : List (List ℕ)
   pub cut : IsCutAtColon tokens numbers elements
-  pub count : IsConcaveCount (length numbers) (length elements)
+  pub count : AreCounts (length numbers) (length elements)
   pub parts_are : parts ≡ plain_parts numbers elements
 
 -- a number, the word `uniform`, a cap, a colon, and at least one element
@@ -198,14 +175,8 @@ pub record IsLabelledLine (rank : RankKind) (word : List ℕ) (tokens : List (Li
   pub labelled : AreLabelled rank behind entries
   pub parts_are : parts ≡ labelled_parts_of rank number entries
 
--- a number, the word `graphic`, a colon, and edges
-abbrev pub IsGraphicLine : List (List ℕ) → LineParts → Type 0
-IsGraphicLine tokens parts = IsLabelledLine GraphicRank (codes "graphic") tokens parts
-
--- a number, the word `transversal`, a colon, and entries
-abbrev pub IsTransversalLine : List (List ℕ) → LineParts → Type 0
-IsTransversalLine tokens parts = IsLabelledLine TransversalRank (codes "transversal") tokens parts
-
--- a line of one of the ranks
+-- a line of one of the ranks: of `uniform` or `laminar`, or a number, the word `graphic` or `transversal`, a colon, and edges or
+-- entries
 abbrev pub IsRankLine : List (List ℕ) → LineParts → Type 0
-IsRankLine tokens parts = IsUniformLine tokens parts ⊎ IsLaminarLine tokens parts ⊎ IsGraphicLine tokens parts ⊎ IsTransversalLine tokens parts
+IsRankLine tokens parts = IsUniformLine tokens parts ⊎ IsLaminarLine tokens parts
+    ⊎ IsLabelledLine GraphicRank (codes "graphic") tokens parts ⊎ IsLabelledLine TransversalRank (codes "transversal") tokens parts

@@ -27,13 +27,9 @@ group_of values parts i = record { cap = slice_index_or values (i + 1) (pos 0); 
 abbrev pub groups_of : List ℤ → LineParts → List Group
 groups_of values parts = map (λ i. group_of values parts i) (range_with_len 0 (length parts.groups))
 
--- two groups share an element, and neither holds the other
-abbrev pub HasCrossing : List Group → Type 0
-HasCrossing groups = (i : ℕ) × (j : ℕ) × IsCrossing groups i j
-
--- the groups of a laminar rank cross; no other rank has a law to break
+-- two groups of a laminar rank cross: they share an element, and neither holds the other; no other rank has a law to break
 abbrev pub BreaksRankLaw : RankKind → LineParts → List ℤ → Type 0
-BreaksRankLaw LaminarRank parts values = HasCrossing (groups_of values parts)
+BreaksRankLaw LaminarRank parts values = (i : ℕ) × (j : ℕ) × IsCrossing (groups_of values parts) i j
 BreaksRankLaw _ parts values = ⊥
 
 -- the term is of that rank, and has the numbers, groups and labels of the line: the first number is what each independent

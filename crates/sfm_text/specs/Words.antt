@@ -1,6 +1,6 @@
 -- The words that a term line begins with. Each brings one case to each definition here: the word itself, the least
 -- number of its line, the parts that its line has, the law that its numbers may break, and the term that it stands for.
-use Rattle.std.specs.Prelude.{◌≡◌, ℕ, ◌^◌, List, [], ◌∷◌, length, codes, ℤ, pos, neg_ℤ}
+use Rattle.std.specs.Prelude.{◌≡◌, ℕ, ◌^◌, List, [], ◌∷◌, ◌≤◌, length, codes, ℤ, pos, neg_ℤ}
 use Rattle.sfm_spec.specs.Terms.{IsSubmodular}
 use Rattle.sfm_spec.specs.Kinds.{table_value}
 use Rattle.sfm_concave.specs.ConcaveLaws.{RisesAt}
@@ -9,7 +9,7 @@ use Rattle.sfm_kind.specs.declared.kind.Kind.{Kind}
 use Rattle.sfm_kind.specs.declared.kind.Kind.TheVariants.{Weight, Cut, Need, Cover, Table, Concave}
 use Rattle.sfm_text.specs.declared.word.TermWord.{TermWord}
 use Rattle.sfm_text.specs.declared.word.TermWord.TheVariants.{WeightWord, CutWord, NeedWord, CoverWord, TableWord, ConcaveWord, RankWord}
-use Rattle.sfm_text.specs.Parts.{LineParts, IsWeightLine, IsCutLine, IsNeedLine, IsCoverLine, IsTableLine, IsConcaveLine, IsRankLine}
+use Rattle.sfm_text.specs.Parts.{LineParts, IsWeightLine, IsRankLine, IsColonLine, IsTableCount, IsConcaveCount, IsSplitAt}
 use Rattle.sfm_text.specs.RankLines.{BreaksRankLaw, IsRankMadeOf}
 
 -- the word
@@ -29,26 +29,23 @@ lowest_of TableWord = neg_ℤ (pos (10 ^ 12))
 lowest_of ConcaveWord = neg_ℤ (pos (10 ^ 12))
 lowest_of _ = pos 0
 
--- the tokens behind the word have its shape and these parts
+-- the tokens behind the word have its shape and these parts: pairs; a number and two elements; two elements; a number and at least
+-- one element; numbers, a colon and elements, in the counts of a table or of a concave function; or the line of a rank
 abbrev pub HasParts : TermWord → List (List ℕ) → LineParts → Type 0
 HasParts WeightWord tokens parts = IsWeightLine tokens parts
-HasParts CutWord tokens parts = IsCutLine tokens parts
-HasParts NeedWord tokens parts = IsNeedLine tokens parts
-HasParts CoverWord tokens parts = IsCoverLine tokens parts
-HasParts TableWord tokens parts = IsTableLine tokens parts
-HasParts ConcaveWord tokens parts = IsConcaveLine tokens parts
+HasParts CutWord tokens parts = (length tokens ≡ 3) × IsSplitAt 1 tokens parts
+HasParts NeedWord tokens parts = (length tokens ≡ 2) × IsSplitAt 0 tokens parts
+HasParts CoverWord tokens parts = (2 ≤ length tokens) × IsSplitAt 1 tokens parts
+HasParts TableWord tokens parts = IsColonLine IsTableCount tokens parts
+HasParts ConcaveWord tokens parts = IsColonLine IsConcaveCount tokens parts
 HasParts RankWord tokens parts = IsRankLine tokens parts
 
--- some increment is above the one before, the value of none being 0
-abbrev pub HasRise : List ℤ → Type 0
-HasRise values = (at : ℕ) × RisesAt values at
-
 -- the numbers break the law of the word's kind: those of a table, where they are the values of no submodular function
--- with 0 at the empty part; those of a concave line, where some increment is above the one before; and groups, where two
--- cross
+-- with 0 at the empty part; those of a concave line, where some increment is above the one before, the value of none
+-- being 0; and groups, where two cross
 abbrev pub BreaksLaw : TermWord → LineParts → List ℤ → Type 0
 BreaksLaw TableWord parts values = IsSubmodular (length parts.elements) (table_value values) → ⊥
-BreaksLaw ConcaveWord parts values = HasRise values
+BreaksLaw ConcaveWord parts values = (at : ℕ) × RisesAt values at
 BreaksLaw RankWord parts values = BreaksRankLaw parts.rank parts values
 BreaksLaw _ parts values = ⊥
 

@@ -1,10 +1,11 @@
 // The line `concave`, a number for each count of elements, a colon, and the elements.
-ghost use Rattle.std.specs.Prelude.{◌≡◌, ◌↔◌, ◌^◌, length, IsTrue, IfOk, MatchOption};
+ghost use Rattle.std.specs.Prelude.{◌≡◌, ◌↔◌, ◌^◌, ℕ, length, IsTrue, IfOk, MatchOption};
 ghost use Rattle.std.specs.List.{All};
 ghost use Rattle.sfm_spec.specs.Bounds.{IsAtMost, AreElements};
+ghost use Rattle.sfm_concave.specs.ConcaveLaws.{RisesAt};
 ghost use Rattle.sfm_text.specs.Lines.{texts_of};
-ghost use Rattle.sfm_text.specs.Parts.{LineParts, IsConcaveCount, IsConcaveLine};
-ghost use Rattle.sfm_text.specs.Words.{HasRise, IsTermOf};
+ghost use Rattle.sfm_text.specs.Parts.{LineParts, IsConcaveCount, IsColonLine};
+ghost use Rattle.sfm_text.specs.Words.{IsTermOf};
 ghost use Rattle.sfm_text.specs.ReadParts.{parts_of};
 ghost use Rattle.sfm_text.specs.declared.word.TermWord.TheVariants.{ConcaveWord};
 
@@ -28,8 +29,8 @@ pub fn concave_parts<'a, 'b>(
     tokens: &'b [&'a [u8]],
 ) -> Result<Option<Parts<'a, 'b>>, AllocError>
     ensures { IfOk result (λ r. MatchOption r
-        ((parts : LineParts) → IsConcaveLine (texts_of tokens.now) parts → ⊥)
-        (λ parts. IsConcaveLine (texts_of tokens.now) (parts_of parts))) }
+        ((parts : LineParts) → IsColonLine IsConcaveCount (texts_of tokens.now) parts → ⊥)
+        (λ parts. IsColonLine IsConcaveCount (texts_of tokens.now) (parts_of parts))) }
 {
     let Some((numbers, elements)) = cut_at_colon(tokens) else {
         return Ok(None);
@@ -52,8 +53,8 @@ pub fn concave_term(
     requires same_count { length values.now ≡ length places.now }
     requires small { All (IsAtMost (10 ^ 12)) values.now }
     ensures { IfOk result (λ r. MatchOption r
-        (HasRise values.now)
-        (λ term. ((parts : LineParts) → IsTermOf ConcaveWord parts values.now places.now term) × (HasRise values.now → ⊥))) }
+        ((at : ℕ) × RisesAt values.now at)
+        (λ term. ((parts : LineParts) → IsTermOf ConcaveWord parts values.now places.now term) × (((at : ℕ) × RisesAt values.now at) → ⊥))) }
 {
     match Concave::new(alloc, places, values) {
         Ok(concave) => Ok(Some(Kind::Concave(concave))),

@@ -3,8 +3,8 @@ ghost use Rattle.std.specs.Prelude.{◌≡◌, ◌^◌, length, pos, ◌≤ℤ�
 ghost use Rattle.std.specs.List.{All};
 ghost use Rattle.sfm_spec.specs.Bounds.{IsAtMost, AreElements};
 ghost use Rattle.sfm_text.specs.Lines.{texts_of};
-ghost use Rattle.sfm_text.specs.Parts.{LineParts, IsCoverLine};
-ghost use Rattle.sfm_text.specs.Words.{IsTermOf};
+ghost use Rattle.sfm_text.specs.Parts.{LineParts};
+ghost use Rattle.sfm_text.specs.Words.{IsTermOf, HasParts};
 ghost use Rattle.sfm_text.specs.ReadParts.{parts_of};
 ghost use Rattle.sfm_text.specs.declared.word.TermWord.TheVariants.{CoverWord};
 
@@ -20,8 +20,8 @@ pub fn cover_parts<'a, 'b>(
     tokens: &'b [&'a [u8]],
 ) -> Result<Option<Parts<'a, 'b>>, AllocError>
     ensures { IfOk result (λ r. MatchOption r
-        ((parts : LineParts) → IsCoverLine (texts_of tokens.now) parts → ⊥)
-        (λ parts. IsCoverLine (texts_of tokens.now) (parts_of parts))) }
+        ((parts : LineParts) → HasParts CoverWord (texts_of tokens.now) parts → ⊥)
+        (λ parts. HasParts CoverWord (texts_of tokens.now) (parts_of parts))) }
 {
     if tokens.len() < 2 {
         return Ok(None);

@@ -4,8 +4,8 @@ ghost use Rattle.std.specs.List.{All};
 ghost use Rattle.sfm_spec.specs.Bounds.{IsAtMost};
 ghost use Rattle.sfm_spec.specs.Sets.{IsPlaced};
 ghost use Rattle.sfm_text.specs.Lines.{texts_of};
-ghost use Rattle.sfm_text.specs.Parts.{LineParts, IsCutLine};
-ghost use Rattle.sfm_text.specs.Words.{IsTermOf};
+ghost use Rattle.sfm_text.specs.Parts.{LineParts};
+ghost use Rattle.sfm_text.specs.Words.{IsTermOf, HasParts};
 ghost use Rattle.sfm_text.specs.ReadParts.{parts_of};
 ghost use Rattle.sfm_text.specs.declared.word.TermWord.TheVariants.{CutWord};
 
@@ -20,8 +20,8 @@ pub fn cut_parts<'a, 'b>(
     tokens: &'b [&'a [u8]],
 ) -> Result<Option<Parts<'a, 'b>>, AllocError>
     ensures { IfOk result (λ r. MatchOption r
-        ((parts : LineParts) → IsCutLine (texts_of tokens.now) parts → ⊥)
-        (λ parts. IsCutLine (texts_of tokens.now) (parts_of parts))) }
+        ((parts : LineParts) → HasParts CutWord (texts_of tokens.now) parts → ⊥)
+        (λ parts. HasParts CutWord (texts_of tokens.now) (parts_of parts))) }
 {
     if tokens.len() != 3 {
         return Ok(None);

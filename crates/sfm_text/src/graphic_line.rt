@@ -1,10 +1,10 @@
 // The line `rank`, a number, `graphic`, a colon, and at least one edge `name=vertex-vertex`.
-ghost use Rattle.std.specs.Prelude.{◌≡◌, ◌<◌, ℕ, length, map, pos, ◌^◌, ◌≤ℤ◌, MatchOption, IfOk};
+ghost use Rattle.std.specs.Prelude.{◌≡◌, ◌<◌, ℕ, length, map, pos, ◌^◌, ◌≤ℤ◌, MatchOption, IfOk, codes};
 ghost use Rattle.std.specs.List.{All};
 ghost use Rattle.sfm_spec.specs.Bounds.{IsAtMost, AreElements};
 ghost use Rattle.sfm_matroid.specs.Ends.{edges_of};
 ghost use Rattle.sfm_text.specs.Lines.{texts_of};
-ghost use Rattle.sfm_text.specs.Parts.{LineParts, IsGraphicLine};
+ghost use Rattle.sfm_text.specs.Parts.{LineParts, IsLabelledLine};
 ghost use Rattle.sfm_text.specs.LabelTerms.{place_among, edge_between};
 ghost use Rattle.sfm_text.specs.Words.{IsTermOf};
 ghost use Rattle.sfm_text.specs.ReadParts.{parts_of, label_lists_of, joined};
@@ -28,8 +28,8 @@ pub fn graphic_parts<'a, 'b>(
     tokens: &'b [&'a [u8]],
 ) -> Result<Option<Parts<'a, 'b>>, AllocError>
     ensures { IfOk result (λ r. MatchOption r
-        ((parts : LineParts) → IsGraphicLine (texts_of tokens.now) parts → ⊥)
-        (λ parts. IsGraphicLine (texts_of tokens.now) (parts_of parts))) }
+        ((parts : LineParts) → IsLabelledLine GraphicRank (codes "graphic") (texts_of tokens.now) parts → ⊥)
+        (λ parts. IsLabelledLine GraphicRank (codes "graphic") (texts_of tokens.now) (parts_of parts))) }
 {
     let Some((number, behind)) = cut_head(b"graphic", tokens) else {
         return Ok(None);

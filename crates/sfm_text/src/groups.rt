@@ -2,11 +2,12 @@
 // they make. Names are sought in a set of the elements, since a line may have millions of either. A group's members are
 // found by going through the elements in order, so that they ascend.
 ghost use Rattle.std.specs.Prelude.{◌≡◌, ◌+◌, ◌^◌, ℕ, List, length, pos, ◌≤ℤ◌, Any, Contains, IfOk, MatchBool, MatchOption};
+ghost use Rattle.sfm_laminar.specs.Crossing.{IsCrossing};
 ghost use Rattle.std.specs.List.{All};
 ghost use Rattle.sfm_spec.specs.Bounds.{IsAtMost, AreElements};
 ghost use Rattle.sfm_text.specs.Lines.{texts_of, text_lists_of};
 ghost use Rattle.sfm_text.specs.LabelTerms.{distinct_of};
-ghost use Rattle.sfm_text.specs.RankLines.{is_among, members_of, groups_of, HasCrossing};
+ghost use Rattle.sfm_text.specs.RankLines.{is_among, members_of, groups_of};
 ghost use Rattle.sfm_text.specs.TermLines.{StandsTwice};
 ghost use Rattle.sfm_text.specs.Words.{IsTermOf};
 ghost use Rattle.sfm_text.specs.ReadParts.{parts_of};
@@ -130,9 +131,9 @@ pub fn laminar_term(
     requires low { All (λ value. pos 0 ≤ℤ value) values.now }
     requires small { All (IsAtMost (10 ^ 12)) values.now }
     ensures { IfOk result (λ r. MatchOption r
-        (HasCrossing (groups_of values.now (parts_of parts.now)))
+        ((i : ℕ) × (j : ℕ) × IsCrossing (groups_of values.now (parts_of parts.now)) i j)
         (λ term. IsTermOf RankWord (parts_of parts.now) values.now places.now term
-        × (HasCrossing (groups_of values.now (parts_of parts.now)) → ⊥))) }
+        × (((i : ℕ) × (j : ℕ) × IsCrossing (groups_of values.now (parts_of parts.now)) i j) → ⊥))) }
 {
     let groups = line_groups(alloc, parts, values)?;
     match Laminar::new(alloc, places, values[0], groups) {

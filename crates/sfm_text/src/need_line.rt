@@ -2,8 +2,8 @@
 ghost use Rattle.std.specs.Prelude.{◌≡◌, List, length, ℤ, IfOk, MatchOption};
 ghost use Rattle.sfm_spec.specs.Sets.{IsPlaced};
 ghost use Rattle.sfm_text.specs.Lines.{texts_of};
-ghost use Rattle.sfm_text.specs.Parts.{LineParts, IsNeedLine};
-ghost use Rattle.sfm_text.specs.Words.{IsTermOf};
+ghost use Rattle.sfm_text.specs.Parts.{LineParts};
+ghost use Rattle.sfm_text.specs.Words.{IsTermOf, HasParts};
 ghost use Rattle.sfm_text.specs.ReadParts.{parts_of};
 ghost use Rattle.sfm_text.specs.declared.word.TermWord.TheVariants.{NeedWord};
 
@@ -18,8 +18,8 @@ pub fn need_parts<'a, 'b>(
     tokens: &'b [&'a [u8]],
 ) -> Result<Option<Parts<'a, 'b>>, AllocError>
     ensures { IfOk result (λ r. MatchOption r
-        ((parts : LineParts) → IsNeedLine (texts_of tokens.now) parts → ⊥)
-        (λ parts. IsNeedLine (texts_of tokens.now) (parts_of parts))) }
+        ((parts : LineParts) → HasParts NeedWord (texts_of tokens.now) parts → ⊥)
+        (λ parts. HasParts NeedWord (texts_of tokens.now) (parts_of parts))) }
 {
     if tokens.len() != 2 {
         return Ok(None);

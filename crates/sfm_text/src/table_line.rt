@@ -6,7 +6,7 @@ ghost use Rattle.sfm_spec.specs.Sets.{IsPlaced};
 ghost use Rattle.sfm_spec.specs.Terms.{IsSubmodular};
 ghost use Rattle.sfm_spec.specs.Kinds.{table_value};
 ghost use Rattle.sfm_text.specs.Lines.{texts_of};
-ghost use Rattle.sfm_text.specs.Parts.{LineParts, IsTableCount, IsTableLine};
+ghost use Rattle.sfm_text.specs.Parts.{LineParts, IsTableCount, IsColonLine};
 ghost use Rattle.sfm_text.specs.Words.{IsTermOf};
 ghost use Rattle.sfm_text.specs.ReadParts.{parts_of};
 ghost use Rattle.sfm_text.specs.declared.word.TermWord.TheVariants.{TableWord};
@@ -31,8 +31,8 @@ pub fn table_parts<'a, 'b>(
     tokens: &'b [&'a [u8]],
 ) -> Result<Option<Parts<'a, 'b>>, AllocError>
     ensures { IfOk result (λ r. MatchOption r
-        ((parts : LineParts) → IsTableLine (texts_of tokens.now) parts → ⊥)
-        (λ parts. IsTableLine (texts_of tokens.now) (parts_of parts))) }
+        ((parts : LineParts) → IsColonLine IsTableCount (texts_of tokens.now) parts → ⊥)
+        (λ parts. IsColonLine IsTableCount (texts_of tokens.now) (parts_of parts))) }
 {
     let Some((numbers, elements)) = cut_at_colon(tokens) else {
         return Ok(None);

@@ -1,9 +1,9 @@
 // The line `rank`, a number, `transversal`, a colon, and at least one entry `name=slot,slot,..`.
-ghost use Rattle.std.specs.Prelude.{◌≡◌, ◌<◌, ℕ, length, map, pos, ◌^◌, ◌≤ℤ◌, MatchOption, IfOk};
+ghost use Rattle.std.specs.Prelude.{◌≡◌, ◌<◌, ℕ, length, map, pos, ◌^◌, ◌≤ℤ◌, MatchOption, IfOk, codes};
 ghost use Rattle.std.specs.List.{All};
 ghost use Rattle.sfm_spec.specs.Bounds.{IsAtMost, AreElements};
 ghost use Rattle.sfm_text.specs.Lines.{texts_of};
-ghost use Rattle.sfm_text.specs.Parts.{LineParts, IsTransversalLine};
+ghost use Rattle.sfm_text.specs.Parts.{LineParts, IsLabelledLine};
 ghost use Rattle.sfm_text.specs.LabelTerms.{place_among};
 ghost use Rattle.sfm_text.specs.Words.{IsTermOf};
 ghost use Rattle.sfm_text.specs.ReadParts.{parts_of, label_lists_of, joined};
@@ -27,8 +27,8 @@ pub fn transversal_parts<'a, 'b>(
     tokens: &'b [&'a [u8]],
 ) -> Result<Option<Parts<'a, 'b>>, AllocError>
     ensures { IfOk result (λ r. MatchOption r
-        ((parts : LineParts) → IsTransversalLine (texts_of tokens.now) parts → ⊥)
-        (λ parts. IsTransversalLine (texts_of tokens.now) (parts_of parts))) }
+        ((parts : LineParts) → IsLabelledLine TransversalRank (codes "transversal") (texts_of tokens.now) parts → ⊥)
+        (λ parts. IsLabelledLine TransversalRank (codes "transversal") (texts_of tokens.now) (parts_of parts))) }
 {
     let Some((number, behind)) = cut_head(b"transversal", tokens) else {
         return Ok(None);
