@@ -19,7 +19,7 @@ use Rattle.sfm_text.specs.Lines.{TextLine, content_of, tokens_of}
 use Rattle.sfm_text.specs.Words.{word_text}
 use Rattle.sfm_text.specs.TermLines.{StandsTwice, StandsFor}
 use Rattle.sfm_text.proofs.TooMuch.{much-by-total, total-by-much}
-use Rattle.sfm_text.specs.Reading.{State, start, reason_order, Has, HasTwice, HasTooMuch, AreTooMuch, FirstReason, Adds, Takes}
+use Rattle.sfm_text.specs.Reading.{State, start, reason_order, Has, HasAt, AreTooMuch, FirstReason, Adds, Takes}
 use Rattle.sfm_text.specs.GoodText.{bytes_of, IsTextOf, HasFaultyLine, IsFaultOf, is_long, is_faulty, is_short}
 use Rattle.sfm_text.proofs.WordLines.{not-end}
 use Rattle.sfm_text.proofs.Matches.{AllZip-push}
@@ -66,21 +66,14 @@ start-alike = record { stage = refl; names = refl; terms = tt; distinct = λ i j
 -- what a line has in the one state, it has in the other
 has-alike : (s t : State) (line : List ℕ) (reason : Reason) → Alike s t → Has s line reason → Has t line reason
 has-alike s t line Long same h = h
-has-alike s t line Bytes same h = h
-has-alike s t line Word same h = rw (same.stage) at h
-has-alike s t line Shape same h = rw (same.stage) at h
-has-alike s t line Number same h = rw (same.stage) at h
-has-alike s t line Name same h = rw (same.stage, same.names) at h
-has-alike s t line Twice same h = rw (same.stage) at h
-has-alike s t line Law same h = rw (same.stage) at h
-has-alike s t line Total same h = much t.stage (subst (HasTooMuch s (tokens_of line)) same.stage h)
-  where
-    much : (stage : Stage) → HasTooMuch s (tokens_of line) stage → HasTooMuch t (tokens_of line) stage
-    much Header h = h
-    much Ground h = h
-    much Terms (term, stands, many) = (term, rw (same.names) at stands, much-alike s.terms t.terms term same.terms many)
-    much Ended h = h
 has-alike s t line Short same h = h
+has-alike s t line Bytes same h = h
+has-alike s t line reason same h = at t.stage reason (subst (λ (stage : Stage). HasAt stage s (tokens_of line) reason) same.stage h)
+  where
+    at : (stage : Stage) (why : Reason) → HasAt stage s (tokens_of line) why → HasAt stage t (tokens_of line) why
+    at Terms Name g = rw (same.names) at g
+    at Terms Total (term, stands, many) = (term, rw (same.names) at stands, much-alike s.terms t.terms term same.terms many)
+    at _ _ g = g
 
 -- names that do not repeat are different
 different : (names : List (List ℕ)) → (StandsTwice names → ⊥) → AllPairs (λ a b. a ≢ b) names
@@ -102,7 +95,7 @@ takes-alike s t line u v same h g = at s.stage refl h.adds (subst (λ (stage : S
     at Ground is (names, tokens, a) (names', tokens', b) =
         let both : codes "ground" ∷ names ≡ codes "ground" ∷ names' = sym tokens ∙ tokens' in
         let one : names ≡ names' = cc in
-        let once : StandsTwice names → ⊥ = λ twice. h.good Twice (subst (λ (stage : Stage). HasTwice stage (tokens_of line)) (sym is) (names, tokens, twice)) in
+        let once : StandsTwice names → ⊥ = λ twice. h.good Twice (subst (λ (stage : Stage). HasAt stage s (tokens_of line) Twice) (sym is) (names, tokens, twice)) in
         rw (a, b) (record { stage = refl; names = one; terms = tt; distinct = different names once })
     at Terms is (inl (last, a)) (inl (last', b)) = rw (a, b) (record { stage = refl; names = same.names; terms = same.terms; distinct = same.distinct })
     at Terms is (inl (last, a)) (inr more) = absurd (not-both t.names (tokens_of line) more.term last more.stands)

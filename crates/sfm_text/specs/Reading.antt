@@ -48,28 +48,9 @@ reason_order Short = 9
 abbrev pub IsBadByte : ℕ → Type 0
 IsBadByte c = (c ≢ 9) × ((c < 32) ⊎ (126 < c))
 
--- the first token is none that may begin the line
-abbrev pub HasWrongWord : Stage → List (List ℕ) → Type 0
-HasWrongWord Header tokens = (rest : List (List ℕ)) → tokens ≢ codes "sfm" ∷ rest
-HasWrongWord Ground tokens = (rest : List (List ℕ)) → tokens ≢ codes "ground" ∷ rest
-HasWrongWord Terms tokens = ((rest : List (List ℕ)) → tokens ≢ codes "end" ∷ rest) × ((word : TermWord) (rest : List (List ℕ)) → tokens ≢ word_text word ∷ rest)
-HasWrongWord Ended tokens = Unit {0}
-
--- the tokens do not fit the pattern of the line
-abbrev pub HasWrongShape : Stage → List (List ℕ) → Type 0
-HasWrongShape Header tokens = tokens ≢ codes "sfm" ∷ codes "1" ∷ []
-HasWrongShape Ground tokens = Any IsMark tokens
-HasWrongShape Terms tokens = (tokens ≢ codes "end" ∷ []) × ((word : TermWord) (rest : List (List ℕ)) (parts : LineParts) → IsShaped tokens word rest parts → ⊥)
-HasWrongShape Ended tokens = ⊥
-
 -- a term line of which something holds of the word, the tokens behind it and the parts
 abbrev pub HasTermLine : List (List ℕ) → (TermWord → List (List ℕ) → LineParts → Type 0) → Type 0
 HasTermLine tokens P = (word : TermWord) × (rest : List (List ℕ)) × (parts : LineParts) × IsShaped tokens word rest parts × P word rest parts
-
--- what stands in a number's place is no number, or one outside its range
-abbrev pub HasWrongNumber : Stage → List (List ℕ) → Type 0
-HasWrongNumber Terms tokens = HasTermLine tokens (λ word rest parts. Any (λ text. (value : ℤ) → IsNumberFrom (lowest_of word) text value → ⊥) parts.numbers)
-HasWrongNumber _ tokens = ⊥
 
 -- some name of a group is not one of the elements of its line
 abbrev pub HasStranger : LineParts → Type 0
@@ -79,52 +60,45 @@ HasStranger parts = Any (λ names. Any (λ text. Contains parts.elements text �
 abbrev pub HasWrongLabel : LineParts → Type 0
 HasWrongLabel parts = Any (λ labels. Any (λ text. IsName text → ⊥) labels) parts.labels
 
--- what stands in a name's place is no name, or none of the ground where an element is meant, or no element of the line
--- where one of a group is meant
-abbrev pub HasWrongName : Stage → List (List ℕ) → List (List ℕ) → Type 0
-HasWrongName Ground names tokens = (rest : List (List ℕ)) × (tokens ≡ codes "ground" ∷ rest) × Any (λ text. IsName text → ⊥) rest
-HasWrongName Terms names tokens = HasTermLine tokens (λ word rest parts. Any (λ text. IsName text → Contains names text → ⊥) parts.elements ⊎ HasStranger parts ⊎ HasWrongLabel parts)
-HasWrongName _ names tokens = ⊥
-
 -- a slot stands twice in one entry; both ends of an edge may be one vertex
 abbrev pub HasSlotTwice : RankKind → List (List (List ℕ)) → Type 0
 HasSlotTwice TransversalRank labels = Any (λ slots. StandsTwice slots) labels
 HasSlotTwice _ labels = ⊥
 
--- a name stands twice in the ground line, or an element twice in a term line or in one of its groups, or a slot in an entry
-abbrev pub HasTwice : Stage → List (List ℕ) → Type 0
-HasTwice Ground tokens = (rest : List (List ℕ)) × (tokens ≡ codes "ground" ∷ rest) × StandsTwice rest
-HasTwice Terms tokens = HasTermLine tokens (λ word rest parts. StandsTwice parts.elements ⊎ Any (λ names. StandsTwice names) parts.groups ⊎ HasSlotTwice parts.rank parts.labels)
-HasTwice _ tokens = ⊥
-
--- the numbers break the law of the kind
-abbrev pub HasBrokenLaw : Stage → List (List ℕ) → Type 0
-HasBrokenLaw Terms tokens = HasTermLine tokens (λ word rest parts. (values : List ℤ) × AllZip (IsNumberFrom (lowest_of word)) parts.numbers values × BreaksLaw word parts values)
-HasBrokenLaw _ tokens = ⊥
-
 -- more terms, places or sizes than a text may have in all; the size of a term is that of its meaning
 abbrev pub AreTooMuch : List Kind → Type 0
 AreTooMuch terms = (4096 < length terms) ⊎ (16384 < support_of terms) ⊎ ((meant : List Meaning) × AllZip IsMeaningOf terms meant × (pos (10 ^ 15) <ℤ total_by terms meant))
 
--- too many names, or with this line too much in all
-abbrev pub HasTooMuch : State → List (List ℕ) → Stage → Type 0
-HasTooMuch s tokens Header = ⊥
-HasTooMuch s tokens Ground = (rest : List (List ℕ)) × (tokens ≡ codes "ground" ∷ rest) × (256 < length rest)
-HasTooMuch s tokens Terms = (term : Kind) × StandsFor s.names tokens term × AreTooMuch (s.terms ++ term ∷ [])
-HasTooMuch s tokens Ended = ⊥
+-- a line with these tokens has that reason where the line of a stage is due. Word: the first token is none that may begin the line.
+-- Shape: the tokens do not fit the pattern of the line. Number: what stands in a number's place is no number, or one outside its
+-- range. Name: what stands in a name's place is no name, or none of the ground where an element is meant, or no element of the line
+-- where one of a group is meant. Twice: a name stands twice in the ground line, or an element twice in a term line or in one of its
+-- groups, or a slot in an entry. Law: the numbers break the law of the kind. Total: there are too many names, or with this line too
+-- much in all
+abbrev pub HasAt : Stage → State → List (List ℕ) → Reason → Type 0
+HasAt Header s tokens Word = (rest : List (List ℕ)) → tokens ≢ codes "sfm" ∷ rest
+HasAt Header s tokens Shape = tokens ≢ codes "sfm" ∷ codes "1" ∷ []
+HasAt Ground s tokens Word = (rest : List (List ℕ)) → tokens ≢ codes "ground" ∷ rest
+HasAt Ground s tokens Shape = Any IsMark tokens
+HasAt Ground s tokens Name = (rest : List (List ℕ)) × (tokens ≡ codes "ground" ∷ rest) × Any (λ text. IsName text → ⊥) rest
+HasAt Ground s tokens Twice = (rest : List (List ℕ)) × (tokens ≡ codes "ground" ∷ rest) × StandsTwice rest
+HasAt Ground s tokens Total = (rest : List (List ℕ)) × (tokens ≡ codes "ground" ∷ rest) × (256 < length rest)
+HasAt Terms s tokens Word = ((rest : List (List ℕ)) → tokens ≢ codes "end" ∷ rest) × ((word : TermWord) (rest : List (List ℕ)) → tokens ≢ word_text word ∷ rest)
+HasAt Terms s tokens Shape = (tokens ≢ codes "end" ∷ []) × ((word : TermWord) (rest : List (List ℕ)) (parts : LineParts) → IsShaped tokens word rest parts → ⊥)
+HasAt Terms s tokens Number = HasTermLine tokens (λ word rest parts. Any (λ text. (value : ℤ) → IsNumberFrom (lowest_of word) text value → ⊥) parts.numbers)
+HasAt Terms s tokens Name = HasTermLine tokens (λ word rest parts. Any (λ text. IsName text → Contains s.names text → ⊥) parts.elements ⊎ HasStranger parts ⊎ HasWrongLabel parts)
+HasAt Terms s tokens Twice = HasTermLine tokens (λ word rest parts. StandsTwice parts.elements ⊎ Any (λ names. StandsTwice names) parts.groups ⊎ HasSlotTwice parts.rank parts.labels)
+HasAt Terms s tokens Law = HasTermLine tokens (λ word rest parts. (values : List ℤ) × AllZip (IsNumberFrom (lowest_of word)) parts.numbers values × BreaksLaw word parts values)
+HasAt Terms s tokens Total = (term : Kind) × StandsFor s.names tokens term × AreTooMuch (s.terms ++ term ∷ [])
+HasAt Ended s tokens Word = Unit {0}
+HasAt _ s tokens reason = ⊥
 
 -- the line has that reason in that state; that a text is too long or too short is said of no line
 abbrev pub Has : State → List ℕ → Reason → Type 0
 Has s line Long = ⊥
-Has s line Bytes = Any IsBadByte line
-Has s line Word = HasWrongWord s.stage (tokens_of line)
-Has s line Shape = HasWrongShape s.stage (tokens_of line)
-Has s line Number = HasWrongNumber s.stage (tokens_of line)
-Has s line Name = HasWrongName s.stage s.names (tokens_of line)
-Has s line Twice = HasTwice s.stage (tokens_of line)
-Has s line Law = HasBrokenLaw s.stage (tokens_of line)
-Has s line Total = HasTooMuch s (tokens_of line) s.stage
 Has s line Short = ⊥
+Has s line Bytes = Any IsBadByte line
+Has s line reason = HasAt s.stage s (tokens_of line) reason
 
 -- the line has that reason and none that comes before it
 pub record FirstReason (s : State) (line : List ℕ) (reason : Reason) : Type 0 where
