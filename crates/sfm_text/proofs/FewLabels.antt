@@ -50,15 +50,16 @@ bytes-behind word tokens rest is h = let e = ap bytes_in is in let l = long word
 -- ---- labels
 
 token-labels : (rank : RankKind) (token : List ℕ) (entry : List ℕ × List (List ℕ)) → IsLabelToken rank token entry → length entry.1 ≤ length token
-token-labels NoRank token entry h = absurd h
-token-labels UniformRank token entry h = absurd h
-token-labels LaminarRank token entry h = absurd h
+token-labels NoRank token entry h = absurd h.labels
+token-labels UniformRank token entry h = absurd h.labels
+token-labels LaminarRank token entry h = absurd h.labels
 token-labels GraphicRank token entry h =
+    let (tail, head, ends, is) = h.labels in
     let a = ap length h.named.cut in
     let b = length-append entry.0 (61 ∷ h.behind) in
-    let c = ap length h.ends.cut in
-    let d = length-append h.tail (45 ∷ h.head) in
-    let n = ap length h.labels in
+    let c = ap length ends.cut in
+    let d = length-append tail (45 ∷ head) in
+    let n = ap length is in
     omega (arith, a, b, c, d, n)
 token-labels TransversalRank token entry h =
     let a = ap length h.named.cut in

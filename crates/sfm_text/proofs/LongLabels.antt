@@ -12,11 +12,10 @@ use Rattle.sfm_text.specs.declared.token_test.TokenTest.TheVariants.{Labelled, L
 use Rattle.sfm_text.specs.declared.word.RankKind.{RankKind}
 use Rattle.sfm_text.specs.declared.word.RankKind.TheVariants.{NoRank, UniformRank, LaminarRank, GraphicRank, TransversalRank}
 use Rattle.sfm_text.specs.declared.word.TermWord.TheVariants.{RankWord}
-use Rattle.sfm_text.specs.Lines.{pieces_of}
-use Rattle.sfm_text.specs.Parts.{LineParts, IsMark, IsCutAt, IsLabelToken, IsEdgeToken, IsEntryToken, IsRankHead, IsLabelledLine, IsRankLine, labelled_parts_of}
+use Rattle.sfm_text.specs.Parts.{LineParts, IsMark, IsCutAt, IsLabelToken, IsRankHead, IsLabelledLine, IsRankLine, labelled_parts_of, AreLabelsOf}
 use Rattle.sfm_text.specs.Words.{lowest_of, HasParts}
 use Rattle.sfm_text.specs.TermLines.{IsNumberFrom, IsElement}
-use Rattle.sfm_text.specs.Passes.{IsNumberOf, IsKnown, Holds, Fails, IsReasonOf, AreLabelsOf, label_word, HasLabels}
+use Rattle.sfm_text.specs.Passes.{IsNumberOf, IsKnown, Holds, Fails, IsReasonOf, label_word, HasLabels}
 use Rattle.sfm_text.proofs.LongNames.{many-twice}
 use Rattle.sfm_text.proofs.LongReasons.{AreNumbers, AreKnown, long-shape, long-number, long-name, long-label, long-twice}
 use Rattle.sfm_text.proofs.Matches.{AllZip-at, length-AllZip}
@@ -27,18 +26,10 @@ use Rattle.sfm_text.proofs.LongRanks.{other-word}
 -- ---- a token and its labels
 
 pub label-token : (rank : RankKind) (token element text : List ℕ) (labels : List (List ℕ)) → IsCutAt 61 token element text → AreLabelsOf rank text labels → IsLabelToken rank token (element, labels)
-label-token NoRank token element text labels cut h = h
-label-token UniformRank token element text labels cut h = h
-label-token LaminarRank token element text labels cut h = h
-label-token GraphicRank token element text labels cut (tail, head, ends, is) = record { behind = text; tail = tail; head = head; named = cut; ends = ends; labels = is }
-label-token TransversalRank token element text labels cut is = record { behind = text; named = cut; labels = is }
+label-token rank token element text labels cut h = record { behind = text; named = cut; labels = h }
 
 pub label-cut : (rank : RankKind) (token : List ℕ) (entry : List ℕ × List (List ℕ)) → IsLabelToken rank token entry → (text : List ℕ) × IsCutAt 61 token entry.0 text × AreLabelsOf rank text entry.1
-label-cut NoRank token entry h = absurd h
-label-cut UniformRank token entry h = absurd h
-label-cut LaminarRank token entry h = absurd h
-label-cut GraphicRank token entry h = (h.behind, h.named, (h.tail, h.head, h.ends, h.labels))
-label-cut TransversalRank token entry h = (h.behind, h.named, h.labels)
+label-cut rank token entry h = (h.behind, h.named, h.labels)
 
 pub no-entry : (rank : RankKind) (token : List ℕ) → ((before behind : List ℕ) → IsCutAt 61 token before behind → ⊥) → (entry : List ℕ × List (List ℕ)) → IsLabelToken rank token entry → ⊥
 no-entry rank token none entry h =

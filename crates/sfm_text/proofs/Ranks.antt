@@ -3,8 +3,7 @@ use Rattle.std.proofs.Common.{◌≡◌, ℕ, nat_eq, List, [], ◌∷◌, if◌
 use Rattle.std.specs.List.{AllZip}
 use Rattle.sfm_text.specs.declared.word.RankKind.{RankKind}
 use Rattle.sfm_text.specs.declared.word.RankKind.TheVariants.{NoRank, UniformRank, LaminarRank, GraphicRank, TransversalRank}
-use Rattle.sfm_text.specs.Lines.{pieces_of}
-use Rattle.sfm_text.specs.Parts.{LineParts, IsCutAt, IsEdgeToken, IsEntryToken, IsLabelToken, AreLabelled, IsRankHead, IsLabelledLine, IsUniformLine, IsLaminarLine, IsRankLine, labelled_parts_of}
+use Rattle.sfm_text.specs.Parts.{LineParts, IsCutAt, IsLabelToken, AreLabelled, IsRankHead, IsLabelledLine, IsUniformLine, IsLaminarLine, IsRankLine, labelled_parts_of, AreLabelsOf}
 use Rattle.sfm_text.proofs.Cutting.{front-same}
 use Rattle.sfm_text.proofs.Pieces.{uniform-same, laminar-same}
 use Rattle.sfm_text.proofs.Matches.{AllZip-same}
@@ -13,25 +12,20 @@ use Rattle.sfm_text.proofs.Matches.{AllZip-same}
 pub cut-same : (b : ℕ) (token x y x' y' : List ℕ) → IsCutAt b token x y → IsCutAt b token x' y' → (x ≡ x') × (y ≡ y')
 cut-same b token x y x' y' h g = front-same b x y x' y' h.none_before g.none_before (sym h.cut ∙ g.cut)
 
-edge-same : (token : List ℕ) (a b : List ℕ × List (List ℕ)) → IsEdgeToken token a → IsEdgeToken token b → a ≡ b
-edge-same token (x, texts) (y, others) h g =
-    let (name, behind) = cut-same 61 token x h.behind y g.behind h.named g.named in
-    let (tail, head) = cut-same 45 g.behind h.tail h.head g.tail g.head (rw behind at h.ends) g.ends in
-    let labels : texts ≡ others = h.labels ∙ (rw (tail, head) (sym g.labels)) in
-    cc
-
-entry-same : (token : List ℕ) (a b : List ℕ × List (List ℕ)) → IsEntryToken token a → IsEntryToken token b → a ≡ b
-entry-same token (x, texts) (y, others) h g =
-    let (name, behind) = cut-same 61 token x h.behind y g.behind h.named g.named in
-    let labels : texts ≡ others = h.labels ∙ (ap (λ (t : List ℕ). pieces_of 44 t) behind ∙ sym g.labels) in
-    cc
+labels-same : (rank : RankKind) (text : List ℕ) (a b : List (List ℕ)) → AreLabelsOf rank text a → AreLabelsOf rank text b → a ≡ b
+labels-same NoRank text a b h g = absurd h
+labels-same UniformRank text a b h g = absurd h
+labels-same LaminarRank text a b h g = absurd h
+labels-same GraphicRank text a b (tail, head, cut, is) (tail', head', cut', is') =
+    let (first, second) = cut-same 45 text tail head tail' head' cut cut' in
+    is ∙ (rw (first, second) (sym is'))
+labels-same TransversalRank text a b h g = h ∙ sym g
 
 pub token-same : (rank : RankKind) (token : List ℕ) (a b : List ℕ × List (List ℕ)) → IsLabelToken rank token a → IsLabelToken rank token b → a ≡ b
-token-same NoRank token a b h g = absurd h
-token-same UniformRank token a b h g = absurd h
-token-same LaminarRank token a b h g = absurd h
-token-same GraphicRank token a b h g = edge-same token a b h g
-token-same TransversalRank token a b h g = entry-same token a b h g
+token-same rank token (x, texts) (y, others) h g =
+    let (name, behind) = cut-same 61 token x h.behind y g.behind h.named g.named in
+    let labels : texts ≡ others = labels-same rank g.behind texts others (rw behind at h.labels) g.labels in
+    cc
 
 labelled-same : (rank : RankKind) (word : List ℕ) (tokens : List (List ℕ)) (p q : LineParts) → IsLabelledLine rank word tokens p → IsLabelledLine rank word tokens q → p ≡ q
 labelled-same rank word tokens p q h g =

@@ -159,7 +159,7 @@ module _ (parts : LineParts) (values : List ℤ) (places : List ℕ) (h : AreRea
     pub graphic-two : All (λ texts. length texts ≡ 2) parts.labels
     graphic-two =
         let line = as-graphic in
-        let each : All (λ (e : List ℕ × List (List ℕ)). length e.1 ≡ 2) line.entries = All-AllZip (IsLabelToken GraphicRank) (λ (e : List ℕ × List (List ℕ)). length e.1 ≡ 2) (λ token e edge. ap length edge.labels) line.behind line.entries line.labelled.each in
+        let each : All (λ (e : List ℕ × List (List ℕ)). length e.1 ≡ 2) line.entries = All-AllZip (IsLabelToken GraphicRank) (λ (e : List ℕ × List (List ℕ)). length e.1 ≡ 2) (λ token e edge. let (tail, head, ends, is) = edge.labels in ap length is) line.behind line.entries line.labelled.each in
         let all = All-map (λ texts. length texts ≡ 2) (λ (e : List ℕ × List (List ℕ)). e.1) line.entries each in
         rw (ap (λ (p : LineParts). p.labels) line.parts_are) all
 

@@ -136,26 +136,17 @@ pub record IsLaminarLine (tokens : List (List ℕ)) (parts : LineParts) : Type 0
   pub cut : AreGroupsCut (cut_at_semicolons behind) elements groups
   pub parts_are : parts ≡ laminar_parts_of number elements groups
 
--- a token `name=vertex-vertex`: exactly one `=`, and behind it exactly one `-`
-pub record IsEdgeToken (token : List ℕ) (entry : List ℕ × List (List ℕ)) : Type 0 where
-  pub behind : List ℕ
-  pub tail : List ℕ
-  pub head : List ℕ
-  pub named : IsCutAt 61 token entry.0 behind
-  pub ends : IsCutAt 45 behind tail head
-  pub labels : entry.1 ≡ tail ∷ head ∷ []
+-- the text of the labels of an element: two vertices with a `-` between them, or slots between commas
+abbrev pub AreLabelsOf : RankKind → List ℕ → List (List ℕ) → Type 0
+AreLabelsOf GraphicRank text labels = (tail : List ℕ) × (head : List ℕ) × IsCutAt 45 text tail head × (labels ≡ tail ∷ head ∷ [])
+AreLabelsOf TransversalRank text labels = labels ≡ pieces_of 44 text
+AreLabelsOf _ text labels = ⊥
 
--- a token `name=slot,slot,..`: exactly one `=`, and behind it slots between commas
-pub record IsEntryToken (token : List ℕ) (entry : List ℕ × List (List ℕ)) : Type 0 where
+-- a token `name=labels`, which has exactly one `=`, in the line of that rank
+pub record IsLabelToken (rank : RankKind) (token : List ℕ) (entry : List ℕ × List (List ℕ)) : Type 0 where
   pub behind : List ℕ
   pub named : IsCutAt 61 token entry.0 behind
-  pub labels : entry.1 ≡ pieces_of 44 behind
-
--- a token with an element and its labels, in the line of that rank
-abbrev pub IsLabelToken : RankKind → List ℕ → List ℕ × List (List ℕ) → Type 0
-IsLabelToken GraphicRank token entry = IsEdgeToken token entry
-IsLabelToken TransversalRank token entry = IsEntryToken token entry
-IsLabelToken _ token entry = ⊥
+  pub labels : AreLabelsOf rank behind entry.1
 
 -- at least one such token
 pub record AreLabelled (rank : RankKind) (tokens : List (List ℕ)) (entries : List (List ℕ × List (List ℕ))) : Type 0 where

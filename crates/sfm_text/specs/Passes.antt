@@ -11,8 +11,7 @@ use Rattle.sfm_text.specs.declared.word.RankKind.{RankKind}
 use Rattle.sfm_text.specs.declared.word.RankKind.TheVariants.{NoRank, UniformRank, LaminarRank, GraphicRank, TransversalRank}
 use Rattle.sfm_text.specs.declared.word.TermWord.{TermWord}
 use Rattle.sfm_text.specs.declared.word.TermWord.TheVariants.{WeightWord, ConcaveWord}
-use Rattle.sfm_text.specs.Lines.{pieces_of}
-use Rattle.sfm_text.specs.Parts.{IsPairToken, IsCutAt, IsLabelToken}
+use Rattle.sfm_text.specs.Parts.{IsPairToken, IsLabelToken}
 use Rattle.sfm_text.specs.Words.{word_text, lowest_of}
 use Rattle.sfm_text.specs.TermLines.{IsNumberFrom, IsElement, StandsTwice}
 use Rattle.sfm_text.specs.Reading.{FirstReason}
@@ -41,12 +40,6 @@ Holds names (NamedLabels rank) token = (entry : List ℕ × List (List ℕ)) × 
 abbrev pub Fails : List (List ℕ) → TokenTest → List ℕ → Type 0
 Fails names (NamedLabels rank) token = (entry : List ℕ × List (List ℕ)) → IsLabelToken rank token entry → Any (λ text. IsName text → ⊥) entry.1
 Fails names test token = Holds names test token → ⊥
-
--- the text of the labels of an element: two vertices with a `-` between them, or slots between commas
-abbrev pub AreLabelsOf : RankKind → List ℕ → List (List ℕ) → Type 0
-AreLabelsOf GraphicRank text labels = (tail : List ℕ) × (head : List ℕ) × IsCutAt 45 text tail head × (labels ≡ tail ∷ head ∷ [])
-AreLabelsOf TransversalRank text labels = labels ≡ pieces_of 44 text
-AreLabelsOf _ text labels = ⊥
 
 -- the elements of a line of that rank have labels
 abbrev pub HasLabels : RankKind → Type 0

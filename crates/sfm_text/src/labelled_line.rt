@@ -1,8 +1,9 @@
 // Tokens with an element and its labels: an edge `name=vertex-vertex`, or an entry `name=slot,slot,..`, and the parts of a
 // line of such tokens.
 ghost use Rattle.std.specs.Prelude.{◌≡◌, ◌==◌, ℕ, List, MatchOption, IfOk};
+ghost use Rattle.sfm_text.specs.declared.word.RankKind.TheVariants.{GraphicRank, TransversalRank};
 ghost use Rattle.sfm_text.specs.Lines.{pieces_of, texts_of};
-ghost use Rattle.sfm_text.specs.Parts.{IsEdgeToken, IsEntryToken, IsLabelToken, AreLabelled, labelled_parts_of};
+ghost use Rattle.sfm_text.specs.Parts.{IsLabelToken, AreLabelled, labelled_parts_of};
 ghost use Rattle.sfm_text.specs.ReadParts.{parts_of};
 
 use crate::labels::Labels;
@@ -17,8 +18,8 @@ fn cut_edge<'a>(
     token: &'a [u8],
 ) -> Result<Option<(&'a [u8], Labels<'a>)>, AllocError>
     ensures { IfOk result (λ r. MatchOption r
-        ((entry : List ℕ × List (List ℕ)) → IsEdgeToken token.now entry → ⊥)
-        (λ p. IsEdgeToken token.now (p.0.now, texts_of p.1.texts.items))) }
+        ((entry : List ℕ × List (List ℕ)) → IsLabelToken GraphicRank token.now entry → ⊥)
+        (λ p. IsLabelToken GraphicRank token.now (p.0.now, texts_of p.1.texts.items))) }
 {
     let Some((element, behind)) = cut_once(token, b'=') else {
         return Ok(None);
@@ -43,8 +44,8 @@ fn cut_entry<'a>(
     token: &'a [u8],
 ) -> Result<Option<(&'a [u8], Labels<'a>)>, AllocError>
     ensures { IfOk result (λ r. MatchOption r
-        ((entry : List ℕ × List (List ℕ)) → IsEntryToken token.now entry → ⊥)
-        (λ p. IsEntryToken token.now (p.0.now, texts_of p.1.texts.items))) }
+        ((entry : List ℕ × List (List ℕ)) → IsLabelToken TransversalRank token.now entry → ⊥)
+        (λ p. IsLabelToken TransversalRank token.now (p.0.now, texts_of p.1.texts.items))) }
 {
     let Some((element, behind)) = cut_once(token, b'=') else {
         return Ok(None);

@@ -4,8 +4,8 @@ ghost use Rattle.std.specs.Prelude.{ℕ, List, [], ◌∷◌, Any, MatchBool, Ma
 ghost use Rattle.std.specs.List.{All};
 ghost use Rattle.sfm_spec.specs.Names.{IsName};
 ghost use Rattle.sfm_text.specs.Lines.{pieces_of};
-ghost use Rattle.sfm_text.specs.Parts.{IsPairToken, IsCutAt, IsLabelToken};
-ghost use Rattle.sfm_text.specs.Passes.{IsNumberOf, IsKnown, Holds, Fails, AreLabelsOf};
+ghost use Rattle.sfm_text.specs.Parts.{IsPairToken, IsCutAt, IsLabelToken, AreLabelsOf};
+ghost use Rattle.sfm_text.specs.Passes.{IsNumberOf, IsKnown, Holds, Fails};
 ghost use Rattle.sfm_text.specs.declared.word.TermWord.TheVariants.{WeightWord};
 ghost use Rattle.sfm_text.specs.declared.word.RankKind.TheVariants.{GraphicRank};
 
