@@ -26,29 +26,19 @@ command_of (ReadDemo seed) = demo seed
 
 -- ---- what clap finds in the words
 
--- what the matches of `solve` ask for
-abbrev pub solve_by : List Row → Option Command
-solve_by rows = option_map solve (first_of (codes "FILE") rows)
-
--- what the matches of `check` ask for
-abbrev pub check_by : List Row → Option Command
-check_by rows = option_and_then (λ file. option_map (check file) (first_of (codes "ANSWER") rows)) (first_of (codes "FILE") rows)
-
 -- the number that `u64` reads from a text
 abbrev pub number_of : Text → Option ℕ
 number_of text =
     let digits = without_leading_plus text in
     if is_numeral digits && nat_lt (digits_value 10 digits) (2 ^ 64) then Some (digits_value 10 digits) else None
 
--- what the matches of `demo` ask for
-abbrev pub demo_by : List Row → Option Command
-demo_by rows = option_map demo (option_and_then number_of (one_of (codes "SEED") rows))
-
 -- the command that a subcommand is, by its name and its matches
 abbrev pub command_by : Text × List Row → Option Command
-command_by found = if bytes_eq found.0 (codes "solve") then solve_by found.1
-    else (if bytes_eq found.0 (codes "check") then check_by found.1
-    else (if bytes_eq found.0 (codes "demo") then demo_by found.1 else None))
+command_by found =
+    let file = first_of (codes "FILE") found.1 in
+    if bytes_eq found.0 (codes "solve") then option_map solve file
+    else (if bytes_eq found.0 (codes "check") then option_and_then (λ name. option_map (check name) (first_of (codes "ANSWER") found.1)) file
+    else (if bytes_eq found.0 (codes "demo") then option_map demo (option_and_then number_of (one_of (codes "SEED") found.1)) else None))
 
 -- clap takes the words, and its matches of them are the command
 abbrev pub Asks : List Text → Command → Type 0

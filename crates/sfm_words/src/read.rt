@@ -1,7 +1,7 @@
 // The command that the words ask for: the subcommand in clap's matches of them, with its arguments.
-ghost use Rattle.std.specs.Prelude.{◌≡◌, ◌≤◌, ℕ, List, map, option_map, option_and_then, IfOk, IfErr, MatchResult};
+ghost use Rattle.std.specs.Prelude.{◌≡◌, ◌≤◌, ℕ, List, codes, map, option_map, option_and_then, IfOk, IfErr, MatchResult};
 ghost use Rattle.clap.specs.Words.{first_of, found_of, one_of, rows_of, subcommand_rows_of};
-ghost use Rattle.sfm_words.specs.Command.{Asks, IsForm, IsNotTaken, check_by, command_by, command_of, demo, demo_by, number_of, solve_by};
+ghost use Rattle.sfm_words.specs.Command.{Asks, IsForm, IsNotTaken, check, command_by, command_of, demo, number_of, solve};
 ghost use Rattle.sfm_words.specs.Command.{Command as Asked};
 
 use crate::command::{Command, Refusal};
@@ -25,7 +25,7 @@ fn number_of(found: &ArgMatches<'_>, id: &str) -> Option<u64>
 
 /// `solve`, by its matches.
 fn solve_in<'a>(found: &ArgMatches<'a>) -> Option<Command<'a>>
-    ensures { option_map command_of result ≡ solve_by (rows_of (found_of found.now)) }
+    ensures { option_map command_of result ≡ option_map solve (first_of (codes "FILE") (rows_of (found_of found.now))) }
 {
     let file = word_of(found, "FILE")?;
     Some(Command::Solve { file })
@@ -33,7 +33,7 @@ fn solve_in<'a>(found: &ArgMatches<'a>) -> Option<Command<'a>>
 
 /// `check`, by its matches.
 fn check_in<'a>(found: &ArgMatches<'a>) -> Option<Command<'a>>
-    ensures { option_map command_of result ≡ check_by (rows_of (found_of found.now)) }
+    ensures { let rows = rows_of (found_of found.now) in option_map command_of result ≡ option_and_then (λ file. option_map (check file) (first_of (codes "ANSWER") rows)) (first_of (codes "FILE") rows) }
 {
     let file = word_of(found, "FILE")?;
     let answer = word_of(found, "ANSWER")?;
@@ -42,7 +42,7 @@ fn check_in<'a>(found: &ArgMatches<'a>) -> Option<Command<'a>>
 
 /// `demo`, by its matches.
 fn demo_in<'a>(found: &ArgMatches<'a>) -> Option<Command<'a>>
-    ensures { option_map command_of result ≡ demo_by (rows_of (found_of found.now)) }
+    ensures { option_map command_of result ≡ option_map demo (option_and_then number_of (one_of (codes "SEED") (rows_of (found_of found.now)))) }
 {
     let seed = number_of(found, "SEED")?;
     Some(Command::Demo { seed })
