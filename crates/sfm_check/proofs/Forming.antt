@@ -9,7 +9,7 @@ use Rattle.sfm_spec.specs.Bounds.{IsEntry, IsFactor}
 use Rattle.sfm_spec.specs.Terms.{times, IsBase}
 use Rattle.sfm_spec.specs.Families.{AreBases, meanings}
 use Rattle.sfm_spec.specs.Blocks.{Block}
-use Rattle.sfm_spec.specs.Walks.{term_at, row_at}
+use Rattle.sfm_spec.specs.Walks.{term_at, base_at}
 use Rattle.sfm_kind.specs.declared.kind.Kind.{Kind}
 use Rattle.sfm_kind.specs.Limits.{AreInBounds}
 use Rattle.sfm_kind.specs.Kinds.{kind_places, kind_size, kind_value, kind-bounded, kind-submodular}
@@ -94,7 +94,7 @@ tail (n ∷ ns) = ns
 
 -- rows that are bases, one for each term of an instance
 pub section_bases : (q : ℤ) (ts : List Kind) (rows : List (List ℤ)) → AreFormedRows (map (λ term. length (kind_places term)) ts) rows
-    → ((i : ℕ) → i < length (meanings kind_places kind_value ts) → IsBase (times q (term_at (meanings kind_places kind_value ts) i).value) (row_at rows i)) → AreBases q (meanings kind_places kind_value ts) rows
+    → ((i : ℕ) → i < length (meanings kind_places kind_value ts) → IsBase (times q (term_at (meanings kind_places kind_value ts) i).value) (base_at rows i)) → AreBases q (meanings kind_places kind_value ts) rows
 section_bases q [] [] f bases = tt
 section_bases q [] (x ∷ rows) f bases = absurd (omega (arith, row_count [] (x ∷ rows) f))
 section_bases q (t ∷ ts) [] f bases = absurd (omega (arith, row_count (length (kind_places t) ∷ map (λ term. length (kind_places term)) ts) [] f))

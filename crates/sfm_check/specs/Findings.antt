@@ -6,7 +6,7 @@ use Rattle.sfm_spec.specs.Search.{mark_at}
 use Rattle.sfm_spec.specs.Terms.{times, IsBase}
 use Rattle.sfm_spec.specs.Families.{Meaning, IsLeast, IsGreatest, even_shift, shifted_at}
 use Rattle.sfm_spec.specs.Blocks.{Block, block_at}
-use Rattle.sfm_spec.specs.Walks.{term_at, row_at}
+use Rattle.sfm_spec.specs.Walks.{term_at, base_at}
 use Rattle.sfm_extreme.specs.declared.extremes.Proved.{Proved}
 use Rattle.sfm_cert.specs.Answer.{Answer, Form, answer_lines}
 use Rattle.sfm_check.specs.Truth.{Section, section_at, sections_of, IsProvedSection, IsTrueHead}
@@ -19,13 +19,13 @@ use Rattle.sfm_check.specs.Verdict.{IsBaseAt, AllAreBases, AllAreProved, IsFirst
 
 -- each row is a base of its term, times q
 abbrev pub AreBasesIn : List Meaning → ℤ → List (List ℤ) → Type 0
-AreBasesIn terms q rows = (i : ℕ) → i < length terms → IsBase (times q (term_at terms i).value) (row_at rows i)
+AreBasesIn terms q rows = (i : ℕ) → i < length terms → IsBase (times q (term_at terms i).value) (base_at rows i)
 
 -- the first row that is none
 pub record IsFirstNoBaseIn (terms : List Meaning) (q : ℤ) (rows : List (List ℤ)) (i : ℕ) : Type 0 where
   pub is_term : i < length terms
-  pub no_base : IsBase (times q (term_at terms i).value) (row_at rows i) → ⊥
-  pub before : (j : ℕ) → j < i → IsBase (times q (term_at terms j).value) (row_at rows j)
+  pub no_base : IsBase (times q (term_at terms i).value) (base_at rows i) → ⊥
+  pub before : (j : ℕ) → j < i → IsBase (times q (term_at terms j).value) (base_at rows j)
 
 -- each row of each section is a base
 abbrev pub AllRowsAreBases : List Meaning → Answer → Type 0

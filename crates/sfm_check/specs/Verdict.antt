@@ -3,7 +3,7 @@
 use Rattle.std.specs.Prelude.{◌≡◌, ◌≢◌, ◌⊎◌, ℕ, ◌+◌, ◌<◌, ◌≤◌, List, [], ◌∷◌, ◌++◌, length, slice_index_or, pos}
 use Rattle.sfm_spec.specs.Terms.{times, IsBase}
 use Rattle.sfm_spec.specs.Families.{Meaning, AreBases}
-use Rattle.sfm_spec.specs.Walks.{term_at, row_at}
+use Rattle.sfm_spec.specs.Walks.{term_at, base_at}
 use Rattle.sfm_cert.specs.Answer.{Answer, Form, head_lines, answer_lines, at_line, line_at, line_base}
 use Rattle.sfm_cert.specs.Grammar.{answer_limit, IsAnswerText, IsBadLine}
 use Rattle.sfm_check.specs.Truth.{sections_of, section_at, IsProvedSection, IsTrueHead}
@@ -14,7 +14,7 @@ use Rattle.sfm_check.specs.declared.verdicts.Verdict.TheVariants.{Valid, Invalid
 
 -- row i of section s is a base of its term, times the denominator of the section
 abbrev pub IsBaseAt : List Meaning → Answer → ℕ → ℕ → Type 0
-IsBaseAt terms a s i = IsBase (times (section_at a s).den (term_at terms i).value) (row_at (section_at a s).bases i)
+IsBaseAt terms a s i = IsBase (times (section_at a s).den (term_at terms i).value) (base_at (section_at a s).bases i)
 
 -- the pair of section and term comes before the other
 abbrev pub IsEarlier : ℕ → ℕ → ℕ → ℕ → Type 0

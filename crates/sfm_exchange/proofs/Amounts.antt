@@ -4,7 +4,7 @@ use Rattle.std.proofs.lemmas.Bool.{cases_lt}
 use Rattle.std.proofs.lemmas.Int.{ints}
 use Rattle.sfm_spec.specs.Terms.{times}
 use Rattle.sfm_spec.specs.Families.{Meaning, AreBases}
-use Rattle.sfm_spec.specs.Walks.{term_at, row_at}
+use Rattle.sfm_spec.specs.Walks.{term_at, base_at}
 use Rattle.sfm_spec.proofs.Walks.{bases-at}
 use Rattle.sfm_spec.proofs.Exchange.{base_between}
 use Rattle.sfm_law.specs.declared.room.Room.{Room}
@@ -31,19 +31,19 @@ module _ (terms : List Meaning) (q : ℤ) (rows : List (List ℤ)) (bases : AreB
       base_between base (rw sized m.u_in) (rw sized m.v_in) m.apart a b low le moves
 
   -- an amount within the room can be moved
-  moves_room : (hop : Hop) → IsMovable terms q rows hop → (room : Room) → IsRoom (times q (term_at terms hop.term).value) (row_at rows hop.term) hop.u hop.v room
+  moves_room : (hop : Hop) → IsMovable terms q rows hop → (room : Room) → IsRoom (times q (term_at terms hop.term).value) (base_at rows hop.term) hop.u hop.v room
       → (a : ℤ) → pos 0 ≤ℤ a → AtMostRoom a room → Moves terms q rows hop a
   moves_room hop m (Upto c) is a low le = moves_less hop m a c low le is.reached
   moves_room hop m Unbounded is a low le = is.0 a low
 
   -- an amount that can be moved is within the room
-  within_room : (hop : Hop) (room : Room) → IsRoom (times q (term_at terms hop.term).value) (row_at rows hop.term) hop.u hop.v room → (a : ℤ) → Moves terms q rows hop a → AtMostRoom a room
+  within_room : (hop : Hop) (room : Room) → IsRoom (times q (term_at terms hop.term).value) (base_at rows hop.term) hop.u hop.v room → (a : ℤ) → Moves terms q rows hop a → AtMostRoom a room
   within_room hop (Upto c) is a moves = is.greatest a moves
   within_room hop Unbounded is a moves = tt
 
   -- one step more
   pub amount_more : (hops : List Hop) (k : ℕ) (most a b : ℤ) (room : Room) → IsMovable terms q rows (hop_at hops k) → IsAmount terms q rows hops k most a
-      → IsRoom (times q (term_at terms (hop_at hops k).term).value) (row_at rows (hop_at hops k).term) (hop_at hops k).u (hop_at hops k).v room
+      → IsRoom (times q (term_at terms (hop_at hops k).term).value) (base_at rows (hop_at hops k).term) (hop_at hops k).u (hop_at hops k).v room
       → ((j : ℕ) → j < k → IsMovable terms q rows (hop_at hops j)) → b ≤ℤ a → AtMostRoom b room → ((c : ℤ) → c ≤ℤ a → AtMostRoom c room → c ≤ℤ b) → IsAmount terms q rows hops (k + 1) most b
   amount_more hops k most a b room m h is movable le within greatest = record {
     some = some;

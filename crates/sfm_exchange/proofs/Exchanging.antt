@@ -8,7 +8,7 @@ use Rattle.sfm_spec.specs.Bounds.{IsAtMost, IsEntry}
 use Rattle.sfm_spec.specs.Terms.{times, IsBase, exchanged}
 use Rattle.sfm_spec.specs.Families.{Meaning, AreTerms, AreBases}
 use Rattle.sfm_spec.specs.Labels.{FallsAlong}
-use Rattle.sfm_spec.specs.Walks.{term_at, row_at, CanMove, IsWalkMove, last_of}
+use Rattle.sfm_spec.specs.Walks.{term_at, base_at, CanMove, IsWalkMove, last_of}
 use Rattle.sfm_spec.proofs.Sums.{length-exchanged}
 use Rattle.sfm_spec.proofs.Walks.{terms-at, bases-at}
 use Rattle.sfm_spec.proofs.Moves.{move_none, move_more, change_small}
@@ -97,42 +97,42 @@ module _ (terms : List Meaning) (n : ℕ) (q : ℤ) (fit : AreTerms n terms) (in
     pub next_apart : (hop_at hops k).u ≢ (hop_at hops k).v
     next_apart e = can.apart (same_u ∙ (e ∙ sym same_v))
 
-    next_base : IsBase (times q (term_at terms (hop_at hops k).term).value) (exchanged (row_at rows (hop_at hops k).term) (hop_at hops k).u (hop_at hops k).v a)
+    next_base : IsBase (times q (term_at terms (hop_at hops k).term).value) (exchanged (base_at rows (hop_at hops k).term) (hop_at hops k).u (hop_at hops k).v a)
     next_base = rw (same_u, same_v) at can.base
 
-    pub row_base : (length (row_at rows (hop_at hops k).term) ≡ length (term_at terms (hop_at hops k).term).places) × IsBase (times q (term_at terms (hop_at hops k).term).value) (row_at rows (hop_at hops k).term)
+    pub row_base : (length (base_at rows (hop_at hops k).term) ≡ length (term_at terms (hop_at hops k).term).places) × IsBase (times q (term_at terms (hop_at hops k).term).value) (base_at rows (hop_at hops k).term)
     row_base = bases-at q terms rows (hop_at hops k).term h.bases names.term_in
 
     -- the amount is within the room
-    pub next_room : IsWithinRoom (times q (term_at terms (hop_at hops k).term).value) (row_at rows (hop_at hops k).term) (hop_at hops k).u (hop_at hops k).v a
+    pub next_room : IsWithinRoom (times q (term_at terms (hop_at hops k).term).value) (base_at rows (hop_at hops k).term) (hop_at hops k).u (hop_at hops k).v a
     next_room = ⊎_elim
         (λ (c, capacity). (Upto c, capacity, capacity.greatest a next_base))
         (λ unsplit. (Unbounded, unsplit, tt))
         (capacity_or_unsplit row_base.1 (hop_at hops k).u (hop_at hops k).v (rw row_base.0 names.u_in) (rw row_base.0 names.v_in) next_apart)
 
     -- the exchange of the step
-    pub have_moved_more : length (row_at init (hop_at hops k).term) ≡ length (term_at terms (hop_at hops k).term).places → length init ≡ length terms
-        → HaveMoved terms q init first hops a k (set rows (hop_at hops k).term (exchanged (row_at rows (hop_at hops k).term) (hop_at hops k).u (hop_at hops k).v a))
+    pub have_moved_more : length (base_at init (hop_at hops k).term) ≡ length (term_at terms (hop_at hops k).term).places → length init ≡ length terms
+        → HaveMoved terms q init first hops a k (set rows (hop_at hops k).term (exchanged (base_at rows (hop_at hops k).term) (hop_at hops k).u (hop_at hops k).v a))
     have_moved_more sized count = record {
       few = let l = h.few in omega (arith, l);
       moved = rw (drop_step hops k inside) (move_more terms init rows (begin_of first hops k) (step_of (hop_at hops k)) (steps_of (drop (suc k) hops)) a (hop_at hops k).u (hop_at hops k).v distinct sized names.u_in names.v_in next_apart names.begins names.ends
           (rw count names.term_in) (rw (begin_more first hops k inside) at h.moved));
-      bases = bases_set q terms rows (hop_at hops k).term (exchanged (row_at rows (hop_at hops k).term) (hop_at hops k).u (hop_at hops k).v a) h.bases names.term_in
-          (length-exchanged (row_at rows (hop_at hops k).term) (hop_at hops k).u (hop_at hops k).v a ∙ row_base.0) next_base;
+      bases = bases_set q terms rows (hop_at hops k).term (exchanged (base_at rows (hop_at hops k).term) (hop_at hops k).u (hop_at hops k).v a) h.bases names.term_in
+          (length-exchanged (base_at rows (hop_at hops k).term) (hop_at hops k).u (hop_at hops k).v a ∙ row_base.0) next_base;
     }
 
   -- the exchange of the step, from bases
   pub exchange_moved : AreBases q terms init → (k : ℕ) (rows : List (List ℤ)) → HaveMoved terms q init first hops a (suc k) rows
-      → HaveMoved terms q init first hops a k (set rows (hop_at hops k).term (exchanged (row_at rows (hop_at hops k).term) (hop_at hops k).u (hop_at hops k).v a))
+      → HaveMoved terms q init first hops a k (set rows (hop_at hops k).term (exchanged (base_at rows (hop_at hops k).term) (hop_at hops k).u (hop_at hops k).v a))
   exchange_moved bases k rows h = have_moved_more k rows h (bases-at q terms init (hop_at hops k).term bases (names k rows h).term_in).0 (length-bases q terms init bases)
 
   -- no entry has changed by more than the amount
   pub moved_small : (d : ℕ → ℕ) → FallsAlong d first (steps_of hops) → All (λ x. All (IsAtMost (5 * 10 ^ 29)) x) init → a ≤ℤ pos (5 * 10 ^ 29) → (k : ℕ) (rows : List (List ℤ)) → HaveMoved terms q init first hops a k rows
-      → (i : ℕ) → i < length init → All IsEntry (row_at rows i)
-  moved_small d falls small high k rows h i li = All-from_get_or IsEntry (row_at rows i) (pos 0) (λ j l.
-      let l' : j < length (row_at init i) = rw (← h.moved.same_lengths i) l in
+      → (i : ℕ) → i < length init → All IsEntry (base_at rows i)
+  moved_small d falls small high k rows h i li = All-from_get_or IsEntry (base_at rows i) (pos 0) (λ j l.
+      let l' : j < length (base_at init i) = rw (← h.moved.same_lengths i) l in
       let c = h.moved.changed i j l' in
-      let b : IsAtMost (5 * 10 ^ 29) (get_or (row_at init i) j (pos 0)) = All-get_or (IsAtMost (5 * 10 ^ 29)) (row_at init i) j (pos 0) l' (All-get_or (λ x. All (IsAtMost (5 * 10 ^ 29)) x) init i [] li small) in
+      let b : IsAtMost (5 * 10 ^ 29) (get_or (base_at init i) j (pos 0)) = All-get_or (IsAtMost (5 * 10 ^ 29)) (base_at init i) j (pos 0) l' (All-get_or (λ x. All (IsAtMost (5 * 10 ^ 29)) x) init i [] li small) in
       let s = change_small d (begin_of first hops k) (steps_of (drop k hops)) i (get_or (term_at terms i).places j 0) a (omega (arith, ints, one)) (falls_drop d first hops k h.few falls) in
       record { low = omega (arith, ints, c, b.low, s, high); high = omega (arith, ints, c, b.high, s, high) })
 
@@ -155,7 +155,7 @@ module _ (terms : List Meaning) (n : ℕ) (q : ℤ) (fit : AreTerms n terms) (in
     i = (hop_at hops k).term
 
     y : List ℤ
-    y = exchanged (row_at rows (hop_at hops k).term) (hop_at hops k).u (hop_at hops k).v a
+    y = exchanged (base_at rows (hop_at hops k).term) (hop_at hops k).u (hop_at hops k).v a
 
     li : (hop_at hops k).term < length init
     li = rw (length-bases q terms init bases) named'.term_in

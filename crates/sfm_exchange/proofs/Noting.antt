@@ -6,17 +6,17 @@ use Rattle.std.proofs.Math.ListN.{get_or-append}
 use Rattle.std.proofs.Math.Seq.{get_or-append_seam}
 use Rattle.sfm_spec.specs.Terms.{SetFunction}
 use Rattle.sfm_spec.specs.Families.{Meaning, meanings}
-use Rattle.sfm_spec.specs.Walks.{row_at, term_at}
+use Rattle.sfm_spec.specs.Walks.{base_at, term_at}
 use Rattle.sfm_law.proofs.Lists.{length-meanings, meanings-at}
 use Rattle.sfm_exchange.specs.Reach.{AreNotes, AreSized}
 
 -- the notes of the first k terms fit
 abbrev pub AreNotesTo : {X N : Type 0} → (X → N → ℤ → List ℤ → Type 0) → ℤ → List X → ℕ → List N → List (List ℤ) → Type 0
-AreNotesTo fits q terms k notes rows = (i : ℕ) → i < k → (term : _) → term ≡ get_or terms i term → (note : _) → note ≡ get_or notes i note → fits term note q (row_at rows i)
+AreNotesTo fits q terms k notes rows = (i : ℕ) → i < k → (term : _) → term ≡ get_or terms i term → (note : _) → note ≡ get_or notes i note → fits term note q (base_at rows i)
 
 -- one note more
 pub notes_push : {X N : Type 0} (fits : X → N → ℤ → List ℤ → Type 0) (q : ℤ) (terms : List X) (k : ℕ) (notes : List N) (rows : List (List ℤ)) (term : X) (note : N) → k < length terms → length notes ≡ k
-    → AreNotesTo fits q terms k notes rows → term ≡ get_or terms k term → fits term note q (row_at rows k) → AreNotesTo fits q terms (k + 1) (notes ++ note ∷ []) rows
+    → AreNotesTo fits q terms k notes rows → term ≡ get_or terms k term → fits term note q (base_at rows k) → AreNotesTo fits q terms (k + 1) (notes ++ note ∷ []) rows
 notes_push fits q terms k notes rows term note lk count h is fit i l x at w note_at = ⊎_elim
     (λ less. h i less x at w (note_at ∙ get_or-append notes (note ∷ []) w i (omega (arith, less, count))))
     (λ ge.
@@ -34,14 +34,14 @@ notes_set fits q terms notes rows j term note row count counted lj h is fit i l 
     (λ same.
     let w_is : w ≡ note = note_at ∙ (ap (λ z. get_or (set notes j note) z w) same ∙ get_or-set_same notes j note w (omega (arith, lj, count))) in
     let x_is : x ≡ term = at ∙ (ap (λ z. get_or terms z x) same ∙ (get_or_default terms j x term lj ∙ sym is)) in
-    let r_is : row_at (set rows j row) i ≡ row = ap (λ z. row_at (set rows j row) z) same ∙ get_or-set_same rows j row [] (omega (arith, lj, counted)) in
+    let r_is : base_at (set rows j row) i ≡ row = ap (λ z. base_at (set rows j row) z) same ∙ get_or-set_same rows j row [] (omega (arith, lj, counted)) in
     rw (x_is, w_is, r_is) fit)
     (λ ne. rw (get_or-set_other rows j i row [] ne) (h i l x at w (note_at ∙ get_or-set_other notes j i note w ne)))
     (cases_eq i j)
 
 -- one note put in place of another, where all rows stay
 pub notes_put : {X N : Type 0} (fits : X → N → ℤ → List ℤ → Type 0) (q : ℤ) (terms : List X) (notes : List N) (rows : List (List ℤ)) (j : ℕ) (term : X) (note : N) → length notes ≡ length terms → j < length terms → AreNotes fits q terms notes rows
-    → term ≡ get_or terms j term → fits term note q (row_at rows j) → AreNotes fits q terms (set notes j note) rows
+    → term ≡ get_or terms j term → fits term note q (base_at rows j) → AreNotes fits q terms (set notes j note) rows
 notes_put fits q terms notes rows j term note count lj h is fit i l x at w note_at = ⊎_elim
     (λ same.
     let w_is : w ≡ note = note_at ∙ (ap (λ z. get_or (set notes j note) z w) same ∙ get_or-set_same notes j note w (omega (arith, lj, count))) in

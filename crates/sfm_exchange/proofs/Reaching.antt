@@ -4,7 +4,7 @@ use Rattle.std.proofs.lemmas.Bool.{cases_eq}
 use Rattle.sfm_spec.specs.Sets.{AreDistinct}
 use Rattle.sfm_spec.specs.Terms.{SetFunction, times, HasRoom}
 use Rattle.sfm_spec.specs.Families.{Meaning}
-use Rattle.sfm_spec.specs.Walks.{term_at, row_at, IsStep}
+use Rattle.sfm_spec.specs.Walks.{term_at, base_at, IsStep}
 use Rattle.sfm_law.specs.Room.{IsReach}
 use Rattle.sfm_exchange.specs.declared.bits.Bits.{Bits}
 use Rattle.sfm_exchange.specs.Bits.{bit_in, set_at, blank_bits, HasPlaces}
@@ -40,7 +40,7 @@ rows_more places f x k asked more table row h inside is others u one e = at (cas
 
 -- the rows of a term tell its steps
 pub table_steps : (terms : List Meaning) (q : ℤ) (rows : List (List ℤ)) (i : ℕ) (table : List Bits) → i < length terms → AreDistinct (term_at terms i).places
-    → IsReachTable (term_at terms i).places (times q (term_at terms i).value) (row_at rows i) (length (term_at terms i).places) table → IsTable terms q rows i table
+    → IsReachTable (term_at terms i).places (times q (term_at terms i).value) (base_at rows i) (length (term_at terms i).places) table → IsTable terms q rows i table
 table_steps terms q rows i table li distinct h u e lu = (to, from) where
   to : bit_in (set_at table u) e ≡ 1 → IsStep terms q rows (get_or (term_at terms i).places u 0) (record { to = e; term = i })
   to one =
@@ -54,14 +54,14 @@ table_steps terms q rows i table li distinct h u e lu = (to, from) where
 
 -- and so the other way round
 pub steps_table : (terms : List Meaning) (q : ℤ) (rows : List (List ℤ)) (i : ℕ) (table : List Bits) → i < length terms → AreDistinct (term_at terms i).places → IsTable terms q rows i table
-    → IsReachTable (term_at terms i).places (times q (term_at terms i).value) (row_at rows i) (length (term_at terms i).places) table
+    → IsReachTable (term_at terms i).places (times q (term_at terms i).value) (base_at rows i) (length (term_at terms i).places) table
 steps_table terms q rows i table li distinct h u e lu = (to, from) where
-  to : bit_in (set_at table u) e ≡ 1 → (v : ℕ) × (v < length (term_at terms i).places) × (v ≢ u) × HasRoom (times q (term_at terms i).value) (row_at rows i) u v × (get_or (term_at terms i).places v 0 ≡ e)
+  to : bit_in (set_at table u) e ≡ 1 → (v : ℕ) × (v < length (term_at terms i).places) × (v ≢ u) × HasRoom (times q (term_at terms i).value) (base_at rows i) u v × (get_or (term_at terms i).places v 0 ≡ e)
   to one =
       let (a, some, c) = (h u e lu).0 one in
       let same : c.u ≡ u = distinct c.u u c.u_in lu c.begins in
       (c.v, c.v_in, (λ s. c.apart (same ∙ sym s)), (a, some, rw same at c.base), c.ends)
 
-  from : (v : ℕ) × (v < length (term_at terms i).places) × (v ≢ u) × HasRoom (times q (term_at terms i).value) (row_at rows i) u v × (get_or (term_at terms i).places v 0 ≡ e) → bit_in (set_at table u) e ≡ 1
+  from : (v : ℕ) × (v < length (term_at terms i).places) × (v ≢ u) × HasRoom (times q (term_at terms i).value) (base_at rows i) u v × (get_or (term_at terms i).places v 0 ≡ e) → bit_in (set_at table u) e ≡ 1
   from (v, lv, ne, (a, some, base), is) =
       (h u e lu).1 (a, some, record { in_range = li; u = u; v = v; u_in = lu; v_in = lv; begins = refl; ends = is; apart = (λ s. ne (sym s)); base = base })

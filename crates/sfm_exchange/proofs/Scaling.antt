@@ -8,7 +8,7 @@ use Rattle.sfm_spec.specs.Sets.{Has, sum_over, AreDistinct}
 use Rattle.sfm_spec.specs.Rows.{Depends}
 use Rattle.sfm_spec.specs.Terms.{SetFunction, times, IsFamily, IsSubmodular, IsBase, IsTight, IsTightSet, HasRoom}
 use Rattle.sfm_spec.specs.Families.{Meaning, AreTerms, AreBases}
-use Rattle.sfm_spec.specs.Walks.{term_at, row_at}
+use Rattle.sfm_spec.specs.Walks.{term_at, base_at}
 use Rattle.sfm_spec.proofs.RowLaw.{least_tight}
 use Rattle.sfm_spec.proofs.Scaled.{times_some, times-add, times-cancel, family-times, submodular-times}
 use Rattle.sfm_spec.proofs.Walks.{terms-at, bases-at}
@@ -82,7 +82,7 @@ module _ {k : ℕ} {f : SetFunction} (family : IsFamily k f) (law : IsSubmodular
 
 -- and so do those of all terms
 pub tables_times : (terms : List Meaning) (n : ℕ) (q : ℤ) (rows bases : List (List ℤ)) (tables : List (List Bits)) → pos 1 ≤ℤ q → AreTerms n terms → AreBases (pos 1) terms rows → AreBases q terms bases
-    → ((i : ℕ) → i < length terms → row_at bases i ≡ row_times q (row_at rows i)) → ((i : ℕ) → i < length terms → IsTable terms (pos 1) rows i (table_at tables i)) → (i : ℕ) → i < length terms → IsTable terms q bases i (table_at tables i)
+    → ((i : ℕ) → i < length terms → base_at bases i ≡ row_times q (base_at rows i)) → ((i : ℕ) → i < length terms → IsTable terms (pos 1) rows i (table_at tables i)) → (i : ℕ) → i < length terms → IsTable terms q bases i (table_at tables i)
 tables_times terms n q rows bases tables low fit are after multiple right i li = table_steps terms q bases i (table_at tables i) li distinct (rw same told) where
   term : Meaning
   term = term_at terms i
@@ -90,15 +90,15 @@ tables_times terms n q rows bases tables low fit are after multiple right i li =
   distinct : AreDistinct (term_at terms i).places
   distinct = (terms-at n terms i fit li).placed.distinct
 
-  same : row_at bases i ≡ row_times q (row_at rows i)
+  same : base_at bases i ≡ row_times q (base_at rows i)
   same = multiple i li
 
-  told : IsReachTable (term_at terms i).places (times q (term_at terms i).value) (row_times q (row_at rows i)) (length (term_at terms i).places) (table_at tables i)
+  told : IsReachTable (term_at terms i).places (times q (term_at terms i).value) (row_times q (base_at rows i)) (length (term_at terms i).places) (table_at tables i)
   told =
       let t = terms-at n terms i fit li in
       let b = bases-at (pos 1) terms rows i are li in
       let c = bases-at q terms bases i after li in
-      table_times t.family t.submodular q low (row_at rows i) b.0 b.1 (rw same at c.1) (term_at terms i).places refl (table_at tables i) (steps_table terms (pos 1) rows i (table_at tables i) li distinct (right i li))
+      table_times t.family t.submodular q low (base_at rows i) b.0 b.1 (rw same at c.1) (term_at terms i).places refl (table_at tables i) (steps_table terms (pos 1) rows i (table_at tables i) li distinct (right i li))
 
 -- the spots of one list stand in another one
 spot_elsewhere : (terms : List Meaning) (n : ℕ) (spots others : List (List Spot)) → AreSpots terms n spots → AreSpots terms n others → (e j : ℕ) → e < n → j < length (spots_at others e)

@@ -3,7 +3,7 @@ use Rattle.std.proofs.Common.{◌≡◌, ℕ, zero, suc, ◌-◌, ◌<◌, ◌�
 use Rattle.sfm_spec.specs.Families.{Meaning, AreTerms, AreBases}
 use Rattle.sfm_spec.specs.Labels.{FallsAlong}
 use Rattle.sfm_spec.specs.Progress.{TakesLeastSteps}
-use Rattle.sfm_spec.specs.Walks.{Step, term_at, row_at, IsStep, AreSteps, last_of}
+use Rattle.sfm_spec.specs.Walks.{Step, term_at, base_at, IsStep, AreSteps, last_of}
 use Rattle.sfm_spec.proofs.Walks.{terms-at, step_below}
 use Rattle.sfm_exchange.specs.declared.bits.Bits.{Bits}
 use Rattle.sfm_exchange.specs.declared.path.Hop.{Hop}
@@ -52,7 +52,7 @@ module _ (terms : List Meaning) (rows : List (List ℤ)) (n : ℕ) (q : ℤ) (fi
   hops_least d from (x ∷ hops) falls least = (falls.0, (λ other h f. least.0 other (step_told from other h) f), hops_least d x.to hops falls.1 least.1)
 
 -- where the row of a term is the same its rows of reach stay right
-pub table_kept : (terms : List Meaning) (q : ℤ) (rows after : List (List ℤ)) (i : ℕ) (table : List Bits) → row_at after i ≡ row_at rows i → IsTable terms q rows i table → IsTable terms q after i table
+pub table_kept : (terms : List Meaning) (q : ℤ) (rows after : List (List ℤ)) (i : ℕ) (table : List Bits) → base_at after i ≡ base_at rows i → IsTable terms q rows i table → IsTable terms q after i table
 table_kept terms q rows after i table same h u e l = (
   (λ one. let (b, some, c) = (h u e l).0 one in (b, some, record { in_range = c.in_range; u = c.u; v = c.v; u_in = c.u_in; v_in = c.v_in; begins = c.begins; ends = c.ends; apart = c.apart; base = rw same c.base })),
   (λ (b, some, c). (h u e l).1 (b, some, record { in_range = c.in_range; u = c.u; v = c.v; u_in = c.u_in; v_in = c.v_in; begins = c.begins; ends = c.ends; apart = c.apart; base = rw same at c.base })),

@@ -9,7 +9,7 @@ use Rattle.sfm_spec.specs.Sets.{IsPlaced, AreDistinct, empty_set}
 use Rattle.sfm_spec.specs.Bounds.{AreBounded, IsEntry, IsFactor, total_of}
 use Rattle.sfm_spec.specs.Terms.{SetFunction, times, IsBase, IsFamily, IsSubmodular, exchanged}
 use Rattle.sfm_spec.specs.Families.{Meaning, meanings, AreBases, AreTerms}
-use Rattle.sfm_spec.specs.Walks.{term_at, row_at}
+use Rattle.sfm_spec.specs.Walks.{term_at, base_at}
 use Rattle.sfm_spec.proofs.Duality.{meanings-terms}
 use Rattle.sfm_spec.proofs.Sums.{length-exchanged}
 use Rattle.sfm_spec.proofs.Walks.{bases-at}
@@ -40,7 +40,7 @@ sizes_all size terms sound small = below-total (map size terms) (pos (10 ^ 18)) 
 module _ {X : Type 0} (places : X → List ℕ) (value : X → SetFunction) (size : X → ℤ) (sound : (x : X) → pos 0 ≤ℤ size x) (terms : List X) (n : ℕ) (q : ℤ) (rows : List (List ℤ)) (bounded : AreBounded n (map places terms) (map size terms))
     (factor : IsFactor q) (bases : AreBases q (meanings places value terms) rows) where
   -- the row of a term is a base of it within the bounds
-  pub is_based : (i : ℕ) → i < length terms → (term : X) → term ≡ get_or terms i term → All IsEntry (row_at rows i) → IsBased places value size term q (row_at rows i)
+  pub is_based : (i : ℕ) → i < length terms → (term : X) → term ≡ get_or terms i term → All IsEntry (base_at rows i) → IsBased places value size term q (base_at rows i)
   is_based i l term is small =
       let placed = all-at (IsPlaced n) places terms i term l is bounded.placed in
       let means = meanings-at places value terms i term l is in
@@ -128,7 +128,7 @@ module _ {X N : Type 0} {places : X → List ℕ} {value : X → SetFunction} {s
     distinct_at = subst AreDistinct (sym places_are) placed.distinct
 
     -- its row is a base within the bounds
-    pub based : ((x : X) → pos 0 ≤ℤ size x) → All IsEntry (row_at graph.bases i) → IsBased places value size term q (row_at graph.bases i)
+    pub based : ((x : X) → pos 0 ≤ℤ size x) → All IsEntry (base_at graph.bases i) → IsBased places value size term q (base_at graph.bases i)
     based sound small = is_based places value size sound terms n q graph.bases h.bounded h.factor h.exact.are_bases i l term is small
 
     -- there is a row for each of its places
@@ -136,7 +136,7 @@ module _ {X N : Type 0} {places : X → List ℕ} {value : X → SetFunction} {s
     rows_long = sized_at places terms graph.rows.items i term h.exact.sized_rows l is
 
     -- and they tell its steps
-    pub table : IsReachTable (places term) (times q (value term)) (row_at graph.bases i) (length (places term)) (table_at graph.rows.items i)
+    pub table : IsReachTable (places term) (times q (value term)) (base_at graph.bases i) (length (places term)) (table_at graph.rows.items i)
     table = rw means at (steps_table (meanings places value terms) q graph.bases i (table_at graph.rows.items i) li distinct_at (h.exact.tables i l))
 
     -- its places are of the ground

@@ -4,7 +4,7 @@ use Rattle.std.specs.List.{All}
 use Rattle.sfm_spec.specs.Sets.{IsPlaced}
 use Rattle.sfm_spec.specs.Bounds.{IsEntry, IsFactor}
 use Rattle.sfm_spec.specs.Terms.{SetFunction, times, IsBase}
-use Rattle.sfm_spec.specs.Walks.{row_at}
+use Rattle.sfm_spec.specs.Walks.{base_at}
 
 -- x is a base of q times the term, and all numbers are within the bounds
 pub record IsBased {X : Type 0} (places : X → List ℕ) (value : X → SetFunction) (size : X → ℤ) (term : X) (q : ℤ) (x : List ℤ) : Type 0 where
@@ -18,4 +18,4 @@ pub record IsBased {X : Type 0} (places : X → List ℕ) (value : X → SetFunc
 -- the rows are such bases, one for each term
 pub record AreBased {X : Type 0} (places : X → List ℕ) (value : X → SetFunction) (size : X → ℤ) (terms : List X) (q : ℤ) (rows : List (List ℤ)) : Type 0 where
   pub count : length rows ≡ length terms
-  pub each : (i : ℕ) → i < length terms → (term : X) → term ≡ slice_index_or terms i term → IsBased places value size term q (row_at rows i)
+  pub each : (i : ℕ) → i < length terms → (term : X) → term ≡ slice_index_or terms i term → IsBased places value size term q (base_at rows i)

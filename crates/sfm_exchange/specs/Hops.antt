@@ -4,7 +4,7 @@ use Rattle.std.specs.List.{All}
 use Rattle.sfm_spec.specs.Bounds.{IsEntry}
 use Rattle.sfm_spec.specs.Terms.{times, IsBase, HasRoom, exchanged}
 use Rattle.sfm_spec.specs.Families.{Meaning}
-use Rattle.sfm_spec.specs.Walks.{Step, term_at, row_at, IsWalkMove, CanMove, last_of}
+use Rattle.sfm_spec.specs.Walks.{Step, term_at, base_at, IsWalkMove, CanMove, last_of}
 use Rattle.sfm_spec.specs.Labels.{step_code}
 use Rattle.sfm_law.specs.Room.{IsWithinRoom}
 use Rattle.sfm_exchange.specs.declared.bits.Bits.{Bits}
@@ -57,11 +57,11 @@ pub record IsMovable (terms : List Meaning) (q : ℤ) (rows : List (List ℤ)) (
   pub u_in : hop.u < length (term_at terms hop.term).places
   pub v_in : hop.v < length (term_at terms hop.term).places
   pub apart : hop.u ≢ hop.v
-  pub room : HasRoom (times q (term_at terms hop.term).value) (row_at rows hop.term) hop.u hop.v
+  pub room : HasRoom (times q (term_at terms hop.term).value) (base_at rows hop.term) hop.u hop.v
 
 -- the step can move a
 abbrev pub Moves : List Meaning → ℤ → List (List ℤ) → Hop → ℤ → Type 0
-Moves terms q rows hop a = IsBase (times q (term_at terms hop.term).value) (exchanged (row_at rows hop.term) hop.u hop.v a)
+Moves terms q rows hop a = IsBase (times q (term_at terms hop.term).value) (exchanged (base_at rows hop.term) hop.u hop.v a)
 
 -- each step can still move a once those behind it have moved
 abbrev pub AreInOrder : List Meaning → ℤ → List (List ℤ) → ℕ → List Step → ℤ → Type 0
@@ -76,9 +76,9 @@ AreNamed terms from (hop ∷ hops) = IsHop terms from hop × AreNamed terms hop.
 -- the exchange of the step is within the room, and the entries of the row are within the bounds before it and after it
 pub record CanExchange (terms : List Meaning) (q : ℤ) (rows : List (List ℤ)) (hop : Hop) (a : ℤ) : Type 0 where
   pub term_in : hop.term < length terms
-  pub small : All IsEntry (row_at rows hop.term)
-  pub after : All IsEntry (exchanged (row_at rows hop.term) hop.u hop.v a)
+  pub small : All IsEntry (base_at rows hop.term)
+  pub after : All IsEntry (exchanged (base_at rows hop.term) hop.u hop.v a)
   pub apart : hop.u ≢ hop.v
-  pub raised : hop.u < length (row_at rows hop.term)
-  pub lowered : hop.v < length (row_at rows hop.term)
-  pub room : IsWithinRoom (times q (term_at terms hop.term).value) (row_at rows hop.term) hop.u hop.v a
+  pub raised : hop.u < length (base_at rows hop.term)
+  pub lowered : hop.v < length (base_at rows hop.term)
+  pub room : IsWithinRoom (times q (term_at terms hop.term).value) (base_at rows hop.term) hop.u hop.v a

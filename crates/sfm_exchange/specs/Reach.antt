@@ -2,7 +2,7 @@
 use Rattle.std.specs.Prelude.{◌≡◌, ◌≢◌, ◌↔◌, ℕ, ◌<◌, List, [], length, slice_index_or, ℤ}
 use Rattle.sfm_spec.specs.Terms.{SetFunction, HasRoom}
 use Rattle.sfm_spec.specs.Families.{Meaning}
-use Rattle.sfm_spec.specs.Walks.{term_at, row_at, IsStep}
+use Rattle.sfm_spec.specs.Walks.{term_at, base_at, IsStep}
 use Rattle.sfm_exchange.specs.declared.bits.Bits.{Bits}
 use Rattle.sfm_exchange.specs.Bits.{bit_in, set_at}
 
@@ -34,4 +34,4 @@ pub record AreSized {A : Type 0} (places : List (List ℕ)) (lists : List (List 
 
 -- the note of each term fits its row
 abbrev pub AreNotes : {X N : Type 0} → (X → N → ℤ → List ℤ → Type 0) → ℤ → List X → List N → List (List ℤ) → Type 0
-AreNotes fits q terms notes rows = (i : ℕ) → i < length terms → (term : _) → term ≡ slice_index_or terms i term → (note : _) → note ≡ slice_index_or notes i note → fits term note q (row_at rows i)
+AreNotes fits q terms notes rows = (i : ℕ) → i < length terms → (term : _) → term ≡ slice_index_or terms i term → (note : _) → note ≡ slice_index_or notes i note → fits term note q (base_at rows i)

@@ -7,7 +7,7 @@ ghost use Rattle.sfm_spec.specs.Bounds.{IsAtMost, IsEntry};
 ghost use Rattle.sfm_spec.specs.Terms.{times, exchanged};
 ghost use Rattle.sfm_spec.specs.Families.{meanings};
 ghost use Rattle.sfm_spec.specs.Labels.{FallsAlong};
-ghost use Rattle.sfm_spec.specs.Walks.{IsWalkMove, row_at, term_at};
+ghost use Rattle.sfm_spec.specs.Walks.{IsWalkMove, base_at, term_at};
 ghost use Rattle.sfm_law.specs.Room.{AtMostRoom, IsRoom};
 ghost use Rattle.sfm_exchange.specs.Graph.{IsWhole};
 ghost use Rattle.sfm_exchange.specs.Hops.{CanExchange, IsMovable, Moves, AreNamed, AreInOrder, hop_at, steps_of};
@@ -62,7 +62,7 @@ fn room_of<T: Term>(
     requires movable { IsMovable (meanings T.places T.value_of terms.now) q graph.old.bases hop }
     ensures graph { OnOk result (IsWhole T.places T.value_of T.size_of T.fits terms.now (length graph.old.spots.items) q graph.new) }
     ensures bases { OnOk result (graph.new.bases ≡ graph.old.bases) }
-    ensures room { IfOk result (IsRoom (times q (term_at (meanings T.places T.value_of terms.now) hop.term).value) (row_at graph.old.bases hop.term) hop.u hop.v) }
+    ensures room { IfOk result (IsRoom (times q (term_at (meanings T.places T.value_of terms.now) hop.term).value) (base_at graph.old.bases hop.term) hop.u hop.v) }
 {
     let i = hop.term;
     let note = &mut graph.notes[i];
@@ -96,7 +96,7 @@ fn exchange_at<T: Term>(
     requires can { CanExchange (meanings T.places T.value_of terms.now) q graph.old.bases hop a }
     requires low { pos 1 ≤ℤ a }
     requires high { a ≤ℤ pos (10 ^ 30) }
-    ensures moved { OnOk result (graph.new.bases ≡ slice_set graph.old.bases hop.term (exchanged (row_at graph.old.bases hop.term) hop.u hop.v a)) }
+    ensures moved { OnOk result (graph.new.bases ≡ slice_set graph.old.bases hop.term (exchanged (base_at graph.old.bases hop.term) hop.u hop.v a)) }
     ensures graph { OnOk result (IsWhole T.places T.value_of T.size_of T.fits terms.now (length graph.old.spots.items) q graph.new) }
 {
     let i = hop.term;

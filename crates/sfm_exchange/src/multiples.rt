@@ -5,7 +5,7 @@ ghost use Rattle.std.specs.Prelude.{◌≡◌, ◌<◌, ◌^◌, ℕ, ℤ, List,
 ghost use Rattle.std.specs.List.{All};
 ghost use Rattle.sfm_spec.specs.Bounds.{AreBounded, IsEntry, IsFactor};
 ghost use Rattle.sfm_spec.specs.Families.{meanings, AreBases};
-ghost use Rattle.sfm_spec.specs.Walks.{row_at};
+ghost use Rattle.sfm_spec.specs.Walks.{base_at};
 ghost use Rattle.sfm_exchange.specs.Graph.{IsGraph};
 ghost use Rattle.sfm_exchange.specs.Reach.{AreSized};
 ghost use Rattle.sfm_exchange.specs.Scaled.{row_times};
@@ -48,7 +48,7 @@ fn is_multiple(q: i128, x: &[i128], y: &[i128]) -> bool
 fn are_multiples(q: i128, rows: &Rows, bases: &Rows) -> bool
     requires factor { IsFactor q }
     requires count { length bases.now ≡ length rows.now }
-    ensures { result ≡ true → (i : ℕ) → i < length rows.now → row_at bases.now i ≡ row_times q (row_at rows.now i) }
+    ensures { result ≡ true → (i : ℕ) → i < length rows.now → base_at bases.now i ≡ row_times q (base_at rows.now i) }
 {
     for i in 0..rows.len() {
         if !is_multiple(q, rows.row(i), bases.row(i)) {

@@ -71,8 +71,8 @@ module _ {X N : Type 0} {places : X → List ℕ} {value : X → SetFunction} {s
     (λ mid. (free_exactly (meanings places value terms) n q shift reached.0 (complement leading.0) least_is greatest_is e).1 (in_greatest e l mid, not_least e l mid)),
   )
 
-  row_at : (e : ℕ) → e < n → IsPullSet reading.graph.unions.items outside e (row_of rows e)
-  row_at e l = pulls.each e (rw (unions_count h.whole) l)
+  base_at : (e : ℕ) → e < n → IsPullSet reading.graph.unions.items outside e (row_of rows e)
+  base_at e l = pulls.each e (rw (unions_count h.whole) l)
 
   none_in_nil : (s : List Bool) (d : ℕ) → s ≡ [] → Has s d → ⊥
   none_in_nil [] d e has = cc
@@ -82,7 +82,7 @@ module _ {X N : Type 0} {places : X → List ℕ} {value : X → SetFunction} {s
   inside e d has = at (cases_lt e n) where
     at : (e < n) ⊎ (n ≤ e) → (e < n) × (d < n) × (bit_in outside e ≢ 1) × (bit_in outside d ≢ 1)
     at (inl l) =
-        let row = row_at e l in
+        let row = base_at e l in
         let ld : d < n = rw (← unions_count h.whole, ← row.same.places) (has_below (row_of rows e) d has) in
         let (found, mid) = (row.is_row.exact d).0 ((row.same.exact d (rw (unions_count h.whole) ld)).0 has) in
         (l, ld, (λ out. none_in_nil [] d refl (row.is_row.reached.least [] (λ k one. let (same, none) = (row.is_row.firsts_are k).0 one in absurd (none (rw same out))) (λ k t in_nil bit. absurd (none_in_nil [] k refl in_nil)) d found)), mid)
@@ -91,7 +91,7 @@ module _ {X N : Type 0} {places : X → List ℕ} {value : X → SetFunction} {s
   exact : (e d : ℕ) → e < n → d < n → bit_in outside e ≢ 1 → bit_in outside d ≢ 1 → Pulls rows e d ↔ PullsAlong (meanings places value terms) n q shift e d
   exact e d le ld me md = (to, from) where
     row : IsPullSet reading.graph.unions.items outside e (row_of rows e)
-    row = row_at e le
+    row = base_at e le
 
     found : (s : List Bool) × IsSetOf row.is_row.found n s
     found = as_set row.is_row.found n

@@ -9,8 +9,8 @@ use Rattle.std.proofs.lemmas.List.Elements.{All-from_get_or, All-head, All-tail}
 use Rattle.sfm_spec.specs.Sets.{magnitudes}
 use Rattle.sfm_spec.specs.Terms.{SetFunction}
 use Rattle.sfm_spec.specs.Bounds.{IsAtMost, IsEntry}
-use Rattle.sfm_spec.specs.Families.{Meaning, meanings, entry_at, rows_at}
-use Rattle.sfm_spec.specs.Walks.{row_at}
+use Rattle.sfm_spec.specs.Families.{Meaning, meanings, entry_at, base_sum_at}
+use Rattle.sfm_spec.specs.Walks.{base_at}
 use Rattle.sfm_spec.proofs.Duality.{meanings_more}
 use Rattle.sfm_law.specs.Rest.{IsRest}
 use Rattle.sfm_law.proofs.Lists.{length-meanings}
@@ -45,27 +45,27 @@ entry_at-bound (p ∷ places) (a ∷ x) e h =
     record { low = omega (arith, ints, o.low, r.low); high = omega (arith, ints, o.high, r.high) }
 
 -- one term more, with its row
-pub rows_at-push : (terms : List Meaning) (rows : List (List ℤ)) (t : Meaning) (e : ℕ)
-    → rows_at (terms ++ t ∷ []) rows e ≡ (rows_at terms rows e +ℤ entry_at t.places (row_at rows (length terms)) e)
-rows_at-push [] [] t e = sym (nothing t.places) where
+pub base_sum_at-push : (terms : List Meaning) (rows : List (List ℤ)) (t : Meaning) (e : ℕ)
+    → base_sum_at (terms ++ t ∷ []) rows e ≡ (base_sum_at terms rows e +ℤ entry_at t.places (base_at rows (length terms)) e)
+base_sum_at-push [] [] t e = sym (nothing t.places) where
   nothing : (places : List ℕ) → (pos 0 +ℤ entry_at places [] e) ≡ pos 0
   nothing [] = refl
   nothing (p ∷ places) = refl
-rows_at-push [] (x ∷ rows) t e = omega (arith, ints)
-rows_at-push (u ∷ terms) [] t e = sym (nothing t.places) where
+base_sum_at-push [] (x ∷ rows) t e = omega (arith, ints)
+base_sum_at-push (u ∷ terms) [] t e = sym (nothing t.places) where
   nothing : (places : List ℕ) → (pos 0 +ℤ entry_at places [] e) ≡ pos 0
   nothing [] = refl
   nothing (p ∷ places) = refl
-rows_at-push (u ∷ terms) (x ∷ rows) t e = let r = rows_at-push terms rows t e in omega (arith, ints, r)
+base_sum_at-push (u ∷ terms) (x ∷ rows) t e = let r = base_sum_at-push terms rows t e in omega (arith, ints, r)
 
 -- what all rows give e is at most one entry for each place of each term
-pub rows_at-bound : {X : Type 0} (places : X → List ℕ) (value : X → SetFunction) (xs : List X) (rows : List (List ℤ)) (e : ℕ) → All (λ x. All IsEntry x) rows
-    → IsAtMost (10 ^ 30 * sum (map length (map places xs))) (rows_at (meanings places value xs) rows e)
-rows_at-bound places value [] rows e h = record { low = omega (arith, ints); high = omega (arith, ints) }
-rows_at-bound places value (y ∷ xs) [] e h = record { low = omega (arith, ints); high = omega (arith, ints) }
-rows_at-bound places value (y ∷ xs) (x ∷ rows) e h =
+pub base_sum_at-bound : {X : Type 0} (places : X → List ℕ) (value : X → SetFunction) (xs : List X) (rows : List (List ℤ)) (e : ℕ) → All (λ x. All IsEntry x) rows
+    → IsAtMost (10 ^ 30 * sum (map length (map places xs))) (base_sum_at (meanings places value xs) rows e)
+base_sum_at-bound places value [] rows e h = record { low = omega (arith, ints); high = omega (arith, ints) }
+base_sum_at-bound places value (y ∷ xs) [] e h = record { low = omega (arith, ints); high = omega (arith, ints) }
+base_sum_at-bound places value (y ∷ xs) (x ∷ rows) e h =
     let o = entry_at-bound (places y) x e (All-head (λ x. All IsEntry x) x rows h) in
-    let r = rows_at-bound places value xs rows e (All-tail (λ x. All IsEntry x) x rows h) in
+    let r = base_sum_at-bound places value xs rows e (All-tail (λ x. All IsEntry x) x rows h) in
     let total : sum (map length (map places (y ∷ xs))) ≡ length (places y) + sum (map length (map places xs)) = sum_by-cons (λ n. n) (length (places y)) (map length (map places xs)) in
     record { low = omega (arith, ints, o.low, r.low, total); high = omega (arith, ints, o.high, r.high, total) }
 
@@ -111,7 +111,7 @@ added_at places x z0 z j e lj same l h = by (cases_eq e p) where
 -- z with the row of one more term added
 pub rest-more : {X : Type 0} (places : X → List ℕ) (value : X → SetFunction) (xs : List X) (i : ℕ) (x : X) (shift : List ℤ) (rows : List (List ℤ)) (z z' : List ℤ) → i < length xs → x ≡ get_or xs i x
     → IsRest (meanings places value (take i xs)) shift rows z → length z' ≡ length z
-    → ((e : ℕ) → e < length z → get_or z' e (pos 0) ≡ (get_or z e (pos 0) +ℤ entry_at (places x) (row_at rows i) e))
+    → ((e : ℕ) → e < length z → get_or z' e (pos 0) ≡ (get_or z e (pos 0) +ℤ entry_at (places x) (base_at rows i) e))
     → IsRest (meanings places value (take (i + 1) xs)) shift rows z'
 rest-more places value xs i x shift rows z z' l read h same added = record {
   places = same ∙ h.places;
@@ -120,10 +120,10 @@ rest-more places value xs i x shift rows z z' l read h same added = record {
       let a = added e lz in
       let b = h.exact e lz in
       let count : length (meanings places value (take i xs)) ≡ i = length-meanings places value (take i xs) ∙ length-take-le i xs (omega arith) in
-      let r : rows_at (meanings places value (take (i + 1) xs)) rows e ≡ (rows_at (meanings places value (take i xs)) rows e +ℤ entry_at (places x) (row_at rows i) e) =
-      ap (λ ts. rows_at ts rows e) (meanings_more places value xs i x l read)
-      ∙ (rows_at-push (meanings places value (take i xs)) rows (record { places = places x; value = value x }) e
-      ∙ ap (λ k. rows_at (meanings places value (take i xs)) rows e +ℤ entry_at (places x) (row_at rows k) e) count) in
+      let r : base_sum_at (meanings places value (take (i + 1) xs)) rows e ≡ (base_sum_at (meanings places value (take i xs)) rows e +ℤ entry_at (places x) (base_at rows i) e) =
+      ap (λ ts. base_sum_at ts rows e) (meanings_more places value xs i x l read)
+      ∙ (base_sum_at-push (meanings places value (take i xs)) rows (record { places = places x; value = value x }) e
+      ∙ ap (λ k. base_sum_at (meanings places value (take i xs)) rows e +ℤ entry_at (places x) (base_at rows k) e) count) in
       omega (arith, ints, a, b, r);
 }
 
@@ -138,7 +138,7 @@ rest-none shift rows = record {
 pub rest-small : {X : Type 0} (places : X → List ℕ) (value : X → SetFunction) (xs : List X) (shift : List ℤ) (rows : List (List ℤ)) (z : List ℤ) → IsRest (meanings places value xs) shift rows z → All (λ x. All IsEntry x) rows
     → sum (map length (map places xs)) ≤ 16384 → magnitudes shift ≤ℤ pos (10 ^ 36) → All (IsAtMost (2 * 10 ^ 36)) z
 rest-small places value xs shift rows z h small few shifts = All-from_get_or (IsAtMost (2 * 10 ^ 36)) z (pos 0) (λ e l.
-    let r = rows_at-bound places value xs rows e small in
+    let r = base_sum_at-bound places value xs rows e small in
     let (b, t) = magnitudes-at shift e in
     let x = h.exact e l in
     record { low = omega (arith, ints, r.low, r.high, b.low, b.high, t, x, few, shifts); high = omega (arith, ints, r.low, r.high, b.low, b.high, t, x, few, shifts) })
@@ -186,8 +186,8 @@ places_front places xs i h =
 pub rest-total : {X : Type 0} (places : X → List ℕ) (value : X → SetFunction) (xs : List X) (shift : List ℤ) (rows : List (List ℤ)) (z : List ℤ) → IsRest (meanings places value xs) shift rows z → All (λ x. All IsEntry x) rows
     → sum (map length (map places xs)) ≤ 16384 → length shift ≤ 256 → magnitudes shift ≤ℤ pos (10 ^ 36) → magnitudes z ≤ℤ pos (10 ^ 37)
 rest-total places value xs shift rows z h small few grounds shifts =
-    let bound = rest-magnitudes (10 ^ 30 * 16384) z shift (rows_at (meanings places value xs) rows) h.places h.exact
-    (λ e l. let r = rows_at-bound places value xs rows e small in record { low = omega (arith, ints, r.low, few); high = omega (arith, ints, r.high, few) }) in
+    let bound = rest-magnitudes (10 ^ 30 * 16384) z shift (base_sum_at (meanings places value xs) rows) h.places h.exact
+    (λ e l. let r = base_sum_at-bound places value xs rows e small in record { low = omega (arith, ints, r.low, few); high = omega (arith, ints, r.high, few) }) in
     omega (arith, ints, bound, h.places, grounds, shifts)
 
 -- all magnitudes of one number, taken n times

@@ -6,7 +6,7 @@ ghost use Rattle.std.specs.List.{All};
 ghost use Rattle.sfm_spec.specs.Sets.{IsPlaced, magnitudes};
 ghost use Rattle.sfm_spec.specs.Bounds.{IsAtMost, IsEntry};
 ghost use Rattle.sfm_spec.specs.Families.{meanings, entry_at, rest_at};
-ghost use Rattle.sfm_spec.specs.Walks.{row_at, term_at};
+ghost use Rattle.sfm_spec.specs.Walks.{base_at, term_at};
 ghost use Rattle.sfm_law.specs.Rest.{IsRest};
 
 use crate::term::Term;
@@ -25,7 +25,7 @@ pub fn rest_of<T: Term>(
     requires placed { All (IsPlaced (length shift.now)) (map T.places terms.now) }
     requires few { sum (map length (map T.places terms.now)) ≤ 16384 }
     requires rows { length bases.now ≡ length terms.now }
-    requires entries { (i : ℕ) → i < length terms.now → length (row_at bases.now i) ≡ length (term_at (meanings T.places T.value_of terms.now) i).places }
+    requires entries { (i : ℕ) → i < length terms.now → length (base_at bases.now i) ≡ length (term_at (meanings T.places T.value_of terms.now) i).places }
     requires small { All (λ x. All IsEntry x) bases.now }
     requires shifts { magnitudes shift.now ≤ℤ pos (10 ^ 36) }
     ensures { IfOk result (λ z. IsRest (meanings T.places T.value_of terms.now) shift.now bases.now z.items) }

@@ -40,6 +40,7 @@ impl WalkSteps {
         Ok(())
     }
 
+    /// How many steps there are.
     pub fn len(&self) -> usize
         ensures { result ≡ length self.now }
     {

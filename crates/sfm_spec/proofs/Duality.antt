@@ -6,7 +6,7 @@ use Rattle.std.proofs.lemmas.Int.{ints}
 use Rattle.std.proofs.lemmas.List.{length-map, take_more}
 use Rattle.sfm_spec.specs.Sets.{part, sum_over}
 use Rattle.sfm_spec.specs.Terms.{SetFunction, times, IsFamily, IsSubmodular, IsBase, IsTight}
-use Rattle.sfm_spec.specs.Families.{Meaning, meanings, ArePlaced, AreTerms, AreBases, AreTight, IsAllowed, IsMinimiser, IsSigned, Prove, value_at, sum_at, shifted_at, entry_at, rows_at, rest_at, deficit}
+use Rattle.sfm_spec.specs.Families.{Meaning, meanings, ArePlaced, AreTerms, AreBases, AreTight, IsAllowed, IsMinimiser, IsSigned, Prove, value_at, sum_at, shifted_at, entry_at, base_sum_at, rest_at, deficit}
 use Rattle.sfm_spec.proofs.Scaled.{times-add}
 use Rattle.sfm_spec.proofs.Where.{sum_where, sum_where-zero, sum_where-add, sum_where-less, sum_where-entries, deficit_below, deficit_at, signed_at}
 
@@ -17,13 +17,13 @@ parts_sum (term ∷ terms) [] s = pos 0
 parts_sum (term ∷ terms) (x ∷ rows) s = sum_over (part term.places s) x +ℤ parts_sum terms rows s
 
 -- the rows summed over a set are what they give its parts
-pub sum_where-rows : (s : List Bool) (terms : List Meaning) (rows : List (List ℤ)) → AreTerms (length s) terms → sum_where s (rows_at terms rows) ≡ parts_sum terms rows s
+pub sum_where-rows : (s : List Bool) (terms : List Meaning) (rows : List (List ℤ)) → AreTerms (length s) terms → sum_where s (base_sum_at terms rows) ≡ parts_sum terms rows s
 sum_where-rows s [] rows h = sum_where-zero s
 sum_where-rows s (term ∷ terms) [] h = sum_where-zero s
 sum_where-rows s (term ∷ terms) (x ∷ rows) h =
     let one = sum_where-entries s term.places x h.0.placed.below in
     let others = sum_where-rows s terms rows h.1 in
-    sum_where-add s (entry_at term.places x) (rows_at terms rows) ∙ (ap (λ y. y +ℤ sum_where s (rows_at terms rows)) one ∙ ap (λ y. sum_over (part term.places s) x +ℤ y) others)
+    sum_where-add s (entry_at term.places x) (base_sum_at terms rows) ∙ (ap (λ y. y +ℤ sum_where s (base_sum_at terms rows)) one ∙ ap (λ y. sum_over (part term.places s) x +ℤ y) others)
 
 -- the value of one term's part bounds what its row gives it
 one_below : (q : ℤ) (term : Meaning) (x : List ℤ) (s : List Bool) → length x ≡ length term.places → IsBase (times q term.value) x → IsSome (value_at term s)
@@ -50,7 +50,7 @@ parts_below q (term ∷ terms) (x ∷ rows) s bases allowed =
 
 rest_sum : (s : List Bool) (terms : List Meaning) (rows : List (List ℤ)) (shift : List ℤ) → AreTerms (length s) terms
     → sum_where s (rest_at terms rows shift) ≡ (parts_sum terms rows s -ℤ sum_over s shift)
-rest_sum s terms rows shift h = sum_where-less s (rows_at terms rows) shift ∙ ap (λ y. y -ℤ sum_over s shift) (sum_where-rows s terms rows h)
+rest_sum s terms rows shift h = sum_where-less s (base_sum_at terms rows) shift ∙ ap (λ y. y -ℤ sum_over s shift) (sum_where-rows s terms rows h)
 
 -- the sum of min(z(e), 0) is at most the value of each allowed set
 pub deficit_under : (terms : List Meaning) (rows : List (List ℤ)) (q : ℤ) (shift : List ℤ) (s : List Bool) → AreTerms (length s) terms → AreBases q terms rows → IsAllowed terms s

@@ -6,7 +6,7 @@ use Rattle.std.proofs.lemmas.Bool.{cases_lt, cases_eq, eq-eqb, ne_eqb}
 use Rattle.std.proofs.lemmas.Int.{ints}
 use Rattle.sfm_spec.specs.Terms.{times, IsBase, exchanged}
 use Rattle.sfm_spec.specs.Families.{Meaning, AreTerms, AreBases, rest_at}
-use Rattle.sfm_spec.specs.Walks.{Step, term_at, row_at, CanMove, IsStep, AreSteps, IsOver, AllCanMove, last_of, few_walks}
+use Rattle.sfm_spec.specs.Walks.{Step, term_at, base_at, CanMove, IsStep, AreSteps, IsOver, AllCanMove, last_of, few_walks}
 use Rattle.sfm_spec.specs.Labels.{FallsAlong, FollowsLabels, Passes, HasFull, code_of, step_code}
 use Rattle.sfm_spec.specs.Progress.{AreLowerBounds, IsMoveAtBounds, sum_below, rank_of, zero_flag, potential}
 use Rattle.sfm_spec.proofs.Walks.{terms-at, bases-at, first_below, step_below}
@@ -107,13 +107,13 @@ module _ (terms : List Meaning) (rows : List (List ℤ)) (n : ℕ) (q : ℤ) (sh
       abbrev place : ℕ → ℕ
       place u = get_or (term_at terms i).places u 0
 
-      sized : length (row_at rows i) ≡ length (term_at terms i).places
+      sized : length (base_at rows i) ≡ length (term_at terms i).places
       sized = (bases-at q terms rows i bases li).0
 
       abbrev Labelled : List ℤ → Type 0
-      Labelled x = IsLabelled (length (row_at rows i)) (times q (term_at terms i).value) x (λ u. d (place u)) (λ u. l (place u)) (λ v. code_of (length terms) (place v) i)
+      Labelled x = IsLabelled (length (base_at rows i)) (times q (term_at terms i).value) x (λ u. d (place u)) (λ u. l (place u)) (λ v. code_of (length terms) (place v) i)
 
-      old_labels : Labelled (row_at rows i)
+      old_labels : Labelled (base_at rows i)
       old_labels u v ku kv ne room =
           let step : Step = record { to = place v; term = i } in
           let h : IsStep terms q rows (place u) step = (room.0, room.1, record { in_range = li; u = u; v = v; u_in = rw (← sized) ku; v_in = rw (← sized) kv; begins = refl; ends = refl; apart = ne; base = room.2 }) in
@@ -128,9 +128,9 @@ module _ (terms : List Meaning) (rows : List (List ℤ)) (n : ℕ) (q : ℤ) (sh
           let code : l (place m.0) ≡ code_of (length terms) (place m.1) i = rw (at.begins, at.ends, ← at.same) h.1 in
           rw eq ((falls, code), each_labelled s.to ss ms f h.2)
 
-      new_labels : Labelled (row_at after i)
+      new_labels : Labelled (base_at after i)
       new_labels = from (follow terms rows n q low fit bases a one i first steps can) where
-        from : (moves : List (ℕ × ℕ)) × Follows terms rows n q low fit bases a one i first steps moves → Labelled (row_at after i)
+        from : (moves : List (ℕ × ℕ)) × Follows terms rows n q low fit bases a one i first steps moves → Labelled (base_at after i)
         from (ms, f) = subst (λ x. Labelled x) (sym (row_is_moved terms rows n q low fit bases a one i li first steps ms after f move.along.moved))
             (labels_kept_all (family terms rows n q low fit bases a one i li) (law terms rows n q low fit bases a one i li) (base terms rows n q low fit bases a one i li) a one ms
             (λ u. d (place u)) (λ u. l (place u)) (λ v. code_of (length terms) (place v) i)
@@ -180,7 +180,7 @@ module _ (terms : List Meaning) (rows : List (List ℤ)) (n : ℕ) (q : ℤ) (sh
             let eu : c'.u ≡ m.0 = places.distinct c'.u m.0 c'.u_in there.u_in (c'.begins ∙ sym there.begins) in
             let ev : c'.v ≡ m.1 = places.distinct c'.v m.1 c'.v_in there.v_in (c'.ends ∙ sym there.ends) in
             let row = row_is_moved terms rows n q low fit bases a one step.term c.in_range first steps ms after f move.along.moved in
-            let room : IsBase (times q (term_at terms step.term).value) (exchanged (moved (row_at rows step.term) a ms) m.0 m.1 b) = rw (eu, ev, row) at c'.base in
+            let room : IsBase (times q (term_at terms step.term).value) (exchanged (moved (base_at rows step.term) a ms) m.0 m.1 b) = rw (eu, ev, row) at c'.base in
             filled_gone (family terms rows n q low fit bases a one step.term c.in_range) (law terms rows n q low fit bases a one step.term c.in_range) (base terms rows n q low fit bases a one step.term c.in_range) a one ms
             m.0 m.1 (rw s there.u_in) (rw s there.v_in) there.apart (in_order terms rows n q low fit bases a one step.term c.in_range first steps ms can f few) is'
             (λ more. full (record { in_range = c.in_range; u = m.0; v = m.1; u_in = there.u_in; v_in = there.v_in; begins = there.begins; ends = there.ends; apart = there.apart; base = more }))

@@ -7,7 +7,7 @@ use Rattle.std.proofs.lemmas.Bool.{both_ways, cases_lt, cases_eq, eq-eqb, ne_eqb
 use Rattle.sfm_spec.specs.Sets.{Has}
 use Rattle.sfm_spec.specs.Terms.{times, IsFamily, IsSubmodular, IsBase, HasRoom}
 use Rattle.sfm_spec.specs.Families.{Meaning, IsTerm, AreTerms, AreBases}
-use Rattle.sfm_spec.specs.Walks.{Step, term_at, row_at, IsStep}
+use Rattle.sfm_spec.specs.Walks.{Step, term_at, base_at, IsStep}
 use Rattle.sfm_spec.specs.Labels.{AreDistances, AreLabels, step_code}
 use Rattle.sfm_spec.specs.Progress.{sum_below}
 use Rattle.sfm_spec.proofs.Scaled.{family-times, submodular-times}
@@ -43,7 +43,7 @@ module _ (terms : List Meaning) (rows : List (List ℤ)) (n : ℕ) (q : ℤ) (lo
       l : IsTerm n t
       l = terms-at n terms step.term fit li
 
-      b : (length (row_at rows step.term) ≡ length t.places) × IsBase (times q t.value) (row_at rows step.term)
+      b : (length (base_at rows step.term) ≡ length t.places) × IsBase (times q t.value) (base_at rows step.term)
       b = bases-at q terms rows step.term bases li
 
       family : IsFamily (length t.places) (times q t.value)
@@ -53,7 +53,7 @@ module _ (terms : List Meaning) (rows : List (List ℤ)) (n : ℕ) (q : ℤ) (lo
       law = submodular-times (length t.places) q t.value low l.submodular
 
       by_room : (u v : ℕ) → u < length t.places → v < length t.places → get_or t.places u 0 ≡ from → get_or t.places v 0 ≡ step.to → u ≢ v
-          → HasRoom (times q t.value) (row_at rows step.term) u v ⊎ ((r : List Bool) × TightSet family law b.0 b.1 r × Has r u × (get_or r v false ≡ false)) → IsStep terms q rows from step ⊎ (IsStep terms q rows from step → ⊥)
+          → HasRoom (times q t.value) (base_at rows step.term) u v ⊎ ((r : List Bool) × TightSet family law b.0 b.1 r × Has r u × (get_or r v false ≡ false)) → IsStep terms q rows from step ⊎ (IsStep terms q rows from step → ⊥)
       by_room u v lu lv begins ends ne (inl (a, least, moved)) = inl (a, least, record { in_range = li; u = u; v = v; u_in = lu; v_in = lv; begins = begins; ends = ends; apart = ne; base = moved })
       by_room u v lu lv begins ends ne (inr (r, tight, ru, rv)) = inr (λ (a, least, c).
           let eu : c.u ≡ u = l.placed.distinct c.u u c.u_in lu (c.begins ∙ sym begins) in

@@ -8,8 +8,8 @@ use Rattle.std.specs.List.{All}
 use Rattle.std.specs.Int.{int_min}
 use Rattle.sfm_spec.specs.Sets.{whole_set}
 use Rattle.sfm_spec.specs.Sets.{IsPlaced}
-use Rattle.sfm_spec.specs.Families.{Meaning, AreTerms, AreBases, entry_at, rows_at, rest_at, deficit}
-use Rattle.sfm_spec.specs.Walks.{Step, term_at, row_at, CanMove, AreSteps, IsShortest, IsShortestTo, IsOver, MovesAlong, IsWalkMove, AllCanMove, last_of, change_at}
+use Rattle.sfm_spec.specs.Families.{Meaning, AreTerms, AreBases, entry_at, base_sum_at, rest_at, deficit}
+use Rattle.sfm_spec.specs.Walks.{Step, term_at, base_at, CanMove, AreSteps, IsShortest, IsShortestTo, IsOver, MovesAlong, IsWalkMove, AllCanMove, last_of, change_at}
 use Rattle.sfm_spec.specs.Laws.{MoveLaws}
 use Rattle.sfm_spec.proofs.Where.{sum_where, sum_where-same, sum_where-add, sum_where-single}
 use Rattle.sfm_spec.proofs.Walks.{terms-at, bases-at, each_or, first_below}
@@ -83,7 +83,7 @@ module _ (terms : List Meaning) (rows after : List (List ℤ)) (n : ℕ) (q : �
         rw (eq-eqb s.term i same, nf, nt) (omega (arith, ints, r))
 
   entry-moved : (i from : ℕ) (steps : List Step) (e : ℕ) → i < length terms → AllCanMove terms q rows from steps a → IsWalkMove terms rows from steps a after
-      → entry_at (term_at terms i).places (row_at after i) e ≡ (entry_at (term_at terms i).places (row_at rows i) e +ℤ change_at from steps i e a)
+      → entry_at (term_at terms i).places (base_at after i) e ≡ (entry_at (term_at terms i).places (base_at rows i) e +ℤ change_at from steps i e a)
   entry-moved i from steps e li h w = at (each_or (length places) (λ j. get_or places j 0 ≢ e) ((j : ℕ) × (j < length places) × (get_or places j 0 ≡ e)) (λ j lj. ⊎_elim (λ same. inr (j, lj, same)) (λ ne. inl ne) (cases_eq (get_or places j 0) e))) where
     places : List ℕ
     places = (term_at terms i).places
@@ -91,25 +91,25 @@ module _ (terms : List Meaning) (rows after : List (List ℤ)) (n : ℕ) (q : �
     placed : IsPlaced n (term_at terms i).places
     placed = (terms-at n terms i fit li).placed
 
-    sized : length (row_at rows i) ≡ length places
+    sized : length (base_at rows i) ≡ length places
     sized = (bases-at q terms rows i bases li).0
 
     at : ((j : ℕ) → j < length places → get_or places j 0 ≢ e) ⊎ ((j : ℕ) × (j < length places) × (get_or places j 0 ≡ e))
-        → entry_at places (row_at after i) e ≡ (entry_at places (row_at rows i) e +ℤ change_at from steps i e a)
+        → entry_at places (base_at after i) e ≡ (entry_at places (base_at rows i) e +ℤ change_at from steps i e a)
     at (inl none) =
-        let r = entry-none places (row_at after i) e none in
-        let s = entry-none places (row_at rows i) e none in
+        let r = entry-none places (base_at after i) e none in
+        let s = entry-none places (base_at rows i) e none in
         let t = change-none i from steps e h none in
         omega (arith, ints, r, s, t)
     at (inr (j, lj, same)) =
-        let r = entry-place places (row_at after i) j lj (w.same_lengths i ∙ sized) placed.distinct in
-        let s = entry-place places (row_at rows i) j lj sized placed.distinct in
+        let r = entry-place places (base_at after i) j lj (w.same_lengths i ∙ sized) placed.distinct in
+        let s = entry-place places (base_at rows i) j lj sized placed.distinct in
         let t = w.changed i j (rw sized lj) in
         rw (← same) (r ∙ (t ∙ ap (λ y. y +ℤ change_at from steps i (get_or places j 0) a) (sym s)))
 
 -- ---- all terms together
 
-rows-sum : (terms : List Meaning) (rows : List (List ℤ)) (e : ℕ) → length rows ≡ length terms → rows_at terms rows e ≡ Whole (length terms) (λ i. entry_at (term_at terms i).places (row_at rows i) e)
+rows-sum : (terms : List Meaning) (rows : List (List ℤ)) (e : ℕ) → length rows ≡ length terms → base_sum_at terms rows e ≡ Whole (length terms) (λ i. entry_at (term_at terms i).places (base_at rows i) e)
 rows-sum [] rows e h = refl
 rows-sum (t ∷ terms) [] e h = absurd (omega arith)
 rows-sum (t ∷ terms) (x ∷ rows) e h = ap (λ y. entry_at t.places x e +ℤ y) (rows-sum terms rows e (omega arith))
@@ -159,9 +159,9 @@ module _ (terms : List Meaning) (rows : List (List ℤ)) (n : ℕ) (q : ℤ) (lo
       let count : length rows ≡ length terms = bases-count q terms rows bases in
       let s1 = rows-sum terms after e (w.same_count ∙ count) in
       let s2 = rows-sum terms rows e count in
-      let each = sum_where-below (whole_set m) (λ i. entry_at (term_at terms i).places (row_at after i) e) (λ i. entry_at (term_at terms i).places (row_at rows i) e +ℤ change_at first steps i e a)
+      let each = sum_where-below (whole_set m) (λ i. entry_at (term_at terms i).places (base_at after i) e) (λ i. entry_at (term_at terms i).places (base_at rows i) e +ℤ change_at first steps i e a)
       (λ i l. entry-moved terms rows after n q fit bases a i first steps e (rw (← length-replicate m true) l) can w) in
-      let added = sum_where-add (whole_set m) (λ i. entry_at (term_at terms i).places (row_at rows i) e) (λ i. change_at first steps i e a) in
+      let added = sum_where-add (whole_set m) (λ i. entry_at (term_at terms i).places (base_at rows i) e) (λ i. change_at first steps i e a) in
       let changes = changes-sum m first steps e a (all_in terms rows q a first steps can) in
       omega (arith, ints, s1, s2, each, added, changes)
 
@@ -203,9 +203,9 @@ moves_along terms rows n q shift low fit bases after m =
     (laws.bases after m.moved, omega (arith, ints, gain, some))
 
 -- the row of a term that takes no step of the walk stays as it is
-pub row_kept : (terms : List Meaning) (rows after : List (List ℤ)) (first : ℕ) (steps : List Step) (a : ℤ) (i : ℕ) → IsWalkMove terms rows first steps a after → All (λ step. step.term ≢ i) steps → row_at after i ≡ row_at rows i
-row_kept terms rows after first steps a i w others = ext_get_or (pos 0) (row_at after i) (row_at rows i) (w.same_lengths i)
-    (λ j lj. let l : j < length (row_at rows i) = rw (← w.same_lengths i) lj in
+pub row_kept : (terms : List Meaning) (rows after : List (List ℤ)) (first : ℕ) (steps : List Step) (a : ℤ) (i : ℕ) → IsWalkMove terms rows first steps a after → All (λ step. step.term ≢ i) steps → base_at after i ≡ base_at rows i
+row_kept terms rows after first steps a i w others = ext_get_or (pos 0) (base_at after i) (base_at rows i) (w.same_lengths i)
+    (λ j lj. let l : j < length (base_at rows i) = rw (← w.same_lengths i) lj in
     let c = w.changed i j l in
     let z = none first steps (get_or (term_at terms i).places j 0) others in
     omega (arith, ints, c, z)) where

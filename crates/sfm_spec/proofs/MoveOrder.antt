@@ -6,7 +6,7 @@ use Rattle.std.proofs.lemmas.List.{ext_get_or}
 use Rattle.sfm_spec.specs.Sets.{Has}
 use Rattle.sfm_spec.specs.Terms.{SetFunction, times, IsFamily, IsSubmodular, IsBase, HasRoom, exchanged}
 use Rattle.sfm_spec.specs.Families.{Meaning, AreTerms, AreBases}
-use Rattle.sfm_spec.specs.Walks.{Step, term_at, row_at, CanMove, AreSteps, IsWalkMove, AllCanMove, last_of, change_at}
+use Rattle.sfm_spec.specs.Walks.{Step, term_at, base_at, CanMove, AreSteps, IsWalkMove, AllCanMove, last_of, change_at}
 use Rattle.sfm_spec.proofs.Scaled.{family-times, submodular-times}
 use Rattle.sfm_spec.proofs.Tight.{TightSet, room_or_split, tight_closed}
 use Rattle.sfm_spec.proofs.Walks.{terms-at, bases-at}
@@ -27,7 +27,7 @@ exchanged-other y u v j a nu nv =
     get_or-set_other (set y u (get_or y u (pos 0) +ℤ a)) v j (get_or y v (pos 0) -ℤ a) (pos 0) nv ∙ get_or-set_other y u j (get_or y u (pos 0) +ℤ a) (pos 0) nu
 
 bases-from_at : (q : ℤ) (terms : List Meaning) (rows : List (List ℤ)) → length rows ≡ length terms
-    → ((i : ℕ) → i < length terms → (length (row_at rows i) ≡ length (term_at terms i).places) × IsBase (times q (term_at terms i).value) (row_at rows i)) → AreBases q terms rows
+    → ((i : ℕ) → i < length terms → (length (base_at rows i) ≡ length (term_at terms i).places) × IsBase (times q (term_at terms i).value) (base_at rows i)) → AreBases q terms rows
 bases-from_at q [] [] h f = tt
 bases-from_at q [] (x ∷ rows) h f = absurd (omega arith)
 bases-from_at q (t ∷ terms) [] h f = absurd (omega arith)
@@ -60,7 +60,7 @@ module _ (terms : List Meaning) (rows : List (List ℤ)) (n : ℕ) (q : ℤ) (lo
     pub begins : get_or (term_at terms i).places m.0 0 ≡ from
     pub ends : get_or (term_at terms i).places m.1 0 ≡ s.to
     pub apart : m.0 ≢ m.1
-    pub base : IsBase (times q (term_at terms i).value) (exchanged (row_at rows i) m.0 m.1 a)
+    pub base : IsBase (times q (term_at terms i).value) (exchanged (base_at rows i) m.0 m.1 a)
 
   -- the moves of term i along the steps
   abbrev pub Follows : ℕ → ℕ → List Step → List (ℕ × ℕ) → Type 0
@@ -82,25 +82,25 @@ module _ (terms : List Meaning) (rows : List (List ℤ)) (n : ℕ) (q : ℤ) (lo
     F = times q (term_at terms i).value
 
     X : List ℤ
-    X = row_at rows i
+    X = base_at rows i
 
-    sized : length (row_at rows i) ≡ length (term_at terms i).places
+    sized : length (base_at rows i) ≡ length (term_at terms i).places
     sized = (bases-at q terms rows i bases li).0
 
     -- the row of term i is a base
-    pub base : IsBase (times q (term_at terms i).value) (row_at rows i)
+    pub base : IsBase (times q (term_at terms i).value) (base_at rows i)
     base = (bases-at q terms rows i bases li).1
 
     -- the sets that term i allows are closed under union and intersection
-    pub family : IsFamily (length (row_at rows i)) (times q (term_at terms i).value)
+    pub family : IsFamily (length (base_at rows i)) (times q (term_at terms i).value)
     family = rw sized (family-times (length (term_at terms i).places) q (term_at terms i).value (terms-at n terms i fit li).family)
 
     -- term i is submodular
-    pub law : IsSubmodular (length (row_at rows i)) (times q (term_at terms i).value)
+    pub law : IsSubmodular (length (base_at rows i)) (times q (term_at terms i).value)
     law = rw sized (submodular-times (length (term_at terms i).places) q (term_at terms i).value low (terms-at n terms i fit li).submodular)
 
     abbrev Room : ℕ → ℕ → Type 0
-    Room u v = HasRoom (times q (term_at terms i).value) (row_at rows i) u v
+    Room u v = HasRoom (times q (term_at terms i).value) (base_at rows i) u v
 
     module _ (from u : ℕ) (ku : u < length (term_at terms i).places) (pu : get_or (term_at terms i).places u 0 ≡ from) where
       abbrev Bound : ℕ → ℕ → List Step → Type 0
@@ -169,8 +169,8 @@ module _ (terms : List Meaning) (rows : List (List ℤ)) (n : ℕ) (q : ℤ) (lo
     Place j = get_or (term_at terms i).places j 0
 
     -- the row after the moves, entry by entry
-    pub moved-at : (from : ℕ) (steps : List Step) (moves : List (ℕ × ℕ)) → Follows i from steps moves → (j : ℕ) → j < length (row_at rows i)
-        → get_or (moved (row_at rows i) a moves) j (pos 0) ≡ (get_or (row_at rows i) j (pos 0) +ℤ change_at from steps i (Place j) a)
+    pub moved-at : (from : ℕ) (steps : List Step) (moves : List (ℕ × ℕ)) → Follows i from steps moves → (j : ℕ) → j < length (base_at rows i)
+        → get_or (moved (base_at rows i) a moves) j (pos 0) ≡ (get_or (base_at rows i) j (pos 0) +ℤ change_at from steps i (Place j) a)
     moved-at from [] moves f j lj = rw f (omega (arith, ints))
     moved-at from (s ∷ ss) moves (inl (ne, f)) j lj =
         let r = moved-at s.to ss moves f j lj in
@@ -178,13 +178,13 @@ module _ (terms : List Meaning) (rows : List (List ℤ)) (n : ℕ) (q : ℤ) (lo
     moved-at from (s ∷ ss) moves (inr (m, ms, eq, at, f)) j lj =
         rw (eq, eq-eqb s.term i at.same) (cases (moved-at s.to ss ms f j lj) (cases_eq j m.0) (cases_eq j m.1)) where
           y : List ℤ
-          y = moved (row_at rows i) a ms
+          y = moved (base_at rows i) a ms
 
           rest : ℤ
           rest = change_at s.to ss i (Place j) a
 
-          len : length y ≡ length (row_at rows i)
-          len = length-moved (row_at rows i) a ms
+          len : length y ≡ length (base_at rows i)
+          len = length-moved (base_at rows i) a ms
 
           lp : j < length (term_at terms i).places
           lp = rw (← sized) lj
@@ -192,8 +192,8 @@ module _ (terms : List Meaning) (rows : List (List ℤ)) (n : ℕ) (q : ℤ) (lo
           apart_from : (k : ℕ) → k < length (term_at terms i).places → j ≢ k → (e : ℕ) → Place k ≡ e → nat_eq e (Place j) ≡ false
           apart_from k lk ne e p = ne_eqb e (Place j) (λ same. ne (sym ((terms-at n terms i fit li).placed.distinct k j lk lp (p ∙ same))))
 
-          cases : get_or y j (pos 0) ≡ (get_or (row_at rows i) j (pos 0) +ℤ rest) → (j ≡ m.0) ⊎ (j ≢ m.0) → (j ≡ m.1) ⊎ (j ≢ m.1)
-              → get_or (exchanged y m.0 m.1 a) j (pos 0) ≡ (get_or (row_at rows i) j (pos 0) +ℤ (((if nat_eq from (Place j) then a else pos 0) -ℤ (if nat_eq s.to (Place j) then a else pos 0)) +ℤ rest))
+          cases : get_or y j (pos 0) ≡ (get_or (base_at rows i) j (pos 0) +ℤ rest) → (j ≡ m.0) ⊎ (j ≢ m.0) → (j ≡ m.1) ⊎ (j ≢ m.1)
+              → get_or (exchanged y m.0 m.1 a) j (pos 0) ≡ (get_or (base_at rows i) j (pos 0) +ℤ (((if nat_eq from (Place j) then a else pos 0) -ℤ (if nat_eq s.to (Place j) then a else pos 0)) +ℤ rest))
           cases r (inl eu) (inl ev) = absurd (at.apart (sym eu ∙ ev))
           cases r (inl eu) (inr nv) =
               let here : get_or (exchanged y m.0 m.1 a) j (pos 0) ≡ (get_or y j (pos 0) +ℤ a) = rw eu (exchanged-first y m.0 m.1 a (rw (len, ← eu) lj) at.apart) in
@@ -209,16 +209,16 @@ module _ (terms : List Meaning) (rows : List (List ℤ)) (n : ℕ) (q : ℤ) (lo
 
     -- the row of term i after the walk move
     pub row_is_moved : (from : ℕ) (steps : List Step) (moves : List (ℕ × ℕ)) (after : List (List ℤ)) → Follows i from steps moves → IsWalkMove terms rows from steps a after
-        → row_at after i ≡ moved (row_at rows i) a moves
-    row_is_moved from steps moves after f w = ext_get_or (pos 0) (row_at after i) (moved (row_at rows i) a moves) (w.same_lengths i ∙ sym (length-moved (row_at rows i) a moves))
-        (λ j lj. let l : j < length (row_at rows i) = rw (← w.same_lengths i) lj in w.changed i j l ∙ sym (moved-at from steps moves f j l))
+        → base_at after i ≡ moved (base_at rows i) a moves
+    row_is_moved from steps moves after f w = ext_get_or (pos 0) (base_at after i) (moved (base_at rows i) a moves) (w.same_lengths i ∙ sym (length-moved (base_at rows i) a moves))
+        (λ j lj. let l : j < length (base_at rows i) = rw (← w.same_lengths i) lj in w.changed i j l ∙ sym (moved-at from steps moves f j l))
 
   -- after a move along a walk with fewest steps the rows are bases
   pub bases_after : (from : ℕ) (steps : List Step) (after : List (List ℤ)) → AllCanMove terms q rows from steps a → Fewest from steps → IsWalkMove terms rows from steps a after → AreBases q terms after
   bases_after from steps after h few w = bases-from_at q terms after (w.same_count ∙ bases-count q terms rows bases) each where
-    each : (i : ℕ) → i < length terms → (length (row_at after i) ≡ length (term_at terms i).places) × IsBase (times q (term_at terms i).value) (row_at after i)
+    each : (i : ℕ) → i < length terms → (length (base_at after i) ≡ length (term_at terms i).places) × IsBase (times q (term_at terms i).value) (base_at after i)
     each i li = at (follow i from steps h) where
-      at : (moves : List (ℕ × ℕ)) × Follows i from steps moves → (length (row_at after i) ≡ length (term_at terms i).places) × IsBase (times q (term_at terms i).value) (row_at after i)
+      at : (moves : List (ℕ × ℕ)) × Follows i from steps moves → (length (base_at after i) ≡ length (term_at terms i).places) × IsBase (times q (term_at terms i).value) (base_at after i)
       at (moves, f) =
           let same = row_is_moved i li from steps moves after f w in (
             w.same_lengths i ∙ (bases-at q terms rows i bases li).0,

@@ -6,7 +6,7 @@ use Rattle.std.proofs.lemmas.Int.{ints, clamps, by_lt_z}
 use Rattle.sfm_spec.specs.Sets.{AreDistinct}
 use Rattle.sfm_spec.specs.Terms.{times, IsBase, IsCapacity, exchanged}
 use Rattle.sfm_spec.specs.Families.{Meaning, AreTerms, AreBases, rest_at, deficit}
-use Rattle.sfm_spec.specs.Walks.{Step, term_at, row_at, CanMove, IsWalkMove, AllCanMove, MovesAlong, IsWalkChain, last_of, change_at}
+use Rattle.sfm_spec.specs.Walks.{Step, term_at, base_at, CanMove, IsWalkMove, AllCanMove, MovesAlong, IsWalkChain, last_of, change_at}
 use Rattle.sfm_spec.specs.Labels.{FallsAlong, HasFull}
 use Rattle.sfm_spec.proofs.Sums.{length-exchanged}
 use Rattle.sfm_spec.proofs.Walks.{terms-at, bases-at}
@@ -22,9 +22,9 @@ move_none terms rows at a = record { same_count = refl; same_lengths = λ i. ref
 
 -- after the steps behind it, the exchange of one step more
 pub move_more : (terms : List Meaning) (rows mid : List (List ℤ)) (from : ℕ) (step : Step) (back : List Step) (a : ℤ) (u v : ℕ) → AreDistinct (term_at terms step.term).places
-    → length (row_at rows step.term) ≡ length (term_at terms step.term).places → u < length (term_at terms step.term).places → v < length (term_at terms step.term).places → u ≢ v
+    → length (base_at rows step.term) ≡ length (term_at terms step.term).places → u < length (term_at terms step.term).places → v < length (term_at terms step.term).places → u ≢ v
     → get_or (term_at terms step.term).places u 0 ≡ from → get_or (term_at terms step.term).places v 0 ≡ step.to → step.term < length rows
-    → IsWalkMove terms rows step.to back a mid → IsWalkMove terms rows from (step ∷ back) a (set mid step.term (exchanged (row_at mid step.term) u v a))
+    → IsWalkMove terms rows step.to back a mid → IsWalkMove terms rows from (step ∷ back) a (set mid step.term (exchanged (base_at mid step.term) u v a))
 move_more terms rows mid from step back a u v distinct sized lu lv apart begins ends li w = record {
   same_count = length-set mid i y ∙ w.same_count;
   same_lengths = λ k. lengths k (cases_eq k i);
@@ -34,7 +34,7 @@ move_more terms rows mid from step back a u v distinct sized lu lv apart begins 
   i = step.term
 
   y : List ℤ
-  y = exchanged (row_at mid i) u v a
+  y = exchanged (base_at mid i) u v a
 
   places : List ℕ
   places = (term_at terms i).places
@@ -42,44 +42,44 @@ move_more terms rows mid from step back a u v distinct sized lu lv apart begins 
   lm : i < length mid
   lm = rw w.same_count li
 
-  here : row_at (set mid i y) i ≡ y
+  here : base_at (set mid i y) i ≡ y
   here = get_or-set_same mid i y [] lm
 
-  there : (k : ℕ) → k ≢ i → row_at (set mid i y) k ≡ row_at mid k
+  there : (k : ℕ) → k ≢ i → base_at (set mid i y) k ≡ base_at mid k
   there k ne = get_or-set_other mid i k y [] ne
 
-  len : length (row_at mid i) ≡ length places
+  len : length (base_at mid i) ≡ length places
   len = w.same_lengths i ∙ sized
 
-  lengths : (k : ℕ) → (k ≡ i) ⊎ (k ≢ i) → length (row_at (set mid i y) k) ≡ length (row_at rows k)
-  lengths k (inl e) = rw e (ap length here ∙ (length-exchanged (row_at mid i) u v a ∙ w.same_lengths i))
+  lengths : (k : ℕ) → (k ≡ i) ⊎ (k ≢ i) → length (base_at (set mid i y) k) ≡ length (base_at rows k)
+  lengths k (inl e) = rw e (ap length here ∙ (length-exchanged (base_at mid i) u v a ∙ w.same_lengths i))
   lengths k (inr ne) = ap length (there k ne) ∙ w.same_lengths k
 
   apart_from : (j p : ℕ) → j < length places → p < length places → j ≢ p → (e : ℕ) → get_or places p 0 ≡ e → nat_eq e (get_or places j 0) ≡ false
   apart_from j p lj lp ne e at = ne_eqb e (get_or places j 0) (λ same. ne (distinct j p lj lp (sym same ∙ sym at)))
 
   entry : (j : ℕ) → j < length places → (j ≡ u) ⊎ (j ≢ u) → (j ≡ v) ⊎ (j ≢ v)
-      → get_or y j (pos 0) ≡ (get_or (row_at mid i) j (pos 0) +ℤ ((if nat_eq from (get_or places j 0) then a else pos 0) -ℤ (if nat_eq step.to (get_or places j 0) then a else pos 0)))
+      → get_or y j (pos 0) ≡ (get_or (base_at mid i) j (pos 0) +ℤ ((if nat_eq from (get_or places j 0) then a else pos 0) -ℤ (if nat_eq step.to (get_or places j 0) then a else pos 0)))
   entry j lj (inl eu) (inl ev) = absurd (apart (sym eu ∙ ev))
   entry j lj (inl eu) (inr nv) =
-      let r : get_or y j (pos 0) ≡ (get_or (row_at mid i) j (pos 0) +ℤ a) = rw eu (exchanged-first (row_at mid i) u v a (rw len lu) apart) in
+      let r : get_or y j (pos 0) ≡ (get_or (base_at mid i) j (pos 0) +ℤ a) = rw eu (exchanged-first (base_at mid i) u v a (rw len lu) apart) in
       let yes' : nat_eq from (get_or places j 0) ≡ true = eq-eqb from (get_or places j 0) (sym begins ∙ ap (λ z. get_or places z 0) (sym eu)) in
       rw (yes', apart_from j v lj lv nv step.to ends) (omega (arith, ints, r))
   entry j lj (inr nu) (inl ev) =
-      let r : get_or y j (pos 0) ≡ (get_or (row_at mid i) j (pos 0) -ℤ a) = rw ev (exchanged-second (row_at mid i) u v a (rw len lv)) in
+      let r : get_or y j (pos 0) ≡ (get_or (base_at mid i) j (pos 0) -ℤ a) = rw ev (exchanged-second (base_at mid i) u v a (rw len lv)) in
       let yes' : nat_eq step.to (get_or places j 0) ≡ true = eq-eqb step.to (get_or places j 0) (sym ends ∙ ap (λ z. get_or places z 0) (sym ev)) in
       rw (yes', apart_from j u lj lu nu from begins) (omega (arith, ints, r))
   entry j lj (inr nu) (inr nv) =
-      let r = exchanged-other (row_at mid i) u v j a nu nv in
+      let r = exchanged-other (base_at mid i) u v j a nu nv in
       rw (apart_from j u lj lu nu from begins, apart_from j v lj lv nv step.to ends) (omega (arith, ints, r))
 
-  changes : (k j : ℕ) → j < length (row_at rows k) → (k ≡ i) ⊎ (k ≢ i)
-      → get_or (row_at (set mid i y) k) j (pos 0) ≡ (get_or (row_at rows k) j (pos 0) +ℤ change_at from (step ∷ back) k (get_or (term_at terms k).places j 0) a)
+  changes : (k j : ℕ) → j < length (base_at rows k) → (k ≡ i) ⊎ (k ≢ i)
+      → get_or (base_at (set mid i y) k) j (pos 0) ≡ (get_or (base_at rows k) j (pos 0) +ℤ change_at from (step ∷ back) k (get_or (term_at terms k).places j 0) a)
   changes k j l (inr ne) =
       let c = w.changed k j l in
       rw (there k ne, ne_eqb i k (λ e. ne (sym e))) (omega (arith, ints, c))
-  changes k j l (inl e) = subst (λ z. get_or (row_at (set mid i y) z) j (pos 0) ≡ (get_or (row_at rows z) j (pos 0) +ℤ change_at from (step ∷ back) z (get_or (term_at terms z).places j 0) a)) (sym e) (at_i (rw e at l)) where
-    at_i : j < length (row_at rows i) → get_or (row_at (set mid i y) i) j (pos 0) ≡ (get_or (row_at rows i) j (pos 0) +ℤ change_at from (step ∷ back) i (get_or places j 0) a)
+  changes k j l (inl e) = subst (λ z. get_or (base_at (set mid i y) z) j (pos 0) ≡ (get_or (base_at rows z) j (pos 0) +ℤ change_at from (step ∷ back) z (get_or (term_at terms z).places j 0) a)) (sym e) (at_i (rw e at l)) where
+    at_i : j < length (base_at rows i) → get_or (base_at (set mid i y) i) j (pos 0) ≡ (get_or (base_at rows i) j (pos 0) +ℤ change_at from (step ∷ back) i (get_or places j 0) a)
     at_i lr =
         let c = w.changed i j lr in
         let r = entry j (rw (← sized) lr) (cases_eq j u) (cases_eq j v) in
@@ -157,7 +157,7 @@ deficit_at_place (suc n) z (suc e) l = let r = deficit_at_place n (λ e. z (suc 
 -- a step whose capacity is the amount cannot move more
 pub full_by_capacity : (terms : List Meaning) (q : ℤ) (rows : List (List ℤ)) (from : ℕ) (step : Step) (u v : ℕ) (a : ℤ) → AreDistinct (term_at terms step.term).places
     → u < length (term_at terms step.term).places → v < length (term_at terms step.term).places → get_or (term_at terms step.term).places u 0 ≡ from → get_or (term_at terms step.term).places v 0 ≡ step.to
-    → IsCapacity (times q (term_at terms step.term).value) (row_at rows step.term) u v a → CanMove terms q rows from step (a +ℤ pos 1) → ⊥
+    → IsCapacity (times q (term_at terms step.term).value) (base_at rows step.term) u v a → CanMove terms q rows from step (a +ℤ pos 1) → ⊥
 full_by_capacity terms q rows from step u v a distinct lu lv begins ends capacity c =
     let eu : c.u ≡ u = distinct c.u u c.u_in lu (c.begins ∙ sym begins) in
     let ev : c.v ≡ v = distinct c.v v c.v_in lv (c.ends ∙ sym ends) in
@@ -170,11 +170,11 @@ module _ (terms : List Meaning) (rows : List (List ℤ)) (n : ℕ) (q : ℤ) (lo
   one_more from step c =
       at (base_or_not (family terms rows n q low fit bases a one step.term c.in_range) (law terms rows n q low fit bases a one step.term c.in_range) (base terms rows n q low fit bases a one step.term c.in_range) a one
       c.u c.v (a +ℤ pos 1) (rw sized c.u_in) (rw sized c.v_in) c.apart (omega (arith, ints, one))) where
-        sized : length (row_at rows step.term) ≡ length (term_at terms step.term).places
+        sized : length (base_at rows step.term) ≡ length (term_at terms step.term).places
         sized = (bases-at q terms rows step.term bases c.in_range).0
 
         More : Type 0
-        More = IsBase (times q (term_at terms step.term).value) (exchanged (row_at rows step.term) c.u c.v (a +ℤ pos 1))
+        More = IsBase (times q (term_at terms step.term).value) (exchanged (base_at rows step.term) c.u c.v (a +ℤ pos 1))
 
         distinct : AreDistinct (term_at terms step.term).places
         distinct = (terms-at n terms step.term fit c.in_range).placed.distinct

@@ -4,7 +4,7 @@ use Rattle.std.proofs.lemmas.Bool.{both_ways, cases_eq}
 use Rattle.sfm_spec.specs.Sets.{Has}
 use Rattle.sfm_spec.specs.Terms.{times, IsFamily, IsSubmodular, IsBase, HasRoom}
 use Rattle.sfm_spec.specs.Families.{Meaning, IsTerm, AreTerms, AreBases}
-use Rattle.sfm_spec.specs.Walks.{Step, term_at, row_at, IsStep}
+use Rattle.sfm_spec.specs.Walks.{Step, term_at, base_at, IsStep}
 use Rattle.sfm_spec.specs.Reach.{IsClosed, IsReached, IsReachedSet}
 use Rattle.sfm_spec.proofs.Sets.{has_or_not}
 use Rattle.sfm_spec.proofs.Scaled.{family-times, submodular-times}
@@ -33,7 +33,7 @@ module _ (terms : List Meaning) (rows : List (List ℤ)) (n : ℕ) (q : ℤ) (lo
 
   -- within one term, from u to v
   Stays : List Bool → ℕ → ℕ → ℕ → Type 0
-  Stays s i u v = u ≢ v → Has s (get_or (term_at terms i).places u 0) → HasRoom (times q (term_at terms i).value) (row_at rows i) u v → Has s (get_or (term_at terms i).places v 0)
+  Stays s i u v = u ≢ v → Has s (get_or (term_at terms i).places u 0) → HasRoom (times q (term_at terms i).value) (base_at rows i) u v → Has s (get_or (term_at terms i).places v 0)
 
   one_pair : (s : List Bool) (i u v : ℕ) → i < length terms → u < length (term_at terms i).places → v < length (term_at terms i).places → Stays s i u v ⊎ Leaves s
   unfolding Stays Leaves
@@ -48,7 +48,7 @@ module _ (terms : List Meaning) (rows : List (List ℤ)) (n : ℕ) (q : ℤ) (lo
       l : IsTerm n t
       l = terms-at n terms i fit li
 
-      b : (length (row_at rows i) ≡ length t.places) × IsBase (times q t.value) (row_at rows i)
+      b : (length (base_at rows i) ≡ length t.places) × IsBase (times q t.value) (base_at rows i)
       b = bases-at q terms rows i bases li
 
       family : IsFamily (length t.places) (times q t.value)
@@ -57,7 +57,7 @@ module _ (terms : List Meaning) (rows : List (List ℤ)) (n : ℕ) (q : ℤ) (lo
       law : IsSubmodular (length t.places) (times q t.value)
       law = submodular-times (length t.places) q t.value low l.submodular
 
-      by_room : HasRoom (times q t.value) (row_at rows i) u v ⊎ ((r : List Bool) × TightSet family law b.0 b.1 r × Has r u × (get_or r v false ≡ false)) → Stays s i u v ⊎ Leaves s
+      by_room : HasRoom (times q t.value) (base_at rows i) u v ⊎ ((r : List Bool) × TightSet family law b.0 b.1 r × Has r u × (get_or r v false ≡ false)) → Stays s i u v ⊎ Leaves s
       by_room (inl (a, least, moved)) = inr (
         get_or t.places u 0,
         record { to = get_or t.places v 0; term = i },

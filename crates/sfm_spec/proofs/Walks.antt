@@ -5,7 +5,7 @@ use Rattle.std.proofs.lemmas.List.{length-append, length-map, get_or-map, get_or
 use Rattle.sfm_spec.specs.Sets.{Has, part, IsWithin}
 use Rattle.sfm_spec.specs.Terms.{times, IsBase, IsTight, TightLaws}
 use Rattle.sfm_spec.specs.Families.{Meaning, IsTerm, AreTerms, AreBases, AreTight}
-use Rattle.sfm_spec.specs.Walks.{Step, term_at, row_at, IsStep, AreSteps, IsWalk, last_of}
+use Rattle.sfm_spec.specs.Walks.{Step, term_at, base_at, IsStep, AreSteps, IsWalk, last_of}
 use Rattle.sfm_spec.specs.Reach.{HoldsRooms, IsClosed, IsReached, IsReachedSet}
 use Rattle.sfm_spec.proofs.Scaled.{family-times, submodular-times}
 use Rattle.sfm_spec.proofs.Tight.{tight_laws}
@@ -20,21 +20,21 @@ terms-at n (t ∷ ts) (suc i) h l = terms-at n ts i h.1 (omega arith)
 
 -- row i is a base of term i
 pub bases-at : (q : ℤ) (terms : List Meaning) (rows : List (List ℤ)) (i : ℕ) → AreBases q terms rows → i < length terms
-    → (length (row_at rows i) ≡ length (term_at terms i).places) × IsBase (times q (term_at terms i).value) (row_at rows i)
+    → (length (base_at rows i) ≡ length (term_at terms i).places) × IsBase (times q (term_at terms i).value) (base_at rows i)
 bases-at q [] rows i h l = absurd (omega arith)
 bases-at q (t ∷ ts) [] i h l = absurd h
 bases-at q (t ∷ ts) (x ∷ rows) zero h l = (h.0, h.1)
 bases-at q (t ∷ ts) (x ∷ rows) (suc i) h l = bases-at q ts rows i h.2 (omega arith)
 
 tight-at : (q : ℤ) (terms : List Meaning) (rows : List (List ℤ)) (s : List Bool) (i : ℕ) → AreTight q terms rows s → i < length terms
-    → IsTight (times q (term_at terms i).value) (row_at rows i) (part (term_at terms i).places s)
+    → IsTight (times q (term_at terms i).value) (base_at rows i) (part (term_at terms i).places s)
 tight-at q [] rows s i h l = absurd (omega arith)
 tight-at q (t ∷ ts) [] s i h l = absurd h
 tight-at q (t ∷ ts) (x ∷ rows) s zero h l = h.0
 tight-at q (t ∷ ts) (x ∷ rows) s (suc i) h l = tight-at q ts rows s i h.1 (omega arith)
 
 tight-from_at : (q : ℤ) (terms : List Meaning) (rows : List (List ℤ)) (s : List Bool) → AreBases q terms rows
-    → ((i : ℕ) → i < length terms → IsTight (times q (term_at terms i).value) (row_at rows i) (part (term_at terms i).places s)) → AreTight q terms rows s
+    → ((i : ℕ) → i < length terms → IsTight (times q (term_at terms i).value) (base_at rows i) (part (term_at terms i).places s)) → AreTight q terms rows s
 tight-from_at q [] rows s b h = tt
 tight-from_at q (t ∷ ts) [] s b h = absurd b
 tight-from_at q (t ∷ ts) (x ∷ rows) s b h = (h 0 (omega arith), tight-from_at q ts rows s b.2 (λ i l. h (suc i) (omega arith)))
@@ -109,7 +109,7 @@ reached_within terms n q rows IsFirst r s set closed firsts below e has = at (se
   at (inr (first, steps, is_first, walk, ends)) = rw (← ends) (walk_inside terms q rows s closed first steps walk.steps_fit (firsts first (below first steps walk) is_first))
 
 module _ (terms : List Meaning) (rows : List (List ℤ)) (n : ℕ) (q : ℤ) (low : pos 0 ≤ℤ q) (fit : AreTerms n terms) (bases : AreBases q terms rows) where
-  laws-at : (i : ℕ) → i < length terms → TightLaws (times q (term_at terms i).value) (row_at rows i)
+  laws-at : (i : ℕ) → i < length terms → TightLaws (times q (term_at terms i).value) (base_at rows i)
   laws-at i l =
       let t = terms-at n terms i fit l in
       let b = bases-at q terms rows i bases l in
@@ -140,7 +140,7 @@ module _ (terms : List Meaning) (rows : List (List ℤ)) (n : ℕ) (q : ℤ) (lo
   -- where no step leaves s, its part in each term is tight
   pub closed_tight_set : (s : List Bool) → IsClosed terms q rows s → AreTight q terms rows s
   closed_tight_set s closed = tight-from_at q terms rows s bases at where
-    at : (i : ℕ) → i < length terms → IsTight (times q (term_at terms i).value) (row_at rows i) (part (term_at terms i).places s)
+    at : (i : ℕ) → i < length terms → IsTight (times q (term_at terms i).value) (base_at rows i) (part (term_at terms i).places s)
     at i l =
         let t = term_at terms i in
         let b = bases-at q terms rows i bases l in

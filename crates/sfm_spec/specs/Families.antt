@@ -79,28 +79,28 @@ abbrev pub meanings : {X : Type 0} → (X → List ℕ) → (X → SetFunction) 
 meanings places value [] = []
 meanings places value (x ∷ xs) = record { places = places x; value = value x } ∷ meanings places value xs
 
--- what a term's row gives the ground place e
+-- what a term's base gives the ground place e
 abbrev pub entry_at : List ℕ → List ℤ → ℕ → ℤ
 entry_at [] x e = pos 0
 entry_at (place ∷ places) [] e = pos 0
 entry_at (place ∷ places) (a ∷ x) e = (if nat_eq place e then a else pos 0) +ℤ entry_at places x e
 
--- the sum of the rows at e
-abbrev pub rows_at : List Meaning → List (List ℤ) → ℕ → ℤ
-rows_at [] rows e = pos 0
-rows_at (term ∷ terms) [] e = pos 0
-rows_at (term ∷ terms) (x ∷ rows) e = entry_at term.places x e +ℤ rows_at terms rows e
+-- the sum of the bases at e
+abbrev pub base_sum_at : List Meaning → List (List ℤ) → ℕ → ℤ
+base_sum_at [] bases e = pos 0
+base_sum_at (term ∷ terms) [] e = pos 0
+base_sum_at (term ∷ terms) (x ∷ bases) e = entry_at term.places x e +ℤ base_sum_at terms bases e
 
--- z: the sum of the rows at e, less the shift there
+-- z: the sum of the bases at e, less the shift there
 abbrev pub rest_at : List Meaning → List (List ℤ) → List ℤ → ℕ → ℤ
-rest_at terms rows shift e = rows_at terms rows e -ℤ slice_index_or shift e (pos 0)
+rest_at terms bases shift e = base_sum_at terms bases e -ℤ slice_index_or shift e (pos 0)
 
 -- one base of q times each term
 abbrev pub AreBases : ℤ → List Meaning → List (List ℤ) → Type 0
 AreBases q [] [] = Unit {0}
-AreBases q [] (x ∷ rows) = ⊥
+AreBases q [] (x ∷ bases) = ⊥
 AreBases q (term ∷ terms) [] = ⊥
-AreBases q (term ∷ terms) (x ∷ rows) = (length x ≡ length term.places) × IsBase (times q term.value) x × AreBases q terms rows
+AreBases q (term ∷ terms) (x ∷ bases) = (length x ≡ length term.places) × IsBase (times q term.value) x × AreBases q terms bases
 
 -- the sum of min(z(e), 0) over the first n places
 abbrev pub deficit : ℕ → (ℕ → ℤ) → ℤ
@@ -109,7 +109,7 @@ deficit (suc n) z = int_min (z 0) (pos 0) +ℤ deficit n (λ e. z (suc e))
 
 -- the bases prove the least value: the sum of min(z(e), 0) is the value of a minimiser
 abbrev pub Prove : List Meaning → ℕ → ℤ → List ℤ → List (List ℤ) → Type 0
-Prove terms n q shift rows = (s : List Bool) × IsMinimiser terms n q shift s × (shifted_at terms q shift s ≡ deficit n (rest_at terms rows shift))
+Prove terms n q shift bases = (s : List Bool) × IsMinimiser terms n q shift s × (shifted_at terms q shift s ≡ deficit n (rest_at terms bases shift))
 
 -- s has all places with z < 0 and none with z > 0
 pub record IsSigned (n : ℕ) (z : ℕ → ℤ) (s : List Bool) : Type 0 where
@@ -118,6 +118,6 @@ pub record IsSigned (n : ℕ) (z : ℕ → ℤ) (s : List Bool) : Type 0 where
 
 -- the part of s in each term is tight
 abbrev pub AreTight : ℤ → List Meaning → List (List ℤ) → List Bool → Type 0
-AreTight q [] rows s = Unit {0}
+AreTight q [] bases s = Unit {0}
 AreTight q (term ∷ terms) [] s = ⊥
-AreTight q (term ∷ terms) (x ∷ rows) s = IsTight (times q term.value) x (part term.places s) × AreTight q terms rows s
+AreTight q (term ∷ terms) (x ∷ bases) s = IsTight (times q term.value) x (part term.places s) × AreTight q terms bases s

@@ -8,21 +8,21 @@ use Rattle.sfm_spec.specs.Walks.{Step, Joins, IsWalkMove, CanMove, last_of}
 -- minimisers from bases: the bases prove exactly where no walk joins; where they prove, the minimisers are the sets
 -- that have all places with z < 0 and none with z > 0, with a tight part in each term, and the union and the intersection
 -- of two of them are minimisers
-pub record BaseLaws (terms : List Meaning) (n : ℕ) (q : ℤ) (shift : List ℤ) (rows : List (List ℤ)) : Type 0 where
-  pub exact : Prove terms n q shift rows ↔ ((first : ℕ) (steps : List Step) → Joins terms q shift rows first steps → ⊥)
-  pub minimisers : Prove terms n q shift rows → (s : List Bool) → length s ≡ n
-      → IsMinimiser terms n q shift s ↔ (IsSigned n (rest_at terms rows shift) s × AreTight q terms rows s)
-  pub unions : Prove terms n q shift rows → (s t : List Bool) → IsMinimiser terms n q shift s → IsMinimiser terms n q shift t → IsMinimiser terms n q shift (union s t)
-  pub intersections : Prove terms n q shift rows → (s t : List Bool) → IsMinimiser terms n q shift s → IsMinimiser terms n q shift t → IsMinimiser terms n q shift (intersection s t)
+pub record BaseLaws (terms : List Meaning) (n : ℕ) (q : ℤ) (shift : List ℤ) (bases : List (List ℤ)) : Type 0 where
+  pub exact : Prove terms n q shift bases ↔ ((first : ℕ) (steps : List Step) → Joins terms q shift bases first steps → ⊥)
+  pub minimisers : Prove terms n q shift bases → (s : List Bool) → length s ≡ n
+      → IsMinimiser terms n q shift s ↔ (IsSigned n (rest_at terms bases shift) s × AreTight q terms bases s)
+  pub unions : Prove terms n q shift bases → (s t : List Bool) → IsMinimiser terms n q shift s → IsMinimiser terms n q shift t → IsMinimiser terms n q shift (union s t)
+  pub intersections : Prove terms n q shift bases → (s t : List Bool) → IsMinimiser terms n q shift s → IsMinimiser terms n q shift t → IsMinimiser terms n q shift (intersection s t)
 
 -- order of exchanges: along a joining shortest walk, from its last step to its first, each step can still move a after
--- the steps behind it have moved; the rows afterwards are bases, and the deficit rises by exactly a
-pub record MoveLaws (terms : List Meaning) (n : ℕ) (q : ℤ) (shift : List ℤ) (rows : List (List ℤ)) (first : ℕ) (steps : List Step) (a : ℤ) : Type 0 where
+-- the steps behind it have moved; what there is afterwards are bases, and the deficit rises by exactly a
+pub record MoveLaws (terms : List Meaning) (n : ℕ) (q : ℤ) (shift : List ℤ) (before : List (List ℤ)) (first : ℕ) (steps : List Step) (a : ℤ) : Type 0 where
   pub in_order : (front back : List Step) (step : Step) (mid : List (List ℤ)) → steps ≡ front ++ step ∷ back
-      → IsWalkMove terms rows step.to back a mid → CanMove terms q mid (last_of first front) step a
-  pub bases : (after : List (List ℤ)) → IsWalkMove terms rows first steps a after → AreBases q terms after
-  pub gains : (after : List (List ℤ)) → IsWalkMove terms rows first steps a after
-      → deficit n (rest_at terms after shift) ≡ (deficit n (rest_at terms rows shift) +ℤ a)
+      → IsWalkMove terms before step.to back a mid → CanMove terms q mid (last_of first front) step a
+  pub bases : (after : List (List ℤ)) → IsWalkMove terms before first steps a after → AreBases q terms after
+  pub gains : (after : List (List ℤ)) → IsWalkMove terms before first steps a after
+      → deficit n (rest_at terms after shift) ≡ (deficit n (rest_at terms before shift) +ℤ a)
 
 -- slopes: the minimisers at a lower slope lie within those at a higher one
 abbrev pub SlopesNest : List Meaning → ℕ → List ℤ → Type 0

@@ -12,11 +12,11 @@ ghost use Rattle.sfm_text.specs.Adding.{IsTermAdded, IsTermRefusal};
 ghost use Rattle.sfm_text.specs.declared.stage.Stage.TheVariants.{Terms};
 ghost use Rattle.sfm_text.specs.declared.word.TermWord.{TermWord};
 
-use crate::cut::{first_token, tokens};
 use crate::line_fault::LineEnd;
 use crate::long_line::early_reason;
 use crate::reason::Reason;
 use crate::term_line::read_term;
+use crate::tokens::{first_token, tokens};
 use crate::word::{TermWord, term_word};
 use sfm_kind::{Instance, Kind};
 use sfm_law::Term;

@@ -4,7 +4,6 @@
 mod added;
 mod concave_line;
 mod cover_line;
-mod cut;
 mod cut_line;
 mod end;
 mod graphic_line;
@@ -33,15 +32,16 @@ mod stage;
 mod table_line;
 mod term_line;
 mod token_test;
+mod tokens;
 mod transversal_line;
 mod uniform_line;
 mod weight_line;
 mod word;
 
 pub use added::add_line;
-pub use cut::token;
 pub use end::TextEnd;
 pub use line_fault::LineEnd;
 pub use lines::content_lines;
 pub use reader::{Reader, TEXT_LIMIT, read_instance, read_pieces};
 pub use reason::Reason;
+pub use tokens::token;

@@ -5,7 +5,7 @@ ghost use Rattle.std.specs.Str.Lines.{strip_carriage_return};
 ghost use Rattle.std.specs.List.{All, position_or_len};
 ghost use Rattle.sfm_text.specs.Lines.{span_of, content_of, LiesIn};
 
-use crate::cut::is_skipped;
+use crate::tokens::is_skipped;
 use sfm_base::Memory;
 use std::alloc::Global;
 

@@ -8,11 +8,11 @@ ghost use Rattle.sfm_text.specs.Passes.{IsReasonOf};
 ghost use Rattle.sfm_text.specs.declared.word.TermWord.TheVariants.{WeightWord, CoverWord, ConcaveWord};
 
 use crate::concave_line::is_concave_count;
-use crate::cut::{first_token, has_token};
 use crate::long_rank::rank_reason;
 use crate::passes::{all_hold, colon_cut, first_hold, has_mark_in, token_count};
 use crate::reason::Reason;
 use crate::token_test::{TokenTest, is_number_of};
+use crate::tokens::{first_token, has_token};
 use crate::word::TermWord;
 use sfm_kind::Instance;
 

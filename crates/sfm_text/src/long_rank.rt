@@ -7,11 +7,11 @@ ghost use Rattle.sfm_text.specs.Parts.{LineParts, IsCutAtColon, IsUniformLine};
 ghost use Rattle.sfm_text.specs.Passes.{IsReasonOf, IsRankNamed, HasLabels, label_word};
 ghost use Rattle.sfm_text.specs.declared.word.TermWord.TheVariants.{RankWord};
 
-use crate::cut::first_token;
 use crate::mark::is_mark;
 use crate::passes::{all_hold, has_mark_in, is_colon};
 use crate::reason::Reason;
 use crate::token_test::{TokenTest, is_number_of};
+use crate::tokens::first_token;
 use crate::word::{RankKind, TermWord};
 use sfm_kind::Instance;
 

@@ -8,9 +8,9 @@ ghost use Rattle.sfm_text.specs.Parts.{IsMark, AreUnmarked, IsCutAtColon};
 ghost use Rattle.sfm_text.specs.TermLines.{StandsTwice};
 ghost use Rattle.sfm_text.specs.Passes.{Holds, Fails, IsKept};
 
-use crate::cut::first_token;
 use crate::mark::is_mark;
 use crate::token_test::{TokenTest, holds};
+use crate::tokens::first_token;
 use indexmap::IndexSet;
 use sfm_base::Memory;
 use sfm_kind::{Instance, is_name};

@@ -10,12 +10,12 @@ ghost use Rattle.sfm_text.specs.ReadParts.{BeginsEnd};
 ghost use Rattle.sfm_text.specs.GoodText.{text_limit};
 
 use crate::added::{add_line, are_good_bytes};
-use crate::cut::{first_token, has_token, is_skipped, token, tokens};
 use crate::line_fault::LineEnd;
 use crate::lines::without_return;
 use crate::passes::{are_names_in, has_mark_in, has_repeat_in};
 use crate::reason::Reason;
 use crate::stage::Stage;
+use crate::tokens::{first_token, has_token, is_skipped, token, tokens};
 use sfm_base::Memory;
 use sfm_kind::Instance;
 use std::alloc::Global;

@@ -7,7 +7,7 @@ use Rattle.sfm_spec.specs.Terms.{exchanged}
 use Rattle.sfm_spec.specs.Families.{Meaning, AreTerms, AreBases, rest_at, deficit}
 use Rattle.sfm_spec.specs.Laws.{MoveLaws}
 use Rattle.sfm_spec.specs.Progress.{IsProgress}
-use Rattle.sfm_spec.specs.Walks.{term_at, row_at, IsWalkMove, AllCanMove, last_of}
+use Rattle.sfm_spec.specs.Walks.{term_at, base_at, IsWalkMove, AllCanMove, last_of}
 use Rattle.sfm_spec.proofs.Walks.{terms-at}
 use Rattle.sfm_spec.proofs.LeastWalks.{least_progress}
 use Rattle.sfm_spec.proofs.Moves.{change_small, full_by_greatest, deficit_at_place}
@@ -115,10 +115,10 @@ module _ {terms : List Meaning} {n : ℕ} {q : ℤ} {shift : List ℤ} {rows : L
     spread after moved b small =
         let gain = laws.gains after moved in
         All-from_get_or (λ x. All (IsUpTo (b +ℤ (deficit n (rest_at terms after shift) -ℤ deficit n (rest_at terms rows shift)))) x) after [] (λ i li.
-        All-from_get_or (IsUpTo (b +ℤ (deficit n (rest_at terms after shift) -ℤ deficit n (rest_at terms rows shift)))) (row_at after i) (pos 0) (λ j lj.
+        All-from_get_or (IsUpTo (b +ℤ (deficit n (rest_at terms after shift) -ℤ deficit n (rest_at terms rows shift)))) (base_at after i) (pos 0) (λ j lj.
         let li' : i < length rows = rw moved.same_count at li in
-        let lj' : j < length (row_at rows i) = rw (moved.same_lengths i) at lj in
+        let lj' : j < length (base_at rows i) = rw (moved.same_lengths i) at lj in
         let c = moved.changed i j lj' in
         let s = change_small d first (steps_of hops) i (get_or (term_at terms i).places j 0) a (omega (arith, ints, one)) w.falls in
-        let o : IsUpTo b (get_or (row_at rows i) j (pos 0)) = All-get_or (IsUpTo b) (row_at rows i) j (pos 0) lj' (All-get_or (λ x. All (IsUpTo b) x) rows i [] li' small) in
+        let o : IsUpTo b (get_or (base_at rows i) j (pos 0)) = All-get_or (IsUpTo b) (base_at rows i) j (pos 0) lj' (All-get_or (λ x. All (IsUpTo b) x) rows i [] li' small) in
         record { low = omega (arith, ints, c, s, o.low, gain); high = omega (arith, ints, c, s, o.high, gain) }))

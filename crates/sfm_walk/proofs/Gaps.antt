@@ -9,7 +9,7 @@ use Rattle.std.proofs.lemmas.List.Sums.{sum_by-cons}
 use Rattle.sfm_spec.specs.Sets.{magnitudes}
 use Rattle.sfm_spec.specs.Bounds.{IsAtMost}
 use Rattle.sfm_spec.specs.Terms.{SetFunction}
-use Rattle.sfm_spec.specs.Families.{meanings, entry_at, rows_at, rest_at, deficit}
+use Rattle.sfm_spec.specs.Families.{meanings, entry_at, base_sum_at, rest_at, deficit}
 
 deficit-same : (n : ℕ) (f g : ℕ → ℤ) → ((e : ℕ) → f e ≡ g e) → deficit n f ≡ deficit n g
 deficit-same zero f g h = refl
@@ -52,14 +52,14 @@ entries-low n (p ∷ places) (a ∷ x) h =
 
 -- the rows of all terms
 rows-low : {X : Type 0} (n : ℕ) (places : X → List ℕ) (value : X → SetFunction) (xs : List X) (rows : List (List ℤ)) → All (λ x. All (IsAtMost (10 ^ 25)) x) rows
-    → neg_ℤ (pos (10 ^ 25 * sum (map length (map places xs)))) ≤ℤ deficit n (rows_at (meanings places value xs) rows)
-rows-low n places value [] rows h = let z = deficit-zero n in let s = deficit-same n (rows_at [] rows) (λ e. pos 0) (λ e. refl) in omega (arith, ints, z, s)
-rows-low n places value (y ∷ xs) [] h = let z = deficit-zero n in let s = deficit-same n (rows_at (meanings places value (y ∷ xs)) []) (λ e. pos 0) (λ e. refl) in omega (arith, ints, z, s)
+    → neg_ℤ (pos (10 ^ 25 * sum (map length (map places xs)))) ≤ℤ deficit n (base_sum_at (meanings places value xs) rows)
+rows-low n places value [] rows h = let z = deficit-zero n in let s = deficit-same n (base_sum_at [] rows) (λ e. pos 0) (λ e. refl) in omega (arith, ints, z, s)
+rows-low n places value (y ∷ xs) [] h = let z = deficit-zero n in let s = deficit-same n (base_sum_at (meanings places value (y ∷ xs)) []) (λ e. pos 0) (λ e. refl) in omega (arith, ints, z, s)
 rows-low n places value (y ∷ xs) (x ∷ rows) h =
     let one = entries-low n (places y) x (All-head (λ x. All (IsAtMost (10 ^ 25)) x) x rows h) in
     let r = rows-low n places value xs rows (All-tail (λ x. All (IsAtMost (10 ^ 25)) x) x rows h) in
-    let d = deficit-add n (entry_at (places y) x) (rows_at (meanings places value xs) rows) in
-    let s = deficit-same n (rows_at (meanings places value (y ∷ xs)) (x ∷ rows)) (λ e. entry_at (places y) x e +ℤ rows_at (meanings places value xs) rows e) (λ e. refl) in
+    let d = deficit-add n (entry_at (places y) x) (base_sum_at (meanings places value xs) rows) in
+    let s = deficit-same n (base_sum_at (meanings places value (y ∷ xs)) (x ∷ rows)) (λ e. entry_at (places y) x e +ℤ base_sum_at (meanings places value xs) rows e) (λ e. refl) in
     let total : sum (map length (map places (y ∷ xs))) ≡ length (places y) + sum (map length (map places xs)) = sum_by-cons (λ n. n) (length (places y)) (map length (map places xs)) in
     omega (arith, ints, one, r, d, s, total)
 
@@ -76,8 +76,8 @@ deficit_low places value xs rows shift h few small =
     let n = length shift in
     let r = rows-low n places value xs rows h in
     let s = shift-low shift in
-    let d = deficit-add n (rows_at (meanings places value xs) rows) (λ e. neg_ℤ (get_or shift e (pos 0))) in
-    let k = deficit-same n (rest_at (meanings places value xs) rows shift) (λ e. rows_at (meanings places value xs) rows e +ℤ neg_ℤ (get_or shift e (pos 0))) (λ e. omega (arith, ints)) in
+    let d = deficit-add n (base_sum_at (meanings places value xs) rows) (λ e. neg_ℤ (get_or shift e (pos 0))) in
+    let k = deficit-same n (rest_at (meanings places value xs) rows shift) (λ e. base_sum_at (meanings places value xs) rows e +ℤ neg_ℤ (get_or shift e (pos 0))) (λ e. omega (arith, ints)) in
     omega (arith, ints, r, s, d, k, few, small)
 
 -- what rises towards 0 has a lesser magnitude

@@ -7,7 +7,7 @@ use Rattle.sfm_spec.specs.Bounds.{IsAtMost}
 use Rattle.sfm_spec.specs.Terms.{SetFunction, IsFamily, IsSubmodular}
 use Rattle.sfm_spec.specs.Families.{meanings, rest_at, deficit, AreTerms, IsLeast, Prove}
 use Rattle.sfm_spec.specs.Progress.{IsProgress}
-use Rattle.sfm_spec.specs.Walks.{Step, Joins, row_at}
+use Rattle.sfm_spec.specs.Walks.{Step, Joins, base_at}
 use Rattle.sfm_spec.proofs.Gain.{moves_along}
 use Rattle.sfm_spec.proofs.Moves.{deficit_not_above}
 use Rattle.sfm_exchange.specs.declared.bits.Bits.{Bits}
@@ -31,14 +31,14 @@ pub record IsImproving {X N : Type 0} (places : X → List ℕ) (value : X → S
 
 -- entries of a bound that has not grown
 pub same_bound : (rows : List (List ℤ)) (b : ℤ) → All (λ x. All (IsAtMost (10 ^ 25)) x) rows → pos (10 ^ 25) ≤ℤ b → All (λ x. All (IsUpTo b) x) rows
-same_bound rows b h le = All-from_get_or (λ x. All (IsUpTo b) x) rows [] (λ i li. All-from_get_or (IsUpTo b) (row_at rows i) (pos 0) (λ j lj.
-    let o : IsAtMost (10 ^ 25) (get_or (row_at rows i) j (pos 0)) = All-get_or (IsAtMost (10 ^ 25)) (row_at rows i) j (pos 0) lj (All-get_or (λ x. All (IsAtMost (10 ^ 25)) x) rows i [] li h) in
+same_bound rows b h le = All-from_get_or (λ x. All (IsUpTo b) x) rows [] (λ i li. All-from_get_or (IsUpTo b) (base_at rows i) (pos 0) (λ j lj.
+    let o : IsAtMost (10 ^ 25) (get_or (base_at rows i) j (pos 0)) = All-get_or (IsAtMost (10 ^ 25)) (base_at rows i) j (pos 0) lj (All-get_or (λ x. All (IsAtMost (10 ^ 25)) x) rows i [] li h) in
     record { low = omega (arith, ints, o.low, le); high = omega (arith, ints, o.high, le) }))
 
 -- a bound as a number
 pub at_most : (m : ℕ) (rows : List (List ℤ)) (b : ℤ) → All (λ x. All (IsUpTo b) x) rows → b ≤ℤ pos m → All (λ x. All (IsAtMost m) x) rows
-at_most m rows b h le = All-from_get_or (λ x. All (IsAtMost m) x) rows [] (λ i li. All-from_get_or (IsAtMost m) (row_at rows i) (pos 0) (λ j lj.
-    let o : IsUpTo b (get_or (row_at rows i) j (pos 0)) = All-get_or (IsUpTo b) (row_at rows i) j (pos 0) lj (All-get_or (λ x. All (IsUpTo b) x) rows i [] li h) in
+at_most m rows b h le = All-from_get_or (λ x. All (IsAtMost m) x) rows [] (λ i li. All-from_get_or (IsAtMost m) (base_at rows i) (pos 0) (λ j lj.
+    let o : IsUpTo b (get_or (base_at rows i) j (pos 0)) = All-get_or (IsUpTo b) (base_at rows i) j (pos 0) lj (All-get_or (λ x. All (IsUpTo b) x) rows i [] li h) in
     record { low = omega (arith, ints, o.low, le); high = omega (arith, ints, o.high, le) }))
 
 -- a bound told otherwise

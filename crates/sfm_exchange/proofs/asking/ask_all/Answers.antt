@@ -6,7 +6,7 @@ use mir.Syntax.{w128}
 use Rattle.sfm_spec.specs.Sets.{AreDistinct}
 use Rattle.sfm_spec.specs.Terms.{SetFunction, times}
 use Rattle.sfm_spec.specs.Families.{Meaning, meanings}
-use Rattle.sfm_spec.specs.Walks.{row_at}
+use Rattle.sfm_spec.specs.Walks.{base_at}
 use Rattle.sfm_law.proofs.Lists.{meanings-at, length-meanings}
 use Rattle.sfm_exchange.specs.declared.bits.Bits.{Bits}
 use Rattle.sfm_exchange.specs.Reach.{IsReachTable, IsTable, table_at}
@@ -17,7 +17,7 @@ use Rattle.sfm_exchange.proofs.asking.ask_all.Goals as goal
 -- one term more is asked
 tables_more : {X : Type 0} (places : X → List ℕ) (value : X → SetFunction) (terms : List X) (q : ℤ) (bases : List (List ℤ)) (tables : List (List Bits)) (i : ℕ) (term : X) (rows : List Bits) → i < length terms → term ≡ get_or terms i term
     → i < length tables → AreDistinct (places term) → ((j : ℕ) → j < i → IsTable (meanings places value terms) q bases j (table_at tables j))
-    → IsReachTable (places term) (times q (value term)) (row_at bases i) (length (places term)) rows → (j : ℕ) → j < i + 1 → IsTable (meanings places value terms) q bases j (table_at (set tables i rows) j)
+    → IsReachTable (places term) (times q (value term)) (base_at bases i) (length (places term)) rows → (j : ℕ) → j < i + 1 → IsTable (meanings places value terms) q bases j (table_at (set tables i rows) j)
 tables_more places value terms q bases tables i term rows l is inside distinct before told j lj = at (cases_eq j i) where
   Right : ℕ → Type 0
   Right k = IsTable (meanings places value terms) q bases k (table_at (set tables i rows) k)
@@ -53,7 +53,7 @@ loop-i-preserved g c =
     let inside : i < length tables = omega (arith, inv.0.count, length-map terms t.places, l) in
     let e = c.in_ok-ask.ensures in
     let same = e.rows ∙ ap length (c.index_mut.ensures.value ∙ get_or_default tables i c.index_mut.result.now [] inside) in
-    let shown : c.row-x.result.now ≡ row_at c.args.bases.now i = c.row-x.ensures in
+    let shown : c.row-x.result.now ≡ base_at c.args.bases.now i = c.row-x.ensures in
     let told = simp to_z-of_z at (rw shown at e.asked) in
     let noted = rw shown at (simp to_z-of_z at e.noted) in
     let notes = c.loop-i.notes.items in

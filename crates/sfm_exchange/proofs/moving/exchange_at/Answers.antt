@@ -3,7 +3,7 @@ use Rattle.std.proofs.lemmas.Int.{to_z-of_z}
 use Rattle.std.proofs.lemmas.List.{get_or_default, take_at}
 use mir.Syntax.{w128}
 use Rattle.sfm_spec.specs.Terms.{times, exchanged}
-use Rattle.sfm_spec.specs.Walks.{row_at}
+use Rattle.sfm_spec.specs.Walks.{base_at}
 use Rattle.sfm_spec.proofs.Sums.{length-exchanged}
 use Rattle.sfm_exchange.specs.Based.{IsBased}
 use Rattle.sfm_exchange.specs.Reach.{IsReachTable, table_at}
@@ -19,8 +19,8 @@ moved-requires-clause-entries g c =
     let i = c.args.hop.term in
     let term = c.index-terms-i.result in
     let is = c.index-terms-i.is in
-    let shown : c.row_mut-x.result.now ≡ row_at c.args.graph.now.bases i = c.row_mut-x.ensures.value in
-    let b : IsBased t.places t.value_of t.size_of term c.args.q (row_at c.args.graph.now.bases i) = based r.graph i r.inside term is (size_low t.places t.value_of t.size_of m.submodular m.bounded) r.can.small in
+    let shown : c.row_mut-x.result.now ≡ base_at c.args.graph.now.bases i = c.row_mut-x.ensures.value in
+    let b : IsBased t.places t.value_of t.size_of term c.args.q (base_at c.args.graph.now.bases i) = based r.graph i r.inside term is (size_low t.places t.value_of t.size_of m.submodular m.bounded) r.can.small in
     rw shown b.entries
 
 pub moved-requires-clause-bounded : goal.moved-requires-clause-bounded
@@ -31,7 +31,7 @@ moved-requires-clause-bounded g c =
     let i = c.args.hop.term in
     let term = c.index-terms-i.result in
     let is = c.index-terms-i.is in
-    let b : IsBased t.places t.value_of t.size_of term c.args.q (row_at c.args.graph.now.bases i) = based r.graph i r.inside term is (size_low t.places t.value_of t.size_of m.submodular m.bounded) r.can.small in
+    let b : IsBased t.places t.value_of t.size_of term c.args.q (base_at c.args.graph.now.bases i) = based r.graph i r.inside term is (size_low t.places t.value_of t.size_of m.submodular m.bounded) r.can.small in
     b.bounded
 
 pub moved-requires-clause-base : goal.moved-requires-clause-base
@@ -43,8 +43,8 @@ moved-requires-clause-base g c =
     let i = c.args.hop.term in
     let term = c.index-terms-i.result in
     let is = c.index-terms-i.is in
-    let shown : c.row_mut-x.result.now ≡ row_at c.args.graph.now.bases i = c.row_mut-x.ensures.value in
-    let b : IsBased t.places t.value_of t.size_of term c.args.q (row_at c.args.graph.now.bases i) = based r.graph i r.inside term is (size_low t.places t.value_of t.size_of m.submodular m.bounded) r.can.small in
+    let shown : c.row_mut-x.result.now ≡ base_at c.args.graph.now.bases i = c.row_mut-x.ensures.value in
+    let b : IsBased t.places t.value_of t.size_of term c.args.q (base_at c.args.graph.now.bases i) = based r.graph i r.inside term is (size_low t.places t.value_of t.size_of m.submodular m.bounded) r.can.small in
     rw shown (simp to_z-of_z b.base)
 
 pub moved-requires-clause-room : goal.moved-requires-clause-room
@@ -53,7 +53,7 @@ moved-requires-clause-room g c =
     let fa : FitsSigned w128 c.args.a = c.ranges.a in
     let r = c.requires in
     let i = c.args.hop.term in
-    let shown : c.row_mut-x.result.now ≡ row_at c.args.graph.now.bases i = c.row_mut-x.ensures.value in
+    let shown : c.row_mut-x.result.now ≡ base_at c.args.graph.now.bases i = c.row_mut-x.ensures.value in
     let room = rw (means r.graph i r.inside c.index-terms-i.result c.index-terms-i.is) at r.can.room in
     simp to_z-of_z (rw shown room)
 
@@ -65,8 +65,8 @@ exchange-requires-clause-entries g c =
     let i = c.args.hop.term in
     let term = c.index-terms-i.result in
     let is = c.index-terms-i.is in
-    let shown : c.row_mut-x.result.now ≡ row_at c.args.graph.now.bases i = c.row_mut-x.ensures.value in
-    let b : IsBased t.places t.value_of t.size_of term c.args.q (row_at c.args.graph.now.bases i) = based r.graph i r.inside term is (size_low t.places t.value_of t.size_of m.submodular m.bounded) r.can.small in
+    let shown : c.row_mut-x.result.now ≡ base_at c.args.graph.now.bases i = c.row_mut-x.ensures.value in
+    let b : IsBased t.places t.value_of t.size_of term c.args.q (base_at c.args.graph.now.bases i) = based r.graph i r.inside term is (size_low t.places t.value_of t.size_of m.submodular m.bounded) r.can.small in
     rw shown b.entries
 
 pub exchange-requires-clause-base : goal.exchange-requires-clause-base
@@ -78,8 +78,8 @@ exchange-requires-clause-base g c =
     let i = c.args.hop.term in
     let term = c.index-terms-i.result in
     let is = c.index-terms-i.is in
-    let shown : c.row_mut-x.result.now ≡ row_at c.args.graph.now.bases i = c.row_mut-x.ensures.value in
-    let b : IsBased t.places t.value_of t.size_of term c.args.q (row_at c.args.graph.now.bases i) = based r.graph i r.inside term is (size_low t.places t.value_of t.size_of m.submodular m.bounded) r.can.small in
+    let shown : c.row_mut-x.result.now ≡ base_at c.args.graph.now.bases i = c.row_mut-x.ensures.value in
+    let b : IsBased t.places t.value_of t.size_of term c.args.q (base_at c.args.graph.now.bases i) = based r.graph i r.inside term is (size_low t.places t.value_of t.size_of m.submodular m.bounded) r.can.small in
     rw shown (simp to_z-of_z b.base)
 
 pub exchange-requires-clause-room : goal.exchange-requires-clause-room
@@ -88,7 +88,7 @@ exchange-requires-clause-room g c =
     let fa : FitsSigned w128 c.args.a = c.ranges.a in
     let r = c.requires in
     let i = c.args.hop.term in
-    let shown : c.row_mut-x.result.now ≡ row_at c.args.graph.now.bases i = c.row_mut-x.ensures.value in
+    let shown : c.row_mut-x.result.now ≡ base_at c.args.graph.now.bases i = c.row_mut-x.ensures.value in
     let room = rw (means r.graph i r.inside c.index-terms-i.result c.index-terms-i.is) at r.can.room in
     simp to_z-of_z (rw shown room)
 
@@ -102,11 +102,11 @@ renew_rows-requires-clause-based g c =
     let i = c.args.hop.term in
     let term = c.index-terms-i.result in
     let is = c.index-terms-i.is in
-    let shown : c.row_mut-x.result.now ≡ row_at c.args.graph.now.bases i = c.row_mut-x.ensures.value in
-    let b : IsBased t.places t.value_of t.size_of term c.args.q (row_at c.args.graph.now.bases i) = based r.graph i r.inside term is (size_low t.places t.value_of t.size_of m.submodular m.bounded) r.can.small in
+    let shown : c.row_mut-x.result.now ≡ base_at c.args.graph.now.bases i = c.row_mut-x.ensures.value in
+    let b : IsBased t.places t.value_of t.size_of term c.args.q (base_at c.args.graph.now.bases i) = based r.graph i r.inside term is (size_low t.places t.value_of t.size_of m.submodular m.bounded) r.can.small in
     let y = c.exchange.new.x in
-    let moved : y ≡ exchanged (row_at c.args.graph.now.bases i) c.args.hop.u c.args.hop.v c.args.a = simp to_z-of_z at (rw shown at c.exchange.ensures.moved) in
-    let by = based_after t.places t.value_of t.size_of term c.args.q (row_at c.args.graph.now.bases i) y c.args.hop.u c.args.hop.v c.args.a b moved r.can.after (simp to_z-of_z at c.exchange.ensures.base) in
+    let moved : y ≡ exchanged (base_at c.args.graph.now.bases i) c.args.hop.u c.args.hop.v c.args.a = simp to_z-of_z at (rw shown at c.exchange.ensures.moved) in
+    let by = based_after t.places t.value_of t.size_of term c.args.q (base_at c.args.graph.now.bases i) y c.args.hop.u c.args.hop.v c.args.a b moved r.can.after (simp to_z-of_z at c.exchange.ensures.base) in
     simp to_z-of_z by
 
 pub renew_rows-requires-clause-rows : goal.renew_rows-requires-clause-rows
@@ -119,11 +119,11 @@ renew_rows-requires-clause-rows g c =
     let i = c.args.hop.term in
     let term = c.index-terms-i.result in
     let is = c.index-terms-i.is in
-    let shown : c.row_mut-x.result.now ≡ row_at c.args.graph.now.bases i = c.row_mut-x.ensures.value in
-    let b : IsBased t.places t.value_of t.size_of term c.args.q (row_at c.args.graph.now.bases i) = based r.graph i r.inside term is (size_low t.places t.value_of t.size_of m.submodular m.bounded) r.can.small in
+    let shown : c.row_mut-x.result.now ≡ base_at c.args.graph.now.bases i = c.row_mut-x.ensures.value in
+    let b : IsBased t.places t.value_of t.size_of term c.args.q (base_at c.args.graph.now.bases i) = based r.graph i r.inside term is (size_low t.places t.value_of t.size_of m.submodular m.bounded) r.can.small in
     let y = c.exchange.new.x in
-    let moved : y ≡ exchanged (row_at c.args.graph.now.bases i) c.args.hop.u c.args.hop.v c.args.a = simp to_z-of_z at (rw shown at c.exchange.ensures.moved) in
-    let by = based_after t.places t.value_of t.size_of term c.args.q (row_at c.args.graph.now.bases i) y c.args.hop.u c.args.hop.v c.args.a b moved r.can.after (simp to_z-of_z at c.exchange.ensures.base) in
+    let moved : y ≡ exchanged (base_at c.args.graph.now.bases i) c.args.hop.u c.args.hop.v c.args.a = simp to_z-of_z at (rw shown at c.exchange.ensures.moved) in
+    let by = based_after t.places t.value_of t.size_of term c.args.q (base_at c.args.graph.now.bases i) y c.args.hop.u c.args.hop.v c.args.a b moved r.can.after (simp to_z-of_z at c.exchange.ensures.base) in
     let long = sized_read t.places c.args.terms.now c.args.graph.now.rows.items i term c.index_mut-rows.result.now r.graph.exact.sized_rows r.inside is c.index_mut-rows.ensures.value in
     long ∙ sym by.entries
 
@@ -137,13 +137,13 @@ renew_rows-requires-clause-before g c =
     let i = c.args.hop.term in
     let term = c.index-terms-i.result in
     let is = c.index-terms-i.is in
-    let shown : c.row_mut-x.result.now ≡ row_at c.args.graph.now.bases i = c.row_mut-x.ensures.value in
-    let b : IsBased t.places t.value_of t.size_of term c.args.q (row_at c.args.graph.now.bases i) = based r.graph i r.inside term is (size_low t.places t.value_of t.size_of m.submodular m.bounded) r.can.small in
+    let shown : c.row_mut-x.result.now ≡ base_at c.args.graph.now.bases i = c.row_mut-x.ensures.value in
+    let b : IsBased t.places t.value_of t.size_of term c.args.q (base_at c.args.graph.now.bases i) = based r.graph i r.inside term is (size_low t.places t.value_of t.size_of m.submodular m.bounded) r.can.small in
     let y = c.exchange.new.x in
-    let moved : y ≡ exchanged (row_at c.args.graph.now.bases i) c.args.hop.u c.args.hop.v c.args.a = simp to_z-of_z at (rw shown at c.exchange.ensures.moved) in
+    let moved : y ≡ exchanged (base_at c.args.graph.now.bases i) c.args.hop.u c.args.hop.v c.args.a = simp to_z-of_z at (rw shown at c.exchange.ensures.moved) in
     let rows_are : c.index_mut-rows.result.now ≡ table_at c.args.graph.now.rows.items i = c.index_mut-rows.ensures.value ∙ get_or_default c.args.graph.now.rows.items i c.index_mut-rows.result.now [] (rw (rows_count r.graph) r.inside) in
-    let told : IsReachTable (t.places term) (times c.args.q (t.value_of term)) (row_at c.args.graph.now.bases i) (length (t.places term)) c.index_mut-rows.result.now = rw rows_are (table r.graph i r.inside term is) in
-    simp to_z-of_z (row_at c.args.graph.now.bases i, record { base = b.base; amount = c.args.a; some = r.low; is = moved }, told)
+    let told : IsReachTable (t.places term) (times c.args.q (t.value_of term)) (base_at c.args.graph.now.bases i) (length (t.places term)) c.index_mut-rows.result.now = rw rows_are (table r.graph i r.inside term is) in
+    simp to_z-of_z (base_at c.args.graph.now.bases i, record { base = b.base; amount = c.args.a; some = r.low; is = moved }, told)
 
 pub renew-requires-clause-rows : goal.renew-requires-clause-rows
 renew-requires-clause-rows g c =
@@ -164,12 +164,12 @@ pub returns-clause-moved : goal.returns-clause-moved
 returns-clause-moved g c =
     let fa : FitsSigned w128 c.args.a = c.ranges.a in
     let i = c.args.hop.term in
-    let shown : c.row_mut-x.result.now ≡ row_at c.args.graph.now.bases i = c.row_mut-x.ensures.value in
+    let shown : c.row_mut-x.result.now ≡ base_at c.args.graph.now.bases i = c.row_mut-x.ensures.value in
     let y = c.exchange.new.x in
-    let moved : y ≡ exchanged (row_at c.args.graph.now.bases i) c.args.hop.u c.args.hop.v c.args.a = simp to_z-of_z at (rw shown at c.exchange.ensures.moved) in
+    let moved : y ≡ exchanged (base_at c.args.graph.now.bases i) c.args.hop.u c.args.hop.v c.args.a = simp to_z-of_z at (rw shown at c.exchange.ensures.moved) in
     let bases = c.args.graph.now.bases in
-    let same : length y ≡ length (row_at bases i) = ap length moved ∙ length-exchanged (row_at bases i) c.args.hop.u c.args.hop.v c.args.a in
-    let whole : take (length (row_at bases i)) (y ++ drop (length y) (row_at bases i)) ≡ y = take_at y (drop (length y) (row_at bases i)) (length (row_at bases i)) same in
+    let same : length y ≡ length (base_at bases i) = ap length moved ∙ length-exchanged (base_at bases i) c.args.hop.u c.args.hop.v c.args.a in
+    let whole : take (length (base_at bases i)) (y ++ drop (length y) (base_at bases i)) ≡ y = take_at y (drop (length y) (base_at bases i)) (length (base_at bases i)) same in
     rw whole (ap (λ z. set bases i z) moved)
 
 pub returns-clause-graph : goal.returns-clause-graph
@@ -182,15 +182,15 @@ returns-clause-graph g c =
     let i = c.args.hop.term in
     let term = c.index-terms-i.result in
     let is = c.index-terms-i.is in
-    let shown : c.row_mut-x.result.now ≡ row_at c.args.graph.now.bases i = c.row_mut-x.ensures.value in
-    let b : IsBased t.places t.value_of t.size_of term c.args.q (row_at c.args.graph.now.bases i) = based r.graph i r.inside term is (size_low t.places t.value_of t.size_of m.submodular m.bounded) r.can.small in
+    let shown : c.row_mut-x.result.now ≡ base_at c.args.graph.now.bases i = c.row_mut-x.ensures.value in
+    let b : IsBased t.places t.value_of t.size_of term c.args.q (base_at c.args.graph.now.bases i) = based r.graph i r.inside term is (size_low t.places t.value_of t.size_of m.submodular m.bounded) r.can.small in
     let y = c.exchange.new.x in
-    let moved : y ≡ exchanged (row_at c.args.graph.now.bases i) c.args.hop.u c.args.hop.v c.args.a = simp to_z-of_z at (rw shown at c.exchange.ensures.moved) in
-    let by = based_after t.places t.value_of t.size_of term c.args.q (row_at c.args.graph.now.bases i) y c.args.hop.u c.args.hop.v c.args.a b moved r.can.after (simp to_z-of_z at c.exchange.ensures.base) in
+    let moved : y ≡ exchanged (base_at c.args.graph.now.bases i) c.args.hop.u c.args.hop.v c.args.a = simp to_z-of_z at (rw shown at c.exchange.ensures.moved) in
+    let by = based_after t.places t.value_of t.size_of term c.args.q (base_at c.args.graph.now.bases i) y c.args.hop.u c.args.hop.v c.args.a b moved r.can.after (simp to_z-of_z at c.exchange.ensures.base) in
     let rows_are : c.index_mut-rows.result.now ≡ table_at c.args.graph.now.rows.items i = c.index_mut-rows.ensures.value ∙ get_or_default c.args.graph.now.rows.items i c.index_mut-rows.result.now [] (rw (rows_count r.graph) r.inside) in
     let bases = c.args.graph.now.bases in
-    let same : length y ≡ length (row_at bases i) = ap length moved ∙ length-exchanged (row_at bases i) c.args.hop.u c.args.hop.v c.args.a in
-    let whole : take (length (row_at bases i)) (y ++ drop (length y) (row_at bases i)) ≡ y = take_at y (drop (length y) (row_at bases i)) (length (row_at bases i)) same in
+    let same : length y ≡ length (base_at bases i) = ap length moved ∙ length-exchanged (base_at bases i) c.args.hop.u c.args.hop.v c.args.a in
+    let whole : take (length (base_at bases i)) (y ++ drop (length y) (base_at bases i)) ≡ y = take_at y (drop (length y) (base_at bases i)) (length (base_at bases i)) same in
     let e = c.in_ok-changed.ensures in
     let noted : t.fits term c.renew_rows.new.note c.args.q y = simp to_z-of_z at e.noted in
     let long = sized_read t.places c.args.terms.now c.args.graph.now.rows.items i term c.index_mut-rows.result.now r.graph.exact.sized_rows r.inside is c.index_mut-rows.ensures.value in

@@ -2,7 +2,7 @@ use Rattle.std.proofs.Common.{◌≡◌, ℕ, ◌<◌, length, sym, ◌∙◌, p
 use Rattle.std.proofs.lemmas.Int.{to_z-of_z}
 use mir.Syntax.{w128}
 use Rattle.sfm_spec.specs.Families.{meanings}
-use Rattle.sfm_spec.specs.Walks.{row_at}
+use Rattle.sfm_spec.specs.Walks.{base_at}
 use Rattle.sfm_law.proofs.Lists.{length-bases, length-meanings, placed-meanings}
 use Rattle.sfm_spec.proofs.Duality.{meanings-terms}
 use Rattle.sfm_exchange.specs.Scaled.{row_times}
@@ -36,7 +36,7 @@ returns-clause-graph g c =
     let ts = meanings t.places t.value_of terms in
     let o = r.other in
     let fit = meanings-terms n t.places t.value_of m.family m.submodular terms (placed-meanings n t.places t.value_of terms r.bounded.placed) in
-    let same : (i : ℕ) → i < length c.args.other.now.bases → row_at c.args.bases i ≡ row_times c.args.q (row_at c.args.other.now.bases i) = simp to_z-of_z at (c.are_multiples.ensures c.if-not-are_multiples.false) in
+    let same : (i : ℕ) → i < length c.args.other.now.bases → base_at c.args.bases i ≡ row_times c.args.q (base_at c.args.other.now.bases i) = simp to_z-of_z at (c.are_multiples.ensures c.if-not-are_multiples.false) in
     let count = length-bases (pos 1) ts c.args.other.now.bases o.are_bases in
     let counted = length-meanings t.places t.value_of terms in
     let right = tables_times ts n c.args.q c.args.other.now.bases c.args.bases c.args.other.now.rows.items r.factor.low fit o.are_bases r.bases (λ i l. same i (rw count l)) (λ i l. o.tables i (rw (← counted) l)) in

@@ -3,7 +3,7 @@ use Rattle.std.specs.List.{All}
 use Rattle.std.proofs.lemmas.List.{take_at}
 use Rattle.sfm_spec.specs.Sets.{IsPlaced}
 use Rattle.sfm_spec.specs.Bounds.{IsAtMost}
-use Rattle.sfm_spec.specs.Walks.{row_at}
+use Rattle.sfm_spec.specs.Walks.{base_at}
 use Rattle.sfm_law.proofs.Lists.{all-at, meanings-at}
 use Rattle.sfm_law.proofs.Rests.{places_few, places_front, rest-more, rest-none, rest-small}
 use Rattle.sfm_law.proofs.rest.rest_of.Goals as goal
@@ -27,7 +27,7 @@ add_row-requires-clause-entries g c =
     let t = g.T.Term in
     let m = meanings-at t.places t.value_of c.args.terms.now c.loop-i.i c.index-terms-i.result c.loop-i-test.true c.index-terms-i.is in
     let e = c.requires.entries c.loop-i.i c.loop-i-test.true in
-    let r : length c.row.result.now ≡ length (row_at c.args.bases.now c.loop-i.i) = ap length c.row.ensures in
+    let r : length c.row.result.now ≡ length (base_at c.args.bases.now c.loop-i.i) = ap length c.row.ensures in
     let k : length c.elements.result.now ≡ length (t.places c.index-terms-i.result) = ap length c.elements.ensures in
     r ∙ (e ∙ (ap (λ u. length u.places) m ∙ sym k))
 
@@ -47,6 +47,6 @@ loop-i-preserved g c =
     let same : length z' ≡ length z = c.add_row.auto.z ∙ ap length lent in
     let whole : take c.loop-i.z.len (z' ++ drop (length z') z) ≡ z' = take_at z' (drop (length z') z) c.loop-i.z.len (same ∙ sym c.loop-i.z.ok.0) in
     let places : c.elements.result.now ≡ t.places c.index-terms-i.result = c.elements.ensures in
-    let row : c.row.result.now ≡ row_at c.args.bases.now c.loop-i.i = c.row.ensures in
+    let row : c.row.result.now ≡ base_at c.args.bases.now c.loop-i.i = c.row.ensures in
     let added = rw (lent, places, row) at c.add_row.ensures in
     rw whole (rest-more t.places t.value_of c.args.terms.now c.loop-i.i c.index-terms-i.result c.args.shift.now c.args.bases.now z z' c.loop-i-test.true c.index-terms-i.is c.loop-i.invariant same added)

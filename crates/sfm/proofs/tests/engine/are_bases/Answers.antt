@@ -2,7 +2,7 @@ use Rattle.std.proofs.Common.{◌≡◌, ℕ, ◌<◌, List, length, ℤ, pos, �
 use Rattle.std.proofs.lemmas.Bool.{cases_lt}
 use Rattle.sfm_spec.specs.Families.{Meaning, meanings}
 use Rattle.sfm_spec.specs.Terms.{times, IsBase}
-use Rattle.sfm_spec.specs.Walks.{term_at, row_at}
+use Rattle.sfm_spec.specs.Walks.{term_at, base_at}
 use Rattle.sfm_kind.specs.Kinds.{kind_places, kind_value}
 use Rattle.sfm_law.proofs.Lists.{length-meanings, meanings-at}
 use Rattle.sfm_check.proofs.Forming.{row_width, section_bases}
@@ -18,11 +18,11 @@ loop-i-preserved c = λ j l.
     let ts = c.args.terms.now in
     let m = meanings-at kind_places kind_value ts i c.index-terms-i.result c.loop-i-test.true c.index-terms-i.is in
     let here = c.in_ok-is_base.ensures.told.0 c.if-not-branch.false in
-    let here' : IsBase (times (pos 1) (kind_value c.index-terms-i.result)) (row_at c.args.rows.now i) = subst (λ (x : List ℤ). IsBase (times (pos 1) (kind_value c.index-terms-i.result)) x) c.row.ensures here in
-    let at : IsBase (times (pos 1) (term_at (meanings kind_places kind_value ts) i).value) (row_at c.args.rows.now i) = subst (λ (z : Meaning). IsBase (times (pos 1) z.value) (row_at c.args.rows.now i)) (sym m) here' in
+    let here' : IsBase (times (pos 1) (kind_value c.index-terms-i.result)) (base_at c.args.rows.now i) = subst (λ (x : List ℤ). IsBase (times (pos 1) (kind_value c.index-terms-i.result)) x) c.row.ensures here in
+    let at : IsBase (times (pos 1) (term_at (meanings kind_places kind_value ts) i).value) (base_at c.args.rows.now i) = subst (λ (z : Meaning). IsBase (times (pos 1) z.value) (base_at c.args.rows.now i)) (sym m) here' in
     ⊎_elim
     (λ lt. c.loop-i.invariant j lt)
-    (λ ge. let is : i ≡ j = omega arith in subst (λ k. IsBase (times (pos 1) (term_at (meanings kind_places kind_value ts) k).value) (row_at c.args.rows.now k)) is at)
+    (λ ge. let is : i ≡ j = omega arith in subst (λ k. IsBase (times (pos 1) (term_at (meanings kind_places kind_value ts) k).value) (base_at c.args.rows.now k)) is at)
     (cases_lt j i)
 
 pub returns : goal.returns

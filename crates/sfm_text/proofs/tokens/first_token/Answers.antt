@@ -3,7 +3,7 @@ use Rattle.std.proofs.lemmas.List.{length-take}
 use Rattle.sfm_text.proofs.FirstTokens.{token-first, token-behind, token-last, token-none}
 use Rattle.sfm_text.proofs.LineCuts.{not_empty}
 use Rattle.sfm_text.proofs.Standing.{none-count}
-use Rattle.sfm_text.proofs.cut.first_token.Goals as goal
+use Rattle.sfm_text.proofs.tokens.first_token.Goals as goal
 
 pub returns-then-end-gt0-clause-cut : goal.returns-then-end-gt0-clause-cut
 returns-then-end-gt0-clause-cut c = c.loop-end.invariant.tokens ∙ token-first c.loop-end.left.now c.loop-end.end c.loop-end.invariant.first c.loop-end-test.true c.if-end-gt0.true

@@ -1,7 +1,7 @@
 use Rattle.std.proofs.Common.{◌≡◌, ◌≤◌, length}
 use Rattle.std.specs.List.{position_or_len}
 use Rattle.sfm_text.specs.Lines.{is_blank, tokens_of}
-use Rattle.sfm_text.proofs.cut.first_token.Given as goal
+use Rattle.sfm_text.proofs.tokens.first_token.Given as goal
 
 abbrev pub invariant-loop-end : goal.invariant-loop-end
 invariant-loop-end l = record {
