@@ -1,4 +1,4 @@
-pub mod Tokens
+pub mod SameBytes
 pub mod Cuts
 pub mod LineCuts
 pub mod FirstTokens

@@ -2,7 +2,7 @@
 use Rattle.std.proofs.Common.{◌∷◌, [], List, ℕ, Bor, length, codes, sym, ap, ◌∙◌, arith}
 use Rattle.std.proofs.lemmas.List.{length-map}
 use Rattle.sfm_text.specs.Lines.{texts_of}
-use Rattle.sfm_text.proofs.Tokens.{same_bytes, other_bytes}
+use Rattle.sfm_text.proofs.SameBytes.{same_bytes, other_bytes}
 use Rattle.sfm_text.proofs.Colons.{colon-same}
 use Rattle.sfm_text.proofs.Pieces.{some-texts, none-texts, uniform-word, uniform-made}
 use Rattle.sfm_text.proofs.uniform_line.uniform_parts.Goals as goal
