@@ -1,9 +1,10 @@
 -- What a demonstration writes: what an answer of its instance says, in one line, or the first fault of its text.
 use Rattle.std.specs.Prelude.{◌≡◌, ◌⊎◌, ℕ, List, ◌++◌, length, codes, ℤ}
+use Rattle.std.specs.List.{AllZip}
 use Rattle.std.specs.Fmt.{decimal, signed_decimal}
 use Rattle.sfm_spec.specs.Sets.{size}
 use Rattle.sfm_spec.specs.Families.{Meaning}
-use Rattle.sfm_kind.specs.Meanings.{AreMeanings}
+use Rattle.sfm_kind.specs.Meanings.{IsMeaningOf}
 use Rattle.sfm_kind.specs.declared.kind.Kind.{Kind}
 use Rattle.sfm_text.specs.GoodText.{IsTextOf}
 use Rattle.sfm_cert.specs.Answer.{Answer}
@@ -26,7 +27,7 @@ pub record IsDemoed (seed : ℕ) (text written : List ℕ) : Type 0 where
   pub terms : List Kind
   pub good : IsTextOf text names terms
   pub meant : List Meaning
-  pub means : AreMeanings terms meant
+  pub means : AllZip IsMeaningOf terms meant
   pub file : List ℕ
   pub right : IsRightFile (form_for names terms) meant file
   pub named : written ≡ demo_line seed right.answer
