@@ -7,7 +7,7 @@ use Rattle.sfm_law.specs.Rest.{IsRest}
 use Rattle.sfm_exchange.specs.declared.bits.Bits.{Bits}
 use Rattle.sfm_exchange.specs.Bits.{bit_in, set_at}
 use Rattle.sfm_exchange.specs.Levels.{AreClosed, IsFirst}
-use Rattle.sfm_exchange.specs.Unions.{AreLinks}
+use Rattle.sfm_exchange.specs.Unions.{HaveLinks}
 
 module _ (terms : List Meaning) (rows : List (List ℤ)) (n : ℕ) (q : ℤ) (shift z : List ℤ) (low : pos 0 ≤ℤ q) (fit : AreTerms n terms) (bases : AreBases q terms rows) (zn : length z ≡ n) (rest : IsRest terms shift rows z) (unions : List Bits)
     (levels : List Bits) where
@@ -20,7 +20,7 @@ module _ (terms : List Meaning) (rows : List (List ℤ)) (n : ℕ) (q : ℤ) (sh
       record { walk = walk; below = rw (← rest.exact first (rw zn lf)) begin.under; above = rw (← rest.exact (last_of first steps) (rw zn ll)) over }
 
   -- where the levels are closed no walk joins
-  pub none_joins : AreLinks terms n q rows unions → AreClosed n unions z levels → (first : ℕ) (steps : List Step) → Joins terms q shift rows first steps → ⊥
+  pub none_joins : HaveLinks terms n q rows unions → AreClosed n unions z levels → (first : ℕ) (steps : List Step) → Joins terms q shift rows first steps → ⊥
   none_joins links closed first steps joins =
       let (k, lk, bit) = back first steps fin joins.walk.steps_fit top in
       closed.above k first lk bit under where
@@ -44,4 +44,4 @@ module _ (terms : List Meaning) (rows : List (List ℤ)) (n : ℕ) (q : ℤ) (sh
         back from [] l h at = at
         back from (s ∷ ss) l h at =
             let (k, lk, bit) = back s.to ss (step_below terms rows n q low fit bases from s h.0) h.1 at in
-            closed.closed k from lk l (s.to, (links from s.to l).1 (s.term, h.0), bit)
+            closed.closed k from lk l (s.to, links from s.to l (s.term, h.0), bit)

@@ -13,6 +13,10 @@ pub mod Exchanging
 pub mod Searching
 pub mod Signing
 pub mod RowsAfter
+pub mod Claiming
+pub mod Asked
+pub mod Basing
+pub mod ClaimedGraphs
 pub mod WholeGraphs
 pub mod Joining
 pub mod Minimisers

@@ -174,7 +174,7 @@ module _ {X N : Type 0} {places : X → List ℕ} {value : X → SetFunction} {s
 
     -- where the levels are closed no walk joins
     pub none : (levels : List Bits) → AreClosed n graph.unions.items z levels → (first : ℕ) (steps : List Step) → Joins (meanings places value terms) q shift graph.bases first steps → ⊥
-    none levels closed = none_joins (meanings places value terms) graph.bases n q shift z (low h) fit h.exact.are_bases zn rest graph.unions.items levels links_are closed
+    none levels closed = none_joins (meanings places value terms) graph.bases n q shift z (low h) fit h.exact.are_bases zn rest graph.unions.items levels (λ e t l. (links_are e t l).1) closed
 
     -- and where none joins the bases prove
     pub proves : ((first : ℕ) (steps : List Step) → Joins (meanings places value terms) q shift graph.bases first steps → ⊥) → Prove (meanings places value terms) n q shift graph.bases

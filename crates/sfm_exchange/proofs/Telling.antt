@@ -1,6 +1,7 @@
--- What rows that are right tell: that the steps of a walk are steps, and the least ones; and where rows stay right.
-use Rattle.std.proofs.Common.{◌≡◌, ℕ, zero, suc, ◌-◌, ◌<◌, ◌≤◌, List, [], ◌∷◌, length, get_or, ℤ, pos, ◌≤ℤ◌, refl, sym, ap, ◌∙◌, arith}
+-- What rows tell. By those that are right the steps of a walk are steps; by those that lack none, the least ones are least.
+use Rattle.std.proofs.Common.{◌≡◌, ℕ, suc, ◌-◌, ◌<◌, ◌≤◌, List, [], ◌∷◌, length, get_or, ℤ, pos, ◌≤ℤ◌, refl, sym, ap, ◌∙◌, arith}
 use Rattle.sfm_spec.specs.Families.{Meaning, AreTerms, AreBases}
+use Rattle.sfm_spec.specs.Terms.{times}
 use Rattle.sfm_spec.specs.Labels.{FallsAlong}
 use Rattle.sfm_spec.specs.Progress.{TakesLeastSteps}
 use Rattle.sfm_spec.specs.Walks.{Step, term_at, base_at, IsStep, AreSteps, last_of}
@@ -8,9 +9,10 @@ use Rattle.sfm_spec.proofs.Walks.{terms-at, step_below}
 use Rattle.sfm_exchange.specs.declared.bits.Bits.{Bits}
 use Rattle.sfm_exchange.specs.declared.path.Hop.{Hop}
 use Rattle.sfm_exchange.specs.Bits.{bit_in, set_at}
+use Rattle.sfm_exchange.specs.Claimed.{IsClaim}
 use Rattle.sfm_exchange.specs.Reach.{IsTable, table_at}
 use Rattle.sfm_exchange.specs.Unions.{IsReadable}
-use Rattle.sfm_exchange.specs.Hops.{IsHop, IsTold, AreHops, AreLeast, AreNamed, IsMovable, hop_at, step_of, steps_of}
+use Rattle.sfm_exchange.specs.Hops.{IsHop, IsTold, AreHops, AreLeast, AreNamed, hop_at, step_of, steps_of}
 
 -- the steps name their places
 pub hops_named : (terms : List Meaning) (tables : List (List Bits)) (from : ℕ) (hops : List Hop) → AreHops terms tables from hops → AreNamed terms from hops
@@ -26,37 +28,25 @@ module _ (terms : List Meaning) (rows : List (List ℤ)) (n : ℕ) (q : ℤ) (fi
   hops_steps from [] h = tt
   hops_steps from (x ∷ hops) h = (hop_step from x h.0 h.1, hops_steps x.to hops h.2)
 
-  hop_movable : (from : ℕ) (hop : Hop) → IsHop terms from hop → bit_in (set_at (table_at tables hop.term) hop.u) hop.to ≡ 1 → IsMovable terms q rows hop
-  hop_movable from hop is bit =
-      let (b, some, c) = hop_step from hop is bit in
-      let distinct = (terms-at n terms hop.term fit is.term_in).placed.distinct in
-      let eu : c.u ≡ hop.u = distinct c.u hop.u c.u_in is.u_in (c.begins ∙ sym is.begins) in
-      let ev : c.v ≡ hop.v = distinct c.v hop.v c.v_in is.v_in (c.ends ∙ sym is.ends) in
-      record { term_in = is.term_in; u_in = is.u_in; v_in = is.v_in; apart = (λ s. c.apart (eu ∙ (s ∙ sym ev))); room = (b, some, rw (eu, ev) at c.base) }
+-- rows that lack no place to which there is room
+module _ (terms : List Meaning) (rows : List (List ℤ)) (n : ℕ) (q : ℤ) (fit : AreTerms n terms) (tables : List (List Bits))
+    (claims : (i : ℕ) → i < length terms → (u : ℕ) → u < length (term_at terms i).places → IsClaim (term_at terms i).places (times q (term_at terms i).value) (base_at rows i) u (set_at (table_at tables i) u)) where
+  -- tell each step
+  pub step_told : (from : ℕ) (step : Step) → IsStep terms q rows from step → IsTold terms tables from step
+  step_told from step (a, some, c) =
+      record { term_in = c.in_range; u = c.u; u_in = c.u_in; begins = c.begins; has_end = rw c.ends at ((claims step.term c.in_range c.u c.u_in).has c.v c.v_in (λ s. c.apart (sym s)) (a, some, c.base)) }
 
-  -- and each can move something
-  pub hops_movable : (from : ℕ) (hops : List Hop) → AreHops terms tables from hops → (k : ℕ) → k < length hops → IsMovable terms q rows (hop_at hops k)
-  hops_movable from [] h k l = absurd (omega arith)
-  hops_movable from (x ∷ hops) h zero l = hop_movable from x h.0 h.1
-  hops_movable from (x ∷ hops) h (suc k) l = hops_movable x.to hops h.2 k (omega arith)
-
-  -- a step is told by the rows
-  step_told : (from : ℕ) (step : Step) → IsStep terms q rows from step → IsTold terms tables from step
-  step_told from step h =
-      let c = h.2 in
-      record { term_in = c.in_range; u = c.u; u_in = c.u_in; begins = c.begins; has_end = (right step.term c.in_range c.u step.to c.u_in).1 (rw c.begins h) }
-
-  -- steps that are least of those that the rows tell are least of all
+  -- so steps that are least of those that the rows tell are least of all
   pub hops_least : (d : ℕ → ℕ) (from : ℕ) (hops : List Hop) → FallsAlong d from (steps_of hops) → AreLeast terms tables d from hops → TakesLeastSteps terms q rows d from (steps_of hops)
   hops_least d from [] falls least = tt
   hops_least d from (x ∷ hops) falls least = (falls.0, (λ other h f. least.0 other (step_told from other h) f), hops_least d x.to hops falls.1 least.1)
 
--- where the row of a term is the same its rows of reach stay right
-pub table_kept : (terms : List Meaning) (q : ℤ) (rows after : List (List ℤ)) (i : ℕ) (table : List Bits) → base_at after i ≡ base_at rows i → IsTable terms q rows i table → IsTable terms q after i table
-table_kept terms q rows after i table same h u e l = (
-  (λ one. let (b, some, c) = (h u e l).0 one in (b, some, record { in_range = c.in_range; u = c.u; v = c.v; u_in = c.u_in; v_in = c.v_in; begins = c.begins; ends = c.ends; apart = c.apart; base = rw same c.base })),
-  (λ (b, some, c). (h u e l).1 (b, some, record { in_range = c.in_range; u = c.u; v = c.v; u_in = c.u_in; v_in = c.v_in; begins = c.begins; ends = c.ends; apart = c.apart; base = rw same at c.base })),
-)
+  -- and they have only places of the ground
+  pub claims_readable : n ≤ 256 → (i : ℕ) → i < length terms → IsReadable terms tables i
+  claims_readable few i li u e lu bit =
+      let (v, lv, ne, is) = (claims i li u lu).inside e bit in
+      let below : e < n = rw is at ((terms-at n terms i fit li).placed.below v lv) in
+      (omega (arith, below, few), (v, lv, is))
 
 -- the end of the last step
 pub last_is : (first : ℕ) (hops : List Hop) → 0 < length hops → last_of first (steps_of hops) ≡ (hop_at hops (length hops - 1)).to

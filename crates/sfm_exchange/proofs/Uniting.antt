@@ -147,6 +147,15 @@ links_of terms n q rows spots tables unions h all right e t l = (to, from) where
       let there : (j : ℕ) × (j < length (spots_at spots (get_or (term_at terms i).places c.u 0))) × (bit_in (spot_row tables (spot_at (spots_at spots (get_or (term_at terms i).places c.u 0)) j)) t ≡ 1) = (k, lk, rw is bit) in
       (all.exact e le t).1 (rw c.begins at there)
 
+-- and all that the rows tell
+pub links_told : (terms : List Meaning) (n : ℕ) (spots : List (List Spot)) (tables : List (List Bits)) (unions : List Bits) → AreSpots terms n spots → AreUnions tables spots unions
+    → (e : ℕ) (step : Step) → e < n → IsTold terms tables e step → bit_in (set_at unions e) step.to ≡ 1
+links_told terms n spots tables unions h all e step l told =
+    let le : e < length spots = omega (arith, l, h.count) in
+    let (k, lk, is) = h.complete step.term told.u told.term_in told.u_in in
+    let there : (j : ℕ) × (j < length (spots_at spots (get_or (term_at terms step.term).places told.u 0))) × (bit_in (spot_row tables (spot_at (spots_at spots (get_or (term_at terms step.term).places told.u 0)) j)) step.to ≡ 1) = (k, lk, rw is told.has_end) in
+    (all.exact e le step.to).1 (rw told.begins at there)
+
 -- the least place of a level that the union row has, by the first of its spots whose row has it, is the least step into the level
 pub least_into : (terms : List Meaning) (n : ℕ) (spots : List (List Spot)) (tables : List (List Bits)) (unions : List Bits) → AreSpots terms n spots → AreUnions tables spots unions → (at : ℕ) → at < n → (level : Bits) (to : ℕ)
     → ((e : ℕ) → e < to → bit_in (set_at unions at) e ≡ 1 → bit_in level e ≢ 1) → (here : List Spot) → spots_at spots at ≡ here → (j : ℕ) → j < length here → ((k : ℕ) → k < j → bit_in (spot_row tables (spot_at here k)) to ≡ 1 → ⊥)

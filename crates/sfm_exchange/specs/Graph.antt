@@ -1,20 +1,24 @@
 -- The exchange graph of q times some terms at bases of theirs.
 use Rattle.std.specs.Prelude.{◌≡◌, ℕ, ◌<◌, List, length, map, ℤ}
 use Rattle.sfm_spec.specs.Bounds.{AreBounded, IsFactor}
-use Rattle.sfm_spec.specs.Terms.{SetFunction}
+use Rattle.sfm_spec.specs.Terms.{SetFunction, times}
 use Rattle.sfm_spec.specs.Families.{meanings, AreBases}
+use Rattle.sfm_spec.specs.Walks.{term_at, base_at}
 use Rattle.sfm_exchange.specs.declared.graph.Graph.{Graph}
+use Rattle.sfm_exchange.specs.Bits.{set_at}
+use Rattle.sfm_exchange.specs.Claimed.{AreClaims}
 use Rattle.sfm_exchange.specs.Spots.{AreSpots}
 use Rattle.sfm_exchange.specs.Reach.{AreNotes, AreSized, IsTable, table_at}
 use Rattle.sfm_exchange.specs.Turned.{AreTurned}
 use Rattle.sfm_exchange.specs.Unions.{AreUnions}
 
 -- the graph is one of q times the terms over n places: its rows are bases, the note of each fits it, there is a row for each
--- place of each term, which tells the steps by the term; the spots of each place are those of the terms, the adjacency of
+-- place of each term, which tells the steps by the term, and a set of its claimed places for each term; the spots of each place are those of the terms, the adjacency of
 -- each place is the union of the rows of its spots, and the same is told backwards
 pub record IsGraph {X N : Type 0} (places : X → List ℕ) (value : X → SetFunction) (fits : X → N → ℤ → List ℤ → Type 0) (terms : List X) (n : ℕ) (q : ℤ) (graph : Graph N) : Type 0 where
   pub are_bases : AreBases q (meanings places value terms) graph.bases
   pub note_count : length graph.notes.items ≡ length terms
+  pub claim_count : length graph.claimed.items ≡ length terms
   pub noted : AreNotes fits q terms graph.notes.items graph.bases
   pub sized_rows : AreSized (map places terms) graph.rows.items
   pub tables : (i : ℕ) → i < length terms → IsTable (meanings places value terms) q graph.bases i (table_at graph.rows.items i)
@@ -27,3 +31,18 @@ pub record IsWhole {X N : Type 0} (places : X → List ℕ) (value : X → SetFu
   pub bounded : AreBounded n (map places terms) (map size terms)
   pub factor : IsFactor q
   pub exact : IsGraph places value fits terms n q graph
+
+-- the same, where the rows of the claimed places may tell more steps than there are
+pub record IsClaimed {X N : Type 0} (places : X → List ℕ) (value : X → SetFunction) (size : X → ℤ) (fits : X → N → ℤ → List ℤ → Type 0) (terms : List X) (n : ℕ) (q : ℤ) (graph : Graph N) : Type 0 where
+  pub bounded : AreBounded n (map places terms) (map size terms)
+  pub factor : IsFactor q
+  pub are_bases : AreBases q (meanings places value terms) graph.bases
+  pub note_count : length graph.notes.items ≡ length terms
+  pub claim_count : length graph.claimed.items ≡ length terms
+  pub noted : AreNotes fits q terms graph.notes.items graph.bases
+  pub sized_rows : AreSized (map places terms) graph.rows.items
+  pub claims : (i : ℕ) → i < length terms
+      → AreClaims (term_at (meanings places value terms) i).places (times q (term_at (meanings places value terms) i).value) (base_at graph.bases i) (set_at graph.claimed.items i) (table_at graph.rows.items i)
+  pub are_spots : AreSpots (meanings places value terms) n graph.spots.items
+  pub are_unions : AreUnions graph.rows.items graph.spots.items graph.unions.items
+  pub are_turned : AreTurned graph.unions.items graph.back.items

@@ -38,6 +38,10 @@ pub record AreUnions (tables : List (List Bits)) (spots : List (List Spot)) (uni
 abbrev pub AreLinks : List Meaning → ℕ → ℤ → List (List ℤ) → List Bits → Type 0
 AreLinks terms n q rows unions = (e t : ℕ) → e < n → (bit_in (set_at unions e) t ≡ 1) ↔ ((i : ℕ) × IsStep terms q rows e (record { to = t; term = i }))
 
+-- and at least these
+abbrev pub HaveLinks : List Meaning → ℕ → ℤ → List (List ℤ) → List Bits → Type 0
+HaveLinks terms n q rows unions = (e t : ℕ) → e < n → (i : ℕ) × IsStep terms q rows e (record { to = t; term = i }) → bit_in (set_at unions e) t ≡ 1
+
 -- the rows of the places of a set are brought up to the unions, and all others stay
 pub record AreRenewed (tables : List (List Bits)) (spots : List (List Spot)) (places : Bits) (before after : List Bits) : Type 0 where
   pub count : length after ≡ length before

@@ -2,7 +2,8 @@
 // Functions and Optimization, section 4: auxiliary networks). Each term has a note beside its base, and for each of its
 // places a row of the ground places to which that has room. The incidence of a place of the ground is its list of spots, its
 // adjacency the union of the rows of these, and the same is kept turned round, for searches backwards. That all of this is
-// so is one fact, `IsGraph`, which each call over a graph asks for and gives back.
+// so is one fact, `IsGraph`, which each call over a graph asks for and gives back; along walks some rows may be claimed, and
+// the fact is `IsClaimed`.
 ghost use Rattle.std.specs.Prelude.{◌≡◌, ℤ, map, OnOk, IfOk};
 ghost use Rattle.std.specs.List.{All};
 ghost use Rattle.sfm_spec.specs.Bounds.{AreBounded, IsEntry, IsFactor};
@@ -10,7 +11,7 @@ ghost use Rattle.sfm_spec.specs.Families.{meanings, AreBases};
 ghost use Rattle.sfm_exchange.specs.Graph.{IsGraph};
 
 use crate::asking::ask_all;
-use crate::bits::Bits;
+use crate::bits::{Bits, no_bits};
 use crate::reach::{BitRows, blank_rows, notes_of};
 use crate::spots::{Spots, spots_of};
 use crate::turned::turned_of;
@@ -31,6 +32,8 @@ pub struct Graph<N> {
     pub notes: Vec<N>,
     /// For each place of each term the ground places to which it has room.
     pub rows: Vec<BitRows>,
+    /// For each term the ground places whose rows in it are only claimed: they may have too much.
+    pub claimed: Vec<Bits>,
     /// Adjacency: for each place of the ground the places that arcs lead to.
     pub unions: Vec<Bits>,
     /// The same turned round: the places that arcs come from.
@@ -58,6 +61,7 @@ pub fn graph_at<T: Term>(
 {
     let spots = spots_of(alloc, terms, n)?;
     let mut rows = blank_rows(alloc, terms)?;
+    let claimed = vec![in alloc; no_bits(); terms.len()]?;
     let mut notes = notes_of(alloc, terms, q, &bases)?;
     ask_all(alloc, terms, q, &bases, &mut notes, &mut rows)?;
     let unions = unions_of(alloc, &spots, &rows)?;
@@ -67,6 +71,7 @@ pub fn graph_at<T: Term>(
         spots,
         notes,
         rows,
+        claimed,
         unions,
         back,
     })

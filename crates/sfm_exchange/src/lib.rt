@@ -6,6 +6,7 @@
 
 mod asking;
 mod bits;
+mod claims;
 mod graph;
 mod levels;
 mod moving;
@@ -20,6 +21,7 @@ mod turned;
 mod unions;
 
 pub use bits::{Bits, no_bits};
+pub use claims::{prove_walk, settle_rows};
 pub use graph::{Graph, copy_rows, graph_at, restart};
 pub use levels::find_levels;
 pub use moving::{amount_of, move_along};

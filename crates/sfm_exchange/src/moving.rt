@@ -1,6 +1,6 @@
 // The move along a walk: the greatest amount that the walk's steps and its ends allow, and its exchanges from the last step to
 // the first, each at the base that the exchanges behind it have left. What the graph keeps is brought up with each exchange,
-// so the graph is exact at every step.
+// so it fits the bases at every step; rows may be claimed all along.
 ghost use Rattle.std.specs.Prelude.{◌≡◌, ◌≢◌, ◌*◌, ◌^◌, ◌<◌, ◌≤◌, ℕ, ℤ, map, pos, ◌≤ℤ◌, length, slice_set, OnOk, IfOk};
 ghost use Rattle.std.specs.List.{All};
 ghost use Rattle.sfm_spec.specs.Bounds.{IsAtMost, IsEntry};
@@ -9,7 +9,7 @@ ghost use Rattle.sfm_spec.specs.Families.{meanings};
 ghost use Rattle.sfm_spec.specs.Labels.{FallsAlong};
 ghost use Rattle.sfm_spec.specs.Walks.{IsWalkMove, base_at, term_at};
 ghost use Rattle.sfm_law.specs.Room.{AtMostRoom, IsRoom};
-ghost use Rattle.sfm_exchange.specs.Graph.{IsWhole};
+ghost use Rattle.sfm_exchange.specs.Graph.{IsClaimed};
 ghost use Rattle.sfm_exchange.specs.Hops.{CanExchange, IsMovable, Moves, AreNamed, AreInOrder, hop_at, steps_of};
 
 use crate::graph::Graph;
@@ -30,11 +30,11 @@ pub fn amount_of<T: Term>(
     hops: &[Hop],
     most: i128,
 ) -> Result<i128, Memory>
-    requires graph { IsWhole T.places T.value_of T.size_of T.fits terms.now (length graph.old.spots.items) q graph.old }
+    requires graph { IsClaimed T.places T.value_of T.size_of T.fits terms.now (length graph.old.spots.items) q graph.old }
     requires small { All (λ x. All IsEntry x) graph.old.bases }
     requires movable { (k : ℕ) → k < length hops.now → IsMovable (meanings T.places T.value_of terms.now) q graph.old.bases (hop_at hops.now k) }
     requires most { pos 1 ≤ℤ most }
-    ensures graph { OnOk result (IsWhole T.places T.value_of T.size_of T.fits terms.now (length graph.old.spots.items) q graph.new) }
+    ensures graph { OnOk result (IsClaimed T.places T.value_of T.size_of T.fits terms.now (length graph.old.spots.items) q graph.new) }
     ensures bases { OnOk result (graph.new.bases ≡ graph.old.bases) }
     ensures some { IfOk result (λ a. pos 1 ≤ℤ a) }
     ensures within { IfOk result (λ a. a ≤ℤ most) }
@@ -57,10 +57,10 @@ fn room_of<T: Term>(
     q: i128,
     hop: Hop,
 ) -> Result<Room, Memory>
-    requires graph { IsWhole T.places T.value_of T.size_of T.fits terms.now (length graph.old.spots.items) q graph.old }
+    requires graph { IsClaimed T.places T.value_of T.size_of T.fits terms.now (length graph.old.spots.items) q graph.old }
     requires small { All (λ x. All IsEntry x) graph.old.bases }
     requires movable { IsMovable (meanings T.places T.value_of terms.now) q graph.old.bases hop }
-    ensures graph { OnOk result (IsWhole T.places T.value_of T.size_of T.fits terms.now (length graph.old.spots.items) q graph.new) }
+    ensures graph { OnOk result (IsClaimed T.places T.value_of T.size_of T.fits terms.now (length graph.old.spots.items) q graph.new) }
     ensures bases { OnOk result (graph.new.bases ≡ graph.old.bases) }
     ensures room { IfOk result (IsRoom (times q (term_at (meanings T.places T.value_of terms.now) hop.term).value) (base_at graph.old.bases hop.term) hop.u hop.v) }
 {
@@ -91,13 +91,13 @@ fn exchange_at<T: Term>(
     hop: Hop,
     a: i128,
 ) -> Result<(), Memory>
-    requires graph { IsWhole T.places T.value_of T.size_of T.fits terms.now (length graph.old.spots.items) q graph.old }
+    requires graph { IsClaimed T.places T.value_of T.size_of T.fits terms.now (length graph.old.spots.items) q graph.old }
     requires inside { hop.term < length terms.now }
     requires can { CanExchange (meanings T.places T.value_of terms.now) q graph.old.bases hop a }
     requires low { pos 1 ≤ℤ a }
     requires high { a ≤ℤ pos (10 ^ 30) }
     ensures moved { OnOk result (graph.new.bases ≡ slice_set graph.old.bases hop.term (exchanged (base_at graph.old.bases hop.term) hop.u hop.v a)) }
-    ensures graph { OnOk result (IsWhole T.places T.value_of T.size_of T.fits terms.now (length graph.old.spots.items) q graph.new) }
+    ensures graph { OnOk result (IsClaimed T.places T.value_of T.size_of T.fits terms.now (length graph.old.spots.items) q graph.new) }
 {
     let i = hop.term;
     let term = &terms[i];
@@ -107,7 +107,8 @@ fn exchange_at<T: Term>(
     exchange(term, q, x, hop.u, hop.v, a);
     let at = Based { term, q, x };
     let rows = &mut graph.rows[i];
-    let changed = renew_rows(alloc, &at, note, hop.u, hop.v, rows)?;
+    let claimed = &mut graph.claimed[i];
+    let changed = renew_rows(alloc, &at, note, hop, rows, claimed)?;
     renew(
         &graph.spots,
         &graph.rows,
@@ -127,14 +128,14 @@ pub fn move_along<T: Term>(
     path: &Path,
     a: i128,
 ) -> Result<(), Memory>
-    requires graph { IsWhole T.places T.value_of T.size_of T.fits terms.now (length graph.old.spots.items) q graph.old }
+    requires graph { IsClaimed T.places T.value_of T.size_of T.fits terms.now (length graph.old.spots.items) q graph.old }
     requires small { All (λ x. All (IsAtMost (5 * 10 ^ 29)) x) graph.old.bases }
     requires low { pos 1 ≤ℤ a }
     requires high { a ≤ℤ pos (5 * 10 ^ 29) }
     requires named { AreNamed (meanings T.places T.value_of terms.now) path.now.first path.now.hops.items }
     requires order { AreInOrder (meanings T.places T.value_of terms.now) q graph.old.bases path.now.first (steps_of path.now.hops.items) a }
     requires falls { (d : ℕ → ℕ) × FallsAlong d path.now.first (steps_of path.now.hops.items) }
-    ensures graph { OnOk result (IsWhole T.places T.value_of T.size_of T.fits terms.now (length graph.old.spots.items) q graph.new) }
+    ensures graph { OnOk result (IsClaimed T.places T.value_of T.size_of T.fits terms.now (length graph.old.spots.items) q graph.new) }
     ensures moved { OnOk result (IsWalkMove (meanings T.places T.value_of terms.now) graph.old.bases path.now.first (steps_of path.now.hops.items) a graph.new.bases) }
 {
     let mut k = path.hops.len();

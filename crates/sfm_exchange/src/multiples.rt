@@ -10,6 +10,7 @@ ghost use Rattle.sfm_exchange.specs.Graph.{IsGraph};
 ghost use Rattle.sfm_exchange.specs.Reach.{AreSized};
 ghost use Rattle.sfm_exchange.specs.Scaled.{row_times};
 
+use crate::bits::no_bits;
 use crate::graph::{Graph, copy_rows, restart};
 use crate::reach::{BitRows, blank_rows, notes_of};
 use crate::spots::spots_of;
@@ -128,6 +129,7 @@ pub fn copy_graph<T: Term>(
     let notes = notes_of(alloc, terms, q, &bases)?;
     let mut rows = blank_rows(alloc, terms)?;
     copy_tables(&graph.rows, &mut rows);
+    let claimed = vec![in alloc; no_bits(); terms.len()]?;
     let unions = Vec::from_slice(alloc, &graph.unions)?;
     let back = Vec::from_slice(alloc, &graph.back)?;
     Ok(Graph {
@@ -135,6 +137,7 @@ pub fn copy_graph<T: Term>(
         spots,
         notes,
         rows,
+        claimed,
         unions,
         back,
     })

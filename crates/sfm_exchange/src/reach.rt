@@ -5,7 +5,7 @@ ghost use Rattle.sfm_spec.specs.Sets.{IsPlaced};
 ghost use Rattle.sfm_spec.specs.Rows.{Depends};
 ghost use Rattle.sfm_spec.specs.Terms.{times};
 ghost use Rattle.sfm_exchange.specs.Based.{AreBased, IsBased};
-ghost use Rattle.sfm_exchange.specs.Bits.{HasPlaces, bit_in};
+ghost use Rattle.sfm_exchange.specs.Bits.{HasPlaces, bit_in, set_at};
 ghost use Rattle.sfm_exchange.specs.Reach.{IsReachTable, IsRow, AreRowsOf, AreNotes, AreSized};
 
 use crate::bits::{Bits, no_bits};
@@ -58,6 +58,14 @@ impl BitRows {
         self.rows[u] = row;
     }
 
+    /// The row of the place u.
+    pub fn row(&self, u: usize) -> Bits
+        requires { u < length self.now }
+        ensures { result ≡ set_at self.now u }
+    {
+        self.rows[u]
+    }
+
     /// The rows, by place of the term.
     pub fn as_slice(&self) -> &[Bits]
         ensures { result.now ≡ self.now }
@@ -89,9 +97,9 @@ pub fn placed_bits(places: &[usize], part: &Set) -> Bits
     bits
 }
 
-// The row of the place u, by a note that fits the base, which fits it still. After want of memory nothing is said of the
-// note.
-fn row_by<T: Term>(
+/// The row of the place u, by a note that fits the base, which fits it still. After want of memory nothing is said of the
+/// note.
+pub fn row_by<T: Term>(
     alloc: Global,
     at: &Based<'_, T>,
     note: &mut T::Note,

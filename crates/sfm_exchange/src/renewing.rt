@@ -1,17 +1,19 @@
 // The rows of one term after an exchange that raises s and lowers t at its base. A place depends on what the least tight set
 // with it has (Fujishige, Submodular Functions and Optimization, section 2). Only places that depended on t have other rows
-// afterwards, and each of them depends on s then. Where s still depends on t, no set has become tight, so each such row is
-// joined with that of s; else the exchange has used up its room, and the term is asked for these rows.
+// afterwards. The row of s is asked. Where s still depends on t, no set has become tight, so each such row is joined with
+// that of s. Else the exchange has used up its room, and some of what these rows had may be gone. No row gains more than s
+// had, so each takes in what s had, and is claimed: it lacks nothing, but may have too much, and is asked once a walk takes
+// it.
 ghost use Rattle.std.specs.Prelude.{◌≡◌, ◌≢◌, ◌↔◌, ◌⊎◌, IsTrue, ◌<◌, ℕ, List, ℤ, length, IfOk, OnOk, slice_index_or};
 ghost use Rattle.sfm_spec.specs.Sets.{IsPlaced};
-ghost use Rattle.sfm_spec.specs.Rows.{Depends};
 ghost use Rattle.sfm_spec.specs.Terms.{times};
 ghost use Rattle.sfm_exchange.specs.Based.{IsBased};
 ghost use Rattle.sfm_exchange.specs.Bits.{bit_in, set_at};
-ghost use Rattle.sfm_exchange.specs.Reach.{IsReachTable};
-ghost use Rattle.sfm_exchange.specs.Renewed.{AreAsked, AreDepending, AreJoined, IsExchanged, IsJoined};
+ghost use Rattle.sfm_exchange.specs.Claimed.{AreClaims};
+ghost use Rattle.sfm_exchange.specs.Renewed.{AreDepending, AreJoined, IsExchanged, IsJoined};
 
 use crate::bits::{Bits, no_bits};
+use crate::path::Hop;
 use crate::reach::{Based, BitRows, row_with};
 use sfm_base::Memory;
 use sfm_law::Term;
@@ -70,67 +72,45 @@ fn join_rows(places: &[usize], changed: &Bits, more: &Bits, to: usize, rows: &mu
     }
 }
 
-// Asks for the rows of some places, each of which has room to s, by a note that fits the base, which fits it still.
-fn ask_rows<T: Term>(
-    alloc: Global,
-    at: &Based<'_, T>,
-    note: &mut T::Note,
-    s: usize,
-    changed: &Bits,
-    rows: &mut BitRows,
-) -> Result<(), Memory>
-    requires based { IsBased T.places T.value_of T.size_of at.now.term.now at.now.q at.now.x.now }
-    requires noted { T.fits at.now.term.now note.old at.now.q at.now.x.now }
-    requires onto { s < length at.now.x.now }
-    requires leads { (u : ℕ) → u < length at.now.x.now → bit_in changed.now (slice_index_or (T.places at.now.term.now) u 0) ≡ 1 → Depends (times at.now.q (T.value_of at.now.term.now)) at.now.x.now u s }
-    requires rows { length rows.old ≡ length at.now.x.now }
-    ensures asked { OnOk result (AreAsked (T.places at.now.term.now) (times at.now.q (T.value_of at.now.term.now)) at.now.x.now changed.now (length (T.places at.now.term.now)) rows.old rows.new) }
-    ensures noted { OnOk result (T.fits at.now.term.now note.new at.now.q at.now.x.now) }
-{
-    let places = at.term.elements();
-    for u in 0..places.len() {
-        if changed.contains(places[u]) {
-            let row = row_with(alloc, at, note, s, u, rows)?;
-            rows.set(u, row);
-        }
-    }
-    Ok(())
-}
-
-/// Brings the rows of a term up to the base that came by raising s and lowering t, and gives the ground places whose rows
-/// may have changed. The note fits the base, and fits it still; after want of memory nothing is said of it.
+/// Brings the rows of a term up to the base that came by the exchange of a step, which raises its first place and lowers its
+/// last, and gives the ground places whose rows may have changed. Some rows are only claimed, before and afterwards; that of
+/// the first place is true. The note fits the base, and fits it still; after want of memory nothing is said of it.
 pub fn renew_rows<T: Term>(
     alloc: Global,
     at: &Based<'_, T>,
     note: &mut T::Note,
-    s: usize,
-    t: usize,
+    hop: Hop,
     rows: &mut BitRows,
+    claimed: &mut Bits,
 ) -> Result<Bits, Memory>
     requires based { IsBased T.places T.value_of T.size_of at.now.term.now at.now.q at.now.x.now }
     requires noted { T.fits at.now.term.now note.old at.now.q at.now.x.now }
-    requires apart { s ≢ t }
-    requires raised { s < length at.now.x.now }
-    requires lowered { t < length at.now.x.now }
+    requires apart { hop.u ≢ hop.v }
+    requires raised { hop.u < length at.now.x.now }
+    requires lowered { hop.v < length at.now.x.now }
     requires rows { length rows.old ≡ length at.now.x.now }
-    requires before { (before : List ℤ) × IsExchanged (times at.now.q (T.value_of at.now.term.now)) before at.now.x.now s t
-        × IsReachTable (T.places at.now.term.now) (times at.now.q (T.value_of at.now.term.now)) before (length (T.places at.now.term.now)) rows.old }
+    requires before { (before : List ℤ) × IsExchanged (times at.now.q (T.value_of at.now.term.now)) before at.now.x.now hop.u hop.v
+        × AreClaims (T.places at.now.term.now) (times at.now.q (T.value_of at.now.term.now)) before claimed.old rows.old }
     ensures rows { OnOk result (length rows.new ≡ length rows.old) }
-    ensures exact { OnOk result (IsReachTable (T.places at.now.term.now) (times at.now.q (T.value_of at.now.term.now)) at.now.x.now (length (T.places at.now.term.now)) rows.new) }
+    ensures claims { OnOk result (AreClaims (T.places at.now.term.now) (times at.now.q (T.value_of at.now.term.now)) at.now.x.now claimed.new rows.new) }
     ensures noted { OnOk result (T.fits at.now.term.now note.new at.now.q at.now.x.now) }
     ensures inside { IfOk result (λ r. (e : ℕ) → bit_in r e ≡ 1 → (u : ℕ) × (u < length (T.places at.now.term.now)) × (slice_index_or (T.places at.now.term.now) u 0 ≡ e)) }
     ensures others { IfOk result (λ r. (u : ℕ) → u < length (T.places at.now.term.now) → bit_in r (slice_index_or (T.places at.now.term.now) u 0) ≢ 1 → set_at rows.new u ≡ set_at rows.old u) }
 {
     let places = at.term.elements();
-    let changed = depending(places, rows.as_slice(), t);
-    let of_s = row_with(alloc, at, note, s, s, rows)?;
-    if of_s.contains(places[t]) {
-        join_rows(places, &changed, &of_s, places[s], rows);
+    let to = places[hop.u];
+    let changed = depending(places, rows.as_slice(), hop.v);
+    let before = rows.row(hop.u);
+    let of_s = row_with(alloc, at, note, hop.u, hop.u, rows)?;
+    if of_s.contains(places[hop.v]) {
+        join_rows(places, &changed, &of_s, to, rows);
+        rows.set(hop.u, of_s);
+        claimed.remove(to);
         return Ok(changed);
     }
-    rows.set(s, of_s);
-    let mut others = changed;
-    others.remove(places[s]);
-    ask_rows(alloc, at, note, s, &others, rows)?;
+    join_rows(places, &changed, &before, to, rows);
+    rows.set(hop.u, of_s);
+    claimed.union_with(&changed);
+    claimed.remove(to);
     Ok(changed)
 }

@@ -1,30 +1,26 @@
 -- The run at the start of each walk.
-use Rattle.std.proofs.Common.{◌≡◌, ℕ, ◌*◌, ◌^◌, ◌<◌, ◌≤◌, Bool, List, [], length, ℤ, pos, neg_ℤ, nat_abs, ◌+ℤ◌, ◌-ℤ◌, ◌≤ℤ◌, get_or, subst, arith}
+use Rattle.std.proofs.Common.{◌≡◌, ℕ, ◌*◌, ◌^◌, ◌<◌, ◌≤◌, List, [], length, ℤ, pos, neg_ℤ, nat_abs, ◌+ℤ◌, ◌-ℤ◌, ◌≤ℤ◌, get_or, arith}
 use Rattle.std.specs.List.{All}
 use Rattle.std.proofs.lemmas.Int.{ints}
 use Rattle.std.proofs.lemmas.List.Elements.{All-get_or, All-from_get_or}
 use Rattle.sfm_spec.specs.Bounds.{IsAtMost}
 use Rattle.sfm_spec.specs.Terms.{SetFunction, IsFamily, IsSubmodular}
-use Rattle.sfm_spec.specs.Families.{meanings, rest_at, deficit, AreTerms, IsLeast, Prove}
+use Rattle.sfm_spec.specs.Families.{meanings, rest_at, deficit, AreTerms}
 use Rattle.sfm_spec.specs.Progress.{IsProgress}
-use Rattle.sfm_spec.specs.Walks.{Step, Joins, base_at}
+use Rattle.sfm_spec.specs.Walks.{base_at}
 use Rattle.sfm_spec.proofs.Gain.{moves_along}
 use Rattle.sfm_spec.proofs.Moves.{deficit_not_above}
-use Rattle.sfm_exchange.specs.declared.bits.Bits.{Bits}
 use Rattle.sfm_exchange.specs.declared.graph.Graph.{Graph}
 use Rattle.sfm_walk.specs.declared.run.Run.{Run}
-use Rattle.sfm_exchange.specs.Graph.{IsWhole}
-use Rattle.sfm_exchange.specs.Levels.{AreClosed}
-use Rattle.sfm_exchange.specs.Reached.{AreReached, IsSetOf}
+use Rattle.sfm_exchange.specs.Graph.{IsClaimed}
 use Rattle.sfm_walk.specs.Run.{IsRunAt, IsUpTo}
-use Rattle.sfm_exchange.proofs.Minimisers.{least, none, proves}
-use Rattle.sfm_exchange.proofs.WholeGraphs.{are_terms, low}
+use Rattle.sfm_exchange.proofs.ClaimedGraphs.{are_terms, low}
 use Rattle.sfm_walk.proofs.Gaps.{abs_falls}
 
 -- the graph is whole, z and its signs are those of its bases, the sum of min(z, 0) is not below that at first, and no entry
 -- has changed by more than it has risen
 pub record IsImproving {X N : Type 0} (places : X → List ℕ) (value : X → SetFunction) (size : X → ℤ) (fits : X → N → ℤ → List ℤ → Type 0) (terms : List X) (q : ℤ) (shift : List ℤ) (init : List (List ℤ)) (graph : Graph N) (run : Run) : Type 0 where
-  pub whole : IsWhole places value size fits terms (length shift) q graph
+  pub whole : IsClaimed places value size fits terms (length shift) q graph
   pub at : IsRunAt (meanings places value terms) shift graph.bases run
   pub risen : deficit (length shift) (rest_at (meanings places value terms) init shift) ≤ℤ deficit (length shift) (rest_at (meanings places value terms) graph.bases shift)
   pub small : All (λ x. All (IsUpTo (pos (10 ^ 25) +ℤ (deficit (length shift) (rest_at (meanings places value terms) graph.bases shift) -ℤ deficit (length shift) (rest_at (meanings places value terms) init shift)))) x) graph.bases
@@ -67,12 +63,12 @@ module _ {X N : Type 0} {places : X → List ℕ} {value : X → SetFunction} {s
     -- one walk more
     module _ (after : List (List ℤ)) (p : IsProgress (meanings places value terms) (length shift) q shift graph.bases after) where
       rises : (D graph.bases +ℤ pos 1) ≤ℤ D after
-      rises = (moves_along (meanings places value terms) graph.bases (length shift) q shift (low h.whole) fit h.whole.exact.are_bases after p.along).1
+      rises = (moves_along (meanings places value terms) graph.bases (length shift) q shift (low h.whole) fit h.whole.are_bases after p.along).1
 
       pub falls : nat_abs (D after) < nat_abs (D graph.bases)
       falls = abs_falls (D graph.bases) (D after) (omega (arith, ints, rises)) (deficit_not_above (length shift) (rest_at (meanings places value terms) after shift))
 
-      pub improving_after : (graph' : Graph N) (run' : Run) → graph'.bases ≡ after → IsWhole places value size fits terms (length shift) q graph' → IsRunAt (meanings places value terms) shift after run'
+      pub improving_after : (graph' : Graph N) (run' : Run) → graph'.bases ≡ after → IsClaimed places value size fits terms (length shift) q graph' → IsRunAt (meanings places value terms) shift after run'
           → ((b : ℤ) → All (λ x. All (IsUpTo b) x) graph.bases → All (λ x. All (IsUpTo (b +ℤ (D after -ℤ D graph.bases))) x) after) → IsImproving places value size fits terms q shift init graph' run'
       improving_after graph' run' same whole at spread = record {
         whole = whole;
@@ -80,17 +76,3 @@ module _ {X N : Type 0} {places : X → List ℕ} {value : X → SetFunction} {s
         risen = rw same (let r = h.risen in omega (arith, ints, r, rises));
         small = rw same (bound_is after ((pos (10 ^ 25) +ℤ (D graph.bases -ℤ D init)) +ℤ (D after -ℤ D graph.bases)) (pos (10 ^ 25) +ℤ (D after -ℤ D init)) (spread (pos (10 ^ 25) +ℤ (D graph.bases -ℤ D init)) h.small) (omega (arith, ints)));
       }
-
-    -- where the levels are closed
-    module _ (levels : List Bits) (closed' : AreClosed (length run.z.items) graph.unions.items run.z.items levels) where
-      closed : AreClosed (length shift) graph.unions.items run.z.items levels
-      closed = subst (λ k. AreClosed k graph.unions.items run.z.items levels) h.at.is_rest.places closed'
-
-      pub no_walk : (first : ℕ) (steps : List Step) → Joins (meanings places value terms) q shift graph.bases first steps → ⊥
-      no_walk = none h.whole family law h.at.is_rest.places h.at.is_rest h.at.signs levels closed
-
-      pub minimum : Prove (meanings places value terms) (length shift) q shift graph.bases
-      minimum = proves h.whole family law h.at.is_rest.places h.at.is_rest h.at.signs no_walk
-
-      pub least_found : (found : Bits) → AreReached graph.unions.items run.signs.under found → (s : List Bool) → IsSetOf found (length shift) s → IsLeast (meanings places value terms) (length shift) q shift s
-      least_found found reached s is = least h.whole family law h.at.is_rest.places h.at.is_rest h.at.signs minimum found s is reached

@@ -6,7 +6,7 @@ use Rattle.sfm_spec.specs.Sets.{magnitudes}
 use Rattle.sfm_spec.specs.Bounds.{IsAtMost, IsFactor, total_of}
 use Rattle.sfm_spec.proofs.Scaled.{times-mono}
 use Rattle.std.proofs.lemmas.List.{length-map, get_or-map}
-use Rattle.sfm_exchange.proofs.WholeGraphs.{sizes_all}
+use Rattle.sfm_exchange.proofs.Basing.{sizes_all}
 
 -- the same number for each place
 pub magnitudes-even : (n : ℕ) (p : ℤ) → IsAtMost (10 ^ 24) p → magnitudes (replicate n p) ≤ℤ pos (10 ^ 24 * n)

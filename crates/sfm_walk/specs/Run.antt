@@ -6,8 +6,9 @@ use Rattle.sfm_spec.specs.Progress.{TakesLeastSteps}
 use Rattle.sfm_spec.specs.Walks.{Step, IsStep, IsShortest, last_of}
 use Rattle.sfm_law.specs.Rest.{IsRest}
 use Rattle.sfm_walk.specs.declared.run.Run.{Run}
+use Rattle.sfm_exchange.specs.declared.bits.Bits.{Bits}
 use Rattle.sfm_exchange.specs.declared.path.Hop.{Hop}
-use Rattle.sfm_exchange.specs.Hops.{AreNamed, IsMovable, Moves, hop_at, steps_of}
+use Rattle.sfm_exchange.specs.Hops.{AreHops, AreNamed, IsMovable, Moves, hop_at, steps_of}
 use Rattle.sfm_exchange.specs.Signs.{AreSigns}
 
 -- z is the residual of the rows, and the signs are those of z
@@ -22,6 +23,18 @@ pub record IsLeastWalk (terms : List Meaning) (n : ℕ) (q : ℤ) (shift : List 
   pub movable : (k : ℕ) → k < length hops → IsMovable terms q rows (hop_at hops k)
   pub shortest : IsShortest terms q shift rows first (steps_of hops)
   pub first_in : first < n
+  pub last_in : last_of first (steps_of hops) < n
+  pub under : slice_index_or z first (pos 0) <ℤ pos 0
+  pub over : pos 0 <ℤ slice_index_or z (last_of first (steps_of hops)) (pos 0)
+  pub falls : FallsAlong d first (steps_of hops)
+  pub least : TakesLeastSteps terms q rows d first (steps_of hops)
+  pub no_faster : (from : ℕ) (step : Step) → IsStep terms q rows from step → d from ≤ d step.to + 1
+  pub ends : (e : ℕ) → e < n → pos 0 <ℤ rest_at terms rows shift e → d e ≡ 0
+
+-- a walk of least steps as the rows tell it, which lack no step but may have too many
+pub record IsSoughtWalk (terms : List Meaning) (n : ℕ) (q : ℤ) (shift : List ℤ) (rows : List (List ℤ)) (tables : List (List Bits)) (z : List ℤ) (d : ℕ → ℕ) (first : ℕ) (hops : List Hop) : Type 0 where
+  pub some : 0 < length hops
+  pub told : AreHops terms tables first hops
   pub last_in : last_of first (steps_of hops) < n
   pub under : slice_index_or z first (pos 0) <ℤ pos 0
   pub over : pos 0 <ℤ slice_index_or z (last_of first (steps_of hops)) (pos 0)

@@ -11,19 +11,19 @@ ghost use Rattle.sfm_spec.specs.Progress.{IsProgress};
 ghost use Rattle.sfm_spec.specs.Terms.{exchanged};
 ghost use Rattle.sfm_spec.specs.Walks.{Step, Joins, IsFewWalks, few_walks, last_of};
 ghost use Rattle.sfm_walk.specs.Counted.{IsCounted};
-ghost use Rattle.sfm_exchange.specs.Graph.{IsGraph, IsWhole};
+ghost use Rattle.sfm_exchange.specs.Graph.{IsClaimed, IsGraph};
 ghost use Rattle.sfm_exchange.specs.Hops.{steps_of};
-ghost use Rattle.sfm_exchange.specs.Levels.{IsFirst, depth_of};
+ghost use Rattle.sfm_exchange.specs.Levels.{depth_of};
 ghost use Rattle.sfm_walk.specs.Run.{IsGreatest, IsLeastWalk, IsRunAt, IsUpTo};
 ghost use Rattle.sfm_exchange.specs.Signs.{AreMoved, AreSigns};
 
 use crate::rest::{most_of, move_rest};
 use crate::run::Run;
-use crate::walk::least_walk;
+use crate::walk::next_walk;
 use sfm_base::{Memory, Numbers, Rows, Set, Steps};
 use sfm_exchange::{
-    Graph, Path, amount_of, copy_rows, find_levels, graph_at, move_along, move_signs, reached_from,
-    restart_by, set_of, signs_of,
+    Graph, Path, amount_of, copy_rows, graph_at, move_along, move_signs, reached_from, restart_by,
+    set_of, settle_rows, signs_of,
 };
 use sfm_law::{Term, rest_of, start_rows};
 use std::alloc::Global;
@@ -193,17 +193,34 @@ pub fn improve<T: Term>(
 {
     let z = rest_of(alloc, terms, shift, &graph.bases)?;
     let mut run = run_at(alloc, z);
-    while let Some(first) = find_levels(
-        &graph.back,
-        &graph.unions,
-        &run.z,
-        &run.signs,
-        &mut run.levels,
-    )? {
-        run.path.first = first;
+    while next_walk(alloc, graph, terms, q, shift, &mut run)? {
         advance(alloc, graph, terms, q, shift, &mut run)?;
         steps.tick();
     }
+    let rested = read_off(alloc, graph, terms, q, shift, run)?;
+    Ok(rested)
+}
+
+// What bases come with that no walk joins. All rows are true from then on.
+fn read_off<T: Term>(
+    alloc: Global,
+    graph: &mut Graph<T::Note>,
+    terms: &[T],
+    q: i128,
+    shift: &[i128],
+    run: Run,
+) -> Result<Rested, Memory>
+    requires graph { IsClaimed T.places T.value_of T.size_of T.fits terms.now (length shift.now) q graph.old }
+    requires small { All (λ x. All IsEntry x) graph.old.bases }
+    requires run { IsRunAt (meanings T.places T.value_of terms.now) shift.now graph.old.bases run }
+    requires ends { (first : ℕ) (steps : List Step) → Joins (meanings T.places T.value_of terms.now) q shift.now graph.old.bases first steps → ⊥ }
+    ensures graph { OnOk result (IsGraph T.places T.value_of T.fits terms.now (length shift.now) q graph.new) }
+    ensures bases { OnOk result (graph.new.bases ≡ graph.old.bases) }
+    ensures rest { IfOk result (λ r. (length r.z ≡ length shift.now) × ((e : ℕ) → e < length shift.now → slice_index_or r.z e (pos 0) ≡ rest_at (meanings T.places T.value_of terms.now) graph.old.bases shift.now e)) }
+    ensures proves { OnOk result (Prove (meanings T.places T.value_of terms.now) (length shift.now) q shift.now graph.old.bases) }
+    ensures least { IfOk result (λ r. IsLeast (meanings T.places T.value_of terms.now) (length shift.now) q shift.now r.least) }
+{
+    settle_rows(alloc, graph, terms, q)?;
     let reached = reached_from(&graph.unions, &run.signs.under);
     let least = set_of(alloc, &reached, shift.len())?;
     Ok(Rested {
@@ -230,7 +247,7 @@ fn run_at(alloc: Global, z: Vec<i128>) -> Run
     }
 }
 
-// Moves along the walk from a first place by the greatest amount, and brings z and its signs up with it.
+// Moves along the walk that was found by the greatest amount, and brings z and its signs up with it.
 fn advance<T: Term>(
     alloc: Global,
     graph: &mut Graph<T::Note>,
@@ -239,19 +256,18 @@ fn advance<T: Term>(
     shift: &[i128],
     run: &mut Run,
 ) -> Result<(), Memory>
-    requires graph { IsWhole T.places T.value_of T.size_of T.fits terms.now (length shift.now) q graph.old }
+    requires graph { IsClaimed T.places T.value_of T.size_of T.fits terms.now (length shift.now) q graph.old }
     requires shifts { magnitudes shift.now ≤ℤ pos (10 ^ 27) }
     requires run { IsRunAt (meanings T.places T.value_of terms.now) shift.now graph.old.bases run.old }
-    requires first { IsFirst (length shift.now) graph.old.unions.items run.old.z.items run.old.levels.items run.old.path.first }
+    requires walk { IsLeastWalk (meanings T.places T.value_of terms.now) (length shift.now) q shift.now graph.old.bases run.old.z.items (depth_of run.old.levels.items) run.old.path.first run.old.path.hops.items }
     requires small { All (λ x. All (IsAtMost (5 * 10 ^ 29)) x) graph.old.bases }
     requires gap { neg_ℤ (pos (5 * 10 ^ 29)) ≤ℤ deficit (length shift.now) (rest_at (meanings T.places T.value_of terms.now) graph.old.bases shift.now) }
-    ensures graph { OnOk result (IsWhole T.places T.value_of T.size_of T.fits terms.now (length shift.now) q graph.new) }
+    ensures graph { OnOk result (IsClaimed T.places T.value_of T.size_of T.fits terms.now (length shift.now) q graph.new) }
     ensures run { OnOk result (IsRunAt (meanings T.places T.value_of terms.now) shift.now graph.new.bases run.new) }
     ensures moves { OnOk result (IsProgress (meanings T.places T.value_of terms.now) (length shift.now) q shift.now graph.old.bases graph.new.bases) }
     ensures spread { OnOk result ((b : ℤ) → All (λ x. All (IsUpTo b) x) graph.old.bases → All (λ x. All (IsUpTo (b +ℤ (deficit (length shift.now) (rest_at (meanings T.places T.value_of terms.now) graph.new.bases shift.now)
         -ℤ deficit (length shift.now) (rest_at (meanings T.places T.value_of terms.now) graph.old.bases shift.now)))) x) graph.new.bases) }
 {
-    least_walk(terms, graph, q, shift, run)?;
     let a = greatest_amount(alloc, graph, terms, q, shift, run)?;
     move_along(alloc, graph, terms, q, &run.path, a)?;
     settle(run, a);
@@ -267,12 +283,12 @@ fn greatest_amount<T: Term>(
     shift: &[i128],
     run: &Run,
 ) -> Result<i128, Memory>
-    requires graph { IsWhole T.places T.value_of T.size_of T.fits terms.now (length shift.now) q graph.old }
+    requires graph { IsClaimed T.places T.value_of T.size_of T.fits terms.now (length shift.now) q graph.old }
     requires shifts { magnitudes shift.now ≤ℤ pos (10 ^ 27) }
     requires small { All (λ x. All IsEntry x) graph.old.bases }
     requires run { IsRunAt (meanings T.places T.value_of terms.now) shift.now graph.old.bases run.now }
     requires walk { IsLeastWalk (meanings T.places T.value_of terms.now) (length shift.now) q shift.now graph.old.bases run.now.z.items (depth_of run.now.levels.items) run.now.path.first run.now.path.hops.items }
-    ensures graph { OnOk result (IsWhole T.places T.value_of T.size_of T.fits terms.now (length shift.now) q graph.new) }
+    ensures graph { OnOk result (IsClaimed T.places T.value_of T.size_of T.fits terms.now (length shift.now) q graph.new) }
     ensures bases { OnOk result (graph.new.bases ≡ graph.old.bases) }
     ensures greatest { IfOk result (IsGreatest (meanings T.places T.value_of terms.now) q graph.old.bases run.now.z.items run.now.path.first run.now.path.hops.items) }
 {

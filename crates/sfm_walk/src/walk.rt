@@ -1,29 +1,70 @@
-// The walk of least steps from the first place that a search has found: no walk from there to a place with z > 0 has fewer
-// steps, and each step is the least of those that lead on.
-ghost use Rattle.std.specs.Prelude.{length, OnOk};
+// The walk that comes next: one of least steps from the first place that a search finds. No walk from there to a place with
+// z > 0 has fewer steps, and each step is the least of those that lead on. The search takes the rows that are claimed as they
+// are: they lack no step, so where all steps of its walk are true ones, it is such a walk, and where it finds none, none joins.
+// Each walk that is refused leaves fewer rows claimed.
+ghost use Rattle.std.specs.Prelude.{◌≡◌, ◌<◌, ℕ, List, length, true, false, OnOk, IfOk};
+ghost use Rattle.std.specs.List.{All};
+ghost use Rattle.sfm_spec.specs.Bounds.{IsEntry};
 ghost use Rattle.sfm_spec.specs.Families.{meanings};
+ghost use Rattle.sfm_spec.specs.Walks.{Step, Joins};
 ghost use Rattle.sfm_exchange.specs.Levels.{depth_of, IsFirst};
-ghost use Rattle.sfm_exchange.specs.Graph.{IsWhole};
-ghost use Rattle.sfm_walk.specs.Run.{IsLeastWalk, IsRunAt};
+ghost use Rattle.sfm_exchange.specs.Graph.{IsClaimed};
+ghost use Rattle.sfm_walk.specs.Run.{IsLeastWalk, IsRunAt, IsSoughtWalk};
 
 use crate::run::Run;
 use sfm_base::Memory;
-use sfm_exchange::{Graph, follow};
+use sfm_exchange::{Graph, find_levels, follow, prove_walk};
 use sfm_law::Term;
+use std::alloc::Global;
 
-/// Writes the walk of least steps from the first place of a run.
-pub fn least_walk<T: Term>(
+/// Finds the next walk; false where none joins. The bases stay.
+pub fn next_walk<T: Term>(
+    alloc: Global,
+    graph: &mut Graph<T::Note>,
+    terms: &[T],
+    q: i128,
+    shift: &[i128],
+    run: &mut Run,
+) -> Result<bool, Memory>
+    requires graph { IsClaimed T.places T.value_of T.size_of T.fits terms.now (length shift.now) q graph.old }
+    requires small { All (λ x. All IsEntry x) graph.old.bases }
+    requires run { IsRunAt (meanings T.places T.value_of terms.now) shift.now graph.old.bases run.old }
+    ensures graph { OnOk result (IsClaimed T.places T.value_of T.size_of T.fits terms.now (length shift.now) q graph.new) }
+    ensures bases { OnOk result (graph.new.bases ≡ graph.old.bases) }
+    ensures run { OnOk result (IsRunAt (meanings T.places T.value_of terms.now) shift.now graph.old.bases run.new) }
+    ensures walk { IfOk result (λ r. r ≡ true → IsLeastWalk (meanings T.places T.value_of terms.now) (length shift.now) q shift.now graph.old.bases run.new.z.items (depth_of run.new.levels.items) run.new.path.first run.new.path.hops.items) }
+    ensures ends { IfOk result (λ r. r ≡ false → (first : ℕ) (steps : List Step) → Joins (meanings T.places T.value_of terms.now) q shift.now graph.old.bases first steps → ⊥) }
+{
+    while let Some(first) = find_levels(
+        &graph.back,
+        &graph.unions,
+        &run.z,
+        &run.signs,
+        &mut run.levels,
+    )? {
+        run.path.first = first;
+        sought_walk(terms, graph, q, shift, run)?;
+        let proved = prove_walk(alloc, graph, terms, q, &run.path.hops)?;
+        if proved {
+            return Ok(true);
+        }
+    }
+    Ok(false)
+}
+
+// Writes the walk of least steps that the rows tell from the first place of a run.
+fn sought_walk<T: Term>(
     terms: &[T],
     graph: &Graph<T::Note>,
     _q: i128,
     _shift: &[i128],
     run: &mut Run,
 ) -> Result<(), Memory>
-    requires graph { IsWhole T.places T.value_of T.size_of T.fits terms.now (length _shift.now) _q graph.now }
+    requires graph { IsClaimed T.places T.value_of T.size_of T.fits terms.now (length _shift.now) _q graph.now }
     requires run { IsRunAt (meanings T.places T.value_of terms.now) _shift.now graph.now.bases run.old }
     requires first { IsFirst (length _shift.now) graph.now.unions.items run.old.z.items run.old.levels.items run.old.path.first }
     ensures run { OnOk result (IsRunAt (meanings T.places T.value_of terms.now) _shift.now graph.now.bases run.new) }
-    ensures walk { OnOk result (IsLeastWalk (meanings T.places T.value_of terms.now) (length _shift.now) _q _shift.now graph.now.bases run.new.z.items (depth_of run.new.levels.items) run.new.path.first run.new.path.hops.items) }
+    ensures walk { OnOk result (IsSoughtWalk (meanings T.places T.value_of terms.now) (length _shift.now) _q _shift.now graph.now.bases graph.now.rows.items run.new.z.items (depth_of run.new.levels.items) run.new.path.first run.new.path.hops.items) }
 {
     let path = &mut run.path;
     follow(

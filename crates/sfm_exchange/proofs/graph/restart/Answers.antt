@@ -5,7 +5,7 @@ use Rattle.sfm_spec.specs.Families.{meanings}
 use Rattle.sfm_exchange.specs.Unions.{HaveRows}
 use Rattle.sfm_exchange.proofs.Noting.{sized_meanings}
 use Rattle.sfm_exchange.proofs.Uniting.{have_rows}
-use Rattle.sfm_exchange.proofs.WholeGraphs.{are_based, size_low}
+use Rattle.sfm_exchange.proofs.Basing.{are_based, size_low}
 use Rattle.sfm_exchange.proofs.graph.restart.Goals as goal
 
 pub notes_of-requires : goal.notes_of-requires
@@ -41,6 +41,7 @@ returns-clause-graph g c =
     record {
       are_bases = c.requires.bases;
       note_count = ask.count;
+      claim_count = c.requires.graph.1.claim_count;
       noted = simp to_z-of_z at ask.noted;
       sized_rows = ask.rows;
       tables = simp to_z-of_z at ask.tables;

@@ -6,9 +6,12 @@ use Rattle.sfm_spec.specs.Terms.{times, exchanged}
 use Rattle.sfm_spec.specs.Walks.{base_at}
 use Rattle.sfm_spec.proofs.Sums.{length-exchanged}
 use Rattle.sfm_exchange.specs.Based.{IsBased}
-use Rattle.sfm_exchange.specs.Reach.{IsReachTable, table_at}
+use Rattle.sfm_exchange.specs.Bits.{blank_bits, set_at}
+use Rattle.sfm_exchange.specs.Claimed.{AreClaims}
+use Rattle.sfm_exchange.specs.Reach.{table_at}
 use Rattle.sfm_exchange.proofs.Noting.{sized_read}
-use Rattle.sfm_exchange.proofs.WholeGraphs.{based, based_after, means, place_in, rows_after, rows_count, size_low, table, whole_after}
+use Rattle.sfm_exchange.proofs.Basing.{based_after, size_low}
+use Rattle.sfm_exchange.proofs.ClaimedGraphs.{based, claimed_after, claims_at, means, place_in, rows_after, rows_count}
 use Rattle.sfm_exchange.proofs.moving.exchange_at.Goals as goal
 
 pub moved-requires-clause-entries : goal.moved-requires-clause-entries
@@ -124,7 +127,7 @@ renew_rows-requires-clause-rows g c =
     let y = c.exchange.new.x in
     let moved : y ≡ exchanged (base_at c.args.graph.now.bases i) c.args.hop.u c.args.hop.v c.args.a = simp to_z-of_z at (rw shown at c.exchange.ensures.moved) in
     let by = based_after t.places t.value_of t.size_of term c.args.q (base_at c.args.graph.now.bases i) y c.args.hop.u c.args.hop.v c.args.a b moved r.can.after (simp to_z-of_z at c.exchange.ensures.base) in
-    let long = sized_read t.places c.args.terms.now c.args.graph.now.rows.items i term c.index_mut-rows.result.now r.graph.exact.sized_rows r.inside is c.index_mut-rows.ensures.value in
+    let long = sized_read t.places c.args.terms.now c.args.graph.now.rows.items i term c.index_mut-rows.result.now r.graph.sized_rows r.inside is c.index_mut-rows.ensures.value in
     long ∙ sym by.entries
 
 pub renew_rows-requires-clause-before : goal.renew_rows-requires-clause-before
@@ -142,7 +145,8 @@ renew_rows-requires-clause-before g c =
     let y = c.exchange.new.x in
     let moved : y ≡ exchanged (base_at c.args.graph.now.bases i) c.args.hop.u c.args.hop.v c.args.a = simp to_z-of_z at (rw shown at c.exchange.ensures.moved) in
     let rows_are : c.index_mut-rows.result.now ≡ table_at c.args.graph.now.rows.items i = c.index_mut-rows.ensures.value ∙ get_or_default c.args.graph.now.rows.items i c.index_mut-rows.result.now [] (rw (rows_count r.graph) r.inside) in
-    let told : IsReachTable (t.places term) (times c.args.q (t.value_of term)) (base_at c.args.graph.now.bases i) (length (t.places term)) c.index_mut-rows.result.now = rw rows_are (table r.graph i r.inside term is) in
+    let claimed_are : c.index_mut-claimed.result.now ≡ set_at c.args.graph.now.claimed.items i = c.index_mut-claimed.ensures.value ∙ get_or_default c.args.graph.now.claimed.items i c.index_mut-claimed.result.now blank_bits (rw r.graph.claim_count r.inside) in
+    let told : AreClaims (t.places term) (times c.args.q (t.value_of term)) (base_at c.args.graph.now.bases i) c.index_mut-claimed.result.now c.index_mut-rows.result.now = rw (rows_are, claimed_are) (claims_at r.graph i r.inside term is) in
     simp to_z-of_z (base_at c.args.graph.now.bases i, record { base = b.base; amount = c.args.a; some = r.low; is = moved }, told)
 
 pub renew-requires-clause-rows : goal.renew-requires-clause-rows
@@ -152,7 +156,7 @@ renew-requires-clause-rows g c =
     let i = c.args.hop.term in
     let term = c.index-terms-i.result in
     let is = c.index-terms-i.is in
-    let long = sized_read t.places c.args.terms.now c.args.graph.now.rows.items i term c.index_mut-rows.result.now r.graph.exact.sized_rows r.inside is c.index_mut-rows.ensures.value in
+    let long = sized_read t.places c.args.terms.now c.args.graph.now.rows.items i term c.index_mut-rows.result.now r.graph.sized_rows r.inside is c.index_mut-rows.ensures.value in
     rw (c.deref.ensures.value, c.deref-2.ensures.value) (rows_after r.graph i r.inside term is c.renew_rows.new.rows (c.in_ok-changed.ensures.rows ∙ long))
 
 pub renew-requires-clause-placed : goal.renew-requires-clause-placed
@@ -193,6 +197,6 @@ returns-clause-graph g c =
     let whole : take (length (base_at bases i)) (y ++ drop (length y) (base_at bases i)) ≡ y = take_at y (drop (length y) (base_at bases i)) (length (base_at bases i)) same in
     let e = c.in_ok-changed.ensures in
     let noted : t.fits term c.renew_rows.new.note c.args.q y = simp to_z-of_z at e.noted in
-    let long = sized_read t.places c.args.terms.now c.args.graph.now.rows.items i term c.index_mut-rows.result.now r.graph.exact.sized_rows r.inside is c.index_mut-rows.ensures.value in
-    rw whole (whole_after r.graph i r.inside term is y c.renew_rows.new.note c.renew_rows.new.rows c.in_ok-changed.changed _ by noted (e.rows ∙ long) (simp to_z-of_z at e.exact) (rw rows_are at e.others)
-    (rw (c.deref.ensures.value, c.deref-2.ensures.value) at c.renew.ensures.renewed) c.renew.ensures.turned refl refl refl refl)
+    let long = sized_read t.places c.args.terms.now c.args.graph.now.rows.items i term c.index_mut-rows.result.now r.graph.sized_rows r.inside is c.index_mut-rows.ensures.value in
+    rw whole (claimed_after r.graph i r.inside term is y c.renew_rows.new.note c.renew_rows.new.rows c.renew_rows.new.claimed c.in_ok-changed.changed _ by noted (e.rows ∙ long) (simp to_z-of_z at e.claims) (rw rows_are at e.others)
+    (rw (c.deref.ensures.value, c.deref-2.ensures.value) at c.renew.ensures.renewed) c.renew.ensures.turned refl refl refl refl refl)

@@ -5,7 +5,8 @@ use Rattle.std.proofs.lemmas.List.Elements.{All-get_or}
 use mir.Syntax.{w128}
 use Rattle.sfm_spec.specs.Bounds.{IsEntry}
 use Rattle.sfm_exchange.specs.Based.{IsBased}
-use Rattle.sfm_exchange.proofs.WholeGraphs.{base_count, based, counted, means, places_are, size_low}
+use Rattle.sfm_exchange.proofs.Basing.{size_low}
+use Rattle.sfm_exchange.proofs.ClaimedGraphs.{base_count, based, counted, means, places_are}
 use Rattle.sfm_exchange.proofs.moving.room_of.Goals as goal
 
 pub index_mut-note-requires : goal.index_mut-note-requires
@@ -13,7 +14,7 @@ index_mut-note-requires g c =
     let h = c.requires.graph in
     let i = c.args.hop.term in
     let l : i < length c.args.terms.now = rw (counted h) at c.requires.movable.term_in in
-    omega (arith, l, h.exact.note_count, c.args.graph.now.notes.ok.0)
+    omega (arith, l, h.note_count, c.args.graph.now.notes.ok.0)
 
 pub offset_bounds-terms-i : goal.offset_bounds-terms-i
 offset_bounds-terms-i g c =
@@ -52,7 +53,7 @@ room_by-requires g c =
     let B : List ℤ → Type 0 = λ x. IsBased t.places t.value_of t.size_of term c.args.q x in
     let F : List ℤ → Type 0 = λ x. t.fits term c.index_mut-note.result.now c.args.q x in
     let b : B c.row.result.now = subst B (sym c.row.ensures) (based h i l term is sound (All-get_or (λ x. All IsEntry x) bases i [] (rw (base_count h) l) c.requires.small)) in
-    let noted : F c.row.result.now = subst F (sym c.row.ensures) (h.exact.noted i l term is c.index_mut-note.result.now c.index_mut-note.ensures.value) in
+    let noted : F c.row.result.now = subst F (sym c.row.ensures) (h.noted i l term is c.index_mut-note.result.now c.index_mut-note.ensures.value) in
     let long = ap length (places_are h i l term is) in
     record {
       factor = simp to_z-of_z b.factor;

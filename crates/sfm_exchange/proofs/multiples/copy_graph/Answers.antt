@@ -1,9 +1,9 @@
-use Rattle.std.proofs.Common.{FitsSigned}
+use Rattle.std.proofs.Common.{rules, FitsSigned}
 use Rattle.std.proofs.lemmas.Int.{to_z-of_z}
 use mir.Syntax.{w128}
 use Rattle.sfm_spec.specs.Families.{meanings}
 use Rattle.sfm_exchange.proofs.Scaling.{unions_same}
-use Rattle.sfm_exchange.proofs.WholeGraphs.{are_based, size_low}
+use Rattle.sfm_exchange.proofs.Basing.{are_based, size_low}
 use Rattle.sfm_exchange.proofs.multiples.copy_graph.Goals as goal
 
 pub notes_of-requires : goal.notes_of-requires
@@ -28,6 +28,7 @@ returns g c =
     record {
       are_bases = rw same o.are_bases;
       note_count = fitting.count;
+      claim_count = search rules;
       noted = simp to_z-of_z at fitting.fit;
       sized_rows = rw copied o.sized_rows;
       tables = rw (copied, same) o.tables;

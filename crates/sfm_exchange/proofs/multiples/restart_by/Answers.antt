@@ -7,7 +7,7 @@ use Rattle.sfm_law.proofs.Lists.{length-bases, length-meanings, placed-meanings}
 use Rattle.sfm_spec.proofs.Duality.{meanings-terms}
 use Rattle.sfm_exchange.specs.Scaled.{row_times}
 use Rattle.sfm_exchange.proofs.Scaling.{tables_times, unions_same}
-use Rattle.sfm_exchange.proofs.WholeGraphs.{are_based, size_low}
+use Rattle.sfm_exchange.proofs.Basing.{are_based, size_low}
 use Rattle.sfm_exchange.proofs.multiples.restart_by.Goals as goal
 
 pub are_multiples-requires-clause-count : goal.are_multiples-requires-clause-count
@@ -45,6 +45,7 @@ returns-clause-graph g c =
     record {
       are_bases = r.bases;
       note_count = fitting.count;
+      claim_count = r.graph.1.claim_count;
       noted = simp to_z-of_z at fitting.fit;
       sized_rows = rw copied o.sized_rows;
       tables = λ i l. rw copied (right i (rw counted l));

@@ -1,14 +1,15 @@
-use Rattle.std.proofs.Common.{◌<◌, ◌∙◌, length, refl, arith}
+use Rattle.std.proofs.Common.{◌≡◌, ◌<◌, ◌∙◌, get_or, length, refl, arith}
 use Rattle.std.proofs.lemmas.Int.{ints}
 use Rattle.sfm_spec.specs.Terms.{times}
 use Rattle.sfm_spec.proofs.Scaled.{family-times, submodular-times}
+use Rattle.sfm_exchange.specs.Bits.{bit_in, set_at}
 use Rattle.sfm_exchange.specs.Reach.{IsRow}
-use Rattle.sfm_exchange.specs.Renewed.{AreDepending}
-use Rattle.sfm_exchange.proofs.RowsAfter.{exact_joined, lead_to_s, exact_asked, others_stay}
+use Rattle.sfm_exchange.specs.Renewed.{AreDepending, AreJoined}
+use Rattle.sfm_exchange.proofs.Claiming.{exchange_more, exchange_still, others_stay, neither}
 use Rattle.sfm_exchange.proofs.renewing.renew_rows.Goals as goal
 
-pub returns-then-contains-clause-exact : goal.returns-then-contains-clause-exact
-returns-then-contains-clause-exact g c =
+pub returns-then-contains-clause-claims : goal.returns-then-contains-clause-claims
+returns-then-contains-clause-claims g c =
     let t = g.T.Term in
     let at = c.args.at.now in
     let places = t.places at.term.now in
@@ -17,16 +18,21 @@ returns-then-contains-clause-exact g c =
     let b = r.based in
     let family = family-times _ at.q _ (g.met.T.Term.family at.term.now) in
     let law = submodular-times _ at.q _ (omega (arith, ints, b.factor.low)) (g.met.T.Term.submodular at.term.now) in
-    let ls : c.args.s < length places = rw (← b.entries) r.raised in
-    let lt : c.args.t < length places = rw (← b.entries) r.lowered in
-    let (x, m, table) = r.before in
+    let hop = c.args.hop in
+    let ls : hop.u < length places = rw (← b.entries) r.raised in
+    let lt : hop.v < length places = rw (← b.entries) r.lowered in
+    let (x, m, claims) = r.before in
     let shown = c.elements-places.ensures in
-    let all : AreDepending places c.args.rows.now c.args.t (length places) c.depending-changed.result = rw (shown, c.as_slice.ensures) at c.depending-changed.ensures in
-    let hs : IsRow places f at.x.now c.args.s c.in_ok-of_s.of_s = c.in_ok-of_s.ensures.row in
-    exact_joined places b.placed.distinct family law c.args.s c.args.t ls lt r.apart x at.x.now b.entries b.base m c.args.rows.now c.depending-changed.result table all c.in_ok-of_s.of_s hs c.join_rows.new.rows (rw shown at (c.if-contains.ensures.0 refl)) (rw (shown, c.in_ok-of_s.ensures.same) at c.join_rows.ensures)
+    let found = c.depending-changed.result in
+    let all : AreDepending places c.args.rows.now hop.v (length places) found = rw (shown, c.as_slice.ensures) at c.depending-changed.ensures in
+    let of_s = c.in_ok-of_s.of_s in
+    let hs : IsRow places f at.x.now hop.u of_s = c.in_ok-of_s.ensures.row in
+    let joined : AreJoined places found of_s (get_or places hop.u 0) (length places) c.args.rows.now c.join_rows.new.rows = rw (shown, c.in_ok-of_s.ensures.same) at c.join_rows.ensures in
+    rw c.set.ensures (exchange_still places b.placed.distinct family law hop.u hop.v ls lt r.apart x at.x.now b.entries b.base m c.args.claimed.now found c.args.rows.now claims all of_s hs (r.rows ∙ b.entries) c.join_rows.new.rows joined
+    (rw shown at (c.if-contains.ensures.0 refl)) c.remove.new.self (rw shown at c.remove.ensures.others))
 
-pub ask_rows-requires-clause-leads : goal.ask_rows-requires-clause-leads
-ask_rows-requires-clause-leads g c =
+pub returns-then-contains-clause-others : goal.returns-then-contains-clause-others
+returns-then-contains-clause-others g c =
     let t = g.T.Term in
     let at = c.args.at.now in
     let places = t.places at.term.now in
@@ -35,16 +41,20 @@ ask_rows-requires-clause-leads g c =
     let b = r.based in
     let family = family-times _ at.q _ (g.met.T.Term.family at.term.now) in
     let law = submodular-times _ at.q _ (omega (arith, ints, b.factor.low)) (g.met.T.Term.submodular at.term.now) in
-    let ls : c.args.s < length places = rw (← b.entries) r.raised in
-    let lt : c.args.t < length places = rw (← b.entries) r.lowered in
-    let (x, m, table) = r.before in
+    let hop = c.args.hop in
+    let ls : hop.u < length places = rw (← b.entries) r.raised in
+    let lt : hop.v < length places = rw (← b.entries) r.lowered in
+    let (x, m, claims) = r.before in
     let shown = c.elements-places.ensures in
-    let all : AreDepending places c.args.rows.now c.args.t (length places) c.depending-changed.result = rw (shown, c.as_slice.ensures) at c.depending-changed.ensures in
-    let hs : IsRow places f at.x.now c.args.s c.in_ok-of_s.of_s = c.in_ok-of_s.ensures.row in
-    λ u l. lead_to_s places b.placed.distinct family law c.args.s c.args.t ls lt r.apart x at.x.now b.entries b.base m c.args.rows.now c.depending-changed.result table all c.in_ok-of_s.of_s hs c.remove.new.self (rw shown at c.remove.ensures.out) (rw shown at c.remove.ensures.others) u (rw (← b.entries) l)
+    let found = c.depending-changed.result in
+    let all : AreDepending places c.args.rows.now hop.v (length places) found = rw (shown, c.as_slice.ensures) at c.depending-changed.ensures in
+    let of_s = c.in_ok-of_s.of_s in
+    let hs : IsRow places f at.x.now hop.u of_s = c.in_ok-of_s.ensures.row in
+    let joined : AreJoined places found of_s (get_or places hop.u 0) (length places) c.args.rows.now c.join_rows.new.rows = rw (shown, c.in_ok-of_s.ensures.same) at c.join_rows.ensures in
+    rw c.set.ensures (others_stay places b.placed.distinct family law hop.u hop.v ls lt r.apart x at.x.now b.entries b.base m c.args.claimed.now found c.args.rows.now claims all of_s hs (r.rows ∙ b.entries) of_s c.join_rows.new.rows joined)
 
-pub returns-clause-exact : goal.returns-clause-exact
-returns-clause-exact g c =
+pub returns-clause-claims : goal.returns-clause-claims
+returns-clause-claims g c =
     let t = g.T.Term in
     let at = c.args.at.now in
     let places = t.places at.term.now in
@@ -53,14 +63,20 @@ returns-clause-exact g c =
     let b = r.based in
     let family = family-times _ at.q _ (g.met.T.Term.family at.term.now) in
     let law = submodular-times _ at.q _ (omega (arith, ints, b.factor.low)) (g.met.T.Term.submodular at.term.now) in
-    let ls : c.args.s < length places = rw (← b.entries) r.raised in
-    let lt : c.args.t < length places = rw (← b.entries) r.lowered in
-    let (x, m, table) = r.before in
+    let hop = c.args.hop in
+    let ls : hop.u < length places = rw (← b.entries) r.raised in
+    let lt : hop.v < length places = rw (← b.entries) r.lowered in
+    let (x, m, claims) = r.before in
     let shown = c.elements-places.ensures in
-    let all : AreDepending places c.args.rows.now c.args.t (length places) c.depending-changed.result = rw (shown, c.as_slice.ensures) at c.depending-changed.ensures in
-    let hs : IsRow places f at.x.now c.args.s c.in_ok-of_s.of_s = c.in_ok-of_s.ensures.row in
-    let asked = rw (c.set.ensures, c.in_ok-of_s.ensures.same) at c.in_ok-ask_rows.ensures.asked in
-    exact_asked places b.placed.distinct family law c.args.s c.args.t ls lt r.apart x at.x.now b.entries b.base m c.args.rows.now c.depending-changed.result table all c.in_ok-of_s.of_s hs c.remove.new.self (rw shown at c.remove.ensures.out) (rw shown at c.remove.ensures.others) c.ask_rows.new.rows (r.rows ∙ b.entries) asked
+    let found = c.depending-changed.result in
+    let all : AreDepending places c.args.rows.now hop.v (length places) found = rw (shown, c.as_slice.ensures) at c.depending-changed.ensures in
+    let of_s = c.in_ok-of_s.of_s in
+    let hs : IsRow places f at.x.now hop.u of_s = c.in_ok-of_s.ensures.row in
+    let before = set_at c.args.rows.now hop.u in
+    let before_is : c.row-before.result ≡ before = c.row-before.ensures in
+    let joined : AreJoined places found before (get_or places hop.u 0) (length places) c.args.rows.now c.join_rows-2.new.rows = rw (shown, c.in_ok-of_s.ensures.same, before_is) at c.join_rows-2.ensures in
+    rw c.set-2.ensures (exchange_more places b.placed.distinct family law hop.u hop.v ls lt r.apart x at.x.now b.entries b.base m c.args.claimed.now found c.args.rows.now claims all of_s hs (r.rows ∙ b.entries) c.join_rows-2.new.rows joined
+    c.remove-2.new.self (λ e ne none. neither c.args.claimed.now found e (bit_in c.remove-2.new.self e) (rw shown at c.remove-2.ensures.others e ne ∙ c.union_with.ensures e) none))
 
 pub returns-clause-others : goal.returns-clause-others
 returns-clause-others g c =
@@ -72,11 +88,16 @@ returns-clause-others g c =
     let b = r.based in
     let family = family-times _ at.q _ (g.met.T.Term.family at.term.now) in
     let law = submodular-times _ at.q _ (omega (arith, ints, b.factor.low)) (g.met.T.Term.submodular at.term.now) in
-    let ls : c.args.s < length places = rw (← b.entries) r.raised in
-    let lt : c.args.t < length places = rw (← b.entries) r.lowered in
-    let (x, m, table) = r.before in
+    let hop = c.args.hop in
+    let ls : hop.u < length places = rw (← b.entries) r.raised in
+    let lt : hop.v < length places = rw (← b.entries) r.lowered in
+    let (x, m, claims) = r.before in
     let shown = c.elements-places.ensures in
-    let all : AreDepending places c.args.rows.now c.args.t (length places) c.depending-changed.result = rw (shown, c.as_slice.ensures) at c.depending-changed.ensures in
-    let hs : IsRow places f at.x.now c.args.s c.in_ok-of_s.of_s = c.in_ok-of_s.ensures.row in
-    let asked = rw (c.set.ensures, c.in_ok-of_s.ensures.same) at c.in_ok-ask_rows.ensures.asked in
-    others_stay places b.placed.distinct family law c.args.s c.args.t ls lt r.apart x at.x.now b.entries b.base m c.args.rows.now c.depending-changed.result table all c.in_ok-of_s.of_s hs c.remove.new.self (rw shown at c.remove.ensures.out) (rw shown at c.remove.ensures.others) c.ask_rows.new.rows (r.rows ∙ b.entries) asked
+    let found = c.depending-changed.result in
+    let all : AreDepending places c.args.rows.now hop.v (length places) found = rw (shown, c.as_slice.ensures) at c.depending-changed.ensures in
+    let of_s = c.in_ok-of_s.of_s in
+    let hs : IsRow places f at.x.now hop.u of_s = c.in_ok-of_s.ensures.row in
+    let before = set_at c.args.rows.now hop.u in
+    let before_is : c.row-before.result ≡ before = c.row-before.ensures in
+    let joined : AreJoined places found before (get_or places hop.u 0) (length places) c.args.rows.now c.join_rows-2.new.rows = rw (shown, c.in_ok-of_s.ensures.same, before_is) at c.join_rows-2.ensures in
+    rw c.set-2.ensures (others_stay places b.placed.distinct family law hop.u hop.v ls lt r.apart x at.x.now b.entries b.base m c.args.claimed.now found c.args.rows.now claims all of_s hs (r.rows ∙ b.entries) before c.join_rows-2.new.rows joined)

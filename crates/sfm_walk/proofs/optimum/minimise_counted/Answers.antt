@@ -3,7 +3,7 @@ use Rattle.std.proofs.lemmas.Int.{ints, to_z-of_z}
 use Rattle.std.proofs.lemmas.List.{length-replicate}
 use mir.Syntax.{w128}
 use Rattle.sfm_walk.proofs.Starting.{each_bounded, magnitudes-even, starts_within}
-use Rattle.sfm_exchange.proofs.WholeGraphs.{size_low}
+use Rattle.sfm_exchange.proofs.Basing.{size_low}
 use Rattle.sfm_walk.proofs.optimum.minimise_counted.Goals as goal
 
 pub start_rows-requires-clause-bounded : goal.start_rows-requires-clause-bounded

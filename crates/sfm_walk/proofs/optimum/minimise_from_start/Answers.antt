@@ -2,7 +2,7 @@ use Rattle.std.proofs.Common.{FitsSigned}
 use Rattle.std.proofs.lemmas.Int.{to_z-of_z}
 use mir.Syntax.{w128}
 use Rattle.sfm_walk.proofs.Starting.{each_bounded, starts_within}
-use Rattle.sfm_exchange.proofs.WholeGraphs.{size_low}
+use Rattle.sfm_exchange.proofs.Basing.{size_low}
 use Rattle.sfm_walk.proofs.optimum.minimise_from_start.Goals as goal
 
 pub start_rows-requires-clause-bounded : goal.start_rows-requires-clause-bounded

@@ -1,14 +1,12 @@
 use Rattle.std.proofs.Common.{◌<◌, ℕ, length, subst, sym}
 use Rattle.sfm_spec.specs.Families.{meanings}
 use Rattle.sfm_exchange.specs.Levels.{IsFirst}
-use Rattle.sfm_exchange.specs.Reach.{IsTable, table_at}
 use Rattle.sfm_exchange.specs.Spots.{AreSpots}
 use Rattle.sfm_exchange.specs.Unions.{IsReadable}
-use Rattle.sfm_walk.proofs.Advancing.{least_walk}
-use Rattle.sfm_exchange.proofs.Telling.{tables_readable}
-use Rattle.sfm_exchange.proofs.Uniting.{links_of}
-use Rattle.sfm_exchange.proofs.WholeGraphs.{are_terms, counted, low, spot_rows, unions_count}
-use Rattle.sfm_walk.proofs.walk.least_walk.Goals as goal
+use Rattle.sfm_walk.proofs.Advancing.{sought_walk}
+use Rattle.sfm_exchange.proofs.ClaimedGraphs.{are_terms, claims_in, counted, have_links, low, spot_rows, unions_count}
+use Rattle.sfm_exchange.proofs.Telling.{claims_readable}
+use Rattle.sfm_walk.proofs.walk.sought_walk.Goals as goal
 
 pub follow-requires-clause-spots : goal.follow-requires-clause-spots
 follow-requires-clause-spots g c =
@@ -17,13 +15,13 @@ follow-requires-clause-spots g c =
     let graph = c.args.graph.now in
     let ts = meanings t.places t.value_of c.args.terms.now in
     let S : ℕ → Type 0 = λ k. AreSpots ts k graph.spots.items in
-    subst S (sym (unions_count h)) h.exact.are_spots
+    subst S (sym (unions_count h)) h.are_spots
 
 pub follow-requires-clause-rows : goal.follow-requires-clause-rows
 follow-requires-clause-rows g c = spot_rows c.requires.graph
 
 pub follow-requires-clause-unions : goal.follow-requires-clause-unions
-follow-requires-clause-unions g c = c.requires.graph.exact.are_unions
+follow-requires-clause-unions g c = c.requires.graph.are_unions
 
 pub follow-requires-clause-placed : goal.follow-requires-clause-placed
 follow-requires-clause-placed g c =
@@ -34,10 +32,7 @@ follow-requires-clause-placed g c =
     let ts = meanings t.places t.value_of c.args.terms.now in
     let n = length c.args._shift.now in
     let fit = are_terms h m.family m.submodular in
-    let right : (i : ℕ) → i < length ts → IsTable ts c.args._q graph.bases i (table_at graph.rows.items i) = λ i l. h.exact.tables i (rw (counted h) at l) in
-    let each : (i : ℕ) → i < length c.args.terms.now → IsReadable ts graph.rows.items i = λ i l.
-    let l' : i < length ts = rw (counted h) l in
-    tables_readable ts graph.bases n c.args._q (low h) fit h.exact.are_bases h.bounded.few graph.rows.items i l' (right i l') in
+    let each : (i : ℕ) → i < length c.args.terms.now → IsReadable ts graph.rows.items i = λ i l. claims_readable ts graph.bases n c.args._q fit graph.rows.items (claims_in h) h.bounded.few i (rw (counted h) l) in
     each
 
 pub follow-requires-clause-first : goal.follow-requires-clause-first
@@ -56,12 +51,10 @@ returns-clause-walk g c =
     let ts = meanings t.places t.value_of c.args.terms.now in
     let n = length c.args._shift.now in
     let fit = are_terms h m.family m.submodular in
-    let right : (i : ℕ) → i < length ts → IsTable ts c.args._q graph.bases i (table_at graph.rows.items i) = λ i l. h.exact.tables i (rw (counted h) at l) in
     let z = c.args.run.now.z.items in
     let levels = c.args.run.now.levels.items in
     let rest = c.requires.run.is_rest in
-    let links = links_of ts n c.args._q graph.bases graph.spots.items graph.rows.items graph.unions.items h.exact.are_spots h.exact.are_unions right in
     let e = c.in_ok-follow.ensures in
     let v = c.deref-2.ensures.value in
-    least_walk ts graph.bases n c.args._q c.args._shift.now z (low h) fit h.exact.are_bases rest.places rest graph.unions.items links levels c.args.run.now.path.first c.requires.first
-    graph.rows.items right c.follow.new.hops.items e.some e.hops (rw v at e.falls) (rw v at e.least) (rw v at e.last)
+    sought_walk ts graph.bases n c.args._q c.args._shift.now z (low h) fit h.are_bases rest.places rest graph.unions.items (have_links h fit) levels c.args.run.now.path.first c.requires.first
+    graph.rows.items (claims_in h) c.follow.new.hops.items e.some e.hops (rw v at e.falls) (rw v at e.least) (rw v at e.last)

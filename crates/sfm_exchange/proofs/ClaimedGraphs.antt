@@ -1,0 +1,210 @@
+-- The graph where some rows are only claimed, term by term.
+use Rattle.std.proofs.Common.{◌≡◌, ◌≢◌, ◌⊎◌, inl, inr, ℕ, ◌<◌, List, [], length, map, get_or, set, ℤ, pos, ◌≤ℤ◌, sym, ap, subst, ◌∙◌, arith, get_or-set_same, get_or-set_other, length-set}
+use Rattle.std.specs.List.{All}
+use Rattle.std.proofs.lemmas.Bool.{cases_eq}
+use Rattle.std.proofs.lemmas.Int.{ints}
+use Rattle.std.proofs.lemmas.List.{length-map, set-get_or}
+use Rattle.sfm_spec.specs.Sets.{IsPlaced, AreDistinct}
+use Rattle.sfm_spec.specs.Bounds.{IsEntry}
+use Rattle.sfm_spec.specs.Terms.{SetFunction, times, IsFamily, IsSubmodular}
+use Rattle.sfm_spec.specs.Families.{Meaning, meanings, AreTerms}
+use Rattle.sfm_spec.specs.Walks.{term_at, base_at}
+use Rattle.sfm_spec.proofs.Duality.{meanings-terms}
+use Rattle.sfm_spec.proofs.Walks.{bases-at}
+use Rattle.sfm_law.proofs.Lists.{all-at, meanings-at, length-meanings, length-bases, placed-meanings}
+use Rattle.sfm_exchange.specs.declared.bits.Bits.{Bits}
+use Rattle.sfm_exchange.specs.declared.graph.Graph.{Graph}
+use Rattle.sfm_exchange.specs.Based.{IsBased}
+use Rattle.sfm_exchange.specs.Bits.{bit_in, blank_bits, set_at}
+use Rattle.sfm_exchange.specs.Claimed.{AreClaims, IsClaim}
+use Rattle.sfm_exchange.specs.Graph.{IsClaimed, IsGraph, IsWhole}
+use Rattle.sfm_exchange.specs.Reach.{IsRow, table_at}
+use Rattle.sfm_exchange.specs.Turned.{AreTurned}
+use Rattle.sfm_exchange.specs.Unions.{AreRenewed, HaveLinks, HaveRows}
+use Rattle.sfm_exchange.proofs.Basing.{is_based}
+use Rattle.sfm_exchange.proofs.Claiming.{claims_asked, rows_claimed}
+use Rattle.sfm_exchange.proofs.Exchanging.{bases_set}
+use Rattle.sfm_exchange.proofs.Noting.{notes_set, sized_at, sized_meanings, sized_set, there_is}
+use Rattle.sfm_exchange.proofs.Reaching.{steps_table, table_steps}
+use Rattle.sfm_exchange.proofs.Telling.{step_told}
+use Rattle.sfm_exchange.proofs.Uniting.{have_rows, links_told, unions_renewed}
+
+module _ {X N : Type 0} {places : X → List ℕ} {value : X → SetFunction} {size : X → ℤ} {fits : X → N → ℤ → List ℤ → Type 0} {terms : List X} {n : ℕ} {q : ℤ} {graph : Graph N} (h : IsClaimed places value size fits terms n q graph) where
+  abbrev pub Terms : List Meaning
+  Terms = meanings places value terms
+
+  -- at a factor that is not negative
+  pub low : pos 0 ≤ℤ q
+  low = omega (arith, ints, h.factor.low)
+
+  -- as many meanings as terms
+  pub counted : length (meanings places value terms) ≡ length terms
+  counted = length-meanings places value terms
+
+  -- as many bases
+  pub base_count : length graph.bases ≡ length terms
+  base_count = length-bases q (meanings places value terms) graph.bases h.are_bases ∙ counted
+
+  pub rows_count : length graph.rows.items ≡ length terms
+  rows_count = h.sized_rows.count ∙ length-map terms places
+
+  -- and there is a union for each place
+  pub unions_count : length graph.unions.items ≡ n
+  unions_count = h.are_unions.count ∙ h.are_spots.count
+
+  -- the same over as many places as the graph has spots for
+  pub own : IsClaimed places value size fits terms (length graph.spots.items) q graph
+  own = subst (λ k. IsClaimed places value size fits terms k q graph) (sym h.are_spots.count) h
+
+  -- there is a row for each spot
+  pub spot_rows : HaveRows graph.rows.items graph.spots.items
+  spot_rows = let s = sized_meanings places value terms graph.rows.items h.sized_rows in have_rows (meanings places value terms) n graph.spots.items graph.rows.items h.are_spots s.0 s.1
+
+  -- the terms are what the laws ask of terms
+  pub are_terms : ((x : X) → IsFamily (length (places x)) (value x)) → ((x : X) → IsSubmodular (length (places x)) (value x)) → AreTerms n (meanings places value terms)
+  are_terms family law = meanings-terms n places value family law terms (placed-meanings n places value terms h.bounded.placed)
+
+  -- no row lacks a place to which there is room
+  pub claims_in : (i : ℕ) → i < length (meanings places value terms) → (u : ℕ) → u < length (term_at (meanings places value terms) i).places
+      → IsClaim (term_at (meanings places value terms) i).places (times q (term_at (meanings places value terms) i).value) (base_at graph.bases i) u (set_at (table_at graph.rows.items i) u)
+  claims_in i l u lu = (h.claims i (rw counted at l)).claims u lu
+
+  -- so the union rows lack no step
+  pub have_links : AreTerms n (meanings places value terms) → HaveLinks (meanings places value terms) n q graph.bases graph.unions.items
+  have_links fit e t le (i, s) = links_told (meanings places value terms) n graph.spots.items graph.rows.items graph.unions.items h.are_spots h.are_unions e (record { to = t; term = i }) le
+      (step_told (meanings places value terms) graph.bases n q fit graph.rows.items claims_in e (record { to = t; term = i }) s)
+
+  module _ (i : ℕ) (l : i < length terms) (term : X) (is : term ≡ get_or terms i term) where
+    li : i < length (meanings places value terms)
+    li = rw counted l
+
+    -- the meaning of the term
+    pub means : term_at (meanings places value terms) i ≡ record { places = places term; value = value term }
+    means = meanings-at places value terms i term l is
+
+    pub places_are : (term_at (meanings places value terms) i).places ≡ places term
+    places_are = ap (λ (m : Meaning). m.places) means
+
+    placed : IsPlaced n (places term)
+    placed = all-at (IsPlaced n) places terms i term l is h.bounded.placed
+
+    pub distinct_at : AreDistinct (term_at (meanings places value terms) i).places
+    distinct_at = subst AreDistinct (sym places_are) placed.distinct
+
+    -- its row is a base within the bounds
+    pub based : ((x : X) → pos 0 ≤ℤ size x) → All IsEntry (base_at graph.bases i) → IsBased places value size term q (base_at graph.bases i)
+    based sound small = is_based places value size sound terms n q graph.bases h.bounded h.factor h.are_bases i l term is small
+
+    -- there is an entry for each of its places
+    pub row_long : length (base_at graph.bases i) ≡ length (places term)
+    row_long = (bases-at q (meanings places value terms) graph.bases i h.are_bases li).0 ∙ ap length places_are
+
+    -- there is a row for each of its places
+    pub rows_long : length (table_at graph.rows.items i) ≡ length (places term)
+    rows_long = sized_at places terms graph.rows.items i term h.sized_rows l is
+
+    -- and they are claims, where none is claimed the true ones
+    pub claims_at : AreClaims (places term) (times q (value term)) (base_at graph.bases i) (set_at graph.claimed.items i) (table_at graph.rows.items i)
+    claims_at = rw means at (h.claims i l)
+
+    -- its places are of the ground
+    pub place_in : (u : ℕ) → u < length (places term) → get_or (places term) u 0 < n
+    place_in u lu = placed.below u lu
+
+    -- with other rows of the term there is a row for each spot still
+    pub rows_after : (rows : List Bits) → length rows ≡ length (places term) → HaveRows (set graph.rows.items i rows) graph.spots.items
+    rows_after rows long =
+        let sized = sized_set (map places terms) graph.rows.items i rows h.sized_rows (long ∙ sym rows_long) in
+        let s = sized_meanings places value terms (set graph.rows.items i rows) sized in
+        have_rows (meanings places value terms) n graph.spots.items (set graph.rows.items i rows) h.are_spots s.0 s.1
+
+    -- with another row of the term, and other rows of reach
+    pub claimed_after : (x : List ℤ) (note : N) (rows : List Bits) (claimed changed : Bits) (graph' : Graph N) → IsBased places value size term q x → fits term note q x → length rows ≡ length (places term)
+        → AreClaims (places term) (times q (value term)) x claimed rows → ((u : ℕ) → u < length (places term) → bit_in changed (get_or (places term) u 0) ≢ 1 → set_at rows u ≡ set_at (table_at graph.rows.items i) u)
+        → AreRenewed (set graph.rows.items i rows) graph.spots.items changed graph.unions.items graph'.unions.items → AreTurned graph'.unions.items graph'.back.items
+        → graph'.bases ≡ set graph.bases i x → graph'.spots.items ≡ graph.spots.items → graph'.notes.items ≡ set graph.notes.items i note → graph'.rows.items ≡ set graph.rows.items i rows → graph'.claimed.items ≡ set graph.claimed.items i claimed
+        → IsClaimed places value size fits terms n q graph'
+    claimed_after x note rows claimed changed graph' at noted long told others renewed turned bases_are spots_are notes_are rows_are claimed_are = record {
+      bounded = h.bounded;
+      factor = h.factor;
+      are_bases = rw bases_are (bases_set q (meanings places value terms) graph.bases i x h.are_bases li (at.entries ∙ ap length (sym places_are)) (rw means at.base));
+      note_count = ap length notes_are ∙ (length-set graph.notes.items i note ∙ h.note_count);
+      claim_count = ap length claimed_are ∙ (length-set graph.claimed.items i claimed ∙ h.claim_count);
+      noted = rw (notes_are, bases_are) (notes_set fits q terms graph.notes.items graph.bases i term note x h.note_count base_count l h.noted is noted);
+      sized_rows = rw rows_are (sized_set (map places terms) graph.rows.items i rows h.sized_rows (long ∙ sym rows_long));
+      claims = λ j lj. rw (bases_are, rows_are, claimed_are) (claims j lj (cases_eq j i));
+      are_spots = rw spots_are h.are_spots;
+      are_unions = rw (spots_are, rows_are) (unions_renewed (meanings places value terms) n graph.spots.items graph.rows.items (set graph.rows.items i rows) graph.unions.items graph'.unions.items i changed h.are_spots h.are_unions
+          (λ j ne. get_or-set_other graph.rows.items i j rows [] ne)
+          (λ u lu none. ap (λ table. set_at table u) (get_or-set_same graph.rows.items i rows [] inside) ∙ others u (rw places_are at lu) (rw places_are at none)) renewed);
+      are_turned = turned;
+    } where
+      inside : i < length graph.rows.items
+      inside = rw rows_count l
+
+      Right : ℕ → Type 0
+      Right j = AreClaims (term_at (meanings places value terms) j).places (times q (term_at (meanings places value terms) j).value) (base_at (set graph.bases i x) j) (set_at (set graph.claimed.items i claimed) j) (table_at (set graph.rows.items i rows) j)
+
+      here : Right i
+      here = rw (means, get_or-set_same graph.bases i x [] (rw base_count l), get_or-set_same graph.claimed.items i claimed blank_bits (rw h.claim_count l), get_or-set_same graph.rows.items i rows [] inside) told
+
+      claims : (j : ℕ) → j < length terms → (j ≡ i) ⊎ (j ≢ i) → Right j
+      claims j lj (inl same) = subst Right (sym same) here
+      claims j lj (inr ne) = rw (get_or-set_other graph.bases i j x [] ne, get_or-set_other graph.claimed.items i j claimed blank_bits ne, get_or-set_other graph.rows.items i j rows [] ne) (h.claims j lj)
+
+    -- with one of its rows asked
+    pub asked_after : (note : N) (u : ℕ) (row claimed changed : Bits) (graph' : Graph N) → u < length (places term) → All IsEntry (base_at graph.bases i) → ((x : X) → pos 0 ≤ℤ size x) → fits term note q (base_at graph.bases i)
+        → IsRow (places term) (times q (value term)) (base_at graph.bases i) u row → ((e : ℕ) → e ≢ get_or (places term) u 0 → bit_in claimed e ≡ bit_in (set_at graph.claimed.items i) e) → bit_in changed (get_or (places term) u 0) ≡ 1
+        → AreRenewed (set graph.rows.items i (set (table_at graph.rows.items i) u row)) graph.spots.items changed graph.unions.items graph'.unions.items → AreTurned graph'.unions.items graph'.back.items
+        → graph'.bases ≡ graph.bases → graph'.spots.items ≡ graph.spots.items → graph'.notes.items ≡ set graph.notes.items i note → graph'.rows.items ≡ set graph.rows.items i (set (table_at graph.rows.items i) u row)
+        → graph'.claimed.items ≡ set graph.claimed.items i claimed → IsClaimed places value size fits terms n q graph'
+    asked_after note u row claimed changed graph' lu small sound noted is_row same one renewed turned bases_are spots_are notes_are rows_are claimed_are =
+        let table = table_at graph.rows.items i in
+        claimed_after (base_at graph.bases i) note (set table u row) claimed changed graph' (based sound small) noted (length-set table u row ∙ rows_long)
+        (claims_asked (places term) placed.distinct (times q (value term)) (base_at graph.bases i) (set_at graph.claimed.items i) claimed table u row lu (rw rows_long lu) claims_at is_row same)
+        (λ v lv none. get_or-set_other table u v row blank_bits (λ s. none (rw s one))) renewed turned (bases_are ∙ sym (set-get_or graph.bases i [])) spots_are notes_are rows_are claimed_are
+
+  -- where nothing is claimed its rows are true
+  pub settled_graph : ((i : ℕ) → i < length terms → (u : ℕ) → u < length (term_at (meanings places value terms) i).places → bit_in (set_at graph.claimed.items i) (get_or (term_at (meanings places value terms) i).places u 0) ≢ 1)
+      → IsGraph places value fits terms n q graph
+  settled_graph none = record {
+    are_bases = h.are_bases;
+    note_count = h.note_count;
+    claim_count = h.claim_count;
+    noted = h.noted;
+    sized_rows = h.sized_rows;
+    tables = λ i l.
+        let (term, is) = there_is terms i l in
+        table_steps (meanings places value terms) q graph.bases i (table_at graph.rows.items i) (rw counted l) (distinct_at i l term is) (λ u e lu. (h.claims i l).exact u lu (none i l u lu) e);
+    are_spots = h.are_spots;
+    are_unions = h.are_unions;
+    are_turned = h.are_turned;
+  }
+
+-- and a graph whose rows are true is one, whatever is claimed
+module _ {X N : Type 0} {places : X → List ℕ} {value : X → SetFunction} {size : X → ℤ} {fits : X → N → ℤ → List ℤ → Type 0} {terms : List X} {n : ℕ} {q : ℤ} {graph : Graph N} (h : IsWhole places value size fits terms n q graph) where
+  pub whole_claimed : IsClaimed places value size fits terms n q graph
+  whole_claimed = record {
+    bounded = h.bounded;
+    factor = h.factor;
+    are_bases = h.exact.are_bases;
+    note_count = h.exact.note_count;
+    claim_count = h.exact.claim_count;
+    noted = h.exact.noted;
+    sized_rows = h.exact.sized_rows;
+    claims = claims;
+    are_spots = h.exact.are_spots;
+    are_unions = h.exact.are_unions;
+    are_turned = h.exact.are_turned;
+  } where
+    Claims : ℕ → Type 0
+    Claims i = AreClaims (term_at (meanings places value terms) i).places (times q (term_at (meanings places value terms) i).value) (base_at graph.bases i) (set_at graph.claimed.items i) (table_at graph.rows.items i)
+
+    claims : (i : ℕ) → i < length terms → Claims i
+    claims i l =
+        let (term, is) = there_is terms i l in
+        let li : i < length (meanings places value terms) = rw (length-meanings places value terms) l in
+        let at : (term_at (meanings places value terms) i).places ≡ places term = ap (λ (m : Meaning). m.places) (meanings-at places value terms i term l is) in
+        let distinct = subst AreDistinct (sym at) (all-at (IsPlaced n) places terms i term l is h.bounded.placed).distinct in
+        let table = steps_table (meanings places value terms) q graph.bases i (table_at graph.rows.items i) li distinct (h.exact.tables i l) in
+        rows_claimed (term_at (meanings places value terms) i).places (times q (term_at (meanings places value terms) i).value) (base_at graph.bases i) (set_at graph.claimed.items i) (table_at graph.rows.items i) (λ u lu e. table u e lu)

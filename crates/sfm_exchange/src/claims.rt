@@ -1,0 +1,178 @@
+// Rows that are only claimed, where they matter. The search for walks takes them as they are, since they lack no step; a walk
+// that it finds is moved along only once each of its steps is known to be a true one. A row that is asked for that is true from
+// then on, so where a step is refused, fewer rows are claimed, and the search begins anew. Where the graph is to be
+// read off as a whole, all rows that are left are asked.
+ghost use Rattle.std.specs.Prelude.{◌≡◌, ◌≢◌, ◌<◌, ℕ, length, true, false, OnOk, IfOk, slice_index_or};
+ghost use Rattle.std.specs.List.{All};
+ghost use Rattle.sfm_spec.specs.Bounds.{IsEntry};
+ghost use Rattle.sfm_spec.specs.Families.{meanings};
+ghost use Rattle.sfm_spec.specs.Walks.{term_at};
+ghost use Rattle.sfm_exchange.specs.Bits.{bit_in, set_at};
+ghost use Rattle.sfm_exchange.specs.Claimed.{IsAsked, claims_of};
+ghost use Rattle.sfm_exchange.specs.Graph.{IsClaimed, IsGraph};
+ghost use Rattle.sfm_exchange.specs.Hops.{AreHops, IsHop, IsMovable, hop_at};
+ghost use Rattle.sfm_exchange.specs.Reach.{table_at};
+
+use crate::bits::{Bits, no_bits};
+use crate::graph::Graph;
+use crate::path::Hop;
+use crate::reach::{Based, row_by};
+use crate::unions::renew;
+use sfm_base::Memory;
+use sfm_law::Term;
+use std::alloc::Global;
+
+// The set of one place.
+fn only(place: usize) -> Bits
+    requires { place < 256 }
+    ensures has { bit_in result place ≡ 1 }
+    ensures others { (e : ℕ) → e ≢ place → bit_in result e ≡ 0 }
+{
+    let mut bits = no_bits();
+    bits.insert(place);
+    bits
+}
+
+// Asks for the row of the place u of a term where it is only claimed.
+fn ask_at<T: Term>(
+    alloc: Global,
+    graph: &mut Graph<T::Note>,
+    terms: &[T],
+    q: i128,
+    i: usize,
+    u: usize,
+) -> Result<(), Memory>
+    requires graph { IsClaimed T.places T.value_of T.size_of T.fits terms.now (length graph.old.spots.items) q graph.old }
+    requires small { All (λ x. All IsEntry x) graph.old.bases }
+    requires term { i < length terms.now }
+    requires place { u < length (term_at (meanings T.places T.value_of terms.now) i).places }
+    ensures graph { OnOk result (IsClaimed T.places T.value_of T.size_of T.fits terms.now (length graph.old.spots.items) q graph.new) }
+    ensures bases { OnOk result (graph.new.bases ≡ graph.old.bases) }
+    ensures settled { OnOk result (bit_in (set_at graph.new.claimed.items i) (slice_index_or (term_at (meanings T.places T.value_of terms.now) i).places u 0) ≢ 1) }
+    ensures kept { OnOk result ((j e : ℕ) → bit_in (set_at graph.old.claimed.items j) e ≢ 1 → bit_in (set_at graph.new.claimed.items j) e ≢ 1) }
+    ensures asked { OnOk result (IsAsked graph.old.rows.items graph.old.claimed.items graph.new.rows.items graph.new.claimed.items) }
+{
+    let term = &terms[i];
+    let places = term.elements();
+    let place = places[u];
+    let claims = &graph.claimed[i];
+    if !claims.contains(place) {
+        return Ok(());
+    }
+    let claimed = &mut graph.claimed[i];
+    claimed.remove(place);
+    let x = graph.bases.row(i);
+    let at = Based { term, q, x };
+    let note = &mut graph.notes[i];
+    let rows = &mut graph.rows[i];
+    let row = row_by(alloc, &at, note, u, rows)?;
+    rows.set(u, row);
+    let changed = only(place);
+    renew(
+        &graph.spots,
+        &graph.rows,
+        &changed,
+        &mut graph.unions,
+        &mut graph.back,
+    );
+    Ok(())
+}
+
+// Whether a step is a true one.
+fn prove_hop<T: Term>(
+    alloc: Global,
+    graph: &mut Graph<T::Note>,
+    terms: &[T],
+    q: i128,
+    hop: Hop,
+) -> Result<bool, Memory>
+    requires graph { IsClaimed T.places T.value_of T.size_of T.fits terms.now (length graph.old.spots.items) q graph.old }
+    requires small { All (λ x. All IsEntry x) graph.old.bases }
+    requires named { (from : ℕ) × IsHop (meanings T.places T.value_of terms.now) from hop }
+    ensures graph { OnOk result (IsClaimed T.places T.value_of T.size_of T.fits terms.now (length graph.old.spots.items) q graph.new) }
+    ensures bases { OnOk result (graph.new.bases ≡ graph.old.bases) }
+    ensures asked { OnOk result (IsAsked graph.old.rows.items graph.old.claimed.items graph.new.rows.items graph.new.claimed.items) }
+    ensures proved { IfOk result (λ r. r ≡ true → IsMovable (meanings T.places T.value_of terms.now) q graph.old.bases hop) }
+    ensures refused { IfOk result (λ r. r ≡ false → bit_in (set_at (table_at graph.old.rows.items hop.term) hop.u) hop.to ≡ 1 → claims_of graph.new.claimed.items < claims_of graph.old.claimed.items) }
+{
+    ask_at(alloc, graph, terms, q, hop.term, hop.u)?;
+    let rows = &graph.rows[hop.term];
+    let row = rows.row(hop.u);
+    Ok(row.contains(hop.to))
+}
+
+/// Whether the steps of a walk, which the rows tell, are true ones: rows of theirs that are only claimed are asked. Where one
+/// is refused, fewer rows are claimed than before. After want of memory nothing is said of the graph.
+///
+/// # Errors
+///
+/// `Memory` where there is none.
+pub fn prove_walk<T: Term>(
+    alloc: Global,
+    graph: &mut Graph<T::Note>,
+    terms: &[T],
+    q: i128,
+    hops: &[Hop],
+) -> Result<bool, Memory>
+    requires graph { IsClaimed T.places T.value_of T.size_of T.fits terms.now (length graph.old.spots.items) q graph.old }
+    requires small { All (λ x. All IsEntry x) graph.old.bases }
+    requires told { (first : ℕ) × AreHops (meanings T.places T.value_of terms.now) graph.old.rows.items first hops.now }
+    ensures graph { OnOk result (IsClaimed T.places T.value_of T.size_of T.fits terms.now (length graph.old.spots.items) q graph.new) }
+    ensures bases { OnOk result (graph.new.bases ≡ graph.old.bases) }
+    ensures proved { IfOk result (λ r. r ≡ true → (k : ℕ) → k < length hops.now → IsMovable (meanings T.places T.value_of terms.now) q graph.old.bases (hop_at hops.now k)) }
+    ensures refused { IfOk result (λ r. r ≡ false → claims_of graph.new.claimed.items < claims_of graph.old.claimed.items) }
+{
+    for hop in hops {
+        let proved = prove_hop(alloc, graph, terms, q, *hop)?;
+        if !proved {
+            return Ok(false);
+        }
+    }
+    Ok(true)
+}
+
+// Asks for all rows of a term that are only claimed.
+fn settle_term<T: Term>(
+    alloc: Global,
+    graph: &mut Graph<T::Note>,
+    terms: &[T],
+    q: i128,
+    i: usize,
+) -> Result<(), Memory>
+    requires graph { IsClaimed T.places T.value_of T.size_of T.fits terms.now (length graph.old.spots.items) q graph.old }
+    requires small { All (λ x. All IsEntry x) graph.old.bases }
+    requires term { i < length terms.now }
+    ensures graph { OnOk result (IsClaimed T.places T.value_of T.size_of T.fits terms.now (length graph.old.spots.items) q graph.new) }
+    ensures bases { OnOk result (graph.new.bases ≡ graph.old.bases) }
+    ensures settled { OnOk result ((u : ℕ) → u < length (term_at (meanings T.places T.value_of terms.now) i).places
+        → bit_in (set_at graph.new.claimed.items i) (slice_index_or (term_at (meanings T.places T.value_of terms.now) i).places u 0) ≢ 1) }
+    ensures kept { OnOk result ((j e : ℕ) → bit_in (set_at graph.old.claimed.items j) e ≢ 1 → bit_in (set_at graph.new.claimed.items j) e ≢ 1) }
+{
+    let count = terms[i].elements().len();
+    for u in 0..count {
+        ask_at(alloc, graph, terms, q, i, u)?;
+    }
+    Ok(())
+}
+
+/// Asks for all rows that are only claimed, so that all are true. After want of memory nothing is said of the graph.
+///
+/// # Errors
+///
+/// `Memory` where there is none.
+pub fn settle_rows<T: Term>(
+    alloc: Global,
+    graph: &mut Graph<T::Note>,
+    terms: &[T],
+    q: i128,
+) -> Result<(), Memory>
+    requires graph { IsClaimed T.places T.value_of T.size_of T.fits terms.now (length graph.old.spots.items) q graph.old }
+    requires small { All (λ x. All IsEntry x) graph.old.bases }
+    ensures graph { OnOk result (IsGraph T.places T.value_of T.fits terms.now (length graph.old.spots.items) q graph.new) }
+    ensures bases { OnOk result (graph.new.bases ≡ graph.old.bases) }
+{
+    for i in 0..terms.len() {
+        settle_term(alloc, graph, terms, q, i)?;
+    }
+    Ok(())
+}
