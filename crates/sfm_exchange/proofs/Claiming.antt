@@ -102,14 +102,21 @@ module _ (places : List ℕ) (distinct : AreDistinct places) {f : SetFunction} (
     lacks u lu none = ((λ same. none ((all (get_or places u 0)).1 (u, lu, refl, inl same))), (λ one. none ((all (get_or places u 0)).1 (u, lu, refl, inr one))))
 
     -- and one that was found has it
-    finds : (u : ℕ) → u < length places → IsRow places f x u (set_at rows u) → bit_in found (get_or places u 0) ≡ 1 → Depends f x u t
+    pub finds : (u : ℕ) → u < length places → IsRow places f x u (set_at rows u) → bit_in found (get_or places u 0) ≡ 1 → Depends f x u t
     finds u lu row one = let (v, lv, is, o) = (all (get_or places u 0)).0 one in at (distinct v u lv lu is) o where
       at : {v : ℕ} → v ≡ u → (v ≡ t) ⊎ (bit_in (set_at rows v) (get_or places t 0) ≡ 1) → Depends f x u t
       at same (inl here) = inl (sym here ∙ same)
       at same (inr bit) = ((row_tells places distinct x u (set_at rows u) row t lt).0 (rw same at bit)).1
 
+    -- a true row that was not found stays true
+    pub true_stays : (u : ℕ) → u < length places → bit_in found (get_or places u 0) ≢ 1 → IsRow places f x u (set_at rows u) → IsRow places f y u (set_at rows u)
+    true_stays u lu none row = row_untouched places distinct family law sized base s t ls lt apart a some after u (set_at rows u) lu lone row where
+      lone : Depends f x u t → ⊥
+      lone (inl same) = (lacks u lu none).0 (sym same)
+      lone (inr room) = (lacks u lu none).1 ((h.claims u lu).has t lt (λ same. (lacks u lu none).0 (sym same)) room)
+
     -- as that of s was
-    finds_s : bit_in found (get_or places s 0) ≡ 1
+    pub finds_s : bit_in found (get_or places s 0) ≡ 1
     finds_s = (all (get_or places s 0)).1 (s, ls, refl, inr ((h.claims s ls).has t lt (λ same. apart (sym same)) (a, some, after)))
 
     -- the rows that were found have taken in one that is a claim of s
@@ -131,11 +138,7 @@ module _ (places : List ℕ) (distinct : AreDistinct places) {f : SetFunction} (
         right : (u : ℕ) → u < length places → bit_in claimed' (get_or places u 0) ≢ 1 → (u ≡ s) ⊎ (u ≢ s) → (bit_in found (get_or places u 0) ≡ 1) ⊎ (bit_in found (get_or places u 0) ≢ 1) → IsRow places f y u (set_at (set mid s of_s) u)
         right u lu out (inl same) o = rw (same, get_or-set_same mid s of_s blank_bits inside) hs
         right u lu out (inr ne) (inl one) = rw (get_or-set_other mid s u of_s blank_bits ne) (joins u lu out ne (before u lu ne out) one)
-        right u lu out (inr ne) (inr none) = rw (get_or-set_other mid s u of_s blank_bits ne, j.others u lu none)
-            (row_untouched places distinct family law sized base s t ls lt apart a some after u (set_at rows u) lu (λ d. (lacks u lu none).1 ((h.claims u lu).has t lt (λ same. (lacks u lu none).0 (sym same)) (room_of d))) (before u lu ne out)) where
-              room_of : Depends f x u t → HasRoom f x u t
-              room_of (inl same) = absurd ((lacks u lu none).0 (sym same))
-              room_of (inr room) = room
+        right u lu out (inr ne) (inr none) = rw (get_or-set_other mid s u of_s blank_bits ne, j.others u lu none) (true_stays u lu none (before u lu ne out))
 
     -- where s has t still, true rows that take in its row stay true
     claims_still : (mid : List Bits) → length rows ≡ length places → AreJoined places found of_s (get_or places s 0) (length places) rows mid → bit_in of_s (get_or places t 0) ≡ 1

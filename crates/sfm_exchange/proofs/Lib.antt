@@ -14,6 +14,7 @@ pub mod Searching
 pub mod Signing
 pub mod RowsAfter
 pub mod Claiming
+pub mod AtOnce
 pub mod Asked
 pub mod Basing
 pub mod ClaimedGraphs

@@ -3,6 +3,7 @@ use Rattle.std.specs.Prelude.{◌≡◌, ◌≢◌, ◌↔◌, ◌⊎◌, ℕ, �
 use Rattle.sfm_spec.specs.Terms.{SetFunction, IsBase, exchanged}
 use Rattle.sfm_exchange.specs.declared.bits.Bits.{Bits}
 use Rattle.sfm_exchange.specs.Bits.{bit_in, set_at}
+use Rattle.sfm_exchange.specs.Reach.{IsRow}
 
 -- a base from which another vector comes by raising s and lowering t
 pub record IsExchanged (f : SetFunction) (before after : List ℤ) (s t : ℕ) : Type 0 where
@@ -25,3 +26,9 @@ pub record AreJoined (places : List ℕ) (changed : Bits) (more : Bits) (to k : 
   pub joined : (u : ℕ) → u < k → bit_in changed (slice_index_or places u 0) ≡ 1 → IsJoined (set_at before u) more to (slice_index_or places u 0) (set_at after u)
   pub others : (u : ℕ) → u < length places → bit_in changed (slice_index_or places u 0) ≢ 1 → set_at after u ≡ set_at before u
   pub ahead : (u : ℕ) → k ≤ u → set_at after u ≡ set_at before u
+
+-- of the first k rows those whose ground places are in the set are those of the base x; all others stay
+pub record AreAsked (places : List ℕ) (f : SetFunction) (x : List ℤ) (changed : Bits) (k : ℕ) (before after : List Bits) : Type 0 where
+  pub count : length after ≡ length before
+  pub asked : (u : ℕ) → u < k → bit_in changed (slice_index_or places u 0) ≡ 1 → IsRow places f x u (set_at after u)
+  pub others : (u : ℕ) → u < length places → bit_in changed (slice_index_or places u 0) ≢ 1 → set_at after u ≡ set_at before u

@@ -3,14 +3,15 @@
 // afterwards. The row of s is asked. Where s still depends on t, no set has become tight, so each such row is joined with
 // that of s. Else the exchange has used up its room, and some of what these rows had may be gone. No row gains more than s
 // had, so each takes in what s had, and is claimed: it lacks nothing, but may have too much, and is asked once a walk takes
-// it.
-ghost use Rattle.std.specs.Prelude.{◌≡◌, ◌≢◌, ◌↔◌, ◌⊎◌, IsTrue, ◌<◌, ℕ, List, ℤ, length, IfOk, OnOk, slice_index_or};
+// it. A term that finds its rows sooner one after another is asked for them at once, so none of its rows is ever claimed.
+ghost use Rattle.std.specs.Prelude.{◌≡◌, ◌≢◌, ◌↔◌, ◌⊎◌, IsTrue, true, ◌<◌, ℕ, List, ℤ, length, IfOk, OnOk, slice_index_or};
 ghost use Rattle.sfm_spec.specs.Sets.{IsPlaced};
+ghost use Rattle.sfm_spec.specs.Rows.{Depends};
 ghost use Rattle.sfm_spec.specs.Terms.{times};
 ghost use Rattle.sfm_exchange.specs.Based.{IsBased};
 ghost use Rattle.sfm_exchange.specs.Bits.{bit_in, set_at};
 ghost use Rattle.sfm_exchange.specs.Claimed.{AreClaims};
-ghost use Rattle.sfm_exchange.specs.Renewed.{AreDepending, AreJoined, IsExchanged, IsJoined};
+ghost use Rattle.sfm_exchange.specs.Renewed.{AreAsked, AreDepending, AreJoined, IsExchanged, IsJoined};
 
 use crate::bits::{Bits, no_bits};
 use crate::path::Hop;
@@ -72,6 +73,40 @@ fn join_rows(places: &[usize], changed: &Bits, more: &Bits, to: usize, rows: &mu
     }
 }
 
+// Whether a term is asked for rows at once: it finds them sooner one after another, and none of its rows is claimed.
+fn asks_at_once<T: Term>(term: &T, claimed: &Bits) -> bool
+    ensures { result ≡ true → (e : ℕ) → bit_in claimed.now e ≢ 1 }
+{
+    term.order().is_some() && claimed.is_empty()
+}
+
+// Asks for the rows of some places, each of which has room to s, by a note that fits the base, which fits it still.
+fn ask_rows<T: Term>(
+    alloc: Global,
+    at: &Based<'_, T>,
+    note: &mut T::Note,
+    s: usize,
+    changed: &Bits,
+    rows: &mut BitRows,
+) -> Result<(), Memory>
+    requires based { IsBased T.places T.value_of T.size_of at.now.term.now at.now.q at.now.x.now }
+    requires noted { T.fits at.now.term.now note.old at.now.q at.now.x.now }
+    requires onto { s < length at.now.x.now }
+    requires leads { (u : ℕ) → u < length at.now.x.now → bit_in changed.now (slice_index_or (T.places at.now.term.now) u 0) ≡ 1 → Depends (times at.now.q (T.value_of at.now.term.now)) at.now.x.now u s }
+    requires rows { length rows.old ≡ length at.now.x.now }
+    ensures asked { OnOk result (AreAsked (T.places at.now.term.now) (times at.now.q (T.value_of at.now.term.now)) at.now.x.now changed.now (length (T.places at.now.term.now)) rows.old rows.new) }
+    ensures noted { OnOk result (T.fits at.now.term.now note.new at.now.q at.now.x.now) }
+{
+    let places = at.term.elements();
+    for u in 0..places.len() {
+        if changed.contains(places[u]) {
+            let row = row_with(alloc, at, note, s, u, rows)?;
+            rows.set(u, row);
+        }
+    }
+    Ok(())
+}
+
 /// Brings the rows of a term up to the base that came by the exchange of a step, which raises its first place and lowers its
 /// last, and gives the ground places whose rows may have changed. Some rows are only claimed, before and afterwards; that of
 /// the first place is true. The note fits the base, and fits it still; after want of memory nothing is said of it.
@@ -106,6 +141,13 @@ pub fn renew_rows<T: Term>(
         join_rows(places, &changed, &of_s, to, rows);
         rows.set(hop.u, of_s);
         claimed.remove(to);
+        return Ok(changed);
+    }
+    if asks_at_once(at.term, claimed) {
+        rows.set(hop.u, of_s);
+        let mut others = changed;
+        others.remove(to);
+        ask_rows(alloc, at, note, hop.u, &others, rows)?;
         return Ok(changed);
     }
     join_rows(places, &changed, &before, to, rows);
