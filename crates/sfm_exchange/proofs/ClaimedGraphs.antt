@@ -17,15 +17,16 @@ use Rattle.sfm_exchange.specs.declared.graph.Graph.{Graph}
 use Rattle.sfm_exchange.specs.Based.{IsBased}
 use Rattle.sfm_exchange.specs.Bits.{bit_in, blank_bits, set_at}
 use Rattle.sfm_exchange.specs.Claimed.{AreClaims, IsClaim}
-use Rattle.sfm_exchange.specs.Graph.{IsClaimed, IsGraph, IsWhole}
+use Rattle.sfm_exchange.specs.Graph.{IsClaimed, IsShaped, IsWhole}
 use Rattle.sfm_exchange.specs.Reach.{IsRow, table_at}
+use Rattle.sfm_exchange.specs.Spots.{spot_at, spots_at}
 use Rattle.sfm_exchange.specs.Turned.{AreTurned}
-use Rattle.sfm_exchange.specs.Unions.{AreRenewed, HaveLinks, HaveRows}
+use Rattle.sfm_exchange.specs.Unions.{AreRenewed, HaveLinks, HaveRows, IsArc}
 use Rattle.sfm_exchange.proofs.Basing.{is_based}
 use Rattle.sfm_exchange.proofs.Claiming.{claims_asked, rows_claimed}
 use Rattle.sfm_exchange.proofs.Exchanging.{bases_set}
 use Rattle.sfm_exchange.proofs.Noting.{notes_set, sized_at, sized_meanings, sized_set, there_is}
-use Rattle.sfm_exchange.proofs.Reaching.{steps_table, table_steps}
+use Rattle.sfm_exchange.proofs.Reaching.{steps_table}
 use Rattle.sfm_exchange.proofs.Telling.{step_told}
 use Rattle.sfm_exchange.proofs.Uniting.{have_rows, links_told, unions_renewed}
 
@@ -51,6 +52,10 @@ module _ {X N : Type 0} {places : X → List ℕ} {value : X → SetFunction} {s
   -- and there is a union for each place
   pub unions_count : length graph.unions.items ≡ n
   unions_count = h.are_unions.count ∙ h.are_spots.count
+
+  -- the lists that a graph has
+  pub shaped : IsShaped places value terms n graph
+  shaped = record { are_spots = h.are_spots; sized_rows = h.sized_rows; claim_count = h.claim_count; union_count = unions_count; back_count = h.are_turned.count }
 
   -- the same over as many places as the graph has spots for
   pub own : IsClaimed places value size fits terms (length graph.spots.items) q graph
@@ -164,22 +169,17 @@ module _ {X N : Type 0} {places : X → List ℕ} {value : X → SetFunction} {s
         (claims_asked (places term) placed.distinct (times q (value term)) (base_at graph.bases i) (set_at graph.claimed.items i) claimed table u row lu (rw rows_long lu) claims_at is_row same)
         (λ v lv none. get_or-set_other table u v row blank_bits (λ s. none (rw s one))) renewed turned (bases_are ∙ sym (set-get_or graph.bases i [])) spots_are notes_are rows_are claimed_are
 
-  -- where nothing is claimed its rows are true
-  pub settled_graph : ((i : ℕ) → i < length terms → (u : ℕ) → u < length (term_at (meanings places value terms) i).places → bit_in (set_at graph.claimed.items i) (get_or (term_at (meanings places value terms) i).places u 0) ≢ 1)
-      → IsGraph places value fits terms n q graph
-  settled_graph none = record {
-    are_bases = h.are_bases;
-    note_count = h.note_count;
-    claim_count = h.claim_count;
-    noted = h.noted;
-    sized_rows = h.sized_rows;
-    tables = λ i l.
-        let (term, is) = there_is terms i l in
-        table_steps (meanings places value terms) q graph.bases i (table_at graph.rows.items i) (rw counted l) (distinct_at i l term is) (λ u e lu. (h.claims i l).exact u lu (none i l u lu) e);
-    are_spots = h.are_spots;
-    are_unions = h.are_unions;
-    are_turned = h.are_turned;
-  }
+  -- where no row of a place is claimed, its union row tells arcs alone
+  pub arcs_alone : (e : ℕ) → e < n → ((k : ℕ) → k < length (spots_at graph.spots.items e) → bit_in (set_at graph.claimed.items (spot_at (spots_at graph.spots.items e) k).term) e ≢ 1)
+      → (t : ℕ) → bit_in (set_at graph.unions.items e) t ≡ 1 → IsArc (meanings places value terms) q graph.bases e t
+  arcs_alone e le none t one =
+      let inside : e < length graph.spots.items = rw h.are_spots.count le in
+      let (j, lj, bit) = (h.are_unions.exact e inside t).0 one in
+      let is = h.are_spots.sound e j le lj in
+      let spot = spot_at (spots_at graph.spots.items e) j in
+      let row = (h.claims spot.term (rw counted at is.term_in)).exact spot.local is.local_in (rw is.at (none j lj)) in
+      let (v, lv, ne, (a, some, base), ends) = (row t).0 bit in
+      (spot.term, (a, some, record { in_range = is.term_in; u = spot.local; v = v; u_in = is.local_in; v_in = lv; begins = is.at; ends = ends; apart = (λ same. ne (sym same)); base = base }))
 
 -- and a graph whose rows are true is one, whatever is claimed
 module _ {X N : Type 0} {places : X → List ℕ} {value : X → SetFunction} {size : X → ℤ} {fits : X → N → ℤ → List ℤ → Type 0} {terms : List X} {n : ℕ} {q : ℤ} {graph : Graph N} (h : IsWhole places value size fits terms n q graph) where

@@ -11,7 +11,7 @@ use Rattle.sfm_spec.specs.Terms.{SetFunction, IsFamily, IsSubmodular}
 use Rattle.sfm_spec.specs.Families.{Meaning, meanings, AreTerms, AreBases, IsLeast, IsGreatest, IsMinimiser, IsSigned, Prove, rest_at}
 use Rattle.sfm_spec.specs.Reach.{IsClosed, IsReachedSet, IsUnder}
 use Rattle.sfm_spec.specs.Walks.{Step, IsOver, Joins}
-use Rattle.sfm_spec.proofs.Extremes.{closed_minimiser, in_complement, least_of_reached, length-complement, minimiser_closed, no_join_exactly, not_in_complement}
+use Rattle.sfm_spec.proofs.Extremes.{closed_minimiser, in_complement, least_of_reached, length-complement, minimiser_closed, no_join_exactly, not_in_complement, reached_of_least}
 use Rattle.sfm_spec.proofs.Proving.{no_join, prove_if_none}
 use Rattle.sfm_spec.proofs.Reach.{reached_set}
 use Rattle.sfm_spec.proofs.Sets.{has_or_not}
@@ -23,7 +23,7 @@ use Rattle.sfm_exchange.specs.declared.signs.Signs.{Signs}
 use Rattle.sfm_exchange.specs.Bits.{bit_in, blank_bits, set_at}
 use Rattle.sfm_exchange.specs.Graph.{IsWhole}
 use Rattle.sfm_exchange.specs.Levels.{AreClosed}
-use Rattle.sfm_exchange.specs.Reached.{AreReached, IsSetOf}
+use Rattle.sfm_exchange.specs.Reached.{AreReached, AreWalked, IsSetOf}
 use Rattle.sfm_exchange.specs.Signs.{AreSigns}
 use Rattle.sfm_exchange.specs.Turned.{AreTurned}
 use Rattle.sfm_exchange.specs.Unions.{AreLinks}
@@ -60,6 +60,23 @@ out_of s e l out = in_complement s e l (⊎_elim (λ has. absurd (out has)) (λ 
 not_both : (s : List Bool) (e : ℕ) → Has (complement s) e → Has s e → ⊥
 not_both s e out has = both_ways (get_or s e false) (not_in_complement s e out) has
 
+-- where the bases prove, all that walks lead to from the places with z < 0 is the least minimiser
+module _ (terms : List Meaning) (rows : List (List ℤ)) (n : ℕ) (q : ℤ) (low : pos 0 ≤ℤ q) (fit : AreTerms n terms) (bases : AreBases q terms rows) (shift : List ℤ) (prove : Prove terms n q shift rows) where
+  least_reached : (s : List Bool) → IsReachedSet terms n q rows (IsUnder terms rows shift) s → IsLeast terms n q shift s
+  least_reached s set = (least_of_reached terms rows n q shift low fit bases s set ((no_join_exactly terms rows n q shift low fit bases s set).1 (no_join terms rows n q shift low fit bases prove))).0
+
+  pub least_walked : (firsts found : Bits) → ((e : ℕ) → (bit_in firsts e ≡ 1) ↔ ((e < n) × IsUnder terms rows shift e)) → (s : List Bool) → IsSetOf found n s → AreWalked terms n q rows firsts found → IsLeast terms n q shift s
+  least_walked firsts found are s same walked = least_reached s (reached_of_least terms rows n q shift low fit bases s (record {
+    places = same.places;
+    firsts = λ e l under. (same.exact e l).1 (walked.begins e ((are e).1 (l, under)));
+    closed = λ from step h has.
+        let lf : from < n = inside from has in
+        (same.exact step.to (step_below terms rows n q low fit bases from step h)).1 (walked.closed from step h ((same.exact from lf).0 has));
+    within = λ t places closed holds e has. walked.least t (λ d one. let (l, under) = (are d).0 one in holds d l under) closed e ((same.exact e (inside e has)).0 has);
+  })) where
+    inside : (e : ℕ) → Has s e → e < n
+    inside e has = rw (← same.places) (has_below s e has)
+
 module _ (terms : List Meaning) (rows : List (List ℤ)) (n : ℕ) (q : ℤ) (low : pos 0 ≤ℤ q) (fit : AreTerms n terms) (bases : AreBases q terms rows) (unions : List Bits) (links : AreLinks terms n q rows unions) where
   -- a link leads to a place of the ground
   pub link_below : (e t : ℕ) → e < n → bit_in (set_at unions e) t ≡ 1 → t < n
@@ -94,8 +111,7 @@ module _ (terms : List Meaning) (rows : List (List ℤ)) (n : ℕ) (q : ℤ) (lo
     module _ (shift : List ℤ) (prove : Prove terms n q shift rows) where
       pub least_is : ((e : ℕ) → (bit_in firsts e ≡ 1) ↔ ((e < n) × IsUnder terms rows shift e)) → AreReached unions firsts found → IsLeast terms n q shift s
       least_is are reached =
-          let set = walks_reach (IsUnder terms rows shift) are reached in
-          (least_of_reached terms rows n q shift low fit bases s set ((no_join_exactly terms rows n q shift low fit bases s set).1 (no_join terms rows n q shift low fit bases prove))).0
+          least_reached terms rows n q low fit bases shift prove s (walks_reach (IsUnder terms rows shift) are reached)
 
       module _ (back : List Bits) (turned : AreTurned unions back) (few : n ≤ 256) (count : length unions ≡ n) (are : (e : ℕ) → (bit_in firsts e ≡ 1) ↔ ((e < n) × IsOver terms rows shift e)) (leading : AreReached back firsts found) where
         -- a place from which links lead to one with z > 0 is in no minimiser
@@ -133,6 +149,20 @@ module _ (terms : List Meaning) (rows : List (List ℤ)) (n : ℕ) (q : ℤ) (lo
               let link = turned.exact from step.to (omega (arith, lt, few)) ∙ (links from step.to lf).1 (step.term, h) in
               out_of s step.to (rw same.places lt) (λ lead. not_both s from out ((same.exact from lf).1 (leading.closed step.to from ((same.exact step.to lt).0 lead) link)))
 
+-- the signs of z tell where it is below or over 0
+module _ (terms : List Meaning) (n : ℕ) (rows : List (List ℤ)) {shift z : List ℤ} {signs : Signs} (zn : length z ≡ n) (rest : IsRest terms shift rows z) (signed : AreSigns z signs) where
+  pub under_are : (e : ℕ) → (bit_in signs.under e ≡ 1) ↔ ((e < n) × IsUnder terms rows shift e)
+  under_are e = (
+    (λ one. let (l, u) = (signed.below e).0 one in (rw (← zn) l, rw (rest.exact e l) at u)),
+    (λ (l, u). let lz : e < length z = rw zn l in (signed.below e).1 (lz, rw (rest.exact e lz) u)),
+  )
+
+  pub over_are : (e : ℕ) → (bit_in signs.over e ≡ 1) ↔ ((e < n) × IsOver terms rows shift e)
+  over_are e = (
+    (λ one. let (l, o) = (signed.above e).0 one in (rw (← zn) l, rw (rest.exact e l) at o)),
+    (λ (l, o). let lz : e < length z = rw zn l in (signed.above e).1 (lz, rw (rest.exact e lz) o)),
+  )
+
 -- ---- the graph as a whole
 
 module _ {X N : Type 0} {places : X → List ℕ} {value : X → SetFunction} {size : X → ℤ} {fits : X → N → ℤ → List ℤ → Type 0} {terms : List X} {n : ℕ} {q : ℤ} {graph : Graph N} (h : IsWhole places value size fits terms n q graph)
@@ -154,23 +184,11 @@ module _ {X N : Type 0} {places : X → List ℕ} {value : X → SetFunction} {s
       rw turned.count (omega (arith, from, unions_count h, h.bounded.few))
 
   module _ {shift z : List ℤ} {signs : Signs} (zn : length z ≡ n) (rest : IsRest (meanings places value terms) shift graph.bases z) (signed : AreSigns z signs) where
-    under_are : (e : ℕ) → (bit_in signs.under e ≡ 1) ↔ ((e < n) × IsUnder (meanings places value terms) graph.bases shift e)
-    under_are e = (
-      (λ one. let (l, u) = (signed.below e).0 one in (rw (← zn) l, rw (rest.exact e l) at u)),
-      (λ (l, u). let lz : e < length z = rw zn l in (signed.below e).1 (lz, rw (rest.exact e lz) u)),
-    )
-
-    over_are : (e : ℕ) → (bit_in signs.over e ≡ 1) ↔ ((e < n) × IsOver (meanings places value terms) graph.bases shift e)
-    over_are e = (
-      (λ one. let (l, o) = (signed.above e).0 one in (rw (← zn) l, rw (rest.exact e l) at o)),
-      (λ (l, o). let lz : e < length z = rw zn l in (signed.above e).1 (lz, rw (rest.exact e lz) o)),
-    )
-
     pub under_in : (e : ℕ) → bit_in signs.under e ≡ 1 → e < length graph.unions.items
-    under_in e one = rw (unions_count h) ((under_are e).0 one).0
+    under_in e one = rw (unions_count h) ((under_are (meanings places value terms) n graph.bases zn rest signed e).0 one).0
 
     pub over_in : (e : ℕ) → bit_in signs.over e ≡ 1 → e < length graph.back.items
-    over_in e one = let (l, o) = (over_are e).0 one in rw h.exact.are_turned.count (omega (arith, l, h.bounded.few))
+    over_in e one = let (l, o) = (over_are (meanings places value terms) n graph.bases zn rest signed e).0 one in rw h.exact.are_turned.count (omega (arith, l, h.bounded.few))
 
     -- where the levels are closed no walk joins
     pub none : (levels : List Bits) → AreClosed n graph.unions.items z levels → (first : ℕ) (steps : List Step) → Joins (meanings places value terms) q shift graph.bases first steps → ⊥
@@ -183,7 +201,7 @@ module _ {X N : Type 0} {places : X → List ℕ} {value : X → SetFunction} {s
     -- where the bases prove
     module _ (prove : Prove (meanings places value terms) n q shift graph.bases) (found : Bits) (s : List Bool) (same : IsSetOf found n s) where
       pub least : AreReached graph.unions.items signs.under found → IsLeast (meanings places value terms) n q shift s
-      least = least_is (meanings places value terms) graph.bases n q (low h) fit h.exact.are_bases graph.unions.items links_are signs.under found s same shift prove under_are
+      least = least_is (meanings places value terms) graph.bases n q (low h) fit h.exact.are_bases graph.unions.items links_are signs.under found s same shift prove (under_are (meanings places value terms) n graph.bases zn rest signed)
 
       pub greatest : AreReached graph.back.items signs.over found → IsGreatest (meanings places value terms) n q shift (complement s)
-      greatest = greatest_is (meanings places value terms) graph.bases n q (low h) fit h.exact.are_bases graph.unions.items links_are signs.over found s same shift prove graph.back.items h.exact.are_turned h.bounded.few (unions_count h) over_are
+      greatest = greatest_is (meanings places value terms) graph.bases n q (low h) fit h.exact.are_bases graph.unions.items links_are signs.over found s same shift prove graph.back.items h.exact.are_turned h.bounded.few (unions_count h) (over_are (meanings places value terms) n graph.bases zn rest signed)

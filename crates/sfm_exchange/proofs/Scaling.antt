@@ -4,7 +4,7 @@ use Rattle.std.proofs.Math.IntN.{*ℤ-zero}
 use Rattle.std.proofs.lemmas.Int.{ints}
 use Rattle.std.proofs.lemmas.List.{length-map}
 use Rattle.std.specs.Option.{option_map}
-use Rattle.sfm_spec.specs.Sets.{Has, sum_over, AreDistinct}
+use Rattle.sfm_spec.specs.Sets.{Has, sum_over}
 use Rattle.sfm_spec.specs.Rows.{Depends}
 use Rattle.sfm_spec.specs.Terms.{SetFunction, times, IsFamily, IsSubmodular, IsBase, IsTight, IsTightSet, HasRoom}
 use Rattle.sfm_spec.specs.Families.{Meaning, AreTerms, AreBases}
@@ -15,11 +15,11 @@ use Rattle.sfm_spec.proofs.Walks.{terms-at, bases-at}
 use Rattle.sfm_exchange.specs.declared.bits.Bits.{Bits}
 use Rattle.sfm_exchange.specs.declared.spots.Spot.{Spot}
 use Rattle.sfm_exchange.specs.Bits.{set_at}
+use Rattle.sfm_exchange.specs.Claimed.{AreClaims}
 use Rattle.sfm_exchange.specs.Scaled.{row_times}
-use Rattle.sfm_exchange.specs.Reach.{IsReachTable, IsTable, table_at}
+use Rattle.sfm_exchange.specs.Reach.{IsRow, table_at}
 use Rattle.sfm_exchange.specs.Spots.{AreSpots, spots_at, spot_at}
 use Rattle.sfm_exchange.specs.Unions.{AreUnions, IsUnion}
-use Rattle.sfm_exchange.proofs.Reaching.{steps_table, table_steps}
 
 -- a sum of entries is multiplied with them
 pub sum_over-times : (q : ℤ) (s : List Bool) (x : List ℤ) → sum_over s (row_times q x) ≡ (q *ℤ sum_over s x)
@@ -74,31 +74,31 @@ module _ {k : ℕ} {f : SetFunction} (family : IsFamily k f) (law : IsSubmodular
   )
 
   -- the rows of a term stay
-  pub table_times : (places : List ℕ) → length places ≡ k → (table : List Bits) → IsReachTable places (times (pos 1) f) x (length places) table → IsReachTable places (times q f) (row_times q x) (length places) table
-  table_times places count table h u e lu = (
-    (λ one. let (v, lv, ne, room, is) = (h u e lu).0 one in (v, lv, ne, (room_times u v (rw (← count) lu) (rw (← count) lv) ne).0 room, is)),
-    (λ (v, lv, ne, room, is). (h u e lu).1 (v, lv, ne, (room_times u v (rw (← count) lu) (rw (← count) lv) ne).1 room, is)),
+  pub row_stays : (places : List ℕ) → length places ≡ k → (u : ℕ) → u < length places → (row : Bits) → IsRow places (times (pos 1) f) x u row → IsRow places (times q f) (row_times q x) u row
+  row_stays places count u lu row h e = (
+    (λ one. let (v, lv, ne, room, is) = (h e).0 one in (v, lv, ne, (room_times u v (rw (← count) lu) (rw (← count) lv) ne).0 room, is)),
+    (λ (v, lv, ne, room, is). (h e).1 (v, lv, ne, (room_times u v (rw (← count) lu) (rw (← count) lv) ne).1 room, is)),
   )
 
--- and so do those of all terms
-pub tables_times : (terms : List Meaning) (n : ℕ) (q : ℤ) (rows bases : List (List ℤ)) (tables : List (List Bits)) → pos 1 ≤ℤ q → AreTerms n terms → AreBases (pos 1) terms rows → AreBases q terms bases
-    → ((i : ℕ) → i < length terms → base_at bases i ≡ row_times q (base_at rows i)) → ((i : ℕ) → i < length terms → IsTable terms (pos 1) rows i (table_at tables i)) → (i : ℕ) → i < length terms → IsTable terms q bases i (table_at tables i)
-tables_times terms n q rows bases tables low fit are after multiple right i li = table_steps terms q bases i (table_at tables i) li distinct (rw same told) where
-  term : Meaning
-  term = term_at terms i
+  -- and so do those that are claimed
+  pub claims_stay : (places : List ℕ) → length places ≡ k → (claimed : Bits) (table : List Bits) → AreClaims places (times (pos 1) f) x claimed table → AreClaims places (times q f) (row_times q x) claimed table
+  claims_stay places count claimed table h = record {
+    claims = λ u lu. record {
+      has = λ v lv ne room. (h.claims u lu).has v lv ne ((room_times u v (rw (← count) lu) (rw (← count) lv) ne).1 room);
+      inside = (h.claims u lu).inside;
+    };
+    exact = λ u lu none. row_stays places count u lu (set_at table u) (h.exact u lu none);
+  }
 
-  distinct : AreDistinct (term_at terms i).places
-  distinct = (terms-at n terms i fit li).placed.distinct
-
-  same : base_at bases i ≡ row_times q (base_at rows i)
-  same = multiple i li
-
-  told : IsReachTable (term_at terms i).places (times q (term_at terms i).value) (row_times q (base_at rows i)) (length (term_at terms i).places) (table_at tables i)
-  told =
-      let t = terms-at n terms i fit li in
-      let b = bases-at (pos 1) terms rows i are li in
-      let c = bases-at q terms bases i after li in
-      table_times t.family t.submodular q low (base_at rows i) b.0 b.1 (rw same at c.1) (term_at terms i).places refl (table_at tables i) (steps_table terms (pos 1) rows i (table_at tables i) li distinct (right i li))
+-- of all terms
+pub claims_times : (terms : List Meaning) (n : ℕ) (q : ℤ) (rows bases : List (List ℤ)) (claimed : List Bits) (tables : List (List Bits)) → pos 1 ≤ℤ q → AreTerms n terms → AreBases (pos 1) terms rows → AreBases q terms bases → (i : ℕ) → i < length terms
+    → base_at bases i ≡ row_times q (base_at rows i) → AreClaims (term_at terms i).places (times (pos 1) (term_at terms i).value) (base_at rows i) (set_at claimed i) (table_at tables i)
+    → AreClaims (term_at terms i).places (times q (term_at terms i).value) (base_at bases i) (set_at claimed i) (table_at tables i)
+claims_times terms n q rows bases claimed tables low fit are after i li same h =
+    let t = terms-at n terms i fit li in
+    let b = bases-at (pos 1) terms rows i are li in
+    let c = bases-at q terms bases i after li in
+    rw same (claims_stay t.family t.submodular q low (base_at rows i) b.0 b.1 (rw same at c.1) (term_at terms i).places refl (set_at claimed i) (table_at tables i) h)
 
 -- the spots of one list stand in another one
 spot_elsewhere : (terms : List Meaning) (n : ℕ) (spots others : List (List Spot)) → AreSpots terms n spots → AreSpots terms n others → (e j : ℕ) → e < n → j < length (spots_at others e)

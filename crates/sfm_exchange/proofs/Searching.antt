@@ -1,68 +1,87 @@
--- A search along links, one place after the other.
-use Rattle.std.proofs.Common.{◌≡◌, ◌≢◌, ⊎_elim, ℕ, ◌+◌, ◌*◌, ◌-◌, ◌<◌, ◌≤◌, max, Bool, List, length, arith}
+-- A search along links, one place after the other: links that rows tell, or the arcs of the graph.
+use Rattle.std.proofs.Common.{◌≡◌, ◌≢◌, ⊎_elim, ℕ, ◌+◌, ◌*◌, ◌-◌, ◌<◌, ◌≤◌, max, Bool, List, length, ℤ, subst, ◌↔◌, arith}
 use Rattle.std.proofs.lemmas.Bool.{cases_eq}
 use Rattle.sfm_spec.specs.Sets.{Has}
 use Rattle.sfm_spec.specs.Progress.{sum_below}
+use Rattle.sfm_spec.specs.Families.{Meaning}
 use Rattle.sfm_spec.proofs.Counts.{sum_below-lt}
 use Rattle.sfm_exchange.specs.declared.bits.Bits.{Bits}
 use Rattle.sfm_exchange.specs.Bits.{bit_in, set_at}
-use Rattle.sfm_exchange.specs.Reached.{AreReached}
+use Rattle.sfm_exchange.specs.Reached.{AreReached, AreWalked}
+use Rattle.sfm_exchange.specs.Unions.{IsArc}
 use Rattle.sfm_exchange.proofs.Words.{bit_in-lt}
 
--- the places found so far, and those of them that are still to be looked at
-pub record IsSearching (unions : List Bits) (firsts found ahead : Bits) : Type 0 where
-  pub below : (e : ℕ) → bit_in found e ≡ 1 → e < length unions
+-- the links that rows tell
+abbrev pub IsLink : List Bits → ℕ → ℕ → Type 0
+IsLink unions e t = bit_in (set_at unions e) t ≡ 1
+
+-- the places of n found so far, and those of them that are still to be looked at
+pub record IsSearching (n : ℕ) (Link : ℕ → ℕ → Type 0) (firsts found ahead : Bits) : Type 0 where
+  pub below : (e : ℕ) → bit_in found e ≡ 1 → e < n
   pub begins : (e : ℕ) → bit_in firsts e ≡ 1 → bit_in found e ≡ 1
   pub inside : (e : ℕ) → bit_in ahead e ≤ bit_in found e
-  pub looked : (e t : ℕ) → bit_in found e ≡ 1 → bit_in ahead e ≡ 0 → bit_in (set_at unions e) t ≡ 1 → bit_in found t ≡ 1
-  pub least : (s : List Bool) → ((e : ℕ) → bit_in firsts e ≡ 1 → Has s e) → ((e t : ℕ) → Has s e → bit_in (set_at unions e) t ≡ 1 → Has s t) → (e : ℕ) → bit_in found e ≡ 1 → Has s e
+  pub looked : (e t : ℕ) → bit_in found e ≡ 1 → bit_in ahead e ≡ 0 → Link e t → bit_in found t ≡ 1
+  pub least : (s : List Bool) → ((e : ℕ) → bit_in firsts e ≡ 1 → Has s e) → ((e t : ℕ) → Has s e → Link e t → Has s t) → (e : ℕ) → bit_in found e ≡ 1 → Has s e
 
 -- what is left to do: two for each place that is not found, and one for each that is still to be looked at
 abbrev pub work : Bits → Bits → ℕ → ℕ
 work found ahead e = 2 * (1 - bit_in found e) + bit_in ahead e
 
 -- the first places are found, and none is looked at
-pub search_begun : (unions : List Bits) (firsts : Bits) → ((e : ℕ) → bit_in firsts e ≡ 1 → e < length unions) → IsSearching unions firsts firsts firsts
-search_begun unions firsts below = record {
+pub search_begun : (n : ℕ) (Link : ℕ → ℕ → Type 0) (firsts : Bits) → ((e : ℕ) → bit_in firsts e ≡ 1 → e < n) → IsSearching n Link firsts firsts firsts
+search_begun n Link firsts below = record {
   below = below;
   begins = λ e h. h;
   inside = λ e. omega arith;
-  looked = λ e t has none bit. absurd (omega (arith, has, none));
+  looked = λ e t has none link. absurd (omega (arith, has, none));
   least = λ s begins steps e h. begins e h;
 }
 
 -- a place that is still to be looked at is one of the ground
-pub ahead_below : (unions : List Bits) (firsts found ahead : Bits) → IsSearching unions firsts found ahead → (e : ℕ) → bit_in ahead e ≡ 1 → e < length unions
-ahead_below unions firsts found ahead h e one = h.below e (let i = h.inside e in let l = bit_in-lt found e in omega (arith, i, l, one))
+pub ahead_below : (n : ℕ) (Link : ℕ → ℕ → Type 0) (firsts found ahead : Bits) → IsSearching n Link firsts found ahead → (e : ℕ) → bit_in ahead e ≡ 1 → e < n
+ahead_below n Link firsts found ahead h e one = h.below e (let i = h.inside e in let l = bit_in-lt found e in omega (arith, i, l, one))
 
--- all are looked at
-pub search_done : (unions : List Bits) (firsts found ahead : Bits) → IsSearching unions firsts found ahead → ((e : ℕ) → bit_in ahead e ≢ 1) → AreReached unions firsts found
+-- all are looked at: no link leads out
+search_closed : (n : ℕ) (Link : ℕ → ℕ → Type 0) (firsts found ahead : Bits) → IsSearching n Link firsts found ahead → ((e : ℕ) → bit_in ahead e ≢ 1) → (e t : ℕ) → bit_in found e ≡ 1 → Link e t → bit_in found t ≡ 1
+search_closed n Link firsts found ahead h none e t has link = h.looked e t has (let l = bit_in-lt ahead e in ⊎_elim (λ one. absurd (none e one)) (λ ne. omega (arith, l, ne)) (cases_eq (bit_in ahead e) 1)) link
+
+-- along the links that rows tell
+pub search_done : (unions : List Bits) (firsts found ahead : Bits) → IsSearching (length unions) (IsLink unions) firsts found ahead → ((e : ℕ) → bit_in ahead e ≢ 1) → AreReached unions firsts found
 search_done unions firsts found ahead h none = record {
   below = h.below;
   begins = h.begins;
-  closed = λ e t has bit. h.looked e t has (let l = bit_in-lt ahead e in ⊎_elim (λ one. absurd (none e one)) (λ ne. omega (arith, l, ne)) (cases_eq (bit_in ahead e) 1)) bit;
+  closed = λ e t has bit. search_closed (length unions) (IsLink unions) firsts found ahead h none e t has bit;
   least = h.least;
 }
 
+-- and along arcs
+pub walks_done : (terms : List Meaning) (n : ℕ) (q : ℤ) (bases : List (List ℤ)) (firsts found ahead : Bits) → IsSearching n (IsArc terms q bases) firsts found ahead → ((e : ℕ) → bit_in ahead e ≢ 1) → AreWalked terms n q bases firsts found
+walks_done terms n q bases firsts found ahead h none = record {
+  below = h.below;
+  begins = h.begins;
+  closed = λ from step is has. search_closed n (IsArc terms q bases) firsts found ahead h none from step.to has (step.term, is);
+  least = λ s begins closed e one. h.least s begins (λ from to has (i, is). closed from (record { to = to; term = i }) is has) e one;
+}
+
 -- one place more is looked at: `more` are the places that it leads to and that were not found
-module _ (unions : List Bits) (firsts found ahead : Bits) (h : IsSearching unions firsts found ahead) (links : (e t : ℕ) → e < length unions → bit_in (set_at unions e) t ≡ 1 → t < length unions)
-    (p : ℕ) (is : bit_in ahead p ≡ 1) (rest more found' ahead' : Bits)
+module _ (n : ℕ) (Link : ℕ → ℕ → Type 0) (firsts found ahead : Bits) (h : IsSearching n Link firsts found ahead) (p : ℕ) (is : bit_in ahead p ≡ 1)
+    (row : Bits) (tells : (t : ℕ) → (bit_in row t ≡ 1) ↔ Link p t) (links : (t : ℕ) → Link p t → t < n) (rest more found' ahead' : Bits)
     (out : bit_in rest p ≡ 0) (others : (e : ℕ) → e ≢ p → bit_in rest e ≡ bit_in ahead e)
-    (fresh : (e : ℕ) → bit_in more e ≡ bit_in (set_at unions p) e - bit_in found e)
+    (fresh : (e : ℕ) → bit_in more e ≡ bit_in row e - bit_in found e)
     (grown : (e : ℕ) → bit_in found' e ≡ max (bit_in found e) (bit_in more e))
     (next : (e : ℕ) → bit_in ahead' e ≡ max (bit_in rest e) (bit_in more e)) where
   has : bit_in found p ≡ 1
   has = let i = h.inside p in let l = bit_in-lt found p in omega (arith, i, l, is)
 
-  new_or_old : (e : ℕ) → bit_in found' e ≡ 1 → bit_in found e ≢ 1 → bit_in (set_at unions p) e ≡ 1
-  new_or_old e one old = let g = grown e in let f = fresh e in let l = bit_in-lt (set_at unions p) e in let lf = bit_in-lt found e in omega (arith, one, old, g, f, l, lf)
+  new_or_old : (e : ℕ) → bit_in found' e ≡ 1 → bit_in found e ≢ 1 → Link p e
+  new_or_old e one old = (tells e).0 (let g = grown e in let f = fresh e in let l = bit_in-lt row e in let lf = bit_in-lt found e in omega (arith, one, old, g, f, l, lf))
 
   kept : (e : ℕ) → bit_in found e ≡ 1 → bit_in found' e ≡ 1
-  kept e one = let g = grown e in let f = fresh e in let l = bit_in-lt (set_at unions p) e in omega (arith, one, g, f, l)
+  kept e one = let g = grown e in let f = fresh e in let l = bit_in-lt row e in omega (arith, one, g, f, l)
 
-  pub search_more : IsSearching unions firsts found' ahead'
+  pub search_more : IsSearching n Link firsts found' ahead'
   search_more = record {
-    below = λ e one. ⊎_elim (λ old. h.below e old) (λ ne. links p e (h.below p has) (new_or_old e one ne)) (cases_eq (bit_in found e) 1);
+    below = λ e one. ⊎_elim (λ old. h.below e old) (λ ne. links e (new_or_old e one ne)) (cases_eq (bit_in found e) 1);
     begins = λ e one. kept e (h.begins e one);
     inside = λ e. ⊎_elim
         (λ same. rw same (let g = grown p in let n = next p in omega (arith, g, n, out)))
@@ -70,25 +89,25 @@ module _ (unions : List Bits) (firsts found ahead : Bits) (h : IsSearching union
     looked = looked;
     least = λ s begins steps e one. ⊎_elim (λ old. h.least s begins steps e old) (λ ne. steps p e (h.least s begins steps p has) (new_or_old e one ne)) (cases_eq (bit_in found e) 1);
   } where
-    looked : (e t : ℕ) → bit_in found' e ≡ 1 → bit_in ahead' e ≡ 0 → bit_in (set_at unions e) t ≡ 1 → bit_in found' t ≡ 1
-    looked e t one none bit = ⊎_elim
-        (λ same. let b : bit_in (set_at unions p) t ≡ 1 = rw same at bit in let g = grown t in let f = fresh t in let l = bit_in-lt found t in omega (arith, b, g, f, l))
+    looked : (e t : ℕ) → bit_in found' e ≡ 1 → bit_in ahead' e ≡ 0 → Link e t → bit_in found' t ≡ 1
+    looked e t one none link = ⊎_elim
+        (λ same. let l : Link p t = subst (λ k. Link k t) same link in let b = (tells t).1 l in let g = grown t in let f = fresh t in let l = bit_in-lt found t in omega (arith, b, g, f, l))
         (λ ne.
         let n = next e in
         let o = others e ne in
         let g = grown e in
         let l = bit_in-lt found e in
-        kept t (h.looked e t (omega (arith, one, none, n, g, l)) (omega (arith, none, n, o)) bit))
+        kept t (h.looked e t (omega (arith, one, none, n, g, l)) (omega (arith, none, n, o)) link))
         (cases_eq e p)
 
   pub search_shrinks : p < 256 → sum_below 256 (work found' ahead') < sum_below 256 (work found ahead)
   search_shrinks lp = sum_below-lt 256 (work found' ahead') (work found ahead) p
       (λ e l. ⊎_elim
       (λ same. rw same (less))
-      (λ ne. let g = grown e in let n = next e in let o = others e ne in let f = fresh e in let i = h.inside e in let lf = bit_in-lt found e in let lu = bit_in-lt (set_at unions p) e in omega (arith, g, n, o, f, i, lf, lu)) (cases_eq e p))
+      (λ ne. let g = grown e in let n = next e in let o = others e ne in let f = fresh e in let i = h.inside e in let lf = bit_in-lt found e in let lu = bit_in-lt row e in omega (arith, g, n, o, f, i, lf, lu)) (cases_eq e p))
       lp strictly where
         strictly : work found' ahead' p < work found ahead p
-        strictly = let g = grown p in let n = next p in let f = fresh p in let lu = bit_in-lt (set_at unions p) p in omega (arith, g, n, f, out, is, has, lu)
+        strictly = let g = grown p in let n = next p in let f = fresh p in let lu = bit_in-lt row p in omega (arith, g, n, f, out, is, has, lu)
 
         less : work found' ahead' p ≤ work found ahead p
         less = let s = strictly in omega (arith, s)

@@ -46,3 +46,13 @@ pub record IsClaimed {X N : Type 0} (places : X → List ℕ) (value : X → Set
   pub are_spots : AreSpots (meanings places value terms) n graph.spots.items
   pub are_unions : AreUnions graph.rows.items graph.spots.items graph.unions.items
   pub are_turned : AreTurned graph.unions.items graph.back.items
+
+-- the lists of a graph of the terms over n places, whatever its bases and its rows are: the spots of each place are those of
+-- the terms, there is a row for each place of each term, a set of claimed places for each term, and a set of the places that
+-- arcs lead to for each place, and as many sets of those that arcs come from as places may be
+pub record IsShaped {X N : Type 0} (places : X → List ℕ) (value : X → SetFunction) (terms : List X) (n : ℕ) (graph : Graph N) : Type 0 where
+  pub are_spots : AreSpots (meanings places value terms) n graph.spots.items
+  pub sized_rows : AreSized (map places terms) graph.rows.items
+  pub claim_count : length graph.claimed.items ≡ length terms
+  pub union_count : length graph.unions.items ≡ n
+  pub back_count : length graph.back.items ≡ 256

@@ -34,13 +34,17 @@ pub record AreUnions (tables : List (List Bits)) (spots : List (List Spot)) (uni
   pub count : length unions ≡ length spots
   pub exact : (e : ℕ) → e < length spots → IsUnion tables (spots_at spots e) (length (spots_at spots e)) (set_at unions e)
 
+-- a step by some term leads from e to t
+abbrev pub IsArc : List Meaning → ℤ → List (List ℤ) → ℕ → ℕ → Type 0
+IsArc terms q rows e t = (i : ℕ) × IsStep terms q rows e (record { to = t; term = i })
+
 -- the row of each place has the places to which steps lead from there
 abbrev pub AreLinks : List Meaning → ℕ → ℤ → List (List ℤ) → List Bits → Type 0
-AreLinks terms n q rows unions = (e t : ℕ) → e < n → (bit_in (set_at unions e) t ≡ 1) ↔ ((i : ℕ) × IsStep terms q rows e (record { to = t; term = i }))
+AreLinks terms n q rows unions = (e t : ℕ) → e < n → (bit_in (set_at unions e) t ≡ 1) ↔ IsArc terms q rows e t
 
 -- and at least these
 abbrev pub HaveLinks : List Meaning → ℕ → ℤ → List (List ℤ) → List Bits → Type 0
-HaveLinks terms n q rows unions = (e t : ℕ) → e < n → (i : ℕ) × IsStep terms q rows e (record { to = t; term = i }) → bit_in (set_at unions e) t ≡ 1
+HaveLinks terms n q rows unions = (e t : ℕ) → e < n → IsArc terms q rows e t → bit_in (set_at unions e) t ≡ 1
 
 -- the rows of the places of a set are brought up to the unions, and all others stay
 pub record AreRenewed (tables : List (List Bits)) (spots : List (List Spot)) (places : Bits) (before after : List Bits) : Type 0 where

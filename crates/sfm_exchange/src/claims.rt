@@ -1,7 +1,7 @@
 // Rows that are only claimed, where they matter. The search for walks takes them as they are, since they lack no step; a walk
 // that it finds is moved along only once each of its steps is known to be a true one. A row that is asked for that is true from
-// then on, so where a step is refused, fewer rows are claimed, and the search begins anew. Where the graph is to be
-// read off as a whole, all rows that are left are asked.
+// then on, so where a step is refused, fewer rows are claimed, and the search begins anew. And where all that walks lead to
+// is sought, the rows of each place that is found are asked before the search goes on from there.
 ghost use Rattle.std.specs.Prelude.{◌≡◌, ◌≢◌, ◌<◌, ℕ, length, true, false, OnOk, IfOk, slice_index_or};
 ghost use Rattle.std.specs.List.{All};
 ghost use Rattle.sfm_spec.specs.Bounds.{IsEntry};
@@ -9,9 +9,11 @@ ghost use Rattle.sfm_spec.specs.Families.{meanings};
 ghost use Rattle.sfm_spec.specs.Walks.{term_at};
 ghost use Rattle.sfm_exchange.specs.Bits.{bit_in, set_at};
 ghost use Rattle.sfm_exchange.specs.Claimed.{IsAsked, claims_of};
-ghost use Rattle.sfm_exchange.specs.Graph.{IsClaimed, IsGraph};
+ghost use Rattle.sfm_exchange.specs.Graph.{IsClaimed};
 ghost use Rattle.sfm_exchange.specs.Hops.{AreHops, IsHop, IsMovable, hop_at};
 ghost use Rattle.sfm_exchange.specs.Reach.{table_at};
+ghost use Rattle.sfm_exchange.specs.Reached.{AreWalked};
+ghost use Rattle.sfm_exchange.specs.Unions.{IsArc};
 
 use crate::bits::{Bits, no_bits};
 use crate::graph::Graph;
@@ -48,6 +50,7 @@ fn ask_at<T: Term>(
     requires place { u < length (term_at (meanings T.places T.value_of terms.now) i).places }
     ensures graph { OnOk result (IsClaimed T.places T.value_of T.size_of T.fits terms.now (length graph.old.spots.items) q graph.new) }
     ensures bases { OnOk result (graph.new.bases ≡ graph.old.bases) }
+    ensures spots { OnOk result (graph.new.spots.items ≡ graph.old.spots.items) }
     ensures settled { OnOk result (bit_in (set_at graph.new.claimed.items i) (slice_index_or (term_at (meanings T.places T.value_of terms.now) i).places u 0) ≢ 1) }
     ensures kept { OnOk result ((j e : ℕ) → bit_in (set_at graph.old.claimed.items j) e ≢ 1 → bit_in (set_at graph.new.claimed.items j) e ≢ 1) }
     ensures asked { OnOk result (IsAsked graph.old.rows.items graph.old.claimed.items graph.new.rows.items graph.new.claimed.items) }
@@ -131,48 +134,63 @@ pub fn prove_walk<T: Term>(
     Ok(true)
 }
 
-// Asks for all rows of a term that are only claimed.
-fn settle_term<T: Term>(
+// Asks for the rows of a place that are only claimed, so that the place has the arcs of the graph alone.
+fn ask_place<T: Term>(
     alloc: Global,
     graph: &mut Graph<T::Note>,
     terms: &[T],
     q: i128,
-    i: usize,
+    e: usize,
 ) -> Result<(), Memory>
     requires graph { IsClaimed T.places T.value_of T.size_of T.fits terms.now (length graph.old.spots.items) q graph.old }
     requires small { All (λ x. All IsEntry x) graph.old.bases }
-    requires term { i < length terms.now }
+    requires place { e < length graph.old.spots.items }
     ensures graph { OnOk result (IsClaimed T.places T.value_of T.size_of T.fits terms.now (length graph.old.spots.items) q graph.new) }
     ensures bases { OnOk result (graph.new.bases ≡ graph.old.bases) }
-    ensures settled { OnOk result ((u : ℕ) → u < length (term_at (meanings T.places T.value_of terms.now) i).places
-        → bit_in (set_at graph.new.claimed.items i) (slice_index_or (term_at (meanings T.places T.value_of terms.now) i).places u 0) ≢ 1) }
-    ensures kept { OnOk result ((j e : ℕ) → bit_in (set_at graph.old.claimed.items j) e ≢ 1 → bit_in (set_at graph.new.claimed.items j) e ≢ 1) }
+    ensures exact { OnOk result ((t : ℕ) → bit_in (set_at graph.new.unions.items e) t ≡ 1 → IsArc (meanings T.places T.value_of terms.now) q graph.old.bases e t) }
 {
-    let count = terms[i].elements().len();
-    for u in 0..count {
-        ask_at(alloc, graph, terms, q, i, u)?;
+    let here = &graph.spots[e];
+    let listed = here.as_slice();
+    let count = listed.len();
+    for k in 0..count {
+        let spots = &graph.spots[e];
+        let at = spots.as_slice();
+        let spot = at[k];
+        ask_at(alloc, graph, terms, q, spot.term, spot.local)?;
     }
     Ok(())
 }
 
-/// Asks for all rows that are only claimed, so that all are true. After want of memory nothing is said of the graph.
+/// The first places, and all that walks lead to from them. Rows that are only claimed are asked where such a walk may go by
+/// them, and no others. After want of memory nothing is said of the graph.
 ///
 /// # Errors
 ///
 /// `Memory` where there is none.
-pub fn settle_rows<T: Term>(
+pub fn walked_from<T: Term>(
     alloc: Global,
     graph: &mut Graph<T::Note>,
     terms: &[T],
     q: i128,
-) -> Result<(), Memory>
+    firsts: &Bits,
+) -> Result<Bits, Memory>
     requires graph { IsClaimed T.places T.value_of T.size_of T.fits terms.now (length graph.old.spots.items) q graph.old }
     requires small { All (λ x. All IsEntry x) graph.old.bases }
-    ensures graph { OnOk result (IsGraph T.places T.value_of T.fits terms.now (length graph.old.spots.items) q graph.new) }
+    requires firsts { (e : ℕ) → bit_in firsts.now e ≡ 1 → e < length graph.old.spots.items }
+    ensures graph { OnOk result (IsClaimed T.places T.value_of T.size_of T.fits terms.now (length graph.old.spots.items) q graph.new) }
     ensures bases { OnOk result (graph.new.bases ≡ graph.old.bases) }
+    ensures walked { IfOk result (AreWalked (meanings T.places T.value_of terms.now) (length graph.old.spots.items) q graph.old.bases firsts.now) }
 {
-    for i in 0..terms.len() {
-        settle_term(alloc, graph, terms, q, i)?;
+    let mut found = *firsts;
+    let mut ahead = *firsts;
+    while let Some(e) = ahead.first() {
+        ahead.remove(e);
+        ask_place(alloc, graph, terms, q, e)?;
+        let row = &graph.unions[e];
+        let mut more = *row;
+        more.remove_all(&found);
+        found.union_with(&more);
+        ahead.union_with(&more);
     }
-    Ok(())
+    Ok(found)
 }

@@ -4,11 +4,11 @@
 // adjacency the union of the rows of these, and the same is kept turned round, for searches backwards. That all of this is
 // so is one fact, `IsGraph`, which each call over a graph asks for and gives back; along walks some rows may be claimed, and
 // the fact is `IsClaimed`.
-ghost use Rattle.std.specs.Prelude.{◌≡◌, ℤ, map, OnOk, IfOk};
+ghost use Rattle.std.specs.Prelude.{◌≡◌, map, OnOk, IfOk};
 ghost use Rattle.std.specs.List.{All};
 ghost use Rattle.sfm_spec.specs.Bounds.{AreBounded, IsEntry, IsFactor};
 ghost use Rattle.sfm_spec.specs.Families.{meanings, AreBases};
-ghost use Rattle.sfm_exchange.specs.Graph.{IsGraph};
+ghost use Rattle.sfm_exchange.specs.Graph.{IsGraph, IsShaped};
 
 use crate::asking::ask_all;
 use crate::bits::{Bits, no_bits};
@@ -77,8 +77,8 @@ pub fn graph_at<T: Term>(
     })
 }
 
-/// Makes the graph one of the same terms at other bases, and maybe at another factor. Its lists are used again. After want
-/// of memory nothing is said of the graph.
+/// Makes the graph one of the same terms at other bases, and maybe at another factor. Its lists are used again, whatever is
+/// in them. After want of memory nothing is said of the graph.
 ///
 /// # Errors
 ///
@@ -93,7 +93,7 @@ pub fn restart<T: Term>(
 ) -> Result<(), Memory>
     requires bounded { AreBounded n (map T.places terms.now) (map T.size_of terms.now) }
     requires factor { IsFactor q }
-    requires graph { (q0 : ℤ) × IsGraph T.places T.value_of T.fits terms.now n q0 graph.old }
+    requires graph { IsShaped T.places T.value_of terms.now n graph.old }
     requires bases { AreBases q (meanings T.places T.value_of terms.now) bases }
     requires small { All (λ x. All IsEntry x) bases }
     ensures graph { OnOk result (IsGraph T.places T.value_of T.fits terms.now n q graph.new) }
@@ -101,6 +101,7 @@ pub fn restart<T: Term>(
 {
     graph.notes = notes_of(alloc, terms, q, &bases)?;
     ask_all(alloc, terms, q, &bases, &mut graph.notes, &mut graph.rows)?;
+    graph.claimed = vec![in alloc; no_bits(); terms.len()]?;
     graph.bases = bases;
     graph.unions = unions_of(alloc, &graph.spots, &graph.rows)?;
     graph.back = turned_of(alloc, &graph.unions)?;

@@ -21,7 +21,7 @@ mod turned;
 mod unions;
 
 pub use bits::{Bits, no_bits};
-pub use claims::{prove_walk, settle_rows};
+pub use claims::{prove_walk, walked_from};
 pub use graph::{Graph, copy_rows, graph_at, restart};
 pub use levels::find_levels;
 pub use moving::{amount_of, move_along};

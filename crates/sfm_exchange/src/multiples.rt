@@ -1,12 +1,12 @@
 // A graph at a multiple of the bases of another one. What depends on what at a base hangs on its tight sets alone, and the
 // sets that are tight at q times a base of a term, for q times the term, are those that are tight at the base. So all rows are
-// the same: they are copied into the memory that stands, and no term is asked.
+// the same, those that are only claimed as well: they are copied into the memory that stands, and no term is asked.
 ghost use Rattle.std.specs.Prelude.{◌≡◌, ◌<◌, ◌^◌, ℕ, ℤ, List, true, length, map, pos, ◌*ℤ◌, OnOk, IfOk};
 ghost use Rattle.std.specs.List.{All};
 ghost use Rattle.sfm_spec.specs.Bounds.{AreBounded, IsEntry, IsFactor};
 ghost use Rattle.sfm_spec.specs.Families.{meanings, AreBases};
 ghost use Rattle.sfm_spec.specs.Walks.{base_at};
-ghost use Rattle.sfm_exchange.specs.Graph.{IsGraph};
+ghost use Rattle.sfm_exchange.specs.Graph.{IsClaimed, IsGraph, IsShaped};
 ghost use Rattle.sfm_exchange.specs.Reach.{AreSized};
 ghost use Rattle.sfm_exchange.specs.Scaled.{row_times};
 
@@ -87,20 +87,22 @@ pub fn restart_by<T: Term>(
 ) -> Result<(), Memory>
     requires bounded { AreBounded (length graph.old.spots.items) (map T.places terms.now) (map T.size_of terms.now) }
     requires factor { IsFactor q }
-    requires graph { (q0 : ℤ) × IsGraph T.places T.value_of T.fits terms.now (length graph.old.spots.items) q0 graph.old }
-    requires other { IsGraph T.places T.value_of T.fits terms.now (length graph.old.spots.items) (pos 1) other.now }
+    requires graph { IsShaped T.places T.value_of terms.now (length graph.old.spots.items) graph.old }
+    requires other { IsClaimed T.places T.value_of T.size_of T.fits terms.now (length graph.old.spots.items) (pos 1) other.now }
     requires bases { AreBases q (meanings T.places T.value_of terms.now) bases }
     requires small { All (λ x. All IsEntry x) bases }
-    ensures graph { OnOk result (IsGraph T.places T.value_of T.fits terms.now (length graph.old.spots.items) q graph.new) }
+    ensures graph { OnOk result (IsClaimed T.places T.value_of T.size_of T.fits terms.now (length graph.old.spots.items) q graph.new) }
     ensures bases { OnOk result (graph.new.bases ≡ bases) }
 {
     if !are_multiples(q, &other.bases, &bases) {
         let n = graph.spots.len();
-        return restart(alloc, graph, terms, n, q, bases);
+        restart(alloc, graph, terms, n, q, bases)?;
+        return Ok(());
     }
     graph.notes = notes_of(alloc, terms, q, &bases)?;
     graph.bases = bases;
     copy_tables(&other.rows, &mut graph.rows);
+    graph.claimed.copy_from_slice(&other.claimed);
     graph.unions.copy_from_slice(&other.unions);
     graph.back.copy_from_slice(&other.back);
     Ok(())

@@ -1,12 +1,13 @@
 -- What the search for the breakpoints keeps.
 use Rattle.std.specs.Prelude.{◌≡◌, ℕ, List, ℤ, pos, length}
 use Rattle.sfm_spec.specs.Terms.{SetFunction}
-use Rattle.sfm_exchange.specs.Graph.{IsGraph}
+use Rattle.sfm_exchange.specs.Graph.{IsClaimed, IsShaped}
 use Rattle.sfm_slope.specs.declared.search.Search.{Search}
 
--- all graphs are of the terms over n places, the first and the warm one at the terms themselves; a shift has a number for each place
-pub record IsSearch {X N : Type 0} (places : X → List ℕ) (value : X → SetFunction) (fits : X → N → ℤ → List ℤ → Type 0) (terms : List X) (n : ℕ) (search : Search N) : Type 0 where
-  pub first : IsGraph places value fits terms n (pos 1) search.first
-  pub warm : IsGraph places value fits terms n (pos 1) search.warm
-  pub cold : (q : ℤ) × IsGraph places value fits terms n q search.cold
+-- all graphs are of the terms over n places, the first and the warm one at bases of the terms themselves, the cold one at
+-- whatever was left in it; a shift has a number for each place
+pub record IsSearch {X N : Type 0} (places : X → List ℕ) (value : X → SetFunction) (size : X → ℤ) (fits : X → N → ℤ → List ℤ → Type 0) (terms : List X) (n : ℕ) (search : Search N) : Type 0 where
+  pub first : IsClaimed places value size fits terms n (pos 1) search.first
+  pub warm : IsClaimed places value size fits terms n (pos 1) search.warm
+  pub cold : IsShaped places value terms n search.cold
   pub shift : length search.shift.items ≡ n

@@ -26,8 +26,8 @@ pub fn chain<T: Term>(
     n: usize,
 ) -> Result<Vec<Breakpoint>, Memory>
     requires bounded { AreBounded n (map T.places terms.now) (map T.size_of terms.now) }
-    requires search { IsSearch T.places T.value_of T.fits terms.now n search.old }
-    ensures search { OnOk result (IsSearch T.places T.value_of T.fits terms.now n search.new) }
+    requires search { IsSearch T.places T.value_of T.size_of T.fits terms.now n search.old }
+    ensures search { OnOk result (IsSearch T.places T.value_of T.size_of T.fits terms.now n search.new) }
     ensures slopes { IfOk result (λ r. AreBreakpoints (meanings T.places T.value_of terms.now) n (ones n) (map found_mark r.items)) }
     ensures ranges { IfOk result (λ r. All (IsInRange n) r.items) }
 {
@@ -50,12 +50,12 @@ fn fill<T: Term>(
     found: &mut Vec<Breakpoint>,
 ) -> Result<(), Memory>
     requires bounded { AreBounded n (map T.places terms.now) (map T.size_of terms.now) }
-    requires search { IsSearch T.places T.value_of T.fits terms.now n search.old }
+    requires search { IsSearch T.places T.value_of T.size_of T.fits terms.now n search.old }
     requires before { IsPartTo (meanings T.places T.value_of terms.now) n (ones n) found.old.items low.now.set }
     requires gap { IsGap (meanings T.places T.value_of terms.now) n (ones n) low.now.set high.now.set }
     requires low_worth { IsWorth (meanings T.places T.value_of terms.now) low.now }
     requires high_worth { IsWorth (meanings T.places T.value_of terms.now) high.now }
-    ensures search { OnOk result (IsSearch T.places T.value_of T.fits terms.now n search.new) }
+    ensures search { OnOk result (IsSearch T.places T.value_of T.size_of T.fits terms.now n search.new) }
     ensures part { OnOk result (IsPartTo (meanings T.places T.value_of terms.now) n (ones n) found.new.items high.now.set) }
 {
     match take_turn(search, terms, n, low, high)? {

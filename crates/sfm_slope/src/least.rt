@@ -3,9 +3,9 @@
 // number below p/q, and q times its bases are where the walks for p/q begin.
 ghost use Rattle.std.specs.Prelude.{◌^◌, length, map, pos, ◌+ℤ◌, ◌*ℤ◌, ◌≤ℤ◌, ◌<ℤ◌, IfOk, OnOk};
 ghost use Rattle.std.specs.List.{All};
-ghost use Rattle.sfm_spec.specs.Bounds.{AreBounded, IsAtMost, IsFactor};
+ghost use Rattle.sfm_spec.specs.Bounds.{AreBounded, IsAtMost};
 ghost use Rattle.sfm_spec.specs.Families.{meanings, even_shift, IsLeast};
-ghost use Rattle.sfm_exchange.specs.Graph.{IsGraph};
+ghost use Rattle.sfm_exchange.specs.Graph.{IsClaimed};
 ghost use Rattle.sfm_slope.specs.Searches.{IsSearch};
 
 use crate::rows::{are_small, first_rows, rows_times};
@@ -13,7 +13,7 @@ use crate::search::{Search, write_even};
 use sfm_base::{Memory, Set, Slope, Steps};
 use sfm_exchange::{Graph, restart, restart_by};
 use sfm_law::Term;
-use sfm_walk::improve;
+use sfm_walk::{improve, least_minimiser};
 use std::alloc::Global;
 
 /// The least minimiser at a slope.
@@ -28,9 +28,9 @@ pub fn least_at<T: Term>(
     slope: Slope,
 ) -> Result<Set, Memory>
     requires bounded { AreBounded n (map T.places terms.now) (map T.size_of terms.now) }
-    requires search { IsSearch T.places T.value_of T.fits terms.now n search.old }
+    requires search { IsSearch T.places T.value_of T.size_of T.fits terms.now n search.old }
     requires small { IsAtMost (10 ^ 24) slope.num }
-    ensures search { OnOk result (IsSearch T.places T.value_of T.fits terms.now n search.new) }
+    ensures search { OnOk result (IsSearch T.places T.value_of T.size_of T.fits terms.now n search.new) }
     ensures least { IfOk result (IsLeast (meanings T.places T.value_of terms.now) n slope.den (even_shift n slope.num)) }
 {
     let alloc = search.alloc;
@@ -78,8 +78,8 @@ fn keep_small<T: Term>(
     n: usize,
 ) -> Result<(), Memory>
     requires bounded { AreBounded n (map T.places terms.now) (map T.size_of terms.now) }
-    requires graph { IsGraph T.places T.value_of T.fits terms.now n (pos 1) graph.old }
-    ensures graph { OnOk result (IsGraph T.places T.value_of T.fits terms.now n (pos 1) graph.new) }
+    requires graph { IsClaimed T.places T.value_of T.size_of T.fits terms.now n (pos 1) graph.old }
+    ensures graph { OnOk result (IsClaimed T.places T.value_of T.size_of T.fits terms.now n (pos 1) graph.new) }
     ensures small { OnOk result (All (λ x. All (IsAtMost (10 ^ 25)) x) graph.new.bases) }
 {
     if are_small(&graph.bases, 10_000_000_000_000_000_000_000_000) {
@@ -99,16 +99,15 @@ fn least_by<T: Term>(
     p: i128,
     shift: &mut [i128],
 ) -> Result<Set, Memory>
-    requires bounded { AreBounded (length shift.old) (map T.places terms.now) (map T.size_of terms.now) }
-    requires factor { IsFactor q }
     requires slope { IsAtMost (10 ^ 24) p }
-    requires graph { IsGraph T.places T.value_of T.fits terms.now (length shift.old) q graph.old }
+    requires graph { IsClaimed T.places T.value_of T.size_of T.fits terms.now (length shift.old) q graph.old }
     requires small { All (λ x. All (IsAtMost (10 ^ 25)) x) graph.old.bases }
-    ensures graph { OnOk result (IsGraph T.places T.value_of T.fits terms.now (length shift.old) q graph.new) }
+    ensures graph { OnOk result (IsClaimed T.places T.value_of T.size_of T.fits terms.now (length shift.old) q graph.new) }
     ensures least { IfOk result (IsLeast (meanings T.places T.value_of terms.now) (length shift.old) q (even_shift (length shift.old) p)) }
 {
     write_even(shift, p);
     let mut steps = Steps::new();
-    let rested = improve(alloc, graph, terms, q, shift, &mut steps)?;
-    Ok(rested.least)
+    let z = improve(alloc, graph, terms, q, shift, &mut steps)?;
+    let least = least_minimiser(alloc, graph, terms, q, shift, &z)?;
+    Ok(least)
 }

@@ -35,7 +35,7 @@ impl<N> Search<N> {
     /// `Memory` where there is none.
     pub fn new<T: Term<Note = N>>(alloc: Global, terms: &[T], n: usize) -> Result<Search<N>, Memory>
         requires bounded { AreBounded n (map T.places terms.now) (map T.size_of terms.now) }
-        ensures { IfOk result (IsSearch T.places T.value_of T.fits terms.now n) }
+        ensures { IfOk result (IsSearch T.places T.value_of T.size_of T.fits terms.now n) }
     {
         let first = graph_at(alloc, terms, n, 1, first_rows(alloc, terms, 1)?)?;
         let warm = copy_graph(alloc, &first, terms, n, 1)?;

@@ -1,10 +1,10 @@
 // The bases of each breakpoint. They are found by a run of their own from the first bases, so they hang on the terms and the
 // slope alone, and few walks lead to them, however the breakpoint was found.
-ghost use Rattle.std.specs.Prelude.{◌≡◌, ◌^◌, ℤ, length, map, pos, IfOk, OnOk};
+ghost use Rattle.std.specs.Prelude.{◌≡◌, ◌^◌, length, map, pos, IfOk, OnOk};
 ghost use Rattle.std.specs.List.{All};
 ghost use Rattle.sfm_spec.specs.Bounds.{AreBounded, IsAtMost};
 ghost use Rattle.sfm_spec.specs.Families.{meanings};
-ghost use Rattle.sfm_exchange.specs.Graph.{IsGraph};
+ghost use Rattle.sfm_exchange.specs.Graph.{IsClaimed, IsShaped};
 ghost use Rattle.sfm_slope.specs.Marks.{HasBases, mark_of};
 ghost use Rattle.sfm_slope.specs.Points.{IsInRange, found_mark};
 ghost use Rattle.sfm_slope.specs.Searches.{IsSearch};
@@ -26,7 +26,7 @@ pub fn sections<T: Term>(
     found: &[Breakpoint],
 ) -> Result<Vec<Break>, Memory>
     requires bounded { AreBounded n (map T.places terms.now) (map T.size_of terms.now) }
-    requires search { IsSearch T.places T.value_of T.fits terms.now n search.old }
+    requires search { IsSearch T.places T.value_of T.size_of T.fits terms.now n search.old }
     requires ranges { All (IsInRange n) found.now }
     ensures marks { IfOk result (λ r. map mark_of r.items ≡ map found_mark found.now) }
     ensures bases { IfOk result (λ r. All (HasBases (meanings T.places T.value_of terms.now) (λ q. map (λ term. T.start_of term q) terms.now) n) r.items) }
@@ -46,9 +46,9 @@ fn section<T: Term>(
     point: &Breakpoint,
 ) -> Result<Break, Memory>
     requires bounded { AreBounded n (map T.places terms.now) (map T.size_of terms.now) }
-    requires search { IsSearch T.places T.value_of T.fits terms.now n search.old }
+    requires search { IsSearch T.places T.value_of T.size_of T.fits terms.now n search.old }
     requires range { IsInRange n point.now }
-    ensures search { OnOk result (IsSearch T.places T.value_of T.fits terms.now n search.new) }
+    ensures search { OnOk result (IsSearch T.places T.value_of T.size_of T.fits terms.now n search.new) }
     ensures mark { IfOk result (λ r. mark_of r ≡ found_mark point.now) }
     ensures bases { IfOk result (HasBases (meanings T.places T.value_of terms.now) (λ q. map (λ term. T.start_of term q) terms.now) n) }
 {
@@ -75,14 +75,13 @@ fn bases_at<T: Term>(
     shift: &mut [i128],
 ) -> Result<Rows, Memory>
     requires bounded { AreBounded (length shift.old) (map T.places terms.now) (map T.size_of terms.now) }
-    requires graph { (q : ℤ) × IsGraph T.places T.value_of T.fits terms.now (length shift.old) q graph.old }
-    requires firsts { IsGraph T.places T.value_of T.fits terms.now (length shift.old) (pos 1) firsts.now }
+    requires graph { IsShaped T.places T.value_of terms.now (length shift.old) graph.old }
+    requires firsts { IsClaimed T.places T.value_of T.size_of T.fits terms.now (length shift.old) (pos 1) firsts.now }
     requires small { IsAtMost (10 ^ 24) slope.num }
-    ensures graph { OnOk result (IsGraph T.places T.value_of T.fits terms.now (length shift.old) slope.den graph.new) }
+    ensures graph { OnOk result (IsShaped T.places T.value_of terms.now (length shift.old) graph.new) }
     ensures bases { IfOk result (IsSection (meanings T.places T.value_of terms.now) (λ q. map (λ term. T.start_of term q) terms.now) (length shift.old) slope.num slope.den) }
 {
     write_even(shift, slope.num);
-    let minimum = minimise_from_start(alloc, graph, firsts, terms, slope.den, shift)?;
-    let optimum = minimum.optimum;
+    let optimum = minimise_from_start(alloc, graph, firsts, terms, slope.den, shift)?;
     Ok(optimum.bases)
 }

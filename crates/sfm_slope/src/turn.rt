@@ -43,12 +43,12 @@ pub fn take_turn<T: Term>(
     high: &Worth,
 ) -> Result<Turn, Memory>
     requires bounded { AreBounded n (map T.places terms.now) (map T.size_of terms.now) }
-    requires search { IsSearch T.places T.value_of T.fits terms.now n search.old }
+    requires search { IsSearch T.places T.value_of T.size_of T.fits terms.now n search.old }
     requires begun { IsBegun (meanings T.places T.value_of terms.now) n (ones n) low.now.set }
     requires gap { IsGap (meanings T.places T.value_of terms.now) n (ones n) low.now.set high.now.set }
     requires low_worth { IsWorth (meanings T.places T.value_of terms.now) low.now }
     requires high_worth { IsWorth (meanings T.places T.value_of terms.now) high.now }
-    ensures search { OnOk result (IsSearch T.places T.value_of T.fits terms.now n search.new) }
+    ensures search { OnOk result (IsSearch T.places T.value_of T.size_of T.fits terms.now n search.new) }
     ensures turn { IfOk result (IsTurn (meanings T.places T.value_of terms.now) n (ones n) low.now.set high.now.set) }
 {
     let slope = slope_between(low, high);

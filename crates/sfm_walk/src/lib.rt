@@ -2,11 +2,11 @@
 // walk leads by fewest steps from a place with z < 0 to one with z > 0, and moves as much as it can, until no walk joins.
 #![tactic(auto)]
 
+mod least;
 mod optimum;
 mod rest;
 mod run;
 mod walk;
 
-pub use optimum::{
-    Minimum, Optimum, Rested, improve, minimise, minimise_counted, minimise_from_start,
-};
+pub use least::least_minimiser;
+pub use optimum::{Optimum, improve, minimise, minimise_counted, minimise_from_start};

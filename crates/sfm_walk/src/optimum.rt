@@ -6,12 +6,12 @@ ghost use Rattle.std.specs.Prelude.{◌≡◌, ◌+◌, ◌*◌, ◌^◌, ◌≢
 ghost use Rattle.std.specs.List.{All};
 ghost use Rattle.sfm_spec.specs.Sets.{magnitudes};
 ghost use Rattle.sfm_spec.specs.Bounds.{AreBounded, IsAtMost, IsEntry, IsFactor};
-ghost use Rattle.sfm_spec.specs.Families.{meanings, even_shift, rest_at, deficit, AreBases, IsLeast, Prove};
+ghost use Rattle.sfm_spec.specs.Families.{meanings, even_shift, rest_at, deficit, AreBases, Prove};
 ghost use Rattle.sfm_spec.specs.Progress.{IsProgress};
 ghost use Rattle.sfm_spec.specs.Terms.{exchanged};
 ghost use Rattle.sfm_spec.specs.Walks.{Step, Joins, IsFewWalks, few_walks, last_of};
 ghost use Rattle.sfm_walk.specs.Counted.{IsCounted};
-ghost use Rattle.sfm_exchange.specs.Graph.{IsClaimed, IsGraph};
+ghost use Rattle.sfm_exchange.specs.Graph.{IsClaimed, IsShaped};
 ghost use Rattle.sfm_exchange.specs.Hops.{steps_of};
 ghost use Rattle.sfm_exchange.specs.Levels.{depth_of};
 ghost use Rattle.sfm_walk.specs.Run.{IsGreatest, IsLeastWalk, IsRunAt, IsUpTo};
@@ -20,10 +20,9 @@ ghost use Rattle.sfm_exchange.specs.Signs.{AreMoved, AreSigns};
 use crate::rest::{most_of, move_rest};
 use crate::run::Run;
 use crate::walk::next_walk;
-use sfm_base::{Memory, Numbers, Rows, Set, Steps};
+use sfm_base::{Memory, Numbers, Rows, Steps};
 use sfm_exchange::{
-    Graph, Path, amount_of, copy_rows, graph_at, move_along, move_signs, reached_from, restart_by,
-    set_of, settle_rows, signs_of,
+    Graph, Path, amount_of, copy_rows, graph_at, move_along, move_signs, restart_by, signs_of,
 };
 use sfm_law::{Term, rest_of, start_rows};
 use std::alloc::Global;
@@ -33,21 +32,6 @@ use std::alloc::Global;
 pub struct Optimum {
     pub bases: Rows,
     pub z: Numbers,
-}
-
-/// Bases that prove the minimum, and the minimiser that lies within every other.
-#[derive(Drop)]
-pub struct Minimum {
-    pub optimum: Optimum,
-    pub least: Set,
-}
-
-/// What bases that prove the minimum come with: z, which is their sum at each place less the shift, and the minimiser that
-/// lies within every other.
-#[derive(Drop)]
-pub struct Rested {
-    pub z: Numbers,
-    pub least: Set,
 }
 
 /// Bases that prove the minimum of q times the sum of the terms, less p for each element, over a ground of n places.
@@ -110,17 +94,17 @@ pub fn minimise_counted<T: Term>(
     let shift = vec![in alloc; p; n]?;
     let first_bases = start_rows(alloc, terms, q)?;
     let mut graph = graph_at(alloc, terms, n, q, first_bases)?;
-    let rested = improve(alloc, &mut graph, terms, q, &shift, steps)?;
+    let z = improve(alloc, &mut graph, terms, q, &shift, steps)?;
     Ok(Optimum {
         bases: graph.bases,
-        z: rested.z,
+        z,
     })
 }
 
 /// Bases that prove the minimum of q times the sum of the terms less the shift, reached from the first bases of the terms by
-/// few walks, with z and the least minimiser. The graph is made one at these bases, whatever bases and factor it was at
-/// before, and its lists are used again. Where these bases are q times those of a second graph, one of the terms
-/// themselves, no term is asked for its rows.
+/// few walks, with z. The graph is made one at these bases, whatever bases and factor it was at before, and its lists are
+/// used again. Where these bases are q times those of a second graph, one of the terms themselves, no term is asked for its
+/// rows there.
 ///
 /// # Errors
 ///
@@ -132,36 +116,33 @@ pub fn minimise_from_start<T: Term>(
     terms: &[T],
     q: i128,
     shift: &[i128],
-) -> Result<Minimum, Memory>
+) -> Result<Optimum, Memory>
     requires bounded { AreBounded (length shift.now) (map T.places terms.now) (map T.size_of terms.now) }
     requires shifts { magnitudes shift.now ≤ℤ pos (10 ^ 27) }
     requires factor { IsFactor q }
-    requires graph { (q0 : ℤ) × IsGraph T.places T.value_of T.fits terms.now (length shift.now) q0 graph.old }
-    requires firsts { IsGraph T.places T.value_of T.fits terms.now (length shift.now) (pos 1) firsts.now }
-    ensures graph { OnOk result (IsGraph T.places T.value_of T.fits terms.now (length shift.now) q graph.new) }
-    ensures same { IfOk result (λ r. r.optimum.bases ≡ graph.new.bases) }
-    ensures bases { IfOk result (λ r. AreBases q (meanings T.places T.value_of terms.now) r.optimum.bases) }
-    ensures small { IfOk result (λ r. All (λ x. All IsEntry x) r.optimum.bases) }
-    ensures rest { IfOk result (λ r. (length r.optimum.z ≡ length shift.now) × ((e : ℕ) → e < length shift.now → slice_index_or r.optimum.z e (pos 0) ≡ rest_at (meanings T.places T.value_of terms.now) r.optimum.bases shift.now e)) }
-    ensures ends { IfOk result (λ r. (first : ℕ) (steps : List Step) → Joins (meanings T.places T.value_of terms.now) q shift.now r.optimum.bases first steps → ⊥) }
-    ensures proves { IfOk result (λ r. Prove (meanings T.places T.value_of terms.now) (length shift.now) q shift.now r.optimum.bases) }
-    ensures least { IfOk result (λ r. IsLeast (meanings T.places T.value_of terms.now) (length shift.now) q shift.now r.least) }
-    ensures few { IfOk result (λ r. IsFewWalks (meanings T.places T.value_of terms.now) (length shift.now) q shift.now (map (λ term. T.start_of term q) terms.now) r.optimum.bases) }
+    requires graph { IsShaped T.places T.value_of terms.now (length shift.now) graph.old }
+    requires firsts { IsClaimed T.places T.value_of T.size_of T.fits terms.now (length shift.now) (pos 1) firsts.now }
+    ensures graph { OnOk result (IsClaimed T.places T.value_of T.size_of T.fits terms.now (length shift.now) q graph.new) }
+    ensures same { IfOk result (λ r. r.bases ≡ graph.new.bases) }
+    ensures bases { IfOk result (λ r. AreBases q (meanings T.places T.value_of terms.now) r.bases) }
+    ensures small { IfOk result (λ r. All (λ x. All IsEntry x) r.bases) }
+    ensures rest { IfOk result (λ r. (length r.z ≡ length shift.now) × ((e : ℕ) → e < length shift.now → slice_index_or r.z e (pos 0) ≡ rest_at (meanings T.places T.value_of terms.now) r.bases shift.now e)) }
+    ensures ends { IfOk result (λ r. (first : ℕ) (steps : List Step) → Joins (meanings T.places T.value_of terms.now) q shift.now r.bases first steps → ⊥) }
+    ensures proves { IfOk result (λ r. Prove (meanings T.places T.value_of terms.now) (length shift.now) q shift.now r.bases) }
+    ensures few { IfOk result (λ r. IsFewWalks (meanings T.places T.value_of terms.now) (length shift.now) q shift.now (map (λ term. T.start_of term q) terms.now) r.bases) }
 {
     let first_bases = start_rows(alloc, terms, q)?;
     restart_by(alloc, graph, terms, q, first_bases, firsts)?;
     let mut steps = Steps::new();
-    let rested = improve(alloc, graph, terms, q, shift, &mut steps)?;
+    let z = improve(alloc, graph, terms, q, shift, &mut steps)?;
     let bases = copy_rows(alloc, &graph.bases)?;
-    Ok(Minimum {
-        optimum: Optimum { bases, z: rested.z },
-        least: rested.least,
-    })
+    Ok(Optimum { bases, z })
 }
 
 /// Moves the bases of the graph along walks of least steps, each by the greatest amount, until no walk joins. Then they
-/// prove the minimum of q times the sum of the terms less the shift. Each walk is counted, from a count below 2^63; without
-/// an answer the count has risen by no more than there may be, and nothing is said of the graph.
+/// prove the minimum of q times the sum of the terms less the shift. Gives z, their sum at each place less the shift. Rows may
+/// be claimed before and afterwards. Each walk is counted, from a count below 2^63; without an answer the count has risen by
+/// no more than there may be, and nothing is said of the graph.
 ///
 /// # Errors
 ///
@@ -173,20 +154,17 @@ pub fn improve<T: Term>(
     q: i128,
     shift: &[i128],
     steps: &mut Steps,
-) -> Result<Rested, Memory>
+) -> Result<Numbers, Memory>
     requires room { steps.old < 2 ^ 63 }
-    requires bounded { AreBounded (length shift.now) (map T.places terms.now) (map T.size_of terms.now) }
     requires shifts { magnitudes shift.now ≤ℤ pos (10 ^ 27) }
-    requires factor { IsFactor q }
-    requires graph { IsGraph T.places T.value_of T.fits terms.now (length shift.now) q graph.old }
+    requires graph { IsClaimed T.places T.value_of T.size_of T.fits terms.now (length shift.now) q graph.old }
     requires small { All (λ x. All (IsAtMost (10 ^ 25)) x) graph.old.bases }
-    ensures graph { OnOk result (IsGraph T.places T.value_of T.fits terms.now (length shift.now) q graph.new) }
+    ensures graph { OnOk result (IsClaimed T.places T.value_of T.size_of T.fits terms.now (length shift.now) q graph.new) }
     ensures bases { OnOk result (AreBases q (meanings T.places T.value_of terms.now) graph.new.bases) }
     ensures small { OnOk result (All (λ x. All IsEntry x) graph.new.bases) }
-    ensures rest { IfOk result (λ r. (length r.z ≡ length shift.now) × ((e : ℕ) → e < length shift.now → slice_index_or r.z e (pos 0) ≡ rest_at (meanings T.places T.value_of terms.now) graph.new.bases shift.now e)) }
+    ensures rest { IfOk result (λ r. (length r ≡ length shift.now) × ((e : ℕ) → e < length shift.now → slice_index_or r e (pos 0) ≡ rest_at (meanings T.places T.value_of terms.now) graph.new.bases shift.now e)) }
     ensures ends { OnOk result ((first : ℕ) (steps : List Step) → Joins (meanings T.places T.value_of terms.now) q shift.now graph.new.bases first steps → ⊥) }
     ensures proves { OnOk result (Prove (meanings T.places T.value_of terms.now) (length shift.now) q shift.now graph.new.bases) }
-    ensures least { IfOk result (λ r. IsLeast (meanings T.places T.value_of terms.now) (length shift.now) q shift.now r.least) }
     ensures counted { OnOk result (IsCounted (meanings T.places T.value_of terms.now) (length shift.now) q shift.now graph.old.bases graph.new.bases steps.old steps.new) }
     ensures few { steps.new ≤ steps.old + few_walks (length shift.now) (length terms.now) }
     ensures kept { steps.old ≤ steps.new }
@@ -197,36 +175,7 @@ pub fn improve<T: Term>(
         advance(alloc, graph, terms, q, shift, &mut run)?;
         steps.tick();
     }
-    let rested = read_off(alloc, graph, terms, q, shift, run)?;
-    Ok(rested)
-}
-
-// What bases come with that no walk joins. All rows are true from then on.
-fn read_off<T: Term>(
-    alloc: Global,
-    graph: &mut Graph<T::Note>,
-    terms: &[T],
-    q: i128,
-    shift: &[i128],
-    run: Run,
-) -> Result<Rested, Memory>
-    requires graph { IsClaimed T.places T.value_of T.size_of T.fits terms.now (length shift.now) q graph.old }
-    requires small { All (λ x. All IsEntry x) graph.old.bases }
-    requires run { IsRunAt (meanings T.places T.value_of terms.now) shift.now graph.old.bases run }
-    requires ends { (first : ℕ) (steps : List Step) → Joins (meanings T.places T.value_of terms.now) q shift.now graph.old.bases first steps → ⊥ }
-    ensures graph { OnOk result (IsGraph T.places T.value_of T.fits terms.now (length shift.now) q graph.new) }
-    ensures bases { OnOk result (graph.new.bases ≡ graph.old.bases) }
-    ensures rest { IfOk result (λ r. (length r.z ≡ length shift.now) × ((e : ℕ) → e < length shift.now → slice_index_or r.z e (pos 0) ≡ rest_at (meanings T.places T.value_of terms.now) graph.old.bases shift.now e)) }
-    ensures proves { OnOk result (Prove (meanings T.places T.value_of terms.now) (length shift.now) q shift.now graph.old.bases) }
-    ensures least { IfOk result (λ r. IsLeast (meanings T.places T.value_of terms.now) (length shift.now) q shift.now r.least) }
-{
-    settle_rows(alloc, graph, terms, q)?;
-    let reached = reached_from(&graph.unions, &run.signs.under);
-    let least = set_of(alloc, &reached, shift.len())?;
-    Ok(Rested {
-        z: Numbers::from_vec(run.z),
-        least,
-    })
+    Ok(Numbers::from_vec(run.z))
 }
 
 // A run at z, before any search.

@@ -1,4 +1,4 @@
-use Rattle.std.proofs.Common.{FitsSigned}
+use Rattle.std.proofs.Common.{rules, FitsSigned}
 use Rattle.std.proofs.lemmas.Int.{to_z-of_z}
 use mir.Syntax.{w128}
 use Rattle.sfm_spec.specs.Families.{meanings}
@@ -31,7 +31,7 @@ unions_of-requires g c =
     let tables = c.ask_all.new.rows.items in
     let spots = c.args.graph.now.spots.items in
     let sized = sized_meanings t.places t.value_of c.args.terms.now tables c.in_ok-ask_all.ensures.rows in
-    let have : HaveRows tables spots = have_rows ts c.args.n spots tables c.requires.graph.1.are_spots sized.0 sized.1 in
+    let have : HaveRows tables spots = have_rows ts c.args.n spots tables c.requires.graph.are_spots sized.0 sized.1 in
     rw (c.deref.ensures.value, c.deref-2.ensures.value) have
 
 pub returns-clause-graph : goal.returns-clause-graph
@@ -41,11 +41,11 @@ returns-clause-graph g c =
     record {
       are_bases = c.requires.bases;
       note_count = ask.count;
-      claim_count = c.requires.graph.1.claim_count;
+      claim_count = search rules;
       noted = simp to_z-of_z at ask.noted;
       sized_rows = ask.rows;
       tables = simp to_z-of_z at ask.tables;
-      are_spots = c.requires.graph.1.are_spots;
-      are_unions = rw (c.deref.ensures.value, c.deref-2.ensures.value) at c.in_ok-graph-2.ensures;
-      are_turned = rw c.deref-3.ensures.value at c.in_ok-graph-3.ensures;
+      are_spots = c.requires.graph.are_spots;
+      are_unions = rw (c.deref.ensures.value, c.deref-2.ensures.value) at c.in_ok-graph-3.ensures;
+      are_turned = rw c.deref-3.ensures.value at c.in_ok-graph-4.ensures;
     }

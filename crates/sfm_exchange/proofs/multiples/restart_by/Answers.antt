@@ -1,12 +1,13 @@
-use Rattle.std.proofs.Common.{◌≡◌, ℕ, ◌<◌, length, sym, ◌∙◌, pos, FitsSigned}
+use Rattle.std.proofs.Common.{◌≡◌, ℕ, ◌<◌, length, sym, subst, ◌∙◌, pos, arith, FitsSigned}
 use Rattle.std.proofs.lemmas.Int.{to_z-of_z}
 use mir.Syntax.{w128}
 use Rattle.sfm_spec.specs.Families.{meanings}
 use Rattle.sfm_spec.specs.Walks.{base_at}
-use Rattle.sfm_law.proofs.Lists.{length-bases, length-meanings, placed-meanings}
-use Rattle.sfm_spec.proofs.Duality.{meanings-terms}
+use Rattle.sfm_law.proofs.Lists.{length-bases}
+use Rattle.sfm_exchange.specs.Graph.{IsGraph}
 use Rattle.sfm_exchange.specs.Scaled.{row_times}
-use Rattle.sfm_exchange.proofs.Scaling.{tables_times, unions_same}
+use Rattle.sfm_exchange.proofs.ClaimedGraphs.{are_terms, base_count, counted, whole_claimed}
+use Rattle.sfm_exchange.proofs.Scaling.{claims_times, unions_same}
 use Rattle.sfm_exchange.proofs.Basing.{are_based, size_low}
 use Rattle.sfm_exchange.proofs.multiples.restart_by.Goals as goal
 
@@ -25,6 +26,15 @@ notes_of-requires g c =
     let r = c.requires in
     simp to_z-of_z (are_based t.places t.value_of t.size_of (size_low t.places t.value_of t.size_of m.submodular m.bounded) c.args.terms.now (length c.args.graph.now.spots.items) c.args.q c.args.bases r.bounded r.factor r.bases r.small)
 
+pub returns-then-not-are_multiples-clause-graph : goal.returns-then-not-are_multiples-clause-graph
+returns-then-not-are_multiples-clause-graph g c =
+    let t = g.T.Term in
+    let fq : FitsSigned w128 c.args.q = c.ranges.q in
+    let r = c.requires in
+    let same : c.len-n.result ≡ length c.args.graph.now.spots.items = omega (arith, c.len-n.ensures, c.args.graph.now.spots.ok.0) in
+    let G : ℕ → Type 0 = λ n. IsGraph t.places t.value_of t.fits c.args.terms.now n c.args.q c.restart.new.graph in
+    whole_claimed (record { bounded = r.bounded; factor = r.factor; exact = subst G same (simp to_z-of_z at c.in_ok-restart.ensures.graph) })
+
 pub returns-clause-graph : goal.returns-clause-graph
 returns-clause-graph g c =
     let t = g.T.Term in
@@ -35,21 +45,22 @@ returns-clause-graph g c =
     let terms = c.args.terms.now in
     let ts = meanings t.places t.value_of terms in
     let o = r.other in
-    let fit = meanings-terms n t.places t.value_of m.family m.submodular terms (placed-meanings n t.places t.value_of terms r.bounded.placed) in
-    let same : (i : ℕ) → i < length c.args.other.now.bases → base_at c.args.bases i ≡ row_times c.args.q (base_at c.args.other.now.bases i) = simp to_z-of_z at (c.are_multiples.ensures c.if-not-are_multiples.false) in
-    let count = length-bases (pos 1) ts c.args.other.now.bases o.are_bases in
-    let counted = length-meanings t.places t.value_of terms in
-    let right = tables_times ts n c.args.q c.args.other.now.bases c.args.bases c.args.other.now.rows.items r.factor.low fit o.are_bases r.bases (λ i l. same i (rw count l)) (λ i l. o.tables i (rw (← counted) l)) in
+    let other = c.args.other.now in
+    let fit = are_terms o m.family m.submodular in
+    let same : (i : ℕ) → i < length other.bases → base_at c.args.bases i ≡ row_times c.args.q (base_at other.bases i) = simp to_z-of_z at (c.are_multiples.ensures c.if-not-are_multiples.false) in
     let fitting = c.in_ok-graph.ensures in
     let copied = rw c.deref.ensures.value at c.copy_tables.ensures in
     record {
+      bounded = r.bounded;
+      factor = r.factor;
       are_bases = r.bases;
       note_count = fitting.count;
-      claim_count = r.graph.1.claim_count;
+      claim_count = rw (c.copy_from_slice.ensures.items, c.deref-2.ensures.value) o.claim_count;
       noted = simp to_z-of_z at fitting.fit;
       sized_rows = rw copied o.sized_rows;
-      tables = λ i l. rw copied (right i (rw counted l));
-      are_spots = r.graph.1.are_spots;
-      are_unions = rw (copied, c.copy_from_slice.ensures.items, c.deref-2.ensures.value) (unions_same ts n c.args.graph.now.spots.items c.args.other.now.spots.items c.args.other.now.rows.items c.args.other.now.unions.items r.graph.1.are_spots o.are_spots o.are_unions);
-      are_turned = rw (c.copy_from_slice.ensures.items, c.deref-2.ensures.value, c.copy_from_slice-2.ensures.items, c.deref-3.ensures.value) o.are_turned;
+      claims = λ i l. rw (copied, c.copy_from_slice.ensures.items, c.deref-2.ensures.value)
+          (claims_times ts n c.args.q other.bases c.args.bases other.claimed.items other.rows.items r.factor.low fit o.are_bases r.bases i (rw (counted o) l) (same i (rw (base_count o) l)) (o.claims i l));
+      are_spots = r.graph.are_spots;
+      are_unions = rw (copied, c.copy_from_slice-2.ensures.items, c.deref-3.ensures.value) (unions_same ts n c.args.graph.now.spots.items other.spots.items other.rows.items other.unions.items r.graph.are_spots o.are_spots o.are_unions);
+      are_turned = rw (c.copy_from_slice-2.ensures.items, c.deref-3.ensures.value, c.copy_from_slice-3.ensures.items, c.deref-4.ensures.value) o.are_turned;
     }

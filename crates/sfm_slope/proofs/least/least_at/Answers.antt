@@ -5,7 +5,8 @@ use Rattle.std.specs.Vec.{with_items}
 use mir.Syntax.{w128}
 use mir.Val.{to_z}
 use Rattle.sfm_spec.specs.Families.{meanings, even_shift, IsLeast}
-use Rattle.sfm_exchange.specs.Graph.{IsGraph}
+use Rattle.sfm_exchange.specs.Graph.{IsClaimed}
+use Rattle.sfm_exchange.proofs.ClaimedGraphs.{shaped}
 use Rattle.sfm_slope.proofs.Scaled.{rows-entries}
 use Rattle.sfm_slope.proofs.least.least_at.Goals as goal
 
@@ -16,8 +17,8 @@ returns-then-slope-eq1-clause-search g c =
     let v = c.args.search.now.shift in
     let ws = c.least_by.new.shift in
     let sized : length c.deref_mut.result.now ≡ n = ap length c.deref_mut.ensures.value ∙ c.requires.search.shift in
-    let graph : IsGraph t.places t.value_of t.fits c.args.terms.now n (pos 1) c.least_by.new.graph
-    = subst (λ k. IsGraph t.places t.value_of t.fits c.args.terms.now k (pos 1) c.least_by.new.graph) sized c.in_ok-below.ensures.graph in
+    let graph : IsClaimed t.places t.value_of t.size_of t.fits c.args.terms.now n (pos 1) c.least_by.new.graph
+    = subst (λ k. IsClaimed t.places t.value_of t.size_of t.fits c.args.terms.now k (pos 1) c.least_by.new.graph) sized c.in_ok-below.ensures.graph in
     record {
       first = c.requires.search.first;
       warm = graph;
@@ -58,33 +59,33 @@ returns-clause-search g c =
     let ws = c.least_by.new.shift in
     let ws2 = c.least_by-2.new.shift in
     let sized : length c.deref_mut.result.now ≡ n = ap length c.deref_mut.ensures.value ∙ c.requires.search.shift in
-    let graph : IsGraph t.places t.value_of t.fits c.args.terms.now n (pos 1) c.least_by.new.graph
-    = subst (λ k. IsGraph t.places t.value_of t.fits c.args.terms.now k (pos 1) c.least_by.new.graph) sized c.in_ok-below.ensures.graph in
+    let graph : IsClaimed t.places t.value_of t.size_of t.fits c.args.terms.now n (pos 1) c.least_by.new.graph
+    = subst (λ k. IsClaimed t.places t.value_of t.size_of t.fits c.args.terms.now k (pos 1) c.least_by.new.graph) sized c.in_ok-below.ensures.graph in
     let mid : length (with_items v ws).items ≡ n = ap length (with_items_is v ws (c.least_by.auto.shift ∙ c.deref_mut.ensures.len)) ∙ c.least_by.auto.shift ∙ sized in
     let sized2 : length c.deref_mut-2.result.now ≡ n = ap length c.deref_mut-2.ensures.value ∙ mid in
     let s = c.args.slope in
     let fq : FitsSigned w128 s.den = omega (arith, ints, s.factor.low, s.factor.high) in
-    let told : IsGraph t.places t.value_of t.fits c.args.terms.now (length c.deref_mut-2.result.now) s.den c.least_by-2.new.graph = simp to_z-of_z at c.in_ok-least.ensures.graph in
-    let graph2 : IsGraph t.places t.value_of t.fits c.args.terms.now n s.den c.least_by-2.new.graph
-    = subst (λ k. IsGraph t.places t.value_of t.fits c.args.terms.now k s.den c.least_by-2.new.graph) sized2 told in
+    let told : IsClaimed t.places t.value_of t.size_of t.fits c.args.terms.now (length c.deref_mut-2.result.now) s.den c.least_by-2.new.graph = simp to_z-of_z at c.in_ok-least.ensures.graph in
+    let graph2 : IsClaimed t.places t.value_of t.size_of t.fits c.args.terms.now n s.den c.least_by-2.new.graph
+    = subst (λ k. IsClaimed t.places t.value_of t.size_of t.fits c.args.terms.now k s.den c.least_by-2.new.graph) sized2 told in
     record {
       first = c.requires.search.first;
       warm = graph;
-      cold = (s.den, graph2);
+      cold = shaped graph2;
       shift = ap length (with_items_is (with_items v ws) ws2 (c.least_by-2.auto.shift ∙ c.deref_mut-2.ensures.len)) ∙ c.least_by-2.auto.shift ∙ sized2;
     }
 
 pub restart_by-requires-clause-bounded : goal.restart_by-requires-clause-bounded
-restart_by-requires-clause-bounded g c = rw c.requires.search.cold.1.are_spots.count c.requires.bounded
+restart_by-requires-clause-bounded g c = rw c.requires.search.cold.are_spots.count c.requires.bounded
 
 pub restart_by-requires-clause-graph : goal.restart_by-requires-clause-graph
-restart_by-requires-clause-graph g c = rw c.requires.search.cold.1.are_spots.count c.requires.search.cold
+restart_by-requires-clause-graph g c = rw c.requires.search.cold.are_spots.count c.requires.search.cold
 
 pub restart_by-requires-clause-other : goal.restart_by-requires-clause-other
 restart_by-requires-clause-other g c =
     let t = g.T.Term in
     let n = c.args.n in
     let sized : length c.deref_mut.result.now ≡ n = ap length c.deref_mut.ensures.value ∙ c.requires.search.shift in
-    let graph : IsGraph t.places t.value_of t.fits c.args.terms.now n (pos 1) c.least_by.new.graph
-    = subst (λ k. IsGraph t.places t.value_of t.fits c.args.terms.now k (pos 1) c.least_by.new.graph) sized c.in_ok-below.ensures.graph in
-    rw c.requires.search.cold.1.are_spots.count graph
+    let graph : IsClaimed t.places t.value_of t.size_of t.fits c.args.terms.now n (pos 1) c.least_by.new.graph
+    = subst (λ k. IsClaimed t.places t.value_of t.size_of t.fits c.args.terms.now k (pos 1) c.least_by.new.graph) sized c.in_ok-below.ensures.graph in
+    rw c.requires.search.cold.are_spots.count graph

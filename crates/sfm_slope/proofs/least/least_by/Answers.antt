@@ -12,7 +12,7 @@ improve-requires-clause-shifts g c =
     let fp : FitsSigned w128 p = c.ranges.p in
     let same : c.write_even.new.shift ≡ replicate n p = simp to_z-of_z at c.write_even.ensures in
     let m = magnitudes-even n p c.requires.slope in
-    let few = c.requires.bounded.few in
+    let few = c.requires.graph.bounded.few in
     rw same (omega (arith, ints, m, few))
 
 pub returns-clause-least : goal.returns-clause-least
@@ -22,5 +22,5 @@ returns-clause-least g c =
     let fp : FitsSigned w128 p = c.ranges.p in
     let fq : FitsSigned w128 c.args.q = c.ranges.q in
     let same : c.write_even.new.shift ≡ replicate n p = simp to_z-of_z at c.write_even.ensures in
-    let h = rw (same, length-replicate n p) at c.in_ok-rested.ensures.least in
+    let h = rw (same, length-replicate n p) at c.in_ok-least.ensures.least in
     simp to_z-of_z at h

@@ -1,7 +1,7 @@
 use Rattle.std.proofs.Common.{◌≡◌, List, ℤ, length, map, ap, subst, ◌∙◌}
 use Rattle.std.proofs.lemmas.List.{with_items_is}
 use Rattle.sfm_spec.specs.Families.{meanings}
-use Rattle.sfm_exchange.specs.Graph.{IsGraph}
+use Rattle.sfm_exchange.specs.Graph.{IsShaped}
 use Rattle.sfm_slope.specs.Sections.{IsSection}
 use Rattle.sfm_slope.proofs.sections.section.Goals as goal
 
@@ -9,15 +9,13 @@ pub returns-clause-search : goal.returns-clause-search
 returns-clause-search g c =
     let t = g.T.Term in
     let n = c.args.n in
-    let q = c.args.point.now.slope.den in
     let ws = c.bases_at.new.shift in
     let sized : length c.deref_mut.result.now ≡ n = ap length c.deref_mut.ensures.value ∙ c.requires.search.shift in
-    let graph : IsGraph t.places t.value_of t.fits c.args.terms.now n q c.bases_at.new.graph
-    = subst (λ k. IsGraph t.places t.value_of t.fits c.args.terms.now k q c.bases_at.new.graph) sized c.in_ok-bases.ensures.graph in
+    let graph : IsShaped t.places t.value_of c.args.terms.now n c.bases_at.new.graph = subst (λ k. IsShaped t.places t.value_of c.args.terms.now k c.bases_at.new.graph) sized c.in_ok-bases.ensures.graph in
     record {
       first = c.requires.search.first;
       warm = c.requires.search.warm;
-      cold = (q, graph);
+      cold = graph;
       shift = ap length (with_items_is c.args.search.now.shift ws (c.bases_at.auto.shift ∙ c.deref_mut.ensures.len)) ∙ c.bases_at.auto.shift ∙ sized;
     }
 

@@ -9,7 +9,7 @@ use Rattle.sfm_slope.proofs.sections.sections.Given as goal
 
 abbrev pub invariant-loop-point : goal.invariant-loop-point
 invariant-loop-point g l = let t = g.T.Term in record {
-  search : IsSearch t.places t.value_of t.fits l.terms l.n l.search;
+  search : IsSearch t.places t.value_of t.size_of t.fits l.terms l.n l.search;
   marks : map mark_of l.breaks.items ≡ map found_mark (take l.point-index l.found);
   bases : All (HasBases (meanings t.places t.value_of l.terms) (λ q. map (λ x. t.start_of x q) l.terms) l.n) l.breaks.items;
 }

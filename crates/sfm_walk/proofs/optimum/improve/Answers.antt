@@ -5,38 +5,34 @@ use mir.Syntax.{w128}
 use Rattle.sfm_spec.specs.Families.{meanings, rest_at, deficit}
 use Rattle.sfm_spec.specs.Progress.{IsProgress}
 use Rattle.sfm_spec.proofs.LeastWalks.{few_walks_small}
+use Rattle.sfm_spec.proofs.Proving.{prove_if_none}
 use Rattle.sfm_spec.proofs.Walks.{bases-at}
-use Rattle.sfm_exchange.specs.Graph.{IsClaimed}
 use Rattle.sfm_walk.proofs.Gaps.{deficit_low}
 use Rattle.sfm_walk.proofs.Counting.{IsCounting, counting_none, counting_more, counting_few, counting_is}
 use Rattle.sfm_walk.proofs.Improving.{IsImproving, falls, gap_still, improving_after, same_bound, small_still}
-use Rattle.sfm_exchange.proofs.ClaimedGraphs.{base_count, counted, whole_claimed}
+use Rattle.sfm_exchange.proofs.ClaimedGraphs.{are_terms, base_count, counted, low}
 use Rattle.sfm_walk.proofs.optimum.improve.Goals as goal
 
+pub rest_of-requires-clause-placed : goal.rest_of-requires-clause-placed
+rest_of-requires-clause-placed g c = c.requires.graph.bounded.placed
+
+pub rest_of-requires-clause-few : goal.rest_of-requires-clause-few
+rest_of-requires-clause-few g c = c.requires.graph.bounded.few_places
+
 pub rest_of-requires-clause-rows : goal.rest_of-requires-clause-rows
-rest_of-requires-clause-rows g c =
-    let t = g.T.Term in
-    let n = length c.args.shift.now in
-    let q = c.args.q in
-    let r = c.requires in
-    let whole : IsClaimed t.places t.value_of t.size_of t.fits c.args.terms.now n q c.args.graph.now = whole_claimed (record { bounded = r.bounded; factor = r.factor; exact = r.graph }) in
-    base_count whole
+rest_of-requires-clause-rows g c = base_count c.requires.graph
 
 pub rest_of-requires-clause-entries : goal.rest_of-requires-clause-entries
 rest_of-requires-clause-entries g c =
     let t = g.T.Term in
     let ts = meanings t.places t.value_of c.args.terms.now in
-    let n = length c.args.shift.now in
-    let q = c.args.q in
-    let r = c.requires in
-    let init = c.args.graph.now.bases in
-    let whole : IsClaimed t.places t.value_of t.size_of t.fits c.args.terms.now n q c.args.graph.now = whole_claimed (record { bounded = r.bounded; factor = r.factor; exact = r.graph }) in
-    λ i l. (bases-at q ts init i r.graph.are_bases (rw (counted whole) l)).0
+    let h = c.requires.graph in
+    λ i l. (bases-at c.args.q ts c.args.graph.now.bases i h.are_bases (rw (counted h) l)).0
 
 pub run_at-run-requires : goal.run_at-run-requires
 run_at-run-requires g c =
     let r = c.requires in
-    let few = r.bounded.few in
+    let few = r.graph.bounded.few in
     rw c.in_ok-z.ensures.places few
 
 pub loop-run-init : goal.loop-run-init
@@ -49,11 +45,10 @@ loop-run-init g c =
     let shift = c.args.shift.now in
     let r = c.requires in
     let init = c.args.graph.now.bases in
-    let whole : IsClaimed t.places t.value_of t.size_of t.fits c.args.terms.now n q c.args.graph.now = whole_claimed (record { bounded = r.bounded; factor = r.factor; exact = r.graph }) in
     let D : List (List ℤ) → ℤ = λ rows. deficit n (rest_at ts rows shift) in
     let z_is = c.run_at-run.ensures.z in
     let start : IsImproving t.places t.value_of t.size_of t.fits c.args.terms.now q shift init c.args.graph.now c.run_at-run.result = record {
-      whole = whole;
+      whole = r.graph;
       at = record { is_rest = rw z_is c.in_ok-z.ensures; signs = rw z_is c.run_at-run.ensures.signs };
       risen = omega (arith, ints);
       small = same_bound init (pos (10 ^ 25) +ℤ (D init -ℤ D init)) r.small (omega (arith, ints));
@@ -71,7 +66,7 @@ next_walk-requires-clause-small g c =
     let t = g.T.Term in
     let fq : FitsSigned w128 c.args.q = c.ranges.q in
     let r = c.requires in
-    let gap = deficit_low t.places t.value_of c.args.terms.now c.args.graph.now.bases c.args.shift.now r.small r.bounded.few_places r.shifts in
+    let gap = deficit_low t.places t.value_of c.args.terms.now c.args.graph.now.bases c.args.shift.now r.small r.graph.bounded.few_places r.shifts in
     let inv = simp to_z-of_z at c.loop-run.invariant.0 in
     small_still inv (10 ^ 30) gap (omega arith)
 
@@ -93,7 +88,7 @@ advance-requires-clause-small g c =
     let t = g.T.Term in
     let fq : FitsSigned w128 c.args.q = c.ranges.q in
     let r = c.requires in
-    let gap = deficit_low t.places t.value_of c.args.terms.now c.args.graph.now.bases c.args.shift.now r.small r.bounded.few_places r.shifts in
+    let gap = deficit_low t.places t.value_of c.args.terms.now c.args.graph.now.bases c.args.shift.now r.small r.graph.bounded.few_places r.shifts in
     let inv = simp to_z-of_z at c.loop-run.invariant.0 in
     rw c.in_ok-next_walk.ensures.bases (small_still inv (5 * 10 ^ 29) gap (omega arith))
 
@@ -102,7 +97,7 @@ advance-requires-clause-gap g c =
     let t = g.T.Term in
     let fq : FitsSigned w128 c.args.q = c.ranges.q in
     let r = c.requires in
-    let gap = deficit_low t.places t.value_of c.args.terms.now c.args.graph.now.bases c.args.shift.now r.small r.bounded.few_places r.shifts in
+    let gap = deficit_low t.places t.value_of c.args.terms.now c.args.graph.now.bases c.args.shift.now r.small r.graph.bounded.few_places r.shifts in
     let inv = simp to_z-of_z at c.loop-run.invariant.0 in
     rw c.in_ok-next_walk.ensures.bases (gap_still inv gap)
 
@@ -129,7 +124,6 @@ loop-run-preserved g c =
     let shift = c.args.shift.now in
     let r = c.requires in
     let init = c.args.graph.now.bases in
-    let whole : IsClaimed t.places t.value_of t.size_of t.fits c.args.terms.now n q c.args.graph.now = whole_claimed (record { bounded = r.bounded; factor = r.factor; exact = r.graph }) in
     let inv = simp to_z-of_z at c.loop-run.invariant.0 in
     let graph = c.loop-run.graph in
     let e = c.in_ok-advance.ensures in
@@ -138,59 +132,50 @@ loop-run-preserved g c =
     let p : IsProgress ts n q shift graph.bases after = rw same at (simp to_z-of_z at e.moves) in
     let next = improving_after inv m.family m.submodular after p c.advance.new.graph c.advance.new.run refl (simp to_z-of_z at e.graph) e.run (rw same at e.spread) in
     let counting : IsCounting ts n q shift init after c.args.steps.now c.tick.new.self = counting_more ts n q shift init graph.bases after c.args.steps.now c.loop-run.steps c.tick.new.self (simp to_z-of_z at c.loop-run.invariant.2) p c.tick.ensures in
-    simp to_z-of_z (next, omega (arith, c.loop-run.invariant.1, c.tick.ensures), counting, counting_few ts n (length c.args.terms.now) q shift init after c.args.steps.now c.tick.new.self (counted whole) counting)
+    simp to_z-of_z (next, omega (arith, c.loop-run.invariant.1, c.tick.ensures), counting, counting_few ts n (length c.args.terms.now) q shift init after c.args.steps.now c.tick.new.self (counted r.graph) counting)
 
 pub tick-requires : goal.tick-requires
 tick-requires g c =
-    let few = few_walks_small (length c.args.shift.now) (length c.args.terms.now) c.requires.bounded.few (rw length-map at c.requires.bounded.few_terms) in
+    let few = few_walks_small (length c.args.shift.now) (length c.args.terms.now) c.requires.graph.bounded.few (rw length-map at c.requires.graph.bounded.few_terms) in
     omega (arith, few, c.requires.room, c.loop-run.invariant.3)
 
-pub read_off-requires-clause-graph : goal.read_off-requires-clause-graph
-read_off-requires-clause-graph g c =
+pub returns-clause-graph : goal.returns-clause-graph
+returns-clause-graph g c =
     let fq : FitsSigned w128 c.args.q = c.ranges.q in
-    c.in_ok-next_walk.ensures.graph
-
-pub read_off-requires-clause-small : goal.read_off-requires-clause-small
-read_off-requires-clause-small g c =
-    let t = g.T.Term in
-    let fq : FitsSigned w128 c.args.q = c.ranges.q in
-    let r = c.requires in
-    let gap = deficit_low t.places t.value_of c.args.terms.now c.args.graph.now.bases c.args.shift.now r.small r.bounded.few_places r.shifts in
-    let inv = simp to_z-of_z at c.loop-run.invariant.0 in
-    rw c.in_ok-next_walk.ensures.bases (small_still inv (10 ^ 30) gap (omega arith))
-
-pub read_off-requires-clause-run : goal.read_off-requires-clause-run
-read_off-requires-clause-run g c = rw c.in_ok-next_walk.ensures.bases c.in_ok-next_walk.ensures.run
-
-pub read_off-requires-clause-ends : goal.read_off-requires-clause-ends
-read_off-requires-clause-ends g c = rw c.in_ok-next_walk.ensures.bases (c.in_ok-next_walk.ensures.ends c.if-branch.false)
+    simp to_z-of_z at c.in_ok-next_walk.ensures.graph
 
 pub returns-clause-bases : goal.returns-clause-bases
 returns-clause-bases g c =
     let fq : FitsSigned w128 c.args.q = c.ranges.q in
-    (simp to_z-of_z at c.in_ok-rested.ensures.graph).are_bases
+    (simp to_z-of_z at c.in_ok-next_walk.ensures.graph).are_bases
 
 pub returns-clause-small : goal.returns-clause-small
 returns-clause-small g c =
     let t = g.T.Term in
     let fq : FitsSigned w128 c.args.q = c.ranges.q in
     let r = c.requires in
-    let gap = deficit_low t.places t.value_of c.args.terms.now c.args.graph.now.bases c.args.shift.now r.small r.bounded.few_places r.shifts in
+    let gap = deficit_low t.places t.value_of c.args.terms.now c.args.graph.now.bases c.args.shift.now r.small r.graph.bounded.few_places r.shifts in
     let inv = simp to_z-of_z at c.loop-run.invariant.0 in
-    rw (c.in_ok-rested.ensures.bases, c.in_ok-next_walk.ensures.bases) (small_still inv (10 ^ 30) gap (omega arith))
+    rw c.in_ok-next_walk.ensures.bases (small_still inv (10 ^ 30) gap (omega arith))
 
 pub returns-clause-rest : goal.returns-clause-rest
-returns-clause-rest g c = rw c.in_ok-rested.ensures.bases c.in_ok-rested.ensures.rest
+returns-clause-rest g c =
+    let rest = c.in_ok-next_walk.ensures.run.is_rest in
+    rw (c.from_vec.ensures, c.in_ok-next_walk.ensures.bases) (rest.places, (λ e l. rest.exact e (rw rest.places l)))
 
 pub returns-clause-ends : goal.returns-clause-ends
 returns-clause-ends g c =
     let fq : FitsSigned w128 c.args.q = c.ranges.q in
-    rw (c.in_ok-rested.ensures.bases, c.in_ok-next_walk.ensures.bases) (simp to_z-of_z at (c.in_ok-next_walk.ensures.ends c.if-branch.false))
+    rw c.in_ok-next_walk.ensures.bases (simp to_z-of_z at (c.in_ok-next_walk.ensures.ends c.if-branch.false))
 
 pub returns-clause-proves : goal.returns-clause-proves
 returns-clause-proves g c =
+    let t = g.T.Term in
+    let m = g.met.T.Term in
     let fq : FitsSigned w128 c.args.q = c.ranges.q in
-    rw c.in_ok-rested.ensures.bases (simp to_z-of_z at c.in_ok-rested.ensures.proves)
+    let h = simp to_z-of_z at c.in_ok-next_walk.ensures.graph in
+    let ends = simp to_z-of_z at (c.in_ok-next_walk.ensures.ends c.if-branch.false) in
+    prove_if_none (meanings t.places t.value_of c.args.terms.now) c.next_walk.new.graph.bases (length c.args.shift.now) c.args.q c.args.shift.now (low h) (are_terms h m.family m.submodular) h.are_bases (rw c.in_ok-next_walk.ensures.bases ends)
 
 pub returns-clause-counted : goal.returns-clause-counted
 returns-clause-counted g c =
@@ -201,4 +186,4 @@ returns-clause-counted g c =
     let q = c.args.q in
     let shift = c.args.shift.now in
     let init = c.args.graph.now.bases in
-    rw (c.in_ok-rested.ensures.bases, c.in_ok-next_walk.ensures.bases) (counting_is ts n q shift init c.loop-run.graph.bases c.args.steps.now c.loop-run.steps (simp to_z-of_z at c.loop-run.invariant.2))
+    rw c.in_ok-next_walk.ensures.bases (counting_is ts n q shift init c.loop-run.graph.bases c.args.steps.now c.loop-run.steps (simp to_z-of_z at c.loop-run.invariant.2))

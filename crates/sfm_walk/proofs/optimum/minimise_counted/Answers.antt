@@ -4,6 +4,7 @@ use Rattle.std.proofs.lemmas.List.{length-replicate}
 use mir.Syntax.{w128}
 use Rattle.sfm_walk.proofs.Starting.{each_bounded, magnitudes-even, starts_within}
 use Rattle.sfm_exchange.proofs.Basing.{size_low}
+use Rattle.sfm_exchange.proofs.ClaimedGraphs.{whole_claimed}
 use Rattle.sfm_walk.proofs.optimum.minimise_counted.Goals as goal
 
 pub start_rows-requires-clause-bounded : goal.start_rows-requires-clause-bounded
@@ -35,14 +36,14 @@ returns-clause-rest g c =
     let fq : FitsSigned w128 c.args.q = c.ranges.q in
     let fp : FitsSigned w128 c.args.p = c.ranges.p in
     let same : c.deref.result.now ≡ replicate c.args.n c.args.p = search rules in
-    rw (same, length-replicate c.args.n c.args.p) at c.in_ok-rested.ensures.rest
+    rw (same, length-replicate c.args.n c.args.p) at c.in_ok-z.ensures.rest
 
 pub returns-clause-ends : goal.returns-clause-ends
 returns-clause-ends g c =
     let fq : FitsSigned w128 c.args.q = c.ranges.q in
     let fp : FitsSigned w128 c.args.p = c.ranges.p in
     let same : c.deref.result.now ≡ replicate c.args.n c.args.p = search rules in
-    let known = rw same at c.in_ok-rested.ensures.ends in
+    let known = rw same at c.in_ok-z.ensures.ends in
     simp to_z-of_z at known
 
 pub returns-clause-proves : goal.returns-clause-proves
@@ -50,7 +51,7 @@ returns-clause-proves g c =
     let fq : FitsSigned w128 c.args.q = c.ranges.q in
     let fp : FitsSigned w128 c.args.p = c.ranges.p in
     let same : c.deref.result.now ≡ replicate c.args.n c.args.p = search rules in
-    let known = rw (same, length-replicate c.args.n c.args.p) at c.in_ok-rested.ensures.proves in
+    let known = rw (same, length-replicate c.args.n c.args.p) at c.in_ok-z.ensures.proves in
     simp to_z-of_z at known
 
 pub returns-clause-counted : goal.returns-clause-counted
@@ -58,10 +59,17 @@ returns-clause-counted g c =
     let fq : FitsSigned w128 c.args.q = c.ranges.q in
     let fp : FitsSigned w128 c.args.p = c.ranges.p in
     let same : c.deref.result.now ≡ replicate c.args.n c.args.p = search rules in
-    let known = rw (same, length-replicate c.args.n c.args.p, c.in_ok-graph.ensures.bases, c.in_ok-first_bases.ensures.starts) at c.in_ok-rested.ensures.counted in
+    let known = rw (same, length-replicate c.args.n c.args.p, c.in_ok-graph.ensures.bases, c.in_ok-first_bases.ensures.starts) at c.in_ok-z.ensures.counted in
     simp to_z-of_z at known
 
 pub returns-clause-few : goal.returns-clause-few
 returns-clause-few g c =
     let same : c.deref.result.now ≡ replicate c.args.n c.args.p = search rules in
     rw (same, length-replicate c.args.n c.args.p) at c.improve.ensures.few
+
+pub improve-requires-clause-graph : goal.improve-requires-clause-graph
+improve-requires-clause-graph g c =
+    let fq : FitsSigned w128 c.args.q = c.ranges.q in
+    let r = c.requires in
+    let same : c.deref.result.now ≡ replicate c.args.n c.args.p = search rules in
+    rw (same, length-replicate c.args.n c.args.p) (simp to_z-of_z (whole_claimed (record { bounded = r.bounded; factor = r.factor; exact = simp to_z-of_z at c.in_ok-graph.ensures.graph })))

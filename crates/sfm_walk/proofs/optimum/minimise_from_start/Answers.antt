@@ -25,60 +25,52 @@ improve-requires-clause-small g c =
 pub returns-clause-bases : goal.returns-clause-bases
 returns-clause-bases g c =
     let fq : FitsSigned w128 c.args.q = c.ranges.q in
-    let known = simp to_z-of_z at c.in_ok-rested.ensures.bases in
+    let known = simp to_z-of_z at c.in_ok-z.ensures.bases in
     rw c.in_ok-bases.ensures known
 
 pub returns-clause-small : goal.returns-clause-small
 returns-clause-small g c =
     let fq : FitsSigned w128 c.args.q = c.ranges.q in
-    let known = c.in_ok-rested.ensures.small in
+    let known = c.in_ok-z.ensures.small in
     rw c.in_ok-bases.ensures known
 
 pub returns-clause-rest : goal.returns-clause-rest
 returns-clause-rest g c =
     let fq : FitsSigned w128 c.args.q = c.ranges.q in
-    let known = c.in_ok-rested.ensures.rest in
+    let known = c.in_ok-z.ensures.rest in
     rw c.in_ok-bases.ensures known
 
 pub returns-clause-ends : goal.returns-clause-ends
 returns-clause-ends g c =
     let fq : FitsSigned w128 c.args.q = c.ranges.q in
-    let known = simp to_z-of_z at c.in_ok-rested.ensures.ends in
+    let known = simp to_z-of_z at c.in_ok-z.ensures.ends in
     rw c.in_ok-bases.ensures known
 
 pub returns-clause-proves : goal.returns-clause-proves
 returns-clause-proves g c =
     let fq : FitsSigned w128 c.args.q = c.ranges.q in
-    let known = simp to_z-of_z at c.in_ok-rested.ensures.proves in
+    let known = simp to_z-of_z at c.in_ok-z.ensures.proves in
     rw c.in_ok-bases.ensures known
 
 pub returns-clause-few : goal.returns-clause-few
 returns-clause-few g c =
     let fq : FitsSigned w128 c.args.q = c.ranges.q in
-    let known = simp to_z-of_z at (rw (c.in_ok-restart_by.ensures.bases, c.in_ok-first_bases.ensures.starts) at c.in_ok-rested.ensures.counted) in
+    let known = simp to_z-of_z at (rw (c.in_ok-restart_by.ensures.bases, c.in_ok-first_bases.ensures.starts) at c.in_ok-z.ensures.counted) in
     rw c.in_ok-bases.ensures (known.0, known.1, known.2)
 
 pub returns-clause-graph : goal.returns-clause-graph
 returns-clause-graph g c =
     let fq : FitsSigned w128 c.args.q = c.ranges.q in
-    simp to_z-of_z at c.in_ok-rested.ensures.graph
+    simp to_z-of_z at c.in_ok-z.ensures.graph
 
 pub restart_by-requires-clause-bounded : goal.restart_by-requires-clause-bounded
-restart_by-requires-clause-bounded g c =
-    let fq : FitsSigned w128 c.args.q = c.ranges.q in
-    rw c.requires.graph.1.are_spots.count c.requires.bounded
+restart_by-requires-clause-bounded g c = rw c.requires.graph.are_spots.count c.requires.bounded
 
 pub restart_by-requires-clause-graph : goal.restart_by-requires-clause-graph
-restart_by-requires-clause-graph g c =
-    let fq : FitsSigned w128 c.args.q = c.ranges.q in
-    rw c.requires.graph.1.are_spots.count c.requires.graph
+restart_by-requires-clause-graph g c = rw c.requires.graph.are_spots.count c.requires.graph
 
 pub restart_by-requires-clause-other : goal.restart_by-requires-clause-other
-restart_by-requires-clause-other g c =
-    let fq : FitsSigned w128 c.args.q = c.ranges.q in
-    rw c.requires.graph.1.are_spots.count c.requires.firsts
+restart_by-requires-clause-other g c = rw c.requires.graph.are_spots.count c.requires.firsts
 
 pub improve-requires-clause-graph : goal.improve-requires-clause-graph
-improve-requires-clause-graph g c =
-    let fq : FitsSigned w128 c.args.q = c.ranges.q in
-    rw c.requires.graph.1.are_spots.count at c.in_ok-restart_by.ensures.graph
+improve-requires-clause-graph g c = rw c.requires.graph.are_spots.count at c.in_ok-restart_by.ensures.graph
