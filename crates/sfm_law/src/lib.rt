@@ -5,6 +5,7 @@ pub mod breaks;
 pub mod laws;
 pub mod moves;
 pub mod numbers;
+pub mod plain;
 pub mod rest;
 pub mod room;
 pub mod starts;
@@ -13,7 +14,8 @@ pub mod walk;
 
 pub use breaks::Break;
 pub use moves::exchange;
-pub use numbers::{are_within, has_sum, magnitude, product, sum_of};
+pub use numbers::{are_within, has_sum, least_left, magnitude, product, sum_of};
+pub use plain::Plain;
 pub use rest::rest_of;
 pub use room::Room;
 pub use starts::{start_row, start_rows};

@@ -1,5 +1,6 @@
 // Products and sums of the numbers that a term and its bases are made of.
-ghost use Rattle.std.specs.Prelude.{◌≡◌, ◌↔◌, ◌≤◌, ◌^◌, IsTrue, length, nat_abs, ℤ, ◌*ℤ◌, ◌≤ℤ◌, pos};
+ghost use Rattle.std.specs.Prelude.{◌≡◌, ◌↔◌, ◌<◌, ◌≤◌, ◌^◌, IsTrue, length, nat_abs, slice_index_or, ℤ, ◌*ℤ◌, ◌-ℤ◌, ◌≤ℤ◌, pos};
+ghost use Rattle.std.specs.Int.{int_min};
 ghost use Rattle.std.specs.List.{All};
 ghost use Rattle.sfm_spec.specs.Bounds.{IsAtMost, IsEntry, IsFactor, IsGiven, total_of};
 
@@ -47,4 +48,16 @@ pub fn are_within(x: &[i128], most: i128) -> bool
     ensures { IsTrue result ↔ All (λ a. (pos 0 ≤ℤ a) × (a ≤ℤ most)) x.now }
 {
     x.iter().all(|a| 0 <= *a && *a <= most)
+}
+
+/// What v has, or what u lacks of a number where that is less.
+pub fn least_left(x: &[i128], u: usize, v: usize, most: i128) -> i128
+    requires small { All IsEntry x.now }
+    requires most { IsAtMost (10 ^ 27) most }
+    requires from { u < length x.now }
+    requires onto { v < length x.now }
+    ensures { result ≡ int_min (slice_index_or x.now v (pos 0)) (most -ℤ slice_index_or x.now u (pos 0)) }
+{
+    let left = most - x[u];
+    x[v].min(left)
 }
