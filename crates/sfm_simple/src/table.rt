@@ -1,13 +1,12 @@
 // A number for each part of at most eight elements, listed in binary counting: any submodular function of them.
 // All calls go through the parts: what a part leaves of its value is its slack, a base leaves none negative, and the room
 // of (u, v) is the least slack of a part with u and not v.
-ghost use Rattle.std.specs.Prelude.{◌≡◌, ◌≢◌, ◌↔◌, ℕ, ◌+◌, ◌-◌, ◌<◌, ◌≤◌, ◌^◌, Bool, true, false, List, length, slice_index_or, ℤ, pos, neg_ℤ, ◌*ℤ◌, ◌+ℤ◌, ◌-ℤ◌, ◌≤ℤ◌, IfOk, OnOk, IsTrue, Option, Some, Ok, Err};
+ghost use Rattle.std.specs.Prelude.{◌≡◌, ◌≢◌, ◌↔◌, ℕ, ◌+◌, ◌-◌, ◌<◌, ◌≤◌, ◌^◌, true, false, length, slice_index_or, ℤ, pos, ◌≤ℤ◌, IfOk, OnOk, IsTrue, Option, Some, Ok, Err};
 ghost use Rattle.std.specs.List.{All};
 ghost use Rattle.sfm_spec.specs.Bounds.{IsEntry, IsFactor, IsGiven, AreElements};
 ghost use Rattle.sfm_spec.specs.Sets.{Has};
-ghost use Rattle.sfm_spec.specs.Terms.{SetFunction, times, IsBase, IsFamily, IsSubmodular, IsGreedy, exchanged};
+ghost use Rattle.sfm_spec.specs.Terms.{times, IsSubmodular, IsGreedy};
 ghost use Rattle.sfm_spec.specs.Kinds.{table_value};
-ghost use Rattle.sfm_law.specs.Room.{IsRoom, IsReach, IsWithinRoom};
 ghost use Rattle.sfm_simple.specs.Subsets.{members};
 ghost use Rattle.sfm_simple.specs.Breaches.{IsFirstBreach};
 ghost use Rattle.sfm_simple.specs.TableLaws.{greatest, gain_of, table_start, slack_of, Separates, IsLeastSlack, table-family, table-bounded, table-starts, table-starts_small};
@@ -16,7 +15,7 @@ use crate::breach::first_breach;
 use crate::place::all_but;
 use crate::subset::{has, keep_members, number_of, sum_at, unit};
 use sfm_base::{Memory, Numbers, Places, Set};
-use sfm_law::{Room, Term, magnitude, product};
+use sfm_law::{Plain, Room, magnitude, product};
 use std::alloc::Global;
 
 /// Why numbers make no table.
@@ -113,14 +112,6 @@ impl Table {
         })
     }
 
-    /// The value of a part: every part is allowed.
-    pub fn value_of(&self, s: &Set) -> Option<i128>
-        requires { length s.now ≡ length self.now.places }
-        ensures { result ≡ table_value self.now.values s.now }
-    {
-        Some(self.listed(number_of(s)))
-    }
-
     /// The value of the part with the number s.
     fn listed(&self, s: usize) -> i128
         requires { s < length self.now.values }
@@ -146,16 +137,6 @@ impl Table {
         let after = self.listed(unit(j + 1) - 1);
         let before = self.listed(unit(j) - 1);
         product(q, after) - product(q, before)
-    }
-
-    /// Writes what each place adds to those before it: the greedy base.
-    pub fn start_of(&self, q: i128, x: &mut [i128])
-        requires factor { IsFactor q }
-        requires entries { length x.old ≡ length self.now.places }
-        ensures start { x.new ≡ table_start q self.now.values (length self.now.places) }
-        ensures greedy { IsGreedy q (table_value self.now.values) (length self.now.places) x.new }
-    {
-        self.write_gains(q, x);
     }
 
     /// Writes what each place adds to those before it.
@@ -206,16 +187,6 @@ impl Table {
         true
     }
 
-    /// Whether x is a base of q times the term.
-    pub fn is_base_of(&self, q: i128, x: &[i128]) -> bool
-        requires factor { IsFactor q }
-        requires entries { length x.now ≡ length self.now.places }
-        requires small { All IsEntry x.now }
-        ensures { IsTrue result ↔ IsBase (times q (table_value self.now.values)) x.now }
-    {
-        self.is_within(q, x) && self.is_tight(q, x, self.count() - 1)
-    }
-
     /// The least slack of a part with u and not v.
     fn least_slack(&self, q: i128, x: &[i128], u: usize, v: usize) -> i128
         requires factor { IsFactor q }
@@ -233,20 +204,6 @@ impl Table {
             }
         }
         least
-    }
-
-    /// The room of (u, v) at a base: the least slack of a part with u and not v.
-    pub fn room_of(&self, q: i128, x: &[i128], u: usize, v: usize) -> Room
-        requires factor { IsFactor q }
-        requires entries { length x.now ≡ length self.now.places }
-        requires small { All IsEntry x.now }
-        requires base { IsBase (times q (table_value self.now.values)) x.now }
-        requires apart { u ≢ v }
-        requires from { u < length x.now }
-        requires onto { v < length x.now }
-        ensures { IsRoom (times q (table_value self.now.values)) x.now u v result }
-    {
-        Room::Upto(self.least_slack(q, x, u, v))
     }
 
     /// Whether the part with the number s has u and no slack.
@@ -277,26 +234,9 @@ impl Table {
             }
         }
     }
-
-    /// Writes the places other than u to which u has room at a base: those in each part with u that has no slack.
-    pub fn reach_of(&self, q: i128, x: &[i128], u: usize, to: &mut Set)
-        requires factor { IsFactor q }
-        requires entries { length x.now ≡ length self.now.places }
-        requires small { All IsEntry x.now }
-        requires base { IsBase (times q (table_value self.now.values)) x.now }
-        requires from { u < length x.now }
-        requires room_for_answer { length to.old ≡ length x.now }
-        ensures places { length to.new ≡ length to.old }
-        ensures reached { IsReach (times q (table_value self.now.values)) x.now u to.new }
-    {
-        all_but(to, u);
-        self.keep_tight(q, x, u, to);
-    }
 }
 
-impl Term for Table {
-    type Note = ();
-
+impl Plain for Table {
     ghost places = { λ s. s.places };
 
     ghost value_of = { λ s. table_value s.values };
@@ -304,12 +244,6 @@ impl Term for Table {
     ghost size_of = { λ s. greatest s.values };
 
     ghost start_of = { λ s q. table_start q s.values (length s.places) };
-
-    ghost lean_value = { λ s. Unit {0} };
-
-    ghost lean_calls = { λ s. Unit {0} };
-
-    ghost fits = { λ s note q x. Unit {0} };
 
     ghost family = { λ s. table-family s.values };
 
@@ -321,77 +255,42 @@ impl Term for Table {
 
     ghost starts_small = { λ s q low. table-starts_small _ q s.values low };
 
-    fn elements(&self) -> &[usize] {
+    fn elements_of(&self) -> &[usize] {
         self.places.as_slice()
     }
 
-    fn size(&self) -> i128 {
+    fn size_of(&self) -> i128 {
         self.most
     }
 
-    fn value(&self, _alloc: Global, s: &Set) -> Result<Option<i128>, Memory> {
-        Ok(self.value_of(s))
+    /// The value of a part: every part is allowed.
+    fn value_of(&self, s: &Set) -> Option<i128> {
+        Some(self.listed(number_of(s)))
     }
 
-    fn start(&self, _alloc: Global, q: i128, x: &mut [i128]) -> Result<(), Memory> {
-        self.start_of(q, x);
-        Ok(())
+    /// Writes what each place adds to those before it: the greedy base.
+    fn start_of(&self, q: i128, x: &mut [i128])
+        requires factor { IsFactor q }
+        requires entries { length x.old ≡ length self.now.places }
+        ensures start { x.new ≡ table_start q self.now.values (length self.now.places) }
+        ensures greedy { IsGreedy q (table_value self.now.values) (length self.now.places) x.new }
+    {
+        self.write_gains(q, x);
     }
 
-    fn is_base(&self, _alloc: Global, q: i128, x: &[i128]) -> Result<bool, Memory> {
-        Ok(self.is_base_of(q, x))
+    /// Whether x is a base of q times the term.
+    fn is_base_of(&self, q: i128, x: &[i128]) -> bool {
+        self.is_within(q, x) && self.is_tight(q, x, self.count() - 1)
     }
 
-    fn room(
-        &self,
-        _alloc: Global,
-        q: i128,
-        x: &[i128],
-        u: usize,
-        v: usize,
-    ) -> Result<Room, Memory> {
-        Ok(self.room_of(q, x, u, v))
+    /// The room of (u, v) at a base: the least slack of a part with u and not v.
+    fn room_of(&self, q: i128, x: &[i128], u: usize, v: usize) -> Room {
+        Room::Upto(self.least_slack(q, x, u, v))
     }
 
-    fn reach(
-        &self,
-        _alloc: Global,
-        q: i128,
-        x: &[i128],
-        u: usize,
-        to: &mut Set,
-    ) -> Result<(), Memory> {
-        self.reach_of(q, x, u, to);
-        Ok(())
-    }
-
-    fn note(&self, _alloc: Global, _q: i128, _x: &[i128]) -> Result<(), Memory> {
-        Ok(())
-    }
-
-    fn reach_by(
-        &self,
-        _alloc: Global,
-        q: i128,
-        x: &[i128],
-        _note: &mut (),
-        u: usize,
-        to: &mut Set,
-    ) -> Result<(), Memory> {
-        self.reach_of(q, x, u, to);
-        Ok(())
-    }
-
-    fn moved(
-        &self,
-        _alloc: Global,
-        _q: i128,
-        _x: &[i128],
-        _note: &mut (),
-        _u: usize,
-        _v: usize,
-        _a: i128,
-    ) -> Result<(), Memory> {
-        Ok(())
+    /// Writes the places other than u to which u has room at a base: those in each part with u that has no slack.
+    fn reach_of(&self, q: i128, x: &[i128], u: usize, to: &mut Set) {
+        all_but(to, u);
+        self.keep_tight(q, x, u, to);
     }
 }

@@ -1,16 +1,15 @@
 // A number for each element; the value of a part is the sum of its numbers.
 // The one base of q times it is q times the numbers, so nothing can be exchanged.
-ghost use Rattle.std.specs.Prelude.{◌≡◌, ◌≢◌, ◌↔◌, ℕ, ◌<◌, ◌≤◌, ◌^◌, Bool, true, false, List, length, slice_index_or, ℤ, pos, neg_ℤ, ◌*ℤ◌, ◌≤ℤ◌, IfOk, OnOk, IsTrue, Option, Some, nat_abs, if◌then◌else◌};
+ghost use Rattle.std.specs.Prelude.{◌≡◌, ◌↔◌, ◌<◌, ◌≤◌, true, false, length, pos, IfOk, IsTrue, Option, Some, if◌then◌else◌};
 ghost use Rattle.std.specs.List.{All};
-ghost use Rattle.sfm_spec.specs.Bounds.{IsEntry, IsFactor, IsGiven, AreElements};
+ghost use Rattle.sfm_spec.specs.Bounds.{IsFactor, IsGiven, AreElements};
 ghost use Rattle.sfm_spec.specs.Sets.{sum_over, magnitudes};
-ghost use Rattle.sfm_spec.specs.Terms.{SetFunction, times, IsBase, IsFamily, IsSubmodular, IsGreedy, exchanged};
+ghost use Rattle.sfm_spec.specs.Terms.{times, IsGreedy};
 ghost use Rattle.sfm_spec.specs.Kinds.{weight_value};
-ghost use Rattle.sfm_law.specs.Room.{IsRoom, IsReach, IsWithinRoom};
 ghost use Rattle.sfm_simple.specs.WeightLaws.{scaled, weight-family, weight-submodular, weight-bounded, weight-starts, weight-starts_small};
 
 use sfm_base::{Memory, Numbers, Places, Set};
-use sfm_law::{Room, Term, magnitude, product};
+use sfm_law::{Plain, Room, magnitude, product};
 use std::alloc::Global;
 
 /// A number for each element: a modular function (Schrijver, Combinatorial Optimization, section 44).
@@ -68,14 +67,6 @@ impl Weight {
         })
     }
 
-    /// The value of a part: every part is allowed.
-    pub fn value_of(&self, s: &Set) -> Option<i128>
-        requires { length s.now ≡ length self.now.places }
-        ensures { result ≡ weight_value self.now.weights s.now }
-    {
-        Some(self.sum_of(s))
-    }
-
     /// The sum of a part's numbers.
     fn sum_of(&self, s: &Set) -> i128
         requires { length s.now ≡ length self.now.places }
@@ -86,16 +77,6 @@ impl Weight {
             sum += share(s.contains(j), *w);
         }
         sum
-    }
-
-    /// Writes the one base of q times the term.
-    pub fn start_of(&self, q: i128, x: &mut [i128])
-        requires factor { IsFactor q }
-        requires entries { length x.old ≡ length self.now.places }
-        ensures start { x.new ≡ scaled q self.now.weights }
-        ensures greedy { IsGreedy q (weight_value self.now.weights) (length self.now.places) x.new }
-    {
-        self.write_scaled(q, x);
     }
 
     /// Writes q times the numbers.
@@ -122,49 +103,9 @@ impl Weight {
         }
         true
     }
-
-    /// Whether x is a base of q times the term.
-    pub fn is_base_of(&self, q: i128, x: &[i128]) -> bool
-        requires factor { IsFactor q }
-        requires entries { length x.now ≡ length self.now.places }
-        requires small { All IsEntry x.now }
-        ensures { IsTrue result ↔ IsBase (times q (weight_value self.now.weights)) x.now }
-    {
-        self.is_scaled(q, x)
-    }
-
-    /// The room of (u, v) at a base: none.
-    pub fn room_of(&self, _q: i128, _x: &[i128], _u: usize, _v: usize) -> Room
-        requires factor { IsFactor _q }
-        requires entries { length _x.now ≡ length self.now.places }
-        requires small { All IsEntry _x.now }
-        requires base { IsBase (times _q (weight_value self.now.weights)) _x.now }
-        requires apart { _u ≢ _v }
-        requires from { _u < length _x.now }
-        requires onto { _v < length _x.now }
-        ensures { IsRoom (times _q (weight_value self.now.weights)) _x.now _u _v result }
-    {
-        Room::Upto(0)
-    }
-
-    /// Writes the places other than u to which u has room at a base: none.
-    pub fn reach_of(&self, _q: i128, _x: &[i128], _u: usize, to: &mut Set)
-        requires factor { IsFactor _q }
-        requires entries { length _x.now ≡ length self.now.places }
-        requires small { All IsEntry _x.now }
-        requires base { IsBase (times _q (weight_value self.now.weights)) _x.now }
-        requires from { _u < length _x.now }
-        requires room_for_answer { length to.old ≡ length _x.now }
-        ensures places { length to.new ≡ length to.old }
-        ensures reached { IsReach (times _q (weight_value self.now.weights)) _x.now _u to.new }
-    {
-        to.clear();
-    }
 }
 
-impl Term for Weight {
-    type Note = ();
-
+impl Plain for Weight {
     ghost places = { λ s. s.places };
 
     ghost value_of = { λ s. weight_value s.weights };
@@ -172,12 +113,6 @@ impl Term for Weight {
     ghost size_of = { λ s. magnitudes s.weights };
 
     ghost start_of = { λ s q. scaled q s.weights };
-
-    ghost lean_value = { λ s. Unit {0} };
-
-    ghost lean_calls = { λ s. Unit {0} };
-
-    ghost fits = { λ s note q x. Unit {0} };
 
     ghost family = { λ s. weight-family s.weights };
 
@@ -189,77 +124,41 @@ impl Term for Weight {
 
     ghost starts_small = { λ s q low. weight-starts_small s.weights q low };
 
-    fn elements(&self) -> &[usize] {
+    fn elements_of(&self) -> &[usize] {
         self.places.as_slice()
     }
 
-    fn size(&self) -> i128 {
+    fn size_of(&self) -> i128 {
         self.total
     }
 
-    fn value(&self, _alloc: Global, s: &Set) -> Result<Option<i128>, Memory> {
-        Ok(self.value_of(s))
+    /// The value of a part: every part is allowed.
+    fn value_of(&self, s: &Set) -> Option<i128> {
+        Some(self.sum_of(s))
     }
 
-    fn start(&self, _alloc: Global, q: i128, x: &mut [i128]) -> Result<(), Memory> {
-        self.start_of(q, x);
-        Ok(())
+    /// Writes the one base of q times the term.
+    fn start_of(&self, q: i128, x: &mut [i128])
+        requires factor { IsFactor q }
+        requires entries { length x.old ≡ length self.now.places }
+        ensures start { x.new ≡ scaled q self.now.weights }
+        ensures greedy { IsGreedy q (weight_value self.now.weights) (length self.now.places) x.new }
+    {
+        self.write_scaled(q, x);
     }
 
-    fn is_base(&self, _alloc: Global, q: i128, x: &[i128]) -> Result<bool, Memory> {
-        Ok(self.is_base_of(q, x))
+    /// Whether x is a base of q times the term.
+    fn is_base_of(&self, q: i128, x: &[i128]) -> bool {
+        self.is_scaled(q, x)
     }
 
-    fn room(
-        &self,
-        _alloc: Global,
-        q: i128,
-        x: &[i128],
-        u: usize,
-        v: usize,
-    ) -> Result<Room, Memory> {
-        Ok(self.room_of(q, x, u, v))
+    /// The room of (u, v) at a base: none.
+    fn room_of(&self, _q: i128, _x: &[i128], _u: usize, _v: usize) -> Room {
+        Room::Upto(0)
     }
 
-    fn reach(
-        &self,
-        _alloc: Global,
-        q: i128,
-        x: &[i128],
-        u: usize,
-        to: &mut Set,
-    ) -> Result<(), Memory> {
-        self.reach_of(q, x, u, to);
-        Ok(())
-    }
-
-    fn note(&self, _alloc: Global, _q: i128, _x: &[i128]) -> Result<(), Memory> {
-        Ok(())
-    }
-
-    fn reach_by(
-        &self,
-        _alloc: Global,
-        q: i128,
-        x: &[i128],
-        _note: &mut (),
-        u: usize,
-        to: &mut Set,
-    ) -> Result<(), Memory> {
-        self.reach_of(q, x, u, to);
-        Ok(())
-    }
-
-    fn moved(
-        &self,
-        _alloc: Global,
-        _q: i128,
-        _x: &[i128],
-        _note: &mut (),
-        _u: usize,
-        _v: usize,
-        _a: i128,
-    ) -> Result<(), Memory> {
-        Ok(())
+    /// Writes the places other than u to which u has room at a base: none.
+    fn reach_of(&self, _q: i128, _x: &[i128], _u: usize, to: &mut Set) {
+        to.clear();
     }
 }

@@ -1,6 +1,0 @@
-use Rattle.std.proofs.Common.{◌∙◌}
-use Rattle.sfm_simple.proofs.Pairs.{both_written}
-use Rattle.sfm_simple.proofs.need.Need.start_of.Goals as goal
-
-pub returns : goal.returns
-returns c = both_written c.args.x.now _ _ (c.requires.entries ∙ c.args.self.now.two)

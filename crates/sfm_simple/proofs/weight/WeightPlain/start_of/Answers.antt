@@ -1,0 +1,12 @@
+use Rattle.std.proofs.Common.{FitsSigned}
+use Rattle.std.proofs.lemmas.Int.{to_z-of_z}
+use mir.Syntax.{w128}
+use Rattle.sfm_simple.specs.WeightLaws.{weight-greedy}
+use Rattle.sfm_simple.proofs.weight.WeightPlain.start_of.Goals as goal
+
+pub returns-clause-greedy : goal.returns-clause-greedy
+returns-clause-greedy c =
+    let s = c.args.self.now in
+    let fq : FitsSigned w128 c.args.q = c.ranges.q in
+    let e = simp to_z-of_z at c.write_scaled.ensures in
+    rw e (weight-greedy _ s.weights c.args.q s.same_count)
