@@ -4,7 +4,7 @@
 // are tried from u's own entry on, one size after another: the first that leaves nothing tells the row.
 ghost use Rattle.std.specs.Prelude.{◌≡◌, ◌≢◌, ◌↔◌, ℕ, ◌+◌, ◌-◌, ◌<◌, ◌≤◌, ◌^◌, Bool, true, false, List, length, slice_index_or, ℤ, pos, neg_ℤ, ◌*ℤ◌, ◌+ℤ◌, ◌-ℤ◌, ◌≤ℤ◌, ◌<ℤ◌, IfOk, IfSome, MatchOption, OnOk, IsTrue, Option, Some, Ok, Err};
 ghost use Rattle.std.specs.List.{All};
-ghost use Rattle.sfm_spec.specs.Bounds.{IsEntry, IsFactor, IsGiven, AreElements};
+ghost use Rattle.sfm_spec.specs.Bounds.{IsAtMost, IsEntry, IsFactor, IsGiven, AreElements};
 ghost use Rattle.sfm_spec.specs.Sets.{Has};
 ghost use Rattle.sfm_spec.specs.Terms.{SetFunction, times, IsBase, IsFamily, IsSubmodular, IsGreedy, exchanged};
 ghost use Rattle.sfm_spec.specs.Kinds.{concave_value};
@@ -133,6 +133,16 @@ impl Concave {
         self.values.as_slice()[count - 1]
     }
 
+    /// The number of a count of places, q times.
+    fn scaled(&self, q: i128, count: usize) -> i128
+        requires factor { IsFactor q }
+        requires count { count ≤ length self.now.values }
+        ensures value { result ≡ scaled q self.now.values count }
+        ensures small { IsAtMost (10 ^ 27) result }
+    {
+        product(q, self.number(count))
+    }
+
     /// The value of a part: every part is allowed.
     pub fn value_of(&self, s: &Set) -> Option<i128>
         requires { length s.now ≡ length self.now.places }
@@ -147,7 +157,7 @@ impl Concave {
         requires place { j < length self.now.values }
         ensures { result ≡ gain_of q self.now.values j }
     {
-        product(q, self.number(j + 1)) - product(q, self.number(j))
+        self.scaled(q, j + 1) - self.scaled(q, j)
     }
 
     /// Writes what each place adds to those before it: the greedy base.
@@ -179,7 +189,7 @@ impl Concave {
         requires share { IsSomeShare share.count share.sum _x.now }
         ensures { (s : List Bool) → IsShareOf share.count share.sum _x.now s → result ≡ slack (scaled q self.now.values) _x.now s }
     {
-        product(q, self.number(share.count)) - share.sum
+        self.scaled(q, share.count) - share.sum
     }
 
     /// Whether the places above each entry leave something.
@@ -229,7 +239,7 @@ impl Concave {
         requires small { All IsEntry x.now }
         ensures { IsTrue result ↔ IsBase (times q (concave_value self.now.values)) x.now }
     {
-        has_sum(x, product(q, self.number(x.len()))) && self.is_within(q, x)
+        has_sum(x, self.scaled(q, x.len())) && self.is_within(q, x)
     }
 
     /// The least slack of a part with u and not v.
@@ -328,7 +338,7 @@ impl Concave {
     {
         let len = ranking.sorted.len();
         let rest = ranking.sums[len] - ranking.sums[i];
-        product(q, self.number(len - i)) - rest
+        self.scaled(q, len - i) - rest
     }
 
     /// Whether all places but the i least leave nothing.

@@ -1,16 +1,15 @@
 // A number w times the count of a part, up to a cap: the weighted rank of a uniform matroid, which is a concave function of
 // the count. The bases of q times it are the vectors with entries from 0 to q·w that have q times the whole value in all:
 // so the room of (u, v) is what v has, or what u lacks of q·w where that is less.
-ghost use Rattle.std.specs.Prelude.{◌≡◌, ◌≢◌, ◌↔◌, ℕ, ◌<◌, ◌≤◌, ◌^◌, Bool, true, false, List, length, slice_index_or, ℤ, pos, neg_ℤ, ◌*ℤ◌, ◌+ℤ◌, ◌≤ℤ◌, IfOk, OnOk, IsTrue, Option, Some};
+ghost use Rattle.std.specs.Prelude.{◌≡◌, ◌≢◌, ◌↔◌, ◌<◌, ◌≤◌, ◌^◌, length, ℤ, pos, ◌*ℤ◌, ◌≤ℤ◌, IfOk, IsTrue, Option, Some};
 ghost use Rattle.std.specs.List.{All};
 ghost use Rattle.sfm_spec.specs.Bounds.{IsAtMost, IsEntry, IsFactor, IsGiven, AreElements};
-ghost use Rattle.sfm_spec.specs.Terms.{SetFunction, times, IsBase, IsFamily, IsSubmodular, IsGreedy, exchanged};
+ghost use Rattle.sfm_spec.specs.Terms.{times, IsGreedy};
 ghost use Rattle.sfm_spec.specs.Kinds.{uniform_value};
-ghost use Rattle.sfm_law.specs.Room.{IsRoom, IsReach, IsWithinRoom};
 ghost use Rattle.sfm_concave.specs.UniformLaws.{rank_of, IsUniformRoom, uniform_size, uniform_gain, uniform_start, uniform-family, uniform-submodular, uniform-bounded, uniform-starts, uniform-starts_small};
 
 use sfm_base::{Memory, Places, Set};
-use sfm_law::{Room, Term, has_sum, product};
+use sfm_law::{Plain, Room, are_within, has_sum, least_left, product};
 use std::alloc::Global;
 
 /// A number for each element of a part, but for at most `cap` of them: the weighted rank of a uniform matroid (Schrijver,
@@ -26,13 +25,6 @@ pub struct Uniform {
     pub ghost given: { IsGiven w },
     pub ghost cap_low: { pos 0 ≤ℤ cap },
     pub ghost cap_given: { IsGiven cap },
-}
-
-/// Whether each entry is from 0 to a number.
-fn are_within(x: &[i128], most: i128) -> bool
-    ensures { IsTrue result ↔ All (λ a. (pos 0 ≤ℤ a) × (a ≤ℤ most)) x.now }
-{
-    x.iter().all(|a| 0 <= *a && *a <= most)
 }
 
 /// Whether v is not u and has something, where u lacks something.
@@ -67,12 +59,13 @@ impl Uniform {
         self.w * (count as i128).min(self.cap)
     }
 
-    /// The value of a part: every part is allowed.
-    pub fn value_of(&self, s: &Set) -> Option<i128>
-        requires { length s.now ≡ length self.now.places }
-        ensures { result ≡ uniform_value self.now.w self.now.cap s.now }
+    /// The most that a place may have: q·w.
+    fn most(&self, q: i128) -> i128
+        requires factor { IsFactor q }
+        ensures value { result ≡ q *ℤ self.now.w }
+        ensures small { IsAtMost (10 ^ 27) result }
     {
-        Some(self.ranked(s.size()))
+        product(q, self.w)
     }
 
     /// What the place j adds to those before it, q times.
@@ -83,17 +76,7 @@ impl Uniform {
         if j as i128 >= self.cap {
             return 0;
         }
-        product(q, self.w)
-    }
-
-    /// Writes the base with q·w at each of the first places, up to `cap` of them.
-    pub fn start_of(&self, q: i128, x: &mut [i128])
-        requires factor { IsFactor q }
-        requires entries { length x.old ≡ length self.now.places }
-        ensures start { x.new ≡ uniform_start q self.now.w self.now.cap (length self.now.places) }
-        ensures greedy { IsGreedy q (uniform_value self.now.w self.now.cap) (length self.now.places) x.new }
-    {
-        self.write_gains(q, x);
+        self.most(q)
     }
 
     /// Writes what each place adds to those before it.
@@ -106,64 +89,9 @@ impl Uniform {
             *a = self.gain(q, j);
         }
     }
-
-    /// Whether x is a base of q times the term.
-    pub fn is_base_of(&self, q: i128, x: &[i128]) -> bool
-        requires factor { IsFactor q }
-        requires entries { length x.now ≡ length self.now.places }
-        requires small { All IsEntry x.now }
-        ensures { IsTrue result ↔ IsBase (times q (uniform_value self.now.w self.now.cap)) x.now }
-    {
-        are_within(x, product(q, self.w)) && has_sum(x, product(q, self.ranked(x.len())))
-    }
-
-    /// What v has, or what u lacks of q·w where that is less.
-    fn least_left(&self, q: i128, x: &[i128], u: usize, v: usize) -> i128
-        requires factor { IsFactor q }
-        requires small { All IsEntry x.now }
-        requires from { u < length x.now }
-        requires onto { v < length x.now }
-        ensures { IsUniformRoom q self.now.w x.now u v result }
-    {
-        x[v].min(product(q, self.w) - x[u])
-    }
-
-    /// The room of (u, v) at a base: what v has, or what u lacks of q·w where that is less.
-    pub fn room_of(&self, q: i128, x: &[i128], u: usize, v: usize) -> Room
-        requires factor { IsFactor q }
-        requires entries { length x.now ≡ length self.now.places }
-        requires small { All IsEntry x.now }
-        requires base { IsBase (times q (uniform_value self.now.w self.now.cap)) x.now }
-        requires apart { u ≢ v }
-        requires from { u < length x.now }
-        requires onto { v < length x.now }
-        ensures { IsRoom (times q (uniform_value self.now.w self.now.cap)) x.now u v result }
-    {
-        Room::Upto(self.least_left(q, x, u, v))
-    }
-
-    /// Writes the places other than u to which u has room at a base: those that have something, where u lacks something of
-    /// q·w.
-    pub fn reach_of(&self, q: i128, x: &[i128], u: usize, to: &mut Set)
-        requires factor { IsFactor q }
-        requires entries { length x.now ≡ length self.now.places }
-        requires small { All IsEntry x.now }
-        requires base { IsBase (times q (uniform_value self.now.w self.now.cap)) x.now }
-        requires from { u < length x.now }
-        requires room_for_answer { length to.old ≡ length x.now }
-        ensures places { length to.new ≡ length to.old }
-        ensures reached { IsReach (times q (uniform_value self.now.w self.now.cap)) x.now u to.new }
-    {
-        let lacks = x[u] < product(q, self.w);
-        for (v, a) in x.iter().enumerate() {
-            to.put(v, is_other_some(v, u, lacks, *a));
-        }
-    }
 }
 
-impl Term for Uniform {
-    type Note = ();
-
+impl Plain for Uniform {
     ghost places = { λ s. s.places };
 
     ghost value_of = { λ s. uniform_value s.w s.cap };
@@ -171,12 +99,6 @@ impl Term for Uniform {
     ghost size_of = { λ s. uniform_size s.w s.cap (length s.places) };
 
     ghost start_of = { λ s q. uniform_start q s.w s.cap (length s.places) };
-
-    ghost lean_value = { λ s. Unit {0} };
-
-    ghost lean_calls = { λ s. Unit {0} };
-
-    ghost fits = { λ s note q x. Unit {0} };
 
     ghost family = { λ s. uniform-family s.w s.cap };
 
@@ -188,77 +110,45 @@ impl Term for Uniform {
 
     ghost starts_small = { λ s q low. uniform-starts_small _ q s.w s.cap low s.low s.cap_low };
 
-    fn elements(&self) -> &[usize] {
+    fn elements_of(&self) -> &[usize] {
         self.places.as_slice()
     }
 
-    fn size(&self) -> i128 {
+    fn size_of(&self) -> i128 {
         self.ranked(self.places.as_slice().len())
     }
 
-    fn value(&self, _alloc: Global, s: &Set) -> Result<Option<i128>, Memory> {
-        Ok(self.value_of(s))
+    /// The value of a part: every part is allowed.
+    fn value_of(&self, s: &Set) -> Option<i128> {
+        Some(self.ranked(s.size()))
     }
 
-    fn start(&self, _alloc: Global, q: i128, x: &mut [i128]) -> Result<(), Memory> {
-        self.start_of(q, x);
-        Ok(())
+    /// Writes the base with q·w at each of the first places, up to `cap` of them.
+    fn start_of(&self, q: i128, x: &mut [i128])
+        requires factor { IsFactor q }
+        requires entries { length x.old ≡ length self.now.places }
+        ensures start { x.new ≡ uniform_start q self.now.w self.now.cap (length self.now.places) }
+        ensures greedy { IsGreedy q (uniform_value self.now.w self.now.cap) (length self.now.places) x.new }
+    {
+        self.write_gains(q, x);
     }
 
-    fn is_base(&self, _alloc: Global, q: i128, x: &[i128]) -> Result<bool, Memory> {
-        Ok(self.is_base_of(q, x))
+    /// Whether x is a base of q times the term.
+    fn is_base_of(&self, q: i128, x: &[i128]) -> bool {
+        are_within(x, self.most(q)) && has_sum(x, product(q, self.ranked(x.len())))
     }
 
-    fn room(
-        &self,
-        _alloc: Global,
-        q: i128,
-        x: &[i128],
-        u: usize,
-        v: usize,
-    ) -> Result<Room, Memory> {
-        Ok(self.room_of(q, x, u, v))
+    /// The room of (u, v) at a base: what v has, or what u lacks of q·w where that is less.
+    fn room_of(&self, q: i128, x: &[i128], u: usize, v: usize) -> Room {
+        Room::Upto(least_left(x, u, v, self.most(q)))
     }
 
-    fn reach(
-        &self,
-        _alloc: Global,
-        q: i128,
-        x: &[i128],
-        u: usize,
-        to: &mut Set,
-    ) -> Result<(), Memory> {
-        self.reach_of(q, x, u, to);
-        Ok(())
-    }
-
-    fn note(&self, _alloc: Global, _q: i128, _x: &[i128]) -> Result<(), Memory> {
-        Ok(())
-    }
-
-    fn reach_by(
-        &self,
-        _alloc: Global,
-        q: i128,
-        x: &[i128],
-        _note: &mut (),
-        u: usize,
-        to: &mut Set,
-    ) -> Result<(), Memory> {
-        self.reach_of(q, x, u, to);
-        Ok(())
-    }
-
-    fn moved(
-        &self,
-        _alloc: Global,
-        _q: i128,
-        _x: &[i128],
-        _note: &mut (),
-        _u: usize,
-        _v: usize,
-        _a: i128,
-    ) -> Result<(), Memory> {
-        Ok(())
+    /// Writes the places other than u to which u has room at a base: those that have something, where u lacks something of
+    /// q·w.
+    fn reach_of(&self, q: i128, x: &[i128], u: usize, to: &mut Set) {
+        let lacks = x[u] < self.most(q);
+        for (v, a) in x.iter().enumerate() {
+            to.put(v, is_other_some(v, u, lacks, *a));
+        }
     }
 }

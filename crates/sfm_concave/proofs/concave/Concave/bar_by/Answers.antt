@@ -1,4 +1,4 @@
-use Rattle.std.proofs.Common.{◌≡◌, ◌≤◌, ◌-◌, ◌∙◌, length, get_or, pos, sym, refl, arith, FitsSigned}
+use Rattle.std.proofs.Common.{◌≡◌, ◌≤◌, ◌-◌, length, get_or, pos, refl, arith, FitsSigned}
 use Rattle.std.specs.List.{All}
 use Rattle.std.proofs.lemmas.Bool.{both_ways}
 use Rattle.std.proofs.lemmas.Int.{to_z-of_z}
@@ -9,8 +9,10 @@ use Rattle.sfm_law.proofs.Writes.{entry_fits}
 use Rattle.sfm_concave.specs.ConcaveLaws.{scaled}
 use Rattle.sfm_concave.specs.Thresholds.{slack_from}
 use Rattle.sfm_concave.proofs.Ranks.{ranked_small}
-use Rattle.sfm_concave.proofs.ConcaveBars.{concave_own_some, concave_own_bar, concave_none_bar, concave_tight_bar}
+use Rattle.sfm_concave.proofs.ConcaveRooms.{concave_at}
+use Rattle.sfm_concave.proofs.ConcaveBars.{IsOwnCut, concave_own_some, concave_own_bar, concave_none_bar, concave_tight_bar}
 use Rattle.sfm_concave.proofs.concave.Concave.bar_by.Goals as goal
+use Rattle.sfm_concave.proofs.concave.Concave.bar_by.Goals.{After-count_upto-own, After-is_tight}
 
 pub count_upto-own-requires-clause-small : goal.count_upto-own-requires-clause-small
 count_upto-own-requires-clause-small c =
@@ -19,21 +21,25 @@ count_upto-own-requires-clause-small c =
     let few : length x ≤ 256 = omega (arith, c.args.self.now.few, r.entries) in
     ranked_small x c.args.ranking.sorted.now c.args.ranking.sums.now r.ranked few r.small
 
-pub overflow_sub-own : goal.overflow_sub-own
-overflow_sub-own c =
+-- the entry of u is a number of 128 bits
+entry : (c : After-count_upto-own) → FitsSigned w128 (get_or c.args.x.now c.args.u (pos 0))
+entry c = entry_fits _ (All-get_or IsEntry c.args.x.now c.args.u (pos 0) c.requires.from c.requires.small)
+
+-- what the search found
+own : (c : After-count_upto-own) → IsOwnCut c.args.q c.args.self.now.values c.args.x.now c.args.ranking.sorted.now c.args.ranking.sums.now c.args.u c.count_upto-own.result
+own c =
     let r = c.requires in
     let s = c.args.self.now in
-    let q = c.args.q in
-    let x = c.args.x.now in
-    let y = c.args.ranking.sorted.now in
-    let sums = c.args.ranking.sums.now in
-    let u = c.args.u in
-    let n = c.count_upto-own.result in
-    let fq : FitsSigned w128 q = c.ranges.q in
-    let fu : FitsSigned w128 (get_or x u (pos 0)) = entry_fits _ (All-get_or IsEntry x u (pos 0) r.from r.small) in
-    let cut = simp to_z-of_z at c.count_upto-own.ensures in
-    let sized : length s.values ≡ length x = s.counted ∙ sym r.entries in
-    concave_own_some q s.values x y sums r.factor.low sized s.falling r.base r.ranked u r.from n cut
+    let fu = entry c in
+    record {
+      here = concave_at _ r.factor.low s.counted r.entries s.falling r.base;
+      ranked = r.ranked;
+      ku = r.from;
+      cut = simp to_z-of_z at c.count_upto-own.ensures;
+    }
+
+pub overflow_sub-own : goal.overflow_sub-own
+overflow_sub-own c = concave_own_some (own (goal.at.overflow_sub-own c).After-count_upto-own)
 
 pub is_tight-requires-clause-place : goal.is_tight-requires-clause-place
 is_tight-requires-clause-place c = let in_range = c.count_upto-own.ensures.in_range in omega (arith, in_range)
@@ -43,61 +49,31 @@ last_tight-requires-clause-place c = let in_range = c.count_upto-own.ensures.in_
 
 pub returns-then-is_tight : goal.returns-then-is_tight
 returns-then-is_tight c =
-    let r = c.requires in
-    let s = c.args.self.now in
-    let q = c.args.q in
-    let x = c.args.x.now in
-    let y = c.args.ranking.sorted.now in
-    let sums = c.args.ranking.sums.now in
-    let u = c.args.u in
-    let n = c.count_upto-own.result in
-    let fq : FitsSigned w128 q = c.ranges.q in
-    let fu : FitsSigned w128 (get_or x u (pos 0)) = entry_fits _ (All-get_or IsEntry x u (pos 0) r.from r.small) in
-    let cut = simp to_z-of_z at c.count_upto-own.ensures in
-    let sized : length s.values ≡ length x = s.counted ∙ sym r.entries in
+    let after = (goal.at.returns-then-is_tight c).After-count_upto-own in
+    let fq : FitsSigned w128 c.args.q = c.ranges.q in
+    let fu = entry after in
     let tight = simp to_z-of_z at (c.if-is_tight.ensures.0 refl) in
-    simp to_z-of_z (concave_own_bar q s.values x y sums r.factor.low sized s.falling r.base r.ranked u r.from n cut tight)
+    simp to_z-of_z (concave_own_bar (own after) tight)
 
 pub returns-in_err-i : goal.returns-in_err-i
 returns-in_err-i c =
-    let r = c.requires in
-    let s = c.args.self.now in
-    let q = c.args.q in
-    let x = c.args.x.now in
-    let y = c.args.ranking.sorted.now in
-    let sums = c.args.ranking.sums.now in
-    let u = c.args.u in
-    let n = c.count_upto-own.result in
-    let fq : FitsSigned w128 q = c.ranges.q in
-    let fu : FitsSigned w128 (get_or x u (pos 0)) = entry_fits _ (All-get_or IsEntry x u (pos 0) r.from r.small) in
-    let cut = simp to_z-of_z at c.count_upto-own.ensures in
-    let sized : length s.values ≡ length x = s.counted ∙ sym r.entries in
+    let fq : FitsSigned w128 c.args.q = c.ranges.q in
     let tight = simp to_z-of_z at c.is_tight.ensures in
-    let loose = λ (t : slack_from (scaled q s.values) y (n - 1) ≡ pos 0). both_ways c.is_tight.result c.if-is_tight.false (tight.1 t) in
     let none = simp to_z-of_z at c.in_err-i.ensures in
-    rw c.from_residual.ensures (concave_none_bar q s.values x y sums r.factor.low sized s.falling r.base r.ranked u r.from n cut loose none)
+    rw c.from_residual.ensures (concave_none_bar (own (goal.at.returns-in_err-i c).After-count_upto-own) (λ t. both_ways c.is_tight.result c.if-is_tight.false (tight.1 t)) none)
 
 pub returns : goal.returns
 returns c =
     let r = c.requires in
-    let s = c.args.self.now in
-    let q = c.args.q in
-    let x = c.args.x.now in
     let y = c.args.ranking.sorted.now in
-    let sums = c.args.ranking.sums.now in
-    let u = c.args.u in
-    let n = c.count_upto-own.result in
-    let fq : FitsSigned w128 q = c.ranges.q in
-    let fu : FitsSigned w128 (get_or x u (pos 0)) = entry_fits _ (All-get_or IsEntry x u (pos 0) r.from r.small) in
-    let cut = simp to_z-of_z at c.count_upto-own.ensures in
-    let sized : length s.values ≡ length x = s.counted ∙ sym r.entries in
-    let few : length x ≤ 256 = omega (arith, s.few, r.entries) in
-    let small : All IsEntry y = ranked_small x y sums r.ranked few r.small in
+    let cut = own (goal.at.returns c).After-count_upto-own in
+    let fq : FitsSigned w128 c.args.q = c.ranges.q in
+    let few : length c.args.x.now ≤ 256 = omega (arith, c.args.self.now.few, r.entries) in
+    let small : All IsEntry y = ranked_small c.args.x.now y c.args.ranking.sums.now r.ranked few r.small in
     let tight = simp to_z-of_z at c.is_tight.ensures in
-    let loose = λ (t : slack_from (scaled q s.values) y (n - 1) ≡ pos 0). both_ways c.is_tight.result c.if-is_tight.false (tight.1 t) in
     let i = c.in_ok-i.i in
     let is = simp to_z-of_z at c.in_ok-i.ensures in
-    let in_range = cut.in_range in
+    let in_range = cut.cut.in_range in
     let before = is.below in
     let fd : FitsSigned w128 (get_or y (i - 1) (pos 0)) = entry_fits _ (All-get_or IsEntry y (i - 1) (pos 0) (omega (arith, in_range, before)) small) in
-    simp to_z-of_z (concave_tight_bar q s.values x y sums r.factor.low sized s.falling r.base r.ranked u r.from n cut loose i is)
+    simp to_z-of_z (concave_tight_bar cut (λ t. both_ways c.is_tight.result c.if-is_tight.false (tight.1 t)) i is)

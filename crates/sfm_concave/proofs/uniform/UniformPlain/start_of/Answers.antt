@@ -2,7 +2,7 @@ use Rattle.std.proofs.Common.{FitsSigned}
 use Rattle.std.proofs.lemmas.Int.{to_z-of_z}
 use mir.Syntax.{w128}
 use Rattle.sfm_concave.specs.UniformLaws.{uniform-greedy}
-use Rattle.sfm_concave.proofs.uniform.Uniform.start_of.Goals as goal
+use Rattle.sfm_concave.proofs.uniform.UniformPlain.start_of.Goals as goal
 
 pub returns-clause-greedy : goal.returns-clause-greedy
 returns-clause-greedy c =

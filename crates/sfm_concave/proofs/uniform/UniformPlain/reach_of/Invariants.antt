@@ -1,6 +1,6 @@
 use Rattle.std.proofs.Common.{◌≡◌, ◌≢◌, ◌↔◌, ℕ, ◌<◌, IsTrue, length, get_or, pos, ◌≤ℤ◌}
 use Rattle.sfm_spec.specs.Sets.{Has}
-use Rattle.sfm_concave.proofs.uniform.Uniform.reach_of.Given as goal
+use Rattle.sfm_concave.proofs.uniform.UniformPlain.reach_of.Given as goal
 
 abbrev pub invariant-loop-v : goal.invariant-loop-v
 invariant-loop-v l = record {

@@ -5,10 +5,10 @@ use Rattle.std.proofs.lemmas.List.Elements.{All-get_or}
 use mir.Syntax.{w128}
 use Rattle.sfm_spec.specs.Bounds.{IsEntry}
 use Rattle.sfm_law.proofs.Writes.{entry_fits}
-use Rattle.sfm_law.proofs.Fits.{given_fits, given_more, product_fits}
+use Rattle.sfm_law.proofs.Fits.{at_most_more, share_fits}
 use Rattle.sfm_law.proofs.Puts.{put_more, less_test}
 use Rattle.sfm_concave.proofs.UniformRooms.{uniform-reach}
-use Rattle.sfm_concave.proofs.uniform.Uniform.reach_of.Goals as goal
+use Rattle.sfm_concave.proofs.uniform.UniformPlain.reach_of.Goals as goal
 
 pub loop-v-preserved : goal.loop-v-preserved
 loop-v-preserved c =
@@ -17,7 +17,7 @@ loop-v-preserved c =
     let fa : FitsSigned w128 (get_or x i (pos 0)) = entry_fits _ (All-get_or IsEntry x i (pos 0) c.loop-v-test.true c.requires.small) in
     let other = simp to_z-of_z at c.is_other_some.ensures in
     let inv = c.loop-v.invariant in
-    let lacks : Bool = lt_z (to_z w128 (of_z w128 (get_or x c.args.u (pos 0)))) (to_z w128 (of_z w128 c.product.result)) in
+    let lacks : Bool = lt_z (to_z w128 (of_z w128 (get_or x c.args.u (pos 0)))) (to_z w128 (of_z w128 c.most.result)) in
     rw c.put.ensures (put_more (λ k. (k ≢ c.args.u) × IsTrue lacks × (pos 1 ≤ℤ get_or x k (pos 0))) (length x) c.loop-v.to i c.is_other_some.result inv.places inv.exact c.loop-v-test.true other)
 
 pub returns-clause-reached : goal.returns-clause-reached
@@ -28,9 +28,8 @@ returns-clause-reached c =
     let q = c.args.q in
     let fq : FitsSigned w128 q = c.ranges.q in
     let fa : FitsSigned w128 (get_or x c.args.u (pos 0)) = entry_fits _ (All-get_or IsEntry x c.args.u (pos 0) r.from r.small) in
-    let fw : FitsSigned w128 s.w = given_fits _ s.given in
-    let fp : FitsSigned w128 (q *ℤ s.w) = product_fits _ _ r.factor (given_more _ s.given) in
-    let p = simp to_z-of_z at c.product.ensures in
+    let p = simp to_z-of_z at c.most.ensures.value in
+    let fp : FitsSigned w128 (q *ℤ s.w) = rw p at (share_fits _ (at_most_more _ c.most.ensures.small)) in
     let inv = simp to_z-of_z at (rw p at c.loop-v.invariant) in
     let test = less_test (get_or x c.args.u (pos 0)) (q *ℤ s.w) in
     uniform-reach q s.w s.cap r.factor.low s.low x r.base c.args.u r.from c.loop-v.to inv.places

@@ -4,10 +4,10 @@ use Rattle.std.proofs.lemmas.Int.{to_z-of_z}
 use Rattle.std.proofs.lemmas.List.Elements.{All-get_or}
 use Rattle.std.proofs.lemmas.List.{get_or_default}
 use mir.Syntax.{w128}
-use Rattle.sfm_law.proofs.Fits.{given_fits, given_more, product_fits, rank_fits}
+use Rattle.sfm_law.proofs.Fits.{at_most_more, product_fits, rank_fits, share_fits}
 use Rattle.sfm_law.proofs.Totals.{total_of-whole}
 use Rattle.sfm_concave.proofs.UniformRooms.{uniform_base, uniform_base_back}
-use Rattle.sfm_concave.proofs.uniform.Uniform.is_base_of.Goals as goal
+use Rattle.sfm_concave.proofs.uniform.UniformPlain.is_base_of.Goals as goal
 
 pub returns-then-are_within : goal.returns-then-are_within
 returns-then-are_within c =
@@ -16,13 +16,12 @@ returns-then-are_within c =
     let x = c.args.x.now in
     let q = c.args.q in
     let fq : FitsSigned w128 q = c.ranges.q in
-    let fw : FitsSigned w128 s.w = given_fits _ s.given in
-    let fp : FitsSigned w128 (q *ℤ s.w) = product_fits _ _ r.factor (given_more _ s.given) in
+    let fm : FitsSigned w128 c.most.result = share_fits _ (at_most_more _ c.most.ensures.small) in
     let fr : FitsSigned w128 c.ranked.result = rank_fits _ c.ranked.ensures.small in
     let ft : FitsSigned w128 (q *ℤ c.ranked.result) = product_fits _ _ r.factor c.ranked.ensures.small in
-    let p = simp to_z-of_z at c.product.ensures in
-    let t = simp to_z-of_z at c.product-then-are_within.ensures in
-    let within = simp to_z-of_z at (rw p at (c.if-are_within.ensures.0 refl)) in
+    let p = simp to_z-of_z at c.most.ensures.value in
+    let t = simp to_z-of_z at c.product.ensures in
+    let within = rw p at (simp to_z-of_z at (c.if-are_within.ensures.0 refl)) in
     let i = simp to_z-of_z at (rw t at c.has_sum.ensures) in (
       (λ h. uniform_base q s.w s.cap x r.factor.low s.low (record {
         counts = λ e lt. (All-get_or (λ a. (pos 0 ≤ℤ a) × (a ≤ℤ (q *ℤ s.w))) x e (pos 0) lt within).0;
@@ -36,13 +35,10 @@ pub returns-else-are_within : goal.returns-else-are_within
 returns-else-are_within c =
     let r = c.requires in
     let s = c.args.self.now in
-    let x = c.args.x.now in
-    let q = c.args.q in
-    let fq : FitsSigned w128 q = c.ranges.q in
-    let fw : FitsSigned w128 s.w = given_fits _ s.given in
-    let fp : FitsSigned w128 (q *ℤ s.w) = product_fits _ _ r.factor (given_more _ s.given) in
-    let p = simp to_z-of_z at c.product.ensures in
-    let within = simp to_z-of_z at (rw p at c.are_within.ensures) in (
+    let fq : FitsSigned w128 c.args.q = c.ranges.q in
+    let fm : FitsSigned w128 c.most.result = share_fits _ (at_most_more _ c.most.ensures.small) in
+    let p = simp to_z-of_z at c.most.ensures.value in
+    let within = rw p at (simp to_z-of_z at c.are_within.ensures) in (
       (λ t. absurd (both_ways c.are_within.result c.if-are_within.false t)),
-      (λ b. let h = uniform_base_back q s.w s.cap x r.factor.low s.low b in within.1 (λ k d lt. rw (get_or_default x k d (pos 0) lt) (h.counts k lt, h.capped k lt))),
+      (λ b. let h = uniform_base_back c.args.q s.w s.cap c.args.x.now r.factor.low s.low b in within.1 (λ k d lt. rw (get_or_default c.args.x.now k d (pos 0) lt) (h.counts k lt, h.capped k lt))),
     )
