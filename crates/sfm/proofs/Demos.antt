@@ -4,7 +4,7 @@ use Rattle.sfm_io.specs.Shelf.{ShelfState}
 use Rattle.sfm_kind.specs.Instance.{InstanceData}
 use Rattle.sfm_text.specs.GoodText.{IsTextOf}
 use Rattle.sfm_cert.specs.declared.solved.Solved.{Solved}
-use Rattle.sfm_cert.specs.Answer.{answer_text}
+use Rattle.sfm_cert.specs.LineLists.{answer_text}
 use Rattle.sfm_cert.specs.Solved.{answer_of, form_of}
 use Rattle.sfm_words.specs.Command.{Command, solve, check, demo}
 use Rattle.sfm_kind.proofs.Meanings.{kinds-mean}

@@ -13,7 +13,8 @@ use Rattle.sfm_spec.specs.Walks.{IsFewWalks}
 use Rattle.sfm_kind.specs.Kinds.{kind_start}
 use Rattle.sfm_kind.proofs.Meanings.{kinds-mean, kinds-start}
 use Rattle.sfm_text.specs.GoodText.{IsTextOf}
-use Rattle.sfm_cert.specs.Answer.{Answer, answer_text, mark_of}
+use Rattle.sfm_cert.specs.Answer.{Answer, mark_of}
+use Rattle.sfm_cert.specs.LineLists.{answer_text}
 use Rattle.sfm_cert.specs.Form.{IsFormedBreak}
 use Rattle.sfm_cert.specs.Solved.{form_of}
 use Rattle.sfm_check.specs.Truth.{IsProvedSection, IsTrueHead, section_of}

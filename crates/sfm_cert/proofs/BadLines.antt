@@ -11,7 +11,8 @@ use lib.Dec.{eqb}
 use mathlib.Core.Logic.{⊎_elim}
 use Rattle.std.specs.Prelude.{nat_lt}
 use Rattle.sfm_spec.specs.Names.{IsName, IsNameByte}
-use Rattle.sfm_cert.specs.Answer.{Answer, Form, listed, counted, numbered, slope_text, text_of, at_line, answer_lines}
+use Rattle.sfm_cert.specs.Answer.{Answer, Form, listed, slope_text, text_of, at_line, answer_lines}
+use Rattle.sfm_cert.specs.LineLists.{counted, numbered}
 use Rattle.sfm_cert.specs.Form.{IsFormed}
 use Rattle.sfm_cert.specs.Grammar.{IsLine, IsBadLine}
 use Rattle.sfm_cert.specs.Reading.{State, header, minimum, least, greatest, listing, bases, ended, Leads, LeadsOn, Stops}

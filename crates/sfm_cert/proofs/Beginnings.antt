@@ -9,7 +9,8 @@ use Rattle.std.proofs.lemmas.List.{append-nil, length-replicate}
 use Rattle.std.proofs.lemmas.List.Elements.{All-nil, All-cons, All-head, All-tail, All-replicate}
 use Rattle.sfm_spec.specs.Bounds.{IsEntry}
 use Rattle.sfm_spec.specs.Blocks.{Block, block_at}
-use Rattle.sfm_cert.specs.Answer.{Answer, Break, Form, listed, block_line, block_lines, slope_line, slope_lines, at_line, base_line, base_lines, section_lines, break_lines, answer_lines}
+use Rattle.sfm_cert.specs.Answer.{Answer, Break, Form, listed, block_line, slope_line, at_line, base_line, section_lines, answer_lines}
+use Rattle.sfm_cert.specs.LineLists.{block_lines, slope_lines, base_lines, break_lines}
 use Rattle.sfm_cert.specs.Form.{IsFormed, IsFormedBlock, IsFormedBreak, AreFormedRows}
 use Rattle.sfm_cert.specs.Grammar.{BeginsAnswer}
 use Rattle.sfm_cert.specs.Lines.{Ratio, ratio_of, IsSlopeLine}

@@ -6,7 +6,8 @@ use Rattle.sfm_kind.specs.Instance.{InstanceData}
 use Rattle.sfm_kind.specs.Limits.{AreInBounds}
 use Rattle.sfm_kind.specs.Kinds.{kind_places}
 use Rattle.sfm_kind.specs.Names.{AreElementNames}
-use Rattle.sfm_cert.specs.Answer.{Answer, answer_text}
+use Rattle.sfm_cert.specs.Answer.{Answer}
+use Rattle.sfm_cert.specs.LineLists.{answer_text}
 use Rattle.sfm_cert.specs.Few.{HasFewLines}
 use Rattle.sfm_cert.specs.Form.{IsFormed}
 use Rattle.sfm_cert.specs.Solved.{form_of}

@@ -7,7 +7,8 @@ use Rattle.std.proofs.lemmas.List.{append-nil}
 use Rattle.std.proofs.lemmas.List.Elements.{All-head, All-tail}
 use Rattle.sfm_spec.specs.Bounds.{IsEntry}
 use Rattle.sfm_spec.specs.Blocks.{Block, block_at}
-use Rattle.sfm_cert.specs.Answer.{Answer, Break, Form, listed, slope_text, block_lines, slope_line, slope_lines, at_line, base_lines, section_lines, break_lines, answer_lines}
+use Rattle.sfm_cert.specs.Answer.{Answer, Break, Form, listed, slope_text, slope_line, at_line, section_lines, answer_lines}
+use Rattle.sfm_cert.specs.LineLists.{block_lines, slope_lines, base_lines, break_lines}
 use Rattle.sfm_cert.specs.Form.{IsFormed, IsFormedBlock, IsFormedBreak, AreFormedRows}
 use Rattle.sfm_cert.specs.Lines.{IsBlockLine, Ratio, ratio_of, IsSlopeLine}
 use Rattle.sfm_cert.specs.Reading.{State, header, minimum, least, greatest, listing, bases, ended, Leads, LeadsOn}

@@ -10,7 +10,7 @@ use Rattle.std.proofs.lemmas.List.Elements.{All-nil, All-push, All-get_or, All-h
 use Rattle.std.proofs.Math.Nat.{eq-or-lt_of_le}
 use mathlib.Core.Logic.{⊎_elim}
 use Rattle.sfm_spec.specs.Bounds.{IsEntry}
-use Rattle.sfm_cert.specs.Answer.{counted, numbered}
+use Rattle.sfm_cert.specs.LineLists.{counted, numbered}
 use Rattle.sfm_cert.specs.Lists.{IsStop, AreNeeds}
 use Rattle.sfm_cert.proofs.Tokens.{same_entry, count_entry}
 use Rattle.sfm_cert.proofs.AnswerLines.{numbered-push, counted-push}

@@ -7,7 +7,8 @@ use Rattle.std.proofs.lemmas.List.Elements.{All-head, All-tail}
 use Rattle.sfm_spec.specs.Bounds.{IsEntry}
 use Rattle.sfm_spec.specs.Blocks.{Block, block_at}
 use Rattle.sfm_kind.specs.Names.{AreElementNames}
-use Rattle.sfm_cert.specs.Answer.{Answer, Break, Form, block_line, block_lines, slope_line, slope_lines, at_line, base_line, base_lines, break_lines, answer_lines}
+use Rattle.sfm_cert.specs.Answer.{Answer, Break, Form, block_line, slope_line, at_line, base_line, answer_lines}
+use Rattle.sfm_cert.specs.LineLists.{block_lines, slope_lines, base_lines, break_lines}
 use Rattle.sfm_cert.specs.Form.{IsFormedBlock, IsFormedBreak}
 use Rattle.sfm_cert.specs.Grammar.{IsLine, IsAnswerText}
 use Rattle.sfm_cert.specs.Lines.{ratio_of}

@@ -7,7 +7,8 @@ use Rattle.std.proofs.Math.Nat.{eq-or-lt_of_le}
 use mathlib.Core.Logic.{⊎_elim}
 use Rattle.sfm_spec.specs.Bounds.{IsEntry}
 use Rattle.sfm_spec.specs.Blocks.{Block, block_at, no_block}
-use Rattle.sfm_cert.specs.Answer.{Break, Form, block_line, block_lines, slope_lines, base_line, base_lines}
+use Rattle.sfm_cert.specs.Answer.{Break, Form, block_line, base_line}
+use Rattle.sfm_cert.specs.LineLists.{block_lines, slope_lines, base_lines}
 use Rattle.sfm_cert.specs.Form.{IsFormedBlock}
 use Rattle.sfm_cert.specs.Lines.{IsBlockLine, IsSlopeLine, IsBaseLine, Ratio, ratio_of}
 use Rattle.sfm_cert.specs.Parts.{ReadsBlocks, ReadsHeads, ReadsRows}

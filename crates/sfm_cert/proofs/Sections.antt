@@ -3,7 +3,8 @@ use Rattle.std.proofs.Common.{◌≡◌, ℕ, ◌+◌, ◌<◌, ◌≤◌, List,
 use Rattle.std.specs.List.{All}
 use Rattle.std.proofs.lemmas.List.{drop_more, take_more, drop_all, take_all}
 use Rattle.std.proofs.lemmas.List.Elements.{All-nil, All-push}
-use Rattle.sfm_cert.specs.Answer.{Break, Form, slope_line, slope_lines, at_line, base_lines, break_lines}
+use Rattle.sfm_cert.specs.Answer.{Break, Form, slope_line, at_line}
+use Rattle.sfm_cert.specs.LineLists.{slope_lines, base_lines, break_lines}
 use Rattle.sfm_cert.specs.Form.{IsFormedBreak}
 use Rattle.sfm_cert.specs.Lines.{IsSlopeLine, Ratio, ratio_of}
 use Rattle.sfm_cert.specs.Parts.{ReadsRows, ReadsBreaks, AreBreaksOf, AreHeads}

@@ -10,7 +10,8 @@ use Rattle.sfm_spec.specs.Names.{IsName}
 use Rattle.sfm_spec.specs.Bounds.{IsEntry}
 use Rattle.sfm_spec.specs.Blocks.{Block}
 use Rattle.sfm_kind.specs.Names.{AreElementNames, IsNewName}
-use Rattle.sfm_cert.specs.Answer.{listed, counted, numbered, slope_text}
+use Rattle.sfm_cert.specs.Answer.{listed, slope_text}
+use Rattle.sfm_cert.specs.LineLists.{counted, numbered}
 use Rattle.sfm_cert.specs.Lines.{IsBlockLine, IsSlopeLine, IsBaseLine, Ratio}
 use Rattle.sfm_cert.specs.Lists.{IsNamesStop}
 use Rattle.sfm_cert.proofs.Tokens.{same_entry, count_entry, slope_text-same, slope_text-plain, factor_entry}

@@ -1,7 +1,7 @@
 -- Which texts are answers, and the first line at which a text stops being the beginning of one.
 use Rattle.std.specs.Prelude.{◌≡◌, ◌≢◌, ℕ, ◌+◌, List, [], ◌∷◌, ◌++◌, length}
 use Rattle.std.specs.List.{All}
-use Rattle.sfm_cert.specs.Answer.{Answer, Form, answer_lines, answer_text, text_of}
+use Rattle.sfm_cert.specs.Answer.{Answer, Form, answer_lines, text_of}
 use Rattle.sfm_cert.specs.Form.{IsFormed}
 
 -- the longest answer text
@@ -11,7 +11,7 @@ answer_limit = 268435456
 -- the text of an answer of this form
 pub record IsAnswerText (form : Form) (text : List ℕ) (a : Answer) : Type 0 where
   pub formed : IsFormed form a
-  pub written : text ≡ answer_text form a
+  pub written : text ≡ text_of (answer_lines form a)
 
 -- the lines are the first ones of some answer
 pub record BeginsAnswer (form : Form) (lines : List (List ℕ)) : Type 0 where

@@ -4,7 +4,8 @@ use Rattle.std.specs.List.{All}
 use Rattle.std.specs.Fmt.{signed_decimal}
 use Rattle.sfm_spec.specs.Bounds.{IsEntry}
 use Rattle.sfm_spec.specs.Blocks.{Block, block_at}
-use Rattle.sfm_cert.specs.Answer.{Break, Form, listed, block_lines, slope_lines, base_lines, break_lines}
+use Rattle.sfm_cert.specs.Answer.{Break, Form, listed}
+use Rattle.sfm_cert.specs.LineLists.{block_lines, slope_lines, base_lines, break_lines}
 use Rattle.sfm_cert.specs.Form.{IsFormedBlock, IsFormedBreak, AreFormedRows}
 use Rattle.sfm_cert.specs.Lines.{Ratio, ratio_of, IsSlopeLine}
 use Rattle.sfm_cert.specs.Reading.{header, listing, bases, Reads}

@@ -4,7 +4,8 @@ ghost use Rattle.std.specs.Fmt.{decimal, signed_decimal};
 ghost use Rattle.std.specs.List.{All};
 ghost use Rattle.sfm_spec.specs.Bounds.{IsEntry, IsFactor};
 ghost use Rattle.sfm_spec.specs.Slopes.{IsLowest};
-ghost use Rattle.sfm_cert.specs.Answer.{counted, numbered, slope_text};
+ghost use Rattle.sfm_cert.specs.Answer.{slope_text};
+ghost use Rattle.sfm_cert.specs.LineLists.{counted, numbered};
 ghost use Rattle.sfm_cert.specs.Lists.{IsStop, AreNeeds};
 
 use sfm_base::{Memory, Slope, read_number};

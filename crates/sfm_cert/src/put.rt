@@ -5,7 +5,8 @@ ghost use Rattle.std.specs.List.{All};
 ghost use Rattle.sfm_spec.specs.Bounds.{IsEntry};
 ghost use Rattle.sfm_spec.specs.Blocks.{block_at};
 ghost use Rattle.sfm_extreme.specs.Blocks.{block_of};
-ghost use Rattle.sfm_cert.specs.Answer.{listed, counted, numbered, slope_text, at_line, block_line, block_lines, slope_line, slope_lines, base_line, base_lines, section_lines, text_of};
+ghost use Rattle.sfm_cert.specs.Answer.{listed, slope_text, at_line, block_line, slope_line, base_line, section_lines, text_of};
+ghost use Rattle.sfm_cert.specs.LineLists.{counted, numbered, block_lines, slope_lines, base_lines};
 ghost use Rattle.sfm_cert.specs.Form.{AreFormedRows};
 ghost use Rattle.sfm_cert.specs.Solved.{break_of};
 

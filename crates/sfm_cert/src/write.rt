@@ -3,7 +3,8 @@
 ghost use Rattle.std.specs.Prelude.{◌≡◌, ◌-◌, ◌≤◌, ◌++◌, length, map, pos, IfOk};
 ghost use Rattle.std.specs.List.{All};
 ghost use Rattle.sfm_spec.specs.Bounds.{IsEntry};
-ghost use Rattle.sfm_cert.specs.Answer.{answer_text, break_lines, head_lines, text_of};
+ghost use Rattle.sfm_cert.specs.Answer.{head_lines, text_of};
+ghost use Rattle.sfm_cert.specs.LineLists.{answer_text, break_lines};
 ghost use Rattle.sfm_cert.specs.Reading.{first_lines};
 ghost use Rattle.sfm_cert.specs.Few.{HasFewLines};
 ghost use Rattle.sfm_cert.specs.Form.{IsFormed, IsFormedBreak};

@@ -14,7 +14,8 @@ use Rattle.sfm_kind.specs.declared.kind.Kind.{Kind}
 use Rattle.sfm_kind.specs.Limits.{AreInBounds}
 use Rattle.sfm_kind.specs.Kinds.{kind_places, kind_size, kind_value, kind-bounded, kind-submodular}
 use Rattle.sfm_law.proofs.Lists.{below-total}
-use Rattle.sfm_cert.specs.Answer.{Answer, Break, Form, answer_lines, block_lines, break_lines, head_lines, section_lines, slope_lines}
+use Rattle.sfm_cert.specs.Answer.{Answer, Break, Form, answer_lines, head_lines, section_lines}
+use Rattle.sfm_cert.specs.LineLists.{block_lines, break_lines, slope_lines}
 use Rattle.sfm_cert.specs.Form.{AreFormedRows, IsFormed}
 use Rattle.sfm_check.specs.Truth.{Section, no_section, section_at, section_of, sections_of}
 use Rattle.sfm_check.specs.Findings.{IsSection}

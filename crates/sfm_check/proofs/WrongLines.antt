@@ -6,7 +6,8 @@ use Rattle.sfm_base.specs.NumberText.{IsNumber}
 use Rattle.sfm_base.proofs.NumberText.{number_of_text, one_value}
 use Rattle.sfm_spec.specs.Blocks.{Block, block_at}
 use Rattle.sfm_kind.specs.Names.{AreElementNames}
-use Rattle.sfm_cert.specs.Answer.{Answer, Break, Form, answer_lines, at_line, base_lines, block_line, block_lines, break_lines, listed, mark_of, slope_line, slope_lines, slope_text}
+use Rattle.sfm_cert.specs.Answer.{Answer, Break, Form, answer_lines, at_line, block_line, listed, mark_of, slope_line, slope_text}
+use Rattle.sfm_cert.specs.LineLists.{base_lines, block_lines, break_lines, slope_lines}
 use Rattle.sfm_cert.specs.Form.{IsFormedBlock}
 use Rattle.sfm_check.specs.Verdict.{due_lines}
 use Rattle.sfm_check.specs.Findings.{IsFirstUnlike, IsWrongLine}

@@ -1,7 +1,7 @@
 use Rattle.std.proofs.Common.{◌≡◌, ◌∷◌, List, ℕ, Bool, sym, subst, ◌∙◌}
 use Rattle.std.proofs.lemmas.Bool.{false≢true}
 use Rattle.sfm_spec.specs.Sets.{Has}
-use Rattle.sfm_cert.specs.Answer.{counted}
+use Rattle.sfm_cert.specs.LineLists.{counted}
 use Rattle.sfm_cert.proofs.LineForms.{block_parts}
 use Rattle.sfm_cert.proofs.lists.block_of_line.Goals as goal
 

@@ -1,6 +1,6 @@
 use Rattle.std.proofs.Common.{◌∷◌, [], append_assoc}
 use Rattle.std.specs.Prelude.{codes, decimal}
-use Rattle.sfm_cert.specs.Answer.{numbered}
+use Rattle.sfm_cert.specs.LineLists.{numbered}
 use Rattle.sfm_cert.proofs.Pieces.{four}
 use Rattle.sfm_cert.proofs.put.put_base.Goals as goal
 

@@ -1,6 +1,7 @@
 use Rattle.std.proofs.Common.{◌≡◌, ◌++◌, ◌∷◌, ◌+◌, ◌<◌, length, get_or, take, [], ap, ◌∙◌, arith, length-take}
 use Rattle.std.proofs.lemmas.List.{take_more}
-use Rattle.sfm_cert.specs.Answer.{base_line, base_lines, text_of}
+use Rattle.sfm_cert.specs.Answer.{base_line, text_of}
+use Rattle.sfm_cert.specs.LineLists.{base_lines}
 use Rattle.sfm_cert.proofs.AnswerLines.{base_lines-push}
 use Rattle.sfm_cert.proofs.Pieces.{appended_lines}
 use Rattle.sfm_cert.proofs.put.put_bases.Goals as goal

@@ -1,5 +1,6 @@
 use Rattle.std.proofs.Common.{◌≡◌, take}
-use Rattle.sfm_cert.specs.Answer.{base_lines, text_of}
+use Rattle.sfm_cert.specs.Answer.{text_of}
+use Rattle.sfm_cert.specs.LineLists.{base_lines}
 use Rattle.sfm_cert.proofs.put.put_bases.Given as goal
 
 abbrev pub invariant-loop-i : goal.invariant-loop-i

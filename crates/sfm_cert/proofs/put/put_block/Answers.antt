@@ -2,7 +2,8 @@ use Rattle.std.proofs.Common.{◌∷◌, [], append_assoc}
 use Rattle.std.specs.Prelude.{codes}
 use Rattle.std.specs.Fmt.{decimal}
 use Rattle.sfm_extreme.specs.Blocks.{block_of}
-use Rattle.sfm_cert.specs.Answer.{listed, counted}
+use Rattle.sfm_cert.specs.Answer.{listed}
+use Rattle.sfm_cert.specs.LineLists.{counted}
 use Rattle.sfm_cert.proofs.Pieces.{six}
 use Rattle.sfm_cert.proofs.put.put_block.Goals as goal
 

@@ -2,7 +2,8 @@ use Rattle.std.proofs.Common.{◌≡◌, ◌+◌, ◌<◌, ◌∷◌, [], length
 use Rattle.std.proofs.lemmas.List.{length-map}
 use Rattle.sfm_spec.specs.Blocks.{no_block}
 use Rattle.sfm_extreme.specs.Blocks.{block_of}
-use Rattle.sfm_cert.specs.Answer.{block_line, block_lines}
+use Rattle.sfm_cert.specs.Answer.{block_line}
+use Rattle.sfm_cert.specs.LineLists.{block_lines}
 use Rattle.sfm_cert.proofs.AnswerLines.{item_at, block_lines-more}
 use Rattle.sfm_cert.proofs.Pieces.{appended_lines}
 use Rattle.sfm_cert.proofs.put.put_blocks.Goals as goal

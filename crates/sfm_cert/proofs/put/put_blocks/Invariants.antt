@@ -1,6 +1,7 @@
 use Rattle.std.proofs.Common.{◌≡◌, take, map}
 use Rattle.sfm_extreme.specs.Blocks.{block_of}
-use Rattle.sfm_cert.specs.Answer.{block_lines, text_of}
+use Rattle.sfm_cert.specs.Answer.{text_of}
+use Rattle.sfm_cert.specs.LineLists.{block_lines}
 use Rattle.sfm_cert.proofs.put.put_blocks.Given as goal
 
 abbrev pub invariant-loop-i : goal.invariant-loop-i

@@ -1,6 +1,7 @@
 use Rattle.std.proofs.Common.{◌≡◌, ◌+◌, ◌<◌, ◌∷◌, [], length, get_or, take, map, sym, ap, ◌∙◌, arith}
 use Rattle.std.proofs.lemmas.List.{length-map}
-use Rattle.sfm_cert.specs.Answer.{slope_line, slope_lines}
+use Rattle.sfm_cert.specs.Answer.{slope_line}
+use Rattle.sfm_cert.specs.LineLists.{slope_lines}
 use Rattle.sfm_cert.specs.Solved.{break_of}
 use Rattle.sfm_cert.proofs.AnswerLines.{item_at, slope_lines-more}
 use Rattle.sfm_cert.proofs.Pieces.{appended_lines}

@@ -1,5 +1,6 @@
 use Rattle.std.proofs.Common.{◌≡◌, take, map}
-use Rattle.sfm_cert.specs.Answer.{slope_lines, text_of}
+use Rattle.sfm_cert.specs.Answer.{text_of}
+use Rattle.sfm_cert.specs.LineLists.{slope_lines}
 use Rattle.sfm_cert.specs.Solved.{break_of}
 use Rattle.sfm_cert.proofs.put.put_breaks.Given as goal
 

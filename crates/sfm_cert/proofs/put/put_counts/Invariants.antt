@@ -1,5 +1,5 @@
 use Rattle.std.proofs.Common.{◌≡◌, take}
-use Rattle.sfm_cert.specs.Answer.{counted}
+use Rattle.sfm_cert.specs.LineLists.{counted}
 use Rattle.sfm_cert.proofs.put.put_counts.Given as goal
 
 abbrev pub invariant-loop-n : goal.invariant-loop-n

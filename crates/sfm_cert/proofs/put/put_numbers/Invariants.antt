@@ -1,5 +1,5 @@
 use Rattle.std.proofs.Common.{◌≡◌, take}
-use Rattle.sfm_cert.specs.Answer.{numbered}
+use Rattle.sfm_cert.specs.LineLists.{numbered}
 use Rattle.sfm_cert.proofs.put.put_numbers.Given as goal
 
 abbrev pub invariant-loop-a : goal.invariant-loop-a

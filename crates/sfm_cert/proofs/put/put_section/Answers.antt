@@ -1,5 +1,6 @@
 use Rattle.std.proofs.Common.{◌∷◌, [], append_assoc}
-use Rattle.sfm_cert.specs.Answer.{at_line, base_lines, text_of}
+use Rattle.sfm_cert.specs.Answer.{at_line, text_of}
+use Rattle.sfm_cert.specs.LineLists.{base_lines}
 use Rattle.sfm_cert.proofs.Pieces.{three}
 use Rattle.sfm_cert.proofs.put.put_section.Goals as goal
 

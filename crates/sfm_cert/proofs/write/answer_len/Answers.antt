@@ -1,5 +1,5 @@
 use Rattle.std.proofs.Common.{◌≡◌, ℕ, ◌-◌, ◌^◌, ◌≤◌, length, arith}
-use Rattle.sfm_cert.specs.Answer.{answer_text}
+use Rattle.sfm_cert.specs.LineLists.{answer_text}
 use Rattle.sfm_cert.specs.Solved.{answer_of, form_of}
 use Rattle.sfm_cert.proofs.InstanceLengths.{instance_text_short}
 use Rattle.sfm_cert.proofs.write.answer_len.Goals as goal

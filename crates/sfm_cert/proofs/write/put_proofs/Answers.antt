@@ -2,7 +2,8 @@ use Rattle.std.proofs.Common.{◌≡◌, ◌+◌, ◌<◌, length, get_or, take,
 use Rattle.std.specs.List.{All}
 use Rattle.std.proofs.lemmas.List.{length-map}
 use Rattle.sfm_spec.specs.Bounds.{IsEntry}
-use Rattle.sfm_cert.specs.Answer.{Break, break_lines, section_lines}
+use Rattle.sfm_cert.specs.Answer.{Break, section_lines}
+use Rattle.sfm_cert.specs.LineLists.{break_lines}
 use Rattle.sfm_cert.specs.Solved.{break_of}
 use Rattle.sfm_cert.proofs.AnswerLines.{item_at, break_lines-more}
 use Rattle.sfm_cert.proofs.Pieces.{appended_lines}

@@ -1,5 +1,6 @@
 use Rattle.std.proofs.Common.{◌≡◌, take, map}
-use Rattle.sfm_cert.specs.Answer.{break_lines, text_of}
+use Rattle.sfm_cert.specs.Answer.{text_of}
+use Rattle.sfm_cert.specs.LineLists.{break_lines}
 use Rattle.sfm_cert.specs.Solved.{break_of}
 use Rattle.sfm_cert.proofs.write.put_proofs.Given as goal
 

@@ -1,6 +1,7 @@
 use Rattle.std.proofs.Common.{◌≡◌, ◌++◌, ◌∷◌, [], map, pos, sym, ap, ◌∙◌, arith, refl}
 use Rattle.std.specs.Prelude.{codes}
-use Rattle.sfm_cert.specs.Answer.{head_lines, section_lines, break_lines, text_of}
+use Rattle.sfm_cert.specs.Answer.{head_lines, section_lines, text_of}
+use Rattle.sfm_cert.specs.LineLists.{break_lines}
 use Rattle.std.proofs.lemmas.Nat.Gcd.{dvd-zero, dvd_refl}
 use Rattle.sfm_spec.specs.Slopes.{IsLowest}
 use Rattle.sfm_spec.proofs.Lowest.{lowest_unique, lowest_of_gcd}

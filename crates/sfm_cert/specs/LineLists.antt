@@ -1,0 +1,34 @@
+-- The lists of the numbers and of the lines of an answer, each by its own word: the code writes and reads each one by one.
+use Rattle.std.specs.Prelude.{ℕ, List, map, decimal, ℤ}
+use Rattle.std.specs.List.{enumerate_from, flat_map}
+use Rattle.std.specs.Fmt.{signed_decimal}
+use Rattle.sfm_spec.specs.Blocks.{Block}
+use Rattle.sfm_cert.specs.Answer.{Answer, Break, Form, answer_lines, base_line, block_line, section_lines, slope_line, spaced, text_of}
+
+-- counts, each behind a space
+abbrev pub counted : List ℕ → List ℕ
+counted x = spaced decimal x
+
+-- numbers, each behind a space
+abbrev pub numbered : List ℤ → List ℕ
+numbered x = spaced signed_decimal x
+
+-- a line for each block, numbered on from i
+abbrev pub block_lines : List (List ℕ) → ℕ → List Block → List (List ℕ)
+block_lines names i blocks = map (λ (i, block). block_line names i block) (enumerate_from i blocks)
+
+-- the lines of all slopes
+abbrev pub slope_lines : List (List ℕ) → List Break → List (List ℕ)
+slope_lines names breaks = map (slope_line names) breaks
+
+-- a line for each base, numbered on from i
+abbrev pub base_lines : ℕ → List (List ℤ) → List (List ℕ)
+base_lines i rows = map (λ (i, x). base_line i x) (enumerate_from i rows)
+
+-- a section for each slope
+abbrev pub break_lines : List Break → List (List ℕ)
+break_lines breaks = flat_map (λ (b : Break). section_lines b.num b.den b.bases) breaks
+
+-- the lines of an answer, each with a line feed behind it
+abbrev pub answer_text : Form → Answer → List ℕ
+answer_text form a = text_of (answer_lines form a)
