@@ -1,5 +1,5 @@
 -- What is due for the texts that a command names: the text that is to be written, and the code that goes with it.
-use Rattle.std.specs.Prelude.{◌≡◌, ◌↔◌, ◌⊎◌, ℕ, List, ◌++◌, length, codes, decimal, ℤ}
+use Rattle.std.specs.Prelude.{◌≡◌, ◌⊎◌, ℕ, List, ◌++◌, length, codes, decimal, ℤ}
 use Rattle.std.specs.List.{All, AllZip}
 use Rattle.sfm_spec.specs.Families.{Meaning, even_shift}
 use Rattle.sfm_spec.specs.Walks.{IsFewWalks}
@@ -15,7 +15,7 @@ use Rattle.sfm_check.specs.declared.verdicts.Verdict.{Verdict}
 use Rattle.sfm_check.specs.declared.verdicts.Verdict.TheVariants.{Valid, Invalid}
 use Rattle.sfm_check.specs.declared.verdicts.Wrong.{Wrong}
 use Rattle.sfm_check.specs.declared.verdicts.Wrong.TheVariants.{Long, Grammar, Base, Unproved, Answer}
-use Rattle.sfm_check.specs.Verdict.{IsTold, IsValid}
+use Rattle.sfm_check.specs.Verdict.{IsVerdict}
 
 -- the line that names a fault
 abbrev pub refusal : ℕ → Reason → List ℕ
@@ -70,11 +70,6 @@ pub record IsRefused (text written : List ℕ) : Type 0 where
   pub reason : Reason
   pub fault : IsFaultOf text line reason
   pub named : written ≡ refusal line reason
-
--- the verdict on an answer: `valid` exactly where it is a right file, and else its first fault
-pub record IsVerdict (form : Form) (terms : List Meaning) (answer : List ℕ) (verdict : Verdict) : Type 0 where
-  pub valid : IsValid verdict ↔ IsRightFile form terms answer
-  pub told : IsTold form terms answer verdict
 
 -- the written text is the verdict on the answer for the text, which is good
 pub record IsJudged (text answer written : List ℕ) (code : ℕ) : Type 0 where

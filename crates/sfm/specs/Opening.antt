@@ -6,13 +6,14 @@ use Rattle.sfm_text.specs.GoodText.{IsTextOf}
 use Rattle.sfm_cert.specs.Grammar.{answer_limit}
 use Rattle.sfm_cert.specs.Solved.{form_of}
 use Rattle.sfm_check.specs.declared.verdicts.Verdict.{Verdict}
+use Rattle.sfm_check.specs.Verdict.{IsVerdict}
 use Rattle.sfm.specs.declared.status.Status.{Status}
 use Rattle.sfm.specs.declared.status.Status.TheVariants.{Done, Invalid, Refused, ReadFault, Memory}
 use Rattle.sfm.specs.declared.due.Due.{Due as DueText}
 use Rattle.sfm.specs.declared.run.Opened.{Opened}
 use Rattle.sfm.specs.declared.run.Opened.TheVariants.{Good, Faulty}
 use Rattle.sfm.specs.Status.{code_of}
-use Rattle.sfm.specs.Due.{IsVerdict, verdict_code, verdict_line}
+use Rattle.sfm.specs.Due.{verdict_code, verdict_line}
 use Rattle.sfm.specs.Meanings.{meanings_of}
 use Rattle.sfm.specs.Headline.{IsNamed, IsRefusalDue, WasRead}
 use Rattle.sfm.specs.Reading.{MissesText}

@@ -11,13 +11,14 @@ use Rattle.sfm_text.specs.GoodText.{IsRefusalOf}
 use Rattle.sfm_text.specs.Standing.{Stands}
 use Rattle.sfm_cert.specs.Solved.{form_of}
 use Rattle.sfm_check.specs.declared.verdicts.Verdict.{Verdict}
+use Rattle.sfm_check.specs.Verdict.{IsVerdict}
 use Rattle.sfm.specs.declared.status.Status.{Status}
 use Rattle.sfm.specs.declared.status.Status.TheVariants.{Done, Invalid, Refused, ReadFault, Memory}
 use Rattle.sfm.specs.declared.due.Due.{Due}
 use Rattle.sfm.specs.Status.{code_of}
 use Rattle.sfm_words.specs.Command.{Command}
 use Rattle.sfm_cert.specs.Grammar.{answer_limit}
-use Rattle.sfm.specs.Due.{IsDueToSolve, IsRefused, IsVerdict, verdict_code, verdict_line}
+use Rattle.sfm.specs.Due.{IsDueToSolve, IsRefused, verdict_code, verdict_line}
 use Rattle.sfm.specs.Meanings.{meanings_of}
 use Rattle.sfm.specs.Headline.{IsDue, IsNamed, IsSurelyHeld, WasRead, FailsToRead, LeavesShelf}
 

@@ -1,7 +1,8 @@
 // What is due for texts that were read: a file, a refusal or a verdict, made whole before any of it is written.
 ghost use Rattle.std.specs.Prelude.{◌≡◌, ◌⊎◌, ◌+◌, ◌++◌, ◌<◌, ℕ, List, length, codes, decimal, IfOk};
 ghost use Rattle.sfm_cert.specs.Solved.{form_of};
-ghost use Rattle.sfm.specs.Due.{refusal, verdict_line, verdict_code, wrong_word, IsVerdict, IsRefused};
+ghost use Rattle.sfm_check.specs.Verdict.{IsVerdict};
+ghost use Rattle.sfm.specs.Due.{refusal, verdict_line, verdict_code, wrong_word, IsRefused};
 ghost use Rattle.sfm.specs.Meanings.{meanings_of};
 ghost use Rattle.sfm.specs.Status.{code_of};
 ghost use Rattle.sfm.specs.Reading.{IsReadAs, IsRefusalFor, IsSolveDueOf, IsCheckDueOf};

@@ -1,5 +1,5 @@
 -- A verdict that tells what was found of an answer is `valid` exactly where the text is right, and else names its first fault.
-use Rattle.std.proofs.Common.{◌≡◌, ◌↔◌, ℕ, ◌<◌, ◌≤◌, ◌^◌, List, [], ◌∷◌, length, map, get_or, pos, sym, ap, ◌∙◌, arith, subst}
+use Rattle.std.proofs.Common.{◌≡◌, ℕ, ◌<◌, ◌≤◌, ◌^◌, List, [], ◌∷◌, length, map, get_or, pos, sym, ap, ◌∙◌, arith, subst}
 use Rattle.std.specs.List.{All}
 use Rattle.std.proofs.lemmas.List.{length-append}
 use Rattle.std.proofs.lemmas.List.Elements.{All-from_get_or}
@@ -17,8 +17,8 @@ use Rattle.sfm_check.specs.Truth.{IsProvedSection, IsRightFile, IsTrueHead, no_s
 use Rattle.sfm_check.specs.declared.verdicts.Wrong.TheVariants.{Long, Grammar, Base, Unproved, Answer as AnswerLine}
 use Rattle.sfm_check.specs.declared.verdicts.Verdict.{Verdict}
 use Rattle.sfm_check.specs.declared.verdicts.Verdict.TheVariants.{Valid, Invalid}
-use Rattle.sfm_check.specs.Verdict.{AllAreProved, IsFirstNoBase, IsFirstUnproved, IsFirstWrong, IsTold, IsValid, due_lines}
-use Rattle.sfm_check.specs.Findings.{IsFound}
+use Rattle.sfm_check.specs.Verdict.{IsFirstNoBase, IsFirstUnproved, IsFirstWrong, IsVerdict, due_lines}
+use Rattle.sfm_check.specs.Findings.{AllAreProved, IsFound}
 use Rattle.sfm_check.proofs.Forming.{few_lines}
 use Rattle.sfm_check.proofs.OneBlocks.{one_blocks}
 use Rattle.sfm_check.proofs.WrongLines.{line_due, slope_lines-same}
@@ -35,8 +35,11 @@ pub few_by_text : (form : Form) (text : List ℕ) (a : Answer) → IsAnswerText 
 few_by_text form text a t l = at_most (length (answer_lines form a)) (length (text_of (answer_lines form a))) answer_limit (length-text (answer_lines form a)) (subst (λ (z : List ℕ). length z ≤ answer_limit) t.written l)
 
 module _ (form : Form) (terms : List Meaning) (text : List ℕ) (a : Answer) (clean : IsLine form.header) (fine : AreElementNames form.names) (fit : AreTerms (length form.names) terms) (is_text : IsAnswerText form text a) (short : length text ≤ answer_limit) where
+  all_proved : AllAreProved terms (length form.names) a → All (IsProvedSection terms (length form.names)) (sections_of a)
+  all_proved proved = All-from_get_or (IsProvedSection terms (length form.names)) (sections_of a) no_section proved
+
   right : IsTrueHead terms (length form.names) a → AllAreProved terms (length form.names) a → IsRightFile form terms text
-  right head proved = record { answer = a; is_text = is_text; head = head; sections = All-from_get_or (IsProvedSection terms (length form.names)) (sections_of a) no_section proved }
+  right head proved = record { answer = a; is_text = is_text; head = head; sections = all_proved proved }
 
   few_blocks : length a.blocks < 2 ^ 64
   few_blocks = let few = few_by_text form text a is_text short in omega (arith, few, few_lines form a)
@@ -81,18 +84,10 @@ module _ (form : Form) (terms : List Meaning) (text : List ℕ) (a : Answer) (cl
       let l : w.at < length (due_lines form a) = subst (λ z. w.at < z) (sym c) w.is_due in
       w.wrong (line_due form a w.at l ∙ ap (λ z. get_or z w.at []) same)
 
-  pub found_valid : (v : Verdict) → IsFound form terms a v → IsValid v ↔ IsRightFile form terms text
-  found_valid Valid f = ((λ t. right f.0 f.1), (λ r. tt))
-  found_valid (Invalid line Long) f = absurd f
-  found_valid (Invalid line Grammar) f = absurd f
-  found_valid (Invalid line Base) f = ((λ t. absurd t), (λ r. no_base line f r))
-  found_valid (Invalid line Unproved) f = ((λ t. absurd t), (λ r. no_proof line f.1 r))
-  found_valid (Invalid line AnswerLine) f = ((λ t. absurd t), (λ r. no_line line f.1 r))
-
-  pub found_told : (v : Verdict) → IsFound form terms a v → IsTold form terms text v
-  found_told Valid f = tt
-  found_told (Invalid line Long) f = absurd f
-  found_told (Invalid line Grammar) f = absurd f
-  found_told (Invalid line Base) f = (short, (a, is_text, f))
-  found_told (Invalid line Unproved) f = (short, (a, is_text, f.0, f.1))
-  found_told (Invalid line AnswerLine) f = (short, (a, is_text, f.0, f.1))
+  pub found_verdict : (v : Verdict) → IsFound form terms a v → IsVerdict form terms text v
+  found_verdict Valid f = right f.0 f.1
+  found_verdict (Invalid line Long) f = absurd f
+  found_verdict (Invalid line Grammar) f = absurd f
+  found_verdict (Invalid line Base) f = ((λ r. no_base line f r), (short, (a, is_text, f)))
+  found_verdict (Invalid line Unproved) f = ((λ r. no_proof line f.1 r), (short, (a, is_text, f.0, f.1)))
+  found_verdict (Invalid line AnswerLine) f = ((λ r. no_line line f.1 r), (short, (a, is_text, all_proved f.0, f.1)))

@@ -15,7 +15,7 @@ use Rattle.sfm_check.specs.declared.sections.Sections.TheVariants.{Proved as All
 use Rattle.sfm_check.specs.declared.verdicts.Wrong.TheVariants.{Long, Grammar, Base, Unproved, Answer as AnswerLine}
 use Rattle.sfm_check.specs.declared.verdicts.Verdict.{Verdict}
 use Rattle.sfm_check.specs.declared.verdicts.Verdict.TheVariants.{Valid, Invalid}
-use Rattle.sfm_check.specs.Verdict.{IsBaseAt, AllAreBases, AllAreProved, IsFirstNoBase, IsFirstUnproved, IsFirstWrong, due_lines}
+use Rattle.sfm_check.specs.Verdict.{IsBaseAt, AllAreBases, IsFirstNoBase, IsFirstUnproved, IsFirstWrong, due_lines}
 
 -- each row is a base of its term, times q
 abbrev pub AreBasesIn : List Meaning → ℤ → List (List ℤ) → Type 0
@@ -96,6 +96,10 @@ pub record IsWrongLine (form : Form) (a truth : Answer) (line : ℕ) : Type 0 wh
   pub line_is : line ≡ at + 1
   pub wrong : slice_index_or (answer_lines form a) at [] ≢ slice_index_or (due_lines form truth) at []
   pub before : (i : ℕ) → i < at → slice_index_or (answer_lines form a) i [] ≡ slice_index_or (due_lines form truth) i []
+
+-- the bases of each section prove the minimum there
+abbrev pub AllAreProved : List Meaning → ℕ → Answer → Type 0
+AllAreProved terms n a = (s : ℕ) → s < length (sections_of a) → IsProvedSection terms n (section_at a s)
 
 -- what is found of an answer, in the order of the reasons
 abbrev pub IsFound : Form → List Meaning → Answer → Verdict → Type 0

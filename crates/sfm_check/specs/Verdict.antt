@@ -1,12 +1,13 @@
 -- What is said of a text that is offered as the answer of an instance: that it is right, or its first fault.
 -- The reasons stand in an order: each speaks of texts that none of the ones before applies to.
 use Rattle.std.specs.Prelude.{◌≡◌, ◌≢◌, ◌⊎◌, ℕ, ◌+◌, ◌<◌, ◌≤◌, List, [], ◌∷◌, ◌++◌, length, slice_index_or, pos}
+use Rattle.std.specs.List.{All}
 use Rattle.sfm_spec.specs.Terms.{times, IsBase}
 use Rattle.sfm_spec.specs.Families.{Meaning, AreBases}
 use Rattle.sfm_spec.specs.Walks.{term_at, base_at}
 use Rattle.sfm_cert.specs.Answer.{Answer, Form, head_lines, answer_lines, at_line, line_at, line_base}
 use Rattle.sfm_cert.specs.Grammar.{answer_limit, IsAnswerText, IsBadLine}
-use Rattle.sfm_check.specs.Truth.{sections_of, section_at, IsProvedSection, IsTrueHead}
+use Rattle.sfm_check.specs.Truth.{sections_of, section_at, IsProvedSection, IsRightFile, IsTrueHead}
 use Rattle.sfm_check.specs.declared.verdicts.Wrong.{Wrong}
 use Rattle.sfm_check.specs.declared.verdicts.Wrong.TheVariants.{Long, Grammar, Base, Unproved, Answer as AnswerLine}
 use Rattle.sfm_check.specs.declared.verdicts.Verdict.{Verdict}
@@ -42,10 +43,6 @@ pub record IsFirstUnproved (terms : List Meaning) (n : ℕ) (a : Answer) (line :
   pub unproved : IsProvedSection terms n (section_at a section) → ⊥
   pub before : (s : ℕ) → s < section → IsProvedSection terms n (section_at a s)
 
--- the bases of each section prove the minimum there
-abbrev pub AllAreProved : List Meaning → ℕ → Answer → Type 0
-AllAreProved terms n a = (s : ℕ) → s < length (sections_of a) → IsProvedSection terms n (section_at a s)
-
 -- the lines that are due: what is true, and the line of the first section
 abbrev pub due_lines : Form → Answer → List (List ℕ)
 due_lines form truth = head_lines form truth ++ at_line (pos 0) (pos 1) ∷ []
@@ -67,14 +64,9 @@ IsFaultOf form terms text line Grammar = (length text ≤ answer_limit) × IsBad
 IsFaultOf form terms text line Base = (length text ≤ answer_limit) × ((a : Answer) × IsAnswerText form text a × IsFirstNoBase terms a line)
 IsFaultOf form terms text line Unproved = (length text ≤ answer_limit) × ((a : Answer) × IsAnswerText form text a × AllAreBases terms a × IsFirstUnproved terms (length form.names) a line)
 IsFaultOf form terms text line AnswerLine = (length text ≤ answer_limit)
-    × ((a : Answer) × IsAnswerText form text a × AllAreProved terms (length form.names) a × IsFirstWrong form terms a line)
+    × ((a : Answer) × IsAnswerText form text a × All (IsProvedSection terms (length form.names)) (sections_of a) × IsFirstWrong form terms a line)
 
--- a verdict other than `valid` tells the first fault
-abbrev pub IsTold : Form → List Meaning → List ℕ → Verdict → Type 0
-IsTold form terms text Valid = Unit {0}
-IsTold form terms text (Invalid line reason) = IsFaultOf form terms text line reason
-
--- the verdict is `valid`
-abbrev pub IsValid : Verdict → Type 0
-IsValid Valid = Unit {0}
-IsValid (Invalid line reason) = ⊥
+-- the verdict on a text: `valid` exactly where it is a right file, and else its first fault
+abbrev pub IsVerdict : Form → List Meaning → List ℕ → Verdict → Type 0
+IsVerdict form terms text Valid = IsRightFile form terms text
+IsVerdict form terms text (Invalid line reason) = (IsRightFile form terms text → ⊥) × IsFaultOf form terms text line reason

@@ -1,6 +1,6 @@
 // The judge. A text that is read as an answer has its rows tested as bases of their terms, then each section's bases as
 // a proof, and then what it says against what the proved bases tell. Nothing here finds bases of its own.
-ghost use Rattle.std.specs.Prelude.{◌↔◌, ◌≤◌, length, IfOk};
+ghost use Rattle.std.specs.Prelude.{◌≡◌, ◌≤◌, length, IfOk};
 ghost use Rattle.sfm_spec.specs.Families.{meanings};
 ghost use Rattle.sfm_kind.specs.Kinds.{kind_places, kind_value};
 ghost use Rattle.sfm_kind.specs.Names.{AreElementNames};
@@ -9,8 +9,7 @@ ghost use Rattle.sfm_cert.specs.Answer.{answer_lines};
 ghost use Rattle.sfm_cert.specs.Form.{IsFormed};
 ghost use Rattle.sfm_cert.specs.Grammar.{answer_limit};
 ghost use Rattle.sfm_cert.specs.Solved.{answer_of, form_of};
-ghost use Rattle.sfm_check.specs.Truth.{IsRightFile};
-ghost use Rattle.sfm_check.specs.Verdict.{IsTold, IsValid};
+ghost use Rattle.sfm_check.specs.Verdict.{IsVerdict};
 ghost use Rattle.sfm_check.specs.Findings.{IsFound};
 
 use crate::bases::first_no_base;
@@ -66,9 +65,8 @@ fn judge_solved(alloc: Global, instance: &Instance, solved: &Solved) -> Result<V
 ///
 /// `Memory` where there is none.
 pub fn judge(alloc: Global, instance: &Instance, text: &[u8]) -> Result<Verdict, Memory>
-    ensures valid { IfOk result (λ v. IsValid v ↔ IsRightFile (form_of instance.now) (meanings kind_places kind_value instance.now.terms) text.now) }
-    ensures short { IfOk result (λ v. IsValid v → length text.now ≤ answer_limit) }
-    ensures told { IfOk result (IsTold (form_of instance.now) (meanings kind_places kind_value instance.now.terms) text.now) }
+    ensures verdict { IfOk result (IsVerdict (form_of instance.now) (meanings kind_places kind_value instance.now.terms) text.now) }
+    ensures short { IfOk result (λ v. v ≡ Verdict.Valid → length text.now ≤ answer_limit) }
 {
     tell_kept(instance);
     if text.len() > ANSWER_LIMIT {

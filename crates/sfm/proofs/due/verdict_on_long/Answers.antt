@@ -3,7 +3,7 @@ use Rattle.sfm_check.proofs.Short.{right_short}
 use Rattle.sfm.proofs.due.verdict_on_long.Goals as goal
 
 pub returns : goal.returns
-returns c answer l = record {
-  valid = ((λ t. absurd t), (λ r. let s = right_short c.args.instance.now answer c.names_len-count.ensures.named c.terms-terms.ensures.bounded r in omega (arith, s, l)));
-  told = (refl, l);
-}
+returns c answer l = (
+  (λ r. let s = right_short c.args.instance.now answer c.names_len-count.ensures.named c.terms-terms.ensures.bounded r in omega (arith, s, l)),
+  (refl, l),
+)

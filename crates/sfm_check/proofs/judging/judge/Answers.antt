@@ -1,4 +1,4 @@
-use Rattle.std.proofs.Common.{length, Result, Ok, Err, arith}
+use Rattle.std.proofs.Common.{length, Result, Ok, Err, arith, refl}
 use Rattle.std.specs.Prelude.{IfOk}
 use Rattle.sfm_spec.specs.Families.{meanings}
 use Rattle.sfm_kind.specs.Kinds.{kind_places, kind_value}
@@ -6,7 +6,7 @@ use Rattle.sfm_cert.specs.Solved.{answer_of, form_of}
 use Rattle.sfm_cert.proofs.BadLines.{header_line}
 use Rattle.sfm_check.proofs.AllSlopes.{fit}
 use Rattle.sfm_check.proofs.Short.{right_short}
-use Rattle.sfm_check.proofs.Telling.{few_by_text, found_told, found_valid}
+use Rattle.sfm_check.proofs.Telling.{few_by_text, found_verdict}
 use Rattle.sfm_check.proofs.judging.judge.Goals as goal
 
 -- what follows from each good answer of a call
@@ -17,23 +17,19 @@ if_ok (Err e) P Q f h = tt
 pub judge_solved-requires-clause-few : goal.judge_solved-requires-clause-few
 judge_solved-requires-clause-few c = few_by_text (form_of c.args.instance.now) c.args.text.now (answer_of c.in-Ok.solved) c.in-Ok.ensures.read c.if-text-gt-ANSWER_LIMIT.false
 
-pub returns-in-Ok-clause-valid : goal.returns-in-Ok-clause-valid
-returns-in-Ok-clause-valid c =
-    if_ok c.judge_solved.result _ _ (found_valid (form_of c.args.instance.now) (meanings kind_places kind_value c.args.instance.now.terms) c.args.text.now (answer_of c.in-Ok.solved) header_line c.tell_kept.ensures.named (fit (length c.args.instance.now.names) c.args.instance.now.terms c.tell_kept.ensures.bounded) c.in-Ok.ensures.read c.if-text-gt-ANSWER_LIMIT.false) c.judge_solved.ensures
+pub returns-in-Ok-clause-verdict : goal.returns-in-Ok-clause-verdict
+returns-in-Ok-clause-verdict c =
+    if_ok c.judge_solved.result _ _ (found_verdict (form_of c.args.instance.now) (meanings kind_places kind_value c.args.instance.now.terms) c.args.text.now (answer_of c.in-Ok.solved) header_line c.tell_kept.ensures.named (fit (length c.args.instance.now.names) c.args.instance.now.terms c.tell_kept.ensures.bounded) c.in-Ok.ensures.read c.if-text-gt-ANSWER_LIMIT.false) c.judge_solved.ensures
 
 pub returns-in-Ok-clause-short : goal.returns-in-Ok-clause-short
 returns-in-Ok-clause-short c = if_ok c.judge_solved.result _ _ (λ v found valid. c.if-text-gt-ANSWER_LIMIT.false) c.judge_solved.ensures
 
-pub returns-in-Ok-clause-told : goal.returns-in-Ok-clause-told
-returns-in-Ok-clause-told c =
-    if_ok c.judge_solved.result _ _ (found_told (form_of c.args.instance.now) (meanings kind_places kind_value c.args.instance.now.terms) c.args.text.now (answer_of c.in-Ok.solved) header_line c.tell_kept.ensures.named (fit (length c.args.instance.now.names) c.args.instance.now.terms c.tell_kept.ensures.bounded) c.in-Ok.ensures.read c.if-text-gt-ANSWER_LIMIT.false) c.judge_solved.ensures
-
 -- a text that is too long is not right
-pub returns-then-text-gt-ANSWER_LIMIT-clause-valid : goal.returns-then-text-gt-ANSWER_LIMIT-clause-valid
-returns-then-text-gt-ANSWER_LIMIT-clause-valid c = (
-  (λ t. absurd t),
+pub returns-then-text-gt-ANSWER_LIMIT-clause-verdict : goal.returns-then-text-gt-ANSWER_LIMIT-clause-verdict
+returns-then-text-gt-ANSWER_LIMIT-clause-verdict c = (
   (λ r.
       let l = right_short c.args.instance.now c.args.text.now c.tell_kept.ensures.named c.tell_kept.ensures.bounded r in
       let m = c.if-text-gt-ANSWER_LIMIT.true in
       omega (arith, l, m)),
+  (refl, c.if-text-gt-ANSWER_LIMIT.true),
 )
