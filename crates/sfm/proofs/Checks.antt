@@ -27,12 +27,14 @@ pub checks : (file answer : List ℕ) (instance : InstanceData) (before mid afte
     → Prepares (check file answer) before after result
 checks file answer instance before mid after (Ok due) kept good h = (
   inr (record {
-    text = good.text;
-    answer_text = h.text;
-    named = good.named;
-    answer_named = named_before before mid answer h.text kept h.named;
+    text = h.text;
+    named = named_before before mid answer h.text kept h.named;
     read = λ texts are. h.read texts (kept.texts ∙ are);
-    judged = record { names = instance.names; terms = instance.terms; verdict = h.verdict; good = good.good; meant = meanings_of instance.terms; means = kinds-mean instance.terms; judged = h.judged; named = h.written; coded = h.coded };
+    holds = (
+      good.text,
+      good.named,
+      record { asked = record { instance = instance; good = good.good; meant = meanings_of instance.terms; means = kinds-mean instance.terms }; verdict = h.verdict; judged = h.judged; named = h.written; coded = h.coded },
+    );
   }),
   ⊎_elim (λ e. inl e) (λ e. inr (inl e)) h.answered,
 )

@@ -23,11 +23,7 @@ leaves_shelf (demo seed) shelf = refl
 pub demoed : (seed : ℕ) (text written : List ℕ) (instance : InstanceData) (s : Solved) → IsTextOf text instance.names instance.terms → IsTrueAnswer instance (answer_of s) → written ≡ demo_line seed (answer_of s)
     → IsDemoed seed text written
 demoed seed text written instance s good h named = record {
-  names = instance.names;
-  terms = instance.terms;
-  good = good;
-  meant = meanings_of instance.terms;
-  means = kinds-mean instance.terms;
+  asked = record { instance = instance; good = good; meant = meanings_of instance.terms; means = kinds-mean instance.terms };
   file = answer_text (form_of instance) (answer_of s);
   right = record { answer = answer_of s; is_text = record { formed = h.formed; written = refl }; head = h.head; sections = h.sections };
   named = named;

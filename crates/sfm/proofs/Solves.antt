@@ -65,11 +65,7 @@ true_answer instance a named bounded h = record {
 -- the text of a true answer is a right file
 pub solved : (text file : List ℕ) (instance : InstanceData) (a : Answer) → IsTextOf text instance.names instance.terms → IsTrueAnswer instance a → file ≡ answer_text (form_of instance) a → IsSolved text file
 solved text file instance a good h written = record {
-  names = instance.names;
-  terms = instance.terms;
-  good = good;
-  meant = meanings_of instance.terms;
-  means = kinds-mean instance.terms;
+  asked = record { instance = instance; good = good; meant = meanings_of instance.terms; means = kinds-mean instance.terms };
   right = record { answer = a; is_text = record { formed = h.formed; written = written }; head = h.head; sections = h.sections };
   reached = h.reached;
 }

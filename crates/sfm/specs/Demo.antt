@@ -1,35 +1,24 @@
 -- What a demonstration writes: what an answer of its instance says, in one line, or the first fault of its text.
-use Rattle.std.specs.Prelude.{◌≡◌, ◌⊎◌, ℕ, List, ◌++◌, length, codes, ℤ}
-use Rattle.std.specs.List.{AllZip}
+use Rattle.std.specs.Prelude.{◌≡◌, ◌⊎◌, ℕ, List, ◌++◌, length, codes}
 use Rattle.std.specs.Fmt.{decimal, signed_decimal}
 use Rattle.sfm_spec.specs.Sets.{size}
-use Rattle.sfm_spec.specs.Families.{Meaning}
-use Rattle.sfm_kind.specs.Meanings.{IsMeaningOf}
-use Rattle.sfm_kind.specs.declared.kind.Kind.{Kind}
-use Rattle.sfm_text.specs.GoodText.{IsTextOf}
 use Rattle.sfm_cert.specs.Answer.{Answer}
+use Rattle.sfm_cert.specs.Solved.{form_of}
 use Rattle.sfm_check.specs.Truth.{IsRightFile}
 use Rattle.sfm_demo.specs.DemoText.{demo_text_of}
-use Rattle.sfm.specs.Due.{form_for, IsRefused}
+use Rattle.sfm.specs.Due.{IsRefused, Question}
 
--- the least value, how many elements the least and the greatest minimiser have, and how many blocks and slopes there are
-abbrev pub line_of : (seed : ℕ) (value : ℤ) (least greatest blocks slopes : ℕ) → List ℕ
-line_of seed value least greatest blocks slopes = codes "demo " ++ decimal seed ++ codes " minimum " ++ signed_decimal value ++ codes " least " ++ decimal least ++ codes " greatest " ++ decimal greatest
-    ++ codes " blocks " ++ decimal blocks ++ codes " slopes " ++ decimal slopes ++ codes " valid\n"
-
--- the line of what an answer says
+-- the line of what an answer says: the least value, how many elements the least and the greatest minimiser have, and how many
+-- blocks and slopes there are
 abbrev pub demo_line : ℕ → Answer → List ℕ
-demo_line seed a = line_of seed a.value (size a.least) (size a.greatest) (length a.blocks) (length a.breaks)
+demo_line seed a = codes "demo " ++ decimal seed ++ codes " minimum " ++ signed_decimal a.value ++ codes " least " ++ decimal (size a.least) ++ codes " greatest " ++ decimal (size a.greatest)
+    ++ codes " blocks " ++ decimal (length a.blocks) ++ codes " slopes " ++ decimal (length a.breaks) ++ codes " valid\n"
 
 -- the written line tells what a right file for the text says
 pub record IsDemoed (seed : ℕ) (text written : List ℕ) : Type 0 where
-  pub names : List (List ℕ)
-  pub terms : List Kind
-  pub good : IsTextOf text names terms
-  pub meant : List Meaning
-  pub means : AllZip IsMeaningOf terms meant
+  pub asked : Question text
   pub file : List ℕ
-  pub right : IsRightFile (form_for names terms) meant file
+  pub right : IsRightFile (form_of asked.instance) asked.meant file
   pub named : written ≡ demo_line seed right.answer
 
 -- what is due to be written for a seed, and the code

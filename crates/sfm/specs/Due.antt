@@ -4,11 +4,11 @@ use Rattle.std.specs.List.{All, AllZip}
 use Rattle.sfm_spec.specs.Families.{Meaning, even_shift}
 use Rattle.sfm_spec.specs.Walks.{IsFewWalks}
 use Rattle.sfm_kind.specs.declared.kind.Kind.{Kind}
+use Rattle.sfm_kind.specs.Instance.{InstanceData}
 use Rattle.sfm_kind.specs.Meanings.{AreStarts, IsMeaningOf}
 use Rattle.sfm_text.specs.declared.reason.Reason.{Reason}
 use Rattle.sfm_text.specs.Reasons.{reason_word}
 use Rattle.sfm_text.specs.GoodText.{IsTextOf, IsFaultOf}
-use Rattle.sfm_cert.specs.Answer.{Form}
 use Rattle.sfm_cert.specs.Solved.{form_of}
 use Rattle.sfm_check.specs.Truth.{IsRightFile, Section, sections_of}
 use Rattle.sfm_check.specs.declared.verdicts.Verdict.{Verdict}
@@ -39,13 +39,16 @@ abbrev pub verdict_code : Verdict → ℕ
 verdict_code Valid = 0
 verdict_code (Invalid line reason) = 1
 
--- what an instance of these names and terms asks of an answer
-abbrev pub form_for : List (List ℕ) → List Kind → Form
-form_for names terms = form_of (record { names = names; terms = terms })
-
 -- the text has no fault
 abbrev pub IsGood : List ℕ → Type 0
 IsGood text = (names : List (List ℕ)) × (terms : List Kind) × IsTextOf text names terms
+
+-- what a good text asks: the instance that it stands for, and the meanings of its terms
+pub record Question (text : List ℕ) : Type 0 where
+  pub instance : InstanceData
+  pub good : IsTextOf text instance.names instance.terms
+  pub meant : List Meaning
+  pub means : AllZip IsMeaningOf instance.terms meant
 
 -- the bases of a section are reached by few walks at its slope, from the first bases of the terms
 pub record IsReached (terms : List Kind) (meant : List Meaning) (n : ℕ) (section : Section) : Type 0 where
@@ -53,16 +56,12 @@ pub record IsReached (terms : List Kind) (meant : List Meaning) (n : ℕ) (secti
   pub starts : AreStarts terms meant section.den firsts
   pub few : IsFewWalks meant n section.den (even_shift n section.num) firsts section.bases
 
--- the file is a right one for the text, which is good: for the names and terms that it stands for, by their meanings; and few walks
--- lead to the bases of each section
+-- the file is a right one for the text, which is good, by the meanings of the terms that it stands for; and few walks lead to the
+-- bases of each section
 pub record IsSolved (text file : List ℕ) : Type 0 where
-  pub names : List (List ℕ)
-  pub terms : List Kind
-  pub good : IsTextOf text names terms
-  pub meant : List Meaning
-  pub means : AllZip IsMeaningOf terms meant
-  pub right : IsRightFile (form_for names terms) meant file
-  pub reached : All (IsReached terms meant (length names)) (sections_of right.answer)
+  pub asked : Question text
+  pub right : IsRightFile (form_of asked.instance) asked.meant file
+  pub reached : All (IsReached asked.instance.terms asked.meant (length asked.instance.names)) (sections_of right.answer)
 
 -- the written text names the first fault of the text
 pub record IsRefused (text written : List ℕ) : Type 0 where
@@ -73,13 +72,9 @@ pub record IsRefused (text written : List ℕ) : Type 0 where
 
 -- the written text is the verdict on the answer for the text, which is good
 pub record IsJudged (text answer written : List ℕ) (code : ℕ) : Type 0 where
-  pub names : List (List ℕ)
-  pub terms : List Kind
+  pub asked : Question text
   pub verdict : Verdict
-  pub good : IsTextOf text names terms
-  pub meant : List Meaning
-  pub means : AllZip IsMeaningOf terms meant
-  pub judged : IsVerdict (form_for names terms) meant answer verdict
+  pub judged : IsVerdict (form_of asked.instance) asked.meant answer verdict
   pub named : written ≡ verdict_line verdict
   pub coded : code ≡ verdict_code verdict
 

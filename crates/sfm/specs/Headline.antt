@@ -31,34 +31,19 @@ HoldsNeeded shelf (solve file) = IsSurelyHeld shelf file
 HoldsNeeded shelf (check file answer) = IsSurelyHeld shelf file × ((text : List ℕ) → IsNamed shelf file text → IsGood text → IsSurelyHeld shelf answer)
 HoldsNeeded shelf (demo seed) = Unit {0}
 
--- what is due for an instance that is to be solved, which was read
-pub record IsSolveDue (file : List ℕ) (shelf shelf' : ShelfState) (written : List ℕ) (code : ℕ) : Type 0 where
+-- the file of that name was read, and this holds of its text
+pub record HasRead (limit : ℕ) (name : List ℕ) (shelf shelf' : ShelfState) (P : List ℕ → Type 0) : Type 0 where
   pub text : List ℕ
-  pub named : IsNamed shelf file text
-  pub read : WasRead shelf shelf' text_limit text
-  pub due : IsDueToSolve text written code
+  pub named : IsNamed shelf name text
+  pub read : WasRead shelf shelf' limit text
+  pub holds : P text
 
--- what is due for an instance with a fault, of which the answer is not opened
-pub record IsRefusalDue (file : List ℕ) (shelf shelf' : ShelfState) (written : List ℕ) (code : ℕ) : Type 0 where
-  pub text : List ℕ
-  pub named : IsNamed shelf file text
-  pub read : WasRead shelf shelf' text_limit text
-  pub refused : IsRefused text written
-  pub coded : code ≡ 2
-
--- what is due for a good instance and an answer, which were read one after the other
-pub record IsVerdictDue (file answer : List ℕ) (shelf shelf' : ShelfState) (written : List ℕ) (code : ℕ) : Type 0 where
-  pub text : List ℕ
-  pub answer_text : List ℕ
-  pub named : IsNamed shelf file text
-  pub answer_named : IsNamed shelf answer answer_text
-  pub read : WasRead shelf shelf' answer_limit answer_text
-  pub judged : IsJudged text answer_text written code
-
--- this text is due for the command, with this code
+-- this text is due for the command, with this code: for an instance that is to be solved; for one with a fault, of which the answer
+-- is not opened, or a good one and an answer, which were read one after the other; for a demonstration
 abbrev pub IsDue : Command → (shelf shelf' : ShelfState) → List ℕ → ℕ → Type 0
-IsDue (solve file) shelf shelf' written code = IsSolveDue file shelf shelf' written code
-IsDue (check file answer) shelf shelf' written code = IsRefusalDue file shelf shelf' written code ⊎ IsVerdictDue file answer shelf shelf' written code
+IsDue (solve file) shelf shelf' written code = HasRead text_limit file shelf shelf' (λ text. IsDueToSolve text written code)
+IsDue (check file answer) shelf shelf' written code = HasRead text_limit file shelf shelf' (λ text. IsRefused text written × (code ≡ 2))
+    ⊎ HasRead answer_limit answer shelf shelf' (λ answer_text. (text : List ℕ) × IsNamed shelf file text × IsJudged text answer_text written code)
 IsDue (demo seed) shelf shelf' written code = IsDueToDemo seed written code × (shelf' ≡ shelf)
 
 -- what was due was written whole
@@ -82,9 +67,8 @@ pub record FailsToWrite (command : Command) (shelf shelf' : ShelfState) (out out
 
 -- a demonstration opens nothing
 abbrev pub LeavesShelf : Command → (shelf shelf' : ShelfState) → Type 0
-LeavesShelf (solve file) shelf shelf' = Unit {0}
-LeavesShelf (check file answer) shelf shelf' = Unit {0}
 LeavesShelf (demo seed) shelf shelf' = shelf' ≡ shelf
+LeavesShelf _ shelf shelf' = Unit {0}
 
 -- how a command ends: each status with its cause and with what it leaves
 abbrev pub EndsFor : Command → (shelf shelf' : ShelfState) → (out out' : SinkState) → Status → Type 0
@@ -96,24 +80,16 @@ EndsFor command shelf shelf' out out' WriteFault = FailsToWrite command shelf sh
 EndsFor command shelf shelf' out out' Memory = (out' ≡ out) × LeavesShelf command shelf shelf'
 EndsFor command shelf shelf' out out' Usage = ⊥
 
--- clap does not take the words, and nothing was touched
-pub record IsUsage (words : List (List ℕ)) (shelf shelf' : ShelfState) (out out' : SinkState) (status : Status) : Type 0 where
-  pub answered : status ≡ Usage
-  pub not_taken : IsNotTaken words
-  pub shelf_stays : shelf' ≡ shelf
-  pub out_stays : out' ≡ out
-
--- memory was wanting to read the words, and nothing was touched
-pub record IsUnread (shelf shelf' : ShelfState) (out out' : SinkState) (status : Status) : Type 0 where
-  pub answered : status ≡ Memory
+-- the words were not read, and nothing was touched: clap does not take them, or memory was wanting
+pub record IsUnread (words : List (List ℕ)) (shelf shelf' : ShelfState) (out out' : SinkState) (status : Status) : Type 0 where
+  pub why : ((status ≡ Usage) × IsNotTaken words) ⊎ (status ≡ Memory)
   pub shelf_stays : shelf' ≡ shelf
   pub out_stays : out' ≡ out
 
 -- how a call with these words ends
 abbrev pub Ends : List (List ℕ) → (shelf shelf' : ShelfState) → (out out' : SinkState) → Status → Type 0
 Ends words shelf shelf' out out' status =
-    IsUsage words shelf shelf' out out' status ⊎ IsUnread shelf shelf' out out' status
-    ⊎ ((command : Command) × Asks words command × EndsFor command shelf shelf' out out' status)
+    IsUnread words shelf shelf' out out' status ⊎ ((command : Command) × Asks words command × EndsFor command shelf shelf' out out' status)
 
 -- words of the form `solve FILE`, `check FILE ANSWER` or `demo SEED` ask for that command, and the call ends as it does
 abbrev pub EndsByForm : List (List ℕ) → (shelf shelf' : ShelfState) → (out out' : SinkState) → Status → Type 0
@@ -128,13 +104,11 @@ pub record Says (line : List ℕ) (err err' : SinkState) : Type 0 where
 
 -- what is said of each status on the second sink: a fixed line of each failure, and nothing of the others
 abbrev pub Complains : (err err' : SinkState) → Status → Type 0
-Complains err err' Done = err' ≡ err
-Complains err err' Refused = err' ≡ err
-Complains err err' Invalid = err' ≡ err
 Complains err err' ReadFault = Says (codes "sfm: read failed\n") err err'
 Complains err err' WriteFault = Says (codes "sfm: write failed\n") err err'
 Complains err err' Memory = Says (codes "sfm: out of memory\n") err err'
 Complains err err' Usage = Says (codes "usage: sfm solve FILE | check FILE ANSWER | demo SEED\n") err err'
+Complains err err' _ = err' ≡ err
 
 -- where the words are a command whose names are surely there, or no fault of the shelf comes, and no fault of the sink comes, what is
 -- due is written, or memory was wanting

@@ -2,7 +2,7 @@
 use Rattle.std.specs.Prelude.{◌≡◌, ◌⊎◌, ℕ, List, Result, Ok, Err}
 use Rattle.sfm_io.specs.Shelf.{ShelfState}
 use Rattle.sfm_kind.specs.Instance.{InstanceData}
-use Rattle.sfm_text.specs.GoodText.{IsTextOf}
+use Rattle.sfm_text.specs.GoodText.{IsTextOf, text_limit}
 use Rattle.sfm_cert.specs.Grammar.{answer_limit}
 use Rattle.sfm_cert.specs.Solved.{form_of}
 use Rattle.sfm_check.specs.declared.verdicts.Verdict.{Verdict}
@@ -13,9 +13,9 @@ use Rattle.sfm.specs.declared.due.Due.{Due as DueText}
 use Rattle.sfm.specs.declared.run.Opened.{Opened}
 use Rattle.sfm.specs.declared.run.Opened.TheVariants.{Good, Faulty}
 use Rattle.sfm.specs.Status.{code_of}
-use Rattle.sfm.specs.Due.{verdict_code, verdict_line}
+use Rattle.sfm.specs.Due.{IsRefused, verdict_code, verdict_line}
 use Rattle.sfm.specs.Meanings.{meanings_of}
-use Rattle.sfm.specs.Headline.{IsNamed, IsRefusalDue, WasRead}
+use Rattle.sfm.specs.Headline.{HasRead, IsNamed, WasRead}
 use Rattle.sfm.specs.Reading.{MissesText}
 
 -- a good text of that name
@@ -27,7 +27,7 @@ pub record IsGoodFile (file : List ℕ) (shelf : ShelfState) (instance : Instanc
 -- a good instance, or the refusal of one with a fault, or why there is none
 abbrev pub OpensInstance : List ℕ → (shelf shelf' : ShelfState) → Result Opened Status → Type 0
 OpensInstance file shelf shelf' (Ok (Good instance)) = IsGoodFile file shelf instance
-OpensInstance file shelf shelf' (Ok (Faulty due)) = IsRefusalDue file shelf shelf' due.text.items (code_of due.status) × (due.status ≡ Refused)
+OpensInstance file shelf shelf' (Ok (Faulty due)) = HasRead text_limit file shelf shelf' (λ text. IsRefused text due.text.items × (code_of due.status ≡ 2)) × (due.status ≡ Refused)
 OpensInstance file shelf shelf' (Err status) = ((status ≡ ReadFault) × MissesText file shelf shelf') ⊎ (status ≡ Memory)
 
 -- the verdict on the answer of that name

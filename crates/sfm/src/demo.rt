@@ -1,7 +1,7 @@
 // A demonstration: the instance of a seed is solved, its answer is judged as any other, and one line tells what it says.
 ghost use Rattle.std.specs.Prelude.{◌≡◌, ◌⊎◌, ◌≤◌, ◌++◌, decimal, IfOk, OnOk};
 ghost use Rattle.sfm_cert.specs.Solved.{answer_of};
-ghost use Rattle.sfm.specs.Demo.{line_of, demo_line, IsDueToDemo};
+ghost use Rattle.sfm.specs.Demo.{demo_line, IsDueToDemo};
 ghost use Rattle.sfm.specs.Solving.{IsTrueAnswer};
 ghost use Rattle.sfm.specs.Status.{code_of};
 
@@ -27,44 +27,21 @@ fn put_count(out: &mut Vec<u8>, word: &[u8], n: usize) -> Result<(), AllocError>
     Ok(())
 }
 
-/// The line with these numbers.
-fn write_line(
-    alloc: Global,
-    seed: u64,
-    value: i128,
-    least: usize,
-    greatest: usize,
-    blocks: usize,
-    slopes: usize,
-) -> Result<Vec<u8>, AllocError>
-    ensures { IfOk result (λ line. line.items ≡ line_of seed value least greatest blocks slopes) }
+/// The line that tells what an answer says.
+fn line_for(alloc: Global, seed: u64, solved: &Solved) -> Result<Vec<u8>, AllocError>
+    ensures { IfOk result (λ line. line.items ≡ demo_line seed (answer_of solved.now)) }
 {
     let mut buffer = Buffer::new();
     let mut out = Vec::from_slice(alloc, b"demo ")?;
     out.extend_from_slice(buffer.format(seed).as_bytes())?;
     out.extend_from_slice(b" minimum ")?;
-    out.extend_from_slice(buffer.format(value).as_bytes())?;
-    put_count(&mut out, b" least ", least)?;
-    put_count(&mut out, b" greatest ", greatest)?;
-    put_count(&mut out, b" blocks ", blocks)?;
-    put_count(&mut out, b" slopes ", slopes)?;
+    out.extend_from_slice(buffer.format(solved.value).as_bytes())?;
+    put_count(&mut out, b" least ", solved.least.size())?;
+    put_count(&mut out, b" greatest ", solved.greatest.size())?;
+    put_count(&mut out, b" blocks ", solved.blocks.len())?;
+    put_count(&mut out, b" slopes ", solved.breaks.len())?;
     out.extend_from_slice(b" valid\n")?;
     Ok(out)
-}
-
-/// The line that tells what an answer says.
-fn line_for(alloc: Global, seed: u64, solved: &Solved) -> Result<Vec<u8>, AllocError>
-    ensures { IfOk result (λ line. line.items ≡ demo_line seed (answer_of solved.now)) }
-{
-    write_line(
-        alloc,
-        seed,
-        solved.value,
-        solved.least.size(),
-        solved.greatest.size(),
-        solved.blocks.len(),
-        solved.breaks.len(),
-    )
 }
 
 /// The answer of an instance, which was judged.
