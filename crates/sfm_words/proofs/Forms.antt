@@ -13,7 +13,8 @@ use Rattle.clap.specs.Kinds.{or_else}
 use Rattle.clap.specs.ValueTests.{is_numeral, is_unsigned_in}
 use Rattle.clap.specs.declared.error.kind.ErrorKind.TheVariants.{ValueValidation}
 use Rattle.clap.proofs.WalkLemmas.{both}
-use Rattle.sfm_words.specs.Line.{check_line, demo_line, seed_rule, sfm_line, solve_line, word_rule}
+use Rattle.clap.specs.declared.builder.value_parser.ValueParser.TheVariants.{NonEmptyString, Unsigned}
+use Rattle.sfm_words.specs.Line.{check_line, demo_line, sfm_line, solve_line, word_rule}
 use Rattle.sfm_words.specs.Command.{check, demo, solve}
 use Rattle.sfm_words.proofs.Turns.{none_of, HasHelpOnly, help, at, not_none, holding, some_word}
 use Rattle.sfm_words.proofs.Levels.{HoldsCommand, end_fault, IsFree, Reaches, after, full, one}
@@ -24,7 +25,7 @@ built_sub s = built_leaf (inherited (with_leaf_noted (record sfm_line.top { is_b
 
 -- the place of an argument of one word
 abbrev place : ℕ → Text → Rule
-place i id = record (filled (word_rule id)) { index = Some i }
+place i id = record (filled (word_rule NonEmptyString id)) { index = Some i }
 
 pub help_or_none : (b : Bool) → (cond b (Some help) None ≡ None) ⊎ (cond b (Some help) None ≡ Some help)
 help_or_none true = inr refl
@@ -113,7 +114,7 @@ demo_helps = record {
 
 -- the place of the seed
 abbrev seed_place : Rule
-seed_place = record (filled seed_rule) { index = Some 1 }
+seed_place = record (filled (word_rule (Unsigned 0 999999999) (codes "SEED"))) { index = Some 1 }
 
 -- a value that is no fault is a number that the line takes
 number_in : (word : Text) → settle_fault demo_sub.rules demo_sub.args_override_self (holding [] (Some (codes "SEED", word ∷ []))) ≡ [] → is_unsigned_in 0 999999999 word ≡ true

@@ -166,11 +166,11 @@ record IsPlain (name : Text) : Type 0 where
   some : nat_lt 0 (length name) ≡ true
 
 name_is_plain : (name : Text) → IsFileName name → IsPlain name
-name_is_plain [] is = absurd (omega (arith, is.some))
+name_is_plain [] is = absurd (omega (arith, is.0))
 name_is_plain (x ∷ xs) is = go (x == 45) refl
   where
     go : (b : Bool) → (x == 45) ≡ b → IsPlain (x ∷ xs)
-    go true e = absurd (is.plain ((Decides-eqb x 45).0 e))
+    go true e = absurd (is.1 ((Decides-eqb x 45).0 e))
     go false e = record { apart = rw e refl; long = rw e refl; short = rw e refl; some = some_word x xs }
 
 solve_form : (file : Text) → IsPlain file → Asks (codes "solve" ∷ file ∷ []) (solve file)
@@ -191,14 +191,14 @@ record IsNumber (text : Text) : Type 0 where
   small : nat_le (digits_value 10 text) 999999999 ≡ true
 
 seed_is_number : (text : Text) (seed : ℕ) → IsSeed text seed → IsNumber text
-seed_is_number [] seed is = absurd (omega (arith, is.some))
+seed_is_number [] seed is = absurd (omega (arith, is.0))
 seed_is_number (x ∷ xs) seed is =
-    let first = digit_from_value x is.digits.0 in
-    let below : digits_value 10 (x ∷ xs) < 10 ^ 9 = omega (arith, digits_value-lt 10 (x ∷ xs) is.digits, pow-le-pow_right {n = 10} (omega arith) is.short) in
+    let first = digit_from_value x is.2.0 in
+    let below : digits_value 10 (x ∷ xs) < 10 ^ 9 = omega (arith, digits_value-lt 10 (x ∷ xs) is.2, pow-le-pow_right {n = 10} (omega arith) is.1) in
     record {
-      plain = name_is_plain (x ∷ xs) (record { some = omega arith; plain = λ e. omega (arith, first, e) });
+      plain = name_is_plain (x ∷ xs) (omega arith, λ e. omega (arith, first, e));
       unsigned = without_leading_plus_none (x ∷ xs) (λ e. omega (arith, first, e));
-      numeral = numeral_told (x ∷ xs) (is.some, is.digits);
+      numeral = numeral_told (x ∷ xs) (is.0, is.2);
       fits = lt-ltb _ _ (omega (arith, below));
       large = le-leb _ _ (omega arith);
       small = le-leb _ _ (omega (arith, below));
@@ -213,4 +213,4 @@ form_asks words (solve file) form = subst (λ v. Asks v (solve file)) (sym form.
 form_asks words (check file answer) form =
     subst (λ v. Asks v (check file answer)) (sym form.0) (check_form file answer (name_is_plain file form.1) (name_is_plain answer form.2))
 form_asks words (demo seed) form =
-    subst (λ v. Asks v (demo seed)) (sym form.1) (subst (λ n. Asks (codes "demo" ∷ form.0 ∷ []) (demo n)) form.2.value (demo_form form.0 (seed_is_number form.0 seed form.2)))
+    subst (λ v. Asks v (demo seed)) (sym form.1) (subst (λ n. Asks (codes "demo" ∷ form.0 ∷ []) (demo n)) form.2.3 (demo_form form.0 (seed_is_number form.0 seed form.2)))

@@ -56,16 +56,12 @@ IsToldAs kind Usage = kind ≢ OutOfMemory
 -- ---- the plain forms of a command
 
 -- a name of a file: not empty, and no option
-pub record IsFileName (name : Text) : Type 0 where
-  pub some : 0 < length name
-  pub plain : slice_index name 0 ≢ 45
+abbrev pub IsFileName : Text → Type 0
+IsFileName name = (0 < length name) × (slice_index name 0 ≢ 45)
 
 -- the text of a seed: 1 to 9 decimal digits, of its value in base ten
-pub record IsSeed (text : Text) (seed : ℕ) : Type 0 where
-  pub some : 0 < length text
-  pub short : length text ≤ 9
-  pub digits : AllDigits 10 text
-  pub value : digits_value 10 text ≡ seed
+abbrev pub IsSeed : Text → ℕ → Type 0
+IsSeed text seed = (0 < length text) × (length text ≤ 9) × AllDigits 10 text × (digits_value 10 text ≡ seed)
 
 -- the words are `solve FILE`, `check FILE ANSWER` or `demo SEED`
 abbrev pub IsForm : List Text → Command → Type 0

@@ -1,8 +1,8 @@
 // The command line of the program as clap is told of it: two subcommands with the names of files, and one with a seed.
-ghost use Rattle.std.specs.Prelude.{◌≡◌, IfOk, false};
+ghost use Rattle.std.specs.Prelude.{◌≡◌, IfOk, codes, false};
 ghost use Rattle.clap.specs.Words.{app_of, rule_of};
 ghost use Rattle.clap.specs.declared.builder.command.Command.TheViews.{out-Command as fields_of};
-ghost use Rattle.sfm_words.specs.Line.{program, word_rule, seed_rule, solve_line, check_line, demo_line, sfm_line};
+ghost use Rattle.sfm_words.specs.Line.{program, word_rule, solve_line, check_line, demo_line, sfm_line};
 
 use clap::builder::ValueParser;
 use clap::{Arg, Command};
@@ -10,7 +10,7 @@ use std::alloc::{AllocError, Global};
 
 /// An argument of one word, which has to be there and not to be empty.
 fn required_word<'a>(alloc: Global, id: &'a str) -> Arg<'a>
-    ensures rule { rule_of result ≡ word_rule id.entry.now }
+    ensures rule { rule_of result ≡ word_rule ValueParser.NonEmptyString id.entry.now }
     ensures local { result.global ≡ false }
 {
     Arg::new(alloc, id)
@@ -20,7 +20,7 @@ fn required_word<'a>(alloc: Global, id: &'a str) -> Arg<'a>
 
 /// The seed of an instance: a whole number from 0 to 999,999,999, which has to be there.
 fn required_seed<'a>(alloc: Global) -> Arg<'a>
-    ensures rule { rule_of result ≡ seed_rule }
+    ensures rule { rule_of result ≡ word_rule (ValueParser.Unsigned 0 999999999) (codes "SEED") }
     ensures local { result.global ≡ false }
 {
     Arg::new(alloc, "SEED")
