@@ -2,17 +2,13 @@
 use Rattle.std.specs.Prelude.{◌≡◌, ℕ, ◌+◌, ◌-◌, ◌^◌, ◌<◌, ◌⊎◌, min, List, Bool, nat_le}
 use Rattle.std.specs.List.{list_all}
 
--- the last value of a count of 64 bits
-abbrev pub last_count : ℕ
-last_count = 2 ^ 64 - 1
-
 -- one more, up to the last value
 abbrev pub counted : ℕ → ℕ
-counted n = min (n + 1) last_count
+counted n = min (n + 1) (2 ^ 64 - 1)
 
--- the count rose. One that stands at its last value is taken as risen
+-- the count of 64 bits rose. One that stands at its last value is taken as risen
 abbrev pub Rose : ℕ → ℕ → Type 0
-Rose before after = (before < after) ⊎ (after ≡ last_count)
+Rose before after = (before < after) ⊎ (after ≡ 2 ^ 64 - 1)
 
 -- Calls that are counted: how many were made, how many faults there were, and the numbers of the calls that fail, from 1.
 pub record CountedCalls : Type 0 where

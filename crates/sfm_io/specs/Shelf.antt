@@ -1,5 +1,6 @@
 -- What a shelf of named texts is, and what its calls do.
 use Rattle.std.specs.Prelude.{◌≡◌, ℕ, ◌<◌, ◌≤◌, List, [], ◌∷◌, length, take, Option, Some, None, Bool, true, false, if◌then◌else◌, Result, IsSome, IsOk, IfOk, OnOk, OnErr}
+use Rattle.std.specs.Map.{lookup}
 use Rattle.std.specs.Str.{bytes_eq}
 use Rattle.std.specs.Io.KnownBytes.{Consumes, IsAtEnd}
 use Rattle.sfm_io.specs.Faults.{Rose}
@@ -10,8 +11,7 @@ Texts = List (List ℕ × List ℕ)
 
 -- the text of the first entry of that name
 abbrev pub text_of : Texts → List ℕ → Option (List ℕ)
-text_of [] name = None
-text_of (t ∷ texts) name = if bytes_eq t.0 name then Some t.1 else text_of texts name
+text_of texts name = lookup (λ key. bytes_eq key name) texts
 
 -- What a shelf tells. `rest` are the unread bytes of the open text, none where nothing is open.
 pub record ShelfState : Type 0 where
