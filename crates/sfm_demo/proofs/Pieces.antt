@@ -6,8 +6,8 @@ use Rattle.std.specs.Prelude.{codes}
 use Rattle.std.specs.Fmt.{decimal, signed_decimal}
 use Rattle.sfm_demo.specs.declared.kind.Kind.{Kind}
 use Rattle.sfm_demo.specs.Draws.{Drawing, done, next, top, ◌>>◌}
-use Rattle.sfm_demo.specs.DemoText.{demo_text_of, each, element, falling, level, line_of, lines, numbers, pair, series, set_values, term_lines}
-use Rattle.sfm_demo.specs.Names.{names}
+use Rattle.sfm_demo.specs.DemoText.{demo_text_of, each, element, falling, level, line_of, lines, pair, series, set_values}
+use Rattle.sfm_demo.specs.Names.{names, numbers, first_lines, last_lines, term_lines}
 
 pub next-wrapping : (s : ℕ) → (s * 6364136223846793005 % 2 ^ 64 + 1442695040888963407) % 2 ^ 64 ≡ next s
 unfolding next
@@ -167,12 +167,20 @@ pieces : (o o1 o2 o3 o4 o5 o6 o7 ground weights terms : List ℕ) → o ≡ [] �
     → o7 ≡ (codes "sfm 1\nground" ++ ground) ++ ((codes "\nweight" ++ weights) ++ (codes "\n" ++ (terms ++ codes "end\n")))
 pieces o o1 o2 o3 o4 o5 o6 o7 ground weights terms h h1 h2 h3 h4 h5 h6 h7 = rw (h7, h6, h5, h4, h3, h2, h1, h) (simp append_assoc)
 
+-- four pieces, bracketed as the lines of a block are
+halves : (feed first last end : List ℕ) → feed ++ ((first ++ last) ++ end) ≡ (feed ++ first) ++ (last ++ end)
+halves feed first last end = ap (λ l. feed ++ l) (append_assoc first last end) ∙ sym (append_assoc feed first (last ++ end))
+
 pub whole : (o o1 o2 o3 o4 o5 o6 o7 : List ℕ) (seed s s' : ℕ) → o ≡ [] → o1 ≡ o ++ codes "sfm 1\nground" → o2 ≡ o1 ++ names 0 1 200 → o3 ≡ o2 ++ codes "\nweight" → s ≡ seed
     → o4 ≡ o3 ++ (each pair 0 1 200 s).value → s' ≡ (each pair 0 1 200 s).state → o5 ≡ o4 ++ codes "\n" → o6 ≡ o5 ++ (term_lines s').value → o7 ≡ o6 ++ codes "end\n" → o7 ≡ demo_text_of seed
-unfolding demo_text_of
+unfolding demo_text_of term_lines
 whole o o1 o2 o3 o4 o5 o6 o7 seed s s' h h1 h2 h3 e h4 e' h5 h6 h7 =
     let same : (each element 0 1 200 seed).state ≡ seed = still 0 1 200 seed in
     let start : s ≡ (each element 0 1 200 seed).state = e ∙ sym same in
-    pieces o o1 o2 o3 o4 o5 o6 o7 (each element 0 1 200 seed).value (each pair 0 1 200 (each element 0 1 200 seed).state).value (term_lines (each pair 0 1 200 (each element 0 1 200 seed).state).state).value
+    let weighed : ℕ = (each pair 0 1 200 (each element 0 1 200 seed).state).state in
+    let ground : List ℕ = (each element 0 1 200 seed).value in
+    let weights : List ℕ = (each pair 0 1 200 (each element 0 1 200 seed).state).value in
+    pieces o o1 o2 o3 o4 o5 o6 o7 ground weights (term_lines weighed).value
     h h1 (h2 ∙ ap (λ w. o1 ++ w) (sym (named 0 1 200 seed))) h3 (h4 ∙ ap (λ t. o3 ++ (each pair 0 1 200 t).value) start) h5
     (h6 ∙ ap (λ t. o5 ++ (term_lines t).value) (e' ∙ ap (λ t. (each pair 0 1 200 t).state) start)) h7
+    ∙ ap (λ l. (codes "sfm 1\nground" ++ ground) ++ ((codes "\nweight" ++ weights) ++ l)) (halves (codes "\n") (first_lines weighed).value (last_lines (first_lines weighed).state).value (codes "end\n"))

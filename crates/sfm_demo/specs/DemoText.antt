@@ -3,6 +3,7 @@
 use Prim.Native.String.{String}
 use Rattle.std.specs.Prelude.{ℕ, zero, suc, ◌+◌, ◌-◌, ◌*◌, ◌%◌, List, [], ◌∷◌, ◌++◌, codes, ℤ, pos, ◌+ℤ◌, ◌-ℤ◌}
 use Rattle.std.specs.Fmt.{decimal, signed_decimal}
+use Rattle.std.specs.List.{flat_map}
 use Rattle.sfm_demo.specs.declared.kind.Kind.{Kind}
 use Rattle.sfm_demo.specs.declared.kind.Kind.TheVariants.{Cut, Need, Cover, Concave, Uniform, Laminar, Graphic, Transversal, Table}
 use Rattle.sfm_demo.specs.Draws.{Drawing, draw, done, ◌>>=◌, ◌>>◌}
@@ -10,11 +11,6 @@ use Rattle.sfm_demo.specs.Draws.{Drawing, draw, done, ◌>>=◌, ◌>>◌}
 -- a text for which nothing is drawn
 abbrev pub say : String → Drawing (List ℕ)
 say text = done (codes text)
-
--- each number behind a space
-abbrev pub numbers : List ℤ → List ℕ
-numbers [] = []
-numbers (x ∷ xs) = 32 ∷ signed_decimal x ++ numbers xs
 
 -- the name of an element behind a space
 unfoldable pub element : ℕ → Drawing (List ℕ)
@@ -107,24 +103,20 @@ line_of Table = do
   y ← level
   z ← level
   t ← draw 300
-  say "table" >> done (numbers (set_values x y z (pos t))) >> say " :" >> each element p 17 3
+  say "table" >> done (flat_map (λ a. 32 ∷ signed_decimal a) (set_values x y z (pos t))) >> say " :" >> each element p 17 3
 
 -- so many lines of a kind
 unfoldable pub lines : ℕ → Kind → Drawing (List ℕ)
 lines n kind = series n (λ i. line_of kind >> say "\n")
-
--- the lines of the terms behind the weights
-unfoldable pub term_lines : Drawing (List ℕ)
-term_lines = do
-  lines 100 Cut >> lines 20 Need >> lines 20 Cover >> lines 10 Concave
-  lines 5 Uniform >> lines 5 Laminar >> lines 5 Graphic >> lines 5 Transversal >> lines 5 Table
 
 -- all lines
 abbrev pub demo : Drawing (List ℕ)
 demo = do
   say "sfm 1\nground" >> each element 0 1 200
   say "\nweight" >> each pair 0 1 200
-  say "\n" >> term_lines >> say "end\n"
+  say "\n" >> lines 100 Cut >> lines 20 Need >> lines 20 Cover >> lines 10 Concave
+  lines 5 Uniform >> lines 5 Laminar >> lines 5 Graphic >> lines 5 Transversal >> lines 5 Table
+  say "end\n"
 
 -- the text of a seed
 unfoldable pub demo_text_of : ℕ → List ℕ

@@ -1,7 +1,8 @@
 // The whole text: the ground, the weights, so many lines of each kind, and the end.
 ghost use Rattle.std.specs.Prelude.{◌≡◌, ◌≤◌, ◌++◌, IfOk, OnOk};
 ghost use Rattle.std.specs.String.{string_bytes};
-ghost use Rattle.sfm_demo.specs.DemoText.{demo_text_of, line_of, lines, term_lines};
+ghost use Rattle.sfm_demo.specs.DemoText.{demo_text_of, line_of, lines};
+ghost use Rattle.sfm_demo.specs.Names.{term_lines};
 
 use crate::draws::Draws;
 use crate::kind::Kind;
@@ -49,7 +50,7 @@ fn write_lines(
 }
 
 /// The lines of the terms behind the weights.
-#[tactic(auto, unfolding(crate::specs::DemoText::term_lines), using(crate::proofs::Pieces::joining))]
+#[tactic(auto, unfolding(crate::specs::Names::term_lines), using(crate::proofs::Pieces::joining))]
 fn write_terms(out: &mut String, draws: &mut Draws) -> Result<(), AllocError>
     ensures { OnOk result (string_bytes out.new ≡ string_bytes out.old ++ (term_lines draws.old).value) }
 {

@@ -1,8 +1,8 @@
 // Words of a line, put at the end of a text with a space in front of each: elements, what is drawn for an element, and numbers.
 ghost use Rattle.std.specs.Prelude.{◌≡◌, ◌<◌, ◌≤◌, ◌++◌, OnOk, pos, ◌≤ℤ◌};
 ghost use Rattle.std.specs.String.{string_bytes};
-ghost use Rattle.sfm_demo.specs.DemoText.{each, edge, entry, falling, numbers, pair};
-ghost use Rattle.sfm_demo.specs.Names.{names};
+ghost use Rattle.sfm_demo.specs.DemoText.{each, edge, entry, falling, pair};
+ghost use Rattle.sfm_demo.specs.Names.{names, numbers};
 
 use crate::draws::Draws;
 use std::alloc::AllocError;

@@ -4,8 +4,8 @@ use mir.Syntax.{w64}
 use Rattle.std.specs.Prelude.{codes}
 use Rattle.std.specs.String.{string_bytes}
 use Rattle.sfm_demo.specs.Draws.{next, top}
-use Rattle.sfm_demo.specs.DemoText.{each, element, level, line_of, numbers, set_values}
-use Rattle.sfm_demo.specs.Names.{names}
+use Rattle.sfm_demo.specs.DemoText.{each, element, level, line_of, set_values}
+use Rattle.sfm_demo.specs.Names.{names, numbers}
 use Rattle.sfm_demo.proofs.Pieces.{divided, named, still, table_drawn}
 use Rattle.sfm_demo.proofs.lines.write_table.Goals as goal
 

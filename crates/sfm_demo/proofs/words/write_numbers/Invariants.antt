@@ -1,6 +1,6 @@
 use Rattle.std.proofs.Common.{◌≡◌, ◌++◌, take}
 use Rattle.std.specs.String.{string_bytes}
-use Rattle.sfm_demo.specs.DemoText.{numbers}
+use Rattle.sfm_demo.specs.Names.{numbers}
 use Rattle.sfm_demo.proofs.words.write_numbers.Given as goal
 
 abbrev pub invariant-loop-value : goal.invariant-loop-value
