@@ -147,8 +147,8 @@ module _ (form : Form) (clean : IsLine form.header) (named : All IsName form.nam
     counted = omega (arith, h.number_is, h.reads.number, one_line);
     good = begins_from form h.lines h.next h.reads.leads;
     bad = λ line rest is e b.
-        let goes = leads_rest form header h.lines h.next (line ∷ b.rest) ended h.reads.leads
-        (subst (λ (x : List (List ℕ)). LeadsOn form header x ended) (b.begins ∙ append_assoc h.lines (line ∷ []) b.rest) (leads_answer form b.answer b.formed)) in
+        let goes = leads_rest form header h.lines h.next (line ∷ b.1) ended h.reads.leads
+        (subst (λ (x : List (List ℕ)). LeadsOn form header x ended) (b.3 ∙ append_assoc h.lines (line ∷ []) b.1) (leads_answer form b.0 b.2)) in
         h.none line goes.0 (record { is_line = is; rest = rest; cut = e }) goes.1;
     unfinished = λ a w.
         let whole = leads_answer form a w.formed in

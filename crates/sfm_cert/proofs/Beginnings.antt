@@ -256,4 +256,4 @@ module _ (form : Form) where
   begins_from lines s h =
       let g = goes_on s in
       let w = whole (lines ++ g.0) (leads-append form header lines s g.0 ended h g.1) in
-      record { answer = w.answer; rest = g.0; formed = w.formed; begins = w.cut }
+      (w.answer, g.0, w.formed, w.cut)

@@ -1,6 +1,6 @@
 -- What an answer says, and the lines that say it.
-use Rattle.std.specs.Prelude.{ℕ, ◌+◌, ◌*◌, Bool, true, false, List, [], ◌∷◌, ◌++◌, map, codes, decimal, ℤ, pos}
-use Rattle.std.specs.List.{enumerate_from, flat_map}
+use Rattle.std.specs.Prelude.{ℕ, ◌+◌, ◌*◌, Bool, List, [], ◌∷◌, ◌++◌, map, codes, decimal, if◌then◌else◌, ℤ, pos}
+use Rattle.std.specs.List.{enumerate_from, flat_map, zip}
 use Rattle.std.specs.Fmt.{signed_decimal}
 use Rattle.sfm_spec.specs.Blocks.{Block}
 use Rattle.sfm_spec.specs.Laws.{Mark}
@@ -29,10 +29,7 @@ pub record Form : Type 0 where
 
 -- a space and the name of each member, in the order of the ground
 abbrev pub listed : List (List ℕ) → List Bool → List ℕ
-listed [] s = []
-listed (name ∷ names) [] = []
-listed (name ∷ names) (true ∷ s) = (32 ∷ name) ++ listed names s
-listed (name ∷ names) (false ∷ s) = listed names s
+listed names s = flat_map (λ (name, is_in). if is_in then 32 ∷ name else []) (zip names s)
 
 -- numbers, each behind a space, by the text of each
 abbrev pub spaced : {X : Type 0} → (X → List ℕ) → List X → List ℕ

@@ -14,11 +14,8 @@ pub record IsAnswerText (form : Form) (text : List ℕ) (a : Answer) : Type 0 wh
   pub written : text ≡ text_of (answer_lines form a)
 
 -- the lines are the first ones of some answer
-pub record BeginsAnswer (form : Form) (lines : List (List ℕ)) : Type 0 where
-  pub answer : Answer
-  pub rest : List (List ℕ)
-  pub formed : IsFormed form answer
-  pub begins : answer_lines form answer ≡ lines ++ rest
+abbrev pub BeginsAnswer : Form → List (List ℕ) → Type 0
+BeginsAnswer form lines = (a : Answer) × (rest : List (List ℕ)) × IsFormed form a × (answer_lines form a ≡ lines ++ rest)
 
 -- a line holds no line feed
 abbrev pub IsLine : List ℕ → Type 0
