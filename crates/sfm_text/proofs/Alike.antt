@@ -15,12 +15,14 @@ use Rattle.sfm_text.specs.declared.reason.Reason.{Reason}
 use Rattle.sfm_text.specs.declared.reason.Reason.TheVariants.{Long, Bytes, Word, Shape, Number, Name, Twice, Law, Total, Short}
 use Rattle.sfm_text.specs.declared.stage.Stage.{Stage}
 use Rattle.sfm_text.specs.declared.stage.Stage.TheVariants.{Header, Ground, Terms, Ended}
-use Rattle.sfm_text.specs.Lines.{TextLine, content_of, tokens_of}
+use Rattle.sfm_text.specs.Lines.{content_of, tokens_of}
 use Rattle.sfm_text.specs.Words.{word_text}
 use Rattle.sfm_text.specs.TermLines.{StandsTwice, StandsFor}
+use Rattle.sfm_text.proofs.Orders.{first_ordered, reason-at}
 use Rattle.sfm_text.proofs.TooMuch.{much-by-total, total-by-much}
-use Rattle.sfm_text.specs.Reading.{State, start, reason_order, Has, HasAt, AreTooMuch, FirstReason, Adds, Takes}
-use Rattle.sfm_text.specs.GoodText.{bytes_of, IsTextOf, HasFaultyLine, IsFaultOf, is_long, is_faulty, is_short}
+use Rattle.sfm_text.specs.Reading.{State, start, reason_order, reasons, Has, HasAt, AreTooMuch, FirstReason, IsFirstReason, Adds, Takes}
+use Rattle.sfm_text.specs.Standing.{bytes_of}
+use Rattle.sfm_text.specs.GoodText.{IsTextOf, HasFaultyLine, IsFaultOf, is_long, is_faulty, is_short}
 use Rattle.sfm_text.proofs.WordLines.{not-end}
 use Rattle.sfm_text.proofs.Matches.{AllZip-push}
 use Rattle.sfm_text.proofs.Repeats.{twice-at}
@@ -82,7 +84,7 @@ different names once i j d lt within same = once (twice-at names i j d lt within
 -- no line is both the last line and a term line
 not-both : (names tokens : List (List ℕ)) (term : Kind) → tokens ≡ codes "end" ∷ [] → StandsFor names tokens term → ⊥
 not-both names tokens term last stands =
-    let both : word_text stands.word ∷ stands.rest ≡ codes "end" ∷ [] = sym (stands.shaped).first ∙ last in
+    let both : word_text stands.word ∷ stands.rest ≡ codes "end" ∷ [] = sym stands.shaped.0 ∙ last in
     let word : word_text stands.word ≡ codes "end" = cc in
     not-end stands.word word
 
@@ -98,15 +100,15 @@ takes-alike s t line u v same h g = at s.stage refl h.adds (subst (λ (stage : S
         let once : StandsTwice names → ⊥ = λ twice. h.good Twice (subst (λ (stage : Stage). HasAt stage s (tokens_of line) Twice) (sym is) (names, tokens, twice)) in
         rw (a, b) (record { stage = refl; names = one; terms = tt; distinct = different names once })
     at Terms is (inl (last, a)) (inl (last', b)) = rw (a, b) (record { stage = refl; names = same.names; terms = same.terms; distinct = same.distinct })
-    at Terms is (inl (last, a)) (inr more) = absurd (not-both t.names (tokens_of line) more.term last more.stands)
-    at Terms is (inr more) (inl (last, b)) = absurd (not-both s.names (tokens_of line) more.term last more.stands)
+    at Terms is (inl (last, a)) (inr more) = absurd (not-both t.names (tokens_of line) more.0 last more.1)
+    at Terms is (inr more) (inl (last, b)) = absurd (not-both s.names (tokens_of line) more.0 last more.1)
     at Terms is (inr more) (inr more') =
-        let stands : StandsFor s.names (tokens_of line) more'.term = subst (λ (names : List (List ℕ)). StandsFor names (tokens_of line) more'.term) (sym same.names) more'.stands in
-        let agree = stands-same s.names (tokens_of line) more.term more'.term same.distinct more.stands stands in
-        rw (more.state, more'.state) (record {
+        let stands : StandsFor s.names (tokens_of line) more'.0 = subst (λ (names : List (List ℕ)). StandsFor names (tokens_of line) more'.0) (sym same.names) more'.1 in
+        let agree = stands-same s.names (tokens_of line) more.0 more'.0 same.distinct more.1 stands in
+        rw (more.2, more'.2) (record {
           stage = refl;
           names = same.names;
-          terms = AllZip-push AgreeInTotal s.terms t.terms more.term more'.term same.terms agree;
+          terms = AllZip-push AgreeInTotal s.terms t.terms more.0 more'.0 same.terms agree;
           distinct = same.distinct;
         })
     at Ended is a b = absurd a
@@ -126,34 +128,18 @@ not-good before after line s t reason h has good =
     let (u, front, (v, takes, back)) = follows-parts before (line ∷ after) start t good in
     takes.good reason (has-alike s u line reason (follows-alike before start start s u start-alike h front) has)
 
-bytes-parts : (before after : List TextLine) (line : TextLine) → bytes_of (before ++ line ∷ after) ≡ bytes_of before ++ line.bytes ∷ bytes_of after
-bytes-parts before after line = map-append (λ (l : TextLine). l.bytes) before (line ∷ after)
+bytes-parts : (before after : List (ℕ × List ℕ)) (line : ℕ × List ℕ) → bytes_of (before ++ line ∷ after) ≡ bytes_of before ++ line.1 ∷ bytes_of after
+bytes-parts before after line = map-append (λ (l : ℕ × List ℕ). l.1) before (line ∷ after)
 
 -- a text with a faulty line is not good to its end
 pub faulty-or-good : (text : List ℕ) (number : ℕ) (reason : Reason) (t : State) → HasFaultyLine text number reason → FoldsTo Takes start (bytes_of (content_of text)) t → ⊥
 faulty-or-good text number reason t h good =
-    let all : bytes_of (content_of text) ≡ bytes_of h.before ++ (h.line).bytes ∷ bytes_of h.after = ap bytes_of h.content ∙ bytes-parts h.before h.after h.line in
-    not-good (bytes_of h.before) (bytes_of h.after) (h.line).bytes h.state t reason h.good (h.fault).holds (subst (λ (lines : List (List ℕ)). FoldsTo Takes start lines t) all good)
+    let all : bytes_of (content_of text) ≡ bytes_of h.before ++ h.line ∷ bytes_of h.after = ap bytes_of h.content ∙ bytes-parts h.before h.after (number, h.line) in
+    not-good (bytes_of h.before) (bytes_of h.after) h.line h.state t reason h.good (h.fault).holds (subst (λ (lines : List (List ℕ)). FoldsTo Takes start lines t) all good)
 
 -- the order of the reasons tells them apart
-reason_at : ℕ → Reason
-reason_at n = get_or (Long ∷ Bytes ∷ Word ∷ Shape ∷ Number ∷ Name ∷ Twice ∷ Law ∷ Total ∷ Short ∷ []) n Long
-
-reason-ordered : (reason : Reason) → reason_at (reason_order reason) ≡ reason
-unfolding reason_at
-reason-ordered Long = refl
-reason-ordered Bytes = refl
-reason-ordered Word = refl
-reason-ordered Shape = refl
-reason-ordered Number = refl
-reason-ordered Name = refl
-reason-ordered Twice = refl
-reason-ordered Law = refl
-reason-ordered Total = refl
-reason-ordered Short = refl
-
 same-reason : (a b : Reason) → reason_order a ≡ reason_order b → a ≡ b
-same-reason a b e = sym (reason-ordered a) ∙ (ap reason_at e ∙ reason-ordered b)
+same-reason a b e = sym (reason-at a a) ∙ (ap (λ n. get_or reasons n a) e ∙ reason-at b a)
 
 -- a line has one first reason in two such states
 first-alike : (s t : State) (line : List ℕ) (a b : Reason) → Alike s t → Alike t s → FirstReason s line a → FirstReason t line b → a ≡ b
@@ -165,15 +151,15 @@ first-alike s t line a b same same' h g = at (cases_lt (reason_order a) (reason_
     at (inr le) (inr ge) = same-reason a b (omega (arith, le, ge))
 
 -- two cuts of one list at a place: at the same place, or one inside the front of the other
-data Cuts (a b : TextLine) (xs ys zs ws : List TextLine) : Type 0 where
+data Cuts (a b : ℕ × List ℕ) (xs ys zs ws : List (ℕ × List ℕ)) : Type 0 where
   same_place : xs ≡ zs → a ≡ b → Cuts a b xs ys zs ws
-  inside : (more : List TextLine) → zs ≡ xs ++ a ∷ more → Cuts a b xs ys zs ws
-  outside : (more : List TextLine) → xs ≡ zs ++ b ∷ more → Cuts a b xs ys zs ws
+  inside : (more : List (ℕ × List ℕ)) → zs ≡ xs ++ a ∷ more → Cuts a b xs ys zs ws
+  outside : (more : List (ℕ × List ℕ)) → xs ≡ zs ++ b ∷ more → Cuts a b xs ys zs ws
 
-two-cuts : (a b : TextLine) (xs ys zs ws : List TextLine) → xs ++ a ∷ ys ≡ zs ++ b ∷ ws → Cuts a b xs ys zs ws
+two-cuts : (a b : ℕ × List ℕ) (xs ys zs ws : List (ℕ × List ℕ)) → xs ++ a ∷ ys ≡ zs ++ b ∷ ws → Cuts a b xs ys zs ws
 two-cuts a b [] ys [] ws e = same_place refl (cc)
-two-cuts a b [] ys (z ∷ zs) ws e = let first : a ≡ z = cc in inside zs (ap (λ (l : TextLine). l ∷ zs) (sym first))
-two-cuts a b (x ∷ xs) ys [] ws e = let first : x ≡ b = cc in outside xs (ap (λ (l : TextLine). l ∷ xs) first)
+two-cuts a b [] ys (z ∷ zs) ws e = let first : a ≡ z = cc in inside zs (ap (λ (l : ℕ × List ℕ). l ∷ zs) (sym first))
+two-cuts a b (x ∷ xs) ys [] ws e = let first : x ≡ b = cc in outside xs (ap (λ (l : ℕ × List ℕ). l ∷ xs) first)
 two-cuts a b (x ∷ xs) ys (z ∷ zs) ws e =
     let first : x ≡ z = cc in
     let rest : xs ++ a ∷ ys ≡ zs ++ b ∷ ws = cc in
@@ -185,32 +171,32 @@ two-cuts a b (x ∷ xs) ys (z ∷ zs) ws e =
     more first (outside behind is) = outside behind (rw (first, is) refl)
 
 -- a faulty line is not within the good lines before another
-not-inside : (before more zs : List TextLine) (line : TextLine) (s t : State) (reason : Reason) → zs ≡ before ++ line ∷ more → FoldsTo Takes start (bytes_of before) s → Has s line.bytes reason → FoldsTo Takes start (bytes_of zs) t → ⊥
+not-inside : (before more zs : List (ℕ × List ℕ)) (line : ℕ × List ℕ) (s t : State) (reason : Reason) → zs ≡ before ++ line ∷ more → FoldsTo Takes start (bytes_of before) s → Has s line.1 reason → FoldsTo Takes start (bytes_of zs) t → ⊥
 not-inside before more zs line s t reason is h has good =
-    let all : bytes_of zs ≡ bytes_of before ++ line.bytes ∷ bytes_of more = ap bytes_of is ∙ bytes-parts before more line in
-    not-good (bytes_of before) (bytes_of more) line.bytes s t reason h has (subst (λ (lines : List (List ℕ)). FoldsTo Takes start lines t) all good)
+    let all : bytes_of zs ≡ bytes_of before ++ line.1 ∷ bytes_of more = ap bytes_of is ∙ bytes-parts before more line in
+    not-good (bytes_of before) (bytes_of more) line.1 s t reason h has (subst (λ (lines : List (List ℕ)). FoldsTo Takes start lines t) all good)
 
 -- two faulty lines of one text are one, with one reason
 faulty-once : (text : List ℕ) (number number' : ℕ) (reason reason' : Reason) → HasFaultyLine text number reason → HasFaultyLine text number' reason' → (number ≡ number') × (reason ≡ reason')
-faulty-once text number number' reason reason' h g = at (two-cuts h.line g.line h.before h.after g.before g.after (sym h.content ∙ g.content))
+faulty-once text number number' reason reason' h g = at (two-cuts (number, h.line) (number', g.line) h.before h.after g.before g.after (sym h.content ∙ g.content))
   where
-    at : Cuts h.line g.line h.before h.after g.before g.after → (number ≡ number') × (reason ≡ reason')
+    at : Cuts (number, h.line) (number', g.line) h.before h.after g.before g.after → (number ≡ number') × (reason ≡ reason')
     at (same_place front line) =
         let good : FoldsTo Takes start (bytes_of h.before) g.state = rw front g.good in
-        let fault : FirstReason g.state (h.line).bytes reason' = rw line g.fault in
+        let fault : IsFirstReason g.state h.line reason' = rw (ap (λ (l : ℕ × List ℕ). l.1) line) g.fault in
         let forth = follows-alike (bytes_of h.before) start start h.state g.state start-alike h.good good in
         let back = follows-alike (bytes_of h.before) start start g.state h.state start-alike good h.good in (
-          sym h.numbered ∙ (ap (λ (l : TextLine). l.number) line ∙ g.numbered),
-          first-alike h.state g.state (h.line).bytes reason reason' forth back h.fault fault,
+          ap (λ (l : ℕ × List ℕ). l.0) line,
+          first-alike h.state g.state h.line reason reason' forth back (first_ordered h.state h.line reason h.fault) (first_ordered g.state h.line reason' fault),
         )
-    at (inside more is) = absurd (not-inside h.before more g.before h.line h.state g.state reason is h.good (h.fault).holds g.good)
-    at (outside more is) = absurd (not-inside g.before more h.before g.line g.state h.state reason' is g.good (g.fault).holds h.good)
+    at (inside more is) = absurd (not-inside h.before more g.before (number, h.line) h.state g.state reason is h.good (h.fault).holds g.good)
+    at (outside more is) = absurd (not-inside g.before more h.before (number', g.line) g.state h.state reason' is g.good (g.fault).holds h.good)
 
 -- a good text has no fault
 pub good-or-faulty : (text : List ℕ) (names : List (List ℕ)) (terms : List Kind) (line : ℕ) (reason : Reason) → IsTextOf text names terms → IsFaultOf text line reason → ⊥
 good-or-faulty text names terms line reason good (is_long at is long) = omega (arith, good.short, long)
 good-or-faulty text names terms line reason good (is_faulty short faulty) = faulty-or-good text line reason _ faulty good.lines
-good-or-faulty text names terms line reason good (is_short at is short early) = early.open_ (follows-alike (bytes_of (content_of text)) start start early.state _ start-alike early.good good.lines).stage
+good-or-faulty text names terms line reason good (is_short at is short early) = early.2 (follows-alike (bytes_of (content_of text)) start start early.0 _ start-alike early.1 good.lines).stage
 
 -- and a text has one first fault
 pub faults-once : (text : List ℕ) (line line' : ℕ) (reason reason' : Reason) → IsFaultOf text line reason → IsFaultOf text line' reason' → (line ≡ line') × (reason ≡ reason')
@@ -219,7 +205,7 @@ faults-once text line line' reason reason' (is_long at is long) (is_faulty short
 faults-once text line line' reason reason' (is_long at is long) (is_short at' is' short early) = absurd (omega (arith, long, short))
 faults-once text line line' reason reason' (is_faulty short faulty) (is_long at is long) = absurd (omega (arith, long, short))
 faults-once text line line' reason reason' (is_faulty short faulty) (is_faulty short' faulty') = faulty-once text line line' reason reason' faulty faulty'
-faults-once text line line' reason reason' (is_faulty short faulty) (is_short at is short' early) = absurd (faulty-or-good text line reason early.state faulty early.good)
+faults-once text line line' reason reason' (is_faulty short faulty) (is_short at is short' early) = absurd (faulty-or-good text line reason early.0 faulty early.1)
 faults-once text line line' reason reason' (is_short at is short early) (is_long at' is' long) = absurd (omega (arith, long, short))
-faults-once text line line' reason reason' (is_short at is short early) (is_faulty short' faulty) = absurd (faulty-or-good text line' reason' early.state faulty early.good)
+faults-once text line line' reason reason' (is_short at is short early) (is_faulty short' faulty) = absurd (faulty-or-good text line' reason' early.0 faulty early.1)
 faults-once text line line' reason reason' (is_short at is short early) (is_short at' is' short' early') = (at ∙ sym at', is ∙ sym is')

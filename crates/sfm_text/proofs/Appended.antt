@@ -5,7 +5,8 @@ use Rattle.std.specs.List.{All, slice_split, onto_first}
 use Rattle.std.specs.Str.Lines.{strip_carriage_return}
 use Rattle.std.proofs.lemmas.List.{append-nil}
 use Rattle.std.proofs.lemmas.List.Splits.{slice_split_none, length-slice_split}
-use Rattle.sfm_text.specs.Lines.{TextLine, pieces_of, without_empty_last, numbered}
+use Rattle.sfm_text.specs.Lines.{pieces_of, without_empty_last}
+use Rattle.sfm_text.specs.Standing.{numbered}
 
 -- the pieces with a front put before the first
 abbrev pub behind_of : List ℕ → List (List ℕ) → List (List ℕ)
@@ -86,10 +87,8 @@ without-last (first ∷ ended) piece pieces = keep first ended piece pieces ∙ 
     keep (c ∷ first) (next ∷ ended) piece pieces = refl
 
 -- lines of appended pieces: those behind are numbered from the count of those before
-pub numbered-append : (number start : ℕ) (pieces more : List (List ℕ)) → (behind : ℕ) × (numbered number start (pieces ++ more) ≡ numbered number start pieces ++ numbered (number + length pieces) behind more)
-numbered-append number start [] more = (start, ap (λ (n : ℕ). numbered n start more) (omega arith))
-numbered-append number start (piece ∷ pieces) more =
-    let (behind, e) = numbered-append (number + 1) (start + length piece + 1) pieces more in
-    let line : TextLine = record { number = number; start = start; bytes = strip_carriage_return piece } in
+pub numbered-append : (number : ℕ) (pieces more : List (List ℕ)) → numbered number (pieces ++ more) ≡ numbered number pieces ++ numbered (number + length pieces) more
+numbered-append number [] more = ap (λ (n : ℕ). numbered n more) (omega arith)
+numbered-append number (piece ∷ pieces) more =
     let count : (number + 1) + length pieces ≡ number + length (piece ∷ pieces) = omega arith in
-    (behind, ap (λ (l : List TextLine). line ∷ l) (e ∙ ap (λ (n : ℕ). numbered (number + 1) (start + length piece + 1) pieces ++ numbered n behind more) count))
+    ap (λ (l : List (ℕ × List ℕ)). (number, strip_carriage_return piece) ∷ l) (numbered-append (number + 1) pieces more ∙ ap (λ (n : ℕ). numbered (number + 1) pieces ++ numbered n more) count)

@@ -4,7 +4,8 @@ use Prim.Native.Nat.{zero, suc}
 use Rattle.std.specs.List.{All, Any}
 use Rattle.std.proofs.lemmas.Option.{slice_get-get_or}
 use Rattle.std.proofs.lemmas.List.{length-map, take-map, drop-map, take_rest}
-use Rattle.sfm_text.specs.Parts.{IsMark, AreUnmarked, IsFirstColon, IsCutAtColon}
+use Rattle.sfm_text.specs.Parts.{IsMark, AreUnmarked, IsCutAtColon}
+use Rattle.sfm_text.specs.CutParts.{IsFirstColon}
 use Rattle.sfm_text.proofs.Cutting.{tail-none, front-same}
 use Rattle.sfm_text.proofs.Repeats.{text-at}
 

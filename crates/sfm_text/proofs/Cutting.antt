@@ -2,7 +2,8 @@
 use Rattle.std.proofs.Common.{◌≡◌, ◌≢◌, ℕ, ◌+◌, ◌<◌, List, [], ◌∷◌, ◌++◌, length, get_or, take, drop, refl, sym, ap, ◌∙◌, add-one, arith}
 use Rattle.std.specs.List.{All}
 use Prim.Native.Nat.{zero, suc}
-use Rattle.sfm_text.specs.Parts.{IsFirstAt, IsCutAt}
+use Rattle.sfm_text.specs.Parts.{IsCutAt}
+use Rattle.sfm_text.specs.CutParts.{IsFirstAt}
 
 cut-suc : (b : ℕ) (xs : List ℕ) (place : ℕ) → place < length xs → get_or xs place 0 ≡ b → xs ≡ take place xs ++ b ∷ drop (suc place) xs
 cut-suc b [] place lt e = absurd (omega arith)

@@ -4,10 +4,12 @@ use Rattle.std.specs.List.{slice_split, onto_first, filter, AllZip}
 use Rattle.std.proofs.lemmas.List.{length-map}
 use Rattle.std.proofs.lemmas.List.Sums.{length-filter, count_by-le-length}
 use Rattle.std.proofs.lemmas.List.Splits.{length-slice_split}
-use Rattle.sfm_text.specs.Lines.{is_blank, has_bytes, tokens_of, texts_of}
+use Rattle.sfm_text.specs.Lines.{has_bytes, tokens_of, texts_of}
+use Rattle.sfm_text.specs.Places.{is_blank}
 use Rattle.sfm_text.specs.Parts.{LineParts, IsLabelToken, IsLabelledLine}
 use Rattle.sfm_text.specs.Words.{word_text, HasParts}
-use Rattle.sfm_text.specs.LabelTerms.{distinct_of, place_among}
+use Rattle.sfm_text.specs.LabelTerms.{distinct_of}
+use Rattle.sfm_text.specs.CutParts.{place_among}
 use Rattle.sfm_text.specs.ReadParts.{bytes_in, joined}
 use Rattle.sfm_text.specs.declared.word.RankKind.{RankKind}
 use Rattle.sfm_text.specs.declared.word.RankKind.TheVariants.{NoRank, UniformRank, LaminarRank, GraphicRank, TransversalRank}
@@ -81,7 +83,7 @@ labels-few rank (token ∷ tokens) (entry ∷ entries) (one, rest) =
 
 labelled-few : (rank : RankKind) (word : List ℕ) (tokens : List (List ℕ)) (parts : LineParts) → IsLabelledLine rank word tokens parts → length (joined parts.labels) ≤ bytes_in tokens
 labelled-few rank word tokens parts h =
-    let n = labels-few rank h.behind h.entries h.labelled.each in
+    let n = labels-few rank h.behind h.entries h.each in
     let p = ap (λ (q : LineParts). length (joined q.labels)) h.parts_are in
     let t = ap bytes_in h.head.tokens_are in
     omega (arith, n, p, t)
@@ -95,8 +97,8 @@ parts-few WeightWord tokens parts h = none-few tokens parts (ap (λ (q : LinePar
 parts-few CutWord tokens parts h = none-few tokens parts (ap (λ (q : LineParts). q.labels) h.1.parts_are)
 parts-few NeedWord tokens parts h = none-few tokens parts (ap (λ (q : LineParts). q.labels) h.1.parts_are)
 parts-few CoverWord tokens parts h = none-few tokens parts (ap (λ (q : LineParts). q.labels) h.1.parts_are)
-parts-few TableWord tokens parts h = none-few tokens parts (ap (λ (q : LineParts). q.labels) h.parts_are)
-parts-few ConcaveWord tokens parts h = none-few tokens parts (ap (λ (q : LineParts). q.labels) h.parts_are)
+parts-few TableWord tokens parts h = none-few tokens parts (ap (λ (q : LineParts). q.labels) h.4)
+parts-few ConcaveWord tokens parts h = none-few tokens parts (ap (λ (q : LineParts). q.labels) h.4)
 parts-few RankWord tokens parts (inl h) = none-few tokens parts (ap (λ (q : LineParts). q.labels) h.parts_are)
 parts-few RankWord tokens parts (inr (inl h)) = none-few tokens parts (ap (λ (q : LineParts). q.labels) h.parts_are)
 parts-few RankWord tokens parts (inr (inr (inl h))) = labelled-few GraphicRank _ tokens parts h

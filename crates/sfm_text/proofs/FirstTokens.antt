@@ -3,7 +3,8 @@ use Rattle.std.proofs.Common.{◌≡◌, ℕ, ◌+◌, ◌-◌, ◌<◌, ◌≤�
 use Rattle.std.specs.List.{position_or_len, slice_split, filter}
 use Rattle.std.proofs.lemmas.List.{length-take, drop_all}
 use Rattle.std.proofs.lemmas.List.Splits.{slice_split_first}
-use Rattle.sfm_text.specs.Lines.{is_blank, has_bytes, tokens_of}
+use Rattle.sfm_text.specs.Lines.{has_bytes, tokens_of}
+use Rattle.sfm_text.specs.Places.{is_blank}
 use Rattle.sfm_text.proofs.LineCuts.{split-none, rest-is}
 
 kept : (piece : List ℕ) (pieces : List (List ℕ)) → 0 < length piece → filter has_bytes (piece ∷ pieces) ≡ piece ∷ filter has_bytes pieces

@@ -17,12 +17,12 @@ found-or-not keys text false is = λ (k, lt, e). new_where_none (λ (t : Bor (Li
 
 -- one alone does not
 pub one-once : (text : List ℕ) → StandsTwice (text ∷ []) → ⊥
-one-once text t = absurd (omega (arith, t.order, t.within))
+one-once text t = absurd (omega (arith, t.2, t.3))
 
 module _ {X : Type 0} where
   -- one more at the front
   twice-more : (x : X) (xs : List X) → StandsTwice xs → StandsTwice (x ∷ xs)
-  twice-more x xs t = twice-at (x ∷ xs) (suc t.earlier) (suc t.later) x (omega (arith, t.order)) (omega (arith, t.within)) (twice-same xs x t)
+  twice-more x xs t = twice-at (x ∷ xs) (suc t.0) (suc t.1) x (omega (arith, t.2)) (omega (arith, t.3)) (twice-same xs x t)
 
   pub twice-rest : (kept rest : List X) → StandsTwice rest → StandsTwice (kept ++ rest)
   twice-rest [] rest t = t
@@ -55,7 +55,7 @@ module _ {X : Type 0} where
   pub twice-behind-kept : (kept rest : List X) → (StandsTwice kept → ⊥) → All (λ y. Contains kept y → ⊥) rest → StandsTwice (kept ++ rest) → StandsTwice rest
   twice-behind-kept [] rest once none t = t
   twice-behind-kept (x ∷ kept) rest once none t =
-      twice-behind-kept kept rest (once-tail x kept once) (none-tail x kept rest none) (tail t.earlier t.later t.order t.within (twice-same (x ∷ (kept ++ rest)) x t))
+      twice-behind-kept kept rest (once-tail x kept once) (none-tail x kept rest none) (tail t.0 t.1 t.2 t.3 (twice-same (x ∷ (kept ++ rest)) x t))
     where
       tail : (i j : ℕ) → i < j → j < length (x ∷ (kept ++ rest)) → get_or (x ∷ (kept ++ rest)) i x ≡ get_or (x ∷ (kept ++ rest)) j x → StandsTwice (kept ++ rest)
       tail i zero lt within e = absurd (omega (arith, lt))

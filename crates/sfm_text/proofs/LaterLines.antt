@@ -24,5 +24,5 @@ module _ (i : InstanceData) (word : TermWord) (rest : List (List ℕ)) (line : L
   later-good distinct few = record {
     good = none-at-all (state_at Terms i) line (read.good line Bytes is (omega arith)) (read.good line Word is (omega arith)) (read.good line Shape is (omega arith)) (read.good line Number is (omega arith)) (read.good line Name is (omega arith)) (read.good line Twice is (omega arith)) (read.good line Law is (omega arith))
         (λ (other, stands, much). few (much-same i.terms term other (stands-same i.names (tokens_of line) term other distinct stands-here stands) much));
-    adds = inr (record { term = term; stands = stands-here; state = refl });
+    adds = inr (term, stands-here, refl);
   }

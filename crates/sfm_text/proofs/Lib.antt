@@ -8,6 +8,7 @@ pub mod Colons
 pub mod Breaches
 pub mod Matches
 pub mod Steps
+pub mod GroupCuts
 pub mod Pieces
 pub mod Ranks
 pub mod Numbering
@@ -21,6 +22,7 @@ pub mod Shaped
 pub mod ReadLines
 pub mod TooMuch
 pub mod WordLines
+pub mod Orders
 pub mod TermReasons
 pub mod LongNames
 pub mod LongReasons

@@ -8,7 +8,8 @@ use Rattle.std.proofs.lemmas.Bool.{cases_lt, lt-ltb, le-ltb}
 use Rattle.std.proofs.lemmas.List.{take_all, drop_all, length-take, length-drop, drop-drop, take-take}
 use Rattle.std.proofs.lemmas.List.Sums.{prefix_len-le-length}
 use Rattle.std.proofs.lemmas.List.Splits.{slice_split_first, length-slice_split}
-use Rattle.sfm_text.specs.Lines.{without_empty_last, numbered, lines_from, LiesIn}
+use Rattle.sfm_text.specs.Lines.{without_empty_last}
+use Rattle.sfm_text.specs.Places.{placed_from, lines_from, LiesIn}
 
 -- where a line ends
 abbrev end_of : List ℕ → ℕ
@@ -51,7 +52,7 @@ lines_from-next n a e m rest some cut = at (cases_lt e (length rest))
         let more = slice_split (λ c. c == 10) (drop (end_of rest + 1) rest) in
         let kept = without_empty_last-cons (take (end_of rest) rest) more (omega (arith, length-slice_split (λ c. c == 10) (drop (end_of rest + 1) rest))) in
         rw (cut.end, next, first, kept)
-        (ap (λ k. record { number = n; start = a; bytes = strip_carriage_return (take (end_of rest) rest) } ∷ numbered (n + 1) k (without_empty_last more)) (omega (arith, len)))
+        (ap (λ k. record { number = n; start = a; bytes = strip_carriage_return (take (end_of rest) rest) } ∷ placed_from (n + 1) k (without_empty_last more)) (omega (arith, len)))
     at (inr ge) =
         let none = split-none (λ c. c == 10) rest (omega (arith, cut.end)) in
         let next : m ≡ length rest = omega (arith, cut.end, cut.next) in

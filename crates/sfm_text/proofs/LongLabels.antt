@@ -12,10 +12,12 @@ use Rattle.sfm_text.specs.declared.token_test.TokenTest.TheVariants.{Labelled, L
 use Rattle.sfm_text.specs.declared.word.RankKind.{RankKind}
 use Rattle.sfm_text.specs.declared.word.RankKind.TheVariants.{NoRank, UniformRank, LaminarRank, GraphicRank, TransversalRank}
 use Rattle.sfm_text.specs.declared.word.TermWord.TheVariants.{RankWord}
-use Rattle.sfm_text.specs.Parts.{LineParts, IsMark, IsCutAt, IsLabelToken, IsRankHead, IsLabelledLine, IsRankLine, labelled_parts_of, AreLabelsOf}
+use Rattle.sfm_text.specs.Parts.{LineParts, IsMark, IsCutAt, IsLabelToken, IsRankHead, IsLabelledLine, IsRankLine, AreLabelsOf}
+use Rattle.sfm_text.specs.CutParts.{labelled_parts_of}
 use Rattle.sfm_text.specs.Words.{lowest_of, HasParts}
 use Rattle.sfm_text.specs.TermLines.{IsNumberFrom, IsElement}
 use Rattle.sfm_text.specs.Passes.{IsNumberOf, IsKnown, Holds, Fails, IsReasonOf, label_word, HasLabels}
+use Rattle.sfm_text.proofs.GroupCuts.{group_tokens}
 use Rattle.sfm_text.proofs.LongNames.{many-twice}
 use Rattle.sfm_text.proofs.LongReasons.{AreNumbers, AreKnown, long-shape, long-number, long-name, long-label, long-twice}
 use Rattle.sfm_text.proofs.Matches.{AllZip-at, length-AllZip}
@@ -93,11 +95,11 @@ labelled-here NoRank has number more parts h = absurd has
 labelled-here UniformRank has number more parts h = absurd has
 labelled-here LaminarRank has number more parts h = absurd has
 labelled-here GraphicRank has number more parts (inl h) = absurd (other-word (codes "graphic") number h.number (codes "uniform") more (h.cap ∷ codes ":" ∷ h.elements) h.cut.cut (λ e. omega (arith, e)))
-labelled-here GraphicRank has number more parts (inr (inl h)) = absurd (other-word (codes "graphic") number h.number (codes "laminar") more (codes ":" ∷ h.behind) h.head.tokens_are (λ e. omega (arith, e)))
+labelled-here GraphicRank has number more parts (inr (inl h)) = absurd (other-word (codes "graphic") number h.number (codes "laminar") more (codes ":" ∷ (h.elements ++ group_tokens h.groups)) h.head.tokens_are (λ e. omega (arith, e)))
 labelled-here GraphicRank has number more parts (inr (inr (inl h))) = h
 labelled-here GraphicRank has number more parts (inr (inr (inr h))) = absurd (other-word (codes "graphic") number h.number (codes "transversal") more (codes ":" ∷ h.behind) h.head.tokens_are (λ e. omega (arith, e)))
 labelled-here TransversalRank has number more parts (inl h) = absurd (other-word (codes "transversal") number h.number (codes "uniform") more (h.cap ∷ codes ":" ∷ h.elements) h.cut.cut (λ e. omega (arith, e)))
-labelled-here TransversalRank has number more parts (inr (inl h)) = absurd (other-word (codes "transversal") number h.number (codes "laminar") more (codes ":" ∷ h.behind) h.head.tokens_are (λ e. omega (arith, e)))
+labelled-here TransversalRank has number more parts (inr (inl h)) = absurd (other-word (codes "transversal") number h.number (codes "laminar") more (codes ":" ∷ (h.elements ++ group_tokens h.groups)) h.head.tokens_are (λ e. omega (arith, e)))
 labelled-here TransversalRank has number more parts (inr (inr (inl h))) = absurd (other-word (codes "transversal") number h.number (codes "graphic") more (codes ":" ∷ h.behind) h.head.tokens_are (λ e. omega (arith, e)))
 labelled-here TransversalRank has number more parts (inr (inr (inr h))) = h
 
@@ -129,7 +131,7 @@ module _ (i : InstanceData) (rank : RankKind) (has : HasLabels rank) (number col
   labelled-colon other = long-shape i RankWord (number ∷ label_word rank ∷ more) (λ parts h. let (l, same) = labelled-same parts h in other same.1)
 
   pub labelled-entry : Any (λ token. Holds i.names (Labelled rank) token → ⊥) tokens → IsReasonOf i RankWord (number ∷ label_word rank ∷ more) Shape
-  labelled-entry any = long-shape i RankWord (number ∷ label_word rank ∷ more) (λ parts h. let (l, same) = labelled-same parts h in entry-none rank tokens l.behind l.entries same.2 l.labelled.each any)
+  labelled-entry any = long-shape i RankWord (number ∷ label_word rank ∷ more) (λ parts h. let (l, same) = labelled-same parts h in entry-none rank tokens l.behind l.entries same.2 l.each any)
 
   module _ (long : 1000 < length more) (no_mark : IsMark number → ⊥) (is_colon : colon ≡ codes ":") (entries : List (List ℕ × List (List ℕ))) (each : AllZip (IsLabelToken rank) tokens entries) where
     abbrev labelled-parts : LineParts
@@ -141,7 +143,8 @@ module _ (i : InstanceData) (rank : RankKind) (has : HasLabels rank) (number col
       behind = tokens;
       entries = entries;
       head = record { tokens_are = ap (λ (l : List (List ℕ)). number ∷ label_word rank ∷ l) (is ∙ ap (λ (t : List ℕ). t ∷ tokens) is_colon); no_mark = no_mark };
-      labelled = record { some = omega (arith, long, ap length is); each = each };
+      some = omega (arith, long, ap length is);
+      each = each;
       parts_are = refl;
     })
 

@@ -47,12 +47,12 @@ among x (y ∷ xs) = ⊎_elim
     (cases_lt y x)
 
 twice-or-once : (xs : List ℕ) → StandsTwice xs ⊎ (StandsTwice xs → ⊥)
-twice-or-once [] = inr (λ t. absurd (omega (arith, t.within)))
+twice-or-once [] = inr (λ t. absurd (omega (arith, t.3)))
 twice-or-once (x ∷ xs) = ⊎_elim
     (λ (h : Contains xs x). inl (twice-at (x ∷ xs) 0 (suc h.0) x (omega arith) (omega (arith, h.1)) (sym h.2)))
     (λ (new : All (λ y. y ≢ x) xs). ⊎_elim
-    (λ (t : StandsTwice xs). inl (twice-at (x ∷ xs) (suc t.earlier) (suc t.later) 0 (omega (arith, t.order)) (omega (arith, t.within)) (twice-same xs 0 t)))
-    (λ (once : StandsTwice xs → ⊥). inr (λ t. apart t.earlier t.later new once t.order t.within (twice-same (x ∷ xs) 0 t)))
+    (λ (t : StandsTwice xs). inl (twice-at (x ∷ xs) (suc t.0) (suc t.1) 0 (omega (arith, t.2)) (omega (arith, t.3)) (twice-same xs 0 t)))
+    (λ (once : StandsTwice xs → ⊥). inr (λ t. apart t.0 t.1 new once t.2 t.3 (twice-same (x ∷ xs) 0 t)))
     (twice-or-once xs))
     (among x xs)
   where

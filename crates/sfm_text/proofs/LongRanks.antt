@@ -17,6 +17,7 @@ use Rattle.sfm_text.specs.Parts.{LineParts, IsMark, AreUnmarked, IsCutAtColon, I
 use Rattle.sfm_text.specs.Words.{lowest_of, HasParts}
 use Rattle.sfm_text.specs.TermLines.{IsElement}
 use Rattle.sfm_text.specs.Passes.{IsNumberOf, Holds, IsReasonOf, IsRankNamed}
+use Rattle.sfm_text.proofs.GroupCuts.{group_tokens}
 use Rattle.sfm_text.proofs.Colons.{none-any}
 use Rattle.sfm_text.proofs.LongReasons.{AreNumbers, long-shape, long-number, long-name, long-twice}
 use Rattle.sfm_text.proofs.Passed.{any-here, any-behind, all-matched}
@@ -33,7 +34,7 @@ second number kind n k more rest e = cc
 -- no line of a rank has another word there
 pub no-rank : (number kind : List ℕ) (more : List (List ℕ)) → IsRankNamed NoRank kind → (parts : LineParts) → IsRankLine (number ∷ kind ∷ more) parts → ⊥
 no-rank number kind more (u, l, g, t) parts (inl h) = u (second number kind h.number (codes "uniform") more (h.cap ∷ codes ":" ∷ h.elements) h.cut.cut)
-no-rank number kind more (u, l, g, t) parts (inr (inl h)) = l (second number kind h.number (codes "laminar") more (codes ":" ∷ h.behind) h.head.tokens_are)
+no-rank number kind more (u, l, g, t) parts (inr (inl h)) = l (second number kind h.number (codes "laminar") more (codes ":" ∷ (h.elements ++ group_tokens h.groups)) h.head.tokens_are)
 no-rank number kind more (u, l, g, t) parts (inr (inr (inl h))) = g (second number kind h.number (codes "graphic") more (codes ":" ∷ h.behind) h.head.tokens_are)
 no-rank number kind more (u, l, g, t) parts (inr (inr (inr h))) = t (second number kind h.number (codes "transversal") more (codes ":" ∷ h.behind) h.head.tokens_are)
 
@@ -44,7 +45,7 @@ other-word word number n k more rest e apart = apart (ap (λ (t : List ℕ). get
 -- a line of a rank with the word `uniform` is one of that rank
 uniform-here : (number : List ℕ) (more : List (List ℕ)) (parts : LineParts) → IsRankLine (number ∷ codes "uniform" ∷ more) parts → IsUniformLine (number ∷ codes "uniform" ∷ more) parts
 uniform-here number more parts (inl h) = h
-uniform-here number more parts (inr (inl h)) = absurd (other-word (codes "uniform") number h.number (codes "laminar") more (codes ":" ∷ h.behind) h.head.tokens_are (λ e. omega (arith, e)))
+uniform-here number more parts (inr (inl h)) = absurd (other-word (codes "uniform") number h.number (codes "laminar") more (codes ":" ∷ (h.elements ++ group_tokens h.groups)) h.head.tokens_are (λ e. omega (arith, e)))
 uniform-here number more parts (inr (inr (inl h))) = absurd (other-word (codes "uniform") number h.number (codes "graphic") more (codes ":" ∷ h.behind) h.head.tokens_are (λ e. omega (arith, e)))
 uniform-here number more parts (inr (inr (inr h))) = absurd (other-word (codes "uniform") number h.number (codes "transversal") more (codes ":" ∷ h.behind) h.head.tokens_are (λ e. omega (arith, e)))
 

@@ -11,7 +11,8 @@ use Rattle.sfm_text.specs.declared.reason.Reason.TheVariants.{Shape, Number, Nam
 use Rattle.sfm_text.specs.declared.token_test.TokenTest.TheVariants.{Pair, PairNumber, PairElement, Value, Element}
 use Rattle.sfm_text.specs.declared.word.TermWord.{TermWord}
 use Rattle.sfm_text.specs.declared.word.TermWord.TheVariants.{WeightWord, CoverWord, ConcaveWord, CutWord, NeedWord}
-use Rattle.sfm_text.specs.Parts.{LineParts, plain_parts, IsMark, AreUnmarked, IsPairToken, IsWeightLine, IsCutAtColon, IsConcaveCount, IsColonLine, IsTableCount}
+use Rattle.sfm_text.specs.Parts.{LineParts, plain_parts, IsMark, AreUnmarked, IsPairToken, IsWeightLine, IsCutAtColon, IsColonLine}
+use Rattle.sfm_text.specs.CutParts.{IsConcaveCount, IsTableCount}
 use Rattle.sfm_text.specs.Words.{lowest_of, HasParts}
 use Rattle.sfm_text.specs.TermLines.{IsNumberFrom, IsElement}
 use Rattle.sfm_text.specs.Reading.{HasWrongLabel}
@@ -60,8 +61,8 @@ no-need tokens long parts h = omega (arith, long, h.0)
 
 pub no-table : (tokens : List (List ℕ)) → 1024 < length tokens → (parts : LineParts) → IsColonLine IsTableCount tokens parts → ⊥
 no-table tokens long parts h =
-    let most : 2 ^ length h.elements ≤ 2 ^ 8 = pow_mono h.count.few in
-    omega (arith, long, ap length h.cut.cut, length-append h.numbers (codes ":" ∷ h.elements), h.count.few, h.count.each, most)
+    let most : 2 ^ length h.1 ≤ 2 ^ 8 = pow_mono h.3.1 in
+    omega (arith, long, ap length h.2.cut, length-append h.0 (codes ":" ∷ h.1), h.3.1, h.3.2, most)
 
 -- ---- weights
 
@@ -120,8 +121,8 @@ module _ (i : InstanceData) (tokens : List (List ℕ)) (long : 1024 < length tok
 
 pub no-concave : (tokens before behind : List (List ℕ)) → IsCutAtColon tokens before behind → (IsConcaveCount (length before) (length behind) → ⊥) → (parts : LineParts) → IsColonLine IsConcaveCount tokens parts → ⊥
 no-concave tokens before behind cut none parts h =
-    let same = colon-same tokens h.numbers h.elements before behind h.cut cut in
-    none (rw (same.0, same.1) at h.count)
+    let same = colon-same tokens h.0 h.1 before behind h.2 cut in
+    none (rw (same.0, same.1) at h.3)
 
 front-is : {X : Type 0} (before behind : List X) → take (length before) (before ++ behind) ≡ before
 front-is [] behind = refl
@@ -129,7 +130,7 @@ front-is (x ∷ before) behind = ap (λ l. x ∷ l) (front-is before behind)
 
 module _ (i : InstanceData) (tokens : List (List ℕ)) (long : 1024 < length tokens) (before behind : List (List ℕ)) (cut : IsCutAtColon tokens before behind) (count : IsConcaveCount (length before) (length behind)) where
   concave-line : IsColonLine IsConcaveCount tokens (plain_parts before behind)
-  concave-line = record { numbers = before; elements = behind; cut = cut; count = count; parts_are = refl }
+  concave-line = (before, behind, cut, count, refl)
 
   concave-front : take (length before) tokens ≡ before
   concave-front = rw (cut.cut) (front-is before (codes ":" ∷ behind))
@@ -146,4 +147,4 @@ module _ (i : InstanceData) (tokens : List (List ℕ)) (long : 1024 < length tok
 
     pub concave-twice : AreElementNames i.names → All (Holds i.names Element) behind → IsReasonOf i ConcaveWord tokens Twice
     concave-twice named known = long-twice i ConcaveWord tokens (plain_parts before behind) concave-line concave-values named (all-matched (IsElement i.names) behind known) refl (All-nil _)
-        (omega (arith, long, ap length (cut.cut), length-append before (codes ":" ∷ behind), count.same))
+        (omega (arith, long, ap length (cut.cut), length-append before (codes ":" ∷ behind), count.1))

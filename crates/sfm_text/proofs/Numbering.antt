@@ -9,7 +9,8 @@ use mathlib.Core.Logic.{⊎_elim}
 use Rattle.std.proofs.lemmas.Slice.Eq.{bytes_eq-Decides}
 use Rattle.std.proofs.lemmas.List.{append_assoc, map-append, map_more}
 use Rattle.std.proofs.lemmas.List.Elements.{filter-append}
-use Rattle.sfm_text.specs.LabelTerms.{distinct_of, place_among}
+use Rattle.sfm_text.specs.LabelTerms.{distinct_of}
+use Rattle.sfm_text.specs.CutParts.{place_among}
 
 -- whether a text is one of some
 abbrev has : List ℕ → List (List ℕ) → Bool

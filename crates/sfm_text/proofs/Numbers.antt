@@ -33,7 +33,7 @@ pub kept-lowest : (word : TermWord) (r : ℤ) → r ≡ lowest_of word → to_z 
 kept-lowest word r e = omega (arith, ints, e, lowest_of-low word, lowest_of-high word)
 
 pub small-number : (word : TermWord) (text : List ℕ) (value : ℤ) → IsNumberFrom (lowest_of word) text value → IsAtMost (10 ^ 12) value
-small-number word text value h = record { low = omega (arith, ints, lowest_of-low word, h.low); high = h.high }
+small-number word text value h = record { low = omega (arith, ints, lowest_of-low word, h.1); high = h.2 }
 
 pub entry-number : (word : TermWord) (text : List ℕ) (value : ℤ) → IsNumberFrom (lowest_of word) text value → IsEntry value
 entry-number word text value h = let s = small-number word text value h in record { low = omega (arith, ints, s.low); high = omega (arith, ints, s.high) }
@@ -68,4 +68,4 @@ number-same bytes v w (is_negative m digits e h a) (is_negative n digits' f g b)
     a ∙ (ap (λ (k : ℕ). neg_ℤ (pos k)) count ∙ sym b)
 
 pub from-same : (lowest : ℤ) (text : List ℕ) (v w : ℤ) → IsNumberFrom lowest text v → IsNumberFrom lowest text w → v ≡ w
-from-same lowest text v w h g = number-same text v w h.number g.number
+from-same lowest text v w h g = number-same text v w h.0 g.0

@@ -1,12 +1,14 @@
 -- Tokens that are cut at semicolons, and that a line is cut in one way.
-use Rattle.std.proofs.Common.{◌≡◌, ℕ, suc, ◌≤◌, nat_eq, length, List, [], ◌∷◌, Bool, true, false, cond, get_or, map, codes, Bor, Option, Some, None, MatchOption, refl, sym, ap, ◌∙◌, arith}
+use Rattle.std.proofs.Common.{◌≡◌, ℕ, suc, ◌≤◌, nat_eq, length, List, [], ◌∷◌, ◌++◌, Bool, true, false, cond, get_or, map, codes, Bor, Option, Some, None, MatchOption, refl, sym, ap, ◌∙◌, arith}
 use Rattle.std.proofs.lemmas.Bool.{false≢true}
 use Rattle.std.proofs.lemmas.Bool.Decides.{nat_tests}
 use Rattle.std.specs.List.{slice_split, onto_first, IsFirstAndRest, AllZip}
 use Rattle.std.proofs.lemmas.List.{length-map}
 use Rattle.sfm_text.specs.declared.word.RankKind.TheVariants.{UniformRank}
-use Rattle.sfm_text.specs.Parts.{LineParts, IsCutAtColon, IsUniformLine, IsGroupCut, AreGroupsCut, IsRankHead, IsLaminarLine, is_semicolon, cut_at_semicolons, laminar_parts_of}
+use Rattle.sfm_text.specs.Parts.{LineParts, IsCutAtColon, IsUniformLine, IsRankHead, IsLaminarLine}
+use Rattle.sfm_text.specs.CutParts.{IsGroupCut, AreGroupsCut, is_semicolon, cut_at_semicolons, laminar_parts_of}
 use Rattle.sfm_text.proofs.Colons.{colon-same}
+use Rattle.sfm_text.proofs.GroupCuts.{group_tokens, groups-cut, groups-behind, groups-each}
 use Rattle.sfm_text.proofs.Repeats.{text-at}
 use Rattle.sfm_text.proofs.Matches.{AllZip-same}
 
@@ -57,11 +59,11 @@ groups-same pieces elements elements' groups groups' h g =
 
 pub laminar-same : (tokens : List (List ℕ)) (p q : LineParts) → IsLaminarLine tokens p → IsLaminarLine tokens q → p ≡ q
 laminar-same tokens p q h g =
-    let both : h.number ∷ codes "laminar" ∷ codes ":" ∷ h.behind ≡ g.number ∷ codes "laminar" ∷ codes ":" ∷ g.behind = sym h.head.tokens_are ∙ g.head.tokens_are in
+    let both : h.number ∷ codes "laminar" ∷ codes ":" ∷ (h.elements ++ group_tokens h.groups) ≡ g.number ∷ codes "laminar" ∷ codes ":" ∷ (g.elements ++ group_tokens g.groups) = sym h.head.tokens_are ∙ g.head.tokens_are in
     let number : h.number ≡ g.number = cc in
-    let behind : h.behind ≡ g.behind = cc in
-    let cut : AreGroupsCut (cut_at_semicolons g.behind) h.elements h.groups = rw behind at h.cut in
-    let (elements, groups) = groups-same (cut_at_semicolons g.behind) h.elements g.elements h.groups g.groups cut g.cut in
+    let behind : h.elements ++ group_tokens h.groups ≡ g.elements ++ group_tokens g.groups = cc in
+    let cut : AreGroupsCut (cut_at_semicolons (g.elements ++ group_tokens g.groups)) h.elements h.groups = rw behind at (groups-cut h.elements h.groups h.some h.unmarked h.each) in
+    let (elements, groups) = groups-same (cut_at_semicolons (g.elements ++ group_tokens g.groups)) h.elements g.elements h.groups g.groups cut (groups-cut g.elements g.groups g.some g.unmarked g.each) in
     h.parts_are ∙ (rw (number, elements, groups) refl ∙ sym g.parts_are)
 
 pub some-texts : (texts : List (Bor (List ℕ))) → false ≡ nat_eq (length texts) 0 → 1 ≤ length (map (λ t. t.now) texts)
@@ -113,7 +115,16 @@ pub laminar-made : {P : Type 0} (f : P → LineParts) (tokens : List (List ℕ))
     → MatchOption r ((elements : List (List ℕ)) (groups : List (List ℕ × List (List ℕ))) → AreGroupsCut (cut_at_semicolons behind) elements groups → ⊥) (λ parts. (elements : List (List ℕ)) × (groups : List (List ℕ × List (List ℕ))) × AreGroupsCut (cut_at_semicolons behind) elements groups × (f parts ≡ laminar_parts_of number elements groups))
     → MatchOption r ((parts : LineParts) → IsLaminarLine tokens parts → ⊥) (λ parts. IsLaminarLine tokens (f parts))
 laminar-made f tokens number behind head None none = λ parts line.
-    let both : line.number ∷ codes "laminar" ∷ codes ":" ∷ line.behind ≡ number ∷ codes "laminar" ∷ codes ":" ∷ behind = sym line.head.tokens_are ∙ head.tokens_are in
-    let same : line.behind ≡ behind = cc in
-    none line.elements line.groups (rw same at line.cut)
-laminar-made f tokens number behind head (Some parts) (elements, groups, cut, is) = record { number = number; behind = behind; elements = elements; groups = groups; head = head; cut = cut; parts_are = is }
+    let both : line.number ∷ codes "laminar" ∷ codes ":" ∷ (line.elements ++ group_tokens line.groups) ≡ number ∷ codes "laminar" ∷ codes ":" ∷ behind = sym line.head.tokens_are ∙ head.tokens_are in
+    let same : line.elements ++ group_tokens line.groups ≡ behind = cc in
+    none line.elements line.groups (rw same at (groups-cut line.elements line.groups line.some line.unmarked line.each))
+laminar-made f tokens number behind head (Some parts) (elements, groups, cut, is) = record {
+  number = number;
+  elements = elements;
+  groups = groups;
+  head = rw (groups-behind behind elements groups cut) at head;
+  some = cut.some;
+  unmarked = cut.unmarked;
+  each = groups-each (cut_at_semicolons behind) elements groups cut;
+  parts_are = is;
+}

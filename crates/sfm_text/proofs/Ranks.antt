@@ -3,7 +3,8 @@ use Rattle.std.proofs.Common.{◌≡◌, ℕ, nat_eq, List, [], ◌∷◌, if◌
 use Rattle.std.specs.List.{AllZip}
 use Rattle.sfm_text.specs.declared.word.RankKind.{RankKind}
 use Rattle.sfm_text.specs.declared.word.RankKind.TheVariants.{NoRank, UniformRank, LaminarRank, GraphicRank, TransversalRank}
-use Rattle.sfm_text.specs.Parts.{LineParts, IsCutAt, IsLabelToken, AreLabelled, IsRankHead, IsLabelledLine, IsUniformLine, IsLaminarLine, IsRankLine, labelled_parts_of, AreLabelsOf}
+use Rattle.sfm_text.specs.Parts.{LineParts, IsCutAt, IsLabelToken, IsRankHead, IsLabelledLine, IsUniformLine, IsLaminarLine, IsRankLine, AreLabelsOf}
+use Rattle.sfm_text.specs.CutParts.{AreLabelled, labelled_parts_of}
 use Rattle.sfm_text.proofs.Cutting.{front-same}
 use Rattle.sfm_text.proofs.Pieces.{uniform-same, laminar-same}
 use Rattle.sfm_text.proofs.Matches.{AllZip-same}
@@ -32,8 +33,8 @@ labelled-same rank word tokens p q h g =
     let both : h.number ∷ word ∷ codes ":" ∷ h.behind ≡ g.number ∷ word ∷ codes ":" ∷ g.behind = sym h.head.tokens_are ∙ g.head.tokens_are in
     let number : h.number ≡ g.number = cc in
     let behind : h.behind ≡ g.behind = cc in
-    let each : AllZip (IsLabelToken rank) g.behind h.entries = rw behind at h.labelled.each in
-    let entries : h.entries ≡ g.entries = AllZip-same (IsLabelToken rank) (token-same rank) g.behind h.entries g.entries each g.labelled.each in
+    let each : AllZip (IsLabelToken rank) g.behind h.entries = rw behind at h.each in
+    let entries : h.entries ≡ g.entries = AllZip-same (IsLabelToken rank) (token-same rank) g.behind h.entries g.entries each g.each in
     h.parts_are ∙ (rw (number, entries) refl ∙ sym g.parts_are)
 
 -- a line that begins so has the parts that its tokens have, or none
@@ -43,8 +44,9 @@ pub labelled-made : {P : Type 0} (f : P → LineParts) (rank : RankKind) (word :
 labelled-made f rank word tokens number behind head None none = λ parts line.
     let both : line.number ∷ word ∷ codes ":" ∷ line.behind ≡ number ∷ word ∷ codes ":" ∷ behind = sym line.head.tokens_are ∙ head.tokens_are in
     let same : line.behind ≡ behind = cc in
-    none line.entries (rw same at line.labelled)
-labelled-made f rank word tokens number behind head (Some parts) (entries, labelled, is) = record { number = number; behind = behind; entries = entries; head = head; labelled = labelled; parts_are = is }
+    let labelled : AreLabelled rank line.behind line.entries = record { some = line.some; each = line.each } in
+    none line.entries (rw same at labelled)
+labelled-made f rank word tokens number behind head (Some parts) (entries, labelled, is) = record { number = number; behind = behind; entries = entries; head = head; some = labelled.some; each = labelled.each; parts_are = is }
 
 -- a line with that rank is one of it
 abbrev pub IsLineOfRank : RankKind → List (List ℕ) → LineParts → Type 0

@@ -6,7 +6,8 @@ use Rattle.std.specs.List.{All}
 use Rattle.std.proofs.lemmas.List.{length-map, length-take, length-drop, take-map, drop-map, take_rest}
 use Rattle.std.proofs.lemmas.List.Elements.{All-map}
 use Rattle.sfm_spec.specs.Bounds.{IsAtMost, AreElements}
-use Rattle.sfm_text.specs.Parts.{LineParts, plain_parts, IsPairToken, IsSplitAt, IsTableCount, IsUniformLine, IsLaminarLine, IsLabelToken, IsLabelledLine}
+use Rattle.sfm_text.specs.Parts.{LineParts, plain_parts, IsPairToken, IsSplitAt, IsUniformLine, IsLaminarLine, IsLabelToken, IsLabelledLine}
+use Rattle.sfm_text.specs.CutParts.{IsTableCount}
 use Rattle.sfm_text.specs.Words.{lowest_of}
 use Rattle.sfm_text.specs.TermLines.{AreRead, IsNumberFrom}
 use Rattle.sfm_text.specs.declared.word.RankKind.{RankKind}
@@ -58,7 +59,7 @@ module _ (word : TermWord) (parts : LineParts) (values : List ℤ) (places : Lis
 
   -- and not negative, where none may be
   pub read-low : lowest_of word ≡ pos 0 → All (λ value. pos 0 ≤ℤ value) values
-  read-low zero = All-AllZip (IsNumberFrom (lowest_of word)) (λ value. pos 0 ≤ℤ value) (λ text value n. omega (arith, ints, zero, n.low)) parts.numbers values h.numbers
+  read-low zero = All-AllZip (IsNumberFrom (lowest_of word)) (λ value. pos 0 ≤ℤ value) (λ text value n. omega (arith, ints, zero, n.1)) parts.numbers values h.numbers
 
   read-elements : 1 ≤ length places → AreElements places
   read-elements some = record { some = omega (arith, some); placed = h.placed }
@@ -91,16 +92,16 @@ cover-elements parts values places h = read-elements CoverWord parts values plac
 pub table-count : (parts : LineParts) (values : List ℤ) (places : List ℕ) → AreRead TableWord parts values places → IsTableCount (length values) (length places)
 table-count parts values places h =
     let shape = h.shape in
-    let numbers : length values ≡ length shape.numbers = values-count TableWord parts values places h ∙ ap (λ (p : LineParts). length p.numbers) shape.parts_are in
-    let elements : length places ≡ length shape.elements = h.elements ∙ ap (λ (p : LineParts). length p.elements) shape.parts_are in
-    rw (numbers, elements) shape.count
+    let numbers : length values ≡ length shape.0 = values-count TableWord parts values places h ∙ ap (λ (p : LineParts). length p.numbers) shape.4 in
+    let elements : length places ≡ length shape.1 = h.elements ∙ ap (λ (p : LineParts). length p.elements) shape.4 in
+    rw (numbers, elements) shape.3
 
 pub concave-count : (parts : LineParts) (values : List ℤ) (places : List ℕ) → AreRead ConcaveWord parts values places → length values ≡ length places
 concave-count parts values places h =
-    omega (arith, values-count ConcaveWord parts values places h, h.elements, h.shape.count.same, ap (λ (p : LineParts). length p.numbers) h.shape.parts_are, ap (λ (p : LineParts). length p.elements) h.shape.parts_are)
+    omega (arith, values-count ConcaveWord parts values places h, h.elements, h.shape.3.1, ap (λ (p : LineParts). length p.numbers) h.shape.4, ap (λ (p : LineParts). length p.elements) h.shape.4)
 
 pub concave-elements : (parts : LineParts) (values : List ℤ) (places : List ℕ) → AreRead ConcaveWord parts values places → AreElements places
-concave-elements parts values places h = read-elements ConcaveWord parts values places h (omega (arith, h.elements, h.shape.count.some, ap (λ (p : LineParts). length p.elements) h.shape.parts_are))
+concave-elements parts values places h = read-elements ConcaveWord parts values places h (omega (arith, h.elements, h.shape.3.0, ap (λ (p : LineParts). length p.elements) h.shape.4))
 
 module _ (parts : LineParts) (values : List ℤ) (places : List ℕ) (h : AreRead RankWord parts values places) where
   pub rank-some : parts.rank ≡ NoRank → ⊥
@@ -126,7 +127,7 @@ module _ (parts : LineParts) (values : List ℤ) (places : List ℕ) (h : AreRea
         omega (arith, values-count RankWord parts values places h, ap (λ (p : LineParts). length p.numbers) l.parts_are, ap (λ (p : LineParts). length p.groups) l.parts_are, length-map l.groups (λ (g : List ℕ × List (List ℕ)). g.0), length-map l.groups (λ (g : List ℕ × List (List ℕ)). g.1))
 
     pub laminar-elements : AreElements places
-    laminar-elements = read-elements RankWord parts values places h (omega (arith, h.elements, as-laminar.cut.some, ap (λ (p : LineParts). length p.elements) as-laminar.parts_are))
+    laminar-elements = read-elements RankWord parts values places h (omega (arith, h.elements, as-laminar.some, ap (λ (p : LineParts). length p.elements) as-laminar.parts_are))
 
   -- what has been read of a line with labels
   module _ (rank : RankKind) (word : List ℕ) (line : IsLabelledLine rank word h.tokens parts) where
@@ -140,7 +141,7 @@ module _ (parts : LineParts) (values : List ℤ) (places : List ℕ) (h : AreRea
     labelled-each = ap (λ (p : LineParts). length p.labels) line.parts_are ∙ (length-map line.entries (λ (e : List ℕ × List (List ℕ)). e.1) ∙ sym entries-count)
 
     labelled-elements : AreElements places
-    labelled-elements = read-elements RankWord parts values places h (omega (arith, entries-count, line.labelled.some, length-AllZip (IsLabelToken rank) line.behind line.entries line.labelled.each))
+    labelled-elements = read-elements RankWord parts values places h (omega (arith, entries-count, line.some, length-AllZip (IsLabelToken rank) line.behind line.entries line.each))
 
   module _ (is : parts.rank ≡ GraphicRank) where
     as-graphic : IsLabelledLine GraphicRank (codes "graphic") h.tokens parts
@@ -159,7 +160,7 @@ module _ (parts : LineParts) (values : List ℤ) (places : List ℕ) (h : AreRea
     pub graphic-two : All (λ texts. length texts ≡ 2) parts.labels
     graphic-two =
         let line = as-graphic in
-        let each : All (λ (e : List ℕ × List (List ℕ)). length e.1 ≡ 2) line.entries = All-AllZip (IsLabelToken GraphicRank) (λ (e : List ℕ × List (List ℕ)). length e.1 ≡ 2) (λ token e edge. let (tail, head, ends, is) = edge.labels in ap length is) line.behind line.entries line.labelled.each in
+        let each : All (λ (e : List ℕ × List (List ℕ)). length e.1 ≡ 2) line.entries = All-AllZip (IsLabelToken GraphicRank) (λ (e : List ℕ × List (List ℕ)). length e.1 ≡ 2) (λ token e edge. let (tail, head, ends, is) = edge.labels in ap length is) line.behind line.entries line.each in
         let all = All-map (λ texts. length texts ≡ 2) (λ (e : List ℕ × List (List ℕ)). e.1) line.entries each in
         rw (ap (λ (p : LineParts). p.labels) line.parts_are) all
 

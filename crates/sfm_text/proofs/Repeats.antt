@@ -12,19 +12,13 @@ use Rattle.sfm_text.specs.TermLines.{StandsTwice}
 
 -- two places with one element
 pub twice-at : {X : Type 0} (xs : List X) (i j : ℕ) (d : X) → i < j → j < length xs → get_or xs i d ≡ get_or xs j d → StandsTwice xs
-twice-at xs i j d lt within e = record {
-  earlier = i;
-  later = j;
-  order = lt;
-  within = within;
-  same = slice_get-get_or xs i d (omega arith) ∙ (ap Some e ∙ sym (slice_get-get_or xs j d within));
-}
+twice-at xs i j d lt within e = (i, j, lt, within, slice_get-get_or xs i d (omega arith) ∙ (ap Some e ∙ sym (slice_get-get_or xs j d within)))
 
 -- and the way back
-pub twice-same : {X : Type 0} (xs : List X) (d : X) (h : StandsTwice xs) → get_or xs h.earlier d ≡ get_or xs h.later d
+pub twice-same : {X : Type 0} (xs : List X) (d : X) (h : StandsTwice xs) → get_or xs h.0 d ≡ get_or xs h.1 d
 twice-same xs d h =
-    let lt : h.earlier < length xs = omega (arith, h.order, h.within) in
-    same_Some (get_or xs h.earlier d) (get_or xs h.later d) (sym (slice_get-get_or xs h.earlier d lt) ∙ (h.same ∙ slice_get-get_or xs h.later d h.within))
+    let lt : h.0 < length xs = omega (arith, h.2, h.3) in
+    same_Some (get_or xs h.0 d) (get_or xs h.1 d) (sym (slice_get-get_or xs h.0 d lt) ∙ (h.4 ∙ slice_get-get_or xs h.1 d h.3))
 
 -- an element that stands before itself
 pub twice-seen : {X : Type 0} (xs : List X) (i : ℕ) (d : X) → i < length xs → Contains (take i xs) (get_or xs i d) → StandsTwice xs
@@ -46,21 +40,21 @@ pub once-more : {X : Type 0} (xs : List X) (i : ℕ) (d : X) → i < length xs �
 once-more xs i d lt once new h =
     let len : length (take (i + 1) xs) ≡ i + 1 = omega (arith, length-take (i + 1) xs) in
     let short : length (take i xs) ≡ i = omega (arith, length-take i xs) in
-    let k : ℕ = h.earlier in
-    let j : ℕ = h.later in
-    let order : h.earlier < h.later = h.order in
-    let most : h.later < i + 1 = omega (arith, h.within, len) in
-    let a : get_or (take (i + 1) xs) h.earlier d ≡ get_or xs h.earlier d = get_or-take (i + 1) xs h.earlier d (omega (arith, order, most)) in
-    let b : get_or (take (i + 1) xs) h.later d ≡ get_or xs h.later d = get_or-take (i + 1) xs h.later d most in
-    let same : get_or xs h.earlier d ≡ get_or xs h.later d = sym a ∙ (twice-same (take (i + 1) xs) d h ∙ b) in
+    let k : ℕ = h.0 in
+    let j : ℕ = h.1 in
+    let order : h.0 < h.1 = h.2 in
+    let most : h.1 < i + 1 = omega (arith, h.3, len) in
+    let a : get_or (take (i + 1) xs) h.0 d ≡ get_or xs h.0 d = get_or-take (i + 1) xs h.0 d (omega (arith, order, most)) in
+    let b : get_or (take (i + 1) xs) h.1 d ≡ get_or xs h.1 d = get_or-take (i + 1) xs h.1 d most in
+    let same : get_or xs h.0 d ≡ get_or xs h.1 d = sym a ∙ (twice-same (take (i + 1) xs) d h ∙ b) in
     ⊎_elim
-    (λ (inside : h.later < i).
-    once (twice-at (take i xs) h.earlier h.later d order (omega (arith, inside, short))
-    (get_or-take i xs h.earlier d (omega (arith, order, inside)) ∙ (same ∙ sym (get_or-take i xs h.later d inside)))))
-    (λ (last : i ≤ h.later).
-    let is : h.later ≡ i = omega (arith, last, most) in
-    new h.earlier d (omega (arith, order, is, short)) (get_or-take i xs h.earlier d (omega (arith, order, is)) ∙ (same ∙ ap (λ n. get_or xs n d) is)))
-    (cases_lt h.later i)
+    (λ (inside : h.1 < i).
+    once (twice-at (take i xs) h.0 h.1 d order (omega (arith, inside, short))
+    (get_or-take i xs h.0 d (omega (arith, order, inside)) ∙ (same ∙ sym (get_or-take i xs h.1 d inside)))))
+    (λ (last : i ≤ h.1).
+    let is : h.1 ≡ i = omega (arith, last, most) in
+    new h.0 d (omega (arith, order, is, short)) (get_or-take i xs h.0 d (omega (arith, order, is)) ∙ (same ∙ ap (λ n. get_or xs n d) is)))
+    (cases_lt h.1 i)
 
 -- texts: what stands at a place, and the first of them
 pub text-at : (texts : List (Bor (List ℕ))) (i : ℕ) (d : Bor (List ℕ)) → i < length texts → get_or (map (λ t. t.now) texts) i [] ≡ (get_or texts i d).now

@@ -27,7 +27,8 @@ use Rattle.sfm_matroid.specs.declared.graphic.Graphic as graphics
 use Rattle.sfm_matroid.specs.declared.transversal.Transversal as transversals
 use Rattle.sfm_kind.proofs.Bounds.{kind-elements, total_size-push, support-push, in_bounds-push}
 use Rattle.sfm_text.specs.Parts.{LineParts}
-use Rattle.sfm_text.specs.Words.{lowest_of, IsMadeOf, IsTermOf}
+use Rattle.sfm_text.specs.Words.{lowest_of, IsMadeOf}
+use Rattle.sfm_text.specs.ReadParts.{IsTermOf}
 use Rattle.sfm_text.specs.RankLines.{groups_of, IsRankMadeOf}
 use Rattle.sfm_text.specs.LabelTerms.{edge_between, numbers_of}
 use Rattle.sfm_text.specs.declared.word.RankKind.{RankKind}
@@ -157,13 +158,13 @@ pub record AgreeInTotal (s t : Kind) : Type 0 where
 pub stands-same : (names tokens : List (List ℕ)) (s t : Kind) → AllPairs (λ a b. a ≢ b) names → StandsFor names tokens s → StandsFor names tokens t → AgreeInTotal s t
 stands-same names tokens s t distinct h g =
     let P : TermWord → List (List ℕ) → LineParts → Type 0 = λ word rest parts. (values : List ℤ) × (places : List ℕ) × AllZip (IsNumberFrom (lowest_of word)) parts.numbers values × AllZip (IsElement names) parts.elements places × IsTermOf word parts values places t in
-    let (values, places, numbers, elements, made) = of-term-line h.word tokens h.rest h.parts P (h.shaped).first (h.shaped).shape (g.word, g.rest, g.parts, g.shaped, (g.values, g.places, g.numbers, g.elements, g.made)) in
+    let (values, places, numbers, elements, made) = of-term-line h.word tokens h.rest h.parts P h.shaped.0 h.shaped.1 (g.word, g.rest, g.parts, g.shaped, (g.values, g.places, g.numbers, g.elements, record { same_places = g.same_places; made = g.made })) in
     let same_values : values ≡ h.values = AllZip-same (IsNumberFrom (lowest_of h.word)) (from-same (lowest_of h.word)) h.parts.numbers values h.values numbers h.numbers in
     let same_places : places ≡ h.places = AllZip-same (IsElement names) (place-same names distinct) h.parts.elements places h.places elements h.elements in
     let made' : IsTermOf h.word h.parts h.values h.places t = rw (same_values, same_places) at made in
     record {
-      places = (h.made).same_places ∙ sym made'.same_places;
-      size = term-size h.word h.parts h.values h.places s t h.made made';
+      places = h.same_places ∙ sym made'.same_places;
+      size = term-size h.word h.parts h.values h.places s t (record { same_places = h.same_places; made = h.made }) made';
     }
 
 -- so there is too much with the one exactly where there is with the other
@@ -176,7 +177,7 @@ much-same terms s t same (inr (inr (meant, means, many))) =
 -- the places of the term are places of the ground
 pub stands-placed : (names tokens : List (List ℕ)) (term : Kind) → StandsFor names tokens term → IsPlaced (length names) (kind_places term)
 stands-placed names tokens term h =
-    let is : kind_places term ≡ h.places = (h.made).same_places in
+    let is : kind_places term ≡ h.places = h.same_places in
     let n = length-AllZip (IsElement names) h.parts.elements h.places h.elements in
     record {
       below = λ j lt.

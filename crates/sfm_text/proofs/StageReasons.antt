@@ -125,18 +125,18 @@ module _ (i : InstanceData) (line : List ℕ) where
     end-shape more = record {
       holds = (
         λ e. let both : codes "end" ∷ rest ≡ codes "end" ∷ [] = sym is.tokens_are ∙ e in let none : rest ≡ [] = cc in more none,
-        λ word rest' parts shaped. no-term-line word rest' shaped.first,
+        λ word rest' parts shaped. no-term-line word rest' shaped.0,
       );
       first = none-below (state_at Terms i) line 3 (λ lt h. is.good_bytes h) (λ lt h. h.0 rest is.tokens_are) (λ lt. absurd (omega arith)) (λ lt. absurd (omega arith)) (λ lt. absurd (omega arith)) (λ lt. absurd (omega arith)) (λ lt. absurd (omega arith)) (λ lt. absurd (omega arith));
     }
 
     no-parts : (P : TermWord → List (List ℕ) → LineParts → Type 0) → HasTermLine (tokens_of line) P → ⊥
-    no-parts P (word, rest', parts, shaped, p) = no-term-line word rest' shaped.first
+    no-parts P (word, rest', parts, shaped, p) = no-term-line word rest' shaped.0
 
     pub end-good : rest ≡ [] → Takes (state_at Terms i) line (state_at Ended i)
     end-good none =
         let tokens : tokens_of line ≡ codes "end" ∷ [] = is.tokens_are ∙ ap (λ (r : List (List ℕ)). codes "end" ∷ r) none in
         record {
-          good = none-at-all (state_at Terms i) line is.good_bytes (λ h. h.0 rest is.tokens_are) (λ h. h.0 tokens) (no-parts _) (no-parts _) (no-parts _) (no-parts _) (λ (term, stands, much). no-term-line stands.word stands.rest (stands.shaped).first);
+          good = none-at-all (state_at Terms i) line is.good_bytes (λ h. h.0 rest is.tokens_are) (λ h. h.0 tokens) (no-parts _) (no-parts _) (no-parts _) (no-parts _) (λ (term, stands, much). no-term-line stands.word stands.rest stands.shaped.0);
           adds = inl (tokens, refl);
         }

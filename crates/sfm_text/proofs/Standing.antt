@@ -12,16 +12,17 @@ use Rattle.sfm_kind.specs.Instance.{InstanceData}
 use Rattle.sfm_text.specs.declared.end.TextEnd.{TextEnd}
 use Rattle.sfm_text.specs.declared.line_fault.Fault.{Fault}
 use Rattle.sfm_text.specs.declared.reader.Reader.{Reader}
-use Rattle.sfm_text.specs.Lines.{TextLine, pieces_of, without_empty_last, numbered, content_among, content_of, lines_of, tokens_of, are_skipped}
+use Rattle.sfm_text.specs.Lines.{pieces_of, without_empty_last, content_of, lines_of, tokens_of, are_skipped}
 use Rattle.sfm_text.specs.Reading.{start, Takes}
 use Rattle.sfm_text.specs.declared.reason.Reason.TheVariants.{Long, Short}
 use Rattle.sfm_text.specs.declared.stage.Stage.{Stage}
 use Rattle.sfm_text.specs.declared.stage.Stage.TheVariants.{Ended}
-use Rattle.sfm_text.specs.GoodText.{text_limit, bytes_of, HasFaultyLine, IsTextOf, IsRefusalOf, IsFaultOf, is_long, is_faulty, is_short}
-use Rattle.sfm_text.specs.Standing.{Progress, progress_of, LeadTo, IsOpen, IsFaulty, HasRead, Stands, PassesLine, FailsLine, JudgesLine, LeadsTo, HasReadAll}
+use Rattle.sfm_text.specs.GoodText.{text_limit, HasFaultyLine, IsTextOf, IsRefusalOf, IsFaultOf, is_long, is_faulty, is_short}
+use Rattle.sfm_text.specs.Standing.{numbered, is_content, content_among, bytes_of, Progress, progress_of, LeadTo, IsOpen, IsFaulty, HasRead, Stands, PassesLine, FailsLine, JudgesLine, LeadsTo, HasReadAll}
 use Rattle.sfm_text.proofs.LineCuts.{without_empty_last-cons, without_empty_last-one, rest-is}
 use Rattle.sfm_text.proofs.Cutting.{cut-at}
 use Rattle.sfm_text.proofs.Following.{lines-push}
+use Rattle.sfm_text.proofs.Orders.{first_listed}
 use Rattle.sfm_text.proofs.Appended.{pieces-more, pieces-longer, pieces-ended, some-pieces, without-last, numbered-append}
 
 filter-yes : {X : Type 0} (p : X → Bool) (x : X) (xs : List X) → p x ≡ true → filter p (x ∷ xs) ≡ x ∷ filter p xs
@@ -30,42 +31,30 @@ filter-yes p x xs e = rw e refl
 filter-no : {X : Type 0} (p : X → Bool) (x : X) (xs : List X) → p x ≡ false → filter p (x ∷ xs) ≡ filter p xs
 filter-no p x xs e = rw e refl
 
-length-numbered : (number place : ℕ) (pieces : List (List ℕ)) → length (numbered number place pieces) ≡ length pieces
-length-numbered number place [] = refl
-length-numbered number place (piece ∷ pieces) =
-    let more = length-numbered (number + 1) (place + length piece + 1) pieces in
-    omega (arith, more)
+length-numbered : (number : ℕ) (pieces : List (List ℕ)) → length (numbered number pieces) ≡ length pieces
+length-numbered number [] = refl
+length-numbered number (piece ∷ pieces) = omega (arith, length-numbered (number + 1) pieces)
 
 -- the line of a piece behind those that have ended
-abbrev line_behind : List (List ℕ) → ℕ → List ℕ → TextLine
-line_behind ended place piece = record { number = 1 + length ended; start = place; bytes = strip_carriage_return piece }
-
--- whether a line counts
-abbrev is_content : TextLine → Bool
-is_content line = not (are_skipped (tokens_of line.bytes))
+abbrev line_behind : List (List ℕ) → List ℕ → ℕ × List ℕ
+line_behind ended piece = (1 + length ended, strip_carriage_return piece)
 
 -- the content lines among those that have ended, one more, and more behind it
-content-parts : (ended : List (List ℕ)) (piece : List ℕ) (more : List (List ℕ)) → (place : ℕ) × (content_among (numbered 1 0 (ended ++ piece ∷ more)) ≡ content_among (numbered 1 0 ended) ++ content_among (line_behind ended place piece ∷ numbered (1 + length ended + 1) (place + length piece + 1) more))
-content-parts ended piece more =
-    let (place, e) = numbered-append 1 0 ended (piece ∷ more) in
-    (place, ap content_among e ∙ filter-append is_content (numbered 1 0 ended) (numbered (1 + length ended) place (piece ∷ more)))
+content-parts : (ended : List (List ℕ)) (piece : List ℕ) (more : List (List ℕ)) → content_among (numbered 1 (ended ++ piece ∷ more)) ≡ content_among (numbered 1 ended) ++ content_among (line_behind ended piece ∷ numbered (1 + length ended + 1) more)
+content-parts ended piece more = ap content_among (numbered-append 1 ended (piece ∷ more)) ∙ filter-append is_content (numbered 1 ended) (numbered (1 + length ended) (piece ∷ more))
 
-content-yes : (ended : List (List ℕ)) (piece : List ℕ) (more : List (List ℕ)) → are_skipped (tokens_of (strip_carriage_return piece)) ≡ false → (place : ℕ) × (content_among (numbered 1 0 (ended ++ piece ∷ more)) ≡ content_among (numbered 1 0 ended) ++ line_behind ended place piece ∷ content_among (numbered (1 + length ended + 1) (place + length piece + 1) more))
+content-yes : (ended : List (List ℕ)) (piece : List ℕ) (more : List (List ℕ)) → are_skipped (tokens_of (strip_carriage_return piece)) ≡ false → content_among (numbered 1 (ended ++ piece ∷ more)) ≡ content_among (numbered 1 ended) ++ line_behind ended piece ∷ content_among (numbered (1 + length ended + 1) more)
 content-yes ended piece more counts =
-    let (place, e) = content-parts ended piece more in
-    let line : TextLine = line_behind ended place piece in
-    let here = filter-yes is_content line (numbered (1 + length ended + 1) (place + length piece + 1) more) (ap not counts) in
-    (place, e ∙ ap (λ (l : List TextLine). content_among (numbered 1 0 ended) ++ l) here)
+    let here = filter-yes is_content (line_behind ended piece) (numbered (1 + length ended + 1) more) (ap not counts) in
+    content-parts ended piece more ∙ ap (λ (l : List (ℕ × List ℕ)). content_among (numbered 1 ended) ++ l) here
 
-content-no : (ended : List (List ℕ)) (piece : List ℕ) → are_skipped (tokens_of (strip_carriage_return piece)) ≡ true → content_among (numbered 1 0 (ended ++ piece ∷ [])) ≡ content_among (numbered 1 0 ended)
+content-no : (ended : List (List ℕ)) (piece : List ℕ) → are_skipped (tokens_of (strip_carriage_return piece)) ≡ true → content_among (numbered 1 (ended ++ piece ∷ [])) ≡ content_among (numbered 1 ended)
 content-no ended piece skipped =
-    let (place, e) = content-parts ended piece [] in
-    let line : TextLine = line_behind ended place piece in
-    let none = filter-no is_content line [] (ap not skipped) in
-    e ∙ (ap (λ (l : List TextLine). content_among (numbered 1 0 ended) ++ l) none ∙ append-nil (content_among (numbered 1 0 ended)))
+    let none = filter-no is_content (line_behind ended piece) [] (ap not skipped) in
+    content-parts ended piece [] ∙ (ap (λ (l : List (ℕ × List ℕ)). content_among (numbered 1 ended) ++ l) none ∙ append-nil (content_among (numbered 1 ended)))
 
-abbrev number_of : TextLine → ℕ
-number_of line = line.number
+abbrev number_of : ℕ × List ℕ → ℕ
+number_of line = line.0
 
 -- one more line that passes
 lead-passes : (ended : List (List ℕ)) (piece : List ℕ) (p q : Progress) → LeadTo ended p → PassesLine p (strip_carriage_return piece) q → LeadTo (ended ++ piece ∷ []) q
@@ -76,15 +65,15 @@ lead-passes ended piece p q lead passes = at passes.kept
 
     at : ((are_skipped (tokens_of (strip_carriage_return piece)) ≡ false) × (q.numbers ≡ p.numbers ++ (p.lines + 1) ∷ []) × Takes p.state (strip_carriage_return piece) q.state) ⊎ ((are_skipped (tokens_of (strip_carriage_return piece)) ≡ true) × (q.numbers ≡ p.numbers) × (q.state ≡ p.state)) → LeadTo (ended ++ piece ∷ []) q
     at (inl (counts, more, takes)) =
-        let (place, e) = content-yes ended piece [] counts in
-        let before = content_among (numbered 1 0 ended) in
-        let line : TextLine = line_behind ended place piece in
+        let e = content-yes ended piece [] counts in
+        let before = content_among (numbered 1 ended) in
+        let line : ℕ × List ℕ = line_behind ended piece in
         let number : p.lines + 1 ≡ 1 + length ended = omega (arith, lead.count) in
         let good = lines-push start before p.state line q.state lead.good takes in
         record {
           count = count;
           numbers = more ∙ (rw (lead.numbers, number) (sym (map-append number_of before (line ∷ []))) ∙ ap (map number_of) (sym e));
-          good = subst (λ (lines : List TextLine). FoldsTo Takes start (bytes_of lines) q.state) (sym e) good;
+          good = subst (λ (lines : List (ℕ × List ℕ)). FoldsTo Takes start (bytes_of lines) q.state) (sym e) good;
         }
     at (inr (skipped, same, state)) =
         let e = content-no ended piece skipped in
@@ -95,27 +84,27 @@ lead-passes ended piece p q lead passes = at passes.kept
         }
 
 -- one more line, with a fault, in a text with more lines behind it
-faulty-line : (text : List ℕ) (ended : List (List ℕ)) (piece : List ℕ) (more : List (List ℕ)) (p : Progress) (fault : Fault) → lines_of text ≡ numbered 1 0 (ended ++ piece ∷ more) → LeadTo ended p → FailsLine p (strip_carriage_return piece) fault → HasFaultyLine text fault.line fault.reason
+faulty-line : (text : List ℕ) (ended : List (List ℕ)) (piece : List ℕ) (more : List (List ℕ)) (p : Progress) (fault : Fault) → lines_of text ≡ numbered 1 (ended ++ piece ∷ more) → LeadTo ended p → FailsLine p (strip_carriage_return piece) fault → HasFaultyLine text fault.line fault.reason
 faulty-line text ended piece more p fault lines lead fails =
-    let (place, e) = content-yes ended piece more fails.counts in
+    let e = content-yes ended piece more fails.counts in
+    let number : 1 + length ended ≡ fault.line = omega (arith, fails.line_is, lead.count) in
     record {
-      before = content_among (numbered 1 0 ended);
-      line = line_behind ended place piece;
-      after = content_among (numbered (1 + length ended + 1) (place + length piece + 1) more);
+      before = content_among (numbered 1 ended);
+      line = strip_carriage_return piece;
+      after = content_among (numbered (1 + length ended + 1) more);
       state = p.state;
-      content = ap content_among lines ∙ e;
-      numbered = omega (arith, fails.line_is, lead.count);
+      content = ap content_among lines ∙ (e ∙ ap (λ (n : ℕ). content_among (numbered 1 ended) ++ (n, strip_carriage_return piece) ∷ content_among (numbered (1 + length ended + 1) more)) number);
       good = lead.good;
-      fault = fails.reason;
+      fault = first_listed p.state (strip_carriage_return piece) fault.reason fails.reason;
     }
 
 -- the lines of a text whose last piece has ended, and of what comes behind it
-lines-behind : (text more : List ℕ) (ended : List (List ℕ)) (rest : List ℕ) → pieces_of 10 text ≡ ended ++ rest ∷ [] → lines_of ((text ++ 10 ∷ []) ++ more) ≡ numbered 1 0 (ended ++ rest ∷ without_empty_last (pieces_of 10 more))
+lines-behind : (text more : List ℕ) (ended : List (List ℕ)) (rest : List ℕ) → pieces_of 10 text ≡ ended ++ rest ∷ [] → lines_of ((text ++ 10 ∷ []) ++ more) ≡ numbered 1 (ended ++ rest ∷ without_empty_last (pieces_of 10 more))
 lines-behind text more ended rest cut =
     let longer : pieces_of 10 (text ++ 10 ∷ more) ≡ ended ++ (rest ++ []) ∷ pieces_of 10 more = pieces-more text (10 ∷ more) ended rest cut in
     let whole : pieces_of 10 ((text ++ 10 ∷ []) ++ more) ≡ ended ++ rest ∷ pieces_of 10 more = ap (pieces_of 10) (append_assoc text (10 ∷ []) more) ∙ (longer ∙ ap (λ (r : List ℕ). ended ++ r ∷ pieces_of 10 more) (append-nil rest)) in
     let kept = without_empty_last-cons rest (pieces_of 10 more) (some-pieces (λ c. c == 10) more) in
-    ap (λ (pieces : List (List ℕ)). numbered 1 0 (without_empty_last pieces)) whole ∙ ap (numbered 1 0) (without-last ended rest (pieces_of 10 more) ∙ ap (λ (l : List (List ℕ)). ended ++ l) kept)
+    ap (λ (pieces : List (List ℕ)). numbered 1 (without_empty_last pieces)) whole ∙ ap (numbered 1) (without-last ended rest (pieces_of 10 more) ∙ ap (λ (l : List (List ℕ)). ended ++ l) kept)
 
 -- a line feed ends the line: it has been judged
 pub line-ended : (text rest : List ℕ) (p q : Progress) (fault : Option Fault) → IsOpen p rest text → MatchOption fault (PassesLine p (strip_carriage_return rest) q) (FailsLine p (strip_carriage_return rest)) → MatchOption fault (IsOpen q [] (text ++ 10 ∷ [])) (λ f. IsFaulty f (text ++ 10 ∷ []))
@@ -221,25 +210,25 @@ some-count (suc n) h = omega arith
 pub open-last : (text rest : List ℕ) (p : Progress) → rest ≡ [] → IsOpen p rest text → LeadsTo text p
 open-last text rest p none is =
     let cut : pieces_of 10 text ≡ is.ended ++ [] ∷ [] = is.cut ∙ ap (λ (r : List ℕ). is.ended ++ r ∷ []) none in
-    let lines : lines_of text ≡ numbered 1 0 is.ended = ap (λ (pieces : List (List ℕ)). numbered 1 0 (without_empty_last pieces)) cut ∙ ap (numbered 1 0) (without-last is.ended [] [] ∙ append-nil is.ended) in
+    let lines : lines_of text ≡ numbered 1 is.ended = ap (λ (pieces : List (List ℕ)). numbered 1 (without_empty_last pieces)) cut ∙ ap (numbered 1) (without-last is.ended [] [] ∙ append-nil is.ended) in
     record {
-      count = (is.lead).count ∙ sym (ap length lines ∙ length-numbered 1 0 is.ended);
-      good = subst (λ (l : List TextLine). FoldsTo Takes start (bytes_of (content_among l)) p.state) (sym lines) (is.lead).good;
+      count = (is.lead).count ∙ sym (ap length lines ∙ length-numbered 1 is.ended);
+      good = subst (λ (l : List (ℕ × List ℕ)). FoldsTo Takes start (bytes_of (content_among l)) p.state) (sym lines) (is.lead).good;
     }
 
 -- a text whose last line does not end with a line feed
 pub line-last : (text piece : List ℕ) (old new : Reader) → 0 < length old.rest.items → IsOpen (progress_of old) old.rest.items text → piece ≡ old.rest.items → JudgesLine old piece new → HasReadAll new text
 line-last text piece old new some is same judged = at new.fault (subst (λ (l : List ℕ). JudgesLine old l new) same judged)
   where
-    lines : lines_of text ≡ numbered 1 0 (is.ended ++ old.rest.items ∷ [])
-    lines = ap (λ (pieces : List (List ℕ)). numbered 1 0 (without_empty_last pieces)) is.cut ∙ ap (numbered 1 0) (without-last is.ended old.rest.items [] ∙ ap (λ (l : List (List ℕ)). is.ended ++ l) (without_empty_last-one old.rest.items some))
+    lines : lines_of text ≡ numbered 1 (is.ended ++ old.rest.items ∷ [])
+    lines = ap (λ (pieces : List (List ℕ)). numbered 1 (without_empty_last pieces)) is.cut ∙ ap (numbered 1) (without-last is.ended old.rest.items [] ∙ ap (λ (l : List (List ℕ)). is.ended ++ l) (without_empty_last-one old.rest.items some))
 
     at : (fault : Option Fault) → MatchOption fault (PassesLine (progress_of old) (strip_carriage_return old.rest.items) (progress_of new)) (FailsLine (progress_of old) (strip_carriage_return old.rest.items)) → MatchOption fault (LeadsTo text (progress_of new)) (λ f. HasFaultyLine text f.line f.reason)
     at None passes =
         let lead = lead-passes is.ended old.rest.items (progress_of old) (progress_of new) is.lead passes in
         record {
-          count = lead.count ∙ sym (ap length lines ∙ length-numbered 1 0 (is.ended ++ old.rest.items ∷ []));
-          good = subst (λ (l : List TextLine). FoldsTo Takes start (bytes_of (content_among l)) (progress_of new).state) (sym lines) lead.good;
+          count = lead.count ∙ sym (ap length lines ∙ length-numbered 1 (is.ended ++ old.rest.items ∷ []));
+          good = subst (λ (l : List (ℕ × List ℕ)). FoldsTo Takes start (bytes_of (content_among l)) (progress_of new).state) (sym lines) lead.good;
         }
     at (Some fault) fails = faulty-line text is.ended old.rest.items [] (progress_of old) fault lines is.lead fails
 
@@ -293,7 +282,7 @@ leads reader text none all = at reader.fault none all
 pub conclude-short : (reader : Reader) (text : List ℕ) → length text ≤ text_limit → HasReadAll reader text → reader.fault ≡ None → reader.reading.stage ≢ Ended → IsFaultOf text (reader.lines + 1) Short
 conclude-short reader text short all none stage =
     let lead = leads reader text none all in
-    is_short (ap (λ (n : ℕ). n + 1) lead.count) refl short (record { state = (progress_of reader).state; good = lead.good; open_ = stage })
+    is_short (ap (λ (n : ℕ). n + 1) lead.count) refl short ((progress_of reader).state, lead.good, stage)
 
 -- no fault, and the end
 pub conclude-good : (reader : Reader) (text : List ℕ) → length text ≤ text_limit → HasReadAll reader text → reader.fault ≡ None → reader.reading.stage ≡ Ended → IsTextOf text reader.reading.instance.names reader.reading.instance.terms

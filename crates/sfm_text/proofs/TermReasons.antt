@@ -57,22 +57,22 @@ place-same names distinct text a b h g =
 pub twice-places : (names texts : List (List ℕ)) (places : List ℕ) → AllZip (IsElement names) texts places → StandsTwice places → StandsTwice texts
 twice-places names texts places h t =
     let len = length-AllZip (IsElement names) texts places h in
-    let lt : t.earlier < length texts = omega (arith, len, t.order, t.within) in
-    let lt' : t.later < length texts = omega (arith, len, t.within) in
-    let a = AllZip-both (IsElement names) texts places t.earlier [] 0 h lt in
-    let b = AllZip-both (IsElement names) texts places t.later [] 0 h lt' in
-    let same : get_or places t.earlier 0 ≡ get_or places t.later 0 = twice-same places 0 t in
-    twice-at texts t.earlier t.later [] t.order lt' (same_Some (get_or texts t.earlier []) (get_or texts t.later []) (sym a ∙ (ap (λ e. slice_get names e) same ∙ b)))
+    let lt : t.0 < length texts = omega (arith, len, t.2, t.3) in
+    let lt' : t.1 < length texts = omega (arith, len, t.3) in
+    let a = AllZip-both (IsElement names) texts places t.0 [] 0 h lt in
+    let b = AllZip-both (IsElement names) texts places t.1 [] 0 h lt' in
+    let same : get_or places t.0 0 ≡ get_or places t.1 0 = twice-same places 0 t in
+    twice-at texts t.0 t.1 [] t.2 lt' (same_Some (get_or texts t.0 []) (get_or texts t.1 []) (sym a ∙ (ap (λ e. slice_get names e) same ∙ b)))
 
 pub twice-texts : (names texts : List (List ℕ)) (places : List ℕ) → AllPairs (λ a b. a ≢ b) names → AllZip (IsElement names) texts places → StandsTwice texts → StandsTwice places
 twice-texts names texts places distinct h t =
     let len = length-AllZip (IsElement names) texts places h in
-    let lt : t.earlier < length texts = omega (arith, t.order, t.within) in
-    let a = AllZip-both (IsElement names) texts places t.earlier [] 0 h lt in
-    let b = AllZip-both (IsElement names) texts places t.later [] 0 h t.within in
-    let same : get_or texts t.earlier [] ≡ get_or texts t.later [] = twice-same texts [] t in
-    let a' : IsElement names (get_or texts t.later []) (get_or places t.earlier 0) = a ∙ ap (λ (l : List ℕ). Some l) same in
-    twice-at places t.earlier t.later 0 t.order (omega (arith, len, t.within)) (place-same names distinct (get_or texts t.later []) (get_or places t.earlier 0) (get_or places t.later 0) a' b)
+    let lt : t.0 < length texts = omega (arith, t.2, t.3) in
+    let a = AllZip-both (IsElement names) texts places t.0 [] 0 h lt in
+    let b = AllZip-both (IsElement names) texts places t.1 [] 0 h t.3 in
+    let same : get_or texts t.0 [] ≡ get_or texts t.1 [] = twice-same texts [] t in
+    let a' : IsElement names (get_or texts t.1 []) (get_or places t.0 0) = a ∙ ap (λ (l : List ℕ). Some l) same in
+    twice-at places t.0 t.1 0 t.2 (omega (arith, len, t.3)) (place-same names distinct (get_or texts t.1 []) (get_or places t.0 0) (get_or places t.1 0) a' b)
 
 -- places of elements that do not stand twice
 pub elements-placed : (names texts : List (List ℕ)) (places : List ℕ) → length names ≤ 256 → AllZip (IsElement names) texts places → (StandsTwice places → ⊥) → IsPlaced 256 places
@@ -104,10 +104,10 @@ module _ (instance : InstanceData) (word : TermWord) (rest : List (List ℕ)) (l
   module _ (parts : LineParts) (shape : HasParts word rest parts) where
     -- the line has these parts
     pub none-number : (reason : Reason) → reason_order reason < 4 → Has (state_at Terms instance) line reason → ⊥
-    none-number = none-below (state_at Terms instance) line 4 (λ lt h. is.good_bytes h) (λ lt h. h.1 word rest is.tokens_are) (λ lt h. h.1 word rest parts (record { first = is.tokens_are; shape = shape })) (λ lt. absurd (omega arith)) (λ lt. absurd (omega arith)) (λ lt. absurd (omega arith)) (λ lt. absurd (omega arith)) (λ lt. absurd (omega arith))
+    none-number = none-below (state_at Terms instance) line 4 (λ lt h. is.good_bytes h) (λ lt h. h.1 word rest is.tokens_are) (λ lt h. h.1 word rest parts (is.tokens_are, shape)) (λ lt. absurd (omega arith)) (λ lt. absurd (omega arith)) (λ lt. absurd (omega arith)) (λ lt. absurd (omega arith)) (λ lt. absurd (omega arith))
 
     pub at-number : Any (λ text. (value : ℤ) → IsNumberFrom (lowest_of word) text value → ⊥) parts.numbers → FirstReason (state_at Terms instance) line Number
-    at-number any = record { holds = (word, rest, parts, record { first = is.tokens_are; shape = shape }, any); first = none-number }
+    at-number any = record { holds = (word, rest, parts, (is.tokens_are, shape), any); first = none-number }
 
     module _ (values : List ℤ) (numbers : AllZip (IsNumberFrom (lowest_of word)) parts.numbers values) where
       no-number : Has (state_at Terms instance) line Number → ⊥
@@ -118,23 +118,23 @@ module _ (instance : InstanceData) (word : TermWord) (rest : List (List ℕ)) (l
 
       -- the numbers are good
       pub none-name : (reason : Reason) → reason_order reason < 5 → Has (state_at Terms instance) line reason → ⊥
-      none-name = none-below (state_at Terms instance) line 5 (λ lt h. is.good_bytes h) (λ lt h. h.1 word rest is.tokens_are) (λ lt h. h.1 word rest parts (record { first = is.tokens_are; shape = shape })) (λ lt h. no-number h) (λ lt. absurd (omega arith)) (λ lt. absurd (omega arith)) (λ lt. absurd (omega arith)) (λ lt. absurd (omega arith))
+      none-name = none-below (state_at Terms instance) line 5 (λ lt h. is.good_bytes h) (λ lt h. h.1 word rest is.tokens_are) (λ lt h. h.1 word rest parts (is.tokens_are, shape)) (λ lt h. no-number h) (λ lt. absurd (omega arith)) (λ lt. absurd (omega arith)) (λ lt. absurd (omega arith)) (λ lt. absurd (omega arith))
 
       pub at-name : Any (IsNewName instance.names) parts.elements → FirstReason (state_at Terms instance) line Name
       at-name (k, text, lt, e, new) = record {
-        holds = (word, rest, parts, record { first = is.tokens_are; shape = shape }, inl (k, text, lt, e, λ form (j, within, same). new j text within same));
+        holds = (word, rest, parts, (is.tokens_are, shape), inl (k, text, lt, e, λ form (j, within, same). new j text within same));
         first = none-name;
       }
 
       pub at-stranger : HasStranger parts → FirstReason (state_at Terms instance) line Name
       at-stranger stranger = record {
-        holds = (word, rest, parts, record { first = is.tokens_are; shape = shape }, inr (inl stranger));
+        holds = (word, rest, parts, (is.tokens_are, shape), inr (inl stranger));
         first = none-name;
       }
 
       pub at-label : HasWrongLabel parts → FirstReason (state_at Terms instance) line Name
       at-label wrong = record {
-        holds = (word, rest, parts, record { first = is.tokens_are; shape = shape }, inr (inr wrong));
+        holds = (word, rest, parts, (is.tokens_are, shape), inr (inr wrong));
         first = none-name;
       }
 
@@ -165,23 +165,23 @@ module _ (instance : InstanceData) (word : TermWord) (rest : List (List ℕ)) (l
 
         -- the elements are names of the ground, the members are elements, and the labels have the form of names
         pub none-twice : (reason : Reason) → reason_order reason < 6 → Has (state_at Terms instance) line reason → ⊥
-        none-twice = none-below (state_at Terms instance) line 6 (λ lt h. is.good_bytes h) (λ lt h. h.1 word rest is.tokens_are) (λ lt h. h.1 word rest parts (record { first = is.tokens_are; shape = shape })) (λ lt h. no-number h) (λ lt h. no-name h) (λ lt. absurd (omega arith)) (λ lt. absurd (omega arith)) (λ lt. absurd (omega arith))
+        none-twice = none-below (state_at Terms instance) line 6 (λ lt h. is.good_bytes h) (λ lt h. h.1 word rest is.tokens_are) (λ lt h. h.1 word rest parts (is.tokens_are, shape)) (λ lt h. no-number h) (λ lt h. no-name h) (λ lt. absurd (omega arith)) (λ lt. absurd (omega arith)) (λ lt. absurd (omega arith))
 
         pub at-twice : StandsTwice places → FirstReason (state_at Terms instance) line Twice
         at-twice t = record {
-          holds = (word, rest, parts, record { first = is.tokens_are; shape = shape }, inl (twice-places instance.names parts.elements places elements t));
+          holds = (word, rest, parts, (is.tokens_are, shape), inl (twice-places instance.names parts.elements places elements t));
           first = none-twice;
         }
 
         pub at-member-twice : Any (λ names. StandsTwice names) parts.groups → FirstReason (state_at Terms instance) line Twice
         at-member-twice any = record {
-          holds = (word, rest, parts, record { first = is.tokens_are; shape = shape }, inr (inl any));
+          holds = (word, rest, parts, (is.tokens_are, shape), inr (inl any));
           first = none-twice;
         }
 
         pub at-slot-twice : HasSlotTwice parts.rank parts.labels → FirstReason (state_at Terms instance) line Twice
         at-slot-twice twice = record {
-          holds = (word, rest, parts, record { first = is.tokens_are; shape = shape }, inr (inr twice));
+          holds = (word, rest, parts, (is.tokens_are, shape), inr (inr twice));
           first = none-twice;
         }
 
@@ -196,11 +196,11 @@ module _ (instance : InstanceData) (word : TermWord) (rest : List (List ℕ)) (l
 
           -- no element stands twice
           pub none-law : (reason : Reason) → reason_order reason < 7 → Has (state_at Terms instance) line reason → ⊥
-          none-law = none-below (state_at Terms instance) line 7 (λ lt h. is.good_bytes h) (λ lt h. h.1 word rest is.tokens_are) (λ lt h. h.1 word rest parts (record { first = is.tokens_are; shape = shape })) (λ lt h. no-number h) (λ lt h. no-name h) (λ lt h. no-twice h) (λ lt. absurd (omega arith)) (λ lt. absurd (omega arith))
+          none-law = none-below (state_at Terms instance) line 7 (λ lt h. is.good_bytes h) (λ lt h. h.1 word rest is.tokens_are) (λ lt h. h.1 word rest parts (is.tokens_are, shape)) (λ lt h. no-number h) (λ lt h. no-name h) (λ lt h. no-twice h) (λ lt. absurd (omega arith)) (λ lt. absurd (omega arith))
 
           pub at-law : BreaksLaw word parts values → FirstReason (state_at Terms instance) line Law
           at-law breaks = record {
-            holds = (word, rest, parts, record { first = is.tokens_are; shape = shape }, (values, numbers, breaks));
+            holds = (word, rest, parts, (is.tokens_are, shape), (values, numbers, breaks));
             first = none-law;
           }
 
@@ -213,4 +213,4 @@ module _ (instance : InstanceData) (word : TermWord) (rest : List (List ℕ)) (l
 
             -- the law is kept
             pub none-total : (reason : Reason) → reason_order reason < 8 → Has (state_at Terms instance) line reason → ⊥
-            none-total = none-below (state_at Terms instance) line 8 (λ lt h. is.good_bytes h) (λ lt h. h.1 word rest is.tokens_are) (λ lt h. h.1 word rest parts (record { first = is.tokens_are; shape = shape })) (λ lt h. no-number h) (λ lt h. no-name h) (λ lt h. no-twice h) (λ lt h. no-law h) (λ lt. absurd (omega arith))
+            none-total = none-below (state_at Terms instance) line 8 (λ lt h. is.good_bytes h) (λ lt h. h.1 word rest is.tokens_are) (λ lt h. h.1 word rest parts (is.tokens_are, shape)) (λ lt h. no-number h) (λ lt h. no-name h) (λ lt h. no-twice h) (λ lt h. no-law h) (λ lt. absurd (omega arith))

@@ -1,6 +1,7 @@
 -- A line has one word and one list of parts.
 use Rattle.std.proofs.Common.{◌≡◌, ℕ, List, ◌∷◌, get_or, map, codes, nat_eq, if◌then◌else◌, refl, sym, ap, ◌∙◌, arith}
-use Rattle.sfm_text.specs.Parts.{LineParts, plain_parts, IsPairToken, IsWeightLine, IsSplitAt, IsColonLine, IsTableCount, IsConcaveCount}
+use Rattle.sfm_text.specs.Parts.{LineParts, plain_parts, IsPairToken, IsWeightLine, IsSplitAt, IsColonLine}
+use Rattle.sfm_text.specs.CutParts.{IsTableCount, IsConcaveCount}
 use Rattle.sfm_text.specs.Words.{HasParts, word_text}
 use Rattle.sfm_text.specs.TermLines.{IsShaped}
 use Rattle.sfm_text.specs.Reading.{HasTermLine}
@@ -46,8 +47,8 @@ split-same count tokens p q h g = h.parts_are ∙ sym g.parts_are
 
 colon_line-same : (AreCounts : ℕ → ℕ → Type 0) (tokens : List (List ℕ)) (p q : LineParts) → IsColonLine AreCounts tokens p → IsColonLine AreCounts tokens q → p ≡ q
 colon_line-same AreCounts tokens p q h g =
-    let (numbers, elements) = colon-same tokens h.numbers h.elements g.numbers g.elements h.cut g.cut in
-    h.parts_are ∙ (ap (λ (n : List (List ℕ)). plain_parts n h.elements) numbers ∙ (ap (λ (e : List (List ℕ)). plain_parts g.numbers e) elements ∙ sym g.parts_are))
+    let (numbers, elements) = colon-same tokens h.0 h.1 g.0 g.1 h.2 g.2 in
+    h.4 ∙ (ap (λ (n : List (List ℕ)). plain_parts n h.1) numbers ∙ (ap (λ (e : List (List ℕ)). plain_parts g.0 e) elements ∙ sym g.4))
 
 -- the tokens of a line have one list of parts
 pub parts-same : (word : TermWord) (tokens : List (List ℕ)) (p q : LineParts) → HasParts word tokens p → HasParts word tokens q → p ≡ q
@@ -62,11 +63,11 @@ parts-same RankWord tokens p q h g = rank-same tokens p q h g
 -- so what holds of the parts of a line holds of these
 pub of-term-line : (word : TermWord) (tokens rest : List (List ℕ)) (parts : LineParts) (P : TermWord → List (List ℕ) → LineParts → Type 0) → tokens ≡ word_text word ∷ rest → HasParts word rest parts → HasTermLine tokens P → P word rest parts
 of-term-line word tokens rest parts P e h (word', rest', parts', shaped, p) =
-    let both : word_text word' ∷ rest' ≡ word_text word ∷ rest = sym shaped.first ∙ e in
+    let both : word_text word' ∷ rest' ≡ word_text word ∷ rest = sym shaped.0 ∙ e in
     let same_text : word_text word' ≡ word_text word = cc in
     let same_rest : rest' ≡ rest = cc in
     let same_word : word' ≡ word = word_text-same word' word same_text in
-    let shape : HasParts word rest parts' = rw (same_word, same_rest) at shaped.shape in
+    let shape : HasParts word rest parts' = rw (same_word, same_rest) at shaped.1 in
     let same_parts : parts' ≡ parts = parts-same word rest parts' parts shape h in
     rw (same_word, same_rest, same_parts) at p
 
@@ -86,8 +87,8 @@ not-end word e = apart word (ap (λ (text : List ℕ). get_or text 2 0) e)
 -- the parts of a line are those of its word
 pub shaped-here : (word : TermWord) (tokens rest : List (List ℕ)) (word' : TermWord) (rest' : List (List ℕ)) (parts : LineParts) → tokens ≡ word_text word ∷ rest → IsShaped tokens word' rest' parts → HasParts word rest parts
 shaped-here word tokens rest word' rest' parts e shaped =
-    let both : word_text word' ∷ rest' ≡ word_text word ∷ rest = sym shaped.first ∙ e in
+    let both : word_text word' ∷ rest' ≡ word_text word ∷ rest = sym shaped.0 ∙ e in
     let same_text : word_text word' ≡ word_text word = cc in
     let same_rest : rest' ≡ rest = cc in
     let same_word : word' ≡ word = word_text-same word' word same_text in
-    rw (same_word, same_rest) at shaped.shape
+    rw (same_word, same_rest) at shaped.1

@@ -2,7 +2,7 @@
 use Rattle.std.specs.Prelude.{◌≡◌, ℕ, ◌+◌, List, drop, length}
 use Rattle.sfm_text.specs.declared.lines.Line.{Line}
 use Rattle.sfm_text.specs.declared.lines.Lines.{Lines}
-use Rattle.sfm_text.specs.Lines.{TextLine, lines_from, content_among}
+use Rattle.sfm_text.specs.Places.{TextLine, lines_from, content_among}
 
 abbrev pub line_of : Line → TextLine
 line_of line = record { number = line.number; start = line.start; bytes = line.bytes.now }

@@ -7,38 +7,31 @@ use Rattle.sfm_text.specs.declared.end.TextEnd.TheVariants.{Refused, Memory}
 use Rattle.sfm_text.specs.declared.reason.Reason.{Reason}
 use Rattle.sfm_text.specs.declared.reason.Reason.TheVariants.{Long, Short}
 use Rattle.sfm_text.specs.declared.stage.Stage.TheVariants.{Ended}
-use Rattle.sfm_text.specs.Lines.{TextLine, lines_of, content_of}
-use Rattle.sfm_text.specs.Reading.{State, start, FirstReason, Takes}
+use Rattle.sfm_text.specs.Lines.{lines_of, content_of}
+use Rattle.sfm_text.specs.Reading.{State, start, IsFirstReason, Takes}
 
 -- the most bytes of an instance text
 abbrev pub text_limit : ℕ
 text_limit = 16777216
 
--- the bytes of each line
-abbrev pub bytes_of : List TextLine → List (List ℕ)
-bytes_of lines = map (λ line. line.bytes) lines
-
 -- the content lines lead from the start to the end, with these names and terms
 pub record IsTextOf (text : List ℕ) (names : List (List ℕ)) (terms : List Kind) : Type 0 where
   pub short : length text ≤ text_limit
-  pub lines : FoldsTo Takes start (bytes_of (content_of text)) (record { stage = Ended; names = names; terms = terms })
+  pub lines : FoldsTo Takes start (map (λ line. line.1) (content_of text)) (record { stage = Ended; names = names; terms = terms })
 
 -- the first content line with a reason, all before it being good
 pub record HasFaultyLine (text : List ℕ) (number : ℕ) (reason : Reason) : Type 0 where
-  pub before : List TextLine
-  pub line : TextLine
-  pub after : List TextLine
+  pub before : List (ℕ × List ℕ)
+  pub line : List ℕ
+  pub after : List (ℕ × List ℕ)
   pub state : State
-  pub content : content_of text ≡ before ++ line ∷ after
-  pub numbered : line.number ≡ number
-  pub good : FoldsTo Takes start (bytes_of before) state
-  pub fault : FirstReason state line.bytes reason
+  pub content : content_of text ≡ before ++ (number, line) ∷ after
+  pub good : FoldsTo Takes start (map (λ line. line.1) before) state
+  pub fault : IsFirstReason state line reason
 
 -- all content lines are good, and do not come to the end
-pub record EndsEarly (text : List ℕ) : Type 0 where
-  pub state : State
-  pub good : FoldsTo Takes start (bytes_of (content_of text)) state
-  pub open_ : state.stage ≢ Ended
+abbrev pub EndsEarly : List ℕ → Type 0
+EndsEarly text = (state : State) × FoldsTo Takes start (map (λ line. line.1) (content_of text)) state × (state.stage ≢ Ended)
 
 -- the first fault of a text: at line 0 that it is too long, or else at a line the first reason that it has there, or
 -- behind the last line that it ends too early

@@ -9,13 +9,9 @@ abbrev pub distinct_of : List (List ℕ) → List (List ℕ)
 distinct_of [] = []
 distinct_of (text ∷ texts) = text ∷ filter (λ other. not (bytes_eq text other)) (distinct_of texts)
 
--- the place at which a text stands among others
-abbrev pub place_among : List (List ℕ) → List ℕ → ℕ
-place_among texts text = position_or_len (λ other. bytes_eq text other) texts
-
 -- the numbers of the labels: equal labels of a line have one number, and they are numbered as they first appear in it
 abbrev pub numbers_of : List (List (List ℕ)) → List (List ℕ)
-numbers_of lists = map (λ labels. map (place_among (distinct_of (flat_map (λ texts. texts) lists))) labels) lists
+numbers_of lists = map (λ labels. map (λ text. position_or_len (λ other. bytes_eq text other) (distinct_of (flat_map (λ texts. texts) lists))) labels) lists
 
 -- the edge from the first of two vertices to the second
 abbrev pub edge_between : List ℕ → Edge

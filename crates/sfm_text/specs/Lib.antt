@@ -1,6 +1,8 @@
 pub mod Lines
+pub mod Places
 pub mod Cursor
 pub mod Parts
+pub mod CutParts
 pub mod LabelTerms
 pub mod RankLines
 pub mod Words

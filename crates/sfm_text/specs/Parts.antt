@@ -1,7 +1,7 @@
 -- The shape of each term line, and the parts that the tokens behind its word have. A kind with further parts brings a
 -- field to the parts, which `plain_parts` fills for all lines without it.
-use Rattle.std.specs.Prelude.{◌≡◌, ◌≢◌, ◌⊎◌, ℕ, ◌<◌, ◌≤◌, ◌^◌, take, drop, slice_index, slice_get, Some, Bool, List, [], ◌∷◌, ◌++◌, length, map, codes, bytes_eq}
-use Rattle.std.specs.List.{All, slice_split, AllZip}
+use Rattle.std.specs.Prelude.{◌≡◌, ◌≢◌, ◌⊎◌, ℕ, ◌≤◌, take, drop, List, [], ◌∷◌, ◌++◌, length, map, codes}
+use Rattle.std.specs.List.{All, AllZip, flat_map}
 use Rattle.sfm_text.specs.declared.word.RankKind.{RankKind}
 use Rattle.sfm_text.specs.declared.word.RankKind.TheVariants.{NoRank, UniformRank, LaminarRank, GraphicRank, TransversalRank}
 use Rattle.sfm_text.specs.Lines.{pieces_of}
@@ -26,17 +26,6 @@ IsMark token = (token ≡ codes ":") ⊎ (token ≡ codes ";")
 -- no token is a mark
 abbrev pub AreUnmarked : List (List ℕ) → Type 0
 AreUnmarked tokens = All (λ token. IsMark token → ⊥) tokens
-
--- the first byte b of the text stands at that place
-pub record IsFirstAt (b : ℕ) (text : List ℕ) (place : ℕ) : Type 0 where
-  pub within : place < length text
-  pub here : slice_index text place ≡ b
-  pub none_before : All (λ c. c ≢ b) (take place text)
-
--- the first colon alone stands at that place
-pub record IsFirstColon (tokens : List (List ℕ)) (place : ℕ) : Type 0 where
-  pub here : slice_get tokens place ≡ Some (codes ":")
-  pub none_before : All (λ token. token ≢ codes ":") (take place tokens)
 
 -- the token has exactly one byte b, and is cut there
 pub record IsCutAt (b : ℕ) (token before behind : List ℕ) : Type 0 where
@@ -67,24 +56,10 @@ pub record IsCutAtColon (tokens before behind : List (List ℕ)) : Type 0 where
   pub unmarked_before : AreUnmarked before
   pub unmarked_behind : AreUnmarked behind
 
--- a number for each part of 1 to 8 elements
-pub record IsTableCount (numbers elements : ℕ) : Type 0 where
-  pub some : 1 ≤ elements
-  pub few : elements ≤ 8
-  pub each : numbers ≡ 2 ^ elements
-
--- as many numbers as elements, at least one
-pub record IsConcaveCount (numbers elements : ℕ) : Type 0 where
-  pub some : 1 ≤ elements
-  pub same : numbers ≡ elements
-
 -- numbers, a colon, and elements, in such counts
-pub record IsColonLine (AreCounts : ℕ → ℕ → Type 0) (tokens : List (List ℕ)) (parts : LineParts) : Type 0 where
-  pub numbers : List (List ℕ)
-  pub elements : List (List ℕ)
-  pub cut : IsCutAtColon tokens numbers elements
-  pub count : AreCounts (length numbers) (length elements)
-  pub parts_are : parts ≡ plain_parts numbers elements
+abbrev pub IsColonLine : (ℕ → ℕ → Type 0) → List (List ℕ) → LineParts → Type 0
+IsColonLine AreCounts tokens parts = (numbers : List (List ℕ)) × (elements : List (List ℕ)) × IsCutAtColon tokens numbers elements × AreCounts (length numbers) (length elements)
+    × (parts ≡ plain_parts numbers elements)
 
 -- a number, the word `uniform`, a cap, a colon, and at least one element
 pub record IsUniformLine (tokens : List (List ℕ)) (parts : LineParts) : Type 0 where
@@ -95,46 +70,21 @@ pub record IsUniformLine (tokens : List (List ℕ)) (parts : LineParts) : Type 0
   pub some : 1 ≤ length elements
   pub parts_are : parts ≡ record { numbers = number ∷ cap ∷ []; elements = elements; rank = UniformRank; groups = []; labels = [] }
 
--- a semicolon alone
-abbrev pub is_semicolon : List ℕ → Bool
-is_semicolon token = bytes_eq token (codes ";")
-
--- the runs of tokens between semicolons alone
-abbrev pub cut_at_semicolons : List (List ℕ) → List (List (List ℕ))
-cut_at_semicolons tokens = slice_split is_semicolon tokens
-
--- a cap and at least one name
-pub record IsGroupCut (tokens : List (List ℕ)) (group : List ℕ × List (List ℕ)) : Type 0 where
-  pub cut : tokens ≡ group.0 ∷ group.1
-  pub some : 1 ≤ length group.1
-  pub unmarked : AreUnmarked tokens
-
--- at least one element, and groups
-pub record AreGroupsCut (pieces : List (List (List ℕ))) (elements : List (List ℕ)) (groups : List (List ℕ × List (List ℕ))) : Type 0 where
-  pub rest : List (List (List ℕ))
-  pub pieces_are : pieces ≡ elements ∷ rest
-  pub some : 1 ≤ length elements
-  pub unmarked : AreUnmarked elements
-  pub each : AllZip IsGroupCut rest groups
-
 -- a number, the word of the rank, a colon, and what stands behind it
 pub record IsRankHead (word : List ℕ) (tokens : List (List ℕ)) (number : List ℕ) (behind : List (List ℕ)) : Type 0 where
   pub tokens_are : tokens ≡ number ∷ word ∷ codes ":" ∷ behind
   pub no_mark : IsMark number → ⊥
 
--- the number and the caps, the elements, and the names of the groups
-abbrev pub laminar_parts_of : List ℕ → List (List ℕ) → List (List ℕ × List (List ℕ)) → LineParts
-laminar_parts_of number elements groups = record { numbers = number ∷ map (λ group. group.0) groups; elements = elements; rank = LaminarRank; groups = map (λ group. group.1) groups; labels = [] }
-
--- behind the colon elements, and for each group a semicolon, its cap and its names
+-- behind the colon at least one element, and for each group a semicolon, its cap and at least one name
 pub record IsLaminarLine (tokens : List (List ℕ)) (parts : LineParts) : Type 0 where
   pub number : List ℕ
-  pub behind : List (List ℕ)
   pub elements : List (List ℕ)
   pub groups : List (List ℕ × List (List ℕ))
-  pub head : IsRankHead (codes "laminar") tokens number behind
-  pub cut : AreGroupsCut (cut_at_semicolons behind) elements groups
-  pub parts_are : parts ≡ laminar_parts_of number elements groups
+  pub head : IsRankHead (codes "laminar") tokens number (elements ++ flat_map (λ group. codes ";" ∷ group.0 ∷ group.1) groups)
+  pub some : 1 ≤ length elements
+  pub unmarked : AreUnmarked elements
+  pub each : All (λ group. (1 ≤ length group.1) × AreUnmarked (group.0 ∷ group.1)) groups
+  pub parts_are : parts ≡ record { numbers = number ∷ map (λ group. group.0) groups; elements = elements; rank = LaminarRank; groups = map (λ group. group.1) groups; labels = [] }
 
 -- the text of the labels of an element: two vertices with a `-` between them, or slots between commas
 abbrev pub AreLabelsOf : RankKind → List ℕ → List (List ℕ) → Type 0
@@ -148,23 +98,15 @@ pub record IsLabelToken (rank : RankKind) (token : List ℕ) (entry : List ℕ �
   pub named : IsCutAt 61 token entry.0 behind
   pub labels : AreLabelsOf rank behind entry.1
 
--- at least one such token
-pub record AreLabelled (rank : RankKind) (tokens : List (List ℕ)) (entries : List (List ℕ × List (List ℕ))) : Type 0 where
-  pub some : 1 ≤ length tokens
-  pub each : AllZip (IsLabelToken rank) tokens entries
-
--- the number, the elements, and their labels
-abbrev pub labelled_parts_of : RankKind → List ℕ → List (List ℕ × List (List ℕ)) → LineParts
-labelled_parts_of rank number entries = record { numbers = number ∷ []; elements = map (λ entry. entry.0) entries; rank = rank; groups = []; labels = map (λ entry. entry.1) entries }
-
--- behind the colon elements with their labels
+-- behind the colon at least one element with its labels
 pub record IsLabelledLine (rank : RankKind) (word : List ℕ) (tokens : List (List ℕ)) (parts : LineParts) : Type 0 where
   pub number : List ℕ
   pub behind : List (List ℕ)
   pub entries : List (List ℕ × List (List ℕ))
   pub head : IsRankHead word tokens number behind
-  pub labelled : AreLabelled rank behind entries
-  pub parts_are : parts ≡ labelled_parts_of rank number entries
+  pub some : 1 ≤ length behind
+  pub each : AllZip (IsLabelToken rank) behind entries
+  pub parts_are : parts ≡ record { numbers = number ∷ []; elements = map (λ entry. entry.0) entries; rank = rank; groups = []; labels = map (λ entry. entry.1) entries }
 
 -- a line of one of the ranks: of `uniform` or `laminar`, or a number, the word `graphic` or `transversal`, a colon, and edges or
 -- entries

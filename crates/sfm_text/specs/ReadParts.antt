@@ -1,7 +1,8 @@
 -- What the parts of a line, the state of a reading and the end of a line's reading stand for.
-use Rattle.std.specs.Prelude.{◌≡◌, ◌+◌, ◌<◌, ℕ, Bool, true, false, List, [], ◌∷◌, length, codes, map, Any, Result, MatchResult}
+use Rattle.std.specs.Prelude.{◌≡◌, ◌+◌, ◌<◌, ℕ, Bool, true, false, List, [], ◌∷◌, length, codes, map, Any, Result, MatchResult, ℤ}
 use Rattle.std.specs.List.{flat_map}
 use Rattle.sfm_kind.specs.Instance.{InstanceData}
+use Rattle.sfm_kind.specs.Meanings.{kind_places}
 use Rattle.sfm_kind.specs.declared.kind.Kind.{Kind}
 use Rattle.sfm_text.specs.declared.end.TextEnd.{TextEnd}
 use Rattle.sfm_text.specs.declared.end.TextEnd.TheVariants as ends
@@ -16,7 +17,7 @@ use Rattle.sfm_text.specs.declared.parts.Parts.{Parts}
 use Rattle.sfm_text.specs.declared.word.TermWord.{TermWord}
 use Rattle.sfm_text.specs.Lines.{texts_of, text_lists_of, tokens_of, are_skipped}
 use Rattle.sfm_text.specs.Parts.{LineParts}
-use Rattle.sfm_text.specs.Words.{word_text}
+use Rattle.sfm_text.specs.Words.{word_text, IsMadeOf}
 use Rattle.sfm_text.specs.TermLines.{StandsFor}
 use Rattle.sfm_text.specs.Reading.{State, IsBadByte, Has, Takes, IsLineRefusal, reason_order}
 
@@ -27,6 +28,11 @@ label_lists_of lists = map (λ labels. texts_of labels.texts.items) lists
 -- the texts that the parts point to
 abbrev pub parts_of : Parts → LineParts
 parts_of parts = record { numbers = texts_of parts.numbers.items; elements = texts_of parts.elements.items; rank = parts.rank; groups = text_lists_of parts.groups.items; labels = label_lists_of parts.labels.items }
+
+-- the term that a line with these parts stands for, with these numbers and elements at these places
+pub record IsTermOf (word : TermWord) (parts : LineParts) (values : List ℤ) (places : List ℕ) (term : Kind) : Type 0 where
+  pub same_places : kind_places term ≡ places
+  pub made : IsMadeOf word parts values term
 
 -- how many bytes texts have in all
 abbrev pub bytes_in : List (List ℕ) → ℕ

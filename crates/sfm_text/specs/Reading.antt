@@ -1,7 +1,7 @@
 -- The state in which a text is read, the reasons for which a line is refused in a state, and the states that a good line
 -- leads from and to.
 use Rattle.std.specs.Prelude.{◌≡◌, ◌≢◌, ◌⊎◌, ℕ, ◌<◌, ◌^◌, List, [], ◌∷◌, ◌++◌, length, codes, Any, Contains, ℤ, pos, ◌<ℤ◌}
-use Rattle.std.specs.List.{AllZip}
+use Rattle.std.specs.List.{All, AllZip}
 use Rattle.sfm_spec.specs.Names.{IsName}
 use Rattle.sfm_spec.specs.Families.{Meaning}
 use Rattle.sfm_kind.specs.Instance.{support_of}
@@ -31,18 +31,9 @@ pub record State : Type 0 where
 abbrev pub start : State
 start = record { stage = Header; names = []; terms = [] }
 
--- the order of the reasons on a line
-abbrev pub reason_order : Reason → ℕ
-reason_order Long = 0
-reason_order Bytes = 1
-reason_order Word = 2
-reason_order Shape = 3
-reason_order Number = 4
-reason_order Name = 5
-reason_order Twice = 6
-reason_order Law = 7
-reason_order Total = 8
-reason_order Short = 9
+-- the reasons, in their order on a line
+abbrev pub reasons : List Reason
+reasons = Long ∷ Bytes ∷ Word ∷ Shape ∷ Number ∷ Name ∷ Twice ∷ Law ∷ Total ∷ Short ∷ []
 
 -- neither a tab nor a byte from the space to `~`
 abbrev pub IsBadByte : ℕ → Type 0
@@ -101,15 +92,13 @@ Has s line Bytes = Any IsBadByte line
 Has s line reason = HasAt s.stage s (tokens_of line) reason
 
 -- the line has that reason and none that comes before it
-pub record FirstReason (s : State) (line : List ℕ) (reason : Reason) : Type 0 where
+pub record IsFirstReason (s : State) (line : List ℕ) (reason : Reason) : Type 0 where
   pub holds : Has s line reason
-  pub first : (earlier : Reason) → reason_order earlier < reason_order reason → Has s line earlier → ⊥
+  pub first : (before behind : List Reason) → reasons ≡ before ++ reason ∷ behind → All (λ earlier. Has s line earlier → ⊥) before
 
 -- a term line adds its term
-pub record AddsTerm (s : State) (tokens : List (List ℕ)) (t : State) : Type 0 where
-  pub term : Kind
-  pub stands : StandsFor s.names tokens term
-  pub state : t ≡ record { stage = Terms; names = s.names; terms = s.terms ++ term ∷ [] }
+abbrev pub AddsTerm : State → List (List ℕ) → State → Type 0
+AddsTerm s tokens t = (term : Kind) × StandsFor s.names tokens term × (t ≡ record { stage = Terms; names = s.names; terms = s.terms ++ term ∷ [] })
 
 -- what a line with these tokens leads to
 abbrev pub Adds : Stage → State → List (List ℕ) → State → Type 0
@@ -122,6 +111,26 @@ Adds Ended s tokens t = ⊥
 pub record Takes (s : State) (line : List ℕ) (t : State) : Type 0 where
   pub good : (reason : Reason) → Has s line reason → ⊥
   pub adds : Adds s.stage s (tokens_of line) t
+
+-- ---- the reasons by their numbers, as the code goes through them
+
+-- the order of the reasons on a line
+abbrev pub reason_order : Reason → ℕ
+reason_order Long = 0
+reason_order Bytes = 1
+reason_order Word = 2
+reason_order Shape = 3
+reason_order Number = 4
+reason_order Name = 5
+reason_order Twice = 6
+reason_order Law = 7
+reason_order Total = 8
+reason_order Short = 9
+
+-- the line has that reason and none of a lower number
+pub record FirstReason (s : State) (line : List ℕ) (reason : Reason) : Type 0 where
+  pub holds : Has s line reason
+  pub first : (earlier : Reason) → reason_order earlier < reason_order reason → Has s line earlier → ⊥
 
 -- a refusal names the first reason; want of memory says nothing
 abbrev pub IsLineRefusal : State → List ℕ → LineEnd → Type 0

@@ -1,13 +1,29 @@
 -- What a reader that takes a text in pieces stands for: the texts of which it has read what it keeps.
-use Rattle.std.specs.Prelude.{◌≡◌, ◌⊎◌, ℕ, ◌+◌, ◌≤◌, min, true, false, List, [], ◌∷◌, ◌++◌, length, map, MatchOption}
-use Rattle.std.specs.List.{FoldsTo}
+use Rattle.std.specs.Prelude.{◌≡◌, ◌⊎◌, ℕ, ◌+◌, ◌≤◌, min, true, false, Bool, not, List, [], ◌∷◌, ◌++◌, length, filter, map, MatchOption}
+use Rattle.std.specs.List.{FoldsTo, enumerate_from}
 use Rattle.std.specs.Str.Lines.{strip_carriage_return}
 use Rattle.sfm_text.specs.declared.line_fault.Fault.{Fault}
 use Rattle.sfm_text.specs.declared.reader.Reader.{Reader}
-use Rattle.sfm_text.specs.Lines.{pieces_of, numbered, content_among, content_of, lines_of, tokens_of, are_skipped}
+use Rattle.sfm_text.specs.Lines.{pieces_of, content_of, lines_of, tokens_of, are_skipped}
 use Rattle.sfm_text.specs.Reading.{State, start, Takes, FirstReason}
-use Rattle.sfm_text.specs.GoodText.{text_limit, bytes_of, HasFaultyLine}
+use Rattle.sfm_text.specs.GoodText.{text_limit, HasFaultyLine}
 use Rattle.sfm_text.specs.ReadParts.{state_of}
+
+-- these pieces as lines, numbered on from that number
+abbrev pub numbered : ℕ → List (List ℕ) → List (ℕ × List ℕ)
+numbered number pieces = enumerate_from number (map strip_carriage_return pieces)
+
+-- whether a line counts
+abbrev pub is_content : ℕ × List ℕ → Bool
+is_content line = not (are_skipped (tokens_of line.1))
+
+-- the content lines among them
+abbrev pub content_among : List (ℕ × List ℕ) → List (ℕ × List ℕ)
+content_among lines = filter is_content lines
+
+-- the bytes of each line
+abbrev pub bytes_of : List (ℕ × List ℕ) → List (List ℕ)
+bytes_of lines = map (λ line. line.1) lines
 
 -- what lines lead to: their count, the numbers of the content lines among them, and the state
 pub record Progress : Type 0 where
@@ -21,8 +37,8 @@ progress_of reader = record { lines = reader.lines; numbers = reader.numbers.ite
 -- the lines of these pieces are good one after another, and lead there
 pub record LeadTo (pieces : List (List ℕ)) (p : Progress) : Type 0 where
   pub count : p.lines ≡ length pieces
-  pub numbers : p.numbers ≡ map (λ line. line.number) (content_among (numbered 1 0 pieces))
-  pub good : FoldsTo Takes start (bytes_of (content_among (numbered 1 0 pieces))) p.state
+  pub numbers : p.numbers ≡ map (λ line. line.0) (content_among (numbered 1 pieces))
+  pub good : FoldsTo Takes start (bytes_of (content_among (numbered 1 pieces))) p.state
 
 -- the lines of the text that have ended lead there, and `rest` stands behind them
 pub record IsOpen (p : Progress) (rest text : List ℕ) : Type 0 where

@@ -4,12 +4,11 @@ use Rattle.std.specs.Prelude.{◌≡◌, ℕ, ◌^◌, List, [], ◌∷◌, ◌�
 use Rattle.sfm_spec.specs.Terms.{IsSubmodular}
 use Rattle.sfm_spec.specs.Kinds.{table_value}
 use Rattle.sfm_concave.specs.ConcaveLaws.{RisesAt}
-use Rattle.sfm_kind.specs.Meanings.{kind_places}
 use Rattle.sfm_kind.specs.declared.kind.Kind.{Kind}
 use Rattle.sfm_kind.specs.declared.kind.Kind.TheVariants.{Weight, Cut, Need, Cover, Table, Concave}
 use Rattle.sfm_text.specs.declared.word.TermWord.{TermWord}
 use Rattle.sfm_text.specs.declared.word.TermWord.TheVariants.{WeightWord, CutWord, NeedWord, CoverWord, TableWord, ConcaveWord, RankWord}
-use Rattle.sfm_text.specs.Parts.{LineParts, IsWeightLine, IsRankLine, IsColonLine, IsTableCount, IsConcaveCount, IsSplitAt}
+use Rattle.sfm_text.specs.Parts.{LineParts, IsWeightLine, IsRankLine, IsColonLine, IsSplitAt}
 use Rattle.sfm_text.specs.RankLines.{BreaksRankLaw, IsRankMadeOf}
 
 -- the word
@@ -36,8 +35,8 @@ HasParts WeightWord tokens parts = IsWeightLine tokens parts
 HasParts CutWord tokens parts = (length tokens ≡ 3) × IsSplitAt 1 tokens parts
 HasParts NeedWord tokens parts = (length tokens ≡ 2) × IsSplitAt 0 tokens parts
 HasParts CoverWord tokens parts = (2 ≤ length tokens) × IsSplitAt 1 tokens parts
-HasParts TableWord tokens parts = IsColonLine IsTableCount tokens parts
-HasParts ConcaveWord tokens parts = IsColonLine IsConcaveCount tokens parts
+HasParts TableWord tokens parts = IsColonLine (λ numbers elements. (1 ≤ elements) × (elements ≤ 8) × (numbers ≡ 2 ^ elements)) tokens parts
+HasParts ConcaveWord tokens parts = IsColonLine (λ numbers elements. (1 ≤ elements) × (numbers ≡ elements)) tokens parts
 HasParts RankWord tokens parts = IsRankLine tokens parts
 
 -- the numbers break the law of the word's kind: those of a table, where they are the values of no submodular function
@@ -59,8 +58,3 @@ IsMadeOf TableWord parts values (Table term) = term.values ≡ values
 IsMadeOf ConcaveWord parts values (Concave term) = term.values ≡ values
 IsMadeOf RankWord parts values term = IsRankMadeOf parts.rank parts values term
 IsMadeOf _ parts values term = ⊥
-
--- the term that a line with these parts stands for, with these numbers and elements at these places
-pub record IsTermOf (word : TermWord) (parts : LineParts) (values : List ℤ) (places : List ℕ) (term : Kind) : Type 0 where
-  pub same_places : kind_places term ≡ places
-  pub made : IsMadeOf word parts values term

@@ -4,9 +4,9 @@ ghost use Rattle.std.specs.List.{All};
 ghost use Rattle.sfm_spec.specs.Bounds.{IsAtMost, AreElements};
 ghost use Rattle.sfm_concave.specs.ConcaveLaws.{RisesAt};
 ghost use Rattle.sfm_text.specs.Lines.{texts_of};
-ghost use Rattle.sfm_text.specs.Parts.{LineParts, IsConcaveCount, IsColonLine};
-ghost use Rattle.sfm_text.specs.Words.{IsTermOf};
-ghost use Rattle.sfm_text.specs.ReadParts.{parts_of};
+ghost use Rattle.sfm_text.specs.Parts.{LineParts, IsColonLine};
+ghost use Rattle.sfm_text.specs.CutParts.{IsConcaveCount};
+ghost use Rattle.sfm_text.specs.ReadParts.{IsTermOf, parts_of};
 ghost use Rattle.sfm_text.specs.declared.word.TermWord.TheVariants.{ConcaveWord};
 
 use crate::mark::cut_at_colon;

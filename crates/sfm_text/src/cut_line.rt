@@ -5,8 +5,8 @@ ghost use Rattle.sfm_spec.specs.Bounds.{IsAtMost};
 ghost use Rattle.sfm_spec.specs.Sets.{IsPlaced};
 ghost use Rattle.sfm_text.specs.Lines.{texts_of};
 ghost use Rattle.sfm_text.specs.Parts.{LineParts};
-ghost use Rattle.sfm_text.specs.Words.{IsTermOf, HasParts};
-ghost use Rattle.sfm_text.specs.ReadParts.{parts_of};
+ghost use Rattle.sfm_text.specs.Words.{HasParts};
+ghost use Rattle.sfm_text.specs.ReadParts.{IsTermOf, parts_of};
 ghost use Rattle.sfm_text.specs.declared.word.TermWord.TheVariants.{CutWord};
 
 use crate::parts::{Parts, split_at};

@@ -5,9 +5,9 @@ ghost use Rattle.sfm_spec.specs.Bounds.{IsAtMost, AreElements};
 ghost use Rattle.sfm_matroid.specs.Ends.{edges_of};
 ghost use Rattle.sfm_text.specs.Lines.{texts_of};
 ghost use Rattle.sfm_text.specs.Parts.{LineParts, IsLabelledLine};
-ghost use Rattle.sfm_text.specs.LabelTerms.{place_among, edge_between};
-ghost use Rattle.sfm_text.specs.Words.{IsTermOf};
-ghost use Rattle.sfm_text.specs.ReadParts.{parts_of, label_lists_of, joined};
+ghost use Rattle.sfm_text.specs.LabelTerms.{edge_between};
+ghost use Rattle.sfm_text.specs.CutParts.{place_among};
+ghost use Rattle.sfm_text.specs.ReadParts.{IsTermOf, parts_of, label_lists_of, joined};
 ghost use Rattle.sfm_text.specs.declared.word.TermWord.TheVariants.{RankWord};
 ghost use Rattle.sfm_text.specs.declared.word.RankKind.TheVariants.{GraphicRank};
 

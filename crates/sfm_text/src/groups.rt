@@ -9,8 +9,7 @@ ghost use Rattle.sfm_text.specs.Lines.{texts_of, text_lists_of};
 ghost use Rattle.sfm_text.specs.LabelTerms.{distinct_of};
 ghost use Rattle.sfm_text.specs.RankLines.{is_among, members_of, groups_of};
 ghost use Rattle.sfm_text.specs.TermLines.{StandsTwice};
-ghost use Rattle.sfm_text.specs.Words.{IsTermOf};
-ghost use Rattle.sfm_text.specs.ReadParts.{parts_of};
+ghost use Rattle.sfm_text.specs.ReadParts.{IsTermOf, parts_of};
 ghost use Rattle.sfm_text.specs.declared.word.TermWord.TheVariants.{RankWord};
 ghost use Rattle.sfm_text.specs.declared.word.RankKind.TheVariants.{LaminarRank};
 

@@ -3,7 +3,8 @@
 ghost use Rattle.std.specs.Prelude.{◌≡◌, ◌==◌, ℕ, List, MatchOption, IfOk};
 ghost use Rattle.sfm_text.specs.declared.word.RankKind.TheVariants.{GraphicRank, TransversalRank};
 ghost use Rattle.sfm_text.specs.Lines.{pieces_of, texts_of};
-ghost use Rattle.sfm_text.specs.Parts.{IsLabelToken, AreLabelled, labelled_parts_of};
+ghost use Rattle.sfm_text.specs.Parts.{IsLabelToken};
+ghost use Rattle.sfm_text.specs.CutParts.{AreLabelled, labelled_parts_of};
 ghost use Rattle.sfm_text.specs.ReadParts.{parts_of};
 
 use crate::labels::Labels;

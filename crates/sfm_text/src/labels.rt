@@ -5,7 +5,8 @@ ghost use Rattle.std.specs.Prelude.{◌≡◌, ◌<◌, ◌^◌, ◌++◌, ℕ, 
 ghost use Rattle.std.specs.List.{All};
 ghost use Rattle.sfm_spec.specs.Names.{IsName};
 ghost use Rattle.sfm_text.specs.Lines.{texts_of};
-ghost use Rattle.sfm_text.specs.LabelTerms.{distinct_of, place_among};
+ghost use Rattle.sfm_text.specs.LabelTerms.{distinct_of};
+ghost use Rattle.sfm_text.specs.CutParts.{place_among};
 ghost use Rattle.sfm_text.specs.TermLines.{StandsTwice};
 ghost use Rattle.sfm_text.specs.Reading.{HasSlotTwice};
 ghost use Rattle.sfm_text.specs.ReadParts.{label_lists_of, joined};

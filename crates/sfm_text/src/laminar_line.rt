@@ -2,7 +2,8 @@
 // and at least one name of an element of the line.
 ghost use Rattle.std.specs.Prelude.{◌≡◌, ℕ, List, MatchOption, IfOk};
 ghost use Rattle.sfm_text.specs.Lines.{texts_of, text_lists_of};
-ghost use Rattle.sfm_text.specs.Parts.{LineParts, is_semicolon, cut_at_semicolons, IsGroupCut, AreGroupsCut, IsLaminarLine, laminar_parts_of};
+ghost use Rattle.sfm_text.specs.Parts.{LineParts, IsLaminarLine};
+ghost use Rattle.sfm_text.specs.CutParts.{is_semicolon, cut_at_semicolons, IsGroupCut, AreGroupsCut, laminar_parts_of};
 ghost use Rattle.sfm_text.specs.ReadParts.{parts_of};
 
 use crate::mark::has_mark;

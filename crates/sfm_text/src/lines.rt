@@ -3,7 +3,7 @@
 ghost use Rattle.std.specs.Prelude.{◌≡◌, ◌≤◌, ◌==◌, ℕ, ◌+◌, List, [], ◌∷◌, length, map, slice_index, slice_range, IsTrue, IfOk, MatchOption, IfSome, IfNone};
 ghost use Rattle.std.specs.Str.Lines.{strip_carriage_return};
 ghost use Rattle.std.specs.List.{All, position_or_len};
-ghost use Rattle.sfm_text.specs.Lines.{span_of, content_of, LiesIn};
+ghost use Rattle.sfm_text.specs.Places.{span_of, placed_content, LiesIn};
 
 use crate::tokens::is_skipped;
 use sfm_base::Memory;
@@ -48,12 +48,12 @@ pub fn line_end(text: &[u8]) -> usize
 }
 
 impl<'a> Lines<'a> {
-    ghost use Rattle.sfm_text.specs.Lines.{lines_of, LiesIn};
+    ghost use Rattle.sfm_text.specs.Places.{placed_lines, LiesIn};
     ghost use Rattle.sfm_text.specs.Cursor.{lines_left, content_left, line_of, text_of, next_number, IsSameText};
 
     /// All lines of a text.
     pub fn new(text: &'a [u8]) -> Lines<'a>
-        ensures left { lines_left result ≡ lines_of text.now }
+        ensures left { lines_left result ≡ placed_lines text.now }
         ensures text { text_of result ≡ text.now }
         ensures first { next_number result ≡ 1 }
     {
@@ -119,8 +119,8 @@ impl<'a> Lines<'a> {
 ///
 /// `Memory` where there is none.
 pub fn content_lines(alloc: Global, text: &[u8]) -> Result<Vec<(usize, usize, usize)>, Memory>
-    ensures spans { IfOk result (λ v. v.items ≡ map span_of (content_of text.now)) }
-    ensures placed { IfOk result (λ _. All (LiesIn text.now) (content_of text.now)) }
+    ensures spans { IfOk result (λ v. v.items ≡ map span_of (placed_content text.now)) }
+    ensures placed { IfOk result (λ _. All (LiesIn text.now) (placed_content text.now)) }
 {
     let mut spans = Vec::new(alloc);
     let mut lines = Lines::new(text);

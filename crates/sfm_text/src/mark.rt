@@ -2,7 +2,8 @@
 ghost use Rattle.std.specs.Prelude.{◌≢◌, ◌↔◌, ℕ, ◌<◌, List, length, codes, IsTrue, IfSome, Any, MatchBool, MatchOption};
 ghost use Rattle.std.specs.List.{All};
 ghost use Rattle.sfm_text.specs.Lines.{texts_of};
-ghost use Rattle.sfm_text.specs.Parts.{IsMark, AreUnmarked, IsFirstColon, IsCutAtColon};
+ghost use Rattle.sfm_text.specs.Parts.{IsMark, AreUnmarked, IsCutAtColon};
+ghost use Rattle.sfm_text.specs.CutParts.{IsFirstColon};
 
 /// Whether the token is a colon or a semicolon alone.
 pub fn is_mark(token: &[u8]) -> bool

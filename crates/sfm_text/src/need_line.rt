@@ -3,8 +3,8 @@ ghost use Rattle.std.specs.Prelude.{◌≡◌, List, length, ℤ, IfOk, MatchOpt
 ghost use Rattle.sfm_spec.specs.Sets.{IsPlaced};
 ghost use Rattle.sfm_text.specs.Lines.{texts_of};
 ghost use Rattle.sfm_text.specs.Parts.{LineParts};
-ghost use Rattle.sfm_text.specs.Words.{IsTermOf, HasParts};
-ghost use Rattle.sfm_text.specs.ReadParts.{parts_of};
+ghost use Rattle.sfm_text.specs.Words.{HasParts};
+ghost use Rattle.sfm_text.specs.ReadParts.{IsTermOf, parts_of};
 ghost use Rattle.sfm_text.specs.declared.word.TermWord.TheVariants.{NeedWord};
 
 use crate::parts::{Parts, split_at};

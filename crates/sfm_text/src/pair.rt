@@ -1,7 +1,8 @@
 // Cutting a token at the one colon that it has.
 ghost use Rattle.std.specs.Prelude.{◌≢◌, ℕ, List, MatchOption};
 ghost use Rattle.std.specs.List.{All};
-ghost use Rattle.sfm_text.specs.Parts.{IsFirstAt, IsCutAt, IsPairToken};
+ghost use Rattle.sfm_text.specs.Parts.{IsCutAt, IsPairToken};
+ghost use Rattle.sfm_text.specs.CutParts.{IsFirstAt};
 
 /// The place of the first byte b, or None where there is none.
 fn place_of_byte(text: &[u8], b: u8) -> Option<usize>

@@ -3,9 +3,8 @@ ghost use Rattle.std.specs.Prelude.{◌≡◌, ◌<◌, ◌^◌, length, MatchOp
 ghost use Rattle.sfm_text.specs.Lines.{texts_of};
 ghost use Rattle.sfm_text.specs.Parts.{LineParts, IsRankLine};
 ghost use Rattle.sfm_text.specs.RankLines.{BreaksRankLaw};
-ghost use Rattle.sfm_text.specs.Words.{IsTermOf};
 ghost use Rattle.sfm_text.specs.TermLines.{AreRead};
-ghost use Rattle.sfm_text.specs.ReadParts.{parts_of, joined};
+ghost use Rattle.sfm_text.specs.ReadParts.{IsTermOf, parts_of, joined};
 ghost use Rattle.sfm_text.specs.declared.word.TermWord.TheVariants.{RankWord};
 
 use crate::graphic_line::{graphic_parts, graphic_term};

@@ -6,9 +6,9 @@ ghost use Rattle.sfm_spec.specs.Sets.{IsPlaced};
 ghost use Rattle.sfm_spec.specs.Terms.{IsSubmodular};
 ghost use Rattle.sfm_spec.specs.Kinds.{table_value};
 ghost use Rattle.sfm_text.specs.Lines.{texts_of};
-ghost use Rattle.sfm_text.specs.Parts.{LineParts, IsTableCount, IsColonLine};
-ghost use Rattle.sfm_text.specs.Words.{IsTermOf};
-ghost use Rattle.sfm_text.specs.ReadParts.{parts_of};
+ghost use Rattle.sfm_text.specs.Parts.{LineParts, IsColonLine};
+ghost use Rattle.sfm_text.specs.CutParts.{IsTableCount};
+ghost use Rattle.sfm_text.specs.ReadParts.{IsTermOf, parts_of};
 ghost use Rattle.sfm_text.specs.declared.word.TermWord.TheVariants.{TableWord};
 
 use crate::mark::cut_at_colon;

@@ -5,10 +5,10 @@ ghost use Rattle.sfm_kind.specs.Names.{IsNewName, AreElementNames};
 ghost use Rattle.sfm_kind.specs.declared.kind.Kind.{Kind};
 ghost use Rattle.sfm_text.specs.Lines.{texts_of};
 ghost use Rattle.sfm_text.specs.Parts.{LineParts};
-ghost use Rattle.sfm_text.specs.Words.{lowest_of, word_text, HasParts, BreaksLaw, IsTermOf};
+ghost use Rattle.sfm_text.specs.Words.{lowest_of, word_text, HasParts, BreaksLaw};
 ghost use Rattle.sfm_text.specs.TermLines.{AreRead, IsNumberFrom, IsElement, StandsTwice};
 ghost use Rattle.sfm_text.specs.Reading.{IsLineRefusal};
-ghost use Rattle.sfm_text.specs.ReadParts.{parts_of, bytes_in, state_at, IsLineOf, IsTermRead, joined};
+ghost use Rattle.sfm_text.specs.ReadParts.{IsTermOf, parts_of, bytes_in, state_at, IsLineOf, IsTermRead, joined};
 ghost use Rattle.sfm_text.specs.declared.stage.Stage.TheVariants.{Terms};
 ghost use Rattle.std.specs.Prelude.{◌∷◌};
 

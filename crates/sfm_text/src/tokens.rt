@@ -1,7 +1,8 @@
 // Cutting a line into tokens, all at once or one after another, and telling by the first of them whether the line counts.
 ghost use Rattle.std.specs.Prelude.{◌≡◌, ◌≤◌, ◌<◌, ℕ, List, [], ◌∷◌, length, map, slice_get, Some, IsTrue, IfOk, IfSome, MatchBool, MatchOption};
 ghost use Rattle.std.specs.List.{position_or_len};
-ghost use Rattle.sfm_text.specs.Lines.{is_blank, tokens_of, are_skipped};
+ghost use Rattle.sfm_text.specs.Lines.{tokens_of, are_skipped};
+ghost use Rattle.sfm_text.specs.Places.{is_blank};
 
 use std::alloc::{AllocError, Global};
 

@@ -4,8 +4,7 @@ ghost use Rattle.std.specs.List.{All};
 ghost use Rattle.sfm_spec.specs.Bounds.{IsAtMost, AreElements};
 ghost use Rattle.sfm_text.specs.Lines.{texts_of};
 ghost use Rattle.sfm_text.specs.Parts.{LineParts, IsWeightLine};
-ghost use Rattle.sfm_text.specs.Words.{IsTermOf};
-ghost use Rattle.sfm_text.specs.ReadParts.{parts_of};
+ghost use Rattle.sfm_text.specs.ReadParts.{IsTermOf, parts_of};
 ghost use Rattle.sfm_text.specs.declared.word.TermWord.TheVariants.{WeightWord};
 
 use crate::pair::cut_pair;

@@ -3,7 +3,8 @@ use Rattle.std.proofs.Common.{◌≡◌, List, [], ◌∷◌, ℕ, length, get_o
 use Rattle.std.proofs.lemmas.List.{map-append, length-map}
 use Rattle.sfm_matroid.specs.Ends.{edge_of, edges_of}
 use Rattle.sfm_text.specs.Lines.{texts_of}
-use Rattle.sfm_text.specs.LabelTerms.{place_among, edge_between}
+use Rattle.sfm_text.specs.LabelTerms.{edge_between}
+use Rattle.sfm_text.specs.CutParts.{place_among}
 use Rattle.sfm_text.specs.declared.labels.Labels.{Labels}
 use Rattle.sfm_text.proofs.Repeats.{text-at}
 use Rattle.sfm_text.proofs.Steps.{maps-step, maps-end, All-here}

@@ -1,7 +1,8 @@
 use Rattle.std.proofs.Common.{◌≡◌, map, take}
 use Rattle.sfm_matroid.specs.Ends.{edges_of}
 use Rattle.sfm_text.specs.Lines.{texts_of}
-use Rattle.sfm_text.specs.LabelTerms.{place_among, edge_between}
+use Rattle.sfm_text.specs.LabelTerms.{edge_between}
+use Rattle.sfm_text.specs.CutParts.{place_among}
 use Rattle.sfm_text.specs.ReadParts.{label_lists_of}
 use Rattle.sfm_text.proofs.graphic_line.ends.Given as goal
 

@@ -2,7 +2,8 @@ use Rattle.std.proofs.Common.{◌≡◌, List, ℕ, map, sym, ap, ◌∙◌, ari
 use Rattle.std.proofs.lemmas.Simd.{map-map}
 use Rattle.sfm_matroid.specs.Ends.{edges_of}
 use Rattle.sfm_text.specs.Lines.{texts_of}
-use Rattle.sfm_text.specs.LabelTerms.{distinct_of, place_among, edge_between}
+use Rattle.sfm_text.specs.LabelTerms.{distinct_of, edge_between}
+use Rattle.sfm_text.specs.CutParts.{place_among}
 use Rattle.sfm_kind.specs.declared.kind.Kind.TheVariants.{Graphic}
 use Rattle.sfm_text.specs.declared.word.RankKind.TheVariants.{GraphicRank}
 use Rattle.sfm_text.specs.ReadParts.{label_lists_of, parts_of, joined}

@@ -1,7 +1,7 @@
 use Rattle.std.proofs.Common.{Bor, List, ℕ, ◌<◌, ◌^◌}
 use Rattle.std.proofs.lemmas.List.Elements.{All-push}
 use Rattle.sfm_text.specs.Lines.{texts_of}
-use Rattle.sfm_text.specs.LabelTerms.{place_among}
+use Rattle.sfm_text.specs.CutParts.{place_among}
 use Rattle.sfm_text.proofs.Steps.{maps-step, maps-end}
 use Rattle.sfm_text.proofs.labels.numbers.Goals as goal
 

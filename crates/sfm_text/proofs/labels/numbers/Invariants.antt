@@ -1,7 +1,7 @@
 use Rattle.std.proofs.Common.{◌≡◌, ◌<◌, ◌^◌, map, take}
 use Rattle.std.specs.List.{All}
 use Rattle.sfm_text.specs.Lines.{texts_of}
-use Rattle.sfm_text.specs.LabelTerms.{place_among}
+use Rattle.sfm_text.specs.CutParts.{place_among}
 use Rattle.sfm_text.proofs.labels.numbers.Given as goal
 
 abbrev pub invariant-loop-label : goal.invariant-loop-label

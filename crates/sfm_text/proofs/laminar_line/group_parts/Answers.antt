@@ -1,7 +1,7 @@
 -- The pieces behind the first are the groups, of which each is cut in its one way.
 use Rattle.std.proofs.Common.{◌∷◌, [], ◌++◌, List, ℕ, Bor, refl}
 use Rattle.sfm_text.specs.Lines.{texts_of, text_lists_of}
-use Rattle.sfm_text.specs.Parts.{IsGroupCut}
+use Rattle.sfm_text.specs.CutParts.{IsGroupCut}
 use Rattle.sfm_text.proofs.Steps.{AllZip-step, AllZip-end, AllZip-here, map-push}
 use Rattle.sfm_text.proofs.Pieces.{each-cut, first-lists, some-texts}
 use Rattle.sfm_text.proofs.laminar_line.group_parts.Goals as goal

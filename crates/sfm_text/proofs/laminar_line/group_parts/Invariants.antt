@@ -1,7 +1,7 @@
 use Rattle.std.proofs.Common.{◌≡◌, ◌∷◌, List, ℕ, map, take}
 use Rattle.std.specs.List.{AllZip}
 use Rattle.sfm_text.specs.Lines.{texts_of, text_lists_of}
-use Rattle.sfm_text.specs.Parts.{IsGroupCut}
+use Rattle.sfm_text.specs.CutParts.{IsGroupCut}
 use Rattle.sfm_text.proofs.laminar_line.group_parts.Given as goal
 
 abbrev pub invariant-loop-piece : goal.invariant-loop-piece

@@ -1,7 +1,7 @@
 use Rattle.std.proofs.Common.{rules, tests, Bor, List, ℕ}
 use Rattle.std.proofs.lemmas.Iterator.Splits.{YieldsList-from_slice_split}
 use Rattle.std.proofs.lemmas.Iterator.Consumers.{map_from_collect}
-use Rattle.sfm_text.specs.Parts.{is_semicolon}
+use Rattle.sfm_text.specs.CutParts.{is_semicolon}
 use Rattle.std.proofs.lemmas.Result.{IfOk-weaker}
 use Rattle.sfm_text.proofs.Pieces.{lists-cut}
 use Rattle.sfm_text.proofs.laminar_line.pieces.Goals as goal

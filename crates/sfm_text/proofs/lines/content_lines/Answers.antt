@@ -1,7 +1,7 @@
 use Rattle.std.proofs.Common.{ℕ, subst, List, [], ◌∷◌, ◌++◌, append_assoc, sym, ap, ◌∙◌}
 use Rattle.std.proofs.lemmas.List.{map-append}
 use Rattle.std.proofs.lemmas.List.Elements.{All-push}
-use Rattle.sfm_text.specs.Lines.{TextLine, span_of, LiesIn}
+use Rattle.sfm_text.specs.Places.{TextLine, span_of, LiesIn}
 use Rattle.sfm_text.specs.Cursor.{content_left, line_of}
 use Rattle.sfm_text.proofs.lines.content_lines.Goals as goal
 

@@ -1,6 +1,6 @@
 use Rattle.std.proofs.Common.{◌≡◌, List, ◌++◌, map, length}
 use Rattle.std.specs.List.{All}
-use Rattle.sfm_text.specs.Lines.{TextLine, span_of, content_of, LiesIn}
+use Rattle.sfm_text.specs.Places.{TextLine, span_of, placed_content, LiesIn}
 use Rattle.sfm_text.specs.Cursor.{content_left, text_of}
 use Rattle.sfm_text.proofs.lines.content_lines.Given as goal
 
@@ -8,7 +8,7 @@ abbrev pub invariant-loop-line : goal.invariant-loop-line
 invariant-loop-line l = record {
   text : text_of l.lines ≡ l.text;
   done : List TextLine;
-  left : content_of l.text ≡ done ++ content_left l.lines;
+  left : placed_content l.text ≡ done ++ content_left l.lines;
   spans : l.spans.items ≡ map span_of done;
   placed : All (LiesIn l.text) done;
 }

@@ -6,7 +6,7 @@ use Rattle.sfm_text.proofs.LongReasons.{long-shape, no-concave, concave-number, 
 use Rattle.sfm_text.proofs.long_line.concave_reason.Goals as goal
 
 pub returns-in_default : goal.returns-in_default
-returns-in_default c = long-shape c.args.instance.now ConcaveWord (tokens_of c.args.line.now) (λ parts h. c.in_default.ensures h.numbers h.elements h.cut)
+returns-in_default c = long-shape c.args.instance.now ConcaveWord (tokens_of c.args.line.now) (λ parts h. c.in_default.ensures h.0 h.1 h.2)
 
 pub returns-then-not-is_concave_count : goal.returns-then-not-is_concave_count
 returns-then-not-is_concave_count c =

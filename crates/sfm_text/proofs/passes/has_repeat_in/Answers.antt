@@ -41,4 +41,4 @@ loop-first-preserved c =
     }
 
 pub returns : goal.returns
-returns c = (λ e. absurd (false≢true e), λ h. let t = c.loop-first.invariant.down h in absurd (omega (arith, t.within, ap length c.in_default.ensures.cut)))
+returns c = (λ e. absurd (false≢true e), λ h. let t = c.loop-first.invariant.down h in absurd (omega (arith, t.3, ap length c.in_default.ensures.cut)))

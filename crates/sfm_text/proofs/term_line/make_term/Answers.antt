@@ -6,9 +6,9 @@ use Rattle.sfm_spec.specs.Kinds.{table_value}
 use Rattle.sfm_concave.specs.ConcaveLaws.{RisesAt}
 use Rattle.sfm_kind.specs.declared.kind.Kind.{Kind}
 use Rattle.sfm_text.specs.Parts.{LineParts}
-use Rattle.sfm_text.specs.ReadParts.{parts_of}
+use Rattle.sfm_text.specs.ReadParts.{IsTermOf, parts_of}
 use Rattle.sfm_text.specs.TermLines.{AreRead}
-use Rattle.sfm_text.specs.Words.{BreaksLaw, IsTermOf}
+use Rattle.sfm_text.specs.Words.{BreaksLaw}
 use Rattle.sfm_text.specs.declared.word.TermWord.TheVariants.{WeightWord, CutWord, NeedWord, CoverWord, TableWord, ConcaveWord}
 use Rattle.sfm_text.proofs.ReadLines.{read-small, read-low, weight-count, weight-elements, cut-number, cut-elements, need-elements, cover-number, cover-elements, table-count, concave-count, concave-elements}
 use Rattle.sfm_text.proofs.term_line.make_term.Goals as goal

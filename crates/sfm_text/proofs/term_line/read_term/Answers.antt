@@ -6,10 +6,10 @@ use Rattle.sfm_kind.specs.Names.{IsNewName}
 use Rattle.std.specs.List.{All, Any, AllZip}
 use Rattle.sfm_text.specs.Lines.{texts_of}
 use Rattle.sfm_text.specs.Parts.{LineParts}
-use Rattle.sfm_text.specs.Words.{HasParts, lowest_of, BreaksLaw, IsTermOf}
+use Rattle.sfm_text.specs.Words.{HasParts, lowest_of, BreaksLaw}
 use Rattle.sfm_text.specs.TermLines.{IsNumberFrom, IsElement, StandsTwice}
 use Rattle.sfm_text.specs.Reading.{HasStranger, HasWrongLabel, HasSlotTwice}
-use Rattle.sfm_text.specs.ReadParts.{parts_of}
+use Rattle.sfm_text.specs.ReadParts.{IsTermOf, parts_of}
 use Rattle.sfm_text.proofs.FewLabels.{parts-few}
 use Rattle.sfm_text.proofs.Matches.{length-AllZip}
 use Rattle.sfm_text.proofs.TermReasons.{at-number, at-name, at-stranger, at-label, at-twice, at-member-twice, at-slot-twice, at-law, none-total, elements-placed}
@@ -147,10 +147,11 @@ returns-in-Some-4-clause-read c =
         parts = parts;
         values = values;
         places = places;
-        shaped = record { first = refl; shape = shape };
+        shaped = (refl, shape);
         numbers = numbers;
         elements = elements;
-        made = made.0;
+        same_places = made.0.same_places;
+        made = made.0.made;
       };
       good = λ line reason is. none-total c.args.instance.now c.args.word rest line is parts shape values numbers places c.requires.names elements members labels once members_once slots_once made.1 reason;
     }

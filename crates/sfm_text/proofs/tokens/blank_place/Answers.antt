@@ -1,7 +1,7 @@
 use Rattle.std.proofs.Common.{rules, tests, ◌∙◌}
 use Rattle.std.proofs.lemmas.Iterator.{YieldsList-from_slice}
 use Rattle.std.proofs.lemmas.Iterator.Search.{position_from_yields_List}
-use Rattle.sfm_text.specs.Lines.{is_blank}
+use Rattle.sfm_text.specs.Places.{is_blank}
 use Rattle.sfm_text.proofs.LineCuts.{position-or}
 use Rattle.sfm_text.proofs.tokens.blank_place.Goals as goal
 

@@ -1,6 +1,7 @@
 use Rattle.std.proofs.Common.{◌≡◌, ◌≤◌, length}
 use Rattle.std.specs.List.{position_or_len}
-use Rattle.sfm_text.specs.Lines.{is_blank, tokens_of}
+use Rattle.sfm_text.specs.Lines.{tokens_of}
+use Rattle.sfm_text.specs.Places.{is_blank}
 use Rattle.sfm_text.proofs.tokens.first_token.Given as goal
 
 abbrev pub invariant-loop-end : goal.invariant-loop-end

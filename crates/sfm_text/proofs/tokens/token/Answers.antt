@@ -1,7 +1,8 @@
 use Rattle.std.proofs.Common.{rules, tests}
 use Rattle.std.proofs.lemmas.Iterator.Splits.{YieldsList-from_slice_split}
 use Rattle.std.proofs.lemmas.Iterator.Consumers.{nth_from_yields_List, YieldsList-from_filter, YieldsList-at}
-use Rattle.sfm_text.specs.Lines.{is_blank, has_bytes}
+use Rattle.sfm_text.specs.Lines.{has_bytes}
+use Rattle.sfm_text.specs.Places.{is_blank}
 use Rattle.sfm_text.proofs.Cuts.{has_bytes-is, slice_get_cases}
 use Rattle.sfm_text.proofs.tokens.token.Goals as goal
 

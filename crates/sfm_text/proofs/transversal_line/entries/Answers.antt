@@ -1,7 +1,7 @@
 -- Each entry is that of its element, by the places of its slots among the different ones.
 use Rattle.std.proofs.Common.{List, ℕ, map}
 use Rattle.sfm_text.specs.Lines.{texts_of}
-use Rattle.sfm_text.specs.LabelTerms.{place_among}
+use Rattle.sfm_text.specs.CutParts.{place_among}
 use Rattle.sfm_text.specs.declared.labels.Labels.{Labels}
 use Rattle.sfm_text.proofs.Steps.{maps-step, maps-end}
 use Rattle.sfm_text.proofs.transversal_line.entries.Goals as goal

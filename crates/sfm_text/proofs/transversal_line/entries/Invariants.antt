@@ -1,6 +1,6 @@
 use Rattle.std.proofs.Common.{◌≡◌, map, take}
 use Rattle.sfm_text.specs.Lines.{texts_of}
-use Rattle.sfm_text.specs.LabelTerms.{place_among}
+use Rattle.sfm_text.specs.CutParts.{place_among}
 use Rattle.sfm_text.specs.ReadParts.{label_lists_of}
 use Rattle.sfm_text.proofs.transversal_line.entries.Given as goal
 

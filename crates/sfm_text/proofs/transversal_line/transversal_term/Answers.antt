@@ -1,6 +1,7 @@
 use Rattle.std.proofs.Common.{◌≡◌, List, ℕ, map, ◌∙◌, arith}
 use Rattle.sfm_text.specs.Lines.{texts_of}
-use Rattle.sfm_text.specs.LabelTerms.{distinct_of, place_among}
+use Rattle.sfm_text.specs.LabelTerms.{distinct_of}
+use Rattle.sfm_text.specs.CutParts.{place_among}
 use Rattle.sfm_kind.specs.declared.kind.Kind.TheVariants.{Transversal}
 use Rattle.sfm_text.specs.declared.word.RankKind.TheVariants.{TransversalRank}
 use Rattle.sfm_text.specs.ReadParts.{label_lists_of, parts_of, joined}
