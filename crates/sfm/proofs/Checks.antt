@@ -7,9 +7,9 @@ use Rattle.sfm.specs.Meanings.{meanings_of}
 use Rattle.sfm.specs.declared.status.Status.{Status}
 use Rattle.sfm.specs.declared.due.Due.{Due as DueText}
 use Rattle.sfm_words.specs.Command.{check}
-use Rattle.sfm.specs.Headline.{IsNamed, IsSurelyHeld, FailsToRead}
+use Rattle.sfm.specs.Headline.{IsNamed, IsSurelyHeld}
 use Rattle.sfm.specs.Opening.{ChecksAnswer, IsGoodFile}
-use Rattle.sfm.specs.Reading.{MissesText, Prepares}
+use Rattle.sfm.specs.Reading.{FailsToRead, MissesText, Prepares}
 use Rattle.sfm.proofs.ReadLemmas.{rose_later}
 
 -- the instance was missed
@@ -42,7 +42,7 @@ checks file answer instance before mid after (Err status) kept good (inl (fault,
   fault,
   record {
     rose = rose_later before.faults mid.faults after.faults kept.faults miss.rose;
-    unsure = λ held. miss.unsure (held_later before mid answer kept (held.1 good.text good.named (instance.names, instance.terms, good.good)));
+    unsure = λ held. miss.unsure (held_later before mid answer kept (held.1 good.text good.named (record { instance = instance; good = good.good; meant = meanings_of instance.terms; means = kinds-mean instance.terms })));
   },
 )
 checks file answer instance before mid after (Err status) kept good (inr memory) = inr (memory, tt)

@@ -10,8 +10,8 @@ use Rattle.sfm_io.specs.Transfer.{WritesAll, IsRest, IsLong, IsFault}
 use Rattle.std.specs.Prelude.{Vec}
 use Rattle.std.specs.Global.{Global}
 use Rattle.sfm.specs.declared.status.Status.{Status}
-use Rattle.sfm.specs.Reading.{MissesText, ReadsOpen, ReadsText}
-use Rattle.sfm.specs.Headline.{IsNamed, WasRead, Says}
+use Rattle.sfm.specs.Reading.{MissesText, ReadsOpen, ReadsText, WasRead}
+use Rattle.sfm.specs.Headline.{IsNamed, Says}
 
 some_is : {X : Type 0} (o : Option X) → IsSome o → (x : X) × (o ≡ Some x)
 some_is None h = absurd (false≢true h)

@@ -21,9 +21,9 @@ use Rattle.sfm_check.specs.Truth.{IsProvedSection, no_section, section_of}
 use Rattle.sfm_check.proofs.AllSlopes.{due_plain}
 use Rattle.sfm_check.proofs.OneToOne.{IsPlainMark}
 use Rattle.sfm_kind.specs.Kinds.{kind_start}
-use Rattle.sfm_kind.proofs.Meanings.{kinds-mean, kinds-start}
 use Rattle.sfm.specs.Meanings.{meanings_of}
 use Rattle.sfm.specs.Due.{IsReached}
+use Rattle.sfm.proofs.Moved.{reached}
 use Rattle.sfm.proofs.Rows.{formed_rows}
 
 -- the marks as they are found and as an answer has them
@@ -90,7 +90,8 @@ module _ (instance : InstanceData) (bounded : AreInBounds (length instance.names
         let is : get_or (map section_of (map break_of items)) i no_section ≡ section_of (break_of (get_or items i d))
         = get_or-map section_of (map break_of items) i (break_of d) no_section lb ∙ ap section_of (get_or-map break_of items i d (break_of d) li) in
         let h = has i d li in
-        subst (IsReached instance.terms (meanings_of instance.terms) (length instance.names)) (sym is) (record { firsts = map (λ kind. kind_start kind (get_or items i d).slope.den) instance.terms; starts = kinds-start instance.terms (meanings_of instance.terms) (get_or items i d).slope.den (kinds-mean instance.terms); few = h.reached }))
+        let low : IsLowest (get_or items i d).slope.num (get_or items i d).slope.den = subst (λ (m : Mark). IsLowest m.num m.den) (mark_is i li) (slopes.lowest i (omega (arith, li, length-map items kept_mark))) in
+        subst (IsReached instance.terms (meanings_of instance.terms) (length instance.names)) (sym is) (reached instance.terms (length instance.names) (section_of (break_of (get_or items i d))) bounded low.positive h.reached))
 
   pub formed_breaks : (items : List Found) → AreBreakpoints (meanings_of instance.terms) (length instance.names) (ones (length instance.names)) (map kept_mark items) → All (HasBases (meanings_of instance.terms) (λ q. map (λ kind. kind_start kind q) instance.terms) (length instance.names)) items
       → All (IsFormedBreak (length instance.names) (form_of instance).widths) (map break_of items)

@@ -1,5 +1,6 @@
 -- What bases that prove tell makes a true answer of the right form.
-use Rattle.std.proofs.Common.{◌≡◌, ℕ, List, length, map, pos, sym, subst}
+use Rattle.std.proofs.Common.{◌≡◌, ℕ, List, length, map, pos, sym, subst, arith}
+use Rattle.std.proofs.lemmas.Int.{ints}
 use Rattle.std.specs.List.{All}
 use Rattle.std.proofs.lemmas.List.Elements.{All-cons}
 use Rattle.sfm_spec.specs.Bounds.{IsEntry}
@@ -11,7 +12,7 @@ use Rattle.sfm_kind.specs.Limits.{AreInBounds}
 use Rattle.sfm_kind.specs.Names.{AreElementNames}
 use Rattle.sfm_spec.specs.Walks.{IsFewWalks}
 use Rattle.sfm_kind.specs.Kinds.{kind_start}
-use Rattle.sfm_kind.proofs.Meanings.{kinds-mean, kinds-start}
+use Rattle.sfm_kind.proofs.Meanings.{kinds-mean}
 use Rattle.sfm_text.specs.GoodText.{IsTextOf}
 use Rattle.sfm_cert.specs.Answer.{Answer, mark_of}
 use Rattle.sfm_cert.specs.LineLists.{answer_text}
@@ -21,6 +22,7 @@ use Rattle.sfm_check.specs.Truth.{IsProvedSection, IsTrueHead, section_of}
 use Rattle.sfm_check.proofs.BlockOrder.{blocks_formed}
 use Rattle.sfm_check.proofs.Short.{head_few}
 use Rattle.sfm_check.proofs.Small.{value_small}
+use Rattle.sfm.proofs.Moved.{reached}
 use Rattle.sfm.proofs.Rows.{formed_rows}
 use Rattle.sfm.specs.Meanings.{meanings_of}
 use Rattle.sfm.specs.Due.{IsSolved, IsReached}
@@ -56,7 +58,7 @@ true_answer instance a named bounded h = record {
       (record { bases = h.bases; proves = h.proves })
       h.proved;
   reached = All-cons (IsReached instance.terms (meanings_of instance.terms) (length instance.names)) (record { num = pos 0; den = pos 1; bases = a.bases }) (map section_of a.breaks)
-      (record { firsts = map (λ kind. kind_start kind (pos 1)) instance.terms; starts = kinds-start instance.terms (meanings_of instance.terms) (pos 1) (kinds-mean instance.terms); few = h.few })
+      (reached instance.terms (length instance.names) (record { num = pos 0; den = pos 1; bases = a.bases }) bounded (omega (arith, ints)) h.few)
       h.reached;
 } where
   head : IsTrueHead (meanings_of instance.terms) (length instance.names) a

@@ -1,11 +1,11 @@
 -- What is due for the texts that a command names: the text that is to be written, and the code that goes with it.
-use Rattle.std.specs.Prelude.{◌≡◌, ◌⊎◌, ℕ, List, ◌++◌, length, codes, decimal, ℤ}
-use Rattle.std.specs.List.{All, AllZip}
+use Rattle.std.specs.Prelude.{◌≡◌, ◌⊎◌, ℕ, ◌≤◌, List, ◌++◌, length, codes, decimal, ℤ}
+use Rattle.std.specs.List.{All, AllZip, FoldsTo, zip}
 use Rattle.sfm_spec.specs.Families.{Meaning, even_shift}
-use Rattle.sfm_spec.specs.Walks.{IsFewWalks}
+use Rattle.sfm_spec.specs.Walks.{few_walks}
 use Rattle.sfm_kind.specs.declared.kind.Kind.{Kind}
 use Rattle.sfm_kind.specs.Instance.{InstanceData}
-use Rattle.sfm_kind.specs.Meanings.{AreStarts, IsMeaningOf}
+use Rattle.sfm_kind.specs.Meanings.{IsMeaningOf, IsStartOf}
 use Rattle.sfm_text.specs.declared.reason.Reason.{Reason}
 use Rattle.sfm_text.specs.Reasons.{reason_word}
 use Rattle.sfm_text.specs.GoodText.{IsTextOf, IsFaultOf}
@@ -16,10 +16,7 @@ use Rattle.sfm_check.specs.declared.verdicts.Verdict.TheVariants.{Valid, Invalid
 use Rattle.sfm_check.specs.declared.verdicts.Wrong.{Wrong}
 use Rattle.sfm_check.specs.declared.verdicts.Wrong.TheVariants.{Long, Grammar, Base, Unproved, Answer}
 use Rattle.sfm_check.specs.Verdict.{IsVerdict}
-
--- the line that names a fault
-abbrev pub refusal : ℕ → Reason → List ℕ
-refusal line reason = codes "refused " ++ decimal line ++ codes " " ++ reason_word reason ++ codes "\n"
+use Rattle.sfm.specs.Moves.{Moves}
 
 -- the word of a reason
 abbrev pub wrong_word : Wrong → List ℕ
@@ -39,10 +36,6 @@ abbrev pub verdict_code : Verdict → ℕ
 verdict_code Valid = 0
 verdict_code (Invalid line reason) = 1
 
--- the text has no fault
-abbrev pub IsGood : List ℕ → Type 0
-IsGood text = (names : List (List ℕ)) × (terms : List Kind) × IsTextOf text names terms
-
 -- what a good text asks: the instance that it stands for, and the meanings of its terms
 pub record Question (text : List ℕ) : Type 0 where
   pub instance : InstanceData
@@ -50,11 +43,13 @@ pub record Question (text : List ℕ) : Type 0 where
   pub meant : List Meaning
   pub means : AllZip IsMeaningOf instance.terms meant
 
--- the bases of a section are reached by few walks at its slope, from the first bases of the terms
+-- few moves along shortest walks, one after the other, lead to the bases of a section at its slope from the first bases of the terms
 pub record IsReached (terms : List Kind) (meant : List Meaning) (n : ℕ) (section : Section) : Type 0 where
   pub firsts : List (List ℤ)
-  pub starts : AreStarts terms meant section.den firsts
-  pub few : IsFewWalks meant n section.den (even_shift n section.num) firsts section.bases
+  pub amounts : List ℤ
+  pub starts : AllZip (λ (kind, term) first. IsStartOf kind term.value section.den first) (zip terms meant) firsts
+  pub few : length amounts ≤ few_walks n (length meant)
+  pub moved : FoldsTo (Moves meant section.den (even_shift n section.num)) firsts amounts section.bases
 
 -- the file is a right one for the text, which is good, by the meanings of the terms that it stands for; and few walks lead to the
 -- bases of each section
@@ -68,7 +63,7 @@ pub record IsRefused (text written : List ℕ) : Type 0 where
   pub line : ℕ
   pub reason : Reason
   pub fault : IsFaultOf text line reason
-  pub named : written ≡ refusal line reason
+  pub named : written ≡ codes "refused " ++ decimal line ++ codes " " ++ reason_word reason ++ codes "\n"
 
 -- the written text is the verdict on the answer for the text, which is good
 pub record IsJudged (text answer written : List ℕ) (code : ℕ) : Type 0 where

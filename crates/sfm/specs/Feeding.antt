@@ -8,7 +8,8 @@ use Rattle.sfm_text.specs.GoodText.{text_limit}
 use Rattle.sfm_text.specs.Standing.{Stands}
 use Rattle.sfm.specs.declared.status.Status.{Status}
 use Rattle.sfm.specs.declared.status.Status.TheVariants.{ReadFault, Memory}
-use Rattle.sfm.specs.Headline.{IsNamed, WasRead}
+use Rattle.sfm.specs.Headline.{IsNamed}
+use Rattle.sfm.specs.Reading.{WasRead}
 use Rattle.sfm.specs.Reading.{MissesText}
 
 -- these bytes came from the shelf, and the reader went on by them

@@ -1,41 +1,39 @@
 -- What one call of the program does: which answer it gives, why, and what it leaves of its shelf and its two sinks.
 use Rattle.std.specs.Prelude.{◌≡◌, ◌⊎◌, ℕ, ◌+◌, ◌<◌, List, length, take, drop, codes, true, Some, IsSome}
 use Rattle.std.specs.Io.KnownBytes.{append_known}
+use Rattle.std.specs.Map.{lookup}
+use Rattle.std.specs.Str.{bytes_eq}
 use Rattle.sfm_io.specs.Faults.{Rose}
-use Rattle.sfm_io.specs.Shelf.{ShelfState, Texts, text_of}
+use Rattle.sfm_io.specs.Shelf.{ShelfState, Texts}
 use Rattle.sfm_io.specs.Sink.{SinkState}
 use Rattle.sfm_text.specs.GoodText.{text_limit}
 use Rattle.sfm_cert.specs.Grammar.{answer_limit}
 use Rattle.sfm.specs.declared.status.Status.{Status}
 use Rattle.sfm.specs.declared.status.Status.TheVariants.{Done, Invalid, Refused, ReadFault, WriteFault, Memory, Usage}
 use Rattle.sfm_words.specs.Command.{Command, Asks, IsForm, IsNotTaken, solve, check, demo}
-use Rattle.sfm.specs.Due.{IsDueToSolve, IsGood, IsJudged, IsRefused}
+use Rattle.sfm.specs.Due.{IsDueToSolve, IsJudged, IsRefused, Question}
 use Rattle.sfm.specs.Demo.{IsDueToDemo}
 
 -- the shelf is sound and holds the name
 abbrev pub IsSurelyHeld : ShelfState → List ℕ → Type 0
-IsSurelyHeld shelf name = (shelf.sound ≡ true) × ((texts : Texts) → shelf.texts ≡ Some texts → IsSome (text_of texts name))
+IsSurelyHeld shelf name = (shelf.sound ≡ true) × ((texts : Texts) → shelf.texts ≡ Some texts → IsSome (lookup (λ key. bytes_eq key name) texts))
 
--- the text of that name, where the shelf tells its texts
+-- the first text of that name, where the shelf tells its texts
 abbrev pub IsNamed : ShelfState → List ℕ → List ℕ → Type 0
-IsNamed shelf name text = (texts : Texts) → shelf.texts ≡ Some texts → text_of texts name ≡ Some text
-
--- all of a text was read, or one byte past the limit where it is longer
-abbrev pub WasRead : ShelfState → ShelfState → ℕ → List ℕ → Type 0
-WasRead before after limit text = (texts : Texts) → before.texts ≡ Some texts → after.rest ≡ Some (drop (limit + 1) text)
+IsNamed shelf name text = (texts : Texts) → shelf.texts ≡ Some texts → lookup (λ key. bytes_eq key name) texts ≡ Some text
 
 -- the shelf surely holds each name that the command needs: the first, and the second where the text of the first has no fault;
 -- a demonstration needs none
 abbrev pub HoldsNeeded : ShelfState → Command → Type 0
 HoldsNeeded shelf (solve file) = IsSurelyHeld shelf file
-HoldsNeeded shelf (check file answer) = IsSurelyHeld shelf file × ((text : List ℕ) → IsNamed shelf file text → IsGood text → IsSurelyHeld shelf answer)
+HoldsNeeded shelf (check file answer) = IsSurelyHeld shelf file × ((text : List ℕ) → IsNamed shelf file text → Question text → IsSurelyHeld shelf answer)
 HoldsNeeded shelf (demo seed) = Unit {0}
 
--- the file of that name was read, and this holds of its text
+-- the file of that name was read to its end, or to one byte past the limit where it is longer, and this holds of its text
 pub record HasRead (limit : ℕ) (name : List ℕ) (shelf shelf' : ShelfState) (P : List ℕ → Type 0) : Type 0 where
   pub text : List ℕ
   pub named : IsNamed shelf name text
-  pub read : WasRead shelf shelf' limit text
+  pub read : (texts : Texts) → shelf.texts ≡ Some texts → shelf'.rest ≡ Some (drop (limit + 1) text)
   pub holds : P text
 
 -- this text is due for the command, with this code: for an instance that is to be solved; for one with a fault, of which the answer
@@ -49,11 +47,6 @@ IsDue (demo seed) shelf shelf' written code = IsDueToDemo seed written code × (
 -- what was due was written whole
 abbrev pub WritesDue : Command → (shelf shelf' : ShelfState) → (out out' : SinkState) → ℕ → Type 0
 WritesDue command shelf shelf' out out' code = (written : List ℕ) × IsDue command shelf shelf' written code × (out'.written ≡ append_known out.written written)
-
--- a file could not be read: a fault of the shelf, which is not a sound one that holds what is needed
-pub record FailsToRead (command : Command) (shelf shelf' : ShelfState) : Type 0 where
-  pub rose : Rose shelf.faults shelf'.faults
-  pub unsure : HoldsNeeded shelf command → ⊥
 
 -- of what was due only a front was written: a fault of the sink
 pub record FailsToWrite (command : Command) (shelf shelf' : ShelfState) (out out' : SinkState) : Type 0 where
@@ -70,26 +63,25 @@ abbrev pub LeavesShelf : Command → (shelf shelf' : ShelfState) → Type 0
 LeavesShelf (demo seed) shelf shelf' = shelf' ≡ shelf
 LeavesShelf _ shelf shelf' = Unit {0}
 
--- how a command ends: each status with its cause and with what it leaves
+-- how a command ends: each status with its cause and with what it leaves. A file could not be read where a fault of the shelf came, which
+-- is not a sound one that holds what is needed
 abbrev pub EndsFor : Command → (shelf shelf' : ShelfState) → (out out' : SinkState) → Status → Type 0
 EndsFor command shelf shelf' out out' Done = WritesDue command shelf shelf' out out' 0
 EndsFor command shelf shelf' out out' Invalid = WritesDue command shelf shelf' out out' 1
 EndsFor command shelf shelf' out out' Refused = WritesDue command shelf shelf' out out' 2
-EndsFor command shelf shelf' out out' ReadFault = FailsToRead command shelf shelf' × (out' ≡ out)
+EndsFor command shelf shelf' out out' ReadFault = Rose shelf.faults shelf'.faults × (HoldsNeeded shelf command → ⊥) × (out' ≡ out)
 EndsFor command shelf shelf' out out' WriteFault = FailsToWrite command shelf shelf' out out'
 EndsFor command shelf shelf' out out' Memory = (out' ≡ out) × LeavesShelf command shelf shelf'
 EndsFor command shelf shelf' out out' Usage = ⊥
 
--- the words were not read, and nothing was touched: clap does not take them, or memory was wanting
-pub record IsUnread (words : List (List ℕ)) (shelf shelf' : ShelfState) (out out' : SinkState) (status : Status) : Type 0 where
-  pub why : ((status ≡ Usage) × IsNotTaken words) ⊎ (status ≡ Memory)
-  pub shelf_stays : shelf' ≡ shelf
-  pub out_stays : out' ≡ out
+-- the words were not read: clap does not take them, or memory was wanting
+abbrev pub IsUnread : List (List ℕ) → Status → Type 0
+IsUnread words status = ((status ≡ Usage) × IsNotTaken words) ⊎ (status ≡ Memory)
 
--- how a call with these words ends
+-- how a call with these words ends: nothing was touched where they were not read
 abbrev pub Ends : List (List ℕ) → (shelf shelf' : ShelfState) → (out out' : SinkState) → Status → Type 0
 Ends words shelf shelf' out out' status =
-    IsUnread words shelf shelf' out out' status ⊎ ((command : Command) × Asks words command × EndsFor command shelf shelf' out out' status)
+    (IsUnread words status × (shelf' ≡ shelf) × (out' ≡ out)) ⊎ ((command : Command) × Asks words command × EndsFor command shelf shelf' out out' status)
 
 -- words of the form `solve FILE`, `check FILE ANSWER` or `demo SEED` ask for that command, and the call ends as it does
 abbrev pub EndsByForm : List (List ℕ) → (shelf shelf' : ShelfState) → (out out' : SinkState) → Status → Type 0

@@ -1,5 +1,6 @@
 pub mod Status
 pub mod Meanings
+pub mod Moves
 pub mod Due
 pub mod Demo
 pub mod Headline

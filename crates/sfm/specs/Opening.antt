@@ -15,8 +15,8 @@ use Rattle.sfm.specs.declared.run.Opened.TheVariants.{Good, Faulty}
 use Rattle.sfm.specs.Status.{code_of}
 use Rattle.sfm.specs.Due.{IsRefused, verdict_code, verdict_line}
 use Rattle.sfm.specs.Meanings.{meanings_of}
-use Rattle.sfm.specs.Headline.{HasRead, IsNamed, WasRead}
-use Rattle.sfm.specs.Reading.{MissesText}
+use Rattle.sfm.specs.Headline.{HasRead, IsNamed}
+use Rattle.sfm.specs.Reading.{MissesText, WasRead}
 
 -- a good text of that name
 pub record IsGoodFile (file : List ℕ) (shelf : ShelfState) (instance : InstanceData) : Type 0 where

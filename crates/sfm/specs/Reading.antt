@@ -1,12 +1,14 @@
 -- What is known of a file that was read, and of what is then due.
-use Rattle.std.specs.Prelude.{◌≡◌, ◌⊎◌, ℕ, ◌<◌, ◌≤◌, List, length, Option, Some, None, Result, Ok, Err, Vec}
+use Rattle.std.specs.Prelude.{◌≡◌, ◌⊎◌, ℕ, ◌+◌, ◌<◌, ◌≤◌, List, ◌++◌, codes, decimal, drop, length, Option, Some, None, Result, Ok, Err, Vec}
 use Rattle.std.specs.Global.{Global}
-use Rattle.sfm_io.specs.Shelf.{ShelfState}
+use Rattle.sfm_io.specs.Shelf.{ShelfState, Texts}
 use Rattle.sfm_io.specs.Transfer.{IsRest, IsLong, IsFault}
 use Rattle.sfm_io.specs.Faults.{Rose}
 use Rattle.sfm_kind.specs.Instance.{InstanceData}
 use Rattle.sfm_text.specs.declared.end.TextEnd.{TextEnd}
 use Rattle.sfm_text.specs.declared.reader.Reader.{Reader}
+use Rattle.sfm_text.specs.declared.reason.Reason.{Reason}
+use Rattle.sfm_text.specs.Reasons.{reason_word}
 use Rattle.sfm_text.specs.GoodText.{IsRefusalOf}
 use Rattle.sfm_text.specs.Standing.{Stands}
 use Rattle.sfm_cert.specs.Solved.{form_of}
@@ -20,7 +22,20 @@ use Rattle.sfm_words.specs.Command.{Command}
 use Rattle.sfm_cert.specs.Grammar.{answer_limit}
 use Rattle.sfm.specs.Due.{IsDueToSolve, IsRefused, verdict_code, verdict_line}
 use Rattle.sfm.specs.Meanings.{meanings_of}
-use Rattle.sfm.specs.Headline.{IsDue, IsNamed, IsSurelyHeld, WasRead, FailsToRead, LeavesShelf}
+use Rattle.sfm.specs.Headline.{HoldsNeeded, IsDue, IsNamed, IsSurelyHeld, LeavesShelf}
+
+-- the line that names a fault
+abbrev pub refusal : ℕ → Reason → List ℕ
+refusal line reason = codes "refused " ++ decimal line ++ codes " " ++ reason_word reason ++ codes "\n"
+
+-- all of a text was read, or one byte past the limit where it is longer
+abbrev pub WasRead : ShelfState → ShelfState → ℕ → List ℕ → Type 0
+WasRead before after limit text = (texts : Texts) → before.texts ≡ Some texts → after.rest ≡ Some (drop (limit + 1) text)
+
+-- what a command needs could not be read: a fault of the shelf, which is not a sound one that holds it
+pub record FailsToRead (command : Command) (shelf shelf' : ShelfState) : Type 0 where
+  pub rose : Rose shelf.faults shelf'.faults
+  pub unsure : HoldsNeeded shelf command → ⊥
 
 -- the bytes that were read are the text; where none are given it is longer than the limit
 abbrev pub IsReadAs : ℕ → Option (Vec ℕ Global) → List ℕ → Type 0

@@ -2,10 +2,10 @@
 ghost use Rattle.std.specs.Prelude.{◌≡◌, ◌⊎◌, ◌+◌, ◌++◌, ◌<◌, ℕ, List, length, codes, decimal, IfOk};
 ghost use Rattle.sfm_cert.specs.Solved.{form_of};
 ghost use Rattle.sfm_check.specs.Verdict.{IsVerdict};
-ghost use Rattle.sfm.specs.Due.{refusal, verdict_line, verdict_code, wrong_word, IsRefused};
+ghost use Rattle.sfm.specs.Due.{verdict_line, verdict_code, wrong_word, IsRefused};
 ghost use Rattle.sfm.specs.Meanings.{meanings_of};
 ghost use Rattle.sfm.specs.Status.{code_of};
-ghost use Rattle.sfm.specs.Reading.{IsReadAs, IsRefusalFor, IsSolveDueOf, IsCheckDueOf};
+ghost use Rattle.sfm.specs.Reading.{refusal, IsReadAs, IsRefusalFor, IsSolveDueOf, IsCheckDueOf};
 ghost use Rattle.sfm_cert.specs.Grammar.{answer_limit};
 
 use crate::solve::solve_read;
