@@ -50,7 +50,8 @@ fn raise(cells: &Cells, search: &Search, e: usize, left: &mut Lefts, y: &mut [i1
     take(&mut left.rooms, s, a);
 }
 
-/// Moves as much as can move from a slot along the links that a search found, to whichever demands have a cell there.
+/// Moves as much as can move from a slot along the links that a search found, to whichever demands have a cell there, as long as
+/// the slot has room.
 fn drain(cells: &Cells, search: &Search, s: usize, left: &mut Lefts, y: &mut [i128])
     requires within { AreWithin cells.now.whos.items cells.now.slots.items y.old left.old.lacks.items left.old.rooms.items }
     requires places { length search.now.nodes.items ≡ length left.old.lacks.items }
@@ -60,6 +61,9 @@ fn drain(cells: &Cells, search: &Search, s: usize, left: &mut Lefts, y: &mut [i1
 {
     let mut at = cells.by_slot.head(s);
     while let Some(e) = at {
+        if left.rooms[s] <= 0 {
+            return;
+        }
         raise(cells, search, e, left, y);
         at = cells.by_slot.nexts[e];
     }

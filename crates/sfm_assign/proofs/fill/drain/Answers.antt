@@ -27,6 +27,17 @@ raise-requires-clause-cell c =
     let (lt, mine) = pass_here slots c.args.s c.in-Some.e _ (rw c.in-Some.is at c.loop-at.invariant.passed) in
     omega (arith, lt, same)
 
+pub index-requires : goal.index-requires
+index-requires c =
+    let slots = c.args.cells.now.slots.items in
+    let left = c.loop-at.left in
+    let cells = within_cells c.args.cells.now.whos.items slots c.loop-at.y left.lacks.items left.rooms.items c.loop-at.invariant.within in
+    let same = cells.same in
+    let (lt, mine) = pass_here slots c.args.s c.in-Some.e _ (rw c.in-Some.is at c.loop-at.invariant.passed) in
+    let exist = cells.exist c.in-Some.e (omega (arith, lt, same)) in
+    let ok = left.rooms.ok.0 in
+    omega (arith, exist, mine, ok)
+
 pub loop-at-smaller : goal.loop-at-smaller
 loop-at-smaller c =
     let slots = c.args.cells.now.slots.items in
