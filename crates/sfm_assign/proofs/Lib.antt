@@ -18,3 +18,4 @@ pub mod Lending
 pub mod Loans
 pub mod Remembered
 pub mod Within
+pub mod Lowering

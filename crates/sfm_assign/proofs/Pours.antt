@@ -1,16 +1,15 @@
 -- What one cell after another gets in a first filling: within what its demand lacks and what its slot has left.
-use Rattle.std.proofs.Common.{◌≡◌, ℕ, ◌<◌, ◌^◌, List, length, set, ℤ, pos, Option, ◌+ℤ◌, ◌-ℤ◌, ◌≤ℤ◌, sym, ap, ◌∙◌, arith, refl, replicate, ⊎_elim, length-set, get_or-set_other, get_or-set_same}
+use Rattle.std.proofs.Common.{◌≡◌, ℕ, ◌<◌, ◌^◌, List, length, set, ℤ, pos, Option, ◌+ℤ◌, ◌-ℤ◌, ◌≤ℤ◌, sym, ap, ◌∙◌, arith, ⊎_elim, length-set, get_or-set_other, get_or-set_same}
 use Rattle.std.specs.List.{All}
 use Rattle.std.proofs.lemmas.Int.{ints}
 use Rattle.std.proofs.lemmas.Bool.{cases_eq}
 use Rattle.std.proofs.lemmas.List.Elements.{All-get_or}
-use Rattle.sfm_assign.specs.Splits.{sum_at, amount_at, IsAmount, IsCapacity}
+use Rattle.sfm_assign.specs.Splits.{sum_at, amount_at, IsCapacity}
 use Rattle.sfm_assign.specs.Cells.{label_at, AreCells, IsPart}
 use Rattle.sfm_assign.specs.Search.{AreLeft, IsRaised}
 use Rattle.sfm_assign.specs.declared.nodes.Node.{Node}
 use Rattle.sfm_assign.specs.Pours.{IsPouring, IsPoured}
 use Rattle.sfm_assign.proofs.Amounts.{AreAmounts, sum_at-set, sum_at-holds, only-same, only-other}
-use Rattle.sfm_assign.proofs.Outcomes.{sum_at-nothing, nothing_part}
 use Rattle.sfm_assign.proofs.Fills.{left_low, root_in, raised_more, raised_part}
 use Rattle.sfm_assign.proofs.Lefts.{left_taken}
 
@@ -96,19 +95,10 @@ pour_low demands capacities whos slots y z lacks rooms e i s cells inv lt who sl
     (left_low demands whos z lacks inv.lacks_are inv.part.got i (omega (arith, pl, li, who)), left_low capacities slots z rooms inv.rooms_are inv.part.within s (omega (arith, pr, ls, slot)))
 
 -- one cell more has got what it can get
-pub poured_more : (demands capacities : List ℤ) (whos slots : List ℕ) (y z lacks rooms : List ℤ) (e : ℕ) (most : ℤ) (z' lacks' rooms' : List ℤ) → AreCells (length demands) (length capacities) whos slots → e < length whos
-    → IsPouring demands capacities whos slots y z lacks rooms → IsPoured whos slots e most z lacks rooms z' lacks' rooms' → IsPouring demands capacities whos slots y z' lacks' rooms'
-poured_more demands capacities whos slots y z lacks rooms e most z' lacks' rooms' cells lt inv h =
+pub poured_more : (demands capacities : List ℤ) (whos slots : List ℕ) (y z lacks rooms : List ℤ) (e : ℕ) (z' lacks' rooms' : List ℤ) → AreCells (length demands) (length capacities) whos slots → e < length whos
+    → IsPouring demands capacities whos slots y z lacks rooms → IsPoured whos slots e z lacks rooms z' lacks' rooms' → IsPouring demands capacities whos slots y z' lacks' rooms'
+poured_more demands capacities whos slots y z lacks rooms e z' lacks' rooms' cells lt inv h =
     rw (h.got, h.lacks_less, h.rooms_less) (poured demands capacities whos slots y z lacks rooms e h.amount cells inv lt h.low h.fits h.lacking)
-
--- nothing on any cell leaves all
-pub pouring_nothing : (demands capacities : List ℤ) (whos slots : List ℕ) → All IsAmount demands → All IsCapacity capacities → IsPouring demands capacities whos slots (replicate (length whos) (pos 0)) (replicate (length whos) (pos 0)) demands capacities
-pouring_nothing demands capacities whos slots amounts bounded = record {
-  part = nothing_part demands capacities whos slots (λ i lt. (All-get_or IsAmount demands i (pos 0) lt amounts).low) (λ s lt. (All-get_or IsCapacity capacities s (pos 0) lt bounded).low);
-  more = λ i. omega (arith, ints);
-  lacks_are = record { places = refl; each = λ k lt. let z = sum_at-nothing k (length whos) whos in omega (arith, ints, z) };
-  rooms_are = record { places = refl; each = λ k lt. let z = sum_at-nothing k (length whos) slots in omega (arith, ints, z) };
-}
 
 -- an amount moves along links, and is taken off what its two ends have left
 pub moved_pouring : (demands capacities : List ℤ) (whos slots : List ℕ) (before y lacks rooms : List ℤ) (nodes : List (Option Node)) (last : ℕ) (a : ℤ) (z : List ℤ) → AreCells (length demands) (length capacities) whos slots

@@ -18,8 +18,8 @@ module _ (whos slots : List ℕ) (y lacks rooms : List ℤ) where
   raised_on z lacks' rooms' z'' lacks'' rooms'' f g = record { each = λ demands capacities before cells h. g.each demands capacities before cells (f.each demands capacities before cells h) }
 
   -- one cell gets what it can get
-  pub raised_poured : (e : ℕ) (most : ℤ) (z lacks' rooms' : List ℤ) → e < length whos → IsPoured whos slots e most y lacks rooms z lacks' rooms' → AreRaised whos slots y lacks rooms z lacks' rooms'
-  raised_poured e most z lacks' rooms' lt h = record { each = λ demands capacities before cells inv. poured_more demands capacities whos slots before y lacks rooms e most z lacks' rooms' cells lt inv h }
+  pub raised_poured : (e : ℕ) (z lacks' rooms' : List ℤ) → e < length whos → IsPoured whos slots e y lacks rooms z lacks' rooms' → AreRaised whos slots y lacks rooms z lacks' rooms'
+  raised_poured e z lacks' rooms' lt h = record { each = λ demands capacities before cells inv. poured_more demands capacities whos slots before y lacks rooms e z lacks' rooms' cells lt inv h }
 
   -- an amount moves along links
   pub raised_moved : (nodes : List (Option Node)) (last : ℕ) (a : ℤ) (z : List ℤ) → length nodes ≡ length lacks → last < length whos → pos 1 ≤ℤ a → a ≤ℤ amount_at rooms (label_at slots last) → (r : IsRaised whos slots nodes lacks last a y z)

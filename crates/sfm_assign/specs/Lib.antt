@@ -3,6 +3,7 @@ pub mod Cells
 pub mod Chains
 pub mod Search
 pub mod Pours
+pub mod Lowers
 pub mod Ends
 pub mod Lenders
 pub mod Spread

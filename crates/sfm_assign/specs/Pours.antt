@@ -13,10 +13,9 @@ pub record IsPouring (demands capacities : List ℤ) (whos slots : List ℕ) (y 
   pub rooms_are : AreLeft capacities slots z rooms
 
 -- a cell gets an amount, which is taken from what its demand lacks and from what its slot has left
-pub record IsPoured (whos slots : List ℕ) (e : ℕ) (most : ℤ) (y lacks rooms z lacks_after rooms_after : List ℤ) : Type 0 where
+pub record IsPoured (whos slots : List ℕ) (e : ℕ) (y lacks rooms z lacks_after rooms_after : List ℤ) : Type 0 where
   pub amount : ℤ
   pub low : pos 0 ≤ℤ amount
-  pub high : amount ≤ℤ most
   pub lacking : amount ≤ℤ amount_at lacks (label_at whos e)
   pub fits : amount ≤ℤ amount_at rooms (label_at slots e)
   pub got : z ≡ slice_set y e (amount_at y e +ℤ amount)

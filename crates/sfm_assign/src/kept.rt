@@ -9,6 +9,7 @@ ghost use Rattle.sfm_spec.specs.Sets.{Has};
 ghost use Rattle.sfm_assign.specs.Splits.{amount_at, IsAmount, IsCapacity, AreDemands};
 ghost use Rattle.sfm_assign.specs.Cells.{AreCells, AreMet};
 ghost use Rattle.sfm_assign.specs.Search.{AreLeft};
+ghost use Rattle.sfm_assign.specs.Lowers.{IsCharge, AreSmall};
 ghost use Rattle.sfm_assign.specs.Ends.{IsAssignEnd};
 ghost use Rattle.sfm_assign.specs.Lenders.{IsLender, with_more, IsMostUpto};
 ghost use Rattle.sfm_assign.specs.Spread.{AreAnswers, answer_at, IsKnown, IsWritten};
@@ -17,8 +18,8 @@ ghost use Rattle.sfm_assign.specs.declared.spread.Answer.TheVariants.{Full};
 use crate::demand::Demand;
 use crate::fill::fill_from;
 use crate::left::{Lefts, left_of};
-use crate::pour::{Poured, trimmed};
-use crate::splitting::{AssignEnd, Shares, met_shares, raise_all};
+use crate::lower::shift;
+use crate::splitting::{AssignEnd, Shares, met_shares, settle};
 use crate::spread::{Answer, find_answer};
 use sfm_base::{Memory, Set};
 use std::alloc::Global;
@@ -36,6 +37,13 @@ pub struct Kept {
     ghost left: { AreLeft demand.capacities shares.cells.slots.items shares.y.items rooms.items },
     ghost few: { vec_len answers ≤ length demand.demands },
     ghost known: { AreAnswers (length demand.demands) shares.cells.whos.items shares.cells.slots.items shares.y.items rooms.items answers.items },
+}
+
+/// Amounts by which demands are met, and what each slot then has left.
+#[derive(Drop)]
+struct Amounts {
+    y: Vec<i128>,
+    rooms: Vec<i128>,
 }
 
 /// Amounts by which demands are met of which one has been raised, what each slot then has left, and by how much it was raised.
@@ -187,29 +195,59 @@ impl Kept {
         forget(&mut self.answers);
     }
 
-    /// Amounts by which other demands are met, over the same lists and with other capacities, and what they leave.
+    /// What the split leaves of other demands and capacities over the same lists: below nothing where it is too much.
+    fn left_with(
+        &self,
+        alloc: Global,
+        demands: &[i128],
+        capacities: &[i128],
+    ) -> Result<Lefts, Memory>
+        requires sized { length demands.now ≡ length self.now.demand.demands }
+        requires slots { length capacities.now ≡ length self.now.demand.capacities }
+        requires amounts { All IsAmount demands.now }
+        requires bounded { All IsCapacity capacities.now }
+        ensures charge { IfOk result (λ r. IsCharge demands.now capacities.now self.now.shares.cells.whos.items self.now.shares.cells.slots.items self.now.shares.y.items r.lacks.items r.rooms.items) }
+        ensures lacks { IfOk result (λ r. AreSmall r.lacks.items) }
+        ensures rooms { IfOk result (λ r. AreSmall r.rooms.items) }
+    {
+        let before = self.demand.demands();
+        let mut lacks = vec![in alloc; 0; before.len()]?;
+        shift(&mut lacks, demands, before);
+        let mut rooms = Vec::from_slice(alloc, &self.rooms)?;
+        shift(&mut rooms, capacities, self.demand.capacities());
+        Ok(Lefts { lacks, rooms })
+    }
+
+    /// A copy of the amounts.
+    fn amounts(&self, alloc: Global) -> Result<Vec<i128>, Memory>
+        ensures { IfOk result (λ y. y.items ≡ self.now.shares.y.items) }
+    {
+        let y = Vec::from_slice(alloc, &self.shares.y)?;
+        Ok(y)
+    }
+
+    /// Amounts by which other demands are met, over the same lists and with other capacities, and what slots then have left.
     fn amounts_with(
         &self,
         alloc: Global,
         demands: &[i128],
         capacities: &[i128],
-    ) -> Result<Poured, AssignEnd>
+    ) -> Result<Amounts, AssignEnd>
+        requires sized { length demands.now ≡ length self.now.demand.demands }
+        requires slots { length capacities.now ≡ length self.now.demand.capacities }
         requires sound { AreDemands (record { demands = demands.now; lists = self.now.demand.lists; capacities = capacities.now }) }
         ensures met { MatchResult result (λ r. AreMet (record { demands = demands.now; lists = self.now.demand.lists; capacities = capacities.now }) self.now.shares.cells.whos.items self.now.shares.cells.slots.items r.y.items) (IsAssignEnd demands.now self.now.demand.lists capacities.now) }
-        ensures rooms { IfOk result (λ r. AreLeft capacities.now self.now.shares.cells.slots.items r.y.items r.left.rooms.items) }
+        ensures rooms { IfOk result (λ r. AreLeft capacities.now self.now.shares.cells.slots.items r.y.items r.rooms.items) }
     {
-        let cells = &self.shares.cells;
-        let Poured { mut y, mut left } = trimmed(
-            alloc,
-            cells,
-            demands,
-            capacities,
-            &self.shares.y,
-        )?;
-        if let Some(set) = raise_all(alloc, cells, &mut left, &mut y)? {
+        let mut left = self.left_with(alloc, demands, capacities)?;
+        let mut y = self.amounts(alloc)?;
+        if let Some(set) = settle(alloc, &self.shares.cells, &mut left, &mut y)? {
             return Err(AssignEnd::Shortage { set });
         }
-        Ok(Poured { y, left })
+        Ok(Amounts {
+            y,
+            rooms: left.rooms,
+        })
     }
 
     /// Puts other demands and capacities in place of these, over the same lists, and splits them, from the split as it stands:
@@ -232,10 +270,10 @@ impl Kept {
         ensures unchanged { OnErr result (self.new ≡ self.old) }
     {
         let _sound = self.demand.lists();
-        let Poured { y, left } = self.amounts_with(alloc, demands, capacities)?;
+        let Amounts { y, rooms } = self.amounts_with(alloc, demands, capacities)?;
         self.demand.copy_from(demands, capacities);
         self.shares.y = y;
-        self.rooms = left.rooms;
+        self.rooms = rooms;
         forget(&mut self.answers);
         Ok(())
     }

@@ -9,6 +9,7 @@ mod fill;
 mod greatest;
 mod kept;
 mod left;
+mod lower;
 mod met;
 mod nodes;
 mod pour;

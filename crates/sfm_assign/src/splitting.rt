@@ -4,12 +4,14 @@ ghost use Rattle.std.specs.Prelude.{◌≡◌, IfOk, MatchResult};
 ghost use Rattle.sfm_assign.specs.Splits.{AreDemands, IsAssignment};
 ghost use Rattle.sfm_assign.specs.Cells.{joined, owners, IsPart, AreMet};
 ghost use Rattle.sfm_assign.specs.Pours.{AreWithin, AreRaised, IsToldOf};
+ghost use Rattle.sfm_assign.specs.Lowers.{AreCharged, AreSettled};
 ghost use Rattle.sfm_assign.specs.Ends.{IsAssignEnd};
 
 use crate::cells::Cells;
 use crate::demand::Demand;
 use crate::fill::fill_from;
 use crate::left::{Lefts, first_lacking, lefts_of};
+use crate::lower::lower_all;
 use crate::nodes::found_set;
 use crate::pour::pour;
 use crate::split::Split;
@@ -56,9 +58,29 @@ impl Shares {
     }
 }
 
-/// Raises amounts until each demand gets what it asks for, first cell by cell, then by searches; or, where one still lacks
-/// something, tells a closed set with all that do. What is left is kept with them.
-pub(crate) fn raise_all(
+/// Raises amounts by searches until each demand gets what it asks for; or, where one still lacks something, tells a closed set with
+/// all that do. What is left is kept with them.
+fn search_all(
+    alloc: Global,
+    cells: &Cells,
+    left: &mut Lefts,
+    y: &mut [i128],
+) -> Result<Option<Set>, Memory>
+    requires within { AreWithin cells.now.whos.items cells.now.slots.items y.old left.old.lacks.items left.old.rooms.items }
+    ensures raised { IfOk result (λ _. AreRaised cells.now.whos.items cells.now.slots.items y.old left.old.lacks.items left.old.rooms.items y.new left.new.lacks.items left.new.rooms.items) }
+    ensures told { IfOk result (IsToldOf cells.now.whos.items cells.now.slots.items y.new left.new.lacks.items left.new.rooms.items) }
+{
+    let search = fill_from(alloc, cells, left, y)?;
+    if first_lacking(&left.lacks).is_some() {
+        let set = found_set(alloc, &search.nodes)?;
+        return Ok(Some(set));
+    }
+    Ok(None)
+}
+
+/// Raises amounts until each demand gets what it asks for, first cell by cell, then by searches; or tells a closed set with all
+/// that still lack something.
+fn raise_all(
     alloc: Global,
     cells: &Cells,
     left: &mut Lefts,
@@ -69,12 +91,24 @@ pub(crate) fn raise_all(
     ensures told { IfOk result (IsToldOf cells.now.whos.items cells.now.slots.items y.new left.new.lacks.items left.new.rooms.items) }
 {
     pour(cells, left, y);
-    let search = fill_from(alloc, cells, left, y)?;
-    if first_lacking(&left.lacks).is_some() {
-        let set = found_set(alloc, &search.nodes)?;
-        return Ok(Some(set));
-    }
-    Ok(None)
+    let set = search_all(alloc, cells, left, y)?;
+    Ok(set)
+}
+
+/// Lowers the amounts that are too much, then raises amounts by searches until each demand gets what it asks for; or tells a
+/// closed set with all that still lack something.
+pub(crate) fn settle(
+    alloc: Global,
+    cells: &Cells,
+    left: &mut Lefts,
+    y: &mut [i128],
+) -> Result<Option<Set>, Memory>
+    requires charged { AreCharged cells.now.whos.items cells.now.slots.items y.old left.old.lacks.items left.old.rooms.items }
+    ensures { IfOk result (AreSettled cells.now.whos.items cells.now.slots.items y.old left.old.lacks.items left.old.rooms.items y.new left.new.rooms.items) }
+{
+    lower_all(cells, &mut left.lacks, &mut left.rooms, y);
+    let set = search_all(alloc, cells, left, y)?;
+    Ok(set)
 }
 
 /// Amounts raised until each demand gets what it asks for.

@@ -28,7 +28,7 @@ loop-e-preserved c =
     let ql = written new.lacks (drop (length new.lacks) lacks.items) lacks.len (c.pour_on.auto.lacks ∙ (ap length c.deref_mut.ensures.value ∙ sym lacks.ok.0)) in
     let qr = written new.rooms (drop (length new.rooms) rooms.items) rooms.len (c.pour_on.auto.rooms ∙ (ap length c.deref_mut-in-loop-e.ensures.value ∙ sym rooms.ok.0)) in
     let h = rw (c.deref_mut.ensures.value, c.deref_mut-in-loop-e.ensures.value) at c.pour_on.ensures in
-    let more = raised_poured whos slots y lacks.items rooms.items e _ new.y new.lacks new.rooms (omega arith) h in
+    let more = raised_poured whos slots y lacks.items rooms.items e new.y new.lacks new.rooms (omega arith) h in
     rw (ql, qr) (record {
       raised = raised_on whos slots c.args.y.now c.args.left.now.lacks.items c.args.left.now.rooms.items y lacks.items rooms.items new.y new.lacks new.rooms inv.raised more;
       within = still_within whos slots y lacks.items rooms.items inv.within new.y new.lacks new.rooms more;

@@ -21,16 +21,12 @@ take-requires-clause-low c =
     let who = get_or_read whos e i lt c.index-i.ensures 0 in
     let slot = get_or_read slots e s (omega (arith, lt, same)) c.index-s.ensures 0 in
     let (ll, lr) = pour_low demands capacities whos slots before y lacks rooms e i s cells inv lt (sym who) (sym slot) in
-    let most = c.requires.low in
-    let b : ℤ = c.min.result in
     let a : ℤ = c.min-a.result in
     let fl : FitsSigned w128 (get_or lacks i (pos 0)) = search rules in
     let fr : FitsSigned w128 (get_or rooms s (pos 0)) = search rules in
-    let fb : FitsSigned w128 b = search rules in
     let fa : FitsSigned w128 a = search rules in
-    let v = c.min.ensures.value in
     let w = c.min-a.ensures.value in
-    let low : pos 0 ≤ℤ a = omega (arith, ints, clamps, v, w, ll, lr, most) in
+    let low : pos 0 ≤ℤ a = omega (arith, ints, clamps, w, ll, lr) in
     simp to_z-of_z low
 
 pub take-requires-2-clause-place : goal.take-requires-2-clause-place
@@ -60,16 +56,12 @@ take-requires-2-clause-low c =
     let who = get_or_read whos e i lt c.index-i.ensures 0 in
     let slot = get_or_read slots e s (omega (arith, lt, same)) c.index-s.ensures 0 in
     let (ll, lr) = pour_low demands capacities whos slots before y lacks rooms e i s cells inv lt (sym who) (sym slot) in
-    let most = c.requires.low in
-    let b : ℤ = c.min.result in
     let a : ℤ = c.min-a.result in
     let fl : FitsSigned w128 (get_or lacks i (pos 0)) = search rules in
     let fr : FitsSigned w128 (get_or rooms s (pos 0)) = search rules in
-    let fb : FitsSigned w128 b = search rules in
     let fa : FitsSigned w128 a = search rules in
-    let v = c.min.ensures.value in
     let w = c.min-a.ensures.value in
-    let low : pos 0 ≤ℤ a = omega (arith, ints, clamps, v, w, ll, lr, most) in
+    let low : pos 0 ≤ℤ a = omega (arith, ints, clamps, w, ll, lr) in
     simp to_z-of_z low
 
 pub put-requires-clause-low : goal.put-requires-clause-low
@@ -88,17 +80,13 @@ put-requires-clause-low c =
     let who = get_or_read whos e i lt c.index-i.ensures 0 in
     let slot = get_or_read slots e s (omega (arith, lt, same)) c.index-s.ensures 0 in
     let (ll, lr) = pour_low demands capacities whos slots before y lacks rooms e i s cells inv lt (sym who) (sym slot) in
-    let most = c.requires.low in
-    let b : ℤ = c.min.result in
     let a : ℤ = c.min-a.result in
     let fl : FitsSigned w128 (get_or lacks i (pos 0)) = search rules in
     let fr : FitsSigned w128 (get_or rooms s (pos 0)) = search rules in
-    let fb : FitsSigned w128 b = search rules in
     let fa : FitsSigned w128 a = search rules in
-    let v = c.min.ensures.value in
     let w = c.min-a.ensures.value in
-    let low : pos 0 ≤ℤ a = omega (arith, ints, clamps, v, w, ll, lr, most) in
-    let fit_r : a ≤ℤ get_or rooms s (pos 0) = omega (arith, ints, clamps, v, w) in
+    let low : pos 0 ≤ℤ a = omega (arith, ints, clamps, w, ll, lr) in
+    let fit_r : a ≤ℤ get_or rooms s (pos 0) = omega (arith, ints, clamps, w) in
     simp to_z-of_z (poured_low demands capacities whos slots before y lacks rooms e a cells inv lt low (rw slot at fit_r))
 
 pub put-requires-clause-high : goal.put-requires-clause-high
@@ -117,17 +105,13 @@ put-requires-clause-high c =
     let who = get_or_read whos e i lt c.index-i.ensures 0 in
     let slot = get_or_read slots e s (omega (arith, lt, same)) c.index-s.ensures 0 in
     let (ll, lr) = pour_low demands capacities whos slots before y lacks rooms e i s cells inv lt (sym who) (sym slot) in
-    let most = c.requires.low in
-    let b : ℤ = c.min.result in
     let a : ℤ = c.min-a.result in
     let fl : FitsSigned w128 (get_or lacks i (pos 0)) = search rules in
     let fr : FitsSigned w128 (get_or rooms s (pos 0)) = search rules in
-    let fb : FitsSigned w128 b = search rules in
     let fa : FitsSigned w128 a = search rules in
-    let v = c.min.ensures.value in
     let w = c.min-a.ensures.value in
-    let low : pos 0 ≤ℤ a = omega (arith, ints, clamps, v, w, ll, lr, most) in
-    let fit_r : a ≤ℤ get_or rooms s (pos 0) = omega (arith, ints, clamps, v, w) in
+    let low : pos 0 ≤ℤ a = omega (arith, ints, clamps, w, ll, lr) in
+    let fit_r : a ≤ℤ get_or rooms s (pos 0) = omega (arith, ints, clamps, w) in
     simp to_z-of_z (poured_small demands capacities whos slots before y lacks rooms e a cells inv lt low (rw slot at fit_r) bounded)
 
 pub returns : goal.returns
@@ -146,23 +130,17 @@ returns c =
     let who = get_or_read whos e i lt c.index-i.ensures 0 in
     let slot = get_or_read slots e s (omega (arith, lt, same)) c.index-s.ensures 0 in
     let (ll, lr) = pour_low demands capacities whos slots before y lacks rooms e i s cells inv lt (sym who) (sym slot) in
-    let most = c.requires.low in
-    let b : ℤ = c.min.result in
     let a : ℤ = c.min-a.result in
     let fl : FitsSigned w128 (get_or lacks i (pos 0)) = search rules in
     let fr : FitsSigned w128 (get_or rooms s (pos 0)) = search rules in
-    let fb : FitsSigned w128 b = search rules in
     let fa : FitsSigned w128 a = search rules in
-    let v = c.min.ensures.value in
     let w = c.min-a.ensures.value in
-    let low : pos 0 ≤ℤ a = omega (arith, ints, clamps, v, w, ll, lr, most) in
-    let fit_r : a ≤ℤ get_or rooms s (pos 0) = omega (arith, ints, clamps, v, w) in
-    let fit_l : a ≤ℤ get_or lacks i (pos 0) = omega (arith, ints, clamps, v, w) in
-    let fm : a ≤ℤ c.args.most = omega (arith, ints, clamps, v, w) in
+    let low : pos 0 ≤ℤ a = omega (arith, ints, clamps, w, ll, lr) in
+    let fit_r : a ≤ℤ get_or rooms s (pos 0) = omega (arith, ints, clamps, w) in
+    let fit_l : a ≤ℤ get_or lacks i (pos 0) = omega (arith, ints, clamps, w) in
     record {
       amount = a;
       low = low;
-      high = fm;
       lacking = rw who at fit_l;
       fits = rw slot at fit_r;
       got = simp to_z-of_z at c.put.ensures;

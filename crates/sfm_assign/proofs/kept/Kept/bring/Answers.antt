@@ -1,7 +1,7 @@
 use Rattle.sfm_assign.proofs.Growing.{other_demands}
 use Rattle.sfm_assign.proofs.kept.Kept.bring.Goals as goal
 
-pub amounts_with-requires : goal.amounts_with-requires
-amounts_with-requires c =
+pub amounts_with-requires-clause-sound : goal.amounts_with-requires-clause-sound
+amounts_with-requires-clause-sound c =
     let r = c.requires in
-    record { sound = other_demands c.args.self.now.demand c.lists-sound.ensures.sound c.args.demands.now c.args.capacities.now r.sized r.slots r.amounts r.bounded }
+    other_demands c.args.self.now.demand c.lists-sound.ensures.sound c.args.demands.now c.args.capacities.now r.sized r.slots r.amounts r.bounded
