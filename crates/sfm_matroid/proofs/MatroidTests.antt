@@ -1,7 +1,7 @@
 -- The tests that tell the bases of a graphic and of a transversal matroid: for each vertex, no edges get more than their ends
 -- but that vertex may hold; and no members get more than their slots may hold. What slots hold, as a sum of capacities.
 -- Textbook: Schrijver, Combinatorial Optimization, sections 22 and 50.
-use Rattle.std.proofs.Common.{◌≡◌, ◌*◌, ◌≢◌, ◌⊎◌, inl, inr, ℕ, zero, suc, ◌+◌, ◌<◌, Bool, true, false, not, ◌&&◌, List, [], ◌∷◌, length, get_or, set, replicate, nat_eq, ℤ, pos, ◌+ℤ◌, ◌*ℤ◌, ◌≤ℤ◌, refl, sym, ap, ◌∙◌, arith, length-set}
+use Rattle.std.proofs.Common.{◌≡◌, ◌≢◌, ◌⊎◌, inl, inr, ℕ, zero, suc, ◌+◌, ◌<◌, Bool, true, false, not, ◌&&◌, List, [], ◌∷◌, length, get_or, set, replicate, nat_eq, ℤ, pos, ◌+ℤ◌, ◌*ℤ◌, ◌≤ℤ◌, refl, sym, ap, ◌∙◌, arith, length-set}
 use Rattle.std.proofs.lemmas.Bool.{cases_Bool, cases_eq}
 use Rattle.std.proofs.lemmas.Int.{ints}
 use Rattle.std.proofs.lemmas.List.{length-replicate, get_or-replicate}
@@ -18,7 +18,7 @@ use Rattle.sfm_matroid.specs.Counts.{unit_of, count_below}
 use Rattle.sfm_matroid.specs.Matroids.{IsMatroid, AreRanks, rank-size}
 use Rattle.sfm_matroid.specs.Graphs.{EndsBelow, graphic_rank}
 use Rattle.sfm_matroid.specs.Forests.{forest-matroid, graphic-ranks}
-use Rattle.sfm_matroid.specs.Numbered.{numbered}
+use Rattle.sfm_matroid.specs.Numbered.{numbered, vertex_count}
 use Rattle.sfm_matroid.proofs.Numbers.{length-numbered, numbered_below, rank-number}
 use Rattle.sfm_matroid.specs.Cuts.{IsWithinEnds}
 use Rattle.sfm_matroid.proofs.CutForms.{ends_from_rank, rank_from_ends}
@@ -78,7 +78,7 @@ graphic_tests edges m below q w low = record {
 
 -- the same by the numbers of the ends
 pub numbered_tests : (edges : List Edge) (q w : ℤ) (low : pos 0 ≤ℤ (q *ℤ w))
-    → AreTests (length edges) (2 * length edges) q w low (IsForest edges) (graphic_rank edges) (forest-matroid edges) (graphic-ranks edges) (λ a x. IsWithinEnds (numbered edges) (2 * length edges) (q *ℤ w) x a)
+    → AreTests (length edges) (vertex_count edges) q w low (IsForest edges) (graphic_rank edges) (forest-matroid edges) (graphic-ranks edges) (λ a x. IsWithinEnds (numbered edges) (vertex_count edges) (q *ℤ w) x a)
 numbered_tests edges q w low = record {
   needed = λ x sized counts within. record {
     capped = capped_by_rank (length edges) (IsForest edges) (graphic_rank edges) (forest-matroid edges) (graphic-ranks edges) (q *ℤ w) low x sized within;
@@ -91,9 +91,9 @@ numbered_tests edges q w low = record {
   smaller = λ a x y lt kx ky counts le met s ks. let h = met s ks in let r = sum_over-below s x y (kx ∙ sym ky) (λ e h. le e (omega (arith, h, kx))) in omega (arith, ints, h, r);
 } where
   m : ℕ
-  m = 2 * length edges
+  m = vertex_count edges
 
-  below : (s : List Bool) → EndsBelow (numbered edges) (2 * length edges)
+  below : (s : List Bool) → EndsBelow (numbered edges) (vertex_count edges)
   below s = numbered_below edges s
 
 -- one test

@@ -1,5 +1,5 @@
 -- Numbers of ends and demands of edges, place by place.
-use Rattle.std.proofs.Common.{◌≡◌, ℕ, zero, suc, ◌+◌, ◌<◌, ◌≤◌, ◌^◌, List, [], ◌∷◌, ◌++◌, length, take, drop, get_or, replicate, nat_eq, ℤ, pos, ◌≤ℤ◌, if◌then◌else◌, refl, sym, ap, ◌∙◌, arith, length-set}
+use Rattle.std.proofs.Common.{◌≡◌, ℕ, zero, suc, ◌+◌, ◌<◌, ◌≤◌, ◌^◌, List, [], ◌∷◌, ◌++◌, length, take, drop, get_or, replicate, ℤ, pos, ◌≤ℤ◌, refl, sym, ap, ◌∙◌, arith, length-set}
 use Rattle.std.specs.List.{All}
 use Rattle.std.proofs.lemmas.Int.{ints}
 use Rattle.std.proofs.lemmas.List.{drop_more, get_or-map, get_or-replicate, length-map, length-replicate, set_past}
@@ -9,12 +9,13 @@ use Rattle.sfm_spec.specs.Kinds.{no_edge}
 use Rattle.sfm_assign.specs.Splits.{IsCapacity}
 use Rattle.sfm_matroid.specs.Ends.{edges_of, edge_of}
 use Rattle.sfm_matroid.specs.Graphs.{edge_at, EndsBelow}
-use Rattle.sfm_matroid.specs.Numbered.{number, numbered, renumbered, ends_of, end_lists, vertex_capacities}
+use Rattle.sfm_matroid.specs.Numbered.{number, numbered, renumbered, ends_of, end_lists, vertices_after, vertex_capacities, with_vertex}
 use Rattle.sfm_matroid.proofs.Labels.{length-edges}
 
-pub number-step : (pairs : List (ℕ × ℕ)) (v e : ℕ) → e < length pairs
-    → number (edges_of (drop e pairs)) v ≡ (if nat_eq (get_or pairs e (0, 0)).0 v then 0 else (if nat_eq (get_or pairs e (0, 0)).1 v then 1 else 2 + number (edges_of (drop (e + 1) pairs)) v))
-number-step pairs v e lt = ap (λ ps. number (edges_of ps) v) (drop_more pairs e (0, 0) lt)
+-- the vertices, with those of an edge more
+pub vertices-step : (vertices : List ℕ) (pairs : List (ℕ × ℕ)) (e : ℕ) → e < length pairs
+    → vertices_after vertices (edges_of (drop e pairs)) ≡ vertices_after (with_vertex (with_vertex vertices (get_or pairs e (0, 0)).0) (get_or pairs e (0, 0)).1) (edges_of (drop (e + 1) pairs))
+vertices-step vertices pairs e lt = ap (λ ps. vertices_after vertices (edges_of ps)) (drop_more pairs e (0, 0) lt)
 
 pub pair-edge : (pairs : List (ℕ × ℕ)) (e : ℕ) → e < length pairs → edge_at (edges_of pairs) e ≡ edge_of (get_or pairs e (0, 0))
 pair-edge pairs e lt = get_or-map edge_of pairs e (0, 0) no_edge lt

@@ -1,10 +1,10 @@
 -- What is kept beside a base: a split of it in a test.
-use Rattle.std.specs.Prelude.{◌≡◌, ℕ, ◌*◌, ◌<◌, List, length, replicate, ℤ, ◌*ℤ◌, Option, Some, None}
+use Rattle.std.specs.Prelude.{◌≡◌, ℕ, ◌<◌, List, length, replicate, ℤ, ◌*ℤ◌, Option, Some, None}
 use Rattle.std.specs.List.{All}
 use Rattle.sfm_spec.specs.Kinds.{Edge}
 use Rattle.sfm_assign.specs.Splits.{CanBeMet, Demands}
 use Rattle.sfm_assign.specs.declared.kept.Kept.{Kept}
-use Rattle.sfm_matroid.specs.Numbered.{end_lists, numbered, vertex_capacities}
+use Rattle.sfm_matroid.specs.Numbered.{end_lists, numbered, vertex_capacities, vertex_count}
 use Rattle.sfm_matroid.specs.declared.rooted.RootSplit.{RootSplit}
 use Rattle.sfm_matroid.specs.declared.rooted.Spare.{Spare}
 use Rattle.sfm_matroid.specs.declared.splits.SlotSplit.{SlotSplit}
@@ -54,7 +54,7 @@ pub record IsSlotSplit (entries : List (List ℕ)) (c : ℤ) (x : List ℤ) (not
 
 -- what is kept beside a base of q times a graphic term: the split in the test of one vertex
 abbrev pub graphic_fits : ℤ → List Edge → RootSplit → ℤ → List ℤ → Type 0
-graphic_fits w edges note q x = IsRootSplit (numbered edges) (2 * length edges) (q *ℤ w) x note
+graphic_fits w edges note q x = IsRootSplit (numbered edges) (vertex_count edges) (q *ℤ w) x note
 
 -- what is kept beside a base of q times a transversal term: the split in its test
 abbrev pub transversal_fits : ℤ → List (List ℕ) → SlotSplit → ℤ → List ℤ → Type 0

@@ -1,12 +1,33 @@
--- Vertices numbered by where they first stand among the ends of the edges, and edges as demands on their ends.
-use Rattle.std.proofs.Common.{◌≡◌, ◌⊎◌, ℕ, ◌+◌, ◌<◌, List, [], ◌∷◌, length, map, nat_eq, ℤ, pos, replicate, set, if◌then◌else◌}
+-- Vertices numbered without gaps, in the order in which they first stand among the ends of the edges, and edges as demands on
+-- their ends.
+use Rattle.std.proofs.Common.{◌≡◌, ◌⊎◌, ℕ, ◌<◌, List, [], ◌∷◌, ◌++◌, length, map, nat_eq, ℤ, pos, replicate, set, if◌then◌else◌}
+use Rattle.std.specs.List.{position_or_len}
 use Rattle.sfm_spec.specs.Kinds.{Edge}
 use Rattle.sfm_matroid.specs.Graphs.{edge_at}
 
--- where v first stands among the ends, tail before head
+-- where v first stands in a list; its length where it does not
+abbrev pub place_of : List ℕ → ℕ → ℕ
+place_of vertices v = position_or_len (λ u. nat_eq u v) vertices
+
+-- v behind a list, unless it stands there
+abbrev pub with_vertex : List ℕ → ℕ → List ℕ
+with_vertex vertices v = if nat_eq (place_of vertices v) (length vertices) then vertices ++ v ∷ [] else vertices
+
+-- the ends of edges behind a list, tail before head, but those that stand before
+abbrev pub vertices_after : List ℕ → List Edge → List ℕ
+vertices_after vertices [] = vertices
+vertices_after vertices (edge ∷ edges) = vertices_after (with_vertex (with_vertex vertices edge.tail) edge.head) edges
+
+-- the ends of edges, each once, in the order in which they first stand, and how many they are
+abbrev pub vertices_of : List Edge → List ℕ
+vertices_of edges = vertices_after [] edges
+
+abbrev pub vertex_count : List Edge → ℕ
+vertex_count edges = length (vertices_of edges)
+
+-- the number of v: how many ends first stand before it
 abbrev pub number : List Edge → ℕ → ℕ
-number [] v = 0
-number (edge ∷ edges) v = if nat_eq edge.tail v then 0 else (if nat_eq edge.head v then 1 else 2 + number edges v)
+number edges v = place_of (vertices_of edges) v
 
 abbrev pub renumbered : (ℕ → ℕ) → Edge → Edge
 renumbered f edge = record { tail = f edge.tail; head = f edge.head }

@@ -4,7 +4,7 @@
 // tails are enough. What an edge u may get is told by the test of an end of it alone: the room of (u, v) is the least of what v
 // has, what u lacks of q·w, and what u lacks of the most that it gets in that test without v, and to whom u has room is told by
 // one search in it.
-ghost use Rattle.std.specs.Prelude.{◌≡◌, ◌≢◌, ◌↔◌, ◌*◌, IsTrue, ℕ, ◌<◌, ◌≤◌, ◌^◌, Bool, List, length, slice_index_or, ℤ, pos, neg_ℤ, ◌+ℤ◌, ◌-ℤ◌, ◌*ℤ◌, ◌≤ℤ◌, IfOk, OnOk, Some, None};
+ghost use Rattle.std.specs.Prelude.{◌≡◌, ◌≢◌, ◌↔◌, IsTrue, ℕ, ◌<◌, ◌≤◌, ◌^◌, Bool, List, length, slice_index_or, ℤ, pos, neg_ℤ, ◌+ℤ◌, ◌-ℤ◌, ◌*ℤ◌, ◌≤ℤ◌, IfOk, OnOk, Some, None};
 ghost use Rattle.std.specs.List.{All};
 ghost use Rattle.sfm_assign.specs.Splits.{IsAmount, CanBeMet};
 ghost use Rattle.sfm_spec.specs.Bounds.{IsAtMost, IsEntry, IsFactor, IsGiven, AreElements};
@@ -13,7 +13,7 @@ ghost use Rattle.sfm_law.specs.Room.{IsRoom, IsReach, IsWithinRoom};
 ghost use Rattle.sfm_spec.specs.Kinds.{IsForest, IsRank, IsRankFunction};
 ghost use Rattle.sfm_matroid.specs.Ends.{edges_of};
 ghost use Rattle.sfm_matroid.specs.Cuts.{IsWithinEnds};
-ghost use Rattle.sfm_matroid.specs.Numbered.{IsEndOf, numbered, end_lists, vertex_capacities};
+ghost use Rattle.sfm_matroid.specs.Numbered.{IsEndOf, numbered, vertex_count, end_lists, vertex_capacities};
 ghost use Rattle.sfm_matroid.specs.Notes.{end_demands, graphic_fits, IsOverEnds, IsRootSplit};
 ghost use Rattle.sfm_matroid.specs.declared.rooted.Spare.{Spare};
 ghost use Rattle.sfm_spec.specs.Rows.{Depends};
@@ -22,11 +22,12 @@ ghost use Rattle.sfm_matroid.specs.GraphicLaws.{graphic-family, graphic-submodul
 
 use crate::ends::Ends;
 use crate::givers::row;
+use crate::graph::{Graph, numbered};
 use crate::growing::{grow, whole};
 use crate::order::by_tails;
 use crate::room::{beside, moved, raise, without};
 use crate::rooted::{RootSplit, Spare, root_split, take_kept};
-use crate::testing::{brought, numbered, passes_tails};
+use crate::testing::{brought, passes_tails};
 use sfm_assign::Kept;
 use sfm_base::{Memory, Places, Set};
 use sfm_law::{Room, Term, are_within, has_sum, product};
@@ -41,8 +42,8 @@ pub struct Graphic {
     pub ends: Ends,
     /// The edges that are taken one after another unless they close a trail.
     pub basis: Set,
-    /// The ends by their numbers: the tests that tell bases go over these.
-    numbers: Vec<(usize, usize)>,
+    /// The edges by the numbers of their ends: the tests that tell bases go over these.
+    graph: Graph,
     /// The edges by their tails: one move of a root serves those with one tail.
     order: Vec<usize>,
     pub ghost elements: { AreElements places },
@@ -51,7 +52,8 @@ pub struct Graphic {
     pub ghost given: { IsGiven w },
     pub ghost same_count: { length ends ≡ length places },
     pub ghost based: { basis ≡ graphic_basis ends },
-    ghost of_ends: { edges_of numbers.items ≡ numbered ends },
+    ghost of_ends: { edges_of graph.ends.items ≡ numbered ends },
+    ghost counted: { graph.vertices ≡ vertex_count ends },
 }
 
 impl Graphic {
@@ -77,15 +79,15 @@ impl Graphic {
         let places = Places::from_slice(alloc, elements)?;
         let all = whole(alloc, ends.len())?;
         let basis = grow(alloc, ends, &all)?;
-        let numbers = numbered(alloc, ends)?;
-        let order = by_tails(alloc, &numbers)?;
+        let graph = numbered(alloc, ends)?;
+        let order = by_tails(alloc, &graph)?;
         let ends = Ends::from_slice(alloc, ends)?;
         Ok(Graphic {
             places,
             w,
             ends,
             basis,
-            numbers,
+            graph,
             order,
         })
     }
@@ -180,9 +182,9 @@ impl Graphic {
         requires amounts { All IsAmount x.now }
         requires low { pos 0 ≤ℤ most }
         requires high { most ≤ℤ pos (10 ^ 24) }
-        ensures { IfOk result (λ r. IsTrue r ↔ ((a : ℕ) → a < 2 * length self.now.ends → IsWithinEnds (numbered self.now.ends) (2 * length self.now.ends) most x.now a)) }
+        ensures { IfOk result (λ r. IsTrue r ↔ ((a : ℕ) → a < vertex_count self.now.ends → IsWithinEnds (numbered self.now.ends) (vertex_count self.now.ends) most x.now a)) }
     {
-        let passed = passes_tails(alloc, &self.numbers, x, most)?;
+        let passed = passes_tails(alloc, &self.graph, x, most)?;
         Ok(passed)
     }
 
@@ -224,7 +226,7 @@ impl Graphic {
         requires { u < length self.now.places }
         ensures { IsEndOf (numbered self.now.ends) u result }
     {
-        let (tail, head) = self.numbers[u];
+        let (tail, head) = self.graph.ends[u];
         if root == head { head } else { tail }
     }
 
@@ -241,15 +243,15 @@ impl Graphic {
         cap: i128,
         root: usize,
     ) -> Result<(), Memory>
-        requires over { IsOverEnds (numbered self.now.ends) (2 * length self.now.ends) kept.old.demand }
+        requires over { IsOverEnds (numbered self.now.ends) (vertex_count self.now.ends) kept.old.demand }
         requires entries { length x.now ≡ length self.now.places }
         requires amounts { All IsAmount x.now }
         requires low { pos 0 ≤ℤ cap }
         requires high { cap ≤ℤ pos (10 ^ 24) }
-        requires met { CanBeMet x.now (end_lists (numbered self.now.ends)) (vertex_capacities (2 * length self.now.ends) cap root) }
-        ensures { OnOk result (kept.new.demand ≡ end_demands (numbered self.now.ends) (2 * length self.now.ends) cap x.now root) }
+        requires met { CanBeMet x.now (end_lists (numbered self.now.ends)) (vertex_capacities (vertex_count self.now.ends) cap root) }
+        ensures { OnOk result (kept.new.demand ≡ end_demands (numbered self.now.ends) (vertex_count self.now.ends) cap x.now root) }
     {
-        if !brought(alloc, kept, x, cap, root)? {
+        if !brought(alloc, &self.graph, kept, x, cap, root)? {
             unreachable!();
         }
         Ok(())
@@ -265,11 +267,11 @@ impl Graphic {
         requires amounts { All IsAmount x.now }
         requires low { pos 0 ≤ℤ cap }
         requires high { cap ≤ℤ pos (10 ^ 24) }
-        requires met { CanBeMet x.now (end_lists (numbered self.now.ends)) (vertex_capacities (2 * length self.now.ends) cap root) }
+        requires met { CanBeMet x.now (end_lists (numbered self.now.ends)) (vertex_capacities (vertex_count self.now.ends) cap root) }
         ensures root { IfOk result (λ r. r.root ≡ root) }
-        ensures split { IfOk result (IsRootSplit (numbered self.now.ends) (2 * length self.now.ends) cap x.now) }
+        ensures split { IfOk result (IsRootSplit (numbered self.now.ends) (vertex_count self.now.ends) cap x.now) }
     {
-        let note = root_split(alloc, &self.numbers, x, cap, root)?;
+        let note = root_split(alloc, &self.graph, x, cap, root)?;
         Ok(note)
     }
 
@@ -336,8 +338,8 @@ impl Graphic {
         requires entries { length x.now ≡ length self.now.places }
         requires base { IsBase (times q (graphic_value self.now.w self.now.ends)) x.now }
         requires place { u < length x.now }
-        requires kept { IsOverEnds (numbered self.now.ends) (2 * length self.now.ends) note.old.kept.demand }
-        requires spare { (s : Spare) → note.old.spare ≡ Some s → IsOverEnds (numbered self.now.ends) (2 * length self.now.ends) s.kept.demand }
+        requires kept { IsOverEnds (numbered self.now.ends) (vertex_count self.now.ends) note.old.kept.demand }
+        requires spare { (s : Spare) → note.old.spare ≡ Some s → IsOverEnds (numbered self.now.ends) (vertex_count self.now.ends) s.kept.demand }
         ensures end { OnOk result (IsEndOf (numbered self.now.ends) u note.new.root) }
         ensures noted { OnOk result (graphic_fits self.now.w self.now.ends note.new q x.now) }
     {
@@ -475,9 +477,9 @@ impl Graphic {
     /// Takes the spare split in place of the one that is kept, if its root is an end of u.
     fn take_spare(&self, note: &mut RootSplit, u: usize)
         requires place { u < length self.now.places }
-        requires kept { IsOverEnds (numbered self.now.ends) (2 * length self.now.ends) note.old.kept.demand }
-        requires spare { (s : Spare) → note.old.spare ≡ Some s → IsOverEnds (numbered self.now.ends) (2 * length self.now.ends) s.kept.demand }
-        ensures kept { IsOverEnds (numbered self.now.ends) (2 * length self.now.ends) note.new.kept.demand }
+        requires kept { IsOverEnds (numbered self.now.ends) (vertex_count self.now.ends) note.old.kept.demand }
+        requires spare { (s : Spare) → note.old.spare ≡ Some s → IsOverEnds (numbered self.now.ends) (vertex_count self.now.ends) s.kept.demand }
+        ensures kept { IsOverEnds (numbered self.now.ends) (vertex_count self.now.ends) note.new.kept.demand }
         ensures spare { note.new.spare ≡ None }
     {
         if let Some(spare) = note.spare.take() {
@@ -506,8 +508,8 @@ impl Graphic {
         requires entries { length x.now ≡ length self.now.places }
         requires base { IsBase (times q (graphic_value self.now.w self.now.ends)) x.now }
         requires place { u < length x.now }
-        requires kept { IsOverEnds (numbered self.now.ends) (2 * length self.now.ends) note.old.kept.demand }
-        requires spare { (s : Spare) → note.old.spare ≡ Some s → IsOverEnds (numbered self.now.ends) (2 * length self.now.ends) s.kept.demand }
+        requires kept { IsOverEnds (numbered self.now.ends) (vertex_count self.now.ends) note.old.kept.demand }
+        requires spare { (s : Spare) → note.old.spare ≡ Some s → IsOverEnds (numbered self.now.ends) (vertex_count self.now.ends) s.kept.demand }
         ensures { OnOk result (graphic_fits self.now.w self.now.ends note.new q x.now) }
     {
         self.take_spare(note, u);

@@ -5,6 +5,7 @@
 pub mod ends;
 pub mod entries;
 mod givers;
+mod graph;
 pub mod graphic;
 mod growing;
 mod matching;

@@ -1,47 +1,19 @@
 // The tests that tell a base of a graphic term. For each vertex, each edge is a demand that is split over its two ends, which
-// hold the same number at most, and that vertex nothing. The vertices are numbered by where they first stand among the ends. The
-// tests of the tails are enough: a part of the edges has the tail of each of its edges, so the test of that tail asks no less
-// of it than any other. One split is made from nothing, and brought from each tail to the next.
-ghost use Rattle.std.specs.Prelude.{◌≡◌, ℕ, ◌↔◌, ◌*◌, ◌<◌, ◌≤◌, ◌^◌, length, pos, ◌≤ℤ◌, IfOk, IsTrue};
+// hold the same number at most, and that vertex nothing. The tests of the tails are enough: a part of the edges has the tail of
+// each of its edges, so the test of that tail asks no less of it than any other. One split is made from nothing, and brought
+// from each tail to the next.
+ghost use Rattle.std.specs.Prelude.{◌≡◌, ℕ, ◌↔◌, ◌<◌, ◌≤◌, ◌^◌, length, pos, ◌≤ℤ◌, IfOk, IsTrue};
 ghost use Rattle.std.specs.List.{All};
 ghost use Rattle.sfm_assign.specs.Splits.{IsAmount, CanBeMet};
 ghost use Rattle.sfm_matroid.specs.Ends.{edges_of};
 ghost use Rattle.sfm_matroid.specs.Cuts.{IsWithinEnds};
-ghost use Rattle.sfm_matroid.specs.Graphs.{EndsBelow};
 ghost use Rattle.sfm_matroid.specs.Notes.{end_demands, IsOverEnds, IsSplitOrNone};
-ghost use Rattle.sfm_matroid.specs.Numbered.{IsTail, number, numbered, end_lists, vertex_capacities};
+ghost use Rattle.sfm_matroid.specs.Numbered.{IsTail, end_lists, vertex_capacities};
 
+use crate::graph::Graph;
 use sfm_assign::{AssignEnd, Demand, Kept};
 use sfm_base::Memory;
 use std::alloc::Global;
-
-/// Where a vertex first stands among the ends, tail before head.
-fn number(ends: &[(u32, u32)], v: u32) -> usize
-    requires { length ends.now ≤ 256 }
-    ensures { result ≡ number (edges_of ends.now) v }
-{
-    for (e, pair) in ends.iter().enumerate() {
-        if pair.0 == v {
-            return 2 * e;
-        }
-        if pair.1 == v {
-            return 2 * e + 1;
-        }
-    }
-    2 * ends.len()
-}
-
-/// The edges with the numbers of their ends.
-pub(crate) fn numbered(alloc: Global, ends: &[(u32, u32)]) -> Result<Vec<(usize, usize)>, Memory>
-    requires { length ends.now ≤ 256 }
-    ensures { IfOk result (λ r. edges_of r.items ≡ numbered (edges_of ends.now)) }
-{
-    let mut numbers = Vec::new(alloc);
-    for pair in ends {
-        numbers.push((number(ends, pair.0), number(ends, pair.1)))?;
-    }
-    Ok(numbers)
-}
 
 /// What each of m vertices may hold: a number, and the vertex a nothing.
 fn capacities(alloc: Global, m: usize, most: i128, a: usize) -> Result<Vec<i128>, Memory>
@@ -55,24 +27,16 @@ fn capacities(alloc: Global, m: usize, most: i128, a: usize) -> Result<Vec<i128>
 }
 
 /// The edges as demands that are split over their ends, of which each holds a number, and the vertex a nothing.
-fn demand(
-    alloc: Global,
-    ends: &[(usize, usize)],
-    x: &[i128],
-    most: i128,
-    a: usize,
-) -> Result<Demand, Memory>
-    requires few { length ends.now ≤ 256 }
-    requires entries { length x.now ≡ length ends.now }
+fn demand(alloc: Global, graph: &Graph, x: &[i128], most: i128, a: usize) -> Result<Demand, Memory>
+    requires entries { length x.now ≡ length graph.now.ends.items }
     requires amounts { All IsAmount x.now }
     requires low { pos 0 ≤ℤ most }
     requires high { most ≤ℤ pos (10 ^ 24) }
-    requires below { EndsBelow (edges_of ends.now) (2 * length ends.now) }
-    ensures { IfOk result (λ r. r ≡ end_demands (edges_of ends.now) (2 * length ends.now) most x.now a) }
+    ensures { IfOk result (λ r. r ≡ end_demands (edges_of graph.now.ends.items) graph.now.vertices most x.now a) }
 {
-    let capacities = capacities(alloc, 2 * ends.len(), most, a)?;
+    let capacities = capacities(alloc, graph.vertices, most, a)?;
     let mut demand = Demand::new(alloc, &capacities)?;
-    for (e, pair) in ends.iter().enumerate() {
+    for (e, pair) in graph.ends.iter().enumerate() {
         demand.push(x[e], vec![in alloc; pair.0, pair.1]?)?;
     }
     Ok(demand)
@@ -81,20 +45,18 @@ fn demand(
 /// The split of amounts from nothing, where each vertex holds a number, and the vertex a nothing; None where there is none.
 pub(crate) fn split(
     alloc: Global,
-    ends: &[(usize, usize)],
+    graph: &Graph,
     x: &[i128],
     most: i128,
     a: usize,
 ) -> Result<Option<Kept>, Memory>
-    requires few { length ends.now ≤ 256 }
-    requires entries { length x.now ≡ length ends.now }
+    requires entries { length x.now ≡ length graph.now.ends.items }
     requires amounts { All IsAmount x.now }
     requires low { pos 0 ≤ℤ most }
     requires high { most ≤ℤ pos (10 ^ 24) }
-    requires below { EndsBelow (edges_of ends.now) (2 * length ends.now) }
-    ensures { IfOk result (IsSplitOrNone (end_demands (edges_of ends.now) (2 * length ends.now) most x.now a)) }
+    ensures { IfOk result (IsSplitOrNone (end_demands (edges_of graph.now.ends.items) graph.now.vertices most x.now a)) }
 {
-    let demand = demand(alloc, ends, x, most, a)?;
+    let demand = demand(alloc, graph, x, most, a)?;
     match Kept::new(alloc, demand) {
         Ok(kept) => {
             kept.are_met();
@@ -109,21 +71,21 @@ pub(crate) fn split(
 /// split.
 pub(crate) fn brought(
     alloc: Global,
+    graph: &Graph,
     kept: &mut Kept,
     x: &[i128],
     most: i128,
     a: usize,
 ) -> Result<bool, Memory>
-    requires few { length x.now ≤ 256 }
-    requires entries { length x.now ≡ length kept.old.demand.demands }
-    requires vertices { length kept.old.demand.capacities ≡ 2 * length x.now }
+    requires entries { length x.now ≡ length graph.now.ends.items }
+    requires over { IsOverEnds (edges_of graph.now.ends.items) graph.now.vertices kept.old.demand }
     requires amounts { All IsAmount x.now }
     requires low { pos 0 ≤ℤ most }
     requires high { most ≤ℤ pos (10 ^ 24) }
-    ensures told { IfOk result (λ r. IsTrue r ↔ CanBeMet x.now kept.old.demand.lists (vertex_capacities (2 * length x.now) most a)) }
-    ensures brought { IfOk result (λ r. IsTrue r → kept.new.demand ≡ record { demands = x.now; lists = kept.old.demand.lists; capacities = vertex_capacities (2 * length x.now) most a }) }
+    ensures told { IfOk result (λ r. IsTrue r ↔ CanBeMet x.now (end_lists (edges_of graph.now.ends.items)) (vertex_capacities graph.now.vertices most a)) }
+    ensures brought { IfOk result (λ r. IsTrue r → kept.new.demand ≡ end_demands (edges_of graph.now.ends.items) graph.now.vertices most x.now a) }
 {
-    let capacities = capacities(alloc, 2 * x.len(), most, a)?;
+    let capacities = capacities(alloc, graph.vertices, most, a)?;
     match kept.bring(alloc, x, &capacities) {
         Ok(()) => {
             kept.are_met();
@@ -135,37 +97,35 @@ pub(crate) fn brought(
 }
 
 /// Whether a vertex is the tail of an edge.
-fn is_tail(ends: &[(usize, usize)], a: usize) -> bool
-    ensures { IsTrue result ↔ IsTail (edges_of ends.now) a }
+fn is_tail(graph: &Graph, a: usize) -> bool
+    ensures { IsTrue result ↔ IsTail (edges_of graph.now.ends.items) a }
 {
-    ends.iter().any(|pair| pair.0 == a)
+    graph.ends.iter().any(|pair| pair.0 == a)
 }
 
 /// Whether no edges get more than a number for each of their ends but a, if that is a tail: told by a split over the ends,
 /// which is brought there.
 fn passes_tail(
     alloc: Global,
-    ends: &[(usize, usize)],
+    graph: &Graph,
     kept: &mut Kept,
     x: &[i128],
     most: i128,
     a: usize,
 ) -> Result<bool, Memory>
-    requires few { length ends.now ≤ 256 }
-    requires entries { length x.now ≡ length ends.now }
+    requires entries { length x.now ≡ length graph.now.ends.items }
     requires amounts { All IsAmount x.now }
     requires low { pos 0 ≤ℤ most }
     requires high { most ≤ℤ pos (10 ^ 24) }
-    requires vertex { a < 2 * length ends.now }
-    requires below { EndsBelow (edges_of ends.now) (2 * length ends.now) }
-    requires over { IsOverEnds (edges_of ends.now) (2 * length ends.now) kept.old.demand }
-    ensures told { IfOk result (λ r. IsTrue r ↔ (IsTail (edges_of ends.now) a → IsWithinEnds (edges_of ends.now) (2 * length ends.now) most x.now a)) }
-    ensures over { IfOk result (λ r. IsTrue r → IsOverEnds (edges_of ends.now) (2 * length ends.now) kept.new.demand) }
+    requires vertex { a < graph.now.vertices }
+    requires over { IsOverEnds (edges_of graph.now.ends.items) graph.now.vertices kept.old.demand }
+    ensures told { IfOk result (λ r. IsTrue r ↔ (IsTail (edges_of graph.now.ends.items) a → IsWithinEnds (edges_of graph.now.ends.items) graph.now.vertices most x.now a)) }
+    ensures over { IfOk result (λ r. IsTrue r → IsOverEnds (edges_of graph.now.ends.items) graph.now.vertices kept.new.demand) }
 {
-    if !is_tail(ends, a) {
+    if !is_tail(graph, a) {
         return Ok(true);
     }
-    let passed = brought(alloc, kept, x, most, a)?;
+    let passed = brought(alloc, graph, kept, x, most, a)?;
     Ok(passed)
 }
 
@@ -173,22 +133,20 @@ fn passes_tail(
 /// ends, which is brought from each to the next.
 fn passes_each(
     alloc: Global,
-    ends: &[(usize, usize)],
+    graph: &Graph,
     kept: &mut Kept,
     x: &[i128],
     most: i128,
 ) -> Result<bool, Memory>
-    requires few { length ends.now ≤ 256 }
-    requires entries { length x.now ≡ length ends.now }
+    requires entries { length x.now ≡ length graph.now.ends.items }
     requires amounts { All IsAmount x.now }
     requires low { pos 0 ≤ℤ most }
     requires high { most ≤ℤ pos (10 ^ 24) }
-    requires below { EndsBelow (edges_of ends.now) (2 * length ends.now) }
-    requires over { IsOverEnds (edges_of ends.now) (2 * length ends.now) kept.old.demand }
-    ensures { IfOk result (λ r. IsTrue r ↔ ((a : ℕ) → a < 2 * length ends.now → IsTail (edges_of ends.now) a → IsWithinEnds (edges_of ends.now) (2 * length ends.now) most x.now a)) }
+    requires over { IsOverEnds (edges_of graph.now.ends.items) graph.now.vertices kept.old.demand }
+    ensures { IfOk result (λ r. IsTrue r ↔ ((a : ℕ) → a < graph.now.vertices → IsTail (edges_of graph.now.ends.items) a → IsWithinEnds (edges_of graph.now.ends.items) graph.now.vertices most x.now a)) }
 {
-    for a in 0..2 * ends.len() {
-        if !passes_tail(alloc, ends, kept, x, most, a)? {
+    for a in 0..graph.vertices {
+        if !passes_tail(alloc, graph, kept, x, most, a)? {
             return Ok(false);
         }
     }
@@ -202,25 +160,23 @@ fn passes_each(
 /// `Memory` where there is none.
 pub(crate) fn passes_tails(
     alloc: Global,
-    ends: &[(usize, usize)],
+    graph: &Graph,
     x: &[i128],
     most: i128,
 ) -> Result<bool, Memory>
-    requires few { length ends.now ≤ 256 }
-    requires entries { length x.now ≡ length ends.now }
+    requires entries { length x.now ≡ length graph.now.ends.items }
     requires amounts { All IsAmount x.now }
     requires low { pos 0 ≤ℤ most }
     requires high { most ≤ℤ pos (10 ^ 24) }
-    requires below { EndsBelow (edges_of ends.now) (2 * length ends.now) }
-    ensures { IfOk result (λ r. IsTrue r ↔ ((a : ℕ) → a < 2 * length ends.now → IsTail (edges_of ends.now) a → IsWithinEnds (edges_of ends.now) (2 * length ends.now) most x.now a)) }
+    ensures { IfOk result (λ r. IsTrue r ↔ ((a : ℕ) → a < graph.now.vertices → IsTail (edges_of graph.now.ends.items) a → IsWithinEnds (edges_of graph.now.ends.items) graph.now.vertices most x.now a)) }
 {
-    if ends.is_empty() {
+    if graph.ends.is_empty() {
         return Ok(true);
     }
-    let first = ends[0].0;
-    match split(alloc, ends, x, most, first)? {
+    let first = graph.ends[0].0;
+    match split(alloc, graph, x, most, first)? {
         Some(mut kept) => {
-            let passed = passes_each(alloc, ends, &mut kept, x, most)?;
+            let passed = passes_each(alloc, graph, &mut kept, x, most)?;
             Ok(passed)
         }
         None => Ok(false),

@@ -1,6 +1,6 @@
 use Rattle.std.proofs.Common.{◌∙◌, length, ap, sym, arith}
 use Rattle.sfm_base.proofs.Elements.{placed_few}
-use Rattle.sfm_matroid.specs.Numbered.{numbered}
+use Rattle.sfm_matroid.specs.Numbered.{numbered, vertex_count}
 use Rattle.sfm_matroid.proofs.Labels.{length-edges}
 use Rattle.sfm_matroid.proofs.Kept.{basis_from}
 use Rattle.sfm_matroid.proofs.graphic.Graphic.new.Goals as goal
@@ -18,4 +18,7 @@ pub invariant_of-result-clause-based : goal.invariant_of-result-clause-based
 invariant_of-result-clause-based c = basis_from c.args.ends.now _ _ _ c.in_ok-ends.ensures c.in_ok-all.ensures c.in_ok-basis.ensures
 
 pub invariant_of-result-clause-of_ends : goal.invariant_of-result-clause-of_ends
-invariant_of-result-clause-of_ends c = c.in_ok-numbers.ensures ∙ ap numbered (sym c.in_ok-ends.ensures)
+invariant_of-result-clause-of_ends c = c.in_ok-graph.ensures.ends ∙ ap numbered (sym c.in_ok-ends.ensures)
+
+pub invariant_of-result-clause-counted : goal.invariant_of-result-clause-counted
+invariant_of-result-clause-counted c = c.in_ok-graph.ensures.vertices ∙ ap vertex_count (sym c.in_ok-ends.ensures)

@@ -1,11 +1,11 @@
-use Rattle.std.proofs.Common.{◌∙◌, ◌*◌, [], set, pos, ◌*ℤ◌, length, refl, sym, ap, rules, FitsSigned, length-set}
+use Rattle.std.proofs.Common.{◌∙◌, [], set, pos, ◌*ℤ◌, length, refl, sym, ap, rules, FitsSigned, length-set}
 use Rattle.std.proofs.lemmas.Int.{to_z-of_z}
 use mir.Syntax.{w128}
 use Rattle.sfm_law.proofs.Fits.{given_fits, given_more, product_fits, product_low, product_high}
 use Rattle.sfm_matroid.proofs.Fits.{within_amounts, without_amounts}
 use Rattle.sfm_matroid.proofs.GraphicBases.{base_within_cap}
 use Rattle.sfm_matroid.proofs.GraphicRooms.{rest_split, root_below, grown_capacity}
-use Rattle.sfm_matroid.specs.Numbered.{numbered}
+use Rattle.sfm_matroid.specs.Numbered.{numbered, vertex_count}
 use Rattle.sfm_matroid.specs.Notes.{end_demands}
 use Rattle.sfm_matroid.proofs.Numbering.{length-vertices}
 use Rattle.sfm_matroid.proofs.Noted.{note_with, over_grown}
@@ -103,6 +103,6 @@ returns-clause-noted c =
     let is = simp to_z-of_z at (rw (c.deref.ensures.value, c.in_ok-rest.ensures, p) at c.in_ok-bring.ensures) in
     let more = c.in_ok-most.ensures.raised in
     let taken = c.take_kept-spare.ensures in
-    let stays = ap (λ k. k.demand) taken.kept ∙ (r.noted.split ∙ ap (λ t. end_demands (numbered s.ends) (2 * length s.ends) (q *ℤ s.w) x t) (sym taken.root)) in
+    let stays = ap (λ k. k.demand) taken.kept ∙ (r.noted.split ∙ ap (λ t. end_demands (numbered s.ends) (vertex_count s.ends) (q *ℤ s.w) x t) (sym taken.root)) in
     let sized = length-set x c.args.v (pos 0) ∙ (r.entries ∙ (sym s.same_count ∙ sym (length-numbered s.ends []))) in
-    note_with (numbered s.ends) (2 * length s.ends) (q *ℤ s.w) x c.take_kept-spare.new.note.root c.take_kept-spare.new.note.kept _ stays (over_grown (numbered s.ends) (2 * length s.ends) (q *ℤ s.w) (set x c.args.v (pos 0)) c.end_near-root.result _ c.raise.new.kept.demand c.args.u _ sized is more)
+    note_with (numbered s.ends) (vertex_count s.ends) (q *ℤ s.w) x c.take_kept-spare.new.note.root c.take_kept-spare.new.note.kept _ stays (over_grown (numbered s.ends) (vertex_count s.ends) (q *ℤ s.w) (set x c.args.v (pos 0)) c.end_near-root.result _ c.raise.new.kept.demand c.args.u _ sized is more)

@@ -1,0 +1,26 @@
+use Rattle.std.proofs.Common.{◌≡◌, ◌∙◌, [], ap, length, sym, arith}
+use Rattle.sfm_matroid.specs.Ends.{edges_of}
+use Rattle.sfm_matroid.specs.Numbered.{vertex_count}
+use Rattle.sfm_matroid.proofs.Labels.{length-edges}
+use Rattle.sfm_matroid.proofs.Numbers.{few_vertices, length-numbered, numbered_below}
+use Rattle.sfm_matroid.proofs.graph.numbered.Goals as goal
+
+pub invariant_of-result-clause-few : goal.invariant_of-result-clause-few
+invariant_of-result-clause-few c =
+    let edges = edges_of c.args.ends.now in
+    let same = sym (length-edges c.in_ok-numbers.numbers.items) ∙ (ap length c.in_ok-numbers.ensures ∙ (length-numbered edges [] ∙ length-edges c.args.ends.now)) in
+    omega (arith, same, c.requires)
+
+pub invariant_of-result-clause-below : goal.invariant_of-result-clause-below
+invariant_of-result-clause-below c =
+    let edges = edges_of c.args.ends.now in
+    let count : c.len.result ≡ vertex_count edges = c.len.ensures ∙ (c.in_ok-vertices.vertices.ok.0 ∙ ap length c.in_ok-vertices.ensures) in
+    rw (c.in_ok-numbers.ensures, count) (numbered_below edges [])
+
+pub invariant_of-result-clause-small : goal.invariant_of-result-clause-small
+invariant_of-result-clause-small c =
+    let edges = edges_of c.args.ends.now in
+    let count : c.len.result ≡ vertex_count edges = c.len.ensures ∙ (c.in_ok-vertices.vertices.ok.0 ∙ ap length c.in_ok-vertices.ensures) in
+    let few = few_vertices edges in
+    let l = length-edges c.args.ends.now in
+    omega (arith, count, few, l, c.requires)

@@ -1,0 +1,90 @@
+// The edges of a graphic term with its vertices numbered without gaps: the ends get 0, 1, 2 and so on in the order in which they
+// first stand, tail before head. So what is kept for each vertex is as long as there are vertices. Ends with one number are one
+// vertex, as each is that which stands in the place that its number tells among those listed.
+ghost use Rattle.std.specs.Prelude.{◌≡◌, ◌≤◌, length, IfOk, OnOk};
+ghost use Rattle.sfm_matroid.specs.Ends.{edges_of};
+ghost use Rattle.sfm_matroid.specs.Graphs.{EndsBelow};
+ghost use Rattle.sfm_matroid.specs.Numbered.{place_of, with_vertex, vertices_of, vertex_count, numbered};
+
+use sfm_base::Memory;
+use std::alloc::Global;
+
+/// Edges, the ends of which are numbers below that of the vertices.
+#[derive(Drop)]
+pub(crate) struct Graph {
+    /// The tail and the head of each edge.
+    pub ends: Vec<(usize, usize)>,
+    /// How many vertices there are.
+    pub vertices: usize,
+    pub ghost few: { length ends.items ≤ 256 },
+    pub ghost below: { EndsBelow (edges_of ends.items) vertices },
+    pub ghost small: { vertices ≤ 512 },
+}
+
+/// Where a vertex stands among others; how many they are, where it does not.
+fn place(vertices: &[u32], v: u32) -> usize
+    ensures { result ≡ place_of vertices.now v }
+{
+    for (i, u) in vertices.iter().enumerate() {
+        if *u == v {
+            return i;
+        }
+    }
+    vertices.len()
+}
+
+/// Puts a vertex behind others, unless it stands there.
+fn put(vertices: &mut Vec<u32>, v: u32) -> Result<(), Memory>
+    ensures { OnOk result (vertices.new.items ≡ with_vertex vertices.old.items v) }
+{
+    if place(vertices, v) == vertices.len() {
+        vertices.push(v)?;
+    }
+    Ok(())
+}
+
+/// The vertices in the order in which they first stand among the ends.
+fn vertices(alloc: Global, ends: &[(u32, u32)]) -> Result<Vec<u32>, Memory>
+    ensures { IfOk result (λ r. r.items ≡ vertices_of (edges_of ends.now)) }
+{
+    let mut vertices = Vec::new(alloc);
+    for pair in ends {
+        put(&mut vertices, pair.0)?;
+        put(&mut vertices, pair.1)?;
+    }
+    Ok(vertices)
+}
+
+/// The edges with the places of their ends among the vertices.
+fn placed(
+    alloc: Global,
+    ends: &[(u32, u32)],
+    vertices: &[u32],
+) -> Result<Vec<(usize, usize)>, Memory>
+    requires { vertices.now ≡ vertices_of (edges_of ends.now) }
+    ensures { IfOk result (λ r. edges_of r.items ≡ numbered (edges_of ends.now)) }
+{
+    let mut numbers = Vec::new(alloc);
+    for pair in ends {
+        numbers.push((place(vertices, pair.0), place(vertices, pair.1)))?;
+    }
+    Ok(numbers)
+}
+
+/// The edges with the numbers of their ends.
+///
+/// # Errors
+///
+/// `Memory` where there is none.
+pub(crate) fn numbered(alloc: Global, ends: &[(u32, u32)]) -> Result<Graph, Memory>
+    requires { length ends.now ≤ 256 }
+    ensures ends { IfOk result (λ r. edges_of r.ends.items ≡ numbered (edges_of ends.now)) }
+    ensures vertices { IfOk result (λ r. r.vertices ≡ vertex_count (edges_of ends.now)) }
+{
+    let vertices = vertices(alloc, ends)?;
+    let numbers = placed(alloc, ends, &vertices)?;
+    Ok(Graph {
+        ends: numbers,
+        vertices: vertices.len(),
+    })
+}
