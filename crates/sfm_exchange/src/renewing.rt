@@ -3,7 +3,7 @@
 // afterwards. The row of s is asked. Where s still depends on t, no set has become tight, so each such row is joined with
 // that of s. Else the exchange has used up its room, and some of what these rows had may be gone. No row gains more than s
 // had, so each takes in what s had, and is claimed: it lacks nothing, but may have too much, and is asked once a walk takes
-// it. A term that finds its rows sooner one after another is asked for them at once, so none of its rows is ever claimed.
+// it. A term whose rows are cheap, or cheaper one after another, is asked for them at once, so none of its rows is ever claimed.
 ghost use Rattle.std.specs.Prelude.{◌≡◌, ◌≢◌, ◌↔◌, ◌⊎◌, IsTrue, true, ◌<◌, ℕ, List, ℤ, length, IfOk, OnOk, slice_index_or};
 ghost use Rattle.sfm_spec.specs.Sets.{IsPlaced};
 ghost use Rattle.sfm_spec.specs.Rows.{Depends};
@@ -73,11 +73,11 @@ fn join_rows(places: &[usize], changed: &Bits, more: &Bits, to: usize, rows: &mu
     }
 }
 
-// Whether a term is asked for rows at once: it finds them sooner one after another, and none of its rows is claimed.
+// Whether a term is asked for rows at once: it says so, and none of its rows is claimed.
 fn asks_at_once<T: Term>(term: &T, claimed: &Bits) -> bool
     ensures { result ≡ true → (e : ℕ) → bit_in claimed.now e ≢ 1 }
 {
-    term.order().is_some() && claimed.is_empty()
+    term.asks_at_once() && claimed.is_empty()
 }
 
 // Asks for the rows of some places, each of which has room to s, by a note that fits the base, which fits it still.

@@ -120,6 +120,14 @@ impl Term for Kind {
         }
     }
 
+    fn asks_at_once(&self) -> bool {
+        match self {
+            Kind::Laminar(term) => term.asks_at_once(),
+            Kind::Graphic(term) => term.asks_at_once(),
+            _ => false,
+        }
+    }
+
     fn size(&self) -> i128 {
         match self {
             Kind::Weight(term) => term.size(),

@@ -524,6 +524,10 @@ impl Term for Laminar {
         self.places.as_slice()
     }
 
+    fn asks_at_once(&self) -> bool {
+        true
+    }
+
     fn size(&self) -> i128 {
         self.most()
     }

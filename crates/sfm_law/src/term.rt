@@ -49,6 +49,12 @@ pub trait Term {
         None
     }
 
+    /// Whether rows that may have changed are to be found again at once, and not only once a walk wants them: where a row is
+    /// cheap, or cheaper beside others. Nothing hangs on it.
+    fn asks_at_once(&self) -> bool {
+        false
+    }
+
     /// A bound on the magnitude of each value.
     fn size(&self) -> i128
         ensures { result ≡ size_of self.now };

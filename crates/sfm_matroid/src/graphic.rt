@@ -553,6 +553,10 @@ impl Term for Graphic {
         Some(self.order.as_slice())
     }
 
+    fn asks_at_once(&self) -> bool {
+        true
+    }
+
     fn size(&self) -> i128 {
         self.size_of()
     }
