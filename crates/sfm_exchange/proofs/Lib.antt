@@ -1,4 +1,5 @@
 pub mod Options
+pub mod Placing
 pub mod Words
 pub mod Following
 pub mod Telling

@@ -82,17 +82,17 @@ impl BitRows {
     }
 }
 
-/// The ground places of a part of a term.
-pub fn placed_bits(places: &[usize], part: &Set) -> Bits
+/// The ground places of a part of a term, which are taken out of it one after another, until it has none.
+pub fn placed_bits(places: &[usize], part: &mut Set) -> Bits
     requires placed { IsPlaced 256 places.now }
-    requires part { length part.now ≡ length places.now }
-    ensures { HasPlaces places.now part.now (length places.now) result }
+    requires part { length part.old ≡ length places.now }
+    ensures same { length part.new ≡ length part.old }
+    ensures places { HasPlaces places.now part.old (length places.now) result }
 {
     let mut bits = no_bits();
-    for (v, place) in places.iter().enumerate() {
-        if part.contains(v) {
-            bits.insert(*place);
-        }
+    while let Some(v) = part.first() {
+        part.remove(v);
+        bits.insert(places[v]);
     }
     bits
 }
@@ -116,7 +116,7 @@ pub fn row_by<T: Term>(
 {
     at.term
         .reach_by(alloc, at.q, at.x, note, u, &mut rows.part)?;
-    Ok(placed_bits(at.term.elements(), &rows.part))
+    Ok(placed_bits(at.term.elements(), &mut rows.part))
 }
 
 /// The row of the place u, which is s or has room to it, by a note that fits the base, which fits it still. After want of
@@ -141,7 +141,7 @@ pub fn row_with<T: Term>(
 {
     at.term
         .reach_with(alloc, at.q, at.x, note, s, u, &mut rows.part)?;
-    Ok(placed_bits(at.term.elements(), &rows.part))
+    Ok(placed_bits(at.term.elements(), &mut rows.part))
 }
 
 // Asks for the row of the place u, if there is such a place and its row was not asked for.

@@ -1,6 +1,10 @@
--- the ground places of the part so far
-use Rattle.sfm_exchange.specs.Bits.{HasPlaces}
+-- the ground places of those that are not ahead
+use Rattle.sfm_spec.specs.Sets.{size}
+use Rattle.sfm_exchange.proofs.Placing.{IsPlacing}
 use Rattle.sfm_exchange.proofs.reach.placed_bits.Given as goal
 
 abbrev pub invariant-loop-v : goal.invariant-loop-v
-invariant-loop-v l = HasPlaces l.places l.part l.v l.bits
+invariant-loop-v l = IsPlacing l.places l.initial.part l.part l.bits
+
+abbrev pub decreases-loop-v : goal.decreases-loop-v
+decreases-loop-v l = size l.part

@@ -16,7 +16,7 @@ returns-clause-row g c =
     let places = t.places at.term.now in
     let f = times at.q (t.value_of at.term.now) in
     let reach : IsReach f at.x.now c.args.u c.reach_by.new.to = simp to_z-of_z at c.in_ok-reach_by.ensures.reached in
-    let has : HasPlaces places c.reach_by.new.to (length places) c.placed_bits.result = rw c.elements.ensures at c.placed_bits.ensures in
+    let has : HasPlaces places c.reach_by.new.to (length places) c.placed_bits.result = rw c.elements.ensures at c.placed_bits.ensures.places in
     row_of places f at.x.now c.args.u c.placed_bits.result c.reach_by.new.to based.entries reach has
 
 pub returns-clause-noted : goal.returns-clause-noted
