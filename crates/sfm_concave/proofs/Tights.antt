@@ -75,7 +75,7 @@ cut_at bar (a ∷ y) up = by_lt_z bar a
 
 -- ---- a place of the one list in the other
 
-found : (x y : List ℤ) → IsPermutation x y → (w : ℕ) → w < length x → (p : ℕ) × (p < length y) × (get_or y p (pos 0) ≡ get_or x w (pos 0))
+pub found : (x y : List ℤ) → IsPermutation x y → (w : ℕ) → w < length x → (p : ℕ) × (p < length y) × (get_or y p (pos 0) ≡ get_or x w (pos 0))
 found x y same w kw =
     let a : ℤ = get_or x w (pos 0) in
     let here : Contains x a = (w, kw, get_or_default x w a (pos 0) kw) in

@@ -13,9 +13,9 @@ ghost use Rattle.sfm_concave.specs.Rankings.{IsRanking};
 ghost use Rattle.sfm_concave.specs.Thresholds.{slack, IsShareOf, IsSomeShare, slack_from, IsLeastSlack, IsOver, IsBar, IsLastTight, NoneTight, LeavesAbove};
 ghost use Rattle.sfm_concave.specs.ConcaveLaws.{number_of, scaled, IsFirstRise, NeverRises, greatest, gain_of, concave_start, concave-family, concave-submodular, concave-bounded, concave-starts, concave-starts_small};
 
-use crate::ranking::{FEW, Ranking, RankingArrays, RankingView, count_upto};
+use crate::ranking::{FEW, Ranking, RankingArrays, RankingView, count_upto, count_upto_place};
 use crate::rise::first_rise;
-use crate::share::{Share, share_above, share_between, share_without};
+use crate::share::{Share, share_above, share_between, share_beyond, share_without};
 use sfm_base::{Memory, Numbers, Places, Set};
 use sfm_law::{Room, Term, has_sum, magnitude, product};
 use std::alloc::Global;
@@ -253,7 +253,7 @@ impl Concave {
         ensures { IsLeastSlack (scaled q self.now.values) x.now u v result }
     {
         if x.len() <= FEW {
-            return self.least_slack_by(q, x, None, u, v);
+            return self.least_slack_scanned(q, x, u, v);
         }
         self.least_slack_ranked(q, x, u, v)
     }
@@ -269,22 +269,14 @@ impl Concave {
         ensures { IsLeastSlack (scaled q self.now.values) x.now u v result }
     {
         let ranking = RankingArrays::new(x);
-        self.least_slack_by(q, x, Some(ranking.view()), u, v)
+        self.least_slack_by(q, x, ranking.view(), u, v)
     }
 
-    /// The same, by a ranking if there is one.
-    fn least_slack_by(
-        &self,
-        q: i128,
-        x: &[i128],
-        ranking: Option<RankingView>,
-        u: usize,
-        v: usize,
-    ) -> i128
+    /// The same, by a look at all entries for each entry.
+    fn least_slack_scanned(&self, q: i128, x: &[i128], u: usize, v: usize) -> i128
         requires factor { IsFactor q }
         requires entries { length x.now ≡ length self.now.places }
         requires small { All IsEntry x.now }
-        requires ranked { IfSome ranking (λ r. IsRanking x.now r.sorted.now r.sums.now) }
         requires apart { u ≢ v }
         requires from { u < length x.now }
         requires onto { v < length x.now }
@@ -292,7 +284,29 @@ impl Concave {
     {
         let mut least = self.slack(q, x, share_without(x, v));
         for a in x {
-            let share = share_between(x, ranking, *a, u, v);
+            let share = share_between(x, share_above(x, None, *a), *a, u, v);
+            least = least.min(self.slack(q, x, share));
+        }
+        least
+    }
+
+    /// The same, by a ranking: one entry after another, from the greatest to the least.
+    fn least_slack_by(&self, q: i128, x: &[i128], ranking: RankingView, u: usize, v: usize) -> i128
+        requires factor { IsFactor q }
+        requires entries { length x.now ≡ length self.now.places }
+        requires small { All IsEntry x.now }
+        requires ranked { IsRanking x.now ranking.sorted.now ranking.sums.now }
+        requires apart { u ≢ v }
+        requires from { u < length x.now }
+        requires onto { v < length x.now }
+        ensures { IsLeastSlack (scaled q self.now.values) x.now u v result }
+    {
+        let mut least = self.slack(q, x, share_without(x, v));
+        let mut upto = ranking.sorted.len();
+        for i in (0..ranking.sorted.len()).rev() {
+            upto = count_upto_place(ranking.sorted, i, upto);
+            let bar = ranking.sorted[i];
+            let share = share_between(x, share_beyond(x, ranking, bar, upto), bar, u, v);
             least = least.min(self.slack(q, x, share));
         }
         least
@@ -324,7 +338,7 @@ impl Concave {
         requires onto { v < length x.now }
         ensures { IsRoom (times q (concave_value self.now.values)) x.now u v result }
     {
-        Room::Upto(self.least_slack_by(q, x, Some(note.view()), u, v))
+        Room::Upto(self.least_slack_by(q, x, note.view(), u, v))
     }
 
     /// What all places but the i least leave.

@@ -6,7 +6,7 @@ ghost use Rattle.sfm_spec.specs.Bounds.{IsEntry};
 ghost use Rattle.sfm_spec.specs.Sets.{whole_set};
 ghost use Rattle.sfm_concave.specs.Thresholds.{above, above_with, above_between};
 ghost use Rattle.sfm_concave.specs.Thresholds.{IsShareOf};
-ghost use Rattle.sfm_concave.specs.Rankings.{IsRanking};
+ghost use Rattle.sfm_concave.specs.Rankings.{IsCut, IsRanking};
 
 use crate::ranking::{RankingView, count_upto};
 use sfm_law::sum_of;
@@ -18,19 +18,30 @@ pub(crate) struct Share {
     pub sum: i128,
 }
 
-/// The share of the places with more than a number, from the ranking of the entries.
-fn share_by_ranking(_x: &[i128], ranking: RankingView, bar: i128) -> Share
+/// The share of the places with more than a number, where so many of the ranked entries are at most that number.
+pub(crate) fn share_beyond(_x: &[i128], ranking: RankingView, _bar: i128, upto: usize) -> Share
     requires few { length _x.now ≤ 256 }
     requires small { All IsEntry _x.now }
     requires ranked { IsRanking _x.now ranking.sorted.now ranking.sums.now }
-    ensures { IsShareOf result.count result.sum _x.now (above bar _x.now) }
+    requires cut { IsCut _bar ranking.sorted.now upto }
+    ensures { IsShareOf result.count result.sum _x.now (above _bar _x.now) }
 {
     let len = ranking.sorted.len();
-    let upto = count_upto(ranking.sorted, bar);
     Share {
         count: len - upto,
         sum: ranking.sums[len] - ranking.sums[upto],
     }
+}
+
+/// The share of the places with more than a number, from the ranking of the entries.
+fn share_by_ranking(x: &[i128], ranking: RankingView, bar: i128) -> Share
+    requires few { length x.now ≤ 256 }
+    requires small { All IsEntry x.now }
+    requires ranked { IsRanking x.now ranking.sorted.now ranking.sums.now }
+    ensures { IsShareOf result.count result.sum x.now (above bar x.now) }
+{
+    let upto = count_upto(ranking.sorted, bar);
+    share_beyond(x, ranking, bar, upto)
 }
 
 /// The share of the places with more than a number, from each entry in turn.
@@ -63,41 +74,34 @@ pub(crate) fn share_above(x: &[i128], ranking: Option<RankingView>, bar: i128) -
     }
 }
 
-/// The share of the places with more than a number and u.
-pub(crate) fn share_with(x: &[i128], ranking: Option<RankingView>, bar: i128, u: usize) -> Share
+/// The share of the places with more than a number and u, from that of those with more.
+fn share_with(x: &[i128], over: Share, bar: i128, u: usize) -> Share
     requires few { length x.now ≤ 256 }
     requires small { All IsEntry x.now }
-    requires ranked { IfSome ranking (λ r. IsRanking x.now r.sorted.now r.sums.now) }
     requires from { u < length x.now }
+    requires over { IsShareOf over.count over.sum x.now (above bar x.now) }
     ensures { IsShareOf result.count result.sum x.now (above_with bar x.now u) }
 {
-    let share = share_above(x, ranking, bar);
     if x[u] > bar {
-        return share;
+        return over;
     }
     Share {
-        count: share.count + 1,
-        sum: share.sum + x[u],
+        count: over.count + 1,
+        sum: over.sum + x[u],
     }
 }
 
-/// The share of the places with more than a number and u, without v.
-pub(crate) fn share_between(
-    x: &[i128],
-    ranking: Option<RankingView>,
-    bar: i128,
-    u: usize,
-    v: usize,
-) -> Share
+/// The share of the places with more than a number and u, without v, from that of those with more.
+pub(crate) fn share_between(x: &[i128], over: Share, bar: i128, u: usize, v: usize) -> Share
     requires few { length x.now ≤ 256 }
     requires small { All IsEntry x.now }
-    requires ranked { IfSome ranking (λ r. IsRanking x.now r.sorted.now r.sums.now) }
     requires from { u < length x.now }
     requires onto { v < length x.now }
     requires apart { u ≢ v }
+    requires over { IsShareOf over.count over.sum x.now (above bar x.now) }
     ensures { IsShareOf result.count result.sum x.now (above_between bar x.now u v) }
 {
-    let share = share_with(x, ranking, bar, u);
+    let share = share_with(x, over, bar, u);
     if x[v] <= bar {
         return share;
     }

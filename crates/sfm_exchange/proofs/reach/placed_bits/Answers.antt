@@ -1,4 +1,3 @@
-use Rattle.std.proofs.Common.{length}
 use Rattle.sfm_exchange.proofs.Placing.{placing_more}
 use Rattle.sfm_exchange.proofs.reach.placed_bits.Goals as goal
 

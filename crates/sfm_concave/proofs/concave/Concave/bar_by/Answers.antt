@@ -1,4 +1,4 @@
-use Rattle.std.proofs.Common.{◌≡◌, ◌≤◌, ◌-◌, length, get_or, pos, refl, arith, FitsSigned}
+use Rattle.std.proofs.Common.{◌≤◌, ◌-◌, length, get_or, pos, refl, arith, FitsSigned}
 use Rattle.std.specs.List.{All}
 use Rattle.std.proofs.lemmas.Bool.{both_ways}
 use Rattle.std.proofs.lemmas.Int.{to_z-of_z}
@@ -6,8 +6,6 @@ use Rattle.std.proofs.lemmas.List.Elements.{All-get_or}
 use mir.Syntax.{w128}
 use Rattle.sfm_spec.specs.Bounds.{IsEntry}
 use Rattle.sfm_law.proofs.Writes.{entry_fits}
-use Rattle.sfm_concave.specs.ConcaveLaws.{scaled}
-use Rattle.sfm_concave.specs.Thresholds.{slack_from}
 use Rattle.sfm_concave.proofs.Ranks.{ranked_small}
 use Rattle.sfm_concave.proofs.ConcaveRooms.{concave_at}
 use Rattle.sfm_concave.proofs.ConcaveBars.{IsOwnCut, concave_own_some, concave_own_bar, concave_none_bar, concave_tight_bar}

@@ -1,6 +1,8 @@
+use Rattle.std.proofs.Common.{◌<◌, length, get_or, pos}
 use Rattle.sfm_concave.specs.ConcaveLaws.{scaled}
-use Rattle.sfm_concave.proofs.LeastSoFar.{IsLeastSoFar}
+use Rattle.sfm_concave.specs.Rankings.{IsCut}
+use Rattle.sfm_concave.proofs.LeastSoFar.{IsLeastFrom}
 use Rattle.sfm_concave.proofs.concave.Concave.least_slack_by.Given as goal
 
-abbrev pub invariant-loop-a : goal.invariant-loop-a
-invariant-loop-a l = IsLeastSoFar (scaled l.q l.self.values) l.x l.u l.v l.a-index l.least
+abbrev pub invariant-loop-i : goal.invariant-loop-i
+invariant-loop-i l = IsLeastFrom (scaled l.q l.self.values) l.x l.ranking.sorted.now l.u l.v l.i l.least × (l.i < length l.ranking.sorted.now → IsCut (get_or l.ranking.sorted.now l.i (pos 0)) l.ranking.sorted.now l.upto)

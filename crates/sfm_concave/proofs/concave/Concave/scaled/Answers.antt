@@ -1,4 +1,4 @@
-use Rattle.std.proofs.Common.{◌≡◌, ◌*ℤ◌, ◌∙◌, ap, FitsSigned}
+use Rattle.std.proofs.Common.{◌≡◌, ◌*ℤ◌, ap, FitsSigned}
 use Rattle.std.proofs.lemmas.Int.{to_z-of_z}
 use mir.Syntax.{w128}
 use Rattle.sfm_law.proofs.Fits.{given_fits, given_more, product_fits, product_small}
