@@ -14,21 +14,23 @@ use Rattle.sfm_spec.proofs.Walks.{bases-at}
 use Rattle.sfm_law.proofs.Lists.{all-at, meanings-at, length-meanings, length-bases, placed-meanings}
 use Rattle.sfm_exchange.specs.declared.bits.Bits.{Bits}
 use Rattle.sfm_exchange.specs.declared.graph.Graph.{Graph}
+use Rattle.sfm_exchange.specs.declared.renewing.Changes.{Changes}
 use Rattle.sfm_exchange.specs.Based.{IsBased}
 use Rattle.sfm_exchange.specs.Bits.{bit_in, blank_bits, set_at}
 use Rattle.sfm_exchange.specs.Claimed.{AreClaims, IsClaim}
 use Rattle.sfm_exchange.specs.Graph.{IsClaimed, IsShaped, IsWhole}
 use Rattle.sfm_exchange.specs.Reach.{IsRow, table_at}
+use Rattle.sfm_exchange.specs.Renewed.{AreChanges}
 use Rattle.sfm_exchange.specs.Spots.{spot_at, spots_at}
 use Rattle.sfm_exchange.specs.Turned.{AreTurned}
-use Rattle.sfm_exchange.specs.Unions.{AreRenewed, HaveLinks, HaveRows, IsArc}
+use Rattle.sfm_exchange.specs.Unions.{AreRenewed, AreUnions, AreWidened, HaveLinks, HaveRows, IsArc}
 use Rattle.sfm_exchange.proofs.Basing.{is_based}
 use Rattle.sfm_exchange.proofs.Claiming.{claims_asked, rows_claimed}
 use Rattle.sfm_exchange.proofs.Exchanging.{bases_set}
 use Rattle.sfm_exchange.proofs.Noting.{notes_set, sized_at, sized_meanings, sized_set, there_is}
 use Rattle.sfm_exchange.proofs.Reaching.{steps_table}
 use Rattle.sfm_exchange.proofs.Telling.{step_told}
-use Rattle.sfm_exchange.proofs.Uniting.{have_rows, links_told, unions_renewed}
+use Rattle.sfm_exchange.proofs.Uniting.{have_rows, links_told, unions_renewed, unions_widened}
 
 module _ {X N : Type 0} {places : X → List ℕ} {value : X → SetFunction} {size : X → ℤ} {fits : X → N → ℤ → List ℤ → Type 0} {terms : List X} {n : ℕ} {q : ℤ} {graph : Graph N} (h : IsClaimed places value size fits terms n q graph) where
   abbrev pub Terms : List Meaning
@@ -123,13 +125,26 @@ module _ {X N : Type 0} {places : X → List ℕ} {value : X → SetFunction} {s
         let s = sized_meanings places value terms (set graph.rows.items i rows) sized in
         have_rows (meanings places value terms) n graph.spots.items (set graph.rows.items i rows) h.are_spots s.0 s.1
 
+    -- with other rows of the term the unions are those of all rows, once those that have changed are brought up
+    pub united_anew : (rows : List Bits) (changed : Bits) (unions : List Bits) → ((u : ℕ) → u < length (places term) → bit_in changed (get_or (places term) u 0) ≢ 1 → set_at rows u ≡ set_at (table_at graph.rows.items i) u)
+        → AreRenewed (set graph.rows.items i rows) graph.spots.items changed graph.unions.items unions → AreUnions (set graph.rows.items i rows) graph.spots.items unions
+    united_anew rows changed unions others renewed = unions_renewed (meanings places value terms) n graph.spots.items graph.rows.items (set graph.rows.items i rows) graph.unions.items unions i changed h.are_spots h.are_unions
+        (λ j ne. get_or-set_other graph.rows.items i j rows [] ne)
+        (λ u lu none. ap (λ table. set_at table u) (get_or-set_same graph.rows.items i rows [] (rw rows_count l)) ∙ others u (rw places_are at lu) (rw places_are at none)) renewed
+
+    pub united_by : (rows : List Bits) (changes : Changes) (mid unions : List Bits) → AreChanges (places term) changes (table_at graph.rows.items i) rows
+        → AreRenewed (set graph.rows.items i rows) graph.spots.items changes.anew graph.unions.items mid → AreWidened (places term) rows changes.grown (length (places term)) mid unions → AreUnions (set graph.rows.items i rows) graph.spots.items unions
+    united_by rows changes mid unions changed renewed widened =
+        let here = get_or-set_same graph.rows.items i rows [] (rw rows_count l) in
+        unions_widened (meanings places value terms) n graph.spots.items graph.rows.items (set graph.rows.items i rows) graph.unions.items mid unions i changes h.are_spots h.are_unions distinct_at li
+        (λ j ne. get_or-set_other graph.rows.items i j rows [] ne) (rw (places_are, here) changed) renewed (rw (places_are, here) widened)
+
     -- with another row of the term, and other rows of reach
-    pub claimed_after : (x : List ℤ) (note : N) (rows : List Bits) (claimed changed : Bits) (graph' : Graph N) → IsBased places value size term q x → fits term note q x → length rows ≡ length (places term)
-        → AreClaims (places term) (times q (value term)) x claimed rows → ((u : ℕ) → u < length (places term) → bit_in changed (get_or (places term) u 0) ≢ 1 → set_at rows u ≡ set_at (table_at graph.rows.items i) u)
-        → AreRenewed (set graph.rows.items i rows) graph.spots.items changed graph.unions.items graph'.unions.items → AreTurned graph'.unions.items graph'.back.items
+    pub claimed_after : (x : List ℤ) (note : N) (rows : List Bits) (claimed : Bits) (graph' : Graph N) → IsBased places value size term q x → fits term note q x → length rows ≡ length (places term)
+        → AreClaims (places term) (times q (value term)) x claimed rows → AreUnions (set graph.rows.items i rows) graph.spots.items graph'.unions.items → AreTurned graph'.unions.items graph'.back.items
         → graph'.bases ≡ set graph.bases i x → graph'.spots.items ≡ graph.spots.items → graph'.notes.items ≡ set graph.notes.items i note → graph'.rows.items ≡ set graph.rows.items i rows → graph'.claimed.items ≡ set graph.claimed.items i claimed
         → IsClaimed places value size fits terms n q graph'
-    claimed_after x note rows claimed changed graph' at noted long told others renewed turned bases_are spots_are notes_are rows_are claimed_are = record {
+    claimed_after x note rows claimed graph' at noted long told united turned bases_are spots_are notes_are rows_are claimed_are = record {
       bounded = h.bounded;
       factor = h.factor;
       are_bases = rw bases_are (bases_set q (meanings places value terms) graph.bases i x h.are_bases li (at.entries ∙ ap length (sym places_are)) (rw means at.base));
@@ -139,9 +154,7 @@ module _ {X N : Type 0} {places : X → List ℕ} {value : X → SetFunction} {s
       sized_rows = rw rows_are (sized_set (map places terms) graph.rows.items i rows h.sized_rows (long ∙ sym rows_long));
       claims = λ j lj. rw (bases_are, rows_are, claimed_are) (claims j lj (cases_eq j i));
       are_spots = rw spots_are h.are_spots;
-      are_unions = rw (spots_are, rows_are) (unions_renewed (meanings places value terms) n graph.spots.items graph.rows.items (set graph.rows.items i rows) graph.unions.items graph'.unions.items i changed h.are_spots h.are_unions
-          (λ j ne. get_or-set_other graph.rows.items i j rows [] ne)
-          (λ u lu none. ap (λ table. set_at table u) (get_or-set_same graph.rows.items i rows [] inside) ∙ others u (rw places_are at lu) (rw places_are at none)) renewed);
+      are_unions = rw (spots_are, rows_are) united;
       are_turned = turned;
     } where
       inside : i < length graph.rows.items
@@ -165,9 +178,9 @@ module _ {X N : Type 0} {places : X → List ℕ} {value : X → SetFunction} {s
         → graph'.claimed.items ≡ set graph.claimed.items i claimed → IsClaimed places value size fits terms n q graph'
     asked_after note u row claimed changed graph' lu small sound noted is_row same one renewed turned bases_are spots_are notes_are rows_are claimed_are =
         let table = table_at graph.rows.items i in
-        claimed_after (base_at graph.bases i) note (set table u row) claimed changed graph' (based sound small) noted (length-set table u row ∙ rows_long)
+        claimed_after (base_at graph.bases i) note (set table u row) claimed graph' (based sound small) noted (length-set table u row ∙ rows_long)
         (claims_asked (places term) placed.distinct (times q (value term)) (base_at graph.bases i) (set_at graph.claimed.items i) claimed table u row lu (rw rows_long lu) claims_at is_row same)
-        (λ v lv none. get_or-set_other table u v row blank_bits (λ s. none (rw s one))) renewed turned (bases_are ∙ sym (set-get_or graph.bases i [])) spots_are notes_are rows_are claimed_are
+        (united_anew (set table u row) changed graph'.unions.items (λ v lv none. get_or-set_other table u v row blank_bits (λ s. none (rw s one))) renewed) turned (bases_are ∙ sym (set-get_or graph.bases i [])) spots_are notes_are rows_are claimed_are
 
   -- where no row of a place is claimed, its union row tells arcs alone
   pub arcs_alone : (e : ℕ) → e < n → ((k : ℕ) → k < length (spots_at graph.spots.items e) → bit_in (set_at graph.claimed.items (spot_at (spots_at graph.spots.items e) k).term) e ≢ 1)

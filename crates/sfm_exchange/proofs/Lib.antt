@@ -17,6 +17,7 @@ pub mod RowsAfter
 pub mod Claiming
 pub mod AtOnce
 pub mod Asked
+pub mod Changes
 pub mod Basing
 pub mod ClaimedGraphs
 pub mod WholeGraphs

@@ -2,6 +2,7 @@
 use Rattle.std.specs.Prelude.{◌≡◌, ◌≢◌, ◌↔◌, ◌⊎◌, ℕ, ◌<◌, ◌≤◌, List, length, slice_index_or, ℤ, pos, ◌≤ℤ◌}
 use Rattle.sfm_spec.specs.Terms.{SetFunction, IsBase, exchanged}
 use Rattle.sfm_exchange.specs.declared.bits.Bits.{Bits}
+use Rattle.sfm_exchange.specs.declared.renewing.Changes.{Changes}
 use Rattle.sfm_exchange.specs.Bits.{bit_in, set_at}
 use Rattle.sfm_exchange.specs.Reach.{IsRow}
 
@@ -32,3 +33,9 @@ pub record AreAsked (places : List ℕ) (f : SetFunction) (x : List ℤ) (change
   pub count : length after ≡ length before
   pub asked : (u : ℕ) → u < k → bit_in changed (slice_index_or places u 0) ≡ 1 → IsRow places f x u (set_at after u)
   pub others : (u : ℕ) → u < length places → bit_in changed (slice_index_or places u 0) ≢ 1 → set_at after u ≡ set_at before u
+
+-- which rows of a term have changed, by their ground places: those of the one set have what they had, those of the other may be any, and all others stay
+pub record AreChanges (places : List ℕ) (changes : Changes) (before after : List Bits) : Type 0 where
+  pub inside : (e : ℕ) → (bit_in changes.grown e ≡ 1) ⊎ (bit_in changes.anew e ≡ 1) → (u : ℕ) × (u < length places) × (slice_index_or places u 0 ≡ e)
+  pub grown : (u t : ℕ) → u < length places → bit_in changes.grown (slice_index_or places u 0) ≡ 1 → bit_in (set_at before u) t ≡ 1 → bit_in (set_at after u) t ≡ 1
+  pub others : (u : ℕ) → u < length places → bit_in changes.grown (slice_index_or places u 0) ≢ 1 → bit_in changes.anew (slice_index_or places u 0) ≢ 1 → set_at after u ≡ set_at before u

@@ -1,5 +1,5 @@
 -- One row for each place of the ground.
-use Rattle.std.specs.Prelude.{◌≡◌, ◌≢◌, ◌↔◌, ℕ, ◌<◌, List, length, slice_index_or, ℤ}
+use Rattle.std.specs.Prelude.{◌≡◌, ◌≢◌, ◌↔◌, ℕ, ◌<◌, max, List, length, slice_index_or, ℤ}
 use Rattle.sfm_spec.specs.Families.{Meaning}
 use Rattle.sfm_spec.specs.Walks.{term_at, IsStep}
 use Rattle.sfm_exchange.specs.declared.bits.Bits.{Bits}
@@ -51,3 +51,9 @@ pub record AreRenewed (tables : List (List Bits)) (spots : List (List Spot)) (pl
   pub count : length after ≡ length before
   pub renewed : (e : ℕ) → bit_in places e ≡ 1 → IsUnion tables (spots_at spots e) (length (spots_at spots e)) (set_at after e)
   pub others : (e : ℕ) → bit_in places e ≢ 1 → set_at after e ≡ set_at before e
+
+-- the rows of the first k places of a term whose ground places are in the set are put into the unions there, and all others stay
+pub record AreWidened (places : List ℕ) (table : List Bits) (grown : Bits) (k : ℕ) (before after : List Bits) : Type 0 where
+  pub count : length after ≡ length before
+  pub widened : (u : ℕ) → u < k → bit_in grown (slice_index_or places u 0) ≡ 1 → (t : ℕ) → bit_in (set_at after (slice_index_or places u 0)) t ≡ max (bit_in (set_at before (slice_index_or places u 0)) t) (bit_in (set_at table u) t)
+  pub others : (e : ℕ) → ((u : ℕ) → u < k → bit_in grown (slice_index_or places u 0) ≡ 1 → slice_index_or places u 0 ≢ e) → set_at after e ≡ set_at before e

@@ -16,6 +16,17 @@ pub fn no_bits() -> Bits
     Bits { words: [0; 4] }
 }
 
+/// The set of one place.
+pub fn only(place: usize) -> Bits
+    requires { place < 256 }
+    ensures has { bit_in result place ≡ 1 }
+    ensures others { (e : ℕ) → e ≢ place → bit_in result e ≡ 0 }
+{
+    let mut bits = no_bits();
+    bits.insert(place);
+    bits
+}
+
 impl Bits {
     /// Whether the place e is in the set.
     pub fn contains(&self, e: usize) -> bool

@@ -15,7 +15,7 @@ ghost use Rattle.sfm_exchange.specs.Reach.{table_at};
 ghost use Rattle.sfm_exchange.specs.Reached.{AreWalked};
 ghost use Rattle.sfm_exchange.specs.Unions.{IsArc};
 
-use crate::bits::{Bits, no_bits};
+use crate::bits::{Bits, only};
 use crate::graph::Graph;
 use crate::path::Hop;
 use crate::reach::{Based, row_by};
@@ -23,17 +23,6 @@ use crate::unions::renew;
 use sfm_base::Memory;
 use sfm_law::Term;
 use std::alloc::Global;
-
-// The set of one place.
-fn only(place: usize) -> Bits
-    requires { place < 256 }
-    ensures has { bit_in result place ≡ 1 }
-    ensures others { (e : ℕ) → e ≢ place → bit_in result e ≡ 0 }
-{
-    let mut bits = no_bits();
-    bits.insert(place);
-    bits
-}
 
 // Asks for the row of the place u of a term where it is only claimed.
 fn ask_at<T: Term>(

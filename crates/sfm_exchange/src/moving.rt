@@ -16,7 +16,7 @@ use crate::graph::Graph;
 use crate::path::{Hop, Path};
 use crate::reach::Based;
 use crate::renewing::renew_rows;
-use crate::unions::renew;
+use crate::unions::{renew, widen};
 use sfm_base::Memory;
 use sfm_law::{Room, Term, exchange};
 use std::alloc::Global;
@@ -108,11 +108,18 @@ fn exchange_at<T: Term>(
     let at = Based { term, q, x };
     let rows = &mut graph.rows[i];
     let claimed = &mut graph.claimed[i];
-    let changed = renew_rows(alloc, &at, note, hop, rows, claimed)?;
+    let changes = renew_rows(alloc, &at, note, hop, rows, claimed)?;
     renew(
         &graph.spots,
         &graph.rows,
-        &changed,
+        &changes.anew,
+        &mut graph.unions,
+        &mut graph.back,
+    );
+    widen(
+        term.elements(),
+        &graph.rows[i],
+        &changes.grown,
         &mut graph.unions,
         &mut graph.back,
     );

@@ -11,14 +11,23 @@ ghost use Rattle.sfm_spec.specs.Terms.{times};
 ghost use Rattle.sfm_exchange.specs.Based.{IsBased};
 ghost use Rattle.sfm_exchange.specs.Bits.{bit_in, set_at};
 ghost use Rattle.sfm_exchange.specs.Claimed.{AreClaims};
-ghost use Rattle.sfm_exchange.specs.Renewed.{AreAsked, AreDepending, AreJoined, IsExchanged, IsJoined};
+ghost use Rattle.sfm_exchange.specs.Renewed.{AreAsked, AreChanges, AreDepending, AreJoined, IsExchanged, IsJoined};
 
-use crate::bits::{Bits, no_bits};
+use crate::bits::{Bits, no_bits, only};
 use crate::path::Hop;
 use crate::reach::{Based, BitRows, row_with};
 use sfm_base::Memory;
 use sfm_law::Term;
 use std::alloc::Global;
+
+/// The rows that an exchange may have changed, by their ground places.
+#[derive(Clone, Copy, Debug)]
+pub struct Changes {
+    /// Rows that have what they had, and maybe more.
+    pub grown: Bits,
+    /// Rows that may lack what they had.
+    pub anew: Bits,
+}
 
 // Whether the place u of a row is t, or the row has the ground place of t.
 fn has_place(row: &Bits, u: usize, t: usize, to: usize) -> bool
@@ -73,6 +82,20 @@ fn join_rows(places: &[usize], changed: &Bits, more: &Bits, to: usize, rows: &mu
     }
 }
 
+// The rows of some places have grown, but that of one place may be any.
+fn grown_but(places: &Bits, place: usize) -> Changes
+    requires { place < 256 }
+    ensures anew { (e : ℕ) → (bit_in result.anew e ≡ 1) ↔ (e ≡ place) }
+    ensures grown { (e : ℕ) → (bit_in result.grown e ≡ 1) ↔ ((e ≢ place) × (bit_in places.now e ≡ 1)) }
+{
+    let mut grown = *places;
+    grown.remove(place);
+    Changes {
+        grown,
+        anew: only(place),
+    }
+}
+
 // Whether a term is asked for rows at once: it says so, and none of its rows is claimed.
 fn asks_at_once<T: Term>(term: &T, claimed: &Bits) -> bool
     ensures { result ≡ true → (e : ℕ) → bit_in claimed.now e ≢ 1 }
@@ -108,8 +131,8 @@ fn ask_rows<T: Term>(
 }
 
 /// Brings the rows of a term up to the base that came by the exchange of a step, which raises its first place and lowers its
-/// last, and gives the ground places whose rows may have changed. Some rows are only claimed, before and afterwards; that of
-/// the first place is true. The note fits the base, and fits it still; after want of memory nothing is said of it.
+/// last, and tells which rows may have changed. Some rows are only claimed, before and afterwards; that of the first place is
+/// true. The note fits the base, and fits it still; after want of memory nothing is said of it.
 pub fn renew_rows<T: Term>(
     alloc: Global,
     at: &Based<'_, T>,
@@ -117,7 +140,7 @@ pub fn renew_rows<T: Term>(
     hop: Hop,
     rows: &mut BitRows,
     claimed: &mut Bits,
-) -> Result<Bits, Memory>
+) -> Result<Changes, Memory>
     requires based { IsBased T.places T.value_of T.size_of at.now.term.now at.now.q at.now.x.now }
     requires noted { T.fits at.now.term.now note.old at.now.q at.now.x.now }
     requires apart { hop.u ≢ hop.v }
@@ -129,8 +152,7 @@ pub fn renew_rows<T: Term>(
     ensures rows { OnOk result (length rows.new ≡ length rows.old) }
     ensures claims { OnOk result (AreClaims (T.places at.now.term.now) (times at.now.q (T.value_of at.now.term.now)) at.now.x.now claimed.new rows.new) }
     ensures noted { OnOk result (T.fits at.now.term.now note.new at.now.q at.now.x.now) }
-    ensures inside { IfOk result (λ r. (e : ℕ) → bit_in r e ≡ 1 → (u : ℕ) × (u < length (T.places at.now.term.now)) × (slice_index_or (T.places at.now.term.now) u 0 ≡ e)) }
-    ensures others { IfOk result (λ r. (u : ℕ) → u < length (T.places at.now.term.now) → bit_in r (slice_index_or (T.places at.now.term.now) u 0) ≢ 1 → set_at rows.new u ≡ set_at rows.old u) }
+    ensures changes { IfOk result (λ r. AreChanges (T.places at.now.term.now) r rows.old rows.new) }
 {
     let places = at.term.elements();
     let to = places[hop.u];
@@ -141,18 +163,21 @@ pub fn renew_rows<T: Term>(
         join_rows(places, &changed, &of_s, to, rows);
         rows.set(hop.u, of_s);
         claimed.remove(to);
-        return Ok(changed);
+        return Ok(grown_but(&changed, to));
     }
     if asks_at_once(at.term, claimed) {
         rows.set(hop.u, of_s);
         let mut others = changed;
         others.remove(to);
         ask_rows(alloc, at, note, hop.u, &others, rows)?;
-        return Ok(changed);
+        return Ok(Changes {
+            grown: no_bits(),
+            anew: changed,
+        });
     }
     join_rows(places, &changed, &before, to, rows);
     rows.set(hop.u, of_s);
     claimed.union_with(&changed);
     claimed.remove(to);
-    Ok(changed)
+    Ok(grown_but(&changed, to))
 }

@@ -1,8 +1,9 @@
 // One row for each place of the ground: all places that a step by any term leads to from there.
-ghost use Rattle.std.specs.Prelude.{◌≡◌, ◌<◌, ◌≤◌, ℕ, length, IfOk};
+ghost use Rattle.std.specs.Prelude.{◌≡◌, ◌<◌, ◌≤◌, ℕ, length, IfOk, slice_index_or};
+ghost use Rattle.sfm_spec.specs.Sets.{IsPlaced};
 ghost use Rattle.sfm_exchange.specs.Bits.{bit_in};
 ghost use Rattle.sfm_exchange.specs.Turned.{AreTurned};
-ghost use Rattle.sfm_exchange.specs.Unions.{IsUnion, AreRenewed, AreUnions, HasRows, HaveRows};
+ghost use Rattle.sfm_exchange.specs.Unions.{IsUnion, AreRenewed, AreUnions, AreWidened, HasRows, HaveRows};
 
 use crate::bits::{Bits, no_bits};
 use crate::reach::BitRows;
@@ -60,5 +61,30 @@ pub fn renew(
         let row = union_at(at.as_slice(), rows);
         turn(back, e, &unions[e], &row);
         unions[e] = row;
+    }
+}
+
+/// Puts the rows of some places of a term into the union rows, and the same into the rows turned round.
+pub fn widen(
+    places: &[usize],
+    rows: &BitRows,
+    grown: &Bits,
+    unions: &mut Vec<Bits>,
+    back: &mut Vec<Bits>,
+)
+    requires placed { IsPlaced 256 places.now }
+    requires inside { (u : ℕ) → u < length places.now → slice_index_or places.now u 0 < length unions.old.items }
+    requires rows { length rows.now ≡ length places.now }
+    requires turned { AreTurned unions.old.items back.old.items }
+    ensures widened { AreWidened places.now rows.now grown.now (length places.now) unions.old.items unions.new.items }
+    ensures turned { AreTurned unions.new.items back.new.items }
+{
+    for (u, place) in places.iter().enumerate() {
+        if grown.contains(*place) {
+            let mut row = unions[*place];
+            row.union_with(&rows.as_slice()[u]);
+            turn(back, *place, &unions[*place], &row);
+            unions[*place] = row;
+        }
     }
 }

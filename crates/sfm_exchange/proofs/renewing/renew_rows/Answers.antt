@@ -6,6 +6,7 @@ use Rattle.sfm_exchange.specs.Bits.{bit_in, set_at}
 use Rattle.sfm_exchange.specs.Reach.{IsRow}
 use Rattle.sfm_exchange.specs.Renewed.{AreDepending, AreJoined}
 use Rattle.sfm_exchange.proofs.AtOnce.{exchange_asked, lead_to_s, others_kept}
+use Rattle.sfm_exchange.proofs.Changes.{changes_anew, changes_grown}
 use Rattle.sfm_exchange.proofs.Claiming.{exchange_more, exchange_still, others_stay, neither}
 use Rattle.sfm_exchange.proofs.renewing.renew_rows.Goals as goal
 
@@ -32,8 +33,8 @@ returns-then-contains-clause-claims g c =
     rw c.set.ensures (exchange_still places b.placed.distinct family law hop.u hop.v ls lt r.apart x at.x.now b.entries b.base m c.args.claimed.now found c.args.rows.now claims all of_s hs (r.rows ∙ b.entries) c.join_rows.new.rows joined
     (rw shown at (c.if-contains.ensures.0 refl)) c.remove.new.self (rw shown at c.remove.ensures.others))
 
-pub returns-then-contains-clause-others : goal.returns-then-contains-clause-others
-returns-then-contains-clause-others g c =
+pub returns-then-contains-clause-changes : goal.returns-then-contains-clause-changes
+returns-then-contains-clause-changes g c =
     let t = g.T.Term in
     let at = c.args.at.now in
     let places = t.places at.term.now in
@@ -52,7 +53,8 @@ returns-then-contains-clause-others g c =
     let of_s = c.in_ok-of_s.of_s in
     let hs : IsRow places f at.x.now hop.u of_s = c.in_ok-of_s.ensures.row in
     let joined : AreJoined places found of_s (get_or places hop.u 0) (length places) c.args.rows.now c.join_rows.new.rows = rw (shown, c.in_ok-of_s.ensures.same) at c.join_rows.ensures in
-    rw c.set.ensures (others_stay places b.placed.distinct family law hop.u hop.v ls lt r.apart x at.x.now b.entries b.base m c.args.claimed.now found c.args.rows.now claims all of_s hs (r.rows ∙ b.entries) of_s c.join_rows.new.rows joined)
+    rw c.set.ensures (changes_grown places found (λ e one. let (u, lu, is, why) = (all e).0 one in (u, lu, is)) c.grown_but.result c.args.rows.now b.placed.distinct hop.u ls of_s of_s c.join_rows.new.rows
+    (rw shown at c.grown_but.ensures.anew) (rw shown at c.grown_but.ensures.grown) f x c.args.claimed.now claims joined (others_stay places b.placed.distinct family law hop.u hop.v ls lt r.apart x at.x.now b.entries b.base m c.args.claimed.now found c.args.rows.now claims all of_s hs (r.rows ∙ b.entries) of_s c.join_rows.new.rows joined))
 
 pub ask_rows-requires-clause-leads : goal.ask_rows-requires-clause-leads
 ask_rows-requires-clause-leads g c =
@@ -101,8 +103,8 @@ returns-then-asks_at_once-clause-claims g c =
     let asked = rw (c.set-then-asks_at_once.ensures, c.in_ok-of_s.ensures.same) at c.in_ok-ask_rows.ensures.asked in
     exchange_asked places b.placed.distinct family law hop.u hop.v ls lt r.apart x at.x.now b.entries b.base m c.args.claimed.now found c.args.rows.now claims nothing all of_s hs others (rw shown at c.remove-then-asks_at_once.ensures.out) (rw shown at c.remove-then-asks_at_once.ensures.others) c.ask_rows.new.rows (r.rows ∙ b.entries) asked
 
-pub returns-then-asks_at_once-clause-others : goal.returns-then-asks_at_once-clause-others
-returns-then-asks_at_once-clause-others g c =
+pub returns-then-asks_at_once-clause-changes : goal.returns-then-asks_at_once-clause-changes
+returns-then-asks_at_once-clause-changes g c =
     let t = g.T.Term in
     let at = c.args.at.now in
     let places = t.places at.term.now in
@@ -123,7 +125,8 @@ returns-then-asks_at_once-clause-others g c =
     let nothing = c.asks_at_once.ensures c.if-asks_at_once.true in
     let others = c.remove-then-asks_at_once.new.self in
     let asked = rw (c.set-then-asks_at_once.ensures, c.in_ok-of_s.ensures.same) at c.in_ok-ask_rows.ensures.asked in
-    others_kept places b.placed.distinct family law hop.u hop.v ls lt r.apart x at.x.now b.entries b.base m c.args.claimed.now found c.args.rows.now claims nothing all of_s hs others (rw shown at c.remove-then-asks_at_once.ensures.out) (rw shown at c.remove-then-asks_at_once.ensures.others) c.ask_rows.new.rows (r.rows ∙ b.entries) asked
+    changes_anew places found (λ e one. let (u, lu, is, why) = (all e).0 one in (u, lu, is)) _ c.args.rows.now c.ask_rows.new.rows c.no_bits.ensures refl
+    (others_kept places b.placed.distinct family law hop.u hop.v ls lt r.apart x at.x.now b.entries b.base m c.args.claimed.now found c.args.rows.now claims nothing all of_s hs others (rw shown at c.remove-then-asks_at_once.ensures.out) (rw shown at c.remove-then-asks_at_once.ensures.others) c.ask_rows.new.rows (r.rows ∙ b.entries) asked)
 
 pub returns-clause-claims : goal.returns-clause-claims
 returns-clause-claims g c =
@@ -150,8 +153,8 @@ returns-clause-claims g c =
     rw c.set-2.ensures (exchange_more places b.placed.distinct family law hop.u hop.v ls lt r.apart x at.x.now b.entries b.base m c.args.claimed.now found c.args.rows.now claims all of_s hs (r.rows ∙ b.entries) c.join_rows-2.new.rows joined
     c.remove-2.new.self (λ e ne none. neither c.args.claimed.now found e (bit_in c.remove-2.new.self e) (rw shown at c.remove-2.ensures.others e ne ∙ c.union_with.ensures e) none))
 
-pub returns-clause-others : goal.returns-clause-others
-returns-clause-others g c =
+pub returns-clause-changes : goal.returns-clause-changes
+returns-clause-changes g c =
     let t = g.T.Term in
     let at = c.args.at.now in
     let places = t.places at.term.now in
@@ -172,4 +175,5 @@ returns-clause-others g c =
     let before = set_at c.args.rows.now hop.u in
     let before_is : c.row-before.result ≡ before = c.row-before.ensures in
     let joined : AreJoined places found before (get_or places hop.u 0) (length places) c.args.rows.now c.join_rows-2.new.rows = rw (shown, c.in_ok-of_s.ensures.same, before_is) at c.join_rows-2.ensures in
-    rw c.set-2.ensures (others_stay places b.placed.distinct family law hop.u hop.v ls lt r.apart x at.x.now b.entries b.base m c.args.claimed.now found c.args.rows.now claims all of_s hs (r.rows ∙ b.entries) before c.join_rows-2.new.rows joined)
+    rw c.set-2.ensures (changes_grown places found (λ e one. let (u, lu, is, why) = (all e).0 one in (u, lu, is)) c.grown_but-2.result c.args.rows.now b.placed.distinct hop.u ls before of_s c.join_rows-2.new.rows
+    (rw shown at c.grown_but-2.ensures.anew) (rw shown at c.grown_but-2.ensures.grown) f x c.args.claimed.now claims joined (others_stay places b.placed.distinct family law hop.u hop.v ls lt r.apart x at.x.now b.entries b.base m c.args.claimed.now found c.args.rows.now claims all of_s hs (r.rows ∙ b.entries) before c.join_rows-2.new.rows joined))
