@@ -18,6 +18,7 @@ pub mod Numbers
 pub mod Repeats
 pub mod Passed
 pub mod KeptTokens
+pub mod SlotCuts
 pub mod Shaped
 pub mod ReadLines
 pub mod TooMuch

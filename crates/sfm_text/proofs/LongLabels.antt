@@ -1,5 +1,5 @@
--- The first reason of a long line of elements with labels, from what passes over its tokens tell.
-use Rattle.std.proofs.Common.{◌≡◌, ◌≢◌, ◌↔◌, IsTrue, inl, inr, ◌<◌, ◌≤◌, ℕ, Bool, true, false, MatchBool, List, [], ◌∷◌, ◌++◌, length, get_or, map, codes, ℤ, refl, sym, ap, ◌∙◌, arith}
+-- The first reason of a line of elements with labels, from what passes over its tokens tell.
+use Rattle.std.proofs.Common.{◌≡◌, ◌≢◌, ◌↔◌, IsTrue, inl, inr, ◌<◌, ℕ, Bool, true, false, MatchBool, List, [], ◌∷◌, ◌++◌, length, get_or, map, codes, refl, sym, ap, ◌∙◌, arith}
 use Rattle.std.specs.List.{All, Any, AllWithin, HoldsAt, AllZip}
 use Rattle.std.proofs.lemmas.Bool.{false≢true}
 use Rattle.std.proofs.lemmas.List.{get_or_default, length-map}
@@ -12,16 +12,15 @@ use Rattle.sfm_text.specs.declared.token_test.TokenTest.TheVariants.{Labelled, L
 use Rattle.sfm_text.specs.declared.word.RankKind.{RankKind}
 use Rattle.sfm_text.specs.declared.word.RankKind.TheVariants.{NoRank, UniformRank, LaminarRank, GraphicRank, TransversalRank}
 use Rattle.sfm_text.specs.declared.word.TermWord.TheVariants.{RankWord}
-use Rattle.sfm_text.specs.Parts.{LineParts, IsMark, IsCutAt, IsLabelToken, IsRankHead, IsLabelledLine, IsRankLine, AreLabelsOf}
+use Rattle.sfm_text.specs.Parts.{LineParts, IsMark, IsCutAt, IsLabelToken, IsLabelledLine, IsRankLine, AreLabelsOf}
 use Rattle.sfm_text.specs.CutParts.{labelled_parts_of}
-use Rattle.sfm_text.specs.Words.{lowest_of, HasParts}
-use Rattle.sfm_text.specs.TermLines.{IsNumberFrom, IsElement}
-use Rattle.sfm_text.specs.Passes.{IsNumberOf, IsKnown, Holds, Fails, IsReasonOf, label_word, HasLabels}
+use Rattle.sfm_text.specs.TermLines.{IsElement, StandsTwice}
+use Rattle.sfm_text.specs.Reading.{HasSlotTwice}
+use Rattle.sfm_text.specs.Passes.{IsNumberOf, IsKnown, Holds, Fails, IsReasonOf, label_word, HasLabels, RepeatsSlot, HasRepeatedSlot, AreGoodEntries}
 use Rattle.sfm_text.proofs.GroupCuts.{group_tokens}
-use Rattle.sfm_text.proofs.LongNames.{many-twice}
-use Rattle.sfm_text.proofs.LongReasons.{AreNumbers, AreKnown, long-shape, long-number, long-name, long-label, long-twice}
+use Rattle.sfm_text.proofs.LongReasons.{AreNumbers, AreKnown, long-shape, long-number, long-name, long-label, long-twice, long-slot}
 use Rattle.sfm_text.proofs.Matches.{AllZip-at, length-AllZip}
-use Rattle.sfm_text.proofs.Passed.{any-here, any-behind, matched-each, matched-one, matched-all}
+use Rattle.sfm_text.proofs.Passed.{any-here, any-behind, all-matched, matched-each, matched-one, matched-all}
 use Rattle.sfm_text.proofs.Ranks.{cut-same, token-same}
 use Rattle.sfm_text.proofs.LongRanks.{other-word}
 
@@ -117,6 +116,16 @@ entry-none rank tokens behind entries same each (k, token, lt, e, none) =
     let (entry, p) = AllZip-at (IsLabelToken rank) tokens entries k token each' lt in
     none (entry, rw e at p)
 
+-- an entry in which a slot stands twice
+slot-twice : (rank : RankKind) (tokens : List (List ℕ)) (entries : List (List ℕ × List (List ℕ))) → AllZip (IsLabelToken rank) tokens entries → HasRepeatedSlot rank tokens → HasSlotTwice rank (map (λ entry. entry.1) entries)
+slot-twice NoRank tokens entries each again = absurd again
+slot-twice UniformRank tokens entries each again = absurd again
+slot-twice LaminarRank tokens entries each again = absurd again
+slot-twice GraphicRank tokens entries each again = absurd again
+slot-twice TransversalRank tokens entries each again =
+    matched-one (IsLabelToken TransversalRank) RepeatsSlot (λ (entry : List ℕ × List (List ℕ)). entry.1) (λ slots. StandsTwice slots)
+    (λ token entry p (other, q, twice). let same : other ≡ entry = token-same TransversalRank token other entry q p in rw same at twice) tokens entries each again
+
 module _ (i : InstanceData) (rank : RankKind) (has : HasLabels rank) (number colon : List ℕ) (tokens more : List (List ℕ)) (is : more ≡ colon ∷ tokens) where
   labelled-same : (parts : LineParts) → IsRankLine (number ∷ label_word rank ∷ more) parts → (h : IsLabelledLine rank (label_word rank) (number ∷ label_word rank ∷ more) parts) × ((number ≡ h.number) × (colon ≡ codes ":") × (tokens ≡ h.behind))
   labelled-same parts h =
@@ -133,7 +142,7 @@ module _ (i : InstanceData) (rank : RankKind) (has : HasLabels rank) (number col
   pub labelled-entry : Any (λ token. Holds i.names (Labelled rank) token → ⊥) tokens → IsReasonOf i RankWord (number ∷ label_word rank ∷ more) Shape
   labelled-entry any = long-shape i RankWord (number ∷ label_word rank ∷ more) (λ parts h. let (l, same) = labelled-same parts h in entry-none rank tokens l.behind l.entries same.2 l.each any)
 
-  module _ (long : 1000 < length more) (no_mark : IsMark number → ⊥) (is_colon : colon ≡ codes ":") (entries : List (List ℕ × List (List ℕ))) (each : AllZip (IsLabelToken rank) tokens entries) where
+  module _ (some : 0 < length tokens) (no_mark : IsMark number → ⊥) (is_colon : colon ≡ codes ":") (entries : List (List ℕ × List (List ℕ))) (each : AllZip (IsLabelToken rank) tokens entries) where
     abbrev labelled-parts : LineParts
     labelled-parts = labelled_parts_of rank number entries
 
@@ -143,7 +152,7 @@ module _ (i : InstanceData) (rank : RankKind) (has : HasLabels rank) (number col
       behind = tokens;
       entries = entries;
       head = record { tokens_are = ap (λ (l : List (List ℕ)). number ∷ label_word rank ∷ l) (is ∙ ap (λ (t : List ℕ). t ∷ tokens) is_colon); no_mark = no_mark };
-      some = omega (arith, long, ap length is);
+      some = omega (arith, some);
       each = each;
       parts_are = refl;
     })
@@ -163,11 +172,31 @@ module _ (i : InstanceData) (rank : RankKind) (has : HasLabels rank) (number col
       labelled-label any = long-label i RankWord (number ∷ label_word rank ∷ more) labelled-parts labelled-line labelled-values
           (matched-one (IsLabelToken rank) (Fails i.names (NamedLabels rank)) (λ (entry : List ℕ × List (List ℕ)). entry.1) (λ texts. Any (λ text. IsName text → ⊥) texts) (λ token entry p wrong. wrong entry p) tokens entries each any)
 
-      pub labelled-twice : AreElementNames i.names → All (Holds i.names (LabelledElement rank)) tokens → All (Holds i.names (NamedLabels rank)) tokens → IsReasonOf i RankWord (number ∷ label_word rank ∷ more) Twice
-      labelled-twice named known names = long-twice i RankWord (number ∷ label_word rank ∷ more) labelled-parts labelled-line labelled-values named
-          (matched-each (IsLabelToken rank) (Holds i.names (LabelledElement rank)) (λ (entry : List ℕ × List (List ℕ)). entry.0) (IsElement i.names)
-          (λ token entry p (other, q, element). let same : other ≡ entry = token-same rank token other entry q p in rw same at element) tokens entries each known)
-          refl
-          (matched-all (IsLabelToken rank) (Holds i.names (NamedLabels rank)) (λ (entry : List ℕ × List (List ℕ)). entry.1) (λ texts. All IsName texts)
-          (λ token entry p (other, q, good). let same : other ≡ entry = token-same rank token other entry q p in rw same at good) tokens entries each names)
-          (omega (arith, long, ap length is, length-map entries (λ (entry : List ℕ × List (List ℕ)). entry.0), length-AllZip (IsLabelToken rank) tokens entries each))
+      module _ (named : AreElementNames i.names) (known : All (Holds i.names (LabelledElement rank)) tokens) (names : All (Holds i.names (NamedLabels rank)) tokens) where
+        elements-known : AreKnown i.names (map (λ entry. entry.0) entries)
+        elements-known = matched-each (IsLabelToken rank) (Holds i.names (LabelledElement rank)) (λ (entry : List ℕ × List (List ℕ)). entry.0) (IsElement i.names)
+            (λ token entry p (other, q, element). let same : other ≡ entry = token-same rank token other entry q p in rw same at element) tokens entries each known
+
+        labels-named : All (λ texts. All IsName texts) (map (λ entry. entry.1) entries)
+        labels-named = matched-all (IsLabelToken rank) (Holds i.names (NamedLabels rank)) (λ (entry : List ℕ × List (List ℕ)). entry.1) (λ texts. All IsName texts)
+            (λ token entry p (other, q, good). let same : other ≡ entry = token-same rank token other entry q p in rw same at good) tokens entries each names
+
+        pub labelled-twice : 256 < length tokens → IsReasonOf i RankWord (number ∷ label_word rank ∷ more) Twice
+        labelled-twice many = long-twice i RankWord (number ∷ label_word rank ∷ more) labelled-parts labelled-line labelled-values named elements-known refl labels-named
+            (omega (arith, many, length-map entries (λ (entry : List ℕ × List (List ℕ)). entry.0), length-AllZip (IsLabelToken rank) tokens entries each))
+
+        pub labelled-slot : HasRepeatedSlot rank tokens → IsReasonOf i RankWord (number ∷ label_word rank ∷ more) Twice
+        labelled-slot again = long-slot i RankWord (number ∷ label_word rank ∷ more) labelled-parts labelled-line labelled-values named elements-known refl labels-named
+            (slot-twice rank tokens entries each again)
+
+-- elements with labels that have no reason before that something stands twice
+module _ (i : InstanceData) (rank : RankKind) (has : HasLabels rank) (number colon : List ℕ) (tokens more : List (List ℕ)) (is : more ≡ colon ∷ tokens) (some : 0 < length tokens) (named : AreElementNames i.names) (good : AreGoodEntries i.names rank number colon tokens) where
+  pub many-entries : 256 < length tokens → IsReasonOf i RankWord (number ∷ label_word rank ∷ more) Twice
+  many-entries many =
+      let (entries, each) = all-matched (IsLabelToken rank) tokens good.each in
+      labelled-twice i rank has number colon tokens more is some good.no_mark good.is_colon entries each good.is_number named good.known good.named many
+
+  pub entry-again : HasRepeatedSlot rank tokens → IsReasonOf i RankWord (number ∷ label_word rank ∷ more) Twice
+  entry-again again =
+      let (entries, each) = all-matched (IsLabelToken rank) tokens good.each in
+      labelled-slot i rank has number colon tokens more is some good.no_mark good.is_colon entries each good.is_number named good.known good.named again

@@ -1,20 +1,16 @@
 -- The first reason of a long line of a rank, from what passes over its tokens tell.
-use Rattle.std.proofs.Common.{◌≡◌, ◌≢◌, Bool, true, false, bytes_eq, MatchBool, inl, inr, ◌<◌, ◌≤◌, ℕ, List, [], ◌∷◌, ◌++◌, length, get_or, map, codes, ℤ, refl, sym, ap, ◌∙◌, arith}
+use Rattle.std.proofs.Common.{◌≡◌, ◌≢◌, Bool, true, false, bytes_eq, MatchBool, inl, inr, ◌<◌, ℕ, List, [], ◌∷◌, ◌++◌, length, get_or, codes, refl, sym, ap, ◌∙◌, arith}
 use Rattle.std.specs.List.{All, Any}
 use Rattle.std.proofs.lemmas.Bool.{false≢true}
 use Rattle.std.proofs.lemmas.Slice.Eq.{bytes_eq-Decides}
-use Rattle.std.proofs.lemmas.List.{length-map}
 use Rattle.std.proofs.lemmas.List.Elements.{All-cons, All-nil}
-use Rattle.sfm_spec.specs.Names.{IsName}
 use Rattle.sfm_kind.specs.Names.{AreElementNames}
 use Rattle.sfm_kind.specs.Instance.{InstanceData}
 use Rattle.sfm_text.specs.declared.reason.Reason.TheVariants.{Shape, Number, Name, Twice}
 use Rattle.sfm_text.specs.declared.token_test.TokenTest.TheVariants.{Element}
-use Rattle.sfm_text.specs.declared.word.RankKind.{RankKind}
-use Rattle.sfm_text.specs.declared.word.RankKind.TheVariants.{NoRank, UniformRank, LaminarRank, GraphicRank, TransversalRank}
+use Rattle.sfm_text.specs.declared.word.RankKind.TheVariants.{NoRank, UniformRank}
 use Rattle.sfm_text.specs.declared.word.TermWord.TheVariants.{RankWord}
 use Rattle.sfm_text.specs.Parts.{LineParts, IsMark, AreUnmarked, IsCutAtColon, IsUniformLine, IsRankLine}
-use Rattle.sfm_text.specs.Words.{lowest_of, HasParts}
 use Rattle.sfm_text.specs.TermLines.{IsElement}
 use Rattle.sfm_text.specs.Passes.{IsNumberOf, Holds, IsReasonOf, IsRankNamed}
 use Rattle.sfm_text.proofs.GroupCuts.{group_tokens}

@@ -15,13 +15,13 @@ use Rattle.sfm_text.specs.Parts.{LineParts, plain_parts, IsMark, AreUnmarked, Is
 use Rattle.sfm_text.specs.CutParts.{IsConcaveCount, IsTableCount}
 use Rattle.sfm_text.specs.Words.{lowest_of, HasParts}
 use Rattle.sfm_text.specs.TermLines.{IsNumberFrom, IsElement}
-use Rattle.sfm_text.specs.Reading.{HasWrongLabel}
+use Rattle.sfm_text.specs.Reading.{HasWrongLabel, HasSlotTwice}
 use Rattle.sfm_text.specs.Passes.{IsNumberOf, IsKnown, Holds, IsReasonOf}
 use Rattle.sfm_text.proofs.Colons.{none-any, colon-same}
 use Rattle.sfm_text.proofs.Matches.{AllZip-at, length-AllZip}
 use Rattle.sfm_text.proofs.LongNames.{unknown-new, many-twice}
 use Rattle.sfm_text.proofs.Passed.{any-here, all-matched, matched-each, matched-one}
-use Rattle.sfm_text.proofs.TermReasons.{at-shape, at-number, at-name, at-label, at-twice}
+use Rattle.sfm_text.proofs.TermReasons.{at-shape, at-number, at-name, at-label, at-twice, at-slot-twice}
 use Rattle.sfm_text.proofs.WordLines.{pair-same}
 
 -- texts that are numbers of the word's line, and texts that name elements
@@ -50,6 +50,9 @@ module _ (i : InstanceData) (word : TermWord) (rest : List (List ℕ)) where
       long-twice named (places, known) groups labels many = λ line is.
           at-twice i word rest line is parts shape numbers.0 numbers.1 places named known (rw groups (All-nil _)) labels
           (many-twice i.names parts.elements places named.few known (omega (arith, many, length-AllZip (IsElement i.names) parts.elements places known)))
+
+      pub long-slot : AreElementNames i.names → AreKnown i.names parts.elements → parts.groups ≡ [] → All (λ texts. All IsName texts) parts.labels → HasSlotTwice parts.rank parts.labels → IsReasonOf i word rest Twice
+      long-slot named (places, known) groups labels twice = λ line is. at-slot-twice i word rest line is parts shape numbers.0 numbers.1 places named known (rw groups (All-nil _)) labels twice
 
 -- ---- lines with few tokens
 

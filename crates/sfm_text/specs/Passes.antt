@@ -4,14 +4,17 @@ use Rattle.std.specs.List.{All}
 use Rattle.sfm_spec.specs.Names.{IsName}
 use Rattle.sfm_kind.specs.Instance.{InstanceData}
 use Rattle.sfm_text.specs.declared.reason.Reason.{Reason}
+use Rattle.sfm_text.specs.declared.between.Separator.{Separator}
+use Rattle.sfm_text.specs.declared.between.Separator.TheVariants.{Blanks, Comma}
 use Rattle.sfm_text.specs.declared.stage.Stage.TheVariants.{Terms}
 use Rattle.sfm_text.specs.declared.token_test.TokenTest.{TokenTest}
 use Rattle.sfm_text.specs.declared.token_test.TokenTest.TheVariants.{Pair, PairNumber, PairElement, Value, Element, Labelled, LabelledElement, NamedLabels}
 use Rattle.sfm_text.specs.declared.word.RankKind.{RankKind}
 use Rattle.sfm_text.specs.declared.word.RankKind.TheVariants.{NoRank, UniformRank, LaminarRank, GraphicRank, TransversalRank}
 use Rattle.sfm_text.specs.declared.word.TermWord.{TermWord}
-use Rattle.sfm_text.specs.declared.word.TermWord.TheVariants.{WeightWord, ConcaveWord}
-use Rattle.sfm_text.specs.Parts.{IsPairToken, IsLabelToken}
+use Rattle.sfm_text.specs.declared.word.TermWord.TheVariants.{WeightWord, ConcaveWord, RankWord}
+use Rattle.sfm_text.specs.Lines.{pieces_of, tokens_of}
+use Rattle.sfm_text.specs.Parts.{IsMark, IsPairToken, IsLabelToken}
 use Rattle.sfm_text.specs.Words.{word_text, lowest_of}
 use Rattle.sfm_text.specs.TermLines.{IsNumberFrom, IsElement, StandsTwice}
 use Rattle.sfm_text.specs.Reading.{FirstReason}
@@ -60,6 +63,34 @@ IsRankNamed UniformRank text = text ≡ codes "uniform"
 IsRankNamed LaminarRank text = text ≡ codes "laminar"
 IsRankNamed GraphicRank text = text ≡ codes "graphic"
 IsRankNamed TransversalRank text = text ≡ codes "transversal"
+
+-- the texts between commas behind the first byte, which stands before the first of them
+abbrev pub slots_behind : List ℕ → List (List ℕ)
+slots_behind [] = []
+slots_behind (c ∷ text) = pieces_of 44 text
+
+-- the texts of a line between such separators: its tokens, or slots
+abbrev pub texts_between : Separator → List ℕ → List (List ℕ)
+texts_between Blanks line = tokens_of line
+texts_between Comma line = slots_behind line
+
+-- the token is an entry in which a slot stands twice
+abbrev pub RepeatsSlot : List ℕ → Type 0
+RepeatsSlot token = (entry : List ℕ × List (List ℕ)) × IsLabelToken TransversalRank token entry × StandsTwice entry.1
+
+-- some token is such an entry, in the line of that rank
+abbrev pub HasRepeatedSlot : RankKind → List (List ℕ) → Type 0
+HasRepeatedSlot TransversalRank tokens = Any RepeatsSlot tokens
+HasRepeatedSlot _ tokens = ⊥
+
+-- elements with labels that have no reason before that something stands twice
+pub record AreGoodEntries (names : List (List ℕ)) (rank : RankKind) (number colon : List ℕ) (tokens : List (List ℕ)) : Type 0 where
+  pub no_mark : IsMark number → ⊥
+  pub is_colon : colon ≡ codes ":"
+  pub each : All (Holds names (Labelled rank)) tokens
+  pub is_number : IsNumberOf RankWord number
+  pub known : All (Holds names (LabelledElement rank)) tokens
+  pub named : All (Holds names (NamedLabels rank)) tokens
 
 -- the tokens are those that are kept and then the rest, and none is kept twice
 pub record IsKept (tokens kept rest : List (List ℕ)) : Type 0 where

@@ -103,7 +103,7 @@ pub fn add_line(alloc: Global, instance: &mut Instance, line: &[u8]) -> Result<(
         return Err(LineEnd::Fault(Reason::Word));
     };
     let _count = instance.names_len();
-    if let Some(reason) = early_reason(instance, word, rest) {
+    if let Some(reason) = early_reason(alloc, instance, word, rest)? {
         return Err(LineEnd::Fault(reason));
     }
     let tokens = tokens(alloc, rest)?;

@@ -2,6 +2,7 @@
 #![tactic(auto)]
 
 mod added;
+mod between;
 mod concave_line;
 mod cover_line;
 mod cut_line;
@@ -28,6 +29,7 @@ mod reader;
 mod reading;
 mod reason;
 mod repeat;
+mod slots;
 mod stage;
 mod table_line;
 mod term_line;

@@ -1,7 +1,7 @@
 // The first reason of a long term line, told by passes over its tokens, so that no list of them is made. A line that names
 // each element at most once has at most 513 tokens behind its word, but where the line of a laminar rank names its groups. So a
 // longer line is not good: where its shape, its numbers and its names are, an element stands twice, as there are at most 256.
-ghost use Rattle.std.specs.Prelude.{◌<◌, length, IsTrue, IfSome};
+ghost use Rattle.std.specs.Prelude.{◌<◌, length, IsTrue, IfOk, IfSome};
 ghost use Rattle.sfm_kind.specs.Names.{AreElementNames};
 ghost use Rattle.sfm_text.specs.Lines.{tokens_of};
 ghost use Rattle.sfm_text.specs.Passes.{IsReasonOf};
@@ -14,7 +14,9 @@ use crate::reason::Reason;
 use crate::token_test::{TokenTest, is_number_of};
 use crate::tokens::{first_token, has_token};
 use crate::word::TermWord;
+use sfm_base::Memory;
 use sfm_kind::Instance;
+use std::alloc::Global;
 
 /// The most tokens behind the word of a line that is not long.
 const MOST_TOKENS: usize = 1_024;
@@ -87,7 +89,7 @@ fn concave_reason(instance: &Instance, line: &[u8]) -> Reason
     Reason::Twice
 }
 
-/// The first reason of a long line with this word and these tokens behind it, or None where passes do not tell it.
+/// The first reason of a long line with this word and these tokens behind it; lines of ranks are told by themselves.
 fn long_reason(instance: &Instance, word: TermWord, line: &[u8]) -> Option<Reason>
     requires names { AreElementNames instance.now.names }
     requires long { 1024 < length (tokens_of line.now) }
@@ -100,17 +102,26 @@ fn long_reason(instance: &Instance, word: TermWord, line: &[u8]) -> Option<Reaso
         TermWord::CoverWord => Some(cover_reason(instance, line)),
         TermWord::TableWord => Some(Reason::Shape),
         TermWord::ConcaveWord => Some(concave_reason(instance, line)),
-        TermWord::RankWord => rank_reason(instance, line),
+        TermWord::RankWord => None,
     }
 }
 
-/// The first reason of a line with this word and these tokens behind it, where the line is long and passes tell it.
-pub fn early_reason(instance: &Instance, word: TermWord, line: &[u8]) -> Option<Reason>
+/// The first reason of a line with this word and these tokens behind it, where passes tell it: if the line is long, or that of
+/// a rank.
+pub fn early_reason(
+    alloc: Global,
+    instance: &Instance,
+    word: TermWord,
+    line: &[u8],
+) -> Result<Option<Reason>, Memory>
     requires { AreElementNames instance.now.names }
-    ensures { IfSome result (IsReasonOf instance.now word (tokens_of line.now)) }
+    ensures { IfOk result (λ r. IfSome r (IsReasonOf instance.now word (tokens_of line.now))) }
 {
-    if !is_long(line) {
-        return None;
+    if word == TermWord::RankWord {
+        return rank_reason(alloc, instance, line);
     }
-    long_reason(instance, word, line)
+    if !is_long(line) {
+        return Ok(None);
+    }
+    Ok(long_reason(instance, word, line))
 }

@@ -1,19 +1,29 @@
-// The first reason of a long line of a rank, told by passes over its tokens. A line of a laminar rank may be good however long
-// it is, so passes do not tell its reason.
-ghost use Rattle.std.specs.Prelude.{◌≡◌, ◌≢◌, ◌<◌, ◌∷◌, [], length, codes, IfSome, MatchBool};
+// The first reason of a line of a rank, told by passes over its tokens: of a uniform rank where the line is long, and of a rank
+// whose elements have labels however long it is, as one entry may have millions of slots. A line of a laminar rank may be good
+// however long it is, so passes do not tell its reason.
+ghost use Rattle.std.specs.Prelude.{◌≡◌, ◌≢◌, ◌<◌, ◌∷◌, [], length, codes, IfOk, IfSome, MatchBool, MatchOption};
 ghost use Rattle.sfm_kind.specs.Names.{AreElementNames};
 ghost use Rattle.sfm_text.specs.Lines.{tokens_of};
 ghost use Rattle.sfm_text.specs.Parts.{LineParts, IsCutAtColon, IsUniformLine};
-ghost use Rattle.sfm_text.specs.Passes.{IsReasonOf, IsRankNamed, HasLabels, label_word};
+ghost use Rattle.sfm_text.specs.Passes.{IsReasonOf, IsRankNamed, HasLabels, label_word, AreGoodEntries};
 ghost use Rattle.sfm_text.specs.declared.word.TermWord.TheVariants.{RankWord};
 
 use crate::mark::is_mark;
 use crate::passes::{all_hold, has_mark_in, is_colon};
 use crate::reason::Reason;
+use crate::slots::has_repeated_slot;
 use crate::token_test::{TokenTest, is_number_of};
-use crate::tokens::first_token;
+use crate::tokens::{first_token, has_token};
 use crate::word::{RankKind, TermWord};
+use sfm_base::Memory;
 use sfm_kind::Instance;
+use std::alloc::Global;
+
+/// The most elements of a ground.
+const MOST_ELEMENTS: usize = 256;
+
+/// The most tokens behind the word of a uniform rank in a line that is not long.
+const MOST_TOKENS: usize = 1_000;
 
 /// Whether a token is that word.
 fn is_word(token: &[u8], word: &[u8]) -> bool
@@ -89,64 +99,108 @@ fn uniform_reason(instance: &Instance, number: &[u8], behind: &[u8]) -> Reason
     Reason::Twice
 }
 
-/// The first reason of a long line of a rank whose elements have labels, with this number and these tokens behind its word.
-fn labelled_reason(instance: &Instance, rank: RankKind, number: &[u8], behind: &[u8]) -> Reason
-    requires names { AreElementNames instance.now.names }
+/// The first reason of elements with labels before that something stands twice, or None where there is none.
+fn entries_fault(
+    instance: &Instance,
+    rank: RankKind,
+    number: &[u8],
+    colon: &[u8],
+    entries: &[u8],
+) -> Option<Reason>
     requires labels { HasLabels rank }
-    requires long { 1000 < length (tokens_of behind.now) }
-    ensures { IsReasonOf instance.now RankWord (number.now ∷ label_word rank ∷ tokens_of behind.now) result }
+    requires some { 0 < length (tokens_of entries.now) }
+    ensures { MatchOption result
+        (AreGoodEntries instance.now.names rank number.now colon.now (tokens_of entries.now))
+        (IsReasonOf instance.now RankWord (number.now ∷ label_word rank ∷ colon.now ∷ tokens_of entries.now)) }
 {
-    let Some((colon, entries)) = first_token(behind) else {
-        return Reason::Shape;
-    };
     if is_mark(number) {
-        return Reason::Shape;
+        return Some(Reason::Shape);
     }
     if !is_colon(colon) {
-        return Reason::Shape;
+        return Some(Reason::Shape);
     }
     if !all_hold(instance, TokenTest::Labelled(rank), entries) {
-        return Reason::Shape;
+        return Some(Reason::Shape);
     }
     if !is_number_of(TermWord::RankWord, number) {
-        return Reason::Number;
+        return Some(Reason::Number);
     }
     if !all_hold(instance, TokenTest::LabelledElement(rank), entries) {
-        return Reason::Name;
+        return Some(Reason::Name);
     }
     if !all_hold(instance, TokenTest::NamedLabels(rank), entries) {
-        return Reason::Name;
+        return Some(Reason::Name);
     }
-    Reason::Twice
+    None
 }
 
-/// The first reason of a long line of a rank with these tokens behind its word, or None where passes do not tell it.
-pub fn rank_reason(instance: &Instance, line: &[u8]) -> Option<Reason>
+/// The first reason of a line of a rank whose elements have labels, with this number and these tokens behind its word, or None
+/// where passes tell none.
+fn labelled_reason(
+    alloc: Global,
+    instance: &Instance,
+    rank: RankKind,
+    number: &[u8],
+    behind: &[u8],
+) -> Result<Option<Reason>, Memory>
     requires names { AreElementNames instance.now.names }
-    requires long { 1024 < length (tokens_of line.now) }
-    ensures { IfSome result (IsReasonOf instance.now RankWord (tokens_of line.now)) }
+    requires labels { HasLabels rank }
+    ensures { IfOk result (λ r. IfSome r (IsReasonOf instance.now RankWord (number.now ∷ label_word rank ∷ tokens_of behind.now))) }
+{
+    let Some((colon, entries)) = first_token(behind) else {
+        return Ok(None);
+    };
+    if !has_token(entries, 0) {
+        return Ok(None);
+    }
+    if let Some(reason) = entries_fault(instance, rank, number, colon, entries) {
+        return Ok(Some(reason));
+    }
+    if has_token(entries, MOST_ELEMENTS) {
+        return Ok(Some(Reason::Twice));
+    }
+    if has_repeated_slot(alloc, rank, entries)? {
+        return Ok(Some(Reason::Twice));
+    }
+    Ok(None)
+}
+
+/// The first reason of a line of a uniform rank with this number and these tokens behind its word, or None where the line is not
+/// long.
+fn long_uniform_reason(instance: &Instance, number: &[u8], behind: &[u8]) -> Option<Reason>
+    requires { AreElementNames instance.now.names }
+    ensures { IfSome result (IsReasonOf instance.now RankWord (number.now ∷ codes "uniform" ∷ tokens_of behind.now)) }
+{
+    if !has_token(behind, MOST_TOKENS) {
+        return None;
+    }
+    Some(uniform_reason(instance, number, behind))
+}
+
+/// The first reason of a line of a rank with these tokens behind its word, or None where passes do not tell it.
+pub fn rank_reason(
+    alloc: Global,
+    instance: &Instance,
+    line: &[u8],
+) -> Result<Option<Reason>, Memory>
+    requires { AreElementNames instance.now.names }
+    ensures { IfOk result (λ r. IfSome r (IsReasonOf instance.now RankWord (tokens_of line.now))) }
 {
     let Some((number, rest)) = first_token(line) else {
-        return None;
+        return Ok(None);
     };
     let Some((kind, behind)) = first_token(rest) else {
-        return None;
+        return Ok(None);
     };
     match rank_kind(kind) {
-        RankKind::NoRank => Some(Reason::Shape),
-        RankKind::UniformRank => Some(uniform_reason(instance, number, behind)),
-        RankKind::LaminarRank => None,
-        RankKind::GraphicRank => Some(labelled_reason(
-            instance,
-            RankKind::GraphicRank,
-            number,
-            behind,
-        )),
-        RankKind::TransversalRank => Some(labelled_reason(
-            instance,
-            RankKind::TransversalRank,
-            number,
-            behind,
-        )),
+        RankKind::NoRank => Ok(Some(Reason::Shape)),
+        RankKind::UniformRank => Ok(long_uniform_reason(instance, number, behind)),
+        RankKind::LaminarRank => Ok(None),
+        RankKind::GraphicRank => {
+            labelled_reason(alloc, instance, RankKind::GraphicRank, number, behind)
+        }
+        RankKind::TransversalRank => {
+            labelled_reason(alloc, instance, RankKind::TransversalRank, number, behind)
+        }
     }
 }

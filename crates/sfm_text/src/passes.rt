@@ -6,8 +6,9 @@ ghost use Rattle.sfm_spec.specs.Names.{IsName};
 ghost use Rattle.sfm_text.specs.Lines.{texts_of, tokens_of};
 ghost use Rattle.sfm_text.specs.Parts.{IsMark, AreUnmarked, IsCutAtColon};
 ghost use Rattle.sfm_text.specs.TermLines.{StandsTwice};
-ghost use Rattle.sfm_text.specs.Passes.{Holds, Fails, IsKept};
+ghost use Rattle.sfm_text.specs.Passes.{Holds, Fails, IsKept, texts_between};
 
+use crate::between::{Separator, first_between};
 use crate::mark::is_mark;
 use crate::token_test::{TokenTest, holds};
 use crate::tokens::first_token;
@@ -16,7 +17,7 @@ use sfm_base::Memory;
 use sfm_kind::{Instance, is_name};
 use std::alloc::Global;
 
-/// The most tokens that are kept at once to tell whether one stands twice.
+/// The most texts that are kept at once to tell whether one stands twice.
 const MOST_KEPT: usize = 262_144;
 
 /// Whether some token of a line is a colon or a semicolon alone.
@@ -49,17 +50,21 @@ pub fn are_names_in(line: &[u8]) -> bool
     true
 }
 
-/// Keeps tokens of a line behind those that are kept, until there are so many, and gives the line behind them; or None where
-/// one of them is kept twice.
-fn keep<'a>(kept: &mut IndexSet<&'a [u8]>, line: &'a [u8]) -> Result<Option<&'a [u8]>, Memory>
+/// Keeps texts of a line behind those that are kept, until there are so many, and gives the line behind them; or None where one
+/// of them is kept twice.
+fn keep<'a>(
+    separator: Separator,
+    kept: &mut IndexSet<&'a [u8]>,
+    line: &'a [u8],
+) -> Result<Option<&'a [u8]>, Memory>
     requires { StandsTwice (texts_of kept.old.keys) → ⊥ }
     ensures { IfOk result (λ r. MatchOption r
-        (StandsTwice (texts_of kept.old.keys ++ tokens_of line.now))
-        (λ rest. IsKept (texts_of kept.old.keys ++ tokens_of line.now) (texts_of kept.new.keys) (tokens_of rest.now) × (length rest.now ≤ length line.now))) }
+        (StandsTwice (texts_of kept.old.keys ++ texts_between separator line.now))
+        (λ rest. IsKept (texts_of kept.old.keys ++ texts_between separator line.now) (texts_of kept.new.keys) (texts_between separator rest.now) × (length rest.now ≤ length line.now))) }
 {
     let mut left = line;
     while kept.len() < MOST_KEPT {
-        let Some((token, behind)) = first_token(left) else {
+        let Some((token, behind)) = first_between(separator, left) else {
             return Ok(Some(left));
         };
         if !kept.insert(token)? {
@@ -79,14 +84,14 @@ fn is_kept(kept: &IndexSet<&[u8]>, token: &[u8]) -> bool
     kept.contains(token)
 }
 
-/// Whether some token of a line is kept.
-fn has_kept(kept: &IndexSet<&[u8]>, line: &[u8]) -> bool
+/// Whether some text of a line is kept.
+fn has_kept(separator: Separator, kept: &IndexSet<&[u8]>, line: &[u8]) -> bool
     ensures { MatchBool result
-        (Any (Contains (texts_of kept.now.keys)) (tokens_of line.now))
-        (All (λ token. Contains (texts_of kept.now.keys) token → ⊥) (tokens_of line.now)) }
+        (Any (Contains (texts_of kept.now.keys)) (texts_between separator line.now))
+        (All (λ token. Contains (texts_of kept.now.keys) token → ⊥) (texts_between separator line.now)) }
 {
     let mut left = line;
-    while let Some((token, behind)) = first_token(left) {
+    while let Some((token, behind)) = first_between(separator, left) {
         if is_kept(kept, token) {
             return true;
         }
@@ -95,19 +100,19 @@ fn has_kept(kept: &IndexSet<&[u8]>, line: &[u8]) -> bool
     false
 }
 
-/// Whether some token of a line stands twice. A part of the tokens is kept, and what stands behind it is compared with it, and
+/// Whether some text of a line stands twice. A part of the texts is kept, and what stands behind it is compared with it, and
 /// then the next part, so that no more than one part is kept at a time.
-pub fn has_repeat_in(alloc: Global, line: &[u8]) -> Result<bool, Memory>
-    ensures { IfOk result (λ r. IsTrue r ↔ StandsTwice (tokens_of line.now)) }
+pub fn has_repeat_in(alloc: Global, separator: Separator, line: &[u8]) -> Result<bool, Memory>
+    ensures { IfOk result (λ r. IsTrue r ↔ StandsTwice (texts_between separator line.now)) }
 {
     let mut left = line;
-    while let Some((first, behind)) = first_token(left) {
+    while let Some((first, behind)) = first_between(separator, left) {
         let mut kept = IndexSet::new(alloc);
         kept.insert(first)?;
-        let Some(rest) = keep(&mut kept, behind)? else {
+        let Some(rest) = keep(separator, &mut kept, behind)? else {
             return Ok(true);
         };
-        if has_kept(&kept, rest) {
+        if has_kept(separator, &kept, rest) {
             return Ok(true);
         }
         left = rest;

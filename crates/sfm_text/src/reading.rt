@@ -10,6 +10,7 @@ ghost use Rattle.sfm_text.specs.ReadParts.{BeginsEnd};
 ghost use Rattle.sfm_text.specs.GoodText.{text_limit};
 
 use crate::added::{add_line, are_good_bytes};
+use crate::between::Separator;
 use crate::line_fault::LineEnd;
 use crate::lines::without_return;
 use crate::passes::{are_names_in, has_mark_in, has_repeat_in};
@@ -165,7 +166,7 @@ impl Reading {
         if !are_names_in(rest) {
             return Err(LineEnd::Fault(Reason::Name));
         }
-        if has_repeat_in(alloc, rest)? {
+        if has_repeat_in(alloc, Separator::Blanks, rest)? {
             return Err(LineEnd::Fault(Reason::Twice));
         }
         if has_token(rest, MOST_NAMES) {

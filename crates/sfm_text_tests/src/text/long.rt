@@ -110,6 +110,30 @@ fn long_concave_lines(rt: HostRuntime) -> Result<(), Fail> {
 }
 
 #[test]
+fn entries_of_many_slots(rt: HostRuntime) -> Result<(), Fail> {
+    let rows: [(&str, &str, &str, usize, &[u8]); 6] = [
+        ("rank 1 transversal : a=s", ",t", "", 3, b"twice"),
+        ("rank 1 transversal : a=s", ",t", ",a-", 3, b"name"),
+        ("rank 1 transversal : a=s", ",t", " z=s", 3, b"name"),
+        ("rank x transversal : a=s", ",t", " z=s", 3, b"number"),
+        ("rank x transversal : a=s", ",t", " z", 3, b"shape"),
+        ("rank x transversal : a=s", ",t", " z=s=t", 3, b"shape"),
+    ];
+    for (head, piece, tail, line, reason) in rows {
+        let mut begin = String::new(rt.alloc());
+        begin.push_str("sfm 1\nground a b c d\n")?;
+        begin.push_str(head)?;
+        let text = long_text(rt.alloc(), begin.as_str(), piece, tail)?;
+        assert_eq!(rt;
+            first_fault(rt.alloc(), text.as_bytes()),
+            (line, reason),
+            "{head}{piece}..{tail}"
+        );
+    }
+    Ok(())
+}
+
+#[test]
 fn a_ground_of_many_names_is_refused(rt: HostRuntime) -> Result<(), Fail> {
     let mut text = String::new(rt.alloc());
     text.push_str("sfm 1\nground")?;

@@ -9,12 +9,13 @@ use Rattle.sfm_text.proofs.added.add_line.Goals as goal
 pub early_reason-requires : goal.early_reason-requires
 early_reason-requires c = c.names_len-count.ensures.named
 
-pub returns-in-Some-early_reason-clause-judged : goal.returns-in-Some-early_reason-clause-judged
-returns-in-Some-early_reason-clause-judged c =
+pub returns-in-Some-2-clause-judged : goal.returns-in-Some-2-clause-judged
+returns-in-Some-2-clause-judged c =
     let i = c.args.instance.now in
     let line = c.args.line.now in
     let rest = tokens_of c.in-Some.rest.now in
-    term-refused i line (term-not-last line c.in-Some.word rest c.in-Some.ensures) (Fault c.in-Some-early_reason.reason) (c.in-Some-early_reason.ensures line (record { tokens_are = c.in-Some.ensures; good_bytes = c.if-not-are_good_bytes.ensures }))
+    let told = rw c.in-Some-2.is at c.in_ok-reason.ensures in
+    term-refused i line (term-not-last line c.in-Some.word rest c.in-Some.ensures) (Fault c.in-Some-2.reason) (told line (record { tokens_are = c.in-Some.ensures; good_bytes = c.if-not-are_good_bytes.ensures }))
 
 pub add_read-requires : goal.add_read-requires
 add_read-requires c =

@@ -1,40 +1,12 @@
-use Rattle.std.proofs.Common.{codes, length, refl, sym, ap, ◌∙◌, arith}
-use Rattle.std.proofs.lemmas.Bool.{false≢true}
-use Rattle.std.proofs.lemmas.Slice.Eq.{bytes_eq-Decides}
 use Rattle.sfm_text.specs.Lines.{tokens_of}
-use Rattle.sfm_text.specs.Parts.{IsLabelToken}
-use Rattle.sfm_text.proofs.Passed.{all-matched}
-use Rattle.sfm_text.proofs.LongLabels.{labelled-mark, labelled-colon, labelled-entry, labelled-number, labelled-name, labelled-label, labelled-twice}
+use Rattle.sfm_text.proofs.LongLabels.{many-entries, entry-again}
 use Rattle.sfm_text.proofs.long_rank.labelled_reason.Goals as goal
 
-pub returns-in_default : goal.returns-in_default
-returns-in_default c = absurd (omega (arith, c.requires.long, ap length c.in_default.ensures.cut))
+pub returns-in-Some-entries_fault : goal.returns-in-Some-entries_fault
+returns-in-Some-entries_fault c = rw c.in-Some.ensures.cut c.in-Some-entries_fault.ensures
 
-pub returns-then-is_mark : goal.returns-then-is_mark
-returns-then-is_mark c = labelled-mark c.args.instance.now c.args.rank c.requires.labels c.args.number.now c.in-Some.colon.now (tokens_of c.in-Some.entries.now) (tokens_of c.args.behind.now) c.in-Some.ensures.cut (c.if-is_mark.ensures.0 refl)
+pub returns-then-has_token : goal.returns-then-has_token
+returns-then-has_token c = many-entries c.args.instance.now c.args.rank c.requires.labels c.args.number.now c.in-Some.colon.now (tokens_of c.in-Some.entries.now) (tokens_of c.args.behind.now) c.in-Some.ensures.cut c.if-not-has_token.ensures c.requires.names c.in_default-entries_fault.ensures c.if-has_token.ensures
 
-pub returns-then-not-is_colon : goal.returns-then-not-is_colon
-returns-then-not-is_colon c = labelled-colon c.args.instance.now c.args.rank c.requires.labels c.args.number.now c.in-Some.colon.now (tokens_of c.in-Some.entries.now) (tokens_of c.args.behind.now) c.in-Some.ensures.cut (λ e. false≢true (c.if-not-is_colon.ensures ∙ (bytes_eq-Decides c.in-Some.colon.now (codes ":")).1 e))
-
-pub returns-then-not-all_hold : goal.returns-then-not-all_hold
-returns-then-not-all_hold c = labelled-entry c.args.instance.now c.args.rank c.requires.labels c.args.number.now c.in-Some.colon.now (tokens_of c.in-Some.entries.now) (tokens_of c.args.behind.now) c.in-Some.ensures.cut c.if-not-all_hold.ensures
-
-pub returns-then-not-is_number_of : goal.returns-then-not-is_number_of
-returns-then-not-is_number_of c =
-    let (entries, each) = all-matched (IsLabelToken c.args.rank) (tokens_of c.in-Some.entries.now) c.if-not-all_hold.ensures in
-    labelled-number c.args.instance.now c.args.rank c.requires.labels c.args.number.now c.in-Some.colon.now (tokens_of c.in-Some.entries.now) (tokens_of c.args.behind.now) c.in-Some.ensures.cut c.requires.long (λ m. false≢true (c.if-is_mark.ensures.1 m)) ((bytes_eq-Decides c.in-Some.colon.now (codes ":")).0 (sym c.if-not-is_colon.ensures)) entries each c.if-not-is_number_of.ensures
-
-pub returns-then-not-all_hold-2 : goal.returns-then-not-all_hold-2
-returns-then-not-all_hold-2 c =
-    let (entries, each) = all-matched (IsLabelToken c.args.rank) (tokens_of c.in-Some.entries.now) c.if-not-all_hold.ensures in
-    labelled-name c.args.instance.now c.args.rank c.requires.labels c.args.number.now c.in-Some.colon.now (tokens_of c.in-Some.entries.now) (tokens_of c.args.behind.now) c.in-Some.ensures.cut c.requires.long (λ m. false≢true (c.if-is_mark.ensures.1 m)) ((bytes_eq-Decides c.in-Some.colon.now (codes ":")).0 (sym c.if-not-is_colon.ensures)) entries each c.if-not-is_number_of.ensures c.if-not-all_hold-2.ensures
-
-pub returns-then-not-all_hold-3 : goal.returns-then-not-all_hold-3
-returns-then-not-all_hold-3 c =
-    let (entries, each) = all-matched (IsLabelToken c.args.rank) (tokens_of c.in-Some.entries.now) c.if-not-all_hold.ensures in
-    labelled-label c.args.instance.now c.args.rank c.requires.labels c.args.number.now c.in-Some.colon.now (tokens_of c.in-Some.entries.now) (tokens_of c.args.behind.now) c.in-Some.ensures.cut c.requires.long (λ m. false≢true (c.if-is_mark.ensures.1 m)) ((bytes_eq-Decides c.in-Some.colon.now (codes ":")).0 (sym c.if-not-is_colon.ensures)) entries each c.if-not-is_number_of.ensures c.if-not-all_hold-3.ensures
-
-pub returns : goal.returns
-returns c =
-    let (entries, each) = all-matched (IsLabelToken c.args.rank) (tokens_of c.in-Some.entries.now) c.if-not-all_hold.ensures in
-    labelled-twice c.args.instance.now c.args.rank c.requires.labels c.args.number.now c.in-Some.colon.now (tokens_of c.in-Some.entries.now) (tokens_of c.args.behind.now) c.in-Some.ensures.cut c.requires.long (λ m. false≢true (c.if-is_mark.ensures.1 m)) ((bytes_eq-Decides c.in-Some.colon.now (codes ":")).0 (sym c.if-not-is_colon.ensures)) entries each c.if-not-is_number_of.ensures c.requires.names c.if-not-all_hold-2.ensures c.if-not-all_hold-3.ensures
+pub returns-then-branch : goal.returns-then-branch
+returns-then-branch c = entry-again c.args.instance.now c.args.rank c.requires.labels c.args.number.now c.in-Some.colon.now (tokens_of c.in-Some.entries.now) (tokens_of c.args.behind.now) c.in-Some.ensures.cut c.if-not-has_token.ensures c.requires.names c.in_default-entries_fault.ensures (c.in_ok-has_repeated_slot.ensures c.if-branch.true)

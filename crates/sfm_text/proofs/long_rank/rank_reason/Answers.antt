@@ -1,18 +1,9 @@
-use Rattle.std.proofs.Common.{◌≡◌, ℕ, List, ◌∷◌, codes, length, ap, ◌∙◌, arith}
+use Rattle.std.proofs.Common.{◌∷◌}
 use Rattle.sfm_text.specs.Lines.{tokens_of}
 use Rattle.sfm_text.specs.declared.word.TermWord.TheVariants.{RankWord}
 use Rattle.sfm_text.proofs.LongReasons.{long-shape}
 use Rattle.sfm_text.proofs.LongRanks.{no-rank}
 use Rattle.sfm_text.proofs.long_rank.rank_reason.Goals as goal
-
-pub uniform_reason-requires-clause-long : goal.uniform_reason-requires-clause-long
-uniform_reason-requires-clause-long c = omega (arith, c.requires.long, ap length c.in-Some.ensures.cut, ap length c.in-Some-first_token.ensures.cut)
-
-pub labelled_reason-requires-clause-long : goal.labelled_reason-requires-clause-long
-labelled_reason-requires-clause-long c = omega (arith, c.requires.long, ap length c.in-Some.ensures.cut, ap length c.in-Some-first_token.ensures.cut)
-
-pub labelled_reason-requires-in-TransversalRank-clause-long : goal.labelled_reason-requires-in-TransversalRank-clause-long
-labelled_reason-requires-in-TransversalRank-clause-long c = omega (arith, c.requires.long, ap length c.in-Some.ensures.cut, ap length c.in-Some-first_token.ensures.cut)
 
 pub returns-in-NoRank : goal.returns-in-NoRank
 returns-in-NoRank c =
@@ -20,7 +11,7 @@ returns-in-NoRank c =
     (long-shape c.args.instance.now RankWord (c.in-Some.number.now ∷ c.in-Some-first_token.kind.now ∷ tokens_of c.in-Some-first_token.behind.now) (no-rank c.in-Some.number.now c.in-Some-first_token.kind.now (tokens_of c.in-Some-first_token.behind.now) c.in-NoRank.ensures))
 
 pub returns-in-UniformRank : goal.returns-in-UniformRank
-returns-in-UniformRank c = let e = c.in-UniformRank.ensures in rw (c.in-Some.ensures.cut, c.in-Some-first_token.ensures.cut, e) c.uniform_reason.ensures
+returns-in-UniformRank c = let e = c.in-UniformRank.ensures in rw (c.in-Some.ensures.cut, c.in-Some-first_token.ensures.cut, e) c.long_uniform_reason.ensures
 
 pub returns-in-GraphicRank : goal.returns-in-GraphicRank
 returns-in-GraphicRank c = let e = c.in-GraphicRank.ensures in rw (c.in-Some.ensures.cut, c.in-Some-first_token.ensures.cut, e) c.labelled_reason.ensures

@@ -1,12 +1,13 @@
 use Rattle.std.proofs.Common.{Contains, length}
 use Rattle.std.specs.List.{All, Any}
-use Rattle.sfm_text.specs.Lines.{texts_of, tokens_of}
+use Rattle.sfm_text.specs.Lines.{texts_of}
+use Rattle.sfm_text.specs.Passes.{texts_between}
 use Rattle.sfm_text.proofs.passes.has_kept.Given as goal
 
 abbrev pub invariant-loop-token : goal.invariant-loop-token
 invariant-loop-token l = record {
-  some : Any (Contains (texts_of l.kept.keys)) (tokens_of l.left) → Any (Contains (texts_of l.kept.keys)) (tokens_of l.line);
-  none : All (λ token. Contains (texts_of l.kept.keys) token → ⊥) (tokens_of l.left) → All (λ token. Contains (texts_of l.kept.keys) token → ⊥) (tokens_of l.line);
+  some : Any (Contains (texts_of l.kept.keys)) (texts_between l.separator l.left) → Any (Contains (texts_of l.kept.keys)) (texts_between l.separator l.line);
+  none : All (λ token. Contains (texts_of l.kept.keys) token → ⊥) (texts_between l.separator l.left) → All (λ token. Contains (texts_of l.kept.keys) token → ⊥) (texts_between l.separator l.line);
 }
 
 abbrev pub decreases-loop-token : goal.decreases-loop-token

@@ -1,8 +1,8 @@
 -- A token stands twice among those that are kept, or among those and behind them, or behind them alone.
-use Rattle.std.proofs.Common.{◌≡◌, Bor, ℕ, List, [], ◌∷◌, ◌++◌, length, refl, sym, ap, ◌∙◌, rules, arith}
+use Rattle.std.proofs.Common.{◌≡◌, Bor, ℕ, List, [], ◌∷◌, length, refl, ap, ◌∙◌, rules, arith}
 use Rattle.std.proofs.lemmas.Bool.{false≢true}
-use Rattle.sfm_text.specs.Lines.{texts_of, tokens_of}
-use Rattle.sfm_text.specs.TermLines.{StandsTwice}
+use Rattle.sfm_text.specs.Lines.{texts_of}
+use Rattle.sfm_text.specs.Passes.{texts_between}
 use Rattle.sfm_text.proofs.KeptTokens.{one-once, twice-both, twice-rest, twice-behind-kept}
 use Rattle.sfm_text.proofs.passes.has_repeat_in.Goals as goal
 
@@ -27,7 +27,7 @@ returns-then-has_kept c =
     let empty : c.new-kept.result.keys ≡ [] = search (rules, c.new-kept.ensures) in
     let keys : texts_of c.insert.new.self.keys ≡ c.in-Some.first.now ∷ [] = ap (λ (ks : List (Bor (List ℕ))). texts_of ks) (rw empty at c.in_ok-insert.ensures.keys) in
     let kept = rw keys at rw c.in-Some-2.is at c.in_ok-rest.ensures in
-    (λ e. c.loop-first.invariant.up (rw (c.in-Some.ensures.cut ∙ kept.0.cut) (twice-both (texts_of c.keep.new.kept.keys) (tokens_of c.in-Some-2.rest.now) c.if-has_kept.ensures)), λ h. refl)
+    (λ e. c.loop-first.invariant.up (rw (c.in-Some.ensures.cut ∙ kept.0.cut) (twice-both (texts_of c.keep.new.kept.keys) (texts_between c.args.separator c.in-Some-2.rest.now) c.if-has_kept.ensures)), λ h. refl)
 
 pub loop-first-preserved : goal.loop-first-preserved
 loop-first-preserved c =
@@ -36,8 +36,8 @@ loop-first-preserved c =
     let kept = rw keys at rw c.in-Some-2.is at c.in_ok-rest.ensures in
     let whole = c.in-Some.ensures.cut ∙ kept.0.cut in
     record {
-      down = λ t. twice-behind-kept (texts_of c.keep.new.kept.keys) (tokens_of c.in-Some-2.rest.now) kept.0.once c.if-has_kept.ensures (rw whole at (c.loop-first.invariant.down t));
-      up = λ t. c.loop-first.invariant.up (rw whole (twice-rest (texts_of c.keep.new.kept.keys) (tokens_of c.in-Some-2.rest.now) t));
+      down = λ t. twice-behind-kept (texts_of c.keep.new.kept.keys) (texts_between c.args.separator c.in-Some-2.rest.now) kept.0.once c.if-has_kept.ensures (rw whole at (c.loop-first.invariant.down t));
+      up = λ t. c.loop-first.invariant.up (rw whole (twice-rest (texts_of c.keep.new.kept.keys) (texts_between c.args.separator c.in-Some-2.rest.now) t));
     }
 
 pub returns : goal.returns

@@ -1,12 +1,12 @@
 use Rattle.std.proofs.Common.{length}
-use Rattle.sfm_text.specs.Lines.{tokens_of}
+use Rattle.sfm_text.specs.Passes.{texts_between}
 use Rattle.sfm_text.specs.TermLines.{StandsTwice}
 use Rattle.sfm_text.proofs.passes.has_repeat_in.Given as goal
 
 abbrev pub invariant-loop-first : goal.invariant-loop-first
 invariant-loop-first l = record {
-  down : StandsTwice (tokens_of l.line) → StandsTwice (tokens_of l.left);
-  up : StandsTwice (tokens_of l.left) → StandsTwice (tokens_of l.line);
+  down : StandsTwice (texts_between l.separator l.line) → StandsTwice (texts_between l.separator l.left);
+  up : StandsTwice (texts_between l.separator l.left) → StandsTwice (texts_between l.separator l.line);
 }
 
 abbrev pub decreases-loop-first : goal.decreases-loop-first
