@@ -61,17 +61,24 @@ TEXTS = [
 ]
 
 
-def ground_of_many():
-    """A ground line of different names, as short as they can be."""
+# texts of different names: a name, what the text begins with, what stands before each name, and what the text ends with
+MANY = [
+    ("ground-many", "a ground line of different names", b"sfm 1\nground", b" ", b"\n"),
+    ("slots-many", "an entry of different slots, which is a good line", HEAD + b"rank 1 transversal : a=0", b",", b"\nend\n"),
+]
+
+
+def different_names(front, before):
+    """The front, and different names, as short as they can be, each behind the piece."""
     letters = b"abcdefghijklmnopqrstuvwxyz"
-    yield b"sfm 1\nground"
+    yield front
     for size in range(1, 6):
         for number in range(len(letters) ** size):
             name = bytearray()
             for _ in range(size):
                 number, letter = divmod(number, len(letters))
                 name.append(letters[letter])
-            yield b" " + bytes(name)
+            yield before + bytes(name)
 
 
 def repeated(front, again, end):
@@ -115,7 +122,7 @@ def main():
     parser.add_argument("--texts", nargs="*", help="the texts to run, by their names")
     parser.add_argument("--keep", metavar="FOLDER", help="a folder in which the texts stay")
     words = parser.parse_args()
-    names = [name for name, *_ in TEXTS] + ["ground-many"]
+    names = [name for name, *_ in TEXTS + MANY]
     for name in words.texts or []:
         if name not in names:
             parser.error(f"no text {name}: {', '.join(names)}")
@@ -133,11 +140,10 @@ def main():
         sys.stdout.flush()
         for name in words.texts or names:
             path = os.path.join(kept, f"{name}.sfm")
-            if name == "ground-many":
-                title = "a ground line of different names"
-                size = write(path, ground_of_many(), b"\n")
+            title, front, again, end = next(text[1:] for text in TEXTS + MANY if text[0] == name)
+            if any(name == text[0] for text in MANY):
+                size = write(path, different_names(front, again), end)
             else:
-                title, front, again, end = next(text[1:] for text in TEXTS if text[0] == name)
                 size = write(path, repeated(front, again, end))
             code, said, kib = run(starter, program, path)
             print(f"| `{name}`: {title} | {size:,} | {code} | {said} | {kib / 1024:.1f} | {kib * 1024 / size:.2f} |")
