@@ -12,7 +12,7 @@ use Rattle.sfm_kind.specs.Instance.{support_of}
 use Rattle.sfm_kind.specs.Limits.{total_size_of}
 use Rattle.sfm_kind.proofs.Bounds.{support-push, total_size-push}
 use Rattle.sfm_text.specs.declared.reason.Reason.{Reason}
-use Rattle.sfm_text.specs.declared.reason.Reason.TheVariants.{Long, Bytes, Word, Shape, Number, Name, Twice, Law, Total, Short}
+use Rattle.sfm_text.specs.declared.reason.Reason.TheVariants.{Long, Bytes, Name, Twice, Total, Short}
 use Rattle.sfm_text.specs.declared.stage.Stage.{Stage}
 use Rattle.sfm_text.specs.declared.stage.Stage.TheVariants.{Header, Ground, Terms, Ended}
 use Rattle.sfm_text.specs.Lines.{content_of, tokens_of}

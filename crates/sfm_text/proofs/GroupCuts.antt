@@ -1,6 +1,6 @@
 -- Tokens behind a colon that are cut at semicolons are elements, and then for each group a semicolon, its cap and its names.
-use Rattle.std.proofs.Common.{◌≡◌, ℕ, zero, suc, ◌≤◌, List, [], ◌∷◌, ◌++◌, length, Bool, true, false, cond, map, codes, bytes_eq, refl, sym, ap, ◌∙◌, inr, arith}
-use Rattle.std.specs.List.{All, AllZip, slice_split, onto_first, flat_map}
+use Rattle.std.proofs.Common.{◌≡◌, ℕ, suc, ◌≤◌, List, [], ◌∷◌, ◌++◌, length, Bool, true, false, cond, map, codes, refl, sym, ap, ◌∙◌, inr, arith}
+use Rattle.std.specs.List.{All, AllZip, onto_first, flat_map}
 use Rattle.std.proofs.lemmas.Slice.Eq.{bytes_eq-Decides}
 use Rattle.sfm_text.specs.Parts.{IsMark, AreUnmarked}
 use Rattle.sfm_text.specs.CutParts.{is_semicolon, cut_at_semicolons, IsGroupCut, AreGroupsCut}
