@@ -2,9 +2,12 @@ pub mod SameBytes
 pub mod Cuts
 pub mod LineCuts
 pub mod FirstTokens
+pub mod FirstCuts
+pub mod PieceCuts
 pub mod Appended
 pub mod Cutting
 pub mod Colons
+pub mod PieceGroups
 pub mod Breaches
 pub mod Matches
 pub mod Steps
@@ -13,6 +16,7 @@ pub mod Pieces
 pub mod Ranks
 pub mod Numbering
 pub mod Known
+pub mod LeastGroups
 pub mod Members
 pub mod Numbers
 pub mod Repeats
@@ -29,6 +33,8 @@ pub mod LongNames
 pub mod LongReasons
 pub mod LongRanks
 pub mod LongLabels
+pub mod LongLaminar
+pub mod GroupTerms
 pub mod StageReasons
 pub mod SameTerms
 pub mod LaterLines

@@ -1,5 +1,5 @@
 -- The first reason of a long line, from what passes over its tokens tell.
-use Rattle.std.proofs.Common.{◌≡◌, ◌<◌, ◌≤◌, ℕ, ◌^◌, List, [], ◌∷◌, ◌++◌, length, take, map, codes, ℤ, refl, ap, arith, length-append}
+use Rattle.std.proofs.Common.{◌≡◌, ◌<◌, ◌≤◌, ℕ, ◌^◌, List, [], ◌∷◌, ◌++◌, length, take, map, codes, Contains, ℤ, refl, ap, arith, length-append}
 use Rattle.std.specs.List.{All, Any, AllZip}
 use Rattle.std.proofs.Math.Pow.{pow_mono}
 use Rattle.std.proofs.lemmas.List.{length-map}
@@ -14,14 +14,14 @@ use Rattle.sfm_text.specs.declared.word.TermWord.TheVariants.{WeightWord, CoverW
 use Rattle.sfm_text.specs.Parts.{LineParts, plain_parts, IsMark, AreUnmarked, IsPairToken, IsWeightLine, IsCutAtColon, IsColonLine}
 use Rattle.sfm_text.specs.CutParts.{IsConcaveCount, IsTableCount}
 use Rattle.sfm_text.specs.Words.{lowest_of, HasParts}
-use Rattle.sfm_text.specs.TermLines.{IsNumberFrom, IsElement}
-use Rattle.sfm_text.specs.Reading.{HasWrongLabel, HasSlotTwice}
+use Rattle.sfm_text.specs.TermLines.{IsNumberFrom, IsElement, StandsTwice}
+use Rattle.sfm_text.specs.Reading.{HasStranger, HasWrongLabel, HasSlotTwice}
 use Rattle.sfm_text.specs.Passes.{IsNumberOf, IsKnown, Holds, IsReasonOf}
 use Rattle.sfm_text.proofs.Colons.{none-any, colon-same}
 use Rattle.sfm_text.proofs.Matches.{AllZip-at, length-AllZip}
 use Rattle.sfm_text.proofs.LongNames.{unknown-new, many-twice}
 use Rattle.sfm_text.proofs.Passed.{any-here, all-matched, matched-each, matched-one}
-use Rattle.sfm_text.proofs.TermReasons.{at-shape, at-number, at-name, at-label, at-twice, at-slot-twice}
+use Rattle.sfm_text.proofs.TermReasons.{at-shape, at-number, at-name, at-label, at-stranger, at-twice, at-member-twice, at-slot-twice, twice-texts}
 use Rattle.sfm_text.proofs.WordLines.{pair-same}
 
 -- texts that are numbers of the word's line, and texts that name elements
@@ -53,6 +53,15 @@ module _ (i : InstanceData) (word : TermWord) (rest : List (List ℕ)) where
 
       pub long-slot : AreElementNames i.names → AreKnown i.names parts.elements → parts.groups ≡ [] → All (λ texts. All IsName texts) parts.labels → HasSlotTwice parts.rank parts.labels → IsReasonOf i word rest Twice
       long-slot named (places, known) groups labels twice = λ line is. at-slot-twice i word rest line is parts shape numbers.0 numbers.1 places named known (rw groups (All-nil _)) labels twice
+
+      pub long-stranger : HasStranger parts → IsReasonOf i word rest Name
+      long-stranger stranger = λ line is. at-stranger i word rest line is parts shape numbers.0 numbers.1 stranger
+
+      pub long-element : AreElementNames i.names → AreKnown i.names parts.elements → All (λ names. All (Contains parts.elements) names) parts.groups → All (λ texts. All IsName texts) parts.labels → StandsTwice parts.elements → IsReasonOf i word rest Twice
+      long-element named (places, known) members labels twice = λ line is. at-twice i word rest line is parts shape numbers.0 numbers.1 places named known members labels (twice-texts i.names parts.elements places named.distinct known twice)
+
+      pub long-member : AreElementNames i.names → AreKnown i.names parts.elements → All (λ names. All (Contains parts.elements) names) parts.groups → All (λ texts. All IsName texts) parts.labels → Any (λ names. StandsTwice names) parts.groups → IsReasonOf i word rest Twice
+      long-member named (places, known) members labels twice = λ line is. at-member-twice i word rest line is parts shape numbers.0 numbers.1 places named known members labels twice
 
 -- ---- lines with few tokens
 

@@ -1,16 +1,19 @@
 -- The members of a group, as a pass over the elements of its line finds them.
-use Rattle.std.proofs.Common.{◌≡◌, ℕ, zero, suc, ◌+◌, ◌<◌, Bool, true, false, List, [], ◌∷◌, ◌++◌, ◌||◌, length, get_or, map, Bor, Contains, ℤ, pos, refl, sym, ap, ◌∙◌, add-one, arith}
+use Rattle.std.proofs.Common.{◌≡◌, ℕ, zero, suc, ◌+◌, ◌<◌, Bool, true, false, List, [], ◌∷◌, ◌++◌, ◌||◌, ◌^◌, length, get_or, map, Bor, Contains, ℤ, pos, ◌≤ℤ◌, refl, sym, ap, ◌∙◌, add-one, arith}
 use Rattle.std.specs.Prelude.{bytes_eq}
 use Rattle.std.specs.List.{All, list_any, filter, range_with_len}
+use Rattle.std.proofs.lemmas.Int.{ints}
 use Rattle.std.proofs.lemmas.Slice.Eq.{bytes_eq-Decides}
 use Rattle.std.proofs.lemmas.List.Elements.{All-filter, filter-append}
 use Rattle.std.proofs.lemmas.List.Kept.{IsStrictlyIncreasing-filter, AllPairs-from_increasing}
 use Rattle.std.proofs.lemmas.List.Folds.{Any-from_list_any}
 use Rattle.std.proofs.lemmas.List.FromFn.{length-range_with_len, get_or-range_with_len, length-map-range_with_len, get_or-map-range_with_len, map-range_with_len_more}
 use Rattle.sfm_spec.specs.Kinds.{Group}
-use Rattle.sfm_laminar.specs.Groups.{IsBelow, IsAscending}
+use Rattle.sfm_spec.specs.Bounds.{IsAtMost}
+use Rattle.sfm_laminar.specs.Groups.{IsGroup, IsBelow, IsAscending}
 use Rattle.sfm_text.specs.Parts.{LineParts}
-use Rattle.sfm_text.specs.RankLines.{is_among, members_of, group_of, groups_of}
+use Rattle.sfm_text.specs.RankLines.{is_among, members_of, group_of, groups_of, with_group, least_groups}
+use Rattle.sfm_text.proofs.LeastGroups.{with-more}
 use Rattle.sfm_text.proofs.Repeats.{text-at}
 
 -- what is told of texts is told of what points to them
@@ -81,9 +84,11 @@ module _ (elements names : List (Bor (List ℕ))) (e : ℕ) (d : Bor (List ℕ))
       rw (before, filter-suc test e, one) (sym (append-none (filter test (range_with_len 0 e))))
 
 -- one more group
-pub group-in : (values : List ℤ) (parts : LineParts) (i : ℕ) (old new : List Group) (most : ℤ) (members : List ℕ) → old ≡ map (λ j. group_of values parts j) (range_with_len 0 i) → most ≡ get_or values (i + 1) (pos 0) → members ≡ members_of parts.elements (get_or parts.groups i [])
-    → new ≡ old ++ record { cap = most; members = members } ∷ [] → new ≡ map (λ j. group_of values parts j) (range_with_len 0 (i + 1))
-group-in values parts i old new most members before is_cap is_members more = more ∙ (rw (before, is_cap, is_members) (sym (map-range_with_len_more (λ (j : ℕ). group_of values parts j) 0 i i (omega arith))))
+pub group-in : (values : List ℤ) (parts : LineParts) (i : ℕ) (old new : List Group) (most : ℤ) (members : List ℕ) → old ≡ least_groups (map (λ j. group_of values parts j) (range_with_len 0 i)) → most ≡ get_or values (i + 1) (pos 0) → members ≡ members_of parts.elements (get_or parts.groups i [])
+    → new ≡ with_group old (record { cap = most; members = members }) → new ≡ least_groups (map (λ j. group_of values parts j) (range_with_len 0 (i + 1)))
+group-in values parts i old new most members before is_cap is_members more =
+    let all = map-range_with_len_more (λ (j : ℕ). group_of values parts j) 0 i i (omega arith) in
+    more ∙ (rw (before, is_cap, is_members) (sym (ap least_groups all ∙ with-more [] (map (λ j. group_of values parts j) (range_with_len 0 i)) (group_of values parts i))))
 
 -- the members ascend, and are places of the line
 range-up : (a n : ℕ) → IsAscending (range_with_len a n)
@@ -100,7 +105,7 @@ members-ascend elements names =
     let up = IsStrictlyIncreasing-filter p (range_with_len 0 n) (λ k lt. range-up 0 n k (k + 1) (omega arith) lt) in
     λ i j lt within. AllPairs-from_increasing (members_of elements names) up i j 0 lt within
 
-members-below : (elements names : List (List ℕ)) → All (λ e. e < length elements) (members_of elements names)
+pub members-below : (elements names : List (List ℕ)) → All (λ e. e < length elements) (members_of elements names)
 members-below elements names =
     let n = length elements in
     All-filter (λ e. is_among names (get_or elements e [])) (λ e. e < n) (range_with_len 0 n) (λ k d lt. let len = length-range_with_len 0 n in let x = get_or-range_with_len 0 n k d (omega (arith, lt, len)) in omega (arith, x, lt, len))
@@ -112,3 +117,15 @@ groups-below values parts k same i d lt =
     let within : i < m = omega (arith, lt, length-map-range_with_len f 0 m) in
     let is = get_or-map-range_with_len f 0 m i i d within (omega arith) in
     rw (is, same) (members-below parts.elements (get_or parts.groups i []))
+
+-- and the groups are as a term takes them
+pub groups-sound : (values : List ℤ) (parts : LineParts) → length values ≡ length parts.groups + 1 → All (λ value. pos 0 ≤ℤ value) values → All (IsAtMost (10 ^ 12)) values → All IsGroup (groups_of values parts)
+groups-sound values parts each low small i d lt =
+    let m = length parts.groups in
+    let f = λ (j : ℕ). group_of values parts j in
+    let within : i < m = omega (arith, lt, length-map-range_with_len f 0 m) in
+    let is = get_or-map-range_with_len f 0 m i i d within (omega arith) in
+    let at : i + 1 < length values = omega (arith, within, each) in
+    let least = low (i + 1) (pos 0) at in
+    let most = small (i + 1) (pos 0) at in
+    rw is (record { low = least; given = record { low = omega (arith, ints, most.low); high = omega (arith, ints, most.high) }; ascending = members-ascend parts.elements (get_or parts.groups i []) })

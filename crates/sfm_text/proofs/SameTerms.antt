@@ -29,7 +29,7 @@ use Rattle.sfm_kind.proofs.Bounds.{kind-elements, total_size-push, support-push,
 use Rattle.sfm_text.specs.Parts.{LineParts}
 use Rattle.sfm_text.specs.Words.{lowest_of, IsMadeOf}
 use Rattle.sfm_text.specs.ReadParts.{IsTermOf}
-use Rattle.sfm_text.specs.RankLines.{groups_of, IsRankMadeOf}
+use Rattle.sfm_text.specs.RankLines.{groups_of, least_groups, IsRankMadeOf}
 use Rattle.sfm_text.specs.LabelTerms.{edge_between, numbers_of}
 use Rattle.sfm_text.specs.declared.word.RankKind.{RankKind}
 use Rattle.sfm_text.specs.declared.word.RankKind.TheVariants.{NoRank, UniformRank, LaminarRank, GraphicRank, TransversalRank}
@@ -79,7 +79,7 @@ uniform-made parts values (Uniform uniform) h = (uniform, refl, h)
 uniform-made parts values _ h = absurd h
 
 laminar-made : (parts : LineParts) (values : List ℤ) (term : Kind) → IsRankMadeOf LaminarRank parts values term
-    → (laminar : laminars.Laminar) × (term ≡ Laminar laminar) × (laminar.w ≡ slice_index_or values 0 (pos 0)) × (laminar.groups ≡ groups_of values parts)
+    → (laminar : laminars.Laminar) × (term ≡ Laminar laminar) × (laminar.w ≡ slice_index_or values 0 (pos 0)) × (laminar.groups ≡ least_groups (groups_of values parts))
 laminar-made parts values (Laminar laminar) h = (laminar, refl, h.0, h.1)
 laminar-made parts values _ h = absurd h
 

@@ -14,3 +14,4 @@ pub mod ReadParts
 pub mod Adding
 pub mod Standing
 pub mod Passes
+pub mod GroupPasses

@@ -1,7 +1,9 @@
 -- What a token of a long line is tried for, and what the reason of such a line is.
-use Rattle.std.specs.Prelude.{◌≡◌, ◌≢◌, ℕ, List, [], ◌∷◌, ◌++◌, codes, Any, ℤ}
+use Rattle.std.specs.Prelude.{◌≡◌, ◌≢◌, ℕ, ◌<◌, List, [], ◌∷◌, ◌++◌, length, take, codes, Any, ℤ}
 use Rattle.std.specs.List.{All}
 use Rattle.sfm_spec.specs.Names.{IsName}
+use Rattle.sfm_spec.specs.Kinds.{Group}
+use Rattle.sfm_laminar.specs.Crossing.{group_at}
 use Rattle.sfm_kind.specs.Instance.{InstanceData}
 use Rattle.sfm_text.specs.declared.reason.Reason.{Reason}
 use Rattle.sfm_text.specs.declared.between.Separator.{Separator}
@@ -100,3 +102,9 @@ pub record IsKept (tokens kept rest : List (List ℕ)) : Type 0 where
 -- each line with this word and these tokens behind it has that reason first
 abbrev pub IsReasonOf : InstanceData → TermWord → List (List ℕ) → Reason → Type 0
 IsReasonOf instance word tokens reason = (line : List ℕ) → IsLineOf line (word_text word ∷ tokens) → FirstReason (state_at Terms instance) line reason
+
+-- the first group with these members stands at that place
+pub record IsFirstWith (members : List ℕ) (groups : List Group) (place : ℕ) : Type 0 where
+  pub within : place < length groups
+  pub here : (group_at groups place).members ≡ members
+  pub none_before : All (λ g. g.members ≢ members) (take place groups)

@@ -6,14 +6,14 @@ ghost use Rattle.sfm_kind.specs.Limits.{AreInBounds};
 ghost use Rattle.sfm_text.specs.Lines.{texts_of, tokens_of};
 ghost use Rattle.sfm_text.specs.Words.{word_text};
 ghost use Rattle.sfm_text.specs.Reading.{IsBadByte, AreTooMuch};
-ghost use Rattle.sfm_text.specs.ReadParts.{bytes_in, state_at, IsOutcome};
+ghost use Rattle.sfm_text.specs.ReadParts.{bytes_in, state_at, IsOutcome, IsTermRead};
 ghost use Rattle.sfm_text.specs.GoodText.{text_limit};
 ghost use Rattle.sfm_text.specs.Adding.{IsTermAdded, IsTermRefusal};
 ghost use Rattle.sfm_text.specs.declared.stage.Stage.TheVariants.{Terms};
 ghost use Rattle.sfm_text.specs.declared.word.TermWord.{TermWord};
 
 use crate::line_fault::LineEnd;
-use crate::long_line::early_reason;
+use crate::long_line::{early_reason, early_term};
 use crate::reason::Reason;
 use crate::term_line::read_term;
 use crate::tokens::{first_token, tokens};
@@ -65,6 +65,21 @@ fn is_too_much(instance: &Instance, term: &Kind) -> bool
     terms.len() >= MOST_TERMS || term.elements().len() > places_left || term.size() > size_left
 }
 
+/// Adds the term of a line that has no other reason than that there may be too much with it.
+fn add_made(instance: &mut Instance, term: Kind) -> Result<(), LineEnd>
+    requires read { (word : TermWord) × (rest : List (List ℕ)) × IsTermRead instance.old word rest term }
+    ensures outcome { (word : TermWord) (rest : List (List ℕ)) → IsTermRead instance.old word rest term
+        → IsOutcome (state_at Terms instance.old) (word_text word ∷ rest) result (state_at Terms instance.new) }
+    ensures unchanged { OnErr result (instance.new ≡ instance.old) }
+{
+    let _count = instance.names_len();
+    if is_too_much(instance, &term) {
+        return Err(LineEnd::Fault(Reason::Total));
+    }
+    instance.add_term(term)?;
+    Ok(())
+}
+
 /// Adds the term of a line with this word and these tokens behind it.
 fn add_read(
     alloc: Global,
@@ -78,11 +93,7 @@ fn add_read(
 {
     let _count = instance.names_len();
     let term = read_term(alloc, instance, word, tokens)?;
-    if is_too_much(instance, &term) {
-        return Err(LineEnd::Fault(Reason::Total));
-    }
-    instance.add_term(term)?;
-    Ok(())
+    add_made(instance, term)
 }
 
 /// Adds the term of a term line, which is no longer than a text may be, behind those of an instance.
@@ -105,6 +116,9 @@ pub fn add_line(alloc: Global, instance: &mut Instance, line: &[u8]) -> Result<(
     let _count = instance.names_len();
     if let Some(reason) = early_reason(alloc, instance, word, rest)? {
         return Err(LineEnd::Fault(reason));
+    }
+    if let Some(term) = early_term(alloc, instance, word, rest)? {
+        return add_made(instance, term);
     }
     let tokens = tokens(alloc, rest)?;
     add_read(alloc, instance, word, &tokens)

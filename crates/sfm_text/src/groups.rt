@@ -7,19 +7,20 @@ ghost use Rattle.std.specs.List.{All};
 ghost use Rattle.sfm_spec.specs.Bounds.{IsAtMost, AreElements};
 ghost use Rattle.sfm_text.specs.Lines.{texts_of, text_lists_of};
 ghost use Rattle.sfm_text.specs.LabelTerms.{distinct_of};
-ghost use Rattle.sfm_text.specs.RankLines.{is_among, members_of, groups_of};
+ghost use Rattle.sfm_text.specs.RankLines.{is_among, members_of, groups_of, least_groups};
 ghost use Rattle.sfm_text.specs.TermLines.{StandsTwice};
 ghost use Rattle.sfm_text.specs.ReadParts.{IsTermOf, parts_of};
 ghost use Rattle.sfm_text.specs.declared.word.TermWord.TheVariants.{RankWord};
 ghost use Rattle.sfm_text.specs.declared.word.RankKind.TheVariants.{LaminarRank};
 
+use crate::kept::{keep, with_kept};
 use crate::labels::add_names;
 use crate::parts::Parts;
 use crate::repeat::has_repeat;
 use indexmap::IndexSet;
 use sfm_base::Memory;
 use sfm_kind::Kind;
-use sfm_laminar::{Groups, Laminar, LaminarEnd};
+use sfm_laminar::CappedGroup;
 use std::alloc::{AllocError, Global};
 
 /// Whether a text is one of the texts.
@@ -39,7 +40,7 @@ fn known<'a>(alloc: Global, elements: &[&'a [u8]]) -> Result<IndexSet<&'a [u8]>,
 }
 
 /// Whether a text is one of the texts of which these are the different ones.
-fn is_known(known: &IndexSet<&[u8]>, text: &[u8]) -> bool
+pub fn is_known(known: &IndexSet<&[u8]>, text: &[u8]) -> bool
     ensures { (texts : List (List ℕ)) → texts_of known.now.keys ≡ distinct_of texts → result ≡ is_among texts text.now }
 {
     known.contains(text)
@@ -89,7 +90,7 @@ pub fn has_member_twice(alloc: Global, groups: &[&[&[u8]]]) -> Result<bool, Memo
 }
 
 /// The places in the line of those elements that are among the names, in ascending order.
-fn members(alloc: Global, elements: &[&[u8]], names: &[&[u8]]) -> Result<Vec<usize>, AllocError>
+pub fn members(alloc: Global, elements: &[&[u8]], names: &[&[u8]]) -> Result<Vec<usize>, AllocError>
     ensures members { IfOk result (λ r. r.items ≡ members_of (texts_of elements.now) (texts_of names.now)) }
 {
     let mut members = Vec::new(alloc);
@@ -101,17 +102,21 @@ fn members(alloc: Global, elements: &[&[u8]], names: &[&[u8]]) -> Result<Vec<usi
     Ok(members)
 }
 
-/// The groups of a line with these parts and numbers.
-fn line_groups(alloc: Global, parts: &Parts, values: &[i128]) -> Result<Groups, Memory>
+/// The groups of a line with these parts and numbers: of those with the same members one with the least cap.
+fn line_groups(
+    alloc: Global,
+    parts: &Parts,
+    values: &[i128],
+) -> Result<Vec<CappedGroup>, AllocError>
     requires each { length values.now ≡ length (parts_of parts.now).groups + 1 }
     requires low { All (λ value. pos 0 ≤ℤ value) values.now }
     requires small { All (IsAtMost (10 ^ 12)) values.now }
-    ensures { IfOk result (λ r. r ≡ groups_of values.now (parts_of parts.now)) }
+    ensures { IfOk result (λ r. r.items ≡ least_groups (groups_of values.now (parts_of parts.now))) }
 {
-    let mut groups = Groups::new(alloc);
+    let mut groups = Vec::new(alloc);
     for i in 0..parts.groups.len() {
         let members = members(alloc, &parts.elements, parts.groups[i])?;
-        groups.push(values[i + 1], members)?;
+        keep(&mut groups, CappedGroup::new(values[i + 1], members))?;
     }
     Ok(groups)
 }
@@ -135,9 +140,9 @@ pub fn laminar_term(
         × (((i : ℕ) × (j : ℕ) × IsCrossing (groups_of values.now (parts_of parts.now)) i j) → ⊥))) }
 {
     let groups = line_groups(alloc, parts, values)?;
-    match Laminar::new(alloc, places, values[0], groups) {
-        Ok(laminar) => Ok(Some(Kind::Laminar(laminar))),
-        Err(LaminarEnd::Memory) => Err(Memory),
-        Err(LaminarEnd::Crosses { .. }) => Ok(None),
+    let made = with_kept(alloc, places, values[0], &groups)?;
+    match made {
+        Some(laminar) => Ok(Some(Kind::Laminar(laminar))),
+        None => Ok(None),
     }
 }

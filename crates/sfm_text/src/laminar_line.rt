@@ -13,7 +13,7 @@ use crate::word::RankKind;
 use std::alloc::{AllocError, Global};
 
 /// Whether the token is a semicolon alone.
-fn is_semicolon_token(token: &[u8]) -> bool
+pub fn is_semicolon_token(token: &[u8]) -> bool
     ensures { result ≡ is_semicolon token.now }
 {
     token == b";".as_slice()

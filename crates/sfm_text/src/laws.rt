@@ -1,5 +1,9 @@
-// Facts that hold of every text, by the definitions alone. The function does nothing: it states them, and proofs cite it.
-ghost use Rattle.std.specs.Prelude.{◌≡◌, ℕ, List};
+// Facts that hold of every text and of all groups, by the definitions alone. The functions do nothing: they state them, and
+// proofs cite them.
+ghost use Rattle.std.specs.Prelude.{◌≡◌, ◌↔◌, ℕ, Bool, List};
+ghost use Rattle.sfm_spec.specs.Kinds.{Group, IsWithinCaps};
+ghost use Rattle.sfm_laminar.specs.Crossing.{IsCrossing};
+ghost use Rattle.sfm_text.specs.RankLines.{least_groups};
 ghost use Rattle.sfm_kind.specs.declared.kind.Kind.{Kind};
 ghost use Rattle.sfm_text.specs.declared.reason.Reason.{Reason};
 ghost use Rattle.sfm_text.specs.GoodText.{IsTextOf, IsFaultOf};
@@ -8,4 +12,11 @@ ghost use Rattle.sfm_text.specs.GoodText.{IsTextOf, IsFaultOf};
 pub fn one_fault(_text: &[u8])
     ensures not_both { (names : List (List ℕ)) (terms : List Kind) (line : ℕ) (reason : Reason) → IsTextOf _text.now names terms → IsFaultOf _text.now line reason → ⊥ }
     ensures first { (line line' : ℕ) (reason reason' : Reason) → IsFaultOf _text.now line reason → IsFaultOf _text.now line' reason' → (line ≡ line') × (reason ≡ reason') }
+{}
+
+/// Of groups with the same members one with the least cap stands for all: the same parts are within the caps of those that are
+/// kept so, and some of them cross exactly where some of the groups do.
+pub fn least_groups_suffice()
+    ensures caps { (groups : List Group) (t : List Bool) → IsWithinCaps (least_groups groups) t ↔ IsWithinCaps groups t }
+    ensures crossings { (groups : List Group) → ((i : ℕ) × (j : ℕ) × IsCrossing (least_groups groups) i j) ↔ ((i : ℕ) × (j : ℕ) × IsCrossing groups i j) }
 {}

@@ -1,13 +1,18 @@
 // The first reason of a long term line, told by passes over its tokens, so that no list of them is made. A line that names
 // each element at most once has at most 513 tokens behind its word, but where the line of a laminar rank names its groups. So a
 // longer line is not good: where its shape, its numbers and its names are, an element stands twice, as there are at most 256.
-ghost use Rattle.std.specs.Prelude.{◌<◌, length, IsTrue, IfOk, IfSome};
+// A line of a laminar rank may be good however long it is, and its term is told by passes too.
+ghost use Rattle.std.specs.Prelude.{◌<◌, length, IsTrue, IfErr, IfOk, IfSome};
 ghost use Rattle.sfm_kind.specs.Names.{AreElementNames};
 ghost use Rattle.sfm_text.specs.Lines.{tokens_of};
 ghost use Rattle.sfm_text.specs.Passes.{IsReasonOf};
+ghost use Rattle.sfm_text.specs.ReadParts.{IsTermRead};
+ghost use Rattle.sfm_text.specs.GroupPasses.{IsRefusedBy};
 ghost use Rattle.sfm_text.specs.declared.word.TermWord.TheVariants.{WeightWord, CoverWord, ConcaveWord};
 
 use crate::concave_line::is_concave_count;
+use crate::line_fault::LineEnd;
+use crate::long_laminar::laminar_line_term;
 use crate::long_rank::rank_reason;
 use crate::passes::{all_hold, colon_cut, first_hold, has_mark_in, token_count};
 use crate::reason::Reason;
@@ -15,7 +20,7 @@ use crate::token_test::{TokenTest, is_number_of};
 use crate::tokens::{first_token, has_token};
 use crate::word::TermWord;
 use sfm_base::Memory;
-use sfm_kind::Instance;
+use sfm_kind::{Instance, Kind};
 use std::alloc::Global;
 
 /// The most tokens behind the word of a line that is not long.
@@ -124,4 +129,24 @@ pub fn early_reason(
         return Ok(None);
     }
     Ok(long_reason(instance, word, line))
+}
+
+/// The term of a long line of a laminar rank, or its first reason, as passes tell it; None where the line is another.
+pub fn early_term(
+    alloc: Global,
+    instance: &Instance,
+    word: TermWord,
+    line: &[u8],
+) -> Result<Option<Kind>, LineEnd>
+    requires { AreElementNames instance.now.names }
+    ensures read { IfOk result (λ r. IfSome r (IsTermRead instance.now word (tokens_of line.now))) }
+    ensures refused { IfErr result (IsRefusedBy instance.now word (tokens_of line.now)) }
+{
+    if word != TermWord::RankWord {
+        return Ok(None);
+    }
+    if !is_long(line) {
+        return Ok(None);
+    }
+    laminar_line_term(alloc, instance, line)
 }

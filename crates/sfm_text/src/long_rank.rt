@@ -1,6 +1,6 @@
 // The first reason of a line of a rank, told by passes over its tokens: of a uniform rank where the line is long, and of a rank
 // whose elements have labels however long it is, as one entry may have millions of slots. A line of a laminar rank may be good
-// however long it is, so passes do not tell its reason.
+// however long it is, so its term is told by passes together with its reason, in `long_laminar.rt`.
 ghost use Rattle.std.specs.Prelude.{◌≡◌, ◌≢◌, ◌<◌, ◌∷◌, [], length, codes, IfOk, IfSome, MatchBool, MatchOption};
 ghost use Rattle.sfm_kind.specs.Names.{AreElementNames};
 ghost use Rattle.sfm_text.specs.Lines.{tokens_of};
@@ -26,7 +26,7 @@ const MOST_ELEMENTS: usize = 256;
 const MOST_TOKENS: usize = 1_000;
 
 /// Whether a token is that word.
-fn is_word(token: &[u8], word: &[u8]) -> bool
+pub fn is_word(token: &[u8], word: &[u8]) -> bool
     ensures { MatchBool result (token.now ≡ word.now) (token.now ≢ word.now) }
 {
     token == word

@@ -124,7 +124,7 @@ fn read_numbers(
 }
 
 /// The places of the elements that the texts name, or None where one is no element's name.
-fn read_places(
+pub fn read_places(
     alloc: Global,
     instance: &Instance,
     texts: &[&[u8]],

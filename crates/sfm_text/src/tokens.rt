@@ -3,6 +3,7 @@ ghost use Rattle.std.specs.Prelude.{◌≡◌, ◌≤◌, ◌<◌, ℕ, List, []
 ghost use Rattle.std.specs.List.{position_or_len};
 ghost use Rattle.sfm_text.specs.Lines.{tokens_of, are_skipped};
 ghost use Rattle.sfm_text.specs.Places.{is_blank};
+ghost use Rattle.sfm_text.specs.GroupPasses.{IsFirstCut};
 
 use std::alloc::{AllocError, Global};
 
@@ -28,6 +29,7 @@ pub fn first_token(line: &[u8]) -> Option<(&[u8], &[u8])>
     ensures cut { MatchOption result
         (tokens_of line.now ≡ [])
         (λ r. tokens_of line.now ≡ r.0.now ∷ tokens_of r.1.now) }
+    ensures placed { IfSome result (λ r. IsFirstCut line.now r.0.now r.1.now) }
     ensures shorter { IfSome result (λ r. length r.1.now < length line.now) }
 {
     let mut left = line;

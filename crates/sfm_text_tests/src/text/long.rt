@@ -1,5 +1,9 @@
 // Lines of some thousands of tokens, each with its first reason.
 use super::first_fault;
+use sfm_base::Set;
+use sfm_kind::Kind;
+use sfm_law::Term;
+use sfm_text::read_instance;
 use std::alloc::{AllocError, Global};
 use std::test::Fail;
 
@@ -129,6 +133,88 @@ fn entries_of_many_slots(rt: HostRuntime) -> Result<(), Fail> {
             (line, reason),
             "{head}{piece}..{tail}"
         );
+    }
+    Ok(())
+}
+
+#[test]
+fn laminar_lines_of_many_groups(rt: HostRuntime) -> Result<(), Fail> {
+    let rows: [(&str, &str, &str, usize, &[u8]); 17] = [
+        (" 1 laminar : a b", " ; 1 a", "\nend", 0, b"good"),
+        (" 1 laminar : a b c", " ; 1 a ; 2 a b", "\nend", 0, b"good"),
+        (" 1 laminar : a b c", " ; 1 a b", " ; 1 b c", 3, b"law"),
+        (
+            " 1 laminar : a b c",
+            " ; 1 a b",
+            " ; 1 b c ; 1 a a",
+            3,
+            b"twice",
+        ),
+        (" 1 laminar : a b a", " ; 1 a b", " ; 1 b", 3, b"twice"),
+        (" 1 laminar : a b a", " ; 1 a b", " ; 1 c", 3, b"name"),
+        (" 1 laminar :", " a", " ; 1 b", 3, b"name"),
+        (" 1 laminar : z", " ; 1 a a", "", 3, b"name"),
+        (" 1 laminar : a b", " ; 1 z", " ; x a", 3, b"number"),
+        (" x laminar : a b", " ; 1 z", "", 3, b"number"),
+        (" x laminar : a b", " ; 1 z", " ;", 3, b"shape"),
+        (" x laminar : a b", " ; 1 z", " ; 1", 3, b"shape"),
+        (" x laminar : a b", " ; 1 z", " : a", 3, b"shape"),
+        (" 1 laminar :", " ; 1 a", "", 3, b"shape"),
+        (" ; laminar : a", " ; 1 a", "", 3, b"shape"),
+        (" 1 laminar a :", " ; 1 a", "", 3, b"shape"),
+        (" 1 laminar : a b", " ; 1 a", " ;b", 3, b"name"),
+    ];
+    for (head, piece, tail, line, reason) in rows {
+        let mut begin = String::new(rt.alloc());
+        begin.push_str("sfm 1\nground a b c d\nrank")?;
+        begin.push_str(head)?;
+        let text = long_text(rt.alloc(), begin.as_str(), piece, tail)?;
+        assert_eq!(rt;
+            first_fault(rt.alloc(), text.as_bytes()),
+            (line, reason),
+            "{head}{piece}..{tail}"
+        );
+    }
+    Ok(())
+}
+
+/// The pairs of 40 elements as groups of a laminar rank.
+#[test]
+fn many_groups_that_cross(rt: HostRuntime) -> Result<(), Fail> {
+    let mut names = String::new(rt.alloc());
+    let mut groups = String::new(rt.alloc());
+    for i in 0..40_u32 {
+        names.push_str(format!(in rt.alloc(); " n{i}")?.as_str())?;
+        for j in 0..i {
+            groups.push_str(format!(in rt.alloc(); " ; 1 n{j} n{i}")?.as_str())?;
+        }
+    }
+    let text = format!(in rt.alloc();
+        "sfm 1\nground{names}\nrank 1 laminar :{names}{groups}\nend\n"
+    )?;
+    assert_eq!(rt;
+        first_fault(rt.alloc(), text.as_bytes()),
+        (3, b"law".as_slice())
+    );
+    Ok(())
+}
+
+#[test]
+fn of_equal_groups_the_least_is_kept(rt: HostRuntime) -> Result<(), Fail> {
+    let text = long_text(
+        rt.alloc(),
+        "sfm 1\nground a b c d\nrank 5 laminar : d b a ; 3 b d",
+        " ; 2 d b",
+        " ; 1 b d ; 7 a ; 2 b d\nrank 5 laminar : d b a ; 3 b d ; 1 d b ; 7 a ; 2 d b\nend\n",
+    )?;
+    let instance = read_instance(rt.alloc(), text.as_bytes())?;
+    assert_eq!(rt; instance.terms().len(), 2);
+    for term in instance.terms() {
+        if let Kind::Laminar(laminar) = term {
+            assert_eq!(rt; laminar.groups.len(), 2);
+            let all = Set::whole(rt.alloc(), 3)?;
+            assert_eq!(rt; laminar.value(rt.alloc(), &all)?, Some(10));
+        }
     }
     Ok(())
 }

@@ -30,3 +30,10 @@ returns-clause-judged c =
     let line = c.args.line.now in
     let rest = tokens_of c.in-Some.rest.now in
     judged-as c.args.instance.now c.add_read.new.instance line c.in-Some.word rest c.add_read.result (record { tokens_are = c.in-Some.ensures; good_bytes = c.if-not-are_good_bytes.ensures }) (rw (c.deref.ensures.value, c.in_ok-tokens.ensures) at c.add_read.ensures.outcome)
+
+pub returns-in-Some-3-clause-judged : goal.returns-in-Some-3-clause-judged
+returns-in-Some-3-clause-judged c =
+    let line = c.args.line.now in
+    let rest = tokens_of c.in-Some.rest.now in
+    let read = rw c.in-Some-3.is at c.in_ok-term.ensures.read in
+    judged-as c.args.instance.now c.add_made.new.instance line c.in-Some.word rest c.add_made.result (record { tokens_are = c.in-Some.ensures; good_bytes = c.if-not-are_good_bytes.ensures }) (c.add_made.ensures.outcome c.in-Some.word rest read)

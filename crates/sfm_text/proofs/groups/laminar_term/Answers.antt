@@ -1,27 +1,40 @@
--- The groups are those of the line, and one that crosses another is told by the term.
-use Rattle.std.proofs.Common.{length, ap, Err, ◌∙◌, arith}
+-- The groups are the least of those of the line, and one that crosses another is told by the term.
+use Rattle.std.proofs.Common.{length, ◌∙◌, arith}
 use Rattle.sfm_kind.specs.declared.kind.Kind.TheVariants.{Laminar}
+use Rattle.sfm_laminar.specs.Groups.{IsGroup, IsBelow}
 use Rattle.sfm_text.specs.declared.word.RankKind.TheVariants.{LaminarRank}
+use Rattle.sfm_text.specs.RankLines.{groups_of}
 use Rattle.sfm_text.specs.ReadParts.{parts_of}
-use Rattle.sfm_text.proofs.Members.{groups-below}
+use Rattle.sfm_text.proofs.LeastGroups.{least-each, crossing-from, crossing-for}
+use Rattle.sfm_text.proofs.Members.{groups-below, groups-sound}
 use Rattle.sfm_text.proofs.RankTerms.{of-rank}
 use Rattle.sfm_text.proofs.ReadLines.{kept-at}
 use Rattle.sfm_text.proofs.groups.laminar_term.Goals as goal
 
-pub new-requires-clause-below : goal.new-requires-clause-below
-new-requires-clause-below c = rw c.in_ok-groups.ensures (groups-below c.args.values.now (parts_of c.args.parts.now) (length c.args.places.now) c.requires.named)
+pub with_kept-requires-clause-sound : goal.with_kept-requires-clause-sound
+with_kept-requires-clause-sound c =
+    let groups = groups_of c.args.values.now (parts_of c.args.parts.now) in
+    rw (c.deref.ensures.value, c.in_ok-groups.ensures) (least-each IsGroup groups (groups-sound c.args.values.now (parts_of c.args.parts.now) c.requires.each c.requires.low c.requires.small))
 
-pub returns-in-Ok : goal.returns-in-Ok
-returns-in-Ok c = (
-  record {
-    same_places = c.in-Ok.ensures.places;
-    made = of-rank LaminarRank (parts_of c.args.parts.now) c.args.values.now (Laminar c.in-Ok.laminar) c.requires.rank (c.in-Ok.ensures.number ∙ kept-at c.args.values.now 0 (omega (arith, c.requires.each)) c.requires.small, c.in-Ok.ensures.groups ∙ c.in_ok-groups.ensures);
-  },
-  λ (i, j, cross). c.in-Ok.ensures.none i j (rw c.in_ok-groups.ensures cross),
-)
+pub with_kept-requires-clause-below : goal.with_kept-requires-clause-below
+with_kept-requires-clause-below c =
+    let groups = groups_of c.args.values.now (parts_of c.args.parts.now) in
+    rw (c.deref.ensures.value, c.in_ok-groups.ensures) (least-each (IsBelow (length c.args.places.now)) groups (groups-below c.args.values.now (parts_of c.args.parts.now) (length c.args.places.now) c.requires.named))
 
-pub returns-in-Err-Crosses : goal.returns-in-Err-Crosses
-returns-in-Err-Crosses c =
-    let arm = c.in-Err-Crosses in
-    let first = (arm.ensures.crosses arm.field-0-0 arm.field-0-1).0 (ap (λ e. Err e) arm.field-0-is) in
-    (arm.field-0-0, arm.field-0-1, rw c.in_ok-groups.ensures at first.crossing)
+pub returns-in-Some : goal.returns-in-Some
+returns-in-Some c =
+    let values = c.args.values.now in
+    let parts = parts_of c.args.parts.now in
+    let made = rw c.in-Some.is at c.in_ok-made.ensures in
+    let kept = c.deref.ensures.value ∙ c.in_ok-groups.ensures in (
+      record {
+        same_places = made.0;
+        made = of-rank LaminarRank parts values (Laminar c.in-Some.laminar) c.requires.rank (made.1 ∙ kept-at values 0 (omega (arith, c.requires.each)) c.requires.small, made.2 ∙ kept);
+      },
+      λ cross. let (i, j, h) = crossing-for (groups_of values parts) cross in made.3 i j (rw kept h),
+    )
+
+pub returns : goal.returns
+returns c =
+    let groups = groups_of c.args.values.now (parts_of c.args.parts.now) in
+    crossing-from groups (rw (c.deref.ensures.value, c.in_ok-groups.ensures) at rw c.in-None.is at c.in_ok-made.ensures)

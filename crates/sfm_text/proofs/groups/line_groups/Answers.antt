@@ -1,14 +1,12 @@
 use Rattle.std.proofs.Common.{◌+◌, ◌<◌, length, Bor, List, [], ℕ, sym, ap, ◌∙◌, arith}
 use Rattle.std.proofs.lemmas.List.{get_or-map, length-map}
 use Rattle.sfm_text.specs.Lines.{texts_of}
-use Rattle.sfm_text.specs.RankLines.{members_of}
+use Rattle.sfm_spec.specs.Kinds.{Group}
+use Rattle.sfm_text.specs.RankLines.{members_of, with_group}
 use Rattle.sfm_text.specs.ReadParts.{parts_of}
-use Rattle.sfm_text.proofs.Members.{members-ascend, group-in}
+use Rattle.sfm_text.proofs.Members.{group-in}
 use Rattle.sfm_text.proofs.ReadLines.{kept-at}
 use Rattle.sfm_text.proofs.groups.line_groups.Goals as goal
-
-pub push-requires-clause-ascending : goal.push-requires-clause-ascending
-push-requires-clause-ascending c = rw c.in_ok-members.ensures.members (members-ascend (texts_of c.deref.result.now) (texts_of c.index.result.now.now))
 
 pub loop-i-preserved : goal.loop-i-preserved
 loop-i-preserved c =
@@ -17,7 +15,7 @@ loop-i-preserved c =
     let texts : Bor (List (Bor (List ℕ))) → List (List ℕ) = λ t. texts_of t.now in
     let within : i < length parts.groups.items = omega (arith, c.loop-i-test.true, c.len-i-end.ensures) in
     let names = get_or-map texts parts.groups.items i _ [] within in
-    group-in c.args.values.now (parts_of parts) i c.loop-i.groups c.push.new.self _ _ c.loop-i.invariant
+    group-in c.args.values.now (parts_of parts) i c.loop-i.groups.items c.keep.new.groups.items _ _ c.loop-i.invariant
     (kept-at c.args.values.now (i + 1) (omega (arith, c.requires.each, within, length-map parts.groups.items texts)) c.requires.small)
     (rw (c.deref.ensures.value) at c.in_ok-members.ensures.members ∙ ap (λ (l : List (List ℕ)). members_of (texts_of parts.elements.items) l) (ap texts c.index.ensures ∙ sym names))
-    c.in_ok-push.ensures
+    (c.in_ok-keep.ensures ∙ ap (λ (g : Group). with_group c.loop-i.groups.items g) c.new.ensures)
