@@ -82,6 +82,6 @@ fn bases_at<T: Term>(
     ensures bases { IfOk result (IsSection (meanings T.places T.value_of terms.now) (λ q. map (λ term. T.start_of term q) terms.now) (length shift.old) slope.num slope.den) }
 {
     write_even(shift, slope.num);
-    let optimum = minimise_from_start(alloc, graph, firsts, terms, slope.den, shift)?;
-    Ok(optimum.bases)
+    let bases = minimise_from_start(alloc, graph, firsts, terms, slope.den, shift)?;
+    Ok(bases)
 }

@@ -22,10 +22,11 @@ use crate::run::Run;
 use crate::walk::next_walk;
 use sfm_base::{Memory, Numbers, Rows, Steps};
 use sfm_exchange::{
-    Graph, Path, amount_of, copy_rows, graph_at, move_along, move_signs, restart_by, signs_of,
+    Graph, Path, amount_of, graph_at, move_along, move_signs, restart_by, signs_of,
 };
 use sfm_law::{Term, rest_of, start_rows};
 use std::alloc::Global;
+use std::mem;
 
 /// Bases of q times the terms that prove the minimum, with z: their sum at each place of the ground, less the shift.
 #[derive(Drop)]
@@ -102,9 +103,9 @@ pub fn minimise_counted<T: Term>(
 }
 
 /// Bases that prove the minimum of q times the sum of the terms less the shift, reached from the first bases of the terms by
-/// few walks, with z. The graph is made one at these bases, whatever bases and factor it was at before, and its lists are
-/// used again. Where these bases are q times those of a second graph, one of the terms themselves, no term is asked for its
-/// rows there.
+/// few walks. The graph is made one at these bases, whatever bases and factor it was at before, and its lists are used again;
+/// the bases are then taken out of it. Where the first bases are q times those of a second graph, one of the terms themselves,
+/// no term is asked for its rows there.
 ///
 /// # Errors
 ///
@@ -116,27 +117,24 @@ pub fn minimise_from_start<T: Term>(
     terms: &[T],
     q: i128,
     shift: &[i128],
-) -> Result<Optimum, Memory>
+) -> Result<Rows, Memory>
     requires bounded { AreBounded (length shift.now) (map T.places terms.now) (map T.size_of terms.now) }
     requires shifts { magnitudes shift.now ≤ℤ pos (10 ^ 27) }
     requires factor { IsFactor q }
     requires graph { IsShaped T.places T.value_of terms.now (length shift.now) graph.old }
     requires firsts { IsClaimed T.places T.value_of T.size_of T.fits terms.now (length shift.now) (pos 1) firsts.now }
-    ensures graph { OnOk result (IsClaimed T.places T.value_of T.size_of T.fits terms.now (length shift.now) q graph.new) }
-    ensures same { IfOk result (λ r. r.bases ≡ graph.new.bases) }
-    ensures bases { IfOk result (λ r. AreBases q (meanings T.places T.value_of terms.now) r.bases) }
-    ensures small { IfOk result (λ r. All (λ x. All IsEntry x) r.bases) }
-    ensures rest { IfOk result (λ r. (length r.z ≡ length shift.now) × ((e : ℕ) → e < length shift.now → slice_index_or r.z e (pos 0) ≡ rest_at (meanings T.places T.value_of terms.now) r.bases shift.now e)) }
-    ensures ends { IfOk result (λ r. (first : ℕ) (steps : List Step) → Joins (meanings T.places T.value_of terms.now) q shift.now r.bases first steps → ⊥) }
-    ensures proves { IfOk result (λ r. Prove (meanings T.places T.value_of terms.now) (length shift.now) q shift.now r.bases) }
-    ensures few { IfOk result (λ r. IsFewWalks (meanings T.places T.value_of terms.now) (length shift.now) q shift.now (map (λ term. T.start_of term q) terms.now) r.bases) }
+    ensures graph { OnOk result (IsShaped T.places T.value_of terms.now (length shift.now) graph.new) }
+    ensures bases { IfOk result (AreBases q (meanings T.places T.value_of terms.now)) }
+    ensures small { IfOk result (All (λ x. All IsEntry x)) }
+    ensures ends { IfOk result (λ r. (first : ℕ) (steps : List Step) → Joins (meanings T.places T.value_of terms.now) q shift.now r first steps → ⊥) }
+    ensures proves { IfOk result (Prove (meanings T.places T.value_of terms.now) (length shift.now) q shift.now) }
+    ensures few { IfOk result (IsFewWalks (meanings T.places T.value_of terms.now) (length shift.now) q shift.now (map (λ term. T.start_of term q) terms.now)) }
 {
     let first_bases = start_rows(alloc, terms, q)?;
     restart_by(alloc, graph, terms, q, first_bases, firsts)?;
     let mut steps = Steps::new();
-    let z = improve(alloc, graph, terms, q, shift, &mut steps)?;
-    let bases = copy_rows(alloc, &graph.bases)?;
-    Ok(Optimum { bases, z })
+    improve(alloc, graph, terms, q, shift, &mut steps)?;
+    Ok(mem::replace(&mut graph.bases, Rows::new(alloc)))
 }
 
 /// Moves the bases of the graph along walks of least steps, each by the greatest amount, until no walk joins. Then they

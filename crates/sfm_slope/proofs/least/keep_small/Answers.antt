@@ -1,4 +1,3 @@
-use Rattle.std.proofs.Common.{pos}
 use Rattle.sfm_exchange.proofs.ClaimedGraphs.{shaped, whole_claimed}
 use Rattle.sfm_slope.proofs.least.keep_small.Goals as goal
 

@@ -3,7 +3,6 @@ use Rattle.std.proofs.lemmas.Int.{ints, to_z-of_z}
 use Rattle.std.proofs.lemmas.List.{length-replicate}
 use mir.Syntax.{w128}
 use Rattle.sfm_exchange.specs.Graph.{IsShaped}
-use Rattle.sfm_exchange.proofs.ClaimedGraphs.{shaped}
 use Rattle.sfm_walk.proofs.Starting.{magnitudes-even}
 use Rattle.sfm_slope.proofs.sections.bases_at.Goals as goal
 
@@ -24,7 +23,7 @@ returns-clause-bases g c =
     let fp : FitsSigned w128 s.num = omega (arith, ints, s.entry.low, s.entry.high) in
     let fq : FitsSigned w128 s.den = omega (arith, ints, s.factor.low, s.factor.high) in
     let same : c.write_even.new.shift ≡ replicate n s.num = simp to_z-of_z at c.write_even.ensures in
-    let h = c.in_ok-optimum.ensures in
+    let h = c.in_ok-bases.ensures in
     let bases = simp to_z-of_z at h.bases in
     let proves = rw (same, length-replicate n s.num) at h.proves in
     let few = rw (same, length-replicate n s.num) at h.few in
@@ -39,5 +38,5 @@ returns-clause-graph g c =
     let fq : FitsSigned w128 s.den = omega (arith, ints, s.factor.low, s.factor.high) in
     let same : c.write_even.new.shift ≡ replicate n s.num = simp to_z-of_z at c.write_even.ensures in
     let S : ℕ → Type 0 = λ k. IsShaped t.places t.value_of c.args.terms.now k c.minimise_from_start.new.graph in
-    let h = simp to_z-of_z at c.in_ok-optimum.ensures.graph in
-    subst S (ap length same ∙ length-replicate n s.num) (shaped h)
+    let h = c.in_ok-bases.ensures.graph in
+    subst S (ap length same ∙ length-replicate n s.num) h

@@ -22,47 +22,6 @@ improve-requires-clause-small g c =
     let rows = simp to_z-of_z at c.in_ok-first_bases.ensures.starts in
     rw (c.in_ok-restart_by.ensures.bases, rows) (starts_within t.size_of t.start_of c.args.q (λ x. m.starts_small x c.args.q c.requires.factor.low) c.requires.factor c.args.terms.now each)
 
-pub returns-clause-bases : goal.returns-clause-bases
-returns-clause-bases g c =
-    let fq : FitsSigned w128 c.args.q = c.ranges.q in
-    let known = simp to_z-of_z at c.in_ok-z.ensures.bases in
-    rw c.in_ok-bases.ensures known
-
-pub returns-clause-small : goal.returns-clause-small
-returns-clause-small g c =
-    let fq : FitsSigned w128 c.args.q = c.ranges.q in
-    let known = c.in_ok-z.ensures.small in
-    rw c.in_ok-bases.ensures known
-
-pub returns-clause-rest : goal.returns-clause-rest
-returns-clause-rest g c =
-    let fq : FitsSigned w128 c.args.q = c.ranges.q in
-    let known = c.in_ok-z.ensures.rest in
-    rw c.in_ok-bases.ensures known
-
-pub returns-clause-ends : goal.returns-clause-ends
-returns-clause-ends g c =
-    let fq : FitsSigned w128 c.args.q = c.ranges.q in
-    let known = simp to_z-of_z at c.in_ok-z.ensures.ends in
-    rw c.in_ok-bases.ensures known
-
-pub returns-clause-proves : goal.returns-clause-proves
-returns-clause-proves g c =
-    let fq : FitsSigned w128 c.args.q = c.ranges.q in
-    let known = simp to_z-of_z at c.in_ok-z.ensures.proves in
-    rw c.in_ok-bases.ensures known
-
-pub returns-clause-few : goal.returns-clause-few
-returns-clause-few g c =
-    let fq : FitsSigned w128 c.args.q = c.ranges.q in
-    let known = simp to_z-of_z at (rw (c.in_ok-restart_by.ensures.bases, c.in_ok-first_bases.ensures.starts) at c.in_ok-z.ensures.counted) in
-    rw c.in_ok-bases.ensures (known.0, known.1, known.2)
-
-pub returns-clause-graph : goal.returns-clause-graph
-returns-clause-graph g c =
-    let fq : FitsSigned w128 c.args.q = c.ranges.q in
-    simp to_z-of_z at c.in_ok-z.ensures.graph
-
 pub restart_by-requires-clause-bounded : goal.restart_by-requires-clause-bounded
 restart_by-requires-clause-bounded g c = rw c.requires.graph.are_spots.count c.requires.bounded
 
