@@ -59,6 +59,21 @@ pub enum KindNote {
     Concave(<Concave as Term>::Note),
 }
 
+/// A note that fits a base, on the heap. This stands apart, since a function pays as it begins for the room of all that it
+/// holds, and a large note would make each small one dear.
+#[inline(never)]
+fn boxed_note<T: Term>(alloc: Global, term: &T, q: i128, x: &[i128]) -> Result<Box<T::Note>, Memory>
+    requires factor { IsFactor q }
+    requires entries { length x.now ≡ length (T.places term.now) }
+    requires bounded { T.size_of term.now ≤ℤ pos (10 ^ 18) }
+    requires small { All IsEntry x.now }
+    requires base { IsBase (times q (T.value_of term.now)) x.now }
+    ensures { IfOk result (λ r. T.fits term.now r.value q x.now) }
+{
+    let note = term.note(alloc, q, x)?;
+    Ok(Box::new(alloc, note)?)
+}
+
 impl Kind {
     /// What a term tells of itself is what its meaning says by definition (Schrijver, Combinatorial Optimization, sections 39
     /// and 44): its places and values are a meaning, any two meanings have the same value on each part of its places, and the
@@ -228,14 +243,8 @@ impl Term for Kind {
     fn note(&self, alloc: Global, q: i128, x: &[i128]) -> Result<KindNote, Memory> {
         match self {
             Kind::Laminar(term) => Ok(KindNote::Laminar(term.note(alloc, q, x)?)),
-            Kind::Graphic(term) => {
-                let note = term.note(alloc, q, x)?;
-                Ok(KindNote::Graphic(Box::new(alloc, note)?))
-            }
-            Kind::Transversal(term) => {
-                let note = term.note(alloc, q, x)?;
-                Ok(KindNote::Transversal(Box::new(alloc, note)?))
-            }
+            Kind::Graphic(term) => Ok(KindNote::Graphic(boxed_note(alloc, term, q, x)?)),
+            Kind::Transversal(term) => Ok(KindNote::Transversal(boxed_note(alloc, term, q, x)?)),
             Kind::Concave(term) => Ok(KindNote::Concave(term.note(alloc, q, x)?)),
             _ => Ok(KindNote::Nothing),
         }
