@@ -32,6 +32,10 @@ put_keeps s e l d h = ⊎_elim (λ same. rw same (get_or-set_same s e true false
 put_only : (s : List Bool) (e d : ℕ) → Has (set s e true) d → Has s d ⊎ (d ≡ e)
 put_only s e d h = ⊎_elim (λ same. inr same) (λ ne. inl (sym (get_or-set_other s e d true false ne) ∙ h)) (cases_eq d e)
 
+pub union-nothing : (s : List Bool) → union (empty_set (length s)) s ≡ s
+union-nothing [] = refl
+union-nothing (b ∷ s) = ap (λ t. b ∷ t) (union-nothing s)
+
 -- ---- steps
 
 module _ (whos slots : List ℕ) (y : List ℤ) where
@@ -267,6 +271,10 @@ same_set h = cc
 module _ (n : ℕ) (whos slots : List ℕ) (y rooms : List ℤ) where
   pub answers_none : AreAnswers n whos slots y rooms []
   answers_none = record { room = λ u is. absurd (no_answer is); led = λ u set is. absurd (no_answer is) }
+
+  -- none is told any more
+  pub answers_forgotten : (answers : List (Option Answer)) → ((u : ℕ) → answer_at answers u ≡ None) → AreAnswers n whos slots y rooms answers
+  answers_forgotten answers none = record { room = λ u is. absurd (no_answer (sym (none u) ∙ is)); led = λ u set is. absurd (no_answer (sym (none u) ∙ is)) }
 
   pub answers_same : (before after : List (Option Answer)) → ((u : ℕ) → answer_at after u ≡ answer_at before u) → AreAnswers n whos slots y rooms before → AreAnswers n whos slots y rooms after
   answers_same before after same h = record { room = λ u is. h.room u (sym (same u) ∙ is); led = λ u set is. h.led u set (sym (same u) ∙ is) }

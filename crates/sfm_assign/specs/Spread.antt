@@ -1,6 +1,6 @@
 -- What a demand leads to: reachability in the residual graph of a split. A demand leads to another in one step where that has
 -- something on a slot that it could use itself. So one unit can move along each step, from its end to its beginning.
-use Rattle.std.specs.Prelude.{◌≡◌, ◌≢◌, ◌↔◌, ◌⊎◌, ℕ, ◌<◌, ◌≤◌, Bool, false, List, length, slice_index_or, slice_set, ℤ, pos, ◌≤ℤ◌, ◌<ℤ◌, Option, Some, None, MatchOption}
+use Rattle.std.specs.Prelude.{◌≡◌, ◌↔◌, ◌⊎◌, ℕ, ◌<◌, ◌≤◌, Bool, false, List, length, slice_index_or, slice_set, ℤ, pos, ◌≤ℤ◌, ◌<ℤ◌, Option, Some, None, MatchOption}
 use Rattle.sfm_spec.specs.Sets.{Has, IsWithin, union, size}
 use Rattle.sfm_assign.specs.Splits.{amount_at}
 use Rattle.sfm_assign.specs.Cells.{label_at, AreCells}
@@ -87,7 +87,11 @@ pub record IsWider (found : List Bool) (queue : List ℕ) (found_after : List Bo
   pub kept : IsWithin found found_after
   pub first : (k : ℕ) → k < length queue → (k < length longer) × (label_at longer k ≡ label_at queue k)
 
--- the others of what u leads to; or where it leads to room, all others that ask for something
-abbrev pub IsWritten : Answer → List ℤ → ℕ → List Bool → Type 0
-IsWritten Room demands u to = (v : ℕ) → v < length demands → Has to v ↔ ((v ≢ u) × (pos 0 <ℤ amount_at demands v))
-IsWritten (Full set) demands u to = to ≡ slice_set set u false
+-- the demands that ask for something
+abbrev pub AreAsking : List ℤ → List Bool → Type 0
+AreAsking demands asking = (v : ℕ) → v < length demands → Has asking v ↔ (pos 0 <ℤ amount_at demands v)
+
+-- the others of what u leads to; or where it leads to room, all others of those that ask for something
+abbrev pub IsWritten : Answer → List Bool → ℕ → List Bool → Type 0
+IsWritten Room asking u to = to ≡ slice_set asking u false
+IsWritten (Full set) asking u to = to ≡ slice_set set u false

@@ -3,7 +3,7 @@
 // that can give up one. What was told of a demand is remembered until the split changes, and later searches go no further where
 // they come to it. The amounts for other demands are found beside those that are kept and then put in their place, so that
 // want of memory leaves all as it was.
-ghost use Rattle.std.specs.Prelude.{◌≡◌, ◌≢◌, ◌↔◌, ℕ, ◌<◌, ◌≤◌, Bool, List, [], false, length, vec_len, slice_set, pos, ◌+ℤ◌, ◌≤ℤ◌, ◌<ℤ◌, IsTrue, IfOk, OnOk, OnErr, MatchResult};
+ghost use Rattle.std.specs.Prelude.{◌≡◌, ◌↔◌, ℕ, ◌<◌, ◌≤◌, Bool, List, false, length, vec_len, slice_set, pos, ◌+ℤ◌, ◌≤ℤ◌, ◌<ℤ◌, IsTrue, IfOk, OnOk, OnErr, MatchResult};
 ghost use Rattle.std.specs.List.{All};
 ghost use Rattle.sfm_spec.specs.Sets.{Has};
 ghost use Rattle.sfm_assign.specs.Splits.{amount_at, IsAmount, IsCapacity, AreDemands};
@@ -12,7 +12,7 @@ ghost use Rattle.sfm_assign.specs.Search.{AreLeft};
 ghost use Rattle.sfm_assign.specs.Lowers.{IsCharge, AreSmall};
 ghost use Rattle.sfm_assign.specs.Ends.{IsAssignEnd};
 ghost use Rattle.sfm_assign.specs.Lenders.{IsLender, with_more, IsMostUpto};
-ghost use Rattle.sfm_assign.specs.Spread.{AreAnswers, answer_at, IsKnown, IsWritten};
+ghost use Rattle.sfm_assign.specs.Spread.{AreAnswers, AreTold, AreAsking, answer_at, IsKnown, IsWritten};
 ghost use Rattle.sfm_assign.specs.declared.spread.Answer.TheVariants.{Full};
 
 use crate::demand::Demand;
@@ -20,7 +20,7 @@ use crate::fill::fill_from;
 use crate::left::{Lefts, left_of};
 use crate::lower::shift;
 use crate::splitting::{AssignEnd, Shares, met_shares, settle};
-use crate::spread::{Answer, find_answer};
+use crate::spread::{Answer, Spread, find_answer};
 use sfm_base::{Memory, Set};
 use std::alloc::Global;
 
@@ -33,9 +33,16 @@ pub struct Kept {
     rooms: Vec<i128>,
     /// What is told of each demand, as far as it was asked for since the split changed.
     answers: Vec<Option<Answer>>,
+    /// The memory of the searches that tell it.
+    search: Spread,
+    /// The demands that ask for something, where these are counted.
+    asking: Set,
+    counted: bool,
     ghost met: { AreMet demand shares.cells.whos.items shares.cells.slots.items shares.y.items },
     ghost left: { AreLeft demand.capacities shares.cells.slots.items shares.y.items rooms.items },
     ghost few: { vec_len answers ≤ length demand.demands },
+    ghost each: { length asking ≡ length demand.demands },
+    ghost asked: { IsTrue counted → AreAsking demand.demands asking },
     ghost known: { AreAnswers (length demand.demands) shares.cells.whos.items shares.cells.slots.items shares.y.items rooms.items answers.items },
 }
 
@@ -54,22 +61,22 @@ struct Grown {
     more: i128,
 }
 
-/// Whether v is another demand than u and asks for something.
-fn asks_beside(demands: &[i128], u: usize, v: usize) -> bool
+/// Whether a demand asks for something.
+fn asks(demands: &[i128], v: usize) -> bool
     requires { v < length demands.now }
-    ensures { IsTrue result ↔ ((v ≢ u) × (pos 0 <ℤ amount_at demands.now v)) }
+    ensures { IsTrue result ↔ (pos 0 <ℤ amount_at demands.now v) }
 {
-    v != u && demands[v] > 0
+    demands[v] > 0
 }
 
-/// Writes the demands other than u that ask for something.
-fn write_asking(demands: &[i128], u: usize, to: &mut Set)
+/// Writes the demands that ask for something.
+fn write_asking(demands: &[i128], to: &mut Set)
     requires { length to.old ≡ length demands.now }
     ensures places { length to.new ≡ length demands.now }
-    ensures asking { (v : ℕ) → v < length demands.now → Has to.new v ↔ ((v ≢ u) × (pos 0 <ℤ amount_at demands.now v)) }
+    ensures asking { AreAsking demands.now to.new }
 {
     for v in 0..demands.len() {
-        to.put(v, asks_beside(demands, u, v));
+        to.put(v, asks(demands, v));
     }
 }
 
@@ -84,16 +91,16 @@ fn write_others(set: &Set, u: usize, to: &mut Set)
     to.remove(u);
 }
 
-/// Writes the demands that can lend to u, by what is told of it.
-fn write_answer(demands: &[i128], answer: &Answer, u: usize, to: &mut Set)
+/// Writes the demands that can lend to u, by what is told of it and by who asks for something.
+fn write_answer(asking: &Set, answer: &Answer, u: usize, to: &mut Set)
     requires sized { (set : List Bool) → answer.now ≡ Full set → length set ≡ length to.old }
-    requires each { length to.old ≡ length demands.now }
-    requires place { u < length demands.now }
+    requires each { length to.old ≡ length asking.now }
+    requires place { u < length asking.now }
     ensures places { length to.new ≡ length to.old }
-    ensures written { IsWritten answer.now demands.now u to.new }
+    ensures written { IsWritten answer.now asking.now u to.new }
 {
     match answer {
-        Answer::Room => write_asking(demands, u, to),
+        Answer::Room => write_others(asking, u, to),
         Answer::Full(set) => write_others(set, u, to),
     }
 }
@@ -111,38 +118,46 @@ fn make_room(answers: &mut Vec<Option<Answer>>, n: usize) -> Result<(), Memory>
     Ok(())
 }
 
-/// Sees to it that the answer for the demand u of n is known.
+/// Sees to it that the answer for the demand u is known.
 fn remember(
     alloc: Global,
+    search: &mut Spread,
     shares: &Shares,
     rooms: &[i128],
     answers: &mut Vec<Option<Answer>>,
-    n: usize,
     u: usize,
 ) -> Result<(), Memory>
-    requires cells { AreCells n (length rooms.now) shares.now.cells.whos.items shares.now.cells.slots.items }
-    requires same { length shares.now.y.items ≡ length shares.now.cells.whos.items }
-    requires few { vec_len answers.old ≤ n }
-    requires known { AreAnswers n shares.now.cells.whos.items shares.now.cells.slots.items shares.now.y.items rooms.now answers.old.items }
-    requires place { u < n }
-    ensures few { vec_len answers.new ≤ n }
-    ensures known { AreAnswers n shares.now.cells.whos.items shares.now.cells.slots.items shares.now.y.items rooms.now answers.new.items }
-    ensures told { OnOk result (IsKnown answers.new.items u) }
+    requires told { AreTold shares.now.cells.whos.items shares.now.cells.slots.items shares.now.y.items rooms.now answers.old.items }
+    requires place { u < length answers.old.items }
+    ensures same { length answers.new.items ≡ length answers.old.items }
+    ensures told { AreTold shares.now.cells.whos.items shares.now.cells.slots.items shares.now.y.items rooms.now answers.new.items }
+    ensures known { OnOk result (IsKnown answers.new.items u) }
 {
-    make_room(answers, n)?;
     if answers[u].is_some() {
         return Ok(());
     }
-    let answer = find_answer(alloc, shares, rooms, answers.as_slice(), u)?;
+    let answer = find_answer(alloc, search, shares, rooms, answers.as_slice(), u)?;
     answers[u] = Some(answer);
     Ok(())
 }
 
-/// Forgets what was told, as the split changes.
-fn forget(answers: &mut Vec<Option<Answer>>)
-    ensures { answers.new.items ≡ [] }
+/// Forgets an answer, and keeps the memory of its set.
+fn forget_one(answer: &mut Option<Answer>, search: &mut Spread)
+    ensures { answer.new ≡ None }
 {
-    answers.clear();
+    if let Some(Answer::Full(set)) = answer.take() {
+        search.put_aside(set);
+    }
+}
+
+/// Forgets what was told, as the split changes.
+fn forget(answers: &mut Vec<Option<Answer>>, search: &mut Spread)
+    ensures same { vec_len answers.new ≡ vec_len answers.old }
+    ensures none { (u : ℕ) → answer_at answers.new.items u ≡ None }
+{
+    for u in 0..answers.len() {
+        forget_one(&mut answers[u], search);
+    }
 }
 
 impl Kept {
@@ -156,11 +171,15 @@ impl Kept {
     {
         let shares = met_shares(alloc, &demand)?;
         let rooms = left_of(alloc, demand.capacities(), &shares.cells.slots, &shares.y)?;
+        let asking = Set::empty(alloc, demand.demands().len())?;
         Ok(Kept {
             demand,
             shares,
             rooms,
             answers: Vec::new(alloc),
+            search: Spread::new(alloc)?,
+            asking,
+            counted: false,
         })
     }
 
@@ -177,6 +196,9 @@ impl Kept {
             shares: self.shares.copy(alloc)?,
             rooms: Vec::from_slice(alloc, &self.rooms)?,
             answers: Vec::new(alloc),
+            search: Spread::new(alloc)?,
+            asking: Set::empty(alloc, self.asking.len())?,
+            counted: false,
         })
     }
 
@@ -192,7 +214,8 @@ impl Kept {
             .copy_from(other.demand.demands(), other.demand.capacities());
         self.shares.y.copy_from_slice(&other.shares.y);
         self.rooms.copy_from_slice(&other.rooms);
-        forget(&mut self.answers);
+        forget(&mut self.answers, &mut self.search);
+        self.counted = false;
     }
 
     /// What the split leaves of other demands and capacities over the same lists: below nothing where it is too much.
@@ -274,7 +297,8 @@ impl Kept {
         self.demand.copy_from(demands, capacities);
         self.shares.y = y;
         self.rooms = rooms;
-        forget(&mut self.answers);
+        forget(&mut self.answers, &mut self.search);
+        self.counted = false;
         Ok(())
     }
 
@@ -333,21 +357,65 @@ impl Kept {
         self.demand.raise(u, more);
         self.shares.y = y;
         self.rooms = rooms;
-        forget(&mut self.answers);
+        forget(&mut self.answers, &mut self.search);
+        self.counted = false;
         Ok(more)
+    }
+
+    /// Sees to it that the demands that ask for something are counted.
+    fn count_asking(&mut self)
+        ensures same { self.new.demand ≡ self.old.demand }
+        ensures counted { IsTrue self.new.counted }
+    {
+        if self.counted {
+            return;
+        }
+        write_asking(self.demand.demands(), &mut self.asking);
+        self.counted = true;
+    }
+
+    /// Makes room for what is told of each demand.
+    fn widen(&mut self) -> Result<(), Memory>
+        ensures same { self.new.demand ≡ self.old.demand }
+        ensures counted { self.new.counted ≡ self.old.counted }
+        ensures places { OnOk result (vec_len self.new.answers ≡ length self.new.demand.demands) }
+    {
+        let n = self.demand.demands().len();
+        make_room(&mut self.answers, n)
+    }
+
+    /// Sees to it that the answer for the demand u is known.
+    fn know(&mut self, alloc: Global, u: usize) -> Result<(), Memory>
+        requires place { u < length self.old.demand.demands }
+        requires places { vec_len self.old.answers ≡ length self.old.demand.demands }
+        ensures same { self.new.demand ≡ self.old.demand }
+        ensures counted { self.new.counted ≡ self.old.counted }
+        ensures known { OnOk result (IsKnown self.new.answers.items u) }
+    {
+        let _sound = self.demand.lists();
+        let answers = &mut self.answers;
+        remember(
+            alloc,
+            &mut self.search,
+            &self.shares,
+            &self.rooms,
+            answers,
+            u,
+        )
     }
 
     /// Writes the demands that can lend to u, by the answer that is known.
     fn write_lenders(&self, u: usize, to: &mut Set)
-        requires sound { AreDemands self.now.demand }
         requires place { u < length self.now.demand.demands }
         requires known { IsKnown self.now.answers.items u }
+        requires counted { IsTrue self.now.counted }
         requires room_for_answer { length to.old ≡ length self.now.demand.demands }
         ensures places { length to.new ≡ length to.old }
         ensures reached { (v : ℕ) → v < length to.new → Has to.new v ↔ IsLender self.now.demand.demands self.now.demand.lists self.now.demand.capacities u v }
     {
+        let _sound = self.demand.lists();
         match &self.answers[u] {
-            Some(answer) => write_answer(self.demand.demands(), answer, u, to),
+            Some(answer) => write_answer(&self.asking, answer, u, to),
             None => unreachable!(),
         }
     }
@@ -365,8 +433,9 @@ impl Kept {
         ensures places { length to.new ≡ length to.old }
         ensures reached { OnOk result ((v : ℕ) → v < length to.new → Has to.new v ↔ IsLender self.old.demand.demands self.old.demand.lists self.old.demand.capacities u v) }
     {
-        let n = self.demand.demands().len();
-        remember(alloc, &self.shares, &self.rooms, &mut self.answers, n, u)?;
+        self.count_asking();
+        self.widen()?;
+        self.know(alloc, u)?;
         self.write_lenders(u, to);
         Ok(())
     }

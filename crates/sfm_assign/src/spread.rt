@@ -2,7 +2,8 @@
 // and so on. Each of these can give one up, if the first is to get one more. A search from the demand finds them: each stands in
 // a queue and is handled once. It ends where a slot has room, since the demand can then get one more as it is. Where it comes to
 // a demand of which the answer is known, it takes that answer in and goes no further from there; and where that one leads
-// back, both lead to the same demands.
+// back, both lead to the same demands. The memory of a search serves for the next one, and so does that of sets that are told no
+// more: once there is as much as was wanted before, none is taken.
 ghost use Rattle.std.specs.Prelude.{◌≡◌, ℕ, ◌+◌, ◌<◌, Bool, List, [], ◌∷◌, ◌++◌, true, length, slice_set, pos, ◌≤ℤ◌, IfOk, OnOk, MatchOption};
 ghost use Rattle.sfm_spec.specs.Sets.{Has, empty_set, union};
 ghost use Rattle.sfm_assign.specs.Splits.{amount_at};
@@ -14,6 +15,7 @@ use crate::nodes::Link;
 use crate::splitting::Shares;
 use sfm_base::{Memory, Set};
 use std::alloc::Global;
+use std::mem;
 
 /// What is told of a demand.
 #[derive(Drop)]
@@ -25,42 +27,46 @@ pub(crate) enum Answer {
 }
 
 /// How far a search is: where it began, the demands that were found, the marked slots, the demands that are handled one after
-/// another, and the place of the next of these.
+/// another, and the place of the next of these. The next search uses its memory again, and that of sets that are idle.
 #[derive(Drop)]
-struct Spread {
+pub(crate) struct Spread {
     from: usize,
     found: Set,
     marks: Set,
     queue: Vec<usize>,
     next: usize,
+    idle: Vec<Set>,
 }
 
-/// A search from the demand u of n that begins, with m slots.
-fn begun(alloc: Global, n: usize, m: usize, u: usize) -> Result<Spread, Memory>
-    requires { u < n }
-    ensures from { IfOk result (λ r. r.from ≡ u) }
-    ensures found { IfOk result (λ r. r.found ≡ slice_set (empty_set n) u true) }
-    ensures marks { IfOk result (λ r. r.marks ≡ empty_set m) }
-    ensures queue { IfOk result (λ r. r.queue.items ≡ u ∷ []) }
-    ensures next { IfOk result (λ r. r.next ≡ 0) }
+/// Makes a set the one with nothing of n places, in its own memory where it has as many.
+fn make_empty(alloc: Global, set: &mut Set, n: usize) -> Result<(), Memory>
+    ensures { OnOk result (set.new ≡ empty_set n) }
 {
-    let mut found = Set::empty(alloc, n)?;
-    found.insert(u);
-    let marks = Set::empty(alloc, m)?;
-    let mut queue = Vec::new(alloc);
-    queue.push(u)?;
-    Ok(Spread {
-        from: u,
-        found,
-        marks,
-        queue,
-        next: 0,
-    })
+    if set.len() == n {
+        set.clear();
+        return Ok(());
+    }
+    *set = Set::empty(alloc, n)?;
+    Ok(())
+}
+
+/// The set with nothing of n places, in memory of an idle set if there is one.
+fn empty_of(alloc: Global, idle: &mut Vec<Set>, n: usize) -> Result<Set, Memory>
+    ensures { IfOk result (λ s. s ≡ empty_set n) }
+{
+    match idle.pop() {
+        Some(mut set) => {
+            make_empty(alloc, &mut set, n)?;
+            Ok(set)
+        }
+        None => Set::empty(alloc, n),
+    }
 }
 
 /// What is told of the demand u, by what is known of others.
 pub(crate) fn find_answer(
     alloc: Global,
+    at: &mut Spread,
     shares: &Shares,
     rooms: &[i128],
     answers: &[Option<Answer>],
@@ -70,16 +76,61 @@ pub(crate) fn find_answer(
     requires place { u < length answers.now }
     ensures { IfOk result (IsAnswer (length answers.now) shares.now.cells.whos.items shares.now.cells.slots.items shares.now.y.items rooms.now u) }
 {
-    let mut at = begun(alloc, answers.len(), rooms.len(), u)?;
+    at.begin(alloc, answers.len(), rooms.len(), u)?;
     while at.next < at.queue.len() {
         if let Some(answer) = at.handle(alloc, shares, rooms, answers)? {
             return Ok(answer);
         }
     }
-    Ok(Answer::Full(at.found))
+    let found = at.take_found(alloc)?;
+    Ok(Answer::Full(found))
 }
 
 impl Spread {
+    /// The memory of a search, of which nothing is used yet.
+    pub(crate) fn new(alloc: Global) -> Result<Spread, Memory> {
+        Ok(Spread {
+            from: 0,
+            found: Set::empty(alloc, 0)?,
+            marks: Set::empty(alloc, 0)?,
+            queue: Vec::new(alloc),
+            next: 0,
+            idle: Vec::new(alloc),
+        })
+    }
+
+    /// Keeps the memory of a set that is told no more. It is let go where there is no memory to note it.
+    pub(crate) fn put_aside(&mut self, set: Set) {
+        let _ = self.idle.push(set);
+    }
+
+    /// Begins a search from the demand u of n, with m slots.
+    fn begin(&mut self, alloc: Global, n: usize, m: usize, u: usize) -> Result<(), Memory>
+        requires { u < n }
+        ensures from { OnOk result (self.new.from ≡ u) }
+        ensures found { OnOk result (self.new.found ≡ slice_set (empty_set n) u true) }
+        ensures marks { OnOk result (self.new.marks ≡ empty_set m) }
+        ensures queue { OnOk result (self.new.queue.items ≡ u ∷ []) }
+        ensures next { OnOk result (self.new.next ≡ 0) }
+    {
+        make_empty(alloc, &mut self.found, n)?;
+        self.found.insert(u);
+        make_empty(alloc, &mut self.marks, m)?;
+        self.queue.clear();
+        self.queue.push(u)?;
+        self.from = u;
+        self.next = 0;
+        Ok(())
+    }
+
+    /// Takes out what was found; an idle set, or else a new one, stands in its place.
+    fn take_found(&mut self, alloc: Global) -> Result<Set, Memory>
+        ensures { IfOk result (λ s. s ≡ self.old.found) }
+    {
+        let other = empty_of(alloc, &mut self.idle, self.found.len())?;
+        Ok(mem::replace(&mut self.found, other))
+    }
+
     /// Puts a demand into the queue.
     fn enter(&mut self, f: usize) -> Result<(), Memory>
         requires { f < length self.old.found }
@@ -105,7 +156,8 @@ impl Spread {
         ensures found { IfOk result (λ r. MatchOption r (self.new.found ≡ union self.old.found set.now) (λ a. (self.new.found ≡ self.old.found) × Has set.now self.old.from × (a ≡ Full set.now))) }
     {
         if set.contains(self.from) {
-            let same = set.copy(alloc)?;
+            let mut same = empty_of(alloc, &mut self.idle, set.len())?;
+            same.union_with(set);
             return Ok(Some(Answer::Full(same)));
         }
         self.found.union_with(set);

@@ -1,10 +1,7 @@
-use Rattle.std.proofs.Common.{◌≡◌, false, Bool, List, [], ◌∷◌, length, set, refl, ap, ◌∙◌}
+use Rattle.std.proofs.Common.{◌≡◌, false, set, ap, ◌∙◌}
 use Rattle.sfm_spec.specs.Sets.{empty_set, union}
+use Rattle.sfm_assign.proofs.Spreads.{union-nothing}
 use Rattle.sfm_assign.proofs.kept.write_others.Goals as goal
-
-union-nothing : (s : List Bool) → union (empty_set (length s)) s ≡ s
-union-nothing [] = refl
-union-nothing (b ∷ s) = ap (λ t. b ∷ t) (union-nothing s)
 
 pub remove-requires : goal.remove-requires
 remove-requires c =

@@ -4,7 +4,7 @@ use Rattle.sfm_assign.proofs.spread.find_answer.Goals as goal
 
 pub loop-at-init : goal.loop-at-init
 loop-at-init c =
-    let told = c.in_ok-at.ensures in
+    let told = c.in_ok-begin.ensures in
     record {
       from = told.from;
       spread = rw (told.found, told.marks, told.queue, told.next) (spread_begun (length c.args.answers.now) c.args.shares.now.cells.whos.items c.args.shares.now.cells.slots.items c.args.shares.now.y.items c.args.rooms.now c.args.u c.requires.place);
@@ -33,4 +33,4 @@ returns c =
     let at = c.loop-at.at in
     let ok = at.queue.ok.0 in
     let past : length at.queue.items ≤ at.next = omega arith in
-    spread_done (length c.args.answers.now) c.args.shares.now.cells.whos.items c.args.shares.now.cells.slots.items c.args.shares.now.y.items c.args.rooms.now c.args.u at.found at.marks at.queue.items at.next c.loop-at.invariant.spread past
+    rw c.in_ok-found.ensures (spread_done (length c.args.answers.now) c.args.shares.now.cells.whos.items c.args.shares.now.cells.slots.items c.args.shares.now.y.items c.args.rooms.now c.args.u at.found at.marks at.queue.items at.next c.loop-at.invariant.spread past)

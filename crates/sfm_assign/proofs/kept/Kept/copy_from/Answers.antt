@@ -1,5 +1,6 @@
 use Rattle.std.proofs.Common.{◌≡◌, length, ap, sym, ◌∙◌, arith}
 use Rattle.sfm_assign.specs.Cells.{owners}
+use Rattle.sfm_assign.proofs.Spreads.{answers_forgotten}
 use Rattle.sfm_assign.proofs.kept.Kept.copy_from.Goals as goal
 
 pub copy_from-requires-clause-places : goal.copy_from-requires-clause-places
@@ -32,3 +33,6 @@ copy_from_slice-requires-2 c =
     let e : length s.rooms.items ≡ length o.rooms.items = s.left.places ∙ (c.requires.slots ∙ sym o.left.places) in
     let ok = s.rooms.ok.0 in
     rw c.deref-2.ensures.value (omega (arith, e, ok))
+
+pub invariant_of-self-clause-known : goal.invariant_of-self-clause-known
+invariant_of-self-clause-known c = answers_forgotten _ _ _ _ _ c.forget.new.answers.items c.forget.ensures.none
