@@ -9,7 +9,7 @@ use Rattle.sfm_assign.specs.Cells.{label_at}
 use Rattle.sfm_assign.specs.Search.{node_at, missing, IsFound, IsNode, AreRoots, HasRoots, IsRoot, AreRootsOf, AreQueued, IsProgress, IsFurther, IsEnd, IsSearch}
 use Rattle.sfm_assign.specs.declared.nodes.Link.{Link}
 use Rattle.sfm_assign.specs.declared.nodes.Node.{Node}
-use Rattle.sfm_assign.proofs.Searches.{node_kept, missing-set, search_begun, none_marked, some_apart}
+use Rattle.sfm_assign.proofs.Searches.{node_kept, missing-set, missing_few, search_begun, none_marked, some_apart}
 
 same_some : {a b : Node} → Some a ≡ Some b → b ≡ a
 same_some h = cc
@@ -33,10 +33,17 @@ in_nodes (o ∷ nodes) (suc i) b is = let r = in_nodes nodes i b is in omega (ar
 pub member_in : (nodes : List (Option Node)) (queue : List ℕ) (k : ℕ) → AreQueued nodes queue → k < length queue → label_at queue k < length nodes
 member_in nodes queue k q lt = let (b, is) = q.members k lt in in_nodes nodes (label_at queue k) b is
 
-missing_all : (nodes : List (Option Node)) → ((i : ℕ) → node_at nodes i ≡ None) → missing nodes ≡ length nodes
+pub missing_all : (nodes : List (Option Node)) → ((i : ℕ) → node_at nodes i ≡ None) → missing nodes ≡ length nodes
 missing_all [] none = refl
 missing_all (None ∷ nodes) none = let r = missing_all nodes (λ i. none (suc i)) in omega (arith, r)
 missing_all (Some b ∷ nodes) none = absurd (some_apart (Some b) (none 0) refl)
+
+pub none_missing : (nodes : List (Option Node)) → missing nodes ≡ length nodes → (i : ℕ) → node_at nodes i ≡ None
+none_missing [] all zero = refl
+none_missing [] all (suc i) = refl
+none_missing (None ∷ nodes) all zero = refl
+none_missing (None ∷ nodes) all (suc i) = none_missing nodes (omega (arith, all)) i
+none_missing (Some b ∷ nodes) all i = let few = missing_few nodes in absurd (omega (arith, all, few))
 
 -- where no demand was found, the queue is empty
 pub queued_empty : (nodes : List (Option Node)) → ((i : ℕ) → node_at nodes i ≡ None) → AreQueued nodes []

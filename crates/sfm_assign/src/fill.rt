@@ -7,7 +7,7 @@ ghost use Rattle.std.specs.List.{All};
 ghost use Rattle.sfm_spec.specs.Bounds.{total_of};
 ghost use Rattle.sfm_assign.specs.Splits.{IsCapacity};
 ghost use Rattle.sfm_assign.specs.Cells.{AreCells, IsPart};
-ghost use Rattle.sfm_assign.specs.Search.{AreLeft, AreBranches, IsOpen, IsSearch, GetsMore, IsFilled};
+ghost use Rattle.sfm_assign.specs.Search.{AreLeft, AreQueued, AreBranches, IsOpen, IsSearch, GetsMore, IsFilled};
 ghost use Rattle.sfm_assign.specs.Pours.{AreWithin, AreRaised};
 
 use crate::augment::{augment, flow_along, take};
@@ -16,6 +16,7 @@ use crate::left::{Lefts, lefts_of};
 use crate::nodes::{found_set, is_found};
 use crate::pour::pour;
 use crate::search::Search;
+use crate::work::Rest;
 use sfm_base::{Memory, Set};
 use std::alloc::Global;
 
@@ -69,18 +70,21 @@ fn drain(cells: &Cells, search: &Search, s: usize, left: &mut Lefts, y: &mut [i1
     }
 }
 
-/// Raises amounts until no demand that lacks something can get more, and keeps what is left with them; tells the last search.
+/// Raises amounts until no demand that lacks something can get more, and keeps what is left with them; tells the last search,
+/// whose memory is taken out and can be kept for the next filling.
 pub(crate) fn fill_from(
     alloc: Global,
     cells: &Cells,
+    rest: &mut Rest,
     left: &mut Lefts,
     y: &mut [i128],
 ) -> Result<Search, Memory>
     requires within { AreWithin cells.now.whos.items cells.now.slots.items y.old left.old.lacks.items left.old.rooms.items }
     ensures raised { AreRaised cells.now.whos.items cells.now.slots.items y.old left.old.lacks.items left.old.rooms.items y.new left.new.lacks.items left.new.rooms.items }
+    ensures queued { IfOk result (λ r. AreQueued r.nodes.items r.queue.items) }
     ensures stuck { IfOk result (λ r. IsSearch cells.now.whos.items cells.now.slots.items y.new left.new.lacks.items left.new.rooms.items r.nodes.items None) }
 {
-    let mut search = Search::new(alloc, left.lacks.len(), left.rooms.len())?;
+    let mut search = rest.ready(alloc, left.lacks.len(), left.rooms.len())?;
     while let Some(last) = search.run(cells, y, &left.lacks, &left.rooms)? {
         raise(cells, &search, last, left, y);
         drain(cells, &search, cells.slots[last], left, y);
@@ -107,7 +111,8 @@ pub(crate) fn fill(
 {
     let mut left = lefts_of(alloc, cells, demands, capacities, y)?;
     pour(cells, &mut left, y);
-    let search = fill_from(alloc, cells, &mut left, y)?;
+    let mut rest = Rest::new(alloc);
+    let search = fill_from(alloc, cells, &mut rest, &mut left, y)?;
     let set = found_set(alloc, &search.nodes)?;
     Ok(Filled { set, left })
 }

@@ -1,8 +1,9 @@
 // A split that is kept, for all that is asked of it later. Who can lend to a demand is told by one search from it over the amounts
 // that are kept. Where it finds a slot with room, the demand can get one more as it is. Else what it finds are exactly those
 // that can give up one. What was told of a demand is remembered until the split changes, and later searches go no further where
-// they come to it. The amounts for other demands are found beside those that are kept and then put in their place, so that
-// want of memory leaves all as it was.
+// they come to it. The amounts for other demands are found beside those that stand and then put in their place, so that want
+// of memory leaves these as they were. All this is done in memory that is kept with the split and used again, so that none is
+// taken once there is enough.
 ghost use Rattle.std.specs.Prelude.{◌≡◌, ◌↔◌, ℕ, ◌<◌, ◌≤◌, Bool, List, false, length, vec_len, slice_set, pos, ◌+ℤ◌, ◌≤ℤ◌, ◌<ℤ◌, IsTrue, IfOk, OnOk, OnErr, MatchResult};
 ghost use Rattle.std.specs.List.{All};
 ghost use Rattle.sfm_spec.specs.Sets.{Has};
@@ -21,8 +22,10 @@ use crate::left::{Lefts, left_of};
 use crate::lower::shift;
 use crate::splitting::{AssignEnd, Shares, met_shares, settle};
 use crate::spread::{Answer, Spread, find_answer};
+use crate::work::{Work, copy_list, write_zeros};
 use sfm_base::{Memory, Set};
 use std::alloc::Global;
+use std::mem;
 
 /// Demands with a split that meets them, which is kept by the amount on each cell.
 #[derive(Drop)]
@@ -35,6 +38,8 @@ pub struct Kept {
     answers: Vec<Option<Answer>>,
     /// The memory of the searches that tell it.
     search: Spread,
+    /// The memory in which the split is changed.
+    work: Work,
     /// The demands that ask for something, where these are counted.
     asking: Set,
     counted: bool,
@@ -44,21 +49,6 @@ pub struct Kept {
     ghost each: { length asking ≡ length demand.demands },
     ghost asked: { IsTrue counted → AreAsking demand.demands asking },
     ghost known: { AreAnswers (length demand.demands) shares.cells.whos.items shares.cells.slots.items shares.y.items rooms.items answers.items },
-}
-
-/// Amounts by which demands are met, and what each slot then has left.
-#[derive(Drop)]
-struct Amounts {
-    y: Vec<i128>,
-    rooms: Vec<i128>,
-}
-
-/// Amounts by which demands are met of which one has been raised, what each slot then has left, and by how much it was raised.
-#[derive(Drop)]
-struct Grown {
-    y: Vec<i128>,
-    rooms: Vec<i128>,
-    more: i128,
 }
 
 /// Whether a demand asks for something.
@@ -178,6 +168,7 @@ impl Kept {
             rooms,
             answers: Vec::new(alloc),
             search: Spread::new(alloc)?,
+            work: Work::new(alloc),
             asking,
             counted: false,
         })
@@ -197,6 +188,7 @@ impl Kept {
             rooms: Vec::from_slice(alloc, &self.rooms)?,
             answers: Vec::new(alloc),
             search: Spread::new(alloc)?,
+            work: Work::new(alloc),
             asking: Set::empty(alloc, self.asking.len())?,
             counted: false,
         })
@@ -218,67 +210,55 @@ impl Kept {
         self.counted = false;
     }
 
-    /// What the split leaves of other demands and capacities over the same lists: below nothing where it is too much.
-    fn left_with(
-        &self,
-        alloc: Global,
-        demands: &[i128],
-        capacities: &[i128],
-    ) -> Result<Lefts, Memory>
+    /// Writes what the split leaves of other demands and capacities over the same lists: below nothing where it is too much.
+    fn charge(&self, left: &mut Lefts, demands: &[i128], capacities: &[i128]) -> Result<(), Memory>
         requires sized { length demands.now ≡ length self.now.demand.demands }
         requires slots { length capacities.now ≡ length self.now.demand.capacities }
         requires amounts { All IsAmount demands.now }
         requires bounded { All IsCapacity capacities.now }
-        ensures charge { IfOk result (λ r. IsCharge demands.now capacities.now self.now.shares.cells.whos.items self.now.shares.cells.slots.items self.now.shares.y.items r.lacks.items r.rooms.items) }
-        ensures lacks { IfOk result (λ r. AreSmall r.lacks.items) }
-        ensures rooms { IfOk result (λ r. AreSmall r.rooms.items) }
+        ensures charge { OnOk result (IsCharge demands.now capacities.now self.now.shares.cells.whos.items self.now.shares.cells.slots.items self.now.shares.y.items left.new.lacks.items left.new.rooms.items) }
+        ensures lacks { OnOk result (AreSmall left.new.lacks.items) }
+        ensures rooms { OnOk result (AreSmall left.new.rooms.items) }
     {
         let before = self.demand.demands();
-        let mut lacks = vec![in alloc; 0; before.len()]?;
-        shift(&mut lacks, demands, before);
-        let mut rooms = Vec::from_slice(alloc, &self.rooms)?;
-        shift(&mut rooms, capacities, self.demand.capacities());
-        Ok(Lefts { lacks, rooms })
+        write_zeros(&mut left.lacks, before)?;
+        shift(&mut left.lacks, demands, before);
+        copy_list(&mut left.rooms, &self.rooms)?;
+        shift(&mut left.rooms, capacities, self.demand.capacities());
+        Ok(())
     }
 
-    /// A copy of the amounts.
-    fn amounts(&self, alloc: Global) -> Result<Vec<i128>, Memory>
-        ensures { IfOk result (λ y. y.items ≡ self.now.shares.y.items) }
-    {
-        let y = Vec::from_slice(alloc, &self.shares.y)?;
-        Ok(y)
-    }
-
-    /// Amounts by which other demands are met, over the same lists and with other capacities, and what slots then have left.
-    fn amounts_with(
+    /// Finds amounts by which other demands are met, over the same lists and with other capacities, and what slots then have left.
+    fn find_amounts(
         &self,
         alloc: Global,
+        work: &mut Work,
         demands: &[i128],
         capacities: &[i128],
-    ) -> Result<Amounts, AssignEnd>
+    ) -> Result<(), AssignEnd>
         requires sized { length demands.now ≡ length self.now.demand.demands }
         requires slots { length capacities.now ≡ length self.now.demand.capacities }
         requires sound { AreDemands (record { demands = demands.now; lists = self.now.demand.lists; capacities = capacities.now }) }
-        ensures met { MatchResult result (λ r. AreMet (record { demands = demands.now; lists = self.now.demand.lists; capacities = capacities.now }) self.now.shares.cells.whos.items self.now.shares.cells.slots.items r.y.items) (IsAssignEnd demands.now self.now.demand.lists capacities.now) }
-        ensures rooms { IfOk result (λ r. AreLeft capacities.now self.now.shares.cells.slots.items r.y.items r.rooms.items) }
+        ensures met { MatchResult result (λ _. AreMet (record { demands = demands.now; lists = self.now.demand.lists; capacities = capacities.now }) self.now.shares.cells.whos.items self.now.shares.cells.slots.items work.new.y.items) (IsAssignEnd demands.now self.now.demand.lists capacities.now) }
+        ensures rooms { OnOk result (AreLeft capacities.now self.now.shares.cells.slots.items work.new.y.items work.new.left.rooms.items) }
     {
-        let mut left = self.left_with(alloc, demands, capacities)?;
-        let mut y = self.amounts(alloc)?;
-        if let Some(set) = settle(alloc, &self.shares.cells, &mut left, &mut y)? {
+        self.charge(&mut work.left, demands, capacities)?;
+        copy_list(&mut work.y, &self.shares.y)?;
+        let cells = &self.shares.cells;
+        let told = settle(alloc, cells, &mut work.rest, &mut work.left, &mut work.y)?;
+        if let Some(set) = told {
             return Err(AssignEnd::Shortage { set });
         }
-        Ok(Amounts {
-            y,
-            rooms: left.rooms,
-        })
+        Ok(())
     }
 
     /// Puts other demands and capacities in place of these, over the same lists, and splits them, from the split as it stands:
-    /// what is too much is lowered, and what is lacking is raised.
+    /// what is too much is lowered, and what is lacking is raised. It takes no memory once it has had what it wants.
     ///
     /// # Errors
     ///
-    /// `Shortage` where there is no such split, `Memory` where there is none; all is then as it was.
+    /// `Shortage` where there is no such split, `Memory` where there is none; demands, capacities and the split are then as they
+    /// were.
     pub fn bring(
         &mut self,
         alloc: Global,
@@ -290,73 +270,82 @@ impl Kept {
         requires amounts { All IsAmount demands.now }
         requires bounded { All IsCapacity capacities.now }
         ensures brought { MatchResult result (λ _. self.new.demand ≡ record { demands = demands.now; lists = self.old.demand.lists; capacities = capacities.now }) (IsAssignEnd demands.now self.old.demand.lists capacities.now) }
-        ensures unchanged { OnErr result (self.new ≡ self.old) }
+        ensures unchanged { OnErr result (self.new.demand ≡ self.old.demand) }
     {
         let _sound = self.demand.lists();
-        let Amounts { y, rooms } = self.amounts_with(alloc, demands, capacities)?;
+        let mut work = mem::replace(&mut self.work, Work::new(alloc));
+        let found = self.find_amounts(alloc, &mut work, demands, capacities);
+        self.work = work;
+        found?;
         self.demand.copy_from(demands, capacities);
-        self.shares.y = y;
-        self.rooms = rooms;
+        mem::swap(&mut self.shares.y, &mut self.work.y);
+        mem::swap(&mut self.rooms, &mut self.work.left.rooms);
         forget(&mut self.answers, &mut self.search);
         self.counted = false;
         Ok(())
     }
 
-    /// What is left where the demand u asks for more: this is all that it lacks, and the others lack nothing.
-    fn lacking(&self, alloc: Global, u: usize, limit: i128) -> Result<Lefts, Memory>
+    /// Writes what is left where the demand u asks for more: this is all that it lacks, and the others lack nothing.
+    fn lacking(&self, left: &mut Lefts, u: usize, limit: i128) -> Result<(), Memory>
         requires place { u < length self.now.demand.demands }
         requires low { pos 0 ≤ℤ limit }
-        ensures lacks { IfOk result (λ r. AreLeft (with_more self.now.demand u limit).demands self.now.shares.cells.whos.items self.now.shares.y.items r.lacks.items) }
-        ensures rooms { IfOk result (λ r. r.rooms.items ≡ self.now.rooms.items) }
+        ensures lacks { OnOk result (AreLeft (with_more self.now.demand u limit).demands self.now.shares.cells.whos.items self.now.shares.y.items left.new.lacks.items) }
+        ensures rooms { OnOk result (left.new.rooms.items ≡ self.now.rooms.items) }
     {
-        let mut lacks = vec![in alloc; 0; self.demand.demands().len()]?;
-        lacks[u] = limit;
-        Ok(Lefts {
-            lacks,
-            rooms: Vec::from_slice(alloc, &self.rooms)?,
-        })
+        write_zeros(&mut left.lacks, self.demand.demands())?;
+        left.lacks[u] = limit;
+        copy_list(&mut left.rooms, &self.rooms)?;
+        Ok(())
     }
 
-    /// Amounts by which all demands are met, and the demand u gets as much more as it can, up to a limit.
-    fn grown(&self, alloc: Global, u: usize, limit: i128) -> Result<Grown, Memory>
+    /// Finds amounts by which all demands are met, and the demand u gets as much more as it can, up to a limit; tells how much.
+    fn find_grown(
+        &self,
+        alloc: Global,
+        work: &mut Work,
+        u: usize,
+        limit: i128,
+    ) -> Result<i128, Memory>
         requires sound { AreDemands self.now.demand }
         requires place { u < length self.now.demand.demands }
         requires low { pos 0 ≤ℤ limit }
         requires small { IsAmount (amount_at self.now.demand.demands u +ℤ limit) }
-        ensures met { IfOk result (λ r. AreMet (with_more self.now.demand u r.more) self.now.shares.cells.whos.items self.now.shares.cells.slots.items r.y.items) }
-        ensures left { IfOk result (λ r. AreLeft self.now.demand.capacities self.now.shares.cells.slots.items r.y.items r.rooms.items) }
-        ensures amount { IfOk result (λ r. IsAmount (amount_at self.now.demand.demands u +ℤ r.more)) }
-        ensures most { IfOk result (λ r. IsMostUpto self.now.demand u limit r.more) }
+        ensures met { IfOk result (λ more. AreMet (with_more self.now.demand u more) self.now.shares.cells.whos.items self.now.shares.cells.slots.items work.new.y.items) }
+        ensures left { OnOk result (AreLeft self.now.demand.capacities self.now.shares.cells.slots.items work.new.y.items work.new.left.rooms.items) }
+        ensures amount { IfOk result (λ more. IsAmount (amount_at self.now.demand.demands u +ℤ more)) }
+        ensures most { IfOk result (λ more. IsMostUpto self.now.demand u limit more) }
     {
-        let mut left = self.lacking(alloc, u, limit)?;
-        let mut y = Vec::from_slice(alloc, &self.shares.y)?;
-        fill_from(alloc, &self.shares.cells, &mut left, &mut y)?;
-        let more = limit - left.lacks[u];
-        Ok(Grown {
-            y,
-            rooms: left.rooms,
-            more,
-        })
+        self.lacking(&mut work.left, u, limit)?;
+        copy_list(&mut work.y, &self.shares.y)?;
+        let cells = &self.shares.cells;
+        let search = fill_from(alloc, cells, &mut work.rest, &mut work.left, &mut work.y)?;
+        work.rest.keep(search);
+        let more = limit - work.left.lacks[u];
+        Ok(more)
     }
 
-    /// Raises the demand u by as much as can be met with all others, up to a limit, and tells by how much.
+    /// Raises the demand u by as much as can be met with all others, up to a limit, and tells by how much. It takes no memory
+    /// once it has had what it wants.
     ///
     /// # Errors
     ///
-    /// `Memory` where there is none; all is then as it was.
+    /// `Memory` where there is none; demands, capacities and the split are then as they were.
     pub fn grow(&mut self, alloc: Global, u: usize, limit: i128) -> Result<i128, Memory>
         requires place { u < length self.old.demand.demands }
         requires low { pos 0 ≤ℤ limit }
         requires small { IsAmount (amount_at self.old.demand.demands u +ℤ limit) }
         ensures grown { IfOk result (λ g. self.new.demand ≡ with_more self.old.demand u g) }
         ensures most { IfOk result (IsMostUpto self.old.demand u limit) }
-        ensures unchanged { OnErr result (self.new ≡ self.old) }
+        ensures unchanged { OnErr result (self.new.demand ≡ self.old.demand) }
     {
         let _sound = self.demand.lists();
-        let Grown { y, rooms, more } = self.grown(alloc, u, limit)?;
+        let mut work = mem::replace(&mut self.work, Work::new(alloc));
+        let found = self.find_grown(alloc, &mut work, u, limit);
+        self.work = work;
+        let more = found?;
         self.demand.raise(u, more);
-        self.shares.y = y;
-        self.rooms = rooms;
+        mem::swap(&mut self.shares.y, &mut self.work.y);
+        mem::swap(&mut self.rooms, &mut self.work.left.rooms);
         forget(&mut self.answers, &mut self.search);
         self.counted = false;
         Ok(more)

@@ -17,6 +17,7 @@ mod search;
 mod split;
 mod splitting;
 mod spread;
+mod work;
 
 pub use demand::Demand;
 pub use greatest::most;

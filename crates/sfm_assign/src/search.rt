@@ -36,8 +36,20 @@ impl Search {
         })
     }
 
+    /// No memory, for searches among nothing.
+    pub(crate) fn none(alloc: Global) -> Search
+        ensures nodes { result.nodes.items ≡ [] }
+        ensures queue { result.queue.items ≡ [] }
+    {
+        Search {
+            nodes: Vec::new(alloc),
+            marks: Vec::new(alloc),
+            queue: Vec::new(alloc),
+        }
+    }
+
     /// Forgets the demands that were found.
-    fn clear(&mut self)
+    pub(crate) fn clear(&mut self)
         requires queued { AreQueued self.old.nodes.items self.old.queue.items }
         ensures places { length self.new.nodes.items ≡ length self.old.nodes.items }
         ensures none { (i : ℕ) → node_at self.new.nodes.items i ≡ None }

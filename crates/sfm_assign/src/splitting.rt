@@ -15,6 +15,7 @@ use crate::lower::lower_all;
 use crate::nodes::found_set;
 use crate::pour::pour;
 use crate::split::Split;
+use crate::work::Rest;
 use sfm_base::{Memory, Set};
 use std::alloc::Global;
 
@@ -63,6 +64,7 @@ impl Shares {
 fn search_all(
     alloc: Global,
     cells: &Cells,
+    rest: &mut Rest,
     left: &mut Lefts,
     y: &mut [i128],
 ) -> Result<Option<Set>, Memory>
@@ -70,11 +72,13 @@ fn search_all(
     ensures raised { IfOk result (λ _. AreRaised cells.now.whos.items cells.now.slots.items y.old left.old.lacks.items left.old.rooms.items y.new left.new.lacks.items left.new.rooms.items) }
     ensures told { IfOk result (IsToldOf cells.now.whos.items cells.now.slots.items y.new left.new.lacks.items left.new.rooms.items) }
 {
-    let search = fill_from(alloc, cells, left, y)?;
+    let search = fill_from(alloc, cells, rest, left, y)?;
     if first_lacking(&left.lacks).is_some() {
         let set = found_set(alloc, &search.nodes)?;
+        rest.keep(search);
         return Ok(Some(set));
     }
+    rest.keep(search);
     Ok(None)
 }
 
@@ -83,6 +87,7 @@ fn search_all(
 fn raise_all(
     alloc: Global,
     cells: &Cells,
+    rest: &mut Rest,
     left: &mut Lefts,
     y: &mut [i128],
 ) -> Result<Option<Set>, Memory>
@@ -91,7 +96,7 @@ fn raise_all(
     ensures told { IfOk result (IsToldOf cells.now.whos.items cells.now.slots.items y.new left.new.lacks.items left.new.rooms.items) }
 {
     pour(cells, left, y);
-    let set = search_all(alloc, cells, left, y)?;
+    let set = search_all(alloc, cells, rest, left, y)?;
     Ok(set)
 }
 
@@ -100,6 +105,7 @@ fn raise_all(
 pub(crate) fn settle(
     alloc: Global,
     cells: &Cells,
+    rest: &mut Rest,
     left: &mut Lefts,
     y: &mut [i128],
 ) -> Result<Option<Set>, Memory>
@@ -107,7 +113,7 @@ pub(crate) fn settle(
     ensures { IfOk result (AreSettled cells.now.whos.items cells.now.slots.items y.old left.old.lacks.items left.old.rooms.items y.new left.new.rooms.items) }
 {
     lower_all(cells, &mut left.lacks, &mut left.rooms, y);
-    let set = search_all(alloc, cells, left, y)?;
+    let set = search_all(alloc, cells, rest, left, y)?;
     Ok(set)
 }
 
@@ -122,7 +128,8 @@ pub(crate) fn raised(alloc: Global, demand: &Demand, shares: Shares) -> Result<S
     let Shares { cells, mut y } = shares;
     let demands = demand.demands();
     let mut left = lefts_of(alloc, &cells, demands, demand.capacities(), &y)?;
-    if let Some(set) = raise_all(alloc, &cells, &mut left, &mut y)? {
+    let mut rest = Rest::new(alloc);
+    if let Some(set) = raise_all(alloc, &cells, &mut rest, &mut left, &mut y)? {
         return Err(AssignEnd::Shortage { set });
     }
     Ok(Shares { cells, y })

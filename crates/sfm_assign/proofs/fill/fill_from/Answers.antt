@@ -74,3 +74,6 @@ loop-search-preserved c =
 
 pub returns-clause-stuck : goal.returns-clause-stuck
 returns-clause-stuck c = rw (c.in_default.is, c.deref.ensures.value, c.deref-in-loop-search.ensures.value) at c.in_ok-last.ensures.search
+
+pub returns-clause-queued : goal.returns-clause-queued
+returns-clause-queued c = c.in_ok-last.ensures.queued
