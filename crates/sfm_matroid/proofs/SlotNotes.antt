@@ -1,11 +1,11 @@
 -- The splits over slots that are kept beside a base.
-use Rattle.std.proofs.Common.{◌≡◌, ℕ, ◌<◌, List, length, get_or, set, replicate, ℤ, pos, ◌+ℤ◌, None, Result, Ok, Err, OnOk, ap, ◌∙◌, length-set}
+use Rattle.std.proofs.Common.{◌≡◌, ℕ, ◌<◌, List, length, get_or, set, replicate, ℤ, pos, ◌+ℤ◌, Result, Ok, Err, OnOk, ap, ◌∙◌, length-set}
 use Rattle.std.specs.List.{All}
 use Rattle.std.proofs.lemmas.List.{length-replicate}
 use Rattle.sfm_assign.specs.Lenders.{with_more}
 use Rattle.sfm_assign.specs.declared.kept.Kept.{Kept}
 use Rattle.sfm_matroid.specs.declared.splits.SlotSplit.{SlotSplit}
-use Rattle.sfm_matroid.specs.Notes.{slot_demands, IsOver, IsSlotSplit}
+use Rattle.sfm_matroid.specs.Notes.{slot_demands, IsOver, IsSpare, IsSlotSplit}
 
 module _ (entries : List (List ℕ)) (m : ℕ) (c : ℤ) where
   -- where each slot holds c, whatever the demands are
@@ -23,7 +23,7 @@ module _ (entries : List (List ℕ)) (m : ℕ) (c : ℤ) where
       over_slots (set (set x v (pos 0)) u r) kept (length-set (set x v (pos 0)) u r ∙ (length-set x v (pos 0) ∙ sized)) is
 
   -- brought to other entries, where there was memory for it
-  pub slots_moved : All (All (λ v. v < m)) entries → (y : List ℤ) (note : SlotSplit) {E : Type 0} (result : Result (Unit {0}) E) → note.capacities.items ≡ replicate m c → note.spare ≡ None
+  pub slots_moved : All (All (λ v. v < m)) entries → (y : List ℤ) (note : SlotSplit) {E : Type 0} (result : Result (Unit {0}) E) → note.capacities.items ≡ replicate m c → IsSpare entries m note.spare
       → OnOk result (note.kept.demand ≡ slot_demands entries m c y) → OnOk result (IsSlotSplit entries c y note)
-  slots_moved below y note (Ok done) holds spent is = record { m = m; below = below; holds = holds; split = is; spare = rw spent tt }
-  slots_moved below y note (Err end) holds spent is = tt
+  slots_moved below y note (Ok done) holds spare is = record { m = m; below = below; holds = holds; split = is; spare = spare }
+  slots_moved below y note (Err end) holds spare is = tt

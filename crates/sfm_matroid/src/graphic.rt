@@ -26,7 +26,7 @@ use crate::graph::{Graph, numbered};
 use crate::growing::{grow, whole};
 use crate::order::by_tails;
 use crate::room::{beside, moved, raise, without};
-use crate::rooted::{RootSplit, Spare, root_split, take_kept};
+use crate::rooted::{RootSplit, Spare, root_split, swap_spare, take_kept};
 use crate::testing::{brought, passes_tails};
 use sfm_assign::Kept;
 use sfm_base::{Memory, Places, Set};
@@ -474,18 +474,19 @@ impl Graphic {
         Ok(Room::Upto(most))
     }
 
-    /// Takes the spare split in place of the one that is kept, if its root is an end of u.
+    /// Takes the spare split in place of the one that is kept, if its root is an end of u. The other one is the spare then.
     fn take_spare(&self, note: &mut RootSplit, u: usize)
         requires place { u < length self.now.places }
         requires kept { IsOverEnds (numbered self.now.ends) (vertex_count self.now.ends) note.old.kept.demand }
         requires spare { (s : Spare) → note.old.spare ≡ Some s → IsOverEnds (numbered self.now.ends) (vertex_count self.now.ends) s.kept.demand }
         ensures kept { IsOverEnds (numbered self.now.ends) (vertex_count self.now.ends) note.new.kept.demand }
-        ensures spare { note.new.spare ≡ None }
+        ensures spare { (s : Spare) → note.new.spare ≡ Some s → IsOverEnds (numbered self.now.ends) (vertex_count self.now.ends) s.kept.demand }
     {
         if let Some(spare) = note.spare.take() {
             if self.end_near(spare.root, u) == spare.root {
-                note.root = spare.root;
-                note.kept = spare.kept;
+                swap_spare(note, spare);
+            } else {
+                note.spare = Some(spare);
             }
         }
     }

@@ -1,7 +1,7 @@
 // The split that is kept beside a base of a graphic term: one, in the test of one vertex, its root. At a base there is a split
 // for each root, so a split can be brought to another root from where it stands. What an edge may get is told with the root at
 // an end of it; and so it is of an edge that has room to another one, with the root at an end of that. A room leaves a second
-// split, from which an exchange goes on, and which the next room uses again.
+// split, from which an exchange goes on; the one that it leaves is used by the next room.
 ghost use Rattle.std.specs.Prelude.{◌≡◌, ◌≤◌, ◌^◌, length, pos, ◌≤ℤ◌, IfOk, Some};
 ghost use Rattle.std.specs.List.{All};
 ghost use Rattle.sfm_assign.specs.Splits.{IsAmount, CanBeMet};
@@ -16,6 +16,7 @@ use crate::testing::split;
 use sfm_assign::Kept;
 use sfm_base::Memory;
 use std::alloc::Global;
+use std::mem;
 
 /// A split over the ends, in the test of a vertex.
 #[derive(Drop)]
@@ -68,4 +69,15 @@ pub(crate) fn take_kept(note: &mut RootSplit) -> Option<Kept>
         Some(spare) => Some(spare.kept),
         None => None,
     }
+}
+
+/// Keeps a split in place of the one that is kept, which is the spare one then.
+pub(crate) fn swap_spare(note: &mut RootSplit, spare: Spare)
+    ensures root { note.new.root ≡ spare.root }
+    ensures kept { note.new.kept ≡ spare.kept }
+    ensures spare { note.new.spare ≡ Some (record { root = note.old.root; kept = note.old.kept }) }
+{
+    let kept = mem::replace(&mut note.kept, spare.kept);
+    let root = mem::replace(&mut note.root, spare.root);
+    note.spare = Some(Spare { root, kept });
 }

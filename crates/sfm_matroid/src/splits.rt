@@ -1,6 +1,6 @@
 // The split that is kept beside a base of a transversal term, for all searches at it. A base passes the test, so there is a split.
 // A room leaves a second split near the exchange that may come, and an exchange brings that one up, or else the one that is kept;
-// the next room uses the second one again.
+// the other one is the spare then, and the next room uses its memory.
 ghost use Rattle.std.specs.Prelude.{◌≡◌, ◌<◌, ◌≤◌, ◌^◌, length, replicate, slice_index_or, pos, ◌+ℤ◌, ◌≤ℤ◌, ℕ, IfOk, OnOk, List, Some, None};
 ghost use Rattle.std.specs.List.{All};
 ghost use Rattle.sfm_assign.specs.Splits.{amount_at, IsAmount, IsCapacity, CanBeMet};
@@ -12,6 +12,7 @@ use crate::matching::slot_demand;
 use sfm_assign::{AssignEnd, Demand, Kept};
 use sfm_base::Memory;
 use std::alloc::Global;
+use std::mem;
 
 /// The split over slots.
 #[derive(Drop)]
@@ -64,14 +65,15 @@ pub(crate) fn slot_split(
     })
 }
 
-/// Keeps the spare split, if there is one, in place of the one that is kept.
+/// Keeps the spare split, if there is one, in place of the one that is kept, which is the spare one then.
 pub(crate) fn keep_spare(note: &mut SlotSplit)
     ensures over { (entries : List (List ℕ)) (m : ℕ) → IsOver entries m note.old.kept → IsSpare entries m note.old.spare → IsOver entries m note.new.kept }
     ensures capacities { note.new.capacities ≡ note.old.capacities }
-    ensures spent { note.new.spare ≡ None }
+    ensures spare { (entries : List (List ℕ)) (m : ℕ) → IsOver entries m note.old.kept → IsSpare entries m note.old.spare → IsSpare entries m note.new.spare }
 {
     if let Some(spare) = note.spare.take() {
-        note.kept = spare;
+        let other = mem::replace(&mut note.kept, spare);
+        note.spare = Some(other);
     }
 }
 

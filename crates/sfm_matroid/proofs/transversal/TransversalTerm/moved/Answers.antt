@@ -151,4 +151,4 @@ returns c =
     let over = c.keep_spare.ensures.over s.entries n.m (over_slots s.entries n.m (q *ℤ s.w) x c.args.note.now.kept (r.entries ∙ sym s.same_count) n.split) n.spare in
     let brought = rw (c.deref.ensures.value, is, over.lists, c.deref-2.ensures.value, c.keep_spare.ensures.capacities, n.holds) at c.bring_split.ensures in
     let note : SlotSplit = record { kept = c.bring_split.new.kept; capacities = c.keep_spare.new.note.capacities; spare = c.keep_spare.new.note.spare } in
-    slots_moved s.entries n.m (q *ℤ s.w) n.below y note c.bring_split.result (ap (λ v. v.items) c.keep_spare.ensures.capacities ∙ n.holds) c.keep_spare.ensures.spent brought
+    slots_moved s.entries n.m (q *ℤ s.w) n.below y note c.bring_split.result (ap (λ v. v.items) c.keep_spare.ensures.capacities ∙ n.holds) (c.keep_spare.ensures.spare s.entries n.m (over_slots s.entries n.m (q *ℤ s.w) x c.args.note.now.kept (r.entries ∙ sym s.same_count) n.split) n.spare) brought
