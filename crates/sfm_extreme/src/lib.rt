@@ -11,5 +11,6 @@ mod joining;
 mod pulling;
 mod reading;
 
+pub use deficit::deficit_of;
 pub use extremes::{Certified, Proved, certify};
 pub use grouping::{Block, blocks};
