@@ -11,14 +11,17 @@ use Rattle.sfm_spec.specs.Families.{AreBases, meanings}
 use Rattle.sfm_spec.specs.Blocks.{Block}
 use Rattle.sfm_spec.specs.Walks.{term_at, base_at}
 use Rattle.sfm_kind.specs.declared.kind.Kind.{Kind}
+use Rattle.sfm_kind.specs.Instance.{InstanceData}
 use Rattle.sfm_kind.specs.Limits.{AreInBounds}
 use Rattle.sfm_kind.specs.Kinds.{kind_places, kind_size, kind_value, kind-bounded, kind-submodular}
 use Rattle.sfm_law.proofs.Lists.{below-total}
 use Rattle.sfm_cert.specs.Answer.{Answer, Break, Form, answer_lines, head_lines, section_lines}
 use Rattle.sfm_cert.specs.LineLists.{block_lines, break_lines, slope_lines}
 use Rattle.sfm_cert.specs.Form.{AreFormedRows, IsFormed}
+use Rattle.sfm_cert.specs.Solved.{form_of}
 use Rattle.sfm_check.specs.Truth.{Section, no_section, section_at, section_of, sections_of}
-use Rattle.sfm_check.specs.Findings.{IsSection}
+use Rattle.sfm_check.specs.Verdict.{AllAreBases}
+use Rattle.sfm_check.specs.Findings.{AllRowsAreBases, IsSection}
 
 pub record IsFormedSection (widths : List ℕ) (section : Section) : Type 0 where
   pub entry : IsEntry section.num
@@ -103,6 +106,10 @@ section_bases q (t ∷ ts) (x ∷ rows) f bases =
     (row_width (t ∷ ts) (x ∷ rows) 0 t f (omega arith) refl, bases 0 (omega arith), section_bases q ts rows (rest_rows t ts x rows f) (λ i l. bases (suc i) (omega arith))) where
       rest_rows : (t : Kind) (ts : List Kind) (x : List ℤ) (rows : List (List ℤ)) → AreFormedRows (map (λ term. length (kind_places term)) (t ∷ ts)) (x ∷ rows) → AreFormedRows (map (λ term. length (kind_places term)) ts) rows
       rest_rows t ts x rows g = record { widths_are = ap tail g.widths_are; small = All-tail (λ y. All IsEntry y) x rows g.small }
+
+-- where each row is a base, so are those of each section
+pub all_bases : (instance : InstanceData) (a : Answer) → IsFormed (form_of instance) a → AllRowsAreBases (meanings kind_places kind_value instance.terms) a → AllAreBases (meanings kind_places kind_value instance.terms) a
+all_bases instance a formed rows s l = section_bases (section_at a s).den instance.terms (section_at a s).bases (formed_section (form_of instance) a s formed l).rows (λ i k. rows s i l k)
 
 -- a section with these parts
 pub same_section : (x : Section) (num den : ℤ) (rows : List (List ℤ)) → IsSection x num den rows → x ≡ record { num = num; den = den; bases = rows }

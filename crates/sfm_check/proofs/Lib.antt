@@ -8,5 +8,9 @@ pub mod OneToOne
 pub mod WrongLines
 pub mod Small
 pub mod AllSlopes
+pub mod Heads
+pub mod Sums
+pub mod ByValues
+pub mod KeptSlopes
 pub mod Short
 pub mod Telling

@@ -1,5 +1,5 @@
 -- A right file for the terms of an instance is no longer than the limit, so none is refused for its length.
-use Rattle.std.proofs.Common.{◌≡◌, ℕ, ◌≤◌, List, [], ◌∷◌, length, map, sum, pos, refl, sym, ap, arith, subst}
+use Rattle.std.proofs.Common.{ℕ, ◌≤◌, List, length, map, pos, sym, arith, subst}
 use Rattle.std.proofs.lemmas.List.{length-map}
 use Rattle.sfm_spec.specs.Sets.{empty_set}
 use Rattle.sfm_spec.specs.Families.{even_shift, meanings}

@@ -1,11 +1,11 @@
 -- What the steps of a judgement find of an answer: of its rows, of its sections, and of what it says.
-use Rattle.std.specs.Prelude.{◌≡◌, ◌≢◌, ◌⊎◌, ℕ, zero, suc, ◌+◌, ◌<◌, ◌≤◌, Bool, List, [], length, slice_index_or, ℤ}
+use Rattle.std.specs.Prelude.{◌≡◌, ◌≢◌, ◌⊎◌, ℕ, zero, suc, ◌+◌, ◌<◌, ◌≤◌, Bool, List, [], length, slice_index_or, ℤ, pos}
 use Rattle.sfm_spec.specs.Sets.{empty_set, size, whole_set}
 use Rattle.sfm_spec.specs.Laws.{Mark}
 use Rattle.sfm_spec.specs.Search.{mark_at}
 use Rattle.sfm_spec.specs.Terms.{times, IsBase}
 use Rattle.sfm_spec.specs.Families.{Meaning, IsLeast, IsGreatest, even_shift, shifted_at}
-use Rattle.sfm_spec.specs.Blocks.{Block, block_at}
+use Rattle.sfm_spec.specs.Blocks.{AreBlocks, Block, block_at}
 use Rattle.sfm_spec.specs.Walks.{term_at, base_at}
 use Rattle.sfm_extreme.specs.declared.extremes.Proved.{Proved}
 use Rattle.sfm_cert.specs.Answer.{Answer, Form, answer_lines}
@@ -67,6 +67,13 @@ pub record SaysTheSame (a truth : Answer) : Type 0 where
   pub least : a.least ≡ truth.least
   pub greatest : a.greatest ≡ truth.greatest
   pub blocks : a.blocks ≡ truth.blocks
+
+-- what the answer says is true, but for the slopes
+pub record IsTrueMinimum (terms : List Meaning) (n : ℕ) (a : Answer) : Type 0 where
+  pub least : IsLeast terms n (pos 1) (even_shift n (pos 0)) a.least
+  pub greatest : IsGreatest terms n (pos 1) (even_shift n (pos 0)) a.greatest
+  pub value : a.value ≡ shifted_at terms (pos 1) (even_shift n (pos 0)) a.least
+  pub blocks : AreBlocks terms n (pos 1) (even_shift n (pos 0)) a.blocks
 
 -- the set before slope k: that of the slope before, or the first set
 abbrev pub set_before : List Bool → List Mark → ℕ → List Bool

@@ -3,3 +3,4 @@ pub mod Verdict
 pub mod Findings
 pub mod Due
 pub mod Before
+pub mod Values

@@ -11,12 +11,13 @@ ghost use Rattle.sfm_kind.specs.Names.{AreElementNames};
 ghost use Rattle.sfm_cert.specs.Solved.{answer_of, form_of};
 ghost use Rattle.sfm_cert.specs.Answer.{answer_lines};
 ghost use Rattle.sfm_cert.specs.Grammar.{answer_limit};
-ghost use Rattle.sfm_check.specs.Truth.{IsTrueHead};
+ghost use Rattle.sfm_check.specs.Truth.{IsTrueHead, section_at};
 ghost use Rattle.sfm_check.specs.Verdict.{IsFirstWrong};
-ghost use Rattle.sfm_check.specs.Findings.{IsFirstUnlike, AreTold, IsWrongLine, SaysTheSame};
+ghost use Rattle.sfm_check.specs.Findings.{IsFirstUnlike, IsToldOf, IsTrueMinimum, AreTold, IsWrongLine, SaysTheSame};
 ghost use Rattle.sfm_check.specs.Due.{due_answer};
 
 use crate::chain::first_wrong_slope;
+use crate::kept::tell_kept;
 use crate::same::are_same;
 use sfm_base::Memory;
 use sfm_cert::Solved;
@@ -80,6 +81,24 @@ fn first_wrong_line(
     Some(5 + i)
 }
 
+/// The first line before those of slopes that is not the due one, from what the bases at 0/1 tell.
+pub fn first_wrong_before_slopes(
+    alloc: Global,
+    instance: &Instance,
+    solved: &Solved,
+    found: &Proved,
+) -> Result<Option<usize>, Memory>
+    requires formed { IsFormed (form_of instance.now) (answer_of solved.now) }
+    requires few { length (answer_lines (form_of instance.now) (answer_of solved.now)) ≤ answer_limit }
+    requires told { IsToldOf (meanings kind_places kind_value instance.now.terms) (length instance.now.names) (section_at (answer_of solved.now) 0) found.now }
+    ensures { IfOk result (λ r. MatchOption r
+        (IsTrueMinimum (meanings kind_places kind_value instance.now.terms) (length instance.now.names) (answer_of solved.now))
+        (IsFirstWrong (form_of instance.now) (meanings kind_places kind_value instance.now.terms) (answer_of solved.now))) }
+{
+    let due = blocks(alloc, instance.terms(), instance.names_len(), &solved.bases)?;
+    Ok(first_wrong_line(instance, solved, found, &due))
+}
+
 /// The first line of an answer that is not the due one, from what its sections tell.
 pub fn first_wrong(
     alloc: Global,
@@ -94,9 +113,8 @@ pub fn first_wrong(
         (IsTrueHead (meanings kind_places kind_value instance.now.terms) (length instance.now.names) (answer_of solved.now))
         (IsFirstWrong (form_of instance.now) (meanings kind_places kind_value instance.now.terms) (answer_of solved.now))) }
 {
-    let n = instance.names_len();
-    let due = blocks(alloc, instance.terms(), n, &solved.bases)?;
-    if let Some(line) = first_wrong_line(instance, solved, &found[0], &due) {
+    tell_kept(instance);
+    if let Some(line) = first_wrong_before_slopes(alloc, instance, solved, &found[0])? {
         return Ok(Some(line));
     }
     match first_wrong_slope(alloc, instance, solved, found)? {

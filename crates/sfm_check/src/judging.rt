@@ -1,19 +1,20 @@
-// The judge. A text that is read as an answer has its rows tested as bases of their terms, then each section's bases as
-// a proof, and then what it says against what the proved bases tell. Nothing here finds bases of its own.
+// The judge. A text that is read as an answer has its rows tested as bases of their terms. A right one is then found right
+// by values; where that fails, each section's bases are tested as a proof, and then what it says against what the proved
+// bases tell, which gives the first fault. Nothing here finds bases of its own.
 ghost use Rattle.std.specs.Prelude.{◌≡◌, ◌≤◌, length, IfOk};
 ghost use Rattle.sfm_spec.specs.Families.{meanings};
 ghost use Rattle.sfm_kind.specs.Kinds.{kind_places, kind_value};
-ghost use Rattle.sfm_kind.specs.Names.{AreElementNames};
-ghost use Rattle.sfm_kind.specs.Limits.{AreInBounds};
 ghost use Rattle.sfm_cert.specs.Answer.{answer_lines};
 ghost use Rattle.sfm_cert.specs.Form.{IsFormed};
 ghost use Rattle.sfm_cert.specs.Grammar.{answer_limit};
 ghost use Rattle.sfm_cert.specs.Solved.{answer_of, form_of};
 ghost use Rattle.sfm_check.specs.Verdict.{IsVerdict};
-ghost use Rattle.sfm_check.specs.Findings.{IsFound};
+ghost use Rattle.sfm_check.specs.Findings.{AllRowsAreBases, IsFound};
 
 use crate::bases::first_no_base;
 use crate::head::first_wrong;
+use crate::kept::tell_kept;
+use crate::right::is_right;
 use crate::sections::{Sections, prove_sections};
 use crate::verdicts::{Verdict, Wrong};
 use sfm_base::Memory;
@@ -21,14 +22,26 @@ use sfm_cert::{ANSWER_LIMIT, AnswerEnd, Solved, read_answer};
 use sfm_kind::Instance;
 use std::alloc::Global;
 
-/// The names of an instance differ and have a name's form, so that the texts of different answers differ; its terms are
-/// within the bounds, so that their slopes have small numbers.
-fn tell_kept(instance: &Instance)
-    ensures named { AreElementNames instance.now.names }
-    ensures bounded { AreInBounds (length instance.now.names) instance.now.terms }
+/// What is to be said of what a text says, section by section.
+fn judge_sections(alloc: Global, instance: &Instance, solved: &Solved) -> Result<Verdict, Memory>
+    requires formed { IsFormed (form_of instance.now) (answer_of solved.now) }
+    requires few { length (answer_lines (form_of instance.now) (answer_of solved.now)) ≤ answer_limit }
+    requires bases { AllRowsAreBases (meanings kind_places kind_value instance.now.terms) (answer_of solved.now) }
+    ensures { IfOk result (IsFound (form_of instance.now) (meanings kind_places kind_value instance.now.terms) (answer_of solved.now)) }
 {
-    let _count = instance.names_len();
-    let _terms = instance.terms();
+    match prove_sections(alloc, instance, solved)? {
+        Sections::Unproved { line } => Ok(Verdict::Invalid {
+            line,
+            reason: Wrong::Unproved,
+        }),
+        Sections::Proved(proved) => match first_wrong(alloc, instance, solved, &proved)? {
+            Some(line) => Ok(Verdict::Invalid {
+                line,
+                reason: Wrong::Answer,
+            }),
+            None => Ok(Verdict::Valid),
+        },
+    }
 }
 
 /// What is to be said of what a text says.
@@ -43,19 +56,10 @@ fn judge_solved(alloc: Global, instance: &Instance, solved: &Solved) -> Result<V
             reason: Wrong::Base,
         });
     }
-    match prove_sections(alloc, instance, solved)? {
-        Sections::Unproved { line } => Ok(Verdict::Invalid {
-            line,
-            reason: Wrong::Unproved,
-        }),
-        Sections::Proved(proved) => match first_wrong(alloc, instance, solved, &proved)? {
-            Some(line) => Ok(Verdict::Invalid {
-                line,
-                reason: Wrong::Answer,
-            }),
-            None => Ok(Verdict::Valid),
-        },
+    if is_right(alloc, instance, solved)? {
+        return Ok(Verdict::Valid);
     }
+    judge_sections(alloc, instance, solved)
 }
 
 /// What is to be said of a text that is offered as the answer of an instance, whoever wrote it: that it is right, or

@@ -5,9 +5,13 @@ mod bases;
 mod chain;
 mod head;
 mod judging;
+mod kept;
+mod right;
 mod same;
 mod sections;
+mod values;
 mod verdicts;
+mod worth;
 
 pub use judging::judge;
 pub use verdicts::{Verdict, Wrong};

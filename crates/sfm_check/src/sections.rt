@@ -1,13 +1,13 @@
 // Whether the bases of each section prove the minimum at its slope.
-ghost use Rattle.std.specs.Prelude.{◌≡◌, ◌<◌, ◌≤◌, ℕ, length, map, IfOk};
+ghost use Rattle.std.specs.Prelude.{◌≡◌, ◌<◌, ◌≤◌, ℕ, length, map, IfOk, MatchOption};
 ghost use Rattle.sfm_spec.specs.Families.{meanings};
 ghost use Rattle.sfm_kind.specs.Kinds.{kind_places, kind_value};
 ghost use Rattle.sfm_cert.specs.Answer.{answer_lines};
 ghost use Rattle.sfm_cert.specs.Form.{IsFormed};
 ghost use Rattle.sfm_cert.specs.Grammar.{answer_limit};
 ghost use Rattle.sfm_cert.specs.Solved.{answer_of, form_of};
-ghost use Rattle.sfm_check.specs.Truth.{section_at, sections_of};
-ghost use Rattle.sfm_check.specs.Findings.{AllRowsAreBases, IsSection, AreSections};
+ghost use Rattle.sfm_check.specs.Truth.{section_at, sections_of, IsProvedSection};
+ghost use Rattle.sfm_check.specs.Findings.{AllRowsAreBases, IsSection, IsToldOf, AreSections};
 
 use sfm_base::{Memory, Rows};
 use sfm_cert::{Solved, line_of_at};
@@ -52,6 +52,34 @@ pub fn section_of<'a>(solved: &'a Solved, s: usize) -> Section<'a>
     }
 }
 
+/// What the bases of section s tell, or None where they do not prove the minimum at its slope.
+pub fn prove_section(
+    alloc: Global,
+    instance: &Instance,
+    solved: &Solved,
+    s: usize,
+) -> Result<Option<Proved>, Memory>
+    requires formed { IsFormed (form_of instance.now) (answer_of solved.now) }
+    requires bases { AllRowsAreBases (meanings kind_places kind_value instance.now.terms) (answer_of solved.now) }
+    requires at { s < length (sections_of (answer_of solved.now)) }
+    ensures { IfOk result (λ r. MatchOption r
+        (IsProvedSection (meanings kind_places kind_value instance.now.terms) (length instance.now.names) (section_at (answer_of solved.now) s) → ⊥)
+        (IsToldOf (meanings kind_places kind_value instance.now.terms) (length instance.now.names) (section_at (answer_of solved.now) s))) }
+{
+    let section = section_of(solved, s);
+    match certify(
+        alloc,
+        instance.terms(),
+        instance.names_len(),
+        section.num,
+        section.den,
+        section.bases,
+    )? {
+        Certified::Proved(found) => Ok(Some(found)),
+        Certified::NotOptimal { walk: _ } => Ok(None),
+    }
+}
+
 /// What the bases of each section tell, or the line of the first section that they do not prove.
 pub fn prove_sections(
     alloc: Global,
@@ -65,17 +93,9 @@ pub fn prove_sections(
 {
     let mut proved = Vec::new(alloc);
     for s in 0..solved.breaks.len() + 1 {
-        let section = section_of(solved, s);
-        match certify(
-            alloc,
-            instance.terms(),
-            instance.names_len(),
-            section.num,
-            section.den,
-            section.bases,
-        )? {
-            Certified::Proved(found) => proved.push(found)?,
-            Certified::NotOptimal { walk: _ } => {
+        match prove_section(alloc, instance, solved, s)? {
+            Some(found) => proved.push(found)?,
+            None => {
                 let line = line_of_at(
                     solved.blocks.len(),
                     solved.breaks.len(),

@@ -209,11 +209,16 @@ fn verdicts_over_blocks(rt: HostRuntime) -> Result<(), Fail> {
 
 #[test]
 fn verdicts_over_three(rt: HostRuntime) -> Result<(), Fail> {
-    let rows: [(&[u8], u8, &[u8]); 2] = [
+    let rows: [(&[u8], u8, &[u8]); 3] = [
         (
             b"answer 1\nminimum -2\nleast c\ngreatest c\nslope -2/1 c\nslope 1/1 a b c\nat 0/1\nbase 1 1 1 -2\nat -2/1\nbase 1 1 1 -2\nat 1/1\nbase 1 1 1 -2\nend\n",
             0,
             b"valid\n",
+        ),
+        (
+            b"answer 1\nminimum -2\nleast c\ngreatest c\nslope -2/1 b c\nslope 1/1 a b c\nat 0/1\nbase 1 1 1 -2\nat -2/1\nbase 1 1 1 -2\nat 1/1\nbase 1 1 1 -2\nend\n",
+            1,
+            b"invalid 5 answer\n",
         ),
         (
             b"answer 1\nminimum -2\nleast c\ngreatest c\nslope -2/1 c\nat 0/1\nbase 1 1 1 -2\nat -2/1\nbase 1 1 1 -2\nend\n",

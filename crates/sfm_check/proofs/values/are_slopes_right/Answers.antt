@@ -1,0 +1,89 @@
+use Rattle.std.proofs.Common.{◌≡◌, ◌<◌, length, map, ⊎_elim, sym, ap, ◌∙◌, refl, arith, subst}
+use Rattle.std.proofs.lemmas.Bool.{cases_lt, eqb-true}
+use Rattle.std.proofs.lemmas.List.{length-map}
+use Rattle.sfm_spec.specs.Sets.{empty_set, size, whole_set}
+use Rattle.sfm_spec.specs.Families.{meanings}
+use Rattle.sfm_kind.specs.Kinds.{kind_places, kind_value}
+use Rattle.sfm_cert.specs.Answer.{Break, mark_of}
+use Rattle.sfm_cert.specs.Form.{IsFormedBreak}
+use Rattle.sfm_cert.specs.Solved.{answer_of, break_of, form_of}
+use Rattle.sfm_check.specs.Findings.{set_before}
+use Rattle.sfm_check.specs.Values.{IsStepAt, IsWorth}
+use Rattle.sfm_check.proofs.AllSlopes.{fit}
+use Rattle.sfm_check.proofs.ByValues.{slopes_right}
+use Rattle.sfm_check.proofs.Forming.{all_bases}
+use Rattle.sfm_check.proofs.KeptSlopes.{behind_at, kept_at, step_by}
+use Rattle.sfm_check.proofs.SlopeFacts.{before_places, before_same, whole_by_size}
+use Rattle.sfm_check.proofs.values.are_slopes_right.Goals as goal
+
+pub attain-requires-clause-formed : goal.attain-requires-clause-formed
+attain-requires-clause-formed c =
+    let form = form_of c.args.instance.now in
+    let items = c.args.solved.now.breaks.items in
+    let lt = c.loop-k-test.true in
+    let count = c.args.solved.now.breaks.ok.0 in
+    let lk : c.loop-k.k < length items = omega (arith, lt, count, c.len-k-end.ensures) in
+    let b = c.index-found.result.now in
+    let lb : c.loop-k.k < length (map break_of items) = omega (arith, lk, length-map items break_of) in
+    subst (λ (z : Break). IsFormedBreak (length form.names) form.widths z) (kept_at items c.loop-k.k b (break_of b) lk c.index-found.ensures) (c.requires.formed.breaks c.loop-k.k (break_of b) lb)
+
+pub worth_of-requires-in-loop-k : goal.worth_of-requires-in-loop-k
+worth_of-requires-in-loop-k c =
+    let form = form_of c.args.instance.now in
+    let items = c.args.solved.now.breaks.items in
+    let lt = c.loop-k-test.true in
+    let count = c.args.solved.now.breaks.ok.0 in
+    let lk : c.loop-k.k < length items = omega (arith, lt, count, c.len-k-end.ensures) in
+    let b = c.index-found.result.now in
+    let lb : c.loop-k.k < length (map break_of items) = omega (arith, lk, length-map items break_of) in
+    let formed : IsFormedBreak (length form.names) form.widths (break_of b) = subst (λ (z : Break). IsFormedBreak (length form.names) form.widths z) (kept_at items c.loop-k.k b (break_of b) lk c.index-found.ensures) (c.requires.formed.breaks c.loop-k.k (break_of b) lb) in
+    formed.members.places
+
+pub loop-k-preserved : goal.loop-k-preserved
+loop-k-preserved c =
+    let solved = c.args.solved.now in
+    let ms = meanings kind_places kind_value c.args.instance.now.terms in
+    let n = length c.args.instance.now.names in
+    let items = solved.breaks.items in
+    let k = c.loop-k.k in
+    let lt = c.loop-k-test.true in
+    let count = solved.breaks.ok.0 in
+    let lk : c.loop-k.k < length items = omega (arith, lt, count, c.len-k-end.ensures) in
+    let b = c.index-found.result.now in
+    let here = c.in-Some-2.here in
+    let worth : IsWorth ms b.set here = rw c.in-Some-2.is at c.in_ok-here.ensures.worth in
+    let grows = c.if-before-here.false in
+    let attained = c.in_ok-attain.ensures c.if-not-branch.false in
+    let up = c.ascends.ensures c.if-not-ascends.false in
+    let step : IsStepAt ms n (answer_of solved) k = step_by ms n solved k b c.loop-k.before here lk c.index-found.ensures c.loop-k.invariant.0 worth (omega (arith, grows)) attained.0 attained.1 (rw c.deref.ensures.value at up) in (
+      subst (λ s. IsWorth ms s here) (sym (behind_at (empty_set n) items k b lk c.index-found.ensures)) worth,
+      rw c.in-Some-2.is at c.in_ok-here.ensures.small,
+      (λ j l. ⊎_elim
+          (λ less. c.loop-k.invariant.2 j less)
+          (λ ge. let at : c.loop-k.k ≡ j = omega arith in subst (IsStepAt ms n (answer_of solved)) at step)
+          (cases_lt j k)),
+    )
+
+pub returns : goal.returns
+returns c = λ true.
+    let instance = c.args.instance.now in
+    let solved = c.args.solved.now in
+    let a = answer_of solved in
+    let ts = instance.terms in
+    let ms = meanings kind_places kind_value ts in
+    let n = length instance.names in
+    let items = solved.breaks.items in
+    let k = c.loop-k.k in
+    let end = c.loop-k-test.false in
+    let upto = c.loop-k.auto.k-end in
+    let count = solved.breaks.ok.0 in
+    let last : c.loop-k.k ≡ length items = omega (arith, end, upto, count, c.len-k-end.ensures) in
+    let breaks : length a.breaks ≡ length items = length-map items break_of in
+    let w = c.loop-k.invariant.0 in
+    let size_is = w.size in
+    let whole_size : c.loop-k.before.size ≡ c.names_len-n.result = eqb-true c.loop-k.before.size c.names_len-n.result true in
+    let places : length (set_before (empty_set n) (map mark_of a.breaks) k) ≡ n = ap length (sym (before_same n (empty_set n) items k refl)) ∙ before_places (form_of instance) a items (empty_set n) k c.requires.formed refl refl (omega (arith, last)) in
+    let full : size (set_before (empty_set n) (map mark_of a.breaks) k) ≡ n = sym size_is ∙ (whole_size ∙ c.names_len-n.ensures.len) in
+    let ends : set_before (empty_set n) (map mark_of a.breaks) (length a.breaks) ≡ whole_set n = ap (set_before (empty_set n) (map mark_of a.breaks)) (breaks ∙ sym last) ∙ whole_by_size n (set_before (empty_set n) (map mark_of a.breaks) k) places full in
+    slopes_right ms n (fit n ts c.tell_kept.ensures.bounded) (form_of instance) a refl c.requires.formed (all_bases instance a c.requires.formed c.requires.bases)
+    (λ j l. c.loop-k.invariant.2 j (omega (arith, l, last, breaks))) ends

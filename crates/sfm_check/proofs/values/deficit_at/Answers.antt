@@ -1,0 +1,84 @@
+use Rattle.std.proofs.Common.{◌≡◌, ◌<◌, ◌≤◌, ◌^◌, ℕ, List, [], ◌∷◌, length, map, get_or, replicate, ℤ, pos, ◌≤ℤ◌, sym, ap, ◌∙◌, rules, arith, FitsSigned}
+use Rattle.std.proofs.lemmas.Int.{ints, to_z-of_z}
+use Rattle.std.proofs.lemmas.List.{get_or_default, length-replicate}
+use Rattle.sfm_spec.specs.Bounds.{IsEntry}
+use mir.Syntax.{w128}
+use Rattle.sfm_spec.specs.Sets.{magnitudes}
+use Rattle.sfm_spec.specs.Families.{Meaning, deficit, even_shift, meanings, rest_at}
+use Rattle.sfm_kind.specs.declared.kind.Kind.{Kind}
+use Rattle.sfm_spec.specs.Walks.{base_at, term_at}
+use Rattle.sfm_law.specs.Rest.{IsRest}
+use Rattle.sfm_law.proofs.Lists.{meanings-at}
+use Rattle.sfm_law.proofs.Rests.{magnitudes-replicate, rest-total}
+use Rattle.sfm_extreme.proofs.Deficits.{deficit_by_rest}
+use Rattle.sfm_kind.specs.Kinds.{kind_places, kind_value}
+use Rattle.sfm_cert.specs.Form.{AreFormedRows}
+use Rattle.sfm_check.proofs.Forming.{row_width}
+use Rattle.sfm_check.proofs.values.deficit_at.Goals as goal
+
+pub rest_of-requires-clause-placed : goal.rest_of-requires-clause-placed
+rest_of-requires-clause-placed c =
+    let n = length c.args.instance.now.names in
+    let e = c.requires.entry in
+    let fn : FitsSigned w128 c.args.found.now.slope.num = omega (arith, ints, e) in
+    let same : c.deref.result.now ≡ replicate c.names_len.result c.args.found.now.slope.num = search rules in
+    let places : length c.deref.result.now ≡ n = ap length same ∙ (length-replicate c.names_len.result c.args.found.now.slope.num ∙ c.names_len.ensures.len) in
+    rw (c.terms.ensures.terms, places) c.terms.ensures.bounded.placed
+
+-- each row is as long as its term has places
+entries : (ts : List Kind) (rows : List (List ℤ)) → AreFormedRows (map (λ term. length (kind_places term)) ts) rows
+    → (i : ℕ) → i < length ts → length (base_at rows i) ≡ length (term_at (meanings kind_places kind_value ts) i).places
+entries [] rows f i l = absurd (omega (arith, l))
+entries (t ∷ ts) rows f i l =
+    let x = get_or (t ∷ ts) i t in
+    row_width (t ∷ ts) rows i x f l (read i l) ∙ sym (ap (λ (m : Meaning). length m.places) (meanings-at kind_places kind_value (t ∷ ts) i x l (read i l))) where
+      read : (i : ℕ) → i < length (t ∷ ts) → get_or (t ∷ ts) i t ≡ get_or (t ∷ ts) i (get_or (t ∷ ts) i t)
+      read i l = get_or_default (t ∷ ts) i t (get_or (t ∷ ts) i t) l
+
+pub rest_of-requires-clause-entries : goal.rest_of-requires-clause-entries
+rest_of-requires-clause-entries c = rw c.terms.ensures.terms (entries c.args.instance.now.terms c.args.found.now.bases c.requires.bases)
+
+-- the shift, and what z is
+shift_is : (n : ℕ) (p : ℤ) (shift : List ℤ) → shift ≡ replicate n p → IsEntry p → n ≤ 256 → magnitudes shift ≤ℤ pos (10 ^ 36)
+shift_is n p shift same entry few =
+    let m = magnitudes-replicate n p entry in
+    rw same (omega (arith, ints, m, few))
+
+pub rest_of-requires-clause-shifts : goal.rest_of-requires-clause-shifts
+rest_of-requires-clause-shifts c =
+    let e = c.requires.entry in
+    let fn : FitsSigned w128 c.args.found.now.slope.num = omega (arith, ints, e) in
+    let n = c.names_len.result in
+    let few = c.terms.ensures.bounded.few in
+    let same : c.deref.result.now ≡ replicate c.names_len.result c.args.found.now.slope.num = search rules in
+    shift_is n c.args.found.now.slope.num c.deref.result.now same e (omega (arith, few, c.names_len.ensures.len))
+
+pub deficit_of-requires : goal.deficit_of-requires
+deficit_of-requires c =
+    let ts = c.args.instance.now.terms in
+    let b = c.terms.ensures.bounded in
+    let few = b.few in
+    let e = c.requires.entry in
+    let fn : FitsSigned w128 c.args.found.now.slope.num = omega (arith, ints, e) in
+    let same : c.deref.result.now ≡ replicate c.names_len.result c.args.found.now.slope.num = search rules in
+    let places : length c.deref.result.now ≡ length c.args.instance.now.names = ap length same ∙ (length-replicate c.names_len.result c.args.found.now.slope.num ∙ c.names_len.ensures.len) in
+    let rest : IsRest (meanings kind_places kind_value ts) c.deref.result.now c.args.found.now.bases c.in_ok-z.z.items = rw c.terms.ensures.terms at c.in_ok-z.ensures in
+    rw c.deref-2.ensures.value (rest-total kind_places kind_value ts c.deref.result.now c.args.found.now.bases c.in_ok-z.z.items rest c.requires.bases.small b.few_places (omega (arith, few, places)) (shift_is c.names_len.result c.args.found.now.slope.num c.deref.result.now same e (omega (arith, few, c.names_len.ensures.len))))
+
+pub returns : goal.returns
+returns c =
+    let ts = c.args.instance.now.terms in
+    let ms = meanings kind_places kind_value ts in
+    let n = length c.args.instance.now.names in
+    let p = c.args.found.now.slope.num in
+    let rows = c.args.found.now.bases in
+    let e = c.requires.entry in
+    let fn : FitsSigned w128 p = omega (arith, ints, e) in
+    let fd : FitsSigned w128 c.deficit_of.result = search rules in
+    let same : c.deref.result.now ≡ replicate c.names_len.result p = search rules in
+    let is : c.deref.result.now ≡ even_shift n p = same ∙ ap (λ k. replicate k p) c.names_len.ensures.len in
+    let rest : IsRest ms c.deref.result.now rows c.in_ok-z.z.items = rw c.terms.ensures.terms at c.in_ok-z.ensures in
+    let value = rw c.deref-2.ensures.value at c.deficit_of.ensures in
+    let by = deficit_by_rest ms c.deref.result.now rows c.in_ok-z.z.items rest in
+    let there : deficit (length c.deref.result.now) (rest_at ms rows c.deref.result.now) ≡ deficit n (rest_at ms rows (even_shift n p)) = ap (λ (z : List ℤ). deficit (length z) (rest_at ms rows z)) is ∙ ap (λ k. deficit k (rest_at ms rows (even_shift n p))) (length-replicate n p) in
+    simp to_z-of_z (value ∙ (by ∙ there))

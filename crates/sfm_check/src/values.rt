@@ -1,0 +1,102 @@
+// The slopes of an answer, judged by values alone. No allowed set is worth less than the sum of min(z, 0) at any bases; so
+// where the set before a slope and the set of the slope are worth just that, both are minimisers there and the bases prove.
+// Where slopes rise and sets grow so, from the empty set to the whole ground, each slope is the next one: a minimiser at a
+// smaller slope lies within those at a greater one. Where a test fails, nothing is told.
+ghost use Rattle.std.specs.Prelude.{◌≡◌, ◌<◌, length, map, slice_index_or, pos, ◌-ℤ◌, ◌*ℤ◌, IsTrue, IfOk, IfSome};
+ghost use Rattle.sfm_spec.specs.Bounds.{IsGiven};
+ghost use Rattle.sfm_spec.specs.Slopes.{IsLowerSlope};
+ghost use Rattle.sfm_spec.specs.Families.{meanings, deficit, even_shift, rest_at};
+ghost use Rattle.sfm_kind.specs.Kinds.{kind_places, kind_value};
+ghost use Rattle.sfm_cert.specs.Form.{IsFormed, IsFormedBreak};
+ghost use Rattle.sfm_cert.specs.Solved.{answer_of, break_of, form_of};
+ghost use Rattle.sfm_check.specs.Findings.{AllRowsAreBases};
+ghost use Rattle.sfm_check.specs.Values.{AreRightSlopes, Ascends, Attains, IsSmall, IsWorth};
+
+use crate::kept::tell_kept;
+use crate::worth::{Worth, worth_of};
+use sfm_base::{Memory, Set, Slope};
+use sfm_cert::Solved;
+use sfm_extreme::deficit_of;
+use sfm_kind::Instance;
+use sfm_law::{Break, rest_of};
+use std::alloc::Global;
+use std::cmp::Ordering;
+
+/// The sum of min(z, 0) over all places, at the bases of a slope.
+fn deficit_at(alloc: Global, instance: &Instance, found: &Break) -> Result<i128, Memory>
+    requires { IsFormedBreak (length instance.now.names) (form_of instance.now).widths (break_of found.now) }
+    ensures { IfOk result (λ r. r ≡ deficit (length instance.now.names) (rest_at (meanings kind_places kind_value instance.now.terms) found.now.bases (even_shift (length instance.now.names) found.now.slope.num))) }
+{
+    let shift = vec![in alloc; found.slope.num; instance.names_len()]?;
+    let z = rest_of(alloc, instance.terms(), &shift, &found.bases)?;
+    Ok(deficit_of(&z))
+}
+
+/// What a set is worth at a slope p/q: q times the sum, less p for each place.
+fn value_at(slope: &Slope, worth: &Worth) -> i128
+    requires { IsSmall worth.now }
+    ensures { result ≡ (slope.now.den *ℤ worth.now.sum -ℤ slope.now.num *ℤ pos worth.now.size) }
+{
+    slope.den * worth.sum - slope.num * worth.size as i128
+}
+
+/// Whether two sets are worth the sum of min(z, 0) at the bases of a slope.
+fn attain(
+    alloc: Global,
+    instance: &Instance,
+    found: &Break,
+    before: &Worth,
+    here: &Worth,
+) -> Result<bool, Memory>
+    requires formed { IsFormedBreak (length instance.now.names) (form_of instance.now).widths (break_of found.now) }
+    requires before { IsSmall before.now }
+    requires here { IsSmall here.now }
+    ensures { IfOk result (λ r. IsTrue r → Attains (meanings kind_places kind_value instance.now.terms) (length instance.now.names) (break_of found.now) before.now
+        × Attains (meanings kind_places kind_value instance.now.terms) (length instance.now.names) (break_of found.now) here.now) }
+{
+    let least = deficit_at(alloc, instance, found)?;
+    Ok(value_at(&found.slope, before) == least && value_at(&found.slope, here) == least)
+}
+
+/// Whether a slope is below another.
+fn is_lower(slope: &Slope, other: &Slope) -> bool
+    ensures { IsTrue result → IsLowerSlope slope.now.num slope.now.den other.now.num other.now.den }
+{
+    matches!(slope.compare(other), Ordering::Less)
+}
+
+/// Whether slope k is above the one before.
+fn ascends(breaks: &[Break], k: usize) -> bool
+    requires { k < length breaks.now }
+    ensures { IsTrue result → Ascends (map break_of breaks.now) k }
+{
+    k == 0 || is_lower(&breaks[k - 1].slope, &breaks[k].slope)
+}
+
+/// Whether values tell that each slope is the next one, up to the whole ground, and that its bases prove.
+pub fn are_slopes_right(alloc: Global, instance: &Instance, solved: &Solved) -> Result<bool, Memory>
+    requires formed { IsFormed (form_of instance.now) (answer_of solved.now) }
+    requires bases { AllRowsAreBases (meanings kind_places kind_value instance.now.terms) (answer_of solved.now) }
+    ensures { IfOk result (λ r. IsTrue r → AreRightSlopes (meanings kind_places kind_value instance.now.terms) (length instance.now.names) (answer_of solved.now)) }
+{
+    tell_kept(instance);
+    let n = instance.names_len();
+    let empty = Set::empty(alloc, n)?;
+    let Some(mut before) = worth_of(alloc, instance, &empty)? else {
+        return Ok(false);
+    };
+    for k in 0..solved.breaks.len() {
+        let found = &solved.breaks[k];
+        let Some(here) = worth_of(alloc, instance, &found.set)? else {
+            return Ok(false);
+        };
+        if before.size >= here.size || !ascends(&solved.breaks, k) {
+            return Ok(false);
+        }
+        if !attain(alloc, instance, found, &before, &here)? {
+            return Ok(false);
+        }
+        before = here;
+    }
+    Ok(before.size == n)
+}
