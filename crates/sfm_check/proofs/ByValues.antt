@@ -26,7 +26,7 @@ no_break : Break
 no_break = record { num = pos 0; den = pos 1; members = []; bases = [] }
 
 -- what a set is worth at a slope, by its size and its sum
-worth_shifted : (terms : List Meaning) (n : ℕ) (p q : ℤ) (s : List Bool) → length s ≡ n → shifted_at terms q (even_shift n p) s ≡ (q *ℤ sum_at terms s -ℤ p *ℤ pos (size s))
+pub worth_shifted : (terms : List Meaning) (n : ℕ) (p q : ℤ) (s : List Bool) → length s ≡ n → shifted_at terms q (even_shift n p) s ≡ (q *ℤ sum_at terms s -ℤ p *ℤ pos (size s))
 worth_shifted terms n p q s places =
     ap (λ z. shifted_at terms q z s) (sym (ones-shift n p)) ∙ (shifted-sized terms (ones n) p q s ∙ ap (λ z. q *ℤ sum_at terms s -ℤ p *ℤ z) (sum-ones n s places))
 
@@ -42,7 +42,7 @@ module _ (terms : List Meaning) (n : ℕ) (fit : AreTerms n terms) where
       proved_by terms b.bases n b.den (even_shift n b.num) fit bases s places signed tight
 
   -- minimisers at a lower slope lie within those at a higher one
-  nested : (p q p' q' : ℤ) (s t : List Bool) → pos 1 ≤ℤ q → pos 1 ≤ℤ q' → IsLowerSlope p q p' q' → IsMinimiser terms n q (even_shift n p) s → IsMinimiser terms n q' (even_shift n p') t → IsWithin s t
+  pub nested : (p q p' q' : ℤ) (s t : List Bool) → pos 1 ≤ℤ q → pos 1 ≤ℤ q' → IsLowerSlope p q p' q' → IsMinimiser terms n q (even_shift n p) s → IsMinimiser terms n q' (even_shift n p') t → IsWithin s t
   nested p q p' q' s t lq lq' less hs ht =
       slopes_nest terms n (ones n) fit (ones-places n) (ones-sizes n) p q p' q' s t lq lq' less
       (subst (λ z. IsMinimiser terms n q z s) (sym (ones-shift n p)) hs)

@@ -4,7 +4,8 @@ use Rattle.std.proofs.lemmas.List.{length-map, get_or-map}
 use Rattle.sfm_spec.specs.Sets.{empty_set}
 use Rattle.sfm_spec.specs.Slopes.{IsLowerSlope}
 use Rattle.sfm_spec.specs.Families.{Meaning}
-use Rattle.sfm_spec.specs.Laws.{no_mark}
+use Rattle.sfm_spec.specs.Laws.{Mark, no_mark}
+use Rattle.sfm_spec.specs.Search.{mark_at}
 use Rattle.sfm_law.specs.declared.breaks.Break.{Break as Found}
 use Rattle.sfm_cert.specs.declared.solved.Solved.{Solved}
 use Rattle.sfm_cert.specs.Answer.{Break, mark_of}
@@ -16,11 +17,15 @@ use Rattle.sfm_check.specs.declared.worth.Worth.{Worth}
 pub kept_at : (items : List Found) (k : ℕ) (b : Found) (d : Break) → k < length items → b ≡ get_or items k b → get_or (map break_of items) k d ≡ break_of b
 kept_at items k b d l e = get_or-map break_of items k b d l ∙ ap break_of (sym e)
 
+-- slope k, with its set
+pub mark_kept : (items : List Found) (k : ℕ) (b : Found) → k < length items → b ≡ get_or items k b → mark_at (map mark_of (map break_of items)) k ≡ mark_of (break_of b)
+mark_kept items k b l e =
+    let lb : k < length (map break_of items) = omega (arith, l, length-map items break_of) in
+    get_or-map mark_of (map break_of items) k (break_of b) no_mark lb ∙ ap mark_of (kept_at items k b (break_of b) l e)
+
 -- behind slope k stands its set
 pub behind_at : (first : List Bool) (items : List Found) (k : ℕ) (b : Found) → k < length items → b ≡ get_or items k b → set_before first (map mark_of (map break_of items)) (k + 1) ≡ b.set
-behind_at first items k b l e =
-    let lb : k < length (map break_of items) = omega (arith, l, length-map items break_of) in
-    rw (add-one) (ap (λ z. z.members) (get_or-map mark_of (map break_of items) k (break_of b) no_mark lb ∙ ap mark_of (kept_at items k b (break_of b) l e)))
+behind_at first items k b l e = rw (add-one) (ap (λ (z : Mark). z.members) (mark_kept items k b l e))
 
 -- a slope behind another that is lower
 pub ascends_by : (items : List Found) (k : ℕ) (b c : Found) → k ≢ 0 → k < length items → b ≡ get_or items (k - 1) b → c ≡ get_or items k c

@@ -11,6 +11,7 @@ pub mod AllSlopes
 pub mod Heads
 pub mod Sums
 pub mod ByValues
+pub mod AtZero
 pub mod KeptSlopes
 pub mod Short
 pub mod Telling

@@ -4,3 +4,4 @@ pub mod Findings
 pub mod Due
 pub mod Before
 pub mod Values
+pub mod Zero

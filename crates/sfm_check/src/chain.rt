@@ -18,7 +18,7 @@ use sfm_law::Break;
 use std::alloc::Global;
 
 /// The set of the slope before, or the empty one before the first.
-fn before<'a>(empty: &'a Set, breaks: &'a [Break], k: usize) -> &'a Set
+pub fn before<'a>(empty: &'a Set, breaks: &'a [Break], k: usize) -> &'a Set
     requires { k ≤ length breaks.now }
     ensures { result.now ≡ members_before empty.now breaks.now k }
 {

@@ -34,7 +34,7 @@ fn is_same_block(a: &Block, b: &Block) -> bool
 }
 
 /// Where a list of blocks first differs from the one that is due, or one of the two ends.
-fn first_unlike(given: &[Block], due: &[Block]) -> Option<usize>
+pub fn first_unlike(given: &[Block], due: &[Block]) -> Option<usize>
     requires { (i : ℕ) → i < length given.now → i < length due.now → length (block_at (map block_of given.now) i).members ≡ length (block_at (map block_of due.now) i).members }
     ensures { MatchOption result (map block_of given.now ≡ map block_of due.now) (IsFirstUnlike (map block_of given.now) (map block_of due.now)) }
 {

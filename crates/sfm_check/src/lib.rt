@@ -6,6 +6,7 @@ mod chain;
 mod head;
 mod judging;
 mod kept;
+mod minimum;
 mod right;
 mod same;
 mod sections;

@@ -1,18 +1,16 @@
-// A right answer, judged without the exchange graphs of its slopes: its slopes by values, and the head by the bases at 0/1,
-// which alone are certified. What is not found right here is judged section by section.
-ghost use Rattle.std.specs.Prelude.{◌≤◌, length, IsTrue, IfOk};
+// A right answer, judged without the exchange graphs of its sections: its slopes by values, and then what is said of the
+// minimum by where the slopes pass 0, by values, and by the blocks that the bases at 0/1 tell. What is not found right here
+// is judged section by section.
+ghost use Rattle.std.specs.Prelude.{length, IsTrue, IfOk};
 ghost use Rattle.sfm_spec.specs.Families.{meanings};
 ghost use Rattle.sfm_kind.specs.Kinds.{kind_places, kind_value};
-ghost use Rattle.sfm_cert.specs.Answer.{answer_lines};
 ghost use Rattle.sfm_cert.specs.Form.{IsFormed};
-ghost use Rattle.sfm_cert.specs.Grammar.{answer_limit};
 ghost use Rattle.sfm_cert.specs.Solved.{answer_of, form_of};
 ghost use Rattle.sfm_check.specs.Truth.{IsTrueHead};
 ghost use Rattle.sfm_check.specs.Findings.{AllAreProved, AllRowsAreBases};
 
-use crate::head::first_wrong_before_slopes;
 use crate::kept::tell_kept;
-use crate::sections::prove_section;
+use crate::minimum::is_minimum_right;
 use crate::values::are_slopes_right;
 use sfm_base::Memory;
 use sfm_cert::Solved;
@@ -22,7 +20,6 @@ use std::alloc::Global;
 /// Whether values and the bases at 0/1 tell that an answer is true and that its sections prove it.
 pub fn is_right(alloc: Global, instance: &Instance, solved: &Solved) -> Result<bool, Memory>
     requires formed { IsFormed (form_of instance.now) (answer_of solved.now) }
-    requires few { length (answer_lines (form_of instance.now) (answer_of solved.now)) ≤ answer_limit }
     requires bases { AllRowsAreBases (meanings kind_places kind_value instance.now.terms) (answer_of solved.now) }
     ensures { IfOk result (λ r. IsTrue r → IsTrueHead (meanings kind_places kind_value instance.now.terms) (length instance.now.names) (answer_of solved.now)
         × AllAreProved (meanings kind_places kind_value instance.now.terms) (length instance.now.names) (answer_of solved.now)) }
@@ -31,9 +28,5 @@ pub fn is_right(alloc: Global, instance: &Instance, solved: &Solved) -> Result<b
     if !are_slopes_right(alloc, instance, solved)? {
         return Ok(false);
     }
-    let Some(found) = prove_section(alloc, instance, solved, 0)? else {
-        return Ok(false);
-    };
-    let wrong = first_wrong_before_slopes(alloc, instance, solved, &found)?;
-    Ok(wrong.is_none())
+    is_minimum_right(alloc, instance, solved)
 }

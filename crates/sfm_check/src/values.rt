@@ -3,18 +3,18 @@
 // Where slopes rise and sets grow so, from the empty set to the whole ground, each slope is the next one: a minimiser at a
 // smaller slope lies within those at a greater one. Where a test fails, nothing is told.
 ghost use Rattle.std.specs.Prelude.{◌≡◌, ◌<◌, length, map, slice_index_or, pos, ◌-ℤ◌, ◌*ℤ◌, IsTrue, IfOk, IfSome};
-ghost use Rattle.sfm_spec.specs.Bounds.{IsGiven};
+ghost use Rattle.sfm_spec.specs.Bounds.{IsEntry};
 ghost use Rattle.sfm_spec.specs.Slopes.{IsLowerSlope};
 ghost use Rattle.sfm_spec.specs.Families.{meanings, deficit, even_shift, rest_at};
 ghost use Rattle.sfm_kind.specs.Kinds.{kind_places, kind_value};
-ghost use Rattle.sfm_cert.specs.Form.{IsFormed, IsFormedBreak};
+ghost use Rattle.sfm_cert.specs.Form.{AreFormedRows, IsFormed, IsFormedBreak};
 ghost use Rattle.sfm_cert.specs.Solved.{answer_of, break_of, form_of};
 ghost use Rattle.sfm_check.specs.Findings.{AllRowsAreBases};
 ghost use Rattle.sfm_check.specs.Values.{AreRightSlopes, Ascends, Attains, IsSmall, IsWorth};
 
 use crate::kept::tell_kept;
 use crate::worth::{Worth, worth_of};
-use sfm_base::{Memory, Set, Slope};
+use sfm_base::{Memory, Rows, Set, Slope};
 use sfm_cert::Solved;
 use sfm_extreme::deficit_of;
 use sfm_kind::Instance;
@@ -22,13 +22,19 @@ use sfm_law::{Break, rest_of};
 use std::alloc::Global;
 use std::cmp::Ordering;
 
-/// The sum of min(z, 0) over all places, at the bases of a slope.
-fn deficit_at(alloc: Global, instance: &Instance, found: &Break) -> Result<i128, Memory>
-    requires { IsFormedBreak (length instance.now.names) (form_of instance.now).widths (break_of found.now) }
-    ensures { IfOk result (λ r. r ≡ deficit (length instance.now.names) (rest_at (meanings kind_places kind_value instance.now.terms) found.now.bases (even_shift (length instance.now.names) found.now.slope.num))) }
+/// The sum of min(z, 0) over all places, at bases and at a slope with this numerator.
+pub fn deficit_at(
+    alloc: Global,
+    instance: &Instance,
+    num: i128,
+    bases: &Rows,
+) -> Result<i128, Memory>
+    requires entry { IsEntry num }
+    requires bases { AreFormedRows (form_of instance.now).widths bases.now }
+    ensures { IfOk result (λ r. r ≡ deficit (length instance.now.names) (rest_at (meanings kind_places kind_value instance.now.terms) bases.now (even_shift (length instance.now.names) num))) }
 {
-    let shift = vec![in alloc; found.slope.num; instance.names_len()]?;
-    let z = rest_of(alloc, instance.terms(), &shift, &found.bases)?;
+    let shift = vec![in alloc; num; instance.names_len()]?;
+    let z = rest_of(alloc, instance.terms(), &shift, bases)?;
     Ok(deficit_of(&z))
 }
 
@@ -54,7 +60,7 @@ fn attain(
     ensures { IfOk result (λ r. IsTrue r → Attains (meanings kind_places kind_value instance.now.terms) (length instance.now.names) (break_of found.now) before.now
         × Attains (meanings kind_places kind_value instance.now.terms) (length instance.now.names) (break_of found.now) here.now) }
 {
-    let least = deficit_at(alloc, instance, found)?;
+    let least = deficit_at(alloc, instance, found.slope.num, &found.bases)?;
     Ok(value_at(&found.slope, before) == least && value_at(&found.slope, here) == least)
 }
 

@@ -169,11 +169,21 @@ fn verdicts_over_a_cut(rt: HostRuntime) -> Result<(), Fail> {
 
 #[test]
 fn verdicts_over_blocks(rt: HostRuntime) -> Result<(), Fail> {
-    let rows: [(&[u8], u8, &[u8]); 6] = [
+    let rows: [(&[u8], u8, &[u8]); 8] = [
         (
             b"answer 1\nminimum 0\nleast\ngreatest a b\nblock 1 b :\nblock 2 a : 1\nslope 0/1 a b\nat 0/1\nbase 1 0 0\nat 0/1\nbase 1 0 0\nend\n",
             0,
             b"valid\n",
+        ),
+        (
+            b"answer 1\nminimum 0\nleast\ngreatest a b\nblock 1 a :\nblock 2 b : 1\nslope 0/1 a b\nat 0/1\nbase 1 0 0\nat 0/1\nbase 1 0 0\nend\n",
+            1,
+            b"invalid 5 answer\n",
+        ),
+        (
+            b"answer 1\nminimum 0\nleast\ngreatest a b\nslope 0/1 a b\nat 0/1\nbase 1 0 0\nat 0/1\nbase 1 0 0\nend\n",
+            1,
+            b"invalid 5 answer\n",
         ),
         (
             b"answer 1\nminimum 0\nleast\ngreatest a b\nblock 1 b :\nblock 2 a :\nat 0/1\nbase 1 0 0\nend\n",
@@ -209,11 +219,31 @@ fn verdicts_over_blocks(rt: HostRuntime) -> Result<(), Fail> {
 
 #[test]
 fn verdicts_over_three(rt: HostRuntime) -> Result<(), Fail> {
-    let rows: [(&[u8], u8, &[u8]); 3] = [
+    let rows: [(&[u8], u8, &[u8]); 7] = [
         (
             b"answer 1\nminimum -2\nleast c\ngreatest c\nslope -2/1 c\nslope 1/1 a b c\nat 0/1\nbase 1 1 1 -2\nat -2/1\nbase 1 1 1 -2\nat 1/1\nbase 1 1 1 -2\nend\n",
             0,
             b"valid\n",
+        ),
+        (
+            b"answer 1\nminimum -1\nleast c\ngreatest c\nslope -2/1 c\nslope 1/1 a b c\nat 0/1\nbase 1 1 1 -2\nat -2/1\nbase 1 1 1 -2\nat 1/1\nbase 1 1 1 -2\nend\n",
+            1,
+            b"invalid 2 answer\n",
+        ),
+        (
+            b"answer 1\nminimum -2\nleast\ngreatest c\nslope -2/1 c\nslope 1/1 a b c\nat 0/1\nbase 1 1 1 -2\nat -2/1\nbase 1 1 1 -2\nat 1/1\nbase 1 1 1 -2\nend\n",
+            1,
+            b"invalid 3 answer\n",
+        ),
+        (
+            b"answer 1\nminimum -2\nleast c\ngreatest a c\nslope -2/1 c\nslope 1/1 a b c\nat 0/1\nbase 1 1 1 -2\nat -2/1\nbase 1 1 1 -2\nat 1/1\nbase 1 1 1 -2\nend\n",
+            1,
+            b"invalid 4 answer\n",
+        ),
+        (
+            b"answer 1\nminimum -2\nleast c\ngreatest c\nblock 1 a :\nslope -2/1 c\nslope 1/1 a b c\nat 0/1\nbase 1 1 1 -2\nat -2/1\nbase 1 1 1 -2\nat 1/1\nbase 1 1 1 -2\nend\n",
+            1,
+            b"invalid 5 answer\n",
         ),
         (
             b"answer 1\nminimum -2\nleast c\ngreatest c\nslope -2/1 b c\nslope 1/1 a b c\nat 0/1\nbase 1 1 1 -2\nat -2/1\nbase 1 1 1 -2\nat 1/1\nbase 1 1 1 -2\nend\n",
@@ -228,6 +258,47 @@ fn verdicts_over_three(rt: HostRuntime) -> Result<(), Fail> {
     ];
     for (answer, code, line) in rows {
         try_case(&rt, rt.alloc(), &check(THREE, answer, code, line))?;
+    }
+    Ok(())
+}
+
+#[test]
+fn verdicts_over_conditions_and_over_nothing(rt: HostRuntime) -> Result<(), Fail> {
+    let mixed = b"sfm 1\nground a b c d\nneed a b\nweight a:-3 b:1 c:-1 d:5\ncover 1 c d\nend\n";
+    let rows: [(&[u8], &[u8], u8, &[u8]); 5] = [
+        (
+            mixed,
+            b"answer 1\nminimum -2\nleast a b\ngreatest a b c\nblock 1 c :\nslope -1/1 a b\nslope 0/1 a b c\nslope 5/1 a b c d\nat 0/1\nbase 1 1 -1\nbase 2 -3 1 -1 5\nbase 3 1 0\nat -1/1\nbase 1 2 -2\nbase 2 -3 1 -1 5\nbase 3 1 0\nat 0/1\nbase 1 1 -1\nbase 2 -3 1 -1 5\nbase 3 1 0\nat 5/1\nbase 1 0 0\nbase 2 -3 1 -1 5\nbase 3 1 0\nend\n",
+            0,
+            b"valid\n",
+        ),
+        (
+            mixed,
+            b"answer 1\nminimum -2\nleast a b c\ngreatest a b c\nslope -1/1 a b\nslope 0/1 a b c\nslope 5/1 a b c d\nat 0/1\nbase 1 1 -1\nbase 2 -3 1 -1 5\nbase 3 1 0\nat -1/1\nbase 1 2 -2\nbase 2 -3 1 -1 5\nbase 3 1 0\nat 0/1\nbase 1 1 -1\nbase 2 -3 1 -1 5\nbase 3 1 0\nat 5/1\nbase 1 0 0\nbase 2 -3 1 -1 5\nbase 3 1 0\nend\n",
+            1,
+            b"invalid 3 answer\n",
+        ),
+        (
+            mixed,
+            b"answer 1\nminimum -2\nleast a b\ngreatest a b c\nblock 1 c :\nslope -1/1 a b\nslope 0/1 a b c\nslope 5/1 a b c d\nat 0/1\nbase 1 0 0\nbase 2 -3 1 -1 5\nbase 3 1 0\nat -1/1\nbase 1 2 -2\nbase 2 -3 1 -1 5\nbase 3 1 0\nat 0/1\nbase 1 1 -1\nbase 2 -3 1 -1 5\nbase 3 1 0\nat 5/1\nbase 1 0 0\nbase 2 -3 1 -1 5\nbase 3 1 0\nend\n",
+            1,
+            b"invalid 9 unproved\n",
+        ),
+        (
+            b"sfm 1\nground a b\nend\n",
+            b"answer 1\nminimum 0\nleast\ngreatest a b\nblock 1 a :\nblock 2 b :\nslope 0/1 a b\nat 0/1\nat 0/1\nend\n",
+            0,
+            b"valid\n",
+        ),
+        (
+            b"sfm 1\nground\nend\n",
+            b"answer 1\nminimum 0\nleast\ngreatest\nat 0/1\nend\n",
+            0,
+            b"valid\n",
+        ),
+    ];
+    for (text, answer, code, line) in rows {
+        try_case(&rt, rt.alloc(), &check(text, answer, code, line))?;
     }
     Ok(())
 }

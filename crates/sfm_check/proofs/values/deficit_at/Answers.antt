@@ -20,9 +20,9 @@ pub rest_of-requires-clause-placed : goal.rest_of-requires-clause-placed
 rest_of-requires-clause-placed c =
     let n = length c.args.instance.now.names in
     let e = c.requires.entry in
-    let fn : FitsSigned w128 c.args.found.now.slope.num = omega (arith, ints, e) in
-    let same : c.deref.result.now ≡ replicate c.names_len.result c.args.found.now.slope.num = search rules in
-    let places : length c.deref.result.now ≡ n = ap length same ∙ (length-replicate c.names_len.result c.args.found.now.slope.num ∙ c.names_len.ensures.len) in
+    let fn : FitsSigned w128 c.args.num = omega (arith, ints, e) in
+    let same : c.deref.result.now ≡ replicate c.names_len.result c.args.num = search rules in
+    let places : length c.deref.result.now ≡ n = ap length same ∙ (length-replicate c.names_len.result c.args.num ∙ c.names_len.ensures.len) in
     rw (c.terms.ensures.terms, places) c.terms.ensures.bounded.placed
 
 -- each row is as long as its term has places
@@ -36,7 +36,7 @@ entries (t ∷ ts) rows f i l =
       read i l = get_or_default (t ∷ ts) i t (get_or (t ∷ ts) i t) l
 
 pub rest_of-requires-clause-entries : goal.rest_of-requires-clause-entries
-rest_of-requires-clause-entries c = rw c.terms.ensures.terms (entries c.args.instance.now.terms c.args.found.now.bases c.requires.bases)
+rest_of-requires-clause-entries c = rw c.terms.ensures.terms (entries c.args.instance.now.terms c.args.bases.now c.requires.bases)
 
 -- the shift, and what z is
 shift_is : (n : ℕ) (p : ℤ) (shift : List ℤ) → shift ≡ replicate n p → IsEntry p → n ≤ 256 → magnitudes shift ≤ℤ pos (10 ^ 36)
@@ -47,11 +47,11 @@ shift_is n p shift same entry few =
 pub rest_of-requires-clause-shifts : goal.rest_of-requires-clause-shifts
 rest_of-requires-clause-shifts c =
     let e = c.requires.entry in
-    let fn : FitsSigned w128 c.args.found.now.slope.num = omega (arith, ints, e) in
+    let fn : FitsSigned w128 c.args.num = omega (arith, ints, e) in
     let n = c.names_len.result in
     let few = c.terms.ensures.bounded.few in
-    let same : c.deref.result.now ≡ replicate c.names_len.result c.args.found.now.slope.num = search rules in
-    shift_is n c.args.found.now.slope.num c.deref.result.now same e (omega (arith, few, c.names_len.ensures.len))
+    let same : c.deref.result.now ≡ replicate c.names_len.result c.args.num = search rules in
+    shift_is n c.args.num c.deref.result.now same e (omega (arith, few, c.names_len.ensures.len))
 
 pub deficit_of-requires : goal.deficit_of-requires
 deficit_of-requires c =
@@ -59,19 +59,19 @@ deficit_of-requires c =
     let b = c.terms.ensures.bounded in
     let few = b.few in
     let e = c.requires.entry in
-    let fn : FitsSigned w128 c.args.found.now.slope.num = omega (arith, ints, e) in
-    let same : c.deref.result.now ≡ replicate c.names_len.result c.args.found.now.slope.num = search rules in
-    let places : length c.deref.result.now ≡ length c.args.instance.now.names = ap length same ∙ (length-replicate c.names_len.result c.args.found.now.slope.num ∙ c.names_len.ensures.len) in
-    let rest : IsRest (meanings kind_places kind_value ts) c.deref.result.now c.args.found.now.bases c.in_ok-z.z.items = rw c.terms.ensures.terms at c.in_ok-z.ensures in
-    rw c.deref-2.ensures.value (rest-total kind_places kind_value ts c.deref.result.now c.args.found.now.bases c.in_ok-z.z.items rest c.requires.bases.small b.few_places (omega (arith, few, places)) (shift_is c.names_len.result c.args.found.now.slope.num c.deref.result.now same e (omega (arith, few, c.names_len.ensures.len))))
+    let fn : FitsSigned w128 c.args.num = omega (arith, ints, e) in
+    let same : c.deref.result.now ≡ replicate c.names_len.result c.args.num = search rules in
+    let places : length c.deref.result.now ≡ length c.args.instance.now.names = ap length same ∙ (length-replicate c.names_len.result c.args.num ∙ c.names_len.ensures.len) in
+    let rest : IsRest (meanings kind_places kind_value ts) c.deref.result.now c.args.bases.now c.in_ok-z.z.items = rw c.terms.ensures.terms at c.in_ok-z.ensures in
+    rw c.deref-2.ensures.value (rest-total kind_places kind_value ts c.deref.result.now c.args.bases.now c.in_ok-z.z.items rest c.requires.bases.small b.few_places (omega (arith, few, places)) (shift_is c.names_len.result c.args.num c.deref.result.now same e (omega (arith, few, c.names_len.ensures.len))))
 
 pub returns : goal.returns
 returns c =
     let ts = c.args.instance.now.terms in
     let ms = meanings kind_places kind_value ts in
     let n = length c.args.instance.now.names in
-    let p = c.args.found.now.slope.num in
-    let rows = c.args.found.now.bases in
+    let p = c.args.num in
+    let rows = c.args.bases.now in
     let e = c.requires.entry in
     let fn : FitsSigned w128 p = omega (arith, ints, e) in
     let fd : FitsSigned w128 c.deficit_of.result = search rules in
