@@ -1,5 +1,6 @@
-// Small demands over two slots that hold 3 and 2, with answers worked by hand.
-ghost use Rattle.std.specs.Prelude.{◌≡◌, ◌<◌, IfOk, [], ◌∷◌, length, slice_set, pos};
+// Small demands over a few slots, in tables: how they are split, or that they ask for too much; and of a split that is kept, what
+// each step answers. All is worked by hand, and a row costs no proof.
+ghost use Rattle.std.specs.Prelude.{◌≡◌, ◌↔◌, ◌<◌, ◌≤◌, length, slice_set, pos, IsTrue};
 ghost use Rattle.std.specs.List.{All};
 ghost use Rattle.sfm_assign.specs.Splits.{IsAmount, IsCapacity};
 
@@ -9,80 +10,225 @@ use std::alloc::Global;
 use std::process::Abort;
 use std::test::Fail;
 
-/// A demand of both slots, and two of the first alone.
-fn demands(alloc: Global, both: u8, first: u8, second: u8) -> Result<Demand, Memory>
-    ensures { IfOk result (λ d. d.demands ≡ pos both ∷ pos first ∷ pos second ∷ []) }
+const MOST_AMOUNT: i128 = 100_000_000_000_000_000_000_000_000_000_000;
+
+const MOST_CAPACITY: i128 = 1_000_000_000_000_000_000_000_000;
+
+/// Whether each number is a possible amount of a demand.
+fn are_amounts(x: &[i128]) -> bool
+    ensures { IsTrue result ↔ All IsAmount x.now }
 {
-    let mut demand = Demand::new(alloc, &[3, 2])?;
-    demand.push(i128::from(both), vec![in alloc; 0, 1]?)?;
-    demand.push(i128::from(first), vec![in alloc; 0]?)?;
-    demand.push(i128::from(second), vec![in alloc; 0]?)?;
-    Ok(demand)
+    x.iter().all(|a| 0 <= *a && *a <= MOST_AMOUNT)
 }
 
-/// Asserts the amounts of a demand.
-fn has_row(rt: &impl Abort, split: &Split, i: usize, row: &[i128]) {
-    assert!(rt; i < split.len());
-    assert_eq!(rt; split.row(i), row);
-}
-
-#[test]
-fn moves_to_the_other_slot(rt: HostRuntime) -> Result<(), Fail> {
-    let demand = demands(rt.alloc(), 2, 2, 1)?;
-    match assign(rt.alloc(), &demand) {
-        Ok(split) => {
-            has_row(&rt, &split, 0, &[0, 2]);
-            has_row(&rt, &split, 1, &[2]);
-            has_row(&rt, &split, 2, &[1]);
-        }
-        Err(_) => panic!(rt; "no split"),
-    }
-    Ok(())
-}
-
-#[test]
-fn two_ask_for_too_much(rt: HostRuntime) -> Result<(), Fail> {
-    let demand = demands(rt.alloc(), 1, 2, 2)?;
-    match assign(rt.alloc(), &demand) {
-        Err(AssignEnd::Shortage { set }) => {
-            assert!(rt; set.len() == 3);
-            assert!(rt; set.contains(1) && set.contains(2));
-        }
-        _ => panic!(rt; "no shortage"),
-    }
-    Ok(())
-}
-
-/// Two demands of one slot that holds 3.
-fn one_slot(alloc: Global, first: u8, second: u8) -> Result<Demand, Memory>
-    ensures { IfOk result (λ d. d.demands ≡ pos first ∷ pos second ∷ []) }
+/// Whether each number is a possible capacity of a slot.
+fn are_capacities(x: &[i128]) -> bool
+    ensures { IsTrue result ↔ All IsCapacity x.now }
 {
-    let mut demand = Demand::new(alloc, &[3])?;
-    demand.push(i128::from(first), vec![in alloc; 0]?)?;
-    demand.push(i128::from(second), vec![in alloc; 0]?)?;
-    Ok(demand)
+    x.iter().all(|a| 0 <= *a && *a <= MOST_CAPACITY)
+}
+
+/// Whether each slot is one of the first m.
+fn are_below(slots: &[usize], m: usize) -> bool
+    ensures { IsTrue result ↔ All (λ s. s < m) slots.now }
+{
+    slots.iter().all(|s| *s < m)
+}
+
+/// Capacities of slots, and the amounts of demands, each with the slots that it may use.
+#[derive(Clone, Copy)]
+struct Asking<'a> {
+    capacities: &'a [i128],
+    demands: &'a [(i128, &'a [usize])],
+}
+
+/// Demands, with their amounts and the number of slots beside them.
+#[derive(Drop)]
+struct Asked {
+    demand: Demand,
+    amounts: Vec<i128>,
+    slots: usize,
+    ghost told: { demand.demands ≡ amounts.items },
+    ghost counted: { length demand.capacities ≡ slots },
+}
+
+/// No demands, over slots with these capacities.
+fn nothing_asked(rt: &impl Abort, alloc: Global, capacities: &[i128]) -> Result<Asked, Memory> {
+    assert!(rt; capacities.len() <= 256);
+    assert!(rt; are_capacities(capacities));
+    Ok(Asked {
+        demand: Demand::new(alloc, capacities)?,
+        amounts: Vec::new(alloc),
+        slots: capacities.len(),
+    })
+}
+
+/// These demands and one more.
+fn asked_more(
+    rt: &impl Abort,
+    alloc: Global,
+    asked: Asked,
+    amount: i128,
+    list: &[usize],
+) -> Result<Asked, Memory> {
+    let Asked {
+        mut demand,
+        mut amounts,
+        slots,
+    } = asked;
+    assert!(rt; amounts.len() < 256);
+    assert!(rt; 0 <= amount && amount <= MOST_AMOUNT);
+    assert!(rt; are_below(list, slots));
+    demand.push(amount, Vec::from_slice(alloc, list)?)?;
+    amounts.push(amount)?;
+    Ok(Asked {
+        demand,
+        amounts,
+        slots,
+    })
+}
+
+/// The demands of a row.
+fn asked_of(rt: &impl Abort, alloc: Global, asking: &Asking) -> Result<Asked, Memory> {
+    let mut asked = nothing_asked(rt, alloc, asking.capacities)?;
+    for ask in asking.demands {
+        asked = asked_more(rt, alloc, asked, ask.0, ask.1)?;
+    }
+    Ok(asked)
+}
+
+/// Capacities of two slots.
+const TWO: &[i128] = &[3, 2];
+
+/// The capacity of one slot.
+const ONE: &[i128] = &[3];
+
+/// Demands, and the amounts of each.
+const SPLITS: [(Asking, &[&[i128]]); 2] = [
+    (
+        Asking {
+            capacities: TWO,
+            demands: &[(2, &[0, 1]), (2, &[0]), (1, &[0])],
+        },
+        &[&[0, 2], &[2], &[1]],
+    ),
+    (
+        Asking {
+            capacities: ONE,
+            demands: &[(2, &[0]), (1, &[0])],
+        },
+        &[&[2], &[1]],
+    ),
+];
+
+/// Whether the demands have these amounts.
+fn has_rows(split: &Split, rows: &[&[i128]]) -> bool {
+    if split.len() != rows.len() {
+        return false;
+    }
+    for (i, row) in rows.iter().enumerate() {
+        if i >= split.len() || split.row(i) != *row {
+            return false;
+        }
+    }
+    true
 }
 
 #[test]
-fn one_slot_for_two(rt: HostRuntime) -> Result<(), Fail> {
-    let short = one_slot(rt.alloc(), 2, 2)?;
-    match assign(rt.alloc(), &short) {
-        Err(AssignEnd::Shortage { set }) => {
-            assert!(rt; set.len() == 2);
-            assert!(rt; set.contains(0) && set.contains(1));
+fn splits(rt: HostRuntime) -> Result<(), Fail> {
+    for row in &SPLITS {
+        let asked = asked_of(&rt, rt.alloc(), &row.0)?;
+        match assign(rt.alloc(), &asked.demand) {
+            Ok(split) => assert!(rt; has_rows(&split, row.1)),
+            Err(_) => panic!(rt; "no split"),
         }
-        _ => panic!(rt; "no shortage"),
-    }
-    let demand = one_slot(rt.alloc(), 2, 1)?;
-    match assign(rt.alloc(), &demand) {
-        Ok(split) => {
-            has_row(&rt, &split, 0, &[2]);
-            has_row(&rt, &split, 1, &[1]);
-        }
-        Err(_) => panic!(rt; "no split"),
     }
     Ok(())
 }
+
+/// Demands that ask for too much, and those that each set which does has.
+const SHORTAGES: [(Asking, &[usize]); 2] = [
+    (
+        Asking {
+            capacities: TWO,
+            demands: &[(1, &[0, 1]), (2, &[0]), (2, &[0])],
+        },
+        &[1, 2],
+    ),
+    (
+        Asking {
+            capacities: ONE,
+            demands: &[(2, &[0]), (2, &[0])],
+        },
+        &[0, 1],
+    ),
+];
+
+/// Whether a set of so many has each of these.
+fn has_all(set: &Set, n: usize, members: &[usize]) -> bool {
+    for e in members {
+        if *e >= set.len() || !set.contains(*e) {
+            return false;
+        }
+    }
+    set.len() == n
+}
+
+/// Whether an end is a shortage of so many demands, with each of these.
+fn is_shortage(end: &AssignEnd, n: usize, members: &[usize]) -> bool {
+    match end {
+        AssignEnd::Shortage { set } => has_all(set, n, members),
+        AssignEnd::Memory => false,
+    }
+}
+
+#[test]
+fn shortages(rt: HostRuntime) -> Result<(), Fail> {
+    for row in &SHORTAGES {
+        let asked = asked_of(&rt, rt.alloc(), &row.0)?;
+        match assign(rt.alloc(), &asked.demand) {
+            Ok(_) => panic!(rt; "a split"),
+            Err(end) => assert!(rt; is_shortage(&end, asked.amounts.len(), row.1)),
+        }
+    }
+    Ok(())
+}
+
+#[test]
+fn no_split_is_kept_of_too_much(rt: HostRuntime) -> Result<(), Fail> {
+    for row in &SHORTAGES {
+        let Asked {
+            demand,
+            amounts,
+            ..
+        } = asked_of(&rt, rt.alloc(), &row.0)?;
+        match Kept::new(rt.alloc(), demand) {
+            Ok(_) => panic!(rt; "a split"),
+            Err(end) => assert!(rt; is_shortage(&end, amounts.len(), row.1)),
+        }
+    }
+    Ok(())
+}
+
+/// Demands, one of them that asks for nothing, and the most that this one can get.
+const MOSTS: [(Asking, usize, i128); 2] = [
+    (
+        Asking {
+            capacities: TWO,
+            demands: &[(0, &[0, 1]), (2, &[0]), (1, &[0])],
+        },
+        0,
+        2,
+    ),
+    (
+        Asking {
+            capacities: ONE,
+            demands: &[(2, &[0]), (0, &[0])],
+        },
+        1,
+        1,
+    ),
+];
 
 /// The most of a demand that asks for nothing, if the others can be met.
 fn most_of(alloc: Global, demand: &Demand, u: usize) -> Result<Option<i128>, Memory>
@@ -95,13 +241,36 @@ fn most_of(alloc: Global, demand: &Demand, u: usize) -> Result<Option<i128>, Mem
     }
 }
 
+/// The most of a demand of that number, which has to ask for nothing.
+fn most_asked(
+    rt: &impl Abort,
+    alloc: Global,
+    asked: &Asked,
+    u: usize,
+) -> Result<Option<i128>, Memory> {
+    assert!(rt; u < asked.amounts.len());
+    assert!(rt; asked.amounts[u] == 0);
+    most_of(alloc, &asked.demand, u)
+}
+
 #[test]
 fn most_of_one(rt: HostRuntime) -> Result<(), Fail> {
-    let demand = demands(rt.alloc(), 0, 2, 1)?;
-    assert_eq!(rt; most_of(rt.alloc(), &demand, 0)?, Some(2));
-    let demand = one_slot(rt.alloc(), 2, 0)?;
-    assert_eq!(rt; most_of(rt.alloc(), &demand, 1)?, Some(1));
+    for row in &MOSTS {
+        let asked = asked_of(&rt, rt.alloc(), &row.0)?;
+        let found = most_asked(&rt, rt.alloc(), &asked, row.1)?;
+        assert_eq!(rt; found, Some(row.2));
+    }
     Ok(())
+}
+
+/// A split that is kept, with the amounts of its demands and the number of slots beside it.
+#[derive(Drop)]
+struct Held {
+    kept: Kept,
+    amounts: Vec<i128>,
+    slots: usize,
+    ghost told: { kept.demand.demands ≡ amounts.items },
+    ghost counted: { length kept.demand.capacities ≡ slots },
 }
 
 /// A split of demands, if all can be met.
@@ -114,150 +283,245 @@ fn kept(rt: &impl Abort, alloc: Global, demand: Demand) -> Kept
     }
 }
 
-/// Asserts which demands can lend to u.
+/// The split of the demands of a row.
+fn held_of(rt: &impl Abort, alloc: Global, asking: &Asking) -> Result<Held, Memory> {
+    let Asked {
+        demand,
+        amounts,
+        slots,
+    } = asked_of(rt, alloc, asking)?;
+    Ok(Held {
+        kept: kept(rt, alloc, demand),
+        amounts,
+        slots,
+    })
+}
+
+/// A copy.
+fn copied(alloc: Global, held: &Held) -> Result<Held, Memory> {
+    Ok(Held {
+        kept: held.kept.copy(alloc)?,
+        amounts: Vec::from_slice(alloc, held.amounts.as_slice())?,
+        slots: held.slots,
+    })
+}
+
+/// What is asked of a split that is kept, and what it answers.
+#[derive(Clone, Copy)]
+enum Step {
+    /// Those that can lend to a demand.
+    Reach(usize, &'static [usize]),
+    /// Other amounts and capacities, which can be split.
+    Bring(&'static [i128], &'static [i128]),
+    /// Other amounts and capacities, which can't: each set that asks for too much has these.
+    Lack(&'static [i128], &'static [i128], &'static [usize]),
+    /// A demand that is raised up to so much, and by how much.
+    Grow(usize, i128, i128),
+}
+
+/// Whether a set has these and no others.
+fn has_only(set: &Set, members: &[usize]) -> bool {
+    set.size() == members.len() && has_all(set, set.len(), members)
+}
+
+/// Asserts which demands can lend to one.
 fn reaches(
     rt: &impl Abort,
     alloc: Global,
-    kept: &mut Kept,
+    held: &mut Held,
     u: usize,
-    lenders: &[bool],
-) -> Result<(), Memory>
-    requires place { u < length kept.old.demand.demands }
-    requires each { length lenders.now ≡ length kept.old.demand.demands }
-    ensures { kept.new.demand ≡ kept.old.demand }
-{
-    let mut to = Set::empty(alloc, lenders.len())?;
-    kept.reach(alloc, u, &mut to)?;
-    for (v, lends) in lenders.iter().enumerate() {
-        assert_eq!(rt; to.contains(v), *lends, "demand {v}");
+    lenders: &[usize],
+) -> Result<(), Memory> {
+    assert!(rt; u < held.amounts.len());
+    let mut to = Set::whole(alloc, held.amounts.len())?;
+    held.kept.reach(alloc, u, &mut to)?;
+    assert!(rt; has_only(&to, lenders));
+    Ok(())
+}
+
+/// Brings a split to other amounts and capacities.
+fn bring(
+    rt: &impl Abort,
+    alloc: Global,
+    held: &mut Held,
+    amounts: &[i128],
+    capacities: &[i128],
+) -> Result<(), AssignEnd> {
+    assert!(rt; amounts.len() == held.amounts.len());
+    assert!(rt; capacities.len() == held.slots);
+    assert!(rt; are_amounts(amounts));
+    assert!(rt; are_capacities(capacities));
+    held.kept.bring(alloc, amounts, capacities)?;
+    held.amounts.copy_from_slice(amounts);
+    Ok(())
+}
+
+/// Asserts by how much a demand is raised.
+fn grows(
+    rt: &impl Abort,
+    alloc: Global,
+    held: &mut Held,
+    u: usize,
+    limit: i128,
+) -> Result<i128, Memory> {
+    assert!(rt; u < held.amounts.len());
+    let amount = held.amounts[u];
+    assert!(rt; 0 <= amount && amount <= 1_000_000_000);
+    assert!(rt; 0 <= limit && limit <= 1_000_000_000);
+    let more = held.kept.grow(alloc, u, limit)?;
+    let Some(sum) = amount.checked_add(more) else {
+        panic!(rt; "the sum is too large");
+    };
+    held.amounts[u] = sum;
+    Ok(more)
+}
+
+/// Takes a step, and asserts what it answers.
+fn take(rt: &impl Abort, alloc: Global, held: &mut Held, step: &Step) -> Result<(), Memory> {
+    match step {
+        Step::Reach(u, lenders) => reaches(rt, alloc, held, *u, lenders)?,
+        Step::Bring(amounts, capacities) => {
+            let end = bring(rt, alloc, held, amounts, capacities);
+            assert!(rt; end.is_ok());
+        }
+        Step::Lack(amounts, capacities, members) => {
+            match bring(rt, alloc, held, amounts, capacities) {
+                Ok(()) => panic!(rt; "a split"),
+                Err(end) => assert!(rt; is_shortage(&end, amounts.len(), members)),
+            }
+        }
+        Step::Grow(u, limit, more) => {
+            let found = grows(rt, alloc, held, *u, *limit)?;
+            assert!(rt; found == *more);
+        }
     }
     Ok(())
 }
 
-#[test]
-fn lends_on_one_slot(rt: HostRuntime) -> Result<(), Fail> {
-    let alloc = rt.alloc();
-    let mut full = kept(&rt, alloc, one_slot(alloc, 2, 1)?);
-    reaches(&rt, alloc, &mut full, 1, &[true, false])?;
-    let mut nothing = kept(&rt, alloc, one_slot(alloc, 3, 0)?);
-    reaches(&rt, alloc, &mut nothing, 0, &[false, false])?;
-    let mut room = kept(&rt, alloc, one_slot(alloc, 1, 1)?);
-    reaches(&rt, alloc, &mut room, 0, &[false, true])?;
-    let mut both = kept(&rt, alloc, one_slot(alloc, 2, 0)?);
-    reaches(&rt, alloc, &mut both, 0, &[false, false])?;
-    reaches(&rt, alloc, &mut both, 1, &[true, false])?;
-    Ok(())
-}
-
-#[test]
-fn keeps_no_split_of_too_much(rt: HostRuntime) -> Result<(), Fail> {
-    let short = one_slot(rt.alloc(), 2, 2)?;
-    match Kept::new(rt.alloc(), short) {
-        Err(AssignEnd::Shortage { set }) => {
-            assert!(rt; set.len() == 2);
-            assert!(rt; set.contains(0) && set.contains(1));
-        }
-        _ => panic!(rt; "no shortage"),
+/// Takes steps one after another.
+fn take_all(rt: &impl Abort, alloc: Global, held: &mut Held, steps: &[Step]) -> Result<(), Memory> {
+    for step in steps {
+        take(rt, alloc, held, step)?;
     }
     Ok(())
 }
 
 /// Four demands, the last two of 1, over three slots that hold 1 each: the third shares a slot with the second alone, and the
 /// last shares with none.
-fn in_a_row(alloc: Global, first: u8, second: u8) -> Result<Demand, Memory>
-    ensures { IfOk result (λ d. d ≡ record { demands = pos first ∷ pos second ∷ pos 1 ∷ pos 1 ∷ []; lists = (0 ∷ []) ∷ (0 ∷ 1 ∷ []) ∷ (1 ∷ []) ∷ (2 ∷ []) ∷ []; capacities = pos 1 ∷ pos 1 ∷ pos 1 ∷ [] }) }
-{
-    let mut demand = Demand::new(alloc, &[1, 1, 1])?;
-    demand.push(i128::from(first), vec![in alloc; 0]?)?;
-    demand.push(i128::from(second), vec![in alloc; 0, 1]?)?;
-    demand.push(1, vec![in alloc; 1]?)?;
-    demand.push(1, vec![in alloc; 2]?)?;
-    Ok(demand)
-}
+const IN_A_ROW: Asking = Asking {
+    capacities: &[1, 1, 1],
+    demands: &[(0, &[0]), (1, &[0, 1]), (1, &[1]), (1, &[2])],
+};
 
-#[test]
-fn lends_by_way_of_another(rt: HostRuntime) -> Result<(), Fail> {
-    let mut kept = kept(&rt, rt.alloc(), in_a_row(rt.alloc(), 0, 1)?);
-    reaches(&rt, rt.alloc(), &mut kept, 0, &[false, true, true, false])?;
-    reaches(&rt, rt.alloc(), &mut kept, 2, &[false, false, false, false])?;
-    reaches(&rt, rt.alloc(), &mut kept, 1, &[false, false, true, false])?;
-    reaches(&rt, rt.alloc(), &mut kept, 0, &[false, true, true, false])?;
-    Ok(())
-}
-
-/// Asserts that other demands and capacities are split over the same lists.
-fn brings(rt: &impl Abort, alloc: Global, kept: &mut Kept, demands: &[i128], capacities: &[i128])
-    requires sized { length demands.now ≡ length kept.old.demand.demands }
-    requires slots { length capacities.now ≡ length kept.old.demand.capacities }
-    requires amounts { All IsAmount demands.now }
-    requires bounded { All IsCapacity capacities.now }
-    ensures { kept.new.demand ≡ record { demands = demands.now; lists = kept.old.demand.lists; capacities = capacities.now } }
-{
-    match kept.bring(alloc, demands, capacities) {
-        Ok(()) => {}
-        Err(_) => panic!(rt; "no split"),
-    }
-}
-
-#[test]
-fn brings_a_copy_to_other_demands(rt: HostRuntime) -> Result<(), Fail> {
-    let alloc = rt.alloc();
-    let mut first = kept(&rt, alloc, in_a_row(alloc, 0, 1)?);
-    let mut other = first.copy(alloc)?;
-    brings(&rt, alloc, &mut other, &[1, 0, 1, 1], &[1, 1, 1]);
-    reaches(&rt, alloc, &mut other, 1, &[true, false, true, false])?;
-    brings(&rt, alloc, &mut other, &[0, 3, 0, 0], &[2, 1, 0]);
-    reaches(&rt, alloc, &mut other, 2, &[false, true, false, false])?;
-    brings(&rt, alloc, &mut other, &[0, 1, 1, 1], &[1, 1, 1]);
-    reaches(&rt, alloc, &mut other, 0, &[false, true, true, false])?;
-    reaches(&rt, alloc, &mut first, 0, &[false, true, true, false])?;
-    match other.bring(alloc, &[1, 1, 1, 0], &[1, 1, 1]) {
-        Err(AssignEnd::Shortage { set }) => {
-            assert!(rt; set.len() == 4);
-            assert!(rt; set.contains(0) && set.contains(1) && set.contains(2));
-        }
-        _ => panic!(rt; "no shortage"),
-    }
-    reaches(&rt, alloc, &mut other, 0, &[false, true, true, false])?;
-    Ok(())
-}
+/// The same, where the second asks for nothing.
+const HALF_A_ROW: Asking = Asking {
+    capacities: &[1, 1, 1],
+    demands: &[(0, &[0]), (0, &[0, 1]), (1, &[1]), (1, &[2])],
+};
 
 /// Two demands of two slots that hold 1 each: what one of them leads to leads back.
-fn in_a_ring(alloc: Global) -> Result<Demand, Memory>
-    ensures { IfOk result (λ d. d.demands ≡ pos 1 ∷ pos 1 ∷ []) }
-{
-    let mut demand = Demand::new(alloc, &[1, 1])?;
-    demand.push(1, vec![in alloc; 0, 1]?)?;
-    demand.push(1, vec![in alloc; 1, 0]?)?;
-    Ok(demand)
-}
+const RING: Asking = Asking {
+    capacities: &[1, 1],
+    demands: &[(1, &[0, 1]), (1, &[1, 0])],
+};
+
+/// Demands, and steps with their split.
+const KEPT: [(Asking, &[Step]); 9] = [
+    (
+        Asking {
+            capacities: ONE,
+            demands: &[(2, &[0]), (1, &[0])],
+        },
+        &[Step::Reach(1, &[0])],
+    ),
+    (
+        Asking {
+            capacities: ONE,
+            demands: &[(3, &[0]), (0, &[0])],
+        },
+        &[Step::Reach(0, &[])],
+    ),
+    (
+        Asking {
+            capacities: ONE,
+            demands: &[(1, &[0]), (1, &[0])],
+        },
+        &[
+            Step::Reach(0, &[1]),
+            Step::Grow(0, 5, 1),
+            Step::Reach(0, &[1]),
+        ],
+    ),
+    (
+        Asking {
+            capacities: ONE,
+            demands: &[(2, &[0]), (0, &[0])],
+        },
+        &[Step::Reach(0, &[]), Step::Reach(1, &[0])],
+    ),
+    (
+        IN_A_ROW,
+        &[
+            Step::Reach(0, &[1, 2]),
+            Step::Reach(2, &[]),
+            Step::Reach(1, &[2]),
+            Step::Reach(0, &[1, 2]),
+        ],
+    ),
+    (RING, &[Step::Reach(0, &[1]), Step::Reach(1, &[0])]),
+    (
+        IN_A_ROW,
+        &[
+            Step::Reach(0, &[1, 2]),
+            Step::Bring(&[1, 0, 1, 1], &[1, 1, 1]),
+            Step::Reach(0, &[]),
+            Step::Reach(1, &[0, 2]),
+        ],
+    ),
+    (HALF_A_ROW, &[Step::Grow(1, 5, 1), Step::Grow(0, 5, 0)]),
+    (
+        Asking {
+            capacities: TWO,
+            demands: &[(1, &[0, 1]), (1, &[0]), (0, &[0])],
+        },
+        &[Step::Grow(0, 2, 2), Step::Grow(2, 2, 1)],
+    ),
+];
 
 #[test]
-fn remembers_until_the_split_changes(rt: HostRuntime) -> Result<(), Fail> {
-    let alloc = rt.alloc();
-    let mut ring = kept(&rt, alloc, in_a_ring(alloc)?);
-    reaches(&rt, alloc, &mut ring, 0, &[false, true])?;
-    reaches(&rt, alloc, &mut ring, 1, &[true, false])?;
-    let mut row = kept(&rt, alloc, in_a_row(alloc, 0, 1)?);
-    reaches(&rt, alloc, &mut row, 0, &[false, true, true, false])?;
-    brings(&rt, alloc, &mut row, &[1, 0, 1, 1], &[1, 1, 1]);
-    reaches(&rt, alloc, &mut row, 0, &[false, false, false, false])?;
-    reaches(&rt, alloc, &mut row, 1, &[true, false, true, false])?;
-    let mut both = kept(&rt, alloc, one_slot(alloc, 1, 1)?);
-    reaches(&rt, alloc, &mut both, 0, &[false, true])?;
-    assert_eq!(rt; both.grow(alloc, 0, 5)?, 1);
-    reaches(&rt, alloc, &mut both, 0, &[false, true])?;
+fn splits_that_are_kept(rt: HostRuntime) -> Result<(), Fail> {
+    for row in &KEPT {
+        let mut held = held_of(&rt, rt.alloc(), &row.0)?;
+        take_all(&rt, rt.alloc(), &mut held, row.1)?;
+    }
     Ok(())
 }
 
+/// Steps with a copy of the split in a row.
+const WITH_A_COPY: [Step; 6] = [
+    Step::Bring(&[1, 0, 1, 1], &[1, 1, 1]),
+    Step::Reach(1, &[0, 2]),
+    Step::Bring(&[0, 3, 0, 0], &[2, 1, 0]),
+    Step::Reach(2, &[1]),
+    Step::Bring(&[0, 1, 1, 1], &[1, 1, 1]),
+    Step::Reach(0, &[1, 2]),
+];
+
+/// What the split answers after them.
+const AFTER_A_COPY: [Step; 1] = [Step::Reach(0, &[1, 2])];
+
+/// Further steps with the copy.
+const TOO_MUCH: [Step; 2] = [
+    Step::Lack(&[1, 1, 1, 0], &[1, 1, 1], &[0, 1, 2]),
+    Step::Reach(0, &[1, 2]),
+];
+
 #[test]
-fn grows_as_far_as_it_can(rt: HostRuntime) -> Result<(), Fail> {
-    let alloc = rt.alloc();
-    let mut full = kept(&rt, alloc, in_a_row(alloc, 0, 0)?);
-    assert_eq!(rt; full.grow(alloc, 1, 5)?, 1);
-    assert_eq!(rt; full.grow(alloc, 0, 5)?, 0);
-    let mut room = kept(&rt, alloc, demands(alloc, 1, 1, 0)?);
-    assert_eq!(rt; room.grow(alloc, 0, 2)?, 2);
-    assert_eq!(rt; room.grow(alloc, 2, 2)?, 1);
+fn a_copy_is_brought_to_other_demands(rt: HostRuntime) -> Result<(), Fail> {
+    let mut first = held_of(&rt, rt.alloc(), &IN_A_ROW)?;
+    let mut other = copied(rt.alloc(), &first)?;
+    take_all(&rt, rt.alloc(), &mut other, &WITH_A_COPY)?;
+    take_all(&rt, rt.alloc(), &mut first, &AFTER_A_COPY)?;
+    take_all(&rt, rt.alloc(), &mut other, &TOO_MUCH)?;
     Ok(())
 }

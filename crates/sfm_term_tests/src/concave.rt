@@ -1,37 +1,81 @@
-// Both kinds once through the trait's calls, with answers worked by hand, and the refusals of numbers that rise.
-use crate::trial::{Wanted, has_rooms, holds, part};
+// Concave functions and ranks of uniform matroids, with answers worked by hand, and the refusals of numbers that rise.
+use crate::facts::{has_facts, try_table};
 use sfm_concave::{Concave, ConcaveEnd, Uniform};
-use sfm_law::{Room, Term};
+use sfm_kind::Kind;
 use std::test::Fail;
 
+const TERMS: [(&str, &str); 4] = [
+    (
+        "concave 4 7 8 : a b c",
+        "size 8
+        values 0 4 4 7 4 7 7 8
+        start 4 3 1
+        not 4 4 0
+        base 4 3 1
+        room 2 1 2
+        room 1 0 1
+        room 0 1 0
+        room 2 0 3
+        reach 0 0
+        reach 1 1
+        reach 2 3",
+    ),
+    (
+        "concave 3 4 : a b",
+        "places 0 1
+        size 4
+        values 0 3 3 4
+        factor 2
+        start 6 2
+        not 7 1
+        base 6 2
+        room 1 0 4
+        reach 1 1",
+    ),
+    (
+        "rank 2 uniform 1 : a b",
+        "size 2
+        values 0 2 2 2
+        start 2 0
+        not 1 2
+        base 1 1
+        room 0 1 1
+        room 1 0 1
+        reach 0 2
+        reach 1 1
+        base 0 2
+        room 0 1 2
+        room 1 0 0
+        reach 0 2
+        reach 1 0",
+    ),
+    (
+        "rank 3 uniform 1 : a b",
+        "places 0 1
+        size 3
+        values 0 3 3 3
+        factor 2
+        start 6 0
+        not 7 -1
+        base 6 0
+        room 1 0 6
+        reach 1 1",
+    ),
+];
+
 #[test]
-fn concaves(rt: HostRuntime) -> Result<(), Fail> {
-    let term = Concave::new(rt.alloc(), &[0, 1, 2], &[4, 7, 8])?;
-    let wanted = Wanted {
-        size: 8,
-        values: &[
-            Some(0),
-            Some(4),
-            Some(4),
-            Some(7),
-            Some(4),
-            Some(7),
-            Some(7),
-            Some(8),
-        ],
-        q: 1,
-        start: &[4, 3, 1],
-        base: &[4, 3, 1],
-        other: &[4, 4, 0],
-        rooms: &[
-            (2, 1, Room::Upto(2)),
-            (1, 0, Room::Upto(1)),
-            (0, 1, Room::Upto(0)),
-            (2, 0, Room::Upto(3)),
-        ],
-        reaches: &[(0, 0), (1, 1), (2, 3)],
-    };
-    holds(&rt, rt.alloc(), &term, &wanted)?;
+fn terms(rt: HostRuntime) -> Result<(), Fail> {
+    try_table(&rt, rt.alloc(), &TERMS)?;
+    Ok(())
+}
+
+const CAPPED: &str = "values 0 1000000000000000000 1000000000000000000 2000000000000000000";
+
+#[test]
+fn caps_far_above_the_count(rt: HostRuntime) -> Result<(), Fail> {
+    let most = 1_000_000_000_000_000_000;
+    let kind = Kind::Uniform(Uniform::new(rt.alloc(), &[0, 1], most, most)?);
+    has_facts(&rt, rt.alloc(), &kind, CAPPED)?;
     Ok(())
 }
 
@@ -45,38 +89,4 @@ fn concaves_refused(rt: HostRuntime) {
         Concave::new(rt.alloc(), &[0, 1, 2, 3], &[-2, -4, -5, -4]).err(),
         Some(ConcaveEnd::Rises { at: 3 })
     );
-}
-
-#[test]
-fn uniforms(rt: HostRuntime) -> Result<(), Fail> {
-    let term = Uniform::new(rt.alloc(), &[0, 1], 2, 1)?;
-    let wanted = Wanted {
-        size: 2,
-        values: &[Some(0), Some(2), Some(2), Some(2)],
-        q: 1,
-        start: &[2, 0],
-        base: &[1, 1],
-        other: &[1, 2],
-        rooms: &[(0, 1, Room::Upto(1)), (1, 0, Room::Upto(1))],
-        reaches: &[(0, 2), (1, 1)],
-    };
-    holds(&rt, rt.alloc(), &term, &wanted)?;
-    let full = Wanted {
-        base: &[0, 2],
-        rooms: &[(0, 1, Room::Upto(2)), (1, 0, Room::Upto(0))],
-        reaches: &[(0, 2), (1, 0)],
-        ..wanted
-    };
-    has_rooms(&rt, rt.alloc(), &term, &full)?;
-    Ok(())
-}
-
-#[test]
-fn caps_far_above_the_count(rt: HostRuntime) -> Result<(), Fail> {
-    let most = 1_000_000_000_000_000_000;
-    let term = Uniform::new(rt.alloc(), &[0, 1], most, most)?;
-    let s = part(rt.alloc(), 2, 3)?;
-    assert!(rt; s.len() == 2);
-    assert_eq!(rt; term.value(rt.alloc(), &s)?, Some(2 * most));
-    Ok(())
 }

@@ -1,125 +1,123 @@
-// Each kind once through the trait's calls, with answers worked by hand, and the refusals of tables.
-use crate::trial::{Wanted, has_rooms, holds};
-use sfm_law::Room;
-use sfm_simple::{Cover, Cut, Need, Table, TableEnd, Weight};
+// Each kind of weights, cuts, conditions, covers and tables, with answers worked by hand, and the refusals of tables.
+use crate::facts::try_table;
+use sfm_simple::{Table, TableEnd};
 use std::test::Fail;
 
-#[test]
-fn weights(rt: HostRuntime) -> Result<(), Fail> {
-    let term = Weight::new(rt.alloc(), &[0, 1], &[-3, 2])?;
-    let wanted = Wanted {
-        size: 5,
-        values: &[Some(0), Some(-3), Some(2), Some(-1)],
-        q: 2,
-        start: &[-6, 4],
-        base: &[-6, 4],
-        other: &[-5, 3],
-        rooms: &[(0, 1, Room::Upto(0)), (1, 0, Room::Upto(0))],
-        reaches: &[(0, 0), (1, 0)],
-    };
-    holds(&rt, rt.alloc(), &term, &wanted)?;
-    Ok(())
-}
+const TERMS: [(&str, &str); 7] = [
+    (
+        "weight a:-3 b:2",
+        "places 0 1
+        size 5
+        values 0 -3 2 -1
+        factor 2
+        start -6 4
+        not -5 3
+        base -6 4
+        room 0 1 0
+        room 1 0 0
+        reach 0 0
+        reach 1 0",
+    ),
+    (
+        "cut 4 a b",
+        "places 0 1
+        size 4
+        values 0 4 0 0
+        factor 2
+        start 8 -8
+        not 9 -9
+        base 5 -5
+        room 0 1 3
+        room 1 0 5
+        reach 0 2
+        reach 1 1
+        base 8 -8
+        room 1 0 8
+        reach 1 1",
+    ),
+    (
+        "need a b",
+        "places 0 1
+        size 0
+        values 0 no 0 0
+        start 0 0
+        not -1 1
+        base 0 0
+        room 0 1 no
+        room 1 0 0
+        reach 0 2
+        reach 1 0
+        base 2000000000000 -2000000000000
+        room 1 0 2000000000000
+        reach 0 2
+        reach 1 1
+        factor 2
+        start 0 0
+        not -1 1
+        base 0 0
+        room 1 0 0
+        reach 1 0",
+    ),
+    (
+        "cover 3 a b c",
+        "size 3
+        values 0 3 3 3 3 3 3 3
+        factor 3
+        start 9 0 0
+        not 9 1 -1
+        base 4 4 1
+        room 0 1 4
+        room 0 2 1
+        room 2 0 4
+        reach 0 6
+        reach 1 5
+        reach 2 3",
+    ),
+    (
+        "cover 3 a b",
+        "places 0 1
+        size 3
+        values 0 3 3 3
+        factor 2
+        start 6 0
+        not 7 -1
+        base 6 0
+        room 1 0 6
+        reach 1 1",
+    ),
+    (
+        "table 0 3 2 4 1 3 3 4 : a b c",
+        "size 4
+        values 0 3 2 4 1 3 3 4
+        factor 2
+        start 6 2 0
+        not 6 3 -1
+        base 6 2 0
+        room 0 1 0
+        room 1 0 2
+        room 2 0 2
+        room 2 1 0
+        reach 0 0
+        reach 1 1
+        reach 2 1",
+    ),
+    (
+        "table 0 3 2 4 : a b",
+        "places 0 1
+        size 4
+        values 0 3 2 4
+        factor 2
+        start 6 2
+        not 7 1
+        base 6 2
+        room 1 0 2
+        reach 1 1",
+    ),
+];
 
 #[test]
-fn cuts(rt: HostRuntime) -> Result<(), Fail> {
-    let term = Cut::new(4, 0, 1);
-    let wanted = Wanted {
-        size: 4,
-        values: &[Some(0), Some(4), Some(0), Some(0)],
-        q: 2,
-        start: &[8, -8],
-        base: &[5, -5],
-        other: &[9, -9],
-        rooms: &[(0, 1, Room::Upto(3)), (1, 0, Room::Upto(5))],
-        reaches: &[(0, 2), (1, 1)],
-    };
-    holds(&rt, rt.alloc(), &term, &wanted)?;
-    Ok(())
-}
-
-#[test]
-fn needs(rt: HostRuntime) -> Result<(), Fail> {
-    let term = Need::new(0, 1);
-    let wanted = Wanted {
-        size: 0,
-        values: &[Some(0), None, Some(0), Some(0)],
-        q: 1,
-        start: &[0, 0],
-        base: &[0, 0],
-        other: &[-1, 1],
-        rooms: &[(0, 1, Room::Unbounded), (1, 0, Room::Upto(0))],
-        reaches: &[(0, 2), (1, 0)],
-    };
-    holds(&rt, rt.alloc(), &term, &wanted)?;
-    let full = Wanted {
-        base: &[2_000_000_000_000, -2_000_000_000_000],
-        rooms: &[(1, 0, Room::Upto(2_000_000_000_000))],
-        reaches: &[(0, 2), (1, 1)],
-        ..wanted
-    };
-    has_rooms(&rt, rt.alloc(), &term, &full)?;
-    Ok(())
-}
-
-#[test]
-fn covers(rt: HostRuntime) -> Result<(), Fail> {
-    let term = Cover::new(rt.alloc(), 3, &[0, 1, 2])?;
-    let wanted = Wanted {
-        size: 3,
-        values: &[
-            Some(0),
-            Some(3),
-            Some(3),
-            Some(3),
-            Some(3),
-            Some(3),
-            Some(3),
-            Some(3),
-        ],
-        q: 3,
-        start: &[9, 0, 0],
-        base: &[4, 4, 1],
-        other: &[9, 1, -1],
-        rooms: &[
-            (0, 1, Room::Upto(4)),
-            (0, 2, Room::Upto(1)),
-            (2, 0, Room::Upto(4)),
-        ],
-        reaches: &[(0, 6), (1, 5), (2, 3)],
-    };
-    holds(&rt, rt.alloc(), &term, &wanted)?;
-    Ok(())
-}
-
-#[test]
-fn tables(rt: HostRuntime) -> Result<(), Fail> {
-    let term = Table::new(rt.alloc(), &[0, 1, 2], &[0, 3, 2, 4, 1, 3, 3, 4])?;
-    let wanted = Wanted {
-        size: 4,
-        values: &[
-            Some(0),
-            Some(3),
-            Some(2),
-            Some(4),
-            Some(1),
-            Some(3),
-            Some(3),
-            Some(4),
-        ],
-        q: 2,
-        start: &[6, 2, 0],
-        base: &[6, 2, 0],
-        other: &[6, 3, -1],
-        rooms: &[
-            (0, 1, Room::Upto(0)),
-            (1, 0, Room::Upto(2)),
-            (2, 0, Room::Upto(2)),
-            (2, 1, Room::Upto(0)),
-        ],
-        reaches: &[(0, 0), (1, 1), (2, 1)],
-    };
-    holds(&rt, rt.alloc(), &term, &wanted)?;
+fn terms(rt: HostRuntime) -> Result<(), Fail> {
+    try_table(&rt, rt.alloc(), &TERMS)?;
     Ok(())
 }
 

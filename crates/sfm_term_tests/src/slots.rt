@@ -1,15 +1,63 @@
-// Ranks of all parts of elements with few slots, worked by hand: one slot for two, a place that moves aside for another, and an
-// entry without slots. Bases told from vectors that are none, and what can be exchanged at them.
-ghost use Rattle.std.specs.Prelude.{◌≡◌, ◌↔◌, ◌<◌, ◌^◌, length, IfOk, IsTrue};
+// Ranks of transversal matroids, worked by hand: one slot for two, a place that moves aside for another, and an entry without
+// slots, which no text can say.
+ghost use Rattle.std.specs.Prelude.{◌↔◌, ◌<◌, ◌^◌, IsTrue};
 ghost use Rattle.std.specs.List.{All};
 
-use crate::graphs::{Wanted, has_bases, has_rooms};
-use crate::trial::part;
+use crate::facts::{has_facts, try_table};
 use sfm_base::Memory;
+use sfm_kind::Kind;
 use sfm_matroid::{Entries, Transversal};
 use std::alloc::Global;
 use std::process::Abort;
 use std::test::Fail;
+
+const TERMS: [(&str, &str); 3] = [
+    (
+        "rank 2 transversal : a=s b=s c=t",
+        "size 4
+        start 2 0 2
+        not 2 1 1
+        base 1 1 2
+        room 0 1 1
+        room 0 2 0
+        room 1 0 1
+        room 2 0 0
+        reach 0 2
+        reach 1 1
+        reach 2 0",
+    ),
+    (
+        "rank 1 transversal : a=s,t b=s,t c=s,t",
+        "size 2
+        start 1 1 0
+        base 1 1 0
+        room 0 1 0
+        room 0 2 0
+        room 2 0 1
+        room 2 1 1
+        reach 0 0
+        reach 1 0
+        reach 2 3",
+    ),
+    (
+        "rank 3 transversal : a=s b=s",
+        "places 0 1
+        size 3
+        values 0 3 3 3
+        factor 2
+        start 6 0
+        not 7 -1
+        base 6 0
+        room 1 0 6
+        reach 1 1",
+    ),
+];
+
+#[test]
+fn terms(rt: HostRuntime) -> Result<(), Fail> {
+    try_table(&rt, rt.alloc(), &TERMS)?;
+    Ok(())
+}
 
 /// Whether each number is one of a slot.
 fn are_slots(slots: &[u32]) -> bool
@@ -19,9 +67,7 @@ fn are_slots(slots: &[u32]) -> bool
 }
 
 /// Entries with these slots.
-fn entries_of(rt: &impl Abort, alloc: Global, lists: &[&[u32]]) -> Result<Entries, Memory>
-    ensures { IfOk result (λ r. length r ≡ length lists.now) }
-{
+fn entries_of(rt: &impl Abort, alloc: Global, lists: &[&[u32]]) -> Result<Entries, Memory> {
     let mut entries = Entries::new(alloc);
     for slots in lists {
         assert!(rt; are_slots(slots));
@@ -30,93 +76,49 @@ fn entries_of(rt: &impl Abort, alloc: Global, lists: &[&[u32]]) -> Result<Entrie
     Ok(entries)
 }
 
-/// Asserts the ranks of the parts by their numbers, and the values, which are 5 for each element.
-fn has_ranks(
-    rt: &impl Abort,
-    alloc: Global,
-    term: &Transversal,
-    ranks: &[u8],
-) -> Result<(), Memory> {
-    let k = term.places.len();
-    for (number, rank) in ranks.iter().enumerate() {
-        let s = part(alloc, k, number)?;
-        let rank = i128::from(*rank);
-        assert_eq!(rt; term.rank(alloc, &s)?, rank, "rank of part {number}");
-        assert_eq!(rt;
-            term.value_of(alloc, &s)?,
-            Some(5 * rank),
-            "value of part {number}"
-        );
-    }
-    Ok(())
+/// The entries of four elements, the last without slots.
+const FOUR: [&[u32]; 4] = [&[3, 900], &[3, 3], &[900], &[]];
+
+/// The term of four elements.
+fn four_elements(rt: &impl Abort, alloc: Global) -> Result<Kind, Memory> {
+    let entries = entries_of(rt, alloc, &FOUR)?;
+    assert!(rt; entries.len() == 4);
+    let term = Transversal::new(alloc, &[4, 0, 2, 9], 5, entries)?;
+    Ok(Kind::Transversal(term))
 }
 
-/// Asserts the greatest value, and the first base of twice the term.
-fn starts(
-    rt: &impl Abort,
-    alloc: Global,
-    term: &Transversal,
-    size: i128,
-    start: &[i128],
-) -> Result<(), Memory> {
-    let mut x = vec![in alloc; 1; term.places.len()]?;
-    term.start_of(2, x.as_mut_slice());
-    assert_eq!(rt; x.as_slice(), start);
-    assert_eq!(rt; term.size_of(), size);
-    Ok(())
+/// The entries of two elements with one slot.
+const TWO: [&[u32]; 2] = [&[7], &[7]];
+
+/// The term of two elements.
+fn two_elements(rt: &impl Abort, alloc: Global) -> Result<Kind, Memory> {
+    let entries = entries_of(rt, alloc, &TWO)?;
+    assert!(rt; entries.len() == 2);
+    let term = Transversal::new(alloc, &[0, 1], 2, entries)?;
+    Ok(Kind::Transversal(term))
 }
+
+const WITHOUT_SLOTS: &str = "places 4 0 2 9
+    size 10
+    ranks 0 1 1 2 1 2 2 2 0 1 1 2 1 2 2 2
+    values 0 5 5 10 5 10 10 10 0 5 5 10 5 10 10 10
+    factor 2
+    start 10 10 0 0";
 
 #[test]
 fn places_that_move_aside(rt: HostRuntime) -> Result<(), Fail> {
-    let entries = entries_of(&rt, rt.alloc(), &[&[3, 900], &[3, 3], &[900], &[]])?;
-    let term = Transversal::new(rt.alloc(), &[4, 0, 2, 9], 5, entries)?;
-    let ranks = [0, 1, 1, 2, 1, 2, 2, 2, 0, 1, 1, 2, 1, 2, 2, 2];
-    has_ranks(&rt, rt.alloc(), &term, &ranks)?;
-    starts(&rt, rt.alloc(), &term, 10, &[10, 10, 0, 0])?;
+    let kind = four_elements(&rt, rt.alloc())?;
+    has_facts(&rt, rt.alloc(), &kind, WITHOUT_SLOTS)?;
     Ok(())
 }
+
+const ONE_SLOT: &str = "base 0 2
+    base 1 1
+    not 2 1";
 
 #[test]
 fn bases_of_one_slot(rt: HostRuntime) -> Result<(), Fail> {
-    let entries = entries_of(&rt, rt.alloc(), &[&[7], &[7]])?;
-    let term = Transversal::new(rt.alloc(), &[0, 1], 2, entries)?;
-    assert!(rt; term.is_base_of(rt.alloc(), 1, &[0, 2])?);
-    assert!(rt; term.is_base_of(rt.alloc(), 1, &[1, 1])?);
-    assert!(rt; !term.is_base_of(rt.alloc(), 1, &[2, 1])?);
-    Ok(())
-}
-
-#[test]
-fn bases_by_slots(rt: HostRuntime) -> Result<(), Fail> {
-    let entries = entries_of(&rt, rt.alloc(), &[&[0], &[0], &[1]])?;
-    let term = Transversal::new(rt.alloc(), &[0, 1, 2], 2, entries)?;
-    assert!(rt; !term.is_base_of(rt.alloc(), 1, &[2, 1, 1])?);
-    let wanted = Wanted {
-        size: 4,
-        q: 1,
-        start: &[2, 0, 2],
-        base: &[1, 1, 2],
-        rooms: &[(0, 1, 1), (0, 2, 0), (1, 0, 1), (2, 0, 0)],
-        reaches: &[(0, 2), (1, 1), (2, 0)],
-    };
-    has_bases(&rt, rt.alloc(), &term, &wanted)?;
-    has_rooms(&rt, rt.alloc(), &term, &wanted)?;
-    Ok(())
-}
-
-#[test]
-fn exchanges_up_to_the_number(rt: HostRuntime) -> Result<(), Fail> {
-    let entries = entries_of(&rt, rt.alloc(), &[&[0, 1], &[0, 1], &[0, 1]])?;
-    let term = Transversal::new(rt.alloc(), &[0, 1, 2], 1, entries)?;
-    let wanted = Wanted {
-        size: 2,
-        q: 1,
-        start: &[1, 1, 0],
-        base: &[1, 1, 0],
-        rooms: &[(0, 1, 0), (0, 2, 0), (2, 0, 1), (2, 1, 1)],
-        reaches: &[(0, 0), (1, 0), (2, 3)],
-    };
-    has_bases(&rt, rt.alloc(), &term, &wanted)?;
-    has_rooms(&rt, rt.alloc(), &term, &wanted)?;
+    let kind = two_elements(&rt, rt.alloc())?;
+    has_facts(&rt, rt.alloc(), &kind, ONE_SLOT)?;
     Ok(())
 }

@@ -1,0 +1,140 @@
+// Two instances made by calls, with answers worked by hand.
+ghost use Rattle.std.specs.Prelude.{◌<◌, ◌^◌, ◌≤ℤ◌, pos};
+
+use crate::numbers::NO;
+use crate::trial::part;
+use sfm_base::Memory;
+use sfm_kind::{Instance, Kind, is_name};
+use sfm_law::Term;
+use sfm_simple::{Cut, Need, Weight};
+use std::alloc::Global;
+use std::process::Abort;
+use std::test::Fail;
+
+const MOST_SIZE: i128 = 1_000_000_000_000_000_000;
+
+/// Adds an element with a new name.
+fn add_name(rt: &impl Abort, instance: &mut Instance, name: &[u8]) -> Result<(), Memory> {
+    assert!(rt; is_name(name));
+    assert!(rt; instance.place_of(name).is_none());
+    assert!(rt; instance.names_len() < 256);
+    instance.add_name(name)
+}
+
+/// Adds a term that the bounds take.
+fn add(rt: &impl Abort, instance: &mut Instance, term: Kind) -> Result<(), Memory> {
+    assert!(rt; instance.takes(&term));
+    instance.add_term(term)
+}
+
+/// The sum of the values of terms over two elements at a part.
+fn sum_at<T: Term>(
+    rt: &impl Abort,
+    alloc: Global,
+    terms: &[T],
+    number: usize,
+) -> Result<i128, Memory> {
+    let s = part(alloc, 2, number)?;
+    let mut sum = 0i128;
+    for term in terms {
+        assert_eq!(rt; term.elements().len(), 2);
+        let value = term.value(alloc, &s)?.unwrap_or(NO);
+        sum = sum.saturating_add(value);
+    }
+    Ok(sum)
+}
+
+/// Asserts the sums of the values of the terms at the four parts.
+fn has_sums(
+    rt: &impl Abort,
+    alloc: Global,
+    instance: &Instance,
+    sums: &[i128],
+) -> Result<(), Memory> {
+    for (number, sum) in sums.iter().enumerate() {
+        let found = sum_at(rt, alloc, instance.terms(), number)?;
+        assert_eq!(rt; found, *sum);
+    }
+    Ok(())
+}
+
+/// The elements a and b, with weights -3 and 2 and a cut of 4.
+fn weight_and_cut(rt: &impl Abort, alloc: Global) -> Result<Instance, Memory> {
+    let mut instance = with_two_names(rt, alloc)?;
+    add(rt, &mut instance, weight_of(alloc)?)?;
+    add(rt, &mut instance, Kind::Cut(Cut::new(4, 0, 1)))?;
+    Ok(instance)
+}
+
+/// The elements a and b.
+fn with_two_names(rt: &impl Abort, alloc: Global) -> Result<Instance, Memory> {
+    let mut instance = Instance::new(alloc);
+    for name in ["a", "b"] {
+        add_name(rt, &mut instance, name.as_bytes())?;
+    }
+    Ok(instance)
+}
+
+/// The weights -3 and 2.
+fn weight_of(alloc: Global) -> Result<Kind, Memory> {
+    Ok(Kind::Weight(Weight::new(alloc, &[0, 1], &[-3, 2])?))
+}
+
+/// Whether an instance has the elements a and b alone.
+fn has_names(instance: &Instance) -> bool {
+    instance.names_len() == 2 && is_named(instance, 0, "a") && is_named(instance, 1, "b")
+}
+
+/// Whether the name of an element is that one, which no other has.
+fn is_named(instance: &Instance, e: usize, name: &str) -> bool {
+    e < instance.names_len()
+        && instance.name(e) == name.as_bytes()
+        && instance.place_of(name.as_bytes()) == Some(e)
+}
+
+/// Whether an instance has room for so many more places and for so large a size, and for no more.
+fn has_room_for(instance: &Instance, places: usize, size: i128) -> bool
+    requires places { places < 2 ^ 32 }
+    requires size { size ≤ℤ pos (10 ^ 18) }
+{
+    instance.has_room(places, size)
+        && !instance.has_room(places + 1, 0)
+        && !instance.has_room(1, size + 1)
+}
+
+#[test]
+fn a_weight_and_a_cut(rt: HostRuntime) -> Result<(), Fail> {
+    let instance = weight_and_cut(&rt, rt.alloc())?;
+    assert!(rt; has_names(&instance));
+    assert!(rt; instance.place_of(b"c").is_none());
+    has_sums(&rt, rt.alloc(), &instance, &[0, 1, 2, -1])?;
+    has_counts(&rt, &instance);
+    Ok(())
+}
+
+/// Asserts the counts of a weight and a cut, and what they leave room for.
+fn has_counts(rt: &impl Abort, instance: &Instance) {
+    let counts = (
+        instance.terms().len(),
+        instance.support(),
+        instance.total_size(),
+    );
+    assert_eq!(rt; counts, (2, 4, 9));
+    assert!(rt; has_room_for(instance, 16_380, MOST_SIZE - 9));
+    assert!(rt; !instance.takes(&Kind::Need(Need::new(0, 2))));
+}
+
+/// The elements a and b, and a condition.
+fn lone_need(rt: &impl Abort, alloc: Global) -> Result<Instance, Memory> {
+    let mut instance = with_two_names(rt, alloc)?;
+    add(rt, &mut instance, Kind::Need(Need::new(0, 1)))?;
+    Ok(instance)
+}
+
+#[test]
+fn a_lone_need(rt: HostRuntime) -> Result<(), Fail> {
+    let instance = lone_need(&rt, rt.alloc())?;
+    assert!(rt; instance.total_size() == 0);
+    has_sums(&rt, rt.alloc(), &instance, &[0, NO, 0, 0])?;
+    Ok(())
+}
