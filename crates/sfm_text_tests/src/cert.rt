@@ -50,75 +50,77 @@ fn bad_line(
     }
 }
 
+/// Texts, and the first bad line of each, or 0.
+const TEXTS: [(&[u8], usize); 23] = [
+    (FIRST, 0),
+    (b"answer 1\nminimum -1\nleast  a\n", 3),
+    (b"answer 1\nminimum -1\nleast b a\n", 3),
+    (b"answer 1\nminimum -1\nleast a a\n", 3),
+    (b"answer 1\nminimum -1\nleast z\n", 3),
+    (
+        b"answer 1\nminimum -1\nleast a b\ngreatest a b\nat 0/1\nbase 1 -3 2\nbase 2 3 -3\nend",
+        8,
+    ),
+    (b"", 1),
+    (b"answer 1\n", 2),
+    (
+        b"answer 1\nminimum -1\nleast a b\ngreatest a b\nat 0/1\nbase 1 -3 2\nbase 2 3 -3\nend\nend\n",
+        9,
+    ),
+    (
+        b"answer 1\nminimum 0\nleast\ngreatest\nat 0/1\nbase 1 0 0\nbase 2 1000000000000000000000000000000 -1000000000000000000000000000000\nend\n",
+        0,
+    ),
+    (
+        b"answer 1\nminimum 0\nleast\ngreatest\nat 0/1\nbase 1 0 0\nbase 2 1000000000000000000000000000001 0\nend\n",
+        7,
+    ),
+    (
+        b"answer 1\nminimum 0\nleast\ngreatest\nat 0/1\nbase 1 0 0\nbase 2 0 0 0\nend\n",
+        7,
+    ),
+    (
+        b"answer 1\nminimum 0\nleast\ngreatest b\nblock 1 b : 2\n",
+        5,
+    ),
+    (
+        b"answer 1\nminimum 0\nleast\ngreatest b\nblock 1 b : 1\n",
+        5,
+    ),
+    (b"answer 1\nminimum 0\nleast\ngreatest b\nblock 1 :\n", 5),
+    (b"answer 1\nminimum 0\nleast\ngreatest b\nblock 2 b :\n", 5),
+    (
+        b"answer 1\nminimum 0\nleast\ngreatest a b\nblock 1 b :\nblock 2 a : 1\nat 0/1\nbase 1 0 0\nbase 2 0 0\nend\n",
+        0,
+    ),
+    (
+        b"answer 1\nminimum 0\nleast\ngreatest\nslope 0/1 a\nat 0/1\nbase 1 0 0\nbase 2 0 0\nat 0/1\nbase 1 0 0\nbase 2 0 0\nend\n",
+        0,
+    ),
+    (
+        b"answer 1\nminimum 0\nleast\ngreatest\nslope 0/1 a\nat 0/1\nbase 1 0 0\nbase 2 0 0\nend\n",
+        9,
+    ),
+    (b"answer 1\nminimum 0\nleast\ngreatest\nslope -2/4 a b\n", 5),
+    (
+        b"answer 1\nminimum 0\nleast\ngreatest\nslope 1/1000001 a b\n",
+        5,
+    ),
+    (
+        b"answer 1\nminimum 0\nleast\ngreatest\nslope 1/1000000\n",
+        5,
+    ),
+    (
+        b"answer 1\nminimum 0\nleast\ngreatest\nslope 0/1 a\nblock 1 b :\n",
+        6,
+    ),
+];
+
 #[test]
 fn texts(rt: HostRuntime) -> Result<(), Fail> {
     let alloc = rt.alloc();
     let instance = instance_of(&rt, alloc)?;
-    let rows: [(&[u8], usize); 23] = [
-        (FIRST, 0),
-        (b"answer 1\nminimum -1\nleast  a\n", 3),
-        (b"answer 1\nminimum -1\nleast b a\n", 3),
-        (b"answer 1\nminimum -1\nleast a a\n", 3),
-        (b"answer 1\nminimum -1\nleast z\n", 3),
-        (
-            b"answer 1\nminimum -1\nleast a b\ngreatest a b\nat 0/1\nbase 1 -3 2\nbase 2 3 -3\nend",
-            8,
-        ),
-        (b"", 1),
-        (b"answer 1\n", 2),
-        (
-            b"answer 1\nminimum -1\nleast a b\ngreatest a b\nat 0/1\nbase 1 -3 2\nbase 2 3 -3\nend\nend\n",
-            9,
-        ),
-        (
-            b"answer 1\nminimum 0\nleast\ngreatest\nat 0/1\nbase 1 0 0\nbase 2 1000000000000000000000000000000 -1000000000000000000000000000000\nend\n",
-            0,
-        ),
-        (
-            b"answer 1\nminimum 0\nleast\ngreatest\nat 0/1\nbase 1 0 0\nbase 2 1000000000000000000000000000001 0\nend\n",
-            7,
-        ),
-        (
-            b"answer 1\nminimum 0\nleast\ngreatest\nat 0/1\nbase 1 0 0\nbase 2 0 0 0\nend\n",
-            7,
-        ),
-        (
-            b"answer 1\nminimum 0\nleast\ngreatest b\nblock 1 b : 2\n",
-            5,
-        ),
-        (
-            b"answer 1\nminimum 0\nleast\ngreatest b\nblock 1 b : 1\n",
-            5,
-        ),
-        (b"answer 1\nminimum 0\nleast\ngreatest b\nblock 1 :\n", 5),
-        (b"answer 1\nminimum 0\nleast\ngreatest b\nblock 2 b :\n", 5),
-        (
-            b"answer 1\nminimum 0\nleast\ngreatest a b\nblock 1 b :\nblock 2 a : 1\nat 0/1\nbase 1 0 0\nbase 2 0 0\nend\n",
-            0,
-        ),
-        (
-            b"answer 1\nminimum 0\nleast\ngreatest\nslope 0/1 a\nat 0/1\nbase 1 0 0\nbase 2 0 0\nat 0/1\nbase 1 0 0\nbase 2 0 0\nend\n",
-            0,
-        ),
-        (
-            b"answer 1\nminimum 0\nleast\ngreatest\nslope 0/1 a\nat 0/1\nbase 1 0 0\nbase 2 0 0\nend\n",
-            9,
-        ),
-        (b"answer 1\nminimum 0\nleast\ngreatest\nslope -2/4 a b\n", 5),
-        (
-            b"answer 1\nminimum 0\nleast\ngreatest\nslope 1/1000001 a b\n",
-            5,
-        ),
-        (
-            b"answer 1\nminimum 0\nleast\ngreatest\nslope 1/1000000\n",
-            5,
-        ),
-        (
-            b"answer 1\nminimum 0\nleast\ngreatest\nslope 0/1 a\nblock 1 b :\n",
-            6,
-        ),
-    ];
-    for (number, (text, line)) in rows.iter().enumerate() {
+    for (number, (text, line)) in TEXTS.iter().enumerate() {
         assert_eq!(rt;
             bad_line(&rt, alloc, &instance, text)?,
             *line,

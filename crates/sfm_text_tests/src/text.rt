@@ -1,5 +1,6 @@
 // What the reader answers over worked texts, each with the line and the reason of its first fault. That every answer is
 // right is proved; here the calls succeed with ample memory, and the reasons are compared with those worked by hand.
+use sfm_base::read_number;
 use sfm_kind::Kind;
 use sfm_text::{Reason, TEXT_LIMIT, TextEnd, content_lines, read_instance, token};
 use std::alloc::{AllocError, Global};
@@ -19,16 +20,12 @@ fn first_fault(alloc: Global, text: &[u8]) -> (usize, &'static [u8]) {
     }
 }
 
-/// The text with a line feed for each slash.
-fn with_lines(alloc: Global, text: &str) -> Result<String, AllocError> {
-    text.replace(alloc, " / ", "\n")
-}
+const GOOD: &[u8] =
+    b"# a comment\r\n\n sfm\t1 \r\nground a b c\nweight b:2\n\nweight a:-3 b:0\ncut 4 b a\nneed a c\ncover 7 c a b\ntable 0 1 2 2 : c b\nend\n#";
 
 #[test]
 fn a_good_text_gives_names_and_terms(rt: HostRuntime) -> Result<(), Fail> {
-    let text =
-        b"# a comment\r\n\n sfm\t1 \r\nground a b c\nweight b:2\n\nweight a:-3 b:0\ncut 4 b a\nneed a c\ncover 7 c a b\ntable 0 1 2 2 : c b\nend\n#";
-    let instance = read_instance(rt.alloc(), text)?;
+    let instance = read_instance(rt.alloc(), GOOD)?;
     assert_eq!(rt; instance.names_len(), 3);
     assert_eq!(rt; instance.place_of(b"a"), Some(0));
     assert_eq!(rt; instance.place_of(b"b"), Some(1));
@@ -60,241 +57,225 @@ fn a_good_text_gives_names_and_terms(rt: HostRuntime) -> Result<(), Fail> {
     Ok(())
 }
 
-/// Asserts the first fault of a text, in which slashes stand for line feeds.
-fn has_fault(
-    rt: &impl Abort,
-    alloc: Global,
-    text: &str,
-    line: usize,
-    reason: &[u8],
-) -> Result<(), AllocError> {
-    let lines = with_lines(alloc, text)?;
+/// What stands before the text of a row, and behind it.
+type Frame = (&'static str, &'static str);
+
+/// Nothing: the text is whole.
+const WHOLE: Frame = ("", "");
+
+/// A ground of four names, so that the text begins with the third line, and the end.
+const AMONG: Frame = ("sfm 1\nground a b c d\n", "\nend");
+
+/// A ground of four names, and no end.
+const LAST: Frame = ("sfm 1\nground a b c d\n", "");
+
+/// A text with what stands in its first braces 3,000 times.
+fn spread(alloc: Global, text: &str) -> Result<String, AllocError> {
+    let (head, rest) = text.split_once('{').unwrap_or((text, ""));
+    let (piece, tail) = rest.split_once('}').unwrap_or(("", ""));
+    let mut spread = String::new(alloc);
+    spread.push_str(head)?;
+    for _ in 0..3_000_u32 {
+        spread.push_str(piece)?;
+    }
+    spread.push_str(tail)?;
+    Ok(spread)
+}
+
+/// The text of a row in its frame.
+fn framed(alloc: Global, frame: Frame, text: &str) -> Result<String, AllocError> {
+    let once = spread(alloc, text)?;
+    let twice = spread(alloc, once.as_str())?;
+    let lines = twice.replace(alloc, "|", "\n")?;
+    let mut framed = String::new(alloc);
+    framed.push_str(frame.0)?;
+    framed.push_str(lines.as_str())?;
+    framed.push_str(frame.1)?;
+    Ok(framed)
+}
+
+/// Asserts what a row tells: the line and the word of the first fault of a text, or `0 good`, and behind a colon that text. In the
+/// text `|` is a line feed, and what stands in braces comes 3,000 times.
+fn has_row(rt: &impl Abort, alloc: Global, frame: Frame, row: &str) -> Result<(), AllocError> {
+    let (fault, text) = row.split_once(':').unwrap_or((row, ""));
+    let (line, word) = fault.split_once(' ').unwrap_or((fault, ""));
+    let lines = framed(alloc, frame, text)?;
     let found = first_fault(alloc, lines.as_bytes());
-    assert_eq!(rt; found, (line, reason), "{text}");
+    assert!(rt;
+        read_number(line.as_bytes()) == Some(found.0 as i128),
+        "{row}"
+    );
+    assert!(rt; word.as_bytes() == found.1, "{row}");
     Ok(())
 }
 
-/// Asserts the first fault of a text whose third line and perhaps more are these, over a ground of four names.
-fn has_fault_among(
-    rt: &impl Abort,
-    alloc: Global,
-    lines: &str,
-    line: usize,
-    reason: &[u8],
-) -> Result<(), AllocError> {
-    let text = format!(in alloc; "sfm 1 / ground a b c d / {lines} / end")?;
-    has_fault(rt, alloc, text.as_str(), line, reason)
+/// Asserts what the rows of a table tell, one on each line.
+fn has_faults(rt: &impl Abort, alloc: Global, frame: Frame, table: &str) -> Result<(), AllocError> {
+    for row in table.lines() {
+        has_row(rt, alloc, frame, row)?;
+    }
+    Ok(())
 }
+
+const HEADERS: &str = "\
+1 short:
+2 short:|
+2 short:sfm 1
+3 short:sfm 1|ground
+0 good:sfm 1|ground|end
+0 good:sfm 1|ground a b|end|
+0 good:\tsfm 1|  ground a\tb | end ||# more||
+0 good:sfm 1\r|ground a\t b\r|weight a:-3 b:2\r|end\r|
+0 good:# x|| \t|  # y|sfm 1|ground a|end
+5 short:sfm 1|ground a b|weight a:-3 b:2|cut 4 a b
+5 short:sfm 1|ground a b|weight a:-3 b:2|cut 4 a b|
+6 short:sfm 1|ground a b|weight a:-3 b:2||#|
+6 word:sfm 1|ground a b|weight a:1|need a b|end|cut 1 a b
+4 word:sfm 1|ground a b|end|end
+4 word:sfm 1|ground a b|end|x:
+4 bytes:sfm 1|ground a b|end|\x01
+1 shape:sfm 2|ground a|end
+1 shape:sfm|ground a|end
+1 shape:sfm 1 1
+1 shape:sfm 01
+1 word:Sfm 1
+1 bytes:sfm\x0b1
+1 word:ground a b
+1 word:end
+2 word:sfm 1|end
+2 word:sfm 1|sfm 1";
 
 #[test]
 fn headers(rt: HostRuntime) -> Result<(), Fail> {
-    let rows: [(&str, usize, &[u8]); 26] = [
-        ("", 1, b"short"),
-        ("\n", 2, b"short"),
-        ("sfm 1", 2, b"short"),
-        ("sfm 1 / ground", 3, b"short"),
-        ("sfm 1 / ground / end", 0, b"good"),
-        ("sfm 1 / ground a b / end\n", 0, b"good"),
-        ("\tsfm 1 /   ground a\tb  /  end \n\n# more\n\n", 0, b"good"),
-        (
-            "sfm 1\r\nground a\t b\r\nweight a:-3 b:2\r\nend\r\n",
-            0,
-            b"good",
-        ),
-        ("# x\n\n \t\n  # y\nsfm 1 / ground a / end", 0, b"good"),
-        (
-            "sfm 1 / ground a b / weight a:-3 b:2 / cut 4 a b",
-            5,
-            b"short",
-        ),
-        (
-            "sfm 1 / ground a b / weight a:-3 b:2 / cut 4 a b\n",
-            5,
-            b"short",
-        ),
-        ("sfm 1 / ground a b / weight a:-3 b:2\n\n#\n", 6, b"short"),
-        (
-            "sfm 1 / ground a b / weight a:1 / need a b / end / cut 1 a b",
-            6,
-            b"word",
-        ),
-        ("sfm 1 / ground a b / end / end", 4, b"word"),
-        ("sfm 1 / ground a b / end / x:", 4, b"word"),
-        ("sfm 1 / ground a b / end / \x01", 4, b"bytes"),
-        ("sfm 2 / ground a / end", 1, b"shape"),
-        ("sfm / ground a / end", 1, b"shape"),
-        ("sfm 1 1", 1, b"shape"),
-        ("sfm 01", 1, b"shape"),
-        ("Sfm 1", 1, b"word"),
-        ("sfm\x0b1", 1, b"bytes"),
-        ("ground a b", 1, b"word"),
-        ("end", 1, b"word"),
-        ("sfm 1 / end", 2, b"word"),
-        ("sfm 1 / sfm 1", 2, b"word"),
-    ];
-    for (text, line, reason) in rows {
-        has_fault(&rt, rt.alloc(), text, line, reason)?;
-    }
+    has_faults(&rt, rt.alloc(), WHOLE, HEADERS)?;
     Ok(())
 }
+
+const GROUNDS_AND_ENDS: &str = "\
+2 word:sfm 1|Ground a
+2 twice:sfm 1|ground a a
+2 twice:sfm 1|ground a b c b
+2 shape:sfm 1|ground a : b
+2 shape:sfm 1|ground ; a-b
+2 name:sfm 1|ground a-b a a
+2 name:sfm 1|ground a:b
+0 good:sfm 1|ground aaaaaaaaaaaaaaaaaaaaaaaaaaaaaaaa|end
+2 name:sfm 1|ground aaaaaaaaaaaaaaaaaaaaaaaaaaaaaaaaa|end
+0 good:sfm 1|ground Az_09|end
+2 bytes:sfm 1|ground a\r\r|end
+2 bytes:sfm 1|ground a\x7f
+2 bytes:sfm 1|ground a\u{e9}
+0 good:#\u{ff}|sfm 1|ground a|#\u{ff}\x00|end
+3 bytes:sfm 1|ground a|word\x00
+3 bytes:sfm 1|ground a|end\x00
+3 shape:sfm 1|ground a|end a
+3 shape:sfm 1|ground a|end :
+3 word:sfm 1|ground a|ground a
+3 word:sfm 1|ground a|sfm 1";
 
 #[test]
 fn grounds_and_ends(rt: HostRuntime) -> Result<(), Fail> {
-    let rows: [(&str, usize, &[u8]); 20] = [
-        ("sfm 1 / Ground a", 2, b"word"),
-        ("sfm 1 / ground a a", 2, b"twice"),
-        ("sfm 1 / ground a b c b", 2, b"twice"),
-        ("sfm 1 / ground a : b", 2, b"shape"),
-        ("sfm 1 / ground ; a-b", 2, b"shape"),
-        ("sfm 1 / ground a-b a a", 2, b"name"),
-        ("sfm 1 / ground a:b", 2, b"name"),
-        (
-            "sfm 1 / ground aaaaaaaaaaaaaaaaaaaaaaaaaaaaaaaa / end",
-            0,
-            b"good",
-        ),
-        (
-            "sfm 1 / ground aaaaaaaaaaaaaaaaaaaaaaaaaaaaaaaaa / end",
-            2,
-            b"name",
-        ),
-        ("sfm 1 / ground Az_09 / end", 0, b"good"),
-        ("sfm 1 / ground a\r\r\nend", 2, b"bytes"),
-        ("sfm 1 / ground a\x7f", 2, b"bytes"),
-        ("sfm 1 / ground a\u{e9}", 2, b"bytes"),
-        ("#\u{ff}\nsfm 1 / ground a / #\u{ff}\x00 / end", 0, b"good"),
-        ("sfm 1 / ground a / word\x00", 3, b"bytes"),
-        ("sfm 1 / ground a / end\x00", 3, b"bytes"),
-        ("sfm 1 / ground a / end a", 3, b"shape"),
-        ("sfm 1 / ground a / end :", 3, b"shape"),
-        ("sfm 1 / ground a / ground a", 3, b"word"),
-        ("sfm 1 / ground a / sfm 1", 3, b"word"),
-    ];
-    for (text, line, reason) in rows {
-        has_fault(&rt, rt.alloc(), text, line, reason)?;
-    }
+    has_faults(&rt, rt.alloc(), WHOLE, GROUNDS_AND_ENDS)?;
     Ok(())
 }
+
+const WEIGHT_LINES: &str = "\
+0 good:weight a:-1000000000000|weight a:1000000000000
+3 shape:weight
+3 shape:weight a
+3 shape:weight a:1:2
+3 shape:weight a: :
+3 shape:weight :
+3 shape:weight x:y ;
+3 number:weight a:
+3 number:weight a:+5
+3 number:weight a:05
+3 number:weight a:-0
+3 number:weight a:1.5
+3 number:weight a:1000000000001
+3 number:weight a:-1000000000001
+3 number:weight a:99999999999999999999999999999999999999999
+3 number:weight z:1000000000001|cut 1 a b|cut 1 a a|end
+3 name:weight z:1|cut 1 a b|cut 1 a a|end
+5 twice:weight a:1|cut 1 a b|cut 1 a a|end
+3 name:weight :5
+3 name:weight a-b:5
+3 number:weight z:1 a:x
+3 name:weight a:1 b:1 a:1 z:1
+3 twice:weight a:1 b:1 a:1
+3 word:weights a:1
+3 word:Weight a:1
+6 number:weight a:1||#|weight a:x";
 
 #[test]
 fn weight_lines(rt: HostRuntime) -> Result<(), Fail> {
-    let rows: [(&str, usize, &[u8]); 26] = [
-        (
-            "weight a:-1000000000000 / weight a:1000000000000",
-            0,
-            b"good",
-        ),
-        ("weight", 3, b"shape"),
-        ("weight a", 3, b"shape"),
-        ("weight a:1:2", 3, b"shape"),
-        ("weight a: :", 3, b"shape"),
-        ("weight :", 3, b"shape"),
-        ("weight x:y ;", 3, b"shape"),
-        ("weight a:", 3, b"number"),
-        ("weight a:+5", 3, b"number"),
-        ("weight a:05", 3, b"number"),
-        ("weight a:-0", 3, b"number"),
-        ("weight a:1.5", 3, b"number"),
-        ("weight a:1000000000001", 3, b"number"),
-        ("weight a:-1000000000001", 3, b"number"),
-        (
-            "weight a:99999999999999999999999999999999999999999",
-            3,
-            b"number",
-        ),
-        (
-            "weight z:1000000000001 / cut 1 a b / cut 1 a a / end",
-            3,
-            b"number",
-        ),
-        ("weight z:1 / cut 1 a b / cut 1 a a / end", 3, b"name"),
-        ("weight a:1 / cut 1 a b / cut 1 a a / end", 5, b"twice"),
-        ("weight :5", 3, b"name"),
-        ("weight a-b:5", 3, b"name"),
-        ("weight z:1 a:x", 3, b"number"),
-        ("weight a:1 b:1 a:1 z:1", 3, b"name"),
-        ("weight a:1 b:1 a:1", 3, b"twice"),
-        ("weights a:1", 3, b"word"),
-        ("Weight a:1", 3, b"word"),
-        ("weight a:1 / \n#\nweight a:x", 6, b"number"),
-    ];
-    for (text, line, reason) in rows {
-        has_fault_among(&rt, rt.alloc(), text, line, reason)?;
-    }
+    has_faults(&rt, rt.alloc(), AMONG, WEIGHT_LINES)?;
     Ok(())
 }
+
+const CUTS_AND_CONDITIONS: &str = "\
+0 good:cut 1 a b|cut 0 b a|cut 1000000000000 a b
+3 shape:cut
+3 shape:cut 1 a
+3 shape:cut 1 a b c
+3 shape:cut 1 a :
+3 shape:cut : a b
+3 shape:cut ; ; ;
+3 number:cut a 1 b
+3 number:cut -1 a b
+3 number:cut 1000000000001 a b
+3 name:cut 1 a: b
+3 name:cut 1 z b
+3 name:cut 1 z z
+3 twice:cut 1 a a
+0 good:need a b|need b a|need a b
+3 shape:need a
+3 shape:need a b c
+3 shape:need 1 a b
+3 shape:need a ;
+3 name:need a z
+3 name:need a 1
+3 twice:need b b";
 
 #[test]
 fn cuts_and_conditions(rt: HostRuntime) -> Result<(), Fail> {
-    let rows: [(&str, usize, &[u8]); 22] = [
-        ("cut 1 a b / cut 0 b a / cut 1000000000000 a b", 0, b"good"),
-        ("cut", 3, b"shape"),
-        ("cut 1 a", 3, b"shape"),
-        ("cut 1 a b c", 3, b"shape"),
-        ("cut 1 a :", 3, b"shape"),
-        ("cut : a b", 3, b"shape"),
-        ("cut ; ; ;", 3, b"shape"),
-        ("cut a 1 b", 3, b"number"),
-        ("cut -1 a b", 3, b"number"),
-        ("cut 1000000000001 a b", 3, b"number"),
-        ("cut 1 a: b", 3, b"name"),
-        ("cut 1 z b", 3, b"name"),
-        ("cut 1 z z", 3, b"name"),
-        ("cut 1 a a", 3, b"twice"),
-        ("need a b / need b a / need a b", 0, b"good"),
-        ("need a", 3, b"shape"),
-        ("need a b c", 3, b"shape"),
-        ("need 1 a b", 3, b"shape"),
-        ("need a ;", 3, b"shape"),
-        ("need a z", 3, b"name"),
-        ("need a 1", 3, b"name"),
-        ("need b b", 3, b"twice"),
-    ];
-    for (text, line, reason) in rows {
-        has_fault_among(&rt, rt.alloc(), text, line, reason)?;
-    }
+    has_faults(&rt, rt.alloc(), AMONG, CUTS_AND_CONDITIONS)?;
     Ok(())
 }
 
+const COVERS_AND_TABLES: &str = "\
+0 good:cover 5 a|cover 0 a b c d
+3 shape:cover
+3 shape:cover 5
+3 shape:cover 5 : a
+3 number:cover a b
+3 number:cover -5 a
+3 name:cover 5 a z
+3 twice:cover 5 a b a
+0 good:table 0 1 : a|table 0 -5 : b|table 0 1 1 2 : a b
+0 good:table 0 3 3 4 3 4 4 4 : a b c
+3 shape:table
+3 shape:table :
+3 shape:table 0 :
+3 shape:table 0 1 a
+3 shape:table 0 1 : a b
+3 shape:table 0 1 2 : a b
+3 shape:table 0 1 : : a
+3 shape:table 0 1 : a :
+3 shape:table 0 ; : a
+3 shape:table 0 1 : ;
+3 number:table 0 1 1 x : a a
+3 number:table 0 1 1 1000000000001 : a z
+3 name:table 1 1 1 1 : a z
+3 twice:table 1 1 1 1 : a a
+3 law:table 1 1 1 1 : a b
+3 law:table 0 1 1 3 : a b
+3 law:table 1 1 : a
+3 law:table 0 0 0 0 0 0 0 1 : a b c";
+
 #[test]
 fn covers_and_tables(rt: HostRuntime) -> Result<(), Fail> {
-    let rows: [(&str, usize, &[u8]); 28] = [
-        ("cover 5 a / cover 0 a b c d", 0, b"good"),
-        ("cover", 3, b"shape"),
-        ("cover 5", 3, b"shape"),
-        ("cover 5 : a", 3, b"shape"),
-        ("cover a b", 3, b"number"),
-        ("cover -5 a", 3, b"number"),
-        ("cover 5 a z", 3, b"name"),
-        ("cover 5 a b a", 3, b"twice"),
-        (
-            "table 0 1 : a / table 0 -5 : b / table 0 1 1 2 : a b",
-            0,
-            b"good",
-        ),
-        ("table 0 3 3 4 3 4 4 4 : a b c", 0, b"good"),
-        ("table", 3, b"shape"),
-        ("table :", 3, b"shape"),
-        ("table 0 :", 3, b"shape"),
-        ("table 0 1 a", 3, b"shape"),
-        ("table 0 1 : a b", 3, b"shape"),
-        ("table 0 1 2 : a b", 3, b"shape"),
-        ("table 0 1 : : a", 3, b"shape"),
-        ("table 0 1 : a :", 3, b"shape"),
-        ("table 0 ; : a", 3, b"shape"),
-        ("table 0 1 : ;", 3, b"shape"),
-        ("table 0 1 1 x : a a", 3, b"number"),
-        ("table 0 1 1 1000000000001 : a z", 3, b"number"),
-        ("table 1 1 1 1 : a z", 3, b"name"),
-        ("table 1 1 1 1 : a a", 3, b"twice"),
-        ("table 1 1 1 1 : a b", 3, b"law"),
-        ("table 0 1 1 3 : a b", 3, b"law"),
-        ("table 1 1 : a", 3, b"law"),
-        ("table 0 0 0 0 0 0 0 1 : a b c", 3, b"law"),
-    ];
-    for (text, line, reason) in rows {
-        has_fault_among(&rt, rt.alloc(), text, line, reason)?;
-    }
+    has_faults(&rt, rt.alloc(), AMONG, COVERS_AND_TABLES)?;
     Ok(())
 }
 
@@ -321,40 +302,44 @@ fn text_of(
     Ok(text)
 }
 
+const MOST: &str = "weight e0:1000000000000";
+
+const WIDE: &str = "table 0 0 0 0 0 0 0 0 0 0 0 0 0 0 0 0 : e0 e1 e2 e3";
+
+/// Texts by the count of names, that of lines, the line and the last line, with the first fault.
+const TOTALS: [(u32, u32, &str, &str, usize, &[u8]); 10] = [
+    (256, 0, "", "", 0, b"good"),
+    (257, 0, "", "", 2, b"total"),
+    (1, 4096, "weight e0:1", "", 0, b"good"),
+    (1, 4096, "weight e0:1", "weight e0:1", 4099, b"total"),
+    (1, 1000, MOST, "", 0, b"good"),
+    (1, 1000, MOST, "weight e0:0", 0, b"good"),
+    (1, 1000, MOST, "weight e0:1", 1003, b"total"),
+    (4, 4096, WIDE, "", 0, b"good"),
+    (
+        5,
+        3276,
+        "cover 1 e0 e1 e2 e3 e4",
+        "cover 1 e0 e1 e2 e3",
+        0,
+        b"good",
+    ),
+    (
+        5,
+        3276,
+        "cover 1 e0 e1 e2 e3 e4",
+        "cover 1 e0 e1 e2 e3 e4",
+        3279,
+        b"total",
+    ),
+];
+
 #[test]
 fn totals_are_bounded(rt: HostRuntime) -> Result<(), Fail> {
-    let most = "weight e0:1000000000000";
-    let wide = "table 0 0 0 0 0 0 0 0 0 0 0 0 0 0 0 0 : e0 e1 e2 e3";
-    let cases: [(u32, u32, &str, &str, usize, &[u8]); 10] = [
-        (256, 0, "", "", 0, b"good"),
-        (257, 0, "", "", 2, b"total"),
-        (1, 4096, "weight e0:1", "", 0, b"good"),
-        (1, 4096, "weight e0:1", "weight e0:1", 4099, b"total"),
-        (1, 1000, most, "", 0, b"good"),
-        (1, 1000, most, "weight e0:0", 0, b"good"),
-        (1, 1000, most, "weight e0:1", 1003, b"total"),
-        (4, 4096, wide, "", 0, b"good"),
-        (
-            5,
-            3276,
-            "cover 1 e0 e1 e2 e3 e4",
-            "cover 1 e0 e1 e2 e3",
-            0,
-            b"good",
-        ),
-        (
-            5,
-            3276,
-            "cover 1 e0 e1 e2 e3 e4",
-            "cover 1 e0 e1 e2 e3 e4",
-            3279,
-            b"total",
-        ),
-    ];
-    for (names, lines, line, last, fault, reason) in cases {
-        let text = text_of(rt.alloc(), names, lines, line, last)?;
+    for (names, lines, line, last, fault, reason) in &TOTALS {
+        let text = text_of(rt.alloc(), *names, *lines, line, last)?;
         let found = first_fault(rt.alloc(), text.as_bytes());
-        assert_eq!(rt; found, (fault, reason));
+        assert_eq!(rt; found, (*fault, *reason));
     }
     Ok(())
 }
@@ -377,19 +362,21 @@ fn a_table_has_8_names_at_most(rt: HostRuntime) -> Result<(), Fail> {
     Ok(())
 }
 
+/// Texts with bytes that are no text, and the first fault.
+const ANY_BYTE: [(&[u8], usize, &[u8]); 3] = [
+    (
+        b"#\xff\x00\nsfm 1\nground a\n # \xff\nend\n#\xff",
+        0,
+        b"good",
+    ),
+    (b"sfm 1\nground a\nweight a:1 \xff\nend\n", 3, b"bytes"),
+    (b"sfm 1\nground a\nweight a:1\nend\n\xff\n", 5, b"bytes"),
+];
+
 #[test]
 fn only_comments_may_hold_any_byte(rt: HostRuntime) {
-    let rows: [(&[u8], usize, &[u8]); 3] = [
-        (
-            b"#\xff\x00\nsfm 1\nground a\n # \xff\nend\n#\xff",
-            0,
-            b"good",
-        ),
-        (b"sfm 1\nground a\nweight a:1 \xff\nend\n", 3, b"bytes"),
-        (b"sfm 1\nground a\nweight a:1\nend\n\xff\n", 5, b"bytes"),
-    ];
-    for (text, line, reason) in rows {
-        assert_eq!(rt; first_fault(rt.alloc(), text), (line, reason));
+    for (text, line, reason) in &ANY_BYTE {
+        assert_eq!(rt; first_fault(rt.alloc(), text), (*line, *reason));
     }
 }
 

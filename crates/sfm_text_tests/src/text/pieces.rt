@@ -15,41 +15,43 @@ fn told(read: Result<Instance, TextEnd>) -> (usize, &'static [u8], usize, usize)
     }
 }
 
+/// Texts in pieces, and what is told of each.
+const PIECES: [(&[&[u8]], (usize, &[u8], usize, usize)); 11] = [
+    (&[], (1, b"short", 0, 0)),
+    (&[b"", b""], (1, b"short", 0, 0)),
+    (&[b"sfm 1\ngro", b"und\nend\n"], (0, b"good", 0, 0)),
+    (
+        &[b"sfm 1\r", b"\nground a b\r\nneed a b\r", b"\nend"],
+        (0, b"good", 2, 1),
+    ),
+    (
+        &[b"sfm 1\nground a b\nneed a", b"", b" b\nneed a b\nend\n"],
+        (0, b"good", 2, 2),
+    ),
+    (&[b"sfm 2", b"\nground a\nend\nend\n"], (1, b"shape", 0, 0)),
+    (
+        &[b"sfm 1\nground a\nneed a", b"\nground\nx"],
+        (3, b"shape", 0, 0),
+    ),
+    (
+        &[b"sfm 1\nground a\nend\n", b"x", b"\nx\n"],
+        (4, b"word", 0, 0),
+    ),
+    (&[b"sfm 1\n", b"\x07ground\nend\n"], (2, b"bytes", 0, 0)),
+    (
+        &[b"sfm 1\nground a\nne\x07ed a a\nend\n"],
+        (3, b"bytes", 0, 0),
+    ),
+    (
+        &[b"sfm 1\nground a\nneed a\x07", b" a\nend\n"],
+        (3, b"bytes", 0, 0),
+    ),
+];
+
 #[test]
 fn pieces_are_cut_anywhere(rt: HostRuntime) -> Result<(), Fail> {
-    let rows: [(&[&[u8]], (usize, &[u8], usize, usize)); 11] = [
-        (&[], (1, b"short", 0, 0)),
-        (&[b"", b""], (1, b"short", 0, 0)),
-        (&[b"sfm 1\ngro", b"und\nend\n"], (0, b"good", 0, 0)),
-        (
-            &[b"sfm 1\r", b"\nground a b\r\nneed a b\r", b"\nend"],
-            (0, b"good", 2, 1),
-        ),
-        (
-            &[b"sfm 1\nground a b\nneed a", b"", b" b\nneed a b\nend\n"],
-            (0, b"good", 2, 2),
-        ),
-        (&[b"sfm 2", b"\nground a\nend\nend\n"], (1, b"shape", 0, 0)),
-        (
-            &[b"sfm 1\nground a\nneed a", b"\nground\nx"],
-            (3, b"shape", 0, 0),
-        ),
-        (
-            &[b"sfm 1\nground a\nend\n", b"x", b"\nx\n"],
-            (4, b"word", 0, 0),
-        ),
-        (&[b"sfm 1\n", b"\x07ground\nend\n"], (2, b"bytes", 0, 0)),
-        (
-            &[b"sfm 1\nground a\nne\x07ed a a\nend\n"],
-            (3, b"bytes", 0, 0),
-        ),
-        (
-            &[b"sfm 1\nground a\nneed a\x07", b" a\nend\n"],
-            (3, b"bytes", 0, 0),
-        ),
-    ];
-    for (pieces, found) in rows {
-        assert_eq!(rt; told(read_pieces(rt.alloc(), pieces)), found);
+    for (pieces, found) in &PIECES {
+        assert_eq!(rt; told(read_pieces(rt.alloc(), pieces)), *found);
     }
     Ok(())
 }
