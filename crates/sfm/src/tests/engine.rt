@@ -140,89 +140,90 @@ fn try_blocks(rt: &impl Abort, alloc: Global, small: &Small) -> Result<(), Fail>
     Ok(())
 }
 
+const SMALL: [Small; 10] = [
+    Small {
+        text: b"sfm 1\nground a b c\nend\n",
+        sets: 8,
+        weights: &[],
+        cuts: &[],
+        needs: &[],
+    },
+    Small {
+        text: b"sfm 1\nground a b\nneed a b\nend\n",
+        sets: 4,
+        weights: &[],
+        cuts: &[],
+        needs: &[(1, 2)],
+    },
+    Small {
+        text: b"sfm 1\nground a b\ncut 1 a b\ncut 1 b a\nend\n",
+        sets: 4,
+        weights: &[],
+        cuts: &[(1, 2, 1), (2, 1, 1)],
+        needs: &[],
+    },
+    Small {
+        text: b"sfm 1\nground a b c\nneed a b\nneed b c\nend\n",
+        sets: 8,
+        weights: &[],
+        cuts: &[],
+        needs: &[(1, 2), (2, 4)],
+    },
+    Small {
+        text: b"sfm 1\nground a b c d\nneed a c\nneed b c\nneed c d\nneed d c\nend\n",
+        sets: 16,
+        weights: &[],
+        cuts: &[],
+        needs: &[(1, 4), (2, 4), (4, 8), (8, 4)],
+    },
+    Small {
+        text: b"sfm 1\nground a b c\nweight a:-2 b:1 c:1\ncut 1 a b\ncut 1 a c\nend\n",
+        sets: 8,
+        weights: &[(1, -2), (2, 1), (4, 1)],
+        cuts: &[(1, 2, 1), (1, 4, 1)],
+        needs: &[],
+    },
+    Small {
+        text: b"sfm 1\nground a b c d\nweight a:-3 b:2 c:1 d:0\ncut 2 a b\ncut 1 b c\ncut 5 c d\nend\n",
+        sets: 16,
+        weights: &[(1, -3), (2, 2), (4, 1), (8, 0)],
+        cuts: &[(1, 2, 2), (2, 4, 1), (4, 8, 5)],
+        needs: &[],
+    },
+    Small {
+        text: b"sfm 1\nground a b c d\nweight a:-1 b:1 c:-1 d:1\nneed a b\nneed c d\nend\n",
+        sets: 16,
+        weights: &[(1, -1), (2, 1), (4, -1), (8, 1)],
+        cuts: &[],
+        needs: &[(1, 2), (4, 8)],
+    },
+    Small {
+        text: b"sfm 1\nground a b c d\nweight a:-1 b:1 c:-1 d:1\nneed a b\nneed c d\ncut 1 b d\ncut 1 d b\nend\n",
+        sets: 16,
+        weights: &[(1, -1), (2, 1), (4, -1), (8, 1)],
+        cuts: &[(2, 8, 1), (8, 2, 1)],
+        needs: &[(1, 2), (4, 8)],
+    },
+    Small {
+        text: b"sfm 1\nground a b c d e\nweight a:-5 b:1 c:-1 d:6 e:0\ncut 2 a b\ncut 2 b a\ncut 2 b c\ncut 2 c b\ncut 2 c d\ncut 2 d c\nend\n",
+        sets: 32,
+        weights: &[(1, -5), (2, 1), (4, -1), (8, 6), (16, 0)],
+        cuts: &[
+            (1, 2, 2),
+            (2, 1, 2),
+            (2, 4, 2),
+            (4, 2, 2),
+            (4, 8, 2),
+            (8, 4, 2),
+        ],
+        needs: &[],
+    },
+];
+
 #[test]
 fn closed_choices_of_blocks_are_the_minimisers(rt: HostRuntime) -> Result<(), Fail> {
-    let rows: [Small; 10] = [
-        Small {
-            text: b"sfm 1\nground a b c\nend\n",
-            sets: 8,
-            weights: &[],
-            cuts: &[],
-            needs: &[],
-        },
-        Small {
-            text: b"sfm 1\nground a b\nneed a b\nend\n",
-            sets: 4,
-            weights: &[],
-            cuts: &[],
-            needs: &[(1, 2)],
-        },
-        Small {
-            text: b"sfm 1\nground a b\ncut 1 a b\ncut 1 b a\nend\n",
-            sets: 4,
-            weights: &[],
-            cuts: &[(1, 2, 1), (2, 1, 1)],
-            needs: &[],
-        },
-        Small {
-            text: b"sfm 1\nground a b c\nneed a b\nneed b c\nend\n",
-            sets: 8,
-            weights: &[],
-            cuts: &[],
-            needs: &[(1, 2), (2, 4)],
-        },
-        Small {
-            text: b"sfm 1\nground a b c d\nneed a c\nneed b c\nneed c d\nneed d c\nend\n",
-            sets: 16,
-            weights: &[],
-            cuts: &[],
-            needs: &[(1, 4), (2, 4), (4, 8), (8, 4)],
-        },
-        Small {
-            text: b"sfm 1\nground a b c\nweight a:-2 b:1 c:1\ncut 1 a b\ncut 1 a c\nend\n",
-            sets: 8,
-            weights: &[(1, -2), (2, 1), (4, 1)],
-            cuts: &[(1, 2, 1), (1, 4, 1)],
-            needs: &[],
-        },
-        Small {
-            text: b"sfm 1\nground a b c d\nweight a:-3 b:2 c:1 d:0\ncut 2 a b\ncut 1 b c\ncut 5 c d\nend\n",
-            sets: 16,
-            weights: &[(1, -3), (2, 2), (4, 1), (8, 0)],
-            cuts: &[(1, 2, 2), (2, 4, 1), (4, 8, 5)],
-            needs: &[],
-        },
-        Small {
-            text: b"sfm 1\nground a b c d\nweight a:-1 b:1 c:-1 d:1\nneed a b\nneed c d\nend\n",
-            sets: 16,
-            weights: &[(1, -1), (2, 1), (4, -1), (8, 1)],
-            cuts: &[],
-            needs: &[(1, 2), (4, 8)],
-        },
-        Small {
-            text: b"sfm 1\nground a b c d\nweight a:-1 b:1 c:-1 d:1\nneed a b\nneed c d\ncut 1 b d\ncut 1 d b\nend\n",
-            sets: 16,
-            weights: &[(1, -1), (2, 1), (4, -1), (8, 1)],
-            cuts: &[(2, 8, 1), (8, 2, 1)],
-            needs: &[(1, 2), (4, 8)],
-        },
-        Small {
-            text: b"sfm 1\nground a b c d e\nweight a:-5 b:1 c:-1 d:6 e:0\ncut 2 a b\ncut 2 b a\ncut 2 b c\ncut 2 c b\ncut 2 c d\ncut 2 d c\nend\n",
-            sets: 32,
-            weights: &[(1, -5), (2, 1), (4, -1), (8, 6), (16, 0)],
-            cuts: &[
-                (1, 2, 2),
-                (2, 1, 2),
-                (2, 4, 2),
-                (4, 2, 2),
-                (4, 8, 2),
-                (8, 4, 2),
-            ],
-            needs: &[],
-        },
-    ];
-    for small in rows {
-        try_blocks(&rt, rt.alloc(), &small)?;
+    for small in &SMALL {
+        try_blocks(&rt, rt.alloc(), small)?;
     }
     Ok(())
 }

@@ -11,72 +11,129 @@ const FIRST_ANSWER: &[u8] =
 
 const USAGE: &[u8] = b"usage: sfm solve FILE | check FILE ANSWER | demo SEED\n";
 
+const OUTSIDE: [Case; 8] = [
+    Case {
+        words: &["solve", "first"],
+        first: FIRST,
+        second: b"",
+        read_piece: 1,
+        failing_reads: &[],
+        write_piece: 1,
+        failing_writes: &[],
+        code: 0,
+        out: FIRST_ANSWER,
+        err: b"",
+    },
+    Case {
+        words: &["solve", "first"],
+        first: FIRST,
+        second: b"",
+        read_piece: 10,
+        failing_reads: &[4],
+        write_piece: 65536,
+        failing_writes: &[],
+        code: 3,
+        out: b"",
+        err: b"sfm: read failed\n",
+    },
+    Case {
+        words: &["solve", "first"],
+        first: b"sfm 1\nground a\ncut 1 a b\nend\n",
+        second: b"",
+        read_piece: 3,
+        failing_reads: &[],
+        write_piece: 65536,
+        failing_writes: &[],
+        code: 2,
+        out: b"refused 3 name\n",
+        err: b"",
+    },
+    Case {
+        words: &["solve", "first"],
+        first: b"sfm 2\nground a b\nweight a:-3 b:2\nend\n",
+        second: b"",
+        read_piece: 10,
+        failing_reads: &[4],
+        write_piece: 65536,
+        failing_writes: &[],
+        code: 3,
+        out: b"",
+        err: b"sfm: read failed\n",
+    },
+    Case {
+        words: &["solve", "first"],
+        first: FIRST,
+        second: b"",
+        read_piece: 65536,
+        failing_reads: &[],
+        write_piece: 10,
+        failing_writes: &[3],
+        code: 4,
+        out: b"answer 1\nminimum -3\n",
+        err: b"sfm: write failed\n",
+    },
+    Case {
+        words: &["solve", "third"],
+        first: FIRST,
+        second: b"",
+        read_piece: 65536,
+        failing_reads: &[],
+        write_piece: 65536,
+        failing_writes: &[],
+        code: 3,
+        out: b"",
+        err: b"sfm: read failed\n",
+    },
+    Case {
+        words: &["check", "first", "third"],
+        first: FIRST,
+        second: b"",
+        read_piece: 65536,
+        failing_reads: &[],
+        write_piece: 65536,
+        failing_writes: &[],
+        code: 3,
+        out: b"",
+        err: b"sfm: read failed\n",
+    },
+    Case {
+        words: &["check", "first", "third"],
+        first: b"sfm 2\n",
+        second: b"",
+        read_piece: 65536,
+        failing_reads: &[],
+        write_piece: 65536,
+        failing_writes: &[],
+        code: 2,
+        out: b"refused 1 shape\n",
+        err: b"",
+    },
+];
+
 #[test]
 fn pieces_and_faults_of_the_outside(rt: HostRuntime) -> Result<(), Fail> {
-    let cases = [
-        Case {
-            read_piece: 1,
-            write_piece: 1,
-            ..solve(FIRST, 0, FIRST_ANSWER)
-        },
-        Case {
-            read_piece: 10,
-            failing_reads: &[4],
-            err: b"sfm: read failed\n",
-            ..solve(FIRST, 3, b"")
-        },
-        Case {
-            read_piece: 3,
-            ..solve(b"sfm 1\nground a\ncut 1 a b\nend\n", 2, b"refused 3 name\n")
-        },
-        Case {
-            read_piece: 10,
-            failing_reads: &[4],
-            err: b"sfm: read failed\n",
-            ..solve(b"sfm 2\nground a b\nweight a:-3 b:2\nend\n", 3, b"")
-        },
-        Case {
-            write_piece: 10,
-            failing_writes: &[3],
-            err: b"sfm: write failed\n",
-            ..solve(FIRST, 4, b"answer 1\nminimum -3\n")
-        },
-        Case {
-            words: &["solve", "third"],
-            err: b"sfm: read failed\n",
-            ..solve(FIRST, 3, b"")
-        },
-        Case {
-            words: &["check", "first", "third"],
-            err: b"sfm: read failed\n",
-            ..check(FIRST, b"", 3, b"")
-        },
-        Case {
-            words: &["check", "first", "third"],
-            ..check(b"sfm 2\n", b"", 2, b"refused 1 shape\n")
-        },
-    ];
-    for case in &cases {
+    for case in &OUTSIDE {
         try_case(&rt, rt.alloc(), case)?;
     }
     Ok(())
 }
 
+const NO_COMMANDS: [&[&str]; 8] = [
+    &["solv", "first"],
+    &["solve", "-first"],
+    &["solve", ""],
+    &["check", "first"],
+    &["check", "first", "-second"],
+    &["solve", "first", "second"],
+    &["demo"],
+    &["demo", "1000000000"],
+];
+
 #[test]
 fn words_that_are_no_command(rt: HostRuntime) -> Result<(), Fail> {
-    let wordings: [&[&str]; 8] = [
-        &["solv", "first"],
-        &["solve", "-first"],
-        &["solve", ""],
-        &["check", "first"],
-        &["check", "first", "-second"],
-        &["solve", "first", "second"],
-        &["demo"],
-        &["demo", "1000000000"],
-    ];
-    for words in wordings {
+    for words in &NO_COMMANDS {
         let case = Case {
-            words,
+            words: *words,
             err: USAGE,
             ..solve(FIRST, 64, b"")
         };

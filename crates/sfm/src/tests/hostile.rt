@@ -133,68 +133,69 @@ fn due_of(rt: &impl Abort, alloc: Global, words: &[&str]) -> Result<Vec<u8>, Fai
     Ok(Vec::from_slice(alloc, out.taken())?)
 }
 
+const CALLS_THAT_FAIL: [Faults; 8] = [
+    Faults {
+        words: SOLVE,
+        failing: Failing::Read,
+        first: 1,
+        last: 7,
+        code: 3,
+    },
+    Faults {
+        words: SOLVE,
+        failing: Failing::Read,
+        first: 8,
+        last: 8,
+        code: 0,
+    },
+    Faults {
+        words: CHECK,
+        failing: Failing::Read,
+        first: 1,
+        last: 22,
+        code: 3,
+    },
+    Faults {
+        words: CHECK,
+        failing: Failing::Read,
+        first: 23,
+        last: 23,
+        code: 0,
+    },
+    Faults {
+        words: SOLVE,
+        failing: Failing::Write,
+        first: 1,
+        last: 13,
+        code: 4,
+    },
+    Faults {
+        words: SOLVE,
+        failing: Failing::Room,
+        first: 20,
+        last: 20,
+        code: 4,
+    },
+    Faults {
+        words: CHECK,
+        failing: Failing::Write,
+        first: 1,
+        last: 1,
+        code: 4,
+    },
+    Faults {
+        words: SOLVE,
+        failing: Failing::ReadAndSay,
+        first: 1,
+        last: 1,
+        code: 3,
+    },
+];
+
 #[test]
 fn calls_that_fail(rt: HostRuntime) -> Result<(), Fail> {
     let alloc = rt.alloc();
-    let rows = [
-        Faults {
-            words: SOLVE,
-            failing: Failing::Read,
-            first: 1,
-            last: 7,
-            code: 3,
-        },
-        Faults {
-            words: SOLVE,
-            failing: Failing::Read,
-            first: 8,
-            last: 8,
-            code: 0,
-        },
-        Faults {
-            words: CHECK,
-            failing: Failing::Read,
-            first: 1,
-            last: 22,
-            code: 3,
-        },
-        Faults {
-            words: CHECK,
-            failing: Failing::Read,
-            first: 23,
-            last: 23,
-            code: 0,
-        },
-        Faults {
-            words: SOLVE,
-            failing: Failing::Write,
-            first: 1,
-            last: 13,
-            code: 4,
-        },
-        Faults {
-            words: SOLVE,
-            failing: Failing::Room,
-            first: 20,
-            last: 20,
-            code: 4,
-        },
-        Faults {
-            words: CHECK,
-            failing: Failing::Write,
-            first: 1,
-            last: 1,
-            code: 4,
-        },
-        Faults {
-            words: SOLVE,
-            failing: Failing::ReadAndSay,
-            first: 1,
-            last: 1,
-            code: 3,
-        },
-    ];
-    for row in &rows {
+    for row in &CALLS_THAT_FAIL {
         let due = due_of(&rt, alloc, row.words)?;
         for number in row.first..row.last + 1 {
             try_fault(&rt, alloc, row, number, due.as_slice())?;
@@ -238,132 +239,187 @@ const fn invalid(line: usize, reason: Wrong) -> Verdict {
     Verdict::Invalid { line, reason }
 }
 
+const CHANGES: [Change; 20] = [
+    Change {
+        of: &CUT,
+        line: 8,
+        text: b"base 2 1000000000000000000000000000000 -1000000000000000000000000000000",
+        verdict: Verdict::Invalid {
+            line: 8,
+            reason: Wrong::Base,
+        },
+    },
+    Change {
+        of: &CUT,
+        line: 8,
+        text: b"base 2 1000000000000000000000000000001 -1000000000000000000000000000001",
+        verdict: Verdict::Invalid {
+            line: 8,
+            reason: Wrong::Grammar,
+        },
+    },
+    Change {
+        of: &CUT,
+        line: 8,
+        text: b"base 2 -1 1",
+        verdict: Verdict::Invalid {
+            line: 8,
+            reason: Wrong::Base,
+        },
+    },
+    Change {
+        of: &CUT,
+        line: 11,
+        text: b"base 2 9 -9",
+        verdict: Verdict::Invalid {
+            line: 11,
+            reason: Wrong::Base,
+        },
+    },
+    Change {
+        of: &CUT,
+        line: 11,
+        text: b"base 2 6 -6",
+        verdict: Verdict::Invalid {
+            line: 9,
+            reason: Wrong::Unproved,
+        },
+    },
+    Change {
+        of: &CUT,
+        line: 2,
+        text: b"minimum -1000000000000000000000000000000",
+        verdict: Verdict::Invalid {
+            line: 2,
+            reason: Wrong::Answer,
+        },
+    },
+    Change {
+        of: &CUT,
+        line: 3,
+        text: b"least b a",
+        verdict: Verdict::Invalid {
+            line: 3,
+            reason: Wrong::Grammar,
+        },
+    },
+    Change {
+        of: &CUT,
+        line: 3,
+        text: b"least a a",
+        verdict: Verdict::Invalid {
+            line: 3,
+            reason: Wrong::Grammar,
+        },
+    },
+    Change {
+        of: &CUT,
+        line: 3,
+        text: b"least z",
+        verdict: Verdict::Invalid {
+            line: 3,
+            reason: Wrong::Grammar,
+        },
+    },
+    Change {
+        of: &CUT,
+        line: 5,
+        text: b"slope -1/1000001 a b",
+        verdict: Verdict::Invalid {
+            line: 5,
+            reason: Wrong::Grammar,
+        },
+    },
+    Change {
+        of: &CUT,
+        line: 5,
+        text: b"slope -1/1000000 a b",
+        verdict: Verdict::Invalid {
+            line: 9,
+            reason: Wrong::Grammar,
+        },
+    },
+    Change {
+        of: &CUT,
+        line: 12,
+        text: b"end\nend",
+        verdict: Verdict::Invalid {
+            line: 13,
+            reason: Wrong::Grammar,
+        },
+    },
+    Change {
+        of: &CUT,
+        line: 0,
+        text: b"answer 1\n",
+        verdict: Verdict::Invalid {
+            line: 2,
+            reason: Wrong::Grammar,
+        },
+    },
+    Change {
+        of: &CUT,
+        line: 0,
+        text: b"",
+        verdict: Verdict::Invalid {
+            line: 1,
+            reason: Wrong::Grammar,
+        },
+    },
+    Change {
+        of: &THREE,
+        line: 0,
+        text: b"answer 1\nminimum -2\nleast c\ngreatest c\nslope -2/1 c\nslope 1/1 a b c\nat 0/1\nbase 1 1 1 -2\nat 1/1\nbase 1 1 1 -2\nat -2/1\nbase 1 1 1 -2\nend\n",
+        verdict: Verdict::Invalid {
+            line: 9,
+            reason: Wrong::Grammar,
+        },
+    },
+    Change {
+        of: &THREE,
+        line: 0,
+        text: b"answer 1\nminimum -2\nleast c\ngreatest c\nslope 1/1 a b c\nslope -2/1 c\nat 0/1\nbase 1 1 1 -2\nat 1/1\nbase 1 1 1 -2\nat -2/1\nbase 1 1 1 -2\nend\n",
+        verdict: Verdict::Invalid {
+            line: 5,
+            reason: Wrong::Answer,
+        },
+    },
+    Change {
+        of: &THREE,
+        line: 0,
+        text: b"answer 1\nminimum -2\nleast c\ngreatest c\nslope -2/1 c\nslope 0/1 c\nslope 1/1 a b c\nat 0/1\nbase 1 1 1 -2\nat -2/1\nbase 1 1 1 -2\nat 0/1\nbase 1 1 1 -2\nat 1/1\nbase 1 1 1 -2\nend\n",
+        verdict: Verdict::Invalid {
+            line: 6,
+            reason: Wrong::Answer,
+        },
+    },
+    Change {
+        of: &NEED,
+        line: 5,
+        text: b"block 1 b : 2",
+        verdict: Verdict::Invalid {
+            line: 5,
+            reason: Wrong::Grammar,
+        },
+    },
+    Change {
+        of: &CUT,
+        line: 8,
+        text: b"base 2 2 -2",
+        verdict: Verdict::Valid,
+    },
+    Change {
+        of: &NEED,
+        line: 1,
+        text: b"answer 1",
+        verdict: Verdict::Valid,
+    },
+];
+
 #[test]
 fn answers_that_were_tampered_with(rt: HostRuntime) -> Result<(), Fail> {
     let alloc = rt.alloc();
-    let rows = [
-        Change {
-            of: &CUT,
-            line: 8,
-            text: b"base 2 1000000000000000000000000000000 -1000000000000000000000000000000",
-            verdict: invalid(8, Wrong::Base),
-        },
-        Change {
-            of: &CUT,
-            line: 8,
-            text: b"base 2 1000000000000000000000000000001 -1000000000000000000000000000001",
-            verdict: invalid(8, Wrong::Grammar),
-        },
-        Change {
-            of: &CUT,
-            line: 8,
-            text: b"base 2 -1 1",
-            verdict: invalid(8, Wrong::Base),
-        },
-        Change {
-            of: &CUT,
-            line: 11,
-            text: b"base 2 9 -9",
-            verdict: invalid(11, Wrong::Base),
-        },
-        Change {
-            of: &CUT,
-            line: 11,
-            text: b"base 2 6 -6",
-            verdict: invalid(9, Wrong::Unproved),
-        },
-        Change {
-            of: &CUT,
-            line: 2,
-            text: b"minimum -1000000000000000000000000000000",
-            verdict: invalid(2, Wrong::Answer),
-        },
-        Change {
-            of: &CUT,
-            line: 3,
-            text: b"least b a",
-            verdict: invalid(3, Wrong::Grammar),
-        },
-        Change {
-            of: &CUT,
-            line: 3,
-            text: b"least a a",
-            verdict: invalid(3, Wrong::Grammar),
-        },
-        Change {
-            of: &CUT,
-            line: 3,
-            text: b"least z",
-            verdict: invalid(3, Wrong::Grammar),
-        },
-        Change {
-            of: &CUT,
-            line: 5,
-            text: b"slope -1/1000001 a b",
-            verdict: invalid(5, Wrong::Grammar),
-        },
-        Change {
-            of: &CUT,
-            line: 5,
-            text: b"slope -1/1000000 a b",
-            verdict: invalid(9, Wrong::Grammar),
-        },
-        Change {
-            of: &CUT,
-            line: 12,
-            text: b"end\nend",
-            verdict: invalid(13, Wrong::Grammar),
-        },
-        Change {
-            of: &CUT,
-            line: 0,
-            text: b"answer 1\n",
-            verdict: invalid(2, Wrong::Grammar),
-        },
-        Change {
-            of: &CUT,
-            line: 0,
-            text: b"",
-            verdict: invalid(1, Wrong::Grammar),
-        },
-        Change {
-            of: &THREE,
-            line: 0,
-            text: b"answer 1\nminimum -2\nleast c\ngreatest c\nslope -2/1 c\nslope 1/1 a b c\nat 0/1\nbase 1 1 1 -2\nat 1/1\nbase 1 1 1 -2\nat -2/1\nbase 1 1 1 -2\nend\n",
-            verdict: invalid(9, Wrong::Grammar),
-        },
-        Change {
-            of: &THREE,
-            line: 0,
-            text: b"answer 1\nminimum -2\nleast c\ngreatest c\nslope 1/1 a b c\nslope -2/1 c\nat 0/1\nbase 1 1 1 -2\nat 1/1\nbase 1 1 1 -2\nat -2/1\nbase 1 1 1 -2\nend\n",
-            verdict: invalid(5, Wrong::Answer),
-        },
-        Change {
-            of: &THREE,
-            line: 0,
-            text: b"answer 1\nminimum -2\nleast c\ngreatest c\nslope -2/1 c\nslope 0/1 c\nslope 1/1 a b c\nat 0/1\nbase 1 1 1 -2\nat -2/1\nbase 1 1 1 -2\nat 0/1\nbase 1 1 1 -2\nat 1/1\nbase 1 1 1 -2\nend\n",
-            verdict: invalid(6, Wrong::Answer),
-        },
-        Change {
-            of: &NEED,
-            line: 5,
-            text: b"block 1 b : 2",
-            verdict: invalid(5, Wrong::Grammar),
-        },
-        Change {
-            of: &CUT,
-            line: 8,
-            text: b"base 2 2 -2",
-            verdict: Verdict::Valid,
-        },
-        Change {
-            of: &NEED,
-            line: 1,
-            text: b"answer 1",
-            verdict: Verdict::Valid,
-        },
-    ];
-    for (number, row) in rows.iter().enumerate() {
+    for (number, row) in CHANGES.iter().enumerate() {
         let instance = read_instance(alloc, row.of.text)?;
         let file = changed(alloc, row)?;
         assert_eq!(rt;
@@ -435,47 +491,57 @@ fn instances_that_end_too_soon(rt: HostRuntime) -> Result<(), Fail> {
     Ok(())
 }
 
+const BROKEN: [(&[u8], u8, &[u8]); 4] = [
+    (
+        b"sfm 1\nground\n# \xff\nend\n",
+        0,
+        b"answer 1\nminimum 0\nleast\ngreatest\nat 0/1\nend\n",
+    ),
+    (
+        b"sfm 1\nground a\nweight a:\xff\nend\n",
+        2,
+        b"refused 3 bytes\n",
+    ),
+    (
+        b"sfm 1\nground a b c d e f g h i\ntable 0 : a b c d e f g h i\nend\n",
+        2,
+        b"refused 3 shape\n",
+    ),
+    (
+        b"sfm 1\nground abcdefghijabcdefghijabcdefghijabc\nend\n",
+        2,
+        b"refused 2 name\n",
+    ),
+];
+
 #[test]
 fn instances_that_are_broken(rt: HostRuntime) -> Result<(), Fail> {
-    let rows: [(&[u8], u8, &[u8]); 4] = [
-        (
-            b"sfm 1\nground\n# \xff\nend\n",
-            0,
-            b"answer 1\nminimum 0\nleast\ngreatest\nat 0/1\nend\n",
-        ),
-        (
-            b"sfm 1\nground a\nweight a:\xff\nend\n",
-            2,
-            b"refused 3 bytes\n",
-        ),
-        (
-            b"sfm 1\nground a b c d e f g h i\ntable 0 : a b c d e f g h i\nend\n",
-            2,
-            b"refused 3 shape\n",
-        ),
-        (
-            b"sfm 1\nground abcdefghijabcdefghijabcdefghijabc\nend\n",
-            2,
-            b"refused 2 name\n",
-        ),
-    ];
-    for (text, code, out) in rows {
-        try_case(&rt, rt.alloc(), &solve(text, code, out))?;
+    for row in &BROKEN {
+        try_case(&rt, rt.alloc(), &solve(row.0, row.1, row.2))?;
     }
     Ok(())
 }
 
+/// Instances, with the code, and whether the answer is opened.
+const OPENED: [(&[u8], u8, bool); 2] = [
+    (b"sfm 2\n", 2, false),
+    (
+        b"sfm 1\nground a b\nweight a:-3 b:2\ncut 4 a b\nend\n",
+        0,
+        true,
+    ),
+];
+
 #[test]
 fn a_refused_instance_leaves_the_answer_unopened(rt: HostRuntime) -> Result<(), Fail> {
     let alloc = rt.alloc();
-    let rows: [(&[u8], u8, bool); 2] = [(b"sfm 2\n", 2, false), (CUT.text, 0, true)];
-    for (text, code, asked) in rows {
+    for (text, code, asked) in &OPENED {
         let mut shelf = WatchedShelf::new(alloc, text, CUT.answer)?;
         let mut out = MemorySink::new(alloc, 64, 64, &[])?;
         let mut err = MemorySink::new(alloc, 64, 64, &[])?;
         let status = run(alloc, CHECK, &mut shelf, &mut out, &mut err);
-        assert_eq!(rt; status.code(), code);
-        assert_eq!(rt; shelf.second, asked);
+        assert_eq!(rt; status.code(), *code);
+        assert_eq!(rt; shelf.second, *asked);
     }
     Ok(())
 }

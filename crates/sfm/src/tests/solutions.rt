@@ -60,115 +60,120 @@ fn try_solution(
     Ok(())
 }
 
-#[test]
-fn solves_weights_and_cuts(rt: HostRuntime) -> Result<(), Fail> {
-    let rows: [(&[u8], &[u8]); 7] = [
-        (
-            b"sfm 1\nground a\nweight a:5\nend\n",
-            b"answer 1\nminimum 0\nleast\ngreatest\nslope 5/1 a\nat 0/1\nbase 1 5\nat 5/1\nbase 1 5\nend\n",
-        ),
-        (
-            b"sfm 1\nground a b\nweight a:-3 b:2\ncut 4 a b\nend\n",
-            b"answer 1\nminimum -1\nleast a b\ngreatest a b\nslope -1/2 a b\nat 0/1\nbase 1 -3 2\nbase 2 *\nat -1/2\nbase 1 -6 4\nbase 2 5 -5\nend\n",
-        ),
-        (
-            b"sfm 1\nground\nend\n",
-            b"answer 1\nminimum 0\nleast\ngreatest\nat 0/1\nend\n",
-        ),
-        (
-            b"sfm 1\nground a b c\nend\n",
-            b"answer 1\nminimum 0\nleast\ngreatest a b c\nblock 1 a :\nblock 2 b :\nblock 3 c :\nslope 0/1 a b c\nat 0/1\nat 0/1\nend\n",
-        ),
-        (
-            b"sfm 1\nground a b\ncut 1 a b\ncut 1 b a\nend\n",
-            b"answer 1\nminimum 0\nleast\ngreatest a b\nblock 1 a b :\nslope 0/1 a b\nat 0/1\nbase 1 *\nbase 2 *\nat 0/1\nbase 1 *\nbase 2 *\nend\n",
-        ),
-        (
-            b"sfm 1\nground a b c\nweight a:1 b:1 c:-2\nend\n",
-            b"answer 1\nminimum -2\nleast c\ngreatest c\nslope -2/1 c\nslope 1/1 a b c\nat 0/1\nbase 1 1 1 -2\nat -2/1\nbase 1 1 1 -2\nat 1/1\nbase 1 1 1 -2\nend\n",
-        ),
-        (
-            b"\tsfm  1\r\n# weights\r\n\r\nground a\tb\r\nweight a:-3 b:2\r\nend",
-            b"answer 1\nminimum -3\nleast a\ngreatest a\nslope -3/1 a\nslope 2/1 a b\nat 0/1\nbase 1 -3 2\nat -3/1\nbase 1 -3 2\nat 2/1\nbase 1 -3 2\nend\n",
-        ),
-    ];
-    for (text, wanted) in rows {
-        try_solution(&rt, rt.alloc(), text, 65536, wanted)?;
-        try_solution(&rt, rt.alloc(), text, 1, wanted)?;
+/// Solves instances, each read in pieces of that size, and checks the answers.
+fn try_solutions(
+    rt: &impl Abort,
+    alloc: Global,
+    piece: usize,
+    rows: &[(&[u8], &[u8])],
+) -> Result<(), Fail> {
+    for row in rows {
+        try_solution(rt, alloc, row.0, piece, row.1)?;
     }
     Ok(())
 }
+
+const WEIGHTS_AND_CUTS: [(&[u8], &[u8]); 7] = [
+    (
+        b"sfm 1\nground a\nweight a:5\nend\n",
+        b"answer 1\nminimum 0\nleast\ngreatest\nslope 5/1 a\nat 0/1\nbase 1 5\nat 5/1\nbase 1 5\nend\n",
+    ),
+    (
+        b"sfm 1\nground a b\nweight a:-3 b:2\ncut 4 a b\nend\n",
+        b"answer 1\nminimum -1\nleast a b\ngreatest a b\nslope -1/2 a b\nat 0/1\nbase 1 -3 2\nbase 2 *\nat -1/2\nbase 1 -6 4\nbase 2 5 -5\nend\n",
+    ),
+    (
+        b"sfm 1\nground\nend\n",
+        b"answer 1\nminimum 0\nleast\ngreatest\nat 0/1\nend\n",
+    ),
+    (
+        b"sfm 1\nground a b c\nend\n",
+        b"answer 1\nminimum 0\nleast\ngreatest a b c\nblock 1 a :\nblock 2 b :\nblock 3 c :\nslope 0/1 a b c\nat 0/1\nat 0/1\nend\n",
+    ),
+    (
+        b"sfm 1\nground a b\ncut 1 a b\ncut 1 b a\nend\n",
+        b"answer 1\nminimum 0\nleast\ngreatest a b\nblock 1 a b :\nslope 0/1 a b\nat 0/1\nbase 1 *\nbase 2 *\nat 0/1\nbase 1 *\nbase 2 *\nend\n",
+    ),
+    (
+        b"sfm 1\nground a b c\nweight a:1 b:1 c:-2\nend\n",
+        b"answer 1\nminimum -2\nleast c\ngreatest c\nslope -2/1 c\nslope 1/1 a b c\nat 0/1\nbase 1 1 1 -2\nat -2/1\nbase 1 1 1 -2\nat 1/1\nbase 1 1 1 -2\nend\n",
+    ),
+    (
+        b"\tsfm  1\r\n# weights\r\n\r\nground a\tb\r\nweight a:-3 b:2\r\nend",
+        b"answer 1\nminimum -3\nleast a\ngreatest a\nslope -3/1 a\nslope 2/1 a b\nat 0/1\nbase 1 -3 2\nat -3/1\nbase 1 -3 2\nat 2/1\nbase 1 -3 2\nend\n",
+    ),
+];
+
+#[test]
+fn solves_weights_and_cuts(rt: HostRuntime) -> Result<(), Fail> {
+    try_solutions(&rt, rt.alloc(), 65536, &WEIGHTS_AND_CUTS)?;
+    try_solutions(&rt, rt.alloc(), 1, &WEIGHTS_AND_CUTS)
+}
+
+const NEEDS_COVERS_AND_TABLES: [(&[u8], &[u8]); 4] = [
+    (
+        b"sfm 1\nground a b\nneed a b\nend\n",
+        b"answer 1\nminimum 0\nleast\ngreatest a b\nblock 1 b :\nblock 2 a : 1\nslope 0/1 a b\nat 0/1\nbase 1 0 0\nat 0/1\nbase 1 0 0\nend\n",
+    ),
+    (
+        b"sfm 1\nground a b c\nweight a:-2 b:-2 c:-1\ncover 3 a b c\nend\n",
+        b"answer 1\nminimum -2\nleast a b c\ngreatest a b c\nslope -2/3 a b c\nat 0/1\nbase 1 -2 -2 -1\nbase 2 *\nat -2/3\nbase 1 -6 -6 -3\nbase 2 4 4 1\nend\n",
+    ),
+    (
+        b"sfm 1\nground a b\nweight a:-1000000000000 b:1000000000000\nweight a:-1000000000000 b:1000000000000\nweight b:1000000000000\nneed a b\nend\n",
+        b"answer 1\nminimum 0\nleast\ngreatest\nslope 500000000000/1 a b\nat 0/1\nbase 1 -1000000000000 1000000000000\nbase 2 -1000000000000 1000000000000\nbase 3 1000000000000\nbase 4 *\nat 500000000000/1\nbase 1 -1000000000000 1000000000000\nbase 2 -1000000000000 1000000000000\nbase 3 1000000000000\nbase 4 2500000000000 -2500000000000\nend\n",
+    ),
+    (
+        b"sfm 1\nground a b\nweight a:-1 b:-1\ntable 0 2 2 3 : a b\nend\n",
+        b"answer 1\nminimum 0\nleast\ngreatest\nslope 1/2 a b\nat 0/1\nbase 1 -1 -1\nbase 2 *\nat 1/2\nbase 1 -2 -2\nbase 2 *\nend\n",
+    ),
+];
 
 #[test]
 fn solves_needs_covers_and_tables(rt: HostRuntime) -> Result<(), Fail> {
-    let rows: [(&[u8], &[u8]); 4] = [
-        (
-            b"sfm 1\nground a b\nneed a b\nend\n",
-            b"answer 1\nminimum 0\nleast\ngreatest a b\nblock 1 b :\nblock 2 a : 1\nslope 0/1 a b\nat 0/1\nbase 1 0 0\nat 0/1\nbase 1 0 0\nend\n",
-        ),
-        (
-            b"sfm 1\nground a b c\nweight a:-2 b:-2 c:-1\ncover 3 a b c\nend\n",
-            b"answer 1\nminimum -2\nleast a b c\ngreatest a b c\nslope -2/3 a b c\nat 0/1\nbase 1 -2 -2 -1\nbase 2 *\nat -2/3\nbase 1 -6 -6 -3\nbase 2 4 4 1\nend\n",
-        ),
-        (
-            b"sfm 1\nground a b\nweight a:-1000000000000 b:1000000000000\nweight a:-1000000000000 b:1000000000000\nweight b:1000000000000\nneed a b\nend\n",
-            b"answer 1\nminimum 0\nleast\ngreatest\nslope 500000000000/1 a b\nat 0/1\nbase 1 -1000000000000 1000000000000\nbase 2 -1000000000000 1000000000000\nbase 3 1000000000000\nbase 4 *\nat 500000000000/1\nbase 1 -1000000000000 1000000000000\nbase 2 -1000000000000 1000000000000\nbase 3 1000000000000\nbase 4 2500000000000 -2500000000000\nend\n",
-        ),
-        (
-            b"sfm 1\nground a b\nweight a:-1 b:-1\ntable 0 2 2 3 : a b\nend\n",
-            b"answer 1\nminimum 0\nleast\ngreatest\nslope 1/2 a b\nat 0/1\nbase 1 -1 -1\nbase 2 *\nat 1/2\nbase 1 -2 -2\nbase 2 *\nend\n",
-        ),
-    ];
-    for (text, wanted) in rows {
-        try_solution(&rt, rt.alloc(), text, 7, wanted)?;
-    }
-    Ok(())
+    try_solutions(&rt, rt.alloc(), 7, &NEEDS_COVERS_AND_TABLES)
 }
+
+const CONCAVE_FUNCTIONS_AND_RANKS: [(&[u8], &[u8]); 4] = [
+    (
+        b"sfm 1\nground a b\nconcave 1 2 : a b\nend\n",
+        b"answer 1\nminimum 0\nleast\ngreatest\nslope 1/1 a b\nat 0/1\nbase 1 1 1\nat 1/1\nbase 1 1 1\nend\n",
+    ),
+    (
+        b"sfm 1\nground a b c\nweight a:-3 b:-2 c:-2\nconcave 4 6 6 : a b c\nend\n",
+        b"answer 1\nminimum -1\nleast a b c\ngreatest a b c\nslope -1/3 a b c\nat 0/1\nbase 1 -3 -2 -2\nbase 2 *\nat -1/3\nbase 1 -9 -6 -6\nbase 2 *\nend\n",
+    ),
+    (
+        b"sfm 1\nground a b\nweight a:-1 b:-3\nrank 2 uniform 1 : a b\nend\n",
+        b"answer 1\nminimum -2\nleast a b\ngreatest a b\nslope -1/1 a b\nat 0/1\nbase 1 -1 -3\nbase 2 *\nat -1/1\nbase 1 -1 -3\nbase 2 0 2\nend\n",
+    ),
+    (
+        b"sfm 1\nground a b c\nweight a:-2 b:-2 c:-2\nrank 3 laminar : a b c ; 2 a b c ; 1 a b\nend\n",
+        b"answer 1\nminimum -1\nleast a b\ngreatest a b\nslope -1/2 a b\nslope 1/1 a b c\nat 0/1\nbase 1 -2 -2 -2\nbase 2 *\nat -1/2\nbase 1 -4 -4 -4\nbase 2 3 3 6\nat 1/1\nbase 1 -2 -2 -2\nbase 2 *\nend\n",
+    ),
+];
 
 #[test]
 fn solves_concave_functions_and_ranks(rt: HostRuntime) -> Result<(), Fail> {
-    let rows: [(&[u8], &[u8]); 4] = [
-        (
-            b"sfm 1\nground a b\nconcave 1 2 : a b\nend\n",
-            b"answer 1\nminimum 0\nleast\ngreatest\nslope 1/1 a b\nat 0/1\nbase 1 1 1\nat 1/1\nbase 1 1 1\nend\n",
-        ),
-        (
-            b"sfm 1\nground a b c\nweight a:-3 b:-2 c:-2\nconcave 4 6 6 : a b c\nend\n",
-            b"answer 1\nminimum -1\nleast a b c\ngreatest a b c\nslope -1/3 a b c\nat 0/1\nbase 1 -3 -2 -2\nbase 2 *\nat -1/3\nbase 1 -9 -6 -6\nbase 2 *\nend\n",
-        ),
-        (
-            b"sfm 1\nground a b\nweight a:-1 b:-3\nrank 2 uniform 1 : a b\nend\n",
-            b"answer 1\nminimum -2\nleast a b\ngreatest a b\nslope -1/1 a b\nat 0/1\nbase 1 -1 -3\nbase 2 *\nat -1/1\nbase 1 -1 -3\nbase 2 0 2\nend\n",
-        ),
-        (
-            b"sfm 1\nground a b c\nweight a:-2 b:-2 c:-2\nrank 3 laminar : a b c ; 2 a b c ; 1 a b\nend\n",
-            b"answer 1\nminimum -1\nleast a b\ngreatest a b\nslope -1/2 a b\nslope 1/1 a b c\nat 0/1\nbase 1 -2 -2 -2\nbase 2 *\nat -1/2\nbase 1 -4 -4 -4\nbase 2 3 3 6\nat 1/1\nbase 1 -2 -2 -2\nbase 2 *\nend\n",
-        ),
-    ];
-    for (text, wanted) in rows {
-        try_solution(&rt, rt.alloc(), text, 7, wanted)?;
-    }
-    Ok(())
+    try_solutions(&rt, rt.alloc(), 7, &CONCAVE_FUNCTIONS_AND_RANKS)
 }
+
+const RANKS_OF_GRAPHS_AND_OF_SLOTS: [(&[u8], &[u8]); 3] = [
+    (
+        b"sfm 1\nground a b c\nweight a:-2 b:-2 c:-2\nrank 2 graphic : a=u-v b=v-w c=u-w\nend\n",
+        b"answer 1\nminimum -2\nleast a b c\ngreatest a b c\nslope -2/3 a b c\nat 0/1\nbase 1 -2 -2 -2\nbase 2 *\nat -2/3\nbase 1 -6 -6 -6\nbase 2 4 4 4\nend\n",
+    ),
+    (
+        b"sfm 1\nground a\nweight a:-1\nrank 5 graphic : a=u-u\nend\n",
+        b"answer 1\nminimum -1\nleast a\ngreatest a\nslope -1/1 a\nat 0/1\nbase 1 -1\nbase 2 0\nat -1/1\nbase 1 -1\nbase 2 0\nend\n",
+    ),
+    (
+        b"sfm 1\nground a b\nweight a:-1 b:-3\nrank 2 transversal : a=t b=t\nend\n",
+        b"answer 1\nminimum -2\nleast a b\ngreatest a b\nslope -1/1 a b\nat 0/1\nbase 1 -1 -3\nbase 2 *\nat -1/1\nbase 1 -1 -3\nbase 2 0 2\nend\n",
+    ),
+];
 
 #[test]
 fn solves_ranks_of_graphs_and_of_slots(rt: HostRuntime) -> Result<(), Fail> {
-    let rows: [(&[u8], &[u8]); 3] = [
-        (
-            b"sfm 1\nground a b c\nweight a:-2 b:-2 c:-2\nrank 2 graphic : a=u-v b=v-w c=u-w\nend\n",
-            b"answer 1\nminimum -2\nleast a b c\ngreatest a b c\nslope -2/3 a b c\nat 0/1\nbase 1 -2 -2 -2\nbase 2 *\nat -2/3\nbase 1 -6 -6 -6\nbase 2 4 4 4\nend\n",
-        ),
-        (
-            b"sfm 1\nground a\nweight a:-1\nrank 5 graphic : a=u-u\nend\n",
-            b"answer 1\nminimum -1\nleast a\ngreatest a\nslope -1/1 a\nat 0/1\nbase 1 -1\nbase 2 0\nat -1/1\nbase 1 -1\nbase 2 0\nend\n",
-        ),
-        (
-            b"sfm 1\nground a b\nweight a:-1 b:-3\nrank 2 transversal : a=t b=t\nend\n",
-            b"answer 1\nminimum -2\nleast a b\ngreatest a b\nslope -1/1 a b\nat 0/1\nbase 1 -1 -3\nbase 2 *\nat -1/1\nbase 1 -1 -3\nbase 2 0 2\nend\n",
-        ),
-    ];
-    for (text, wanted) in rows {
-        try_solution(&rt, rt.alloc(), text, 7, wanted)?;
-    }
-    Ok(())
+    try_solutions(&rt, rt.alloc(), 7, &RANKS_OF_GRAPHS_AND_OF_SLOTS)
 }
