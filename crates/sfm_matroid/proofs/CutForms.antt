@@ -8,10 +8,10 @@ use Rattle.std.proofs.Math.IntN.{*ℤ-zero}
 use Rattle.sfm_spec.specs.Sets.{Has, sum_over}
 use Rattle.sfm_spec.specs.Kinds.{Edge}
 use Rattle.sfm_spec.proofs.Scaled.{times-mono, times-add}
+use Rattle.sfm_rank.proofs.Members.{has_place}
 use Rattle.sfm_matroid.specs.Counts.{count_below, unit_of}
 use Rattle.sfm_matroid.specs.Graphs.{EndsBelow, edge_at, graphic_rank, label}
 use Rattle.sfm_matroid.specs.Cuts.{IsWithinEnds, ends_but, touches}
-use Rattle.sfm_matroid.specs.Members.{has_place}
 use Rattle.sfm_matroid.specs.Counting.{count-into, count-most, eqb_apart}
 use Rattle.sfm_matroid.specs.Runs.{label-blind, label-joins, label-twice, label_below, taken-roots}
 

@@ -7,6 +7,7 @@ use Rattle.sfm_spec.specs.Sets.{whole_set, sum_over}
 use Rattle.sfm_spec.specs.Terms.{times, IsBase}
 use Rattle.sfm_spec.specs.Kinds.{Edge, IsForest}
 use Rattle.sfm_spec.proofs.Scaled.{times-assoc}
+use Rattle.sfm_rank.proofs.Bases.{AreTests, base_counts, base_total, base_passes, passes_base}
 use Rattle.sfm_matroid.specs.Cuts.{IsWithinEnds}
 use Rattle.sfm_matroid.specs.Graphs.{graphic_rank, graphic_value, graphic_size}
 use Rattle.sfm_matroid.specs.Ends.{edges_of}
@@ -14,7 +15,6 @@ use Rattle.sfm_matroid.specs.Numbered.{IsTail, numbered, vertex_count}
 use Rattle.sfm_matroid.proofs.Numbers.{numbered_below}
 use Rattle.sfm_matroid.proofs.OneTest.{tails_enough}
 use Rattle.sfm_matroid.specs.Forests.{forest-matroid, graphic-ranks}
-use Rattle.sfm_matroid.proofs.Bases.{AreTests, base_counts, base_total, base_passes, passes_base}
 use Rattle.sfm_matroid.proofs.MatroidTests.{numbered_tests}
 use Rattle.sfm_law.proofs.Totals.{total_of-whole}
 

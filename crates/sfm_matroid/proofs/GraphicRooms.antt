@@ -15,6 +15,7 @@ use Rattle.sfm_assign.specs.Splits.{CanBeMet}
 use Rattle.sfm_assign.specs.Lenders.{IsMostUpto}
 use Rattle.sfm_law.specs.Room.{IsReach}
 use Rattle.sfm_law.proofs.Monotone.{AreCounts}
+use Rattle.sfm_rank.proofs.Bases.{raised-counts, lower, least_capacity, base_counts, given-counts, gives_room, room_gives}
 use Rattle.sfm_matroid.specs.Cuts.{IsWithinEnds}
 use Rattle.sfm_matroid.specs.Ends.{edges_of}
 use Rattle.sfm_matroid.specs.Forests.{forest-matroid, graphic-ranks}
@@ -24,7 +25,6 @@ use Rattle.sfm_matroid.specs.Graphs.{graphic_rank, graphic_value}
 use Rattle.sfm_matroid.specs.Notes.{end_demands, IsRootSplit}
 use Rattle.sfm_matroid.specs.Numbered.{IsEndOf, numbered, end_lists, vertex_capacities, vertex_count}
 use Rattle.sfm_matroid.specs.declared.rooted.RootSplit.{RootSplit}
-use Rattle.sfm_matroid.proofs.Bases.{raised-counts, lower, least_capacity, base_counts, given-counts, gives_room, room_gives}
 use Rattle.sfm_matroid.proofs.GraphicBases.{base_tests}
 use Rattle.sfm_matroid.proofs.MatroidTests.{numbered_tests}
 use Rattle.sfm_matroid.proofs.Numbers.{length-numbered, numbered_below}

@@ -1,4 +1,3 @@
-mod Bases
 mod MatroidTests
 mod SplitTests
 mod Matched
@@ -14,7 +13,6 @@ mod Noted
 mod SlotNotes
 mod Fits
 mod Kept
-mod Shares
 mod Labels
 mod CutForms
 mod Numbers

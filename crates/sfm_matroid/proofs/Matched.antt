@@ -11,8 +11,8 @@ use Rattle.sfm_spec.specs.Kinds.{IsMatchable}
 use Rattle.sfm_spec.proofs.Sets.{in_both, in_first, in_second, same_sets}
 use Rattle.sfm_spec.proofs.Sums.{length-intersection}
 use Rattle.sfm_spec.proofs.Where.{size-cons}
-use Rattle.sfm_matroid.specs.Ranks.{at_places}
-use Rattle.sfm_matroid.specs.RankTerms.{at_places-length, at_places-at}
+use Rattle.sfm_rank.specs.Terms.{at_places}
+use Rattle.sfm_rank.proofs.Terms.{at_places-length, at_places-at}
 use Rattle.sfm_matroid.specs.Slots.{slots_count, IsWithinSlots, have_slots, above_slots, suited}
 use Rattle.sfm_matroid.specs.Ore.{AreSlotsBelow, matched_slots, matchable_by_slots}
 use Rattle.sfm_matroid.specs.Transversals.{slots_below, slots_suffice, slots_needed}

@@ -1,21 +1,19 @@
 -- The tests that tell the bases of a graphic and of a transversal matroid: for each vertex, no edges get more than their ends
 -- but that vertex may hold; and no members get more than their slots may hold. What slots hold, as a sum of capacities.
 -- Textbook: Schrijver, Combinatorial Optimization, sections 22 and 50.
-use Rattle.std.proofs.Common.{◌≡◌, ◌≢◌, ◌⊎◌, inl, inr, ℕ, zero, suc, ◌+◌, ◌<◌, Bool, true, false, not, ◌&&◌, List, [], ◌∷◌, length, get_or, set, replicate, nat_eq, ℤ, pos, ◌+ℤ◌, ◌*ℤ◌, ◌≤ℤ◌, refl, sym, ap, ◌∙◌, arith, length-set}
+use Rattle.std.proofs.Common.{◌≡◌, ◌≢◌, ◌⊎◌, inl, inr, ℕ, ◌+◌, ◌<◌, Bool, true, false, not, ◌&&◌, List, [], ◌∷◌, length, get_or, set, replicate, nat_eq, ℤ, pos, ◌+ℤ◌, ◌*ℤ◌, ◌≤ℤ◌, refl, sym, ap, ◌∙◌, arith}
 use Rattle.std.proofs.lemmas.Bool.{cases_Bool, cases_eq}
 use Rattle.std.proofs.lemmas.Int.{ints}
 use Rattle.std.proofs.lemmas.List.{length-replicate, get_or-replicate}
 use Rattle.std.proofs.Math.IntN.{*ℤ-zero}
-use Rattle.sfm_spec.specs.Sets.{Has, empty_set, size, sum_over}
+use Rattle.sfm_spec.specs.Sets.{Has, size, sum_over}
 use Rattle.sfm_spec.specs.Kinds.{Edge, IsForest, IsMatchable}
-use Rattle.sfm_spec.proofs.Scaled.{times-mono, times-add}
-use Rattle.sfm_spec.proofs.Sizes.{size-empty, weight-empty}
+use Rattle.sfm_spec.proofs.Scaled.{times-add}
 use Rattle.sfm_spec.proofs.Sums.{sum_over-set}
 use Rattle.sfm_spec.proofs.Where.{size-cons}
-use Rattle.sfm_matroid.specs.Members.{has_or_out, nothing, size-in}
+use Rattle.sfm_rank.proofs.Bases.{AreTests, capped_by_rank, sum_over-below}
 use Rattle.sfm_matroid.specs.Counting.{eqb_apart, count-same, count-without, size-count}
 use Rattle.sfm_matroid.specs.Counts.{unit_of, count_below}
-use Rattle.sfm_matroid.specs.Matroids.{IsMatroid, AreRanks, rank-size}
 use Rattle.sfm_matroid.specs.Graphs.{EndsBelow, graphic_rank}
 use Rattle.sfm_matroid.specs.Forests.{forest-matroid, graphic-ranks}
 use Rattle.sfm_matroid.specs.Numbered.{numbered, vertex_count}
@@ -27,42 +25,6 @@ use Rattle.sfm_matroid.specs.Ore.{AreSlotsBelow}
 use Rattle.sfm_matroid.specs.Slots.{IsWithinSlots, transversal_rank}
 use Rattle.sfm_matroid.proofs.SlotForms.{slots_from_rank, rank_from_slots}
 use Rattle.sfm_matroid.specs.Transversals.{transversal-ranks}
-use Rattle.sfm_matroid.proofs.Bases.{AreTests}
-
-sum_over-below : (s : List Bool) (x y : List ℤ) → length x ≡ length y → ((e : ℕ) → e < length x → get_or x e (pos 0) ≤ℤ get_or y e (pos 0)) → sum_over s x ≤ℤ sum_over s y
-sum_over-below [] x y same le = omega (arith, ints)
-sum_over-below (b ∷ s) [] [] same le = omega (arith, ints)
-sum_over-below (b ∷ s) [] (d ∷ y) same le = absurd (omega (arith, same))
-sum_over-below (b ∷ s) (c ∷ x) [] same le = absurd (omega (arith, same))
-sum_over-below (b ∷ s) (c ∷ x) (d ∷ y) same le = at b (le 0 (omega arith)) (sum_over-below s x y (omega arith) (λ e lt. le (suc e) (omega arith))) where
-  at : (b : Bool) → c ≤ℤ d → sum_over s x ≤ℤ sum_over s y → sum_over (b ∷ s) (c ∷ x) ≤ℤ sum_over (b ∷ s) (d ∷ y)
-  at true h r = omega (arith, ints, h, r)
-  at false h r = omega (arith, ints, r)
-
--- no entry is above the factor of what is within the ranks
-capped_by_rank : (k : ℕ) (IsIndependent : List Bool → Type 0) (rank : List Bool → ℕ) (matroid : IsMatroid k IsIndependent) (ranks : AreRanks k IsIndependent rank) (c : ℤ) → pos 0 ≤ℤ c → (x : List ℤ) → length x ≡ k
-    → ((s : List Bool) → length s ≡ k → sum_over s x ≤ℤ (c *ℤ pos (rank s))) → (e : ℕ) → e < k → get_or x e (pos 0) ≤ℤ c
-capped_by_rank k IsIndependent rank matroid ranks c low x sized within e lt =
-    let s = set (empty_set k) e true in
-    let kn = length-replicate k false in
-    let ks : length s ≡ k = length-set (empty_set k) e true ∙ kn in
-    let out = has_or_out (empty_set k) e (nothing k e) in
-    let h = within s ks in
-    let r = rank-size k IsIndependent rank matroid ranks s ks in
-    let z = size-in (empty_set k) e (omega (arith, kn, lt)) out in
-    let n = size-empty k in
-    let up = times-mono c (pos (rank s)) (pos 1) low (omega (arith, ints, r, z, n)) in
-    let one = once c in
-    let sum = single k e x sized lt in
-    omega (arith, ints, h, up, one, sum) where
-      once : (c : ℤ) → (c *ℤ pos 1) ≡ c
-      once c = omega (arith, ints)
-
-      single : (k e : ℕ) (x : List ℤ) → length x ≡ k → e < k → sum_over (set (empty_set k) e true) x ≡ get_or x e (pos 0)
-      single zero e x sized lt = absurd (omega (arith, lt))
-      single (suc k) e [] sized lt = absurd (omega (arith, sized))
-      single (suc k) zero (y ∷ x) sized lt = let w = weight-empty k x in omega (arith, ints, w)
-      single (suc k) (suc e) (y ∷ x) sized lt = let r = single k e x (omega arith) (omega arith) in omega (arith, ints, r)
 
 -- one test for each of m vertices
 pub graphic_tests : (edges : List Edge) (m : ℕ) (below : EndsBelow edges m) (q w : ℤ) (low : pos 0 ≤ℤ (q *ℤ w))

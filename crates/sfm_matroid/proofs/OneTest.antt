@@ -9,10 +9,10 @@ use Rattle.sfm_spec.specs.Terms.{exchanged}
 use Rattle.sfm_spec.specs.Kinds.{Edge}
 use Rattle.sfm_spec.proofs.Scaled.{times-mono}
 use Rattle.sfm_spec.proofs.Sums.{share, sum_over-set, sum_over-exchanged}
+use Rattle.sfm_rank.proofs.Members.{has_place}
 use Rattle.sfm_matroid.specs.Counting.{eqb_apart, count-into}
 use Rattle.sfm_matroid.specs.Graphs.{edge_at, EndsBelow}
 use Rattle.sfm_matroid.specs.Cuts.{touches, ends_but, IsWithinEnds}
-use Rattle.sfm_matroid.specs.Members.{has_place}
 use Rattle.sfm_matroid.specs.Numbered.{IsEndOf, IsTail}
 use Rattle.sfm_matroid.proofs.CutForms.{touches-ends}
 

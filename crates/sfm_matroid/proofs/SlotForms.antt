@@ -9,9 +9,9 @@ use Rattle.sfm_spec.specs.Kinds.{IsMatchable}
 use Rattle.sfm_spec.proofs.Scaled.{times-mono, times-add}
 use Rattle.sfm_spec.proofs.Sizes.{within_tail}
 use Rattle.sfm_spec.proofs.Where.{size-cons}
+use Rattle.sfm_rank.specs.Matroids.{AreRanks}
 use Rattle.sfm_matroid.specs.Counts.{unit_of}
 use Rattle.sfm_matroid.specs.Slots.{slots_count}
-use Rattle.sfm_matroid.specs.Matroids.{AreRanks}
 use Rattle.sfm_matroid.specs.Ore.{AreSlotsBelow, greatest, matched_slots, minus}
 
 sum-minus : (s r : List Bool) (x : List ℤ) → length s ≡ length r → IsWithin r s → sum_over s x ≡ (sum_over (minus s r) x +ℤ sum_over r x)

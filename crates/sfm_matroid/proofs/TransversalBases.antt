@@ -10,6 +10,7 @@ use Rattle.sfm_spec.specs.Sets.{whole_set, sum_over}
 use Rattle.sfm_spec.specs.Terms.{times, IsBase, IsCapacity, HasRoom, exchanged}
 use Rattle.sfm_spec.proofs.Sums.{length-exchanged}
 use Rattle.sfm_law.specs.Room.{IsReach}
+use Rattle.sfm_rank.proofs.Bases.{IsMostAt, base_counts, base_total, base_passes, passes_base, raised-places, raised-counts, met_now, met_nothing, lower, least_capacity, given-counts, gives_room, room_gives}
 use Rattle.sfm_matroid.specs.Givers.{IsGiver, IsRowIn}
 use Rattle.sfm_matroid.proofs.Lending.{reach_row}
 use Rattle.sfm_spec.specs.Kinds.{IsMatchable}
@@ -22,7 +23,6 @@ use Rattle.sfm_matroid.specs.Leasts.{IsLeastOf}
 use Rattle.sfm_matroid.specs.Matchings.{matching-matroid}
 use Rattle.sfm_matroid.specs.Slots.{IsWithinSlots, transversal_rank, transversal_value, transversal_size}
 use Rattle.sfm_matroid.specs.Transversals.{transversal-ranks}
-use Rattle.sfm_matroid.proofs.Bases.{IsMostAt, base_counts, base_total, base_passes, passes_base, raised-places, raised-counts, met_now, met_nothing, lower, least_capacity, given-counts, gives_room, room_gives}
 use Rattle.sfm_matroid.proofs.Matched.{slots_each}
 use Rattle.sfm_matroid.proofs.MatroidTests.{transversal_tests}
 use Rattle.sfm_matroid.proofs.SplitTests.{split_within_slots, within_slots_split}

@@ -5,13 +5,14 @@ use Rattle.std.proofs.lemmas.Bool.{false≢true, cases_eq, cases_Bool, cases_lt,
 use Rattle.sfm_spec.specs.Sets.{Has, IsWithin, size}
 use Rattle.sfm_spec.specs.Kinds.{Edge, Way, begin_of, end_of, IsForest}
 use Rattle.sfm_spec.proofs.Sets.{same_sets}
+use Rattle.sfm_rank.specs.Matroids.{AreRanks, IsMatroid}
+use Rattle.sfm_rank.specs.Growth.{IsGrowth}
+use Rattle.sfm_rank.proofs.Members.{has_or_out, has_place, nothing, set_has, set_here, set_within}
+use Rattle.sfm_rank.proofs.Growing.{grown-rank}
 use Rattle.sfm_matroid.specs.Graphs.{edge_at, graphic_rank, label, taken, takes}
-use Rattle.sfm_matroid.specs.Members.{has_or_out, has_place, nothing, set_has, set_here, set_within}
 use Rattle.sfm_matroid.specs.Counting.{count-into, eqb_apart}
-use Rattle.sfm_matroid.specs.Matroids.{AreRanks, IsMatroid}
 use Rattle.sfm_matroid.specs.Runs.{above_ends, ends_below, label-blind, label-idle, label-joins, label-kept, label-moved, label-twice, label_below, taken-new, taken-places, taken-roots, taken_under, taken_within}
 use Rattle.sfm_matroid.specs.Trails.{IsBlind, IsTrail, closed_from, forest_more, joined, never_on, with_edge}
-use Rattle.sfm_matroid.specs.Growing.{IsGrowth, grown-rank}
 
 module _ (edges : List Edge) (s : List Bool) (ks : length s ≡ length edges) where
   -- the ends of what is taken have one label
@@ -159,7 +160,7 @@ module _ (edges : List Edge) where
   pub forest-growth : (s : List Bool) → length s ≡ length edges → IsGrowth (length edges) (IsForest edges) s (taken edges s)
   forest-growth s ks = record {
     begins = refl;
-    steps = λ j lt. ⊎_elim
+    steps = λ j lt state. ⊎_elim
         (λ take. let f = taken-forest edges s ks (suc j) (omega arith) in
         let is : taken edges s (suc j) ≡ set (taken edges s j) j true = rw take refl in
         inl ((and_parts (get_or s j false) (not (nat_eq (label edges s j (edge_at edges j).tail) (label edges s j (edge_at edges j).head))) take).0, is, (let f' = rw is at f in f')))

@@ -6,9 +6,10 @@ use Rattle.std.proofs.lemmas.List.{length-replicate}
 use Rattle.sfm_spec.specs.Sets.{whole_set}
 use Rattle.sfm_spec.specs.Terms.{times, IsBase, IsFamily, IsSubmodular, IsGreedy}
 use Rattle.sfm_spec.specs.Kinds.{Edge, IsForest, IsRankFunction}
+use Rattle.sfm_rank.specs.Terms.{IsFirstBasis}
+use Rattle.sfm_rank.proofs.Terms.{rank-bounded, rank-family, rank-function, rank-greedy, rank-law, rank-starts, rank-starts_small}
+use Rattle.sfm_rank.proofs.Growing.{first_basis}
 use Rattle.sfm_matroid.specs.Graphs.{graphic_basis, graphic_rank, graphic_size, graphic_start, graphic_value, taken}
-use Rattle.sfm_matroid.specs.RankTerms.{IsFirstBasis, rank-bounded, rank-family, rank-function, rank-greedy, rank-law, rank-starts, rank-starts_small}
-use Rattle.sfm_matroid.specs.Growing.{first_basis}
 use Rattle.sfm_matroid.specs.Forests.{forest-growth, forest-matroid, graphic-ranks}
 
 basis-first : (edges : List Edge) → IsFirstBasis (length edges) (graphic_rank edges) (graphic_basis edges)

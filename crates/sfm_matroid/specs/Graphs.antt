@@ -5,7 +5,7 @@ use Rattle.std.proofs.Common.{ℕ, zero, suc, ◌<◌, Bool, true, false, not, �
 use Rattle.sfm_spec.specs.Sets.{empty_set, size, whole_set}
 use Rattle.sfm_spec.specs.Kinds.{Edge, no_edge}
 use Rattle.sfm_spec.specs.Terms.{SetFunction}
-use Rattle.sfm_matroid.specs.Ranks.{at_places, rank_value}
+use Rattle.sfm_rank.specs.Terms.{at_places, rank_value}
 
 abbrev pub edge_at : List Edge → ℕ → Edge
 edge_at edges n = get_or edges n no_edge

@@ -1,6 +1,5 @@
 pub mod Counts
 pub mod Graphs
-pub mod Ranks
 pub mod Slots
 pub mod Ends
 pub mod Numbered
@@ -8,13 +7,9 @@ pub mod Cuts
 pub mod Leasts
 pub mod Givers
 pub mod Notes
-pub mod Members
 pub mod Counting
-pub mod Matroids
-pub mod RankTerms
 pub mod Runs
 pub mod Trails
-pub mod Growing
 pub mod Forests
 pub mod GraphicLaws
 pub mod Matchings

@@ -5,10 +5,10 @@ use Rattle.std.specs.List.{Contains}
 use Rattle.std.proofs.lemmas.Bool.{false≢true, cases_eq, cases_Bool, eq-eqb, eqb-true, and_parts, and_from}
 use Rattle.sfm_spec.specs.Sets.{Has, IsWithin, size}
 use Rattle.sfm_spec.specs.Kinds.{IsMatching, IsMatchable}
+use Rattle.sfm_rank.specs.Matroids.{IsMatroid}
+use Rattle.sfm_rank.proofs.Members.{has_place, has_set, nothing, set_has}
 use Rattle.sfm_matroid.specs.Counts.{count_below}
-use Rattle.sfm_matroid.specs.Members.{has_place, has_set, nothing, set_has}
 use Rattle.sfm_matroid.specs.Counting.{chosen, chosen_is, count-into, count-same, count-without, eqb_apart, size-count, some_or_none}
-use Rattle.sfm_matroid.specs.Matroids.{IsMatroid}
 
 -- the members of t have slots of their own entries by f, all distinct
 pub record IsMatchedBy (entries : List (List ℕ)) (t : List Bool) (f : ℕ → ℕ) : Type 0 where

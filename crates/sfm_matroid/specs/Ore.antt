@@ -9,9 +9,9 @@ use Rattle.sfm_spec.specs.Sets.{empty_set, Has, IsWithin, size}
 use Rattle.sfm_spec.specs.Kinds.{IsMatching, IsMatchable}
 use Rattle.sfm_spec.proofs.Sizes.{size_below_length, size_grows, within_tail}
 use Rattle.sfm_spec.proofs.Where.{size-cons}
+use Rattle.sfm_rank.proofs.Members.{has_or_out, has_place, has_set, nothing, set_has, set_within, size-in}
 use Rattle.sfm_matroid.specs.Counts.{count_below, unit_of}
 use Rattle.sfm_matroid.specs.Slots.{listed, lists_slot, slots_count}
-use Rattle.sfm_matroid.specs.Members.{has_or_out, has_place, has_set, nothing, set_has, set_within, size-in}
 use Rattle.sfm_matroid.specs.Counting.{chosen, chosen_is, count-into, count-most, count-split, size-count, some_or_none}
 use Rattle.sfm_matroid.specs.Matchings.{IsMatchedBy, matchable_from, matched_by, matching-matroid, redirected, redirected-here, redirected-other}
 

@@ -6,9 +6,9 @@ use Rattle.std.proofs.lemmas.List.{length-replicate}
 use Rattle.sfm_spec.specs.Sets.{Has, IsWithin, size}
 use Rattle.sfm_spec.specs.Kinds.{Edge}
 use Rattle.sfm_spec.proofs.Sizes.{size-empty}
+use Rattle.sfm_rank.proofs.Members.{has_or_out, has_set, nothing, set_within, size-in}
 use Rattle.sfm_matroid.specs.Counts.{count_below, unit_of}
 use Rattle.sfm_matroid.specs.Graphs.{EndsBelow, edge_at, label, renamed, taken, takes}
-use Rattle.sfm_matroid.specs.Members.{has_or_out, has_set, nothing, set_within, size-in}
 use Rattle.sfm_matroid.specs.Counting.{count-same, count-without, eqb_apart}
 
 -- g does not tell the ends of the edges of s below n apart

@@ -4,8 +4,8 @@
 use Rattle.std.proofs.Common.{◌≡◌, ℕ, zero, suc, ◌+◌, Bool, true, false, not, ◌&&◌, ◌||◌, List, [], ◌∷◌, length, get_or, set, nat_eq, ℤ, pos, ◌*ℤ◌, ◌≤ℤ◌, nat_lt, if◌then◌else◌}
 use Rattle.sfm_spec.specs.Sets.{empty_set, size, sum_over, whole_set, intersection}
 use Rattle.sfm_spec.specs.Terms.{SetFunction}
+use Rattle.sfm_rank.specs.Terms.{at_places, rank_value}
 use Rattle.sfm_matroid.specs.Counts.{count_below}
-use Rattle.sfm_matroid.specs.Ranks.{at_places, rank_value}
 
 abbrev pub lists_slot : List ℕ → ℕ → Bool
 lists_slot [] v = false

@@ -6,8 +6,8 @@ use Rattle.std.proofs.lemmas.Bool.{false≢true, cases_eq}
 use Rattle.std.proofs.lemmas.List.Elements.{All-head, All-tail}
 use Rattle.sfm_spec.specs.Sets.{Has, AreDistinct}
 use Rattle.sfm_spec.specs.Kinds.{Edge, Way, begin_of, end_of, LeadsHome, IsClosedTrail, IsForest}
+use Rattle.sfm_rank.proofs.Members.{has_set, set_has, set_here}
 use Rattle.sfm_matroid.specs.Graphs.{edge_at}
-use Rattle.sfm_matroid.specs.Members.{has_set, set_has, set_here}
 
 -- no way takes the edge e
 abbrev pub Misses : ℕ → List Way → Type 0

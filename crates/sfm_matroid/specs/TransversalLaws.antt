@@ -4,8 +4,8 @@ use Rattle.std.proofs.Common.{◌≡◌, ℕ, Bool, List, length, ℤ, pos, neg_
 use Rattle.std.specs.List.{All}
 use Rattle.sfm_spec.specs.Terms.{times, IsBase, IsFamily, IsSubmodular, IsGreedy}
 use Rattle.sfm_spec.specs.Kinds.{IsMatchable, IsRankFunction}
+use Rattle.sfm_rank.proofs.Terms.{rank-bounded, rank-family, rank-function, rank-greedy, rank-law, rank-starts, rank-starts_small}
 use Rattle.sfm_matroid.specs.Slots.{transversal_basis, transversal_rank, transversal_size, transversal_start, transversal_value}
-use Rattle.sfm_matroid.specs.RankTerms.{rank-bounded, rank-family, rank-function, rank-greedy, rank-law, rank-starts, rank-starts_small}
 use Rattle.sfm_matroid.specs.Matchings.{matching-matroid}
 use Rattle.sfm_matroid.specs.Transversals.{transversal-first, transversal-ranks}
 

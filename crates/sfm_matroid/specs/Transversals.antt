@@ -1,18 +1,18 @@
 -- Places that are taken one after another while their slots suffice: a greatest set with slots of its own.
 -- Textbook: Schrijver, Combinatorial Optimization, sections 22 (Hall's theorem), 39 and 40.
-use Rattle.std.proofs.Common.{◌≡◌, ℕ, zero, suc, ◌<◌, ◌≤◌, Bool, true, false, not, ◌&&◌, List, [], ◌∷◌, length, get_or, set, if◌then◌else◌, refl, sym, ap, ◌∙◌, arith, inl, inr, ⊎_elim, length-set}
+use Rattle.std.proofs.Common.{◌≡◌, ℕ, zero, suc, ◌<◌, ◌≤◌, Bool, true, false, not, ◌&&◌, List, [], ◌∷◌, length, get_or, set, refl, sym, ap, ◌∙◌, arith, inl, inr, ⊎_elim, length-set}
 use Rattle.std.specs.List.{Contains}
 use Rattle.std.proofs.lemmas.Bool.{false≢true, cases_lt, cases_Bool, and_parts, or_cases, or_left, or_right, ltb-true, lt-ltb}
-use Rattle.std.proofs.lemmas.List.{length-replicate}
 use Rattle.sfm_spec.specs.Sets.{whole_set, intersection, size}
 use Rattle.sfm_spec.specs.Kinds.{IsMatchable}
 use Rattle.sfm_spec.proofs.Sets.{in_both, in_first, in_second, same_sets}
 use Rattle.sfm_spec.proofs.Sizes.{size_below_length}
 use Rattle.sfm_spec.proofs.Sums.{length-intersection}
+use Rattle.sfm_rank.specs.Matroids.{AreRanks}
+use Rattle.sfm_rank.specs.Growth.{IsGrowth}
+use Rattle.sfm_rank.specs.Terms.{IsFirstBasis}
+use Rattle.sfm_rank.proofs.Growing.{first_basis, grown-rank}
 use Rattle.sfm_matroid.specs.Slots.{above_list, above_slots, have_slots, lack_slots, slots_count, some_set, suited, suits, transversal_basis, transversal_rank}
-use Rattle.sfm_matroid.specs.Matroids.{AreRanks}
-use Rattle.sfm_matroid.specs.RankTerms.{IsFirstBasis}
-use Rattle.sfm_matroid.specs.Growing.{IsGrowth, first_basis, grown-rank}
 use Rattle.sfm_matroid.specs.Matchings.{matching-matroid}
 use Rattle.sfm_matroid.specs.Ore.{AreSlotsBelow, matchable_by_slots, matched_slots}
 
@@ -66,19 +66,12 @@ slots_below (slots ∷ entries) zero v c = let r = list_below slots v c in omega
 slots_below (slots ∷ entries) (suc e) v c = let r = slots_below entries e v c in omega (arith, r)
 
 module _ (entries : List (List ℕ)) where
-  suited-places : (s : List Bool) (n : ℕ) → length (suited entries s n) ≡ length entries
-  suited-places s zero = length-replicate (length entries) false
-  suited-places s (suc n) = at (suits entries s (suited entries s n) n) (suited-places s n) where
-    at : (b : Bool) → length (suited entries s n) ≡ length entries → length (if b then set (suited entries s n) n true else suited entries s n) ≡ length entries
-    at true r = length-set (suited entries s n) n true ∙ r
-    at false r = r
-
   pub suited-growth : (s : List Bool) → IsGrowth (length entries) (IsMatchable entries) s (suited entries s)
   suited-growth s = record {
     begins = refl;
-    steps = λ j lt.
+    steps = λ j lt state.
         let t = suited entries s j in
-        let kt = length-set t j true ∙ suited-places s j in
+        let kt = length-set t j true ∙ state.places in
         ⊎_elim
         (λ take.
         let (has, test) = and_parts (get_or s j false) (have_slots entries (above_slots entries) (set t j true)) take in
@@ -97,7 +90,7 @@ module _ (entries : List (List ℕ)) where
   transversal-first = first_basis (length entries) (IsMatchable entries) (transversal_rank entries) (matching-matroid (length entries) entries) transversal-ranks (suited entries (whole_set (length entries))) (suited-growth (whole_set (length entries)))
 
   pub length-transversal_basis : length (transversal_basis entries) ≡ length entries
-  length-transversal_basis = suited-places (whole_set (length entries)) (length entries)
+  length-transversal_basis = transversal-first.places
 
   pub transversal-few : size (transversal_basis entries) ≤ length entries
   transversal-few = let b = size_below_length (transversal_basis entries) in let l = length-transversal_basis in omega (arith, b, l)

@@ -3,7 +3,7 @@
 ghost use Rattle.std.specs.Prelude.{◌≡◌, ◌↔◌, ◌<◌, ◌≤◌, ◌^◌, true, length, replicate, slice_index_or, slice_set, pos, ◌≤ℤ◌, if◌then◌else◌, IfOk, OnOk, IsTrue};
 ghost use Rattle.std.specs.List.{All};
 ghost use Rattle.sfm_assign.specs.Splits.{IsAmount};
-ghost use Rattle.sfm_matroid.specs.Ranks.{at_places};
+ghost use Rattle.sfm_rank.specs.Terms.{at_places};
 ghost use Rattle.sfm_matroid.specs.Slots.{IsWithinSlots, have_slots, above_slots, suited};
 
 use crate::entries::Entries;

@@ -1,6 +1,6 @@
 use Rattle.std.proofs.Common.{◌≡◌, ◌∙◌, true, length, ap, pos, set, length-set}
-use Rattle.sfm_matroid.specs.Ranks.{at_places}
-use Rattle.sfm_matroid.specs.RankTerms.{at_places-length}
+use Rattle.sfm_rank.specs.Terms.{at_places}
+use Rattle.sfm_rank.proofs.Terms.{at_places-length}
 use Rattle.sfm_matroid.proofs.Matched.{fits-is, ones-amounts, slots_each}
 use Rattle.sfm_matroid.proofs.matching.fits.Goals as goal
 

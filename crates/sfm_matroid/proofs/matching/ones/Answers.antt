@@ -2,7 +2,7 @@ use Rattle.std.proofs.Common.{◌∙◌, ◌<◌, length, ap, pos, if◌then◌e
 use Rattle.std.proofs.lemmas.Int.{to_z-of_z}
 use Rattle.std.proofs.lemmas.List.{take_all}
 use mir.Syntax.{w128}
-use Rattle.sfm_matroid.specs.RankTerms.{at_places-length}
+use Rattle.sfm_rank.proofs.Terms.{at_places-length}
 use Rattle.sfm_matroid.proofs.Matched.{ones-push}
 use Rattle.sfm_matroid.proofs.matching.ones.Goals as goal
 

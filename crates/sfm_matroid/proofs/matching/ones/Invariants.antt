@@ -1,5 +1,5 @@
 use Rattle.std.proofs.Common.{◌≡◌, take, pos}
-use Rattle.sfm_matroid.specs.Ranks.{at_places}
+use Rattle.sfm_rank.specs.Terms.{at_places}
 use Rattle.sfm_matroid.proofs.matching.ones.Given as goal
 
 abbrev pub invariant-loop-e : goal.invariant-loop-e

@@ -1,10 +1,10 @@
 use Rattle.std.proofs.Common.{◌∙◌, ◌*ℤ◌, false, get_or, ap, sym, FitsSigned}
 use Rattle.std.proofs.lemmas.Int.{to_z-of_z}
 use mir.Syntax.{w128}
+use Rattle.sfm_rank.proofs.Terms.{share-in, share-out}
 use Rattle.sfm_matroid.specs.Transversals.{length-transversal_basis}
 use Rattle.sfm_matroid.specs.Slots.{transversal_basis}
 use Rattle.sfm_law.proofs.Fits.{given_fits, given_more, product_fits}
-use Rattle.sfm_matroid.proofs.Shares.{share-in, share-out}
 use Rattle.sfm_matroid.proofs.transversal.Transversal.share.Goals as goal
 
 pub contains-requires : goal.contains-requires

@@ -2,7 +2,7 @@ use Rattle.std.proofs.Common.{◌≡◌, ◌∙◌, ◌*ℤ◌, length, pos, sym
 use Rattle.std.proofs.lemmas.Int.{to_z-of_z}
 use Rattle.std.proofs.lemmas.List.{ext_get_or}
 use mir.Syntax.{w128}
-use Rattle.sfm_matroid.specs.RankTerms.{at_places-length}
+use Rattle.sfm_rank.proofs.Terms.{at_places-length}
 use Rattle.sfm_matroid.specs.Slots.{transversal_basis, transversal_start}
 use Rattle.sfm_matroid.specs.Transversals.{length-transversal_basis}
 use Rattle.sfm_matroid.proofs.transversal.Transversal.write_start.Goals as goal

@@ -1,32 +1,18 @@
--- Sets that grow place by place as long as they stay independent: the greedy method, which finds the rank.
+-- What grows place by place as long as it stays independent is as large as any independent part: the greedy method finds the rank.
 -- Textbook: Schrijver, Combinatorial Optimization, section 40.
-use Rattle.std.proofs.Common.{◌≡◌, ◌⊎◌, ℕ, zero, suc, ◌+◌, ◌<◌, ◌≤◌, Bool, true, false, cond, List, ◌∷◌, length, get_or, set, refl, sym, ap, ◌∙◌, arith, ⊎_elim, length-set, get_or-set_other}
+use Rattle.std.proofs.Common.{◌≡◌, ℕ, zero, suc, ◌+◌, ◌<◌, ◌≤◌, Bool, true, false, cond, List, ◌∷◌, length, get_or, set, refl, sym, ap, ◌∙◌, arith, ⊎_elim, length-set, get_or-set_other}
 use Rattle.std.proofs.lemmas.Bool.{false≢true, cases_lt}
 use Rattle.std.proofs.lemmas.List.{length-replicate}
-use Rattle.sfm_spec.specs.Sets.{Has, IsWithin, empty_set, whole_set, size}
+use Rattle.sfm_spec.specs.Sets.{Has, IsWithin, whole_set, size}
 use Rattle.sfm_spec.specs.Kinds.{IsRank}
 use Rattle.sfm_spec.proofs.Sets.{Has-whole}
 use Rattle.sfm_spec.proofs.Sizes.{size-empty}
 use Rattle.sfm_law.proofs.Greedy.{front, length-front, front-none}
-use Rattle.sfm_matroid.specs.Members.{has_or_out, has_place, has_set, nothing, set_has, set_here, set_within, size-in}
-use Rattle.sfm_matroid.specs.Matroids.{AreRanks, IsMatroid, rank-more, rank-same, rank-size}
-use Rattle.sfm_matroid.specs.RankTerms.{IsFirstBasis}
-
--- the place j of s is taken where the set stays independent with it
-abbrev pub IsStep : (List Bool → Type 0) → List Bool → ℕ → List Bool → List Bool → Type 0
-IsStep IsIndependent s j before after = (Has s j × (after ≡ set before j true) × IsIndependent (set before j true)) ⊎ ((after ≡ before) × (Has s j → IsIndependent (set before j true) → ⊥))
-
--- sets that grow by the places of s in ascending order
-pub record IsGrowth (k : ℕ) (IsIndependent : List Bool → Type 0) (s : List Bool) (sets : ℕ → List Bool) : Type 0 where
-  pub begins : sets 0 ≡ empty_set k
-  pub steps : (j : ℕ) → j < k → IsStep IsIndependent s j (sets j) (sets (suc j))
-
-pub record IsGrown (k : ℕ) (IsIndependent : List Bool → Type 0) (s : List Bool) (j : ℕ) (t : List Bool) : Type 0 where
-  pub places : length t ≡ k
-  pub within : IsWithin t s
-  pub under : (e : ℕ) → Has t e → e < j
-  pub independent : IsIndependent t
-  pub refused : (e : ℕ) → e < j → Has s e → get_or t e false ≡ false → IsIndependent (set t e true) → ⊥
+use Rattle.sfm_rank.proofs.Members.{has_or_out, has_place, has_set, nothing, set_has, set_here, set_within, size-in}
+use Rattle.sfm_rank.specs.Matroids.{AreRanks, IsMatroid}
+use Rattle.sfm_rank.specs.Growth.{IsGrown, IsGrowth}
+use Rattle.sfm_rank.specs.Terms.{IsFirstBasis}
+use Rattle.sfm_rank.proofs.Ranks.{rank-more, rank-same, rank-size}
 
 module _ (k : ℕ) (IsIndependent : List Bool → Type 0) (matroid : IsMatroid k IsIndependent) (s : List Bool) (sets : ℕ → List Bool) (growth : IsGrowth k IsIndependent s sets) where
   taken : (j : ℕ) (t after : List Bool) → j < k → Has s j → IsGrown k IsIndependent s j t → after ≡ set t j true → IsIndependent (set t j true) → IsGrown k IsIndependent s (suc j) after
@@ -65,10 +51,12 @@ module _ (k : ℕ) (IsIndependent : List Bool → Type 0) (matroid : IsMatroid k
     independent = matroid.empty;
     refused = λ e lt. absurd (omega (arith, lt));
   })
-  is_grown (suc j) le = ⊎_elim
-      (λ (has, is, free). taken j (sets j) (sets (suc j)) (omega arith) has (is_grown j (omega arith)) is free)
-      (λ (is, never). left j (sets j) (sets (suc j)) (is_grown j (omega arith)) is never)
-      (growth.steps j (omega arith))
+  is_grown (suc j) le =
+      let h = is_grown j (omega arith) in
+      ⊎_elim
+      (λ (has, is, free). taken j (sets j) (sets (suc j)) (omega arith) has h is free)
+      (λ (is, never). left j (sets j) (sets (suc j)) h is never)
+      (growth.steps j (omega arith) h)
 
   -- what has grown by all places is as large as any independent part
   pub grown-rank : length s ≡ k → IsRank IsIndependent s (size (sets k))
@@ -123,7 +111,7 @@ module _ (k : ℕ) (IsIndependent : List Bool → Type 0) (rank : List Bool → 
       let here : get_or (sets (suc j)) j false ≡ false = rw is out in
       let z : size (sets (suc j)) ≡ size (sets j) = ap size is in
       rw (front-set k j lt, here) (omega (arith, m), omega (arith, m, z, full)))
-      (growth.steps j lt)
+      (growth.steps j lt (state j (omega arith)))
 
   pub front-rank : (j : ℕ) → j ≤ k → size (sets j) ≡ rank (front k j)
   front-rank zero le =
@@ -141,7 +129,7 @@ module _ (k : ℕ) (IsIndependent : List Bool → Type 0) (rank : List Bool → 
       (λ (less : j < n). ⊎_elim
       (λ (has, is, free). ap (λ t. get_or t j false) is ∙ (get_or-set_other (sets n) n j true false (λ e. absurd (omega (arith, e, less))) ∙ kept j n less (omega arith)))
       (λ (is, never). ap (λ t. get_or t j false) is ∙ kept j n less (omega arith))
-      (growth.steps n (omega arith)))
+      (growth.steps n (omega arith) (state n (omega arith))))
       (λ (ge : n ≤ j). let e : n ≡ j = omega arith in rw e refl)
       (cases_lt j n)
 

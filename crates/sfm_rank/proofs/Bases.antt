@@ -1,7 +1,7 @@
 -- Bases of a number times a rank, and how much can be exchanged at one, where what is within the rank is told by tests of its
 -- entries: no entry is above a number, and each test is met. The tests are left open here.
 -- Textbook: Fujishige, Submodular Functions and Optimization, section 4 (exchange capacities).
-use Rattle.std.proofs.Common.{◌≡◌, ◌≢◌, ◌⊎◌, ℕ, ◌<◌, Bool, true, false, List, length, get_or, set, ℤ, pos, ◌+ℤ◌, ◌-ℤ◌, ◌*ℤ◌, ◌≤ℤ◌, ◌<ℤ◌, Some, refl, sym, ap, ◌∙◌, arith, ⊎_elim, length-set, get_or-set_other, get_or-set_same}
+use Rattle.std.proofs.Common.{◌≡◌, ◌≢◌, ◌⊎◌, ℕ, suc, ◌<◌, Bool, true, false, List, [], ◌∷◌, length, get_or, set, ℤ, pos, ◌+ℤ◌, ◌-ℤ◌, ◌*ℤ◌, ◌≤ℤ◌, ◌<ℤ◌, Some, refl, sym, ap, ◌∙◌, arith, ⊎_elim, length-set, get_or-set_other, get_or-set_same}
 use Rattle.std.proofs.lemmas.Bool.{cases_eq}
 use Rattle.std.proofs.lemmas.Int.{ints}
 use Rattle.std.proofs.lemmas.List.{length-replicate}
@@ -14,8 +14,34 @@ use Rattle.sfm_spec.proofs.Sets.{Has-whole}
 use Rattle.sfm_spec.proofs.Exchange.{base_between}
 use Rattle.sfm_law.proofs.Listing.{own_listing, base_from_leaves}
 use Rattle.sfm_law.proofs.Monotone.{AreCounts, without, sum_over-without}
-use Rattle.sfm_matroid.specs.Matroids.{IsMatroid, AreRanks, rank-mono}
-use Rattle.sfm_matroid.specs.Ranks.{rank_value}
+use Rattle.sfm_rank.specs.Matroids.{IsMatroid, AreRanks}
+use Rattle.sfm_rank.specs.Terms.{rank_value}
+use Rattle.sfm_rank.proofs.Members.{single, length-single, size-single, sum-single}
+use Rattle.sfm_rank.proofs.Ranks.{rank-mono, rank-size}
+
+pub sum_over-below : (s : List Bool) (x y : List ℤ) → length x ≡ length y → ((e : ℕ) → e < length x → get_or x e (pos 0) ≤ℤ get_or y e (pos 0)) → sum_over s x ≤ℤ sum_over s y
+sum_over-below [] x y same le = omega (arith, ints)
+sum_over-below (b ∷ s) [] [] same le = omega (arith, ints)
+sum_over-below (b ∷ s) [] (d ∷ y) same le = absurd (omega (arith, same))
+sum_over-below (b ∷ s) (c ∷ x) [] same le = absurd (omega (arith, same))
+sum_over-below (b ∷ s) (c ∷ x) (d ∷ y) same le = at b (le 0 (omega arith)) (sum_over-below s x y (omega arith) (λ e lt. le (suc e) (omega arith))) where
+  at : (b : Bool) → c ≤ℤ d → sum_over s x ≤ℤ sum_over s y → sum_over (b ∷ s) (c ∷ x) ≤ℤ sum_over (b ∷ s) (d ∷ y)
+  at true h r = omega (arith, ints, h, r)
+  at false h r = omega (arith, ints, r)
+
+-- no entry is above the factor of what is within the ranks
+pub capped_by_rank : (k : ℕ) (IsIndependent : List Bool → Type 0) (rank : List Bool → ℕ) (matroid : IsMatroid k IsIndependent) (ranks : AreRanks k IsIndependent rank) (c : ℤ) → pos 0 ≤ℤ c → (x : List ℤ) → length x ≡ k
+    → ((s : List Bool) → length s ≡ k → sum_over s x ≤ℤ (c *ℤ pos (rank s))) → (e : ℕ) → e < k → get_or x e (pos 0) ≤ℤ c
+capped_by_rank k IsIndependent rank matroid ranks c low x sized within e lt =
+    let h = within (single k e) (length-single k e) in
+    let r = rank-size k IsIndependent rank matroid ranks (single k e) (length-single k e) in
+    let z = size-single k e lt in
+    let up = times-mono c (pos (rank (single k e))) (pos 1) low (omega (arith, ints, r, z)) in
+    let one = once c in
+    let sum = sum-single k e x sized lt in
+    omega (arith, ints, h, up, one, sum) where
+      once : (c : ℤ) → (c *ℤ pos 1) ≡ c
+      once c = omega (arith, ints)
 
 module _ (k n : ℕ) (q w : ℤ) (low : pos 0 ≤ℤ (q *ℤ w)) (IsIndependent : List Bool → Type 0) (rank : List Bool → ℕ) (matroid : IsMatroid k IsIndependent) (ranks : AreRanks k IsIndependent rank) (Meets : ℕ → List ℤ → Type 0) where
   abbrev pub IsWithinRanks : List ℤ → Type 0

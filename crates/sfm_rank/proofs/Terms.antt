@@ -5,14 +5,15 @@ use Rattle.std.specs.List.{All}
 use Rattle.std.proofs.lemmas.Int.{ints}
 use Rattle.std.proofs.lemmas.List.{length-replicate}
 use Rattle.std.proofs.Math.IntN.{*ℤ-zero}
-use Rattle.sfm_spec.specs.Sets.{whole_set}
+use Rattle.sfm_spec.specs.Sets.{Has, whole_set}
 use Rattle.sfm_spec.specs.Terms.{times, first_places, IsBase, IsFamily, IsSubmodular, IsGreedy}
 use Rattle.sfm_spec.specs.Kinds.{IsRankFunction}
 use Rattle.sfm_spec.proofs.Scaled.{times-mono, times-add}
 use Rattle.sfm_spec.proofs.Search.{within_whole}
 use Rattle.sfm_law.proofs.Greedy.{front, first_places-front, first_places-more, greedy_base, greedy_small}
-use Rattle.sfm_matroid.specs.Ranks.{at_places, rank_value}
-use Rattle.sfm_matroid.specs.Matroids.{AreRanks, IsMatroid, rank-mono, rank-submodular}
+use Rattle.sfm_rank.specs.Matroids.{AreRanks, IsMatroid}
+use Rattle.sfm_rank.specs.Terms.{at_places, rank_value, IsFirstBasis}
+use Rattle.sfm_rank.proofs.Ranks.{rank-mono, rank-submodular}
 
 pub at_places-length : (m : ℤ) (s : List Bool) → length (at_places m s) ≡ length s
 at_places-length m [] = refl
@@ -23,10 +24,12 @@ at_places-at m [] j = refl
 at_places-at m (b ∷ s) zero = refl
 at_places-at m (b ∷ s) (suc j) = at_places-at m s j
 
--- a set that has a place exactly where it adds to the rank of the places before it
-pub record IsFirstBasis (k : ℕ) (rank : List Bool → ℕ) (basis : List Bool) : Type 0 where
-  pub places : length basis ≡ k
-  pub gains : (j : ℕ) → j < k → rank (front k (suc j)) ≡ rank (front k j) + cond (get_or basis j false) 1 0
+-- what a place gets of the base that a greatest independent set gives: q·w if it is a member, and else 0
+pub share-out : (q w : ℤ) (basis : List Bool) (j : ℕ) → get_or basis j false ≡ false → get_or (at_places (q *ℤ w) basis) j (pos 0) ≡ pos 0
+share-out q w basis j out = at_places-at (q *ℤ w) basis j ∙ rw out refl
+
+pub share-in : (q w : ℤ) (basis : List Bool) (j : ℕ) → Has basis j → get_or (at_places (q *ℤ w) basis) j (pos 0) ≡ (q *ℤ w)
+share-in q w basis j has = at_places-at (q *ℤ w) basis j ∙ rw has refl
 
 module _ (k : ℕ) (w : ℤ) (rank : List Bool → ℕ) where
   pub rank-function : (IsIndependent : List Bool → Type 0) → AreRanks k IsIndependent rank → IsRankFunction k w IsIndependent (rank_value w rank)

@@ -1,28 +1,17 @@
--- Matroids on k places, told by their independent sets, and their ranks.
+-- The rank of a matroid: it grows with the part, by at most one for a place, and is submodular.
 -- Textbook: Schrijver, Combinatorial Optimization, section 39.
 use Rattle.std.proofs.Common.{◌≡◌, ℕ, zero, suc, ◌+◌, ◌<◌, ◌≤◌, Bool, true, false, List, length, get_or, set, ℤ, pos, ◌+ℤ◌, ◌*ℤ◌, ◌≤ℤ◌, sym, ◌∙◌, arith, ⊎_elim, length-set}
 use Rattle.std.proofs.lemmas.Bool.{false≢true, cases_lt, cases_Bool}
 use Rattle.std.proofs.lemmas.Int.{ints}
 use Rattle.std.proofs.lemmas.List.{length-replicate}
 use Rattle.std.proofs.Math.IntN.{*ℤ-zero}
-use Rattle.sfm_spec.specs.Sets.{Has, IsWithin, empty_set, size}
+use Rattle.sfm_spec.specs.Sets.{IsWithin, empty_set, size}
 use Rattle.sfm_spec.specs.Terms.{IsSubmodular}
-use Rattle.sfm_spec.specs.Kinds.{IsRank}
 use Rattle.sfm_spec.proofs.Scaled.{times-mono, times-add}
 use Rattle.sfm_spec.proofs.Sizes.{size-empty, size_within}
 use Rattle.sfm_law.proofs.LocalLaw.{on_all, local_law}
-use Rattle.sfm_matroid.specs.Members.{has_or_out, has_place, has_set, out_gone, out_has, set_has, set_here, set_wider, set_within, size-in, size-out}
-
--- the empty set is independent, parts of independent sets are, and of two the smaller can take a place of the larger
-pub record IsMatroid (k : ℕ) (IsIndependent : List Bool → Type 0) : Type 0 where
-  pub empty : IsIndependent (empty_set k)
-  pub parts : (s t : List Bool) → length s ≡ k → length t ≡ k → IsWithin s t → IsIndependent t → IsIndependent s
-  pub grows : (s t : List Bool) → length s ≡ k → length t ≡ k → IsIndependent s → IsIndependent t → size s < size t
-      → (e : ℕ) × Has t e × (get_or s e false ≡ false) × IsIndependent (set s e true)
-
--- the rank of each set of k places
-abbrev pub AreRanks : ℕ → (List Bool → Type 0) → (List Bool → ℕ) → Type 0
-AreRanks k IsIndependent rank = (s : List Bool) → length s ≡ k → IsRank IsIndependent s (rank s)
+use Rattle.sfm_rank.specs.Matroids.{IsMatroid, AreRanks}
+use Rattle.sfm_rank.proofs.Members.{has_or_out, has_place, has_set, out_gone, out_has, set_has, set_here, set_wider, set_within, size-in, size-out}
 
 -- an independent set of the rank of t, between s and t
 pub record IsBetween (IsIndependent : List Bool → Type 0) (rank : List Bool → ℕ) (s t b : List Bool) : Type 0 where

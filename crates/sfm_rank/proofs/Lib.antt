@@ -1,0 +1,5 @@
+pub mod Members
+pub mod Ranks
+pub mod Terms
+pub mod Growing
+pub mod Bases

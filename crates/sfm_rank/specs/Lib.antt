@@ -1,0 +1,4 @@
+pub mod Matroids
+pub mod Growth
+pub mod Terms
+pub mod Laws
