@@ -17,8 +17,7 @@ use Rattle.sfm_simple.specs.CoverLaws.{cover-greedy}
 use Rattle.sfm_concave.specs.ConcaveLaws.{concave-greedy}
 use Rattle.sfm_concave.specs.ConcaveLaws as concaves
 use Rattle.sfm_concave.specs.UniformLaws.{uniform-greedy}
-use Rattle.sfm_laminar.proofs.Ranked.{laminar-rank}
-use Rattle.sfm_laminar.specs.LaminarLaws.{laminar-greedy}
+use Rattle.sfm_laminar.specs.LaminarLaws.{laminar-function, laminar-greedy}
 use Rattle.sfm_matroid.specs.GraphicLaws.{graphic-function, graphic-greedy}
 use Rattle.sfm_matroid.specs.TransversalLaws.{transversal-function, transversal-greedy}
 use Rattle.sfm_kind.specs.Kinds.{kind_value, kind_size, kind_start}
@@ -37,7 +36,7 @@ kind-means (Need term) = record { places = refl; values = refl }
 kind-means (Table term) = record { places = refl; values = refl }
 kind-means (Concave term) = record { places = refl; values = refl }
 kind-means (Uniform term) = record { places = refl; values = refl }
-kind-means (Laminar term) = record { places = refl; values = laminar-rank (length term.places) term.w term.groups term.grouped }
+kind-means (Laminar term) = record { places = refl; values = laminar-function (length term.places) term.w term.groups term.grouped }
 kind-means (Graphic term) = record { places = refl; values = graphic-function (length term.places) term.w term.ends term.same_count }
 kind-means (Transversal term) = record { places = refl; values = transversal-function (length term.places) term.w term.entries term.same_count }
 

@@ -6,16 +6,17 @@ use Rattle.std.proofs.lemmas.Int.{ints}
 use Rattle.std.proofs.lemmas.List.{length-replicate, get_or_push, get_or_append_left, get_or_past, length_push}
 use Rattle.std.proofs.lemmas.List.Elements.{Contains-get_or}
 use Rattle.sfm_spec.specs.Sets.{Has, empty_set, intersection}
-use Rattle.sfm_spec.specs.Kinds.{Group, count_in}
+use Rattle.sfm_spec.specs.Kinds.{Group, count_in, IsWithinCaps}
 use Rattle.sfm_spec.proofs.Sizes.{size_below_length}
 use Rattle.sfm_spec.proofs.Sums.{length-intersection}
+use Rattle.sfm_rank.proofs.Growing.{next-out}
 use Rattle.sfm_laminar.specs.Crossing.{no_group, group_at}
 use Rattle.sfm_laminar.specs.Groups.{IsAscending, IsGroup, IsBelow, AreGroups}
-use Rattle.sfm_laminar.specs.Masks.{mask, length-mask, count-mask, has_set}
+use Rattle.sfm_laminar.specs.Masks.{mask, length-mask, count-mask}
 use Rattle.sfm_laminar.specs.Counts.{AreCounts, HasFull, raised}
-use Rattle.sfm_laminar.specs.Grown.{is_blocked, blocked_from, from_blocked, grown, takes, step, nothing, count-set, count-none, has_or_out}
+use Rattle.sfm_laminar.specs.Grown.{is_blocked, blocked_from, from_blocked, grown, step, count-set, count-none}
 use Rattle.sfm_laminar.specs.Indexes.{holders, IsIndex}
-use Rattle.sfm_laminar.specs.Ranks.{contains-mask, mask-contains}
+use Rattle.sfm_laminar.specs.Ranks.{contains-mask, mask-contains, caps-grown}
 use Rattle.sfm_laminar.proofs.Holders.{AreHolders, are_holders, number_of, holder_at}
 
 -- ---- one more for each of some numbers
@@ -93,16 +94,9 @@ count-most k g t ok below kt =
     let m = length-mask k g.members in
     omega (arith, c, b, l, m)
 
--- nothing past the places that were looked at is taken
-pub grown-under : (k : ℕ) (groups : List Group) (s : List Bool) (n e : ℕ) → Has (grown k groups s n) e → e < n
-grown-under k groups s zero e h = absurd (nothing k e h)
-grown-under k groups s (suc n) e h = at (takes k groups s (grown k groups s n) n) (grown-under k groups s n e) h where
-  at : (b : Bool) → (Has (grown k groups s n) e → e < n) → Has (if b then set (grown k groups s n) n true else grown k groups s n) e → e < suc n
-  at true old h = ⊎_elim (λ (same : e ≡ n). omega arith) (λ had. let u = old had in omega (arith, u)) (has_set (grown k groups s n) n e h)
-  at false old h = let u = old h in omega (arith, u)
-
-pub grown-out : (k : ℕ) (groups : List Group) (s : List Bool) (n : ℕ) → get_or (grown k groups s n) n false ≡ false
-grown-out k groups s n = has_or_out (grown k groups s n) n (λ h. let u = grown-under k groups s n n h in absurd (omega (arith, u)))
+-- the place that comes next is not yet taken
+pub grown-out : (k : ℕ) (groups : List Group) (s : List Bool) (n : ℕ) → AreGroups k groups → n ≤ k → get_or (grown k groups s n) n false ≡ false
+grown-out k groups s n ok le = next-out k (IsWithinCaps groups) s n (grown k groups s n) (caps-grown k groups ok s n le)
 
 module _ (k : ℕ) (groups : List Group) (t : List Bool) (counts : List ℕ) (e : ℕ) (es : List ℕ)
     (ok : AreGroups k groups) (kt : length t ≡ k) (counted : AreCounts groups t counts) (at : AreHolders groups (length groups) e es) where

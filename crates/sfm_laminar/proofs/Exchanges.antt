@@ -1,127 +1,126 @@
 -- The exchanges at a base of the weighted rank: what v has, what u lacks of q·w, and what each group lacks that has u and not v.
-use Rattle.std.proofs.Common.{◌≡◌, ◌≢◌, ◌⊎◌, ◌↔◌, ℕ, zero, suc, ◌<◌, Bool, true, false, List, length, get_or, ℤ, pos, ◌+ℤ◌, ◌-ℤ◌, ◌*ℤ◌, ◌≤ℤ◌, ◌<ℤ◌, refl, sym, ◌∙◌, arith, inl, inr, ⊎_elim, get_or-set_same, get_or-set_other}
+use Rattle.std.proofs.Common.{◌≡◌, ◌≢◌, ◌⊎◌, ◌↔◌, ℕ, ◌<◌, Bool, true, false, List, length, get_or, set, ℤ, pos, ◌+ℤ◌, ◌-ℤ◌, ◌*ℤ◌, ◌≤ℤ◌, ◌<ℤ◌, if◌then◌else◌, refl, sym, ◌∙◌, arith, inl, inr, ⊎_elim, length-set, get_or-set_other}
 use Rattle.std.specs.List.{Contains}
-use Rattle.std.proofs.lemmas.Bool.{false≢true, cases_eq, cases_Bool}
+use Rattle.std.proofs.lemmas.Bool.{false≢true, cases_Bool}
 use Rattle.std.proofs.lemmas.Int.{ints, by_lt_z}
-use Rattle.std.proofs.lemmas.List.{length-replicate}
-use Rattle.sfm_spec.specs.Sets.{Has, empty_set, whole_set, sum_over}
-use Rattle.sfm_spec.specs.Terms.{times, IsBase, IsCapacity, HasRoom}
-use Rattle.sfm_spec.specs.Kinds.{Group}
-use Rattle.sfm_spec.proofs.Sets.{Has-whole}
+use Rattle.sfm_spec.specs.Sets.{Has}
+use Rattle.sfm_spec.specs.Terms.{times, IsBase, IsCapacity, HasRoom, exchanged}
+use Rattle.sfm_spec.specs.Kinds.{Group, IsWithinCaps}
+use Rattle.sfm_spec.proofs.Sets.{has_or_not}
+use Rattle.sfm_spec.proofs.Sums.{share, sum_over-set}
 use Rattle.sfm_law.specs.Room.{IsReach}
-use Rattle.sfm_law.proofs.Listing.{listed_capacity, listed_room, room_leaves}
-use Rattle.sfm_law.proofs.Monotone.{without, sum_over-without}
-use Rattle.sfm_laminar.specs.Masks.{mask, has_set}
+use Rattle.sfm_rank.proofs.Members.{has_or_out}
+use Rattle.sfm_rank.proofs.Bases.{IsMostAt, least_capacity, gives_room, room_gives}
+use Rattle.sfm_laminar.specs.Masks.{mask, length-mask, sum_listed}
 use Rattle.sfm_laminar.specs.Groups.{AreGroups}
 use Rattle.sfm_laminar.specs.Crossing.{no_group, group_at}
-use Rattle.sfm_laminar.specs.Grown.{has_or_out}
-use Rattle.sfm_laminar.specs.Ranks.{contains-mask, mask-contains}
-use Rattle.sfm_laminar.specs.LaminarLaws.{laminar_value, laminar_size}
+use Rattle.sfm_laminar.specs.Ranks.{contains-mask, mask-contains, rank, caps-matroid, caps-ranks}
+use Rattle.sfm_laminar.specs.LaminarLaws.{laminar_value}
 use Rattle.sfm_laminar.specs.Rooms.{bound_of, slack_of, Splits, IsLeast, IsHeld}
-use Rattle.sfm_laminar.proofs.Bases.{single, sum-single, Lists, IsLaminarBase, sum-group, laminar_base_back, laminar-listing}
+use Rattle.sfm_laminar.specs.Slacks.{share_of}
+use Rattle.sfm_laminar.proofs.Bases.{IsLaminarBase, IsGroupMet, low, sum-group, laminar_base_back, laminar_tests}
+use Rattle.sfm_laminar.proofs.Slacking.{slack-exchanged}
 
-nothing : (k p : ℕ) → Has (empty_set k) p → ⊥
-nothing zero p h = false≢true h
-nothing (suc k) zero h = false≢true h
-nothing (suc k) (suc p) h = nothing k p h
-
-single-has : (k e u : ℕ) → Has (single k e) u → u ≡ e
-single-has k e u h = ⊎_elim (λ same. same) (λ old. absurd (nothing k u old)) (has_set (empty_set k) e u h)
-
-without-out : (k e v : ℕ) → v < k → get_or (without k e) v false ≡ false → v ≡ e
-without-out k e v lt out = ⊎_elim (λ same. same) (λ ne. absurd (false≢true (sym out ∙ (get_or-set_other (whole_set k) e v false false ne ∙ Has-whole k v lt)))) (cases_eq v e)
+share-none : (s : List Bool) (e : ℕ) → share s e (pos 0) ≡ pos 0
+share-none s e = at (get_or s e false) where
+  at : (b : Bool) → (if b then pos 0 else pos 0) ≡ pos 0
+  at true = refl
+  at false = refl
 
 module _ (k : ℕ) (q w : ℤ) (groups : List Group) (hq : pos 1 ≤ℤ q) (hw : pos 0 ≤ℤ w) (ok : AreGroups k groups) (x : List ℤ) (kx : length x ≡ k) (base : IsBase (times q (laminar_value k w groups)) x) where
   is_base : IsLaminarBase k q w groups x
   is_base = laminar_base_back k q w groups hq hw ok x kx base
 
+  abbrev members : ℕ → List Bool
+  members i = mask k (group_at groups i).members
+
   module _ (u v : ℕ) (ku : u < k) (kv : v < k) (ne : u ≢ v) where
-    leaves : (a : ℤ) → a ≤ℤ get_or x v (pos 0) → a ≤ℤ ((q *ℤ w) -ℤ get_or x u (pos 0)) → ((i : ℕ) → i < length groups → Splits (group_at groups i) u v → a ≤ℤ slack_of q w x (group_at groups i))
-        → (s : List Bool) (b : ℤ) → Lists k q w groups s b → Has s u → get_or s v false ≡ false → (sum_over s x +ℤ a) ≤ℤ b
-    leaves a onto from left s b (inl (e, lt, is, n)) su sv =
-        let su' = rw is at su in
-        let same = single-has k e u su' in
-        let p = sum-single k e x kx lt in
-        let p' = rw (← same) at p in
-        rw (is, n, ← same) (omega (arith, ints, from, p'))
-    leaves a onto from left s b (inr (inl (e, lt, is, n))) su sv =
-        let sv' = rw is at sv in
-        let same = without-out k e v kv sv' in
-        let p = sum_over-without k e x kx lt in
-        let p' = rw (← same) at p in
-        let t = is_base.sum in
-        rw (is, n, ← same) (omega (arith, ints, onto, p', t))
-    leaves a onto from left s b (inr (inr (i, lt, is, n))) su sv =
-        let g = group_at groups i in
-        let below = ok.below i no_group lt in
-        let su' = rw is at su in
-        let sv' = rw is at sv in
-        let l = left i lt (mask-contains k g u su', λ c. false≢true (sym sv' ∙ contains-mask k g v below c)) in
-        let p = sum-group k q w groups hq hw ok i x lt kx in
-        rw (is, n) (omega (arith, ints, l, p))
+    -- x with u at r and nothing at v
+    abbrev with_u : ℤ → List ℤ
+    with_u r = set (set x v (pos 0)) u r
 
-    single-split : Has (single k u) u × (get_or (single k u) v false ≡ false)
-    single-split =
-        let kn : length (empty_set k) ≡ k = length-replicate k false in
-        let lt : u < length (empty_set k) = omega (arith, kn, ku) in
-        (get_or-set_same (empty_set k) u true false lt, has_or_out (single k u) v (λ h. ne (sym (single-has k u v h))))
+    -- what a group gets then
+    sum-with : (i : ℕ) (r : ℤ) → i < length groups
+        → (sum_listed (group_at groups i).members (with_u r) +ℤ (share (members i) u (get_or x u (pos 0)) +ℤ share (members i) v (get_or x v (pos 0)))) ≡ (sum_listed (group_at groups i).members x +ℤ share (members i) u r)
+    sum-with i r lt =
+        let km = length-mask k (group_at groups i).members in
+        let lv = length-set x v (pos 0) in
+        let here = get_or-set_other x v u (pos 0) (pos 0) ne in
+        let first = sum_over-set (members i) x v (pos 0) (km ∙ sym kx) (omega (arith, kx, kv)) in
+        let second = rw here at (sum_over-set (members i) (set x v (pos 0)) u r (km ∙ sym (lv ∙ kx)) (omega (arith, lv, kx, ku))) in
+        let none = share-none (members i) v in
+        let old = sum-group k groups ok i x lt kx in
+        let new = sum-group k groups ok i (with_u r) lt (length-set (set x v (pos 0)) u r ∙ (lv ∙ kx)) in
+        omega (arith, ints, first, second, none, old, new)
 
-    without-split : Has (without k v) u × (get_or (without k v) v false ≡ false)
-    without-split =
-        let kn : length (whole_set k) ≡ k = length-replicate k true in
-        let lt : v < length (whole_set k) = omega (arith, kn, kv) in
-        (get_or-set_other (whole_set k) v u false false ne ∙ Has-whole k u ku, get_or-set_same (whole_set k) v false false lt)
+    -- what a group lacks once v gave one to u
+    moved : (i : ℕ) → i < length groups → slack_of q w (exchanged x u v (pos 1)) (group_at groups i) ≡ ((slack_of q w x (group_at groups i) -ℤ share_of k (group_at groups i) u (pos 1)) +ℤ share_of k (group_at groups i) v (pos 1))
+    moved = slack-exchanged k q w groups hq hw ok x kx u v (pos 1) (omega (arith, kx, ku)) (omega (arith, kx, kv)) ne
 
-    group-split : (i : ℕ) → i < length groups → Splits (group_at groups i) u v → Has (mask k (group_at groups i).members) u × (get_or (mask k (group_at groups i).members) v false ≡ false)
-    group-split i lt (c, never) =
-        let g = group_at groups i in
-        (contains-mask k g u (ok.below i no_group lt) c, has_or_out (mask k g.members) v (λ h. never (mask-contains k g v h)))
+    splits : (i : ℕ) → i < length groups → Has (members i) u → get_or (members i) v false ≡ false → Splits (group_at groups i) u v
+    splits i lt hu ov = (mask-contains k (group_at groups i) u hu, λ c. false≢true (sym ov ∙ contains-mask k (group_at groups i) v (ok.below i no_group lt) c))
+
+    sides : (i : ℕ) → i < length groups → Splits (group_at groups i) u v → Has (members i) u × (get_or (members i) v false ≡ false)
+    sides i lt (c, never) = (contains-mask k (group_at groups i) u (ok.below i no_group lt) c, has_or_out (members i) v (λ h. never (mask-contains k (group_at groups i) v h)))
+
+    -- the same of a group that has u and not v
+    split-with : (i : ℕ) (r : ℤ) → i < length groups → Splits (group_at groups i) u v → (sum_listed (group_at groups i).members (with_u r) +ℤ get_or x u (pos 0)) ≡ (sum_listed (group_at groups i).members x +ℤ r)
+    split-with i r lt split = let (hu, ov) = sides i lt split in let e = rw (hu, ov) at (sum-with i r lt) in omega (arith, ints, e)
+
+    split-moved : (i : ℕ) → i < length groups → Splits (group_at groups i) u v → slack_of q w (exchanged x u v (pos 1)) (group_at groups i) ≡ (slack_of q w x (group_at groups i) -ℤ pos 1)
+    split-moved i lt split = let (hu, ov) = sides i lt split in let e = rw (hu, ov) at (moved i lt) in omega (arith, ints, e)
+
+    -- a group gets no more than its bound with nothing at v and a more at u
+    met_with : (i : ℕ) (a : ℤ) → i < length groups → a ≤ℤ get_or x v (pos 0) → (Splits (group_at groups i) u v → a ≤ℤ slack_of q w x (group_at groups i)) → IsGroupMet q w groups i (with_u (get_or x u (pos 0) +ℤ a))
+    met_with i a lt onto left = at (has_or_not (members i) u) (has_or_not (members i) v) where
+      b : sum_listed (group_at groups i).members x ≤ℤ bound_of q w (group_at groups i)
+      b = is_base.bounded i lt
+
+      some : pos 0 ≤ℤ get_or x v (pos 0)
+      some = is_base.counts v (omega (arith, kx, kv))
+
+      at : Has (members i) u ⊎ (get_or (members i) u false ≡ false) → Has (members i) v ⊎ (get_or (members i) v false ≡ false) → IsGroupMet q w groups i (with_u (get_or x u (pos 0) +ℤ a))
+      at (inl hu) (inl hv) = let e = rw (hu, hv) at (sum-with i (get_or x u (pos 0) +ℤ a) lt) in let c = b in omega (arith, ints, e, c, onto)
+      at (inl hu) (inr ov) = let l = left (splits i lt hu ov) in let e = split-with i (get_or x u (pos 0) +ℤ a) lt (splits i lt hu ov) in omega (arith, ints, e, l)
+      at (inr ou) (inl hv) = let e = rw (ou, hv) at (sum-with i (get_or x u (pos 0) +ℤ a) lt) in let c = b in let s = some in omega (arith, ints, e, c, s)
+      at (inr ou) (inr ov) = let e = rw (ou, ov) at (sum-with i (get_or x u (pos 0) +ℤ a) lt) in let c = b in omega (arith, ints, e, c)
+
+    -- nor once v gave one to u
+    met_moved : (i : ℕ) → i < length groups → (Splits (group_at groups i) u v → pos 1 ≤ℤ slack_of q w x (group_at groups i)) → IsGroupMet q w groups i (exchanged x u v (pos 1))
+    met_moved i lt left = at (has_or_not (members i) u) (has_or_not (members i) v) where
+      b : sum_listed (group_at groups i).members x ≤ℤ bound_of q w (group_at groups i)
+      b = is_base.bounded i lt
+
+      at : Has (members i) u ⊎ (get_or (members i) u false ≡ false) → Has (members i) v ⊎ (get_or (members i) v false ≡ false) → IsGroupMet q w groups i (exchanged x u v (pos 1))
+      at (inl hu) (inl hv) = let e = rw (hu, hv) at (moved i lt) in let c = b in omega (arith, ints, e, c)
+      at (inl hu) (inr ov) = let l = left (splits i lt hu ov) in let e = split-moved i lt (splits i lt hu ov) in omega (arith, ints, e, l)
+      at (inr ou) (inl hv) = let e = rw (ou, hv) at (moved i lt) in let c = b in omega (arith, ints, e, c)
+      at (inr ou) (inr ov) = let e = rw (ou, ov) at (moved i lt) in let c = b in omega (arith, ints, e, c)
 
     pub laminar-capacity : (a : ℤ) → IsLeast q w groups x u v (length groups) a → IsCapacity (times q (laminar_value k w groups)) x u v a
-    laminar-capacity a h = at h.reached where
-      leave : (s : List Bool) (b : ℤ) → Lists k q w groups s b → Has s u → get_or s v false ≡ false → (sum_over s x +ℤ a) ≤ℤ b
-      leave = leaves a h.onto h.from h.left
-
-      low-onto : pos 0 ≤ℤ get_or x v (pos 0)
-      low-onto = is_base.counts v (rw kx kv)
-
-      low-from : pos 0 ≤ℤ ((q *ℤ w) -ℤ get_or x u (pos 0))
-      low-from = let c = is_base.capped u (rw kx ku) in omega (arith, ints, c)
-
-      at : (a ≡ get_or x v (pos 0)) ⊎ ((a ≡ ((q *ℤ w) -ℤ get_or x u (pos 0))) ⊎ ((i : ℕ) × (i < length groups) × Splits (group_at groups i) u v × (a ≡ slack_of q w x (group_at groups i)))) → IsCapacity (times q (laminar_value k w groups)) x u v a
-      at (inl is) =
-          let l = low-onto in
-          let p = sum_over-without k v x kx kv in
-          let t = is_base.sum in
-          let sp = without-split in
-          listed_capacity (times q (laminar_value k w groups)) k (Lists k q w groups) (q *ℤ laminar_size k w groups) (laminar-listing k q w groups hq hw ok) x kx base u v ku kv ne a (omega (arith, ints, l, is)) leave
-          (without k v) (q *ℤ laminar_size k w groups) (inr (inl (v, kv, refl, refl))) sp.0 sp.1 (omega (arith, ints, p, t, is))
-      at (inr (inl is)) =
-          let l = low-from in
-          let p = sum-single k u x kx ku in
-          let sp = single-split in
-          listed_capacity (times q (laminar_value k w groups)) k (Lists k q w groups) (q *ℤ laminar_size k w groups) (laminar-listing k q w groups hq hw ok) x kx base u v ku kv ne a (omega (arith, ints, l, is)) leave
-          (single k u) (q *ℤ w) (inl (u, ku, refl, refl)) sp.0 sp.1 (omega (arith, ints, p, is))
-      at (inr (inr (i, lt, splits, is))) =
-          let g = group_at groups i in
-          let l = is_base.bounded i lt in
-          let p = sum-group k q w groups hq hw ok i x lt kx in
-          let sp = group-split i lt splits in
-          listed_capacity (times q (laminar_value k w groups)) k (Lists k q w groups) (q *ℤ laminar_size k w groups) (laminar-listing k q w groups hq hw ok) x kx base u v ku kv ne a (omega (arith, ints, l, is)) leave
-          (mask k g.members) (bound_of q w g) (inr (inr (i, lt, refl, refl))) sp.0 sp.1 (omega (arith, ints, p, is))
+    laminar-capacity a h =
+        least_capacity k (length groups) q w (low k q w groups hq hw ok) (IsWithinCaps groups) (rank k groups) (caps-matroid k groups ok) (caps-ranks k groups ok) (IsGroupMet q w groups) (laminar_tests k q w groups hq hw ok) x kx base u v ku kv ne a (record {
+          under_v = h.onto;
+          under_cap = h.from;
+          under_most = λ i lt. (get_or x u (pos 0) +ℤ a, met_with i a lt h.onto (h.left i lt), omega (arith, ints));
+          reached = ⊎_elim (λ is. inl is) (λ rest. inr (⊎_elim (λ is. inl is) (λ (i, lt, split, is). inr (i, lt, get_or x u (pos 0) +ℤ slack_of q w x (group_at groups i), most i lt split, omega (arith, ints, is))) rest)) h.reached;
+        }) where
+          most : (i : ℕ) → i < length groups → Splits (group_at groups i) u v → IsMostAt k (length groups) q w (low k q w groups hq hw ok) (IsWithinCaps groups) (rank k groups) (caps-matroid k groups ok) (caps-ranks k groups ok) (IsGroupMet q w groups) (laminar_tests k q w groups hq hw ok) x kx base u v ku kv ne i
+              (get_or x u (pos 0) +ℤ slack_of q w x (group_at groups i))
+          most i lt split = record {
+            reached = let e = split-with i (get_or x u (pos 0) +ℤ slack_of q w x (group_at groups i)) lt split in omega (arith, ints, e);
+            greatest = λ b met. let e = split-with i b lt split in omega (arith, ints, e, met);
+          }
 
     pub laminar-room : ((get_or x u (pos 0) <ℤ (q *ℤ w)) × (pos 1 ≤ℤ get_or x v (pos 0)) × ((i : ℕ) → i < length groups → Splits (group_at groups i) u v → pos 1 ≤ℤ slack_of q w x (group_at groups i))) → HasRoom (times q (laminar_value k w groups)) x u v
     laminar-room (lacks, some, left) =
-        listed_room (times q (laminar_value k w groups)) k (Lists k q w groups) (q *ℤ laminar_size k w groups) (laminar-listing k q w groups hq hw ok) x kx base u v ku kv ne (leaves (pos 1) some (omega (arith, ints, lacks)) left)
+        gives_room k (length groups) q w (low k q w groups hq hw ok) (IsWithinCaps groups) (rank k groups) (caps-matroid k groups ok) (caps-ranks k groups ok) (IsGroupMet q w groups) (laminar_tests k q w groups hq hw ok) x kx base u v ku kv ne
+        (record { under_cap = lacks; has = some; met = λ i lt. met_moved i lt (left i lt) })
 
     pub room-laminar : HasRoom (times q (laminar_value k w groups)) x u v → ((get_or x u (pos 0) <ℤ (q *ℤ w)) × (pos 1 ≤ℤ get_or x v (pos 0)) × ((i : ℕ) → i < length groups → Splits (group_at groups i) u v → pos 1 ≤ℤ slack_of q w x (group_at groups i)))
-    room-laminar room = (
-      (let sp = single-split in let m = leave (single k u) (q *ℤ w) (inl (u, ku, refl, refl)) sp.0 sp.1 in let p = sum-single k u x kx ku in omega (arith, ints, m, p)),
-      (let sp = without-split in let m = leave (without k v) (q *ℤ laminar_size k w groups) (inr (inl (v, kv, refl, refl))) sp.0 sp.1 in let p = sum_over-without k v x kx kv in let t = is_base.sum in omega (arith, ints, m, p, t)),
-      (λ i lt splits. let g = group_at groups i in let sp = group-split i lt splits in let m = leave (mask k g.members) (bound_of q w g) (inr (inr (i, lt, refl, refl))) sp.0 sp.1 in let p = sum-group k q w groups hq hw ok i x lt kx in omega (arith, ints, m, p)),
-    ) where
-      leave : (s : List Bool) (b : ℤ) → Lists k q w groups s b → Has s u → get_or s v false ≡ false → (sum_over s x +ℤ pos 1) ≤ℤ b
-      leave = room_leaves (times q (laminar_value k w groups)) k (Lists k q w groups) (q *ℤ laminar_size k w groups) (laminar-listing k q w groups hq hw ok) x kx base u v ku kv ne room
+    room-laminar room =
+        let give = room_gives k (length groups) q w (low k q w groups hq hw ok) (IsWithinCaps groups) (rank k groups) (caps-matroid k groups ok) (caps-ranks k groups ok) (IsGroupMet q w groups) (laminar_tests k q w groups hq hw ok) x kx base u v ku kv ne room in
+        (give.under_cap, give.has, λ i lt split. let m = give.met i lt in let e = split-moved i lt split in omega (arith, ints, m, e))
 
   member_or_not : (i v : ℕ) → i < length groups → Contains (group_at groups i).members v ⊎ (Contains (group_at groups i).members v → ⊥)
   member_or_not i v lt = ⊎_elim

@@ -1,5 +1,4 @@
 pub mod Masked
-pub mod Ranked
 pub mod Bases
 pub mod Exchanges
 pub mod Fits

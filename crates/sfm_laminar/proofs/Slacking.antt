@@ -88,11 +88,11 @@ module _ (k : ℕ) (q w : ℤ) (groups : List Group) (hq : pos 1 ≤ℤ q) (hw :
       rw (get_or_default slacks i d (pos 0) lt, are.each i li) (slack_small few high base i li)
 
   module _ (u v : ℕ) (a : ℤ) (xu : u < length x) (xv : v < length x) (ne : u ≢ v) where
-    slack-exchanged : (i : ℕ) → i < length groups → slack_of q w (exchanged x u v a) (group_at groups i) ≡ ((slack_of q w x (group_at groups i) -ℤ share_of k (group_at groups i) u a) +ℤ share_of k (group_at groups i) v a)
+    pub slack-exchanged : (i : ℕ) → i < length groups → slack_of q w (exchanged x u v a) (group_at groups i) ≡ ((slack_of q w x (group_at groups i) -ℤ share_of k (group_at groups i) u a) +ℤ share_of k (group_at groups i) v a)
     slack-exchanged i lt =
         let g = group_at groups i in
-        let s = sum-group k q w groups hq hw ok i x lt kx in
-        let t = sum-group k q w groups hq hw ok i (exchanged x u v a) lt (length-exchanged x u v a ∙ kx) in
+        let s = sum-group k groups ok i x lt kx in
+        let t = sum-group k groups ok i (exchanged x u v a) lt (length-exchanged x u v a ∙ kx) in
         let e = sum_over-exchanged (mask k g.members) x u v a (length-mask k g.members ∙ sym kx) xu xv ne in
         omega (arith, ints, s, t, e)
 

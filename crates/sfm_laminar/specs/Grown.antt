@@ -1,14 +1,15 @@
 -- The set that grows place by place, as long as no group has more than its cap.
 -- Textbook: Schrijver, Combinatorial Optimization, section 40 (the greedy algorithm).
-use Rattle.std.proofs.Common.{◌≡◌, ℕ, zero, suc, ◌+◌, ◌<◌, ◌≤◌, Bool, true, false, cond, not, ◌&&◌, ◌||◌, List, [], ◌∷◌, length, get_or, set, ℤ, pos, ◌≤ℤ◌, if◌then◌else◌, refl, sym, ap, ◌∙◌, arith, ⊎_elim, length-set, get_or-set_same}
+use Rattle.std.proofs.Common.{◌≡◌, ℕ, zero, suc, ◌+◌, ◌<◌, ◌≤◌, Bool, true, false, cond, not, ◌&&◌, ◌||◌, List, [], ◌∷◌, length, get_or, set, ℤ, pos, ◌≤ℤ◌, if◌then◌else◌, refl, sym, ◌∙◌, arith, ⊎_elim, length-set}
 use Rattle.std.specs.Int.Signed.{le_z}
-use Rattle.std.proofs.lemmas.Bool.{false≢true, cases_lt, cases_Bool, or_cases, or_left, or_right, and_from, and_parts, not-true}
+use Rattle.std.proofs.lemmas.Bool.{false≢true, cases_Bool, or_cases, or_left, or_right, and_from, and_parts}
 use Rattle.std.proofs.lemmas.Int.{ints}
-use Rattle.std.proofs.lemmas.List.{length-replicate, get_or_default}
+use Rattle.std.proofs.lemmas.List.{get_or_default}
 use Rattle.sfm_spec.specs.Sets.{Has, IsWithin, empty_set, intersection, size}
 use Rattle.sfm_spec.specs.Kinds.{Group, count_in, IsWithinCaps}
 use Rattle.sfm_spec.proofs.Where.{size-cons}
-use Rattle.sfm_laminar.specs.Masks.{mask, length-mask, count-mask, count_listed, count-cons, has_set, set_has}
+use Rattle.sfm_rank.proofs.Members.{has_or_out, nothing}
+use Rattle.sfm_laminar.specs.Masks.{mask, length-mask, count-mask, count_listed, count-cons}
 use Rattle.sfm_laminar.specs.Groups.{IsGroup, IsBelow, AreGroups}
 use Rattle.sfm_laminar.specs.Crossing.{no_group, group_at}
 
@@ -83,10 +84,7 @@ count-set k g t e ok below kt lt out =
     let r = intersection-set (mask k g.members) t e (length-mask k g.members ∙ sym kt) (omega (arith, lt, kt)) out in
     omega (arith, a, b, r)
 
--- ---- what is kept while it grows
-
-pub set_within : (s t : List Bool) (e : ℕ) → IsWithin t s → Has s e → IsWithin (set t e true) s
-set_within s t e w has i h = ⊎_elim (λ (same : i ≡ e). rw same has) (λ old. w i old) (has_set t e i h)
+-- ---- one place more
 
 -- with a place that no group blocks, no group has more than its cap
 pub capped-set : (k : ℕ) (groups : List Group) (t : List Bool) (e : ℕ) → AreGroups k groups → length t ≡ k → e < k → get_or t e false ≡ false → is_blocked k groups t e ≡ false → IsWithinCaps groups t
@@ -109,20 +107,13 @@ capped-set k groups t e ok kt lt out free capped i d li =
           (λ room. omega (arith, ints, c', room))
           (cases_Bool (le_z (get_or groups i d).cap (pos (count_in (get_or groups i d) t))))
 
-pub record IsGrown (k : ℕ) (groups : List Group) (s : List Bool) (n : ℕ) (t : List Bool) : Type 0 where
-  pub places : length t ≡ k
-  pub within : IsWithin t s
-  pub under : (e : ℕ) → Has t e → e < n
-  pub capped : IsWithinCaps groups t
-  pub refused : (e : ℕ) → e < n → Has s e → get_or t e false ≡ false → IsBlocked k groups t e
-
-pub nothing : (k p : ℕ) → Has (empty_set k) p → ⊥
-nothing zero p h = false≢true h
-nothing (suc k) zero h = false≢true h
-nothing (suc k) (suc p) h = nothing k p h
-
-pub has_or_out : (t : List Bool) (e : ℕ) → (Has t e → ⊥) → get_or t e false ≡ false
-has_or_out t e h = ⊎_elim (λ has. absurd (h has)) (λ out. out) (cases_Bool (get_or t e false))
+-- with a place that a group blocks, it has more than its cap
+pub over-set : (k : ℕ) (groups : List Group) (t : List Bool) (e : ℕ) → AreGroups k groups → length t ≡ k → e < k → get_or t e false ≡ false → is_blocked k groups t e ≡ true → IsWithinCaps groups (set t e true) → ⊥
+over-set k groups t e ok kt lt out blocked capped =
+    let (i, li, has, full) = blocked_from k groups t e blocked in
+    let c = rw has at (count-set k (group_at groups i) t e (ok.each i no_group li) (ok.below i no_group li) kt lt out) in
+    let h = capped i no_group li in
+    absurd (omega (arith, ints, full, c, h))
 
 pub count-none : (k : ℕ) (es : List ℕ) → count_listed es (empty_set k) ≡ 0
 count-none k [] = refl
@@ -130,46 +121,3 @@ count-none k (e ∷ es) = at (get_or (empty_set k) e false) (has_or_out (empty_s
   at : (b : Bool) → b ≡ false → count_listed (e ∷ es) (empty_set k) ≡ cond b 1 0 + count_listed es (empty_set k) → count_listed es (empty_set k) ≡ 0 → count_listed (e ∷ es) (empty_set k) ≡ 0
   at true out c r = absurd (false≢true (sym out))
   at false out c r = omega (arith, c, r)
-
-pub is_grown : (k : ℕ) (groups : List Group) (s : List Bool) (n : ℕ) → AreGroups k groups → length s ≡ k → n ≤ k → IsGrown k groups s n (grown k groups s n)
-is_grown k groups s zero ok ks le = record {
-  places = length-replicate k false;
-  within = λ e h. absurd (nothing k e h);
-  under = λ e h. absurd (nothing k e h);
-  capped = λ i d li. let low = (ok.each i d li).low in let c = count-none k (get_or groups i d).members in omega (arith, ints, low, c);
-  refused = λ e h. absurd (omega arith);
-}
-is_grown k groups s (suc n) ok ks le = at (is_grown k groups s n ok ks (omega arith)) (grown k groups s n) where
-  more : (t : List Bool) → IsGrown k groups s n t → (b : Bool) → takes k groups s t n ≡ b → IsGrown k groups s (suc n) (if b then set t n true else t)
-  more t h true e =
-      let (has, free) = and_parts (get_or s n false) (not (is_blocked k groups t n)) e in
-      let out = has_or_out t n (λ hn. let u = h.under n hn in absurd (omega (arith, u))) in
-      record {
-        places = length-set t n true ∙ h.places;
-        within = set_within s t n h.within has;
-        under = λ e he. ⊎_elim (λ (same : e ≡ n). omega arith) (λ old. let u = h.under e old in omega (arith, u)) (has_set t n e he);
-        capped = capped-set k groups t n ok h.places (omega arith) out (not-true (is_blocked k groups t n) free) h.capped;
-        refused = λ e lt hs oe. ⊎_elim
-            (λ (l : e < n). let oe' = has_or_out t e (λ he. absurd (false≢true (sym oe ∙ set_has t n e he))) in
-            let (i, li, m, f) = h.refused e l hs oe' in
-            let c = count-within (group_at groups i).members t (set t n true) (λ p hp. set_has t n p hp) in
-            (i, li, m, omega (arith, ints, f, c)))
-            (λ (ge : n ≤ e). let same : e ≡ n = omega arith in
-            let ln : n < length t = omega (arith, h.places, le) in
-            let he : Has (set t n true) e = rw same (get_or-set_same t n true false ln) in absurd (false≢true (sym oe ∙ he)))
-            (cases_lt e n);
-      }
-  more t h false e = record {
-    places = h.places;
-    within = h.within;
-    under = λ e he. let u = h.under e he in omega (arith, u);
-    capped = h.capped;
-    refused = λ p lt hs op. ⊎_elim
-        (λ (l : p < n). h.refused p l hs op)
-        (λ (ge : n ≤ p). let same : p ≡ n = omega arith in
-        rw same (blocked_from k groups t n (let hs' : Has s n = rw (← same) hs in ⊎_elim (λ b. b) (λ f. absurd (false≢true (sym e ∙ and_from (get_or s n false) (not (is_blocked k groups t n)) hs' (ap not f)))) (cases_Bool (is_blocked k groups t n)))))
-        (cases_lt p n);
-  }
-
-  at : IsGrown k groups s n (grown k groups s n) → (t : List Bool) → IsGrown k groups s (suc n) (grown k groups s (suc n))
-  at h t = more (grown k groups s n) h (takes k groups s (grown k groups s n) n) refl

@@ -1,12 +1,13 @@
 -- Groups of places as sets.
-use Rattle.std.proofs.Common.{◌≡◌, ◌⊎◌, ℕ, zero, suc, ◌+◌, ◌<◌, Bool, true, false, cond, ◌&&◌, List, [], ◌∷◌, length, get_or, set, count_by, ℤ, pos, ◌+ℤ◌, refl, sym, ◌∙◌, arith, inl, inr, ⊎_elim, length-set, get_or-set_other, get_or-set_same}
+use Rattle.std.proofs.Common.{◌≡◌, ℕ, zero, suc, ◌+◌, ◌<◌, Bool, true, false, cond, ◌&&◌, List, [], ◌∷◌, length, get_or, set, count_by, ℤ, pos, ◌+ℤ◌, refl, sym, ◌∙◌, arith, ⊎_elim, length-set, get_or-set_same}
 use Rattle.std.specs.List.{All}
-use Rattle.std.proofs.lemmas.Bool.{false≢true, cases_eq, cases_Bool}
+use Rattle.std.proofs.lemmas.Bool.{false≢true, cases_Bool}
 use Rattle.std.proofs.lemmas.List.{length-replicate}
 use Rattle.std.proofs.lemmas.List.Sums.{sum_by-cons}
 use Rattle.std.proofs.lemmas.List.Elements.{All-head, All-tail}
 use Rattle.sfm_spec.specs.Sets.{Has, empty_set, intersection, size}
 use Rattle.sfm_spec.proofs.Where.{size-cons}
+use Rattle.sfm_rank.proofs.Members.{has_set, nothing, set_has}
 use Rattle.sfm_laminar.specs.Groups.{IsAscending}
 
 -- the set of some of k places
@@ -18,31 +19,6 @@ pub length-mask : (k : ℕ) (es : List ℕ) → length (mask k es) ≡ k
 length-mask k [] = length-replicate k false
 length-mask k (e ∷ es) = length-set (mask k es) e true ∙ length-mask k es
 
--- ---- one place put in or taken out
-
-pub size-put : (s : List Bool) (e : ℕ) (b : Bool) → e < length s → size (set s e b) + cond (get_or s e false) 1 0 ≡ size s + cond b 1 0
-size-put [] e b h = absurd (omega arith)
-size-put (a ∷ s) zero b h = let l = size-cons a s in let r = size-cons b s in omega (arith, l, r)
-size-put (a ∷ s) (suc e) b h = let l = size-cons a s in let m = size-cons a (set s e b) in let r = size-put s e b (omega arith) in omega (arith, l, m, r)
-
-pub size-in : (s : List Bool) (e : ℕ) → e < length s → get_or s e false ≡ false → size (set s e true) ≡ suc (size s)
-size-in s e h out = let r = rw out at (size-put s e true h) in omega (arith, r)
-
-pub has_place : (s : List Bool) (e : ℕ) → Has s e → e < length s
-has_place [] e h = absurd (false≢true h)
-has_place (a ∷ s) zero h = omega arith
-has_place (a ∷ s) (suc e) h = let r = has_place s e h in omega (arith, r)
-
--- a set with a place taken in has that and those that it had
-pub has_set : (s : List Bool) (e i : ℕ) → Has (set s e true) i → (i ≡ e) ⊎ Has s i
-has_set s e i h = ⊎_elim (λ same. inl same) (λ ne. inr (sym (get_or-set_other s e i true false ne) ∙ h)) (cases_eq i e)
-
-pub set_has : (s : List Bool) (e i : ℕ) → Has s i → Has (set s e true) i
-set_has s e i h = ⊎_elim
-    (λ (same : i ≡ e). let lt = has_place s i h in let le : e < length s = omega (arith, lt, same) in rw same (get_or-set_same s e true false le))
-    (λ ne. get_or-set_other s e i true false ne ∙ h)
-    (cases_eq i e)
-
 -- ---- who is in
 
 -- one of the numbers is e
@@ -50,11 +26,7 @@ abbrev pub Lists : List ℕ → ℕ → Type 0
 Lists es e = (i : ℕ) × (i < length es) × (get_or es i 0 ≡ e)
 
 pub mask-lists : (k : ℕ) (es : List ℕ) (e : ℕ) → Has (mask k es) e → Lists es e
-mask-lists k [] e h = absurd (none k e h) where
-  none : (k e : ℕ) → Has (empty_set k) e → ⊥
-  none zero e h = false≢true h
-  none (suc k) zero h = false≢true h
-  none (suc k) (suc e) h = none k e h
+mask-lists k [] e h = absurd (nothing k e h)
 mask-lists k (d ∷ es) e h = ⊎_elim (λ (same : e ≡ d). (0, omega arith, sym same)) (λ has. let (i, lt, is) = mask-lists k es e has in (suc i, omega arith, is)) (has_set (mask k es) d e h)
 
 pub lists-mask : (k : ℕ) (es : List ℕ) (e : ℕ) → All (λ i. i < k) es → Lists es e → Has (mask k es) e

@@ -1,23 +1,25 @@
 -- Groups of which no two cross make a matroid: what grows place by place is as large as any part within the caps.
 -- Textbook: Schrijver, Combinatorial Optimization, section 39 (laminar matroids).
-use Rattle.std.proofs.Common.{◌≡◌, ◌⊎◌, ℕ, zero, suc, ◌+◌, ◌<◌, ◌≤◌, Bool, true, false, cond, ◌&&◌, List, [], ◌∷◌, length, get_or, set, ℤ, pos, ◌+ℤ◌, ◌*ℤ◌, ◌≤ℤ◌, if◌then◌else◌, refl, sym, ap, ◌∙◌, arith, inl, inr, ⊎_elim, length-set, get_or-set_other, get_or-set_same}
+use Rattle.std.proofs.Common.{◌≡◌, ◌⊎◌, ℕ, zero, suc, ◌+◌, ◌<◌, ◌≤◌, Bool, true, false, not, ◌&&◌, List, [], ◌∷◌, length, get_or, ℤ, pos, ◌*ℤ◌, ◌≤ℤ◌, if◌then◌else◌, refl, sym, ap, ◌∙◌, arith, inl, inr, ⊎_elim}
 use Rattle.std.specs.List.{Contains}
-use Rattle.std.proofs.lemmas.Bool.{false≢true, cases_eq, cases_Bool}
+use Rattle.std.proofs.lemmas.Bool.{false≢true, cases_Bool, and_parts, not-true}
 use Rattle.std.proofs.lemmas.Int.{ints}
-use Rattle.std.proofs.lemmas.List.{length-replicate, get_or_default}
-use Rattle.std.proofs.Math.IntN.{*ℤ-zero}
-use Rattle.sfm_spec.specs.Sets.{Has, IsWithin, empty_set, intersection, size, sum_over}
-use Rattle.sfm_spec.specs.Terms.{IsSubmodular}
+use Rattle.std.proofs.lemmas.List.{get_or_default}
+use Rattle.sfm_spec.specs.Sets.{Has, IsWithin, intersection, size, sum_over}
 use Rattle.sfm_spec.specs.Kinds.{Group, count_in, IsWithinCaps}
-use Rattle.sfm_spec.proofs.Scaled.{times-mono, times-add}
+use Rattle.sfm_spec.proofs.Scaled.{times-mono}
 use Rattle.sfm_spec.proofs.Where.{size-cons}
-use Rattle.sfm_spec.proofs.Sizes.{size-empty}
-use Rattle.sfm_law.proofs.LocalLaw.{on_all, local_law}
 use Rattle.sfm_laminar.specs.Unions.{AreApart, IsNested, AreLaminar, within_or_not, amount-size, gap, gap-sum, filled}
-use Rattle.sfm_laminar.specs.Masks.{Lists, mask, length-mask, mask-lists, lists-mask, count-mask, has_set, set_has, has_place, size-in, size-put}
+use Rattle.sfm_rank.specs.Matroids.{AreRanks, IsMatroid}
+use Rattle.sfm_rank.specs.Growth.{IsGrown, IsGrowth, IsStep}
+use Rattle.sfm_rank.specs.Terms.{at_places}
+use Rattle.sfm_rank.proofs.Members.{has_place, some_or_none}
+use Rattle.sfm_rank.proofs.Terms.{at_places-at, at_places-length}
+use Rattle.sfm_rank.proofs.Growing.{grown-rank, is_grown, next-out}
+use Rattle.sfm_laminar.specs.Masks.{Lists, mask, length-mask, mask-lists, lists-mask, count-mask}
 use Rattle.sfm_laminar.specs.Groups.{IsBelow, AreGroups}
 use Rattle.sfm_laminar.specs.Crossing.{AreCrossing, no_group, group_at}
-use Rattle.sfm_laminar.specs.Grown.{is_blocked, IsBlocked, blocked_from, grown, IsGrown, is_grown, count-within, capped-set, set_within, has_or_out}
+use Rattle.sfm_laminar.specs.Grown.{is_blocked, IsBlocked, blocked_from, takes, grown, count-none, count-within, capped-set, over-set}
 
 -- ---- sets of the groups
 
@@ -106,18 +108,13 @@ held n k groups s i x low ok ks ki kx small capped blocked =
 
 -- 1 at the places of a set
 abbrev ones : List Bool → List ℤ
-ones [] = []
-ones (b ∷ s) = (if b then pos 1 else pos 0) ∷ ones s
-
-length-ones : (s : List Bool) → length (ones s) ≡ length s
-length-ones [] = refl
-length-ones (b ∷ s) = let r : length (ones s) ≡ length s = length-ones s in omega (arith, r)
+ones s = at_places (pos 1) s
 
 ones-small : (s : List Bool) (p : ℕ) → (pos 0 ≤ℤ get_or (ones s) p (pos 0)) × (get_or (ones s) p (pos 0) ≤ℤ pos 1)
-ones-small [] p = (omega (arith, ints), omega (arith, ints))
-ones-small (true ∷ s) zero = (omega (arith, ints), omega (arith, ints))
-ones-small (false ∷ s) zero = (omega (arith, ints), omega (arith, ints))
-ones-small (b ∷ s) (suc p) = ones-small s p
+ones-small s p = rw (at_places-at (pos 1) s p) (at (get_or s p false)) where
+  at : (b : Bool) → (pos 0 ≤ℤ (if b then pos 1 else pos 0)) × ((if b then pos 1 else pos 0) ≤ℤ pos 1)
+  at true = (omega (arith, ints), omega (arith, ints))
+  at false = (omega (arith, ints), omega (arith, ints))
 
 pub sum-ones : (m s : List Bool) → length m ≡ length s → sum_over m (ones s) ≡ pos (size (intersection m s))
 sum-ones [] s h = refl
@@ -143,13 +140,13 @@ sum-ones_within (a ∷ s) (b ∷ j) h w = at a b (w 0) (size-cons b j) (sum-ones
 one-times : (a : ℤ) → (pos 1 *ℤ a) ≡ a
 one-times a = omega (arith, ints)
 
--- no part within the caps is larger than one that blocks all others
-pub largest : (k : ℕ) (groups : List Group) (s i j : List Bool) → AreGroups k groups → length s ≡ k → length i ≡ k → length j ≡ k
-    → ((p : ℕ) → Has s p → get_or i p false ≡ false → IsBlocked k groups i p) → IsWithin j s → IsWithinCaps groups j → size j ≤ size i
-largest k groups s i j ok ks ki kj blocked within capped =
-    let kx = length-ones j ∙ kj in
-    let sum = sum-ones_within s j (ks ∙ sym kj) within in
-    let h = held (pos 1) k groups s i (ones j) (omega (arith, ints)) ok ks ki kx (λ p lt. ones-small j p) caps blocked in
+-- a part within the caps is no larger than one that blocks what it has more
+largest : (k : ℕ) (groups : List Group) (i j : List Bool) → AreGroups k groups → length i ≡ k → length j ≡ k
+    → ((p : ℕ) → Has j p → get_or i p false ≡ false → IsBlocked k groups i p) → IsWithinCaps groups j → size j ≤ size i
+largest k groups i j ok ki kj blocked capped =
+    let kx = at_places-length (pos 1) j ∙ kj in
+    let sum = sum-ones_within j j refl (λ p h. h) in
+    let h = held (pos 1) k groups j i (ones j) (omega (arith, ints)) ok kj ki kx (λ p lt. ones-small j p) caps blocked in
     let one = one-times (pos (size i)) in
     omega (arith, ints, sum, h, one) where
       caps : (l : ℕ) → l < length groups → sum_over (mask k (group_at groups l).members) (ones j) ≤ℤ (pos 1 *ℤ (group_at groups l).cap)
@@ -161,146 +158,70 @@ largest k groups s i j ok ks ki kj blocked within capped =
           let one = one-times g.cap in
           omega (arith, ints, a, c, h, one)
 
+-- ---- the matroid
+
+module _ (k : ℕ) (groups : List Group) (ok : AreGroups k groups) where
+  -- the parts within the caps: if no place of t can be taken to s, then s blocks all that t has more, and t is not larger
+  pub caps-matroid : IsMatroid k (IsWithinCaps groups)
+  caps-matroid = record {
+    empty = λ i d li. let low = (ok.each i d li).low in let c = count-none k (get_or groups i d).members in omega (arith, ints, low, c);
+    parts = λ s t ks kt within capped i d li. let c = count-within (get_or groups i d).members s t within in let old = capped i d li in omega (arith, ints, c, old);
+    grows = λ s t ks kt fs ft less. ⊎_elim
+        (λ (e, lt, is).
+        let (has, free) = and_parts (get_or t e false) (not (get_or s e false) && not (is_blocked k groups s e)) is in
+        let (out, room) = and_parts (not (get_or s e false)) (not (is_blocked k groups s e)) free in
+        let o = not-true (get_or s e false) out in
+        (e, has, o, capped-set k groups s e ok ks lt o (not-true (is_blocked k groups s e) room) fs))
+        (λ none.
+        let m = largest k groups s t ok ks kt (λ p hp out. let lt = has_place t p hp in blocked_from k groups s p (full (get_or t p false) (get_or s p false) (is_blocked k groups s p) hp out (none p (omega (arith, lt, kt))))) ft in
+        absurd (omega (arith, m, less)))
+        (some_or_none (λ e. get_or t e false && (not (get_or s e false) && not (is_blocked k groups s e))) k);
+  } where
+    full : (a b c : Bool) → a ≡ true → b ≡ false → (a && (not b && not c)) ≡ false → c ≡ true
+    full true false true h o e = refl
+    full true false false h o e = absurd (false≢true (sym e))
+    full true true c h o e = absurd (false≢true (sym o))
+    full false b c h o e = absurd (false≢true h)
+
+  pub caps-growth : (s : List Bool) → IsGrowth k (IsWithinCaps groups) s (grown k groups s)
+  caps-growth s = record { begins = refl; steps = steps } where
+    full : (a b : Bool) → a ≡ true → (a && not b) ≡ false → b ≡ true
+    full true true h e = refl
+    full true false h e = absurd (false≢true (sym e))
+    full false b h e = absurd (false≢true h)
+
+    steps : (j : ℕ) → j < k → IsGrown k (IsWithinCaps groups) s j (grown k groups s j) → IsStep (IsWithinCaps groups) s j (grown k groups s j) (grown k groups s (suc j))
+    steps j lt state =
+        let t = grown k groups s j in
+        let out = next-out k (IsWithinCaps groups) s j t state in
+        ⊎_elim
+        (λ take.
+        let (has, free) = and_parts (get_or s j false) (not (is_blocked k groups t j)) take in
+        inl (has, rw take refl, capped-set k groups t j ok state.places lt out (not-true (is_blocked k groups t j) free) state.independent))
+        (λ idle. inr (rw idle refl, λ has more. over-set k groups t j ok state.places lt out (full (get_or s j false) (is_blocked k groups t j) has idle) more))
+        (cases_Bool (takes k groups s t j))
+
 -- ---- the rank
 
 abbrev pub rank : ℕ → List Group → List Bool → ℕ
 rank k groups s = size (grown k groups s k)
 
 module _ (k : ℕ) (groups : List Group) (ok : AreGroups k groups) where
-  pub whole_grown : (s : List Bool) → length s ≡ k → IsGrown k groups s k (grown k groups s k)
-  whole_grown s ks = is_grown k groups s k ok ks (omega arith)
+  pub caps-grown : (s : List Bool) (n : ℕ) → n ≤ k → IsGrown k (IsWithinCaps groups) s n (grown k groups s n)
+  caps-grown s n le = is_grown k (IsWithinCaps groups) (caps-matroid k groups ok) s (grown k groups s) (caps-growth k groups ok s) n le
 
+  pub whole_grown : (s : List Bool) → IsGrown k (IsWithinCaps groups) s k (grown k groups s k)
+  whole_grown s = caps-grown s k (omega arith)
+
+  pub caps-ranks : AreRanks k (IsWithinCaps groups) (rank k groups)
+  caps-ranks s ks = grown-rank k (IsWithinCaps groups) (caps-matroid k groups ok) s (grown k groups s) (caps-growth k groups ok s) ks
+
+  -- what is not taken is blocked
   pub blocks : (s : List Bool) → length s ≡ k → (p : ℕ) → Has s p → get_or (grown k groups s k) p false ≡ false → IsBlocked k groups (grown k groups s k) p
-  blocks s ks p hp out = let lt = has_place s p hp in (whole_grown s ks).refused p (omega (arith, lt, ks)) hp out
-
-  -- no part of s within the caps has more places
-  pub rank-most : (s j : List Bool) → length s ≡ k → length j ≡ k → IsWithin j s → IsWithinCaps groups j → size j ≤ rank k groups s
-  rank-most s j ks kj within capped = largest k groups s (grown k groups s k) j ok ks (whole_grown s ks).places kj (blocks s ks) within capped
-
-  pub rank-mono : (s t : List Bool) → length s ≡ k → length t ≡ k → IsWithin s t → rank k groups s ≤ rank k groups t
-  rank-mono s t ks kt within = let h = whole_grown s ks in rank-most t (grown k groups s k) kt h.places (λ e he. within e (h.within e he)) h.capped
-
-  pub rank-size : (s : List Bool) → length s ≡ k → rank k groups s ≤ size s
-  rank-size s ks = let h = whole_grown s ks in largest k [] s s (grown k groups s k) none ks ks h.places (λ p hp out. absurd (false≢true (sym out ∙ hp))) h.within (λ i d lt. absurd (omega arith)) where
-    none : AreGroups k []
-    none = record { each = λ i d lt. absurd (omega arith); below = λ i d lt. absurd (omega arith); none = λ i j c. let l = c.in_range in absurd (omega (arith, l)) }
-
-  -- a place more adds at most 1
-  pub rank-one : (s : List Bool) (e : ℕ) → length s ≡ k → e < k → rank k groups (set s e true) ≤ suc (rank k groups s)
-  rank-one s e ks lt =
-      let h = whole_grown (set s e true) (length-set s e true ∙ ks) in
-      let t = grown k groups (set s e true) k in
-      let r = rank-most s (set t e false) ks (length-set t e false ∙ h.places) (part t h.within) (λ i d li. let c = count-within (get_or groups i d).members (set t e false) t (smaller t) in let old = h.capped i d li in omega (arith, ints, c, old)) in
-      at t (get_or t e false) (size-put t e false (omega (arith, h.places, lt))) r where
-        out : (t : List Bool) (i : ℕ) → Has (set t e false) i → Has t i
-        out t i hi = ⊎_elim
-            (λ (same : i ≡ e). absurd (gone t i same hi))
-            (λ ne. sym (get_or-set_other t e i false false ne) ∙ hi)
-            (cases_eq i e) where
-              gone : (t : List Bool) (i : ℕ) → i ≡ e → Has (set t e false) i → ⊥
-              gone t i same hi = let p = has_place (set t e false) i hi in let len = length-set t e false in let le : e < length t = omega (arith, p, len, same) in
-                  false≢true (sym (get_or-set_same t e false false le) ∙ (let hj = rw same at hi in hj))
-
-        smaller : (t : List Bool) → IsWithin (set t e false) t
-        smaller t i hi = out t i hi
-
-        part : (t : List Bool) → IsWithin t (set s e true) → IsWithin (set t e false) s
-        part t w i hi = ⊎_elim
-            (λ (same : i ≡ e). absurd (let p = has_place (set t e false) i hi in let len = length-set t e false in let le : e < length t = omega (arith, p, len, same) in false≢true (sym (get_or-set_same t e false false le) ∙ (let hj = rw same at hi in hj))))
-            (λ old. old)
-            (has_set s e i (w i (out t i hi)))
-
-        at : (t : List Bool) (b : Bool) → size (set t e false) + cond b 1 0 ≡ size t + cond false 1 0 → size (set t e false) ≤ rank k groups s → size t ≤ suc (rank k groups s)
-        at t true p r = omega (arith, p, r)
-        at t false p r = omega (arith, p, r)
-
-  -- a place outside s adds 1, or it is blocked
-  gains_or_blocked : (s : List Bool) (e : ℕ) → length s ≡ k → e < k → get_or s e false ≡ false → (suc (rank k groups s) ≤ rank k groups (set s e true)) ⊎ IsBlocked k groups (grown k groups s k) e
-  gains_or_blocked s e ks lt out = ⊎_elim
-      (λ b. inr (blocked_from k groups (grown k groups s k) e b))
-      (λ free. inl (gain (whole_grown s ks) (grown k groups s k) refl free))
-      (cases_Bool (is_blocked k groups (grown k groups s k) e)) where
-        gain : IsGrown k groups s k (grown k groups s k) → (t : List Bool) → t ≡ grown k groups s k → is_blocked k groups (grown k groups s k) e ≡ false → suc (rank k groups s) ≤ rank k groups (set s e true)
-        gain h t is free =
-            let i = grown k groups s k in
-            let oi = has_or_out i e (λ hi. false≢true (sym out ∙ h.within e hi)) in
-            let li : e < length i = omega (arith, h.places, lt) in
-            let c = capped-set k groups i e ok h.places lt oi free h.capped in
-            let r = rank-most (set s e true) (set i e true) (length-set s e true ∙ ks) (length-set i e true ∙ h.places) (set_within (set s e true) i e (λ p hp. set_has s e p (h.within p hp)) (let ls : e < length s = omega (arith, ks, lt) in get_or-set_same s e true false ls)) c in
-            let z = size-in i e li oi in
-            omega (arith, r, z)
-
-  rank-local : (s : List Bool) (a b : ℕ) → length s ≡ k → a < b → b < k → get_or s a false ≡ false → get_or s b false ≡ false
-      → rank k groups (set (set s a true) b true) + rank k groups s ≤ rank k groups (set s a true) + rank k groups (set s b true)
-  rank-local s a b ks lt lb oa ob = at (gains_or_blocked s a ks (omega arith) oa) (gains_or_blocked s b ks lb ob) where
-    sa : List Bool
-    sa = set s a true
-
-    sb : List Bool
-    sb = set s b true
-
-    sab : List Bool
-    sab = set (set s a true) b true
-
-    la : length (set s a true) ≡ k
-    la = length-set s a true ∙ ks
-
-    lb' : length (set s b true) ≡ k
-    lb' = length-set s b true ∙ ks
-
-    lab : length (set (set s a true) b true) ≡ k
-    lab = length-set (set s a true) b true ∙ la
-
-    more_a : rank k groups (set (set s a true) b true) ≤ suc (rank k groups (set s a true))
-    more_a = rank-one (set s a true) b la lb
-
-    more_b : rank k groups (set (set s a true) b true) ≤ suc (rank k groups (set s b true))
-    more_b =
-        let r = rank-one (set s b true) a lb' (omega arith) in
-        let m = rank-mono (set (set s a true) b true) (set (set s b true) a true) lab (length-set (set s b true) a true ∙ lb') turned in
-        omega (arith, r, m) where
-          turned : IsWithin (set (set s a true) b true) (set (set s b true) a true)
-          turned e he = ⊎_elim
-              (λ (same : e ≡ b). set_has (set s b true) a e (let ls : b < length s = omega (arith, ks, lb) in rw same (get_or-set_same s b true false ls)))
-              (λ old. ⊎_elim
-              (λ (same : e ≡ a). let l : a < length (set s b true) = omega (arith, lb', lt, lb) in rw same (get_or-set_same (set s b true) a true false l))
-              (λ older. set_has (set s b true) a e (set_has s b e older))
-              (has_set s a e old))
-              (has_set (set s a true) b e he)
-
-    mono_a : rank k groups s ≤ rank k groups (set s a true)
-    mono_a = rank-mono s (set s a true) ks la (λ e he. set_has s a e he)
-
-    mono_b : rank k groups s ≤ rank k groups (set s b true)
-    mono_b = rank-mono s (set s b true) ks lb' (λ e he. set_has s b e he)
-
-    same_rank : IsBlocked k groups (grown k groups s k) a → IsBlocked k groups (grown k groups s k) b → rank k groups (set (set s a true) b true) ≤ rank k groups s
-    same_rank ba bb =
-        let h = whole_grown (set (set s a true) b true) lab in
-        largest k groups (set (set s a true) b true) (grown k groups s k) (grown k groups (set (set s a true) b true) k) ok lab (whole_grown s ks).places h.places
-        (λ p hp out. ⊎_elim (λ (same : p ≡ b). rw same bb) (λ old. ⊎_elim (λ (same : p ≡ a). rw same ba) (λ hs. blocks s ks p hs out) (has_set s a p old)) (has_set (set s a true) b p hp))
-        h.within h.capped
-
-    at : (suc (rank k groups s) ≤ rank k groups (set s a true)) ⊎ IsBlocked k groups (grown k groups s k) a → (suc (rank k groups s) ≤ rank k groups (set s b true)) ⊎ IsBlocked k groups (grown k groups s k) b
-        → rank k groups (set (set s a true) b true) + rank k groups s ≤ rank k groups (set s a true) + rank k groups (set s b true)
-    at (inl ga) r = let m = more_b in omega (arith, ga, m)
-    at (inr ba) (inl gb) = let m = more_a in omega (arith, gb, m)
-    at (inr ba) (inr bb) = let m = same_rank ba bb in let ma = mono_a in let mb = mono_b in omega (arith, m, ma, mb)
-
-  pub rank-submodular : (w : ℤ) → pos 0 ≤ℤ w → IsSubmodular k (on_all (λ s. w *ℤ pos (rank k groups s)))
-  rank-submodular w low = local_law k (λ s. w *ℤ pos (rank k groups s)) none (record { pairs = pairs }) where
-    none : (w *ℤ pos (rank k groups (empty_set k))) ≡ pos 0
-    none =
-        let r = rank-size (empty_set k) (length-replicate k false) in
-        let z = size-empty k in
-        let e : rank k groups (empty_set k) ≡ 0 = omega (arith, r, z) in
-        rw e (*ℤ-zero w)
-
-    pairs : (s : List Bool) (a b : ℕ) → length s ≡ k → a < b → b < k → get_or s a false ≡ false → get_or s b false ≡ false
-        → ((w *ℤ pos (rank k groups (set (set s a true) b true))) +ℤ (w *ℤ pos (rank k groups s))) ≤ℤ ((w *ℤ pos (rank k groups (set s a true))) +ℤ (w *ℤ pos (rank k groups (set s b true))))
-    pairs s a b ks lt lb oa ob =
-        let r = rank-local s a b ks lt lb oa ob in
-        let up = times-mono w (pos (rank k groups (set (set s a true) b true)) +ℤ pos (rank k groups s)) (pos (rank k groups (set s a true)) +ℤ pos (rank k groups (set s b true))) low (omega (arith, ints, r)) in
-        let left = times-add w (pos (rank k groups (set (set s a true) b true))) (pos (rank k groups s)) in
-        let right = times-add w (pos (rank k groups (set s a true))) (pos (rank k groups (set s b true))) in
-        omega (arith, ints, up, left, right)
+  blocks s ks p hp out =
+      let lt = has_place s p hp in
+      let h = whole_grown s in
+      ⊎_elim
+      (λ b. blocked_from k groups (grown k groups s k) p b)
+      (λ free. absurd (h.refused p (omega (arith, lt, ks)) hp out (capped-set k groups (grown k groups s k) p ok h.places (omega (arith, lt, ks)) out free h.independent)))
+      (cases_Bool (is_blocked k groups (grown k groups s k) p))

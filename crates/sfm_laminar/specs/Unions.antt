@@ -11,6 +11,7 @@ use Rattle.sfm_spec.proofs.Sets.{in_union, union_left, union_right}
 use Rattle.sfm_spec.proofs.Sums.{length-union}
 use Rattle.sfm_spec.proofs.Sizes.{weight-empty, within_tail}
 use Rattle.sfm_spec.proofs.Where.{size-cons}
+use Rattle.sfm_rank.proofs.Members.{nothing}
 
 -- no place is in both sets
 abbrev pub AreApart : List Bool → List Bool → Type 0
@@ -214,8 +215,4 @@ filled n k sets s i x low laminar same ks ki kx small refused =
     let z = weight-empty k (gap n i x) in
     let m = h.more in
     let r = spread n s e i x (ks ∙ sym kx) (h.places ∙ (kn ∙ sym kx)) (ki ∙ sym kx) low small (λ p hp out. let (j, lt, hj, f) = refused p hp out in h.holds j lt f p hj) in
-    omega (arith, ints, z, m, r) where
-      nothing : (k p : ℕ) → Has (empty_set k) p → ⊥
-      nothing zero p h = false≢true h
-      nothing (suc k) zero h = false≢true h
-      nothing (suc k) (suc p) h = nothing k p h
+    omega (arith, ints, z, m, r)

@@ -14,6 +14,10 @@ use Rattle.sfm_rank.specs.Growth.{IsGrown, IsGrowth}
 use Rattle.sfm_rank.specs.Terms.{IsFirstBasis}
 use Rattle.sfm_rank.proofs.Ranks.{rank-more, rank-same, rank-size}
 
+-- the place that comes next is not yet in
+pub next-out : (k : ℕ) (IsIndependent : List Bool → Type 0) (s : List Bool) (j : ℕ) (t : List Bool) → IsGrown k IsIndependent s j t → get_or t j false ≡ false
+next-out k IsIndependent s j t h = has_or_out t j (λ has. let u = h.under j has in omega (arith, u))
+
 module _ (k : ℕ) (IsIndependent : List Bool → Type 0) (matroid : IsMatroid k IsIndependent) (s : List Bool) (sets : ℕ → List Bool) (growth : IsGrowth k IsIndependent s sets) where
   taken : (j : ℕ) (t after : List Bool) → j < k → Has s j → IsGrown k IsIndependent s j t → after ≡ set t j true → IsIndependent (set t j true) → IsGrown k IsIndependent s (suc j) after
   taken j t after lt has h is free = rw is (record {
@@ -91,22 +95,19 @@ module _ (k : ℕ) (IsIndependent : List Bool → Type 0) (rank : List Bool → 
   before : (j : ℕ) → j ≤ k → IsWithin (sets j) (front k j)
   before j le e h = let u = (state j le).under e h in front-has k j e u le
 
-  new-out : (j : ℕ) → j ≤ k → get_or (sets j) j false ≡ false
-  new-out j le = has_or_out (sets j) j (λ h. let u = (state j le).under j h in omega (arith, u))
-
   -- one place more
   gain : (j : ℕ) → j < k → size (sets j) ≡ rank (front k j) → (rank (front k (suc j)) ≡ rank (front k j) + cond (get_or (sets (suc j)) j false) 1 0) × (size (sets (suc j)) ≡ rank (front k (suc j)))
   gain j lt full = ⊎_elim
       (λ (has, is, free).
       let kb = (state j (omega arith)).places in
-      let out = new-out j (omega arith) in
+      let out = next-out k IsIndependent (whole_set k) j (sets j) (state j (omega arith)) in
       let m = rank-more k IsIndependent rank matroid ranks (front k j) (sets j) j (length-front k j) kb lt (before j (omega arith)) full out free in
       let here : get_or (sets (suc j)) j false ≡ true = rw is (set_here (sets j) j (omega (arith, kb, lt))) in
       let z : size (sets (suc j)) ≡ suc (size (sets j)) = rw is (size-in (sets j) j (omega (arith, kb, lt)) out) in
       rw (front-set k j lt, here) (omega (arith, m), omega (arith, m, z, full)))
       (λ (is, never).
       let kb = (state j (omega arith)).places in
-      let out = new-out j (omega arith) in
+      let out = next-out k IsIndependent (whole_set k) j (sets j) (state j (omega arith)) in
       let m = rank-same k IsIndependent rank matroid ranks (front k j) (sets j) j (length-front k j) kb lt (before j (omega arith)) (state j (omega arith)).independent full (never (Has-whole k j lt)) in
       let here : get_or (sets (suc j)) j false ≡ false = rw is out in
       let z : size (sets (suc j)) ≡ size (sets j) = ap size is in

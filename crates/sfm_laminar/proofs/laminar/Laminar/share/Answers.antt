@@ -2,7 +2,9 @@ use Rattle.std.proofs.Common.{◌∙◌, ◌*ℤ◌, false, length, get_or, ap, 
 use Rattle.std.proofs.lemmas.Int.{to_z-of_z}
 use mir.Syntax.{w128}
 use Rattle.sfm_law.proofs.Fits.{given_fits, given_more, product_fits}
-use Rattle.sfm_laminar.proofs.Kept.{length-basis, share-in, share-out}
+use Rattle.sfm_rank.proofs.Terms.{share-in, share-out}
+use Rattle.sfm_laminar.specs.LaminarLaws.{basis_of}
+use Rattle.sfm_laminar.proofs.Kept.{length-basis}
 use Rattle.sfm_laminar.proofs.laminar.Laminar.share.Goals as goal
 
 pub contains-requires : goal.contains-requires
@@ -15,7 +17,7 @@ returns-then-not-contains c =
     let s = c.args.self.now in
     let fq : FitsSigned w128 c.args.q = c.ranges.q in
     let out = ap (λ t. get_or t c.args.j false) (sym s.based) ∙ (sym c.contains.ensures ∙ c.if-not-contains.true) in
-    sym (share-out (length s.places) c.args.q s.w s.groups c.args.j out)
+    sym (share-out c.args.q s.w (basis_of (length s.places) s.groups) c.args.j out)
 
 pub returns : goal.returns
 returns c =
@@ -25,4 +27,4 @@ returns c =
     let fp : FitsSigned w128 (c.args.q *ℤ s.w) = product_fits _ _ c.requires.factor (given_more _ s.given) in
     let p = simp to_z-of_z at c.product.ensures in
     let has = ap (λ t. get_or t c.args.j false) (sym s.based) ∙ (sym c.contains.ensures ∙ c.if-not-contains.false) in
-    rw p (simp to_z-of_z (sym (share-in (length s.places) c.args.q s.w s.groups c.args.j has)))
+    rw p (simp to_z-of_z (sym (share-in c.args.q s.w (basis_of (length s.places) s.groups) c.args.j has)))

@@ -2,7 +2,8 @@ use Rattle.std.proofs.Common.{◌≡◌, ◌∙◌, ◌*ℤ◌, length, pos, sym
 use Rattle.std.proofs.lemmas.Int.{to_z-of_z}
 use Rattle.std.proofs.lemmas.List.{ext_get_or}
 use mir.Syntax.{w128}
-use Rattle.sfm_laminar.specs.LaminarLaws.{laminar_start, basis_of, at_places-length}
+use Rattle.sfm_rank.proofs.Terms.{at_places-length}
+use Rattle.sfm_laminar.specs.LaminarLaws.{laminar_start, basis_of}
 use Rattle.sfm_laminar.proofs.Kept.{length-basis}
 use Rattle.sfm_laminar.proofs.laminar.Laminar.write_start.Goals as goal
 
