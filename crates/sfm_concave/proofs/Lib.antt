@@ -5,6 +5,7 @@ pub mod ConcaveRooms
 pub mod Increments
 pub mod LeastSoFar
 pub mod Ranks
+pub mod Replacing
 pub mod Shares
 pub mod Tights
 pub mod UniformRooms
