@@ -1,5 +1,6 @@
 pub mod Options
 pub mod Placing
+pub mod Imaging
 pub mod Words
 pub mod Following
 pub mod Telling

@@ -11,7 +11,7 @@ has_place [] v h = absurd (false≢true h)
 has_place (a ∷ s) zero h = omega arith
 has_place (a ∷ s) (suc v) h = let r = has_place s v h in omega (arith, r)
 
-none_in_empty : (n v : ℕ) → get_or (empty_set n) v false ≡ false
+pub none_in_empty : (n v : ℕ) → get_or (empty_set n) v false ≡ false
 none_in_empty zero v = refl
 none_in_empty (suc n) zero = refl
 none_in_empty (suc n) (suc v) = none_in_empty n v

@@ -1,6 +1,7 @@
 pub mod Bits
 pub mod Claimed
 pub mod Spots
+pub mod Image
 pub mod Reach
 pub mod Renewed
 pub mod Unions

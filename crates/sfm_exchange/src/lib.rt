@@ -8,6 +8,7 @@ mod asking;
 mod bits;
 mod claims;
 mod graph;
+mod image;
 mod levels;
 mod moving;
 mod multiples;

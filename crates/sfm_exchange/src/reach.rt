@@ -6,9 +6,11 @@ ghost use Rattle.sfm_spec.specs.Rows.{Depends};
 ghost use Rattle.sfm_spec.specs.Terms.{times};
 ghost use Rattle.sfm_exchange.specs.Based.{AreBased, IsBased};
 ghost use Rattle.sfm_exchange.specs.Bits.{HasPlaces, bit_in, set_at};
+ghost use Rattle.sfm_exchange.specs.Image.{IsImage};
 ghost use Rattle.sfm_exchange.specs.Reach.{IsReachTable, IsRow, AreRowsOf, AreNotes, AreSized};
 
 use crate::bits::{Bits, no_bits};
+use crate::image::Image;
 use sfm_base::{Memory, Rows, Set};
 use sfm_law::Term;
 use std::alloc::Global;
@@ -22,22 +24,24 @@ pub struct Based<'a, T> {
     pub x: &'a [i128],
 }
 
-/// The rows of one term, seen as a list of sets, with a set for the parts that the term tells.
+/// The rows of one term, seen as a list of sets, with memory for the parts that the term tells.
 #[derive(Drop)]
 pub struct BitRows {
     rows: Vec<Bits>,
     part: Set,
+    image: Option<Image>,
 }
 
 impl Model for BitRows {
-    ghost use Rattle.std.specs.Prelude.{◌≡◌, List, length};
+    ghost use Rattle.std.specs.Prelude.{◌≡◌, List, length, Some};
     ghost use Rattle.sfm_exchange.specs.declared.bits.Bits.{Bits};
+    ghost use Rattle.sfm_exchange.specs.declared.image.Image.{Image};
 
     ghost Value = { List Bits };
 
     ghost view = { λ s. s.rows.items };
 
-    ghost invariant = { λ s. length s.part ≡ length s.rows.items };
+    ghost invariant = { λ s. (length s.part ≡ length s.rows.items) × ((i : Image) → s.image ≡ Some i → length i.part ≡ length s.rows.items) };
 }
 
 impl BitRows {
@@ -47,7 +51,33 @@ impl BitRows {
     {
         let rows = vec![in alloc; no_bits(); len]?;
         let part = Set::empty(alloc, len)?;
-        Ok(BitRows { rows, part })
+        Ok(BitRows {
+            rows,
+            part,
+            image: None,
+        })
+    }
+
+    /// The memory for parts that are told one after another, with no place in it.
+    pub fn lend_image(&mut self, alloc: Global) -> Result<Image, Memory>
+        ensures same { self.new ≡ self.old }
+        ensures image { IfOk result (λ r. (places : List ℕ) → length places ≡ length self.old → IsImage places r.part r.bits) }
+    {
+        match self.image.take() {
+            Some(mut image) => {
+                image.clear();
+                Ok(image)
+            }
+            None => Image::blank(alloc, self.rows.len()),
+        }
+    }
+
+    /// Keeps that memory, to be lent again.
+    pub fn keep_image(&mut self, image: Image)
+        requires { length image.part ≡ length self.old }
+        ensures { self.new ≡ self.old }
+    {
+        self.image = Some(image);
     }
 
     /// Puts another row in the place u.
@@ -142,6 +172,30 @@ pub fn row_with<T: Term>(
     at.term
         .reach_with(alloc, at.q, at.x, note, s, u, &mut rows.part)?;
     Ok(placed_bits(at.term.elements(), &mut rows.part))
+}
+
+/// The row that `row_with` tells, beside the parts that were told before it.
+pub fn row_beside<T: Term>(
+    alloc: Global,
+    at: &Based<'_, T>,
+    note: &mut T::Note,
+    s: usize,
+    u: usize,
+    image: &mut Image,
+) -> Result<Bits, Memory>
+    requires based { IsBased T.places T.value_of T.size_of at.now.term.now at.now.q at.now.x.now }
+    requires noted { T.fits at.now.term.now note.old at.now.q at.now.x.now }
+    requires onto { s < length at.now.x.now }
+    requires from { u < length at.now.x.now }
+    requires leads { Depends (times at.now.q (T.value_of at.now.term.now)) at.now.x.now u s }
+    requires image { IsImage (T.places at.now.term.now) image.old.part image.old.bits }
+    ensures image { OnOk result (IsImage (T.places at.now.term.now) image.new.part image.new.bits) }
+    ensures row { IfOk result (IsRow (T.places at.now.term.now) (times at.now.q (T.value_of at.now.term.now)) at.now.x.now u) }
+    ensures noted { OnOk result (T.fits at.now.term.now note.new at.now.q at.now.x.now) }
+{
+    at.term
+        .reach_with(alloc, at.q, at.x, note, s, u, &mut image.next)?;
+    Ok(image.turn(at.term.elements()))
 }
 
 // Asks for the row of the place u, if there is such a place and its row was not asked for.

@@ -15,7 +15,7 @@ ghost use Rattle.sfm_exchange.specs.Renewed.{AreAsked, AreChanges, AreDepending,
 
 use crate::bits::{Bits, no_bits, only};
 use crate::path::Hop;
-use crate::reach::{Based, BitRows, row_with};
+use crate::reach::{Based, BitRows, row_beside, row_with};
 use sfm_base::Memory;
 use sfm_law::Term;
 use std::alloc::Global;
@@ -121,12 +121,14 @@ fn ask_rows<T: Term>(
     ensures noted { OnOk result (T.fits at.now.term.now note.new at.now.q at.now.x.now) }
 {
     let places = at.term.elements();
+    let mut image = rows.lend_image(alloc)?;
     for u in 0..places.len() {
         if changed.contains(places[u]) {
-            let row = row_with(alloc, at, note, s, u, rows)?;
+            let row = row_beside(alloc, at, note, s, u, &mut image)?;
             rows.set(u, row);
         }
     }
+    rows.keep_image(image);
     Ok(())
 }
 

@@ -6,8 +6,8 @@ use Rattle.sfm_exchange.proofs.AtOnce.{asked_more, asked_past}
 use Rattle.sfm_exchange.proofs.renewing.ask_rows.Goals.{then-contains+in_ok-row, else-contains}
 use Rattle.sfm_exchange.proofs.renewing.ask_rows.Goals as goal
 
-pub row_with-requires-clause-leads : goal.row_with-requires-clause-leads
-row_with-requires-clause-leads g c =
+pub row_beside-requires-clause-leads : goal.row_beside-requires-clause-leads
+row_beside-requires-clause-leads g c =
     let shown = c.elements-places.ensures in
     let one = rw shown at (c.if-contains.ensures.0 refl) in
     c.requires.leads c.loop-u.u (omega (arith, c.requires.based.entries, ap length shown, c.loop-u-test.true)) one
@@ -20,12 +20,12 @@ loop-u-preserved g c =
     let places = t.places at.term.now in
     let f = times at.q (t.value_of at.term.now) in
     let inv = c.loop-u.invariant in
-    let l : c.loop-u.u < length c.loop-u.rows = omega (arith, inv.0.count, c.requires.rows, c.requires.based.entries, ap length shown, c.loop-u-test.true) in
+    let l : c.loop-u.u < length c.loop-u.rows = omega (arith, inv.0.count, ap length c.lend_image.ensures.same, c.requires.rows, c.requires.based.entries, ap length shown, c.loop-u-test.true) in
     elim c.if-contains.branch [
       | then-contains+in_ok-row w ↦
           let one = rw shown at (w.if-contains.ensures.0 refl) in
-          (rw (w.rows-is, w.set.ensures, w.in_ok-row.ensures.same) (asked_more places f at.x.now c.args.changed.now c.loop-u.u c.args.rows.now c.loop-u.rows w.in_ok-row.row inv.0 l one w.in_ok-row.ensures.row), rw w.note-is w.in_ok-row.ensures.noted)
+          (rw (w.rows-is, w.set.ensures) (asked_more places f at.x.now c.args.changed.now c.loop-u.u c.lend_image.new.self c.loop-u.rows w.in_ok-row.row inv.0 l one w.in_ok-row.ensures.row), rw w.note-is w.in_ok-row.ensures.noted, rw w.image-is w.in_ok-row.ensures.image)
       | else-contains w ↦
           let none : bit_in c.args.changed.now (get_or places c.loop-u.u 0) ≢ 1 = λ one. both_ways false refl (w.if-contains.ensures.1 (rw shown one)) in
-          (rw w.rows-is (asked_past places f at.x.now c.args.changed.now c.loop-u.u c.args.rows.now c.loop-u.rows inv.0 none), rw w.note-is inv.1)
+          (rw w.rows-is (asked_past places f at.x.now c.args.changed.now c.loop-u.u c.lend_image.new.self c.loop-u.rows inv.0 none), rw w.note-is inv.1, rw w.image-is inv.2)
     ]

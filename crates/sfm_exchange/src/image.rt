@@ -1,0 +1,93 @@
+// The ground places of one part of a term after another. Parts that are told one after another are often nearly the same, so
+// the ground places are kept beside the part that has them, and the places alone are looked at in which the next part differs.
+ghost use Rattle.std.specs.Prelude.{◌≡◌, ℕ, List, length, IfOk};
+ghost use Rattle.sfm_spec.specs.Sets.{IsPlaced, IsWithin};
+ghost use Rattle.sfm_exchange.specs.Bits.{HasPlaces};
+ghost use Rattle.sfm_exchange.specs.Image.{IsImage};
+
+use crate::bits::{Bits, no_bits};
+use sfm_base::{Memory, Set};
+use std::alloc::Global;
+
+/// A part of a term and its ground places, and the part that comes next.
+#[derive(Drop)]
+pub struct Image {
+    pub part: Set,
+    pub bits: Bits,
+    pub next: Set,
+    /// The places in which the two parts differ that are still to be brought up.
+    ahead: Set,
+    ghost next_places: { length next ≡ length part },
+    ghost ahead_places: { length ahead ≡ length part },
+}
+
+impl Image {
+    /// The part with no place, of a term of k.
+    pub fn blank(alloc: Global, k: usize) -> Result<Image, Memory>
+        ensures { IfOk result (λ r. (places : List ℕ) → length places ≡ k → IsImage places r.part r.bits) }
+    {
+        Ok(Image {
+            part: Set::empty(alloc, k)?,
+            bits: no_bits(),
+            next: Set::empty(alloc, k)?,
+            ahead: Set::empty(alloc, k)?,
+        })
+    }
+
+    /// Takes every place out of the part.
+    pub fn clear(&mut self)
+        ensures { (places : List ℕ) → length places ≡ length self.old.part → IsImage places self.new.part self.new.bits }
+    {
+        self.part.clear();
+        self.bits = no_bits();
+    }
+
+    // Takes out of the part what the next one has not.
+    fn take_out(&mut self, places: &[usize])
+        requires placed { IsPlaced 256 places.now }
+        requires image { IsImage places.now self.old.part self.old.bits }
+        ensures image { IsImage places.now self.new.part self.new.bits }
+        ensures next { self.new.next ≡ self.old.next }
+        ensures within { IsWithin self.new.part self.new.next }
+    {
+        self.ahead.clear();
+        self.ahead.union_with(&self.part);
+        self.ahead.remove_all(&self.next);
+        while let Some(v) = self.ahead.first() {
+            self.ahead.remove(v);
+            self.part.remove(v);
+            self.bits.remove(places[v]);
+        }
+    }
+
+    // Puts into the part what the next one has beside it.
+    fn put_in(&mut self, places: &[usize])
+        requires placed { IsPlaced 256 places.now }
+        requires image { IsImage places.now self.old.part self.old.bits }
+        requires within { IsWithin self.old.part self.old.next }
+        ensures image { IsImage places.now self.new.part self.new.bits }
+        ensures next { self.new.next ≡ self.old.next }
+        ensures same { self.new.part ≡ self.old.next }
+    {
+        self.ahead.clear();
+        self.ahead.union_with(&self.next);
+        self.ahead.remove_all(&self.part);
+        while let Some(v) = self.ahead.first() {
+            self.ahead.remove(v);
+            self.part.insert(v);
+            self.bits.insert(places[v]);
+        }
+    }
+
+    /// The ground places of the next part, in whose place the part stands then.
+    pub fn turn(&mut self, places: &[usize]) -> Bits
+        requires placed { IsPlaced 256 places.now }
+        requires image { IsImage places.now self.old.part self.old.bits }
+        ensures image { IsImage places.now self.new.part self.new.bits }
+        ensures places { HasPlaces places.now self.old.next (length places.now) result }
+    {
+        self.take_out(places);
+        self.put_in(places);
+        self.bits
+    }
+}
