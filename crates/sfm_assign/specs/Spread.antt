@@ -87,6 +87,11 @@ pub record IsWider (found : List Bool) (queue : List ℕ) (found_after : List Bo
   pub kept : IsWithin found found_after
   pub first : (k : ℕ) → k < length queue → (k < length longer) × (label_at longer k ≡ label_at queue k)
 
+-- each demand in the queue leads to exactly the demands of the set
+pub record AreTwins (n : ℕ) (whos slots : List ℕ) (y rooms : List ℤ) (set : List Bool) (queue : List ℕ) : Type 0 where
+  pub places : length set ≡ n
+  pub led : (k : ℕ) → k < length queue → AreLedTo n whos slots y rooms (label_at queue k) set
+
 -- the demands that ask for something
 abbrev pub AreAsking : List ℤ → List Bool → Type 0
 AreAsking demands asking = (v : ℕ) → v < length demands → Has asking v ↔ (pos 0 <ℤ amount_at demands v)

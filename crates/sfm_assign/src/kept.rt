@@ -22,6 +22,7 @@ use crate::left::{Lefts, left_of};
 use crate::lower::shift;
 use crate::splitting::{AssignEnd, Shares, met_shares, settle};
 use crate::spread::{Answer, Spread, find_answer};
+use crate::twins::tell_twins;
 use crate::work::{Work, copy_list, write_zeros};
 use sfm_base::{Memory, Set};
 use std::alloc::Global;
@@ -128,6 +129,9 @@ fn remember(
     }
     let answer = find_answer(alloc, search, shares, rooms, answers.as_slice(), u)?;
     answers[u] = Some(answer);
+    if search.is_asked_more() {
+        tell_twins(alloc, search, shares, rooms, answers, u)?;
+    }
     Ok(())
 }
 
@@ -145,6 +149,7 @@ fn forget(answers: &mut Vec<Option<Answer>>, search: &mut Spread)
     ensures same { vec_len answers.new ≡ vec_len answers.old }
     ensures none { (u : ℕ) → answer_at answers.new.items u ≡ None }
 {
+    search.count_anew();
     for u in 0..answers.len() {
         forget_one(&mut answers[u], search);
     }

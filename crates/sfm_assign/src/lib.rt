@@ -17,6 +17,7 @@ mod search;
 mod split;
 mod splitting;
 mod spread;
+mod twins;
 mod work;
 
 pub use demand::Demand;
