@@ -60,6 +60,36 @@ module _ (places : List ℕ) (distinct : AreDistinct places) {f : SetFunction} w
         let (ne, d) = (h w lw).0 (rw is one) in
         (w, lw, ne, ⊎_elim (λ same. absurd (ne same)) (λ room. room) d, is)
 
+  -- of two places that depend on each other the one has the row of the other, with that in place of itself
+  pub row_shared : IsFamily (length places) f → IsSubmodular (length places) f → (x : List ℤ) → length x ≡ length places → IsBase f x → (s u : ℕ) (of_s new : Bits) → s < length places → u < length places → IsRow places f x s of_s → Depends f x u s
+      → bit_in of_s (get_or places u 0) ≡ 1 → IsJoined of_s of_s (get_or places s 0) (get_or places u 0) new → IsRow places f x u new
+  row_shared family law x sized base s u of_s new ls lu h to_s bit is = row_if x u new (λ w lw. (to w lw, from w lw)) inside where
+    from_s : Depends f x s u
+    from_s = ((row_tells x s of_s h u lu).0 bit).1
+
+    of_s_too : (w : ℕ) → w < length places → bit_in of_s (get_or places w 0) ≡ 1 → Depends f x u w
+    of_s_too w lw one = depends_on family law sized base u s w lu ls lw to_s ((row_tells x s of_s h w lw).0 one).1
+
+    to : (w : ℕ) → w < length places → bit_in new (get_or places w 0) ≡ 1 → (w ≢ u) × Depends f x u w
+    to w lw one = let (ne, o) = (is (get_or places w 0)).0 one in ((λ same. ne (ap (λ z. get_or places z 0) same)), by o) where
+      by : (bit_in of_s (get_or places w 0) ≡ 1) ⊎ (bit_in of_s (get_or places w 0) ≡ 1) ⊎ (get_or places w 0 ≡ get_or places s 0) → Depends f x u w
+      by (inl one) = of_s_too w lw one
+      by (inr (inl one)) = of_s_too w lw one
+      by (inr (inr same)) = let here : w ≡ s = distinct w s lw ls same in rw here to_s
+
+    from : (w : ℕ) → w < length places → (w ≢ u) × Depends f x u w → bit_in new (get_or places w 0) ≡ 1
+    from w lw (ne, d) = (is (get_or places w 0)).1 ((λ same. ne (distinct w u lw lu same)), by (cases_eq w s)) where
+      by : (w ≡ s) ⊎ (w ≢ s) → (bit_in of_s (get_or places w 0) ≡ 1) ⊎ (bit_in of_s (get_or places w 0) ≡ 1) ⊎ (get_or places w 0 ≡ get_or places s 0)
+      by (inl same) = inr (inr (ap (λ z. get_or places z 0) same))
+      by (inr other) = inl ((row_tells x s of_s h w lw).1 (other, depends_on family law sized base s u w ls lu lw from_s d))
+
+    inside : (e : ℕ) → bit_in new e ≡ 1 → (w : ℕ) × (w < length places) × (get_or places w 0 ≡ e)
+    inside e one = by ((is e).0 one).1 where
+      by : (bit_in of_s e ≡ 1) ⊎ (bit_in of_s e ≡ 1) ⊎ (e ≡ get_or places s 0) → (w : ℕ) × (w < length places) × (get_or places w 0 ≡ e)
+      by (inl one) = row_inside x s of_s h e one
+      by (inr (inl one)) = row_inside x s of_s h e one
+      by (inr (inr same)) = (s, ls, sym same)
+
   module _ (family : IsFamily (length places) f) (law : IsSubmodular (length places) f) {x : List ℤ} (sized : length x ≡ length places) (base : IsBase f x)
       (s t : ℕ) (ls : s < length places) (lt : t < length places) (apart : s ≢ t) (a : ℤ) (some : pos 1 ≤ℤ a) (after : IsBase f (exchanged x s t a)) where
     abbrev y : List ℤ

@@ -3,6 +3,7 @@ use Rattle.std.specs.Prelude.{◌≡◌, ◌≢◌, ◌↔◌, ◌⊎◌, ℕ, �
 use Rattle.sfm_spec.specs.Terms.{SetFunction, IsBase, exchanged}
 use Rattle.sfm_exchange.specs.declared.bits.Bits.{Bits}
 use Rattle.sfm_exchange.specs.declared.renewing.Changes.{Changes}
+use Rattle.sfm_exchange.specs.declared.renewing.Raised.{Raised}
 use Rattle.sfm_exchange.specs.Bits.{bit_in, set_at}
 use Rattle.sfm_exchange.specs.Reach.{IsRow}
 
@@ -12,6 +13,12 @@ pub record IsExchanged (f : SetFunction) (before after : List ℤ) (s t : ℕ) :
   pub amount : ℤ
   pub some : pos 1 ≤ℤ amount
   pub is : after ≡ exchanged before s t amount
+
+-- a place of the term with its ground place and its row at the base x
+pub record IsRaised (places : List ℕ) (f : SetFunction) (x : List ℤ) (raised : Raised) : Type 0 where
+  pub within : raised.local < length places
+  pub place_is : slice_index_or places raised.local 0 ≡ raised.place
+  pub row_is : IsRow places f x raised.local raised.row
 
 -- found has the ground places of t and of those of the first k places whose rows have that of t
 abbrev pub AreDepending : List ℕ → List Bits → ℕ → ℕ → Bits → Type 0

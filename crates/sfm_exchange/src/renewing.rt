@@ -3,7 +3,8 @@
 // afterwards. The row of s is asked. Where s still depends on t, no set has become tight, so each such row is joined with
 // that of s. Else the exchange has used up its room, and some of what these rows had may be gone. No row gains more than s
 // had, so each takes in what s had, and is claimed: it lacks nothing, but may have too much, and is asked once a walk takes
-// it. A term whose rows are cheap, or cheaper one after another, is asked for them at once, so none of its rows is ever claimed.
+// it. A term whose rows are cheap, or cheaper one after another, is asked for them at once, so none of its rows is ever claimed. It is
+// not asked for the row of a place on which s depends as well: the two have the same least tight set.
 ghost use Rattle.std.specs.Prelude.{◌≡◌, ◌≢◌, ◌↔◌, ◌⊎◌, IsTrue, true, ◌<◌, ℕ, List, ℤ, length, IfOk, OnOk, slice_index_or};
 ghost use Rattle.sfm_spec.specs.Sets.{IsPlaced};
 ghost use Rattle.sfm_spec.specs.Rows.{Depends};
@@ -11,9 +12,12 @@ ghost use Rattle.sfm_spec.specs.Terms.{times};
 ghost use Rattle.sfm_exchange.specs.Based.{IsBased};
 ghost use Rattle.sfm_exchange.specs.Bits.{bit_in, set_at};
 ghost use Rattle.sfm_exchange.specs.Claimed.{AreClaims};
-ghost use Rattle.sfm_exchange.specs.Renewed.{AreAsked, AreChanges, AreDepending, AreJoined, IsExchanged, IsJoined};
+ghost use Rattle.sfm_exchange.specs.Image.{IsImage};
+ghost use Rattle.sfm_exchange.specs.Reach.{IsRow};
+ghost use Rattle.sfm_exchange.specs.Renewed.{AreAsked, AreChanges, AreDepending, AreJoined, IsExchanged, IsJoined, IsRaised};
 
 use crate::bits::{Bits, no_bits, only};
+use crate::image::Image;
 use crate::path::Hop;
 use crate::reach::{Based, BitRows, row_beside, row_with};
 use sfm_base::Memory;
@@ -27,6 +31,14 @@ pub struct Changes {
     pub grown: Bits,
     /// Rows that may lack what they had.
     pub anew: Bits,
+}
+
+/// The place that an exchange has raised: its place in the term, that in the ground, and its row at the base that came.
+#[derive(Clone, Copy, Debug)]
+pub struct Raised {
+    pub local: usize,
+    pub place: usize,
+    pub row: Bits,
 }
 
 // Whether the place u of a row is t, or the row has the ground place of t.
@@ -103,19 +115,47 @@ fn asks_at_once<T: Term>(term: &T, claimed: &Bits) -> bool
     term.asks_at_once() && claimed.is_empty()
 }
 
-// Asks for the rows of some places, each of which has room to s, by a note that fits the base, which fits it still.
+// The row of the place u, which depends on the place that was raised. Where that depends on u as well, both depend on the same.
+fn row_after<T: Term>(
+    alloc: Global,
+    at: &Based<'_, T>,
+    note: &mut T::Note,
+    raised: &Raised,
+    u: usize,
+    image: &mut Image,
+) -> Result<Bits, Memory>
+    requires based { IsBased T.places T.value_of T.size_of at.now.term.now at.now.q at.now.x.now }
+    requires noted { T.fits at.now.term.now note.old at.now.q at.now.x.now }
+    requires raised { IsRaised (T.places at.now.term.now) (times at.now.q (T.value_of at.now.term.now)) at.now.x.now raised.now }
+    requires from { u < length at.now.x.now }
+    requires leads { Depends (times at.now.q (T.value_of at.now.term.now)) at.now.x.now u raised.now.local }
+    requires image { IsImage (T.places at.now.term.now) image.old.part image.old.bits }
+    ensures image { OnOk result (IsImage (T.places at.now.term.now) image.new.part image.new.bits) }
+    ensures row { IfOk result (IsRow (T.places at.now.term.now) (times at.now.q (T.value_of at.now.term.now)) at.now.x.now u) }
+    ensures noted { OnOk result (T.fits at.now.term.now note.new at.now.q at.now.x.now) }
+{
+    let places = at.term.elements();
+    let place = places[u];
+    if raised.row.contains(place) {
+        return Ok(joined(&raised.row, &raised.row, raised.place, place));
+    }
+    row_beside(alloc, at, note, raised.local, u, image)
+}
+
+// Asks for the rows of some places, each of which depends on the place that was raised, by a note that fits the base, which fits
+// it still.
 fn ask_rows<T: Term>(
     alloc: Global,
     at: &Based<'_, T>,
     note: &mut T::Note,
-    s: usize,
+    raised: &Raised,
     changed: &Bits,
     rows: &mut BitRows,
 ) -> Result<(), Memory>
     requires based { IsBased T.places T.value_of T.size_of at.now.term.now at.now.q at.now.x.now }
     requires noted { T.fits at.now.term.now note.old at.now.q at.now.x.now }
-    requires onto { s < length at.now.x.now }
-    requires leads { (u : ℕ) → u < length at.now.x.now → bit_in changed.now (slice_index_or (T.places at.now.term.now) u 0) ≡ 1 → Depends (times at.now.q (T.value_of at.now.term.now)) at.now.x.now u s }
+    requires raised { IsRaised (T.places at.now.term.now) (times at.now.q (T.value_of at.now.term.now)) at.now.x.now raised.now }
+    requires leads { (u : ℕ) → u < length at.now.x.now → bit_in changed.now (slice_index_or (T.places at.now.term.now) u 0) ≡ 1 → Depends (times at.now.q (T.value_of at.now.term.now)) at.now.x.now u raised.now.local }
     requires rows { length rows.old ≡ length at.now.x.now }
     ensures asked { OnOk result (AreAsked (T.places at.now.term.now) (times at.now.q (T.value_of at.now.term.now)) at.now.x.now changed.now (length (T.places at.now.term.now)) rows.old rows.new) }
     ensures noted { OnOk result (T.fits at.now.term.now note.new at.now.q at.now.x.now) }
@@ -124,7 +164,7 @@ fn ask_rows<T: Term>(
     let mut image = rows.lend_image(alloc)?;
     for u in 0..places.len() {
         if changed.contains(places[u]) {
-            let row = row_beside(alloc, at, note, s, u, &mut image)?;
+            let row = row_after(alloc, at, note, raised, u, &mut image)?;
             rows.set(u, row);
         }
     }
@@ -171,7 +211,12 @@ pub fn renew_rows<T: Term>(
         rows.set(hop.u, of_s);
         let mut others = changed;
         others.remove(to);
-        ask_rows(alloc, at, note, hop.u, &others, rows)?;
+        let raised = Raised {
+            local: hop.u,
+            place: to,
+            row: of_s,
+        };
+        ask_rows(alloc, at, note, &raised, &others, rows)?;
         return Ok(Changes {
             grown: no_bits(),
             anew: changed,

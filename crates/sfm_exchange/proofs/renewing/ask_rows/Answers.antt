@@ -1,4 +1,4 @@
-use Rattle.std.proofs.Common.{◌≢◌, ◌<◌, false, get_or, length, refl, ap, arith}
+use Rattle.std.proofs.Common.{◌≡◌, ◌≢◌, ◌<◌, false, get_or, length, refl, ap, arith}
 use Rattle.std.proofs.lemmas.Bool.{both_ways}
 use Rattle.sfm_spec.specs.Terms.{times}
 use Rattle.sfm_exchange.specs.Bits.{bit_in}
@@ -6,8 +6,8 @@ use Rattle.sfm_exchange.proofs.AtOnce.{asked_more, asked_past}
 use Rattle.sfm_exchange.proofs.renewing.ask_rows.Goals.{then-contains+in_ok-row, else-contains}
 use Rattle.sfm_exchange.proofs.renewing.ask_rows.Goals as goal
 
-pub row_beside-requires-clause-leads : goal.row_beside-requires-clause-leads
-row_beside-requires-clause-leads g c =
+pub row_after-requires-clause-leads : goal.row_after-requires-clause-leads
+row_after-requires-clause-leads g c =
     let shown = c.elements-places.ensures in
     let one = rw shown at (c.if-contains.ensures.0 refl) in
     c.requires.leads c.loop-u.u (omega (arith, c.requires.based.entries, ap length shown, c.loop-u-test.true)) one
@@ -29,3 +29,13 @@ loop-u-preserved g c =
           let none : bit_in c.args.changed.now (get_or places c.loop-u.u 0) ≢ 1 = λ one. both_ways false refl (w.if-contains.ensures.1 (rw shown one)) in
           (rw w.rows-is (asked_past places f at.x.now c.args.changed.now c.loop-u.u c.lend_image.new.self c.loop-u.rows inv.0 none), rw w.note-is inv.1, rw w.image-is inv.2)
     ]
+
+pub returns-clause-asked : goal.returns-clause-asked
+returns-clause-asked g c =
+    let t = g.T.Term in
+    let at = c.args.at.now in
+    let places = t.places at.term.now in
+    let shown = c.elements-places.ensures in
+    let end = c.loop-u.auto.u-end in
+    let all : c.loop-u.u ≡ length places = omega (arith, c.loop-u-test.false, end, ap length shown) in
+    rw (c.keep_image.ensures, ← all, ← c.lend_image.ensures.same) c.loop-u.invariant.0
