@@ -19,6 +19,7 @@ pub mod Claiming
 pub mod AtOnce
 pub mod Asked
 pub mod Changes
+pub mod Sharing
 pub mod Basing
 pub mod ClaimedGraphs
 pub mod WholeGraphs

@@ -46,3 +46,9 @@ pub record AreChanges (places : List ℕ) (changes : Changes) (before after : Li
   pub inside : (e : ℕ) → (bit_in changes.grown e ≡ 1) ⊎ (bit_in changes.anew e ≡ 1) → (u : ℕ) × (u < length places) × (slice_index_or places u 0 ≡ e)
   pub grown : (u t : ℕ) → u < length places → bit_in changes.grown (slice_index_or places u 0) ≡ 1 → bit_in (set_at before u) t ≡ 1 → bit_in (set_at after u) t ≡ 1
   pub others : (u : ℕ) → u < length places → bit_in changes.grown (slice_index_or places u 0) ≢ 1 → bit_in changes.anew (slice_index_or places u 0) ≢ 1 → set_at after u ≡ set_at before u
+
+-- of the first k rows those whose ground places are in the set are that of the place that was raised, with this place in place of their own; all others stay
+pub record AreShared (places : List ℕ) (shared : Bits) (raised : Raised) (k : ℕ) (before after : List Bits) : Type 0 where
+  pub count : length after ≡ length before
+  pub shared_is : (u : ℕ) → u < k → bit_in shared (slice_index_or places u 0) ≡ 1 → IsJoined raised.row raised.row raised.place (slice_index_or places u 0) (set_at after u)
+  pub others : (u : ℕ) → u < length places → bit_in shared (slice_index_or places u 0) ≢ 1 → set_at after u ≡ set_at before u

@@ -5,7 +5,7 @@
 // had, so each takes in what s had, and is claimed: it lacks nothing, but may have too much, and is asked once a walk takes
 // it. A term whose rows are cheap, or cheaper one after another, is asked for them at once, so none of its rows is ever claimed. It is
 // not asked for the row of a place on which s depends as well: the two have the same least tight set.
-ghost use Rattle.std.specs.Prelude.{◌≡◌, ◌≢◌, ◌↔◌, ◌⊎◌, IsTrue, true, ◌<◌, ℕ, List, ℤ, length, IfOk, OnOk, slice_index_or};
+ghost use Rattle.std.specs.Prelude.{◌≡◌, ◌≢◌, ◌↔◌, ◌⊎◌, IsTrue, true, ◌<◌, ◌-◌, max, ℕ, List, ℤ, length, IfOk, OnOk, slice_index_or};
 ghost use Rattle.sfm_spec.specs.Sets.{IsPlaced};
 ghost use Rattle.sfm_spec.specs.Rows.{Depends};
 ghost use Rattle.sfm_spec.specs.Terms.{times};
@@ -14,7 +14,7 @@ ghost use Rattle.sfm_exchange.specs.Bits.{bit_in, set_at};
 ghost use Rattle.sfm_exchange.specs.Claimed.{AreClaims};
 ghost use Rattle.sfm_exchange.specs.Image.{IsImage};
 ghost use Rattle.sfm_exchange.specs.Reach.{IsRow};
-ghost use Rattle.sfm_exchange.specs.Renewed.{AreAsked, AreChanges, AreDepending, AreJoined, IsExchanged, IsJoined, IsRaised};
+ghost use Rattle.sfm_exchange.specs.Renewed.{AreAsked, AreChanges, AreDepending, AreJoined, IsExchanged, AreShared, IsJoined, IsRaised};
 
 use crate::bits::{Bits, no_bits, only};
 use crate::image::Image;
@@ -113,6 +113,62 @@ fn asks_at_once<T: Term>(term: &T, claimed: &Bits) -> bool
     ensures { result ≡ true → (e : ℕ) → bit_in claimed.now e ≢ 1 }
 {
     term.asks_at_once() && claimed.is_empty()
+}
+
+// Of the places whose rows may have changed those that depend on the place that was raised for certain, and on which it depends.
+fn shared_places(changed: &Bits, of_s: &Bits, claimed: &Bits) -> Bits
+    ensures { (e : ℕ) → (bit_in result e ≡ 1) ↔ ((bit_in changed.now e ≡ 1) × (bit_in of_s.now e ≡ 1) × (bit_in claimed.now e ≢ 1)) }
+{
+    let mut shared = *changed;
+    shared.remove_all(claimed);
+    let mut others = shared;
+    others.remove_all(of_s);
+    shared.remove_all(&others);
+    shared
+}
+
+// Takes over the row of the place that was raised for some places.
+fn share_row(places: &[usize], shared: &Bits, raised: &Raised, rows: &mut BitRows)
+    requires placed { IsPlaced 256 places.now }
+    requires rows { length rows.old ≡ length places.now }
+    requires place { raised.now.place < 256 }
+    ensures { AreShared places.now shared.now raised.now (length places.now) rows.old rows.new }
+{
+    for (u, place) in places.iter().enumerate() {
+        if shared.contains(*place) {
+            let row = joined(&raised.row, &raised.row, raised.place, *place);
+            rows.set(u, row);
+        }
+    }
+}
+
+// Settles the rows of those places that depend on the place that was raised and on which it depends: each is its row, so it is not
+// claimed any more, and may lack what it had.
+fn settle_shared(
+    places: &[usize],
+    shared: &Bits,
+    raised: &Raised,
+    rows: &mut BitRows,
+    claimed: &mut Bits,
+    changes: Changes,
+) -> Changes
+    requires placed { IsPlaced 256 places.now }
+    requires rows { length rows.old ≡ length places.now }
+    requires place { raised.now.place < 256 }
+    ensures rows { AreShared places.now shared.now raised.now (length places.now) rows.old rows.new }
+    ensures claimed { (e : ℕ) → bit_in claimed.new e ≡ bit_in claimed.old e - bit_in shared.now e }
+    ensures grown { (e : ℕ) → bit_in result.grown e ≡ bit_in changes.grown e - bit_in shared.now e }
+    ensures anew { (e : ℕ) → bit_in result.anew e ≡ max (bit_in changes.anew e) (bit_in shared.now e) }
+{
+    share_row(places, shared, raised, rows);
+    claimed.remove_all(shared);
+    let Changes {
+        mut grown,
+        mut anew,
+    } = changes;
+    grown.remove_all(shared);
+    anew.union_with(shared);
+    Changes { grown, anew }
 }
 
 // The row of the place u, which depends on the place that was raised. Where that depends on u as well, both depend on the same.

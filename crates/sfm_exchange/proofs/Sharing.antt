@@ -1,0 +1,53 @@
+-- Rows that are that of the place that was raised, after an exchange: those of the places that depend on it and on which it depends.
+use Rattle.std.proofs.Common.{◌≡◌, ◌≢◌, ◌↔◌, ◌⊎◌, ⊎_elim, inl, inr, ℕ, ◌<◌, ◌-◌, max, List, length, get_or, ℤ, refl, sym, ap, ◌∙◌, arith}
+use Rattle.std.proofs.lemmas.Bool.{cases_eq}
+use Rattle.sfm_spec.specs.Sets.{AreDistinct}
+use Rattle.sfm_spec.specs.Rows.{Depends}
+use Rattle.sfm_spec.specs.Terms.{SetFunction, IsFamily, IsSubmodular, IsBase}
+use Rattle.sfm_exchange.specs.declared.bits.Bits.{Bits}
+use Rattle.sfm_exchange.specs.declared.renewing.Changes.{Changes}
+use Rattle.sfm_exchange.specs.declared.renewing.Raised.{Raised}
+use Rattle.sfm_exchange.specs.Bits.{bit_in, set_at}
+use Rattle.sfm_exchange.specs.Claimed.{AreClaims}
+use Rattle.sfm_exchange.specs.Reach.{IsRow}
+use Rattle.sfm_exchange.specs.Renewed.{AreChanges, AreShared, IsRaised}
+use Rattle.sfm_exchange.proofs.Claiming.{row_claimed}
+use Rattle.sfm_exchange.proofs.RowsAfter.{row_shared}
+use Rattle.sfm_exchange.proofs.Words.{bit_in-lt}
+
+module _ (places : List ℕ) (shared : Bits) (raised : Raised) (before after : List Bits) (h : AreShared places shared raised (length places) before after) where
+  -- these rows are true ones, and the others are what they were
+  pub claims_shared : AreDistinct places → {f : SetFunction} → IsFamily (length places) f → IsSubmodular (length places) f → (x : List ℤ) → length x ≡ length places → IsBase f x → IsRaised places f x raised
+      → ((u : ℕ) → u < length places → bit_in shared (get_or places u 0) ≡ 1 → Depends f x u raised.local × (bit_in raised.row (get_or places u 0) ≡ 1))
+      → (claimed claimed' : Bits) → ((e : ℕ) → bit_in claimed' e ≡ bit_in claimed e - bit_in shared e) → AreClaims places f x claimed before → AreClaims places f x claimed' after
+  claims_shared distinct {f} family law x sized base r both claimed claimed' less claims = record {
+    claims = λ u lu. ⊎_elim
+        (λ one. row_claimed places f x u (set_at after u) (row u lu one))
+        (λ none. rw (h.others u lu none) (claims.claims u lu))
+        (cases_eq (bit_in shared (get_or places u 0)) 1);
+    exact = λ u lu out. ⊎_elim
+        (λ one. row u lu one)
+        (λ none. rw (h.others u lu none) (claims.exact u lu (λ old. out (let l = less (get_or places u 0) in let m = bit_in-lt shared (get_or places u 0) in omega (arith, l, m, old, none)))))
+        (cases_eq (bit_in shared (get_or places u 0)) 1);
+  } where
+    row : (u : ℕ) → u < length places → bit_in shared (get_or places u 0) ≡ 1 → IsRow places f x u (set_at after u)
+    row u lu one =
+        let (d, bit) = both u lu one in
+        row_shared places distinct family law x sized base raised.local u raised.row (set_at after u) r.within lu r.row_is d bit (rw r.place_is (h.shared_is u lu one))
+
+  -- they may be any, where others have grown
+  pub changes_shared : (rows : List Bits) (changes changes' : Changes) → ((e : ℕ) → bit_in changes'.grown e ≡ bit_in changes.grown e - bit_in shared e) → ((e : ℕ) → bit_in changes'.anew e ≡ max (bit_in changes.anew e) (bit_in shared e))
+      → ((e : ℕ) → bit_in shared e ≡ 1 → (u : ℕ) × (u < length places) × (get_or places u 0 ≡ e)) → AreChanges places changes rows before → AreChanges places changes' rows after
+  changes_shared rows changes changes' grown anew inside c = record {
+    inside = λ e. ⊎_elim
+        (λ one. c.inside e (inl (let g = grown e in let l = bit_in-lt changes.grown e in omega (arith, g, l, one))))
+        (λ one. ⊎_elim (λ is. inside e is) (λ none. c.inside e (inr (let a = anew e in let l = bit_in-lt changes.anew e in let m = bit_in-lt shared e in omega (arith, a, l, m, one, none)))) (cases_eq (bit_in shared e) 1));
+    grown = λ u t lu one bit.
+        let e = get_or places u 0 in
+        let none : bit_in shared e ≢ 1 = λ is. let g = grown e in let l = bit_in-lt changes.grown e in omega (arith, g, l, one, is) in
+        rw (h.others u lu none) (c.grown u t lu (let g = grown e in let l = bit_in-lt changes.grown e in omega (arith, g, l, one)) bit);
+    others = λ u lu out not.
+        let e = get_or places u 0 in
+        let none : bit_in shared e ≢ 1 = λ is. not (let a = anew e in let l = bit_in-lt changes'.anew e in omega (arith, a, l, is)) in
+        h.others u lu none ∙ c.others u lu (λ g1. out (let g = grown e in let m = bit_in-lt shared e in omega (arith, g, m, g1, none))) (λ a1. not (let a = anew e in let l = bit_in-lt changes'.anew e in omega (arith, a, l, a1)));
+  }
