@@ -8,7 +8,8 @@ use Rattle.sfm_assign.specs.Splits.{sum_at, amount_at, IsAmount, IsCapacity, Dem
 use Rattle.sfm_assign.specs.Cells.{joined, owners, cut, AreCells, IsPart, IsMet}
 use Rattle.sfm_assign.specs.Search.{AreLeft, IsSearch, GetsMore, IsFilled}
 use Rattle.sfm_assign.specs.Lenders.{with_more, IsMostUpto}
-use Rattle.sfm_assign.specs.Pours.{IsPouring, AreRaised}
+use Rattle.sfm_assign.specs.Pours.{IsPouring, AreRaised, AreWithin}
+use Rattle.sfm_assign.specs.Grown.{MayGrow, IsGrown}
 use Rattle.sfm_assign.specs.declared.nodes.Node.{Node}
 use Rattle.sfm_assign.proofs.Rows.{split_of_part}
 use Rattle.sfm_assign.proofs.Hall.{most_of_closed}
@@ -145,3 +146,80 @@ other_demands d sound demands capacities sized slots amounts bounded = record {
   bounded = bounded;
   exist = rw slots sound.exist;
 }
+
+-- the same for the cells of a split
+module _ (d : Demands) (whos slots : List ℕ) (y rooms : List ℤ) (u : ℕ) (limit : ℤ) (h : MayGrow d whos slots y rooms u limit) (lacks : List ℤ) (is : lacks ≡ set (replicate (length d.demands) (pos 0)) u limit) where
+  part0 : IsPart d.demands d.capacities (owners 0 d.lists) (joined d.lists) y
+  part0 = rw (h.met.in_order, h.met.in_lists) at h.met.part
+
+  met0 : IsMet d.demands (owners 0 d.lists) y
+  met0 = rw h.met.in_order at h.met.met
+
+  lacks0 : AreLeft (with_more d u limit).demands (owners 0 d.lists) y lacks
+  lacks0 = rw is (growing_left d h.sound u h.place limit h.low y part0 met0)
+
+  rooms0 : AreLeft d.capacities (joined d.lists) y rooms
+  rooms0 = rw h.met.in_lists at h.left
+
+  pub may_within : AreWithin whos slots y lacks rooms
+  may_within = rw (h.met.in_order, h.met.in_lists) (record {
+    demands = (with_more d u limit).demands;
+    capacities = d.capacities;
+    cells = rw (length-set d.demands u (amount_at d.demands u +ℤ limit)) (cells_for d h.sound);
+    bounded = h.sound.bounded;
+    part = growing_part d h.sound u h.place limit h.low y part0;
+    lacks_are = lacks0;
+    rooms_are = rooms0;
+  })
+
+  module _ (z lacks' rooms' : List ℤ) (nodes : List (Option Node)) (raised : AreRaised whos slots y lacks rooms z lacks' rooms') (s : IsSearch whos slots z lacks' rooms' nodes None) where
+    raised0 : AreRaised (owners 0 d.lists) (joined d.lists) y lacks rooms z lacks' rooms'
+    raised0 = rw (h.met.in_order, h.met.in_lists) at raised
+
+    search0 : IsSearch (owners 0 d.lists) (joined d.lists) z lacks' rooms' nodes None
+    search0 = rw (h.met.in_order, h.met.in_lists) at s
+
+    pouring : IsPouring (with_more d u limit).demands d.capacities (owners 0 d.lists) (joined d.lists) y z lacks' rooms'
+    pouring = growing_pouring d h.sound u h.place limit h.low y part0 lacks rooms z lacks' rooms' nodes lacks0 rooms0 raised0 search0
+
+    pub may_places : length lacks' ≡ length d.demands
+    may_places = pouring.lacks_are.places ∙ length-set d.demands u (amount_at d.demands u +ℤ limit)
+
+    -- what u lacks in the end
+    lacking : amount_at lacks' u ≡ ((amount_at d.demands u +ℤ limit) -ℤ sum_at u (owners 0 d.lists) z)
+    lacking =
+        let e = changed-at d.demands u h.place (amount_at d.demands u +ℤ limit) in
+        let l = length-set d.demands u (amount_at d.demands u +ℤ limit) in
+        let lu = h.place in
+        let each = pouring.lacks_are.each u (omega (arith, lu, l)) in
+        omega (arith, ints, e, each)
+
+    pub may_lack : (pos 0 ≤ℤ amount_at lacks' u) × (amount_at lacks' u ≤ℤ limit)
+    may_lack =
+        let lu = h.place in
+        let l = length-set d.demands u (amount_at d.demands u +ℤ limit) in
+        let e = changed-at d.demands u h.place (amount_at d.demands u +ℤ limit) in
+        let got = pouring.part.got u (omega (arith, lu, l)) in
+        let k = lacking in
+        let m = met0 u lu in
+        let r = pouring.more u in
+        (omega (arith, ints, got, e, k), omega (arith, ints, k, m, r))
+
+    pub may_grow : IsGrown d whos slots z rooms' u limit (limit -ℤ amount_at lacks' u)
+    may_grow = record {
+      met = record { in_order = h.met.in_order; in_lists = h.met.in_lists; part = rw (h.met.in_order, h.met.in_lists) (grown_part d h.sound u h.place limit h.low y part0 met0 z (founds nodes) pouring.part filled pouring.more more told); met = rw h.met.in_order (grown_met d h.sound u h.place limit h.low y part0 met0 z (founds nodes) pouring.part filled pouring.more more told) };
+      left = rw h.met.in_lists pouring.rooms_are;
+      amount = grown_amount d h.sound u h.place limit more h.small most;
+      most = most;
+    } where
+      more : ℤ
+      more = limit -ℤ amount_at lacks' u
+
+      told : more ≡ (sum_at u (owners 0 d.lists) z -ℤ amount_at d.demands u)
+      told = let k = lacking in omega (arith, ints, k)
+
+      filled : IsFilled (with_more d u limit).demands d.capacities (owners 0 d.lists) (joined d.lists) z (founds nodes)
+      filled = growing_filled d h.sound u h.place limit h.low y part0 lacks rooms z lacks' rooms' nodes lacks0 rooms0 raised0 search0
+
+      most : IsMostUpto d u limit more
+      most = grown_most d h.sound u h.place limit h.low y part0 met0 z (founds nodes) pouring.part filled pouring.more more told

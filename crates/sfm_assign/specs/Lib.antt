@@ -6,4 +6,5 @@ pub mod Pours
 pub mod Lowers
 pub mod Ends
 pub mod Lenders
+pub mod Grown
 pub mod Spread

@@ -7,17 +7,18 @@
 ghost use Rattle.std.specs.Prelude.{◌≡◌, ◌↔◌, ℕ, ◌<◌, ◌≤◌, Bool, List, false, length, vec_len, slice_set, pos, ◌+ℤ◌, ◌≤ℤ◌, ◌<ℤ◌, IsTrue, IfOk, OnOk, OnErr, MatchResult};
 ghost use Rattle.std.specs.List.{All};
 ghost use Rattle.sfm_spec.specs.Sets.{Has};
-ghost use Rattle.sfm_assign.specs.Splits.{amount_at, IsAmount, IsCapacity, AreDemands};
+ghost use Rattle.sfm_assign.specs.Splits.{amount_at, CanBeMet, IsAmount, IsCapacity, AreDemands};
 ghost use Rattle.sfm_assign.specs.Cells.{AreCells, AreMet};
 ghost use Rattle.sfm_assign.specs.Search.{AreLeft};
 ghost use Rattle.sfm_assign.specs.Lowers.{IsCharge, AreSmall};
 ghost use Rattle.sfm_assign.specs.Ends.{IsAssignEnd};
+ghost use Rattle.sfm_assign.specs.Grown.{IsGrown};
 ghost use Rattle.sfm_assign.specs.Lenders.{IsLender, with_more, IsMostUpto};
 ghost use Rattle.sfm_assign.specs.Spread.{AreAnswers, AreTold, AreAsking, answer_at, IsKnown, IsWritten};
 ghost use Rattle.sfm_assign.specs.declared.spread.Answer.TheVariants.{Full};
 
 use crate::demand::Demand;
-use crate::fill::fill_from;
+use crate::grown::raise_most;
 use crate::left::{Lefts, left_of};
 use crate::lower::shift;
 use crate::splitting::{AssignEnd, Shares, met_shares, settle};
@@ -50,6 +51,13 @@ pub struct Kept {
     ghost each: { length asking ≡ length demand.demands },
     ghost asked: { IsTrue counted → AreAsking demand.demands asking },
     ghost known: { AreAnswers (length demand.demands) shares.cells.whos.items shares.cells.slots.items shares.y.items rooms.items answers.items },
+}
+
+/// What the demands of a split are to be, and what its slots are to hold at most.
+#[derive(Clone, Copy, Debug)]
+pub struct Aim<'a> {
+    pub demands: &'a [i128],
+    pub capacities: &'a [i128],
 }
 
 /// Whether a demand asks for something.
@@ -290,19 +298,6 @@ impl Kept {
         Ok(())
     }
 
-    /// Writes what is left where the demand u asks for more: this is all that it lacks, and the others lack nothing.
-    fn lacking(&self, left: &mut Lefts, u: usize, limit: i128) -> Result<(), Memory>
-        requires place { u < length self.now.demand.demands }
-        requires low { pos 0 ≤ℤ limit }
-        ensures lacks { OnOk result (AreLeft (with_more self.now.demand u limit).demands self.now.shares.cells.whos.items self.now.shares.y.items left.new.lacks.items) }
-        ensures rooms { OnOk result (left.new.rooms.items ≡ self.now.rooms.items) }
-    {
-        write_zeros(&mut left.lacks, self.demand.demands())?;
-        left.lacks[u] = limit;
-        copy_list(&mut left.rooms, &self.rooms)?;
-        Ok(())
-    }
-
     /// Finds amounts by which all demands are met, and the demand u gets as much more as it can, up to a limit; tells how much.
     fn find_grown(
         &self,
@@ -315,17 +310,38 @@ impl Kept {
         requires place { u < length self.now.demand.demands }
         requires low { pos 0 ≤ℤ limit }
         requires small { IsAmount (amount_at self.now.demand.demands u +ℤ limit) }
-        ensures met { IfOk result (λ more. AreMet (with_more self.now.demand u more) self.now.shares.cells.whos.items self.now.shares.cells.slots.items work.new.y.items) }
-        ensures left { OnOk result (AreLeft self.now.demand.capacities self.now.shares.cells.slots.items work.new.y.items work.new.left.rooms.items) }
-        ensures amount { IfOk result (λ more. IsAmount (amount_at self.now.demand.demands u +ℤ more)) }
-        ensures most { IfOk result (λ more. IsMostUpto self.now.demand u limit more) }
+        ensures { IfOk result (IsGrown self.now.demand self.now.shares.cells.whos.items self.now.shares.cells.slots.items work.new.y.items work.new.left.rooms.items u limit) }
     {
-        self.lacking(&mut work.left, u, limit)?;
+        copy_list(&mut work.left.rooms, &self.rooms)?;
         copy_list(&mut work.y, &self.shares.y)?;
-        let cells = &self.shares.cells;
-        let search = fill_from(alloc, cells, &mut work.rest, &mut work.left, &mut work.y)?;
-        work.rest.keep(search);
-        let more = limit - work.left.lacks[u];
+        let like = self.demand.demands();
+        raise_most(alloc, &self.shares.cells, work, like, u, limit)
+    }
+
+    /// The same for other demands and capacities over the same lists, which can be met.
+    fn find_raised(
+        &self,
+        alloc: Global,
+        work: &mut Work,
+        aim: &Aim,
+        u: usize,
+        limit: i128,
+    ) -> Result<i128, Memory>
+        requires sized { length aim.now.demands.now ≡ length self.now.demand.demands }
+        requires slots { length aim.now.capacities.now ≡ length self.now.demand.capacities }
+        requires sound { AreDemands (record { demands = aim.now.demands.now; lists = self.now.demand.lists; capacities = aim.now.capacities.now }) }
+        requires met { CanBeMet aim.now.demands.now self.now.demand.lists aim.now.capacities.now }
+        requires place { u < length aim.now.demands.now }
+        requires low { pos 0 ≤ℤ limit }
+        requires small { IsAmount (amount_at aim.now.demands.now u +ℤ limit) }
+        ensures { IfOk result (IsGrown (record { demands = aim.now.demands.now; lists = self.now.demand.lists; capacities = aim.now.capacities.now }) self.now.shares.cells.whos.items self.now.shares.cells.slots.items work.new.y.items work.new.left.rooms.items u limit) }
+    {
+        match self.find_amounts(alloc, work, aim.demands, aim.capacities) {
+            Ok(()) => {}
+            Err(AssignEnd::Shortage { .. }) => unreachable!(),
+            Err(AssignEnd::Memory) => return Err(Memory),
+        }
+        let more = raise_most(alloc, &self.shares.cells, work, aim.demands, u, limit)?;
         Ok(more)
     }
 
@@ -348,6 +364,50 @@ impl Kept {
         let found = self.find_grown(alloc, &mut work, u, limit);
         self.work = work;
         let more = found?;
+        self.demand.raise(u, more);
+        mem::swap(&mut self.shares.y, &mut self.work.y);
+        mem::swap(&mut self.rooms, &mut self.work.left.rooms);
+        forget(&mut self.answers, &mut self.search);
+        self.counted = false;
+        Ok(more)
+    }
+
+    /// Takes over how another split over the same lists meets its demands, brought to other demands and capacities that can be
+    /// met, and the demand u raised by as much as can be met besides, up to a limit; tells by how much. It takes no memory once it
+    /// has had what it wants.
+    ///
+    /// # Errors
+    ///
+    /// `Memory` where there is none; demands, capacities and the split are then as they were.
+    pub fn grow_from(
+        &mut self,
+        alloc: Global,
+        from: &Kept,
+        aim: &Aim,
+        u: usize,
+        limit: i128,
+    ) -> Result<i128, Memory>
+        requires lists { self.old.demand.lists ≡ from.now.demand.lists }
+        requires sized { length aim.now.demands.now ≡ length self.old.demand.demands }
+        requires slots { length aim.now.capacities.now ≡ length self.old.demand.capacities }
+        requires other_slots { length aim.now.capacities.now ≡ length from.now.demand.capacities }
+        requires amounts { All IsAmount aim.now.demands.now }
+        requires bounded { All IsCapacity aim.now.capacities.now }
+        requires met { CanBeMet aim.now.demands.now self.old.demand.lists aim.now.capacities.now }
+        requires place { u < length aim.now.demands.now }
+        requires low { pos 0 ≤ℤ limit }
+        requires small { IsAmount (amount_at aim.now.demands.now u +ℤ limit) }
+        ensures grown { IfOk result (λ g. self.new.demand ≡ with_more (record { demands = aim.now.demands.now; lists = self.old.demand.lists; capacities = aim.now.capacities.now }) u g) }
+        ensures most { IfOk result (IsMostUpto (record { demands = aim.now.demands.now; lists = self.old.demand.lists; capacities = aim.now.capacities.now }) u limit) }
+        ensures unchanged { OnErr result (self.new.demand ≡ self.old.demand) }
+    {
+        let _sound = self.demand.lists();
+        let _other = from.demand.lists();
+        let mut work = mem::replace(&mut self.work, Work::new(alloc));
+        let found = from.find_raised(alloc, &mut work, aim, u, limit);
+        self.work = work;
+        let more = found?;
+        self.demand.copy_from(aim.demands, aim.capacities);
         self.demand.raise(u, more);
         mem::swap(&mut self.shares.y, &mut self.work.y);
         mem::swap(&mut self.rooms, &mut self.work.left.rooms);

@@ -7,6 +7,7 @@ mod chains;
 mod demand;
 mod fill;
 mod greatest;
+mod grown;
 mod kept;
 mod left;
 mod lower;
@@ -22,6 +23,6 @@ mod work;
 
 pub use demand::Demand;
 pub use greatest::most;
-pub use kept::Kept;
+pub use kept::{Aim, Kept};
 pub use split::Split;
 pub use splitting::{AssignEnd, assign};
