@@ -1,13 +1,15 @@
 // The test that tells what slots of entries may hold: each element is a demand that is split over the slots of its entry, of
-// which each holds the same number at most. With demands of 1 and slots that hold 1 it tells who has slots of their own.
-ghost use Rattle.std.specs.Prelude.{◌≡◌, ◌↔◌, ◌<◌, ◌≤◌, ◌^◌, true, length, replicate, slice_index_or, slice_set, pos, ◌≤ℤ◌, if◌then◌else◌, IfOk, OnOk, IsTrue};
+// which each holds the same number at most. Where slots hold 1 each, places with a demand of 1 have slots of their own; so places
+// are taken one after another by one split, in which each in turn is raised to 1 if the others leave it a slot.
+ghost use Rattle.std.specs.Prelude.{◌≡◌, ◌↔◌, ◌<◌, ◌≤◌, ◌^◌, length, replicate, pos, ◌≤ℤ◌, IfOk, IsTrue};
 ghost use Rattle.std.specs.List.{All};
 ghost use Rattle.sfm_assign.specs.Splits.{IsAmount};
-ghost use Rattle.sfm_rank.specs.Terms.{at_places};
-ghost use Rattle.sfm_matroid.specs.Slots.{IsWithinSlots, have_slots, above_slots, suited};
+ghost use Rattle.sfm_matroid.specs.Notes.{slot_demands};
+ghost use Rattle.sfm_matroid.specs.Slots.{IsWithinSlots, suited};
 
 use crate::entries::Entries;
-use sfm_assign::{AssignEnd, Demand, assign};
+use crate::splits::split_of;
+use sfm_assign::{AssignEnd, Demand, Kept, assign};
 use sfm_base::{Memory, Set};
 use std::alloc::Global;
 
@@ -72,74 +74,33 @@ pub(crate) fn are_held(
     }
 }
 
-/// 1 for a member, and 0 for what is none.
-fn unit(member: bool) -> i128
-    ensures { result ≡ (if member then pos 1 else pos 0) }
-{
-    if member { 1 } else { 0 }
-}
-
-/// 1 at the places of a set, and 0 elsewhere.
-fn ones(alloc: Global, t: &Set) -> Result<Vec<i128>, Memory>
-    ensures { IfOk result (λ r. r.items ≡ at_places (pos 1) t.now) }
-{
-    let mut x = Vec::new(alloc);
-    for e in 0..t.len() {
-        x.push(unit(t.contains(e)))?;
-    }
-    Ok(x)
-}
-
-/// Whether a place and those of a set have slots of their own.
-fn fits(alloc: Global, entries: &Entries, m: usize, t: &Set, e: usize) -> Result<bool, Memory>
+/// The split over slots that hold 1 each, where no place has one yet.
+fn untaken(alloc: Global, entries: &Entries, m: usize) -> Result<Kept, Memory>
     requires few { length entries.now ≤ 256 }
-    requires places { length t.now ≡ length entries.now }
-    requires place { e < length entries.now }
     requires few_slots { m ≤ 2 ^ 24 }
     requires below { All (All (λ v. v < m)) entries.now }
-    ensures { IfOk result (λ r. r ≡ have_slots entries.now (above_slots entries.now) (slice_set t.now e true)) }
+    ensures { IfOk result (λ r. r.demand ≡ slot_demands entries.now m (pos 1) (replicate (length entries.now) (pos 0))) }
 {
-    let mut more = t.copy(alloc)?;
-    more.insert(e);
-    let x = ones(alloc, &more)?;
-    let held = are_held(alloc, entries, m, &x, 1)?;
-    Ok(held)
+    let nothing = vec![in alloc; 0; entries.len()]?;
+    let demand = slot_demand(alloc, entries, m, &nothing, 1)?;
+    let kept = split_of(alloc, demand)?;
+    Ok(kept)
 }
 
-/// Takes a place, if it has a slot with those that are taken.
-fn take_matched(
-    alloc: Global,
-    entries: &Entries,
-    m: usize,
-    t: &mut Set,
-    e: usize,
-) -> Result<(), Memory>
-    requires few { length entries.now ≤ 256 }
-    requires places { length t.old ≡ length entries.now }
-    requires place { e < length entries.now }
-    requires few_slots { m ≤ 2 ^ 24 }
-    requires below { All (All (λ v. v < m)) entries.now }
-    ensures places { length t.new ≡ length t.old }
-    ensures taken { OnOk result (t.new ≡ (if have_slots entries.now (above_slots entries.now) (slice_set t.old e true) then slice_set t.old e true else t.old)) }
-{
-    let fits = fits(alloc, entries, m, t, e)?;
-    if fits {
-        t.insert(e);
-    }
-    Ok(())
-}
-
-/// The places of a set that are taken one after another while their slots suffice.
+/// The places of a set that are taken one after another while their slots suffice: a place is taken where the split of those
+/// that are taken can give it a slot too.
 pub(crate) fn matched(alloc: Global, entries: &Entries, s: &Set) -> Result<Set, Memory>
     requires few { length entries.now ≤ 256 }
     requires places { length s.now ≡ length entries.now }
-    ensures { IfOk result (λ t. t ≡ suited entries.now s.now (length entries.now)) }
+    ensures places { IfOk result (λ t. length t ≡ length s.now) }
+    ensures taken { IfOk result (λ t. t ≡ suited entries.now s.now (length entries.now)) }
 {
     let m = entries.above();
+    let mut kept = untaken(alloc, entries, m)?;
     let mut t = Set::empty(alloc, s.len())?;
     for e in 0..s.len() {
-        if s.contains(e) {
-            take_matched(alloc, entries, m, &mut t, e)?;
+        if s.contains(e) && kept.grow(alloc, e, 1)? == 1 {
+            t.insert(e);
         }
     }
     Ok(t)

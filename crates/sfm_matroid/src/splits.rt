@@ -26,7 +26,7 @@ pub struct SlotSplit {
 }
 
 /// A split of demands that can be met.
-fn split_of(alloc: Global, demand: Demand) -> Result<Kept, Memory>
+pub(crate) fn split_of(alloc: Global, demand: Demand) -> Result<Kept, Memory>
     requires { CanBeMet demand.demands demand.lists demand.capacities }
     ensures { IfOk result (λ r. r.demand ≡ demand) }
 {

@@ -12,5 +12,5 @@ returns-clause-greatest c =
     let t = c.args.s.now in
     let f : Fits w64 c.size.result = search rules in
     let z : to_z w128 c.size.result ≡ pos c.size.result = omega (arith, ints, f) in
-    let e : c.size.result ≡ transversal_rank s.entries t = c.size.ensures ∙ ap size c.in_ok-taken.ensures in
+    let e : c.size.result ≡ transversal_rank s.entries t = c.size.ensures ∙ ap size c.in_ok-taken.ensures.taken in
     (transversal_rank s.entries t, z ∙ ap pos e, transversal-ranks s.entries t (c.requires ∙ sym s.same_count))
