@@ -23,9 +23,6 @@ amount_fits a h = omega (arith, ints)
 pub left_fits : (c a : ℤ) → pos 0 ≤ℤ c → c ≤ℤ pos (10 ^ 24) → IsAmount a → FitsSigned w128 (c -ℤ a)
 left_fits c a low high h = omega (arith, ints)
 
-pub most_left_fits : (r a : ℤ) → FitsSigned w128 r → pos 0 ≤ℤ r → IsAmount a → FitsSigned w128 (r -ℤ a)
-most_left_fits r a f low h = omega (arith, ints)
-
 -- entries from 0 to a cap, and what they lack of it
 pub within_fits : (a cap : ℤ) → pos 0 ≤ℤ a → a ≤ℤ cap → cap ≤ℤ pos (10 ^ 24) → FitsSigned w128 a
 within_fits a cap low under high = omega (arith, ints)

@@ -7,7 +7,6 @@ mod OneTest
 mod GraphicBases
 mod GraphicRooms
 mod TransversalBases
-mod LeastSteps
 mod Lending
 mod Noted
 mod SlotNotes

@@ -1,6 +1,6 @@
--- Bases of a transversal term by the test of its code, and how much can be exchanged at one: by the most that an element gets in
--- the test, without another element; and to whom an element has room, by those that can lend to it.
-use Rattle.std.proofs.Common.{◌≡◌, ◌≢◌, ℕ, ◌<◌, Bool, List, length, get_or, set, replicate, ℤ, pos, ◌+ℤ◌, ◌-ℤ◌, ◌*ℤ◌, ◌≤ℤ◌, ◌<ℤ◌, sym, ap, ◌∙◌, arith, inl, inr, ⊎_elim, get_or-set_other}
+-- Bases of a transversal term by the test of its code, and how much can be exchanged at one: by the most that an element gets
+-- besides in the test, without another element; and to whom an element has room, by those that can lend to it.
+use Rattle.std.proofs.Common.{◌≡◌, ◌≢◌, ◌⊎◌, ℕ, ◌<◌, Bool, List, length, get_or, set, replicate, ℤ, pos, ◌+ℤ◌, ◌-ℤ◌, ◌*ℤ◌, ◌≤ℤ◌, ◌<ℤ◌, sym, ap, ◌∙◌, arith, inl, inr, ⊎_elim, get_or-set_other}
 use Rattle.std.specs.Int.{int_min}
 use Rattle.std.specs.List.{All}
 use Rattle.std.proofs.lemmas.Int.{ints, clamps, by_lt_z}
@@ -10,16 +10,14 @@ use Rattle.sfm_spec.specs.Sets.{whole_set, sum_over}
 use Rattle.sfm_spec.specs.Terms.{times, IsBase, IsCapacity, HasRoom, exchanged}
 use Rattle.sfm_spec.proofs.Sums.{length-exchanged}
 use Rattle.sfm_law.specs.Room.{IsReach}
-use Rattle.sfm_rank.proofs.Bases.{IsMostAt, base_counts, base_total, base_passes, passes_base, raised-places, raised-counts, met_now, met_nothing, lower, least_capacity, given-counts, gives_room, room_gives}
+use Rattle.sfm_rank.proofs.Bases.{base_counts, base_total, base_passes, passes_base, raised-places, raised-counts, met_now, lower, least_capacity, given-counts, gives_room, room_gives}
 use Rattle.sfm_matroid.specs.Givers.{IsGiver, IsRowIn}
 use Rattle.sfm_matroid.proofs.Lending.{reach_row}
 use Rattle.sfm_spec.specs.Kinds.{IsMatchable}
 use Rattle.sfm_spec.proofs.Scaled.{times-assoc}
-use Rattle.sfm_assign.specs.Splits.{CanBeMet, IsMost, Demands}
+use Rattle.sfm_assign.specs.Splits.{CanBeMet, Demands}
 use Rattle.sfm_assign.specs.Lenders.{IsMostUpto}
 use Rattle.sfm_matroid.specs.Notes.{slot_demands}
-use Rattle.sfm_matroid.proofs.LeastSteps.{one_of}
-use Rattle.sfm_matroid.specs.Leasts.{IsLeastOf}
 use Rattle.sfm_matroid.specs.Matchings.{matching-matroid}
 use Rattle.sfm_matroid.specs.Slots.{IsWithinSlots, transversal_rank, transversal_value, transversal_size}
 use Rattle.sfm_matroid.specs.Transversals.{transversal-ranks}
@@ -27,6 +25,9 @@ use Rattle.sfm_matroid.proofs.Matched.{slots_each}
 use Rattle.sfm_matroid.proofs.MatroidTests.{transversal_tests}
 use Rattle.sfm_matroid.proofs.SplitTests.{split_within_slots, within_slots_split}
 use Rattle.sfm_law.proofs.Totals.{total_of-whole}
+
+one_of : (r a b : ℤ) → r ≡ int_min a b → (r ≡ a) ⊎ (r ≡ b)
+one_of r a b e = by_lt_z a b (λ lower. inl (omega (arith, ints, clamps, e, lower))) (λ more. inr (omega (arith, ints, clamps, e, more)))
 
 module _ (k : ℕ) (q w : ℤ) (entries : List (List ℕ)) (m : ℕ) (exist : All (All (λ v. v < m)) entries) (same : length entries ≡ k) (low : pos 0 ≤ℤ (q *ℤ w)) (x : List ℤ) (kx : length x ≡ k) where
   sized : length x ≡ length entries
@@ -79,29 +80,7 @@ module _ (k : ℕ) (q w : ℤ) (entries : List (List ℕ)) (m : ℕ) (exist : Al
     split r hr met = within_slots_split entries m exist (q *ℤ w) (with_u r) (places r) low
         (raised-counts (length entries) 1 q w low (IsMatchable entries) (transversal_rank entries) (matching-matroid (length entries) entries) (transversal-ranks entries) (λ a x. IsWithinSlots entries m (q *ℤ w) x) (transversal_tests entries m (slots_each entries m exist) q w low) x sized base u v ku kv ne r hr) met
 
-    -- the others are met
-    pub others_met : CanBeMet (set (set x v (pos 0)) u (pos 0)) entries (replicate m (q *ℤ w))
-    others_met = split (pos 0) (omega (arith, ints)) (met_nothing (length entries) 1 q w low (IsMatchable entries) (transversal_rank entries) (matching-matroid (length entries) entries) (transversal-ranks entries) (λ a x. IsWithinSlots entries m (q *ℤ w) x) (transversal_tests entries m (slots_each entries m exist) q w low) x sized base u v ku kv ne 0 (omega arith))
-
-    most_at : (t : ℕ) (r : ℤ) → IsMost (set x v (pos 0)) entries (replicate m (q *ℤ w)) u r
-        → IsMostAt (length entries) 1 q w low (IsMatchable entries) (transversal_rank entries) (matching-matroid (length entries) entries) (transversal-ranks entries) (λ a x. IsWithinSlots entries m (q *ℤ w) x) (transversal_tests entries m (slots_each entries m exist) q w low) x sized base u v ku kv ne t r
-    most_at t r most = record {
-      reached = split_within_slots entries m exist (q *ℤ w) (with_u r) (places r) most.reached;
-      greatest = λ b met. by_lt_z b (pos 0)
-          (λ less. let h = most.greatest (pos 0) others_met in omega (arith, ints, less, h))
-          (λ ge. most.greatest b (split b (omega (arith, ints, ge)) met));
-    }
-
-    -- the room of (u, v)
-    pub slot_capacity : (a : ℤ) → IsLeastOf (IsMost (set x v (pos 0)) entries (replicate m (q *ℤ w)) u) (get_or x v (pos 0)) (q *ℤ w) (get_or x u (pos 0)) a → IsCapacity (times q (transversal_value w entries)) x u v a
-    slot_capacity a least = least_capacity (length entries) 1 q w low (IsMatchable entries) (transversal_rank entries) (matching-matroid (length entries) entries) (transversal-ranks entries) (λ a x. IsWithinSlots entries m (q *ℤ w) x) (transversal_tests entries m (slots_each entries m exist) q w low) x sized base u v ku kv ne a (record {
-      under_v = least.under_v;
-      under_cap = least.under_cap;
-      under_most = λ t lt. let (r, most, le) = least.under_most in (r, (most_at t r most).reached, le);
-      reached = ⊎_elim (λ e. inl e) (λ rest. ⊎_elim (λ e. inr (inl e)) (λ (r, most, e). inr (inr (0, omega arith, r, most_at 0 r most, e))) rest) least.reached;
-    })
-
-    -- ---- and by what u gets besides, once v has nothing
+    -- ---- by what u gets besides, once v has nothing
 
     -- x without what v has
     abbrev rest : Demands

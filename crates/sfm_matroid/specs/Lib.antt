@@ -4,7 +4,6 @@ pub mod Slots
 pub mod Ends
 pub mod Numbered
 pub mod Cuts
-pub mod Leasts
 pub mod Givers
 pub mod Notes
 pub mod Counting

@@ -297,12 +297,8 @@ impl Graphic {
         requires onto { v < length x.now }
         ensures { IfOk result (IsRoom (times q (graphic_value self.now.w self.now.ends)) x.now u v) }
     {
-        let cap = self.cap(q);
-        let root = self.end_near(0, u);
-        let rest = without(alloc, x, v)?;
-        let mut note = self.split(alloc, &rest, cap, root)?;
-        let most = raise(alloc, &mut note.kept, x, cap, u, v)?;
-        Ok(Room::Upto(most))
+        let mut note = self.note_of(alloc, q, x)?;
+        self.room_near(alloc, q, x, &mut note, u, v)
     }
 
     /// The split in the test of a vertex, which is kept beside a base.

@@ -20,7 +20,7 @@ use crate::givers::row;
 use crate::growing::whole;
 use crate::matching::{are_held, matched};
 use crate::room::{beside, moved, without};
-use crate::slot_room::{least_unheld, limit_of};
+use crate::slot_room::limit_of;
 use crate::splits::{SlotSplit, bring_split, grow_split, keep_spare, slot_split};
 use sfm_base::{Memory, Places, Set};
 use sfm_law::{Room, Term, are_within, has_sum, product};
@@ -183,30 +183,6 @@ impl Transversal {
         Ok(held)
     }
 
-    /// The greatest number that can be exchanged at a base.
-    fn capacity(
-        &self,
-        alloc: Global,
-        q: i128,
-        x: &[i128],
-        u: usize,
-        v: usize,
-    ) -> Result<i128, Memory>
-        requires factor { IsFactor q }
-        requires entries { length x.now ≡ length self.now.places }
-        requires small { All IsEntry x.now }
-        requires base { IsBase (times q (transversal_value self.now.w self.now.entries)) x.now }
-        requires apart { u ≢ v }
-        requires from { u < length x.now }
-        requires onto { v < length x.now }
-        ensures { IfOk result (IsCapacity (times q (transversal_value self.now.w self.now.entries)) x.now u v) }
-    {
-        let cap = product(q, self.w);
-        let m = self.entries.above();
-        let least = least_unheld(alloc, &self.entries, m, x, cap, u, v)?;
-        Ok(least)
-    }
-
     /// The room of (u, v) at a base.
     ///
     /// # Errors
@@ -229,8 +205,8 @@ impl Transversal {
         requires onto { v < length x.now }
         ensures { IfOk result (IsRoom (times q (transversal_value self.now.w self.now.entries)) x.now u v) }
     {
-        let most = self.capacity(alloc, q, x, u, v)?;
-        Ok(Room::Upto(most))
+        let mut note = self.note_of(alloc, q, x)?;
+        self.room_in(alloc, q, x, &mut note, u, v)
     }
 
     /// The split in the test that tells a base, which is kept beside it.
