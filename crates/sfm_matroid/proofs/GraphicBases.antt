@@ -1,13 +1,9 @@
 -- Bases of a graphic term by the tests of its code.
-use Rattle.std.proofs.Common.{◌≡◌, ℕ, ◌<◌, List, [], length, ℤ, pos, ◌*ℤ◌, ◌≤ℤ◌, sym, ap, ◌∙◌, arith}
+use Rattle.std.proofs.Common.{◌≡◌, ℕ, ◌<◌, List, [], length, ℤ, pos, ◌*ℤ◌, ◌≤ℤ◌, sym, ◌∙◌}
 use Rattle.std.specs.List.{All}
-use Rattle.std.proofs.lemmas.List.{get_or_default}
-use Rattle.sfm_spec.specs.Bounds.{total_of}
-use Rattle.sfm_spec.specs.Sets.{whole_set, sum_over}
 use Rattle.sfm_spec.specs.Terms.{times, IsBase}
 use Rattle.sfm_spec.specs.Kinds.{Edge, IsForest}
-use Rattle.sfm_spec.proofs.Scaled.{times-assoc}
-use Rattle.sfm_rank.proofs.Bases.{AreTests, base_counts, base_total, base_passes, passes_base}
+use Rattle.sfm_rank.proofs.Bases.{IsTold, base_told, told_base}
 use Rattle.sfm_matroid.specs.Cuts.{IsWithinEnds}
 use Rattle.sfm_matroid.specs.Graphs.{graphic_rank, graphic_value, graphic_size}
 use Rattle.sfm_matroid.specs.Ends.{edges_of}
@@ -16,42 +12,23 @@ use Rattle.sfm_matroid.proofs.Numbers.{numbered_below}
 use Rattle.sfm_matroid.proofs.OneTest.{tails_enough}
 use Rattle.sfm_matroid.specs.Forests.{forest-matroid, graphic-ranks}
 use Rattle.sfm_matroid.proofs.MatroidTests.{numbered_tests}
-use Rattle.sfm_law.proofs.Totals.{total_of-whole}
 
 module _ (k : ℕ) (q w : ℤ) (edges : List Edge) (same : length edges ≡ k) (low : pos 0 ≤ℤ (q *ℤ w)) (x : List ℤ) (kx : length x ≡ k) where
   sized : length x ≡ length edges
   sized = kx ∙ sym same
 
-  tests : AreTests (length edges) (vertex_count edges) q w low (IsForest edges) (graphic_rank edges) (forest-matroid edges) (graphic-ranks edges) (λ a x. IsWithinEnds (numbered edges) (vertex_count edges) (q *ℤ w) x a)
-  tests = numbered_tests edges q w low
+  -- a base by its entries, and back
+  pub graphic_told : IsBase (times q (graphic_value w edges)) x → IsTold (q *ℤ w) (q *ℤ graphic_size w edges) ((a : ℕ) → a < vertex_count edges → IsWithinEnds (numbered edges) (vertex_count edges) (q *ℤ w) x a) x
+  graphic_told = base_told (length edges) (vertex_count edges) q w low (IsForest edges) (graphic_rank edges) (forest-matroid edges) (graphic-ranks edges) (λ a x. IsWithinEnds (numbered edges) (vertex_count edges) (q *ℤ w) x a) (numbered_tests edges q w low) x sized
 
-  sum-is : total_of x ≡ sum_over (whole_set (length edges)) x
-  sum-is = total_of-whole x ∙ ap (λ n. sum_over (whole_set n) x) sized
+  pub told_graphic : IsTold (q *ℤ w) (q *ℤ graphic_size w edges) ((a : ℕ) → a < vertex_count edges → IsWithinEnds (numbered edges) (vertex_count edges) (q *ℤ w) x a) x → IsBase (times q (graphic_value w edges)) x
+  told_graphic = told_base (length edges) (vertex_count edges) q w low (IsForest edges) (graphic_rank edges) (forest-matroid edges) (graphic-ranks edges) (λ a x. IsWithinEnds (numbered edges) (vertex_count edges) (q *ℤ w) x a) (numbered_tests edges q w low) x sized
 
-  -- what a base is like
   pub base_within_cap : IsBase (times q (graphic_value w edges)) x → All (λ a. (pos 0 ≤ℤ a) × (a ≤ℤ (q *ℤ w))) x
-  base_within_cap base e d lt =
-      let counts = base_counts (length edges) (vertex_count edges) q w low (IsForest edges) (graphic_rank edges) (forest-matroid edges) (graphic-ranks edges) (λ a x. IsWithinEnds (numbered edges) (vertex_count edges) (q *ℤ w) x a) x sized base in
-      let p = base_passes (length edges) (vertex_count edges) q w low (IsForest edges) (graphic_rank edges) (forest-matroid edges) (graphic-ranks edges) (λ a x. IsWithinEnds (numbered edges) (vertex_count edges) (q *ℤ w) x a) (numbered_tests edges q w low) x sized base in
-      let s = sized in
-      rw (get_or_default x e d (pos 0) lt) (counts e lt, p.capped e (omega (arith, lt, s)))
-
-  pub base_sum : IsBase (times q (graphic_value w edges)) x → total_of x ≡ (q *ℤ graphic_size w edges)
-  base_sum base =
-      sum-is ∙ (base_total (length edges) (vertex_count edges) q w low (IsForest edges) (graphic_rank edges) (forest-matroid edges) (graphic-ranks edges) (λ a x. IsWithinEnds (numbered edges) (vertex_count edges) (q *ℤ w) x a) x sized base
-      ∙ times-assoc q w (pos (graphic_rank edges (whole_set (length edges)))))
+  base_within_cap base = (graphic_told base).within
 
   pub base_tests : IsBase (times q (graphic_value w edges)) x → (a : ℕ) → a < vertex_count edges → IsWithinEnds (numbered edges) (vertex_count edges) (q *ℤ w) x a
-  base_tests base = (base_passes (length edges) (vertex_count edges) q w low (IsForest edges) (graphic_rank edges) (forest-matroid edges) (graphic-ranks edges) (λ a x. IsWithinEnds (numbered edges) (vertex_count edges) (q *ℤ w) x a) (numbered_tests edges q w low) x sized base).met
-
-  -- and what is like that is one
-  pub tests_base : All (λ a. (pos 0 ≤ℤ a) × (a ≤ℤ (q *ℤ w))) x → total_of x ≡ (q *ℤ graphic_size w edges) → ((a : ℕ) → a < vertex_count edges → IsWithinEnds (numbered edges) (vertex_count edges) (q *ℤ w) x a) → IsBase (times q (graphic_value w edges)) x
-  tests_base within sum met =
-      let s = sized in
-      passes_base (length edges) (vertex_count edges) q w low (IsForest edges) (graphic_rank edges) (forest-matroid edges) (graphic-ranks edges) (λ a x. IsWithinEnds (numbered edges) (vertex_count edges) (q *ℤ w) x a) (numbered_tests edges q w low) x sized
-      (λ e lt. (within e (pos 0) lt).0)
-      (record { capped = λ e lt. (within e (pos 0) (omega (arith, lt, s))).1; met = met })
-      (sym sum-is ∙ (sum ∙ sym (times-assoc q w (pos (graphic_rank edges (whole_set (length edges)))))))
+  base_tests base = (graphic_told base).met
 
 -- ---- numbered ends as they are kept
 

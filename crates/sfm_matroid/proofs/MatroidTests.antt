@@ -26,19 +26,7 @@ use Rattle.sfm_matroid.specs.Slots.{IsWithinSlots, transversal_rank}
 use Rattle.sfm_matroid.proofs.SlotForms.{slots_from_rank, rank_from_slots}
 use Rattle.sfm_matroid.specs.Transversals.{transversal-ranks}
 
--- one test for each of m vertices
-pub graphic_tests : (edges : List Edge) (m : ℕ) (below : EndsBelow edges m) (q w : ℤ) (low : pos 0 ≤ℤ (q *ℤ w))
-    → AreTests (length edges) m q w low (IsForest edges) (graphic_rank edges) (forest-matroid edges) (graphic-ranks edges) (λ a x. IsWithinEnds edges m (q *ℤ w) x a)
-graphic_tests edges m below q w low = record {
-  needed = λ x sized counts within. record {
-    capped = capped_by_rank (length edges) (IsForest edges) (graphic_rank edges) (forest-matroid edges) (graphic-ranks edges) (q *ℤ w) low x sized within;
-    met = λ a lt. ends_from_rank edges m below (q *ℤ w) low x within a;
-  };
-  enough = λ x sized counts passes. rank_from_ends edges m below (q *ℤ w) low x passes.met;
-  smaller = λ a x y lt kx ky counts le met s ks. let h = met s ks in let r = sum_over-below s x y (kx ∙ sym ky) (λ e h. le e (omega (arith, h, kx))) in omega (arith, ints, h, r);
-}
-
--- the same by the numbers of the ends
+-- one test for each vertex, by the numbers of the ends
 pub numbered_tests : (edges : List Edge) (q w : ℤ) (low : pos 0 ≤ℤ (q *ℤ w))
     → AreTests (length edges) (vertex_count edges) q w low (IsForest edges) (graphic_rank edges) (forest-matroid edges) (graphic-ranks edges) (λ a x. IsWithinEnds (numbered edges) (vertex_count edges) (q *ℤ w) x a)
 numbered_tests edges q w low = record {

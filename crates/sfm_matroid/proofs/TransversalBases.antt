@@ -4,17 +4,14 @@ use Rattle.std.proofs.Common.{◌≡◌, ◌≢◌, ◌⊎◌, ℕ, ◌<◌, Boo
 use Rattle.std.specs.Int.{int_min}
 use Rattle.std.specs.List.{All}
 use Rattle.std.proofs.lemmas.Int.{ints, clamps, by_lt_z}
-use Rattle.std.proofs.lemmas.List.{get_or_default, set-get_or}
-use Rattle.sfm_spec.specs.Bounds.{total_of}
-use Rattle.sfm_spec.specs.Sets.{whole_set, sum_over}
+use Rattle.std.proofs.lemmas.List.{set-get_or}
 use Rattle.sfm_spec.specs.Terms.{times, IsBase, IsCapacity, HasRoom, exchanged}
 use Rattle.sfm_spec.proofs.Sums.{length-exchanged}
 use Rattle.sfm_law.specs.Room.{IsReach}
-use Rattle.sfm_rank.proofs.Bases.{base_counts, base_total, base_passes, passes_base, raised-places, raised-counts, met_now, lower, least_capacity, given-counts, gives_room, room_gives}
+use Rattle.sfm_rank.proofs.Bases.{IsTold, base_counts, base_told, told_base, raised-places, raised-counts, met_now, lower, least_capacity, given-counts, gives_room, room_gives}
 use Rattle.sfm_matroid.specs.Givers.{IsGiver, IsRowIn}
 use Rattle.sfm_matroid.proofs.Lending.{reach_row}
 use Rattle.sfm_spec.specs.Kinds.{IsMatchable}
-use Rattle.sfm_spec.proofs.Scaled.{times-assoc}
 use Rattle.sfm_assign.specs.Splits.{CanBeMet, Demands}
 use Rattle.sfm_assign.specs.Lenders.{IsMostUpto}
 use Rattle.sfm_matroid.specs.Notes.{slot_demands}
@@ -24,7 +21,6 @@ use Rattle.sfm_matroid.specs.Transversals.{transversal-ranks}
 use Rattle.sfm_matroid.proofs.Matched.{slots_each}
 use Rattle.sfm_matroid.proofs.MatroidTests.{transversal_tests}
 use Rattle.sfm_matroid.proofs.SplitTests.{split_within_slots, within_slots_split}
-use Rattle.sfm_law.proofs.Totals.{total_of-whole}
 
 one_of : (r a b : ℤ) → r ≡ int_min a b → (r ≡ a) ⊎ (r ≡ b)
 one_of r a b e = by_lt_z a b (λ lower. inl (omega (arith, ints, clamps, e, lower))) (λ more. inr (omega (arith, ints, clamps, e, more)))
@@ -33,33 +29,18 @@ module _ (k : ℕ) (q w : ℤ) (entries : List (List ℕ)) (m : ℕ) (exist : Al
   sized : length x ≡ length entries
   sized = kx ∙ sym same
 
-  sum-is : total_of x ≡ sum_over (whole_set (length entries)) x
-  sum-is = total_of-whole x ∙ ap (λ n. sum_over (whole_set n) x) sized
+  -- a base by its entries, and back
+  pub transversal_told : IsBase (times q (transversal_value w entries)) x → IsTold (q *ℤ w) (q *ℤ transversal_size w entries) (IsWithinSlots entries m (q *ℤ w) x) x
+  transversal_told base = let told = base_told (length entries) 1 q w low (IsMatchable entries) (transversal_rank entries) (matching-matroid (length entries) entries) (transversal-ranks entries) (λ a x. IsWithinSlots entries m (q *ℤ w) x) (transversal_tests entries m (slots_each entries m exist) q w low) x sized base in record { within = told.within; sum = told.sum; met = told.met 0 (omega arith) }
 
-  -- what a base is like
+  pub told_transversal : IsTold (q *ℤ w) (q *ℤ transversal_size w entries) (IsWithinSlots entries m (q *ℤ w) x) x → IsBase (times q (transversal_value w entries)) x
+  told_transversal told = told_base (length entries) 1 q w low (IsMatchable entries) (transversal_rank entries) (matching-matroid (length entries) entries) (transversal-ranks entries) (λ a x. IsWithinSlots entries m (q *ℤ w) x) (transversal_tests entries m (slots_each entries m exist) q w low) x sized (record { within = told.within; sum = told.sum; met = λ a lt. told.met })
+
   pub base_within_cap : IsBase (times q (transversal_value w entries)) x → All (λ a. (pos 0 ≤ℤ a) × (a ≤ℤ (q *ℤ w))) x
-  base_within_cap base e d lt =
-      let counts = base_counts (length entries) 1 q w low (IsMatchable entries) (transversal_rank entries) (matching-matroid (length entries) entries) (transversal-ranks entries) (λ a x. IsWithinSlots entries m (q *ℤ w) x) x sized base in
-      let p = base_passes (length entries) 1 q w low (IsMatchable entries) (transversal_rank entries) (matching-matroid (length entries) entries) (transversal-ranks entries) (λ a x. IsWithinSlots entries m (q *ℤ w) x) (transversal_tests entries m (slots_each entries m exist) q w low) x sized base in
-      let s = sized in
-      rw (get_or_default x e d (pos 0) lt) (counts e lt, p.capped e (omega (arith, lt, s)))
-
-  pub base_sum : IsBase (times q (transversal_value w entries)) x → total_of x ≡ (q *ℤ transversal_size w entries)
-  base_sum base =
-      sum-is ∙ (base_total (length entries) 1 q w low (IsMatchable entries) (transversal_rank entries) (matching-matroid (length entries) entries) (transversal-ranks entries) (λ a x. IsWithinSlots entries m (q *ℤ w) x) x sized base
-      ∙ times-assoc q w (pos (transversal_rank entries (whole_set (length entries)))))
+  base_within_cap base = (transversal_told base).within
 
   pub base_held : IsBase (times q (transversal_value w entries)) x → IsWithinSlots entries m (q *ℤ w) x
-  base_held base = (base_passes (length entries) 1 q w low (IsMatchable entries) (transversal_rank entries) (matching-matroid (length entries) entries) (transversal-ranks entries) (λ a x. IsWithinSlots entries m (q *ℤ w) x) (transversal_tests entries m (slots_each entries m exist) q w low) x sized base).met 0 (omega arith)
-
-  -- and what is like that is one
-  pub held_base : All (λ a. (pos 0 ≤ℤ a) × (a ≤ℤ (q *ℤ w))) x → total_of x ≡ (q *ℤ transversal_size w entries) → IsWithinSlots entries m (q *ℤ w) x → IsBase (times q (transversal_value w entries)) x
-  held_base within sum held =
-      let s = sized in
-      passes_base (length entries) 1 q w low (IsMatchable entries) (transversal_rank entries) (matching-matroid (length entries) entries) (transversal-ranks entries) (λ a x. IsWithinSlots entries m (q *ℤ w) x) (transversal_tests entries m (slots_each entries m exist) q w low) x sized
-      (λ e lt. (within e (pos 0) lt).0)
-      (record { capped = λ e lt. (within e (pos 0) (omega (arith, lt, s))).1; met = λ a lt. held })
-      (sym sum-is ∙ (sum ∙ sym (times-assoc q w (pos (transversal_rank entries (whole_set (length entries)))))))
+  base_held base = (transversal_told base).met
 
   -- ---- how much can be exchanged
 

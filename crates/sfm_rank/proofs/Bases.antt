@@ -4,7 +4,9 @@
 use Rattle.std.proofs.Common.{◌≡◌, ◌≢◌, ◌⊎◌, ℕ, suc, ◌<◌, Bool, true, false, List, [], ◌∷◌, length, get_or, set, ℤ, pos, ◌+ℤ◌, ◌-ℤ◌, ◌*ℤ◌, ◌≤ℤ◌, ◌<ℤ◌, Some, refl, sym, ap, ◌∙◌, arith, ⊎_elim, length-set, get_or-set_other, get_or-set_same}
 use Rattle.std.proofs.lemmas.Bool.{cases_eq}
 use Rattle.std.proofs.lemmas.Int.{ints}
-use Rattle.std.proofs.lemmas.List.{length-replicate}
+use Rattle.std.proofs.lemmas.List.{get_or_default, length-replicate}
+use Rattle.std.specs.List.{All}
+use Rattle.sfm_spec.specs.Bounds.{total_of}
 use Rattle.sfm_spec.specs.Sets.{Has, whole_set, sum_over}
 use Rattle.sfm_spec.specs.Terms.{times, IsBase, IsCapacity, HasRoom, exchanged}
 use Rattle.sfm_spec.proofs.Scaled.{times-mono, times-assoc}
@@ -14,6 +16,7 @@ use Rattle.sfm_spec.proofs.Sets.{Has-whole}
 use Rattle.sfm_spec.proofs.Exchange.{base_between}
 use Rattle.sfm_law.proofs.Listing.{own_listing, base_from_leaves}
 use Rattle.sfm_law.proofs.Monotone.{AreCounts, without, sum_over-without}
+use Rattle.sfm_law.proofs.Totals.{total_of-whole}
 use Rattle.sfm_rank.specs.Matroids.{IsMatroid, AreRanks}
 use Rattle.sfm_rank.specs.Terms.{rank_value}
 use Rattle.sfm_rank.proofs.Members.{single, length-single, size-single, sum-single}
@@ -42,6 +45,12 @@ capped_by_rank k IsIndependent rank matroid ranks c low x sized within e lt =
     omega (arith, ints, h, up, one, sum) where
       once : (c : ℤ) → (c *ℤ pos 1) ≡ c
       once c = omega (arith, ints)
+
+-- entries from 0 to a cap that add up to a whole, where the tests are met
+pub record IsTold (cap whole : ℤ) (AreMet : Type 0) (x : List ℤ) : Type 0 where
+  pub within : All (λ a. (pos 0 ≤ℤ a) × (a ≤ℤ cap)) x
+  pub sum : total_of x ≡ whole
+  pub met : AreMet
 
 module _ (k n : ℕ) (q w : ℤ) (low : pos 0 ≤ℤ (q *ℤ w)) (IsIndependent : List Bool → Type 0) (rank : List Bool → ℕ) (matroid : IsMatroid k IsIndependent) (ranks : AreRanks k IsIndependent rank) (Meets : ℕ → List ℤ → Type 0) where
   abbrev pub IsWithinRanks : List ℤ → Type 0
@@ -96,6 +105,25 @@ module _ (k n : ℕ) (q w : ℤ) (low : pos 0 ≤ℤ (q *ℤ w)) (IsIndependent 
 
     pub passes_base : (x : List ℤ) → length x ≡ k → AreCounts x → PassesTests x → sum_over (whole_set k) x ≡ ((q *ℤ w) *ℤ pos (rank (whole_set k))) → IsBase (times q (rank_value w rank)) x
     passes_base x sized counts passes total = base_from x sized (tests.enough x sized counts passes) total
+
+    -- the same of its entries as the code tells them
+    module _ (x : List ℤ) (sized : length x ≡ k) where
+      whole-is : total_of x ≡ sum_over (whole_set k) x
+      whole-is = total_of-whole x ∙ ap (λ m. sum_over (whole_set m) x) sized
+
+      pub base_told : IsBase (times q (rank_value w rank)) x → IsTold (q *ℤ w) (q *ℤ (w *ℤ pos (rank (whole_set k)))) ((a : ℕ) → a < n → Meets a x) x
+      base_told base =
+          let counts = base_counts x sized base in
+          let p = base_passes x sized base in
+          record {
+            within = λ e d lt. rw (get_or_default x e d (pos 0) lt) (counts e lt, p.capped e (omega (arith, lt, sized)));
+            sum = whole-is ∙ (base_total x sized base ∙ times-assoc q w (pos (rank (whole_set k))));
+            met = p.met;
+          }
+
+      pub told_base : IsTold (q *ℤ w) (q *ℤ (w *ℤ pos (rank (whole_set k)))) ((a : ℕ) → a < n → Meets a x) x → IsBase (times q (rank_value w rank)) x
+      told_base told = passes_base x sized (λ e lt. (told.within e (pos 0) lt).0) (record { capped = λ e lt. (told.within e (pos 0) (omega (arith, lt, sized))).1; met = told.met })
+          (sym whole-is ∙ (told.sum ∙ sym (times-assoc q w (pos (rank (whole_set k))))))
 
     module _ (x : List ℤ) (sized : length x ≡ k) (base : IsBase (times q (rank_value w rank)) x) (u v : ℕ) (ku : u < k) (kv : v < k) (ne : u ≢ v) where
       -- x with u at r and nothing at v

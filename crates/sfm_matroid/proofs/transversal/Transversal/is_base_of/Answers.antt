@@ -4,7 +4,7 @@ use Rattle.std.proofs.lemmas.Int.{to_z-of_z}
 use mir.Syntax.{w128}
 use Rattle.sfm_law.proofs.Fits.{given_fits, given_more, rank_fits, product_fits, product_low, product_high}
 use Rattle.sfm_matroid.proofs.Fits.{within_amounts}
-use Rattle.sfm_matroid.proofs.TransversalBases.{base_within_cap, base_sum, base_held, held_base}
+use Rattle.sfm_matroid.proofs.TransversalBases.{base_within_cap, base_held, transversal_told, told_transversal}
 use Rattle.sfm_matroid.proofs.transversal.Transversal.is_base_of.Goals as goal
 
 pub returns-then-not-are_within : goal.returns-then-not-are_within
@@ -29,7 +29,7 @@ returns-then-not-has_sum c =
     let ft : FitsSigned w128 (q *ℤ c.size_of.result) = product_fits _ _ r.factor c.size_of.ensures.small in
     let t = simp to_z-of_z at c.product-whole.ensures in
     let i = simp to_z-of_z at (rw t at c.has_sum.ensures) in
-    ((λ t. absurd (false≢true t)), (λ b. absurd (both_ways c.has_sum.result c.if-not-has_sum.true (i.1 (base_sum (length s.places) q s.w s.entries c.above-m.result c.above-m.ensures.below s.same_count (product_low q s.w r.factor s.low) c.args.x.now r.entries b ∙ ap (λ z. q *ℤ z) (sym c.size_of.ensures.value))))))
+    ((λ t. absurd (false≢true t)), (λ b. absurd (both_ways c.has_sum.result c.if-not-has_sum.true (i.1 ((transversal_told (length s.places) q s.w s.entries c.above-m.result c.above-m.ensures.below s.same_count (product_low q s.w r.factor s.low) c.args.x.now r.entries b).sum ∙ ap (λ z. q *ℤ z) (sym c.size_of.ensures.value))))))
 
 pub are_held-requires-clause-amounts : goal.are_held-requires-clause-amounts
 are_held-requires-clause-amounts c =
@@ -82,4 +82,4 @@ returns c =
     let sum = (simp to_z-of_z at (rw t at c.has_sum.ensures)).0 c.if-not-has_sum.false in
     let low = product_low q s.w r.factor s.low in
     let told = simp to_z-of_z at (rw p at c.in_ok-held.ensures) in
-    ((λ t. held_base (length s.places) q s.w s.entries c.above-m.result c.above-m.ensures.below s.same_count low x r.entries within (sum ∙ ap (λ z. q *ℤ z) c.size_of.ensures.value) (told.0 t)), (λ b. told.1 (base_held (length s.places) q s.w s.entries c.above-m.result c.above-m.ensures.below s.same_count low x r.entries b)))
+    ((λ t. told_transversal (length s.places) q s.w s.entries c.above-m.result c.above-m.ensures.below s.same_count low x r.entries (record { within = within; sum = sum ∙ ap (λ z. q *ℤ z) c.size_of.ensures.value; met = told.0 t })), (λ b. told.1 (base_held (length s.places) q s.w s.entries c.above-m.result c.above-m.ensures.below s.same_count low x r.entries b)))
