@@ -25,10 +25,10 @@ use crate::givers::row;
 use crate::graph::{Graph, numbered};
 use crate::growing::{grow, whole};
 use crate::order::by_tails;
-use crate::room::{beside, moved, raise, without};
+use crate::room::{limit_of, moved, second_of, without};
 use crate::rooted::{RootSplit, Spare, root_split, swap_spare, take_kept};
-use crate::testing::{brought, passes_tails};
-use sfm_assign::Kept;
+use crate::testing::{brought, capacities, passes_tails};
+use sfm_assign::{Aim, Kept};
 use sfm_base::{Memory, Places, Set};
 use sfm_law::{Room, Term, are_within, has_sum, product};
 use std::alloc::Global;
@@ -461,11 +461,16 @@ impl Graphic {
     {
         let cap = self.cap(q);
         let root = self.end_near(note.root, u);
+        let limit = limit_of(x, cap, u, v);
         let rest = without(alloc, x, v)?;
+        let held = capacities(alloc, self.graph.vertices, cap, root)?;
         let spare = take_kept(note);
-        let mut kept = beside(alloc, &note.kept, spare)?;
-        self.bring(alloc, &mut kept, &rest, cap, root)?;
-        let most = raise(alloc, &mut kept, x, cap, u, v)?;
+        let mut kept = second_of(alloc, &note.kept, spare)?;
+        let aim = Aim {
+            demands: &rest,
+            capacities: &held,
+        };
+        let most = kept.grow_from(alloc, &note.kept, &aim, u, limit)?;
         note.spare = Some(Spare { root, kept });
         Ok(Room::Upto(most))
     }

@@ -12,7 +12,6 @@ mod matching;
 mod order;
 mod room;
 pub mod rooted;
-mod slot_room;
 pub mod splits;
 mod testing;
 pub mod transversal;

@@ -4,7 +4,6 @@
 ghost use Rattle.std.specs.Prelude.{◌≡◌, ◌<◌, ◌≤◌, ◌^◌, length, replicate, slice_index_or, pos, ◌+ℤ◌, ◌≤ℤ◌, ℕ, IfOk, OnOk, List, Some, None};
 ghost use Rattle.std.specs.List.{All};
 ghost use Rattle.sfm_assign.specs.Splits.{amount_at, IsAmount, IsCapacity, CanBeMet};
-ghost use Rattle.sfm_assign.specs.Lenders.{with_more, IsMostUpto};
 ghost use Rattle.sfm_matroid.specs.Notes.{IsSlotSplit, IsOver, IsSpare};
 
 use crate::entries::Entries;
@@ -96,29 +95,4 @@ pub(crate) fn bring_split(
         Err(AssignEnd::Shortage { .. }) => unreachable!(),
         Err(AssignEnd::Memory) => Err(Memory),
     }
-}
-
-/// Brings a split to other demands over the same lists that can be met, then raises u by as much as can be met, up to a limit;
-/// and tells by how much.
-pub(crate) fn grow_split(
-    alloc: Global,
-    kept: &mut Kept,
-    demands: &[i128],
-    capacities: &[i128],
-    u: usize,
-    limit: i128,
-) -> Result<i128, Memory>
-    requires sized { length demands.now ≡ length kept.old.demand.demands }
-    requires slots { length capacities.now ≡ length kept.old.demand.capacities }
-    requires amounts { All IsAmount demands.now }
-    requires bounded { All IsCapacity capacities.now }
-    requires met { CanBeMet demands.now kept.old.demand.lists capacities.now }
-    requires place { u < length demands.now }
-    requires low { pos 0 ≤ℤ limit }
-    requires small { IsAmount (amount_at demands.now u +ℤ limit) }
-    ensures grown { IfOk result (λ g. kept.new.demand ≡ with_more (record { demands = demands.now; lists = kept.old.demand.lists; capacities = capacities.now }) u g) }
-    ensures most { IfOk result (IsMostUpto (record { demands = demands.now; lists = kept.old.demand.lists; capacities = capacities.now }) u limit) }
-{
-    bring_split(alloc, kept, demands, capacities)?;
-    kept.grow(alloc, u, limit)
 }

@@ -16,7 +16,7 @@ use sfm_base::Memory;
 use std::alloc::Global;
 
 /// What each of m vertices may hold: a number, and the vertex a nothing.
-fn capacities(alloc: Global, m: usize, most: i128, a: usize) -> Result<Vec<i128>, Memory>
+pub(crate) fn capacities(alloc: Global, m: usize, most: i128, a: usize) -> Result<Vec<i128>, Memory>
     ensures { IfOk result (λ r. r.items ≡ vertex_capacities m most a) }
 {
     let mut capacities = vec![in alloc; most; m]?;

@@ -19,9 +19,9 @@ use crate::entries::Entries;
 use crate::givers::row;
 use crate::growing::whole;
 use crate::matching::{are_held, matched};
-use crate::room::{beside, moved, without};
-use crate::slot_room::limit_of;
-use crate::splits::{SlotSplit, bring_split, grow_split, keep_spare, slot_split};
+use crate::room::{limit_of, moved, second_of, without};
+use crate::splits::{SlotSplit, bring_split, keep_spare, slot_split};
+use sfm_assign::Aim;
 use sfm_base::{Memory, Places, Set};
 use sfm_law::{Room, Term, are_within, has_sum, product};
 use std::alloc::Global;
@@ -257,8 +257,12 @@ impl Transversal {
             return Ok(Room::Upto(0));
         }
         let rest = without(alloc, x, v)?;
-        let mut second = beside(alloc, &note.kept, note.spare.take())?;
-        let most = grow_split(alloc, &mut second, &rest, &note.capacities, u, limit)?;
+        let mut second = second_of(alloc, &note.kept, note.spare.take())?;
+        let aim = Aim {
+            demands: &rest,
+            capacities: &note.capacities,
+        };
+        let most = second.grow_from(alloc, &note.kept, &aim, u, limit)?;
         note.spare = Some(second);
         Ok(Room::Upto(most))
     }

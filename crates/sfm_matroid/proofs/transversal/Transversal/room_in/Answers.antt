@@ -72,8 +72,8 @@ returns-then-limit-eq0-clause-room c =
     let none = simp to_z-of_z at (ap (to_z w128) c.if-limit-eq0.true) in
     no_capacity (length s.places) q s.w s.entries r.noted.m r.noted.below s.same_count low x r.entries r.base u v r.from r.onto r.apart (sym is ∙ none)
 
-pub grow_split-requires-clause-amounts : goal.grow_split-requires-clause-amounts
-grow_split-requires-clause-amounts c =
+pub grow_from-requires-clause-amounts : goal.grow_from-requires-clause-amounts
+grow_from-requires-clause-amounts c =
     let r = c.requires in
     let s = c.args.self.now in
     let q = c.args.q in
@@ -87,8 +87,8 @@ grow_split-requires-clause-amounts c =
     let low = product_low q s.w r.factor s.low in
     rw (c.deref.ensures.value, c.in_ok-rest.ensures) (without_amounts x v (within_amounts x (q *ℤ s.w) (product_high q s.w r.factor s.given) (base_within_cap (length s.places) q s.w s.entries r.noted.m r.noted.below s.same_count low x r.entries r.base)))
 
-pub grow_split-requires-clause-bounded : goal.grow_split-requires-clause-bounded
-grow_split-requires-clause-bounded c =
+pub grow_from-requires-clause-bounded : goal.grow_from-requires-clause-bounded
+grow_from-requires-clause-bounded c =
     let r = c.requires in
     let s = c.args.self.now in
     let q = c.args.q in
@@ -102,8 +102,8 @@ grow_split-requires-clause-bounded c =
     let low = product_low q s.w r.factor s.low in
     rw (c.deref-2.ensures.value, r.noted.holds) (All-replicate IsCapacity r.noted.m (q *ℤ s.w) (record { low = low; high = product_high q s.w r.factor s.given }))
 
-pub grow_split-requires-clause-met : goal.grow_split-requires-clause-met
-grow_split-requires-clause-met c =
+pub grow_from-requires-clause-met : goal.grow_from-requires-clause-met
+grow_from-requires-clause-met c =
     let r = c.requires in
     let s = c.args.self.now in
     let q = c.args.q in
@@ -115,10 +115,10 @@ grow_split-requires-clause-met c =
     let fp : FitsSigned w128 (q *ℤ s.w) = product_fits _ _ r.factor (given_more _ s.given) in
     let p = simp to_z-of_z at c.product-cap.ensures in
     let low = product_low q s.w r.factor s.low in
-    rw (c.deref.ensures.value, c.in_ok-rest.ensures, c.in_ok-second.ensures, c.deref-2.ensures.value, r.noted.holds, r.noted.split) (rest_met (length s.places) q s.w s.entries r.noted.m r.noted.below s.same_count low x r.entries r.base u v r.from r.onto r.apart)
+    rw (c.deref.ensures.value, c.in_ok-rest.ensures, c.in_ok-second.ensures.lists, c.deref-2.ensures.value, r.noted.holds, r.noted.split) (rest_met (length s.places) q s.w s.entries r.noted.m r.noted.below s.same_count low x r.entries r.base u v r.from r.onto r.apart)
 
-pub grow_split-requires-clause-low : goal.grow_split-requires-clause-low
-grow_split-requires-clause-low c =
+pub grow_from-requires-clause-low : goal.grow_from-requires-clause-low
+grow_from-requires-clause-low c =
     let r = c.requires in
     let s = c.args.self.now in
     let q = c.args.q in
@@ -134,8 +134,8 @@ grow_split-requires-clause-low c =
     let is = simp to_z-of_z at (rw p at c.limit_of-limit.ensures) in
     simp to_z-of_z (limit_low x (q *ℤ s.w) u v c.limit_of-limit.result is r.from r.onto (base_within_cap (length s.places) q s.w s.entries r.noted.m r.noted.below s.same_count low x r.entries r.base))
 
-pub grow_split-requires-clause-small : goal.grow_split-requires-clause-small
-grow_split-requires-clause-small c =
+pub grow_from-requires-clause-small : goal.grow_from-requires-clause-small
+grow_from-requires-clause-small c =
     let r = c.requires in
     let s = c.args.self.now in
     let q = c.args.q in
@@ -167,7 +167,7 @@ returns-clause-room c =
     let fl : FitsSigned w128 c.limit_of-limit.result = search rules in
     let is = simp to_z-of_z at (rw p at c.limit_of-limit.ensures) in
     let fm : FitsSigned w128 c.in_ok-most.most = search rules in
-    let most = simp to_z-of_z at (rw (c.deref.ensures.value, c.in_ok-rest.ensures, c.in_ok-second.ensures, c.deref-2.ensures.value, r.noted.holds, r.noted.split) at c.in_ok-most.ensures.most) in
+    let most = simp to_z-of_z at (rw (c.deref.ensures.value, c.in_ok-rest.ensures, c.in_ok-second.ensures.lists, c.deref-2.ensures.value, r.noted.holds, r.noted.split) at c.in_ok-most.ensures.most) in
     simp to_z-of_z (grown_capacity (length s.places) q s.w s.entries r.noted.m r.noted.below s.same_count low x r.entries r.base u v r.from r.onto r.apart c.limit_of-limit.result c.in_ok-most.most is most)
 
 pub returns-clause-noted : goal.returns-clause-noted
@@ -186,11 +186,11 @@ returns-clause-noted c =
     let fl : FitsSigned w128 c.limit_of-limit.result = search rules in
     let is = simp to_z-of_z at (rw p at c.limit_of-limit.ensures) in
     let fm : FitsSigned w128 c.in_ok-most.most = search rules in
-    let grown = rw (c.deref.ensures.value, c.in_ok-rest.ensures, c.in_ok-second.ensures, c.deref-2.ensures.value, r.noted.holds, r.noted.split) at c.in_ok-most.ensures.grown in
+    let grown = rw (c.deref.ensures.value, c.in_ok-rest.ensures, c.in_ok-second.ensures.lists, c.deref-2.ensures.value, r.noted.holds, r.noted.split) at c.in_ok-most.ensures.grown in
     record {
       m = r.noted.m;
       below = r.noted.below;
       holds = r.noted.holds;
       split = r.noted.split;
-      spare = over_grown s.entries r.noted.m (q *ℤ s.w) x u v c.in_ok-most.most c.grow_split.new.kept (r.entries ∙ sym s.same_count) grown;
+      spare = over_grown s.entries r.noted.m (q *ℤ s.w) x u v c.in_ok-most.most c.grow_from.new.self (r.entries ∙ sym s.same_count) grown;
     }

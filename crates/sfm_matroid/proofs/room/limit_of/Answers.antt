@@ -4,7 +4,7 @@ use Rattle.std.proofs.lemmas.List.Elements.{All-get_or}
 use mir.Syntax.{w128}
 use Rattle.sfm_assign.specs.Splits.{IsAmount}
 use Rattle.sfm_matroid.proofs.Fits.{amount_fits, left_fits}
-use Rattle.sfm_matroid.proofs.slot_room.limit_of.Goals as goal
+use Rattle.sfm_matroid.proofs.room.limit_of.Goals as goal
 
 pub returns : goal.returns
 returns c =
