@@ -1,17 +1,16 @@
 -- Rows that are asked at once after an exchange that raises s and lowers t and has used up its room: where none was claimed, all
 -- are true afterwards.
-use Rattle.std.proofs.Common.{◌≡◌, ◌≢◌, ◌⊎◌, ⊎_elim, inl, inr, ℕ, ◌+◌, ◌<◌, List, length, get_or, set, ℤ, pos, ◌≤ℤ◌, sym, ap, subst, ◌∙◌, arith, get_or-set_same, get_or-set_other, length-set}
+use Rattle.std.proofs.Common.{◌≡◌, ◌≢◌, ◌⊎◌, ⊎_elim, inl, inr, ℕ, ◌+◌, ◌<◌, List, length, get_or, set, ℤ, pos, ◌≤ℤ◌, sym, subst, ◌∙◌, arith, get_or-set_same, get_or-set_other, length-set}
 use Rattle.std.proofs.lemmas.Bool.{cases_eq}
 use Rattle.sfm_spec.specs.Sets.{AreDistinct}
 use Rattle.sfm_spec.specs.Rows.{Depends}
 use Rattle.sfm_spec.specs.Terms.{SetFunction, IsFamily, IsSubmodular, IsBase, exchanged}
-use Rattle.sfm_spec.proofs.Sums.{length-exchanged}
 use Rattle.sfm_exchange.specs.declared.bits.Bits.{Bits}
 use Rattle.sfm_exchange.specs.Bits.{bit_in, set_at, blank_bits}
 use Rattle.sfm_exchange.specs.Claimed.{AreClaims}
 use Rattle.sfm_exchange.specs.Reach.{IsRow}
-use Rattle.sfm_exchange.specs.Renewed.{AreAsked, AreDepending, IsExchanged}
-use Rattle.sfm_exchange.proofs.Claiming.{finds, finds_s, rows_claimed, true_stays}
+use Rattle.sfm_exchange.specs.Renewed.{AreAsked, AreDepending}
+use Rattle.sfm_exchange.proofs.Claiming.{IsRaising, base_after, finds, finds_s, row_after, rows_claimed, sized_before, true_stays}
 use Rattle.sfm_exchange.proofs.RowsAfter.{follows_s}
 
 -- one row asked more
@@ -69,30 +68,19 @@ module _ (places : List ℕ) (distinct : AreDistinct places) {f : SetFunction} (
     rows_stay u lu none = row_stays u lu (λ is. none (rw is (finds_s places distinct family law sized base s t ls lt apart a some after claimed found rows h all of_s hs))) none
 
 -- the same, told at the base that came
-module _ (places : List ℕ) (distinct : AreDistinct places) {f : SetFunction} (family : IsFamily (length places) f) (law : IsSubmodular (length places) f) (s t : ℕ) (ls : s < length places) (lt : t < length places) (apart : s ≢ t)
-    (x y : List ℤ) (entries : length y ≡ length places) (base : IsBase f y) (m : IsExchanged f x y s t) (claimed found : Bits) (rows : List Bits) (h : AreClaims places f x claimed rows) (nothing : (e : ℕ) → bit_in claimed e ≢ 1)
-    (all : AreDepending places rows t (length places) found) (of_s : Bits) (hs : IsRow places f y s of_s)
-    (others : Bits) (out : bit_in others (get_or places s 0) ≡ 0) (same : (e : ℕ) → e ≢ get_or places s 0 → bit_in others e ≡ bit_in found e) where
-  sized : length x ≡ length places
-  sized = sym (length-exchanged x s t m.amount) ∙ (ap length (sym m.is) ∙ entries)
-
-  after : IsBase f (exchanged x s t m.amount)
-  after = subst (IsBase f) m.is base
-
-  row : IsRow places f (exchanged x s t m.amount) s of_s
-  row = subst (λ z. IsRow places f z s of_s) m.is hs
-
+module _ {places : List ℕ} {f : SetFunction} {s t : ℕ} {x y : List ℤ} {claimed found : Bits} {rows : List Bits} (r : IsRaising places f s t x y claimed found rows) (nothing : (e : ℕ) → bit_in claimed e ≢ 1)
+    (of_s : Bits) (hs : IsRow places f y s of_s) (others : Bits) (out : bit_in others (get_or places s 0) ≡ 0) (same : (e : ℕ) → e ≢ get_or places s 0 → bit_in others e ≡ bit_in found e) where
   pub lead_to_s : (u : ℕ) → u < length places → bit_in others (get_or places u 0) ≡ 1 → Depends f y u s
-  lead_to_s u lu one = subst (λ z. Depends f z u s) (sym m.is)
-      (others_lead places distinct family law sized m.base s t ls lt apart m.amount m.some after claimed found rows h nothing all of_s row others out same u lu one)
+  lead_to_s u lu one = subst (λ z. Depends f z u s) (sym r.moved.is)
+      (others_lead places r.distinct r.family r.law (sized_before r) r.moved.base s t r.raised r.lowered r.apart r.moved.amount r.moved.some (base_after r) claimed found rows r.claims nothing r.all of_s (row_after r of_s hs) others out same u lu one)
 
-  module _ (mid : List Bits) (long : length rows ≡ length places) (h' : AreAsked places f y others (length places) (set rows s of_s) mid) where
-    asked : AreAsked places f (exchanged x s t m.amount) others (length places) (set rows s of_s) mid
-    asked = subst (λ z. AreAsked places f z others (length places) (set rows s of_s) mid) m.is h'
+  module _ (mid : List Bits) (h : AreAsked places f y others (length places) (set rows s of_s) mid) where
+    asked : AreAsked places f (exchanged x s t r.moved.amount) others (length places) (set rows s of_s) mid
+    asked = subst (λ z. AreAsked places f z others (length places) (set rows s of_s) mid) r.moved.is h
 
     pub exchange_asked : AreClaims places f y claimed mid
-    exchange_asked = subst (λ z. AreClaims places f z claimed mid) (sym m.is)
-        (claims_at_once places distinct family law sized m.base s t ls lt apart m.amount m.some after claimed found rows h nothing all of_s row others out same mid long asked)
+    exchange_asked = subst (λ z. AreClaims places f z claimed mid) (sym r.moved.is)
+        (claims_at_once places r.distinct r.family r.law (sized_before r) r.moved.base s t r.raised r.lowered r.apart r.moved.amount r.moved.some (base_after r) claimed found rows r.claims nothing r.all of_s (row_after r of_s hs) others out same mid r.count asked)
 
     pub others_kept : (u : ℕ) → u < length places → bit_in found (get_or places u 0) ≢ 1 → set_at mid u ≡ set_at rows u
-    others_kept = rows_stay places distinct family law sized m.base s t ls lt apart m.amount m.some after claimed found rows h nothing all of_s row others out same mid long asked
+    others_kept = rows_stay places r.distinct r.family r.law (sized_before r) r.moved.base s t r.raised r.lowered r.apart r.moved.amount r.moved.some (base_after r) claimed found rows r.claims nothing r.all of_s (row_after r of_s hs) others out same mid r.count asked

@@ -3,7 +3,7 @@ use Rattle.std.proofs.Common.{◌≡◌, ◌≢◌, ◌⊎◌, inl, inr, ℕ, �
 use Rattle.std.specs.List.{All}
 use Rattle.std.proofs.lemmas.Bool.{cases_eq}
 use Rattle.std.proofs.lemmas.Int.{ints}
-use Rattle.std.proofs.lemmas.List.{length-map, set-get_or}
+use Rattle.std.proofs.lemmas.List.{get_or_default, length-map, set-get_or}
 use Rattle.sfm_spec.specs.Sets.{IsPlaced, AreDistinct}
 use Rattle.sfm_spec.specs.Bounds.{IsEntry}
 use Rattle.sfm_spec.specs.Terms.{SetFunction, times, IsFamily, IsSubmodular}
@@ -27,7 +27,7 @@ use Rattle.sfm_exchange.specs.Unions.{AreRenewed, AreUnions, AreWidened, HaveLin
 use Rattle.sfm_exchange.proofs.Basing.{is_based}
 use Rattle.sfm_exchange.proofs.Claiming.{claims_asked, rows_claimed}
 use Rattle.sfm_exchange.proofs.Exchanging.{bases_set}
-use Rattle.sfm_exchange.proofs.Noting.{notes_set, sized_at, sized_meanings, sized_set, there_is}
+use Rattle.sfm_exchange.proofs.Noting.{notes_set, sized_at, sized_meanings, sized_read, sized_set, there_is}
 use Rattle.sfm_exchange.proofs.Reaching.{steps_table}
 use Rattle.sfm_exchange.proofs.Telling.{step_told}
 use Rattle.sfm_exchange.proofs.Uniting.{have_rows, links_told, unions_renewed, unions_widened}
@@ -109,6 +109,13 @@ module _ {X N : Type 0} {places : X → List ℕ} {value : X → SetFunction} {s
     -- there is a row for each of its places
     pub rows_long : length (table_at graph.rows.items i) ≡ length (places term)
     rows_long = sized_at places terms graph.rows.items i term h.sized_rows l is
+
+    -- also as they are read
+    pub rows_shown : (shown : List Bits) → shown ≡ get_or graph.rows.items i shown → (shown ≡ table_at graph.rows.items i) × (length shown ≡ length (places term))
+    rows_shown shown e = (e ∙ get_or_default graph.rows.items i shown [] (rw rows_count l), sized_read places terms graph.rows.items i term shown h.sized_rows l is e)
+
+    pub claimed_shown : (shown : Bits) → shown ≡ get_or graph.claimed.items i shown → shown ≡ set_at graph.claimed.items i
+    claimed_shown shown e = e ∙ get_or_default graph.claimed.items i shown blank_bits (rw h.claim_count l)
 
     -- and they are claims, where none is claimed the true ones
     pub claims_at : AreClaims (places term) (times q (value term)) (base_at graph.bases i) (set_at graph.claimed.items i) (table_at graph.rows.items i)

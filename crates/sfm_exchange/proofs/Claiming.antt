@@ -152,31 +152,46 @@ module _ (places : List ℕ) (distinct : AreDistinct places) {f : SetFunction} (
     claims_more mid long j claimed' out = claims_after (set_at rows s) (h.claims s ls) mid long j claimed' (λ e ne none. (out e ne none).0)
         (λ u lu none ne row one. absurd ((out (get_or places u 0) (λ is. ne (distinct u s lu ls is)) none).1 one))
 
+-- an exchange that raises s and lowers t has led from the base x to the base y: the rows of x are claims, and the places are found that
+-- depended on t
+pub record IsRaising (places : List ℕ) (f : SetFunction) (s t : ℕ) (x y : List ℤ) (claimed found : Bits) (rows : List Bits) : Type 0 where
+  pub distinct : AreDistinct places
+  pub family : IsFamily (length places) f
+  pub law : IsSubmodular (length places) f
+  pub raised : s < length places
+  pub lowered : t < length places
+  pub apart : s ≢ t
+  pub entries : length y ≡ length places
+  pub base : IsBase f y
+  pub moved : IsExchanged f x y s t
+  pub claims : AreClaims places f x claimed rows
+  pub count : length rows ≡ length places
+  pub all : AreDepending places rows t (length places) found
+
 -- the same, told at the base that came
-module _ (places : List ℕ) (distinct : AreDistinct places) {f : SetFunction} (family : IsFamily (length places) f) (law : IsSubmodular (length places) f) (s t : ℕ) (ls : s < length places) (lt : t < length places) (apart : s ≢ t)
-    (x y : List ℤ) (entries : length y ≡ length places) (base : IsBase f y) (m : IsExchanged f x y s t) (claimed found : Bits) (rows : List Bits) (h : AreClaims places f x claimed rows)
-    (all : AreDepending places rows t (length places) found) (of_s : Bits) (hs : IsRow places f y s of_s) (long : length rows ≡ length places) where
-  sized : length x ≡ length places
-  sized = sym (length-exchanged x s t m.amount) ∙ (ap length (sym m.is) ∙ entries)
+module _ {places : List ℕ} {f : SetFunction} {s t : ℕ} {x y : List ℤ} {claimed found : Bits} {rows : List Bits} (r : IsRaising places f s t x y claimed found rows) where
+  pub sized_before : length x ≡ length places
+  sized_before = sym (length-exchanged x s t r.moved.amount) ∙ (ap length (sym r.moved.is) ∙ r.entries)
 
-  after : IsBase f (exchanged x s t m.amount)
-  after = subst (IsBase f) m.is base
+  pub base_after : IsBase f (exchanged x s t r.moved.amount)
+  base_after = subst (IsBase f) r.moved.is r.base
 
-  row : IsRow places f (exchanged x s t m.amount) s of_s
-  row = subst (λ z. IsRow places f z s of_s) m.is hs
+  module _ (of_s : Bits) (hs : IsRow places f y s of_s) where
+    pub row_after : IsRow places f (exchanged x s t r.moved.amount) s of_s
+    row_after = subst (λ z. IsRow places f z s of_s) r.moved.is hs
 
-  pub exchange_still : (mid : List Bits) → AreJoined places found of_s (get_or places s 0) (length places) rows mid → bit_in of_s (get_or places t 0) ≡ 1
-      → (claimed' : Bits) → ((e : ℕ) → e ≢ get_or places s 0 → bit_in claimed' e ≡ bit_in claimed e) → AreClaims places f y claimed' (set mid s of_s)
-  exchange_still mid j bit claimed' same = subst (λ z. AreClaims places f z claimed' (set mid s of_s)) (sym m.is)
-      (claims_still places distinct family law sized m.base s t ls lt apart m.amount m.some after claimed found rows h all of_s row mid long j bit claimed' same)
+    pub exchange_still : (mid : List Bits) → AreJoined places found of_s (get_or places s 0) (length places) rows mid → bit_in of_s (get_or places t 0) ≡ 1
+        → (claimed' : Bits) → ((e : ℕ) → e ≢ get_or places s 0 → bit_in claimed' e ≡ bit_in claimed e) → AreClaims places f y claimed' (set mid s of_s)
+    exchange_still mid j bit claimed' same = subst (λ z. AreClaims places f z claimed' (set mid s of_s)) (sym r.moved.is)
+        (claims_still places r.distinct r.family r.law sized_before r.moved.base s t r.raised r.lowered r.apart r.moved.amount r.moved.some base_after claimed found rows r.claims r.all of_s row_after mid r.count j bit claimed' same)
 
-  pub exchange_more : (mid : List Bits) → AreJoined places found (set_at rows s) (get_or places s 0) (length places) rows mid
-      → (claimed' : Bits) → ((e : ℕ) → e ≢ get_or places s 0 → bit_in claimed' e ≢ 1 → (bit_in claimed e ≢ 1) × (bit_in found e ≢ 1)) → AreClaims places f y claimed' (set mid s of_s)
-  exchange_more mid j claimed' out = subst (λ z. AreClaims places f z claimed' (set mid s of_s)) (sym m.is)
-      (claims_more places distinct family law sized m.base s t ls lt apart m.amount m.some after claimed found rows h all of_s row mid long j claimed' out)
+    pub exchange_more : (mid : List Bits) → AreJoined places found (set_at rows s) (get_or places s 0) (length places) rows mid
+        → (claimed' : Bits) → ((e : ℕ) → e ≢ get_or places s 0 → bit_in claimed' e ≢ 1 → (bit_in claimed e ≢ 1) × (bit_in found e ≢ 1)) → AreClaims places f y claimed' (set mid s of_s)
+    exchange_more mid j claimed' out = subst (λ z. AreClaims places f z claimed' (set mid s of_s)) (sym r.moved.is)
+        (claims_more places r.distinct r.family r.law sized_before r.moved.base s t r.raised r.lowered r.apart r.moved.amount r.moved.some base_after claimed found rows r.claims r.all of_s row_after mid r.count j claimed' out)
 
-  -- where a place was not found its row stays
-  pub others_stay : (more : Bits) (mid : List Bits) → AreJoined places found more (get_or places s 0) (length places) rows mid → (u : ℕ) → u < length places → bit_in found (get_or places u 0) ≢ 1 → set_at (set mid s of_s) u ≡ set_at rows u
-  others_stay more mid j u lu none =
-      let one = finds_s places distinct family law sized m.base s t ls lt apart m.amount m.some after claimed found rows h all of_s row in
-      get_or-set_other mid s u of_s blank_bits (λ same. none (rw same one)) ∙ j.others u lu none
+    -- where a place was not found its row stays
+    pub others_stay : (more : Bits) (mid : List Bits) → AreJoined places found more (get_or places s 0) (length places) rows mid → (u : ℕ) → u < length places → bit_in found (get_or places u 0) ≢ 1 → set_at (set mid s of_s) u ≡ set_at rows u
+    others_stay more mid j u lu none =
+        let one = finds_s places r.distinct r.family r.law sized_before r.moved.base s t r.raised r.lowered r.apart r.moved.amount r.moved.some base_after claimed found rows r.claims r.all of_s row_after in
+        get_or-set_other mid s u of_s blank_bits (λ same. none (rw same one)) ∙ j.others u lu none

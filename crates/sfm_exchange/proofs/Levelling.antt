@@ -70,7 +70,7 @@ first_level n unions z over left is others = record {
   zero_of : (k : ℕ) → k < 1 → k ≡ 0
   zero_of k l = omega arith
 
-module _ (n : ℕ) (unions : List Bits) (z : List ℤ) (levels : List Bits) (level left left' next : Bits) (h : IsLevelling n unions z levels level left) (to : IsNextTo unions level left left' next n) where
+module _ {n : ℕ} {unions : List Bits} {z : List ℤ} {levels : List Bits} {level left left' next : Bits} (h : IsLevelling n unions z levels level left) (to : IsNextTo unions level left left' next n) where
   -- a place that leads into the last level is in a level, or in the next
   leads_next : (k e : ℕ) → k + 1 ≡ length levels → e < n → LeadsInto unions e (set_at levels k) → ((j : ℕ) × (j < length levels) × (bit_in (set_at levels j) e ≡ 1)) ⊎ (bit_in next e ≡ 1)
   leads_next k e is le into = at (level_or_none levels e) where

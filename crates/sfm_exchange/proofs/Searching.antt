@@ -1,5 +1,5 @@
 -- A search along links, one place after the other: links that rows tell, or the arcs of the graph.
-use Rattle.std.proofs.Common.{◌≡◌, ◌≢◌, ⊎_elim, ℕ, ◌+◌, ◌*◌, ◌-◌, ◌<◌, ◌≤◌, max, Bool, List, length, ℤ, subst, ◌↔◌, arith}
+use Rattle.std.proofs.Common.{◌≡◌, ◌≢◌, ⊎_elim, ℕ, ◌+◌, ◌*◌, ◌-◌, ◌<◌, ◌≤◌, Bool, List, length, ℤ, subst, ◌↔◌, arith}
 use Rattle.std.proofs.lemmas.Bool.{cases_eq}
 use Rattle.sfm_spec.specs.Sets.{Has}
 use Rattle.sfm_spec.specs.Progress.{sum_below}
@@ -7,7 +7,7 @@ use Rattle.sfm_spec.specs.Families.{Meaning}
 use Rattle.sfm_spec.proofs.Counts.{sum_below-lt}
 use Rattle.sfm_exchange.specs.declared.bits.Bits.{Bits}
 use Rattle.sfm_exchange.specs.Bits.{bit_in, set_at}
-use Rattle.sfm_exchange.specs.Reached.{AreReached, AreWalked}
+use Rattle.sfm_exchange.specs.Reached.{AreReached, AreWalked, IsTakenIn}
 use Rattle.sfm_exchange.specs.Unions.{IsArc}
 use Rattle.sfm_exchange.proofs.Words.{bit_in-lt}
 
@@ -63,51 +63,56 @@ walks_done terms n q bases firsts found ahead h none = record {
   least = λ s begins closed e one. h.least s begins (λ from to has (i, is). closed from (record { to = to; term = i }) is has) e one;
 }
 
--- one place more is looked at: `more` are the places that it leads to and that were not found
-module _ (n : ℕ) (Link : ℕ → ℕ → Type 0) (firsts found ahead : Bits) (h : IsSearching n Link firsts found ahead) (p : ℕ) (is : bit_in ahead p ≡ 1)
-    (row : Bits) (tells : (t : ℕ) → (bit_in row t ≡ 1) ↔ Link p t) (links : (t : ℕ) → Link p t → t < n) (rest more found' ahead' : Bits)
-    (out : bit_in rest p ≡ 0) (others : (e : ℕ) → e ≢ p → bit_in rest e ≡ bit_in ahead e)
-    (fresh : (e : ℕ) → bit_in more e ≡ bit_in row e - bit_in found e)
-    (grown : (e : ℕ) → bit_in found' e ≡ max (bit_in found e) (bit_in more e))
-    (next : (e : ℕ) → bit_in ahead' e ≡ max (bit_in rest e) (bit_in more e)) where
+-- one place more is looked at: what its row has is taken in
+pub record IsLook (n : ℕ) (Link : ℕ → ℕ → Type 0) (firsts found ahead : Bits) (p : ℕ) (row rest found' ahead' : Bits) : Type 0 where
+  pub so_far : IsSearching n Link firsts found ahead
+  pub chosen : bit_in ahead p ≡ 1
+  pub tells : (t : ℕ) → (bit_in row t ≡ 1) ↔ Link p t
+  pub links : (t : ℕ) → Link p t → t < n
+  pub out : bit_in rest p ≡ 0
+  pub others : (e : ℕ) → e ≢ p → bit_in rest e ≡ bit_in ahead e
+  pub taken : IsTakenIn row found rest found' ahead'
+
+module _ {n : ℕ} {Link : ℕ → ℕ → Type 0} {firsts found ahead : Bits} {p : ℕ} {row rest found' ahead' : Bits} (k : IsLook n Link firsts found ahead p row rest found' ahead') where
   has : bit_in found p ≡ 1
-  has = let i = h.inside p in let l = bit_in-lt found p in omega (arith, i, l, is)
+  has = let i = k.so_far.inside p in let l = bit_in-lt found p in let is = k.chosen in omega (arith, i, l, is)
 
   new_or_old : (e : ℕ) → bit_in found' e ≡ 1 → bit_in found e ≢ 1 → Link p e
-  new_or_old e one old = (tells e).0 (let g = grown e in let f = fresh e in let l = bit_in-lt row e in let lf = bit_in-lt found e in omega (arith, one, old, g, f, l, lf))
+  new_or_old e one old = (k.tells e).0 (let g = k.taken.grown e in let l = bit_in-lt row e in let lf = bit_in-lt found e in omega (arith, one, old, g, l, lf))
 
   kept : (e : ℕ) → bit_in found e ≡ 1 → bit_in found' e ≡ 1
-  kept e one = let g = grown e in let f = fresh e in let l = bit_in-lt row e in omega (arith, one, g, f, l)
+  kept e one = let g = k.taken.grown e in let l = bit_in-lt row e in omega (arith, one, g, l)
 
   pub search_more : IsSearching n Link firsts found' ahead'
   search_more = record {
-    below = λ e one. ⊎_elim (λ old. h.below e old) (λ ne. links e (new_or_old e one ne)) (cases_eq (bit_in found e) 1);
-    begins = λ e one. kept e (h.begins e one);
-    inside = λ e. ⊎_elim
-        (λ same. rw same (let g = grown p in let n = next p in omega (arith, g, n, out)))
-        (λ ne. let g = grown e in let n = next e in let o = others e ne in let i = h.inside e in omega (arith, g, n, o, i)) (cases_eq e p);
+    below = λ e one. ⊎_elim (λ old. k.so_far.below e old) (λ ne. k.links e (new_or_old e one ne)) (cases_eq (bit_in found e) 1);
+    begins = λ e one. kept e (k.so_far.begins e one);
+    inside = λ e. let g = k.taken.grown e in let n = k.taken.next e in ⊎_elim
+        (λ same. let o : bit_in rest e ≡ 0 = rw same k.out in omega (arith, g, n, o))
+        (λ ne. let o = k.others e ne in let i = k.so_far.inside e in omega (arith, g, n, o, i)) (cases_eq e p);
     looked = looked;
-    least = λ s begins steps e one. ⊎_elim (λ old. h.least s begins steps e old) (λ ne. steps p e (h.least s begins steps p has) (new_or_old e one ne)) (cases_eq (bit_in found e) 1);
+    least = λ s begins steps e one. ⊎_elim (λ old. k.so_far.least s begins steps e old) (λ ne. steps p e (k.so_far.least s begins steps p has) (new_or_old e one ne)) (cases_eq (bit_in found e) 1);
   } where
     looked : (e t : ℕ) → bit_in found' e ≡ 1 → bit_in ahead' e ≡ 0 → Link e t → bit_in found' t ≡ 1
     looked e t one none link = ⊎_elim
-        (λ same. let l : Link p t = subst (λ k. Link k t) same link in let b = (tells t).1 l in let g = grown t in let f = fresh t in let l = bit_in-lt found t in omega (arith, b, g, f, l))
+        (λ same. let l : Link p t = subst (λ z. Link z t) same link in let b = (k.tells t).1 l in let g = k.taken.grown t in let l = bit_in-lt found t in omega (arith, b, g, l))
         (λ ne.
-        let n = next e in
-        let o = others e ne in
-        let g = grown e in
+        let n = k.taken.next e in
+        let o = k.others e ne in
+        let g = k.taken.grown e in
         let l = bit_in-lt found e in
-        kept t (h.looked e t (omega (arith, one, none, n, g, l)) (omega (arith, none, n, o)) link))
+        let lr = bit_in-lt row e in
+        kept t (k.so_far.looked e t (omega (arith, one, none, n, g, l, lr)) (omega (arith, none, n, o)) link))
         (cases_eq e p)
 
   pub search_shrinks : p < 256 → sum_below 256 (work found' ahead') < sum_below 256 (work found ahead)
   search_shrinks lp = sum_below-lt 256 (work found' ahead') (work found ahead) p
       (λ e l. ⊎_elim
       (λ same. rw same (less))
-      (λ ne. let g = grown e in let n = next e in let o = others e ne in let f = fresh e in let i = h.inside e in let lf = bit_in-lt found e in let lu = bit_in-lt row e in omega (arith, g, n, o, f, i, lf, lu)) (cases_eq e p))
+      (λ ne. let g = k.taken.grown e in let n = k.taken.next e in let o = k.others e ne in let i = k.so_far.inside e in let lf = bit_in-lt found e in let lu = bit_in-lt row e in omega (arith, g, n, o, i, lf, lu)) (cases_eq e p))
       lp strictly where
         strictly : work found' ahead' p < work found ahead p
-        strictly = let g = grown p in let n = next p in let f = fresh p in let lu = bit_in-lt row p in omega (arith, g, n, f, out, is, has, lu)
+        strictly = let g = k.taken.grown p in let n = k.taken.next p in let lu = bit_in-lt row p in let out = k.out in let is = k.chosen in omega (arith, g, n, out, is, has, lu)
 
         less : work found' ahead' p ≤ work found ahead p
         less = let s = strictly in omega (arith, s)

@@ -1,13 +1,13 @@
 -- Rows turned round, a bit at a time.
-use Rattle.std.proofs.Common.{◌≡◌, ◌≢◌, ⊎_elim, ℕ, ◌+◌, ◌-◌, ◌<◌, ◌≤◌, max, List, length, set, refl, sym, ap, ◌∙◌, arith, length-set, get_or-set_same, get_or-set_other}
+use Rattle.std.proofs.Common.{◌≡◌, ◌≢◌, ⊎_elim, ℕ, ◌+◌, ◌-◌, ◌<◌, ◌≤◌, max, List, length, set, ℤ, refl, sym, ap, ◌∙◌, arith, length-set, get_or-set_same, get_or-set_other}
 use Rattle.std.proofs.lemmas.Bool.{cases_eq, cases_lt}
 use Rattle.std.proofs.lemmas.List.{get_or_past}
 use Rattle.sfm_exchange.specs.declared.bits.Bits.{Bits}
 use Rattle.sfm_exchange.specs.Bits.{bit_in, set_at, blank_bits}
 use Rattle.sfm_exchange.specs.Levels.{LeadsInto}
-use Rattle.sfm_exchange.specs.Turned.{AreTurned, IsLedBack}
+use Rattle.sfm_exchange.specs.Turned.{AreNext, AreTurned, IsLedBack}
 use Rattle.sfm_exchange.proofs.Words.{bit_in-lt, within_words}
-use Rattle.sfm_exchange.proofs.Levelling.{IsNextTo}
+use Rattle.sfm_exchange.proofs.Levelling.{IsLevelling, IsNextTo}
 
 -- the bits at e have become b for the places of a row but those ahead; all other bits stay
 pub record IsTurning (b e : ℕ) (row ahead : Bits) (old new : List Bits) : Type 0 where
@@ -138,12 +138,10 @@ turned_all k rows back h all = record {
 }
 
 -- the next level, by the sets of those that lead to a place
-pub next_to : (rows back : List Bits) (level old left next : Bits) (n : ℕ) → AreTurned rows back → ((t : ℕ) → bit_in level t ≡ 1 → t < 256) → ((e : ℕ) → bit_in old e ≡ 1 → e < n)
-    → ((e : ℕ) → bit_in left e + bit_in next e ≡ bit_in old e) → ((e : ℕ) → bit_in next e ≡ 1 → IsLedBack back e level) → ((e : ℕ) → IsLedBack back e level → bit_in left e ≡ 0)
-    → IsNextTo rows level old left next n
-next_to rows back level old left next n h level_in inside parted leads closed = record {
-  parted = parted;
-  below = λ e one. inside e (let p = parted e in let l = bit_in-lt old e in omega (arith, p, l, one));
-  leads = λ e one. led_back rows back level e h (leads e one);
-  closed = λ e l into. closed e (leads_back rows back level e h level_in into);
+pub next_to : {rows back : List Bits} {level left left' next : Bits} {n : ℕ} {z : List ℤ} {levels : List Bits} → AreTurned rows back → IsLevelling n rows z levels level left → AreNext back level left left' next → IsNextTo rows level left left' next n
+next_to {left = left} h so_far a = record {
+  parted = a.parted;
+  below = λ e one. ((so_far.rest e).0 (let p = a.parted e in let l = bit_in-lt left e in omega (arith, p, l, one))).0;
+  leads = λ e one. led_back _ _ _ e h (a.leads e one);
+  closed = λ e l into. a.closed e (leads_back _ _ _ e h a.inside into);
 }

@@ -1,6 +1,6 @@
 -- Sets of places as words of 64 bits.
-use Rattle.std.proofs.Common.{◌≡◌, ◌≢◌, ◌⊎◌, ℕ, ◌+◌, ◌*◌, ◌<◌, ◌≤◌, ◌/◌, ◌%◌, ◌^◌, List, length, get_or, set, refl, sym, ap, ◌∙◌, arith, inl, inr, get_or-set_same, get_or-set_other}
-use Rattle.std.proofs.lemmas.Bool.{cases_eq}
+use Rattle.std.proofs.Common.{◌≡◌, ◌≢◌, ◌⊎◌, ℕ, ◌+◌, ◌*◌, ◌<◌, ◌≤◌, ◌/◌, ◌%◌, ◌^◌, List, length, get_or, set, refl, sym, ap, ◌∙◌, arith, inl, inr, ⊎_elim, get_or-set_same, get_or-set_other}
+use Rattle.std.proofs.lemmas.Bool.{cases_eq, cases_lt}
 use Rattle.std.proofs.lemmas.List.{get_or_past}
 use Rattle.std.proofs.lemmas.Nat.Bits.{bit_at_and, bit_at-lt, bit_at-zero, bit_at-trailing_zeros}
 use Rattle.std.specs.Int.{bit_at, trailing_zeros}
@@ -33,6 +33,14 @@ word_bit-other words e k w l ne h = at (cases_eq (k / 64) (e / 64)) where
 pub word_bit-here : (words : List ℕ) (e w : ℕ) → e / 64 < length words → word_bit (set words (e / 64) w) e ≡ bit_at w (e % 64)
 word_bit-here words e w l = ap (λ z. bit_at z (e % 64)) (get_or-set_same words (e / 64) w 0 l)
 
+-- the same of sets: where the word of e is w afterwards
+module _ (s s' : Bits) (e w : ℕ) (l : e / 64 < length s.words) (is : s'.words ≡ set s.words (e / 64) w) where
+  pub bit-here : bit_in s' e ≡ bit_at w (e % 64)
+  bit-here = bit_in-words s' e ∙ (ap (λ z. word_bit z e) is ∙ word_bit-here s.words e w l)
+
+  pub bit-other : (k : ℕ) → k ≢ e → (k % 64 ≢ e % 64 → bit_at w (k % 64) ≡ bit_at (get_or s.words (e / 64) 0) (k % 64)) → bit_in s' k ≡ bit_in s k
+  bit-other k ne h = bit_in-words s' k ∙ (ap (λ z. word_bit z k) is ∙ (word_bit-other s.words e k w l ne h ∙ sym (bit_in-words s k)))
+
 -- the place of a bit of word k
 pub word_of : (k t : ℕ) → t < 64 → ((64 * k + t) / 64 ≡ k) × ((64 * k + t) % 64 ≡ t)
 word_of k t l = (omega arith, omega arith)
@@ -51,6 +59,17 @@ apart_by_words s o e z hs ho =
 -- past the words there is no place
 pub within_words : (s : Bits) (e : ℕ) → length s.words ≤ e / 64 → bit_in s e ≡ 0
 within_words s e past = bit_in-words s e ∙ (ap (λ w. bit_at w (e % 64)) (get_or_past s.words (e / 64) 0 past) ∙ bit_at-zero (e % 64))
+
+-- where the words of a set are told by those of two sets of four words, and past these they are those of the first, so are its places
+pub by_words : (F : ℕ → ℕ → ℕ) (r s o : Bits) (e : ℕ) → F 0 0 ≡ 0 → length s.words ≡ 4 → length o.words ≡ 4 → (e / 64 < 4 → word_bit r.words e ≡ F (word_bit s.words e) (word_bit o.words e))
+    → (4 ≤ e / 64 → get_or r.words (e / 64) 0 ≡ get_or s.words (e / 64) 0) → bit_in r e ≡ F (bit_in s e) (bit_in o e)
+by_words F r s o e zero' ls lo told kept = ⊎_elim
+    (λ l. rw (bit_in-words r e, bit_in-words s e, bit_in-words o e) (told l))
+    (λ past.
+    let none = within_words s e (omega (arith, ls, past)) in
+    let same = bit_in-words r e ∙ (ap (λ w. bit_at w (e % 64)) (kept past) ∙ (sym (bit_in-words s e) ∙ none)) in
+    rw (same, none, within_words o e (omega (arith, lo, past))) (sym zero'))
+    (cases_lt (e / 64) 4)
 
 -- the lowest bit that a word has in common is a common place, and no lesser place of that word is
 pub common_first : (s o : Bits) (k : ℕ) → bit_and (get_or s.words k 0) (get_or o.words k 0) ≢ 0 → bit_and (get_or s.words k 0) (get_or o.words k 0) < 2 ^ 64

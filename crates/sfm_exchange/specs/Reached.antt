@@ -1,11 +1,16 @@
 -- The places that links, or walks, lead to from some first places.
-use Rattle.std.specs.Prelude.{◌≡◌, ◌↔◌, ℕ, ◌<◌, Bool, List, length, ℤ}
+use Rattle.std.specs.Prelude.{◌≡◌, ◌↔◌, ℕ, ◌-◌, ◌<◌, max, Bool, List, length, ℤ}
 use Rattle.sfm_spec.specs.Sets.{Has}
 use Rattle.sfm_spec.specs.Families.{Meaning}
 use Rattle.sfm_spec.specs.Reach.{IsClosed}
 use Rattle.sfm_spec.specs.Walks.{Step, IsStep}
 use Rattle.sfm_exchange.specs.declared.bits.Bits.{Bits}
 use Rattle.sfm_exchange.specs.Bits.{bit_in, set_at}
+
+-- the places of a row are found, and those that were not are ahead
+pub record IsTakenIn (row found ahead found' ahead' : Bits) : Type 0 where
+  pub grown : (e : ℕ) → bit_in found' e ≡ max (bit_in found e) (bit_in row e)
+  pub next : (e : ℕ) → bit_in ahead' e ≡ max (bit_in ahead e) (bit_in row e - bit_in found e)
 
 -- the least set that has the first places and that no link leaves
 pub record AreReached (unions : List Bits) (firsts found : Bits) : Type 0 where

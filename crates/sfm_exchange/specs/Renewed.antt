@@ -5,6 +5,7 @@ use Rattle.sfm_exchange.specs.declared.bits.Bits.{Bits}
 use Rattle.sfm_exchange.specs.declared.renewing.Changes.{Changes}
 use Rattle.sfm_exchange.specs.declared.renewing.Raised.{Raised}
 use Rattle.sfm_exchange.specs.Bits.{bit_in, set_at}
+use Rattle.sfm_exchange.specs.Claimed.{AreClaims}
 use Rattle.sfm_exchange.specs.Reach.{IsRow}
 
 -- a base from which another vector comes by raising s and lowering t
@@ -52,3 +53,9 @@ pub record AreShared (places : List ℕ) (shared : Bits) (raised : Raised) (k : 
   pub count : length after ≡ length before
   pub shared_is : (u : ℕ) → u < k → bit_in shared (slice_index_or places u 0) ≡ 1 → IsJoined raised.row raised.row raised.place (slice_index_or places u 0) (set_at after u)
   pub others : (u : ℕ) → u < length places → bit_in shared (slice_index_or places u 0) ≢ 1 → set_at after u ≡ set_at before u
+
+-- the rows of a term at the base that came by an exchange: claims, which are true where their places are not among the claimed
+-- ones, and the changes tell which of them are others than before
+pub record AreRenewed (places : List ℕ) (f : SetFunction) (x : List ℤ) (claimed : Bits) (told : Changes) (before after : List Bits) : Type 0 where
+  pub claims : AreClaims places f x claimed after
+  pub changes : AreChanges places told before after

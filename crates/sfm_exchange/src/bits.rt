@@ -1,6 +1,6 @@
 // Sets of places below 256, as four words of 64 bits: the rows of what each place reaches, and the levels of a search. A
 // set is a plain value and takes no memory of its own, and two sets are joined or compared a word at a time.
-ghost use Rattle.std.specs.Prelude.{◌≡◌, ◌≢◌, ◌↔◌, ℕ, ◌-◌, ◌<◌, max, true, false, IsTrue, MatchOption};
+ghost use Rattle.std.specs.Prelude.{◌≡◌, ◌≢◌, ◌↔◌, ℕ, ◌-◌, ◌<◌, max, true, false, IsTrue, MatchOption, if◌then◌else◌};
 ghost use Rattle.sfm_exchange.specs.Bits.{bit_in};
 
 /// A set of places below 256.
@@ -52,6 +52,19 @@ impl Bits {
         ensures others { (k : ℕ) → k ≢ e → bit_in self.new k ≡ bit_in self.old k }
     {
         self.words[e / 64] &= !(1 << (e % 64));
+    }
+
+    /// Puts the place e in, or takes it out.
+    pub fn write(&mut self, e: usize, put: bool)
+        requires { e < 256 }
+        ensures written { bit_in self.new e ≡ (if put then 1 else 0) }
+        ensures others { (k : ℕ) → k ≢ e → bit_in self.new k ≡ bit_in self.old k }
+    {
+        if put {
+            self.insert(e);
+        } else {
+            self.remove(e);
+        }
     }
 
     /// Puts each place of the other set in.

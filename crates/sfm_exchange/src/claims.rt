@@ -19,6 +19,7 @@ use crate::bits::{Bits, only};
 use crate::graph::Graph;
 use crate::path::Hop;
 use crate::reach::{Based, row_by};
+use crate::reached::take_in;
 use crate::unions::renew;
 use sfm_base::Memory;
 use sfm_law::Term;
@@ -176,10 +177,7 @@ pub fn walked_from<T: Term>(
         ahead.remove(e);
         ask_place(alloc, graph, terms, q, e)?;
         let row = &graph.unions[e];
-        let mut more = *row;
-        more.remove_all(&found);
-        found.union_with(&more);
-        ahead.union_with(&more);
+        take_in(row, &mut found, &mut ahead);
     }
     Ok(found)
 }

@@ -6,6 +6,7 @@
 // the fact is `IsClaimed`.
 ghost use Rattle.std.specs.Prelude.{◌≡◌, map, OnOk, IfOk};
 ghost use Rattle.std.specs.List.{All};
+ghost use Rattle.sfm_spec.specs.Sets.{IsPlaced};
 ghost use Rattle.sfm_spec.specs.Bounds.{AreBounded, IsEntry, IsFactor};
 ghost use Rattle.sfm_spec.specs.Families.{meanings, AreBases};
 ghost use Rattle.sfm_exchange.specs.Graph.{IsGraph, IsShaped};
@@ -59,21 +60,24 @@ pub fn graph_at<T: Term>(
     ensures graph { IfOk result (IsGraph T.places T.value_of T.fits terms.now n q) }
     ensures bases { IfOk result (λ r. r.bases ≡ bases) }
 {
-    let spots = spots_of(alloc, terms, n)?;
-    let mut rows = blank_rows(alloc, terms)?;
-    let claimed = vec![in alloc; no_bits(); terms.len()]?;
-    let mut notes = notes_of(alloc, terms, q, &bases)?;
-    ask_all(alloc, terms, q, &bases, &mut notes, &mut rows)?;
-    let unions = unions_of(alloc, &spots, &rows)?;
-    let back = turned_of(alloc, &unions)?;
+    let mut graph = blank_graph(alloc, terms, n)?;
+    restart(alloc, &mut graph, terms, n, q, bases)?;
+    Ok(graph)
+}
+
+// The lists of a graph of the terms over n places, with nothing in them yet but the spots.
+fn blank_graph<T: Term>(alloc: Global, terms: &[T], n: usize) -> Result<Graph<T::Note>, Memory>
+    requires { All (IsPlaced n) (map T.places terms.now) }
+    ensures { IfOk result (IsShaped T.places T.value_of terms.now n) }
+{
     Ok(Graph {
-        bases,
-        spots,
-        notes,
-        rows,
-        claimed,
-        unions,
-        back,
+        bases: Rows::new(alloc),
+        spots: spots_of(alloc, terms, n)?,
+        notes: Vec::new(alloc),
+        rows: blank_rows(alloc, terms)?,
+        claimed: vec![in alloc; no_bits(); terms.len()]?,
+        unions: vec![in alloc; no_bits(); n]?,
+        back: vec![in alloc; no_bits(); 256]?,
     })
 }
 

@@ -2,10 +2,10 @@
 // places not met yet from which a step leads into the level before: the sets of those that lead to its places, joined. Each
 // place is so looked at once. The search stops at the first level that has a place
 // with z < 0; where a level is empty, no walk joins.
-ghost use Rattle.std.specs.Prelude.{◌≡◌, ◌↔◌, ◌+◌, ◌<◌, ◌≤◌, ℕ, ℤ, pos, ◌<ℤ◌, ◌≤ℤ◌, length, IfOk, MatchOption, slice_index_or};
+ghost use Rattle.std.specs.Prelude.{◌≡◌, ◌↔◌, ◌<◌, ◌≤◌, ℕ, ℤ, pos, ◌<ℤ◌, ◌≤ℤ◌, length, IfOk, MatchOption, slice_index_or};
 ghost use Rattle.sfm_exchange.specs.Bits.{bit_in};
 ghost use Rattle.sfm_exchange.specs.Levels.{AreClosed, IsFirst};
-ghost use Rattle.sfm_exchange.specs.Turned.{AreTurned, IsLedBack};
+ghost use Rattle.sfm_exchange.specs.Turned.{AreNext, AreTurned, IsLedBack};
 ghost use Rattle.sfm_exchange.specs.Signs.{AreSigns};
 
 use crate::bits::{Bits, no_bits};
@@ -29,10 +29,7 @@ fn leading_into(back: &[Bits], level: &Bits) -> Bits
 // Takes the places out of those left from which a link leads into a level.
 fn next_level(back: &[Bits], level: &Bits, left: &mut Bits) -> Bits
     requires { length back.now ≡ 256 }
-    ensures parted { (e : ℕ) → bit_in left.new e + bit_in result e ≡ bit_in left.old e }
-    ensures leads { (e : ℕ) → bit_in result e ≡ 1 → IsLedBack back.now e level.now }
-    ensures closed { (e : ℕ) → IsLedBack back.now e level.now → bit_in left.new e ≡ 0 }
-    ensures inside { (t : ℕ) → bit_in level.now t ≡ 1 → t < 256 }
+    ensures { AreNext back.now level.now left.old left.new result }
 {
     let leading = leading_into(back, level);
     let mut next = *left;

@@ -3,7 +3,7 @@
 ghost use Rattle.std.specs.Prelude.{◌≡◌, ◌↔◌, ◌<◌, ◌≤◌, ℕ, List, Bool, length, IfOk};
 ghost use Rattle.sfm_spec.specs.Sets.{Has};
 ghost use Rattle.sfm_exchange.specs.Bits.{bit_in, set_at};
-ghost use Rattle.sfm_exchange.specs.Reached.{AreReached, IsSetOf};
+ghost use Rattle.sfm_exchange.specs.Reached.{AreReached, IsSetOf, IsTakenIn};
 
 use crate::bits::Bits;
 use sfm_base::{Memory, Set};
@@ -20,12 +20,19 @@ pub fn reached_from(unions: &[Bits], firsts: &Bits) -> Bits
     let mut ahead = *firsts;
     while let Some(e) = ahead.first() {
         ahead.remove(e);
-        let mut more = unions[e];
-        more.remove_all(&found);
-        found.union_with(&more);
-        ahead.union_with(&more);
+        take_in(&unions[e], &mut found, &mut ahead);
     }
     found
+}
+
+/// Puts the places of a row to those that are found, and the new ones to those that are still to be looked at.
+pub fn take_in(row: &Bits, found: &mut Bits, ahead: &mut Bits)
+    ensures { IsTakenIn row.now found.old ahead.old found.new ahead.new }
+{
+    let mut more = *row;
+    more.remove_all(found);
+    found.union_with(&more);
+    ahead.union_with(&more);
 }
 
 /// A set of bits as a set of a ground of n places.

@@ -14,7 +14,7 @@ ghost use Rattle.sfm_exchange.specs.Bits.{bit_in, set_at};
 ghost use Rattle.sfm_exchange.specs.Claimed.{AreClaims};
 ghost use Rattle.sfm_exchange.specs.Image.{IsImage};
 ghost use Rattle.sfm_exchange.specs.Reach.{IsRow};
-ghost use Rattle.sfm_exchange.specs.Renewed.{AreAsked, AreChanges, AreDepending, AreJoined, IsExchanged, AreShared, IsJoined, IsRaised};
+ghost use Rattle.sfm_exchange.specs.Renewed.{AreAsked, AreDepending, AreJoined, AreRenewed, AreShared, IsExchanged, IsJoined, IsRaised};
 
 use crate::bits::{Bits, no_bits, only};
 use crate::image::Image;
@@ -248,9 +248,8 @@ pub fn renew_rows<T: Term>(
     requires before { (before : List ℤ) × IsExchanged (times at.now.q (T.value_of at.now.term.now)) before at.now.x.now hop.u hop.v
         × AreClaims (T.places at.now.term.now) (times at.now.q (T.value_of at.now.term.now)) before claimed.old rows.old }
     ensures rows { OnOk result (length rows.new ≡ length rows.old) }
-    ensures claims { OnOk result (AreClaims (T.places at.now.term.now) (times at.now.q (T.value_of at.now.term.now)) at.now.x.now claimed.new rows.new) }
     ensures noted { OnOk result (T.fits at.now.term.now note.new at.now.q at.now.x.now) }
-    ensures changes { IfOk result (λ r. AreChanges (T.places at.now.term.now) r rows.old rows.new) }
+    ensures raised { IfOk result (λ r. AreRenewed (T.places at.now.term.now) (times at.now.q (T.value_of at.now.term.now)) at.now.x.now claimed.new r rows.old rows.new) }
 {
     let places = at.term.elements();
     let to = places[hop.u];

@@ -8,7 +8,25 @@ use Rattle.sfm_exchange.specs.Bits.{bit_in, set_at}
 use Rattle.sfm_exchange.specs.Graph.{IsClaimed}
 use Rattle.sfm_exchange.specs.Spots.{IsSpot, spot_at, spots_at}
 use Rattle.sfm_exchange.proofs.ClaimedGraphs.{arcs_alone, counted, own}
+use Rattle.sfm_exchange.proofs.claims.ask_place.Given as given
 use Rattle.sfm_exchange.proofs.claims.ask_place.Goals as goal
+use Rattle.sfm_exchange.proofs.claims.ask_place.Goals.{After-as_slice-at}
+
+-- the spots of the place stay what they were
+here : (g : given.Over) (c : After-as_slice-at g) → c.as_slice-at.result.now ≡ spots_at c.args.graph.now.spots.items c.args.e
+here g c =
+    let e = c.args.e in
+    let same = c.loop-k.invariant.2 in
+    c.as_slice-at.ensures ∙ (c.index-spots.ensures ∙ (get_or_default c.loop-k.graph.spots.items e c.index-spots.result.now [] (rw same c.requires.place) ∙ ap (λ s. spots_at s e) same))
+
+-- and this is one of them
+below : (g : given.Over) (c : After-as_slice-at g) → c.loop-k.k < length (spots_at c.args.graph.now.spots.items c.args.e)
+below g c =
+    let spots = c.args.graph.now.spots.items in
+    rw (c.as_slice-listed.ensures, c.index-here.ensures ∙ get_or_default spots c.args.e c.index-here.result.now [] c.requires.place) at c.loop-k-test.true
+
+is_spot : (g : given.Over) (c : After-as_slice-at g) → let t = g.T.Term in IsSpot (meanings t.places t.value_of c.args.terms.now) c.args.e (spot_at (spots_at c.args.graph.now.spots.items c.args.e) c.loop-k.k)
+is_spot g c = c.requires.graph.are_spots.sound c.args.e c.loop-k.k c.requires.place (below g c)
 
 pub loop-k-init : goal.loop-k-init
 loop-k-init g c =
@@ -21,85 +39,35 @@ index-spots-requires g c =
     omega (arith, l, c.loop-k.graph.spots.ok.0)
 
 pub bounds-at-k : goal.bounds-at-k
-bounds-at-k g c =
-    let r = c.requires in
-    let le = r.place in
-    let spots = c.args.graph.now.spots.items in
-    let e = c.args.e in
-    let k = c.loop-k.k in
-    let here : c.index-here.result.now ≡ spots_at spots e = c.index-here.ensures ∙ get_or_default spots e c.index-here.result.now [] le in
-    let now : c.as_slice-at.result.now ≡ spots_at spots e
-    = c.as_slice-at.ensures ∙ (c.index-spots.ensures ∙ (get_or_default c.loop-k.graph.spots.items e c.index-spots.result.now [] (rw c.loop-k.invariant.2 le) ∙ ap (λ s. spots_at s e) c.loop-k.invariant.2)) in
-    let lk : k < length (spots_at spots e) = rw (c.as_slice-listed.ensures, here) at c.loop-k-test.true in
-    rw now lk
+bounds-at-k g c = let at = (goal.at.bounds-at-k g c).After-as_slice-at in rw (here g at) (below g at)
 
 pub ask_at-requires-clause-graph : goal.ask_at-requires-clause-graph
-ask_at-requires-clause-graph g c =
-    let fq : FitsSigned w128 c.args.q = c.ranges.q in
-    let inv = simp to_z-of_z at c.loop-k.invariant in
-    simp to_z-of_z (own inv.0)
-
-pub ask_at-requires-clause-small : goal.ask_at-requires-clause-small
-ask_at-requires-clause-small g c = rw c.loop-k.invariant.1 c.requires.small
+ask_at-requires-clause-graph g c = own c.loop-k.invariant.0
 
 pub ask_at-requires-clause-term : goal.ask_at-requires-clause-term
 ask_at-requires-clause-term g c =
-    let t = g.T.Term in
-    let r = c.requires in
-    let le = r.place in
-    let spots = c.args.graph.now.spots.items in
-    let e = c.args.e in
-    let k = c.loop-k.k in
-    let here : c.index-here.result.now ≡ spots_at spots e = c.index-here.ensures ∙ get_or_default spots e c.index-here.result.now [] le in
-    let now : c.as_slice-at.result.now ≡ spots_at spots e
-    = c.as_slice-at.ensures ∙ (c.index-spots.ensures ∙ (get_or_default c.loop-k.graph.spots.items e c.index-spots.result.now [] (rw c.loop-k.invariant.2 le) ∙ ap (λ s. spots_at s e) c.loop-k.invariant.2)) in
-    let lk : k < length (spots_at spots e) = rw (c.as_slice-listed.ensures, here) at c.loop-k-test.true in
-    let is : IsSpot (meanings t.places t.value_of c.args.terms.now) e (spot_at (spots_at spots e) k) = r.graph.are_spots.sound e k le lk in
-    rw now (rw (counted r.graph) at is.term_in)
+    let at = (goal.at.ask_at-requires-clause-term g c).After-as_slice-at in
+    rw (here g at) (rw (counted c.requires.graph) at (is_spot g at).term_in)
 
 pub ask_at-requires-clause-place : goal.ask_at-requires-clause-place
-ask_at-requires-clause-place g c =
-    let t = g.T.Term in
-    let r = c.requires in
-    let le = r.place in
-    let spots = c.args.graph.now.spots.items in
-    let e = c.args.e in
-    let k = c.loop-k.k in
-    let here : c.index-here.result.now ≡ spots_at spots e = c.index-here.ensures ∙ get_or_default spots e c.index-here.result.now [] le in
-    let now : c.as_slice-at.result.now ≡ spots_at spots e
-    = c.as_slice-at.ensures ∙ (c.index-spots.ensures ∙ (get_or_default c.loop-k.graph.spots.items e c.index-spots.result.now [] (rw c.loop-k.invariant.2 le) ∙ ap (λ s. spots_at s e) c.loop-k.invariant.2)) in
-    let lk : k < length (spots_at spots e) = rw (c.as_slice-listed.ensures, here) at c.loop-k-test.true in
-    let is : IsSpot (meanings t.places t.value_of c.args.terms.now) e (spot_at (spots_at spots e) k) = r.graph.are_spots.sound e k le lk in
-    rw now is.local_in
+ask_at-requires-clause-place g c = let at = (goal.at.ask_at-requires-clause-place g c).After-as_slice-at in rw (here g at) (is_spot g at).local_in
 
 pub loop-k-preserved : goal.loop-k-preserved
 loop-k-preserved g c =
     let t = g.T.Term in
-    let r = c.requires in
     let fq : FitsSigned w128 c.args.q = c.ranges.q in
-    let le = r.place in
-    let spots = c.args.graph.now.spots.items in
     let e = c.args.e in
-    let k = c.loop-k.k in
-    let here : c.index-here.result.now ≡ spots_at spots e = c.index-here.ensures ∙ get_or_default spots e c.index-here.result.now [] le in
-    let now : c.as_slice-at.result.now ≡ spots_at spots e
-    = c.as_slice-at.ensures ∙ (c.index-spots.ensures ∙ (get_or_default c.loop-k.graph.spots.items e c.index-spots.result.now [] (rw c.loop-k.invariant.2 le) ∙ ap (λ s. spots_at s e) c.loop-k.invariant.2)) in
-    let lk : k < length (spots_at spots e) = rw (c.as_slice-listed.ensures, here) at c.loop-k-test.true in
-    let is : IsSpot (meanings t.places t.value_of c.args.terms.now) e (spot_at (spots_at spots e) k) = r.graph.are_spots.sound e k le lk in
+    let at = (goal.at.loop-k-preserved g c).After-as_slice-at in
     let inv = simp to_z-of_z at c.loop-k.invariant in
     let o = c.in_ok-ask_at.ensures in
     let after = c.ask_at.new.graph in
-    let W : ℕ → Type 0 = λ n. IsClaimed t.places t.value_of t.size_of t.fits c.args.terms.now n c.args.q after in
-    let S : ℕ → Type 0 = λ j. bit_in (set_at after.claimed.items (spot_at (spots_at spots e) j).term) e ≢ 1 in
-    let settled : S k = rw is.at at (rw now at o.settled) in
-    let each : (j : ℕ) → j < k + 1 → S j = λ j l. ⊎_elim (λ less. o.kept _ e (inv.3 j less)) (λ ge. let same : k ≡ j = omega (arith, ge, l) in subst S same settled) (cases_lt j k) in
-    simp to_z-of_z (subst W inv.0.are_spots.count (simp to_z-of_z at o.graph), o.bases ∙ inv.1, o.spots ∙ inv.2, each)
+    let S : ℕ → Type 0 = λ j. bit_in (set_at after.claimed.items (spot_at (spots_at c.args.graph.now.spots.items e) j).term) e ≢ 1 in
+    let settled : S c.loop-k.k = rw (is_spot g at).at at (rw (here g at) at o.settled) in
+    let each : (j : ℕ) → j < c.loop-k.k + 1 → S j = λ j l. ⊎_elim (λ less. o.kept _ e (inv.3 j less)) (λ ge. let same : c.loop-k.k ≡ j = omega (arith, ge, l) in subst S same settled) (cases_lt j c.loop-k.k) in
+    simp to_z-of_z (subst (λ n. IsClaimed t.places t.value_of t.size_of t.fits c.args.terms.now n c.args.q after) inv.0.are_spots.count (simp to_z-of_z at o.graph), o.bases ∙ inv.1, o.spots ∙ inv.2, each)
 
 pub returns-clause-graph : goal.returns-clause-graph
-returns-clause-graph g c =
-    let fq : FitsSigned w128 c.args.q = c.ranges.q in
-    let inv = simp to_z-of_z at c.loop-k.invariant in
-    inv.0
+returns-clause-graph g c = let fq : FitsSigned w128 c.args.q = c.ranges.q in simp to_z-of_z at c.loop-k.invariant.0
 
 pub returns-clause-exact : goal.returns-clause-exact
 returns-clause-exact g c =
@@ -109,3 +77,6 @@ returns-clause-exact g c =
     let here : c.index-here.result.now ≡ spots_at spots c.args.e = c.index-here.ensures ∙ get_or_default spots c.args.e c.index-here.result.now [] c.requires.place in
     let long = ap length (c.as_slice-listed.ensures ∙ here) in
     rw inv.1 at (arcs_alone inv.0 c.args.e c.requires.place (rw inv.2 (λ j l. inv.3 j (omega (arith, l, long, c.loop-k-test.false)))))
+
+pub ask_at-requires-clause-small : goal.ask_at-requires-clause-small
+ask_at-requires-clause-small g c = rw c.loop-k.invariant.1 c.requires.small

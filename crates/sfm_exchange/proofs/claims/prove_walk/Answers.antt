@@ -15,10 +15,7 @@ loop-hop-init g c =
     (simp to_z-of_z c.requires.graph, refl, inl (refl, refl), λ j l. absurd (omega (arith, l)))
 
 pub prove_hop-requires-clause-graph : goal.prove_hop-requires-clause-graph
-prove_hop-requires-clause-graph g c =
-    let fq : FitsSigned w128 c.args.q = c.ranges.q in
-    let inv = simp to_z-of_z at c.loop-hop.invariant in
-    simp to_z-of_z (own inv.0)
+prove_hop-requires-clause-graph g c = own c.loop-hop.invariant.0
 
 pub prove_hop-requires-clause-small : goal.prove_hop-requires-clause-small
 prove_hop-requires-clause-small g c = rw c.loop-hop.invariant.1 c.requires.small
@@ -60,10 +57,7 @@ returns-then-not-proved-clause-refused g c = λ _.
     asked_refused (hop_at c.args.hops.now c.loop-hop.hop-index) _ _ _ _ _ _ c.loop-hop.invariant.2 o.asked told.1 (o.refused c.if-not-proved.true)
 
 pub returns-clause-graph : goal.returns-clause-graph
-returns-clause-graph g c =
-    let fq : FitsSigned w128 c.args.q = c.ranges.q in
-    let inv = simp to_z-of_z at c.loop-hop.invariant in
-    inv.0
+returns-clause-graph g c = let fq : FitsSigned w128 c.args.q = c.ranges.q in simp to_z-of_z at c.loop-hop.invariant.0
 
 pub returns-clause-proved : goal.returns-clause-proved
 returns-clause-proved g c =

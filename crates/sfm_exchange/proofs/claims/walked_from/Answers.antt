@@ -1,33 +1,66 @@
-use Rattle.std.proofs.Common.{◌≡◌, ◌↔◌, ◌<◌, ℕ, length, refl, subst, ◌∙◌, arith, FitsSigned}
+use Rattle.std.proofs.Common.{◌≡◌, ◌<◌, length, refl, subst, ◌∙◌, arith, FitsSigned}
 use Rattle.std.proofs.lemmas.Int.{to_z-of_z}
 use Rattle.std.proofs.lemmas.List.{get_or_default}
 use mir.Syntax.{w128}
 use Rattle.sfm_spec.specs.Families.{meanings}
 use Rattle.sfm_spec.proofs.Walks.{step_below}
-use Rattle.sfm_exchange.specs.Bits.{bit_in, blank_bits, set_at}
+use Rattle.sfm_exchange.specs.Bits.{blank_bits, set_at}
 use Rattle.sfm_exchange.specs.Graph.{IsClaimed}
 use Rattle.sfm_exchange.specs.Unions.{IsArc}
 use Rattle.sfm_exchange.proofs.ClaimedGraphs.{are_terms, have_links, low, own, unions_count}
 use Rattle.sfm_exchange.proofs.Options.{match_none}
-use Rattle.sfm_exchange.proofs.Searching.{ahead_below, search_begun, search_more, search_shrinks, walks_done}
+use Rattle.sfm_exchange.proofs.Searching.{IsLook, ahead_below, search_begun, search_more, search_shrinks, walks_done}
+use Rattle.sfm_exchange.proofs.claims.walked_from.Given as given
 use Rattle.sfm_exchange.proofs.claims.walked_from.Goals as goal
+use Rattle.sfm_exchange.proofs.claims.walked_from.Goals.{After-take_in}
+
+-- the graph afterwards, over the places of the one before
+after : (g : given.Over) (c : After-take_in g) → let t = g.T.Term in IsClaimed t.places t.value_of t.size_of t.fits c.args.terms.now (length c.args.graph.now.spots.items) c.args.q c.ask_place.new.graph
+after g c =
+    let t = g.T.Term in
+    let fq : FitsSigned w128 c.args.q = c.ranges.q in
+    let inv = simp to_z-of_z at c.loop-e.invariant in
+    subst (λ n. IsClaimed t.places t.value_of t.size_of t.fits c.args.terms.now n c.args.q c.ask_place.new.graph) inv.0.are_spots.count (simp to_z-of_z at c.in_ok-ask_place.ensures.graph)
+
+-- one place is looked at, by the row of the graph, which has arcs alone there
+look : (g : given.Over) (c : After-take_in g) → let t = g.T.Term in IsLook (length c.args.graph.now.spots.items) (IsArc (meanings t.places t.value_of c.args.terms.now) c.args.q c.args.graph.now.bases) c.args.firsts.now
+    c.loop-e.found c.loop-e.ahead c.in-Some.e (set_at c.ask_place.new.graph.unions.items c.in-Some.e) c.remove.new.self c.take_in.new.found c.take_in.new.ahead
+look g c =
+    let t = g.T.Term in
+    let m = g.met.T.Term in
+    let fq : FitsSigned w128 c.args.q = c.ranges.q in
+    let ts = meanings t.places t.value_of c.args.terms.now in
+    let n = length c.args.graph.now.spots.items in
+    let inv = simp to_z-of_z at c.loop-e.invariant in
+    let e = c.in-Some.e in
+    let o = c.in_ok-ask_place.ensures in
+    let unions = c.ask_place.new.graph.unions.items in
+    let h = after g c in
+    let same : c.ask_place.new.graph.bases ≡ c.args.graph.now.bases = o.bases ∙ inv.1 in
+    let fit = are_terms h m.family m.submodular in
+    let below : e < n = ahead_below _ _ _ _ _ inv.2 e c.in-Some.ensures.1 in
+    let exact = rw inv.1 at (simp to_z-of_z at o.exact) in
+    let links = rw same at (have_links h fit) in
+    let read : c.index-row.result.now ≡ set_at unions e = c.index-row.ensures ∙ get_or_default unions e c.index-row.result.now blank_bits (rw (unions_count h) below) in
+    record {
+      so_far = inv.2;
+      chosen = c.in-Some.ensures.1;
+      tells = λ k. (exact k, links e k below);
+      links = λ k (i, is). step_below ts c.args.graph.now.bases n c.args.q (low h) fit (rw same at h.are_bases) e (record { to = k; term = i }) is;
+      out = c.remove.ensures.out;
+      others = c.remove.ensures.others;
+      taken = rw read at c.take_in.ensures;
+    }
 
 pub loop-e-init : goal.loop-e-init
 loop-e-init g c =
     let t = g.T.Term in
     let fq : FitsSigned w128 c.args.q = c.ranges.q in
-    let ts = meanings t.places t.value_of c.args.terms.now in
     let graph = c.args.graph.now in
-    simp to_z-of_z (c.requires.graph, refl, search_begun (length graph.spots.items) (IsArc ts c.args.q graph.bases) c.args.firsts.now c.requires.firsts)
+    simp to_z-of_z (c.requires.graph, refl, search_begun (length graph.spots.items) (IsArc (meanings t.places t.value_of c.args.terms.now) c.args.q graph.bases) c.args.firsts.now c.requires.firsts)
 
 pub ask_place-requires-clause-graph : goal.ask_place-requires-clause-graph
-ask_place-requires-clause-graph g c =
-    let fq : FitsSigned w128 c.args.q = c.ranges.q in
-    let inv = simp to_z-of_z at c.loop-e.invariant in
-    simp to_z-of_z (own inv.0)
-
-pub ask_place-requires-clause-small : goal.ask_place-requires-clause-small
-ask_place-requires-clause-small g c = rw c.loop-e.invariant.1 c.requires.small
+ask_place-requires-clause-graph g c = own c.loop-e.invariant.0
 
 pub ask_place-requires-clause-place : goal.ask_place-requires-clause-place
 ask_place-requires-clause-place g c =
@@ -44,67 +77,15 @@ index-row-requires g c =
 
 pub loop-e-preserved : goal.loop-e-preserved
 loop-e-preserved g c =
-    let t = g.T.Term in
-    let m = g.met.T.Term in
     let fq : FitsSigned w128 c.args.q = c.ranges.q in
-    let ts = meanings t.places t.value_of c.args.terms.now in
-    let bases = c.args.graph.now.bases in
-    let n = length c.args.graph.now.spots.items in
-    let inv = simp to_z-of_z at c.loop-e.invariant in
-    let e = c.in-Some.e in
-    let o = c.in_ok-ask_place.ensures in
-    let after = c.ask_place.new.graph in
-    let W : ℕ → Type 0 = λ k. IsClaimed t.places t.value_of t.size_of t.fits c.args.terms.now k c.args.q after in
-    let h : W n = subst W inv.0.are_spots.count (simp to_z-of_z at o.graph) in
-    let same : after.bases ≡ bases = o.bases ∙ inv.1 in
-    let fit = are_terms h m.family m.submodular in
-    let below : e < n = ahead_below _ _ _ _ _ inv.2 e c.in-Some.ensures.1 in
-    let exact = rw inv.1 at (simp to_z-of_z at o.exact) in
-    let links = rw same at (have_links h fit) in
-    let inside : e < length after.unions.items = rw (unions_count h) below in
-    let read : c.index-row.result.now ≡ set_at after.unions.items e = c.index-row.ensures ∙ get_or_default after.unions.items e c.index-row.result.now blank_bits inside in
-    let fresh = rw read at c.remove_all.ensures in
-    let tells : (k : ℕ) → (bit_in (set_at after.unions.items e) k ≡ 1) ↔ IsArc ts c.args.q bases e k = λ k. (exact k, links e k below) in
-    let ends : (k : ℕ) → IsArc ts c.args.q bases e k → k < n = λ k (i, is). step_below ts bases n c.args.q (low h) fit (rw same at h.are_bases) e (record { to = k; term = i }) is in
-    simp to_z-of_z (
-      h,
-      same,
-      search_more n (IsArc ts c.args.q bases) c.args.firsts.now c.loop-e.found c.loop-e.ahead inv.2 e c.in-Some.ensures.1 (set_at after.unions.items e) tells ends
-          c.remove.new.self c.remove_all.new.self c.union_with.new.self c.union_with-in-Some.new.self c.remove.ensures.out c.remove.ensures.others fresh c.union_with.ensures c.union_with-in-Some.ensures,
-    )
+    let at = (goal.at.loop-e-preserved g c).After-take_in in
+    simp to_z-of_z (after g at, c.in_ok-ask_place.ensures.bases ∙ c.loop-e.invariant.1, search_more (look g at))
 
 pub loop-e-smaller : goal.loop-e-smaller
-loop-e-smaller g c =
-    let t = g.T.Term in
-    let m = g.met.T.Term in
-    let fq : FitsSigned w128 c.args.q = c.ranges.q in
-    let ts = meanings t.places t.value_of c.args.terms.now in
-    let bases = c.args.graph.now.bases in
-    let n = length c.args.graph.now.spots.items in
-    let inv = simp to_z-of_z at c.loop-e.invariant in
-    let e = c.in-Some.e in
-    let o = c.in_ok-ask_place.ensures in
-    let after = c.ask_place.new.graph in
-    let W : ℕ → Type 0 = λ k. IsClaimed t.places t.value_of t.size_of t.fits c.args.terms.now k c.args.q after in
-    let h : W n = subst W inv.0.are_spots.count (simp to_z-of_z at o.graph) in
-    let same : after.bases ≡ bases = o.bases ∙ inv.1 in
-    let fit = are_terms h m.family m.submodular in
-    let below : e < n = ahead_below _ _ _ _ _ inv.2 e c.in-Some.ensures.1 in
-    let exact = rw inv.1 at (simp to_z-of_z at o.exact) in
-    let links = rw same at (have_links h fit) in
-    let inside : e < length after.unions.items = rw (unions_count h) below in
-    let read : c.index-row.result.now ≡ set_at after.unions.items e = c.index-row.ensures ∙ get_or_default after.unions.items e c.index-row.result.now blank_bits inside in
-    let fresh = rw read at c.remove_all.ensures in
-    let tells : (k : ℕ) → (bit_in (set_at after.unions.items e) k ≡ 1) ↔ IsArc ts c.args.q bases e k = λ k. (exact k, links e k below) in
-    let ends : (k : ℕ) → IsArc ts c.args.q bases e k → k < n = λ k (i, is). step_below ts bases n c.args.q (low h) fit (rw same at h.are_bases) e (record { to = k; term = i }) is in
-    search_shrinks n (IsArc ts c.args.q bases) c.args.firsts.now c.loop-e.found c.loop-e.ahead inv.2 e c.in-Some.ensures.1 (set_at after.unions.items e) tells ends
-    c.remove.new.self c.remove_all.new.self c.union_with.new.self c.union_with-in-Some.new.self c.remove.ensures.out c.remove.ensures.others fresh c.union_with.ensures c.union_with-in-Some.ensures c.in-Some.ensures.0
+loop-e-smaller g c = search_shrinks (look g (goal.at.loop-e-smaller g c).After-take_in) c.in-Some.ensures.0
 
 pub returns-clause-graph : goal.returns-clause-graph
-returns-clause-graph g c =
-    let fq : FitsSigned w128 c.args.q = c.ranges.q in
-    let inv = simp to_z-of_z at c.loop-e.invariant in
-    inv.0
+returns-clause-graph g c = let fq : FitsSigned w128 c.args.q = c.ranges.q in simp to_z-of_z at c.loop-e.invariant.0
 
 pub returns-clause-walked : goal.returns-clause-walked
 returns-clause-walked g c =
@@ -113,3 +94,6 @@ returns-clause-walked g c =
     let inv = simp to_z-of_z at c.loop-e.invariant in
     walks_done (meanings t.places t.value_of c.args.terms.now) (length c.args.graph.now.spots.items) c.args.q c.args.graph.now.bases c.args.firsts.now c.loop-e.found c.loop-e.ahead inv.2
     (match_none c.first.result _ _ c.first.ensures c.in_default.not-Some)
+
+pub ask_place-requires-clause-small : goal.ask_place-requires-clause-small
+ask_place-requires-clause-small g c = rw c.loop-e.invariant.1 c.requires.small

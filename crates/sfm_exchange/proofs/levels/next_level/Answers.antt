@@ -3,25 +3,21 @@ use Rattle.std.proofs.lemmas.Bool.{cases_lt}
 use Rattle.sfm_exchange.proofs.Words.{bit_in-lt, within_words}
 use Rattle.sfm_exchange.proofs.levels.next_level.Goals as goal
 
-pub returns-clause-parted : goal.returns-clause-parted
-returns-clause-parted c = λ e. let l = c.remove_all.ensures e in let n = c.remove_all-2.ensures e in omega (arith, l, n)
-
-pub returns-clause-leads : goal.returns-clause-leads
-returns-clause-leads c = λ e one.
-    let l = c.remove_all.ensures e in
-    let n = c.remove_all-2.ensures e in
-    let a = bit_in-lt c.args.left.now e in
-    let b = bit_in-lt c.leading_into-leading.result e in
-    (c.leading_into-leading.ensures e).0 (omega (arith, l, n, a, b, one))
-
-pub returns-clause-closed : goal.returns-clause-closed
-returns-clause-closed c = λ e led.
-    let l = c.remove_all.ensures e in
-    let a = bit_in-lt c.args.left.now e in
-    let one = (c.leading_into-leading.ensures e).1 led in
-    omega (arith, l, a, one)
-
-pub returns-clause-inside : goal.returns-clause-inside
-returns-clause-inside c = λ t one.
-    let words : length c.args.level.now.words ≡ 4 = omega arith in
-    ⊎_elim (λ l. l) (λ ge. absurd (let z = within_words c.args.level.now t (omega (arith, words, ge)) in omega (arith, z, one))) (cases_lt t 256)
+pub returns : goal.returns
+returns c = record {
+  parted = λ e. let l = c.remove_all.ensures e in let n = c.remove_all-2.ensures e in omega (arith, l, n);
+  leads = λ e one.
+      let l = c.remove_all.ensures e in
+      let n = c.remove_all-2.ensures e in
+      let a = bit_in-lt c.args.left.now e in
+      let b = bit_in-lt c.leading_into-leading.result e in
+      (c.leading_into-leading.ensures e).0 (omega (arith, l, n, a, b, one));
+  closed = λ e led.
+      let l = c.remove_all.ensures e in
+      let a = bit_in-lt c.args.left.now e in
+      let one = (c.leading_into-leading.ensures e).1 led in
+      omega (arith, l, a, one);
+  inside = λ t one.
+      let words : length c.args.level.now.words ≡ 4 = omega arith in
+      ⊎_elim (λ l. l) (λ ge. absurd (let z = within_words c.args.level.now t (omega (arith, words, ge)) in omega (arith, z, one))) (cases_lt t 256);
+}

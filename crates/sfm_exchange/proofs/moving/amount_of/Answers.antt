@@ -15,10 +15,7 @@ loop-hop-init g c =
     simp to_z-of_z (amount_none (meanings t.places t.value_of c.args.terms.now) c.args.q c.args.graph.now.bases c.args.hops.now c.args.most c.requires.most, c.requires.graph, refl)
 
 pub room_of-requires-clause-graph : goal.room_of-requires-clause-graph
-room_of-requires-clause-graph g c =
-    let fq : FitsSigned w128 c.args.q = c.ranges.q in
-    let inv = simp to_z-of_z at c.loop-hop.invariant in
-    simp to_z-of_z (own inv.1)
+room_of-requires-clause-graph g c = own c.loop-hop.invariant.1
 
 pub room_of-requires-clause-small : goal.room_of-requires-clause-small
 room_of-requires-clause-small g c = rw c.loop-hop.invariant.2 c.requires.small
@@ -47,10 +44,7 @@ loop-hop-preserved g c =
     simp to_z-of_z (more, subst W inv.1.are_spots.count (simp to_z-of_z at o.graph), o.bases ∙ inv.2)
 
 pub returns-clause-graph : goal.returns-clause-graph
-returns-clause-graph g c =
-    let fq : FitsSigned w128 c.args.q = c.ranges.q in
-    let inv = simp to_z-of_z at c.loop-hop.invariant in
-    inv.1
+returns-clause-graph g c = let fq : FitsSigned w128 c.args.q = c.ranges.q in simp to_z-of_z at c.loop-hop.invariant.1
 
 pub returns-clause-greatest : goal.returns-clause-greatest
 returns-clause-greatest g c =

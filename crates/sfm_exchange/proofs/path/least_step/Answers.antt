@@ -6,43 +6,51 @@ use Rattle.sfm_law.proofs.Lists.{length-meanings, meanings-at}
 use Rattle.sfm_exchange.proofs.Spotting.{spot_found, spots_read}
 use Rattle.sfm_exchange.proofs.Uniting.{least_into}
 use Rattle.sfm_exchange.specs.Spots.{spots_at}
+use Rattle.sfm_exchange.specs.Spots.{IsSpot}
+use Rattle.sfm_exchange.proofs.path.least_step.Given as given
 use Rattle.sfm_exchange.proofs.path.least_step.Goals as goal
+use Rattle.sfm_exchange.proofs.path.least_step.Goals.{After-elements, After-unwrap-spot}
 
-pub bounds-terms-spot : goal.bounds-terms-spot
-bounds-terms-spot g c =
+-- the spot is one of the place
+found : (g : given.Over) (c : After-unwrap-spot g) → let t = g.T.Term in IsSpot (meanings t.places t.value_of c.args.terms.now) c.args.at c.unwrap-spot.result
+found g c =
     let t = g.T.Term in
     let h = match_some c.first_spot.result c.unwrap-spot.result _ _ c.first_spot.ensures c.unwrap-spot.ensures in
-    let spot = spot_found (meanings t.places t.value_of c.args.terms.now) (length c.args.unions.now) c.args.spots.now c.args.at c.index-spots-at.result c.as_slice.result.now c.unwrap-spot.result c.requires.spots c.requires.at c.index-spots-at.is c.as_slice.ensures h.0 h.1 h.2 in
-    let count = length-meanings t.places t.value_of c.args.terms.now in
-    let l = spot.term_in in
+    spot_found (meanings t.places t.value_of c.args.terms.now) (length c.args.unions.now) c.args.spots.now c.args.at c.index-spots-at.result c.as_slice.result.now c.unwrap-spot.result c.requires.spots c.requires.at c.index-spots-at.is c.as_slice.ensures h.0 h.1 h.2
+
+-- its term is one of the terms
+inside : (g : given.Over) (c : After-unwrap-spot g) → c.unwrap-spot.result.term < length c.args.terms.now
+inside g c =
+    let count = length-meanings g.T.Term.places g.T.Term.value_of c.args.terms.now in
+    let l = (found g c).term_in in
     omega (arith, count, l)
+
+-- which has these places
+places_are : (g : given.Over) (c : After-elements g) → c.unwrap-spot.result.term < length c.args.terms.now → let t = g.T.Term in (term_at (meanings t.places t.value_of c.args.terms.now) c.unwrap-spot.result.term).places ≡ c.elements.result.now
+places_are g c l =
+    let m = meanings-at g.T.Term.places g.T.Term.value_of c.args.terms.now c.unwrap-spot.result.term c.index-terms-spot.result l c.index-terms-spot.is in
+    ap (λ (u : Meaning). u.places) m ∙ sym c.elements.ensures
+
+pub bounds-terms-spot : goal.bounds-terms-spot
+bounds-terms-spot g c = inside g (goal.at.bounds-terms-spot g c).After-unwrap-spot
 
 pub offset_bounds-terms-spot : goal.offset_bounds-terms-spot
 offset_bounds-terms-spot g c = let l = bounds-terms-spot g c in omega (arith, l)
 
 pub unwrap-v-requires : goal.unwrap-v-requires
 unwrap-v-requires g c =
-    let t = g.T.Term in
-    let ts = meanings t.places t.value_of c.args.terms.now in
+    let at = goal.at.unwrap-v-requires g c in
+    let l = inside g at.After-unwrap-spot in
     let h = match_some c.first_spot.result c.unwrap-spot.result _ _ c.first_spot.ensures c.unwrap-spot.ensures in
-    let spot = spot_found ts (length c.args.unions.now) c.args.spots.now c.args.at c.index-spots-at.result c.as_slice.result.now c.unwrap-spot.result c.requires.spots c.requires.at c.index-spots-at.is c.as_slice.ensures h.0 h.1 h.2 in
-    let count = length-meanings t.places t.value_of c.args.terms.now in
-    let l : c.unwrap-spot.result.term < length c.args.terms.now = omega (arith, count, spot.term_in) in
-    let m = meanings-at t.places t.value_of c.args.terms.now c.unwrap-spot.result.term c.index-terms-spot.result l c.index-terms-spot.is in
-    let places : (term_at ts c.unwrap-spot.result.term).places ≡ c.elements.result.now = ap (λ (u : Meaning). u.places) m ∙ sym c.elements.ensures in
-    let (v, lv, at) = (c.requires.placed c.unwrap-spot.result.term l c.unwrap-spot.result.local c.unwrap-to.result spot.local_in h.3).1 in
-    some_if_not c.local_of.result _ _ c.local_of.ensures (λ none. none v (rw places at lv) (rw places at at))
+    let places = places_are g at.After-elements l in
+    let (v, lv, here) = (c.requires.placed c.unwrap-spot.result.term l c.unwrap-spot.result.local c.unwrap-to.result (found g at.After-unwrap-spot).local_in h.3).1 in
+    some_if_not c.local_of.result _ _ c.local_of.ensures (λ none. none v (rw places at lv) (rw places at here))
 
 pub returns-clause-named : goal.returns-clause-named
 returns-clause-named g c =
-    let t = g.T.Term in
-    let ts = meanings t.places t.value_of c.args.terms.now in
-    let h = match_some c.first_spot.result c.unwrap-spot.result _ _ c.first_spot.ensures c.unwrap-spot.ensures in
-    let spot = spot_found ts (length c.args.unions.now) c.args.spots.now c.args.at c.index-spots-at.result c.as_slice.result.now c.unwrap-spot.result c.requires.spots c.requires.at c.index-spots-at.is c.as_slice.ensures h.0 h.1 h.2 in
-    let count = length-meanings t.places t.value_of c.args.terms.now in
-    let l : c.unwrap-spot.result.term < length c.args.terms.now = omega (arith, count, spot.term_in) in
-    let m = meanings-at t.places t.value_of c.args.terms.now c.unwrap-spot.result.term c.index-terms-spot.result l c.index-terms-spot.is in
-    let places : (term_at ts c.unwrap-spot.result.term).places ≡ c.elements.result.now = ap (λ (u : Meaning). u.places) m ∙ sym c.elements.ensures in
+    let at = goal.at.returns-clause-named g c in
+    let spot = found g at.After-unwrap-spot in
+    let places = places_are g at.After-elements (inside g at.After-unwrap-spot) in
     let v = match_some c.local_of.result c.unwrap-v.result _ _ c.local_of.ensures c.unwrap-v.ensures in
     record { term_in = spot.term_in; u_in = spot.local_in; v_in = rw places v.0; begins = spot.at; ends = rw places v.1 }
 

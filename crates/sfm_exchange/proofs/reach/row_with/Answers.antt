@@ -1,26 +1,11 @@
-use Rattle.std.proofs.Common.{length, arith, FitsSigned}
+use Rattle.std.proofs.Common.{arith, FitsSigned}
 use Rattle.std.proofs.lemmas.Int.{ints, to_z-of_z}
 use mir.Syntax.{w128}
-use Rattle.sfm_spec.specs.Terms.{times}
-use Rattle.sfm_law.specs.Room.{IsReach}
-use Rattle.sfm_exchange.specs.Bits.{HasPlaces}
-use Rattle.sfm_exchange.proofs.Reaching.{row_of}
+use Rattle.sfm_exchange.proofs.Reaching.{row_read}
 use Rattle.sfm_exchange.proofs.reach.row_with.Goals as goal
 
 pub returns-clause-row : goal.returns-clause-row
-returns-clause-row g c =
-    let t = g.T.Term in
-    let at = c.args.at.now in
-    let based = c.requires.based in
-    let fq : FitsSigned w128 at.q = omega (arith, ints, based.factor) in
-    let places = t.places at.term.now in
-    let f = times at.q (t.value_of at.term.now) in
-    let reach : IsReach f at.x.now c.args.u c.reach_with.new.to = simp to_z-of_z at c.in_ok-reach_with.ensures.reached in
-    let has : HasPlaces places c.reach_with.new.to (length places) c.placed_bits.result = rw c.elements.ensures at c.placed_bits.ensures.places in
-    row_of places f at.x.now c.args.u c.placed_bits.result c.reach_with.new.to based.entries reach has
+returns-clause-row g c = row_read c.args.u c.placed_bits.result c.reach_with.new.to c.requires.based c.in_ok-reach_with.ensures.reached (rw c.elements.ensures at c.placed_bits.ensures.places)
 
 pub returns-clause-noted : goal.returns-clause-noted
-returns-clause-noted g c =
-    let based = c.requires.based in
-    let fq : FitsSigned w128 c.args.at.now.q = omega (arith, ints, based.factor) in
-    simp to_z-of_z at c.in_ok-reach_with.ensures.noted
+returns-clause-noted g c = let fq : FitsSigned w128 c.args.at.now.q = omega (arith, ints, c.requires.based.factor) in simp to_z-of_z at c.in_ok-reach_with.ensures.noted

@@ -15,20 +15,12 @@ pub loop-e-smaller : goal.loop-e-smaller
 loop-e-smaller c = picking_shrinks c.loop-e.ahead c.remove.new.self c.in-Some.e c.in-Some.ensures.0 c.in-Some.ensures.1 c.remove.ensures.out c.remove.ensures.others
 
 pub bounds-spots-e : goal.bounds-spots-e
-bounds-spots-e c =
-    let e = c.in-Some.e in
-    let one = c.in-Some.ensures.1 in
-    let inv = c.loop-e.invariant in
-    let inside : e < length c.args.spots.now = c.requires.placed e (inv.0.inside e one) in
-    inside
+bounds-spots-e c = c.requires.placed c.in-Some.e (c.loop-e.invariant.0.inside c.in-Some.e c.in-Some.ensures.1)
 
 pub union_at-row-requires : goal.union_at-row-requires
 union_at-row-requires c =
-    let e = c.in-Some.e in
-    let one = c.in-Some.ensures.1 in
-    let inv = c.loop-e.invariant in
-    let inside : e < length c.args.spots.now = c.requires.placed e (inv.0.inside e one) in
-    rows_read c.args.rows.now c.args.spots.now e c.index-spots-e.result c.as_slice.result.now c.requires.rows inside c.index-spots-e.is c.as_slice.ensures
+    let inside = c.requires.placed c.in-Some.e (c.loop-e.invariant.0.inside c.in-Some.e c.in-Some.ensures.1) in
+    rows_read c.args.rows.now c.args.spots.now c.in-Some.e c.index-spots-e.result c.as_slice.result.now c.requires.rows inside c.index-spots-e.is c.as_slice.ensures
 
 pub turn-requires-clause-place : goal.turn-requires-clause-place
 turn-requires-clause-place c = c.in-Some.ensures.0
@@ -39,9 +31,8 @@ turn-requires-clause-count c = rw c.deref_mut.ensures.value c.loop-e.invariant.1
 pub turn-requires-clause-column : goal.turn-requires-clause-column
 turn-requires-clause-column c = λ t l.
     let e = c.in-Some.e in
-    let one = c.in-Some.ensures.1 in
     let inv = c.loop-e.invariant in
-    let inside : e < length c.args.spots.now = c.requires.placed e (inv.0.inside e one) in
+    let inside = c.requires.placed e (inv.0.inside e c.in-Some.ensures.1) in
     let unions = c.loop-e.unions.items in
     let read : set_at unions e ≡ c.index.result.now = get_or_default unions e blank_bits c.index.result.now (omega (arith, inside, c.requires.count, inv.0.count)) ∙ sym c.index.ensures in
     rw (c.deref_mut.ensures.value, ← read) (inv.1.exact e t l)

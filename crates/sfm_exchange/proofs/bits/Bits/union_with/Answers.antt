@@ -1,29 +1,10 @@
-use Rattle.std.proofs.Common.{◌≡◌, ⊎_elim, ◌/◌, ◌%◌, max, get_or, sym, ap, ◌∙◌, arith}
-use Rattle.std.proofs.lemmas.Bool.{cases_lt}
+use Rattle.std.proofs.Common.{◌/◌, ◌%◌, max, refl, ap, ◌∙◌, arith}
 use Rattle.std.proofs.lemmas.Nat.Bits.{bit_at_or}
 use Rattle.std.specs.Int.{bit_at}
-use Rattle.sfm_exchange.specs.Bits.{bit_in}
-use Rattle.sfm_exchange.proofs.Words.{bit_in-words, within_words}
+use Rattle.sfm_exchange.proofs.Words.{by_words}
 use Rattle.sfm_exchange.proofs.bits.Bits.union_with.Goals as goal
 
 pub returns : goal.returns
-returns c = λ e.
-    let s = c.args.self.now in
-    let o = c.args.other.now in
-    let r = c.loop-k.self in
-    ⊎_elim
-    (λ l.
-    let w = c.loop-k.invariant.0 (e / 64) (omega (arith, l, c.loop-k-test.false)) in
-    let j = bit_at_or (get_or s.words (e / 64) 0) (get_or o.words (e / 64) 0) (e % 64) in
-    let a = bit_in-words s e in
-    let b = bit_in-words o e in
-    let d : bit_in r e ≡ bit_at (get_or r.words (e / 64) 0) (e % 64) = bit_in-words r e in
-    let f : bit_at (get_or r.words (e / 64) 0) (e % 64) ≡ max (bit_at (get_or s.words (e / 64) 0) (e % 64)) (bit_at (get_or o.words (e / 64) 0) (e % 64)) = ap (λ x. bit_at x (e % 64)) w ∙ j in
-    omega (arith, a, b, d, f))
-    (λ past.
-    let a = within_words s e (omega arith) in
-    let b = within_words o e (omega arith) in
-    let w = c.loop-k.invariant.1 (e / 64) (omega (arith, past, c.loop-k.auto.k-end)) in
-    let d : bit_in r e ≡ bit_in s e = bit_in-words r e ∙ (ap (λ x. bit_at x (e % 64)) w ∙ sym (bit_in-words s e)) in
-    omega (arith, a, b, d))
-    (cases_lt (e / 64) 4)
+returns c = λ e. by_words (λ a b. max a b) c.loop-k.self c.args.self.now c.args.other.now e refl (omega arith) (omega arith)
+    (λ l. ap (λ w. bit_at w (e % 64)) (c.loop-k.invariant.0 (e / 64) (omega (arith, l, c.loop-k-test.false))) ∙ bit_at_or _ _ (e % 64))
+    (λ past. c.loop-k.invariant.1 (e / 64) (omega (arith, past, c.loop-k.auto.k-end)))
