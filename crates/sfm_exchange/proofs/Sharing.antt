@@ -1,5 +1,5 @@
 -- Rows that are that of the place that was raised, after an exchange: those of the places that depend on it and on which it depends.
-use Rattle.std.proofs.Common.{◌≡◌, ◌≢◌, ◌↔◌, ◌⊎◌, ⊎_elim, inl, inr, ℕ, ◌<◌, ◌-◌, max, List, length, get_or, ℤ, refl, sym, ap, ◌∙◌, arith}
+use Rattle.std.proofs.Common.{◌≡◌, ◌≢◌, ◌↔◌, ◌⊎◌, ⊎_elim, inl, inr, ℕ, ◌<◌, ◌-◌, max, List, length, get_or, ℤ, sym, subst, ◌∙◌, arith}
 use Rattle.std.proofs.lemmas.Bool.{cases_eq}
 use Rattle.sfm_spec.specs.Sets.{AreDistinct}
 use Rattle.sfm_spec.specs.Rows.{Depends}
@@ -11,8 +11,8 @@ use Rattle.sfm_exchange.specs.Bits.{bit_in, set_at}
 use Rattle.sfm_exchange.specs.Claimed.{AreClaims}
 use Rattle.sfm_exchange.specs.Reach.{IsRow}
 use Rattle.sfm_exchange.specs.Renewed.{AreChanges, AreShared, IsRaised}
-use Rattle.sfm_exchange.proofs.Claiming.{row_claimed}
-use Rattle.sfm_exchange.proofs.RowsAfter.{row_shared}
+use Rattle.sfm_exchange.proofs.Claiming.{IsRaising, base_after, finds, row_after, row_claimed, sized_before}
+use Rattle.sfm_exchange.proofs.RowsAfter.{follows_s, row_shared}
 use Rattle.sfm_exchange.proofs.Words.{bit_in-lt}
 
 module _ (places : List ℕ) (shared : Bits) (raised : Raised) (before after : List Bits) (h : AreShared places shared raised (length places) before after) where
@@ -51,3 +51,16 @@ module _ (places : List ℕ) (shared : Bits) (raised : Raised) (before after : L
         let none : bit_in shared e ≢ 1 = λ is. not (let a = anew e in let l = bit_in-lt changes'.anew e in omega (arith, a, l, is)) in
         h.others u lu none ∙ c.others u lu (λ g1. out (let g = grown e in let m = bit_in-lt shared e in omega (arith, g, m, g1, none))) (λ a1. not (let a = anew e in let l = bit_in-lt changes'.anew e in omega (arith, a, l, a1)));
   }
+
+-- places that changed, were not claimed, and on which the raised one depends: they depend on it too
+module _ {places : List ℕ} {f : SetFunction} {s t : ℕ} {x y : List ℤ} {claimed found : Bits} {rows : List Bits} (r : IsRaising places f s t x y claimed found rows) (of_s : Bits) (hs : IsRow places f y s of_s) (shared : Bits)
+    (told : (e : ℕ) → (bit_in shared e ≡ 1) ↔ ((bit_in found e ≡ 1) × (bit_in of_s e ≡ 1) × (bit_in claimed e ≢ 1))) where
+  pub shared_lead : (u : ℕ) → u < length places → bit_in shared (get_or places u 0) ≡ 1 → Depends f y u s × (bit_in of_s (get_or places u 0) ≡ 1)
+  shared_lead u lu one =
+      let (has, bit, exact) = (told (get_or places u 0)).0 one in
+      let d = finds places r.distinct r.family r.law (sized_before r) r.moved.base s t r.raised r.lowered r.apart r.moved.amount r.moved.some (base_after r) claimed found rows r.claims r.all of_s (row_after r of_s hs) u lu
+          (r.claims.exact u lu exact) has in
+      (subst (λ z. Depends f z u s) (sym r.moved.is) (follows_s places r.distinct r.family r.law (sized_before r) r.moved.base s t r.raised r.lowered r.apart r.moved.amount r.moved.some (base_after r) u lu d), bit)
+
+  pub shared_inside : (e : ℕ) → bit_in shared e ≡ 1 → (u : ℕ) × (u < length places) × (get_or places u 0 ≡ e)
+  shared_inside e one = let (u, lu, is, why) = (r.all e).0 ((told e).0 one).0 in (u, lu, is)

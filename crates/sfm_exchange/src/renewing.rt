@@ -3,8 +3,9 @@
 // afterwards. The row of s is asked. Where s still depends on t, no set has become tight, so each such row is joined with
 // that of s. Else the exchange has used up its room, and some of what these rows had may be gone. No row gains more than s
 // had, so each takes in what s had, and is claimed: it lacks nothing, but may have too much, and is asked once a walk takes
-// it. A term whose rows are cheap, or cheaper one after another, is asked for them at once, so none of its rows is ever claimed. It is
-// not asked for the row of a place on which s depends as well: the two have the same least tight set.
+// it. Where s depends on a place that depends on it, the two have the same least tight set, so the row is that of s, and neither
+// asked nor claimed. A term whose rows are cheap, or cheaper one after another, is asked for the others at once, so none of its rows
+// is ever claimed.
 ghost use Rattle.std.specs.Prelude.{◌≡◌, ◌≢◌, ◌↔◌, ◌⊎◌, IsTrue, true, ◌<◌, ◌-◌, max, ℕ, List, ℤ, length, IfOk, OnOk, slice_index_or};
 ghost use Rattle.sfm_spec.specs.Sets.{IsPlaced};
 ghost use Rattle.sfm_spec.specs.Rows.{Depends};
@@ -262,15 +263,15 @@ pub fn renew_rows<T: Term>(
         claimed.remove(to);
         return Ok(grown_but(&changed, to));
     }
+    let raised = Raised {
+        local: hop.u,
+        place: to,
+        row: of_s,
+    };
     if asks_at_once(at.term, claimed) {
         rows.set(hop.u, of_s);
         let mut others = changed;
         others.remove(to);
-        let raised = Raised {
-            local: hop.u,
-            place: to,
-            row: of_s,
-        };
         ask_rows(alloc, at, note, &raised, &others, rows)?;
         return Ok(Changes {
             grown: no_bits(),
@@ -279,7 +280,11 @@ pub fn renew_rows<T: Term>(
     }
     join_rows(places, &changed, &before, to, rows);
     rows.set(hop.u, of_s);
+    let shared = shared_places(&changed, &of_s, claimed);
     claimed.union_with(&changed);
     claimed.remove(to);
-    Ok(grown_but(&changed, to))
+    let changes = grown_but(&changed, to);
+    Ok(settle_shared(
+        places, &shared, &raised, rows, claimed, changes,
+    ))
 }

@@ -6,6 +6,7 @@ use Rattle.sfm_exchange.specs.Bits.{bit_in}
 use Rattle.sfm_exchange.proofs.AtOnce.{exchange_asked, lead_to_s}
 use Rattle.sfm_exchange.proofs.Changes.{changes_anew, changes_grown}
 use Rattle.sfm_exchange.proofs.Claiming.{IsRaising, exchange_more, exchange_still, neither}
+use Rattle.sfm_exchange.proofs.Sharing.{changes_shared, claims_shared, shared_inside, shared_lead}
 use Rattle.sfm_exchange.proofs.renewing.renew_rows.Given as given
 use Rattle.sfm_exchange.proofs.renewing.renew_rows.Goals as goal
 use Rattle.sfm_exchange.proofs.renewing.renew_rows.Goals.{After-depending-changed}
@@ -68,8 +69,12 @@ returns-clause-raised g c =
     let shown = c.elements-places.ensures in
     let hs = c.in_ok-of_s.ensures in
     let joined = rw (shown, hs.same, c.row-before.ensures) at c.join_rows-2.ensures in
-    let made = rw shown at c.grown_but-2.ensures in
-    rw c.set-2.ensures (record {
-      claims = exchange_more r _ hs.row _ joined _ (λ e ne none. neither c.args.claimed.now c.depending-changed.result e (bit_in c.remove-2.new.self e) (rw shown at c.remove-2.ensures.others e ne ∙ c.union_with.ensures e) none);
-      changes = changes_grown r _ hs.row c.grown_but-2.result _ _ joined made.anew made.grown;
-    })
+    let made = rw shown at c.grown_but-changes.ensures in
+    let still = exchange_more r _ hs.row _ joined _ (λ e ne none. neither c.args.claimed.now c.depending-changed.result e (bit_in c.remove-2.new.self e) (rw shown at c.remove-2.ensures.others e ne ∙ c.union_with.ensures e) none) in
+    let grown = changes_grown r _ hs.row c.grown_but-changes.result _ _ joined made.anew made.grown in
+    let told = c.shared_places-shared.ensures in
+    let after = rw (shown, c.set-2.ensures) at c.settle_shared.ensures in
+    record {
+      claims = claims_shared _ _ _ _ _ after.rows r.distinct r.family r.law _ r.entries r.base (record { within = r.raised; place_is = refl; row_is = hs.row }) (shared_lead r _ hs.row _ told) _ _ after.claimed still;
+      changes = changes_shared _ _ _ _ _ after.rows _ _ _ after.grown after.anew (shared_inside r _ hs.row _ told) grown;
+    }
