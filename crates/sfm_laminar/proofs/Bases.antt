@@ -1,13 +1,18 @@
 -- The bases of the weighted rank of groups of which no two cross: entries from 0 to q·w, no group above its bound, and the whole value in all.
 -- Textbook: Schrijver, Combinatorial Optimization, sections 39 and 44.
-use Rattle.std.proofs.Common.{◌≡◌, ℕ, ◌<◌, List, length, get_or, ℤ, pos, ◌*ℤ◌, ◌≤ℤ◌, sym, ◌∙◌, arith}
+use Rattle.std.proofs.Common.{◌≡◌, ◌↔◌, ℕ, ◌<◌, List, length, get_or, ℤ, pos, ◌*ℤ◌, ◌≤ℤ◌, ap, sym, ◌∙◌, arith}
 use Rattle.std.specs.Int.{int_min}
+use Rattle.std.specs.List.{All}
 use Rattle.std.proofs.lemmas.Int.{ints, clamps}
+use Rattle.std.proofs.lemmas.List.{get_or_default}
+use Rattle.std.proofs.lemmas.List.Elements.{All-get_or}
+use Rattle.sfm_spec.specs.Bounds.{total_of}
 use Rattle.sfm_spec.specs.Sets.{whole_set, sum_over}
 use Rattle.sfm_spec.specs.Terms.{times, IsBase}
 use Rattle.sfm_spec.specs.Kinds.{Group, IsWithinCaps}
 use Rattle.sfm_spec.proofs.Scaled.{times-mono, times-assoc}
 use Rattle.sfm_law.proofs.Monotone.{AreCounts}
+use Rattle.sfm_law.proofs.Totals.{total_of-whole}
 use Rattle.sfm_rank.proofs.Ranks.{rank-size}
 use Rattle.sfm_rank.proofs.Bases.{AreTests, base_counts, base_passes, base_total, capped_by_rank, passes_base, sum_over-below}
 use Rattle.sfm_laminar.specs.Masks.{mask, length-mask, count-mask, sum_listed}
@@ -17,7 +22,7 @@ use Rattle.sfm_laminar.specs.Crossing.{no_group, group_at}
 use Rattle.sfm_laminar.specs.Grown.{grown}
 use Rattle.sfm_laminar.specs.Ranks.{rank, held, blocks, caps-matroid, caps-ranks, sum-ones, sum-ones_within, whole_grown}
 use Rattle.sfm_laminar.specs.LaminarLaws.{laminar_value, laminar_size}
-use Rattle.sfm_laminar.specs.Rooms.{bound_of}
+use Rattle.sfm_laminar.specs.Rooms.{bound_of, slack_of}
 
 -- what a base is
 pub record IsLaminarBase (k : ℕ) (q w : ℤ) (groups : List Group) (x : List ℤ) : Type 0 where
@@ -97,3 +102,22 @@ module _ (k : ℕ) (q w : ℤ) (groups : List Group) (hq : pos 1 ≤ℤ q) (hw :
         bounded = p.met;
         sum = base_total k (length groups) q w low (IsWithinCaps groups) (rank k groups) (caps-matroid k groups ok) (caps-ranks k groups ok) (IsGroupMet q w groups) x kx base ∙ times-assoc q w (pos (rank k groups (whole_set k)));
       }
+
+  -- what the code tests, one after another
+  pub laminar_tested : (x : List ℤ) → length x ≡ k → IsBase (times q (laminar_value k w groups)) x
+      ↔ (All (λ a. (pos 0 ≤ℤ a) × (a ≤ℤ (q *ℤ w))) x × (total_of x ≡ (q *ℤ laminar_size k w groups)) × ((i : ℕ) → i < length groups → pos 0 ≤ℤ slack_of q w x (group_at groups i)))
+  laminar_tested x kx = (
+    (λ b. let h = laminar_base_back x kx b in (
+      (λ e d lt. rw (get_or_default x e d (pos 0) lt) (h.counts e lt, h.capped e lt)),
+      total_of-whole x ∙ (all ∙ h.sum),
+      (λ i lt. let l = h.bounded i lt in omega (arith, ints, l)),
+    )),
+    (λ (within, sum, bounded). laminar_base x kx (record {
+      counts = λ e lt. (All-get_or (λ a. (pos 0 ≤ℤ a) × (a ≤ℤ (q *ℤ w))) x e (pos 0) lt within).0;
+      capped = λ e lt. (All-get_or (λ a. (pos 0 ≤ℤ a) × (a ≤ℤ (q *ℤ w))) x e (pos 0) lt within).1;
+      bounded = λ i lt. (let l = bounded i lt in omega (arith, ints, l));
+      sum = sym all ∙ (sym (total_of-whole x) ∙ sum);
+    })),
+  ) where
+    all : sum_over (whole_set (length x)) x ≡ sum_over (whole_set k) x
+    all = ap (λ n. sum_over (whole_set n) x) kx

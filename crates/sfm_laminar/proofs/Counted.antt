@@ -15,7 +15,7 @@ use Rattle.sfm_laminar.specs.Groups.{IsAscending, IsGroup, IsBelow, AreGroups}
 use Rattle.sfm_laminar.specs.Masks.{mask, length-mask, count-mask}
 use Rattle.sfm_laminar.specs.Counts.{AreCounts, HasFull, raised}
 use Rattle.sfm_laminar.specs.Grown.{is_blocked, blocked_from, from_blocked, grown, step, count-set, count-none}
-use Rattle.sfm_laminar.specs.Indexes.{holders, IsIndex}
+use Rattle.sfm_laminar.specs.Indexes.{holders, IsIndex, AreHoldersOf}
 use Rattle.sfm_laminar.specs.Ranks.{contains-mask, mask-contains, caps-grown}
 use Rattle.sfm_laminar.proofs.Holders.{AreHolders, are_holders, number_of, holder_at}
 
@@ -70,8 +70,12 @@ holders-ascend groups e (suc n) = at (list_any (nat_eq e) (group_at groups n).me
   at true up = ascending-push (holders groups e n) n up below
   at false up = up
 
-pub holders_up : (k : ℕ) (groups : List Group) (index : List (List ℕ)) (e : ℕ) (es : List ℕ) → IsIndex k groups index → e < k → es ≡ get_or index e [] → IsAscending es
-holders_up k groups index e es ok lt is = rw (is, ok.numbers e lt) (holders-ascend groups e (length groups))
+pub holders_listed : (k : ℕ) (groups : List Group) (index : List (List ℕ)) (e : ℕ) → IsIndex k groups index → e < length index → AreHoldersOf groups e (get_or index e [])
+holders_listed k groups index e ok lt = rw (ok.numbers e (omega (arith, ok.places, lt))) (record {
+  below = λ p lp. (holder_at groups (holders groups e (length groups)) e p (are_holders groups e (length groups)) lp).0;
+  exact = are_holders groups e (length groups);
+  ascending = holders-ascend groups e (length groups);
+})
 
 -- ---- counts of a set that grows
 

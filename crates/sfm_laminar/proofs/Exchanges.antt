@@ -3,9 +3,11 @@ use Rattle.std.proofs.Common.{◌≡◌, ◌≢◌, ◌⊎◌, ◌↔◌, ℕ, �
 use Rattle.std.specs.List.{Contains}
 use Rattle.std.proofs.lemmas.Bool.{false≢true, cases_Bool}
 use Rattle.std.proofs.lemmas.Int.{ints, by_lt_z}
-use Rattle.sfm_spec.specs.Sets.{Has}
+use Rattle.std.proofs.lemmas.List.{length-replicate}
+use Rattle.sfm_spec.specs.Sets.{Has, empty_set}
 use Rattle.sfm_spec.specs.Terms.{times, IsBase, IsCapacity, HasRoom, exchanged}
 use Rattle.sfm_spec.specs.Kinds.{Group, IsWithinCaps}
+use Rattle.sfm_spec.proofs.Lattice.{none_in_empty}
 use Rattle.sfm_spec.proofs.Sets.{has_or_not}
 use Rattle.sfm_spec.proofs.Sums.{share, sum_over-set}
 use Rattle.sfm_law.specs.Room.{IsReach}
@@ -16,10 +18,10 @@ use Rattle.sfm_laminar.specs.Groups.{AreGroups}
 use Rattle.sfm_laminar.specs.Crossing.{no_group, group_at}
 use Rattle.sfm_laminar.specs.Ranks.{contains-mask, mask-contains, rank, caps-matroid, caps-ranks}
 use Rattle.sfm_laminar.specs.LaminarLaws.{laminar_value}
-use Rattle.sfm_laminar.specs.Rooms.{bound_of, slack_of, Splits, IsLeast, IsHeld}
-use Rattle.sfm_laminar.specs.Slacks.{share_of}
+use Rattle.sfm_laminar.specs.Rooms.{bound_of, slack_of, Splits, IsLeast, IsHeld, IsKept}
+use Rattle.sfm_laminar.specs.Slacks.{IsSupport, share_of}
 use Rattle.sfm_laminar.proofs.Bases.{IsLaminarBase, IsGroupMet, low, sum-group, laminar_base_back, laminar_tests}
-use Rattle.sfm_laminar.proofs.Slacking.{slack-exchanged}
+use Rattle.sfm_laminar.proofs.Slacking.{slack-exchanged, others_in}
 
 share-none : (s : List Bool) (e : ℕ) → share s e (pos 0) ≡ pos 0
 share-none s e = at (get_or s e false) where
@@ -141,3 +143,21 @@ module _ (k : ℕ) (q w : ℤ) (groups : List Group) (hq : pos 1 ≤ℤ q) (hw :
       some j lt full (cu, never) =
           let b = is_base.bounded j lt in
           by_lt_z (slack_of q w x (group_at groups j)) (pos 1) (λ less. absurd (never (full (omega (arith, ints, b, less))))) (λ more. more)
+
+  -- u lacks nothing
+  pub reach_none : (u : ℕ) → u < length x → (get_or x u (pos 0) <ℤ (q *ℤ w) → ⊥) → IsReach (times q (laminar_value k w groups)) x u (empty_set (length x))
+  reach_none u ku never = laminar-reach u ku (empty_set (length x)) (length-replicate (length x) false) (λ v kv. (
+    (λ h. absurd (none_in_empty (length x) v h)),
+    (λ (ne, less, some, held). absurd (never less)),
+  ))
+
+  -- u lacks something: of the others that have something those that the groups hold
+  pub reach_held : (u : ℕ) → u < length x → get_or x u (pos 0) <ℤ (q *ℤ w) → (s to : List Bool) → IsSupport x s → IsKept (set s u false) to (IsHeld q w groups x u (length groups)) → IsReach (times q (laminar_value k w groups)) x u to
+  reach_held u ku lacks s to is kept = laminar-reach u ku to (kept.places ∙ same) (λ v kv.
+      let others = others_in x s u ku is v kv in
+      let left = kept.exact v (omega (arith, kv, same)) in (
+        (λ h. let a = left.0 h in let b = others.0 a.0 in (b.0, lacks, b.1, a.1)),
+        (λ (ne, less, some, held). left.1 (others.1 (ne, some), held)),
+      )) where
+        same : length (set s u false) ≡ length x
+        same = length-set s u false ∙ is.places

@@ -7,7 +7,7 @@ use Rattle.std.proofs.lemmas.List.{get_or_default, get_or_push, get_or_append_le
 use Rattle.std.proofs.lemmas.List.Elements.{Contains-get_or, Contains-push, Contains-push_cases, Contains-append_left}
 use Rattle.sfm_spec.specs.Kinds.{Group}
 use Rattle.sfm_laminar.specs.Crossing.{group_at}
-use Rattle.sfm_laminar.specs.Indexes.{holders, IsIndex}
+use Rattle.sfm_laminar.specs.Indexes.{holders}
 
 -- the numbers are those of the first n groups that have e, and no other
 abbrev pub AreHolders : List Group → ℕ → ℕ → List ℕ → Type 0
@@ -83,11 +83,3 @@ number_of groups es u i index lt has = let (p, lp, is) = (index i).1 (lt, has) i
 -- each number is that of a group that holds u
 pub holder_at : (groups : List Group) (es : List ℕ) (u p : ℕ) → AreHolders groups (length groups) u es → p < length es → (get_or es p 0 < length groups) × Contains (group_at groups (get_or es p 0)).members u
 holder_at groups es u p index lp = (index (get_or es p 0)).0 (Contains-get_or es p 0 lp)
-
--- what the index has at u
-module _ (k : ℕ) (groups : List Group) (index : List (List ℕ)) (u : ℕ) (es : List ℕ) (ok : IsIndex k groups index) (lt : u < k) (is : es ≡ get_or index u []) where
-  pub holders_at : AreHolders groups (length groups) u es
-  holders_at = rw (is, ok.numbers u lt) (are_holders groups u (length groups))
-
-  pub holder_below : (p : ℕ) → p < length es → get_or es p 0 < length groups
-  holder_below p lp = (holder_at groups es u p holders_at lp).0

@@ -1,13 +1,19 @@
 -- The least of what is left and the groups that hold, one group after another; and the first crossing is one.
-use Rattle.std.proofs.Common.{◌≡◌, ◌⊎◌, ◌↔◌, ℕ, ◌+◌, ◌<◌, ◌≤◌, List, length, get_or, ℤ, pos, ◌-ℤ◌, ◌*ℤ◌, ◌≤ℤ◌, ◌∙◌, arith, inl, inr, ⊎_elim}
+use Rattle.std.proofs.Common.{◌≡◌, ◌⊎◌, ℕ, ◌+◌, ◌<◌, ◌≤◌, Bool, List, length, get_or, ℤ, pos, ◌-ℤ◌, ◌*ℤ◌, ◌≤ℤ◌, refl, sym, ◌∙◌, arith, inl, inr, ⊎_elim}
 use Rattle.std.specs.List.{Contains}
 use Rattle.std.specs.Int.{int_min}
 use Rattle.std.proofs.lemmas.Bool.{cases_lt}
 use Rattle.std.proofs.lemmas.Int.{ints, clamps, by_lt_z}
+use Rattle.sfm_spec.specs.Sets.{intersection}
 use Rattle.sfm_spec.specs.Kinds.{Group}
-use Rattle.sfm_laminar.specs.Crossing.{group_at}
-use Rattle.sfm_laminar.specs.Groups.{IsFirstCrossing}
-use Rattle.sfm_laminar.specs.Rooms.{slack_of, Splits, IsLeast, IsHeld}
+use Rattle.sfm_spec.proofs.Sets.{in_both, in_first, in_second}
+use Rattle.sfm_spec.proofs.Sums.{length-intersection}
+use Rattle.sfm_laminar.specs.Crossing.{no_group, group_at}
+use Rattle.sfm_laminar.specs.Groups.{AreGroups, IsFirstCrossing}
+use Rattle.sfm_laminar.specs.Indexes.{AreHoldersOf}
+use Rattle.sfm_laminar.specs.Masks.{mask, length-mask}
+use Rattle.sfm_laminar.specs.Ranks.{contains-mask, mask-contains}
+use Rattle.sfm_laminar.specs.Rooms.{slack_of, Splits, IsLeast, IsHeld, IsHeldAt, IsKept}
 use Rattle.sfm_laminar.proofs.Holders.{AreHolders, number_of, holder_at}
 
 one_of : (r a b : ℤ) → r ≡ int_min a b → (r ≡ a) ⊎ (r ≡ b)
@@ -67,26 +73,47 @@ least_all q w groups x es u v n a h le index = record {
 
 -- those of the groups with the first n of some numbers that lack nothing have v
 abbrev pub IsHeldBy : ℤ → ℤ → List Group → List ℤ → List ℕ → ℕ → ℕ → Type 0
-IsHeldBy q w groups x es n v = (p : ℕ) → p < n → slack_of q w x (group_at groups (get_or es p 0)) ≡ pos 0 → Contains (group_at groups (get_or es p 0)).members v
+IsHeldBy q w groups x es n v = (p : ℕ) → p < n → IsHeldAt q w groups x (get_or es p 0) v
 
-pub held_with : (q w : ℤ) (groups : List Group) (x : List ℤ) (es : List ℕ) (n v : ℕ) → slack_of q w x (group_at groups (get_or es n 0)) ≡ pos 0
-    → IsHeldBy q w groups x es (n + 1) v ↔ (IsHeldBy q w groups x es n v × Contains (group_at groups (get_or es n 0)).members v)
-held_with q w groups x es n v full = (
-  (λ h. ((λ p lp. h p (omega arith)), h n (omega arith) full)),
-  (λ (h, here). λ p lp none. ⊎_elim (λ l. h p l none) (λ (ge : n ≤ p). let same : p ≡ n = omega arith in rw same here) (cases_lt p n)),
-)
+module _ (q w : ℤ) (groups : List Group) (x : List ℤ) where
+  pub kept_begin : (es : List ℕ) (to : List Bool) → IsKept to to (IsHeldBy q w groups x es 0)
+  kept_begin es to = record { places = refl; exact = λ v lt. ((λ h. (h, λ p lp. absurd (omega arith))), (λ (h, all). h)) }
 
-pub held_without : (q w : ℤ) (groups : List Group) (x : List ℤ) (es : List ℕ) (n v : ℕ) → (slack_of q w x (group_at groups (get_or es n 0)) ≡ pos 0 → ⊥) → IsHeldBy q w groups x es (n + 1) v ↔ IsHeldBy q w groups x es n v
-held_without q w groups x es n v never = (
-  (λ h. λ p lp. h p (omega arith)),
-  (λ h. λ p lp none. ⊎_elim (λ l. h p l none) (λ (ge : n ≤ p). let same : p ≡ n = omega arith in absurd (never (rw same at none))) (cases_lt p n)),
-)
+  pub kept_next : (es : List ℕ) (n : ℕ) (a b c : List Bool) → IsKept a b (IsHeldBy q w groups x es n) → IsKept b c (IsHeldAt q w groups x (get_or es n 0)) → IsKept a c (IsHeldBy q w groups x es (n + 1))
+  kept_next es n a b c h k = record {
+    places = k.places ∙ h.places;
+    exact = λ v lt.
+        let f = h.exact v lt in
+        let g = k.exact v (omega (arith, lt, h.places)) in (
+          (λ has. let l = g.0 has in let m = f.0 l.0 in (m.0, λ p lp. ⊎_elim (λ l. m.1 p l) (λ (ge : n ≤ p). let same : p ≡ n = omega arith in rw same l.1) (cases_lt p n))),
+          (λ (has, held). g.1 (f.1 (has, λ p lp. held p (omega arith)), held n (omega arith))),
+        );
+  }
 
-pub held_all : (q w : ℤ) (groups : List Group) (x : List ℤ) (es : List ℕ) (u n v : ℕ) → n ≡ length es → AreHolders groups (length groups) u es → IsHeldBy q w groups x es n v ↔ IsHeld q w groups x u (length groups) v
-held_all q w groups x es u n v all index = (
-  (λ h. λ i li has none. let (p, lp, is) = number_of groups es u i index li has in rw (← is) (h p (omega (arith, all)) (rw (← is) at none))),
-  (λ h. λ p lp none. let i = holder_at groups es u p index (omega (arith, all)) in h (get_or es p 0) i.0 i.1 none),
-)
+  pub kept_all : (es : List ℕ) (u n : ℕ) (a b : List Bool) → n ≡ length es → AreHoldersOf groups u es → IsKept a b (IsHeldBy q w groups x es n) → IsKept a b (IsHeld q w groups x u (length groups))
+  kept_all es u n a b all index h = record {
+    places = h.places;
+    exact = λ v lt. let f = h.exact v lt in (
+      (λ has. let l = f.0 has in (l.0, λ i li here none. let (p, lp, is) = number_of groups es u i index.exact li here in rw (← is) (l.1 p (omega (arith, all)) (rw (← is) at none)))),
+      (λ (has, held). f.1 (has, λ p lp none. let i = holder_at groups es u p index.exact (omega (arith, all)) in held (get_or es p 0) i.0 i.1 none)),
+    );
+  }
+
+  pub kept_free : (i : ℕ) (to : List Bool) → (slack_of q w x (group_at groups i) ≡ pos 0 → ⊥) → IsKept to to (IsHeldAt q w groups x i)
+  kept_free i to never = record { places = refl; exact = λ v lt. ((λ h. (h, λ none. absurd (never none))), (λ (h, held). h)) }
+
+  pub kept_full : (k i : ℕ) (to : List Bool) → AreGroups k groups → i < length groups → length to ≡ k → slack_of q w x (group_at groups i) ≡ pos 0 → IsKept to (intersection to (mask k (group_at groups i).members)) (IsHeldAt q w groups x i)
+  kept_full k i to ok lt sized full =
+      let g = group_at groups i in
+      let m = mask k g.members in
+      let same = sized ∙ sym (length-mask k g.members) in
+      record {
+        places = length-intersection to m same;
+        exact = λ v lv. (
+          (λ h. (in_first to m v same h, λ none. mask-contains k g v (in_second to m v same h))),
+          (λ (h, held). in_both to m v same h (contains-mask k g v (ok.below i no_group lt) (held full))),
+        );
+      }
 
 pub first_once : (groups : List Group) (i j a b : ℕ) → IsFirstCrossing groups i j → IsFirstCrossing groups a b → (i ≡ a) × (j ≡ b)
 first_once groups i j a b h k = (

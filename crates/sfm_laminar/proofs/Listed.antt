@@ -1,14 +1,12 @@
--- Ascending lists: a binary search tells who is listed; and sets that hold what is listed.
-use Rattle.std.proofs.Common.{◌≡◌, ◌↔◌, ℕ, ◌+◌, ◌<◌, ◌≤◌, Bool, true, false, List, length, get_or, Result, Ok, Err, is_ok, MatchResult, IsTrue, ℤ, pos, ◌+ℤ◌, refl, sym, ◌∙◌, arith, drop, ⊎_elim}
+-- Ascending lists: a binary search tells who is listed.
+use Rattle.std.proofs.Common.{◌≡◌, ◌↔◌, ℕ, ◌+◌, ◌<◌, ◌≤◌, List, length, get_or, Result, Ok, Err, is_ok, MatchResult, IsTrue, ℤ, pos, ◌+ℤ◌, refl, sym, ◌∙◌, arith, drop, ⊎_elim}
 use Rattle.std.specs.List.{Contains}
 use Rattle.std.specs.List.Sorted.{IsBinarySearchResult}
 use Rattle.std.proofs.lemmas.Bool.{false≢true, cases_lt}
-use Rattle.std.proofs.lemmas.List.{get_or_default, ext_get_or, length-replicate, drop_more}
+use Rattle.std.proofs.lemmas.List.{get_or_default, drop_more}
 use Rattle.std.proofs.lemmas.List.Sorted.{searched}
 use Rattle.std.specs.Ordering.{nat_cmp}
-use Rattle.sfm_spec.specs.Sets.{Has, whole_set}
 use Rattle.sfm_spec.specs.Kinds.{Group}
-use Rattle.sfm_spec.proofs.Sets.{Has-whole}
 use Rattle.sfm_spec.proofs.Sizes.{size_below_length}
 use Rattle.sfm_laminar.specs.Groups.{IsAscending, IsGroup, IsBelow}
 use Rattle.sfm_laminar.specs.Masks.{mask, length-mask, sum_listed}
@@ -29,9 +27,6 @@ listed xs x r found up = at r (searched xs x r found steady) where
         (λ ge. let u = h.2 k ge lt in absurd (omega (arith, u, here, is)))
         (cases_lt k i)),
   )
-
-pub all_in : (s : List Bool) (k : ℕ) → length s ≡ k → ((j : ℕ) → j < k → Has s j) → s ≡ whole_set k
-all_in s k ks all = ext_get_or false s (whole_set k) (ks ∙ sym (length-replicate k true)) (λ j lt. let l : j < k = omega (arith, ks) in all j l ∙ sym (Has-whole k j l))
 
 -- as many members as there are places, at most
 pub few_members : (k : ℕ) (g : Group) → IsGroup g → IsBelow k g → length g.members ≤ k

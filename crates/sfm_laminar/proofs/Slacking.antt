@@ -1,15 +1,16 @@
 -- What is kept beside a base: the members of groups as sets, what each group lacks, and the places that have something.
-use Rattle.std.proofs.Common.{◌≡◌, ◌≢◌, ◌↔◌, ℕ, zero, suc, ◌+◌, ◌<◌, ◌≤◌, ◌^◌, Bool, true, false, List, [], ◌∷◌, ◌++◌, length, get_or, set, ℤ, pos, ◌+ℤ◌, ◌-ℤ◌, ◌*ℤ◌, ◌≤ℤ◌, if◌then◌else◌, sym, ap, ◌∙◌, arith, ⊎_elim, length-set, get_or-set_same, get_or-set_other}
+use Rattle.std.proofs.Common.{◌≡◌, ◌≢◌, ◌↔◌, ℕ, ◌+◌, ◌<◌, ◌≤◌, ◌^◌, Bool, true, false, List, [], ◌∷◌, ◌++◌, length, get_or, set, ℤ, Option, None, Some, IfSome, pos, ◌+ℤ◌, ◌-ℤ◌, ◌*ℤ◌, ◌≤ℤ◌, if◌then◌else◌, sym, ap, ◌∙◌, arith, ⊎_elim, length-set, get_or-set_same, get_or-set_other}
 use Rattle.std.specs.List.{All, Contains}
 use Rattle.std.specs.Int.{int_min}
 use Rattle.std.proofs.lemmas.Bool.{false≢true, cases_lt, cases_eq}
 use Rattle.std.proofs.lemmas.Int.{ints, clamps}
-use Rattle.std.proofs.lemmas.List.{get_or_default, get_or_push, get_or_append_left, length_push, length-replicate, get_or-replicate}
-use Rattle.std.proofs.lemmas.List.Elements.{All-head, All-tail}
+use Rattle.std.proofs.lemmas.List.{get_or_default, get_or_push, get_or_append_left, length_push, length-replicate}
+use Rattle.std.proofs.lemmas.List.Elements.{All-head, All-tail, All-get_or}
 use Rattle.sfm_spec.specs.Bounds.{IsAtMost}
 use Rattle.sfm_spec.specs.Sets.{Has, empty_set, union}
 use Rattle.sfm_spec.specs.Terms.{times, IsBase, exchanged}
 use Rattle.sfm_spec.specs.Kinds.{Group}
+use Rattle.sfm_spec.proofs.Lattice.{none_in_empty}
 use Rattle.sfm_spec.proofs.Scaled.{times-mono}
 use Rattle.sfm_spec.proofs.Sets.{same_sets, in_union, union_right}
 use Rattle.sfm_spec.proofs.Sums.{length-union, length-exchanged, sum_over-exchanged}
@@ -108,21 +109,6 @@ module _ (k : ℕ) (q w : ℤ) (groups : List Group) (hq : pos 1 ≤ℤ q) (hw :
           omega (arith, ints, m, b, e);
     }
 
-pub share_at : (k : ℕ) (g : Group) (v : ℕ) (a : ℤ) (b : Bool) (r : ℤ) → b ≡ get_or (mask k g.members) v false → r ≡ (if b then a else pos 0) → r ≡ share_of k g v a
-share_at k g v a b r told is = is ∙ ap (λ t. if t then a else pos 0) told
-
-pub share_low : (k : ℕ) (g : Group) (v : ℕ) (a : ℤ) → pos 0 ≤ℤ a → pos 0 ≤ℤ share_of k g v a
-share_low k g v a low = at (get_or (mask k g.members) v false) where
-  at : (b : Bool) → pos 0 ≤ℤ (if b then a else pos 0)
-  at true = low
-  at false = omega (arith, ints)
-
-pub share_high : (k : ℕ) (g : Group) (v : ℕ) (a : ℤ) → pos 0 ≤ℤ a → share_of k g v a ≤ℤ a
-share_high k g v a low = at (get_or (mask k g.members) v false) where
-  at : (b : Bool) → (if b then a else pos 0) ≤ℤ a
-  at true = omega (arith, ints)
-  at false = low
-
 -- the first n numbers are written, and the others as before
 pub written_more : (to : ℕ → ℤ) (before after : List ℤ) (n : ℕ) (a : ℤ) → length after ≡ length before → n < length before → ((i : ℕ) → i < n → get_or after i (pos 0) ≡ to i) → ((i : ℕ) → n ≤ i → get_or after i (pos 0) ≡ get_or before i (pos 0)) → a ≡ to n
     → record { places : length (set after n a) ≡ length before; done : (i : ℕ) → i < n + 1 → get_or (set after n a) i (pos 0) ≡ to i; rest : (i : ℕ) → n + 1 ≤ i → get_or (set after n a) i (pos 0) ≡ get_or before i (pos 0) }
@@ -134,6 +120,10 @@ written_more to before after n a same lt done rest here = record {
       (cases_lt i n);
   rest = λ i le. get_or-set_other after n i a (pos 0) (λ e. omega (arith, e, le)) ∙ rest i (omega (arith, le));
 }
+
+-- a number that is still to be written is small
+pub still_small : (before after : List ℤ) (n : ℕ) → n < length before → ((i : ℕ) → n ≤ i → get_or after i (pos 0) ≡ get_or before i (pos 0)) → All (IsAtMost (10 ^ 27)) before → IsAtMost (10 ^ 27) (get_or after n (pos 0))
+still_small before after n lt rest small = rw (rest n (omega arith)) (All-get_or (IsAtMost (10 ^ 27)) before n (pos 0) lt small)
 
 -- ---- the places that have something
 
@@ -159,24 +149,21 @@ support_moved x s u v a bu bv xu xv ne h tu tv = record {
   p = h.places
 
 -- those of a support other than u
-pub others_in : (x : List ℤ) (s : List Bool) (u : ℕ) → u < length x → IsSupport x s → (v : ℕ) → v < length x → Has (set (union (empty_set (length x)) s) u false) v ↔ ((v ≢ u) × (pos 1 ≤ℤ get_or x v (pos 0)))
+pub others_in : (x : List ℤ) (s : List Bool) (u : ℕ) → u < length x → IsSupport x s → (v : ℕ) → v < length x → Has (set s u false) v ↔ ((v ≢ u) × (pos 1 ≤ℤ get_or x v (pos 0)))
 others_in x s u xu h v xv = ⊎_elim
-    (λ (same : v ≡ u). ((λ has. absurd (false≢true (sym (get_or-set_same both u false false (omega (arith, lb, xu))) ∙ (rw same at has)))), (λ (ne, some). absurd (ne same))))
-    (λ (ne : v ≢ u). (
-      (λ has. (ne, (h.exact v xv).0 (⊎_elim (λ none. absurd (false≢true (sym (get_or-replicate (length x) v false false xv) ∙ none))) (λ in_s. in_s) (in_union (empty_set (length x)) s v le (sym (get_or-set_other both u v false false ne) ∙ has))))),
-      (λ (ne', some). get_or-set_other both u v false false ne ∙ union_right (empty_set (length x)) s v le ((h.exact v xv).1 some)),
-    ))
-    (cases_eq v u) where
-      both : List Bool
-      both = union (empty_set (length x)) s
+    (λ (same : v ≡ u). ((λ has. absurd (false≢true (sym (get_or-set_same s u false false (omega (arith, h.places, xu))) ∙ (rw same at has)))), (λ (ne, some). absurd (ne same))))
+    (λ (ne : v ≢ u). ((λ has. (ne, (h.exact v xv).0 (sym (get_or-set_other s u v false false ne) ∙ has))), (λ (ne', some). get_or-set_other s u v false false ne ∙ (h.exact v xv).1 some)))
+    (cases_eq v u)
 
-      le : length (empty_set (length x)) ≡ length s
-      le = length-replicate (length x) false ∙ sym h.places
+-- nothing, and then all of a set
+pub union-nothing : (n : ℕ) (s : List Bool) → n ≡ length s → union (empty_set n) s ≡ s
+union-nothing n s same = same_sets (union (empty_set n) s) s (length-union (empty_set n) s le ∙ le)
+    (λ e lt h. ⊎_elim (λ none. absurd (none_in_empty n e none)) (λ has. has) (in_union (empty_set n) s e le h))
+    (λ e lt h. union_right (empty_set n) s e le h) where
+      le : length (empty_set n) ≡ length s
+      le = length-replicate n false ∙ same
 
-      lb : length both ≡ length x
-      lb = length-union (empty_set (length x)) s le ∙ length-replicate (length x) false
-
-pub none_in : (n v : ℕ) → Has (empty_set n) v → ⊥
-none_in zero v h = false≢true h
-none_in (suc n) zero h = false≢true h
-none_in (suc n) (suc v) h = none_in n v h
+-- what is kept, if something is: what the places tell of it
+pub noted_support : (A : Type 0) (P Q : A → Type 0) (note : Option A) → IfSome note (λ n. P n × Q n) → IfSome note Q
+noted_support A P Q None h = tt
+noted_support A P Q (Some n) h = h.1

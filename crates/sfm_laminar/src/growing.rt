@@ -1,7 +1,7 @@
 // The set that grows place by place as long as no group has more than its cap: the greatest part that may be independent.
 // How many of its places each group has is counted beside it, so that a place looks at the numbers of its own groups alone.
 ghost use Rattle.std.specs.Prelude.{◌≡◌, ◌↔◌, ℕ, ◌<◌, ◌≤◌, false, List, length, slice_index_or, IfOk, IsTrue};
-ghost use Rattle.sfm_spec.specs.Sets.{empty_set, whole_set};
+ghost use Rattle.sfm_spec.specs.Sets.{empty_set};
 ghost use Rattle.sfm_laminar.specs.Groups.{IsAscending, AreGroups};
 ghost use Rattle.sfm_laminar.specs.Indexes.{IsIndex};
 ghost use Rattle.sfm_laminar.specs.Counts.{AreCounts, HasFull, raised};
@@ -11,17 +11,6 @@ use crate::groups::Groups;
 use crate::index::Index;
 use sfm_base::{Memory, Set};
 use std::alloc::Global;
-
-/// All of k places.
-pub(crate) fn whole(alloc: Global, k: usize) -> Result<Set, Memory>
-    ensures { IfOk result (λ s. s ≡ whole_set k) }
-{
-    let mut s = Set::empty(alloc, k)?;
-    for e in 0..k {
-        s.insert(e);
-    }
-    Ok(s)
-}
 
 /// The counts of the set with no place: 0 for each group.
 fn zeros(alloc: Global, groups: &Groups) -> Result<Vec<usize>, Memory>

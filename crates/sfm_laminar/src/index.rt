@@ -1,7 +1,8 @@
 // For each place the numbers of the groups that hold it, made once, so that what is asked of a place goes over its own
 // groups alone.
-ghost use Rattle.std.specs.Prelude.{◌≡◌, ◌<◌, [], length, slice_index_or, IfOk};
-ghost use Rattle.sfm_laminar.specs.Indexes.{holders, IsIndex};
+ghost use Rattle.std.specs.Prelude.{◌≡◌, ℕ, ◌<◌, List, [], length, slice_index_or, IfOk};
+ghost use Rattle.sfm_spec.specs.Kinds.{Group};
+ghost use Rattle.sfm_laminar.specs.Indexes.{holders, IsIndex, AreHoldersOf};
 
 use crate::groups::Groups;
 use crate::place::lists;
@@ -62,12 +63,20 @@ impl Index {
         Ok(Index { holders })
     }
 
-    /// The numbers of the groups that hold a place.
-    pub(crate) fn of(&self, e: usize) -> &[usize]
+    /// What is kept of a place.
+    fn listed(&self, e: usize) -> &[usize]
         requires { e < length self.now }
         ensures { result.now ≡ slice_index_or self.now e [] }
     {
         let holders = &self.holders[e];
         holders.numbers.as_slice()
+    }
+
+    /// The numbers of the groups that hold a place.
+    pub(crate) fn of(&self, e: usize) -> &[usize]
+        requires { e < length self.now }
+        ensures { (k : ℕ) (groups : List Group) → IsIndex k groups self.now → AreHoldersOf groups e result.now }
+    {
+        self.listed(e)
     }
 }

@@ -5,29 +5,29 @@
 // places that have something are: a row is then made word by word, and a room is the least of a few numbers.
 ghost use Rattle.std.specs.Prelude.{◌≡◌, ◌≢◌, ◌↔◌, ℕ, ◌<◌, ◌≤◌, ◌^◌, Bool, true, false, List, length, slice_index_or, ℤ, pos, neg_ℤ, ◌*ℤ◌, ◌+ℤ◌, ◌-ℤ◌, ◌≤ℤ◌, ◌<ℤ◌, IfOk, IfSome, OnOk, IsTrue, Option, Some, Ok, Err, Contains};
 ghost use Rattle.std.specs.List.{All};
-ghost use Rattle.sfm_spec.specs.Bounds.{IsAtMost, IsEntry, IsFactor, IsGiven, AreElements};
+ghost use Rattle.sfm_spec.specs.Bounds.{IsAtMost, IsEntry, IsFactor, IsGiven, AreElements, total_of};
 ghost use Rattle.sfm_spec.specs.Sets.{Has, size};
 ghost use Rattle.sfm_spec.specs.Terms.{SetFunction, times, IsBase, IsFamily, IsSubmodular, IsGreedy, exchanged};
 ghost use Rattle.sfm_spec.specs.Kinds.{IsWithinCaps, IsRank, IsRankFunction};
 ghost use Rattle.sfm_law.specs.Room.{IsRoom, IsReach, IsWithinRoom};
-ghost use Rattle.sfm_laminar.specs.Groups.{IsBelow, AreGroups, NoneCross, IsFirstCrossing};
+ghost use Rattle.sfm_laminar.specs.Groups.{IsGroup, IsBelow, AreGroups, NoneCross, IsFirstCrossing};
 ghost use Rattle.sfm_laminar.specs.Crossing.{group_at};
 ghost use Rattle.sfm_laminar.specs.Ranks.{rank};
-ghost use Rattle.sfm_laminar.specs.Indexes.{IsIndex, AreMasks};
+ghost use Rattle.sfm_laminar.specs.Indexes.{IsIndex, AreHoldersOf, AreMasks};
 ghost use Rattle.sfm_laminar.specs.Masks.{mask};
 ghost use Rattle.sfm_laminar.specs.Slacks.{AreSlacks, IsSupport, laminar_fits, share_of};
-ghost use Rattle.sfm_laminar.specs.Rooms.{slack_of, IsLeast, IsHeld};
+ghost use Rattle.sfm_laminar.specs.Rooms.{slack_of, IsLeast, IsKept, IsHeld, IsHeldAt};
 ghost use Rattle.sfm_laminar.specs.LaminarLaws.{laminar_value, laminar_size, laminar_start, basis_of, laminar-family, laminar-submodular, laminar-bounded, laminar-starts, laminar-starts_small};
 
 use crate::crossing::first_crossing;
-use crate::groups::Groups;
-use crate::growing::{grow, whole};
+use crate::groups::{CappedGroup, Groups};
+use crate::growing::grow;
 use crate::index::Index;
 use crate::masks::Masks;
 use crate::number::{bound, sum_listed};
-use crate::slacks::{Slacks, move_support, share, support_of};
+use crate::slacks::{Slacks, move_support, put_some, share, support_of};
 use sfm_base::{Memory, Places, Set};
-use sfm_law::{Room, Term, are_within, has_sum, product};
+use sfm_law::{Room, Term, are_within, has_sum, least_left, product};
 use std::alloc::Global;
 
 /// Why groups make no laminar matroid.
@@ -72,13 +72,6 @@ pub struct Laminar {
     pub ghost masked: { AreMasks (length places) groups masks },
 }
 
-/// Whether v is not u and has something, where u lacks something.
-fn is_other_some(v: usize, u: usize, lacks: bool, a: i128) -> bool
-    ensures { IsTrue result ↔ ((v ≢ u) × IsTrue lacks × (pos 1 ≤ℤ a)) }
-{
-    v != u && lacks && a >= 1
-}
-
 impl Laminar {
     /// The term that is worth w for each element of a greatest independent part; the elements are copied. Whether groups
     /// cross is told before memory is asked for.
@@ -105,8 +98,25 @@ impl Laminar {
                 second: crossing.second,
             });
         }
+        Ok(Laminar::uncrossed(alloc, elements, w, groups)?)
+    }
+
+    /// The same, where no two groups cross.
+    fn uncrossed(
+        alloc: Global,
+        elements: &[usize],
+        w: i128,
+        groups: Groups,
+    ) -> Result<Laminar, Memory>
+        requires none { NoneCross groups }
+        requires below { All (IsBelow (length elements.now)) groups }
+        requires elements { AreElements elements.now }
+        requires low { pos 0 ≤ℤ w }
+        requires given { IsGiven w }
+        ensures { IfOk result (λ r. (r.places ≡ elements.now) × (r.w ≡ w) × (r.groups ≡ groups)) }
+    {
         let places = Places::from_slice(alloc, elements)?;
-        let all = whole(alloc, elements.len())?;
+        let all = Set::whole(alloc, elements.len())?;
         let index = Index::new(alloc, &groups, elements.len())?;
         let basis = grow(alloc, &groups, &index, &all)?;
         let masks = Masks::new(alloc, &groups, elements.len())?;
@@ -187,7 +197,27 @@ impl Laminar {
         if !self.basis.contains(j) {
             return 0;
         }
+        self.place_most(q)
+    }
+
+    /// The most that a place may have: q·w.
+    fn place_most(&self, q: i128) -> i128
+        requires factor { IsFactor q }
+        ensures value { result ≡ q *ℤ self.now.w }
+        ensures low { pos 0 ≤ℤ result }
+        ensures high { result ≤ℤ pos (10 ^ 24) }
+    {
         product(q, self.w)
+    }
+
+    /// The group i.
+    fn group(&self, i: usize) -> &CappedGroup
+        requires { i < length self.now.groups }
+        ensures group { result.now ≡ group_at self.now.groups i }
+        ensures sound { IsGroup result.now }
+        ensures few { length result.now.members ≤ 256 }
+    {
+        self.groups.group(i)
     }
 
     /// What the group i lacks of the most that it gets.
@@ -198,8 +228,8 @@ impl Laminar {
         requires group { i < length self.now.groups }
         ensures { result ≡ slack_of q self.now.w x.now (group_at self.now.groups i) }
     {
-        let group = self.groups.group(i);
-        bound(product(q, self.w), group) - sum_listed(group.members(), x)
+        let group = self.group(i);
+        bound(self.place_most(q), group) - sum_listed(group.members(), x)
     }
 
     /// Whether no group gets more than it may.
@@ -217,6 +247,24 @@ impl Laminar {
         true
     }
 
+    /// Whether each entry is from 0 to q·w.
+    fn are_capped(&self, q: i128, x: &[i128]) -> bool
+        requires factor { IsFactor q }
+        ensures { IsTrue result ↔ All (λ a. (pos 0 ≤ℤ a) × (a ≤ℤ (q *ℤ self.now.w))) x.now }
+    {
+        are_within(x, self.place_most(q))
+    }
+
+    /// Whether the entries are q times the whole value in all.
+    fn has_whole(&self, q: i128, x: &[i128]) -> bool
+        requires factor { IsFactor q }
+        requires entries { length x.now ≡ length self.now.places }
+        requires small { All IsEntry x.now }
+        ensures { IsTrue result ↔ (total_of x.now ≡ (q *ℤ laminar_size (length self.now.places) self.now.w self.now.groups)) }
+    {
+        has_sum(x, product(q, self.most()))
+    }
+
     /// Whether x is a base of q times the term.
     pub fn is_base_of(&self, q: i128, x: &[i128]) -> bool
         requires factor { IsFactor q }
@@ -224,12 +272,10 @@ impl Laminar {
         requires small { All IsEntry x.now }
         ensures { IsTrue result ↔ IsBase (times q (laminar_value (length self.now.places) self.now.w self.now.groups)) x.now }
     {
-        let most = product(q, self.w);
-        if !are_within(x, most) {
+        if !self.are_capped(q, x) {
             return false;
         }
-        let whole = product(q, self.most());
-        if !has_sum(x, whole) {
+        if !self.has_whole(q, x) {
             return false;
         }
         self.are_bounded(q, x)
@@ -240,7 +286,7 @@ impl Laminar {
         requires factor { IsFactor q }
         requires entries { length x.now ≡ length self.now.places }
         requires small { All IsEntry x.now }
-        requires noted { IfSome note (λ n. AreSlacks q self.now.w self.now.groups x.now n.now.slacks.items) }
+        requires noted { IfSome note (λ n. laminar_fits self.now.w self.now.groups n.now q x.now) }
         requires group { i < length self.now.groups }
         ensures { result ≡ slack_of q self.now.w x.now (group_at self.now.groups i) }
     {
@@ -250,6 +296,14 @@ impl Laminar {
         }
     }
 
+    /// The members of the group i.
+    fn mask(&self, i: usize) -> &Set
+        requires { i < length self.now.groups }
+        ensures { result.now ≡ mask (length self.now.places) (group_at self.now.groups i).members }
+    {
+        self.masks.of(i)
+    }
+
     /// Whether the group i has v.
     fn has(&self, i: usize, v: usize) -> bool
         requires group { i < length self.now.groups }
@@ -257,7 +311,15 @@ impl Laminar {
         ensures member { IsTrue result ↔ Contains (group_at self.now.groups i).members v }
         ensures masked { result ≡ slice_index_or (mask (length self.now.places) (group_at self.now.groups i).members) v false }
     {
-        self.masks.of(i).contains(v)
+        self.mask(i).contains(v)
+    }
+
+    /// The numbers of the groups that have u.
+    fn holders(&self, u: usize) -> &[usize]
+        requires { u < length self.now.places }
+        ensures { AreHoldersOf self.now.groups u result.now }
+    {
+        self.index.of(u)
     }
 
     /// What v has, or what u lacks of q·w where that is less.
@@ -268,7 +330,7 @@ impl Laminar {
         requires onto { v < length x.now }
         ensures { IsLeast q self.now.w self.now.groups x.now u v 0 result }
     {
-        x[v].min(product(q, self.w) - x[u])
+        least_left(x, u, v, self.place_most(q))
     }
 
     /// The least of what v has, what u lacks of q·w, and what each group lacks that has u and not v.
@@ -276,13 +338,13 @@ impl Laminar {
         requires factor { IsFactor q }
         requires entries { length x.now ≡ length self.now.places }
         requires small { All IsEntry x.now }
-        requires noted { IfSome note (λ n. AreSlacks q self.now.w self.now.groups x.now n.now.slacks.items) }
+        requires noted { IfSome note (λ n. laminar_fits self.now.w self.now.groups n.now q x.now) }
         requires from { u < length x.now }
         requires onto { v < length x.now }
         ensures { IsLeast q self.now.w self.now.groups x.now u v (length self.now.groups) result }
     {
         let mut least = self.least_entry(q, x, u, v);
-        let holders = self.index.of(u);
+        let holders = self.holders(u);
         for i in holders {
             if !self.has(*i, v) {
                 least = least.min(self.slack_by(q, x, note, *i));
@@ -291,34 +353,20 @@ impl Laminar {
         least
     }
 
-    /// The room of (u, v) at a base: the least of what v has, what u lacks of q·w, and what each group lacks that has u and
-    /// not v.
-    pub fn room_of(&self, q: i128, x: &[i128], u: usize, v: usize) -> Room
+    /// The room of (u, v) at a base, by what is kept beside it if there is something: the least of what v has, what u lacks
+    /// of q·w, and what each group lacks that has u and not v.
+    pub fn room_of(&self, q: i128, x: &[i128], note: Option<&Slacks>, u: usize, v: usize) -> Room
         requires factor { IsFactor q }
         requires entries { length x.now ≡ length self.now.places }
         requires small { All IsEntry x.now }
         requires base { IsBase (times q (laminar_value (length self.now.places) self.now.w self.now.groups)) x.now }
+        requires noted { IfSome note (λ n. laminar_fits self.now.w self.now.groups n.now q x.now) }
         requires apart { u ≢ v }
         requires from { u < length x.now }
         requires onto { v < length x.now }
         ensures { IsRoom (times q (laminar_value (length self.now.places) self.now.w self.now.groups)) x.now u v result }
     {
-        Room::Upto(self.least_left(q, x, None, u, v))
-    }
-
-    /// The room of (u, v) at a base, by what is kept beside it.
-    pub fn room_in(&self, q: i128, x: &[i128], note: &Slacks, u: usize, v: usize) -> Room
-        requires factor { IsFactor q }
-        requires entries { length x.now ≡ length self.now.places }
-        requires small { All IsEntry x.now }
-        requires base { IsBase (times q (laminar_value (length self.now.places) self.now.w self.now.groups)) x.now }
-        requires noted { laminar_fits self.now.w self.now.groups note.now q x.now }
-        requires apart { u ≢ v }
-        requires from { u < length x.now }
-        requires onto { v < length x.now }
-        ensures { IsRoom (times q (laminar_value (length self.now.places) self.now.w self.now.groups)) x.now u v result }
-    {
-        Room::Upto(self.least_left(q, x, Some(note), u, v))
+        Room::Upto(self.least_left(q, x, note, u, v))
     }
 
     /// Whether the group i lacks nothing.
@@ -326,21 +374,27 @@ impl Laminar {
         requires factor { IsFactor q }
         requires entries { length x.now ≡ length self.now.places }
         requires small { All IsEntry x.now }
-        requires noted { IfSome note (λ n. AreSlacks q self.now.w self.now.groups x.now n.now.slacks.items) }
+        requires noted { IfSome note (λ n. laminar_fits self.now.w self.now.groups n.now q x.now) }
         requires group { i < length self.now.groups }
         ensures { IsTrue result ↔ (slack_of q self.now.w x.now (group_at self.now.groups i) ≡ pos 0) }
     {
         self.slack_by(q, x, note, i) == 0
     }
 
-    /// Takes out what is not in the group i.
-    fn keep_group(&self, i: usize, to: &mut Set)
+    /// Takes out what is not in the group i, where it lacks nothing.
+    fn keep_full_group(&self, q: i128, x: &[i128], note: Option<&Slacks>, i: usize, to: &mut Set)
+        requires factor { IsFactor q }
+        requires entries { length x.now ≡ length self.now.places }
+        requires small { All IsEntry x.now }
+        requires noted { IfSome note (λ n. laminar_fits self.now.w self.now.groups n.now q x.now) }
         requires group { i < length self.now.groups }
         requires sized { length to.old ≡ length self.now.places }
-        ensures places { length to.new ≡ length to.old }
-        ensures kept { (v : ℕ) → v < length to.old → Has to.new v ↔ (Has to.old v × Contains (group_at self.now.groups i).members v) }
+        ensures { IsKept to.old to.new (IsHeldAt q self.now.w self.now.groups x.now i) }
     {
-        to.keep_with(self.masks.of(i));
+        if !self.is_full(q, x, note, i) {
+            return;
+        }
+        to.keep_with(self.mask(i));
     }
 
     /// Takes out what is not in each group that has u and lacks nothing.
@@ -348,87 +402,46 @@ impl Laminar {
         requires factor { IsFactor q }
         requires entries { length x.now ≡ length self.now.places }
         requires small { All IsEntry x.now }
-        requires noted { IfSome note (λ n. AreSlacks q self.now.w self.now.groups x.now n.now.slacks.items) }
+        requires noted { IfSome note (λ n. laminar_fits self.now.w self.now.groups n.now q x.now) }
         requires from { u < length x.now }
         requires sized { length to.old ≡ length self.now.places }
-        ensures places { length to.new ≡ length to.old }
-        ensures kept { (v : ℕ) → v < length to.old → Has to.new v ↔ (Has to.old v × IsHeld q self.now.w self.now.groups x.now u (length self.now.groups) v) }
+        ensures { IsKept to.old to.new (IsHeld q self.now.w self.now.groups x.now u (length self.now.groups)) }
     {
-        let holders = self.index.of(u);
+        let holders = self.holders(u);
         for i in holders {
-            if self.is_full(q, x, note, *i) {
-                self.keep_group(*i, to);
-            }
+            self.keep_full_group(q, x, note, *i, to);
         }
     }
 
-    /// Puts the places other than u in that have something, where u lacks something of q·w.
-    fn put_some(&self, q: i128, x: &[i128], u: usize, to: &mut Set)
+    /// Whether u lacks something of q·w.
+    fn lacks(&self, q: i128, x: &[i128], u: usize) -> bool
         requires factor { IsFactor q }
         requires small { All IsEntry x.now }
         requires from { u < length x.now }
-        requires room_for_answer { length to.old ≡ length x.now }
-        ensures places { length to.new ≡ length to.old }
-        ensures some { (v : ℕ) → v < length x.now → Has to.new v ↔ ((v ≢ u) × (slice_index_or x.now u (pos 0) <ℤ (q *ℤ self.now.w)) × (pos 1 ≤ℤ slice_index_or x.now v (pos 0))) }
+        ensures { IsTrue result ↔ (slice_index_or x.now u (pos 0) <ℤ (q *ℤ self.now.w)) }
     {
-        let lacks = x[u] < product(q, self.w);
-        for (v, a) in x.iter().enumerate() {
-            to.put(v, is_other_some(v, u, lacks, *a));
-        }
+        x[u] < self.place_most(q)
     }
 
-    /// Writes the places other than u to which u has room at a base: those that have something and are in each group that
-    /// has u and lacks nothing, where u lacks something of q·w.
-    pub fn reach_of(&self, q: i128, x: &[i128], u: usize, to: &mut Set)
+    /// Writes the places other than u to which u has room at a base, by what is kept beside it if there is something: those
+    /// that have something and are in each group that has u and lacks nothing, where u lacks something of q·w.
+    pub fn reach_of(&self, q: i128, x: &[i128], note: Option<&Slacks>, u: usize, to: &mut Set)
         requires factor { IsFactor q }
         requires entries { length x.now ≡ length self.now.places }
         requires small { All IsEntry x.now }
         requires base { IsBase (times q (laminar_value (length self.now.places) self.now.w self.now.groups)) x.now }
+        requires noted { IfSome note (λ n. laminar_fits self.now.w self.now.groups n.now q x.now) }
         requires from { u < length x.now }
-        requires room_for_answer { length to.old ≡ length x.now }
-        ensures places { length to.new ≡ length to.old }
-        ensures reached { IsReach (times q (laminar_value (length self.now.places) self.now.w self.now.groups)) x.now u to.new }
+        requires sized { length to.old ≡ length x.now }
+        ensures { IsReach (times q (laminar_value (length self.now.places) self.now.w self.now.groups)) x.now u to.new }
     {
-        self.put_some(q, x, u, to);
-        self.keep_full(q, x, None, u, to);
-    }
-
-    /// Puts the places other than u in that have something, where u lacks something of q·w, by what is kept; and tells
-    /// whether it lacks something.
-    fn put_support(&self, q: i128, x: &[i128], note: &Slacks, u: usize, to: &mut Set) -> bool
-        requires factor { IsFactor q }
-        requires small { All IsEntry x.now }
-        requires noted { IsSupport x.now note.now.support }
-        requires from { u < length x.now }
-        requires room_for_answer { length to.old ≡ length x.now }
-        ensures places { length to.new ≡ length to.old }
-        ensures some { (v : ℕ) → v < length x.now → Has to.new v ↔ ((v ≢ u) × (slice_index_or x.now u (pos 0) <ℤ (q *ℤ self.now.w)) × (pos 1 ≤ℤ slice_index_or x.now v (pos 0))) }
-        ensures lacks { IsTrue result ↔ (slice_index_or x.now u (pos 0) <ℤ (q *ℤ self.now.w)) }
-    {
-        to.clear();
-        if x[u] < product(q, self.w) {
-            to.union_with(&note.support);
-            to.remove(u);
-            return true;
+        if !self.lacks(q, x, u) {
+            to.clear();
+            return;
         }
-        false
-    }
-
-    /// Writes what `reach_of` does, by what is kept beside the base.
-    pub fn reach_in(&self, q: i128, x: &[i128], note: &Slacks, u: usize, to: &mut Set)
-        requires factor { IsFactor q }
-        requires entries { length x.now ≡ length self.now.places }
-        requires small { All IsEntry x.now }
-        requires base { IsBase (times q (laminar_value (length self.now.places) self.now.w self.now.groups)) x.now }
-        requires noted { laminar_fits self.now.w self.now.groups note.now q x.now }
-        requires from { u < length x.now }
-        requires room_for_answer { length to.old ≡ length x.now }
-        ensures places { length to.new ≡ length to.old }
-        ensures reached { IsReach (times q (laminar_value (length self.now.places) self.now.w self.now.groups)) x.now u to.new }
-    {
-        if self.put_support(q, x, note, u, to) {
-            self.keep_full(q, x, Some(note), u, to);
-        }
+        put_some(x, note, to);
+        to.remove(u);
+        self.keep_full(q, x, note, u, to);
     }
 
     /// What each group lacks.
@@ -461,6 +474,18 @@ impl Laminar {
         Ok(Slacks { slacks, support })
     }
 
+    /// What the group i has of an amount at v: all of it, or nothing.
+    fn share_in(&self, i: usize, v: usize, a: i128) -> i128
+        requires group { i < length self.now.groups }
+        requires place { v < length self.now.places }
+        requires low { pos 0 ≤ℤ a }
+        ensures value { result ≡ share_of (length self.now.places) (group_at self.now.groups i) v a }
+        ensures low { pos 0 ≤ℤ result }
+        ensures high { result ≤ℤ a }
+    {
+        share(self.has(i, v), a)
+    }
+
     /// What the group i lacks once u is raised and v lowered by a.
     fn moved_slack(&self, slack: i128, i: usize, u: usize, v: usize, a: i128) -> i128
         requires small { IsAtMost (10 ^ 27) slack }
@@ -471,9 +496,7 @@ impl Laminar {
         requires high { a ≤ℤ pos (10 ^ 30) }
         ensures { result ≡ ((slack -ℤ share_of (length self.now.places) (group_at self.now.groups i) u a) +ℤ share_of (length self.now.places) (group_at self.now.groups i) v a) }
     {
-        let less = share(self.has(i, u), a);
-        let more = share(self.has(i, v), a);
-        slack - less + more
+        slack - self.share_in(i, u, a) + self.share_in(i, v, a)
     }
 
     /// Brings what each group lacks up to an exchange.
@@ -554,7 +577,7 @@ impl Term for Laminar {
         u: usize,
         v: usize,
     ) -> Result<Room, Memory> {
-        Ok(self.room_of(q, x, u, v))
+        Ok(self.room_of(q, x, None, u, v))
     }
 
     fn reach(
@@ -565,7 +588,7 @@ impl Term for Laminar {
         u: usize,
         to: &mut Set,
     ) -> Result<(), Memory> {
-        self.reach_of(q, x, u, to);
+        self.reach_of(q, x, None, u, to);
         Ok(())
     }
 
@@ -582,7 +605,7 @@ impl Term for Laminar {
         u: usize,
         to: &mut Set,
     ) -> Result<(), Memory> {
-        self.reach_in(q, x, note, u, to);
+        self.reach_of(q, x, Some(note), u, to);
         Ok(())
     }
 
@@ -595,7 +618,7 @@ impl Term for Laminar {
         u: usize,
         v: usize,
     ) -> Result<Room, Memory> {
-        Ok(self.room_in(q, x, note, u, v))
+        Ok(self.room_of(q, x, Some(note), u, v))
     }
 
     fn moved(

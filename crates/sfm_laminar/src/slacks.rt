@@ -1,6 +1,6 @@
 // What is kept beside a base, so that rooms and rows are told without a sum over the members of a group: what each group lacks,
 // and the places that have something. An exchange changes what those groups lack that have one of its places, by its amount.
-ghost use Rattle.std.specs.Prelude.{◌≡◌, ◌≢◌, ◌↔◌, ◌<◌, ◌^◌, IsTrue, length, pos, ◌≤ℤ◌, if◌then◌else◌, IfOk};
+ghost use Rattle.std.specs.Prelude.{◌≡◌, ◌≢◌, ◌↔◌, ◌<◌, ◌^◌, IsTrue, length, pos, ◌≤ℤ◌, if◌then◌else◌, IfOk, IfSome};
 ghost use Rattle.std.specs.List.{All};
 ghost use Rattle.sfm_spec.specs.Bounds.{IsEntry};
 ghost use Rattle.sfm_spec.specs.Terms.{exchanged};
@@ -25,9 +25,23 @@ fn is_some(a: i128) -> bool
 
 /// An amount where it is had, and else nothing.
 pub(crate) fn share(has: bool, a: i128) -> i128
-    ensures { result ≡ (if has then a else pos 0) }
+    requires { pos 0 ≤ℤ a }
+    ensures value { result ≡ (if has then a else pos 0) }
+    ensures low { pos 0 ≤ℤ result }
+    ensures high { result ≤ℤ a }
 {
     if has { a } else { 0 }
+}
+
+/// Puts the places that have something.
+fn put_support(x: &[i128], to: &mut Set)
+    requires small { All IsEntry x.now }
+    requires sized { length to.old ≡ length x.now }
+    ensures { IsSupport x.now to.new }
+{
+    for (v, a) in x.iter().enumerate() {
+        to.put(v, is_some(*a));
+    }
 }
 
 /// The places that have something.
@@ -36,10 +50,30 @@ pub(crate) fn support_of(alloc: Global, x: &[i128]) -> Result<Set, Memory>
     ensures { IfOk result (IsSupport x.now) }
 {
     let mut support = Set::empty(alloc, x.len())?;
-    for (v, a) in x.iter().enumerate() {
-        support.put(v, is_some(*a));
-    }
+    put_support(x, &mut support);
     Ok(support)
+}
+
+/// Puts the places of another set, and no others.
+fn put_set(s: &Set, to: &mut Set)
+    requires { length to.old ≡ length s.now }
+    ensures { to.new ≡ s.now }
+{
+    to.clear();
+    to.union_with(s);
+}
+
+/// Puts the places that have something, by what is kept if there is something.
+pub(crate) fn put_some(x: &[i128], note: Option<&Slacks>, to: &mut Set)
+    requires small { All IsEntry x.now }
+    requires noted { IfSome note (λ n. IsSupport x.now n.now.support) }
+    requires sized { length to.old ≡ length x.now }
+    ensures { IsSupport x.now to.new }
+{
+    match note {
+        Some(note) => put_set(&note.support, to),
+        None => put_support(x, to),
+    }
 }
 
 /// Brings the places that have something up to an exchange.

@@ -1,70 +1,32 @@
-use Rattle.std.proofs.Common.{◌*ℤ◌, ◌≤ℤ◌, ◌∙◌, pos, ap, sym, arith, length, FitsSigned}
+use Rattle.std.proofs.Common.{length, FitsSigned}
 use Rattle.std.proofs.lemmas.Bool.{both_ways, false≢true}
-use Rattle.std.proofs.lemmas.Int.{ints, to_z-of_z}
-use Rattle.std.proofs.lemmas.List.Elements.{All-get_or}
-use Rattle.std.proofs.lemmas.List.{get_or_default}
+use Rattle.std.proofs.lemmas.Int.{to_z-of_z}
 use mir.Syntax.{w128}
-use Rattle.sfm_spec.specs.Sets.{whole_set, sum_over}
-use Rattle.sfm_laminar.proofs.Bases.{laminar_base, laminar_base_back}
-use Rattle.sfm_law.proofs.Fits.{given_fits, given_more, product_fits, rank_fits}
-use Rattle.sfm_law.proofs.Totals.{total_of-whole}
+use Rattle.sfm_laminar.proofs.Bases.{laminar_tested}
 use Rattle.sfm_laminar.proofs.laminar.Laminar.is_base_of.Goals as goal
 
-pub returns-then-not-are_within : goal.returns-then-not-are_within
-returns-then-not-are_within c =
-    let r = c.requires in
+pub returns-then-not-are_capped : goal.returns-then-not-are_capped
+returns-then-not-are_capped c =
     let s = c.args.self.now in
-    let x = c.args.x.now in
-    let q = c.args.q in
-    let fq : FitsSigned w128 q = c.ranges.q in
-    let fw : FitsSigned w128 s.w = given_fits _ s.given in
-    let fp : FitsSigned w128 (q *ℤ s.w) = product_fits _ _ r.factor (given_more _ s.given) in
-    let p = simp to_z-of_z at c.product-most.ensures in
-    let within = simp to_z-of_z at (rw p at c.are_within.ensures) in (
-      (λ t. absurd (false≢true t)),
-      (λ b. let h = laminar_base_back (length s.places) q s.w s.groups r.factor.low s.low s.grouped x r.entries b in
-          absurd (both_ways c.are_within.result c.if-not-are_within.true (within.1 (λ k d lt. rw (get_or_default x k d (pos 0) lt) (h.counts k lt, h.capped k lt))))),
-    )
+    let fq : FitsSigned w128 c.args.q = c.ranges.q in
+    let tests = laminar_tested (length s.places) c.args.q s.w s.groups c.requires.factor.low s.low s.grouped c.args.x.now c.requires.entries in
+    let capped = simp to_z-of_z at c.are_capped.ensures in
+    ((λ t. absurd (false≢true t)), (λ b. absurd (both_ways c.are_capped.result c.if-not-are_capped.true (capped.1 (tests.0 b).0))))
 
-pub returns-then-not-has_sum : goal.returns-then-not-has_sum
-returns-then-not-has_sum c =
-    let r = c.requires in
+pub returns-then-not-has_whole : goal.returns-then-not-has_whole
+returns-then-not-has_whole c =
     let s = c.args.self.now in
-    let x = c.args.x.now in
-    let q = c.args.q in
-    let fq : FitsSigned w128 q = c.ranges.q in
-    let fr : FitsSigned w128 c.most.result = rank_fits _ c.most.ensures.small in
-    let ft : FitsSigned w128 (q *ℤ c.most.result) = product_fits _ _ r.factor c.most.ensures.small in
-    let t = simp to_z-of_z at c.product-whole.ensures in
-    let i = simp to_z-of_z at (rw t at c.has_sum.ensures) in
-    let all = ap (λ n. sum_over (whole_set n) x) r.entries in (
-      (λ t. absurd (false≢true t)),
-      (λ b. let h = laminar_base_back (length s.places) q s.w s.groups r.factor.low s.low s.grouped x r.entries b in
-          absurd (both_ways c.has_sum.result c.if-not-has_sum.true (i.1 (total_of-whole x ∙ (all ∙ (h.sum ∙ ap (λ z. q *ℤ z) (sym c.most.ensures.value))))))),
-    )
+    let fq : FitsSigned w128 c.args.q = c.ranges.q in
+    let tests = laminar_tested (length s.places) c.args.q s.w s.groups c.requires.factor.low s.low s.grouped c.args.x.now c.requires.entries in
+    let whole = simp to_z-of_z at c.has_whole.ensures in
+    ((λ t. absurd (false≢true t)), (λ b. absurd (both_ways c.has_whole.result c.if-not-has_whole.true (whole.1 (tests.0 b).1))))
 
 pub returns : goal.returns
 returns c =
-    let r = c.requires in
     let s = c.args.self.now in
-    let x = c.args.x.now in
-    let q = c.args.q in
-    let fq : FitsSigned w128 q = c.ranges.q in
-    let fw : FitsSigned w128 s.w = given_fits _ s.given in
-    let fp : FitsSigned w128 (q *ℤ s.w) = product_fits _ _ r.factor (given_more _ s.given) in
-    let fr : FitsSigned w128 c.most.result = rank_fits _ c.most.ensures.small in
-    let ft : FitsSigned w128 (q *ℤ c.most.result) = product_fits _ _ r.factor c.most.ensures.small in
-    let p = simp to_z-of_z at c.product-most.ensures in
-    let t = simp to_z-of_z at c.product-whole.ensures in
-    let within = (simp to_z-of_z at (rw p at c.are_within.ensures)).0 c.if-not-are_within.false in
-    let sum = (simp to_z-of_z at (rw t at c.has_sum.ensures)).0 c.if-not-has_sum.false in
+    let fq : FitsSigned w128 c.args.q = c.ranges.q in
+    let tests = laminar_tested (length s.places) c.args.q s.w s.groups c.requires.factor.low s.low s.grouped c.args.x.now c.requires.entries in
+    let capped = (simp to_z-of_z at c.are_capped.ensures).0 c.if-not-are_capped.false in
+    let whole = (simp to_z-of_z at c.has_whole.ensures).0 c.if-not-has_whole.false in
     let bounded = simp to_z-of_z at c.are_bounded.ensures in
-    let all = ap (λ n. sum_over (whole_set n) x) r.entries in (
-      (λ h. let b = bounded.0 h in laminar_base (length s.places) q s.w s.groups r.factor.low s.low s.grouped x r.entries (record {
-        counts = λ e lt. (All-get_or (λ a. (pos 0 ≤ℤ a) × (a ≤ℤ (q *ℤ s.w))) x e (pos 0) lt within).0;
-        capped = λ e lt. (All-get_or (λ a. (pos 0 ≤ℤ a) × (a ≤ℤ (q *ℤ s.w))) x e (pos 0) lt within).1;
-        bounded = λ i lt. (let l = b i lt in omega (arith, ints, l));
-        sum = sym all ∙ (sym (total_of-whole x) ∙ (sum ∙ ap (λ z. q *ℤ z) c.most.ensures.value));
-      })),
-      (λ b. let h = laminar_base_back (length s.places) q s.w s.groups r.factor.low s.low s.grouped x r.entries b in bounded.1 (λ i lt. let l = h.bounded i lt in omega (arith, ints, l))),
-    )
+    ((λ t. tests.1 (capped, whole, bounded.0 t)), (λ b. bounded.1 (tests.0 b).2))

@@ -1,29 +1,18 @@
-use Rattle.std.proofs.Common.{◌≡◌, ◌∙◌, length, arith, rules, FitsSigned, to_z, of_z, ℤ}
+use Rattle.std.proofs.Common.{◌≡◌, ◌∙◌, arith, rules, FitsSigned, to_z, of_z, ℤ}
 use Rattle.std.proofs.lemmas.Bool.{both_ways}
 use Rattle.std.proofs.lemmas.Int.{to_z-of_z}
 use mir.Syntax.{w128}
-use Rattle.sfm_laminar.proofs.Holders.{holder_at, holders_at, holder_below}
+use Rattle.sfm_laminar.proofs.Holders.{holder_at}
 use Rattle.sfm_laminar.proofs.Leasts.{least_begin, least_with, least_without, least_all}
 use Rattle.sfm_laminar.proofs.laminar.Laminar.least_left.Goals as goal
 use Rattle.sfm_laminar.proofs.laminar.Laminar.least_left.Goals.{then-not-has, else-not-has}
 
 pub loop-i-init : goal.loop-i-init
 loop-i-init c =
-    let s = c.args.self.now in
     let fq : FitsSigned w128 c.args.q = c.ranges.q in
     let fl : FitsSigned w128 c.least_entry-least.result = search rules in
     let entry = simp to_z-of_z at c.least_entry-least.ensures in
-    simp to_z-of_z (least_begin c.args.q s.w s.groups c.args.x.now c.of-holders.result.now c.args.u c.args.v c.least_entry-least.result entry)
-
-pub has-requires-clause-group : goal.has-requires-clause-group
-has-requires-clause-group c =
-    let s = c.args.self.now in
-    holder_below (length s.places) s.groups s.index c.args.u _ s.indexed (omega (arith, c.requires.from, c.requires.entries)) c.of-holders.ensures c.loop-i.i-index c.loop-i-test.true
-
-pub slack_by-requires-clause-group : goal.slack_by-requires-clause-group
-slack_by-requires-clause-group c =
-    let s = c.args.self.now in
-    holder_below (length s.places) s.groups s.index c.args.u _ s.indexed (omega (arith, c.requires.from, c.requires.entries)) c.of-holders.ensures c.loop-i.i-index c.loop-i-test.true
+    simp to_z-of_z (least_begin _ _ _ _ _ _ _ _ entry)
 
 pub slack_by-requires-clause-noted : goal.slack_by-requires-clause-noted
 slack_by-requires-clause-noted c =
@@ -33,15 +22,14 @@ slack_by-requires-clause-noted c =
 pub loop-i-preserved : goal.loop-i-preserved
 loop-i-preserved c =
     let s = c.args.self.now in
-    let x = c.args.x.now in
     let q : ℤ = to_z w128 (of_z w128 c.args.q) in
+    let x = c.args.x.now in
     let u = c.args.u in
     let v = c.args.v in
-    let es = c.of-holders.result.now in
+    let es = c.holders-holders.result.now in
     let i = c.loop-i.i-index in
     let inv = c.loop-i.invariant in
-    let at = holders_at (length s.places) s.groups s.index u es s.indexed (omega (arith, c.requires.from, c.requires.entries)) c.of-holders.ensures in
-    let here = holder_at s.groups es u i at c.loop-i-test.true in
+    let here = holder_at s.groups es u i c.holders-holders.ensures.exact c.loop-i-test.true in
     elim c.if-not-has.branch [
       | then-not-has w ↦
           (let fs : FitsSigned w128 w.slack_by.result = search rules in
@@ -54,9 +42,6 @@ loop-i-preserved c =
 
 pub returns : goal.returns
 returns c =
-    let s = c.args.self.now in
-    let es = c.of-holders.result.now in
     let fq : FitsSigned w128 c.args.q = c.ranges.q in
     let inv = simp to_z-of_z at c.loop-i.invariant in
-    let at = holders_at (length s.places) s.groups s.index c.args.u es s.indexed (omega (arith, c.requires.from, c.requires.entries)) c.of-holders.ensures in
-    least_all c.args.q s.w s.groups c.args.x.now es c.args.u c.args.v c.loop-i.i-index _ inv (omega (arith, c.loop-i-test.false)) at
+    least_all _ _ _ _ _ _ _ _ _ inv (omega (arith, c.loop-i-test.false)) c.holders-holders.ensures.exact

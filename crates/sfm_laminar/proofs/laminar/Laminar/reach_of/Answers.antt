@@ -1,22 +1,38 @@
-use Rattle.std.proofs.Common.{◌∙◌, length, arith, FitsSigned}
+use Rattle.std.proofs.Common.{◌∙◌, length-set, arith, FitsSigned}
+use Rattle.std.proofs.lemmas.Bool.{both_ways}
 use Rattle.std.proofs.lemmas.Int.{to_z-of_z}
 use mir.Syntax.{w128}
-use Rattle.sfm_laminar.proofs.Exchanges.{laminar-reach}
+use Rattle.sfm_laminar.proofs.Exchanges.{reach_none, reach_held}
+use Rattle.sfm_laminar.proofs.Slacking.{noted_support}
 use Rattle.sfm_laminar.proofs.laminar.Laminar.reach_of.Goals as goal
 
-pub returns-clause-reached : goal.returns-clause-reached
-returns-clause-reached c =
+pub returns-then-not-lacks : goal.returns-then-not-lacks
+returns-then-not-lacks c =
     let r = c.requires in
     let s = c.args.self.now in
-    let x = c.args.x.now in
-    let q = c.args.q in
-    let fq : FitsSigned w128 q = c.ranges.q in
-    let some = simp to_z-of_z at c.put_some.ensures.some in
-    let kept = simp to_z-of_z at c.keep_full.ensures.kept in
-    let first = c.put_some.ensures.places in
-    let room = r.room_for_answer in
-    laminar-reach (length s.places) q s.w s.groups r.factor.low s.low s.grouped x r.entries r.base c.args.u r.from c.keep_full.new.to (c.keep_full.ensures.places ∙ (first ∙ room))
-    (λ v kv. (
-      (λ h. let a = (kept v (omega (arith, kv, first, room))).0 h in let b = (some v kv).0 a.0 in (b.0, b.1, b.2, a.1)),
-      (λ (ne, less, one, held). (kept v (omega (arith, kv, first, room))).1 ((some v kv).1 (ne, less, one), held)),
-    ))
+    let fq : FitsSigned w128 c.args.q = c.ranges.q in
+    let lacks = simp to_z-of_z at c.lacks.ensures in
+    rw (c.clear.ensures, r.sized) (reach_none _ _ _ _ r.factor.low s.low s.grouped _ r.entries r.base _ r.from (λ less. both_ways c.lacks.result c.if-not-lacks.true (lacks.1 less)))
+
+pub put_some-requires-clause-noted : goal.put_some-requires-clause-noted
+put_some-requires-clause-noted c = noted_support _ _ _ _ c.requires.noted
+
+pub remove-requires : goal.remove-requires
+remove-requires c = omega (arith, c.put_some.ensures.places, c.requires.from)
+
+pub keep_full-requires-clause-noted : goal.keep_full-requires-clause-noted
+keep_full-requires-clause-noted c =
+    let fq : FitsSigned w128 c.args.q = c.ranges.q in
+    simp to_z-of_z c.requires.noted
+
+pub keep_full-requires-clause-sized : goal.keep_full-requires-clause-sized
+keep_full-requires-clause-sized c = rw c.remove.ensures (length-set _ _ _ ∙ (c.put_some.ensures.places ∙ c.requires.entries))
+
+pub returns : goal.returns
+returns c =
+    let r = c.requires in
+    let s = c.args.self.now in
+    let fq : FitsSigned w128 c.args.q = c.ranges.q in
+    let lacks = (simp to_z-of_z at c.lacks.ensures).0 c.if-not-lacks.false in
+    let kept = rw c.remove.ensures at (simp to_z-of_z at c.keep_full.ensures) in
+    reach_held _ _ _ _ r.factor.low s.low s.grouped _ r.entries r.base _ r.from lacks _ _ c.put_some.ensures kept

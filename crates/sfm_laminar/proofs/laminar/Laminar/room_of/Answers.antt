@@ -4,6 +4,11 @@ use mir.Syntax.{w128}
 use Rattle.sfm_laminar.proofs.Exchanges.{laminar-capacity}
 use Rattle.sfm_laminar.proofs.laminar.Laminar.room_of.Goals as goal
 
+pub least_left-requires-clause-noted : goal.least_left-requires-clause-noted
+least_left-requires-clause-noted c =
+    let fq : FitsSigned w128 c.args.q = c.ranges.q in
+    simp to_z-of_z c.requires.noted
+
 pub returns : goal.returns
 returns c =
     let r = c.requires in

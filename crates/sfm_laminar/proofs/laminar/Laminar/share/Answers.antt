@@ -1,7 +1,6 @@
-use Rattle.std.proofs.Common.{◌∙◌, ◌*ℤ◌, false, length, get_or, ap, sym, FitsSigned}
+use Rattle.std.proofs.Common.{◌∙◌, false, length, get_or, ap, sym, rules, FitsSigned}
 use Rattle.std.proofs.lemmas.Int.{to_z-of_z}
 use mir.Syntax.{w128}
-use Rattle.sfm_law.proofs.Fits.{given_fits, given_more, product_fits}
 use Rattle.sfm_rank.proofs.Terms.{share-in, share-out}
 use Rattle.sfm_laminar.specs.LaminarLaws.{basis_of}
 use Rattle.sfm_laminar.proofs.Kept.{length-basis}
@@ -15,7 +14,6 @@ contains-requires c =
 pub returns-then-not-contains : goal.returns-then-not-contains
 returns-then-not-contains c =
     let s = c.args.self.now in
-    let fq : FitsSigned w128 c.args.q = c.ranges.q in
     let out = ap (λ t. get_or t c.args.j false) (sym s.based) ∙ (sym c.contains.ensures ∙ c.if-not-contains.true) in
     sym (share-out c.args.q s.w (basis_of (length s.places) s.groups) c.args.j out)
 
@@ -23,8 +21,7 @@ pub returns : goal.returns
 returns c =
     let s = c.args.self.now in
     let fq : FitsSigned w128 c.args.q = c.ranges.q in
-    let fw : FitsSigned w128 s.w = given_fits _ s.given in
-    let fp : FitsSigned w128 (c.args.q *ℤ s.w) = product_fits _ _ c.requires.factor (given_more _ s.given) in
-    let p = simp to_z-of_z at c.product.ensures in
+    let fm : FitsSigned w128 c.place_most.result = search rules in
+    let most = simp to_z-of_z at c.place_most.ensures.value in
     let has = ap (λ t. get_or t c.args.j false) (sym s.based) ∙ (sym c.contains.ensures ∙ c.if-not-contains.false) in
-    rw p (simp to_z-of_z (sym (share-in c.args.q s.w (basis_of (length s.places) s.groups) c.args.j has)))
+    simp to_z-of_z (most ∙ sym (share-in c.args.q s.w (basis_of (length s.places) s.groups) c.args.j has))
