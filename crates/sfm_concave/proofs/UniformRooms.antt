@@ -3,16 +3,21 @@ use Rattle.std.proofs.Common.{◌≡◌, ◌≢◌, ◌↔◌, ℕ, suc, ◌<◌
 use Rattle.std.proofs.Math.IntN.{*ℤ-zero}
 use Rattle.std.proofs.lemmas.Bool.{cases_eq}
 use Rattle.std.proofs.lemmas.Int.{ints, clamps, by_lt_z}
-use Rattle.std.proofs.lemmas.List.{length-replicate, get_or-replicate}
+use Rattle.std.specs.List.{All}
+use Rattle.std.proofs.lemmas.List.{get_or_default, length-replicate, get_or-replicate}
+use Rattle.std.proofs.lemmas.List.Elements.{All-get_or}
+use Rattle.sfm_spec.specs.Bounds.{total_of}
 use Rattle.sfm_spec.specs.Sets.{Has, empty_set, whole_set, size, sum_over, IsWithin}
 use Rattle.sfm_spec.specs.Terms.{times, IsBase, IsCapacity, HasRoom, exchanged}
 use Rattle.sfm_spec.specs.Kinds.{uniform_value}
+use Rattle.sfm_spec.proofs.Lattice.{none_in_empty}
 use Rattle.sfm_spec.proofs.Where.{size-cons}
 use Rattle.sfm_spec.proofs.Scaled.{times-mono, times-add, times-assoc}
 use Rattle.sfm_spec.proofs.Sets.{Has-whole}
 use Rattle.sfm_spec.proofs.Sizes.{size-whole, size-empty, size_below_length, weight-empty}
 use Rattle.sfm_spec.proofs.Sums.{sum_over-exchanged, length-exchanged}
 use Rattle.sfm_law.proofs.Monotone.{AreCounts, sum_over-mono, sum_over-without, without}
+use Rattle.sfm_law.proofs.Totals.{total_of-whole}
 use Rattle.sfm_law.specs.Room.{IsReach}
 use Rattle.sfm_concave.specs.Counts.{size-in, sum_over-in}
 use Rattle.sfm_concave.specs.UniformLaws.{rank_of, IsUniformRoom}
@@ -194,3 +199,31 @@ uniform-reach q w cap hq hw x base u ku to same is = record {
     (λ (ne, room). let r = (uniform-room q w cap hq hw x base u v ku kv (λ e. ne (sym e))).0 room in (is v kv).1 (ne, r.0, r.1)),
   );
 }
+
+-- what the code tests, one after the other
+pub uniform_tested : (q w cap : ℤ) (x : List ℤ) → pos 1 ≤ℤ q → pos 0 ≤ℤ w → IsBase (times q (uniform_value w cap)) x
+    ↔ (All (λ a. (pos 0 ≤ℤ a) × (a ≤ℤ (q *ℤ w))) x × (total_of x ≡ (q *ℤ (w *ℤ rank_of cap (length x)))))
+uniform_tested q w cap x hq hw = (
+  (λ b. let h = uniform_base_back q w cap x hq hw b in ((λ e d lt. rw (get_or_default x e d (pos 0) lt) (h.counts e lt, h.capped e lt)), total_of-whole x ∙ h.sum)),
+  (λ (within, sum). uniform_base q w cap x hq hw (record {
+    counts = λ e lt. (All-get_or (λ a. (pos 0 ≤ℤ a) × (a ≤ℤ (q *ℤ w))) x e (pos 0) lt within).0;
+    capped = λ e lt. (All-get_or (λ a. (pos 0 ≤ℤ a) × (a ≤ℤ (q *ℤ w))) x e (pos 0) lt within).1;
+    sum = sym (total_of-whole x) ∙ sum;
+  })),
+)
+
+-- u lacks nothing
+pub uniform-reach_none : (q w cap : ℤ) → pos 1 ≤ℤ q → pos 0 ≤ℤ w → (x : List ℤ) → IsBase (times q (uniform_value w cap)) x → (u : ℕ) → u < length x → (get_or x u (pos 0) <ℤ (q *ℤ w) → ⊥)
+    → IsReach (times q (uniform_value w cap)) x u (empty_set (length x))
+uniform-reach_none q w cap hq hw x base u ku never = uniform-reach q w cap hq hw x base u ku (empty_set (length x)) (length-replicate (length x) false) (λ v kv. (
+  (λ h. absurd (none_in_empty (length x) v h)),
+  (λ (ne, less, some). absurd (never less)),
+))
+
+-- u lacks something: the others above 0
+pub uniform-reach_over : (q w cap : ℤ) → pos 1 ≤ℤ q → pos 0 ≤ℤ w → (x : List ℤ) → IsBase (times q (uniform_value w cap)) x → (u : ℕ) → u < length x → get_or x u (pos 0) <ℤ (q *ℤ w) → (to : List Bool) → length to ≡ length x
+    → ((v : ℕ) → v < length x → Has to v ↔ ((v ≢ u) × (pos 0 <ℤ get_or x v (pos 0)))) → IsReach (times q (uniform_value w cap)) x u to
+uniform-reach_over q w cap hq hw x base u ku lacks to same over = uniform-reach q w cap hq hw x base u ku to same (λ v kv. (
+  (λ h. let o = (over v kv).0 h in (o.0, lacks, (let more = o.1 in omega (arith, ints, more)))),
+  (λ (ne, less, some). (over v kv).1 (ne, omega (arith, ints, some))),
+))

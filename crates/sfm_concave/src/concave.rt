@@ -2,20 +2,21 @@
 // Of the parts of one count those with the greatest entries leave least; and of these, only those that have all the entries above
 // some entry need to be tried: with u put in and v taken out for the room of (u, v). For a row the parts of the greatest entries
 // are tried from u's own entry on, one size after another: the first that leaves nothing tells the row.
-ghost use Rattle.std.specs.Prelude.{◌≡◌, ◌≢◌, ◌↔◌, ℕ, ◌+◌, ◌-◌, ◌<◌, ◌≤◌, ◌^◌, Bool, true, false, List, length, slice_index_or, ℤ, pos, neg_ℤ, ◌*ℤ◌, ◌+ℤ◌, ◌-ℤ◌, ◌≤ℤ◌, ◌<ℤ◌, IfOk, IfSome, MatchOption, OnOk, IsTrue, Option, Some, Ok, Err};
+ghost use Rattle.std.specs.Prelude.{◌≡◌, ◌≢◌, ◌↔◌, ℕ, ◌+◌, ◌-◌, ◌<◌, ◌≤◌, ◌^◌, Bool, true, false, List, length, slice_index_or, slice_set, ℤ, pos, neg_ℤ, ◌*ℤ◌, ◌+ℤ◌, ◌-ℤ◌, ◌≤ℤ◌, ◌<ℤ◌, IfOk, IfSome, MatchOption, OnOk, IsTrue, Option, Some, Ok, Err};
+ghost use Rattle.std.specs.Int.{int_min};
 ghost use Rattle.std.specs.List.{All};
 ghost use Rattle.sfm_spec.specs.Bounds.{IsAtMost, IsEntry, IsFactor, IsGiven, AreElements};
-ghost use Rattle.sfm_spec.specs.Sets.{Has};
+ghost use Rattle.sfm_spec.specs.Sets.{Has, whole_set};
 ghost use Rattle.sfm_spec.specs.Terms.{SetFunction, times, IsBase, IsFamily, IsSubmodular, IsGreedy, exchanged};
 ghost use Rattle.sfm_spec.specs.Kinds.{concave_value};
 ghost use Rattle.sfm_law.specs.Room.{IsRoom, IsReach, IsWithinRoom};
 ghost use Rattle.sfm_concave.specs.Rankings.{IsRanking};
-ghost use Rattle.sfm_concave.specs.Thresholds.{slack, IsShareOf, IsSomeShare, slack_from, IsLeastSlack, IsOver, IsBar, IsLastTight, NoneTight, LeavesAbove};
+ghost use Rattle.sfm_concave.specs.Thresholds.{above, slack, IsShareOf, IsSomeShare, slack_from, IsLeastSlack, IsOver, IsBar, IsLastTight, NoneTight, LeavesAbove};
 ghost use Rattle.sfm_concave.specs.ConcaveLaws.{number_of, scaled, IsFirstRise, NeverRises, greatest, gain_of, concave_start, concave-family, concave-submodular, concave-bounded, concave-starts, concave-starts_small};
 
 use crate::ranking::{FEW, Ranking, RankingArrays, RankingView, count_upto, count_upto_place};
 use crate::rise::first_rise;
-use crate::share::{Share, share_above, share_between, share_beyond, share_without};
+use crate::share::{Share, share_above, share_between, share_beyond, share_from, share_without};
 use sfm_base::{Memory, Numbers, Places, Set};
 use sfm_law::{Room, Term, has_sum, magnitude, product};
 use std::alloc::Global;
@@ -85,7 +86,7 @@ fn is_other_over(v: usize, u: usize, bar: Option<i128>, a: i128) -> bool
 }
 
 /// Writes the places other than u whose entries are above a bar, if there is one.
-fn put_over(x: &[i128], u: usize, bar: Option<i128>, to: &mut Set)
+pub(crate) fn put_over(x: &[i128], u: usize, bar: Option<i128>, to: &mut Set)
     requires small { All IsEntry x.now }
     requires room_for_answer { length to.old ≡ length x.now }
     ensures places { length to.new ≡ length to.old }
@@ -192,6 +193,39 @@ impl Concave {
         self.scaled(q, share.count) - share.sum
     }
 
+    /// What the places above a number leave, by a ranking if there is one.
+    fn slack_above(&self, q: i128, x: &[i128], ranking: Option<RankingView>, bar: i128) -> i128
+        requires factor { IsFactor q }
+        requires entries { length x.now ≡ length self.now.places }
+        requires small { All IsEntry x.now }
+        requires ranked { IfSome ranking (λ r. IsRanking x.now r.sorted.now r.sums.now) }
+        ensures { result ≡ slack (scaled q self.now.values) x.now (above bar x.now) }
+    {
+        self.slack(q, x, share_above(x, ranking, bar))
+    }
+
+    /// What all places but v leave.
+    fn slack_without(&self, q: i128, x: &[i128], v: usize) -> i128
+        requires factor { IsFactor q }
+        requires entries { length x.now ≡ length self.now.places }
+        requires small { All IsEntry x.now }
+        requires onto { v < length x.now }
+        ensures { result ≡ slack (scaled q self.now.values) x.now (slice_set (whole_set (length x.now)) v false) }
+    {
+        self.slack(q, x, share_without(x, v))
+    }
+
+    /// The lesser of a number and what a part with a share leaves.
+    fn lesser_slack(&self, q: i128, x: &[i128], share: Share, least: i128) -> i128
+        requires factor { IsFactor q }
+        requires entries { length x.now ≡ length self.now.places }
+        requires small { All IsEntry x.now }
+        requires share { IsSomeShare share.count share.sum x.now }
+        ensures { (s : List Bool) → IsShareOf share.count share.sum x.now s → result ≡ int_min least (slack (scaled q self.now.values) x.now s) }
+    {
+        least.min(self.slack(q, x, share))
+    }
+
     /// Whether the places above each entry leave something.
     fn is_within(&self, q: i128, x: &[i128]) -> bool
         requires factor { IsFactor q }
@@ -225,7 +259,7 @@ impl Concave {
         ensures { IsTrue result ↔ LeavesAbove (scaled q self.now.values) x.now }
     {
         for a in x {
-            if self.slack(q, x, share_above(x, ranking, *a)) < 0 {
+            if self.slack_above(q, x, ranking, *a) < 0 {
                 return false;
             }
         }
@@ -242,16 +276,20 @@ impl Concave {
         has_sum(x, self.scaled(q, x.len())) && self.is_within(q, x)
     }
 
-    /// The least slack of a part with u and not v.
-    fn least_slack(&self, q: i128, x: &[i128], u: usize, v: usize) -> i128
+    /// The least slack of a part with u and not v, by the ranking that is kept if there is one.
+    fn least_slack(&self, q: i128, x: &[i128], note: Option<&Ranking>, u: usize, v: usize) -> i128
         requires factor { IsFactor q }
         requires entries { length x.now ≡ length self.now.places }
         requires small { All IsEntry x.now }
+        requires noted { IfSome note (λ n. IsRanking x.now n.now.sorted.items n.now.sums.items) }
         requires apart { u ≢ v }
         requires from { u < length x.now }
         requires onto { v < length x.now }
         ensures { IsLeastSlack (scaled q self.now.values) x.now u v result }
     {
+        if let Some(note) = note {
+            return self.least_slack_by(q, x, note.view(), u, v);
+        }
         if x.len() <= FEW {
             return self.least_slack_scanned(q, x, u, v);
         }
@@ -282,10 +320,10 @@ impl Concave {
         requires onto { v < length x.now }
         ensures { IsLeastSlack (scaled q self.now.values) x.now u v result }
     {
-        let mut least = self.slack(q, x, share_without(x, v));
+        let mut least = self.slack_without(q, x, v);
         for a in x {
             let share = share_between(x, share_above(x, None, *a), *a, u, v);
-            least = least.min(self.slack(q, x, share));
+            least = self.lesser_slack(q, x, share, least);
         }
         least
     }
@@ -301,58 +339,44 @@ impl Concave {
         requires onto { v < length x.now }
         ensures { IsLeastSlack (scaled q self.now.values) x.now u v result }
     {
-        let mut least = self.slack(q, x, share_without(x, v));
+        let mut least = self.slack_without(q, x, v);
         let mut upto = ranking.sorted.len();
         for i in (0..ranking.sorted.len()).rev() {
             upto = count_upto_place(ranking.sorted, i, upto);
             let bar = ranking.sorted[i];
             let share = share_between(x, share_beyond(x, ranking, bar, upto), bar, u, v);
-            least = least.min(self.slack(q, x, share));
+            least = self.lesser_slack(q, x, share, least);
         }
         least
     }
 
-    /// The room of (u, v) at a base: the least slack of a part with u and not v.
-    pub fn room_of(&self, q: i128, x: &[i128], u: usize, v: usize) -> Room
+    /// The room of (u, v) at a base, by the ranking that is kept beside it if there is one: the least slack of a part with u
+    /// and not v.
+    pub fn room_of(&self, q: i128, x: &[i128], note: Option<&Ranking>, u: usize, v: usize) -> Room
         requires factor { IsFactor q }
         requires entries { length x.now ≡ length self.now.places }
         requires small { All IsEntry x.now }
         requires base { IsBase (times q (concave_value self.now.values)) x.now }
+        requires noted { IfSome note (λ n. IsRanking x.now n.now.sorted.items n.now.sums.items) }
         requires apart { u ≢ v }
         requires from { u < length x.now }
         requires onto { v < length x.now }
         ensures { IsRoom (times q (concave_value self.now.values)) x.now u v result }
     {
-        Room::Upto(self.least_slack(q, x, u, v))
-    }
-
-    /// The room of (u, v) at a base, by the ranking that is kept beside it.
-    pub fn room_in(&self, q: i128, x: &[i128], note: &Ranking, u: usize, v: usize) -> Room
-        requires factor { IsFactor q }
-        requires entries { length x.now ≡ length self.now.places }
-        requires small { All IsEntry x.now }
-        requires base { IsBase (times q (concave_value self.now.values)) x.now }
-        requires noted { IsRanking x.now note.now.sorted.items note.now.sums.items }
-        requires apart { u ≢ v }
-        requires from { u < length x.now }
-        requires onto { v < length x.now }
-        ensures { IsRoom (times q (concave_value self.now.values)) x.now u v result }
-    {
-        Room::Upto(self.least_slack_by(q, x, note.view(), u, v))
+        Room::Upto(self.least_slack(q, x, note, u, v))
     }
 
     /// What all places but the i least leave.
-    fn slack_from(&self, q: i128, _x: &[i128], ranking: RankingView, i: usize) -> i128
+    fn slack_from(&self, q: i128, x: &[i128], ranking: RankingView, i: usize) -> i128
         requires factor { IsFactor q }
-        requires entries { length _x.now ≡ length self.now.places }
-        requires small { All IsEntry _x.now }
-        requires ranked { IsRanking _x.now ranking.sorted.now ranking.sums.now }
+        requires entries { length x.now ≡ length self.now.places }
+        requires small { All IsEntry x.now }
+        requires ranked { IsRanking x.now ranking.sorted.now ranking.sums.now }
         requires place { i ≤ length ranking.sorted.now }
         ensures { result ≡ slack_from (scaled q self.now.values) ranking.entry.sorted.now i }
     {
-        let len = ranking.sorted.len();
-        let rest = ranking.sums[len] - ranking.sums[i];
-        self.scaled(q, len - i) - rest
+        let rest = share_from(x, ranking, i);
+        self.scaled(q, rest.count) - rest.sum
     }
 
     /// Whether all places but the i least leave nothing.
@@ -404,7 +428,7 @@ impl Concave {
     }
 
     /// The same, by a ranking that is made for it.
-    fn bar(&self, q: i128, x: &[i128], u: usize) -> Option<i128>
+    fn bar_made(&self, q: i128, x: &[i128], u: usize) -> Option<i128>
         requires factor { IsFactor q }
         requires entries { length x.now ≡ length self.now.places }
         requires small { All IsEntry x.now }
@@ -416,33 +440,35 @@ impl Concave {
         self.bar_by(q, x, ranking.view(), u)
     }
 
-    /// Writes the places other than u to which u has room at a base: those above the greatest entry to which it has none.
-    pub fn reach_of(&self, q: i128, x: &[i128], u: usize, to: &mut Set)
+    /// The same, by the ranking that is kept if there is one.
+    fn bar(&self, q: i128, x: &[i128], note: Option<&Ranking>, u: usize) -> Option<i128>
         requires factor { IsFactor q }
         requires entries { length x.now ≡ length self.now.places }
         requires small { All IsEntry x.now }
         requires base { IsBase (times q (concave_value self.now.values)) x.now }
+        requires noted { IfSome note (λ n. IsRanking x.now n.now.sorted.items n.now.sums.items) }
         requires from { u < length x.now }
-        requires room_for_answer { length to.old ≡ length x.now }
-        ensures places { length to.new ≡ length to.old }
-        ensures reached { IsReach (times q (concave_value self.now.values)) x.now u to.new }
+        ensures { IsBar (scaled q self.now.values) x.now u result }
     {
-        put_over(x, u, self.bar(q, x, u), to);
+        match note {
+            Some(note) => self.bar_by(q, x, note.view(), u),
+            None => self.bar_made(q, x, u),
+        }
     }
 
-    /// Writes what `reach_of` does, by the ranking that is kept beside the base.
-    pub fn reach_in(&self, q: i128, x: &[i128], note: &Ranking, u: usize, to: &mut Set)
+    /// Writes the places other than u to which u has room at a base, by the ranking that is kept beside it if there is one:
+    /// those above the greatest entry to which it has none.
+    pub fn reach_of(&self, q: i128, x: &[i128], note: Option<&Ranking>, u: usize, to: &mut Set)
         requires factor { IsFactor q }
         requires entries { length x.now ≡ length self.now.places }
         requires small { All IsEntry x.now }
         requires base { IsBase (times q (concave_value self.now.values)) x.now }
-        requires noted { IsRanking x.now note.now.sorted.items note.now.sums.items }
+        requires noted { IfSome note (λ n. IsRanking x.now n.now.sorted.items n.now.sums.items) }
         requires from { u < length x.now }
         requires room_for_answer { length to.old ≡ length x.now }
-        ensures places { length to.new ≡ length to.old }
-        ensures reached { IsReach (times q (concave_value self.now.values)) x.now u to.new }
+        ensures { IsReach (times q (concave_value self.now.values)) x.now u to.new }
     {
-        put_over(x, u, self.bar_by(q, x, note.view(), u), to);
+        put_over(x, u, self.bar(q, x, note, u), to);
     }
 }
 
@@ -502,7 +528,7 @@ impl Term for Concave {
         u: usize,
         v: usize,
     ) -> Result<Room, Memory> {
-        Ok(self.room_of(q, x, u, v))
+        Ok(self.room_of(q, x, None, u, v))
     }
 
     fn reach(
@@ -513,7 +539,7 @@ impl Term for Concave {
         u: usize,
         to: &mut Set,
     ) -> Result<(), Memory> {
-        self.reach_of(q, x, u, to);
+        self.reach_of(q, x, None, u, to);
         Ok(())
     }
 
@@ -530,7 +556,7 @@ impl Term for Concave {
         u: usize,
         to: &mut Set,
     ) -> Result<(), Memory> {
-        self.reach_in(q, x, note, u, to);
+        self.reach_of(q, x, Some(note), u, to);
         Ok(())
     }
 
@@ -543,7 +569,7 @@ impl Term for Concave {
         u: usize,
         v: usize,
     ) -> Result<Room, Memory> {
-        Ok(self.room_in(q, x, note, u, v))
+        Ok(self.room_of(q, x, Some(note), u, v))
     }
 
     fn moved(

@@ -1,8 +1,8 @@
 // How many places a set has, and what they have in all, for the sets of places above an entry: by the ranking of the entries
 // where there is one, else by a look at each.
-ghost use Rattle.std.specs.Prelude.{◌≢◌, ◌<◌, ◌≤◌, IfSome, false, length, slice_set};
+ghost use Rattle.std.specs.Prelude.{◌≡◌, ◌≢◌, ◌-◌, ◌<◌, ◌≤◌, ◌^◌, IfSome, false, drop, length, slice_set};
 ghost use Rattle.std.specs.List.{All};
-ghost use Rattle.sfm_spec.specs.Bounds.{IsEntry};
+ghost use Rattle.sfm_spec.specs.Bounds.{IsAtMost, IsEntry, total_of};
 ghost use Rattle.sfm_spec.specs.Sets.{whole_set};
 ghost use Rattle.sfm_concave.specs.Thresholds.{above, above_with, above_between};
 ghost use Rattle.sfm_concave.specs.Thresholds.{IsShareOf};
@@ -18,19 +18,31 @@ pub(crate) struct Share {
     pub sum: i128,
 }
 
-/// The share of the places with more than a number, where so many of the ranked entries are at most that number.
-pub(crate) fn share_beyond(_x: &[i128], ranking: RankingView, _bar: i128, upto: usize) -> Share
+/// The share of all places but the `upto` least, by the ranking of the entries.
+pub(crate) fn share_from(_x: &[i128], ranking: RankingView, upto: usize) -> Share
     requires few { length _x.now ≤ 256 }
     requires small { All IsEntry _x.now }
     requires ranked { IsRanking _x.now ranking.sorted.now ranking.sums.now }
-    requires cut { IsCut _bar ranking.sorted.now upto }
-    ensures { IsShareOf result.count result.sum _x.now (above _bar _x.now) }
+    requires place { upto ≤ length ranking.sorted.now }
+    ensures count { result.count ≡ length ranking.entry.sorted.now - upto }
+    ensures sum { (result.sum ≡ total_of (drop upto ranking.entry.sorted.now)) × IsAtMost (10 ^ 33) result.sum }
 {
     let len = ranking.sorted.len();
     Share {
         count: len - upto,
         sum: ranking.sums[len] - ranking.sums[upto],
     }
+}
+
+/// The share of the places with more than a number, where so many of the ranked entries are at most that number.
+pub(crate) fn share_beyond(x: &[i128], ranking: RankingView, _bar: i128, upto: usize) -> Share
+    requires few { length x.now ≤ 256 }
+    requires small { All IsEntry x.now }
+    requires ranked { IsRanking x.now ranking.sorted.now ranking.sums.now }
+    requires cut { IsCut _bar ranking.sorted.now upto }
+    ensures { IsShareOf result.count result.sum x.now (above _bar x.now) }
+{
+    share_from(x, ranking, upto)
 }
 
 /// The share of the places with more than a number, from the ranking of the entries.

@@ -3,11 +3,12 @@
 // so the room of (u, v) is what v has, or what u lacks of q·w where that is less.
 ghost use Rattle.std.specs.Prelude.{◌≡◌, ◌≢◌, ◌↔◌, ◌<◌, ◌≤◌, ◌^◌, length, ℤ, pos, ◌*ℤ◌, ◌≤ℤ◌, IfOk, IsTrue, Option, Some};
 ghost use Rattle.std.specs.List.{All};
-ghost use Rattle.sfm_spec.specs.Bounds.{IsAtMost, IsEntry, IsFactor, IsGiven, AreElements};
+ghost use Rattle.sfm_spec.specs.Bounds.{IsAtMost, IsEntry, IsFactor, IsGiven, AreElements, total_of};
 ghost use Rattle.sfm_spec.specs.Terms.{times, IsGreedy};
 ghost use Rattle.sfm_spec.specs.Kinds.{uniform_value};
 ghost use Rattle.sfm_concave.specs.UniformLaws.{rank_of, IsUniformRoom, uniform_size, uniform_gain, uniform_start, uniform-family, uniform-submodular, uniform-bounded, uniform-starts, uniform-starts_small};
 
+use crate::concave::put_over;
 use sfm_base::{Memory, Places, Set};
 use sfm_law::{Plain, Room, are_within, has_sum, least_left, product};
 use std::alloc::Global;
@@ -25,13 +26,6 @@ pub struct Uniform {
     pub ghost given: { IsGiven w },
     pub ghost cap_low: { pos 0 ≤ℤ cap },
     pub ghost cap_given: { IsGiven cap },
-}
-
-/// Whether v is not u and has something, where u lacks something.
-fn is_other_some(v: usize, u: usize, lacks: bool, a: i128) -> bool
-    ensures { IsTrue result ↔ ((v ≢ u) × IsTrue lacks × (pos 1 ≤ℤ a)) }
-{
-    v != u && lacks && a >= 1
 }
 
 impl Uniform {
@@ -66,6 +60,24 @@ impl Uniform {
         ensures small { IsAtMost (10 ^ 27) result }
     {
         product(q, self.w)
+    }
+
+    /// Whether each entry is from 0 to q·w.
+    fn are_capped(&self, q: i128, x: &[i128]) -> bool
+        requires { IsFactor q }
+        ensures { IsTrue result ↔ All (λ a. (pos 0 ≤ℤ a) × (a ≤ℤ (q *ℤ self.now.w))) x.now }
+    {
+        are_within(x, self.most(q))
+    }
+
+    /// Whether the entries are q times the value of the whole in all.
+    fn has_whole(&self, q: i128, x: &[i128]) -> bool
+        requires factor { IsFactor q }
+        requires few { length x.now ≤ 256 }
+        requires small { All IsEntry x.now }
+        ensures { IsTrue result ↔ (total_of x.now ≡ (q *ℤ (self.now.w *ℤ rank_of self.now.cap (length x.now)))) }
+    {
+        has_sum(x, product(q, self.ranked(x.len())))
     }
 
     /// What the place j adds to those before it, q times.
@@ -135,7 +147,7 @@ impl Plain for Uniform {
 
     /// Whether x is a base of q times the term.
     fn is_base_of(&self, q: i128, x: &[i128]) -> bool {
-        are_within(x, self.most(q)) && has_sum(x, product(q, self.ranked(x.len())))
+        self.are_capped(q, x) && self.has_whole(q, x)
     }
 
     /// The room of (u, v) at a base: what v has, or what u lacks of q·w where that is less.
@@ -146,9 +158,10 @@ impl Plain for Uniform {
     /// Writes the places other than u to which u has room at a base: those that have something, where u lacks something of
     /// q·w.
     fn reach_of(&self, q: i128, x: &[i128], u: usize, to: &mut Set) {
-        let lacks = x[u] < self.most(q);
-        for (v, a) in x.iter().enumerate() {
-            to.put(v, is_other_some(v, u, lacks, *a));
+        if x[u] >= self.most(q) {
+            to.clear();
+            return;
         }
+        put_over(x, u, Some(0), to);
     }
 }

@@ -4,8 +4,8 @@ use mir.Syntax.{w128}
 use Rattle.sfm_concave.proofs.ConcaveRooms.{IsConcaveBase, concave_at, reach_by_bar}
 use Rattle.sfm_concave.proofs.concave.Concave.reach_of.Goals as goal
 
-pub returns-clause-reached : goal.returns-clause-reached
-returns-clause-reached c =
+pub returns : goal.returns
+returns c =
     let r = c.requires in
     let fq : FitsSigned w128 c.args.q = c.ranges.q in
     let here : IsConcaveBase c.args.q c.args.self.now.values c.args.x.now = concave_at _ r.factor.low c.args.self.now.counted r.entries c.args.self.now.falling r.base in

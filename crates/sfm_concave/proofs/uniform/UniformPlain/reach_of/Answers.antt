@@ -1,39 +1,37 @@
-use Rattle.std.proofs.Common.{◌≢◌, ◌*ℤ◌, ◌≤ℤ◌, length, get_or, pos, IsTrue, Bool, to_z, of_z, arith, FitsSigned}
-use Rattle.std.specs.Int.Signed.{lt_z}
-use Rattle.std.proofs.lemmas.Int.{to_z-of_z}
+use Rattle.std.proofs.Common.{◌∙◌, ◌*ℤ◌, ◌≤ℤ◌, ◌<ℤ◌, get_or, pos, arith, rules, FitsSigned}
+use Rattle.std.proofs.lemmas.Int.{ints, to_z-of_z}
 use Rattle.std.proofs.lemmas.List.Elements.{All-get_or}
 use mir.Syntax.{w128}
 use Rattle.sfm_spec.specs.Bounds.{IsEntry}
 use Rattle.sfm_law.proofs.Writes.{entry_fits}
-use Rattle.sfm_law.proofs.Fits.{at_most_more, share_fits}
-use Rattle.sfm_law.proofs.Puts.{put_more, less_test}
-use Rattle.sfm_concave.proofs.UniformRooms.{uniform-reach}
+use Rattle.sfm_concave.proofs.UniformRooms.{uniform-reach_none, uniform-reach_over}
 use Rattle.sfm_concave.proofs.uniform.UniformPlain.reach_of.Goals as goal
+use Rattle.sfm_concave.proofs.uniform.UniformPlain.reach_of.Goals.{After-most}
 
-pub loop-v-preserved : goal.loop-v-preserved
-loop-v-preserved c =
-    let x = c.args.x.now in
-    let i = c.loop-v.v in
-    let fa : FitsSigned w128 (get_or x i (pos 0)) = entry_fits _ (All-get_or IsEntry x i (pos 0) c.loop-v-test.true c.requires.small) in
-    let other = simp to_z-of_z at c.is_other_some.ensures in
-    let inv = c.loop-v.invariant in
-    let lacks : Bool = lt_z (to_z w128 (of_z w128 (get_or x c.args.u (pos 0)))) (to_z w128 (of_z w128 c.most.result)) in
-    rw c.put.ensures (put_more (λ k. (k ≢ c.args.u) × IsTrue lacks × (pos 1 ≤ℤ get_or x k (pos 0))) (length x) c.loop-v.to i c.is_other_some.result inv.places inv.exact c.loop-v-test.true other)
+-- the entry of u is a number of 128 bits
+entry : (c : After-most) → FitsSigned w128 (get_or c.args.x.now c.args.u (pos 0))
+entry c = entry_fits _ (All-get_or IsEntry c.args.x.now c.args.u (pos 0) c.requires.from c.requires.small)
+
+pub returns-then-x-u-clause-reached : goal.returns-then-x-u-clause-reached
+returns-then-x-u-clause-reached c =
+    let r = c.requires in
+    let s = c.args.self.now in
+    let fq : FitsSigned w128 c.args.q = c.ranges.q in
+    let fa = entry (goal.at.returns-then-x-u-clause-reached c).After-most in
+    let fm : FitsSigned w128 c.most.result = search rules in
+    let most = simp to_z-of_z at c.most.ensures.value in
+    let h = simp to_z-of_z at c.if-x-u.true in
+    let full : c.most.result ≤ℤ get_or c.args.x.now c.args.u (pos 0) = omega (arith, ints, h) in
+    rw (c.clear.ensures, r.room_for_answer) (uniform-reach_none c.args.q s.w s.cap r.factor.low s.low c.args.x.now r.base c.args.u r.from (λ less. omega (arith, ints, full, most, less)))
 
 pub returns-clause-reached : goal.returns-clause-reached
 returns-clause-reached c =
     let r = c.requires in
     let s = c.args.self.now in
-    let x = c.args.x.now in
-    let q = c.args.q in
-    let fq : FitsSigned w128 q = c.ranges.q in
-    let fa : FitsSigned w128 (get_or x c.args.u (pos 0)) = entry_fits _ (All-get_or IsEntry x c.args.u (pos 0) r.from r.small) in
-    let p = simp to_z-of_z at c.most.ensures.value in
-    let fp : FitsSigned w128 (q *ℤ s.w) = rw p at (share_fits _ (at_most_more _ c.most.ensures.small)) in
-    let inv = simp to_z-of_z at (rw p at c.loop-v.invariant) in
-    let test = less_test (get_or x c.args.u (pos 0)) (q *ℤ s.w) in
-    uniform-reach q s.w s.cap r.factor.low s.low x r.base c.args.u r.from c.loop-v.to inv.places
-    (λ v kv. (
-      (λ h. let i = (inv.exact v (omega (arith, kv, c.loop-v-test.false))).0 h in (i.0, test.0 i.1, i.2)),
-      (λ (ne, less, some). (inv.exact v (omega (arith, kv, c.loop-v-test.false))).1 (ne, test.1 less, some)),
-    ))
+    let fq : FitsSigned w128 c.args.q = c.ranges.q in
+    let fa = entry (goal.at.returns-clause-reached c).After-most in
+    let fm : FitsSigned w128 c.most.result = search rules in
+    let most = simp to_z-of_z at c.most.ensures.value in
+    let h = simp to_z-of_z at c.if-x-u.false in
+    let lacks : get_or c.args.x.now c.args.u (pos 0) <ℤ (c.args.q *ℤ s.w) = omega (arith, ints, h, most) in
+    uniform-reach_over c.args.q s.w s.cap r.factor.low s.low c.args.x.now r.base c.args.u r.from lacks c.put_over.new.to (c.put_over.ensures.places ∙ r.room_for_answer) c.put_over.ensures.over
