@@ -1,7 +1,7 @@
 -- Chains of cells made cell by cell, and gone through from the last to the first.
-use Rattle.std.proofs.Common.{◌≡◌, ℕ, ◌+◌, ◌<◌, ◌≤◌, List, [], ◌∷◌, ◌++◌, length, set, refl, Option, Some, None, sym, ap, ◌∙◌, arith, ⊎_elim, length-set, get_or-set_other, get_or-set_same}
+use Rattle.std.proofs.Common.{◌≡◌, ℕ, ◌+◌, ◌<◌, ◌≤◌, List, [], ◌∷◌, ◌++◌, length, get_or, set, refl, Option, Some, None, sym, ap, ◌∙◌, arith, ⊎_elim, length-set, get_or-set_other, get_or-set_same}
 use Rattle.std.proofs.lemmas.Bool.{cases_eq, cases_lt}
-use Rattle.std.proofs.lemmas.List.{length_push, get_or_push, get_or_append_left}
+use Rattle.std.proofs.lemmas.List.{length_push, get_or_push, get_or_append_left, get_or_read}
 use Rattle.sfm_assign.specs.Cells.{label_at}
 use Rattle.sfm_assign.specs.Chains.{cell_at, IsLastBefore, AreChains}
 
@@ -78,30 +78,45 @@ pub pass_begun : (labels : List ℕ) (heads nexts : List (Option ℕ)) (j : ℕ)
 pass_begun labels heads nexts j P chains = record { from = length labels; within = omega arith; next = chains.heads_are j; passed = λ f le lt. absurd (omega (arith, le, lt)) }
 
 -- the cell at which one stands
-pub pass_here : (labels : List ℕ) (j e : ℕ) (P : ℕ → Type 0) → IsPassed labels j (Some e) P → (e < length labels) × (label_at labels e ≡ j)
-pass_here labels j e P h = (let b = (h.next.here e refl).before in let w = h.within in omega (arith, b, w), (h.next.here e refl).mine)
+pub pass_here : {labels : List ℕ} {j e : ℕ} {at : Option ℕ} {P : ℕ → Type 0} → at ≡ Some e → IsPassed labels j at P → (e < length labels) × (label_at labels e ≡ j)
+pass_here {e = e} is h = let l = h.next.here e is in (let b = l.before in let w = h.within in omega (arith, b, w), l.mine)
 
-pub pass_more : (labels : List ℕ) (heads nexts : List (Option ℕ)) (j e : ℕ) (P Q : ℕ → Type 0) → AreChains labels heads nexts → IsPassed labels j (Some e) P → ((f : ℕ) → P f → Q f) → Q e → IsPassed labels j (cell_at nexts e) Q
-pass_more labels heads nexts j e P Q chains h kept here =
-    let (lt, mine) = pass_here labels j e P h in
-    record {
-      from = e;
-      within = omega (arith, lt);
-      next = rw mine at (chains.nexts_are e lt);
-      passed = λ f le lf is. ⊎_elim
-          (λ (l : e < f). ⊎_elim (λ (b : f < h.from). absurd ((h.next.here e refl).last f b l is)) (λ ge. kept f (h.passed f ge lf is)) (cases_lt f h.from))
-          (λ ge. let q : f ≡ e = omega (arith, le, ge) in rw q here)
-          (cases_lt e f);
-    }
-
-pub pass_done : (labels : List ℕ) (j : ℕ) (P : ℕ → Type 0) → IsPassed labels j None P → (f : ℕ) → f < length labels → label_at labels f ≡ j → P f
-pass_done labels j P h f lt is = ⊎_elim (λ (l : f < h.from). absurd (h.next.nowhere refl f l is)) (λ ge. h.passed f ge lt is) (cases_lt f h.from)
+-- its end: all cells are passed
+pub pass_done : {labels : List ℕ} {j : ℕ} {at : Option ℕ} {P : ℕ → Type 0} → at ≡ None → IsPassed labels j at P → (f : ℕ) → f < length labels → label_at labels f ≡ j → P f
+pass_done is h f lt mine = ⊎_elim (λ (l : f < h.from). absurd (h.next.nowhere is f l mine)) (λ ge. h.passed f ge lt mine) (cases_lt f h.from)
 
 -- how far it is to the end of a chain
 abbrev pub ahead : Option ℕ → ℕ
 ahead None = 0
 ahead (Some e) = e + 1
 
-pub ahead_falls : (labels : List ℕ) (j e : ℕ) (o : Option ℕ) → IsLastBefore labels j e o → ahead o < e + 1
+ahead_falls : (labels : List ℕ) (j e : ℕ) (o : Option ℕ) → IsLastBefore labels j e o → ahead o < e + 1
 ahead_falls labels j e None h = omega arith
 ahead_falls labels j e (Some f) h = let b = (h.here f refl).before in omega (arith, b)
+
+-- from a cell to the next one, which is read from the list
+module _ {labels : List ℕ} {heads nexts : List (Option ℕ)} {j e : ℕ} {at : Option ℕ} {P : ℕ → Type 0} (chains : AreChains labels heads nexts) (is : at ≡ Some e) (h : IsPassed labels j at P) where
+  pub pass_place : e < length nexts
+  pass_place = let (lt, mine) = pass_here is h in let p = chains.places in omega (arith, lt, p)
+
+  next_is : {next : Option ℕ} → next ≡ get_or nexts e next → IsLastBefore labels j e next
+  next_is {next = next} read =
+      let (lt, mine) = pass_here is h in
+      let n = get_or_read nexts e next pass_place read None in
+      rw n (rw mine at (chains.nexts_are e lt))
+
+  pub pass_falls : {next : Option ℕ} → next ≡ get_or nexts e next → ahead next < ahead at
+  pass_falls {next = next} read = rw is (ahead_falls labels j e next (next_is read))
+
+  pub pass_more : {next : Option ℕ} (Q : ℕ → Type 0) → next ≡ get_or nexts e next → ((f : ℕ) → P f → Q f) → Q e → IsPassed labels j next Q
+  pass_more Q read kept here =
+      let (lt, mine) = pass_here is h in
+      record {
+        from = e;
+        within = omega (arith, lt);
+        next = next_is read;
+        passed = λ f le lf own. ⊎_elim
+            (λ (l : e < f). ⊎_elim (λ (b : f < h.from). absurd ((h.next.here e is).last f b l own)) (λ ge. kept f (h.passed f ge lf own)) (cases_lt f h.from))
+            (λ ge. let q : f ≡ e = omega (arith, le, ge) in rw q here)
+            (cases_lt e f);
+      }

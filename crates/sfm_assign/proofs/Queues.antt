@@ -6,7 +6,7 @@ use Rattle.sfm_spec.specs.Sets.{Has}
 use Rattle.sfm_spec.proofs.Lattice.{none_in_empty}
 use Rattle.sfm_assign.specs.Splits.{amount_at}
 use Rattle.sfm_assign.specs.Cells.{label_at}
-use Rattle.sfm_assign.specs.Search.{node_at, missing, IsFound, IsNode, AreRoots, HasRoots, IsRoot, AreRootsOf, AreQueued, IsProgress, IsFurther, IsEnd, IsSearch}
+use Rattle.sfm_assign.specs.Search.{node_at, missing, IsFound, IsNode, AreRoots, HasRoots, IsRoot, AreRootsOf, AreQueued, IsProgress, IsFurther, IsHandled, IsEnd, IsSearch}
 use Rattle.sfm_assign.specs.declared.nodes.Link.{Link}
 use Rattle.sfm_assign.specs.declared.nodes.Node.{Node}
 use Rattle.sfm_assign.proofs.Searches.{node_kept, missing-set, missing_few, search_begun, none_marked, some_apart}
@@ -281,15 +281,8 @@ searched_begun whos slots y lacks rooms nodes queue roots in_queue =
       handled = λ k e lt. absurd (omega (arith, lt));
     }
 
-pub record IsHandled (whos slots : List ℕ) (y rooms : List ℤ) (nodes : List (Option Node)) (marks : List Bool) (queue : List ℕ) (i : ℕ) (nodes' : List (Option Node)) (marks' : List Bool) (queue' : List ℕ) : Type 0 where
-  pub places : length marks' ≡ length rooms
-  pub progress : IsProgress whos slots y nodes' marks' queue'
-  pub further : IsFurther nodes queue nodes' queue'
-  pub full : (s : ℕ) → Has marks' s → amount_at rooms s ≤ℤ pos 0
-  pub kept : (s : ℕ) → Has marks s → Has marks' s
-
 module _ (whos slots : List ℕ) (y lacks rooms : List ℤ) (nodes : List (Option Node)) (marks : List Bool) (queue : List ℕ) (next i : ℕ) (nodes' : List (Option Node)) (marks' : List Bool) (queue' : List ℕ) (inv : IsSearchedTo whos slots y lacks rooms nodes marks queue next) (lt : next < length queue) (is : i ≡ label_at queue next)
-    (h : IsHandled whos slots y rooms nodes marks queue i nodes' marks' queue') where
+    (h : IsHandled whos slots y rooms nodes marks queue nodes' marks' queue') where
   roots_after : AreRoots lacks nodes'
   roots_after j b at none = split (node_at nodes j)
       (λ d (old : node_at nodes j ≡ Some d). let q : d ≡ b = same_some (sym at ∙ h.further.kept j d old) in inv.roots j b (rw q at old) none)

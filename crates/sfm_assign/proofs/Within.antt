@@ -10,6 +10,12 @@ use Rattle.sfm_assign.specs.declared.nodes.Node.{Node}
 use Rattle.sfm_assign.proofs.Fills.{left_low, left_small, below_nodes}
 use Rattle.sfm_assign.proofs.Pours.{pouring_begun, poured_more, moved_pouring}
 
+total_le : (x z : List ℤ) → length z ≡ length x → ((i : ℕ) → i < length x → amount_at z i ≤ℤ amount_at x i) → total_of z ≤ℤ total_of x
+total_le [] [] same le = omega (arith, ints)
+total_le [] (b ∷ z) same le = absurd (omega (arith, same))
+total_le (a ∷ x) [] same le = absurd (omega (arith, same))
+total_le (a ∷ x) (b ∷ z) same le = let r = total_le x z (omega (arith, same)) (λ i lt. le (suc i) (omega (arith, lt))) in let f = le 0 (omega arith) in omega (arith, ints, r, f)
+
 module _ (whos slots : List ℕ) (y lacks rooms : List ℤ) where
   pub raised_nowhere : AreRaised whos slots y lacks rooms y lacks rooms
   raised_nowhere = record { each = λ demands capacities before cells h. h }
@@ -40,6 +46,18 @@ module _ (whos slots : List ℕ) (y lacks rooms : List ℤ) where
 
     pub raised_rooms : (z lacks' rooms' : List ℤ) → AreRaised whos slots y lacks rooms z lacks' rooms' → length rooms' ≡ length rooms
     raised_rooms z lacks' rooms' r = (r.each w.demands w.capacities y w.cells within_pouring).rooms_are.places ∙ sym w.rooms_are.places
+
+    -- no demand lacks more than before, so no more is lacked in all
+    pub raised_falls : (z lacks' rooms' : List ℤ) → AreRaised whos slots y lacks rooms z lacks' rooms' → total_of lacks' ≤ℤ total_of lacks
+    raised_falls z lacks' rooms' r =
+        let p = r.each w.demands w.capacities y w.cells within_pouring in
+        total_le lacks lacks' (p.lacks_are.places ∙ sym w.lacks_are.places) (λ i lt.
+        let places = w.lacks_are.places in
+        let li : i < length w.demands = omega (arith, lt, places) in
+        let before = w.lacks_are.each i li in
+        let after = p.lacks_are.each i li in
+        let more = p.more i in
+        omega (arith, ints, before, after, more))
 
     pub within_cells : AreCells (length lacks) (length rooms) whos slots
     within_cells = rw (w.lacks_are.places, w.rooms_are.places) w.cells

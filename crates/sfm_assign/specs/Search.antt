@@ -101,6 +101,14 @@ pub record IsFurther (before : List (Option Node)) (queue : List ℕ) (after : L
   pub new : (i : ℕ) (b : Node) → node_at before i ≡ None → node_at after i ≡ Some b → (b.link ≡ None) → ⊥
   pub first : (k : ℕ) → k < length queue → (k < length longer) × (label_at longer k ≡ label_at queue k)
 
+-- a search has gone further: more demands were found and more slots are marked, none of which has room
+pub record IsHandled (whos slots : List ℕ) (y rooms : List ℤ) (nodes : List (Option Node)) (marks : List Bool) (queue : List ℕ) (after : List (Option Node)) (more : List Bool) (longer : List ℕ) : Type 0 where
+  pub places : length more ≡ length rooms
+  pub progress : IsProgress whos slots y after more longer
+  pub further : IsFurther nodes queue after longer
+  pub full : (s : ℕ) → Has more s → amount_at rooms s ≤ℤ pos 0
+  pub kept : (s : ℕ) → Has marks s → Has more s
+
 -- a slot of a found demand has room
 pub record IsEnd (whos slots : List ℕ) (rooms : List ℤ) (nodes : List (Option Node)) (last : ℕ) : Type 0 where
   pub cell : last < length whos

@@ -2,7 +2,7 @@
 // that it comes to, until no slot has room for a demand that lacks something. The links that a search finds serve for all cells
 // of that slot: what can move along them is seen anew for each. What demands lack and what slots have left is kept from one
 // search to the next, and so is the memory of the searches.
-ghost use Rattle.std.specs.Prelude.{◌≡◌, ◌<◌, length, ◌≤ℤ◌, ◌<ℤ◌, IfOk, None};
+ghost use Rattle.std.specs.Prelude.{◌≡◌, ◌<◌, length, ◌<ℤ◌, IfOk, None};
 ghost use Rattle.std.specs.List.{All};
 ghost use Rattle.sfm_spec.specs.Bounds.{total_of};
 ghost use Rattle.sfm_assign.specs.Splits.{IsCapacity};
@@ -35,7 +35,6 @@ fn raise(cells: &Cells, search: &Search, e: usize, left: &mut Lefts, y: &mut [i1
     requires tree { AreBranches cells.now.whos.items cells.now.slots.items search.now.nodes.items }
     requires cell { e < length cells.now.whos.items }
     ensures raised { AreRaised cells.now.whos.items cells.now.slots.items y.old left.old.lacks.items left.old.rooms.items y.new left.new.lacks.items left.new.rooms.items }
-    ensures falls { total_of left.new.lacks.items ≤ℤ total_of left.old.lacks.items }
     ensures more { IsOpen cells.now.whos.items cells.now.slots.items y.old left.old.lacks.items left.old.rooms.items search.now.nodes.items e → total_of left.new.lacks.items <ℤ total_of left.old.lacks.items }
 {
     let i = cells.whos[e];
@@ -57,8 +56,7 @@ fn drain(cells: &Cells, search: &Search, s: usize, left: &mut Lefts, y: &mut [i1
     requires within { AreWithin cells.now.whos.items cells.now.slots.items y.old left.old.lacks.items left.old.rooms.items }
     requires places { length search.now.nodes.items ≡ length left.old.lacks.items }
     requires tree { AreBranches cells.now.whos.items cells.now.slots.items search.now.nodes.items }
-    ensures raised { AreRaised cells.now.whos.items cells.now.slots.items y.old left.old.lacks.items left.old.rooms.items y.new left.new.lacks.items left.new.rooms.items }
-    ensures falls { total_of left.new.lacks.items ≤ℤ total_of left.old.lacks.items }
+    ensures { AreRaised cells.now.whos.items cells.now.slots.items y.old left.old.lacks.items left.old.rooms.items y.new left.new.lacks.items left.new.rooms.items }
 {
     let mut at = cells.by_slot.head(s);
     while let Some(e) = at {

@@ -6,7 +6,7 @@ ghost use Rattle.std.specs.Prelude.{◌≡◌, ℕ, ◌+◌, ◌<◌, ◌≤◌,
 ghost use Rattle.sfm_spec.specs.Sets.{Has};
 ghost use Rattle.sfm_assign.specs.Splits.{amount_at};
 ghost use Rattle.sfm_assign.specs.Cells.{label_at, AreCells};
-ghost use Rattle.sfm_assign.specs.Search.{node_at, IsFound, AreRootsOf, AreQueued, IsProgress, IsFurther, IsEnd, IsSearch};
+ghost use Rattle.sfm_assign.specs.Search.{node_at, IsFound, AreRootsOf, AreQueued, IsProgress, IsFurther, IsHandled, IsEnd, IsSearch};
 
 use crate::cells::Cells;
 use crate::nodes::{Link, Node, is_found};
@@ -191,11 +191,7 @@ impl Search {
         requires found { IsFound self.old.nodes.items i }
         requires progress { IsProgress cells.now.whos.items cells.now.slots.items y.now self.old.nodes.items self.old.marks.items self.old.queue.items }
         requires full { (s : ℕ) → Has self.old.marks.items s → amount_at rooms.now s ≤ℤ pos 0 }
-        ensures places { OnOk result (length self.new.marks.items ≡ length rooms.now) }
-        ensures progress { OnOk result (IsProgress cells.now.whos.items cells.now.slots.items y.now self.new.nodes.items self.new.marks.items self.new.queue.items) }
-        ensures further { OnOk result (IsFurther self.old.nodes.items self.old.queue.items self.new.nodes.items self.new.queue.items) }
-        ensures full { OnOk result ((s : ℕ) → Has self.new.marks.items s → amount_at rooms.now s ≤ℤ pos 0) }
-        ensures kept { OnOk result ((s : ℕ) → Has self.old.marks.items s → Has self.new.marks.items s) }
+        ensures handled { OnOk result (IsHandled cells.now.whos.items cells.now.slots.items y.now rooms.now self.old.nodes.items self.old.marks.items self.old.queue.items self.new.nodes.items self.new.marks.items self.new.queue.items) }
         ensures told { IfOk result (λ r. MatchOption r
             ((e : ℕ) → e < length cells.now.whos.items → label_at cells.now.whos.items e ≡ i → Has self.new.marks.items (label_at cells.now.slots.items e))
             (IsEnd cells.now.whos.items cells.now.slots.items rooms.now self.new.nodes.items)) }

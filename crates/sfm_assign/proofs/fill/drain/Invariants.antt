@@ -1,6 +1,5 @@
 -- the cells of the slot from some cell on have moved what could move
-use Rattle.std.proofs.Common.{◌≡◌, length, ◌≤ℤ◌}
-use Rattle.sfm_spec.specs.Bounds.{total_of}
+use Rattle.std.proofs.Common.{◌≡◌, length}
 use Rattle.sfm_assign.specs.Pours.{AreWithin, AreRaised}
 use Rattle.sfm_assign.proofs.Linking.{IsPassed, ahead}
 use Rattle.sfm_assign.proofs.fill.drain.Given as goal
@@ -10,7 +9,6 @@ invariant-loop-at l = record {
   raised : AreRaised l.cells.whos.items l.cells.slots.items l.initial.y l.initial.left.lacks.items l.initial.left.rooms.items l.y l.left.lacks.items l.left.rooms.items;
   within : AreWithin l.cells.whos.items l.cells.slots.items l.y l.left.lacks.items l.left.rooms.items;
   nodes : length l.search.nodes.items ≡ length l.left.lacks.items;
-  falls : total_of l.left.lacks.items ≤ℤ total_of l.initial.left.lacks.items;
   passed : IsPassed l.cells.slots.items l.s l.at (λ e. Unit {0});
 }
 

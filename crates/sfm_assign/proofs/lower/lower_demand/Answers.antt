@@ -1,8 +1,7 @@
-use Rattle.std.proofs.Common.{ℕ, ◌<◌, length, get_or, pos, ◌-ℤ◌, ◌≤ℤ◌, None, arith, rules, FitsSigned}
+use Rattle.std.proofs.Common.{ℕ, ◌<◌, length, get_or, pos, ◌-ℤ◌, ◌≤ℤ◌, arith, rules, FitsSigned}
 use Rattle.std.proofs.lemmas.Int.{ints, by_lt_z, to_z-of_z}
-use Rattle.std.proofs.lemmas.List.{get_or_read}
 use mir.Syntax.{w128}
-use Rattle.sfm_assign.proofs.Linking.{pass_begun, pass_here, pass_more, pass_done, ahead_falls}
+use Rattle.sfm_assign.proofs.Linking.{pass_begun, pass_here, pass_place, pass_more, pass_done, pass_falls}
 use Rattle.sfm_assign.proofs.Lowering.{IsSpent, lowered_nowhere, lowered_on, still_charged, still_spent_demand, mended_demand}
 use Rattle.sfm_assign.proofs.lower.lower_demand.Goals as goal
 
@@ -18,9 +17,7 @@ loop-at-init c =
     }
 
 pub lower_on-requires-clause-cell : goal.lower_on-requires-clause-cell
-lower_on-requires-clause-cell c =
-    let (lt, mine) = pass_here c.args.cells.now.whos.items c.args.i c.in-Some.e _ (rw c.in-Some.is at c.loop-at.invariant.passed) in
-    lt
+lower_on-requires-clause-cell c = (pass_here c.in-Some.is c.loop-at.invariant.passed).0
 
 pub overflow_sub-lacks : goal.overflow_sub-lacks
 overflow_sub-lacks c =
@@ -51,22 +48,12 @@ lower_on-requires-clause-low c =
 pub index-at-requires : goal.index-at-requires
 index-at-requires c =
     let cells = c.args.cells.now in
-    let (lt, mine) = pass_here cells.whos.items c.args.i c.in-Some.e _ (rw c.in-Some.is at c.loop-at.invariant.passed) in
-    let places = cells.whos_chained.places in
+    let lt = pass_place cells.whos_chained c.in-Some.is c.loop-at.invariant.passed in
     let ok = cells.by_who.nexts.ok.0 in
-    omega (arith, lt, places, ok)
+    omega (arith, lt, ok)
 
 pub loop-at-smaller : goal.loop-at-smaller
-loop-at-smaller c =
-    let whos = c.args.cells.now.whos.items in
-    let i = c.args.i in
-    let e = c.in-Some.e in
-    let (lt, mine) = pass_here whos i e _ (rw c.in-Some.is at c.loop-at.invariant.passed) in
-    let chains = c.args.cells.now.whos_chained in
-    let places = chains.places in
-    let next = get_or_read c.args.cells.now.by_who.nexts.items e c.index-at.result.now (omega (arith, lt, places)) c.index-at.ensures None in
-    let falls = ahead_falls whos i e _ (rw mine at (chains.nexts_are e lt)) in
-    rw (c.in-Some.is, next) falls
+loop-at-smaller c = pass_falls c.args.cells.now.whos_chained c.in-Some.is c.loop-at.invariant.passed c.index-at.ensures
 
 pub loop-at-preserved : goal.loop-at-preserved
 loop-at-preserved c =
@@ -76,11 +63,7 @@ loop-at-preserved c =
     let i = c.args.i in
     let e = c.in-Some.e in
     let inv = c.loop-at.invariant in
-    let here = rw c.in-Some.is at inv.passed in
-    let (lt, mine) = pass_here whos i e _ here in
-    let chains = cells.whos_chained in
-    let places = chains.places in
-    let next = get_or_read cells.by_who.nexts.items e c.index-at.result.now (omega (arith, lt, places)) c.index-at.ensures None in
+    let (lt, mine) = pass_here c.in-Some.is inv.passed in
     let y = c.loop-at.y in
     let lacks = c.loop-at.lacks in
     let rooms = c.loop-at.rooms in
@@ -94,16 +77,15 @@ loop-at-preserved c =
     let small = inv.charged.lacks_small i in_range in
     let fn : FitsSigned w128 (pos 0 -ℤ get_or left i (pos 0)) = omega (arith, ints, small, fx) in
     let all = rw mine at (simp to_z-of_z at told.asked) in
-    let Before : ℕ → Type 0 = IsSpent lacks i y in
     let After : ℕ → Type 0 = IsSpent new.lacks i new.y in
     record {
       lowered = lowered_on whos slots c.args.y.now c.args.lacks.now c.args.rooms.now y lacks rooms new.y new.lacks new.rooms inv.lowered told.lowered;
       charged = still_charged whos slots y lacks rooms inv.charged new.y new.lacks new.rooms told.lowered;
-      passed = rw next (pass_more whos cells.by_who.heads.items cells.by_who.nexts.items i e Before After chains here (λ f h. still_spent_demand whos slots y lacks rooms inv.charged new.y new.lacks new.rooms told.lowered i f h) (λ less. by_lt_z (pos 0) (get_or new.y e (pos 0)) (λ some. let t = all (omega (arith, ints, some)) in absurd (omega (arith, ints, t, less))) (λ none. none)));
+      passed = pass_more cells.whos_chained c.in-Some.is inv.passed After c.index-at.ensures (λ f h. still_spent_demand whos slots y lacks rooms inv.charged new.y new.lacks new.rooms told.lowered i f h) (λ less. by_lt_z (pos 0) (get_or new.y e (pos 0)) (λ some. let t = all (omega (arith, ints, some)) in absurd (omega (arith, ints, t, less))) (λ none. none));
     }
 
 pub returns-clause-mended : goal.returns-clause-mended
 returns-clause-mended c =
     let cells = c.args.cells.now in
     let inv = c.loop-at.invariant in
-    mended_demand cells.whos.items cells.slots.items c.loop-at.y c.loop-at.lacks c.loop-at.rooms inv.charged c.args.i (let place = c.requires.place in let p = c.loop-at.auto.lacks in omega (arith, place, p)) (pass_done cells.whos.items c.args.i (IsSpent c.loop-at.lacks c.args.i c.loop-at.y) (rw c.in_default.is at inv.passed))
+    mended_demand cells.whos.items cells.slots.items c.loop-at.y c.loop-at.lacks c.loop-at.rooms inv.charged c.args.i (let place = c.requires.place in let p = c.loop-at.auto.lacks in omega (arith, place, p)) (pass_done c.in_default.is inv.passed)

@@ -1,8 +1,7 @@
-use Rattle.std.proofs.Common.{ℕ, ◌<◌, length, get_or, pos, ◌-ℤ◌, ◌≤ℤ◌, None, arith, rules, FitsSigned}
+use Rattle.std.proofs.Common.{ℕ, ◌<◌, length, get_or, pos, ◌-ℤ◌, ◌≤ℤ◌, arith, rules, FitsSigned}
 use Rattle.std.proofs.lemmas.Int.{ints, by_lt_z, to_z-of_z}
-use Rattle.std.proofs.lemmas.List.{get_or_read}
 use mir.Syntax.{w128}
-use Rattle.sfm_assign.proofs.Linking.{pass_begun, pass_here, pass_more, pass_done, ahead_falls}
+use Rattle.sfm_assign.proofs.Linking.{pass_begun, pass_here, pass_place, pass_more, pass_done, pass_falls}
 use Rattle.sfm_assign.proofs.Lowering.{IsSpent, lowered_nowhere, lowered_on, still_charged, still_spent_slot, mended_slot}
 use Rattle.sfm_assign.proofs.lower.lower_slot.Goals as goal
 
@@ -19,7 +18,7 @@ loop-at-init c =
 
 pub lower_on-requires-clause-cell : goal.lower_on-requires-clause-cell
 lower_on-requires-clause-cell c =
-    let (lt, mine) = pass_here c.args.cells.now.slots.items c.args.s c.in-Some.e _ (rw c.in-Some.is at c.loop-at.invariant.passed) in
+    let (lt, mine) = pass_here c.in-Some.is c.loop-at.invariant.passed in
     let same = c.loop-at.invariant.charged.cells.same in
     omega (arith, lt, same)
 
@@ -52,22 +51,12 @@ lower_on-requires-clause-low c =
 pub index-at-requires : goal.index-at-requires
 index-at-requires c =
     let cells = c.args.cells.now in
-    let (lt, mine) = pass_here cells.slots.items c.args.s c.in-Some.e _ (rw c.in-Some.is at c.loop-at.invariant.passed) in
-    let places = cells.slots_chained.places in
+    let lt = pass_place cells.slots_chained c.in-Some.is c.loop-at.invariant.passed in
     let ok = cells.by_slot.nexts.ok.0 in
-    omega (arith, lt, places, ok)
+    omega (arith, lt, ok)
 
 pub loop-at-smaller : goal.loop-at-smaller
-loop-at-smaller c =
-    let slots = c.args.cells.now.slots.items in
-    let s = c.args.s in
-    let e = c.in-Some.e in
-    let (lt, mine) = pass_here slots s e _ (rw c.in-Some.is at c.loop-at.invariant.passed) in
-    let chains = c.args.cells.now.slots_chained in
-    let places = chains.places in
-    let next = get_or_read c.args.cells.now.by_slot.nexts.items e c.index-at.result.now (omega (arith, lt, places)) c.index-at.ensures None in
-    let falls = ahead_falls slots s e _ (rw mine at (chains.nexts_are e lt)) in
-    rw (c.in-Some.is, next) falls
+loop-at-smaller c = pass_falls c.args.cells.now.slots_chained c.in-Some.is c.loop-at.invariant.passed c.index-at.ensures
 
 pub loop-at-preserved : goal.loop-at-preserved
 loop-at-preserved c =
@@ -77,11 +66,7 @@ loop-at-preserved c =
     let s = c.args.s in
     let e = c.in-Some.e in
     let inv = c.loop-at.invariant in
-    let here = rw c.in-Some.is at inv.passed in
-    let (lt, mine) = pass_here slots s e _ here in
-    let chains = cells.slots_chained in
-    let places = chains.places in
-    let next = get_or_read cells.by_slot.nexts.items e c.index-at.result.now (omega (arith, lt, places)) c.index-at.ensures None in
+    let (lt, mine) = pass_here c.in-Some.is inv.passed in
     let y = c.loop-at.y in
     let lacks = c.loop-at.lacks in
     let rooms = c.loop-at.rooms in
@@ -95,16 +80,15 @@ loop-at-preserved c =
     let small = inv.charged.rooms_small s in_range in
     let fn : FitsSigned w128 (pos 0 -ℤ get_or left s (pos 0)) = omega (arith, ints, small, fx) in
     let all = rw mine at (simp to_z-of_z at told.filled) in
-    let Before : ℕ → Type 0 = IsSpent rooms s y in
     let After : ℕ → Type 0 = IsSpent new.rooms s new.y in
     record {
       lowered = lowered_on whos slots c.args.y.now c.args.lacks.now c.args.rooms.now y lacks rooms new.y new.lacks new.rooms inv.lowered told.lowered;
       charged = still_charged whos slots y lacks rooms inv.charged new.y new.lacks new.rooms told.lowered;
-      passed = rw next (pass_more slots cells.by_slot.heads.items cells.by_slot.nexts.items s e Before After chains here (λ f h. still_spent_slot whos slots y lacks rooms inv.charged new.y new.lacks new.rooms told.lowered s f h) (λ less. by_lt_z (pos 0) (get_or new.y e (pos 0)) (λ some. let t = all (omega (arith, ints, some)) in absurd (omega (arith, ints, t, less))) (λ none. none)));
+      passed = pass_more cells.slots_chained c.in-Some.is inv.passed After c.index-at.ensures (λ f h. still_spent_slot whos slots y lacks rooms inv.charged new.y new.lacks new.rooms told.lowered s f h) (λ less. by_lt_z (pos 0) (get_or new.y e (pos 0)) (λ some. let t = all (omega (arith, ints, some)) in absurd (omega (arith, ints, t, less))) (λ none. none));
     }
 
 pub returns-clause-mended : goal.returns-clause-mended
 returns-clause-mended c =
     let cells = c.args.cells.now in
     let inv = c.loop-at.invariant in
-    mended_slot cells.whos.items cells.slots.items c.loop-at.y c.loop-at.lacks c.loop-at.rooms inv.charged c.args.s (let place = c.requires.place in let p = c.loop-at.auto.rooms in omega (arith, place, p)) (pass_done cells.slots.items c.args.s (IsSpent c.loop-at.rooms c.args.s c.loop-at.y) (rw c.in_default.is at inv.passed))
+    mended_slot cells.whos.items cells.slots.items c.loop-at.y c.loop-at.lacks c.loop-at.rooms inv.charged c.args.s (let place = c.requires.place in let p = c.loop-at.auto.rooms in omega (arith, place, p)) (pass_done c.in_default.is inv.passed)

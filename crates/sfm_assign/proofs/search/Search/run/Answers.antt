@@ -1,7 +1,17 @@
-use Rattle.std.proofs.Common.{◌<◌, ◌≤◌, length, arith}
+use Rattle.std.proofs.Common.{◌≡◌, ◌<◌, ◌≤◌, length, arith}
 use Rattle.std.proofs.lemmas.List.{get_or_read}
-use Rattle.sfm_assign.proofs.Queues.{IsHandled, searched_begun, searched_more, searched_end, searched_stuck, queue_few}
+use Rattle.sfm_assign.specs.Cells.{label_at}
+use Rattle.sfm_assign.proofs.Queues.{searched_begun, searched_more, searched_end, searched_stuck, queue_few}
+use Rattle.sfm_assign.proofs.search.Search.run.Goals.{After-index-i}
 use Rattle.sfm_assign.proofs.search.Search.run.Goals as goal
+
+-- the next demand of the queue
+next_is : (c : After-index-i) → (c.loop-next.next < length c.loop-next.self.queue.items) × (c.index-i.result.now ≡ label_at c.loop-next.self.queue.items c.loop-next.next)
+next_is c =
+    let queue = c.loop-next.self.queue in
+    let ok = queue.ok.0 in
+    let lt : c.loop-next.next < length queue.items = omega arith in
+    (lt, get_or_read queue.items c.loop-next.next c.index-i.result.now lt c.index-i.ensures 0)
 
 pub loop-next-init : goal.loop-next-init
 loop-next-init c =
@@ -11,68 +21,39 @@ loop-next-init c =
 
 pub handle-requires-clause-found : goal.handle-requires-clause-found
 handle-requires-clause-found c =
-    let whos = c.args.cells.now.whos.items in
-    let slots = c.args.cells.now.slots.items in
-    let at = c.loop-next.self in
-    let next = c.loop-next.next in
-    let inv = c.loop-next.invariant in
-    let ok = at.queue.ok.0 in
-    let lt : next < length at.queue.items = omega arith in
-    let is = get_or_read at.queue.items next c.index-i.result.now lt c.index-i.ensures 0 in
-    rw is (inv.progress.in_queue.members next lt)
+    let (lt, is) = next_is (goal.at.handle-requires-clause-found c).After-index-i in
+    rw is (c.loop-next.invariant.progress.in_queue.members c.loop-next.next lt)
 
 pub loop-next-smaller : goal.loop-next-smaller
 loop-next-smaller c =
-    let whos = c.args.cells.now.whos.items in
-    let slots = c.args.cells.now.slots.items in
-    let at = c.loop-next.self in
-    let next = c.loop-next.next in
-    let inv = c.loop-next.invariant in
-    let ok = at.queue.ok.0 in
-    let lt : next < length at.queue.items = omega arith in
-    let few = queue_few whos slots c.args.y.now c.args.lacks.now c.args.rooms.now at.nodes.items at.marks.items at.queue.items next inv in
+    let (lt, is) = next_is (goal.at.loop-next-smaller c).After-index-i in
+    let self = c.loop-next.self in
+    let few = queue_few c.args.cells.now.whos.items c.args.cells.now.slots.items c.args.y.now c.args.lacks.now c.args.rooms.now self.nodes.items self.marks.items self.queue.items c.loop-next.next c.loop-next.invariant in
     omega (arith, lt, few)
 
 pub loop-next-preserved : goal.loop-next-preserved
 loop-next-preserved c =
-    let whos = c.args.cells.now.whos.items in
-    let slots = c.args.cells.now.slots.items in
-    let at = c.loop-next.self in
-    let next = c.loop-next.next in
-    let inv = c.loop-next.invariant in
-    let ok = at.queue.ok.0 in
+    let (lt, is) = next_is (goal.at.loop-next-preserved c).After-index-i in
+    let self = c.loop-next.self in
     let after = c.handle.new.self in
     let told = c.in_ok-last.ensures in
-    let lt : next < length at.queue.items = omega arith in
-    let is = get_or_read at.queue.items next c.index-i.result.now lt c.index-i.ensures 0 in
-    let h : IsHandled whos slots c.args.y.now c.args.rooms.now at.nodes.items at.marks.items at.queue.items c.index-i.result.now after.nodes.items after.marks.items after.queue.items = record { places = told.places; progress = told.progress; further = told.further; full = told.full; kept = told.kept } in
-    searched_more whos slots c.args.y.now c.args.lacks.now c.args.rooms.now at.nodes.items at.marks.items at.queue.items next c.index-i.result.now after.nodes.items after.marks.items after.queue.items inv lt is h (rw c.in_default.is at told.told)
+    searched_more c.args.cells.now.whos.items c.args.cells.now.slots.items c.args.y.now c.args.lacks.now c.args.rooms.now self.nodes.items self.marks.items self.queue.items c.loop-next.next c.index-i.result.now after.nodes.items after.marks.items after.queue.items c.loop-next.invariant lt is told.handled (rw c.in_default.is at told.told)
 
 pub returns-in-Some-clause-search : goal.returns-in-Some-clause-search
 returns-in-Some-clause-search c =
-    let whos = c.args.cells.now.whos.items in
-    let slots = c.args.cells.now.slots.items in
-    let at = c.loop-next.self in
-    let next = c.loop-next.next in
-    let inv = c.loop-next.invariant in
-    let ok = at.queue.ok.0 in
+    let (lt, is) = next_is (goal.at.returns-in-Some-clause-search c).After-index-i in
+    let self = c.loop-next.self in
     let after = c.handle.new.self in
     let told = c.in_ok-last.ensures in
-    let lt : next < length at.queue.items = omega arith in
-    let is = get_or_read at.queue.items next c.index-i.result.now lt c.index-i.ensures 0 in
-    let h : IsHandled whos slots c.args.y.now c.args.rooms.now at.nodes.items at.marks.items at.queue.items c.index-i.result.now after.nodes.items after.marks.items after.queue.items = record { places = told.places; progress = told.progress; further = told.further; full = told.full; kept = told.kept } in
-    searched_end whos slots c.args.y.now c.args.lacks.now c.args.rooms.now at.nodes.items at.marks.items at.queue.items next c.index-i.result.now after.nodes.items after.marks.items after.queue.items inv lt is h c.in-Some.last (rw c.in-Some.is at told.told)
+    searched_end c.args.cells.now.whos.items c.args.cells.now.slots.items c.args.y.now c.args.lacks.now c.args.rooms.now self.nodes.items self.marks.items self.queue.items c.loop-next.next c.index-i.result.now after.nodes.items after.marks.items after.queue.items c.loop-next.invariant lt is told.handled c.in-Some.last (rw c.in-Some.is at told.told)
 
 pub returns-clause-search : goal.returns-clause-search
 returns-clause-search c =
-    let whos = c.args.cells.now.whos.items in
-    let slots = c.args.cells.now.slots.items in
-    let at = c.loop-next.self in
+    let self = c.loop-next.self in
     let next = c.loop-next.next in
-    let inv = c.loop-next.invariant in
-    let ok = at.queue.ok.0 in
-    let past : length at.queue.items ≤ next = omega arith in
-    searched_stuck whos slots c.args.y.now c.args.lacks.now c.args.rooms.now at.nodes.items at.marks.items at.queue.items next past inv
+    let ok = self.queue.ok.0 in
+    let past : length self.queue.items ≤ next = omega arith in
+    searched_stuck c.args.cells.now.whos.items c.args.cells.now.slots.items c.args.y.now c.args.lacks.now c.args.rooms.now self.nodes.items self.marks.items self.queue.items next past c.loop-next.invariant
 
 pub returns-clause-places : goal.returns-clause-places
 returns-clause-places c = c.loop-next.invariant.mark_places

@@ -1,88 +1,61 @@
-use Rattle.std.proofs.Common.{ℕ, Bool, List, length, None, pos, ◌≤ℤ◌, arith, ◌∙◌}
+use Rattle.std.proofs.Common.{ℕ, length, pos, ◌≤ℤ◌, arith, ◌∙◌}
 use Rattle.std.proofs.lemmas.List.{get_or_read}
 use Rattle.sfm_spec.specs.Sets.{Has}
 use Rattle.sfm_assign.specs.Splits.{amount_at}
 use Rattle.sfm_assign.specs.Cells.{label_at}
-use Rattle.sfm_assign.proofs.Linking.{pass_here, pass_more, pass_done, ahead_falls}
+use Rattle.sfm_assign.proofs.Linking.{pass_here, pass_more, pass_done, pass_falls}
 use Rattle.sfm_assign.proofs.Spreads.{wider_more, spread_marked}
 use Rattle.sfm_assign.proofs.spread.Spread.sweep.Goals as goal
 
 pub find-requires-clause-own : goal.find-requires-clause-own
 find-requires-clause-own c =
-    let slots = c.args.shares.now.cells.slots.items in
     let same = c.requires.told.cells.same in
-    let (lt, mine) = pass_here slots c.index-s.result.now c.in-Some.own _ (rw c.in-Some.is at c.loop-at.invariant.passed) in
+    let (lt, mine) = pass_here c.in-Some.is c.loop-at.invariant.passed in
     omega (arith, lt, same)
 
 pub find-requires-clause-shared : goal.find-requires-clause-shared
 find-requires-clause-shared c =
-    let slots = c.args.shares.now.cells.slots.items in
-    let s = c.index-s.result.now in
     let same = c.requires.told.cells.same in
     let lc = c.requires.cell in
-    let (lt, mine) = pass_here slots s c.in-Some.own _ (rw c.in-Some.is at c.loop-at.invariant.passed) in
-    mine ∙ get_or_read slots c.args.e s (omega (arith, lc, same)) c.index-s.ensures 0
+    let (lt, mine) = pass_here c.in-Some.is c.loop-at.invariant.passed in
+    mine ∙ get_or_read c.args.shares.now.cells.slots.items c.args.e c.index-s.result.now (omega (arith, lc, same)) c.index-s.ensures 0
 
 pub find-requires-clause-found : goal.find-requires-clause-found
 find-requires-clause-found c = c.loop-at.invariant.wider.kept (label_at c.args.shares.now.cells.whos.items c.args.e) c.requires.found
 
 pub loop-at-smaller : goal.loop-at-smaller
-loop-at-smaller c =
-    let slots = c.args.shares.now.cells.slots.items in
-    let s = c.index-s.result.now in
-    let own = c.in-Some.own in
-    let (lt, mine) = pass_here slots s own _ (rw c.in-Some.is at c.loop-at.invariant.passed) in
-    let chains = c.args.shares.now.cells.slots_chained in
-    let places = chains.places in
-    let next = get_or_read c.args.shares.now.cells.by_slot.nexts.items own c.index-at.result.now (omega (arith, lt, places)) c.index-at.ensures None in
-    let falls = ahead_falls slots s own _ (rw mine at (chains.nexts_are own lt)) in
-    rw (c.in-Some.is, next) falls
+loop-at-smaller c = pass_falls c.args.shares.now.cells.slots_chained c.in-Some.is c.loop-at.invariant.passed c.index-at.ensures
 
 pub loop-at-preserved : goal.loop-at-preserved
 loop-at-preserved c =
     let whos = c.args.shares.now.cells.whos.items in
-    let slots = c.args.shares.now.cells.slots.items in
     let y = c.args.shares.now.y.items in
-    let s = c.index-s.result.now in
-    let own = c.in-Some.own in
     let inv = c.loop-at.invariant in
-    let here = rw c.in-Some.is at inv.passed in
-    let (lt, mine) = pass_here slots s own _ here in
-    let chains = c.args.shares.now.cells.slots_chained in
-    let heads = c.args.shares.now.cells.by_slot.heads.items in
-    let nexts = c.args.shares.now.cells.by_slot.nexts.items in
-    let places = chains.places in
-    let next = get_or_read nexts own c.index-at.result.now (omega (arith, lt, places)) c.index-at.ensures None in
     let first = c.args.self.now in
     let before = c.loop-at.self in
     let after = c.find.new.self in
     let told = c.in_ok-answer.ensures in
-    let seen = rw c.in_default-2.is at told.end in
-    let Seen : List Bool → ℕ → Type 0 = λ found f. pos 1 ≤ℤ amount_at y f → Has found (label_at whos f) in
+    let Seen : ℕ → Type 0 = λ f. pos 1 ≤ℤ amount_at y f → Has after.found (label_at whos f) in
     record {
       from = told.from ∙ inv.from;
       next = told.next ∙ inv.next;
       marks = told.marks ∙ inv.marks;
       spread = told.spread;
       wider = wider_more first.found before.found after.found first.queue.items before.queue.items after.queue.items inv.wider told.wider;
-      passed = rw next (pass_more slots heads nexts s own (Seen before.found) (Seen after.found) chains here (λ f saw some. told.wider.kept (label_at whos f) (saw some)) seen);
+      passed = pass_more c.args.shares.now.cells.slots_chained c.in-Some.is inv.passed Seen c.index-at.ensures (λ f saw some. told.wider.kept (label_at whos f) (saw some)) (rw c.in_default-2.is at told.end);
     }
 
 pub returns-clause-spread : goal.returns-clause-spread
 returns-clause-spread c =
-    let whos = c.args.shares.now.cells.whos.items in
     let slots = c.args.shares.now.cells.slots.items in
-    let y = c.args.shares.now.y.items in
-    let rooms = c.args.rooms.now in
-    let n = length c.args.answers.now in
     let self = c.loop-at.self in
     let s = c.index-s.result.now in
     let inv = c.loop-at.invariant in
     let le = c.requires.cell in
     let same = c.requires.told.cells.same in
     let slot = get_or_read slots c.args.e s (omega (arith, le, same)) c.index-s.ensures 0 in
-    let all = pass_done slots s _ (rw c.in_default.is at inv.passed) in
-    rw c.insert.ensures (spread_marked n whos slots y rooms self.from self.found self.marks self.queue.items self.next inv.spread s (rw slot c.requires.full) (λ f lf is some. all f (omega (arith, lf, same)) is some))
+    let all = pass_done c.in_default.is inv.passed in
+    rw c.insert.ensures (spread_marked (length c.args.answers.now) c.args.shares.now.cells.whos.items slots c.args.shares.now.y.items c.args.rooms.now self.from self.found self.marks self.queue.items self.next inv.spread s (rw slot c.requires.full) (λ f lf is some. all f (omega (arith, lf, same)) is some))
 
 pub returns-in-Some-2-clause-wider : goal.returns-in-Some-2-clause-wider
 returns-in-Some-2-clause-wider c =
