@@ -1,10 +1,9 @@
 -- The greatest forest that is kept, and the base that it gives.
 use Rattle.std.proofs.Common.{◌≡◌, ℕ, ◌<◌, ◌≤◌, Bool, true, false, List, length, sym, ap, ◌∙◌, arith}
 use Rattle.std.proofs.lemmas.List.{ext_get_or, length-replicate}
-use Rattle.sfm_spec.specs.Sets.{Has, whole_set, size}
+use Rattle.sfm_spec.specs.Sets.{Has, whole_set}
 use Rattle.sfm_spec.specs.Kinds.{Edge}
 use Rattle.sfm_spec.proofs.Sets.{Has-whole}
-use Rattle.sfm_spec.proofs.Sizes.{size_below_length}
 use Rattle.sfm_matroid.specs.Graphs.{taken, graphic_basis}
 use Rattle.sfm_matroid.specs.Runs.{taken-places}
 use Rattle.sfm_matroid.specs.Ends.{edges_of}
@@ -15,9 +14,6 @@ all_in s k ks all = ext_get_or false s (whole_set k) (ks ∙ sym (length-replica
 
 pub length-basis : (edges : List Edge) → length (graphic_basis edges) ≡ length edges
 length-basis edges = taken-places edges (whole_set (length edges)) (length-replicate (length edges) true) (length edges)
-
-pub taken-few : (edges : List Edge) (s : List Bool) → length s ≡ length edges → size (taken edges s (length edges)) ≤ length edges
-taken-few edges s ks = let b = size_below_length (taken edges s (length edges)) in let l = taken-places edges s ks (length edges) in omega (arith, b, l)
 
 pub basis_from : (pairs : List (ℕ × ℕ)) (edges : List Edge) (all basis : List Bool) → edges ≡ edges_of pairs → all ≡ whole_set (length pairs) → basis ≡ taken (edges_of pairs) all (length pairs) → basis ≡ graphic_basis edges
 basis_from pairs edges all basis es e b =

@@ -1,10 +1,11 @@
 -- Whether places have slots of their own, by a split over slots that hold 1 each, with 1 at these places and 0 elsewhere; and
 -- places taken one after another by one that grows.
-use Rattle.std.proofs.Common.{◌≡◌, ◌≢◌, ℕ, zero, suc, ◌+◌, ◌<◌, Bool, true, false, ◌&&◌, List, [], ◌∷◌, length, get_or, set, replicate, ℤ, pos, ◌+ℤ◌, ◌*ℤ◌, if◌then◌else◌, refl, sym, ap, ◌∙◌, arith, ⊎_elim, length-set}
+use Rattle.std.proofs.Common.{◌≡◌, ◌≢◌, ℕ, zero, suc, ◌+◌, ◌<◌, Bool, true, false, ◌&&◌, List, [], ◌∷◌, length, get_or, set, replicate, ℤ, pos, ◌+ℤ◌, ◌*ℤ◌, if◌then◌else◌, refl, sym, ap, ◌∙◌, arith, ⊎_elim, FitsSigned, length-set}
 use Rattle.std.proofs.lemmas.Bool.{cases_Bool}
 use Rattle.std.proofs.lemmas.Int.{ints}
 use Rattle.std.proofs.lemmas.List.{length-replicate, set-get_or}
 use Rattle.std.specs.List.{All}
+use mir.Syntax.{w128}
 use Rattle.sfm_assign.specs.Splits.{amount_at, CanBeMet}
 use Rattle.sfm_assign.specs.Lenders.{with_more, IsMostUpto}
 use Rattle.sfm_spec.specs.Sets.{Has, empty_set, intersection, size, sum_over}
@@ -125,6 +126,9 @@ module _ (entries : List (List ℕ)) (m : ℕ) (exist : All (All (λ v. v < m)) 
         let none : g ≡ pos 0 = omega (arith, ints, low, high, ne) in
         let same : (amount_at (at_places (pos 1) t) e +ℤ g) ≡ amount_at (at_places (pos 1) t) e = omega (arith, ints, none) in
         ap (λ x. slot_demands entries m (pos 1) x) (rw same (set-get_or (at_places (pos 1) t) e (pos 0)))
+
+pub fits_one : (entries : List (List ℕ)) (m : ℕ) (x : List ℤ) (e : ℕ) (g : ℤ) → IsMostUpto (slot_demands entries m (pos 1) x) e (pos 1) g → FitsSigned w128 g
+fits_one entries m x e g most = let low = most.low in let high = most.high in omega (arith, ints, low, high)
 
 -- ---- places taken one after another
 

@@ -6,7 +6,6 @@ use Rattle.std.proofs.lemmas.Bool.{false≢true, cases_lt, cases_Bool, and_parts
 use Rattle.sfm_spec.specs.Sets.{whole_set, intersection, size}
 use Rattle.sfm_spec.specs.Kinds.{IsMatchable}
 use Rattle.sfm_spec.proofs.Sets.{in_both, in_first, in_second, same_sets}
-use Rattle.sfm_spec.proofs.Sizes.{size_below_length}
 use Rattle.sfm_spec.proofs.Sums.{length-intersection}
 use Rattle.sfm_rank.specs.Matroids.{AreRanks}
 use Rattle.sfm_rank.specs.Growth.{IsGrowth}
@@ -91,6 +90,3 @@ module _ (entries : List (List ℕ)) where
 
   pub length-transversal_basis : length (transversal_basis entries) ≡ length entries
   length-transversal_basis = transversal-first.places
-
-  pub transversal-few : size (transversal_basis entries) ≤ length entries
-  transversal-few = let b = size_below_length (transversal_basis entries) in let l = length-transversal_basis in omega (arith, b, l)

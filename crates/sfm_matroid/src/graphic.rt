@@ -25,12 +25,13 @@ use crate::givers::row;
 use crate::graph::{Graph, numbered};
 use crate::growing::{grow, whole};
 use crate::order::by_tails;
+use crate::ranked::{adds_up, cap_of, worth, write_start};
 use crate::room::{limit_of, moved, second_of, without};
 use crate::rooted::{RootSplit, Spare, root_split, swap_spare, take_kept};
 use crate::testing::{brought, capacities, passes_tails};
 use sfm_assign::{Aim, Kept};
 use sfm_base::{Memory, Places, Set};
-use sfm_law::{Room, Term, are_within, has_sum, product};
+use sfm_law::{Room, Term};
 use std::alloc::Global;
 
 /// A number for each element of a greatest independent part: elements are edges, and independent where they are a forest
@@ -111,22 +112,12 @@ impl Graphic {
         ensures { IsRankFunction (length self.now.places) self.now.w (IsForest self.now.ends) (graphic_value self.now.w self.now.ends) }
     {}
 
-    /// The value of a count of elements that are independent together.
-    fn ranked(&self, count: i128) -> i128
-        requires low { pos 0 ≤ℤ count }
-        requires high { count ≤ℤ pos 256 }
-        ensures value { result ≡ self.now.w *ℤ count }
-        ensures small { IsAtMost (10 ^ 21) result }
-    {
-        self.w * count
-    }
-
     /// The greatest value: that of all elements.
     pub fn size_of(&self) -> i128
         ensures value { result ≡ graphic_size self.now.w self.now.ends }
         ensures small { IsAtMost (10 ^ 21) result }
     {
-        self.ranked(self.basis.size() as i128)
+        worth(self.w, &self.basis)
     }
 
     /// The value of a part: w times its rank.
@@ -138,8 +129,8 @@ impl Graphic {
         requires { length s.now ≡ length self.now.places }
         ensures { IfOk result (λ r. r ≡ graphic_value self.now.w self.now.ends s.now) }
     {
-        let rank = self.rank(alloc, s)?;
-        Ok(Some(self.ranked(rank)))
+        let forest = grow(alloc, self.ends.as_slice(), s)?;
+        Ok(Some(worth(self.w, &forest)))
     }
 
     /// Writes the base with q·w at each edge of the forest that is kept, and 0 at the others.
@@ -150,30 +141,7 @@ impl Graphic {
         ensures greedy { IsGreedy q (graphic_value self.now.w self.now.ends) (length self.now.places) x.new }
         ensures base { IsBase (times q (graphic_value self.now.w self.now.ends)) x.new }
     {
-        self.write_start(q, x);
-    }
-
-    /// Writes q·w at the edges of the forest that is kept, and 0 at the others.
-    fn write_start(&self, q: i128, x: &mut [i128])
-        requires factor { IsFactor q }
-        requires entries { length x.old ≡ length self.now.places }
-        ensures { x.new ≡ graphic_start q self.now.w self.now.ends }
-    {
-        for (j, a) in x.iter_mut().enumerate() {
-            *a = self.share(q, j);
-        }
-    }
-
-    /// What the place j gets of the first base.
-    fn share(&self, q: i128, j: usize) -> i128
-        requires factor { IsFactor q }
-        requires place { j < length self.now.places }
-        ensures { result ≡ slice_index_or (graphic_start q self.now.w self.now.ends) j (pos 0) }
-    {
-        if !self.basis.contains(j) {
-            return 0;
-        }
-        product(q, self.w)
+        write_start(q, self.w, &self.basis, x);
     }
 
     /// Whether no edges get more than a number for each of their ends but one, whichever one.
@@ -199,15 +167,10 @@ impl Graphic {
         requires small { All IsEntry x.now }
         ensures { IfOk result (λ r. IsTrue r ↔ IsBase (times q (graphic_value self.now.w self.now.ends)) x.now) }
     {
-        let most = product(q, self.w);
-        if !are_within(x, most) {
+        if !adds_up(x, q, self.w, self.size_of()) {
             return Ok(false);
         }
-        let whole = product(q, self.size_of());
-        if !has_sum(x, whole) {
-            return Ok(false);
-        }
-        let passed = self.passes_all(alloc, x, most)?;
+        let passed = self.passes_all(alloc, x, self.cap(q))?;
         Ok(passed)
     }
 
@@ -218,7 +181,7 @@ impl Graphic {
         ensures low { pos 0 ≤ℤ result }
         ensures high { result ≤ℤ pos (10 ^ 24) }
     {
-        product(q, self.w)
+        cap_of(q, self.w)
     }
 
     /// The root if it is an end of an edge, and else the tail of that.

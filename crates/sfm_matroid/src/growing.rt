@@ -54,7 +54,8 @@ fn take(labels: &mut [(u32, u32)], t: &mut Set, e: usize)
 /// The edges of a set that are taken one after another.
 pub(crate) fn grow(alloc: Global, ends: &[(u32, u32)], s: &Set) -> Result<Set, Memory>
     requires { length s.now ≡ length ends.now }
-    ensures { IfOk result (λ t. t ≡ taken (edges_of ends.now) s.now (length ends.now)) }
+    ensures places { IfOk result (λ t. length t ≡ length s.now) }
+    ensures taken { IfOk result (λ t. t ≡ taken (edges_of ends.now) s.now (length ends.now)) }
 {
     let mut labels = Vec::from_slice(alloc, ends)?;
     let mut t = Set::empty(alloc, s.len())?;

@@ -10,6 +10,7 @@ pub mod graphic;
 mod growing;
 mod matching;
 mod order;
+mod ranked;
 mod room;
 pub mod rooted;
 pub mod splits;

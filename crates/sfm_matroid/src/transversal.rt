@@ -19,11 +19,12 @@ use crate::entries::Entries;
 use crate::givers::row;
 use crate::growing::whole;
 use crate::matching::{are_held, matched};
+use crate::ranked::{adds_up, cap_of, worth, write_start};
 use crate::room::{limit_of, moved, second_of, without};
 use crate::splits::{SlotSplit, bring_split, keep_spare, slot_split};
 use sfm_assign::Aim;
 use sfm_base::{Memory, Places, Set};
-use sfm_law::{Room, Term, are_within, has_sum, product};
+use sfm_law::{Room, Term, product};
 use std::alloc::Global;
 
 /// A number for each element of a greatest independent part: elements are independent where they have slots of their own
@@ -94,22 +95,12 @@ impl Transversal {
         ensures { IsRankFunction (length self.now.places) self.now.w (IsMatchable self.now.entries) (transversal_value self.now.w self.now.entries) }
     {}
 
-    /// The value of a count of elements that are independent together.
-    fn ranked(&self, count: i128) -> i128
-        requires low { pos 0 ≤ℤ count }
-        requires high { count ≤ℤ pos 256 }
-        ensures value { result ≡ self.now.w *ℤ count }
-        ensures small { IsAtMost (10 ^ 21) result }
-    {
-        self.w * count
-    }
-
     /// The greatest value: that of all elements.
     pub fn size_of(&self) -> i128
         ensures value { result ≡ transversal_size self.now.w self.now.entries }
         ensures small { IsAtMost (10 ^ 21) result }
     {
-        self.ranked(self.basis.size() as i128)
+        worth(self.w, &self.basis)
     }
 
     /// The value of a part: w times its rank.
@@ -121,8 +112,8 @@ impl Transversal {
         requires { length s.now ≡ length self.now.places }
         ensures { IfOk result (λ r. r ≡ transversal_value self.now.w self.now.entries s.now) }
     {
-        let rank = self.rank(alloc, s)?;
-        Ok(Some(self.ranked(rank)))
+        let taken = matched(alloc, &self.entries, s)?;
+        Ok(Some(worth(self.w, &taken)))
     }
 
     /// Writes the base with q·w at each element of the part that is kept, and 0 at the others.
@@ -133,30 +124,7 @@ impl Transversal {
         ensures greedy { IsGreedy q (transversal_value self.now.w self.now.entries) (length self.now.places) x.new }
         ensures base { IsBase (times q (transversal_value self.now.w self.now.entries)) x.new }
     {
-        self.write_start(q, x);
-    }
-
-    /// Writes q·w at the elements of the part that is kept, and 0 at the others.
-    fn write_start(&self, q: i128, x: &mut [i128])
-        requires factor { IsFactor q }
-        requires entries { length x.old ≡ length self.now.places }
-        ensures { x.new ≡ transversal_start q self.now.w self.now.entries }
-    {
-        for (j, a) in x.iter_mut().enumerate() {
-            *a = self.share(q, j);
-        }
-    }
-
-    /// What the place j gets of the first base.
-    fn share(&self, q: i128, j: usize) -> i128
-        requires factor { IsFactor q }
-        requires place { j < length self.now.places }
-        ensures { result ≡ slice_index_or (transversal_start q self.now.w self.now.entries) j (pos 0) }
-    {
-        if !self.basis.contains(j) {
-            return 0;
-        }
-        product(q, self.w)
+        write_start(q, self.w, &self.basis, x);
     }
 
     /// Whether x is a base of q times the term.
@@ -171,15 +139,10 @@ impl Transversal {
         ensures { IfOk result (λ r. IsTrue r ↔ IsBase (times q (transversal_value self.now.w self.now.entries)) x.now) }
     {
         let m = self.entries.above();
-        let most = product(q, self.w);
-        if !are_within(x, most) {
+        if !adds_up(x, q, self.w, self.size_of()) {
             return Ok(false);
         }
-        let whole = product(q, self.size_of());
-        if !has_sum(x, whole) {
-            return Ok(false);
-        }
-        let held = are_held(alloc, &self.entries, m, x, most)?;
+        let held = are_held(alloc, &self.entries, m, x, cap_of(q, self.w))?;
         Ok(held)
     }
 

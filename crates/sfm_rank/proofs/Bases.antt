@@ -1,8 +1,8 @@
 -- Bases of a number times a rank, and how much can be exchanged at one, where what is within the rank is told by tests of its
 -- entries: no entry is above a number, and each test is met. The tests are left open here.
 -- Textbook: Fujishige, Submodular Functions and Optimization, section 4 (exchange capacities).
-use Rattle.std.proofs.Common.{◌≡◌, ◌≢◌, ◌⊎◌, ℕ, suc, ◌<◌, Bool, true, false, List, [], ◌∷◌, length, get_or, set, ℤ, pos, ◌+ℤ◌, ◌-ℤ◌, ◌*ℤ◌, ◌≤ℤ◌, ◌<ℤ◌, Some, refl, sym, ap, ◌∙◌, arith, ⊎_elim, length-set, get_or-set_other, get_or-set_same}
-use Rattle.std.proofs.lemmas.Bool.{cases_eq}
+use Rattle.std.proofs.Common.{◌≡◌, ◌≢◌, ◌⊎◌, ◌↔◌, IsTrue, ℕ, suc, ◌<◌, Bool, true, false, List, [], ◌∷◌, length, get_or, set, ℤ, pos, ◌+ℤ◌, ◌-ℤ◌, ◌*ℤ◌, ◌≤ℤ◌, ◌<ℤ◌, Some, refl, sym, ap, ◌∙◌, arith, ⊎_elim, length-set, get_or-set_other, get_or-set_same}
+use Rattle.std.proofs.lemmas.Bool.{both_ways, cases_eq, false≢true}
 use Rattle.std.proofs.lemmas.Int.{ints}
 use Rattle.std.proofs.lemmas.List.{get_or_default, length-replicate}
 use Rattle.std.specs.List.{All}
@@ -51,6 +51,15 @@ pub record IsTold (cap whole : ℤ) (AreMet : Type 0) (x : List ℤ) : Type 0 wh
   pub within : All (λ a. (pos 0 ≤ℤ a) × (a ≤ℤ cap)) x
   pub sum : total_of x ≡ whole
   pub met : AreMet
+
+-- a test that goes through this: of the entries, and where it is passed of the rest
+module _ (IsIt AreMet : Type 0) (cap whole : ℤ) (x : List ℤ) (told : IsIt → IsTold cap whole AreMet x) (back : IsTold cap whole AreMet x → IsIt) (even : Bool)
+    (is : IsTrue even ↔ (All (λ a. (pos 0 ≤ℤ a) × (a ≤ℤ cap)) x × (total_of x ≡ whole))) where
+  pub told_uneven : even ≡ false → IsTrue false ↔ IsIt
+  told_uneven fails = ((λ t. absurd (false≢true t)), (λ h. absurd (both_ways even fails (is.1 ((told h).within, (told h).sum)))))
+
+  pub told_by : even ≡ true → (met : Bool) → IsTrue met ↔ AreMet → IsTrue met ↔ IsIt
+  told_by holds met test = ((λ t. back (record { within = (is.0 holds).0; sum = (is.0 holds).1; met = test.0 t })), (λ h. test.1 (told h).met))
 
 module _ (k n : ℕ) (q w : ℤ) (low : pos 0 ≤ℤ (q *ℤ w)) (IsIndependent : List Bool → Type 0) (rank : List Bool → ℕ) (matroid : IsMatroid k IsIndependent) (ranks : AreRanks k IsIndependent rank) (Meets : ℕ → List ℤ → Type 0) where
   abbrev pub IsWithinRanks : List ℤ → Type 0

@@ -1,13 +1,14 @@
-use Rattle.std.proofs.Common.{◌≡◌, ◌∙◌, ◌<◌, true, false, length, get_or, set, sym, ap, pos, arith, length-set}
-use Rattle.std.proofs.lemmas.Int.{ints}
+use Rattle.std.proofs.Common.{◌≡◌, ◌≢◌, ◌∙◌, ◌<◌, true, false, length, get_or, set, sym, ap, pos, arith, to_z, of_z, FitsSigned, length-set}
+use Rattle.std.proofs.lemmas.Int.{ints, to_z-of_z}
 use Rattle.std.proofs.lemmas.List.{length-replicate}
+use mir.Syntax.{w128}
 use Rattle.sfm_spec.specs.Sets.{empty_set}
 use Rattle.sfm_rank.specs.Terms.{at_places}
 use Rattle.sfm_rank.proofs.Terms.{at_places-length}
 use Rattle.sfm_assign.specs.Lenders.{with_more}
 use Rattle.sfm_matroid.specs.Notes.{slot_demands}
 use Rattle.sfm_matroid.specs.Slots.{suited}
-use Rattle.sfm_matroid.proofs.Matched.{ones-none, ones-out, grown-taken, grown-left, grown-suits, grown-not, suited-out, suited-taken, suited-left, suited-same}
+use Rattle.sfm_matroid.proofs.Matched.{ones-none, ones-out, fits_one, grown-taken, grown-left, grown-suits, grown-not, suited-out, suited-taken, suited-left, suited-same}
 use Rattle.sfm_matroid.proofs.matching.matched.Goals as goal
 use Rattle.sfm_matroid.proofs.matching.matched.Goals.{then-contains+in_ok-grow+then-branch-eq1, else-contains, else-contains-via-then-contains+in_ok-grow+else-branch-eq1, else-contains-via-else-contains}
 
@@ -53,22 +54,23 @@ loop-e-preserved c =
       | then-contains+in_ok-grow+then-branch-eq1 w ↦
           let has = sym c.contains.ensures ∙ w.if-contains.true in
           let most = rw inv.split at w.in_ok-grow.ensures.most in
-          let one = w.if-branch-eq1.true in
-          let grown = w.in_ok-grow.ensures.grown ∙ (ap (λ d. with_more d e _) inv.split ∙ grown-taken entries m exist t kt e out _ most one) in
+          let fg : FitsSigned w128 w.in_ok-grow.field-0 = fits_one entries m (at_places (pos 1) t) e w.in_ok-grow.field-0 most in
+          let one : w.in_ok-grow.field-0 ≡ pos 1 = simp to_z-of_z at (ap (to_z w128) w.if-branch-eq1.true) in
+          let grown = w.in_ok-grow.ensures.grown ∙ (ap (λ d. with_more d e w.in_ok-grow.field-0) inv.split ∙ grown-taken entries m exist t kt e out w.in_ok-grow.field-0 most one) in
           let taken : c.if-contains.t ≡ set t e true = w.t-is ∙ w.insert.ensures in
           record {
             places = ap length taken ∙ (length-set t e true ∙ inv.places);
-            taken = taken ∙ suited-taken entries s e t inv.taken has (grown-suits entries m exist t kt e out _ most one);
+            taken = taken ∙ suited-taken entries s e t inv.taken has (grown-suits entries m exist t kt e out w.in_ok-grow.field-0 most one);
             split = ap (λ k. k.demand) w.kept-is ∙ (grown ∙ ap (λ u. slot_demands entries m (pos 1) (at_places (pos 1) u)) (sym taken));
           }
       | else-contains w ↦ elim w.else-contains.branch [
         | else-contains-via-then-contains+in_ok-grow+else-branch-eq1 w' ↦
             let most = rw inv.split at w'.in_ok-grow.ensures.most in
-            let ne = w'.if-branch-eq1.false in
-            let grown = w'.in_ok-grow.ensures.grown ∙ (ap (λ d. with_more d e _) inv.split ∙ grown-left entries m exist t kt e out _ most ne) in
+            let ne : w'.in_ok-grow.field-0 ≢ pos 1 = λ is. w'.if-branch-eq1.false (ap (of_z w128) is) in
+            let grown = w'.in_ok-grow.ensures.grown ∙ (ap (λ d. with_more d e w'.in_ok-grow.field-0) inv.split ∙ grown-left entries m exist t kt e out w'.in_ok-grow.field-0 most ne) in
             record {
               places = ap length w.t-is ∙ inv.places;
-              taken = w.t-is ∙ suited-left entries s e t inv.taken (grown-not entries m exist t kt e out _ most ne);
+              taken = w.t-is ∙ suited-left entries s e t inv.taken (grown-not entries m exist t kt e out w'.in_ok-grow.field-0 most ne);
               split = ap (λ k. k.demand) (w.kept-is ∙ w'.kept-is) ∙ (grown ∙ ap (λ u. slot_demands entries m (pos 1) (at_places (pos 1) u)) (sym w.t-is));
             }
         | else-contains-via-else-contains w' ↦

@@ -15,7 +15,7 @@ pub invariant_of-result-clause-same_count : goal.invariant_of-result-clause-same
 invariant_of-result-clause-same_count c = ap length c.in_ok-ends.ensures ∙ (length-edges c.args.ends.now ∙ (c.requires.same_count ∙ ap length (sym c.in_ok-places.ensures)))
 
 pub invariant_of-result-clause-based : goal.invariant_of-result-clause-based
-invariant_of-result-clause-based c = basis_from c.args.ends.now _ _ _ c.in_ok-ends.ensures c.in_ok-all.ensures c.in_ok-basis.ensures
+invariant_of-result-clause-based c = basis_from c.args.ends.now _ _ _ c.in_ok-ends.ensures c.in_ok-all.ensures c.in_ok-basis.ensures.taken
 
 pub invariant_of-result-clause-of_ends : goal.invariant_of-result-clause-of_ends
 invariant_of-result-clause-of_ends c = c.in_ok-graph.ensures.ends ∙ ap numbered (sym c.in_ok-ends.ensures)

@@ -15,5 +15,5 @@ returns-clause-greatest c =
     let f : Fits w64 c.size.result = search rules in
     let z : to_z w128 c.size.result ≡ pos c.size.result = omega (arith, ints, f) in
     let n : length c.as_slice.result.now ≡ length s.ends = sym (length-edges c.as_slice.result.now) ∙ ap length c.as_slice.ensures in
-    let e : c.size.result ≡ graphic_rank s.ends t = c.size.ensures ∙ (ap size c.in_ok-forest.ensures ∙ (ap (λ m. size (taken (edges_of c.as_slice.result.now) t m)) n ∙ ap (λ es. size (taken es t (length s.ends))) c.as_slice.ensures)) in
+    let e : c.size.result ≡ graphic_rank s.ends t = c.size.ensures ∙ (ap size c.in_ok-forest.ensures.taken ∙ (ap (λ m. size (taken (edges_of c.as_slice.result.now) t m)) n ∙ ap (λ es. size (taken es t (length s.ends))) c.as_slice.ensures)) in
     (graphic_rank s.ends t, z ∙ ap pos e, graphic-ranks s.ends t (c.requires ∙ sym s.same_count))

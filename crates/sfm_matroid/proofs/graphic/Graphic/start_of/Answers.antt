@@ -1,19 +1,34 @@
-use Rattle.std.proofs.Common.{length, FitsSigned}
+use Rattle.std.proofs.Common.{◌∙◌, length, ap, sym, FitsSigned}
 use Rattle.std.proofs.lemmas.Int.{to_z-of_z}
 use mir.Syntax.{w128}
+use Rattle.sfm_law.proofs.Fits.{given_fits}
 use Rattle.sfm_matroid.specs.GraphicLaws.{graphic-greedy, graphic-starts}
+use Rattle.sfm_matroid.proofs.Kept.{length-basis}
 use Rattle.sfm_matroid.proofs.graphic.Graphic.start_of.Goals as goal
+
+pub write_start-requires-clause-entries : goal.write_start-requires-clause-entries
+write_start-requires-clause-entries c = let s = c.args.self.now in c.requires.entries ∙ sym (ap length s.based ∙ (length-basis s.ends ∙ s.same_count))
+
+pub returns-clause-start : goal.returns-clause-start
+returns-clause-start c =
+    let s = c.args.self.now in
+    let fq : FitsSigned w128 c.args.q = c.ranges.q in
+    let fw : FitsSigned w128 s.w = given_fits _ s.given in
+    let e = rw s.based at (simp to_z-of_z at c.write_start.ensures) in
+    e
 
 pub returns-clause-greedy : goal.returns-clause-greedy
 returns-clause-greedy c =
     let s = c.args.self.now in
     let fq : FitsSigned w128 c.args.q = c.ranges.q in
-    let e = simp to_z-of_z at c.write_start.ensures in
+    let fw : FitsSigned w128 s.w = given_fits _ s.given in
+    let e = rw s.based at (simp to_z-of_z at c.write_start.ensures) in
     rw e (graphic-greedy (length s.places) s.w s.ends s.same_count s.low c.args.q)
 
 pub returns-clause-base : goal.returns-clause-base
 returns-clause-base c =
     let s = c.args.self.now in
     let fq : FitsSigned w128 c.args.q = c.ranges.q in
-    let e = simp to_z-of_z at c.write_start.ensures in
+    let fw : FitsSigned w128 s.w = given_fits _ s.given in
+    let e = rw s.based at (simp to_z-of_z at c.write_start.ensures) in
     rw e (graphic-starts (length s.places) s.w s.ends s.same_count s.low c.args.q c.requires.factor.low).1
