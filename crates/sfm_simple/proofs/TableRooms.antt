@@ -35,7 +35,7 @@ module _ (q : ℤ) (values x : List ℤ) (counted : length values ≡ 2 ^ length
   listed-members : (n : ℕ) → n < length values → listed_at values (members (length x) n) ≡ get_or values n (pos 0)
   listed-members n h = ap (λ i. get_or values i (pos 0)) (binary-members (length x) n (omega (arith, h, counted)))
 
-  pub table_base : ((n : ℕ) → n < length values → pos 0 ≤ℤ slack_of q values x n) → slack_of q values x (length values - 1) ≡ pos 0 → IsBase (times q (table_value values)) x
+  table_base : ((n : ℕ) → n < length values → pos 0 ≤ℤ slack_of q values x n) → slack_of q values x (length values - 1) ≡ pos 0 → IsBase (times q (table_value values)) x
   table_base low tight = record { within = within; total = ap Some total } where
     within : (s : List Bool) (a : ℤ) → length s ≡ length x → times q (table_value values) s ≡ Some a → sum_over s x ≤ℤ a
     within s a same e =
@@ -57,13 +57,17 @@ module _ (q : ℤ) (values x : List ℤ) (counted : length values ≡ 2 ^ length
       let e = ap (λ a. q *ℤ a) (listed-members n h) in
       omega (arith, ints, w, e)
 
-  pub slack_none : IsBase (times q (table_value values)) x → slack_of q values x (length values - 1) ≡ pos 0
+  slack_none : IsBase (times q (table_value values)) x → slack_of q values x (length values - 1) ≡ pos 0
   slack_none base =
       let f : (q *ℤ listed_at values (whole_set (length x))) ≡ sum_over (whole_set (length x)) x = (let e = base.total in cc) in
       let b = slack-binary (whole_set (length x)) (length-replicate (length x) true) in
       let c = rw whole_number at b in
       let plain = ap (λ i. q *ℤ get_or values i (pos 0)) whole_number in
       omega (arith, ints, c, f, plain)
+
+  -- what the code tests, one after the other
+  pub table_tested : IsBase (times q (table_value values)) x ↔ (((n : ℕ) → n < length values → pos 0 ≤ℤ slack_of q values x n) × (slack_of q values x (length values - 1) ≡ pos 0))
+  table_tested = ((λ b. (slack_low b, slack_none b)), (λ (low, tight). table_base low tight))
 
   module _ (base : IsBase (times q (table_value values)) x) (u v : ℕ) (ku : u < length x) (kv : v < length x) (ne : u ≢ v) where
     abbrev Lists : List Bool → ℤ → Type 0
