@@ -352,7 +352,7 @@ impl Concave {
 
     /// The room of (u, v) at a base, by the ranking that is kept beside it if there is one: the least slack of a part with u
     /// and not v.
-    pub fn room_of(&self, q: i128, x: &[i128], note: Option<&Ranking>, u: usize, v: usize) -> Room
+    fn room_noted(&self, q: i128, x: &[i128], note: Option<&Ranking>, u: usize, v: usize) -> Room
         requires factor { IsFactor q }
         requires entries { length x.now ≡ length self.now.places }
         requires small { All IsEntry x.now }
@@ -364,6 +364,20 @@ impl Concave {
         ensures { IsRoom (times q (concave_value self.now.values)) x.now u v result }
     {
         Room::Upto(self.least_slack(q, x, note, u, v))
+    }
+
+    /// The room of (u, v) at a base: the least slack of a part with u and not v.
+    pub fn room_of(&self, q: i128, x: &[i128], u: usize, v: usize) -> Room
+        requires factor { IsFactor q }
+        requires entries { length x.now ≡ length self.now.places }
+        requires small { All IsEntry x.now }
+        requires base { IsBase (times q (concave_value self.now.values)) x.now }
+        requires apart { u ≢ v }
+        requires from { u < length x.now }
+        requires onto { v < length x.now }
+        ensures { IsRoom (times q (concave_value self.now.values)) x.now u v result }
+    {
+        self.room_noted(q, x, None, u, v)
     }
 
     /// What all places but the i least leave.
@@ -458,7 +472,7 @@ impl Concave {
 
     /// Writes the places other than u to which u has room at a base, by the ranking that is kept beside it if there is one:
     /// those above the greatest entry to which it has none.
-    pub fn reach_of(&self, q: i128, x: &[i128], note: Option<&Ranking>, u: usize, to: &mut Set)
+    fn reach_noted(&self, q: i128, x: &[i128], note: Option<&Ranking>, u: usize, to: &mut Set)
         requires factor { IsFactor q }
         requires entries { length x.now ≡ length self.now.places }
         requires small { All IsEntry x.now }
@@ -469,6 +483,20 @@ impl Concave {
         ensures { IsReach (times q (concave_value self.now.values)) x.now u to.new }
     {
         put_over(x, u, self.bar(q, x, note, u), to);
+    }
+
+    /// Writes the places other than u to which u has room at a base: those above the greatest entry to which it has none.
+    pub fn reach_of(&self, q: i128, x: &[i128], u: usize, to: &mut Set)
+        requires factor { IsFactor q }
+        requires entries { length x.now ≡ length self.now.places }
+        requires small { All IsEntry x.now }
+        requires base { IsBase (times q (concave_value self.now.values)) x.now }
+        requires from { u < length x.now }
+        requires room_for_answer { length to.old ≡ length x.now }
+        ensures places { length to.new ≡ length to.old }
+        ensures reached { IsReach (times q (concave_value self.now.values)) x.now u to.new }
+    {
+        self.reach_noted(q, x, None, u, to);
     }
 }
 
@@ -528,7 +556,7 @@ impl Term for Concave {
         u: usize,
         v: usize,
     ) -> Result<Room, Memory> {
-        Ok(self.room_of(q, x, None, u, v))
+        Ok(self.room_of(q, x, u, v))
     }
 
     fn reach(
@@ -539,7 +567,7 @@ impl Term for Concave {
         u: usize,
         to: &mut Set,
     ) -> Result<(), Memory> {
-        self.reach_of(q, x, None, u, to);
+        self.reach_of(q, x, u, to);
         Ok(())
     }
 
@@ -556,7 +584,7 @@ impl Term for Concave {
         u: usize,
         to: &mut Set,
     ) -> Result<(), Memory> {
-        self.reach_of(q, x, Some(note), u, to);
+        self.reach_noted(q, x, Some(note), u, to);
         Ok(())
     }
 
@@ -569,7 +597,7 @@ impl Term for Concave {
         u: usize,
         v: usize,
     ) -> Result<Room, Memory> {
-        Ok(self.room_of(q, x, Some(note), u, v))
+        Ok(self.room_noted(q, x, Some(note), u, v))
     }
 
     fn moved(

@@ -355,7 +355,7 @@ impl Laminar {
 
     /// The room of (u, v) at a base, by what is kept beside it if there is something: the least of what v has, what u lacks
     /// of q·w, and what each group lacks that has u and not v.
-    pub fn room_of(&self, q: i128, x: &[i128], note: Option<&Slacks>, u: usize, v: usize) -> Room
+    fn room_noted(&self, q: i128, x: &[i128], note: Option<&Slacks>, u: usize, v: usize) -> Room
         requires factor { IsFactor q }
         requires entries { length x.now ≡ length self.now.places }
         requires small { All IsEntry x.now }
@@ -367,6 +367,21 @@ impl Laminar {
         ensures { IsRoom (times q (laminar_value (length self.now.places) self.now.w self.now.groups)) x.now u v result }
     {
         Room::Upto(self.least_left(q, x, note, u, v))
+    }
+
+    /// The room of (u, v) at a base: the least of what v has, what u lacks of q·w, and what each group lacks that has u and
+    /// not v.
+    pub fn room_of(&self, q: i128, x: &[i128], u: usize, v: usize) -> Room
+        requires factor { IsFactor q }
+        requires entries { length x.now ≡ length self.now.places }
+        requires small { All IsEntry x.now }
+        requires base { IsBase (times q (laminar_value (length self.now.places) self.now.w self.now.groups)) x.now }
+        requires apart { u ≢ v }
+        requires from { u < length x.now }
+        requires onto { v < length x.now }
+        ensures { IsRoom (times q (laminar_value (length self.now.places) self.now.w self.now.groups)) x.now u v result }
+    {
+        self.room_noted(q, x, None, u, v)
     }
 
     /// Whether the group i lacks nothing.
@@ -425,7 +440,7 @@ impl Laminar {
 
     /// Writes the places other than u to which u has room at a base, by what is kept beside it if there is something: those
     /// that have something and are in each group that has u and lacks nothing, where u lacks something of q·w.
-    pub fn reach_of(&self, q: i128, x: &[i128], note: Option<&Slacks>, u: usize, to: &mut Set)
+    fn reach_noted(&self, q: i128, x: &[i128], note: Option<&Slacks>, u: usize, to: &mut Set)
         requires factor { IsFactor q }
         requires entries { length x.now ≡ length self.now.places }
         requires small { All IsEntry x.now }
@@ -442,6 +457,21 @@ impl Laminar {
         put_some(x, note, to);
         to.remove(u);
         self.keep_full(q, x, note, u, to);
+    }
+
+    /// Writes the places other than u to which u has room at a base: those that have something and are in each group that
+    /// has u and lacks nothing, where u lacks something of q·w.
+    pub fn reach_of(&self, q: i128, x: &[i128], u: usize, to: &mut Set)
+        requires factor { IsFactor q }
+        requires entries { length x.now ≡ length self.now.places }
+        requires small { All IsEntry x.now }
+        requires base { IsBase (times q (laminar_value (length self.now.places) self.now.w self.now.groups)) x.now }
+        requires from { u < length x.now }
+        requires room_for_answer { length to.old ≡ length x.now }
+        ensures places { length to.new ≡ length to.old }
+        ensures reached { IsReach (times q (laminar_value (length self.now.places) self.now.w self.now.groups)) x.now u to.new }
+    {
+        self.reach_noted(q, x, None, u, to);
     }
 
     /// What each group lacks.
@@ -577,7 +607,7 @@ impl Term for Laminar {
         u: usize,
         v: usize,
     ) -> Result<Room, Memory> {
-        Ok(self.room_of(q, x, None, u, v))
+        Ok(self.room_of(q, x, u, v))
     }
 
     fn reach(
@@ -588,7 +618,7 @@ impl Term for Laminar {
         u: usize,
         to: &mut Set,
     ) -> Result<(), Memory> {
-        self.reach_of(q, x, None, u, to);
+        self.reach_of(q, x, u, to);
         Ok(())
     }
 
@@ -605,7 +635,7 @@ impl Term for Laminar {
         u: usize,
         to: &mut Set,
     ) -> Result<(), Memory> {
-        self.reach_of(q, x, Some(note), u, to);
+        self.reach_noted(q, x, Some(note), u, to);
         Ok(())
     }
 
@@ -618,7 +648,7 @@ impl Term for Laminar {
         u: usize,
         v: usize,
     ) -> Result<Room, Memory> {
-        Ok(self.room_of(q, x, Some(note), u, v))
+        Ok(self.room_noted(q, x, Some(note), u, v))
     }
 
     fn moved(

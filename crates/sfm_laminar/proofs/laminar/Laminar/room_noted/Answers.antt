@@ -2,7 +2,7 @@ use Rattle.std.proofs.Common.{rules, length, ◌<◌, FitsSigned}
 use Rattle.std.proofs.lemmas.Int.{to_z-of_z}
 use mir.Syntax.{w128}
 use Rattle.sfm_laminar.proofs.Exchanges.{laminar-capacity}
-use Rattle.sfm_laminar.proofs.laminar.Laminar.room_of.Goals as goal
+use Rattle.sfm_laminar.proofs.laminar.Laminar.room_noted.Goals as goal
 
 pub least_left-requires-clause-noted : goal.least_left-requires-clause-noted
 least_left-requires-clause-noted c =

@@ -4,7 +4,7 @@ use Rattle.std.proofs.lemmas.Int.{to_z-of_z}
 use mir.Syntax.{w128}
 use Rattle.sfm_laminar.proofs.Exchanges.{reach_none, reach_held}
 use Rattle.sfm_laminar.proofs.Slacking.{noted_support}
-use Rattle.sfm_laminar.proofs.laminar.Laminar.reach_of.Goals as goal
+use Rattle.sfm_laminar.proofs.laminar.Laminar.reach_noted.Goals as goal
 
 pub returns-then-not-lacks : goal.returns-then-not-lacks
 returns-then-not-lacks c =
