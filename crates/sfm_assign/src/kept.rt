@@ -207,22 +207,6 @@ impl Kept {
         })
     }
 
-    /// Takes over the demands and the capacities of another split over the same lists, and how it splits them, into the memory
-    /// that stands. Nothing is remembered.
-    pub fn copy_from(&mut self, other: &Kept)
-        requires lists { self.old.demand.lists ≡ other.now.demand.lists }
-        requires slots { length self.old.demand.capacities ≡ length other.now.demand.capacities }
-        ensures { self.new.demand ≡ other.now.demand }
-    {
-        let _sound = self.demand.lists();
-        self.demand
-            .copy_from(other.demand.demands(), other.demand.capacities());
-        self.shares.y.copy_from_slice(&other.shares.y);
-        self.rooms.copy_from_slice(&other.rooms);
-        forget(&mut self.answers, &mut self.search);
-        self.counted = false;
-    }
-
     /// Writes what the split leaves of other demands and capacities over the same lists: below nothing where it is too much.
     fn charge(&self, left: &mut Lefts, demands: &[i128], capacities: &[i128]) -> Result<(), Memory>
         requires sized { length demands.now ≡ length self.now.demand.demands }
