@@ -1,13 +1,12 @@
 -- Demands that lead to each other, as they are found against the steps.
-use Rattle.std.proofs.Common.{◌≡◌, ◌⊎◌, ⊎_elim, ℕ, ◌+◌, ◌<◌, Bool, List, [], ◌∷◌, ◌++◌, length, get_or, set, ℤ, pos, ◌≤ℤ◌, Option, Some, None, refl, sym, ap, ◌∙◌, arith, length-set, get_or-set_same, get_or-set_other}
+use Rattle.std.proofs.Common.{◌≡◌, ⊎_elim, ℕ, ◌<◌, Bool, List, [], ◌∷◌, ◌++◌, length, set, ℤ, pos, ◌≤ℤ◌, Option, Some, None, refl, sym, ◌∙◌, arith, length-set, get_or-set_same, get_or-set_other}
 use Rattle.std.proofs.lemmas.Bool.{cases_eq, cases_lt}
 use Rattle.std.proofs.lemmas.List.{length_push, get_or_push, get_or_append_left}
 use Rattle.sfm_spec.specs.Sets.{Has}
 use Rattle.sfm_assign.specs.Splits.{amount_at}
 use Rattle.sfm_assign.specs.Cells.{label_at}
 use Rattle.sfm_assign.specs.declared.spread.Answer.{Answer}
-use Rattle.sfm_assign.specs.declared.spread.Answer.TheVariants.{Full}
-use Rattle.sfm_assign.specs.Spread.{AreLedTo, AreTwins, AreTold, IsAnswer, IsKnown, answer_at}
+use Rattle.sfm_assign.specs.Spread.{AreLedTo, AreTwins, AreTold, IsAnswer, IsKnown}
 use Rattle.sfm_assign.proofs.Spreads.{led_here, led_further, led_to_same, answers_put}
 
 module _ (n : ℕ) (whos slots : List ℕ) (y rooms : List ℤ) (set : List Bool) where

@@ -2,12 +2,12 @@
 use Rattle.std.proofs.Common.{◌≡◌, ◌≢◌, ◌↔◌, ◌⊎◌, ⊎_elim, ℕ, ◌<◌, Bool, true, false, List, length, get_or, set, refl, sym, ◌∙◌, inl, inr, arith, length-set, get_or-set_same, get_or-set_other}
 use Rattle.std.proofs.lemmas.List.{length-replicate}
 use Rattle.std.proofs.lemmas.Bool.{false≢true, cases_eq, cases_Bool}
-use Rattle.sfm_spec.specs.Sets.{Has, IsWithin, IsPlaced, AreDistinct, empty_set, intersection, complement, union}
+use Rattle.sfm_spec.specs.Sets.{Has, IsWithin, IsPlaced, empty_set, intersection, complement, union}
 use Rattle.sfm_spec.proofs.Extremes.{length-complement, in_complement}
 use Rattle.sfm_spec.proofs.Sets.{in_union, union_right, in_both, in_first, same_sets}
 use Rattle.sfm_spec.proofs.Sums.{length-union, length-intersection}
 use Rattle.sfm_exchange.specs.declared.bits.Bits.{Bits}
-use Rattle.sfm_exchange.specs.Bits.{HasPlaces, bit_in}
+use Rattle.sfm_exchange.specs.Bits.{bit_in}
 use Rattle.sfm_exchange.specs.Image.{IsImage}
 use Rattle.sfm_exchange.proofs.Placing.{has_place, none_in_empty}
 

@@ -1,5 +1,5 @@
 -- Rows that are that of the place that was raised, after an exchange: those of the places that depend on it and on which it depends.
-use Rattle.std.proofs.Common.{◌≡◌, ◌≢◌, ◌↔◌, ◌⊎◌, ⊎_elim, inl, inr, ℕ, ◌<◌, ◌-◌, max, List, length, get_or, ℤ, sym, subst, ◌∙◌, arith}
+use Rattle.std.proofs.Common.{◌≡◌, ◌≢◌, ◌↔◌, ⊎_elim, inl, inr, ℕ, ◌<◌, ◌-◌, max, List, length, get_or, ℤ, sym, subst, ◌∙◌, arith}
 use Rattle.std.proofs.lemmas.Bool.{cases_eq}
 use Rattle.sfm_spec.specs.Sets.{AreDistinct}
 use Rattle.sfm_spec.specs.Rows.{Depends}
@@ -59,7 +59,7 @@ module _ {places : List ℕ} {f : SetFunction} {s t : ℕ} {x y : List ℤ} {cla
   shared_lead u lu one =
       let (has, bit, exact) = (told (get_or places u 0)).0 one in
       let d = finds places r.distinct r.family r.law (sized_before r) r.moved.base s t r.raised r.lowered r.apart r.moved.amount r.moved.some (base_after r) claimed found rows r.claims r.all of_s (row_after r of_s hs) u lu
-          (r.claims.exact u lu exact) has in
+      (r.claims.exact u lu exact) has in
       (subst (λ z. Depends f z u s) (sym r.moved.is) (follows_s places r.distinct r.family r.law (sized_before r) r.moved.base s t r.raised r.lowered r.apart r.moved.amount r.moved.some (base_after r) u lu d), bit)
 
   pub shared_inside : (e : ℕ) → bit_in shared e ≡ 1 → (u : ℕ) × (u < length places) × (get_or places u 0 ≡ e)

@@ -284,7 +284,5 @@ pub fn renew_rows<T: Term>(
     claimed.union_with(&changed);
     claimed.remove(to);
     let changes = grown_but(&changed, to);
-    Ok(settle_shared(
-        places, &shared, &raised, rows, claimed, changes,
-    ))
+    Ok(settle_shared(places, &shared, &raised, rows, claimed, changes))
 }

@@ -1,5 +1,5 @@
 -- The greatest forest that is kept, and the base that it gives.
-use Rattle.std.proofs.Common.{◌≡◌, ℕ, ◌<◌, ◌≤◌, Bool, true, false, List, length, sym, ap, ◌∙◌, arith}
+use Rattle.std.proofs.Common.{◌≡◌, ℕ, ◌<◌, Bool, true, false, List, length, sym, ap, ◌∙◌, arith}
 use Rattle.std.proofs.lemmas.List.{ext_get_or, length-replicate}
 use Rattle.sfm_spec.specs.Sets.{Has, whole_set}
 use Rattle.sfm_spec.specs.Kinds.{Edge}

@@ -1,4 +1,4 @@
-use Rattle.std.proofs.Common.{ℕ, sym, ◌∙◌, arith}
+use Rattle.std.proofs.Common.{sym, ◌∙◌, arith}
 use Rattle.sfm_assign.proofs.Linking.{pass_begun, pass_here, pass_more, pass_falls}
 use Rattle.sfm_assign.proofs.Within.{raised_nowhere, raised_on, raised_lacks, still_within, within_cells}
 use Rattle.sfm_assign.proofs.fill.drain.Goals as goal

@@ -1,4 +1,4 @@
-use Rattle.std.proofs.Common.{◌≡◌, length, set, replicate, get_or, drop, ℤ, pos, ◌-ℤ◌, sym, ap, ◌∙◌, arith, rules, FitsSigned}
+use Rattle.std.proofs.Common.{length, set, replicate, drop, ℤ, pos, ◌-ℤ◌, sym, ap, ◌∙◌, arith, rules, FitsSigned}
 use Rattle.std.proofs.lemmas.Int.{ints, to_z-of_z}
 use Rattle.std.proofs.lemmas.List.{get_or_read, length-replicate}
 use mir.Syntax.{w128}

@@ -1,7 +1,7 @@
 use Rattle.std.proofs.Common.{◌*ℤ◌, FitsSigned}
 use Rattle.std.proofs.lemmas.Int.{to_z-of_z}
 use mir.Syntax.{w128}
-use Rattle.sfm_law.proofs.Fits.{given_fits, given_more, product_fits}
+use Rattle.sfm_law.proofs.Fits.{given_more, product_fits}
 use Rattle.sfm_matroid.proofs.ranked.write_start.Goals as goal
 
 pub returns : goal.returns

@@ -1,5 +1,5 @@
-use Rattle.std.proofs.Common.{◌≡◌, length, sym, ap, refl, ◌∙◌}
-use Rattle.sfm_spec.specs.Sets.{empty_set, union, intersection, complement}
+use Rattle.std.proofs.Common.{length, sym, ap, refl, ◌∙◌}
+use Rattle.sfm_spec.specs.Sets.{union, intersection, complement}
 use Rattle.sfm_exchange.proofs.Imaging.{coming_begun, coming_more, coming_done, cleared_count, beside_count}
 use Rattle.sfm_exchange.proofs.image.Image.put_in.Goals as goal
 

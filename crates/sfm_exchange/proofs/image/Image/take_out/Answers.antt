@@ -1,6 +1,6 @@
-use Rattle.std.proofs.Common.{◌≡◌, length, sym, ap, refl, ◌∙◌}
-use Rattle.sfm_spec.specs.Sets.{empty_set, union, intersection, complement}
-use Rattle.sfm_exchange.proofs.Imaging.{leaving_begun, leaving_less, leaving_done, cleared_count, beside_count}
+use Rattle.std.proofs.Common.{length, sym, ap, refl, ◌∙◌}
+use Rattle.sfm_spec.specs.Sets.{union, intersection, complement}
+use Rattle.sfm_exchange.proofs.Imaging.{leaving_begun, leaving_less, cleared_count, beside_count}
 use Rattle.sfm_exchange.proofs.image.Image.take_out.Goals as goal
 
 pub remove_all-requires : goal.remove_all-requires

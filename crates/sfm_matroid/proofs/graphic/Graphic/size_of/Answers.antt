@@ -1,4 +1,3 @@
-use Rattle.std.proofs.Common.{length}
 use Rattle.sfm_matroid.proofs.Kept.{length-basis}
 use Rattle.sfm_matroid.proofs.graphic.Graphic.size_of.Goals as goal
 

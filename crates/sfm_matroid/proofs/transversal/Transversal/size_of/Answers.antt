@@ -1,4 +1,3 @@
-use Rattle.std.proofs.Common.{length}
 use Rattle.sfm_matroid.specs.Transversals.{length-transversal_basis}
 use Rattle.sfm_matroid.proofs.transversal.Transversal.size_of.Goals as goal
 
