@@ -174,28 +174,12 @@ module _ (n : ℕ) (whos slots : List ℕ) (y rooms : List ℤ) (u : ℕ) where
         full = inv.full;
       }
 
-    -- the answer of one more is taken in
-    module _ (f : ℕ) (answer : Answer) (room : answer ≡ Room → LeadsToRoom whos slots y rooms f) (all : (set : List Bool) → answer ≡ Full set → AreLedTo n whos slots y rooms f set) (led : LeadsTo whos slots y u f) where
-      pub taken_spread : (after : List Bool) (told : Option Answer) → IsJoin answer u found after told → IsSpread n whos slots y rooms u after marks queue next
-      taken_spread after told h = at answer all told h where
-        at : (a : Answer) → ((set : List Bool) → a ≡ Full set → AreLedTo n whos slots y rooms f set) → (told : Option Answer) → IsJoin a u found after told → IsSpread n whos slots y rooms u after marks queue next
-        at Room all told (e, is) = rw e inv
-        at (Full set) all None e = rw e (spread_joined f set (all set refl) led)
-        at (Full set) all (Some a) (e, has, is) = rw e inv
-
-      pub taken_wider : (after : List Bool) (told : Option Answer) → IsJoin answer u found after told → IsWider found queue after queue
-      taken_wider after told h = at answer all told h where
-        at : (a : Answer) → ((set : List Bool) → a ≡ Full set → AreLedTo n whos slots y rooms f set) → (told : Option Answer) → IsJoin a u found after told → IsWider found queue after queue
-        at Room all told (e, is) = rw e (wider_none found queue)
-        at (Full set) all None e = rw e (joined_wider f set (all set refl) led)
-        at (Full set) all (Some a) (e, has, is) = rw e (wider_none found queue)
-
-      pub taken_end : (after : List Bool) (w : ℕ) (Q : Type 0) (told : Option Answer) → f ≡ w → IsJoin answer u found after told → MatchOption told (Q → Has after w) (IsAnswer n whos slots y rooms u)
-      taken_end after w Q told q h = at answer room all told h where
-        at : (a : Answer) → (a ≡ Room → LeadsToRoom whos slots y rooms f) → ((set : List Bool) → a ≡ Full set → AreLedTo n whos slots y rooms f set) → (told : Option Answer) → IsJoin a u found after told → MatchOption told (Q → Has after w) (IsAnswer n whos slots y rooms u)
-        at Room room all told (e, is) = rw is (led_to_room whos slots y rooms u f led (room refl))
-        at (Full set) room all None e = λ _. rw (e, ← q) (joined_has f set (all set refl) led)
-        at (Full set) room all (Some a) (e, has, is) = rw is (led_to_same whos slots y n rooms u f set led (all set refl) has)
+    -- the answer of one more is taken in, or told where it is that of the first one
+    pub taken : (f w : ℕ) (Q : Type 0) (answer : Answer) (after : List Bool) (told : Option Answer) → f ≡ w → LeadsTo whos slots y u f → IsAnswer n whos slots y rooms f answer → IsJoin answer u found after told
+        → IsSpread n whos slots y rooms u after marks queue next × IsWider found queue after queue × MatchOption told (Q → Has after w) (IsAnswer n whos slots y rooms u)
+    taken f w Q Room after told same led room (e, is) = rw (e, is) (inv, wider_none found queue, led_to_room whos slots y rooms u f led room)
+    taken f w Q (Full set) after None same led all e = rw e (spread_joined f set all led, joined_wider f set all led, λ _. rw (← same) (joined_has f set all led))
+    taken f w Q (Full set) after (Some a) same led all (e, has, is) = rw (e, is) (inv, wider_none found queue, led_to_same whos slots y n rooms u f set led all has)
 
     -- a slot is marked that has no room, once all that have something there were found
     pub spread_marked : (s : ℕ) → amount_at rooms s ≤ℤ pos 0 → ((f : ℕ) → f < length whos → label_at slots f ≡ s → pos 1 ≤ℤ amount_at y f → Has found (label_at whos f)) → IsSpread n whos slots y rooms u found (set marks s true) queue next
@@ -275,6 +259,10 @@ module _ (n : ℕ) (whos slots : List ℕ) (y rooms : List ℤ) where
   -- none is told any more
   pub answers_forgotten : (answers : List (Option Answer)) → ((u : ℕ) → answer_at answers u ≡ None) → AreAnswers n whos slots y rooms answers
   answers_forgotten answers none = record { room = λ u is. absurd (no_answer (sym (none u) ∙ is)); led = λ u set is. absurd (no_answer (sym (none u) ∙ is)) }
+
+  pub answer_told : (answers : List (Option Answer)) (u : ℕ) (a : Answer) → AreAnswers n whos slots y rooms answers → answer_at answers u ≡ Some a → IsAnswer n whos slots y rooms u a
+  answer_told answers u Room h is = h.room u is
+  answer_told answers u (Full set) h is = h.led u set is
 
   pub answers_same : (before after : List (Option Answer)) → ((u : ℕ) → answer_at after u ≡ answer_at before u) → AreAnswers n whos slots y rooms before → AreAnswers n whos slots y rooms after
   answers_same before after same h = record { room = λ u is. h.room u (sym (same u) ∙ is); led = λ u set is. h.led u set (sym (same u) ∙ is) }
