@@ -1,14 +1,18 @@
 -- Amounts lowered cell by cell, and what they then leave.
-use Rattle.std.proofs.Common.{◌≡◌, ℕ, zero, suc, ◌+◌, ◌<◌, ◌≤◌, ◌^◌, List, [], ◌∷◌, length, set, ℤ, pos, ◌+ℤ◌, ◌-ℤ◌, ◌≤ℤ◌, ◌<ℤ◌, sym, ap, ◌∙◌, arith, ⊎_elim, replicate, length-set, get_or-set_other, get_or-set_same}
+use Rattle.std.proofs.Common.{◌≡◌, ℕ, zero, suc, ◌+◌, ◌<◌, ◌≤◌, ◌^◌, List, [], ◌∷◌, length, set, ℤ, pos, ◌+ℤ◌, ◌-ℤ◌, ◌≤ℤ◌, ◌<ℤ◌, refl, sym, ap, ◌∙◌, arith, FitsSigned, ⊎_elim, replicate, length-set, get_or-set_other, get_or-set_same}
 use Rattle.std.specs.List.{All}
 use Rattle.std.proofs.lemmas.Int.{ints, by_lt_z}
 use Rattle.std.proofs.lemmas.Bool.{cases_eq}
 use Rattle.std.proofs.lemmas.List.{length-replicate}
 use Rattle.std.proofs.lemmas.List.Elements.{All-get_or, All-from_get_or}
+use mir.Syntax.{w128}
 use Rattle.sfm_assign.specs.Splits.{sum_at, amount_at, IsAmount, IsCapacity}
 use Rattle.sfm_assign.specs.Cells.{label_at, AreCells, IsPart, IsMet}
 use Rattle.sfm_assign.specs.Search.{AreLeft}
 use Rattle.sfm_assign.specs.Lowers.{IsShifted, IsCharge, AreSmall, AreCharged, AreLowered, AreMended}
+use Rattle.sfm_assign.specs.Sides.{of_side}
+use Rattle.sfm_assign.specs.declared.lower.Side.{Side}
+use Rattle.sfm_assign.specs.declared.lower.Side.TheVariants.{Demands, Slots}
 use Rattle.sfm_assign.proofs.Amounts.{AreAmounts, sum_at-set, sum_at-low, sum_at-holds, only-same, only-other}
 use Rattle.sfm_assign.proofs.Outcomes.{nothing-at}
 use Rattle.sfm_assign.proofs.Lefts.{left_taken}
@@ -51,7 +55,7 @@ module _ (totals : List ℤ) (labels : List ℕ) (y left : List ℤ) (e : ℕ) (
       omega (arith, ints, r, s, most)
 
 -- where something is left on the cell, all that was asked for is given back
-pub given_all : (y left : List ℤ) (e k : ℕ) (a over : ℤ) → e < length y → k < length left → (pos 1 ≤ℤ (amount_at y e -ℤ a) → a ≡ over) → pos 1 ≤ℤ amount_at (set y e (amount_at y e -ℤ a)) e
+given_all : (y left : List ℤ) (e k : ℕ) (a over : ℤ) → e < length y → k < length left → (pos 1 ≤ℤ (amount_at y e -ℤ a) → a ≡ over) → pos 1 ≤ℤ amount_at (set y e (amount_at y e -ℤ a)) e
     → amount_at (set left k (amount_at left k +ℤ a)) k ≡ (amount_at left k +ℤ over)
 given_all y left e k a over le lk all some =
     let f = get_or-set_same y e (amount_at y e -ℤ a) (pos 0) le in
@@ -97,6 +101,14 @@ module _ (whos slots : List ℕ) (y lacks rooms : List ℤ) where
     rooms_rise = λ s. let p = f.rooms_rise s in let q = g.rooms_rise s in omega (arith, ints, p, q);
   }
 
+  pub side_rises : (z lacks' rooms' : List ℤ) → AreLowered whos slots y lacks rooms z lacks' rooms' → (side : Side) (k : ℕ) → amount_at (of_side side lacks rooms) k ≤ℤ amount_at (of_side side lacks' rooms') k
+  side_rises z lacks' rooms' r Demands k = r.lacks_rise k
+  side_rises z lacks' rooms' r Slots k = r.rooms_rise k
+
+  -- what was spent stays so
+  pub still_spent : (z lacks' rooms' : List ℤ) → AreLowered whos slots y lacks rooms z lacks' rooms' → (side : Side) (k e : ℕ) → IsSpent (of_side side lacks rooms) k y e → IsSpent (of_side side lacks' rooms') k z e
+  still_spent z lacks' rooms' r side k e h less = let u = side_rises z lacks' rooms' r side k in let f = r.falls e in let d = h (omega (arith, ints, less, u)) in omega (arith, ints, d, f)
+
   -- one cell is lowered
   module _ (e : ℕ) (a : ℤ) (lt : e < length whos) (low : pos 0 ≤ℤ a) (most : a ≤ℤ amount_at y e) where
     charge_lowered : (demands capacities : List ℤ) → AreCells (length demands) (length capacities) whos slots → IsCharge demands capacities whos slots y lacks rooms
@@ -141,35 +153,45 @@ module _ (whos slots : List ℕ) (y lacks rooms : List ℤ) where
         let b = (All-get_or IsCapacity w.capacities (label_at slots e) (pos 0) ls w.bounded).high in
         omega (arith, ints, f, b)
 
-    -- a chain that was gone along to its end
-    pub mended_demand : (i : ℕ) → i < length lacks → ((e : ℕ) → e < length whos → label_at whos e ≡ i → IsSpent lacks i y e) → pos 0 ≤ℤ amount_at lacks i
-    mended_demand i lt none =
-        let p = w.charge.lacks_are.places in
-        let li : i < length w.demands = omega (arith, lt, p) in
-        mended w.demands whos y lacks i li (All-get_or IsAmount w.demands i (pos 0) li w.asked).low w.charge.lacks_are none
+    -- where something is left on the cell, both sides have all back that was asked for
+    pub given_back : (e : ℕ) (a over : ℤ) → e < length whos → (pos 1 ≤ℤ (amount_at y e -ℤ a) → a ≡ over) → pos 1 ≤ℤ amount_at (set y e (amount_at y e -ℤ a)) e → (side : Side)
+        → let k = label_at (of_side side whos slots) e in amount_at (of_side side (set lacks (label_at whos e) (amount_at lacks (label_at whos e) +ℤ a)) (set rooms (label_at slots e) (amount_at rooms (label_at slots e) +ℤ a))) k ≡ (amount_at (of_side side lacks rooms) k +ℤ over)
+    given_back e a over lt all some Demands = let p = w.charge.cells in given_all y lacks e (label_at whos e) a over (omega (arith, lt, p)) (charged_cells.owned e lt) all some
+    given_back e a over lt all some Slots = let p = w.charge.cells in given_all y rooms e (label_at slots e) a over (omega (arith, lt, p)) (charged_cells.exist e lt) all some
 
-    pub mended_slot : (s : ℕ) → s < length rooms → ((e : ℕ) → e < length slots → label_at slots e ≡ s → IsSpent rooms s y e) → pos 0 ≤ℤ amount_at rooms s
-    mended_slot s lt none =
+    -- a chain that was gone along to its end
+    pub side_mended : (side : Side) (k : ℕ) → k < length (of_side side lacks rooms) → ((e : ℕ) → e < length (of_side side whos slots) → label_at (of_side side whos slots) e ≡ k → IsSpent (of_side side lacks rooms) k y e) → pos 0 ≤ℤ amount_at (of_side side lacks rooms) k
+    side_mended Demands k lt none =
+        let p = w.charge.lacks_are.places in
+        let li : k < length w.demands = omega (arith, lt, p) in
+        mended w.demands whos y lacks k li (All-get_or IsAmount w.demands k (pos 0) li w.asked).low w.charge.lacks_are none
+    side_mended Slots k lt none =
         let p = w.charge.rooms_are.places in
-        let ls : s < length w.capacities = omega (arith, lt, p) in
-        mended w.capacities slots y rooms s ls (All-get_or IsCapacity w.capacities s (pos 0) ls w.bounded).low w.charge.rooms_are none
+        let ls : k < length w.capacities = omega (arith, lt, p) in
+        mended w.capacities slots y rooms k ls (All-get_or IsCapacity w.capacities k (pos 0) ls w.bounded).low w.charge.rooms_are none
+
+    pub side_small : (side : Side) → AreSmall (of_side side lacks rooms)
+    side_small Demands = w.lacks_small
+    side_small Slots = w.rooms_small
+
+    -- each side has the same cells
+    pub side_cells : (side : Side) → length (of_side side whos slots) ≡ length whos
+    side_cells Demands = refl
+    side_cells Slots = w.cells.same
 
     module _ (z lacks' rooms' : List ℤ) (r : AreLowered whos slots y lacks rooms z lacks' rooms') where
       charge_after : IsCharge w.demands w.capacities whos slots z lacks' rooms'
       charge_after = r.each w.demands w.capacities w.cells w.charge
-
-      -- what was spent stays so
-      pub still_spent_demand : (i e : ℕ) → IsSpent lacks i y e → IsSpent lacks' i z e
-      still_spent_demand i e h less = let u = r.lacks_rise i in let f = r.falls e in let d = h (omega (arith, ints, less, u)) in omega (arith, ints, d, f)
-
-      pub still_spent_slot : (s e : ℕ) → IsSpent rooms s y e → IsSpent rooms' s z e
-      still_spent_slot s e h less = let u = r.rooms_rise s in let f = r.falls e in let d = h (omega (arith, ints, less, u)) in omega (arith, ints, d, f)
 
       pub lowered_lacks : length lacks' ≡ length lacks
       lowered_lacks = charge_after.lacks_are.places ∙ sym w.charge.lacks_are.places
 
       pub lowered_rooms : length rooms' ≡ length rooms
       lowered_rooms = charge_after.rooms_are.places ∙ sym w.charge.rooms_are.places
+
+      pub side_places : (side : Side) → length (of_side side lacks' rooms') ≡ length (of_side side lacks rooms)
+      side_places Demands = lowered_lacks
+      side_places Slots = lowered_rooms
 
       pub still_charged : AreCharged whos slots z lacks' rooms'
       still_charged = record {
@@ -250,6 +272,21 @@ rooms_amounts capacities slots y rooms bounded amounts h within = All-from_get_o
     let g = sum_at-low s slots y amounts in
     let b = (All-get_or IsCapacity capacities s (pos 0) ls bounded).high in
     record { low = omega (arith, ints, r, w); high = omega (arith, ints, r, g, b) })
+
+-- the next place can be changed: the change of a total fits, and so does what is left with it
+pub shift_fits : (totals before left : List ℤ) (k : ℕ) (x : ℤ) → length before ≡ length left → length totals ≡ length left → All IsAmount left → All IsAmount totals → All IsAmount before → k < length left → x ≡ amount_at left k
+    → FitsSigned w128 (amount_at totals k -ℤ amount_at before k) × FitsSigned w128 (x +ℤ (amount_at totals k -ℤ amount_at before k))
+shift_fits totals before left k x same places low amounts amounts_before lt is =
+    let t = All-get_or IsAmount totals k (pos 0) (omega (arith, lt, places)) amounts in
+    let b = All-get_or IsAmount before k (pos 0) (omega (arith, lt, same)) amounts_before in
+    let l = All-get_or IsAmount left k (pos 0) lt low in
+    let tl = t.low in
+    let th = t.high in
+    let bl = b.low in
+    let bh = b.high in
+    let ll = l.low in
+    let lh = l.high in
+    (omega (arith, ints, tl, th, bl, bh), omega (arith, ints, tl, th, bl, bh, ll, lh, is))
 
 -- the first k places are changed
 pub record IsShiftedTo (totals before left after : List ℤ) (k : ℕ) : Type 0 where

@@ -8,9 +8,9 @@ use Rattle.sfm_assign.specs.Splits.{sum_at, amount_at, IsCapacity}
 use Rattle.sfm_assign.specs.Cells.{label_at, AreCells, IsPart}
 use Rattle.sfm_assign.specs.Search.{AreLeft, IsRaised}
 use Rattle.sfm_assign.specs.declared.nodes.Node.{Node}
-use Rattle.sfm_assign.specs.Pours.{IsPouring, IsPoured}
+use Rattle.sfm_assign.specs.Pours.{IsPouring}
 use Rattle.sfm_assign.proofs.Amounts.{AreAmounts, sum_at-set, sum_at-holds, only-same, only-other}
-use Rattle.sfm_assign.proofs.Fills.{left_low, root_in, raised_more, raised_part}
+use Rattle.sfm_assign.proofs.Fills.{root_in, raised_more, raised_part}
 use Rattle.sfm_assign.proofs.Lefts.{left_taken}
 
 -- an amount changed at a cell leaves none negative
@@ -83,22 +83,6 @@ module _ (demands capacities : List ℤ) (whos slots : List ℕ) (y z lacks room
       lacks_are = left_less demands whos z lacks e a inv.part.cells lt (cells.owned e lt) inv.lacks_are;
       rooms_are = left_less capacities slots z rooms e a same_slots in_slots (cells.exist e lt) inv.rooms_are;
     }
-
--- neither what a demand lacks nor what a slot has left is negative
-pub pour_low : (demands capacities : List ℤ) (whos slots : List ℕ) (y z lacks rooms : List ℤ) (e i s : ℕ) → AreCells (length demands) (length capacities) whos slots → IsPouring demands capacities whos slots y z lacks rooms → e < length whos
-    → label_at whos e ≡ i → label_at slots e ≡ s → (pos 0 ≤ℤ amount_at lacks i) × (pos 0 ≤ℤ amount_at rooms s)
-pour_low demands capacities whos slots y z lacks rooms e i s cells inv lt who slot =
-    let pl = inv.lacks_are.places in
-    let pr = inv.rooms_are.places in
-    let li = cells.owned e lt in
-    let ls = cells.exist e lt in
-    (left_low demands whos z lacks inv.lacks_are inv.part.got i (omega (arith, pl, li, who)), left_low capacities slots z rooms inv.rooms_are inv.part.within s (omega (arith, pr, ls, slot)))
-
--- one cell more has got what it can get
-pub poured_more : (demands capacities : List ℤ) (whos slots : List ℕ) (y z lacks rooms : List ℤ) (e : ℕ) (z' lacks' rooms' : List ℤ) → AreCells (length demands) (length capacities) whos slots → e < length whos
-    → IsPouring demands capacities whos slots y z lacks rooms → IsPoured whos slots e z lacks rooms z' lacks' rooms' → IsPouring demands capacities whos slots y z' lacks' rooms'
-poured_more demands capacities whos slots y z lacks rooms e z' lacks' rooms' cells lt inv h =
-    rw (h.got, h.lacks_less, h.rooms_less) (poured demands capacities whos slots y z lacks rooms e h.amount cells inv lt h.low h.fits h.lacking)
 
 -- an amount moves along links, and is taken off what its two ends have left
 pub moved_pouring : (demands capacities : List ℤ) (whos slots : List ℕ) (before y lacks rooms : List ℤ) (nodes : List (Option Node)) (last : ℕ) (a : ℤ) (z : List ℤ) → AreCells (length demands) (length capacities) whos slots

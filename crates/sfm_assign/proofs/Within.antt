@@ -5,10 +5,10 @@ use Rattle.sfm_spec.specs.Bounds.{total_of}
 use Rattle.sfm_assign.specs.Splits.{sum_at, amount_at}
 use Rattle.sfm_assign.specs.Cells.{label_at, AreCells}
 use Rattle.sfm_assign.specs.Search.{IsRaised}
-use Rattle.sfm_assign.specs.Pours.{IsPouring, IsPoured, AreWithin, AreRaised}
+use Rattle.sfm_assign.specs.Pours.{IsPouring, AreWithin, AreRaised}
 use Rattle.sfm_assign.specs.declared.nodes.Node.{Node}
 use Rattle.sfm_assign.proofs.Fills.{left_low, left_small, below_nodes}
-use Rattle.sfm_assign.proofs.Pours.{pouring_begun, poured_more, moved_pouring}
+use Rattle.sfm_assign.proofs.Pours.{pouring_begun, poured, moved_pouring}
 
 total_le : (x z : List ℤ) → length z ≡ length x → ((i : ℕ) → i < length x → amount_at z i ≤ℤ amount_at x i) → total_of z ≤ℤ total_of x
 total_le [] [] same le = omega (arith, ints)
@@ -24,8 +24,9 @@ module _ (whos slots : List ℕ) (y lacks rooms : List ℤ) where
   raised_on z lacks' rooms' z'' lacks'' rooms'' f g = record { each = λ demands capacities before cells h. g.each demands capacities before cells (f.each demands capacities before cells h) }
 
   -- one cell gets what it can get
-  pub raised_poured : (e : ℕ) (z lacks' rooms' : List ℤ) → e < length whos → IsPoured whos slots e y lacks rooms z lacks' rooms' → AreRaised whos slots y lacks rooms z lacks' rooms'
-  raised_poured e z lacks' rooms' lt h = record { each = λ demands capacities before cells inv. poured_more demands capacities whos slots before y lacks rooms e z lacks' rooms' cells lt inv h }
+  pub raised_poured : (e : ℕ) (a : ℤ) → e < length whos → pos 0 ≤ℤ a → a ≤ℤ amount_at lacks (label_at whos e) → a ≤ℤ amount_at rooms (label_at slots e)
+      → AreRaised whos slots y lacks rooms (set y e (amount_at y e +ℤ a)) (set lacks (label_at whos e) (amount_at lacks (label_at whos e) -ℤ a)) (set rooms (label_at slots e) (amount_at rooms (label_at slots e) -ℤ a))
+  raised_poured e a lt low lacking fits = record { each = λ demands capacities before cells inv. poured demands capacities whos slots before y lacks rooms e a cells inv lt low fits lacking }
 
   -- an amount moves along links
   pub raised_moved : (nodes : List (Option Node)) (last : ℕ) (a : ℤ) (z : List ℤ) → length nodes ≡ length lacks → last < length whos → pos 1 ≤ℤ a → a ≤ℤ amount_at rooms (label_at slots last) → (r : IsRaised whos slots nodes lacks last a y z)

@@ -8,3 +8,4 @@ pub mod Ends
 pub mod Lenders
 pub mod Grown
 pub mod Spread
+pub mod Sides

@@ -8,14 +8,14 @@ ghost use Rattle.sfm_assign.specs.Search.{node_at, IsFound, AreNodes, AreRoots, 
 use crate::cells::Cells;
 use crate::nodes::{Node, link_of};
 
-/// Adds to the amount on a cell.
-pub(crate) fn put(y: &mut [i128], e: usize, a: i128)
-    requires place { e < length y.old }
-    requires low { pos 0 ≤ℤ (amount_at y.old e +ℤ a) }
-    requires high { (amount_at y.old e +ℤ a) ≤ℤ pos (10 ^ 24) }
-    ensures { y.new ≡ slice_set y.old e (amount_at y.old e +ℤ a) }
+/// Adds to an amount of a list.
+pub(crate) fn put(to: &mut [i128], k: usize, a: i128)
+    requires place { k < length to.old }
+    requires low { pos 0 ≤ℤ (amount_at to.old k +ℤ a +ℤ pos (10 ^ 32)) }
+    requires high { (amount_at to.old k +ℤ a) ≤ℤ pos (10 ^ 32) }
+    ensures { to.new ≡ slice_set to.old k (amount_at to.old k +ℤ a) }
 {
-    y[e] += a;
+    to[k] += a;
 }
 
 /// Takes an amount from one that is no less.

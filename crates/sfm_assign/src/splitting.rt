@@ -112,7 +112,7 @@ pub(crate) fn settle(
     requires charged { AreCharged cells.now.whos.items cells.now.slots.items y.old left.old.lacks.items left.old.rooms.items }
     ensures { IfOk result (AreSettled cells.now.whos.items cells.now.slots.items y.old left.old.lacks.items left.old.rooms.items y.new left.new.rooms.items) }
 {
-    lower_all(cells, &mut left.lacks, &mut left.rooms, y);
+    lower_all(cells, left, y);
     let set = search_all(alloc, cells, rest, left, y)?;
     Ok(set)
 }

@@ -77,10 +77,10 @@ loop-link-init c =
     rw (c.put.ensures, za, v) (moving_begun (length nodes) m whos c.args.cells.now.slots.items nodes c.args.lacks.now c.args.last a (amount_at y c.args.last +ℤ a) y cells c.requires.same c.requires.amounts c.requires.last c.requires.some c.requires.way refl)
 
 pub put-requires-in-Some : goal.put-requires-in-Some
-put-requires-in-Some c = let p = passes (goal.at.put-requires-in-Some c).In-Some in record { place = p.own_z; low = p.own_low; high = p.own_high }
+put-requires-in-Some c = let p = passes (goal.at.put-requires-in-Some c).In-Some in let low = p.own_low in let high = p.own_high in record { place = p.own_z; low = omega (arith, ints, low); high = omega (arith, ints, high) }
 
 pub put-requires-in-Some-2 : goal.put-requires-in-Some-2
-put-requires-in-Some-2 c = let p = passes (goal.at.put-requires-in-Some-2 c).In-Some in rw c.put-in-Some.ensures (record { place = p.other_z; low = p.other_low; high = p.other_high })
+put-requires-in-Some-2 c = let p = passes (goal.at.put-requires-in-Some-2 c).In-Some in let low = p.other_low in let high = p.other_high in rw c.put-in-Some.ensures (record { place = p.other_z; low = omega (arith, ints, low); high = omega (arith, ints, high) })
 
 pub index-who-requires-in-Some : goal.index-who-requires-in-Some
 index-who-requires-in-Some c =

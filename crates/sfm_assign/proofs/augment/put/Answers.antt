@@ -3,9 +3,9 @@ use Rattle.std.proofs.lemmas.Int.{ints, to_z-of_z}
 use mir.Syntax.{w128}
 use Rattle.sfm_assign.proofs.augment.put.Goals as goal
 
-pub overflow_add-y : goal.overflow_add-y
-overflow_add-y c =
-    let f : FitsSigned w128 (get_or c.args.y.now c.args.e (pos 0)) = search rules in
+pub overflow_add-to : goal.overflow_add-to
+overflow_add-to c =
+    let f : FitsSigned w128 (get_or c.args.to.now c.args.k (pos 0)) = search rules in
     let g : FitsSigned w128 c.args.a = c.ranges.a in
     let low = c.requires.low in
     let high = c.requires.high in
@@ -13,9 +13,9 @@ overflow_add-y c =
 
 pub returns : goal.returns
 returns c =
-    let f : FitsSigned w128 (get_or c.args.y.now c.args.e (pos 0)) = search rules in
+    let f : FitsSigned w128 (get_or c.args.to.now c.args.k (pos 0)) = search rules in
     let g : FitsSigned w128 c.args.a = c.ranges.a in
     let low = c.requires.low in
     let high = c.requires.high in
-    let h : FitsSigned w128 (get_or c.args.y.now c.args.e (pos 0) +ℤ c.args.a) = omega (arith, ints, low, high) in
+    let h : FitsSigned w128 (get_or c.args.to.now c.args.k (pos 0) +ℤ c.args.a) = omega (arith, ints, low, high) in
     simp to_z-of_z
