@@ -1,8 +1,8 @@
 -- The first amounts and the last ones: from nothing to a split, or to a set that asks for too much.
-use Rattle.std.proofs.Common.{Option, Some, None, is_some, MatchOption, ◌≡◌, ℕ, zero, suc, ◌<◌, Bool, true, false, List, [], ◌∷◌, length, get_or, set, replicate, ℤ, pos, ◌+ℤ◌, ◌≤ℤ◌, ◌<ℤ◌, if◌then◌else◌, nat_eq, refl, sym, ap, ◌∙◌, arith, ⊎_elim, length-set, get_or-set_other, get_or-set_same}
+use Rattle.std.proofs.Common.{Option, Some, None, is_some, MatchOption, ◌≡◌, ℕ, zero, suc, ◌<◌, Bool, true, false, List, [], ◌∷◌, length, set, replicate, ℤ, pos, ◌+ℤ◌, ◌≤ℤ◌, ◌<ℤ◌, if◌then◌else◌, nat_eq, refl, sym, ap, subst, ◌∙◌, arith, ⊎_elim, length-set, get_or-set_other, get_or-set_same}
 use Rattle.std.specs.List.{All}
 use Rattle.std.proofs.lemmas.Int.{ints, by_lt_z}
-use Rattle.std.proofs.lemmas.Bool.{cases_eq, cases_Bool, false≢true}
+use Rattle.std.proofs.lemmas.Bool.{cases_eq, false≢true}
 use Rattle.std.proofs.lemmas.List.{length-replicate, set-set}
 use Rattle.std.proofs.lemmas.List.Elements.{All-get_or, All-head, All-tail}
 use Rattle.sfm_spec.specs.Sets.{empty_set, sum_over}
@@ -10,9 +10,10 @@ use Rattle.sfm_spec.specs.Bounds.{total_of}
 use Rattle.sfm_spec.proofs.Sizes.{weight-empty}
 use Rattle.sfm_assign.specs.Splits.{sum_at, amount_at, slots_of, IsAmount, IsCapacity, IsAssignment, CanBeMet, IsShort, IsMost, Demands, AreDemands}
 use Rattle.sfm_assign.specs.Cells.{joined, owners, cut, AreCells, IsPart, IsMet}
-use Rattle.sfm_assign.specs.Search.{GetsMore, IsFilled, IsLacking}
+use Rattle.sfm_assign.specs.Search.{IsFilled, IsLacking}
+use Rattle.sfm_assign.specs.Lenders.{IsMostUpto}
 use Rattle.sfm_assign.proofs.Rows.{AreBelow, cells_of, split_of_part}
-use Rattle.sfm_assign.proofs.Hall.{hall_easy, short_refuses, short_of_closed, most_of_closed}
+use Rattle.sfm_assign.proofs.Hall.{hall_easy, short_refuses, short_of_closed}
 
 -- ---- nothing on each cell
 
@@ -58,13 +59,6 @@ pub lacking_end : (d : Demands) (y : List ℤ) (s : List Bool) → AreDemands d 
 lacking_end d y s sound part h = short_from d y s h.one sound part h.filled h.in_range h.less
 
 -- ---- the most of one demand
-
--- demands that can be met are met once they are filled
-pub met_from : (demands : List ℤ) (lists : List (List ℕ)) (capacities y : List ℤ) (s : List Bool) → length lists ≡ length demands → AreBelow (length capacities) lists → IsPart demands capacities (owners 0 lists) (joined lists) y
-    → IsFilled demands capacities (owners 0 lists) (joined lists) y s → CanBeMet demands lists capacities → IsMet demands (owners 0 lists) y
-met_from demands lists capacities y s same below part filled can i lt = by_lt_z (sum_at i (owners 0 lists) y) (amount_at demands i)
-    (λ less. absurd (short_refuses demands lists capacities s same below (short_of_closed demands capacities lists y same below part s filled.places filled.closed i (filled.lacking i lt less) less) can))
-    (λ le. le)
 
 -- the sum over a set is at most the total
 within_total : (z : List Bool) (c : List ℤ) → All IsCapacity c → sum_over z c ≤ℤ total_of c
@@ -121,62 +115,24 @@ module _ (d : Demands) (sound : AreDemands d) (u : ℕ) (lu : u < length d.deman
     within = part.within;
   }
 
-  pub most_from : (c : ℤ) (y z : List ℤ) (s t : List Bool) → CanBeMet (set d.demands u (pos 0)) d.lists d.capacities → c ≡ total_of d.capacities
-      → IsPart (set d.demands u (pos 0)) d.capacities (owners 0 d.lists) (joined d.lists) y → IsFilled (set d.demands u (pos 0)) d.capacities (owners 0 d.lists) (joined d.lists) y s
-      → IsPart (set d.demands u c) d.capacities (owners 0 d.lists) (joined d.lists) z → IsFilled (set d.demands u c) d.capacities (owners 0 d.lists) (joined d.lists) z t
-      → GetsMore (owners 0 d.lists) y z → IsMost d.demands d.lists d.capacities u (sum_at u (owners 0 d.lists) z)
-  most_from c y z s t can ec py fy pz fz more = record { reached = (cut d.lists z, reached); greatest = greatest } where
-    whos : List ℕ
-    whos = owners 0 d.lists
-
-    g : ℤ
-    g = sum_at u (owners 0 d.lists) z
-
-    length0 : (b : ℤ) → length (set d.demands u b) ≡ length d.demands
-    length0 b = length-set d.demands u b
-
-    met : IsMet (set d.demands u (pos 0)) (owners 0 d.lists) y
-    met = met_from (set d.demands u (pos 0)) d.lists d.capacities y s (sound.same ∙ sym (length0 (pos 0))) sound.exist py fy can
-
-    reached : IsAssignment (set d.demands u (sum_at u (owners 0 d.lists) z)) d.lists d.capacities (cut d.lists z)
-    reached = split_of_part (set d.demands u (sum_at u (owners 0 d.lists) z)) d.lists d.capacities z (sound.same ∙ sym (length0 (sum_at u (owners 0 d.lists) z))) (record {
-      cells = pz.cells;
-      amounts = pz.amounts;
-      got = λ i lt.
-          let lb = length0 c in
-          let lg = length0 (sum_at u (owners 0 d.lists) z) in
-          let p = pz.got i (omega (arith, lt, lb, lg)) in
-          ⊎_elim
-          (λ (q : i ≡ u). let f = ap (λ k. amount_at (set d.demands u (sum_at u (owners 0 d.lists) z)) k) q in let h = ap (λ k. sum_at k (owners 0 d.lists) z) q in let ea = changed-at d.demands u lu (sum_at u (owners 0 d.lists) z) in omega (arith, ints, f, h, ea))
-          (λ ne. let eb = changed-other d.demands u lu c i ne in let eg = changed-other d.demands u lu (sum_at u (owners 0 d.lists) z) i ne in omega (arith, ints, p, eb, eg))
-          (cases_eq i u);
-      within = pz.within;
-    }) (λ i lt.
-        let lg = length0 (sum_at u (owners 0 d.lists) z) in
-        let l0 = length0 (pos 0) in
-        ⊎_elim
-        (λ (q : i ≡ u). let f = ap (λ k. amount_at (set d.demands u (sum_at u (owners 0 d.lists) z)) k) q in let h = ap (λ k. sum_at k (owners 0 d.lists) z) q in let ea = changed-at d.demands u lu (sum_at u (owners 0 d.lists) z) in omega (arith, ints, f, h, ea))
-        (λ ne.
-        let m = met i (omega (arith, lt, lg, l0)) in
-        let e0 = changed-other d.demands u lu (pos 0) i ne in
-        let eg = changed-other d.demands u lu (sum_at u (owners 0 d.lists) z) i ne in
-        let r = more i in
-        omega (arith, ints, m, e0, eg, r))
-        (cases_eq i u))
-
-    greatest : (b : ℤ) → CanBeMet (set d.demands u b) d.lists d.capacities → b ≤ℤ sum_at u (owners 0 d.lists) z
-    greatest b met_b = ⊎_elim
-        (λ has. most_of_closed (set d.demands u c) d.capacities d.lists z (sound.same ∙ sym (length0 c)) sound.exist pz t fz.places fz.closed u has b (rw (set-set d.demands u c b) met_b))
-        (λ out.
-        let lc = length0 c in
-        let lb = length0 b in
-        let bound = capacity_bounds (set d.demands u b) d.lists d.capacities u (sound.same ∙ sym lb) sound.exist sound.bounded (omega (arith, lu, lb)) met_b in
+  -- the most besides nothing is the most
+  pub most_from : (c g : ℤ) → c ≡ total_of d.capacities → IsMostUpto (record { demands = set d.demands u (pos 0); lists = d.lists; capacities = d.capacities }) u c g → IsMost d.demands d.lists d.capacities u g
+  most_from c g ec h = record {
+    reached = (let Meets : List ℤ → Type 0 = λ x. CanBeMet x d.lists d.capacities in subst Meets (with_nothing g) h.reached);
+    greatest = λ b can. by_lt_z b (pos 0)
+        (λ less. let l = h.low in omega (arith, ints, l, less))
+        (λ ge.
+        let lb = length-set d.demands u b in
+        let bound = capacity_bounds (set d.demands u b) d.lists d.capacities u (sound.same ∙ sym lb) sound.exist sound.bounded (omega (arith, lu, lb)) can in
         let eb = changed-at d.demands u lu b in
-        let e = changed-at d.demands u lu c in
-        by_lt_z (sum_at u (owners 0 d.lists) z) (amount_at (set d.demands u c) u)
-        (λ less. absurd (false≢true (sym out ∙ fz.lacking u (omega (arith, lu, lc)) less)))
-        (λ le. omega (arith, ints, le, e, ec, bound, eb)))
-        (cases_Bool (get_or t u false))
+        let Meets : List ℤ → Type 0 = λ x. CanBeMet x d.lists d.capacities in
+        h.greatest b (omega (arith, ints, ge)) (omega (arith, ints, bound, eb, ec)) (subst Meets (sym (with_nothing b)) can));
+  } where
+    with_nothing : (b : ℤ) → set (set d.demands u (pos 0)) u (amount_at (set d.demands u (pos 0)) u +ℤ b) ≡ set d.demands u b
+    with_nothing b =
+        let z = changed-at d.demands u lu (pos 0) in
+        let e : (amount_at (set d.demands u (pos 0)) u +ℤ b) ≡ b = omega (arith, ints, z) in
+        set-set d.demands u (pos 0) (amount_at (set d.demands u (pos 0)) u +ℤ b) ∙ ap (λ x. set d.demands u x) e
 
 -- ---- what a test of an option tells
 
@@ -190,15 +146,6 @@ none_here (Some x) P Q t h = absurd (false≢true (sym t))
 
 pub amounts_low : (d : Demands) → AreDemands d → (i : ℕ) → i < length d.demands → pos 0 ≤ℤ amount_at d.demands i
 amounts_low d sound i lt = (All-get_or IsAmount d.demands i (pos 0) lt sound.amounts).low
-
--- the same with nothing asked at u
-pub changed_low : (d : Demands) → AreDemands d → (u i : ℕ) → i < length (set d.demands u (pos 0)) → pos 0 ≤ℤ amount_at (set d.demands u (pos 0)) i
-changed_low d sound u i lt =
-    let l = length-set d.demands u (pos 0) in
-    ⊎_elim
-    (λ (q : i ≡ u). let lu : u < length d.demands = omega (arith, lt, l, q) in let e = changed-at d.demands u lu (pos 0) in let p = ap (λ k. amount_at (set d.demands u (pos 0)) k) q in omega (arith, ints, e, p))
-    (λ ne. let e = get_or-set_other d.demands u i (pos 0) (pos 0) ne in let h = amounts_low d sound i (omega (arith, lt, l)) in omega (arith, ints, e, h))
-    (cases_eq i u)
 
 pub capacities_low : (d : Demands) → AreDemands d → (s : ℕ) → s < length d.capacities → pos 0 ≤ℤ amount_at d.capacities s
 capacities_low d sound s lt = (All-get_or IsCapacity d.capacities s (pos 0) lt sound.bounded).low

@@ -1,31 +1,20 @@
-// Amounts raised as far as they go: first poured over the cells, and then a search for room, and what can move from the slot
-// that it comes to, until no slot has room for a demand that lacks something. The links that a search finds serve for all cells
-// of that slot: what can move along them is seen anew for each. What demands lack and what slots have left is kept from one
-// search to the next, and so is the memory of the searches.
+// Amounts raised as far as they go: a search for room, and what can move from the slot that it comes to, until no slot has room for
+// a demand that lacks something. The links that a search finds serve for all cells of that slot: what can move along them is
+// seen anew for each. What demands lack and what slots have left is kept from one search to the next, and so is the memory of
+// the searches.
 ghost use Rattle.std.specs.Prelude.{◌≡◌, ◌<◌, length, ◌<ℤ◌, IfOk, None};
-ghost use Rattle.std.specs.List.{All};
 ghost use Rattle.sfm_spec.specs.Bounds.{total_of};
-ghost use Rattle.sfm_assign.specs.Splits.{IsCapacity};
-ghost use Rattle.sfm_assign.specs.Cells.{AreCells, IsPart};
-ghost use Rattle.sfm_assign.specs.Search.{AreLeft, AreQueued, AreBranches, IsOpen, IsSearch, GetsMore, IsFilled};
+ghost use Rattle.sfm_assign.specs.Search.{AreQueued, AreBranches, IsOpen, IsSearch};
 ghost use Rattle.sfm_assign.specs.Pours.{AreWithin, AreRaised};
 
 use crate::augment::{augment, flow_along, take};
 use crate::cells::Cells;
-use crate::left::{Lefts, lefts_of};
-use crate::nodes::{found_set, is_found};
-use crate::pour::pour;
+use crate::left::Lefts;
+use crate::nodes::is_found;
 use crate::search::Search;
 use crate::work::Rest;
-use sfm_base::{Memory, Set};
+use sfm_base::Memory;
 use std::alloc::Global;
-
-/// A closed set with all demands that lack something, and what is left of demands and of capacities.
-#[derive(Drop)]
-pub(crate) struct Filled {
-    pub set: Set,
-    pub left: Lefts,
-}
 
 /// Moves as much as can move now, from the slot of a cell to a demand that lacks something, and takes it off what these have
 /// left; where the demand of the cell was found.
@@ -88,29 +77,4 @@ pub(crate) fn fill_from(
         drain(cells, &search, cells.slots[last], left, y);
     }
     Ok(search)
-}
-
-/// Raises the amounts until no demand that lacks something can get more.
-pub(crate) fn fill(
-    alloc: Global,
-    cells: &Cells,
-    demands: &[i128],
-    capacities: &[i128],
-    y: &mut [i128],
-) -> Result<Filled, Memory>
-    requires cells { AreCells (length demands.now) (length capacities.now) cells.now.whos.items cells.now.slots.items }
-    requires bounded { All IsCapacity capacities.now }
-    requires part { IsPart demands.now capacities.now cells.now.whos.items cells.now.slots.items y.old }
-    ensures part { IfOk result (λ _. IsPart demands.now capacities.now cells.now.whos.items cells.now.slots.items y.new) }
-    ensures more { IfOk result (λ _. GetsMore cells.now.whos.items y.old y.new) }
-    ensures filled { IfOk result (λ r. IsFilled demands.now capacities.now cells.now.whos.items cells.now.slots.items y.new r.set) }
-    ensures lacks { IfOk result (λ r. AreLeft demands.now cells.now.whos.items y.new r.left.lacks.items) }
-    ensures rooms { IfOk result (λ r. AreLeft capacities.now cells.now.slots.items y.new r.left.rooms.items) }
-{
-    let mut left = lefts_of(alloc, cells, demands, capacities, y)?;
-    pour(cells, &mut left, y);
-    let mut rest = Rest::new(alloc);
-    let search = fill_from(alloc, cells, &mut rest, &mut left, y)?;
-    let set = found_set(alloc, &search.nodes)?;
-    Ok(Filled { set, left })
 }

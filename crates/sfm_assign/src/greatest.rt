@@ -1,12 +1,12 @@
-// The most that one demand can get while all others are met: these are met first, and no demand ever gets less.
+// The most that one demand can get while all others are met: these are met first, with nothing for it, and then it is raised by
+// as much as it can get besides. No demand can get more than all slots have together, so that serves as the limit.
 ghost use Rattle.std.specs.Prelude.{◌≡◌, ◌<◌, ◌≤◌, ◌^◌, length, slice_set, pos, IfOk};
 ghost use Rattle.std.specs.List.{All};
 ghost use Rattle.sfm_spec.specs.Bounds.{total_of};
-ghost use Rattle.sfm_assign.specs.Splits.{IsCapacity, CanBeMet, IsMost};
+ghost use Rattle.sfm_assign.specs.Splits.{IsAmount, IsCapacity, CanBeMet, IsMost};
 
-use crate::cells::Cells;
 use crate::demand::Demand;
-use crate::fill::fill;
+use crate::kept::Kept;
 use sfm_base::Memory;
 use std::alloc::Global;
 
@@ -14,23 +14,14 @@ use std::alloc::Global;
 fn sum_of(capacities: &[i128]) -> i128
     requires few { length capacities.now ≤ 2 ^ 24 }
     requires bounded { All IsCapacity capacities.now }
-    ensures { result ≡ total_of capacities.now }
+    ensures total { result ≡ total_of capacities.now }
+    ensures amount { IsAmount result }
 {
     let mut sum = 0;
     for c in capacities {
         sum += *c;
     }
     sum
-}
-
-/// The demands, with another one in a place.
-fn with_demand(alloc: Global, demands: &[i128], u: usize, d: i128) -> Result<Vec<i128>, Memory>
-    requires { u < length demands.now }
-    ensures { IfOk result (λ r. r.items ≡ slice_set demands.now u d) }
-{
-    let mut changed = Vec::from_slice(alloc, demands)?;
-    changed[u] = d;
-    Ok(changed)
 }
 
 /// The greatest amount that the demand u can get with all other demands met; what it asks for does not matter.
@@ -43,12 +34,13 @@ pub fn most(alloc: Global, demand: &Demand, u: usize) -> Result<i128, Memory>
     requires others { CanBeMet (slice_set demand.now.demands u (pos 0)) demand.now.lists demand.now.capacities }
     ensures { IfOk result (IsMost demand.now.demands demand.now.lists demand.now.capacities u) }
 {
-    let capacities = demand.capacities();
-    let cells = Cells::of(alloc, demand.lists(), capacities.len())?;
-    let mut y = cells.nothing(alloc)?;
-    let others = with_demand(alloc, demand.demands(), u, 0)?;
-    fill(alloc, &cells, &others, capacities, &mut y)?;
-    let asked = with_demand(alloc, demand.demands(), u, sum_of(capacities))?;
-    let filled = fill(alloc, &cells, &asked, capacities, &mut y)?;
-    Ok(asked[u] - filled.left.lacks[u])
+    let mut others = demand.copy(alloc)?;
+    others.raise(u, -demand.demands()[u]);
+    match Kept::new(alloc, others) {
+        Ok(mut kept) => {
+            let more = kept.grow(alloc, u, sum_of(demand.capacities()))?;
+            Ok(more)
+        }
+        Err(_) => Err(Memory),
+    }
 }
