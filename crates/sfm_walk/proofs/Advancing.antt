@@ -53,15 +53,17 @@ module _ (terms : List Meaning) (rows : List (List ℤ)) (n : ℕ) (q : ℤ) (sh
       → AreHops terms tables first hops → FallsAlong (depth_of levels) first (steps_of hops) → AreLeast terms tables (depth_of levels) first hops → bit_in (set_at levels 0) (last_of first (steps_of hops)) ≡ 1
       → IsSoughtWalk terms n q shift rows tables z (depth_of levels) first hops
   sought_walk tables claims hops some told falls least arrives = record {
-    some = some;
+    course = record {
+      some = some;
+      last_in = last.0;
+      under = begin.under;
+      over = last.1;
+      falls = falls;
+      least = hops_least terms rows n q fit tables claims (depth_of levels) first hops falls least;
+      no_faster = depth_falls;
+      ends = over_depth;
+    };
     told = told;
-    last_in = last.0;
-    under = begin.under;
-    over = last.1;
-    falls = falls;
-    least = hops_least terms rows n q fit tables claims (depth_of levels) first hops falls least;
-    no_faster = depth_falls;
-    ends = over_depth;
   } where
     last : (last_of first (steps_of hops) < n) × (pos 0 <ℤ get_or z (last_of first (steps_of hops)) (pos 0))
     last = (begin.levelled.over (last_of first (steps_of hops))).0 arrives
@@ -81,35 +83,28 @@ module _ (terms : List Meaning) (rows : List (List ℤ)) (n : ℕ) (q : ℤ) (sh
     (d : ℕ → ℕ) (first : ℕ) (hops : List Hop) (w : IsSoughtWalk terms n q shift rows tables z d first hops) where
   pub least_walk : ((k : ℕ) → k < length hops → IsMovable terms q rows (hop_at hops k)) → IsLeastWalk terms n q shift rows z d first hops
   least_walk movable = record {
-    some = w.some;
+    course = w.course;
     named = named;
     movable = movable;
     shortest = record {
       shortest = record {
         walk = walk;
-        arrives = rw (← rest.exact (last_of first (steps_of hops)) (rw zn w.last_in)) w.over;
+        arrives = rw (← rest.exact (last_of first (steps_of hops)) (rw zn w.course.last_in)) w.course.over;
         fewest = λ other walk' over.
-            let mine = falls_all d first (steps_of hops) w.falls in
-            let theirs = falls_within terms q rows d w.no_faster first other walk'.steps_fit in
-            let zero' = w.ends (last_of first other) (ends_below first other first_in walk'.steps_fit) over in
+            let mine = falls_all d first (steps_of hops) w.course.falls in
+            let theirs = falls_within terms q rows d w.course.no_faster first other walk'.steps_fit in
+            let zero' = w.course.ends (last_of first other) (ends_below first other first_in walk'.steps_fit) over in
             omega (arith, mine, theirs, zero');
       };
-      below = rw (← rest.exact first (rw zn first_in)) w.under;
+      below = rw (← rest.exact first (rw zn first_in)) w.course.under;
     };
     first_in = first_in;
-    last_in = w.last_in;
-    under = w.under;
-    over = w.over;
-    falls = w.falls;
-    least = w.least;
-    no_faster = w.no_faster;
-    ends = w.ends;
   } where
     named : AreNamed terms first hops
     named = hops_named terms tables first hops w.told
 
     walk : IsWalk terms q rows first (steps_of hops)
-    walk = record { steps_exist = omega (arith, w.some, length-steps_of hops); steps_fit = movable_steps terms q rows first hops named movable }
+    walk = record { steps_exist = omega (arith, w.course.some, length-steps_of hops); steps_fit = movable_steps terms q rows first hops named movable }
 
     first_in : first < n
     first_in = first_below terms rows n q low fit bases first (steps_of hops) walk

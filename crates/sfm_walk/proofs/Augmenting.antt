@@ -54,10 +54,10 @@ module _ {terms : List Meaning} {n : ℕ} {q : ℤ} {shift : List ℤ} {rows : L
   first_at = rw zn w.first_in
 
   pub last_at : last_of first (steps_of hops) < length z
-  last_at = rw zn w.last_in
+  last_at = rw zn w.course.last_in
 
   pub apart : first ≢ last_of first (steps_of hops)
-  apart = ends_apart z first last last refl w.under w.over
+  apart = ends_apart z first last last refl w.course.under w.course.over
 
   -- the amount is not above what the deficit leaves
   pub amount_small : (a : ℤ) → a ≤ℤ neg_ℤ (get_or z first (pos 0)) → neg_ℤ (pos (5 * 10 ^ 29)) ≤ℤ deficit n (rest_at terms rows shift) → a ≤ℤ pos (5 * 10 ^ 29)
@@ -88,8 +88,8 @@ module _ {terms : List Meaning} {n : ℕ} {q : ℤ} {shift : List ℤ} {rows : L
     -- it is progress, where no greater amount is allowed
     pub progress : (after : List (List ℤ)) → IsWalkMove terms rows first (steps_of hops) a after → IsProgress terms n q shift rows after
     progress after moved =
-        least_progress terms rows n q shift low fit bases d w.ends w.no_faster after
-        (record { first = first; steps = steps_of hops; a = a; shortest = w.shortest; some = one; by_steps = can; by_first = by_first; by_last = by_last; moved = moved }) w.least
+        least_progress terms rows n q shift low fit bases d w.course.ends w.course.no_faster after
+        (record { first = first; steps = steps_of hops; a = a; shortest = w.shortest; some = one; by_steps = can; by_first = by_first; by_last = by_last; moved = moved }) w.course.least
         (full_by_greatest terms rows n q low fit bases a one shift first (steps_of hops) can by_first by_last
         (λ b can' under' over'. most.greatest b (rw (rest.exact first first_at) under') (rw (rest.exact last last_at) over') (each_moves terms n q rows fit b first hops w.named can')))
 
@@ -107,7 +107,7 @@ module _ {terms : List Meaning} {n : ℕ} {q : ℤ} {shift : List ℤ} {rows : L
 
     -- only the ends have changed, and no sign has turned
     pub ends_moved : AreMoved z (exchanged z first (last_of first (steps_of hops)) a) first (last_of first (steps_of hops))
-    ends_moved = moved_ends z first last a first_at last_at apart w.under w.over most.under most.over
+    ends_moved = moved_ends z first last a first_at last_at apart w.course.under w.course.over most.under most.over
 
     -- no entry has changed by more than the deficit has risen
     pub spread : (after : List (List ℤ)) → IsWalkMove terms rows first (steps_of hops) a after → (b : ℤ) → All (λ x. All (IsUpTo b) x) rows
@@ -119,6 +119,6 @@ module _ {terms : List Meaning} {n : ℕ} {q : ℤ} {shift : List ℤ} {rows : L
         let li' : i < length rows = rw moved.same_count at li in
         let lj' : j < length (base_at rows i) = rw (moved.same_lengths i) at lj in
         let c = moved.changed i j lj' in
-        let s = change_small d first (steps_of hops) i (get_or (term_at terms i).places j 0) a (omega (arith, ints, one)) w.falls in
+        let s = change_small d first (steps_of hops) i (get_or (term_at terms i).places j 0) a (omega (arith, ints, one)) w.course.falls in
         let o : IsUpTo b (get_or (base_at rows i) j (pos 0)) = All-get_or (IsUpTo b) (base_at rows i) j (pos 0) lj' (All-get_or (λ x. All (IsUpTo b) x) rows i [] li' small) in
         record { low = omega (arith, ints, c, s, o.low, gain); high = omega (arith, ints, c, s, o.high, gain) }))

@@ -6,22 +6,22 @@ use Rattle.std.proofs.lemmas.List.Elements.{All-get_or, All-from_get_or}
 use Rattle.sfm_spec.specs.Bounds.{IsAtMost}
 use Rattle.sfm_spec.specs.Terms.{SetFunction, IsFamily, IsSubmodular}
 use Rattle.sfm_spec.specs.Families.{meanings, rest_at, deficit, AreTerms}
-use Rattle.sfm_spec.specs.Progress.{IsProgress}
 use Rattle.sfm_spec.specs.Walks.{base_at}
 use Rattle.sfm_spec.proofs.Gain.{moves_along}
 use Rattle.sfm_spec.proofs.Moves.{deficit_not_above}
 use Rattle.sfm_exchange.specs.declared.graph.Graph.{Graph}
 use Rattle.sfm_walk.specs.declared.run.Run.{Run}
 use Rattle.sfm_exchange.specs.Graph.{IsClaimed}
-use Rattle.sfm_walk.specs.Run.{IsRunAt, IsUpTo}
+use Rattle.sfm_walk.specs.Run.{AreAdvanced, IsRunAt, IsUpTo}
 use Rattle.sfm_exchange.proofs.ClaimedGraphs.{are_terms, low}
 use Rattle.sfm_walk.proofs.Gaps.{abs_falls}
 
--- the graph is whole, z and its signs are those of its bases, the sum of min(z, 0) is not below that at first, and no entry
--- has changed by more than it has risen
+-- the graph is whole, z and its signs are those of its bases, the sum of min(z, 0) is not below that at first, which was not
+-- low, and no entry has changed by more than it has risen
 pub record IsImproving {X N : Type 0} (places : X → List ℕ) (value : X → SetFunction) (size : X → ℤ) (fits : X → N → ℤ → List ℤ → Type 0) (terms : List X) (q : ℤ) (shift : List ℤ) (init : List (List ℤ)) (graph : Graph N) (run : Run) : Type 0 where
   pub whole : IsClaimed places value size fits terms (length shift) q graph
   pub at : IsRunAt (meanings places value terms) shift graph.bases run
+  pub gap : neg_ℤ (pos (4 * 10 ^ 29)) ≤ℤ deficit (length shift) (rest_at (meanings places value terms) init shift)
   pub risen : deficit (length shift) (rest_at (meanings places value terms) init shift) ≤ℤ deficit (length shift) (rest_at (meanings places value terms) graph.bases shift)
   pub small : All (λ x. All (IsUpTo (pos (10 ^ 25) +ℤ (deficit (length shift) (rest_at (meanings places value terms) graph.bases shift) -ℤ deficit (length shift) (rest_at (meanings places value terms) init shift)))) x) graph.bases
 
@@ -47,32 +47,33 @@ module _ {X N : Type 0} {places : X → List ℕ} {value : X → SetFunction} {s
   abbrev D : List (List ℤ) → ℤ
   D rows = deficit (length shift) (rest_at (meanings places value terms) rows shift)
 
-  -- the entries are small, where the sum of min(z, 0) was not low at first
-  pub small_still : (m : ℕ) → neg_ℤ (pos (4 * 10 ^ 29)) ≤ℤ D init → 5 * 10 ^ 29 ≤ m → All (λ x. All (IsAtMost m) x) graph.bases
-  small_still m gap wide =
+  -- the entries are small
+  pub small_still : (m : ℕ) → 5 * 10 ^ 29 ≤ m → All (λ x. All (IsAtMost m) x) graph.bases
+  small_still m wide =
+      let gap = h.gap in
       let up = deficit_not_above (length shift) (rest_at (meanings places value terms) graph.bases shift) in
       at_most m graph.bases (pos (10 ^ 25) +ℤ (D graph.bases -ℤ D init)) h.small (omega (arith, ints, gap, up, wide))
 
-  pub gap_still : neg_ℤ (pos (4 * 10 ^ 29)) ≤ℤ D init → neg_ℤ (pos (5 * 10 ^ 29)) ≤ℤ D graph.bases
-  gap_still gap = let r = h.risen in omega (arith, ints, gap, r)
+  pub gap_still : neg_ℤ (pos (5 * 10 ^ 29)) ≤ℤ D graph.bases
+  gap_still = let gap = h.gap in let r = h.risen in omega (arith, ints, gap, r)
 
   module _ (family : (x : X) → IsFamily (length (places x)) (value x)) (law : (x : X) → IsSubmodular (length (places x)) (value x)) where
     fit : AreTerms (length shift) (meanings places value terms)
     fit = are_terms h.whole family law
 
     -- one walk more
-    module _ (after : List (List ℤ)) (p : IsProgress (meanings places value terms) (length shift) q shift graph.bases after) where
-      rises : (D graph.bases +ℤ pos 1) ≤ℤ D after
-      rises = (moves_along (meanings places value terms) graph.bases (length shift) q shift (low h.whole) fit h.whole.are_bases after p.along).1
+    module _ (graph' : Graph N) (run' : Run) (p : AreAdvanced (meanings places value terms) (length shift) q shift graph.bases graph'.bases run') where
+      rises : (D graph.bases +ℤ pos 1) ≤ℤ D graph'.bases
+      rises = (moves_along (meanings places value terms) graph.bases (length shift) q shift (low h.whole) fit h.whole.are_bases graph'.bases p.progress.along).1
 
-      pub falls : nat_abs (D after) < nat_abs (D graph.bases)
-      falls = abs_falls (D graph.bases) (D after) (omega (arith, ints, rises)) (deficit_not_above (length shift) (rest_at (meanings places value terms) after shift))
+      pub falls : nat_abs (D graph'.bases) < nat_abs (D graph.bases)
+      falls = abs_falls (D graph.bases) (D graph'.bases) (omega (arith, ints, rises)) (deficit_not_above (length shift) (rest_at (meanings places value terms) graph'.bases shift))
 
-      pub improving_after : (graph' : Graph N) (run' : Run) → graph'.bases ≡ after → IsClaimed places value size fits terms (length shift) q graph' → IsRunAt (meanings places value terms) shift after run'
-          → ((b : ℤ) → All (λ x. All (IsUpTo b) x) graph.bases → All (λ x. All (IsUpTo (b +ℤ (D after -ℤ D graph.bases))) x) after) → IsImproving places value size fits terms q shift init graph' run'
-      improving_after graph' run' same whole at spread = record {
+      pub improving_after : IsClaimed places value size fits terms (length shift) q graph' → IsImproving places value size fits terms q shift init graph' run'
+      improving_after whole = record {
         whole = whole;
-        at = rw same at;
-        risen = rw same (let r = h.risen in omega (arith, ints, r, rises));
-        small = rw same (bound_is after ((pos (10 ^ 25) +ℤ (D graph.bases -ℤ D init)) +ℤ (D after -ℤ D graph.bases)) (pos (10 ^ 25) +ℤ (D after -ℤ D init)) (spread (pos (10 ^ 25) +ℤ (D graph.bases -ℤ D init)) h.small) (omega (arith, ints)));
+        at = p.at;
+        gap = h.gap;
+        risen = let r = h.risen in omega (arith, ints, r, rises);
+        small = bound_is graph'.bases ((pos (10 ^ 25) +ℤ (D graph.bases -ℤ D init)) +ℤ (D graph'.bases -ℤ D graph.bases)) (pos (10 ^ 25) +ℤ (D graph'.bases -ℤ D init)) (p.spread (pos (10 ^ 25) +ℤ (D graph.bases -ℤ D init)) h.small) (omega (arith, ints));
       }

@@ -1,12 +1,13 @@
 -- The first bases and the plain shift are small.
-use Rattle.std.proofs.Common.{ℕ, zero, suc, ◌*◌, ◌^◌, List, [], ◌∷◌, map, replicate, ℤ, pos, negsuc, neg_ℤ, nat_abs, ◌*ℤ◌, ◌≤ℤ◌, arith}
+use Rattle.std.proofs.Common.{◌≡◌, ℕ, zero, suc, Bool, Some, length, ◌*◌, ◌^◌, List, [], ◌∷◌, map, replicate, ℤ, pos, negsuc, neg_ℤ, nat_abs, ◌*ℤ◌, ◌≤ℤ◌, arith}
 use Rattle.std.specs.List.{All}
 use Rattle.std.proofs.lemmas.Int.{ints}
 use Rattle.sfm_spec.specs.Sets.{magnitudes}
-use Rattle.sfm_spec.specs.Bounds.{IsAtMost, IsFactor, total_of}
+use Rattle.sfm_spec.specs.Bounds.{AreBounded, IsAtMost, IsFactor, total_of}
+use Rattle.sfm_spec.specs.Terms.{SetFunction, IsSubmodular}
 use Rattle.sfm_spec.proofs.Scaled.{times-mono}
 use Rattle.std.proofs.lemmas.List.{length-map, get_or-map}
-use Rattle.sfm_exchange.proofs.Basing.{sizes_all}
+use Rattle.sfm_exchange.proofs.Basing.{size_low, sizes_all}
 
 -- the same number for each place
 pub magnitudes-even : (n : ℕ) (p : ℤ) → IsAtMost (10 ^ 24) p → magnitudes (replicate n p) ≤ℤ pos (10 ^ 24 * n)
@@ -38,3 +39,13 @@ pub each_bounded : {X : Type 0} (size : X → ℤ) (xs : List X) → ((x : X) �
 each_bounded size xs sound small k d l =
     let b = sizes_all size xs sound small k (pos 0) (rw length-map l) in
     rw (← get_or-map size xs k d (pos 0) l) b
+
+-- the same of the terms of a graph, by their laws
+module _ {X : Type 0} (places : X → List ℕ) (value : X → SetFunction) (size : X → ℤ) (law : (x : X) → IsSubmodular (length (places x)) (value x))
+    (range : (x : X) (s : List Bool) (a : ℤ) → length s ≡ length (places x) → value x s ≡ Some a → (neg_ℤ (size x) ≤ℤ a) × (a ≤ℤ size x)) (n : ℕ) (xs : List X) (bounded : AreBounded n (map places xs) (map size xs)) where
+  pub sizes_bounded : All (λ x. size x ≤ℤ pos (10 ^ 18)) xs
+  sizes_bounded = each_bounded size xs (size_low places value size law range) bounded.small
+
+  pub starts_bounded : (start : X → ℤ → List ℤ) (q : ℤ) (starts_small : (x : X) → pos 1 ≤ℤ q → All (λ a. (neg_ℤ (pos 2 *ℤ q *ℤ size x) ≤ℤ a) × (a ≤ℤ (pos 2 *ℤ q *ℤ size x))) (start x q)) → IsFactor q
+      → All (λ row. All (IsAtMost (10 ^ 25)) row) (map (λ x. start x q) xs)
+  starts_bounded start q starts_small f = starts_within size start q (λ x. starts_small x f.low) f xs sizes_bounded

@@ -1,8 +1,9 @@
 -- What a minimisation keeps beside the graph.
-use Rattle.std.specs.Prelude.{◌≡◌, ℕ, ◌+◌, ◌<◌, ◌≤◌, List, length, slice_index_or, ℤ, pos, ◌<ℤ◌, ◌≤ℤ◌, neg_ℤ}
-use Rattle.sfm_spec.specs.Families.{Meaning, rest_at}
+use Rattle.std.specs.Prelude.{◌≡◌, ℕ, ◌+◌, ◌<◌, ◌≤◌, List, length, slice_index_or, ℤ, pos, ◌<ℤ◌, ◌≤ℤ◌, neg_ℤ, ◌+ℤ◌, ◌-ℤ◌}
+use Rattle.std.specs.List.{All}
+use Rattle.sfm_spec.specs.Families.{Meaning, rest_at, deficit}
 use Rattle.sfm_spec.specs.Labels.{FallsAlong}
-use Rattle.sfm_spec.specs.Progress.{TakesLeastSteps}
+use Rattle.sfm_spec.specs.Progress.{IsProgress, TakesLeastSteps}
 use Rattle.sfm_spec.specs.Walks.{Step, IsStep, IsShortest, last_of}
 use Rattle.sfm_law.specs.Rest.{IsRest}
 use Rattle.sfm_walk.specs.declared.run.Run.{Run}
@@ -16,13 +17,10 @@ pub record IsRunAt (terms : List Meaning) (shift : List ℤ) (rows : List (List 
   pub is_rest : IsRest terms shift rows run.z.items
   pub signs : AreSigns run.z.items run.signs
 
--- a shortest joining walk of least steps, by distances d that fall along it and by no step faster
-pub record IsLeastWalk (terms : List Meaning) (n : ℕ) (q : ℤ) (shift : List ℤ) (rows : List (List ℤ)) (z : List ℤ) (d : ℕ → ℕ) (first : ℕ) (hops : List Hop) : Type 0 where
+-- the course of a walk: it leads from a place with z < 0 to one with z > 0, by least steps, along which distances d fall that
+-- fall by no step faster
+pub record IsCourse (terms : List Meaning) (n : ℕ) (q : ℤ) (shift : List ℤ) (rows : List (List ℤ)) (z : List ℤ) (d : ℕ → ℕ) (first : ℕ) (hops : List Hop) : Type 0 where
   pub some : 0 < length hops
-  pub named : AreNamed terms first hops
-  pub movable : (k : ℕ) → k < length hops → IsMovable terms q rows (hop_at hops k)
-  pub shortest : IsShortest terms q shift rows first (steps_of hops)
-  pub first_in : first < n
   pub last_in : last_of first (steps_of hops) < n
   pub under : slice_index_or z first (pos 0) <ℤ pos 0
   pub over : pos 0 <ℤ slice_index_or z (last_of first (steps_of hops)) (pos 0)
@@ -31,17 +29,18 @@ pub record IsLeastWalk (terms : List Meaning) (n : ℕ) (q : ℤ) (shift : List 
   pub no_faster : (from : ℕ) (step : Step) → IsStep terms q rows from step → d from ≤ d step.to + 1
   pub ends : (e : ℕ) → e < n → pos 0 <ℤ rest_at terms rows shift e → d e ≡ 0
 
+-- a shortest joining walk of least steps
+pub record IsLeastWalk (terms : List Meaning) (n : ℕ) (q : ℤ) (shift : List ℤ) (rows : List (List ℤ)) (z : List ℤ) (d : ℕ → ℕ) (first : ℕ) (hops : List Hop) : Type 0 where
+  pub course : IsCourse terms n q shift rows z d first hops
+  pub named : AreNamed terms first hops
+  pub movable : (k : ℕ) → k < length hops → IsMovable terms q rows (hop_at hops k)
+  pub shortest : IsShortest terms q shift rows first (steps_of hops)
+  pub first_in : first < n
+
 -- a walk of least steps as the rows tell it, which lack no step but may have too many
 pub record IsSoughtWalk (terms : List Meaning) (n : ℕ) (q : ℤ) (shift : List ℤ) (rows : List (List ℤ)) (tables : List (List Bits)) (z : List ℤ) (d : ℕ → ℕ) (first : ℕ) (hops : List Hop) : Type 0 where
-  pub some : 0 < length hops
+  pub course : IsCourse terms n q shift rows z d first hops
   pub told : AreHops terms tables first hops
-  pub last_in : last_of first (steps_of hops) < n
-  pub under : slice_index_or z first (pos 0) <ℤ pos 0
-  pub over : pos 0 <ℤ slice_index_or z (last_of first (steps_of hops)) (pos 0)
-  pub falls : FallsAlong d first (steps_of hops)
-  pub least : TakesLeastSteps terms q rows d first (steps_of hops)
-  pub no_faster : (from : ℕ) (step : Step) → IsStep terms q rows from step → d from ≤ d step.to + 1
-  pub ends : (e : ℕ) → e < n → pos 0 <ℤ rest_at terms rows shift e → d e ≡ 0
 
 -- the greatest amount that each step and both ends of a walk allow
 pub record IsGreatest (terms : List Meaning) (q : ℤ) (rows : List (List ℤ)) (z : List ℤ) (first : ℕ) (hops : List Hop) (a : ℤ) : Type 0 where
@@ -55,3 +54,10 @@ pub record IsGreatest (terms : List Meaning) (q : ℤ) (rows : List (List ℤ)) 
 pub record IsUpTo (b a : ℤ) : Type 0 where
   pub low : neg_ℤ b ≤ℤ a
   pub high : a ≤ℤ b
+
+-- bases that came by a move along a walk: the run is at them, they are progress, and no entry has changed by more than the sum
+-- of min(z, 0) has risen
+pub record AreAdvanced (terms : List Meaning) (n : ℕ) (q : ℤ) (shift : List ℤ) (before after : List (List ℤ)) (run : Run) : Type 0 where
+  pub at : IsRunAt terms shift after run
+  pub progress : IsProgress terms n q shift before after
+  pub spread : (b : ℤ) → All (λ x. All (IsUpTo b) x) before → All (λ x. All (IsUpTo (b +ℤ (deficit n (rest_at terms after shift) -ℤ deficit n (rest_at terms before shift)))) x) after

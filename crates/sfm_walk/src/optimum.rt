@@ -2,19 +2,18 @@
 // kept beside the bases is brought up. Each walk raises the sum of min(z, 0) by at least 1, so this ends, and then no walk
 // joins (Schrijver, Combinatorial Optimization, section 45; Fujishige, Submodular Functions and Optimization, section 4).
 // And each walk raises the potential of any lower bounds on distances and on least steps, so walks are few.
-ghost use Rattle.std.specs.Prelude.{◌≡◌, ◌+◌, ◌*◌, ◌^◌, ◌≢◌, ◌<◌, ◌≤◌, ℕ, ℤ, List, map, pos, neg_ℤ, ◌+ℤ◌, ◌-ℤ◌, ◌≤ℤ◌, length, OnOk, IfOk, slice_index_or};
+ghost use Rattle.std.specs.Prelude.{◌≡◌, ◌+◌, ◌*◌, ◌^◌, ◌≢◌, ◌<◌, ◌≤◌, ℕ, ℤ, List, map, pos, neg_ℤ, ◌≤ℤ◌, length, OnOk, IfOk, slice_index_or};
 ghost use Rattle.std.specs.List.{All};
 ghost use Rattle.sfm_spec.specs.Sets.{magnitudes};
 ghost use Rattle.sfm_spec.specs.Bounds.{AreBounded, IsAtMost, IsEntry, IsFactor};
 ghost use Rattle.sfm_spec.specs.Families.{meanings, even_shift, rest_at, deficit, AreBases, Prove};
-ghost use Rattle.sfm_spec.specs.Progress.{IsProgress};
 ghost use Rattle.sfm_spec.specs.Terms.{exchanged};
 ghost use Rattle.sfm_spec.specs.Walks.{Step, Joins, IsFewWalks, few_walks, last_of};
 ghost use Rattle.sfm_walk.specs.Counted.{IsCounted};
 ghost use Rattle.sfm_exchange.specs.Graph.{IsClaimed, IsShaped};
 ghost use Rattle.sfm_exchange.specs.Hops.{steps_of};
 ghost use Rattle.sfm_exchange.specs.Levels.{depth_of};
-ghost use Rattle.sfm_walk.specs.Run.{IsGreatest, IsLeastWalk, IsRunAt, IsUpTo};
+ghost use Rattle.sfm_walk.specs.Run.{AreAdvanced, IsGreatest, IsLeastWalk, IsRunAt};
 ghost use Rattle.sfm_exchange.specs.Signs.{AreMoved, AreSigns};
 
 use crate::rest::{most_of, move_rest};
@@ -210,10 +209,7 @@ fn advance<T: Term>(
     requires small { All (λ x. All (IsAtMost (5 * 10 ^ 29)) x) graph.old.bases }
     requires gap { neg_ℤ (pos (5 * 10 ^ 29)) ≤ℤ deficit (length shift.now) (rest_at (meanings T.places T.value_of terms.now) graph.old.bases shift.now) }
     ensures graph { OnOk result (IsClaimed T.places T.value_of T.size_of T.fits terms.now (length shift.now) q graph.new) }
-    ensures run { OnOk result (IsRunAt (meanings T.places T.value_of terms.now) shift.now graph.new.bases run.new) }
-    ensures moves { OnOk result (IsProgress (meanings T.places T.value_of terms.now) (length shift.now) q shift.now graph.old.bases graph.new.bases) }
-    ensures spread { OnOk result ((b : ℤ) → All (λ x. All (IsUpTo b) x) graph.old.bases → All (λ x. All (IsUpTo (b +ℤ (deficit (length shift.now) (rest_at (meanings T.places T.value_of terms.now) graph.new.bases shift.now)
-        -ℤ deficit (length shift.now) (rest_at (meanings T.places T.value_of terms.now) graph.old.bases shift.now)))) x) graph.new.bases) }
+    ensures advanced { OnOk result (AreAdvanced (meanings T.places T.value_of terms.now) (length shift.now) q shift.now graph.old.bases graph.new.bases run.new) }
 {
     let a = greatest_amount(alloc, graph, terms, q, shift, run)?;
     move_along(alloc, graph, terms, q, &run.path, a)?;

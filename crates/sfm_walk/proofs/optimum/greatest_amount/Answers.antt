@@ -30,7 +30,7 @@ pub most_of-most-requires-clause-under : goal.most_of-most-requires-clause-under
 most_of-most-requires-clause-under g c =
     let w = c.requires.walk in
     let zv = c.deref.ensures.value in
-    rw zv w.under
+    rw zv w.course.under
 
 pub most_of-most-requires-clause-over : goal.most_of-most-requires-clause-over
 most_of-most-requires-clause-over g c =
@@ -39,7 +39,7 @@ most_of-most-requires-clause-over g c =
     let w = c.requires.walk in
     let last : c.last-last.result ≡ last_of run.path.first (steps_of hops) = c.last-last.ensures in
     let zv = c.deref.ensures.value in
-    rw (zv, last) w.over
+    rw (zv, last) w.course.over
 
 pub most_of-most-requires-clause-small : goal.most_of-most-requires-clause-small
 most_of-most-requires-clause-small g c =

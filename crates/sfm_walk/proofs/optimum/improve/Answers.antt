@@ -1,9 +1,8 @@
-use Rattle.std.proofs.Common.{◌*◌, ◌^◌, List, length, pos, ℤ, ◌-ℤ◌, ◌+ℤ◌, refl, arith, FitsSigned}
+use Rattle.std.proofs.Common.{◌*◌, ◌^◌, length, pos, ℤ, ◌-ℤ◌, ◌+ℤ◌, arith, FitsSigned}
 use Rattle.std.proofs.lemmas.Int.{ints, to_z-of_z}
 use Rattle.std.proofs.lemmas.List.{length-map}
 use mir.Syntax.{w128}
 use Rattle.sfm_spec.specs.Families.{meanings, rest_at, deficit}
-use Rattle.sfm_spec.specs.Progress.{IsProgress}
 use Rattle.sfm_spec.proofs.LeastWalks.{few_walks_small}
 use Rattle.sfm_spec.proofs.Proving.{prove_if_none}
 use Rattle.sfm_spec.proofs.Walks.{bases-at}
@@ -40,35 +39,25 @@ loop-run-init g c =
     let t = g.T.Term in
     let fq : FitsSigned w128 c.args.q = c.ranges.q in
     let ts = meanings t.places t.value_of c.args.terms.now in
-    let n = length c.args.shift.now in
-    let q = c.args.q in
     let shift = c.args.shift.now in
     let r = c.requires in
     let init = c.args.graph.now.bases in
-    let D : List (List ℤ) → ℤ = λ rows. deficit n (rest_at ts rows shift) in
+    let D : ℤ = deficit (length shift) (rest_at ts init shift) in
     let z_is = c.run_at-run.ensures.z in
-    let start : IsImproving t.places t.value_of t.size_of t.fits c.args.terms.now q shift init c.args.graph.now c.run_at-run.result = record {
+    let start : IsImproving t.places t.value_of t.size_of t.fits c.args.terms.now c.args.q shift init c.args.graph.now c.run_at-run.result = record {
       whole = r.graph;
       at = record { is_rest = rw z_is c.in_ok-z.ensures; signs = rw z_is c.run_at-run.ensures.signs };
+      gap = deficit_low t.places t.value_of c.args.terms.now init shift r.small r.graph.bounded.few_places r.shifts;
       risen = omega (arith, ints);
-      small = same_bound init (pos (10 ^ 25) +ℤ (D init -ℤ D init)) r.small (omega (arith, ints));
+      small = same_bound init (pos (10 ^ 25) +ℤ (D -ℤ D)) r.small (omega (arith, ints));
     } in
-    simp to_z-of_z (start, omega arith, counting_none ts n q shift init c.args.steps.now, omega arith)
+    simp to_z-of_z (start, omega arith, counting_none ts (length shift) c.args.q shift init c.args.steps.now, omega arith)
 
 pub next_walk-requires-clause-graph : goal.next_walk-requires-clause-graph
-next_walk-requires-clause-graph g c =
-    let fq : FitsSigned w128 c.args.q = c.ranges.q in
-    let inv = simp to_z-of_z at c.loop-run.invariant.0 in
-    simp to_z-of_z inv.whole
+next_walk-requires-clause-graph g c = c.loop-run.invariant.0.whole
 
 pub next_walk-requires-clause-small : goal.next_walk-requires-clause-small
-next_walk-requires-clause-small g c =
-    let t = g.T.Term in
-    let fq : FitsSigned w128 c.args.q = c.ranges.q in
-    let r = c.requires in
-    let gap = deficit_low t.places t.value_of c.args.terms.now c.args.graph.now.bases c.args.shift.now r.small r.graph.bounded.few_places r.shifts in
-    let inv = simp to_z-of_z at c.loop-run.invariant.0 in
-    small_still inv (10 ^ 30) gap (omega arith)
+next_walk-requires-clause-small g c = small_still c.loop-run.invariant.0 (10 ^ 30) (omega arith)
 
 pub advance-requires-clause-graph : goal.advance-requires-clause-graph
 advance-requires-clause-graph g c =
@@ -84,34 +73,18 @@ advance-requires-clause-walk g c =
     rw c.in_ok-next_walk.ensures.bases (c.in_ok-next_walk.ensures.walk c.if-branch.true)
 
 pub advance-requires-clause-small : goal.advance-requires-clause-small
-advance-requires-clause-small g c =
-    let t = g.T.Term in
-    let fq : FitsSigned w128 c.args.q = c.ranges.q in
-    let r = c.requires in
-    let gap = deficit_low t.places t.value_of c.args.terms.now c.args.graph.now.bases c.args.shift.now r.small r.graph.bounded.few_places r.shifts in
-    let inv = simp to_z-of_z at c.loop-run.invariant.0 in
-    rw c.in_ok-next_walk.ensures.bases (small_still inv (5 * 10 ^ 29) gap (omega arith))
+advance-requires-clause-small g c = rw c.in_ok-next_walk.ensures.bases (small_still c.loop-run.invariant.0 (5 * 10 ^ 29) (omega arith))
 
 pub advance-requires-clause-gap : goal.advance-requires-clause-gap
-advance-requires-clause-gap g c =
-    let t = g.T.Term in
-    let fq : FitsSigned w128 c.args.q = c.ranges.q in
-    let r = c.requires in
-    let gap = deficit_low t.places t.value_of c.args.terms.now c.args.graph.now.bases c.args.shift.now r.small r.graph.bounded.few_places r.shifts in
-    let inv = simp to_z-of_z at c.loop-run.invariant.0 in
-    rw c.in_ok-next_walk.ensures.bases (gap_still inv gap)
+advance-requires-clause-gap g c = rw c.in_ok-next_walk.ensures.bases (gap_still c.loop-run.invariant.0)
 
 pub loop-run-smaller : goal.loop-run-smaller
 loop-run-smaller g c =
-    let t = g.T.Term in
     let m = g.met.T.Term in
     let fq : FitsSigned w128 c.args.q = c.ranges.q in
-    let ts = meanings t.places t.value_of c.args.terms.now in
-    let n = length c.args.shift.now in
     let inv = simp to_z-of_z at c.loop-run.invariant.0 in
-    let after = c.advance.new.graph.bases in
-    let p : IsProgress ts n c.args.q c.args.shift.now c.loop-run.graph.bases after = rw c.in_ok-next_walk.ensures.bases at (simp to_z-of_z at c.in_ok-advance.ensures.moves) in
-    falls inv m.family m.submodular after p
+    let advanced = rw c.in_ok-next_walk.ensures.bases at (simp to_z-of_z at c.in_ok-advance.ensures.advanced) in
+    falls inv m.family m.submodular c.advance.new.graph c.advance.new.run advanced
 
 pub loop-run-preserved : goal.loop-run-preserved
 loop-run-preserved g c =
@@ -120,19 +93,15 @@ loop-run-preserved g c =
     let fq : FitsSigned w128 c.args.q = c.ranges.q in
     let ts = meanings t.places t.value_of c.args.terms.now in
     let n = length c.args.shift.now in
-    let q = c.args.q in
     let shift = c.args.shift.now in
-    let r = c.requires in
     let init = c.args.graph.now.bases in
-    let inv = simp to_z-of_z at c.loop-run.invariant.0 in
-    let graph = c.loop-run.graph in
+    let inv = simp to_z-of_z at c.loop-run.invariant in
     let e = c.in_ok-advance.ensures in
-    let same = c.in_ok-next_walk.ensures.bases in
+    let advanced = rw c.in_ok-next_walk.ensures.bases at (simp to_z-of_z at e.advanced) in
     let after = c.advance.new.graph.bases in
-    let p : IsProgress ts n q shift graph.bases after = rw same at (simp to_z-of_z at e.moves) in
-    let next = improving_after inv m.family m.submodular after p c.advance.new.graph c.advance.new.run refl (simp to_z-of_z at e.graph) e.run (rw same at e.spread) in
-    let counting : IsCounting ts n q shift init after c.args.steps.now c.tick.new.self = counting_more ts n q shift init graph.bases after c.args.steps.now c.loop-run.steps c.tick.new.self (simp to_z-of_z at c.loop-run.invariant.2) p c.tick.ensures in
-    simp to_z-of_z (next, omega (arith, c.loop-run.invariant.1, c.tick.ensures), counting, counting_few ts n (length c.args.terms.now) q shift init after c.args.steps.now c.tick.new.self (counted r.graph) counting)
+    let next = improving_after inv.0 m.family m.submodular c.advance.new.graph c.advance.new.run advanced (simp to_z-of_z at e.graph) in
+    let counting : IsCounting ts n c.args.q shift init after c.args.steps.now c.tick.new.self = counting_more ts n c.args.q shift init c.loop-run.graph.bases after c.args.steps.now c.loop-run.steps c.tick.new.self inv.2 advanced.progress c.tick.ensures in
+    simp to_z-of_z (next, omega (arith, c.loop-run.invariant.1, c.tick.ensures), counting, counting_few ts n (length c.args.terms.now) c.args.q shift init after c.args.steps.now c.tick.new.self (counted c.requires.graph) counting)
 
 pub tick-requires : goal.tick-requires
 tick-requires g c =
@@ -150,13 +119,7 @@ returns-clause-bases g c =
     (simp to_z-of_z at c.in_ok-next_walk.ensures.graph).are_bases
 
 pub returns-clause-small : goal.returns-clause-small
-returns-clause-small g c =
-    let t = g.T.Term in
-    let fq : FitsSigned w128 c.args.q = c.ranges.q in
-    let r = c.requires in
-    let gap = deficit_low t.places t.value_of c.args.terms.now c.args.graph.now.bases c.args.shift.now r.small r.graph.bounded.few_places r.shifts in
-    let inv = simp to_z-of_z at c.loop-run.invariant.0 in
-    rw c.in_ok-next_walk.ensures.bases (small_still inv (10 ^ 30) gap (omega arith))
+returns-clause-small g c = rw c.in_ok-next_walk.ensures.bases (small_still c.loop-run.invariant.0 (10 ^ 30) (omega arith))
 
 pub returns-clause-rest : goal.returns-clause-rest
 returns-clause-rest g c =
@@ -181,9 +144,5 @@ pub returns-clause-counted : goal.returns-clause-counted
 returns-clause-counted g c =
     let t = g.T.Term in
     let fq : FitsSigned w128 c.args.q = c.ranges.q in
-    let ts = meanings t.places t.value_of c.args.terms.now in
-    let n = length c.args.shift.now in
-    let q = c.args.q in
     let shift = c.args.shift.now in
-    let init = c.args.graph.now.bases in
-    rw c.in_ok-next_walk.ensures.bases (counting_is ts n q shift init c.loop-run.graph.bases c.args.steps.now c.loop-run.steps (simp to_z-of_z at c.loop-run.invariant.2))
+    rw c.in_ok-next_walk.ensures.bases (counting_is (meanings t.places t.value_of c.args.terms.now) (length shift) c.args.q shift c.args.graph.now.bases c.loop-run.graph.bases c.args.steps.now c.loop-run.steps (simp to_z-of_z at c.loop-run.invariant.2))

@@ -2,18 +2,12 @@ use Rattle.std.proofs.Common.{◌≡◌, replicate, rules, arith, FitsSigned}
 use Rattle.std.proofs.lemmas.Int.{ints, to_z-of_z}
 use Rattle.std.proofs.lemmas.List.{length-replicate}
 use mir.Syntax.{w128}
-use Rattle.sfm_walk.proofs.Starting.{each_bounded, magnitudes-even, starts_within}
-use Rattle.sfm_exchange.proofs.Basing.{size_low}
+use Rattle.sfm_walk.proofs.Starting.{magnitudes-even, sizes_bounded, starts_bounded}
 use Rattle.sfm_exchange.proofs.ClaimedGraphs.{whole_claimed}
 use Rattle.sfm_walk.proofs.optimum.minimise_counted.Goals as goal
 
 pub start_rows-requires-clause-bounded : goal.start_rows-requires-clause-bounded
-start_rows-requires-clause-bounded g c =
-    let t = g.T.Term in
-    let m = g.met.T.Term in
-    let fq : FitsSigned w128 c.args.q = c.ranges.q in
-    let each = each_bounded t.size_of c.args.terms.now (size_low t.places t.value_of t.size_of m.submodular m.bounded) c.requires.bounded.small in
-    each
+start_rows-requires-clause-bounded g c = let t = g.T.Term in let m = g.met.T.Term in sizes_bounded t.places t.value_of t.size_of m.submodular m.bounded _ c.args.terms.now c.requires.bounded
 
 pub improve-requires-clause-shifts : goal.improve-requires-clause-shifts
 improve-requires-clause-shifts g c =
@@ -27,9 +21,8 @@ improve-requires-clause-small g c =
     let t = g.T.Term in
     let m = g.met.T.Term in
     let fq : FitsSigned w128 c.args.q = c.ranges.q in
-    let each = each_bounded t.size_of c.args.terms.now (size_low t.places t.value_of t.size_of m.submodular m.bounded) c.requires.bounded.small in
     let rows = simp to_z-of_z at c.in_ok-first_bases.ensures.starts in
-    rw (c.in_ok-graph.ensures.bases, rows) (starts_within t.size_of t.start_of c.args.q (λ x. m.starts_small x c.args.q c.requires.factor.low) c.requires.factor c.args.terms.now each)
+    rw (c.in_ok-graph.ensures.bases, rows) (starts_bounded t.places t.value_of t.size_of m.submodular m.bounded _ c.args.terms.now c.requires.bounded t.start_of c.args.q (λ x. m.starts_small x c.args.q) c.requires.factor)
 
 pub returns-clause-rest : goal.returns-clause-rest
 returns-clause-rest g c =

@@ -1,7 +1,6 @@
 use Rattle.std.proofs.Common.{ℕ, length, refl, subst, ◌∙◌, FitsSigned}
 use Rattle.std.proofs.lemmas.Int.{to_z-of_z}
 use mir.Syntax.{w128}
-use Rattle.sfm_spec.specs.Families.{meanings}
 use Rattle.sfm_exchange.specs.Graph.{IsClaimed}
 use Rattle.sfm_exchange.specs.Levels.{AreClosed, IsFirst, depth_of}
 use Rattle.sfm_exchange.proofs.ClaimedGraphs.{are_terms, have_links, low, own}
@@ -16,10 +15,7 @@ loop-first-init g c =
     (simp to_z-of_z c.requires.graph, refl, c.requires.run)
 
 pub sought_walk-requires-clause-graph : goal.sought_walk-requires-clause-graph
-sought_walk-requires-clause-graph g c =
-    let fq : FitsSigned w128 c.args.q = c.ranges.q in
-    let inv = simp to_z-of_z at c.loop-first.invariant in
-    simp to_z-of_z inv.0
+sought_walk-requires-clause-graph g c = c.loop-first.invariant.0
 
 pub sought_walk-requires-clause-run : goal.sought_walk-requires-clause-run
 sought_walk-requires-clause-run g c =
@@ -35,13 +31,7 @@ sought_walk-requires-clause-first g c =
     subst F c.loop-first.invariant.2.is_rest.places (rw (c.deref-in-loop-first.ensures.value, c.deref-in-loop-first-2.ensures.value) at (match_some c.in_ok-first.field-0 c.in-Some.first _ _ c.in_ok-first.ensures c.in-Some.is))
 
 pub prove_walk-requires-clause-graph : goal.prove_walk-requires-clause-graph
-prove_walk-requires-clause-graph g c =
-    let fq : FitsSigned w128 c.args.q = c.ranges.q in
-    let inv = simp to_z-of_z at c.loop-first.invariant in
-    simp to_z-of_z (own inv.0)
-
-pub prove_walk-requires-clause-small : goal.prove_walk-requires-clause-small
-prove_walk-requires-clause-small g c = rw c.loop-first.invariant.1 c.requires.small
+prove_walk-requires-clause-graph g c = own c.loop-first.invariant.0
 
 pub prove_walk-requires-clause-told : goal.prove_walk-requires-clause-told
 prove_walk-requires-clause-told g c =
@@ -76,26 +66,16 @@ returns-then-proved-clause-run g c = rw c.loop-first.invariant.1 at c.in_ok-soug
 
 pub returns-then-proved-clause-walk : goal.returns-then-proved-clause-walk
 returns-then-proved-clause-walk g c = λ _.
-    let t = g.T.Term in
     let m = g.met.T.Term in
     let fq : FitsSigned w128 c.args.q = c.ranges.q in
     let inv = simp to_z-of_z at c.loop-first.invariant in
-    let h = inv.0 in
-    let graph = c.loop-first.graph in
-    let ts = meanings t.places t.value_of c.args.terms.now in
-    let n = length c.args.shift.now in
     let run = c.sought_walk.new.run in
     let e = c.in_ok-sought_walk.ensures in
-    let rest = e.run.is_rest in
     let movable = rw c.deref-in-Some.ensures.value at (simp to_z-of_z at (c.in_ok-proved.ensures.proved c.if-proved.true)) in
-    rw inv.1 at (least_walk ts graph.bases n c.args.q c.args.shift.now run.z.items (low h) (are_terms h m.family m.submodular) h.are_bases rest.places rest graph.rows.items (depth_of run.levels.items) run.path.first run.path.hops.items
-    (simp to_z-of_z at e.walk) movable)
+    rw inv.1 at (least_walk _ _ _ _ _ _ (low inv.0) (are_terms inv.0 m.family m.submodular) inv.0.are_bases e.run.is_rest.places e.run.is_rest c.loop-first.graph.rows.items (depth_of run.levels.items) run.path.first run.path.hops.items (simp to_z-of_z at e.walk) movable)
 
 pub returns-clause-graph : goal.returns-clause-graph
-returns-clause-graph g c =
-    let fq : FitsSigned w128 c.args.q = c.ranges.q in
-    let inv = simp to_z-of_z at c.loop-first.invariant in
-    inv.0
+returns-clause-graph g c = let fq : FitsSigned w128 c.args.q = c.ranges.q in simp to_z-of_z at c.loop-first.invariant.0
 
 pub returns-clause-run : goal.returns-clause-run
 returns-clause-run g c =
@@ -104,19 +84,16 @@ returns-clause-run g c =
 
 pub returns-clause-ends : goal.returns-clause-ends
 returns-clause-ends g c = λ _.
-    let t = g.T.Term in
     let m = g.met.T.Term in
     let fq : FitsSigned w128 c.args.q = c.ranges.q in
     let inv = simp to_z-of_z at c.loop-first.invariant in
-    let h = inv.0 in
-    let graph = c.loop-first.graph in
-    let ts = meanings t.places t.value_of c.args.terms.now in
-    let n = length c.args.shift.now in
-    let z = c.loop-first.run.z.items in
-    let levels = c.find_levels.new.levels.items in
     let rest = rw (← inv.1) at inv.2.is_rest in
+    let unions = c.loop-first.graph.unions.items in
+    let levels = c.find_levels.new.levels.items in
     let shut = match_none c.in_ok-first.field-0 _ _ c.in_ok-first.ensures c.in_default.not-Some in
-    let C : ℕ → Type 0 = λ k. AreClosed k graph.unions.items z levels in
-    let closed : AreClosed n graph.unions.items z levels = subst C rest.places (rw (c.deref-in-loop-first.ensures.value, c.deref-in-loop-first-2.ensures.value) at shut) in
-    let fit = are_terms h m.family m.submodular in
-    rw inv.1 at (none_joins ts graph.bases n c.args.q c.args.shift.now z (low h) fit h.are_bases rest.places rest graph.unions.items levels (have_links h fit) closed)
+    let closed : AreClosed (length c.args.shift.now) unions c.loop-first.run.z.items levels = subst (λ n. AreClosed n unions c.loop-first.run.z.items levels) rest.places (rw (c.deref-in-loop-first.ensures.value, c.deref-in-loop-first-2.ensures.value) at shut) in
+    let fit = are_terms inv.0 m.family m.submodular in
+    rw inv.1 at (none_joins _ _ _ _ _ _ (low inv.0) fit inv.0.are_bases rest.places rest unions levels (have_links inv.0 fit) closed)
+
+pub prove_walk-requires-clause-small : goal.prove_walk-requires-clause-small
+prove_walk-requires-clause-small g c = rw c.loop-first.invariant.1 c.requires.small

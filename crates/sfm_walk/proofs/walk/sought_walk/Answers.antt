@@ -1,8 +1,7 @@
-use Rattle.std.proofs.Common.{◌<◌, ℕ, length, subst, sym}
+use Rattle.std.proofs.Common.{ℕ, subst, sym}
 use Rattle.sfm_spec.specs.Families.{meanings}
 use Rattle.sfm_exchange.specs.Levels.{IsFirst}
 use Rattle.sfm_exchange.specs.Spots.{AreSpots}
-use Rattle.sfm_exchange.specs.Unions.{IsReadable}
 use Rattle.sfm_walk.proofs.Advancing.{sought_walk}
 use Rattle.sfm_exchange.proofs.ClaimedGraphs.{are_terms, claims_in, counted, have_links, low, spot_rows, unions_count}
 use Rattle.sfm_exchange.proofs.Telling.{claims_readable}
@@ -24,16 +23,10 @@ pub follow-requires-clause-unions : goal.follow-requires-clause-unions
 follow-requires-clause-unions g c = c.requires.graph.are_unions
 
 pub follow-requires-clause-placed : goal.follow-requires-clause-placed
-follow-requires-clause-placed g c =
-    let t = g.T.Term in
-    let m = g.met.T.Term in
+follow-requires-clause-placed g c = λ i l.
     let h = c.requires.graph in
-    let graph = c.args.graph.now in
-    let ts = meanings t.places t.value_of c.args.terms.now in
-    let n = length c.args._shift.now in
-    let fit = are_terms h m.family m.submodular in
-    let each : (i : ℕ) → i < length c.args.terms.now → IsReadable ts graph.rows.items i = λ i l. claims_readable ts graph.bases n c.args._q fit graph.rows.items (claims_in h) h.bounded.few i (rw (counted h) l) in
-    each
+    let m = g.met.T.Term in
+    claims_readable _ _ _ _ (are_terms h m.family m.submodular) c.args.graph.now.rows.items (claims_in h) h.bounded.few i (rw (counted h) l)
 
 pub follow-requires-clause-first : goal.follow-requires-clause-first
 follow-requires-clause-first g c =
@@ -44,17 +37,11 @@ follow-requires-clause-first g c =
 
 pub returns-clause-walk : goal.returns-clause-walk
 returns-clause-walk g c =
-    let t = g.T.Term in
     let m = g.met.T.Term in
     let h = c.requires.graph in
-    let graph = c.args.graph.now in
-    let ts = meanings t.places t.value_of c.args.terms.now in
-    let n = length c.args._shift.now in
     let fit = are_terms h m.family m.submodular in
-    let z = c.args.run.now.z.items in
-    let levels = c.args.run.now.levels.items in
     let rest = c.requires.run.is_rest in
     let e = c.in_ok-follow.ensures in
     let v = c.deref-2.ensures.value in
-    sought_walk ts graph.bases n c.args._q c.args._shift.now z (low h) fit h.are_bases rest.places rest graph.unions.items (have_links h fit) levels c.args.run.now.path.first c.requires.first
-    graph.rows.items (claims_in h) c.follow.new.hops.items e.some e.hops (rw v at e.falls) (rw v at e.least) (rw v at e.last)
+    sought_walk _ _ _ _ _ _ (low h) fit h.are_bases rest.places rest c.args.graph.now.unions.items (have_links h fit) c.args.run.now.levels.items c.args.run.now.path.first c.requires.first
+    c.args.graph.now.rows.items (claims_in h) c.follow.new.hops.items e.some e.hops (rw v at e.falls) (rw v at e.least) (rw v at e.last)
