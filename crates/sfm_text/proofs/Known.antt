@@ -9,7 +9,7 @@ use Rattle.sfm_text.specs.RankLines.{is_among}
 use Rattle.sfm_text.proofs.Numbering.{has-others}
 
 -- a text is among the different texts exactly where it is among all
-any-distinct : (x : List ℕ) (texts : List (List ℕ)) → list_any (λ o. bytes_eq x o) (distinct_of texts) ≡ list_any (λ o. bytes_eq x o) texts
+pub any-distinct : (x : List ℕ) (texts : List (List ℕ)) → list_any (λ o. bytes_eq x o) (distinct_of texts) ≡ list_any (λ o. bytes_eq x o) texts
 any-distinct x [] = refl
 any-distinct x (t ∷ texts) = at (bytes_eq x t) refl (any-distinct x texts)
   where

@@ -17,6 +17,7 @@ pub mod Ranks
 pub mod Numbering
 pub mod Known
 pub mod LeastGroups
+pub mod FirstSlots
 pub mod Members
 pub mod Numbers
 pub mod Repeats

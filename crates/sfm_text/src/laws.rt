@@ -1,9 +1,12 @@
-// Facts that hold of every text and of all groups, by the definitions alone. The functions do nothing: they state them, and
-// proofs cite them.
-ghost use Rattle.std.specs.Prelude.{◌≡◌, ◌↔◌, ℕ, Bool, List};
-ghost use Rattle.sfm_spec.specs.Kinds.{Group, IsWithinCaps};
+// Facts that hold of every text, of all groups and of all entries, by the definitions alone. The functions do nothing: they
+// state them, and proofs cite them.
+ghost use Rattle.std.specs.Prelude.{◌≡◌, ◌↔◌, ℕ, Bool, List, length, map, take};
+ghost use Rattle.std.specs.List.{All};
+ghost use Rattle.sfm_spec.specs.Kinds.{Group, IsWithinCaps, IsMatchable};
 ghost use Rattle.sfm_laminar.specs.Crossing.{IsCrossing};
+ghost use Rattle.sfm_text.specs.LabelTerms.{numbers_of};
 ghost use Rattle.sfm_text.specs.RankLines.{least_groups};
+ghost use Rattle.sfm_text.specs.TermLines.{StandsTwice};
 ghost use Rattle.sfm_kind.specs.declared.kind.Kind.{Kind};
 ghost use Rattle.sfm_text.specs.declared.reason.Reason.{Reason};
 ghost use Rattle.sfm_text.specs.GoodText.{IsTextOf, IsFaultOf};
@@ -19,4 +22,9 @@ pub fn one_fault(_text: &[u8])
 pub fn least_groups_suffice()
     ensures caps { (groups : List Group) (t : List Bool) → IsWithinCaps (least_groups groups) t ↔ IsWithinCaps groups t }
     ensures crossings { (groups : List Group) → ((i : ℕ) × (j : ℕ) × IsCrossing (least_groups groups) i j) ↔ ((i : ℕ) × (j : ℕ) × IsCrossing groups i j) }
+{}
+
+/// An entry of different slots needs no more of them than its line has elements: with its first ones the same parts are independent.
+pub fn first_slots_suffice()
+    ensures { (labels : List (List (List ℕ))) (t : List Bool) → All (λ slots. StandsTwice slots → ⊥) labels → IsMatchable (numbers_of (map (take (length labels)) labels)) t ↔ IsMatchable (numbers_of labels) t }
 {}
