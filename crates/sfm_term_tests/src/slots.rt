@@ -1,5 +1,5 @@
-// Ranks of transversal matroids, worked by hand: one slot for two, a place that moves aside for another, and an entry without
-// slots, which no text can say.
+// Ranks of transversal matroids, worked by hand: one slot for two, a place that moves aside for another, an entry of more slots
+// than there are elements, and an entry without slots, which no text can say.
 ghost use Rattle.std.specs.Prelude.{◌↔◌, ◌<◌, ◌^◌, IsTrue};
 ghost use Rattle.std.specs.List.{All};
 
@@ -11,7 +11,17 @@ use std::alloc::Global;
 use std::process::Abort;
 use std::test::Fail;
 
-const TERMS: [(&str, &str); 3] = [
+/// What a term answers whose first element has slots that no other one has.
+const MORE_SLOTS: &str = "places 0 1 2 3
+    size 9
+    ranks 0 1 1 2 1 2 1 2 1 2 2 3 2 3 2 3
+    values 0 3 3 6 3 6 3 6 3 6 6 9 6 9 6 9
+    start 3 3 0 3
+    base 3 3 0 3
+    room 2 1 3
+    room 2 0 0";
+
+const TERMS: [(&str, &str); 4] = [
     (
         "rank 2 transversal : a=s b=s c=t",
         "size 4
@@ -51,6 +61,7 @@ const TERMS: [(&str, &str); 3] = [
         room 1 0 6
         reach 1 1",
     ),
+    ("rank 3 transversal : a=s,t,u,v,w b=s c=s d=s,t", MORE_SLOTS),
 ];
 
 #[test]
@@ -109,6 +120,24 @@ const WITHOUT_SLOTS: &str = "places 4 0 2 9
 fn places_that_move_aside(rt: HostRuntime) -> Result<(), Fail> {
     let kind = four_elements(&rt, rt.alloc())?;
     has_facts(&rt, rt.alloc(), &kind, WITHOUT_SLOTS)?;
+    Ok(())
+}
+
+/// The entries of a line whose first has more slots than there are elements, with all of them.
+const FIVE_SLOTS: [&[u32]; 4] = [&[0, 1, 2, 3, 4], &[0], &[0], &[0, 1]];
+
+/// The term of four elements with all slots of each.
+fn with_all_slots(rt: &impl Abort, alloc: Global) -> Result<Kind, Memory> {
+    let entries = entries_of(rt, alloc, &FIVE_SLOTS)?;
+    assert!(rt; entries.len() == 4);
+    let term = Transversal::new(alloc, &[0, 1, 2, 3], 3, entries)?;
+    Ok(Kind::Transversal(term))
+}
+
+#[test]
+fn more_slots_than_elements(rt: HostRuntime) -> Result<(), Fail> {
+    let kind = with_all_slots(&rt, rt.alloc())?;
+    has_facts(&rt, rt.alloc(), &kind, MORE_SLOTS)?;
     Ok(())
 }
 

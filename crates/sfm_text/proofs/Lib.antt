@@ -36,6 +36,7 @@ pub mod LongRanks
 pub mod LongLabels
 pub mod LongLaminar
 pub mod GroupTerms
+pub mod EntryTerms
 pub mod StageReasons
 pub mod SameTerms
 pub mod LaterLines

@@ -16,7 +16,7 @@ use Rattle.sfm_text.specs.Parts.{LineParts, IsMark, IsCutAt, IsLabelToken, IsLab
 use Rattle.sfm_text.specs.CutParts.{labelled_parts_of}
 use Rattle.sfm_text.specs.TermLines.{IsElement, StandsTwice}
 use Rattle.sfm_text.specs.Reading.{HasSlotTwice}
-use Rattle.sfm_text.specs.Passes.{IsNumberOf, IsKnown, Holds, Fails, IsReasonOf, label_word, HasLabels, RepeatsSlot, HasRepeatedSlot, AreGoodEntries}
+use Rattle.sfm_text.specs.Passes.{IsNumberOf, IsKnown, Holds, Fails, IsReasonOf, label_word, HasLabels, AreGoodEntries}
 use Rattle.sfm_text.proofs.GroupCuts.{group_tokens}
 use Rattle.sfm_text.proofs.LongReasons.{AreNumbers, AreKnown, long-shape, long-number, long-name, long-label, long-twice, long-slot}
 use Rattle.sfm_text.proofs.Matches.{AllZip-at, length-AllZip}
@@ -89,7 +89,7 @@ slots-by texts false (k, lt, h) = (k, get_or texts k [], lt, sym (get_or_default
 -- ---- a line
 
 -- a line of a rank with such a word is one of it
-labelled-here : (rank : RankKind) → HasLabels rank → (number : List ℕ) (more : List (List ℕ)) (parts : LineParts) → IsRankLine (number ∷ label_word rank ∷ more) parts → IsLabelledLine rank (label_word rank) (number ∷ label_word rank ∷ more) parts
+pub labelled-here : (rank : RankKind) → HasLabels rank → (number : List ℕ) (more : List (List ℕ)) (parts : LineParts) → IsRankLine (number ∷ label_word rank ∷ more) parts → IsLabelledLine rank (label_word rank) (number ∷ label_word rank ∷ more) parts
 labelled-here NoRank has number more parts h = absurd has
 labelled-here UniformRank has number more parts h = absurd has
 labelled-here LaminarRank has number more parts h = absurd has
@@ -116,16 +116,6 @@ entry-none rank tokens behind entries same each (k, token, lt, e, none) =
     let (entry, p) = AllZip-at (IsLabelToken rank) tokens entries k token each' lt in
     none (entry, rw e at p)
 
--- an entry in which a slot stands twice
-slot-twice : (rank : RankKind) (tokens : List (List ℕ)) (entries : List (List ℕ × List (List ℕ))) → AllZip (IsLabelToken rank) tokens entries → HasRepeatedSlot rank tokens → HasSlotTwice rank (map (λ entry. entry.1) entries)
-slot-twice NoRank tokens entries each again = absurd again
-slot-twice UniformRank tokens entries each again = absurd again
-slot-twice LaminarRank tokens entries each again = absurd again
-slot-twice GraphicRank tokens entries each again = absurd again
-slot-twice TransversalRank tokens entries each again =
-    matched-one (IsLabelToken TransversalRank) RepeatsSlot (λ (entry : List ℕ × List (List ℕ)). entry.1) (λ slots. StandsTwice slots)
-    (λ token entry p (other, q, twice). let same : other ≡ entry = token-same TransversalRank token other entry q p in rw same at twice) tokens entries each again
-
 module _ (i : InstanceData) (rank : RankKind) (has : HasLabels rank) (number colon : List ℕ) (tokens more : List (List ℕ)) (is : more ≡ colon ∷ tokens) where
   labelled-same : (parts : LineParts) → IsRankLine (number ∷ label_word rank ∷ more) parts → (h : IsLabelledLine rank (label_word rank) (number ∷ label_word rank ∷ more) parts) × ((number ≡ h.number) × (colon ≡ codes ":") × (tokens ≡ h.behind))
   labelled-same parts h =
@@ -143,10 +133,10 @@ module _ (i : InstanceData) (rank : RankKind) (has : HasLabels rank) (number col
   labelled-entry any = long-shape i RankWord (number ∷ label_word rank ∷ more) (λ parts h. let (l, same) = labelled-same parts h in entry-none rank tokens l.behind l.entries same.2 l.each any)
 
   module _ (some : 0 < length tokens) (no_mark : IsMark number → ⊥) (is_colon : colon ≡ codes ":") (entries : List (List ℕ × List (List ℕ))) (each : AllZip (IsLabelToken rank) tokens entries) where
-    abbrev labelled-parts : LineParts
+    abbrev pub labelled-parts : LineParts
     labelled-parts = labelled_parts_of rank number entries
 
-    labelled-line : IsRankLine (number ∷ label_word rank ∷ more) labelled-parts
+    pub labelled-line : IsRankLine (number ∷ label_word rank ∷ more) labelled-parts
     labelled-line = labelled-there rank has (number ∷ label_word rank ∷ more) labelled-parts (record {
       number = number;
       behind = tokens;
@@ -177,7 +167,7 @@ module _ (i : InstanceData) (rank : RankKind) (has : HasLabels rank) (number col
         elements-known = matched-each (IsLabelToken rank) (Holds i.names (LabelledElement rank)) (λ (entry : List ℕ × List (List ℕ)). entry.0) (IsElement i.names)
             (λ token entry p (other, q, element). let same : other ≡ entry = token-same rank token other entry q p in rw same at element) tokens entries each known
 
-        labels-named : All (λ texts. All IsName texts) (map (λ entry. entry.1) entries)
+        pub labels-named : All (λ texts. All IsName texts) (map (λ entry. entry.1) entries)
         labels-named = matched-all (IsLabelToken rank) (Holds i.names (NamedLabels rank)) (λ (entry : List ℕ × List (List ℕ)). entry.1) (λ texts. All IsName texts)
             (λ token entry p (other, q, good). let same : other ≡ entry = token-same rank token other entry q p in rw same at good) tokens entries each names
 
@@ -185,9 +175,8 @@ module _ (i : InstanceData) (rank : RankKind) (has : HasLabels rank) (number col
         labelled-twice many = long-twice i RankWord (number ∷ label_word rank ∷ more) labelled-parts labelled-line labelled-values named elements-known refl labels-named
             (omega (arith, many, length-map entries (λ (entry : List ℕ × List (List ℕ)). entry.0), length-AllZip (IsLabelToken rank) tokens entries each))
 
-        pub labelled-slot : HasRepeatedSlot rank tokens → IsReasonOf i RankWord (number ∷ label_word rank ∷ more) Twice
-        labelled-slot again = long-slot i RankWord (number ∷ label_word rank ∷ more) labelled-parts labelled-line labelled-values named elements-known refl labels-named
-            (slot-twice rank tokens entries each again)
+        pub labelled-slot : HasSlotTwice rank (map (λ entry. entry.1) entries) → IsReasonOf i RankWord (number ∷ label_word rank ∷ more) Twice
+        labelled-slot again = long-slot i RankWord (number ∷ label_word rank ∷ more) labelled-parts labelled-line labelled-values named elements-known refl labels-named again
 
 -- elements with labels that have no reason before that something stands twice
 module _ (i : InstanceData) (rank : RankKind) (has : HasLabels rank) (number colon : List ℕ) (tokens more : List (List ℕ)) (is : more ≡ colon ∷ tokens) (some : 0 < length tokens) (named : AreElementNames i.names) (good : AreGoodEntries i.names rank number colon tokens) where
@@ -195,8 +184,3 @@ module _ (i : InstanceData) (rank : RankKind) (has : HasLabels rank) (number col
   many-entries many =
       let (entries, each) = all-matched (IsLabelToken rank) tokens good.each in
       labelled-twice i rank has number colon tokens more is some good.no_mark good.is_colon entries each good.is_number named good.known good.named many
-
-  pub entry-again : HasRepeatedSlot rank tokens → IsReasonOf i RankWord (number ∷ label_word rank ∷ more) Twice
-  entry-again again =
-      let (entries, each) = all-matched (IsLabelToken rank) tokens good.each in
-      labelled-slot i rank has number colon tokens more is some good.no_mark good.is_colon entries each good.is_number named good.known good.named again

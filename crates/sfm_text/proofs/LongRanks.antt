@@ -24,7 +24,7 @@ word-by token word true is = (bytes_eq-Decides token word).0 (sym is)
 word-by token word false is = λ same. false≢true (is ∙ (bytes_eq-Decides token word).1 same)
 
 -- the second token of a line of a rank is the word of one
-second : (number kind n k : List ℕ) (more rest : List (List ℕ)) → number ∷ kind ∷ more ≡ n ∷ k ∷ rest → kind ≡ k
+pub second : (number kind n k : List ℕ) (more rest : List (List ℕ)) → number ∷ kind ∷ more ≡ n ∷ k ∷ rest → kind ≡ k
 second number kind n k more rest e = cc
 
 -- no line of a rank has another word there

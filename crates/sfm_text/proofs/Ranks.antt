@@ -96,14 +96,14 @@ rank-same tokens p q (inr (inl h)) g = laminar-same tokens p q h (one-rank token
 rank-same tokens p q (inr (inr (inl h))) g = labelled-same GraphicRank (codes "graphic") tokens p q h (one-rank tokens p q GraphicRank (inr (inr (inl h))) g (rank-of-labelled GraphicRank (codes "graphic") tokens p h))
 rank-same tokens p q (inr (inr (inr h))) g = labelled-same TransversalRank (codes "transversal") tokens p q h (one-rank tokens p q TransversalRank (inr (inr (inr h))) g (rank-of-labelled TransversalRank (codes "transversal") tokens p h))
 
--- a line that is of none of the ranks but perhaps the last
-pub rank-made : {P : Type 0} (f : P → LineParts) (tokens : List (List ℕ)) → ((parts : LineParts) → IsUniformLine tokens parts → ⊥) → ((parts : LineParts) → IsLaminarLine tokens parts → ⊥) → ((parts : LineParts) → IsLabelledLine GraphicRank (codes "graphic") tokens parts → ⊥) → (r : Option P)
-    → MatchOption r ((parts : LineParts) → IsLabelledLine TransversalRank (codes "transversal") tokens parts → ⊥) (λ parts. IsLabelledLine TransversalRank (codes "transversal") tokens (f parts)) → MatchOption r ((parts : LineParts) → IsRankLine tokens parts → ⊥) (λ parts. IsRankLine tokens (f parts))
-rank-made f tokens uniform laminar graphic None h = none-of
+-- a line that is of none of the ranks but perhaps a graphic one
+pub rank-made : {P : Type 0} (f : P → LineParts) (tokens : List (List ℕ)) → ((parts : LineParts) → IsUniformLine tokens parts → ⊥) → ((parts : LineParts) → IsLaminarLine tokens parts → ⊥) → ((parts : LineParts) → IsLabelledLine TransversalRank (codes "transversal") tokens parts → ⊥) → (r : Option P)
+    → MatchOption r ((parts : LineParts) → IsLabelledLine GraphicRank (codes "graphic") tokens parts → ⊥) (λ parts. IsLabelledLine GraphicRank (codes "graphic") tokens (f parts)) → MatchOption r ((parts : LineParts) → IsRankLine tokens parts → ⊥) (λ parts. IsRankLine tokens (f parts))
+rank-made f tokens uniform laminar entries None h = none-of
   where
     none-of : (parts : LineParts) → IsRankLine tokens parts → ⊥
     none-of parts (inl u) = uniform parts u
     none-of parts (inr (inl l)) = laminar parts l
-    none-of parts (inr (inr (inl g))) = graphic parts g
-    none-of parts (inr (inr (inr t))) = h parts t
-rank-made f tokens uniform laminar graphic (Some parts) h = inr (inr (inr h))
+    none-of parts (inr (inr (inl g))) = h parts g
+    none-of parts (inr (inr (inr t))) = entries parts t
+rank-made f tokens uniform laminar entries (Some parts) h = inr (inr (inl h))

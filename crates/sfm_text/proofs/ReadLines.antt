@@ -11,7 +11,7 @@ use Rattle.sfm_text.specs.CutParts.{IsTableCount}
 use Rattle.sfm_text.specs.Words.{lowest_of}
 use Rattle.sfm_text.specs.TermLines.{AreRead, IsNumberFrom}
 use Rattle.sfm_text.specs.declared.word.RankKind.{RankKind}
-use Rattle.sfm_text.specs.declared.word.RankKind.TheVariants.{NoRank, UniformRank, LaminarRank, GraphicRank, TransversalRank}
+use Rattle.sfm_text.specs.declared.word.RankKind.TheVariants.{NoRank, UniformRank, LaminarRank, GraphicRank}
 use Rattle.sfm_text.specs.declared.word.TermWord.{TermWord}
 use Rattle.sfm_text.specs.declared.word.TermWord.TheVariants.{WeightWord, CutWord, NeedWord, CoverWord, TableWord, ConcaveWord, RankWord}
 use Rattle.sfm_text.proofs.Matches.{length-AllZip, All-AllZip}
@@ -163,19 +163,6 @@ module _ (parts : LineParts) (values : List ℤ) (places : List ℕ) (h : AreRea
         let each : All (λ (e : List ℕ × List (List ℕ)). length e.1 ≡ 2) line.entries = All-AllZip (IsLabelToken GraphicRank) (λ (e : List ℕ × List (List ℕ)). length e.1 ≡ 2) (λ token e edge. let (tail, head, ends, is) = edge.labels in ap length is) line.behind line.entries line.each in
         let all = All-map (λ texts. length texts ≡ 2) (λ (e : List ℕ × List (List ℕ)). e.1) line.entries each in
         rw (ap (λ (p : LineParts). p.labels) line.parts_are) all
-
-  module _ (is : parts.rank ≡ TransversalRank) where
-    as-transversal : IsLabelledLine TransversalRank (codes "transversal") h.tokens parts
-    as-transversal = subst (λ (r : RankKind). IsLineOfRank r h.tokens parts) is (line-of-rank h.tokens parts h.shape)
-
-    pub transversal-one : length values ≡ 1
-    transversal-one = labelled-one TransversalRank (codes "transversal") as-transversal
-
-    pub transversal-each : length parts.labels ≡ length places
-    transversal-each = labelled-each TransversalRank (codes "transversal") as-transversal
-
-    pub transversal-elements : AreElements places
-    transversal-elements = labelled-elements TransversalRank (codes "transversal") as-transversal
 
 -- a list of two
 two-of : (values : List ℤ) (d e : ℤ) → length values ≡ 2 → get_or values 0 d ∷ get_or values 1 e ∷ [] ≡ values

@@ -1,5 +1,5 @@
 -- Two terms that one line stands for have the same places and the same size.
-use Rattle.std.proofs.Common.{◌≡◌, ◌≢◌, ℕ, ◌<◌, ◌≤◌, ◌^◌, inl, inr, List, [], ◌∷◌, ◌++◌, length, map, get_or, AllPairs, ℤ, pos, refl, sym, ap, ◌∙◌, arith}
+use Rattle.std.proofs.Common.{◌≡◌, ◌≢◌, ℕ, ◌<◌, ◌≤◌, ◌^◌, inl, inr, List, [], ◌∷◌, ◌++◌, length, map, take, get_or, AllPairs, ℤ, pos, refl, sym, ap, ◌∙◌, arith}
 use Rattle.std.specs.List.{AllZip}
 use Rattle.std.proofs.lemmas.Int.{ints, by_lt_z}
 use Rattle.std.proofs.lemmas.Bool.{cases_lt}
@@ -89,7 +89,7 @@ graphic-made parts values (Graphic graphic) h = (graphic, refl, h.0, h.1)
 graphic-made parts values _ h = absurd h
 
 transversal-made : (parts : LineParts) (values : List ℤ) (term : Kind) → IsRankMadeOf TransversalRank parts values term
-    → (transversal : transversals.Transversal) × (term ≡ Transversal transversal) × (transversal.w ≡ slice_index_or values 0 (pos 0)) × (transversal.entries ≡ numbers_of parts.labels)
+    → (transversal : transversals.Transversal) × (term ≡ Transversal transversal) × (transversal.w ≡ slice_index_or values 0 (pos 0)) × (transversal.entries ≡ numbers_of (map (take (length parts.labels)) parts.labels))
 transversal-made parts values (Transversal transversal) h = (transversal, refl, h.0, h.1)
 transversal-made parts values _ h = absurd h
 

@@ -1,16 +1,19 @@
 -- The slots of a text, one after another: the first of them, and those that are left behind it.
-use Rattle.std.proofs.Common.{◌≡◌, ℕ, ◌+◌, ◌-◌, ◌<◌, ◌≤◌, List, [], ◌∷◌, ◌++◌, length, take, drop, not, refl, ap, ◌∙◌, drop-cons, add-one, inl, inr, ◌⊎◌, arith}
+use Rattle.std.proofs.Common.{◌≡◌, ◌↔◌, IsTrue, Bool, true, false, MatchBool, ℕ, ◌+◌, ◌-◌, ◌<◌, ◌≤◌, List, [], ◌∷◌, ◌++◌, length, take, drop, not, refl, ap, ◌∙◌, drop-cons, add-one, inl, inr, ◌⊎◌, arith}
 use Rattle.std.specs.Prelude.{◌==◌}
 use Rattle.std.specs.List.{position_or_len}
-use Rattle.std.proofs.lemmas.Bool.{cases_lt}
+use Rattle.std.proofs.lemmas.Bool.{false≢true, cases_lt}
 use Rattle.std.proofs.lemmas.List.{take_all, drop_all}
 use Rattle.std.proofs.lemmas.List.Sums.{prefix_len-le-length}
 use Rattle.std.proofs.lemmas.List.Splits.{slice_split_first}
 use Rattle.std.proofs.Math.Seq.{drop-append_seam}
 use Rattle.sfm_text.specs.Lines.{pieces_of}
-use Rattle.sfm_text.specs.Passes.{slots_behind}
-use Rattle.sfm_text.specs.Parts.{IsCutAt}
+use Rattle.sfm_text.specs.Passes.{slots_behind, RepeatsSlot}
+use Rattle.sfm_text.specs.Parts.{IsCutAt, IsLabelToken}
+use Rattle.sfm_text.specs.TermLines.{StandsTwice}
+use Rattle.sfm_text.specs.declared.word.RankKind.TheVariants.{TransversalRank}
 use Rattle.sfm_text.proofs.LineCuts.{split-none, rest-is}
+use Rattle.sfm_text.proofs.Ranks.{token-same}
 
 -- what stands behind a slot begins with the comma
 left-behind : (text : List ℕ) (e : ℕ) → e < length text → slots_behind (drop e text) ≡ pieces_of 44 (drop (e + 1) text)
@@ -43,3 +46,14 @@ slots-cut token before behind h =
     length-sum : (xs ys : List ℕ) → length (xs ++ ys) ≡ length xs + length ys
     length-sum [] ys = omega arith
     length-sum (x ∷ xs) ys = omega (arith, length-sum xs ys)
+
+-- an entry is cut in one way, so its slots tell whether one of them stands twice
+pub entry-there : (token element behind : List ℕ) → IsCutAt 61 token element behind → IsLabelToken TransversalRank token (element, pieces_of 44 behind)
+entry-there token element behind cut = record { behind = behind; named = cut; labels = refl }
+
+pub repeats-by : (token element behind : List ℕ) → IsCutAt 61 token element behind → (b : Bool) → (IsTrue b ↔ StandsTwice (pieces_of 44 behind)) → MatchBool b (RepeatsSlot token) (RepeatsSlot token → ⊥)
+repeats-by token element behind cut true h = ((element, pieces_of 44 behind), entry-there token element behind cut, h.0 refl)
+repeats-by token element behind cut false h = λ (entry, p, twice).
+    let same : entry ≡ (element, pieces_of 44 behind) = token-same TransversalRank token entry (element, pieces_of 44 behind) p (entry-there token element behind cut) in
+    let slots : entry.1 ≡ pieces_of 44 behind = ap (λ (e : List ℕ × List (List ℕ)). e.1) same in
+    false≢true (h.1 (rw slots at twice))

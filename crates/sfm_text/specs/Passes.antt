@@ -1,5 +1,5 @@
 -- What a token of a long line is tried for, and what the reason of such a line is.
-use Rattle.std.specs.Prelude.{◌≡◌, ◌≢◌, ℕ, ◌<◌, List, [], ◌∷◌, ◌++◌, length, take, codes, Any, ℤ}
+use Rattle.std.specs.Prelude.{◌≡◌, ◌≢◌, ℕ, ◌<◌, ◌≤◌, List, [], ◌∷◌, ◌++◌, length, take, codes, Any, ℤ}
 use Rattle.std.specs.List.{All}
 use Rattle.sfm_spec.specs.Names.{IsName}
 use Rattle.sfm_spec.specs.Kinds.{Group}
@@ -16,7 +16,7 @@ use Rattle.sfm_text.specs.declared.word.RankKind.TheVariants.{NoRank, UniformRan
 use Rattle.sfm_text.specs.declared.word.TermWord.{TermWord}
 use Rattle.sfm_text.specs.declared.word.TermWord.TheVariants.{WeightWord, ConcaveWord, RankWord}
 use Rattle.sfm_text.specs.Lines.{pieces_of, tokens_of}
-use Rattle.sfm_text.specs.Parts.{IsMark, IsPairToken, IsLabelToken}
+use Rattle.sfm_text.specs.Parts.{LineParts, IsMark, IsPairToken, IsLabelToken, IsLabelledLine}
 use Rattle.sfm_text.specs.Words.{word_text, lowest_of}
 use Rattle.sfm_text.specs.TermLines.{IsNumberFrom, IsElement, StandsTwice}
 use Rattle.sfm_text.specs.Reading.{FirstReason}
@@ -80,11 +80,6 @@ texts_between Comma line = slots_behind line
 abbrev pub RepeatsSlot : List ℕ → Type 0
 RepeatsSlot token = (entry : List ℕ × List (List ℕ)) × IsLabelToken TransversalRank token entry × StandsTwice entry.1
 
--- some token is such an entry, in the line of that rank
-abbrev pub HasRepeatedSlot : RankKind → List (List ℕ) → Type 0
-HasRepeatedSlot TransversalRank tokens = Any RepeatsSlot tokens
-HasRepeatedSlot _ tokens = ⊥
-
 -- elements with labels that have no reason before that something stands twice
 pub record AreGoodEntries (names : List (List ℕ)) (rank : RankKind) (number colon : List ℕ) (tokens : List (List ℕ)) : Type 0 where
   pub no_mark : IsMark number → ⊥
@@ -93,6 +88,17 @@ pub record AreGoodEntries (names : List (List ℕ)) (rank : RankKind) (number co
   pub is_number : IsNumberOf RankWord number
   pub known : All (Holds names (LabelledElement rank)) tokens
   pub named : All (Holds names (NamedLabels rank)) tokens
+
+-- entries of a transversal rank that have no reason but perhaps that an element stands twice
+pub record AreFewEntries (names : List (List ℕ)) (number colon : List ℕ) (tokens : List (List ℕ)) : Type 0 where
+  pub good : AreGoodEntries names TransversalRank number colon tokens
+  pub few : length tokens ≤ 256
+  pub once : All (λ token. RepeatsSlot token → ⊥) tokens
+
+-- the tokens behind the word are those of a line of a transversal rank
+abbrev pub IsEntryLine : TermWord → List (List ℕ) → Type 0
+IsEntryLine RankWord tokens = (parts : LineParts) × IsLabelledLine TransversalRank (codes "transversal") tokens parts
+IsEntryLine _ tokens = ⊥
 
 -- the tokens are those that are kept and then the rest, and none is kept twice
 pub record IsKept (tokens kept rest : List (List ℕ)) : Type 0 where

@@ -1,6 +1,6 @@
 -- What a rank line says: the groups that it tells, the law that these may break, and the term that it stands for. Each rank
 -- brings one case to each definition by ranks.
-use Rattle.std.specs.Prelude.{◌≡◌, ℕ, ◌+◌, Bool, if◌then◌else◌, List, [], ◌∷◌, length, map, slice_index_or, bytes_eq, ℤ, pos}
+use Rattle.std.specs.Prelude.{◌≡◌, ℕ, ◌+◌, Bool, if◌then◌else◌, List, [], ◌∷◌, length, map, take, slice_index_or, bytes_eq, ℤ, pos}
 use Rattle.std.specs.Int.Signed.{le_z}
 use Rattle.std.specs.List.{filter, fold, list_any, range_with_len}
 use Rattle.sfm_spec.specs.Kinds.{Group}
@@ -45,10 +45,11 @@ BreaksRankLaw _ parts values = ⊥
 
 -- the term is of that rank, and has the numbers, groups and labels of the line: the first number is what each independent
 -- element counts, and the second of a uniform rank its cap. Of groups with the same members one stands for all, which has their least
--- cap: so a part is within the caps of the term exactly where it is within those of the line
+-- cap: so a part is within the caps of the term exactly where it is within those of the line. Of an entry its first slots stand for
+-- all, as many as the line has elements: so a part is independent with these exactly where it is with all
 abbrev pub IsRankMadeOf : RankKind → LineParts → List ℤ → Kind → Type 0
 IsRankMadeOf UniformRank parts values (Uniform term) = term.w ∷ term.cap ∷ [] ≡ values
 IsRankMadeOf LaminarRank parts values (Laminar term) = (term.w ≡ slice_index_or values 0 (pos 0)) × (term.groups ≡ least_groups (groups_of values parts))
 IsRankMadeOf GraphicRank parts values (Graphic term) = (term.w ≡ slice_index_or values 0 (pos 0)) × (term.ends ≡ map edge_between (numbers_of parts.labels))
-IsRankMadeOf TransversalRank parts values (Transversal term) = (term.w ≡ slice_index_or values 0 (pos 0)) × (term.entries ≡ numbers_of parts.labels)
+IsRankMadeOf TransversalRank parts values (Transversal term) = (term.w ≡ slice_index_or values 0 (pos 0)) × (term.entries ≡ numbers_of (map (take (length parts.labels)) parts.labels))
 IsRankMadeOf _ parts values term = ⊥

@@ -7,6 +7,7 @@ ghost use Rattle.sfm_text.specs.Lines.{texts_of, tokens_of};
 ghost use Rattle.sfm_text.specs.Words.{word_text};
 ghost use Rattle.sfm_text.specs.Reading.{IsBadByte, AreTooMuch};
 ghost use Rattle.sfm_text.specs.ReadParts.{bytes_in, state_at, IsOutcome, IsTermRead};
+ghost use Rattle.sfm_text.specs.Passes.{IsEntryLine};
 ghost use Rattle.sfm_text.specs.GoodText.{text_limit};
 ghost use Rattle.sfm_text.specs.Adding.{IsTermAdded, IsTermRefusal};
 ghost use Rattle.sfm_text.specs.declared.stage.Stage.TheVariants.{Terms};
@@ -80,7 +81,7 @@ fn add_made(instance: &mut Instance, term: Kind) -> Result<(), LineEnd>
     Ok(())
 }
 
-/// Adds the term of a line with this word and these tokens behind it.
+/// Adds the term of a line with this word and these tokens behind it, which is none of a transversal rank.
 fn add_read(
     alloc: Global,
     instance: &mut Instance,
@@ -88,6 +89,7 @@ fn add_read(
     tokens: &[&[u8]],
 ) -> Result<(), LineEnd>
     requires short { bytes_in (texts_of tokens.now) < 2 ^ 24 }
+    requires other { IsEntryLine word (texts_of tokens.now) → ⊥ }
     ensures outcome { IsOutcome (state_at Terms instance.old) (word_text word ∷ texts_of tokens.now) result (state_at Terms instance.new) }
     ensures unchanged { OnErr result (instance.new ≡ instance.old) }
 {
@@ -114,7 +116,7 @@ pub fn add_line(alloc: Global, instance: &mut Instance, line: &[u8]) -> Result<(
         return Err(LineEnd::Fault(Reason::Word));
     };
     let _count = instance.names_len();
-    if let Some(reason) = early_reason(alloc, instance, word, rest)? {
+    if let Some(reason) = early_reason(instance, word, rest) {
         return Err(LineEnd::Fault(reason));
     }
     if let Some(term) = early_term(alloc, instance, word, rest)? {

@@ -1,18 +1,18 @@
 // The line `rank`, a number, `graphic`, a colon, and at least one edge `name=vertex-vertex`.
-ghost use Rattle.std.specs.Prelude.{◌≡◌, ◌<◌, ℕ, length, map, pos, ◌^◌, ◌≤ℤ◌, MatchOption, IfOk, codes};
+ghost use Rattle.std.specs.Prelude.{◌≡◌, ◌<◌, ℕ, List, length, map, pos, ◌^◌, ◌≤ℤ◌, MatchOption, IfOk, codes};
 ghost use Rattle.std.specs.List.{All};
 ghost use Rattle.sfm_spec.specs.Bounds.{IsAtMost, AreElements};
 ghost use Rattle.sfm_matroid.specs.Ends.{edges_of};
 ghost use Rattle.sfm_text.specs.Lines.{texts_of};
-ghost use Rattle.sfm_text.specs.Parts.{LineParts, IsLabelledLine};
+ghost use Rattle.sfm_text.specs.Parts.{LineParts, IsLabelToken, IsLabelledLine};
 ghost use Rattle.sfm_text.specs.LabelTerms.{edge_between};
-ghost use Rattle.sfm_text.specs.CutParts.{place_among};
+ghost use Rattle.sfm_text.specs.CutParts.{AreLabelled, labelled_parts_of, place_among};
 ghost use Rattle.sfm_text.specs.ReadParts.{IsTermOf, parts_of, label_lists_of, joined};
 ghost use Rattle.sfm_text.specs.declared.word.TermWord.TheVariants.{RankWord};
 ghost use Rattle.sfm_text.specs.declared.word.RankKind.TheVariants.{GraphicRank};
 
-use crate::labelled_line::labelled_parts;
 use crate::labels::{Labels, different, number_of};
+use crate::pair::cut_once;
 use crate::parts::Parts;
 use crate::rank_head::cut_head;
 use crate::word::RankKind;
@@ -21,6 +21,58 @@ use sfm_base::Memory;
 use sfm_kind::Kind;
 use sfm_matroid::Graphic;
 use std::alloc::{AllocError, Global};
+
+/// An element and the two ends of its edge, or None where the token is no edge.
+fn cut_edge<'a>(
+    alloc: Global,
+    token: &'a [u8],
+) -> Result<Option<(&'a [u8], Labels<'a>)>, AllocError>
+    ensures { IfOk result (λ r. MatchOption r
+        ((entry : List ℕ × List (List ℕ)) → IsLabelToken GraphicRank token.now entry → ⊥)
+        (λ p. IsLabelToken GraphicRank token.now (p.0.now, texts_of p.1.texts.items))) }
+{
+    let Some((element, behind)) = cut_once(token, b'=') else {
+        return Ok(None);
+    };
+    let Some((tail, head)) = cut_once(behind, b'-') else {
+        return Ok(None);
+    };
+    let texts = vec![in alloc; tail, head]?;
+    Ok(Some((element, Labels { texts })))
+}
+
+/// The parts of a line with this number and these tokens behind the colon, or None where they do not have the line's shape.
+fn edge_parts<'a, 'b>(
+    alloc: Global,
+    number: &'a [u8],
+    tokens: &[&'a [u8]],
+) -> Result<Option<Parts<'a, 'b>>, AllocError>
+    ensures { IfOk result (λ r. MatchOption r
+        ((entries : List (List ℕ × List (List ℕ))) → AreLabelled GraphicRank (texts_of tokens.now) entries → ⊥)
+        (λ parts. (entries : List (List ℕ × List (List ℕ))) × AreLabelled GraphicRank (texts_of tokens.now) entries
+        × (parts_of parts ≡ labelled_parts_of GraphicRank number.now entries))) }
+{
+    if tokens.is_empty() {
+        return Ok(None);
+    }
+    let mut elements = Vec::new(alloc);
+    let mut labels = Vec::new(alloc);
+    for token in tokens {
+        let Some((element, texts)) = cut_edge(alloc, token)? else {
+            return Ok(None);
+        };
+        elements.push(element)?;
+        labels.push(texts)?;
+    }
+    let numbers = vec![in alloc; number]?;
+    Ok(Some(Parts {
+        numbers,
+        elements,
+        rank: RankKind::GraphicRank,
+        groups: Vec::new(alloc),
+        labels,
+    }))
+}
 
 /// The parts of the tokens behind the word, or None where they do not have the line's shape.
 pub fn graphic_parts<'a, 'b>(
@@ -34,7 +86,7 @@ pub fn graphic_parts<'a, 'b>(
     let Some((number, behind)) = cut_head(b"graphic", tokens) else {
         return Ok(None);
     };
-    labelled_parts(alloc, RankKind::GraphicRank, number, behind)
+    edge_parts(alloc, number, behind)
 }
 
 /// The ends of the edges, by the places of their names among these.

@@ -1,19 +1,15 @@
-// The labels of the elements of a line: the ends of edges, or the slots of entries. Whether they have the form of names,
-// whether a slot stands twice in an entry, and the numbers that stand for them. Equal labels of a line have one number, and
-// the numbers go up from 0 in the order in which labels first appear, as an insertion into a set in that order counts them.
+// The labels of the elements of a line: the ends of edges, or the slots of entries. Whether they have the form of names, and the
+// numbers that stand for them. Equal labels of a line have one number, and the numbers go up from 0 in the order in which labels
+// first appear, as an insertion into a set in that order counts them.
 ghost use Rattle.std.specs.Prelude.{◌≡◌, ◌<◌, ◌^◌, ◌++◌, ℕ, List, length, map, Any, IfOk, OnOk, MatchBool};
 ghost use Rattle.std.specs.List.{All};
 ghost use Rattle.sfm_spec.specs.Names.{IsName};
 ghost use Rattle.sfm_text.specs.Lines.{texts_of};
 ghost use Rattle.sfm_text.specs.LabelTerms.{distinct_of};
 ghost use Rattle.sfm_text.specs.CutParts.{place_among};
-ghost use Rattle.sfm_text.specs.TermLines.{StandsTwice};
-ghost use Rattle.sfm_text.specs.Reading.{HasSlotTwice};
 ghost use Rattle.sfm_text.specs.ReadParts.{label_lists_of, joined};
 
 use crate::names::are_names;
-use crate::repeat::has_repeat;
-use crate::word::RankKind;
 use indexmap::IndexSet;
 use sfm_base::Memory;
 use std::alloc::Global;
@@ -36,33 +32,6 @@ pub fn are_labels(labels: &[Labels]) -> bool
         }
     }
     true
-}
-
-/// Whether a label stands twice at some element.
-fn has_label_twice(alloc: Global, labels: &[Labels]) -> Result<bool, Memory>
-    ensures { IfOk result (λ r. MatchBool r
-        (Any (λ texts. StandsTwice texts) (label_lists_of labels.now))
-        (All (λ texts. StandsTwice texts → ⊥) (label_lists_of labels.now))) }
-{
-    for element in labels {
-        if has_repeat(alloc, &element.texts)? {
-            return Ok(true);
-        }
-    }
-    Ok(false)
-}
-
-/// Whether a slot stands twice in some entry of a line of this rank.
-pub fn has_slot_twice(alloc: Global, rank: RankKind, labels: &[Labels]) -> Result<bool, Memory>
-    ensures { IfOk result (λ r. MatchBool r
-        (HasSlotTwice rank (label_lists_of labels.now))
-        (HasSlotTwice rank (label_lists_of labels.now) → ⊥)) }
-{
-    match rank {
-        RankKind::TransversalRank => has_label_twice(alloc, labels),
-        RankKind::NoRank | RankKind::UniformRank | RankKind::LaminarRank | RankKind::GraphicRank =>
-            Ok(false),
-    }
 }
 
 /// Puts those of the texts that are new behind the names.

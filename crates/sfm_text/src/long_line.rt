@@ -1,16 +1,18 @@
 // The first reason of a long term line, told by passes over its tokens, so that no list of them is made. A line that names
 // each element at most once has at most 513 tokens behind its word, but where the line of a laminar rank names its groups. So a
 // longer line is not good: where its shape, its numbers and its names are, an element stands twice, as there are at most 256.
-// A line of a laminar rank may be good however long it is, and its term is told by passes too.
-ghost use Rattle.std.specs.Prelude.{◌<◌, length, IsTrue, IfErr, IfOk, IfSome};
+// A line of a laminar rank may be good however long it is, and its term is told by passes too; so is that of each line of a
+// transversal rank, as one entry may have millions of slots.
+ghost use Rattle.std.specs.Prelude.{◌<◌, length, IsTrue, IfErr, IfOk, IfSome, MatchOption};
 ghost use Rattle.sfm_kind.specs.Names.{AreElementNames};
 ghost use Rattle.sfm_text.specs.Lines.{tokens_of};
-ghost use Rattle.sfm_text.specs.Passes.{IsReasonOf};
+ghost use Rattle.sfm_text.specs.Passes.{IsEntryLine, IsReasonOf};
 ghost use Rattle.sfm_text.specs.ReadParts.{IsTermRead};
 ghost use Rattle.sfm_text.specs.GroupPasses.{IsRefusedBy};
-ghost use Rattle.sfm_text.specs.declared.word.TermWord.TheVariants.{WeightWord, CoverWord, ConcaveWord};
+ghost use Rattle.sfm_text.specs.declared.word.TermWord.TheVariants.{WeightWord, CoverWord, ConcaveWord, RankWord};
 
 use crate::concave_line::is_concave_count;
+use crate::entry_line::entry_line_term;
 use crate::line_fault::LineEnd;
 use crate::long_laminar::laminar_line_term;
 use crate::long_rank::rank_reason;
@@ -19,7 +21,6 @@ use crate::reason::Reason;
 use crate::token_test::{TokenTest, is_number_of};
 use crate::tokens::{first_token, has_token};
 use crate::word::TermWord;
-use sfm_base::Memory;
 use sfm_kind::{Instance, Kind};
 use std::alloc::Global;
 
@@ -113,25 +114,52 @@ fn long_reason(instance: &Instance, word: TermWord, line: &[u8]) -> Option<Reaso
 
 /// The first reason of a line with this word and these tokens behind it, where passes tell it: if the line is long, or that of
 /// a rank.
-pub fn early_reason(
-    alloc: Global,
-    instance: &Instance,
-    word: TermWord,
-    line: &[u8],
-) -> Result<Option<Reason>, Memory>
+pub fn early_reason(instance: &Instance, word: TermWord, line: &[u8]) -> Option<Reason>
     requires { AreElementNames instance.now.names }
-    ensures { IfOk result (λ r. IfSome r (IsReasonOf instance.now word (tokens_of line.now))) }
+    ensures { IfSome result (IsReasonOf instance.now word (tokens_of line.now)) }
 {
     if word == TermWord::RankWord {
-        return rank_reason(alloc, instance, line);
+        return rank_reason(instance, line);
     }
     if !is_long(line) {
-        return Ok(None);
+        return None;
     }
-    Ok(long_reason(instance, word, line))
+    long_reason(instance, word, line)
 }
 
 /// The term of a long line of a laminar rank, or its first reason, as passes tell it; None where the line is another.
+fn long_laminar_term(
+    alloc: Global,
+    instance: &Instance,
+    line: &[u8],
+) -> Result<Option<Kind>, LineEnd>
+    requires { AreElementNames instance.now.names }
+    ensures read { IfOk result (λ r. IfSome r (IsTermRead instance.now RankWord (tokens_of line.now))) }
+    ensures refused { IfErr result (IsRefusedBy instance.now RankWord (tokens_of line.now)) }
+{
+    if !is_long(line) {
+        return Ok(None);
+    }
+    laminar_line_term(alloc, instance, line)
+}
+
+/// The term of a line of a rank with these tokens behind its word, or its first reason, where passes tell it: if the line is a long
+/// one of a laminar rank, or one of a transversal rank.
+fn early_rank_term(alloc: Global, instance: &Instance, line: &[u8]) -> Result<Option<Kind>, LineEnd>
+    requires { AreElementNames instance.now.names }
+    ensures read { IfOk result (λ r. MatchOption r
+        (IsEntryLine RankWord (tokens_of line.now) → ⊥)
+        (IsTermRead instance.now RankWord (tokens_of line.now))) }
+    ensures refused { IfErr result (IsRefusedBy instance.now RankWord (tokens_of line.now)) }
+{
+    if let Some(term) = long_laminar_term(alloc, instance, line)? {
+        return Ok(Some(term));
+    }
+    entry_line_term(alloc, instance, line)
+}
+
+/// The term of a line with this word and these tokens behind it, or its first reason, where passes tell it; None where the line is
+/// another, and none of a transversal rank.
 pub fn early_term(
     alloc: Global,
     instance: &Instance,
@@ -139,14 +167,13 @@ pub fn early_term(
     line: &[u8],
 ) -> Result<Option<Kind>, LineEnd>
     requires { AreElementNames instance.now.names }
-    ensures read { IfOk result (λ r. IfSome r (IsTermRead instance.now word (tokens_of line.now))) }
+    ensures read { IfOk result (λ r. MatchOption r
+        (IsEntryLine word (tokens_of line.now) → ⊥)
+        (IsTermRead instance.now word (tokens_of line.now))) }
     ensures refused { IfErr result (IsRefusedBy instance.now word (tokens_of line.now)) }
 {
     if word != TermWord::RankWord {
         return Ok(None);
     }
-    if !is_long(line) {
-        return Ok(None);
-    }
-    laminar_line_term(alloc, instance, line)
+    early_rank_term(alloc, instance, line)
 }

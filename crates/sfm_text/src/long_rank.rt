@@ -1,7 +1,8 @@
-// The first reason of a line of a rank, told by passes over its tokens: of a uniform rank where the line is long, and of a rank
-// whose elements have labels however long it is, as one entry may have millions of slots. A line of a laminar rank may be good
-// however long it is, so its term is told by passes together with its reason, in `long_laminar.rt`.
-ghost use Rattle.std.specs.Prelude.{◌≡◌, ◌≢◌, ◌<◌, ◌∷◌, [], length, codes, IfOk, IfSome, MatchBool, MatchOption};
+// The first reason of a line of a rank, told by passes over its tokens: of a uniform rank where the line is long, and of a graphic
+// rank however long it is. A line of a laminar rank may be good however long it is, and so may one of a transversal rank, as one
+// entry may have millions of slots: so their terms are told by passes together with their reasons, in `long_laminar.rt` and
+// `entry_line.rt`.
+ghost use Rattle.std.specs.Prelude.{◌≡◌, ◌≢◌, ◌<◌, ◌∷◌, [], length, codes, IfSome, MatchBool, MatchOption};
 ghost use Rattle.sfm_kind.specs.Names.{AreElementNames};
 ghost use Rattle.sfm_text.specs.Lines.{tokens_of};
 ghost use Rattle.sfm_text.specs.Parts.{LineParts, IsCutAtColon, IsUniformLine};
@@ -11,16 +12,13 @@ ghost use Rattle.sfm_text.specs.declared.word.TermWord.TheVariants.{RankWord};
 use crate::mark::is_mark;
 use crate::passes::{all_hold, has_mark_in, is_colon};
 use crate::reason::Reason;
-use crate::slots::has_repeated_slot;
 use crate::token_test::{TokenTest, is_number_of};
 use crate::tokens::{first_token, has_token};
 use crate::word::{RankKind, TermWord};
-use sfm_base::Memory;
 use sfm_kind::Instance;
-use std::alloc::Global;
 
 /// The most elements of a ground.
-const MOST_ELEMENTS: usize = 256;
+pub const MOST_ELEMENTS: usize = 256;
 
 /// The most tokens behind the word of a uniform rank in a line that is not long.
 const MOST_TOKENS: usize = 1_000;
@@ -100,7 +98,7 @@ fn uniform_reason(instance: &Instance, number: &[u8], behind: &[u8]) -> Reason
 }
 
 /// The first reason of elements with labels before that something stands twice, or None where there is none.
-fn entries_fault(
+pub fn entries_fault(
     instance: &Instance,
     rank: RankKind,
     number: &[u8],
@@ -134,35 +132,24 @@ fn entries_fault(
     None
 }
 
-/// The first reason of a line of a rank whose elements have labels, with this number and these tokens behind its word, or None
-/// where passes tell none.
-fn labelled_reason(
-    alloc: Global,
-    instance: &Instance,
-    rank: RankKind,
-    number: &[u8],
-    behind: &[u8],
-) -> Result<Option<Reason>, Memory>
-    requires names { AreElementNames instance.now.names }
-    requires labels { HasLabels rank }
-    ensures { IfOk result (λ r. IfSome r (IsReasonOf instance.now RankWord (number.now ∷ label_word rank ∷ tokens_of behind.now))) }
+/// The first reason of a line of a graphic rank with this number and these tokens behind its word, or None where passes tell none.
+fn graphic_reason(instance: &Instance, number: &[u8], behind: &[u8]) -> Option<Reason>
+    requires { AreElementNames instance.now.names }
+    ensures { IfSome result (IsReasonOf instance.now RankWord (number.now ∷ codes "graphic" ∷ tokens_of behind.now)) }
 {
-    let Some((colon, entries)) = first_token(behind) else {
-        return Ok(None);
+    let Some((colon, edges)) = first_token(behind) else {
+        return None;
     };
-    if !has_token(entries, 0) {
-        return Ok(None);
+    if !has_token(edges, 0) {
+        return None;
     }
-    if let Some(reason) = entries_fault(instance, rank, number, colon, entries) {
-        return Ok(Some(reason));
+    if let Some(reason) = entries_fault(instance, RankKind::GraphicRank, number, colon, edges) {
+        return Some(reason);
     }
-    if has_token(entries, MOST_ELEMENTS) {
-        return Ok(Some(Reason::Twice));
+    if has_token(edges, MOST_ELEMENTS) {
+        return Some(Reason::Twice);
     }
-    if has_repeated_slot(alloc, rank, entries)? {
-        return Ok(Some(Reason::Twice));
-    }
-    Ok(None)
+    None
 }
 
 /// The first reason of a line of a uniform rank with this number and these tokens behind its word, or None where the line is not
@@ -178,29 +165,20 @@ fn long_uniform_reason(instance: &Instance, number: &[u8], behind: &[u8]) -> Opt
 }
 
 /// The first reason of a line of a rank with these tokens behind its word, or None where passes do not tell it.
-pub fn rank_reason(
-    alloc: Global,
-    instance: &Instance,
-    line: &[u8],
-) -> Result<Option<Reason>, Memory>
+pub fn rank_reason(instance: &Instance, line: &[u8]) -> Option<Reason>
     requires { AreElementNames instance.now.names }
-    ensures { IfOk result (λ r. IfSome r (IsReasonOf instance.now RankWord (tokens_of line.now))) }
+    ensures { IfSome result (IsReasonOf instance.now RankWord (tokens_of line.now)) }
 {
     let Some((number, rest)) = first_token(line) else {
-        return Ok(None);
+        return None;
     };
     let Some((kind, behind)) = first_token(rest) else {
-        return Ok(None);
+        return None;
     };
     match rank_kind(kind) {
-        RankKind::NoRank => Ok(Some(Reason::Shape)),
-        RankKind::UniformRank => Ok(long_uniform_reason(instance, number, behind)),
-        RankKind::LaminarRank => Ok(None),
-        RankKind::GraphicRank => {
-            labelled_reason(alloc, instance, RankKind::GraphicRank, number, behind)
-        }
-        RankKind::TransversalRank => {
-            labelled_reason(alloc, instance, RankKind::TransversalRank, number, behind)
-        }
+        RankKind::NoRank => Some(Reason::Shape),
+        RankKind::UniformRank => long_uniform_reason(instance, number, behind),
+        RankKind::LaminarRank | RankKind::TransversalRank => None,
+        RankKind::GraphicRank => graphic_reason(instance, number, behind),
     }
 }

@@ -1,5 +1,5 @@
 // Reading a term line: its parts are cut out by its word, and each kind of part is then read once for all words.
-ghost use Rattle.std.specs.Prelude.{◌≡◌, ◌<◌, ◌≤◌, ◌↔◌, ◌^◌, ℕ, List, length, ℤ, pos, neg_ℤ, ◌≤ℤ◌, Any, IsTrue, IfOk, IfErr, MatchOption, Some};
+ghost use Rattle.std.specs.Prelude.{◌≡◌, ◌≢◌, ◌<◌, ◌≤◌, ◌↔◌, ◌^◌, ℕ, List, length, ℤ, pos, neg_ℤ, ◌≤ℤ◌, Any, IsTrue, IfOk, IfErr, MatchOption, Some};
 ghost use Rattle.std.specs.List.{All, AllZip};
 ghost use Rattle.sfm_kind.specs.Names.{IsNewName, AreElementNames};
 ghost use Rattle.sfm_kind.specs.declared.kind.Kind.{Kind};
@@ -9,14 +9,16 @@ ghost use Rattle.sfm_text.specs.Words.{lowest_of, word_text, HasParts, BreaksLaw
 ghost use Rattle.sfm_text.specs.TermLines.{AreRead, IsNumberFrom, IsElement, StandsTwice};
 ghost use Rattle.sfm_text.specs.Reading.{IsLineRefusal};
 ghost use Rattle.sfm_text.specs.ReadParts.{IsTermOf, parts_of, bytes_in, state_at, IsLineOf, IsTermRead, joined};
+ghost use Rattle.sfm_text.specs.Passes.{IsEntryLine};
 ghost use Rattle.sfm_text.specs.declared.stage.Stage.TheVariants.{Terms};
+ghost use Rattle.sfm_text.specs.declared.word.RankKind.TheVariants.{TransversalRank};
 ghost use Rattle.std.specs.Prelude.{◌∷◌};
 
 use crate::concave_line::{concave_parts, concave_term};
 use crate::cover_line::{cover_parts, cover_term};
 use crate::cut_line::{cut_parts, cut_term};
 use crate::groups::{are_members, has_member_twice};
-use crate::labels::{are_labels, has_slot_twice};
+use crate::labels::are_labels;
 use crate::line_fault::LineEnd;
 use crate::need_line::{need_parts, need_term};
 use crate::parts::Parts;
@@ -32,12 +34,14 @@ use std::alloc::{AllocError, Global};
 /// The greatest number of an instance text.
 const HIGHEST: i128 = 1_000_000_000_000;
 
-/// The parts of the tokens behind a word, or None where they do not have the shape of its line.
+/// The parts of the tokens behind a word, or None where they do not have the shape of its line; those of a transversal rank are
+/// cut by themselves.
 fn line_parts<'a, 'b>(
     alloc: Global,
     word: TermWord,
     tokens: &'b [&'a [u8]],
 ) -> Result<Option<Parts<'a, 'b>>, AllocError>
+    requires { IsEntryLine word (texts_of tokens.now) → ⊥ }
     ensures { IfOk result (λ r. MatchOption r
         ((parts : LineParts) → HasParts word (texts_of tokens.now) parts → ⊥)
         (λ parts. HasParts word (texts_of tokens.now) (parts_of parts))) }
@@ -62,6 +66,7 @@ fn make_term(
     places: &[usize],
 ) -> Result<Option<Kind>, Memory>
     requires read { AreRead word (parts_of parts.now) values.now places.now }
+    requires other { (parts_of parts.now).rank ≢ TransversalRank }
     requires few { length (joined (parts_of parts.now).labels) < 2 ^ 24 }
     ensures { IfOk result (λ r. MatchOption r
         (BreaksLaw word (parts_of parts.now) values.now)
@@ -144,7 +149,7 @@ pub fn read_places(
 }
 
 /// Whether some place stands twice. With places below n it looks at no more than n + 1 of them.
-fn has_place_twice(places: &[usize]) -> bool
+pub fn has_place_twice(places: &[usize]) -> bool
     ensures { IsTrue result ↔ StandsTwice places.now }
 {
     for (i, place) in places.iter().enumerate() {
@@ -155,7 +160,8 @@ fn has_place_twice(places: &[usize]) -> bool
     false
 }
 
-/// The term that a line with this word stands for, or the first reason for which it has none.
+/// The term that a line with this word stands for, or the first reason for which it has none; a line of a transversal rank is read
+/// by itself.
 pub fn read_term(
     alloc: Global,
     instance: &Instance,
@@ -164,6 +170,7 @@ pub fn read_term(
 ) -> Result<Kind, LineEnd>
     requires names { AreElementNames instance.now.names }
     requires short { bytes_in (texts_of tokens.now) < 2 ^ 24 }
+    requires other { IsEntryLine word (texts_of tokens.now) → ⊥ }
     ensures read { IfOk result (IsTermRead instance.now word (texts_of tokens.now)) }
     ensures refused { IfErr result (λ e. (line : List ℕ)
         → IsLineOf line (word_text word ∷ texts_of tokens.now)
@@ -188,9 +195,6 @@ pub fn read_term(
         return Err(LineEnd::Fault(Reason::Twice));
     }
     if has_member_twice(alloc, &parts.groups)? {
-        return Err(LineEnd::Fault(Reason::Twice));
-    }
-    if has_slot_twice(alloc, parts.rank, &parts.labels)? {
         return Err(LineEnd::Fault(Reason::Twice));
     }
     match make_term(alloc, word, &parts, &values, &places)? {

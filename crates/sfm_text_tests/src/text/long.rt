@@ -160,6 +160,47 @@ fn of_equal_groups_the_least_is_kept(rt: HostRuntime) -> Result<(), Fail> {
     Ok(())
 }
 
+/// The text with an entry of 3,000 slots and more, which stands between two others.
+fn with_many_slots(alloc: Global, more: &str) -> Result<String, Memory> {
+    let mut slots = String::new(alloc);
+    for i in 0..3_000_u32 {
+        slots.push_str(format!(in alloc; "s{i},")?.as_str())?;
+    }
+    let text = format!(in alloc;
+        "sfm 1\nground a b c\nrank 2 transversal : b=s1 a={slots}{more} c=s0\nend\n"
+    )?;
+    Ok(text)
+}
+
+/// Of the entry of many slots three are kept, and the third is no slot of the two others.
+#[test]
+fn of_many_slots_the_first_are_kept(rt: HostRuntime) -> Result<(), Fail> {
+    let text = with_many_slots(rt.alloc(), "t")?;
+    let instance = read_instance(rt.alloc(), text.as_bytes())?;
+    assert_eq!(rt; instance.terms().len(), 1);
+    for term in instance.terms() {
+        assert_eq!(rt; value_of_all(rt.alloc(), term)?, Some(6));
+    }
+    Ok(())
+}
+
+#[test]
+fn many_slots_with_a_fault_are_refused(rt: HostRuntime) -> Result<(), Fail> {
+    for (more, reason) in [
+        ("s2999", "twice"),
+        ("s0", "twice"),
+        ("", "name"),
+        ("t=u", "shape"),
+    ] {
+        let text = with_many_slots(rt.alloc(), more)?;
+        assert_eq!(rt;
+            first_fault(rt.alloc(), text.as_bytes()),
+            (3, reason.as_bytes())
+        );
+    }
+    Ok(())
+}
+
 #[test]
 fn a_ground_of_many_names_is_refused(rt: HostRuntime) -> Result<(), Fail> {
     let mut text = String::new(rt.alloc());

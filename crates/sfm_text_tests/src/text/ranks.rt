@@ -141,6 +141,7 @@ fn graphic_lines(rt: HostRuntime) -> Result<(), Fail> {
 const TRANSVERSAL_LINES: &str = "\
 0 good:rank 2 transversal : a=s b=s,t c=t,u|rank 0 transversal : d=x
 0 good:rank 2 transversal : a=s b=s c=s d=a,b,c,d
+0 good:rank 2 transversal : a=s,t,u,v b=u
 3 shape:rank 2 transversal
 3 shape:rank 2 transversal :
 3 shape:rank 2 transversal a=s
@@ -161,7 +162,9 @@ const TRANSVERSAL_LINES: &str = "\
 3 name:rank 2 transversal : a=s-t
 3 name:rank 2 transversal : a=s,s b=t,
 3 name:rank 2 transversal : a=s a=t.
+3 name:rank 2 transversal : a=s,t,u- b=s
 3 twice:rank 2 transversal : a=s,s
+3 twice:rank 2 transversal : a=s,t,u,t b=s
 3 twice:rank 2 transversal : a=s,t b=t,s,t
 3 twice:rank 2 transversal : a=s a=t";
 

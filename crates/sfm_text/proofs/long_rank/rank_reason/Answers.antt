@@ -14,7 +14,4 @@ pub returns-in-UniformRank : goal.returns-in-UniformRank
 returns-in-UniformRank c = let e = c.in-UniformRank.ensures in rw (c.in-Some.ensures.cut, c.in-Some-first_token.ensures.cut, e) c.long_uniform_reason.ensures
 
 pub returns-in-GraphicRank : goal.returns-in-GraphicRank
-returns-in-GraphicRank c = let e = c.in-GraphicRank.ensures in rw (c.in-Some.ensures.cut, c.in-Some-first_token.ensures.cut, e) c.labelled_reason.ensures
-
-pub returns-in-TransversalRank : goal.returns-in-TransversalRank
-returns-in-TransversalRank c = let e = c.in-TransversalRank.ensures in rw (c.in-Some.ensures.cut, c.in-Some-first_token.ensures.cut, e) c.labelled_reason-in-TransversalRank.ensures
+returns-in-GraphicRank c = let e = c.in-GraphicRank.ensures in rw (c.in-Some.ensures.cut, c.in-Some-first_token.ensures.cut, e) c.graphic_reason.ensures

@@ -3,7 +3,7 @@ use Rattle.sfm_text.specs.RankLines.{BreaksRankLaw}
 use Rattle.sfm_text.specs.ReadParts.{parts_of}
 use Rattle.sfm_text.specs.declared.word.RankKind.{RankKind}
 use Rattle.sfm_text.specs.declared.word.TermWord.TheVariants.{RankWord}
-use Rattle.sfm_text.proofs.ReadLines.{read-small, read-low, laminar-each, graphic-one, graphic-two, graphic-each, graphic-elements, transversal-one, transversal-each, transversal-elements}
+use Rattle.sfm_text.proofs.ReadLines.{read-small, read-low, laminar-each, graphic-one, graphic-two, graphic-each, graphic-elements}
 use Rattle.sfm_text.proofs.rank_line.rank_term.Goals as goal
 
 pub laminar_term-requires-clause-each : goal.laminar_term-requires-clause-each
@@ -32,21 +32,6 @@ graphic_term-requires-clause-low c = read-low RankWord (parts_of c.args.parts.no
 
 pub graphic_term-requires-clause-small : goal.graphic_term-requires-clause-small
 graphic_term-requires-clause-small c = read-small RankWord (parts_of c.args.parts.now) c.args.values.now c.args.places.now c.requires.read
-
-pub transversal_term-requires-clause-one : goal.transversal_term-requires-clause-one
-transversal_term-requires-clause-one c = transversal-one (parts_of c.args.parts.now) c.args.values.now c.args.places.now c.requires.read c.in-TransversalRank.is
-
-pub transversal_term-requires-clause-each : goal.transversal_term-requires-clause-each
-transversal_term-requires-clause-each c = transversal-each (parts_of c.args.parts.now) c.args.values.now c.args.places.now c.requires.read c.in-TransversalRank.is
-
-pub transversal_term-requires-clause-elements : goal.transversal_term-requires-clause-elements
-transversal_term-requires-clause-elements c = transversal-elements (parts_of c.args.parts.now) c.args.values.now c.args.places.now c.requires.read c.in-TransversalRank.is
-
-pub transversal_term-requires-clause-low : goal.transversal_term-requires-clause-low
-transversal_term-requires-clause-low c = read-low RankWord (parts_of c.args.parts.now) c.args.values.now c.args.places.now c.requires.read refl
-
-pub transversal_term-requires-clause-small : goal.transversal_term-requires-clause-small
-transversal_term-requires-clause-small c = read-small RankWord (parts_of c.args.parts.now) c.args.values.now c.args.places.now c.requires.read
 
 pub returns-in_ok-uniform_term-in-UniformRank : goal.returns-in_ok-uniform_term-in-UniformRank
 returns-in_ok-uniform_term-in-UniformRank c =

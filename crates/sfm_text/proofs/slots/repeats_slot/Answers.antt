@@ -1,10 +1,11 @@
-use Rattle.std.proofs.Common.{refl}
-use Rattle.sfm_text.specs.Lines.{pieces_of}
-use Rattle.sfm_text.proofs.SlotCuts.{slots-cut}
+use Rattle.sfm_text.proofs.SlotCuts.{slots-cut, repeats-by}
 use Rattle.sfm_text.proofs.slots.repeats_slot.Goals as goal
 
+pub returns-in_default : goal.returns-in_default
+returns-in_default c = λ (entry, h, twice). c.in_default.ensures entry.0 h.behind h.named
+
 pub returns : goal.returns
-returns c = λ e.
+returns c =
     let element = c.in-Some.element.now in
     let behind = c.in-Some.field-0-1.now in
-    ((element, pieces_of 44 behind), record { behind = behind; named = c.in-Some.ensures; labels = refl }, rw (slots-cut c.args.token.now element behind c.in-Some.ensures) at c.in_ok-twice.ensures.0 e)
+    repeats-by c.args.token.now element behind c.in-Some.ensures c.in_ok-twice.twice (rw (slots-cut c.args.token.now element behind c.in-Some.ensures) at c.in_ok-twice.ensures)

@@ -3,12 +3,13 @@ use Rattle.std.specs.List.{AllZip}
 use Rattle.sfm_text.specs.Lines.{texts_of}
 use Rattle.sfm_text.specs.Parts.{IsLabelToken}
 use Rattle.sfm_text.specs.ReadParts.{label_lists_of}
-use Rattle.sfm_text.proofs.labelled_line.labelled_parts.Given as goal
+use Rattle.sfm_text.specs.declared.word.RankKind.TheVariants.{GraphicRank}
+use Rattle.sfm_text.proofs.graphic_line.edge_parts.Given as goal
 
 abbrev pub invariant-loop-token : goal.invariant-loop-token
 invariant-loop-token l = record {
   entries : List (List ℕ × List (List ℕ));
-  each : AllZip (IsLabelToken l.rank) (texts_of (take l.token-index l.tokens)) entries;
+  each : AllZip (IsLabelToken GraphicRank) (texts_of (take l.token-index l.tokens)) entries;
   elements : texts_of l.elements.items ≡ map (λ entry. entry.0) entries;
   labels : label_lists_of l.labels.items ≡ map (λ entry. entry.1) entries;
 }

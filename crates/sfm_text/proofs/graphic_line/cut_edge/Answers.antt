@@ -1,6 +1,6 @@
 -- What stands behind the one `=` is the same for each cut, and has not exactly one `-`.
 use Rattle.sfm_text.proofs.Ranks.{cut-same}
-use Rattle.sfm_text.proofs.labelled_line.cut_edge.Goals as goal
+use Rattle.sfm_text.proofs.graphic_line.cut_edge.Goals as goal
 
 pub returns-in_default-cut_once : goal.returns-in_default-cut_once
 returns-in_default-cut_once c = λ entry h.
