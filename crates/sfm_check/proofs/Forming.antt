@@ -18,7 +18,8 @@ use Rattle.sfm_law.proofs.Lists.{below-total}
 use Rattle.sfm_cert.specs.Answer.{Answer, Break, Form, answer_lines, head_lines, section_lines}
 use Rattle.sfm_cert.specs.LineLists.{block_lines, break_lines, slope_lines}
 use Rattle.sfm_cert.specs.Form.{AreFormedRows, IsFormed}
-use Rattle.sfm_cert.specs.Solved.{form_of}
+use Rattle.sfm_cert.specs.Solved.{break_of, form_of}
+use Rattle.sfm_law.specs.declared.breaks.Break.{Break as Found}
 use Rattle.sfm_check.specs.Truth.{Section, no_section, section_at, section_of, sections_of}
 use Rattle.sfm_check.specs.Verdict.{AllAreBases}
 use Rattle.sfm_check.specs.Findings.{AllRowsAreBases, IsSection}
@@ -47,6 +48,22 @@ formed_section form a (suc k) f l =
     let d : Break = record { num = pos 0; den = pos 1; members = []; bases = [] } in
     let b = f.breaks k d lk in
     subst (IsFormedSection form.widths) (sym (get_or-map section_of a.breaks k d no_section lk)) (record { entry = b.entry; factor = b.factor; rows = b.bases })
+
+-- a section with these parts
+pub same_section : (x : Section) (num den : ℤ) (rows : List (List ℤ)) → IsSection x num den rows → x ≡ record { num = num; den = den; bases = rows }
+same_section x num den rows e =
+    let f : ℤ → Section = λ z. record { num = z; den = x.den; bases = x.bases } in
+    let g : ℤ → Section = λ z. record { num = num; den = z; bases = x.bases } in
+    let h : List (List ℤ) → Section = λ z. record { num = num; den = den; bases = z } in
+    ap f e.num_is ∙ (ap g e.den_is ∙ ap h e.rows_are)
+
+-- the same of its parts
+pub formed_parts : {form : Form} {a : Answer} {s : ℕ} {num den : ℤ} {rows : List (List ℤ)} → IsFormed form a → s < length (sections_of a) → IsSection (section_at a s) num den rows → IsFormedSection form.widths (record { num = num; den = den; bases = rows })
+formed_parts {form = form} {a = a} {s = s} {num = num} {den = den} {rows = rows} f l e = subst (IsFormedSection form.widths) (same_section (section_at a s) num den rows e) (formed_section form a s f l)
+
+-- there is a section for each slope, and one more
+pub section_in : (items : List Found) (a : Answer) (s count : ℕ) → a.breaks ≡ map break_of items → count ≡ length items → s < count + 1 → s < length (sections_of a)
+section_in items a s count kept is l = let c = ap length kept in omega (arith, l, is, c, length-map items break_of, length-map a.breaks section_of)
 
 -- ---- rows
 
@@ -111,10 +128,7 @@ section_bases q (t ∷ ts) (x ∷ rows) f bases =
 pub all_bases : (instance : InstanceData) (a : Answer) → IsFormed (form_of instance) a → AllRowsAreBases (meanings kind_places kind_value instance.terms) a → AllAreBases (meanings kind_places kind_value instance.terms) a
 all_bases instance a formed rows s l = section_bases (section_at a s).den instance.terms (section_at a s).bases (formed_section (form_of instance) a s formed l).rows (λ i k. rows s i l k)
 
--- a section with these parts
-pub same_section : (x : Section) (num den : ℤ) (rows : List (List ℤ)) → IsSection x num den rows → x ≡ record { num = num; den = den; bases = rows }
-same_section x num den rows e =
-    let f : ℤ → Section = λ z. record { num = z; den = x.den; bases = x.bases } in
-    let g : ℤ → Section = λ z. record { num = num; den = z; bases = x.bases } in
-    let h : List (List ℤ) → Section = λ z. record { num = num; den = den; bases = z } in
-    ap f e.num_is ∙ (ap g e.den_is ∙ ap h e.rows_are)
+-- and so are those of the parts of a section
+pub part_bases : (instance : InstanceData) {a : Answer} {s : ℕ} {num den : ℤ} {rows : List (List ℤ)} → IsFormed (form_of instance) a → AllRowsAreBases (meanings kind_places kind_value instance.terms) a → s < length (sections_of a) → IsSection (section_at a s) num den rows
+    → AreBases den (meanings kind_places kind_value instance.terms) rows
+part_bases instance {a = a} {s = s} {num = num} {den = den} {rows = rows} f bases l e = subst (λ (z : Section). AreBases z.den (meanings kind_places kind_value instance.terms) z.bases) (same_section (section_at a s) num den rows e) (all_bases instance a f bases s l)

@@ -8,7 +8,8 @@ use Rattle.sfm_spec.specs.Laws.{Mark, no_mark}
 use Rattle.sfm_spec.specs.Search.{mark_at}
 use Rattle.sfm_law.specs.declared.breaks.Break.{Break as Found}
 use Rattle.sfm_cert.specs.declared.solved.Solved.{Solved}
-use Rattle.sfm_cert.specs.Answer.{Break, mark_of}
+use Rattle.sfm_cert.specs.Answer.{Answer, Break, Form, mark_of}
+use Rattle.sfm_cert.specs.Form.{IsFormed, IsFormedBreak}
 use Rattle.sfm_cert.specs.Solved.{answer_of, break_of}
 use Rattle.sfm_check.specs.Findings.{set_before}
 use Rattle.sfm_check.specs.Values.{Ascends, Attains, IsStep, IsStepAt, IsWorth}
@@ -16,6 +17,13 @@ use Rattle.sfm_check.specs.declared.worth.Worth.{Worth}
 
 pub kept_at : (items : List Found) (k : ℕ) (b : Found) (d : Break) → k < length items → b ≡ get_or items k b → get_or (map break_of items) k d ≡ break_of b
 kept_at items k b d l e = get_or-map break_of items k b d l ∙ ap break_of (sym e)
+
+-- it is of the right form in an answer that is
+pub formed_at : (form : Form) (a : Answer) (items : List Found) (k : ℕ) (b : Found) → a.breaks ≡ map break_of items → k < length items → b ≡ get_or items k b → IsFormed form a → IsFormedBreak (length form.names) form.widths (break_of b)
+formed_at form a items k b kept l e f =
+    let c = ap length kept in
+    let lb : k < length a.breaks = omega (arith, l, c, length-map items break_of) in
+    subst (λ (z : Break). IsFormedBreak (length form.names) form.widths z) (ap (λ z. get_or z k (break_of b)) kept ∙ kept_at items k b (break_of b) l e) (f.breaks k (break_of b) lb)
 
 -- slope k, with its set
 pub mark_kept : (items : List Found) (k : ℕ) (b : Found) → k < length items → b ≡ get_or items k b → mark_at (map mark_of (map break_of items)) k ≡ mark_of (break_of b)

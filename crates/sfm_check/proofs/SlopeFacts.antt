@@ -54,28 +54,6 @@ pub before_same : (n : ℕ) (first : List Bool) (items : List Found) (k : ℕ) �
 before_same n first items zero e = e
 before_same n first items (suc k) e = refl
 
-module _ (terms : List Meaning) (n : ℕ) (a : Answer) (k : ℕ) (b : Found) (p : Proved) (h : SlopeAt terms n a k b p) (before : List Bool) where
-  pub next_by : p.least ≡ before → p.greatest ≡ b.set → b.set ≢ before → IsNextSlope terms n before (mark_at (map mark_of a.breaks) k)
-  next_by least greatest other = subst (IsNextSlope terms n before) (sym h.mark) (record {
-    least = low;
-    greatest = high;
-    larger = ⊎_elim (λ e. absurd (other (sym e))) (λ l. l) (size_grows before b.set (low.minimiser.places ∙ sym high.minimiser.places) (low.within b.set high.minimiser));
-  }) where
-    low : IsLeast terms n b.slope.den (even_shift n b.slope.num) before
-    low = subst (IsLeast terms n b.slope.den (even_shift n b.slope.num)) least h.least
-
-    high : IsGreatest terms n b.slope.den (even_shift n b.slope.num) b.set
-    high = subst (IsGreatest terms n b.slope.den (even_shift n b.slope.num)) greatest h.greatest
-
-  pub by_next : IsNextSlope terms n before (mark_at (map mark_of a.breaks) k) → (p.least ≡ before) × (p.greatest ≡ b.set) × (b.set ≢ before)
-  by_next next =
-      let x : IsNextSlope terms n before (mark_of (break_of b)) = subst (IsNextSlope terms n before) h.mark next in
-      let l = x.larger in (
-        same_least terms n b.slope.den (even_shift n b.slope.num) p.least before h.least x.least,
-        same_greatest terms n b.slope.den (even_shift n b.slope.num) p.greatest b.set h.greatest x.greatest,
-        (λ e. let f = ap size e in omega (arith, l, f)),
-      )
-
 -- a set of all places
 pub whole_by_size : (n : ℕ) (s : List Bool) → length s ≡ n → size s ≡ n → s ≡ whole_set n
 whole_by_size n s ls e =
@@ -95,3 +73,40 @@ before_places form a items first (suc k) formed kept e l =
     let f = (formed.breaks k d lk).members.places in
     let same : mark_at (map mark_of (map break_of items)) k ≡ mark_of (get_or a.breaks k d) = ap (λ z. mark_at (map mark_of z) k) (sym kept) ∙ get_or-map mark_of a.breaks k d no_mark lk in
     ap (λ (z : Mark). length z.members) same ∙ f
+
+-- slope k, and the set before it
+pub record IsJudged (terms : List Meaning) (n : ℕ) (a : Answer) (k : ℕ) (b : Found) (p : Proved) (before : List Bool) : Type 0 where
+  pub at : SlopeAt terms n a k b p
+  pub is : before ≡ set_before (empty_set n) (map mark_of a.breaks) k
+  pub places : length before ≡ n
+
+pub judged : (terms : List Meaning) (form : Form) (a : Answer) (items : List Found) (found : List Proved) (k : ℕ) (b : Found) (p : Proved) (first before : List Bool) → IsFormed form a → AreTold terms (length form.names) a found
+    → a.breaks ≡ map break_of items → k < length items → b ≡ get_or items k b → p ≡ get_or found (k + 1) p → first ≡ empty_set (length form.names) → before ≡ members_before first items k → IsJudged terms (length form.names) a k b p before
+judged terms form a items found k b p first before formed told kept l eb ep empty shown = record {
+  at = slope_at terms form a items found k b p formed told kept l eb ep;
+  is = shown ∙ (before_same (length form.names) first items k empty ∙ ap (λ z. set_before (empty_set (length form.names)) (map mark_of z) k) (sym kept));
+  places = ap length shown ∙ before_places form a items first k formed kept empty (omega (arith, l));
+}
+
+module _ {terms : List Meaning} {n : ℕ} {a : Answer} {k : ℕ} {b : Found} {p : Proved} {before : List Bool} (h : IsJudged terms n a k b p before) where
+  -- where it has that set as its least minimiser and a larger one as its greatest it is the next one
+  pub next_by : p.least ≡ before → p.greatest ≡ b.set → b.set ≢ before → IsNextSlope terms n (set_before (empty_set n) (map mark_of a.breaks) k) (mark_at (map mark_of a.breaks) k)
+  next_by least greatest other = subst (λ s. IsNextSlope terms n s (mark_at (map mark_of a.breaks) k)) h.is (subst (IsNextSlope terms n before) (sym h.at.mark) (record {
+    least = low;
+    greatest = high;
+    larger = ⊎_elim (λ e. absurd (other (sym e))) (λ l. l) (size_grows before b.set (low.minimiser.places ∙ sym high.minimiser.places) (low.within b.set high.minimiser));
+  })) where
+    low : IsLeast terms n b.slope.den (even_shift n b.slope.num) before
+    low = subst (IsLeast terms n b.slope.den (even_shift n b.slope.num)) least h.at.least
+
+    high : IsGreatest terms n b.slope.den (even_shift n b.slope.num) b.set
+    high = subst (IsGreatest terms n b.slope.den (even_shift n b.slope.num)) greatest h.at.greatest
+
+  pub by_next : IsNextSlope terms n (set_before (empty_set n) (map mark_of a.breaks) k) (mark_at (map mark_of a.breaks) k) → (p.least ≡ before) × (p.greatest ≡ b.set) × (b.set ≢ before)
+  by_next next =
+      let x : IsNextSlope terms n before (mark_of (break_of b)) = subst (IsNextSlope terms n before) h.at.mark (subst (λ s. IsNextSlope terms n s (mark_at (map mark_of a.breaks) k)) (sym h.is) next) in
+      let l = x.larger in (
+        same_least terms n b.slope.den (even_shift n b.slope.num) p.least before h.at.least x.least,
+        same_greatest terms n b.slope.den (even_shift n b.slope.num) p.greatest b.set h.at.greatest x.greatest,
+        (λ e. let f = ap size e in omega (arith, l, f)),
+      )

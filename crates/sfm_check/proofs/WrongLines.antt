@@ -82,44 +82,26 @@ pub one_number : (a b : ℤ) → nat_abs a < 10 ^ 64 → nat_abs b < 10 ^ 64 →
 one_number a b la lb e = one_value (signed_decimal a) a b (number_of_text a la) (subst (λ (x : List ℕ). IsNumber x b) (sym e) (number_of_text b lb))
 
 module _ (form : Form) (a t : Answer) where
+  wrong_line : (i : ℕ) → i < length (due_lines form t) → get_or (answer_lines form a) i [] ≢ get_or (due_lines form t) i [] → ((j : ℕ) → j < i → get_or (answer_lines form a) j [] ≡ get_or (due_lines form t) j []) → IsWrongLine form a t (i + 1)
+  wrong_line i l ne before = record { at = i; is_due = l; line_is = refl; wrong = ne; before = before }
+
+  -- the first lines, as far as they are alike
+  same_first : (k : ℕ) → k < 4 → (1 < k → a.value ≡ t.value) → (2 < k → a.least ≡ t.least) → (i : ℕ) → i < k → get_or (answer_lines form a) i [] ≡ get_or (due_lines form t) i []
+  same_first k few value least zero l = refl
+  same_first k few value least (suc zero) l = ap (λ z. codes "minimum " ++ signed_decimal z) (value l)
+  same_first k few value least (suc (suc zero)) l = ap (λ z. codes "least" ++ listed form.names z) (least l)
+  same_first k few value least (suc (suc (suc i))) l = absurd (omega arith)
+
   pub wrong_value : signed_decimal a.value ≢ signed_decimal t.value → IsWrongLine form a t 2
-  wrong_value ne = record {
-    at = 1;
-    is_due = omega arith;
-    line_is = refl;
-    wrong = λ e. let d : signed_decimal a.value ≡ signed_decimal t.value = cc in ne d;
-    before = before;
-  } where
-    before : (i : ℕ) → i < 1 → get_or (answer_lines form a) i [] ≡ get_or (due_lines form t) i []
-    before zero l = refl
-    before (suc i) l = absurd (omega arith)
+  wrong_value ne = wrong_line 1 (omega arith) (λ e. let d : signed_decimal a.value ≡ signed_decimal t.value = cc in ne d) (same_first 1 (omega arith) (λ l. absurd (omega arith)) (λ l. absurd (omega arith)))
 
   pub wrong_least : AreElementNames form.names → length a.least ≡ length form.names → length t.least ≡ length form.names → a.value ≡ t.value → a.least ≢ t.least → IsWrongLine form a t 3
-  wrong_least fine la lt value ne = record {
-    at = 2;
-    is_due = omega arith;
-    line_is = refl;
-    wrong = λ e. let d : listed form.names a.least ≡ listed form.names t.least = cc in ne (listed-same form.names a.least t.least fine la lt d);
-    before = before;
-  } where
-    before : (i : ℕ) → i < 2 → get_or (answer_lines form a) i [] ≡ get_or (due_lines form t) i []
-    before zero l = refl
-    before (suc zero) l = ap (λ z. codes "minimum " ++ signed_decimal z) value
-    before (suc (suc i)) l = absurd (omega arith)
+  wrong_least fine la lt value ne =
+      wrong_line 2 (omega arith) (λ e. let d : listed form.names a.least ≡ listed form.names t.least = cc in ne (listed-same form.names a.least t.least fine la lt d)) (same_first 2 (omega arith) (λ l. value) (λ l. absurd (omega arith)))
 
   pub wrong_greatest : AreElementNames form.names → length a.greatest ≡ length form.names → length t.greatest ≡ length form.names → a.value ≡ t.value → a.least ≡ t.least → a.greatest ≢ t.greatest → IsWrongLine form a t 4
-  wrong_greatest fine la lt value least ne = record {
-    at = 3;
-    is_due = omega arith;
-    line_is = refl;
-    wrong = λ e. let d : listed form.names a.greatest ≡ listed form.names t.greatest = cc in ne (listed-same form.names a.greatest t.greatest fine la lt d);
-    before = before;
-  } where
-    before : (i : ℕ) → i < 3 → get_or (answer_lines form a) i [] ≡ get_or (due_lines form t) i []
-    before zero l = refl
-    before (suc zero) l = ap (λ z. codes "minimum " ++ signed_decimal z) value
-    before (suc (suc zero)) l = ap (λ z. codes "least" ++ listed form.names z) least
-    before (suc (suc (suc i))) l = absurd (omega arith)
+  wrong_greatest fine la lt value least ne =
+      wrong_line 3 (omega arith) (λ e. let d : listed form.names a.greatest ≡ listed form.names t.greatest = cc in ne (listed-same form.names a.greatest t.greatest fine la lt d)) (same_first 3 (omega arith) (λ l. value) (λ l. least))
 
   -- the first four lines and those of blocks that are alike
   same_before : a.value ≡ t.value → a.least ≡ t.least → a.greatest ≡ t.greatest → (k : ℕ) → k ≤ length a.blocks → k ≤ length t.blocks → ((j : ℕ) → j < k → block_at a.blocks j ≡ block_at t.blocks j)

@@ -86,6 +86,12 @@ pub record IsNextSlope (terms : List Meaning) (n : ℕ) (before : List Bool) (ma
   pub greatest : IsGreatest terms n mark.den (even_shift n mark.num) mark.members
   pub larger : size before < size mark.members
 
+-- the extreme sets that a section tells, the set before a slope and that of the slope are of one ground
+pub record AreOfOneGround (found : Proved) (before set : List Bool) : Type 0 where
+  pub least : length found.least ≡ length before
+  pub greatest : length found.greatest ≡ length set
+  pub both : length set ≡ length before
+
 -- each slope is the next one, and the last set is the whole
 pub record IsFullChain (terms : List Meaning) (n : ℕ) (marks : List Mark) : Type 0 where
   pub each : (k : ℕ) → k < length marks → IsNextSlope terms n (set_before (empty_set n) marks k) (mark_at marks k)

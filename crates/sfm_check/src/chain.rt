@@ -7,7 +7,7 @@ ghost use Rattle.sfm_cert.specs.Answer.{mark_of};
 ghost use Rattle.sfm_cert.specs.Form.{IsFormed};
 ghost use Rattle.sfm_cert.specs.Solved.{answer_of, form_of};
 ghost use Rattle.sfm_check.specs.Before.{members_before};
-ghost use Rattle.sfm_check.specs.Findings.{AreTold, IsFirstWrongSlope, IsFullChain};
+ghost use Rattle.sfm_check.specs.Findings.{AreOfOneGround, AreTold, IsFirstWrongSlope, IsFullChain};
 
 use crate::same::are_same;
 use sfm_base::{Memory, Set};
@@ -27,9 +27,7 @@ pub fn before<'a>(empty: &'a Set, breaks: &'a [Break], k: usize) -> &'a Set
 
 /// Whether a slope has that set before as its least minimiser and a larger one, which it tells, as its greatest.
 fn is_next(found: &Proved, before: &Set, set: &Set) -> bool
-    requires least { length found.now.least ≡ length before.now }
-    requires greatest { length found.now.greatest ≡ length set.now }
-    requires set { length set.now ≡ length before.now }
+    requires { AreOfOneGround found.now before.now set.now }
     ensures { IsTrue result ↔ ((found.now.least ≡ before.now) × (found.now.greatest ≡ set.now) × (set.now ≢ before.now)) }
 {
     are_same(&found.least, before) && are_same(&found.greatest, set) && !are_same(set, before)

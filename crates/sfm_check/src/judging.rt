@@ -1,5 +1,5 @@
-// The judge. A text that is read as an answer has its rows tested as bases of their terms. A right one is then found right
-// by values; where that fails, or would take longer, each section's bases are tested as a proof, and then what it says
+// The judge. A text that is read as an answer has its rows tested as bases of their terms. It may then be found right by
+// values; where it is not, or values would take longer, each section's bases are tested as a proof, and then what it says
 // against what the proved bases tell, which gives the first fault. Nothing here finds bases of its own.
 ghost use Rattle.std.specs.Prelude.{◌≡◌, ◌≤◌, length, IfOk};
 ghost use Rattle.sfm_spec.specs.Families.{meanings};

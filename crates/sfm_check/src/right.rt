@@ -1,6 +1,6 @@
-// A right answer, judged without the exchange graphs of its sections: its slopes by values, and then what is said of the
+// An answer judged without the exchange graphs of its sections: its slopes by values, and then what is said of the
 // minimum by where the slopes pass 0, by values, and by the blocks that the bases at 0/1 tell. What is not found right here
-// is judged section by section. Each right answer is found right.
+// is judged section by section.
 ghost use Rattle.std.specs.Prelude.{length, IsTrue, IfOk};
 ghost use Rattle.sfm_spec.specs.Families.{meanings};
 ghost use Rattle.sfm_kind.specs.Kinds.{kind_places, kind_value};

@@ -1,8 +1,7 @@
-use Rattle.std.proofs.Common.{◌≡◌, ℕ, ◌+◌, ◌<◌, ◌^◌, List, length, map, get_or, pos, ◌≤ℤ◌, ⊎_elim, sym, ap, ◌∙◌, subst, arith, FitsSigned}
+use Rattle.std.proofs.Common.{◌≡◌, ℕ, ◌+◌, ◌<◌, ◌^◌, List, length, map, get_or, pos, ◌≤ℤ◌, ⊎_elim, refl, sym, ap, ◌∙◌, subst, arith, FitsSigned}
 use Rattle.std.proofs.lemmas.Int.{ints, to_z-of_z}
 use Rattle.std.proofs.lemmas.List.{length-map}
 use mir.Syntax.{w128}
-use Rattle.sfm_spec.specs.Bounds.{IsFactor}
 use Rattle.sfm_spec.specs.Families.{meanings}
 use Rattle.sfm_kind.specs.declared.kind.Kind.{Kind}
 use Rattle.sfm_kind.specs.Limits.{AreInBounds}
@@ -10,22 +9,17 @@ use Rattle.sfm_kind.specs.Kinds.{kind_places, kind_value, kind_size}
 use Rattle.sfm_extreme.specs.Blocks.{block_of}
 use Rattle.sfm_law.proofs.Lists.{length-meanings}
 use Rattle.sfm_cert.specs.Answer.{line_base}
-use Rattle.sfm_cert.specs.Form.{AreFormedRows}
 use Rattle.sfm_cert.specs.Solved.{answer_of, break_of, form_of}
-use Rattle.sfm_check.specs.Truth.{section_at, section_of as section_from, sections_of}
+use Rattle.sfm_check.specs.Truth.{section_at, section_of as section_from}
 use Rattle.sfm_check.specs.Verdict.{IsBaseAt}
 use Rattle.sfm_check.specs.Findings.{IsFirstNoBaseIn}
-use Rattle.sfm_check.proofs.Forming.{few_lines, formed_section, small_sizes}
+use Rattle.sfm_check.proofs.Forming.{few_lines, formed_parts, section_in, small_sizes}
 use Rattle.sfm_check.proofs.bases.first_no_base.Goals as goal
 
 pub first_no_base_in-requires-clause-factor : goal.first_no_base_in-requires-clause-factor
 first_no_base_in-requires-clause-factor c =
-    let a = answer_of c.args.solved.now in
-    let items = c.args.solved.now.breaks.items in
-    let lt = c.loop-s-test.true in
-    let count = c.args.solved.now.breaks.ok.0 in
-    let ls : c.loop-s.s < length (sections_of a) = omega (arith, lt, count, c.len-s-end.ensures, length-map (map break_of items) section_from, length-map items break_of) in
-    let f : IsFactor c.section_of-section.result.den = subst IsFactor c.section_of-section.ensures.den_is (formed_section (form_of c.args.instance.now) a c.loop-s.s c.requires.formed ls).factor in
+    let ls = section_in c.args.solved.now.breaks.items (answer_of c.args.solved.now) c.loop-s.s _ refl (c.len-s-end.ensures ∙ c.args.solved.now.breaks.ok.0) c.loop-s-test.true in
+    let f = (formed_parts c.requires.formed ls c.section_of-section.ensures).factor in
     let fd : FitsSigned w128 c.section_of-section.result.den = omega (arith, ints, f) in
     simp to_z-of_z f
 
@@ -36,13 +30,8 @@ first_no_base_in-requires-clause-bounded c =
 
 pub first_no_base_in-requires-clause-rows : goal.first_no_base_in-requires-clause-rows
 first_no_base_in-requires-clause-rows c =
-    let a = answer_of c.args.solved.now in
-    let items = c.args.solved.now.breaks.items in
-    let lt = c.loop-s-test.true in
-    let count = c.args.solved.now.breaks.ok.0 in
-    let ls : c.loop-s.s < length (sections_of a) = omega (arith, lt, count, c.len-s-end.ensures, length-map (map break_of items) section_from, length-map items break_of) in
-    let f = subst (AreFormedRows (form_of c.args.instance.now).widths) c.section_of-section.ensures.rows_are (formed_section (form_of c.args.instance.now) a c.loop-s.s c.requires.formed ls).rows in
-    rw c.terms-terms.ensures.terms f
+    let ls = section_in c.args.solved.now.breaks.items (answer_of c.args.solved.now) c.loop-s.s _ refl (c.len-s-end.ensures ∙ c.args.solved.now.breaks.ok.0) c.loop-s-test.true in
+    rw c.terms-terms.ensures.terms (formed_parts c.requires.formed ls c.section_of-section.ensures).rows
 
 few_terms : (n : ℕ) (ts : List Kind) (i : ℕ) → AreInBounds n ts → i < length (meanings kind_places kind_value ts) → i < 16384
 few_terms n ts i bounded l = omega (arith, l, bounded.few_terms, length-meanings kind_places kind_value ts, length-map ts kind_places)
@@ -50,53 +39,31 @@ few_terms n ts i bounded l = omega (arith, l, bounded.few_terms, length-meanings
 pub overflow_add-i : goal.overflow_add-i
 overflow_add-i c =
     let raw = rw (c.in-Some.is, c.terms-terms.ensures.terms) at c.in_ok-i.ensures in
-    let few = few_terms (length c.args.instance.now.names) c.args.instance.now.terms c.in-Some.i c.terms-terms.ensures.bounded raw.is_term in
-    omega (arith, few)
+    omega (arith, few_terms _ c.args.instance.now.terms c.in-Some.i c.terms-terms.ensures.bounded raw.is_term)
 
 pub line_of_base-line-requires-clause-base : goal.line_of_base-line-requires-clause-base
 line_of_base-line-requires-clause-base c =
     let raw = rw (c.in-Some.is, c.terms-terms.ensures.terms) at c.in_ok-i.ensures in
-    let few = few_terms (length c.args.instance.now.names) c.args.instance.now.terms c.in-Some.i c.terms-terms.ensures.bounded raw.is_term in
-    omega (arith, few)
+    omega (arith, few_terms _ c.args.instance.now.terms c.in-Some.i c.terms-terms.ensures.bounded raw.is_term)
 
 pub line_of_base-line-requires-clause-blocks : goal.line_of_base-line-requires-clause-blocks
-line_of_base-line-requires-clause-blocks c =
-    let a = answer_of c.args.solved.now in
-    let lines = few_lines (form_of c.args.instance.now) a in
-    let most = c.requires.few in
-    let blocks = c.args.solved.now.blocks.ok.0 in
-    let breaks = c.args.solved.now.breaks.ok.0 in
-    omega (arith, lines, most, blocks, c.len.ensures, length-map c.args.solved.now.blocks.items block_of)
+line_of_base-line-requires-clause-blocks c = let lines = few_lines (form_of c.args.instance.now) (answer_of c.args.solved.now) in omega (arith, lines, c.requires.few, c.args.solved.now.blocks.ok.0, c.len.ensures, length-map c.args.solved.now.blocks.items block_of)
 
 pub line_of_base-line-requires-clause-slopes : goal.line_of_base-line-requires-clause-slopes
-line_of_base-line-requires-clause-slopes c =
-    let a = answer_of c.args.solved.now in
-    let lines = few_lines (form_of c.args.instance.now) a in
-    let most = c.requires.few in
-    let blocks = c.args.solved.now.blocks.ok.0 in
-    let breaks = c.args.solved.now.breaks.ok.0 in
-    omega (arith, lines, most, breaks, c.len-in-Some.ensures, length-map c.args.solved.now.breaks.items break_of)
+line_of_base-line-requires-clause-slopes c = let lines = few_lines (form_of c.args.instance.now) (answer_of c.args.solved.now) in omega (arith, lines, c.requires.few, c.args.solved.now.breaks.ok.0, c.len-in-Some.ensures, length-map c.args.solved.now.breaks.items break_of)
 
 pub line_of_base-line-requires-clause-section : goal.line_of_base-line-requires-clause-section
-line_of_base-line-requires-clause-section c =
-    let a = answer_of c.args.solved.now in
-    let lines = few_lines (form_of c.args.instance.now) a in
-    let most = c.requires.few in
-    let blocks = c.args.solved.now.blocks.ok.0 in
-    let breaks = c.args.solved.now.breaks.ok.0 in
-    let lt = c.loop-s-test.true in
-    omega (arith, lines, most, breaks, lt, c.len-s-end.ensures, length-map c.args.solved.now.breaks.items break_of)
+line_of_base-line-requires-clause-section c = let lines = few_lines (form_of c.args.instance.now) (answer_of c.args.solved.now) in omega (arith, lines, c.requires.few, c.args.solved.now.breaks.ok.0, c.loop-s-test.true, c.len-s-end.ensures, length-map c.args.solved.now.breaks.items break_of)
 
 pub returns-in-Some : goal.returns-in-Some
 returns-in-Some c =
     let a = answer_of c.args.solved.now in
     let ts = c.args.instance.now.terms in
     let items = c.args.solved.now.breaks.items in
-    let lt = c.loop-s-test.true in
     let breaks = c.args.solved.now.breaks.ok.0 in
     let blocks = c.args.solved.now.blocks.ok.0 in
-    let ls : c.loop-s.s < length (sections_of a) = omega (arith, lt, breaks, c.len-s-end.ensures, length-map (map break_of items) section_from, length-map items break_of) in
-    let f : IsFactor c.section_of-section.result.den = subst IsFactor c.section_of-section.ensures.den_is (formed_section (form_of c.args.instance.now) a c.loop-s.s c.requires.formed ls).factor in
+    let ls = section_in items a c.loop-s.s _ refl (c.len-s-end.ensures ∙ breaks) c.loop-s-test.true in
+    let f = (formed_parts c.requires.formed ls c.section_of-section.ensures).factor in
     let fd : FitsSigned w128 c.section_of-section.result.den = omega (arith, ints, f) in
     let raw = rw (c.in-Some.is, c.terms-terms.ensures.terms) at c.in_ok-i.ensures in
     let plain : IsFirstNoBaseIn (meanings kind_places kind_value ts) c.section_of-section.result.den c.section_of-section.result.bases.now c.in-Some.i = simp to_z-of_z at raw in

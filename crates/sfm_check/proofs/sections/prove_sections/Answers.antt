@@ -1,4 +1,4 @@
-use Rattle.std.proofs.Common.{◌≡◌, ◌+◌, ◌<◌, [], ◌∷◌, length, map, get_or, pos, ⊎_elim, sym, ap, ◌∙◌, subst, arith}
+use Rattle.std.proofs.Common.{◌≡◌, ◌+◌, ◌<◌, [], ◌∷◌, length, get_or, pos, ⊎_elim, refl, sym, ap, ◌∙◌, subst, arith}
 use Rattle.std.proofs.lemmas.Bool.{cases_lt}
 use Rattle.std.proofs.lemmas.List.{length-map, length_push, get_or_push, get_or_append_left}
 use Rattle.sfm_spec.specs.Families.{meanings}
@@ -8,39 +8,28 @@ use Rattle.sfm_extreme.specs.Blocks.{block_of}
 use Rattle.sfm_law.proofs.Lists.{length-meanings}
 use Rattle.sfm_cert.specs.Answer.{line_at}
 use Rattle.sfm_cert.specs.Solved.{answer_of, break_of, form_of}
-use Rattle.sfm_check.specs.Truth.{section_at, section_of as section_from, sections_of, IsProvedSection}
+use Rattle.sfm_check.specs.Truth.{section_at, IsProvedSection}
 use Rattle.sfm_check.specs.Findings.{IsToldOf}
-use Rattle.sfm_check.proofs.Forming.{few_lines}
+use Rattle.sfm_check.proofs.Forming.{few_lines, section_in}
 use Rattle.sfm_check.proofs.sections.prove_sections.Goals as goal
 
 pub prove_section-requires-clause-at : goal.prove_section-requires-clause-at
-prove_section-requires-clause-at c =
-    let items = c.args.solved.now.breaks.items in
-    let lt = c.loop-s-test.true in
-    let breaks = c.args.solved.now.breaks.ok.0 in
-    omega (arith, lt, breaks, c.len-s-end.ensures, length-map (map break_of items) section_from, length-map items break_of)
+prove_section-requires-clause-at c = section_in c.args.solved.now.breaks.items (answer_of c.args.solved.now) c.loop-s.s _ refl (c.len-s-end.ensures ∙ c.args.solved.now.breaks.ok.0) c.loop-s-test.true
 
 pub line_of_at-line-requires-clause-blocks : goal.line_of_at-line-requires-clause-blocks
 line_of_at-line-requires-clause-blocks c =
     let lines = few_lines (form_of c.args.instance.now) (answer_of c.args.solved.now) in
-    let most = c.requires.few in
-    let blocks = c.args.solved.now.blocks.ok.0 in
-    omega (arith, lines, most, blocks, c.len.ensures, length-map c.args.solved.now.blocks.items block_of)
+    omega (arith, lines, c.requires.few, c.args.solved.now.blocks.ok.0, c.len.ensures, length-map c.args.solved.now.blocks.items block_of)
 
 pub line_of_at-line-requires-clause-slopes : goal.line_of_at-line-requires-clause-slopes
 line_of_at-line-requires-clause-slopes c =
     let lines = few_lines (form_of c.args.instance.now) (answer_of c.args.solved.now) in
-    let most = c.requires.few in
-    let breaks = c.args.solved.now.breaks.ok.0 in
-    omega (arith, lines, most, breaks, c.len-in-None.ensures, length-map c.args.solved.now.breaks.items break_of)
+    omega (arith, lines, c.requires.few, c.args.solved.now.breaks.ok.0, c.len-in-None.ensures, length-map c.args.solved.now.breaks.items break_of)
 
 pub line_of_at-line-requires-clause-section : goal.line_of_at-line-requires-clause-section
 line_of_at-line-requires-clause-section c =
     let lines = few_lines (form_of c.args.instance.now) (answer_of c.args.solved.now) in
-    let most = c.requires.few in
-    let breaks = c.args.solved.now.breaks.ok.0 in
-    let lt = c.loop-s-test.true in
-    omega (arith, lines, most, breaks, lt, c.len-s-end.ensures, length-map c.args.solved.now.breaks.items break_of)
+    omega (arith, lines, c.requires.few, c.args.solved.now.breaks.ok.0, c.loop-s-test.true, c.len-s-end.ensures, length-map c.args.solved.now.breaks.items break_of)
 
 pub returns-in-None : goal.returns-in-None
 returns-in-None c =
@@ -48,10 +37,9 @@ returns-in-None c =
     let ts = c.args.instance.now.terms in
     let n = length c.args.instance.now.names in
     let items = c.args.solved.now.breaks.items in
-    let lt = c.loop-s-test.true in
     let breaks = c.args.solved.now.breaks.ok.0 in
     let blocks = c.args.solved.now.blocks.ok.0 in
-    let ls : c.loop-s.s < length (sections_of a) = omega (arith, lt, breaks, c.len-s-end.ensures, length-map (map break_of items) section_from, length-map items break_of) in
+    let ls = section_in items a c.loop-s.s _ refl (c.len-s-end.ensures ∙ breaks) c.loop-s-test.true in
     let never : IsProvedSection (meanings kind_places kind_value ts) n (section_at a c.loop-s.s) → ⊥ = rw c.in-None.is at c.in_ok-found.ensures in
     let kb : c.len.result ≡ length a.blocks = c.len.ensures ∙ (blocks ∙ sym (length-map c.args.solved.now.blocks.items block_of)) in
     let kj : c.len-in-None.result ≡ length a.breaks = c.len-in-None.ensures ∙ (breaks ∙ sym (length-map items break_of)) in

@@ -4,39 +4,26 @@ use Rattle.std.proofs.lemmas.List.{length-map}
 use Rattle.sfm_spec.specs.Sets.{empty_set, size, whole_set}
 use Rattle.sfm_spec.specs.Families.{meanings}
 use Rattle.sfm_kind.specs.Kinds.{kind_places, kind_value}
-use Rattle.sfm_cert.specs.Answer.{Break, mark_of}
-use Rattle.sfm_cert.specs.Form.{IsFormedBreak}
+use Rattle.sfm_cert.specs.Answer.{mark_of}
 use Rattle.sfm_cert.specs.Solved.{answer_of, break_of, form_of}
 use Rattle.sfm_check.specs.Findings.{set_before}
 use Rattle.sfm_check.specs.Values.{IsStepAt, IsWorth}
 use Rattle.sfm_check.proofs.AllSlopes.{fit}
 use Rattle.sfm_check.proofs.ByValues.{slopes_right}
 use Rattle.sfm_check.proofs.Forming.{all_bases}
-use Rattle.sfm_check.proofs.KeptSlopes.{behind_at, kept_at, step_by}
+use Rattle.sfm_check.proofs.KeptSlopes.{behind_at, formed_at, step_by}
 use Rattle.sfm_check.proofs.SlopeFacts.{before_places, before_same, whole_by_size}
 use Rattle.sfm_check.proofs.values.are_slopes_right.Goals as goal
 
 pub attain-requires-clause-formed : goal.attain-requires-clause-formed
 attain-requires-clause-formed c =
-    let form = form_of c.args.instance.now in
-    let items = c.args.solved.now.breaks.items in
     let lt = c.loop-k-test.true in
-    let count = c.args.solved.now.breaks.ok.0 in
-    let lk : c.loop-k.k < length items = omega (arith, lt, count, c.len-k-end.ensures) in
-    let b = c.index-found.result.now in
-    let lb : c.loop-k.k < length (map break_of items) = omega (arith, lk, length-map items break_of) in
-    subst (λ (z : Break). IsFormedBreak (length form.names) form.widths z) (kept_at items c.loop-k.k b (break_of b) lk c.index-found.ensures) (c.requires.formed.breaks c.loop-k.k (break_of b) lb)
+    formed_at (form_of c.args.instance.now) (answer_of c.args.solved.now) c.args.solved.now.breaks.items c.loop-k.k c.index-found.result.now refl (omega (arith, lt, c.args.solved.now.breaks.ok.0, c.len-k-end.ensures)) c.index-found.ensures c.requires.formed
 
 pub worth_of-requires-in-loop-k : goal.worth_of-requires-in-loop-k
 worth_of-requires-in-loop-k c =
-    let form = form_of c.args.instance.now in
-    let items = c.args.solved.now.breaks.items in
     let lt = c.loop-k-test.true in
-    let count = c.args.solved.now.breaks.ok.0 in
-    let lk : c.loop-k.k < length items = omega (arith, lt, count, c.len-k-end.ensures) in
-    let b = c.index-found.result.now in
-    let lb : c.loop-k.k < length (map break_of items) = omega (arith, lk, length-map items break_of) in
-    let formed : IsFormedBreak (length form.names) form.widths (break_of b) = subst (λ (z : Break). IsFormedBreak (length form.names) form.widths z) (kept_at items c.loop-k.k b (break_of b) lk c.index-found.ensures) (c.requires.formed.breaks c.loop-k.k (break_of b) lb) in
+    let formed = formed_at (form_of c.args.instance.now) (answer_of c.args.solved.now) c.args.solved.now.breaks.items c.loop-k.k c.index-found.result.now refl (omega (arith, lt, c.args.solved.now.breaks.ok.0, c.len-k-end.ensures)) c.index-found.ensures c.requires.formed in
     formed.members.places
 
 pub loop-k-preserved : goal.loop-k-preserved

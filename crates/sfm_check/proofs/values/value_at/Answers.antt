@@ -15,12 +15,9 @@ product_bound k m q a low high h =
     let same = times-comm q (pos m) in
     (omega (arith, ints, up, down, turned, wide, same), omega (arith, ints, up, down, turned, wide, same))
 
-record AreSmall (den num sum : ℤ) (size : ℕ) : Type 0 where
-  first : FitsSigned w128 (den *ℤ sum)
-  second : FitsSigned w128 (num *ℤ pos size)
-  both : FitsSigned w128 (den *ℤ sum -ℤ num *ℤ pos size)
-
-are_small : (den num sum : ℤ) (size : ℕ) → IsFactor den → IsEntry num → IsGiven sum → size ≤ 256 → AreSmall den num sum size
+-- the words of a value, and what is computed of them
+are_small : (den num sum : ℤ) (size : ℕ) → IsFactor den → IsEntry num → IsGiven sum → size ≤ 256
+    → FitsSigned w128 den × FitsSigned w128 num × FitsSigned w128 sum × (to_z w128 size ≡ pos size) × FitsSigned w128 (den *ℤ sum) × FitsSigned w128 (num *ℤ pos size) × FitsSigned w128 (den *ℤ sum -ℤ num *ℤ pos size)
 are_small den num sum size factor entry given few =
     let low = factor.low in
     let a = product_bound (10 ^ 6) (10 ^ 18) den sum (omega (arith, ints, low)) factor.high given in
@@ -29,41 +26,22 @@ are_small den num sum size factor entry given few =
     let a0 = a.0 in
     let a1 = a.1 in
     let b0 = b.0 in
-    let b1 = b.1 in
-    record { first = omega (arith, ints, a0, a1); second = omega (arith, ints, b0, b1, same); both = omega (arith, ints, a0, a1, b0, b1, same) }
+    let b1 = b.1 in (
+      omega (arith, ints, factor),
+      omega (arith, ints, entry),
+      omega (arith, ints, given),
+      to_z_pos w128 size (omega (arith, few)),
+      omega (arith, ints, a0, a1),
+      omega (arith, ints, b0, b1, same),
+      omega (arith, ints, a0, a1, b0, b1, same),
+    )
 
 pub overflow_sub-result : goal.overflow_sub-result
 overflow_sub-result c =
-    let w = c.args.worth.now in
-    let s = c.args.slope.now in
-    let factor = s.factor in
-    let entry = s.entry in
-    let given = c.requires.sum in
-    let few = c.requires.size in
-    let fd : FitsSigned w128 s.den = omega (arith, ints, factor) in
-    let fn : FitsSigned w128 s.num = omega (arith, ints, entry) in
-    let fs : FitsSigned w128 w.sum = omega (arith, ints, given) in
-    let size : to_z w128 w.size ≡ pos w.size = to_z_pos w128 w.size (omega (arith, few)) in
-    let small = are_small s.den s.num w.sum w.size factor entry given few in
-    let first = small.first in
-    let second = small.second in
-    let both = small.both in
+    let (fd, fn, fs, size, first, second, both) = are_small c.args.slope.now.den c.args.slope.now.num c.args.worth.now.sum c.args.worth.now.size c.args.slope.now.factor c.args.slope.now.entry c.requires.sum c.requires.size in
     rw size (simp to_z-of_z both)
 
 pub returns : goal.returns
 returns c =
-    let w = c.args.worth.now in
-    let s = c.args.slope.now in
-    let factor = s.factor in
-    let entry = s.entry in
-    let given = c.requires.sum in
-    let few = c.requires.size in
-    let fd : FitsSigned w128 s.den = omega (arith, ints, factor) in
-    let fn : FitsSigned w128 s.num = omega (arith, ints, entry) in
-    let fs : FitsSigned w128 w.sum = omega (arith, ints, given) in
-    let size : to_z w128 w.size ≡ pos w.size = to_z_pos w128 w.size (omega (arith, few)) in
-    let small = are_small s.den s.num w.sum w.size factor entry given few in
-    let first = small.first in
-    let second = small.second in
-    let both = small.both in
+    let (fd, fn, fs, size, first, second, both) = are_small c.args.slope.now.den c.args.slope.now.num c.args.worth.now.sum c.args.worth.now.size c.args.slope.now.factor c.args.slope.now.entry c.requires.sum c.requires.size in
     rw size (simp to_z-of_z refl)
