@@ -1,6 +1,6 @@
 // The judge. A text that is read as an answer has its rows tested as bases of their terms. It may then be found right by
-// values; where it is not, or values would take longer, each section's bases are tested as a proof, and then what it says
-// against what the proved bases tell, which gives the first fault. Nothing here finds bases of its own.
+// values; where it is not, each section's bases are tested as a proof, and then what it says against what the proved bases
+// tell, which gives the first fault. Nothing here finds bases of its own.
 ghost use Rattle.std.specs.Prelude.{◌≡◌, ◌≤◌, length, IfOk};
 ghost use Rattle.sfm_spec.specs.Families.{meanings};
 ghost use Rattle.sfm_kind.specs.Kinds.{kind_places, kind_value};
@@ -17,7 +17,6 @@ use crate::kept::tell_kept;
 use crate::right::is_right;
 use crate::sections::{Sections, prove_sections};
 use crate::verdicts::{Verdict, Wrong};
-use crate::worth::is_quick;
 use sfm_base::Memory;
 use sfm_cert::{ANSWER_LIMIT, AnswerEnd, Solved, read_answer};
 use sfm_kind::Instance;
@@ -57,7 +56,7 @@ fn judge_solved(alloc: Global, instance: &Instance, solved: &Solved) -> Result<V
             reason: Wrong::Base,
         });
     }
-    if is_quick(instance.terms()) && is_right(alloc, instance, solved)? {
+    if is_right(alloc, instance, solved)? {
         return Ok(Verdict::Valid);
     }
     judge_sections(alloc, instance, solved)

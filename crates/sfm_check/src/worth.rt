@@ -11,33 +11,11 @@ use sfm_kind::{Instance, Kind};
 use sfm_law::Term;
 use std::alloc::Global;
 
-/// The most places of a transversal rank whose values are found quickly.
-const QUICK_PLACES: usize = 16;
-
 /// How many places an allowed set has, and the sum of all terms there.
 #[derive(Clone, Copy)]
 pub struct Worth {
     pub size: usize,
     pub sum: i128,
-}
-
-/// Whether what sets are worth is found sooner than the rows of all terms. Nothing but time hangs on it.
-pub fn is_quick(terms: &[Kind]) -> bool {
-    for term in terms {
-        if is_slow(term) {
-            return false;
-        }
-    }
-    true
-}
-
-/// Whether the values of a term are found later than its rows. The value of a transversal rank takes a split for each place
-/// of the part, so that of a large one is.
-fn is_slow(term: &Kind) -> bool {
-    match term {
-        Kind::Transversal(rank) => rank.elements().len() > QUICK_PLACES,
-        _ => false,
-    }
 }
 
 /// The sum of all terms at a set, or None where a term does not allow its part.
