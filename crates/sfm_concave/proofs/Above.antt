@@ -83,6 +83,10 @@ with_parts bar x u e h = ⊎_elim (λ is. inl is) (λ ne. inr (sym (get_or-set_o
 pub has_with : (bar : ℤ) (x : List ℤ) (u : ℕ) → u < length x → Has (above_with bar x u) u
 has_with bar x u lt = get_or-set_same (above bar x) u true false (omega (arith, length-above bar x))
 
+-- any other place is as it was
+pub same_with : (bar : ℤ) (x : List ℤ) (u v : ℕ) → u ≢ v → get_or (above_with bar x u) v false ≡ get_or (above bar x) v false
+same_with bar x u v ne = get_or-set_other (above bar x) u v true false (λ e. ne (sym e))
+
 pub out_with : (bar : ℤ) (x : List ℤ) (u e : ℕ) → u < length x → get_or (above_with bar x u) e false ≡ false → (e ≢ u) × (get_or (above bar x) e false ≡ false)
 out_with bar x u e lt h = ⊎_elim
     (λ is. absurd (both_ways (get_or (above_with bar x u) e false) h (rw is (has_with bar x u lt))))

@@ -1,17 +1,21 @@
 -- The count and the sum of the places above a number, one place after another, and with one place put in or taken out.
-use Rattle.std.proofs.Common.{◌≡◌, ◌≢◌, ℕ, ◌+◌, ◌-◌, ◌<◌, ◌≤◌, Bool, true, false, List, length, get_or, set, drop, ℤ, pos, ◌+ℤ◌, ◌-ℤ◌, ◌≤ℤ◌, ◌<ℤ◌, if◌then◌else◌, sym, ◌∙◌, arith, length-set, get_or-set_other}
+use Rattle.std.proofs.Common.{◌≡◌, ℕ, ◌+◌, ◌-◌, ◌*◌, ◌^◌, ◌<◌, ◌≤◌, Bool, true, false, List, length, get_or, set, drop, ℤ, pos, neg_ℤ, ◌+ℤ◌, ◌-ℤ◌, ◌≤ℤ◌, ◌<ℤ◌, if◌then◌else◌, sym, ◌∙◌, arith, FitsSigned, length-set}
+use Rattle.std.specs.List.{All}
 use Rattle.std.proofs.lemmas.Int.{ints}
 use Rattle.std.proofs.lemmas.List.{drop_more, length-replicate}
-use Rattle.sfm_spec.specs.Bounds.{total_of}
+use Rattle.std.proofs.lemmas.List.Elements.{All-get_or}
+use mir.Syntax.{w128}
+use Rattle.sfm_spec.specs.Bounds.{IsAtMost, IsEntry, total_of}
 use Rattle.sfm_spec.specs.Sets.{Has, whole_set, size, sum_over}
 use Rattle.sfm_spec.proofs.Where.{size-cons}
-use Rattle.sfm_spec.proofs.Sets.{Has-whole}
 use Rattle.sfm_spec.proofs.Sizes.{size-whole}
 use Rattle.sfm_spec.proofs.Sums.{sum_over-drop}
-use Rattle.sfm_concave.specs.Counts.{size-put, sum_over-put, size-in, size-out, sum_over-in, sum_over-out}
-use Rattle.sfm_concave.specs.Thresholds.{above, above_with, above_between, IsShareOf}
+use Rattle.sfm_law.proofs.Fits.{share_small, share_fits, more_fits, less_fits}
 use Rattle.sfm_law.proofs.Totals.{total_of-whole}
-use Rattle.sfm_concave.proofs.Above.{length-above, length-above_with, is_above, is_not_above, has_with}
+use Rattle.sfm_law.proofs.Writes.{entry_fits}
+use Rattle.sfm_concave.specs.Counts.{size-put, sum_over-put, size-in, size-out, sum_over-in, sum_over-out}
+use Rattle.sfm_concave.specs.Thresholds.{above, IsShareOf, IsSomeShare}
+use Rattle.sfm_concave.proofs.Above.{length-above, is_above, is_not_above}
 
 -- ---- one place after another
 
@@ -35,64 +39,68 @@ next_below bar x i h less =
     let is = is_not_above bar x i h less in
     record { counts = rw is at (size-drop (above bar x) i lt); sums = rw is at (sum_over-drop (above bar x) x i lt h) }
 
+-- of the places with more than a number those among the first i have been counted
+abbrev pub IsScanned : ℤ → List ℤ → ℕ → ℕ → ℤ → Type 0
+IsScanned bar x i count sum = record {
+  few : count ≤ i;
+  counts : count + size (drop i (above bar x)) ≡ size (above bar x);
+  sums : (sum +ℤ sum_over (drop i (above bar x)) (drop i x)) ≡ sum_over (above bar x) x;
+  low : neg_ℤ (pos (10 ^ 30 * i)) ≤ℤ sum;
+  high : sum ≤ℤ pos (10 ^ 30 * i);
+}
+
+pub scanned_more : (bar : ℤ) (x : List ℤ) (i n count count' : ℕ) (a sum sum' : ℤ) → n ≤ 1 → IsEntry a → IsNext bar x i n a → count' ≡ count + n → sum' ≡ (sum +ℤ a)
+    → IsScanned bar x i count sum → IsScanned bar x (i + 1) count' sum'
+scanned_more bar x i n count count' a sum sum' one small next counted added inv = record {
+  few = omega (arith, inv.few, one, counted);
+  counts = omega (arith, inv.counts, next.counts, counted);
+  sums = omega (arith, ints, inv.sums, next.sums, added);
+  low = omega (arith, ints, inv.low, small.low, added);
+  high = omega (arith, ints, inv.high, small.high, added);
+}
+
 -- ---- one place put in or taken out
 
-module _ (count : ℕ) (sum bar : ℤ) (x : List ℤ) (u : ℕ) (ku : u < length x) where
-  pub with_same : IsShareOf count sum x (above bar x) → bar <ℤ get_or x u (pos 0) → IsShareOf count sum x (above_with bar x u)
-  with_same share more =
-      let s : List Bool = above bar x in
-      let is = is_above bar x u ku more in
-      let kl = length-above bar x in
-      let n = rw is at (size-put s u true (omega (arith, kl))) in
-      let t = rw is at (sum_over-put s u true x (omega (arith, kl)) kl) in
-      record { places = length-above_with bar x u; counts = omega (arith, share.counts, n); sums = omega (arith, ints, share.sums, t) }
+module _ (count : ℕ) (sum : ℤ) (x : List ℤ) (s : List Bool) (share : IsShareOf count sum x s) (e : ℕ) (ke : e < length x) where
+  here : e < length s
+  here = omega (arith, ke, share.places)
 
-  pub with_more : IsShareOf count sum x (above bar x) → get_or x u (pos 0) ≤ℤ bar → IsShareOf (count + 1) (sum +ℤ get_or x u (pos 0)) x (above_with bar x u)
-  with_more share less =
-      let s : List Bool = above bar x in
-      let out = is_not_above bar x u ku less in
-      let kl = length-above bar x in
-      let n = size-in s u (omega (arith, kl)) out in
-      let t = sum_over-in s u x (omega (arith, kl)) kl out in
-      record { places = length-above_with bar x u; counts = omega (arith, share.counts, n); sums = omega (arith, ints, share.sums, t) }
+  -- a place put as it is
+  pub same_put : (b : Bool) → get_or s e false ≡ b → IsShareOf count sum x (set s e b)
+  same_put b is =
+      let n = rw is at (size-put s e b here) in
+      let t = rw is at (sum_over-put s e b x here share.places) in
+      record { places = length-set s e b ∙ share.places; counts = omega (arith, share.counts, n); sums = omega (arith, ints, share.sums, t) }
 
-  module _ (v : ℕ) (kv : v < length x) (ne : u ≢ v) where
-    same_at : get_or (above_with bar x u) v false ≡ get_or (above bar x) v false
-    same_at = get_or-set_other (above bar x) u v true false (λ e. ne (sym e))
+  pub in_share : get_or s e false ≡ false → IsShareOf (count + 1) (sum +ℤ get_or x e (pos 0)) x (set s e true)
+  in_share out =
+      let n = size-in s e here out in
+      let t = sum_over-in s e x here share.places out in
+      record { places = length-set s e true ∙ share.places; counts = omega (arith, share.counts, n); sums = omega (arith, ints, share.sums, t) }
 
-    sized : length (above_between bar x u v) ≡ length x
-    sized = length-set (above_with bar x u) v false ∙ length-above_with bar x u
+  pub out_some : Has s e → 1 ≤ count
+  out_some has = let n = size-out s e here has in omega (arith, share.counts, n)
 
-    pub between_same : IsShareOf count sum x (above_with bar x u) → get_or x v (pos 0) ≤ℤ bar → IsShareOf count sum x (above_between bar x u v)
-    between_same share less =
-        let s : List Bool = above_with bar x u in
-        let out : get_or s v false ≡ false = same_at ∙ is_not_above bar x v kv less in
-        let kl = length-above_with bar x u in
-        let n = rw out at (size-put s v false (omega (arith, kl))) in
-        let t = rw out at (sum_over-put s v false x (omega (arith, kl)) kl) in
-        record { places = sized; counts = omega (arith, share.counts, n); sums = omega (arith, ints, share.sums, t) }
+  pub out_share : Has s e → IsShareOf (count - 1) (sum -ℤ get_or x e (pos 0)) x (set s e false)
+  out_share has =
+      let n = size-out s e here has in
+      let t = sum_over-out s e x here share.places has in
+      record { places = length-set s e false ∙ share.places; counts = omega (arith, share.counts, n); sums = omega (arith, ints, share.sums, t) }
 
-    pub between_some : IsShareOf count sum x (above_with bar x u) → 1 ≤ count
-    between_some share =
-        let kl = length-above_with bar x u in
-        let n = size-out (above_with bar x u) u (omega (arith, kl)) (has_with bar x u ku) in
-        omega (arith, share.counts, n)
+-- all places
+pub whole_share : (x : List ℤ) → IsShareOf (length x) (total_of x) x (whole_set (length x))
+whole_share x = record { places = length-replicate (length x) true; counts = sym (size-whole (length x)); sums = total_of-whole x }
 
-    pub between_less : IsShareOf count sum x (above_with bar x u) → bar <ℤ get_or x v (pos 0) → IsShareOf (count - 1) (sum -ℤ get_or x v (pos 0)) x (above_between bar x u v)
-    between_less share more =
-        let s : List Bool = above_with bar x u in
-        let is : Has s v = same_at ∙ is_above bar x v kv more in
-        let kl = length-above_with bar x u in
-        let n = size-out s v (omega (arith, kl)) is in
-        let t = sum_over-out s v x (omega (arith, kl)) kl is in
-        record { places = sized; counts = omega (arith, share.counts, n); sums = omega (arith, ints, share.sums, t) }
+-- ---- numbers of 128 bits
 
-pub without_share : (x : List ℤ) (v : ℕ) → v < length x → IsShareOf (length x - 1) (total_of x -ℤ get_or x v (pos 0)) x (set (whole_set (length x)) v false)
-without_share x v kv =
-    let kl = length-replicate (length x) true in
-    let has = Has-whole (length x) v kv in
-    let n = size-out (whole_set (length x)) v (omega (arith, kl)) has in
-    let t = sum_over-out (whole_set (length x)) v x (omega (arith, kl)) kl has in
-    let k = size-whole (length x) in
-    let all = total_of-whole x in
-    record { places = length-set (whole_set (length x)) v false ∙ kl; counts = omega (arith, n, k); sums = omega (arith, ints, t, all) }
+pub record AreFit (sum a : ℤ) : Type 0 where
+  pub share : FitsSigned w128 sum
+  pub entry : FitsSigned w128 a
+  pub more : FitsSigned w128 (sum +ℤ a)
+  pub less : FitsSigned w128 (sum -ℤ a)
+
+pub share_and_entry : (x : List ℤ) (e count : ℕ) (sum : ℤ) → length x ≤ 256 → All IsEntry x → e < length x → IsSomeShare count sum x → AreFit sum (get_or x e (pos 0))
+share_and_entry x e count sum few small ke (s, share) =
+    let a : IsEntry (get_or x e (pos 0)) = All-get_or IsEntry x e (pos 0) ke small in
+    let all : IsAtMost (10 ^ 33) sum = rw share.sums (share_small s x few small) in
+    record { share = share_fits _ all; entry = entry_fits _ a; more = more_fits _ _ all a; less = less_fits _ _ all a }

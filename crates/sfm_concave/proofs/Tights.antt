@@ -18,10 +18,10 @@ use Rattle.sfm_law.proofs.Totals.{total_of-drop, total_of-whole}
 use Rattle.sfm_concave.specs.Counts.{IsFalling}
 use Rattle.sfm_concave.specs.Rankings.{IsCut}
 use Rattle.sfm_concave.specs.Thresholds.{above, above_with, slack, slack_from, Blocks, IsBar, IsLastTight, NoneTight}
-use Rattle.sfm_concave.proofs.Above.{length-above}
+use Rattle.sfm_concave.proofs.Above.{length-above, is_above, is_not_above}
 use Rattle.sfm_concave.proofs.Bases.{none_short}
 use Rattle.sfm_concave.proofs.Ranks.{ascends, cut_counts, size-permuted, sum-permuted, total_of-permuted}
-use Rattle.sfm_concave.proofs.Shares.{with_same, with_more}
+use Rattle.sfm_concave.proofs.Shares.{same_put, in_share}
 
 -- ---- all places but the first n
 
@@ -154,7 +154,7 @@ module _ (h : ℕ → ℤ) (x y : List ℤ) (same : IsPermutation x y) (sorted :
 
   with_above : (bar : ℤ) (u : ℕ) → u < length x → bar <ℤ get_or x u (pos 0) → slack h x (above_with bar x u) ≡ slack h x (above bar x)
   with_above bar u ku more =
-      let share = with_same (size (above bar x)) (sum_over (above bar x) x) bar x u ku (record { places = length-above bar x; counts = refl; sums = refl }) more in
+      let share = same_put (size (above bar x)) (sum_over (above bar x) x) x (above bar x) (record { places = length-above bar x; counts = refl; sums = refl }) u ku true (is_above bar x u ku more) in
       let e = ap h share.counts in
       let t = share.sums in
       omega (arith, ints, e, t)
@@ -183,7 +183,7 @@ module _ (h : ℕ → ℤ) (x y : List ℤ) (same : IsPermutation x y) (sorted :
         let bar : ℤ = get_or x u (pos 0) in
         let some = own_some in
         let in_range = cut.in_range in
-        let share = with_more (size (above bar x)) (sum_over (above bar x) x) bar x u ku (record { places = length-above bar x; counts = refl; sums = refl }) (omega (arith, ints)) in
+        let share = in_share (size (above bar x)) (sum_over (above bar x) x) x (above bar x) (record { places = length-above bar x; counts = refl; sums = refl }) u ku (is_not_above bar x u ku (omega (arith, ints))) in
         let r = cut_counts bar y n cut.in_range (λ i lt. cut.low i (pos 0) (omega arith) lt) (λ i le lt. cut.high i (pos 0) le lt) in
         let counts = size-permuted bar x y same in
         let sums = sum-permuted bar x y same in

@@ -1,11 +1,10 @@
 // How many places a set has, and what they have in all, for the sets of places above an entry: by the ranking of the entries
 // where there is one, else by a look at each.
-ghost use Rattle.std.specs.Prelude.{◌≡◌, ◌≢◌, ◌-◌, ◌<◌, ◌≤◌, ◌^◌, IfSome, false, drop, length, slice_set};
+ghost use Rattle.std.specs.Prelude.{◌≡◌, ◌≢◌, ◌-◌, ◌<◌, ◌≤◌, ◌^◌, Bool, IfSome, List, true, false, drop, length, slice_index_or, slice_set};
 ghost use Rattle.std.specs.List.{All};
 ghost use Rattle.sfm_spec.specs.Bounds.{IsAtMost, IsEntry, total_of};
-ghost use Rattle.sfm_spec.specs.Sets.{whole_set};
-ghost use Rattle.sfm_concave.specs.Thresholds.{above, above_with, above_between};
-ghost use Rattle.sfm_concave.specs.Thresholds.{IsShareOf};
+ghost use Rattle.sfm_spec.specs.Sets.{Has, whole_set};
+ghost use Rattle.sfm_concave.specs.Thresholds.{above, above_with, above_between, IsShareOf, IsSomeShare};
 ghost use Rattle.sfm_concave.specs.Rankings.{IsCut, IsRanking};
 
 use crate::ranking::{RankingView, count_upto};
@@ -86,6 +85,44 @@ pub(crate) fn share_above(x: &[i128], ranking: Option<RankingView>, bar: i128) -
     }
 }
 
+/// Whether a place has more than a number.
+fn is_above(x: &[i128], bar: i128, v: usize) -> bool
+    requires small { All IsEntry x.now }
+    requires place { v < length x.now }
+    ensures { result ≡ slice_index_or (above bar x.now) v false }
+{
+    x[v] > bar
+}
+
+/// The share of a set with u, from that of the set, which lacks it.
+fn put_in(x: &[i128], share: Share, u: usize) -> Share
+    requires few { length x.now ≤ 256 }
+    requires small { All IsEntry x.now }
+    requires from { u < length x.now }
+    requires share { IsSomeShare share.count share.sum x.now }
+    ensures { (s : List Bool) → IsShareOf share.count share.sum x.now s → slice_index_or s u false ≡ false → IsShareOf result.count result.sum x.now (slice_set s u true) }
+{
+    Share {
+        count: share.count + 1,
+        sum: share.sum + x[u],
+    }
+}
+
+/// The share of a set without v, from that of the set, which has it.
+fn take_out(x: &[i128], share: Share, v: usize) -> Share
+    requires few { length x.now ≤ 256 }
+    requires small { All IsEntry x.now }
+    requires onto { v < length x.now }
+    requires share { IsSomeShare share.count share.sum x.now }
+    requires some { 1 ≤ share.count }
+    ensures { (s : List Bool) → IsShareOf share.count share.sum x.now s → Has s v → IsShareOf result.count result.sum x.now (slice_set s v false) }
+{
+    Share {
+        count: share.count - 1,
+        sum: share.sum - x[v],
+    }
+}
+
 /// The share of the places with more than a number and u, from that of those with more.
 fn share_with(x: &[i128], over: Share, bar: i128, u: usize) -> Share
     requires few { length x.now ≤ 256 }
@@ -94,13 +131,10 @@ fn share_with(x: &[i128], over: Share, bar: i128, u: usize) -> Share
     requires over { IsShareOf over.count over.sum x.now (above bar x.now) }
     ensures { IsShareOf result.count result.sum x.now (above_with bar x.now u) }
 {
-    if x[u] > bar {
+    if is_above(x, bar, u) {
         return over;
     }
-    Share {
-        count: over.count + 1,
-        sum: over.sum + x[u],
-    }
+    put_in(x, over, u)
 }
 
 /// The share of the places with more than a number and u, without v, from that of those with more.
@@ -114,13 +148,10 @@ pub(crate) fn share_between(x: &[i128], over: Share, bar: i128, u: usize, v: usi
     ensures { IsShareOf result.count result.sum x.now (above_between bar x.now u v) }
 {
     let share = share_with(x, over, bar, u);
-    if x[v] <= bar {
+    if !is_above(x, bar, v) {
         return share;
     }
-    Share {
-        count: share.count - 1,
-        sum: share.sum - x[v],
-    }
+    take_out(x, share, v)
 }
 
 /// The share of all places but v.
@@ -130,8 +161,9 @@ pub(crate) fn share_without(x: &[i128], v: usize) -> Share
     requires onto { v < length x.now }
     ensures { IsShareOf result.count result.sum x.now (slice_set (whole_set (length x.now)) v false) }
 {
-    Share {
-        count: x.len() - 1,
-        sum: sum_of(x) - x[v],
-    }
+    let all = Share {
+        count: x.len(),
+        sum: sum_of(x),
+    };
+    take_out(x, all, v)
 }

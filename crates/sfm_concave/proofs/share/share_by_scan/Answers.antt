@@ -1,10 +1,10 @@
-use Rattle.std.proofs.Common.{◌<ℤ◌, ◌≤ℤ◌, get_or, pos, arith, FitsSigned}
+use Rattle.std.proofs.Common.{get_or, pos, arith, FitsSigned}
 use Rattle.std.proofs.lemmas.Int.{ints, to_z-of_z}
 use Rattle.std.proofs.lemmas.List.Elements.{All-get_or}
 use mir.Syntax.{w128}
 use Rattle.sfm_spec.specs.Bounds.{IsEntry}
 use Rattle.sfm_law.proofs.Writes.{entry_fits}
-use Rattle.sfm_concave.proofs.Shares.{next_above, next_below}
+use Rattle.sfm_concave.proofs.Shares.{next_above, next_below, scanned_more}
 use Rattle.sfm_concave.proofs.share.share_by_scan.Goals as goal
 use Rattle.sfm_concave.proofs.share.share_by_scan.Goals.{then-a-bar, else-a-bar}
 
@@ -16,28 +16,13 @@ loop-a-preserved c =
     let a : IsEntry (get_or x i (pos 0)) = All-get_or IsEntry x i (pos 0) c.loop-a-test.true c.requires.small in
     let fa : FitsSigned w128 (get_or x i (pos 0)) = entry_fits _ a in
     let inv = simp to_z-of_z at c.loop-a.invariant in
-    let small = c.requires.few in
     elim c.if-a-bar.branch [
       | then-a-bar w ↦
           (let h = simp to_z-of_z at w.if-a-bar.true in
-          let more : c.args.bar <ℤ get_or x i (pos 0) = omega (arith, ints, h) in
-          let n = next_above c.args.bar x i c.loop-a-test.true more in
-          simp to_z-of_z (record {
-            few = omega (arith, inv.few, w.count-is);
-            counts = omega (arith, inv.counts, n.counts, w.count-is);
-            sums = omega (arith, ints, inv.sums, n.sums, w.sum-is);
-            low = omega (arith, ints, inv.low, inv.high, w.sum-is);
-            high = omega (arith, ints, inv.low, inv.high, w.sum-is);
-          }))
+          let next = next_above c.args.bar x i c.loop-a-test.true (omega (arith, ints, h)) in
+          simp to_z-of_z (scanned_more c.args.bar x i 1 _ _ _ _ _ (omega arith) a next (omega (arith, w.count-is)) (omega (arith, ints, w.sum-is)) inv))
       | else-a-bar w ↦
           (let h = simp to_z-of_z at w.if-a-bar.false in
-          let less : get_or x i (pos 0) ≤ℤ c.args.bar = omega (arith, ints, h) in
-          let n = next_below c.args.bar x i c.loop-a-test.true less in
-          simp to_z-of_z (record {
-            few = omega (arith, inv.few, w.count-is);
-            counts = omega (arith, inv.counts, n.counts, w.count-is);
-            sums = omega (arith, ints, inv.sums, n.sums, w.sum-is);
-            low = omega (arith, ints, inv.low, inv.high, w.sum-is);
-            high = omega (arith, ints, inv.low, inv.high, w.sum-is);
-          }))
+          let next = next_below c.args.bar x i c.loop-a-test.true (omega (arith, ints, h)) in
+          simp to_z-of_z (scanned_more c.args.bar x i 0 _ _ (pos 0) _ _ (omega arith) (record { low = omega (arith, ints); high = omega (arith, ints) }) next (omega (arith, w.count-is)) (omega (arith, ints, w.sum-is)) inv))
     ]
