@@ -1,31 +1,17 @@
 -- The exchanges at a base of a cover: what a place has can be moved away from it.
-use Rattle.std.proofs.Common.{◌≡◌, ◌≢◌, ◌↔◌, ℕ, ◌<◌, Bool, true, List, length, get_or, set, ℤ, pos, ◌+ℤ◌, ◌-ℤ◌, ◌*ℤ◌, ◌≤ℤ◌, sym, ◌∙◌, arith, ⊎_elim, length-set, get_or-set_other, get_or-set_same}
+use Rattle.std.proofs.Common.{◌≡◌, ◌≢◌, ◌↔◌, ℕ, ◌<◌, Bool, true, List, length, get_or, ℤ, pos, ◌*ℤ◌, ◌≤ℤ◌, sym, arith, ⊎_elim}
 use Rattle.std.proofs.lemmas.Bool.{cases_eq}
 use Rattle.std.proofs.lemmas.Int.{ints}
 use Rattle.std.proofs.lemmas.List.{length-replicate}
 use Rattle.sfm_spec.specs.Sets.{Has, whole_set, sum_over}
 use Rattle.sfm_spec.specs.Terms.{times, IsBase, IsCapacity, HasRoom, exchanged}
 use Rattle.sfm_spec.specs.Kinds.{cover_value}
+use Rattle.sfm_spec.proofs.MoveOrder.{exchanged-first, exchanged-second, exchanged-other}
 use Rattle.sfm_spec.proofs.Sets.{Has-whole}
 use Rattle.sfm_spec.proofs.Sums.{sum_over-exchanged, length-exchanged}
 use Rattle.sfm_law.proofs.Monotone.{AreCounts}
 use Rattle.sfm_law.specs.Room.{IsReach}
 use Rattle.sfm_simple.specs.CoverLaws.{IsCoverBase, cover_base, cover_base_back}
-
--- ---- the entries after an exchange
-
-pub exchanged-onto : (x : List ℤ) (u v : ℕ) (a : ℤ) → v < length x → get_or (exchanged x u v a) v (pos 0) ≡ (get_or x v (pos 0) -ℤ a)
-exchanged-onto x u v a kv =
-    let raised : List ℤ = set x u (get_or x u (pos 0) +ℤ a) in
-    get_or-set_same raised v (get_or x v (pos 0) -ℤ a) (pos 0) (omega (arith, length-set x u (get_or x u (pos 0) +ℤ a)))
-
-pub exchanged-from : (x : List ℤ) (u v : ℕ) (a : ℤ) → u < length x → u ≢ v → get_or (exchanged x u v a) u (pos 0) ≡ (get_or x u (pos 0) +ℤ a)
-exchanged-from x u v a ku ne =
-    get_or-set_other (set x u (get_or x u (pos 0) +ℤ a)) v u (get_or x v (pos 0) -ℤ a) (pos 0) ne ∙ get_or-set_same x u (get_or x u (pos 0) +ℤ a) (pos 0) ku
-
-pub exchanged-else : (x : List ℤ) (u v e : ℕ) (a : ℤ) → e ≢ u → e ≢ v → get_or (exchanged x u v a) e (pos 0) ≡ get_or x e (pos 0)
-exchanged-else x u v e a nu nv =
-    get_or-set_other (set x u (get_or x u (pos 0) +ℤ a)) v e (get_or x v (pos 0) -ℤ a) (pos 0) nv ∙ get_or-set_other x u e (get_or x u (pos 0) +ℤ a) (pos 0) nu
 
 module _ (q w : ℤ) (hq : pos 1 ≤ℤ q) (hw : pos 0 ≤ℤ w) (x : List ℤ) (base : IsBase (times q (cover_value w)) x) (u v : ℕ) (ku : u < length x) (kv : v < length x) (ne : u ≢ v) where
   is_base : IsCoverBase q w x
@@ -38,13 +24,13 @@ module _ (q w : ℤ) (hq : pos 1 ≤ℤ q) (hw : pos 0 ≤ℤ w) (x : List ℤ) 
         counts : AreCounts (exchanged x u v a)
         counts e h = ⊎_elim onto (λ nv. ⊎_elim (from nv) (other nv) (cases_eq e u)) (cases_eq e v) where
           onto : e ≡ v → pos 0 ≤ℤ get_or (exchanged x u v a) e (pos 0)
-          onto is = rw (is, exchanged-onto x u v a kv) (omega (arith, ints, high))
+          onto is = rw (is, exchanged-second x u v a kv) (omega (arith, ints, high))
 
           from : e ≢ v → e ≡ u → pos 0 ≤ℤ get_or (exchanged x u v a) e (pos 0)
-          from nv is = let c = is_base.counts u ku in rw (is, exchanged-from x u v a ku ne) (omega (arith, ints, low, c))
+          from nv is = let c = is_base.counts u ku in rw (is, exchanged-first x u v a ku ne) (omega (arith, ints, low, c))
 
           other : e ≢ v → e ≢ u → pos 0 ≤ℤ get_or (exchanged x u v a) e (pos 0)
-          other nv nu = let len = length-exchanged x u v a in rw (exchanged-else x u v e a nu nv) (is_base.counts e (omega (arith, len)))
+          other nv nu = let len = length-exchanged x u v a in rw (exchanged-other x u v e a nu nv) (is_base.counts e (omega (arith, len)))
 
         sum : sum_over (whole_set (length (exchanged x u v a))) (exchanged x u v a) ≡ (q *ℤ w)
         sum =
@@ -59,7 +45,7 @@ module _ (q w : ℤ) (hq : pos 1 ≤ℤ q) (hw : pos 0 ≤ℤ w) (x : List ℤ) 
       let len = length-exchanged x u v b in
       let h = cover_base_back q w (exchanged x u v b) hq hw (omega (arith, len)) moved in
       let c = h.counts v (omega (arith, len)) in
-      let e = exchanged-onto x u v b kv in
+      let e = exchanged-second x u v b kv in
       omega (arith, ints, c, e)
 
   pub cover-capacity : IsCapacity (times q (cover_value w)) x u v (get_or x v (pos 0))

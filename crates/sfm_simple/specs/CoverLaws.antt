@@ -1,16 +1,17 @@
 -- A number w that counts where a part has a place.
-use Rattle.std.proofs.Common.{◌≡◌, ◌≢◌, ℕ, zero, suc, ◌+◌, ◌-◌, ◌<◌, ◌≤◌, Bool, true, false, cond, List, [], ◌∷◌, length, get_or, set, replicate, ℤ, pos, neg_ℤ, ◌+ℤ◌, ◌-ℤ◌, ◌*ℤ◌, ◌≤ℤ◌, Some, nat_eq, if◌then◌else◌, refl, sym, ap, ◌∙◌, arith, ⊎_elim, length-set, get_or-set_other, get_or-set_same}
+use Rattle.std.proofs.Common.{◌≡◌, ◌≢◌, ℕ, zero, suc, ◌+◌, ◌-◌, ◌<◌, ◌≤◌, Bool, true, false, List, [], ◌∷◌, length, get_or, set, replicate, ℤ, pos, neg_ℤ, ◌+ℤ◌, ◌-ℤ◌, ◌*ℤ◌, ◌≤ℤ◌, Some, nat_eq, if◌then◌else◌, refl, sym, ap, ◌∙◌, arith, ⊎_elim, length-set, get_or-set_other, get_or-set_same}
 use Rattle.std.specs.List.{All}
 use Rattle.std.proofs.Math.IntN.{*ℤ-zero}
 use Rattle.std.proofs.lemmas.Bool.{ne_eqb, eq-eqb, cases_eq, cases_lt, false≢true}
 use Rattle.std.proofs.lemmas.Int.{ints}
 use Rattle.std.proofs.lemmas.List.{length-replicate, get_or-replicate}
-use Rattle.std.proofs.lemmas.List.Sums.{sum_by-cons}
 use Rattle.sfm_spec.specs.Sets.{Has, IsWithin, empty_set, whole_set, size, sum_over}
 use Rattle.sfm_spec.specs.Terms.{times, first_places, IsBase, IsFamily, IsSubmodular, IsGreedy}
 use Rattle.sfm_spec.specs.Kinds.{cover_value}
 use Rattle.sfm_spec.proofs.Scaled.{times-mono}
 use Rattle.sfm_spec.proofs.Sets.{Has-whole}
+use Rattle.sfm_spec.proofs.Sizes.{size-empty}
+use Rattle.sfm_spec.proofs.Where.{size-cons}
 use Rattle.sfm_law.proofs.LocalLaw.{local_law}
 use Rattle.sfm_law.proofs.Greedy.{front, first_places-front, first_places-more, greedy_base, greedy_small}
 use Rattle.sfm_law.proofs.Monotone.{AreCounts, sum_over-mono, sum_over-without, without}
@@ -25,13 +26,6 @@ pub record IsCoverBase (q w : ℤ) (x : List ℤ) : Type 0 where
   pub sum : sum_over (whole_set (length x)) x ≡ (q *ℤ w)
 
 -- ---- sizes
-
-size-cons : (b : Bool) (s : List Bool) → size (b ∷ s) ≡ cond b 1 0 + size s
-size-cons b s = sum_by-cons (λ (x : Bool). cond x 1 0) b s
-
-size-none : (k : ℕ) → size (empty_set k) ≡ 0
-size-none zero = refl
-size-none (suc k) = size-cons false (empty_set k) ∙ (let r = size-none k in omega (arith, r))
 
 size-low : (s : List Bool) (e : ℕ) → Has s e → 1 ≤ size s
 size-low [] e h = absurd (false≢true h)
@@ -74,7 +68,7 @@ cover-family w = record { empty = refl; whole = refl; unions = λ s t h g a b. r
 
 pub cover-submodular : (k : ℕ) (w : ℤ) → pos 0 ≤ℤ w → IsSubmodular k (cover_value w)
 unfolding covered
-cover-submodular k w low = local_law k (covered w) (covered-none w (empty_set k) (size-none k)) (record { pairs = pairs }) where
+cover-submodular k w low = local_law k (covered w) (covered-none w (empty_set k) (size-empty k)) (record { pairs = pairs }) where
   pairs : (s : List Bool) (a b : ℕ) → length s ≡ k → a < b → b < k → get_or s a false ≡ false → get_or s b false ≡ false
       → (covered w (set (set s a true) b true) +ℤ covered w s) ≤ℤ (covered w (set s a true) +ℤ covered w (set s b true))
   pairs s a b ks lt in_range out out' =
@@ -155,7 +149,7 @@ cover-greedy k q w some = record { places = length-set (replicate k (pos 0)) 0 (
       let fb : covered w (first_places k 0) ≡ b = cc in
       let ga = rw (first_places-more k 0 lt) at fa in
       let one = grown 0 lt in
-      let z = covered-none w (empty_set k) (size-none k) in
+      let z = covered-none w (empty_set k) (size-empty k) in
       let e : first_places k 0 ≡ empty_set k = (let n : k - 0 ≡ k = omega arith in rw n refl) in
       let gb = rw e at fb in
       let d : (a -ℤ b) ≡ w = omega (arith, ints, ga, gb, one, z) in

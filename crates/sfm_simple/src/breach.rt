@@ -1,10 +1,10 @@
 // The test of a table against the law of submodularity: the first set, in binary counting, with two places outside it
 // that gain more together than each alone. Where there is none, the table is submodular.
-ghost use Rattle.std.specs.Prelude.{◌≡◌, ◌↔◌, ℕ, ◌<◌, ◌≤◌, ◌^◌, false, length, slice_index_or, IsTrue, MatchOption, ◌+ℤ◌, ◌<ℤ◌};
+ghost use Rattle.std.specs.Prelude.{◌≡◌, ◌↔◌, ℕ, ◌<◌, ◌≤◌, ◌^◌, true, false, length, slice_index_or, slice_set, IsTrue, MatchOption, ◌+ℤ◌, ◌<ℤ◌};
 ghost use Rattle.std.specs.List.{All};
 ghost use Rattle.sfm_spec.specs.Bounds.{IsGiven};
 ghost use Rattle.sfm_simple.specs.Subsets.{members};
-ghost use Rattle.sfm_simple.specs.Breaches.{GainsMore, BreaksLaw, IsFirstBreach, IsFirstPair, IsFirstSecond};
+ghost use Rattle.sfm_simple.specs.Breaches.{listed_at, GainsMore, BreaksLaw, IsFirstBreach, IsFirstPair, IsFirstSecond};
 
 use crate::subset::{has, unit};
 
@@ -27,6 +27,29 @@ fn have_less(first: i128, second: i128, both: i128, neither: i128) -> bool
     first + second < both + neither
 }
 
+/// The number of a set with a place more.
+fn with_place(_k: usize, s: usize, a: usize) -> usize
+    requires few { _k ≤ 8 }
+    requires number { s < 2 ^ _k }
+    requires place { a < _k }
+    requires out { slice_index_or (members _k s) a false ≡ false }
+    ensures number { result < 2 ^ _k }
+    ensures members { members _k result ≡ slice_set (members _k s) a true }
+{
+    s + unit(a)
+}
+
+/// The number that is listed for a set.
+fn listed(values: &[i128], _k: usize, s: usize) -> i128
+    requires counted { length values.now ≡ 2 ^ _k }
+    requires given { All IsGiven values.now }
+    requires number { s < 2 ^ _k }
+    ensures value { result ≡ listed_at values.now (members _k s) }
+    ensures given { IsGiven result }
+{
+    values[s]
+}
+
 /// Whether two places outside a set gain more together than each alone.
 fn gains_more(values: &[i128], k: usize, s: usize, a: usize, b: usize) -> bool
     requires counted { length values.now ≡ 2 ^ k }
@@ -39,10 +62,15 @@ fn gains_more(values: &[i128], k: usize, s: usize, a: usize, b: usize) -> bool
     requires second_out { slice_index_or (members k s) b false ≡ false }
     ensures { IsTrue result ↔ GainsMore values.now (members k s) a b }
 {
-    let with_a = s + unit(a);
-    let with_b = s + unit(b);
-    let both = with_a + unit(b);
-    have_less(values[with_a], values[with_b], values[both], values[s])
+    let with_a = with_place(k, s, a);
+    let with_b = with_place(k, s, b);
+    let both = with_place(k, with_a, b);
+    have_less(
+        listed(values, k, with_a),
+        listed(values, k, with_b),
+        listed(values, k, both),
+        listed(values, k, s),
+    )
 }
 
 /// The first place b above a that breaks the law with a set and its place a.

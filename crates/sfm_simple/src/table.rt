@@ -1,9 +1,9 @@
 // A number for each part of at most eight elements, listed in binary counting: any submodular function of them.
 // All calls go through the parts: what a part leaves of its value is its slack, a base leaves none negative, and the room
 // of (u, v) is the least slack of a part with u and not v.
-ghost use Rattle.std.specs.Prelude.{◌≡◌, ◌≢◌, ◌↔◌, ℕ, ◌+◌, ◌-◌, ◌<◌, ◌≤◌, ◌^◌, true, false, length, slice_index_or, ℤ, pos, ◌≤ℤ◌, IfOk, OnOk, IsTrue, Option, Some, Ok, Err};
+ghost use Rattle.std.specs.Prelude.{◌≡◌, ◌≢◌, ◌↔◌, ℕ, ◌+◌, ◌-◌, ◌<◌, ◌≤◌, ◌^◌, true, false, length, slice_index_or, ℤ, pos, ◌*ℤ◌, ◌≤ℤ◌, IfOk, OnOk, IsTrue, Option, Some, Ok, Err};
 ghost use Rattle.std.specs.List.{All};
-ghost use Rattle.sfm_spec.specs.Bounds.{IsEntry, IsFactor, IsGiven, AreElements};
+ghost use Rattle.sfm_spec.specs.Bounds.{IsAtMost, IsEntry, IsFactor, IsGiven, AreElements};
 ghost use Rattle.sfm_spec.specs.Sets.{Has};
 ghost use Rattle.sfm_spec.specs.Terms.{times, IsSubmodular, IsGreedy};
 ghost use Rattle.sfm_spec.specs.Kinds.{table_value};
@@ -121,6 +121,15 @@ impl Table {
         self.values.as_slice()[s]
     }
 
+    /// The value of the part with the number s, q times.
+    fn scaled(&self, q: i128, s: usize) -> i128
+        requires factor { IsFactor q }
+        requires number { s < length self.now.values }
+        ensures { (result ≡ (q *ℤ slice_index_or self.now.values s (pos 0))) × IsAtMost (10 ^ 27) result }
+    {
+        product(q, self.listed(s))
+    }
+
     /// How many parts there are.
     fn count(&self) -> usize
         ensures { result ≡ length self.now.values }
@@ -134,9 +143,7 @@ impl Table {
         requires place { j < length self.now.places }
         ensures { result ≡ gain_of q self.now.values j }
     {
-        let after = self.listed(unit(j + 1) - 1);
-        let before = self.listed(unit(j) - 1);
-        product(q, after) - product(q, before)
+        self.scaled(q, unit(j + 1) - 1) - self.scaled(q, unit(j) - 1)
     }
 
     /// Writes what each place adds to those before it.
@@ -158,7 +165,7 @@ impl Table {
         requires number { s < length self.now.values }
         ensures { result ≡ slack_of q self.now.values x.now s }
     {
-        product(q, self.listed(s)) - sum_at(x, s)
+        self.scaled(q, s) - sum_at(x, s)
     }
 
     /// Whether the part with the number s has no slack.
