@@ -1,11 +1,12 @@
 -- The places with more than a number, and the greatest place of those with a test.
 use Rattle.std.proofs.Common.{◌≡◌, ◌≢◌, ◌⊎◌, ℕ, zero, suc, ◌<◌, Bool, true, false, List, [], ◌∷◌, length, get_or, set, ℤ, pos, ◌≤ℤ◌, ◌<ℤ◌, refl, sym, ◌∙◌, arith, inl, inr, ⊎_elim, length-set, get_or-set_other, get_or-set_same}
-use Rattle.std.proofs.lemmas.Bool.{false≢true, cases_Bool, cases_eq, both_ways}
+use Rattle.std.proofs.lemmas.Bool.{cases_Bool, cases_eq, both_ways}
 use Rattle.std.proofs.lemmas.Int.{ints, by_lt_z}
 use Rattle.std.proofs.lemmas.List.{length-map, length-replicate}
 use Rattle.std.specs.Int.Signed.{lt_z}
 use Rattle.sfm_spec.specs.Sets.{Has, whole_set}
 use Rattle.sfm_spec.proofs.Sets.{Has-whole}
+use Rattle.sfm_spec.proofs.Walks.{has_below}
 use Rattle.sfm_concave.specs.Thresholds.{above, above_with, above_between, Separates}
 
 pub length-above : (bar : ℤ) (x : List ℤ) → length (above bar x) ≡ length x
@@ -16,15 +17,9 @@ get_or-above bar [] e h = absurd (omega arith)
 get_or-above bar (y ∷ x) zero h = refl
 get_or-above bar (y ∷ x) (suc e) h = get_or-above bar x e (omega arith)
 
--- no place past the end
-pub has_place : (s : List Bool) (e : ℕ) → Has s e → e < length s
-has_place [] e h = absurd (false≢true h)
-has_place (b ∷ s) zero h = omega arith
-has_place (b ∷ s) (suc e) h = let r = has_place s e h in omega (arith, r)
-
 pub above_more : (bar : ℤ) (x : List ℤ) (e : ℕ) → Has (above bar x) e → bar <ℤ get_or x e (pos 0)
 above_more bar x e h =
-    let p = has_place (above bar x) e h in
+    let p = has_below (above bar x) e h in
     let t : lt_z bar (get_or x e (pos 0)) ≡ true = sym (get_or-above bar x e (omega (arith, p, length-above bar x))) ∙ h in
     omega (arith, ints, t)
 

@@ -10,10 +10,11 @@ use Rattle.sfm_spec.proofs.Where.{size-cons}
 use Rattle.sfm_spec.proofs.Sets.{has_or_not, same_sets, Has-whole}
 use Rattle.sfm_spec.proofs.Sizes.{size_below_length, size-whole}
 use Rattle.sfm_spec.proofs.Lattice.{NoneOf, LeastOf, least_set}
+use Rattle.sfm_spec.proofs.Walks.{has_below}
 use Rattle.sfm_law.proofs.Monotone.{without}
 use Rattle.sfm_concave.specs.Counts.{IsFalling, size-in, size-out, sum_over-in, sum_over-out}
 use Rattle.sfm_concave.specs.Thresholds.{above, above_with, above_between, slack, Separates, Blocks}
-use Rattle.sfm_concave.proofs.Above.{length-above, length-above_with, above_less, above_more, has_place, with_parts, out_with, between_parts, out_between, between_split, IsGreatestAt, greatest_at}
+use Rattle.sfm_concave.proofs.Above.{length-above, length-above_with, above_less, above_more, with_parts, out_with, between_parts, out_between, between_split, IsGreatestAt, greatest_at}
 
 -- each of the first m counts adds at least t
 abbrev RisesBy : ℕ → (ℕ → ℤ) → ℤ → Type 0
@@ -111,8 +112,8 @@ module _ (h : ℕ → ℤ) (x : List ℤ) (falling : IsFalling (length x) h) whe
     some_out m km least w g =
         let bar : ℤ = get_or x w (pos 0) in
         let r = fewer m (above bar x) w km (length-above bar x) g.in_range (not-true (get_or m w false) g.test) (least (set m w true) (length-set m w true ∙ km))
-        (λ e has. inside_by m w g e (let p = has_place (above bar x) e has in omega (arith, p, length-above bar x)) (above_more bar x e has))
-        (λ e has out. above_less bar x e (let p = has_place m e has in omega (arith, p, km)) out) in
+        (λ e has. inside_by m w g e (let p = has_below (above bar x) e has in omega (arith, p, length-above bar x)) (above_more bar x e has))
+        (λ e has out. above_less bar x e (let p = has_below m e has in omega (arith, p, km)) out) in
         let z = holds w g.in_range in
         omega (arith, ints, r, z)
 
@@ -197,11 +198,11 @@ module _ (h : ℕ → ℤ) (x : List ℤ) (falling : IsFalling (length x) h) whe
                 not_both h k = omega (arith, ints, h, k)
 
                 place : (e : ℕ) → Has (above (get_or x w (pos 0)) x) e → e < length x
-                place e up = let p = has_place (above (get_or x w (pos 0)) x) e up in omega (arith, p, length-above (get_or x w (pos 0)) x)
+                place e up = let p = has_below (above (get_or x w (pos 0)) x) e up in omega (arith, p, length-above (get_or x w (pos 0)) x)
 
           small : (e : ℕ) → Has m e → get_or (above_between (get_or x w (pos 0)) x u v) e false ≡ false → get_or x e (pos 0) ≤ℤ get_or x w (pos 0)
           small e has out =
-              let p = has_place m e has in
+              let p = has_below m e has in
               let with = out_between (get_or x w (pos 0)) x u v e (λ is. both_ways (get_or m v false) nv (rw is at has)) out in
               above_less (get_or x w (pos 0)) x e (omega (arith, p, km)) (out_with (get_or x w (pos 0)) x u e ku with).1
 
@@ -230,12 +231,12 @@ module _ (h : ℕ → ℤ) (x : List ℤ) (falling : IsFalling (length x) h) whe
           inside : IsWithin (above_with (get_or x w (pos 0)) x u) s
           inside e has = ⊎_elim
               (λ is. rw is split.first_in)
-              (λ up. inside_by s w g e (let p = has_place (above (get_or x w (pos 0)) x) e up in omega (arith, p, length-above (get_or x w (pos 0)) x)) (above_more (get_or x w (pos 0)) x e up))
+              (λ up. inside_by s w g e (let p = has_below (above (get_or x w (pos 0)) x) e up in omega (arith, p, length-above (get_or x w (pos 0)) x)) (above_more (get_or x w (pos 0)) x e up))
               (with_parts (get_or x w (pos 0)) x u e has)
 
           small : (e : ℕ) → Has s e → get_or (above_with (get_or x w (pos 0)) x u) e false ≡ false → get_or x e (pos 0) ≤ℤ get_or x w (pos 0)
           small e has out =
-              let p = has_place s e has in
+              let p = has_below s e has in
               above_less (get_or x w (pos 0)) x e (omega (arith, p, split.places)) (out_with (get_or x w (pos 0)) x u e ku out).1
 
           -- with w in place of u the set would leave less, were x(w) more than x(u)

@@ -1,5 +1,5 @@
 -- Bases of a weighted rank of a uniform matroid, and the exchanges at them.
-use Rattle.std.proofs.Common.{◌≡◌, ◌≢◌, ◌↔◌, ℕ, suc, ◌<◌, ◌≤◌, Bool, true, false, List, [], ◌∷◌, length, get_or, set, ℤ, pos, ◌+ℤ◌, ◌-ℤ◌, ◌*ℤ◌, ◌≤ℤ◌, ◌<ℤ◌, Some, refl, sym, ap, subst, ◌∙◌, arith, ⊎_elim, length-set, get_or-set_other, get_or-set_same}
+use Rattle.std.proofs.Common.{◌≡◌, ◌≢◌, ◌↔◌, ℕ, suc, ◌<◌, ◌≤◌, Bool, true, false, List, [], ◌∷◌, length, get_or, set, ℤ, pos, ◌+ℤ◌, ◌-ℤ◌, ◌*ℤ◌, ◌≤ℤ◌, ◌<ℤ◌, Some, refl, sym, ap, subst, ◌∙◌, arith, ⊎_elim, length-set}
 use Rattle.std.proofs.Math.IntN.{*ℤ-zero}
 use Rattle.std.proofs.lemmas.Bool.{cases_eq}
 use Rattle.std.proofs.lemmas.Int.{ints, clamps, by_lt_z}
@@ -11,17 +11,18 @@ use Rattle.sfm_spec.specs.Sets.{Has, empty_set, whole_set, size, sum_over, IsWit
 use Rattle.sfm_spec.specs.Terms.{times, IsBase, IsCapacity, HasRoom, exchanged}
 use Rattle.sfm_spec.specs.Kinds.{uniform_value}
 use Rattle.sfm_spec.proofs.Lattice.{none_in_empty}
+use Rattle.sfm_spec.proofs.MoveOrder.{exchanged-first, exchanged-second, exchanged-other}
 use Rattle.sfm_spec.proofs.Where.{size-cons}
 use Rattle.sfm_spec.proofs.Scaled.{times-mono, times-add, times-assoc}
 use Rattle.sfm_spec.proofs.Sets.{Has-whole}
 use Rattle.sfm_spec.proofs.Sizes.{size-whole, size-empty, size_below_length, weight-empty}
 use Rattle.sfm_spec.proofs.Sums.{sum_over-exchanged, length-exchanged}
+use Rattle.sfm_spec.proofs.Walks.{has_below}
 use Rattle.sfm_law.proofs.Monotone.{AreCounts, sum_over-mono, sum_over-without, without}
 use Rattle.sfm_law.proofs.Totals.{total_of-whole}
 use Rattle.sfm_law.specs.Room.{IsReach}
 use Rattle.sfm_concave.specs.Counts.{size-in, sum_over-in}
 use Rattle.sfm_concave.specs.UniformLaws.{rank_of, IsUniformRoom}
-use Rattle.sfm_concave.proofs.Above.{has_place}
 
 -- what a base is: entries from 0 to q·w, and q times the whole value in all
 pub record IsUniformBase (q w cap : ℤ) (x : List ℤ) : Type 0 where
@@ -59,7 +60,7 @@ uniform_base q w cap x hq hw h = record { within = within; total = total } where
   total = ap Some (ap (λ c. q *ℤ (w *ℤ rank_of cap c)) (size-whole (length x)) ∙ sym h.sum)
 
   inside : (s : List Bool) → length s ≡ length x → IsWithin s (whole_set (length x))
-  inside s same e has = let p = has_place s e has in Has-whole (length x) e (omega (arith, p, same))
+  inside s same e has = let p = has_below s e has in Has-whole (length x) e (omega (arith, p, same))
 
   within : (s : List Bool) (a : ℤ) → length s ≡ length x → times q (uniform_value w cap) s ≡ Some a → sum_over s x ≤ℤ a
   within s a same e = let f : (q *ℤ (w *ℤ rank_of cap (size s))) ≡ a = cc in rw (← f) (by_lt_z cap (pos (size s)) past under) where
@@ -120,21 +121,6 @@ uniform_base_back q w cap x hq hw base = record { counts = counts; capped = capp
       let high = times-mono q (w *ℤ rank_of cap (size s)) w (omega (arith, ints)) (omega (arith, ints, up)) in
       omega (arith, ints, all, t, z, high)
 
--- ---- the entries after an exchange
-
-exchanged-onto : (x : List ℤ) (u v : ℕ) (a : ℤ) → v < length x → get_or (exchanged x u v a) v (pos 0) ≡ (get_or x v (pos 0) -ℤ a)
-exchanged-onto x u v a kv =
-    let raised : List ℤ = set x u (get_or x u (pos 0) +ℤ a) in
-    get_or-set_same raised v (get_or x v (pos 0) -ℤ a) (pos 0) (omega (arith, length-set x u (get_or x u (pos 0) +ℤ a)))
-
-exchanged-from : (x : List ℤ) (u v : ℕ) (a : ℤ) → u < length x → u ≢ v → get_or (exchanged x u v a) u (pos 0) ≡ (get_or x u (pos 0) +ℤ a)
-exchanged-from x u v a ku ne =
-    get_or-set_other (set x u (get_or x u (pos 0) +ℤ a)) v u (get_or x v (pos 0) -ℤ a) (pos 0) ne ∙ get_or-set_same x u (get_or x u (pos 0) +ℤ a) (pos 0) ku
-
-exchanged-else : (x : List ℤ) (u v e : ℕ) (a : ℤ) → e ≢ u → e ≢ v → get_or (exchanged x u v a) e (pos 0) ≡ get_or x e (pos 0)
-exchanged-else x u v e a nu nv =
-    get_or-set_other (set x u (get_or x u (pos 0) +ℤ a)) v e (get_or x v (pos 0) -ℤ a) (pos 0) nv ∙ get_or-set_other x u e (get_or x u (pos 0) +ℤ a) (pos 0) nu
-
 module _ (q w cap : ℤ) (hq : pos 1 ≤ℤ q) (hw : pos 0 ≤ℤ w) (x : List ℤ) (base : IsBase (times q (uniform_value w cap)) x) (u v : ℕ) (ku : u < length x) (kv : v < length x) (ne : u ≢ v) where
   is_base : IsUniformBase q w cap x
   is_base = uniform_base_back q w cap x hq hw base
@@ -142,10 +128,10 @@ module _ (q w cap : ℤ) (hq : pos 1 ≤ℤ q) (hw : pos 0 ≤ℤ w) (x : List �
   -- an entry after the exchange
   each : (P : ℤ → Type 0) (a : ℤ) → P (get_or x u (pos 0) +ℤ a) → P (get_or x v (pos 0) -ℤ a) → ((e : ℕ) → e < length x → P (get_or x e (pos 0))) → (e : ℕ) → e < length x → P (get_or (exchanged x u v a) e (pos 0))
   each P a from onto else e lt = ⊎_elim
-      (λ is. subst P (sym (ap (λ i. get_or (exchanged x u v a) i (pos 0)) is ∙ exchanged-onto x u v a kv)) onto)
+      (λ is. subst P (sym (ap (λ i. get_or (exchanged x u v a) i (pos 0)) is ∙ exchanged-second x u v a kv)) onto)
       (λ nv. ⊎_elim
-      (λ is. subst P (sym (ap (λ i. get_or (exchanged x u v a) i (pos 0)) is ∙ exchanged-from x u v a ku ne)) from)
-      (λ nu. subst P (sym (exchanged-else x u v e a nu nv)) (else e lt))
+      (λ is. subst P (sym (ap (λ i. get_or (exchanged x u v a) i (pos 0)) is ∙ exchanged-first x u v a ku ne)) from)
+      (λ nu. subst P (sym (exchanged-other x u v e a nu nv)) (else e lt))
       (cases_eq e u))
       (cases_eq e v)
 
@@ -171,8 +157,8 @@ module _ (q w cap : ℤ) (hq : pos 1 ≤ℤ q) (hw : pos 0 ≤ℤ w) (x : List �
       let h = uniform_base_back q w cap (exchanged x u v b) hq hw moved in
       let c = h.counts v (omega (arith, len)) in
       let d = h.capped u (omega (arith, len)) in
-      let e = exchanged-onto x u v b kv in
-      let f = exchanged-from x u v b ku ne in
+      let e = exchanged-second x u v b kv in
+      let f = exchanged-first x u v b ku ne in
       (omega (arith, ints, c, e), omega (arith, ints, d, f))
 
   pub uniform-capacity : (a : ℤ) → IsUniformRoom q w x u v a → IsCapacity (times q (uniform_value w cap)) x u v a
