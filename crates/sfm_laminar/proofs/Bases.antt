@@ -1,8 +1,9 @@
 -- The bases of the weighted rank of groups of which no two cross: entries from 0 to q·w, no group above its bound, and the whole value in all.
 -- Textbook: Schrijver, Combinatorial Optimization, sections 39 and 44.
-use Rattle.std.proofs.Common.{◌≡◌, ◌↔◌, ℕ, ◌<◌, List, length, get_or, ℤ, pos, ◌*ℤ◌, ◌≤ℤ◌, ap, sym, ◌∙◌, arith}
+use Rattle.std.proofs.Common.{◌≡◌, ◌↔◌, ℕ, ◌<◌, Bool, false, IsTrue, List, length, get_or, ℤ, pos, ◌*ℤ◌, ◌≤ℤ◌, ap, sym, ◌∙◌, arith}
 use Rattle.std.specs.Int.{int_min}
 use Rattle.std.specs.List.{All}
+use Rattle.std.proofs.lemmas.Bool.{both_ways, false≢true}
 use Rattle.std.proofs.lemmas.Int.{ints, clamps}
 use Rattle.std.proofs.lemmas.List.{get_or_default}
 use Rattle.std.proofs.lemmas.List.Elements.{All-get_or}
@@ -23,6 +24,10 @@ use Rattle.sfm_laminar.specs.Grown.{grown}
 use Rattle.sfm_laminar.specs.Ranks.{rank, held, blocks, caps-matroid, caps-ranks, sum-ones, sum-ones_within, whole_grown}
 use Rattle.sfm_laminar.specs.LaminarLaws.{laminar_value, laminar_size}
 use Rattle.sfm_laminar.specs.Rooms.{bound_of, slack_of}
+
+-- where a test fails that each base passes, there is none
+pub refused : {Test Base : Type 0} (b : Bool) → IsTrue b ↔ Test → b ≡ false → (Base → Test) → IsTrue false ↔ Base
+refused b test fails passes = ((λ t. absurd (false≢true t)), (λ base. absurd (both_ways b fails (test.1 (passes base)))))
 
 -- what a base is
 pub record IsLaminarBase (k : ℕ) (q w : ℤ) (groups : List Group) (x : List ℤ) : Type 0 where

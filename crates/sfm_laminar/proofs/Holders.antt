@@ -3,7 +3,7 @@ use Rattle.std.proofs.Common.{◌≡◌, ◌↔◌, ℕ, zero, suc, ◌+◌, ◌
 use Rattle.std.specs.List.{Contains, list_any}
 use Rattle.std.proofs.lemmas.Bool.{false≢true, cases_lt, cases_Bool, or_left, or_right, eqb-true, eq-eqb}
 use Rattle.std.proofs.lemmas.Map.Views.{Contains-from_any}
-use Rattle.std.proofs.lemmas.List.{get_or_default, get_or_push, get_or_append_left, length_push}
+use Rattle.std.proofs.lemmas.List.{get_or_default}
 use Rattle.std.proofs.lemmas.List.Elements.{Contains-get_or, Contains-push, Contains-push_cases, Contains-append_left}
 use Rattle.sfm_spec.specs.Kinds.{Group}
 use Rattle.sfm_laminar.specs.Crossing.{group_at}
@@ -65,16 +65,6 @@ are_holders groups e (suc n) = at (list_any (nat_eq e) (group_at groups n).membe
   at : (b : Bool) → list_any (nat_eq e) (group_at groups n).members ≡ b → AreHolders groups n e (holders groups e n) → AreHolders groups (suc n) e (if b then holders groups e n ++ n ∷ [] else holders groups e n)
   at true is h = grows groups n e (holders groups e n) h (test_tells e (group_at groups n).members is)
   at false is h = stays groups n e (holders groups e n) h (λ c. false≢true (sym is ∙ tested e (group_at groups n).members c))
-
-pub index_more : (groups : List Group) (index : List (List ℕ)) (n : ℕ) (es : List ℕ) → length index ≡ n → ((p : ℕ) → p < n → get_or index p [] ≡ holders groups p (length groups)) → es ≡ holders groups n (length groups)
-    → record { places : length (index ++ es ∷ []) ≡ n + 1; numbers : (p : ℕ) → p < n + 1 → get_or (index ++ es ∷ []) p [] ≡ holders groups p (length groups) }
-index_more groups index n es same h here = record {
-  places = (let l = length_push index es in omega (arith, l, same));
-  numbers = λ p lt. ⊎_elim
-      (λ (l : p < n). get_or_append_left index (es ∷ []) [] p (omega (arith, same, l)) ∙ h p l)
-      (λ (ge : n ≤ p). let at : p ≡ n = omega arith in rw at (get_or_push index es [] n same ∙ here))
-      (cases_lt p n);
-}
 
 -- a group that holds u has one of the numbers
 pub number_of : (groups : List Group) (es : List ℕ) (u i : ℕ) → AreHolders groups (length groups) u es → i < length groups → Contains (group_at groups i).members u → (p : ℕ) × (p < length es) × (get_or es p 0 ≡ i)

@@ -1,3 +1,4 @@
+pub mod Made
 pub mod Masked
 pub mod Bases
 pub mod Exchanges

@@ -1,10 +1,10 @@
 -- What is kept beside a base: the members of groups as sets, what each group lacks, and the places that have something.
-use Rattle.std.proofs.Common.{◌≡◌, ◌≢◌, ◌↔◌, ℕ, ◌+◌, ◌<◌, ◌≤◌, ◌^◌, Bool, true, false, List, [], ◌∷◌, ◌++◌, length, get_or, set, ℤ, Option, None, Some, IfSome, pos, ◌+ℤ◌, ◌-ℤ◌, ◌*ℤ◌, ◌≤ℤ◌, if◌then◌else◌, sym, ap, ◌∙◌, arith, ⊎_elim, length-set, get_or-set_same, get_or-set_other}
+use Rattle.std.proofs.Common.{◌≡◌, ◌≢◌, ◌↔◌, ℕ, ◌+◌, ◌<◌, ◌≤◌, ◌^◌, Bool, true, false, List, [], ◌∷◌, length, get_or, set, ℤ, Option, None, Some, IfSome, pos, ◌+ℤ◌, ◌-ℤ◌, ◌*ℤ◌, ◌≤ℤ◌, sym, ◌∙◌, arith, ⊎_elim, length-set, get_or-set_same, get_or-set_other}
 use Rattle.std.specs.List.{All, Contains}
 use Rattle.std.specs.Int.{int_min}
 use Rattle.std.proofs.lemmas.Bool.{false≢true, cases_lt, cases_eq}
 use Rattle.std.proofs.lemmas.Int.{ints, clamps}
-use Rattle.std.proofs.lemmas.List.{get_or_default, get_or_push, get_or_append_left, length_push, length-replicate}
+use Rattle.std.proofs.lemmas.List.{get_or_default, length-replicate}
 use Rattle.std.proofs.lemmas.List.Elements.{All-head, All-tail, All-get_or}
 use Rattle.sfm_spec.specs.Bounds.{IsAtMost}
 use Rattle.sfm_spec.specs.Sets.{Has, empty_set, union}
@@ -37,27 +37,7 @@ mask_from k es s ks below exact =
     (λ e lt h. contains-mask k g e below ((exact e (omega (arith, lt, ks))).0 h))
     (λ e lt h. (exact e (omega (arith, lt, ks))).1 (mask-contains k g e h))
 
-pub masks_more : (k : ℕ) (groups : List Group) (sets : List (List Bool)) (n : ℕ) (s : List Bool) → length sets ≡ n → ((p : ℕ) → p < n → get_or sets p [] ≡ mask k (group_at groups p).members) → s ≡ mask k (group_at groups n).members
-    → record { places : length (sets ++ s ∷ []) ≡ n + 1; sets : (p : ℕ) → p < n + 1 → get_or (sets ++ s ∷ []) p [] ≡ mask k (group_at groups p).members }
-masks_more k groups sets n s same h here = record {
-  places = (let l = length_push sets s in omega (arith, l, same));
-  sets = λ p lt. ⊎_elim
-      (λ (l : p < n). get_or_append_left sets (s ∷ []) [] p (omega (arith, same, l)) ∙ h p l)
-      (λ (ge : n ≤ p). let at : p ≡ n = omega arith in rw at (get_or_push sets s [] n same ∙ here))
-      (cases_lt p n);
-}
-
 -- ---- what each group lacks
-
-pub slacks_more : (q w : ℤ) (groups : List Group) (x slacks : List ℤ) (n : ℕ) (a : ℤ) → length slacks ≡ n → ((p : ℕ) → p < n → get_or slacks p (pos 0) ≡ slack_of q w x (group_at groups p)) → a ≡ slack_of q w x (group_at groups n)
-    → record { places : length (slacks ++ a ∷ []) ≡ n + 1; each : (p : ℕ) → p < n + 1 → get_or (slacks ++ a ∷ []) p (pos 0) ≡ slack_of q w x (group_at groups p) }
-slacks_more q w groups x slacks n a same h here = record {
-  places = (let l = length_push slacks a in omega (arith, l, same));
-  each = λ p lt. ⊎_elim
-      (λ (l : p < n). get_or_append_left slacks (a ∷ []) (pos 0) p (omega (arith, same, l)) ∙ h p l)
-      (λ (ge : n ≤ p). let at : p ≡ n = omega arith in rw at (get_or_push slacks a (pos 0) n same ∙ here))
-      (cases_lt p n);
-}
 
 sum-counts : (es : List ℕ) (x : List ℤ) → AreCounts x → All (λ e. e < length x) es → pos 0 ≤ℤ sum_listed es x
 sum-counts [] x counts below = omega (arith, ints)

@@ -63,20 +63,12 @@ impl Index {
         Ok(Index { holders })
     }
 
-    /// What is kept of a place.
-    fn listed(&self, e: usize) -> &[usize]
-        requires { e < length self.now }
-        ensures { result.now ≡ slice_index_or self.now e [] }
-    {
-        let holders = &self.holders[e];
-        holders.numbers.as_slice()
-    }
-
     /// The numbers of the groups that hold a place.
     pub(crate) fn of(&self, e: usize) -> &[usize]
         requires { e < length self.now }
         ensures { (k : ℕ) (groups : List Group) → IsIndex k groups self.now → AreHoldersOf groups e result.now }
     {
-        self.listed(e)
+        let holders = &self.holders[e];
+        holders.numbers.as_slice()
     }
 }

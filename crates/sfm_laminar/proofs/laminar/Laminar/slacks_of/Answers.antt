@@ -1,7 +1,9 @@
-use Rattle.std.proofs.Common.{◌≡◌, ◌∙◌, length, arith, rules, FitsSigned}
+use Rattle.std.proofs.Common.{◌≡◌, ◌∙◌, ℤ, pos, length, arith, rules, FitsSigned}
 use Rattle.std.proofs.lemmas.Int.{to_z-of_z}
 use mir.Syntax.{w128}
-use Rattle.sfm_laminar.proofs.Slacking.{slacks_more}
+use Rattle.sfm_laminar.specs.Crossing.{group_at}
+use Rattle.sfm_laminar.specs.Rooms.{slack_of}
+use Rattle.sfm_laminar.proofs.Made.{made_more}
 use Rattle.sfm_laminar.proofs.laminar.Laminar.slacks_of.Goals as goal
 
 pub loop-i-preserved : goal.loop-i-preserved
@@ -11,7 +13,7 @@ loop-i-preserved c =
     let fs : FitsSigned w128 c.slack.result = search rules in
     let inv = simp to_z-of_z at c.loop-i.invariant in
     let e = simp to_z-of_z at c.slack.ensures in
-    rw c.in_ok-push.ensures.items (simp to_z-of_z (slacks_more c.args.q s.w s.groups c.args.x.now c.loop-i.slacks.items c.loop-i.i c.slack.result inv.places inv.each e))
+    rw c.in_ok-push.ensures.items (simp to_z-of_z (made_more ℤ (pos 0) (λ p. slack_of c.args.q s.w c.args.x.now (group_at s.groups p)) c.loop-i.i c.loop-i.slacks.items c.slack.result inv e))
 
 pub returns : goal.returns
 returns c =

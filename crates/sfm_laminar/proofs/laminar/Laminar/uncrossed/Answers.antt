@@ -7,13 +7,17 @@ use Rattle.sfm_laminar.specs.Groups.{IsGroup, AreGroups}
 use Rattle.sfm_laminar.specs.LaminarLaws.{basis_of}
 use Rattle.sfm_laminar.proofs.Kept.{basis_from}
 use Rattle.sfm_laminar.proofs.laminar.Laminar.uncrossed.Goals as goal
+use Rattle.sfm_laminar.proofs.laminar.Laminar.uncrossed.Goals.{After-places}
+
+-- the groups are sound, within the places, and none cross
+grouped : (c : After-places) → AreGroups (length c.args.elements.now) c.args.groups
+grouped c =
+    let P : List Group → Type 0 = λ gs. All IsGroup gs in
+    record { each = subst P c.groups.view_is c.groups.invariant; below = c.requires.below; none = c.requires.none }
 
 pub grow-requires-clause-grouped : goal.grow-requires-clause-grouped
 grow-requires-clause-grouped c =
-    let k = length c.args.elements.now in
-    let P : List Group → Type 0 = λ gs. All IsGroup gs in
-    let ok : AreGroups k c.args.groups = record { each = subst P c.groups.view_is c.groups.invariant; below = c.requires.below; none = c.requires.none } in
-    rw (ap length c.in_ok-all.ensures ∙ length-replicate k true) ok
+    rw (ap length c.in_ok-all.ensures ∙ length-replicate (length c.args.elements.now) true) (grouped (goal.at.grow-requires-clause-grouped c).After-places)
 
 pub grow-requires-clause-few : goal.grow-requires-clause-few
 grow-requires-clause-few c =
@@ -25,8 +29,7 @@ invariant_of-result-clause-few c = rw c.in_ok-places.ensures (placed_few 256 c.a
 
 pub invariant_of-result-clause-grouped : goal.invariant_of-result-clause-grouped
 invariant_of-result-clause-grouped c =
-    let P : List Group → Type 0 = λ gs. All IsGroup gs in
-    rw c.in_ok-places.ensures (record { each = subst P c.groups.view_is c.groups.invariant; below = c.requires.below; none = c.requires.none })
+    rw c.in_ok-places.ensures (grouped (goal.at.invariant_of-result-clause-grouped c).After-places)
 
 pub invariant_of-result-clause-based : goal.invariant_of-result-clause-based
 invariant_of-result-clause-based c =

@@ -13,26 +13,19 @@ pub move_slacks-requires-clause-small : goal.move_slacks-requires-clause-small
 move_slacks-requires-clause-small c =
     let r = c.requires in
     let s = c.args.self.now in
-    let q = c.args._q in
-    let x = c.args.x.now in
-    let kept = c.args.note.now.slacks in
-    let k = length s.places in
-    rw c.deref_mut.ensures.value (slacks_small k q s.w s.groups r.factor.low s.low s.grouped x r.entries s.few (product_high q s.w r.factor s.given) r.base kept.items r.noted.0)
+    rw c.deref_mut.ensures.value (slacks_small _ _ s.w s.groups r.factor.low s.low s.grouped _ r.entries s.few (product_high _ _ r.factor s.given) r.base _ r.noted.0)
 
 pub returns : goal.returns
 returns c =
     let r = c.requires in
     let s = c.args.self.now in
-    let q = c.args._q in
-    let x = c.args.x.now in
     let kept = c.args.note.now.slacks in
-    let k = length s.places in
     let fa : FitsSigned w128 c.args.a = c.ranges.a in
     let z = c.move_slacks.new.slacks in
     let e = c.deref_mut.ensures.value in
     let same = c.move_slacks.ensures.places ∙ ap length e in
     let moved = rw e at (simp to_z-of_z at c.move_slacks.ensures.moved) in
     let support = simp to_z-of_z at c.move_support.ensures in (
-      rw (take_at z (drop (length z) kept.items) kept.len (same ∙ sym kept.ok.0)) (slacks_moved k q s.w s.groups r.factor.low s.low s.grouped x r.entries c.args.u c.args.v c.args.a r.from r.onto r.apart kept.items z r.noted.0 same moved),
+      rw (take_at z (drop (length z) kept.items) kept.len (same ∙ sym kept.ok.0)) (slacks_moved _ _ s.w s.groups r.factor.low s.low s.grouped _ r.entries _ _ _ r.from r.onto r.apart _ z r.noted.0 same moved),
       support,
     )

@@ -1,7 +1,7 @@
-use Rattle.std.proofs.Common.{◌≡◌, ◌∙◌, ap, length, arith}
-use Rattle.sfm_laminar.specs.Crossing.{no_group}
+use Rattle.std.proofs.Common.{◌≡◌, ◌∙◌, Bool, List, [], ap, length, arith}
+use Rattle.sfm_laminar.specs.Crossing.{no_group, group_at}
 use Rattle.sfm_laminar.specs.Masks.{mask}
-use Rattle.sfm_laminar.proofs.Slacking.{masks_more}
+use Rattle.sfm_laminar.proofs.Made.{made_more}
 use Rattle.sfm_laminar.proofs.masks.Masks.new.Goals as goal
 
 pub set_of-requires-clause-ascending : goal.set_of-requires-clause-ascending
@@ -12,12 +12,11 @@ set_of-requires-clause-below c = rw (c.members.ensures, c.group-group.ensures.gr
 
 pub loop-i-preserved : goal.loop-i-preserved
 loop-i-preserved c =
-    let inv = c.loop-i.invariant in
     let members = c.members.ensures ∙ ap (λ g. g.members) c.group-group.ensures.group in
-    rw c.in_ok-push.ensures.items (masks_more c.args.k c.args.groups.now _ c.loop-i.i _ inv.places inv.sets (c.in_ok-set_of.ensures ∙ ap (λ es. mask c.args.k es) members))
+    rw c.in_ok-push.ensures.items (made_more (List Bool) [] (λ p. mask c.args.k (group_at c.args.groups.now p).members) c.loop-i.i _ _ c.loop-i.invariant (c.in_ok-set_of.ensures ∙ ap (λ es. mask c.args.k es) members))
 
 pub returns : goal.returns
 returns c =
     let inv = c.loop-i.invariant in
     let n : c.loop-i.i ≡ length c.args.groups.now = omega (arith, c.loop-i-test.false, c.loop-i.auto.i-end) in
-    record { places = inv.places ∙ n; sets = λ p lt. inv.sets p (omega (arith, lt, n)) }
+    record { places = inv.places ∙ n; sets = λ p lt. inv.each p (omega (arith, lt, n)) }
