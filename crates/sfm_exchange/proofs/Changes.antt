@@ -7,18 +7,14 @@ use Rattle.sfm_exchange.specs.Bits.{bit_in, blank_bits, set_at}
 use Rattle.sfm_exchange.specs.Reach.{IsRow}
 use Rattle.sfm_exchange.specs.Renewed.{AreAsked, AreChanges, AreJoined}
 use Rattle.sfm_exchange.proofs.AtOnce.{others_kept}
-use Rattle.sfm_exchange.proofs.Claiming.{IsRaising, others_stay}
+use Rattle.sfm_exchange.proofs.Claiming.{IsRenewing, found_inside, others_stay}
 
-module _ {places : List ℕ} {f : SetFunction} {s t : ℕ} {x y : List ℤ} {claimed found : Bits} {rows : List Bits} (r : IsRaising places f s t x y claimed found rows) (of_s : Bits) (hs : IsRow places f y s of_s) (changes : Changes) where
-  -- the places that were found are the term's
-  inside : (e : ℕ) → bit_in found e ≡ 1 → (u : ℕ) × (u < length places) × (get_or places u 0 ≡ e)
-  inside e one = let (u, lu, is, why) = (r.all e).0 one in (u, lu, is)
-
+module _ {places : List ℕ} {f : SetFunction} {s t : ℕ} {x y : List ℤ} {claimed found : Bits} {rows : List Bits} (r : IsRenewing places f s t x y claimed found rows) (of_s : Bits) (hs : IsRow places f y s of_s) (changes : Changes) where
   -- rows that are joined have what they had, but for that of s, which may be any
   pub changes_grown : (more : Bits) (mid : List Bits) → AreJoined places found more (get_or places s 0) (length places) rows mid
       → ((e : ℕ) → (bit_in changes.anew e ≡ 1) ↔ (e ≡ get_or places s 0)) → ((e : ℕ) → (bit_in changes.grown e ≡ 1) ↔ ((e ≢ get_or places s 0) × (bit_in found e ≡ 1))) → AreChanges places changes rows (set mid s of_s)
   changes_grown more mid joined anew grown = record {
-    inside = λ e. ⊎_elim (λ one. inside e ((grown e).0 one).1) (λ one. (s, r.raised, sym ((anew e).0 one)));
+    inside = λ e. ⊎_elim (λ one. found_inside r e ((grown e).0 one).1) (λ one. (s, r.raising.raised, sym ((anew e).0 one)));
     grown = λ u t lu one bit.
         let (ne, has) = (grown (get_or places u 0)).0 one in
         let apart : u ≢ s = λ same. ne (rw same refl) in
@@ -30,13 +26,13 @@ module _ {places : List ℕ} {f : SetFunction} {s t : ℕ} {x y : List ℤ} {cla
     own : (u t : ℕ) → u < length places → bit_in (set_at rows u) t ≡ 1 → t ≡ get_or places u 0 → ⊥
     own u t lu bit same =
         let (v, lv, ne, is) = (r.claims.claims u lu).inside t bit in
-        ne (r.distinct v u lv lu (is ∙ same))
+        ne (r.raising.distinct v u lv lu (is ∙ same))
 
   -- rows that are asked may be any
   pub changes_anew : (nothing : (e : ℕ) → bit_in claimed e ≢ 1) (others : Bits) (out : bit_in others (get_or places s 0) ≡ 0) (same : (e : ℕ) → e ≢ get_or places s 0 → bit_in others e ≡ bit_in found e) (mid : List Bits)
       → AreAsked places f y others (length places) (set rows s of_s) mid → ((e : ℕ) → bit_in changes.grown e ≡ 0) → changes.anew ≡ found → AreChanges places changes rows mid
   changes_anew nothing others out same mid asked none anew = record {
-    inside = λ e. ⊎_elim (λ one. absurd (let z = none e in omega (arith, z, one))) (λ one. inside e (rw anew at one));
+    inside = λ e. ⊎_elim (λ one. absurd (let z = none e in omega (arith, z, one))) (λ one. found_inside r e (rw anew at one));
     grown = λ u t lu one bit. absurd (let z = none (get_or places u 0) in omega (arith, z, one));
     others = λ u lu rest not. others_kept r nothing of_s hs others out same mid asked u lu (λ has. not (rw anew has));
   }

@@ -1,5 +1,5 @@
 -- The rows of one term after an exchange, by the rows before.
-use Rattle.std.proofs.Common.{◌≡◌, ◌≢◌, ◌↔◌, ◌⊎◌, ⊎_elim, inl, inr, ℕ, ◌<◌, max, List, length, get_or, ℤ, pos, ◌≤ℤ◌, refl, sym, ap, ◌∙◌, arith}
+use Rattle.std.proofs.Common.{◌≡◌, ◌≢◌, ◌↔◌, ◌⊎◌, ⊎_elim, inl, inr, ℕ, ◌<◌, max, List, length, get_or, ℤ, refl, sym, ap, subst, ◌∙◌, arith}
 use Rattle.std.proofs.lemmas.Bool.{cases_eq}
 use Rattle.sfm_spec.specs.Sets.{AreDistinct}
 use Rattle.sfm_spec.specs.Rows.{Depends, RowLaws}
@@ -9,7 +9,7 @@ use Rattle.sfm_spec.proofs.RowLaw.{depends_on, row_laws}
 use Rattle.sfm_exchange.specs.declared.bits.Bits.{Bits}
 use Rattle.sfm_exchange.specs.Bits.{bit_in}
 use Rattle.sfm_exchange.specs.Reach.{IsRow}
-use Rattle.sfm_exchange.specs.Renewed.{IsJoined}
+use Rattle.sfm_exchange.specs.Renewed.{IsExchanged, IsJoined}
 use Rattle.sfm_exchange.proofs.Words.{bit_in-lt}
 
 -- the places of two rows, with one put in and one taken out
@@ -35,6 +35,18 @@ joined_is row more a b c to out both put kept gone stays e = (there (cases_eq e 
   back (inr ne) (inr (inl new)) = let l = bit_in-lt row e in let m = bit_in-lt more e in let k = kept e ne in let j = both e in omega (arith, l, m, k, j, new)
   back (inr ne) (inr (inr same)) = absurd (ne same)
 
+-- all places of a set are the term's
+abbrev pub IsOfTerm : List ℕ → Bits → Type 0
+IsOfTerm places row = (e : ℕ) → bit_in row e ≡ 1 → (w : ℕ) × (w < length places) × (get_or places w 0 ≡ e)
+
+-- so are those of two joined, with one of the term
+joined_inside : (places : List ℕ) (row more new : Bits) (s out : ℕ) → s < length places → IsOfTerm places row → IsOfTerm places more → IsJoined row more (get_or places s 0) out new → IsOfTerm places new
+joined_inside places row more new s out ls old all is e one = by ((is e).0 one).1 where
+  by : (bit_in row e ≡ 1) ⊎ (bit_in more e ≡ 1) ⊎ (e ≡ get_or places s 0) → (w : ℕ) × (w < length places) × (get_or places w 0 ≡ e)
+  by (inl one) = old e one
+  by (inr (inl one)) = all e one
+  by (inr (inr same)) = (s, ls, sym same)
+
 module _ (places : List ℕ) (distinct : AreDistinct places) {f : SetFunction} where
   -- a row tells, place by place, what depends on what
   pub row_tells : (z : List ℤ) (u : ℕ) (row : Bits) → IsRow places f z u row → (w : ℕ) → w < length places → (bit_in row (get_or places w 0) ≡ 1) ↔ ((w ≢ u) × Depends f z u w)
@@ -47,12 +59,11 @@ module _ (places : List ℕ) (distinct : AreDistinct places) {f : SetFunction} w
     from (ne, inr room) = (h (get_or places w 0)).1 (w, lw, ne, room, refl)
 
   -- and all its places are the term's
-  row_inside : (z : List ℤ) (u : ℕ) (row : Bits) → IsRow places f z u row → (e : ℕ) → bit_in row e ≡ 1 → (w : ℕ) × (w < length places) × (get_or places w 0 ≡ e)
+  row_inside : (z : List ℤ) (u : ℕ) (row : Bits) → IsRow places f z u row → IsOfTerm places row
   row_inside z u row h e one = let (v, lv, ne, room, is) = (h e).0 one in (v, lv, is)
 
   -- a set that tells this is the row
-  row_if : (z : List ℤ) (u : ℕ) (row : Bits) → ((w : ℕ) → w < length places → (bit_in row (get_or places w 0) ≡ 1) ↔ ((w ≢ u) × Depends f z u w)) → ((e : ℕ) → bit_in row e ≡ 1 → (w : ℕ) × (w < length places) × (get_or places w 0 ≡ e))
-      → IsRow places f z u row
+  row_if : (z : List ℤ) (u : ℕ) (row : Bits) → ((w : ℕ) → w < length places → (bit_in row (get_or places w 0) ≡ 1) ↔ ((w ≢ u) × Depends f z u w)) → IsOfTerm places row → IsRow places f z u row
   row_if z u row h inside e = (to, (λ (v, lv, ne, room, is). rw is at ((h v lv).1 (ne, inr room)))) where
     to : bit_in row e ≡ 1 → (v : ℕ) × (v < length places) × (v ≢ u) × HasRoom f z u v × (get_or places v 0 ≡ e)
     to one =
@@ -63,7 +74,7 @@ module _ (places : List ℕ) (distinct : AreDistinct places) {f : SetFunction} w
   -- of two places that depend on each other the one has the row of the other, with that in place of itself
   pub row_shared : IsFamily (length places) f → IsSubmodular (length places) f → (x : List ℤ) → length x ≡ length places → IsBase f x → (s u : ℕ) (of_s new : Bits) → s < length places → u < length places → IsRow places f x s of_s → Depends f x u s
       → bit_in of_s (get_or places u 0) ≡ 1 → IsJoined of_s of_s (get_or places s 0) (get_or places u 0) new → IsRow places f x u new
-  row_shared family law x sized base s u of_s new ls lu h to_s bit is = row_if x u new (λ w lw. (to w lw, from w lw)) inside where
+  row_shared family law x sized base s u of_s new ls lu h to_s bit is = row_if x u new (λ w lw. (to w lw, from w lw)) (joined_inside places of_s of_s new s _ ls (row_inside x s of_s h) (row_inside x s of_s h) is) where
     from_s : Depends f x s u
     from_s = ((row_tells x s of_s h u lu).0 bit).1
 
@@ -83,71 +94,79 @@ module _ (places : List ℕ) (distinct : AreDistinct places) {f : SetFunction} w
       by (inl same) = inr (inr (ap (λ z. get_or places z 0) same))
       by (inr other) = inl ((row_tells x s of_s h w lw).1 (other, depends_on family law sized base s u w ls lu lw from_s d))
 
-    inside : (e : ℕ) → bit_in new e ≡ 1 → (w : ℕ) × (w < length places) × (get_or places w 0 ≡ e)
-    inside e one = by ((is e).0 one).1 where
-      by : (bit_in of_s e ≡ 1) ⊎ (bit_in of_s e ≡ 1) ⊎ (e ≡ get_or places s 0) → (w : ℕ) × (w < length places) × (get_or places w 0 ≡ e)
-      by (inl one) = row_inside x s of_s h e one
-      by (inr (inl one)) = row_inside x s of_s h e one
-      by (inr (inr same)) = (s, ls, sym same)
+-- an exchange that raises s and lowers t has led from the base x to the base y
+pub record IsRaising (places : List ℕ) (f : SetFunction) (s t : ℕ) (x y : List ℤ) : Type 0 where
+  pub distinct : AreDistinct places
+  pub family : IsFamily (length places) f
+  pub law : IsSubmodular (length places) f
+  pub raised : s < length places
+  pub lowered : t < length places
+  pub apart : s ≢ t
+  pub entries : length y ≡ length places
+  pub base : IsBase f y
+  pub moved : IsExchanged f x y s t
 
-  module _ (family : IsFamily (length places) f) (law : IsSubmodular (length places) f) {x : List ℤ} (sized : length x ≡ length places) (base : IsBase f x)
-      (s t : ℕ) (ls : s < length places) (lt : t < length places) (apart : s ≢ t) (a : ℤ) (some : pos 1 ≤ℤ a) (after : IsBase f (exchanged x s t a)) where
-    abbrev y : List ℤ
-    y = exchanged x s t a
+module _ {places : List ℕ} {f : SetFunction} {s t : ℕ} {x y : List ℤ} (m : IsRaising places f s t x y) where
+  sized : length x ≡ length places
+  sized = sym (length-exchanged x s t m.moved.amount) ∙ (ap length (sym m.moved.is) ∙ m.entries)
 
-    laws : RowLaws f x s t a
-    laws = row_laws family law sized base s t ls lt apart a some after
+  after : IsBase f (exchanged x s t m.moved.amount)
+  after = subst (IsBase f) m.moved.is m.base
 
-    within : (w : ℕ) → w < length places → w < length x
-    within w l = rw sized l
+  laws : RowLaws f x s t m.moved.amount
+  laws = row_laws m.family m.law sized m.moved.base s t m.raised m.lowered m.apart m.moved.amount m.moved.some after
 
-    -- s depends on t before
-    s_depends : Depends f x s t
-    s_depends = inr (a, some, after)
+  within : (w : ℕ) → w < length places → w < length x
+  within w l = rw sized l
 
-    -- where t was, s is now
-    pub follows_s : (u : ℕ) → u < length places → Depends f x u t → Depends f y u s
-    follows_s u lu d = laws.follows u (within u lu) d
+  -- s depends on t before
+  pub s_depends : Depends f x s t
+  s_depends = inr (m.moved.amount, m.moved.some, after)
 
-    -- the row of a place that did not depend on t
-    pub row_untouched : (u : ℕ) (row : Bits) → u < length places → (Depends f x u t → ⊥) → IsRow places f x u row → IsRow places f y u row
-    row_untouched u row lu none h = row_if y u row (λ w lw.
-        let tells = row_tells x u row h w lw in
-        let same = laws.untouched u w (within u lu) (within w lw) none in
-        ((λ one. let (ne, d) = tells.0 one in (ne, same.1 d)), (λ (ne, d). tells.1 (ne, same.0 d)))) (row_inside x u row h)
+  -- where t was, s is now
+  pub follows_s : (u : ℕ) → u < length places → Depends f x u t → Depends f y u s
+  follows_s u lu d = rw m.moved.is (laws.follows u (within u lu) d)
 
-    -- the row of a place that depended on t, where s still does
-    pub row_joined : (u : ℕ) (row of_s new : Bits) → u < length places → Depends f x u t → IsRow places f x u row → IsRow places f y s of_s → bit_in of_s (get_or places t 0) ≡ 1 → IsJoined row of_s (get_or places s 0) (get_or places u 0) new → IsRow places f y u new
-    row_joined u row of_s new lu d h hs bit is = row_if y u new (λ w lw. (to w lw, from w lw)) inside where
-      s_still : Depends f y s t
-      s_still = ((row_tells y s of_s hs t lt).0 bit).1
+  -- what comes to a place comes by t and from s
+  pub arises_by : (u w : ℕ) → u < length places → w < length places → Depends f y u w → Depends f x u w ⊎ (Depends f x u t × Depends f x s w)
+  arises_by u w lu lw d = laws.arises u w (within u lu) (within w lw) (rw m.moved.is at d)
 
-      u_still : Depends f y u t
-      u_still = depends_on family law (length-exchanged x s t a ∙ sized) after u s t lu ls lt (follows_s u lu d) s_still
+  -- and where t stays nothing is lost, and all that s had comes
+  pub stays_with : (u w : ℕ) → u < length places → w < length places → Depends f x u t → Depends f y u t → Depends f y u w ↔ (Depends f x u w ⊎ Depends f x s w)
+  stays_with u w lu lw d still = rw m.moved.is ((laws.stays u (within u lu) d).0 (rw m.moved.is at still) w (within w lw))
 
-      all : (w : ℕ) → w < length places → Depends f y u w ↔ (Depends f x u w ⊎ Depends f x s w)
-      all w lw = (laws.stays u (within u lu) d).0 u_still w (within w lw)
+  -- the row of a place that did not depend on t
+  pub row_untouched : (u : ℕ) (row : Bits) → u < length places → (Depends f x u t → ⊥) → IsRow places f x u row → IsRow places f y u row
+  row_untouched u row lu none h = row_if places m.distinct y u row (λ w lw.
+      let tells = row_tells places m.distinct x u row h w lw in
+      let same : Depends f y u w ↔ Depends f x u w = rw m.moved.is (laws.untouched u w (within u lu) (within w lw) none) in
+      ((λ one. let (ne, d) = tells.0 one in (ne, same.1 d)), (λ (ne, d). tells.1 (ne, same.0 d)))) (row_inside places m.distinct x u row h)
 
-      of_all : (w : ℕ) → w < length places → Depends f y s w ↔ (Depends f x s w ⊎ Depends f x s w)
-      of_all w lw = (laws.stays s (within s ls) s_depends).0 s_still w (within w lw)
+  -- the row of a place that depended on t, where s still does
+  pub row_joined : (u : ℕ) (row of_s new : Bits) → u < length places → Depends f x u t → IsRow places f x u row → IsRow places f y s of_s → bit_in of_s (get_or places t 0) ≡ 1 → IsJoined row of_s (get_or places s 0) (get_or places u 0) new → IsRow places f y u new
+  row_joined u row of_s new lu d h hs bit is = row_if places m.distinct y u new (λ w lw. (to w lw, from w lw)) (joined_inside places row of_s new s _ m.raised (row_inside places m.distinct x u row h) (row_inside places m.distinct y s of_s hs) is) where
+    s_still : Depends f y s t
+    s_still = ((row_tells places m.distinct y s of_s hs t m.lowered).0 bit).1
 
-      to : (w : ℕ) → w < length places → bit_in new (get_or places w 0) ≡ 1 → (w ≢ u) × Depends f y u w
-      to w lw one = let (ne, o) = (is (get_or places w 0)).0 one in ((λ same. ne (ap (λ z. get_or places z 0) same)), by o) where
-        by : (bit_in row (get_or places w 0) ≡ 1) ⊎ (bit_in of_s (get_or places w 0) ≡ 1) ⊎ (get_or places w 0 ≡ get_or places s 0) → Depends f y u w
-        by (inl old) = (all w lw).1 (inl ((row_tells x u row h w lw).0 old).1)
-        by (inr (inl more)) = (all w lw).1 (inr (⊎_elim (λ one. one) (λ one. one) ((of_all w lw).0 ((row_tells y s of_s hs w lw).0 more).1)))
-        by (inr (inr same)) = let here : w ≡ s = distinct w s lw ls same in rw here (follows_s u lu d)
+    u_still : Depends f y u t
+    u_still = depends_on m.family m.law m.entries m.base u s t lu m.raised m.lowered (follows_s u lu d) s_still
 
-      from : (w : ℕ) → w < length places → (w ≢ u) × Depends f y u w → bit_in new (get_or places w 0) ≡ 1
-      from w lw (ne, dw) = (is (get_or places w 0)).1 ((λ same. ne (distinct w u lw lu same)), by (cases_eq w s) ((all w lw).0 dw)) where
-        by : (w ≡ s) ⊎ (w ≢ s) → Depends f x u w ⊎ Depends f x s w → (bit_in row (get_or places w 0) ≡ 1) ⊎ (bit_in of_s (get_or places w 0) ≡ 1) ⊎ (get_or places w 0 ≡ get_or places s 0)
-        by o (inl old) = inl ((row_tells x u row h w lw).1 (ne, old))
-        by (inl same) (inr more) = inr (inr (ap (λ z. get_or places z 0) same))
-        by (inr other) (inr more) = inr (inl ((row_tells y s of_s hs w lw).1 (other, (of_all w lw).1 (inl more))))
+    all : (w : ℕ) → w < length places → Depends f y u w ↔ (Depends f x u w ⊎ Depends f x s w)
+    all w lw = stays_with u w lu lw d u_still
 
-      inside : (e : ℕ) → bit_in new e ≡ 1 → (w : ℕ) × (w < length places) × (get_or places w 0 ≡ e)
-      inside e one = by ((is e).0 one).1 where
-        by : (bit_in row e ≡ 1) ⊎ (bit_in of_s e ≡ 1) ⊎ (e ≡ get_or places s 0) → (w : ℕ) × (w < length places) × (get_or places w 0 ≡ e)
-        by (inl old) = row_inside x u row h e old
-        by (inr (inl more)) = row_inside y s of_s hs e more
-        by (inr (inr same)) = (s, ls, sym same)
+    of_all : (w : ℕ) → w < length places → Depends f y s w ↔ (Depends f x s w ⊎ Depends f x s w)
+    of_all w lw = stays_with s w m.raised lw s_depends s_still
+
+    to : (w : ℕ) → w < length places → bit_in new (get_or places w 0) ≡ 1 → (w ≢ u) × Depends f y u w
+    to w lw one = let (ne, o) = (is (get_or places w 0)).0 one in ((λ same. ne (ap (λ z. get_or places z 0) same)), by o) where
+      by : (bit_in row (get_or places w 0) ≡ 1) ⊎ (bit_in of_s (get_or places w 0) ≡ 1) ⊎ (get_or places w 0 ≡ get_or places s 0) → Depends f y u w
+      by (inl old) = (all w lw).1 (inl ((row_tells places m.distinct x u row h w lw).0 old).1)
+      by (inr (inl more)) = (all w lw).1 (inr (⊎_elim (λ one. one) (λ one. one) ((of_all w lw).0 ((row_tells places m.distinct y s of_s hs w lw).0 more).1)))
+      by (inr (inr same)) = let here : w ≡ s = m.distinct w s lw m.raised same in rw here (follows_s u lu d)
+
+    from : (w : ℕ) → w < length places → (w ≢ u) × Depends f y u w → bit_in new (get_or places w 0) ≡ 1
+    from w lw (ne, dw) = (is (get_or places w 0)).1 ((λ same. ne (m.distinct w u lw lu same)), by (cases_eq w s) ((all w lw).0 dw)) where
+      by : (w ≡ s) ⊎ (w ≢ s) → Depends f x u w ⊎ Depends f x s w → (bit_in row (get_or places w 0) ≡ 1) ⊎ (bit_in of_s (get_or places w 0) ≡ 1) ⊎ (get_or places w 0 ≡ get_or places s 0)
+      by o (inl old) = inl ((row_tells places m.distinct x u row h w lw).1 (ne, old))
+      by (inl same) (inr more) = inr (inr (ap (λ z. get_or places z 0) same))
+      by (inr other) (inr more) = inr (inl ((row_tells places m.distinct y s of_s hs w lw).1 (other, (of_all w lw).1 (inl more))))

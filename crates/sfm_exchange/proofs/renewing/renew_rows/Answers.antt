@@ -5,29 +5,31 @@ use Rattle.sfm_spec.proofs.Scaled.{family-times, submodular-times}
 use Rattle.sfm_exchange.specs.Bits.{bit_in}
 use Rattle.sfm_exchange.proofs.AtOnce.{exchange_asked, lead_to_s}
 use Rattle.sfm_exchange.proofs.Changes.{changes_anew, changes_grown}
-use Rattle.sfm_exchange.proofs.Claiming.{IsRaising, exchange_more, exchange_still, neither}
+use Rattle.sfm_exchange.proofs.Claiming.{IsRenewing, exchange_more, exchange_still, neither}
 use Rattle.sfm_exchange.proofs.Sharing.{changes_shared, claims_shared, shared_inside, shared_lead}
 use Rattle.sfm_exchange.proofs.renewing.renew_rows.Given as given
 use Rattle.sfm_exchange.proofs.renewing.renew_rows.Goals as goal
 use Rattle.sfm_exchange.proofs.renewing.renew_rows.Goals.{After-depending-changed}
 
 -- the exchange, and the places that depended on the last place of the step
-raising : (g : given.Over) (c : After-depending-changed g) → let at = c.args.at.now in IsRaising (g.T.Term.places at.term.now) (times at.q (g.T.Term.value_of at.term.now)) c.args.hop.u c.args.hop.v c.requires.before.0 at.x.now
+renewing : (g : given.Over) (c : After-depending-changed g) → let at = c.args.at.now in IsRenewing (g.T.Term.places at.term.now) (times at.q (g.T.Term.value_of at.term.now)) c.args.hop.u c.args.hop.v c.requires.before.0 at.x.now
     c.args.claimed.now c.depending-changed.result c.args.rows.now
-raising g c =
+renewing g c =
     let term = c.args.at.now.term.now in
     let r = c.requires in
     let b = r.based in
     record {
-      distinct = b.placed.distinct;
-      family = family-times _ c.args.at.now.q _ (g.met.T.Term.family term);
-      law = submodular-times _ c.args.at.now.q _ (omega (arith, ints, b.factor.low)) (g.met.T.Term.submodular term);
-      raised = rw (← b.entries) r.raised;
-      lowered = rw (← b.entries) r.lowered;
-      apart = r.apart;
-      entries = b.entries;
-      base = b.base;
-      moved = r.before.1;
+      raising = record {
+        distinct = b.placed.distinct;
+        family = family-times _ c.args.at.now.q _ (g.met.T.Term.family term);
+        law = submodular-times _ c.args.at.now.q _ (omega (arith, ints, b.factor.low)) (g.met.T.Term.submodular term);
+        raised = rw (← b.entries) r.raised;
+        lowered = rw (← b.entries) r.lowered;
+        apart = r.apart;
+        entries = b.entries;
+        base = b.base;
+        moved = r.before.1;
+      };
       claims = r.before.2;
       count = r.rows ∙ b.entries;
       all = rw (c.elements-places.ensures, c.as_slice.ensures) at c.depending-changed.ensures;
@@ -35,7 +37,7 @@ raising g c =
 
 pub returns-then-contains-clause-raised : goal.returns-then-contains-clause-raised
 returns-then-contains-clause-raised g c =
-    let r = raising g (goal.at.returns-then-contains-clause-raised g c).After-depending-changed in
+    let r = renewing g (goal.at.returns-then-contains-clause-raised g c).After-depending-changed in
     let shown = c.elements-places.ensures in
     let hs = c.in_ok-of_s.ensures in
     let joined = rw (shown, hs.same) at c.join_rows.ensures in
@@ -47,13 +49,13 @@ returns-then-contains-clause-raised g c =
 
 pub ask_rows-requires-clause-leads : goal.ask_rows-requires-clause-leads
 ask_rows-requires-clause-leads g c = λ u l.
-    let r = raising g (goal.at.ask_rows-requires-clause-leads g c).After-depending-changed in
+    let r = renewing g (goal.at.ask_rows-requires-clause-leads g c).After-depending-changed in
     let out = rw c.elements-places.ensures at c.remove-then-asks_at_once.ensures in
     lead_to_s r (c.asks_at_once.ensures c.if-asks_at_once.true) _ c.in_ok-of_s.ensures.row _ out.out out.others u (rw (← c.requires.based.entries) l)
 
 pub returns-then-asks_at_once-clause-raised : goal.returns-then-asks_at_once-clause-raised
 returns-then-asks_at_once-clause-raised g c =
-    let r = raising g (goal.at.returns-then-asks_at_once-clause-raised g c).After-depending-changed in
+    let r = renewing g (goal.at.returns-then-asks_at_once-clause-raised g c).After-depending-changed in
     let hs = c.in_ok-of_s.ensures in
     let nothing = c.asks_at_once.ensures c.if-asks_at_once.true in
     let out = rw c.elements-places.ensures at c.remove-then-asks_at_once.ensures in
@@ -65,7 +67,7 @@ returns-then-asks_at_once-clause-raised g c =
 
 pub returns-clause-raised : goal.returns-clause-raised
 returns-clause-raised g c =
-    let r = raising g (goal.at.returns-clause-raised g c).After-depending-changed in
+    let r = renewing g (goal.at.returns-clause-raised g c).After-depending-changed in
     let shown = c.elements-places.ensures in
     let hs = c.in_ok-of_s.ensures in
     let joined = rw (shown, hs.same, c.row-before.ensures) at c.join_rows-2.ensures in
@@ -75,6 +77,6 @@ returns-clause-raised g c =
     let told = c.shared_places-shared.ensures in
     let after = rw (shown, c.set-2.ensures) at c.settle_shared.ensures in
     record {
-      claims = claims_shared _ _ _ _ _ after.rows r.distinct r.family r.law _ r.entries r.base (record { within = r.raised; place_is = refl; row_is = hs.row }) (shared_lead r _ hs.row _ told) _ _ after.claimed still;
-      changes = changes_shared _ _ _ _ _ after.rows _ _ _ after.grown after.anew (shared_inside r _ hs.row _ told) grown;
+      claims = claims_shared _ _ _ _ _ after.rows r.raising (record { within = r.raising.raised; place_is = refl; row_is = hs.row }) (shared_lead r _ _ told) _ _ after.claimed still;
+      changes = changes_shared _ _ _ _ _ after.rows _ _ _ after.grown after.anew (shared_inside r _ _ told) grown;
     }
