@@ -1,6 +1,6 @@
 // Sets of places below 256, as four words of 64 bits: the rows of what each place reaches, and the levels of a search. A
 // set is a plain value and takes no memory of its own, and two sets are joined or compared a word at a time.
-ghost use Rattle.std.specs.Prelude.{◌≡◌, ◌≢◌, ◌↔◌, ℕ, ◌-◌, ◌<◌, max, true, false, IsTrue, MatchOption, if◌then◌else◌};
+ghost use Rattle.std.specs.Prelude.{◌≡◌, ◌≢◌, ◌↔◌, ℕ, ◌-◌, ◌<◌, max, min, true, false, IsTrue, MatchOption, if◌then◌else◌};
 ghost use Rattle.sfm_exchange.specs.Bits.{bit_in};
 
 /// A set of places below 256.
@@ -73,6 +73,15 @@ impl Bits {
     {
         for k in 0..4 {
             self.words[k] |= other.words[k];
+        }
+    }
+
+    /// Takes each place out that the other set has not.
+    pub fn meet_with(&mut self, other: &Bits)
+        ensures { (e : ℕ) → bit_in self.new e ≡ min (bit_in self.old e) (bit_in other.now e) }
+    {
+        for k in 0..4 {
+            self.words[k] &= other.words[k];
         }
     }
 

@@ -31,10 +31,9 @@ fn next_level(back: &[Bits], level: &Bits, left: &mut Bits) -> Bits
     requires { length back.now ≡ 256 }
     ensures { AreNext back.now level.now left.old left.new result }
 {
-    let leading = leading_into(back, level);
-    let mut next = *left;
-    left.remove_all(&leading);
-    next.remove_all(left);
+    let mut next = leading_into(back, level);
+    next.meet_with(left);
+    left.remove_all(&next);
     next
 }
 

@@ -122,9 +122,7 @@ fn shared_places(changed: &Bits, of_s: &Bits, claimed: &Bits) -> Bits
 {
     let mut shared = *changed;
     shared.remove_all(claimed);
-    let mut others = shared;
-    others.remove_all(of_s);
-    shared.remove_all(&others);
+    shared.meet_with(of_s);
     shared
 }
 

@@ -5,18 +5,17 @@ use Rattle.sfm_exchange.proofs.levels.next_level.Goals as goal
 
 pub returns : goal.returns
 returns c = record {
-  parted = λ e. let l = c.remove_all.ensures e in let n = c.remove_all-2.ensures e in omega (arith, l, n);
+  parted = λ e. let n = c.meet_with.ensures e in let l = c.remove_all.ensures e in omega (arith, n, l);
   leads = λ e one.
-      let l = c.remove_all.ensures e in
-      let n = c.remove_all-2.ensures e in
-      let a = bit_in-lt c.args.left.now e in
-      let b = bit_in-lt c.leading_into-leading.result e in
-      (c.leading_into-leading.ensures e).0 (omega (arith, l, n, a, b, one));
+      let n = c.meet_with.ensures e in
+      let b = bit_in-lt c.leading_into-next.result e in
+      (c.leading_into-next.ensures e).0 (omega (arith, n, b, one));
   closed = λ e led.
+      let n = c.meet_with.ensures e in
       let l = c.remove_all.ensures e in
       let a = bit_in-lt c.args.left.now e in
-      let one = (c.leading_into-leading.ensures e).1 led in
-      omega (arith, l, a, one);
+      let one = (c.leading_into-next.ensures e).1 led in
+      omega (arith, n, l, a, one);
   inside = λ t one.
       let words : length c.args.level.now.words ≡ 4 = omega arith in
       ⊎_elim (λ l. l) (λ ge. absurd (let z = within_words c.args.level.now t (omega (arith, words, ge)) in omega (arith, z, one))) (cases_lt t 256);
