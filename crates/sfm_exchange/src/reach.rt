@@ -149,32 +149,8 @@ pub fn row_by<T: Term>(
     Ok(placed_bits(at.term.elements(), &mut rows.part))
 }
 
-/// The row of the place u, which is s or has room to it, by a note that fits the base, which fits it still. After want of
-/// memory nothing is said of the note.
-pub fn row_with<T: Term>(
-    alloc: Global,
-    at: &Based<'_, T>,
-    note: &mut T::Note,
-    s: usize,
-    u: usize,
-    rows: &mut BitRows,
-) -> Result<Bits, Memory>
-    requires based { IsBased T.places T.value_of T.size_of at.now.term.now at.now.q at.now.x.now }
-    requires noted { T.fits at.now.term.now note.old at.now.q at.now.x.now }
-    requires onto { s < length at.now.x.now }
-    requires from { u < length at.now.x.now }
-    requires leads { Depends (times at.now.q (T.value_of at.now.term.now)) at.now.x.now u s }
-    requires rows { length rows.old ≡ length at.now.x.now }
-    ensures same { rows.new ≡ rows.old }
-    ensures row { IfOk result (IsRow (T.places at.now.term.now) (times at.now.q (T.value_of at.now.term.now)) at.now.x.now u) }
-    ensures noted { OnOk result (T.fits at.now.term.now note.new at.now.q at.now.x.now) }
-{
-    at.term
-        .reach_with(alloc, at.q, at.x, note, s, u, &mut rows.part)?;
-    Ok(placed_bits(at.term.elements(), &mut rows.part))
-}
-
-/// The row that `row_with` tells, beside the parts that were told before it.
+/// The row of the place u, which is s or has room to it, beside the parts that were told before it. The note fits the base, and
+/// fits it still; after want of memory nothing is said of it.
 pub fn row_beside<T: Term>(
     alloc: Global,
     at: &Based<'_, T>,

@@ -20,7 +20,7 @@ ghost use Rattle.sfm_exchange.specs.Renewed.{AreAsked, AreDepending, AreJoined, 
 use crate::bits::{Bits, no_bits, only};
 use crate::image::Image;
 use crate::path::Hop;
-use crate::reach::{Based, BitRows, row_beside, row_with};
+use crate::reach::{Based, BitRows, row_beside, row_by};
 use sfm_base::Memory;
 use sfm_law::Term;
 use std::alloc::Global;
@@ -254,7 +254,7 @@ pub fn renew_rows<T: Term>(
     let to = places[hop.u];
     let changed = depending(places, rows.as_slice(), hop.v);
     let before = rows.row(hop.u);
-    let of_s = row_with(alloc, at, note, hop.u, hop.u, rows)?;
+    let of_s = row_by(alloc, at, note, hop.u, rows)?;
     if of_s.contains(places[hop.v]) {
         join_rows(places, &changed, &of_s, to, rows);
         rows.set(hop.u, of_s);
