@@ -42,70 +42,79 @@ taken s v i lt h =
     let ne : i ≢ v = λ same. false≢true (sym (put-here s v false lt) ∙ (rw same at h)) in
     (ne, sym (put-else s v false lt i ne) ∙ h)
 
+-- a set that was cleared, and another put into it
+pub cleared_count : (n : ℕ) (set with_set : List Bool) → n ≡ length set → with_set ≡ union (empty_set n) set → length with_set ≡ length set
+cleared_count n set with_set sized is = rw is (length-union (empty_set n) set same ∙ same) where
+  same : length (empty_set n) ≡ length set
+  same = length-replicate n false ∙ sized
+
+-- what a set has beside another, written into a third
+module _ (n : ℕ) (set other written : List Bool) (sized : n ≡ length set) (count : length other ≡ length set) (is : written ≡ intersection (union (empty_set n) set) (complement other)) where
+  same : length (empty_set n) ≡ length set
+  same = length-replicate n false ∙ sized
+
+  joined : length (union (empty_set n) set) ≡ length set
+  joined = cleared_count n set (union (empty_set n) set) sized refl
+
+  both : length (union (empty_set n) set) ≡ length (complement other)
+  both = joined ∙ sym (length-complement other ∙ count)
+
+  pub beside_count : length written ≡ length set
+  beside_count = rw is (length-intersection (union (empty_set n) set) (complement other) both ∙ joined)
+
+  beside_within : IsWithin written set
+  beside_within v h = ⊎_elim (λ none. absurd (false≢true (sym (none_in_empty n v) ∙ none))) (λ has. has) (in_union (empty_set n) set v same (in_first (union (empty_set n) set) (complement other) v both (rw is at h)))
+
+  beside_all : (v : ℕ) → Has set v → Has other v ⊎ Has written v
+  beside_all v h = at (cases_Bool (get_or other v false)) where
+    at : (get_or other v false ≡ true) ⊎ (get_or other v false ≡ false) → Has other v ⊎ Has written v
+    at (inl here) = inl here
+    at (inr out) = inr (rw is (in_both (union (empty_set n) set) (complement other) v both (union_right (empty_set n) set v same h)
+        (in_complement other v (let l = has_place set v h in omega (arith, l, count)) out)))
+
 module _ (places : List ℕ) (placed : IsPlaced 256 places) (part next ahead : List Bool) (bits : Bits) where
   pub leaving_begun : (n : ℕ) → n ≡ length part → length next ≡ length part → IsImage places part bits → ahead ≡ intersection (union (empty_set n) part) (complement next) → IsLeaving places part next ahead bits
   leaving_begun n sized count image is = record {
     image = image;
-    ahead_count = rw is counted;
+    ahead_count = beside_count n part next ahead sized count is;
     next_count = count;
-    inside = λ v h. absurd_left v (in_union (empty_set n) part v same (in_first (union (empty_set n) part) (complement next) v both (rw is at h)));
-    all = λ v h. at v h (cases_Bool (get_or next v false));
-  } where
-    same : length (empty_set n) ≡ length part
-    same = length-replicate n false ∙ sized
-
-    joined_count : length (union (empty_set n) part) ≡ length part
-    joined_count = length-union (empty_set n) part same ∙ same
-
-    both : length (union (empty_set n) part) ≡ length (complement next)
-    both = joined_count ∙ sym (length-complement next ∙ count)
-
-    counted : length (intersection (union (empty_set n) part) (complement next)) ≡ length part
-    counted = length-intersection (union (empty_set n) part) (complement next) both ∙ joined_count
-
-    absurd_left : (v : ℕ) → Has (empty_set n) v ⊎ Has part v → Has part v
-    absurd_left v (inl h) = absurd (false≢true (sym (none_in_empty n v) ∙ h))
-    absurd_left v (inr h) = h
-
-    at : (v : ℕ) → Has part v → (get_or next v false ≡ true) ⊎ (get_or next v false ≡ false) → Has next v ⊎ Has ahead v
-    at v h (inl here) = inl here
-    at v h (inr out) = inr (rw is (in_both (union (empty_set n) part) (complement next) v both (union_right (empty_set n) part v same h)
-        (in_complement next v (let l = has_place part v h in omega (arith, l, count)) out)))
+    inside = beside_within n part next ahead sized count is;
+    all = beside_all n part next ahead sized count is;
+  }
 
   pub coming_begun : (n : ℕ) → n ≡ length part → length next ≡ length part → IsWithin part next → IsImage places part bits → ahead ≡ intersection (union (empty_set n) next) (complement part) → IsComing places part next ahead bits
   coming_begun n sized count within image is = record {
     image = image;
-    ahead_count = rw is counted;
+    ahead_count = beside_count n next part ahead (sized ∙ sym count) (sym count) is ∙ count;
     next_count = count;
     within = within;
-    inside = λ v h. absurd_left v (in_union (empty_set n) next v same (in_first (union (empty_set n) next) (complement part) v both (rw is at h)));
-    all = λ v h. at v h (cases_Bool (get_or part v false));
-  } where
-    same : length (empty_set n) ≡ length next
-    same = length-replicate n false ∙ (sized ∙ sym count)
-
-    joined_count : length (union (empty_set n) next) ≡ length next
-    joined_count = length-union (empty_set n) next same ∙ same
-
-    both : length (union (empty_set n) next) ≡ length (complement part)
-    both = joined_count ∙ (count ∙ sym (length-complement part))
-
-    counted : length (intersection (union (empty_set n) next) (complement part)) ≡ length part
-    counted = length-intersection (union (empty_set n) next) (complement part) both ∙ (joined_count ∙ count)
-
-    absurd_left : (v : ℕ) → Has (empty_set n) v ⊎ Has next v → Has next v
-    absurd_left v (inl h) = absurd (false≢true (sym (none_in_empty n v) ∙ h))
-    absurd_left v (inr h) = h
-
-    at : (v : ℕ) → Has next v → (get_or part v false ≡ true) ⊎ (get_or part v false ≡ false) → Has part v ⊎ Has ahead v
-    at v h (inl here) = inl here
-    at v h (inr out) = inr (rw is (in_both (union (empty_set n) next) (complement part) v both (union_right (empty_set n) next v same h)
-        (in_complement part v (let l = has_place next v h in omega (arith, l, count)) out)))
+    inside = beside_within n next part ahead (sized ∙ sym count) (sym count) is;
+    all = beside_all n next part ahead (sized ∙ sym count) (sym count) is;
+  }
 
   module _ (after : Bits) (v : ℕ) (others : (k : ℕ) → k ≢ get_or places v 0 → bit_in after k ≡ bit_in bits k) where
+    -- the image of a part in which v is written
+    image_written : (b : Bool) → v < length part → IsImage places part bits → (bit_in after (get_or places v 0) ≡ 1) ↔ (b ≡ true) → IsImage places (set part v b) after
+    image_written b lp h bit = record { count = length-set part v b ∙ h.count; exact = λ e. at e (cases_eq e (get_or places v 0)) } where
+      lv : v < length places
+      lv = let c = h.count in omega (arith, lp, c)
+
+      apart : (e i : ℕ) → e ≢ get_or places v 0 → get_or places i 0 ≡ e → i ≢ v
+      apart e i ne is same = ne (let z = rw same at is in sym z)
+
+      at : (e : ℕ) → (e ≡ get_or places v 0) ⊎ (e ≢ get_or places v 0) → (bit_in after e ≡ 1) ↔ ((i : ℕ) × (i < length places) × Has (set part v b) i × (get_or places i 0 ≡ e))
+      at e (inl same) = (
+        (λ one. (v, lv, put-here part v b lp ∙ bit.0 (rw same at one), sym same)),
+        (λ (i, li, hi, is). let here : i ≡ v = placed.distinct i v li lv (is ∙ same) in rw same (bit.1 (sym (put-here part v b lp) ∙ (rw here at hi)))),
+      )
+      at e (inr ne) = (
+        (λ one. let (i, li, hi, is) = (h.exact e).0 (sym (others e ne) ∙ one) in (i, li, put-else part v b lp i (apart e i ne is) ∙ hi, is)),
+        (λ (i, li, hi, is). others e ne ∙ (h.exact e).1 (i, li, sym (put-else part v b lp i (apart e i ne is)) ∙ hi, is)),
+      )
+
     pub leaving_less : IsLeaving places part next ahead bits → Has ahead v → bit_in after (get_or places v 0) ≡ 0 → IsLeaving places (set part v false) next (set ahead v false) after
     leaving_less h has out = record {
-      image = record { count = length-set part v false ∙ h.image.count; exact = λ e. at e (cases_eq e (get_or places v 0)) };
+      image = image_written false lp h.image ((λ one. absurd (omega (arith, one, out))), (λ no. absurd (false≢true no)));
       ahead_count = length-set ahead v false ∙ (h.ahead_count ∙ sym (length-set part v false));
       next_count = h.next_count ∙ sym (length-set part v false);
       inside = λ i hi. let (ne, here) = taken ahead v i la hi in put-else part v false lp i ne ∙ h.inside i here;
@@ -117,24 +126,9 @@ module _ (places : List ℕ) (placed : IsPlaced 256 places) (part next ahead : L
       lp : v < length part
       lp = has_place part v (h.inside v has)
 
-      lv : v < length places
-      lv = let c = h.image.count in omega (arith, lp, c)
-
-      at : (e : ℕ) → (e ≡ get_or places v 0) ⊎ (e ≢ get_or places v 0) → (bit_in after e ≡ 1) ↔ ((i : ℕ) × (i < length places) × Has (set part v false) i × (get_or places i 0 ≡ e))
-      at e (inl same) = (
-        (λ one. absurd (let z = rw same at one in omega (arith, z, out))),
-        (λ (i, li, hi, is). absurd ((taken part v i lp hi).0 (placed.distinct i v li lv (is ∙ same)))),
-      )
-      at e (inr ne) = (
-        (λ one.
-            let (i, li, hi, is) = (h.image.exact e).0 (sym (others e ne) ∙ one) in
-            (i, li, put-else part v false lp i (λ same. ne (let z = rw same at is in sym z)) ∙ hi, is)),
-        (λ (i, li, hi, is). others e ne ∙ (h.image.exact e).1 (i, li, (taken part v i lp hi).1, is)),
-      )
-
     pub coming_more : IsComing places part next ahead bits → Has ahead v → bit_in after (get_or places v 0) ≡ 1 → IsComing places (set part v true) next (set ahead v false) after
     coming_more h has put = record {
-      image = record { count = length-set part v true ∙ h.image.count; exact = λ e. at e (cases_eq e (get_or places v 0)) };
+      image = image_written true lp h.image ((λ one. refl), (λ yes. put));
       ahead_count = length-set ahead v false ∙ (h.ahead_count ∙ sym (length-set part v true));
       next_count = h.next_count ∙ sym (length-set part v true);
       within = λ i hi. ⊎_elim (λ same. rw same (h.inside v has)) (λ ne. h.within i (sym (put-else part v true lp i ne) ∙ hi)) (cases_eq i v);
@@ -147,9 +141,6 @@ module _ (places : List ℕ) (placed : IsPlaced 256 places) (part next ahead : L
       lp : v < length part
       lp = let c = h.ahead_count in omega (arith, la, c)
 
-      lv : v < length places
-      lv = let c = h.image.count in omega (arith, lp, c)
-
       stays : (i : ℕ) → Has part i → Has (set part v true) i
       stays i hi = ⊎_elim (λ same. rw same (put-here part v true lp)) (λ ne. put-else part v true lp i ne ∙ hi) (cases_eq i v)
 
@@ -157,30 +148,8 @@ module _ (places : List ℕ) (placed : IsPlaced 256 places) (part next ahead : L
       in_or_ahead i hi (inl same) = inl (rw same (put-here part v true lp))
       in_or_ahead i hi (inr ne) = ⊎_elim (λ p. inl (stays i p)) (λ a. inr (put-else ahead v false la i ne ∙ a)) (h.all i hi)
 
-      at : (e : ℕ) → (e ≡ get_or places v 0) ⊎ (e ≢ get_or places v 0) → (bit_in after e ≡ 1) ↔ ((i : ℕ) × (i < length places) × Has (set part v true) i × (get_or places i 0 ≡ e))
-      at e (inl same) = (
-        (λ one. (v, lv, put-here part v true lp, sym same)),
-        (λ found. rw same put),
-      )
-      at e (inr ne) = (
-        (λ one. let (i, li, hi, is) = (h.image.exact e).0 (sym (others e ne) ∙ one) in (i, li, stays i hi, is)),
-        (λ (i, li, hi, is). others e ne ∙ (h.image.exact e).1 (i, li, sym (put-else part v true lp i (λ same. ne (let z = rw same at is in sym z))) ∙ hi, is)),
-      )
-
   pub leaving_done : IsLeaving places part next ahead bits → ahead ≡ empty_set (length ahead) → IsWithin part next
   leaving_done h none v hv = ⊎_elim (λ n. n) (λ a. absurd (false≢true (sym (none_in_empty (length ahead) v) ∙ (rw none at a)))) (h.all v hv)
 
   pub coming_done : IsComing places part next ahead bits → ahead ≡ empty_set (length ahead) → part ≡ next
   coming_done h none = same_sets part next (sym h.next_count) (λ v l hv. h.within v hv) (λ v l hv. ⊎_elim (λ p. p) (λ a. absurd (false≢true (sym (none_in_empty (length ahead) v) ∙ (rw none at a)))) (h.all v hv))
-
--- a set that was cleared, and another put into it
-pub cleared_count : (n : ℕ) (set with_set : List Bool) → n ≡ length set → with_set ≡ union (empty_set n) set → length with_set ≡ length set
-cleared_count n set with_set sized is = rw is (length-union (empty_set n) set same ∙ same) where
-  same : length (empty_set n) ≡ length set
-  same = length-replicate n false ∙ sized
-
--- what a set has beside another, written into a third
-pub beside_count : (n : ℕ) (set other written : List Bool) → n ≡ length set → length other ≡ length set → written ≡ intersection (union (empty_set n) set) (complement other) → length written ≡ length set
-beside_count n set other written sized count is = rw is (length-intersection (union (empty_set n) set) (complement other) (joined ∙ sym (length-complement other ∙ count)) ∙ joined) where
-  joined : length (union (empty_set n) set) ≡ length set
-  joined = cleared_count n set (union (empty_set n) set) sized refl
