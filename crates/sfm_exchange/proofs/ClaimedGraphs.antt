@@ -63,6 +63,10 @@ module _ {X N : Type 0} {places : X → List ℕ} {value : X → SetFunction} {s
   pub own : IsClaimed places value size fits terms (length graph.spots.items) q graph
   own = subst (λ k. IsClaimed places value size fits terms k q graph) (sym h.are_spots.count) h
 
+  -- and another graph over so many is one over as many as these
+  pub over : {graph' : Graph N} → IsClaimed places value size fits terms (length graph.spots.items) q graph' → IsClaimed places value size fits terms n q graph'
+  over {graph'} h' = subst (λ k. IsClaimed places value size fits terms k q graph') h.are_spots.count h'
+
   -- there is a row for each spot
   pub spot_rows : HaveRows graph.rows.items graph.spots.items
   spot_rows = let s = sized_meanings places value terms graph.rows.items h.sized_rows in have_rows (meanings places value terms) n graph.spots.items graph.rows.items h.are_spots s.0 s.1

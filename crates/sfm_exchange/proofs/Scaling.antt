@@ -108,8 +108,8 @@ spot_elsewhere terms n spots others one two e j le lj =
     rw is.at at (one.complete (spot_at (spots_at others e) j).term (spot_at (spots_at others e) j).local is.term_in is.local_in)
 
 -- so the unions hang on no list of spots
-pub unions_same : (terms : List Meaning) (n : ℕ) (spots others : List (List Spot)) (tables : List (List Bits)) (unions : List Bits) → AreSpots terms n spots → AreSpots terms n others → AreUnions tables others unions → AreUnions tables spots unions
-unions_same terms n spots others tables unions one two h = record { count = h.count ∙ (two.count ∙ sym one.count); exact = exact } where
+pub unions_same : {terms : List Meaning} {n : ℕ} {spots others : List (List Spot)} {tables : List (List Bits)} {unions : List Bits} → AreSpots terms n spots → AreSpots terms n others → AreUnions tables others unions → AreUnions tables spots unions
+unions_same {terms} {n} {spots} {others} {tables} {unions} one two h = record { count = h.count ∙ (two.count ∙ sym one.count); exact = exact } where
   exact : (e : ℕ) → e < length spots → IsUnion tables (spots_at spots e) (length (spots_at spots e)) (set_at unions e)
   exact e le t = (
     (λ bit. let (j, lj, b) = (h.exact e lo t).0 bit in let (k, lk, is) = spot_elsewhere terms n spots others one two e j ln lj in (k, lk, rw is b)),

@@ -15,7 +15,7 @@ use Rattle.sfm_exchange.proofs.Basing.{size_low}
 use Rattle.sfm_exchange.proofs.ClaimedGraphs.{asked_after, base_count, based, claimed_shown, place_in, places_are, row_long, rows_after, rows_shown}
 use Rattle.sfm_exchange.proofs.claims.ask_at.Given as given
 use Rattle.sfm_exchange.proofs.claims.ask_at.Goals as goal
-use Rattle.sfm_exchange.proofs.claims.ask_at.Goals.{After-index-claims, After-index-terms-i, After-index_mut-claimed}
+use Rattle.sfm_exchange.proofs.claims.ask_at.Goals.{After-index-claims, After-index-terms-i, After-index_mut-claimed, After-index_mut-rows}
 
 -- the place is one of the term
 inside : (g : given.Over) (c : After-index-terms-i g) → c.args.u < length (g.T.Term.places c.index-terms-i.result)
@@ -34,6 +34,10 @@ claims_are g c = claimed_shown c.requires.graph c.args.i c.requires.term c.index
 
 claimed_are : (g : given.Over) (c : After-index_mut-claimed g) → c.index_mut-claimed.result.now ≡ set_at c.args.graph.now.claimed.items c.args.i
 claimed_are g c = claimed_shown c.requires.graph c.args.i c.requires.term c.index-terms-i.result c.index-terms-i.is c.index_mut-claimed.result.now c.index_mut-claimed.ensures.value
+
+-- so are the rows, one for each place of the term
+shown : (g : given.Over) (c : After-index_mut-rows g) → let rows = c.index_mut-rows.result.now in (rows ≡ table_at c.args.graph.now.rows.items c.args.i) × (length rows ≡ length (g.T.Term.places c.index-terms-i.result))
+shown g c = rows_shown c.requires.graph c.args.i c.requires.term c.index-terms-i.result c.index-terms-i.is c.index_mut-rows.result.now c.index_mut-rows.ensures.value
 
 pub bounds-places-u : goal.bounds-places-u
 bounds-places-u g c = rw c.elements-places.ensures (inside g (goal.at.bounds-places-u g c).After-index-terms-i)
@@ -89,22 +93,20 @@ row_by-requires-clause-from g c =
 pub row_by-requires-clause-rows : goal.row_by-requires-clause-rows
 row_by-requires-clause-rows g c =
     let r = c.requires in
-    let shown = rows_shown r.graph c.args.i r.term c.index-terms-i.result c.index-terms-i.is c.index_mut-rows.result.now c.index_mut-rows.ensures.value in
-    shown.1 ∙ (sym (row_long r.graph c.args.i r.term c.index-terms-i.result c.index-terms-i.is) ∙ ap length (sym c.row-x.ensures))
+    (shown g (goal.at.row_by-requires-clause-rows g c).After-index_mut-rows).1 ∙ (sym (row_long r.graph c.args.i r.term c.index-terms-i.result c.index-terms-i.is) ∙ ap length (sym c.row-x.ensures))
 
 pub set-requires : goal.set-requires
 set-requires g c =
-    let r = c.requires in
-    let shown = rows_shown r.graph c.args.i r.term c.index-terms-i.result c.index-terms-i.is c.index_mut-rows.result.now c.index_mut-rows.ensures.value in
-    rw (c.in_ok-row.ensures.same, shown.1) (inside g (goal.at.set-requires g c).After-index-terms-i)
+    let at = goal.at.set-requires g c in
+    rw (c.in_ok-row.ensures.same, (shown g at.After-index_mut-rows).1) (inside g at.After-index-terms-i)
 
 pub renew-requires-clause-rows : goal.renew-requires-clause-rows
 renew-requires-clause-rows g c =
     let r = c.requires in
     let rows = c.index_mut-rows.result.now in
-    let shown = rows_shown r.graph c.args.i r.term c.index-terms-i.result c.index-terms-i.is c.index_mut-rows.result.now c.index_mut-rows.ensures.value in
+    let long = (shown g (goal.at.renew-requires-clause-rows g c).After-index_mut-rows).1 in
     let put : c.set.new.self ≡ set rows c.args.u c.in_ok-row.row = rw c.in_ok-row.ensures.same at c.set.ensures in
-    let count = ap length put ∙ (length-set rows c.args.u c.in_ok-row.row ∙ shown.1) in
+    let count = ap length put ∙ (length-set rows c.args.u c.in_ok-row.row ∙ long) in
     rw (c.deref.ensures.value, c.deref-2.ensures.value) (rows_after r.graph c.args.i r.term c.index-terms-i.result c.index-terms-i.is c.set.new.self count)
 
 pub renew-requires-clause-placed : goal.renew-requires-clause-placed
@@ -124,8 +126,7 @@ returns-clause-graph g c =
     let i = c.args.i in
     let term = c.index-terms-i.result in
     let at = goal.at.returns-clause-graph g c in
-    let shown = rows_shown r.graph c.args.i r.term c.index-terms-i.result c.index-terms-i.is c.index_mut-rows.result.now c.index_mut-rows.ensures.value in
-    let put : c.set.new.self ≡ set (table_at graph.rows.items i) c.args.u c.in_ok-row.row = rw (c.in_ok-row.ensures.same, shown.0) at c.set.ensures in
+    let put : c.set.new.self ≡ set (table_at graph.rows.items i) c.args.u c.in_ok-row.row = rw (c.in_ok-row.ensures.same, (shown g at.After-index_mut-rows).0) at c.set.ensures in
     let noted : t.fits term c.row_by.new.note c.args.q (base_at graph.bases i) = simp to_z-of_z at (rw c.row-x.ensures at c.in_ok-row.ensures.noted) in
     let told : IsRow (t.places term) (times c.args.q (t.value_of term)) (base_at graph.bases i) c.args.u c.in_ok-row.row = simp to_z-of_z at (rw c.row-x.ensures at c.in_ok-row.ensures.row) in
     let small = All-get_or (λ x. All IsEntry x) graph.bases i [] (rw (base_count r.graph) r.term) r.small in

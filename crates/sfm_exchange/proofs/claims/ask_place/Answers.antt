@@ -5,9 +5,8 @@ use Rattle.std.proofs.lemmas.List.{get_or_default}
 use mir.Syntax.{w128}
 use Rattle.sfm_spec.specs.Families.{meanings}
 use Rattle.sfm_exchange.specs.Bits.{bit_in, set_at}
-use Rattle.sfm_exchange.specs.Graph.{IsClaimed}
 use Rattle.sfm_exchange.specs.Spots.{IsSpot, spot_at, spots_at}
-use Rattle.sfm_exchange.proofs.ClaimedGraphs.{arcs_alone, counted, own}
+use Rattle.sfm_exchange.proofs.ClaimedGraphs.{arcs_alone, counted, over, own}
 use Rattle.sfm_exchange.proofs.claims.ask_place.Given as given
 use Rattle.sfm_exchange.proofs.claims.ask_place.Goals as goal
 use Rattle.sfm_exchange.proofs.claims.ask_place.Goals.{After-as_slice-at}
@@ -64,7 +63,7 @@ loop-k-preserved g c =
     let S : ℕ → Type 0 = λ j. bit_in (set_at after.claimed.items (spot_at (spots_at c.args.graph.now.spots.items e) j).term) e ≢ 1 in
     let settled : S c.loop-k.k = rw (is_spot g at).at at (rw (here g at) at o.settled) in
     let each : (j : ℕ) → j < c.loop-k.k + 1 → S j = λ j l. ⊎_elim (λ less. o.kept _ e (inv.3 j less)) (λ ge. let same : c.loop-k.k ≡ j = omega (arith, ge, l) in subst S same settled) (cases_lt j c.loop-k.k) in
-    simp to_z-of_z (subst (λ n. IsClaimed t.places t.value_of t.size_of t.fits c.args.terms.now n c.args.q after) inv.0.are_spots.count (simp to_z-of_z at o.graph), o.bases ∙ inv.1, o.spots ∙ inv.2, each)
+    simp to_z-of_z (over inv.0 (simp to_z-of_z at o.graph), o.bases ∙ inv.1, o.spots ∙ inv.2, each)
 
 pub returns-clause-graph : goal.returns-clause-graph
 returns-clause-graph g c = let fq : FitsSigned w128 c.args.q = c.ranges.q in simp to_z-of_z at c.loop-k.invariant.0

@@ -3,10 +3,9 @@ use Rattle.std.proofs.lemmas.Bool.{cases_lt}
 use Rattle.std.proofs.lemmas.Int.{to_z-of_z}
 use mir.Syntax.{w128}
 use Rattle.sfm_spec.specs.Families.{meanings}
-use Rattle.sfm_exchange.specs.Graph.{IsClaimed}
 use Rattle.sfm_exchange.specs.Hops.{IsMovable, hop_at}
 use Rattle.sfm_exchange.proofs.Asked.{asked_refused, asked_then, told_at}
-use Rattle.sfm_exchange.proofs.ClaimedGraphs.{own}
+use Rattle.sfm_exchange.proofs.ClaimedGraphs.{over, own}
 use Rattle.sfm_exchange.proofs.claims.prove_walk.Goals as goal
 
 pub loop-hop-init : goal.loop-hop-init
@@ -32,19 +31,16 @@ loop-hop-preserved g c =
     let k = c.loop-hop.hop-index in
     let inv = simp to_z-of_z at c.loop-hop.invariant in
     let o = c.in_ok-proved.ensures in
-    let W : ℕ → Type 0 = λ n. IsClaimed t.places t.value_of t.size_of t.fits c.args.terms.now n c.args.q c.prove_hop.new.graph in
     let M : ℕ → Type 0 = λ j. IsMovable (meanings t.places t.value_of c.args.terms.now) c.args.q c.args.graph.now.bases (hop_at c.args.hops.now j) in
     let here : M k = rw inv.1 at (simp to_z-of_z at (o.proved c.if-not-proved.false)) in
     let each : (j : ℕ) → j < k + 1 → M j = λ j l. ⊎_elim (λ less. inv.3 j less) (λ ge. let same : k ≡ j = omega (arith, ge, l) in subst M same here) (cases_lt j k) in
-    simp to_z-of_z (subst W inv.0.are_spots.count (simp to_z-of_z at o.graph), o.bases ∙ inv.1, asked_then _ _ _ _ _ _ inv.2 o.asked, each)
+    simp to_z-of_z (over inv.0 (simp to_z-of_z at o.graph), o.bases ∙ inv.1, asked_then _ _ _ _ _ _ inv.2 o.asked, each)
 
 pub returns-then-not-proved-clause-graph : goal.returns-then-not-proved-clause-graph
 returns-then-not-proved-clause-graph g c =
-    let t = g.T.Term in
     let fq : FitsSigned w128 c.args.q = c.ranges.q in
     let inv = simp to_z-of_z at c.loop-hop.invariant in
-    let W : ℕ → Type 0 = λ n. IsClaimed t.places t.value_of t.size_of t.fits c.args.terms.now n c.args.q c.prove_hop.new.graph in
-    subst W inv.0.are_spots.count (simp to_z-of_z at c.in_ok-proved.ensures.graph)
+    over inv.0 (simp to_z-of_z at c.in_ok-proved.ensures.graph)
 
 pub returns-then-not-proved-clause-bases : goal.returns-then-not-proved-clause-bases
 returns-then-not-proved-clause-bases g c = c.in_ok-proved.ensures.bases ∙ c.loop-hop.invariant.1

@@ -1,4 +1,4 @@
-use Rattle.std.proofs.Common.{◌≡◌, ◌<◌, length, refl, subst, ◌∙◌, arith, FitsSigned}
+use Rattle.std.proofs.Common.{◌≡◌, ◌<◌, length, refl, ◌∙◌, arith, FitsSigned}
 use Rattle.std.proofs.lemmas.Int.{to_z-of_z}
 use Rattle.std.proofs.lemmas.List.{get_or_default}
 use mir.Syntax.{w128}
@@ -7,7 +7,7 @@ use Rattle.sfm_spec.proofs.Walks.{step_below}
 use Rattle.sfm_exchange.specs.Bits.{blank_bits, set_at}
 use Rattle.sfm_exchange.specs.Graph.{IsClaimed}
 use Rattle.sfm_exchange.specs.Unions.{IsArc}
-use Rattle.sfm_exchange.proofs.ClaimedGraphs.{are_terms, have_links, low, own, unions_count}
+use Rattle.sfm_exchange.proofs.ClaimedGraphs.{are_terms, have_links, low, over, own, unions_count}
 use Rattle.sfm_exchange.proofs.Options.{match_none}
 use Rattle.sfm_exchange.proofs.Searching.{IsLook, ahead_below, search_begun, search_more, search_shrinks, walks_done}
 use Rattle.sfm_exchange.proofs.claims.walked_from.Given as given
@@ -17,10 +17,9 @@ use Rattle.sfm_exchange.proofs.claims.walked_from.Goals.{After-take_in}
 -- the graph afterwards, over the places of the one before
 after : (g : given.Over) (c : After-take_in g) → let t = g.T.Term in IsClaimed t.places t.value_of t.size_of t.fits c.args.terms.now (length c.args.graph.now.spots.items) c.args.q c.ask_place.new.graph
 after g c =
-    let t = g.T.Term in
     let fq : FitsSigned w128 c.args.q = c.ranges.q in
     let inv = simp to_z-of_z at c.loop-e.invariant in
-    subst (λ n. IsClaimed t.places t.value_of t.size_of t.fits c.args.terms.now n c.args.q c.ask_place.new.graph) inv.0.are_spots.count (simp to_z-of_z at c.in_ok-ask_place.ensures.graph)
+    over inv.0 (simp to_z-of_z at c.in_ok-ask_place.ensures.graph)
 
 -- one place is looked at, by the row of the graph, which has arcs alone there
 look : (g : given.Over) (c : After-take_in g) → let t = g.T.Term in IsLook (length c.args.graph.now.spots.items) (IsArc (meanings t.places t.value_of c.args.terms.now) c.args.q c.args.graph.now.bases) c.args.firsts.now

@@ -1,10 +1,9 @@
-use Rattle.std.proofs.Common.{◌≡◌, length, refl, ◌∙◌, subst, ℕ, rules, arith, FitsSigned, ℤ, to_z}
+use Rattle.std.proofs.Common.{◌≡◌, length, refl, ◌∙◌, rules, arith, FitsSigned, ℤ, to_z}
 use Rattle.std.proofs.lemmas.Int.{to_z-of_z}
 use mir.Syntax.{w128}
 use Rattle.sfm_spec.specs.Families.{meanings}
-use Rattle.sfm_exchange.specs.Graph.{IsClaimed}
 use Rattle.sfm_exchange.proofs.Amounts.{amount_none, amount_more}
-use Rattle.sfm_exchange.proofs.ClaimedGraphs.{own}
+use Rattle.sfm_exchange.proofs.ClaimedGraphs.{over, own}
 use Rattle.sfm_exchange.proofs.moving.amount_of.Goals as goal
 
 pub loop-hop-init : goal.loop-hop-init
@@ -40,8 +39,7 @@ loop-hop-preserved g c =
     let e = c.within-a.ensures in
     let more = amount_more ts c.args.q c.args.graph.now.bases c.requires.graph.are_bases c.args.hops.now k c.args.most a c.within-a.result c.in_ok-room.room (c.requires.movable k c.loop-hop-test.true) inv.0 room
     (λ j lj. c.requires.movable j (omega (arith, lj, c.loop-hop-test.true))) e.low e.room e.greatest in
-    let W : ℕ → Type 0 = λ n. IsClaimed t.places t.value_of t.size_of t.fits c.args.terms.now n c.args.q c.room_of.new.graph in
-    simp to_z-of_z (more, subst W inv.1.are_spots.count (simp to_z-of_z at o.graph), o.bases ∙ inv.2)
+    simp to_z-of_z (more, over inv.1 (simp to_z-of_z at o.graph), o.bases ∙ inv.2)
 
 pub returns-clause-graph : goal.returns-clause-graph
 returns-clause-graph g c = let fq : FitsSigned w128 c.args.q = c.ranges.q in simp to_z-of_z at c.loop-hop.invariant.1

@@ -7,7 +7,7 @@ use Rattle.sfm_exchange.specs.declared.path.Hop.{Hop}
 use Rattle.sfm_exchange.specs.Graph.{IsClaimed}
 use Rattle.sfm_exchange.specs.Hops.{CanExchange, hop_at, no_hop}
 use Rattle.sfm_exchange.proofs.Exchanging.{HaveMoved, can_exchange, exchange_moved, have_moved_none}
-use Rattle.sfm_exchange.proofs.ClaimedGraphs.{are_terms, counted, own}
+use Rattle.sfm_exchange.proofs.ClaimedGraphs.{are_terms, counted, over, own}
 use Rattle.sfm_exchange.proofs.moving.move_along.Given as given
 use Rattle.sfm_exchange.proofs.moving.move_along.Goals as goal
 use Rattle.sfm_exchange.proofs.moving.move_along.Goals.{In-loop-k}
@@ -61,7 +61,6 @@ exchange_at-requires-clause-can g c =
 
 pub loop-k-preserved : goal.loop-k-preserved
 loop-k-preserved g c =
-    let t = g.T.Term in
     let m = g.met.T.Term in
     let fq : FitsSigned w128 c.args.q = c.ranges.q in
     let fa : FitsSigned w128 c.args.a = c.ranges.a in
@@ -71,7 +70,7 @@ loop-k-preserved g c =
     let e = c.in_ok-exchange_at.ensures in
     let moved = rw (next g here c.index.result.now c.index.ensures) at (simp to_z-of_z at e.moved) in
     let more = exchange_moved _ _ _ (are_terms r.graph m.family m.submodular) _ _ _ _ r.low r.named r.order r.graph.are_bases (c.loop-k.k - 1) c.loop-k.graph.bases (behind g here) in
-    simp to_z-of_z (rw moved more, subst (λ n. IsClaimed t.places t.value_of t.size_of t.fits c.args.terms.now n c.args.q c.exchange_at.new.graph) inv.1.are_spots.count (simp to_z-of_z at e.graph))
+    simp to_z-of_z (rw moved more, over inv.1 (simp to_z-of_z at e.graph))
 
 pub returns-clause-graph : goal.returns-clause-graph
 returns-clause-graph g c = let fq : FitsSigned w128 c.args.q = c.ranges.q in simp to_z-of_z at c.loop-k.invariant.1

@@ -24,18 +24,10 @@ offset_bounds-terms-i g c =
     omega (arith, l)
 
 pub bounds-terms-i : goal.bounds-terms-i
-bounds-terms-i g c =
-    let h = c.requires.graph in
-    let i = c.args.hop.term in
-    let l : i < length c.args.terms.now = rw (counted h) at c.requires.movable.term_in in
-    l
+bounds-terms-i g c = rw (counted c.requires.graph) at c.requires.movable.term_in
 
 pub row-requires : goal.row-requires
-row-requires g c =
-    let h = c.requires.graph in
-    let i = c.args.hop.term in
-    let l : i < length c.args.terms.now = rw (counted h) at c.requires.movable.term_in in
-    rw (base_count h) l
+row-requires g c = let h = c.requires.graph in rw (base_count h) (rw (counted h) at c.requires.movable.term_in)
 
 pub room_by-requires : goal.room_by-requires
 room_by-requires g c =

@@ -1,7 +1,6 @@
 use Rattle.std.proofs.Common.{rules, FitsSigned}
 use Rattle.std.proofs.lemmas.Int.{to_z-of_z}
 use mir.Syntax.{w128}
-use Rattle.sfm_spec.specs.Families.{meanings}
 use Rattle.sfm_exchange.proofs.Scaling.{unions_same}
 use Rattle.sfm_exchange.proofs.Basing.{are_based, size_low}
 use Rattle.sfm_exchange.proofs.multiples.copy_graph.Goals as goal
@@ -16,15 +15,11 @@ notes_of-requires g c =
 
 pub returns : goal.returns
 returns g c =
-    let t = g.T.Term in
     let fq : FitsSigned w128 c.args.q = c.ranges.q in
-    let ts = meanings t.places t.value_of c.args.terms.now in
     let o = c.requires.graph in
-    let from = c.args.graph.now in
     let same = c.in_ok-bases.ensures in
     let fitting = c.in_ok-notes.ensures in
     let copied = rw c.deref.ensures.value at c.copy_tables.ensures in
-    let spots = c.in_ok-spots.ensures in
     record {
       are_bases = rw same o.are_bases;
       note_count = fitting.count;
@@ -32,7 +27,7 @@ returns g c =
       noted = simp to_z-of_z at fitting.fit;
       sized_rows = rw copied o.sized_rows;
       tables = rw (copied, same) o.tables;
-      are_spots = spots;
-      are_unions = rw (copied, c.in_ok-unions.ensures.items, c.deref-2.ensures.value) (unions_same ts c.args.n c.in_ok-spots.spots.items from.spots.items from.rows.items from.unions.items spots o.are_spots o.are_unions);
+      are_spots = c.in_ok-spots.ensures;
+      are_unions = rw (copied, c.in_ok-unions.ensures.items, c.deref-2.ensures.value) (unions_same c.in_ok-spots.ensures o.are_spots o.are_unions);
       are_turned = rw (c.in_ok-unions.ensures.items, c.deref-2.ensures.value, c.in_ok-back.ensures.items, c.deref-3.ensures.value) o.are_turned;
     }

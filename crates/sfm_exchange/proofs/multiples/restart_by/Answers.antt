@@ -61,6 +61,6 @@ returns-clause-graph g c =
       claims = λ i l. rw (copied, c.copy_from_slice.ensures.items, c.deref-2.ensures.value)
           (claims_times ts n c.args.q other.bases c.args.bases other.claimed.items other.rows.items r.factor.low fit o.are_bases r.bases i (rw (counted o) l) (same i (rw (base_count o) l)) (o.claims i l));
       are_spots = r.graph.are_spots;
-      are_unions = rw (copied, c.copy_from_slice-2.ensures.items, c.deref-3.ensures.value) (unions_same ts n c.args.graph.now.spots.items other.spots.items other.rows.items other.unions.items r.graph.are_spots o.are_spots o.are_unions);
+      are_unions = rw (copied, c.copy_from_slice-2.ensures.items, c.deref-3.ensures.value) (unions_same r.graph.are_spots o.are_spots o.are_unions);
       are_turned = rw (c.copy_from_slice-2.ensures.items, c.deref-3.ensures.value, c.copy_from_slice-3.ensures.items, c.deref-4.ensures.value) o.are_turned;
     }
