@@ -39,14 +39,16 @@ module _ {X : Type 0} (places : X → List ℕ) (value : X → SetFunction) (siz
         base = rw means at base.1;
       }
 
-  -- and so all are
-  pub are_based : All (λ x. All IsEntry x) rows → AreBased places value size terms q rows
-  are_based small = record {
-    count = count;
-    each = λ i l term is. is_based i l term is (All-get_or (λ x. All IsEntry x) rows i [] (rw count l) small);
-  } where
-    count : length rows ≡ length terms
-    count = length-bases q (meanings places value terms) rows bases ∙ length-meanings places value terms
+-- and so all are
+pub are_based : {X : Type 0} {places : X → List ℕ} {value : X → SetFunction} {size : X → ℤ} {terms : List X} {n : ℕ} {q : ℤ} {rows : List (List ℤ)} → ((x : X) → IsSubmodular (length (places x)) (value x))
+    → ((x : X) (s : List Bool) (a : ℤ) → length s ≡ length (places x) → value x s ≡ Some a → (neg_ℤ (size x) ≤ℤ a) × (a ≤ℤ size x)) → AreBounded n (map places terms) (map size terms) → IsFactor q
+    → AreBases q (meanings places value terms) rows → All (λ x. All IsEntry x) rows → AreBased places value size terms q rows
+are_based {places} {value} {size} {terms} {n} {q} {rows} law range bounded factor bases small = record {
+  count = count;
+  each = λ i l term is. is_based places value size (size_low places value size law range) terms n q rows bounded factor bases i l term is (All-get_or (λ x. All IsEntry x) rows i [] (rw count l) small);
+} where
+  count : length rows ≡ length terms
+  count = length-bases q (meanings places value terms) rows bases ∙ length-meanings places value terms
 
 -- and still after an exchange that keeps them within the bounds
 pub based_after : {X : Type 0} (places : X → List ℕ) (value : X → SetFunction) (size : X → ℤ) (term : X) (q : ℤ) (x y : List ℤ) (u v : ℕ) (a : ℤ) → IsBased places value size term q x → y ≡ exchanged x u v a → All IsEntry (exchanged x u v a) → IsBase (times q (value term)) y

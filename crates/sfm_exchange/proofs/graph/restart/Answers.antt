@@ -5,24 +5,20 @@ use Rattle.sfm_spec.specs.Families.{meanings}
 use Rattle.sfm_exchange.specs.Unions.{HaveRows}
 use Rattle.sfm_exchange.proofs.Noting.{sized_meanings}
 use Rattle.sfm_exchange.proofs.Uniting.{have_rows}
-use Rattle.sfm_exchange.proofs.Basing.{are_based, size_low}
+use Rattle.sfm_exchange.proofs.Basing.{are_based}
 use Rattle.sfm_exchange.proofs.graph.restart.Goals as goal
 
 pub notes_of-requires : goal.notes_of-requires
 notes_of-requires g c =
-    let t = g.T.Term in
     let m = g.met.T.Term in
     let fq : FitsSigned w128 c.args.q = c.ranges.q in
-    let r = c.requires in
-    simp to_z-of_z (are_based t.places t.value_of t.size_of (size_low t.places t.value_of t.size_of m.submodular m.bounded) c.args.terms.now c.args.n c.args.q c.args.bases r.bounded r.factor r.bases r.small)
+    simp to_z-of_z (are_based m.submodular m.bounded c.requires.bounded c.requires.factor c.requires.bases c.requires.small)
 
 pub ask_all-requires-clause-based : goal.ask_all-requires-clause-based
 ask_all-requires-clause-based g c =
-    let t = g.T.Term in
     let m = g.met.T.Term in
     let fq : FitsSigned w128 c.args.q = c.ranges.q in
-    let r = c.requires in
-    simp to_z-of_z (are_based t.places t.value_of t.size_of (size_low t.places t.value_of t.size_of m.submodular m.bounded) c.args.terms.now c.args.n c.args.q c.args.bases r.bounded r.factor r.bases r.small)
+    simp to_z-of_z (are_based m.submodular m.bounded c.requires.bounded c.requires.factor c.requires.bases c.requires.small)
 
 pub unions_of-requires : goal.unions_of-requires
 unions_of-requires g c =

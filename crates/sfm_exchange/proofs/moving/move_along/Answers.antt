@@ -4,7 +4,6 @@ use Rattle.std.proofs.lemmas.List.{get_or_default}
 use mir.Syntax.{w128}
 use Rattle.sfm_spec.specs.Families.{meanings}
 use Rattle.sfm_exchange.specs.declared.path.Hop.{Hop}
-use Rattle.sfm_exchange.specs.Graph.{IsClaimed}
 use Rattle.sfm_exchange.specs.Hops.{CanExchange, hop_at, no_hop}
 use Rattle.sfm_exchange.proofs.Exchanging.{HaveMoved, can_exchange, exchange_moved, have_moved_none}
 use Rattle.sfm_exchange.proofs.ClaimedGraphs.{are_terms, counted, over, own}

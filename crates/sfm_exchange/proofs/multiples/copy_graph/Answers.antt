@@ -2,16 +2,14 @@ use Rattle.std.proofs.Common.{rules, FitsSigned}
 use Rattle.std.proofs.lemmas.Int.{to_z-of_z}
 use mir.Syntax.{w128}
 use Rattle.sfm_exchange.proofs.Scaling.{unions_same}
-use Rattle.sfm_exchange.proofs.Basing.{are_based, size_low}
+use Rattle.sfm_exchange.proofs.Basing.{are_based}
 use Rattle.sfm_exchange.proofs.multiples.copy_graph.Goals as goal
 
 pub notes_of-requires : goal.notes_of-requires
 notes_of-requires g c =
-    let t = g.T.Term in
     let m = g.met.T.Term in
     let fq : FitsSigned w128 c.args.q = c.ranges.q in
-    let r = c.requires in
-    rw c.in_ok-bases.ensures (simp to_z-of_z (are_based t.places t.value_of t.size_of (size_low t.places t.value_of t.size_of m.submodular m.bounded) c.args.terms.now c.args.n c.args.q c.args.graph.now.bases r.bounded r.factor r.graph.are_bases r.small))
+    rw c.in_ok-bases.ensures (simp to_z-of_z (are_based m.submodular m.bounded c.requires.bounded c.requires.factor c.requires.graph.are_bases c.requires.small))
 
 pub returns : goal.returns
 returns g c =

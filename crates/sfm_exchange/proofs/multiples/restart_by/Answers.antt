@@ -8,7 +8,7 @@ use Rattle.sfm_exchange.specs.Graph.{IsGraph}
 use Rattle.sfm_exchange.specs.Scaled.{row_times}
 use Rattle.sfm_exchange.proofs.ClaimedGraphs.{are_terms, base_count, counted, whole_claimed}
 use Rattle.sfm_exchange.proofs.Scaling.{claims_times, unions_same}
-use Rattle.sfm_exchange.proofs.Basing.{are_based, size_low}
+use Rattle.sfm_exchange.proofs.Basing.{are_based}
 use Rattle.sfm_exchange.proofs.multiples.restart_by.Goals as goal
 
 pub are_multiples-requires-clause-count : goal.are_multiples-requires-clause-count
@@ -20,11 +20,9 @@ are_multiples-requires-clause-count g c =
 
 pub notes_of-requires : goal.notes_of-requires
 notes_of-requires g c =
-    let t = g.T.Term in
     let m = g.met.T.Term in
     let fq : FitsSigned w128 c.args.q = c.ranges.q in
-    let r = c.requires in
-    simp to_z-of_z (are_based t.places t.value_of t.size_of (size_low t.places t.value_of t.size_of m.submodular m.bounded) c.args.terms.now (length c.args.graph.now.spots.items) c.args.q c.args.bases r.bounded r.factor r.bases r.small)
+    simp to_z-of_z (are_based m.submodular m.bounded c.requires.bounded c.requires.factor c.requires.bases c.requires.small)
 
 pub returns-then-not-are_multiples-clause-graph : goal.returns-then-not-are_multiples-clause-graph
 returns-then-not-are_multiples-clause-graph g c =
@@ -37,13 +35,9 @@ returns-then-not-are_multiples-clause-graph g c =
 
 pub returns-clause-graph : goal.returns-clause-graph
 returns-clause-graph g c =
-    let t = g.T.Term in
     let m = g.met.T.Term in
     let fq : FitsSigned w128 c.args.q = c.ranges.q in
     let r = c.requires in
-    let n = length c.args.graph.now.spots.items in
-    let terms = c.args.terms.now in
-    let ts = meanings t.places t.value_of terms in
     let o = r.other in
     let other = c.args.other.now in
     let fit = are_terms o m.family m.submodular in
@@ -59,7 +53,7 @@ returns-clause-graph g c =
       noted = simp to_z-of_z at fitting.fit;
       sized_rows = rw copied o.sized_rows;
       claims = λ i l. rw (copied, c.copy_from_slice.ensures.items, c.deref-2.ensures.value)
-          (claims_times ts n c.args.q other.bases c.args.bases other.claimed.items other.rows.items r.factor.low fit o.are_bases r.bases i (rw (counted o) l) (same i (rw (base_count o) l)) (o.claims i l));
+          (claims_times _ _ _ other.bases c.args.bases other.claimed.items other.rows.items r.factor.low fit o.are_bases r.bases i (rw (counted o) l) (same i (rw (base_count o) l)) (o.claims i l));
       are_spots = r.graph.are_spots;
       are_unions = rw (copied, c.copy_from_slice-2.ensures.items, c.deref-3.ensures.value) (unions_same r.graph.are_spots o.are_spots o.are_unions);
       are_turned = rw (c.copy_from_slice-2.ensures.items, c.deref-3.ensures.value, c.copy_from_slice-3.ensures.items, c.deref-4.ensures.value) o.are_turned;
