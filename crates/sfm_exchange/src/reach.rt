@@ -205,33 +205,8 @@ fn ask_row<T: Term>(
     Ok(())
 }
 
-// Asks for the rows of the places that the term names first.
-fn ask_first<T: Term>(
-    alloc: Global,
-    at: &Based<'_, T>,
-    note: &mut T::Note,
-    asked: &mut Bits,
-    rows: &mut BitRows,
-) -> Result<(), Memory>
-    requires based { IsBased T.places T.value_of T.size_of at.now.term.now at.now.q at.now.x.now }
-    requires noted { T.fits at.now.term.now note.old at.now.q at.now.x.now }
-    requires rows { length rows.old ≡ length at.now.x.now }
-    requires known { AreRowsOf (T.places at.now.term.now) (times at.now.q (T.value_of at.now.term.now)) at.now.x.now asked.old rows.old }
-    ensures rows { length rows.new ≡ length rows.old }
-    ensures known { OnOk result (AreRowsOf (T.places at.now.term.now) (times at.now.q (T.value_of at.now.term.now)) at.now.x.now asked.new rows.new) }
-    ensures noted { OnOk result (T.fits at.now.term.now note.new at.now.q at.now.x.now) }
-{
-    let Some(order) = at.term.order() else {
-        return Ok(());
-    };
-    for u in order {
-        ask_row(alloc, at, note, *u, asked, rows)?;
-    }
-    Ok(())
-}
-
-/// Asks for each row of a term at its base, by a note that fits it, which fits it still. After want of memory nothing is
-/// said of the note.
+/// Asks for each row of a term at its base, those of the places that the term names first before all others, by a note that fits
+/// it, which fits it still. After want of memory nothing is said of the note.
 pub fn ask<T: Term>(
     alloc: Global,
     at: &Based<'_, T>,
@@ -246,7 +221,11 @@ pub fn ask<T: Term>(
     ensures noted { OnOk result (T.fits at.now.term.now note.new at.now.q at.now.x.now) }
 {
     let mut asked = no_bits();
-    ask_first(alloc, at, note, &mut asked, rows)?;
+    if let Some(order) = at.term.order() {
+        for first in order {
+            ask_row(alloc, at, note, *first, &mut asked, rows)?;
+        }
+    }
     for u in 0..at.x.len() {
         ask_row(alloc, at, note, u, &mut asked, rows)?;
     }
