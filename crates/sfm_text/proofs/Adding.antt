@@ -8,7 +8,7 @@ use Rattle.sfm_kind.specs.Instance.{InstanceData}
 use Rattle.sfm_text.specs.declared.line_fault.LineEnd.{LineEnd}
 use Rattle.sfm_text.specs.declared.line_fault.LineEnd.TheVariants.{Fault, Memory}
 use Rattle.sfm_text.specs.declared.reason.Reason.{Reason}
-use Rattle.sfm_text.specs.declared.reason.Reason.TheVariants.{Long, Bytes, Word, Shape, Number, Name, Twice, Law, Total, Short}
+use Rattle.sfm_text.specs.declared.reason.Reason.TheVariants.{Long, Bytes, Word}
 use Rattle.sfm_text.specs.declared.stage.Stage.TheVariants.{Terms}
 use Rattle.sfm_text.specs.declared.word.TermWord.{TermWord}
 use Rattle.sfm_text.specs.Lines.{tokens_of}
@@ -31,29 +31,13 @@ term-not-last line word rest is (other, e) =
 
 module _ (i : InstanceData) (line : List ℕ) where
   as-term : (reason : Reason) → Has (state_at Terms i) line reason → HasAsTerm i line reason
-  as-term Long h = h
-  as-term Bytes h = h
   as-term Word h = h.1
-  as-term Shape h = h
-  as-term Number h = h
-  as-term Name h = h
-  as-term Twice h = h
-  as-term Law h = h
-  as-term Total h = h
-  as-term Short h = h
+  as-term _ h = h
 
   module _ (more : IsNotLast line) where
     as-line : (reason : Reason) → HasAsTerm i line reason → Has (state_at Terms i) line reason
-    as-line Long h = h
-    as-line Bytes h = h
     as-line Word h = ((λ rest e. more (rest, e)), h)
-    as-line Shape h = h
-    as-line Number h = h
-    as-line Name h = h
-    as-line Twice h = h
-    as-line Law h = h
-    as-line Total h = h
-    as-line Short h = h
+    as-line _ h = h
 
     pub term-refused : (end : LineEnd) → IsLineRefusal (state_at Terms i) line end → IsTermRefusal i line end
     term-refused (Fault reason) f = record { holds = as-term reason f.holds; first = λ earlier lt h. f.first earlier lt (as-line earlier h) }
@@ -77,15 +61,7 @@ module _ (i : InstanceData) (line : List ℕ) where
   term-bytes bad = record { holds = bad; first = none } where
     none : (earlier : Reason) → reason_order earlier < 1 → HasAsTerm i line earlier → ⊥
     none Long lt h = h
-    none Bytes lt h = absurd (omega (arith, lt))
-    none Word lt h = absurd (omega (arith, lt))
-    none Shape lt h = absurd (omega (arith, lt))
-    none Number lt h = absurd (omega (arith, lt))
-    none Name lt h = absurd (omega (arith, lt))
-    none Twice lt h = absurd (omega (arith, lt))
-    none Law lt h = absurd (omega (arith, lt))
-    none Total lt h = absurd (omega (arith, lt))
-    none Short lt h = absurd (omega (arith, lt))
+    none _ lt h = absurd (omega (arith, lt))
 
   -- then comes the word
   pub term-word : (Any IsBadByte line → ⊥) → ((word : TermWord) (rest : List (List ℕ)) → tokens_of line ≢ word_text word ∷ rest) → IsNoTerm i line Word
@@ -93,14 +69,7 @@ module _ (i : InstanceData) (line : List ℕ) where
     none : (earlier : Reason) → reason_order earlier < 2 → HasAsTerm i line earlier → ⊥
     none Long lt h = h
     none Bytes lt h = good h
-    none Word lt h = absurd (omega (arith, lt))
-    none Shape lt h = absurd (omega (arith, lt))
-    none Number lt h = absurd (omega (arith, lt))
-    none Name lt h = absurd (omega (arith, lt))
-    none Twice lt h = absurd (omega (arith, lt))
-    none Law lt h = absurd (omega (arith, lt))
-    none Total lt h = absurd (omega (arith, lt))
-    none Short lt h = absurd (omega (arith, lt))
+    none _ lt h = absurd (omega (arith, lt))
 
 -- so what comes of the tokens of a term line comes of the line
 pub judged-as : (i new : InstanceData) (line : List ℕ) (word : TermWord) (rest : List (List ℕ)) (result : Result (Unit {0}) LineEnd) → IsLineOf line (word_text word ∷ rest) → IsOutcome (state_at Terms i) (word_text word ∷ rest) result (state_at Terms new) → MatchResult result (λ _. IsTermAdded i line new) (IsTermRefusal i line)

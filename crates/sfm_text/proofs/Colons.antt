@@ -4,7 +4,8 @@ use Prim.Native.Nat.{zero, suc}
 use Rattle.std.specs.List.{All, Any}
 use Rattle.std.proofs.lemmas.Option.{slice_get-get_or}
 use Rattle.std.proofs.lemmas.List.{length-map, take-map, drop-map, take_rest}
-use Rattle.sfm_text.specs.Parts.{IsMark, AreUnmarked, IsCutAtColon}
+use Rattle.sfm_text.specs.Parts.{LineParts, IsMark, AreUnmarked, IsCutAtColon, IsColonLine}
+use Rattle.sfm_text.specs.Lines.{texts_of}
 use Rattle.sfm_text.specs.CutParts.{IsFirstColon}
 use Rattle.sfm_text.proofs.Cutting.{tail-none, front-same}
 use Rattle.sfm_text.proofs.Repeats.{text-at}
@@ -33,6 +34,15 @@ colon-same tokens before behind before' behind' h g = front-same (codes ":") bef
 -- the first colon is where they are cut
 pub colon-first : (tokens : List (List ℕ)) (at : ℕ) (before behind : List (List ℕ)) → IsFirstColon tokens at → IsCutAtColon tokens before behind → (take at tokens ≡ before) × (drop (at + 1) tokens ≡ behind)
 colon-first tokens at before behind first h = front-same (codes ":") (take at tokens) (drop (at + 1) tokens) before behind first.none_before (no-colon before h.unmarked_before) (sym (colon-cut tokens at first) ∙ h.cut)
+
+-- so tokens that are cut in other counts are those of no such line
+pub other-counts : (AreCounts : ℕ → ℕ → Type 0) (tokens numbers elements : List (Bor (List ℕ))) → IsCutAtColon (texts_of tokens) (texts_of numbers) (texts_of elements) → (AreCounts (length numbers) (length elements) → ⊥)
+    → (parts : LineParts) → IsColonLine AreCounts (texts_of tokens) parts → ⊥
+other-counts AreCounts tokens numbers elements cut none parts h =
+    let same = colon-same (texts_of tokens) h.0 h.1 (texts_of numbers) (texts_of elements) h.2 cut in
+    let n : length h.0 ≡ length numbers = ap length same.0 ∙ length-map numbers (λ (t : Bor (List ℕ)). t.now) in
+    let e : length h.1 ≡ length elements = ap length same.1 ∙ length-map elements (λ (t : Bor (List ℕ)). t.now) in
+    none (rw (n, e) at h.3)
 
 -- tokens without a colon are not cut
 pub colon-none : (tokens before behind : List (List ℕ)) → All (λ token. token ≢ codes ":") tokens → IsCutAtColon tokens before behind → ⊥

@@ -1,13 +1,13 @@
 -- Lines of a transversal rank: which tokens are those of none, the first reason of one, and its term, which keeps of each entry as
 -- many of its first slots as the line has elements.
-use Rattle.std.proofs.Common.{◌≡◌, ◌≢◌, inl, inr, ◌<◌, ◌≤◌, ◌+◌, ◌*◌, ◌^◌, ℕ, Bool, true, false, List, [], ◌∷◌, length, take, map, codes, ℤ, refl, sym, ap, ◌∙◌, true≢false, length-append, length-take, arith}
+use Rattle.std.proofs.Common.{◌≡◌, ◌≢◌, inl, inr, ◌<◌, ◌≤◌, ◌*◌, ◌^◌, ℕ, Bool, true, false, List, [], ◌∷◌, length, take, map, codes, ℤ, refl, sym, ap, ◌∙◌, true≢false, length-append, length-take, arith}
 use Rattle.std.specs.List.{All, Any, AllZip}
 use Rattle.std.proofs.lemmas.List.{length-map}
 use Rattle.std.proofs.lemmas.List.Elements.{All-nil}
 use Rattle.std.proofs.lemmas.Simd.{map-map}
 use Rattle.sfm_spec.specs.Bounds.{AreElements}
 use Rattle.sfm_spec.specs.Names.{IsName}
-use Rattle.sfm_kind.specs.Names.{IsNewName, AreElementNames}
+use Rattle.sfm_kind.specs.Names.{AreElementNames}
 use Rattle.sfm_kind.specs.Instance.{InstanceData}
 use Rattle.sfm_kind.specs.declared.kind.Kind.TheVariants.{Transversal}
 use Rattle.sfm_matroid.specs.declared.transversal.Transversal as transversals
@@ -24,9 +24,8 @@ use Rattle.sfm_text.specs.Words.{lowest_of, HasParts}
 use Rattle.sfm_text.specs.TermLines.{IsNumberFrom, IsElement, StandsTwice}
 use Rattle.sfm_text.specs.Reading.{HasSlotTwice}
 use Rattle.sfm_text.specs.ReadParts.{IsTermRead, joined}
-use Rattle.sfm_text.specs.Passes.{Holds, IsReasonOf, RepeatsSlot, AreGoodEntries, AreFewEntries, IsEntryLine}
+use Rattle.sfm_text.specs.Passes.{IsKnown, Holds, IsReasonOf, RepeatsSlot, AreGoodEntries, AreFewEntries, IsEntryLine}
 use Rattle.sfm_text.proofs.Colons.{none-any}
-use Rattle.sfm_text.proofs.GroupTerms.{known-old}
 use Rattle.sfm_text.proofs.LongLabels.{labelled-here, labelled-line, labels-named, labelled-slot}
 use Rattle.sfm_text.proofs.LongRanks.{second}
 use Rattle.sfm_text.proofs.LongReasons.{long-shape}
@@ -121,10 +120,10 @@ module _ (i : InstanceData) (number colon : List ℕ) (tokens : List (List ℕ))
       (matched-all (IsLabelToken TransversalRank) (λ token. RepeatsSlot token → ⊥) (λ (entry : List ℕ × List (List ℕ)). entry.1) (λ slots. StandsTwice slots → ⊥) (λ token entry p once twice. once (entry, p, twice)) tokens entries each good.once) any
 
   -- each element is one of the ground
-  pub entry-known : Any (IsNewName i.names) (map (λ entry. entry.0) entries) → ⊥
-  entry-known new = known-old i.names (map (λ entry. entry.0) entries)
-      (matched-all (IsLabelToken TransversalRank) (Holds i.names (LabelledElement TransversalRank)) (λ (entry : List ℕ × List (List ℕ)). entry.0) (Holds i.names Element)
-      (λ token entry p (other, q, element). let same : other ≡ entry = token-same TransversalRank token other entry q p in rw same at element) tokens entries each good.good.known) new
+  pub entry-known : All (IsKnown i.names) (map (λ entry. entry.0) entries)
+  entry-known =
+      matched-all (IsLabelToken TransversalRank) (Holds i.names (LabelledElement TransversalRank)) (λ (entry : List ℕ × List (List ℕ)). entry.0) (Holds i.names Element)
+      (λ token entry p (other, q, element). let same : other ≡ entry = token-same TransversalRank token other entry q p in rw same at element) tokens entries each good.good.known
 
   pub entry-count : length entries ≡ length tokens
   entry-count = length-AllZip (IsLabelToken TransversalRank) tokens entries each

@@ -42,12 +42,7 @@ pub bytes-behind : (word : TermWord) (tokens rest : List (List ℕ)) → tokens 
 bytes-behind word tokens rest is h = let e = ap bytes_in is in let l = long word in omega (arith, h, e, l) where
   long : (word : TermWord) → 3 ≤ length (word_text word)
   long WeightWord = omega arith
-  long CutWord = omega arith
-  long NeedWord = omega arith
-  long CoverWord = omega arith
-  long TableWord = omega arith
-  long ConcaveWord = omega arith
-  long RankWord = omega arith
+  long _ = omega arith
 
 -- ---- labels
 

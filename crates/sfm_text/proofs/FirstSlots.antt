@@ -1,6 +1,6 @@
 -- An entry of different slots needs no more of them than its line has elements: where a member has a slot that is none of its
 -- first ones, these are as many as there are elements, and the other members are fewer, so one of them is free.
-use Rattle.std.proofs.Common.{◌≡◌, ◌≢◌, ◌⊎◌, inl, inr, ℕ, zero, suc, ◌+◌, ◌<◌, ◌≤◌, Bool, true, false, not, cond, if◌then◌else◌, nat_eq, List, [], ◌∷◌, length, get_or, take, map, flat_map, Contains, bytes_eq, refl, sym, ap, ◌∙◌, ⊎_elim, one-add, eq-eqb, ne_eqb, length-take, arith}
+use Rattle.std.proofs.Common.{◌≡◌, ◌⊎◌, inl, inr, ℕ, zero, suc, ◌+◌, ◌<◌, ◌≤◌, Bool, true, false, not, cond, if◌then◌else◌, nat_eq, List, [], ◌∷◌, length, get_or, take, map, flat_map, Contains, bytes_eq, refl, sym, ap, ◌∙◌, ⊎_elim, one-add, eq-eqb, ne_eqb, length-take, arith}
 use Rattle.std.specs.List.{All, range_with_len}
 use Rattle.std.specs.Set.{is_member}
 use Rattle.std.proofs.lemmas.Bool.{true≢false, false≢true, cases_lt}

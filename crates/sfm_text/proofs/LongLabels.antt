@@ -14,7 +14,7 @@ use Rattle.sfm_text.specs.declared.word.RankKind.TheVariants.{NoRank, UniformRan
 use Rattle.sfm_text.specs.declared.word.TermWord.TheVariants.{RankWord}
 use Rattle.sfm_text.specs.Parts.{LineParts, IsMark, IsCutAt, IsLabelToken, IsLabelledLine, IsRankLine, AreLabelsOf}
 use Rattle.sfm_text.specs.CutParts.{labelled_parts_of}
-use Rattle.sfm_text.specs.TermLines.{IsElement, StandsTwice}
+use Rattle.sfm_text.specs.TermLines.{IsElement}
 use Rattle.sfm_text.specs.Reading.{HasSlotTwice}
 use Rattle.sfm_text.specs.Passes.{IsNumberOf, IsKnown, Holds, Fails, IsReasonOf, label_word, HasLabels, AreGoodEntries}
 use Rattle.sfm_text.proofs.GroupCuts.{group_tokens}

@@ -7,26 +7,16 @@ use Rattle.sfm_base.specs.NumberText.{IsCount, IsNumber, is_zero, is_positive, i
 use Rattle.sfm_text.specs.Words.{lowest_of}
 use Rattle.sfm_text.specs.TermLines.{IsNumberFrom}
 use Rattle.sfm_text.specs.declared.word.TermWord.{TermWord}
-use Rattle.sfm_text.specs.declared.word.TermWord.TheVariants.{WeightWord, CutWord, NeedWord, CoverWord, TableWord, ConcaveWord, RankWord}
+use Rattle.sfm_text.specs.declared.word.TermWord.TheVariants.{WeightWord}
 
--- no line has numbers below -10^12
+-- the least number of a line is from -10^12 to 0
 pub lowest_of-low : (word : TermWord) → neg_ℤ (pos (10 ^ 12)) ≤ℤ lowest_of word
 lowest_of-low WeightWord = omega (arith, ints)
-lowest_of-low CutWord = omega (arith, ints)
-lowest_of-low NeedWord = omega (arith, ints)
-lowest_of-low CoverWord = omega (arith, ints)
-lowest_of-low TableWord = omega (arith, ints)
-lowest_of-low ConcaveWord = omega (arith, ints)
-lowest_of-low RankWord = omega (arith, ints)
+lowest_of-low _ = omega (arith, ints)
 
 pub lowest_of-high : (word : TermWord) → lowest_of word ≤ℤ pos 0
 lowest_of-high WeightWord = omega (arith, ints)
-lowest_of-high CutWord = omega (arith, ints)
-lowest_of-high NeedWord = omega (arith, ints)
-lowest_of-high CoverWord = omega (arith, ints)
-lowest_of-high TableWord = omega (arith, ints)
-lowest_of-high ConcaveWord = omega (arith, ints)
-lowest_of-high RankWord = omega (arith, ints)
+lowest_of-high _ = omega (arith, ints)
 
 -- the least number is kept as it is
 pub kept-lowest : (word : TermWord) (r : ℤ) → r ≡ lowest_of word → to_z w128 (of_z w128 r) ≡ lowest_of word

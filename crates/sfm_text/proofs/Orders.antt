@@ -3,21 +3,13 @@ use Rattle.std.proofs.Common.{◌≡◌, ℕ, zero, suc, ◌<◌, List, [], ◌�
 use Rattle.std.specs.List.{All}
 use Rattle.std.proofs.lemmas.List.{get_or-take}
 use Rattle.sfm_text.specs.declared.reason.Reason.{Reason}
-use Rattle.sfm_text.specs.declared.reason.Reason.TheVariants.{Long, Bytes, Word, Shape, Number, Name, Twice, Law, Total, Short}
+use Rattle.sfm_text.specs.declared.reason.Reason.TheVariants.{Long}
 use Rattle.sfm_text.specs.Reading.{State, Has, FirstReason, IsFirstReason, reason_order, reasons}
 
 -- each stands at its place
 pub reason-at : (reason : Reason) (d : Reason) → get_or reasons (reason_order reason) d ≡ reason
 reason-at Long d = refl
-reason-at Bytes d = refl
-reason-at Word d = refl
-reason-at Shape d = refl
-reason-at Number d = refl
-reason-at Name d = refl
-reason-at Twice d = refl
-reason-at Law d = refl
-reason-at Total d = refl
-reason-at Short d = refl
+reason-at _ d = refl
 
 -- and what stands at a place has that order
 order-at : (k : ℕ) (d : Reason) → k < 10 → reason_order (get_or reasons k d) ≡ k
@@ -35,27 +27,11 @@ order-at (suc (suc (suc (suc (suc (suc (suc (suc (suc (suc k)))))))))) d lt = ab
 
 reasons-cut : (reason : Reason) → reasons ≡ take (reason_order reason) reasons ++ reason ∷ drop (reason_order reason + 1) reasons
 reasons-cut Long = refl
-reasons-cut Bytes = refl
-reasons-cut Word = refl
-reasons-cut Shape = refl
-reasons-cut Number = refl
-reasons-cut Name = refl
-reasons-cut Twice = refl
-reasons-cut Law = refl
-reasons-cut Total = refl
-reasons-cut Short = refl
+reasons-cut _ = refl
 
 front-length : (reason : Reason) → length (take (reason_order reason) reasons) ≡ reason_order reason
 front-length Long = refl
-front-length Bytes = refl
-front-length Word = refl
-front-length Shape = refl
-front-length Number = refl
-front-length Name = refl
-front-length Twice = refl
-front-length Law = refl
-front-length Total = refl
-front-length Short = refl
+front-length _ = refl
 
 front-at : (before more : List Reason) (k : ℕ) (d : Reason) → k < length before → get_or (before ++ more) k d ≡ get_or before k d
 front-at [] more k d lt = absurd (omega (arith, lt))

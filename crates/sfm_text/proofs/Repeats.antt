@@ -1,5 +1,5 @@
 -- Lists in which something stands twice, or nothing.
-use Rattle.std.proofs.Common.{◌≡◌, ◌≢◌, ℕ, ◌+◌, ◌<◌, ◌≤◌, List, [], ◌∷◌, ◌++◌, length, get_or, take, map, Contains, Some, Bor, true, nat_eq, refl, sym, ap, ◌∙◌, arith}
+use Rattle.std.proofs.Common.{◌≡◌, ◌≢◌, ℕ, ◌+◌, ◌<◌, ◌≤◌, List, [], ◌∷◌, ◌++◌, length, get_or, take, map, Contains, Some, Bor, Bool, true, false, not, nat_eq, refl, sym, ap, ◌∙◌, arith}
 use Rattle.std.specs.Cmp.Lexicographic.{pointwise, same_text}
 use Rattle.std.proofs.lemmas.Bool.{cases_lt}
 use Rattle.std.proofs.lemmas.List.Folds.{Any-from_list_any}
@@ -55,6 +55,15 @@ once-more xs i d lt once new h =
     let is : h.1 ≡ i = omega (arith, last, most) in
     new h.0 d (omega (arith, order, is, short)) (get_or-take i xs h.0 d (omega (arith, order, is)) ∙ (same ∙ ap (λ n. get_or xs n d) is)))
     (cases_lt h.1 i)
+
+-- whether a key was found, from whether it was added
+pub true_from_not : (b r : Bool) → r ≡ not b → r ≡ false → b ≡ true
+true_from_not true r e f = refl
+true_from_not false r e f = cc
+
+pub false_from_not : (b r : Bool) → r ≡ not b → r ≡ true → b ≡ false
+false_from_not true r e f = cc
+false_from_not false r e f = refl
 
 -- texts: what stands at a place, and the first of them
 pub text-at : (texts : List (Bor (List ℕ))) (i : ℕ) (d : Bor (List ℕ)) → i < length texts → get_or (map (λ t. t.now) texts) i [] ≡ (get_or texts i d).now

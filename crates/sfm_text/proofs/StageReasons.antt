@@ -5,7 +5,7 @@ use Rattle.std.proofs.lemmas.List.Elements.{All-get_or}
 use Rattle.sfm_spec.specs.Names.{IsName}
 use Rattle.sfm_kind.specs.Instance.{InstanceData}
 use Rattle.sfm_text.specs.declared.reason.Reason.{Reason}
-use Rattle.sfm_text.specs.declared.reason.Reason.TheVariants.{Long, Bytes, Word, Shape, Number, Name, Twice, Law, Total, Short}
+use Rattle.sfm_text.specs.declared.reason.Reason.TheVariants.{Long, Bytes, Word, Shape, Number, Name, Twice, Law, Total}
 use Rattle.sfm_text.specs.declared.stage.Stage.TheVariants.{Header, Ground, Terms, Ended}
 use Rattle.sfm_text.specs.declared.word.TermWord.{TermWord}
 use Rattle.sfm_text.specs.Lines.{tokens_of}
@@ -21,15 +21,7 @@ use Rattle.sfm_text.proofs.TermReasons.{none-below}
 
 order-below : (reason : Reason) → reason_order reason < 10
 order-below Long = omega arith
-order-below Bytes = omega arith
-order-below Word = omega arith
-order-below Shape = omega arith
-order-below Number = omega arith
-order-below Name = omega arith
-order-below Twice = omega arith
-order-below Law = omega arith
-order-below Total = omega arith
-order-below Short = omega arith
+order-below _ = omega arith
 
 -- the same tokens
 pub line-as : (line : List ℕ) (a b : List (List ℕ)) → a ≡ b → IsLineOf line a → IsLineOf line b

@@ -18,12 +18,7 @@ by_bytes c a = if nat_eq c 105 then WeightWord else (if nat_eq c 116 then CutWor
 
 bytes-of : (word : TermWord) → by_bytes (get_or (word_text word) 2 0) (get_or (word_text word) 0 0) ≡ word
 bytes-of WeightWord = refl
-bytes-of CutWord = refl
-bytes-of NeedWord = refl
-bytes-of CoverWord = refl
-bytes-of TableWord = refl
-bytes-of ConcaveWord = refl
-bytes-of RankWord = refl
+bytes-of _ = refl
 
 -- each word has its own text
 pub word_text-same : (v w : TermWord) → word_text v ≡ word_text w → v ≡ w
@@ -77,12 +72,7 @@ not-end word e = apart word (ap (λ (text : List ℕ). get_or text 2 0) e)
   where
     apart : (word : TermWord) → get_or (word_text word) 2 0 ≡ 100 → ⊥
     apart WeightWord h = omega (arith, h)
-    apart CutWord h = omega (arith, h)
-    apart NeedWord h = omega (arith, h)
-    apart CoverWord h = omega (arith, h)
-    apart TableWord h = omega (arith, h)
-    apart ConcaveWord h = omega (arith, h)
-    apart RankWord h = omega (arith, h)
+    apart _ h = omega (arith, h)
 
 -- the parts of a line are those of its word
 pub shaped-here : (word : TermWord) (tokens rest : List (List ℕ)) (word' : TermWord) (rest' : List (List ℕ)) (parts : LineParts) → tokens ≡ word_text word ∷ rest → IsShaped tokens word' rest' parts → HasParts word rest parts

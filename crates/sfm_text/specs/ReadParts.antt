@@ -1,5 +1,5 @@
 -- What the parts of a line, the state of a reading and the end of a line's reading stand for.
-use Rattle.std.specs.Prelude.{◌≡◌, ◌+◌, ◌<◌, ℕ, Bool, true, false, List, [], ◌∷◌, length, codes, map, Any, Result, MatchResult, ℤ}
+use Rattle.std.specs.Prelude.{◌≡◌, ◌+◌, ◌<◌, ℕ, Bool, true, false, List, [], ◌∷◌, length, codes, map, Any, Result, MatchResult, Option, MatchOption, ℤ}
 use Rattle.std.specs.List.{flat_map}
 use Rattle.sfm_kind.specs.Instance.{InstanceData}
 use Rattle.sfm_kind.specs.Meanings.{kind_places}
@@ -28,6 +28,10 @@ label_lists_of lists = map (λ labels. texts_of labels.texts.items) lists
 -- the texts that the parts point to
 abbrev pub parts_of : Parts → LineParts
 parts_of parts = record { numbers = texts_of parts.numbers.items; elements = texts_of parts.elements.items; rank = parts.rank; groups = text_lists_of parts.groups.items; labels = label_lists_of parts.labels.items }
+
+-- the tokens are such a line with these parts, or none where there are no parts
+abbrev pub HasLineParts : (List (List ℕ) → LineParts → Type 0) → List (List ℕ) → Option Parts → Type 0
+HasLineParts IsLine tokens found = MatchOption found ((parts : LineParts) → IsLine tokens parts → ⊥) (λ parts. IsLine tokens (parts_of parts))
 
 -- the term that a line with these parts stands for, with these numbers and elements at these places
 pub record IsTermOf (word : TermWord) (parts : LineParts) (values : List ℤ) (places : List ℕ) (term : Kind) : Type 0 where

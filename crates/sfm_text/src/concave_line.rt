@@ -6,7 +6,7 @@ ghost use Rattle.sfm_concave.specs.ConcaveLaws.{RisesAt};
 ghost use Rattle.sfm_text.specs.Lines.{texts_of};
 ghost use Rattle.sfm_text.specs.Parts.{LineParts, IsColonLine};
 ghost use Rattle.sfm_text.specs.CutParts.{IsConcaveCount};
-ghost use Rattle.sfm_text.specs.ReadParts.{IsTermOf, parts_of};
+ghost use Rattle.sfm_text.specs.ReadParts.{HasLineParts, IsTermOf};
 ghost use Rattle.sfm_text.specs.declared.word.TermWord.TheVariants.{ConcaveWord};
 
 use crate::mark::cut_at_colon;
@@ -28,9 +28,7 @@ pub fn concave_parts<'a, 'b>(
     alloc: Global,
     tokens: &'b [&'a [u8]],
 ) -> Result<Option<Parts<'a, 'b>>, AllocError>
-    ensures { IfOk result (λ r. MatchOption r
-        ((parts : LineParts) → IsColonLine IsConcaveCount (texts_of tokens.now) parts → ⊥)
-        (λ parts. IsColonLine IsConcaveCount (texts_of tokens.now) (parts_of parts))) }
+    ensures { IfOk result (HasLineParts (IsColonLine IsConcaveCount) (texts_of tokens.now)) }
 {
     let Some((numbers, elements)) = cut_at_colon(tokens) else {
         return Ok(None);
@@ -38,9 +36,8 @@ pub fn concave_parts<'a, 'b>(
     if !is_concave_count(numbers.len(), elements.len()) {
         return Ok(None);
     }
-    let numbers = Vec::from_slice(alloc, numbers)?;
-    let elements = Vec::from_slice(alloc, elements)?;
-    Ok(Some(Parts::plain(alloc, numbers, elements)))
+    let parts = Parts::copied(alloc, numbers, elements)?;
+    Ok(Some(parts))
 }
 
 /// The term with these values of 1, 2, .. of these places, or None where some increment is above the one before.

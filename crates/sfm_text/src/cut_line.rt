@@ -1,12 +1,12 @@
 // The line `cut`, a number and two elements.
-ghost use Rattle.std.specs.Prelude.{◌≡◌, ◌^◌, length, pos, ◌≤ℤ◌, IfOk, MatchOption};
+ghost use Rattle.std.specs.Prelude.{◌≡◌, ◌^◌, length, pos, ◌≤ℤ◌, IfOk};
 ghost use Rattle.std.specs.List.{All};
 ghost use Rattle.sfm_spec.specs.Bounds.{IsAtMost};
 ghost use Rattle.sfm_spec.specs.Sets.{IsPlaced};
 ghost use Rattle.sfm_text.specs.Lines.{texts_of};
 ghost use Rattle.sfm_text.specs.Parts.{LineParts};
 ghost use Rattle.sfm_text.specs.Words.{HasParts};
-ghost use Rattle.sfm_text.specs.ReadParts.{IsTermOf, parts_of};
+ghost use Rattle.sfm_text.specs.ReadParts.{HasLineParts, IsTermOf};
 ghost use Rattle.sfm_text.specs.declared.word.TermWord.TheVariants.{CutWord};
 
 use crate::parts::{Parts, split_at};
@@ -19,9 +19,7 @@ pub fn cut_parts<'a, 'b>(
     alloc: Global,
     tokens: &'b [&'a [u8]],
 ) -> Result<Option<Parts<'a, 'b>>, AllocError>
-    ensures { IfOk result (λ r. MatchOption r
-        ((parts : LineParts) → HasParts CutWord (texts_of tokens.now) parts → ⊥)
-        (λ parts. HasParts CutWord (texts_of tokens.now) (parts_of parts))) }
+    ensures { IfOk result (HasLineParts (HasParts CutWord) (texts_of tokens.now)) }
 {
     if tokens.len() != 3 {
         return Ok(None);

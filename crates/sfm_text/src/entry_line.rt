@@ -22,8 +22,8 @@ use crate::pair::cut_once;
 use crate::passes::token_count;
 use crate::reason::Reason;
 use crate::slots::has_repeated_slot;
-use crate::term_line::{has_place_twice, number_for, read_places};
-use crate::tokens::{first_token, has_token};
+use crate::term_line::{has_place_twice, known_number, known_places};
+use crate::tokens::{first_token, first_two, has_token};
 use crate::word::{RankKind, TermWord};
 use indexmap::IndexSet;
 use sfm_base::Memory;
@@ -162,14 +162,9 @@ fn entries_term(
     if let Some(reason) = fault {
         return Err(LineEnd::Fault(reason));
     }
-    let Some(w) = number_for(TermWord::RankWord, number) else {
-        unreachable!();
-    };
+    let w = known_number(TermWord::RankWord, number);
     let (elements, labels) = cut_entries(alloc, entries, token_count(entries))?;
-    let found = read_places(alloc, instance, &elements)?;
-    let Some(places) = found else {
-        unreachable!();
-    };
+    let places = known_places(alloc, instance, &elements)?;
     if has_place_twice(&places) {
         return Err(LineEnd::Fault(Reason::Twice));
     }
@@ -190,10 +185,7 @@ pub fn entry_line_term(
         (IsTermRead instance.now RankWord (tokens_of line.now))) }
     ensures refused { IfErr result (IsRefusedBy instance.now RankWord (tokens_of line.now)) }
 {
-    let Some((number, rest)) = first_token(line) else {
-        return Ok(None);
-    };
-    let Some((kind, behind)) = first_token(rest) else {
+    let Some((number, kind, behind)) = first_two(line) else {
         return Ok(None);
     };
     if !is_word(kind, b"transversal") {

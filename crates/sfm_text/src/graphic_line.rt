@@ -4,10 +4,10 @@ ghost use Rattle.std.specs.List.{All};
 ghost use Rattle.sfm_spec.specs.Bounds.{IsAtMost, AreElements};
 ghost use Rattle.sfm_matroid.specs.Ends.{edges_of};
 ghost use Rattle.sfm_text.specs.Lines.{texts_of};
-ghost use Rattle.sfm_text.specs.Parts.{LineParts, IsLabelToken, IsLabelledLine};
+ghost use Rattle.sfm_text.specs.Parts.{IsLabelToken, IsLabelledLine};
 ghost use Rattle.sfm_text.specs.LabelTerms.{edge_between};
 ghost use Rattle.sfm_text.specs.CutParts.{AreLabelled, labelled_parts_of, place_among};
-ghost use Rattle.sfm_text.specs.ReadParts.{IsTermOf, parts_of, label_lists_of, joined};
+ghost use Rattle.sfm_text.specs.ReadParts.{HasLineParts, IsTermOf, parts_of, label_lists_of, joined};
 ghost use Rattle.sfm_text.specs.declared.word.TermWord.TheVariants.{RankWord};
 ghost use Rattle.sfm_text.specs.declared.word.RankKind.TheVariants.{GraphicRank};
 
@@ -79,9 +79,7 @@ pub fn graphic_parts<'a, 'b>(
     alloc: Global,
     tokens: &'b [&'a [u8]],
 ) -> Result<Option<Parts<'a, 'b>>, AllocError>
-    ensures { IfOk result (λ r. MatchOption r
-        ((parts : LineParts) → IsLabelledLine GraphicRank (codes "graphic") (texts_of tokens.now) parts → ⊥)
-        (λ parts. IsLabelledLine GraphicRank (codes "graphic") (texts_of tokens.now) (parts_of parts))) }
+    ensures { IfOk result (HasLineParts (IsLabelledLine GraphicRank (codes "graphic")) (texts_of tokens.now)) }
 {
     let Some((number, behind)) = cut_head(b"graphic", tokens) else {
         return Ok(None);

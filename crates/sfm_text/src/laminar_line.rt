@@ -2,9 +2,9 @@
 // and at least one name of an element of the line.
 ghost use Rattle.std.specs.Prelude.{◌≡◌, ℕ, List, MatchOption, IfOk};
 ghost use Rattle.sfm_text.specs.Lines.{texts_of, text_lists_of};
-ghost use Rattle.sfm_text.specs.Parts.{LineParts, IsLaminarLine};
+ghost use Rattle.sfm_text.specs.Parts.{IsLaminarLine};
 ghost use Rattle.sfm_text.specs.CutParts.{is_semicolon, cut_at_semicolons, IsGroupCut, AreGroupsCut, laminar_parts_of};
-ghost use Rattle.sfm_text.specs.ReadParts.{parts_of};
+ghost use Rattle.sfm_text.specs.ReadParts.{HasLineParts, parts_of};
 
 use crate::mark::has_mark;
 use crate::parts::Parts;
@@ -83,9 +83,7 @@ pub fn laminar_parts<'a, 'b>(
     alloc: Global,
     tokens: &'b [&'a [u8]],
 ) -> Result<Option<Parts<'a, 'b>>, AllocError>
-    ensures { IfOk result (λ r. MatchOption r
-        ((parts : LineParts) → IsLaminarLine (texts_of tokens.now) parts → ⊥)
-        (λ parts. IsLaminarLine (texts_of tokens.now) (parts_of parts))) }
+    ensures { IfOk result (HasLineParts IsLaminarLine (texts_of tokens.now)) }
 {
     let Some((number, behind)) = cut_head(b"laminar", tokens) else {
         return Ok(None);

@@ -27,9 +27,9 @@ use crate::mark::is_mark;
 use crate::passes::{all_hold, has_mark_in, has_repeat_in, is_colon};
 use crate::piece_cut::first_piece;
 use crate::reason::Reason;
-use crate::term_line::{number_for, read_places};
+use crate::term_line::{known_number, known_places};
 use crate::token_test::{TokenTest, is_number_of};
-use crate::tokens::{first_token, has_token, tokens};
+use crate::tokens::{first_token, first_two, has_token, tokens};
 use crate::word::TermWord;
 use sfm_base::Memory;
 use sfm_kind::{Instance, Kind};
@@ -99,9 +99,7 @@ fn piece_group(alloc: Global, elements: &[&[u8]], piece: &[u8]) -> Result<Capped
     let Some((cap, names)) = first_token(piece) else {
         unreachable!();
     };
-    let Some(value) = number_for(TermWord::RankWord, cap) else {
-        unreachable!();
-    };
+    let value = known_number(TermWord::RankWord, cap);
     let names = tokens(alloc, names)?;
     let members = members(alloc, elements, &names)?;
     Ok(CappedGroup::new(value, members))
@@ -171,14 +169,9 @@ fn groups_term(
     if let Some(reason) = fault {
         return Err(LineEnd::Fault(reason));
     }
-    let Some(w) = number_for(TermWord::RankWord, number) else {
-        unreachable!();
-    };
+    let w = known_number(TermWord::RankWord, number);
     let elements = tokens(alloc, elements)?;
-    let found = read_places(alloc, instance, &elements)?;
-    let Some(places) = found else {
-        unreachable!();
-    };
+    let places = known_places(alloc, instance, &elements)?;
     let told = kept_groups(alloc, &places, &elements, groups)?;
     let Some(kept) = told else {
         return Err(LineEnd::Fault(Reason::Law));
@@ -200,10 +193,7 @@ pub fn laminar_line_term(
     ensures read { IfOk result (λ r. IfSome r (IsTermRead instance.now RankWord (tokens_of line.now))) }
     ensures refused { IfErr result (IsRefusedBy instance.now RankWord (tokens_of line.now)) }
 {
-    let Some((number, rest)) = first_token(line) else {
-        return Ok(None);
-    };
-    let Some((kind, rest)) = first_token(rest) else {
+    let Some((number, kind, rest)) = first_two(line) else {
         return Ok(None);
     };
     if !is_word(kind, b"laminar") {

@@ -13,7 +13,7 @@ use crate::mark::is_mark;
 use crate::passes::{all_hold, has_mark_in, is_colon};
 use crate::reason::Reason;
 use crate::token_test::{TokenTest, is_number_of};
-use crate::tokens::{first_token, has_token};
+use crate::tokens::{first_token, first_two, has_token};
 use crate::word::{RankKind, TermWord};
 use sfm_kind::Instance;
 
@@ -76,10 +76,7 @@ fn uniform_reason(instance: &Instance, number: &[u8], behind: &[u8]) -> Reason
     requires long { 1000 < length (tokens_of behind.now) }
     ensures { IsReasonOf instance.now RankWord (number.now ∷ codes "uniform" ∷ tokens_of behind.now) result }
 {
-    let Some((cap, rest)) = first_token(behind) else {
-        return Reason::Shape;
-    };
-    let Some((colon, elements)) = first_token(rest) else {
+    let Some((cap, colon, elements)) = first_two(behind) else {
         return Reason::Shape;
     };
     if !is_uniform_cut(number, cap, colon, elements) {
@@ -169,12 +166,7 @@ pub fn rank_reason(instance: &Instance, line: &[u8]) -> Option<Reason>
     requires { AreElementNames instance.now.names }
     ensures { IfSome result (IsReasonOf instance.now RankWord (tokens_of line.now)) }
 {
-    let Some((number, rest)) = first_token(line) else {
-        return None;
-    };
-    let Some((kind, behind)) = first_token(rest) else {
-        return None;
-    };
+    let (number, kind, behind) = first_two(line)?;
     match rank_kind(kind) {
         RankKind::NoRank => Some(Reason::Shape),
         RankKind::UniformRank => long_uniform_reason(instance, number, behind),

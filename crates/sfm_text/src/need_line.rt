@@ -1,10 +1,10 @@
 // The line `need` and two elements.
-ghost use Rattle.std.specs.Prelude.{◌≡◌, List, length, ℤ, IfOk, MatchOption};
+ghost use Rattle.std.specs.Prelude.{◌≡◌, List, length, ℤ, IfOk};
 ghost use Rattle.sfm_spec.specs.Sets.{IsPlaced};
 ghost use Rattle.sfm_text.specs.Lines.{texts_of};
 ghost use Rattle.sfm_text.specs.Parts.{LineParts};
 ghost use Rattle.sfm_text.specs.Words.{HasParts};
-ghost use Rattle.sfm_text.specs.ReadParts.{IsTermOf, parts_of};
+ghost use Rattle.sfm_text.specs.ReadParts.{HasLineParts, IsTermOf};
 ghost use Rattle.sfm_text.specs.declared.word.TermWord.TheVariants.{NeedWord};
 
 use crate::parts::{Parts, split_at};
@@ -17,9 +17,7 @@ pub fn need_parts<'a, 'b>(
     alloc: Global,
     tokens: &'b [&'a [u8]],
 ) -> Result<Option<Parts<'a, 'b>>, AllocError>
-    ensures { IfOk result (λ r. MatchOption r
-        ((parts : LineParts) → HasParts NeedWord (texts_of tokens.now) parts → ⊥)
-        (λ parts. HasParts NeedWord (texts_of tokens.now) (parts_of parts))) }
+    ensures { IfOk result (HasLineParts (HasParts NeedWord) (texts_of tokens.now)) }
 {
     if tokens.len() != 2 {
         return Ok(None);

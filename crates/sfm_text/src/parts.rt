@@ -33,6 +33,19 @@ impl<'a, 'b> Parts<'a, 'b> {
             labels: Vec::new(alloc),
         }
     }
+
+    /// Numbers and elements alone, copied from a line.
+    pub fn copied(
+        alloc: Global,
+        numbers: &[&'a [u8]],
+        elements: &[&'a [u8]],
+    ) -> Result<Parts<'a, 'b>, AllocError>
+        ensures { IfOk result (λ parts. parts_of parts ≡ plain_parts (texts_of numbers.now) (texts_of elements.now)) }
+    {
+        let numbers = Vec::from_slice(alloc, numbers)?;
+        let elements = Vec::from_slice(alloc, elements)?;
+        Ok(Parts::plain(alloc, numbers, elements))
+    }
 }
 
 /// The parts of tokens that are so many numbers and then elements, or None where a colon or a semicolon alone is among
@@ -50,7 +63,6 @@ pub fn split_at<'a, 'b>(
     if has_mark(tokens) {
         return Ok(None);
     }
-    let numbers = Vec::from_slice(alloc, &tokens[..count])?;
-    let elements = Vec::from_slice(alloc, &tokens[count..])?;
-    Ok(Some(Parts::plain(alloc, numbers, elements)))
+    let parts = Parts::copied(alloc, &tokens[..count], &tokens[count..])?;
+    Ok(Some(parts))
 }

@@ -2,10 +2,10 @@
 // rank is none of these: its term is told by passes, in `entry_line.rt`.
 ghost use Rattle.std.specs.Prelude.{◌≢◌, ◌<◌, ◌^◌, length, MatchOption, IfOk};
 ghost use Rattle.sfm_text.specs.Lines.{texts_of};
-ghost use Rattle.sfm_text.specs.Parts.{LineParts, IsRankLine};
+ghost use Rattle.sfm_text.specs.Parts.{IsRankLine};
 ghost use Rattle.sfm_text.specs.RankLines.{BreaksRankLaw};
 ghost use Rattle.sfm_text.specs.TermLines.{AreRead};
-ghost use Rattle.sfm_text.specs.ReadParts.{IsTermOf, parts_of, joined};
+ghost use Rattle.sfm_text.specs.ReadParts.{HasLineParts, IsTermOf, parts_of, joined};
 ghost use Rattle.sfm_text.specs.Passes.{IsEntryLine};
 ghost use Rattle.sfm_text.specs.declared.word.TermWord.TheVariants.{RankWord};
 ghost use Rattle.sfm_text.specs.declared.word.RankKind.TheVariants.{TransversalRank};
@@ -26,9 +26,7 @@ pub fn rank_parts<'a, 'b>(
     tokens: &'b [&'a [u8]],
 ) -> Result<Option<Parts<'a, 'b>>, AllocError>
     requires { IsEntryLine RankWord (texts_of tokens.now) → ⊥ }
-    ensures { IfOk result (λ r. MatchOption r
-        ((parts : LineParts) → IsRankLine (texts_of tokens.now) parts → ⊥)
-        (λ parts. IsRankLine (texts_of tokens.now) (parts_of parts))) }
+    ensures { IfOk result (HasLineParts IsRankLine (texts_of tokens.now)) }
 {
     if let Some(parts) = uniform_parts(alloc, tokens)? {
         return Ok(Some(parts));

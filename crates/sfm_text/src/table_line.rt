@@ -8,7 +8,7 @@ ghost use Rattle.sfm_spec.specs.Kinds.{table_value};
 ghost use Rattle.sfm_text.specs.Lines.{texts_of};
 ghost use Rattle.sfm_text.specs.Parts.{LineParts, IsColonLine};
 ghost use Rattle.sfm_text.specs.CutParts.{IsTableCount};
-ghost use Rattle.sfm_text.specs.ReadParts.{IsTermOf, parts_of};
+ghost use Rattle.sfm_text.specs.ReadParts.{HasLineParts, IsTermOf};
 ghost use Rattle.sfm_text.specs.declared.word.TermWord.TheVariants.{TableWord};
 
 use crate::mark::cut_at_colon;
@@ -30,9 +30,7 @@ pub fn table_parts<'a, 'b>(
     alloc: Global,
     tokens: &'b [&'a [u8]],
 ) -> Result<Option<Parts<'a, 'b>>, AllocError>
-    ensures { IfOk result (λ r. MatchOption r
-        ((parts : LineParts) → IsColonLine IsTableCount (texts_of tokens.now) parts → ⊥)
-        (λ parts. IsColonLine IsTableCount (texts_of tokens.now) (parts_of parts))) }
+    ensures { IfOk result (HasLineParts (IsColonLine IsTableCount) (texts_of tokens.now)) }
 {
     let Some((numbers, elements)) = cut_at_colon(tokens) else {
         return Ok(None);
@@ -40,9 +38,8 @@ pub fn table_parts<'a, 'b>(
     if !is_table_count(numbers.len(), elements.len()) {
         return Ok(None);
     }
-    let numbers = Vec::from_slice(alloc, numbers)?;
-    let elements = Vec::from_slice(alloc, elements)?;
-    Ok(Some(Parts::plain(alloc, numbers, elements)))
+    let parts = Parts::copied(alloc, numbers, elements)?;
+    Ok(Some(parts))
 }
 
 /// The term with these values of the parts of these places, or None where they are those of no submodular function.

@@ -4,12 +4,11 @@ ghost use Rattle.std.specs.List.{All, AllZip};
 ghost use Rattle.sfm_kind.specs.Names.{IsNewName, AreElementNames};
 ghost use Rattle.sfm_kind.specs.declared.kind.Kind.{Kind};
 ghost use Rattle.sfm_text.specs.Lines.{texts_of};
-ghost use Rattle.sfm_text.specs.Parts.{LineParts};
 ghost use Rattle.sfm_text.specs.Words.{lowest_of, word_text, HasParts, BreaksLaw};
 ghost use Rattle.sfm_text.specs.TermLines.{AreRead, IsNumberFrom, IsElement, StandsTwice};
 ghost use Rattle.sfm_text.specs.Reading.{IsLineRefusal};
-ghost use Rattle.sfm_text.specs.ReadParts.{IsTermOf, parts_of, bytes_in, state_at, IsLineOf, IsTermRead, joined};
-ghost use Rattle.sfm_text.specs.Passes.{IsEntryLine};
+ghost use Rattle.sfm_text.specs.ReadParts.{HasLineParts, IsTermOf, parts_of, bytes_in, state_at, IsLineOf, IsTermRead, joined};
+ghost use Rattle.sfm_text.specs.Passes.{IsNumberOf, IsKnown, IsEntryLine};
 ghost use Rattle.sfm_text.specs.declared.stage.Stage.TheVariants.{Terms};
 ghost use Rattle.sfm_text.specs.declared.word.RankKind.TheVariants.{TransversalRank};
 ghost use Rattle.std.specs.Prelude.{◌∷◌};
@@ -42,9 +41,7 @@ fn line_parts<'a, 'b>(
     tokens: &'b [&'a [u8]],
 ) -> Result<Option<Parts<'a, 'b>>, AllocError>
     requires { IsEntryLine word (texts_of tokens.now) → ⊥ }
-    ensures { IfOk result (λ r. MatchOption r
-        ((parts : LineParts) → HasParts word (texts_of tokens.now) parts → ⊥)
-        (λ parts. HasParts word (texts_of tokens.now) (parts_of parts))) }
+    ensures { IfOk result (HasLineParts (HasParts word) (texts_of tokens.now)) }
 {
     match word {
         TermWord::WeightWord => weight_parts(alloc, tokens),
@@ -108,6 +105,17 @@ pub fn number_for(word: TermWord, text: &[u8]) -> Option<i128>
     }
 }
 
+/// The number that a text is, which is one in the range of the word's line.
+pub fn known_number(word: TermWord, text: &[u8]) -> i128
+    requires { IsNumberOf word text.now }
+    ensures { IsNumberFrom (lowest_of word) text.now result }
+{
+    let Some(value) = number_for(word, text) else {
+        unreachable!();
+    };
+    value
+}
+
 /// The numbers that the texts are, or None where one is none or outside the range of the word's line.
 fn read_numbers(
     alloc: Global,
@@ -129,7 +137,7 @@ fn read_numbers(
 }
 
 /// The places of the elements that the texts name, or None where one is no element's name.
-pub fn read_places(
+fn read_places(
     alloc: Global,
     instance: &Instance,
     texts: &[&[u8]],
@@ -146,6 +154,21 @@ pub fn read_places(
         places.push(place)?;
     }
     Ok(Some(places))
+}
+
+/// The places of the elements that the texts name, each of which is an element's name.
+pub fn known_places(
+    alloc: Global,
+    instance: &Instance,
+    texts: &[&[u8]],
+) -> Result<Vec<usize>, AllocError>
+    requires { All (IsKnown instance.now.names) (texts_of texts.now) }
+    ensures { IfOk result (λ places. AllZip (IsElement instance.now.names) (texts_of texts.now) places.items) }
+{
+    let Some(places) = read_places(alloc, instance, texts)? else {
+        unreachable!();
+    };
+    Ok(places)
 }
 
 /// Whether some place stands twice. With places below n it looks at no more than n + 1 of them.

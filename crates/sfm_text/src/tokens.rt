@@ -48,6 +48,17 @@ pub fn first_token(line: &[u8]) -> Option<(&[u8], &[u8])>
     Some((left, &left[left.len()..]))
 }
 
+/// The first two tokens of a line and the line behind them, or None where there are fewer.
+pub fn first_two(line: &[u8]) -> Option<(&[u8], &[u8], &[u8])>
+    ensures { MatchOption result
+        (length (tokens_of line.now) < 2)
+        (λ r. tokens_of line.now ≡ r.0.now ∷ r.1.now ∷ tokens_of r.2.now) }
+{
+    let (first, rest) = first_token(line)?;
+    let (second, behind) = first_token(rest)?;
+    Some((first, second, behind))
+}
+
 /// The token number i of a line, counted from 0, or None past the last.
 pub fn token(line: &[u8], i: usize) -> Option<&[u8]>
     ensures { MatchOption result

@@ -1,10 +1,10 @@
 // The line `rank`, a number, `uniform`, a cap, a colon, and at least one element.
-ghost use Rattle.std.specs.Prelude.{◌≡◌, ◌^◌, length, pos, ◌≤ℤ◌, IfOk, MatchOption};
+ghost use Rattle.std.specs.Prelude.{◌≡◌, ◌^◌, length, pos, ◌≤ℤ◌, IfOk};
 ghost use Rattle.std.specs.List.{All};
 ghost use Rattle.sfm_spec.specs.Bounds.{IsAtMost, AreElements};
 ghost use Rattle.sfm_text.specs.Lines.{texts_of};
 ghost use Rattle.sfm_text.specs.Parts.{LineParts, IsUniformLine};
-ghost use Rattle.sfm_text.specs.ReadParts.{IsTermOf, parts_of};
+ghost use Rattle.sfm_text.specs.ReadParts.{HasLineParts, IsTermOf};
 ghost use Rattle.sfm_text.specs.declared.word.TermWord.TheVariants.{RankWord};
 ghost use Rattle.sfm_text.specs.declared.word.RankKind.TheVariants.{UniformRank};
 
@@ -21,9 +21,7 @@ pub fn uniform_parts<'a, 'b>(
     alloc: Global,
     tokens: &'b [&'a [u8]],
 ) -> Result<Option<Parts<'a, 'b>>, AllocError>
-    ensures { IfOk result (λ r. MatchOption r
-        ((parts : LineParts) → IsUniformLine (texts_of tokens.now) parts → ⊥)
-        (λ parts. IsUniformLine (texts_of tokens.now) (parts_of parts))) }
+    ensures { IfOk result (HasLineParts IsUniformLine (texts_of tokens.now)) }
 {
     let Some((before, elements)) = cut_at_colon(tokens) else {
         return Ok(None);

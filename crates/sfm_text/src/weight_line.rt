@@ -1,10 +1,10 @@
 // The line `weight` and at least one token `name:number`.
-ghost use Rattle.std.specs.Prelude.{◌≡◌, ◌^◌, length, IfOk, MatchOption};
+ghost use Rattle.std.specs.Prelude.{◌≡◌, ◌^◌, length, IfOk};
 ghost use Rattle.std.specs.List.{All};
 ghost use Rattle.sfm_spec.specs.Bounds.{IsAtMost, AreElements};
 ghost use Rattle.sfm_text.specs.Lines.{texts_of};
 ghost use Rattle.sfm_text.specs.Parts.{LineParts, IsWeightLine};
-ghost use Rattle.sfm_text.specs.ReadParts.{IsTermOf, parts_of};
+ghost use Rattle.sfm_text.specs.ReadParts.{HasLineParts, IsTermOf};
 ghost use Rattle.sfm_text.specs.declared.word.TermWord.TheVariants.{WeightWord};
 
 use crate::pair::cut_pair;
@@ -19,9 +19,7 @@ pub fn weight_parts<'a, 'b>(
     alloc: Global,
     tokens: &'b [&'a [u8]],
 ) -> Result<Option<Parts<'a, 'b>>, AllocError>
-    ensures { IfOk result (λ r. MatchOption r
-        ((parts : LineParts) → IsWeightLine (texts_of tokens.now) parts → ⊥)
-        (λ parts. IsWeightLine (texts_of tokens.now) (parts_of parts))) }
+    ensures { IfOk result (HasLineParts IsWeightLine (texts_of tokens.now)) }
 {
     if tokens.is_empty() {
         return Ok(None);

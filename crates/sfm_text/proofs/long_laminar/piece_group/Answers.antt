@@ -1,4 +1,4 @@
-use Rattle.std.proofs.Common.{◌≡◌, Some, to_z, of_z, refl, ap, ◌∙◌, List, ℕ, Bor, arith}
+use Rattle.std.proofs.Common.{◌≡◌, to_z, of_z, ap, ◌∙◌, List, ℕ, Bor, arith}
 use Rattle.std.specs.Int.{w128}
 use Rattle.std.proofs.lemmas.Int.{ints}
 use Rattle.sfm_spec.specs.Kinds.{Group}
@@ -11,18 +11,14 @@ use Rattle.sfm_text.proofs.long_laminar.piece_group.Goals as goal
 pub unreachable-requires : goal.unreachable-requires
 unreachable-requires c = whole-none (tokens_of c.args.piece.now) c.in_default.ensures.cut c.requires.whole
 
-pub unreachable-requires-in_default-number_for : goal.unreachable-requires-in_default-number_for
-unreachable-requires-in_default-number_for c =
-    let (value, number) = c.requires.cap c.in-Some.cap.now (tokens_of c.in-Some.names.now) c.in-Some.ensures.cut in
-    let some : c.number_for.result ≡ Some value = (c.number_for.ensures value).1 number in
-    let none = c.in_default-number_for.is in
-    cc
+pub known_number-value-requires : goal.known_number-value-requires
+known_number-value-requires c = c.requires.cap c.in-Some.cap.now (tokens_of c.in-Some.names.now) c.in-Some.ensures.cut
 
 pub returns : goal.returns
 returns c =
-    let value = c.in-Some-number_for.value in
+    let value = c.known_number-value.result in
     let elements = texts_of c.args.elements.now in
-    let number = (c.in-Some-number_for.ensures value).0 refl in
+    let number = c.known_number-value.ensures in
     let fits : to_z w128 (of_z w128 value) ≡ value = omega (arith, ints, number.1, number.2) in
     let cap : c.new.result.cap ≡ value = ap (λ (g : Group). g.cap) c.new.ensures ∙ fits in
     let texts : texts_of c.deref.result.now ≡ tokens_of c.in-Some.names.now = ap (λ (l : List (Bor (List ℕ))). texts_of l) c.deref.ensures.value ∙ c.in_ok-names.ensures in

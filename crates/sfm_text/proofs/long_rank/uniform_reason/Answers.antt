@@ -1,25 +1,22 @@
-use Rattle.std.proofs.Common.{ℕ, List, ◌∷◌, length, ap, ◌∙◌, arith}
+use Rattle.std.proofs.Common.{arith}
 use Rattle.sfm_text.specs.Lines.{tokens_of}
 use Rattle.sfm_text.proofs.LongRanks.{uniform-shape, uniform-first, uniform-second, uniform-name, uniform-twice}
 use Rattle.sfm_text.proofs.long_rank.uniform_reason.Goals as goal
 
 pub returns-in_default : goal.returns-in_default
-returns-in_default c = absurd (omega (arith, c.requires.long, ap length c.in_default.ensures.cut))
-
-pub returns-in_default-first_token : goal.returns-in_default-first_token
-returns-in_default-first_token c = absurd (omega (arith, c.requires.long, ap length c.in-Some.ensures.cut, ap length c.in_default-first_token.ensures.cut))
+returns-in_default c = absurd (omega (arith, c.requires.long, c.in_default.ensures))
 
 pub returns-then-not-is_uniform_cut : goal.returns-then-not-is_uniform_cut
-returns-then-not-is_uniform_cut c = uniform-shape c.args.instance.now c.args.number.now c.in-Some.cap.now c.in-Some-first_token.colon.now (tokens_of c.in-Some-first_token.elements.now) (tokens_of c.args.behind.now) (c.in-Some.ensures.cut ∙ ap (λ (l : List (List ℕ)). c.in-Some.cap.now ∷ l) c.in-Some-first_token.ensures.cut) c.requires.long c.if-not-is_uniform_cut.ensures
+returns-then-not-is_uniform_cut c = uniform-shape c.args.instance.now _ _ _ _ (tokens_of c.args.behind.now) c.in-Some.ensures c.requires.long c.if-not-is_uniform_cut.ensures
 
 pub returns-then-not-is_number_of : goal.returns-then-not-is_number_of
-returns-then-not-is_number_of c = uniform-first c.args.instance.now c.args.number.now c.in-Some.cap.now c.in-Some-first_token.colon.now (tokens_of c.in-Some-first_token.elements.now) (tokens_of c.args.behind.now) (c.in-Some.ensures.cut ∙ ap (λ (l : List (List ℕ)). c.in-Some.cap.now ∷ l) c.in-Some-first_token.ensures.cut) c.requires.long c.if-not-is_uniform_cut.ensures c.if-not-is_number_of.ensures
+returns-then-not-is_number_of c = uniform-first c.args.instance.now _ _ _ _ (tokens_of c.args.behind.now) c.in-Some.ensures c.requires.long c.if-not-is_uniform_cut.ensures c.if-not-is_number_of.ensures
 
 pub returns-then-not-is_number_of-2 : goal.returns-then-not-is_number_of-2
-returns-then-not-is_number_of-2 c = uniform-second c.args.instance.now c.args.number.now c.in-Some.cap.now c.in-Some-first_token.colon.now (tokens_of c.in-Some-first_token.elements.now) (tokens_of c.args.behind.now) (c.in-Some.ensures.cut ∙ ap (λ (l : List (List ℕ)). c.in-Some.cap.now ∷ l) c.in-Some-first_token.ensures.cut) c.requires.long c.if-not-is_uniform_cut.ensures c.if-not-is_number_of-2.ensures
+returns-then-not-is_number_of-2 c = uniform-second c.args.instance.now _ _ _ _ (tokens_of c.args.behind.now) c.in-Some.ensures c.requires.long c.if-not-is_uniform_cut.ensures c.if-not-is_number_of-2.ensures
 
 pub returns-then-not-all_hold : goal.returns-then-not-all_hold
-returns-then-not-all_hold c = uniform-name c.args.instance.now c.args.number.now c.in-Some.cap.now c.in-Some-first_token.colon.now (tokens_of c.in-Some-first_token.elements.now) (tokens_of c.args.behind.now) (c.in-Some.ensures.cut ∙ ap (λ (l : List (List ℕ)). c.in-Some.cap.now ∷ l) c.in-Some-first_token.ensures.cut) c.requires.long c.if-not-is_uniform_cut.ensures c.if-not-is_number_of.ensures c.if-not-is_number_of-2.ensures c.if-not-all_hold.ensures
+returns-then-not-all_hold c = uniform-name c.args.instance.now _ _ _ _ (tokens_of c.args.behind.now) c.in-Some.ensures c.requires.long c.if-not-is_uniform_cut.ensures c.if-not-is_number_of.ensures c.if-not-is_number_of-2.ensures c.if-not-all_hold.ensures
 
 pub returns : goal.returns
-returns c = uniform-twice c.args.instance.now c.args.number.now c.in-Some.cap.now c.in-Some-first_token.colon.now (tokens_of c.in-Some-first_token.elements.now) (tokens_of c.args.behind.now) (c.in-Some.ensures.cut ∙ ap (λ (l : List (List ℕ)). c.in-Some.cap.now ∷ l) c.in-Some-first_token.ensures.cut) c.requires.long c.if-not-is_uniform_cut.ensures c.if-not-is_number_of.ensures c.if-not-is_number_of-2.ensures c.requires.names c.if-not-all_hold.ensures
+returns c = uniform-twice c.args.instance.now _ _ _ _ (tokens_of c.args.behind.now) c.in-Some.ensures c.requires.long c.if-not-is_uniform_cut.ensures c.if-not-is_number_of.ensures c.if-not-is_number_of-2.ensures c.requires.names c.if-not-all_hold.ensures

@@ -1,19 +1,11 @@
 -- The keys of the set are the tokens that are kept, so it has the next one exactly where that stands among them.
-use Rattle.std.proofs.Common.{◌≡◌, not, true, false, Bool, Bor, ℕ, List, [], ◌∷◌, ◌++◌, refl, sym, ap, ◌∙◌, arith}
+use Rattle.std.proofs.Common.{◌≡◌, Bor, ℕ, List, [], ◌∷◌, ◌++◌, refl, sym, ap, ◌∙◌, arith}
 use Rattle.sfm_kind.proofs.Keys.{new_where_none}
 use Rattle.sfm_text.specs.Lines.{texts_of}
 use Rattle.sfm_text.specs.Passes.{texts_between}
-use Rattle.sfm_text.proofs.Repeats.{found-among}
+use Rattle.sfm_text.proofs.Repeats.{true_from_not, false_from_not, found-among}
 use Rattle.sfm_text.proofs.Passed.{twice-behind, once-behind, passed-more, keys-push}
 use Rattle.sfm_text.proofs.passes.keep.Goals as goal
-
-true_from_not : (b r : Bool) → r ≡ not b → r ≡ false → b ≡ true
-true_from_not true r e f = refl
-true_from_not false r e f = cc
-
-false_from_not : (b r : Bool) → r ≡ not b → r ≡ true → b ≡ false
-false_from_not true r e f = cc
-false_from_not false r e f = refl
 
 pub loop-separator-init : goal.loop-separator-init
 loop-separator-init c = record { cut = refl; once = c.requires; shorter = omega arith }

@@ -1,16 +1,8 @@
 -- The set holds the texts so far, so it has the next one exactly where that stands among them.
-use Rattle.std.proofs.Common.{◌≡◌, not, true, false, Bool, Bor, ℕ, List, refl}
+use Rattle.std.proofs.Common.{Bor, ℕ, List, refl}
 use Rattle.sfm_kind.proofs.Keys.{new_where_none}
-use Rattle.sfm_text.proofs.Repeats.{texts-twice, texts-once-more, found-among, keys-more}
+use Rattle.sfm_text.proofs.Repeats.{true_from_not, false_from_not, texts-twice, texts-once-more, found-among, keys-more}
 use Rattle.sfm_text.proofs.repeat.has_repeat.Goals as goal
-
-true_from_not : (b r : Bool) → r ≡ not b → r ≡ false → b ≡ true
-true_from_not true r e f = refl
-true_from_not false r e f = cc
-
-false_from_not : (b r : Bool) → r ≡ not b → r ≡ true → b ≡ false
-false_from_not true r e f = cc
-false_from_not false r e f = refl
 
 pub returns-then-not-branch : goal.returns-then-not-branch
 returns-then-not-branch c =
