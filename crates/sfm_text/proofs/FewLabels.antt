@@ -12,7 +12,7 @@ use Rattle.sfm_text.specs.LabelTerms.{distinct_of}
 use Rattle.sfm_text.specs.CutParts.{place_among}
 use Rattle.sfm_text.specs.ReadParts.{bytes_in, joined}
 use Rattle.sfm_text.specs.declared.word.RankKind.{RankKind}
-use Rattle.sfm_text.specs.declared.word.RankKind.TheVariants.{NoRank, UniformRank, LaminarRank, GraphicRank, TransversalRank}
+use Rattle.sfm_text.specs.declared.word.RankKind.TheVariants.{GraphicRank, TransversalRank}
 use Rattle.sfm_text.specs.declared.word.TermWord.{TermWord}
 use Rattle.sfm_text.specs.declared.word.TermWord.TheVariants.{WeightWord, CutWord, NeedWord, CoverWord, TableWord, ConcaveWord, RankWord}
 
@@ -47,9 +47,6 @@ bytes-behind word tokens rest is h = let e = ap bytes_in is in let l = long word
 -- ---- labels
 
 token-labels : (rank : RankKind) (token : List ℕ) (entry : List ℕ × List (List ℕ)) → IsLabelToken rank token entry → length entry.1 ≤ length token
-token-labels NoRank token entry h = absurd h.labels
-token-labels UniformRank token entry h = absurd h.labels
-token-labels LaminarRank token entry h = absurd h.labels
 token-labels GraphicRank token entry h =
     let (tail, head, ends, is) = h.labels in
     let a = ap length h.named.cut in
@@ -65,6 +62,7 @@ token-labels TransversalRank token entry h =
     let d = count_by-le-length (λ c. c == 44) h.behind in
     let n = ap length h.labels in
     omega (arith, a, b, c, d, n)
+token-labels _ token entry h = absurd h.labels
 
 labels-few : (rank : RankKind) (tokens : List (List ℕ)) (entries : List (List ℕ × List (List ℕ))) → AllZip (IsLabelToken rank) tokens entries → length (joined (map (λ entry. entry.1) entries)) ≤ bytes_in tokens
 labels-few rank [] [] h = omega arith

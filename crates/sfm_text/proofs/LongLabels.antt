@@ -10,7 +10,7 @@ use Rattle.sfm_kind.specs.Instance.{InstanceData}
 use Rattle.sfm_text.specs.declared.reason.Reason.TheVariants.{Shape, Number, Name, Twice}
 use Rattle.sfm_text.specs.declared.token_test.TokenTest.TheVariants.{Labelled, LabelledElement, NamedLabels}
 use Rattle.sfm_text.specs.declared.word.RankKind.{RankKind}
-use Rattle.sfm_text.specs.declared.word.RankKind.TheVariants.{NoRank, UniformRank, LaminarRank, GraphicRank, TransversalRank}
+use Rattle.sfm_text.specs.declared.word.RankKind.TheVariants.{GraphicRank, TransversalRank}
 use Rattle.sfm_text.specs.declared.word.TermWord.TheVariants.{RankWord}
 use Rattle.sfm_text.specs.Parts.{LineParts, IsMark, IsCutAt, IsLabelToken, IsLabelledLine, IsRankLine, AreLabelsOf}
 use Rattle.sfm_text.specs.CutParts.{labelled_parts_of}
@@ -90,9 +90,6 @@ slots-by texts false (k, lt, h) = (k, get_or texts k [], lt, sym (get_or_default
 
 -- a line of a rank with such a word is one of it
 pub labelled-here : (rank : RankKind) → HasLabels rank → (number : List ℕ) (more : List (List ℕ)) (parts : LineParts) → IsRankLine (number ∷ label_word rank ∷ more) parts → IsLabelledLine rank (label_word rank) (number ∷ label_word rank ∷ more) parts
-labelled-here NoRank has number more parts h = absurd has
-labelled-here UniformRank has number more parts h = absurd has
-labelled-here LaminarRank has number more parts h = absurd has
 labelled-here GraphicRank has number more parts (inl h) = absurd (other-word (codes "graphic") number h.number (codes "uniform") more (h.cap ∷ codes ":" ∷ h.elements) h.cut.cut (λ e. omega (arith, e)))
 labelled-here GraphicRank has number more parts (inr (inl h)) = absurd (other-word (codes "graphic") number h.number (codes "laminar") more (codes ":" ∷ (h.elements ++ group_tokens h.groups)) h.head.tokens_are (λ e. omega (arith, e)))
 labelled-here GraphicRank has number more parts (inr (inr (inl h))) = h
@@ -101,13 +98,12 @@ labelled-here TransversalRank has number more parts (inl h) = absurd (other-word
 labelled-here TransversalRank has number more parts (inr (inl h)) = absurd (other-word (codes "transversal") number h.number (codes "laminar") more (codes ":" ∷ (h.elements ++ group_tokens h.groups)) h.head.tokens_are (λ e. omega (arith, e)))
 labelled-here TransversalRank has number more parts (inr (inr (inl h))) = absurd (other-word (codes "transversal") number h.number (codes "graphic") more (codes ":" ∷ h.behind) h.head.tokens_are (λ e. omega (arith, e)))
 labelled-here TransversalRank has number more parts (inr (inr (inr h))) = h
+labelled-here _ has number more parts h = absurd has
 
 labelled-there : (rank : RankKind) → HasLabels rank → (tokens : List (List ℕ)) (parts : LineParts) → IsLabelledLine rank (label_word rank) tokens parts → IsRankLine tokens parts
-labelled-there NoRank has tokens parts h = absurd has
-labelled-there UniformRank has tokens parts h = absurd has
-labelled-there LaminarRank has tokens parts h = absurd has
 labelled-there GraphicRank has tokens parts h = inr (inr (inl h))
 labelled-there TransversalRank has tokens parts h = inr (inr (inr h))
+labelled-there _ has tokens parts h = absurd has
 
 -- some token is none of an element with labels
 entry-none : (rank : RankKind) (tokens behind : List (List ℕ)) (entries : List (List ℕ × List (List ℕ))) → tokens ≡ behind → AllZip (IsLabelToken rank) behind entries → Any (λ token. ((entry : List ℕ × List (List ℕ)) × IsLabelToken rank token entry) → ⊥) tokens → ⊥

@@ -14,13 +14,11 @@ pub cut-same : (b : ℕ) (token x y x' y' : List ℕ) → IsCutAt b token x y �
 cut-same b token x y x' y' h g = front-same b x y x' y' h.none_before g.none_before (sym h.cut ∙ g.cut)
 
 labels-same : (rank : RankKind) (text : List ℕ) (a b : List (List ℕ)) → AreLabelsOf rank text a → AreLabelsOf rank text b → a ≡ b
-labels-same NoRank text a b h g = absurd h
-labels-same UniformRank text a b h g = absurd h
-labels-same LaminarRank text a b h g = absurd h
 labels-same GraphicRank text a b (tail, head, cut, is) (tail', head', cut', is') =
     let (first, second) = cut-same 45 text tail head tail' head' cut cut' in
     is ∙ (rw (first, second) (sym is'))
 labels-same TransversalRank text a b h g = h ∙ sym g
+labels-same _ text a b h g = absurd h
 
 pub token-same : (rank : RankKind) (token : List ℕ) (a b : List ℕ × List (List ℕ)) → IsLabelToken rank token a → IsLabelToken rank token b → a ≡ b
 token-same rank token (x, texts) (y, others) h g =

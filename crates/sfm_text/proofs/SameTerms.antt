@@ -1,11 +1,10 @@
 -- Two terms that one line stands for have the same places and the same size.
-use Rattle.std.proofs.Common.{◌≡◌, ◌≢◌, ℕ, ◌<◌, ◌≤◌, ◌^◌, inl, inr, List, [], ◌∷◌, ◌++◌, length, map, take, get_or, AllPairs, ℤ, pos, refl, sym, ap, ◌∙◌, arith}
+use Rattle.std.proofs.Common.{◌≡◌, ◌≢◌, ℕ, ◌<◌, ◌≤◌, ◌^◌, inl, inr, List, [], ◌∷◌, ◌++◌, length, get_or, AllPairs, ℤ, pos, refl, sym, ap, ◌∙◌, arith}
 use Rattle.std.specs.List.{AllZip}
 use Rattle.std.proofs.lemmas.Int.{ints, by_lt_z}
 use Rattle.std.proofs.lemmas.Bool.{cases_lt}
 use Rattle.std.proofs.lemmas.Option.{slice_get_within}
 use Rattle.std.proofs.lemmas.List.{length_push}
-use Rattle.std.specs.Prelude.{slice_index_or}
 use mathlib.Core.Logic.{⊎_elim}
 use Rattle.sfm_spec.specs.Sets.{IsPlaced, magnitudes}
 use Rattle.sfm_kind.specs.Kinds.{kind_places, kind_size}
@@ -15,24 +14,13 @@ use Rattle.sfm_kind.specs.Instance.{support_of}
 use Rattle.sfm_kind.specs.Limits.{AreInBounds, total_size_of}
 use Rattle.sfm_kind.specs.declared.kind.Kind.{Kind}
 use Rattle.sfm_kind.specs.declared.kind.Kind.TheVariants.{Weight, Cut, Need, Cover, Table, Concave, Uniform, Laminar, Graphic, Transversal}
-use Rattle.sfm_simple.specs.declared.weight.Weight as weights
-use Rattle.sfm_simple.specs.declared.cut.Cut as cuts
-use Rattle.sfm_simple.specs.declared.need.Need as needs
-use Rattle.sfm_simple.specs.declared.cover.Cover as covers
-use Rattle.sfm_simple.specs.declared.table.Table as tables
-use Rattle.sfm_concave.specs.declared.concave.Concave as concave_terms
-use Rattle.sfm_concave.specs.declared.uniform.Uniform as uniforms
-use Rattle.sfm_laminar.specs.declared.laminar.Laminar as laminars
-use Rattle.sfm_matroid.specs.declared.graphic.Graphic as graphics
-use Rattle.sfm_matroid.specs.declared.transversal.Transversal as transversals
 use Rattle.sfm_kind.proofs.Bounds.{kind-elements, total_size-push, support-push, in_bounds-push}
 use Rattle.sfm_text.specs.Parts.{LineParts}
 use Rattle.sfm_text.specs.Words.{lowest_of, IsMadeOf}
 use Rattle.sfm_text.specs.ReadParts.{IsTermOf}
-use Rattle.sfm_text.specs.RankLines.{groups_of, least_groups, IsRankMadeOf}
-use Rattle.sfm_text.specs.LabelTerms.{edge_between, numbers_of}
+use Rattle.sfm_text.specs.RankLines.{IsRankMadeOf}
 use Rattle.sfm_text.specs.declared.word.RankKind.{RankKind}
-use Rattle.sfm_text.specs.declared.word.RankKind.TheVariants.{NoRank, UniformRank, LaminarRank, GraphicRank, TransversalRank}
+use Rattle.sfm_text.specs.declared.word.RankKind.TheVariants.{UniformRank, LaminarRank, GraphicRank, TransversalRank}
 use Rattle.sfm_text.specs.TermLines.{IsNumberFrom, IsElement, StandsFor}
 use Rattle.sfm_text.specs.Reading.{AreTooMuch}
 use Rattle.sfm_text.specs.declared.word.TermWord.{TermWord}
@@ -49,103 +37,43 @@ same_first a b e = cc
 same_both : (a b c d : ℤ) → a ∷ b ∷ [] ≡ c ∷ d ∷ [] → (a ≡ c) × (b ≡ d)
 same_both a b c d e = let first : a ≡ c = cc in let second : b ≡ d = cc in (first, second)
 
--- a term that is made of a line is of the kind of its word
-weight-made : (parts : LineParts) (values : List ℤ) (term : Kind) → IsMadeOf WeightWord parts values term → (weight : weights.Weight) × (term ≡ Weight weight) × (weight.weights ≡ values)
-weight-made parts values (Weight weight) h = (weight, refl, h)
-weight-made parts values _ h = absurd h
-
-cut-made : (parts : LineParts) (values : List ℤ) (term : Kind) → IsMadeOf CutWord parts values term → (cut : cuts.Cut) × (term ≡ Cut cut) × (cut.c ∷ [] ≡ values)
-cut-made parts values (Cut cut) h = (cut, refl, h)
-cut-made parts values _ h = absurd h
-
-need-made : (parts : LineParts) (values : List ℤ) (term : Kind) → IsMadeOf NeedWord parts values term → (need : needs.Need) × (term ≡ Need need)
-need-made parts values (Need need) h = (need, refl)
-need-made parts values _ h = absurd h
-
-cover-made : (parts : LineParts) (values : List ℤ) (term : Kind) → IsMadeOf CoverWord parts values term → (cover : covers.Cover) × (term ≡ Cover cover) × (cover.w ∷ [] ≡ values)
-cover-made parts values (Cover cover) h = (cover, refl, h)
-cover-made parts values _ h = absurd h
-
-table-made : (parts : LineParts) (values : List ℤ) (term : Kind) → IsMadeOf TableWord parts values term → (table : tables.Table) × (term ≡ Table table) × (table.values ≡ values)
-table-made parts values (Table table) h = (table, refl, h)
-table-made parts values _ h = absurd h
-
-concave-made : (parts : LineParts) (values : List ℤ) (term : Kind) → IsMadeOf ConcaveWord parts values term → (concave : concave_terms.Concave) × (term ≡ Concave concave) × (concave.values ≡ values)
-concave-made parts values (Concave concave) h = (concave, refl, h)
-concave-made parts values _ h = absurd h
-
-uniform-made : (parts : LineParts) (values : List ℤ) (term : Kind) → IsRankMadeOf UniformRank parts values term → (uniform : uniforms.Uniform) × (term ≡ Uniform uniform) × (uniform.w ∷ uniform.cap ∷ [] ≡ values)
-uniform-made parts values (Uniform uniform) h = (uniform, refl, h)
-uniform-made parts values _ h = absurd h
-
-laminar-made : (parts : LineParts) (values : List ℤ) (term : Kind) → IsRankMadeOf LaminarRank parts values term
-    → (laminar : laminars.Laminar) × (term ≡ Laminar laminar) × (laminar.w ≡ slice_index_or values 0 (pos 0)) × (laminar.groups ≡ least_groups (groups_of values parts))
-laminar-made parts values (Laminar laminar) h = (laminar, refl, h.0, h.1)
-laminar-made parts values _ h = absurd h
-
-graphic-made : (parts : LineParts) (values : List ℤ) (term : Kind) → IsRankMadeOf GraphicRank parts values term
-    → (graphic : graphics.Graphic) × (term ≡ Graphic graphic) × (graphic.w ≡ slice_index_or values 0 (pos 0)) × (graphic.ends ≡ map edge_between (numbers_of parts.labels))
-graphic-made parts values (Graphic graphic) h = (graphic, refl, h.0, h.1)
-graphic-made parts values _ h = absurd h
-
-transversal-made : (parts : LineParts) (values : List ℤ) (term : Kind) → IsRankMadeOf TransversalRank parts values term
-    → (transversal : transversals.Transversal) × (term ≡ Transversal transversal) × (transversal.w ≡ slice_index_or values 0 (pos 0)) × (transversal.entries ≡ numbers_of (map (take (length parts.labels)) parts.labels))
-transversal-made parts values (Transversal transversal) h = (transversal, refl, h.0, h.1)
-transversal-made parts values _ h = absurd h
-
+-- the size of a term of a rank is one number
 rank-size : (rank : RankKind) (parts : LineParts) (values : List ℤ) (places : List ℕ) (s t : Kind) → kind_places s ≡ places → kind_places t ≡ places
     → IsRankMadeOf rank parts values s → IsRankMadeOf rank parts values t → kind_size s ≡ kind_size t
-rank-size NoRank parts values places s t p q h g = absurd h
-rank-size UniformRank parts values places s t p q h g =
-    let (a, is, same) = uniform-made parts values s h in
-    let (b, is', same') = uniform-made parts values t g in
-    let (number, cap) = same_both a.w a.cap b.w b.cap (same ∙ sym same') in
-    let a-places : a.places ≡ places = sym (ap kind_places is) ∙ p in
-    let b-places : b.places ≡ places = sym (ap kind_places is') ∙ q in
-    ap kind_size is ∙ (rw (number, cap, a-places, b-places) refl ∙ sym (ap kind_size is'))
-rank-size LaminarRank parts values places s t p q h g =
-    let (a, is, number, groups) = laminar-made parts values s h in
-    let (b, is', number', groups') = laminar-made parts values t g in
-    let a-places : a.places ≡ places = sym (ap kind_places is) ∙ p in
-    let b-places : b.places ≡ places = sym (ap kind_places is') ∙ q in
-    ap kind_size is ∙ (rw (a-places, b-places, number, number', groups, groups') refl ∙ sym (ap kind_size is'))
-rank-size GraphicRank parts values places s t p q h g =
-    let (a, is, number, ends) = graphic-made parts values s h in
-    let (b, is', number', ends') = graphic-made parts values t g in
-    ap kind_size is ∙ (rw (number, number', ends, ends') refl ∙ sym (ap kind_size is'))
-rank-size TransversalRank parts values places s t p q h g =
-    let (a, is, number, entries) = transversal-made parts values s h in
-    let (b, is', number', entries') = transversal-made parts values t g in
-    ap kind_size is ∙ (rw (number, number', entries, entries') refl ∙ sym (ap kind_size is'))
+rank-size UniformRank parts values places (Uniform a) (Uniform b) p q h g =
+    let (number, cap) = same_both a.w a.cap b.w b.cap (h ∙ sym g) in
+    let a-places : a.places ≡ places = p in
+    let b-places : b.places ≡ places = q in
+    rw (number, cap, a-places, b-places) refl
+rank-size LaminarRank parts values places (Laminar a) (Laminar b) p q h g =
+    let a-places : a.places ≡ places = p in
+    let b-places : b.places ≡ places = q in
+    rw (a-places, b-places, h.0, g.0, h.1, g.1) refl
+rank-size GraphicRank parts values places (Graphic a) (Graphic b) p q h g = rw (h.0, g.0, h.1, g.1) refl
+rank-size TransversalRank parts values places (Transversal a) (Transversal b) p q h g = rw (h.0, g.0, h.1, g.1) refl
+rank-size UniformRank parts values places (Uniform a) _ p q h g = absurd g
+rank-size LaminarRank parts values places (Laminar a) _ p q h g = absurd g
+rank-size GraphicRank parts values places (Graphic a) _ p q h g = absurd g
+rank-size TransversalRank parts values places (Transversal a) _ p q h g = absurd g
+rank-size _ parts values places _ _ p q h g = absurd h
 
--- the size of a term is one number
+-- and that of a term of a word
 made-size : (word : TermWord) (parts : LineParts) (values : List ℤ) (places : List ℕ) (s t : Kind) → kind_places s ≡ places → kind_places t ≡ places
     → IsMadeOf word parts values s → IsMadeOf word parts values t → kind_size s ≡ kind_size t
-made-size WeightWord parts values places s t p q h g =
-    let (a, is, same) = weight-made parts values s h in
-    let (b, is', same') = weight-made parts values t g in
-    ap kind_size is ∙ (ap magnitudes (same ∙ sym same') ∙ sym (ap kind_size is'))
-made-size CutWord parts values places s t p q h g =
-    let (a, is, same) = cut-made parts values s h in
-    let (b, is', same') = cut-made parts values t g in
-    ap kind_size is ∙ (same_first a.c b.c (same ∙ sym same') ∙ sym (ap kind_size is'))
-made-size NeedWord parts values places s t p q h g =
-    let (a, is) = need-made parts values s h in
-    let (b, is') = need-made parts values t g in
-    ap kind_size is ∙ sym (ap kind_size is')
-made-size CoverWord parts values places s t p q h g =
-    let (a, is, same) = cover-made parts values s h in
-    let (b, is', same') = cover-made parts values t g in
-    ap kind_size is ∙ (same_first a.w b.w (same ∙ sym same') ∙ sym (ap kind_size is'))
-made-size TableWord parts values places s t p q h g =
-    let (a, is, same) = table-made parts values s h in
-    let (b, is', same') = table-made parts values t g in
-    ap kind_size is ∙ (ap greatest (same ∙ sym same') ∙ sym (ap kind_size is'))
-made-size ConcaveWord parts values places s t p q h g =
-    let (a, is, same) = concave-made parts values s h in
-    let (b, is', same') = concave-made parts values t g in
-    ap kind_size is ∙ (ap concaves.greatest (same ∙ sym same') ∙ sym (ap kind_size is'))
 made-size RankWord parts values places s t p q h g = rank-size parts.rank parts values places s t p q h g
+made-size WeightWord parts values places (Weight a) (Weight b) p q h g = ap magnitudes (h ∙ sym g)
+made-size CutWord parts values places (Cut a) (Cut b) p q h g = same_first a.c b.c (h ∙ sym g)
+made-size NeedWord parts values places (Need a) (Need b) p q h g = refl
+made-size CoverWord parts values places (Cover a) (Cover b) p q h g = same_first a.w b.w (h ∙ sym g)
+made-size TableWord parts values places (Table a) (Table b) p q h g = ap greatest (h ∙ sym g)
+made-size ConcaveWord parts values places (Concave a) (Concave b) p q h g = ap concaves.greatest (h ∙ sym g)
+made-size WeightWord parts values places (Weight a) _ p q h g = absurd g
+made-size CutWord parts values places (Cut a) _ p q h g = absurd g
+made-size NeedWord parts values places (Need a) _ p q h g = absurd g
+made-size CoverWord parts values places (Cover a) _ p q h g = absurd g
+made-size TableWord parts values places (Table a) _ p q h g = absurd g
+made-size ConcaveWord parts values places (Concave a) _ p q h g = absurd g
+made-size _ parts values places _ _ p q h g = absurd h
 
 pub term-size : (word : TermWord) (parts : LineParts) (values : List ℤ) (places : List ℕ) (s t : Kind) → IsTermOf word parts values places s → IsTermOf word parts values places t → kind_size s ≡ kind_size t
 term-size word parts values places s t h g = made-size word parts values places s t h.same_places g.same_places h.made g.made
