@@ -1,11 +1,13 @@
 -- Amounts of a base fit 128 bits, and so does what is left of a number.
-use Rattle.std.proofs.Common.{◌≡◌, ◌≢◌, ◌^◌, ℕ, ◌<◌, List, length, get_or, set, ℤ, pos, ◌+ℤ◌, ◌-ℤ◌, ◌≤ℤ◌, arith, ⊎_elim, FitsSigned, length-set, get_or-set_other, get_or-set_same}
+use Rattle.std.proofs.Common.{◌≡◌, ◌≢◌, ◌^◌, ℕ, ◌<◌, List, length, get_or, set, ℤ, pos, ◌+ℤ◌, ◌-ℤ◌, ◌*ℤ◌, ◌≤ℤ◌, arith, ⊎_elim, FitsSigned, length-set, get_or-set_other, get_or-set_same}
 use Rattle.std.proofs.lemmas.Bool.{cases_eq}
 use Rattle.std.proofs.lemmas.Int.{ints, clamps}
 use Rattle.std.specs.Int.{int_min}
 use Rattle.std.specs.List.{All}
 use mir.Syntax.{w128}
-use Rattle.sfm_assign.specs.Splits.{IsAmount}
+use Rattle.sfm_assign.specs.Splits.{IsAmount, Demands}
+use Rattle.sfm_spec.specs.Bounds.{IsFactor, IsGiven}
+use Rattle.sfm_law.proofs.Fits.{product_low, product_high}
 use Rattle.sfm_law.proofs.Monotone.{AreCounts}
 
 -- entries from 0 to a number
@@ -16,26 +18,26 @@ within_amounts x c h all k d lt = let r = all k d lt in record { low = r.0; high
 pub amounts_count : (x : List ℤ) → All IsAmount x → AreCounts x
 amounts_count x all e lt = (all e (pos 0) lt).low
 
+-- entries from 0 to a number that is not above what may be asked for
+pub record AreCapped (c : ℤ) (x : List ℤ) : Type 0 where
+  pub low : pos 0 ≤ℤ c
+  pub high : c ≤ℤ pos (10 ^ 24)
+  pub fits : FitsSigned w128 c
+  pub within : All (λ a. (pos 0 ≤ℤ a) × (a ≤ℤ c)) x
+  pub amounts : All IsAmount x
+
+pub capped : (q w : ℤ) → IsFactor q → pos 0 ≤ℤ w → IsGiven w → (x : List ℤ) → All (λ a. (pos 0 ≤ℤ a) × (a ≤ℤ (q *ℤ w))) x → AreCapped (q *ℤ w) x
+capped q w factor few given x within =
+    let low = product_low q w factor few in
+    let high = product_high q w factor given in
+    record { low = low; high = high; fits = omega (arith, ints, low, high); within = within; amounts = within_amounts x (q *ℤ w) high within }
+
 pub amount_fits : (a : ℤ) → IsAmount a → FitsSigned w128 a
 amount_fits a h = omega (arith, ints)
 
 -- what is left of a number, and of what is not negative
 pub left_fits : (c a : ℤ) → pos 0 ≤ℤ c → c ≤ℤ pos (10 ^ 24) → IsAmount a → FitsSigned w128 (c -ℤ a)
 left_fits c a low high h = omega (arith, ints)
-
--- entries from 0 to a cap, and what they lack of it
-pub within_fits : (a cap : ℤ) → pos 0 ≤ℤ a → a ≤ℤ cap → cap ≤ℤ pos (10 ^ 24) → FitsSigned w128 a
-within_fits a cap low under high = omega (arith, ints)
-
-pub lack_fits : (a cap : ℤ) → pos 0 ≤ℤ a → a ≤ℤ cap → cap ≤ℤ pos (10 ^ 24) → FitsSigned w128 (cap -ℤ a)
-lack_fits a cap low under high = omega (arith, ints)
-
--- the least of what one has and what another lacks
-pub least_low : (a b cap : ℤ) → pos 0 ≤ℤ a → b ≤ℤ cap → pos 0 ≤ℤ int_min a (cap -ℤ b)
-least_low a b cap la hb = omega (arith, ints, clamps)
-
-pub least_amount : (a b cap : ℤ) → pos 0 ≤ℤ a → pos 0 ≤ℤ b → b ≤ℤ cap → cap ≤ℤ pos (10 ^ 24) → IsAmount (b +ℤ int_min a (cap -ℤ b))
-least_amount a b cap la lb hb high = record { low = omega (arith, ints, clamps); high = omega (arith, ints, clamps) }
 
 -- amounts, of which one becomes 0
 pub without_amounts : (x : List ℤ) (v : ℕ) → All IsAmount x → All IsAmount (set x v (pos 0))
@@ -46,17 +48,30 @@ without_amounts x v all k d lt =
     (λ (ne : k ≢ v). rw (get_or-set_other x v k (pos 0) d ne) (all k d (omega (arith, l, lt))))
     (cases_eq k v)
 
--- the lesser of what v has and what u lacks of a number, where entries lie from 0 to that number
-module _ (x : List ℤ) (c : ℤ) (u v : ℕ) (limit : ℤ) (is : limit ≡ int_min (get_or x v (pos 0)) (c -ℤ get_or x u (pos 0))) where
-  pub limit_low : u < length x → v < length x → All (λ a. (pos 0 ≤ℤ a) × (a ≤ℤ c)) x → pos 0 ≤ℤ limit
-  limit_low from onto all =
-      let a = all u (pos 0) from in
-      let b = all v (pos 0) onto in
-      omega (arith, ints, clamps, is, a.1, b.0)
+-- what u is raised by, up to the lesser of what v has and what it lacks itself of a number, where v has nothing more
+pub record IsRaise (x : List ℤ) (u v : ℕ) (limit : ℤ) : Type 0 where
+  pub rest : All IsAmount (set x v (pos 0))
+  pub low : pos 0 ≤ℤ limit
+  pub small : IsAmount (get_or (set x v (pos 0)) u (pos 0) +ℤ limit)
 
-  pub limit_small : u ≢ v → u < length x → v < length x → c ≤ℤ pos (10 ^ 24) → All (λ a. (pos 0 ≤ℤ a) × (a ≤ℤ c)) x → IsAmount (get_or (set x v (pos 0)) u (pos 0) +ℤ limit)
-  limit_small ne from onto high all =
-      let a = all u (pos 0) from in
-      let l = limit_low from onto all in
-      let e = get_or-set_other x v u (pos 0) (pos 0) ne in
-      record { low = omega (arith, ints, e, l, a.0); high = omega (arith, ints, clamps, is, e, high) }
+pub raise_upto : (c : ℤ) (x : List ℤ) (u v : ℕ) (limit : ℤ) → AreCapped c x → u < length x → v < length x → u ≢ v → limit ≡ int_min (get_or x v (pos 0)) (c -ℤ get_or x u (pos 0)) → IsRaise x u v limit
+raise_upto c x u v limit all from onto ne is =
+    let a = all.within u (pos 0) from in
+    let b = all.within v (pos 0) onto in
+    let e = get_or-set_other x v u (pos 0) (pos 0) ne in
+    let high = all.high in
+    let low : pos 0 ≤ℤ limit = omega (arith, ints, clamps, is, a.1, b.0) in
+    record {
+      rest = without_amounts x v all.amounts;
+      low = low;
+      small = record { low = omega (arith, ints, e, low, a.0); high = omega (arith, ints, clamps, is, e, high) };
+    }
+
+-- what is asked of a second split: the demands d, which leave v nothing, and up to the limit more for u
+pub record IsAsked (c : ℤ) (x : List ℤ) (u v : ℕ) (limit : ℤ) (d : Demands) (demands : List ℤ) (lists : List (List ℕ)) (capacities : List ℤ) : Type 0 where
+  pub all : AreCapped c x
+  pub limit_is : limit ≡ int_min (get_or x v (pos 0)) (c -ℤ get_or x u (pos 0))
+  pub raise : IsRaise x u v limit
+  pub demands_are : demands ≡ d.demands
+  pub lists_are : lists ≡ d.lists
+  pub capacities_are : capacities ≡ d.capacities

@@ -1,13 +1,17 @@
 -- Bases of a graphic term by the tests of its code.
 use Rattle.std.proofs.Common.{◌≡◌, ℕ, ◌<◌, List, [], length, ℤ, pos, ◌*ℤ◌, ◌≤ℤ◌, sym, ◌∙◌}
 use Rattle.std.specs.List.{All}
+use Rattle.sfm_spec.specs.Bounds.{IsFactor}
 use Rattle.sfm_spec.specs.Terms.{times, IsBase}
 use Rattle.sfm_spec.specs.Kinds.{Edge, IsForest}
+use Rattle.sfm_law.proofs.Fits.{product_low}
 use Rattle.sfm_rank.proofs.Bases.{IsTold, base_told, told_base}
 use Rattle.sfm_matroid.specs.Cuts.{IsWithinEnds}
 use Rattle.sfm_matroid.specs.Graphs.{graphic_rank, graphic_value, graphic_size}
 use Rattle.sfm_matroid.specs.Ends.{edges_of}
 use Rattle.sfm_matroid.specs.Numbered.{IsTail, numbered, vertex_count}
+use Rattle.sfm_matroid.specs.declared.graphic.Graphic.{Graphic}
+use Rattle.sfm_matroid.proofs.Fits.{AreCapped, capped}
 use Rattle.sfm_matroid.proofs.Numbers.{numbered_below}
 use Rattle.sfm_matroid.proofs.OneTest.{tails_enough}
 use Rattle.sfm_matroid.specs.Forests.{forest-matroid, graphic-ranks}
@@ -29,6 +33,9 @@ module _ (k : ℕ) (q w : ℤ) (edges : List Edge) (same : length edges ≡ k) (
 
   pub base_tests : IsBase (times q (graphic_value w edges)) x → (a : ℕ) → a < vertex_count edges → IsWithinEnds (numbered edges) (vertex_count edges) (q *ℤ w) x a
   base_tests base = (graphic_told base).met
+
+pub capped_base : (s : Graphic) (q : ℤ) → IsFactor q → (x : List ℤ) → length x ≡ length s.places → IsBase (times q (graphic_value s.w s.ends)) x → AreCapped (q *ℤ s.w) x
+capped_base s q factor x sized base = capped q s.w factor s.low s.given x (base_within_cap (length s.places) q s.w s.ends s.same_count (product_low q s.w factor s.low) x sized base)
 
 -- ---- numbered ends as they are kept
 

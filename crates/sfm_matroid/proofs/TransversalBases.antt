@@ -1,6 +1,6 @@
 -- Bases of a transversal term by the test of its code, and how much can be exchanged at one: by the most that an element gets
 -- besides in the test, without another element; and to whom an element has room, by those that can lend to it.
-use Rattle.std.proofs.Common.{◌≡◌, ◌≢◌, ◌⊎◌, ℕ, ◌<◌, ◌^◌, Bool, List, length, get_or, set, replicate, ℤ, pos, ◌+ℤ◌, ◌-ℤ◌, ◌*ℤ◌, ◌≤ℤ◌, ◌<ℤ◌, sym, ap, ◌∙◌, arith, inl, inr, ⊎_elim, get_or-set_other}
+use Rattle.std.proofs.Common.{◌≡◌, ◌≢◌, ◌⊎◌, ℕ, ◌<◌, Bool, List, length, get_or, set, replicate, ℤ, pos, ◌+ℤ◌, ◌-ℤ◌, ◌*ℤ◌, ◌≤ℤ◌, ◌<ℤ◌, sym, ap, ◌∙◌, arith, inl, inr, ⊎_elim, get_or-set_other}
 use Rattle.std.specs.Int.{int_min}
 use Rattle.std.specs.List.{All}
 use Rattle.std.proofs.lemmas.Int.{ints, clamps, by_lt_z}
@@ -10,20 +10,20 @@ use Rattle.sfm_spec.specs.Bounds.{IsFactor}
 use Rattle.sfm_spec.specs.Terms.{times, IsBase, IsCapacity, HasRoom, exchanged}
 use Rattle.sfm_spec.proofs.Sums.{length-exchanged}
 use Rattle.sfm_law.specs.Room.{IsReach}
-use Rattle.sfm_law.proofs.Fits.{product_low, product_high}
+use Rattle.sfm_law.proofs.Fits.{product_low}
 use Rattle.sfm_rank.proofs.Bases.{IsTold, base_counts, base_told, told_base, raised-places, raised-counts, met_now, lower, least_capacity, given-counts, gives_room, room_gives}
 use Rattle.sfm_matroid.specs.Givers.{IsGiver, IsRowIn}
 use Rattle.sfm_matroid.proofs.Lending.{reach_row}
 use Rattle.sfm_spec.specs.Kinds.{IsMatchable}
 use Rattle.sfm_assign.specs.Splits as splits
-use Rattle.sfm_assign.specs.Splits.{CanBeMet, Demands, IsAmount}
+use Rattle.sfm_assign.specs.Splits.{CanBeMet, Demands}
 use Rattle.sfm_assign.specs.Lenders.{IsMostUpto}
 use Rattle.sfm_matroid.specs.Notes.{slot_demands}
 use Rattle.sfm_matroid.specs.Matchings.{matching-matroid}
 use Rattle.sfm_matroid.specs.Slots.{IsWithinSlots, transversal_rank, transversal_value, transversal_size}
 use Rattle.sfm_matroid.specs.Transversals.{transversal-ranks}
 use Rattle.sfm_matroid.specs.declared.transversal.Transversal.{Transversal}
-use Rattle.sfm_matroid.proofs.Fits.{within_amounts}
+use Rattle.sfm_matroid.proofs.Fits.{AreCapped, capped}
 use Rattle.sfm_matroid.proofs.Matched.{slots_each}
 use Rattle.sfm_matroid.proofs.MatroidTests.{transversal_tests}
 use Rattle.sfm_matroid.proofs.SplitTests.{split_within_slots, within_slots_split}
@@ -150,25 +150,18 @@ module _ (k : ℕ) (q w : ℤ) (entries : List (List ℕ)) (m : ℕ) (exist : Al
 -- ---- a base as demands that slots which hold c each can meet
 
 pub record IsHeldBase (entries : List (List ℕ)) (m : ℕ) (c : ℤ) (x : List ℤ) : Type 0 where
-  pub low : pos 0 ≤ℤ c
-  pub high : c ≤ℤ pos (10 ^ 24)
+  pub capped : AreCapped c x
   pub sized : length x ≡ length entries
-  pub within : All (λ a. (pos 0 ≤ℤ a) × (a ≤ℤ c)) x
-  pub amounts : All IsAmount x
   pub bounded : All splits.IsCapacity (replicate m c)
   pub met : CanBeMet x entries (replicate m c)
 
 pub held_base : (s : Transversal) (q : ℤ) (m : ℕ) → All (All (λ v. v < m)) s.entries → IsFactor q → (x : List ℤ) → length x ≡ length s.places → IsBase (times q (transversal_value s.w s.entries)) x → IsHeldBase s.entries m (q *ℤ s.w) x
 held_base s q m below factor x sized base =
     let low = product_low q s.w factor s.low in
-    let high = product_high q s.w factor s.given in
-    let within = base_within_cap (length s.places) q s.w s.entries m below s.same_count low x sized base in
+    let all = capped q s.w factor s.low s.given x (base_within_cap (length s.places) q s.w s.entries m below s.same_count low x sized base) in
     record {
-      low = low;
-      high = high;
+      capped = all;
       sized = sized ∙ sym s.same_count;
-      within = within;
-      amounts = within_amounts x (q *ℤ s.w) high within;
-      bounded = All-replicate splits.IsCapacity m (q *ℤ s.w) (record { low = low; high = high });
+      bounded = All-replicate splits.IsCapacity m (q *ℤ s.w) (record { low = all.low; high = all.high });
       met = base_split (length s.places) q s.w s.entries m below s.same_count low x sized base;
     }

@@ -24,7 +24,7 @@ use crate::room::{limit_of, moved, second_of, without};
 use crate::splits::{SlotSplit, bring_split, keep_spare, slot_split};
 use sfm_assign::Aim;
 use sfm_base::{Memory, Places, Set};
-use sfm_law::{Room, Term, product};
+use sfm_law::{Room, Term};
 use std::alloc::Global;
 
 /// A number for each element of a greatest independent part: elements are independent where they have slots of their own
@@ -183,7 +183,7 @@ impl Transversal {
         requires base { IsBase (times q (transversal_value self.now.w self.now.entries)) x.now }
         ensures { IfOk result (λ r. transversal_fits self.now.w self.now.entries r q x.now) }
     {
-        let cap = product(q, self.w);
+        let cap = cap_of(q, self.w);
         let m = self.entries.above();
         let note = slot_split(alloc, &self.entries, m, x, cap)?;
         Ok(note)
@@ -214,7 +214,7 @@ impl Transversal {
         ensures room { IfOk result (IsRoom (times q (transversal_value self.now.w self.now.entries)) x.now u v) }
         ensures noted { OnOk result (transversal_fits self.now.w self.now.entries note.new q x.now) }
     {
-        let cap = product(q, self.w);
+        let cap = cap_of(q, self.w);
         let limit = limit_of(x, cap, u, v);
         if limit == 0 {
             return Ok(Room::Upto(0));
@@ -254,7 +254,7 @@ impl Transversal {
         ensures reached { OnOk result (IsReach (times q (transversal_value self.now.w self.now.entries)) x.now u to.new) }
         ensures noted { OnOk result (transversal_fits self.now.w self.now.entries note.new q x.now) }
     {
-        let cap = product(q, self.w);
+        let cap = cap_of(q, self.w);
         row(alloc, &mut note.kept, x, cap, u, to)?;
         Ok(())
     }

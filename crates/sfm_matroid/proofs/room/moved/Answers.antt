@@ -1,4 +1,5 @@
-use Rattle.std.proofs.Common.{get_or, pos, ◌+ℤ◌, ◌-ℤ◌, arith, FitsSigned, refl}
+use Rattle.std.proofs.Common.{◌≢◌, ℕ, ◌<◌, List, length, get_or, ℤ, pos, ◌+ℤ◌, ◌-ℤ◌, arith, FitsSigned, refl}
+use Rattle.std.specs.List.{All}
 use Rattle.std.proofs.lemmas.Int.{to_z-of_z}
 use Rattle.std.proofs.lemmas.List.Elements.{All-get_or}
 use mir.Syntax.{w128}
@@ -9,51 +10,50 @@ use Rattle.sfm_assign.specs.Splits.{IsAmount}
 use Rattle.sfm_matroid.proofs.Fits.{amount_fits}
 use Rattle.sfm_matroid.proofs.room.moved.Goals as goal
 
+-- what u and v have before and after
+record DoFit (x : List ℤ) (u v : ℕ) (a : ℤ) : Type 0 where
+  has_u : FitsSigned w128 (get_or x u (pos 0))
+  more : FitsSigned w128 (get_or x u (pos 0) +ℤ a)
+  has_v : FitsSigned w128 (get_or x v (pos 0))
+  less : FitsSigned w128 (get_or x v (pos 0) -ℤ a)
+
+do_fit : (x : List ℤ) (u v : ℕ) (a : ℤ) → u < length x → v < length x → u ≢ v → All IsAmount x → All IsAmount (exchanged x u v a) → DoFit x u v a
+do_fit x u v a from onto apart before after =
+    let l = length-exchanged x u v a in
+    let eu = rw (exchanged-first x u v a from apart) at (All-get_or IsAmount (exchanged x u v a) u (pos 0) (omega (arith, from, l)) after) in
+    let ev = rw (exchanged-second x u v a onto) at (All-get_or IsAmount (exchanged x u v a) v (pos 0) (omega (arith, onto, l)) after) in
+    record {
+      has_u = amount_fits _ (All-get_or IsAmount x u (pos 0) from before);
+      more = amount_fits _ eu;
+      has_v = amount_fits _ (All-get_or IsAmount x v (pos 0) onto before);
+      less = amount_fits _ ev;
+    }
+
 pub overflow_add-x : goal.overflow_add-x
 overflow_add-x c =
-    let x = c.args.x.now in
-    let u = c.args.u in
-    let v = c.args.v in
-    let a = c.args.a in
     let r = c.requires in
-    let from = r.from in
-    let l = length-exchanged x u v a in
-    let fa : FitsSigned w128 a = c.ranges.a in
-    let fu : FitsSigned w128 (get_or x u (pos 0)) = amount_fits _ (All-get_or IsAmount x u (pos 0) from r.before) in
-    let eu = rw (exchanged-first x u v a from r.apart) at (All-get_or IsAmount (exchanged x u v a) u (pos 0) (omega (arith, from, l)) r.after) in
-    let fs : FitsSigned w128 (get_or x u (pos 0) +ℤ a) = amount_fits _ eu in
-    simp to_z-of_z fs
+    let h = do_fit c.args.x.now c.args.u c.args.v c.args.a r.from r.onto r.apart r.before r.after in
+    let fa : FitsSigned w128 c.args.a = c.ranges.a in
+    let fu : FitsSigned w128 (get_or c.args.x.now c.args.u (pos 0)) = h.has_u in
+    simp to_z-of_z h.more
 
 pub overflow_sub-x : goal.overflow_sub-x
 overflow_sub-x c =
-    let x = c.args.x.now in
-    let u = c.args.u in
-    let v = c.args.v in
-    let a = c.args.a in
     let r = c.requires in
-    let onto = r.onto in
-    let l = length-exchanged x u v a in
-    let fa : FitsSigned w128 a = c.ranges.a in
-    let fv : FitsSigned w128 (get_or x v (pos 0)) = amount_fits _ (All-get_or IsAmount x v (pos 0) onto r.before) in
-    let ev = rw (exchanged-second x u v a onto) at (All-get_or IsAmount (exchanged x u v a) v (pos 0) (omega (arith, onto, l)) r.after) in
-    let fd : FitsSigned w128 (get_or x v (pos 0) -ℤ a) = amount_fits _ ev in
-    simp to_z-of_z fd
+    let h = do_fit c.args.x.now c.args.u c.args.v c.args.a r.from r.onto r.apart r.before r.after in
+    let fa : FitsSigned w128 c.args.a = c.ranges.a in
+    let fv : FitsSigned w128 (get_or c.args.x.now c.args.v (pos 0)) = h.has_v in
+    simp to_z-of_z h.less
 
 pub returns : goal.returns
 returns c =
-    let x = c.args.x.now in
-    let u = c.args.u in
-    let v = c.args.v in
-    let a = c.args.a in
     let r = c.requires in
-    let from = r.from in
-    let onto = r.onto in
-    let l = length-exchanged x u v a in
+    let x = c.args.x.now in
+    let a = c.args.a in
+    let h = do_fit x c.args.u c.args.v a r.from r.onto r.apart r.before r.after in
     let fa : FitsSigned w128 a = c.ranges.a in
-    let fu : FitsSigned w128 (get_or x u (pos 0)) = amount_fits _ (All-get_or IsAmount x u (pos 0) from r.before) in
-    let eu = rw (exchanged-first x u v a from r.apart) at (All-get_or IsAmount (exchanged x u v a) u (pos 0) (omega (arith, from, l)) r.after) in
-    let fs : FitsSigned w128 (get_or x u (pos 0) +ℤ a) = amount_fits _ eu in
-    let fv : FitsSigned w128 (get_or x v (pos 0)) = amount_fits _ (All-get_or IsAmount x v (pos 0) onto r.before) in
-    let ev = rw (exchanged-second x u v a onto) at (All-get_or IsAmount (exchanged x u v a) v (pos 0) (omega (arith, onto, l)) r.after) in
-    let fd : FitsSigned w128 (get_or x v (pos 0) -ℤ a) = amount_fits _ ev in
+    let fu : FitsSigned w128 (get_or x c.args.u (pos 0)) = h.has_u in
+    let fs : FitsSigned w128 (get_or x c.args.u (pos 0) +ℤ a) = h.more in
+    let fv : FitsSigned w128 (get_or x c.args.v (pos 0)) = h.has_v in
+    let fd : FitsSigned w128 (get_or x c.args.v (pos 0) -ℤ a) = h.less in
     rw c.in_ok-after.ensures.items (simp to_z-of_z refl)

@@ -1,24 +1,13 @@
 use Rattle.std.proofs.Common.{◌*ℤ◌, length, FitsSigned}
 use Rattle.std.proofs.lemmas.Int.{to_z-of_z}
 use mir.Syntax.{w128}
-use Rattle.sfm_law.proofs.Fits.{given_fits, given_more, product_fits, product_low, product_high}
-use Rattle.sfm_matroid.proofs.Fits.{within_amounts}
-use Rattle.sfm_matroid.proofs.GraphicBases.{base_within_cap}
+use Rattle.sfm_law.proofs.Fits.{given_fits}
+use Rattle.sfm_matroid.proofs.GraphicBases.{capped_base}
 use Rattle.sfm_matroid.proofs.GraphicRooms.{base_split, root_below}
 use Rattle.sfm_matroid.proofs.graphic.Graphic.bring_near.Goals as goal
 
 pub bring-requires-clause-amounts : goal.bring-requires-clause-amounts
-bring-requires-clause-amounts c =
-    let r = c.requires in
-    let s = c.args.self.now in
-    let q = c.args.q in
-    let x = c.args.x.now in
-    let fq : FitsSigned w128 q = c.ranges.q in
-    let fw : FitsSigned w128 s.w = given_fits _ s.given in
-    let fp : FitsSigned w128 (q *ℤ s.w) = product_fits _ _ r.factor (given_more _ s.given) in
-    let p = simp to_z-of_z at c.cap-cap.ensures.value in
-    let low = product_low q s.w r.factor s.low in
-    within_amounts x (q *ℤ s.w) (product_high q s.w r.factor s.given) (base_within_cap (length s.places) q s.w s.ends s.same_count low x r.entries r.base)
+bring-requires-clause-amounts c = let r = c.requires in (capped_base c.args.self.now c.args.q r.factor c.args.x.now r.entries r.base).amounts
 
 pub bring-requires-clause-met : goal.bring-requires-clause-met
 bring-requires-clause-met c =
@@ -26,9 +15,9 @@ bring-requires-clause-met c =
     let s = c.args.self.now in
     let q = c.args.q in
     let x = c.args.x.now in
+    let all = capped_base s q r.factor x r.entries r.base in
     let fq : FitsSigned w128 q = c.ranges.q in
     let fw : FitsSigned w128 s.w = given_fits _ s.given in
-    let fp : FitsSigned w128 (q *ℤ s.w) = product_fits _ _ r.factor (given_more _ s.given) in
+    let fp : FitsSigned w128 (q *ℤ s.w) = all.fits in
     let p = simp to_z-of_z at c.cap-cap.ensures.value in
-    let low = product_low q s.w r.factor s.low in
-    rw p (simp to_z-of_z (base_split (length s.places) q s.w s.ends s.same_count low x r.entries r.base c.end_near-root.result (root_below (length s.places) q s.w s.ends s.same_count low x r.entries r.base c.args.u c.end_near-root.result r.place c.end_near-root.ensures)))
+    rw p (simp to_z-of_z (base_split (length s.places) q s.w s.ends s.same_count all.low x r.entries r.base c.end_near-root.result (root_below (length s.places) q s.w s.ends s.same_count all.low x r.entries r.base c.args.u c.end_near-root.result r.place c.end_near-root.ensures)))

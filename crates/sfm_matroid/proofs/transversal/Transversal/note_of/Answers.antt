@@ -1,72 +1,31 @@
-use Rattle.std.proofs.Common.{◌*ℤ◌, length, FitsSigned}
+use Rattle.std.proofs.Common.{◌≡◌, ◌*ℤ◌, FitsSigned}
 use Rattle.std.proofs.lemmas.Int.{to_z-of_z}
 use mir.Syntax.{w128}
-use Rattle.sfm_law.proofs.Fits.{given_fits, given_more, product_fits, product_low, product_high}
-use Rattle.sfm_matroid.proofs.Fits.{within_amounts}
-use Rattle.sfm_matroid.proofs.TransversalBases.{base_within_cap, base_split}
+use Rattle.sfm_law.proofs.Fits.{given_fits}
+use Rattle.sfm_matroid.proofs.TransversalBases.{IsHeldBase, held_base}
+use Rattle.sfm_matroid.proofs.transversal.Transversal.note_of.Goals.{After-above-m}
 use Rattle.sfm_matroid.proofs.transversal.Transversal.note_of.Goals as goal
 
+held : (c : After-above-m) → IsHeldBase c.args.self.now.entries c.above-m.result (c.args.q *ℤ c.args.self.now.w) c.args.x.now
+held c = let r = c.requires in held_base c.args.self.now c.args.q c.above-m.result c.above-m.ensures.below r.factor c.args.x.now r.entries r.base
+
+cap_is : (c : After-above-m) → c.cap_of-cap.result ≡ (c.args.q *ℤ c.args.self.now.w)
+cap_is c =
+    let fq : FitsSigned w128 c.args.q = c.ranges.q in
+    let fw : FitsSigned w128 c.args.self.now.w = given_fits _ c.args.self.now.given in
+    simp to_z-of_z at c.cap_of-cap.ensures.value
+
 pub slot_split-requires-clause-amounts : goal.slot_split-requires-clause-amounts
-slot_split-requires-clause-amounts c =
-    let r = c.requires in
-    let s = c.args.self.now in
-    let q = c.args.q in
-    let x = c.args.x.now in
-    let fq : FitsSigned w128 q = c.ranges.q in
-    let fw : FitsSigned w128 s.w = given_fits _ s.given in
-    let fp : FitsSigned w128 (q *ℤ s.w) = product_fits _ _ r.factor (given_more _ s.given) in
-    let p = simp to_z-of_z at c.product-cap.ensures in
-    let low = product_low q s.w r.factor s.low in
-    within_amounts x (q *ℤ s.w) (product_high q s.w r.factor s.given) (base_within_cap (length s.places) q s.w s.entries c.above-m.result c.above-m.ensures.below s.same_count low x r.entries r.base)
-
-pub slot_split-requires-clause-low : goal.slot_split-requires-clause-low
-slot_split-requires-clause-low c =
-    let r = c.requires in
-    let s = c.args.self.now in
-    let q = c.args.q in
-    let x = c.args.x.now in
-    let fq : FitsSigned w128 q = c.ranges.q in
-    let fw : FitsSigned w128 s.w = given_fits _ s.given in
-    let fp : FitsSigned w128 (q *ℤ s.w) = product_fits _ _ r.factor (given_more _ s.given) in
-    let p = simp to_z-of_z at c.product-cap.ensures in
-    let low = product_low q s.w r.factor s.low in
-    rw p (simp to_z-of_z low)
-
-pub slot_split-requires-clause-high : goal.slot_split-requires-clause-high
-slot_split-requires-clause-high c =
-    let r = c.requires in
-    let s = c.args.self.now in
-    let q = c.args.q in
-    let x = c.args.x.now in
-    let fq : FitsSigned w128 q = c.ranges.q in
-    let fw : FitsSigned w128 s.w = given_fits _ s.given in
-    let fp : FitsSigned w128 (q *ℤ s.w) = product_fits _ _ r.factor (given_more _ s.given) in
-    let p = simp to_z-of_z at c.product-cap.ensures in
-    let low = product_low q s.w r.factor s.low in
-    rw p (simp to_z-of_z (product_high q s.w r.factor s.given))
+slot_split-requires-clause-amounts c = (held c).capped.amounts
 
 pub slot_split-requires-clause-met : goal.slot_split-requires-clause-met
 slot_split-requires-clause-met c =
-    let r = c.requires in
-    let s = c.args.self.now in
-    let q = c.args.q in
-    let x = c.args.x.now in
-    let fq : FitsSigned w128 q = c.ranges.q in
-    let fw : FitsSigned w128 s.w = given_fits _ s.given in
-    let fp : FitsSigned w128 (q *ℤ s.w) = product_fits _ _ r.factor (given_more _ s.given) in
-    let p = simp to_z-of_z at c.product-cap.ensures in
-    let low = product_low q s.w r.factor s.low in
-    rw p (simp to_z-of_z (base_split (length s.places) q s.w s.entries c.above-m.result c.above-m.ensures.below s.same_count low x r.entries r.base))
+    let h = held c in
+    let fp : FitsSigned w128 (c.args.q *ℤ c.args.self.now.w) = h.capped.fits in
+    rw (cap_is c) (simp to_z-of_z h.met)
 
 pub returns : goal.returns
 returns c =
-    let r = c.requires in
-    let s = c.args.self.now in
-    let q = c.args.q in
-    let x = c.args.x.now in
-    let fq : FitsSigned w128 q = c.ranges.q in
-    let fw : FitsSigned w128 s.w = given_fits _ s.given in
-    let fp : FitsSigned w128 (q *ℤ s.w) = product_fits _ _ r.factor (given_more _ s.given) in
-    let p = simp to_z-of_z at c.product-cap.ensures in
-    let low = product_low q s.w r.factor s.low in
-    simp to_z-of_z at (rw p at c.in_ok-note.ensures)
+    let at = (goal.at.returns c).After-above-m in
+    let fp : FitsSigned w128 (c.args.q *ℤ c.args.self.now.w) = (held at).capped.fits in
+    simp to_z-of_z at (rw (cap_is at) at c.in_ok-note.ensures)

@@ -14,7 +14,7 @@ returns-clause-reached c =
     let fq : FitsSigned w128 q = c.ranges.q in
     let fw : FitsSigned w128 s.w = given_fits _ s.given in
     let fp : FitsSigned w128 (q *ℤ s.w) = product_fits _ _ r.factor (given_more _ s.given) in
-    let p = simp to_z-of_z at c.product-cap.ensures in
+    let p = simp to_z-of_z at c.cap_of-cap.ensures.value in
     let low = product_low q s.w r.factor s.low in
     let n = r.noted in
     reach_slots (length s.places) q s.w s.entries n.m n.below s.same_count low x r.entries r.base c.args.u r.from c.row.new.to c.in_ok-row.ensures.places (simp to_z-of_z at (rw (n.split, p) at c.in_ok-row.ensures.row))

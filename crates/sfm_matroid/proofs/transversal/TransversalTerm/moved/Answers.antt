@@ -41,7 +41,7 @@ brought c =
     }
 
 pub moved-requires-clause-before : goal.moved-requires-clause-before
-moved-requires-clause-before c = let r = c.requires in (held_base c.args.self.now c.args._q r.noted.m r.noted.below r.factor c.args.x.now r.entries r.base).amounts
+moved-requires-clause-before c = let r = c.requires in (held_base c.args.self.now c.args._q r.noted.m r.noted.below r.factor c.args.x.now r.entries r.base).capped.amounts
 
 pub moved-requires-clause-after : goal.moved-requires-clause-after
 moved-requires-clause-after c =
@@ -49,7 +49,7 @@ moved-requires-clause-after c =
     let a = c.args.a in
     let fa : FitsSigned w128 a = c.ranges.a in
     let base = base_within_room a r.base r.from r.onto r.apart r.low r.room in
-    simp to_z-of_z (held_base c.args.self.now c.args._q r.noted.m r.noted.below r.factor (exchanged c.args.x.now c.args.u c.args.v a) (length-exchanged c.args.x.now c.args.u c.args.v a ∙ r.entries) base).amounts
+    simp to_z-of_z (held_base c.args.self.now c.args._q r.noted.m r.noted.below r.factor (exchanged c.args.x.now c.args.u c.args.v a) (length-exchanged c.args.x.now c.args.u c.args.v a ∙ r.entries) base).capped.amounts
 
 pub bring_split-requires-clause-sized : goal.bring_split-requires-clause-sized
 bring_split-requires-clause-sized c = let h = brought c in ap length h.demands_are ∙ (h.base.sized ∙ sym h.over.places)
@@ -58,7 +58,7 @@ pub bring_split-requires-clause-slots : goal.bring_split-requires-clause-slots
 bring_split-requires-clause-slots c = let h = brought c in ap length h.capacities_are ∙ (length-replicate _ _ ∙ sym h.over.slots)
 
 pub bring_split-requires-clause-amounts : goal.bring_split-requires-clause-amounts
-bring_split-requires-clause-amounts c = let h = brought c in rw h.demands_are h.base.amounts
+bring_split-requires-clause-amounts c = let h = brought c in rw h.demands_are h.base.capped.amounts
 
 pub bring_split-requires-clause-bounded : goal.bring_split-requires-clause-bounded
 bring_split-requires-clause-bounded c = let h = brought c in rw h.capacities_are h.base.bounded
