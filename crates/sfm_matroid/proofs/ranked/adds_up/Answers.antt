@@ -37,11 +37,5 @@ returns-clause-told c =
 pub returns-clause-amounts : goal.returns-clause-amounts
 returns-clause-amounts c =
     let r = c.requires in
-    let q = c.args.q in
-    let w = c.args.w in
-    let fq : FitsSigned w128 q = c.ranges.q in
-    let fw : FitsSigned w128 w = c.ranges.w in
-    let fp : FitsSigned w128 (q *ℤ w) = product_fits _ _ r.factor (given_more _ r.given) in
-    let p = simp to_z-of_z at c.product-most.ensures in
-    let within = simp to_z-of_z at (rw p at c.are_within.ensures) in
-    λ h. within_amounts c.args.x.now (q *ℤ w) (product_high q w r.factor r.given) (within.0 c.if-not-are_within.false)
+    let told = returns-clause-told c in
+    λ h. within_amounts c.args.x.now (c.args.q *ℤ c.args.w) (product_high c.args.q c.args.w r.factor r.given) (told.0 h).0

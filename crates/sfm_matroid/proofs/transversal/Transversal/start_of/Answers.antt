@@ -14,21 +14,10 @@ returns-clause-start c =
     let s = c.args.self.now in
     let fq : FitsSigned w128 c.args.q = c.ranges.q in
     let fw : FitsSigned w128 s.w = given_fits _ s.given in
-    let e = rw s.based at (simp to_z-of_z at c.write_start.ensures) in
-    e
+    rw s.based at (simp to_z-of_z at c.write_start.ensures)
 
 pub returns-clause-greedy : goal.returns-clause-greedy
-returns-clause-greedy c =
-    let s = c.args.self.now in
-    let fq : FitsSigned w128 c.args.q = c.ranges.q in
-    let fw : FitsSigned w128 s.w = given_fits _ s.given in
-    let e = rw s.based at (simp to_z-of_z at c.write_start.ensures) in
-    rw e (transversal-greedy (length s.places) s.w s.entries s.same_count s.low c.args.q)
+returns-clause-greedy c = let s = c.args.self.now in let e = returns-clause-start c in rw e (transversal-greedy (length s.places) s.w s.entries s.same_count s.low c.args.q)
 
 pub returns-clause-base : goal.returns-clause-base
-returns-clause-base c =
-    let s = c.args.self.now in
-    let fq : FitsSigned w128 c.args.q = c.ranges.q in
-    let fw : FitsSigned w128 s.w = given_fits _ s.given in
-    let e = rw s.based at (simp to_z-of_z at c.write_start.ensures) in
-    rw e (transversal-starts (length s.places) s.w s.entries s.same_count s.low c.args.q c.requires.factor.low).1
+returns-clause-base c = let s = c.args.self.now in let e = returns-clause-start c in rw e (transversal-starts (length s.places) s.w s.entries s.same_count s.low c.args.q c.requires.factor.low).1
