@@ -1,7 +1,7 @@
 use Rattle.std.proofs.Common.{◌≡◌, ◌*ℤ◌, FitsSigned}
 use Rattle.std.proofs.lemmas.Int.{to_z-of_z}
 use mir.Syntax.{w128}
-use Rattle.sfm_law.proofs.Fits.{given_fits}
+use Rattle.sfm_matroid.proofs.Fits.{product_is}
 use Rattle.sfm_matroid.proofs.TransversalBases.{IsHeldBase, held_base}
 use Rattle.sfm_matroid.proofs.transversal.Transversal.note_of.Goals.{After-above-m}
 use Rattle.sfm_matroid.proofs.transversal.Transversal.note_of.Goals as goal
@@ -10,10 +10,7 @@ held : (c : After-above-m) → IsHeldBase c.args.self.now.entries c.above-m.resu
 held c = let r = c.requires in held_base c.args.self.now c.args.q c.above-m.result c.above-m.ensures.below r.factor c.args.x.now r.entries r.base
 
 cap_is : (c : After-above-m) → c.cap_of-cap.result ≡ (c.args.q *ℤ c.args.self.now.w)
-cap_is c =
-    let fq : FitsSigned w128 c.args.q = c.ranges.q in
-    let fw : FitsSigned w128 c.args.self.now.w = given_fits _ c.args.self.now.given in
-    simp to_z-of_z at c.cap_of-cap.ensures.value
+cap_is c = product_is c.args.q c.args.self.now.w c.ranges.q c.args.self.now.given c.cap_of-cap.result c.cap_of-cap.ensures.value
 
 pub slot_split-requires-clause-amounts : goal.slot_split-requires-clause-amounts
 slot_split-requires-clause-amounts c = (held c).capped.amounts

@@ -3,9 +3,9 @@ use Rattle.std.proofs.lemmas.Int.{to_z-of_z}
 use Rattle.std.proofs.lemmas.List.Elements.{All-replicate}
 use mir.Syntax.{w128}
 use Rattle.sfm_assign.specs.Splits.{IsCapacity}
-use Rattle.sfm_law.proofs.Fits.{given_fits, product_low}
+use Rattle.sfm_law.proofs.Fits.{product_low}
 use Rattle.sfm_matroid.specs.Notes.{slot_demands}
-use Rattle.sfm_matroid.proofs.Fits.{IsAsked, raise_upto}
+use Rattle.sfm_matroid.proofs.Fits.{IsAsked, product_is, raise_upto}
 use Rattle.sfm_matroid.proofs.TransversalBases.{held_base, rest_met, grown_capacity, no_capacity}
 use Rattle.sfm_matroid.proofs.SlotNotes.{over_grown}
 use Rattle.sfm_matroid.proofs.transversal.Transversal.room_in.Goals.{After-aim-1}
@@ -20,10 +20,8 @@ asked c =
     let x = c.args.x.now in
     let n = r.noted in
     let all = (held_base s q n.m n.below r.factor x r.entries r.base).capped in
-    let fq : FitsSigned w128 q = c.ranges.q in
-    let fw : FitsSigned w128 s.w = given_fits _ s.given in
     let fp : FitsSigned w128 (q *ℤ s.w) = all.fits in
-    let p = simp to_z-of_z at c.cap_of-cap.ensures.value in
+    let p = product_is q s.w c.ranges.q s.given c.cap_of-cap.result c.cap_of-cap.ensures.value in
     let is = simp to_z-of_z at (rw p at c.limit_of-limit.ensures) in
     record {
       all = all;
@@ -43,10 +41,8 @@ returns-then-limit-eq0-clause-room c =
     let s = c.args.self.now in
     let q = c.args.q in
     let low = product_low q s.w r.factor s.low in
-    let fq : FitsSigned w128 q = c.ranges.q in
-    let fw : FitsSigned w128 s.w = given_fits _ s.given in
     let fp : FitsSigned w128 (q *ℤ s.w) = (held_base s q r.noted.m r.noted.below r.factor c.args.x.now r.entries r.base).capped.fits in
-    let p = simp to_z-of_z at c.cap_of-cap.ensures.value in
+    let p = product_is q s.w c.ranges.q s.given c.cap_of-cap.result c.cap_of-cap.ensures.value in
     let fl : FitsSigned w128 c.limit_of-limit.result = search rules in
     let is = simp to_z-of_z at (rw p at c.limit_of-limit.ensures) in
     let none = simp to_z-of_z at (ap (to_z w128) c.if-limit-eq0.true) in
