@@ -3,7 +3,7 @@ use Rattle.std.proofs.lemmas.Bool.{both_ways, false≢true}
 use Rattle.std.proofs.lemmas.Int.{to_z-of_z}
 use mir.Syntax.{w128}
 use Rattle.sfm_law.proofs.Fits.{given_more, product_fits, product_high}
-use Rattle.sfm_matroid.proofs.Fits.{within_amounts}
+use Rattle.sfm_matroid.proofs.Fits.{product_is, within_amounts}
 use Rattle.sfm_matroid.proofs.ranked.adds_up.Goals as goal
 
 pub returns-then-not-are_within-clause-told : goal.returns-then-not-are_within-clause-told
@@ -11,10 +11,8 @@ returns-then-not-are_within-clause-told c =
     let r = c.requires in
     let q = c.args.q in
     let w = c.args.w in
-    let fq : FitsSigned w128 q = c.ranges.q in
-    let fw : FitsSigned w128 w = c.ranges.w in
     let fp : FitsSigned w128 (q *ℤ w) = product_fits _ _ r.factor (given_more _ r.given) in
-    let p = simp to_z-of_z at c.product-most.ensures in
+    let p = product_is q w c.ranges.q r.given c.product-most.result c.product-most.ensures in
     let within = simp to_z-of_z at (rw p at c.are_within.ensures) in
     ((λ t. absurd (false≢true t)), (λ h. absurd (both_ways c.are_within.result c.if-not-are_within.true (within.1 h.0))))
 
@@ -23,11 +21,10 @@ returns-clause-told c =
     let r = c.requires in
     let q = c.args.q in
     let w = c.args.w in
-    let fq : FitsSigned w128 q = c.ranges.q in
-    let fw : FitsSigned w128 w = c.ranges.w in
     let fp : FitsSigned w128 (q *ℤ w) = product_fits _ _ r.factor (given_more _ r.given) in
-    let p = simp to_z-of_z at c.product-most.ensures in
+    let p = product_is q w c.ranges.q r.given c.product-most.result c.product-most.ensures in
     let within = simp to_z-of_z at (rw p at c.are_within.ensures) in
+    let fq : FitsSigned w128 q = c.ranges.q in
     let fl : FitsSigned w128 c.args.whole = c.ranges.whole in
     let fs : FitsSigned w128 (q *ℤ c.args.whole) = product_fits _ _ r.factor r.whole in
     let t = simp to_z-of_z at c.product-sum.ensures in

@@ -1,7 +1,6 @@
 use Rattle.std.proofs.Common.{◌*ℤ◌, length, FitsSigned}
 use Rattle.std.proofs.lemmas.Int.{to_z-of_z}
 use mir.Syntax.{w128}
-use Rattle.sfm_law.proofs.Fits.{given_fits}
 use Rattle.sfm_matroid.proofs.GraphicBases.{capped_base}
 use Rattle.sfm_matroid.proofs.GraphicRooms.{base_split, root_below}
 use Rattle.sfm_matroid.proofs.graphic.Graphic.bring_near.Goals as goal
@@ -16,8 +15,6 @@ bring-requires-clause-met c =
     let q = c.args.q in
     let x = c.args.x.now in
     let all = capped_base s q r.factor x r.entries r.base in
-    let fq : FitsSigned w128 q = c.ranges.q in
-    let fw : FitsSigned w128 s.w = given_fits _ s.given in
     let fp : FitsSigned w128 (q *ℤ s.w) = all.fits in
-    let p = simp to_z-of_z at c.cap-cap.ensures.value in
+    let p = rw (to_z-of_z w128 q c.ranges.q) at c.cap-cap.ensures.value in
     rw p (simp to_z-of_z (base_split (length s.places) q s.w s.ends s.same_count all.low x r.entries r.base c.end_near-root.result (root_below (length s.places) q s.w s.ends s.same_count all.low x r.entries r.base c.args.u c.end_near-root.result r.place c.end_near-root.ensures)))

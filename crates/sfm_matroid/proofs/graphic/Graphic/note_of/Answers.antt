@@ -1,7 +1,6 @@
 use Rattle.std.proofs.Common.{◌≡◌, ◌*ℤ◌, length, FitsSigned}
 use Rattle.std.proofs.lemmas.Int.{to_z-of_z}
 use mir.Syntax.{w128}
-use Rattle.sfm_law.proofs.Fits.{given_fits}
 use Rattle.sfm_matroid.proofs.Fits.{AreCapped}
 use Rattle.sfm_matroid.proofs.GraphicBases.{capped_base}
 use Rattle.sfm_matroid.proofs.GraphicRooms.{first_split}
@@ -12,10 +11,7 @@ all : (c : After-cap-cap) → AreCapped (c.args.q *ℤ c.args.self.now.w) c.args
 all c = let r = c.requires in capped_base c.args.self.now c.args.q r.factor c.args.x.now r.entries r.base
 
 cap_is : (c : After-cap-cap) → c.cap-cap.result ≡ (c.args.q *ℤ c.args.self.now.w)
-cap_is c =
-    let fq : FitsSigned w128 c.args.q = c.ranges.q in
-    let fw : FitsSigned w128 c.args.self.now.w = given_fits _ c.args.self.now.given in
-    simp to_z-of_z at c.cap-cap.ensures.value
+cap_is c = rw (to_z-of_z w128 c.args.q c.ranges.q) at c.cap-cap.ensures.value
 
 pub split-requires-clause-amounts : goal.split-requires-clause-amounts
 split-requires-clause-amounts c = (all c).amounts

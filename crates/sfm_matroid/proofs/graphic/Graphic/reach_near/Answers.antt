@@ -1,7 +1,7 @@
 use Rattle.std.proofs.Common.{◌*ℤ◌, ◌∙◌, length, FitsSigned}
 use Rattle.std.proofs.lemmas.Int.{to_z-of_z}
 use mir.Syntax.{w128}
-use Rattle.sfm_law.proofs.Fits.{given_fits, given_more, product_fits, product_low}
+use Rattle.sfm_law.proofs.Fits.{given_more, product_fits, product_low}
 use Rattle.sfm_matroid.proofs.GraphicRooms.{row_reach}
 use Rattle.sfm_matroid.proofs.graphic.Graphic.reach_near.Goals as goal
 
@@ -12,9 +12,8 @@ returns-clause-reached c =
     let q = c.args.q in
     let x = c.args.x.now in
     let fq : FitsSigned w128 q = c.ranges.q in
-    let fw : FitsSigned w128 s.w = given_fits _ s.given in
     let fp : FitsSigned w128 (q *ℤ s.w) = product_fits _ _ r.factor (given_more _ s.given) in
-    let p = simp to_z-of_z at c.cap-cap.ensures.value in
+    let p = rw (to_z-of_z w128 q c.ranges.q) at c.cap-cap.ensures.value in
     let low = product_low q s.w r.factor s.low in
     let noted = simp to_z-of_z at c.in_ok-root_near.ensures.noted in
     row_reach (length s.places) q s.w s.ends s.same_count low x r.entries r.base c.args.s c.root_near.new.note.root c.args.u r.onto c.in_ok-root_near.ensures.end r.from r.leads c.row.new.to c.in_ok-row.ensures.places (simp to_z-of_z at (rw (noted.split, p) at c.in_ok-row.ensures.row))

@@ -1,7 +1,6 @@
 use Rattle.std.proofs.Common.{◌∙◌, [], set, pos, ◌*ℤ◌, length, refl, sym, ap, rules, FitsSigned, length-set}
 use Rattle.std.proofs.lemmas.Int.{to_z-of_z}
 use mir.Syntax.{w128}
-use Rattle.sfm_law.proofs.Fits.{given_fits}
 use Rattle.sfm_matroid.proofs.Fits.{IsAsked, raise_upto}
 use Rattle.sfm_matroid.proofs.GraphicBases.{capped_base}
 use Rattle.sfm_matroid.proofs.GraphicRooms.{rest_split, root_below, grown_capacity}
@@ -21,10 +20,8 @@ asked c =
     let q = c.args.q in
     let x = c.args.x.now in
     let all = capped_base s q r.factor x r.entries r.base in
-    let fq : FitsSigned w128 q = c.ranges.q in
-    let fw : FitsSigned w128 s.w = given_fits _ s.given in
     let fp : FitsSigned w128 (q *ℤ s.w) = all.fits in
-    let p = simp to_z-of_z at c.cap-cap.ensures.value in
+    let p = rw (to_z-of_z w128 q c.ranges.q) at c.cap-cap.ensures.value in
     let is = simp to_z-of_z at (rw p at c.limit_of-limit.ensures) in
     record {
       all = all;
