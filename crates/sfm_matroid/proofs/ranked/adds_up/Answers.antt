@@ -12,8 +12,7 @@ returns-then-not-are_within-clause-told c =
     let q = c.args.q in
     let w = c.args.w in
     let fp : FitsSigned w128 (q *ℤ w) = product_fits _ _ r.factor (given_more _ r.given) in
-    let p = product_is q w c.ranges.q r.given c.product-most.result c.product-most.ensures in
-    let within = simp to_z-of_z at (rw p at c.are_within.ensures) in
+    let within = simp to_z-of_z at (rw (product_is q w c.ranges.q r.given c.product-most.result c.product-most.ensures) at c.are_within.ensures) in
     ((λ t. absurd (false≢true t)), (λ h. absurd (both_ways c.are_within.result c.if-not-are_within.true (within.1 h.0))))
 
 pub returns-clause-told : goal.returns-clause-told
@@ -22,8 +21,7 @@ returns-clause-told c =
     let q = c.args.q in
     let w = c.args.w in
     let fp : FitsSigned w128 (q *ℤ w) = product_fits _ _ r.factor (given_more _ r.given) in
-    let p = product_is q w c.ranges.q r.given c.product-most.result c.product-most.ensures in
-    let within = simp to_z-of_z at (rw p at c.are_within.ensures) in
+    let within = simp to_z-of_z at (rw (product_is q w c.ranges.q r.given c.product-most.result c.product-most.ensures) at c.are_within.ensures) in
     let fq : FitsSigned w128 q = c.ranges.q in
     let fl : FitsSigned w128 c.args.whole = c.ranges.whole in
     let fs : FitsSigned w128 (q *ℤ c.args.whole) = product_fits _ _ r.factor r.whole in

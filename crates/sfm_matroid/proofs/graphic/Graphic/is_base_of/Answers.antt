@@ -11,10 +11,7 @@ returns-then-not-adds_up c =
     let r = c.requires in
     let s = c.args.self.now in
     let q = c.args.q in
-    let fq : FitsSigned w128 q = c.ranges.q in
-    let fw : FitsSigned w128 s.w = given_fits _ s.given in
-    let fr : FitsSigned w128 c.size_of.result = rank_fits _ c.size_of.ensures.small in
-    let told = rw c.size_of.ensures.value at (simp to_z-of_z at c.adds_up.ensures.told) in
+    let told = rw (to_z-of_z w128 q c.ranges.q, to_z-of_z w128 s.w (given_fits _ s.given), to_z-of_z w128 c.size_of.result (rank_fits _ c.size_of.ensures.small), c.size_of.ensures.value) at c.adds_up.ensures.told in
     told_uneven _ _ _ _ _ (graphic_told (length s.places) q s.w s.ends s.same_count (product_low q s.w r.factor s.low) c.args.x.now r.entries) (told_graphic (length s.places) q s.w s.ends s.same_count (product_low q s.w r.factor s.low) c.args.x.now r.entries) _ told c.if-not-adds_up.true
 
 pub returns : goal.returns
@@ -22,11 +19,8 @@ returns c =
     let r = c.requires in
     let s = c.args.self.now in
     let q = c.args.q in
-    let fq : FitsSigned w128 q = c.ranges.q in
-    let fw : FitsSigned w128 s.w = given_fits _ s.given in
-    let fr : FitsSigned w128 c.size_of.result = rank_fits _ c.size_of.ensures.small in
-    let told = rw c.size_of.ensures.value at (simp to_z-of_z at c.adds_up.ensures.told) in
+    let told = rw (to_z-of_z w128 q c.ranges.q, to_z-of_z w128 s.w (given_fits _ s.given), to_z-of_z w128 c.size_of.result (rank_fits _ c.size_of.ensures.small), c.size_of.ensures.value) at c.adds_up.ensures.told in
     let fp : FitsSigned w128 (q *ℤ s.w) = product_fits _ _ r.factor (given_more _ s.given) in
-    let p = simp to_z-of_z at c.cap.ensures.value in
+    let p = rw (to_z-of_z w128 q c.ranges.q) at c.cap.ensures.value in
     let test = simp to_z-of_z at (rw p at c.in_ok-passed.ensures) in
     told_by _ _ _ _ _ (graphic_told (length s.places) q s.w s.ends s.same_count (product_low q s.w r.factor s.low) c.args.x.now r.entries) (told_graphic (length s.places) q s.w s.ends s.same_count (product_low q s.w r.factor s.low) c.args.x.now r.entries) _ told c.if-not-adds_up.false _ test

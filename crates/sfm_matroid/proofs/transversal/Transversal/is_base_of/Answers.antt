@@ -3,6 +3,7 @@ use Rattle.std.proofs.lemmas.Int.{to_z-of_z}
 use mir.Syntax.{w128}
 use Rattle.sfm_law.proofs.Fits.{given_fits, given_more, rank_fits, product_fits, product_low}
 use Rattle.sfm_rank.proofs.Bases.{told_by, told_uneven}
+use Rattle.sfm_matroid.proofs.Fits.{product_is}
 use Rattle.sfm_matroid.proofs.TransversalBases.{transversal_told, told_transversal}
 use Rattle.sfm_matroid.proofs.transversal.Transversal.is_base_of.Goals as goal
 
@@ -11,10 +12,7 @@ returns-then-not-adds_up c =
     let r = c.requires in
     let s = c.args.self.now in
     let q = c.args.q in
-    let fq : FitsSigned w128 q = c.ranges.q in
-    let fw : FitsSigned w128 s.w = given_fits _ s.given in
-    let fr : FitsSigned w128 c.size_of.result = rank_fits _ c.size_of.ensures.small in
-    let told = rw c.size_of.ensures.value at (simp to_z-of_z at c.adds_up.ensures.told) in
+    let told = rw (to_z-of_z w128 q c.ranges.q, to_z-of_z w128 s.w (given_fits _ s.given), to_z-of_z w128 c.size_of.result (rank_fits _ c.size_of.ensures.small), c.size_of.ensures.value) at c.adds_up.ensures.told in
     told_uneven _ _ _ _ _ (transversal_told (length s.places) q s.w s.entries c.above-m.result c.above-m.ensures.below s.same_count (product_low q s.w r.factor s.low) c.args.x.now r.entries) (told_transversal (length s.places) q s.w s.entries c.above-m.result c.above-m.ensures.below s.same_count (product_low q s.w r.factor s.low) c.args.x.now r.entries) _ told c.if-not-adds_up.true
 
 pub returns : goal.returns
@@ -22,11 +20,8 @@ returns c =
     let r = c.requires in
     let s = c.args.self.now in
     let q = c.args.q in
-    let fq : FitsSigned w128 q = c.ranges.q in
-    let fw : FitsSigned w128 s.w = given_fits _ s.given in
-    let fr : FitsSigned w128 c.size_of.result = rank_fits _ c.size_of.ensures.small in
-    let told = rw c.size_of.ensures.value at (simp to_z-of_z at c.adds_up.ensures.told) in
+    let told = rw (to_z-of_z w128 q c.ranges.q, to_z-of_z w128 s.w (given_fits _ s.given), to_z-of_z w128 c.size_of.result (rank_fits _ c.size_of.ensures.small), c.size_of.ensures.value) at c.adds_up.ensures.told in
     let fp : FitsSigned w128 (q *ℤ s.w) = product_fits _ _ r.factor (given_more _ s.given) in
-    let p = simp to_z-of_z at c.cap_of.ensures.value in
+    let p = product_is q s.w c.ranges.q s.given c.cap_of.result c.cap_of.ensures.value in
     let test = simp to_z-of_z at (rw p at c.in_ok-held.ensures) in
     told_by _ _ _ _ _ (transversal_told (length s.places) q s.w s.entries c.above-m.result c.above-m.ensures.below s.same_count (product_low q s.w r.factor s.low) c.args.x.now r.entries) (told_transversal (length s.places) q s.w s.entries c.above-m.result c.above-m.ensures.below s.same_count (product_low q s.w r.factor s.low) c.args.x.now r.entries) _ told c.if-not-adds_up.false _ test
