@@ -1,6 +1,6 @@
 -- Bases of a transversal term by the test of its code, and how much can be exchanged at one: by the most that an element gets
 -- besides in the test, without another element; and to whom an element has room, by those that can lend to it.
-use Rattle.std.proofs.Common.{◌≡◌, ◌≢◌, ◌⊎◌, ℕ, ◌<◌, Bool, List, length, get_or, set, replicate, ℤ, pos, ◌+ℤ◌, ◌-ℤ◌, ◌*ℤ◌, ◌≤ℤ◌, ◌<ℤ◌, sym, ap, ◌∙◌, arith, inl, inr, ⊎_elim, get_or-set_other}
+use Rattle.std.proofs.Common.{◌≡◌, ◌≢◌, ◌⊎◌, ℕ, ◌<◌, ◌≤◌, ◌^◌, Bool, List, length, get_or, set, replicate, ℤ, pos, ◌+ℤ◌, ◌-ℤ◌, ◌*ℤ◌, ◌≤ℤ◌, ◌<ℤ◌, sym, ap, ◌∙◌, arith, inl, inr, ⊎_elim, get_or-set_other}
 use Rattle.std.specs.Int.{int_min}
 use Rattle.std.specs.List.{All}
 use Rattle.std.proofs.lemmas.Int.{ints, clamps, by_lt_z}
@@ -16,9 +16,9 @@ use Rattle.sfm_matroid.specs.Givers.{IsGiver, IsRowIn}
 use Rattle.sfm_matroid.proofs.Lending.{reach_row}
 use Rattle.sfm_spec.specs.Kinds.{IsMatchable}
 use Rattle.sfm_assign.specs.Splits as splits
-use Rattle.sfm_assign.specs.Splits.{CanBeMet, Demands}
+use Rattle.sfm_assign.specs.Splits.{CanBeMet, Demands, IsAmount}
 use Rattle.sfm_assign.specs.Lenders.{IsMostUpto}
-use Rattle.sfm_matroid.specs.Notes.{slot_demands}
+use Rattle.sfm_matroid.specs.Notes.{AreSlotAmounts, slot_demands}
 use Rattle.sfm_matroid.specs.Matchings.{matching-matroid}
 use Rattle.sfm_matroid.specs.Slots.{IsWithinSlots, transversal_rank, transversal_value, transversal_size}
 use Rattle.sfm_matroid.specs.Transversals.{transversal-ranks}
@@ -165,3 +165,10 @@ held_base s q m below factor x sized base =
       bounded = All-replicate splits.IsCapacity m (q *ℤ s.w) (record { low = all.low; high = all.high });
       met = base_split (length s.places) q s.w s.entries m below s.same_count low x sized base;
     }
+
+-- what a test of amounts asks of the entries of a term
+pub slot_amounts : (s : Transversal) (m : ℕ) → All (All (λ v. v < m)) s.entries → m ≤ 2 ^ 24 → (c : ℤ) → pos 0 ≤ℤ c → c ≤ℤ pos (10 ^ 24) → (x : List ℤ) → length x ≡ length s.places → All IsAmount x → AreSlotAmounts s.entries m c x
+slot_amounts s m below few_slots c low high x sized amounts =
+    let same = s.same_count in
+    let few = s.few in
+    record { few = omega (arith, same, few); sized = sized ∙ sym same; amounts = amounts; low = low; high = high; few_slots = few_slots; below = below }

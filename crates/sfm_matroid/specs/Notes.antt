@@ -1,8 +1,8 @@
 -- What is kept beside a base: a split of it in a test.
-use Rattle.std.specs.Prelude.{◌≡◌, ℕ, ◌<◌, List, length, replicate, ℤ, ◌*ℤ◌, Option, Some, None}
+use Rattle.std.specs.Prelude.{◌≡◌, ℕ, ◌<◌, ◌≤◌, ◌^◌, List, length, replicate, ℤ, pos, ◌*ℤ◌, ◌≤ℤ◌, Option, Some, None}
 use Rattle.std.specs.List.{All}
 use Rattle.sfm_spec.specs.Kinds.{Edge}
-use Rattle.sfm_assign.specs.Splits.{CanBeMet, Demands}
+use Rattle.sfm_assign.specs.Splits.{CanBeMet, Demands, IsAmount}
 use Rattle.sfm_assign.specs.declared.kept.Kept.{Kept}
 use Rattle.sfm_matroid.specs.Numbered.{end_lists, numbered, vertex_capacities, vertex_count}
 use Rattle.sfm_matroid.specs.declared.rooted.RootSplit.{RootSplit}
@@ -16,6 +16,16 @@ end_demands edges m c x a = record { demands = x; lists = end_lists edges; capac
 -- elements as demands that are split over the slots of their entries, where each of m slots holds c
 abbrev pub slot_demands : List (List ℕ) → ℕ → ℤ → List ℤ → Demands
 slot_demands entries m c x = record { demands = x; lists = entries; capacities = replicate m c }
+
+-- amounts for the elements of a few entries that list some of m slots, and a number c that each slot holds
+pub record AreSlotAmounts (entries : List (List ℕ)) (m : ℕ) (c : ℤ) (x : List ℤ) : Type 0 where
+  pub few : length entries ≤ 256
+  pub sized : length x ≡ length entries
+  pub amounts : All IsAmount x
+  pub low : pos 0 ≤ℤ c
+  pub high : c ≤ℤ pos (10 ^ 24)
+  pub few_slots : m ≤ 2 ^ 24
+  pub below : All (All (λ v. v < m)) entries
 
 -- whatever is split over the ends of edges, of which m vertices hold something
 pub record IsOverEnds (edges : List Edge) (m : ℕ) (d : Demands) : Type 0 where

@@ -4,7 +4,7 @@
 ghost use Rattle.std.specs.Prelude.{◌≡◌, ◌↔◌, ◌<◌, ◌≤◌, ◌^◌, length, replicate, pos, ◌≤ℤ◌, IfOk, IsTrue};
 ghost use Rattle.std.specs.List.{All};
 ghost use Rattle.sfm_assign.specs.Splits.{IsAmount};
-ghost use Rattle.sfm_matroid.specs.Notes.{slot_demands};
+ghost use Rattle.sfm_matroid.specs.Notes.{AreSlotAmounts, slot_demands};
 ghost use Rattle.sfm_matroid.specs.Slots.{IsWithinSlots, suited};
 
 use crate::entries::Entries;
@@ -32,13 +32,7 @@ pub(crate) fn slot_demand(
     x: &[i128],
     most: i128,
 ) -> Result<Demand, Memory>
-    requires few { length entries.now ≤ 256 }
-    requires sized { length x.now ≡ length entries.now }
-    requires amounts { All IsAmount x.now }
-    requires low { pos 0 ≤ℤ most }
-    requires high { most ≤ℤ pos (10 ^ 24) }
-    requires few_slots { m ≤ 2 ^ 24 }
-    requires below { All (All (λ v. v < m)) entries.now }
+    requires { AreSlotAmounts entries.now m most x.now }
     ensures { IfOk result (λ r. r ≡ record { demands = x.now; lists = entries.now; capacities = replicate m most }) }
 {
     let capacities = vec![in alloc; most; m]?;
@@ -57,13 +51,7 @@ pub(crate) fn are_held(
     x: &[i128],
     most: i128,
 ) -> Result<bool, Memory>
-    requires few { length entries.now ≤ 256 }
-    requires sized { length x.now ≡ length entries.now }
-    requires amounts { All IsAmount x.now }
-    requires low { pos 0 ≤ℤ most }
-    requires high { most ≤ℤ pos (10 ^ 24) }
-    requires few_slots { m ≤ 2 ^ 24 }
-    requires below { All (All (λ v. v < m)) entries.now }
+    requires { AreSlotAmounts entries.now m most x.now }
     ensures { IfOk result (λ r. IsTrue r ↔ IsWithinSlots entries.now m most x.now) }
 {
     let demand = slot_demand(alloc, entries, m, x, most)?;

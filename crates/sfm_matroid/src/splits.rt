@@ -4,7 +4,7 @@
 ghost use Rattle.std.specs.Prelude.{◌≡◌, ◌<◌, ◌≤◌, ◌^◌, length, replicate, slice_index_or, pos, ◌+ℤ◌, ◌≤ℤ◌, ℕ, IfOk, OnOk, List, Some, None};
 ghost use Rattle.std.specs.List.{All};
 ghost use Rattle.sfm_assign.specs.Splits.{amount_at, IsAmount, IsCapacity, CanBeMet};
-ghost use Rattle.sfm_matroid.specs.Notes.{IsSlotSplit, IsOver, IsSpare};
+ghost use Rattle.sfm_matroid.specs.Notes.{AreSlotAmounts, IsSlotSplit, IsOver, IsSpare};
 
 use crate::entries::Entries;
 use crate::matching::slot_demand;
@@ -44,13 +44,7 @@ pub(crate) fn slot_split(
     x: &[i128],
     most: i128,
 ) -> Result<SlotSplit, Memory>
-    requires few { length entries.now ≤ 256 }
-    requires sized { length x.now ≡ length entries.now }
-    requires amounts { All IsAmount x.now }
-    requires low { pos 0 ≤ℤ most }
-    requires high { most ≤ℤ pos (10 ^ 24) }
-    requires few_slots { m ≤ 2 ^ 24 }
-    requires below { All (All (λ v. v < m)) entries.now }
+    requires amounts { AreSlotAmounts entries.now m most x.now }
     requires met { CanBeMet x.now entries.now (replicate m most) }
     ensures { IfOk result (IsSlotSplit entries.now most x.now) }
 {

@@ -5,6 +5,9 @@ use mir.Syntax.{w128}
 use Rattle.sfm_matroid.proofs.SplitTests.{split_within_slots, short_beyond_slots}
 use Rattle.sfm_matroid.proofs.matching.are_held.Goals as goal
 
+pub slot_demand-requires : goal.slot_demand-requires
+slot_demand-requires c = let fm : FitsSigned w128 c.args.most = c.ranges.most in simp to_z-of_z c.requires
+
 pub returns-in-Ok : goal.returns-in-Ok
 returns-in-Ok c =
     let r = c.requires in

@@ -1,8 +1,8 @@
-use Rattle.std.proofs.Common.{◌≡◌, ◌*ℤ◌, FitsSigned}
+use Rattle.std.proofs.Common.{◌≡◌, ◌*ℤ◌, rules, FitsSigned}
 use Rattle.std.proofs.lemmas.Int.{to_z-of_z}
 use mir.Syntax.{w128}
 use Rattle.sfm_matroid.proofs.Fits.{product_is}
-use Rattle.sfm_matroid.proofs.TransversalBases.{IsHeldBase, held_base}
+use Rattle.sfm_matroid.proofs.TransversalBases.{IsHeldBase, held_base, slot_amounts}
 use Rattle.sfm_matroid.proofs.transversal.Transversal.note_of.Goals.{After-above-m}
 use Rattle.sfm_matroid.proofs.transversal.Transversal.note_of.Goals as goal
 
@@ -13,7 +13,10 @@ cap_is : (c : After-above-m) → c.cap_of-cap.result ≡ (c.args.q *ℤ c.args.s
 cap_is c = product_is c.args.q c.args.self.now.w c.ranges.q c.args.self.now.given c.cap_of-cap.result c.cap_of-cap.ensures.value
 
 pub slot_split-requires-clause-amounts : goal.slot_split-requires-clause-amounts
-slot_split-requires-clause-amounts c = (held c).capped.amounts
+slot_split-requires-clause-amounts c =
+    let cap = c.cap_of-cap.ensures in
+    let fc : FitsSigned w128 c.cap_of-cap.result = search rules in
+    simp to_z-of_z (slot_amounts c.args.self.now c.above-m.result c.above-m.ensures.below c.above-m.ensures.high c.cap_of-cap.result cap.low cap.high c.args.x.now c.requires.entries (held c).capped.amounts)
 
 pub slot_split-requires-clause-met : goal.slot_split-requires-clause-met
 slot_split-requires-clause-met c =
