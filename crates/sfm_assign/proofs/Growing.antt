@@ -147,6 +147,13 @@ other_demands d sound demands capacities sized slots amounts bounded = record {
   exist = rw slots sound.exist;
 }
 
+-- u is raised as far as it goes, and what is left tells by how much
+pub record IsRaisedMost (d : Demands) (whos slots : List ℕ) (u : ℕ) (limit : ℤ) (z lacks rooms : List ℤ) : Type 0 where
+  pub places : length lacks ≡ length d.demands
+  pub low : pos 0 ≤ℤ amount_at lacks u
+  pub high : amount_at lacks u ≤ℤ limit
+  pub grown : IsGrown d whos slots z rooms u limit (limit -ℤ amount_at lacks u)
+
 -- the same for the cells of a split
 module _ (d : Demands) (whos slots : List ℕ) (y rooms : List ℤ) (u : ℕ) (limit : ℤ) (h : MayGrow d whos slots y rooms u limit) (lacks : List ℤ) (is : lacks ≡ set (replicate (length d.demands) (pos 0)) u limit) where
   part0 : IsPart d.demands d.capacities (owners 0 d.lists) (joined d.lists) y
@@ -182,7 +189,7 @@ module _ (d : Demands) (whos slots : List ℕ) (y rooms : List ℤ) (u : ℕ) (l
     pouring : IsPouring (with_more d u limit).demands d.capacities (owners 0 d.lists) (joined d.lists) y z lacks' rooms'
     pouring = growing_pouring d h.sound u h.place limit h.low y part0 lacks rooms z lacks' rooms' nodes lacks0 rooms0 raised0 search0
 
-    pub may_places : length lacks' ≡ length d.demands
+    may_places : length lacks' ≡ length d.demands
     may_places = pouring.lacks_are.places ∙ length-set d.demands u (amount_at d.demands u +ℤ limit)
 
     -- what u lacks in the end
@@ -194,7 +201,7 @@ module _ (d : Demands) (whos slots : List ℕ) (y rooms : List ℤ) (u : ℕ) (l
         let each = pouring.lacks_are.each u (omega (arith, lu, l)) in
         omega (arith, ints, e, each)
 
-    pub may_lack : (pos 0 ≤ℤ amount_at lacks' u) × (amount_at lacks' u ≤ℤ limit)
+    may_lack : (pos 0 ≤ℤ amount_at lacks' u) × (amount_at lacks' u ≤ℤ limit)
     may_lack =
         let lu = h.place in
         let l = length-set d.demands u (amount_at d.demands u +ℤ limit) in
@@ -205,8 +212,8 @@ module _ (d : Demands) (whos slots : List ℕ) (y rooms : List ℤ) (u : ℕ) (l
         let r = pouring.more u in
         (omega (arith, ints, got, e, k), omega (arith, ints, k, m, r))
 
-    pub may_grow : IsGrown d whos slots z rooms' u limit (limit -ℤ amount_at lacks' u)
-    may_grow = record {
+    grown : IsGrown d whos slots z rooms' u limit (limit -ℤ amount_at lacks' u)
+    grown = record {
       met = record { in_order = h.met.in_order; in_lists = h.met.in_lists; part = rw (h.met.in_order, h.met.in_lists) (grown_part d h.sound u h.place limit h.low y part0 met0 z (founds nodes) pouring.part filled pouring.more more told); met = rw h.met.in_order (grown_met d h.sound u h.place limit h.low y part0 met0 z (founds nodes) pouring.part filled pouring.more more told) };
       left = rw h.met.in_lists pouring.rooms_are;
       amount = grown_amount d h.sound u h.place limit more h.small most;
@@ -223,3 +230,6 @@ module _ (d : Demands) (whos slots : List ℕ) (y rooms : List ℤ) (u : ℕ) (l
 
       most : IsMostUpto d u limit more
       most = grown_most d h.sound u h.place limit h.low y part0 met0 z (founds nodes) pouring.part filled pouring.more more told
+
+    pub may_grow : IsRaisedMost d whos slots u limit z lacks' rooms'
+    may_grow = record { places = may_places; low = may_lack.0; high = may_lack.1; grown = grown }

@@ -1,10 +1,30 @@
-use Rattle.std.proofs.Common.{length, set, replicate, drop, ℤ, pos, ◌-ℤ◌, sym, ap, ◌∙◌, arith, rules, FitsSigned}
+use Rattle.std.proofs.Common.{◌≡◌, length, set, replicate, drop, List, ℕ, ℤ, pos, ◌-ℤ◌, sym, ap, ◌∙◌, arith, rules, FitsSigned}
 use Rattle.std.proofs.lemmas.Int.{ints, to_z-of_z}
 use Rattle.std.proofs.lemmas.List.{get_or_read, length-replicate}
 use mir.Syntax.{w128}
-use Rattle.sfm_assign.proofs.Growing.{may_within, may_places, may_lack, may_grow}
+use Rattle.sfm_assign.specs.Splits.{Demands}
+use Rattle.sfm_assign.specs.Grown.{MayGrow}
+use Rattle.sfm_assign.proofs.Growing.{IsRaisedMost, may_within, may_grow}
 use Rattle.sfm_assign.proofs.Searches.{written}
+use Rattle.sfm_assign.proofs.grown.raise_most.Goals.{In_ok-search}
 use Rattle.sfm_assign.proofs.grown.raise_most.Goals as goal
+
+-- as much is lacking at u, and nothing anywhere else
+lacking : (like zeros : List ℤ) (d : Demands) (u : ℕ) (limit : ℤ) → zeros ≡ replicate (length like) (pos 0) → length like ≡ length d.demands → set zeros u limit ≡ set (replicate (length d.demands) (pos 0)) u limit
+lacking like zeros d u limit is long = ap (λ l. set l u limit) (is ∙ ap (λ n. replicate n (pos 0)) long)
+
+-- u is raised as far as it goes
+raised : (c : In_ok-search) (d : Demands) → length c.args.like.now ≡ length d.demands → MayGrow d c.args.cells.now.whos.items c.args.cells.now.slots.items c.args.work.now.y.items c.args.work.now.left.rooms.items c.args.u c.args.limit
+    → IsRaisedMost d c.args.cells.now.whos.items c.args.cells.now.slots.items c.args.u c.args.limit c.fill_from.new.y c.fill_from.new.left.lacks.items c.fill_from.new.left.rooms.items
+raised c d long h =
+    let cells = c.args.cells.now in
+    let work = c.args.work.now in
+    let limit : ℤ = c.args.limit in
+    let fq : FitsSigned w128 limit = c.ranges.limit in
+    let is = lacking c.args.like.now c.write_zeros.new.to.items d c.args.u limit c.in_ok-write_zeros.ensures long in
+    let told = simp to_z-of_z at (rw c.deref_mut.ensures.value at c.in_ok-search.ensures) in
+    let after = c.fill_from.new.left in
+    may_grow d cells.whos.items cells.slots.items work.y.items work.left.rooms.items c.args.u limit h (set c.write_zeros.new.to.items c.args.u limit) is c.fill_from.new.y after.lacks.items after.rooms.items c.in_ok-search.search.nodes.items told.raised told.stuck
 
 pub index_mut-requires : goal.index_mut-requires
 index_mut-requires c =
@@ -22,61 +42,48 @@ fill_from-requires c =
     let work = c.args.work.now in
     let limit : ℤ = c.args.limit in
     let fq : FitsSigned w128 limit = c.ranges.limit in
-    let is = ap (λ zeros. set zeros c.args.u limit) (c.in_ok-write_zeros.ensures ∙ ap (λ n. replicate n (pos 0)) long) in
+    let is = lacking c.args.like.now c.write_zeros.new.to.items d c.args.u limit c.in_ok-write_zeros.ensures long in
     record { within = simp to_z-of_z (rw c.deref_mut.ensures.value (may_within d cells.whos.items cells.slots.items work.y.items work.left.rooms.items c.args.u limit h (set c.write_zeros.new.to.items c.args.u limit) is)) }
 
 pub index-requires : goal.index-requires
 index-requires c =
     let (d, long, h) = c.requires in
-    let cells = c.args.cells.now in
-    let work = c.args.work.now in
-    let limit : ℤ = c.args.limit in
-    let fq : FitsSigned w128 limit = c.ranges.limit in
-    let is = ap (λ zeros. set zeros c.args.u limit) (c.in_ok-write_zeros.ensures ∙ ap (λ n. replicate n (pos 0)) long) in
-    let told = simp to_z-of_z at (rw c.deref_mut.ensures.value at c.in_ok-search.ensures) in
-    let after = c.fill_from.new.left in
-    let places = may_places d cells.whos.items cells.slots.items work.y.items work.left.rooms.items c.args.u limit h (set c.write_zeros.new.to.items c.args.u limit) is c.fill_from.new.y after.lacks.items after.rooms.items c.in_ok-search.search.nodes.items told.raised told.stuck in
+    let places = (raised (goal.at.index-requires c).In_ok-search d long h).places in
     let lt = h.place in
-    let ok = after.lacks.ok.0 in
+    let ok = c.fill_from.new.left.lacks.ok.0 in
     omega (arith, lt, places, ok)
 
 pub overflow_sub-more : goal.overflow_sub-more
 overflow_sub-more c =
     let (d, long, h) = c.requires in
-    let cells = c.args.cells.now in
-    let work = c.args.work.now in
     let limit : ℤ = c.args.limit in
     let fq : FitsSigned w128 limit = c.ranges.limit in
-    let is = ap (λ zeros. set zeros c.args.u limit) (c.in_ok-write_zeros.ensures ∙ ap (λ n. replicate n (pos 0)) long) in
-    let told = simp to_z-of_z at (rw c.deref_mut.ensures.value at c.in_ok-search.ensures) in
-    let after = c.fill_from.new.left in
-    let places = may_places d cells.whos.items cells.slots.items work.y.items work.left.rooms.items c.args.u limit h (set c.write_zeros.new.to.items c.args.u limit) is c.fill_from.new.y after.lacks.items after.rooms.items c.in_ok-search.search.nodes.items told.raised told.stuck in
-    let lack = may_lack d cells.whos.items cells.slots.items work.y.items work.left.rooms.items c.args.u limit h (set c.write_zeros.new.to.items c.args.u limit) is c.fill_from.new.y after.lacks.items after.rooms.items c.in_ok-search.search.nodes.items told.raised told.stuck in
+    let told = raised (goal.at.overflow_sub-more c).In_ok-search d long h in
+    let places = told.places in
+    let low_left = told.low in
+    let high_left = told.high in
     let left : ℤ = c.index.result.now in
     let fl : FitsSigned w128 left = search rules in
     let lt = h.place in
     let low = h.low in
-    let m = get_or_read after.lacks.items c.args.u left (omega (arith, lt, places)) c.index.ensures (pos 0) in
-    let fd : FitsSigned w128 (limit -ℤ left) = omega (arith, ints, m, lack.0, lack.1, low, fq) in
+    let m = get_or_read c.fill_from.new.left.lacks.items c.args.u left (omega (arith, lt, places)) c.index.ensures (pos 0) in
+    let fd : FitsSigned w128 (limit -ℤ left) = omega (arith, ints, m, low_left, high_left, low, fq) in
     simp to_z-of_z fd
 
 pub returns : goal.returns
 returns c d long h =
-    let cells = c.args.cells.now in
     let work = c.args.work.now in
     let limit : ℤ = c.args.limit in
     let fq : FitsSigned w128 limit = c.ranges.limit in
-    let is = ap (λ zeros. set zeros c.args.u limit) (c.in_ok-write_zeros.ensures ∙ ap (λ n. replicate n (pos 0)) long) in
-    let told = simp to_z-of_z at (rw c.deref_mut.ensures.value at c.in_ok-search.ensures) in
-    let after = c.fill_from.new.left in
-    let places = may_places d cells.whos.items cells.slots.items work.y.items work.left.rooms.items c.args.u limit h (set c.write_zeros.new.to.items c.args.u limit) is c.fill_from.new.y after.lacks.items after.rooms.items c.in_ok-search.search.nodes.items told.raised told.stuck in
-    let lack = may_lack d cells.whos.items cells.slots.items work.y.items work.left.rooms.items c.args.u limit h (set c.write_zeros.new.to.items c.args.u limit) is c.fill_from.new.y after.lacks.items after.rooms.items c.in_ok-search.search.nodes.items told.raised told.stuck in
-    let grown = may_grow d cells.whos.items cells.slots.items work.y.items work.left.rooms.items c.args.u limit h (set c.write_zeros.new.to.items c.args.u limit) is c.fill_from.new.y after.lacks.items after.rooms.items c.in_ok-search.search.nodes.items told.raised told.stuck in
+    let told = raised (goal.at.returns c).In_ok-search d long h in
+    let places = told.places in
+    let low_left = told.low in
+    let high_left = told.high in
     let left : ℤ = c.index.result.now in
     let fl : FitsSigned w128 left = search rules in
     let lt = h.place in
     let low = h.low in
-    let m = get_or_read after.lacks.items c.args.u left (omega (arith, lt, places)) c.index.ensures (pos 0) in
-    let fd : FitsSigned w128 (limit -ℤ left) = omega (arith, ints, m, lack.0, lack.1, low, fq) in
+    let m = get_or_read c.fill_from.new.left.lacks.items c.args.u left (omega (arith, lt, places)) c.index.ensures (pos 0) in
+    let fd : FitsSigned w128 (limit -ℤ left) = omega (arith, ints, m, low_left, high_left, low, fq) in
     let q = written c.fill_from.new.y (drop (length c.fill_from.new.y) work.y.items) work.y.len (c.fill_from.auto.y ∙ (ap length c.deref_mut.ensures.value ∙ sym work.y.ok.0)) in
-    simp to_z-of_z (rw (q, m) grown)
+    simp to_z-of_z (rw (q, m) told.grown)

@@ -1,9 +1,18 @@
 use Rattle.std.proofs.Common.{length, drop, ap, sym, ◌∙◌}
-use Rattle.sfm_assign.specs.Cells.{joined, owners, AreCells}
+use Rattle.sfm_assign.specs.Cells.{joined, owners}
 use Rattle.sfm_assign.specs.Search.{IsLacking}
+use Rattle.sfm_assign.specs.Lowers.{IsSettled}
 use Rattle.sfm_assign.proofs.Searches.{written}
 use Rattle.sfm_assign.proofs.Outcomes.{cells_for, lacking_end}
+use Rattle.sfm_assign.proofs.kept.Kept.find_amounts.Goals.{In_ok-told}
 use Rattle.sfm_assign.proofs.kept.Kept.find_amounts.Goals as goal
+
+-- the amounts are lowered and raised
+settled : (c : In_ok-told) → IsSettled c.args.demands.now c.args.capacities.now c.args.self.now.shares.cells.whos.items c.args.self.now.shares.cells.slots.items c.settle.new.y c.settle.new.left.rooms.items c.in_ok-told.told
+settled c =
+    let k = c.args.self.now in
+    let ey = c.deref_mut.ensures.value ∙ (c.in_ok-copy_list.ensures ∙ c.deref.ensures.value) in
+    (rw ey at c.in_ok-told.ensures).each c.args.demands.now c.args.capacities.now (rw (k.met.in_order, k.met.in_lists) (cells_for _ c.requires.sound)) c.in_ok-charge.ensures.charge
 
 pub charge-requires-clause-amounts : goal.charge-requires-clause-amounts
 charge-requires-clause-amounts c = c.requires.sound.amounts
@@ -32,40 +41,23 @@ settle-requires c =
 pub returns-in-Some-clause-met : goal.returns-in-Some-clause-met
 returns-in-Some-clause-met c =
     let k = c.args.self.now in
-    let demands = c.args.demands.now in
-    let capacities = c.args.capacities.now in
-    let cells : AreCells (length demands) (length capacities) k.shares.cells.whos.items k.shares.cells.slots.items = rw (k.met.in_order, k.met.in_lists) (cells_for (record { demands = demands; lists = k.demand.lists; capacities = capacities }) c.requires.sound) in
-    let ey = c.deref_mut.ensures.value ∙ (c.in_ok-copy_list.ensures ∙ c.deref.ensures.value) in
-    let told = rw (ey, c.in-Some.is) at c.in_ok-told.ensures in
-    let s = told.each demands capacities cells c.in_ok-charge.ensures.charge in
+    let s = rw c.in-Some.is at (settled (goal.at.returns-in-Some-clause-met c).In_ok-told) in
     let part = rw (k.met.in_order, k.met.in_lists) at s.part in
-    let lacking : IsLacking demands capacities (owners 0 k.demand.lists) (joined k.demand.lists) c.settle.new.y c.in-Some.set = rw (k.met.in_order, k.met.in_lists) at s.told_of in
+    let lacking : IsLacking c.args.demands.now c.args.capacities.now (owners 0 k.demand.lists) (joined k.demand.lists) c.settle.new.y c.in-Some.set = rw (k.met.in_order, k.met.in_lists) at s.told_of in
     lacking_end _ c.settle.new.y c.in-Some.set c.requires.sound part lacking
 
 pub returns-clause-met : goal.returns-clause-met
 returns-clause-met c =
     let k = c.args.self.now in
-    let demands = c.args.demands.now in
-    let capacities = c.args.capacities.now in
     let y = c.copy_list.new.to in
     let z = c.settle.new.y in
-    let cells : AreCells (length demands) (length capacities) k.shares.cells.whos.items k.shares.cells.slots.items = rw (k.met.in_order, k.met.in_lists) (cells_for (record { demands = demands; lists = k.demand.lists; capacities = capacities }) c.requires.sound) in
-    let ey = c.deref_mut.ensures.value ∙ (c.in_ok-copy_list.ensures ∙ c.deref.ensures.value) in
-    let told = rw (ey, c.in_default.is) at c.in_ok-told.ensures in
-    let s = told.each demands capacities cells c.in_ok-charge.ensures.charge in
+    let s = rw c.in_default.is at (settled (goal.at.returns-clause-met c).In_ok-told) in
     let q = written z (drop (length z) y.items) y.len (c.settle.auto.y ∙ (ap length c.deref_mut.ensures.value ∙ sym y.ok.0)) in
     record { in_order = k.met.in_order; in_lists = k.met.in_lists; part = rw q s.part; met = rw q s.told_of }
 
 pub returns-clause-rooms : goal.returns-clause-rooms
 returns-clause-rooms c =
-    let k = c.args.self.now in
-    let demands = c.args.demands.now in
-    let capacities = c.args.capacities.now in
     let y = c.copy_list.new.to in
     let z = c.settle.new.y in
-    let cells : AreCells (length demands) (length capacities) k.shares.cells.whos.items k.shares.cells.slots.items = rw (k.met.in_order, k.met.in_lists) (cells_for (record { demands = demands; lists = k.demand.lists; capacities = capacities }) c.requires.sound) in
-    let ey = c.deref_mut.ensures.value ∙ (c.in_ok-copy_list.ensures ∙ c.deref.ensures.value) in
-    let told = rw ey at c.in_ok-told.ensures in
-    let s = told.each demands capacities cells c.in_ok-charge.ensures.charge in
     let q = written z (drop (length z) y.items) y.len (c.settle.auto.y ∙ (ap length c.deref_mut.ensures.value ∙ sym y.ok.0)) in
-    rw q s.rooms_are
+    rw q (settled (goal.at.returns-clause-rooms c).In_ok-told).rooms_are
