@@ -13,7 +13,7 @@ pub mod Outcomes
 pub mod Growing
 pub mod Pours
 pub mod Spreads
-pub mod Leading
+pub mod Gathering
 pub mod Filling
 pub mod Lending
 pub mod Loans

@@ -1,6 +1,6 @@
 -- What is told of a demand by what it leads to: who can lend to it, or that it can get one more. A search with a tree, which no
 -- code makes here, ends in the same: two least sets that no step leaves are one.
-use Rattle.std.proofs.Common.{◌≡◌, ◌≢◌, ◌↔◌, ◌<◌, refl, ap, get_or, ℕ, Bool, List, length, set, replicate, ℤ, pos, ◌+ℤ◌, Option, Some, None, sym, ◌∙◌, arith, ⊎_elim, length-set, get_or-set_same, get_or-set_other, false}
+use Rattle.std.proofs.Common.{◌≡◌, ◌≢◌, ◌↔◌, ◌<◌, ap, get_or, ℕ, Bool, List, length, set, replicate, ℤ, pos, ◌+ℤ◌, Option, Some, None, sym, ◌∙◌, arith, ⊎_elim, length-set, get_or-set_same, get_or-set_other, false}
 use Rattle.std.proofs.lemmas.Int.{ints, by_lt_z}
 use Rattle.std.proofs.lemmas.Bool.{cases_eq, false≢true}
 use Rattle.std.proofs.lemmas.List.{length-replicate}
@@ -9,10 +9,8 @@ use Rattle.sfm_spec.proofs.Sets.{has_or_not}
 use Rattle.sfm_assign.specs.Splits.{amount_at, CanBeMet, Demands, AreDemands}
 use Rattle.sfm_assign.specs.Cells.{joined, owners, label_at, AreCells, IsPart, IsMet, IsClosed}
 use Rattle.sfm_assign.specs.Search.{AreLeft, only, node_at, IsFound, IsStuck, IsFoundSet, HasRoots, IsFilled, one_more, AreLenders}
-use Rattle.sfm_assign.specs.Spread.{IsStepClosed, AreLedTo, LeadsToRoom, AreAsking, IsWritten}
+use Rattle.sfm_assign.specs.Spread.{IsStepClosed, AreLedTo, LeadsToRoom, AreAsking}
 use Rattle.sfm_assign.specs.Lenders.{IsLender}
-use Rattle.sfm_assign.specs.declared.spread.Answer.{Answer}
-use Rattle.sfm_assign.specs.declared.spread.Answer.TheVariants.{Room, Full}
 use Rattle.sfm_assign.specs.declared.nodes.Node.{Node}
 use Rattle.sfm_assign.proofs.Outcomes.{cells_for, changed-other}
 use Rattle.sfm_assign.proofs.Searches.{some_apart}
@@ -119,14 +117,17 @@ module _ (d : Demands) (sound : AreDemands d) (u : ℕ) (lu : u < length d.deman
     pub led_lenders : AreLenders d.demands d.lists d.capacities u s
     led_lenders = lenders_are d sound u lu y part met s led_filled led_lends
 
-  -- what is written by what is told
-  pub written_lenders : (answer : Answer) → (answer ≡ Room → LeadsToRoom whos slots y rooms u) → ((set : List Bool) → answer ≡ Full set → AreLedTo (length d.demands) whos slots y rooms u set) → (asking : List Bool) → length asking ≡ length d.demands → AreAsking d.demands asking → (to : List Bool) → IsWritten answer asking u to
+  -- what is written where u leads to room: all others that ask for something
+  pub written_room : LeadsToRoom whos slots y rooms u → (asking : List Bool) → length asking ≡ length d.demands → AreAsking d.demands asking → (to : List Bool) → to ≡ set asking u false
       → (v : ℕ) → v < length d.demands → Has to v ↔ IsLender d.demands d.lists d.capacities u v
-  written_lenders Room room all asking places asked to wrote v lv =
-      let lends = lenders_all d sound u v lu lv (room_more (room refl)) in
+  written_room room asking places asked to wrote v lv =
+      let lends = lenders_all d sound u v lu lv (room_more room) in
       let some = asked v lv in
       let lt : u < length asking = omega (arith, lu, places) in
       let other : Has to v → v ≢ u = λ has q. false≢true (sym (ap (λ k. get_or (set asking u false) k false) q ∙ get_or-set_same asking u false false lt) ∙ (ap (λ t. get_or t v false) (sym wrote) ∙ has)) in
       let kept : v ≢ u → get_or to v false ≡ get_or asking v false = λ ne. ap (λ t. get_or t v false) wrote ∙ get_or-set_other asking u v false false ne in
       ((λ has. lends.0 (other has, some.0 (sym (kept (other has)) ∙ has))), (λ h. let (ne, more) = lends.1 h in kept ne ∙ some.1 more))
-  written_lenders (Full set) room all asking places asked to wrote v lv = rw wrote (lenders_but d sound u lu set (led_lenders set (all set refl)) v lv)
+
+  -- and where it leads to none: the others of those that it leads to
+  pub written_led : (s : List Bool) → AreLedTo (length d.demands) whos slots y rooms u s → (to : List Bool) → to ≡ set s u false → (v : ℕ) → v < length d.demands → Has to v ↔ IsLender d.demands d.lists d.capacities u v
+  written_led s led to wrote v lv = rw wrote (lenders_but d sound u lu s (led_lenders s led) v lv)

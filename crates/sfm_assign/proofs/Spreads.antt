@@ -11,7 +11,7 @@ use Rattle.sfm_spec.proofs.Sizes.{size_within, size_below_length}
 use Rattle.sfm_spec.proofs.Sums.{length-union}
 use Rattle.sfm_assign.specs.Splits.{amount_at}
 use Rattle.sfm_assign.specs.Cells.{label_at}
-use Rattle.sfm_assign.specs.Spread.{LeadsTo, AreLedTo, LeadsToRoom, IsAnswer, AreAnswers, answer_at, IsSettled, Waits, IsSpread, IsJoin, IsWider}
+use Rattle.sfm_assign.specs.Spread.{LeadsTo, AreLedTo, LeadsToRoom, IsAnswer, AreAnswers, AreTold, answer_at, IsSettled, Waits, IsSpread, IsJoin, IsWider}
 use Rattle.sfm_assign.specs.declared.spread.Answer.{Answer}
 use Rattle.sfm_assign.specs.declared.spread.Answer.TheVariants.{Room, Full}
 
@@ -294,3 +294,9 @@ module _ (n : ℕ) (whos slots : List ℕ) (y rooms : List ℤ) where
     led_told : (b : Answer) (s : List Bool) → IsAnswer n whos slots y rooms u b → b ≡ Full s → AreLedTo n whos slots y rooms u s
     led_told Room s told is = absurd (room_not_full is)
     led_told (Full t) s told is = rw (← same_set is) told
+
+-- something more is told
+pub told_more : (whos slots : List ℕ) (y rooms : List ℤ) (answers : List (Option Answer)) (g : ℕ) (a : Answer) → AreTold whos slots y rooms answers → g < length answers → IsAnswer (length answers) whos slots y rooms g a → AreTold whos slots y rooms (set answers g (Some a))
+told_more whos slots y rooms answers g a h lg is =
+    let long = length-set answers g (Some a) in
+    record { cells = rw long h.cells; same = h.same; known = rw long (answers_put (length answers) whos slots y rooms answers g a lg is h.known) }

@@ -1,6 +1,6 @@
 -- What a demand leads to: reachability in the residual graph of a split. A demand leads to another in one step where that has
 -- something on a slot that it could use itself. So one unit can move along each step, from its end to its beginning.
-use Rattle.std.specs.Prelude.{◌≡◌, ◌↔◌, ◌⊎◌, ℕ, ◌<◌, ◌≤◌, Bool, false, List, length, slice_index_or, slice_set, ℤ, pos, ◌≤ℤ◌, ◌<ℤ◌, Option, Some, None, MatchOption}
+use Rattle.std.specs.Prelude.{◌≡◌, ◌↔◌, ◌⊎◌, ℕ, ◌<◌, ◌≤◌, Bool, true, false, List, length, slice_index_or, ℤ, pos, ◌≤ℤ◌, ◌<ℤ◌, Option, Some, None, MatchOption}
 use Rattle.sfm_spec.specs.Sets.{Has, IsWithin, union, size}
 use Rattle.sfm_assign.specs.Splits.{amount_at}
 use Rattle.sfm_assign.specs.Cells.{label_at, AreCells}
@@ -87,16 +87,38 @@ pub record IsWider (found : List Bool) (queue : List ℕ) (found_after : List Bo
   pub kept : IsWithin found found_after
   pub first : (k : ℕ) → k < length queue → (k < length longer) × (label_at longer k ≡ label_at queue k)
 
--- each demand in the queue leads to exactly the demands of the set
-pub record AreTwins (n : ℕ) (whos slots : List ℕ) (y rooms : List ℤ) (set : List Bool) (queue : List ℕ) : Type 0 where
+-- ---- put together from what holders of slots lead to
+
+-- h has something on the slot s
+pub record Holds (whos slots : List ℕ) (y : List ℤ) (s h : ℕ) : Type 0 where
+  pub cell : ℕ
+  pub exists : cell < length whos
+  pub mine : label_at whos cell ≡ h
+  pub there : label_at slots cell ≡ s
+  pub some : pos 1 ≤ℤ amount_at y cell
+
+-- no step leaves the set of n demands, and none of their slots has room
+pub record IsFullClosed (n : ℕ) (whos slots : List ℕ) (y rooms : List ℤ) (set : List Bool) : Type 0 where
   pub places : length set ≡ n
-  pub led : (k : ℕ) → k < length queue → AreLedTo n whos slots y rooms (label_at queue k) set
+  pub closed : IsStepClosed whos slots y set
+  pub full : (e : ℕ) → e < length whos → Has set (label_at whos e) → amount_at rooms (label_at slots e) ≤ℤ pos 0
+
+-- the holders of the slot s and what they lead to are put to a set: all of it, and nothing else
+pub record AreTakenIn (n : ℕ) (whos slots : List ℕ) (y rooms : List ℤ) (s : ℕ) (before after : List Bool) : Type 0 where
+  pub kept : IsWithin before after
+  pub whole : IsFullClosed n whos slots y rooms after
+  pub holders : (h : ℕ) → Holds whos slots y s h → Has after h
+  pub led : (v : ℕ) → Has after v → Has before v ⊎ ((h : ℕ) × Holds whos slots y s h × LeadsTo whos slots y h v)
+
+-- a holder of the slot s leads to room
+abbrev pub HeldWithRoom : List ℕ → List ℕ → List ℤ → List ℤ → ℕ → Type 0
+HeldWithRoom whos slots y rooms s = (h : ℕ) × Holds whos slots y s h × LeadsToRoom whos slots y rooms h
+
+-- what is told of a demand is taken in: a set is put to another, or room is told
+abbrev pub IsPutTo : Answer → List Bool → List Bool → Bool → Type 0
+IsPutTo Room before after room = room ≡ true
+IsPutTo (Full set) before after room = (room ≡ false) × (after ≡ union before set)
 
 -- the demands that ask for something
 abbrev pub AreAsking : List ℤ → List Bool → Type 0
 AreAsking demands asking = (v : ℕ) → v < length demands → Has asking v ↔ (pos 0 <ℤ amount_at demands v)
-
--- the others of what u leads to; or where it leads to room, all others of those that ask for something
-abbrev pub IsWritten : Answer → List Bool → ℕ → List Bool → Type 0
-IsWritten Room asking u to = to ≡ slice_set asking u false
-IsWritten (Full set) asking u to = to ≡ slice_set set u false

@@ -1,29 +1,28 @@
-// A split that is kept, for all that is asked of it later. Who can lend to a demand is told by one search from it over the amounts
-// that are kept. Where it finds a slot with room, the demand can get one more as it is. Else what it finds are exactly those
-// that can give up one. What was told of a demand is remembered until the split changes, and later searches go no further where
-// they come to it. The amounts for other demands are found beside those that stand and then put in their place, so that want
+// A split that is kept, for all that is asked of it later. Who can lend to a demand is told by what it leads to over the amounts
+// that are kept. Where that is a slot with room, the demand can get one more as it is. Else those that it leads to are exactly
+// those that can give up one. What was told of a demand is remembered until the split changes, and later searches go no further
+// where they come to it. The amounts for other demands are found beside those that stand and then put in their place, so that want
 // of memory leaves these as they were. All this is done in memory that is kept with the split and used again, so that none is
 // taken once there is enough.
-ghost use Rattle.std.specs.Prelude.{◌≡◌, ◌↔◌, ℕ, ◌<◌, ◌≤◌, Bool, List, false, length, vec_len, slice_set, pos, ◌+ℤ◌, ◌≤ℤ◌, ◌<ℤ◌, IsTrue, IfOk, OnOk, OnErr, MatchResult};
+ghost use Rattle.std.specs.Prelude.{◌≡◌, ◌↔◌, ℕ, ◌<◌, ◌≤◌, true, false, length, vec_len, slice_set, pos, ◌+ℤ◌, ◌≤ℤ◌, ◌<ℤ◌, IsTrue, IfOk, OnOk, OnErr, MatchResult, MatchBool};
 ghost use Rattle.std.specs.List.{All};
 ghost use Rattle.sfm_spec.specs.Sets.{Has};
 ghost use Rattle.sfm_assign.specs.Splits.{amount_at, CanBeMet, IsAmount, IsCapacity, AreDemands};
-ghost use Rattle.sfm_assign.specs.Cells.{AreCells, AreMet};
+ghost use Rattle.sfm_assign.specs.Cells.{AreMet};
 ghost use Rattle.sfm_assign.specs.Search.{AreLeft};
 ghost use Rattle.sfm_assign.specs.Lowers.{IsCharge, AreSmall};
 ghost use Rattle.sfm_assign.specs.Ends.{IsAssignEnd};
 ghost use Rattle.sfm_assign.specs.Grown.{IsGrown};
 ghost use Rattle.sfm_assign.specs.Lenders.{IsLender, with_more, IsMostUpto};
-ghost use Rattle.sfm_assign.specs.Spread.{AreAnswers, AreTold, AreAsking, answer_at, IsKnown, IsWritten};
-ghost use Rattle.sfm_assign.specs.declared.spread.Answer.TheVariants.{Full};
+ghost use Rattle.sfm_assign.specs.Spread.{AreAnswers, AreAsking, LeadsToRoom, AreLedTo, answer_at};
 
 use crate::demand::Demand;
+use crate::gather::{Standing, gather};
 use crate::grown::raise_most;
 use crate::left::{Lefts, left_of};
 use crate::lower::shift;
 use crate::splitting::{AssignEnd, Shares, met_shares, settle};
-use crate::spread::{Answer, Spread, find_answer};
-use crate::twins::tell_twins;
+use crate::spread::{Answer, Spread};
 use crate::work::{Work, copy_list, write_zeros};
 use sfm_base::{Memory, Set};
 use std::alloc::Global;
@@ -90,20 +89,6 @@ fn write_others(set: &Set, u: usize, to: &mut Set)
     to.remove(u);
 }
 
-/// Writes the demands that can lend to u, by what is told of it and by who asks for something.
-fn write_answer(asking: &Set, answer: &Answer, u: usize, to: &mut Set)
-    requires sized { (set : List Bool) → answer.now ≡ Full set → length set ≡ length to.old }
-    requires each { length to.old ≡ length asking.now }
-    requires place { u < length asking.now }
-    ensures places { length to.new ≡ length to.old }
-    ensures written { IsWritten answer.now asking.now u to.new }
-{
-    match answer {
-        Answer::Room => write_others(asking, u, to),
-        Answer::Full(set) => write_others(set, u, to),
-    }
-}
-
 /// Makes room for what is told of n demands, of which nothing new is told.
 fn make_room(answers: &mut Vec<Option<Answer>>, n: usize) -> Result<(), Memory>
     requires { vec_len answers.old ≤ n }
@@ -113,32 +98,6 @@ fn make_room(answers: &mut Vec<Option<Answer>>, n: usize) -> Result<(), Memory>
 {
     for _ in answers.len()..n {
         answers.push(None)?;
-    }
-    Ok(())
-}
-
-/// Sees to it that the answer for the demand u is known.
-fn remember(
-    alloc: Global,
-    search: &mut Spread,
-    shares: &Shares,
-    rooms: &[i128],
-    answers: &mut Vec<Option<Answer>>,
-    u: usize,
-) -> Result<(), Memory>
-    requires told { AreTold shares.now.cells.whos.items shares.now.cells.slots.items shares.now.y.items rooms.now answers.old.items }
-    requires place { u < length answers.old.items }
-    ensures same { length answers.new.items ≡ length answers.old.items }
-    ensures told { AreTold shares.now.cells.whos.items shares.now.cells.slots.items shares.now.y.items rooms.now answers.new.items }
-    ensures known { OnOk result (IsKnown answers.new.items u) }
-{
-    if answers[u].is_some() {
-        return Ok(());
-    }
-    let answer = find_answer(alloc, search, shares, rooms, answers.as_slice(), u)?;
-    answers[u] = Some(answer);
-    if search.is_asked_more() {
-        tell_twins(alloc, search, shares, rooms, answers, u)?;
     }
     Ok(())
 }
@@ -157,7 +116,6 @@ fn forget(answers: &mut Vec<Option<Answer>>, search: &mut Spread)
     ensures same { vec_len answers.new ≡ vec_len answers.old }
     ensures none { (u : ℕ) → answer_at answers.new.items u ≡ None }
 {
-    search.count_anew();
     for u in 0..answers.len() {
         forget_one(&mut answers[u], search);
     }
@@ -254,8 +212,7 @@ impl Kept {
     ///
     /// # Errors
     ///
-    /// `Shortage` where there is no such split, `Memory` where there is none; demands, capacities and the split are then as they
-    /// were.
+    /// `Shortage` where there is no such split, `Memory` where there is none; demands and capacities are then as they were.
     pub fn bring(
         &mut self,
         alloc: Global,
@@ -334,7 +291,7 @@ impl Kept {
     ///
     /// # Errors
     ///
-    /// `Memory` where there is none; demands, capacities and the split are then as they were.
+    /// `Memory` where there is none; demands and capacities are then as they were.
     pub fn grow(&mut self, alloc: Global, u: usize, limit: i128) -> Result<i128, Memory>
         requires place { u < length self.old.demand.demands }
         requires low { pos 0 ≤ℤ limit }
@@ -362,7 +319,7 @@ impl Kept {
     ///
     /// # Errors
     ///
-    /// `Memory` where there is none; demands, capacities and the split are then as they were.
+    /// `Memory` where there is none; demands and capacities are then as they were.
     pub fn grow_from(
         &mut self,
         alloc: Global,
@@ -422,40 +379,48 @@ impl Kept {
         make_room(&mut self.answers, n)
     }
 
-    /// Sees to it that the answer for the demand u is known.
-    fn know(&mut self, alloc: Global, u: usize) -> Result<(), Memory>
+    /// Gathers what the demand u leads to, but for u itself; tells whether a slot with room is led to.
+    fn gather(&mut self, alloc: Global, u: usize, to: &mut Set) -> Result<bool, Memory>
         requires place { u < length self.old.demand.demands }
         requires places { vec_len self.old.answers ≡ length self.old.demand.demands }
+        requires room_for_answer { length to.old ≡ length self.old.demand.demands }
         ensures same { self.new.demand ≡ self.old.demand }
         ensures counted { self.new.counted ≡ self.old.counted }
-        ensures known { OnOk result (IsKnown self.new.answers.items u) }
+        ensures whos { self.new.shares.cells.whos.items ≡ self.old.shares.cells.whos.items }
+        ensures slots { self.new.shares.cells.slots.items ≡ self.old.shares.cells.slots.items }
+        ensures amounts { self.new.shares.y.items ≡ self.old.shares.y.items }
+        ensures rooms { self.new.rooms.items ≡ self.old.rooms.items }
+        ensures places { length to.new ≡ length to.old }
+        ensures led { IfOk result (λ room. MatchBool room
+            (LeadsToRoom self.old.shares.cells.whos.items self.old.shares.cells.slots.items self.old.shares.y.items self.old.rooms.items u)
+            (AreLedTo (length self.old.demand.demands) self.old.shares.cells.whos.items self.old.shares.cells.slots.items self.old.shares.y.items self.old.rooms.items u (slice_set to.new u true))) }
     {
         let _sound = self.demand.lists();
+        let split = Standing {
+            shares: &self.shares,
+            rooms: &self.rooms,
+        };
         let answers = &mut self.answers;
-        remember(
-            alloc,
-            &mut self.search,
-            &self.shares,
-            &self.rooms,
-            answers,
-            u,
-        )
+        gather(alloc, &mut self.search, &split, answers, u, to)
     }
 
-    /// Writes the demands that can lend to u, by the answer that is known.
-    fn write_lenders(&self, u: usize, to: &mut Set)
+    /// Writes the demands that can lend to u over what was gathered.
+    fn write_lenders(&self, room: bool, u: usize, to: &mut Set)
         requires place { u < length self.now.demand.demands }
-        requires known { IsKnown self.now.answers.items u }
         requires counted { IsTrue self.now.counted }
         requires room_for_answer { length to.old ≡ length self.now.demand.demands }
+        requires led { MatchBool room
+            (LeadsToRoom self.now.shares.cells.whos.items self.now.shares.cells.slots.items self.now.shares.y.items self.now.rooms.items u)
+            (AreLedTo (length self.now.demand.demands) self.now.shares.cells.whos.items self.now.shares.cells.slots.items self.now.shares.y.items self.now.rooms.items u (slice_set to.old u true)) }
         ensures places { length to.new ≡ length to.old }
         ensures reached { (v : ℕ) → v < length to.new → Has to.new v ↔ IsLender self.now.demand.demands self.now.demand.lists self.now.demand.capacities u v }
     {
         let _sound = self.demand.lists();
-        match &self.answers[u] {
-            Some(answer) => write_answer(&self.asking, answer, u, to),
-            None => unreachable!(),
+        if room {
+            write_others(&self.asking, u, to);
+            return;
         }
+        to.remove(u);
     }
 
     /// Writes the demands that can lend to u: those that ask for something and that, given one less, leave room for u to get
@@ -473,8 +438,8 @@ impl Kept {
     {
         self.count_asking();
         self.widen()?;
-        self.know(alloc, u)?;
-        self.write_lenders(u, to);
+        let room = self.gather(alloc, u, to)?;
+        self.write_lenders(room, u, to);
         Ok(())
     }
 }

@@ -6,6 +6,7 @@ mod cells;
 mod chains;
 mod demand;
 mod fill;
+mod gather;
 mod greatest;
 mod grown;
 mod kept;
@@ -18,7 +19,6 @@ mod search;
 mod split;
 mod splitting;
 mod spread;
-mod twins;
 mod work;
 
 pub use demand::Demand;

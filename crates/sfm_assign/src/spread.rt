@@ -31,17 +31,12 @@ pub(crate) enum Answer {
 #[derive(Drop)]
 pub(crate) struct Spread {
     from: usize,
-    pub found: Set,
-    pub marks: Set,
-    pub queue: Vec<usize>,
+    found: Set,
+    marks: Set,
+    queue: Vec<usize>,
     next: usize,
     idle: Vec<Set>,
-    /// How many searches there were in one split.
-    searches: usize,
 }
-
-/// So many searches in one split that more are to be expected.
-const MANY_SEARCHES: usize = 3;
 
 /// Makes a set the one with nothing of n places, in its own memory where it has as many.
 fn make_empty(alloc: Global, set: &mut Set, n: usize) -> Result<(), Memory>
@@ -101,18 +96,7 @@ impl Spread {
             queue: Vec::new(alloc),
             next: 0,
             idle: Vec::new(alloc),
-            searches: 0,
         })
-    }
-
-    /// Counts searches from 0 on, as the split has changed.
-    pub(crate) fn count_anew(&mut self) {
-        self.searches = 0;
-    }
-
-    /// Whether so many searches were in one split that more are to be expected.
-    pub(crate) fn is_asked_more(&self) -> bool {
-        self.searches >= MANY_SEARCHES
     }
 
     /// Keeps the memory of a set that is told no more. It is let go where there is no memory to note it.
@@ -136,7 +120,6 @@ impl Spread {
         self.queue.push(u)?;
         self.from = u;
         self.next = 0;
-        self.searches = self.searches.saturating_add(1);
         Ok(())
     }
 
@@ -146,38 +129,6 @@ impl Spread {
     {
         let other = empty_of(alloc, &mut self.idle, self.found.len())?;
         Ok(mem::replace(&mut self.found, other))
-    }
-
-    /// A copy of what was found, in memory of an idle set if there is one.
-    pub(crate) fn copy_found(&mut self, alloc: Global) -> Result<Set, Memory>
-        ensures found { self.new.found ≡ self.old.found }
-        ensures marks { self.new.marks ≡ self.old.marks }
-        ensures queue { self.new.queue.items ≡ self.old.queue.items }
-        ensures copy { IfOk result (λ s. s ≡ self.old.found) }
-    {
-        let mut set = empty_of(alloc, &mut self.idle, self.found.len())?;
-        set.union_with(&self.found);
-        Ok(set)
-    }
-
-    /// Begins a search against the steps, from the demand u that leads to the demands of a set, with m slots.
-    pub(crate) fn turn_back(
-        &mut self,
-        alloc: Global,
-        set: &Set,
-        m: usize,
-        u: usize,
-    ) -> Result<(), Memory>
-        ensures found { OnOk result (self.new.found ≡ set.now) }
-        ensures marks { OnOk result (self.new.marks ≡ empty_set m) }
-        ensures queue { OnOk result (self.new.queue.items ≡ u ∷ []) }
-    {
-        make_empty(alloc, &mut self.found, set.len())?;
-        self.found.union_with(set);
-        make_empty(alloc, &mut self.marks, m)?;
-        self.queue.clear();
-        self.queue.push(u)?;
-        Ok(())
     }
 
     /// Puts a demand into the queue.

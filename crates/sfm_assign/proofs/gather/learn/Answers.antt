@@ -2,8 +2,8 @@ use Rattle.std.proofs.Common.{◌≡◌, true, Option, Some, None, is_some, refl
 use Rattle.std.proofs.lemmas.Bool.{false≢true}
 use Rattle.std.proofs.lemmas.List.{get_or_read}
 use Rattle.sfm_assign.specs.declared.spread.Answer.{Answer}
-use Rattle.sfm_assign.proofs.Leading.{told_more}
-use Rattle.sfm_assign.proofs.kept.remember.Goals as goal
+use Rattle.sfm_assign.proofs.Spreads.{told_more}
+use Rattle.sfm_assign.proofs.gather.learn.Goals as goal
 
 some_of : (o : Option Answer) → is_some o ≡ true → (a : Answer) × (o ≡ Some a)
 some_of None t = absurd (false≢true t)
@@ -12,7 +12,7 @@ some_of (Some a) t = (a, refl)
 pub returns-then-is_some-clause-known : goal.returns-then-is_some-clause-known
 returns-then-is_some-clause-known c =
     let answers = c.args.answers.now in
-    let u = c.args.u in
+    let u = c.args.h in
     let (a, is) = some_of c.index.result.now (sym c.is_some.ensures ∙ c.if-is_some.true) in
     (a, sym (get_or_read answers.items u c.index.result.now c.requires.place c.index.ensures None) ∙ is)
 
@@ -22,14 +22,7 @@ find_answer-requires-clause-told c = rw c.as_slice.ensures.value c.requires.told
 pub find_answer-requires-clause-place : goal.find_answer-requires-clause-place
 find_answer-requires-clause-place c = rw c.as_slice.ensures.value c.requires.place
 
-pub tell_twins-requires-clause-told : goal.tell_twins-requires-clause-told
-tell_twins-requires-clause-told c =
-    let s = c.args.shares.now in
-    let a = c.in_ok-answer.answer in
-    told_more s.cells.whos.items s.cells.slots.items s.y.items c.args.rooms.now c.args.answers.now.items c.args.u a c.requires.told c.requires.place (rw c.as_slice.ensures.value at c.in_ok-answer.ensures)
-
-pub returns-else-is_asked_more-clause-told : goal.returns-else-is_asked_more-clause-told
-returns-else-is_asked_more-clause-told c =
-    let s = c.args.shares.now in
-    let a = c.in_ok-answer.answer in
-    told_more s.cells.whos.items s.cells.slots.items s.y.items c.args.rooms.now c.args.answers.now.items c.args.u a c.requires.told c.requires.place (rw c.as_slice.ensures.value at c.in_ok-answer.ensures)
+pub returns-clause-told : goal.returns-clause-told
+returns-clause-told c =
+    let s = c.args.split.now.shares.now in
+    told_more s.cells.whos.items s.cells.slots.items s.y.items c.args.split.now.rooms.now c.args.answers.now.items c.args.h c.in_ok-answer.answer c.requires.told c.requires.place (rw c.as_slice.ensures.value at c.in_ok-answer.ensures)

@@ -1,0 +1,68 @@
+use Rattle.std.proofs.Common.{◌≡◌, ◌<◌, pos, ◌≤ℤ◌, length, refl, arith, ◌∙◌}
+use Rattle.std.proofs.lemmas.Int.{ints}
+use Rattle.std.proofs.lemmas.List.{get_or_read}
+use Rattle.sfm_assign.specs.Splits.{amount_at}
+use Rattle.sfm_assign.specs.Cells.{label_at}
+use Rattle.sfm_assign.proofs.Linking.{pass_begun, pass_falls, pass_here, pass_more}
+use Rattle.sfm_assign.specs.Spread.{AreTakenIn}
+use Rattle.sfm_assign.proofs.Gathering.{IsDone, gathered_none, gathered_more, done_still}
+use Rattle.sfm_assign.proofs.gather.gather.Goals.{After-index-s}
+use Rattle.sfm_assign.proofs.gather.gather.Goals as goal
+
+-- the cell is one of u, and its slot is one of those there are
+slot : (c : After-index-s) → (c.in-Some.e < length c.args.split.now.shares.now.cells.whos.items) × (label_at c.args.split.now.shares.now.cells.whos.items c.in-Some.e ≡ c.args.u) × (c.index-s.result.now ≡ label_at c.args.split.now.shares.now.cells.slots.items c.in-Some.e) × (c.index-s.result.now < length c.args.split.now.rooms.now)
+slot c =
+    let cells = c.args.split.now.shares.now.cells in
+    let (lt, mine) = pass_here c.in-Some.is c.loop-next.invariant.passed in
+    let told = c.loop-next.invariant.told.cells in
+    let same = told.same in
+    let exist = told.exist c.in-Some.e lt in
+    let is : c.index-s.result.now ≡ label_at cells.slots.items c.in-Some.e = get_or_read cells.slots.items c.in-Some.e c.index-s.result.now (omega (arith, lt, same)) c.index-s.ensures 0 in
+    (lt, mine, is, omega (arith, is, exist))
+
+pub loop-next-init : goal.loop-next-init
+loop-next-init c =
+    let s = c.args.split.now.shares.now in
+    let n = length c.args.answers.now.items in
+    let rooms = c.args.split.now.rooms.now in
+    record {
+      same = refl;
+      told = c.requires.told;
+      gathered = rw (c.clear.ensures, c.requires.places) (gathered_none n s.cells.whos.items s.cells.slots.items s.y.items rooms c.args.u);
+      passed = rw c.head-next.ensures (pass_begun s.cells.whos.items s.cells.by_who.heads.items s.cells.by_who.nexts.items c.args.u _ s.cells.whos_chained);
+    }
+
+pub index-s-requires : goal.index-s-requires
+index-s-requires c =
+    let (lt, mine) = pass_here c.in-Some.is c.loop-next.invariant.passed in
+    let same = c.loop-next.invariant.told.cells.same in
+    omega (arith, lt, same)
+
+pub offset_bounds-split-s : goal.offset_bounds-split-s
+offset_bounds-split-s c = let (lt, mine, is, below) = slot (goal.at.offset_bounds-split-s c).After-index-s in omega (arith, below)
+
+pub loop-next-smaller : goal.loop-next-smaller
+loop-next-smaller c = pass_falls c.args.split.now.shares.now.cells.whos_chained c.in-Some.is c.loop-next.invariant.passed c.index-next.ensures
+
+pub loop-next-preserved : goal.loop-next-preserved
+loop-next-preserved c =
+    let s = c.args.split.now.shares.now in
+    let whos = s.cells.whos.items in
+    let slots = s.cells.slots.items in
+    let y = s.y.items in
+    let rooms = c.args.split.now.rooms.now in
+    let n = length c.args.answers.now.items in
+    let e = c.in-Some.e in
+    let before = c.loop-next.to in
+    let after = c.take_slot.new.to in
+    let inv = c.loop-next.invariant in
+    let (lt, mine, is, below) = slot (goal.at.loop-next-preserved c).After-index-s in
+    let so = c.take_slot.ensures in
+    let little : amount_at rooms c.index-s.result.now ≤ℤ pos 0 = (let f = c.if-split-s-gt0.false in omega (arith, ints, f)) in
+    let taken : AreTakenIn n whos slots y rooms (label_at slots e) before after = rw (← is, ← inv.same) (rw c.if-branch.false at c.in_ok-take_slot.ensures.taken) in
+    record {
+      same = so.same ∙ inv.same;
+      told = so.told;
+      gathered = rw (← mine) (gathered_more n whos slots y rooms e before after lt (rw mine inv.gathered) taken);
+      passed = pass_more s.cells.whos_chained c.in-Some.is inv.passed (IsDone n whos slots y rooms after) c.index-next.ensures (λ f done. done_still n whos slots y rooms before after f taken.kept done) (record { full = rw (← is) little; holders = taken.holders });
+    }

@@ -1,0 +1,151 @@
+// What a demand leads to, put together from what is told of those that hold its slots. All that have something on one slot lead to
+// each other, so one of them tells for the slot; and a demand leads to what the holders of its slots lead to, and to no other.
+// So a search is made for holders alone, and few are: a dense graph has many edges and few vertices.
+ghost use Rattle.std.specs.Prelude.{◌≡◌, ℕ, ◌<◌, Bool, List, false, true, length, slice_set, IfOk, OnOk, MatchOption, MatchBool};
+ghost use Rattle.sfm_assign.specs.Spread.{AreTold, IsKnown, AreLedTo, LeadsToRoom, Holds, IsFullClosed, AreTakenIn, HeldWithRoom, IsPutTo};
+ghost use Rattle.sfm_assign.specs.declared.spread.Answer.TheVariants.{Full};
+ghost use Rattle.sfm_assign.specs.declared.spread.Answer.{Answer};
+
+use crate::splitting::Shares;
+use crate::spread::{Answer, Spread, find_answer};
+use sfm_base::{Memory, Set};
+use std::alloc::Global;
+
+/// A split as it stands: the amounts on its cells, and what its slots have left.
+#[derive(Clone, Copy)]
+pub(crate) struct Standing<'a> {
+    pub shares: &'a Shares,
+    pub rooms: &'a [i128],
+}
+
+/// Sees to it that the answer for the demand h is known.
+fn learn(
+    alloc: Global,
+    at: &mut Spread,
+    split: &Standing,
+    answers: &mut Vec<Option<Answer>>,
+    h: usize,
+) -> Result<(), Memory>
+    requires told { AreTold split.now.shares.now.cells.whos.items split.now.shares.now.cells.slots.items split.now.shares.now.y.items split.now.rooms.now answers.old.items }
+    requires place { h < length answers.old.items }
+    ensures same { length answers.new.items ≡ length answers.old.items }
+    ensures told { AreTold split.now.shares.now.cells.whos.items split.now.shares.now.cells.slots.items split.now.shares.now.y.items split.now.rooms.now answers.new.items }
+    ensures known { OnOk result (IsKnown answers.new.items h) }
+{
+    if answers[h].is_some() {
+        return Ok(());
+    }
+    let answer = find_answer(alloc, at, split.shares, split.rooms, answers.as_slice(), h)?;
+    answers[h] = Some(answer);
+    Ok(())
+}
+
+/// A demand that has something on the slot s, if there is one.
+fn holder_of(shares: &Shares, s: usize) -> Option<usize>
+    requires same { length shares.now.y.items ≡ length shares.now.cells.whos.items }
+    requires each { length shares.now.cells.slots.items ≡ length shares.now.cells.whos.items }
+    ensures { MatchOption result ((h : ℕ) → Holds shares.now.cells.whos.items shares.now.cells.slots.items shares.now.y.items s h → ⊥) (Holds shares.now.cells.whos.items shares.now.cells.slots.items shares.now.y.items s) }
+{
+    let mut next = shares.cells.by_slot.head(s);
+    while let Some(f) = next {
+        if shares.y[f] > 0 {
+            return Some(shares.cells.whos[f]);
+        }
+        next = shares.cells.by_slot.nexts[f];
+    }
+    None
+}
+
+/// Puts what is told to a set, or tells room.
+fn put_told(answer: &Answer, to: &mut Set) -> bool
+    requires { (set : List Bool) → answer.now ≡ Full set → length set ≡ length to.old }
+    ensures places { length to.new ≡ length to.old }
+    ensures put { IsPutTo answer.now to.old to.new result }
+{
+    match answer {
+        Answer::Room => true,
+        Answer::Full(set) => {
+            to.union_with(set);
+            false
+        }
+    }
+}
+
+/// Takes in what the holder h of the slot s leads to, if it was not found before; tells whether that has room.
+fn take_in(split: &Standing, answers: &[Option<Answer>], s: usize, h: usize, to: &mut Set) -> bool
+    requires told { AreTold split.now.shares.now.cells.whos.items split.now.shares.now.cells.slots.items split.now.shares.now.y.items split.now.rooms.now answers.now }
+    requires known { IsKnown answers.now h }
+    requires place { h < length answers.now }
+    requires holds { Holds split.now.shares.now.cells.whos.items split.now.shares.now.cells.slots.items split.now.shares.now.y.items s h }
+    requires whole { IsFullClosed (length answers.now) split.now.shares.now.cells.whos.items split.now.shares.now.cells.slots.items split.now.shares.now.y.items split.now.rooms.now to.old }
+    ensures places { length to.new ≡ length to.old }
+    ensures taken { MatchBool result (HeldWithRoom split.now.shares.now.cells.whos.items split.now.shares.now.cells.slots.items split.now.shares.now.y.items split.now.rooms.now s) (AreTakenIn (length answers.now) split.now.shares.now.cells.whos.items split.now.shares.now.cells.slots.items split.now.shares.now.y.items split.now.rooms.now s to.old to.new) }
+{
+    if to.contains(h) {
+        return false;
+    }
+    match &answers[h] {
+        Some(answer) => put_told(answer, to),
+        None => unreachable!(),
+    }
+}
+
+/// Takes in the holders of the slot s and what they lead to; tells whether that has room.
+fn take_slot(
+    alloc: Global,
+    at: &mut Spread,
+    split: &Standing,
+    answers: &mut Vec<Option<Answer>>,
+    s: usize,
+    to: &mut Set,
+) -> Result<bool, Memory>
+    requires told { AreTold split.now.shares.now.cells.whos.items split.now.shares.now.cells.slots.items split.now.shares.now.y.items split.now.rooms.now answers.old.items }
+    requires whole { IsFullClosed (length answers.old.items) split.now.shares.now.cells.whos.items split.now.shares.now.cells.slots.items split.now.shares.now.y.items split.now.rooms.now to.old }
+    ensures same { length answers.new.items ≡ length answers.old.items }
+    ensures places { length to.new ≡ length to.old }
+    ensures told { AreTold split.now.shares.now.cells.whos.items split.now.shares.now.cells.slots.items split.now.shares.now.y.items split.now.rooms.now answers.new.items }
+    ensures taken { IfOk result (λ room. MatchBool room
+        (HeldWithRoom split.now.shares.now.cells.whos.items split.now.shares.now.cells.slots.items split.now.shares.now.y.items split.now.rooms.now s)
+        (AreTakenIn (length answers.old.items) split.now.shares.now.cells.whos.items split.now.shares.now.cells.slots.items split.now.shares.now.y.items split.now.rooms.now s to.old to.new)) }
+{
+    let Some(h) = holder_of(split.shares, s) else {
+        return Ok(false);
+    };
+    learn(alloc, at, split, answers, h)?;
+    Ok(take_in(split, answers.as_slice(), s, h, to))
+}
+
+/// Gathers what the demand u leads to, but for u itself, of which nothing is told; tells whether a slot with room is led to, and
+/// what is gathered is then of no use.
+pub(crate) fn gather(
+    alloc: Global,
+    at: &mut Spread,
+    split: &Standing,
+    answers: &mut Vec<Option<Answer>>,
+    u: usize,
+    to: &mut Set,
+) -> Result<bool, Memory>
+    requires told { AreTold split.now.shares.now.cells.whos.items split.now.shares.now.cells.slots.items split.now.shares.now.y.items split.now.rooms.now answers.old.items }
+    requires place { u < length answers.old.items }
+    requires places { length to.old ≡ length answers.old.items }
+    ensures same { length answers.new.items ≡ length answers.old.items }
+    ensures places { length to.new ≡ length to.old }
+    ensures told { AreTold split.now.shares.now.cells.whos.items split.now.shares.now.cells.slots.items split.now.shares.now.y.items split.now.rooms.now answers.new.items }
+    ensures led { IfOk result (λ room. MatchBool room
+        (LeadsToRoom split.now.shares.now.cells.whos.items split.now.shares.now.cells.slots.items split.now.shares.now.y.items split.now.rooms.now u)
+        (AreLedTo (length answers.old.items) split.now.shares.now.cells.whos.items split.now.shares.now.cells.slots.items split.now.shares.now.y.items split.now.rooms.now u (slice_set to.new u true))) }
+{
+    to.clear();
+    let mut next = split.shares.cells.by_who.head(u);
+    while let Some(e) = next {
+        let s = split.shares.cells.slots[e];
+        if split.rooms[s] > 0 {
+            return Ok(true);
+        }
+        if take_slot(alloc, at, split, answers, s, to)? {
+            return Ok(true);
+        }
+        next = split.shares.cells.by_who.nexts[e];
+    }
+    Ok(false)
+}
