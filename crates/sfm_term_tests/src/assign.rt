@@ -1,6 +1,6 @@
 // Small demands over a few slots, in tables: how they are split, or that they ask for too much; and of a split that is kept, what
 // each step answers. All is worked by hand, and a row costs no proof.
-ghost use Rattle.std.specs.Prelude.{◌≡◌, ◌↔◌, ◌<◌, ◌≤◌, length, slice_set, pos, IsTrue};
+ghost use Rattle.std.specs.Prelude.{◌≡◌, ◌↔◌, ◌<◌, ◌≤◌, [], ◌∷◌, ◌++◌, length, slice_set, pos, IsTrue, IfOk};
 ghost use Rattle.std.specs.List.{All};
 ghost use Rattle.sfm_assign.specs.Splits.{IsAmount, IsCapacity};
 
@@ -63,6 +63,29 @@ fn nothing_asked(rt: &impl Abort, alloc: Global, capacities: &[i128]) -> Result<
     })
 }
 
+/// Whether one more demand of some slots can be asked for.
+fn may_ask(amounts: &[i128], slots: usize, amount: i128, list: &[usize]) -> bool
+    ensures few { IsTrue result → length amounts.now < 256 }
+    ensures amount { IsTrue result → IsAmount amount }
+    ensures exist { IsTrue result → All (λ s. s < slots) list.now }
+{
+    amounts.len() < 256 && 0 <= amount && amount <= MOST_AMOUNT && are_below(list, slots)
+}
+
+/// Demands and one more.
+fn pushed(alloc: Global, demand: Demand, amount: i128, list: &[usize]) -> Result<Demand, Memory>
+    requires few { length demand.demands < 256 }
+    requires amount { IsAmount amount }
+    requires exist { All (λ s. s < length demand.capacities) list.now }
+    ensures amounts { IfOk result (λ r. r.demands ≡ demand.demands ++ amount ∷ []) }
+    ensures slots { IfOk result (λ r. r.capacities ≡ demand.capacities) }
+{
+    let list = Vec::from_slice(alloc, list)?;
+    let mut demand = demand;
+    demand.push(amount, list)?;
+    Ok(demand)
+}
+
 /// These demands and one more.
 fn asked_more(
     rt: &impl Abort,
@@ -71,15 +94,13 @@ fn asked_more(
     amount: i128,
     list: &[usize],
 ) -> Result<Asked, Memory> {
+    assert!(rt; may_ask(&asked.amounts, asked.slots, amount, list));
     let Asked {
-        mut demand,
+        demand,
         mut amounts,
         slots,
     } = asked;
-    assert!(rt; amounts.len() < 256);
-    assert!(rt; 0 <= amount && amount <= MOST_AMOUNT);
-    assert!(rt; are_below(list, slots));
-    demand.push(amount, Vec::from_slice(alloc, list)?)?;
+    let demand = pushed(alloc, demand, amount, list)?;
     amounts.push(amount)?;
     Ok(Asked {
         demand,
@@ -134,14 +155,25 @@ fn has_rows(split: &Split, rows: &[&[i128]]) -> bool {
     true
 }
 
+/// Asserts how demands are split.
+fn has_split(
+    rt: &impl Abort,
+    alloc: Global,
+    asking: &Asking,
+    rows: &[&[i128]],
+) -> Result<(), Memory> {
+    let asked = asked_of(rt, alloc, asking)?;
+    match assign(alloc, &asked.demand) {
+        Ok(split) => assert!(rt; has_rows(&split, rows)),
+        Err(_) => panic!(rt; "no split"),
+    }
+    Ok(())
+}
+
 #[test]
 fn splits(rt: HostRuntime) -> Result<(), Fail> {
     for row in &SPLITS {
-        let asked = asked_of(&rt, rt.alloc(), &row.0)?;
-        match assign(rt.alloc(), &asked.demand) {
-            Ok(split) => assert!(rt; has_rows(&split, row.1)),
-            Err(_) => panic!(rt; "no split"),
-        }
+        has_split(&rt, rt.alloc(), &row.0, row.1)?;
     }
     Ok(())
 }
@@ -182,30 +214,32 @@ fn is_shortage(end: &AssignEnd, n: usize, members: &[usize]) -> bool {
     }
 }
 
-#[test]
-fn shortages(rt: HostRuntime) -> Result<(), Fail> {
-    for row in &SHORTAGES {
-        let asked = asked_of(&rt, rt.alloc(), &row.0)?;
-        match assign(rt.alloc(), &asked.demand) {
-            Ok(_) => panic!(rt; "a split"),
-            Err(end) => assert!(rt; is_shortage(&end, asked.amounts.len(), row.1)),
-        }
+/// Whether there is an end, a shortage of so many demands, with each of these.
+fn is_short(end: Option<AssignEnd>, n: usize, members: &[usize]) -> bool {
+    match end {
+        Some(end) => is_shortage(&end, n, members),
+        None => false,
     }
+}
+
+/// Asserts that demands have no split, and that none is kept, since each set that asks for too much has these.
+fn has_shortage(
+    rt: &impl Abort,
+    alloc: Global,
+    asking: &Asking,
+    members: &[usize],
+) -> Result<(), Memory> {
+    let asked = asked_of(rt, alloc, asking)?;
+    let n = asked.amounts.len();
+    assert!(rt; is_short(assign(alloc, &asked.demand).err(), n, members));
+    assert!(rt; is_short(Kept::new(alloc, asked.demand).err(), n, members));
     Ok(())
 }
 
 #[test]
-fn no_split_is_kept_of_too_much(rt: HostRuntime) -> Result<(), Fail> {
+fn shortages(rt: HostRuntime) -> Result<(), Fail> {
     for row in &SHORTAGES {
-        let Asked {
-            demand,
-            amounts,
-            ..
-        } = asked_of(&rt, rt.alloc(), &row.0)?;
-        match Kept::new(rt.alloc(), demand) {
-            Ok(_) => panic!(rt; "a split"),
-            Err(end) => assert!(rt; is_shortage(&end, amounts.len(), row.1)),
-        }
+        has_shortage(&rt, rt.alloc(), &row.0, row.1)?;
     }
     Ok(())
 }
@@ -253,12 +287,24 @@ fn most_asked(
     most_of(alloc, &asked.demand, u)
 }
 
+/// Asserts the most of a demand of that number.
+fn has_most(
+    rt: &impl Abort,
+    alloc: Global,
+    asking: &Asking,
+    u: usize,
+    wanted: i128,
+) -> Result<(), Memory> {
+    let asked = asked_of(rt, alloc, asking)?;
+    let found = most_asked(rt, alloc, &asked, u)?;
+    assert!(rt; found == Some(wanted));
+    Ok(())
+}
+
 #[test]
 fn most_of_one(rt: HostRuntime) -> Result<(), Fail> {
     for row in &MOSTS {
-        let asked = asked_of(&rt, rt.alloc(), &row.0)?;
-        let found = most_asked(&rt, rt.alloc(), &asked, row.1)?;
-        assert_eq!(rt; found, Some(row.2));
+        has_most(&rt, rt.alloc(), &row.0, row.1, row.2)?;
     }
     Ok(())
 }
@@ -324,19 +370,31 @@ fn has_only(set: &Set, members: &[usize]) -> bool {
     set.size() == members.len() && has_all(set, set.len(), members)
 }
 
-/// Asserts which demands can lend to one.
+/// Whether these demands can lend to one, and no others.
 fn reaches(
     rt: &impl Abort,
     alloc: Global,
     held: &mut Held,
     u: usize,
     lenders: &[usize],
-) -> Result<(), Memory> {
+) -> Result<bool, Memory> {
     assert!(rt; u < held.amounts.len());
     let mut to = Set::whole(alloc, held.amounts.len())?;
     held.kept.reach(alloc, u, &mut to)?;
-    assert!(rt; has_only(&to, lenders));
-    Ok(())
+    Ok(has_only(&to, lenders))
+}
+
+/// Whether a split can be brought to other amounts and capacities.
+fn may_bring(held: &Held, amounts: &[i128], capacities: &[i128]) -> bool
+    ensures sized { IsTrue result → length amounts.now ≡ length held.now.amounts.items }
+    ensures slots { IsTrue result → length capacities.now ≡ held.now.slots }
+    ensures amounts { IsTrue result → All IsAmount amounts.now }
+    ensures bounded { IsTrue result → All IsCapacity capacities.now }
+{
+    amounts.len() == held.amounts.len()
+        && capacities.len() == held.slots
+        && are_amounts(amounts)
+        && are_capacities(capacities)
 }
 
 /// Brings a split to other amounts and capacities.
@@ -347,17 +405,22 @@ fn bring(
     amounts: &[i128],
     capacities: &[i128],
 ) -> Result<(), AssignEnd> {
-    assert!(rt; amounts.len() == held.amounts.len());
-    assert!(rt; capacities.len() == held.slots);
-    assert!(rt; are_amounts(amounts));
-    assert!(rt; are_capacities(capacities));
+    assert!(rt; may_bring(held, amounts, capacities));
     held.kept.bring(alloc, amounts, capacities)?;
     held.amounts.copy_from_slice(amounts);
     Ok(())
 }
 
-/// Asserts by how much a demand is raised.
-fn grows(
+/// Whether a split can't be brought to so many demands: each set that asks for too much has these.
+fn is_lack(found: &Result<(), AssignEnd>, n: usize, members: &[usize]) -> bool {
+    match found {
+        Ok(()) => false,
+        Err(end) => is_shortage(end, n, members),
+    }
+}
+
+/// Raises a demand up to a limit, and tells by how much.
+fn grow(
     rt: &impl Abort,
     alloc: Global,
     held: &mut Held,
@@ -376,32 +439,26 @@ fn grows(
     Ok(more)
 }
 
-/// Takes a step, and asserts what it answers.
-fn take(rt: &impl Abort, alloc: Global, held: &mut Held, step: &Step) -> Result<(), Memory> {
+/// Takes a step, and says whether it answers what it is to answer.
+fn answers(rt: &impl Abort, alloc: Global, held: &mut Held, step: Step) -> Result<bool, Memory> {
     match step {
-        Step::Reach(u, lenders) => reaches(rt, alloc, held, *u, lenders)?,
+        Step::Reach(u, lenders) => reaches(rt, alloc, held, u, lenders),
         Step::Bring(amounts, capacities) => {
-            let end = bring(rt, alloc, held, amounts, capacities);
-            assert!(rt; end.is_ok());
+            Ok(bring(rt, alloc, held, amounts, capacities).is_ok())
         }
         Step::Lack(amounts, capacities, members) => {
-            match bring(rt, alloc, held, amounts, capacities) {
-                Ok(()) => panic!(rt; "a split"),
-                Err(end) => assert!(rt; is_shortage(&end, amounts.len(), members)),
-            }
+            let found = bring(rt, alloc, held, amounts, capacities);
+            Ok(is_lack(&found, amounts.len(), members))
         }
-        Step::Grow(u, limit, more) => {
-            let found = grows(rt, alloc, held, *u, *limit)?;
-            assert!(rt; found == *more);
-        }
+        Step::Grow(u, limit, more) => Ok(grow(rt, alloc, held, u, limit)? == more),
     }
-    Ok(())
 }
 
 /// Takes steps one after another.
 fn take_all(rt: &impl Abort, alloc: Global, held: &mut Held, steps: &[Step]) -> Result<(), Memory> {
     for step in steps {
-        take(rt, alloc, held, step)?;
+        let good = answers(rt, alloc, held, *step)?;
+        assert!(rt; good);
     }
     Ok(())
 }
@@ -488,11 +545,21 @@ const KEPT: [(Asking, &[Step]); 9] = [
     ),
 ];
 
+/// Takes steps with the split of the demands of a row.
+fn take_with(
+    rt: &impl Abort,
+    alloc: Global,
+    asking: &Asking,
+    steps: &[Step],
+) -> Result<(), Memory> {
+    let mut held = held_of(rt, alloc, asking)?;
+    take_all(rt, alloc, &mut held, steps)
+}
+
 #[test]
 fn splits_that_are_kept(rt: HostRuntime) -> Result<(), Fail> {
     for row in &KEPT {
-        let mut held = held_of(&rt, rt.alloc(), &row.0)?;
-        take_all(&rt, rt.alloc(), &mut held, row.1)?;
+        take_with(&rt, rt.alloc(), &row.0, row.1)?;
     }
     Ok(())
 }
@@ -516,12 +583,27 @@ const TOO_MUCH: [Step; 2] = [
     Step::Reach(0, &[1, 2]),
 ];
 
+/// Takes those steps with a split and its copy.
+fn take_by_turns(
+    rt: &impl Abort,
+    alloc: Global,
+    first: &mut Held,
+    other: &mut Held,
+) -> Result<(), Memory> {
+    take_all(rt, alloc, other, &WITH_A_COPY)?;
+    take_all(rt, alloc, first, &AFTER_A_COPY)?;
+    take_all(rt, alloc, other, &TOO_MUCH)
+}
+
+/// Takes those steps with a split and a new copy of it.
+fn take_with_a_copy(rt: &impl Abort, alloc: Global, first: &mut Held) -> Result<(), Memory> {
+    let mut other = copied(alloc, first)?;
+    take_by_turns(rt, alloc, first, &mut other)
+}
+
 #[test]
 fn a_copy_is_brought_to_other_demands(rt: HostRuntime) -> Result<(), Fail> {
     let mut first = held_of(&rt, rt.alloc(), &IN_A_ROW)?;
-    let mut other = copied(rt.alloc(), &first)?;
-    take_all(&rt, rt.alloc(), &mut other, &WITH_A_COPY)?;
-    take_all(&rt, rt.alloc(), &mut first, &AFTER_A_COPY)?;
-    take_all(&rt, rt.alloc(), &mut other, &TOO_MUCH)?;
+    take_with_a_copy(&rt, rt.alloc(), &mut first)?;
     Ok(())
 }

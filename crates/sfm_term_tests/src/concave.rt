@@ -1,10 +1,11 @@
 // Concave functions and ranks of uniform matroids, with answers worked by hand, and the refusals of numbers that rise.
-use crate::facts::{has_facts, try_table};
+use crate::facts::{ONE_OF_TWO, has_facts};
 use sfm_concave::{Concave, ConcaveEnd, Uniform};
 use sfm_kind::Kind;
 use std::test::Fail;
 
-const TERMS: [(&str, &str); 4] = [
+/// Terms of these kinds, and what each answers.
+pub(crate) const TERMS: [(&str, &str); 4] = [
     (
         "concave 4 7 8 : a b c",
         "size 8
@@ -49,25 +50,8 @@ const TERMS: [(&str, &str); 4] = [
         reach 0 2
         reach 1 0",
     ),
-    (
-        "rank 3 uniform 1 : a b",
-        "places 0 1
-        size 3
-        values 0 3 3 3
-        factor 2
-        start 6 0
-        not 7 -1
-        base 6 0
-        room 1 0 6
-        reach 1 1",
-    ),
+    ("rank 3 uniform 1 : a b", ONE_OF_TWO),
 ];
-
-#[test]
-fn terms(rt: HostRuntime) -> Result<(), Fail> {
-    try_table(&rt, rt.alloc(), &TERMS)?;
-    Ok(())
-}
 
 const CAPPED: &str = "values 0 1000000000000000000 1000000000000000000 2000000000000000000";
 

@@ -17,12 +17,34 @@ use crate::numbers::numbers_of;
 use crate::trial::{
     At, has_base, has_places, has_reach, has_room, has_size, has_values, part, starts,
 };
+use crate::{concave, graphs, laminar, simple, slots};
 use sfm_base::Memory;
 use sfm_kind::{Instance, Kind};
 use sfm_law::Term;
 use sfm_text::read_pieces;
 use std::alloc::Global;
 use std::process::Abort;
+use std::test::Fail;
+
+/// The terms of each kind.
+const TABLES: [&[(&str, &str)]; 5] = [
+    &simple::TERMS,
+    &concave::TERMS,
+    &laminar::TERMS,
+    &graphs::TERMS,
+    &slots::TERMS,
+];
+
+/// What a term of two places answers that is worth 3 once it has one of them.
+pub(crate) const ONE_OF_TWO: &str = "places 0 1
+    size 3
+    values 0 3 3 3
+    factor 2
+    start 6 0
+    not 7 -1
+    base 6 0
+    room 1 0 6
+    reach 1 1";
 
 /// The factor and the vector that the lines before told.
 #[derive(Drop)]
@@ -159,14 +181,18 @@ fn have_facts(rt: &impl Abort, alloc: Global, kinds: &[Kind], lines: &str) -> Re
 }
 
 /// Asserts what a table tells: the lines of terms, each with what the term is to answer.
-pub(crate) fn try_table(
-    rt: &impl Abort,
-    alloc: Global,
-    table: &[(&str, &str)],
-) -> Result<(), Memory> {
+fn try_table(rt: &impl Abort, alloc: Global, table: &[(&str, &str)]) -> Result<(), Memory> {
     for row in table {
         let instance = instance_of(rt, alloc, row.0);
         have_facts(rt, alloc, instance.terms(), row.1)?;
+    }
+    Ok(())
+}
+
+#[test]
+fn terms(rt: HostRuntime) -> Result<(), Fail> {
+    for table in &TABLES {
+        try_table(&rt, rt.alloc(), table)?;
     }
     Ok(())
 }

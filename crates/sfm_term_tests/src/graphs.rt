@@ -1,6 +1,6 @@
 // Ranks of graphic matroids, worked by hand: loops, edges side by side, a path, a triangle, and a square whose edges come in an
 // order that joins two labels; and terms whose vertices have numbers with gaps between them.
-use crate::facts::{has_facts, try_table};
+use crate::facts::{ONE_OF_TWO, has_facts};
 use sfm_base::Memory;
 use sfm_kind::Kind;
 use sfm_matroid::Graphic;
@@ -8,7 +8,8 @@ use std::alloc::Global;
 use std::process::Abort;
 use std::test::Fail;
 
-const TERMS: [(&str, &str); 4] = [
+/// Terms of these kinds, and what each answers.
+pub(crate) const TERMS: [(&str, &str); 4] = [
     (
         "rank 5 graphic : e=u-v a=v-w c=w-u",
         "places 4 0 2
@@ -43,61 +44,47 @@ const TERMS: [(&str, &str); 4] = [
         reach 1 5
         reach 2 0",
     ),
+    ("rank 3 graphic : a=u-v b=v-u", ONE_OF_TWO),
+];
+
+/// Three edges by their ends, and what a term answers that is worth 5 for each of their rank: a loop, and two edges side by side;
+/// and the edges of a path, one of them at the greatest number of a vertex.
+const THREE_EDGES: [(&[(u32, u32)], &str); 2] = [
     (
-        "rank 3 graphic : a=u-v b=v-u",
-        "places 0 1
-        size 3
-        values 0 3 3 3
+        &[(7, 7), (3, 9), (9, 3)],
+        "size 5
+        ranks 0 0 1 1 1 1 1 1
+        values 0 0 5 5 5 5 5 5
         factor 2
-        start 6 0
-        not 7 -1
-        base 6 0
-        room 1 0 6
-        reach 1 1",
+        start 0 10 0",
+    ),
+    (
+        &[(16_777_215, 0), (0, 5), (6, 5)],
+        "size 15
+        ranks 0 1 1 2 1 2 2 3
+        values 0 5 5 10 5 10 10 15
+        factor 2
+        start 10 10 10",
     ),
 ];
 
-#[test]
-fn terms(rt: HostRuntime) -> Result<(), Fail> {
-    try_table(&rt, rt.alloc(), &TERMS)?;
-    Ok(())
-}
-
-/// A term of three elements that is worth 5 for each of its rank.
-fn three_edges(rt: &impl Abort, alloc: Global, ends: &[(u32, u32)]) -> Result<Kind, Memory> {
+/// The term of three such edges.
+fn three_edges(rt: &impl Abort, alloc: Global, ends: &[(u32, u32)]) -> Result<Graphic, Memory> {
     assert!(rt; ends.len() == 3);
-    Ok(Kind::Graphic(Graphic::new(alloc, &[0, 1, 2], 5, ends)?))
+    Graphic::new(alloc, &[0, 1, 2], 5, ends)
 }
 
-/// A loop, and two edges side by side.
-const SIDE_BY_SIDE: [(u32, u32); 3] = [(7, 7), (3, 9), (9, 3)];
-
-const LOOPS_AND_EDGES: &str = "size 5
-    ranks 0 0 1 1 1 1 1 1
-    values 0 0 5 5 5 5 5 5
-    factor 2
-    start 0 10 0";
-
-#[test]
-fn loops_and_edges_side_by_side(rt: HostRuntime) -> Result<(), Fail> {
-    let kind = three_edges(&rt, rt.alloc(), &SIDE_BY_SIDE)?;
-    has_facts(&rt, rt.alloc(), &kind, LOOPS_AND_EDGES)?;
-    Ok(())
+/// Asserts what a row tells.
+fn has_edges(rt: &impl Abort, alloc: Global, row: &(&[(u32, u32)], &str)) -> Result<(), Memory> {
+    let kind = Kind::Graphic(three_edges(rt, alloc, row.0)?);
+    has_facts(rt, alloc, &kind, row.1)
 }
 
-/// The edges of a path, one of them at the greatest number of a vertex.
-const IN_A_LINE: [(u32, u32); 3] = [(16_777_215, 0), (0, 5), (6, 5)];
-
-const PATH: &str = "size 15
-    ranks 0 1 1 2 1 2 2 3
-    values 0 5 5 10 5 10 10 15
-    factor 2
-    start 10 10 10";
-
 #[test]
-fn paths(rt: HostRuntime) -> Result<(), Fail> {
-    let kind = three_edges(&rt, rt.alloc(), &IN_A_LINE)?;
-    has_facts(&rt, rt.alloc(), &kind, PATH)?;
+fn edges_by_their_ends(rt: HostRuntime) -> Result<(), Fail> {
+    for row in &THREE_EDGES {
+        has_edges(&rt, rt.alloc(), row)?;
+    }
     Ok(())
 }
 
@@ -105,11 +92,10 @@ fn paths(rt: HostRuntime) -> Result<(), Fail> {
 const FOUR: [(u32, u32); 4] = [(7, 7), (3, 9), (9, 3), (9, 5)];
 
 /// The term that is worth 2 for each of their rank.
-fn with_a_loop(rt: &impl Abort, alloc: Global) -> Result<Kind, Memory> {
+fn with_a_loop(rt: &impl Abort, alloc: Global) -> Result<Graphic, Memory> {
     let ends = FOUR.as_slice();
     assert!(rt; ends.len() == 4);
-    let term = Graphic::new(alloc, &[0, 1, 2, 3], 2, ends)?;
-    Ok(Kind::Graphic(term))
+    Graphic::new(alloc, &[0, 1, 2, 3], 2, ends)
 }
 
 const WITH_A_LOOP: &str = "size 4
@@ -128,7 +114,7 @@ const WITH_A_LOOP: &str = "size 4
 
 #[test]
 fn exchanges_by_cuts(rt: HostRuntime) -> Result<(), Fail> {
-    let kind = with_a_loop(&rt, rt.alloc())?;
+    let kind = Kind::Graphic(with_a_loop(&rt, rt.alloc())?);
     has_facts(&rt, rt.alloc(), &kind, WITH_A_LOOP)?;
     Ok(())
 }

@@ -2,7 +2,7 @@
 ghost use Rattle.std.specs.Prelude.{◌<◌, ◌^◌, ◌≤ℤ◌, pos};
 
 use crate::numbers::NO;
-use crate::trial::part;
+use crate::trial::value_at;
 use sfm_base::Memory;
 use sfm_kind::{Instance, Kind, is_name};
 use sfm_law::Term;
@@ -12,6 +12,9 @@ use std::process::Abort;
 use std::test::Fail;
 
 const MOST_SIZE: i128 = 1_000_000_000_000_000_000;
+
+/// The names of the elements.
+const NAMES: [&str; 2] = ["a", "b"];
 
 /// Adds an element with a new name.
 fn add_name(rt: &impl Abort, instance: &mut Instance, name: &[u8]) -> Result<(), Memory> {
@@ -34,12 +37,10 @@ fn sum_at<T: Term>(
     terms: &[T],
     number: usize,
 ) -> Result<i128, Memory> {
-    let s = part(alloc, 2, number)?;
     let mut sum = 0i128;
     for term in terms {
-        assert_eq!(rt; term.elements().len(), 2);
-        let value = term.value(alloc, &s)?.unwrap_or(NO);
-        sum = sum.saturating_add(value);
+        assert!(rt; term.elements().len() == 2);
+        sum = sum.saturating_add(value_at(alloc, term, number)?);
     }
     Ok(sum)
 }
@@ -53,26 +54,30 @@ fn has_sums(
 ) -> Result<(), Memory> {
     for (number, sum) in sums.iter().enumerate() {
         let found = sum_at(rt, alloc, instance.terms(), number)?;
-        assert_eq!(rt; found, *sum);
+        assert!(rt; found == *sum);
     }
     Ok(())
 }
 
-/// The elements a and b, with weights -3 and 2 and a cut of 4.
-fn weight_and_cut(rt: &impl Abort, alloc: Global) -> Result<Instance, Memory> {
-    let mut instance = with_two_names(rt, alloc)?;
-    add(rt, &mut instance, weight_of(alloc)?)?;
-    add(rt, &mut instance, Kind::Cut(Cut::new(4, 0, 1)))?;
-    Ok(instance)
+/// Adds the elements a and b.
+fn add_names(rt: &impl Abort, instance: &mut Instance) -> Result<(), Memory> {
+    for name in &NAMES {
+        add_name(rt, instance, name.as_bytes())?;
+    }
+    Ok(())
 }
 
 /// The elements a and b.
 fn with_two_names(rt: &impl Abort, alloc: Global) -> Result<Instance, Memory> {
     let mut instance = Instance::new(alloc);
-    for name in ["a", "b"] {
-        add_name(rt, &mut instance, name.as_bytes())?;
-    }
+    add_names(rt, &mut instance)?;
     Ok(instance)
+}
+
+/// Adds weights -3 and 2 and a cut of 4.
+fn add_terms(rt: &impl Abort, alloc: Global, instance: &mut Instance) -> Result<(), Memory> {
+    add(rt, instance, weight_of(alloc)?)?;
+    add(rt, instance, Kind::Cut(Cut::new(4, 0, 1)))
 }
 
 /// The weights -3 and 2.
@@ -102,39 +107,40 @@ fn has_room_for(instance: &Instance, places: usize, size: i128) -> bool
         && !instance.has_room(1, size + 1)
 }
 
+/// Whether an instance has the counts of a weight and a cut, and room for what they leave.
+fn has_counts(instance: &Instance) -> bool {
+    instance.terms().len() == 2
+        && instance.support() == 4
+        && instance.total_size() == 9
+        && has_room_for(instance, 16_380, MOST_SIZE - 9)
+}
+
+/// Whether an instance takes a condition of an element that it lacks.
+fn takes_more(instance: &Instance) -> bool {
+    instance.takes(&Kind::Need(Need::new(0, 2)))
+}
+
+/// The sums of the values of a weight and a cut.
+const SUMS: [i128; 4] = [0, 1, 2, -1];
+
 #[test]
 fn a_weight_and_a_cut(rt: HostRuntime) -> Result<(), Fail> {
-    let instance = weight_and_cut(&rt, rt.alloc())?;
-    assert!(rt; has_names(&instance));
-    assert!(rt; instance.place_of(b"c").is_none());
-    has_sums(&rt, rt.alloc(), &instance, &[0, 1, 2, -1])?;
-    has_counts(&rt, &instance);
+    let mut instance = with_two_names(&rt, rt.alloc())?;
+    add_terms(&rt, rt.alloc(), &mut instance)?;
+    assert!(rt; has_names(&instance) && instance.place_of(b"c").is_none());
+    assert!(rt; has_counts(&instance) && !takes_more(&instance));
+    has_sums(&rt, rt.alloc(), &instance, &SUMS)?;
     Ok(())
 }
 
-/// Asserts the counts of a weight and a cut, and what they leave room for.
-fn has_counts(rt: &impl Abort, instance: &Instance) {
-    let counts = (
-        instance.terms().len(),
-        instance.support(),
-        instance.total_size(),
-    );
-    assert_eq!(rt; counts, (2, 4, 9));
-    assert!(rt; has_room_for(instance, 16_380, MOST_SIZE - 9));
-    assert!(rt; !instance.takes(&Kind::Need(Need::new(0, 2))));
-}
-
-/// The elements a and b, and a condition.
-fn lone_need(rt: &impl Abort, alloc: Global) -> Result<Instance, Memory> {
-    let mut instance = with_two_names(rt, alloc)?;
-    add(rt, &mut instance, Kind::Need(Need::new(0, 1)))?;
-    Ok(instance)
-}
+/// The sums of the values of a condition.
+const SUMS_OF_A_NEED: [i128; 4] = [0, NO, 0, 0];
 
 #[test]
 fn a_lone_need(rt: HostRuntime) -> Result<(), Fail> {
-    let instance = lone_need(&rt, rt.alloc())?;
+    let mut instance = with_two_names(&rt, rt.alloc())?;
+    add(&rt, &mut instance, Kind::Need(Need::new(0, 1)))?;
     assert!(rt; instance.total_size() == 0);
-    has_sums(&rt, rt.alloc(), &instance, &[0, NO, 0, 0])?;
+    has_sums(&rt, rt.alloc(), &instance, &SUMS_OF_A_NEED)?;
     Ok(())
 }

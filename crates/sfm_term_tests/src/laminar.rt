@@ -1,11 +1,11 @@
 // Ranks of laminar matroids, with answers worked by hand, and the refusal of groups that cross.
-use crate::facts::try_table;
 use sfm_base::Memory;
 use sfm_laminar::{Groups, Laminar, LaminarEnd};
 use std::alloc::Global;
 use std::test::Fail;
 
-const TERMS: [(&str, &str); 2] = [
+/// Terms of these kinds, and what each answers.
+pub(crate) const TERMS: [(&str, &str); 2] = [
     (
         "rank 3 laminar : a b c ; 2 a b c ; 1 a b",
         "places 0 1 2
@@ -39,12 +39,6 @@ const TERMS: [(&str, &str); 2] = [
         reach 1 0",
     ),
 ];
-
-#[test]
-fn terms(rt: HostRuntime) -> Result<(), Fail> {
-    try_table(&rt, rt.alloc(), &TERMS)?;
-    Ok(())
-}
 
 /// The ends of groups of 0 and 1, and of 1 and 2, beside a third place.
 fn crossing(alloc: Global) -> Result<Option<LaminarEnd>, Memory> {

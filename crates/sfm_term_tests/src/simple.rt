@@ -1,9 +1,9 @@
 // Each kind of weights, cuts, conditions, covers and tables, with answers worked by hand, and the refusals of tables.
-use crate::facts::try_table;
+use crate::facts::ONE_OF_TWO;
 use sfm_simple::{Table, TableEnd};
-use std::test::Fail;
 
-const TERMS: [(&str, &str); 7] = [
+/// Terms of these kinds, and what each answers.
+pub(crate) const TERMS: [(&str, &str); 7] = [
     (
         "weight a:-3 b:2",
         "places 0 1
@@ -73,18 +73,7 @@ const TERMS: [(&str, &str); 7] = [
         reach 1 5
         reach 2 3",
     ),
-    (
-        "cover 3 a b",
-        "places 0 1
-        size 3
-        values 0 3 3 3
-        factor 2
-        start 6 0
-        not 7 -1
-        base 6 0
-        room 1 0 6
-        reach 1 1",
-    ),
+    ("cover 3 a b", ONE_OF_TWO),
     (
         "table 0 3 2 4 1 3 3 4 : a b c",
         "size 4
@@ -114,12 +103,6 @@ const TERMS: [(&str, &str); 7] = [
         reach 1 1",
     ),
 ];
-
-#[test]
-fn terms(rt: HostRuntime) -> Result<(), Fail> {
-    try_table(&rt, rt.alloc(), &TERMS)?;
-    Ok(())
-}
 
 #[test]
 fn tables_refused(rt: HostRuntime) {

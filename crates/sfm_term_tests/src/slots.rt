@@ -3,7 +3,7 @@
 ghost use Rattle.std.specs.Prelude.{◌↔◌, ◌<◌, ◌^◌, IsTrue};
 ghost use Rattle.std.specs.List.{All};
 
-use crate::facts::{has_facts, try_table};
+use crate::facts::{ONE_OF_TWO, has_facts};
 use sfm_base::Memory;
 use sfm_kind::Kind;
 use sfm_matroid::{Entries, Transversal};
@@ -21,7 +21,8 @@ const MORE_SLOTS: &str = "places 0 1 2 3
     room 2 1 3
     room 2 0 0";
 
-const TERMS: [(&str, &str); 4] = [
+/// Terms of these kinds, and what each answers.
+pub(crate) const TERMS: [(&str, &str); 4] = [
     (
         "rank 2 transversal : a=s b=s c=t",
         "size 4
@@ -49,26 +50,9 @@ const TERMS: [(&str, &str); 4] = [
         reach 1 0
         reach 2 3",
     ),
-    (
-        "rank 3 transversal : a=s b=s",
-        "places 0 1
-        size 3
-        values 0 3 3 3
-        factor 2
-        start 6 0
-        not 7 -1
-        base 6 0
-        room 1 0 6
-        reach 1 1",
-    ),
+    ("rank 3 transversal : a=s b=s", ONE_OF_TWO),
     ("rank 3 transversal : a=s,t,u,v,w b=s c=s d=s,t", MORE_SLOTS),
 ];
-
-#[test]
-fn terms(rt: HostRuntime) -> Result<(), Fail> {
-    try_table(&rt, rt.alloc(), &TERMS)?;
-    Ok(())
-}
 
 /// Whether each number is one of a slot.
 fn are_slots(slots: &[u32]) -> bool
@@ -77,13 +61,34 @@ fn are_slots(slots: &[u32]) -> bool
     slots.iter().all(|v| *v < 16_777_216)
 }
 
+/// Puts an entry with these slots at the end.
+fn push_slots(
+    rt: &impl Abort,
+    alloc: Global,
+    entries: &mut Entries,
+    slots: &[u32],
+) -> Result<(), Memory> {
+    assert!(rt; are_slots(slots));
+    entries.push(Vec::from_slice(alloc, slots)?)
+}
+
+/// Puts entries with these slots at the end.
+fn push_all(
+    rt: &impl Abort,
+    alloc: Global,
+    entries: &mut Entries,
+    lists: &[&[u32]],
+) -> Result<(), Memory> {
+    for slots in lists {
+        push_slots(rt, alloc, entries, slots)?;
+    }
+    Ok(())
+}
+
 /// Entries with these slots.
 fn entries_of(rt: &impl Abort, alloc: Global, lists: &[&[u32]]) -> Result<Entries, Memory> {
     let mut entries = Entries::new(alloc);
-    for slots in lists {
-        assert!(rt; are_slots(slots));
-        entries.push(Vec::from_slice(alloc, slots)?)?;
-    }
+    push_all(rt, alloc, &mut entries, lists)?;
     Ok(entries)
 }
 
@@ -91,22 +96,20 @@ fn entries_of(rt: &impl Abort, alloc: Global, lists: &[&[u32]]) -> Result<Entrie
 const FOUR: [&[u32]; 4] = [&[3, 900], &[3, 3], &[900], &[]];
 
 /// The term of four elements.
-fn four_elements(rt: &impl Abort, alloc: Global) -> Result<Kind, Memory> {
+fn four_elements(rt: &impl Abort, alloc: Global) -> Result<Transversal, Memory> {
     let entries = entries_of(rt, alloc, &FOUR)?;
     assert!(rt; entries.len() == 4);
-    let term = Transversal::new(alloc, &[4, 0, 2, 9], 5, entries)?;
-    Ok(Kind::Transversal(term))
+    Transversal::new(alloc, &[4, 0, 2, 9], 5, entries)
 }
 
 /// The entries of two elements with one slot.
 const TWO: [&[u32]; 2] = [&[7], &[7]];
 
 /// The term of two elements.
-fn two_elements(rt: &impl Abort, alloc: Global) -> Result<Kind, Memory> {
+fn two_elements(rt: &impl Abort, alloc: Global) -> Result<Transversal, Memory> {
     let entries = entries_of(rt, alloc, &TWO)?;
     assert!(rt; entries.len() == 2);
-    let term = Transversal::new(alloc, &[0, 1], 2, entries)?;
-    Ok(Kind::Transversal(term))
+    Transversal::new(alloc, &[0, 1], 2, entries)
 }
 
 const WITHOUT_SLOTS: &str = "places 4 0 2 9
@@ -118,7 +121,7 @@ const WITHOUT_SLOTS: &str = "places 4 0 2 9
 
 #[test]
 fn places_that_move_aside(rt: HostRuntime) -> Result<(), Fail> {
-    let kind = four_elements(&rt, rt.alloc())?;
+    let kind = Kind::Transversal(four_elements(&rt, rt.alloc())?);
     has_facts(&rt, rt.alloc(), &kind, WITHOUT_SLOTS)?;
     Ok(())
 }
@@ -127,16 +130,15 @@ fn places_that_move_aside(rt: HostRuntime) -> Result<(), Fail> {
 const FIVE_SLOTS: [&[u32]; 4] = [&[0, 1, 2, 3, 4], &[0], &[0], &[0, 1]];
 
 /// The term of four elements with all slots of each.
-fn with_all_slots(rt: &impl Abort, alloc: Global) -> Result<Kind, Memory> {
+fn with_all_slots(rt: &impl Abort, alloc: Global) -> Result<Transversal, Memory> {
     let entries = entries_of(rt, alloc, &FIVE_SLOTS)?;
     assert!(rt; entries.len() == 4);
-    let term = Transversal::new(alloc, &[0, 1, 2, 3], 3, entries)?;
-    Ok(Kind::Transversal(term))
+    Transversal::new(alloc, &[0, 1, 2, 3], 3, entries)
 }
 
 #[test]
 fn more_slots_than_elements(rt: HostRuntime) -> Result<(), Fail> {
-    let kind = with_all_slots(&rt, rt.alloc())?;
+    let kind = Kind::Transversal(with_all_slots(&rt, rt.alloc())?);
     has_facts(&rt, rt.alloc(), &kind, MORE_SLOTS)?;
     Ok(())
 }
@@ -147,7 +149,7 @@ const ONE_SLOT: &str = "base 0 2
 
 #[test]
 fn bases_of_one_slot(rt: HostRuntime) -> Result<(), Fail> {
-    let kind = two_elements(&rt, rt.alloc())?;
+    let kind = Kind::Transversal(two_elements(&rt, rt.alloc())?);
     has_facts(&rt, rt.alloc(), &kind, ONE_SLOT)?;
     Ok(())
 }

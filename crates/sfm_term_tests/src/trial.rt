@@ -3,7 +3,8 @@
 ghost use Rattle.std.specs.Prelude.{◌≡◌, ◌≢◌, ◌↔◌, ◌<◌, ◌^◌, ◌≤ℤ◌, length, pos, IsTrue, IfOk, OnOk};
 ghost use Rattle.std.specs.List.{All};
 ghost use Rattle.sfm_spec.specs.Bounds.{IsEntry, IsFactor};
-ghost use Rattle.sfm_spec.specs.Terms.{times, IsBase};
+ghost use Rattle.sfm_spec.specs.Terms.{times, IsBase, exchanged};
+ghost use Rattle.sfm_law.specs.Room.{IsWithinRoom};
 
 use crate::numbers::{NO, count_at};
 use sfm_base::{Memory, Set};
@@ -74,17 +75,30 @@ pub(crate) fn part(alloc: Global, k: usize, number: usize) -> Result<Set, Memory
     Ok(s)
 }
 
+/// Whether the elements of the places are these.
+fn are_places(elements: &[usize], places: &[i128]) -> bool {
+    for (element, place) in elements.iter().zip(places) {
+        if *element as i128 != *place {
+            return false;
+        }
+    }
+    elements.len() == places.len()
+}
+
 /// Asserts the elements of the places.
 pub(crate) fn has_places<T: Term>(rt: &impl Abort, term: &T, places: &[i128]) {
-    assert_eq!(rt; term.elements().len(), places.len());
-    for (element, place) in term.elements().iter().zip(places) {
-        assert_eq!(rt; *element as i128, *place);
-    }
+    assert!(rt; are_places(term.elements(), places));
 }
 
 /// Asserts the size.
 pub(crate) fn has_size<T: Term>(rt: &impl Abort, term: &T, size: &[i128]) {
-    assert_eq!(rt; [term.size()].as_slice(), size);
+    assert!(rt; size.len() == 1 && term.size() == size[0]);
+}
+
+/// The value of a part by its number.
+pub(crate) fn value_at<T: Term>(alloc: Global, term: &T, number: usize) -> Result<i128, Memory> {
+    let s = part(alloc, term.elements().len(), number)?;
+    Ok(term.value(alloc, &s)?.unwrap_or(NO))
 }
 
 /// Asserts the values of the parts.
@@ -94,13 +108,21 @@ pub(crate) fn has_values<T: Term>(
     term: &T,
     values: &[i128],
 ) -> Result<(), Memory> {
-    let k = term.elements().len();
     for (number, value) in values.iter().enumerate() {
-        let s = part(alloc, k, number)?;
-        let found = term.value(alloc, &s)?.unwrap_or(NO);
-        assert_eq!(rt; found, *value, "part {number}");
+        let found = value_at(alloc, term, number)?;
+        assert!(rt; found == *value, "part {number}");
     }
     Ok(())
+}
+
+/// The first base of q times a term.
+fn start_of<T: Term>(alloc: Global, term: &T, q: i128) -> Result<Vec<i128>, Memory>
+    requires factor { IsFactor q }
+    requires bounded { T.size_of term.now ≤ℤ pos (10 ^ 18) }
+{
+    let mut x = vec![in alloc; 1; term.elements().len()]?;
+    term.start(alloc, q, x.as_mut_slice())?;
+    Ok(x)
 }
 
 /// Asserts the first base of q times a term.
@@ -111,9 +133,8 @@ pub(crate) fn starts<T: Term>(
     at: At,
 ) -> Result<(), Memory> {
     assert!(rt; is_factor(at.q) && is_small(term));
-    let mut x = vec![in alloc; 1; term.elements().len()]?;
-    term.start(alloc, at.q, x.as_mut_slice())?;
-    assert_eq!(rt; x.as_slice(), at.x);
+    let x = start_of(alloc, term, at.q)?;
+    assert!(rt; x.as_slice() == at.x);
     Ok(())
 }
 
@@ -156,6 +177,41 @@ pub(crate) fn has_base<T: Term>(
     Ok(())
 }
 
+/// The number of the part to which a place has room at a base.
+fn reach_at<T: Term>(alloc: Global, term: &T, at: Pair) -> Result<usize, Memory>
+    requires factor { IsFactor at.q }
+    requires entries { length at.x.now ≡ length (T.places term.now) }
+    requires bounded { T.size_of term.now ≤ℤ pos (10 ^ 18) }
+    requires small { All IsEntry at.x.now }
+    requires base { IsBase (times at.q (T.value_of term.now)) at.x.now }
+    requires from { at.u < length at.x.now }
+{
+    let mut to = part(alloc, at.x.len(), 5)?;
+    term.reach(alloc, at.q, at.x, at.u, &mut to)?;
+    Ok(number_of_part(&to))
+}
+
+/// The same by a note.
+fn reach_by_note<T: Term>(
+    alloc: Global,
+    term: &T,
+    at: Pair,
+    note: &mut T::Note,
+) -> Result<usize, Memory>
+    requires factor { IsFactor at.q }
+    requires entries { length at.x.now ≡ length (T.places term.now) }
+    requires bounded { T.size_of term.now ≤ℤ pos (10 ^ 18) }
+    requires small { All IsEntry at.x.now }
+    requires base { IsBase (times at.q (T.value_of term.now)) at.x.now }
+    requires noted { T.fits term.now note.old at.q at.x.now }
+    requires from { at.u < length at.x.now }
+    ensures noted { OnOk result (T.fits term.now note.new at.entry.q at.entry.x.now) }
+{
+    let mut to = part(alloc, at.x.len(), 6)?;
+    term.reach_by(alloc, at.q, at.x, note, at.u, &mut to)?;
+    Ok(number_of_part(&to))
+}
+
 /// Asserts that a note tells the row of u and the room of (u, v) at a base.
 fn tells<T: Term>(
     rt: &impl Abort,
@@ -174,22 +230,23 @@ fn tells<T: Term>(
     requires from { at.u < length at.x.now }
     requires onto { at.v < length at.x.now }
 {
-    let k = at.x.len();
-    let mut to = part(alloc, k, 5)?;
-    let mut told = part(alloc, k, 6)?;
-    term.reach(alloc, at.q, at.x, at.u, &mut to)?;
-    term.reach_by(alloc, at.q, at.x, note, at.u, &mut told)?;
-    for e in 0..k {
-        assert_eq!(rt; told.contains(e), to.contains(e), "{e} by a note");
-    }
+    let told = reach_by_note(alloc, term, at, note)?;
+    let number = reach_at(alloc, term, at)?;
+    assert!(rt; told == number);
+    let told = term.room_by(alloc, at.q, at.x, note, at.u, at.v)?;
     let room = term.room(alloc, at.q, at.x, at.u, at.v)?;
-    assert_eq!(rt; term.room_by(alloc, at.q, at.x, note, at.u, at.v)?, room);
+    assert!(rt; told == room);
     Ok(())
 }
 
-/// The room of two places at a base. Asserts what a note tells of them there, and at the base after as much as can be is exchanged
-/// between them.
-fn room_at<T: Term>(rt: &impl Abort, alloc: Global, term: &T, at: Pair) -> Result<Room, Memory>
+/// Asserts what a note that was brought up tells after an exchange.
+fn tells_behind<T: Term>(
+    rt: &impl Abort,
+    alloc: Global,
+    term: &T,
+    at: Pair,
+    a: i128,
+) -> Result<(), Memory>
     requires factor { IsFactor at.q }
     requires entries { length at.x.now ≡ length (T.places term.now) }
     requires bounded { T.size_of term.now ≤ℤ pos (10 ^ 18) }
@@ -198,27 +255,40 @@ fn room_at<T: Term>(rt: &impl Abort, alloc: Global, term: &T, at: Pair) -> Resul
     requires apart { at.u ≢ at.v }
     requires from { at.u < length at.x.now }
     requires onto { at.v < length at.x.now }
+    requires low { pos 0 ≤ℤ a }
+    requires high { a ≤ℤ pos (10 ^ 30) }
+    requires room { IsWithinRoom (times at.q (T.value_of term.now)) at.x.now at.u at.v a }
 {
-    let Pair { q, x, u, v } = at;
-    let mut first = term.note(alloc, q, x)?;
-    tells(rt, alloc, term, at, &mut first)?;
-    let room = term.room(alloc, q, x, u, v)?;
-    let Room::Upto(a) = room else {
-        return Ok(room);
-    };
-    assert!(rt; 0 <= a && a <= MOST_ENTRY);
-    let mut note = term.note(alloc, q, x)?;
-    term.moved(alloc, q, x, &mut note, u, v, a)?;
-    let mut y = Vec::from_slice(alloc, x)?;
-    exchange(term, q, &mut y, u, v, a);
+    let mut note = term.note(alloc, at.q, at.x)?;
+    term.moved(alloc, at.q, at.x, &mut note, at.u, at.v, a)?;
+    let mut y = Vec::from_slice(alloc, at.x)?;
+    exchange(term, at.q, &mut y, at.u, at.v, a);
     assert!(rt; are_entries(&y));
     let back = Pair {
-        q,
+        q: at.q,
         x: y.as_slice(),
-        u: v,
-        v: u,
+        u: at.v,
+        v: at.u,
     };
-    tells(rt, alloc, term, back, &mut note)?;
+    tells(rt, alloc, term, back, &mut note)
+}
+
+/// The room of two places at a base. Asserts that it is a base, and what a note tells of them there, and at the base after as much
+/// as can be is exchanged between them.
+fn room_at<T: Term>(rt: &impl Abort, alloc: Global, term: &T, at: Pair) -> Result<Room, Memory>
+    requires apart { at.u ≢ at.v }
+    requires from { at.u < length at.x.now }
+    requires onto { at.v < length at.x.now }
+{
+    let found = is_base(alloc, term, at.q, at.x)?;
+    assert!(rt; found);
+    let mut note = term.note(alloc, at.q, at.x)?;
+    tells(rt, alloc, term, at, &mut note)?;
+    let room = term.room(alloc, at.q, at.x, at.u, at.v)?;
+    if let Room::Upto(a) = room {
+        assert!(rt; 0 <= a && a <= MOST_ENTRY);
+        tells_behind(rt, alloc, term, at, a)?;
+    }
     Ok(room)
 }
 
@@ -250,8 +320,6 @@ pub(crate) fn has_room<T: Term>(
     let u = place_at(rt, numbers, 0, at.x.len());
     let v = place_at(rt, numbers, 1, at.x.len());
     assert!(rt; u != v);
-    let found = is_base(alloc, term, at.q, at.x)?;
-    assert!(rt; found);
     let pair = Pair {
         q: at.q,
         x: at.x,
@@ -259,28 +327,8 @@ pub(crate) fn has_room<T: Term>(
         v,
     };
     let room = room_at(rt, alloc, term, pair)?;
-    assert_eq!(rt; Some(&number_of(room)), numbers.get(2));
+    assert!(rt; numbers.len() == 3 && number_of(room) == numbers[2]);
     Ok(())
-}
-
-/// The number of the part to which a place has room at a base.
-fn reach_at<T: Term>(
-    alloc: Global,
-    term: &T,
-    q: i128,
-    x: &[i128],
-    u: usize,
-) -> Result<usize, Memory>
-    requires factor { IsFactor q }
-    requires entries { length x.now ≡ length (T.places term.now) }
-    requires bounded { T.size_of term.now ≤ℤ pos (10 ^ 18) }
-    requires small { All IsEntry x.now }
-    requires base { IsBase (times q (T.value_of term.now)) x.now }
-    requires from { u < length x.now }
-{
-    let mut to = part(alloc, x.len(), 5)?;
-    term.reach(alloc, q, x, u, &mut to)?;
-    Ok(number_of_part(&to))
 }
 
 /// The number of a part.
@@ -296,6 +344,20 @@ fn number_of_part(s: &Set) -> usize {
     number
 }
 
+/// The number of the part to which a place has room at a base. Asserts that it is one.
+fn reach_number<T: Term>(
+    rt: &impl Abort,
+    alloc: Global,
+    term: &T,
+    at: Pair,
+) -> Result<usize, Memory>
+    requires from { at.u < length at.x.now }
+{
+    let found = is_base(alloc, term, at.q, at.x)?;
+    assert!(rt; found);
+    reach_at(alloc, term, at)
+}
+
 /// Asserts the part to which a place has room at a base.
 pub(crate) fn has_reach<T: Term>(
     rt: &impl Abort,
@@ -305,9 +367,13 @@ pub(crate) fn has_reach<T: Term>(
     numbers: &[i128],
 ) -> Result<(), Memory> {
     let u = place_at(rt, numbers, 0, at.x.len());
-    let found = is_base(alloc, term, at.q, at.x)?;
-    assert!(rt; found);
-    let reached = reach_at(alloc, term, at.q, at.x, u)?;
-    assert_eq!(rt; reached, count_at(rt, numbers, 1));
+    let from = Pair {
+        q: at.q,
+        x: at.x,
+        u,
+        v: u,
+    };
+    let number = reach_number(rt, alloc, term, from)?;
+    assert!(rt; number == count_at(rt, numbers, 1));
     Ok(())
 }
