@@ -18,6 +18,8 @@ use std::alloc::Global;
 use std::process::Abort;
 use std::test::Fail;
 
+const CUT: &[u8] = b"sfm 1\nground a b\nweight a:-3 b:2\ncut 4 a b\nend\n";
+
 /// An instance as a text, and its terms over sets that are numbers.
 #[derive(Clone, Copy)]
 struct Small<'a> {
@@ -37,7 +39,12 @@ fn parts(set: u32, first: u32, second: u32) -> bool {
 }
 
 fn is_allowed(small: &Small, set: u32) -> bool {
-    small.needs.iter().all(|need| !parts(set, need.0, need.1))
+    for (first, second) in small.needs {
+        if parts(set, *first, *second) {
+            return false;
+        }
+    }
+    true
 }
 
 fn weight_of(small: &Small, set: u32) -> i64 {
@@ -109,11 +116,19 @@ fn all_members(blocks: &[Block]) -> u32 {
     number
 }
 
+/// Whether a set has or lacks each block so.
+fn is_closed(blocks: &[Block], set: u32) -> bool {
+    for block in blocks {
+        if !agrees(blocks, block, set) {
+            return false;
+        }
+    }
+    true
+}
+
 /// Whether a set is the union of the least and of a closed choice of blocks.
 fn is_closed_union(least: u32, blocks: &[Block], set: u32) -> bool {
-    least & !set == 0
-        && set & !(least | all_members(blocks)) == 0
-        && blocks.iter().all(|block| agrees(blocks, block, set))
+    least & !set == 0 && set & !(least | all_members(blocks)) == 0 && is_closed(blocks, set)
 }
 
 /// Whether the minimisers of all sets are the closed unions.
@@ -228,31 +243,6 @@ fn closed_choices_of_blocks_are_the_minimisers(rt: HostRuntime) -> Result<(), Fa
     Ok(())
 }
 
-/// The first bases of the terms.
-fn first_bases(alloc: Global, instance: &Instance) -> Result<Rows, Memory>
-    ensures bases { IfOk result (λ rows. AreBases (pos 1) (meanings kind_places kind_value instance.now.terms) rows) }
-    ensures small { IfOk result (λ rows. All (λ row. All IsEntry row) rows) }
-{
-    start_rows(alloc, instance.terms(), 1)
-}
-
-#[test]
-fn bases_that_do_not_prove_are_left_by_a_walk(rt: HostRuntime) -> Result<(), Fail> {
-    let alloc = rt.alloc();
-    let text = b"sfm 1\nground a b\nweight a:-3 b:2\ncut 4 a b\nend\n";
-    let instance = read_instance(alloc, text)?;
-    let bases = first_bases(alloc, &instance)?;
-    let told = certify(alloc, instance.terms(), instance.names_len(), 0, 1, &bases)?;
-    match told {
-        Certified::Proved(_) => assert!(rt; false),
-        Certified::NotOptimal { walk } => {
-            assert_eq!(rt; walk.first, 1);
-            assert_eq!(rt; walk.steps.as_slice(), [(0, 1)].as_slice());
-        }
-    }
-    Ok(())
-}
-
 /// Tries how many walks a minimum takes, and the row of the last term then.
 fn try_walks(
     rt: &impl Abort,
@@ -278,16 +268,31 @@ fn try_walks(
     Ok(())
 }
 
+/// Instances, how many walks their minimum takes, and the row of the last term then.
+const WALKS: [(&[u8], u64, &[i128]); 3] = [
+    (b"sfm 1\nground a b\nweight a:-3 b:2\nend\n", 0, &[-3, 2]),
+    (
+        b"sfm 1\nground a b\nweight a:-3 b:2\nneed a b\nend\n",
+        1,
+        &[2, -2],
+    ),
+    (CUT, 1, &[3, -3]),
+];
+
 #[test]
 fn walks_are_counted(rt: HostRuntime) -> Result<(), Fail> {
-    let alloc = rt.alloc();
-    let weight = b"sfm 1\nground a b\nweight a:-3 b:2\nend\n";
-    let need = b"sfm 1\nground a b\nweight a:-3 b:2\nneed a b\nend\n";
-    let cut = b"sfm 1\nground a b\nweight a:-3 b:2\ncut 4 a b\nend\n";
-    try_walks(&rt, alloc, weight, 0, &[-3, 2])?;
-    try_walks(&rt, alloc, need, 1, &[2, -2])?;
-    try_walks(&rt, alloc, cut, 1, &[3, -3])?;
+    for (text, walks, last) in &WALKS {
+        try_walks(&rt, rt.alloc(), text, *walks, last)?;
+    }
     Ok(())
+}
+
+/// The first bases of the terms.
+fn first_bases(alloc: Global, instance: &Instance) -> Result<Rows, Memory>
+    ensures bases { IfOk result (λ rows. AreBases (pos 1) (meanings kind_places kind_value instance.now.terms) rows) }
+    ensures small { IfOk result (λ rows. All (λ row. All IsEntry row) rows) }
+{
+    start_rows(alloc, instance.terms(), 1)
 }
 
 /// Whether each row is a base of its term.
@@ -318,24 +323,42 @@ fn bases_in(alloc: Global, instance: &Instance, text: &[u8]) -> Result<Option<Ro
     Ok(Some(solved.bases))
 }
 
-#[test]
-fn zero_as_the_base_of_a_cut_is_left_by_its_one_walk(rt: HostRuntime) -> Result<(), Fail> {
-    let alloc = rt.alloc();
-    let instance = read_instance(
-        alloc,
-        b"sfm 1\nground a b\nweight a:-3 b:2\ncut 4 a b\nend\n",
-    )?;
-    let text = b"answer 1\nminimum 0\nleast\ngreatest\nat 0/1\nbase 1 -3 2\nbase 2 0 0\nend\n";
-    let Some(bases) = bases_in(alloc, &instance, text)? else {
-        assert!(rt; false);
-        return Ok(());
-    };
-    match certify(alloc, instance.terms(), instance.names_len(), 0, 1, &bases)? {
+/// Tries that bases prove no minimum, and the one step of the walk that leaves them, from its first place.
+fn try_left(
+    rt: &impl Abort,
+    alloc: Global,
+    instance: &Instance,
+    bases: &Rows,
+    first: usize,
+    step: (usize, usize),
+) -> Result<(), Fail>
+    requires bases { AreBases (pos 1) (meanings kind_places kind_value instance.now.terms) bases.now }
+    requires small { All (λ row. All IsEntry row) bases.now }
+{
+    match certify(alloc, instance.terms(), instance.names_len(), 0, 1, bases)? {
         Certified::Proved(_) => assert!(rt; false),
         Certified::NotOptimal { walk } => {
-            assert_eq!(rt; walk.first, 0);
-            assert_eq!(rt; walk.steps.as_slice(), [(1, 1)].as_slice());
+            assert_eq!(rt; walk.first, first);
+            assert_eq!(rt; walk.steps.as_slice(), [step].as_slice());
         }
     }
     Ok(())
+}
+
+#[test]
+fn bases_that_do_not_prove_are_left_by_a_walk(rt: HostRuntime) -> Result<(), Fail> {
+    let instance = read_instance(rt.alloc(), CUT)?;
+    let bases = first_bases(rt.alloc(), &instance)?;
+    try_left(&rt, rt.alloc(), &instance, &bases, 1, (0, 1))
+}
+
+const ZERO: &[u8] = b"answer 1\nminimum 0\nleast\ngreatest\nat 0/1\nbase 1 -3 2\nbase 2 0 0\nend\n";
+
+#[test]
+fn zero_as_the_base_of_a_cut_is_left_by_its_one_walk(rt: HostRuntime) -> Result<(), Fail> {
+    let instance = read_instance(rt.alloc(), CUT)?;
+    match bases_in(rt.alloc(), &instance, ZERO)? {
+        Some(bases) => try_left(&rt, rt.alloc(), &instance, &bases, 0, (1, 1)),
+        None => panic!(rt; "no bases"),
+    }
 }
