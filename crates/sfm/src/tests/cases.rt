@@ -1,36 +1,58 @@
-// One call of the program over texts in memory.
+// Calls of the program over texts in memory. Each call of a test goes through `call`, so what `run` promises is met in one
+// proof.
 use crate::run::run;
-use sfm_io::{MemoryShelf, MemorySink};
-use std::alloc::Global;
+use sfm_base::Memory;
+use sfm_io::{MemoryShelf, MemorySink, Shelf};
+use std::alloc::{AllocError, Global};
 use std::process::Abort;
 use std::test::Fail;
 
-/// One call: its words, the texts of the files `first` and `second`, how they are read and how `out` takes bytes, and
-/// what must come.
+/// How a call reads and writes: in pieces of these sizes, with so much room on `out`, and with calls that fail, numbered
+/// from 1.
+#[derive(Clone, Copy)]
+pub struct Outside<'a> {
+    pub read_piece: usize,
+    pub failing_reads: &'a [usize],
+    pub room: usize,
+    pub write_piece: usize,
+    pub failing_writes: &'a [usize],
+    /// Those of `err`.
+    pub failing_says: &'a [usize],
+}
+
+/// Large pieces, room for every answer, and nothing fails.
+pub const SOUND: Outside = Outside {
+    read_piece: 65536,
+    failing_reads: &[],
+    room: 4_194_304,
+    write_piece: 65536,
+    failing_writes: &[],
+    failing_says: &[],
+};
+
+/// One call: its words, the texts of the files `first` and `second`, the outside, and what must come.
 #[derive(Clone, Copy)]
 pub struct Case<'a> {
     pub words: &'a [&'a str],
     pub first: &'a [u8],
     pub second: &'a [u8],
-    pub read_piece: usize,
-    pub failing_reads: &'a [usize],
-    pub write_piece: usize,
-    pub failing_writes: &'a [usize],
+    pub outside: &'a Outside<'a>,
     pub code: u8,
     pub out: &'a [u8],
     pub err: &'a [u8],
 }
 
-/// A call of `solve` that reads and writes in large pieces, and that nothing fails.
+pub const SOLVE: &[&str] = &["solve", "first"];
+
+pub const CHECK: &[&str] = &["check", "first", "second"];
+
+/// A call of `solve`, of which nothing fails.
 pub const fn solve<'a>(first: &'a [u8], code: u8, out: &'a [u8]) -> Case<'a> {
     Case {
-        words: &["solve", "first"],
+        words: SOLVE,
         first,
         second: b"",
-        read_piece: 65536,
-        failing_reads: &[],
-        write_piece: 65536,
-        failing_writes: &[],
+        outside: &SOUND,
         code,
         out,
         err: b"",
@@ -40,21 +62,75 @@ pub const fn solve<'a>(first: &'a [u8], code: u8, out: &'a [u8]) -> Case<'a> {
 /// The same of `check`.
 pub const fn check<'a>(first: &'a [u8], second: &'a [u8], code: u8, out: &'a [u8]) -> Case<'a> {
     Case {
-        words: &["check", "first", "second"],
+        words: CHECK,
+        first,
         second,
-        ..solve(first, code, out)
+        outside: &SOUND,
+        code,
+        out,
+        err: b"",
     }
 }
 
+/// What a call wrote, and its code.
+#[derive(Drop)]
+pub struct Ended {
+    pub out: MemorySink,
+    pub err: MemorySink,
+    pub code: u8,
+}
+
+/// One call over a shelf.
+pub fn call<S: Shelf>(
+    alloc: Global,
+    words: &[&str],
+    shelf: &mut S,
+    outside: &Outside,
+) -> Result<Ended, Memory> {
+    let piece = outside.write_piece.max(1);
+    let mut out = MemorySink::new(alloc, outside.room, piece, outside.failing_writes)?;
+    let mut err = MemorySink::new(alloc, 4096, 4096, outside.failing_says)?;
+    let code = run(alloc, words, shelf, &mut out, &mut err).code();
+    Ok(Ended { out, err, code })
+}
+
+/// A shelf with the texts of `first` and `second`.
+pub fn shelf_of(
+    alloc: Global,
+    first: &[u8],
+    second: &[u8],
+    outside: &Outside,
+) -> Result<MemoryShelf, Memory> {
+    let mut shelf = MemoryShelf::new(alloc, outside.read_piece.max(1), outside.failing_reads)?;
+    shelf.add("first", first)?;
+    shelf.add("second", second)?;
+    Ok(shelf)
+}
+
+/// One call over the two texts.
+fn called(alloc: Global, case: &Case) -> Result<Ended, Memory> {
+    let mut shelf = shelf_of(alloc, case.first, case.second, case.outside)?;
+    call(alloc, case.words, &mut shelf, case.outside)
+}
+
+/// Tries a call.
 pub fn try_case(rt: &impl Abort, alloc: Global, case: &Case) -> Result<(), Fail> {
-    let mut shelf = MemoryShelf::new(alloc, case.read_piece.max(1), case.failing_reads)?;
-    shelf.add("first", case.first)?;
-    shelf.add("second", case.second)?;
-    let mut out = MemorySink::new(alloc, 4096, case.write_piece.max(1), case.failing_writes)?;
-    let mut err = MemorySink::new(alloc, 4096, 4096, &[])?;
-    let status = run(alloc, case.words, &mut shelf, &mut out, &mut err);
-    assert_eq!(rt; out.taken(), case.out);
-    assert_eq!(rt; err.taken(), case.err);
-    assert_eq!(rt; status.code(), case.code);
+    let ended = called(alloc, case)?;
+    assert_eq!(rt; ended.out.taken(), case.out);
+    assert_eq!(rt; ended.err.taken(), case.err);
+    assert_eq!(rt; ended.code, case.code);
     Ok(())
+}
+
+/// What a call takes on `out` that ends with code 0 and says nothing on `err`.
+pub fn written(rt: &impl Abort, alloc: Global, case: &Case) -> Result<MemorySink, Fail> {
+    let ended = called(alloc, case)?;
+    assert!(rt; ended.err.taken().is_empty());
+    assert_eq!(rt; ended.code, 0);
+    Ok(ended.out)
+}
+
+/// The parts of a text between bytes of that kind. Behind the last such byte stands one more, mostly an empty one.
+pub fn parts_of<'a>(alloc: Global, text: &'a [u8], byte: u8) -> Result<Vec<&'a [u8]>, AllocError> {
+    text.split(|c| *c == byte).collect::<Vec<&[u8]>>(alloc)
 }

@@ -1,7 +1,5 @@
 // Verdicts on right files and on wrong ones, each by the first reason against it.
 use crate::tests::cases::{check, try_case};
-use std::alloc::Global;
-use std::process::Abort;
 use std::test::Fail;
 
 const WEIGHT: &[u8] = b"sfm 1\nground a b\nweight a:-3 b:2\nend\n";
@@ -21,20 +19,10 @@ const LONE: &[u8] = b"sfm 1\nground a\nweight a:-1\nrank 5 graphic : a=u-u\nend\
 
 const SHARED: &[u8] = b"sfm 1\nground a b\nweight a:-1 b:-3\nrank 2 transversal : a=t b=t\nend\n";
 
-/// Tries verdicts on answers of one instance: each row has the answer, the code and the line.
-fn try_verdicts(
-    rt: &impl Abort,
-    alloc: Global,
-    instance: &[u8],
-    rows: &[(&[u8], u8, &[u8])],
-) -> Result<(), Fail> {
-    for row in rows {
-        try_case(rt, alloc, &check(instance, row.0, row.1, row.2))?;
-    }
-    Ok(())
-}
+/// An answer, the code and the line.
+type Row = (&'static [u8], u8, &'static [u8]);
 
-const OVER_A_WEIGHT: [(&[u8], u8, &[u8]); 15] = [
+const OVER_A_WEIGHT: [Row; 15] = [
     (
         b"answer 1\nminimum -3\nleast a\ngreatest a\nslope -3/1 a\nslope 2/1 a b\nat 0/1\nbase 1 -3 2\nat -3/1\nbase 1 -3 2\nat 2/1\nbase 1 -3 2\nend\n",
         0,
@@ -104,12 +92,7 @@ const OVER_A_WEIGHT: [(&[u8], u8, &[u8]); 15] = [
     (b"", 1, b"invalid 1 grammar\n"),
 ];
 
-#[test]
-fn verdicts_over_a_weight(rt: HostRuntime) -> Result<(), Fail> {
-    try_verdicts(&rt, rt.alloc(), WEIGHT, &OVER_A_WEIGHT)
-}
-
-const OVER_A_CUT: [(&[u8], u8, &[u8]); 14] = [
+const OVER_A_CUT: [Row; 14] = [
     (
         b"answer 1\nminimum -2\nleast a b\ngreatest a b\nslope -1/2 a b\nat 0/1\nbase 1 -3 2\nbase 2 3 -3\nat -1/2\nbase 1 -6 4\nbase 2 5 -5\nend\n",
         1,
@@ -182,12 +165,7 @@ const OVER_A_CUT: [(&[u8], u8, &[u8]); 14] = [
     ),
 ];
 
-#[test]
-fn verdicts_over_a_cut(rt: HostRuntime) -> Result<(), Fail> {
-    try_verdicts(&rt, rt.alloc(), CUT, &OVER_A_CUT)
-}
-
-const OVER_BLOCKS: [(&[u8], u8, &[u8]); 8] = [
+const OVER_BLOCKS: [Row; 8] = [
     (
         b"answer 1\nminimum 0\nleast\ngreatest a b\nblock 1 b :\nblock 2 a : 1\nslope 0/1 a b\nat 0/1\nbase 1 0 0\nat 0/1\nbase 1 0 0\nend\n",
         0,
@@ -230,12 +208,7 @@ const OVER_BLOCKS: [(&[u8], u8, &[u8]); 8] = [
     ),
 ];
 
-#[test]
-fn verdicts_over_blocks(rt: HostRuntime) -> Result<(), Fail> {
-    try_verdicts(&rt, rt.alloc(), NEED, &OVER_BLOCKS)
-}
-
-const OVER_THREE: [(&[u8], u8, &[u8]); 7] = [
+const OVER_THREE: [Row; 7] = [
     (
         b"answer 1\nminimum -2\nleast c\ngreatest c\nslope -2/1 c\nslope 1/1 a b c\nat 0/1\nbase 1 1 1 -2\nat -2/1\nbase 1 1 1 -2\nat 1/1\nbase 1 1 1 -2\nend\n",
         0,
@@ -273,56 +246,44 @@ const OVER_THREE: [(&[u8], u8, &[u8]); 7] = [
     ),
 ];
 
-#[test]
-fn verdicts_over_three(rt: HostRuntime) -> Result<(), Fail> {
-    try_verdicts(&rt, rt.alloc(), THREE, &OVER_THREE)
-}
-
 const MIXED: &[u8] =
     b"sfm 1\nground a b c d\nneed a b\nweight a:-3 b:1 c:-1 d:5\ncover 1 c d\nend\n";
 
-const OVER_CONDITIONS_AND_NOTHING: [(&[u8], &[u8], u8, &[u8]); 5] = [
+const OVER_CONDITIONS: [Row; 3] = [
     (
-        MIXED,
         b"answer 1\nminimum -2\nleast a b\ngreatest a b c\nblock 1 c :\nslope -1/1 a b\nslope 0/1 a b c\nslope 5/1 a b c d\nat 0/1\nbase 1 1 -1\nbase 2 -3 1 -1 5\nbase 3 1 0\nat -1/1\nbase 1 2 -2\nbase 2 -3 1 -1 5\nbase 3 1 0\nat 0/1\nbase 1 1 -1\nbase 2 -3 1 -1 5\nbase 3 1 0\nat 5/1\nbase 1 0 0\nbase 2 -3 1 -1 5\nbase 3 1 0\nend\n",
         0,
         b"valid\n",
     ),
     (
-        MIXED,
         b"answer 1\nminimum -2\nleast a b c\ngreatest a b c\nslope -1/1 a b\nslope 0/1 a b c\nslope 5/1 a b c d\nat 0/1\nbase 1 1 -1\nbase 2 -3 1 -1 5\nbase 3 1 0\nat -1/1\nbase 1 2 -2\nbase 2 -3 1 -1 5\nbase 3 1 0\nat 0/1\nbase 1 1 -1\nbase 2 -3 1 -1 5\nbase 3 1 0\nat 5/1\nbase 1 0 0\nbase 2 -3 1 -1 5\nbase 3 1 0\nend\n",
         1,
         b"invalid 3 answer\n",
     ),
     (
-        MIXED,
         b"answer 1\nminimum -2\nleast a b\ngreatest a b c\nblock 1 c :\nslope -1/1 a b\nslope 0/1 a b c\nslope 5/1 a b c d\nat 0/1\nbase 1 0 0\nbase 2 -3 1 -1 5\nbase 3 1 0\nat -1/1\nbase 1 2 -2\nbase 2 -3 1 -1 5\nbase 3 1 0\nat 0/1\nbase 1 1 -1\nbase 2 -3 1 -1 5\nbase 3 1 0\nat 5/1\nbase 1 0 0\nbase 2 -3 1 -1 5\nbase 3 1 0\nend\n",
         1,
         b"invalid 9 unproved\n",
     ),
-    (
-        b"sfm 1\nground a b\nend\n",
-        b"answer 1\nminimum 0\nleast\ngreatest a b\nblock 1 a :\nblock 2 b :\nslope 0/1 a b\nat 0/1\nat 0/1\nend\n",
-        0,
-        b"valid\n",
-    ),
-    (
-        b"sfm 1\nground\nend\n",
-        b"answer 1\nminimum 0\nleast\ngreatest\nat 0/1\nend\n",
-        0,
-        b"valid\n",
-    ),
 ];
 
-#[test]
-fn verdicts_over_conditions_and_over_nothing(rt: HostRuntime) -> Result<(), Fail> {
-    for row in &OVER_CONDITIONS_AND_NOTHING {
-        try_case(&rt, rt.alloc(), &check(row.0, row.1, row.2, row.3))?;
-    }
-    Ok(())
-}
+const FREE: &[u8] = b"sfm 1\nground a b\nend\n";
 
-const OVER_A_RANK: [(&[u8], u8, &[u8]); 4] = [
+const OVER_FREE_PLACES: [Row; 1] = [(
+    b"answer 1\nminimum 0\nleast\ngreatest a b\nblock 1 a :\nblock 2 b :\nslope 0/1 a b\nat 0/1\nat 0/1\nend\n",
+    0,
+    b"valid\n",
+)];
+
+const EMPTY: &[u8] = b"sfm 1\nground\nend\n";
+
+const OVER_NO_PLACES: [Row; 1] = [(
+    b"answer 1\nminimum 0\nleast\ngreatest\nat 0/1\nend\n",
+    0,
+    b"valid\n",
+)];
+
+const OVER_A_RANK: [Row; 4] = [
     (
         b"answer 1\nminimum -2\nleast a b\ngreatest a b\nslope -1/1 a b\nat 0/1\nbase 1 -1 -3\nbase 2 1 1\nat -1/1\nbase 1 -1 -3\nbase 2 0 2\nend\n",
         0,
@@ -345,42 +306,52 @@ const OVER_A_RANK: [(&[u8], u8, &[u8]); 4] = [
     ),
 ];
 
-#[test]
-fn verdicts_over_a_rank(rt: HostRuntime) -> Result<(), Fail> {
-    try_verdicts(&rt, rt.alloc(), RANK, &OVER_A_RANK)
-}
+const OVER_A_TRIANGLE: [Row; 1] = [(
+    b"answer 1\nminimum -2\nleast a b c\ngreatest a b c\nslope -2/3 a b c\nat 0/1\nbase 1 -2 -2 -2\nbase 2 2 1 1\nat -2/3\nbase 1 -6 -6 -6\nbase 2 4 4 4\nend\n",
+    0,
+    b"valid\n",
+)];
 
-const OVER_GRAPHS_AND_SLOTS: [(&[u8], &[u8], u8, &[u8]); 4] = [
+const OVER_A_LOOP: [Row; 1] = [(
+    b"answer 1\nminimum -1\nleast a\ngreatest a\nslope -1/1 a\nat 0/1\nbase 1 -1\nbase 2 1\nat -1/1\nbase 1 -1\nbase 2 0\nend\n",
+    1,
+    b"invalid 8 base\n",
+)];
+
+const OVER_SLOTS: [Row; 2] = [
     (
-        TRIANGLE,
-        b"answer 1\nminimum -2\nleast a b c\ngreatest a b c\nslope -2/3 a b c\nat 0/1\nbase 1 -2 -2 -2\nbase 2 2 1 1\nat -2/3\nbase 1 -6 -6 -6\nbase 2 4 4 4\nend\n",
-        0,
-        b"valid\n",
-    ),
-    (
-        LONE,
-        b"answer 1\nminimum -1\nleast a\ngreatest a\nslope -1/1 a\nat 0/1\nbase 1 -1\nbase 2 1\nat -1/1\nbase 1 -1\nbase 2 0\nend\n",
-        1,
-        b"invalid 8 base\n",
-    ),
-    (
-        SHARED,
         b"answer 1\nminimum -2\nleast a b\ngreatest a b\nslope -1/1 a b\nat 0/1\nbase 1 -1 -3\nbase 2 1 1\nat -1/1\nbase 1 -1 -3\nbase 2 0 2\nend\n",
         0,
         b"valid\n",
     ),
     (
-        SHARED,
         b"answer 1\nminimum -2\nleast a b\ngreatest a b\nslope -1/1 a b\nat 0/1\nbase 1 -1 -3\nbase 2 -1 3\nat -1/1\nbase 1 -1 -3\nbase 2 0 2\nend\n",
         1,
         b"invalid 8 base\n",
     ),
 ];
 
+/// Instances, with answers and their verdicts.
+const CHECKS: [(&[u8], &[Row]); 11] = [
+    (WEIGHT, &OVER_A_WEIGHT),
+    (CUT, &OVER_A_CUT),
+    (NEED, &OVER_BLOCKS),
+    (THREE, &OVER_THREE),
+    (MIXED, &OVER_CONDITIONS),
+    (FREE, &OVER_FREE_PLACES),
+    (EMPTY, &OVER_NO_PLACES),
+    (RANK, &OVER_A_RANK),
+    (TRIANGLE, &OVER_A_TRIANGLE),
+    (LONE, &OVER_A_LOOP),
+    (SHARED, &OVER_SLOTS),
+];
+
 #[test]
-fn verdicts_over_a_graph_and_over_slots(rt: HostRuntime) -> Result<(), Fail> {
-    for row in &OVER_GRAPHS_AND_SLOTS {
-        try_verdicts(&rt, rt.alloc(), row.0, &[(row.1, row.2, row.3)])?;
+fn verdicts(rt: HostRuntime) -> Result<(), Fail> {
+    for (instance, rows) in &CHECKS {
+        for (answer, code, line) in *rows {
+            try_case(&rt, rt.alloc(), &check(instance, answer, *code, line))?;
+        }
     }
     Ok(())
 }

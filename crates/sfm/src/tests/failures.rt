@@ -1,7 +1,5 @@
 // Calls that fail: by the outside, by the words, and by texts that are too long.
-use crate::run::run;
-use crate::tests::cases::{Case, check, solve, try_case};
-use sfm_io::{MemoryShelf, MemorySink};
+use crate::tests::cases::{Case, Outside, SOLVE, SOUND, solve, try_case};
 use std::test::Fail;
 
 const FIRST: &[u8] = b"sfm 1\nground a b\nweight a:-3 b:2\nend\n";
@@ -13,61 +11,65 @@ const USAGE: &[u8] = b"usage: sfm solve FILE | check FILE ANSWER | demo SEED\n";
 
 const OUTSIDE: [Case; 8] = [
     Case {
-        words: &["solve", "first"],
+        words: SOLVE,
         first: FIRST,
         second: b"",
-        read_piece: 1,
-        failing_reads: &[],
-        write_piece: 1,
-        failing_writes: &[],
+        outside: &Outside {
+            read_piece: 1,
+            write_piece: 1,
+            ..SOUND
+        },
         code: 0,
         out: FIRST_ANSWER,
         err: b"",
     },
     Case {
-        words: &["solve", "first"],
+        words: SOLVE,
         first: FIRST,
         second: b"",
-        read_piece: 10,
-        failing_reads: &[4],
-        write_piece: 65536,
-        failing_writes: &[],
+        outside: &Outside {
+            read_piece: 10,
+            failing_reads: &[4],
+            ..SOUND
+        },
         code: 3,
         out: b"",
         err: b"sfm: read failed\n",
     },
     Case {
-        words: &["solve", "first"],
+        words: SOLVE,
         first: b"sfm 1\nground a\ncut 1 a b\nend\n",
         second: b"",
-        read_piece: 3,
-        failing_reads: &[],
-        write_piece: 65536,
-        failing_writes: &[],
+        outside: &Outside {
+            read_piece: 3,
+            ..SOUND
+        },
         code: 2,
         out: b"refused 3 name\n",
         err: b"",
     },
     Case {
-        words: &["solve", "first"],
+        words: SOLVE,
         first: b"sfm 2\nground a b\nweight a:-3 b:2\nend\n",
         second: b"",
-        read_piece: 10,
-        failing_reads: &[4],
-        write_piece: 65536,
-        failing_writes: &[],
+        outside: &Outside {
+            read_piece: 10,
+            failing_reads: &[4],
+            ..SOUND
+        },
         code: 3,
         out: b"",
         err: b"sfm: read failed\n",
     },
     Case {
-        words: &["solve", "first"],
+        words: SOLVE,
         first: FIRST,
         second: b"",
-        read_piece: 65536,
-        failing_reads: &[],
-        write_piece: 10,
-        failing_writes: &[3],
+        outside: &Outside {
+            write_piece: 10,
+            failing_writes: &[3],
+            ..SOUND
+        },
         code: 4,
         out: b"answer 1\nminimum -3\n",
         err: b"sfm: write failed\n",
@@ -76,10 +78,7 @@ const OUTSIDE: [Case; 8] = [
         words: &["solve", "third"],
         first: FIRST,
         second: b"",
-        read_piece: 65536,
-        failing_reads: &[],
-        write_piece: 65536,
-        failing_writes: &[],
+        outside: &SOUND,
         code: 3,
         out: b"",
         err: b"sfm: read failed\n",
@@ -88,10 +87,7 @@ const OUTSIDE: [Case; 8] = [
         words: &["check", "first", "third"],
         first: FIRST,
         second: b"",
-        read_piece: 65536,
-        failing_reads: &[],
-        write_piece: 65536,
-        failing_writes: &[],
+        outside: &SOUND,
         code: 3,
         out: b"",
         err: b"sfm: read failed\n",
@@ -100,10 +96,7 @@ const OUTSIDE: [Case; 8] = [
         words: &["check", "first", "third"],
         first: b"sfm 2\n",
         second: b"",
-        read_piece: 65536,
-        failing_reads: &[],
-        write_piece: 65536,
-        failing_writes: &[],
+        outside: &SOUND,
         code: 2,
         out: b"refused 1 shape\n",
         err: b"",
@@ -146,13 +139,5 @@ fn words_that_are_no_command(rt: HostRuntime) -> Result<(), Fail> {
 fn refuses_a_long_text(rt: HostRuntime) -> Result<(), Fail> {
     let alloc = rt.alloc();
     let text = vec![in alloc; b'#'; 16_777_217]?;
-    let mut shelf = MemoryShelf::new(alloc, 1_048_576, &[])?;
-    shelf.add("first", text.as_slice())?;
-    let mut out = MemorySink::new(alloc, 64, 64, &[])?;
-    let mut err = MemorySink::new(alloc, 64, 64, &[])?;
-    let status = run(alloc, &["solve", "first"], &mut shelf, &mut out, &mut err);
-    assert_eq!(rt; status.code(), 2);
-    assert_eq!(rt; out.taken(), b"refused 0 long\n".as_slice());
-    assert!(rt; err.taken().is_empty());
-    Ok(())
+    try_case(&rt, alloc, &solve(text.as_slice(), 2, b"refused 0 long\n"))
 }

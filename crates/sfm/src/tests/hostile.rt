@@ -1,10 +1,11 @@
-// Hostile use, in tables: calls of the outside that fail, one after another; answers that were tampered with; instances
-// that are broken; texts that end too soon. Each row is what the definitions ask for, worked by hand.
-use crate::run::run;
-use crate::tests::cases::{solve, try_case};
+// Hostile use, in tables: calls of the outside that fail, one after another; answers that were tampered with; texts that
+// end too soon, or that are as long as they may be. Each row is what the definitions ask for, worked by hand.
+use crate::tests::cases::{
+    CHECK, Case, Outside, SOLVE, SOUND, call, parts_of, solve, try_case, written,
+};
 use crate::tests::shelves::WatchedShelf;
 use sfm_check::{Verdict, Wrong, judge};
-use sfm_io::{MemoryShelf, MemorySink};
+use sfm_io::MemorySink;
 use sfm_text::{TextEnd, read_instance};
 use std::alloc::Global;
 use std::process::Abort;
@@ -33,7 +34,7 @@ const THREE: Worked = Worked {
 };
 
 /// What fails in a call of the program.
-#[derive(Clone, Copy, PartialEq, Eq)]
+#[derive(Clone, Copy)]
 enum Failing {
     /// A call of the shelf.
     Read,
@@ -55,10 +56,6 @@ struct Faults<'a> {
     code: u8,
 }
 
-const SOLVE: &[&str] = &["solve", "first"];
-
-const CHECK: &[&str] = &["check", "first", "second"];
-
 /// How many of the due bytes are written where the call of that number fails.
 fn written_before(failing: Failing, number: usize, code: u8) -> usize {
     match failing {
@@ -78,7 +75,38 @@ fn line_of(failing: Failing, code: u8) -> &'static [u8] {
     }
 }
 
-/// One run, in pieces of 10 bytes, in which the call of that number fails; `due` is written where none does.
+const TENS: Outside = Outside {
+    read_piece: 10,
+    write_piece: 10,
+    ..SOUND
+};
+
+const FIRST_CALL: &[usize] = &[1];
+
+/// Pieces of 10 bytes, and a call that fails, or room for so many bytes.
+fn outside_of<'a>(failing: Failing, number: usize, call: &'a [usize]) -> Outside<'a> {
+    match failing {
+        Failing::Read => Outside {
+            failing_reads: call,
+            ..TENS
+        },
+        Failing::Write => Outside {
+            failing_writes: call,
+            ..TENS
+        },
+        Failing::Room => Outside {
+            room: number,
+            ..TENS
+        },
+        Failing::ReadAndSay => Outside {
+            failing_reads: call,
+            failing_says: FIRST_CALL,
+            ..TENS
+        },
+    }
+}
+
+/// One run in which the call of that number fails; `due` is written where none does.
 fn try_fault(
     rt: &impl Abort,
     alloc: Global,
@@ -87,50 +115,31 @@ fn try_fault(
     due: &[u8],
 ) -> Result<(), Fail> {
     let call = [number];
-    let reads: &[usize] = match row.failing {
-        Failing::Read | Failing::ReadAndSay => &call,
-        _ => &[],
-    };
-    let writes: &[usize] = if row.failing == Failing::Write {
-        &call
-    } else {
-        &[]
-    };
-    let says: &[usize] = if row.failing == Failing::ReadAndSay {
-        &[1]
-    } else {
-        &[]
-    };
-    let room = if row.failing == Failing::Room {
-        number
-    } else {
-        4096
-    };
-    let mut shelf = MemoryShelf::new(alloc, 10, reads)?;
-    shelf.add("first", CUT.text)?;
-    shelf.add("second", CUT.answer)?;
-    let mut out = MemorySink::new(alloc, room, 10, writes)?;
-    let mut err = MemorySink::new(alloc, 64, 64, says)?;
-    let status = run(alloc, row.words, &mut shelf, &mut out, &mut err);
+    let outside = outside_of(row.failing, number, &call);
     let written = written_before(row.failing, number, row.code).min(due.len());
-    assert_eq!(rt; status.code(), row.code, "call {number}");
-    assert_eq!(rt; out.taken(), &due[..written], "call {number}");
-    assert_eq!(rt;
-        err.taken(),
-        line_of(row.failing, row.code),
-        "call {number}"
-    );
-    Ok(())
+    let case = Case {
+        words: row.words,
+        first: CUT.text,
+        second: CUT.answer,
+        outside: &outside,
+        code: row.code,
+        out: &due[..written],
+        err: line_of(row.failing, row.code),
+    };
+    try_case(rt, alloc, &case)
 }
 
+const SINGLE: Outside = Outside {
+    write_piece: 1,
+    ..SOUND
+};
+
 /// What a run writes that nothing fails: it reads 1, 2 and 3 bytes in turn, and writes one byte at a time.
-fn due_of(rt: &impl Abort, alloc: Global, words: &[&str]) -> Result<Vec<u8>, Fail> {
+fn due_of(rt: &impl Abort, alloc: Global, words: &[&str]) -> Result<MemorySink, Fail> {
     let mut shelf = WatchedShelf::new(alloc, CUT.text, CUT.answer)?;
-    let mut out = MemorySink::new(alloc, 4096, 1, &[])?;
-    let mut err = MemorySink::new(alloc, 64, 64, &[])?;
-    let status = run(alloc, words, &mut shelf, &mut out, &mut err);
-    assert_eq!(rt; status.code(), 0);
-    Ok(Vec::from_slice(alloc, out.taken())?)
+    let ended = call(alloc, words, &mut shelf, &SINGLE)?;
+    assert_eq!(rt; ended.code, 0);
+    Ok(ended.out)
 }
 
 const CALLS_THAT_FAIL: [Faults; 8] = [
@@ -198,7 +207,7 @@ fn calls_that_fail(rt: HostRuntime) -> Result<(), Fail> {
     for row in &CALLS_THAT_FAIL {
         let due = due_of(&rt, alloc, row.words)?;
         for number in row.first..row.last + 1 {
-            try_fault(&rt, alloc, row, number, due.as_slice())?;
+            try_fault(&rt, alloc, row, number, due.taken())?;
         }
     }
     Ok(())
@@ -220,8 +229,8 @@ fn changed(alloc: Global, change: &Change) -> Result<Vec<u8>, Fail> {
         return Ok(Vec::from_slice(alloc, change.text)?);
     }
     let mut file = Vec::new(alloc);
-    let lines = change.of.answer.split(|c| *c == b'\n');
-    for (i, line) in lines.enumerate() {
+    let lines = parts_of(alloc, change.of.answer, b'\n')?;
+    for (i, line) in lines.iter().enumerate() {
         if i > 0 {
             file.push(b'\n')?;
         }
@@ -431,18 +440,13 @@ fn answers_that_were_tampered_with(rt: HostRuntime) -> Result<(), Fail> {
     Ok(())
 }
 
-/// How many line feeds a text has.
-fn count_lines(text: &[u8]) -> usize {
-    text.iter().filter(|c| **c == b'\n').count()
-}
-
 #[test]
 fn answers_that_end_too_soon(rt: HostRuntime) -> Result<(), Fail> {
     let alloc = rt.alloc();
     let instance = read_instance(alloc, NEED.text)?;
     for end in 0..NEED.answer.len() {
         let text = &NEED.answer[..end];
-        let verdict = invalid(count_lines(text).wrapping_add(1), Wrong::Grammar);
+        let verdict = invalid(parts_of(alloc, text, b'\n')?.len(), Wrong::Grammar);
         assert_eq!(rt;
             judge(alloc, &instance, text)?,
             verdict,
@@ -476,7 +480,7 @@ fn instances_that_end_too_soon(rt: HostRuntime) -> Result<(), Fail> {
     let alloc = rt.alloc();
     for end in 0..EVERY_WORD.len() {
         let text = &EVERY_WORD[..end];
-        let last = count_lines(text).wrapping_add(1);
+        let last = parts_of(alloc, text, b'\n')?.len();
         match read_instance(alloc, text) {
             Ok(_) => assert_eq!(rt; end, EVERY_WORD.len().wrapping_sub(1)),
             Err(TextEnd::Refused { line, .. }) => {
@@ -487,37 +491,6 @@ fn instances_that_end_too_soon(rt: HostRuntime) -> Result<(), Fail> {
             }
             Err(TextEnd::Memory) => assert!(rt; false),
         }
-    }
-    Ok(())
-}
-
-const BROKEN: [(&[u8], u8, &[u8]); 4] = [
-    (
-        b"sfm 1\nground\n# \xff\nend\n",
-        0,
-        b"answer 1\nminimum 0\nleast\ngreatest\nat 0/1\nend\n",
-    ),
-    (
-        b"sfm 1\nground a\nweight a:\xff\nend\n",
-        2,
-        b"refused 3 bytes\n",
-    ),
-    (
-        b"sfm 1\nground a b c d e f g h i\ntable 0 : a b c d e f g h i\nend\n",
-        2,
-        b"refused 3 shape\n",
-    ),
-    (
-        b"sfm 1\nground abcdefghijabcdefghijabcdefghijabc\nend\n",
-        2,
-        b"refused 2 name\n",
-    ),
-];
-
-#[test]
-fn instances_that_are_broken(rt: HostRuntime) -> Result<(), Fail> {
-    for row in &BROKEN {
-        try_case(&rt, rt.alloc(), &solve(row.0, row.1, row.2))?;
     }
     Ok(())
 }
@@ -537,10 +510,8 @@ fn a_refused_instance_leaves_the_answer_unopened(rt: HostRuntime) -> Result<(), 
     let alloc = rt.alloc();
     for (text, code, asked) in &OPENED {
         let mut shelf = WatchedShelf::new(alloc, text, CUT.answer)?;
-        let mut out = MemorySink::new(alloc, 64, 64, &[])?;
-        let mut err = MemorySink::new(alloc, 64, 64, &[])?;
-        let status = run(alloc, CHECK, &mut shelf, &mut out, &mut err);
-        assert_eq!(rt; status.code(), *code);
+        let ended = call(alloc, CHECK, &mut shelf, &SOUND)?;
+        assert_eq!(rt; ended.code, *code);
         assert_eq!(rt; shelf.second, *asked);
     }
     Ok(())
@@ -558,18 +529,6 @@ fn a_file_longer_than_the_limit(rt: HostRuntime) -> Result<(), Fail> {
     Ok(())
 }
 
-/// What solving a text writes.
-fn solved(rt: &impl Abort, alloc: Global, text: &[u8]) -> Result<Vec<u8>, Fail> {
-    let mut shelf = MemoryShelf::new(alloc, 1_048_576, &[])?;
-    shelf.add("first", text)?;
-    let mut out = MemorySink::new(alloc, 65536, 65536, &[])?;
-    let mut err = MemorySink::new(alloc, 64, 64, &[])?;
-    let status = run(alloc, SOLVE, &mut shelf, &mut out, &mut err);
-    assert!(rt; err.taken().is_empty());
-    assert_eq!(rt; status.code(), 0);
-    Ok(Vec::from_slice(alloc, out.taken())?)
-}
-
 /// A text with comment lines behind it, up to that size.
 fn filled_up(alloc: Global, text: &[u8], size: usize) -> Result<Vec<u8>, Fail> {
     let mut filled = Vec::from_slice(alloc, text)?;
@@ -579,17 +538,20 @@ fn filled_up(alloc: Global, text: &[u8], size: usize) -> Result<Vec<u8>, Fail> {
     Ok(filled)
 }
 
+const CUT_HEAD: &[u8] = b"answer 1\nminimum -1\nleast a b\ngreatest a b\nslope -1/2 a b\nat 0/1\n";
+
 #[test]
 fn comments_up_to_the_limit(rt: HostRuntime) -> Result<(), Fail> {
     let alloc = rt.alloc();
     let text = filled_up(alloc, CUT.text, 16_777_216)?;
-    let file = solved(&rt, alloc, text.as_slice())?;
+    let answer = written(&rt, alloc, &solve(text.as_slice(), 0, b""))?;
     assert_eq!(rt; text.len(), 16_777_216);
-    assert!(rt;
-        file.starts_with(b"answer 1\nminimum -1\nleast a b\ngreatest a b\nslope -1/2 a b\nat 0/1\n")
-    );
+    assert!(rt; answer.taken().starts_with(CUT_HEAD));
     Ok(())
 }
+
+const BOUND_HEAD: &[u8] =
+    b"answer 1\nminimum 0\nleast\ngreatest\nslope 1000000000000000/1 a\nat 0/1\n";
 
 #[test]
 fn weights_up_to_the_bound(rt: HostRuntime) -> Result<(), Fail> {
@@ -600,12 +562,8 @@ fn weights_up_to_the_bound(rt: HostRuntime) -> Result<(), Fail> {
     }
     let mut more = Vec::from_slice(alloc, text.as_slice())?;
     text.extend_from_slice(b"end\n")?;
-    let file = solved(&rt, alloc, text.as_slice())?;
-    assert!(rt;
-        file.starts_with(
-            b"answer 1\nminimum 0\nleast\ngreatest\nslope 1000000000000000/1 a\nat 0/1\n"
-        )
-    );
+    let answer = written(&rt, alloc, &solve(text.as_slice(), 0, b""))?;
+    assert!(rt; answer.taken().starts_with(BOUND_HEAD));
     more.extend_from_slice(b"weight a:1\nend\n")?;
     try_case(
         &rt,

@@ -2,7 +2,7 @@
 use crate::tests::cases::{solve, try_case};
 use std::test::Fail;
 
-const REFUSALS: [(&[u8], &[u8]); 16] = [
+const REFUSALS: [(&[u8], &[u8]); 19] = [
     (
         b"sfm 1\nground a b\nweight z:1000000000001\ncut 1 a b\ncut 1 a a\nend\n",
         b"refused 3 number\n",
@@ -58,6 +58,18 @@ const REFUSALS: [(&[u8], &[u8]); 16] = [
     ),
     (b"sfm 2\nground a\nend\n", b"refused 1 shape\n"),
     (b"sfm 1\nground a a\nend\n", b"refused 2 twice\n"),
+    (
+        b"sfm 1\nground a\nweight a:\xff\nend\n",
+        b"refused 3 bytes\n",
+    ),
+    (
+        b"sfm 1\nground a b c d e f g h i\ntable 0 : a b c d e f g h i\nend\n",
+        b"refused 3 shape\n",
+    ),
+    (
+        b"sfm 1\nground abcdefghijabcdefghijabcdefghijabc\nend\n",
+        b"refused 2 name\n",
+    ),
 ];
 
 #[test]

@@ -2,6 +2,7 @@
 ghost use Rattle.sfm_io.specs.Shelf.{Opens, Reads, untold_state};
 ghost use Rattle.std.proofs.Common.{rules};
 
+use crate::tests::cases::{SOUND, shelf_of};
 use sfm_base::Memory;
 use sfm_io::{Failed, MemoryShelf, Shelf};
 use std::alloc::Global;
@@ -17,11 +18,8 @@ pub struct WatchedShelf {
 
 impl WatchedShelf {
     pub fn new(alloc: Global, first: &[u8], second: &[u8]) -> Result<WatchedShelf, Memory> {
-        let mut shelf = MemoryShelf::new(alloc, 3, &[])?;
-        shelf.add("first", first)?;
-        shelf.add("second", second)?;
         Ok(WatchedShelf {
-            shelf,
+            shelf: shelf_of(alloc, first, second, &SOUND)?,
             turn: 0,
             second: false,
         })

@@ -1,7 +1,6 @@
 // Instances that are solved. Which of several proving bases is written is free, so the lines of such bases are left open,
 // and each answer is checked against its instance.
-use crate::run::run;
-use sfm_io::{MemoryShelf, MemorySink};
+use crate::tests::cases::{Case, Outside, SOUND, check, parts_of, solve, try_case, written};
 use std::alloc::Global;
 use std::process::Abort;
 use std::test::Fail;
@@ -15,65 +14,42 @@ fn is_wanted(line: &[u8], wanted: &[u8]) -> bool {
 }
 
 /// Whether each line of a text is as wanted.
-fn are_wanted(text: &[u8], wanted: &[u8]) -> bool {
-    let lines = text.split(|c| *c == b'\n');
-    let patterns = wanted.split(|c| *c == b'\n');
-    lines
-        .zip(patterns)
-        .all(|(line, pattern)| is_wanted(line, pattern))
-}
-
-/// How many lines a text has.
-fn count_lines(text: &[u8]) -> usize {
-    text.iter().filter(|c| **c == b'\n').count()
+fn are_wanted(lines: &[&[u8]], wanted: &[&[u8]]) -> bool {
+    for (line, pattern) in lines.iter().zip(wanted) {
+        if !is_wanted(line, pattern) {
+            return false;
+        }
+    }
+    lines.len() == wanted.len()
 }
 
 /// Solves an instance, read in pieces of that size, and checks the answer.
 fn try_solution(
     rt: &impl Abort,
     alloc: Global,
-    text: &[u8],
     piece: usize,
+    text: &[u8],
     wanted: &[u8],
 ) -> Result<(), Fail> {
-    let mut shelf = MemoryShelf::new(alloc, piece.max(1), &[])?;
-    shelf.add("first", text)?;
-    let mut out = MemorySink::new(alloc, 65536, 4096, &[])?;
-    let mut err = MemorySink::new(alloc, 64, 64, &[])?;
-    let status = run(alloc, &["solve", "first"], &mut shelf, &mut out, &mut err);
-    assert_eq!(rt; status.code(), 0);
-    assert_eq!(rt; count_lines(out.taken()), count_lines(wanted));
-    assert!(rt; are_wanted(out.taken(), wanted));
-    let mut answers = MemoryShelf::new(alloc, 4096, &[])?;
-    answers.add("first", text)?;
-    answers.add("second", out.taken())?;
-    let mut verdict = MemorySink::new(alloc, 64, 64, &[])?;
-    let status = run(
-        alloc,
-        &["check", "first", "second"],
-        &mut answers,
-        &mut verdict,
-        &mut err,
-    );
-    assert_eq!(rt; verdict.taken(), b"valid\n".as_slice());
-    assert_eq!(rt; status.code(), 0);
-    Ok(())
+    let outside = Outside {
+        read_piece: piece,
+        ..SOUND
+    };
+    let case = Case {
+        outside: &outside,
+        ..solve(text, 0, b"")
+    };
+    let answer = written(rt, alloc, &case)?;
+    let lines = parts_of(alloc, answer.taken(), b'\n')?;
+    let patterns = parts_of(alloc, wanted, b'\n')?;
+    assert!(rt; are_wanted(lines.as_slice(), patterns.as_slice()));
+    try_case(rt, alloc, &check(text, answer.taken(), 0, b"valid\n"))
 }
 
-/// Solves instances, each read in pieces of that size, and checks the answers.
-fn try_solutions(
-    rt: &impl Abort,
-    alloc: Global,
-    piece: usize,
-    rows: &[(&[u8], &[u8])],
-) -> Result<(), Fail> {
-    for row in rows {
-        try_solution(rt, alloc, row.0, piece, row.1)?;
-    }
-    Ok(())
-}
+/// An instance, and the lines of its answer.
+type Row = (&'static [u8], &'static [u8]);
 
-const WEIGHTS_AND_CUTS: [(&[u8], &[u8]); 7] = [
+const WEIGHTS_AND_CUTS: [Row; 8] = [
     (
         b"sfm 1\nground a\nweight a:5\nend\n",
         b"answer 1\nminimum 0\nleast\ngreatest\nslope 5/1 a\nat 0/1\nbase 1 5\nat 5/1\nbase 1 5\nend\n",
@@ -102,15 +78,13 @@ const WEIGHTS_AND_CUTS: [(&[u8], &[u8]); 7] = [
         b"\tsfm  1\r\n# weights\r\n\r\nground a\tb\r\nweight a:-3 b:2\r\nend",
         b"answer 1\nminimum -3\nleast a\ngreatest a\nslope -3/1 a\nslope 2/1 a b\nat 0/1\nbase 1 -3 2\nat -3/1\nbase 1 -3 2\nat 2/1\nbase 1 -3 2\nend\n",
     ),
+    (
+        b"sfm 1\nground\n# \xff\nend\n",
+        b"answer 1\nminimum 0\nleast\ngreatest\nat 0/1\nend\n",
+    ),
 ];
 
-#[test]
-fn solves_weights_and_cuts(rt: HostRuntime) -> Result<(), Fail> {
-    try_solutions(&rt, rt.alloc(), 65536, &WEIGHTS_AND_CUTS)?;
-    try_solutions(&rt, rt.alloc(), 1, &WEIGHTS_AND_CUTS)
-}
-
-const NEEDS_COVERS_AND_TABLES: [(&[u8], &[u8]); 4] = [
+const NEEDS_COVERS_AND_TABLES: [Row; 4] = [
     (
         b"sfm 1\nground a b\nneed a b\nend\n",
         b"answer 1\nminimum 0\nleast\ngreatest a b\nblock 1 b :\nblock 2 a : 1\nslope 0/1 a b\nat 0/1\nbase 1 0 0\nat 0/1\nbase 1 0 0\nend\n",
@@ -129,12 +103,7 @@ const NEEDS_COVERS_AND_TABLES: [(&[u8], &[u8]); 4] = [
     ),
 ];
 
-#[test]
-fn solves_needs_covers_and_tables(rt: HostRuntime) -> Result<(), Fail> {
-    try_solutions(&rt, rt.alloc(), 7, &NEEDS_COVERS_AND_TABLES)
-}
-
-const CONCAVE_FUNCTIONS_AND_RANKS: [(&[u8], &[u8]); 4] = [
+const CONCAVE_FUNCTIONS_AND_RANKS: [Row; 4] = [
     (
         b"sfm 1\nground a b\nconcave 1 2 : a b\nend\n",
         b"answer 1\nminimum 0\nleast\ngreatest\nslope 1/1 a b\nat 0/1\nbase 1 1 1\nat 1/1\nbase 1 1 1\nend\n",
@@ -153,12 +122,7 @@ const CONCAVE_FUNCTIONS_AND_RANKS: [(&[u8], &[u8]); 4] = [
     ),
 ];
 
-#[test]
-fn solves_concave_functions_and_ranks(rt: HostRuntime) -> Result<(), Fail> {
-    try_solutions(&rt, rt.alloc(), 7, &CONCAVE_FUNCTIONS_AND_RANKS)
-}
-
-const RANKS_OF_GRAPHS_AND_OF_SLOTS: [(&[u8], &[u8]); 3] = [
+const RANKS_OF_GRAPHS_AND_OF_SLOTS: [Row; 3] = [
     (
         b"sfm 1\nground a b c\nweight a:-2 b:-2 c:-2\nrank 2 graphic : a=u-v b=v-w c=u-w\nend\n",
         b"answer 1\nminimum -2\nleast a b c\ngreatest a b c\nslope -2/3 a b c\nat 0/1\nbase 1 -2 -2 -2\nbase 2 *\nat -2/3\nbase 1 -6 -6 -6\nbase 2 4 4 4\nend\n",
@@ -173,7 +137,21 @@ const RANKS_OF_GRAPHS_AND_OF_SLOTS: [(&[u8], &[u8]); 3] = [
     ),
 ];
 
+/// The size of the pieces that are read, and instances with their answers.
+const SOLUTIONS: [(usize, &[Row]); 5] = [
+    (65536, &WEIGHTS_AND_CUTS),
+    (1, &WEIGHTS_AND_CUTS),
+    (7, &NEEDS_COVERS_AND_TABLES),
+    (7, &CONCAVE_FUNCTIONS_AND_RANKS),
+    (7, &RANKS_OF_GRAPHS_AND_OF_SLOTS),
+];
+
 #[test]
-fn solves_ranks_of_graphs_and_of_slots(rt: HostRuntime) -> Result<(), Fail> {
-    try_solutions(&rt, rt.alloc(), 7, &RANKS_OF_GRAPHS_AND_OF_SLOTS)
+fn solves(rt: HostRuntime) -> Result<(), Fail> {
+    for (piece, rows) in &SOLUTIONS {
+        for (text, wanted) in *rows {
+            try_solution(&rt, rt.alloc(), *piece, text, wanted)?;
+        }
+    }
+    Ok(())
 }
