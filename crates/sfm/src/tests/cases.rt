@@ -113,6 +113,13 @@ fn called(alloc: Global, case: &Case) -> Result<Ended, Memory> {
     call(alloc, case.words, &mut shelf, case.outside)
 }
 
+/// Whether a call ends as it must, for a test that says itself which one does not.
+pub fn is_met(alloc: Global, case: &Case) -> Result<bool, Memory> {
+    let ended = called(alloc, case)?;
+    let are_met = ended.out.taken() == case.out && ended.err.taken() == case.err;
+    Ok(are_met && ended.code == case.code)
+}
+
 /// Tries a call.
 pub fn try_case(rt: &impl Abort, alloc: Global, case: &Case) -> Result<(), Fail> {
     let ended = called(alloc, case)?;
