@@ -46,6 +46,12 @@ pub const SOLVE: &[&str] = &["solve", "first"];
 
 pub const CHECK: &[&str] = &["check", "first", "second"];
 
+pub const VALID: &[u8] = b"valid\n";
+
+pub const READ_FAILED: &[u8] = b"sfm: read failed\n";
+
+pub const WRITE_FAILED: &[u8] = b"sfm: write failed\n";
+
 /// A call of `solve`, of which nothing fails.
 pub const fn solve<'a>(first: &'a [u8], code: u8, out: &'a [u8]) -> Case<'a> {
     Case {

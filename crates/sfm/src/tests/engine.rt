@@ -323,14 +323,14 @@ fn bases_in(alloc: Global, instance: &Instance, text: &[u8]) -> Result<Option<Ro
     Ok(Some(solved.bases))
 }
 
-/// Tries that bases prove no minimum, and the one step of the walk that leaves them, from its first place.
+/// Tries that bases prove no minimum, and the first place and the steps of the walk that leaves them.
 fn try_left(
     rt: &impl Abort,
     alloc: Global,
     instance: &Instance,
     bases: &Rows,
     first: usize,
-    step: (usize, usize),
+    steps: &[(usize, usize)],
 ) -> Result<(), Fail>
     requires bases { AreBases (pos 1) (meanings kind_places kind_value instance.now.terms) bases.now }
     requires small { All (λ row. All IsEntry row) bases.now }
@@ -339,26 +339,30 @@ fn try_left(
         Certified::Proved(_) => assert!(rt; false),
         Certified::NotOptimal { walk } => {
             assert_eq!(rt; walk.first, first);
-            assert_eq!(rt; walk.steps.as_slice(), [step].as_slice());
+            assert_eq!(rt; walk.steps.as_slice(), steps);
         }
     }
     Ok(())
 }
 
+const FROM_FIRST: &[(usize, usize)] = &[(0, 1)];
+
 #[test]
 fn bases_that_do_not_prove_are_left_by_a_walk(rt: HostRuntime) -> Result<(), Fail> {
     let instance = read_instance(rt.alloc(), CUT)?;
     let bases = first_bases(rt.alloc(), &instance)?;
-    try_left(&rt, rt.alloc(), &instance, &bases, 1, (0, 1))
+    try_left(&rt, rt.alloc(), &instance, &bases, 1, FROM_FIRST)
 }
 
 const ZERO: &[u8] = b"answer 1\nminimum 0\nleast\ngreatest\nat 0/1\nbase 1 -3 2\nbase 2 0 0\nend\n";
+
+const FROM_ZERO: &[(usize, usize)] = &[(1, 1)];
 
 #[test]
 fn zero_as_the_base_of_a_cut_is_left_by_its_one_walk(rt: HostRuntime) -> Result<(), Fail> {
     let instance = read_instance(rt.alloc(), CUT)?;
     match bases_in(rt.alloc(), &instance, ZERO)? {
-        Some(bases) => try_left(&rt, rt.alloc(), &instance, &bases, 0, (1, 1)),
+        Some(bases) => try_left(&rt, rt.alloc(), &instance, &bases, 0, FROM_ZERO),
         None => panic!(rt; "no bases"),
     }
 }

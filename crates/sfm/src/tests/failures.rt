@@ -135,9 +135,11 @@ fn words_that_are_no_command(rt: HostRuntime) -> Result<(), Fail> {
     Ok(())
 }
 
+const LONG: &[u8] = b"refused 0 long\n";
+
 #[test]
 fn refuses_a_long_text(rt: HostRuntime) -> Result<(), Fail> {
     let alloc = rt.alloc();
     let text = vec![in alloc; b'#'; 16_777_217]?;
-    try_case(&rt, alloc, &solve(text.as_slice(), 2, b"refused 0 long\n"))
+    try_case(&rt, alloc, &solve(text.as_slice(), 2, LONG))
 }

@@ -1,7 +1,8 @@
 // Hostile use, in tables: calls of the outside that fail, one after another; answers that were tampered with; texts that
 // end too soon, or that are as long as they may be. Each row is what the definitions ask for, worked by hand.
 use crate::tests::cases::{
-    CHECK, Case, Outside, SOLVE, SOUND, call, is_met, parts_of, solve, try_case, written,
+    CHECK, Case, Outside, READ_FAILED, SOLVE, SOUND, WRITE_FAILED, call, is_met, parts_of, solve,
+    try_case, written,
 };
 use crate::tests::shelves::WatchedShelf;
 use sfm_check::{Verdict, Wrong, judge};
@@ -69,8 +70,8 @@ fn written_before(failing: Failing, number: usize, code: u8) -> usize {
 fn line_of(failing: Failing, code: u8) -> &'static [u8] {
     match (failing, code) {
         (Failing::ReadAndSay, _) => b"",
-        (_, 3) => b"sfm: read failed\n",
-        (_, 4) => b"sfm: write failed\n",
+        (_, 3) => READ_FAILED,
+        (_, 4) => WRITE_FAILED,
         _ => b"",
     }
 }
@@ -551,24 +552,30 @@ fn comments_up_to_the_limit(rt: HostRuntime) -> Result<(), Fail> {
     Ok(())
 }
 
+const BOUND_GROUND: &[u8] = b"sfm 1\nground a\n";
+
+const BOUND_WEIGHT: &[u8] = b"weight a:1000000000000\n";
+
+const BOUND_END: &[u8] = b"end\n";
+
+const MORE_END: &[u8] = b"weight a:1\nend\n";
+
+const MORE_REFUSED: &[u8] = b"refused 1003 total\n";
+
 const BOUND_HEAD: &[u8] =
     b"answer 1\nminimum 0\nleast\ngreatest\nslope 1000000000000000/1 a\nat 0/1\n";
 
 #[test]
 fn weights_up_to_the_bound(rt: HostRuntime) -> Result<(), Fail> {
     let alloc = rt.alloc();
-    let mut text = Vec::from_slice(alloc, b"sfm 1\nground a\n")?;
+    let mut text = Vec::from_slice(alloc, BOUND_GROUND)?;
     for _ in 0..1000 {
-        text.extend_from_slice(b"weight a:1000000000000\n")?;
+        text.extend_from_slice(BOUND_WEIGHT)?;
     }
     let mut more = Vec::from_slice(alloc, text.as_slice())?;
-    text.extend_from_slice(b"end\n")?;
+    text.extend_from_slice(BOUND_END)?;
     let answer = written(&rt, alloc, &solve(text.as_slice(), 0, b""))?;
     assert!(rt; answer.taken().starts_with(BOUND_HEAD));
-    more.extend_from_slice(b"weight a:1\nend\n")?;
-    try_case(
-        &rt,
-        alloc,
-        &solve(more.as_slice(), 2, b"refused 1003 total\n"),
-    )
+    more.extend_from_slice(MORE_END)?;
+    try_case(&rt, alloc, &solve(more.as_slice(), 2, MORE_REFUSED))
 }

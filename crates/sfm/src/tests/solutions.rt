@@ -1,6 +1,6 @@
 // Instances that are solved. Which of several proving bases is written is free, so the lines of such bases are left open,
 // and each answer is checked against its instance.
-use crate::tests::cases::{Case, Outside, SOUND, check, parts_of, solve, try_case, written};
+use crate::tests::cases::{Case, Outside, SOUND, VALID, check, parts_of, solve, try_case, written};
 use std::alloc::Global;
 use std::process::Abort;
 use std::test::Fail;
@@ -43,7 +43,7 @@ fn try_solution(
     let lines = parts_of(alloc, answer.taken(), b'\n')?;
     let patterns = parts_of(alloc, wanted, b'\n')?;
     assert!(rt; are_wanted(lines.as_slice(), patterns.as_slice()));
-    try_case(rt, alloc, &check(text, answer.taken(), 0, b"valid\n"))
+    try_case(rt, alloc, &check(text, answer.taken(), 0, VALID))
 }
 
 /// An instance, and the lines of its answer.
