@@ -2,8 +2,8 @@
 // bad at its line.
 use sfm_base::Memory;
 use sfm_cert::{AnswerEnd, answer_len, line_of_at, line_of_base, read_answer, write_answer};
-use sfm_kind::{Instance, Kind, is_name};
-use sfm_simple::{Cut, Weight};
+use sfm_kind::Instance;
+use sfm_text::read_instance;
 use std::alloc::Global;
 use std::process::Abort;
 use std::test::Fail;
@@ -12,23 +12,7 @@ const FIRST: &[u8] =
     b"answer 1\nminimum -1\nleast a b\ngreatest a b\nat 0/1\nbase 1 -3 2\nbase 2 3 -3\nend\n";
 
 /// The elements a and b, with weights -3 and 2 and a cut of 4.
-fn instance_of(rt: &impl Abort, alloc: Global) -> Result<Instance, Memory> {
-    let mut instance = Instance::new(alloc);
-    let names: [&[u8]; 2] = [b"a", b"b"];
-    for name in names {
-        assert!(rt; is_name(name));
-        assert!(rt; instance.place_of(name).is_none());
-        assert!(rt; instance.names_len() < 256);
-        instance.add_name(name)?;
-    }
-    let weight = Kind::Weight(Weight::new(alloc, &[0, 1], &[-3, 2])?);
-    assert!(rt; instance.takes(&weight));
-    instance.add_term(weight)?;
-    let cut = Kind::Cut(Cut::new(4, 0, 1));
-    assert!(rt; instance.takes(&cut));
-    instance.add_term(cut)?;
-    Ok(instance)
-}
+const INSTANCE: &[u8] = b"sfm 1\nground a b\nweight a:-3 b:2\ncut 4 a b\nend\n";
 
 /// The first bad line, or 0 where the text is an answer and is written back the same.
 fn bad_line(
@@ -116,17 +100,19 @@ const TEXTS: [(&[u8], usize); 23] = [
     ),
 ];
 
+/// Asserts the first bad line of each text.
+fn has_lines(rt: &impl Abort, alloc: Global, instance: &Instance) -> Result<(), Memory> {
+    for (number, (text, line)) in TEXTS.iter().enumerate() {
+        let found = bad_line(rt, alloc, instance, text)?;
+        assert!(rt; found == *line, "row {number}");
+    }
+    Ok(())
+}
+
 #[test]
 fn texts(rt: HostRuntime) -> Result<(), Fail> {
-    let alloc = rt.alloc();
-    let instance = instance_of(&rt, alloc)?;
-    for (number, (text, line)) in TEXTS.iter().enumerate() {
-        assert_eq!(rt;
-            bad_line(&rt, alloc, &instance, text)?,
-            *line,
-            "row {number}"
-        );
-    }
+    let instance = read_instance(rt.alloc(), INSTANCE)?;
+    has_lines(&rt, rt.alloc(), &instance)?;
     Ok(())
 }
 

@@ -1,48 +1,125 @@
 // Partitions that were worked out by hand.
+use sfm_base::Memory;
+use sfm_law::Break;
 use sfm_simple::{Cover, Weight};
 use sfm_slope::partition;
+use std::alloc::Global;
 use std::test::Fail;
+
+/// What a breakpoint tells: the numerator and the denominator of its slope, the size of its set, how many bases it has, and one
+/// of these by its number.
+struct Told {
+    num: i128,
+    den: i128,
+    size: usize,
+    bases: usize,
+    number: usize,
+    base: &'static [i128],
+}
+
+/// Whether a breakpoint has that slope, and a set of that size.
+fn has_slope(found: &Break, told: &Told) -> bool {
+    found.slope.num == told.num && found.slope.den == told.den && found.set.size() == told.size
+}
+
+/// Whether a breakpoint has so many bases, and that one among them.
+fn has_base(found: &Break, told: &Told) -> bool {
+    found.bases.len() == told.bases
+        && told.number < found.bases.len()
+        && found.bases.row(told.number) == told.base
+}
+
+/// Whether breakpoints tell this, in order.
+fn are_told(breaks: &[Break], told: &[Told]) -> bool {
+    for (found, row) in breaks.iter().zip(told) {
+        if !has_slope(found, row) || !has_base(found, row) {
+            return false;
+        }
+    }
+    breaks.len() == told.len()
+}
 
 #[test]
 fn no_places(rt: HostRuntime) -> Result<(), Fail> {
     let terms: [Weight; 0] = [];
     let breaks = partition(rt.alloc(), &terms, 0)?;
-    assert_eq!(rt; breaks.len(), 0);
+    assert!(rt; breaks.is_empty());
     Ok(())
 }
 
 // Each element is a breakpoint of its own; the first turn looks at 1, the second at -1/2.
+const BREAKS_OF_A_WEIGHT: [Told; 3] = [
+    Told {
+        num: -3,
+        den: 1,
+        size: 1,
+        bases: 1,
+        number: 0,
+        base: &[-3, 4, 2],
+    },
+    Told {
+        num: 2,
+        den: 1,
+        size: 2,
+        bases: 1,
+        number: 0,
+        base: &[-3, 4, 2],
+    },
+    Told {
+        num: 4,
+        den: 1,
+        size: 3,
+        bases: 1,
+        number: 0,
+        base: &[-3, 4, 2],
+    },
+];
+
+/// The breakpoints of the weights.
+fn breaks_of_a_weight(alloc: Global) -> Result<Vec<Break>, Memory> {
+    let terms = [Weight::new(alloc, &[0, 1, 2], &[-3, 4, 2])?];
+    partition(alloc, &terms, 3)
+}
+
 #[test]
 fn slopes_of_a_weight(rt: HostRuntime) -> Result<(), Fail> {
-    let terms = [Weight::new(rt.alloc(), &[0, 1, 2], &[-3, 4, 2])?];
-    let breaks = partition(rt.alloc(), &terms, 3)?;
-    assert_eq!(rt; breaks.len(), 3);
-    assert_eq!(rt; breaks[0].slope.num, -3);
-    assert_eq!(rt; breaks[1].slope.num, 2);
-    assert_eq!(rt; breaks[2].slope.num, 4);
-    assert_eq!(rt; breaks[2].bases.len(), 1);
-    assert_eq!(rt; breaks[2].bases.row(0), [-3, 4, 2].as_slice());
+    let breaks = breaks_of_a_weight(rt.alloc())?;
+    assert!(rt; are_told(&breaks, &BREAKS_OF_A_WEIGHT));
     Ok(())
 }
 
 // 3 for the first two and 5 for the last three: all together at 8/5, between the slopes of the two.
+const BREAKS_OF_COVERS: [Told; 2] = [
+    Told {
+        num: 3,
+        den: 2,
+        size: 2,
+        bases: 2,
+        number: 0,
+        base: &[3, 3],
+    },
+    Told {
+        num: 5,
+        den: 3,
+        size: 5,
+        bases: 2,
+        number: 1,
+        base: &[5, 5, 5],
+    },
+];
+
+/// The breakpoints of the covers.
+fn breaks_of_covers(alloc: Global) -> Result<Vec<Break>, Memory> {
+    let terms = [
+        Cover::new(alloc, 3, &[0, 1])?,
+        Cover::new(alloc, 5, &[2, 3, 4])?,
+    ];
+    partition(alloc, &terms, 5)
+}
+
 #[test]
 fn slopes_of_covers(rt: HostRuntime) -> Result<(), Fail> {
-    let terms = [
-        Cover::new(rt.alloc(), 3, &[0, 1])?,
-        Cover::new(rt.alloc(), 5, &[2, 3, 4])?,
-    ];
-    let breaks = partition(rt.alloc(), &terms, 5)?;
-    assert_eq!(rt; breaks.len(), 2);
-    assert_eq!(rt; breaks[0].slope.num, 3);
-    assert_eq!(rt; breaks[0].slope.den, 2);
-    assert_eq!(rt; breaks[0].set.size(), 2);
-    assert_eq!(rt; breaks[0].bases.len(), 2);
-    assert_eq!(rt; breaks[0].bases.row(0), [3, 3].as_slice());
-    assert_eq!(rt; breaks[1].slope.num, 5);
-    assert_eq!(rt; breaks[1].slope.den, 3);
-    assert_eq!(rt; breaks[1].set.size(), 5);
-    assert_eq!(rt; breaks[1].bases.len(), 2);
-    assert_eq!(rt; breaks[1].bases.row(1), [5, 5, 5].as_slice());
+    let breaks = breaks_of_covers(rt.alloc())?;
+    assert!(rt; are_told(&breaks, &BREAKS_OF_COVERS));
     Ok(())
 }

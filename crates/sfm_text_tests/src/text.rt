@@ -1,15 +1,20 @@
 // What the reader answers over worked texts, each with the line and the reason of its first fault. That every answer is
 // right is proved; here the calls succeed with ample memory, and the reasons are compared with those worked by hand.
 use sfm_base::read_number;
-use sfm_kind::Kind;
+use sfm_kind::Instance;
 use sfm_text::{Reason, TEXT_LIMIT, TextEnd, content_lines, read_instance, token};
 use std::alloc::{AllocError, Global};
 use std::process::Abort;
 use std::test::Fail;
 
 mod long;
+mod parts;
 mod pieces;
 mod ranks;
+mod told;
+
+use parts::{push_many, push_numbered};
+use told::{Numbers, Told, are_told};
 
 /// The line and the word of a text's first fault, or `good` at line 0.
 fn first_fault(alloc: Global, text: &[u8]) -> (usize, &'static [u8]) {
@@ -23,37 +28,46 @@ fn first_fault(alloc: Global, text: &[u8]) -> (usize, &'static [u8]) {
 const GOOD: &[u8] =
     b"# a comment\r\n\n sfm\t1 \r\nground a b c\nweight b:2\n\nweight a:-3 b:0\ncut 4 b a\nneed a c\ncover 7 c a b\ntable 0 1 2 2 : c b\nend\n#";
 
+/// Whether an instance has three names, a and b the first of them.
+fn has_names(instance: &Instance) -> bool {
+    instance.names_len() == 3
+        && instance.place_of(b"a") == Some(0)
+        && instance.place_of(b"b") == Some(1)
+}
+
+/// The terms of that text.
+const GOOD_TERMS: [Told; 6] = [
+    Told {
+        places: &[1],
+        numbers: Numbers::Weights(&[2]),
+    },
+    Told {
+        places: &[0, 1],
+        numbers: Numbers::Weights(&[-3, 0]),
+    },
+    Told {
+        places: &[1, 0],
+        numbers: Numbers::Cut(4),
+    },
+    Told {
+        places: &[0, 2],
+        numbers: Numbers::Need,
+    },
+    Told {
+        places: &[2, 0, 1],
+        numbers: Numbers::Cover(7),
+    },
+    Told {
+        places: &[2, 1],
+        numbers: Numbers::Table(&[0, 1, 2, 2]),
+    },
+];
+
 #[test]
 fn a_good_text_gives_names_and_terms(rt: HostRuntime) -> Result<(), Fail> {
     let instance = read_instance(rt.alloc(), GOOD)?;
-    assert_eq!(rt; instance.names_len(), 3);
-    assert_eq!(rt; instance.place_of(b"a"), Some(0));
-    assert_eq!(rt; instance.place_of(b"b"), Some(1));
-    let terms = instance.terms();
-    assert_eq!(rt; terms.len(), 6);
-    if let Kind::Weight(first) = &terms[0] {
-        assert_eq!(rt; first.places.as_slice(), [1].as_slice());
-        assert_eq!(rt; first.weights.as_slice(), [2].as_slice());
-    }
-    if let Kind::Weight(second) = &terms[1] {
-        assert_eq!(rt; second.places.as_slice(), [0, 1].as_slice());
-        assert_eq!(rt; second.weights.as_slice(), [-3, 0].as_slice());
-    }
-    if let Kind::Cut(cut) = &terms[2] {
-        assert_eq!(rt; cut.places, [1, 0]);
-        assert_eq!(rt; cut.c, 4);
-    }
-    if let Kind::Need(need) = &terms[3] {
-        assert_eq!(rt; need.places, [0, 2]);
-    }
-    if let Kind::Cover(cover) = &terms[4] {
-        assert_eq!(rt; cover.places.as_slice(), [2, 0, 1].as_slice());
-        assert_eq!(rt; cover.w, 7);
-    }
-    if let Kind::Table(table) = &terms[5] {
-        assert_eq!(rt; table.places.as_slice(), [2, 1].as_slice());
-        assert_eq!(rt; table.values.as_slice(), [0, 1, 2, 2].as_slice());
-    }
+    assert!(rt; has_names(&instance));
+    assert!(rt; are_told(instance.terms(), &GOOD_TERMS));
     Ok(())
 }
 
@@ -69,28 +83,41 @@ const AMONG: Frame = ("sfm 1\nground a b c d\n", "\nend");
 /// A ground of four names, and no end.
 const LAST: Frame = ("sfm 1\nground a b c d\n", "");
 
-/// A text with what stands in its first braces 3,000 times.
-fn spread(alloc: Global, text: &str) -> Result<String, AllocError> {
+/// Adds a text with what stands in its first braces 3,000 times.
+fn push_spread(spread: &mut String, text: &str) -> Result<(), AllocError> {
     let (head, rest) = text.split_once('{').unwrap_or((text, ""));
     let (piece, tail) = rest.split_once('}').unwrap_or(("", ""));
-    let mut spread = String::new(alloc);
     spread.push_str(head)?;
-    for _ in 0..3_000_u32 {
-        spread.push_str(piece)?;
-    }
-    spread.push_str(tail)?;
+    push_many(spread, piece, 3_000)?;
+    spread.push_str(tail)
+}
+
+/// A text with what stands in its first braces 3,000 times.
+fn spread(alloc: Global, text: &str) -> Result<String, AllocError> {
+    let mut spread = String::new(alloc);
+    push_spread(&mut spread, text)?;
     Ok(spread)
+}
+
+/// A text with its lines, and what stands in two braces 3,000 times.
+fn lines_of(alloc: Global, text: &str) -> Result<String, AllocError> {
+    let once = spread(alloc, text)?;
+    let twice = spread(alloc, once.as_str())?;
+    twice.replace(alloc, "|", "\n")
+}
+
+/// Adds three texts.
+fn push_three(text: &mut String, first: &str, second: &str, third: &str) -> Result<(), AllocError> {
+    text.push_str(first)?;
+    text.push_str(second)?;
+    text.push_str(third)
 }
 
 /// The text of a row in its frame.
 fn framed(alloc: Global, frame: Frame, text: &str) -> Result<String, AllocError> {
-    let once = spread(alloc, text)?;
-    let twice = spread(alloc, once.as_str())?;
-    let lines = twice.replace(alloc, "|", "\n")?;
+    let lines = lines_of(alloc, text)?;
     let mut framed = String::new(alloc);
-    framed.push_str(frame.0)?;
-    framed.push_str(lines.as_str())?;
-    framed.push_str(frame.1)?;
+    push_three(&mut framed, frame.0, lines.as_str(), frame.1)?;
     Ok(framed)
 }
 
@@ -279,6 +306,30 @@ fn covers_and_tables(rt: HostRuntime) -> Result<(), Fail> {
     Ok(())
 }
 
+/// Adds a text with so many names, so many lines of one weight, and a last one.
+fn push_text(
+    alloc: Global,
+    text: &mut String,
+    names: u32,
+    lines: u32,
+    line: &str,
+    last: &str,
+) -> Result<(), AllocError> {
+    text.push_str("sfm 1\nground")?;
+    push_numbered(alloc, text, " e", names, "")?;
+    push_lines(text, lines, line)?;
+    push_three(text, "\n", last, "\nend\n")
+}
+
+/// Adds so many lines.
+fn push_lines(text: &mut String, lines: u32, line: &str) -> Result<(), AllocError> {
+    for _ in 0..lines {
+        text.push_str("\n")?;
+        text.push_str(line)?;
+    }
+    Ok(())
+}
+
 /// A text with so many names, so many lines of one weight, and a last one.
 fn text_of(
     alloc: Global,
@@ -288,17 +339,7 @@ fn text_of(
     last: &str,
 ) -> Result<String, AllocError> {
     let mut text = String::new(alloc);
-    text.push_str("sfm 1\nground")?;
-    for i in 0..names {
-        text.push_str(format!(in alloc; " e{i}")?.as_str())?;
-    }
-    for _ in 0..lines {
-        text.push_str("\n")?;
-        text.push_str(line)?;
-    }
-    text.push_str("\n")?;
-    text.push_str(last)?;
-    text.push_str("\nend\n")?;
+    push_text(alloc, &mut text, names, lines, line, last)?;
     Ok(text)
 }
 
@@ -306,8 +347,10 @@ const MOST: &str = "weight e0:1000000000000";
 
 const WIDE: &str = "table 0 0 0 0 0 0 0 0 0 0 0 0 0 0 0 0 : e0 e1 e2 e3";
 
-/// Texts by the count of names, that of lines, the line and the last line, with the first fault.
-const TOTALS: [(u32, u32, &str, &str, usize, &[u8]); 10] = [
+/// The counts of names and of lines of a text, the line and the last line, and the first fault.
+type Total = (u32, u32, &'static str, &'static str, usize, &'static [u8]);
+
+const TOTALS: [Total; 10] = [
     (256, 0, "", "", 0, b"good"),
     (257, 0, "", "", 2, b"total"),
     (1, 4096, "weight e0:1", "", 0, b"good"),
@@ -334,30 +377,58 @@ const TOTALS: [(u32, u32, &str, &str, usize, &[u8]); 10] = [
     ),
 ];
 
-#[test]
-fn totals_are_bounded(rt: HostRuntime) -> Result<(), Fail> {
-    for (names, lines, line, last, fault, reason) in &TOTALS {
-        let text = text_of(rt.alloc(), *names, *lines, line, last)?;
-        let found = first_fault(rt.alloc(), text.as_bytes());
-        assert_eq!(rt; found, (*fault, *reason));
-    }
+/// Asserts the first fault of such a text.
+fn has_total(rt: &impl Abort, alloc: Global, row: &Total) -> Result<(), AllocError> {
+    let (names, lines, line, last, fault, reason) = *row;
+    let text = text_of(alloc, names, lines, line, last)?;
+    assert!(rt; first_fault(alloc, text.as_bytes()) == (fault, reason));
     Ok(())
 }
 
 #[test]
+fn totals_are_bounded(rt: HostRuntime) -> Result<(), Fail> {
+    for row in &TOTALS {
+        has_total(&rt, rt.alloc(), row)?;
+    }
+    Ok(())
+}
+
+/// Adds the line of a table of so many names, which has that many values.
+fn push_table(
+    alloc: Global,
+    table: &mut String,
+    names: u32,
+    values: u32,
+) -> Result<(), AllocError> {
+    table.push_str("table")?;
+    push_many(table, " 0", values)?;
+    table.push_str(" :")?;
+    push_numbered(alloc, table, " e", names, "")
+}
+
+/// The first fault of a text of nine names with a table of some of them.
+fn fault_of_table(
+    alloc: Global,
+    names: u32,
+    values: u32,
+) -> Result<(usize, &'static [u8]), AllocError> {
+    let mut table = String::new(alloc);
+    push_table(alloc, &mut table, names, values)?;
+    let text = text_of(alloc, 9, 0, "", table.as_str())?;
+    Ok(first_fault(alloc, text.as_bytes()))
+}
+
+/// The counts of names and of values of a table, and the first fault.
+const WIDE_TABLES: [(u32, u32, (usize, &[u8])); 2] = [
+    (8, 256, (0, b"good")),
+    (9, 512, (3, b"shape")),
+];
+
+#[test]
 fn a_table_has_8_names_at_most(rt: HostRuntime) -> Result<(), Fail> {
-    for (names, found) in [(8, (0, b"good".as_slice())), (9, (3, b"shape".as_slice()))] {
-        let mut table = String::new(rt.alloc());
-        table.push_str("table")?;
-        for _ in 0..1_u32 << names {
-            table.push_str(" 0")?;
-        }
-        table.push_str(" :")?;
-        for i in 0..names {
-            table.push_str(format!(in rt.alloc(); " e{i}")?.as_str())?;
-        }
-        let text = text_of(rt.alloc(), 9, 0, "", table.as_str())?;
-        assert_eq!(rt; first_fault(rt.alloc(), text.as_bytes()), found);
+    for (names, values, fault) in &WIDE_TABLES {
+        let found = fault_of_table(rt.alloc(), *names, *values)?;
+        assert!(rt; found == *fault);
     }
     Ok(())
 }
@@ -399,31 +470,46 @@ fn a_text_beyond_the_limit_is_long(rt: HostRuntime) -> Result<(), Fail> {
     Ok(())
 }
 
+/// The first fault of a text with a line of 400,001 tokens.
+fn fault_of_tokens(alloc: Global) -> Result<(usize, &'static [u8]), AllocError> {
+    let mut line = String::new(alloc);
+    line.push_str("weight")?;
+    push_many(&mut line, " a:1", 400_000)?;
+    let text = text_of(alloc, 1, 0, "", line.as_str())?;
+    Ok(first_fault(alloc, text.as_bytes()))
+}
+
 #[test]
 fn a_line_of_many_tokens_is_read(rt: HostRuntime) -> Result<(), Fail> {
-    let mut line = String::new(rt.alloc());
-    line.push_str("weight")?;
-    for _ in 0..400_000_u32 {
-        line.push_str(" a:1")?;
-    }
-    let text = text_of(rt.alloc(), 1, 0, "", line.as_str())?;
-    assert_eq!(rt;
-        first_fault(rt.alloc(), text.as_bytes()),
-        (3, b"name".as_slice())
-    );
+    let found = fault_of_tokens(rt.alloc())?;
+    assert!(rt; found == (3, b"name".as_slice()));
+    Ok(())
+}
+
+/// A text, and the number, the start and the end of each of its lines that has something.
+const SPANS: (&[u8], &[(usize, usize, usize)]) = (b"#\n a b\r\n\nc", &[(2, 2, 6), (4, 9, 10)]);
+
+/// Lines, and the token of a number.
+const TOKENS: [(&[u8], usize, Option<&[u8]>); 5] = [
+    (b" a \tbc", 0, Some(b"a")),
+    (b" a \tbc", 1, Some(b"bc")),
+    (b" a \tbc", 2, None),
+    (b"\t a  bc ", 1, Some(b"bc")),
+    (b"\t a  bc ", 2, None),
+];
+
+#[test]
+fn lines_have_their_places(rt: HostRuntime) -> Result<(), Fail> {
+    let spans = content_lines(rt.alloc(), SPANS.0)?;
+    assert!(rt; spans.as_slice() == SPANS.1);
     Ok(())
 }
 
 #[test]
-fn lines_and_tokens_have_their_places(rt: HostRuntime) -> Result<(), Fail> {
-    let spans = content_lines(rt.alloc(), b"#\n a b\r\n\nc")?;
-    assert_eq!(rt; spans.as_slice(), [(2, 2, 6), (4, 9, 10)].as_slice());
-    assert_eq!(rt; token(b" a \tbc", 0), Some(b"a".as_slice()));
-    assert_eq!(rt; token(b" a \tbc", 1), Some(b"bc".as_slice()));
-    assert_eq!(rt; token(b" a \tbc", 2), None);
-    assert_eq!(rt; token(b"\t a  bc ", 1), Some(b"bc".as_slice()));
-    assert_eq!(rt; token(b"\t a  bc ", 2), None);
-    Ok(())
+fn tokens_have_their_places(rt: HostRuntime) {
+    for (line, number, found) in &TOKENS {
+        assert!(rt; token(line, *number) == *found);
+    }
 }
 
 #[test]

@@ -1,10 +1,12 @@
 // Lines of some thousands of tokens, each with its first reason.
+use super::parts::push_numbered;
 use super::{LAST, WHOLE, first_fault, framed, has_faults};
 use sfm_base::{Memory, Set};
 use sfm_kind::Kind;
 use sfm_law::Term;
 use sfm_text::read_instance;
-use std::alloc::Global;
+use std::alloc::{AllocError, Global};
+use std::process::Abort;
 use std::test::Fail;
 
 const LONG_HEADERS_AND_GROUNDS: &str = "\
@@ -116,24 +118,36 @@ fn laminar_lines_of_many_groups(rt: HostRuntime) -> Result<(), Fail> {
     Ok(())
 }
 
-/// The pairs of 40 elements as groups of a laminar rank.
+/// Adds the pairs of an element and those before it, as groups.
+fn push_pairs(alloc: Global, text: &mut String, i: u32) -> Result<(), AllocError> {
+    let second = format!(in alloc; " n{i}")?;
+    push_numbered(alloc, text, " ; 1 n", i, second.as_str())
+}
+
+/// Adds the pairs of so many elements as groups.
+fn push_all_pairs(alloc: Global, text: &mut String, count: u32) -> Result<(), AllocError> {
+    for i in 0..count {
+        push_pairs(alloc, text, i)?;
+    }
+    Ok(())
+}
+
+/// Adds a text with the pairs of 40 elements as groups of a laminar rank.
+fn push_crossing(alloc: Global, text: &mut String) -> Result<(), AllocError> {
+    text.push_str("sfm 1\nground")?;
+    push_numbered(alloc, text, " n", 40, "")?;
+    text.push_str("\nrank 1 laminar :")?;
+    push_numbered(alloc, text, " n", 40, "")?;
+    push_all_pairs(alloc, text, 40)?;
+    text.push_str("\nend\n")
+}
+
 #[test]
 fn many_groups_that_cross(rt: HostRuntime) -> Result<(), Fail> {
-    let mut names = String::new(rt.alloc());
-    let mut groups = String::new(rt.alloc());
-    for i in 0..40_u32 {
-        names.push_str(format!(in rt.alloc(); " n{i}")?.as_str())?;
-        for j in 0..i {
-            groups.push_str(format!(in rt.alloc(); " ; 1 n{j} n{i}")?.as_str())?;
-        }
-    }
-    let text = format!(in rt.alloc();
-        "sfm 1\nground{names}\nrank 1 laminar :{names}{groups}\nend\n"
-    )?;
-    assert_eq!(rt;
-        first_fault(rt.alloc(), text.as_bytes()),
-        (3, b"law".as_slice())
-    );
+    let mut text = String::new(rt.alloc());
+    push_crossing(rt.alloc(), &mut text)?;
+    let found = first_fault(rt.alloc(), text.as_bytes());
+    assert!(rt; found == (3, b"law".as_slice()));
     Ok(())
 }
 
@@ -146,29 +160,51 @@ fn value_of_all(alloc: Global, term: &Kind) -> Result<Option<i128>, Memory> {
     term.value(alloc, &all)
 }
 
-#[test]
-fn of_equal_groups_the_least_is_kept(rt: HostRuntime) -> Result<(), Fail> {
-    let text = framed(rt.alloc(), LAST, EQUAL_GROUPS)?;
-    let instance = read_instance(rt.alloc(), text.as_bytes())?;
-    assert_eq!(rt; instance.terms().len(), 2);
-    for term in instance.terms() {
-        if let Kind::Laminar(laminar) = term {
-            assert_eq!(rt; laminar.groups.len(), 2);
-        }
-        assert_eq!(rt; value_of_all(rt.alloc(), term)?, Some(10));
+/// Asserts that a term has two groups, where it has any, and that value at all of its elements.
+fn is_worth(rt: &impl Abort, alloc: Global, term: &Kind, worth: i128) -> Result<(), Memory> {
+    if let Kind::Laminar(laminar) = term {
+        assert!(rt; laminar.groups.len() == 2);
+    }
+    let value = value_of_all(alloc, term)?;
+    assert!(rt; value == Some(worth));
+    Ok(())
+}
+
+/// Asserts that so many terms have that value at all of their elements.
+fn are_worth(
+    rt: &impl Abort,
+    alloc: Global,
+    terms: &[Kind],
+    count: usize,
+    worth: i128,
+) -> Result<(), Memory> {
+    assert!(rt; terms.len() == count);
+    for term in terms {
+        is_worth(rt, alloc, term, worth)?;
     }
     Ok(())
 }
 
-/// The text with an entry of 3,000 slots and more, which stands between two others.
-fn with_many_slots(alloc: Global, more: &str) -> Result<String, Memory> {
-    let mut slots = String::new(alloc);
-    for i in 0..3_000_u32 {
-        slots.push_str(format!(in alloc; "s{i},")?.as_str())?;
-    }
-    let text = format!(in alloc;
-        "sfm 1\nground a b c\nrank 2 transversal : b=s1 a={slots}{more} c=s0\nend\n"
-    )?;
+#[test]
+fn of_equal_groups_the_least_is_kept(rt: HostRuntime) -> Result<(), Fail> {
+    let text = framed(rt.alloc(), LAST, EQUAL_GROUPS)?;
+    let instance = read_instance(rt.alloc(), text.as_bytes())?;
+    are_worth(&rt, rt.alloc(), instance.terms(), 2, 10)?;
+    Ok(())
+}
+
+/// Adds a text with an entry of 3,000 slots and more, which stands between two others.
+fn push_entry(alloc: Global, text: &mut String, more: &str) -> Result<(), AllocError> {
+    text.push_str("sfm 1\nground a b c\nrank 2 transversal : b=s1 a=")?;
+    push_numbered(alloc, text, "s", 3_000, ",")?;
+    text.push_str(more)?;
+    text.push_str(" c=s0\nend\n")
+}
+
+/// The text with an entry of 3,000 slots and more.
+fn with_many_slots(alloc: Global, more: &str) -> Result<String, AllocError> {
+    let mut text = String::new(alloc);
+    push_entry(alloc, &mut text, more)?;
     Ok(text)
 }
 
@@ -177,47 +213,59 @@ fn with_many_slots(alloc: Global, more: &str) -> Result<String, Memory> {
 fn of_many_slots_the_first_are_kept(rt: HostRuntime) -> Result<(), Fail> {
     let text = with_many_slots(rt.alloc(), "t")?;
     let instance = read_instance(rt.alloc(), text.as_bytes())?;
-    assert_eq!(rt; instance.terms().len(), 1);
-    for term in instance.terms() {
-        assert_eq!(rt; value_of_all(rt.alloc(), term)?, Some(6));
-    }
+    are_worth(&rt, rt.alloc(), instance.terms(), 1, 6)?;
     Ok(())
+}
+
+/// What comes behind the many slots, and the reason of the first fault.
+const FAULTS_OF_SLOTS: [(&str, &[u8]); 4] = [
+    ("s2999", b"twice"),
+    ("s0", b"twice"),
+    ("", b"name"),
+    ("t=u", b"shape"),
+];
+
+/// The first fault of the text with many slots and more.
+fn fault_of_slots(alloc: Global, more: &str) -> Result<(usize, &'static [u8]), AllocError> {
+    let text = with_many_slots(alloc, more)?;
+    Ok(first_fault(alloc, text.as_bytes()))
 }
 
 #[test]
 fn many_slots_with_a_fault_are_refused(rt: HostRuntime) -> Result<(), Fail> {
-    for (more, reason) in [
-        ("s2999", "twice"),
-        ("s0", "twice"),
-        ("", "name"),
-        ("t=u", "shape"),
-    ] {
-        let text = with_many_slots(rt.alloc(), more)?;
-        assert_eq!(rt;
-            first_fault(rt.alloc(), text.as_bytes()),
-            (3, reason.as_bytes())
-        );
+    for (more, reason) in &FAULTS_OF_SLOTS {
+        let found = fault_of_slots(rt.alloc(), more)?;
+        assert!(rt; found == (3, *reason));
     }
     Ok(())
 }
 
+/// Adds a ground of 300,000 names, and more.
+fn push_ground(alloc: Global, text: &mut String, last: &str) -> Result<(), AllocError> {
+    text.push_str("sfm 1\nground")?;
+    push_numbered(alloc, text, " n", 300_000, "")?;
+    text.push_str(last)
+}
+
+/// The first fault of a ground of 300,000 names, and more.
+fn fault_of_ground(alloc: Global, last: &str) -> Result<(usize, &'static [u8]), AllocError> {
+    let mut text = String::new(alloc);
+    push_ground(alloc, &mut text, last)?;
+    Ok(first_fault(alloc, text.as_bytes()))
+}
+
+/// What comes behind the many names, and the reason of the first fault.
+const FAULTS_OF_GROUNDS: [(&str, &[u8]); 3] = [
+    ("", b"total"),
+    (" n0", b"twice"),
+    (" n299999", b"twice"),
+];
+
 #[test]
 fn a_ground_of_many_names_is_refused(rt: HostRuntime) -> Result<(), Fail> {
-    let mut text = String::new(rt.alloc());
-    text.push_str("sfm 1\nground")?;
-    for i in 0..300_000_u32 {
-        text.push_str(format!(in rt.alloc(); " n{i}")?.as_str())?;
-    }
-    assert_eq!(rt;
-        first_fault(rt.alloc(), text.as_bytes()),
-        (2, b"total".as_slice())
-    );
-    for last in [" n0", " n299999"] {
-        let more = format!(in rt.alloc(); "{text}{last}")?;
-        assert_eq!(rt;
-            first_fault(rt.alloc(), more.as_bytes()),
-            (2, b"twice".as_slice())
-        );
+    for (last, reason) in &FAULTS_OF_GROUNDS {
+        let found = fault_of_ground(rt.alloc(), last)?;
+        assert!(rt; found == (2, *reason));
     }
     Ok(())
 }

@@ -1,6 +1,7 @@
 // Texts in pieces: what is answered does not depend on where a text is cut.
 ghost use Rattle.std.specs.Prelude.{◌<◌};
 
+use sfm_base::Memory;
 use sfm_kind::Instance;
 use sfm_text::{Reader, TEXT_LIMIT, TextEnd, read_pieces};
 use std::alloc::Global;
@@ -67,23 +68,34 @@ fn read_cut(alloc: Global, text: &[u8], size: usize) -> Result<Instance, TextEnd
     reader.finish(alloc)
 }
 
+/// A good text of two names and two terms.
+const CUT: &[u8] = b"sfm 1\r\nground a b\r\nweight a:-3 b:2\r\ncut 4 a b\r\nend\r\n";
+
+/// The lengths of its pieces.
+const LENGTHS: [usize; 3] = [1, 7, 65_536];
+
 #[test]
 fn pieces_of_one_length(rt: HostRuntime) {
-    let text = b"sfm 1\r\nground a b\r\nweight a:-3 b:2\r\ncut 4 a b\r\nend\r\n".as_slice();
-    let found = (0, b"good".as_slice(), 2, 2);
-    assert_eq!(rt; told(read_cut(rt.alloc(), text, 1)), found);
-    assert_eq!(rt; told(read_cut(rt.alloc(), text, 7)), found);
-    assert_eq!(rt; told(read_cut(rt.alloc(), text, 65_536)), found);
+    for size in &LENGTHS {
+        assert!(rt; 0 < *size);
+        let found = told(read_cut(rt.alloc(), CUT, *size));
+        assert!(rt; found == (0, b"good".as_slice(), 2, 2));
+    }
+}
+
+/// Feeds so many bytes, each by itself.
+fn feed_many(alloc: Global, reader: &mut Reader, count: usize) -> Result<(), Memory> {
+    for _ in 0..count {
+        reader.feed(alloc, b"#")?;
+    }
+    reader.feed(alloc, b"\n")
 }
 
 #[test]
 fn a_long_text_byte_by_byte(rt: HostRuntime) -> Result<(), Fail> {
-    let alloc = rt.alloc();
-    let mut reader = Reader::new(alloc)?;
-    for _ in 0..TEXT_LIMIT {
-        reader.feed(alloc, b"#")?;
-    }
-    reader.feed(alloc, b"\n")?;
-    assert_eq!(rt; told(reader.finish(alloc)), (0, b"long".as_slice(), 0, 0));
+    let mut reader = Reader::new(rt.alloc())?;
+    feed_many(rt.alloc(), &mut reader, TEXT_LIMIT)?;
+    let found = told(reader.finish(rt.alloc()));
+    assert!(rt; found == (0, b"long".as_slice(), 0, 0));
     Ok(())
 }

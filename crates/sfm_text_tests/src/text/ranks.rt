@@ -1,4 +1,5 @@
 // The lines of concave functions and of ranks.
+use super::told::{Numbers, Told, are_told};
 use super::{AMONG, has_faults};
 use sfm_kind::Kind;
 use sfm_law::Term;
@@ -177,61 +178,61 @@ fn transversal_lines(rt: HostRuntime) -> Result<(), Fail> {
 const LINES_OF_TERMS: &[u8] =
     b"sfm 1\nground a b c d\nconcave 3 5 6 : d a b\nrank 7 uniform 2 : c a\nrank 5 laminar : d b a ; 2 b d ; 1 a\nend\n";
 
+/// Their terms.
+const TERMS: [Told; 3] = [
+    Told {
+        places: &[3, 0, 1],
+        numbers: Numbers::Concave(&[3, 5, 6]),
+    },
+    Told {
+        places: &[2, 0],
+        numbers: Numbers::Uniform(7, 2),
+    },
+    Told {
+        places: &[3, 1, 0],
+        numbers: Numbers::Laminar(5, 2),
+    },
+];
+
 #[test]
 fn the_terms_are_those_of_their_lines(rt: HostRuntime) -> Result<(), Fail> {
     let instance = read_instance(rt.alloc(), LINES_OF_TERMS)?;
-    let terms = instance.terms();
-    assert_eq!(rt; terms.len(), 3);
-    if let Kind::Concave(concave) = &terms[0] {
-        assert_eq!(rt; concave.places.as_slice(), [3, 0, 1].as_slice());
-        assert_eq!(rt; concave.values.as_slice(), [3, 5, 6].as_slice());
-    } else {
-        panic!(rt; "no concave function");
-    }
-    if let Kind::Uniform(uniform) = &terms[1] {
-        assert_eq!(rt; uniform.places.as_slice(), [2, 0].as_slice());
-        assert_eq!(rt; uniform.w, 7);
-        assert_eq!(rt; uniform.cap, 2);
-    } else {
-        panic!(rt; "no uniform rank");
-    }
-    if let Kind::Laminar(laminar) = &terms[2] {
-        assert_eq!(rt; laminar.places.as_slice(), [3, 1, 0].as_slice());
-        assert_eq!(rt; laminar.w, 5);
-        assert_eq!(rt; laminar.groups.len(), 2);
-    } else {
-        panic!(rt; "no laminar rank");
-    }
+    assert!(rt; are_told(instance.terms(), &TERMS));
     Ok(())
 }
 
 const NAMES_OF_LABELS: &[u8] =
     b"sfm 1\nground a b c d\nrank 3 graphic : d=v-u a=u-w b=v-w c=w-w\nrank 4 transversal : b=t,s d=s,t a=t\nend\n";
 
+/// Their terms.
+const TERMS_OF_LABELS: [Told; 2] = [
+    Told {
+        places: &[3, 0, 1, 2],
+        numbers: Numbers::Graphic(3, &[(0, 1), (1, 2), (0, 2), (2, 2)]),
+    },
+    Told {
+        places: &[1, 3, 0],
+        numbers: Numbers::Transversal(4, 3),
+    },
+];
+
+// Three edges make a circuit and one is a loop, so two are a greatest forest, and two of the three elements have slots of their own.
+const SIZES: [i128; 2] = [6, 8];
+
+/// Whether terms have these sizes.
+fn are_sized(terms: &[Kind], sizes: &[i128]) -> bool {
+    for (term, size) in terms.iter().zip(sizes) {
+        if term.size() != *size {
+            return false;
+        }
+    }
+    terms.len() == sizes.len()
+}
+
 #[test]
 fn vertices_and_slots_are_told_by_their_names(rt: HostRuntime) -> Result<(), Fail> {
     let instance = read_instance(rt.alloc(), NAMES_OF_LABELS)?;
-    let terms = instance.terms();
-    assert_eq!(rt; terms.len(), 2);
-    if let Kind::Graphic(graphic) = &terms[0] {
-        assert_eq!(rt; graphic.places.as_slice(), [3, 0, 1, 2].as_slice());
-        assert_eq!(rt; graphic.w, 3);
-        assert_eq!(rt;
-            graphic.ends.as_slice(),
-            [(0, 1), (1, 2), (0, 2), (2, 2)].as_slice()
-        );
-    } else {
-        panic!(rt; "no graphic rank");
-    }
-    if let Kind::Transversal(transversal) = &terms[1] {
-        assert_eq!(rt; transversal.places.as_slice(), [1, 3, 0].as_slice());
-        assert_eq!(rt; transversal.w, 4);
-        assert_eq!(rt; transversal.entries.len(), 3);
-    } else {
-        panic!(rt; "no transversal rank");
-    }
-    // three edges make a circuit and one is a loop, so two are a greatest forest, and two of the three elements have slots of their own
-    assert_eq!(rt; terms[0].size(), 6);
-    assert_eq!(rt; terms[1].size(), 8);
+    assert!(rt; are_told(instance.terms(), &TERMS_OF_LABELS));
+    assert!(rt; are_sized(instance.terms(), &SIZES));
     Ok(())
 }
