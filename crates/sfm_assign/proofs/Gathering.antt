@@ -8,13 +8,17 @@ use Rattle.sfm_spec.proofs.Sets.{in_union, union_left, union_right}
 use Rattle.sfm_spec.proofs.Sums.{length-union}
 use Rattle.sfm_assign.specs.Splits.{amount_at}
 use Rattle.sfm_assign.specs.Cells.{label_at}
-use Rattle.sfm_assign.specs.Spread.{IsStepClosed, LeadsTo, AreLedTo, LeadsToRoom, IsAnswer, Holds, IsFullClosed, AreTakenIn, HeldWithRoom, IsPutTo}
+use Rattle.sfm_assign.specs.Spread.{IsStepClosed, LeadsTo, AreLedTo, LeadsToRoom, IsAnswer, IsHeldBy, Holds, IsFullClosed, AreTakenIn, HeldWithRoom, IsPutTo}
 use Rattle.sfm_assign.specs.declared.spread.Answer.{Answer}
 use Rattle.sfm_assign.specs.declared.spread.Answer.TheVariants.{Room, Full}
 
 -- nothing is on a cell
 abbrev pub nothing_on : List ℤ → ℕ → Type 0
 nothing_on y f = amount_at y f ≤ℤ pos 0
+
+-- the demand of a cell that has something holds its slot
+pub holds_by : (whos slots : List ℕ) (y : List ℤ) (s cell h : ℕ) → IsHeldBy whos slots y s cell → h ≡ label_at whos cell → Holds whos slots y s h
+holds_by whos slots y s cell h held is = record { cell = cell; exists = held.exists; mine = sym is; there = held.there; some = held.some }
 
 module _ (n : ℕ) (whos slots : List ℕ) (y rooms : List ℤ) where
   -- what is gathered so far for the demand u: it leads to all of it

@@ -97,6 +97,12 @@ pub record Holds (whos slots : List ℕ) (y : List ℤ) (s h : ℕ) : Type 0 whe
   pub there : label_at slots cell ≡ s
   pub some : pos 1 ≤ℤ amount_at y cell
 
+-- a cell of the slot s has something on it
+pub record IsHeldBy (whos slots : List ℕ) (y : List ℤ) (s cell : ℕ) : Type 0 where
+  pub exists : cell < length whos
+  pub there : label_at slots cell ≡ s
+  pub some : pos 1 ≤ℤ amount_at y cell
+
 -- no step leaves the set of n demands, and none of their slots has room
 pub record IsFullClosed (n : ℕ) (whos slots : List ℕ) (y rooms : List ℤ) (set : List Bool) : Type 0 where
   pub places : length set ≡ n

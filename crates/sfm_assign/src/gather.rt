@@ -1,8 +1,8 @@
 // What a demand leads to, put together from what is told of those that hold its slots. All that have something on one slot lead to
 // each other, so one of them tells for the slot; and a demand leads to what the holders of its slots lead to, and to no other.
 // So a search is made for holders alone, and few are: a dense graph has many edges and few vertices.
-ghost use Rattle.std.specs.Prelude.{◌≡◌, ℕ, ◌<◌, Bool, List, false, true, length, slice_set, IfOk, OnOk, MatchOption, MatchBool};
-ghost use Rattle.sfm_assign.specs.Spread.{AreTold, IsKnown, AreLedTo, LeadsToRoom, Holds, IsFullClosed, AreTakenIn, HeldWithRoom, IsPutTo};
+ghost use Rattle.std.specs.Prelude.{◌≡◌, ℕ, ◌<◌, Bool, List, false, true, length, slice_set, IfOk, OnOk, MatchOption, MatchBool, IsTrue};
+ghost use Rattle.sfm_assign.specs.Spread.{AreTold, IsKnown, AreLedTo, LeadsToRoom, Holds, IsHeldBy, IsFullClosed, AreTakenIn, HeldWithRoom, IsPutTo};
 ghost use Rattle.sfm_assign.specs.declared.spread.Answer.TheVariants.{Full};
 ghost use Rattle.sfm_assign.specs.declared.spread.Answer.{Answer};
 
@@ -40,20 +40,46 @@ fn learn(
     Ok(())
 }
 
-/// A demand that has something on the slot s, if there is one.
-fn holder_of(shares: &Shares, s: usize) -> Option<usize>
+/// Whether a cell is one of the slot s that has something on it.
+fn is_held(shares: &Shares, s: usize, f: usize) -> bool
     requires same { length shares.now.y.items ≡ length shares.now.cells.whos.items }
     requires each { length shares.now.cells.slots.items ≡ length shares.now.cells.whos.items }
-    ensures { MatchOption result ((h : ℕ) → Holds shares.now.cells.whos.items shares.now.cells.slots.items shares.now.y.items s h → ⊥) (Holds shares.now.cells.whos.items shares.now.cells.slots.items shares.now.y.items s) }
+    ensures { IsTrue result → IsHeldBy shares.now.cells.whos.items shares.now.cells.slots.items shares.now.y.items s f }
+{
+    f < shares.y.len() && shares.cells.slots[f] == s && shares.y[f] > 0
+}
+
+/// A cell of the slot s that has something on it, if there is one.
+fn held_cell(shares: &Shares, s: usize) -> Option<usize>
+    requires same { length shares.now.y.items ≡ length shares.now.cells.whos.items }
+    requires each { length shares.now.cells.slots.items ≡ length shares.now.cells.whos.items }
+    ensures { MatchOption result ((h : ℕ) → Holds shares.now.cells.whos.items shares.now.cells.slots.items shares.now.y.items s h → ⊥) (IsHeldBy shares.now.cells.whos.items shares.now.cells.slots.items shares.now.y.items s) }
 {
     let mut next = shares.cells.by_slot.head(s);
     while let Some(f) = next {
         if shares.y[f] > 0 {
-            return Some(shares.cells.whos[f]);
+            return Some(f);
         }
         next = shares.cells.by_slot.nexts[f];
     }
     None
+}
+
+/// A demand that has something on the slot s, if there is one: that of the cell that is noted, or else of the first that is found,
+/// which is noted then.
+fn holder_of(at: &mut Spread, shares: &Shares, s: usize) -> Option<usize>
+    requires same { length shares.now.y.items ≡ length shares.now.cells.whos.items }
+    requires each { length shares.now.cells.slots.items ≡ length shares.now.cells.whos.items }
+    ensures { MatchOption result ((h : ℕ) → Holds shares.now.cells.whos.items shares.now.cells.slots.items shares.now.y.items s h → ⊥) (Holds shares.now.cells.whos.items shares.now.cells.slots.items shares.now.y.items s) }
+{
+    if let Some(f) = at.hinted(s) {
+        if is_held(shares, s, f) {
+            return Some(shares.cells.whos[f]);
+        }
+    }
+    let f = held_cell(shares, s)?;
+    at.hint(s, f);
+    Some(shares.cells.whos[f])
 }
 
 /// Puts what is told to a set, or tells room.
@@ -108,7 +134,7 @@ fn take_slot(
         (HeldWithRoom split.now.shares.now.cells.whos.items split.now.shares.now.cells.slots.items split.now.shares.now.y.items split.now.rooms.now s)
         (AreTakenIn (length answers.old.items) split.now.shares.now.cells.whos.items split.now.shares.now.cells.slots.items split.now.shares.now.y.items split.now.rooms.now s to.old to.new)) }
 {
-    let Some(h) = holder_of(split.shares, s) else {
+    let Some(h) = holder_of(at, split.shares, s) else {
         return Ok(false);
     };
     learn(alloc, at, split, answers, h)?;

@@ -36,6 +36,8 @@ pub(crate) struct Spread {
     queue: Vec<usize>,
     next: usize,
     idle: Vec<Set>,
+    /// For each slot a cell that may have something on it: a guess, of which nothing is known.
+    hints: Vec<usize>,
 }
 
 /// Makes a set the one with nothing of n places, in its own memory where it has as many.
@@ -96,7 +98,37 @@ impl Spread {
             queue: Vec::new(alloc),
             next: 0,
             idle: Vec::new(alloc),
+            hints: Vec::new(alloc),
         })
+    }
+
+    /// Notes a cell for the slot s, where there is room for a note.
+    pub(crate) fn hint(&mut self, s: usize, cell: usize) {
+        if s < self.hints.len() {
+            self.hints[s] = cell;
+        }
+    }
+
+    /// The cell that is noted for the slot s, if one is.
+    pub(crate) fn hinted(&self, s: usize) -> Option<usize> {
+        match self.hints.get(s) {
+            Some(cell) => Some(*cell),
+            None => None,
+        }
+    }
+
+    /// Makes room for a note of each of m slots.
+    fn widen(&mut self, m: usize) -> Result<(), Memory>
+        ensures from { self.new.from ≡ self.old.from }
+        ensures found { self.new.found ≡ self.old.found }
+        ensures marks { self.new.marks ≡ self.old.marks }
+        ensures queue { self.new.queue.items ≡ self.old.queue.items }
+        ensures next { self.new.next ≡ self.old.next }
+    {
+        for _ in self.hints.len()..m {
+            self.hints.push(0)?;
+        }
+        Ok(())
     }
 
     /// Keeps the memory of a set that is told no more. It is let go where there is no memory to note it.
@@ -120,7 +152,7 @@ impl Spread {
         self.queue.push(u)?;
         self.from = u;
         self.next = 0;
-        Ok(())
+        self.widen(m)
     }
 
     /// Takes out what was found; an idle set, or else a new one, stands in its place.

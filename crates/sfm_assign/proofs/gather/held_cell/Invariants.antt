@@ -1,7 +1,7 @@
 -- the cells of the slot from some cell on are passed, and nothing is on them
 use Rattle.sfm_assign.proofs.Gathering.{nothing_on}
 use Rattle.sfm_assign.proofs.Linking.{IsPassed, ahead}
-use Rattle.sfm_assign.proofs.gather.holder_of.Given as goal
+use Rattle.sfm_assign.proofs.gather.held_cell.Given as goal
 
 abbrev pub invariant-loop-next : goal.invariant-loop-next
 invariant-loop-next l = IsPassed l.shares.cells.slots.items l.s l.next (nothing_on l.shares.y.items)

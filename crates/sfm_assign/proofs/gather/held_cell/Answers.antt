@@ -3,7 +3,7 @@ use Rattle.std.proofs.lemmas.Int.{ints}
 use Rattle.std.proofs.lemmas.List.{get_or_read}
 use Rattle.sfm_assign.proofs.Gathering.{nothing_on}
 use Rattle.sfm_assign.proofs.Linking.{pass_begun, pass_falls, pass_here, pass_more, pass_done}
-use Rattle.sfm_assign.proofs.gather.holder_of.Goals as goal
+use Rattle.sfm_assign.proofs.gather.held_cell.Goals as goal
 
 pub loop-next-init : goal.loop-next-init
 loop-next-init c =
@@ -17,12 +17,6 @@ index-requires c =
     let each = c.requires.each in
     omega (arith, lt, same, each)
 
-pub index-requires-then-index-gt0 : goal.index-requires-then-index-gt0
-index-requires-then-index-gt0 c =
-    let (lt, mine) = pass_here c.in-Some.is c.loop-next.invariant in
-    let each = c.requires.each in
-    omega (arith, lt, each)
-
 pub returns-then-index-gt0 : goal.returns-then-index-gt0
 returns-then-index-gt0 c =
     let cells = c.args.shares.now.cells in
@@ -32,13 +26,7 @@ returns-then-index-gt0 c =
     let within : c.in-Some.f < length cells.whos.items = omega (arith, lt, each) in
     let amount = get_or_read c.args.shares.now.y.items c.in-Some.f c.index.result.now (omega (arith, within, same)) c.index.ensures (pos 0) in
     let more = c.if-index-gt0.true in
-    record {
-      cell = c.in-Some.f;
-      exists = within;
-      mine = sym (get_or_read cells.whos.items c.in-Some.f c.index-then-index-gt0.result.now within c.index-then-index-gt0.ensures 0);
-      there = mine;
-      some = omega (arith, ints, amount, more);
-    }
+    record { exists = within; there = mine; some = omega (arith, ints, amount, more) }
 
 pub index-next-requires : goal.index-next-requires
 index-next-requires c =
