@@ -98,7 +98,13 @@ fn put_told(answer: &Answer, to: &mut Set) -> bool
 }
 
 /// Takes in what the holder h of the slot s leads to, if it was not found before; tells whether that has room.
-fn take_in(split: &Standing, answers: &[Option<Answer>], s: usize, h: usize, to: &mut Set) -> bool
+fn take_holder(
+    split: &Standing,
+    answers: &[Option<Answer>],
+    s: usize,
+    h: usize,
+    to: &mut Set,
+) -> bool
     requires told { AreTold split.now.shares.now.cells.whos.items split.now.shares.now.cells.slots.items split.now.shares.now.y.items split.now.rooms.now answers.now }
     requires known { IsKnown answers.now h }
     requires place { h < length answers.now }
@@ -138,7 +144,7 @@ fn take_slot(
         return Ok(false);
     };
     learn(alloc, at, split, answers, h)?;
-    Ok(take_in(split, answers.as_slice(), s, h, to))
+    Ok(take_holder(split, answers.as_slice(), s, h, to))
 }
 
 /// Gathers what the demand u leads to, but for u itself, of which nothing is told; tells whether a slot with room is led to, and

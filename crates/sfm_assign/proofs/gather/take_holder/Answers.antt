@@ -3,8 +3,8 @@ use Rattle.std.proofs.lemmas.List.{get_or_read}
 use Rattle.sfm_assign.specs.Spread.{IsAnswer}
 use Rattle.sfm_assign.proofs.Spreads.{answer_told}
 use Rattle.sfm_assign.proofs.Gathering.{taken_before, put_taken, put_even}
-use Rattle.sfm_assign.proofs.gather.take_in.Goals.{In-Some}
-use Rattle.sfm_assign.proofs.gather.take_in.Goals as goal
+use Rattle.sfm_assign.proofs.gather.take_holder.Goals.{In-Some}
+use Rattle.sfm_assign.proofs.gather.take_holder.Goals as goal
 
 -- what is told of the holder
 told : (c : In-Some) → IsAnswer (length c.args.answers.now) c.args.split.now.shares.now.cells.whos.items c.args.split.now.shares.now.cells.slots.items c.args.split.now.shares.now.y.items c.args.split.now.rooms.now c.args.h c.in-Some.answer
