@@ -12,70 +12,51 @@ use Rattle.sfm_spec.proofs.Sizes.{AreSizes, weight_grows, within_by_intersection
 use Rattle.sfm_spec.proofs.Lattice.{sum-submodular}
 use Rattle.sfm_spec.proofs.Slopes.{sum_over-sized, slope_clash}
 
--- q times the sum, less p for each unit of size
-pub shifted-sized : (terms : List Meaning) (sizes : List ℤ) (p q : ℤ) (s : List Bool) → shifted_at terms q (sized_shift sizes p) s ≡ (q *ℤ sum_at terms s -ℤ p *ℤ sum_over s sizes)
-shifted-sized terms sizes p q s = ap (λ y. q *ℤ sum_at terms s -ℤ y) (sum_over-sized s sizes p)
+module _ (terms : List Meaning) (sizes : List ℤ) (p q : ℤ) where
+  abbrev worth : List Bool → ℤ
+  worth s = shifted_at terms q (sized_shift sizes p) s
 
--- from one set to another the shifted value does not rise: the sum rises by at most p/q of the weight
-pub rises_slower : (terms : List Meaning) (sizes : List ℤ) (p q : ℤ) (s t : List Bool) → shifted_at terms q (sized_shift sizes p) t ≤ℤ shifted_at terms q (sized_shift sizes p) s
-    → (q *ℤ (sum_at terms t -ℤ sum_at terms s)) ≤ℤ (p *ℤ (sum_over t sizes -ℤ sum_over s sizes))
-rises_slower terms sizes p q s t h =
-    let a = shifted-sized terms sizes p q s in
-    let b = shifted-sized terms sizes p q t in
-    let f = times-sub q (sum_at terms t) (sum_at terms s) in
-    let g = times-sub p (sum_over t sizes) (sum_over s sizes) in
-    omega (arith, ints, a, b, f, g, h)
+  -- q times the sum, less p for each unit of size
+  pub shifted-sized : (s : List Bool) → worth s ≡ (q *ℤ sum_at terms s -ℤ p *ℤ sum_over s sizes)
+  shifted-sized s = ap (λ y. q *ℤ sum_at terms s -ℤ y) (sum_over-sized s sizes p)
 
--- it does not fall: the sum rises by at least p/q of the weight
-pub rises_faster : (terms : List Meaning) (sizes : List ℤ) (p q : ℤ) (s t : List Bool) → shifted_at terms q (sized_shift sizes p) s ≤ℤ shifted_at terms q (sized_shift sizes p) t
-    → (p *ℤ (sum_over t sizes -ℤ sum_over s sizes)) ≤ℤ (q *ℤ (sum_at terms t -ℤ sum_at terms s))
-rises_faster terms sizes p q s t h =
-    let a = shifted-sized terms sizes p q s in
-    let b = shifted-sized terms sizes p q t in
-    let f = times-sub q (sum_at terms t) (sum_at terms s) in
-    let g = times-sub p (sum_over t sizes) (sum_over s sizes) in
-    omega (arith, ints, a, b, f, g, h)
+  -- ---- from one set to another
 
--- it rises
-pub rises_more : (terms : List Meaning) (sizes : List ℤ) (p q : ℤ) (s t : List Bool) → shifted_at terms q (sized_shift sizes p) s <ℤ shifted_at terms q (sized_shift sizes p) t
-    → (p *ℤ (sum_over t sizes -ℤ sum_over s sizes)) <ℤ (q *ℤ (sum_at terms t -ℤ sum_at terms s))
-rises_more terms sizes p q s t h =
-    let a = shifted-sized terms sizes p q s in
-    let b = shifted-sized terms sizes p q t in
-    let f = times-sub q (sum_at terms t) (sum_at terms s) in
-    let g = times-sub p (sum_over t sizes) (sum_over s sizes) in
-    omega (arith, ints, a, b, f, g, h)
+  module _ (s t : List Bool) where
+    -- the rise of the sum, and that of the weight
+    abbrev gain : ℤ
+    gain = sum_at terms t -ℤ sum_at terms s
 
--- it falls
-pub rises_less : (terms : List Meaning) (sizes : List ℤ) (p q : ℤ) (s t : List Bool) → shifted_at terms q (sized_shift sizes p) t <ℤ shifted_at terms q (sized_shift sizes p) s
-    → (q *ℤ (sum_at terms t -ℤ sum_at terms s)) <ℤ (p *ℤ (sum_over t sizes -ℤ sum_over s sizes))
-rises_less terms sizes p q s t h =
-    let a = shifted-sized terms sizes p q s in
-    let b = shifted-sized terms sizes p q t in
-    let f = times-sub q (sum_at terms t) (sum_at terms s) in
-    let g = times-sub p (sum_over t sizes) (sum_over s sizes) in
-    omega (arith, ints, a, b, f, g, h)
+    abbrev load : ℤ
+    load = sum_over t sizes -ℤ sum_over s sizes
 
--- it stays: the slope is the rise of the sum over the rise of the weight
-pub rises_same : (terms : List Meaning) (sizes : List ℤ) (p q : ℤ) (s t : List Bool) → shifted_at terms q (sized_shift sizes p) t ≡ shifted_at terms q (sized_shift sizes p) s
-    → (q *ℤ (sum_at terms t -ℤ sum_at terms s)) ≡ (p *ℤ (sum_over t sizes -ℤ sum_over s sizes))
-rises_same terms sizes p q s t h =
-    let a = shifted-sized terms sizes p q s in
-    let b = shifted-sized terms sizes p q t in
-    let f = times-sub q (sum_at terms t) (sum_at terms s) in
-    let g = times-sub p (sum_over t sizes) (sum_over s sizes) in
-    omega (arith, ints, a, b, f, g, h)
+    -- the shifted value rises by q times the one, less p times the other
+    rise : (worth t -ℤ worth s) ≡ (q *ℤ gain -ℤ p *ℤ load)
+    rise = omega (arith, ints, shifted-sized s, shifted-sized t, times-sub q (sum_at terms t) (sum_at terms s), times-sub p (sum_over t sizes) (sum_over s sizes))
 
--- at the slope that is the rise of the sum over the rise of the weight both sets are worth the same
-pub same_by_ratio : (terms : List Meaning) (sizes : List ℤ) (p q : ℤ) (s t : List Bool) → IsSameSlope p q (sum_at terms t -ℤ sum_at terms s) (sum_over t sizes -ℤ sum_over s sizes)
-    → shifted_at terms q (sized_shift sizes p) t ≡ shifted_at terms q (sized_shift sizes p) s
-same_by_ratio terms sizes p q s t h =
-    let a = shifted-sized terms sizes p q s in
-    let b = shifted-sized terms sizes p q t in
-    let f = times-sub q (sum_at terms t) (sum_at terms s) in
-    let g = times-sub p (sum_over t sizes) (sum_over s sizes) in
-    let c = times-comm q (sum_at terms t -ℤ sum_at terms s) in
-    omega (arith, ints, a, b, f, g, c, h)
+    -- it does not rise: the sum rises by at most p/q of the weight
+    pub rises_slower : worth t ≤ℤ worth s → (q *ℤ gain) ≤ℤ (p *ℤ load)
+    rises_slower h = omega (arith, ints, rise, h)
+
+    -- it does not fall: the sum rises by at least p/q of the weight
+    pub rises_faster : worth s ≤ℤ worth t → (p *ℤ load) ≤ℤ (q *ℤ gain)
+    rises_faster h = omega (arith, ints, rise, h)
+
+    -- it rises
+    pub rises_more : worth s <ℤ worth t → (p *ℤ load) <ℤ (q *ℤ gain)
+    rises_more h = omega (arith, ints, rise, h)
+
+    -- it falls
+    pub rises_less : worth t <ℤ worth s → (q *ℤ gain) <ℤ (p *ℤ load)
+    rises_less h = omega (arith, ints, rise, h)
+
+    -- it stays: the slope is the rise of the sum over the rise of the weight
+    pub rises_same : worth t ≡ worth s → (q *ℤ gain) ≡ (p *ℤ load)
+    rises_same h = omega (arith, ints, rise, h)
+
+    -- at the slope that is the rise of the sum over the rise of the weight both sets are worth the same
+    pub same_by_ratio : IsSameSlope p q gain load → worth t ≡ worth s
+    same_by_ratio h = omega (arith, ints, rise, times-comm q gain, h)
 
 -- minimisers at a lower slope lie within those at a higher one
 pub slopes_nest : (terms : List Meaning) (n : ℕ) (sizes : List ℤ) → AreTerms n terms → length sizes ≡ n → AreSizes sizes → SlopesNest terms n sizes
