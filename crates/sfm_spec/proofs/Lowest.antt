@@ -17,18 +17,19 @@ cancel_same q a b one h =
     let ge = times-cancel q b a one (omega (arith, ints, h)) in
     omega (arith, ints, le, ge)
 
+-- r/d is p/q with both numbers multiplied by c
+pub record IsMultiple (p q r d : ℤ) : Type 0 where
+  pub c : ℕ
+  pub some : 1 ≤ c
+  pub num : (pos c *ℤ p) ≡ r
+  pub den : (pos c *ℤ q) ≡ d
+
 -- p/q and r/d are multiples of one ratio
-record Shared (p : ℤ) (q : ℕ) (r : ℤ) (d : ℕ) : Type 0 where
+record Shared (p q r d : ℤ) : Type 0 where
   num : ℤ
-  den : ℕ
-  c : ℕ
-  b : ℕ
-  some_c : 1 ≤ c
-  some_b : 1 ≤ b
-  first_num : (pos c *ℤ num) ≡ p
-  first_den : c * den ≡ q
-  second_num : (pos b *ℤ num) ≡ r
-  second_den : b * den ≡ d
+  den : ℤ
+  first : IsMultiple num den p q
+  second : IsMultiple num den r d
 
 -- a sum of multiples of one number
 multiple_sum : (b c : ℕ) (n r s : ℤ) → (pos b *ℤ n) ≡ r → (pos c *ℤ n) ≡ s → (pos (b + c) *ℤ n) ≡ (r +ℤ s)
@@ -49,63 +50,39 @@ ratio_less p r q d rest sum same =
     let four = times-comm p (pos q) in
     omega (arith, ints, split, same, one, two, three, four)
 
-shared_more : (p : ℤ) (q : ℕ) (r : ℤ) (d rest : ℕ) → d ≡ rest + q → Shared p q (r -ℤ p) rest → Shared p q r d
+-- a form is a multiple of what it shares with another where that holds of the form less the other
+shared_more : (p q r d rest : ℤ) → d ≡ (rest +ℤ q) → Shared p q (r -ℤ p) rest → Shared p q r d
 shared_more p q r d rest sum s =
-    let n = multiple_sum s.b s.c s.num (r -ℤ p) p s.second_num s.first_num in
-    let d1 = s.first_den in
-    let d2 = s.second_den in
-    let lc = s.some_c in
+    let n = multiple_sum s.second.c s.first.c s.num (r -ℤ p) p s.second.num s.first.num in
+    let m = multiple_sum s.second.c s.first.c s.den rest q s.second.den s.first.den in
     record {
       num = s.num;
       den = s.den;
-      c = s.c;
-      b = s.b + s.c;
-      some_c = s.some_c;
-      some_b = omega (arith, lc);
-      first_num = s.first_num;
-      first_den = s.first_den;
-      second_num = n ∙ omega (arith, ints);
-      second_den = omega (arith, d1, d2, sum);
+      first = s.first;
+      second = record { c = s.second.c + s.first.c; some = omega (arith, s.first.some); num = n ∙ omega (arith, ints); den = m ∙ sym sum };
     }
 
-shared_swap : (p : ℤ) (q : ℕ) (r : ℤ) (d : ℕ) → Shared p q r d → Shared r d p q
-shared_swap p q r d s = record {
-  num = s.num;
-  den = s.den;
-  c = s.b;
-  b = s.c;
-  some_c = s.some_b;
-  some_b = s.some_c;
-  first_num = s.second_num;
-  first_den = s.second_den;
-  second_num = s.first_num;
-  second_den = s.first_den;
-}
+shared_swap : (p q r d : ℤ) → Shared p q r d → Shared r d p q
+shared_swap p q r d s = record { num = s.num; den = s.den; first = s.second; second = s.first }
 
 -- Euclid's way: the smaller form is taken away from the greater one until they are the same
-shared : (fuel : ℕ) (p : ℤ) (q : ℕ) (r : ℤ) (d : ℕ) → 1 ≤ q → 1 ≤ d → q + d ≤ fuel → (p *ℤ pos d) ≡ (r *ℤ pos q) → Shared p q r d
+shared : (fuel : ℕ) (p : ℤ) (q : ℕ) (r : ℤ) (d : ℕ) → 1 ≤ q → 1 ≤ d → q + d ≤ fuel → (p *ℤ pos d) ≡ (r *ℤ pos q) → Shared p (pos q) r (pos d)
 shared zero p q r d lq ld few same = absurd (omega arith)
 shared (suc fuel) p q r d lq ld few same = at (cases_lt q d) (cases_lt d q) (shared fuel) where
-  at : (q < d) ⊎ (d ≤ q) → (d < q) ⊎ (q ≤ d) → ((p : ℤ) (q : ℕ) (r : ℤ) (d : ℕ) → 1 ≤ q → 1 ≤ d → q + d ≤ fuel → (p *ℤ pos d) ≡ (r *ℤ pos q) → Shared p q r d) → Shared p q r d
+  at : (q < d) ⊎ (d ≤ q) → (d < q) ⊎ (q ≤ d) → ((p : ℤ) (q : ℕ) (r : ℤ) (d : ℕ) → 1 ≤ q → 1 ≤ d → q + d ≤ fuel → (p *ℤ pos d) ≡ (r *ℤ pos q) → Shared p (pos q) r (pos d)) → Shared p (pos q) r (pos d)
   at (inl lt) o next =
       let sum : d ≡ (d - q) + q = omega arith in
-      shared_more p q r d (d - q) sum (next p q (r -ℤ p) (d - q) lq (omega arith) (omega arith) (ratio_less p r q d (d - q) sum same))
+      shared_more p (pos q) r (pos d) (pos (d - q)) (ap pos sum) (next p q (r -ℤ p) (d - q) lq (omega arith) (omega arith) (ratio_less p r q d (d - q) sum same))
   at (inr ge) (inl lt) next =
       let sum : q ≡ (q - d) + d = omega arith in
-      shared_swap r d p q (shared_more r d p q (q - d) sum (next r d (p -ℤ r) (q - d) ld (omega arith) (omega arith) (ratio_less r p d q (q - d) sum (sym same))))
+      shared_swap r (pos d) p (pos q) (shared_more r (pos d) p (pos q) (pos (q - d)) (ap pos sum) (next r d (p -ℤ r) (q - d) ld (omega arith) (omega arith) (ratio_less r p d q (q - d) sum (sym same))))
   at (inr ge) (inr le) next =
       let e : q ≡ d = omega arith in
       let one = times-comm p (pos d) in
       let two = ap (λ z. r *ℤ pos z) e ∙ times-comm r (pos d) in
       let f : p ≡ r = cancel_same (pos d) p r (omega (arith, ints, ld)) (omega (arith, ints, one, two, same)) in
-      record { num = p; den = q; c = 1; b = 1; some_c = omega arith; some_b = omega arith; first_num = omega (arith, ints); first_den = omega arith; second_num = omega (arith, ints, f); second_den = omega (arith, e) }
-
--- every form of a ratio is a multiple of its lowest form
-pub record IsMultiple (p q r d : ℤ) : Type 0 where
-  pub c : ℕ
-  pub some : 1 ≤ c
-  pub num : (pos c *ℤ p) ≡ r
-  pub den : (pos c *ℤ q) ≡ d
+      let itself : IsMultiple p (pos q) p (pos q) = record { c = 1; some = omega arith; num = omega (arith, ints); den = omega (arith, ints) } in
+      record { num = p; den = pos q; first = itself; second = rw (← f, ← e) itself }
 
 -- each form of a ratio is a multiple of the lowest one
 pub multiple_of_lowest : (p q r d : ℤ) → IsLowest p q → pos 1 ≤ℤ d → IsSameSlope p q r d → IsMultiple p q r d
@@ -114,16 +91,13 @@ multiple_of_lowest p (pos q) r (negsuc d) low ld same = absurd (omega (arith, in
 multiple_of_lowest p (pos q) r (pos d) low ld same =
     let h = low.positive in
     let s = shared (q + d) p q r d (omega (arith, ints, h)) (omega (arith, ints, ld)) (omega arith) same in
-    let n1 = s.first_num in
-    let n2 = s.second_num in
-    let d1 = s.first_den in
-    let d2 = s.second_den in
-    let one : s.c ≡ 1 = low.prime s.c s.num (pos s.den) n1 (omega (arith, ints, d1)) in
-    let e1 = rw one at n1 in
-    let e2 = rw one at d1 in
+    let one : s.first.c ≡ 1 = low.prime s.first.c s.num s.den s.first.num s.first.den in
+    let e1 = rw one at s.first.num in
+    let e2 = rw one at s.first.den in
     let p_is : p ≡ s.num = omega (arith, ints, e1) in
-    let q_is : q ≡ s.den = omega (arith, e2) in
-    record { c = s.b; some = s.some_b; num = ap (λ z. pos s.b *ℤ z) p_is ∙ n2; den = ap (λ z. pos s.b *ℤ pos z) q_is ∙ ap pos d2 }
+    let q_is : pos q ≡ s.den = omega (arith, ints, e2) in
+    let m = s.second in
+    record { c = m.c; some = m.some; num = ap (λ z. pos m.c *ℤ z) p_is ∙ m.num; den = ap (λ z. pos m.c *ℤ z) q_is ∙ m.den }
 
 -- two lowest forms of one ratio are the same
 pub lowest_unique : (p q p' q' : ℤ) → IsLowest p q → IsLowest p' q' → IsSameSlope p q p' q' → (p ≡ p') × (q ≡ q')
