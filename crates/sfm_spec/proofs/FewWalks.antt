@@ -1,7 +1,7 @@
 -- Few walks: a move along a walk that meets some lower bounds on distances and on least steps leaves them lower bounds, and makes z
 -- zero at an end of the walk, or lets the bound on a step of it rise. So the potential of the bounds rises, and it is never greater
 -- than the number of few walks.
-use Rattle.std.proofs.Common.{◌≡◌, ◌≢◌, ◌⊎◌, ℕ, zero, suc, ◌+◌, ◌*◌, ◌<◌, ◌≤◌, List, [], ◌∷◌, length, get_or, nat_eq, ℤ, pos, negsuc, neg_ℤ, ◌+ℤ◌, ◌-ℤ◌, ◌≤ℤ◌, ◌<ℤ◌, if◌then◌else◌, refl, sym, ap, subst, ◌∙◌, arith, inl, inr}
+use Rattle.std.proofs.Common.{◌≡◌, ◌≢◌, ◌⊎◌, ℕ, zero, suc, ◌+◌, ◌*◌, ◌<◌, ◌≤◌, List, [], ◌∷◌, length, get_or, ℤ, pos, negsuc, neg_ℤ, ◌+ℤ◌, ◌-ℤ◌, ◌≤ℤ◌, ◌<ℤ◌, refl, sym, ap, subst, ◌∙◌, arith, inl, inr}
 use Rattle.std.proofs.lemmas.Bool.{cases_lt, cases_eq, eq-eqb, ne_eqb}
 use Rattle.std.proofs.lemmas.Int.{ints}
 use Rattle.sfm_spec.specs.Terms.{times, IsBase, exchanged}
@@ -16,6 +16,7 @@ use Rattle.sfm_spec.proofs.NewSteps.{IsLabelled, EachMove, IsMove, labels_kept_a
 use Rattle.sfm_spec.proofs.Gain.{rest_moved}
 use Rattle.sfm_spec.proofs.Labels.{falls_all, falls_within, walk_ends_below}
 use Rattle.sfm_spec.proofs.Counts.{sum_below-le, sum_below-lt, sum_below-bound, code_below, code_same, rank_bound}
+use Rattle.sfm_spec.proofs.Changed.{changed, changed-here, each_changed, bounds_changed}
 
 -- along a walk of least steps the distance falls by one at each step
 pub falls_along : (terms : List Meaning) (d l : ℕ → ℕ) (from : ℕ) (steps : List Step) → FollowsLabels terms d l from steps → FallsAlong d from steps
@@ -259,7 +260,7 @@ module _ (terms : List Meaning) (rows : List (List ℤ)) (n : ℕ) (q : ℤ) (sh
     Raised = (at : ℕ) × Passes first steps at × (at < n) × (l' : ℕ → ℕ) × AreLowerBounds terms n q after (IsOver terms after shift) d l' × ((e : ℕ) → l e ≤ l' e) × (l at < l' at)
 
     raised_at : (at : ℕ) (step : Step) → OnWalk first steps at step → CanMove terms q rows at step a → (CanMove terms q rows at step (a +ℤ pos 1) → ⊥) → l at ≡ step_code terms step → Raised
-    raised_at at step on c full' code = (at, passes_on first steps at step on, le, l', record { lasts = bounds_after.lasts; falls = bounds_after.falls; least = least; bounded = bounds_after.bounded; codes = codes; far = far }, up, let w = here in omega (arith, w)) where
+    raised_at at step on c full' code = (at, passes_on first steps at step on, le, raised, bounds_changed terms n q after (IsOver terms after shift) d l at (l at + 1) bounds_after near small later, up, let w = changed-here at (l at + 1) l in omega (arith, w)) where
       h : IsStep terms q rows at step
       h = (a, one, c)
 
@@ -269,14 +270,16 @@ module _ (terms : List Meaning) (rows : List (List ℤ)) (n : ℕ) (q : ℤ) (sh
       near : d at ≤ n
       near = near_walk first steps move.follows move.near at step on
 
-      l' : ℕ → ℕ
-      l' e = if nat_eq at e then l e + 1 else l e
+      raised : ℕ → ℕ
+      raised = changed at (l at + 1) l
 
-      here : l' at ≡ l at + 1
-      here = rw (eq-eqb at at refl) refl
+      up : (e : ℕ) → l e ≤ raised e
+      up = each_changed (λ e v. l e ≤ v) at (l at + 1) l (omega arith) (λ e ne. omega arith)
 
-      other : (e : ℕ) → at ≢ e → l' e ≡ l e
-      other e ne = rw (ne_eqb at e ne) refl
+      small : l at + 1 ≤ n * length terms
+      small =
+          let b = code_below n (length terms) step.to step.term (step_below terms rows n q low fit bases at step h) c.in_range in
+          omega (arith, b, code)
 
       step_is : (r s : Step) → s.to ≡ r.to → s.term ≡ r.term → r ≡ s
       step_is r s e f = sym (ap (λ z. record { to = z; term = s.term }) e ∙ ap (λ z. record { to = r.to; term = z }) f)
@@ -291,33 +294,6 @@ module _ (terms : List Meaning) (rows : List (List ℤ)) (n : ℕ) (q : ℤ) (sh
             let equal : step_code terms step ≡ step_code terms step' = omega (arith, k, s, code) in
             let (to, term) = code_same (length terms) step.to step.term step'.to step'.term c.in_range h'.2.in_range equal in
             absurd (full_gone at step on c full' (subst (λ z. IsStep terms q after at z) (step_is step' step to term) h'))
-
-      up : (e : ℕ) → l e ≤ l' e
-      up e = by_place (cases_eq at e) where
-        by_place : (at ≡ e) ⊎ (at ≢ e) → l e ≤ l' e
-        by_place (inl same) = rw (← same) (let k = here in omega (arith, k))
-        by_place (inr ne) = let k = other e ne in omega (arith, k)
-
-      least : (from : ℕ) (s : Step) → IsStep terms q after from s → d from ≡ d s.to + 1 → l' from ≤ step_code terms s
-      least from s k f = by_place (cases_eq at from) where
-        by_place : (at ≡ from) ⊎ (at ≢ from) → l' from ≤ step_code terms s
-        by_place (inl same) = let P : ℕ → Type 0 = λ z. IsStep terms q after z s → d z ≡ d s.to + 1 → l' z ≤ step_code terms s in subst P same (λ k f. let m = later s k f in let w = here in omega (arith, m, w)) k f
-        by_place (inr ne) = let w = other from ne in let m = (step_after from s k).1 f in omega (arith, w, m)
-
-      codes : (e : ℕ) → e < n → l' e ≤ n * length terms
-      codes e k = by_place (cases_eq at e) where
-        by_place : (at ≡ e) ⊎ (at ≢ e) → l' e ≤ n * length terms
-        by_place (inl same) =
-            let to_in = step_below terms rows n q low fit bases at step h in
-            let b = code_below n (length terms) step.to step.term to_in c.in_range in
-            rw (← same) (let w = here in omega (arith, b, w, code))
-        by_place (inr ne) = let w = other e ne in let m = move.bounds.codes e k in omega (arith, w, m)
-
-      far : (e : ℕ) → e < n → d e ≡ n + 1 → l' e ≡ 0
-      far e k f = by_place (cases_eq at e) where
-        by_place : (at ≡ e) ⊎ (at ≢ e) → l' e ≡ 0
-        by_place (inl same) = let g = ap d same in absurd (omega (arith, g, f, near))
-        by_place (inr ne) = other e ne ∙ move.bounds.far e k f
 
     -- the move makes z zero at an end of the walk, or it is so
     pub zero_or_raised : (rest_at terms after shift first ≡ pos 0) ⊎ ((rest_at terms after shift (last_of first steps) ≡ pos 0) ⊎ Raised)

@@ -1,9 +1,9 @@
 -- At any bases there are distances and least steps. Of what falls by at most one along each step and is 0 at the last places, a place that
 -- no step leads from to a lesser number, and that is no last one, is raised by one, until there is none: that is the distance. The
 -- least step of a place is then found by trying each.
-use Rattle.std.proofs.Common.{◌≡◌, ◌≢◌, ◌⊎◌, ℕ, zero, suc, ◌+◌, ◌*◌, ◌<◌, ◌≤◌, Bool, false, List, length, get_or, nat_eq, ℤ, pos, ◌≤ℤ◌, if◌then◌else◌, refl, sym, ap, subst, ◌∙◌, arith, inl, inr, ⊎_elim}
+use Rattle.std.proofs.Common.{◌≡◌, ◌≢◌, ◌⊎◌, ℕ, zero, suc, ◌+◌, ◌*◌, ◌<◌, ◌≤◌, Bool, false, List, length, get_or, ℤ, pos, ◌≤ℤ◌, refl, sym, ap, ◌∙◌, arith, inl, inr, ⊎_elim}
 use Rattle.std.proofs.Math.Nat.{mul-le-mul_left}
-use Rattle.std.proofs.lemmas.Bool.{both_ways, cases_lt, cases_eq, eq-eqb, ne_eqb}
+use Rattle.std.proofs.lemmas.Bool.{both_ways, cases_lt, cases_eq}
 use Rattle.sfm_spec.specs.Sets.{Has}
 use Rattle.sfm_spec.specs.Terms.{times, IsFamily, IsSubmodular, IsBase, HasRoom}
 use Rattle.sfm_spec.specs.Families.{Meaning, IsTerm, AreTerms, AreBases}
@@ -13,6 +13,7 @@ use Rattle.sfm_spec.specs.Progress.{sum_below}
 use Rattle.sfm_spec.proofs.Scaled.{family-times, submodular-times}
 use Rattle.sfm_spec.proofs.Tight.{TightSet, room_or_split, tight_closed}
 use Rattle.sfm_spec.proofs.Walks.{terms-at, bases-at, each_or, step_below}
+use Rattle.sfm_spec.proofs.Changed.{changed, changed-here, each_changed}
 use Rattle.sfm_spec.proofs.Counts.{few_values, sum_below-lt, sum_below-bound}
 
 -- of the numbers below k the first that fulfils P, or none does
@@ -154,34 +155,23 @@ module _ (terms : List Meaning) (rows : List (List ℤ)) (n : ℕ) (q : ℤ) (lo
       at e le (inr not) (inr near) (inr none) = inr (e, le, not, near, none)
 
     raise_more : (d : ℕ → ℕ) → AreRaised d → Loose d → (d' : ℕ → ℕ) × AreRaised d' × (sum_below n d < sum_below n d')
-    raise_more d h (e, le, not, near, none) = (d', record { lasts = lasts; falls = falls; bounded = bounded }, sum_below-lt n d d' e (λ k lk. up k) le (let w = here in omega (arith, w))) where
+    raise_more d h (e, le, not, near, none) = (d', record { lasts = lasts; falls = falls; bounded = bounded }, sum_below-lt n d d' e (λ k lk. up k) le (let w = changed-here e (d e + 1) d in omega (arith, w))) where
       d' : ℕ → ℕ
-      d' k = if nat_eq e k then d k + 1 else d k
-
-      here : d' e ≡ d e + 1
-      here = rw (eq-eqb e e refl) refl
-
-      other : (k : ℕ) → e ≢ k → d' k ≡ d k
-      other k ne = rw (ne_eqb e k ne) refl
+      d' = changed e (d e + 1) d
 
       up : (k : ℕ) → d k ≤ d' k
-      up k = ⊎_elim (λ same. rw (← same) (let w = here in omega (arith, w))) (λ ne. let w = other k ne in omega (arith, w)) (cases_eq e k)
+      up = each_changed (λ k v. d k ≤ v) e (d e + 1) d (omega arith) (λ k ne. omega arith)
 
       lasts : (k : ℕ) → k < n → IsLast k → d' k ≡ 0
-      lasts k lk last = ⊎_elim (λ same. absurd (not (rw same last))) (λ ne. other k ne ∙ h.lasts k lk last) (cases_eq e k)
+      lasts = each_changed (λ k v. k < n → IsLast k → v ≡ 0) e (d e + 1) d (λ lk last. absurd (not last)) (λ k ne. h.lasts k)
 
       bounded : (k : ℕ) → k < n → d' k ≤ n + 1
-      bounded k lk = ⊎_elim (λ same. rw (← same) (let w = here in omega (arith, w, near))) (λ ne. let w = other k ne in let b = h.bounded k lk in omega (arith, w, b)) (cases_eq e k)
+      bounded = each_changed (λ k v. k < n → v ≤ n + 1) e (d e + 1) d (λ lk. omega (arith, near)) (λ k ne. h.bounded k)
 
       falls : (from : ℕ) (step : Step) → IsStep terms q rows from step → d' from ≤ d' step.to + 1
-      falls from step k = by (cases_eq e from) where
-        by : (e ≡ from) ⊎ (e ≢ from) → d' from ≤ d' step.to + 1
-        by (inr ne) = let w = other from ne in let f = h.falls from step k in let u = up step.to in omega (arith, w, f, u)
-        by (inl same) = let P : ℕ → Type 0 = λ z. IsStep terms q rows z step → d' z ≤ d' step.to + 1 in subst P same (λ k'.
-            let w = here in
-            let f = h.falls e step k' in
-            let u = up step.to in
-            ⊎_elim (λ less. omega (arith, w, less, u)) (λ ge. absurd (none step (k', omega (arith, f, ge)))) (cases_lt (d e) (d step.to + 1))) k
+      falls = each_changed (λ k v. (step : Step) → IsStep terms q rows k step → v ≤ d' step.to + 1) e (d e + 1) d
+          (λ step k. let u = up step.to in ⊎_elim (λ less. omega (arith, less, u)) (λ ge. absurd (none step (k, let f = h.falls e step k in omega (arith, f, ge)))) (cases_lt (d e) (d step.to + 1)))
+          (λ from ne step k. let f = h.falls from step k in let u = up step.to in omega (arith, f, u))
 
     raise_all : (fuel : ℕ) (d : ℕ → ℕ) → AreRaised d → n * (n + 1) ≤ sum_below n d + fuel → (d' : ℕ → ℕ) × AreRaised d' × ((e : ℕ) → e < n → IsFirm d' e)
     raise_all zero d h enough = at (firm_or_loose d) where

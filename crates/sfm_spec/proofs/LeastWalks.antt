@@ -1,7 +1,7 @@
 -- A walk of least steps: each lowers the distance by one, and none that does so has a lesser code. Whatever lower bounds there are,
 -- they can be raised so that the walk meets them, and that lowers no potential. So a move along the walk is progress, and moves are
 -- counted by their bounds.
-use Rattle.std.proofs.Common.{◌≡◌, ◌≢◌, ◌⊎◌, ℕ, ◌+◌, ◌*◌, ◌^◌, ◌<◌, ◌≤◌, min, max, List, [], ◌∷◌, length, nat_eq, ℤ, pos, neg_ℤ, ◌≤ℤ◌, if◌then◌else◌, refl, ap, subst, ◌∙◌, arith, inl, inr}
+use Rattle.std.proofs.Common.{◌≡◌, ◌≢◌, ◌⊎◌, ℕ, ◌+◌, ◌*◌, ◌^◌, ◌<◌, ◌≤◌, min, max, List, [], ◌∷◌, length, nat_eq, ℤ, pos, neg_ℤ, ◌≤ℤ◌, if◌then◌else◌, refl, ap, ◌∙◌, arith, inl, inr}
 use Rattle.std.proofs.Math.Nat.{mul-le-mul}
 use Rattle.std.proofs.lemmas.Bool.{cases_lt, cases_eq, eq-eqb, ne_eqb}
 use Rattle.sfm_spec.specs.Families.{Meaning, AreTerms, AreBases, rest_at}
@@ -12,6 +12,7 @@ use Rattle.sfm_spec.proofs.Walks.{first_below, step_below}
 use Rattle.sfm_spec.proofs.Labels.{falls_all, falls_within, steps_end_below}
 use Rattle.sfm_spec.proofs.Moves.{walks_push}
 use Rattle.sfm_spec.proofs.Counts.{few_values, code_below, rank_rises, rank_same}
+use Rattle.sfm_spec.proofs.Changed.{changed, changed-here, changed-other, each_changed, bounds_changed}
 use Rattle.sfm_spec.proofs.FewWalks.{potential-le, potential_bounded, bounds_rise}
 
 -- along a walk of least steps the distance falls by one at each step
@@ -90,53 +91,22 @@ module _ (terms : List Meaning) (rows : List (List ℤ)) (n : ℕ) (q : ℤ) (lo
     meets_walk d l bounds from (s ∷ ss) near fits least = more (meets_walk d l bounds s.to ss (let f = least.0 in omega (arith, f, near)) fits.1 least.2) where
       more : MeetsWalk d l s.to ss → MeetsWalk d l from (s ∷ ss)
       more m = record {
-        l' = l';
-        bounds = record { lasts = bounds.lasts; falls = bounds.falls; least = least'; bounded = bounds.bounded; codes = codes; far = far };
-        follows = (least.0, here, follows s.to ss m.follows (let f = least.0 in omega (arith, f)));
-        up = up;
+        l' = met;
+        bounds = bounds_changed terms n q rows IsLast d m.l' from (step_code terms s) m.bounds near small least.1;
+        follows = (least.0, changed-here from (step_code terms s) m.l', follows s.to ss m.follows (let f = least.0 in omega (arith, f)));
+        up = each_changed (λ e v. l e ≤ v) from (step_code terms s) m.l' (bounds.least from s fits.0 least.0) (λ e ne. m.up e);
       } where
-        l' : ℕ → ℕ
-        l' e = if nat_eq from e then step_code terms s else m.l' e
+        met : ℕ → ℕ
+        met = changed from (step_code terms s) m.l'
 
-        here : l' from ≡ step_code terms s
-        here = rw (eq-eqb from from refl) refl
+        small : step_code terms s ≤ n * length terms
+        small = let c = code_below n (length terms) s.to s.term (step_below terms rows n q low fit bases from s fits.0) fits.0.2.in_range in omega (arith, c)
 
-        other : (e : ℕ) → from ≢ e → l' e ≡ m.l' e
-        other e ne = rw (ne_eqb from e ne) refl
-
-        follows : (at : ℕ) (steps : List Step) → FollowsLabels terms d m.l' at steps → d at < d from → FollowsLabels terms d l' at steps
+        follows : (at : ℕ) (steps : List Step) → FollowsLabels terms d m.l' at steps → d at < d from → FollowsLabels terms d met at steps
         follows at [] h less = tt
         follows at (t ∷ ts) h less =
             let f = h.0 in
-            (h.0, other at (λ same. let g = ap d same in omega (arith, g, less)) ∙ h.1, follows t.to ts h.2 (omega (arith, f, less)))
-
-        up : (e : ℕ) → l e ≤ l' e
-        up e = at (cases_eq from e) where
-          at : (from ≡ e) ⊎ (from ≢ e) → l e ≤ l' e
-          at (inl same) = rw (← same) (let w = here in let b = bounds.least from s fits.0 least.0 in omega (arith, w, b))
-          at (inr ne) = let w = other e ne in let u = m.up e in omega (arith, w, u)
-
-        least' : (at : ℕ) (step : Step) → IsStep terms q rows at step → d at ≡ d step.to + 1 → l' at ≤ step_code terms step
-        least' at step h f = by (cases_eq from at) where
-          by : (from ≡ at) ⊎ (from ≢ at) → l' at ≤ step_code terms step
-          by (inl same) =
-              let P : ℕ → Type 0 = λ z. IsStep terms q rows z step → d z ≡ d step.to + 1 → l' z ≤ step_code terms step in
-              subst P same (λ h f. let w = here in let k = least.1 step h f in omega (arith, w, k)) h f
-          by (inr ne) = let w = other at ne in let k = m.bounds.least at step h f in omega (arith, w, k)
-
-        codes : (e : ℕ) → e < n → l' e ≤ n * length terms
-        codes e le = by (cases_eq from e) where
-          by : (from ≡ e) ⊎ (from ≢ e) → l' e ≤ n * length terms
-          by (inl same) =
-              let c = code_below n (length terms) s.to s.term (step_below terms rows n q low fit bases from s fits.0) fits.0.2.in_range in
-              rw (← same) (let w = here in omega (arith, w, c))
-          by (inr ne) = let w = other e ne in let k = m.bounds.codes e le in omega (arith, w, k)
-
-        far : (e : ℕ) → e < n → d e ≡ n + 1 → l' e ≡ 0
-        far e le is = by (cases_eq from e) where
-          by : (from ≡ e) ⊎ (from ≢ e) → l' e ≡ 0
-          by (inl same) = let g = ap d same in absurd (omega (arith, g, is, near))
-          by (inr ne) = other e ne ∙ m.bounds.far e le is
+            (h.0, changed-other from (step_code terms s) m.l' at (λ same. let g = ap d same in omega (arith, g, less)) ∙ h.1, follows t.to ts h.2 (omega (arith, f, less)))
 
 -- ---- a move along a walk of least steps
 

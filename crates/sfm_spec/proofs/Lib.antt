@@ -24,6 +24,7 @@ pub mod NewSteps
 pub mod RowLaw
 pub mod Labels
 pub mod Counts
+pub mod Changed
 pub mod FewWalks
 pub mod Moves
 pub mod LeastWalks
