@@ -1,5 +1,5 @@
 -- The words of the empty and of the whole set.
-use Rattle.std.proofs.Common.{◌≡◌, ◌≢◌, ◌==◌, ℕ, ◌-◌, ◌*◌, ◌<◌, ◌≤◌, ◌/◌, ◌%◌, ◌^◌, true, false, ⊎_elim, List, length, get_or, set, replicate, sym, ap, ◌∙◌, arith, get_or-set_same, get_or-set_other}
+use Rattle.std.proofs.Common.{◌≡◌, ◌≢◌, ◌==◌, ℕ, ◌-◌, ◌*◌, ◌<◌, ◌≤◌, ◌/◌, ◌%◌, ◌^◌, true, false, ⊎_elim, List, length, set, replicate, sym, ap, ◌∙◌, arith}
 use Rattle.std.proofs.lemmas.Bool.{cases_lt, cases_eq}
 use Rattle.std.proofs.lemmas.List.{length-set, length-replicate, get_or-replicate}
 use Rattle.std.proofs.Math.Nat.{one-mul, mod-eq_of_lt}
@@ -8,7 +8,7 @@ use Rattle.std.proofs.lemmas.Nat.Bits.{bit_at-zero, bit_at_ones, bit_at_ones_abo
 use Rattle.std.specs.Int.{bit_at, div_ceil}
 use Rattle.sfm_spec.specs.Sets.{empty_set, whole_set}
 use Rattle.sfm_base.specs.Words.{bit_of, members, AreWords}
-use Rattle.sfm_base.proofs.Members.{members-are, past_words}
+use Rattle.sfm_base.proofs.Members.{members-are, past_words, bit_of-set_same, bit_of-set_other}
 
 bit_of-blank : (k e : ℕ) → bit_of (replicate k 0) e ≡ 0
 bit_of-blank k e = ⊎_elim
@@ -51,10 +51,10 @@ cut_words n k w h odd is = (length-set full (n / 64) w ∙ (length-replicate k a
   there = omega (arith, length-replicate k all_ones, h, odd)
 
   last : (e : ℕ) → e / 64 ≡ n / 64 → bit_of (set full (n / 64) w) e ≡ bit_at (2 ^ (n % 64) - 1) (e % 64)
-  last e same = ap (λ z. bit_at z (e % 64)) (ap (λ j. get_or (set full (n / 64) w) j 0) same ∙ get_or-set_same full (n / 64) w 0 there ∙ is)
+  last e same = bit_of-set_same full (n / 64) w e there same ∙ ap (λ z. bit_at z (e % 64)) is
 
   other : (e : ℕ) → e / 64 ≢ n / 64 → bit_of (set full (n / 64) w) e ≡ bit_of full e
-  other e ne = ap (λ z. bit_at z (e % 64)) (get_or-set_other full (n / 64) (e / 64) w 0 ne)
+  other e ne = bit_of-set_other full (n / 64) w e ne
 
   inside : (e : ℕ) → e < n → bit_of (set full (n / 64) w) e ≡ 1
   inside e l = ⊎_elim (λ same. last e same ∙ bit_at_ones (n % 64) (e % 64) (omega (arith, same, l))) (λ ne. other e ne ∙ bit_of-full k e (omega (arith, h, l))) (cases_eq (e / 64) (n / 64))

@@ -1,5 +1,5 @@
 -- Sets as words: what the words tell place by place, and what a change of the words does to the set.
-use Rattle.std.proofs.Common.{◌≡◌, ◌==◌, ℕ, ◌+◌, ◌*◌, ◌<◌, ◌≤◌, ◌/◌, ◌%◌, ◌^◌, Bool, true, false, ⊎_elim, List, [], ◌∷◌, length, get_or, replicate, refl, sym, ap, ◌∙◌, arith}
+use Rattle.std.proofs.Common.{◌≡◌, ◌≢◌, ◌==◌, ℕ, ◌+◌, ◌*◌, ◌<◌, ◌≤◌, ◌/◌, ◌%◌, ◌^◌, Bool, true, false, ⊎_elim, List, [], ◌∷◌, length, get_or, set, get_or-set_same, get_or-set_other, replicate, refl, sym, ap, ◌∙◌, arith}
 use Rattle.std.proofs.lemmas.Bool.{cases_lt, eq-eqb, eqb-true}
 use Rattle.std.proofs.lemmas.List.{ext_get_or, get_or_past}
 use Rattle.std.proofs.lemmas.List.FromFn.{length-map-range_with_len, get_or-map-range_with_len}
@@ -17,6 +17,13 @@ bit_of-lt words e = bit_at-lt (get_or words (e / 64) 0) (e % 64)
 -- past the words there is no place
 pub past_words : (words : List ℕ) (e : ℕ) → length words ≤ e / 64 → bit_of words e ≡ 0
 past_words words e past = ap (λ w. bit_at w (e % 64)) (get_or_past words (e / 64) 0 past) ∙ bit_at-zero (e % 64)
+
+-- where one word is put in place of another, the bits of its places are those of the word, and all others stay
+pub bit_of-set_same : (words : List ℕ) (k w e : ℕ) → k < length words → e / 64 ≡ k → bit_of (set words k w) e ≡ bit_at w (e % 64)
+bit_of-set_same words k w e l same = ap (λ z. bit_at z (e % 64)) (ap (λ j. get_or (set words k w) j 0) same ∙ get_or-set_same words k w 0 l)
+
+pub bit_of-set_other : (words : List ℕ) (k w e : ℕ) → e / 64 ≢ k → bit_of (set words k w) e ≡ bit_of words e
+bit_of-set_other words k w e ne = ap (λ z. bit_at z (e % 64)) (get_or-set_other words k (e / 64) w 0 ne)
 
 -- the word of a place is there
 pub word_there : (n : ℕ) (words : List ℕ) (e : ℕ) → AreWords n words → e < n → e / 64 < length words
@@ -71,11 +78,15 @@ pub same_places : (n m : ℕ) (a b : List ℕ) (s t : List Bool) → members n a
 same_places n m a b s t ha hb e = sym (length-members m b) ∙ (ap length hb ∙ (sym e ∙ (sym (ap length ha) ∙ length-members n a)))
 
 -- two sets of one ground have as many words
-pub same_count : (n m : ℕ) (a b : List ℕ) → m ≡ n → AreWords n a → AreWords m b → length a ≡ length b
-same_count n m a b e ha hb = ha.counted ∙ (ap (λ k. div_ceil k 64) (sym e) ∙ sym hb.counted)
+pub same_count : (n m : ℕ) (a b : List ℕ) (s t : List Bool) → AreWords n a → AreWords m b → members n a ≡ s → members m b ≡ t → length s ≡ length t → length a ≡ length b
+same_count n m a b s t ha hb is_s is_t same = ha.counted ∙ (ap (λ k. div_ceil k 64) (sym (same_places n m a b s t is_s is_t same)) ∙ sym hb.counted)
 
 pub place_below : (n : ℕ) (words : List ℕ) (s : List Bool) (e : ℕ) → members n words ≡ s → e < length s → e < n
 place_below n words s e is l = let f : n ≡ length s = sym (length-members n words) ∙ ap length is in omega (arith, f, l)
+
+-- the word of a place of the ground is there
+pub word_of_place : (n : ℕ) (words : List ℕ) (s : List Bool) (e : ℕ) → AreWords n words → members n words ≡ s → e < length s → e / 64 < length words
+word_of_place n words s e kept is l = word_there n words e kept (place_below n words s e is l)
 
 -- the whole set leaves of a set what it is
 pub whole_with : (t : List Bool) → intersection (replicate (length t) true) t ≡ t

@@ -4,10 +4,10 @@
 // After it is made, a set takes no more memory.
 ghost use Rattle.std.specs.Prelude.{◌≡◌, ◌↔◌, ℕ, ◌<◌, Bool, true, false, List, length, slice_index, slice_index_or, slice_set, IfOk, IsTrue, MatchOption};
 ghost use Rattle.sfm_spec.specs.Sets.{Has, empty_set, whole_set, union, intersection, complement, size, part, IsWithin};
-ghost use Rattle.sfm_base.specs.Words.{members, AreWords};
+ghost use Rattle.sfm_base.specs.Words.{members, AreWords, joined};
 
 use crate::Memory;
-use crate::words::{are_within, count, first, join, keep, take_out};
+use crate::words::{Joining, are_within, count, first, join, with_bit};
 use std::alloc::Global;
 use std::marker::Model;
 
@@ -136,7 +136,7 @@ impl Set {
         requires { e < length self.old }
         ensures { self.new ≡ slice_set self.old e true }
     {
-        self.words[e / 64] |= 1 << (e % 64);
+        self.put(e, true);
     }
 
     /// Takes the place e out.
@@ -144,19 +144,17 @@ impl Set {
         requires { e < length self.old }
         ensures { self.new ≡ slice_set self.old e false }
     {
-        self.words[e / 64] &= !(1 << (e % 64));
+        self.put(e, false);
     }
 
     /// Puts the place e in where it is to be a member, and takes it out where it is not.
+    #[inline(always)]
     pub fn put(&mut self, e: usize, member: bool)
         requires { e < length self.old }
         ensures { self.new ≡ slice_set self.old e member }
     {
-        if member {
-            self.insert(e);
-        } else {
-            self.remove(e);
-        }
+        let word = &mut self.words[e / 64];
+        *word = with_bit(*word, e % 64, member);
     }
 
     /// Takes every place out.
@@ -179,7 +177,7 @@ impl Set {
         requires { length self.old ≡ length other.now }
         ensures { self.new ≡ union self.old other.now }
     {
-        join(&mut self.words, &other.words);
+        self.join(other, Joining::Union);
     }
 
     /// Takes each place out that is not in the other set.
@@ -187,7 +185,7 @@ impl Set {
         requires { length self.old ≡ length other.now }
         ensures { self.new ≡ intersection self.old other.now }
     {
-        keep(&mut self.words, &other.words);
+        self.join(other, Joining::Intersection);
     }
 
     /// Takes each place out that is in the other set.
@@ -195,6 +193,15 @@ impl Set {
         requires { length self.old ≡ length other.now }
         ensures { self.new ≡ intersection self.old (complement other.now) }
     {
-        take_out(&mut self.words, &other.words);
+        self.join(other, Joining::Difference);
+    }
+
+    /// Makes of the set what becomes of it with another one.
+    #[inline(always)]
+    fn join(&mut self, other: &Set, joining: Joining)
+        requires { length self.old ≡ length other.now }
+        ensures { self.new ≡ joined joining self.old other.now }
+    {
+        join(&mut self.words, &other.words, joining);
     }
 }

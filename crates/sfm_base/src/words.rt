@@ -1,36 +1,54 @@
 // Sets of places as words of 64 bits each, bit t of word k telling of the place 64·k + t. A call goes over the words once
 // and says what it does to each bit.
-ghost use Rattle.std.specs.Prelude.{◌≡◌, ◌↔◌, ℕ, ◌-◌, ◌*◌, ◌<◌, ◌≤◌, ◌^◌, length, max, min, IsTrue, MatchOption};
+ghost use Rattle.std.specs.Prelude.{◌≡◌, ◌≢◌, ◌↔◌, ◌==◌, ℕ, ◌*◌, ◌<◌, ◌≤◌, ◌^◌, length, IsTrue, MatchOption};
+ghost use Rattle.std.specs.Int.{bit_at};
 ghost use Rattle.sfm_spec.specs.Sets.{size};
-ghost use Rattle.sfm_base.specs.Words.{bit_of, members};
+ghost use Rattle.sfm_base.specs.Words.{bit_of, members, joint};
 
-/// Puts each place of the other words in.
-pub fn join(words: &mut [u64], other: &[u64])
-    requires { length words.old ≡ length other.now }
-    ensures { (e : ℕ) → bit_of words.new e ≡ max (bit_of words.old e) (bit_of other.now e) }
-{
-    for k in 0..words.len() {
-        words[k] |= other[k];
+/// What becomes of a set with another one: the places of either, those of both, or those that the other has not.
+#[derive(Clone, Copy)]
+pub enum Joining {
+    Union,
+    Intersection,
+    Difference,
+}
+
+impl Joining {
+    /// What becomes of a word with another one.
+    #[inline(always)]
+    fn of(self, word: u64, other: u64) -> u64
+        ensures { (t : ℕ) → bit_at result t ≡ joint self (bit_at word t) (bit_at other t) }
+    {
+        match self {
+            Joining::Union => word | other,
+            Joining::Intersection => word & other,
+            Joining::Difference => word ^ (word & other),
+        }
     }
 }
 
-/// Takes each place out that the other words have not.
-pub fn keep(words: &mut [u64], other: &[u64])
+/// Makes of each word what becomes of it with the other one.
+#[inline(always)]
+pub fn join(words: &mut [u64], other: &[u64], joining: Joining)
     requires { length words.old ≡ length other.now }
-    ensures { (e : ℕ) → bit_of words.new e ≡ min (bit_of words.old e) (bit_of other.now e) }
+    ensures { (e : ℕ) → bit_of words.new e ≡ joint joining (bit_of words.old e) (bit_of other.now e) }
 {
     for k in 0..words.len() {
-        words[k] &= other[k];
+        words[k] = joining.of(words[k], other[k]);
     }
 }
 
-/// Takes each place out that the other words have.
-pub fn take_out(words: &mut [u64], other: &[u64])
-    requires { length words.old ≡ length other.now }
-    ensures { (e : ℕ) → bit_of words.new e ≡ bit_of words.old e - bit_of other.now e }
+/// The word with bit t set where the place is to be a member, and cleared where not; the other bits stay.
+#[inline(always)]
+pub fn with_bit(word: u64, t: usize, member: bool) -> u64
+    requires { t < 64 }
+    ensures there { (bit_at result t == 1) ≡ member }
+    ensures others { (k : ℕ) → k < 64 → k ≢ t → bit_at result k ≡ bit_at word k }
 {
-    for k in 0..words.len() {
-        words[k] ^= words[k] & other[k];
+    if member {
+        word | 1 << t
+    } else {
+        word & !(1 << t)
     }
 }
 

@@ -1,21 +1,12 @@
-use Rattle.std.proofs.Common.{◌≡◌, ⊎_elim, ◌/◌, ◌%◌, length, get_or, ap, ◌∙◌, arith}
-use Rattle.std.proofs.lemmas.Bool.{cases_lt}
-use Rattle.std.proofs.lemmas.Nat.Bits.{bit_at_or}
-use Rattle.std.specs.Int.{bit_at}
-use Rattle.sfm_base.specs.Words.{bit_of}
-use Rattle.sfm_base.proofs.Members.{past_words}
+use Rattle.std.proofs.Common.{refl, arith}
+use Rattle.sfm_base.proofs.Joining.{joined_more, joined_all}
 use Rattle.sfm_base.proofs.words.join.Goals as goal
 
+pub loop-k-init : goal.loop-k-init
+loop-k-init c = record { joined = λ e l. absurd (omega (arith, l)); same = λ e l. refl }
+
+pub loop-k-preserved : goal.loop-k-preserved
+loop-k-preserved c = joined_more c.args.joining c.args.words.now c.args.other.now c.loop-k.words c.loop-k.k c.of.result (omega arith) c.of.ensures c.loop-k.invariant
+
 pub returns : goal.returns
-returns c = λ e.
-    let s = c.args.words.now in
-    let o = c.args.other.now in
-    let r = c.loop-k.words in
-    ⊎_elim
-    (λ l. ap (λ x. bit_at x (e % 64)) (c.loop-k.invariant.0 (e / 64) (omega (arith, l, c.loop-k-test.false))) ∙ bit_at_or (get_or s (e / 64) 0) (get_or o (e / 64) 0) (e % 64))
-    (λ past.
-    let a = past_words s e past in
-    let b = past_words o e (omega (arith, past, c.requires)) in
-    let d : bit_of r e ≡ bit_of s e = ap (λ x. bit_at x (e % 64)) (c.loop-k.invariant.1 (e / 64) (omega (arith, past, c.loop-k.auto.k-end))) in
-    omega (arith, a, b, d))
-    (cases_lt (e / 64) (length s))
+returns c = joined_all c.args.joining c.args.words.now c.args.other.now c.loop-k.words c.loop-k.k c.requires (omega (arith, c.loop-k-test.false, c.loop-k.auto.k-end)) c.loop-k.invariant

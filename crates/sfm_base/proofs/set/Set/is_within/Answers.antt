@@ -7,9 +7,7 @@ use Rattle.sfm_base.proofs.set.Set.is_within.Goals as goal
 
 pub are_within-requires : goal.are_within-requires
 are_within-requires c =
-    let a = c.self.inside.words.items in
-    let b = c.other.inside.words.items in
-    ap length c.deref.ensures.value ∙ (same_count _ _ a b (same_places _ _ a b _ _ c.self.view_is c.other.view_is c.requires) c.self.invariant c.other.invariant ∙ sym (ap length c.deref-2.ensures.value))
+    ap length c.deref.ensures.value ∙ (same_count _ _ _ _ _ _ c.self.invariant c.other.invariant c.self.view_is c.other.view_is c.requires ∙ sym (ap length c.deref-2.ensures.value))
 
 pub returns : goal.returns
 returns c =
