@@ -4,8 +4,6 @@ use Rattle.sfm_law.proofs.laws.order_of_exchanges.Goals as goal
 
 pub returns : goal.returns
 returns g c =
-    let t = g.T.Term in
-    let m = g.met.T.Term in
     let r = c.requires in
-    let fit = meanings-terms c.args._n t.places t.value_of m.family m.submodular c.args._terms.now r.placed in
+    let fit = meanings-terms c.args._n g.T.Term.places g.T.Term.value_of g.met.T.Term.family g.met.T.Term.submodular c.args._terms.now r.placed in
     λ steps shortest can under over. move_laws _ _ c.args._n c.args._q c.args._shift.now r.factor fit r.bases c.args._first steps c.args._a shortest r.amount can under over

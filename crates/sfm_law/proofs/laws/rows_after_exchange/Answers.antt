@@ -5,11 +5,9 @@ use Rattle.sfm_law.proofs.laws.rows_after_exchange.Goals as goal
 
 pub returns : goal.returns
 returns g c =
-    let term = c.args._term.now in
-    let q = c.args._q in
     let r = c.requires in
-    let family = family-times _ q _ (g.met.T.Term.family term) in
-    let law = submodular-times _ q _ r.factor (g.met.T.Term.submodular term) in
-    let s : c.args._s < length (g.T.Term.places term) = rw (← r.entries) r.from in
-    let t : c.args._t < length (g.T.Term.places term) = rw (← r.entries) r.onto in
+    let family = family-times _ c.args._q _ (g.met.T.Term.family c.args._term.now) in
+    let law = submodular-times _ c.args._q _ r.factor (g.met.T.Term.submodular c.args._term.now) in
+    let s : c.args._s < length (g.T.Term.places c.args._term.now) = rw (← r.entries) r.from in
+    let t : c.args._t < length (g.T.Term.places c.args._term.now) = rw (← r.entries) r.onto in
     row_laws family law r.entries r.base c.args._s c.args._t s t r.apart c.args._a r.amount r.after

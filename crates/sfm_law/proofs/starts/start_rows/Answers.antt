@@ -7,25 +7,19 @@ use Rattle.sfm_spec.specs.Bounds.{IsEntry}
 use Rattle.sfm_law.proofs.FirstBases.{starts-bases, starts-small}
 use Rattle.sfm_law.proofs.starts.start_rows.Goals as goal
 
-pub returns-clause-bases : goal.returns-clause-bases
-returns-clause-bases g c =
+pub returns : goal.returns
+returns g c =
     let t = g.T.Term in
     let m = g.met.T.Term in
     let q = c.args.q in
+    let r = c.requires in
     let terms = c.args.terms.now in
     let fq : FitsSigned w128 q = c.ranges.q in
     let before = simp to_z-of_z at c.loop-term.invariant in
     let rows : c.loop-term.rows ≡ map (λ x. t.start_of x q) terms = rw (take_all c.loop-term.term-index terms c.loop-term-test.false) at before in
-    rw rows (starts-bases t.places t.value_of t.size_of t.start_of q (λ x. m.starts x q c.requires.factor.low) (λ x. m.starts_small x q c.requires.factor.low) terms)
-
-pub returns-clause-small : goal.returns-clause-small
-returns-clause-small g c =
-    let t = g.T.Term in
-    let m = g.met.T.Term in
-    let q = c.args.q in
-    let terms = c.args.terms.now in
-    let fq : FitsSigned w128 q = c.ranges.q in
-    let before = simp to_z-of_z at c.loop-term.invariant in
-    let rows : c.loop-term.rows ≡ map (λ x. t.start_of x q) terms = rw (take_all c.loop-term.term-index terms c.loop-term-test.false) at before in
-    subst (λ (r : List (List ℤ)). All (λ row. All IsEntry row) r) (sym rows)
-    (starts-small t.places t.value_of t.size_of t.start_of q (λ x. m.starts x q c.requires.factor.low) (λ x. m.starts_small x q c.requires.factor.low) c.requires.factor terms c.requires.bounded)
+    record {
+      starts = rows;
+      bases = rw rows (starts-bases t.places t.value_of t.size_of t.start_of q (λ x. m.starts x q r.factor.low) (λ x. m.starts_small x q r.factor.low) terms);
+      small = subst (λ (r : List (List ℤ)). All (λ row. All IsEntry row) r) (sym rows)
+          (starts-small t.places t.value_of t.size_of t.start_of q (λ x. m.starts x q r.factor.low) (λ x. m.starts_small x q r.factor.low) r.factor terms r.bounded);
+    }
