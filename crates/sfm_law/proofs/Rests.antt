@@ -5,8 +5,8 @@ use Rattle.std.proofs.lemmas.Int.{ints}
 use Rattle.std.proofs.lemmas.Bool.{cases_eq, ne_eqb}
 use Rattle.std.proofs.lemmas.List.{length-map, get_or-map, length-take-le, take-map}
 use Rattle.std.proofs.lemmas.List.Sums.{sum_by-cons, sum_by-take-le}
-use Rattle.std.proofs.lemmas.List.Elements.{All-from_get_or, All-head, All-tail}
-use Rattle.sfm_spec.specs.Sets.{magnitudes}
+use Rattle.std.proofs.lemmas.List.Elements.{All-from_get_or, All-get_or, All-head, All-tail}
+use Rattle.sfm_spec.specs.Sets.{IsPlaced, magnitudes}
 use Rattle.sfm_spec.specs.Terms.{SetFunction}
 use Rattle.sfm_spec.specs.Bounds.{IsAtMost, IsEntry}
 use Rattle.sfm_spec.specs.Families.{Meaning, meanings, entry_at, base_sum_at}
@@ -44,18 +44,17 @@ entry_at-bound (p ∷ places) (a ∷ x) e h =
     let r = entry_at-bound places x e (All-tail IsEntry a x h) in
     record { low = omega (arith, ints, o.low, r.low); high = omega (arith, ints, o.high, r.high) }
 
+-- no row gives nothing more
+nothing_more : (places : List ℕ) (e : ℕ) → (pos 0 +ℤ entry_at places [] e) ≡ pos 0
+nothing_more [] e = refl
+nothing_more (p ∷ places) e = refl
+
 -- one term more, with its row
 pub base_sum_at-push : (terms : List Meaning) (rows : List (List ℤ)) (t : Meaning) (e : ℕ)
     → base_sum_at (terms ++ t ∷ []) rows e ≡ (base_sum_at terms rows e +ℤ entry_at t.places (base_at rows (length terms)) e)
-base_sum_at-push [] [] t e = sym (nothing t.places) where
-  nothing : (places : List ℕ) → (pos 0 +ℤ entry_at places [] e) ≡ pos 0
-  nothing [] = refl
-  nothing (p ∷ places) = refl
+base_sum_at-push [] [] t e = sym (nothing_more t.places e)
 base_sum_at-push [] (x ∷ rows) t e = omega (arith, ints)
-base_sum_at-push (u ∷ terms) [] t e = sym (nothing t.places) where
-  nothing : (places : List ℕ) → (pos 0 +ℤ entry_at places [] e) ≡ pos 0
-  nothing [] = refl
-  nothing (p ∷ places) = refl
+base_sum_at-push (u ∷ terms) [] t e = sym (nothing_more t.places e)
 base_sum_at-push (u ∷ terms) (x ∷ rows) t e = let r = base_sum_at-push terms rows t e in omega (arith, ints, r)
 
 -- what all rows give e is at most one entry for each place of each term
@@ -81,6 +80,19 @@ magnitudes-at (a ∷ x) zero = (by_sign a, let l = magnitudes-low x in omega (ar
   magnitudes-low [] = omega (arith, ints)
   magnitudes-low (b ∷ x) = let r = magnitudes-low x in omega (arith, ints, r)
 magnitudes-at (a ∷ x) (suc e) = let r = magnitudes-at x e in (r.0, let l = r.1 in omega (arith, ints, l))
+
+-- what a place has with one entry more stays small
+pub added-bound : (places : List ℕ) (x z0 z : List ℤ) (j : ℕ) → IsPlaced (length z0) places → length places ≤ 16384 → length x ≡ length places → All IsEntry x → All (IsAtMost (2 * 10 ^ 36)) z0 → length z ≡ length z0 → j < length places
+    → ((e : ℕ) → e < length z → get_or z e (pos 0) ≡ (get_or z0 e (pos 0) +ℤ entry_at (take j places) x e)) → IsAtMost (3 * 10 ^ 36) (get_or z (get_or places j 0) (pos 0) +ℤ get_or x j (pos 0))
+added-bound places x z0 z j placed few same small room kept lj h =
+    let p = get_or places j 0 in
+    let lp : p < length z0 = placed.below j lj in
+    let now = h p (omega (arith, lp, kept)) in
+    let old : IsAtMost (2 * 10 ^ 36) (get_or z0 p (pos 0)) = All-get_or (IsAtMost (2 * 10 ^ 36)) z0 p (pos 0) lp room in
+    let some = entry_at-bound (take j places) x p small in
+    let fewer : length (take j places) ≤ 16384 = rw (length-take-le j places (omega arith)) (omega (arith, few, lj)) in
+    let this : IsEntry (get_or x j (pos 0)) = All-get_or IsEntry x j (pos 0) (omega (arith, same, lj)) small in
+    record { low = omega (arith, ints, now, old.low, some.low, fewer, this.low); high = omega (arith, ints, now, old.high, some.high, fewer, this.high) }
 
 -- one entry added at its place
 pub added_at : (places : List ℕ) (x z0 z : List ℤ) (j e : ℕ) → j < length places → length x ≡ length places → e < length (set z (get_or places j 0) (get_or z (get_or places j 0) (pos 0) +ℤ get_or x j (pos 0)))
