@@ -10,3 +10,5 @@ pub mod Rests
 pub mod Fits
 pub mod Totals
 pub mod Puts
+pub mod Entries
+pub mod Places

@@ -1,3 +1,4 @@
 pub mod Room
 pub mod Walk
 pub mod Rest
+pub mod Values

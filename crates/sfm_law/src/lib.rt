@@ -10,6 +10,7 @@ pub mod rest;
 pub mod room;
 pub mod starts;
 pub mod term;
+pub mod values;
 pub mod walk;
 
 pub use breaks::Break;
@@ -20,4 +21,5 @@ pub use rest::rest_of;
 pub use room::Room;
 pub use starts::{start_row, start_rows};
 pub use term::Term;
+pub use values::{greatest_magnitude, put_others_over, put_over, write_each};
 pub use walk::{Walk, WalkSteps};
