@@ -25,7 +25,7 @@ PARTS = [
         "sfm_spec.Sets", "sfm_spec.Terms", "sfm_spec.Kinds", "sfm_spec.Families", "sfm_spec.Laws", "sfm_spec.Slopes",
         "sfm_spec.Blocks", "sfm_spec.Walks", "sfm_spec.Bounds"]),
     ("Terms as they are kept", [
-        "sfm_concave.", "sfm_laminar.", "sfm_matroid.", "sfm_simple.", "sfm_kind."]),
+        "sfm_law.", "sfm_concave.", "sfm_laminar.", "sfm_matroid.", "sfm_simple.", "sfm_kind."]),
     ("Instance texts", [
         "sfm_spec.Names", "sfm_base.NumberText", "sfm_text.Lines", "sfm_text.Matched", "sfm_text.Parts",
         "sfm_text.LabelTerms", "sfm_text.RankLines", "sfm_text.Words", "sfm_text.TermLines", "sfm_text.Reading",
@@ -112,7 +112,8 @@ def module_name(source):
 
 
 def resolve(word, module, modules):
-    """The definition that a word of a module means: its module and its name; None where it means none of ours."""
+    """The definition that a word of a module means, also where another module passes it on: its module and its name; None
+    where it means none of ours."""
     if word in module.blocks:
         return module.name, word
     first, _, rest = word.partition(".")
@@ -125,7 +126,7 @@ def resolve(word, module, modules):
     else:
         return None
     there = modules.get(module_name(source) or "")
-    return (there.name, name) if there and name in there.blocks else None
+    return resolve(name, there, modules) if there else None
 
 
 def top_words():

@@ -1,15 +1,13 @@
 -- The exchanges at a base of a cover: what a place has can be moved away from it.
-use Rattle.std.proofs.Common.{◌≡◌, ◌≢◌, ◌↔◌, ℕ, ◌<◌, Bool, true, List, length, get_or, ℤ, pos, ◌*ℤ◌, ◌≤ℤ◌, sym, arith, ⊎_elim}
-use Rattle.std.proofs.lemmas.Bool.{cases_eq}
+use Rattle.std.proofs.Common.{◌≡◌, ◌≢◌, ◌↔◌, ℕ, ◌<◌, Bool, List, length, get_or, ℤ, pos, ◌*ℤ◌, ◌≤ℤ◌, ◌<ℤ◌, sym, ◌∙◌, arith}
 use Rattle.std.proofs.lemmas.Int.{ints}
-use Rattle.std.proofs.lemmas.List.{length-replicate}
 use Rattle.sfm_spec.specs.Sets.{Has, whole_set, sum_over}
 use Rattle.sfm_spec.specs.Terms.{times, IsBase, IsCapacity, HasRoom, exchanged}
 use Rattle.sfm_spec.specs.Kinds.{cover_value}
-use Rattle.sfm_spec.proofs.MoveOrder.{exchanged-first, exchanged-second, exchanged-other}
-use Rattle.sfm_spec.proofs.Sets.{Has-whole}
-use Rattle.sfm_spec.proofs.Sums.{sum_over-exchanged, length-exchanged}
+use Rattle.sfm_spec.proofs.MoveOrder.{exchanged-second}
+use Rattle.sfm_spec.proofs.Sums.{length-exchanged}
 use Rattle.sfm_law.proofs.Monotone.{AreCounts}
+use Rattle.sfm_law.proofs.Places.{by_exchange, whole-exchanged}
 use Rattle.sfm_law.specs.Room.{IsReach}
 use Rattle.sfm_simple.specs.CoverLaws.{IsCoverBase, cover_base, cover_base_back}
 
@@ -22,23 +20,14 @@ module _ (q w : ℤ) (hq : pos 1 ≤ℤ q) (hw : pos 0 ≤ℤ w) (x : List ℤ) 
       let len = length-exchanged x u v a in
       cover_base q w (exchanged x u v a) (omega (arith, len)) (record { counts = counts; sum = sum }) where
         counts : AreCounts (exchanged x u v a)
-        counts e h = ⊎_elim onto (λ nv. ⊎_elim (from nv) (other nv) (cases_eq e u)) (cases_eq e v) where
-          onto : e ≡ v → pos 0 ≤ℤ get_or (exchanged x u v a) e (pos 0)
-          onto is = rw (is, exchanged-second x u v a kv) (omega (arith, ints, high))
-
-          from : e ≢ v → e ≡ u → pos 0 ≤ℤ get_or (exchanged x u v a) e (pos 0)
-          from nv is = let c = is_base.counts u ku in rw (is, exchanged-first x u v a ku ne) (omega (arith, ints, low, c))
-
-          other : e ≢ v → e ≢ u → pos 0 ≤ℤ get_or (exchanged x u v a) e (pos 0)
-          other nv nu = let len = length-exchanged x u v a in rw (exchanged-other x u v e a nu nv) (is_base.counts e (omega (arith, len)))
+        counts e h = by_exchange x u v a ku kv ne (λ e y. e < length x → pos 0 ≤ℤ y)
+            (λ l. let c = is_base.counts u ku in omega (arith, ints, low, c))
+            (λ l. omega (arith, ints, high))
+            (λ e nu nv. is_base.counts e)
+            e (let len = length-exchanged x u v a in omega (arith, len, h))
 
         sum : sum_over (whole_set (length (exchanged x u v a))) (exchanged x u v a) ≡ (q *ℤ w)
-        sum =
-            let wu : Has (whole_set (length x)) u = Has-whole (length x) u ku in
-            let wv : Has (whole_set (length x)) v = Has-whole (length x) v kv in
-            let plain = rw (wu, wv) at (sum_over-exchanged (whole_set (length x)) x u v a (length-replicate (length x) true) ku kv ne) in
-            let all = is_base.sum in
-            rw (length-exchanged x u v a) (omega (arith, ints, plain, all))
+        sum = whole-exchanged x u v a ku kv ne ∙ is_base.sum
 
   at_most : (b : ℤ) → IsBase (times q (cover_value w)) (exchanged x u v b) → b ≤ℤ get_or x v (pos 0)
   at_most b moved =
@@ -58,11 +47,11 @@ module _ (q w : ℤ) (hq : pos 1 ≤ℤ q) (hw : pos 0 ≤ℤ w) (x : List ℤ) 
   )
 
 pub cover-reach : (q w : ℤ) → pos 1 ≤ℤ q → pos 0 ≤ℤ w → (x : List ℤ) → IsBase (times q (cover_value w)) x → (u : ℕ) → u < length x → (to : List Bool) → length to ≡ length x
-    → ((v : ℕ) → v < length x → Has to v ↔ ((v ≢ u) × (pos 1 ≤ℤ get_or x v (pos 0)))) → IsReach (times q (cover_value w)) x u to
+    → ((v : ℕ) → v < length x → Has to v ↔ ((v ≢ u) × (pos 0 <ℤ get_or x v (pos 0)))) → IsReach (times q (cover_value w)) x u to
 cover-reach q w hq hw x base u ku to same is = record {
   places = same;
   exact = λ v kv. (
-    (λ h. let i = (is v kv).0 h in (i.0, (cover-room q w hq hw x base u v ku kv (λ e. i.0 (sym e))).1 i.1)),
-    (λ (ne, room). (is v kv).1 (ne, (cover-room q w hq hw x base u v ku kv (λ e. ne (sym e))).0 room)),
+    (λ h. let i = (is v kv).0 h in (i.0, (cover-room q w hq hw x base u v ku kv (λ e. i.0 (sym e))).1 (let more = i.1 in omega (arith, ints, more)))),
+    (λ (ne, room). (is v kv).1 (ne, let some = (cover-room q w hq hw x base u v ku kv (λ e. ne (sym e))).0 room in omega (arith, ints, some))),
   );
 }

@@ -1,21 +1,17 @@
 -- A number for each part: submodular exactly where no two places gain more together than each alone.
-use Rattle.std.proofs.Common.{◌≡◌, ℕ, zero, suc, ◌+◌, ◌-◌, ◌<◌, ◌≤◌, ◌^◌, Bool, true, false, List, [], ◌∷◌, length, map, get_or, set, ℤ, pos, neg_ℤ, nat_abs, ◌+ℤ◌, ◌-ℤ◌, ◌*ℤ◌, ◌≤ℤ◌, ◌<ℤ◌, Some, refl, sym, ap, ◌∙◌, arith}
+use Rattle.std.proofs.Common.{◌≡◌, ℕ, suc, ◌+◌, ◌-◌, ◌<◌, ◌≤◌, ◌^◌, Bool, true, false, List, length, map, get_or, set, ℤ, pos, neg_ℤ, ◌+ℤ◌, ◌-ℤ◌, ◌*ℤ◌, ◌≤ℤ◌, ◌<ℤ◌, Some, refl, sym, ap, ◌∙◌, arith}
 use Rattle.std.specs.List.{All, range_with_len}
-use Rattle.std.specs.Int.{int_max}
-use Rattle.std.proofs.lemmas.Int.{ints, clamps, by_lt_z}
+use Rattle.std.proofs.lemmas.Int.{ints, by_lt_z}
 use Rattle.std.proofs.lemmas.List.FromFn.{length-map-range_with_len, get_or-map-range_with_len}
 use Rattle.sfm_spec.specs.Sets.{Has, sum_over}
 use Rattle.sfm_spec.specs.Terms.{times, first_places, IsBase, IsFamily, IsSubmodular, IsGreedy}
 use Rattle.sfm_spec.specs.Kinds.{binary, table_value}
 use Rattle.sfm_law.proofs.LocalLaw.{local_law}
+use Rattle.sfm_law.proofs.Entries.{listed-small}
+pub use Rattle.sfm_law.specs.Values.{greatest}
 use Rattle.sfm_law.proofs.Greedy.{front, first_places-front, first_places-more, greedy_base, greedy_small}
 use Rattle.sfm_simple.specs.Subsets.{members, members-binary, binary-none, binary-front, binary-lt}
 use Rattle.sfm_simple.specs.Breaches.{listed_at, BreaksLaw}
-
--- the greatest magnitude
-abbrev pub greatest : List ℤ → ℤ
-greatest [] = pos 0
-greatest (a ∷ values) = int_max (pos (nat_abs a)) (greatest values)
 
 -- what the place j adds to those before it, q times
 abbrev pub gain_of : ℤ → List ℤ → ℕ → ℤ
@@ -58,15 +54,6 @@ table-submodular k values none holds = local_law k (listed_at values) (ap (λ n.
         breaks more = record { number = rw (← ks) (binary-lt s); ordered = lt; in_range = in_range; first_out = rw is out; second_out = rw is out'; more = rw is more }
 
 -- ---- the size
-
-greatest-low : (values : List ℤ) → pos 0 ≤ℤ greatest values
-greatest-low [] = omega (arith, ints)
-greatest-low (a ∷ values) = let r = greatest-low values in omega (arith, ints, clamps, r)
-
-listed-small : (values : List ℤ) (n : ℕ) → (neg_ℤ (greatest values) ≤ℤ get_or values n (pos 0)) × (get_or values n (pos 0) ≤ℤ greatest values)
-listed-small [] n = (omega (arith, ints), omega (arith, ints))
-listed-small (a ∷ values) zero = let r = greatest-low values in (omega (arith, ints, clamps, r), omega (arith, ints, clamps, r))
-listed-small (a ∷ values) (suc n) = let r = listed-small values n in (omega (arith, ints, clamps, r.0), omega (arith, ints, clamps, r.1))
 
 pub table-bounded : (values : List ℤ) (s : List Bool) (a : ℤ) → table_value values s ≡ Some a → (neg_ℤ (greatest values) ≤ℤ a) × (a ≤ℤ greatest values)
 table-bounded values s a e = let f : listed_at values s ≡ a = cc in rw (← f) (listed-small values (binary s))

@@ -8,7 +8,7 @@ ghost use Rattle.sfm_spec.specs.Kinds.{cover_value};
 ghost use Rattle.sfm_simple.specs.CoverLaws.{cover_start, cover-family, cover-submodular, cover-bounded, cover-starts, cover-starts_small};
 
 use sfm_base::{Memory, Places, Set};
-use sfm_law::{Plain, Room, has_sum, product};
+use sfm_law::{Plain, Room, has_sum, product, put_others_over};
 use std::alloc::Global;
 
 /// A number for meeting the elements: the rank of a matroid of rank 1, times the number (Schrijver, Combinatorial
@@ -111,8 +111,6 @@ impl Plain for Cover {
 
     /// Writes the places other than u to which u has room at a base: those that have something.
     fn reach_of(&self, _q: i128, x: &[i128], u: usize, to: &mut Set) {
-        for (v, a) in x.iter().enumerate() {
-            to.put(v, v != u && *a >= 1);
-        }
+        put_others_over(x, u, Some(0), to);
     }
 }

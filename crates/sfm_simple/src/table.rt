@@ -7,15 +7,16 @@ ghost use Rattle.sfm_spec.specs.Bounds.{IsAtMost, IsEntry, IsFactor, IsGiven, Ar
 ghost use Rattle.sfm_spec.specs.Sets.{Has};
 ghost use Rattle.sfm_spec.specs.Terms.{times, IsSubmodular, IsGreedy};
 ghost use Rattle.sfm_spec.specs.Kinds.{table_value};
+ghost use Rattle.sfm_law.specs.Values.{greatest};
 ghost use Rattle.sfm_simple.specs.Subsets.{members};
 ghost use Rattle.sfm_simple.specs.Breaches.{IsFirstBreach};
-ghost use Rattle.sfm_simple.specs.TableLaws.{greatest, gain_of, table_start, slack_of, Separates, IsLeastSlack, table-family, table-bounded, table-starts, table-starts_small};
+ghost use Rattle.sfm_simple.specs.TableLaws.{gain_of, table_start, slack_of, Separates, IsLeastSlack, table-family, table-bounded, table-starts, table-starts_small};
 
 use crate::breach::first_breach;
 use crate::place::all_but;
 use crate::subset::{has, keep_members, number_of, sum_at, unit};
 use sfm_base::{Memory, Numbers, Places, Set};
-use sfm_law::{Plain, Room, magnitude, product};
+use sfm_law::{Plain, Room, greatest_magnitude, product, write_each};
 use std::alloc::Global;
 
 /// Why numbers make no table.
@@ -55,18 +56,6 @@ pub struct Table {
     pub ghost given: { All IsGiven values },
     pub ghost lawful: { IsSubmodular (length places) (table_value values) },
     pub ghost topped: { most ≡ greatest values },
-}
-
-/// The greatest magnitude of the numbers.
-fn greatest_magnitude(values: &[i128]) -> i128
-    requires { All IsGiven values.now }
-    ensures { result ≡ greatest values.now }
-{
-    let mut most = 0;
-    for value in values {
-        most = magnitude(*value).max(most);
-    }
-    most
 }
 
 /// Whether the set of k places with the number s has u and not v.
@@ -144,17 +133,6 @@ impl Table {
         ensures { result ≡ gain_of q self.now.values j }
     {
         self.scaled(q, unit(j + 1) - 1) - self.scaled(q, unit(j) - 1)
-    }
-
-    /// Writes what each place adds to those before it.
-    fn write_gains(&self, q: i128, x: &mut [i128])
-        requires factor { IsFactor q }
-        requires entries { length x.old ≡ length self.now.places }
-        ensures { x.new ≡ table_start q self.now.values (length self.now.places) }
-    {
-        for (j, a) in x.iter_mut().enumerate() {
-            *a = self.gain(q, j);
-        }
     }
 
     /// What the part with the number s leaves of q times its value.
@@ -282,7 +260,7 @@ impl Plain for Table {
         ensures start { x.new ≡ table_start q self.now.values (length self.now.places) }
         ensures greedy { IsGreedy q (table_value self.now.values) (length self.now.places) x.new }
     {
-        self.write_gains(q, x);
+        write_each(x, |j| self.gain(q, j));
     }
 
     /// Whether x is a base of q times the term.

@@ -1,4 +1,4 @@
-use Rattle.std.proofs.Common.{arith}
+use Rattle.std.proofs.Common.{◌∙◌}
 use Rattle.sfm_simple.proofs.CoverRooms.{cover-reach}
 use Rattle.sfm_simple.proofs.cover.CoverPlain.reach_of.Goals as goal
 
@@ -6,5 +6,5 @@ pub returns-clause-reached : goal.returns-clause-reached
 returns-clause-reached c =
     let r = c.requires in
     let s = c.args.self.now in
-    let inv = c.loop-v.invariant in
-    cover-reach c.args._q s.w r.factor.low s.low c.args.x.now r.base c.args.u r.from c.loop-v.to inv.places (λ k h. inv.exact k (omega (arith, h)))
+    let put = c.put_others_over.ensures in
+    cover-reach c.args._q s.w r.factor.low s.low c.args.x.now r.base c.args.u r.from c.put_others_over.new.to (put.places ∙ r.room_for_answer) put.over

@@ -1,11 +1,13 @@
-use Rattle.std.proofs.Common.{◌≡◌, ◌∙◌, ◌<◌, ℤ, pos, length, get_or, of_z, ap, sym, arith, rules, FitsSigned}
+use Rattle.std.proofs.Common.{◌≡◌, ◌<◌, ℤ, pos, length, get_or, of_z, arith, rules}
 use Rattle.std.proofs.Math.Pow.{pow_mono}
-use Rattle.std.proofs.lemmas.Int.{ints, to_z-of_z}
+use Rattle.std.proofs.lemmas.Int.{ints}
 use Rattle.std.proofs.lemmas.List.Elements.{All-get_or}
 use Rattle.std.proofs.lemmas.Nat.{pow_pos}
 use Rattle.sfm_spec.specs.Bounds.{IsGiven}
 use mir.Syntax.{w128}
-use Rattle.sfm_simple.specs.TableLaws.{greatest, table-submodular}
+use Rattle.sfm_law.specs.Values.{greatest}
+use Rattle.sfm_law.proofs.Entries.{told_of_kept}
+use Rattle.sfm_simple.specs.TableLaws.{table-submodular}
 use Rattle.sfm_simple.proofs.table.Table.new.Goals as goal
 
 pub invariant_of-result-clause-few : goal.invariant_of-result-clause-few
@@ -20,9 +22,7 @@ pub invariant_of-result-clause-given : goal.invariant_of-result-clause-given
 invariant_of-result-clause-given c = rw c.in_ok-values.ensures c.requires.given
 
 pub invariant_of-result-clause-topped : goal.invariant_of-result-clause-topped
-invariant_of-result-clause-topped c =
-    let f : FitsSigned w128 c.greatest_magnitude-most.result = search rules in
-    to_z-of_z w128 c.greatest_magnitude-most.result f ∙ c.greatest_magnitude-most.ensures ∙ ap greatest (sym c.in_ok-values.ensures)
+invariant_of-result-clause-topped c = told_of_kept greatest c.greatest_magnitude-most.result _ _ (search rules) c.greatest_magnitude-most.ensures c.in_ok-values.ensures
 
 from_bits : (a : ℤ) → IsGiven a → of_z w128 a ≡ 0 → a ≡ pos 0
 from_bits a h z = omega (arith, ints, z)

@@ -1,4 +1,4 @@
-use Rattle.std.proofs.Common.{◌≡◌, ◌^◌, ◌∙◌, length, ap, sym, rules, FitsSigned}
+use Rattle.std.proofs.Common.{◌≡◌, ◌^◌, ◌∙◌, length, ap, sym, rules}
 use Rattle.std.proofs.lemmas.Int.{to_z-of_z}
 use mir.Syntax.{w128}
 use Rattle.sfm_simple.proofs.TableRooms.{table-capacity}
@@ -8,8 +8,6 @@ pub returns : goal.returns
 returns c =
     let r = c.requires in
     let s = c.args.self.now in
-    let fq : FitsSigned w128 c.args.q = c.ranges.q in
-    let fl : FitsSigned w128 c.least_slack.result = search rules in
     let counted : length s.values ≡ 2 ^ length c.args.x.now = s.counted ∙ ap (λ n. 2 ^ n) (sym r.entries) in
-    let is = simp to_z-of_z at c.least_slack.ensures in
-    simp to_z-of_z (table-capacity c.args.q s.values c.args.x.now counted r.base c.args.u c.args.v r.from r.onto r.apart c.least_slack.result is)
+    let is = simp (to_z-of_z w128 c.args.q c.ranges.q) at c.least_slack.ensures in
+    simp (to_z-of_z w128 c.least_slack.result (search rules)) (table-capacity c.args.q s.values c.args.x.now counted r.base c.args.u c.args.v r.from r.onto r.apart c.least_slack.result is)

@@ -1,8 +1,7 @@
-use Rattle.std.proofs.Common.{◌∙◌, ap, sym, arith, rules, FitsSigned}
-use Rattle.std.proofs.lemmas.Int.{to_z-of_z}
-use mir.Syntax.{w128}
+use Rattle.std.proofs.Common.{arith, rules}
 use Rattle.sfm_spec.specs.Sets.{magnitudes}
 use Rattle.sfm_base.proofs.Elements.{placed_few}
+use Rattle.sfm_law.proofs.Entries.{told_of_kept}
 use Rattle.sfm_simple.proofs.weight.Weight.new.Goals as goal
 
 pub sum_magnitudes-total-requires-clause-few : goal.sum_magnitudes-total-requires-clause-few
@@ -17,6 +16,4 @@ pub invariant_of-result-clause-given : goal.invariant_of-result-clause-given
 invariant_of-result-clause-given c = rw c.in_ok-weights.ensures c.requires.given
 
 pub invariant_of-result-clause-totalled : goal.invariant_of-result-clause-totalled
-invariant_of-result-clause-totalled c =
-    let f : FitsSigned w128 c.sum_magnitudes-total.result = search rules in
-    to_z-of_z w128 c.sum_magnitudes-total.result f ∙ c.sum_magnitudes-total.ensures ∙ ap magnitudes (sym c.in_ok-weights.ensures)
+invariant_of-result-clause-totalled c = told_of_kept magnitudes c.sum_magnitudes-total.result _ _ (search rules) c.sum_magnitudes-total.ensures c.in_ok-weights.ensures
