@@ -2,7 +2,7 @@
 -- entries: no entry is above a number, and each test is met. The tests are left open here.
 -- Textbook: Fujishige, Submodular Functions and Optimization, section 4 (exchange capacities).
 use Rattle.std.proofs.Common.{◌≡◌, ◌≢◌, ◌⊎◌, ◌↔◌, IsTrue, ℕ, suc, ◌<◌, Bool, true, false, List, [], ◌∷◌, length, get_or, set, ℤ, pos, ◌+ℤ◌, ◌-ℤ◌, ◌*ℤ◌, ◌≤ℤ◌, ◌<ℤ◌, Some, refl, sym, ap, ◌∙◌, arith, ⊎_elim, length-set, get_or-set_other, get_or-set_same}
-use Rattle.std.proofs.lemmas.Bool.{both_ways, cases_eq, false≢true}
+use Rattle.std.proofs.lemmas.Bool.{both_ways, false≢true}
 use Rattle.std.proofs.lemmas.Int.{ints}
 use Rattle.std.proofs.lemmas.List.{get_or_default, length-replicate}
 use Rattle.std.specs.List.{All}
@@ -14,8 +14,10 @@ use Rattle.sfm_spec.proofs.Search.{within_whole}
 use Rattle.sfm_spec.proofs.Sums.{share, sum_over-set, length-exchanged, sum_over-exchanged}
 use Rattle.sfm_spec.proofs.Sets.{Has-whole}
 use Rattle.sfm_spec.proofs.Exchange.{base_between}
+use Rattle.sfm_spec.proofs.MoveOrder.{exchanged-first, exchanged-second, exchanged-other}
 use Rattle.sfm_law.proofs.Listing.{own_listing, base_from_leaves}
 use Rattle.sfm_law.proofs.Monotone.{AreCounts, without, sum_over-without}
+use Rattle.sfm_law.proofs.Places.{by_places, by_exchange}
 use Rattle.sfm_law.proofs.Totals.{total_of-whole}
 use Rattle.sfm_rank.specs.Matroids.{IsMatroid, AreRanks}
 use Rattle.sfm_rank.specs.Terms.{rank_value}
@@ -164,13 +166,13 @@ module _ (k n : ℕ) (q w : ℤ) (low : pos 0 ≤ℤ (q *ℤ w)) (IsIndependent 
       raised-other r e eu ev = get_or-set_other (set x v (pos 0)) u e r (pos 0) eu ∙ get_or-set_other x v e (pos 0) (pos 0) ev
 
       moved-u : (a : ℤ) → get_or (exchanged x u v a) u (pos 0) ≡ (get_or x u (pos 0) +ℤ a)
-      moved-u a = get_or-set_other (set x u (get_or x u (pos 0) +ℤ a)) v u (get_or x v (pos 0) -ℤ a) (pos 0) ne ∙ get_or-set_same x u (get_or x u (pos 0) +ℤ a) (pos 0) (omega (arith, sized, ku))
+      moved-u a = exchanged-first x u v a (omega (arith, sized, ku)) ne
 
       moved-v : (a : ℤ) → get_or (exchanged x u v a) v (pos 0) ≡ (get_or x v (pos 0) -ℤ a)
-      moved-v a = get_or-set_same (set x u (get_or x u (pos 0) +ℤ a)) v (get_or x v (pos 0) -ℤ a) (pos 0) (let l = length-set x u (get_or x u (pos 0) +ℤ a) in omega (arith, l, sized, kv))
+      moved-v a = exchanged-second x u v a (omega (arith, sized, kv))
 
       moved-other : (a : ℤ) (e : ℕ) → e ≢ u → e ≢ v → get_or (exchanged x u v a) e (pos 0) ≡ get_or x e (pos 0)
-      moved-other a e eu ev = get_or-set_other (set x u (get_or x u (pos 0) +ℤ a)) v e (get_or x v (pos 0) -ℤ a) (pos 0) ev ∙ get_or-set_other x u e (get_or x u (pos 0) +ℤ a) (pos 0) eu
+      moved-other a e eu ev = exchanged-other x u v e a eu ev
 
       pub counts : AreCounts x
       counts = base_counts x sized base
@@ -180,13 +182,7 @@ module _ (k n : ℕ) (q w : ℤ) (low : pos 0 ≤ℤ (q *ℤ w)) (IsIndependent 
 
       -- a fact of each entry of x with u at r and nothing at v
       by_place : (r : ℤ) (P : ℕ → ℤ → Type 0) → P u r → P v (pos 0) → ((e : ℕ) → e ≢ u → e ≢ v → P e (get_or x e (pos 0))) → (e : ℕ) → P e (get_or (raised r) e (pos 0))
-      by_place r P atu atv others e = ⊎_elim
-          (λ (same : e ≡ u). rw (same, raised-u r) atu)
-          (λ (eu : e ≢ u). ⊎_elim
-          (λ (same : e ≡ v). rw (same, raised-v r) atv)
-          (λ (ev : e ≢ v). rw (raised-other r e eu ev) (others e eu ev))
-          (cases_eq e v))
-          (cases_eq e u)
+      by_place r P atu atv others = by_places u v (λ e. P e (get_or (raised r) e (pos 0))) (rw (raised-u r) atu) (rw (raised-v r) atv) (λ e eu ev. rw (raised-other r e eu ev) (others e eu ev))
 
       pub raised-counts : (r : ℤ) → pos 0 ≤ℤ r → AreCounts (raised r)
       raised-counts r hr e h = by_place r (λ e y. e < k → pos 0 ≤ℤ y) (λ l. hr) (λ l. omega (arith, ints)) (λ e eu ev l. counts e (omega (arith, l, sized))) e (let p = raised-places r in omega (arith, h, p))
@@ -274,18 +270,12 @@ module _ (k n : ℕ) (q w : ℤ) (low : pos 0 ≤ℤ (q *ℤ w)) (IsIndependent 
       exchanged-places : (a : ℤ) → length (exchanged x u v a) ≡ k
       exchanged-places a = length-exchanged x u v a ∙ sized
 
-      -- a fact of each entry of x once u got a of v
-      by_exchange : (a : ℤ) (P : ℕ → ℤ → Type 0) → P u (get_or x u (pos 0) +ℤ a) → P v (get_or x v (pos 0) -ℤ a) → ((e : ℕ) → e ≢ u → e ≢ v → P e (get_or x e (pos 0))) → (e : ℕ) → P e (get_or (exchanged x u v a) e (pos 0))
-      by_exchange a P atu atv others e = ⊎_elim
-          (λ (same : e ≡ u). rw (same, moved-u a) atu)
-          (λ (eu : e ≢ u). ⊎_elim
-          (λ (same : e ≡ v). rw (same, moved-v a) atv)
-          (λ (ev : e ≢ v). rw (moved-other a e eu ev) (others e eu ev))
-          (cases_eq e v))
-          (cases_eq e u)
+      -- a fact of each entry of x once v gave one to u
+      once_given : (P : ℕ → ℤ → Type 0) → P u (get_or x u (pos 0) +ℤ pos 1) → P v (get_or x v (pos 0) -ℤ pos 1) → ((e : ℕ) → e ≢ u → e ≢ v → P e (get_or x e (pos 0))) → (e : ℕ) → P e (get_or (exchanged x u v (pos 1)) e (pos 0))
+      once_given = by_exchange x u v (pos 1) (omega (arith, sized, ku)) (omega (arith, sized, kv)) ne
 
       pub given-counts : pos 1 ≤ℤ get_or x v (pos 0) → AreCounts (exchanged x u v (pos 1))
-      given-counts has e h = by_exchange (pos 1) (λ e y. e < k → pos 0 ≤ℤ y) (λ l. let c = counts u (omega (arith, sized, ku)) in omega (arith, ints, c)) (λ l. omega (arith, ints, has)) (λ e eu ev l. counts e (omega (arith, l, sized))) e (let p = exchanged-places (pos 1) in omega (arith, h, p))
+      given-counts has e h = once_given (λ e y. e < k → pos 0 ≤ℤ y) (λ l. let c = counts u (omega (arith, sized, ku)) in omega (arith, ints, c)) (λ l. omega (arith, ints, has)) (λ e eu ev l. counts e (omega (arith, l, sized))) e (let p = exchanged-places (pos 1) in omega (arith, h, p))
 
       -- u has less than q·w, v has something, and each test is met once v gave one to u
       pub record CanGive : Type 0 where
@@ -296,7 +286,7 @@ module _ (k n : ℕ) (q w : ℤ) (low : pos 0 ≤ℤ (q *ℤ w)) (IsIndependent 
       pub gives_room : CanGive → HasRoom (times q (rank_value w rank)) x u v
       gives_room give = (pos 1, omega (arith, ints), passes_base (exchanged x u v (pos 1)) (exchanged-places (pos 1)) (given-counts give.has) pass total) where
         pass : PassesTests (exchanged x u v (pos 1))
-        pass = record { capped = λ e lt. by_exchange (pos 1) (λ e y. e < k → y ≤ℤ (q *ℤ w)) (λ l. let c = give.under_cap in omega (arith, ints, c)) (λ l. let p = passes.capped v l in omega (arith, ints, p)) (λ e eu ev l. passes.capped e l) e lt; met = give.met }
+        pass = record { capped = λ e lt. once_given (λ e y. e < k → y ≤ℤ (q *ℤ w)) (λ l. let c = give.under_cap in omega (arith, ints, c)) (λ l. let p = passes.capped v l in omega (arith, ints, p)) (λ e eu ev l. passes.capped e l) e lt; met = give.met }
 
         total : sum_over (whole_set k) (exchanged x u v (pos 1)) ≡ ((q *ℤ w) *ℤ pos (rank (whole_set k)))
         total =

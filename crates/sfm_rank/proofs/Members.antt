@@ -5,7 +5,7 @@ use Rattle.std.proofs.lemmas.Int.{ints}
 use Rattle.std.proofs.lemmas.List.{length-replicate}
 use Rattle.sfm_spec.specs.Sets.{Has, IsWithin, empty_set, size, sum_over}
 use Rattle.sfm_spec.proofs.Sizes.{size-empty, weight-empty}
-use Rattle.sfm_spec.proofs.Where.{size-cons}
+pub use Rattle.sfm_law.proofs.Places.{size-put, size-in}
 
 pub has_place : (s : List Bool) (e : ℕ) → Has s e → e < length s
 has_place [] e h = absurd (false≢true h)
@@ -19,14 +19,6 @@ nothing (suc k) (suc e) h = nothing k e h
 
 pub has_or_out : (s : List Bool) (e : ℕ) → (Has s e → ⊥) → get_or s e false ≡ false
 has_or_out s e h = ⊎_elim (λ has. absurd (h has)) (λ out. out) (cases_Bool (get_or s e false))
-
-pub size-put : (s : List Bool) (e : ℕ) (b : Bool) → e < length s → size (set s e b) + cond (get_or s e false) 1 0 ≡ size s + cond b 1 0
-size-put [] e b h = absurd (omega arith)
-size-put (a ∷ s) zero b h = let l = size-cons a s in let r = size-cons b s in omega (arith, l, r)
-size-put (a ∷ s) (suc e) b h = let l = size-cons a s in let m = size-cons a (set s e b) in let r = size-put s e b (omega arith) in omega (arith, l, m, r)
-
-pub size-in : (s : List Bool) (e : ℕ) → e < length s → get_or s e false ≡ false → size (set s e true) ≡ suc (size s)
-size-in s e h out = let r = rw out at (size-put s e true h) in omega (arith, r)
 
 -- a place taken out, whether it was in or not, leaves all others and at most one less
 pub size-out : (s : List Bool) (e : ℕ) → e < length s → size s < suc (suc (size (set s e false)))
