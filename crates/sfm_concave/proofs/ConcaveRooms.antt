@@ -9,7 +9,8 @@ use Rattle.sfm_spec.proofs.Exchange.{base_moved, leaves_room}
 use Rattle.sfm_law.specs.Room.{IsReach}
 use Rattle.sfm_concave.specs.Counts.{IsFalling, falling-times}
 use Rattle.sfm_concave.specs.ConcaveLaws.{scaled, number_of, NeverRises, falling}
-use Rattle.sfm_concave.specs.Thresholds.{above, above_with, above_between, slack, Separates, IsLeastSlack, Blocks, IsOver, IsBar}
+use Rattle.sfm_concave.specs.Thresholds.{above, above_with, above_between, slack, Separates, IsLeastSlack, Blocks, IsBar}
+use Rattle.sfm_law.specs.Values.{IsOver}
 use Rattle.sfm_concave.proofs.Above.{with_split}
 use Rattle.sfm_concave.proofs.Bases.{none_short, least_split, blocked}
 

@@ -1,7 +1,6 @@
 -- Bases of a weighted rank of a uniform matroid, and the exchanges at them.
-use Rattle.std.proofs.Common.{◌≡◌, ◌≢◌, ◌↔◌, ℕ, suc, ◌<◌, ◌≤◌, Bool, true, false, List, [], ◌∷◌, length, get_or, set, ℤ, pos, ◌+ℤ◌, ◌-ℤ◌, ◌*ℤ◌, ◌≤ℤ◌, ◌<ℤ◌, Some, refl, sym, ap, subst, ◌∙◌, arith, ⊎_elim, length-set}
+use Rattle.std.proofs.Common.{◌≡◌, ◌≢◌, ◌↔◌, ℕ, suc, ◌<◌, ◌≤◌, Bool, true, false, List, [], ◌∷◌, length, get_or, set, ℤ, pos, ◌+ℤ◌, ◌-ℤ◌, ◌*ℤ◌, ◌≤ℤ◌, ◌<ℤ◌, Some, refl, sym, ap, ◌∙◌, arith, length-set}
 use Rattle.std.proofs.Math.IntN.{*ℤ-zero}
-use Rattle.std.proofs.lemmas.Bool.{cases_eq}
 use Rattle.std.proofs.lemmas.Int.{ints, clamps, by_lt_z}
 use Rattle.std.specs.List.{All}
 use Rattle.std.proofs.lemmas.List.{get_or_default, length-replicate, get_or-replicate}
@@ -11,13 +10,14 @@ use Rattle.sfm_spec.specs.Sets.{Has, empty_set, whole_set, size, sum_over, IsWit
 use Rattle.sfm_spec.specs.Terms.{times, IsBase, IsCapacity, HasRoom, exchanged}
 use Rattle.sfm_spec.specs.Kinds.{uniform_value}
 use Rattle.sfm_spec.proofs.Lattice.{none_in_empty}
-use Rattle.sfm_spec.proofs.MoveOrder.{exchanged-first, exchanged-second, exchanged-other}
+use Rattle.sfm_spec.proofs.MoveOrder.{exchanged-first, exchanged-second}
 use Rattle.sfm_spec.proofs.Where.{size-cons}
 use Rattle.sfm_spec.proofs.Scaled.{times-mono, times-add, times-assoc}
 use Rattle.sfm_spec.proofs.Sets.{Has-whole}
 use Rattle.sfm_spec.proofs.Sizes.{size-whole, size-empty, size_below_length, weight-empty}
-use Rattle.sfm_spec.proofs.Sums.{sum_over-exchanged, length-exchanged}
+use Rattle.sfm_spec.proofs.Sums.{length-exchanged}
 use Rattle.sfm_spec.proofs.Walks.{has_below}
+use Rattle.sfm_law.proofs.Places.{by_exchange, whole-exchanged}
 use Rattle.sfm_law.proofs.Monotone.{AreCounts, sum_over-mono, sum_over-without, without}
 use Rattle.sfm_law.proofs.Totals.{total_of-whole}
 use Rattle.sfm_law.specs.Room.{IsReach}
@@ -125,31 +125,19 @@ module _ (q w cap : ℤ) (hq : pos 1 ≤ℤ q) (hw : pos 0 ≤ℤ w) (x : List �
   is_base : IsUniformBase q w cap x
   is_base = uniform_base_back q w cap x hq hw base
 
-  -- an entry after the exchange
-  each : (P : ℤ → Type 0) (a : ℤ) → P (get_or x u (pos 0) +ℤ a) → P (get_or x v (pos 0) -ℤ a) → ((e : ℕ) → e < length x → P (get_or x e (pos 0))) → (e : ℕ) → e < length x → P (get_or (exchanged x u v a) e (pos 0))
-  each P a from onto else e lt = ⊎_elim
-      (λ is. subst P (sym (ap (λ i. get_or (exchanged x u v a) i (pos 0)) is ∙ exchanged-second x u v a kv)) onto)
-      (λ nv. ⊎_elim
-      (λ is. subst P (sym (ap (λ i. get_or (exchanged x u v a) i (pos 0)) is ∙ exchanged-first x u v a ku ne)) from)
-      (λ nu. subst P (sym (exchanged-other x u v e a nu nv)) (else e lt))
-      (cases_eq e u))
-      (cases_eq e v)
-
   moved_base : (a : ℤ) → pos 0 ≤ℤ a → a ≤ℤ get_or x v (pos 0) → a ≤ℤ ((q *ℤ w) -ℤ get_or x u (pos 0)) → IsBase (times q (uniform_value w cap)) (exchanged x u v a)
   moved_base a low high high' =
       let len = length-exchanged x u v a in
       uniform_base q w cap (exchanged x u v a) hq hw (record {
-        counts = λ e lt. each (λ y. pos 0 ≤ℤ y) a (let c = is_base.counts u ku in omega (arith, ints, c, low)) (omega (arith, ints, high)) is_base.counts e (omega (arith, len));
-        capped = λ e lt. each (λ y. y ≤ℤ (q *ℤ w)) a (omega (arith, ints, high')) (let c = is_base.capped v kv in omega (arith, ints, c, low)) is_base.capped e (omega (arith, len));
+        counts = λ e lt. each (λ y. pos 0 ≤ℤ y) (let c = is_base.counts u ku in omega (arith, ints, c, low)) (omega (arith, ints, high)) is_base.counts e (omega (arith, len, lt));
+        capped = λ e lt. each (λ y. y ≤ℤ (q *ℤ w)) (omega (arith, ints, high')) (let c = is_base.capped v kv in omega (arith, ints, c, low)) is_base.capped e (omega (arith, len, lt));
         sum = sum;
       }) where
+        each : (P : ℤ → Type 0) → P (get_or x u (pos 0) +ℤ a) → P (get_or x v (pos 0) -ℤ a) → ((e : ℕ) → e < length x → P (get_or x e (pos 0))) → (e : ℕ) → e < length x → P (get_or (exchanged x u v a) e (pos 0))
+        each P from onto else = by_exchange x u v a ku kv ne (λ e y. e < length x → P y) (λ l. from) (λ l. onto) (λ e nu nv. else e)
+
         sum : sum_over (whole_set (length (exchanged x u v a))) (exchanged x u v a) ≡ (q *ℤ (w *ℤ rank_of cap (length (exchanged x u v a))))
-        sum =
-            let wu : Has (whole_set (length x)) u = Has-whole (length x) u ku in
-            let wv : Has (whole_set (length x)) v = Has-whole (length x) v kv in
-            let plain = rw (wu, wv) at (sum_over-exchanged (whole_set (length x)) x u v a (length-replicate (length x) true) ku kv ne) in
-            let all = is_base.sum in
-            rw (length-exchanged x u v a) (omega (arith, ints, plain, all))
+        sum = whole-exchanged x u v a ku kv ne ∙ rw (length-exchanged x u v a) is_base.sum
 
   at_most : (b : ℤ) → IsBase (times q (uniform_value w cap)) (exchanged x u v b) → (b ≤ℤ get_or x v (pos 0)) × (b ≤ℤ ((q *ℤ w) -ℤ get_or x u (pos 0)))
   at_most b moved =

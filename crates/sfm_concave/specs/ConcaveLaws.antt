@@ -1,13 +1,14 @@
 -- A concave function of the count: the numbers for 1, 2, .. places, where no increment is above the one before.
-use Rattle.std.proofs.Common.{◌≡◌, ℕ, zero, suc, ◌+◌, ◌-◌, ◌<◌, ◌≤◌, List, [], ◌∷◌, length, map, get_or, ℤ, pos, neg_ℤ, nat_abs, ◌+ℤ◌, ◌-ℤ◌, ◌*ℤ◌, ◌≤ℤ◌, ◌<ℤ◌, Bool, Some, refl, ap, ◌∙◌, arith}
+use Rattle.std.proofs.Common.{◌≡◌, ℕ, zero, suc, ◌+◌, ◌-◌, ◌<◌, ◌≤◌, List, ◌∷◌, length, map, get_or, ℤ, pos, neg_ℤ, ◌+ℤ◌, ◌-ℤ◌, ◌*ℤ◌, ◌≤ℤ◌, ◌<ℤ◌, Bool, Some, refl, ap, ◌∙◌, arith}
 use Rattle.std.specs.List.{All, range_with_len}
-use Rattle.std.specs.Int.{int_max}
-use Rattle.std.proofs.lemmas.Int.{ints, clamps, by_lt_z}
+use Rattle.std.proofs.lemmas.Int.{ints, by_lt_z}
 use Rattle.std.proofs.lemmas.List.FromFn.{length-map-range_with_len, get_or-map-range_with_len}
 use Rattle.sfm_spec.specs.Sets.{size}
 use Rattle.sfm_spec.specs.Terms.{times, IsBase, IsFamily, IsSubmodular, IsGreedy}
 use Rattle.sfm_spec.specs.Kinds.{concave_value}
 use Rattle.sfm_law.proofs.Greedy.{greedy_base, greedy_small}
+use Rattle.sfm_law.proofs.Entries.{greatest-low, listed-small}
+pub use Rattle.sfm_law.specs.Values.{greatest}
 use Rattle.sfm_concave.specs.Counts.{IsFalling, counted, counted-family, counted-submodular, counted-greedy}
 
 -- the number of a count: 0 of none, and then the listed ones
@@ -36,11 +37,6 @@ pub record IsFirstRise (g : List ℤ) (at : ℕ) : Type 0 where
 -- no increment is above the one before
 abbrev pub NeverRises : List ℤ → Type 0
 NeverRises g = (at : ℕ) → RisesAt g at → ⊥
-
--- the greatest magnitude
-abbrev pub greatest : List ℤ → ℤ
-greatest [] = pos 0
-greatest (a ∷ values) = int_max (pos (nat_abs a)) (greatest values)
 
 -- what the place j adds to those before it, q times
 abbrev pub gain_of : ℤ → List ℤ → ℕ → ℤ
@@ -74,15 +70,6 @@ pub concave-submodular : (k : ℕ) (g : List ℤ) → length g ≡ k → NeverRi
 concave-submodular k g same never = rw (← same) (counted-submodular (length g) (number_of g) (falling g never))
 
 -- ---- the size
-
-greatest-low : (values : List ℤ) → pos 0 ≤ℤ greatest values
-greatest-low [] = omega (arith, ints)
-greatest-low (a ∷ values) = let r = greatest-low values in omega (arith, ints, clamps, r)
-
-listed-small : (values : List ℤ) (n : ℕ) → (neg_ℤ (greatest values) ≤ℤ get_or values n (pos 0)) × (get_or values n (pos 0) ≤ℤ greatest values)
-listed-small [] n = (omega (arith, ints), omega (arith, ints))
-listed-small (a ∷ values) zero = let r = greatest-low values in (omega (arith, ints, clamps, r), omega (arith, ints, clamps, r))
-listed-small (a ∷ values) (suc n) = let r = listed-small values n in (omega (arith, ints, clamps, r.0), omega (arith, ints, clamps, r.1))
 
 number-small : (g : List ℤ) (c : ℕ) → (neg_ℤ (greatest g) ≤ℤ number_of g c) × (number_of g c ≤ℤ greatest g)
 number-small g zero = let r = greatest-low g in (omega (arith, ints, r), omega (arith, ints, r))

@@ -1,6 +1,6 @@
 -- Numbers that hang on how many places a set has: submodular where no further place adds more than the one before.
 -- Textbook: Schrijver, Combinatorial Optimization, section 44 (concave functions of the cardinality).
-use Rattle.std.proofs.Common.{◌≡◌, ℕ, zero, suc, ◌+◌, ◌<◌, ◌≤◌, Bool, true, false, cond, List, [], ◌∷◌, length, get_or, set, ℤ, pos, ◌+ℤ◌, ◌-ℤ◌, ◌*ℤ◌, ◌≤ℤ◌, if◌then◌else◌, Some, refl, ap, ◌∙◌, arith, length-set, get_or-set_other}
+use Rattle.std.proofs.Common.{◌≡◌, ℕ, zero, suc, ◌+◌, ◌<◌, ◌≤◌, Bool, true, false, List, [], ◌∷◌, length, get_or, set, ℤ, pos, ◌+ℤ◌, ◌-ℤ◌, ◌*ℤ◌, ◌≤ℤ◌, if◌then◌else◌, Some, refl, ap, ◌∙◌, arith, length-set, get_or-set_other}
 use Rattle.std.proofs.lemmas.Int.{ints}
 use Rattle.std.proofs.Math.IntN.{*ℤ-zero}
 use Rattle.sfm_spec.specs.Sets.{Has, size, sum_over}
@@ -9,6 +9,7 @@ use Rattle.sfm_spec.proofs.Where.{size-cons}
 use Rattle.sfm_spec.proofs.Sizes.{size-empty, size_below_length}
 use Rattle.sfm_spec.proofs.Scaled.{times-mono, times-add}
 use Rattle.sfm_law.proofs.LocalLaw.{on_all, local_law}
+pub use Rattle.sfm_law.proofs.Places.{size-put, size-in}
 use Rattle.sfm_law.proofs.Greedy.{front, first_places-front, first_places-more}
 
 -- nothing counts 0, and up to k no count adds more than the one before
@@ -21,14 +22,6 @@ abbrev pub counted : (ℕ → ℤ) → List Bool → ℤ
 counted h s = h (size s)
 
 -- ---- one place put in or taken out
-
-pub size-put : (s : List Bool) (e : ℕ) (b : Bool) → e < length s → size (set s e b) + cond (get_or s e false) 1 0 ≡ size s + cond b 1 0
-size-put [] e b h = absurd (omega arith)
-size-put (a ∷ s) zero b h = let l = size-cons a s in let r = size-cons b s in omega (arith, l, r)
-size-put (a ∷ s) (suc e) b h = let l = size-cons a s in let m = size-cons a (set s e b) in let r = size-put s e b (omega arith) in omega (arith, l, m, r)
-
-pub size-in : (s : List Bool) (e : ℕ) → e < length s → get_or s e false ≡ false → size (set s e true) ≡ suc (size s)
-size-in s e h out = let r = rw out at (size-put s e true h) in omega (arith, r)
 
 pub size-out : (s : List Bool) (e : ℕ) → e < length s → Has s e → suc (size (set s e false)) ≡ size s
 size-out s e h has = let r = rw has at (size-put s e false h) in omega (arith, r)

@@ -1,8 +1,9 @@
 -- The places with more than a number, and what a set leaves to a vector of the number of its count.
-use Rattle.std.specs.Prelude.{◌≡◌, ◌↔◌, ℕ, ◌-◌, ◌<◌, Bool, true, false, List, length, drop, map, slice_index_or, set, ℤ, pos, ◌-ℤ◌, ◌≤ℤ◌, ◌<ℤ◌, Option, Some, None}
+use Rattle.std.specs.Prelude.{◌≡◌, ◌↔◌, ℕ, ◌-◌, ◌<◌, Bool, true, false, List, length, drop, map, slice_index_or, set, ℤ, pos, ◌-ℤ◌, ◌≤ℤ◌, ◌<ℤ◌, Option}
 use Rattle.std.specs.Int.Signed.{lt_z}
 use Rattle.sfm_spec.specs.Bounds.{total_of}
 use Rattle.sfm_spec.specs.Sets.{Has, size, sum_over}
+use Rattle.sfm_law.specs.Values.{IsOver}
 
 -- the places with more than a number
 abbrev pub above : ℤ → List ℤ → List Bool
@@ -51,11 +52,6 @@ pub record IsLastTight (h : ℕ → ℤ) (y : List ℤ) (own i : ℕ) : Type 0 w
   pub below : i < own
   pub tight : slack_from h y i ≡ pos 0
   pub last : (j : ℕ) → i < j → j < own → slack_from h y j ≡ pos 0 → ⊥
-
--- a is above the bar, if there is one
-abbrev pub IsOver : Option ℤ → ℤ → Type 0
-IsOver None a = Unit {0}
-IsOver (Some bar) a = bar <ℤ a
 
 -- the places above each entry leave something
 abbrev pub LeavesAbove : (ℕ → ℤ) → List ℤ → Type 0

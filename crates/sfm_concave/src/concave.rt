@@ -10,15 +10,16 @@ ghost use Rattle.sfm_spec.specs.Sets.{Has, whole_set};
 ghost use Rattle.sfm_spec.specs.Terms.{SetFunction, times, IsBase, IsFamily, IsSubmodular, IsGreedy, exchanged};
 ghost use Rattle.sfm_spec.specs.Kinds.{concave_value};
 ghost use Rattle.sfm_law.specs.Room.{IsRoom, IsReach, IsWithinRoom};
+ghost use Rattle.sfm_law.specs.Values.{greatest};
 ghost use Rattle.sfm_concave.specs.Rankings.{IsRanking};
-ghost use Rattle.sfm_concave.specs.Thresholds.{above, slack, IsShareOf, IsSomeShare, slack_from, IsLeastSlack, IsOver, IsBar, IsLastTight, NoneTight, LeavesAbove};
-ghost use Rattle.sfm_concave.specs.ConcaveLaws.{number_of, scaled, IsFirstRise, NeverRises, greatest, gain_of, concave_start, concave-family, concave-submodular, concave-bounded, concave-starts, concave-starts_small};
+ghost use Rattle.sfm_concave.specs.Thresholds.{above, slack, IsShareOf, IsSomeShare, slack_from, IsLeastSlack, IsBar, IsLastTight, NoneTight, LeavesAbove};
+ghost use Rattle.sfm_concave.specs.ConcaveLaws.{number_of, scaled, IsFirstRise, NeverRises, gain_of, concave_start, concave-family, concave-submodular, concave-bounded, concave-starts, concave-starts_small};
 
 use crate::ranking::{FEW, Ranking, RankingArrays, RankingView, count_upto, count_upto_place};
 use crate::rise::first_rise;
 use crate::share::{Share, share_above, share_between, share_beyond, share_from, share_without};
 use sfm_base::{Memory, Numbers, Places, Set};
-use sfm_law::{Room, Term, has_sum, magnitude, product};
+use sfm_law::{Room, Term, greatest_magnitude, has_sum, product, put_others_over, write_each};
 use std::alloc::Global;
 
 /// Why numbers make no concave function.
@@ -54,47 +55,6 @@ pub struct Concave {
     pub ghost given: { All IsGiven values },
     pub ghost falling: { NeverRises values },
     pub ghost topped: { most ≡ greatest values },
-}
-
-/// The greatest magnitude of the numbers.
-fn greatest_magnitude(values: &[i128]) -> i128
-    requires { All IsGiven values.now }
-    ensures { result ≡ greatest values.now }
-{
-    let mut most = 0;
-    for value in values {
-        most = magnitude(*value).max(most);
-    }
-    most
-}
-
-/// Whether a number is above a bar, if there is one.
-fn is_over(bar: Option<i128>, a: i128) -> bool
-    ensures { IsTrue result ↔ IsOver bar a }
-{
-    match bar {
-        None => true,
-        Some(bar) => a > bar,
-    }
-}
-
-/// Whether v is not u, and its entry is above a bar, if there is one.
-fn is_other_over(v: usize, u: usize, bar: Option<i128>, a: i128) -> bool
-    ensures { IsTrue result ↔ ((v ≢ u) × IsOver bar a) }
-{
-    v != u && is_over(bar, a)
-}
-
-/// Writes the places other than u whose entries are above a bar, if there is one.
-pub(crate) fn put_over(x: &[i128], u: usize, bar: Option<i128>, to: &mut Set)
-    requires small { All IsEntry x.now }
-    requires room_for_answer { length to.old ≡ length x.now }
-    ensures places { length to.new ≡ length to.old }
-    ensures over { (v : ℕ) → v < length x.now → Has to.new v ↔ ((v ≢ u) × IsOver bar (slice_index_or x.now v (pos 0))) }
-{
-    for (v, a) in x.iter().enumerate() {
-        to.put(v, is_other_over(v, u, bar, *a));
-    }
 }
 
 impl Concave {
@@ -168,18 +128,7 @@ impl Concave {
         ensures start { x.new ≡ concave_start q self.now.values (length self.now.places) }
         ensures greedy { IsGreedy q (concave_value self.now.values) (length self.now.places) x.new }
     {
-        self.write_gains(q, x);
-    }
-
-    /// Writes what each place adds to those before it.
-    fn write_gains(&self, q: i128, x: &mut [i128])
-        requires factor { IsFactor q }
-        requires entries { length x.old ≡ length self.now.places }
-        ensures { x.new ≡ concave_start q self.now.values (length self.now.places) }
-    {
-        for (j, a) in x.iter_mut().enumerate() {
-            *a = self.gain(q, j);
-        }
+        write_each(x, |j| self.gain(q, j));
     }
 
     /// What a part with a share leaves of q times its value.
@@ -482,7 +431,7 @@ impl Concave {
         requires room_for_answer { length to.old ≡ length x.now }
         ensures { IsReach (times q (concave_value self.now.values)) x.now u to.new }
     {
-        put_over(x, u, self.bar(q, x, note, u), to);
+        put_others_over(x, u, self.bar(q, x, note, u), to);
     }
 
     /// Writes the places other than u to which u has room at a base: those above the greatest entry to which it has none.

@@ -8,9 +8,8 @@ ghost use Rattle.sfm_spec.specs.Terms.{times, IsGreedy};
 ghost use Rattle.sfm_spec.specs.Kinds.{uniform_value};
 ghost use Rattle.sfm_concave.specs.UniformLaws.{rank_of, IsUniformRoom, uniform_size, uniform_gain, uniform_start, uniform-family, uniform-submodular, uniform-bounded, uniform-starts, uniform-starts_small};
 
-use crate::concave::put_over;
 use sfm_base::{Memory, Places, Set};
-use sfm_law::{Plain, Room, are_within, has_sum, least_left, product};
+use sfm_law::{Plain, Room, are_within, has_sum, least_left, product, put_others_over, write_each};
 use std::alloc::Global;
 
 /// A number for each element of a part, but for at most `cap` of them: the weighted rank of a uniform matroid (Schrijver,
@@ -90,17 +89,6 @@ impl Uniform {
         }
         self.most(q)
     }
-
-    /// Writes what each place adds to those before it.
-    fn write_gains(&self, q: i128, x: &mut [i128])
-        requires factor { IsFactor q }
-        requires entries { length x.old ≡ length self.now.places }
-        ensures { x.new ≡ uniform_start q self.now.w self.now.cap (length self.now.places) }
-    {
-        for (j, a) in x.iter_mut().enumerate() {
-            *a = self.gain(q, j);
-        }
-    }
 }
 
 impl Plain for Uniform {
@@ -142,7 +130,7 @@ impl Plain for Uniform {
         ensures start { x.new ≡ uniform_start q self.now.w self.now.cap (length self.now.places) }
         ensures greedy { IsGreedy q (uniform_value self.now.w self.now.cap) (length self.now.places) x.new }
     {
-        self.write_gains(q, x);
+        write_each(x, |j| self.gain(q, j));
     }
 
     /// Whether x is a base of q times the term.
@@ -162,6 +150,6 @@ impl Plain for Uniform {
             to.clear();
             return;
         }
-        put_over(x, u, Some(0), to);
+        put_others_over(x, u, Some(0), to);
     }
 }

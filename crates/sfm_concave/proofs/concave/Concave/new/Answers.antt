@@ -1,8 +1,7 @@
-use Rattle.std.proofs.Common.{◌∙◌, ap, sym, rules, FitsSigned}
-use Rattle.std.proofs.lemmas.Int.{to_z-of_z}
-use mir.Syntax.{w128}
+use Rattle.std.proofs.Common.{rules}
 use Rattle.sfm_base.proofs.Elements.{placed_few}
-use Rattle.sfm_concave.specs.ConcaveLaws.{greatest}
+use Rattle.sfm_law.specs.Values.{greatest}
+use Rattle.sfm_law.proofs.Entries.{told_of_kept}
 use Rattle.sfm_concave.proofs.concave.Concave.new.Goals as goal
 
 pub invariant_of-result-clause-few : goal.invariant_of-result-clause-few
@@ -15,6 +14,4 @@ pub invariant_of-result-clause-falling : goal.invariant_of-result-clause-falling
 invariant_of-result-clause-falling c = rw c.in_ok-values.ensures c.in_default.ensures
 
 pub invariant_of-result-clause-topped : goal.invariant_of-result-clause-topped
-invariant_of-result-clause-topped c =
-    let f : FitsSigned w128 c.greatest_magnitude-most.result = search rules in
-    to_z-of_z w128 c.greatest_magnitude-most.result f ∙ c.greatest_magnitude-most.ensures ∙ ap greatest (sym c.in_ok-values.ensures)
+invariant_of-result-clause-topped c = told_of_kept greatest c.greatest_magnitude-most.result _ _ (search rules) c.greatest_magnitude-most.ensures c.in_ok-values.ensures

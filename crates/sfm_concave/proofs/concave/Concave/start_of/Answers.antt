@@ -1,12 +1,14 @@
-use Rattle.std.proofs.Common.{FitsSigned}
+use Rattle.std.proofs.Common.{◌∙◌, length, arith, rules}
 use Rattle.std.proofs.lemmas.Int.{to_z-of_z}
 use mir.Syntax.{w128}
-use Rattle.sfm_concave.specs.ConcaveLaws.{concave-greedy}
+use Rattle.sfm_spec.specs.Terms.{IsGreedy}
+use Rattle.sfm_spec.specs.Kinds.{concave_value}
+use Rattle.sfm_law.proofs.Entries.{written}
+use Rattle.sfm_concave.specs.ConcaveLaws.{gain_of, concave-greedy}
 use Rattle.sfm_concave.proofs.concave.Concave.start_of.Goals as goal
 
-pub returns-clause-greedy : goal.returns-clause-greedy
-returns-clause-greedy c =
+pub returns : goal.returns
+returns c =
     let s = c.args.self.now in
-    let fq : FitsSigned w128 c.args.q = c.ranges.q in
-    let e = simp to_z-of_z at c.write_gains.ensures in
-    rw e (concave-greedy _ c.args.q s.values)
+    let put = c.write_each.ensures in
+    written (gain_of c.args.q s.values) (length s.places) (IsGreedy c.args.q (concave_value s.values) (length s.places)) c.write_each.new.x (put.places ∙ c.requires.entries) (λ j lt. let h = put.shares j (rw c.requires.entries lt) in let e = to_z-of_z w128 c.args.q c.ranges.q in first_of (cc, search rules, grind arith)) (concave-greedy (length s.places) c.args.q s.values)

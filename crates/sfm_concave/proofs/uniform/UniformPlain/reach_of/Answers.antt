@@ -1,16 +1,14 @@
 use Rattle.std.proofs.Common.{◌∙◌, ◌*ℤ◌, ◌≤ℤ◌, ◌<ℤ◌, get_or, pos, arith, rules, FitsSigned}
 use Rattle.std.proofs.lemmas.Int.{ints, to_z-of_z}
-use Rattle.std.proofs.lemmas.List.Elements.{All-get_or}
 use mir.Syntax.{w128}
-use Rattle.sfm_spec.specs.Bounds.{IsEntry}
-use Rattle.sfm_law.proofs.Writes.{entry_fits}
+use Rattle.sfm_law.proofs.Entries.{fits_at}
 use Rattle.sfm_concave.proofs.UniformRooms.{uniform-reach_none, uniform-reach_over}
 use Rattle.sfm_concave.proofs.uniform.UniformPlain.reach_of.Goals as goal
 use Rattle.sfm_concave.proofs.uniform.UniformPlain.reach_of.Goals.{After-most}
 
 -- the entry of u is a number of 128 bits
 entry : (c : After-most) → FitsSigned w128 (get_or c.args.x.now c.args.u (pos 0))
-entry c = entry_fits _ (All-get_or IsEntry c.args.x.now c.args.u (pos 0) c.requires.from c.requires.small)
+entry c = fits_at c.args.x.now c.args.u c.requires.from c.requires.small
 
 pub returns-then-x-u-clause-reached : goal.returns-then-x-u-clause-reached
 returns-then-x-u-clause-reached c =
@@ -34,4 +32,4 @@ returns-clause-reached c =
     let most = simp to_z-of_z at c.most.ensures.value in
     let h = simp to_z-of_z at c.if-x-u.false in
     let lacks : get_or c.args.x.now c.args.u (pos 0) <ℤ (c.args.q *ℤ s.w) = omega (arith, ints, h, most) in
-    uniform-reach_over c.args.q s.w s.cap r.factor.low s.low c.args.x.now r.base c.args.u r.from lacks c.put_over.new.to (c.put_over.ensures.places ∙ r.room_for_answer) c.put_over.ensures.over
+    uniform-reach_over c.args.q s.w s.cap r.factor.low s.low c.args.x.now r.base c.args.u r.from lacks c.put_others_over.new.to (c.put_others_over.ensures.places ∙ r.room_for_answer) c.put_others_over.ensures.over
