@@ -10,6 +10,7 @@ use Rattle.sfm_spec.specs.Kinds.{Group, IsWithinCaps}
 use Rattle.sfm_spec.proofs.Lattice.{none_in_empty}
 use Rattle.sfm_spec.proofs.Sets.{has_or_not}
 use Rattle.sfm_spec.proofs.Sums.{share, sum_over-set}
+use Rattle.sfm_law.proofs.Places.{others_in}
 use Rattle.sfm_law.specs.Room.{IsReach}
 use Rattle.sfm_rank.proofs.Members.{has_or_out}
 use Rattle.sfm_rank.proofs.Bases.{IsMostAt, least_capacity, gives_room, room_gives}
@@ -21,7 +22,7 @@ use Rattle.sfm_laminar.specs.LaminarLaws.{laminar_value}
 use Rattle.sfm_laminar.specs.Rooms.{bound_of, slack_of, Splits, IsLeast, IsHeld, IsKept}
 use Rattle.sfm_laminar.specs.Slacks.{IsSupport, share_of}
 use Rattle.sfm_laminar.proofs.Bases.{IsLaminarBase, IsGroupMet, low, sum-group, laminar_base_back, laminar_tests}
-use Rattle.sfm_laminar.proofs.Slacking.{slack-exchanged, others_in}
+use Rattle.sfm_laminar.proofs.Slacking.{slack-exchanged}
 
 share-none : (s : List Bool) (e : ℕ) → share s e (pos 0) ≡ pos 0
 share-none s e = at (get_or s e false) where
@@ -154,7 +155,7 @@ module _ (k : ℕ) (q w : ℤ) (groups : List Group) (hq : pos 1 ≤ℤ q) (hw :
   -- u lacks something: of the others that have something those that the groups hold
   pub reach_held : (u : ℕ) → u < length x → get_or x u (pos 0) <ℤ (q *ℤ w) → (s to : List Bool) → IsSupport x s → IsKept (set s u false) to (IsHeld q w groups x u (length groups)) → IsReach (times q (laminar_value k w groups)) x u to
   reach_held u ku lacks s to is kept = laminar-reach u ku to (kept.places ∙ same) (λ v kv.
-      let others = others_in x s u ku is v kv in
+      let others = others_in (λ e. pos 1 ≤ℤ get_or x e (pos 0)) s u v (omega (arith, is.places, ku)) (is.exact v kv) in
       let left = kept.exact v (omega (arith, kv, same)) in (
         (λ h. let a = left.0 h in let b = others.0 a.0 in (b.0, lacks, b.1, a.1)),
         (λ (ne, less, some, held). left.1 (others.1 (ne, some), held)),

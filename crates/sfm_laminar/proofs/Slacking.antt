@@ -2,7 +2,7 @@
 use Rattle.std.proofs.Common.{◌≡◌, ◌≢◌, ◌↔◌, ℕ, ◌+◌, ◌<◌, ◌≤◌, ◌^◌, Bool, true, false, List, [], ◌∷◌, length, get_or, set, ℤ, Option, None, Some, IfSome, pos, ◌+ℤ◌, ◌-ℤ◌, ◌*ℤ◌, ◌≤ℤ◌, sym, ◌∙◌, arith, ⊎_elim, length-set, get_or-set_same, get_or-set_other}
 use Rattle.std.specs.List.{All, Contains}
 use Rattle.std.specs.Int.{int_min}
-use Rattle.std.proofs.lemmas.Bool.{false≢true, cases_lt, cases_eq}
+use Rattle.std.proofs.lemmas.Bool.{cases_lt}
 use Rattle.std.proofs.lemmas.Int.{ints, clamps}
 use Rattle.std.proofs.lemmas.List.{get_or_default, length-replicate}
 use Rattle.std.proofs.lemmas.List.Elements.{All-head, All-tail, All-get_or}
@@ -16,6 +16,7 @@ use Rattle.sfm_spec.proofs.Sets.{same_sets, in_union, union_right}
 use Rattle.sfm_spec.proofs.Sums.{length-union, length-exchanged, sum_over-exchanged}
 use Rattle.sfm_spec.proofs.MoveOrder.{exchanged-first, exchanged-second, exchanged-other}
 use Rattle.sfm_law.proofs.Monotone.{AreCounts}
+use Rattle.sfm_law.proofs.Places.{by_places}
 use Rattle.sfm_laminar.specs.Groups.{AreGroups}
 use Rattle.sfm_laminar.specs.Crossing.{no_group, group_at}
 use Rattle.sfm_laminar.specs.Masks.{mask, length-mask, sum_listed}
@@ -111,13 +112,10 @@ pub support_moved : (x : List ℤ) (s : List Bool) (u v : ℕ) (a : ℤ) (bu bv 
     → IsSupport (exchanged x u v a) (set (set s u bu) v bv)
 support_moved x s u v a bu bv xu xv ne h tu tv = record {
   places = length-set (set s u bu) v bv ∙ (length-set s u bu ∙ (h.places ∙ sym len));
-  exact = λ e lt. ⊎_elim
-      (λ (same : e ≡ v). rw (same, get_or-set_same (set s u bu) v bv false (omega (arith, l1, p, xv)), exchanged-second x u v a xv) tv)
-      (λ (ev : e ≢ v). ⊎_elim
-      (λ (same : e ≡ u). rw (same, get_or-set_other (set s u bu) v u bv false ne, get_or-set_same s u bu false (omega (arith, p, xu)), exchanged-first x u v a xu ne) tu)
-      (λ (eu : e ≢ u). rw (get_or-set_other (set s u bu) v e bv false ev, get_or-set_other s u e bu false eu, exchanged-other x u v e a eu ev) (h.exact e (omega (arith, lt, len))))
-      (cases_eq e u))
-      (cases_eq e v);
+  exact = by_places u v (λ e. e < length (exchanged x u v a) → Has (set (set s u bu) v bv) e ↔ (pos 1 ≤ℤ get_or (exchanged x u v a) e (pos 0)))
+      (λ lt. rw (get_or-set_other (set s u bu) v u bv false ne, get_or-set_same s u bu false (omega (arith, p, xu)), exchanged-first x u v a xu ne) tu)
+      (λ lt. rw (get_or-set_same (set s u bu) v bv false (omega (arith, l1, p, xv)), exchanged-second x u v a xv) tv)
+      (λ e eu ev lt. rw (get_or-set_other (set s u bu) v e bv false ev, get_or-set_other s u e bu false eu, exchanged-other x u v e a eu ev) (h.exact e (omega (arith, lt, len))));
 } where
   len : length (exchanged x u v a) ≡ length x
   len = length-exchanged x u v a
@@ -127,13 +125,6 @@ support_moved x s u v a bu bv xu xv ne h tu tv = record {
 
   p : length s ≡ length x
   p = h.places
-
--- those of a support other than u
-pub others_in : (x : List ℤ) (s : List Bool) (u : ℕ) → u < length x → IsSupport x s → (v : ℕ) → v < length x → Has (set s u false) v ↔ ((v ≢ u) × (pos 1 ≤ℤ get_or x v (pos 0)))
-others_in x s u xu h v xv = ⊎_elim
-    (λ (same : v ≡ u). ((λ has. absurd (false≢true (sym (get_or-set_same s u false false (omega (arith, h.places, xu))) ∙ (rw same at has)))), (λ (ne, some). absurd (ne same))))
-    (λ (ne : v ≢ u). ((λ has. (ne, (h.exact v xv).0 (sym (get_or-set_other s u v false false ne) ∙ has))), (λ (ne', some). get_or-set_other s u v false false ne ∙ (h.exact v xv).1 some)))
-    (cases_eq v u)
 
 -- nothing, and then all of a set
 pub union-nothing : (n : ℕ) (s : List Bool) → n ≡ length s → union (empty_set n) s ≡ s

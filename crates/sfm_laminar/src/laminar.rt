@@ -27,7 +27,7 @@ use crate::masks::Masks;
 use crate::number::{bound, sum_listed};
 use crate::slacks::{Slacks, move_support, put_some, share, support_of};
 use sfm_base::{Memory, Places, Set};
-use sfm_law::{Room, Term, are_within, has_sum, least_left, product};
+use sfm_law::{Room, Term, are_within, has_sum, least_left, product, write_each};
 use std::alloc::Global;
 
 /// Why groups make no laminar matroid.
@@ -174,18 +174,7 @@ impl Laminar {
         ensures start { x.new ≡ laminar_start (length self.now.places) q self.now.w self.now.groups }
         ensures greedy { IsGreedy q (laminar_value (length self.now.places) self.now.w self.now.groups) (length self.now.places) x.new }
     {
-        self.write_start(q, x);
-    }
-
-    /// Writes q·w at the elements of the base of the matroid, and 0 at the others.
-    fn write_start(&self, q: i128, x: &mut [i128])
-        requires factor { IsFactor q }
-        requires entries { length x.old ≡ length self.now.places }
-        ensures { x.new ≡ laminar_start (length self.now.places) q self.now.w self.now.groups }
-    {
-        for (j, a) in x.iter_mut().enumerate() {
-            *a = self.share(q, j);
-        }
+        write_each(x, |j| self.share(q, j));
     }
 
     /// What the place j gets of the first base.
@@ -488,22 +477,6 @@ impl Laminar {
         Ok(slacks)
     }
 
-    /// What each group lacks, and the places that have something.
-    ///
-    /// # Errors
-    ///
-    /// `Memory` where there is none.
-    pub fn note_of(&self, alloc: Global, q: i128, x: &[i128]) -> Result<Slacks, Memory>
-        requires factor { IsFactor q }
-        requires entries { length x.now ≡ length self.now.places }
-        requires small { All IsEntry x.now }
-        ensures { IfOk result (λ r. laminar_fits self.now.w self.now.groups r q x.now) }
-    {
-        let slacks = self.slacks_of(alloc, q, x)?;
-        let support = support_of(alloc, x)?;
-        Ok(Slacks { slacks, support })
-    }
-
     /// What the group i has of an amount at v: all of it, or nothing.
     fn share_in(&self, i: usize, v: usize, a: i128) -> i128
         requires group { i < length self.now.groups }
@@ -623,7 +596,9 @@ impl Term for Laminar {
     }
 
     fn note(&self, alloc: Global, q: i128, x: &[i128]) -> Result<Slacks, Memory> {
-        self.note_of(alloc, q, x)
+        let slacks = self.slacks_of(alloc, q, x)?;
+        let support = support_of(alloc, x)?;
+        Ok(Slacks { slacks, support })
     }
 
     fn reach_by(

@@ -7,6 +7,7 @@ ghost use Rattle.sfm_spec.specs.Terms.{exchanged};
 ghost use Rattle.sfm_laminar.specs.Slacks.{IsSupport};
 
 use sfm_base::{Memory, Set};
+use sfm_law::put_over;
 use std::alloc::Global;
 
 /// What each group lacks, and the places that have something.
@@ -39,9 +40,7 @@ fn put_support(x: &[i128], to: &mut Set)
     requires sized { length to.old ≡ length x.now }
     ensures { IsSupport x.now to.new }
 {
-    for (v, a) in x.iter().enumerate() {
-        to.put(v, is_some(*a));
-    }
+    put_over(x, Some(0), to);
 }
 
 /// The places that have something.

@@ -10,9 +10,7 @@ loop-i-init c =
     kept_begin (to_z w128 (of_z w128 c.args.q)) s.w s.groups c.args.x.now c.holders-holders.result.now c.args.to.now
 
 pub keep_full_group-requires-clause-noted : goal.keep_full_group-requires-clause-noted
-keep_full_group-requires-clause-noted c =
-    let fq : FitsSigned w128 c.args.q = c.ranges.q in
-    simp to_z-of_z c.requires.noted
+keep_full_group-requires-clause-noted c = simp (to_z-of_z w128 c.args.q c.ranges.q) c.requires.noted
 
 pub loop-i-preserved : goal.loop-i-preserved
 loop-i-preserved c =

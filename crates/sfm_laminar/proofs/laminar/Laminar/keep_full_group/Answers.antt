@@ -8,9 +8,7 @@ use Rattle.sfm_laminar.proofs.Leasts.{kept_free, kept_full}
 use Rattle.sfm_laminar.proofs.laminar.Laminar.keep_full_group.Goals as goal
 
 pub is_full-requires-clause-noted : goal.is_full-requires-clause-noted
-is_full-requires-clause-noted c =
-    let fq : FitsSigned w128 c.args.q = c.ranges.q in
-    simp to_z-of_z c.requires.noted
+is_full-requires-clause-noted c = simp (to_z-of_z w128 c.args.q c.ranges.q) c.requires.noted
 
 pub returns-then-not-is_full : goal.returns-then-not-is_full
 returns-then-not-is_full c =

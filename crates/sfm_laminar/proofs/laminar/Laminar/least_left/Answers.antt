@@ -15,9 +15,7 @@ loop-i-init c =
     simp to_z-of_z (least_begin _ _ _ _ _ _ _ _ entry)
 
 pub slack_by-requires-clause-noted : goal.slack_by-requires-clause-noted
-slack_by-requires-clause-noted c =
-    let fq : FitsSigned w128 c.args.q = c.ranges.q in
-    simp to_z-of_z c.requires.noted
+slack_by-requires-clause-noted c = simp (to_z-of_z w128 c.args.q c.ranges.q) c.requires.noted
 
 pub loop-i-preserved : goal.loop-i-preserved
 loop-i-preserved c =

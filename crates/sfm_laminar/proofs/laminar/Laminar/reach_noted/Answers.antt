@@ -21,9 +21,7 @@ pub remove-requires : goal.remove-requires
 remove-requires c = omega (arith, c.put_some.ensures.places, c.requires.from)
 
 pub keep_full-requires-clause-noted : goal.keep_full-requires-clause-noted
-keep_full-requires-clause-noted c =
-    let fq : FitsSigned w128 c.args.q = c.ranges.q in
-    simp to_z-of_z c.requires.noted
+keep_full-requires-clause-noted c = simp (to_z-of_z w128 c.args.q c.ranges.q) c.requires.noted
 
 pub keep_full-requires-clause-sized : goal.keep_full-requires-clause-sized
 keep_full-requires-clause-sized c = rw c.remove.ensures (length-set _ _ _ ∙ (c.put_some.ensures.places ∙ c.requires.entries))

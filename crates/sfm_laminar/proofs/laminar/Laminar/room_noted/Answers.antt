@@ -5,9 +5,7 @@ use Rattle.sfm_laminar.proofs.Exchanges.{laminar-capacity}
 use Rattle.sfm_laminar.proofs.laminar.Laminar.room_noted.Goals as goal
 
 pub least_left-requires-clause-noted : goal.least_left-requires-clause-noted
-least_left-requires-clause-noted c =
-    let fq : FitsSigned w128 c.args.q = c.ranges.q in
-    simp to_z-of_z c.requires.noted
+least_left-requires-clause-noted c = simp (to_z-of_z w128 c.args.q c.ranges.q) c.requires.noted
 
 pub returns : goal.returns
 returns c =

@@ -1,4 +1,4 @@
-use Rattle.std.proofs.Common.{◌∙◌, length, drop, ap, sym, FitsSigned}
+use Rattle.std.proofs.Common.{◌∙◌, length, drop, ap, sym}
 use Rattle.std.proofs.lemmas.Int.{to_z-of_z}
 use Rattle.std.proofs.lemmas.List.{take_at}
 use mir.Syntax.{w128}
@@ -20,12 +20,12 @@ returns c =
     let r = c.requires in
     let s = c.args.self.now in
     let kept = c.args.note.now.slacks in
-    let fa : FitsSigned w128 c.args.a = c.ranges.a in
     let z = c.move_slacks.new.slacks in
     let e = c.deref_mut.ensures.value in
     let same = c.move_slacks.ensures.places ∙ ap length e in
-    let moved = rw e at (simp to_z-of_z at c.move_slacks.ensures.moved) in
-    let support = simp to_z-of_z at c.move_support.ensures in (
+    let bits = to_z-of_z w128 c.args.a c.ranges.a in
+    let moved = rw e at (simp bits at c.move_slacks.ensures.moved) in
+    let support = simp bits at c.move_support.ensures in (
       rw (take_at z (drop (length z) kept.items) kept.len (same ∙ sym kept.ok.0)) (slacks_moved _ _ s.w s.groups r.factor.low s.low s.grouped _ r.entries _ _ _ r.from r.onto r.apart _ z r.noted.0 same moved),
       support,
     )

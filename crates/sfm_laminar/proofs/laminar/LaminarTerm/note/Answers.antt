@@ -1,7 +1,7 @@
 use Rattle.std.proofs.Common.{FitsSigned}
 use Rattle.std.proofs.lemmas.Int.{to_z-of_z}
 use mir.Syntax.{w128}
-use Rattle.sfm_laminar.proofs.laminar.Laminar.note_of.Goals as goal
+use Rattle.sfm_laminar.proofs.laminar.LaminarTerm.note.Goals as goal
 
 pub returns : goal.returns
 returns c =
