@@ -5,7 +5,7 @@ use Rattle.std.specs.Str.{bytes_eq}
 use Rattle.std.specs.Str.Parse.{digits_value, without_leading_plus}
 use Rattle.std.proofs.lemmas.Bool.{leb-true}
 use Rattle.clap.specs.Words.{Rule, Shape, Text}
-use Rattle.clap.specs.Walk.{Row, used, value}
+use Rattle.clap.specs.Walk.{Row, arg_by_long, arg_by_short, used, value}
 use Rattle.clap.specs.Takes.{step_passes}
 use Rattle.clap.specs.Simple.{built_leaf, filled, inherited, with_leaf_noted}
 use Rattle.clap.specs.Faults.{settle_fault, defaults_fault, step_fault}
@@ -27,9 +27,17 @@ built_sub s = built_leaf (inherited (with_leaf_noted (record sfm_line.top { is_b
 abbrev place : ℕ → Text → Rule
 place i id = record (filled (word_rule NonEmptyString id)) { index = Some i }
 
-pub help_or_none : (b : Bool) → (cond b (Some help) None ≡ None) ⊎ (cond b (Some help) None ≡ Some help)
+help_or_none : (b : Bool) → (cond b (Some help) None ≡ None) ⊎ (cond b (Some help) None ≡ Some help)
 help_or_none true = inr refl
 help_or_none false = inl refl
+
+-- rules that know the flag for help by its two names, and no other flag
+pub has_help_only : (rules : List Rule) → ((name : Text) → arg_by_long rules name ≡ cond (bytes_eq (codes "help") name || false) (Some help) None)
+    → ((x : ℕ) → arg_by_short rules x ≡ cond ((104 == x) || false) (Some help) None) → HasHelpOnly rules
+has_help_only rules long short = record {
+  long = λ name. rw (long name) (help_or_none _);
+  short = λ x. rw (short x) (help_or_none _);
+}
 
 -- ---- solve
 
@@ -37,10 +45,7 @@ abbrev pub solve_sub : Shape
 solve_sub = built_sub solve_line.top
 
 solve_helps : HasHelpOnly solve_sub.rules
-solve_helps = record {
-  long = λ name. help_or_none (bytes_eq (codes "help") name || false);
-  short = λ x. help_or_none ((104 == x) || false);
-}
+solve_helps = has_help_only _ (λ name. refl) (λ x. refl)
 
 solve_holds : (word : Text) → end_fault solve_sub (holding [] (Some (codes "FILE", word ∷ []))) ≡ [] → HoldsCommand solve_sub (holding [] (Some (codes "FILE", word ∷ [])))
 unfolding defaults_fault
@@ -62,10 +67,7 @@ abbrev pub check_sub : Shape
 check_sub = built_sub check_line.top
 
 check_helps : HasHelpOnly check_sub.rules
-check_helps = record {
-  long = λ name. help_or_none (bytes_eq (codes "help") name || false);
-  short = λ x. help_or_none ((104 == x) || false);
-}
+check_helps = has_help_only _ (λ name. refl) (λ x. refl)
 
 file_row : Text → List Row
 file_row file = used (place 1 (codes "FILE")) (file ∷ []) []
@@ -107,10 +109,7 @@ abbrev pub demo_sub : Shape
 demo_sub = built_sub demo_line.top
 
 demo_helps : HasHelpOnly demo_sub.rules
-demo_helps = record {
-  long = λ name. help_or_none (bytes_eq (codes "help") name || false);
-  short = λ x. help_or_none ((104 == x) || false);
-}
+demo_helps = has_help_only _ (λ name. refl) (λ x. refl)
 
 -- the place of the seed
 abbrev seed_place : Rule

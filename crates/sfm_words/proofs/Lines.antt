@@ -1,5 +1,5 @@
 -- The words of the whole command line: where clap finds no fault it takes them, and its matches hold a command.
-use Rattle.std.proofs.Common.{◌≡◌, ◌∙◌, ◌==◌, ◌||◌, ◌<◌, ◌^◌, ℕ, lt-ltb, le-leb, Bool, List, [], ◌∷◌, ◌++◌, arith, refl, sym, ap, subst, true, false, Some, None, inl, inr, codes}
+use Rattle.std.proofs.Common.{◌≡◌, ◌∙◌, ◌==◌, ◌<◌, ◌^◌, ℕ, lt-ltb, le-leb, Bool, List, [], ◌∷◌, ◌++◌, arith, refl, sym, ap, subst, true, false, Some, None, inl, inr, codes}
 use Rattle.std.specs.Prelude.{length, nat_le, nat_lt, find, fold, is_some, option_and_then, option_map}
 use Rattle.std.specs.Option.{option_map_or}
 use Rattle.std.specs.Str.{bytes_eq}
@@ -23,7 +23,7 @@ use Rattle.sfm_words.specs.Line.{sfm_line}
 use Rattle.sfm_words.proofs.Numbers.{numeral_told}
 use Rattle.sfm_words.proofs.Turns.{HasHelpOnly, at, dashes, dashes_or_value, none_of, not_none, value_fault, some_word}
 use Rattle.sfm_words.proofs.Levels.{HasSmallSeed, IsFree, Reaches}
-use Rattle.sfm_words.proofs.Forms.{check_sub, check_words, demo_sub, demo_words, help_or_none, solve_sub, solve_words}
+use Rattle.sfm_words.proofs.Forms.{check_sub, check_words, demo_sub, demo_words, has_help_only, solve_sub, solve_words}
 
 pub line_is_simple : is_simple_and_free sfm_line ≡ true
 line_is_simple = refl
@@ -42,6 +42,10 @@ stopped_passes : (s : Shape) (ns : Names) (w : Walk) (p : Text × List Text) (wo
 unfolding walk_passes walked
 stopped_passes s ns w p [] = refl
 stopped_passes s ns w p (x ∷ xs) = stopped_passes s ns w (p.0, p.1 ++ x ∷ []) xs
+
+-- the words ask for a command, of a seed that the line takes
+abbrev pub AskSome : List Text → Type 0
+AskSome words = (command : Command) × Asks words command × HasSmallSeed command
 
 -- a verb, and the subcommand that it names
 module _ (verb : Text) (sub : Shape) (first : walked top.rules names (walk_from nothing_held) verb ≡ met_with verb [])
@@ -79,7 +83,7 @@ module _ (verb : Text) (sub : Shape) (first : walked top.rules names (walk_from 
       let end : (fold (walked top.rules names) (walked top.rules names (walk_from nothing_held) verb) words).held ≡ nothing_held = ap (λ (w : Walk). w.held) (walk_is words) in
       rw (passes, rest, end) refl
 
-  pub asks : (words : List Text) (r : Reaches sub (at [] None 1 false) words) → Asks (verb ∷ words) r.end.command
+  asks : (words : List Text) (r : Reaches sub (at [] None 1 false) words) → Asks (verb ∷ words) r.end.command
   asks words r =
       let below = entered_passes_of words r in
       let above : level_passes top names nothing_held (verb ∷ words)
@@ -87,29 +91,25 @@ module _ (verb : Text) (sub : Shape) (first : walked top.rules names (walk_from 
       ap (λ o. level_passes top names nothing_held (verb ∷ words) (is_some o)) (entered_is words) ∙ top_passes words in
       (rw (below, above) refl, ap (option_and_then command_by) (entered_is words) ∙ r.end.found)
 
--- ---- the first word
+  pub asks_some : ((words : List Text) → IsFree sub (at [] None 1 false) words → Reaches sub (at [] None 1 false) words)
+      → (words : List Text) → fault_of sfm_line (verb ∷ words) ≡ [] → AskSome (verb ∷ words)
+  asks_some reach words e =
+      let r = reach words (fault_below words e) in
+      (r.end.command, asks words r, r.end.small)
 
--- the words ask for a command, of a seed that the line takes
-abbrev pub AskSome : List Text → Type 0
-AskSome words = (command : Command) × Asks words command × HasSmallSeed command
+-- ---- the first word
 
 solve_asks : (words : List Text) → fault_of sfm_line (codes "solve" ∷ words) ≡ [] → AskSome (codes "solve" ∷ words)
 unfolding walked
-solve_asks words e =
-    let r = solve_words false words (fault_below (codes "solve") solve_sub refl refl refl words e) in
-    (r.end.command, asks (codes "solve") solve_sub refl refl refl words r, r.end.small)
+solve_asks = asks_some (codes "solve") solve_sub refl refl refl (solve_words false)
 
 check_asks : (words : List Text) → fault_of sfm_line (codes "check" ∷ words) ≡ [] → AskSome (codes "check" ∷ words)
 unfolding walked
-check_asks words e =
-    let r = check_words false words (fault_below (codes "check") check_sub refl refl refl words e) in
-    (r.end.command, asks (codes "check") check_sub refl refl refl words r, r.end.small)
+check_asks = asks_some (codes "check") check_sub refl refl refl (check_words false)
 
 demo_asks : (words : List Text) → fault_of sfm_line (codes "demo" ∷ words) ≡ [] → AskSome (codes "demo" ∷ words)
 unfolding walked
-demo_asks words e =
-    let r = demo_words false words (fault_below (codes "demo") demo_sub refl refl refl words e) in
-    (r.end.command, asks (codes "demo") demo_sub refl refl refl words r, r.end.small)
+demo_asks = asks_some (codes "demo") demo_sub refl refl refl (demo_words false)
 
 no_help : (words : List Text) → fault_of sfm_line (codes "help" ∷ words) ≡ [] → ⊥
 unfolding walk_fault
@@ -121,10 +121,7 @@ no_dashes [] e = not_none _ _ e
 no_dashes (word ∷ words) e = not_none _ _ e
 
 top_helps : HasHelpOnly top.rules
-top_helps = record {
-  long = λ name. help_or_none (bytes_eq (codes "help") name || false);
-  short = λ x. help_or_none ((104 == x) || false);
-}
+top_helps = has_help_only _ (λ name. refl) (λ x. refl)
 
 no_other : (word : Text) (words : List Text) → subcommand_met names idle word ≡ None → fault_of sfm_line (word ∷ words) ≡ [] → ⊥
 unfolding walk_fault

@@ -13,26 +13,10 @@ returns-in_err-matches-clause-form c =
     form_is_no_usage (app_of c.in_ok-line.line) (map (λ word. word.now) c.args.words.now) (kind_of c.in_err-matches.field-0.0) c.in_ok-line.ensures c.in_err-matches.ensures.passes
     c.from_residual-in_err-matches.result c.from_residual-in_err-matches.ensures.1
 
-pub returns-clause-read : goal.returns-clause-read
-returns-clause-read c =
+pub returns : goal.returns
+returns c =
     let words = map (λ word. word.now) c.args.words.now in
+    let r = c.ok_or.result in
     let read = read_is (app_of c.in_ok-line.line) words c.in_ok-matches.matches c.command_in.result c.in_ok-line.ensures c.in_ok-matches.ensures.kinds c.in_ok-matches.ensures.matches c.command_in.ensures in
-    answer_asks words c.ok_or.result (answered words c.command_in.result c.ok_or.result c.ok_or.ensures.value read)
-
-pub returns-clause-refused : goal.returns-clause-refused
-returns-clause-refused c =
-    let words = map (λ word. word.now) c.args.words.now in
-    let read = read_is (app_of c.in_ok-line.line) words c.in_ok-matches.matches c.command_in.result c.in_ok-line.ensures c.in_ok-matches.ensures.kinds c.in_ok-matches.ensures.matches c.command_in.ensures in
-    answer_is_no_refusal words c.ok_or.result _ (answered words c.command_in.result c.ok_or.result c.ok_or.ensures.value read)
-
-pub returns-clause-form : goal.returns-clause-form
-returns-clause-form c =
-    let words = map (λ word. word.now) c.args.words.now in
-    let read = read_is (app_of c.in_ok-line.line) words c.in_ok-matches.matches c.command_in.result c.in_ok-line.ensures c.in_ok-matches.ensures.kinds c.in_ok-matches.ensures.matches c.command_in.ensures in
-    answer_is_form words c.ok_or.result (answered words c.command_in.result c.ok_or.result c.ok_or.ensures.value read)
-
-pub returns-clause-seeds : goal.returns-clause-seeds
-returns-clause-seeds c =
-    let words = map (λ word. word.now) c.args.words.now in
-    let read = read_is (app_of c.in_ok-line.line) words c.in_ok-matches.matches c.command_in.result c.in_ok-line.ensures c.in_ok-matches.ensures.kinds c.in_ok-matches.ensures.matches c.command_in.ensures in
-    answer_is_small words c.ok_or.result (answered words c.command_in.result c.ok_or.result c.ok_or.ensures.value read)
+    let answer = answered words c.command_in.result r c.ok_or.ensures.value read in
+    record { read = answer_asks words r answer; refused = answer_is_no_refusal words r _ answer; form = answer_is_form words r answer; seeds = answer_is_small words r answer }
