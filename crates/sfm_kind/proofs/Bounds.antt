@@ -1,5 +1,5 @@
 -- The bounds of an instance as it grows: by a name, and by a term.
-use Rattle.std.proofs.Common.{◌≡◌, ◌≢◌, ◌↔◌, ℕ, ◌+◌, ◌-◌, ◌-ℤ◌, IsTrue, ◌<◌, ◌≤◌, ◌^◌, List, [], ◌∷◌, ◌++◌, length, get_or, map, ℤ, pos, ◌+ℤ◌, ◌≤ℤ◌, sym, ap, ◌∙◌, arith}
+use Rattle.std.proofs.Common.{◌≡◌, ◌≢◌, ◌↔◌, ℕ, ◌+◌, ◌-◌, ◌-ℤ◌, IsTrue, ◌<◌, ◌≤◌, ◌^◌, List, [], ◌∷◌, ◌++◌, length, get_or, map, ℤ, pos, ◌+ℤ◌, ◌≤ℤ◌, to_z, of_z, FitsSigned, sym, ap, ◌∙◌, arith}
 use Rattle.std.specs.List.{All}
 use Rattle.std.proofs.lemmas.Grind.{get_or_default_zero}
 use Rattle.std.proofs.lemmas.Int.{ints}
@@ -15,6 +15,7 @@ use Rattle.sfm_kind.specs.Names.{IsNewName, AreElementNames}
 use Rattle.sfm_kind.specs.Instance.{support_of}
 use Rattle.sfm_kind.specs.Limits.{AreInBounds, HasRoomFor, total_size_of, IsKept}
 use lib.Signed.{le_z}
+use mir.Syntax.{w128}
 use borrow.Author.Differences.{le_out, true_is_le}
 use Rattle.sfm_kind.specs.declared.kind.Kind.{Kind}
 use Rattle.sfm_kind.specs.declared.kind.Kind.TheVariants.{Weight, Cut, Cover, Need, Table, Concave, Uniform, Laminar, Graphic, Transversal}
@@ -131,6 +132,19 @@ kept-total names terms support total h = record {
   low = omega (arith, ints, h.totalled, total_size-low terms);
   high = omega (arith, ints, h.totalled, h.bounded.small);
 }
+
+-- the running total and the size of a term that fits, added in 128 bits
+pub record IsSum (total size : ℤ) : Type 0 where
+  pub fits : FitsSigned w128 (total +ℤ size)
+  pub is : (to_z w128 (of_z w128 total) +ℤ to_z w128 (of_z w128 size)) ≡ (total +ℤ size)
+
+pub added-total : (names : List (List ℕ)) (terms : List Kind) (term : Kind) (support : ℕ) (total : ℤ) → IsKept names terms support total → AreInBounds (length names) (terms ++ term ∷ []) → IsSum total (kind_size term)
+added-total names terms term support total h bounded =
+    let known = kept-total names terms support total h in
+    let low = kind_size-low term in
+    let room = (in_bounds-last (length names) terms term bounded).1 in
+    let small : (total +ℤ kind_size term) ≤ℤ pos (10 ^ 18) = omega (arith, ints, h.totalled, room.small) in
+    record { fits = omega (arith, ints, known.low, low, small); is = omega (arith, ints, known.low, low, small) }
 
 -- with few enough terms and places, the size decides
 pub room_exact : (names : List (List ℕ)) (terms : List Kind) (support : ℕ) (total : ℤ) (places : ℕ) (size : ℤ) → IsKept names terms support total → length terms < 16384 → places ≤ 16384 - support

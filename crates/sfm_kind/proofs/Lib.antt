@@ -1,3 +1,4 @@
 pub mod Keys
 pub mod Bounds
 pub mod Meanings
+pub mod Passed

@@ -64,42 +64,24 @@ kind_start (Transversal term) q = transversal_start q term.w term.entries
 
 -- where the value of a part takes no memory and is always told: the kinds whose values come by counting alone
 abbrev pub kind_lean_value : Kind → Type 0
-kind_lean_value (Weight term) = Unit {0}
-kind_lean_value (Cut term) = Unit {0}
-kind_lean_value (Cover term) = Unit {0}
-kind_lean_value (Need term) = Unit {0}
-kind_lean_value (Table term) = Unit {0}
-kind_lean_value (Concave term) = Unit {0}
-kind_lean_value (Uniform term) = Unit {0}
 kind_lean_value (Laminar term) = ⊥
 kind_lean_value (Graphic term) = ⊥
 kind_lean_value (Transversal term) = ⊥
+kind_lean_value kind = Unit {0}
 
 -- where first bases, tests of bases, rooms and reach take no memory and are always told
 abbrev pub kind_lean_calls : Kind → Type 0
-kind_lean_calls (Weight term) = Unit {0}
-kind_lean_calls (Cut term) = Unit {0}
-kind_lean_calls (Cover term) = Unit {0}
-kind_lean_calls (Need term) = Unit {0}
-kind_lean_calls (Table term) = Unit {0}
-kind_lean_calls (Concave term) = Unit {0}
-kind_lean_calls (Uniform term) = Unit {0}
-kind_lean_calls (Laminar term) = Unit {0}
 kind_lean_calls (Graphic term) = ⊥
 kind_lean_calls (Transversal term) = ⊥
+kind_lean_calls kind = Unit {0}
 
 -- what a note keeps is true of a base: the plain kinds keep nothing
 abbrev pub kind_fits : Kind → KindNote → ℤ → List ℤ → Type 0
-kind_fits (Weight term) note q x = Unit {0}
-kind_fits (Cut term) note q x = Unit {0}
-kind_fits (Cover term) note q x = Unit {0}
-kind_fits (Need term) note q x = Unit {0}
-kind_fits (Table term) note q x = Unit {0}
 kind_fits (Concave term) note q x = concave_note_fits note x
-kind_fits (Uniform term) note q x = Unit {0}
 kind_fits (Laminar term) note q x = laminar_note_fits term.w term.groups note q x
 kind_fits (Graphic term) note q x = graphic_note_fits term.w term.ends note q x
 kind_fits (Transversal term) note q x = transversal_note_fits term.w term.entries note q x
+kind_fits kind note q x = Unit {0}
 
 pub kind-family : (kind : Kind) → IsFamily (length (kind_places kind)) (kind_value kind)
 kind-family (Weight term) = weight-family term.weights

@@ -1,7 +1,7 @@
 // One type for all kinds of term. Each call of a term passes on to the kind's own, and each member and law of a term goes
-// by cases over the kinds (specs/Kinds.antt), so a kind that is added brings one case to each. The plain kinds keep nothing
-// beside a base: what is asked by a note is asked of them as without one. Graphic ranks alone have another way to ask for a
-// row with a place to which the place of the row leads.
+// by cases over the kinds (specs/Kinds.antt), so a kind that is added brings one case to each law, and one to the macro by
+// which the calls pass on. The plain kinds keep nothing beside a base: what is asked by a note is asked of them as without
+// one. Graphic ranks alone have another way to ask for a row with a place to which the place of the row leads.
 ghost use Rattle.std.specs.Prelude.{◌≡◌, ◌≢◌, ◌↔◌, ℕ, ◌<◌, ◌≤◌, ◌^◌, Bool, List, length, ℤ, pos, neg_ℤ, ◌*ℤ◌, ◌≤ℤ◌, IfOk, OnOk, IsTrue, Option, Some};
 ghost use Rattle.std.specs.List.{All};
 ghost use Rattle.sfm_spec.specs.Bounds.{IsEntry, IsFactor};
@@ -86,6 +86,47 @@ impl Kind {
     {}
 }
 
+// What a kind's term answers, whichever kind it is.
+macro_rules! by_kind {
+    ($kind:expr, $term:ident => $answer:expr) => {
+        match $kind {
+            Kind::Weight($term) => $answer,
+            Kind::Cut($term) => $answer,
+            Kind::Cover($term) => $answer,
+            Kind::Need($term) => $answer,
+            Kind::Table($term) => $answer,
+            Kind::Concave($term) => $answer,
+            Kind::Uniform($term) => $answer,
+            Kind::Laminar($term) => $answer,
+            Kind::Graphic($term) => $answer,
+            Kind::Transversal($term) => $answer,
+        }
+    };
+}
+
+// What is answered by a note of this kind: a note that fits a base is of the term's kind.
+macro_rules! by_note_of {
+    ($note:ident, $variant:ident => $answer:expr) => {
+        match $note {
+            KindNote::$variant($note) => $answer,
+            _ => unreachable!(),
+        }
+    };
+}
+
+// What a kind's term answers by a note of its kind, and what is answered where the kind keeps nothing.
+macro_rules! by_note {
+    ($kind:expr, $note:ident, $term:ident => $answer:expr, _ => $plain:expr) => {
+        match $kind {
+            Kind::Laminar($term) => by_note_of!($note, Laminar => $answer),
+            Kind::Graphic($term) => by_note_of!($note, Graphic => $answer),
+            Kind::Transversal($term) => by_note_of!($note, Transversal => $answer),
+            Kind::Concave($term) => by_note_of!($note, Concave => $answer),
+            _ => $plain,
+        }
+    };
+}
+
 impl Term for Kind {
     type Note = KindNote;
 
@@ -114,18 +155,7 @@ impl Term for Kind {
     ghost starts_small = { kind-starts_small };
 
     fn elements(&self) -> &[usize] {
-        match self {
-            Kind::Weight(term) => term.elements(),
-            Kind::Cut(term) => term.elements(),
-            Kind::Cover(term) => term.elements(),
-            Kind::Need(term) => term.elements(),
-            Kind::Table(term) => term.elements(),
-            Kind::Concave(term) => term.elements(),
-            Kind::Uniform(term) => term.elements(),
-            Kind::Laminar(term) => term.elements(),
-            Kind::Graphic(term) => term.elements(),
-            Kind::Transversal(term) => term.elements(),
-        }
+        by_kind!(self, term => term.elements())
     }
 
     fn order(&self) -> Option<&[usize]> {
@@ -144,78 +174,23 @@ impl Term for Kind {
     }
 
     fn size(&self) -> i128 {
-        match self {
-            Kind::Weight(term) => term.size(),
-            Kind::Cut(term) => term.size(),
-            Kind::Cover(term) => term.size(),
-            Kind::Need(term) => term.size(),
-            Kind::Table(term) => term.size(),
-            Kind::Concave(term) => term.size(),
-            Kind::Uniform(term) => term.size(),
-            Kind::Laminar(term) => term.size(),
-            Kind::Graphic(term) => term.size(),
-            Kind::Transversal(term) => term.size(),
-        }
+        by_kind!(self, term => term.size())
     }
 
     fn value(&self, alloc: Global, s: &Set) -> Result<Option<i128>, Memory> {
-        match self {
-            Kind::Weight(term) => term.value(alloc, s),
-            Kind::Cut(term) => term.value(alloc, s),
-            Kind::Cover(term) => term.value(alloc, s),
-            Kind::Need(term) => term.value(alloc, s),
-            Kind::Table(term) => term.value(alloc, s),
-            Kind::Concave(term) => term.value(alloc, s),
-            Kind::Uniform(term) => term.value(alloc, s),
-            Kind::Laminar(term) => term.value(alloc, s),
-            Kind::Graphic(term) => term.value(alloc, s),
-            Kind::Transversal(term) => term.value(alloc, s),
-        }
+        by_kind!(self, term => term.value(alloc, s))
     }
 
     fn start(&self, alloc: Global, q: i128, x: &mut [i128]) -> Result<(), Memory> {
-        match self {
-            Kind::Weight(term) => term.start(alloc, q, x),
-            Kind::Cut(term) => term.start(alloc, q, x),
-            Kind::Cover(term) => term.start(alloc, q, x),
-            Kind::Need(term) => term.start(alloc, q, x),
-            Kind::Table(term) => term.start(alloc, q, x),
-            Kind::Concave(term) => term.start(alloc, q, x),
-            Kind::Uniform(term) => term.start(alloc, q, x),
-            Kind::Laminar(term) => term.start(alloc, q, x),
-            Kind::Graphic(term) => term.start(alloc, q, x),
-            Kind::Transversal(term) => term.start(alloc, q, x),
-        }
+        by_kind!(self, term => term.start(alloc, q, x))
     }
 
     fn is_base(&self, alloc: Global, q: i128, x: &[i128]) -> Result<bool, Memory> {
-        match self {
-            Kind::Weight(term) => term.is_base(alloc, q, x),
-            Kind::Cut(term) => term.is_base(alloc, q, x),
-            Kind::Cover(term) => term.is_base(alloc, q, x),
-            Kind::Need(term) => term.is_base(alloc, q, x),
-            Kind::Table(term) => term.is_base(alloc, q, x),
-            Kind::Concave(term) => term.is_base(alloc, q, x),
-            Kind::Uniform(term) => term.is_base(alloc, q, x),
-            Kind::Laminar(term) => term.is_base(alloc, q, x),
-            Kind::Graphic(term) => term.is_base(alloc, q, x),
-            Kind::Transversal(term) => term.is_base(alloc, q, x),
-        }
+        by_kind!(self, term => term.is_base(alloc, q, x))
     }
 
     fn room(&self, alloc: Global, q: i128, x: &[i128], u: usize, v: usize) -> Result<Room, Memory> {
-        match self {
-            Kind::Weight(term) => term.room(alloc, q, x, u, v),
-            Kind::Cut(term) => term.room(alloc, q, x, u, v),
-            Kind::Cover(term) => term.room(alloc, q, x, u, v),
-            Kind::Need(term) => term.room(alloc, q, x, u, v),
-            Kind::Table(term) => term.room(alloc, q, x, u, v),
-            Kind::Concave(term) => term.room(alloc, q, x, u, v),
-            Kind::Uniform(term) => term.room(alloc, q, x, u, v),
-            Kind::Laminar(term) => term.room(alloc, q, x, u, v),
-            Kind::Graphic(term) => term.room(alloc, q, x, u, v),
-            Kind::Transversal(term) => term.room(alloc, q, x, u, v),
-        }
+        by_kind!(self, term => term.room(alloc, q, x, u, v))
     }
 
     fn reach(
@@ -226,18 +201,7 @@ impl Term for Kind {
         u: usize,
         to: &mut Set,
     ) -> Result<(), Memory> {
-        match self {
-            Kind::Weight(term) => term.reach(alloc, q, x, u, to),
-            Kind::Cut(term) => term.reach(alloc, q, x, u, to),
-            Kind::Cover(term) => term.reach(alloc, q, x, u, to),
-            Kind::Need(term) => term.reach(alloc, q, x, u, to),
-            Kind::Table(term) => term.reach(alloc, q, x, u, to),
-            Kind::Concave(term) => term.reach(alloc, q, x, u, to),
-            Kind::Uniform(term) => term.reach(alloc, q, x, u, to),
-            Kind::Laminar(term) => term.reach(alloc, q, x, u, to),
-            Kind::Graphic(term) => term.reach(alloc, q, x, u, to),
-            Kind::Transversal(term) => term.reach(alloc, q, x, u, to),
-        }
+        by_kind!(self, term => term.reach(alloc, q, x, u, to))
     }
 
     fn note(&self, alloc: Global, q: i128, x: &[i128]) -> Result<KindNote, Memory> {
@@ -259,25 +223,7 @@ impl Term for Kind {
         u: usize,
         to: &mut Set,
     ) -> Result<(), Memory> {
-        match self {
-            Kind::Laminar(term) => match note {
-                KindNote::Laminar(note) => term.reach_by(alloc, q, x, note, u, to),
-                _ => unreachable!(),
-            },
-            Kind::Graphic(term) => match note {
-                KindNote::Graphic(note) => term.reach_by(alloc, q, x, note, u, to),
-                _ => unreachable!(),
-            },
-            Kind::Transversal(term) => match note {
-                KindNote::Transversal(note) => term.reach_by(alloc, q, x, note, u, to),
-                _ => unreachable!(),
-            },
-            Kind::Concave(term) => match note {
-                KindNote::Concave(note) => term.reach_by(alloc, q, x, note, u, to),
-                _ => unreachable!(),
-            },
-            _ => self.reach(alloc, q, x, u, to),
-        }
+        by_note!(self, note, term => term.reach_by(alloc, q, x, note, u, to), _ => self.reach(alloc, q, x, u, to))
     }
 
     fn room_by(
@@ -289,25 +235,7 @@ impl Term for Kind {
         u: usize,
         v: usize,
     ) -> Result<Room, Memory> {
-        match self {
-            Kind::Laminar(term) => match note {
-                KindNote::Laminar(note) => term.room_by(alloc, q, x, note, u, v),
-                _ => unreachable!(),
-            },
-            Kind::Graphic(term) => match note {
-                KindNote::Graphic(note) => term.room_by(alloc, q, x, note, u, v),
-                _ => unreachable!(),
-            },
-            Kind::Transversal(term) => match note {
-                KindNote::Transversal(note) => term.room_by(alloc, q, x, note, u, v),
-                _ => unreachable!(),
-            },
-            Kind::Concave(term) => match note {
-                KindNote::Concave(note) => term.room_by(alloc, q, x, note, u, v),
-                _ => unreachable!(),
-            },
-            _ => self.room(alloc, q, x, u, v),
-        }
+        by_note!(self, note, term => term.room_by(alloc, q, x, note, u, v), _ => self.room(alloc, q, x, u, v))
     }
 
     fn reach_with(
@@ -321,10 +249,9 @@ impl Term for Kind {
         to: &mut Set,
     ) -> Result<(), Memory> {
         match self {
-            Kind::Graphic(term) => match note {
-                KindNote::Graphic(note) => term.reach_with(alloc, q, x, note, s, u, to),
-                _ => unreachable!(),
-            },
+            Kind::Graphic(term) => {
+                by_note_of!(note, Graphic => term.reach_with(alloc, q, x, note, s, u, to))
+            }
             _ => self.reach_by(alloc, q, x, note, u, to),
         }
     }
@@ -339,24 +266,6 @@ impl Term for Kind {
         v: usize,
         a: i128,
     ) -> Result<(), Memory> {
-        match self {
-            Kind::Laminar(term) => match note {
-                KindNote::Laminar(note) => term.moved(alloc, q, x, note, u, v, a),
-                _ => unreachable!(),
-            },
-            Kind::Graphic(term) => match note {
-                KindNote::Graphic(note) => term.moved(alloc, q, x, note, u, v, a),
-                _ => unreachable!(),
-            },
-            Kind::Transversal(term) => match note {
-                KindNote::Transversal(note) => term.moved(alloc, q, x, note, u, v, a),
-                _ => unreachable!(),
-            },
-            Kind::Concave(term) => match note {
-                KindNote::Concave(note) => term.moved(alloc, q, x, note, u, v, a),
-                _ => unreachable!(),
-            },
-            _ => Ok(()),
-        }
+        by_note!(self, note, term => term.moved(alloc, q, x, note, u, v, a), _ => Ok(()))
     }
 }
