@@ -7,7 +7,7 @@ use Rattle.std.specs.Fmt.{decimal, signed_decimal}
 use Rattle.sfm_demo.specs.declared.kind.Kind.{Kind}
 use Rattle.sfm_demo.specs.Draws.{Drawing, done, next, top, ◌>>◌}
 use Rattle.sfm_demo.specs.DemoText.{demo_text_of, each, element, falling, level, line_of, lines, pair, series, set_values}
-use Rattle.sfm_demo.specs.Names.{names, numbers, first_lines, last_lines, term_lines}
+use Rattle.sfm_demo.specs.Names.{IsPut, names, numbers, first_lines, last_lines, term_lines}
 
 pub next-wrapping : (s : ℕ) → (s * 6364136223846793005 % 2 ^ 64 + 1442695040888963407) % 2 ^ 64 ≡ next s
 unfolding next
@@ -17,29 +17,22 @@ pub top-lem : (k s : ℕ) → s / 2 ^ 32 % k ≡ top k s
 unfolding top
 top-lem k s = refl
 
--- a text behind which another stands
-pub behind : (m n : Drawing (List ℕ)) (s s' : ℕ) (out out' more : List ℕ) → out' ≡ out ++ (m s).value → s' ≡ (m s).state → more ≡ out' ++ (n s').value
-    → more ≡ out ++ ((m >> n) s).value
-behind m n s s' out out' more text after put =
-    put ∙ ap (λ o. o ++ (n s').value) text ∙ append_assoc out (m s).value (n s').value ∙ ap (λ t. out ++ ((m s).value ++ (n t).value)) after
+-- a text, and another behind it
+behind : (m n : Drawing (List ℕ)) (s s' s'' : ℕ) (out out' more : List ℕ) → IsPut m out out' s s' → IsPut n out' more s' s'' → IsPut (m >> n) out more s s''
+behind m n s s' s'' out out' more first then = record {
+  text = then.text ∙ ap (λ o. o ++ (n s').value) first.text ∙ append_assoc out (m s).value (n s').value ∙ ap (λ t. out ++ ((m s).value ++ (n t).value)) first.after;
+  after = then.after ∙ ap (λ t. (n t).state) first.after;
+}
 
 -- a text of none, and of one more
-series_none : (text : ℕ → Drawing (List ℕ)) (s : ℕ) (out : List ℕ) → out ≡ out ++ (series 0 text s).value
+series_none : (text : ℕ → Drawing (List ℕ)) (s : ℕ) (out : List ℕ) → IsPut (series 0 text) out out s s
 unfolding series
-series_none text s out = sym (append-nil out)
+series_none text s out = record { text = sym (append-nil out); after = refl }
 
-series_after_none : (text : ℕ → Drawing (List ℕ)) (s : ℕ) → s ≡ (series 0 text s).state
+series_more : (text : ℕ → Drawing (List ℕ)) (n s s' s'' : ℕ) (out out' more : List ℕ) → IsPut (series n text) out out' s s' → IsPut (text n) out' more s' s''
+    → IsPut (series (n + 1) text) out more s s''
 unfolding series
-series_after_none text s = refl
-
-series_more : (text : ℕ → Drawing (List ℕ)) (n s s' : ℕ) (out out' more : List ℕ) → out' ≡ out ++ (series n text s).value → s' ≡ (series n text s).state
-    → more ≡ out' ++ (text n s').value → more ≡ out ++ (series (n + 1) text s).value
-unfolding series
-series_more text n s s' out out' more before after put = rw add-one (behind (series n text) (text n) s s' out out' more before after put)
-
-series_after_more : (text : ℕ → Drawing (List ℕ)) (n s s' s'' : ℕ) → s' ≡ (series n text s).state → s'' ≡ (text n s').state → s'' ≡ (series (n + 1) text s).state
-unfolding series
-series_after_more text n s s' s'' after put = rw add-one (put ∙ ap (λ t. (text n t).state) after)
+series_more text n s s' s'' out out' more before put = rw add-one (behind (series n text) (text n) s s' s'' out out' more before put)
 
 -- where nothing is drawn, the state stays, and the text is the same from any state
 series_still : (v : ℕ → List ℕ) (n s : ℕ) → (series n (λ i. done (v i)) s).state ≡ s
@@ -53,24 +46,14 @@ series_same v zero s t = refl
 series_same v (suc n) s t = ap (λ w. w ++ v n) (series_same v n s t)
 
 -- the texts of no element, and of one more
-pub each_none : (text : ℕ → Drawing (List ℕ)) (p step s : ℕ) (out : List ℕ) → out ≡ out ++ (each text p step 0 s).value
+pub each_none : (text : ℕ → Drawing (List ℕ)) (p step s : ℕ) (out : List ℕ) → IsPut (each text p step 0) out out s s
 unfolding each
 each_none text p step s out = series_none (λ j. text ((p + step * j) % 200)) s out
 
-pub each_after_none : (text : ℕ → Drawing (List ℕ)) (p step s : ℕ) → s ≡ (each text p step 0 s).state
+pub each_more : (text : ℕ → Drawing (List ℕ)) (p step j e s s' s'' : ℕ) (out out' more : List ℕ) → (p + step * j) % 200 ≡ e → IsPut (each text p step j) out out' s s'
+    → IsPut (text e) out' more s' s'' → IsPut (each text p step (j + 1)) out more s s''
 unfolding each
-each_after_none text p step s = series_after_none (λ j. text ((p + step * j) % 200)) s
-
-pub each_more : (text : ℕ → Drawing (List ℕ)) (p step j e s s' : ℕ) (out out' more : List ℕ) → (p + step * j) % 200 ≡ e → out' ≡ out ++ (each text p step j s).value
-    → s' ≡ (each text p step j s).state → more ≡ out' ++ (text e s').value → more ≡ out ++ (each text p step (j + 1) s).value
-unfolding each
-each_more text p step j e s s' out out' more here before after put =
-    series_more (λ i. text ((p + step * i) % 200)) j s s' out out' more before after (put ∙ ap (λ k. out' ++ (text k s').value) (sym here))
-
-pub each_after_more : (text : ℕ → Drawing (List ℕ)) (p step j e s s' s'' : ℕ) → (p + step * j) % 200 ≡ e → s' ≡ (each text p step j s).state → s'' ≡ (text e s').state
-    → s'' ≡ (each text p step (j + 1) s).state
-unfolding each
-each_after_more text p step j e s s' s'' here after put = series_after_more (λ i. text ((p + step * i) % 200)) j s s' s'' after (put ∙ ap (λ k. (text k s').state) (sym here))
+each_more text p step j e s s' s'' out out' more here before put = series_more (λ i. text ((p + step * i) % 200)) j s s' s'' out out' more before (rw here put)
 
 -- nothing is drawn for names
 pub still : (p step count s : ℕ) → (each element p step count s).state ≡ s
@@ -83,12 +66,14 @@ named p step count s = series_same (λ j. codes " e" ++ decimal ((p + step * j) 
 
 pub names_none : (p step : ℕ) (out : List ℕ) → out ≡ out ++ names p step 0
 unfolding names
-names_none p step out = each_none element p step 0 out
+names_none p step out = (each_none element p step 0 out).text
 
 pub names_more : (p step j e : ℕ) (out out' more : List ℕ) → (p + step * j) % 200 ≡ e → out' ≡ out ++ names p step j → more ≡ out' ++ (32 ∷ 101 ∷ decimal e)
     → more ≡ out ++ names p step (j + 1)
 unfolding names element
-names_more p step j e out out' more here before put = each_more element p step j e 0 (each element p step j 0).state out out' more here before refl put
+names_more p step j e out out' more here before put =
+    let s : ℕ = (each element p step j 0).state in
+    (each_more element p step j e 0 s s out out' more here (record { text = before; after = refl }) (record { text = put; after = refl })).text
 
 -- pieces side by side, and names for which nothing is drawn
 pub ruleset joining = (append_assoc, named, still)
@@ -143,23 +128,16 @@ unfolding level
 level-state s = refl
 
 -- a line more of a kind
-pub lines_none : (kind : Kind) (s : ℕ) (out : List ℕ) → out ≡ out ++ (lines 0 kind s).value
-unfolding lines series
-lines_none kind s out = sym (append-nil out)
-
-pub lines_after_none : (kind : Kind) (s : ℕ) → s ≡ (lines 0 kind s).state
-unfolding lines series
-lines_after_none kind s = refl
-
-pub lines_more : (kind : Kind) (n s s' : ℕ) (out out' put more : List ℕ) → out' ≡ out ++ (lines n kind s).value → s' ≡ (lines n kind s).state
-    → put ≡ out' ++ (line_of kind s').value → more ≡ put ++ codes "\n" → more ≡ out ++ (lines (n + 1) kind s).value
+pub lines_none : (kind : Kind) (s : ℕ) (out : List ℕ) → IsPut (lines 0 kind) out out s s
 unfolding lines
-lines_more kind n s s' out out' put more before after line feed =
-    series_more (λ i. line_of kind >> done (codes "\n")) n s s' out out' more before after (feed ∙ ap (λ o. o ++ codes "\n") line ∙ append_assoc out' (line_of kind s').value (codes "\n"))
+lines_none kind s out = series_none (λ i. line_of kind >> done (codes "\n")) s out
 
-pub lines_after_more : (kind : Kind) (n s s' s'' : ℕ) → s' ≡ (lines n kind s).state → s'' ≡ (line_of kind s').state → s'' ≡ (lines (n + 1) kind s).state
+pub lines_more : (kind : Kind) (n s s' s'' : ℕ) (out out' put more : List ℕ) → IsPut (lines n kind) out out' s s' → IsPut (line_of kind) out' put s' s'' → more ≡ put ++ codes "\n"
+    → IsPut (lines (n + 1) kind) out more s s''
 unfolding lines
-lines_after_more kind n s s' s'' after put = series_after_more (λ i. line_of kind >> done (codes "\n")) n s s' s'' after put
+lines_more kind n s s' s'' out out' put more before line feed =
+    series_more (λ i. line_of kind >> done (codes "\n")) n s s' s'' out out' more before
+    (behind (line_of kind) (done (codes "\n")) s' s'' s'' out' put more line (record { text = feed; after = refl }))
 
 -- eight pieces, one behind another
 pieces : (o o1 o2 o3 o4 o5 o6 o7 ground weights terms : List ℕ) → o ≡ [] → o1 ≡ o ++ codes "sfm 1\nground" → o2 ≡ o1 ++ ground → o3 ≡ o2 ++ codes "\nweight" → o4 ≡ o3 ++ weights

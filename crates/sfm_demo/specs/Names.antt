@@ -1,10 +1,23 @@
 -- The pieces of the text as the code writes them: names, for which nothing is drawn, numbers, and the lines of all terms.
-use Rattle.std.specs.Prelude.{ℕ, List, ◌∷◌, ℤ}
+use Rattle.std.specs.Prelude.{◌≡◌, ℕ, List, ◌∷◌, ◌++◌, ℤ}
 use Rattle.std.specs.Fmt.{signed_decimal}
 use Rattle.std.specs.List.{flat_map}
+use Rattle.sfm_demo.specs.declared.kind.Item.{Item}
+use Rattle.sfm_demo.specs.declared.kind.Item.TheVariants.{Pair, Edge, Entry}
 use Rattle.sfm_demo.specs.declared.kind.Kind.TheVariants.{Cut, Need, Cover, Concave, Uniform, Laminar, Graphic, Transversal, Table}
 use Rattle.sfm_demo.specs.Draws.{Drawing, ◌>>◌}
-use Rattle.sfm_demo.specs.DemoText.{each, element, lines}
+use Rattle.sfm_demo.specs.DemoText.{each, edge, element, entry, lines, pair}
+
+-- the text that is drawn from a state on stands behind what was there, and its draws are made
+pub record IsPut (piece : Drawing (List ℕ)) (out more : List ℕ) (from to : ℕ) : Type 0 where
+  pub text : more ≡ out ++ (piece from).value
+  pub after : to ≡ (piece from).state
+
+-- the text of an element with what is drawn for it
+abbrev pub item_of : Item → ℕ → Drawing (List ℕ)
+item_of Pair = pair
+item_of Edge = edge
+item_of Entry = entry
 
 -- the names of so many elements from p on, each a step behind the one before, round the 200
 unfoldable pub names : ℕ → ℕ → ℕ → List ℕ

@@ -1,4 +1,4 @@
-// The kinds of terms that a demonstration has many of.
+// The kinds of terms that a demonstration has many of, and what it draws for an element.
 
 /// A kind of term of which a demonstration has many lines.
 #[derive(Clone, Copy, Debug, PartialEq, Eq)]
@@ -12,4 +12,15 @@ pub enum Kind {
     Graphic,
     Transversal,
     Table,
+}
+
+/// What is drawn for an element.
+#[derive(Clone, Copy, Debug, PartialEq, Eq)]
+pub enum Item {
+    /// A weight.
+    Pair,
+    /// Two vertices.
+    Edge,
+    /// Two slots.
+    Entry,
 }

@@ -5,10 +5,12 @@
 ghost use Rattle.std.specs.Prelude.{◌≡◌, ◌+◌, ◌%◌, ◌<◌, ◌++◌, OnOk, pos, neg_ℤ, ◌≤ℤ◌};
 ghost use Rattle.std.specs.String.{string_bytes};
 ghost use Rattle.sfm_demo.specs.DemoText.{line_of, level, set_values};
+ghost use Rattle.sfm_demo.specs.Names.{IsPut};
 ghost use Rattle.sfm_demo.specs.declared.kind.Kind.TheVariants.{Cut, Need, Cover, Concave, Uniform, Laminar, Graphic, Transversal, Table};
 
 use crate::draws::Draws;
-use crate::words::{ELEMENTS, write_edges, write_entries, write_numbers, write_run, write_sums};
+use crate::kind::Item;
+use crate::words::{ELEMENTS, write_items, write_numbers, write_run, write_sums};
 use std::alloc::AllocError;
 
 /// The element that stands d + 1 behind a.
@@ -22,8 +24,7 @@ fn behind(a: u64, d: u64) -> u64
 
 /// A cut of two elements.
 pub fn write_cut(out: &mut String, draws: &mut Draws) -> Result<(), AllocError>
-    ensures text { OnOk result (string_bytes out.new ≡ string_bytes out.old ++ (line_of Cut draws.old).value) }
-    ensures after { OnOk result (draws.new ≡ (line_of Cut draws.old).state) }
+    ensures { OnOk result (IsPut (line_of Cut) (string_bytes out.old) (string_bytes out.new) draws.old draws.new) }
 {
     let c = draws.draw(400);
     let a = draws.draw(200);
@@ -33,8 +34,7 @@ pub fn write_cut(out: &mut String, draws: &mut Draws) -> Result<(), AllocError>
 
 /// A condition on two elements.
 pub fn write_need(out: &mut String, draws: &mut Draws) -> Result<(), AllocError>
-    ensures text { OnOk result (string_bytes out.new ≡ string_bytes out.old ++ (line_of Need draws.old).value) }
-    ensures after { OnOk result (draws.new ≡ (line_of Need draws.old).state) }
+    ensures { OnOk result (IsPut (line_of Need) (string_bytes out.old) (string_bytes out.new) draws.old draws.new) }
 {
     let a = draws.draw(200);
     let b = behind(a, draws.draw(199));
@@ -43,8 +43,7 @@ pub fn write_need(out: &mut String, draws: &mut Draws) -> Result<(), AllocError>
 
 /// A cover of six elements.
 pub fn write_cover(out: &mut String, draws: &mut Draws) -> Result<(), AllocError>
-    ensures text { OnOk result (string_bytes out.new ≡ string_bytes out.old ++ (line_of Cover draws.old).value) }
-    ensures after { OnOk result (draws.new ≡ (line_of Cover draws.old).state) }
+    ensures { OnOk result (IsPut (line_of Cover) (string_bytes out.old) (string_bytes out.new) draws.old draws.new) }
 {
     let w = draws.draw(1500);
     let p = draws.draw(200);
@@ -54,8 +53,7 @@ pub fn write_cover(out: &mut String, draws: &mut Draws) -> Result<(), AllocError
 
 /// A concave function of the number of elements among eight.
 pub fn write_concave(out: &mut String, draws: &mut Draws) -> Result<(), AllocError>
-    ensures text { OnOk result (string_bytes out.new ≡ string_bytes out.old ++ (line_of Concave draws.old).value) }
-    ensures after { OnOk result (draws.new ≡ (line_of Concave draws.old).state) }
+    ensures { OnOk result (IsPut (line_of Concave) (string_bytes out.old) (string_bytes out.new) draws.old draws.new) }
 {
     let p = draws.draw(200);
     let first = draws.draw(600);
@@ -67,8 +65,7 @@ pub fn write_concave(out: &mut String, draws: &mut Draws) -> Result<(), AllocErr
 
 /// The rank of a uniform matroid of ten elements.
 pub fn write_uniform(out: &mut String, draws: &mut Draws) -> Result<(), AllocError>
-    ensures text { OnOk result (string_bytes out.new ≡ string_bytes out.old ++ (line_of Uniform draws.old).value) }
-    ensures after { OnOk result (draws.new ≡ (line_of Uniform draws.old).state) }
+    ensures { OnOk result (IsPut (line_of Uniform) (string_bytes out.old) (string_bytes out.new) draws.old draws.new) }
 {
     let w = draws.draw(500);
     let c = 1 + draws.draw(9);
@@ -79,8 +76,7 @@ pub fn write_uniform(out: &mut String, draws: &mut Draws) -> Result<(), AllocErr
 
 /// The rank of a laminar matroid of ten elements, with two groups.
 pub fn write_laminar(out: &mut String, draws: &mut Draws) -> Result<(), AllocError>
-    ensures text { OnOk result (string_bytes out.new ≡ string_bytes out.old ++ (line_of Laminar draws.old).value) }
-    ensures after { OnOk result (draws.new ≡ (line_of Laminar draws.old).state) }
+    ensures { OnOk result (IsPut (line_of Laminar) (string_bytes out.old) (string_bytes out.new) draws.old draws.new) }
 {
     let w = draws.draw(500);
     let c = 1 + draws.draw(2);
@@ -95,24 +91,23 @@ pub fn write_laminar(out: &mut String, draws: &mut Draws) -> Result<(), AllocErr
 
 /// The rank of a graphic matroid of ten edges.
 pub fn write_graphic(out: &mut String, draws: &mut Draws) -> Result<(), AllocError>
-    ensures text { OnOk result (string_bytes out.new ≡ string_bytes out.old ++ (line_of Graphic draws.old).value) }
-    ensures after { OnOk result (draws.new ≡ (line_of Graphic draws.old).state) }
+    ensures { OnOk result (IsPut (line_of Graphic) (string_bytes out.old) (string_bytes out.new) draws.old draws.new) }
 {
     let w = draws.draw(500);
     let p = draws.draw(200);
     write!(out, "rank {w} graphic :")?;
-    write_edges(out, draws, p)
+    write_items(out, draws, Item::Edge, p, 13, 10)
 }
 
 /// The rank of a transversal matroid of eight elements.
 pub fn write_transversal(out: &mut String, draws: &mut Draws) -> Result<(), AllocError>
-    ensures text { OnOk result (string_bytes out.new ≡ string_bytes out.old ++ (line_of Transversal draws.old).value) }
-    ensures after { OnOk result (draws.new ≡ (line_of Transversal draws.old).state) }
+    ensures { OnOk result (IsPut (line_of Transversal) (string_bytes out.old) (string_bytes out.new) draws.old draws.new) }
 {
     let w = draws.draw(500);
     let p = draws.draw(200);
     write!(out, "rank {w} transversal :")?;
-    write_entries(out, draws, p)
+    write_items(out, draws, Item::Entry, p, 9, 8)?;
+    Ok(())
 }
 
 /// A number from -200 to 200.
@@ -151,8 +146,7 @@ fn table_values(x: i64, y: i64, z: i64, t: u64) -> [i64; 8]
 
 /// A table of the sets of three elements.
 pub fn write_table(out: &mut String, draws: &mut Draws) -> Result<(), AllocError>
-    ensures text { OnOk result (string_bytes out.new ≡ string_bytes out.old ++ (line_of Table draws.old).value) }
-    ensures after { OnOk result (draws.new ≡ (line_of Table draws.old).state) }
+    ensures { OnOk result (IsPut (line_of Table) (string_bytes out.old) (string_bytes out.new) draws.old draws.new) }
 {
     let p = draws.draw(200);
     let x = draw_level(draws);

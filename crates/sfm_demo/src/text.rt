@@ -2,22 +2,21 @@
 ghost use Rattle.std.specs.Prelude.{◌≡◌, ◌≤◌, ◌++◌, IfOk, OnOk};
 ghost use Rattle.std.specs.String.{string_bytes};
 ghost use Rattle.sfm_demo.specs.DemoText.{demo_text_of, line_of, lines};
-ghost use Rattle.sfm_demo.specs.Names.{term_lines};
+ghost use Rattle.sfm_demo.specs.Names.{IsPut, term_lines};
 
 use crate::draws::Draws;
-use crate::kind::Kind;
+use crate::kind::{Item, Kind};
 use crate::lines::{
     write_concave, write_cover, write_cut, write_graphic, write_laminar, write_need, write_table,
     write_transversal, write_uniform,
 };
-use crate::words::{ELEMENTS, write_pairs, write_run};
+use crate::words::{ELEMENTS, write_items, write_run};
 use sfm_base::Memory;
 use std::alloc::{AllocError, Global};
 
 /// One line of a kind, without its line feed.
 fn write_line(out: &mut String, draws: &mut Draws, kind: Kind) -> Result<(), AllocError>
-    ensures text { OnOk result (string_bytes out.new ≡ string_bytes out.old ++ (line_of kind draws.old).value) }
-    ensures after { OnOk result (draws.new ≡ (line_of kind draws.old).state) }
+    ensures { OnOk result (IsPut (line_of kind) (string_bytes out.old) (string_bytes out.new) draws.old draws.new) }
 {
     match kind {
         Kind::Cut => write_cut(out, draws),
@@ -39,8 +38,7 @@ fn write_lines(
     kind: Kind,
     count: usize,
 ) -> Result<(), AllocError>
-    ensures text { OnOk result (string_bytes out.new ≡ string_bytes out.old ++ (lines count kind draws.old).value) }
-    ensures after { OnOk result (draws.new ≡ (lines count kind draws.old).state) }
+    ensures { OnOk result (IsPut (lines count kind) (string_bytes out.old) (string_bytes out.new) draws.old draws.new) }
 {
     for _i in 0..count {
         write_line(out, draws, kind)?;
@@ -80,7 +78,7 @@ pub fn demo_text(alloc: Global, seed: u64) -> Result<Vec<u8>, Memory>
     write!(out, "sfm 1\nground")?;
     write_run(&mut out, 0, 1, ELEMENTS)?;
     write!(out, "\nweight")?;
-    write_pairs(&mut out, &mut draws)?;
+    write_items(&mut out, &mut draws, Item::Pair, 0, 1, ELEMENTS)?;
     writeln!(out)?;
     write_terms(&mut out, &mut draws)?;
     writeln!(out, "end")?;

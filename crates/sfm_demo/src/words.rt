@@ -2,9 +2,10 @@
 ghost use Rattle.std.specs.Prelude.{◌≡◌, ◌<◌, ◌≤◌, ◌++◌, OnOk, pos, ◌≤ℤ◌};
 ghost use Rattle.std.specs.String.{string_bytes};
 ghost use Rattle.sfm_demo.specs.DemoText.{each, edge, entry, falling, pair};
-ghost use Rattle.sfm_demo.specs.Names.{names, numbers};
+ghost use Rattle.sfm_demo.specs.Names.{IsPut, item_of, names, numbers};
 
 use crate::draws::Draws;
+use crate::kind::Item;
 use std::alloc::AllocError;
 
 /// How many elements there are.
@@ -29,66 +30,59 @@ pub fn write_run(out: &mut String, p: u64, step: u64, count: u64) -> Result<(), 
 /// An element with a weight.
 #[tactic(auto, unfolding(crate::specs::DemoText::pair, crate::specs::DemoText::element))]
 fn write_pair(out: &mut String, draws: &mut Draws, e: u64) -> Result<(), AllocError>
-    ensures text { OnOk result (string_bytes out.new ≡ string_bytes out.old ++ (pair e draws.old).value) }
-    ensures after { OnOk result (draws.new ≡ (pair e draws.old).state) }
+    ensures { OnOk result (IsPut (pair e) (string_bytes out.old) (string_bytes out.new) draws.old draws.new) }
 {
     let w = draws.draw(2001) as i64 - 1000;
     write!(out, " e{e}:{w}")
 }
 
-/// Each element with a weight.
-pub fn write_pairs(out: &mut String, draws: &mut Draws) -> Result<(), AllocError>
-    ensures text { OnOk result (string_bytes out.new ≡ string_bytes out.old ++ (each pair 0 1 200 draws.old).value) }
-    ensures after { OnOk result (draws.new ≡ (each pair 0 1 200 draws.old).state) }
-{
-    for e in 0..ELEMENTS {
-        write_pair(out, draws, e)?;
-    }
-    Ok(())
-}
-
 /// An element as an edge of two vertices.
 #[tactic(auto, unfolding(crate::specs::DemoText::edge, crate::specs::DemoText::element))]
 fn write_edge(out: &mut String, draws: &mut Draws, e: u64) -> Result<(), AllocError>
-    ensures text { OnOk result (string_bytes out.new ≡ string_bytes out.old ++ (edge e draws.old).value) }
-    ensures after { OnOk result (draws.new ≡ (edge e draws.old).state) }
+    ensures { OnOk result (IsPut (edge e) (string_bytes out.old) (string_bytes out.new) draws.old draws.new) }
 {
     let u = draws.draw(6);
     let x = draws.draw(6);
     write!(out, " e{e}=v{u}-v{x}")
 }
 
-/// Ten edges.
-pub fn write_edges(out: &mut String, draws: &mut Draws, p: u64) -> Result<(), AllocError>
-    requires { p < 200 }
-    ensures text { OnOk result (string_bytes out.new ≡ string_bytes out.old ++ (each edge p 13 10 draws.old).value) }
-    ensures after { OnOk result (draws.new ≡ (each edge p 13 10 draws.old).state) }
-{
-    for j in 0..10 {
-        write_edge(out, draws, (p + 13 * j) % ELEMENTS)?;
-    }
-    Ok(())
-}
-
 /// An element with two slots.
 #[tactic(auto, unfolding(crate::specs::DemoText::entry, crate::specs::DemoText::element))]
 fn write_entry(out: &mut String, draws: &mut Draws, e: u64) -> Result<(), AllocError>
-    ensures text { OnOk result (string_bytes out.new ≡ string_bytes out.old ++ (entry e draws.old).value) }
-    ensures after { OnOk result (draws.new ≡ (entry e draws.old).state) }
+    ensures { OnOk result (IsPut (entry e) (string_bytes out.old) (string_bytes out.new) draws.old draws.new) }
 {
     let a = draws.draw(SLOTS);
     let b = (a + 1 + draws.draw(4)) % SLOTS;
     write!(out, " e{e}=s{a},s{b}")
 }
 
-/// Eight elements with slots.
-pub fn write_entries(out: &mut String, draws: &mut Draws, p: u64) -> Result<(), AllocError>
-    requires { p < 200 }
-    ensures text { OnOk result (string_bytes out.new ≡ string_bytes out.old ++ (each entry p 9 8 draws.old).value) }
-    ensures after { OnOk result (draws.new ≡ (each entry p 9 8 draws.old).state) }
+/// An element with what is drawn for it.
+fn write_item(out: &mut String, draws: &mut Draws, item: Item, e: u64) -> Result<(), AllocError>
+    ensures { OnOk result (IsPut (item_of item e) (string_bytes out.old) (string_bytes out.new) draws.old draws.new) }
 {
-    for j in 0..8 {
-        write_entry(out, draws, (p + 9 * j) % ELEMENTS)?;
+    match item {
+        Item::Pair => write_pair(out, draws, e),
+        Item::Edge => write_edge(out, draws, e),
+        Item::Entry => write_entry(out, draws, e),
+    }
+}
+
+/// So many elements, each a step behind the one before, with what is drawn for each.
+pub fn write_items(
+    out: &mut String,
+    draws: &mut Draws,
+    item: Item,
+    p: u64,
+    step: u64,
+    count: u64,
+) -> Result<(), AllocError>
+    requires first { p < 200 }
+    requires step { step < 200 }
+    requires count { count ≤ 200 }
+    ensures { OnOk result (IsPut (each (item_of item) p step count) (string_bytes out.old) (string_bytes out.new) draws.old draws.new) }
+{
+    for j in 0..count {
+        write_item(out, draws, item, (p + step * j) % ELEMENTS)?;
     }
     Ok(())
 }
@@ -103,8 +97,7 @@ pub fn write_sums(
     requires low { pos 0 ≤ℤ first }
     requires high { first ≤ℤ pos 600 }
     requires count { count ≤ 10 }
-    ensures text { OnOk result (string_bytes out.new ≡ string_bytes out.old ++ (falling count first first draws.old).value) }
-    ensures after { OnOk result (draws.new ≡ (falling count first first draws.old).state) }
+    ensures { OnOk result (IsPut (falling count first first) (string_bytes out.old) (string_bytes out.new) draws.old draws.new) }
 {
     let mut sum = first;
     let mut increment = first;

@@ -1,4 +1,4 @@
-use Rattle.std.proofs.Common.{◌+◌, ◌-◌, ◌∙◌, FitsSigned, arith}
+use Rattle.std.proofs.Common.{◌≡◌, ◌+◌, ◌-◌, ◌∙◌, FitsSigned, arith}
 use Rattle.std.proofs.lemmas.Int.{ints, to_z-of_z}
 use mir.Syntax.{w64}
 use Rattle.sfm_demo.proofs.Pieces.{falling_more, falling_after_more, falling_all, falling_after_all}
@@ -14,12 +14,11 @@ loop-i-preserved c = record {
   sum_high = omega (arith, ints);
 }
 
-pub returns-clause-text : goal.returns-clause-text
-returns-clause-text c =
+pub returns : goal.returns
+returns c =
     let f : FitsSigned w64 c.args.first = omega (arith, ints) in
-    falling_all _ _ _ _ (c.args.count - c.loop-i._i) _ (omega arith) (simp to_z-of_z at c.loop-i.invariant.text)
-
-pub returns-clause-after : goal.returns-clause-after
-returns-clause-after c =
-    let f : FitsSigned w64 c.args.first = omega (arith, ints) in
-    falling_after_all _ _ (c.args.count - c.loop-i._i) _ _ (omega arith) (simp to_z-of_z at c.loop-i.invariant.state)
+    let none : c.args.count - c.loop-i._i ≡ 0 = omega arith in
+    record {
+      text = falling_all _ _ _ _ (c.args.count - c.loop-i._i) _ none (simp to_z-of_z at c.loop-i.invariant.text);
+      after = falling_after_all _ _ (c.args.count - c.loop-i._i) _ _ none (simp to_z-of_z at c.loop-i.invariant.state);
+    }
