@@ -18,9 +18,9 @@ use Rattle.sfm_cert.proofs.Machine.{leads-append}
 use Rattle.sfm_cert.specs.Reading.{State, ended, Leads, IsNextLine, Takes, IsStuck, EndsStuck, Reads, EndsAt}
 
 -- an end that is passed on
-pub passed_on : {A E : Type 0} (r : Result A E) (P Q : E → Type 0) → IsErrAnd r P → ((e : E) → P e → Q e) → IfErr r Q
-passed_on (Ok x) P Q h f = absurd h
-passed_on (Err e) P Q h f = f e h
+pub passed_on : {A E : Type 0} (r : Result A E) (end : E) (Q : E → Type 0) → IsErrAnd r (λ e. e ≡ end) → Q end → IfErr r Q
+passed_on (Ok x) end Q h q = absurd h
+passed_on (Err e) end Q h q = subst Q (sym h) q
 
 -- no line is next
 pub stuck_without : (text : List ℕ) (from : Cursor) (IsGood : List ℕ → Type 0) → ((line : List ℕ) → IsNextLine text from.at line → ⊥) → IsStuck text from IsGood from.line

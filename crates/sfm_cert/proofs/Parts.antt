@@ -1,5 +1,6 @@
 -- The lines of a part of an answer text, read one by one.
-use Rattle.std.proofs.Common.{◌≡◌, ℕ, ◌+◌, ◌<◌, ◌≤◌, List, [], ◌∷◌, ◌++◌, length, take, drop, get_or, map, ℤ, inl, inr, Bool, refl, sym, ap, subst, ◌∙◌, arith}
+use Rattle.std.proofs.Common.{◌≡◌, ℕ, ◌+◌, ◌<◌, ◌≤◌, Result, List, [], ◌∷◌, ◌++◌, length, take, drop, get_or, map, ℤ, inl, inr, Bool, refl, sym, ap, subst, ◌∙◌, arith}
+use Rattle.std.specs.Prelude.{IfErr, IsErrAnd}
 use Rattle.std.specs.List.{All}
 use Rattle.std.proofs.lemmas.List.{length_push, get_or_push, get_or_append_left, drop_more, take_more, map_push, drop_all, take_all}
 use Rattle.std.proofs.lemmas.List.Elements.{All-nil, All-push}
@@ -16,7 +17,7 @@ use Rattle.sfm_cert.specs.Reading.{State, listing, bases, Leads, Reads, EndsAt, 
 use Rattle.sfm_cert.specs.declared.cursor.Cursor.{Cursor}
 use Rattle.sfm_cert.specs.declared.solved.AnswerEnd.{AnswerEnd}
 use Rattle.sfm_cert.proofs.AnswerLines.{block_lines-push, slope_lines-push, base_lines-push}
-use Rattle.sfm_cert.proofs.Ends.{reads_begin, reads_more, stops_stuck, first_byte}
+use Rattle.sfm_cert.proofs.Ends.{passed_on, reads_begin, reads_more, stops_stuck, first_byte}
 
 module _ (form : Form) (text : List ℕ) where
   -- ---- blocks
@@ -51,11 +52,11 @@ module _ (form : Form) (text : List ℕ) where
   only_block at k slopes line next e n (inr (inl s)) = absurd (omega (arith, e, first_byte form text at 115 line n (ap (λ x. get_or x 0 0) s.2.written) (omega arith)))
   only_block at k slopes line next e n (inr (inr a)) = absurd (omega (arith, e, first_byte form text at 97 line n (ap (λ x. get_or x 0 0) a.0) (omega arith)))
 
-  pub blocks_stop : (from to : Cursor) (blocks : List Block) (end : AnswerEnd) → ReadsBlocks form text from to blocks → get_or text to.at 0 ≡ 98
-      → EndsStuck text to (λ line. (b : Block) × IsBlockLine form.names (length blocks) line b) end → EndsAt form text from (listing 0 []) end
-  blocks_stop from to blocks end r e s =
-      stops_stuck form text from to (listing 0 []) (listing (length blocks) []) (block_lines form.names 1 blocks) (λ line. (b : Block) × IsBlockLine form.names (length blocks) line b) end r.reads s
-      (λ line next n l. only_block to.at (length blocks) [] line next e n l) (λ f. cc)
+  pub blocks_stop : {A : Type 0} (result : Result A AnswerEnd) (from to : Cursor) (blocks : List Block) (end : AnswerEnd) → IsErrAnd result (λ e. e ≡ end) → ReadsBlocks form text from to blocks → get_or text to.at 0 ≡ 98
+      → EndsStuck text to (λ line. (b : Block) × IsBlockLine form.names (length blocks) line b) end → IfErr result (EndsAt form text from (listing 0 []))
+  blocks_stop result from to blocks end is r e s = passed_on result end (EndsAt form text from (listing 0 [])) is
+      (stops_stuck form text from to (listing 0 []) (listing (length blocks) []) (block_lines form.names 1 blocks) (λ line. (b : Block) × IsBlockLine form.names (length blocks) line b) end r.reads s
+      (λ line next n l. only_block to.at (length blocks) [] line next e n l) (λ f. cc))
 
   -- ---- slopes
 
@@ -83,11 +84,11 @@ module _ (form : Form) (text : List ℕ) where
   only_slope at k slopes line next e n (inr (inl s)) = (s.0, s.1, s.2)
   only_slope at k slopes line next e n (inr (inr a)) = absurd (omega (arith, e, first_byte form text at 97 line n (ap (λ x. get_or x 0 0) a.0) (omega arith)))
 
-  pub heads_stop : (from to : Cursor) (heads : List Break) (end : AnswerEnd) → ReadsHeads form text from to heads → get_or text to.at 0 ≡ 115
-      → EndsStuck text to (λ line. (r : Ratio) × (s : List Bool) × IsSlopeLine form.names line r s) end → (k : ℕ) → EndsAt form text from (listing k []) end
-  heads_stop from to heads end r e s k =
+  pub heads_stop : {A : Type 0} (result : Result A AnswerEnd) (from to : Cursor) (heads : List Break) (end : AnswerEnd) → IsErrAnd result (λ e. e ≡ end) → ReadsHeads form text from to heads → get_or text to.at 0 ≡ 115
+      → EndsStuck text to (λ line. (r : Ratio) × (s : List Bool) × IsSlopeLine form.names line r s) end → IfErr result (λ end. (k : ℕ) → EndsAt form text from (listing k []) end)
+  heads_stop result from to heads end is r e s = passed_on result end (λ end. (k : ℕ) → EndsAt form text from (listing k []) end) is (λ k.
       stops_stuck form text from to (listing k []) (listing k (map ratio_of heads)) (slope_lines form.names heads) (λ line. (r : Ratio) × (s : List Bool) × IsSlopeLine form.names line r s) end (r.reads k) s
-      (λ line next n l. only_slope to.at k (map ratio_of heads) line next e n l) (λ f. cc)
+      (λ line next n l. only_slope to.at k (map ratio_of heads) line next e n l) (λ f. cc))
 
   -- ---- bases
 
@@ -98,32 +99,40 @@ module _ (form : Form) (text : List ℕ) where
     pub widths_are : map length rows ≡ take i form.widths
     pub small : All (λ x. All IsEntry x) rows
 
+  -- the row of a place is due, of so many numbers
+  pub record IsDue (i width : ℕ) : Type 0 where
+    pub below : i < length form.widths
+    pub is : get_or form.widths i 0 ≡ width
+
+  widths_due : (i width : ℕ) → IsDue i width → drop i form.widths ≡ width ∷ drop (i + 1) form.widths
+  widths_due i width d = drop_more form.widths i 0 d.below ∙ ap (λ n. n ∷ drop (i + 1) form.widths) d.is
+
   pub rows_begin : (from : Cursor) → from.at ≤ length text → RowsSoFar from from 0 []
   rows_begin from h = record { within = h; count = refl; reads = λ due. reads_begin form text from (bases 1 form.widths due) h; widths_are = refl; small = All-nil (λ (x : List ℤ). All IsEntry x) }
 
-  pub rows_more : (from to to' : Cursor) (i width : ℕ) (rows : List (List ℤ)) (x : List ℤ) → i < length form.widths → get_or form.widths i 0 ≡ width → RowsSoFar from to i rows → TakesSome text to to' (λ line. IsBaseLine (i + 1) width line x)
+  pub rows_more : (from to to' : Cursor) (i width : ℕ) (rows : List (List ℤ)) (x : List ℤ) → IsDue i width → RowsSoFar from to i rows → TakesSome text to to' (λ line. IsBaseLine (i + 1) width line x)
       → RowsSoFar from to' (i + 1) (rows ++ x ∷ [])
-  rows_more from to to' i width rows x lt w r t = record {
+  rows_more from to to' i width rows x d r t = record {
     within = t.within;
     count = omega (arith, length_push rows x, r.count);
     reads = λ due.
         let lines_are : base_lines 1 rows ++ t.line ∷ [] ≡ base_lines 1 (rows ++ x ∷ []) = ap (λ l. base_lines 1 rows ++ l ∷ []) (t.good.2 ∙ ap (λ n. base_line n x) (omega (arith, r.count))) ∙ sym (base_lines-push 1 rows x) in
-        let ws : drop i form.widths ≡ width ∷ drop (i + 1) form.widths = drop_more form.widths i 0 lt ∙ ap (λ n. n ∷ drop (i + 1) form.widths) w in
+        let ws = widths_due i width d in
         let before = subst (λ (l : List ℕ). Reads form text from to (bases 1 form.widths due) (bases (i + 1) l due) (base_lines 1 rows)) ws (r.reads due) in
         subst (λ (l : List (List ℕ)). Reads form text from to' (bases 1 form.widths due) (bases (i + 1 + 1) (drop (i + 1) form.widths) due) l) lines_are
         (reads_more form text from to to' (bases 1 form.widths due) (bases (i + 1) (width ∷ drop (i + 1) form.widths) due) (bases (i + 1 + 1) (drop (i + 1) form.widths) due) (base_lines 1 rows) t.line before t.takes t.within
         (x, t.good, refl));
-    widths_are = map_push length rows x ∙ ap (λ l. l ++ length x ∷ []) r.widths_are ∙ ap (λ n. take i form.widths ++ n ∷ []) (t.good.0 ∙ sym w) ∙ sym (take_more form.widths i 0 lt);
+    widths_are = map_push length rows x ∙ ap (λ l. l ++ length x ∷ []) r.widths_are ∙ ap (λ n. take i form.widths ++ n ∷ []) (t.good.0 ∙ sym d.is) ∙ sym (take_more form.widths i 0 d.below);
     small = All-push (λ (y : List ℤ). All IsEntry y) rows x r.small t.good.1;
   }
 
-  pub rows_stop : (from to : Cursor) (i width : ℕ) (rows : List (List ℤ)) (end : AnswerEnd) → i < length form.widths → get_or form.widths i 0 ≡ width → RowsSoFar from to i rows
-      → EndsStuck text to (λ line. (x : List ℤ) × IsBaseLine (i + 1) width line x) end → (due : List Ratio) → EndsAt form text from (bases 1 form.widths due) end
-  rows_stop from to i width rows end lt w r s due =
-      let ws : drop i form.widths ≡ width ∷ drop (i + 1) form.widths = drop_more form.widths i 0 lt ∙ ap (λ n. n ∷ drop (i + 1) form.widths) w in
+  pub rows_stop : {A : Type 0} (result : Result A AnswerEnd) (from to : Cursor) (i width : ℕ) (rows : List (List ℤ)) (end : AnswerEnd) → IsErrAnd result (λ e. e ≡ end) → IsDue i width → RowsSoFar from to i rows
+      → EndsStuck text to (λ line. (x : List ℤ) × IsBaseLine (i + 1) width line x) end → IfErr result (λ end. (due : List Ratio) → EndsAt form text from (bases 1 form.widths due) end)
+  rows_stop result from to i width rows end is d r s = passed_on result end (λ end. (due : List Ratio) → EndsAt form text from (bases 1 form.widths due) end) is (λ due.
+      let ws = widths_due i width d in
       let before = subst (λ (l : List ℕ). Reads form text from to (bases 1 form.widths due) (bases (i + 1) l due) (base_lines 1 rows)) ws (r.reads due) in
       stops_stuck form text from to (bases 1 form.widths due) (bases (i + 1) (width ∷ drop (i + 1) form.widths) due) (base_lines 1 rows) (λ line. (x : List ℤ) × IsBaseLine (i + 1) width line x) end before s
-      (λ line next n l. (l.0, l.1)) (λ f. cc)
+      (λ line next n l. (l.0, l.1)) (λ f. cc))
 
   pub rows_end : (from to : Cursor) (i : ℕ) (rows : List (List ℤ)) → length form.widths ≤ i → i ≤ length form.widths → RowsSoFar from to i rows → ReadsRows form text from to rows
   rows_end from to i rows h k r = record {

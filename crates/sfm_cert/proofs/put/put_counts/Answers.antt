@@ -1,4 +1,4 @@
-use Rattle.std.proofs.Common.{◌≡◌, ◌++◌, ◌∷◌, [], get_or, ap, ◌∙◌, append_assoc}
+use Rattle.std.proofs.Common.{◌≡◌, ◌∷◌, [], get_or}
 use Rattle.std.specs.Fmt.{decimal}
 use Rattle.sfm_cert.proofs.AnswerLines.{counted-more}
 use Rattle.sfm_cert.proofs.Pieces.{both, appended}

@@ -1,5 +1,4 @@
-use Rattle.std.proofs.Common.{◌≡◌, ◌<◌, ◌∷◌, ◌++◌, [], length, get_or, true, false, sym, ap, ◌∙◌, arith}
-use Rattle.std.proofs.lemmas.List.{append-nil}
+use Rattle.std.proofs.Common.{◌≡◌, ◌<◌, ◌∷◌, [], length, get_or, true, false, sym, ap, ◌∙◌, arith}
 use Rattle.sfm_cert.proofs.AnswerLines.{listed-more}
 use Rattle.sfm_cert.proofs.Pieces.{appended}
 use Rattle.sfm_cert.proofs.put.put_names.Goals as goal

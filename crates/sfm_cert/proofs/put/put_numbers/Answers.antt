@@ -1,4 +1,4 @@
-use Rattle.std.proofs.Common.{◌≡◌, ◌++◌, ◌∷◌, get_or, pos, FitsSigned}
+use Rattle.std.proofs.Common.{◌≡◌, ◌∷◌, get_or, pos, FitsSigned}
 use Rattle.std.proofs.lemmas.Int.{to_z-of_z}
 use Rattle.std.proofs.lemmas.List.Elements.{All-get_or}
 use Rattle.std.specs.Fmt.{signed_decimal}

@@ -4,10 +4,8 @@ use Rattle.sfm_spec.specs.Blocks.{Block}
 use Rattle.sfm_extreme.specs.Blocks.{block_of}
 use Rattle.sfm_cert.specs.Lines.{IsBlockLine}
 use Rattle.sfm_cert.specs.Parts.{ReadsBlocks}
-use Rattle.sfm_cert.specs.Reading.{listing, EndsAt, EndsStuck, TakesSome}
+use Rattle.sfm_cert.specs.Reading.{EndsStuck, TakesSome}
 use Rattle.sfm_cert.specs.Solved.{form_of}
-use Rattle.sfm_cert.specs.declared.solved.AnswerEnd.{AnswerEnd}
-use Rattle.sfm_cert.proofs.Ends.{passed_on}
 use Rattle.sfm_cert.proofs.Parts.{blocks_begin, blocks_more, blocks_stop}
 use Rattle.sfm_cert.proofs.read.read_blocks.Goals as goal
 
@@ -17,13 +15,10 @@ loop-alloc-init c = rw c.new-blocks.ensures.items (blocks_begin (form_of c.args.
 pub returns-in_err-block-clause-stopped : goal.returns-in_err-block-clause-stopped
 returns-in_err-block-clause-stopped c =
     let form = form_of c.args.instance.now in
-    let text = c.args.text.now in
     let bs = map block_of c.loop-alloc.blocks.items in
     let n : c.len.result ≡ length bs = omega (arith, c.len.ensures, length-map c.loop-alloc.blocks.items block_of) in
-    passed_on c.from_residual.result (λ e. e ≡ c.in_err-block.field-0.0) (EndsAt form text c.args.cursor.now (listing 0 [])) c.from_residual.ensures.1
-    (λ e g. subst (λ (x : AnswerEnd). EndsAt form text c.args.cursor.now (listing 0 []) x) (sym g)
-    (blocks_stop form text c.args.cursor.now c.loop-alloc.cursor bs c.in_err-block.field-0.0 c.loop-alloc.invariant.0 (c.begins.ensures.0 c.loop-alloc-test.true)
-    (subst (λ (k : ℕ). EndsStuck text c.loop-alloc.cursor (λ line. (b : Block) × IsBlockLine form.names k line b) c.in_err-block.field-0.0) n c.in_err-block.ensures.stuck)))
+    blocks_stop form c.args.text.now c.from_residual.result c.args.cursor.now c.loop-alloc.cursor bs c.in_err-block.field-0.0 c.from_residual.ensures.1 c.loop-alloc.invariant.0 (c.begins.ensures.0 c.loop-alloc-test.true)
+    (subst (λ (k : ℕ). EndsStuck c.args.text.now c.loop-alloc.cursor (λ line. (b : Block) × IsBlockLine form.names k line b) c.in_err-block.field-0.0) n c.in_err-block.ensures.stuck)
 
 pub loop-alloc-preserved : goal.loop-alloc-preserved
 loop-alloc-preserved c =
