@@ -10,16 +10,23 @@ use Rattle.sfm_extreme.specs.Blocks.{block_of}
 use Rattle.sfm_law.proofs.Lists.{length-meanings}
 use Rattle.sfm_cert.specs.Answer.{line_base}
 use Rattle.sfm_cert.specs.Solved.{answer_of, break_of, form_of}
-use Rattle.sfm_check.specs.Truth.{section_at, section_of as section_from}
+use Rattle.sfm_check.specs.Truth.{section_at, sections_of, section_of as section_from}
 use Rattle.sfm_check.specs.Verdict.{IsBaseAt}
 use Rattle.sfm_check.specs.Findings.{IsFirstNoBaseIn}
-use Rattle.sfm_check.proofs.Forming.{few_lines, formed_parts, section_in, small_sizes}
+use Rattle.sfm_check.proofs.Forming.{IsFormedSection, few_lines, formed_parts, section_in, small_sizes}
+use Rattle.sfm_check.proofs.bases.first_no_base.Goals.{After-section_of-section, In-Some}
 use Rattle.sfm_check.proofs.bases.first_no_base.Goals as goal
+
+-- there is a section at the place, and it is of good form
+section : (c : After-section_of-section) → (c.loop-s.s < length (sections_of (answer_of c.args.solved.now)))
+    × IsFormedSection (form_of c.args.instance.now).widths (record { num = c.section_of-section.result.num; den = c.section_of-section.result.den; bases = c.section_of-section.result.bases.now })
+section c =
+    let ls = section_in c.args.solved.now.breaks.items (answer_of c.args.solved.now) c.loop-s.s _ refl (c.len-s-end.ensures ∙ c.args.solved.now.breaks.ok.0) c.loop-s-test.true in
+    (ls, formed_parts c.requires.formed ls c.section_of-section.ensures)
 
 pub first_no_base_in-requires-clause-factor : goal.first_no_base_in-requires-clause-factor
 first_no_base_in-requires-clause-factor c =
-    let ls = section_in c.args.solved.now.breaks.items (answer_of c.args.solved.now) c.loop-s.s _ refl (c.len-s-end.ensures ∙ c.args.solved.now.breaks.ok.0) c.loop-s-test.true in
-    let f = (formed_parts c.requires.formed ls c.section_of-section.ensures).factor in
+    let f = (section (goal.at.first_no_base_in-requires-clause-factor c).After-section_of-section).1.factor in
     let fd : FitsSigned w128 c.section_of-section.result.den = omega (arith, ints, f) in
     simp to_z-of_z f
 
@@ -29,22 +36,21 @@ first_no_base_in-requires-clause-bounded c =
     rw c.terms-terms.ensures.terms small
 
 pub first_no_base_in-requires-clause-rows : goal.first_no_base_in-requires-clause-rows
-first_no_base_in-requires-clause-rows c =
-    let ls = section_in c.args.solved.now.breaks.items (answer_of c.args.solved.now) c.loop-s.s _ refl (c.len-s-end.ensures ∙ c.args.solved.now.breaks.ok.0) c.loop-s-test.true in
-    rw c.terms-terms.ensures.terms (formed_parts c.requires.formed ls c.section_of-section.ensures).rows
+first_no_base_in-requires-clause-rows c = rw c.terms-terms.ensures.terms (section (goal.at.first_no_base_in-requires-clause-rows c).After-section_of-section).1.rows
 
 few_terms : (n : ℕ) (ts : List Kind) (i : ℕ) → AreInBounds n ts → i < length (meanings kind_places kind_value ts) → i < 16384
 few_terms n ts i bounded l = omega (arith, l, bounded.few_terms, length-meanings kind_places kind_value ts, length-map ts kind_places)
 
-pub overflow_add-i : goal.overflow_add-i
-overflow_add-i c =
+few_found : (c : In-Some) → c.in-Some.i < 16384
+few_found c =
     let raw = rw (c.in-Some.is, c.terms-terms.ensures.terms) at c.in_ok-i.ensures in
-    omega (arith, few_terms _ c.args.instance.now.terms c.in-Some.i c.terms-terms.ensures.bounded raw.is_term)
+    few_terms _ c.args.instance.now.terms c.in-Some.i c.terms-terms.ensures.bounded raw.is_term
+
+pub overflow_add-i : goal.overflow_add-i
+overflow_add-i c = omega (arith, few_found (goal.at.overflow_add-i c).In-Some)
 
 pub line_of_base-line-requires-clause-base : goal.line_of_base-line-requires-clause-base
-line_of_base-line-requires-clause-base c =
-    let raw = rw (c.in-Some.is, c.terms-terms.ensures.terms) at c.in_ok-i.ensures in
-    omega (arith, few_terms _ c.args.instance.now.terms c.in-Some.i c.terms-terms.ensures.bounded raw.is_term)
+line_of_base-line-requires-clause-base c = omega (arith, few_found (goal.at.line_of_base-line-requires-clause-base c).In-Some)
 
 pub line_of_base-line-requires-clause-blocks : goal.line_of_base-line-requires-clause-blocks
 line_of_base-line-requires-clause-blocks c = let lines = few_lines (form_of c.args.instance.now) (answer_of c.args.solved.now) in omega (arith, lines, c.requires.few, c.args.solved.now.blocks.ok.0, c.len.ensures, length-map c.args.solved.now.blocks.items block_of)
@@ -62,8 +68,8 @@ returns-in-Some c =
     let items = c.args.solved.now.breaks.items in
     let breaks = c.args.solved.now.breaks.ok.0 in
     let blocks = c.args.solved.now.blocks.ok.0 in
-    let ls = section_in items a c.loop-s.s _ refl (c.len-s-end.ensures ∙ breaks) c.loop-s-test.true in
-    let f = (formed_parts c.requires.formed ls c.section_of-section.ensures).factor in
+    let (ls, formed) = section (goal.at.returns-in-Some c).After-section_of-section in
+    let f = formed.factor in
     let fd : FitsSigned w128 c.section_of-section.result.den = omega (arith, ints, f) in
     let raw = rw (c.in-Some.is, c.terms-terms.ensures.terms) at c.in_ok-i.ensures in
     let plain : IsFirstNoBaseIn (meanings kind_places kind_value ts) c.section_of-section.result.den c.section_of-section.result.bases.now c.in-Some.i = simp to_z-of_z at raw in

@@ -5,6 +5,7 @@ use Rattle.sfm_spec.specs.Sets.{empty_set, size, whole_set}
 use Rattle.sfm_spec.specs.Families.{meanings}
 use Rattle.sfm_kind.specs.Kinds.{kind_places, kind_value}
 use Rattle.sfm_cert.specs.Answer.{mark_of}
+use Rattle.sfm_cert.specs.Form.{IsFormedBreak}
 use Rattle.sfm_cert.specs.Solved.{answer_of, break_of, form_of}
 use Rattle.sfm_check.specs.Findings.{set_before}
 use Rattle.sfm_check.specs.Values.{IsStepAt, IsWorth}
@@ -13,18 +14,20 @@ use Rattle.sfm_check.proofs.ByValues.{slopes_right}
 use Rattle.sfm_check.proofs.Forming.{all_bases}
 use Rattle.sfm_check.proofs.KeptSlopes.{behind_at, formed_at, step_by}
 use Rattle.sfm_check.proofs.SlopeFacts.{before_places, before_same, whole_by_size}
+use Rattle.sfm_check.proofs.values.are_slopes_right.Goals.{After-index-found}
 use Rattle.sfm_check.proofs.values.are_slopes_right.Goals as goal
 
-pub attain-requires-clause-formed : goal.attain-requires-clause-formed
-attain-requires-clause-formed c =
+-- the slope at the place is of good form
+formed : (c : After-index-found) → IsFormedBreak (length c.args.instance.now.names) (form_of c.args.instance.now).widths (break_of c.index-found.result.now)
+formed c =
     let lt = c.loop-k-test.true in
     formed_at (form_of c.args.instance.now) (answer_of c.args.solved.now) c.args.solved.now.breaks.items c.loop-k.k c.index-found.result.now refl (omega (arith, lt, c.args.solved.now.breaks.ok.0, c.len-k-end.ensures)) c.index-found.ensures c.requires.formed
 
+pub attain-requires-clause-formed : goal.attain-requires-clause-formed
+attain-requires-clause-formed c = formed (goal.at.attain-requires-clause-formed c).After-index-found
+
 pub worth_of-requires-in-loop-k : goal.worth_of-requires-in-loop-k
-worth_of-requires-in-loop-k c =
-    let lt = c.loop-k-test.true in
-    let formed = formed_at (form_of c.args.instance.now) (answer_of c.args.solved.now) c.args.solved.now.breaks.items c.loop-k.k c.index-found.result.now refl (omega (arith, lt, c.args.solved.now.breaks.ok.0, c.len-k-end.ensures)) c.index-found.ensures c.requires.formed in
-    formed.members.places
+worth_of-requires-in-loop-k c = (formed (goal.at.worth_of-requires-in-loop-k c).After-index-found).members.places
 
 pub loop-k-preserved : goal.loop-k-preserved
 loop-k-preserved c =

@@ -14,16 +14,22 @@ use Rattle.sfm_extreme.proofs.Deficits.{deficit_by_rest}
 use Rattle.sfm_kind.specs.Kinds.{kind_places, kind_value}
 use Rattle.sfm_cert.specs.Form.{AreFormedRows}
 use Rattle.sfm_check.proofs.Forming.{row_width}
+use Rattle.sfm_check.proofs.values.deficit_at.Goals.{After-deref}
 use Rattle.sfm_check.proofs.values.deficit_at.Goals as goal
 
-pub rest_of-requires-clause-placed : goal.rest_of-requires-clause-placed
-rest_of-requires-clause-placed c =
-    let n = length c.args.instance.now.names in
+-- the shift is the number at each place
+shift : (c : After-deref) → c.deref.result.now ≡ replicate (length c.args.instance.now.names) c.args.num
+shift c =
     let e = c.requires.entry in
     let fn : FitsSigned w128 c.args.num = omega (arith, ints, e) in
     let same : c.deref.result.now ≡ replicate c.names_len.result c.args.num = search rules in
-    let places : length c.deref.result.now ≡ n = ap length same ∙ (length-replicate c.names_len.result c.args.num ∙ c.names_len.ensures.len) in
-    rw (c.terms.ensures.terms, places) c.terms.ensures.bounded.placed
+    same ∙ ap (λ n. replicate n c.args.num) c.names_len.ensures.len
+
+shift-places : (c : After-deref) → length c.deref.result.now ≡ length c.args.instance.now.names
+shift-places c = ap length (shift c) ∙ length-replicate (length c.args.instance.now.names) c.args.num
+
+pub rest_of-requires-clause-placed : goal.rest_of-requires-clause-placed
+rest_of-requires-clause-placed c = rw (c.terms.ensures.terms, shift-places (goal.at.rest_of-requires-clause-placed c).After-deref) c.terms.ensures.bounded.placed
 
 -- each row is as long as its term has places
 entries : (ts : List Kind) (rows : List (List ℤ)) → AreFormedRows (map (λ term. length (kind_places term)) ts) rows
@@ -46,39 +52,31 @@ shift_is n p shift same entry few =
 
 pub rest_of-requires-clause-shifts : goal.rest_of-requires-clause-shifts
 rest_of-requires-clause-shifts c =
-    let e = c.requires.entry in
-    let fn : FitsSigned w128 c.args.num = omega (arith, ints, e) in
-    let n = c.names_len.result in
-    let few = c.terms.ensures.bounded.few in
-    let same : c.deref.result.now ≡ replicate c.names_len.result c.args.num = search rules in
-    shift_is n c.args.num c.deref.result.now same e (omega (arith, few, c.names_len.ensures.len))
+    shift_is (length c.args.instance.now.names) c.args.num c.deref.result.now (shift (goal.at.rest_of-requires-clause-shifts c).After-deref) c.requires.entry c.terms.ensures.bounded.few
 
 pub deficit_of-requires : goal.deficit_of-requires
 deficit_of-requires c =
     let ts = c.args.instance.now.terms in
+    let n = length c.args.instance.now.names in
     let b = c.terms.ensures.bounded in
     let few = b.few in
-    let e = c.requires.entry in
-    let fn : FitsSigned w128 c.args.num = omega (arith, ints, e) in
-    let same : c.deref.result.now ≡ replicate c.names_len.result c.args.num = search rules in
-    let places : length c.deref.result.now ≡ length c.args.instance.now.names = ap length same ∙ (length-replicate c.names_len.result c.args.num ∙ c.names_len.ensures.len) in
+    let path = (goal.at.deficit_of-requires c).After-deref in
+    let places = shift-places path in
     let rest : IsRest (meanings kind_places kind_value ts) c.deref.result.now c.args.bases.now c.in_ok-z.z.items = rw c.terms.ensures.terms at c.in_ok-z.ensures in
-    rw c.deref-2.ensures.value (rest-total kind_places kind_value ts c.deref.result.now c.args.bases.now c.in_ok-z.z.items rest c.requires.bases.small b.few_places (omega (arith, few, places)) (shift_is c.names_len.result c.args.num c.deref.result.now same e (omega (arith, few, c.names_len.ensures.len))))
+    rw c.deref-2.ensures.value (rest-total kind_places kind_value ts c.deref.result.now c.args.bases.now c.in_ok-z.z.items rest c.requires.bases.small b.few_places (omega (arith, few, places)) (shift_is n c.args.num c.deref.result.now (shift path) c.requires.entry few))
 
 pub returns : goal.returns
 returns c =
-    let ts = c.args.instance.now.terms in
-    let ms = meanings kind_places kind_value ts in
+    let ms = meanings kind_places kind_value c.args.instance.now.terms in
     let n = length c.args.instance.now.names in
-    let p = c.args.num in
     let rows = c.args.bases.now in
     let e = c.requires.entry in
-    let fn : FitsSigned w128 p = omega (arith, ints, e) in
+    let fn : FitsSigned w128 c.args.num = omega (arith, ints, e) in
     let fd : FitsSigned w128 c.deficit_of.result = search rules in
-    let same : c.deref.result.now ≡ replicate c.names_len.result p = search rules in
-    let is : c.deref.result.now ≡ even_shift n p = same ∙ ap (λ k. replicate k p) c.names_len.ensures.len in
+    let path = (goal.at.returns c).After-deref in
     let rest : IsRest ms c.deref.result.now rows c.in_ok-z.z.items = rw c.terms.ensures.terms at c.in_ok-z.ensures in
     let value = rw c.deref-2.ensures.value at c.deficit_of.ensures in
     let by = deficit_by_rest ms c.deref.result.now rows c.in_ok-z.z.items rest in
-    let there : deficit (length c.deref.result.now) (rest_at ms rows c.deref.result.now) ≡ deficit n (rest_at ms rows (even_shift n p)) = ap (λ (z : List ℤ). deficit (length z) (rest_at ms rows z)) is ∙ ap (λ k. deficit k (rest_at ms rows (even_shift n p))) (length-replicate n p) in
+    let there : deficit (length c.deref.result.now) (rest_at ms rows c.deref.result.now) ≡ deficit n (rest_at ms rows (even_shift n c.args.num)) =
+    ap (λ k. deficit k (rest_at ms rows c.deref.result.now)) (shift-places path) ∙ ap (λ (z : List ℤ). deficit n (rest_at ms rows z)) (shift path) in
     simp to_z-of_z (value ∙ (by ∙ there))
