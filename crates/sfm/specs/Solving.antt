@@ -1,15 +1,13 @@
 -- What the solver finds of an instance.
-use Rattle.std.specs.Prelude.{length, map, pos}
+use Rattle.std.specs.Prelude.{◌≡◌, List, length, map, ℤ, pos}
 use Rattle.std.specs.List.{All}
 use Rattle.sfm_spec.specs.Bounds.{IsEntry}
 use Rattle.sfm_spec.specs.Families.{AreBases, IsLeast, IsGreatest, Prove, even_shift, shifted_at}
-use Rattle.std.specs.Prelude.{◌≡◌}
 use Rattle.sfm_spec.specs.Walks.{IsFewWalks}
 use Rattle.sfm_kind.specs.Instance.{InstanceData}
 use Rattle.sfm_kind.specs.Kinds.{kind_start}
 use Rattle.sfm.specs.Due.{IsReached}
 use Rattle.sfm_extreme.specs.declared.extremes.Proved.{Proved}
-use Rattle.sfm_walk.specs.declared.optimum.Optimum.{Optimum}
 use Rattle.sfm_cert.specs.Answer.{Answer}
 use Rattle.sfm_cert.specs.Few.{HasFewLines}
 use Rattle.sfm_cert.specs.Form.{IsFormed}
@@ -26,11 +24,11 @@ pub record IsTrueAnswer (instance : InstanceData) (a : Answer) : Type 0 where
   pub reached : All (IsReached instance.terms (meanings_of instance.terms) (length instance.names)) (sections_of a)
 
 -- bases that prove the minimum and that few walks lead to, and what they tell
-pub record Gives (instance : InstanceData) (optimum : Optimum) (found : Proved) : Type 0 where
-  pub bases : AreBases (pos 1) (meanings_of instance.terms) optimum.bases
-  pub small : All (λ x. All IsEntry x) optimum.bases
-  pub proves : Prove (meanings_of instance.terms) (length instance.names) (pos 1) (even_shift (length instance.names) (pos 0)) optimum.bases
-  pub reached : IsFewWalks (meanings_of instance.terms) (length instance.names) (pos 1) (even_shift (length instance.names) (pos 0)) (map (λ kind. kind_start kind (pos 1)) instance.terms) optimum.bases
+pub record Gives (instance : InstanceData) (rows : List (List ℤ)) (found : Proved) : Type 0 where
+  pub bases : AreBases (pos 1) (meanings_of instance.terms) rows
+  pub small : All (λ x. All IsEntry x) rows
+  pub proves : Prove (meanings_of instance.terms) (length instance.names) (pos 1) (even_shift (length instance.names) (pos 0)) rows
+  pub reached : IsFewWalks (meanings_of instance.terms) (length instance.names) (pos 1) (even_shift (length instance.names) (pos 0)) (map (λ kind. kind_start kind (pos 1)) instance.terms) rows
   pub least : IsLeast (meanings_of instance.terms) (length instance.names) (pos 1) (even_shift (length instance.names) (pos 0)) found.least
   pub greatest : IsGreatest (meanings_of instance.terms) (length instance.names) (pos 1) (even_shift (length instance.names) (pos 0)) found.greatest
   pub value : found.value ≡ shifted_at (meanings_of instance.terms) (pos 1) (even_shift (length instance.names) (pos 0)) found.least

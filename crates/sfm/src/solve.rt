@@ -25,7 +25,7 @@ fn answer_by(
     optimum: Optimum,
     found: Proved,
 ) -> Result<Solved, Memory>
-    requires { Gives instance.now optimum found }
+    requires { Gives instance.now optimum.bases found }
     ensures { IfOk result (λ s. IsTrueAnswer instance.now (answer_of s)) }
 {
     let terms = instance.terms();

@@ -31,17 +31,11 @@ returns c =
     let slopes : AreBreakpoints (meanings_of instance.terms) n (ones n) (map kept_mark found) = rw (c.terms-terms.ensures.terms, c.names_len-n.ensures.len) at c.in_ok-breaks.ensures.slopes in
     let has : All (HasBases (meanings_of instance.terms) (λ q. map (λ kind. kind_start kind q) instance.terms) n) found = rw (c.terms-terms.ensures.terms, c.names_len-n.ensures.len) at c.in_ok-breaks.ensures.bases in
     let done : IsTrueAnswer instance a = true_answer instance a c.names_len-n.ensures.named c.terms-terms.ensures.bounded (record {
-      bases = h.bases;
-      small = h.small;
-      proves = h.proves;
-      least = h.least;
-      greatest = h.greatest;
-      value = h.value;
+      gives = h;
       blocks = blocks;
       slopes = subst (AreBreakpoints (meanings_of instance.terms) n (ones n)) (same_marks found) slopes;
       breaks = formed_breaks instance c.terms-terms.ensures.bounded found slopes has;
       proved = proved_breaks instance c.terms-terms.ensures.bounded found slopes has;
-      few = h.reached;
       reached = reached_breaks instance c.terms-terms.ensures.bounded found slopes has;
     }) in
     simp to_z-of_z done

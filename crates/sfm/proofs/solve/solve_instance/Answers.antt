@@ -1,5 +1,4 @@
 -- What the engine finds and what certifying tells of it, over the terms and the names of the instance.
-use Rattle.std.proofs.Common.{pos, length}
 use Rattle.sfm.proofs.solve.solve_instance.Goals as goal
 
 pub answer_by-requires : goal.answer_by-requires
