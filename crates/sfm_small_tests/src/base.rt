@@ -5,130 +5,233 @@ use std::cmp::Ordering;
 use std::process::Abort;
 use std::test::Fail;
 
+/// Texts, and the number that each is read as.
+const NUMBERS: [(&[u8], Option<i128>); 14] = [
+    (b"0", Some(0)),
+    (b"-0", None),
+    (b"007", None),
+    (b"+1", None),
+    (b"", None),
+    (b"-", None),
+    (b"--1", None),
+    (b"12a", None),
+    (b"-17", Some(-17)),
+    (
+        b"1000000000000000000000000000000",
+        Some(1_000_000_000_000_000_000_000_000_000_000),
+    ),
+    (b"1000000000000000000000000000001", None),
+    (
+        b"-1000000000000000000000000000000",
+        Some(-1_000_000_000_000_000_000_000_000_000_000),
+    ),
+    (b"-1000000000000000000000000000001", None),
+    (&[b'9'; 200], None),
+];
+
 #[test]
 fn numbers_are_read(rt: HostRuntime) {
-    let rows: [(&[u8], Option<i128>); 14] = [
-        (b"0", Some(0)),
-        (b"-0", None),
-        (b"007", None),
-        (b"+1", None),
-        (b"", None),
-        (b"-", None),
-        (b"--1", None),
-        (b"12a", None),
-        (b"-17", Some(-17)),
-        (
-            b"1000000000000000000000000000000",
-            Some(1_000_000_000_000_000_000_000_000_000_000),
-        ),
-        (b"1000000000000000000000000000001", None),
-        (
-            b"-1000000000000000000000000000000",
-            Some(-1_000_000_000_000_000_000_000_000_000_000),
-        ),
-        (b"-1000000000000000000000000000001", None),
-        (&[b'9'; 200], None),
-    ];
-    for (text, wanted) in rows {
-        assert_eq!(rt; read_number(text), wanted);
+    for (text, wanted) in &NUMBERS {
+        assert!(rt; read_number(text) == *wanted);
     }
 }
 
 #[test]
-fn slopes_are_lowest_and_ordered(rt: HostRuntime) {
+fn slopes_are_lowest(rt: HostRuntime) {
     let half = Slope::new(-2, 4);
-    assert_eq!(rt; (half.num, half.den), (-1, 2));
+    assert!(rt; half.num == -1 && half.den == 2);
     let none = Slope::new(0, 7);
-    assert_eq!(rt; (none.num, none.den), (0, 1));
-    assert_eq!(rt; half.compare(&none), Ordering::Less);
-    assert_eq!(rt; none.compare(&half), Ordering::Greater);
-    assert_eq!(rt;
-        Slope::new(5, 10).compare(&Slope::new(1, 2)),
-        Ordering::Equal
-    );
+    assert!(rt; none.num == 0 && none.den == 1);
 }
+
+#[test]
+fn slopes_are_ordered(rt: HostRuntime) {
+    let half = Slope::new(-2, 4);
+    let none = Slope::new(0, 7);
+    assert!(rt; half.compare(&none) == Ordering::Less);
+    assert!(rt; none.compare(&half) == Ordering::Greater);
+}
+
+#[test]
+fn equal_slopes_are_equal(rt: HostRuntime) {
+    assert!(rt; Slope::new(5, 10).compare(&Slope::new(1, 2)) == Ordering::Equal);
+}
+
+/// The set of some places of a ground of n.
+fn set_of(rt: &impl Abort, alloc: Global, n: usize, places: &[usize]) -> Result<Set, Memory> {
+    let mut set = Set::empty(alloc, n)?;
+    for e in places {
+        assert!(rt; *e < set.len());
+        set.insert(*e);
+    }
+    Ok(set)
+}
+
+/// Whether a set has a place of its ground.
+fn has(set: &Set, e: usize) -> bool {
+    e < set.len() && set.contains(e)
+}
+
+/// Whether each place of a set is in another of the same ground.
+fn is_part(set: &Set, other: &Set) -> bool {
+    set.len() == other.len() && set.is_within(other)
+}
+
+/// A copy of a set of three places without the first.
+fn without_first(rt: &impl Abort, alloc: Global, set: &Set) -> Result<Set, Memory> {
+    let mut other = set.copy(alloc)?;
+    assert!(rt; other.len() == 3);
+    other.remove(0);
+    Ok(other)
+}
+
+const ENDS: [usize; 2] = [0, 2];
 
 #[test]
 fn sets_hold_their_places(rt: HostRuntime) -> Result<(), Fail> {
-    let mut some = Set::empty(rt.alloc(), 3)?;
-    assert_eq!(rt; some.len(), 3);
-    some.insert(0);
-    some.insert(2);
-    let mut other = some.copy(rt.alloc())?;
-    assert_eq!(rt; other.len(), 3);
-    other.remove(0);
-    assert_eq!(rt; (some.size(), other.size()), (2, 1));
-    assert!(rt; some.contains(0) && !other.contains(0));
-    assert!(rt; other.is_within(&some) && !some.is_within(&other));
+    let some = set_of(&rt, rt.alloc(), 3, &ENDS)?;
+    let other = without_first(&rt, rt.alloc(), &some)?;
+    assert!(rt; some.size() == 2 && other.size() == 1);
+    assert!(rt; has(&some, 0) && !has(&other, 0));
+    assert!(rt; is_part(&other, &some) && !is_part(&some, &other));
     Ok(())
 }
 
+/// Asserts that two sets of three places have each of them.
+fn joins(rt: &impl Abort, low: &mut Set, high: &Set) {
+    assert!(rt; low.len() == 3 && high.len() == 3);
+    low.union_with(high);
+    assert!(rt; low.size() == 3);
+}
+
+/// Asserts that without the last place the first set has the middle one alone with the second.
+fn meets(rt: &impl Abort, low: &mut Set, high: &Set) {
+    assert!(rt; low.len() == 3 && high.len() == 3);
+    low.remove(2);
+    low.keep_with(high);
+    assert!(rt; low.size() == 1 && has(low, 1));
+}
+
+const LOW: [usize; 2] = [0, 1];
+
+const HIGH: [usize; 2] = [1, 2];
+
 #[test]
 fn sets_join_and_meet(rt: HostRuntime) -> Result<(), Fail> {
-    let mut low = Set::empty(rt.alloc(), 3)?;
-    let mut high = Set::empty(rt.alloc(), 3)?;
-    assert_eq!(rt; (low.len(), high.len()), (3, 3));
-    low.insert(0);
-    low.insert(1);
-    high.insert(1);
-    high.insert(2);
-    low.union_with(&high);
-    assert_eq!(rt; low.size(), 3);
-    low.remove(2);
-    low.keep_with(&high);
-    assert!(rt; low.size() == 1 && low.contains(1));
+    let mut low = set_of(&rt, rt.alloc(), 3, &LOW)?;
+    let high = set_of(&rt, rt.alloc(), 3, &HIGH)?;
+    joins(&rt, &mut low, &high);
+    meets(&rt, &mut low, &high);
     low.clear();
-    assert_eq!(rt; low.size(), 0);
+    assert!(rt; low.size() == 0);
     Ok(())
+}
+
+/// Asserts what the empty set of n places tells once the last is put in, and that it is empty without the whole.
+fn takes_the_last(rt: &impl Abort, some: &mut Set, whole: &Set, n: usize) {
+    assert!(rt; 0 < n && some.len() == n && whole.len() == n);
+    some.put(n - 1, true);
+    assert!(rt; some.size() == 1 && some.first() == Some(n - 1));
+    some.remove_all(whole);
+    assert!(rt; some.is_empty());
 }
 
 /// Asserts what the whole, the empty and the last part of a ground of n places tell.
 fn fills_its_words(rt: &impl Abort, alloc: Global, n: usize) -> Result<(), Memory> {
     let whole = Set::whole(alloc, n)?;
     let mut some = whole.complement(alloc)?;
-    assert_eq!(rt; (whole.len(), some.len()), (n, n));
-    assert_eq!(rt; (whole.size(), some.size()), (n, 0));
+    assert!(rt; whole.size() == n && some.size() == 0);
     assert!(rt; some.is_empty() && some.first().is_none());
     if n > 0 {
-        some.put(n - 1, true);
-        assert_eq!(rt; (some.size(), some.first()), (1, Some(n - 1)));
-        some.remove_all(&whole);
-        assert!(rt; some.is_empty());
+        takes_the_last(rt, &mut some, &whole, n);
     }
     Ok(())
 }
+
+const COUNTS: [usize; 5] = [0, 1, 64, 65, 130];
 
 #[test]
 fn sets_of_many_words_fill_them(rt: HostRuntime) -> Result<(), Fail> {
-    for n in [0, 1, 64, 65, 130] {
-        fills_its_words(&rt, rt.alloc(), n)?;
+    for n in &COUNTS {
+        fills_its_words(&rt, rt.alloc(), *n)?;
     }
-    let mut some = Set::empty(rt.alloc(), 130)?;
-    assert_eq!(rt; some.len(), 130);
-    some.insert(64);
-    some.insert(129);
-    let part = some.part(rt.alloc(), &[63, 64, 129])?;
-    assert_eq!(rt; part.len(), 3);
-    assert!(rt; !part.contains(0) && part.contains(1) && part.contains(2));
     Ok(())
 }
 
+/// The part of a set of 130 places.
+fn part_of(rt: &impl Abort, alloc: Global, some: &Set) -> Result<Set, Memory> {
+    assert!(rt; some.len() == 130);
+    some.part(alloc, &[63, 64, 129])
+}
+
+const PLACES: [usize; 2] = [64, 129];
+
 #[test]
-fn lists_and_rows_keep_their_numbers(rt: HostRuntime) -> Result<(), Fail> {
-    let places = Places::from_slice(rt.alloc(), &[4, 1])?;
-    assert_eq!(rt; places.as_slice(), [4, 1].as_slice());
-    assert_eq!(rt; places.len(), 2);
-    let mut numbers = Numbers::from_slice(rt.alloc(), &[5, -6])?;
-    assert_eq!(rt; numbers.len(), 2);
+fn parts_of_many_words_have_their_places(rt: HostRuntime) -> Result<(), Fail> {
+    let some = set_of(&rt, rt.alloc(), 130, &PLACES)?;
+    let part = part_of(&rt, rt.alloc(), &some)?;
+    assert!(rt; part.len() == 3 && !has(&part, 0) && has(&part, 1) && has(&part, 2));
+    Ok(())
+}
+
+const TWO_PLACES: [usize; 2] = [4, 1];
+
+#[test]
+fn places_keep_their_order(rt: HostRuntime) -> Result<(), Fail> {
+    let places = Places::from_slice(rt.alloc(), &TWO_PLACES)?;
+    assert!(rt; places.as_slice() == TWO_PLACES.as_slice() && places.len() == 2);
+    Ok(())
+}
+
+const TWO_NUMBERS: [i128; 2] = [5, -6];
+
+/// Two numbers, the second of them written anew.
+fn numbers_of(rt: &impl Abort, alloc: Global) -> Result<Numbers, Memory> {
+    let mut numbers = Numbers::from_slice(alloc, &TWO_NUMBERS)?;
+    assert!(rt; numbers.len() == 2);
     numbers.as_mut_slice()[1] = 7;
-    assert_eq!(rt; numbers.as_slice(), [5, 7].as_slice());
-    let mut rows = Rows::new(rt.alloc());
+    Ok(numbers)
+}
+
+const WRITTEN: [i128; 2] = [5, 7];
+
+#[test]
+fn numbers_are_written(rt: HostRuntime) -> Result<(), Fail> {
+    let numbers = numbers_of(&rt, rt.alloc())?;
+    assert!(rt; numbers.as_slice() == WRITTEN.as_slice());
+    Ok(())
+}
+
+/// Rows, of which these numbers are the only one.
+fn rows_of(rt: &impl Abort, alloc: Global, numbers: Numbers) -> Result<Rows, Memory> {
+    let mut rows = Rows::new(alloc);
     assert!(rt; rows.is_empty());
     rows.push(numbers.into_vec())?;
-    assert_eq!(rt; rows.len(), 1);
-    assert_eq!(rt; rows.row(0), [5, 7].as_slice());
-    rows.row_mut(0)[0] = -9;
-    assert_eq!(rt; rows.row(0), [-9, 7].as_slice());
+    Ok(rows)
+}
+
+/// Whether rows have one alone, with these numbers.
+fn is_only_row(rows: &Rows, numbers: &[i128]) -> bool {
+    rows.len() == 1 && rows.row(0) == numbers
+}
+
+/// Writes the first number of the first row.
+fn write_first(rt: &impl Abort, rows: &mut Rows) {
+    assert!(rt; 0 < rows.len());
+    let row = rows.row_mut(0);
+    assert!(rt; !row.is_empty());
+    row[0] = -9;
+}
+
+const WRITTEN_AGAIN: [i128; 2] = [-9, 7];
+
+#[test]
+fn rows_keep_their_numbers(rt: HostRuntime) -> Result<(), Fail> {
+    let numbers = numbers_of(&rt, rt.alloc())?;
+    let mut rows = rows_of(&rt, rt.alloc(), numbers)?;
+    assert!(rt; is_only_row(&rows, &WRITTEN));
+    write_first(&rt, &mut rows);
+    assert!(rt; is_only_row(&rows, &WRITTEN_AGAIN));
     Ok(())
 }
 
@@ -137,18 +240,26 @@ fn steps_are_counted(rt: HostRuntime) {
     let mut steps = Steps::new();
     steps.tick();
     steps.tick();
-    assert_eq!(rt; steps.count(), 2);
+    assert!(rt; steps.count() == 2);
 }
 
-#[test]
-fn pages_take_what_there_is_room_for(rt: HostRuntime) -> Result<(), Fail> {
-    let mut page = Page::new(rt.alloc());
+/// A page with two texts, one behind the other.
+fn page_of(rt: &impl Abort, alloc: Global) -> Result<Page, Memory> {
+    let mut page = Page::new(alloc);
     page.reserve(5)?;
     page.put(b"ab");
     assert!(rt; page.spare() >= 3);
     page.put(b"cde");
-    assert_eq!(rt; page.bytes(), b"abcde".as_slice());
+    Ok(page)
+}
+
+const BOTH: &[u8] = b"abcde";
+
+#[test]
+fn pages_take_what_there_is_room_for(rt: HostRuntime) -> Result<(), Fail> {
+    let page = page_of(&rt, rt.alloc())?;
+    assert!(rt; page.bytes() == BOTH);
     let bytes = page.into_vec();
-    assert_eq!(rt; bytes.as_slice(), b"abcde".as_slice());
+    assert!(rt; bytes.as_slice() == BOTH);
     Ok(())
 }
