@@ -140,6 +140,7 @@ fn takes_the_last(rt: &impl Abort, some: &mut Set, whole: &Set, n: usize) {
 fn fills_its_words(rt: &impl Abort, alloc: Global, n: usize) -> Result<(), Memory> {
     let whole = Set::whole(alloc, n)?;
     let mut some = whole.complement(alloc)?;
+    assert!(rt; whole.len() == n && some.len() == n);
     assert!(rt; whole.size() == n && some.size() == 0);
     assert!(rt; some.is_empty() && some.first().is_none());
     if n > 0 {

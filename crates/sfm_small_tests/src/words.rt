@@ -1,5 +1,11 @@
 // Words that ask for a command, and words that are refused.
 use sfm_words::{Command, Refusal, read_command};
+use std::alloc::Global;
+
+/// Whether words ask for that command, or for none.
+fn asks_for<'a>(alloc: Global, words: &'a [&'a str], wanted: Result<Command<'a>, Refusal>) -> bool {
+    read_command(alloc, words) == wanted
+}
 
 /// Words, and the command that they ask for.
 const COMMANDS: [(&[&str], Command); 20] = [
@@ -67,7 +73,7 @@ const COMMANDS: [(&[&str], Command); 20] = [
 #[test]
 fn reads_the_words_of_a_command(rt: HostRuntime) {
     for (words, command) in &COMMANDS {
-        assert!(rt; read_command(rt.alloc(), words) == Ok(*command));
+        assert!(rt; asks_for(rt.alloc(), words, Ok(*command)));
     }
 }
 
@@ -123,6 +129,6 @@ const OTHER_WORDS: [&[&str]; 45] = [
 #[test]
 fn refuses_other_words(rt: HostRuntime) {
     for words in &OTHER_WORDS {
-        assert!(rt; read_command(rt.alloc(), words) == Err(Refusal::Usage));
+        assert!(rt; asks_for(rt.alloc(), words, Err(Refusal::Usage)));
     }
 }
