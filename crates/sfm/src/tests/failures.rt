@@ -1,5 +1,7 @@
 // Calls that fail: by the outside, by the words, and by texts that are too long.
-use crate::tests::cases::{Case, Outside, SOLVE, SOUND, solve, try_case};
+use crate::tests::cases::{
+    Case, Outside, READ_FAILED, SOLVE, SOUND, WRITE_FAILED, solve, try_case,
+};
 use std::test::Fail;
 
 const FIRST: &[u8] = b"sfm 1\nground a b\nweight a:-3 b:2\nend\n";
@@ -9,62 +11,61 @@ const FIRST_ANSWER: &[u8] =
 
 const USAGE: &[u8] = b"usage: sfm solve FILE | check FILE ANSWER | demo SEED\n";
 
+/// A right text that is solved, of which nothing fails.
+const SOLVED: Case = Case {
+    words: SOLVE,
+    first: FIRST,
+    second: b"",
+    outside: &SOUND,
+    code: 0,
+    out: FIRST_ANSWER,
+    err: b"",
+};
+
+/// The same, where reading fails.
+const UNREAD: Case = Case {
+    code: 3,
+    out: b"",
+    err: READ_FAILED,
+    ..SOLVED
+};
+
+/// Pieces of 10 bytes, and the fourth call of the shelf fails.
+const FOURTH_READ: Outside = Outside {
+    read_piece: 10,
+    failing_reads: &[4],
+    ..SOUND
+};
+
 const OUTSIDE: [Case; 8] = [
     Case {
-        words: SOLVE,
-        first: FIRST,
-        second: b"",
         outside: &Outside {
             read_piece: 1,
             write_piece: 1,
             ..SOUND
         },
-        code: 0,
-        out: FIRST_ANSWER,
-        err: b"",
+        ..SOLVED
     },
     Case {
-        words: SOLVE,
-        first: FIRST,
-        second: b"",
-        outside: &Outside {
-            read_piece: 10,
-            failing_reads: &[4],
-            ..SOUND
-        },
-        code: 3,
-        out: b"",
-        err: b"sfm: read failed\n",
+        outside: &FOURTH_READ,
+        ..UNREAD
     },
     Case {
-        words: SOLVE,
         first: b"sfm 1\nground a\ncut 1 a b\nend\n",
-        second: b"",
         outside: &Outside {
             read_piece: 3,
             ..SOUND
         },
         code: 2,
         out: b"refused 3 name\n",
-        err: b"",
+        ..SOLVED
     },
     Case {
-        words: SOLVE,
         first: b"sfm 2\nground a b\nweight a:-3 b:2\nend\n",
-        second: b"",
-        outside: &Outside {
-            read_piece: 10,
-            failing_reads: &[4],
-            ..SOUND
-        },
-        code: 3,
-        out: b"",
-        err: b"sfm: read failed\n",
+        outside: &FOURTH_READ,
+        ..UNREAD
     },
     Case {
-        words: SOLVE,
-        first: FIRST,
-        second: b"",
         outside: &Outside {
             write_piece: 10,
             failing_writes: &[3],
@@ -72,34 +73,23 @@ const OUTSIDE: [Case; 8] = [
         },
         code: 4,
         out: b"answer 1\nminimum -3\n",
-        err: b"sfm: write failed\n",
+        err: WRITE_FAILED,
+        ..SOLVED
     },
     Case {
         words: &["solve", "third"],
-        first: FIRST,
-        second: b"",
-        outside: &SOUND,
-        code: 3,
-        out: b"",
-        err: b"sfm: read failed\n",
+        ..UNREAD
     },
     Case {
         words: &["check", "first", "third"],
-        first: FIRST,
-        second: b"",
-        outside: &SOUND,
-        code: 3,
-        out: b"",
-        err: b"sfm: read failed\n",
+        ..UNREAD
     },
     Case {
         words: &["check", "first", "third"],
         first: b"sfm 2\n",
-        second: b"",
-        outside: &SOUND,
         code: 2,
         out: b"refused 1 shape\n",
-        err: b"",
+        ..SOLVED
     },
 ];
 

@@ -215,229 +215,111 @@ fn calls_that_fail(rt: HostRuntime) -> Result<(), Fail> {
     Ok(())
 }
 
-/// A right file with another text in place of the line of that number, or that text alone where the number is 0; and the
-/// verdict.
-#[derive(Clone, Copy)]
-struct Change<'a> {
-    of: &'a Worked<'a>,
-    line: usize,
-    text: &'a [u8],
-    verdict: Verdict,
-}
+/// A right file, the number of a line and the text in its place, or 0 and a text in place of all; and the line and the reason of the
+/// verdict, or none where it is valid.
+type Change = (
+    &'static Worked<'static>,
+    usize,
+    &'static [u8],
+    Option<(usize, Wrong)>,
+);
 
-/// The file that a change makes.
-fn changed(alloc: Global, change: &Change) -> Result<Vec<u8>, Fail> {
-    if change.line == 0 {
-        return Ok(Vec::from_slice(alloc, change.text)?);
-    }
+/// Lines with another text in place of the one of that number, counted from 1.
+fn with_line(alloc: Global, lines: &[&[u8]], number: usize, text: &[u8]) -> Result<Vec<u8>, Fail> {
     let mut file = Vec::new(alloc);
-    let lines = parts_of(alloc, change.of.answer, b'\n')?;
     for (i, line) in lines.iter().enumerate() {
         if i > 0 {
             file.push(b'\n')?;
         }
-        let text = if i == change.line.wrapping_sub(1) {
-            change.text
-        } else {
-            line
-        };
-        file.extend_from_slice(text)?;
+        let is_changed = i == number.wrapping_sub(1);
+        file.extend_from_slice(if is_changed { text } else { line })?;
     }
     Ok(file)
 }
 
-const fn invalid(line: usize, reason: Wrong) -> Verdict {
-    Verdict::Invalid { line, reason }
+/// The file that a change makes.
+fn changed(alloc: Global, change: &Change) -> Result<Vec<u8>, Fail> {
+    let (of, number, text, _) = *change;
+    if number == 0 {
+        return Ok(Vec::from_slice(alloc, text)?);
+    }
+    let lines = parts_of(alloc, of.answer, b'\n')?;
+    with_line(alloc, &lines, number, text)
+}
+
+/// The verdict that is so wrong at a line, or a valid one.
+fn verdict_of(wrong: Option<(usize, Wrong)>) -> Verdict {
+    match wrong {
+        Some((line, reason)) => Verdict::Invalid { line, reason },
+        None => Verdict::Valid,
+    }
 }
 
 const CHANGES: [Change; 20] = [
-    Change {
-        of: &CUT,
-        line: 8,
-        text: b"base 2 1000000000000000000000000000000 -1000000000000000000000000000000",
-        verdict: Verdict::Invalid {
-            line: 8,
-            reason: Wrong::Base,
-        },
-    },
-    Change {
-        of: &CUT,
-        line: 8,
-        text: b"base 2 1000000000000000000000000000001 -1000000000000000000000000000001",
-        verdict: Verdict::Invalid {
-            line: 8,
-            reason: Wrong::Grammar,
-        },
-    },
-    Change {
-        of: &CUT,
-        line: 8,
-        text: b"base 2 -1 1",
-        verdict: Verdict::Invalid {
-            line: 8,
-            reason: Wrong::Base,
-        },
-    },
-    Change {
-        of: &CUT,
-        line: 11,
-        text: b"base 2 9 -9",
-        verdict: Verdict::Invalid {
-            line: 11,
-            reason: Wrong::Base,
-        },
-    },
-    Change {
-        of: &CUT,
-        line: 11,
-        text: b"base 2 6 -6",
-        verdict: Verdict::Invalid {
-            line: 9,
-            reason: Wrong::Unproved,
-        },
-    },
-    Change {
-        of: &CUT,
-        line: 2,
-        text: b"minimum -1000000000000000000000000000000",
-        verdict: Verdict::Invalid {
-            line: 2,
-            reason: Wrong::Answer,
-        },
-    },
-    Change {
-        of: &CUT,
-        line: 3,
-        text: b"least b a",
-        verdict: Verdict::Invalid {
-            line: 3,
-            reason: Wrong::Grammar,
-        },
-    },
-    Change {
-        of: &CUT,
-        line: 3,
-        text: b"least a a",
-        verdict: Verdict::Invalid {
-            line: 3,
-            reason: Wrong::Grammar,
-        },
-    },
-    Change {
-        of: &CUT,
-        line: 3,
-        text: b"least z",
-        verdict: Verdict::Invalid {
-            line: 3,
-            reason: Wrong::Grammar,
-        },
-    },
-    Change {
-        of: &CUT,
-        line: 5,
-        text: b"slope -1/1000001 a b",
-        verdict: Verdict::Invalid {
-            line: 5,
-            reason: Wrong::Grammar,
-        },
-    },
-    Change {
-        of: &CUT,
-        line: 5,
-        text: b"slope -1/1000000 a b",
-        verdict: Verdict::Invalid {
-            line: 9,
-            reason: Wrong::Grammar,
-        },
-    },
-    Change {
-        of: &CUT,
-        line: 12,
-        text: b"end\nend",
-        verdict: Verdict::Invalid {
-            line: 13,
-            reason: Wrong::Grammar,
-        },
-    },
-    Change {
-        of: &CUT,
-        line: 0,
-        text: b"answer 1\n",
-        verdict: Verdict::Invalid {
-            line: 2,
-            reason: Wrong::Grammar,
-        },
-    },
-    Change {
-        of: &CUT,
-        line: 0,
-        text: b"",
-        verdict: Verdict::Invalid {
-            line: 1,
-            reason: Wrong::Grammar,
-        },
-    },
-    Change {
-        of: &THREE,
-        line: 0,
-        text: b"answer 1\nminimum -2\nleast c\ngreatest c\nslope -2/1 c\nslope 1/1 a b c\nat 0/1\nbase 1 1 1 -2\nat 1/1\nbase 1 1 1 -2\nat -2/1\nbase 1 1 1 -2\nend\n",
-        verdict: Verdict::Invalid {
-            line: 9,
-            reason: Wrong::Grammar,
-        },
-    },
-    Change {
-        of: &THREE,
-        line: 0,
-        text: b"answer 1\nminimum -2\nleast c\ngreatest c\nslope 1/1 a b c\nslope -2/1 c\nat 0/1\nbase 1 1 1 -2\nat 1/1\nbase 1 1 1 -2\nat -2/1\nbase 1 1 1 -2\nend\n",
-        verdict: Verdict::Invalid {
-            line: 5,
-            reason: Wrong::Answer,
-        },
-    },
-    Change {
-        of: &THREE,
-        line: 0,
-        text: b"answer 1\nminimum -2\nleast c\ngreatest c\nslope -2/1 c\nslope 0/1 c\nslope 1/1 a b c\nat 0/1\nbase 1 1 1 -2\nat -2/1\nbase 1 1 1 -2\nat 0/1\nbase 1 1 1 -2\nat 1/1\nbase 1 1 1 -2\nend\n",
-        verdict: Verdict::Invalid {
-            line: 6,
-            reason: Wrong::Answer,
-        },
-    },
-    Change {
-        of: &NEED,
-        line: 5,
-        text: b"block 1 b : 2",
-        verdict: Verdict::Invalid {
-            line: 5,
-            reason: Wrong::Grammar,
-        },
-    },
-    Change {
-        of: &CUT,
-        line: 8,
-        text: b"base 2 2 -2",
-        verdict: Verdict::Valid,
-    },
-    Change {
-        of: &NEED,
-        line: 1,
-        text: b"answer 1",
-        verdict: Verdict::Valid,
-    },
+    (
+        &CUT,
+        8,
+        b"base 2 1000000000000000000000000000000 -1000000000000000000000000000000",
+        Some((8, Wrong::Base)),
+    ),
+    (
+        &CUT,
+        8,
+        b"base 2 1000000000000000000000000000001 -1000000000000000000000000000001",
+        Some((8, Wrong::Grammar)),
+    ),
+    (&CUT, 8, b"base 2 -1 1", Some((8, Wrong::Base))),
+    (&CUT, 11, b"base 2 9 -9", Some((11, Wrong::Base))),
+    (&CUT, 11, b"base 2 6 -6", Some((9, Wrong::Unproved))),
+    (
+        &CUT,
+        2,
+        b"minimum -1000000000000000000000000000000",
+        Some((2, Wrong::Answer)),
+    ),
+    (&CUT, 3, b"least b a", Some((3, Wrong::Grammar))),
+    (&CUT, 3, b"least a a", Some((3, Wrong::Grammar))),
+    (&CUT, 3, b"least z", Some((3, Wrong::Grammar))),
+    (&CUT, 5, b"slope -1/1000001 a b", Some((5, Wrong::Grammar))),
+    (&CUT, 5, b"slope -1/1000000 a b", Some((9, Wrong::Grammar))),
+    (&CUT, 12, b"end\nend", Some((13, Wrong::Grammar))),
+    (&CUT, 0, b"answer 1\n", Some((2, Wrong::Grammar))),
+    (&CUT, 0, b"", Some((1, Wrong::Grammar))),
+    (
+        &THREE,
+        0,
+        b"answer 1\nminimum -2\nleast c\ngreatest c\nslope -2/1 c\nslope 1/1 a b c\nat 0/1\nbase 1 1 1 -2\nat 1/1\nbase 1 1 1 -2\nat -2/1\nbase 1 1 1 -2\nend\n",
+        Some((9, Wrong::Grammar)),
+    ),
+    (
+        &THREE,
+        0,
+        b"answer 1\nminimum -2\nleast c\ngreatest c\nslope 1/1 a b c\nslope -2/1 c\nat 0/1\nbase 1 1 1 -2\nat 1/1\nbase 1 1 1 -2\nat -2/1\nbase 1 1 1 -2\nend\n",
+        Some((5, Wrong::Answer)),
+    ),
+    (
+        &THREE,
+        0,
+        b"answer 1\nminimum -2\nleast c\ngreatest c\nslope -2/1 c\nslope 0/1 c\nslope 1/1 a b c\nat 0/1\nbase 1 1 1 -2\nat -2/1\nbase 1 1 1 -2\nat 0/1\nbase 1 1 1 -2\nat 1/1\nbase 1 1 1 -2\nend\n",
+        Some((6, Wrong::Answer)),
+    ),
+    (&NEED, 5, b"block 1 b : 2", Some((5, Wrong::Grammar))),
+    (&CUT, 8, b"base 2 2 -2", None),
+    (&NEED, 1, b"answer 1", None),
 ];
+
+/// Whether the file that a change makes has its verdict.
+fn has_verdict(alloc: Global, change: &Change) -> Result<bool, Fail> {
+    let instance = read_instance(alloc, change.0.text)?;
+    let file = changed(alloc, change)?;
+    let verdict = judge(alloc, &instance, file.as_slice())?;
+    Ok(verdict == verdict_of(change.3))
+}
 
 #[test]
 fn answers_that_were_tampered_with(rt: HostRuntime) -> Result<(), Fail> {
-    let alloc = rt.alloc();
-    for (number, row) in CHANGES.iter().enumerate() {
-        let instance = read_instance(alloc, row.of.text)?;
-        let file = changed(alloc, row)?;
-        assert_eq!(rt;
-            judge(alloc, &instance, file.as_slice())?,
-            row.verdict,
-            "row {number}"
-        );
+    for (number, change) in CHANGES.iter().enumerate() {
+        assert!(rt; has_verdict(rt.alloc(), change)?, "row {number}");
     }
     Ok(())
 }
@@ -448,7 +330,8 @@ fn answers_that_end_too_soon(rt: HostRuntime) -> Result<(), Fail> {
     let instance = read_instance(alloc, NEED.text)?;
     for end in 0..NEED.answer.len() {
         let text = &NEED.answer[..end];
-        let verdict = invalid(parts_of(alloc, text, b'\n')?.len(), Wrong::Grammar);
+        let line = parts_of(alloc, text, b'\n')?.len();
+        let verdict = verdict_of(Some((line, Wrong::Grammar)));
         assert_eq!(rt;
             judge(alloc, &instance, text)?,
             verdict,
@@ -526,7 +409,7 @@ fn a_file_longer_than_the_limit(rt: HostRuntime) -> Result<(), Fail> {
     let file = vec![in alloc; b'a'; 268_435_457]?;
     assert_eq!(rt;
         judge(alloc, &instance, file.as_slice())?,
-        invalid(0, Wrong::Long)
+        verdict_of(Some((0, Wrong::Long)))
     );
     Ok(())
 }
