@@ -26,6 +26,7 @@ pub mod KeptTokens
 pub mod SlotCuts
 pub mod Shaped
 pub mod ReadLines
+pub mod SplitLines
 pub mod TooMuch
 pub mod WordLines
 pub mod Orders

@@ -1,22 +1,19 @@
 -- The first reason of a long line of a rank, from what passes over its tokens tell.
 use Rattle.std.proofs.Common.{◌≡◌, ◌≢◌, Bool, true, false, bytes_eq, MatchBool, inl, inr, ◌<◌, ℕ, List, [], ◌∷◌, ◌++◌, length, get_or, codes, refl, sym, ap, ◌∙◌, arith}
-use Rattle.std.specs.List.{All, Any}
+use Rattle.std.specs.List.{Any}
 use Rattle.std.proofs.lemmas.Bool.{false≢true}
 use Rattle.std.proofs.lemmas.Slice.Eq.{bytes_eq-Decides}
 use Rattle.std.proofs.lemmas.List.Elements.{All-cons, All-nil}
-use Rattle.sfm_kind.specs.Names.{AreElementNames}
 use Rattle.sfm_kind.specs.Instance.{InstanceData}
-use Rattle.sfm_text.specs.declared.reason.Reason.TheVariants.{Shape, Number, Name, Twice}
-use Rattle.sfm_text.specs.declared.token_test.TokenTest.TheVariants.{Element}
+use Rattle.sfm_text.specs.declared.reason.Reason.TheVariants.{Shape, Number}
 use Rattle.sfm_text.specs.declared.word.RankKind.TheVariants.{NoRank, UniformRank}
 use Rattle.sfm_text.specs.declared.word.TermWord.TheVariants.{RankWord}
 use Rattle.sfm_text.specs.Parts.{LineParts, IsMark, AreUnmarked, IsCutAtColon, IsUniformLine, IsRankLine}
-use Rattle.sfm_text.specs.TermLines.{IsElement}
-use Rattle.sfm_text.specs.Passes.{IsNumberOf, Holds, IsReasonOf, IsRankNamed}
+use Rattle.sfm_text.specs.Passes.{IsNumberOf, IsReasonOf, HasTooMany, IsRankNamed}
 use Rattle.sfm_text.proofs.GroupCuts.{group_tokens}
 use Rattle.sfm_text.proofs.Colons.{none-any}
-use Rattle.sfm_text.proofs.LongReasons.{AreNumbers, long-shape, long-number, long-name, long-twice}
-use Rattle.sfm_text.proofs.Passed.{any-here, any-behind, all-matched}
+use Rattle.sfm_text.proofs.LongReasons.{long-shape, long-number}
+use Rattle.sfm_text.proofs.Passed.{any-here, any-behind}
 
 -- whether a token equals a word
 pub word-by : (token word : List ℕ) (r : Bool) → r ≡ bytes_eq token word → MatchBool r (token ≡ word) (token ≢ word)
@@ -100,12 +97,14 @@ module _ (i : InstanceData) (number cap colon : List ℕ) (elements more : List 
     pub uniform-second : (IsNumberOf RankWord cap → ⊥) → IsReasonOf i RankWord (number ∷ codes "uniform" ∷ more) Number
     uniform-second none = long-number i RankWord (number ∷ codes "uniform" ∷ more) uniform-parts uniform-line (any-behind (λ text. IsNumberOf RankWord text → ⊥) number (cap ∷ []) _ refl (any-here (λ text. IsNumberOf RankWord text → ⊥) cap [] _ refl none))
 
-    module _ (good : IsNumberOf RankWord number) (fits : IsNumberOf RankWord cap) where
-      uniform-values : AreNumbers RankWord (number ∷ cap ∷ [])
-      uniform-values = (good.0 ∷ fits.0 ∷ [], (good.1, (fits.1, tt)))
-
-      pub uniform-name : Any (λ token. Holds i.names Element token → ⊥) elements → IsReasonOf i RankWord (number ∷ codes "uniform" ∷ more) Name
-      uniform-name any = long-name i RankWord (number ∷ codes "uniform" ∷ more) uniform-parts uniform-line uniform-values any
-
-      pub uniform-twice : AreElementNames i.names → All (Holds i.names Element) elements → IsReasonOf i RankWord (number ∷ codes "uniform" ∷ more) Twice
-      uniform-twice named known = long-twice i RankWord (number ∷ codes "uniform" ∷ more) uniform-parts uniform-line uniform-values named (all-matched (IsElement i.names) elements known) refl (All-nil _) (omega (arith, long, ap length is))
+    pub uniform-many : IsNumberOf RankWord number → IsNumberOf RankWord cap → HasTooMany RankWord (number ∷ codes "uniform" ∷ more) elements
+    uniform-many good fits = record {
+      parts = uniform-parts;
+      shape = uniform-line;
+      numbers = good.0 ∷ fits.0 ∷ [];
+      are_numbers = (good.1, (fits.1, tt));
+      elements_are = refl;
+      no_groups = refl;
+      no_labels = refl;
+      many = omega (arith, long, ap length is);
+    }

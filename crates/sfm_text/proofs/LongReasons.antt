@@ -10,13 +10,13 @@ use Rattle.sfm_kind.specs.Instance.{InstanceData}
 use Rattle.sfm_text.specs.declared.reason.Reason.TheVariants.{Shape, Number, Name, Twice}
 use Rattle.sfm_text.specs.declared.token_test.TokenTest.TheVariants.{Pair, PairNumber, PairElement, Value, Element}
 use Rattle.sfm_text.specs.declared.word.TermWord.{TermWord}
-use Rattle.sfm_text.specs.declared.word.TermWord.TheVariants.{WeightWord, CoverWord, ConcaveWord, CutWord, NeedWord}
+use Rattle.sfm_text.specs.declared.word.TermWord.TheVariants.{WeightWord, CoverWord, ConcaveWord, CutWord, NeedWord, TableWord}
 use Rattle.sfm_text.specs.Parts.{LineParts, plain_parts, IsMark, AreUnmarked, IsPairToken, IsWeightLine, IsCutAtColon, IsColonLine}
-use Rattle.sfm_text.specs.CutParts.{IsConcaveCount, IsTableCount}
+use Rattle.sfm_text.specs.CutParts.{AreCounts}
 use Rattle.sfm_text.specs.Words.{lowest_of, HasParts}
 use Rattle.sfm_text.specs.TermLines.{IsNumberFrom, IsElement, StandsTwice}
 use Rattle.sfm_text.specs.Reading.{HasStranger, HasWrongLabel, HasSlotTwice}
-use Rattle.sfm_text.specs.Passes.{IsNumberOf, IsKnown, Holds, IsReasonOf}
+use Rattle.sfm_text.specs.Passes.{IsNumberOf, IsKnown, Holds, IsReasonOf, HasTooMany}
 use Rattle.sfm_text.proofs.Colons.{none-any, colon-same}
 use Rattle.sfm_text.proofs.Matches.{AllZip-at, length-AllZip}
 use Rattle.sfm_text.proofs.LongNames.{unknown-new, many-twice}
@@ -63,6 +63,14 @@ module _ (i : InstanceData) (word : TermWord) (rest : List (List ℕ)) where
       pub long-member : AreElementNames i.names → AreKnown i.names parts.elements → All (λ names. All (Contains parts.elements) names) parts.groups → All (λ texts. All IsName texts) parts.labels → Any (λ names. StandsTwice names) parts.groups → IsReasonOf i word rest Twice
       long-member named (places, known) members labels twice = λ line is. at-member-twice i word rest line is parts shape numbers.0 numbers.1 places named known members labels twice
 
+-- a line with numbers and too many elements
+module _ (i : InstanceData) (word : TermWord) (rest elements : List (List ℕ)) (h : HasTooMany word rest elements) where
+  pub too-many-name : Any (λ token. Holds i.names Element token → ⊥) elements → IsReasonOf i word rest Name
+  too-many-name any = long-name i word rest h.parts h.shape (h.numbers, h.are_numbers) (rw h.elements_are any)
+
+  pub too-many-twice : AreElementNames i.names → All (Holds i.names Element) elements → IsReasonOf i word rest Twice
+  too-many-twice named known = long-twice i word rest h.parts h.shape (h.numbers, h.are_numbers) named (rw h.elements_are (all-matched (IsElement i.names) elements known)) h.no_groups (rw h.no_labels (All-nil _)) (rw h.elements_are h.many)
+
 -- ---- lines with few tokens
 
 pub no-cut : (tokens : List (List ℕ)) → 1024 < length tokens → (parts : LineParts) → HasParts CutWord tokens parts → ⊥
@@ -71,7 +79,7 @@ no-cut tokens long parts h = omega (arith, long, h.0)
 pub no-need : (tokens : List (List ℕ)) → 1024 < length tokens → (parts : LineParts) → HasParts NeedWord tokens parts → ⊥
 no-need tokens long parts h = omega (arith, long, h.0)
 
-pub no-table : (tokens : List (List ℕ)) → 1024 < length tokens → (parts : LineParts) → IsColonLine IsTableCount tokens parts → ⊥
+pub no-table : (tokens : List (List ℕ)) → 1024 < length tokens → (parts : LineParts) → IsColonLine (AreCounts TableWord) tokens parts → ⊥
 no-table tokens long parts h =
     let most : 2 ^ length h.1 ≤ 2 ^ 8 = pow_mono h.3.1 in
     omega (arith, long, ap length h.2.cut, length-append h.0 (codes ":" ∷ h.1), h.3.1, h.3.2, most)
@@ -119,19 +127,21 @@ module _ (i : InstanceData) (tokens : List (List ℕ)) (long : 1024 < length tok
   pub cover-number : (IsNumberOf CoverWord number → ⊥) → IsReasonOf i CoverWord tokens Number
   cover-number none = long-number i CoverWord tokens (plain_parts (number ∷ []) elements) cover-line (any-here (λ text. IsNumberOf CoverWord text → ⊥) number [] _ refl none)
 
-  module _ (good : IsNumberOf CoverWord number) where
-    cover-values : AreNumbers CoverWord (number ∷ [])
-    cover-values = (good.0 ∷ [], (good.1, tt))
-
-    pub cover-name : Any (λ token. Holds i.names Element token → ⊥) elements → IsReasonOf i CoverWord tokens Name
-    cover-name any = long-name i CoverWord tokens (plain_parts (number ∷ []) elements) cover-line cover-values any
-
-    pub cover-twice : AreElementNames i.names → All (Holds i.names Element) elements → IsReasonOf i CoverWord tokens Twice
-    cover-twice named known = long-twice i CoverWord tokens (plain_parts (number ∷ []) elements) cover-line cover-values named (all-matched (IsElement i.names) elements known) refl (All-nil _) (omega (arith, long, ap length cut))
+  pub cover-many : IsNumberOf CoverWord number → HasTooMany CoverWord tokens elements
+  cover-many good = record {
+    parts = plain_parts (number ∷ []) elements;
+    shape = cover-line;
+    numbers = good.0 ∷ [];
+    are_numbers = (good.1, tt);
+    elements_are = refl;
+    no_groups = refl;
+    no_labels = refl;
+    many = omega (arith, long, ap length cut);
+  }
 
 -- ---- a concave function
 
-pub no-concave : (tokens before behind : List (List ℕ)) → IsCutAtColon tokens before behind → (IsConcaveCount (length before) (length behind) → ⊥) → (parts : LineParts) → IsColonLine IsConcaveCount tokens parts → ⊥
+pub no-concave : (tokens before behind : List (List ℕ)) → IsCutAtColon tokens before behind → (AreCounts ConcaveWord (length before) (length behind) → ⊥) → (parts : LineParts) → IsColonLine (AreCounts ConcaveWord) tokens parts → ⊥
 no-concave tokens before behind cut none parts h =
     let same = colon-same tokens h.0 h.1 before behind h.2 cut in
     none (rw (same.0, same.1) at h.3)
@@ -140,8 +150,8 @@ front-is : {X : Type 0} (before behind : List X) → take (length before) (befor
 front-is [] behind = refl
 front-is (x ∷ before) behind = ap (λ l. x ∷ l) (front-is before behind)
 
-module _ (i : InstanceData) (tokens : List (List ℕ)) (long : 1024 < length tokens) (before behind : List (List ℕ)) (cut : IsCutAtColon tokens before behind) (count : IsConcaveCount (length before) (length behind)) where
-  concave-line : IsColonLine IsConcaveCount tokens (plain_parts before behind)
+module _ (i : InstanceData) (tokens : List (List ℕ)) (long : 1024 < length tokens) (before behind : List (List ℕ)) (cut : IsCutAtColon tokens before behind) (count : AreCounts ConcaveWord (length before) (length behind)) where
+  concave-line : IsColonLine (AreCounts ConcaveWord) tokens (plain_parts before behind)
   concave-line = (before, behind, cut, count, refl)
 
   concave-front : take (length before) tokens ≡ before
@@ -150,13 +160,16 @@ module _ (i : InstanceData) (tokens : List (List ℕ)) (long : 1024 < length tok
   pub concave-number : Any (λ token. Holds i.names Value token → ⊥) (take (length before) tokens) → IsReasonOf i ConcaveWord tokens Number
   concave-number any = long-number i ConcaveWord tokens (plain_parts before behind) concave-line (rw concave-front at any)
 
-  module _ (numbers : All (Holds i.names Value) (take (length before) tokens)) where
-    concave-values : AreNumbers ConcaveWord before
-    concave-values = all-matched (IsNumberFrom (lowest_of ConcaveWord)) before (rw concave-front at numbers)
-
-    pub concave-name : Any (λ token. Holds i.names Element token → ⊥) behind → IsReasonOf i ConcaveWord tokens Name
-    concave-name any = long-name i ConcaveWord tokens (plain_parts before behind) concave-line concave-values any
-
-    pub concave-twice : AreElementNames i.names → All (Holds i.names Element) behind → IsReasonOf i ConcaveWord tokens Twice
-    concave-twice named known = long-twice i ConcaveWord tokens (plain_parts before behind) concave-line concave-values named (all-matched (IsElement i.names) behind known) refl (All-nil _)
-        (omega (arith, long, ap length (cut.cut), length-append before (codes ":" ∷ behind), count.1))
+  pub concave-many : All (Holds i.names Value) (take (length before) tokens) → HasTooMany ConcaveWord tokens behind
+  concave-many good =
+      let values : AreNumbers ConcaveWord before = all-matched (IsNumberFrom (lowest_of ConcaveWord)) before (rw concave-front at good) in
+      record {
+        parts = plain_parts before behind;
+        shape = concave-line;
+        numbers = values.0;
+        are_numbers = values.1;
+        elements_are = refl;
+        no_groups = refl;
+        no_labels = refl;
+        many = omega (arith, long, ap length (cut.cut), length-append before (codes ":" ∷ behind), count.1);
+      }

@@ -1,28 +1,23 @@
 -- What has been read of a line makes the term of its word.
-use Rattle.std.proofs.Common.{◌≡◌, ℕ, ◌+◌, ◌-◌, ◌<◌, ◌≤◌, ◌^◌, List, [], ◌∷◌, length, get_or, map, take, drop, min, codes, Bor, ℤ, pos, ◌≤ℤ◌, to_z, of_z, refl, sym, ap, subst, ◌∙◌, arith}
+use Rattle.std.proofs.Common.{◌≡◌, ℕ, ◌+◌, ◌-◌, ◌<◌, ◌≤◌, ◌^◌, List, [], ◌∷◌, length, get_or, min, codes, ℤ, pos, ◌≤ℤ◌, to_z, of_z, refl, sym, ap, subst, inl, inr, ◌∙◌, arith}
 use Rattle.std.specs.Int.{w128}
 use Rattle.std.proofs.lemmas.Int.{ints}
 use Rattle.std.specs.List.{All}
-use Rattle.std.proofs.lemmas.List.{length-map, length-take, length-drop, take-map, drop-map, take_rest}
+use Rattle.std.proofs.lemmas.List.{length-map, length-take, length-drop}
 use Rattle.std.proofs.lemmas.List.Elements.{All-map}
-use Rattle.sfm_spec.specs.Bounds.{IsAtMost, AreElements}
-use Rattle.sfm_text.specs.Parts.{LineParts, plain_parts, IsPairToken, IsSplitAt, IsUniformLine, IsLaminarLine, IsLabelToken, IsLabelledLine}
-use Rattle.sfm_text.specs.CutParts.{IsTableCount}
-use Rattle.sfm_text.specs.Words.{lowest_of}
+use Rattle.sfm_spec.specs.Bounds.{IsAtMost}
+use Rattle.sfm_text.specs.Parts.{LineParts, IsPairToken, IsSplitAt, IsColonLine, IsRankLine, IsUniformLine, IsLaminarLine, IsLabelToken, IsLabelledLine}
+use Rattle.sfm_text.specs.CutParts.{AreCounts}
+use Rattle.sfm_text.specs.Words.{lowest_of, HasParts}
 use Rattle.sfm_text.specs.TermLines.{AreRead, IsNumberFrom}
+use Rattle.sfm_text.specs.ReadParts.{AreGiven}
 use Rattle.sfm_text.specs.declared.word.RankKind.{RankKind}
-use Rattle.sfm_text.specs.declared.word.RankKind.TheVariants.{NoRank, UniformRank, LaminarRank, GraphicRank}
+use Rattle.sfm_text.specs.declared.word.RankKind.TheVariants.{UniformRank, LaminarRank, GraphicRank, TransversalRank}
 use Rattle.sfm_text.specs.declared.word.TermWord.{TermWord}
 use Rattle.sfm_text.specs.declared.word.TermWord.TheVariants.{WeightWord, CutWord, NeedWord, CoverWord, TableWord, ConcaveWord, RankWord}
 use Rattle.sfm_text.proofs.Matches.{length-AllZip, All-AllZip}
 use Rattle.sfm_text.proofs.Numbers.{small-number}
 use Rattle.sfm_text.proofs.Ranks.{IsLineOfRank, line-of-rank}
-
--- the parts that are cut off before and behind a place
-pub split-parts : (tokens : List (Bor (List ℕ))) (count : ℕ) (numbers elements : List (Bor (List ℕ))) → numbers ≡ take count tokens → elements ≡ take (length tokens - count) (drop count tokens) → plain_parts (map (λ t. t.now) numbers) (map (λ t. t.now) elements) ≡ plain_parts (take count (map (λ t. t.now) tokens)) (drop count (map (λ t. t.now) tokens))
-split-parts tokens count numbers elements n e =
-    let now : Bor (List ℕ) → List ℕ = λ t. t.now in
-    rw (n, e, take_rest tokens count, take-map now count tokens, drop-map now count tokens) refl
 
 -- a list of one and a list of two
 one-value : (values : List ℤ) (d : ℤ) → length values ≡ 1 → get_or values 0 d ∷ [] ≡ values
@@ -49,73 +44,67 @@ split-numbers count tokens parts h = ap (λ (p : LineParts). length p.numbers) h
 split-elements : (count : ℕ) (tokens : List (List ℕ)) (parts : LineParts) → IsSplitAt count tokens parts → length parts.elements ≡ length tokens - count
 split-elements count tokens parts h = ap (λ (p : LineParts). length p.elements) h.parts_are ∙ length-drop count tokens
 
-module _ (word : TermWord) (parts : LineParts) (values : List ℤ) (places : List ℕ) (h : AreRead word parts values places) where
-  values-count : length values ≡ length parts.numbers
-  values-count = length-AllZip (IsNumberFrom (lowest_of word)) parts.numbers values h.numbers
+labelled-count : (rank : RankKind) (word : List ℕ) (tokens : List (List ℕ)) (parts : LineParts) → IsLabelledLine rank word tokens parts → 1 ≤ length parts.elements
+labelled-count rank word tokens parts h =
+    let elements : length parts.elements ≡ length h.entries = ap (λ (p : LineParts). length p.elements) h.parts_are ∙ length-map h.entries (λ (e : List ℕ × List (List ℕ)). e.0) in
+    omega (arith, h.some, elements, length-AllZip (IsLabelToken rank) h.behind h.entries h.each)
 
-  -- the numbers are small
-  pub read-small : All (IsAtMost (10 ^ 12)) values
-  read-small = All-AllZip (IsNumberFrom (lowest_of word)) (IsAtMost (10 ^ 12)) (small-number word) parts.numbers values h.numbers
+rank-count : (tokens : List (List ℕ)) (parts : LineParts) → IsRankLine tokens parts → 1 ≤ length parts.elements
+rank-count tokens parts (inl h) = omega (arith, h.some, ap (λ (p : LineParts). length p.elements) h.parts_are)
+rank-count tokens parts (inr (inl h)) = omega (arith, h.some, ap (λ (p : LineParts). length p.elements) h.parts_are)
+rank-count tokens parts (inr (inr (inl h))) = labelled-count GraphicRank (codes "graphic") tokens parts h
+rank-count tokens parts (inr (inr (inr h))) = labelled-count TransversalRank (codes "transversal") tokens parts h
 
-  -- and not negative, where none may be
-  pub read-low : lowest_of word ≡ pos 0 → All (λ value. pos 0 ≤ℤ value) values
-  read-low zero = All-AllZip (IsNumberFrom (lowest_of word)) (λ value. pos 0 ≤ℤ value) (λ text value n. omega (arith, ints, zero, n.1)) parts.numbers values h.numbers
+colon-counts : (AreSuch : ℕ → ℕ → Type 0) (tokens : List (List ℕ)) (parts : LineParts) → IsColonLine AreSuch tokens parts → AreSuch (length parts.numbers) (length parts.elements)
+colon-counts AreSuch tokens parts h =
+    let numbers : length parts.numbers ≡ length h.0 = ap (λ (p : LineParts). length p.numbers) h.4 in
+    let elements : length parts.elements ≡ length h.1 = ap (λ (p : LineParts). length p.elements) h.4 in
+    rw (numbers, elements) h.3
 
-  read-elements : 1 ≤ length places → AreElements places
-  read-elements some = record { some = omega (arith, some); placed = h.placed }
+line-counts : (word : TermWord) (tokens : List (List ℕ)) (parts : LineParts) → HasParts word tokens parts → AreCounts word (length parts.numbers) (length parts.elements)
+line-counts WeightWord tokens parts h =
+    let numbers : length parts.numbers ≡ length h.pairs = ap (λ (p : LineParts). length p.numbers) h.parts_are ∙ length-map h.pairs (λ (p : List ℕ × List ℕ). p.1) in
+    let elements : length parts.elements ≡ length h.pairs = ap (λ (p : LineParts). length p.elements) h.parts_are ∙ length-map h.pairs (λ (p : List ℕ × List ℕ). p.0) in
+    (omega (arith, h.some, elements, length-AllZip IsPairToken tokens h.pairs h.each), numbers ∙ sym elements)
+line-counts CutWord tokens parts h = (omega (arith, split-numbers 1 tokens parts h.1, h.0), omega (arith, split-elements 1 tokens parts h.1, h.0))
+line-counts NeedWord tokens parts h = (omega (arith, split-numbers 0 tokens parts h.1), omega (arith, split-elements 0 tokens parts h.1, h.0))
+line-counts CoverWord tokens parts h = (omega (arith, split-elements 1 tokens parts h.1, h.0), omega (arith, split-numbers 1 tokens parts h.1, h.0))
+line-counts TableWord tokens parts h = colon-counts (AreCounts TableWord) tokens parts h
+line-counts ConcaveWord tokens parts h = colon-counts (AreCounts ConcaveWord) tokens parts h
+line-counts RankWord tokens parts h = rank-count tokens parts h
 
-pub weight-count : (parts : LineParts) (values : List ℤ) (places : List ℕ) → AreRead WeightWord parts values places → length places ≡ length values
-weight-count parts values places h =
-    let each = h.shape.pairs in
-    omega (arith, h.elements, values-count WeightWord parts values places h, ap (λ (p : LineParts). length p.elements) h.shape.parts_are, ap (λ (p : LineParts). length p.numbers) h.shape.parts_are, length-map each (λ (p : List ℕ × List ℕ). p.0), length-map each (λ (p : List ℕ × List ℕ). p.1))
+-- each line has an element
+some-element : (word : TermWord) (numbers elements : ℕ) → AreCounts word numbers elements → 1 ≤ elements
+some-element WeightWord numbers elements h = h.0
+some-element CutWord numbers elements h = omega (arith, h.1)
+some-element NeedWord numbers elements h = omega (arith, h.1)
+some-element CoverWord numbers elements h = h.0
+some-element TableWord numbers elements h = h.0
+some-element ConcaveWord numbers elements h = h.0
+some-element RankWord numbers elements h = h
 
-pub weight-elements : (parts : LineParts) (values : List ℤ) (places : List ℕ) → AreRead WeightWord parts values places → AreElements places
-weight-elements parts values places h =
-    let each = h.shape.pairs in
-    read-elements WeightWord parts values places h (omega (arith, h.elements, h.shape.some, ap (λ (p : LineParts). length p.elements) h.shape.parts_are, length-map each (λ (p : List ℕ × List ℕ). p.0), length-AllZip IsPairToken h.tokens each h.shape.each))
+values-count : (word : TermWord) (parts : LineParts) (values : List ℤ) (places : List ℕ) → AreRead word parts values places → length values ≡ length parts.numbers
+values-count word parts values places h = length-AllZip (IsNumberFrom (lowest_of word)) parts.numbers values h.numbers
 
-pub cut-number : (parts : LineParts) (values : List ℤ) (places : List ℕ) → AreRead CutWord parts values places → length values ≡ 1
-cut-number parts values places h = omega (arith, values-count CutWord parts values places h, split-numbers 1 h.tokens parts h.shape.1, h.shape.0)
-
-pub cut-elements : (parts : LineParts) (values : List ℤ) (places : List ℕ) → AreRead CutWord parts values places → length places ≡ 2
-cut-elements parts values places h = omega (arith, h.elements, split-elements 1 h.tokens parts h.shape.1, h.shape.0)
-
-pub need-elements : (parts : LineParts) (values : List ℤ) (places : List ℕ) → AreRead NeedWord parts values places → length places ≡ 2
-need-elements parts values places h = omega (arith, h.elements, split-elements 0 h.tokens parts h.shape.1, h.shape.0)
-
-pub cover-number : (parts : LineParts) (values : List ℤ) (places : List ℕ) → AreRead CoverWord parts values places → length values ≡ 1
-cover-number parts values places h = omega (arith, values-count CoverWord parts values places h, split-numbers 1 h.tokens parts h.shape.1, h.shape.0)
-
-pub cover-elements : (parts : LineParts) (values : List ℤ) (places : List ℕ) → AreRead CoverWord parts values places → AreElements places
-cover-elements parts values places h = read-elements CoverWord parts values places h (omega (arith, h.elements, split-elements 1 h.tokens parts h.shape.1, h.shape.0))
-
-pub table-count : (parts : LineParts) (values : List ℤ) (places : List ℕ) → AreRead TableWord parts values places → IsTableCount (length values) (length places)
-table-count parts values places h =
-    let shape = h.shape in
-    let numbers : length values ≡ length shape.0 = values-count TableWord parts values places h ∙ ap (λ (p : LineParts). length p.numbers) shape.4 in
-    let elements : length places ≡ length shape.1 = h.elements ∙ ap (λ (p : LineParts). length p.elements) shape.4 in
-    rw (numbers, elements) shape.3
-
-pub concave-count : (parts : LineParts) (values : List ℤ) (places : List ℕ) → AreRead ConcaveWord parts values places → length values ≡ length places
-concave-count parts values places h =
-    omega (arith, values-count ConcaveWord parts values places h, h.elements, h.shape.3.1, ap (λ (p : LineParts). length p.numbers) h.shape.4, ap (λ (p : LineParts). length p.elements) h.shape.4)
-
-pub concave-elements : (parts : LineParts) (values : List ℤ) (places : List ℕ) → AreRead ConcaveWord parts values places → AreElements places
-concave-elements parts values places h = read-elements ConcaveWord parts values places h (omega (arith, h.elements, h.shape.3.0, ap (λ (p : LineParts). length p.elements) h.shape.4))
+-- what has been read of a line is what its term takes
+pub given : (word : TermWord) (parts : LineParts) (values : List ℤ) (places : List ℕ) → AreRead word parts values places → AreGiven word values places
+given word parts values places h =
+    let counts : AreCounts word (length values) (length places) = rw (values-count word parts values places h, h.elements) (line-counts word h.tokens parts h.shape) in
+    let some = some-element word (length values) (length places) counts in
+    record {
+      counts = counts;
+      elements = record { some = omega (arith, some); placed = h.placed };
+      low = All-AllZip (IsNumberFrom (lowest_of word)) (λ value. lowest_of word ≤ℤ value) (λ text value n. n.1) parts.numbers values h.numbers;
+      small = All-AllZip (IsNumberFrom (lowest_of word)) (IsAtMost (10 ^ 12)) (small-number word) parts.numbers values h.numbers;
+    }
 
 module _ (parts : LineParts) (values : List ℤ) (places : List ℕ) (h : AreRead RankWord parts values places) where
-  pub rank-some : parts.rank ≡ NoRank → ⊥
-  rank-some is = subst (λ (r : RankKind). IsLineOfRank r h.tokens parts) is (line-of-rank h.tokens parts h.shape)
-
   module _ (is : parts.rank ≡ UniformRank) where
     as-uniform : IsUniformLine h.tokens parts
     as-uniform = subst (λ (r : RankKind). IsLineOfRank r h.tokens parts) is (line-of-rank h.tokens parts h.shape)
 
     pub uniform-two : length values ≡ 2
     uniform-two = values-count RankWord parts values places h ∙ ap (λ (p : LineParts). length p.numbers) as-uniform.parts_are
-
-    pub uniform-elements : AreElements places
-    uniform-elements = read-elements RankWord parts values places h (omega (arith, h.elements, as-uniform.some, ap (λ (p : LineParts). length p.elements) as-uniform.parts_are))
 
   module _ (is : parts.rank ≡ LaminarRank) where
     as-laminar : IsLaminarLine h.tokens parts
@@ -125,9 +114,6 @@ module _ (parts : LineParts) (values : List ℤ) (places : List ℕ) (h : AreRea
     laminar-each =
         let l = as-laminar in
         omega (arith, values-count RankWord parts values places h, ap (λ (p : LineParts). length p.numbers) l.parts_are, ap (λ (p : LineParts). length p.groups) l.parts_are, length-map l.groups (λ (g : List ℕ × List (List ℕ)). g.0), length-map l.groups (λ (g : List ℕ × List (List ℕ)). g.1))
-
-    pub laminar-elements : AreElements places
-    laminar-elements = read-elements RankWord parts values places h (omega (arith, h.elements, as-laminar.some, ap (λ (p : LineParts). length p.elements) as-laminar.parts_are))
 
   -- what has been read of a line with labels
   module _ (rank : RankKind) (word : List ℕ) (line : IsLabelledLine rank word h.tokens parts) where
@@ -140,9 +126,6 @@ module _ (parts : LineParts) (values : List ℤ) (places : List ℕ) (h : AreRea
     labelled-each : length parts.labels ≡ length places
     labelled-each = ap (λ (p : LineParts). length p.labels) line.parts_are ∙ (length-map line.entries (λ (e : List ℕ × List (List ℕ)). e.1) ∙ sym entries-count)
 
-    labelled-elements : AreElements places
-    labelled-elements = read-elements RankWord parts values places h (omega (arith, entries-count, line.some, length-AllZip (IsLabelToken rank) line.behind line.entries line.each))
-
   module _ (is : parts.rank ≡ GraphicRank) where
     as-graphic : IsLabelledLine GraphicRank (codes "graphic") h.tokens parts
     as-graphic = subst (λ (r : RankKind). IsLineOfRank r h.tokens parts) is (line-of-rank h.tokens parts h.shape)
@@ -152,9 +135,6 @@ module _ (parts : LineParts) (values : List ℤ) (places : List ℕ) (h : AreRea
 
     pub graphic-each : length parts.labels ≡ length places
     graphic-each = labelled-each GraphicRank (codes "graphic") as-graphic
-
-    pub graphic-elements : AreElements places
-    graphic-elements = labelled-elements GraphicRank (codes "graphic") as-graphic
 
     -- an edge has two ends
     pub graphic-two : All (λ texts. length texts ≡ 2) parts.labels

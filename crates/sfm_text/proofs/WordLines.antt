@@ -1,7 +1,7 @@
 -- A line has one word and one list of parts.
 use Rattle.std.proofs.Common.{◌≡◌, ℕ, List, ◌∷◌, get_or, map, codes, nat_eq, if◌then◌else◌, refl, sym, ap, ◌∙◌, arith}
 use Rattle.sfm_text.specs.Parts.{LineParts, plain_parts, IsPairToken, IsWeightLine, IsSplitAt, IsColonLine}
-use Rattle.sfm_text.specs.CutParts.{IsTableCount, IsConcaveCount}
+use Rattle.sfm_text.specs.CutParts.{AreCounts}
 use Rattle.sfm_text.specs.Words.{HasParts, word_text}
 use Rattle.sfm_text.specs.TermLines.{IsShaped}
 use Rattle.sfm_text.specs.Reading.{HasTermLine}
@@ -51,8 +51,8 @@ parts-same WeightWord tokens p q h g = weight-same tokens p q h g
 parts-same CutWord tokens p q h g = split-same 1 tokens p q h.1 g.1
 parts-same NeedWord tokens p q h g = split-same 0 tokens p q h.1 g.1
 parts-same CoverWord tokens p q h g = split-same 1 tokens p q h.1 g.1
-parts-same TableWord tokens p q h g = colon_line-same IsTableCount tokens p q h g
-parts-same ConcaveWord tokens p q h g = colon_line-same IsConcaveCount tokens p q h g
+parts-same TableWord tokens p q h g = colon_line-same (AreCounts TableWord) tokens p q h g
+parts-same ConcaveWord tokens p q h g = colon_line-same (AreCounts ConcaveWord) tokens p q h g
 parts-same RankWord tokens p q h g = rank-same tokens p q h g
 
 -- so what holds of the parts of a line holds of these

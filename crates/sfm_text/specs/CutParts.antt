@@ -1,10 +1,12 @@
 -- How the code cuts the tokens of a line, told in the order of its steps: at the first byte or the first colon, between semicolons, and
 -- one element with labels after the other; and what it then makes of the pieces.
-use Rattle.std.specs.Prelude.{◌≡◌, ◌≢◌, ℕ, ◌<◌, ◌≤◌, ◌^◌, take, slice_index, slice_get, Some, Bool, List, [], ◌∷◌, length, map, codes, bytes_eq}
+use Rattle.std.specs.Prelude.{◌≡◌, ◌≢◌, ℕ, ◌-◌, ◌<◌, ◌≤◌, ◌^◌, take, slice_index, slice_get, Some, Bool, List, [], ◌∷◌, length, map, codes, bytes_eq}
 use Rattle.std.specs.List.{All, slice_split, AllZip, position_or_len}
 use Rattle.sfm_text.specs.declared.word.RankKind.{RankKind}
 use Rattle.sfm_text.specs.declared.word.RankKind.TheVariants.{LaminarRank}
-use Rattle.sfm_text.specs.Parts.{LineParts, AreUnmarked, IsLabelToken}
+use Rattle.sfm_text.specs.declared.word.TermWord.{TermWord}
+use Rattle.sfm_text.specs.declared.word.TermWord.TheVariants.{WeightWord, CutWord, NeedWord, CoverWord, TableWord, ConcaveWord, RankWord}
+use Rattle.sfm_text.specs.Parts.{LineParts, AreUnmarked, IsSplitAt, IsLabelToken}
 
 -- the first byte b of the text stands at that place
 pub record IsFirstAt (b : ℕ) (text : List ℕ) (place : ℕ) : Type 0 where
@@ -17,13 +19,19 @@ pub record IsFirstColon (tokens : List (List ℕ)) (place : ℕ) : Type 0 where
   pub here : slice_get tokens place ≡ Some (codes ":")
   pub none_before : All (λ token. token ≢ codes ":") (take place tokens)
 
--- a number for each part of 1 to 8 elements
-abbrev pub IsTableCount : ℕ → ℕ → Type 0
-IsTableCount numbers elements = (1 ≤ elements) × (elements ≤ 8) × (numbers ≡ 2 ^ elements)
+-- how many numbers and elements the line of a word has
+abbrev pub AreCounts : TermWord → ℕ → ℕ → Type 0
+AreCounts WeightWord numbers elements = (1 ≤ elements) × (numbers ≡ elements)
+AreCounts CutWord numbers elements = (numbers ≡ 1) × (elements ≡ 2)
+AreCounts NeedWord numbers elements = (numbers ≡ 0) × (elements ≡ 2)
+AreCounts CoverWord numbers elements = (1 ≤ elements) × (numbers ≡ 1)
+AreCounts TableWord numbers elements = (1 ≤ elements) × (elements ≤ 8) × (numbers ≡ 2 ^ elements)
+AreCounts ConcaveWord numbers elements = (1 ≤ elements) × (numbers ≡ elements)
+AreCounts RankWord numbers elements = 1 ≤ elements
 
--- as many numbers as elements, at least one
-abbrev pub IsConcaveCount : ℕ → ℕ → Type 0
-IsConcaveCount numbers elements = (1 ≤ elements) × (numbers ≡ elements)
+-- so many numbers and then elements, in the counts of the word
+abbrev pub IsSplitLine : TermWord → ℕ → List (List ℕ) → LineParts → Type 0
+IsSplitLine word count tokens parts = (count ≤ length tokens) × AreCounts word count (length tokens - count) × IsSplitAt count tokens parts
 
 -- a semicolon alone
 abbrev pub is_semicolon : List ℕ → Bool

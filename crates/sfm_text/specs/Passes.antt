@@ -1,6 +1,6 @@
 -- What a token of a long line is tried for, and what the reason of such a line is.
 use Rattle.std.specs.Prelude.{◌≡◌, ◌≢◌, ℕ, ◌<◌, ◌≤◌, List, [], ◌∷◌, ◌++◌, length, take, codes, Any, ℤ}
-use Rattle.std.specs.List.{All}
+use Rattle.std.specs.List.{All, AllZip}
 use Rattle.sfm_spec.specs.Names.{IsName}
 use Rattle.sfm_spec.specs.Kinds.{Group}
 use Rattle.sfm_laminar.specs.Crossing.{group_at}
@@ -17,7 +17,7 @@ use Rattle.sfm_text.specs.declared.word.TermWord.{TermWord}
 use Rattle.sfm_text.specs.declared.word.TermWord.TheVariants.{WeightWord, ConcaveWord, RankWord}
 use Rattle.sfm_text.specs.Lines.{pieces_of, tokens_of}
 use Rattle.sfm_text.specs.Parts.{LineParts, IsMark, IsPairToken, IsLabelToken, IsLabelledLine}
-use Rattle.sfm_text.specs.Words.{word_text, lowest_of}
+use Rattle.sfm_text.specs.Words.{word_text, lowest_of, HasParts}
 use Rattle.sfm_text.specs.TermLines.{IsNumberFrom, IsElement, StandsTwice}
 use Rattle.sfm_text.specs.Reading.{FirstReason}
 use Rattle.sfm_text.specs.ReadParts.{state_at, IsLineOf}
@@ -114,3 +114,14 @@ pub record IsFirstWith (members : List ℕ) (groups : List Group) (place : ℕ) 
   pub within : place < length groups
   pub here : (group_at groups place).members ≡ members
   pub none_before : All (λ g. g.members ≢ members) (take place groups)
+
+-- the line has numbers of its word and those elements, which are more than a ground has, and nothing else
+pub record HasTooMany (word : TermWord) (rest elements : List (List ℕ)) : Type 0 where
+  pub parts : LineParts
+  pub shape : HasParts word rest parts
+  pub numbers : List ℤ
+  pub are_numbers : AllZip (IsNumberFrom (lowest_of word)) parts.numbers numbers
+  pub elements_are : parts.elements ≡ elements
+  pub no_groups : parts.groups ≡ []
+  pub no_labels : parts.labels ≡ []
+  pub many : 256 < length elements

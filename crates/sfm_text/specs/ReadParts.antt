@@ -1,6 +1,7 @@
 -- What the parts of a line, the state of a reading and the end of a line's reading stand for.
-use Rattle.std.specs.Prelude.{◌≡◌, ◌+◌, ◌<◌, ℕ, Bool, true, false, List, [], ◌∷◌, length, codes, map, Any, Result, MatchResult, Option, MatchOption, ℤ}
-use Rattle.std.specs.List.{flat_map}
+use Rattle.std.specs.Prelude.{◌≡◌, ◌≢◌, ◌+◌, ◌<◌, ◌^◌, ◌≤ℤ◌, ℕ, Bool, true, false, List, [], ◌∷◌, length, codes, map, Any, Result, MatchResult, Option, MatchOption, ℤ}
+use Rattle.std.specs.List.{All, flat_map}
+use Rattle.sfm_spec.specs.Bounds.{IsAtMost, AreElements}
 use Rattle.sfm_kind.specs.Instance.{InstanceData}
 use Rattle.sfm_kind.specs.Meanings.{kind_places}
 use Rattle.sfm_kind.specs.declared.kind.Kind.{Kind}
@@ -14,11 +15,13 @@ use Rattle.sfm_text.specs.declared.stage.Stage.{Stage}
 use Rattle.sfm_text.specs.declared.stage.Stage.TheVariants.{Terms}
 use Rattle.sfm_text.specs.declared.labels.Labels.{Labels}
 use Rattle.sfm_text.specs.declared.parts.Parts.{Parts}
+use Rattle.sfm_text.specs.declared.word.RankKind.TheVariants.{TransversalRank}
 use Rattle.sfm_text.specs.declared.word.TermWord.{TermWord}
 use Rattle.sfm_text.specs.Lines.{texts_of, text_lists_of, tokens_of, are_skipped}
 use Rattle.sfm_text.specs.Parts.{LineParts}
-use Rattle.sfm_text.specs.Words.{word_text, IsMadeOf}
-use Rattle.sfm_text.specs.TermLines.{StandsFor}
+use Rattle.sfm_text.specs.CutParts.{AreCounts}
+use Rattle.sfm_text.specs.Words.{word_text, lowest_of, BreaksLaw, IsMadeOf}
+use Rattle.sfm_text.specs.TermLines.{AreRead, StandsFor}
 use Rattle.sfm_text.specs.Reading.{State, IsBadByte, Has, Takes, IsLineRefusal, reason_order}
 
 -- the texts that labels point to
@@ -33,10 +36,35 @@ parts_of parts = record { numbers = texts_of parts.numbers.items; elements = tex
 abbrev pub HasLineParts : (List (List ℕ) → LineParts → Type 0) → List (List ℕ) → Option Parts → Type 0
 HasLineParts IsLine tokens found = MatchOption found ((parts : LineParts) → IsLine tokens parts → ⊥) (λ parts. IsLine tokens (parts_of parts))
 
+-- the texts of all lists, in their order
+abbrev pub joined : List (List (List ℕ)) → List (List ℕ)
+joined lists = flat_map (λ texts. texts) lists
+
+-- what the term of a word takes of the numbers and the places of its line
+pub record AreGiven (word : TermWord) (values : List ℤ) (places : List ℕ) : Type 0 where
+  pub counts : AreCounts word (length values) (length places)
+  pub elements : AreElements places
+  pub low : All (λ value. lowest_of word ≤ℤ value) values
+  pub small : All (IsAtMost (10 ^ 12)) values
+
+-- the parts of a line have been read that is none of a transversal rank, and has few labels
+pub record AreReady (word : TermWord) (parts : LineParts) (values : List ℤ) (places : List ℕ) : Type 0 where
+  pub read : AreRead word parts values places
+  pub other : parts.rank ≢ TransversalRank
+  pub few : length (joined parts.labels) < 2 ^ 24
+
 -- the term that a line with these parts stands for, with these numbers and elements at these places
 pub record IsTermOf (word : TermWord) (parts : LineParts) (values : List ℤ) (places : List ℕ) (term : Kind) : Type 0 where
   pub same_places : kind_places term ≡ places
   pub made : IsMadeOf word parts values term
+
+-- the term of each line of the word with these numbers and places
+abbrev pub IsTermFor : TermWord → List ℤ → List ℕ → Kind → Type 0
+IsTermFor word values places term = (parts : LineParts) → IsTermOf word parts values places term
+
+-- the term of a line with these parts, or none where its numbers break the law of their kind
+abbrev pub IsTermMade : TermWord → LineParts → List ℤ → List ℕ → Option Kind → Type 0
+IsTermMade word parts values places made = MatchOption made (BreaksLaw word parts values) (λ term. IsTermOf word parts values places term × (BreaksLaw word parts values → ⊥))
 
 -- how many bytes texts have in all
 abbrev pub bytes_in : List (List ℕ) → ℕ
@@ -81,7 +109,3 @@ Passes false s line t = (are_skipped (tokens_of line) ≡ true) × (t ≡ s)
 -- the line counts, and is refused
 abbrev pub Fails : State → List ℕ → LineEnd → Type 0
 Fails s line end = (are_skipped (tokens_of line) ≡ false) × IsLineRefusal s line end
-
--- the texts of all lists, in their order
-abbrev pub joined : List (List (List ℕ)) → List (List ℕ)
-joined lists = flat_map (λ texts. texts) lists

@@ -1,13 +1,12 @@
 // The line `rank`, a number, `graphic`, a colon, and at least one edge `name=vertex-vertex`.
-ghost use Rattle.std.specs.Prelude.{◌≡◌, ◌<◌, ℕ, List, length, map, pos, ◌^◌, ◌≤ℤ◌, MatchOption, IfOk, codes};
+ghost use Rattle.std.specs.Prelude.{◌≡◌, ◌<◌, ℕ, List, length, map, ◌^◌, MatchOption, IfOk, codes};
 ghost use Rattle.std.specs.List.{All};
-ghost use Rattle.sfm_spec.specs.Bounds.{IsAtMost, AreElements};
 ghost use Rattle.sfm_matroid.specs.Ends.{edges_of};
 ghost use Rattle.sfm_text.specs.Lines.{texts_of};
 ghost use Rattle.sfm_text.specs.Parts.{IsLabelToken, IsLabelledLine};
 ghost use Rattle.sfm_text.specs.LabelTerms.{edge_between};
 ghost use Rattle.sfm_text.specs.CutParts.{AreLabelled, labelled_parts_of, place_among};
-ghost use Rattle.sfm_text.specs.ReadParts.{HasLineParts, IsTermOf, parts_of, label_lists_of, joined};
+ghost use Rattle.sfm_text.specs.ReadParts.{AreGiven, HasLineParts, IsTermOf, parts_of, label_lists_of, joined};
 ghost use Rattle.sfm_text.specs.declared.word.TermWord.TheVariants.{RankWord};
 ghost use Rattle.sfm_text.specs.declared.word.RankKind.TheVariants.{GraphicRank};
 
@@ -114,13 +113,11 @@ pub fn graphic_term(
     places: &[usize],
 ) -> Result<Kind, Memory>
     requires rank { (parts_of parts.now).rank ≡ GraphicRank }
+    requires given { AreGiven RankWord values.now places.now }
     requires one { length values.now ≡ 1 }
     requires few { length (joined (parts_of parts.now).labels) < 2 ^ 24 }
     requires two { All (λ texts. length texts ≡ 2) (parts_of parts.now).labels }
     requires each { length (parts_of parts.now).labels ≡ length places.now }
-    requires elements { AreElements places.now }
-    requires low { All (λ value. pos 0 ≤ℤ value) values.now }
-    requires small { All (IsAtMost (10 ^ 12)) values.now }
     ensures { IfOk result (IsTermOf RankWord (parts_of parts.now) values.now places.now) }
 {
     let names = different(alloc, &parts.labels)?;

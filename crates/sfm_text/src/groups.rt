@@ -4,12 +4,12 @@
 ghost use Rattle.std.specs.Prelude.{◌≡◌, ◌+◌, ◌^◌, ℕ, List, length, pos, ◌≤ℤ◌, Any, Contains, IfOk, MatchBool, MatchOption};
 ghost use Rattle.sfm_laminar.specs.Crossing.{IsCrossing};
 ghost use Rattle.std.specs.List.{All};
-ghost use Rattle.sfm_spec.specs.Bounds.{IsAtMost, AreElements};
+ghost use Rattle.sfm_spec.specs.Bounds.{IsAtMost};
 ghost use Rattle.sfm_text.specs.Lines.{texts_of, text_lists_of};
 ghost use Rattle.sfm_text.specs.LabelTerms.{distinct_of};
 ghost use Rattle.sfm_text.specs.RankLines.{is_among, members_of, groups_of, least_groups};
 ghost use Rattle.sfm_text.specs.TermLines.{StandsTwice};
-ghost use Rattle.sfm_text.specs.ReadParts.{IsTermOf, parts_of};
+ghost use Rattle.sfm_text.specs.ReadParts.{AreGiven, IsTermOf, parts_of};
 ghost use Rattle.sfm_text.specs.declared.word.TermWord.TheVariants.{RankWord};
 ghost use Rattle.sfm_text.specs.declared.word.RankKind.TheVariants.{LaminarRank};
 
@@ -131,9 +131,7 @@ pub fn laminar_term(
     requires each { length values.now ≡ length (parts_of parts.now).groups + 1 }
     requires rank { (parts_of parts.now).rank ≡ LaminarRank }
     requires named { length places.now ≡ length (parts_of parts.now).elements }
-    requires elements { AreElements places.now }
-    requires low { All (λ value. pos 0 ≤ℤ value) values.now }
-    requires small { All (IsAtMost (10 ^ 12)) values.now }
+    requires given { AreGiven RankWord values.now places.now }
     ensures { IfOk result (λ r. MatchOption r
         ((i : ℕ) × (j : ℕ) × IsCrossing (groups_of values.now (parts_of parts.now)) i j)
         (λ term. IsTermOf RankWord (parts_of parts.now) values.now places.now term

@@ -11,11 +11,11 @@ ghost use Rattle.sfm_text.specs.ReadParts.{IsTermRead};
 ghost use Rattle.sfm_text.specs.GroupPasses.{IsRefusedBy};
 ghost use Rattle.sfm_text.specs.declared.word.TermWord.TheVariants.{WeightWord, CoverWord, ConcaveWord, RankWord};
 
-use crate::concave_line::is_concave_count;
 use crate::entry_line::entry_line_term;
 use crate::line_fault::LineEnd;
+use crate::line_parts::are_counts;
 use crate::long_laminar::laminar_line_term;
-use crate::long_rank::rank_reason;
+use crate::long_rank::{elements_reason, rank_reason};
 use crate::passes::{all_hold, colon_cut, first_hold, has_mark_in, token_count};
 use crate::reason::Reason;
 use crate::token_test::{TokenTest, is_number_of};
@@ -67,10 +67,7 @@ fn cover_reason(instance: &Instance, line: &[u8]) -> Reason
     if !is_number_of(TermWord::CoverWord, number) {
         return Reason::Number;
     }
-    if !all_hold(instance, TokenTest::Element, elements) {
-        return Reason::Name;
-    }
-    Reason::Twice
+    elements_reason(instance, elements)
 }
 
 /// The first reason of a long line of a concave function.
@@ -83,16 +80,13 @@ fn concave_reason(instance: &Instance, line: &[u8]) -> Reason
         return Reason::Shape;
     };
     let places = token_count(elements);
-    if !is_concave_count(count, places) {
+    if !are_counts(TermWord::ConcaveWord, count, places) {
         return Reason::Shape;
     }
     if !first_hold(instance, TokenTest::Value, count, line) {
         return Reason::Number;
     }
-    if !all_hold(instance, TokenTest::Element, elements) {
-        return Reason::Name;
-    }
-    Reason::Twice
+    elements_reason(instance, elements)
 }
 
 /// The first reason of a long line with this word and these tokens behind it; lines of ranks are told by themselves.

@@ -2,11 +2,12 @@
 // rank however long it is. A line of a laminar rank may be good however long it is, and so may one of a transversal rank, as one
 // entry may have millions of slots: so their terms are told by passes together with their reasons, in `long_laminar.rt` and
 // `entry_line.rt`.
-ghost use Rattle.std.specs.Prelude.{◌≡◌, ◌≢◌, ◌<◌, ◌∷◌, [], length, codes, IfSome, MatchBool, MatchOption};
+ghost use Rattle.std.specs.Prelude.{◌≡◌, ◌≢◌, ◌<◌, ◌∷◌, [], ℕ, List, length, codes, IfSome, MatchBool, MatchOption};
 ghost use Rattle.sfm_kind.specs.Names.{AreElementNames};
 ghost use Rattle.sfm_text.specs.Lines.{tokens_of};
 ghost use Rattle.sfm_text.specs.Parts.{LineParts, IsCutAtColon, IsUniformLine};
-ghost use Rattle.sfm_text.specs.Passes.{IsReasonOf, IsRankNamed, HasLabels, label_word, AreGoodEntries};
+ghost use Rattle.sfm_text.specs.Passes.{IsReasonOf, HasTooMany, IsRankNamed, HasLabels, label_word, AreGoodEntries};
+ghost use Rattle.sfm_text.specs.declared.word.TermWord.{TermWord};
 ghost use Rattle.sfm_text.specs.declared.word.TermWord.TheVariants.{RankWord};
 
 use crate::mark::is_mark;
@@ -70,6 +71,17 @@ fn is_uniform_cut(number: &[u8], cap: &[u8], colon: &[u8], elements: &[u8]) -> b
     true
 }
 
+/// The first reason of a line whose shape and numbers are good, by its elements, of which it has more than a ground.
+pub fn elements_reason(instance: &Instance, elements: &[u8]) -> Reason
+    requires { AreElementNames instance.now.names }
+    ensures { (word : TermWord) (rest : List (List ℕ)) → HasTooMany word rest (tokens_of elements.now) → IsReasonOf instance.now word rest result }
+{
+    if !all_hold(instance, TokenTest::Element, elements) {
+        return Reason::Name;
+    }
+    Reason::Twice
+}
+
 /// The first reason of a long line of a uniform rank with this number and these tokens behind its word.
 fn uniform_reason(instance: &Instance, number: &[u8], behind: &[u8]) -> Reason
     requires names { AreElementNames instance.now.names }
@@ -88,10 +100,7 @@ fn uniform_reason(instance: &Instance, number: &[u8], behind: &[u8]) -> Reason
     if !is_number_of(TermWord::RankWord, cap) {
         return Reason::Number;
     }
-    if !all_hold(instance, TokenTest::Element, elements) {
-        return Reason::Name;
-    }
-    Reason::Twice
+    elements_reason(instance, elements)
 }
 
 /// The first reason of elements with labels before that something stands twice, or None where there is none.

@@ -1,11 +1,10 @@
 // What the tokens of a term line are cut into before they are read.
-ghost use Rattle.std.specs.Prelude.{◌≡◌, ◌≤◌, length, Any, IfOk, MatchOption};
+ghost use Rattle.std.specs.Prelude.{◌≡◌, IfOk};
 ghost use Rattle.sfm_text.specs.Lines.{texts_of};
-ghost use Rattle.sfm_text.specs.Parts.{IsMark, plain_parts, IsSplitAt};
+ghost use Rattle.sfm_text.specs.Parts.{plain_parts};
 ghost use Rattle.sfm_text.specs.ReadParts.{parts_of};
 
 use crate::labels::Labels;
-use crate::mark::has_mark;
 use crate::word::RankKind;
 use std::alloc::{AllocError, Global};
 
@@ -46,23 +45,4 @@ impl<'a, 'b> Parts<'a, 'b> {
         let elements = Vec::from_slice(alloc, elements)?;
         Ok(Parts::plain(alloc, numbers, elements))
     }
-}
-
-/// The parts of tokens that are so many numbers and then elements, or None where a colon or a semicolon alone is among
-/// them.
-pub fn split_at<'a, 'b>(
-    alloc: Global,
-    tokens: &'b [&'a [u8]],
-    count: usize,
-) -> Result<Option<Parts<'a, 'b>>, AllocError>
-    requires { count ≤ length tokens.now }
-    ensures { IfOk result (λ r. MatchOption r
-        (Any IsMark (texts_of tokens.now))
-        (λ parts. IsSplitAt count (texts_of tokens.now) (parts_of parts))) }
-{
-    if has_mark(tokens) {
-        return Ok(None);
-    }
-    let parts = Parts::copied(alloc, &tokens[..count], &tokens[count..])?;
-    Ok(Some(parts))
 }

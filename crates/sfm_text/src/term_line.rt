@@ -1,85 +1,28 @@
 // Reading a term line: its parts are cut out by its word, and each kind of part is then read once for all words.
-ghost use Rattle.std.specs.Prelude.{◌≡◌, ◌≢◌, ◌<◌, ◌≤◌, ◌↔◌, ◌^◌, ℕ, List, length, ℤ, pos, neg_ℤ, ◌≤ℤ◌, Any, IsTrue, IfOk, IfErr, MatchOption, Some};
+ghost use Rattle.std.specs.Prelude.{◌≡◌, ◌<◌, ◌↔◌, ◌∷◌, ◌^◌, ℕ, List, ℤ, pos, neg_ℤ, ◌≤ℤ◌, Any, IsTrue, IfOk, IfErr, MatchOption, Some};
 ghost use Rattle.std.specs.List.{All, AllZip};
 ghost use Rattle.sfm_kind.specs.Names.{IsNewName, AreElementNames};
-ghost use Rattle.sfm_kind.specs.declared.kind.Kind.{Kind};
 ghost use Rattle.sfm_text.specs.Lines.{texts_of};
-ghost use Rattle.sfm_text.specs.Words.{lowest_of, word_text, HasParts, BreaksLaw};
-ghost use Rattle.sfm_text.specs.TermLines.{AreRead, IsNumberFrom, IsElement, StandsTwice};
+ghost use Rattle.sfm_text.specs.Words.{lowest_of, word_text};
+ghost use Rattle.sfm_text.specs.TermLines.{IsNumberFrom, IsElement, StandsTwice};
 ghost use Rattle.sfm_text.specs.Reading.{IsLineRefusal};
-ghost use Rattle.sfm_text.specs.ReadParts.{HasLineParts, IsTermOf, parts_of, bytes_in, state_at, IsLineOf, IsTermRead, joined};
+ghost use Rattle.sfm_text.specs.ReadParts.{bytes_in, state_at, IsLineOf, IsTermRead};
 ghost use Rattle.sfm_text.specs.Passes.{IsNumberOf, IsKnown, IsEntryLine};
 ghost use Rattle.sfm_text.specs.declared.stage.Stage.TheVariants.{Terms};
-ghost use Rattle.sfm_text.specs.declared.word.RankKind.TheVariants.{TransversalRank};
-ghost use Rattle.std.specs.Prelude.{◌∷◌};
 
-use crate::concave_line::{concave_parts, concave_term};
-use crate::cover_line::{cover_parts, cover_term};
-use crate::cut_line::{cut_parts, cut_term};
 use crate::groups::{are_members, has_member_twice};
 use crate::labels::are_labels;
 use crate::line_fault::LineEnd;
-use crate::need_line::{need_parts, need_term};
-use crate::parts::Parts;
-use crate::rank_line::{rank_parts, rank_term};
+use crate::line_parts::line_parts;
 use crate::reason::Reason;
-use crate::table_line::{table_parts, table_term};
-use crate::weight_line::{weight_parts, weight_term};
+use crate::terms::make_term;
 use crate::word::TermWord;
-use sfm_base::{Memory, read_number};
+use sfm_base::read_number;
 use sfm_kind::{Instance, Kind};
 use std::alloc::{AllocError, Global};
 
 /// The greatest number of an instance text.
 const HIGHEST: i128 = 1_000_000_000_000;
-
-/// The parts of the tokens behind a word, or None where they do not have the shape of its line; those of a transversal rank are
-/// cut by themselves.
-fn line_parts<'a, 'b>(
-    alloc: Global,
-    word: TermWord,
-    tokens: &'b [&'a [u8]],
-) -> Result<Option<Parts<'a, 'b>>, AllocError>
-    requires { IsEntryLine word (texts_of tokens.now) → ⊥ }
-    ensures { IfOk result (HasLineParts (HasParts word) (texts_of tokens.now)) }
-{
-    match word {
-        TermWord::WeightWord => weight_parts(alloc, tokens),
-        TermWord::CutWord => cut_parts(alloc, tokens),
-        TermWord::NeedWord => need_parts(alloc, tokens),
-        TermWord::CoverWord => cover_parts(alloc, tokens),
-        TermWord::TableWord => table_parts(alloc, tokens),
-        TermWord::ConcaveWord => concave_parts(alloc, tokens),
-        TermWord::RankWord => rank_parts(alloc, tokens),
-    }
-}
-
-/// The term of a line with these parts, or None where its numbers break the law of their kind.
-fn make_term(
-    alloc: Global,
-    word: TermWord,
-    parts: &Parts,
-    values: &[i128],
-    places: &[usize],
-) -> Result<Option<Kind>, Memory>
-    requires read { AreRead word (parts_of parts.now) values.now places.now }
-    requires other { (parts_of parts.now).rank ≢ TransversalRank }
-    requires few { length (joined (parts_of parts.now).labels) < 2 ^ 24 }
-    ensures { IfOk result (λ r. MatchOption r
-        (BreaksLaw word (parts_of parts.now) values.now)
-        (λ term. IsTermOf word (parts_of parts.now) values.now places.now term
-        × (BreaksLaw word (parts_of parts.now) values.now → ⊥))) }
-{
-    match word {
-        TermWord::WeightWord => Ok(Some(weight_term(alloc, values, places)?)),
-        TermWord::CutWord => Ok(Some(cut_term(values, places))),
-        TermWord::NeedWord => Ok(Some(need_term(places))),
-        TermWord::CoverWord => Ok(Some(cover_term(alloc, values, places)?)),
-        TermWord::TableWord => table_term(alloc, values, places),
-        TermWord::ConcaveWord => concave_term(alloc, values, places),
-        TermWord::RankWord => rank_term(alloc, parts, values, places),
-    }
-}
 
 /// The least number that may stand in the line of a word.
 fn lowest_number(word: TermWord) -> i128

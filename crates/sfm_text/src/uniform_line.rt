@@ -1,10 +1,8 @@
 // The line `rank`, a number, `uniform`, a cap, a colon, and at least one element.
-ghost use Rattle.std.specs.Prelude.{◌≡◌, ◌^◌, length, pos, ◌≤ℤ◌, IfOk};
-ghost use Rattle.std.specs.List.{All};
-ghost use Rattle.sfm_spec.specs.Bounds.{IsAtMost, AreElements};
+ghost use Rattle.std.specs.Prelude.{◌≡◌, length, IfOk};
 ghost use Rattle.sfm_text.specs.Lines.{texts_of};
 ghost use Rattle.sfm_text.specs.Parts.{LineParts, IsUniformLine};
-ghost use Rattle.sfm_text.specs.ReadParts.{HasLineParts, IsTermOf};
+ghost use Rattle.sfm_text.specs.ReadParts.{AreGiven, HasLineParts, IsTermOf};
 ghost use Rattle.sfm_text.specs.declared.word.TermWord.TheVariants.{RankWord};
 ghost use Rattle.sfm_text.specs.declared.word.RankKind.TheVariants.{UniformRank};
 
@@ -42,10 +40,8 @@ pub fn uniform_parts<'a, 'b>(
 
 /// The term with the first number for each of these places, up to as many as the second.
 pub fn uniform_term(alloc: Global, values: &[i128], places: &[usize]) -> Result<Kind, Memory>
-    requires elements { AreElements places.now }
+    requires given { AreGiven RankWord values.now places.now }
     requires two { length values.now ≡ 2 }
-    requires low { All (λ value. pos 0 ≤ℤ value) values.now }
-    requires small { All (IsAtMost (10 ^ 12)) values.now }
     ensures { IfOk result (λ term. (parts : LineParts) → parts.rank ≡ UniformRank → IsTermOf RankWord parts values.now places.now term) }
 {
     let uniform = Uniform::new(alloc, places, values[0], values[1])?;

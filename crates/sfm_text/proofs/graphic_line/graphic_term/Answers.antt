@@ -25,5 +25,5 @@ returns c =
     let ends : edges_of c.in_ok-ends.ends.items ≡ map (λ (texts : List (List ℕ)). edge_between (map (place_among (texts_of c.in_ok-names.names.keys)) texts)) lists = rw c.deref-2.ensures.value at c.in_ok-ends.ensures in
     record {
       same_places = c.in_ok-graphic.ensures.places;
-      made = of-rank GraphicRank (parts_of c.args.parts.now) c.args.values.now (Graphic c.in_ok-graphic.graphic) c.requires.rank (c.in_ok-graphic.ensures.number ∙ kept-at c.args.values.now 0 (omega (arith, c.requires.one)) c.requires.small, c.in_ok-graphic.ensures.ends ∙ (ap edges_of c.deref-3.ensures.value ∙ ((rw names at ends) ∙ sym (map-map edge_between (λ (texts : List (List ℕ)). map (place_among (distinct_of (joined lists))) texts) lists))));
+      made = of-rank GraphicRank (parts_of c.args.parts.now) c.args.values.now (Graphic c.in_ok-graphic.graphic) c.requires.rank (c.in_ok-graphic.ensures.number ∙ kept-at c.args.values.now 0 (omega (arith, c.requires.one)) c.requires.given.small, c.in_ok-graphic.ensures.ends ∙ (ap edges_of c.deref-3.ensures.value ∙ ((rw names at ends) ∙ sym (map-map edge_between (λ (texts : List (List ℕ)). map (place_among (distinct_of (joined lists))) texts) lists))));
     }

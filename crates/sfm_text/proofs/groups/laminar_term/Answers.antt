@@ -14,7 +14,7 @@ use Rattle.sfm_text.proofs.groups.laminar_term.Goals as goal
 pub with_kept-requires-clause-sound : goal.with_kept-requires-clause-sound
 with_kept-requires-clause-sound c =
     let groups = groups_of c.args.values.now (parts_of c.args.parts.now) in
-    rw (c.deref.ensures.value, c.in_ok-groups.ensures) (least-each IsGroup groups (groups-sound c.args.values.now (parts_of c.args.parts.now) c.requires.each c.requires.low c.requires.small))
+    rw (c.deref.ensures.value, c.in_ok-groups.ensures) (least-each IsGroup groups (groups-sound c.args.values.now (parts_of c.args.parts.now) c.requires.each c.requires.given.low c.requires.given.small))
 
 pub with_kept-requires-clause-below : goal.with_kept-requires-clause-below
 with_kept-requires-clause-below c =
@@ -29,7 +29,7 @@ returns-in-Some c =
     let kept = c.deref.ensures.value ∙ c.in_ok-groups.ensures in (
       record {
         same_places = made.0;
-        made = of-rank LaminarRank parts values (Laminar c.in-Some.laminar) c.requires.rank (made.1 ∙ kept-at values 0 (omega (arith, c.requires.each)) c.requires.small, made.2 ∙ kept);
+        made = of-rank LaminarRank parts values (Laminar c.in-Some.laminar) c.requires.rank (made.1 ∙ kept-at values 0 (omega (arith, c.requires.each)) c.requires.given.small, made.2 ∙ kept);
       },
       λ cross. let (i, j, h) = crossing-for (groups_of values parts) cross in made.3 i j (rw kept h),
     )

@@ -1,7 +1,7 @@
 use Rattle.std.proofs.Common.{length, ap, arith}
 use Rattle.sfm_text.specs.Lines.{tokens_of}
 use Rattle.sfm_text.specs.declared.word.TermWord.TheVariants.{CoverWord}
-use Rattle.sfm_text.proofs.LongReasons.{long-shape, no-cover, cover-number, cover-name, cover-twice}
+use Rattle.sfm_text.proofs.LongReasons.{long-shape, no-cover, cover-number, cover-many}
 use Rattle.sfm_text.proofs.long_line.cover_reason.Goals as goal
 
 pub returns-in_default : goal.returns-in_default
@@ -16,10 +16,6 @@ pub returns-then-not-is_number_of : goal.returns-then-not-is_number_of
 returns-then-not-is_number_of c =
     cover-number c.args.instance.now (tokens_of c.args.line.now) c.requires.long c.if-has_mark_in.ensures c.in-Some.number.now (tokens_of c.in-Some.elements.now) c.in-Some.ensures.cut c.if-not-is_number_of.ensures
 
-pub returns-then-not-all_hold : goal.returns-then-not-all_hold
-returns-then-not-all_hold c =
-    cover-name c.args.instance.now (tokens_of c.args.line.now) c.requires.long c.if-has_mark_in.ensures c.in-Some.number.now (tokens_of c.in-Some.elements.now) c.in-Some.ensures.cut c.if-not-is_number_of.ensures c.if-not-all_hold.ensures
-
 pub returns : goal.returns
 returns c =
-    cover-twice c.args.instance.now (tokens_of c.args.line.now) c.requires.long c.if-has_mark_in.ensures c.in-Some.number.now (tokens_of c.in-Some.elements.now) c.in-Some.ensures.cut c.if-not-is_number_of.ensures c.requires.names c.if-not-all_hold.ensures
+    c.elements_reason.ensures CoverWord _ (cover-many c.args.instance.now (tokens_of c.args.line.now) c.requires.long c.if-has_mark_in.ensures c.in-Some.number.now (tokens_of c.in-Some.elements.now) c.in-Some.ensures.cut c.if-not-is_number_of.ensures)

@@ -1,6 +1,6 @@
 use Rattle.std.proofs.Common.{arith}
 use Rattle.sfm_text.specs.Lines.{tokens_of}
-use Rattle.sfm_text.proofs.LongRanks.{uniform-shape, uniform-first, uniform-second, uniform-name, uniform-twice}
+use Rattle.sfm_text.proofs.LongRanks.{uniform-shape, uniform-first, uniform-second, uniform-many}
 use Rattle.sfm_text.proofs.long_rank.uniform_reason.Goals as goal
 
 pub returns-in_default : goal.returns-in_default
@@ -15,8 +15,5 @@ returns-then-not-is_number_of c = uniform-first c.args.instance.now _ _ _ _ (tok
 pub returns-then-not-is_number_of-2 : goal.returns-then-not-is_number_of-2
 returns-then-not-is_number_of-2 c = uniform-second c.args.instance.now _ _ _ _ (tokens_of c.args.behind.now) c.in-Some.ensures c.requires.long c.if-not-is_uniform_cut.ensures c.if-not-is_number_of-2.ensures
 
-pub returns-then-not-all_hold : goal.returns-then-not-all_hold
-returns-then-not-all_hold c = uniform-name c.args.instance.now _ _ _ _ (tokens_of c.args.behind.now) c.in-Some.ensures c.requires.long c.if-not-is_uniform_cut.ensures c.if-not-is_number_of.ensures c.if-not-is_number_of-2.ensures c.if-not-all_hold.ensures
-
 pub returns : goal.returns
-returns c = uniform-twice c.args.instance.now _ _ _ _ (tokens_of c.args.behind.now) c.in-Some.ensures c.requires.long c.if-not-is_uniform_cut.ensures c.if-not-is_number_of.ensures c.if-not-is_number_of-2.ensures c.requires.names c.if-not-all_hold.ensures
+returns c = c.elements_reason.ensures _ _ (uniform-many c.args.instance.now _ _ _ _ (tokens_of c.args.behind.now) c.in-Some.ensures c.requires.long c.if-not-is_uniform_cut.ensures c.if-not-is_number_of.ensures c.if-not-is_number_of-2.ensures)

@@ -77,22 +77,20 @@ returns-then-branch-clause-refused c = λ line is.
     let twice : Any (λ names. StandsTwice names) (parts_of c.in-Some.parts).groups = rw c.deref-7.ensures.value at rw c.if-branch.true at c.in_ok-has_member_twice.ensures in
     at-member-twice c.args.instance.now c.args.word _ line is _ (shape at.In-Some) _ (numbers at.In-Some-2) _ c.requires.names (elements at.In-Some-3) (members at.After-deref-6) (labels at.After-deref-6) twice
 
-pub make_term-requires-clause-read : goal.make_term-requires-clause-read
-make_term-requires-clause-read c =
-    let at = goal.at.make_term-requires-clause-read c in
+pub make_term-requires : goal.make_term-requires
+make_term-requires c =
+    let at = goal.at.make_term-requires c in
     rw (c.deref-8.ensures.value, c.deref-9.ensures.value) (record {
-      tokens = texts_of c.args.tokens.now;
-      shape = shape at.In-Some;
-      numbers = numbers at.In-Some-2;
-      elements = length-AllZip _ _ _ (elements at.In-Some-3);
-      placed = elements-placed _ _ _ c.requires.names.few (elements at.In-Some-3) (once at.After-deref-8);
+      read = record {
+        tokens = texts_of c.args.tokens.now;
+        shape = shape at.In-Some;
+        numbers = numbers at.In-Some-2;
+        elements = length-AllZip _ _ _ (elements at.In-Some-3);
+        placed = elements-placed _ _ _ c.requires.names.few (elements at.In-Some-3) (once at.After-deref-8);
+      };
+      other = not-entries c.args.word _ _ (shape at.In-Some) c.requires.other;
+      few = omega (arith, parts-few c.args.word _ _ (shape at.In-Some), c.requires.short);
     })
-
-pub make_term-requires-clause-few : goal.make_term-requires-clause-few
-make_term-requires-clause-few c = omega (arith, parts-few c.args.word _ _ (shape (goal.at.make_term-requires-clause-few c).In-Some), c.requires.short)
-
-pub make_term-requires-clause-other : goal.make_term-requires-clause-other
-make_term-requires-clause-other c = not-entries c.args.word _ _ (shape (goal.at.make_term-requires-clause-other c).In-Some) c.requires.other
 
 pub returns-clause-refused : goal.returns-clause-refused
 returns-clause-refused c = λ line is.
