@@ -1,9 +1,10 @@
 -- What a piece of the line of a laminar rank is tried for, and what is known of a line whose pieces have passed.
-use Rattle.std.specs.Prelude.{◌≡◌, ◌⊎◌, ℕ, ◌≤◌, false, List, [], ◌∷◌, ◌++◌, length, codes, Any, Contains, Option, Some, None}
+use Rattle.std.specs.Prelude.{◌≡◌, ◌⊎◌, ℕ, ◌≤◌, false, List, [], ◌∷◌, ◌++◌, length, codes, Any, Contains, Option, Some, None, MatchOption, Result, MatchResult}
 use Rattle.std.specs.Borrow.{Bor}
 use Rattle.std.specs.List.{All}
 use Rattle.sfm_spec.specs.Kinds.{Group}
 use Rattle.sfm_kind.specs.Instance.{InstanceData}
+use Rattle.sfm_kind.specs.declared.kind.Kind.{Kind}
 use Rattle.sfm_text.specs.declared.line_fault.LineEnd.{LineEnd}
 use Rattle.sfm_text.specs.declared.stage.Stage.TheVariants.{Terms}
 use Rattle.sfm_text.specs.declared.word.TermWord.{TermWord}
@@ -18,7 +19,7 @@ use Rattle.sfm_text.specs.RankLines.{members_of}
 use Rattle.sfm_text.specs.Words.{word_text, lowest_of}
 use Rattle.sfm_text.specs.TermLines.{IsNumberFrom, StandsTwice}
 use Rattle.sfm_text.specs.Reading.{IsLineRefusal}
-use Rattle.sfm_text.specs.ReadParts.{state_at, IsLineOf}
+use Rattle.sfm_text.specs.ReadParts.{state_at, IsLineOf, IsTermRead}
 use Rattle.sfm_text.specs.Passes.{IsNumberOf, Holds}
 
 -- the front of a line is cut into tokens by itself, whatever stands behind it
@@ -97,3 +98,7 @@ laminar_tokens number behind = number ∷ codes "laminar" ∷ codes ":" ∷ behi
 -- each line with this word and these tokens behind it is refused so
 abbrev pub IsRefusedBy : InstanceData → TermWord → List (List ℕ) → LineEnd → Type 0
 IsRefusedBy instance word tokens end = (line : List ℕ) → IsLineOf line (word_text word ∷ tokens) → IsLineRefusal (state_at Terms instance) line end
+
+-- a line with this word and these tokens behind it is told: by its term, or by its first reason, or by what else holds of it
+abbrev pub IsToldBy : InstanceData → TermWord → List (List ℕ) → Type 0 → Result (Option Kind) LineEnd → Type 0
+IsToldBy instance word tokens Other result = MatchResult result (λ told. MatchOption told Other (IsTermRead instance word tokens)) (IsRefusedBy instance word tokens)

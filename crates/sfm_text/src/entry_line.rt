@@ -1,7 +1,7 @@
 // The line `rank`, a number, `transversal`, a colon, and at least one entry `name=slot,slot,..`, judged by passes over it, and its
 // term. An entry may have millions of slots, so no list of them is made: of each entry as many of its first slots are kept as the
 // line has elements. These suffice, since a member of a part that has none of them finds one that no other member has.
-ghost use Rattle.std.specs.Prelude.{◌≡◌, ◌<◌, ◌≤ℤ◌, ◌∷◌, ◌^◌, ℕ, List, codes, length, map, pos, take, IfOk, IfErr, MatchOption, MatchResult};
+ghost use Rattle.std.specs.Prelude.{◌≡◌, ◌<◌, ◌≤ℤ◌, ◌∷◌, ◌^◌, ℕ, List, codes, length, map, pos, take, IfOk, MatchOption, MatchResult};
 ghost use Rattle.std.specs.List.{All, AllZip};
 ghost use Rattle.sfm_spec.specs.Bounds.{IsGiven, AreElements};
 ghost use Rattle.sfm_kind.specs.Names.{AreElementNames};
@@ -11,7 +11,7 @@ ghost use Rattle.sfm_text.specs.CutParts.{place_among};
 ghost use Rattle.sfm_text.specs.LabelTerms.{numbers_of};
 ghost use Rattle.sfm_text.specs.ReadParts.{IsTermRead, label_lists_of, joined};
 ghost use Rattle.sfm_text.specs.Passes.{AreFewEntries, IsEntryLine, IsReasonOf};
-ghost use Rattle.sfm_text.specs.GroupPasses.{IsRefusedBy};
+ghost use Rattle.sfm_text.specs.GroupPasses.{IsRefusedBy, IsToldBy};
 ghost use Rattle.sfm_text.specs.declared.word.TermWord.TheVariants.{RankWord};
 ghost use Rattle.sfm_text.specs.declared.word.RankKind.TheVariants.{TransversalRank};
 
@@ -180,10 +180,7 @@ pub fn entry_line_term(
     line: &[u8],
 ) -> Result<Option<Kind>, LineEnd>
     requires { AreElementNames instance.now.names }
-    ensures read { IfOk result (λ r. MatchOption r
-        (IsEntryLine RankWord (tokens_of line.now) → ⊥)
-        (IsTermRead instance.now RankWord (tokens_of line.now))) }
-    ensures refused { IfErr result (IsRefusedBy instance.now RankWord (tokens_of line.now)) }
+    ensures { IsToldBy instance.now RankWord (tokens_of line.now) (IsEntryLine RankWord (tokens_of line.now) → ⊥) result }
 {
     let Some((number, kind, behind)) = first_two(line) else {
         return Ok(None);

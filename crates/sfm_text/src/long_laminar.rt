@@ -1,7 +1,7 @@
 // The line of a laminar rank judged by passes over it, and its term. Such a line may be good however many groups it has, so its
 // groups are taken one after another, and of those with the same members one is kept. Where more are kept than there are sets of
 // 256 elements of which no two cross, it is told at once whether some cross, so that little is kept of any line.
-ghost use Rattle.std.specs.Prelude.{◌≡◌, ◌∷◌, ℕ, List, length, IsTrue, IfOk, IfErr, IfSome, MatchOption, MatchResult};
+ghost use Rattle.std.specs.Prelude.{◌≡◌, ◌∷◌, ℕ, List, length, IsTrue, IfOk, MatchOption, MatchResult};
 ghost use Rattle.std.specs.List.{All, AllZip};
 ghost use Rattle.sfm_spec.specs.Bounds.{AreElements};
 ghost use Rattle.sfm_spec.specs.Kinds.{Group};
@@ -13,7 +13,7 @@ ghost use Rattle.sfm_text.specs.CutParts.{cut_at_semicolons};
 ghost use Rattle.sfm_text.specs.RankLines.{least_groups};
 ghost use Rattle.sfm_text.specs.ReadParts.{IsTermRead};
 ghost use Rattle.sfm_text.specs.Passes.{IsReasonOf};
-ghost use Rattle.sfm_text.specs.GroupPasses.{AreGoodGroups, GroupHolds, IsGroupOf, IsRefusedBy, laminar_tokens, pieces_left};
+ghost use Rattle.sfm_text.specs.GroupPasses.{AreGoodGroups, GroupHolds, IsGroupOf, IsRefusedBy, IsToldBy, laminar_tokens, pieces_left};
 ghost use Rattle.sfm_text.specs.declared.group_test.GroupTest.TheVariants.{Whole, Cap};
 ghost use Rattle.sfm_text.specs.declared.word.TermWord.TheVariants.{RankWord};
 
@@ -190,8 +190,7 @@ pub fn laminar_line_term(
     line: &[u8],
 ) -> Result<Option<Kind>, LineEnd>
     requires { AreElementNames instance.now.names }
-    ensures read { IfOk result (λ r. IfSome r (IsTermRead instance.now RankWord (tokens_of line.now))) }
-    ensures refused { IfErr result (IsRefusedBy instance.now RankWord (tokens_of line.now)) }
+    ensures { IsToldBy instance.now RankWord (tokens_of line.now) (Unit {0}) result }
 {
     let Some((number, kind, rest)) = first_two(line) else {
         return Ok(None);

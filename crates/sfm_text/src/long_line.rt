@@ -3,12 +3,11 @@
 // longer line is not good: where its shape, its numbers and its names are, an element stands twice, as there are at most 256.
 // A line of a laminar rank may be good however long it is, and its term is told by passes too; so is that of each line of a
 // transversal rank, as one entry may have millions of slots.
-ghost use Rattle.std.specs.Prelude.{◌<◌, length, IsTrue, IfErr, IfOk, IfSome, MatchOption};
+ghost use Rattle.std.specs.Prelude.{◌<◌, length, IsTrue, IfSome};
 ghost use Rattle.sfm_kind.specs.Names.{AreElementNames};
 ghost use Rattle.sfm_text.specs.Lines.{tokens_of};
 ghost use Rattle.sfm_text.specs.Passes.{IsEntryLine, IsReasonOf};
-ghost use Rattle.sfm_text.specs.ReadParts.{IsTermRead};
-ghost use Rattle.sfm_text.specs.GroupPasses.{IsRefusedBy};
+ghost use Rattle.sfm_text.specs.GroupPasses.{IsToldBy};
 ghost use Rattle.sfm_text.specs.declared.word.TermWord.TheVariants.{WeightWord, CoverWord, ConcaveWord, RankWord};
 
 use crate::entry_line::entry_line_term;
@@ -128,8 +127,7 @@ fn long_laminar_term(
     line: &[u8],
 ) -> Result<Option<Kind>, LineEnd>
     requires { AreElementNames instance.now.names }
-    ensures read { IfOk result (λ r. IfSome r (IsTermRead instance.now RankWord (tokens_of line.now))) }
-    ensures refused { IfErr result (IsRefusedBy instance.now RankWord (tokens_of line.now)) }
+    ensures { IsToldBy instance.now RankWord (tokens_of line.now) (Unit {0}) result }
 {
     if !is_long(line) {
         return Ok(None);
@@ -141,10 +139,7 @@ fn long_laminar_term(
 /// one of a laminar rank, or one of a transversal rank.
 fn early_rank_term(alloc: Global, instance: &Instance, line: &[u8]) -> Result<Option<Kind>, LineEnd>
     requires { AreElementNames instance.now.names }
-    ensures read { IfOk result (λ r. MatchOption r
-        (IsEntryLine RankWord (tokens_of line.now) → ⊥)
-        (IsTermRead instance.now RankWord (tokens_of line.now))) }
-    ensures refused { IfErr result (IsRefusedBy instance.now RankWord (tokens_of line.now)) }
+    ensures { IsToldBy instance.now RankWord (tokens_of line.now) (IsEntryLine RankWord (tokens_of line.now) → ⊥) result }
 {
     if let Some(term) = long_laminar_term(alloc, instance, line)? {
         return Ok(Some(term));
@@ -161,10 +156,7 @@ pub fn early_term(
     line: &[u8],
 ) -> Result<Option<Kind>, LineEnd>
     requires { AreElementNames instance.now.names }
-    ensures read { IfOk result (λ r. MatchOption r
-        (IsEntryLine word (tokens_of line.now) → ⊥)
-        (IsTermRead instance.now word (tokens_of line.now))) }
-    ensures refused { IfErr result (IsRefusedBy instance.now word (tokens_of line.now)) }
+    ensures { IsToldBy instance.now word (tokens_of line.now) (IsEntryLine word (tokens_of line.now) → ⊥) result }
 {
     if word != TermWord::RankWord {
         return Ok(None);

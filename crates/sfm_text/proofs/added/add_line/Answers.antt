@@ -25,7 +25,7 @@ add_read-requires c =
     let short = c.requires.short in
     record {
       short = rw (c.deref.ensures.value, c.in_ok-tokens.ensures) (bytes-behind c.in-Some.word (tokens_of line) rest c.in-Some.ensures (omega (arith, few, short)));
-      other = rw (c.deref.ensures.value, c.in_ok-tokens.ensures) (rw c.in_default-2.is at c.in_ok-term.ensures.read);
+      other = rw (c.deref.ensures.value, c.in_ok-tokens.ensures) (rw c.in_default-2.is at c.in_ok-term.ensures);
     }
 
 pub returns-clause-judged : goal.returns-clause-judged
@@ -38,5 +38,5 @@ pub returns-in-Some-2-clause-judged : goal.returns-in-Some-2-clause-judged
 returns-in-Some-2-clause-judged c =
     let line = c.args.line.now in
     let rest = tokens_of c.in-Some.rest.now in
-    let read = rw c.in-Some-2.is at c.in_ok-term.ensures.read in
+    let read = rw c.in-Some-2.is at c.in_ok-term.ensures in
     judged-as c.args.instance.now c.add_made.new.instance line c.in-Some.word rest c.add_made.result (record { tokens_are = c.in-Some.ensures; good_bytes = c.if-not-are_good_bytes.ensures }) (c.add_made.ensures.outcome c.in-Some.word rest read)

@@ -3,16 +3,16 @@ use Rattle.sfm_text.specs.Lines.{tokens_of}
 use Rattle.sfm_text.proofs.EntryTerms.{few-tokens, other-kind, entry-short}
 use Rattle.sfm_text.proofs.entry_line.entry_line_term.Goals as goal
 
-pub returns-in_default-clause-read : goal.returns-in_default-clause-read
-returns-in_default-clause-read c = few-tokens (tokens_of c.args.line.now) (omega (arith, c.in_default.ensures))
+pub returns-in_default : goal.returns-in_default
+returns-in_default c = few-tokens (tokens_of c.args.line.now) (omega (arith, c.in_default.ensures))
 
-pub returns-then-not-is_word-clause-read : goal.returns-then-not-is_word-clause-read
-returns-then-not-is_word-clause-read c = other-kind _ _ _ _ c.in-Some.ensures c.if-not-is_word.ensures
+pub returns-then-not-is_word : goal.returns-then-not-is_word
+returns-then-not-is_word c = other-kind _ _ _ _ c.in-Some.ensures c.if-not-is_word.ensures
 
-pub returns-in_default-first_token-clause-refused : goal.returns-in_default-first_token-clause-refused
-returns-in_default-first_token-clause-refused c =
+pub returns-in_default-first_token : goal.returns-in_default-first_token
+returns-in_default-first_token c =
     rw (c.in-Some.ensures, c.if-not-is_word.ensures) (entry-short c.args.instance.now c.in-Some.number.now (tokens_of c.in-Some.behind.now) (omega (arith, ap length c.in_default-first_token.ensures.cut)))
 
-pub returns-then-not-has_token-clause-refused : goal.returns-then-not-has_token-clause-refused
-returns-then-not-has_token-clause-refused c =
+pub returns-then-not-has_token : goal.returns-then-not-has_token
+returns-then-not-has_token c =
     rw (c.in-Some.ensures, c.if-not-is_word.ensures) (entry-short c.args.instance.now c.in-Some.number.now (tokens_of c.in-Some.behind.now) (omega (arith, ap length c.in-Some-first_token.ensures.cut, c.if-not-has_token.ensures)))

@@ -5,10 +5,10 @@ use Rattle.sfm_text.specs.Lines.{tokens_of}
 use Rattle.sfm_text.proofs.LongLaminar.{laminar-colon, laminar-short}
 use Rattle.sfm_text.proofs.long_laminar.laminar_line_term.Goals as goal
 
-pub returns-in_default-first_token-clause-refused : goal.returns-in_default-first_token-clause-refused
-returns-in_default-first_token-clause-refused c = rw (c.in-Some.ensures, c.if-not-is_word.ensures, c.in_default-first_token.ensures.cut) (laminar-short c.args.instance.now c.in-Some.number.now)
+pub returns-in_default-first_token : goal.returns-in_default-first_token
+returns-in_default-first_token c = rw (c.in-Some.ensures, c.if-not-is_word.ensures, c.in_default-first_token.ensures.cut) (laminar-short c.args.instance.now c.in-Some.number.now)
 
-pub returns-then-not-is_colon-clause-refused : goal.returns-then-not-is_colon-clause-refused
-returns-then-not-is_colon-clause-refused c =
+pub returns-then-not-is_colon : goal.returns-then-not-is_colon
+returns-then-not-is_colon c =
     let colon = c.in-Some-first_token.colon.now in
     rw (c.in-Some.ensures, c.if-not-is_word.ensures, c.in-Some-first_token.ensures.cut) (laminar-colon c.args.instance.now c.in-Some.number.now colon (tokens_of c.in-Some-first_token.behind.now) (λ s. false≢true (c.if-not-is_colon.ensures ∙ (bytes_eq-Decides colon (codes ":")).1 s)))
