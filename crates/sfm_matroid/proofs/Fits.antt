@@ -1,13 +1,13 @@
 -- Amounts of a base fit 128 bits, and so does what is left of a number.
-use Rattle.std.proofs.Common.{◌≡◌, ◌≢◌, ◌^◌, ℕ, ◌<◌, List, length, get_or, set, ℤ, pos, ◌+ℤ◌, ◌-ℤ◌, ◌*ℤ◌, ◌≤ℤ◌, to_z, of_z, arith, ⊎_elim, FitsSigned, length-set, get_or-set_other, get_or-set_same}
+use Rattle.std.proofs.Common.{◌≡◌, ◌≢◌, ◌↔◌, ◌^◌, IsTrue, ℕ, Bool, ◌<◌, List, length, get_or, set, ℤ, pos, ◌+ℤ◌, ◌-ℤ◌, ◌*ℤ◌, ◌≤ℤ◌, to_z, of_z, arith, ⊎_elim, FitsSigned, length-set, get_or-set_other, get_or-set_same}
 use Rattle.std.proofs.lemmas.Bool.{cases_eq}
 use Rattle.std.proofs.lemmas.Int.{ints, clamps, to_z-of_z}
 use Rattle.std.specs.Int.{int_min}
 use Rattle.std.specs.List.{All}
 use mir.Syntax.{w128}
 use Rattle.sfm_assign.specs.Splits.{IsAmount, Demands}
-use Rattle.sfm_spec.specs.Bounds.{IsFactor, IsGiven}
-use Rattle.sfm_law.proofs.Fits.{given_fits, product_low, product_high}
+use Rattle.sfm_spec.specs.Bounds.{IsAtMost, IsFactor, IsGiven, total_of}
+use Rattle.sfm_law.proofs.Fits.{given_fits, product_low, product_high, rank_fits}
 use Rattle.sfm_law.proofs.Monotone.{AreCounts}
 
 -- entries from 0 to a number
@@ -79,3 +79,12 @@ pub record IsAsked (c : ℤ) (x : List ℤ) (u v : ℕ) (limit : ℤ) (d : Deman
   pub demands_are : demands ≡ d.demands
   pub lists_are : lists ≡ d.lists
   pub capacities_are : capacities ≡ d.capacities
+
+-- what a sum tells of entries, by numbers as they are passed on in 128 bits
+pub sum_told : (even : Bool) (q w n size : ℤ) (x : List ℤ) → FitsSigned w128 q → IsGiven w → IsAtMost (10 ^ 21) n → n ≡ size
+    → IsTrue even ↔ (All (λ a. (pos 0 ≤ℤ a) × (a ≤ℤ (to_z w128 (of_z w128 q) *ℤ to_z w128 (of_z w128 w)))) x × (total_of x ≡ (to_z w128 (of_z w128 q) *ℤ to_z w128 (of_z w128 n))))
+    → IsTrue even ↔ (All (λ a. (pos 0 ≤ℤ a) × (a ≤ℤ (q *ℤ w))) x × (total_of x ≡ (q *ℤ size)))
+sum_told even q w n size x fq given small is told =
+    let fw : FitsSigned w128 w = given_fits w given in
+    let fn : FitsSigned w128 n = rank_fits n small in
+    rw is at (simp to_z-of_z at told)

@@ -1,5 +1,5 @@
 -- Bases of a graphic term by the tests of its code.
-use Rattle.std.proofs.Common.{◌≡◌, ℕ, ◌<◌, List, [], length, ℤ, pos, ◌*ℤ◌, ◌≤ℤ◌, sym, ◌∙◌}
+use Rattle.std.proofs.Common.{◌≡◌, ◌↔◌, ℕ, ◌<◌, List, [], length, ℤ, pos, ◌*ℤ◌, ◌≤ℤ◌, sym, ◌∙◌}
 use Rattle.std.specs.List.{All}
 use Rattle.sfm_spec.specs.Bounds.{IsFactor}
 use Rattle.sfm_spec.specs.Terms.{times, IsBase}
@@ -33,6 +33,13 @@ module _ (k : ℕ) (q w : ℤ) (edges : List Edge) (same : length edges ≡ k) (
 
   pub base_tests : IsBase (times q (graphic_value w edges)) x → (a : ℕ) → a < vertex_count edges → IsWithinEnds (numbered edges) (vertex_count edges) (q *ℤ w) x a
   base_tests base = (graphic_told base).met
+
+-- a base of a term by its entries
+pub base_by_entries : (s : Graphic) (q : ℤ) → IsFactor q → (x : List ℤ) → length x ≡ length s.places
+    → IsBase (times q (graphic_value s.w s.ends)) x ↔ IsTold (q *ℤ s.w) (q *ℤ graphic_size s.w s.ends) ((a : ℕ) → a < vertex_count s.ends → IsWithinEnds (numbered s.ends) (vertex_count s.ends) (q *ℤ s.w) x a) x
+base_by_entries s q factor x sized =
+    let low = product_low q s.w factor s.low in
+    (graphic_told (length s.places) q s.w s.ends s.same_count low x sized, told_graphic (length s.places) q s.w s.ends s.same_count low x sized)
 
 pub capped_base : (s : Graphic) (q : ℤ) → IsFactor q → (x : List ℤ) → length x ≡ length s.places → IsBase (times q (graphic_value s.w s.ends)) x → AreCapped (q *ℤ s.w) x
 capped_base s q factor x sized base = capped q s.w factor s.low s.given x (base_within_cap (length s.places) q s.w s.ends s.same_count (product_low q s.w factor s.low) x sized base)

@@ -24,6 +24,7 @@ use Rattle.sfm_matroid.proofs.Lending.{reach_row}
 use Rattle.sfm_matroid.specs.Graphs.{graphic_rank, graphic_value}
 use Rattle.sfm_matroid.specs.Notes.{end_demands, IsRootSplit}
 use Rattle.sfm_matroid.specs.Numbered.{IsEndOf, numbered, end_lists, vertex_capacities, vertex_count}
+use Rattle.sfm_matroid.specs.declared.graphic.Graphic.{Graphic}
 use Rattle.sfm_matroid.specs.declared.rooted.RootSplit.{RootSplit}
 use Rattle.sfm_matroid.proofs.GraphicBases.{base_tests}
 use Rattle.sfm_matroid.proofs.MatroidTests.{numbered_tests}
@@ -49,7 +50,7 @@ module _ (k : ℕ) (q w : ℤ) (edges : List Edge) (same : length edges ≡ k) (
   edge : (u : ℕ) → u < length x → u < length (numbered edges)
   edge u xu = let l = length-numbered edges [] in let s = sized in omega (arith, xu, s, l)
 
-  pub root_below : (u r : ℕ) → u < length x → IsEndOf (numbered edges) u r → r < vertex_count edges
+  root_below : (u r : ℕ) → u < length x → IsEndOf (numbered edges) u r → r < vertex_count edges
   root_below u r xu end = end_below (numbered edges) (vertex_count edges) (numbered_below edges []) u r (edge u xu) end
 
   counts : AreCounts x
@@ -207,6 +208,10 @@ first_split k q w edges same low x kx base = ⊎_elim
     base_split k q w edges same low x kx base 0 (omega (arith, first)))
     (λ none. no_edges edges (q *ℤ w) x (kx ∙ sym same) (omega (arith, none)))
     (cases_lt 0 (length edges))
+
+-- an end of an edge of a term is one of its vertices
+pub end_vertex : (s : Graphic) (u r : ℕ) → u < length s.places → IsEndOf (numbered s.ends) u r → r < vertex_count s.ends
+end_vertex s u r lt end = let l = length-numbered s.ends [] in let k = s.same_count in end_below (numbered s.ends) (vertex_count s.ends) (numbered_below s.ends []) u r (omega (arith, lt, l, k)) end
 
 -- ---- numbered ends as they are kept
 

@@ -1,6 +1,6 @@
 -- Bases of a transversal term by the test of its code, and how much can be exchanged at one: by the most that an element gets
 -- besides in the test, without another element; and to whom an element has room, by those that can lend to it.
-use Rattle.std.proofs.Common.{◌≡◌, ◌≢◌, ◌⊎◌, ℕ, ◌<◌, ◌≤◌, ◌^◌, Bool, List, length, get_or, set, replicate, ℤ, pos, ◌+ℤ◌, ◌-ℤ◌, ◌*ℤ◌, ◌≤ℤ◌, ◌<ℤ◌, sym, ap, ◌∙◌, arith, inl, inr, ⊎_elim, get_or-set_other}
+use Rattle.std.proofs.Common.{◌≡◌, ◌≢◌, ◌⊎◌, ◌↔◌, ℕ, ◌<◌, ◌≤◌, ◌^◌, Bool, List, length, get_or, set, replicate, ℤ, pos, ◌+ℤ◌, ◌-ℤ◌, ◌*ℤ◌, ◌≤ℤ◌, ◌<ℤ◌, sym, ap, ◌∙◌, arith, inl, inr, ⊎_elim, get_or-set_other}
 use Rattle.std.specs.Int.{int_min}
 use Rattle.std.specs.List.{All}
 use Rattle.std.proofs.lemmas.Int.{ints, clamps, by_lt_z}
@@ -146,6 +146,13 @@ module _ (k : ℕ) (q w : ℤ) (entries : List (List ℕ)) (m : ℕ) (exist : Al
   -- a row in the split is the reach
   pub reach_slots : IsBase (times q (transversal_value w entries)) x → (u : ℕ) → u < length x → (to : List Bool) → length to ≡ length x → IsRowIn (slot_demands entries m (q *ℤ w) x) (q *ℤ w) u to → IsReach (times q (transversal_value w entries)) x u to
   reach_slots base u xu to places row = reach_row (times q (transversal_value w entries)) (slot_demands entries m (q *ℤ w) x) (q *ℤ w) u to places row (λ v xv ne. giver_room base u v xu xv ne) (λ v xv ne. room_giver base u v xu xv ne)
+
+-- a base of a term by its entries
+pub base_by_entries : (s : Transversal) (q : ℤ) (m : ℕ) → All (All (λ v. v < m)) s.entries → IsFactor q → (x : List ℤ) → length x ≡ length s.places
+    → IsBase (times q (transversal_value s.w s.entries)) x ↔ IsTold (q *ℤ s.w) (q *ℤ transversal_size s.w s.entries) (IsWithinSlots s.entries m (q *ℤ s.w) x) x
+base_by_entries s q m below factor x sized =
+    let low = product_low q s.w factor s.low in
+    (transversal_told (length s.places) q s.w s.entries m below s.same_count low x sized, told_transversal (length s.places) q s.w s.entries m below s.same_count low x sized)
 
 -- ---- a base as demands that slots which hold c each can meet
 

@@ -1,9 +1,12 @@
 -- What is kept beside a base: a split of it in a test.
 use Rattle.std.specs.Prelude.{◌≡◌, ℕ, ◌<◌, ◌≤◌, ◌^◌, List, length, replicate, ℤ, pos, ◌*ℤ◌, ◌≤ℤ◌, Option, Some, None}
 use Rattle.std.specs.List.{All}
+use Rattle.sfm_spec.specs.Bounds.{IsFactor}
 use Rattle.sfm_spec.specs.Kinds.{Edge}
+use Rattle.sfm_spec.specs.Terms.{IsBase, times}
 use Rattle.sfm_assign.specs.Splits.{CanBeMet, Demands, IsAmount}
 use Rattle.sfm_assign.specs.declared.kept.Kept.{Kept}
+use Rattle.sfm_matroid.specs.Graphs.{graphic_value}
 use Rattle.sfm_matroid.specs.Numbered.{end_lists, numbered, vertex_capacities, vertex_count}
 use Rattle.sfm_matroid.specs.declared.rooted.RootSplit.{RootSplit}
 use Rattle.sfm_matroid.specs.declared.rooted.Spare.{Spare}
@@ -43,6 +46,11 @@ pub record IsRootSplit (edges : List Edge) (m : ℕ) (c : ℤ) (x : List ℤ) (n
   pub split : note.kept.demand ≡ end_demands edges m c x note.root
   pub spare : (s : Spare) → note.spare ≡ Some s → IsOverEnds edges m s.kept.demand
 
+-- splits of whatever amounts over the same ends: the one that is kept, and a spare one
+pub record AreOverEnds (edges : List Edge) (m : ℕ) (note : RootSplit) : Type 0 where
+  pub kept : IsOverEnds edges m note.kept.demand
+  pub spare : (s : Spare) → note.spare ≡ Some s → IsOverEnds edges m s.kept.demand
+
 -- a split of any demands over the slots of these entries, of which there are m
 pub record IsOver (entries : List (List ℕ)) (m : ℕ) (kept : Kept) : Type 0 where
   pub lists : kept.demand.lists ≡ entries
@@ -61,6 +69,12 @@ pub record IsSlotSplit (entries : List (List ℕ)) (c : ℤ) (x : List ℤ) (not
   pub holds : note.capacities.items ≡ replicate m c
   pub split : note.kept.demand ≡ slot_demands entries m c x
   pub spare : IsSpare entries m note.spare
+
+-- a base of q times a graphic term of k edges
+pub record IsGraphicBase (k : ℕ) (w : ℤ) (edges : List Edge) (q : ℤ) (x : List ℤ) : Type 0 where
+  pub factor : IsFactor q
+  pub sized : length x ≡ k
+  pub base : IsBase (times q (graphic_value w edges)) x
 
 -- what is kept beside a base of q times a graphic term: the split in the test of one vertex
 abbrev pub graphic_fits : ℤ → List Edge → RootSplit → ℤ → List ℤ → Type 0

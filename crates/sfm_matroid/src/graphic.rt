@@ -4,7 +4,7 @@
 // tails are enough. What an edge u may get is told by the test of an end of it alone: the room of (u, v) is the least of what v
 // has, what u lacks of q·w, and what u lacks of the most that it gets in that test without v, and to whom u has room is told by
 // one search in it.
-ghost use Rattle.std.specs.Prelude.{◌≡◌, ◌≢◌, ◌↔◌, IsTrue, ℕ, ◌<◌, ◌≤◌, ◌^◌, Bool, List, length, slice_index_or, ℤ, pos, neg_ℤ, ◌+ℤ◌, ◌-ℤ◌, ◌*ℤ◌, ◌≤ℤ◌, IfOk, OnOk, Some, None};
+ghost use Rattle.std.specs.Prelude.{◌≡◌, ◌≢◌, ◌↔◌, IsTrue, ℕ, ◌<◌, ◌≤◌, ◌^◌, Bool, List, length, slice_index_or, ℤ, pos, neg_ℤ, ◌+ℤ◌, ◌-ℤ◌, ◌*ℤ◌, ◌≤ℤ◌, IfOk, IsOk, OnOk, Some, None};
 ghost use Rattle.std.specs.List.{All};
 ghost use Rattle.sfm_assign.specs.Splits.{IsAmount, CanBeMet};
 ghost use Rattle.sfm_spec.specs.Bounds.{IsAtMost, IsEntry, IsFactor, IsGiven, AreElements};
@@ -14,7 +14,7 @@ ghost use Rattle.sfm_spec.specs.Kinds.{IsForest, IsRank, IsRankFunction};
 ghost use Rattle.sfm_matroid.specs.Ends.{edges_of};
 ghost use Rattle.sfm_matroid.specs.Cuts.{IsWithinEnds};
 ghost use Rattle.sfm_matroid.specs.Numbered.{IsEndOf, numbered, vertex_count, end_lists, vertex_capacities};
-ghost use Rattle.sfm_matroid.specs.Notes.{end_demands, graphic_fits, IsOverEnds, IsRootSplit};
+ghost use Rattle.sfm_matroid.specs.Notes.{graphic_fits, AreOverEnds, IsGraphicBase};
 ghost use Rattle.sfm_matroid.specs.declared.rooted.Spare.{Spare};
 ghost use Rattle.sfm_spec.specs.Rows.{Depends};
 ghost use Rattle.sfm_matroid.specs.Graphs.{graphic_rank, graphic_value, graphic_size, graphic_start, graphic_basis};
@@ -29,7 +29,7 @@ use crate::ranked::{adds_up, cap_of, worth, write_start};
 use crate::room::{limit_of, moved, second_of, without};
 use crate::rooted::{RootSplit, Spare, root_split, swap_spare, take_kept};
 use crate::testing::{brought, capacities, passes_tails};
-use sfm_assign::{Aim, Kept};
+use sfm_assign::Aim;
 use sfm_base::{Memory, Places, Set};
 use sfm_law::{Room, Term};
 use std::alloc::Global;
@@ -112,38 +112,6 @@ impl Graphic {
         ensures { IsRankFunction (length self.now.places) self.now.w (IsForest self.now.ends) (graphic_value self.now.w self.now.ends) }
     {}
 
-    /// The greatest value: that of all elements.
-    pub fn size_of(&self) -> i128
-        ensures value { result ≡ graphic_size self.now.w self.now.ends }
-        ensures small { IsAtMost (10 ^ 21) result }
-    {
-        worth(self.w, &self.basis)
-    }
-
-    /// The value of a part: w times its rank.
-    ///
-    /// # Errors
-    ///
-    /// `Memory` where there is none.
-    pub fn value_of(&self, alloc: Global, s: &Set) -> Result<Option<i128>, Memory>
-        requires { length s.now ≡ length self.now.places }
-        ensures { IfOk result (λ r. r ≡ graphic_value self.now.w self.now.ends s.now) }
-    {
-        let forest = grow(alloc, self.ends.as_slice(), s)?;
-        Ok(Some(worth(self.w, &forest)))
-    }
-
-    /// Writes the base with q·w at each edge of the forest that is kept, and 0 at the others.
-    pub fn start_of(&self, q: i128, x: &mut [i128])
-        requires factor { IsFactor q }
-        requires entries { length x.old ≡ length self.now.places }
-        ensures start { x.new ≡ graphic_start q self.now.w self.now.ends }
-        ensures greedy { IsGreedy q (graphic_value self.now.w self.now.ends) (length self.now.places) x.new }
-        ensures base { IsBase (times q (graphic_value self.now.w self.now.ends)) x.new }
-    {
-        write_start(q, self.w, &self.basis, x);
-    }
-
     /// Whether no edges get more than a number for each of their ends but one, whichever one.
     fn passes_all(&self, alloc: Global, x: &[i128], most: i128) -> Result<bool, Memory>
         requires entries { length x.now ≡ length self.now.places }
@@ -156,34 +124,6 @@ impl Graphic {
         Ok(passed)
     }
 
-    /// Whether x is a base of q times the term.
-    ///
-    /// # Errors
-    ///
-    /// `Memory` where there is none.
-    pub fn is_base_of(&self, alloc: Global, q: i128, x: &[i128]) -> Result<bool, Memory>
-        requires factor { IsFactor q }
-        requires entries { length x.now ≡ length self.now.places }
-        requires small { All IsEntry x.now }
-        ensures { IfOk result (λ r. IsTrue r ↔ IsBase (times q (graphic_value self.now.w self.now.ends)) x.now) }
-    {
-        if !adds_up(x, q, self.w, self.size_of()) {
-            return Ok(false);
-        }
-        let passed = self.passes_all(alloc, x, self.cap(q))?;
-        Ok(passed)
-    }
-
-    /// What no entry of a base of q times the term exceeds.
-    fn cap(&self, q: i128) -> i128
-        requires factor { IsFactor q }
-        ensures value { result ≡ q *ℤ self.now.w }
-        ensures low { pos 0 ≤ℤ result }
-        ensures high { result ≤ℤ pos (10 ^ 24) }
-    {
-        cap_of(q, self.w)
-    }
-
     /// The root if it is an end of an edge, and else the tail of that.
     fn end_near(&self, root: usize, u: usize) -> usize
         requires { u < length self.now.places }
@@ -193,7 +133,7 @@ impl Graphic {
         if root == head { head } else { tail }
     }
 
-    /// Brings a split over the ends to entries that can be met with the root.
+    /// Brings a split of whatever amounts that is kept to a base, in the test of a root.
     ///
     /// # Errors
     ///
@@ -201,110 +141,21 @@ impl Graphic {
     fn bring(
         &self,
         alloc: Global,
-        kept: &mut Kept,
-        x: &[i128],
-        cap: i128,
-        root: usize,
-    ) -> Result<(), Memory>
-        requires over { IsOverEnds (numbered self.now.ends) (vertex_count self.now.ends) kept.old.demand }
-        requires entries { length x.now ≡ length self.now.places }
-        requires amounts { All IsAmount x.now }
-        requires low { pos 0 ≤ℤ cap }
-        requires high { cap ≤ℤ pos (10 ^ 24) }
-        requires met { CanBeMet x.now (end_lists (numbered self.now.ends)) (vertex_capacities (vertex_count self.now.ends) cap root) }
-        ensures { OnOk result (kept.new.demand ≡ end_demands (numbered self.now.ends) (vertex_count self.now.ends) cap x.now root) }
-    {
-        if !brought(alloc, &self.graph, kept, x, cap, root)? {
-            unreachable!();
-        }
-        Ok(())
-    }
-
-    /// The split from nothing of entries that can be met with the root.
-    ///
-    /// # Errors
-    ///
-    /// `Memory` where there is none.
-    fn split(&self, alloc: Global, x: &[i128], cap: i128, root: usize) -> Result<RootSplit, Memory>
-        requires entries { length x.now ≡ length self.now.places }
-        requires amounts { All IsAmount x.now }
-        requires low { pos 0 ≤ℤ cap }
-        requires high { cap ≤ℤ pos (10 ^ 24) }
-        requires met { CanBeMet x.now (end_lists (numbered self.now.ends)) (vertex_capacities (vertex_count self.now.ends) cap root) }
-        ensures root { IfOk result (λ r. r.root ≡ root) }
-        ensures split { IfOk result (IsRootSplit (numbered self.now.ends) (vertex_count self.now.ends) cap x.now) }
-    {
-        let note = root_split(alloc, &self.graph, x, cap, root)?;
-        Ok(note)
-    }
-
-    /// The room of (u, v) at a base.
-    ///
-    /// # Errors
-    ///
-    /// `Memory` where there is none.
-    pub fn room_of(
-        &self,
-        alloc: Global,
-        q: i128,
-        x: &[i128],
-        u: usize,
-        v: usize,
-    ) -> Result<Room, Memory>
-        requires factor { IsFactor q }
-        requires entries { length x.now ≡ length self.now.places }
-        requires small { All IsEntry x.now }
-        requires base { IsBase (times q (graphic_value self.now.w self.now.ends)) x.now }
-        requires apart { u ≢ v }
-        requires from { u < length x.now }
-        requires onto { v < length x.now }
-        ensures { IfOk result (IsRoom (times q (graphic_value self.now.w self.now.ends)) x.now u v) }
-    {
-        let mut note = self.note_of(alloc, q, x)?;
-        self.room_near(alloc, q, x, &mut note, u, v)
-    }
-
-    /// The split in the test of a vertex, which is kept beside a base.
-    ///
-    /// # Errors
-    ///
-    /// `Memory` where there is none.
-    pub fn note_of(&self, alloc: Global, q: i128, x: &[i128]) -> Result<RootSplit, Memory>
-        requires factor { IsFactor q }
-        requires entries { length x.now ≡ length self.now.places }
-        requires base { IsBase (times q (graphic_value self.now.w self.now.ends)) x.now }
-        ensures { IfOk result (λ r. graphic_fits self.now.w self.now.ends r q x.now) }
-    {
-        let cap = self.cap(q);
-        let note = self.split(alloc, x, cap, 0)?;
-        Ok(note)
-    }
-
-    /// Brings a split of whatever amounts that is kept to a base, with the root at an end of u.
-    ///
-    /// # Errors
-    ///
-    /// `Memory` where there is none.
-    fn bring_near(
-        &self,
-        alloc: Global,
         q: i128,
         x: &[i128],
         note: &mut RootSplit,
-        u: usize,
+        root: usize,
     ) -> Result<(), Memory>
-        requires factor { IsFactor q }
-        requires entries { length x.now ≡ length self.now.places }
-        requires base { IsBase (times q (graphic_value self.now.w self.now.ends)) x.now }
-        requires place { u < length x.now }
-        requires kept { IsOverEnds (numbered self.now.ends) (vertex_count self.now.ends) note.old.kept.demand }
-        requires spare { (s : Spare) → note.old.spare ≡ Some s → IsOverEnds (numbered self.now.ends) (vertex_count self.now.ends) s.kept.demand }
-        ensures end { OnOk result (IsEndOf (numbered self.now.ends) u note.new.root) }
+        requires base { IsGraphicBase (length self.now.places) self.now.w self.now.ends q x.now }
+        requires vertex { root < vertex_count self.now.ends }
+        requires over { AreOverEnds (numbered self.now.ends) (vertex_count self.now.ends) note.old }
+        ensures root { OnOk result (note.new.root ≡ root) }
         ensures noted { OnOk result (graphic_fits self.now.w self.now.ends note.new q x.now) }
     {
-        let cap = self.cap(q);
-        let root = self.end_near(note.root, u);
-        self.bring(alloc, &mut note.kept, x, cap, root)?;
+        let cap = cap_of(q, self.w);
+        if !brought(alloc, &self.graph, &mut note.kept, x, cap, root)? {
+            unreachable!();
+        }
         note.root = root;
         Ok(())
     }
@@ -322,129 +173,24 @@ impl Graphic {
         note: &mut RootSplit,
         u: usize,
     ) -> Result<(), Memory>
-        requires factor { IsFactor q }
-        requires entries { length x.now ≡ length self.now.places }
-        requires base { IsBase (times q (graphic_value self.now.w self.now.ends)) x.now }
+        requires base { IsGraphicBase (length self.now.places) self.now.w self.now.ends q x.now }
         requires noted { graphic_fits self.now.w self.now.ends note.old q x.now }
-        requires place { u < length x.now }
+        requires place { u < length self.now.places }
         ensures end { OnOk result (IsEndOf (numbered self.now.ends) u note.new.root) }
         ensures noted { OnOk result (graphic_fits self.now.w self.now.ends note.new q x.now) }
     {
-        if self.end_near(note.root, u) == note.root {
+        let root = self.end_near(note.root, u);
+        if root == note.root {
             return Ok(());
         }
-        self.bring_near(alloc, q, x, note, u)
-    }
-
-    /// Writes the places other than u to which u has room at a base, where u is s or has room to it: by the split that is kept,
-    /// with its root at an end of s.
-    ///
-    /// # Errors
-    ///
-    /// `Memory` where there is none.
-    fn reach_near(
-        &self,
-        alloc: Global,
-        q: i128,
-        x: &[i128],
-        note: &mut RootSplit,
-        s: usize,
-        u: usize,
-        to: &mut Set,
-    ) -> Result<(), Memory>
-        requires factor { IsFactor q }
-        requires entries { length x.now ≡ length self.now.places }
-        requires base { IsBase (times q (graphic_value self.now.w self.now.ends)) x.now }
-        requires noted { graphic_fits self.now.w self.now.ends note.old q x.now }
-        requires onto { s < length x.now }
-        requires from { u < length x.now }
-        requires leads { Depends (times q (graphic_value self.now.w self.now.ends)) x.now u s }
-        requires room_for_answer { length to.old ≡ length x.now }
-        ensures places { length to.new ≡ length to.old }
-        ensures reached { OnOk result (IsReach (times q (graphic_value self.now.w self.now.ends)) x.now u to.new) }
-        ensures noted { OnOk result (graphic_fits self.now.w self.now.ends note.new q x.now) }
-    {
-        self.root_near(alloc, q, x, note, s)?;
-        let cap = self.cap(q);
-        row(alloc, &mut note.kept, x, cap, u, to)?;
-        Ok(())
-    }
-
-    /// Writes the places other than u to which u has room at a base, by the split that is kept, with its root at an end of u.
-    ///
-    /// # Errors
-    ///
-    /// `Memory` where there is none.
-    pub fn reach_of(
-        &self,
-        alloc: Global,
-        q: i128,
-        x: &[i128],
-        note: &mut RootSplit,
-        u: usize,
-        to: &mut Set,
-    ) -> Result<(), Memory>
-        requires factor { IsFactor q }
-        requires entries { length x.now ≡ length self.now.places }
-        requires base { IsBase (times q (graphic_value self.now.w self.now.ends)) x.now }
-        requires noted { graphic_fits self.now.w self.now.ends note.old q x.now }
-        requires from { u < length x.now }
-        requires room_for_answer { length to.old ≡ length x.now }
-        ensures places { length to.new ≡ length to.old }
-        ensures reached { OnOk result (IsReach (times q (graphic_value self.now.w self.now.ends)) x.now u to.new) }
-        ensures noted { OnOk result (graphic_fits self.now.w self.now.ends note.new q x.now) }
-    {
-        self.reach_near(alloc, q, x, note, u, u, to)
-    }
-
-    /// The room of (u, v) at a base, by a second split beside the one that is kept, which is brought to what stays without v, with
-    /// the root at an end of u, and stays in the note.
-    ///
-    /// # Errors
-    ///
-    /// `Memory` where there is none.
-    fn room_near(
-        &self,
-        alloc: Global,
-        q: i128,
-        x: &[i128],
-        note: &mut RootSplit,
-        u: usize,
-        v: usize,
-    ) -> Result<Room, Memory>
-        requires factor { IsFactor q }
-        requires entries { length x.now ≡ length self.now.places }
-        requires base { IsBase (times q (graphic_value self.now.w self.now.ends)) x.now }
-        requires noted { graphic_fits self.now.w self.now.ends note.old q x.now }
-        requires apart { u ≢ v }
-        requires from { u < length x.now }
-        requires onto { v < length x.now }
-        ensures room { IfOk result (IsRoom (times q (graphic_value self.now.w self.now.ends)) x.now u v) }
-        ensures noted { OnOk result (graphic_fits self.now.w self.now.ends note.new q x.now) }
-    {
-        let cap = self.cap(q);
-        let root = self.end_near(note.root, u);
-        let limit = limit_of(x, cap, u, v);
-        let rest = without(alloc, x, v)?;
-        let held = capacities(alloc, self.graph.vertices, cap, root)?;
-        let spare = take_kept(note);
-        let mut kept = second_of(alloc, &note.kept, spare)?;
-        let aim = Aim {
-            demands: &rest,
-            capacities: &held,
-        };
-        let most = kept.grow_from(alloc, &note.kept, &aim, u, limit)?;
-        note.spare = Some(Spare { root, kept });
-        Ok(Room::Upto(most))
+        self.bring(alloc, q, x, note, root)
     }
 
     /// Takes the spare split in place of the one that is kept, if its root is an end of u. The other one is the spare then.
     fn take_spare(&self, note: &mut RootSplit, u: usize)
         requires place { u < length self.now.places }
-        requires kept { IsOverEnds (numbered self.now.ends) (vertex_count self.now.ends) note.old.kept.demand }
-        requires spare { (s : Spare) → note.old.spare ≡ Some s → IsOverEnds (numbered self.now.ends) (vertex_count self.now.ends) s.kept.demand }
-        ensures kept { IsOverEnds (numbered self.now.ends) (vertex_count self.now.ends) note.new.kept.demand }
-        ensures spare { (s : Spare) → note.new.spare ≡ Some s → IsOverEnds (numbered self.now.ends) (vertex_count self.now.ends) s.kept.demand }
+        requires over { AreOverEnds (numbered self.now.ends) (vertex_count self.now.ends) note.old }
+        ensures { AreOverEnds (numbered self.now.ends) (vertex_count self.now.ends) note.new }
     {
         if let Some(spare) = note.spare.take() {
             if self.end_near(spare.root, u) == spare.root {
@@ -453,32 +199,6 @@ impl Graphic {
                 note.spare = Some(spare);
             }
         }
-    }
-
-    /// Brings what is kept beside a base to another one, with the root at an end of u: the spare split, or else the one that is
-    /// kept.
-    ///
-    /// # Errors
-    ///
-    /// `Memory` where there is none.
-    fn move_to(
-        &self,
-        alloc: Global,
-        q: i128,
-        x: &[i128],
-        note: &mut RootSplit,
-        u: usize,
-    ) -> Result<(), Memory>
-        requires factor { IsFactor q }
-        requires entries { length x.now ≡ length self.now.places }
-        requires base { IsBase (times q (graphic_value self.now.w self.now.ends)) x.now }
-        requires place { u < length x.now }
-        requires kept { IsOverEnds (numbered self.now.ends) (vertex_count self.now.ends) note.old.kept.demand }
-        requires spare { (s : Spare) → note.old.spare ≡ Some s → IsOverEnds (numbered self.now.ends) (vertex_count self.now.ends) s.kept.demand }
-        ensures { OnOk result (graphic_fits self.now.w self.now.ends note.new q x.now) }
-    {
-        self.take_spare(note, u);
-        self.bring_near(alloc, q, x, note, u)
     }
 }
 
@@ -522,27 +242,47 @@ impl Term for Graphic {
         true
     }
 
-    fn size(&self) -> i128 {
-        self.size_of()
+    /// The greatest value: that of all elements.
+    fn size(&self) -> i128
+        ensures value { result ≡ graphic_size self.now.w self.now.ends }
+        ensures small { IsAtMost (10 ^ 21) result }
+    {
+        worth(self.w, &self.basis)
     }
 
+    /// The value of a part: w times its rank.
     fn value(&self, alloc: Global, s: &Set) -> Result<Option<i128>, Memory> {
-        self.value_of(alloc, s)
+        let forest = grow(alloc, self.ends.as_slice(), s)?;
+        Ok(Some(worth(self.w, &forest)))
     }
 
-    fn start(&self, _alloc: Global, q: i128, x: &mut [i128]) -> Result<(), Memory> {
-        self.start_of(q, x);
+    /// Writes the base with q·w at each edge of the forest that is kept, and 0 at the others.
+    fn start(&self, _alloc: Global, q: i128, x: &mut [i128]) -> Result<(), Memory>
+        requires factor { IsFactor q }
+        requires entries { length x.old ≡ length self.now.places }
+        ensures start { OnOk result (x.new ≡ graphic_start q self.now.w self.now.ends) }
+        ensures greedy { OnOk result (IsGreedy q (graphic_value self.now.w self.now.ends) (length self.now.places) x.new) }
+        ensures sure { IsOk result }
+    {
+        write_start(q, self.w, &self.basis, x);
         Ok(())
     }
 
     fn is_base(&self, alloc: Global, q: i128, x: &[i128]) -> Result<bool, Memory> {
-        self.is_base_of(alloc, q, x)
+        if !adds_up(x, q, self.w, self.size()) {
+            return Ok(false);
+        }
+        let passed = self.passes_all(alloc, x, cap_of(q, self.w))?;
+        Ok(passed)
     }
 
+    /// The room of (u, v) at a base, by a note that is made for it.
     fn room(&self, alloc: Global, q: i128, x: &[i128], u: usize, v: usize) -> Result<Room, Memory> {
-        self.room_of(alloc, q, x, u, v)
+        let mut note = self.note(alloc, q, x)?;
+        self.room_by(alloc, q, x, &mut note, u, v)
     }
 
+    /// Writes the places other than u to which u has room at a base, by a note that is made for it.
     fn reach(
         &self,
         alloc: Global,
@@ -551,14 +291,18 @@ impl Term for Graphic {
         u: usize,
         to: &mut Set,
     ) -> Result<(), Memory> {
-        let mut note = self.note_of(alloc, q, x)?;
-        self.reach_of(alloc, q, x, &mut note, u, to)
+        let mut note = self.note(alloc, q, x)?;
+        self.reach_by(alloc, q, x, &mut note, u, to)
     }
 
+    /// The split in the test of a vertex.
     fn note(&self, alloc: Global, q: i128, x: &[i128]) -> Result<RootSplit, Memory> {
-        self.note_of(alloc, q, x)
+        let cap = cap_of(q, self.w);
+        let note = root_split(alloc, &self.graph, x, cap, 0)?;
+        Ok(note)
     }
 
+    /// Writes what `reach_with` does from u itself.
     fn reach_by(
         &self,
         alloc: Global,
@@ -568,9 +312,11 @@ impl Term for Graphic {
         u: usize,
         to: &mut Set,
     ) -> Result<(), Memory> {
-        self.reach_of(alloc, q, x, note, u, to)
+        self.reach_with(alloc, q, x, note, u, u, to)
     }
 
+    /// The room of (u, v) at a base, by a second split beside the one that is kept, which is brought to what stays without v, with
+    /// the root at an end of u, and stays in the note.
     fn room_by(
         &self,
         alloc: Global,
@@ -580,9 +326,24 @@ impl Term for Graphic {
         u: usize,
         v: usize,
     ) -> Result<Room, Memory> {
-        self.room_near(alloc, q, x, note, u, v)
+        let cap = cap_of(q, self.w);
+        let root = self.end_near(note.root, u);
+        let limit = limit_of(x, cap, u, v);
+        let rest = without(alloc, x, v)?;
+        let held = capacities(alloc, self.graph.vertices, cap, root)?;
+        let spare = take_kept(note);
+        let mut kept = second_of(alloc, &note.kept, spare)?;
+        let aim = Aim {
+            demands: &rest,
+            capacities: &held,
+        };
+        let most = kept.grow_from(alloc, &note.kept, &aim, u, limit)?;
+        note.spare = Some(Spare { root, kept });
+        Ok(Room::Upto(most))
     }
 
+    /// Writes the places other than u to which u has room at a base, where u is s or has room to it: by the split that is kept,
+    /// with its root at an end of s.
     fn reach_with(
         &self,
         alloc: Global,
@@ -593,9 +354,14 @@ impl Term for Graphic {
         u: usize,
         to: &mut Set,
     ) -> Result<(), Memory> {
-        self.reach_near(alloc, q, x, note, s, u, to)
+        self.root_near(alloc, q, x, note, s)?;
+        let cap = cap_of(q, self.w);
+        row(alloc, &mut note.kept, x, cap, u, to)?;
+        Ok(())
     }
 
+    /// Brings what is kept beside a base to the exchanged one, with the root at an end of u: the spare split, or else the one that
+    /// is kept.
     fn moved(
         &self,
         alloc: Global,
@@ -607,7 +373,8 @@ impl Term for Graphic {
         a: i128,
     ) -> Result<(), Memory> {
         let after = moved(alloc, x, u, v, a)?;
-        self.move_to(alloc, q, &after, note, u)?;
-        Ok(())
+        self.take_spare(note, u);
+        let root = self.end_near(note.root, u);
+        self.bring(alloc, q, &after, note, root)
     }
 }

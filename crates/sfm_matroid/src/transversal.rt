@@ -5,7 +5,7 @@
 // that it gets in the test without v. To whom u has room is told by one search in the test: to those that can lend to u.
 // The split of a base is kept beside it. A room is then told in a copy of it, in which v gives up what it has and u is raised;
 // an exchange takes that copy, as it lacks only what v keeps.
-ghost use Rattle.std.specs.Prelude.{◌≡◌, ◌≢◌, ◌↔◌, ◌*◌, IsTrue, ℕ, ◌<◌, ◌≤◌, ◌^◌, Bool, List, length, slice_index_or, slice_set, ℤ, pos, neg_ℤ, ◌+ℤ◌, ◌-ℤ◌, ◌*ℤ◌, ◌≤ℤ◌, IfOk, OnOk, Some};
+ghost use Rattle.std.specs.Prelude.{◌≡◌, ◌≢◌, ◌↔◌, ◌*◌, IsTrue, ℕ, ◌<◌, ◌≤◌, ◌^◌, Bool, List, length, slice_index_or, slice_set, ℤ, pos, neg_ℤ, ◌+ℤ◌, ◌-ℤ◌, ◌*ℤ◌, ◌≤ℤ◌, IfOk, IsOk, OnOk, Some};
 ghost use Rattle.std.specs.List.{All};
 ghost use Rattle.sfm_spec.specs.Bounds.{IsAtMost, IsEntry, IsFactor, IsGiven, AreElements};
 ghost use Rattle.sfm_spec.specs.Terms.{SetFunction, IsBase, IsCapacity, IsFamily, IsSubmodular, IsGreedy, HasRoom, exchanged, times};
@@ -94,170 +94,6 @@ impl Transversal {
     pub fn values_are_ranks(&self)
         ensures { IsRankFunction (length self.now.places) self.now.w (IsMatchable self.now.entries) (transversal_value self.now.w self.now.entries) }
     {}
-
-    /// The greatest value: that of all elements.
-    pub fn size_of(&self) -> i128
-        ensures value { result ≡ transversal_size self.now.w self.now.entries }
-        ensures small { IsAtMost (10 ^ 21) result }
-    {
-        worth(self.w, &self.basis)
-    }
-
-    /// The value of a part: w times its rank.
-    ///
-    /// # Errors
-    ///
-    /// `Memory` where there is none.
-    pub fn value_of(&self, alloc: Global, s: &Set) -> Result<Option<i128>, Memory>
-        requires { length s.now ≡ length self.now.places }
-        ensures { IfOk result (λ r. r ≡ transversal_value self.now.w self.now.entries s.now) }
-    {
-        let taken = matched(alloc, &self.entries, s)?;
-        Ok(Some(worth(self.w, &taken)))
-    }
-
-    /// Writes the base with q·w at each element of the part that is kept, and 0 at the others.
-    pub fn start_of(&self, q: i128, x: &mut [i128])
-        requires factor { IsFactor q }
-        requires entries { length x.old ≡ length self.now.places }
-        ensures start { x.new ≡ transversal_start q self.now.w self.now.entries }
-        ensures greedy { IsGreedy q (transversal_value self.now.w self.now.entries) (length self.now.places) x.new }
-        ensures base { IsBase (times q (transversal_value self.now.w self.now.entries)) x.new }
-    {
-        write_start(q, self.w, &self.basis, x);
-    }
-
-    /// Whether x is a base of q times the term.
-    ///
-    /// # Errors
-    ///
-    /// `Memory` where there is none.
-    pub fn is_base_of(&self, alloc: Global, q: i128, x: &[i128]) -> Result<bool, Memory>
-        requires factor { IsFactor q }
-        requires entries { length x.now ≡ length self.now.places }
-        requires small { All IsEntry x.now }
-        ensures { IfOk result (λ r. IsTrue r ↔ IsBase (times q (transversal_value self.now.w self.now.entries)) x.now) }
-    {
-        let m = self.entries.above();
-        if !adds_up(x, q, self.w, self.size_of()) {
-            return Ok(false);
-        }
-        let held = are_held(alloc, &self.entries, m, x, cap_of(q, self.w))?;
-        Ok(held)
-    }
-
-    /// The room of (u, v) at a base.
-    ///
-    /// # Errors
-    ///
-    /// `Memory` where there is none.
-    pub fn room_of(
-        &self,
-        alloc: Global,
-        q: i128,
-        x: &[i128],
-        u: usize,
-        v: usize,
-    ) -> Result<Room, Memory>
-        requires factor { IsFactor q }
-        requires entries { length x.now ≡ length self.now.places }
-        requires small { All IsEntry x.now }
-        requires base { IsBase (times q (transversal_value self.now.w self.now.entries)) x.now }
-        requires apart { u ≢ v }
-        requires from { u < length x.now }
-        requires onto { v < length x.now }
-        ensures { IfOk result (IsRoom (times q (transversal_value self.now.w self.now.entries)) x.now u v) }
-    {
-        let mut note = self.note_of(alloc, q, x)?;
-        self.room_in(alloc, q, x, &mut note, u, v)
-    }
-
-    /// The split in the test that tells a base, which is kept beside it.
-    ///
-    /// # Errors
-    ///
-    /// `Memory` where there is none.
-    pub fn note_of(&self, alloc: Global, q: i128, x: &[i128]) -> Result<SlotSplit, Memory>
-        requires factor { IsFactor q }
-        requires entries { length x.now ≡ length self.now.places }
-        requires base { IsBase (times q (transversal_value self.now.w self.now.entries)) x.now }
-        ensures { IfOk result (λ r. transversal_fits self.now.w self.now.entries r q x.now) }
-    {
-        let cap = cap_of(q, self.w);
-        let m = self.entries.above();
-        let note = slot_split(alloc, &self.entries, m, x, cap)?;
-        Ok(note)
-    }
-
-    /// The room of (u, v) at a base, by a second split beside the one that is kept, which stays. The second one, with nothing at v
-    /// and as much more at u, is left as the spare.
-    ///
-    /// # Errors
-    ///
-    /// `Memory` where there is none.
-    pub fn room_in(
-        &self,
-        alloc: Global,
-        q: i128,
-        x: &[i128],
-        note: &mut SlotSplit,
-        u: usize,
-        v: usize,
-    ) -> Result<Room, Memory>
-        requires factor { IsFactor q }
-        requires entries { length x.now ≡ length self.now.places }
-        requires base { IsBase (times q (transversal_value self.now.w self.now.entries)) x.now }
-        requires noted { transversal_fits self.now.w self.now.entries note.old q x.now }
-        requires apart { u ≢ v }
-        requires from { u < length x.now }
-        requires onto { v < length x.now }
-        ensures room { IfOk result (IsRoom (times q (transversal_value self.now.w self.now.entries)) x.now u v) }
-        ensures noted { OnOk result (transversal_fits self.now.w self.now.entries note.new q x.now) }
-    {
-        let cap = cap_of(q, self.w);
-        let limit = limit_of(x, cap, u, v);
-        if limit == 0 {
-            return Ok(Room::Upto(0));
-        }
-        let rest = without(alloc, x, v)?;
-        let mut second = second_of(alloc, &note.kept, note.spare.take())?;
-        let aim = Aim {
-            demands: &rest,
-            capacities: &note.capacities,
-        };
-        let most = second.grow_from(alloc, &note.kept, &aim, u, limit)?;
-        note.spare = Some(second);
-        Ok(Room::Upto(most))
-    }
-
-    /// Writes the places other than u to which u has room at a base, by the split that is kept beside it.
-    ///
-    /// # Errors
-    ///
-    /// `Memory` where there is none.
-    pub fn reach_of(
-        &self,
-        alloc: Global,
-        q: i128,
-        x: &[i128],
-        note: &mut SlotSplit,
-        u: usize,
-        to: &mut Set,
-    ) -> Result<(), Memory>
-        requires factor { IsFactor q }
-        requires entries { length x.now ≡ length self.now.places }
-        requires base { IsBase (times q (transversal_value self.now.w self.now.entries)) x.now }
-        requires noted { transversal_fits self.now.w self.now.entries note.old q x.now }
-        requires from { u < length x.now }
-        requires room_for_answer { length to.old ≡ length x.now }
-        ensures places { length to.new ≡ length to.old }
-        ensures reached { OnOk result (IsReach (times q (transversal_value self.now.w self.now.entries)) x.now u to.new) }
-        ensures noted { OnOk result (transversal_fits self.now.w self.now.entries note.new q x.now) }
-    {
-        let cap = cap_of(q, self.w);
-        row(alloc, &mut note.kept, x, cap, u, to)?;
-        Ok(())
-    }
 }
 
 impl Term for Transversal {
@@ -292,27 +128,48 @@ impl Term for Transversal {
         self.places.as_slice()
     }
 
-    fn size(&self) -> i128 {
-        self.size_of()
+    /// The greatest value: that of all elements.
+    fn size(&self) -> i128
+        ensures value { result ≡ transversal_size self.now.w self.now.entries }
+        ensures small { IsAtMost (10 ^ 21) result }
+    {
+        worth(self.w, &self.basis)
     }
 
+    /// The value of a part: w times its rank.
     fn value(&self, alloc: Global, s: &Set) -> Result<Option<i128>, Memory> {
-        self.value_of(alloc, s)
+        let taken = matched(alloc, &self.entries, s)?;
+        Ok(Some(worth(self.w, &taken)))
     }
 
-    fn start(&self, _alloc: Global, q: i128, x: &mut [i128]) -> Result<(), Memory> {
-        self.start_of(q, x);
+    /// Writes the base with q·w at each element of the part that is kept, and 0 at the others.
+    fn start(&self, _alloc: Global, q: i128, x: &mut [i128]) -> Result<(), Memory>
+        requires factor { IsFactor q }
+        requires entries { length x.old ≡ length self.now.places }
+        ensures start { OnOk result (x.new ≡ transversal_start q self.now.w self.now.entries) }
+        ensures greedy { OnOk result (IsGreedy q (transversal_value self.now.w self.now.entries) (length self.now.places) x.new) }
+        ensures sure { IsOk result }
+    {
+        write_start(q, self.w, &self.basis, x);
         Ok(())
     }
 
     fn is_base(&self, alloc: Global, q: i128, x: &[i128]) -> Result<bool, Memory> {
-        self.is_base_of(alloc, q, x)
+        let m = self.entries.above();
+        if !adds_up(x, q, self.w, self.size()) {
+            return Ok(false);
+        }
+        let held = are_held(alloc, &self.entries, m, x, cap_of(q, self.w))?;
+        Ok(held)
     }
 
+    /// The room of (u, v) at a base, by a note that is made for it.
     fn room(&self, alloc: Global, q: i128, x: &[i128], u: usize, v: usize) -> Result<Room, Memory> {
-        self.room_of(alloc, q, x, u, v)
+        let mut note = self.note(alloc, q, x)?;
+        self.room_by(alloc, q, x, &mut note, u, v)
     }
 
+    /// Writes the places other than u to which u has room at a base, by a note that is made for it.
     fn reach(
         &self,
         alloc: Global,
@@ -321,14 +178,19 @@ impl Term for Transversal {
         u: usize,
         to: &mut Set,
     ) -> Result<(), Memory> {
-        let mut note = self.note_of(alloc, q, x)?;
-        self.reach_of(alloc, q, x, &mut note, u, to)
+        let mut note = self.note(alloc, q, x)?;
+        self.reach_by(alloc, q, x, &mut note, u, to)
     }
 
+    /// The split in the test that tells a base.
     fn note(&self, alloc: Global, q: i128, x: &[i128]) -> Result<SlotSplit, Memory> {
-        self.note_of(alloc, q, x)
+        let cap = cap_of(q, self.w);
+        let m = self.entries.above();
+        let note = slot_split(alloc, &self.entries, m, x, cap)?;
+        Ok(note)
     }
 
+    /// Writes the places other than u to which u has room at a base, by the split that is kept beside it.
     fn reach_by(
         &self,
         alloc: Global,
@@ -338,9 +200,13 @@ impl Term for Transversal {
         u: usize,
         to: &mut Set,
     ) -> Result<(), Memory> {
-        self.reach_of(alloc, q, x, note, u, to)
+        let cap = cap_of(q, self.w);
+        row(alloc, &mut note.kept, x, cap, u, to)?;
+        Ok(())
     }
 
+    /// The room of (u, v) at a base, by a second split beside the one that is kept, which stays. The second one, with nothing at v
+    /// and as much more at u, is left as the spare.
     fn room_by(
         &self,
         alloc: Global,
@@ -350,9 +216,23 @@ impl Term for Transversal {
         u: usize,
         v: usize,
     ) -> Result<Room, Memory> {
-        self.room_in(alloc, q, x, note, u, v)
+        let cap = cap_of(q, self.w);
+        let limit = limit_of(x, cap, u, v);
+        if limit == 0 {
+            return Ok(Room::Upto(0));
+        }
+        let rest = without(alloc, x, v)?;
+        let mut second = second_of(alloc, &note.kept, note.spare.take())?;
+        let aim = Aim {
+            demands: &rest,
+            capacities: &note.capacities,
+        };
+        let most = second.grow_from(alloc, &note.kept, &aim, u, limit)?;
+        note.spare = Some(second);
+        Ok(Room::Upto(most))
     }
 
+    /// Brings the spare split, or else the one that is kept, to the exchanged base.
     fn moved(
         &self,
         alloc: Global,

@@ -1,5 +1,5 @@
 use Rattle.sfm_matroid.specs.Transversals.{length-transversal_basis}
-use Rattle.sfm_matroid.proofs.transversal.Transversal.size_of.Goals as goal
+use Rattle.sfm_matroid.proofs.transversal.TransversalTerm.size.Goals as goal
 
 pub worth-requires-clause-few : goal.worth-requires-clause-few
 worth-requires-clause-few c =

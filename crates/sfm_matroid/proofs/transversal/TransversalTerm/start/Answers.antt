@@ -2,9 +2,9 @@ use Rattle.std.proofs.Common.{◌∙◌, length, ap, sym, FitsSigned}
 use Rattle.std.proofs.lemmas.Int.{to_z-of_z}
 use mir.Syntax.{w128}
 use Rattle.sfm_law.proofs.Fits.{given_fits}
-use Rattle.sfm_matroid.specs.TransversalLaws.{transversal-greedy, transversal-starts}
+use Rattle.sfm_matroid.specs.TransversalLaws.{transversal-greedy}
 use Rattle.sfm_matroid.specs.Transversals.{length-transversal_basis}
-use Rattle.sfm_matroid.proofs.transversal.Transversal.start_of.Goals as goal
+use Rattle.sfm_matroid.proofs.transversal.TransversalTerm.start.Goals as goal
 
 pub write_start-requires-clause-entries : goal.write_start-requires-clause-entries
 write_start-requires-clause-entries c = let s = c.args.self.now in c.requires.entries ∙ sym (ap length s.based ∙ (length-transversal_basis s.entries ∙ s.same_count))
@@ -18,6 +18,3 @@ returns-clause-start c =
 
 pub returns-clause-greedy : goal.returns-clause-greedy
 returns-clause-greedy c = let s = c.args.self.now in let e = returns-clause-start c in rw e (transversal-greedy (length s.places) s.w s.entries s.same_count s.low c.args.q)
-
-pub returns-clause-base : goal.returns-clause-base
-returns-clause-base c = let s = c.args.self.now in let e = returns-clause-start c in rw e (transversal-starts (length s.places) s.w s.entries s.same_count s.low c.args.q c.requires.factor.low).1

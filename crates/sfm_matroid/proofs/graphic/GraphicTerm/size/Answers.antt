@@ -1,5 +1,5 @@
 use Rattle.sfm_matroid.proofs.Kept.{length-basis}
-use Rattle.sfm_matroid.proofs.graphic.Graphic.size_of.Goals as goal
+use Rattle.sfm_matroid.proofs.graphic.GraphicTerm.size.Goals as goal
 
 pub worth-requires-clause-few : goal.worth-requires-clause-few
 worth-requires-clause-few c =

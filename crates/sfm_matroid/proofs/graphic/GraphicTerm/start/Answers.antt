@@ -2,9 +2,9 @@ use Rattle.std.proofs.Common.{◌∙◌, length, ap, sym, FitsSigned}
 use Rattle.std.proofs.lemmas.Int.{to_z-of_z}
 use mir.Syntax.{w128}
 use Rattle.sfm_law.proofs.Fits.{given_fits}
-use Rattle.sfm_matroid.specs.GraphicLaws.{graphic-greedy, graphic-starts}
+use Rattle.sfm_matroid.specs.GraphicLaws.{graphic-greedy}
 use Rattle.sfm_matroid.proofs.Kept.{length-basis}
-use Rattle.sfm_matroid.proofs.graphic.Graphic.start_of.Goals as goal
+use Rattle.sfm_matroid.proofs.graphic.GraphicTerm.start.Goals as goal
 
 pub write_start-requires-clause-entries : goal.write_start-requires-clause-entries
 write_start-requires-clause-entries c = let s = c.args.self.now in c.requires.entries ∙ sym (ap length s.based ∙ (length-basis s.ends ∙ s.same_count))
@@ -18,6 +18,3 @@ returns-clause-start c =
 
 pub returns-clause-greedy : goal.returns-clause-greedy
 returns-clause-greedy c = let s = c.args.self.now in let e = returns-clause-start c in rw e (graphic-greedy (length s.places) s.w s.ends s.same_count s.low c.args.q)
-
-pub returns-clause-base : goal.returns-clause-base
-returns-clause-base c = let s = c.args.self.now in let e = returns-clause-start c in rw e (graphic-starts (length s.places) s.w s.ends s.same_count s.low c.args.q c.requires.factor.low).1
