@@ -1,10 +1,10 @@
 -- Amounts of a base fit 128 bits, and so does what is left of a number.
-use Rattle.std.proofs.Common.{◌≡◌, ◌≢◌, ◌↔◌, ◌^◌, IsTrue, ℕ, Bool, ◌<◌, List, length, get_or, set, ℤ, pos, ◌+ℤ◌, ◌-ℤ◌, ◌*ℤ◌, ◌≤ℤ◌, to_z, of_z, arith, ⊎_elim, FitsSigned, length-set, get_or-set_other, get_or-set_same}
+use Rattle.std.proofs.Common.{◌≡◌, ◌≢◌, ◌↔◌, ◌^◌, IsTrue, ℕ, Bool, ◌<◌, List, length, get_or, set, ℤ, pos, ◌+ℤ◌, ◌-ℤ◌, ◌*ℤ◌, ◌≤ℤ◌, to_z, of_z, arith, ⊎_elim, Fits, FitsSigned, length-set, get_or-set_other, get_or-set_same}
 use Rattle.std.proofs.lemmas.Bool.{cases_eq}
 use Rattle.std.proofs.lemmas.Int.{ints, clamps, to_z-of_z}
 use Rattle.std.specs.Int.{int_min}
 use Rattle.std.specs.List.{All}
-use mir.Syntax.{w128}
+use mir.Syntax.{w64, w128}
 use Rattle.sfm_assign.specs.Splits.{IsAmount, Demands}
 use Rattle.sfm_spec.specs.Bounds.{IsAtMost, IsFactor, IsGiven, total_of}
 use Rattle.sfm_law.proofs.Fits.{given_fits, product_low, product_high, rank_fits}
@@ -31,6 +31,10 @@ capped q w factor few given x within =
     let low = product_low q w factor few in
     let high = product_high q w factor given in
     record { low = low; high = high; fits = omega (arith, ints, low, high); within = within; amounts = within_amounts x (q *ℤ w) high within }
+
+-- a count as a number of 128 bits
+pub count_is : (n : ℕ) → Fits w64 n → to_z w128 n ≡ pos n
+count_is n fits = omega (arith, ints, fits)
 
 -- a product as it is passed on in 128 bits
 pub product_is : (q w : ℤ) → FitsSigned w128 q → IsGiven w → (c : ℤ) → c ≡ (to_z w128 (of_z w128 q) *ℤ to_z w128 (of_z w128 w)) → c ≡ (q *ℤ w)

@@ -44,14 +44,7 @@ base_by_entries s q factor x sized =
 pub capped_base : (s : Graphic) (q : ℤ) → IsFactor q → (x : List ℤ) → length x ≡ length s.places → IsBase (times q (graphic_value s.w s.ends)) x → AreCapped (q *ℤ s.w) x
 capped_base s q factor x sized base = capped q s.w factor s.low s.given x (base_within_cap (length s.places) q s.w s.ends s.same_count (product_low q s.w factor s.low) x sized base)
 
--- ---- numbered ends as they are kept
-
-module _ (edges : List Edge) (items : List (ℕ × ℕ)) (m : ℕ) (are : edges_of items ≡ numbered edges) (counted : m ≡ vertex_count edges) where
-  -- the tests of the tails are enough
-  pub all_tails : (c : ℤ) (x : List ℤ) → pos 0 ≤ℤ c → ((a : ℕ) → a < m → IsTail (edges_of items) a → IsWithinEnds (edges_of items) m c x a)
-      → (a : ℕ) → a < vertex_count edges → IsWithinEnds (numbered edges) (vertex_count edges) c x a
-  all_tails c x low within = tails_enough (numbered edges) (vertex_count edges) (numbered_below edges []) c low x (rw (are, counted) at within)
-
-  pub tails_kept : (c : ℤ) (x : List ℤ) → ((a : ℕ) → a < vertex_count edges → IsWithinEnds (numbered edges) (vertex_count edges) c x a)
-      → (a : ℕ) → a < m → IsTail (edges_of items) a → IsWithinEnds (edges_of items) m c x a
-  tails_kept c x h = rw (are, counted) (λ a lt tail. h a lt)
+-- the tests of the tails are enough, by the numbers of the ends as they are kept
+pub tails_tell : (s : Graphic) (c : ℤ) (x : List ℤ) → pos 0 ≤ℤ c
+    → ((a : ℕ) → a < s.graph.vertices → IsTail (edges_of s.graph.ends.items) a → IsWithinEnds (edges_of s.graph.ends.items) s.graph.vertices c x a) ↔ ((a : ℕ) → a < vertex_count s.ends → IsWithinEnds (numbered s.ends) (vertex_count s.ends) c x a)
+tails_tell s c x low = rw (s.of_ends, s.counted) ((λ within. tails_enough (numbered s.ends) (vertex_count s.ends) (numbered_below s.ends []) c low x within), (λ h a lt tail. h a lt))

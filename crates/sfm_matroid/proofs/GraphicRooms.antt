@@ -17,15 +17,13 @@ use Rattle.sfm_law.specs.Room.{IsReach}
 use Rattle.sfm_law.proofs.Monotone.{AreCounts}
 use Rattle.sfm_rank.proofs.Bases.{raised-counts, lower, least_capacity, base_counts, given-counts, gives_room, room_gives}
 use Rattle.sfm_matroid.specs.Cuts.{IsWithinEnds}
-use Rattle.sfm_matroid.specs.Ends.{edges_of}
 use Rattle.sfm_matroid.specs.Forests.{forest-matroid, graphic-ranks}
 use Rattle.sfm_matroid.specs.Givers.{IsGiver, IsRowIn}
 use Rattle.sfm_matroid.proofs.Lending.{reach_row}
 use Rattle.sfm_matroid.specs.Graphs.{graphic_rank, graphic_value}
-use Rattle.sfm_matroid.specs.Notes.{end_demands, IsRootSplit}
+use Rattle.sfm_matroid.specs.Notes.{end_demands}
 use Rattle.sfm_matroid.specs.Numbered.{IsEndOf, numbered, end_lists, vertex_capacities, vertex_count}
 use Rattle.sfm_matroid.specs.declared.graphic.Graphic.{Graphic}
-use Rattle.sfm_matroid.specs.declared.rooted.RootSplit.{RootSplit}
 use Rattle.sfm_matroid.proofs.GraphicBases.{base_tests}
 use Rattle.sfm_matroid.proofs.MatroidTests.{numbered_tests}
 use Rattle.sfm_matroid.proofs.Numbers.{length-numbered, numbered_below}
@@ -212,9 +210,3 @@ first_split k q w edges same low x kx base = ⊎_elim
 -- an end of an edge of a term is one of its vertices
 pub end_vertex : (s : Graphic) (u r : ℕ) → u < length s.places → IsEndOf (numbered s.ends) u r → r < vertex_count s.ends
 end_vertex s u r lt end = let l = length-numbered s.ends [] in let k = s.same_count in end_below (numbered s.ends) (vertex_count s.ends) (numbered_below s.ends []) u r (omega (arith, lt, l, k)) end
-
--- ---- numbered ends as they are kept
-
-pub note_kept : (edges : List Edge) (items : List (ℕ × ℕ)) (m : ℕ) → edges_of items ≡ numbered edges → m ≡ vertex_count edges → (c : ℤ) (x : List ℤ) (note : RootSplit)
-    → IsRootSplit (edges_of items) m c x note → IsRootSplit (numbered edges) (vertex_count edges) c x note
-note_kept edges items m are counted c x note h = rw (are, counted) at h

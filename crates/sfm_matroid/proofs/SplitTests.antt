@@ -1,5 +1,5 @@
 -- The tests of bases as demands that are split over slots: each edge over its two ends, the capacity of one vertex being 0; each
--- member over the slots of its entry. Demands that are split pass the test, and demands of which a set is short do not.
+-- member over the slots of its entry. Demands can be split exactly where they pass the test.
 -- Textbook: Schrijver, Combinatorial Optimization, section 22 (Hall's condition).
 use Rattle.std.proofs.Common.{◌≡◌, ◌≢◌, ℕ, zero, suc, ◌<◌, Bool, true, false, not, ◌&&◌, ◌||◌, List, [], ◌∷◌, length, get_or, set, replicate, nat_eq, ℤ, pos, ◌*ℤ◌, ◌≤ℤ◌, refl, sym, ap, ◌∙◌, arith, ⊎_elim, length-set, get_or-set_other, get_or-set_same}
 use Rattle.std.specs.List.{All}
@@ -9,7 +9,7 @@ use Rattle.std.proofs.lemmas.List.{length-replicate, get_or-replicate}
 use Rattle.sfm_spec.specs.Sets.{sum_over}
 use Rattle.sfm_spec.specs.Kinds.{Edge}
 use Rattle.sfm_spec.proofs.Sets.{get_or-union}
-use Rattle.sfm_assign.specs.Splits.{set_of, slots_of, CanBeMet, IsShort}
+use Rattle.sfm_assign.specs.Splits.{set_of, slots_of, CanBeMet}
 use Rattle.sfm_assign.proofs.Rows.{AreBelow, length-slots_of}
 use Rattle.sfm_assign.proofs.Hall.{hall_easy}
 use Rattle.sfm_assign.proofs.Filling.{hall}
@@ -119,10 +119,6 @@ module _ (edges : List Edge) (m : ℕ) (below : EndsBelow edges m) (c : ℤ) (x 
             (λ (ne : s ≢ a). rw (get_or-set_other (replicate m c) a s (pos 0) (pos 0) ne, get_or-replicate m s c (pos 0) (omega (arith, ls, v))) low)
             (cases_eq s a)
 
-  -- what is short does not
-  pub short_beyond_ends : (s : List Bool) → IsShort x (end_lists edges) (vertex_capacities m c a) s → IsWithinEnds edges m c x a → ⊥
-  short_beyond_ends s short within = let h = within s (short.places ∙ sized) in let e = held s in let more = short.more in omega (arith, ints, h, e, more)
-
 -- ---- members, each with the slots of its entry
 
 module _ (entries : List (List ℕ)) (m : ℕ) (exist : AreBelow m entries) (c : ℤ) (x : List ℤ) (sized : length x ≡ length entries) where
@@ -146,6 +142,3 @@ module _ (entries : List (List ℕ)) (m : ℕ) (exist : AreBelow m entries) (c :
       hall x entries (replicate m c) (sym sized) below counts caps (λ s ks. let h = within s (ks ∙ sized) in let e = held_slots s in omega (arith, ints, h, e)) where
         caps : (s : ℕ) → s < length (replicate m c) → pos 0 ≤ℤ get_or (replicate m c) s (pos 0)
         caps s ls = let l = slots in rw (get_or-replicate m s c (pos 0) (omega (arith, ls, l))) low
-
-  pub short_beyond_slots : (s : List Bool) → IsShort x entries (replicate m c) s → IsWithinSlots entries m c x → ⊥
-  short_beyond_slots s short within = let h = within s (short.places ∙ sized) in let e = held_slots s in let more = short.more in omega (arith, ints, h, e, more)

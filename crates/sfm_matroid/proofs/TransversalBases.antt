@@ -23,7 +23,7 @@ use Rattle.sfm_matroid.specs.Matchings.{matching-matroid}
 use Rattle.sfm_matroid.specs.Slots.{IsWithinSlots, transversal_rank, transversal_value, transversal_size}
 use Rattle.sfm_matroid.specs.Transversals.{transversal-ranks}
 use Rattle.sfm_matroid.specs.declared.transversal.Transversal.{Transversal}
-use Rattle.sfm_matroid.proofs.Fits.{AreCapped, capped}
+use Rattle.sfm_matroid.proofs.Fits.{AreCapped, amounts_count, capped}
 use Rattle.sfm_matroid.proofs.Matched.{slots_each}
 use Rattle.sfm_matroid.proofs.MatroidTests.{transversal_tests}
 use Rattle.sfm_matroid.proofs.SplitTests.{split_within_slots, within_slots_split}
@@ -153,6 +153,13 @@ pub base_by_entries : (s : Transversal) (q : ℤ) (m : ℕ) → All (All (λ v. 
 base_by_entries s q m below factor x sized =
     let low = product_low q s.w factor s.low in
     (transversal_told (length s.places) q s.w s.entries m below s.same_count low x sized, told_transversal (length s.places) q s.w s.entries m below s.same_count low x sized)
+
+-- amounts pass the test exactly where they can be met
+pub slots_tell : (s : Transversal) (m : ℕ) → All (All (λ v. v < m)) s.entries → (c : ℤ) → pos 0 ≤ℤ c → (x : List ℤ) → length x ≡ length s.places → All IsAmount x
+    → CanBeMet x s.entries (replicate m c) ↔ IsWithinSlots s.entries m c x
+slots_tell s m below c low x sized amounts =
+    let even = sized ∙ sym s.same_count in
+    (split_within_slots s.entries m below c x even, within_slots_split s.entries m below c x even low (amounts_count x amounts))
 
 -- ---- a base as demands that slots which hold c each can meet
 

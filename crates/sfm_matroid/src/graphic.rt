@@ -4,19 +4,14 @@
 // tails are enough. What an edge u may get is told by the test of an end of it alone: the room of (u, v) is the least of what v
 // has, what u lacks of q·w, and what u lacks of the most that it gets in that test without v, and to whom u has room is told by
 // one search in it.
-ghost use Rattle.std.specs.Prelude.{◌≡◌, ◌≢◌, ◌↔◌, IsTrue, ℕ, ◌<◌, ◌≤◌, ◌^◌, Bool, List, length, slice_index_or, ℤ, pos, neg_ℤ, ◌+ℤ◌, ◌-ℤ◌, ◌*ℤ◌, ◌≤ℤ◌, IfOk, IsOk, OnOk, Some, None};
-ghost use Rattle.std.specs.List.{All};
-ghost use Rattle.sfm_assign.specs.Splits.{IsAmount, CanBeMet};
-ghost use Rattle.sfm_spec.specs.Bounds.{IsAtMost, IsEntry, IsFactor, IsGiven, AreElements};
-ghost use Rattle.sfm_spec.specs.Terms.{SetFunction, IsBase, IsCapacity, IsFamily, IsSubmodular, IsGreedy, HasRoom, exchanged, times};
-ghost use Rattle.sfm_law.specs.Room.{IsRoom, IsReach, IsWithinRoom};
+ghost use Rattle.std.specs.Prelude.{◌≡◌, ℕ, ◌<◌, ◌≤◌, ◌^◌, length, ℤ, pos, ◌≤ℤ◌, IfOk, IsOk, OnOk, Some, None};
+ghost use Rattle.sfm_spec.specs.Bounds.{IsAtMost, IsFactor, IsGiven, AreElements};
+ghost use Rattle.sfm_spec.specs.Terms.{IsGreedy};
 ghost use Rattle.sfm_spec.specs.Kinds.{IsForest, IsRank, IsRankFunction};
 ghost use Rattle.sfm_matroid.specs.Ends.{edges_of};
-ghost use Rattle.sfm_matroid.specs.Cuts.{IsWithinEnds};
-ghost use Rattle.sfm_matroid.specs.Numbered.{IsEndOf, numbered, vertex_count, end_lists, vertex_capacities};
+ghost use Rattle.sfm_matroid.specs.Numbered.{IsEndOf, numbered, vertex_count};
 ghost use Rattle.sfm_matroid.specs.Notes.{graphic_fits, AreOverEnds, IsGraphicBase};
 ghost use Rattle.sfm_matroid.specs.declared.rooted.Spare.{Spare};
-ghost use Rattle.sfm_spec.specs.Rows.{Depends};
 ghost use Rattle.sfm_matroid.specs.Graphs.{graphic_rank, graphic_value, graphic_size, graphic_start, graphic_basis};
 ghost use Rattle.sfm_matroid.specs.GraphicLaws.{graphic-family, graphic-submodular, graphic-bounded, graphic-starts, graphic-starts_small};
 
@@ -27,8 +22,9 @@ use crate::growing::{grow, whole};
 use crate::order::by_tails;
 use crate::ranked::{adds_up, cap_of, worth, write_start};
 use crate::room::{limit_of, moved, second_of, without};
-use crate::rooted::{RootSplit, Spare, root_split, swap_spare, take_kept};
-use crate::testing::{brought, capacities, passes_tails};
+use crate::rooted::{RootSplit, Spare, swap_spare, take_kept};
+use crate::splits::split_of;
+use crate::testing::{brought, capacities, end_demand, passes_tails};
 use sfm_assign::Aim;
 use sfm_base::{Memory, Places, Set};
 use sfm_law::{Room, Term};
@@ -111,18 +107,6 @@ impl Graphic {
     pub fn values_are_ranks(&self)
         ensures { IsRankFunction (length self.now.places) self.now.w (IsForest self.now.ends) (graphic_value self.now.w self.now.ends) }
     {}
-
-    /// Whether no edges get more than a number for each of their ends but one, whichever one.
-    fn passes_all(&self, alloc: Global, x: &[i128], most: i128) -> Result<bool, Memory>
-        requires entries { length x.now ≡ length self.now.places }
-        requires amounts { All IsAmount x.now }
-        requires low { pos 0 ≤ℤ most }
-        requires high { most ≤ℤ pos (10 ^ 24) }
-        ensures { IfOk result (λ r. IsTrue r ↔ ((a : ℕ) → a < vertex_count self.now.ends → IsWithinEnds (numbered self.now.ends) (vertex_count self.now.ends) most x.now a)) }
-    {
-        let passed = passes_tails(alloc, &self.graph, x, most)?;
-        Ok(passed)
-    }
 
     /// The root if it is an end of an edge, and else the tail of that.
     fn end_near(&self, root: usize, u: usize) -> usize
@@ -272,7 +256,7 @@ impl Term for Graphic {
         if !adds_up(x, q, self.w, self.size()) {
             return Ok(false);
         }
-        let passed = self.passes_all(alloc, x, cap_of(q, self.w))?;
+        let passed = passes_tails(alloc, &self.graph, x, cap_of(q, self.w))?;
         Ok(passed)
     }
 
@@ -298,8 +282,13 @@ impl Term for Graphic {
     /// The split in the test of a vertex.
     fn note(&self, alloc: Global, q: i128, x: &[i128]) -> Result<RootSplit, Memory> {
         let cap = cap_of(q, self.w);
-        let note = root_split(alloc, &self.graph, x, cap, 0)?;
-        Ok(note)
+        let demand = end_demand(alloc, &self.graph, x, cap, 0)?;
+        let kept = split_of(alloc, demand)?;
+        Ok(RootSplit {
+            root: 0,
+            kept,
+            spare: None,
+        })
     }
 
     /// Writes what `reach_with` does from u itself.

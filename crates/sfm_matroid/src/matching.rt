@@ -1,11 +1,11 @@
 // The test that tells what slots of entries may hold: each element is a demand that is split over the slots of its entry, of
 // which each holds the same number at most. Where slots hold 1 each, places with a demand of 1 have slots of their own; so places
 // are taken one after another by one split, in which each in turn is raised to 1 if the others leave it a slot.
-ghost use Rattle.std.specs.Prelude.{◌≡◌, ◌↔◌, ◌<◌, ◌≤◌, ◌^◌, length, replicate, pos, ◌≤ℤ◌, IfOk, IsTrue};
+ghost use Rattle.std.specs.Prelude.{◌≡◌, ◌↔◌, ◌<◌, ◌≤◌, ◌^◌, length, replicate, pos, IfOk, IsTrue};
 ghost use Rattle.std.specs.List.{All};
-ghost use Rattle.sfm_assign.specs.Splits.{IsAmount};
+ghost use Rattle.sfm_assign.specs.Splits.{CanBeMet};
 ghost use Rattle.sfm_matroid.specs.Notes.{AreSlotAmounts, slot_demands};
-ghost use Rattle.sfm_matroid.specs.Slots.{IsWithinSlots, suited};
+ghost use Rattle.sfm_matroid.specs.Slots.{suited};
 
 use crate::entries::Entries;
 use crate::splits::split_of;
@@ -43,19 +43,11 @@ pub(crate) fn slot_demand(
     Ok(demand)
 }
 
-/// Whether no elements get more than a number for each of their slots.
-pub(crate) fn are_held(
-    alloc: Global,
-    entries: &Entries,
-    m: usize,
-    x: &[i128],
-    most: i128,
-) -> Result<bool, Memory>
-    requires { AreSlotAmounts entries.now m most x.now }
-    ensures { IfOk result (λ r. IsTrue r ↔ IsWithinSlots entries.now m most x.now) }
+/// Whether demands can be met.
+pub(crate) fn can_be_met(alloc: Global, demand: &Demand) -> Result<bool, Memory>
+    ensures { IfOk result (λ r. IsTrue r ↔ CanBeMet demand.now.demands demand.now.lists demand.now.capacities) }
 {
-    let demand = slot_demand(alloc, entries, m, x, most)?;
-    match assign(alloc, &demand) {
+    match assign(alloc, demand) {
         Ok(_) => Ok(true),
         Err(AssignEnd::Shortage { .. }) => Ok(false),
         Err(AssignEnd::Memory) => Err(Memory),

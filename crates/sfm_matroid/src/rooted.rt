@@ -2,20 +2,11 @@
 // for each root, so a split can be brought to another root from where it stands. What an edge may get is told with the root at
 // an end of it; and so it is of an edge that has room to another one, with the root at an end of that. A room leaves a second
 // split, from which an exchange goes on; the one that it leaves is used by the next room.
-ghost use Rattle.std.specs.Prelude.{◌≡◌, ◌≤◌, ◌^◌, length, pos, ◌≤ℤ◌, IfOk, Some};
-ghost use Rattle.std.specs.List.{All};
-ghost use Rattle.sfm_assign.specs.Splits.{IsAmount, CanBeMet};
+ghost use Rattle.std.specs.Prelude.{◌≡◌, Some};
 ghost use Rattle.sfm_assign.specs.declared.kept.Kept.{Kept};
 ghost use Rattle.sfm_matroid.specs.declared.rooted.Spare.{Spare};
-ghost use Rattle.sfm_matroid.specs.Ends.{edges_of};
-ghost use Rattle.sfm_matroid.specs.Notes.{IsRootSplit};
-ghost use Rattle.sfm_matroid.specs.Numbered.{end_lists, vertex_capacities};
 
-use crate::graph::Graph;
-use crate::testing::split;
 use sfm_assign::Kept;
-use sfm_base::Memory;
-use std::alloc::Global;
 use std::mem;
 
 /// A split over the ends, in the test of a vertex.
@@ -31,32 +22,6 @@ pub struct RootSplit {
     pub root: usize,
     pub kept: Kept,
     pub spare: Option<Spare>,
-}
-
-/// The split from nothing of amounts that can be met with the root.
-pub(crate) fn root_split(
-    alloc: Global,
-    graph: &Graph,
-    x: &[i128],
-    most: i128,
-    root: usize,
-) -> Result<RootSplit, Memory>
-    requires entries { length x.now ≡ length graph.now.ends.items }
-    requires amounts { All IsAmount x.now }
-    requires low { pos 0 ≤ℤ most }
-    requires high { most ≤ℤ pos (10 ^ 24) }
-    requires met { CanBeMet x.now (end_lists (edges_of graph.now.ends.items)) (vertex_capacities graph.now.vertices most root) }
-    ensures root { IfOk result (λ r. r.root ≡ root) }
-    ensures split { IfOk result (IsRootSplit (edges_of graph.now.ends.items) graph.now.vertices most x.now) }
-{
-    match split(alloc, graph, x, most, root)? {
-        Some(kept) => Ok(RootSplit {
-            root,
-            kept,
-            spare: None,
-        }),
-        None => unreachable!(),
-    }
 }
 
 /// Takes the spare split out of a note, whatever its root.

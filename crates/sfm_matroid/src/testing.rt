@@ -27,7 +27,13 @@ pub(crate) fn capacities(alloc: Global, m: usize, most: i128, a: usize) -> Resul
 }
 
 /// The edges as demands that are split over their ends, of which each holds a number, and the vertex a nothing.
-fn demand(alloc: Global, graph: &Graph, x: &[i128], most: i128, a: usize) -> Result<Demand, Memory>
+pub(crate) fn end_demand(
+    alloc: Global,
+    graph: &Graph,
+    x: &[i128],
+    most: i128,
+    a: usize,
+) -> Result<Demand, Memory>
     requires entries { length x.now ≡ length graph.now.ends.items }
     requires amounts { All IsAmount x.now }
     requires low { pos 0 ≤ℤ most }
@@ -43,7 +49,7 @@ fn demand(alloc: Global, graph: &Graph, x: &[i128], most: i128, a: usize) -> Res
 }
 
 /// The split of amounts from nothing, where each vertex holds a number, and the vertex a nothing; None where there is none.
-pub(crate) fn split(
+fn split(
     alloc: Global,
     graph: &Graph,
     x: &[i128],
@@ -56,7 +62,7 @@ pub(crate) fn split(
     requires high { most ≤ℤ pos (10 ^ 24) }
     ensures { IfOk result (IsSplitOrNone (end_demands (edges_of graph.now.ends.items) graph.now.vertices most x.now a)) }
 {
-    let demand = demand(alloc, graph, x, most, a)?;
+    let demand = end_demand(alloc, graph, x, most, a)?;
     match Kept::new(alloc, demand) {
         Ok(kept) => {
             kept.are_met();

@@ -5,11 +5,9 @@
 // that it gets in the test without v. To whom u has room is told by one search in the test: to those that can lend to u.
 // The split of a base is kept beside it. A room is then told in a copy of it, in which v gives up what it has and u is raised;
 // an exchange takes that copy, as it lacks only what v keeps.
-ghost use Rattle.std.specs.Prelude.{◌≡◌, ◌≢◌, ◌↔◌, ◌*◌, IsTrue, ℕ, ◌<◌, ◌≤◌, ◌^◌, Bool, List, length, slice_index_or, slice_set, ℤ, pos, neg_ℤ, ◌+ℤ◌, ◌-ℤ◌, ◌*ℤ◌, ◌≤ℤ◌, IfOk, IsOk, OnOk, Some};
-ghost use Rattle.std.specs.List.{All};
-ghost use Rattle.sfm_spec.specs.Bounds.{IsAtMost, IsEntry, IsFactor, IsGiven, AreElements};
-ghost use Rattle.sfm_spec.specs.Terms.{SetFunction, IsBase, IsCapacity, IsFamily, IsSubmodular, IsGreedy, HasRoom, exchanged, times};
-ghost use Rattle.sfm_law.specs.Room.{IsRoom, IsReach, IsWithinRoom};
+ghost use Rattle.std.specs.Prelude.{◌≡◌, ℕ, ◌<◌, ◌≤◌, ◌^◌, length, ℤ, pos, ◌≤ℤ◌, IfOk, IsOk, OnOk, Some};
+ghost use Rattle.sfm_spec.specs.Bounds.{IsAtMost, IsFactor, IsGiven, AreElements};
+ghost use Rattle.sfm_spec.specs.Terms.{IsGreedy};
 ghost use Rattle.sfm_spec.specs.Kinds.{IsMatchable, IsRank, IsRankFunction};
 ghost use Rattle.sfm_matroid.specs.Slots.{transversal_rank, transversal_basis, transversal_value, transversal_size, transversal_start};
 ghost use Rattle.sfm_matroid.specs.Notes.{transversal_fits};
@@ -18,7 +16,7 @@ ghost use Rattle.sfm_matroid.specs.TransversalLaws.{transversal-family, transver
 use crate::entries::Entries;
 use crate::givers::row;
 use crate::growing::whole;
-use crate::matching::{are_held, matched};
+use crate::matching::{can_be_met, matched, slot_demand};
 use crate::ranked::{adds_up, cap_of, worth, write_start};
 use crate::room::{limit_of, moved, second_of, without};
 use crate::splits::{SlotSplit, bring_split, keep_spare, slot_split};
@@ -159,7 +157,8 @@ impl Term for Transversal {
         if !adds_up(x, q, self.w, self.size()) {
             return Ok(false);
         }
-        let held = are_held(alloc, &self.entries, m, x, cap_of(q, self.w))?;
+        let demand = slot_demand(alloc, &self.entries, m, x, cap_of(q, self.w))?;
+        let held = can_be_met(alloc, &demand)?;
         Ok(held)
     }
 

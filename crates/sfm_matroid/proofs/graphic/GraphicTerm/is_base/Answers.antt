@@ -1,10 +1,10 @@
 use Rattle.std.proofs.Common.{◌*ℤ◌, FitsSigned}
 use Rattle.std.proofs.lemmas.Int.{to_z-of_z}
 use mir.Syntax.{w128}
-use Rattle.sfm_law.proofs.Fits.{given_more, product_fits}
+use Rattle.sfm_law.proofs.Fits.{given_more, product_fits, product_low}
 use Rattle.sfm_rank.proofs.Bases.{told_by, told_uneven}
 use Rattle.sfm_matroid.proofs.Fits.{product_is, sum_told}
-use Rattle.sfm_matroid.proofs.GraphicBases.{base_by_entries}
+use Rattle.sfm_matroid.proofs.GraphicBases.{base_by_entries, tails_tell}
 use Rattle.sfm_matroid.proofs.graphic.GraphicTerm.is_base.Goals as goal
 
 pub returns-then-not-adds_up-clause-told : goal.returns-then-not-adds_up-clause-told
@@ -19,4 +19,5 @@ returns-clause-told c =
     let is = base_by_entries s c.args.q c.requires.factor c.args.x.now c.requires.entries in
     let fp : FitsSigned w128 (c.args.q *ℤ s.w) = product_fits _ _ c.requires.factor (given_more _ s.given) in
     let test = simp to_z-of_z at (rw (product_is c.args.q s.w c.ranges.q s.given c.cap_of.result c.cap_of.ensures.value) at c.in_ok-passed.ensures) in
-    told_by _ _ _ _ _ is.0 is.1 _ (sum_told _ _ _ _ _ _ c.ranges.q s.given c.size.ensures.small c.size.ensures.value c.adds_up.ensures.told) c.if-not-adds_up.false _ test
+    let all = tails_tell s (c.args.q *ℤ s.w) c.args.x.now (product_low c.args.q s.w c.requires.factor s.low) in
+    told_by _ _ _ _ _ is.0 is.1 _ (sum_told _ _ _ _ _ _ c.ranges.q s.given c.size.ensures.small c.size.ensures.value c.adds_up.ensures.told) c.if-not-adds_up.false _ ((λ t. all.0 (test.0 t)), (λ h. test.1 (all.1 h)))

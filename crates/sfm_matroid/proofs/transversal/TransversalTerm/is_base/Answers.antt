@@ -1,10 +1,10 @@
 use Rattle.std.proofs.Common.{◌*ℤ◌, rules, FitsSigned}
 use Rattle.std.proofs.lemmas.Int.{to_z-of_z}
 use mir.Syntax.{w128}
-use Rattle.sfm_law.proofs.Fits.{given_more, product_fits}
+use Rattle.sfm_law.proofs.Fits.{given_more, product_fits, product_low}
 use Rattle.sfm_rank.proofs.Bases.{told_by, told_uneven}
 use Rattle.sfm_matroid.proofs.Fits.{product_is, sum_told}
-use Rattle.sfm_matroid.proofs.TransversalBases.{base_by_entries, slot_amounts}
+use Rattle.sfm_matroid.proofs.TransversalBases.{base_by_entries, slot_amounts, slots_tell}
 use Rattle.sfm_matroid.proofs.transversal.TransversalTerm.is_base.Goals as goal
 
 pub returns-then-not-adds_up-clause-told : goal.returns-then-not-adds_up-clause-told
@@ -13,8 +13,8 @@ returns-then-not-adds_up-clause-told c =
     let is = base_by_entries s c.args.q c.above-m.result c.above-m.ensures.below c.requires.factor c.args.x.now c.requires.entries in
     told_uneven _ _ _ _ _ is.0 is.1 _ (sum_told _ _ _ _ _ _ c.ranges.q s.given c.size.ensures.small c.size.ensures.value c.adds_up.ensures.told) c.if-not-adds_up.true
 
-pub are_held-requires : goal.are_held-requires
-are_held-requires c =
+pub slot_demand-requires : goal.slot_demand-requires
+slot_demand-requires c =
     let cap = c.cap_of.ensures in
     let fc : FitsSigned w128 c.cap_of.result = search rules in
     simp to_z-of_z (slot_amounts c.args.self.now c.above-m.result c.above-m.ensures.below c.above-m.ensures.high c.cap_of.result cap.low cap.high c.args.x.now c.requires.entries (c.adds_up.ensures.amounts c.if-not-adds_up.false))
@@ -24,5 +24,6 @@ returns-clause-told c =
     let s = c.args.self.now in
     let is = base_by_entries s c.args.q c.above-m.result c.above-m.ensures.below c.requires.factor c.args.x.now c.requires.entries in
     let fp : FitsSigned w128 (c.args.q *ℤ s.w) = product_fits _ _ c.requires.factor (given_more _ s.given) in
-    let test = simp to_z-of_z at (rw (product_is c.args.q s.w c.ranges.q s.given c.cap_of.result c.cap_of.ensures.value) at c.in_ok-held.ensures) in
-    told_by _ _ _ _ _ is.0 is.1 _ (sum_told _ _ _ _ _ _ c.ranges.q s.given c.size.ensures.small c.size.ensures.value c.adds_up.ensures.told) c.if-not-adds_up.false _ test
+    let test = simp to_z-of_z at (rw (product_is c.args.q s.w c.ranges.q s.given c.cap_of.result c.cap_of.ensures.value) at (rw c.in_ok-demand.ensures at c.in_ok-held.ensures)) in
+    let all = slots_tell s c.above-m.result c.above-m.ensures.below (c.args.q *ℤ s.w) (product_low c.args.q s.w c.requires.factor s.low) c.args.x.now c.requires.entries (c.adds_up.ensures.amounts c.if-not-adds_up.false) in
+    told_by _ _ _ _ _ is.0 is.1 _ (sum_told _ _ _ _ _ _ c.ranges.q s.given c.size.ensures.small c.size.ensures.value c.adds_up.ensures.told) c.if-not-adds_up.false _ ((λ t. all.0 (test.0 t)), (λ h. test.1 (all.1 h)))

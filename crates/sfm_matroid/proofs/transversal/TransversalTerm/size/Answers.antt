@@ -1,7 +1,5 @@
-use Rattle.sfm_matroid.specs.Transversals.{length-transversal_basis}
+use Rattle.sfm_matroid.proofs.Kept.{transversal_kept}
 use Rattle.sfm_matroid.proofs.transversal.TransversalTerm.size.Goals as goal
 
 pub worth-requires-clause-few : goal.worth-requires-clause-few
-worth-requires-clause-few c =
-    let s = c.args.self.now in
-    rw (s.based, length-transversal_basis s.entries, s.same_count) s.few
+worth-requires-clause-few c = let s = c.args.self.now in rw (transversal_kept s) s.few

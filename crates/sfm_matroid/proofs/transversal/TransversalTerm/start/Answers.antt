@@ -1,13 +1,13 @@
-use Rattle.std.proofs.Common.{◌∙◌, length, ap, sym, FitsSigned}
+use Rattle.std.proofs.Common.{◌∙◌, length, sym, FitsSigned}
 use Rattle.std.proofs.lemmas.Int.{to_z-of_z}
 use mir.Syntax.{w128}
 use Rattle.sfm_law.proofs.Fits.{given_fits}
 use Rattle.sfm_matroid.specs.TransversalLaws.{transversal-greedy}
-use Rattle.sfm_matroid.specs.Transversals.{length-transversal_basis}
+use Rattle.sfm_matroid.proofs.Kept.{transversal_kept}
 use Rattle.sfm_matroid.proofs.transversal.TransversalTerm.start.Goals as goal
 
 pub write_start-requires-clause-entries : goal.write_start-requires-clause-entries
-write_start-requires-clause-entries c = let s = c.args.self.now in c.requires.entries ∙ sym (ap length s.based ∙ (length-transversal_basis s.entries ∙ s.same_count))
+write_start-requires-clause-entries c = c.requires.entries ∙ sym (transversal_kept c.args.self.now)
 
 pub returns-clause-start : goal.returns-clause-start
 returns-clause-start c =

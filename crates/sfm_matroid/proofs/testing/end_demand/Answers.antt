@@ -5,7 +5,7 @@ use mir.Syntax.{w128}
 use Rattle.sfm_assign.specs.Splits.{IsAmount}
 use Rattle.sfm_matroid.proofs.Fits.{amount_fits}
 use Rattle.sfm_matroid.proofs.Numbering.{pair-below, two-below, lists-push, demands-push, length-vertices}
-use Rattle.sfm_matroid.proofs.testing.demand.Goals as goal
+use Rattle.sfm_matroid.proofs.testing.end_demand.Goals as goal
 
 pub push-requires-clause-exist : goal.push-requires-clause-exist
 push-requires-clause-exist c =

@@ -1,7 +1,7 @@
 use Rattle.std.proofs.Common.{◌≡◌, take}
 use Rattle.sfm_matroid.specs.Ends.{edges_of}
 use Rattle.sfm_matroid.specs.Numbered.{end_lists, vertex_capacities}
-use Rattle.sfm_matroid.proofs.testing.demand.Given as goal
+use Rattle.sfm_matroid.proofs.testing.end_demand.Given as goal
 
 abbrev pub invariant-loop-e : goal.invariant-loop-e
 invariant-loop-e l = record {
