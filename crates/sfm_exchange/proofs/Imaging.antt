@@ -8,25 +8,21 @@ use Rattle.sfm_spec.proofs.Sets.{in_union, union_right, in_both, in_first, same_
 use Rattle.sfm_spec.proofs.Sums.{length-union, length-intersection}
 use Rattle.sfm_exchange.specs.declared.bits.Bits.{Bits}
 use Rattle.sfm_exchange.specs.Bits.{bit_in}
-use Rattle.sfm_exchange.specs.Image.{IsImage}
+use Rattle.sfm_exchange.specs.Image.{IsBeside, IsImage}
 use Rattle.sfm_exchange.proofs.Placing.{has_place, none_in_empty}
 
 -- the places that are to be taken out are those of the part that the next one has not
 pub record IsLeaving (places : List ℕ) (part next ahead : List Bool) (bits : Bits) : Type 0 where
   pub image : IsImage places part bits
-  pub ahead_count : length ahead ≡ length part
   pub next_count : length next ≡ length part
-  pub inside : IsWithin ahead part
-  pub all : (v : ℕ) → Has part v → Has next v ⊎ Has ahead v
+  pub beside : IsBeside part next ahead
 
 -- the places that are to be put in are those of the next part that the part has not
 pub record IsComing (places : List ℕ) (part next ahead : List Bool) (bits : Bits) : Type 0 where
   pub image : IsImage places part bits
-  pub ahead_count : length ahead ≡ length part
   pub next_count : length next ≡ length part
   pub within : IsWithin part next
-  pub inside : IsWithin ahead next
-  pub all : (v : ℕ) → Has next v → Has part v ⊎ Has ahead v
+  pub beside : IsBeside next part ahead
 
 -- a list with one truth value put in its place
 module _ (s : List Bool) (v : ℕ) (b : Bool) (lt : v < length s) where
@@ -59,39 +55,17 @@ module _ (n : ℕ) (set other written : List Bool) (sized : n ≡ length set) (c
   both : length (union (empty_set n) set) ≡ length (complement other)
   both = joined ∙ sym (length-complement other ∙ count)
 
-  pub beside_count : length written ≡ length set
-  beside_count = rw is (length-intersection (union (empty_set n) set) (complement other) both ∙ joined)
+  pub beside_is : IsBeside set other written
+  beside_is = record { count = rw is (length-intersection (union (empty_set n) set) (complement other) both ∙ joined); inside = within; all = λ v h. at v h (cases_Bool (get_or other v false)) } where
+    within : IsWithin written set
+    within v h = ⊎_elim (λ none. absurd (false≢true (sym (none_in_empty n v) ∙ none))) (λ has. has) (in_union (empty_set n) set v same (in_first (union (empty_set n) set) (complement other) v both (rw is at h)))
 
-  beside_within : IsWithin written set
-  beside_within v h = ⊎_elim (λ none. absurd (false≢true (sym (none_in_empty n v) ∙ none))) (λ has. has) (in_union (empty_set n) set v same (in_first (union (empty_set n) set) (complement other) v both (rw is at h)))
-
-  beside_all : (v : ℕ) → Has set v → Has other v ⊎ Has written v
-  beside_all v h = at (cases_Bool (get_or other v false)) where
-    at : (get_or other v false ≡ true) ⊎ (get_or other v false ≡ false) → Has other v ⊎ Has written v
-    at (inl here) = inl here
-    at (inr out) = inr (rw is (in_both (union (empty_set n) set) (complement other) v both (union_right (empty_set n) set v same h)
+    at : (v : ℕ) → Has set v → (get_or other v false ≡ true) ⊎ (get_or other v false ≡ false) → Has other v ⊎ Has written v
+    at v h (inl here) = inl here
+    at v h (inr out) = inr (rw is (in_both (union (empty_set n) set) (complement other) v both (union_right (empty_set n) set v same h)
         (in_complement other v (let l = has_place set v h in omega (arith, l, count)) out)))
 
 module _ (places : List ℕ) (placed : IsPlaced 256 places) (part next ahead : List Bool) (bits : Bits) where
-  pub leaving_begun : (n : ℕ) → n ≡ length part → length next ≡ length part → IsImage places part bits → ahead ≡ intersection (union (empty_set n) part) (complement next) → IsLeaving places part next ahead bits
-  leaving_begun n sized count image is = record {
-    image = image;
-    ahead_count = beside_count n part next ahead sized count is;
-    next_count = count;
-    inside = beside_within n part next ahead sized count is;
-    all = beside_all n part next ahead sized count is;
-  }
-
-  pub coming_begun : (n : ℕ) → n ≡ length part → length next ≡ length part → IsWithin part next → IsImage places part bits → ahead ≡ intersection (union (empty_set n) next) (complement part) → IsComing places part next ahead bits
-  coming_begun n sized count within image is = record {
-    image = image;
-    ahead_count = beside_count n next part ahead (sized ∙ sym count) (sym count) is ∙ count;
-    next_count = count;
-    within = within;
-    inside = beside_within n next part ahead (sized ∙ sym count) (sym count) is;
-    all = beside_all n next part ahead (sized ∙ sym count) (sym count) is;
-  }
-
   module _ (after : Bits) (v : ℕ) (others : (k : ℕ) → k ≢ get_or places v 0 → bit_in after k ≡ bit_in bits k) where
     -- the image of a part in which v is written
     image_written : (b : Bool) → v < length part → IsImage places part bits → (bit_in after (get_or places v 0) ≡ 1) ↔ (b ≡ true) → IsImage places (set part v b) after
@@ -115,41 +89,45 @@ module _ (places : List ℕ) (placed : IsPlaced 256 places) (part next ahead : L
     pub leaving_less : IsLeaving places part next ahead bits → Has ahead v → bit_in after (get_or places v 0) ≡ 0 → IsLeaving places (set part v false) next (set ahead v false) after
     leaving_less h has out = record {
       image = image_written false lp h.image ((λ one. absurd (omega (arith, one, out))), (λ no. absurd (false≢true no)));
-      ahead_count = length-set ahead v false ∙ (h.ahead_count ∙ sym (length-set part v false));
       next_count = h.next_count ∙ sym (length-set part v false);
-      inside = λ i hi. let (ne, here) = taken ahead v i la hi in put-else part v false lp i ne ∙ h.inside i here;
-      all = λ i hi. let (ne, here) = taken part v i lp hi in ⊎_elim (λ n. inl n) (λ a. inr (put-else ahead v false la i ne ∙ a)) (h.all i here);
+      beside = record {
+        count = length-set ahead v false ∙ (h.beside.count ∙ sym (length-set part v false));
+        inside = λ i hi. let (ne, here) = taken ahead v i la hi in put-else part v false lp i ne ∙ h.beside.inside i here;
+        all = λ i hi. let (ne, here) = taken part v i lp hi in ⊎_elim (λ n. inl n) (λ a. inr (put-else ahead v false la i ne ∙ a)) (h.beside.all i here);
+      };
     } where
       la : v < length ahead
       la = has_place ahead v has
 
       lp : v < length part
-      lp = has_place part v (h.inside v has)
+      lp = has_place part v (h.beside.inside v has)
 
     pub coming_more : IsComing places part next ahead bits → Has ahead v → bit_in after (get_or places v 0) ≡ 1 → IsComing places (set part v true) next (set ahead v false) after
     coming_more h has put = record {
       image = image_written true lp h.image ((λ one. refl), (λ yes. put));
-      ahead_count = length-set ahead v false ∙ (h.ahead_count ∙ sym (length-set part v true));
       next_count = h.next_count ∙ sym (length-set part v true);
-      within = λ i hi. ⊎_elim (λ same. rw same (h.inside v has)) (λ ne. h.within i (sym (put-else part v true lp i ne) ∙ hi)) (cases_eq i v);
-      inside = λ i hi. h.inside i (taken ahead v i la hi).1;
-      all = λ i hi. in_or_ahead i hi (cases_eq i v);
+      within = λ i hi. ⊎_elim (λ same. rw same (h.beside.inside v has)) (λ ne. h.within i (sym (put-else part v true lp i ne) ∙ hi)) (cases_eq i v);
+      beside = record {
+        count = length-set ahead v false ∙ h.beside.count;
+        inside = λ i hi. h.beside.inside i (taken ahead v i la hi).1;
+        all = λ i hi. in_or_ahead i hi (cases_eq i v);
+      };
     } where
       la : v < length ahead
       la = has_place ahead v has
 
       lp : v < length part
-      lp = let c = h.ahead_count in omega (arith, la, c)
+      lp = let c = h.beside.count in let d = h.next_count in omega (arith, la, c, d)
 
       stays : (i : ℕ) → Has part i → Has (set part v true) i
       stays i hi = ⊎_elim (λ same. rw same (put-here part v true lp)) (λ ne. put-else part v true lp i ne ∙ hi) (cases_eq i v)
 
       in_or_ahead : (i : ℕ) → Has next i → (i ≡ v) ⊎ (i ≢ v) → Has (set part v true) i ⊎ Has (set ahead v false) i
       in_or_ahead i hi (inl same) = inl (rw same (put-here part v true lp))
-      in_or_ahead i hi (inr ne) = ⊎_elim (λ p. inl (stays i p)) (λ a. inr (put-else ahead v false la i ne ∙ a)) (h.all i hi)
+      in_or_ahead i hi (inr ne) = ⊎_elim (λ p. inl (stays i p)) (λ a. inr (put-else ahead v false la i ne ∙ a)) (h.beside.all i hi)
 
   pub leaving_done : IsLeaving places part next ahead bits → ahead ≡ empty_set (length ahead) → IsWithin part next
-  leaving_done h none v hv = ⊎_elim (λ n. n) (λ a. absurd (false≢true (sym (none_in_empty (length ahead) v) ∙ (rw none at a)))) (h.all v hv)
+  leaving_done h none v hv = ⊎_elim (λ n. n) (λ a. absurd (false≢true (sym (none_in_empty (length ahead) v) ∙ (rw none at a)))) (h.beside.all v hv)
 
   pub coming_done : IsComing places part next ahead bits → ahead ≡ empty_set (length ahead) → part ≡ next
-  coming_done h none = same_sets part next (sym h.next_count) (λ v l hv. h.within v hv) (λ v l hv. ⊎_elim (λ p. p) (λ a. absurd (false≢true (sym (none_in_empty (length ahead) v) ∙ (rw none at a)))) (h.all v hv))
+  coming_done h none = same_sets part next (sym h.next_count) (λ v l hv. h.within v hv) (λ v l hv. ⊎_elim (λ p. p) (λ a. absurd (false≢true (sym (none_in_empty (length ahead) v) ∙ (rw none at a)))) (h.beside.all v hv))

@@ -1,5 +1,6 @@
 -- A part of a term with its ground places.
-use Rattle.std.specs.Prelude.{◌≡◌, ℕ, Bool, List, length}
+use Rattle.std.specs.Prelude.{◌≡◌, ◌⊎◌, ℕ, Bool, List, length}
+use Rattle.sfm_spec.specs.Sets.{Has, IsWithin}
 use Rattle.sfm_exchange.specs.declared.bits.Bits.{Bits}
 use Rattle.sfm_exchange.specs.Bits.{HasPlaces}
 
@@ -7,3 +8,9 @@ use Rattle.sfm_exchange.specs.Bits.{HasPlaces}
 pub record IsImage (places : List ℕ) (part : List Bool) (bits : Bits) : Type 0 where
   pub count : length part ≡ length places
   pub exact : HasPlaces places part (length places) bits
+
+-- what a part has and another has not, where it has no more than the part
+pub record IsBeside (part other beside : List Bool) : Type 0 where
+  pub count : length beside ≡ length part
+  pub inside : IsWithin beside part
+  pub all : (v : ℕ) → Has part v → Has other v ⊎ Has beside v

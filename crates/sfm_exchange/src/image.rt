@@ -3,7 +3,7 @@
 ghost use Rattle.std.specs.Prelude.{◌≡◌, ℕ, List, length, IfOk};
 ghost use Rattle.sfm_spec.specs.Sets.{IsPlaced, IsWithin};
 ghost use Rattle.sfm_exchange.specs.Bits.{HasPlaces};
-ghost use Rattle.sfm_exchange.specs.Image.{IsImage};
+ghost use Rattle.sfm_exchange.specs.Image.{IsBeside, IsImage};
 
 use crate::bits::{Bits, no_bits};
 use sfm_base::{Memory, Set};
@@ -50,9 +50,7 @@ impl Image {
         ensures next { self.new.next ≡ self.old.next }
         ensures within { IsWithin self.new.part self.new.next }
     {
-        self.ahead.clear();
-        self.ahead.union_with(&self.part);
-        self.ahead.remove_all(&self.next);
+        write_beside(&mut self.ahead, &self.part, &self.next);
         while let Some(v) = self.ahead.first() {
             self.ahead.remove(v);
             self.part.remove(v);
@@ -69,9 +67,7 @@ impl Image {
         ensures next { self.new.next ≡ self.old.next }
         ensures same { self.new.part ≡ self.old.next }
     {
-        self.ahead.clear();
-        self.ahead.union_with(&self.next);
-        self.ahead.remove_all(&self.part);
+        write_beside(&mut self.ahead, &self.next, &self.part);
         while let Some(v) = self.ahead.first() {
             self.ahead.remove(v);
             self.part.insert(v);
@@ -90,4 +86,15 @@ impl Image {
         self.put_in(places);
         self.bits
     }
+}
+
+// Writes what a part has beside another one.
+fn write_beside(beside: &mut Set, part: &Set, other: &Set)
+    requires places { length beside.old ≡ length part.now }
+    requires other { length other.now ≡ length part.now }
+    ensures { IsBeside part.now other.now beside.new }
+{
+    beside.clear();
+    beside.union_with(part);
+    beside.remove_all(other);
 }

@@ -1,24 +1,9 @@
-use Rattle.std.proofs.Common.{length, sym, ap, refl, ◌∙◌}
-use Rattle.sfm_spec.specs.Sets.{union, intersection, complement}
-use Rattle.sfm_exchange.proofs.Imaging.{coming_begun, coming_more, coming_done, cleared_count, beside_count}
+use Rattle.std.proofs.Common.{refl, ◌∙◌}
+use Rattle.sfm_exchange.proofs.Imaging.{coming_more, coming_done}
 use Rattle.sfm_exchange.proofs.image.Image.put_in.Goals as goal
 
-pub remove_all-requires : goal.remove_all-requires
-remove_all-requires c =
-    let s = c.args.self.now in
-    cleared_count (length s.ahead) s.next c.union_with.new.self (s.ahead_places ∙ sym s.next_places) (c.union_with.ensures ∙ ap (λ l. union l s.next) c.clear.ensures) ∙ s.next_places
-
-pub invariant_of-self : goal.invariant_of-self
-invariant_of-self c =
-    let s = c.args.self.now in
-    let is = c.remove_all.ensures ∙ ap (λ l. intersection l (complement s.part)) (c.union_with.ensures ∙ ap (λ l. union l s.next) c.clear.ensures) in
-    record { next_places = s.next_places; ahead_places = beside_count (length s.ahead) s.next s.part c.remove_all.new.self (s.ahead_places ∙ sym s.next_places) (sym s.next_places) is ∙ s.next_places }
-
 pub loop-v-init : goal.loop-v-init
-loop-v-init c =
-    let s = c.args.self.now in
-    let is = c.remove_all.ensures ∙ ap (λ l. intersection l (complement s.part)) (c.union_with.ensures ∙ ap (λ l. union l s.next) c.clear.ensures) in
-    (coming_begun c.args.places.now c.requires.placed s.part s.next c.remove_all.new.self s.bits (length s.ahead) s.ahead_places s.next_places c.requires.within c.requires.image is, refl)
+loop-v-init c = (record { image = c.requires.image; next_count = c.args.self.now.next_places; within = c.requires.within; beside = c.write_beside.ensures }, refl)
 
 pub loop-v-preserved : goal.loop-v-preserved
 loop-v-preserved c =
