@@ -22,6 +22,7 @@ pub mod Changes
 pub mod Sharing
 pub mod Basing
 pub mod ClaimedGraphs
+pub mod Still
 pub mod WholeGraphs
 pub mod Joining
 pub mod Minimisers

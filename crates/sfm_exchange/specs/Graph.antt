@@ -1,6 +1,7 @@
 -- The exchange graph of q times some terms at bases of theirs.
 use Rattle.std.specs.Prelude.{◌≡◌, ℕ, ◌<◌, List, length, map, ℤ}
-use Rattle.sfm_spec.specs.Bounds.{AreBounded, IsFactor}
+use Rattle.std.specs.List.{All}
+use Rattle.sfm_spec.specs.Bounds.{AreBounded, IsEntry, IsFactor}
 use Rattle.sfm_spec.specs.Terms.{SetFunction, times}
 use Rattle.sfm_spec.specs.Families.{meanings, AreBases}
 use Rattle.sfm_spec.specs.Walks.{term_at, base_at}
@@ -46,6 +47,16 @@ pub record IsClaimed {X N : Type 0} (places : X → List ℕ) (value : X → Set
   pub are_spots : AreSpots (meanings places value terms) n graph.spots.items
   pub are_unions : AreUnions graph.rows.items graph.spots.items graph.unions.items
   pub are_turned : AreTurned graph.unions.items graph.back.items
+
+-- such a graph over the places that it has spots for, whose bases have small entries
+pub record IsReady {X N : Type 0} (places : X → List ℕ) (value : X → SetFunction) (size : X → ℤ) (fits : X → N → ℤ → List ℤ → Type 0) (terms : List X) (q : ℤ) (graph : Graph N) : Type 0 where
+  pub claimed : IsClaimed places value size fits terms (length graph.spots.items) q graph
+  pub small : All (λ x. All IsEntry x) graph.bases
+
+-- such a graph over the places that another one has spots for, and at the bases of that
+pub record IsStill {X N : Type 0} (places : X → List ℕ) (value : X → SetFunction) (size : X → ℤ) (fits : X → N → ℤ → List ℤ → Type 0) (terms : List X) (q : ℤ) (before after : Graph N) : Type 0 where
+  pub claimed : IsClaimed places value size fits terms (length before.spots.items) q after
+  pub bases : after.bases ≡ before.bases
 
 -- the lists of a graph of the terms over n places, whatever its bases and its rows are: the spots of each place are those of
 -- the terms, there is a row for each place of each term, a set of claimed places for each term, and a set of the places that

@@ -9,7 +9,7 @@ ghost use Rattle.sfm_spec.specs.Families.{meanings};
 ghost use Rattle.sfm_spec.specs.Walks.{term_at};
 ghost use Rattle.sfm_exchange.specs.Bits.{bit_in, set_at};
 ghost use Rattle.sfm_exchange.specs.Claimed.{IsAsked, claims_of};
-ghost use Rattle.sfm_exchange.specs.Graph.{IsClaimed};
+ghost use Rattle.sfm_exchange.specs.Graph.{IsClaimed, IsReady, IsStill};
 ghost use Rattle.sfm_exchange.specs.Hops.{AreHops, IsHop, IsMovable, hop_at};
 ghost use Rattle.sfm_exchange.specs.Reach.{table_at};
 ghost use Rattle.sfm_exchange.specs.Reached.{AreWalked};
@@ -34,12 +34,10 @@ fn ask_at<T: Term>(
     i: usize,
     u: usize,
 ) -> Result<(), Memory>
-    requires graph { IsClaimed T.places T.value_of T.size_of T.fits terms.now (length graph.old.spots.items) q graph.old }
-    requires small { All (λ x. All IsEntry x) graph.old.bases }
+    requires ready { IsReady T.places T.value_of T.size_of T.fits terms.now q graph.old }
     requires term { i < length terms.now }
     requires place { u < length (term_at (meanings T.places T.value_of terms.now) i).places }
-    ensures graph { OnOk result (IsClaimed T.places T.value_of T.size_of T.fits terms.now (length graph.old.spots.items) q graph.new) }
-    ensures bases { OnOk result (graph.new.bases ≡ graph.old.bases) }
+    ensures still { OnOk result (IsStill T.places T.value_of T.size_of T.fits terms.now q graph.old graph.new) }
     ensures spots { OnOk result (graph.new.spots.items ≡ graph.old.spots.items) }
     ensures settled { OnOk result (bit_in (set_at graph.new.claimed.items i) (slice_index_or (term_at (meanings T.places T.value_of terms.now) i).places u 0) ≢ 1) }
     ensures kept { OnOk result ((j e : ℕ) → bit_in (set_at graph.old.claimed.items j) e ≢ 1 → bit_in (set_at graph.new.claimed.items j) e ≢ 1) }
@@ -79,11 +77,9 @@ fn prove_hop<T: Term>(
     q: i128,
     hop: Hop,
 ) -> Result<bool, Memory>
-    requires graph { IsClaimed T.places T.value_of T.size_of T.fits terms.now (length graph.old.spots.items) q graph.old }
-    requires small { All (λ x. All IsEntry x) graph.old.bases }
+    requires ready { IsReady T.places T.value_of T.size_of T.fits terms.now q graph.old }
     requires named { (from : ℕ) × IsHop (meanings T.places T.value_of terms.now) from hop }
-    ensures graph { OnOk result (IsClaimed T.places T.value_of T.size_of T.fits terms.now (length graph.old.spots.items) q graph.new) }
-    ensures bases { OnOk result (graph.new.bases ≡ graph.old.bases) }
+    ensures still { OnOk result (IsStill T.places T.value_of T.size_of T.fits terms.now q graph.old graph.new) }
     ensures asked { OnOk result (IsAsked graph.old.rows.items graph.old.claimed.items graph.new.rows.items graph.new.claimed.items) }
     ensures proved { IfOk result (λ r. r ≡ true → IsMovable (meanings T.places T.value_of terms.now) q graph.old.bases hop) }
     ensures refused { IfOk result (λ r. r ≡ false → bit_in (set_at (table_at graph.old.rows.items hop.term) hop.u) hop.to ≡ 1 → claims_of graph.new.claimed.items < claims_of graph.old.claimed.items) }
@@ -132,11 +128,9 @@ fn ask_place<T: Term>(
     q: i128,
     e: usize,
 ) -> Result<(), Memory>
-    requires graph { IsClaimed T.places T.value_of T.size_of T.fits terms.now (length graph.old.spots.items) q graph.old }
-    requires small { All (λ x. All IsEntry x) graph.old.bases }
+    requires ready { IsReady T.places T.value_of T.size_of T.fits terms.now q graph.old }
     requires place { e < length graph.old.spots.items }
-    ensures graph { OnOk result (IsClaimed T.places T.value_of T.size_of T.fits terms.now (length graph.old.spots.items) q graph.new) }
-    ensures bases { OnOk result (graph.new.bases ≡ graph.old.bases) }
+    ensures still { OnOk result (IsStill T.places T.value_of T.size_of T.fits terms.now q graph.old graph.new) }
     ensures exact { OnOk result ((t : ℕ) → bit_in (set_at graph.new.unions.items e) t ≡ 1 → IsArc (meanings T.places T.value_of terms.now) q graph.old.bases e t) }
 {
     let here = &graph.spots[e];

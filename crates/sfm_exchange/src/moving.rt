@@ -9,7 +9,7 @@ ghost use Rattle.sfm_spec.specs.Families.{meanings};
 ghost use Rattle.sfm_spec.specs.Labels.{FallsAlong};
 ghost use Rattle.sfm_spec.specs.Walks.{IsWalkMove, base_at, term_at};
 ghost use Rattle.sfm_law.specs.Room.{AtMostRoom, IsRoom};
-ghost use Rattle.sfm_exchange.specs.Graph.{IsClaimed};
+ghost use Rattle.sfm_exchange.specs.Graph.{IsClaimed, IsReady, IsStill};
 ghost use Rattle.sfm_exchange.specs.Hops.{CanExchange, IsMovable, Moves, AreNamed, AreInOrder, hop_at, steps_of};
 
 use crate::graph::Graph;
@@ -57,11 +57,9 @@ fn room_of<T: Term>(
     q: i128,
     hop: Hop,
 ) -> Result<Room, Memory>
-    requires graph { IsClaimed T.places T.value_of T.size_of T.fits terms.now (length graph.old.spots.items) q graph.old }
-    requires small { All (λ x. All IsEntry x) graph.old.bases }
+    requires ready { IsReady T.places T.value_of T.size_of T.fits terms.now q graph.old }
     requires movable { IsMovable (meanings T.places T.value_of terms.now) q graph.old.bases hop }
-    ensures graph { OnOk result (IsClaimed T.places T.value_of T.size_of T.fits terms.now (length graph.old.spots.items) q graph.new) }
-    ensures bases { OnOk result (graph.new.bases ≡ graph.old.bases) }
+    ensures still { OnOk result (IsStill T.places T.value_of T.size_of T.fits terms.now q graph.old graph.new) }
     ensures room { IfOk result (IsRoom (times q (term_at (meanings T.places T.value_of terms.now) hop.term).value) (base_at graph.old.bases hop.term) hop.u hop.v) }
 {
     let i = hop.term;

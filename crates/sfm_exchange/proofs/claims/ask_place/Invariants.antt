@@ -1,12 +1,11 @@
 -- the rows of the spots so far are not claimed; the bases and the spots stay
-use Rattle.std.proofs.Common.{◌≡◌, ◌≢◌, ℕ, ◌<◌, length}
+use Rattle.std.proofs.Common.{◌≡◌, ◌≢◌, ℕ, ◌<◌}
 use Rattle.sfm_exchange.specs.Bits.{bit_in, set_at}
-use Rattle.sfm_exchange.specs.Graph.{IsClaimed}
+use Rattle.sfm_exchange.specs.Graph.{IsStill}
 use Rattle.sfm_exchange.specs.Spots.{spot_at, spots_at}
 use Rattle.sfm_exchange.proofs.claims.ask_place.Given as goal
 
 abbrev pub invariant-loop-k : goal.invariant-loop-k
-invariant-loop-k g l = let t = g.T.Term in IsClaimed t.places t.value_of t.size_of t.fits l.terms (length l.initial.graph.spots.items) l.q l.graph
-    × (l.graph.bases ≡ l.initial.graph.bases)
+invariant-loop-k g l = let t = g.T.Term in IsStill t.places t.value_of t.size_of t.fits l.terms l.q l.initial.graph l.graph
     × (l.graph.spots.items ≡ l.initial.graph.spots.items)
     × ((j : ℕ) → j < l.k → bit_in (set_at l.graph.claimed.items (spot_at (spots_at l.initial.graph.spots.items l.e) j).term) l.e ≢ 1)

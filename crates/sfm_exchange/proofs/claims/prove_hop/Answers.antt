@@ -15,17 +15,17 @@ use Rattle.sfm_exchange.proofs.claims.prove_hop.Goals.{After-ask_at, After-index
 
 -- the term of the step is one of the terms
 inside : (g : given.Over) (c : After-ask_at g) → c.args.hop.term < length c.args.terms.now
-inside g c = rw (counted c.requires.graph) at c.requires.named.1.term_in
+inside g c = rw (counted c.requires.ready.claimed) at c.requires.named.1.term_in
 
 -- its rows, once the row of the place is asked
 table : (g : given.Over) (c : After-index-rows g) → c.args.hop.term < length c.args.terms.now → c.index-rows.result.now ≡ table_at c.ask_at.new.graph.rows.items c.args.hop.term
 table g c l =
     let fq : FitsSigned w128 c.args.q = c.ranges.q in
-    let h = simp to_z-of_z at c.in_ok-ask_at.ensures.graph in
+    let h = simp to_z-of_z at c.in_ok-ask_at.ensures.still.claimed in
     c.index-rows.ensures ∙ get_or_default c.ask_at.new.graph.rows.items c.args.hop.term c.index-rows.result.now [] (rw (rows_count h) l)
 
 pub ask_at-requires-clause-term : goal.ask_at-requires-clause-term
-ask_at-requires-clause-term g c = rw (counted c.requires.graph) at c.requires.named.1.term_in
+ask_at-requires-clause-term g c = rw (counted c.requires.ready.claimed) at c.requires.named.1.term_in
 
 pub ask_at-requires-clause-place : goal.ask_at-requires-clause-place
 ask_at-requires-clause-place g c = c.requires.named.1.u_in
@@ -34,7 +34,7 @@ pub index-rows-requires : goal.index-rows-requires
 index-rows-requires g c =
     let fq : FitsSigned w128 c.args.q = c.ranges.q in
     let l = inside g (goal.at.index-rows-requires g c).After-ask_at in
-    let h = simp to_z-of_z at c.in_ok-ask_at.ensures.graph in
+    let h = simp to_z-of_z at c.in_ok-ask_at.ensures.still.claimed in
     let count = rows_count h in
     omega (arith, l, count, c.ask_at.new.graph.rows.ok.0)
 
@@ -45,18 +45,18 @@ row-row-requires g c =
     let at = goal.at.row-row-requires g c in
     let l = inside g at.After-ask_at in
     let (term, is) = there_is c.args.terms.now c.args.hop.term l in
-    let h = simp to_z-of_z at c.in_ok-ask_at.ensures.graph in
-    rw (table g at.After-index-rows l, rows_long h c.args.hop.term l term is, ← places_are r.graph c.args.hop.term l term is) r.named.1.u_in
+    let h = simp to_z-of_z at c.in_ok-ask_at.ensures.still.claimed in
+    rw (table g at.After-index-rows l, rows_long h c.args.hop.term l term is, ← places_are r.ready.claimed c.args.hop.term l term is) r.named.1.u_in
 
 pub contains-requires : goal.contains-requires
 contains-requires g c =
     let r = c.requires in
     let l = inside g (goal.at.contains-requires g c).After-ask_at in
     let (term, is) = there_is c.args.terms.now c.args.hop.term l in
-    let places = places_are r.graph c.args.hop.term l term is in
-    let below = place_in r.graph c.args.hop.term l term is c.args.hop.v (rw places at r.named.1.v_in) in
+    let places = places_are r.ready.claimed c.args.hop.term l term is in
+    let below = place_in r.ready.claimed c.args.hop.term l term is c.args.hop.v (rw places at r.named.1.v_in) in
     let ends = rw places at r.named.1.ends in
-    omega (arith, below, ends, r.graph.bounded.few)
+    omega (arith, below, ends, r.ready.claimed.bounded.few)
 
 pub returns-clause-proved : goal.returns-clause-proved
 returns-clause-proved g c = λ one.
@@ -68,10 +68,10 @@ returns-clause-proved g c = λ one.
     let l = inside g at.After-ask_at in
     let (term, is) = there_is c.args.terms.now hop.term l in
     let e = c.in_ok-ask_at.ensures in
-    let h = simp to_z-of_z at e.graph in
+    let h = simp to_z-of_z at e.still.claimed in
     let after = c.ask_at.new.graph in
     let bit = rw (c.row-row.ensures, table g at.After-index-rows l) at (c.contains.ensures.0 one) in
-    rw e.bases at (true_movable (meanings t.places t.value_of c.args.terms.now) c.args.q after.bases r.named.0 hop (set_at (table_at after.rows.items hop.term) hop.u) (distinct_at r.graph hop.term l term is) r.named.1
+    rw e.still.bases at (true_movable (meanings t.places t.value_of c.args.terms.now) c.args.q after.bases r.named.0 hop (set_at (table_at after.rows.items hop.term) hop.u) (distinct_at r.ready.claimed hop.term l term is) r.named.1
     ((h.claims hop.term l).exact hop.u r.named.1.u_in e.settled) bit)
 
 pub returns-clause-refused : goal.returns-clause-refused

@@ -1,15 +1,14 @@
 -- the search so far, along the arcs of the graph at the same bases
-use Rattle.std.proofs.Common.{◌≡◌, length}
+use Rattle.std.proofs.Common.{length}
 use Rattle.sfm_spec.specs.Families.{meanings}
 use Rattle.sfm_spec.specs.Progress.{sum_below}
-use Rattle.sfm_exchange.specs.Graph.{IsClaimed}
+use Rattle.sfm_exchange.specs.Graph.{IsStill}
 use Rattle.sfm_exchange.specs.Unions.{IsArc}
 use Rattle.sfm_exchange.proofs.Searching.{IsSearching, work}
 use Rattle.sfm_exchange.proofs.claims.walked_from.Given as goal
 
 abbrev pub invariant-loop-e : goal.invariant-loop-e
-invariant-loop-e g l = let t = g.T.Term in IsClaimed t.places t.value_of t.size_of t.fits l.terms (length l.initial.graph.spots.items) l.q l.graph
-    × (l.graph.bases ≡ l.initial.graph.bases)
+invariant-loop-e g l = let t = g.T.Term in IsStill t.places t.value_of t.size_of t.fits l.terms l.q l.initial.graph l.graph
     × IsSearching (length l.initial.graph.spots.items) (IsArc (meanings t.places t.value_of l.terms) l.q l.initial.graph.bases) l.firsts l.found l.ahead
 
 abbrev pub decreases-loop-e : goal.decreases-loop-e

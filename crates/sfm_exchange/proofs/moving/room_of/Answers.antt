@@ -11,30 +11,30 @@ use Rattle.sfm_exchange.proofs.moving.room_of.Goals as goal
 
 pub index_mut-note-requires : goal.index_mut-note-requires
 index_mut-note-requires g c =
-    let h = c.requires.graph in
+    let h = c.requires.ready.claimed in
     let i = c.args.hop.term in
     let l : i < length c.args.terms.now = rw (counted h) at c.requires.movable.term_in in
     omega (arith, l, h.note_count, c.args.graph.now.notes.ok.0)
 
 pub offset_bounds-terms-i : goal.offset_bounds-terms-i
 offset_bounds-terms-i g c =
-    let h = c.requires.graph in
+    let h = c.requires.ready.claimed in
     let i = c.args.hop.term in
     let l : i < length c.args.terms.now = rw (counted h) at c.requires.movable.term_in in
     omega (arith, l)
 
 pub bounds-terms-i : goal.bounds-terms-i
-bounds-terms-i g c = rw (counted c.requires.graph) at c.requires.movable.term_in
+bounds-terms-i g c = rw (counted c.requires.ready.claimed) at c.requires.movable.term_in
 
 pub row-requires : goal.row-requires
-row-requires g c = let h = c.requires.graph in rw (base_count h) (rw (counted h) at c.requires.movable.term_in)
+row-requires g c = let h = c.requires.ready.claimed in rw (base_count h) (rw (counted h) at c.requires.movable.term_in)
 
 pub room_by-requires : goal.room_by-requires
 room_by-requires g c =
     let t = g.T.Term in
     let m = g.met.T.Term in
     let fq : FitsSigned w128 c.args.q = c.ranges.q in
-    let h = c.requires.graph in
+    let h = c.requires.ready.claimed in
     let can = c.requires.movable in
     let i = c.args.hop.term in
     let l : i < length c.args.terms.now = rw (counted h) at can.term_in in
@@ -44,7 +44,7 @@ room_by-requires g c =
     let sound = size_low t.places t.value_of t.size_of m.submodular m.bounded in
     let B : List ℤ → Type 0 = λ x. IsBased t.places t.value_of t.size_of term c.args.q x in
     let F : List ℤ → Type 0 = λ x. t.fits term c.index_mut-note.result.now c.args.q x in
-    let b : B c.row.result.now = subst B (sym c.row.ensures) (based h i l term is sound (All-get_or (λ x. All IsEntry x) bases i [] (rw (base_count h) l) c.requires.small)) in
+    let b : B c.row.result.now = subst B (sym c.row.ensures) (based h i l term is sound (All-get_or (λ x. All IsEntry x) bases i [] (rw (base_count h) l) c.requires.ready.small)) in
     let noted : F c.row.result.now = subst F (sym c.row.ensures) (h.noted i l term is c.index_mut-note.result.now c.index_mut-note.ensures.value) in
     let long = ap length (places_are h i l term is) in
     record {
@@ -62,7 +62,7 @@ room_by-requires g c =
 pub returns-clause-room : goal.returns-clause-room
 returns-clause-room g c =
     let fq : FitsSigned w128 c.args.q = c.ranges.q in
-    let h = c.requires.graph in
+    let h = c.requires.ready.claimed in
     let i = c.args.hop.term in
     let l : i < length c.args.terms.now = rw (counted h) at c.requires.movable.term_in in
     let room = rw c.row.ensures at (simp to_z-of_z at c.in_ok-room.ensures.room) in
