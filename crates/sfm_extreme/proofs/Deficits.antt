@@ -1,12 +1,14 @@
 -- The sum of min(z, 0) over a list of numbers.
-use Rattle.std.proofs.Common.{◌≡◌, ℕ, zero, suc, ◌+◌, ◌<◌, Bool, List, [], ◌∷◌, length, get_or, drop, ℤ, pos, negsuc, neg_ℤ, ◌+ℤ◌, ◌≤ℤ◌, nat_abs, refl, ap, ◌∙◌, arith}
+use Rattle.std.proofs.Common.{◌≡◌, ℕ, zero, suc, ◌+◌, ◌^◌, ◌<◌, ◌≤◌, Bool, List, [], ◌∷◌, length, get_or, drop, replicate, ℤ, pos, negsuc, neg_ℤ, ◌+ℤ◌, ◌≤ℤ◌, nat_abs, refl, ap, ◌∙◌, arith}
 use Rattle.std.specs.Int.{int_min}
 use Rattle.std.proofs.lemmas.Int.{ints, clamps}
 use Rattle.std.proofs.lemmas.List.{drop_more}
 use Rattle.sfm_spec.proofs.Sums.{magnitudes-drop}
 use Rattle.sfm_spec.specs.Sets.{magnitudes}
+use Rattle.sfm_spec.specs.Bounds.{IsEntry}
 use Rattle.sfm_spec.specs.Families.{Meaning, IsMinimiser, Prove, deficit, rest_at, shifted_at}
 use Rattle.sfm_law.specs.Rest.{IsRest}
+use Rattle.sfm_law.proofs.Rests.{magnitudes-replicate}
 
 abbrev pub deficit_list : List ℤ → ℤ
 deficit_list [] = pos 0
@@ -48,6 +50,10 @@ deficit_step z i sum l e h k =
     let m = magnitudes-drop z i l in
     let s = min_small (get_or z i (pos 0)) in
     (omega (arith, ints, e, d), omega (arith, ints, h, s.0), omega (arith, ints, k, m, s.1))
+
+-- a shift of one number for each of few places is small
+pub even_small : (shift : List ℤ) (n : ℕ) (p : ℤ) → IsEntry p → n ≤ 256 → shift ≡ replicate n p → magnitudes shift ≤ℤ pos (10 ^ 36)
+even_small shift n p h few same = let m = magnitudes-replicate n p h in rw same (omega (arith, ints, m, few))
 
 -- where bases prove, each minimiser has the deficit as its value
 pub value_by_prove : (terms : List Meaning) (n : ℕ) (q : ℤ) (shift : List ℤ) (rows : List (List ℤ)) (s : List Bool) → Prove terms n q shift rows → IsMinimiser terms n q shift s

@@ -1,11 +1,6 @@
-use Rattle.std.proofs.Common.{◌≡◌, replicate, rules, arith}
-use Rattle.std.proofs.lemmas.Int.{ints}
-use Rattle.sfm_law.proofs.Rests.{magnitudes-replicate}
+use Rattle.std.proofs.Common.{rules}
+use Rattle.sfm_extreme.proofs.Deficits.{even_small}
 use Rattle.sfm_extreme.proofs.extremes.certify.Goals as goal
 
 pub certify_by-requires-clause-shifts : goal.certify_by-requires-clause-shifts
-certify_by-requires-clause-shifts g c =
-    let same : c.deref.result.now ≡ replicate c.args.n c.args.p = search rules in
-    let m = magnitudes-replicate c.args.n c.args.p c.requires.entry in
-    let few = c.requires.bounded.few in
-    rw same (omega (arith, ints, m, few))
+certify_by-requires-clause-shifts g c = even_small c.deref.result.now c.args.n c.args.p c.requires.entry c.requires.bounded.few (search rules)

@@ -8,12 +8,12 @@ use Rattle.sfm_spec.specs.Families.{meanings, even_shift, AreTerms, Prove}
 use Rattle.sfm_spec.proofs.Duality.{meanings-terms}
 use Rattle.sfm_spec.proofs.Generated.{blocks_generate}
 use Rattle.sfm_law.proofs.Lists.{placed-meanings}
-use Rattle.sfm_law.proofs.Rests.{magnitudes-replicate}
 use Rattle.sfm_exchange.proofs.Minimisers.{link_in}
 use Rattle.sfm_exchange.proofs.WholeGraphs.{unions_count}
 use Rattle.sfm_extreme.specs.Blocks.{block_of}
 use Rattle.sfm_extreme.specs.Pulls.{AreFirsts, AreGrouped, ArePullRows}
 use Rattle.sfm_extreme.specs.Reading.{IsReading}
+use Rattle.sfm_extreme.proofs.Deficits.{even_small}
 use Rattle.sfm_extreme.proofs.Generating.{blocks_are}
 use Rattle.sfm_extreme.proofs.Tellings.{square_of, tells}
 use Rattle.sfm_extreme.proofs.grouping.blocks.Goals as goal
@@ -25,11 +25,8 @@ read_at-requires-clause-bounded g c =
 
 pub read_at-requires-clause-shifts : goal.read_at-requires-clause-shifts
 read_at-requires-clause-shifts g c =
-    let same : c.deref.result.now ≡ replicate c.args.n (pos 0) = search rules in
     let zero : IsEntry (pos 0) = record { low = omega (arith, ints); high = omega (arith, ints) } in
-    let m = magnitudes-replicate c.args.n (pos 0) zero in
-    let few = c.requires.bounded.few in
-    rw same (omega (arith, ints, m, few))
+    even_small c.deref.result.now c.args.n (pos 0) zero c.requires.bounded.few (search rules)
 
 pub pull_rows-requires-clause-few : goal.pull_rows-requires-clause-few
 pull_rows-requires-clause-few g c =

@@ -9,7 +9,21 @@ use Rattle.sfm_exchange.specs.Graph.{IsWhole}
 use Rattle.sfm_exchange.specs.Signs.{AreSigns}
 use Rattle.sfm_exchange.proofs.Minimisers.{back_in, link_in, over_in, under_in}
 use Rattle.sfm_exchange.proofs.WholeGraphs.{unions_count}
+use Rattle.sfm_extreme.proofs.reading.read_at.Given as given
 use Rattle.sfm_extreme.proofs.reading.read_at.Goals as goal
+use Rattle.sfm_extreme.proofs.reading.read_at.Goals.{After-signs_of-signs}
+
+-- the graph is whole
+whole : (g : given.Over) (c : After-signs_of-signs g) → let t = g.T.Term in IsWhole t.places t.value_of t.size_of t.fits c.args.terms.now (length c.args.shift.now) c.args.q c.in_ok-graph.graph
+whole g c = let fq : FitsSigned w128 c.args.q = c.ranges.q in record { bounded = c.requires.bounded; factor = c.requires.factor; exact = simp to_z-of_z at c.in_ok-graph.ensures.graph }
+
+-- z is what its bases leave of the shift
+rest : (g : given.Over) (c : After-signs_of-signs g) → let t = g.T.Term in IsRest (meanings t.places t.value_of c.args.terms.now) c.args.shift.now c.in_ok-graph.graph.bases c.in_ok-z.z.items
+rest g c = rw (c.in_ok-graph.ensures.bases, c.in_ok-copied.ensures) c.in_ok-z.ensures
+
+-- and the signs are those of z
+signed : (g : given.Over) (c : After-signs_of-signs g) → AreSigns c.in_ok-z.z.items c.signs_of-signs.result
+signed g c = rw c.deref.ensures.value at c.signs_of-signs.ensures
 
 pub rest_of-requires-clause-rows : goal.rest_of-requires-clause-rows
 rest_of-requires-clause-rows g c =
@@ -26,62 +40,44 @@ signs_of-signs-requires g c = let few = c.requires.bounded.few in rw (c.deref.en
 
 pub reached_from-reached-requires-clause-few : goal.reached_from-reached-requires-clause-few
 reached_from-reached-requires-clause-few g c =
-    let t = g.T.Term in
-    let fq : FitsSigned w128 c.args.q = c.ranges.q in
-    let whole : IsWhole t.places t.value_of t.size_of t.fits c.args.terms.now (length c.args.shift.now) c.args.q c.in_ok-graph.graph = record { bounded = c.requires.bounded; factor = c.requires.factor; exact = simp to_z-of_z at c.in_ok-graph.ensures.graph } in
-    rw (c.deref-2.ensures.value, unions_count whole) whole.bounded.few
+    let at = (goal.at.reached_from-reached-requires-clause-few g c).After-signs_of-signs in
+    rw (c.deref-2.ensures.value, unions_count (whole g at)) (whole g at).bounded.few
 
 pub reached_from-reached-requires-clause-firsts : goal.reached_from-reached-requires-clause-firsts
 reached_from-reached-requires-clause-firsts g c =
-    let t = g.T.Term in
     let m = g.met.T.Term in
-    let fq : FitsSigned w128 c.args.q = c.ranges.q in
-    let whole : IsWhole t.places t.value_of t.size_of t.fits c.args.terms.now (length c.args.shift.now) c.args.q c.in_ok-graph.graph = record { bounded = c.requires.bounded; factor = c.requires.factor; exact = simp to_z-of_z at c.in_ok-graph.ensures.graph } in
-    let rest : IsRest (meanings t.places t.value_of c.args.terms.now) c.args.shift.now c.in_ok-graph.graph.bases c.in_ok-z.z.items = rw (c.in_ok-graph.ensures.bases, c.in_ok-copied.ensures) c.in_ok-z.ensures in
-    let signed : AreSigns c.in_ok-z.z.items c.signs_of-signs.result = rw c.deref.ensures.value at c.signs_of-signs.ensures in
-    rw c.deref-2.ensures.value (under_in whole m.family m.submodular rest.places rest signed)
+    let at = (goal.at.reached_from-reached-requires-clause-firsts g c).After-signs_of-signs in
+    rw c.deref-2.ensures.value (under_in (whole g at) m.family m.submodular (rest g at).places (rest g at) (signed g at))
 
 pub reached_from-reached-requires-clause-links : goal.reached_from-reached-requires-clause-links
 reached_from-reached-requires-clause-links g c =
-    let t = g.T.Term in
     let m = g.met.T.Term in
-    let fq : FitsSigned w128 c.args.q = c.ranges.q in
-    let whole : IsWhole t.places t.value_of t.size_of t.fits c.args.terms.now (length c.args.shift.now) c.args.q c.in_ok-graph.graph = record { bounded = c.requires.bounded; factor = c.requires.factor; exact = simp to_z-of_z at c.in_ok-graph.ensures.graph } in
-    rw c.deref-2.ensures.value (link_in whole m.family m.submodular)
+    let at = (goal.at.reached_from-reached-requires-clause-links g c).After-signs_of-signs in
+    rw c.deref-2.ensures.value (link_in (whole g at) m.family m.submodular)
 
 pub reached_from-leading-requires-clause-few : goal.reached_from-leading-requires-clause-few
 reached_from-leading-requires-clause-few g c = let turned = c.in_ok-graph.ensures.graph.are_turned in let count = turned.count in rw c.deref-3.ensures.value (omega (arith, count))
 
 pub reached_from-leading-requires-clause-firsts : goal.reached_from-leading-requires-clause-firsts
 reached_from-leading-requires-clause-firsts g c =
-    let t = g.T.Term in
     let m = g.met.T.Term in
-    let fq : FitsSigned w128 c.args.q = c.ranges.q in
-    let whole : IsWhole t.places t.value_of t.size_of t.fits c.args.terms.now (length c.args.shift.now) c.args.q c.in_ok-graph.graph = record { bounded = c.requires.bounded; factor = c.requires.factor; exact = simp to_z-of_z at c.in_ok-graph.ensures.graph } in
-    let rest : IsRest (meanings t.places t.value_of c.args.terms.now) c.args.shift.now c.in_ok-graph.graph.bases c.in_ok-z.z.items = rw (c.in_ok-graph.ensures.bases, c.in_ok-copied.ensures) c.in_ok-z.ensures in
-    let signed : AreSigns c.in_ok-z.z.items c.signs_of-signs.result = rw c.deref.ensures.value at c.signs_of-signs.ensures in
-    rw c.deref-3.ensures.value (over_in whole m.family m.submodular rest.places rest signed)
+    let at = (goal.at.reached_from-leading-requires-clause-firsts g c).After-signs_of-signs in
+    rw c.deref-3.ensures.value (over_in (whole g at) m.family m.submodular (rest g at).places (rest g at) (signed g at))
 
 pub reached_from-leading-requires-clause-links : goal.reached_from-leading-requires-clause-links
 reached_from-leading-requires-clause-links g c =
-    let t = g.T.Term in
     let m = g.met.T.Term in
-    let fq : FitsSigned w128 c.args.q = c.ranges.q in
-    let whole : IsWhole t.places t.value_of t.size_of t.fits c.args.terms.now (length c.args.shift.now) c.args.q c.in_ok-graph.graph = record { bounded = c.requires.bounded; factor = c.requires.factor; exact = simp to_z-of_z at c.in_ok-graph.ensures.graph } in
-    rw c.deref-3.ensures.value (back_in whole m.family m.submodular)
+    let at = (goal.at.reached_from-leading-requires-clause-links g c).After-signs_of-signs in
+    rw c.deref-3.ensures.value (back_in (whole g at) m.family m.submodular)
 
 pub returns-clause-reading : goal.returns-clause-reading
 returns-clause-reading g c =
-    let t = g.T.Term in
-    let fq : FitsSigned w128 c.args.q = c.ranges.q in
-    let whole : IsWhole t.places t.value_of t.size_of t.fits c.args.terms.now (length c.args.shift.now) c.args.q c.in_ok-graph.graph = record { bounded = c.requires.bounded; factor = c.requires.factor; exact = simp to_z-of_z at c.in_ok-graph.ensures.graph } in
-    let rest : IsRest (meanings t.places t.value_of c.args.terms.now) c.args.shift.now c.in_ok-graph.graph.bases c.in_ok-z.z.items = rw (c.in_ok-graph.ensures.bases, c.in_ok-copied.ensures) c.in_ok-z.ensures in
-    let signed : AreSigns c.in_ok-z.z.items c.signs_of-signs.result = rw c.deref.ensures.value at c.signs_of-signs.ensures in
+    let at = (goal.at.returns-clause-reading g c).After-signs_of-signs in
     record {
-      whole = whole;
-      count = rest.places;
-      is_rest = rest;
-      signed = signed;
+      whole = whole g at;
+      count = (rest g at).places;
+      is_rest = rest g at;
+      signed = signed g at;
       reached_are = rw c.deref-2.ensures.value at c.reached_from-reached.ensures;
       leading_are = rw c.deref-3.ensures.value at c.reached_from-leading.ensures;
     }
