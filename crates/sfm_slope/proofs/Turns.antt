@@ -14,13 +14,13 @@ use Rattle.sfm_slope.proofs.Gaps.{gap_between, gap_greatest, gap_same}
 use Rattle.sfm_slope.proofs.Ratios.{IsRatio, ratio_of_worths}
 use Rattle.sfm_spec.proofs.Ones.{ones-places, ones-shift, ones-sizes, total-ones}
 
-module _ (terms : List Meaning) (n : ℕ) (fit : AreTerms n terms) (low high : Worth) (wl : IsWorth terms low) (wh : IsWorth terms high)
+module _ {terms : List Meaning} {n : ℕ} (fit : AreTerms n terms) {low high : Worth} (wl : IsWorth terms low) (wh : IsWorth terms high)
     (begun : IsBegun terms n (ones n) low.set) (gap : IsGap terms n (ones n) low.set high.set)
     (slope : Slope) (same : IsSameSlope (high.sum -ℤ low.sum) (pos high.size -ℤ pos low.size) slope.num slope.den) where
   pub turn_ratio : IsRatio terms n (ones n) low.set high.set slope.num slope.den
   turn_ratio = ratio_of_worths terms n low high slope.num slope.den fit (floor_places terms n (ones n) fit (ones-places n) (ones-sizes n) begun.0 low.set begun.1) wl wh gap slope.lowest same
 
-  module _ (found : List Bool) (at : IsLeast terms n slope.den (even_shift n slope.num) found) where
+  module _ {found : List Bool} (at : IsLeast terms n slope.den (even_shift n slope.num) found) where
     least : IsLeast terms n slope.den (sized_shift (ones n) slope.num) found
     least = rw (ones-shift n slope.num) at
 

@@ -4,7 +4,6 @@
 // breakpoints there are 2J - 1 turns. The sets lie within one another, so at most n calls are open at a time.
 ghost use Rattle.std.specs.Prelude.{map, IfOk, OnOk};
 ghost use Rattle.std.specs.List.{All};
-ghost use Rattle.sfm_spec.specs.Bounds.{AreBounded};
 ghost use Rattle.sfm_spec.specs.Families.{meanings};
 ghost use Rattle.sfm_spec.specs.Laws.{AreBreakpoints, ones};
 ghost use Rattle.sfm_slope.specs.Gaps.{IsGap};
@@ -25,7 +24,6 @@ pub fn chain<T: Term>(
     terms: &[T],
     n: usize,
 ) -> Result<Vec<Breakpoint>, Memory>
-    requires bounded { AreBounded n (map T.places terms.now) (map T.size_of terms.now) }
     requires search { IsSearch T.places T.value_of T.size_of T.fits terms.now n search.old }
     ensures search { OnOk result (IsSearch T.places T.value_of T.size_of T.fits terms.now n search.new) }
     ensures slopes { IfOk result (λ r. AreBreakpoints (meanings T.places T.value_of terms.now) n (ones n) (map found_mark r.items)) }
@@ -49,7 +47,6 @@ fn fill<T: Term>(
     high: &Worth,
     found: &mut Vec<Breakpoint>,
 ) -> Result<(), Memory>
-    requires bounded { AreBounded n (map T.places terms.now) (map T.size_of terms.now) }
     requires search { IsSearch T.places T.value_of T.size_of T.fits terms.now n search.old }
     requires before { IsPartTo (meanings T.places T.value_of terms.now) n (ones n) found.old.items low.now.set }
     requires gap { IsGap (meanings T.places T.value_of terms.now) n (ones n) low.now.set high.now.set }

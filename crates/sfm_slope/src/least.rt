@@ -3,7 +3,7 @@
 // number below p/q, and q times its bases are where the walks for p/q begin.
 ghost use Rattle.std.specs.Prelude.{◌^◌, length, map, pos, ◌+ℤ◌, ◌*ℤ◌, ◌≤ℤ◌, ◌<ℤ◌, IfOk, OnOk};
 ghost use Rattle.std.specs.List.{All};
-ghost use Rattle.sfm_spec.specs.Bounds.{AreBounded, IsAtMost};
+ghost use Rattle.sfm_spec.specs.Bounds.{IsAtMost};
 ghost use Rattle.sfm_spec.specs.Families.{meanings, even_shift, IsLeast};
 ghost use Rattle.sfm_exchange.specs.Graph.{IsClaimed};
 ghost use Rattle.sfm_slope.specs.Searches.{IsSearch};
@@ -27,7 +27,6 @@ pub fn least_at<T: Term>(
     n: usize,
     slope: Slope,
 ) -> Result<Set, Memory>
-    requires bounded { AreBounded n (map T.places terms.now) (map T.size_of terms.now) }
     requires search { IsSearch T.places T.value_of T.size_of T.fits terms.now n search.old }
     requires small { IsAtMost (10 ^ 24) slope.num }
     ensures search { OnOk result (IsSearch T.places T.value_of T.size_of T.fits terms.now n search.new) }
@@ -77,7 +76,6 @@ fn keep_small<T: Term>(
     terms: &[T],
     n: usize,
 ) -> Result<(), Memory>
-    requires bounded { AreBounded n (map T.places terms.now) (map T.size_of terms.now) }
     requires graph { IsClaimed T.places T.value_of T.size_of T.fits terms.now n (pos 1) graph.old }
     ensures graph { OnOk result (IsClaimed T.places T.value_of T.size_of T.fits terms.now n (pos 1) graph.new) }
     ensures small { OnOk result (All (λ x. All (IsAtMost (10 ^ 25)) x) graph.new.bases) }

@@ -2,7 +2,7 @@
 // slope alone, and few walks lead to them, however the breakpoint was found.
 ghost use Rattle.std.specs.Prelude.{◌≡◌, ◌^◌, length, map, pos, IfOk, OnOk};
 ghost use Rattle.std.specs.List.{All};
-ghost use Rattle.sfm_spec.specs.Bounds.{AreBounded, IsAtMost};
+ghost use Rattle.sfm_spec.specs.Bounds.{IsAtMost};
 ghost use Rattle.sfm_spec.specs.Families.{meanings};
 ghost use Rattle.sfm_exchange.specs.Graph.{IsClaimed, IsShaped};
 ghost use Rattle.sfm_slope.specs.Marks.{HasBases, mark_of};
@@ -25,7 +25,6 @@ pub fn sections<T: Term>(
     n: usize,
     found: &[Breakpoint],
 ) -> Result<Vec<Break>, Memory>
-    requires bounded { AreBounded n (map T.places terms.now) (map T.size_of terms.now) }
     requires search { IsSearch T.places T.value_of T.size_of T.fits terms.now n search.old }
     requires ranges { All (IsInRange n) found.now }
     ensures marks { IfOk result (λ r. map mark_of r.items ≡ map found_mark found.now) }
@@ -45,7 +44,6 @@ fn section<T: Term>(
     n: usize,
     point: &Breakpoint,
 ) -> Result<Break, Memory>
-    requires bounded { AreBounded n (map T.places terms.now) (map T.size_of terms.now) }
     requires search { IsSearch T.places T.value_of T.size_of T.fits terms.now n search.old }
     requires range { IsInRange n point.now }
     ensures search { OnOk result (IsSearch T.places T.value_of T.size_of T.fits terms.now n search.new) }
@@ -74,7 +72,6 @@ fn bases_at<T: Term>(
     slope: Slope,
     shift: &mut [i128],
 ) -> Result<Rows, Memory>
-    requires bounded { AreBounded (length shift.old) (map T.places terms.now) (map T.size_of terms.now) }
     requires graph { IsShaped T.places T.value_of terms.now (length shift.old) graph.old }
     requires firsts { IsClaimed T.places T.value_of T.size_of T.fits terms.now (length shift.old) (pos 1) firsts.now }
     requires small { IsAtMost (10 ^ 24) slope.num }

@@ -3,7 +3,7 @@
 // is the next breakpoint, and the higher set is the greatest minimiser there. Or it lies strictly between them, and the
 // breakpoints are those below it and those above it.
 ghost use Rattle.std.specs.Prelude.{◌<◌, ◌≤◌, map, pos, ◌-ℤ◌, IfOk, OnOk};
-ghost use Rattle.sfm_spec.specs.Bounds.{AreBounded, IsGiven};
+ghost use Rattle.sfm_spec.specs.Bounds.{IsGiven};
 ghost use Rattle.sfm_spec.specs.Families.{meanings};
 ghost use Rattle.sfm_spec.specs.Slopes.{IsSameSlope};
 ghost use Rattle.sfm_spec.specs.Laws.{ones};
@@ -42,7 +42,6 @@ pub fn take_turn<T: Term>(
     low: &Worth,
     high: &Worth,
 ) -> Result<Turn, Memory>
-    requires bounded { AreBounded n (map T.places terms.now) (map T.size_of terms.now) }
     requires search { IsSearch T.places T.value_of T.size_of T.fits terms.now n search.old }
     requires begun { IsBegun (meanings T.places T.value_of terms.now) n (ones n) low.now.set }
     requires gap { IsGap (meanings T.places T.value_of terms.now) n (ones n) low.now.set high.now.set }

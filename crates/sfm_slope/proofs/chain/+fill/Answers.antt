@@ -1,9 +1,8 @@
 use Rattle.std.proofs.Common.{map, refl, None}
 use Rattle.sfm_spec.specs.Sets.{empty_set}
 use Rattle.sfm_spec.specs.Families.{meanings}
-use Rattle.sfm_spec.proofs.Duality.{meanings-terms}
 use Rattle.sfm_spec.specs.Laws.{ones}
-use Rattle.sfm_law.proofs.Lists.{placed-meanings}
+use Rattle.sfm_exchange.proofs.ClaimedGraphs.{are_terms}
 use Rattle.sfm_slope.specs.Points.{found_mark}
 use Rattle.sfm_slope.proofs.Gaps.{chain_begun}
 use Rattle.sfm_spec.proofs.Ones.{ones-places, ones-sizes}
@@ -16,7 +15,7 @@ take_turn-requires-clause-begun g t c =
     let m = g.met.T.Term in
     let n = c.args.n in
     let ts = meanings d.places d.value_of c.args.terms.now in
-    let fit = meanings-terms n d.places d.value_of m.family m.submodular c.args.terms.now (placed-meanings n d.places d.value_of c.args.terms.now c.requires.bounded.placed) in
+    let fit = are_terms c.requires.search.first m.family m.submodular in
     chain_begun ts n (ones n) fit (ones-places n) (ones-sizes n) None (empty_set n) (map found_mark c.args.found.now.items) c.args.low.now.set refl c.requires.before.chain
 
 pub returns-in_ok-push-in-Next-clause-part : goal.returns-in_ok-push-in-Next-clause-part

@@ -2,10 +2,9 @@ use Rattle.std.proofs.Common.{◌≡◌, [], refl, ◌∙◌, arith}
 use Rattle.std.proofs.lemmas.List.Elements.{All-nil}
 use Rattle.sfm_spec.specs.Sets.{empty_set, whole_set}
 use Rattle.sfm_spec.specs.Families.{meanings}
-use Rattle.sfm_spec.proofs.Duality.{meanings-terms}
 use Rattle.sfm_spec.proofs.Lattice.{empty_allowed, whole_allowed}
 use Rattle.sfm_spec.specs.Laws.{ones}
-use Rattle.sfm_law.proofs.Lists.{placed-meanings}
+use Rattle.sfm_exchange.proofs.ClaimedGraphs.{are_terms}
 use Rattle.sfm_slope.specs.Points.{IsInRange}
 use Rattle.sfm_slope.proofs.Parts.{part_all, part_none}
 use Rattle.sfm_spec.proofs.Ones.{ones-places, ones-sizes}
@@ -14,29 +13,20 @@ use Rattle.sfm_slope.proofs.chain.chain.Goals.{then-n-gt0+in_ok-fill, else-n-gt0
 
 pub worth_of-requires-clause-allowed : goal.worth_of-requires-clause-allowed
 worth_of-requires-clause-allowed g c =
-    let t = g.T.Term in
     let m = g.met.T.Term in
-    let n = c.args.n in
-    let ts = meanings t.places t.value_of c.args.terms.now in
-    let fit = meanings-terms n t.places t.value_of m.family m.submodular c.args.terms.now (placed-meanings n t.places t.value_of c.args.terms.now c.requires.bounded.placed) in
-    rw c.in_ok-empty.ensures (empty_allowed n ts fit)
+    rw c.in_ok-empty.ensures (empty_allowed c.args.n _ (are_terms c.requires.search.first m.family m.submodular))
 
 pub worth_of-requires-2-clause-allowed : goal.worth_of-requires-2-clause-allowed
 worth_of-requires-2-clause-allowed g c =
-    let t = g.T.Term in
     let m = g.met.T.Term in
-    let n = c.args.n in
-    let ts = meanings t.places t.value_of c.args.terms.now in
-    let fit = meanings-terms n t.places t.value_of m.family m.submodular c.args.terms.now (placed-meanings n t.places t.value_of c.args.terms.now c.requires.bounded.placed) in
-    rw c.in_ok-whole.ensures (whole_allowed n ts fit)
+    rw c.in_ok-whole.ensures (whole_allowed c.args.n _ (are_terms c.requires.search.first m.family m.submodular))
 
 pub returns-clause-slopes : goal.returns-clause-slopes
 returns-clause-slopes g c =
     let t = g.T.Term in
-    let m = g.met.T.Term in
     let n = c.args.n in
     let ts = meanings t.places t.value_of c.args.terms.now in
-    let fit = meanings-terms n t.places t.value_of m.family m.submodular c.args.terms.now (placed-meanings n t.places t.value_of c.args.terms.now c.requires.bounded.placed) in
+    let fit = are_terms c.requires.search.first g.met.T.Term.family g.met.T.Term.submodular in
     let whole : c.in_ok-high.high.set ≡ whole_set n = c.in_ok-high.ensures.same ∙ c.in_ok-whole.ensures in
     elim c.if-n-gt0.branch [
       | then-n-gt0+in_ok-fill w ↦ rw w.found-is (part_all ts n (ones n) fit (ones-places n) (ones-sizes n) w.fill.new.found.items c.in_ok-high.high.set w.in_ok-fill.ensures.part whole)

@@ -76,7 +76,7 @@ returns-clause-search g c =
     }
 
 pub restart_by-requires-clause-bounded : goal.restart_by-requires-clause-bounded
-restart_by-requires-clause-bounded g c = rw c.requires.search.cold.are_spots.count c.requires.bounded
+restart_by-requires-clause-bounded g c = rw c.requires.search.cold.are_spots.count c.requires.search.first.bounded
 
 pub restart_by-requires-clause-graph : goal.restart_by-requires-clause-graph
 restart_by-requires-clause-graph g c = rw c.requires.search.cold.are_spots.count c.requires.search.cold

@@ -13,7 +13,7 @@ minimise_from_start-requires-clause-shifts g c =
     let fp : FitsSigned w128 s.num = omega (arith, ints, s.entry.low, s.entry.high) in
     let same : c.write_even.new.shift ≡ replicate n s.num = simp to_z-of_z at c.write_even.ensures in
     let m = magnitudes-even n s.num c.requires.small in
-    let few = c.requires.bounded.few in
+    let few = c.requires.firsts.bounded.few in
     rw same (omega (arith, ints, m, few))
 
 pub returns-clause-bases : goal.returns-clause-bases
