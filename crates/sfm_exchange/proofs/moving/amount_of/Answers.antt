@@ -1,4 +1,4 @@
-use Rattle.std.proofs.Common.{◌≡◌, length, refl, ◌∙◌, rules, arith, FitsSigned, ℤ, to_z}
+use Rattle.std.proofs.Common.{◌≡◌, length, rules, arith, FitsSigned, ℤ, to_z}
 use Rattle.std.proofs.lemmas.Int.{to_z-of_z}
 use mir.Syntax.{w128}
 use Rattle.sfm_spec.specs.Families.{meanings}
@@ -43,7 +43,6 @@ returns-clause-graph g c = let fq : FitsSigned w128 c.args.q = c.ranges.q in sim
 
 pub returns-clause-greatest : goal.returns-clause-greatest
 returns-clause-greatest g c =
-    let t = g.T.Term in
     let fq : FitsSigned w128 c.args.q = c.ranges.q in
     let fm : FitsSigned w128 c.args.most = c.ranges.most in
     let inv = simp to_z-of_z at c.loop-hop.invariant in
