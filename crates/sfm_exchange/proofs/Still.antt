@@ -1,6 +1,9 @@
 -- A graph that is still one of claims at the same bases, as calls over it are made one after another.
-use Rattle.std.proofs.Common.{ℕ, List, ℤ, refl, ◌∙◌}
+use Rattle.std.proofs.Common.{ℕ, List, length, ℤ, refl, ◌∙◌, arith, FitsSigned}
 use Rattle.std.specs.List.{All}
+use Rattle.std.proofs.lemmas.Int.{ints, to_z-of_z}
+use mir.Syntax.{w128}
+use mir.Val.{of_z, to_z}
 use Rattle.sfm_spec.specs.Bounds.{IsEntry}
 use Rattle.sfm_spec.specs.Terms.{SetFunction}
 use Rattle.sfm_exchange.specs.declared.graph.Graph.{Graph}
@@ -11,6 +14,10 @@ module _ {X N : Type 0} {places : X → List ℕ} {value : X → SetFunction} {s
   -- it is at first
   pub still_begun : {n : ℕ} {graph : Graph N} → IsClaimed places value size fits terms n q graph → IsStill places value size fits terms q graph graph
   still_begun h = record { claimed = own h; bases = refl }
+
+  -- a graph over as many places as one has spots for is one over as many as that, also where the factor is told as a word
+  pub over_word : {n : ℕ} {graph graph' : Graph N} → IsClaimed places value size fits terms n q graph → IsClaimed places value size fits terms (length graph.spots.items) (to_z w128 (of_z w128 q)) graph' → IsClaimed places value size fits terms n q graph'
+  over_word h h' = let fq : FitsSigned w128 q = omega (arith, ints, h.factor) in over h (simp to_z-of_z at h')
 
   module _ {before graph : Graph N} (s : IsStill places value size fits terms q before graph) where
     -- it is ready for the next call where the bases are small

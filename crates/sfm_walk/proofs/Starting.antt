@@ -1,5 +1,5 @@
 -- The first bases and the plain shift are small.
-use Rattle.std.proofs.Common.{◌≡◌, ℕ, zero, suc, Bool, Some, length, ◌*◌, ◌^◌, List, [], ◌∷◌, map, replicate, ℤ, pos, negsuc, neg_ℤ, nat_abs, ◌*ℤ◌, ◌≤ℤ◌, arith}
+use Rattle.std.proofs.Common.{◌≡◌, ℕ, zero, suc, ◌≤◌, Bool, Some, length, ◌*◌, ◌^◌, List, [], ◌∷◌, map, replicate, ℤ, pos, negsuc, neg_ℤ, nat_abs, ◌*ℤ◌, ◌≤ℤ◌, arith}
 use Rattle.std.specs.List.{All}
 use Rattle.std.proofs.lemmas.Int.{ints}
 use Rattle.sfm_spec.specs.Sets.{magnitudes}
@@ -19,6 +19,10 @@ magnitudes-even (suc n) p h =
       by_sign : (p : ℤ) → IsAtMost (10 ^ 24) p → pos (nat_abs p) ≤ℤ pos (10 ^ 24)
       by_sign (pos k) g = omega (arith, ints, g.low, g.high)
       by_sign (negsuc k) g = omega (arith, ints, g.low, g.high)
+
+-- of few places
+pub even_small : (shift : List ℤ) (n : ℕ) (p : ℤ) → IsAtMost (10 ^ 24) p → n ≤ 256 → shift ≡ replicate n p → magnitudes shift ≤ℤ pos (10 ^ 27)
+even_small shift n p h few same = let m = magnitudes-even n p h in rw same (omega (arith, ints, m, few))
 
 module _ {X : Type 0} (size : X → ℤ) (start : X → ℤ → List ℤ) (q : ℤ)
     (starts_small : (x : X) → All (λ a. (neg_ℤ (pos 2 *ℤ q *ℤ size x) ≤ℤ a) × (a ≤ℤ (pos 2 *ℤ q *ℤ size x))) (start x q)) where

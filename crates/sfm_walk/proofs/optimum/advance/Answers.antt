@@ -1,11 +1,11 @@
-use Rattle.std.proofs.Common.{subst, rules, FitsSigned}
+use Rattle.std.proofs.Common.{rules, FitsSigned}
 use Rattle.std.proofs.lemmas.Int.{to_z-of_z}
 use mir.Syntax.{w128}
-use Rattle.sfm_exchange.specs.Graph.{IsClaimed}
 use Rattle.sfm_exchange.specs.Levels.{depth_of}
 use Rattle.sfm_walk.proofs.Advancing.{entries_small}
 use Rattle.sfm_walk.proofs.Augmenting.{amount_small, apart, ends_moved, first_at, in_order, last_at, progress, rest_after, spread}
 use Rattle.sfm_exchange.proofs.ClaimedGraphs.{are_terms, low, own}
+use Rattle.sfm_exchange.proofs.Still.{over_word}
 use Rattle.sfm_walk.proofs.optimum.advance.Goals as goal
 
 pub greatest_amount-requires-clause-small : goal.greatest_amount-requires-clause-small
@@ -52,10 +52,8 @@ settle-requires-clause-apart g c = let rest = c.requires.run.is_rest in apart c.
 
 pub returns-clause-graph : goal.returns-clause-graph
 returns-clause-graph g c =
-    let t = g.T.Term in
     let fq : FitsSigned w128 c.args.q = c.ranges.q in
-    let count = c.in_ok-a.ensures.graph.are_spots.count in
-    subst (λ n. IsClaimed t.places t.value_of t.size_of t.fits c.args.terms.now n c.args.q c.move_along.new.graph) count (simp to_z-of_z at c.in_ok-move_along.ensures.graph)
+    over_word (simp to_z-of_z at c.in_ok-a.ensures.graph) c.in_ok-move_along.ensures.graph
 
 pub returns-clause-advanced : goal.returns-clause-advanced
 returns-clause-advanced g c =

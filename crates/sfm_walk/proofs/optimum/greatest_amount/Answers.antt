@@ -1,12 +1,12 @@
-use Rattle.std.proofs.Common.{◌≡◌, ℕ, ◌≤ℤ◌, subst, rules, arith, FitsSigned}
+use Rattle.std.proofs.Common.{◌≡◌, ◌≤ℤ◌, rules, arith, FitsSigned}
 use Rattle.std.proofs.lemmas.Int.{ints, to_z-of_z}
 use mir.Syntax.{w128}
 use Rattle.sfm_spec.specs.Walks.{last_of}
 use Rattle.sfm_law.proofs.Rests.{rest-small}
-use Rattle.sfm_exchange.specs.Graph.{IsClaimed}
 use Rattle.sfm_exchange.specs.Hops.{steps_of}
 use Rattle.sfm_walk.proofs.Augmenting.{first_at, last_at}
 use Rattle.sfm_exchange.proofs.ClaimedGraphs.{own}
+use Rattle.sfm_exchange.proofs.Still.{over_word}
 use Rattle.sfm_walk.proofs.optimum.greatest_amount.Goals as goal
 
 pub most_of-most-requires-clause-first : goal.most_of-most-requires-clause-first
@@ -65,12 +65,7 @@ amount_of-requires-clause-movable g c =
     simp to_z-of_z (rw c.deref-2.ensures.value w.movable)
 
 pub returns-clause-graph : goal.returns-clause-graph
-returns-clause-graph g c =
-    let t = g.T.Term in
-    let fq : FitsSigned w128 c.args.q = c.ranges.q in
-    let h = c.requires.graph in
-    let W : ℕ → Type 0 = λ k. IsClaimed t.places t.value_of t.size_of t.fits c.args.terms.now k c.args.q c.amount_of.new.graph in
-    subst W h.are_spots.count (simp to_z-of_z at c.in_ok-a.ensures.graph)
+returns-clause-graph g c = over_word c.requires.graph c.in_ok-a.ensures.graph
 
 pub returns-clause-greatest : goal.returns-clause-greatest
 returns-clause-greatest g c =

@@ -1,20 +1,31 @@
-use Rattle.std.proofs.Common.{◌≡◌, replicate, rules, arith, FitsSigned}
-use Rattle.std.proofs.lemmas.Int.{ints, to_z-of_z}
+use Rattle.std.proofs.Common.{◌≡◌, ℕ, ◌+◌, ◌<◌, ◌≤◌, ℤ, List, length, map, get_or, pos, replicate, rules, FitsSigned}
+use Rattle.std.proofs.lemmas.Int.{to_z-of_z}
 use Rattle.std.proofs.lemmas.List.{length-replicate}
 use mir.Syntax.{w128}
-use Rattle.sfm_walk.proofs.Starting.{magnitudes-even, sizes_bounded, starts_bounded}
+use mir.Val.{of_z, to_z}
+use Rattle.sfm_spec.specs.Families.{meanings, even_shift, rest_at, Prove}
+use Rattle.sfm_spec.specs.Walks.{Step, Joins, few_walks}
+use Rattle.sfm_walk.specs.Counted.{IsCounted}
+use Rattle.sfm_walk.proofs.Starting.{even_small, sizes_bounded, starts_bounded}
 use Rattle.sfm_exchange.proofs.ClaimedGraphs.{whole_claimed}
+use Rattle.sfm_walk.proofs.optimum.minimise_counted.Given as given
 use Rattle.sfm_walk.proofs.optimum.minimise_counted.Goals as goal
+use Rattle.sfm_walk.proofs.optimum.minimise_counted.Goals.{After-improve}
+
+-- what holds at the shift as it was written holds at the even one
+even : (g : given.Over) (c : After-improve g) (P : ℕ → ℤ → List ℤ → Type 0) → P (length c.deref.result.now) (to_z w128 (of_z w128 c.args.q)) c.deref.result.now → P c.args.n c.args.q (even_shift c.args.n c.args.p)
+even g c P h =
+    let fq : FitsSigned w128 c.args.q = c.ranges.q in
+    let same : c.deref.result.now ≡ replicate c.args.n c.args.p = search rules in
+    let known : P (length c.deref.result.now) c.args.q c.deref.result.now = simp to_z-of_z at h in
+    rw (same, length-replicate c.args.n c.args.p) at known
 
 pub start_rows-requires-clause-bounded : goal.start_rows-requires-clause-bounded
 start_rows-requires-clause-bounded g c = let t = g.T.Term in let m = g.met.T.Term in sizes_bounded t.places t.value_of t.size_of m.submodular m.bounded _ c.args.terms.now c.requires.bounded
 
 pub improve-requires-clause-shifts : goal.improve-requires-clause-shifts
 improve-requires-clause-shifts g c =
-    let same : c.deref.result.now ≡ replicate c.args.n c.args.p = search rules in
-    let sum = magnitudes-even c.args.n c.args.p c.requires.slope in
-    let few = c.requires.bounded.few in
-    rw same (omega (arith, ints, sum, few))
+    even_small c.deref.result.now c.args.n c.args.p c.requires.slope c.requires.bounded.few (search rules)
 
 pub improve-requires-clause-small : goal.improve-requires-clause-small
 improve-requires-clause-small g c =
@@ -26,39 +37,29 @@ improve-requires-clause-small g c =
 
 pub returns-clause-rest : goal.returns-clause-rest
 returns-clause-rest g c =
-    let fq : FitsSigned w128 c.args.q = c.ranges.q in
-    let fp : FitsSigned w128 c.args.p = c.ranges.p in
-    let same : c.deref.result.now ≡ replicate c.args.n c.args.p = search rules in
-    rw (same, length-replicate c.args.n c.args.p) at c.in_ok-z.ensures.rest
+    let t = g.T.Term in
+    let z = c.in_ok-z.z in
+    even g (goal.at.returns-clause-rest g c).After-improve (λ n q shift. (length z ≡ n) × ((e : ℕ) → e < n → get_or z e (pos 0) ≡ rest_at (meanings t.places t.value_of c.args.terms.now) c.improve.new.graph.bases shift e)) c.in_ok-z.ensures.rest
 
 pub returns-clause-ends : goal.returns-clause-ends
 returns-clause-ends g c =
-    let fq : FitsSigned w128 c.args.q = c.ranges.q in
-    let fp : FitsSigned w128 c.args.p = c.ranges.p in
-    let same : c.deref.result.now ≡ replicate c.args.n c.args.p = search rules in
-    let known = rw same at c.in_ok-z.ensures.ends in
-    simp to_z-of_z at known
+    let t = g.T.Term in
+    even g (goal.at.returns-clause-ends g c).After-improve (λ n q shift. (first : ℕ) (steps : List Step) → Joins (meanings t.places t.value_of c.args.terms.now) q shift c.improve.new.graph.bases first steps → ⊥) c.in_ok-z.ensures.ends
 
 pub returns-clause-proves : goal.returns-clause-proves
 returns-clause-proves g c =
-    let fq : FitsSigned w128 c.args.q = c.ranges.q in
-    let fp : FitsSigned w128 c.args.p = c.ranges.p in
-    let same : c.deref.result.now ≡ replicate c.args.n c.args.p = search rules in
-    let known = rw (same, length-replicate c.args.n c.args.p) at c.in_ok-z.ensures.proves in
-    simp to_z-of_z at known
+    let t = g.T.Term in
+    even g (goal.at.returns-clause-proves g c).After-improve (λ n q shift. Prove (meanings t.places t.value_of c.args.terms.now) n q shift c.improve.new.graph.bases) c.in_ok-z.ensures.proves
 
 pub returns-clause-counted : goal.returns-clause-counted
 returns-clause-counted g c =
-    let fq : FitsSigned w128 c.args.q = c.ranges.q in
-    let fp : FitsSigned w128 c.args.p = c.ranges.p in
-    let same : c.deref.result.now ≡ replicate c.args.n c.args.p = search rules in
-    let known = rw (same, length-replicate c.args.n c.args.p, c.in_ok-graph.ensures.bases, c.in_ok-first_bases.ensures.starts) at c.in_ok-z.ensures.counted in
-    simp to_z-of_z at known
+    let t = g.T.Term in
+    let known = rw (c.in_ok-graph.ensures.bases, c.in_ok-first_bases.ensures.starts) at c.in_ok-z.ensures.counted in
+    even g (goal.at.returns-clause-counted g c).After-improve (λ n q shift. IsCounted (meanings t.places t.value_of c.args.terms.now) n q shift (map (λ term. t.start_of term q) c.args.terms.now) c.improve.new.graph.bases c.args.steps.now c.improve.new.steps) known
 
 pub returns-clause-few : goal.returns-clause-few
 returns-clause-few g c =
-    let same : c.deref.result.now ≡ replicate c.args.n c.args.p = search rules in
-    rw (same, length-replicate c.args.n c.args.p) at c.improve.ensures.few
+    even g (goal.at.returns-clause-few g c).After-improve (λ n q shift. c.improve.new.steps ≤ c.args.steps.now + few_walks n (length c.args.terms.now)) c.improve.ensures.few
 
 pub improve-requires-clause-graph : goal.improve-requires-clause-graph
 improve-requires-clause-graph g c =

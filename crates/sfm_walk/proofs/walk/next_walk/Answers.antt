@@ -1,9 +1,9 @@
 use Rattle.std.proofs.Common.{ℕ, length, refl, subst, ◌∙◌, FitsSigned}
 use Rattle.std.proofs.lemmas.Int.{to_z-of_z}
 use mir.Syntax.{w128}
-use Rattle.sfm_exchange.specs.Graph.{IsClaimed}
 use Rattle.sfm_exchange.specs.Levels.{AreClosed, IsFirst, depth_of}
 use Rattle.sfm_exchange.proofs.ClaimedGraphs.{are_terms, have_links, low, own}
+use Rattle.sfm_exchange.proofs.Still.{over_word}
 use Rattle.sfm_exchange.proofs.Joining.{none_joins}
 use Rattle.sfm_exchange.proofs.Options.{match_none, match_some}
 use Rattle.sfm_walk.proofs.Advancing.{least_walk}
@@ -43,20 +43,16 @@ loop-first-smaller g c = c.in_ok-proved.ensures.refused c.if-proved.false
 
 pub loop-first-preserved : goal.loop-first-preserved
 loop-first-preserved g c =
-    let t = g.T.Term in
     let fq : FitsSigned w128 c.args.q = c.ranges.q in
     let inv = simp to_z-of_z at c.loop-first.invariant in
     let o = c.in_ok-proved.ensures in
-    let W : ℕ → Type 0 = λ n. IsClaimed t.places t.value_of t.size_of t.fits c.args.terms.now n c.args.q c.prove_walk.new.graph in
-    simp to_z-of_z (subst W inv.0.are_spots.count (simp to_z-of_z at o.graph), o.bases ∙ inv.1, rw inv.1 at c.in_ok-sought_walk.ensures.run)
+    simp to_z-of_z (over_word inv.0 o.graph, o.bases ∙ inv.1, rw inv.1 at c.in_ok-sought_walk.ensures.run)
 
 pub returns-then-proved-clause-graph : goal.returns-then-proved-clause-graph
 returns-then-proved-clause-graph g c =
-    let t = g.T.Term in
     let fq : FitsSigned w128 c.args.q = c.ranges.q in
     let inv = simp to_z-of_z at c.loop-first.invariant in
-    let W : ℕ → Type 0 = λ n. IsClaimed t.places t.value_of t.size_of t.fits c.args.terms.now n c.args.q c.prove_walk.new.graph in
-    subst W inv.0.are_spots.count (simp to_z-of_z at c.in_ok-proved.ensures.graph)
+    over_word inv.0 c.in_ok-proved.ensures.graph
 
 pub returns-then-proved-clause-bases : goal.returns-then-proved-clause-bases
 returns-then-proved-clause-bases g c = c.in_ok-proved.ensures.bases ∙ c.loop-first.invariant.1
