@@ -102,6 +102,14 @@ impl Set {
         self.n
     }
 
+    /// Its words of 64 places each, bit t of word k telling of the place 64·k + t. The bits past the last place are 0.
+    pub fn words(&self) -> &[u64]
+        ensures set { self.now ≡ members (length self.now) result.now }
+        ensures words { AreWords (length self.now) result.now }
+    {
+        self.words.as_slice()
+    }
+
     /// How many places are in the set.
     pub fn size(&self) -> usize
         ensures { result ≡ size self.now }

@@ -132,6 +132,7 @@ fn takes_the_last(rt: &impl Abort, some: &mut Set, whole: &Set, n: usize) {
     assert!(rt; 0 < n && some.len() == n && whole.len() == n);
     some.put(n - 1, true);
     assert!(rt; some.size() == 1 && some.first() == Some(n - 1));
+    assert!(rt; some.words().len() == n.div_ceil(64));
     some.remove_all(whole);
     assert!(rt; some.is_empty());
 }
