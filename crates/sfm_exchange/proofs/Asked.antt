@@ -34,7 +34,7 @@ pub claims_fewer : (claimed : List Bits) (i place : ℕ) (b : Bits) → i < leng
     → claims_of (set claimed i b) < claims_of claimed
 claims_fewer claimed i place b li lp one gone rest =
     less_by (claims_of (set claimed i b)) (claims_of claimed) (sum_below 256 (bit_in (set_at claimed i))) (sum_below 256 (bit_in b)) (sum_by-set (λ c. sum_below 256 (bit_in c)) claimed i b blank_bits li)
-    (picking_shrinks (set_at claimed i) b place lp one gone rest)
+    (picking_shrinks (set_at claimed i) b place (record { below = lp; had = one; out = gone; others = rest }))
 
 -- and no other place is
 pub claims_kept : (claimed : List Bits) (i place : ℕ) (b : Bits) → i < length claimed → bit_in b place ≡ 0 → ((e : ℕ) → e ≢ place → bit_in b e ≡ bit_in (set_at claimed i) e)

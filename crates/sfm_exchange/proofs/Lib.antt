@@ -2,6 +2,7 @@ pub mod Options
 pub mod Placing
 pub mod Imaging
 pub mod Words
+pub mod Picking
 pub mod Following
 pub mod Telling
 pub mod Spotting

@@ -3,7 +3,7 @@ use Rattle.std.proofs.Common.{◌≡◌, ◌≢◌, ⊎_elim, ℕ, ◌+◌, ◌-
 use Rattle.std.proofs.lemmas.Bool.{cases_eq, cases_lt}
 use Rattle.std.proofs.lemmas.List.{get_or_past}
 use Rattle.sfm_exchange.specs.declared.bits.Bits.{Bits}
-use Rattle.sfm_exchange.specs.Bits.{bit_in, set_at, blank_bits}
+use Rattle.sfm_exchange.specs.Bits.{bit_in, set_at, blank_bits, IsTaken}
 use Rattle.sfm_exchange.specs.Levels.{LeadsInto}
 use Rattle.sfm_exchange.specs.Turned.{AreNext, AreTurned, IsLedBack}
 use Rattle.sfm_exchange.proofs.Words.{bit_in-lt, within_words}
@@ -17,24 +17,23 @@ pub record IsTurning (b e : ℕ) (row ahead : Bits) (old new : List Bits) : Type
   pub kept : (t : ℕ) → bit_in row t ≡ 0 → bit_in (set_at new t) e ≡ bit_in (set_at old t) e
   pub others : (k t : ℕ) → k ≢ e → bit_in (set_at new t) k ≡ bit_in (set_at old t) k
 
-pub turning_begun : (b e : ℕ) (row : Bits) (old : List Bits) → IsTurning b e row row old old
-turning_begun b e row old = record {
+pub turning_begun : (b e : ℕ) (row ahead : Bits) (old : List Bits) → ((t : ℕ) → bit_in ahead t ≡ bit_in row t) → IsTurning b e row ahead old old
+turning_begun b e row ahead old all = record {
   count = refl;
-  inside = λ t. omega arith;
-  written = λ t l one none. absurd (omega (arith, one, none));
+  inside = λ t. let a = all t in omega (arith, a);
+  written = λ t l one none. absurd (let a = all t in omega (arith, a, one, none));
   kept = λ t h. refl;
   others = λ k t h. refl;
 }
 
 -- one place more
-pub turning_more : (b e : ℕ) (row ahead ahead' : Bits) (old new : List Bits) (t : ℕ) (s : Bits) → IsTurning b e row ahead old new → t < length old → bit_in ahead t ≡ 1
-    → bit_in ahead' t ≡ 0 → ((k : ℕ) → k ≢ t → bit_in ahead' k ≡ bit_in ahead k) → bit_in s e ≡ b → ((k : ℕ) → k ≢ e → bit_in s k ≡ bit_in (set_at new t) k)
-    → IsTurning b e row ahead' old (set new t s)
-turning_more b e row ahead ahead' old new t s h inside one gone rest put others = record {
+pub turning_more : (b e : ℕ) (row ahead ahead' : Bits) (old new : List Bits) (t : ℕ) (s : Bits) → IsTurning b e row ahead old new → t < length old → IsTaken ahead t ahead'
+    → bit_in s e ≡ b → ((k : ℕ) → k ≢ e → bit_in s k ≡ bit_in (set_at new t) k) → IsTurning b e row ahead' old (set new t s)
+turning_more b e row ahead ahead' old new t s h inside taken put others = record {
   count = length-set new t s ∙ h.count;
-  inside = λ k. ⊎_elim (λ same. rw same (omega (arith, gone))) (λ ne. let i = h.inside k in let r = rest k ne in omega (arith, i, r)) (cases_eq k t);
-  written = λ k l has none. ⊎_elim (λ same. rw (here k same) put) (λ ne. rw (there k ne) (h.written k l has (sym (rest k ne) ∙ none))) (cases_eq k t);
-  kept = λ k none. ⊎_elim (λ same. absurd (let i = h.inside t in let z : bit_in row t ≡ 0 = rw same at none in omega (arith, i, one, z))) (λ ne. rw (there k ne) (h.kept k none)) (cases_eq k t);
+  inside = λ k. ⊎_elim (λ same. rw same (omega (arith, taken.out))) (λ ne. let i = h.inside k in let r = taken.others k ne in omega (arith, i, r)) (cases_eq k t);
+  written = λ k l has none. ⊎_elim (λ same. rw (here k same) put) (λ ne. rw (there k ne) (h.written k l has (sym (taken.others k ne) ∙ none))) (cases_eq k t);
+  kept = λ k none. ⊎_elim (λ same. absurd (let i = h.inside t in let z : bit_in row t ≡ 0 = rw same at none in omega (arith, i, taken.had, z))) (λ ne. rw (there k ne) (h.kept k none)) (cases_eq k t);
   others = λ j k ne. ⊎_elim (λ same. rw (here k same) (others j ne ∙ (h.others j t ne ∙ ap (λ z. bit_in (set_at old z) j) (sym same)))) (λ apart. rw (there k apart) (h.others j k ne)) (cases_eq k t);
 } where
   l : t < length new
@@ -91,26 +90,25 @@ pub record IsJoining (back : List Bits) (level ahead leading : Bits) : Type 0 wh
   pub from : (e : ℕ) → bit_in leading e ≡ 1 → IsLedBack back e level
   pub to : (e t : ℕ) → t < 256 → bit_in level t ≡ 1 → bit_in ahead t ≡ 0 → bit_in (set_at back t) e ≡ 1 → bit_in leading e ≡ 1
 
-pub joining_begun : (back : List Bits) (level leading : Bits) → ((e : ℕ) → bit_in leading e ≡ 0) → IsJoining back level level leading
-joining_begun back level leading none = record {
-  inside = λ t. omega arith;
+pub joining_begun : (back : List Bits) (level ahead leading : Bits) → ((t : ℕ) → bit_in ahead t ≡ bit_in level t) → ((e : ℕ) → bit_in leading e ≡ 0) → IsJoining back level ahead leading
+joining_begun back level ahead leading all none = record {
+  inside = λ t. let a = all t in omega (arith, a);
   from = λ e one. absurd (let z = none e in omega (arith, z, one));
-  to = λ e t l one out bit. absurd (omega (arith, one, out));
+  to = λ e t l one out bit. absurd (let a = all t in omega (arith, a, one, out));
 }
 
-pub joining_more : (back : List Bits) (level ahead ahead' leading leading' : Bits) (t : ℕ) → IsJoining back level ahead leading → t < 256 → bit_in ahead t ≡ 1
-    → bit_in ahead' t ≡ 0 → ((k : ℕ) → k ≢ t → bit_in ahead' k ≡ bit_in ahead k) → ((e : ℕ) → bit_in leading' e ≡ max (bit_in leading e) (bit_in (set_at back t) e))
-    → IsJoining back level ahead' leading'
-joining_more back level ahead ahead' leading leading' t h lt one gone rest joined = record {
-  inside = λ k. ⊎_elim (λ same. rw same (omega (arith, gone))) (λ ne. let i = h.inside k in let r = rest k ne in omega (arith, i, r)) (cases_eq k t);
+pub joining_more : (back : List Bits) (level ahead ahead' leading leading' : Bits) (t : ℕ) → IsJoining back level ahead leading → IsTaken ahead t ahead'
+    → ((e : ℕ) → bit_in leading' e ≡ max (bit_in leading e) (bit_in (set_at back t) e)) → IsJoining back level ahead' leading'
+joining_more back level ahead ahead' leading leading' t h taken joined = record {
+  inside = λ k. ⊎_elim (λ same. rw same (omega (arith, taken.out))) (λ ne. let i = h.inside k in let r = taken.others k ne in omega (arith, i, r)) (cases_eq k t);
   from = λ e bit. ⊎_elim
       (λ old. h.from e old)
       (λ other. let m = joined e in let a = bit_in-lt leading e in let b = bit_in-lt (set_at back t) e in
-      (t, lt, omega (arith, m, a, b, other, bit), (let i = h.inside t in let l = bit_in-lt level t in omega (arith, i, l, one))))
+      (t, taken.below, omega (arith, m, a, b, other, bit), (let i = h.inside t in let l = bit_in-lt level t in omega (arith, i, l, taken.had))))
       (cases_eq (bit_in leading e) 1);
   to = λ e k l has none bit. let m = joined e in let a = bit_in-lt leading e in let b = bit_in-lt (set_at back t) e in ⊎_elim
       (λ same. let here : bit_in (set_at back t) e ≡ 1 = rw same at bit in omega (arith, m, a, here))
-      (λ ne. let old = h.to e k l has (sym (rest k ne) ∙ none) bit in omega (arith, m, b, old))
+      (λ ne. let old = h.to e k l has (sym (taken.others k ne) ∙ none) bit in omega (arith, m, b, old))
       (cases_eq k t);
 }
 

@@ -5,7 +5,7 @@ use Rattle.sfm_exchange.specs.declared.bits.Bits.{Bits}
 use Rattle.sfm_exchange.specs.declared.spots.Spot.{Spot}
 use Rattle.sfm_exchange.specs.declared.renewing.Changes.{Changes}
 use Rattle.sfm_exchange.specs.Renewed.{AreChanges}
-use Rattle.sfm_exchange.specs.Bits.{bit_in, set_at, blank_bits}
+use Rattle.sfm_exchange.specs.Bits.{bit_in, set_at, blank_bits, IsTaken}
 use Rattle.sfm_spec.specs.Families.{Meaning}
 use Rattle.sfm_spec.specs.Sets.{AreDistinct}
 use Rattle.sfm_spec.specs.Walks.{Step, term_at, IsStep}
@@ -54,21 +54,21 @@ pub record IsRenewing (tables : List (List Bits)) (spots : List (List Spot)) (pl
   pub renewed : (e : ℕ) → bit_in places e ≡ 1 → bit_in ahead e ≡ 0 → IsUnion tables (spots_at spots e) (length (spots_at spots e)) (set_at after e)
   pub others : (e : ℕ) → bit_in places e ≢ 1 → set_at after e ≡ set_at before e
 
-pub renewing_begun : (tables : List (List Bits)) (spots : List (List Spot)) (places : Bits) (unions : List Bits) → IsRenewing tables spots places places unions unions
-renewing_begun tables spots places unions = record { count = refl; inside = λ e one. one; renewed = λ e one none. absurd (omega (arith, one, none)); others = λ e h. refl }
+pub renewing_begun : (tables : List (List Bits)) (spots : List (List Spot)) (places ahead : Bits) (unions : List Bits) → ((e : ℕ) → bit_in ahead e ≡ bit_in places e) → IsRenewing tables spots places ahead unions unions
+renewing_begun tables spots places ahead unions all = record { count = refl; inside = λ e one. sym (all e) ∙ one; renewed = λ e one none. absurd (let a = all e in omega (arith, a, one, none)); others = λ e h. refl }
 
 -- one place more
-pub renewing_more : (tables : List (List Bits)) (spots : List (List Spot)) (places ahead ahead' : Bits) (before mid : List Bits) (e : ℕ) (row : Bits) → IsRenewing tables spots places ahead before mid → e < length mid → bit_in ahead e ≡ 1
-    → bit_in ahead' e ≡ 0 → ((k : ℕ) → k ≢ e → bit_in ahead' k ≡ bit_in ahead k) → IsUnion tables (spots_at spots e) (length (spots_at spots e)) row → IsRenewing tables spots places ahead' before (set mid e row)
-renewing_more tables spots places ahead ahead' before mid e row h inside one gone rest union = record {
+pub renewing_more : (tables : List (List Bits)) (spots : List (List Spot)) (places ahead ahead' : Bits) (before mid : List Bits) (e : ℕ) (row : Bits) → IsRenewing tables spots places ahead before mid → e < length mid
+    → IsTaken ahead e ahead' → IsUnion tables (spots_at spots e) (length (spots_at spots e)) row → IsRenewing tables spots places ahead' before (set mid e row)
+renewing_more tables spots places ahead ahead' before mid e row h inside taken union = record {
   count = length-set mid e row ∙ h.count;
-  inside = λ k bit. ⊎_elim (λ same. absurd (let z : bit_in ahead' e ≡ 1 = rw same at bit in omega (arith, z, gone))) (λ ne. h.inside k (sym (rest k ne) ∙ bit)) (cases_eq k e);
+  inside = λ k bit. ⊎_elim (λ same. absurd (let z : bit_in ahead' e ≡ 1 = rw same at bit in omega (arith, z, taken.out))) (λ ne. h.inside k (sym (taken.others k ne) ∙ bit)) (cases_eq k e);
   renewed = λ k has none. at k (cases_eq k e) has none;
-  others = λ k none. get_or-set_other mid e k row blank_bits (λ same. none (rw same (h.inside e one))) ∙ h.others k none;
+  others = λ k none. get_or-set_other mid e k row blank_bits (λ same. none (rw same (h.inside e taken.had))) ∙ h.others k none;
 } where
   at : (k : ℕ) → (k ≡ e) ⊎ (k ≢ e) → bit_in places k ≡ 1 → bit_in ahead' k ≡ 0 → IsUnion tables (spots_at spots k) (length (spots_at spots k)) (set_at (set mid e row) k)
   at k (inl same) has none = rw (same, get_or-set_same mid e row blank_bits inside) union
-  at k (inr ne) has none = rw (get_or-set_other mid e k row blank_bits ne) (h.renewed k has (sym (rest k ne) ∙ none))
+  at k (inr ne) has none = rw (get_or-set_other mid e k row blank_bits ne) (h.renewed k has (sym (taken.others k ne) ∙ none))
 
 -- the rows of a term that were read
 pub table_read : (tables : List (List Bits)) (i : ℕ) (table shown : List Bits) → i < length tables → table ≡ get_or tables i table → shown ≡ table → table_at tables i ≡ shown

@@ -8,6 +8,7 @@ ghost use Rattle.sfm_exchange.specs.Levels.{AreClosed, IsFirst};
 ghost use Rattle.sfm_exchange.specs.Turned.{AreNext, AreTurned, IsLedBack};
 ghost use Rattle.sfm_exchange.specs.Signs.{AreSigns};
 
+use crate::ahead::Ahead;
 use crate::bits::{Bits, no_bits};
 use crate::signs::Signs;
 use sfm_base::Memory;
@@ -18,9 +19,8 @@ fn leading_into(back: &[Bits], level: &Bits) -> Bits
     ensures { (e : ℕ) → (bit_in result e ≡ 1) ↔ IsLedBack back.now e level.now }
 {
     let mut leading = no_bits();
-    let mut ahead = *level;
-    while let Some(t) = ahead.first() {
-        ahead.remove(t);
+    let mut ahead = Ahead::of(level);
+    while let Some(t) = ahead.next() {
         leading.union_with(&back[t]);
     }
     leading

@@ -4,6 +4,7 @@
 // set by least steps. And the augmentation along a walk, by which the graph is brought up to the bases that come.
 #![tactic(auto)]
 
+mod ahead;
 mod asking;
 mod bits;
 mod claims;

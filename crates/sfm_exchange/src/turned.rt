@@ -5,6 +5,7 @@ ghost use Rattle.std.specs.Prelude.{◌≡◌, ◌≢◌, ◌<◌, ◌≤◌, �
 ghost use Rattle.sfm_exchange.specs.Bits.{bit_in, set_at};
 ghost use Rattle.sfm_exchange.specs.Turned.{AreTurned, AreWritten};
 
+use crate::ahead::Ahead;
 use crate::bits::{Bits, no_bits};
 use sfm_base::Memory;
 use std::alloc::Global;
@@ -15,9 +16,8 @@ fn write_at(back: &mut [Bits], e: usize, places: &Bits, put: bool)
     requires count { length back.old ≡ 256 }
     ensures { AreWritten back.old back.new e places.now (if put then 1 else 0) }
 {
-    let mut ahead = *places;
-    while let Some(t) = ahead.first() {
-        ahead.remove(t);
+    let mut ahead = Ahead::of(places);
+    while let Some(t) = ahead.next() {
         back[t].write(e, put);
     }
 }

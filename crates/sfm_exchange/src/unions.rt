@@ -5,6 +5,7 @@ ghost use Rattle.sfm_exchange.specs.Bits.{bit_in};
 ghost use Rattle.sfm_exchange.specs.Turned.{AreTurned};
 ghost use Rattle.sfm_exchange.specs.Unions.{IsUnion, AreRenewed, AreUnions, AreWidened, HasRows, HaveRows};
 
+use crate::ahead::Ahead;
 use crate::bits::{Bits, no_bits};
 use crate::reach::BitRows;
 use crate::spots::{Spot, Spots};
@@ -54,9 +55,8 @@ pub fn renew(
     ensures renewed { AreRenewed rows.now spots.now places.now unions.old.items unions.new.items }
     ensures turned { AreTurned unions.new.items back.new.items }
 {
-    let mut ahead = *places;
-    while let Some(e) = ahead.first() {
-        ahead.remove(e);
+    let mut ahead = Ahead::of(places);
+    while let Some(e) = ahead.next() {
         let at = &spots[e];
         let row = union_at(at.as_slice(), rows);
         turn(back, e, &unions[e], &row);
