@@ -12,14 +12,14 @@ use Rattle.sfm_exchange.specs.Image.{IsBeside, IsImage}
 use Rattle.sfm_exchange.proofs.Placing.{has_place, none_in_empty}
 
 -- the places that are to be taken out are those of the part that the next one has not
-pub record IsLeaving (places : List ℕ) (part next ahead : List Bool) (bits : Bits) : Type 0 where
-  pub image : IsImage places part bits
+pub record IsLeaving (places : List ℕ) (part next ahead : List Bool) (bits : Bits) (in_order : Bool) : Type 0 where
+  pub image : IsImage places part bits in_order
   pub next_count : length next ≡ length part
   pub beside : IsBeside part next ahead
 
 -- the places that are to be put in are those of the next part that the part has not
-pub record IsComing (places : List ℕ) (part next ahead : List Bool) (bits : Bits) : Type 0 where
-  pub image : IsImage places part bits
+pub record IsComing (places : List ℕ) (part next ahead : List Bool) (bits : Bits) (in_order : Bool) : Type 0 where
+  pub image : IsImage places part bits in_order
   pub next_count : length next ≡ length part
   pub within : IsWithin part next
   pub beside : IsBeside next part ahead
@@ -65,11 +65,11 @@ module _ (n : ℕ) (set other written : List Bool) (sized : n ≡ length set) (c
     at v h (inr out) = inr (rw is (in_both (union (empty_set n) set) (complement other) v both (union_right (empty_set n) set v same h)
         (in_complement other v (let l = has_place set v h in omega (arith, l, count)) out)))
 
-module _ (places : List ℕ) (placed : IsPlaced 256 places) (part next ahead : List Bool) (bits : Bits) where
+module _ (places : List ℕ) (placed : IsPlaced 256 places) (part next ahead : List Bool) (bits : Bits) (in_order : Bool) where
   module _ (after : Bits) (v : ℕ) (others : (k : ℕ) → k ≢ get_or places v 0 → bit_in after k ≡ bit_in bits k) where
     -- the image of a part in which v is written
-    image_written : (b : Bool) → v < length part → IsImage places part bits → (bit_in after (get_or places v 0) ≡ 1) ↔ (b ≡ true) → IsImage places (set part v b) after
-    image_written b lp h bit = record { count = length-set part v b ∙ h.count; exact = λ e. at e (cases_eq e (get_or places v 0)) } where
+    image_written : (b : Bool) → v < length part → IsImage places part bits in_order → (bit_in after (get_or places v 0) ≡ 1) ↔ (b ≡ true) → IsImage places (set part v b) after in_order
+    image_written b lp h bit = record { count = length-set part v b ∙ h.count; order = h.order; exact = λ e. at e (cases_eq e (get_or places v 0)) } where
       lv : v < length places
       lv = let c = h.count in omega (arith, lp, c)
 
@@ -86,7 +86,7 @@ module _ (places : List ℕ) (placed : IsPlaced 256 places) (part next ahead : L
         (λ (i, li, hi, is). others e ne ∙ (h.exact e).1 (i, li, sym (put-else part v b lp i (apart e i ne is)) ∙ hi, is)),
       )
 
-    pub leaving_less : IsLeaving places part next ahead bits → Has ahead v → bit_in after (get_or places v 0) ≡ 0 → IsLeaving places (set part v false) next (set ahead v false) after
+    pub leaving_less : IsLeaving places part next ahead bits in_order → Has ahead v → bit_in after (get_or places v 0) ≡ 0 → IsLeaving places (set part v false) next (set ahead v false) after in_order
     leaving_less h has out = record {
       image = image_written false lp h.image ((λ one. absurd (omega (arith, one, out))), (λ no. absurd (false≢true no)));
       next_count = h.next_count ∙ sym (length-set part v false);
@@ -102,7 +102,7 @@ module _ (places : List ℕ) (placed : IsPlaced 256 places) (part next ahead : L
       lp : v < length part
       lp = has_place part v (h.beside.inside v has)
 
-    pub coming_more : IsComing places part next ahead bits → Has ahead v → bit_in after (get_or places v 0) ≡ 1 → IsComing places (set part v true) next (set ahead v false) after
+    pub coming_more : IsComing places part next ahead bits in_order → Has ahead v → bit_in after (get_or places v 0) ≡ 1 → IsComing places (set part v true) next (set ahead v false) after in_order
     coming_more h has put = record {
       image = image_written true lp h.image ((λ one. refl), (λ yes. put));
       next_count = h.next_count ∙ sym (length-set part v true);
@@ -126,8 +126,8 @@ module _ (places : List ℕ) (placed : IsPlaced 256 places) (part next ahead : L
       in_or_ahead i hi (inl same) = inl (rw same (put-here part v true lp))
       in_or_ahead i hi (inr ne) = ⊎_elim (λ p. inl (stays i p)) (λ a. inr (put-else ahead v false la i ne ∙ a)) (h.beside.all i hi)
 
-  pub leaving_done : IsLeaving places part next ahead bits → ahead ≡ empty_set (length ahead) → IsWithin part next
+  pub leaving_done : IsLeaving places part next ahead bits in_order → ahead ≡ empty_set (length ahead) → IsWithin part next
   leaving_done h none v hv = ⊎_elim (λ n. n) (λ a. absurd (false≢true (sym (none_in_empty (length ahead) v) ∙ (rw none at a)))) (h.beside.all v hv)
 
-  pub coming_done : IsComing places part next ahead bits → ahead ≡ empty_set (length ahead) → part ≡ next
+  pub coming_done : IsComing places part next ahead bits in_order → ahead ≡ empty_set (length ahead) → part ≡ next
   coming_done h none = same_sets part next (sym h.next_count) (λ v l hv. h.within v hv) (λ v l hv. ⊎_elim (λ p. p) (λ a. absurd (false≢true (sym (none_in_empty (length ahead) v) ∙ (rw none at a)))) (h.beside.all v hv))

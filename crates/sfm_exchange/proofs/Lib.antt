@@ -1,6 +1,7 @@
 pub mod Options
 pub mod Placing
 pub mod Imaging
+pub mod InOrder
 pub mod Words
 pub mod Picking
 pub mod Following

@@ -1,11 +1,13 @@
 -- Sets of places as words of 64 bits.
-use Rattle.std.proofs.Common.{◌≡◌, ◌≢◌, ◌⊎◌, ℕ, ◌+◌, ◌*◌, ◌<◌, ◌≤◌, ◌/◌, ◌%◌, ◌^◌, List, length, get_or, set, refl, sym, ap, ◌∙◌, arith, inl, inr, ⊎_elim, get_or-set_same, get_or-set_other}
+use Rattle.std.proofs.Common.{◌≡◌, ◌≢◌, ◌⊎◌, ℕ, ◌+◌, ◌*◌, ◌<◌, ◌≤◌, ◌/◌, ◌%◌, ◌^◌, List, length, get_or, set, refl, sym, ap, ◌∙◌, arith, length-set, inl, inr, ⊎_elim, get_or-set_same, get_or-set_other}
 use Rattle.std.proofs.lemmas.Bool.{cases_eq, cases_lt}
 use Rattle.std.proofs.lemmas.List.{get_or_past}
 use Rattle.std.proofs.lemmas.Nat.Bits.{bit_at_and, bit_at-lt, bit_at-zero, bit_at-trailing_zeros}
 use Rattle.std.specs.Int.{bit_at, trailing_zeros}
 use Rattle.std.specs.Int.Bits.{bit_and}
 use mir.Syntax.{w64}
+use Rattle.sfm_base.specs.Words.{bit_of}
+use Rattle.sfm_base.proofs.Members.{bit_of-set_other, bit_of-set_same, past_words}
 use Rattle.sfm_exchange.specs.declared.bits.Bits.{Bits}
 use Rattle.sfm_exchange.specs.Bits.{bit_in}
 
@@ -113,3 +115,35 @@ common_first s o k some fits = (below, at_place s w refl both.0, at_place o v re
       let a : bit_at w (e % 64) ≡ 1 = ap (λ j. bit_at (get_or s.words j 0) (e % 64)) (sym is) ∙ (sym (bit_in-words s e) ∙ hs) in
       let b : bit_at v (e % 64) ≡ 1 = ap (λ j. bit_at (get_or o.words j 0) (e % 64)) (sym is) ∙ (sym (bit_in-words o e) ∙ ho) in
       omega (arith, m, z, a, b)
+
+-- a set has the places that the first k of some words tell
+pub record HasWords (words : List ℕ) (k : ℕ) (s : Bits) : Type 0 where
+  pub count : length s.words ≡ 4
+  pub written : (e : ℕ) → e / 64 < k → bit_in s e ≡ bit_of words e
+  pub none : (e : ℕ) → k ≤ e / 64 → bit_in s e ≡ 0
+
+-- one word more
+pub words_more : (words : List ℕ) (k : ℕ) (s : Bits) → k < 4 → HasWords words k s → HasWords words (k + 1) (record { words = set s.words k (get_or words k 0) })
+words_more words k s lt h = record {
+  count = length-set s.words k w ∙ h.count;
+  written = λ e le. ⊎_elim
+      (λ same. bit_in-words s' e ∙ (bit_of-set_same s.words k w e l same ∙ ap (λ j. bit_at (get_or words j 0) (e % 64)) (sym same)))
+      (λ ne. other e ne ∙ h.written e (omega (arith, le, ne)))
+      (cases_eq (e / 64) k);
+  none = λ e le. other e (λ same. omega (arith, same, le)) ∙ h.none e (omega (arith, le));
+} where
+  w : ℕ
+  w = get_or words k 0
+
+  s' : Bits
+  s' = record { words = set s.words k w }
+
+  l : k < length s.words
+  l = omega (arith, lt, h.count)
+
+  other : (e : ℕ) → e / 64 ≢ k → bit_in s' e ≡ bit_in s e
+  other e ne = bit_in-words s' e ∙ (bit_of-set_other s.words k w e ne ∙ sym (bit_in-words s e))
+
+-- all words
+pub words_all : (words : List ℕ) (k : ℕ) (s : Bits) → length words ≤ k → HasWords words k s → (e : ℕ) → bit_in s e ≡ bit_of words e
+words_all words k s all h e = ⊎_elim (λ l. h.written e l) (λ ge. h.none e ge ∙ sym (past_words words e (omega (arith, all, ge)))) (cases_lt (e / 64) k)

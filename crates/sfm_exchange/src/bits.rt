@@ -1,6 +1,7 @@
 // Sets of places below 256, as four words of 64 bits: the rows of what each place reaches, and the levels of a search. A
 // set is a plain value and takes no memory of its own, and two sets are joined or compared a word at a time.
-ghost use Rattle.std.specs.Prelude.{◌≡◌, ◌≢◌, ◌↔◌, ℕ, ◌-◌, ◌<◌, max, min, true, false, IsTrue, MatchOption, if◌then◌else◌};
+ghost use Rattle.std.specs.Prelude.{◌≡◌, ◌≢◌, ◌↔◌, ℕ, ◌-◌, ◌<◌, ◌≤◌, length, max, min, true, false, IsTrue, MatchOption, if◌then◌else◌};
+ghost use Rattle.sfm_base.specs.Words.{bit_of};
 ghost use Rattle.sfm_exchange.specs.Bits.{bit_in};
 
 /// A set of places below 256.
@@ -14,6 +15,18 @@ pub fn no_bits() -> Bits
     ensures { (e : ℕ) → bit_in result e ≡ 0 }
 {
     Bits { words: [0; 4] }
+}
+
+/// The set whose places words tell, bit t of word k the place 64·k + t.
+pub fn of_words(words: &[u64]) -> Bits
+    requires { length words.now ≤ 4 }
+    ensures { (e : ℕ) → bit_in result e ≡ bit_of words.now e }
+{
+    let mut bits = no_bits();
+    for (k, word) in words.iter().enumerate() {
+        bits.words[k] = *word;
+    }
+    bits
 }
 
 /// The set of one place.

@@ -9,8 +9,8 @@ ghost use Rattle.sfm_exchange.specs.Bits.{HasPlaces, bit_in, set_at};
 ghost use Rattle.sfm_exchange.specs.Image.{IsImage};
 ghost use Rattle.sfm_exchange.specs.Reach.{IsReachTable, IsRow, AreRowsOf, AreNotes, AreSized};
 
-use crate::bits::{Bits, no_bits};
-use crate::image::Image;
+use crate::bits::{Bits, no_bits, of_words};
+use crate::image::{Image, are_in_order};
 use sfm_base::{Memory, Rows, Set};
 use sfm_law::Term;
 use std::alloc::Global;
@@ -58,17 +58,18 @@ impl BitRows {
         })
     }
 
-    /// The memory for parts that are told one after another, with no place in it.
-    pub fn lend_image(&mut self, alloc: Global) -> Result<Image, Memory>
+    /// The memory for parts that are told one after another, with no place in it, of the term with these places.
+    pub fn lend_image(&mut self, alloc: Global, places: &[usize]) -> Result<Image, Memory>
+        requires { length places.now ≡ length self.old }
         ensures same { self.new ≡ self.old }
-        ensures image { IfOk result (λ r. (places : List ℕ) → length places ≡ length self.old → IsImage places r.part r.bits) }
+        ensures image { IfOk result (λ r. IsImage places.now r.part r.bits r.in_order) }
     {
         match self.image.take() {
             Some(mut image) => {
-                image.clear();
+                image.clear(places);
                 Ok(image)
             }
-            None => Image::blank(alloc, self.rows.len()),
+            None => Image::blank(alloc, places),
         }
     }
 
@@ -112,13 +113,17 @@ impl BitRows {
     }
 }
 
-/// The ground places of a part of a term, which are taken out of it one after another, until it has none.
+/// The ground places of a part of a term. Where the places of the term are not in order, they are taken out of the part one
+/// after another, until it has none.
 pub fn placed_bits(places: &[usize], part: &mut Set) -> Bits
     requires placed { IsPlaced 256 places.now }
     requires part { length part.old ≡ length places.now }
     ensures same { length part.new ≡ length part.old }
     ensures places { HasPlaces places.now part.old (length places.now) result }
 {
+    if are_in_order(places) {
+        return of_words(part.words());
+    }
     let mut bits = no_bits();
     while let Some(v) = part.first() {
         part.remove(v);
@@ -164,8 +169,8 @@ pub fn row_beside<T: Term>(
     requires onto { s < length at.now.x.now }
     requires from { u < length at.now.x.now }
     requires leads { Depends (times at.now.q (T.value_of at.now.term.now)) at.now.x.now u s }
-    requires image { IsImage (T.places at.now.term.now) image.old.part image.old.bits }
-    ensures image { OnOk result (IsImage (T.places at.now.term.now) image.new.part image.new.bits) }
+    requires image { IsImage (T.places at.now.term.now) image.old.part image.old.bits image.old.in_order }
+    ensures image { OnOk result (IsImage (T.places at.now.term.now) image.new.part image.new.bits image.new.in_order) }
     ensures row { IfOk result (IsRow (T.places at.now.term.now) (times at.now.q (T.value_of at.now.term.now)) at.now.x.now u) }
     ensures noted { OnOk result (T.fits at.now.term.now note.new at.now.q at.now.x.now) }
 {

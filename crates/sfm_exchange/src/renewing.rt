@@ -184,8 +184,8 @@ fn row_after<T: Term>(
     requires raised { IsRaised (T.places at.now.term.now) (times at.now.q (T.value_of at.now.term.now)) at.now.x.now raised.now }
     requires from { u < length at.now.x.now }
     requires leads { Depends (times at.now.q (T.value_of at.now.term.now)) at.now.x.now u raised.now.local }
-    requires image { IsImage (T.places at.now.term.now) image.old.part image.old.bits }
-    ensures image { OnOk result (IsImage (T.places at.now.term.now) image.new.part image.new.bits) }
+    requires image { IsImage (T.places at.now.term.now) image.old.part image.old.bits image.old.in_order }
+    ensures image { OnOk result (IsImage (T.places at.now.term.now) image.new.part image.new.bits image.new.in_order) }
     ensures row { IfOk result (IsRow (T.places at.now.term.now) (times at.now.q (T.value_of at.now.term.now)) at.now.x.now u) }
     ensures noted { OnOk result (T.fits at.now.term.now note.new at.now.q at.now.x.now) }
 {
@@ -216,7 +216,7 @@ fn ask_rows<T: Term>(
     ensures noted { OnOk result (T.fits at.now.term.now note.new at.now.q at.now.x.now) }
 {
     let places = at.term.elements();
-    let mut image = rows.lend_image(alloc)?;
+    let mut image = rows.lend_image(alloc, places)?;
     for u in 0..places.len() {
         if changed.contains(places[u]) {
             let row = row_after(alloc, at, note, raised, u, &mut image)?;

@@ -1,5 +1,15 @@
+use Rattle.std.proofs.Common.{refl, arith}
+use Rattle.sfm_base.proofs.Elements.{placed_few}
+use Rattle.sfm_exchange.proofs.InOrder.{four_words, has_by_words}
 use Rattle.sfm_exchange.proofs.Placing.{placing_more}
 use Rattle.sfm_exchange.proofs.reach.placed_bits.Goals as goal
+
+pub of_words-requires : goal.of_words-requires
+of_words-requires c = four_words c.args.part.now c.words.result.now c.words.ensures.words (omega (arith, placed_few 256 c.args.places.now c.requires.placed, c.requires.part))
+
+pub returns-then-are_in_order-clause-places : goal.returns-then-are_in_order-clause-places
+returns-then-are_in_order-clause-places c =
+    has_by_words c.args.places.now c.args.part.now c.words.result.now c.of_words.result (c.if-are_in_order.ensures.0 refl) c.requires.part c.words.ensures.set c.words.ensures.words c.of_words.ensures
 
 pub loop-v-preserved : goal.loop-v-preserved
 loop-v-preserved c =

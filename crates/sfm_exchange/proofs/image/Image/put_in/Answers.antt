@@ -10,9 +10,9 @@ loop-v-preserved c =
     let at = c.loop-v.self in
     let inv = c.loop-v.invariant in
     let p = c.in-Some.ensures.0 in
-    rw (c.insert.ensures, c.remove.ensures) (coming_more c.args.places.now c.requires.placed at.part at.next at.ahead at.bits c.insert-in-Some.new.self c.in-Some.v c.insert-in-Some.ensures.others inv.0 p c.insert-in-Some.ensures.put, inv.1)
+    rw (c.insert.ensures, c.remove.ensures) (coming_more c.args.places.now c.requires.placed at.part at.next at.ahead at.bits at.in_order c.insert-in-Some.new.self c.in-Some.v c.insert-in-Some.ensures.others inv.0 p c.insert-in-Some.ensures.put, inv.1)
 
 pub returns-clause-same : goal.returns-clause-same
 returns-clause-same c =
     let at = c.loop-v.self in
-    coming_done c.args.places.now c.requires.placed at.part at.next at.ahead at.bits c.loop-v.invariant.0 c.in_default.ensures ∙ c.loop-v.invariant.1
+    coming_done c.args.places.now c.requires.placed at.part at.next at.ahead at.bits at.in_order c.loop-v.invariant.0 c.in_default.ensures ∙ c.loop-v.invariant.1

@@ -5,7 +5,7 @@ use Rattle.sfm_exchange.proofs.Imaging.{IsComing}
 use Rattle.sfm_exchange.proofs.image.Image.put_in.Given as goal
 
 abbrev pub invariant-loop-v : goal.invariant-loop-v
-invariant-loop-v l = IsComing l.places l.self.part l.self.next l.self.ahead l.self.bits × (l.self.next ≡ l.initial.self.next)
+invariant-loop-v l = IsComing l.places l.self.part l.self.next l.self.ahead l.self.bits l.self.in_order × (l.self.next ≡ l.initial.self.next)
 
 abbrev pub decreases-loop-v : goal.decreases-loop-v
 decreases-loop-v l = size l.self.ahead

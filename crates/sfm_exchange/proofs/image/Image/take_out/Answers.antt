@@ -10,4 +10,4 @@ loop-v-preserved c =
     let at = c.loop-v.self in
     let inv = c.loop-v.invariant in
     let p = c.in-Some.ensures.0 in
-    rw (c.remove-in-Some.ensures, c.remove.ensures) (leaving_less c.args.places.now c.requires.placed at.part at.next at.ahead at.bits c.remove-in-Some-2.new.self c.in-Some.v c.remove-in-Some-2.ensures.others inv.0 p c.remove-in-Some-2.ensures.out, inv.1)
+    rw (c.remove-in-Some.ensures, c.remove.ensures) (leaving_less c.args.places.now c.requires.placed at.part at.next at.ahead at.bits at.in_order c.remove-in-Some-2.new.self c.in-Some.v c.remove-in-Some-2.ensures.others inv.0 p c.remove-in-Some-2.ensures.out, inv.1)
