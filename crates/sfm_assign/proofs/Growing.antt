@@ -1,12 +1,12 @@
 -- One demand raised as far as it goes, up to a limit, while all others are met.
-use Rattle.std.proofs.Common.{◌≡◌, ℕ, ◌<◌, Bool, false, List, length, get_or, set, replicate, ℤ, pos, ◌+ℤ◌, ◌-ℤ◌, ◌≤ℤ◌, Option, None, sym, ap, arith, ⊎_elim, length-set, get_or-set_other, get_or-set_same, ◌∙◌}
+use Rattle.std.proofs.Common.{◌≡◌, ℕ, ◌<◌, Bool, false, List, [], ◌∷◌, length, get_or, set, ℤ, pos, ◌+ℤ◌, ◌-ℤ◌, ◌≤ℤ◌, Option, None, sym, ap, arith, ⊎_elim, length-set, get_or-set_other, get_or-set_same, ◌∙◌}
 use Rattle.std.specs.List.{All}
 use Rattle.std.proofs.lemmas.Int.{ints, by_lt_z}
 use Rattle.std.proofs.lemmas.Bool.{cases_eq, cases_Bool, false≢true}
-use Rattle.std.proofs.lemmas.List.{length-replicate, set-set, set-get_or}
+use Rattle.std.proofs.lemmas.List.{set-set, set-get_or}
 use Rattle.sfm_assign.specs.Splits.{sum_at, amount_at, IsAmount, IsCapacity, Demands, AreDemands}
 use Rattle.sfm_assign.specs.Cells.{joined, owners, cut, AreCells, IsPart, IsMet}
-use Rattle.sfm_assign.specs.Search.{AreLeft, IsSearch, GetsMore, IsFilled}
+use Rattle.sfm_assign.specs.Search.{AreLeft, ListsLacking, IsSearch, GetsMore, IsFilled}
 use Rattle.sfm_assign.specs.Lenders.{with_more, IsMostUpto}
 use Rattle.sfm_assign.specs.Pours.{IsPouring, AreRaised, AreWithin}
 use Rattle.sfm_assign.specs.Grown.{MayGrow, IsGrown}
@@ -14,9 +14,10 @@ use Rattle.sfm_assign.specs.declared.nodes.Node.{Node}
 use Rattle.sfm_assign.proofs.Rows.{split_of_part}
 use Rattle.sfm_assign.proofs.Hall.{most_of_closed}
 use Rattle.sfm_assign.proofs.Fills.{stuck_filled}
+use Rattle.sfm_assign.proofs.Lefts.{listed_one}
 use Rattle.sfm_assign.proofs.Pours.{pouring_begun}
 use Rattle.sfm_assign.proofs.Searches.{founds, founds_are}
-use Rattle.sfm_assign.proofs.Outcomes.{cells_for, amounts_low, nothing-at, changed-at, changed-other, asked_part}
+use Rattle.sfm_assign.proofs.Outcomes.{cells_for, amounts_low, changed-at, changed-other, asked_part}
 
 module _ (d : Demands) (sound : AreDemands d) (u : ℕ) (lu : u < length d.demands) (limit : ℤ) (low : pos 0 ≤ℤ limit) (y : List ℤ) (part : IsPart d.demands d.capacities (owners 0 d.lists) (joined d.lists) y) where
   -- the amounts by which the demands are met are still amounts when one of them asks for more
@@ -24,32 +25,40 @@ module _ (d : Demands) (sound : AreDemands d) (u : ℕ) (lu : u < length d.deman
   growing_part = asked_part d sound u lu (amount_at d.demands u) (amount_at d.demands u +ℤ limit) y (omega (arith, ints, low)) (rw (set-get_or d.demands u (pos 0)) part)
 
   -- what they leave then: u lacks what it asks for besides, and the others nothing
-  pub growing_left : IsMet d.demands (owners 0 d.lists) y → AreLeft (with_more d u limit).demands (owners 0 d.lists) y (set (replicate (length d.demands) (pos 0)) u limit)
-  growing_left met =
-      let n = length d.demands in
-      let lr = length-replicate n (pos 0) in
-      let la = length-set d.demands u (amount_at d.demands u +ℤ limit) in
-      record {
-        places = length-set (replicate (length d.demands) (pos 0)) u limit ∙ (lr ∙ sym la);
-        each = λ k lt.
-            let lk : k < n = omega (arith, lt, la) in
-            let m = met k lk in
-            let p = part.got k lk in
-            ⊎_elim
-            (λ (q : k ≡ u).
-            let e = changed-at d.demands u lu (amount_at d.demands u +ℤ limit) in
-            let h = get_or-set_same (replicate (length d.demands) (pos 0)) u limit (pos 0) (omega (arith, lu, lr)) in
-            let f = ap (λ i. amount_at (with_more d u limit).demands i) q in
-            let g = ap (λ i. amount_at (set (replicate (length d.demands) (pos 0)) u limit) i) q in
-            let w = ap (λ i. amount_at d.demands i) q in
-            omega (arith, ints, m, p, e, h, f, g, w))
-            (λ ne.
-            let e = changed-other d.demands u lu (amount_at d.demands u +ℤ limit) k ne in
-            let h = get_or-set_other (replicate (length d.demands) (pos 0)) u k limit (pos 0) ne in
-            let z = nothing-at n k in
-            omega (arith, ints, m, p, e, h, z))
-            (cases_eq k u);
-      }
+  module _ (met : IsMet d.demands (owners 0 d.lists) y) (before : List ℤ) (left : AreLeft d.demands (owners 0 d.lists) y before) where
+    nothing : (k : ℕ) → k < length d.demands → amount_at before k ≡ pos 0
+    nothing k lk = let m = met k lk in let p = part.got k lk in let e = left.each k lk in omega (arith, ints, m, p, e)
+
+    pub growing_left : AreLeft (with_more d u limit).demands (owners 0 d.lists) y (set before u limit)
+    growing_left =
+        let la = length-set d.demands u (amount_at d.demands u +ℤ limit) in
+        let lb = left.places in
+        record {
+          places = length-set before u limit ∙ (left.places ∙ sym la);
+          each = λ k lt.
+              let lk : k < length d.demands = omega (arith, lt, la) in
+              let z = nothing k lk in
+              let l = left.each k lk in
+              ⊎_elim
+              (λ (q : k ≡ u).
+              let e = changed-at d.demands u lu (amount_at d.demands u +ℤ limit) in
+              let h = get_or-set_same before u limit (pos 0) (omega (arith, lu, lb)) in
+              let f = ap (λ i. amount_at (with_more d u limit).demands i) q in
+              let g = ap (λ i. amount_at (set before u limit) i) q in
+              let w = ap (λ i. amount_at d.demands i) q in
+              omega (arith, ints, z, l, e, h, f, g, w))
+              (λ ne.
+              let e = changed-other d.demands u lu (amount_at d.demands u +ℤ limit) k ne in
+              let h = get_or-set_other before u k limit (pos 0) ne in
+              omega (arith, ints, l, e, h))
+              (cases_eq k u);
+        }
+
+    pub growing_listed : ListsLacking (set before u limit) (u ∷ [])
+    growing_listed =
+        let lb = left.places in
+        let ls = length-set before u limit in
+        listed_one (set before u limit) u (omega (arith, lu, lb, ls)) (λ i lt ne. let o = get_or-set_other before u i limit (pos 0) ne in let z = nothing i (omega (arith, lt, lb, ls)) in omega (arith, ints, o, z))
 
   -- what a filling then tells
   module _ (lacks rooms z lacks' rooms' : List ℤ) (nodes : List (Option Node)) (ll : AreLeft (with_more d u limit).demands (owners 0 d.lists) y lacks) (lr : AreLeft d.capacities (joined d.lists) y rooms)
@@ -155,20 +164,26 @@ pub record IsRaisedMost (d : Demands) (whos slots : List ℕ) (u : ℕ) (limit :
   pub grown : IsGrown d whos slots z rooms u limit (limit -ℤ amount_at lacks u)
 
 -- the same for the cells of a split
-module _ (d : Demands) (whos slots : List ℕ) (y rooms : List ℤ) (u : ℕ) (limit : ℤ) (h : MayGrow d whos slots y rooms u limit) (lacks : List ℤ) (is : lacks ≡ set (replicate (length d.demands) (pos 0)) u limit) where
+module _ (d : Demands) (whos slots : List ℕ) (y before rooms : List ℤ) (u : ℕ) (limit : ℤ) (h : MayGrow d whos slots y before rooms u limit) where
   part0 : IsPart d.demands d.capacities (owners 0 d.lists) (joined d.lists) y
   part0 = rw (h.met.in_order, h.met.in_lists) at h.met.part
 
   met0 : IsMet d.demands (owners 0 d.lists) y
   met0 = rw h.met.in_order at h.met.met
 
-  lacks0 : AreLeft (with_more d u limit).demands (owners 0 d.lists) y lacks
-  lacks0 = rw is (growing_left d h.sound u h.place limit h.low y part0 met0)
+  before0 : AreLeft d.demands (owners 0 d.lists) y before
+  before0 = rw h.met.in_order at h.lacks_are
+
+  lacks0 : AreLeft (with_more d u limit).demands (owners 0 d.lists) y (set before u limit)
+  lacks0 = growing_left d h.sound u h.place limit h.low y part0 met0 before before0
+
+  pub may_listed : ListsLacking (set before u limit) (u ∷ [])
+  may_listed = growing_listed d h.sound u h.place limit h.low y part0 met0 before before0
 
   rooms0 : AreLeft d.capacities (joined d.lists) y rooms
   rooms0 = rw h.met.in_lists at h.left
 
-  pub may_within : AreWithin whos slots y lacks rooms
+  pub may_within : AreWithin whos slots y (set before u limit) rooms
   may_within = rw (h.met.in_order, h.met.in_lists) (record {
     demands = (with_more d u limit).demands;
     capacities = d.capacities;
@@ -179,15 +194,15 @@ module _ (d : Demands) (whos slots : List ℕ) (y rooms : List ℤ) (u : ℕ) (l
     rooms_are = rooms0;
   })
 
-  module _ (z lacks' rooms' : List ℤ) (nodes : List (Option Node)) (raised : AreRaised whos slots y lacks rooms z lacks' rooms') (s : IsSearch whos slots z lacks' rooms' nodes None) where
-    raised0 : AreRaised (owners 0 d.lists) (joined d.lists) y lacks rooms z lacks' rooms'
+  module _ (z lacks' rooms' : List ℤ) (nodes : List (Option Node)) (raised : AreRaised whos slots y (set before u limit) rooms z lacks' rooms') (s : IsSearch whos slots z lacks' rooms' nodes None) where
+    raised0 : AreRaised (owners 0 d.lists) (joined d.lists) y (set before u limit) rooms z lacks' rooms'
     raised0 = rw (h.met.in_order, h.met.in_lists) at raised
 
     search0 : IsSearch (owners 0 d.lists) (joined d.lists) z lacks' rooms' nodes None
     search0 = rw (h.met.in_order, h.met.in_lists) at s
 
     pouring : IsPouring (with_more d u limit).demands d.capacities (owners 0 d.lists) (joined d.lists) y z lacks' rooms'
-    pouring = growing_pouring d h.sound u h.place limit h.low y part0 lacks rooms z lacks' rooms' nodes lacks0 rooms0 raised0 search0
+    pouring = growing_pouring d h.sound u h.place limit h.low y part0 (set before u limit) rooms z lacks' rooms' nodes lacks0 rooms0 raised0 search0
 
     may_places : length lacks' ≡ length d.demands
     may_places = pouring.lacks_are.places ∙ length-set d.demands u (amount_at d.demands u +ℤ limit)
@@ -226,7 +241,7 @@ module _ (d : Demands) (whos slots : List ℕ) (y rooms : List ℤ) (u : ℕ) (l
       told = let k = lacking in omega (arith, ints, k)
 
       filled : IsFilled (with_more d u limit).demands d.capacities (owners 0 d.lists) (joined d.lists) z (founds nodes)
-      filled = growing_filled d h.sound u h.place limit h.low y part0 lacks rooms z lacks' rooms' nodes lacks0 rooms0 raised0 search0
+      filled = growing_filled d h.sound u h.place limit h.low y part0 (set before u limit) rooms z lacks' rooms' nodes lacks0 rooms0 raised0 search0
 
       most : IsMostUpto d u limit more
       most = grown_most d h.sound u h.place limit h.low y part0 met0 z (founds nodes) pouring.part filled pouring.more more told

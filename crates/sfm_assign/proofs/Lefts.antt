@@ -1,11 +1,11 @@
--- Amounts taken off the totals one after the other.
-use Rattle.std.proofs.Common.{◌≡◌, ℕ, ◌+◌, ◌<◌, ◌≤◌, List, length, set, drop, ℤ, pos, ◌+ℤ◌, ◌-ℤ◌, ◌≤ℤ◌, refl, sym, ap, ◌∙◌, arith, ⊎_elim, length-set, get_or-set_other, get_or-set_same}
+-- Amounts taken off the totals one after the other, and the demands that then lack something, in a list.
+use Rattle.std.proofs.Common.{◌≡◌, ℕ, ◌+◌, ◌<◌, ◌≤◌, List, [], ◌∷◌, ◌++◌, length, set, drop, ℤ, pos, ◌+ℤ◌, ◌-ℤ◌, ◌≤ℤ◌, refl, sym, ap, ◌∙◌, arith, ⊎_elim, length-set, get_or-set_other, get_or-set_same}
 use Rattle.std.proofs.lemmas.Int.{ints}
-use Rattle.std.proofs.lemmas.Bool.{cases_eq}
-use Rattle.std.proofs.lemmas.List.{get_or-drop, drop_all}
+use Rattle.std.proofs.lemmas.Bool.{cases_eq, cases_lt}
+use Rattle.std.proofs.lemmas.List.{get_or-drop, drop_all, length_push, get_or_push, get_or_append_left}
 use Rattle.sfm_assign.specs.Splits.{sum_at, amount_at}
 use Rattle.sfm_assign.specs.Cells.{label_at}
-use Rattle.sfm_assign.specs.Search.{AreLeft, only}
+use Rattle.sfm_assign.specs.Search.{AreLeft, ListsBelow, ListsLacking, only}
 use Rattle.sfm_assign.proofs.Amounts.{AreAmounts, sum_at-drop, sum_at-low, only-same, only-other}
 
 -- what the first e amounts leave
@@ -85,4 +85,62 @@ left_taken totals labels y z left j a below h got = record {
       let g = get_or-set_other left j k (amount_at left j -ℤ a) (pos 0) ne in
       omega (arith, ints, s, p, o, g))
       (cases_eq k j);
+}
+
+-- ---- the demands that lack something
+
+pub listed_none : (lacks : List ℤ) → ListsBelow 0 lacks []
+listed_none lacks = record { rising = λ j k less lt. absurd (omega (arith, lt)); below = λ k lt. absurd (omega (arith, lt)); all = λ i lt some. absurd (omega (arith, lt)) }
+
+pub listed_skip : (i : ℕ) (lacks : List ℤ) (list : List ℕ) → amount_at lacks i ≤ℤ pos 0 → ListsBelow i lacks list → ListsBelow (i + 1) lacks list
+listed_skip i lacks list none h = record {
+  rising = h.rising;
+  below = λ k lt. let b = h.below k lt in omega (arith, b);
+  all = λ j lt some. ⊎_elim
+      (λ (l : j < i). h.all j l some)
+      (λ ge. let q : j ≡ i = omega (arith, ge, lt) in let v = ap (λ m. amount_at lacks m) q in absurd (omega (arith, ints, v, none, some)))
+      (cases_lt j i);
+}
+
+pub listed_more : (i : ℕ) (lacks : List ℤ) (list : List ℕ) → ListsBelow i lacks list → ListsBelow (i + 1) lacks (list ++ i ∷ [])
+listed_more i lacks list h = record {
+  rising = λ j k less lt. ⊎_elim
+      (λ (l : k < length list). let a = old j (omega (arith, l, less)) in let b = old k l in let r = h.rising j k less l in omega (arith, a, b, r))
+      (λ ge. let q = last k ge lt in let lj : j < length list = omega (arith, less, ge, lt, long) in let a = old j lj in let r = h.below j lj in omega (arith, a, q, r))
+      (cases_lt k (length list));
+  below = λ k lt. ⊎_elim
+      (λ (l : k < length list). let a = old k l in let r = h.below k l in omega (arith, a, r))
+      (λ ge. let q = last k ge lt in omega (arith, q))
+      (cases_lt k (length list));
+  all = λ j lt some. ⊎_elim
+      (λ (l : j < i). let (k, lk, q) = h.all j l some in (k, omega (arith, lk, long), old k lk ∙ q))
+      (λ ge. (length list, omega (arith, long), last (length list) (omega arith) (omega (arith, long)) ∙ omega (arith, ge, lt)))
+      (cases_lt j i);
+} where
+  long : length (list ++ i ∷ []) ≡ length list + 1
+  long = length_push list i
+
+  old : (k : ℕ) → k < length list → label_at (list ++ i ∷ []) k ≡ label_at list k
+  old k lt = get_or_append_left list (i ∷ []) 0 k lt
+
+  last : (k : ℕ) → length list ≤ k → k < length (list ++ i ∷ []) → label_at (list ++ i ∷ []) k ≡ i
+  last k ge lt = let l = long in get_or_push list i 0 k (omega (arith, ge, lt, l))
+
+-- where no demand lacks more than before
+pub listed_on : (lacks after : List ℤ) (list : List ℕ) → length after ≡ length lacks → ((i : ℕ) → i < length lacks → amount_at after i ≤ℤ amount_at lacks i) → ListsLacking lacks list → ListsLacking after list
+listed_on lacks after list same le h = record {
+  rising = h.rising;
+  below = λ k lt. let b = h.below k lt in omega (arith, b, same);
+  all = λ i lt some. let li : i < length lacks = omega (arith, lt, same) in let l = le i li in h.all i li (omega (arith, ints, l, some));
+}
+
+-- where one demand alone lacks something
+pub listed_one : (lacks : List ℤ) (u : ℕ) → u < length lacks → ((i : ℕ) → i < length lacks → (i ≡ u → ⊥) → amount_at lacks i ≤ℤ pos 0) → ListsLacking lacks (u ∷ [])
+listed_one lacks u lu none = record {
+  rising = λ j k less lt. absurd (omega (arith, less, lt));
+  below = λ k lt. let q : k ≡ 0 = omega (arith, lt) in rw q lu;
+  all = λ i lt some. ⊎_elim
+      (λ (q : i ≡ u). (0, omega arith, sym q))
+      (λ ne. let n = none i lt ne in absurd (omega (arith, ints, n, some)))
+      (cases_eq i u);
 }

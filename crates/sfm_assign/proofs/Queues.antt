@@ -1,12 +1,13 @@
 -- A search by a queue: what stays true when one more demand is found, when a slot is marked, and when a demand is handled.
 use Rattle.std.proofs.Common.{◌≡◌, ℕ, zero, suc, ◌+◌, ◌<◌, ◌≤◌, Bool, true, false, List, [], ◌∷◌, ◌++◌, length, set, replicate, ℤ, pos, ◌≤ℤ◌, Option, Some, None, refl, sym, ap, ◌∙◌, arith, ⊎_elim, length-set, get_or-set_other, get_or-set_same}
+use Rattle.std.proofs.lemmas.Int.{by_lt_z}
 use Rattle.std.proofs.lemmas.Bool.{cases_eq, cases_lt}
 use Rattle.std.proofs.lemmas.List.{length_push, get_or_push, get_or_append_left, length-replicate}
 use Rattle.sfm_spec.specs.Sets.{Has}
 use Rattle.sfm_spec.proofs.Lattice.{none_in_empty}
 use Rattle.sfm_assign.specs.Splits.{amount_at}
 use Rattle.sfm_assign.specs.Cells.{label_at}
-use Rattle.sfm_assign.specs.Search.{node_at, missing, IsFound, IsNode, AreRoots, HasRoots, IsRoot, AreRootsOf, AreQueued, IsProgress, IsFurther, IsHandled, IsEnd, IsSearch}
+use Rattle.sfm_assign.specs.Search.{node_at, missing, IsFound, IsNode, ListsLacking, AreRoots, HasRoots, IsRoot, AreRootsOf, AreQueued, IsProgress, IsFurther, IsHandled, IsEnd, IsSearch}
 use Rattle.sfm_assign.specs.declared.nodes.Link.{Link}
 use Rattle.sfm_assign.specs.declared.nodes.Node.{Node}
 use Rattle.sfm_assign.proofs.Searches.{node_kept, missing-set, missing_few, search_begun, none_marked, some_apart}
@@ -117,42 +118,69 @@ cleared_all before queue nodes k past q inv i = split (node_at nodes i)
     (λ b is. let (j, lj, e) = q.queued i (b, inv.old i b is) in sym (ap (λ m. node_at nodes m) e) ∙ inv.gone j (omega (arith, lj, past)))
     (λ out. out)
 
--- of the demands before i, those that lack something were found
-pub record AreRootsTo (lacks : List ℤ) (nodes : List (Option Node)) (queue : List ℕ) (i : ℕ) : Type 0 where
+-- of the first k demands of a list, those that lack something were found, and no others
+pub record AreRootsTo (lacks : List ℤ) (list : List ℕ) (nodes : List (Option Node)) (queue : List ℕ) (k : ℕ) : Type 0 where
   pub places : length nodes ≡ length lacks
-  pub each : (j : ℕ) → j < i → IsRoot (amount_at lacks j) (node_at nodes j)
-  pub rest : (j : ℕ) → i ≤ j → node_at nodes j ≡ None
+  pub found : (i : ℕ) (b : Node) → node_at nodes i ≡ Some b → ((j : ℕ) × (j < k) × (label_at list j ≡ i)) × IsRoot (amount_at lacks i) (Some b)
+  pub done : (j : ℕ) → j < k → node_at nodes (label_at list j) ≡ None → amount_at lacks (label_at list j) ≤ℤ pos 0
   pub in_queue : AreQueued nodes queue
 
-pub roots_none : (lacks : List ℤ) (nodes : List (Option Node)) → length nodes ≡ length lacks → ((i : ℕ) → node_at nodes i ≡ None) → AreRootsTo lacks nodes [] 0
-roots_none lacks nodes places none = record { places = places; each = λ j lt. absurd (omega (arith, lt)); rest = λ j le. none j; in_queue = queued_empty nodes none }
-
-pub roots_skip : (lacks : List ℤ) (nodes : List (Option Node)) (queue : List ℕ) (i : ℕ) → amount_at lacks i ≤ℤ pos 0 → AreRootsTo lacks nodes queue i → AreRootsTo lacks nodes queue (i + 1)
-roots_skip lacks nodes queue i full inv = record {
-  places = inv.places;
-  each = λ j lt. ⊎_elim
-      (λ (l : j < i). inv.each j l)
-      (λ ge. let q : j ≡ i = omega (arith, ge, lt) in rw (q, inv.rest i (omega arith)) full)
-      (cases_lt j i);
-  rest = λ j le. inv.rest j (omega (arith, le));
-  in_queue = inv.in_queue;
+pub roots_none : (lacks : List ℤ) (list : List ℕ) (nodes : List (Option Node)) → length nodes ≡ length lacks → ((i : ℕ) → node_at nodes i ≡ None) → AreRootsTo lacks list nodes [] 0
+roots_none lacks list nodes places none = record {
+  places = places;
+  found = λ i b is. absurd (some_apart (node_at nodes i) (none i) is);
+  done = λ j lt. absurd (omega (arith, lt));
+  in_queue = queued_empty nodes none;
 }
 
-pub roots_put : (lacks : List ℤ) (nodes : List (Option Node)) (queue : List ℕ) (i : ℕ) (b : Node) → i < length lacks → IsRoot (amount_at lacks i) (Some b) → AreRootsTo lacks nodes queue i → AreRootsTo lacks (set nodes i (Some b)) (queue ++ i ∷ []) (i + 1)
-roots_put lacks nodes queue i b lt root inv = record {
-  places = length-set nodes i (Some b) ∙ inv.places;
-  each = λ j less. ⊎_elim
-      (λ (l : j < i). rw (get_or-set_other nodes i j (Some b) None (λ q. omega (arith, l, q))) (inv.each j l))
-      (λ ge. let q : j ≡ i = omega (arith, ge, less) in rw (q, get_or-set_same nodes i (Some b) None in_range) root)
-      (cases_lt j i);
-  rest = λ j le. get_or-set_other nodes i j (Some b) None (λ q. omega (arith, le, q)) ∙ inv.rest j (omega (arith, le));
-  in_queue = queued_more nodes queue i b in_range (inv.rest i (omega arith)) inv.in_queue;
-} where
-  in_range : i < length nodes
-  in_range = let p = inv.places in omega (arith, p, lt)
+module _ (lacks : List ℤ) (list : List ℕ) (nodes : List (Option Node)) (queue : List ℕ) (k : ℕ) (inv : AreRootsTo lacks list nodes queue k) where
+  pub roots_skip : amount_at lacks (label_at list k) ≤ℤ pos 0 → AreRootsTo lacks list nodes queue (k + 1)
+  roots_skip full = record {
+    places = inv.places;
+    found = λ i b is. let ((j, lt, q), root) = inv.found i b is in ((j, omega (arith, lt), q), root);
+    done = λ j lt none. ⊎_elim
+        (λ (l : j < k). inv.done j l none)
+        (λ ge. let q : j ≡ k = omega (arith, ge, lt) in rw q full)
+        (cases_lt j k);
+    in_queue = inv.in_queue;
+  }
 
-pub roots_all : (lacks : List ℤ) (nodes : List (Option Node)) (queue : List ℕ) (i : ℕ) → length lacks ≤ i → AreRootsTo lacks nodes queue i → AreRootsOf lacks nodes
-roots_all lacks nodes queue i past inv = record { places = inv.places; each = λ j lt. inv.each j (omega (arith, lt, past)) }
+  module _ (h : ListsLacking lacks list) (lk : k < length list) where
+    -- the next demand was not found before, as the list rises
+    fresh : node_at nodes (label_at list k) ≡ None
+    fresh = split (node_at nodes (label_at list k))
+        (λ b is. let ((j, lt, q), root) = inv.found (label_at list k) b is in let r = h.rising j k lt lk in absurd (omega (arith, q, r)))
+        (λ out. out)
+
+    in_range : label_at list k < length nodes
+    in_range = let b = h.below k lk in let p = inv.places in omega (arith, b, p)
+
+    pub roots_put : (b : Node) → IsRoot (amount_at lacks (label_at list k)) (Some b) → AreRootsTo lacks list (set nodes (label_at list k) (Some b)) (queue ++ label_at list k ∷ []) (k + 1)
+    roots_put b root = record {
+      places = length-set nodes i (Some b) ∙ inv.places;
+      found = λ m d is. ⊎_elim
+          (λ (q : m ≡ i). ((k, omega arith, sym q), rw (q, same_some (sym (ap (λ e. node_at (set nodes i (Some b)) e) q ∙ here) ∙ is)) root))
+          (λ ne. let ((j, lt, q), old) = inv.found m d (sym (get_or-set_other nodes i m (Some b) None ne) ∙ is) in ((j, omega (arith, lt), q), old))
+          (cases_eq m i);
+      done = λ j lt none. ⊎_elim
+          (λ (l : j < k). let r = h.rising j k l lk in inv.done j l (sym (get_or-set_other nodes i (label_at list j) (Some b) None (λ q. omega (arith, r, q))) ∙ none))
+          (λ ge. let q : j ≡ k = omega (arith, ge, lt) in absurd (some_apart (node_at (set nodes i (Some b)) i) (ap (λ m. node_at (set nodes i (Some b)) (label_at list m)) (sym q) ∙ none) here))
+          (cases_lt j k);
+      in_queue = queued_more nodes queue i b in_range fresh inv.in_queue;
+    } where
+      i : ℕ
+      i = label_at list k
+
+      here : node_at (set nodes (label_at list k) (Some b)) (label_at list k) ≡ Some b
+      here = get_or-set_same nodes (label_at list k) (Some b) None in_range
+
+  pub roots_all : ListsLacking lacks list → length list ≤ k → AreRootsOf lacks nodes
+  roots_all h past = record { places = inv.places; each = λ i lt. root i lt (node_at nodes i) refl } where
+    root : (i : ℕ) → i < length lacks → (o : Option Node) → node_at nodes i ≡ o → IsRoot (amount_at lacks i) o
+    root i lt (Some b) is = (inv.found i b is).1
+    root i lt None is = by_lt_z (pos 0) (amount_at lacks i)
+        (λ some. let (j, lj, q) = h.all i lt some in let d = inv.done j (omega (arith, lj, past)) (ap (λ m. node_at nodes m) q ∙ is) in rw (← q) d)
+        (λ none. none)
 
 -- ---- one more demand
 

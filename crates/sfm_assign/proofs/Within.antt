@@ -4,10 +4,11 @@ use Rattle.std.proofs.lemmas.Int.{ints}
 use Rattle.sfm_spec.specs.Bounds.{total_of}
 use Rattle.sfm_assign.specs.Splits.{sum_at, amount_at}
 use Rattle.sfm_assign.specs.Cells.{label_at, AreCells}
-use Rattle.sfm_assign.specs.Search.{IsRaised}
+use Rattle.sfm_assign.specs.Search.{IsRaised, ListsLacking}
 use Rattle.sfm_assign.specs.Pours.{IsPouring, AreWithin, AreRaised}
 use Rattle.sfm_assign.specs.declared.nodes.Node.{Node}
 use Rattle.sfm_assign.proofs.Fills.{left_low, left_small, below_nodes}
+use Rattle.sfm_assign.proofs.Lefts.{listed_on}
 use Rattle.sfm_assign.proofs.Pours.{pouring_begun, poured, moved_pouring}
 
 total_le : (x z : List ℤ) → length z ≡ length x → ((i : ℕ) → i < length x → amount_at z i ≤ℤ amount_at x i) → total_of z ≤ℤ total_of x
@@ -48,17 +49,24 @@ module _ (whos slots : List ℕ) (y lacks rooms : List ℤ) where
     pub raised_rooms : (z lacks' rooms' : List ℤ) → AreRaised whos slots y lacks rooms z lacks' rooms' → length rooms' ≡ length rooms
     raised_rooms z lacks' rooms' r = (r.each w.demands w.capacities y w.cells within_pouring).rooms_are.places ∙ sym w.rooms_are.places
 
-    -- no demand lacks more than before, so no more is lacked in all
-    pub raised_falls : (z lacks' rooms' : List ℤ) → AreRaised whos slots y lacks rooms z lacks' rooms' → total_of lacks' ≤ℤ total_of lacks
-    raised_falls z lacks' rooms' r =
+    -- no demand lacks more than before
+    raised_less : (z lacks' rooms' : List ℤ) → AreRaised whos slots y lacks rooms z lacks' rooms' → (i : ℕ) → i < length lacks → amount_at lacks' i ≤ℤ amount_at lacks i
+    raised_less z lacks' rooms' r i lt =
         let p = r.each w.demands w.capacities y w.cells within_pouring in
-        total_le lacks lacks' (p.lacks_are.places ∙ sym w.lacks_are.places) (λ i lt.
         let places = w.lacks_are.places in
         let li : i < length w.demands = omega (arith, lt, places) in
         let before = w.lacks_are.each i li in
         let after = p.lacks_are.each i li in
         let more = p.more i in
-        omega (arith, ints, before, after, more))
+        omega (arith, ints, before, after, more)
+
+    -- so no more is lacked in all
+    pub raised_falls : (z lacks' rooms' : List ℤ) → AreRaised whos slots y lacks rooms z lacks' rooms' → total_of lacks' ≤ℤ total_of lacks
+    raised_falls z lacks' rooms' r = total_le lacks lacks' (raised_lacks z lacks' rooms' r) (raised_less z lacks' rooms' r)
+
+    -- and those that lack something are listed
+    pub still_listed : (list : List ℕ) (z lacks' rooms' : List ℤ) → AreRaised whos slots y lacks rooms z lacks' rooms' → ListsLacking lacks list → ListsLacking lacks' list
+    still_listed list z lacks' rooms' r h = listed_on lacks lacks' list (raised_lacks z lacks' rooms' r) (raised_less z lacks' rooms' r) h
 
     pub within_cells : AreCells (length lacks) (length rooms) whos slots
     within_cells = rw (w.lacks_are.places, w.rooms_are.places) w.cells

@@ -5,10 +5,11 @@ use Rattle.sfm_assign.specs.Cells.{AreMet}
 use Rattle.sfm_assign.specs.Search.{AreLeft}
 use Rattle.sfm_assign.specs.Lenders.{with_more, IsMostUpto}
 
--- amounts on the cells meet the demands, rooms are what slots have left, and the demand u may ask for as much more as the limit
-pub record MayGrow (d : Demands) (whos slots : List ℕ) (y rooms : List ℤ) (u : ℕ) (limit : ℤ) : Type 0 where
+-- amounts on the cells meet the demands, lacks and rooms are what they leave of these and of the slots, and the demand u may ask for as much more as the limit
+pub record MayGrow (d : Demands) (whos slots : List ℕ) (y lacks rooms : List ℤ) (u : ℕ) (limit : ℤ) : Type 0 where
   pub sound : AreDemands d
   pub met : AreMet d whos slots y
+  pub lacks_are : AreLeft d.demands whos y lacks
   pub left : AreLeft d.capacities slots y rooms
   pub place : u < length d.demands
   pub low : pos 0 ≤ℤ limit

@@ -45,10 +45,11 @@ pub record AreMended (whos slots : List ℕ) (y lacks rooms z lacks_after rooms_
   pub each : (demands capacities : List ℤ) → AreCells (length demands) (length capacities) whos slots → IsCharge demands capacities whos slots y lacks rooms → IsPouring demands capacities whos slots z z lacks_after rooms_after
 
 -- amounts are lowered and raised: then no demand lacks anything; or some do, and the set is closed and has all of these
-pub record IsSettled (demands capacities : List ℤ) (whos slots : List ℕ) (z rooms : List ℤ) (told : Option (List Bool)) : Type 0 where
+pub record IsSettled (demands capacities : List ℤ) (whos slots : List ℕ) (z lacks rooms : List ℤ) (told : Option (List Bool)) : Type 0 where
   pub part : IsPart demands capacities whos slots z
+  pub lacks_are : AreLeft demands whos z lacks
   pub rooms_are : AreLeft capacities slots z rooms
   pub told_of : MatchOption told (IsMet demands whos z) (IsLacking demands capacities whos slots z)
 
-pub record AreSettled (whos slots : List ℕ) (y lacks rooms z rooms_after : List ℤ) (told : Option (List Bool)) : Type 0 where
-  pub each : (demands capacities : List ℤ) → AreCells (length demands) (length capacities) whos slots → IsCharge demands capacities whos slots y lacks rooms → IsSettled demands capacities whos slots z rooms_after told
+pub record AreSettled (whos slots : List ℕ) (y lacks rooms z lacks_after rooms_after : List ℤ) (told : Option (List Bool)) : Type 0 where
+  pub each : (demands capacities : List ℤ) → AreCells (length demands) (length capacities) whos slots → IsCharge demands capacities whos slots y lacks rooms → IsSettled demands capacities whos slots z lacks_after rooms_after told

@@ -4,7 +4,7 @@
 // the searches.
 ghost use Rattle.std.specs.Prelude.{◌≡◌, ◌<◌, length, ◌<ℤ◌, IfOk, None};
 ghost use Rattle.sfm_spec.specs.Bounds.{total_of};
-ghost use Rattle.sfm_assign.specs.Search.{AreQueued, AreBranches, IsOpen, IsSearch};
+ghost use Rattle.sfm_assign.specs.Search.{ListsLacking, AreQueued, AreBranches, IsOpen, IsSearch};
 ghost use Rattle.sfm_assign.specs.Pours.{AreWithin, AreRaised};
 
 use crate::augment::{augment, flow_along, take};
@@ -24,6 +24,7 @@ fn raise(cells: &Cells, search: &Search, e: usize, left: &mut Lefts, y: &mut [i1
     requires tree { AreBranches cells.now.whos.items cells.now.slots.items search.now.nodes.items }
     requires cell { e < length cells.now.whos.items }
     ensures raised { AreRaised cells.now.whos.items cells.now.slots.items y.old left.old.lacks.items left.old.rooms.items y.new left.new.lacks.items left.new.rooms.items }
+    ensures same { left.new.lacking.items ≡ left.old.lacking.items }
     ensures more { IsOpen cells.now.whos.items cells.now.slots.items y.old left.old.lacks.items left.old.rooms.items search.now.nodes.items e → total_of left.new.lacks.items <ℤ total_of left.old.lacks.items }
 {
     let i = cells.whos[e];
@@ -45,7 +46,8 @@ fn drain(cells: &Cells, search: &Search, s: usize, left: &mut Lefts, y: &mut [i1
     requires within { AreWithin cells.now.whos.items cells.now.slots.items y.old left.old.lacks.items left.old.rooms.items }
     requires places { length search.now.nodes.items ≡ length left.old.lacks.items }
     requires tree { AreBranches cells.now.whos.items cells.now.slots.items search.now.nodes.items }
-    ensures { AreRaised cells.now.whos.items cells.now.slots.items y.old left.old.lacks.items left.old.rooms.items y.new left.new.lacks.items left.new.rooms.items }
+    ensures raised { AreRaised cells.now.whos.items cells.now.slots.items y.old left.old.lacks.items left.old.rooms.items y.new left.new.lacks.items left.new.rooms.items }
+    ensures same { left.new.lacking.items ≡ left.old.lacking.items }
 {
     let mut at = cells.by_slot.head(s);
     while let Some(e) = at {
@@ -67,12 +69,14 @@ pub(crate) fn fill_from(
     y: &mut [i128],
 ) -> Result<Search, Memory>
     requires within { AreWithin cells.now.whos.items cells.now.slots.items y.old left.old.lacks.items left.old.rooms.items }
+    requires listed { ListsLacking left.old.lacks.items left.old.lacking.items }
     ensures raised { AreRaised cells.now.whos.items cells.now.slots.items y.old left.old.lacks.items left.old.rooms.items y.new left.new.lacks.items left.new.rooms.items }
+    ensures listed { IfOk result (λ _. ListsLacking left.new.lacks.items left.new.lacking.items) }
     ensures queued { IfOk result (λ r. AreQueued r.nodes.items r.queue.items) }
     ensures stuck { IfOk result (λ r. IsSearch cells.now.whos.items cells.now.slots.items y.new left.new.lacks.items left.new.rooms.items r.nodes.items None) }
 {
     let mut search = rest.ready(alloc, left.lacks.len(), left.rooms.len())?;
-    while let Some(last) = search.run(cells, y, &left.lacks, &left.rooms)? {
+    while let Some(last) = search.run(cells, y, left)? {
         raise(cells, &search, last, left, y);
         drain(cells, &search, cells.slots[last], left, y);
     }

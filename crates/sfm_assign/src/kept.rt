@@ -20,7 +20,7 @@ use crate::demand::Demand;
 use crate::gather::{Standing, gather};
 use crate::grown::raise_most;
 use crate::left::{Lefts, left_of};
-use crate::lower::shift;
+use crate::lower::{shift, write_more};
 use crate::splitting::{AssignEnd, Shares, met_shares, settle};
 use crate::spread::{Answer, Spread};
 use crate::work::{Work, copy_list, write_zeros};
@@ -175,9 +175,7 @@ impl Kept {
         ensures lacks { OnOk result (AreSmall left.new.lacks.items) }
         ensures rooms { OnOk result (AreSmall left.new.rooms.items) }
     {
-        let before = self.demand.demands();
-        write_zeros(&mut left.lacks, before)?;
-        shift(&mut left.lacks, demands, before);
+        write_more(&mut left.lacks, demands, self.demand.demands())?;
         copy_list(&mut left.rooms, &self.rooms)?;
         shift(&mut left.rooms, capacities, self.demand.capacities());
         Ok(())
@@ -195,6 +193,7 @@ impl Kept {
         requires slots { length capacities.now ≡ length self.now.demand.capacities }
         requires sound { AreDemands (record { demands = demands.now; lists = self.now.demand.lists; capacities = capacities.now }) }
         ensures met { MatchResult result (λ _. AreMet (record { demands = demands.now; lists = self.now.demand.lists; capacities = capacities.now }) self.now.shares.cells.whos.items self.now.shares.cells.slots.items work.new.y.items) (IsAssignEnd demands.now self.now.demand.lists capacities.now) }
+        ensures lacks { OnOk result (AreLeft demands.now self.now.shares.cells.whos.items work.new.y.items work.new.left.lacks.items) }
         ensures rooms { OnOk result (AreLeft capacities.now self.now.shares.cells.slots.items work.new.y.items work.new.left.rooms.items) }
     {
         self.charge(&mut work.left, demands, capacities)?;
@@ -253,10 +252,11 @@ impl Kept {
         requires small { IsAmount (amount_at self.now.demand.demands u +ℤ limit) }
         ensures { IfOk result (IsGrown self.now.demand self.now.shares.cells.whos.items self.now.shares.cells.slots.items work.new.y.items work.new.left.rooms.items u limit) }
     {
+        write_zeros(&mut work.left.lacks, self.demand.demands())?;
         copy_list(&mut work.left.rooms, &self.rooms)?;
         copy_list(&mut work.y, &self.shares.y)?;
-        let like = self.demand.demands();
-        raise_most(alloc, &self.shares.cells, work, like, u, limit)
+        let more = raise_most(alloc, &self.shares.cells, work, u, limit)?;
+        Ok(more)
     }
 
     /// The same for other demands and capacities over the same lists, which can be met.
@@ -282,7 +282,7 @@ impl Kept {
             Err(AssignEnd::Shortage { .. }) => unreachable!(),
             Err(AssignEnd::Memory) => return Err(Memory),
         }
-        let more = raise_most(alloc, &self.shares.cells, work, aim.demands, u, limit)?;
+        let more = raise_most(alloc, &self.shares.cells, work, u, limit)?;
         Ok(more)
     }
 

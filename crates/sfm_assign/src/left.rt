@@ -1,8 +1,9 @@
-// What is left of demands or of capacities once the amounts on the cells are taken off.
-ghost use Rattle.std.specs.Prelude.{◌≡◌, ℕ, ◌<◌, length, pos, ◌-ℤ◌, ◌≤ℤ◌, ◌<ℤ◌, IfOk, MatchOption};
+// What is left of demands or of capacities once the amounts on the cells are taken off. Of many demands few lack something, so these
+// are listed, and what goes over them does not look at the others.
+ghost use Rattle.std.specs.Prelude.{◌≡◌, ℕ, ◌<◌, length, pos, ◌-ℤ◌, ◌≤ℤ◌, ◌<ℤ◌, IfOk, OnOk, MatchOption};
 ghost use Rattle.sfm_assign.specs.Splits.{sum_at, amount_at};
 ghost use Rattle.sfm_assign.specs.Cells.{label_at, AreCells, IsPart};
-ghost use Rattle.sfm_assign.specs.Search.{AreLeft};
+ghost use Rattle.sfm_assign.specs.Search.{AreLeft, ListsLacking};
 
 use crate::cells::Cells;
 use sfm_base::Memory;
@@ -13,6 +14,39 @@ use std::alloc::Global;
 pub(crate) struct Lefts {
     pub lacks: Vec<i128>,
     pub rooms: Vec<i128>,
+    /// The demands that lack something, in order, once they are listed; those that are met since stay.
+    pub lacking: Vec<usize>,
+}
+
+impl Lefts {
+    /// Lists the demands that lack something.
+    pub(crate) fn list_lacking(&mut self) -> Result<(), Memory>
+        ensures lacks { self.new.lacks.items ≡ self.old.lacks.items }
+        ensures rooms { self.new.rooms.items ≡ self.old.rooms.items }
+        ensures listed { OnOk result (ListsLacking self.new.lacks.items self.new.lacking.items) }
+    {
+        self.lacking.clear();
+        for i in 0..self.lacks.len() {
+            if self.lacks[i] > 0 {
+                self.lacking.push(i)?;
+            }
+        }
+        Ok(())
+    }
+
+    /// A demand that lacks something.
+    pub(crate) fn first_lacking(&self) -> Option<usize>
+        requires listed { ListsLacking self.now.lacks.items self.now.lacking.items }
+        ensures { MatchOption result ((i : ℕ) → i < length self.now.lacks.items → amount_at self.now.lacks.items i ≤ℤ pos 0) (λ i. (i < length self.now.lacks.items) × (pos 0 <ℤ amount_at self.now.lacks.items i)) }
+    {
+        for k in 0..self.lacking.len() {
+            let i = self.lacking[k];
+            if self.lacks[i] > 0 {
+                return Some(i);
+            }
+        }
+        None
+    }
 }
 
 /// Each total less the amounts that have its number.
@@ -35,7 +69,7 @@ pub(crate) fn left_of(
     Ok(left)
 }
 
-/// What amounts on the cells leave of demands and of capacities.
+/// What amounts on the cells leave of demands and of capacities; the demands that lack something are not listed yet.
 pub(crate) fn lefts_of(
     alloc: Global,
     cells: &Cells,
@@ -51,17 +85,6 @@ pub(crate) fn lefts_of(
     Ok(Lefts {
         lacks: left_of(alloc, demands, &cells.whos, y)?,
         rooms: left_of(alloc, capacities, &cells.slots, y)?,
+        lacking: Vec::new(alloc),
     })
-}
-
-/// The first demand that lacks something.
-pub(crate) fn first_lacking(lacks: &[i128]) -> Option<usize>
-    ensures { MatchOption result ((i : ℕ) → i < length lacks.now → amount_at lacks.now i ≤ℤ pos 0) (λ i. (i < length lacks.now) × (pos 0 <ℤ amount_at lacks.now i)) }
-{
-    for (i, a) in lacks.iter().enumerate() {
-        if *a > 0 {
-            return Some(i);
-        }
-    }
-    None
 }

@@ -3,7 +3,7 @@
 // the amounts on its cells are lowered and given back to their demands and slots: first for all demands, then in the same way
 // for all slots. At the end of a chain nothing stands on it, and no demand or capacity is negative, so nothing is too much
 // there. What is left only rises, so what was mended stays so.
-ghost use Rattle.std.specs.Prelude.{◌≡◌, ℕ, ◌<◌, ◌^◌, length, pos, ◌+ℤ◌, ◌-ℤ◌, ◌≤ℤ◌};
+ghost use Rattle.std.specs.Prelude.{◌≡◌, ℕ, ◌<◌, ◌^◌, length, replicate, pos, ◌+ℤ◌, ◌-ℤ◌, ◌≤ℤ◌, OnOk};
 ghost use Rattle.std.specs.List.{All};
 ghost use Rattle.sfm_assign.specs.Splits.{amount_at, IsAmount};
 ghost use Rattle.sfm_assign.specs.Cells.{label_at};
@@ -16,6 +16,7 @@ use crate::augment::{put, take};
 use crate::cells::Cells;
 use crate::chains::Chains;
 use crate::left::Lefts;
+use sfm_base::Memory;
 
 /// What totals leave, from what others left of the same amounts.
 pub(crate) fn shift(left: &mut Vec<i128>, totals: &[i128], before: &[i128])
@@ -30,6 +31,20 @@ pub(crate) fn shift(left: &mut Vec<i128>, totals: &[i128], before: &[i128])
         let more = totals[k] - before[k];
         left[k] += more;
     }
+}
+
+/// Writes what totals have besides others.
+pub(crate) fn write_more(to: &mut Vec<i128>, totals: &[i128], before: &[i128]) -> Result<(), Memory>
+    requires same { length before.now ≡ length totals.now }
+    requires amounts { All IsAmount totals.now }
+    requires amounts_before { All IsAmount before.now }
+    ensures { OnOk result (IsShifted totals.now before.now (replicate (length totals.now) (pos 0)) to.new.items) }
+{
+    to.clear();
+    for k in 0..totals.len() {
+        to.push(totals[k] - before[k])?;
+    }
+    Ok(())
 }
 
 /// Lowers the amount on a cell, by no more than is too much, and gives it back to its demand and its slot.
@@ -113,7 +128,10 @@ fn lower_side(cells: &Cells, side: Side, left: &mut Lefts, y: &mut [i128])
     ensures mended { (k : ℕ) → k < length (of_side side left.new.lacks.items left.new.rooms.items) → pos 0 ≤ℤ amount_at (of_side side left.new.lacks.items left.new.rooms.items) k }
 {
     for k in 0..side.of(left).len() {
-        lower_along(cells, side, k, left, y);
+        let totals = side.of(left);
+        if totals[k] < 0 {
+            lower_along(cells, side, k, left, y);
+        }
     }
 }
 

@@ -6,9 +6,10 @@ ghost use Rattle.std.specs.Prelude.{◌≡◌, ℕ, ◌+◌, ◌<◌, ◌≤◌,
 ghost use Rattle.sfm_spec.specs.Sets.{Has};
 ghost use Rattle.sfm_assign.specs.Splits.{amount_at};
 ghost use Rattle.sfm_assign.specs.Cells.{label_at, AreCells};
-ghost use Rattle.sfm_assign.specs.Search.{node_at, IsFound, AreRootsOf, AreQueued, IsProgress, IsFurther, IsHandled, IsEnd, IsSearch};
+ghost use Rattle.sfm_assign.specs.Search.{node_at, IsFound, ListsLacking, AreRootsOf, AreQueued, IsProgress, IsFurther, IsHandled, IsEnd, IsSearch};
 
 use crate::cells::Cells;
+use crate::left::Lefts;
 use crate::nodes::{Link, Node, is_found};
 use sfm_base::Memory;
 use std::alloc::Global;
@@ -63,16 +64,18 @@ impl Search {
     }
 
     /// Finds the demands that lack something.
-    fn find_roots(&mut self, lacks: &[i128]) -> Result<(), Memory>
-        requires places { length self.old.nodes.items ≡ length lacks.now }
+    fn find_roots(&mut self, left: &Lefts) -> Result<(), Memory>
+        requires listed { ListsLacking left.now.lacks.items left.now.lacking.items }
+        requires places { length self.old.nodes.items ≡ length left.now.lacks.items }
         requires none { (i : ℕ) → node_at self.old.nodes.items i ≡ None }
         requires queue { self.old.queue.items ≡ [] }
-        ensures nodes { OnOk result (AreRootsOf lacks.now self.new.nodes.items) }
+        ensures nodes { OnOk result (AreRootsOf left.now.lacks.items self.new.nodes.items) }
         ensures marks { self.new.marks.items ≡ self.old.marks.items }
         ensures queue { OnOk result (AreQueued self.new.nodes.items self.new.queue.items) }
     {
-        for i in 0..lacks.len() {
-            if lacks[i] > 0 {
+        for k in 0..left.lacking.len() {
+            let i = left.lacking[k];
+            if left.lacks[i] > 0 {
                 self.queue.push(i)?;
                 self.nodes[i] = Some(Node {
                     level: 0,
@@ -84,15 +87,16 @@ impl Search {
     }
 
     /// Begins: the demands that lack something were found, and no slot is marked.
-    fn begin(&mut self, lacks: &[i128]) -> Result<(), Memory>
-        requires places { length self.old.nodes.items ≡ length lacks.now }
+    fn begin(&mut self, left: &Lefts) -> Result<(), Memory>
+        requires listed { ListsLacking left.now.lacks.items left.now.lacking.items }
+        requires places { length self.old.nodes.items ≡ length left.now.lacks.items }
         requires queued { AreQueued self.old.nodes.items self.old.queue.items }
-        ensures nodes { OnOk result (AreRootsOf lacks.now self.new.nodes.items) }
+        ensures nodes { OnOk result (AreRootsOf left.now.lacks.items self.new.nodes.items) }
         ensures marks { OnOk result (self.new.marks.items ≡ replicate (length self.old.marks.items) false) }
         ensures queue { OnOk result (AreQueued self.new.nodes.items self.new.queue.items) }
     {
         self.clear();
-        self.find_roots(lacks)?;
+        self.find_roots(left)?;
         self.marks.fill(false);
         Ok(())
     }
@@ -102,23 +106,23 @@ impl Search {
         &mut self,
         cells: &Cells,
         y: &[i128],
-        lacks: &[i128],
-        rooms: &[i128],
+        left: &Lefts,
     ) -> Result<Option<usize>, Memory>
-        requires cells { AreCells (length lacks.now) (length rooms.now) cells.now.whos.items cells.now.slots.items }
+        requires listed { ListsLacking left.now.lacks.items left.now.lacking.items }
+        requires cells { AreCells (length left.now.lacks.items) (length left.now.rooms.items) cells.now.whos.items cells.now.slots.items }
         requires same { length y.now ≡ length cells.now.whos.items }
-        requires nodes { length self.old.nodes.items ≡ length lacks.now }
-        requires places { length self.old.marks.items ≡ length rooms.now }
+        requires nodes { length self.old.nodes.items ≡ length left.now.lacks.items }
+        requires places { length self.old.marks.items ≡ length left.now.rooms.items }
         requires queued { AreQueued self.old.nodes.items self.old.queue.items }
-        ensures places { OnOk result (length self.new.marks.items ≡ length rooms.now) }
+        ensures places { OnOk result (length self.new.marks.items ≡ length left.now.rooms.items) }
         ensures queued { OnOk result (AreQueued self.new.nodes.items self.new.queue.items) }
-        ensures search { IfOk result (IsSearch cells.now.whos.items cells.now.slots.items y.now lacks.now rooms.now self.new.nodes.items) }
+        ensures search { IfOk result (IsSearch cells.now.whos.items cells.now.slots.items y.now left.now.lacks.items left.now.rooms.items self.new.nodes.items) }
     {
-        self.begin(lacks)?;
+        self.begin(left)?;
         let mut next = 0;
         while next < self.queue.len() {
             let i = self.queue[next];
-            if let Some(last) = self.handle(cells, y, rooms, i)? {
+            if let Some(last) = self.handle(cells, y, &left.rooms, i)? {
                 return Ok(Some(last));
             }
             next += 1;

@@ -3,6 +3,7 @@
 ghost use Rattle.std.specs.Prelude.{◌≡◌, IfOk, MatchResult};
 ghost use Rattle.sfm_assign.specs.Splits.{AreDemands, IsAssignment};
 ghost use Rattle.sfm_assign.specs.Cells.{joined, owners, IsPart, AreMet};
+ghost use Rattle.sfm_assign.specs.Search.{ListsLacking};
 ghost use Rattle.sfm_assign.specs.Pours.{AreWithin, AreRaised, IsToldOf};
 ghost use Rattle.sfm_assign.specs.Lowers.{AreCharged, AreSettled};
 ghost use Rattle.sfm_assign.specs.Ends.{IsAssignEnd};
@@ -10,7 +11,7 @@ ghost use Rattle.sfm_assign.specs.Ends.{IsAssignEnd};
 use crate::cells::Cells;
 use crate::demand::Demand;
 use crate::fill::fill_from;
-use crate::left::{Lefts, first_lacking, lefts_of};
+use crate::left::{Lefts, lefts_of};
 use crate::lower::lower_all;
 use crate::nodes::found_set;
 use crate::pour::pour;
@@ -69,11 +70,12 @@ fn search_all(
     y: &mut [i128],
 ) -> Result<Option<Set>, Memory>
     requires within { AreWithin cells.now.whos.items cells.now.slots.items y.old left.old.lacks.items left.old.rooms.items }
+    requires listed { ListsLacking left.old.lacks.items left.old.lacking.items }
     ensures raised { IfOk result (λ _. AreRaised cells.now.whos.items cells.now.slots.items y.old left.old.lacks.items left.old.rooms.items y.new left.new.lacks.items left.new.rooms.items) }
     ensures told { IfOk result (IsToldOf cells.now.whos.items cells.now.slots.items y.new left.new.lacks.items left.new.rooms.items) }
 {
     let search = fill_from(alloc, cells, rest, left, y)?;
-    if first_lacking(&left.lacks).is_some() {
+    if left.first_lacking().is_some() {
         let set = found_set(alloc, &search.nodes)?;
         rest.keep(search);
         return Ok(Some(set));
@@ -96,6 +98,7 @@ fn raise_all(
     ensures told { IfOk result (IsToldOf cells.now.whos.items cells.now.slots.items y.new left.new.lacks.items left.new.rooms.items) }
 {
     pour(cells, left, y);
+    left.list_lacking()?;
     let set = search_all(alloc, cells, rest, left, y)?;
     Ok(set)
 }
@@ -110,9 +113,10 @@ pub(crate) fn settle(
     y: &mut [i128],
 ) -> Result<Option<Set>, Memory>
     requires charged { AreCharged cells.now.whos.items cells.now.slots.items y.old left.old.lacks.items left.old.rooms.items }
-    ensures { IfOk result (AreSettled cells.now.whos.items cells.now.slots.items y.old left.old.lacks.items left.old.rooms.items y.new left.new.rooms.items) }
+    ensures { IfOk result (AreSettled cells.now.whos.items cells.now.slots.items y.old left.old.lacks.items left.old.rooms.items y.new left.new.lacks.items left.new.rooms.items) }
 {
     lower_all(cells, left, y);
+    left.list_lacking()?;
     let set = search_all(alloc, cells, rest, left, y)?;
     Ok(set)
 }

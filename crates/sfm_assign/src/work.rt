@@ -26,6 +26,7 @@ impl Work {
             left: Lefts {
                 lacks: Vec::new(alloc),
                 rooms: Vec::new(alloc),
+                lacking: Vec::new(alloc),
             },
             rest: Rest::new(alloc),
         }

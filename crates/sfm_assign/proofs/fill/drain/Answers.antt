@@ -1,4 +1,4 @@
-use Rattle.std.proofs.Common.{sym, ◌∙◌, arith}
+use Rattle.std.proofs.Common.{refl, sym, ◌∙◌, arith}
 use Rattle.sfm_assign.proofs.Linking.{pass_begun, pass_here, pass_more, pass_falls}
 use Rattle.sfm_assign.proofs.Within.{raised_nowhere, raised_on, raised_lacks, still_within, within_cells}
 use Rattle.sfm_assign.proofs.fill.drain.Goals as goal
@@ -10,6 +10,7 @@ loop-at-init c =
     record {
       raised = raised_nowhere cells.whos.items cells.slots.items c.args.y.now left.lacks.items left.rooms.items;
       within = c.requires.within;
+      same = refl;
       nodes = c.requires.places;
       passed = rw c.head-at.ensures (pass_begun cells.slots.items cells.by_slot.heads.items cells.by_slot.nexts.items c.args.s (λ e. Unit {0}) cells.slots_chained);
     }
@@ -48,6 +49,7 @@ loop-at-preserved c =
     record {
       raised = raised_on whos slots c.args.y.now first.lacks.items first.rooms.items y left.lacks.items left.rooms.items z after.lacks.items after.rooms.items inv.raised raised;
       within = still_within whos slots y left.lacks.items left.rooms.items inv.within z after.lacks.items after.rooms.items raised;
+      same = c.raise.ensures.same ∙ inv.same;
       nodes = inv.nodes ∙ sym (raised_lacks whos slots y left.lacks.items left.rooms.items inv.within z after.lacks.items after.rooms.items raised);
       passed = pass_more c.args.cells.now.slots_chained c.in-Some.is inv.passed (λ f. Unit {0}) c.index-at.ensures (λ f h. h) tt;
     }

@@ -8,6 +8,7 @@ abbrev pub invariant-loop-at : goal.invariant-loop-at
 invariant-loop-at l = record {
   raised : AreRaised l.cells.whos.items l.cells.slots.items l.initial.y l.initial.left.lacks.items l.initial.left.rooms.items l.y l.left.lacks.items l.left.rooms.items;
   within : AreWithin l.cells.whos.items l.cells.slots.items l.y l.left.lacks.items l.left.rooms.items;
+  same : l.left.lacking.items ≡ l.initial.left.lacking.items;
   nodes : length l.search.nodes.items ≡ length l.left.lacks.items;
   passed : IsPassed l.cells.slots.items l.s l.at (λ e. Unit {0});
 }

@@ -1,4 +1,4 @@
-use Rattle.std.proofs.Common.{◌≡◌, length, ℤ, pos, ◌≤ℤ◌, drop, arith, rules, FitsSigned, ap, sym, ◌∙◌}
+use Rattle.std.proofs.Common.{◌≡◌, length, ℤ, pos, ◌≤ℤ◌, drop, arith, rules, FitsSigned, refl, ap, sym, ◌∙◌}
 use Rattle.std.proofs.lemmas.Int.{ints, to_z-of_z}
 use Rattle.std.proofs.lemmas.List.{get_or_read}
 use mir.Syntax.{w128}
@@ -78,4 +78,4 @@ returns c =
     let ql = written c.augment.new.lacks (drop (length c.augment.new.lacks) lacks) left.lacks.len (c.augment.auto.lacks ∙ (ap length c.deref_mut.ensures.value ∙ sym left.lacks.ok.0)) in
     let qr = written c.take.new.from (drop (length c.take.new.from) rooms) left.rooms.len (c.take.auto.from ∙ (ap length c.deref_mut-2.ensures.value ∙ sym left.rooms.ok.0)) in
     let (raised, less) = moved c.args.cells.now.whos.items c.args.cells.now.slots.items c.args.y.now lacks rooms c.args.search.now.nodes.items c.args.e a c.augment.new.y c.augment.new.lacks c.take.new.from c.requires.places c.requires.cell some fits r tl tr in
-    rw (ql, qr) (record { raised = raised; more = λ open_. less })
+    rw (ql, qr) (record { raised = raised; same = refl; more = λ open_. less })

@@ -1,4 +1,4 @@
-use Rattle.std.proofs.Common.{◌<◌, length, pos, sym, arith}
+use Rattle.std.proofs.Common.{◌<◌, length, pos, arith}
 use Rattle.std.proofs.lemmas.Int.{ints}
 use Rattle.std.proofs.lemmas.List.{get_or_read}
 use Rattle.sfm_assign.proofs.Gathering.{nothing_on}

@@ -1,9 +1,11 @@
-use Rattle.std.proofs.Common.{◌≡◌, length, ap, arith, ⊎_elim}
+use Rattle.std.proofs.Common.{◌≡◌, ℤ, pos, ◌≤ℤ◌, get_or, length, ap, arith, rules, FitsSigned, ⊎_elim}
 use Rattle.std.proofs.lemmas.Int.{ints}
 use Rattle.std.proofs.lemmas.Bool.{cases_eq}
+use mir.Syntax.{w128}
+use Rattle.sfm_assign.specs.Splits.{amount_at}
 use Rattle.sfm_assign.specs.Sides.{of_side}
 use Rattle.sfm_assign.proofs.Lowering.{lowered_nowhere, lowered_on, still_charged, side_places, side_rises}
-use Rattle.sfm_assign.proofs.lower.lower_side.Goals.{At-loop-k}
+use Rattle.sfm_assign.proofs.lower.lower_side.Goals.{At-loop-k, then-totals-k-lt0, else-totals-k-lt0}
 use Rattle.sfm_assign.proofs.lower.lower_side.Goals as goal
 
 -- the side has as many totals as at first
@@ -27,19 +29,34 @@ loop-k-preserved c =
     let whos = c.args.cells.now.whos.items in
     let slots = c.args.cells.now.slots.items in
     let first = c.args.left.now in
+    let k = c.loop-k.k in
     let inv = c.loop-k.invariant in
     let y = c.loop-k.y in
     let left = c.loop-k.left in
-    let new = c.lower_along.new in
-    let told = c.lower_along.ensures in
-    record {
-      lowered = lowered_on whos slots c.args.y.now first.lacks.items first.rooms.items y left.lacks.items left.rooms.items new.y new.left.lacks.items new.left.rooms.items inv.lowered told.lowered;
-      charged = still_charged whos slots y left.lacks.items left.rooms.items inv.charged new.y new.left.lacks.items new.left.rooms.items told.lowered;
-      mended = λ j lt. ⊎_elim
-          (λ (q : j ≡ c.loop-k.k). rw q told.mended)
-          (λ ne. let m = inv.mended j (omega (arith, lt, ne)) in let u = side_rises whos slots y left.lacks.items left.rooms.items new.y new.left.lacks.items new.left.rooms.items told.lowered c.args.side j in omega (arith, ints, m, u))
-          (cases_eq j c.loop-k.k);
-    }
+    let x : ℤ = get_or c.of-totals.result.now k (pos 0) in
+    let f : FitsSigned w128 x = search rules in
+    let is = ap (λ xs. amount_at xs k) c.of-totals.ensures in
+    elim c.if-totals-k-lt0.branch [
+      | then-totals-k-lt0 w ↦ (
+          let new = w.lower_along.new in
+          let told = w.lower_along.ensures in
+          rw (w.left-is, w.y-is) (record {
+            lowered = lowered_on whos slots c.args.y.now first.lacks.items first.rooms.items y left.lacks.items left.rooms.items new.y new.left.lacks.items new.left.rooms.items inv.lowered told.lowered;
+            charged = still_charged whos slots y left.lacks.items left.rooms.items inv.charged new.y new.left.lacks.items new.left.rooms.items told.lowered;
+            mended = λ j lt. ⊎_elim
+                (λ (q : j ≡ k). rw q told.mended)
+                (λ ne. let m = inv.mended j (omega (arith, lt, ne)) in let u = side_rises whos slots y left.lacks.items left.rooms.items new.y new.left.lacks.items new.left.rooms.items told.lowered c.args.side j in omega (arith, ints, m, u))
+                (cases_eq j k);
+          }))
+      | else-totals-k-lt0 w ↦ (
+          let t = w.if-totals-k-lt0.false in
+          let here : pos 0 ≤ℤ amount_at (of_side c.args.side left.lacks.items left.rooms.items) k = omega (arith, ints, t, is) in
+          rw (w.left-is, w.y-is) (record {
+            lowered = inv.lowered;
+            charged = inv.charged;
+            mended = λ j lt. ⊎_elim (λ (q : j ≡ k). rw q here) (λ ne. inv.mended j (omega (arith, lt, ne))) (cases_eq j k);
+          }))
+    ]
 
 pub lower_along-requires-clause-place : goal.lower_along-requires-clause-place
 lower_along-requires-clause-place c = let all = places (goal.at.lower_along-requires-clause-place c).At-loop-k in omega (arith, all)

@@ -8,7 +8,7 @@ use Rattle.sfm_assign.proofs.kept.Kept.find_amounts.Goals.{In_ok-told}
 use Rattle.sfm_assign.proofs.kept.Kept.find_amounts.Goals as goal
 
 -- the amounts are lowered and raised
-settled : (c : In_ok-told) → IsSettled c.args.demands.now c.args.capacities.now c.args.self.now.shares.cells.whos.items c.args.self.now.shares.cells.slots.items c.settle.new.y c.settle.new.left.rooms.items c.in_ok-told.told
+settled : (c : In_ok-told) → IsSettled c.args.demands.now c.args.capacities.now c.args.self.now.shares.cells.whos.items c.args.self.now.shares.cells.slots.items c.settle.new.y c.settle.new.left.lacks.items c.settle.new.left.rooms.items c.in_ok-told.told
 settled c =
     let k = c.args.self.now in
     let ey = c.deref_mut.ensures.value ∙ (c.in_ok-copy_list.ensures ∙ c.deref.ensures.value) in
@@ -54,6 +54,13 @@ returns-clause-met c =
     let s = rw c.in_default.is at (settled (goal.at.returns-clause-met c).In_ok-told) in
     let q = written z (drop (length z) y.items) y.len (c.settle.auto.y ∙ (ap length c.deref_mut.ensures.value ∙ sym y.ok.0)) in
     record { in_order = k.met.in_order; in_lists = k.met.in_lists; part = rw q s.part; met = rw q s.told_of }
+
+pub returns-clause-lacks : goal.returns-clause-lacks
+returns-clause-lacks c =
+    let y = c.copy_list.new.to in
+    let z = c.settle.new.y in
+    let q = written z (drop (length z) y.items) y.len (c.settle.auto.y ∙ (ap length c.deref_mut.ensures.value ∙ sym y.ok.0)) in
+    rw q (settled (goal.at.returns-clause-lacks c).In_ok-told).lacks_are
 
 pub returns-clause-rooms : goal.returns-clause-rooms
 returns-clause-rooms c =

@@ -1,4 +1,4 @@
-use Rattle.std.proofs.Common.{ℤ, refl, rules, FitsSigned}
+use Rattle.std.proofs.Common.{ℤ, rules, FitsSigned}
 use Rattle.std.proofs.lemmas.Int.{to_z-of_z}
 use mir.Syntax.{w128}
 use Rattle.sfm_assign.proofs.kept.Kept.find_raised.Goals as goal
@@ -12,5 +12,5 @@ returns c =
     let more : ℤ = c.in_ok-more.more in
     let fm : FitsSigned w128 more = search rules in
     let told = simp to_z-of_z at c.in_ok-more.ensures in
-    simp to_z-of_z (told (record { demands = c.args.aim.now.demands.now; lists = c.args.self.now.demand.lists; capacities = c.args.aim.now.capacities.now }) refl
-    (record { sound = r.sound; met = found.met; left = found.rooms; place = r.place; low = r.low; small = r.small }))
+    simp to_z-of_z (told (record { demands = c.args.aim.now.demands.now; lists = c.args.self.now.demand.lists; capacities = c.args.aim.now.capacities.now })
+    (record { sound = r.sound; met = found.met; lacks_are = found.lacks; left = found.rooms; place = r.place; low = r.low; small = r.small }))
