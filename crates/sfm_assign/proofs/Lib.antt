@@ -4,6 +4,7 @@ pub mod Hall
 pub mod Lefts
 pub mod Linking
 pub mod Searches
+pub mod Clearing
 pub mod Queues
 pub mod Ways
 pub mod Augments
@@ -13,6 +14,7 @@ pub mod Outcomes
 pub mod Growing
 pub mod Pours
 pub mod Spreads
+pub mod Telling
 pub mod Gathering
 pub mod Filling
 pub mod Lending

@@ -83,41 +83,6 @@ queued_more nodes queue i b lt out q = record {
 
 -- ---- the first demands
 
--- of the demands that were found, those at the first k places are forgotten
-pub record IsClearedTo (before : List (Option Node)) (queue : List ℕ) (nodes : List (Option Node)) (k : ℕ) : Type 0 where
-  pub places : length nodes ≡ length before
-  pub old : (i : ℕ) (b : Node) → node_at nodes i ≡ Some b → node_at before i ≡ Some b
-  pub gone : (j : ℕ) → j < k → node_at nodes (label_at queue j) ≡ None
-
-pub cleared_none : (nodes : List (Option Node)) (queue : List ℕ) → IsClearedTo nodes queue nodes 0
-cleared_none nodes queue = record { places = refl; old = λ i b is. is; gone = λ j lt. absurd (omega (arith, lt)) }
-
-pub cleared_more : (before : List (Option Node)) (queue : List ℕ) (nodes : List (Option Node)) (k : ℕ) → label_at queue k < length before → IsClearedTo before queue nodes k → IsClearedTo before queue (set nodes (label_at queue k) None) (k + 1)
-cleared_more before queue nodes k below inv = record {
-  places = length-set nodes i None ∙ inv.places;
-  old = λ j b is. ⊎_elim
-      (λ (q : j ≡ i). absurd (some_apart (node_at (set nodes i None) j) (here j q) is))
-      (λ ne. inv.old j b (sym (get_or-set_other nodes i j None None ne) ∙ is))
-      (cases_eq j i);
-  gone = λ j lt. ⊎_elim
-      (λ (q : label_at queue j ≡ i). here (label_at queue j) q)
-      (λ ne. ⊎_elim
-      (λ (l : j < k). get_or-set_other nodes i (label_at queue j) None None ne ∙ inv.gone j l)
-      (λ ge. let q : j ≡ k = omega (arith, ge, lt) in absurd (ne (ap (λ m. label_at queue m) q)))
-      (cases_lt j k))
-      (cases_eq (label_at queue j) i);
-} where
-  i : ℕ
-  i = label_at queue k
-
-  here : (j : ℕ) → j ≡ label_at queue k → node_at (set nodes (label_at queue k) None) j ≡ None
-  here j q = let p = inv.places in ap (λ m. node_at (set nodes (label_at queue k) None) m) q ∙ get_or-set_same nodes (label_at queue k) None None (omega (arith, p, below))
-
-pub cleared_all : (before : List (Option Node)) (queue : List ℕ) (nodes : List (Option Node)) (k : ℕ) → length queue ≤ k → AreQueued before queue → IsClearedTo before queue nodes k → (i : ℕ) → node_at nodes i ≡ None
-cleared_all before queue nodes k past q inv i = split (node_at nodes i)
-    (λ b is. let (j, lj, e) = q.queued i (b, inv.old i b is) in sym (ap (λ m. node_at nodes m) e) ∙ inv.gone j (omega (arith, lj, past)))
-    (λ out. out)
-
 -- of the first k demands of a list, those that lack something were found, and no others
 pub record AreRootsTo (lacks : List ℤ) (list : List ℕ) (nodes : List (Option Node)) (queue : List ℕ) (k : ℕ) : Type 0 where
   pub places : length nodes ≡ length lacks

@@ -44,6 +44,11 @@ pub record AreAnswers (n : ℕ) (whos slots : List ℕ) (y rooms : List ℤ) (an
 abbrev pub IsKnown : List (Option Answer) → ℕ → Type 0
 IsKnown answers u = (answer : Answer) × (answer_at answers u ≡ Some answer)
 
+-- a list of demands has all of which something is told
+pub record AreListed (answers : List (Option Answer)) (list : List ℕ) : Type 0 where
+  pub below : (k : ℕ) → k < length list → label_at list k < length answers
+  pub all : (u : ℕ) → IsKnown answers u → (k : ℕ) × (k < length list) × (label_at list k ≡ u)
+
 -- amounts on the cells of demands, what their slots have left, and what is told of each demand
 pub record AreTold (whos slots : List ℕ) (y rooms : List ℤ) (answers : List (Option Answer)) : Type 0 where
   pub cells : AreCells (length answers) (length rooms) whos slots

@@ -8,6 +8,7 @@ ghost use Rattle.sfm_assign.specs.declared.spread.Answer.{Answer};
 
 use crate::splitting::Shares;
 use crate::spread::{Answer, Spread, find_answer};
+use crate::told::Told;
 use sfm_base::{Memory, Set};
 use std::alloc::Global;
 
@@ -23,20 +24,20 @@ fn learn(
     alloc: Global,
     at: &mut Spread,
     split: &Standing,
-    answers: &mut Vec<Option<Answer>>,
+    answers: &mut Told,
     h: usize,
 ) -> Result<(), Memory>
-    requires told { AreTold split.now.shares.now.cells.whos.items split.now.shares.now.cells.slots.items split.now.shares.now.y.items split.now.rooms.now answers.old.items }
-    requires place { h < length answers.old.items }
-    ensures same { length answers.new.items ≡ length answers.old.items }
-    ensures told { AreTold split.now.shares.now.cells.whos.items split.now.shares.now.cells.slots.items split.now.shares.now.y.items split.now.rooms.now answers.new.items }
-    ensures known { OnOk result (IsKnown answers.new.items h) }
+    requires told { AreTold split.now.shares.now.cells.whos.items split.now.shares.now.cells.slots.items split.now.shares.now.y.items split.now.rooms.now answers.old }
+    requires place { h < length answers.old }
+    ensures same { length answers.new ≡ length answers.old }
+    ensures told { AreTold split.now.shares.now.cells.whos.items split.now.shares.now.cells.slots.items split.now.shares.now.y.items split.now.rooms.now answers.new }
+    ensures known { OnOk result (IsKnown answers.new h) }
 {
-    if answers[h].is_some() {
+    if answers.knows(h) {
         return Ok(());
     }
     let answer = find_answer(alloc, at, split.shares, split.rooms, answers.as_slice(), h)?;
-    answers[h] = Some(answer);
+    answers.tell(h, answer)?;
     Ok(())
 }
 
@@ -127,18 +128,18 @@ fn take_slot(
     alloc: Global,
     at: &mut Spread,
     split: &Standing,
-    answers: &mut Vec<Option<Answer>>,
+    answers: &mut Told,
     s: usize,
     to: &mut Set,
 ) -> Result<bool, Memory>
-    requires told { AreTold split.now.shares.now.cells.whos.items split.now.shares.now.cells.slots.items split.now.shares.now.y.items split.now.rooms.now answers.old.items }
-    requires whole { IsFullClosed (length answers.old.items) split.now.shares.now.cells.whos.items split.now.shares.now.cells.slots.items split.now.shares.now.y.items split.now.rooms.now to.old }
-    ensures same { length answers.new.items ≡ length answers.old.items }
+    requires told { AreTold split.now.shares.now.cells.whos.items split.now.shares.now.cells.slots.items split.now.shares.now.y.items split.now.rooms.now answers.old }
+    requires whole { IsFullClosed (length answers.old) split.now.shares.now.cells.whos.items split.now.shares.now.cells.slots.items split.now.shares.now.y.items split.now.rooms.now to.old }
+    ensures same { length answers.new ≡ length answers.old }
     ensures places { length to.new ≡ length to.old }
-    ensures told { AreTold split.now.shares.now.cells.whos.items split.now.shares.now.cells.slots.items split.now.shares.now.y.items split.now.rooms.now answers.new.items }
+    ensures told { AreTold split.now.shares.now.cells.whos.items split.now.shares.now.cells.slots.items split.now.shares.now.y.items split.now.rooms.now answers.new }
     ensures taken { IfOk result (λ room. MatchBool room
         (HeldWithRoom split.now.shares.now.cells.whos.items split.now.shares.now.cells.slots.items split.now.shares.now.y.items split.now.rooms.now s)
-        (AreTakenIn (length answers.old.items) split.now.shares.now.cells.whos.items split.now.shares.now.cells.slots.items split.now.shares.now.y.items split.now.rooms.now s to.old to.new)) }
+        (AreTakenIn (length answers.old) split.now.shares.now.cells.whos.items split.now.shares.now.cells.slots.items split.now.shares.now.y.items split.now.rooms.now s to.old to.new)) }
 {
     let Some(h) = holder_of(at, split.shares, s) else {
         return Ok(false);
@@ -153,19 +154,19 @@ pub(crate) fn gather(
     alloc: Global,
     at: &mut Spread,
     split: &Standing,
-    answers: &mut Vec<Option<Answer>>,
+    answers: &mut Told,
     u: usize,
     to: &mut Set,
 ) -> Result<bool, Memory>
-    requires told { AreTold split.now.shares.now.cells.whos.items split.now.shares.now.cells.slots.items split.now.shares.now.y.items split.now.rooms.now answers.old.items }
-    requires place { u < length answers.old.items }
-    requires places { length to.old ≡ length answers.old.items }
-    ensures same { length answers.new.items ≡ length answers.old.items }
+    requires told { AreTold split.now.shares.now.cells.whos.items split.now.shares.now.cells.slots.items split.now.shares.now.y.items split.now.rooms.now answers.old }
+    requires place { u < length answers.old }
+    requires places { length to.old ≡ length answers.old }
+    ensures same { length answers.new ≡ length answers.old }
     ensures places { length to.new ≡ length to.old }
-    ensures told { AreTold split.now.shares.now.cells.whos.items split.now.shares.now.cells.slots.items split.now.shares.now.y.items split.now.rooms.now answers.new.items }
+    ensures told { AreTold split.now.shares.now.cells.whos.items split.now.shares.now.cells.slots.items split.now.shares.now.y.items split.now.rooms.now answers.new }
     ensures led { IfOk result (λ room. MatchBool room
         (LeadsToRoom split.now.shares.now.cells.whos.items split.now.shares.now.cells.slots.items split.now.shares.now.y.items split.now.rooms.now u)
-        (AreLedTo (length answers.old.items) split.now.shares.now.cells.whos.items split.now.shares.now.cells.slots.items split.now.shares.now.y.items split.now.rooms.now u (slice_set to.new u true))) }
+        (AreLedTo (length answers.old) split.now.shares.now.cells.whos.items split.now.shares.now.cells.slots.items split.now.shares.now.y.items split.now.rooms.now u (slice_set to.new u true))) }
 {
     to.clear();
     let mut next = split.shares.cells.by_who.head(u);

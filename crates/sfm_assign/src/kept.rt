@@ -4,7 +4,7 @@
 // where they come to it. The amounts for other demands are found beside those that stand and then put in their place, so that want
 // of memory leaves these as they were. All this is done in memory that is kept with the split and used again, so that none is
 // taken once there is enough.
-ghost use Rattle.std.specs.Prelude.{◌≡◌, ◌↔◌, ℕ, ◌<◌, ◌≤◌, true, false, length, vec_len, slice_set, pos, ◌+ℤ◌, ◌≤ℤ◌, ◌<ℤ◌, IsTrue, IfOk, OnOk, OnErr, MatchResult, MatchBool};
+ghost use Rattle.std.specs.Prelude.{◌≡◌, ◌↔◌, ℕ, ◌<◌, ◌≤◌, true, false, length, slice_set, pos, ◌+ℤ◌, ◌≤ℤ◌, ◌<ℤ◌, IsTrue, IfOk, OnOk, OnErr, MatchResult, MatchBool};
 ghost use Rattle.std.specs.List.{All};
 ghost use Rattle.sfm_spec.specs.Sets.{Has};
 ghost use Rattle.sfm_assign.specs.Splits.{amount_at, CanBeMet, IsAmount, IsCapacity, AreDemands};
@@ -14,7 +14,7 @@ ghost use Rattle.sfm_assign.specs.Lowers.{IsCharge, AreSmall};
 ghost use Rattle.sfm_assign.specs.Ends.{IsAssignEnd};
 ghost use Rattle.sfm_assign.specs.Grown.{IsGrown};
 ghost use Rattle.sfm_assign.specs.Lenders.{IsLender, with_more, IsMostUpto};
-ghost use Rattle.sfm_assign.specs.Spread.{AreAnswers, AreAsking, LeadsToRoom, AreLedTo, answer_at};
+ghost use Rattle.sfm_assign.specs.Spread.{AreAnswers, AreAsking, LeadsToRoom, AreLedTo};
 
 use crate::demand::Demand;
 use crate::gather::{Standing, gather};
@@ -22,7 +22,8 @@ use crate::grown::raise_most;
 use crate::left::{Lefts, left_of};
 use crate::lower::{shift, write_more};
 use crate::splitting::{AssignEnd, Shares, met_shares, settle};
-use crate::spread::{Answer, Spread};
+use crate::spread::Spread;
+use crate::told::Told;
 use crate::work::{Work, copy_list, write_zeros};
 use sfm_base::{Memory, Set};
 use std::alloc::Global;
@@ -36,7 +37,7 @@ pub struct Kept {
     /// What each slot has left.
     rooms: Vec<i128>,
     /// What is told of each demand, as far as it was asked for since the split changed.
-    answers: Vec<Option<Answer>>,
+    answers: Told,
     /// The memory of the searches that tell it.
     search: Spread,
     /// The memory in which the split is changed.
@@ -46,10 +47,10 @@ pub struct Kept {
     counted: bool,
     ghost met: { AreMet demand shares.cells.whos.items shares.cells.slots.items shares.y.items },
     ghost left: { AreLeft demand.capacities shares.cells.slots.items shares.y.items rooms.items },
-    ghost few: { vec_len answers ≤ length demand.demands },
+    ghost few: { length answers ≤ length demand.demands },
     ghost each: { length asking ≡ length demand.demands },
     ghost asked: { IsTrue counted → AreAsking demand.demands asking },
-    ghost known: { AreAnswers (length demand.demands) shares.cells.whos.items shares.cells.slots.items shares.y.items rooms.items answers.items },
+    ghost known: { AreAnswers (length demand.demands) shares.cells.whos.items shares.cells.slots.items shares.y.items rooms.items answers },
 }
 
 /// What the demands of a split are to be, and what its slots are to hold at most.
@@ -89,38 +90,6 @@ fn write_others(set: &Set, u: usize, to: &mut Set)
     to.remove(u);
 }
 
-/// Makes room for what is told of n demands, of which nothing new is told.
-fn make_room(answers: &mut Vec<Option<Answer>>, n: usize) -> Result<(), Memory>
-    requires { vec_len answers.old ≤ n }
-    ensures within { vec_len answers.new ≤ n }
-    ensures same { (u : ℕ) → answer_at answers.new.items u ≡ answer_at answers.old.items u }
-    ensures places { OnOk result (vec_len answers.new ≡ n) }
-{
-    for _ in answers.len()..n {
-        answers.push(None)?;
-    }
-    Ok(())
-}
-
-/// Forgets an answer, and keeps the memory of its set.
-fn forget_one(answer: &mut Option<Answer>, search: &mut Spread)
-    ensures { answer.new ≡ None }
-{
-    if let Some(Answer::Full(set)) = answer.take() {
-        search.put_aside(set);
-    }
-}
-
-/// Forgets what was told, as the split changes.
-fn forget(answers: &mut Vec<Option<Answer>>, search: &mut Spread)
-    ensures same { vec_len answers.new ≡ vec_len answers.old }
-    ensures none { (u : ℕ) → answer_at answers.new.items u ≡ None }
-{
-    for u in 0..answers.len() {
-        forget_one(&mut answers[u], search);
-    }
-}
-
 impl Kept {
     /// Splits each demand over its slots, no slot getting more than its capacity; the demands are taken over.
     ///
@@ -137,7 +106,7 @@ impl Kept {
             demand,
             shares,
             rooms,
-            answers: Vec::new(alloc),
+            answers: Told::new(alloc),
             search: Spread::new(alloc)?,
             work: Work::new(alloc),
             asking,
@@ -157,7 +126,7 @@ impl Kept {
             demand: self.demand.copy(alloc)?,
             shares: self.shares.copy(alloc)?,
             rooms: Vec::from_slice(alloc, &self.rooms)?,
-            answers: Vec::new(alloc),
+            answers: Told::new(alloc),
             search: Spread::new(alloc)?,
             work: Work::new(alloc),
             asking: Set::empty(alloc, self.asking.len())?,
@@ -233,7 +202,7 @@ impl Kept {
         self.demand.copy_from(demands, capacities);
         mem::swap(&mut self.shares.y, &mut self.work.y);
         mem::swap(&mut self.rooms, &mut self.work.left.rooms);
-        forget(&mut self.answers, &mut self.search);
+        self.answers.forget(&mut self.search);
         self.counted = false;
         Ok(())
     }
@@ -308,7 +277,7 @@ impl Kept {
         self.demand.raise(u, more);
         mem::swap(&mut self.shares.y, &mut self.work.y);
         mem::swap(&mut self.rooms, &mut self.work.left.rooms);
-        forget(&mut self.answers, &mut self.search);
+        self.answers.forget(&mut self.search);
         self.counted = false;
         Ok(more)
     }
@@ -352,7 +321,7 @@ impl Kept {
         self.demand.raise(u, more);
         mem::swap(&mut self.shares.y, &mut self.work.y);
         mem::swap(&mut self.rooms, &mut self.work.left.rooms);
-        forget(&mut self.answers, &mut self.search);
+        self.answers.forget(&mut self.search);
         self.counted = false;
         Ok(more)
     }
@@ -373,16 +342,16 @@ impl Kept {
     fn widen(&mut self) -> Result<(), Memory>
         ensures same { self.new.demand ≡ self.old.demand }
         ensures counted { self.new.counted ≡ self.old.counted }
-        ensures places { OnOk result (vec_len self.new.answers ≡ length self.new.demand.demands) }
+        ensures places { OnOk result (length self.new.answers ≡ length self.new.demand.demands) }
     {
         let n = self.demand.demands().len();
-        make_room(&mut self.answers, n)
+        self.answers.widen(n)
     }
 
     /// Gathers what the demand u leads to, but for u itself; tells whether a slot with room is led to.
     fn gather(&mut self, alloc: Global, u: usize, to: &mut Set) -> Result<bool, Memory>
         requires place { u < length self.old.demand.demands }
-        requires places { vec_len self.old.answers ≡ length self.old.demand.demands }
+        requires places { length self.old.answers ≡ length self.old.demand.demands }
         requires room_for_answer { length to.old ≡ length self.old.demand.demands }
         ensures same { self.new.demand ≡ self.old.demand }
         ensures counted { self.new.counted ≡ self.old.counted }

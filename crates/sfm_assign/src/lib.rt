@@ -19,6 +19,7 @@ mod search;
 mod split;
 mod splitting;
 mod spread;
+mod told;
 mod work;
 
 pub use demand::Demand;

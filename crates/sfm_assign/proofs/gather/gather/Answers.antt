@@ -23,7 +23,7 @@ slot c =
 pub loop-next-init : goal.loop-next-init
 loop-next-init c =
     let s = c.args.split.now.shares.now in
-    let n = length c.args.answers.now.items in
+    let n = length c.args.answers.now in
     let rooms = c.args.split.now.rooms.now in
     record {
       same = refl;
@@ -51,7 +51,7 @@ loop-next-preserved c =
     let slots = s.cells.slots.items in
     let y = s.y.items in
     let rooms = c.args.split.now.rooms.now in
-    let n = length c.args.answers.now.items in
+    let n = length c.args.answers.now in
     let e = c.in-Some.e in
     let before = c.loop-next.to in
     let after = c.take_slot.new.to in

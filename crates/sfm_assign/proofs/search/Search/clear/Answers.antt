@@ -1,7 +1,8 @@
 use Rattle.std.proofs.Common.{◌≡◌, ◌<◌, ◌≤◌, length, ap, ◌∙◌, arith}
 use Rattle.std.proofs.lemmas.List.{get_or_read}
 use Rattle.sfm_assign.specs.Cells.{label_at}
-use Rattle.sfm_assign.proofs.Queues.{member_in, cleared_more, cleared_all}
+use Rattle.sfm_assign.proofs.Clearing.{cleared_more, cleared_all}
+use Rattle.sfm_assign.proofs.Queues.{member_in}
 use Rattle.sfm_assign.proofs.search.Search.clear.Goals.{After-index}
 use Rattle.sfm_assign.proofs.search.Search.clear.Goals as goal
 
@@ -21,7 +22,7 @@ next_is c =
 pub index_mut-requires : goal.index_mut-requires
 index_mut-requires c =
     let (is, below) = next_is (goal.at.index_mut-requires c).After-index in
-    let places = c.loop-k.invariant.cleared.places in
+    let places = c.loop-k.invariant.cleared.same in
     let ok = c.loop-k.self.nodes.ok.0 in
     omega (arith, below, is, places, ok)
 
@@ -41,4 +42,4 @@ returns-clause-none c =
     let before = c.args.self.now in
     let then = before.queue.ok.0 in
     let past : length before.queue.items ≤ c.loop-k.k = omega (arith, then) in
-    cleared_all before.nodes.items before.queue.items c.loop-k.self.nodes.items c.loop-k.k past c.requires.queued c.loop-k.invariant.cleared
+    cleared_all before.nodes.items before.queue.items c.loop-k.self.nodes.items c.loop-k.k past (λ i b is. c.requires.queued.queued i (b, is)) c.loop-k.invariant.cleared
