@@ -1,5 +1,5 @@
-use Rattle.std.proofs.Common.{rules, FitsSigned}
-use Rattle.std.proofs.lemmas.Int.{to_z-of_z}
+use Rattle.std.proofs.Common.{rules, arith, FitsSigned}
+use Rattle.std.proofs.lemmas.Int.{ints, to_z-of_z}
 use mir.Syntax.{w128}
 use Rattle.sfm_exchange.specs.Levels.{depth_of}
 use Rattle.sfm_walk.proofs.Advancing.{entries_small}
@@ -79,3 +79,33 @@ returns-clause-advanced g c =
       progress = progress w rest.places rest (low h) fit h.are_bases a most after moved;
       spread = spread w rest.places rest (low h) fit h.are_bases a most after moved;
     }
+
+pub greatest_amount-requires-clause-graph : goal.greatest_amount-requires-clause-graph
+greatest_amount-requires-clause-graph g c = let fq : FitsSigned w128 c.args.q = c.ranges.q in simp to_z-of_z c.requires.graph
+
+pub greatest_amount-requires-clause-run : goal.greatest_amount-requires-clause-run
+greatest_amount-requires-clause-run g c = c.requires.run
+
+pub greatest_amount-requires-clause-walk : goal.greatest_amount-requires-clause-walk
+greatest_amount-requires-clause-walk g c = let fq : FitsSigned w128 c.args.q = c.ranges.q in simp to_z-of_z c.requires.walk
+
+pub move_along-requires-clause-low : goal.move_along-requires-clause-low
+move_along-requires-clause-low g c =
+    let fa : FitsSigned w128 c.in_ok-a.a = search rules in
+    simp to_z-of_z c.in_ok-a.ensures.greatest.some
+
+pub move_along-requires-clause-named : goal.move_along-requires-clause-named
+move_along-requires-clause-named g c = c.requires.walk.named
+
+pub settle-requires-clause-low : goal.settle-requires-clause-low
+settle-requires-clause-low g c = let some = c.in_ok-a.ensures.greatest.some in omega (arith, ints, some)
+
+pub settle-requires-clause-under : goal.settle-requires-clause-under
+settle-requires-clause-under g c =
+    let fa : FitsSigned w128 c.in_ok-a.a = search rules in
+    simp to_z-of_z c.in_ok-a.ensures.greatest.under
+
+pub settle-requires-clause-over : goal.settle-requires-clause-over
+settle-requires-clause-over g c =
+    let fa : FitsSigned w128 c.in_ok-a.a = search rules in
+    simp to_z-of_z c.in_ok-a.ensures.greatest.over

@@ -67,3 +67,21 @@ improve-requires-clause-graph g c =
     let r = c.requires in
     let same : c.deref.result.now ≡ replicate c.args.n c.args.p = search rules in
     rw (same, length-replicate c.args.n c.args.p) (simp to_z-of_z (whole_claimed (record { bounded = r.bounded; factor = r.factor; exact = simp to_z-of_z at c.in_ok-graph.ensures.graph })))
+
+pub graph_at-requires-clause-bases : goal.graph_at-requires-clause-bases
+graph_at-requires-clause-bases g c = c.in_ok-first_bases.ensures.bases
+
+pub graph_at-requires-clause-small : goal.graph_at-requires-clause-small
+graph_at-requires-clause-small g c = c.in_ok-first_bases.ensures.small
+
+pub returns-in_err-z-clause-few : goal.returns-in_err-z-clause-few
+returns-in_err-z-clause-few g c =
+    even g (goal.at.returns-in_err-z-clause-few g c).After-improve (λ n q shift. c.improve.new.steps ≤ c.args.steps.now + few_walks n (length c.args.terms.now)) c.improve.ensures.few
+
+pub returns-clause-bases : goal.returns-clause-bases
+returns-clause-bases g c =
+    let fq : FitsSigned w128 c.args.q = c.ranges.q in
+    simp to_z-of_z at c.in_ok-z.ensures.bases
+
+pub returns-clause-small : goal.returns-clause-small
+returns-clause-small g c = c.in_ok-z.ensures.small
