@@ -1,6 +1,6 @@
 -- The blocks are made one after another, and their members are marked place by place.
-use Rattle.std.proofs.Common.{◌≡◌, ◌↔◌, ◌⊎◌, inl, inr, ⊎_elim, ℕ, ◌+◌, ◌<◌, ◌≤◌, Bool, List, [], ◌∷◌, ◌++◌, length, get_or, refl, sym, ap, ◌∙◌, arith}
-use Rattle.std.proofs.lemmas.Bool.{cases_lt}
+use Rattle.std.proofs.Common.{◌≡◌, ◌↔◌, ◌⊎◌, inl, inr, ⊎_elim, ℕ, ◌+◌, ◌<◌, ◌≤◌, Bool, List, [], ◌∷◌, ◌++◌, length, get_or, set, true, false, refl, sym, ap, ◌∙◌, arith, length-set, get_or-set_same, get_or-set_other}
+use Rattle.std.proofs.lemmas.Bool.{cases_eq, cases_lt}
 use Rattle.std.proofs.lemmas.List.{length_push, get_or_push, get_or_append_left}
 use Rattle.sfm_spec.specs.Sets.{Has}
 use Rattle.sfm_spec.specs.Blocks.{Block, block_at, no_block}
@@ -11,6 +11,31 @@ pub record IsMarked (n m : ℕ) (P : ℕ → Type 0) (s : List Bool) : Type 0 wh
   pub places : length s ≡ n
   pub exact : (e : ℕ) → e < m → Has s e ↔ P e
   pub later : (e : ℕ) → m ≤ e → Has s e → ⊥
+
+-- one place more, of which P holds
+pub marked_put : (n m : ℕ) (P : ℕ → Type 0) (s t : List Bool) → IsMarked n m P s → m < n → P m → t ≡ set s m true → IsMarked n (m + 1) P t
+marked_put n m P s t h lt here is =
+    let k = h.places in
+    let put : Has (set s m true) m = get_or-set_same s m true false (omega (arith, k, lt)) in
+    rw is (record {
+      places = length-set s m true ∙ k;
+      exact = λ e l. ⊎_elim
+          (λ (same : e ≡ m). rw same ((λ _. here), (λ _. put)))
+          (λ ne. let old = h.exact e (omega (arith, l, ne)) in ((λ has. old.0 (sym (get_or-set_other s m e true false ne) ∙ has)), (λ p. get_or-set_other s m e true false ne ∙ old.1 p)))
+          (cases_eq e m);
+      later = λ e l has. h.later e (omega (arith, l)) (sym (get_or-set_other s m e true false (λ same. omega (arith, l, same))) ∙ has);
+    })
+
+-- and one of which it does not
+pub marked_skip : (n m : ℕ) (P : ℕ → Type 0) (s : List Bool) → IsMarked n m P s → (P m → ⊥) → IsMarked n (m + 1) P s
+marked_skip n m P s h none = record {
+  places = h.places;
+  exact = λ e l. ⊎_elim
+      (λ (same : e ≡ m). rw same ((λ has. absurd (h.later m (omega arith) has)), (λ p. absurd (none p))))
+      (λ ne. h.exact e (omega (arith, l, ne)))
+      (cases_eq e m);
+  later = λ e l. h.later e (omega (arith, l));
+}
 
 -- the blocks of the first i first places
 pub record AreGroupedTo (rows : List (List Bool)) (firsts : List ℕ) (i : ℕ) (blocks : List Block) : Type 0 where

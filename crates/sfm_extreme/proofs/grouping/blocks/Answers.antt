@@ -79,3 +79,12 @@ returns-clause-generate g c =
     let low : pos 0 ≤ℤ pos 1 = omega (arith, ints) in
     IfOk-weaker c.grouped.result _ (λ r. Generate ts n (pos 1) (even_shift n (pos 0)) (map block_of r.items)) (λ r (h : AreBlocks ts n (pos 1) (even_shift n (pos 0)) (map block_of r.items)).
     blocks_generate ts n (pos 1) (even_shift n (pos 0)) low fit (map block_of r.items) h) (returns-clause-exact g c)
+
+pub read_at-requires-clause-bases : goal.read_at-requires-clause-bases
+read_at-requires-clause-bases g c = c.requires.bases
+
+pub read_at-requires-clause-small : goal.read_at-requires-clause-small
+read_at-requires-clause-small g c = c.requires.small
+
+pub grouped-requires-clause-inside : goal.grouped-requires-clause-inside
+grouped-requires-clause-inside g c = rw (c.deref-4.ensures.value, c.deref-5.ensures.value) (rw c.deref-3.ensures.value at c.in_ok-firsts.ensures).inside
