@@ -1,4 +1,6 @@
-use Rattle.std.proofs.Common.{◌≡◌, [], refl, ◌∙◌, arith}
+use Rattle.std.proofs.Common.{◌≡◌, [], get_or, false, true, None, refl, ◌∙◌, arith}
+use Rattle.std.proofs.lemmas.Bool.{both_ways}
+use Rattle.std.proofs.lemmas.List.{get_or-replicate}
 use Rattle.std.proofs.lemmas.List.Elements.{All-nil}
 use Rattle.sfm_spec.specs.Sets.{empty_set, whole_set}
 use Rattle.sfm_spec.specs.Families.{meanings}
@@ -6,6 +8,7 @@ use Rattle.sfm_spec.proofs.Lattice.{empty_allowed, whole_allowed}
 use Rattle.sfm_spec.specs.Laws.{ones}
 use Rattle.sfm_exchange.proofs.ClaimedGraphs.{are_terms}
 use Rattle.sfm_slope.specs.Points.{IsInRange}
+use Rattle.sfm_slope.proofs.Gaps.{whole_gap}
 use Rattle.sfm_slope.proofs.Parts.{part_all, part_none}
 use Rattle.sfm_spec.proofs.Ones.{ones-places, ones-sizes}
 use Rattle.sfm_slope.proofs.chain.chain.Goals as goal
@@ -40,4 +43,27 @@ returns-clause-ranges g c =
     elim c.if-n-gt0.branch [
       | then-n-gt0+in_ok-fill w ↦ rw w.found-is w.in_ok-fill.ensures.part.ranges
       | else-n-gt0 w ↦ rw (w.found-is, c.new-found.ensures.items) (All-nil (IsInRange c.args.n))
+    ]
+
+pub fill-requires-clause-before : goal.fill-requires-clause-before
+fill-requires-clause-before g c =
+    let t = g.T.Term in
+    let n = c.args.n in
+    rw (c.in_ok-low.ensures.same, c.in_ok-empty.ensures, c.new-found.ensures.items) (part_none (meanings t.places t.value_of c.args.terms.now) n (ones n))
+
+pub fill-requires-clause-gap : goal.fill-requires-clause-gap
+fill-requires-clause-gap g c =
+    let t = g.T.Term in
+    let n = c.args.n in
+    let ts = meanings t.places t.value_of c.args.terms.now in
+    let fit = are_terms c.requires.search.first g.met.T.Term.family g.met.T.Term.submodular in
+    let some = c.if-n-gt0.true in
+    let apart : empty_set n ≡ whole_set n → ⊥ = λ same. both_ways (get_or (empty_set n) 0 false) (get_or-replicate n 0 false false some) (rw same (get_or-replicate n 0 true false some)) in
+    rw (c.in_ok-low.ensures.same, c.in_ok-empty.ensures, c.in_ok-high.ensures.same, c.in_ok-whole.ensures) (whole_gap ts n (ones n) fit (ones-places n) (ones-sizes n) (empty_set n) (None, refl) apart)
+
+pub returns-clause-search : goal.returns-clause-search
+returns-clause-search g c =
+    elim c.if-n-gt0.branch [
+      | then-n-gt0+in_ok-fill w ↦ rw w.search-is w.in_ok-fill.ensures.search
+      | else-n-gt0 w ↦ rw w.search-is c.requires.search
     ]
