@@ -43,7 +43,9 @@ fn value_at(slope: &Slope, worth: &Worth) -> i128
     requires { IsSmall worth.now }
     ensures { result ≡ (slope.now.den *ℤ worth.now.sum -ℤ slope.now.num *ℤ pos worth.now.size) }
 {
-    slope.den * worth.sum - slope.num * worth.size as i128
+    let values = slope.den * worth.sum;
+    let shift = slope.num * worth.size as i128;
+    values - shift
 }
 
 /// Whether two sets are worth the sum of min(z, 0) at the bases of a slope.

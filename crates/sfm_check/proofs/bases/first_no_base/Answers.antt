@@ -1,4 +1,5 @@
 use Rattle.std.proofs.Common.{◌≡◌, ℕ, ◌+◌, ◌<◌, ◌^◌, List, length, map, get_or, pos, ◌≤ℤ◌, ⊎_elim, refl, sym, ap, ◌∙◌, subst, arith, FitsSigned}
+use Rattle.std.proofs.lemmas.Bool.{cases_lt}
 use Rattle.std.proofs.lemmas.Int.{ints, to_z-of_z}
 use Rattle.std.proofs.lemmas.List.{length-map}
 use mir.Syntax.{w128}
@@ -12,7 +13,7 @@ use Rattle.sfm_cert.specs.Answer.{line_base}
 use Rattle.sfm_cert.specs.Solved.{answer_of, break_of, form_of}
 use Rattle.sfm_check.specs.Truth.{section_at, sections_of, section_of as section_from}
 use Rattle.sfm_check.specs.Verdict.{IsBaseAt}
-use Rattle.sfm_check.specs.Findings.{IsFirstNoBaseIn}
+use Rattle.sfm_check.specs.Findings.{AreBasesIn, IsFirstNoBaseIn}
 use Rattle.sfm_check.proofs.Forming.{IsFormedSection, few_lines, formed_parts, section_in, small_sizes}
 use Rattle.sfm_check.proofs.bases.first_no_base.Goals.{After-section_of-section, In-Some}
 use Rattle.sfm_check.proofs.bases.first_no_base.Goals as goal
@@ -60,6 +61,24 @@ line_of_base-line-requires-clause-slopes c = let lines = few_lines (form_of c.ar
 
 pub line_of_base-line-requires-clause-section : goal.line_of_base-line-requires-clause-section
 line_of_base-line-requires-clause-section c = let lines = few_lines (form_of c.args.instance.now) (answer_of c.args.solved.now) in omega (arith, lines, c.requires.few, c.args.solved.now.breaks.ok.0, c.loop-s-test.true, c.len-s-end.ensures, length-map c.args.solved.now.breaks.items break_of)
+
+pub section_of-section-requires : goal.section_of-section-requires
+section_of-section-requires c = section_in c.args.solved.now.breaks.items (answer_of c.args.solved.now) c.loop-s.s _ refl (c.len-s-end.ensures ∙ c.args.solved.now.breaks.ok.0) c.loop-s-test.true
+
+pub loop-s-preserved : goal.loop-s-preserved
+loop-s-preserved c = λ s i l k.
+    let a = answer_of c.args.solved.now in
+    let ts = c.args.instance.now.terms in
+    let (ls, formed) = section (goal.at.loop-s-preserved c).After-section_of-section in
+    let f = formed.factor in
+    let fd : FitsSigned w128 c.section_of-section.result.den = omega (arith, ints, f) in
+    let raw = rw (c.in_default.is, c.terms-terms.ensures.terms) at c.in_ok-i.ensures in
+    let plain : AreBasesIn (meanings kind_places kind_value ts) c.section_of-section.result.den c.section_of-section.result.bases.now = simp to_z-of_z at raw in
+    let told : AreBasesIn (meanings kind_places kind_value ts) (section_at a c.loop-s.s).den (section_at a c.loop-s.s).bases = rw (c.section_of-section.ensures.den_is, c.section_of-section.ensures.rows_are) plain in
+    ⊎_elim
+    (λ less. c.loop-s.invariant s i less k)
+    (λ ge. let same : c.loop-s.s ≡ s = omega (arith, l, ge) in subst (λ z. IsBaseAt (meanings kind_places kind_value ts) a z i) same (told i k))
+    (cases_lt s c.loop-s.s)
 
 pub returns-in-Some : goal.returns-in-Some
 returns-in-Some c =

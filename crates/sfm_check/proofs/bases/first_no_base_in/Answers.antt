@@ -1,15 +1,28 @@
-use Rattle.std.proofs.Common.{◌≡◌, ℕ, ◌<◌, List, length, ℤ, ⊎_elim, sym, ap, ◌∙◌, subst, arith, FitsSigned}
+use Rattle.std.proofs.Common.{◌≡◌, ℕ, ◌<◌, List, [], length, map, ℤ, ⊎_elim, sym, ap, ◌∙◌, subst, arith, FitsSigned}
 use Rattle.std.proofs.lemmas.Bool.{both_ways, cases_lt}
 use Rattle.std.proofs.lemmas.Int.{to_z-of_z}
+use Rattle.std.proofs.lemmas.List.{length-map}
 use mir.Syntax.{w128}
 use mir.Val.{to_z, of_z}
 use Rattle.sfm_spec.specs.Families.{Meaning, meanings}
 use Rattle.sfm_spec.specs.Terms.{times, IsBase}
 use Rattle.sfm_spec.specs.Walks.{term_at, base_at}
+use Rattle.sfm_kind.specs.declared.kind.Kind.{Kind}
 use Rattle.sfm_kind.specs.Kinds.{kind_places, kind_value}
+use Rattle.sfm_cert.specs.Form.{AreFormedRows}
 use Rattle.sfm_law.proofs.Lists.{length-meanings, meanings-at}
-use Rattle.sfm_check.proofs.Forming.{row_width}
+use Rattle.sfm_check.proofs.Forming.{row_count, row_width}
 use Rattle.sfm_check.proofs.bases.first_no_base_in.Goals as goal
+
+-- there is a row for the term
+row_there : (ts : List Kind) (rows : List (List ℤ)) (i : ℕ) → AreFormedRows (map (λ term. length (kind_places term)) ts) rows → i < length ts → i < length rows
+row_there ts rows i formed l = omega (arith, l, row_count (map (λ term. length (kind_places term)) ts) rows formed, length-map ts (λ term. length (kind_places term)))
+
+pub row-requires : goal.row-requires
+row-requires c = row_there c.args.terms.now c.args.rows.now c.loop-i.i c.requires.rows c.loop-i-test.true
+
+pub is_base-requires-clause-small : goal.is_base-requires-clause-small
+is_base-requires-clause-small c = rw c.row.ensures (c.requires.rows.small c.loop-i.i [] (row_there c.args.terms.now c.args.rows.now c.loop-i.i c.requires.rows c.loop-i-test.true))
 
 pub is_base-requires-clause-entries : goal.is_base-requires-clause-entries
 is_base-requires-clause-entries c =

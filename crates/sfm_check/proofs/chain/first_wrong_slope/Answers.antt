@@ -1,4 +1,4 @@
-use Rattle.std.proofs.Common.{◌≡◌, length, map, ⊎_elim, inl, refl, sym, ap, ◌∙◌, arith, subst}
+use Rattle.std.proofs.Common.{◌≡◌, length, map, ⊎_elim, inl, inr, refl, sym, ap, ◌∙◌, arith, subst}
 use Rattle.std.proofs.lemmas.Bool.{both_ways, cases_lt}
 use Rattle.std.proofs.lemmas.List.{length-map}
 use Rattle.sfm_spec.specs.Sets.{empty_set, size}
@@ -10,9 +10,9 @@ use Rattle.sfm_cert.specs.Answer.{mark_of}
 use Rattle.sfm_cert.specs.Solved.{answer_of, break_of, form_of}
 use Rattle.sfm_check.specs.Before.{members_before}
 use Rattle.sfm_check.specs.Findings.{IsNextSlope, set_before}
-use Rattle.sfm_check.proofs.SlopeFacts.{IsJudged, before_places, before_same, by_next, judged, next_by, whole_by_size}
+use Rattle.sfm_check.proofs.SlopeFacts.{IsJudged, before_places, before_same, by_next, judged, next_by, size_of_whole, whole_by_size}
 use Rattle.sfm_check.proofs.chain.first_wrong_slope.Goals as goal
-use Rattle.sfm_check.proofs.chain.first_wrong_slope.Goals.{After-index-breaks-k}
+use Rattle.sfm_check.proofs.chain.first_wrong_slope.Goals.{After-index-breaks-k, After-size}
 
 -- the slope that is judged
 slope : (c : After-index-breaks-k) → IsJudged (meanings kind_places kind_value c.args.instance.now.terms) (length c.args.instance.now.names) (answer_of c.args.solved.now) c.loop-k.k c.index-breaks-k.result c.index-found-k.result c.before-in-loop-k.result.now
@@ -59,23 +59,48 @@ returns-then-not-is_next c =
       );
     }
 
-pub returns-then-size-n : goal.returns-then-size-n
-returns-then-size-n c =
-    let a = answer_of c.args.solved.now in
+-- as many slopes are gone through as there are, and behind the last one stands its set
+last : (c : After-size) → let marks = map mark_of (answer_of c.args.solved.now).breaks in
+    (length c.as_slice-breaks.result.now ≡ length marks) × (c.before-2.result.now ≡ set_before (empty_set (length c.args.instance.now.names)) marks (length marks))
+last c =
     let n = length c.args.instance.now.names in
     let items = c.args.solved.now.breaks.items in
     let slice = c.as_slice-breaks.ensures.value in
     let few = ap length slice in
     let empty : c.in_ok-empty.empty ≡ empty_set n = c.in_ok-empty.ensures ∙ ap empty_set c.names_len-n.ensures.len in
-    let count : length c.as_slice-breaks.result.now ≡ length (map mark_of a.breaks) = omega (arith, few, length-map items break_of, length-map (map break_of items) mark_of) in
-    let last = length (map mark_of a.breaks) in
-    let is : c.before-2.result.now ≡ set_before (empty_set n) (map mark_of a.breaks) last =
-    c.before-2.ensures ∙ (ap (λ z. members_before c.in_ok-empty.empty z (length c.as_slice-breaks.result.now)) slice ∙ (ap (members_before c.in_ok-empty.empty items) count ∙ before_same n c.in_ok-empty.empty items last empty)) in
-    let places : length (members_before c.in_ok-empty.empty items last) ≡ n = before_places (form_of c.args.instance.now) a items c.in_ok-empty.empty last c.requires.formed refl empty (omega (arith, length-map items break_of, length-map (map break_of items) mark_of)) in
-    let same : c.before-2.result.now ≡ members_before c.in_ok-empty.empty items last = is ∙ sym (before_same n c.in_ok-empty.empty items last empty) in
+    let marks = map mark_of (map break_of items) in
+    let count : length c.as_slice-breaks.result.now ≡ length marks = omega (arith, few, length-map items break_of, length-map (map break_of items) mark_of) in (
+      count,
+      c.before-2.ensures ∙ (ap (λ z. members_before c.in_ok-empty.empty z (length c.as_slice-breaks.result.now)) slice ∙ (ap (members_before c.in_ok-empty.empty items) count ∙ before_same n c.in_ok-empty.empty items (length marks) empty)),
+    )
+
+pub returns-then-size-n : goal.returns-then-size-n
+returns-then-size-n c =
+    let a = answer_of c.args.solved.now in
+    let n = length c.args.instance.now.names in
+    let items = c.args.solved.now.breaks.items in
+    let empty : c.in_ok-empty.empty ≡ empty_set n = c.in_ok-empty.ensures ∙ ap empty_set c.names_len-n.ensures.len in
+    let (count, is) = last (goal.at.returns-then-size-n c).After-size in
+    let behind = length (map mark_of a.breaks) in
+    let places : length (members_before c.in_ok-empty.empty items behind) ≡ n = before_places (form_of c.args.instance.now) a items c.in_ok-empty.empty behind c.requires.formed refl empty (omega (arith, length-map items break_of, length-map (map break_of items) mark_of)) in
+    let same : c.before-2.result.now ≡ members_before c.in_ok-empty.empty items behind = is ∙ sym (before_same n c.in_ok-empty.empty items behind empty) in
     let end = c.loop-k-test.false in
     let full : size c.before-2.result.now ≡ n = sym c.size.ensures ∙ (c.if-size-n.true ∙ c.names_len-n.ensures.len) in
     record {
       each = λ k l. c.loop-k.invariant k (omega (arith, l, end, count));
       ends = sym is ∙ whole_by_size n c.before-2.result.now (ap length same ∙ places) full;
+    }
+
+pub returns : goal.returns
+returns c =
+    let n = length c.args.instance.now.names in
+    let marks = map mark_of (answer_of c.args.solved.now).breaks in
+    let (count, is) = last (goal.at.returns c).After-size in
+    let end = c.loop-k-test.false in
+    record {
+      before = λ j l. c.loop-k.invariant j (omega (arith, l, end));
+      wrong = inr (
+        count,
+        (λ whole. c.if-size-n.false (c.size.ensures ∙ (size_of_whole n c.before-2.result.now (is ∙ (ap (set_before (empty_set n) marks) (sym count) ∙ whole)) ∙ sym c.names_len-n.ensures.len))),
+      );
     }

@@ -44,6 +44,14 @@ returns-then-not-are_same-2 c = λ marks.
     (c.are_same.ensures.0 c.if-not-are_same.false)
     (λ e. both_ways c.are_same-2.result c.if-not-are_same-2.true (c.are_same-2.ensures.1 e))
 
+pub returns-in_err-i : goal.returns-in_err-i
+returns-in_err-i c = rw c.from_residual.ensures (λ marks. record {
+  value = same_value c.args.solved.now.value c.args.found.now.value c.requires.formed.value c.requires.value c.if-solved-found.false;
+  least = c.are_same.ensures.0 c.if-not-are_same.false;
+  greatest = c.are_same-2.ensures.0 c.if-not-are_same-2.false;
+  blocks = rw c.deref.ensures.value at c.in_err-i.ensures;
+})
+
 pub returns : goal.returns
 returns c = λ marks.
     let lines = few_lines (form_of c.args.instance.now) (answer_of c.args.solved.now) in

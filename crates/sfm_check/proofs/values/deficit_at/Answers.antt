@@ -1,6 +1,6 @@
 use Rattle.std.proofs.Common.{◌≡◌, ◌<◌, ◌≤◌, ◌^◌, ℕ, List, [], ◌∷◌, length, map, get_or, replicate, ℤ, pos, ◌≤ℤ◌, sym, ap, ◌∙◌, rules, arith, FitsSigned}
 use Rattle.std.proofs.lemmas.Int.{ints, to_z-of_z}
-use Rattle.std.proofs.lemmas.List.{get_or_default, length-replicate}
+use Rattle.std.proofs.lemmas.List.{get_or_default, length-map, length-replicate}
 use Rattle.sfm_spec.specs.Bounds.{IsEntry}
 use mir.Syntax.{w128}
 use Rattle.sfm_spec.specs.Sets.{magnitudes}
@@ -13,7 +13,7 @@ use Rattle.sfm_law.proofs.Rests.{magnitudes-replicate, rest-total}
 use Rattle.sfm_extreme.proofs.Deficits.{deficit_by_rest}
 use Rattle.sfm_kind.specs.Kinds.{kind_places, kind_value}
 use Rattle.sfm_cert.specs.Form.{AreFormedRows}
-use Rattle.sfm_check.proofs.Forming.{row_width}
+use Rattle.sfm_check.proofs.Forming.{row_count, row_width}
 use Rattle.sfm_check.proofs.values.deficit_at.Goals.{After-deref}
 use Rattle.sfm_check.proofs.values.deficit_at.Goals as goal
 
@@ -40,6 +40,15 @@ entries (t ∷ ts) rows f i l =
     row_width (t ∷ ts) rows i x f l (read i l) ∙ sym (ap (λ (m : Meaning). length m.places) (meanings-at kind_places kind_value (t ∷ ts) i x l (read i l))) where
       read : (i : ℕ) → i < length (t ∷ ts) → get_or (t ∷ ts) i t ≡ get_or (t ∷ ts) i (get_or (t ∷ ts) i t)
       read i l = get_or_default (t ∷ ts) i t (get_or (t ∷ ts) i t) l
+
+pub rest_of-requires-clause-rows : goal.rest_of-requires-clause-rows
+rest_of-requires-clause-rows c = rw c.terms.ensures.terms (row_count (map (λ term. length (kind_places term)) c.args.instance.now.terms) c.args.bases.now c.requires.bases ∙ length-map c.args.instance.now.terms (λ term. length (kind_places term)))
+
+pub rest_of-requires-clause-small : goal.rest_of-requires-clause-small
+rest_of-requires-clause-small c = c.requires.bases.small
+
+pub rest_of-requires-clause-few : goal.rest_of-requires-clause-few
+rest_of-requires-clause-few c = rw c.terms.ensures.terms c.terms.ensures.bounded.few_places
 
 pub rest_of-requires-clause-entries : goal.rest_of-requires-clause-entries
 rest_of-requires-clause-entries c = rw c.terms.ensures.terms (entries c.args.instance.now.terms c.args.bases.now c.requires.bases)

@@ -36,6 +36,12 @@ are_small den num sum size factor entry given few =
       omega (arith, ints, a0, a1, b0, b1, same),
     )
 
+pub overflow_mul-values : goal.overflow_mul-values
+overflow_mul-values c = let (fd, fn, fs, size, first, second, both) = are_small c.args.slope.now.den c.args.slope.now.num c.args.worth.now.sum c.args.worth.now.size c.args.slope.now.factor c.args.slope.now.entry c.requires.sum c.requires.size in simp to_z-of_z first
+
+pub overflow_mul-shift : goal.overflow_mul-shift
+overflow_mul-shift c = let (fd, fn, fs, size, first, second, both) = are_small c.args.slope.now.den c.args.slope.now.num c.args.worth.now.sum c.args.worth.now.size c.args.slope.now.factor c.args.slope.now.entry c.requires.sum c.requires.size in rw size (simp to_z-of_z second)
+
 pub overflow_sub-result : goal.overflow_sub-result
 overflow_sub-result c =
     let (fd, fn, fs, size, first, second, both) = are_small c.args.slope.now.den c.args.slope.now.num c.args.worth.now.sum c.args.worth.now.size c.args.slope.now.factor c.args.slope.now.entry c.requires.sum c.requires.size in

@@ -1,8 +1,10 @@
-use Rattle.std.proofs.Common.{◌≡◌, ◌+◌, ◌+ℤ◌, ◌∙◌, length, Some, sym, FitsSigned, rules, arith}
+use Rattle.std.proofs.Common.{◌≡◌, ◌+◌, ◌+ℤ◌, ◌∙◌, length, take, Some, sym, ap, subst, FitsSigned, rules, arith}
 use Rattle.std.proofs.lemmas.Int.{ints, to_z-of_z}
+use Rattle.std.proofs.lemmas.List.{length-map, take_all}
 use mir.Syntax.{w128}
 use mir.Val.{to_z}
 use Rattle.sfm_spec.specs.Sets.{IsPlaced, part}
+use Rattle.sfm_spec.specs.Families.{IsAllowed, meanings, sum_at}
 use Rattle.sfm_kind.specs.Kinds.{kind_places, kind_value}
 use Rattle.sfm_law.proofs.Lists.{all-at}
 use Rattle.sfm_check.proofs.Sums.{IsSumOfFirst, first_given, first_more}
@@ -37,3 +39,13 @@ loop-term-preserved c =
     let fv : FitsSigned w128 c.in-Some.value = search rules in
     let fs : FitsSigned w128 (to_z w128 c.loop-term.sum-bits +ℤ c.in-Some.value) = omega (arith, ints, given.low, given.high) in
     simp to_z-of_z more
+
+pub value-requires : goal.value-requires
+value-requires c = ap length c.in_ok-part.ensures ∙ (length-map c.elements.result.now _ ∙ ap length c.elements.ensures)
+
+pub returns : goal.returns
+returns c =
+    let ts = c.args.terms.now in
+    let h = c.loop-term.invariant in
+    let all : take c.loop-term.term-index ts ≡ ts = take_all c.loop-term.term-index ts c.loop-term-test.false in
+    (subst (λ z. IsAllowed (meanings kind_places kind_value z) c.args.set.now) all h.allowed, h.sum ∙ ap (λ z. sum_at (meanings kind_places kind_value z) c.args.set.now) all)
