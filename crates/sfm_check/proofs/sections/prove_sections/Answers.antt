@@ -8,7 +8,7 @@ use Rattle.sfm_extreme.specs.Blocks.{block_of}
 use Rattle.sfm_law.proofs.Lists.{length-meanings}
 use Rattle.sfm_cert.specs.Answer.{line_at}
 use Rattle.sfm_cert.specs.Solved.{answer_of, break_of, form_of}
-use Rattle.sfm_check.specs.Truth.{section_at, IsProvedSection}
+use Rattle.sfm_check.specs.Truth.{section_at, section_of, sections_of, IsProvedSection}
 use Rattle.sfm_check.specs.Findings.{IsToldOf}
 use Rattle.sfm_check.proofs.Forming.{few_lines, section_in}
 use Rattle.sfm_check.proofs.sections.prove_sections.Goals as goal
@@ -75,3 +75,13 @@ loop-s-preserved c =
           subst (λ (z : Proved). IsToldOf ms n (section_at a s) z) (sym same) (subst (λ k. IsToldOf ms n (section_at a k) found) at there))
           (cases_lt s c.loop-s.s)),
     )
+
+pub returns : goal.returns
+returns c =
+    let a = answer_of c.args.solved.now in
+    let items = c.args.solved.now.breaks.items in
+    let breaks = c.args.solved.now.breaks.ok.0 in
+    let end = c.loop-s-test.false in
+    let upto = c.loop-s.auto.s-end in
+    let all : c.loop-s.s ≡ length (sections_of a) = omega (arith, end, upto, breaks, c.len-s-end.ensures, length-map a.breaks section_of, length-map items break_of) in
+    record { count = c.loop-s.invariant.0 ∙ all; each = λ s d l. c.loop-s.invariant.1 s d (omega (arith, l, all)) }

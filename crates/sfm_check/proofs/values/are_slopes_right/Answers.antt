@@ -29,6 +29,13 @@ attain-requires-clause-formed c = formed (goal.at.attain-requires-clause-formed 
 pub worth_of-requires-in-loop-k : goal.worth_of-requires-in-loop-k
 worth_of-requires-in-loop-k c = (formed (goal.at.worth_of-requires-in-loop-k c).After-index-found).members.places
 
+pub loop-k-init : goal.loop-k-init
+loop-k-init c =
+    let ms = meanings kind_places kind_value c.args.instance.now.terms in
+    let empty : c.in_ok-empty.empty ≡ empty_set (length c.args.instance.now.names) = c.in_ok-empty.ensures ∙ ap empty_set c.names_len-n.ensures.len in
+    let worth : IsWorth ms c.in_ok-empty.empty c.in-Some.before = rw c.in-Some.is at c.in_ok-before.ensures.worth in
+    (subst (λ s. IsWorth ms s c.in-Some.before) empty worth, rw c.in-Some.is at c.in_ok-before.ensures.small, λ j l. absurd (omega (arith, l)))
+
 pub loop-k-preserved : goal.loop-k-preserved
 loop-k-preserved c =
     let solved = c.args.solved.now in
