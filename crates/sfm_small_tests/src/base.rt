@@ -1,5 +1,5 @@
 // Each call once with ample memory, and the reader of numbers on the texts at the edges of its grammar and its bound.
-use sfm_base::{Memory, Numbers, Page, Places, Rows, Set, Slope, Steps, read_number};
+use sfm_base::{Memory, Numbers, Page, Places, Rows, Set, Slope, read_number};
 use std::alloc::Global;
 use std::cmp::Ordering;
 use std::process::Abort;
@@ -85,15 +85,23 @@ fn without_first(rt: &impl Abort, alloc: Global, set: &Set) -> Result<Set, Memor
     Ok(other)
 }
 
+/// Whether a set of two places has the first, which another lacks, and all of that one's.
+fn has_first_beside(some: &Set, other: &Set) -> bool {
+    some.size() == 2
+        && other.size() == 1
+        && has(some, 0)
+        && !has(other, 0)
+        && is_part(other, some)
+        && !is_part(some, other)
+}
+
 const ENDS: [usize; 2] = [0, 2];
 
 #[test]
 fn sets_hold_their_places(rt: HostRuntime) -> Result<(), Fail> {
     let some = set_of(&rt, rt.alloc(), 3, &ENDS)?;
     let other = without_first(&rt, rt.alloc(), &some)?;
-    assert!(rt; some.size() == 2 && other.size() == 1);
-    assert!(rt; has(&some, 0) && !has(&other, 0));
-    assert!(rt; is_part(&other, &some) && !is_part(&some, &other));
+    assert!(rt; has_first_beside(&some, &other));
     Ok(())
 }
 
@@ -112,6 +120,14 @@ fn meets(rt: &impl Abort, low: &mut Set, high: &Set) {
     assert!(rt; low.size() == 1 && has(low, 1));
 }
 
+/// Asserts what the first set has once it is joined with the second, then meets it, and then is cleared.
+fn joins_and_meets(rt: &impl Abort, low: &mut Set, high: &Set) {
+    joins(rt, low, high);
+    meets(rt, low, high);
+    low.clear();
+    assert!(rt; low.size() == 0);
+}
+
 const LOW: [usize; 2] = [0, 1];
 
 const HIGH: [usize; 2] = [1, 2];
@@ -120,10 +136,7 @@ const HIGH: [usize; 2] = [1, 2];
 fn sets_join_and_meet(rt: HostRuntime) -> Result<(), Fail> {
     let mut low = set_of(&rt, rt.alloc(), 3, &LOW)?;
     let high = set_of(&rt, rt.alloc(), 3, &HIGH)?;
-    joins(&rt, &mut low, &high);
-    meets(&rt, &mut low, &high);
-    low.clear();
-    assert!(rt; low.size() == 0);
+    joins_and_meets(&rt, &mut low, &high);
     Ok(())
 }
 
@@ -235,14 +248,6 @@ fn rows_keep_their_numbers(rt: HostRuntime) -> Result<(), Fail> {
     write_first(&rt, &mut rows);
     assert!(rt; is_only_row(&rows, &WRITTEN_AGAIN));
     Ok(())
-}
-
-#[test]
-fn steps_are_counted(rt: HostRuntime) {
-    let mut steps = Steps::new();
-    steps.tick();
-    steps.tick();
-    assert!(rt; steps.count() == 2);
 }
 
 /// A page with two texts, one behind the other.

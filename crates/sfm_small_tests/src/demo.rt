@@ -50,7 +50,12 @@ const LINES: [&[u8]; 12] = [
 
 /// Whether a part stands in a text.
 fn stands_in(part: &[u8], text: &[u8]) -> bool {
-    !part.is_empty() && text.windows(part.len()).any(|other| other == part)
+    for start in 0..text.len() {
+        if text[start..].starts_with(part) {
+            return true;
+        }
+    }
+    false
 }
 
 #[test]
