@@ -86,6 +86,15 @@ fn pushed(alloc: Global, demand: Demand, amount: i128, list: &[usize]) -> Result
     Ok(demand)
 }
 
+/// Amounts and one more.
+fn with_amount(amounts: Vec<i128>, amount: i128) -> Result<Vec<i128>, Memory>
+    ensures { IfOk result (λ r. r.items ≡ amounts.items ++ amount ∷ []) }
+{
+    let mut amounts = amounts;
+    amounts.push(amount)?;
+    Ok(amounts)
+}
+
 /// These demands and one more.
 fn asked_more(
     rt: &impl Abort,
@@ -95,17 +104,10 @@ fn asked_more(
     list: &[usize],
 ) -> Result<Asked, Memory> {
     assert!(rt; may_ask(&asked.amounts, asked.slots, amount, list));
-    let Asked {
-        demand,
-        mut amounts,
-        slots,
-    } = asked;
-    let demand = pushed(alloc, demand, amount, list)?;
-    amounts.push(amount)?;
     Ok(Asked {
-        demand,
-        amounts,
-        slots,
+        demand: pushed(alloc, asked.demand, amount, list)?,
+        amounts: with_amount(asked.amounts, amount)?,
+        slots: asked.slots,
     })
 }
 
@@ -117,30 +119,6 @@ fn asked_of(rt: &impl Abort, alloc: Global, asking: &Asking) -> Result<Asked, Me
     }
     Ok(asked)
 }
-
-/// Capacities of two slots.
-const TWO: &[i128] = &[3, 2];
-
-/// The capacity of one slot.
-const ONE: &[i128] = &[3];
-
-/// Demands, and the amounts of each.
-const SPLITS: [(Asking, &[&[i128]]); 2] = [
-    (
-        Asking {
-            capacities: TWO,
-            demands: &[(2, &[0, 1]), (2, &[0]), (1, &[0])],
-        },
-        &[&[0, 2], &[2], &[1]],
-    ),
-    (
-        Asking {
-            capacities: ONE,
-            demands: &[(2, &[0]), (1, &[0])],
-        },
-        &[&[2], &[1]],
-    ),
-];
 
 /// Whether the demands have these amounts.
 fn has_rows(split: &Split, rows: &[&[i128]]) -> bool {
@@ -169,32 +147,6 @@ fn has_split(
     }
     Ok(())
 }
-
-#[test]
-fn splits(rt: HostRuntime) -> Result<(), Fail> {
-    for row in &SPLITS {
-        has_split(&rt, rt.alloc(), &row.0, row.1)?;
-    }
-    Ok(())
-}
-
-/// Demands that ask for too much, and those that each set which does has.
-const SHORTAGES: [(Asking, &[usize]); 2] = [
-    (
-        Asking {
-            capacities: TWO,
-            demands: &[(1, &[0, 1]), (2, &[0]), (2, &[0])],
-        },
-        &[1, 2],
-    ),
-    (
-        Asking {
-            capacities: ONE,
-            demands: &[(2, &[0]), (2, &[0])],
-        },
-        &[0, 1],
-    ),
-];
 
 /// Whether a set of so many has each of these.
 fn has_all(set: &Set, n: usize, members: &[usize]) -> bool {
@@ -236,34 +188,6 @@ fn has_shortage(
     Ok(())
 }
 
-#[test]
-fn shortages(rt: HostRuntime) -> Result<(), Fail> {
-    for row in &SHORTAGES {
-        has_shortage(&rt, rt.alloc(), &row.0, row.1)?;
-    }
-    Ok(())
-}
-
-/// Demands, one of them that asks for nothing, and the most that this one can get.
-const MOSTS: [(Asking, usize, i128); 2] = [
-    (
-        Asking {
-            capacities: TWO,
-            demands: &[(0, &[0, 1]), (2, &[0]), (1, &[0])],
-        },
-        0,
-        2,
-    ),
-    (
-        Asking {
-            capacities: ONE,
-            demands: &[(2, &[0]), (0, &[0])],
-        },
-        1,
-        1,
-    ),
-];
-
 /// The most of a demand that asks for nothing, if the others can be met.
 fn most_of(alloc: Global, demand: &Demand, u: usize) -> Result<Option<i128>, Memory>
     requires place { u < length demand.now.demands }
@@ -298,14 +222,6 @@ fn has_most(
     let asked = asked_of(rt, alloc, asking)?;
     let found = most_asked(rt, alloc, &asked, u)?;
     assert!(rt; found == Some(wanted));
-    Ok(())
-}
-
-#[test]
-fn most_of_one(rt: HostRuntime) -> Result<(), Fail> {
-    for row in &MOSTS {
-        has_most(&rt, rt.alloc(), &row.0, row.1, row.2)?;
-    }
     Ok(())
 }
 
@@ -357,10 +273,8 @@ fn copied(alloc: Global, held: &Held) -> Result<Held, Memory> {
 enum Step {
     /// Those that can lend to a demand.
     Reach(usize, &'static [usize]),
-    /// Other amounts and capacities, which can be split.
-    Bring(&'static [i128], &'static [i128]),
-    /// Other amounts and capacities, which can't: each set that asks for too much has these.
-    Lack(&'static [i128], &'static [i128], &'static [usize]),
+    /// Other amounts and capacities, and, where these can't be split, what each set that asks for too much has.
+    Bring(&'static [i128], &'static [i128], &'static [usize]),
     /// A demand that is raised up to so much, and by how much.
     Grow(usize, i128, i128),
 }
@@ -411,11 +325,19 @@ fn bring(
     Ok(())
 }
 
-/// Whether a split can't be brought to so many demands: each set that asks for too much has these.
-fn is_lack(found: &Result<(), AssignEnd>, n: usize, members: &[usize]) -> bool {
-    match found {
-        Ok(()) => false,
-        Err(end) => is_shortage(end, n, members),
+/// Whether a split is brought to other amounts and capacities, or, where some demands lack, each set that asks for too much has
+/// these.
+fn brings(
+    rt: &impl Abort,
+    alloc: Global,
+    held: &mut Held,
+    amounts: &[i128],
+    capacities: &[i128],
+    lacking: &[usize],
+) -> bool {
+    match bring(rt, alloc, held, amounts, capacities) {
+        Ok(()) => lacking.is_empty(),
+        Err(end) => !lacking.is_empty() && is_shortage(&end, amounts.len(), lacking),
     }
 }
 
@@ -439,18 +361,27 @@ fn grow(
     Ok(more)
 }
 
+/// Whether a demand is raised by so much.
+fn grows(
+    rt: &impl Abort,
+    alloc: Global,
+    held: &mut Held,
+    u: usize,
+    limit: i128,
+    more: i128,
+) -> Result<bool, Memory> {
+    let found = grow(rt, alloc, held, u, limit)?;
+    Ok(found == more)
+}
+
 /// Takes a step, and says whether it answers what it is to answer.
 fn answers(rt: &impl Abort, alloc: Global, held: &mut Held, step: Step) -> Result<bool, Memory> {
     match step {
         Step::Reach(u, lenders) => reaches(rt, alloc, held, u, lenders),
-        Step::Bring(amounts, capacities) => {
-            Ok(bring(rt, alloc, held, amounts, capacities).is_ok())
+        Step::Bring(amounts, capacities, lacking) => {
+            Ok(brings(rt, alloc, held, amounts, capacities, lacking))
         }
-        Step::Lack(amounts, capacities, members) => {
-            let found = bring(rt, alloc, held, amounts, capacities);
-            Ok(is_lack(&found, amounts.len(), members))
-        }
-        Step::Grow(u, limit, more) => Ok(grow(rt, alloc, held, u, limit)? == more),
+        Step::Grow(u, limit, more) => grows(rt, alloc, held, u, limit, more),
     }
 }
 
@@ -462,6 +393,36 @@ fn take_all(rt: &impl Abort, alloc: Global, held: &mut Held, steps: &[Step]) -> 
     }
     Ok(())
 }
+
+/// Takes steps with the split of the demands of a row.
+fn take_with(
+    rt: &impl Abort,
+    alloc: Global,
+    asking: &Asking,
+    steps: &[Step],
+) -> Result<(), Memory> {
+    let mut held = held_of(rt, alloc, asking)?;
+    take_all(rt, alloc, &mut held, steps)
+}
+
+/// What demands answer.
+#[derive(Clone, Copy)]
+enum Wanted {
+    /// The amounts of each, once they are split.
+    Split(&'static [&'static [i128]]),
+    /// They ask for too much: what each set that does has.
+    Shortage(&'static [usize]),
+    /// A demand that asks for nothing, and the most that it can get.
+    Most(usize, i128),
+    /// Steps with their split, which is kept.
+    Steps(&'static [Step]),
+}
+
+/// Capacities of two slots.
+const TWO: &[i128] = &[3, 2];
+
+/// The capacity of one slot.
+const ONE: &[i128] = &[3];
 
 /// Four demands, the last two of 1, over three slots that hold 1 each: the third shares a slot with the second alone, and the
 /// last shares with none.
@@ -482,95 +443,142 @@ const RING: Asking = Asking {
     demands: &[(1, &[0, 1]), (1, &[1, 0])],
 };
 
-/// Demands, and steps with their split.
-const KEPT: [(Asking, &[Step]); 9] = [
+/// Demands, and what they answer.
+const ROWS: [(Asking, Wanted); 15] = [
+    (
+        Asking {
+            capacities: TWO,
+            demands: &[(2, &[0, 1]), (2, &[0]), (1, &[0])],
+        },
+        Wanted::Split(&[&[0, 2], &[2], &[1]]),
+    ),
     (
         Asking {
             capacities: ONE,
             demands: &[(2, &[0]), (1, &[0])],
         },
-        &[Step::Reach(1, &[0])],
+        Wanted::Split(&[&[2], &[1]]),
+    ),
+    (
+        Asking {
+            capacities: TWO,
+            demands: &[(1, &[0, 1]), (2, &[0]), (2, &[0])],
+        },
+        Wanted::Shortage(&[1, 2]),
     ),
     (
         Asking {
             capacities: ONE,
-            demands: &[(3, &[0]), (0, &[0])],
+            demands: &[(2, &[0]), (2, &[0])],
         },
-        &[Step::Reach(0, &[])],
+        Wanted::Shortage(&[0, 1]),
     ),
     (
         Asking {
-            capacities: ONE,
-            demands: &[(1, &[0]), (1, &[0])],
+            capacities: TWO,
+            demands: &[(0, &[0, 1]), (2, &[0]), (1, &[0])],
         },
-        &[
-            Step::Reach(0, &[1]),
-            Step::Grow(0, 5, 1),
-            Step::Reach(0, &[1]),
-        ],
+        Wanted::Most(0, 2),
     ),
     (
         Asking {
             capacities: ONE,
             demands: &[(2, &[0]), (0, &[0])],
         },
-        &[Step::Reach(0, &[]), Step::Reach(1, &[0])],
+        Wanted::Most(1, 1),
+    ),
+    (
+        Asking {
+            capacities: ONE,
+            demands: &[(2, &[0]), (1, &[0])],
+        },
+        Wanted::Steps(&[Step::Reach(1, &[0])]),
+    ),
+    (
+        Asking {
+            capacities: ONE,
+            demands: &[(3, &[0]), (0, &[0])],
+        },
+        Wanted::Steps(&[Step::Reach(0, &[])]),
+    ),
+    (
+        Asking {
+            capacities: ONE,
+            demands: &[(1, &[0]), (1, &[0])],
+        },
+        Wanted::Steps(&[
+            Step::Reach(0, &[1]),
+            Step::Grow(0, 5, 1),
+            Step::Reach(0, &[1]),
+        ]),
+    ),
+    (
+        Asking {
+            capacities: ONE,
+            demands: &[(2, &[0]), (0, &[0])],
+        },
+        Wanted::Steps(&[Step::Reach(0, &[]), Step::Reach(1, &[0])]),
     ),
     (
         IN_A_ROW,
-        &[
+        Wanted::Steps(&[
             Step::Reach(0, &[1, 2]),
             Step::Reach(2, &[]),
             Step::Reach(1, &[2]),
             Step::Reach(0, &[1, 2]),
-        ],
+        ]),
     ),
-    (RING, &[Step::Reach(0, &[1]), Step::Reach(1, &[0])]),
+    (
+        RING,
+        Wanted::Steps(&[Step::Reach(0, &[1]), Step::Reach(1, &[0])]),
+    ),
     (
         IN_A_ROW,
-        &[
+        Wanted::Steps(&[
             Step::Reach(0, &[1, 2]),
-            Step::Bring(&[1, 0, 1, 1], &[1, 1, 1]),
+            Step::Bring(&[1, 0, 1, 1], &[1, 1, 1], &[]),
             Step::Reach(0, &[]),
             Step::Reach(1, &[0, 2]),
-        ],
+        ]),
     ),
-    (HALF_A_ROW, &[Step::Grow(1, 5, 1), Step::Grow(0, 5, 0)]),
+    (
+        HALF_A_ROW,
+        Wanted::Steps(&[Step::Grow(1, 5, 1), Step::Grow(0, 5, 0)]),
+    ),
     (
         Asking {
             capacities: TWO,
             demands: &[(1, &[0, 1]), (1, &[0]), (0, &[0])],
         },
-        &[Step::Grow(0, 2, 2), Step::Grow(2, 2, 1)],
+        Wanted::Steps(&[Step::Grow(0, 2, 2), Step::Grow(2, 2, 1)]),
     ),
 ];
 
-/// Takes steps with the split of the demands of a row.
-fn take_with(
-    rt: &impl Abort,
-    alloc: Global,
-    asking: &Asking,
-    steps: &[Step],
-) -> Result<(), Memory> {
-    let mut held = held_of(rt, alloc, asking)?;
-    take_all(rt, alloc, &mut held, steps)
+/// Asserts what demands answer.
+fn is_met(rt: &impl Abort, alloc: Global, asking: &Asking, wanted: Wanted) -> Result<(), Memory> {
+    match wanted {
+        Wanted::Split(rows) => has_split(rt, alloc, asking, rows),
+        Wanted::Shortage(members) => has_shortage(rt, alloc, asking, members),
+        Wanted::Most(u, most) => has_most(rt, alloc, asking, u, most),
+        Wanted::Steps(steps) => take_with(rt, alloc, asking, steps),
+    }
 }
 
 #[test]
-fn splits_that_are_kept(rt: HostRuntime) -> Result<(), Fail> {
-    for row in &KEPT {
-        take_with(&rt, rt.alloc(), &row.0, row.1)?;
+fn demands_are_split(rt: HostRuntime) -> Result<(), Fail> {
+    for row in &ROWS {
+        is_met(&rt, rt.alloc(), &row.0, row.1)?;
     }
     Ok(())
 }
 
 /// Steps with a copy of the split in a row.
 const WITH_A_COPY: [Step; 6] = [
-    Step::Bring(&[1, 0, 1, 1], &[1, 1, 1]),
+    Step::Bring(&[1, 0, 1, 1], &[1, 1, 1], &[]),
     Step::Reach(1, &[0, 2]),
-    Step::Bring(&[0, 3, 0, 0], &[2, 1, 0]),
+    Step::Bring(&[0, 3, 0, 0], &[2, 1, 0], &[]),
     Step::Reach(2, &[1]),
-    Step::Bring(&[0, 1, 1, 1], &[1, 1, 1]),
+    Step::Bring(&[0, 1, 1, 1], &[1, 1, 1], &[]),
     Step::Reach(0, &[1, 2]),
 ];
 
@@ -579,7 +587,7 @@ const AFTER_A_COPY: [Step; 1] = [Step::Reach(0, &[1, 2])];
 
 /// Further steps with the copy.
 const TOO_MUCH: [Step; 2] = [
-    Step::Lack(&[1, 1, 1, 0], &[1, 1, 1], &[0, 1, 2]),
+    Step::Bring(&[1, 1, 1, 0], &[1, 1, 1], &[0, 1, 2]),
     Step::Reach(0, &[1, 2]),
 ];
 

@@ -87,33 +87,85 @@ fn has_ranks(rt: &impl Abort, alloc: Global, kind: &Kind, ranks: &[i128]) -> Res
     Ok(())
 }
 
+/// What a line tells.
+#[derive(Clone, Copy)]
+enum Word {
+    Places,
+    Size,
+    Values,
+    Ranks,
+    Factor,
+    Start,
+    Not,
+    Base,
+    Room,
+    Reach,
+}
+
+/// The words of lines.
+const WORDS: [(&str, Word); 10] = [
+    ("places", Word::Places),
+    ("size", Word::Size),
+    ("values", Word::Values),
+    ("ranks", Word::Ranks),
+    ("factor", Word::Factor),
+    ("start", Word::Start),
+    ("not", Word::Not),
+    ("base", Word::Base),
+    ("room", Word::Room),
+    ("reach", Word::Reach),
+];
+
+/// The word with that text.
+fn word_of(rt: &impl Abort, text: &str) -> Word {
+    for (word, told) in &WORDS {
+        if *word == text {
+            return *told;
+        }
+    }
+    panic!(rt; "no word: {text}")
+}
+
+/// Asserts what a word and numbers tell of the bases of a term at a factor.
+fn has_base_told(
+    rt: &impl Abort,
+    alloc: Global,
+    kind: &Kind,
+    at: At,
+    word: Word,
+) -> Result<(), Memory> {
+    match word {
+        Word::Start => starts(rt, alloc, kind, at),
+        Word::Not => has_base(rt, alloc, kind, at, false),
+        Word::Base => has_base(rt, alloc, kind, at, true),
+        _ => Ok(()),
+    }
+}
+
 /// Asserts what a word and numbers tell of a term at a factor and a vector.
 fn has_told(
     rt: &impl Abort,
     alloc: Global,
     kind: &Kind,
     at: At,
-    word: &str,
+    word: Word,
     numbers: &[i128],
 ) -> Result<(), Memory> {
-    let beside = At {
-        q: at.q,
-        x: numbers,
-    };
     match word {
-        "places" => has_places(rt, kind, numbers),
-        "size" => has_size(rt, kind, numbers),
-        "values" => has_values(rt, alloc, kind, numbers)?,
-        "ranks" => has_ranks(rt, alloc, kind, numbers)?,
-        "start" => starts(rt, alloc, kind, beside)?,
-        "not" => has_base(rt, alloc, kind, beside, false)?,
-        "base" => has_base(rt, alloc, kind, beside, true)?,
-        "room" => has_room(rt, alloc, kind, at, numbers)?,
-        "reach" => has_reach(rt, alloc, kind, at, numbers)?,
-        "factor" => {}
-        _ => panic!(rt; "no word: {word}"),
+        Word::Places => has_places(rt, kind, numbers),
+        Word::Size => has_size(rt, kind, numbers),
+        Word::Values => has_values(rt, alloc, kind, numbers),
+        Word::Ranks => has_ranks(rt, alloc, kind, numbers),
+        Word::Room => has_room(rt, alloc, kind, at, numbers),
+        Word::Reach => has_reach(rt, alloc, kind, at, numbers),
+        _ => {
+            let beside = At {
+                q: at.q,
+                x: numbers,
+            };
+            has_base_told(rt, alloc, kind, beside, word)
+        }
     }
-    Ok(())
 }
 
 /// The word of a line, and what stands behind it.
@@ -122,13 +174,13 @@ fn words_of(line: &str) -> (&str, &str) {
 }
 
 /// What is told behind a line with these numbers.
-fn told_after(told: Told, word: &str, numbers: Vec<i128>) -> Told {
+fn told_after(told: Told, word: Word, numbers: Vec<i128>) -> Told {
     match word {
-        "base" => Told {
+        Word::Base => Told {
             q: told.q,
             x: numbers,
         },
-        "factor" => Told {
+        Word::Factor => Told {
             q: numbers.first().copied().unwrap_or(0),
             x: told.x,
         },
@@ -144,7 +196,8 @@ fn has_fact(
     told: Told,
     line: &str,
 ) -> Result<Told, Memory> {
-    let (word, rest) = words_of(line);
+    let (text, rest) = words_of(line);
+    let word = word_of(rt, text);
     let numbers = numbers_of(rt, alloc, rest)?;
     let at = At {
         q: told.q,

@@ -47,10 +47,11 @@ pub(crate) const TERMS: [(&str, &str); 4] = [
     ("rank 3 graphic : a=u-v b=v-u", ONE_OF_TWO),
 ];
 
-/// Three edges by their ends, and what a term answers that is worth 5 for each of their rank: a loop, and two edges side by side;
-/// and the edges of a path, one of them at the greatest number of a vertex.
-const THREE_EDGES: [(&[(u32, u32)], &str); 2] = [
+/// What a term is worth for each of the rank, its edges by their ends, and what it answers: a loop, and two edges side by side; the
+/// edges of a path, one of them at the greatest number of a vertex; and a loop and three edges, of which two stand side by side.
+const EDGES: [(i128, &[(u32, u32)], &str); 3] = [
     (
+        5,
         &[(7, 7), (3, 9), (9, 3)],
         "size 5
         ranks 0 0 1 1 1 1 1 1
@@ -59,6 +60,7 @@ const THREE_EDGES: [(&[(u32, u32)], &str); 2] = [
         start 0 10 0",
     ),
     (
+        5,
         &[(16_777_215, 0), (0, 5), (6, 5)],
         "size 15
         ranks 0 1 1 2 1 2 2 3
@@ -66,55 +68,56 @@ const THREE_EDGES: [(&[(u32, u32)], &str); 2] = [
         factor 2
         start 10 10 10",
     ),
+    (
+        2,
+        &[(7, 7), (3, 9), (9, 3), (9, 5)],
+        "size 4
+        start 0 2 0 2
+        not 0 2 1 1
+        not 1 1 0 2
+        base 0 1 1 2
+        room 1 2 1
+        room 1 3 0
+        room 0 1 0
+        room 3 1 0
+        reach 0 0
+        reach 1 4
+        reach 2 2
+        reach 3 0",
+    ),
 ];
 
-/// The term of three such edges.
-fn three_edges(rt: &impl Abort, alloc: Global, ends: &[(u32, u32)]) -> Result<Graphic, Memory> {
-    assert!(rt; ends.len() == 3);
-    Graphic::new(alloc, &[0, 1, 2], 5, ends)
+/// The term of three or four edges of the first elements.
+fn graph_of(
+    rt: &impl Abort,
+    alloc: Global,
+    w: i128,
+    ends: &[(u32, u32)],
+) -> Result<Graphic, Memory> {
+    assert!(rt; 0 <= w && w <= 5);
+    if ends.len() == 3 {
+        return Graphic::new(alloc, &[0, 1, 2], w, ends);
+    }
+    assert!(rt; ends.len() == 4);
+    Graphic::new(alloc, &[0, 1, 2, 3], w, ends)
 }
 
-/// Asserts what a row tells.
-fn has_edges(rt: &impl Abort, alloc: Global, row: &(&[(u32, u32)], &str)) -> Result<(), Memory> {
-    let kind = Kind::Graphic(three_edges(rt, alloc, row.0)?);
-    has_facts(rt, alloc, &kind, row.1)
+/// Asserts what a term of such edges answers.
+fn has_edges(
+    rt: &impl Abort,
+    alloc: Global,
+    w: i128,
+    ends: &[(u32, u32)],
+    lines: &str,
+) -> Result<(), Memory> {
+    let kind = Kind::Graphic(graph_of(rt, alloc, w, ends)?);
+    has_facts(rt, alloc, &kind, lines)
 }
 
 #[test]
 fn edges_by_their_ends(rt: HostRuntime) -> Result<(), Fail> {
-    for row in &THREE_EDGES {
-        has_edges(&rt, rt.alloc(), row)?;
+    for (w, ends, lines) in &EDGES {
+        has_edges(&rt, rt.alloc(), *w, ends, lines)?;
     }
-    Ok(())
-}
-
-/// A loop and three edges.
-const FOUR: [(u32, u32); 4] = [(7, 7), (3, 9), (9, 3), (9, 5)];
-
-/// The term that is worth 2 for each of their rank.
-fn with_a_loop(rt: &impl Abort, alloc: Global) -> Result<Graphic, Memory> {
-    let ends = FOUR.as_slice();
-    assert!(rt; ends.len() == 4);
-    Graphic::new(alloc, &[0, 1, 2, 3], 2, ends)
-}
-
-const WITH_A_LOOP: &str = "size 4
-    start 0 2 0 2
-    not 0 2 1 1
-    not 1 1 0 2
-    base 0 1 1 2
-    room 1 2 1
-    room 1 3 0
-    room 0 1 0
-    room 3 1 0
-    reach 0 0
-    reach 1 4
-    reach 2 2
-    reach 3 0";
-
-#[test]
-fn exchanges_by_cuts(rt: HostRuntime) -> Result<(), Fail> {
-    let kind = Kind::Graphic(with_a_loop(&rt, rt.alloc())?);
-    has_facts(&rt, rt.alloc(), &kind, WITH_A_LOOP)?;
     Ok(())
 }

@@ -49,12 +49,12 @@ fn sum_at<T: Term>(
 fn has_sums(
     rt: &impl Abort,
     alloc: Global,
-    instance: &Instance,
-    sums: &[i128],
+    terms: &[Kind],
+    sums: &[i128; 4],
 ) -> Result<(), Memory> {
-    for (number, sum) in sums.iter().enumerate() {
-        let found = sum_at(rt, alloc, instance.terms(), number)?;
-        assert!(rt; found == *sum);
+    for number in 0..4 {
+        let found = sum_at(rt, alloc, terms, number)?;
+        assert!(rt; found == sums[number]);
     }
     Ok(())
 }
@@ -85,9 +85,15 @@ fn weight_of(alloc: Global) -> Result<Kind, Memory> {
     Ok(Kind::Weight(Weight::new(alloc, &[0, 1], &[-3, 2])?))
 }
 
-/// Whether an instance has the elements a and b alone.
+/// A name that no element has.
+const OTHER_NAME: &str = "c";
+
+/// Whether an instance has the elements of those names alone.
 fn has_names(instance: &Instance) -> bool {
-    instance.names_len() == 2 && is_named(instance, 0, "a") && is_named(instance, 1, "b")
+    instance.names_len() == 2
+        && is_named(instance, 0, NAMES[0])
+        && is_named(instance, 1, NAMES[1])
+        && instance.place_of(OTHER_NAME.as_bytes()).is_none()
 }
 
 /// Whether the name of an element is that one, which no other has.
@@ -120,27 +126,43 @@ fn takes_more(instance: &Instance) -> bool {
     instance.takes(&Kind::Need(Need::new(0, 2)))
 }
 
+/// The instance of a weight and a cut over a and b.
+fn weight_and_cut(rt: &impl Abort, alloc: Global) -> Result<Instance, Memory> {
+    let mut instance = with_two_names(rt, alloc)?;
+    add_terms(rt, alloc, &mut instance)?;
+    Ok(instance)
+}
+
+/// Whether an instance is so.
+fn is_weight_and_cut(instance: &Instance) -> bool {
+    has_names(instance) && has_counts(instance) && !takes_more(instance)
+}
+
 /// The sums of the values of a weight and a cut.
 const SUMS: [i128; 4] = [0, 1, 2, -1];
 
 #[test]
 fn a_weight_and_a_cut(rt: HostRuntime) -> Result<(), Fail> {
-    let mut instance = with_two_names(&rt, rt.alloc())?;
-    add_terms(&rt, rt.alloc(), &mut instance)?;
-    assert!(rt; has_names(&instance) && instance.place_of(b"c").is_none());
-    assert!(rt; has_counts(&instance) && !takes_more(&instance));
-    has_sums(&rt, rt.alloc(), &instance, &SUMS)?;
+    let instance = weight_and_cut(&rt, rt.alloc())?;
+    assert!(rt; is_weight_and_cut(&instance));
+    has_sums(&rt, rt.alloc(), instance.terms(), &SUMS)?;
     Ok(())
 }
 
 /// The sums of the values of a condition.
 const SUMS_OF_A_NEED: [i128; 4] = [0, NO, 0, 0];
 
+/// The instance of a condition over a and b.
+fn lone_need(rt: &impl Abort, alloc: Global) -> Result<Instance, Memory> {
+    let mut instance = with_two_names(rt, alloc)?;
+    add(rt, &mut instance, Kind::Need(Need::new(0, 1)))?;
+    Ok(instance)
+}
+
 #[test]
 fn a_lone_need(rt: HostRuntime) -> Result<(), Fail> {
-    let mut instance = with_two_names(&rt, rt.alloc())?;
-    add(&rt, &mut instance, Kind::Need(Need::new(0, 1)))?;
+    let instance = lone_need(&rt, rt.alloc())?;
     assert!(rt; instance.total_size() == 0);
-    has_sums(&rt, rt.alloc(), &instance, &SUMS_OF_A_NEED)?;
+    has_sums(&rt, rt.alloc(), instance.terms(), &SUMS_OF_A_NEED)?;
     Ok(())
 }

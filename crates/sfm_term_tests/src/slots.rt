@@ -95,29 +95,19 @@ fn entries_of(rt: &impl Abort, alloc: Global, lists: &[&[u32]]) -> Result<Entrie
 /// The entries of four elements, the last without slots.
 const FOUR: [&[u32]; 4] = [&[3, 900], &[3, 3], &[900], &[]];
 
-/// The term of four elements.
-fn four_elements(rt: &impl Abort, alloc: Global) -> Result<Transversal, Memory> {
-    let entries = entries_of(rt, alloc, &FOUR)?;
-    assert!(rt; entries.len() == 4);
-    Transversal::new(alloc, &[4, 0, 2, 9], 5, entries)
-}
-
-/// The entries of two elements with one slot.
-const TWO: [&[u32]; 2] = [&[7], &[7]];
-
-/// The term of two elements.
-fn two_elements(rt: &impl Abort, alloc: Global) -> Result<Transversal, Memory> {
-    let entries = entries_of(rt, alloc, &TWO)?;
-    assert!(rt; entries.len() == 2);
-    Transversal::new(alloc, &[0, 1], 2, entries)
-}
-
 const WITHOUT_SLOTS: &str = "places 4 0 2 9
     size 10
     ranks 0 1 1 2 1 2 2 2 0 1 1 2 1 2 2 2
     values 0 5 5 10 5 10 10 10 0 5 5 10 5 10 10 10
     factor 2
     start 10 10 0 0";
+
+/// The term of four elements that are not the first.
+fn four_elements(rt: &impl Abort, alloc: Global) -> Result<Transversal, Memory> {
+    let entries = entries_of(rt, alloc, &FOUR)?;
+    assert!(rt; entries.len() == 4);
+    Transversal::new(alloc, &[4, 0, 2, 9], 5, entries)
+}
 
 #[test]
 fn places_that_move_aside(rt: HostRuntime) -> Result<(), Fail> {
@@ -126,30 +116,51 @@ fn places_that_move_aside(rt: HostRuntime) -> Result<(), Fail> {
     Ok(())
 }
 
-/// The entries of a line whose first has more slots than there are elements, with all of them.
-const FIVE_SLOTS: [&[u32]; 4] = [&[0, 1, 2, 3, 4], &[0], &[0], &[0, 1]];
+/// What a term is worth for each of the rank, its entries, and what it answers: two elements with one slot, and the entries of a
+/// line whose first has more slots than there are elements, with all of them.
+const ENTRIES: [(i128, &[&[u32]], &str); 2] = [
+    (
+        2,
+        &[&[7], &[7]],
+        "base 0 2
+        base 1 1
+        not 2 1",
+    ),
+    (3, &[&[0, 1, 2, 3, 4], &[0], &[0], &[0, 1]], MORE_SLOTS),
+];
 
-/// The term of four elements with all slots of each.
-fn with_all_slots(rt: &impl Abort, alloc: Global) -> Result<Transversal, Memory> {
-    let entries = entries_of(rt, alloc, &FIVE_SLOTS)?;
+/// The term of two or four of the first elements.
+fn slots_of(
+    rt: &impl Abort,
+    alloc: Global,
+    w: i128,
+    entries: Entries,
+) -> Result<Transversal, Memory> {
+    assert!(rt; 0 <= w && w <= 3);
+    if entries.len() == 2 {
+        return Transversal::new(alloc, &[0, 1], w, entries);
+    }
     assert!(rt; entries.len() == 4);
-    Transversal::new(alloc, &[0, 1, 2, 3], 3, entries)
+    Transversal::new(alloc, &[0, 1, 2, 3], w, entries)
+}
+
+/// Asserts what a term of such entries answers.
+fn has_entries(
+    rt: &impl Abort,
+    alloc: Global,
+    w: i128,
+    lists: &[&[u32]],
+    lines: &str,
+) -> Result<(), Memory> {
+    let entries = entries_of(rt, alloc, lists)?;
+    let kind = Kind::Transversal(slots_of(rt, alloc, w, entries)?);
+    has_facts(rt, alloc, &kind, lines)
 }
 
 #[test]
-fn more_slots_than_elements(rt: HostRuntime) -> Result<(), Fail> {
-    let kind = Kind::Transversal(with_all_slots(&rt, rt.alloc())?);
-    has_facts(&rt, rt.alloc(), &kind, MORE_SLOTS)?;
-    Ok(())
-}
-
-const ONE_SLOT: &str = "base 0 2
-    base 1 1
-    not 2 1";
-
-#[test]
-fn bases_of_one_slot(rt: HostRuntime) -> Result<(), Fail> {
-    let kind = Kind::Transversal(two_elements(&rt, rt.alloc())?);
-    has_facts(&rt, rt.alloc(), &kind, ONE_SLOT)?;
+fn entries_by_their_slots(rt: HostRuntime) -> Result<(), Fail> {
+    for (w, lists, lines) in &ENTRIES {
+        has_entries(&rt, rt.alloc(), *w, lists, lines)?;
+    }
     Ok(())
 }

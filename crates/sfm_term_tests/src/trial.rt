@@ -1,10 +1,11 @@
 // What a term is asked for in a test: its values, its first base, the rooms and the reach of places at a base, and that notes tell
 // the same, at the base and after an exchange. Parts are told by their numbers, place j counting 2^j.
-ghost use Rattle.std.specs.Prelude.{◌≡◌, ◌≢◌, ◌↔◌, ◌<◌, ◌^◌, ◌≤ℤ◌, length, pos, IsTrue, IfOk, OnOk};
+ghost use Rattle.std.specs.Prelude.{◌≡◌, ◌↔◌, ◌<◌, ◌^◌, ◌≤ℤ◌, length, pos, IsTrue, IfOk, OnOk};
 ghost use Rattle.std.specs.List.{All};
 ghost use Rattle.sfm_spec.specs.Bounds.{IsEntry, IsFactor};
-ghost use Rattle.sfm_spec.specs.Terms.{times, IsBase, exchanged};
+ghost use Rattle.sfm_spec.specs.Terms.{times, IsBase};
 ghost use Rattle.sfm_law.specs.Room.{IsWithinRoom};
+ghost use Rattle.sfm_term_tests.specs.Based.{IsFit, IsBased, IsPair};
 
 use crate::numbers::{NO, count_at};
 use sfm_base::{Memory, Set};
@@ -86,13 +87,19 @@ fn are_places(elements: &[usize], places: &[i128]) -> bool {
 }
 
 /// Asserts the elements of the places.
-pub(crate) fn has_places<T: Term>(rt: &impl Abort, term: &T, places: &[i128]) {
+pub(crate) fn has_places<T: Term>(
+    rt: &impl Abort,
+    term: &T,
+    places: &[i128],
+) -> Result<(), Memory> {
     assert!(rt; are_places(term.elements(), places));
+    Ok(())
 }
 
 /// Asserts the size.
-pub(crate) fn has_size<T: Term>(rt: &impl Abort, term: &T, size: &[i128]) {
+pub(crate) fn has_size<T: Term>(rt: &impl Abort, term: &T, size: &[i128]) -> Result<(), Memory> {
     assert!(rt; size.len() == 1 && term.size() == size[0]);
+    Ok(())
 }
 
 /// The value of a part by its number.
@@ -140,21 +147,14 @@ pub(crate) fn starts<T: Term>(
 
 /// Whether a factor, a term and a vector are such that bases can be asked for.
 fn fits<T: Term>(term: &T, q: i128, x: &[i128]) -> bool
-    ensures factor { IsTrue result → IsFactor q }
-    ensures bounded { IsTrue result → T.size_of term.now ≤ℤ pos (10 ^ 18) }
-    ensures entries { IsTrue result → length x.now ≡ length (T.places term.now) }
-    ensures small { IsTrue result → All IsEntry x.now }
+    ensures { IsTrue result → IsFit T.places T.size_of term.now q x.now }
 {
     is_factor(q) && is_small(term) && is_sized(term, x) && are_entries(x)
 }
 
 /// Whether a vector is a base of q times a term, with all numbers within the bounds.
 fn is_base<T: Term>(alloc: Global, term: &T, q: i128, x: &[i128]) -> Result<bool, Memory>
-    ensures factor { IfOk result (λ r. IsTrue r → IsFactor q) }
-    ensures bounded { IfOk result (λ r. IsTrue r → T.size_of term.now ≤ℤ pos (10 ^ 18)) }
-    ensures entries { IfOk result (λ r. IsTrue r → length x.now ≡ length (T.places term.now)) }
-    ensures small { IfOk result (λ r. IsTrue r → All IsEntry x.now) }
-    ensures base { IfOk result (λ r. IsTrue r → IsBase (times q (T.value_of term.now)) x.now) }
+    ensures { IfOk result (λ r. IsTrue r → IsBased T.places T.value_of T.size_of term.now q x.now) }
 {
     if fits(term, q, x) {
         term.is_base(alloc, q, x)
@@ -177,18 +177,14 @@ pub(crate) fn has_base<T: Term>(
     Ok(())
 }
 
-/// The number of the part to which a place has room at a base.
-fn reach_at<T: Term>(alloc: Global, term: &T, at: Pair) -> Result<usize, Memory>
-    requires factor { IsFactor at.q }
-    requires entries { length at.x.now ≡ length (T.places term.now) }
-    requires bounded { T.size_of term.now ≤ℤ pos (10 ^ 18) }
-    requires small { All IsEntry at.x.now }
-    requires base { IsBase (times at.q (T.value_of term.now)) at.x.now }
+/// The part to which a place has room at a base.
+fn reach_at<T: Term>(alloc: Global, term: &T, at: Pair) -> Result<Set, Memory>
+    requires based { IsBased T.places T.value_of T.size_of term.now at.q at.x.now }
     requires from { at.u < length at.x.now }
 {
     let mut to = part(alloc, at.x.len(), 5)?;
     term.reach(alloc, at.q, at.x, at.u, &mut to)?;
-    Ok(number_of_part(&to))
+    Ok(to)
 }
 
 /// The same by a note.
@@ -197,19 +193,39 @@ fn reach_by_note<T: Term>(
     term: &T,
     at: Pair,
     note: &mut T::Note,
-) -> Result<usize, Memory>
-    requires factor { IsFactor at.q }
-    requires entries { length at.x.now ≡ length (T.places term.now) }
-    requires bounded { T.size_of term.now ≤ℤ pos (10 ^ 18) }
-    requires small { All IsEntry at.x.now }
-    requires base { IsBase (times at.q (T.value_of term.now)) at.x.now }
+) -> Result<Set, Memory>
+    requires based { IsBased T.places T.value_of T.size_of term.now at.q at.x.now }
     requires noted { T.fits term.now note.old at.q at.x.now }
     requires from { at.u < length at.x.now }
     ensures noted { OnOk result (T.fits term.now note.new at.entry.q at.entry.x.now) }
 {
     let mut to = part(alloc, at.x.len(), 6)?;
     term.reach_by(alloc, at.q, at.x, note, at.u, &mut to)?;
-    Ok(number_of_part(&to))
+    Ok(to)
+}
+
+/// Whether two parts are the same.
+fn is_same(s: &Set, other: &Set) -> bool {
+    s.len() == other.len() && s.is_within(other) && other.is_within(s)
+}
+
+/// Asserts that a note tells the row of u at a base.
+fn tells_reach<T: Term>(
+    rt: &impl Abort,
+    alloc: Global,
+    term: &T,
+    at: Pair,
+    note: &mut T::Note,
+) -> Result<(), Memory>
+    requires based { IsBased T.places T.value_of T.size_of term.now at.q at.x.now }
+    requires noted { T.fits term.now note.old at.q at.x.now }
+    requires from { at.u < length at.x.now }
+    ensures noted { OnOk result (T.fits term.now note.new at.entry.q at.entry.x.now) }
+{
+    let told = reach_by_note(alloc, term, at, note)?;
+    let to = reach_at(alloc, term, at)?;
+    assert!(rt; is_same(&told, &to));
+    Ok(())
 }
 
 /// Asserts that a note tells the row of u and the room of (u, v) at a base.
@@ -226,17 +242,22 @@ fn tells<T: Term>(
     requires small { All IsEntry at.x.now }
     requires base { IsBase (times at.q (T.value_of term.now)) at.x.now }
     requires noted { T.fits term.now note.old at.q at.x.now }
-    requires apart { at.u ≢ at.v }
-    requires from { at.u < length at.x.now }
-    requires onto { at.v < length at.x.now }
+    requires pair { IsPair at.u at.v at.x.now }
 {
-    let told = reach_by_note(alloc, term, at, note)?;
-    let number = reach_at(alloc, term, at)?;
-    assert!(rt; told == number);
+    tells_reach(rt, alloc, term, at, note)?;
     let told = term.room_by(alloc, at.q, at.x, note, at.u, at.v)?;
     let room = term.room(alloc, at.q, at.x, at.u, at.v)?;
     assert!(rt; told == room);
     Ok(())
+}
+
+/// Asserts that a new note tells the row of u and the room of (u, v) at a base.
+fn tells_at<T: Term>(rt: &impl Abort, alloc: Global, term: &T, at: Pair) -> Result<(), Memory>
+    requires based { IsBased T.places T.value_of T.size_of term.now at.q at.x.now }
+    requires pair { IsPair at.u at.v at.x.now }
+{
+    let mut note = term.note(alloc, at.q, at.x)?;
+    tells(rt, alloc, term, at, &mut note)
 }
 
 /// Asserts what a note that was brought up tells after an exchange.
@@ -247,14 +268,8 @@ fn tells_behind<T: Term>(
     at: Pair,
     a: i128,
 ) -> Result<(), Memory>
-    requires factor { IsFactor at.q }
-    requires entries { length at.x.now ≡ length (T.places term.now) }
-    requires bounded { T.size_of term.now ≤ℤ pos (10 ^ 18) }
-    requires small { All IsEntry at.x.now }
-    requires base { IsBase (times at.q (T.value_of term.now)) at.x.now }
-    requires apart { at.u ≢ at.v }
-    requires from { at.u < length at.x.now }
-    requires onto { at.v < length at.x.now }
+    requires based { IsBased T.places T.value_of T.size_of term.now at.q at.x.now }
+    requires pair { IsPair at.u at.v at.x.now }
     requires low { pos 0 ≤ℤ a }
     requires high { a ≤ℤ pos (10 ^ 30) }
     requires room { IsWithinRoom (times at.q (T.value_of term.now)) at.x.now at.u at.v a }
@@ -273,17 +288,11 @@ fn tells_behind<T: Term>(
     tells(rt, alloc, term, back, &mut note)
 }
 
-/// The room of two places at a base. Asserts that it is a base, and what a note tells of them there, and at the base after as much
-/// as can be is exchanged between them.
+/// The room of two places at a base. Asserts what a note tells after as much as can be is exchanged between them.
 fn room_at<T: Term>(rt: &impl Abort, alloc: Global, term: &T, at: Pair) -> Result<Room, Memory>
-    requires apart { at.u ≢ at.v }
-    requires from { at.u < length at.x.now }
-    requires onto { at.v < length at.x.now }
+    requires based { IsBased T.places T.value_of T.size_of term.now at.q at.x.now }
+    requires pair { IsPair at.u at.v at.x.now }
 {
-    let found = is_base(alloc, term, at.q, at.x)?;
-    assert!(rt; found);
-    let mut note = term.note(alloc, at.q, at.x)?;
-    tells(rt, alloc, term, at, &mut note)?;
     let room = term.room(alloc, at.q, at.x, at.u, at.v)?;
     if let Room::Upto(a) = room {
         assert!(rt; 0 <= a && a <= MOST_ENTRY);
@@ -292,12 +301,29 @@ fn room_at<T: Term>(rt: &impl Abort, alloc: Global, term: &T, at: Pair) -> Resul
     Ok(room)
 }
 
-/// The number of a room.
-fn number_of(room: Room) -> i128 {
+/// Whether a room is of that number.
+fn is_room(room: Room, number: i128) -> bool {
     match room {
-        Room::Upto(a) => a,
-        Room::Unbounded => NO,
+        Room::Upto(a) => a == number,
+        Room::Unbounded => number == NO,
     }
+}
+
+/// Asserts the room of two places at what is to be a base, and that notes tell the same there and after an exchange.
+fn has_room_of<T: Term>(
+    rt: &impl Abort,
+    alloc: Global,
+    term: &T,
+    at: Pair,
+    number: i128,
+) -> Result<(), Memory>
+    requires { IsPair at.u at.v at.x.now }
+{
+    assert!(rt; is_base(alloc, term, at.q, at.x)?);
+    tells_at(rt, alloc, term, at)?;
+    let room = room_at(rt, alloc, term, at)?;
+    assert!(rt; is_room(room, number));
+    Ok(())
 }
 
 /// The place of that number among k.
@@ -309,6 +335,21 @@ fn place_at(rt: &impl Abort, numbers: &[i128], i: usize, k: usize) -> usize
     place
 }
 
+/// The places that two numbers tell, at a vector.
+fn pair_at<'a>(rt: &impl Abort, at: At<'a>, numbers: &[i128]) -> Pair<'a>
+    ensures pair { IsPair result.u result.v result.x.now }
+{
+    let u = place_at(rt, numbers, 0, at.x.len());
+    let v = place_at(rt, numbers, 1, at.x.len());
+    assert!(rt; u != v);
+    Pair {
+        q: at.q,
+        x: at.x,
+        u,
+        v,
+    }
+}
+
 /// Asserts the room of two places at a base, and that notes tell the same.
 pub(crate) fn has_room<T: Term>(
     rt: &impl Abort,
@@ -317,45 +358,25 @@ pub(crate) fn has_room<T: Term>(
     at: At,
     numbers: &[i128],
 ) -> Result<(), Memory> {
-    let u = place_at(rt, numbers, 0, at.x.len());
-    let v = place_at(rt, numbers, 1, at.x.len());
-    assert!(rt; u != v);
-    let pair = Pair {
-        q: at.q,
-        x: at.x,
-        u,
-        v,
-    };
-    let room = room_at(rt, alloc, term, pair)?;
-    assert!(rt; numbers.len() == 3 && number_of(room) == numbers[2]);
-    Ok(())
+    assert!(rt; numbers.len() == 3);
+    has_room_of(rt, alloc, term, pair_at(rt, at, numbers), numbers[2])
 }
 
-/// The number of a part.
-fn number_of_part(s: &Set) -> usize {
-    let mut number = 0usize;
-    let mut bit = 1usize;
-    for e in 0..s.len() {
-        if s.contains(e) {
-            number |= bit;
-        }
-        bit = bit.wrapping_mul(2);
-    }
-    number
-}
-
-/// The number of the part to which a place has room at a base. Asserts that it is one.
-fn reach_number<T: Term>(
+/// Asserts the part to which a place has room at what is to be a base.
+fn has_reach_of<T: Term>(
     rt: &impl Abort,
     alloc: Global,
     term: &T,
     at: Pair,
-) -> Result<usize, Memory>
-    requires from { at.u < length at.x.now }
+    number: usize,
+) -> Result<(), Memory>
+    requires { at.u < length at.x.now }
 {
-    let found = is_base(alloc, term, at.q, at.x)?;
-    assert!(rt; found);
-    reach_at(alloc, term, at)
+    assert!(rt; is_base(alloc, term, at.q, at.x)?);
+    let to = reach_at(alloc, term, at)?;
+    let wanted = part(alloc, at.x.len(), number)?;
+    assert!(rt; is_same(&to, &wanted));
+    Ok(())
 }
 
 /// Asserts the part to which a place has room at a base.
@@ -367,13 +388,11 @@ pub(crate) fn has_reach<T: Term>(
     numbers: &[i128],
 ) -> Result<(), Memory> {
     let u = place_at(rt, numbers, 0, at.x.len());
-    let from = Pair {
+    let at = Pair {
         q: at.q,
         x: at.x,
         u,
         v: u,
     };
-    let number = reach_number(rt, alloc, term, from)?;
-    assert!(rt; number == count_at(rt, numbers, 1));
-    Ok(())
+    has_reach_of(rt, alloc, term, at, count_at(rt, numbers, 1))
 }
