@@ -27,9 +27,9 @@ PARTS = [
     ("Terms as they are kept", [
         "sfm_law.", "sfm_concave.", "sfm_laminar.", "sfm_matroid.", "sfm_simple.", "sfm_kind."]),
     ("Instance texts", [
-        "sfm_spec.Names", "sfm_base.NumberText", "sfm_text.Lines", "sfm_text.Matched", "sfm_text.Parts",
-        "sfm_text.LabelTerms", "sfm_text.RankLines", "sfm_text.Words", "sfm_text.TermLines", "sfm_text.Reading",
-        "sfm_text.GoodText", "sfm_text.Reasons", "sfm_text."]),
+        "sfm_spec.Names", "sfm_base.NumberText", "sfm_lines.Lines", "sfm_lines.Parts",
+        "sfm_lines.LabelTerms", "sfm_lines.RankLines", "sfm_lines.Words", "sfm_lines.TermLines", "sfm_lines.Reading",
+        "sfm_text.GoodText", "sfm_lines.Reasons", "sfm_lines.", "sfm_text."]),
     ("Answer texts", ["sfm_cert.", "sfm_check."]),
     ("The text of a demonstration", ["sfm_demo.Draws", "sfm_demo."]),
     ("The outside, the words, and how a call ends", ["sfm_io.", "sfm_words.", "sfm.Due", "sfm.Demo", "sfm."]),

@@ -6,8 +6,8 @@ use Rattle.sfm_spec.specs.Walks.{few_walks}
 use Rattle.sfm_kind.specs.declared.kind.Kind.{Kind}
 use Rattle.sfm_kind.specs.Instance.{InstanceData}
 use Rattle.sfm_kind.specs.Meanings.{IsMeaningOf, IsStartOf}
-use Rattle.sfm_text.specs.declared.reason.Reason.{Reason}
-use Rattle.sfm_text.specs.Reasons.{reason_word}
+use Rattle.sfm_lines.specs.declared.reason.Reason.{Reason}
+use Rattle.sfm_lines.specs.Reasons.{reason_word}
 use Rattle.sfm_text.specs.GoodText.{IsTextOf, IsFaultOf}
 use Rattle.sfm_cert.specs.Solved.{form_of}
 use Rattle.sfm_check.specs.Truth.{IsRightFile, Section, sections_of}

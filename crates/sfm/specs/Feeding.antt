@@ -9,8 +9,7 @@ use Rattle.sfm_text.specs.Standing.{Stands}
 use Rattle.sfm.specs.declared.status.Status.{Status}
 use Rattle.sfm.specs.declared.status.Status.TheVariants.{ReadFault, Memory}
 use Rattle.sfm.specs.Headline.{IsNamed}
-use Rattle.sfm.specs.Reading.{WasRead}
-use Rattle.sfm.specs.Reading.{MissesText}
+use Rattle.sfm.specs.Reading.{WasRead, MissesText}
 
 -- these bytes came from the shelf, and the reader went on by them
 pub record Feeds (before after : ShelfState) (old new : Reader) (count : ℕ) : Type 0 where

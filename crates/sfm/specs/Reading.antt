@@ -7,8 +7,8 @@ use Rattle.sfm_io.specs.Faults.{Rose}
 use Rattle.sfm_kind.specs.Instance.{InstanceData}
 use Rattle.sfm_text.specs.declared.end.TextEnd.{TextEnd}
 use Rattle.sfm_text.specs.declared.reader.Reader.{Reader}
-use Rattle.sfm_text.specs.declared.reason.Reason.{Reason}
-use Rattle.sfm_text.specs.Reasons.{reason_word}
+use Rattle.sfm_lines.specs.declared.reason.Reason.{Reason}
+use Rattle.sfm_lines.specs.Reasons.{reason_word}
 use Rattle.sfm_text.specs.GoodText.{IsRefusalOf}
 use Rattle.sfm_text.specs.Standing.{Stands}
 use Rattle.sfm_cert.specs.Solved.{form_of}

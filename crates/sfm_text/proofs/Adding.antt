@@ -5,18 +5,19 @@ use Rattle.std.proofs.lemmas.Option.{same_Some, slice_get_within}
 use Rattle.std.proofs.lemmas.Slice.Eq.{bytes_eq-Decides}
 use Rattle.std.specs.List.{Any}
 use Rattle.sfm_kind.specs.Instance.{InstanceData}
-use Rattle.sfm_text.specs.declared.line_fault.LineEnd.{LineEnd}
-use Rattle.sfm_text.specs.declared.line_fault.LineEnd.TheVariants.{Fault, Memory}
-use Rattle.sfm_text.specs.declared.reason.Reason.{Reason}
-use Rattle.sfm_text.specs.declared.reason.Reason.TheVariants.{Long, Bytes, Word}
-use Rattle.sfm_text.specs.declared.stage.Stage.TheVariants.{Terms}
-use Rattle.sfm_text.specs.declared.word.TermWord.{TermWord}
-use Rattle.sfm_text.specs.Lines.{tokens_of}
-use Rattle.sfm_text.specs.Words.{word_text}
-use Rattle.sfm_text.specs.Reading.{Has, Takes, IsBadByte, IsLineRefusal, Adds, AddsTerm, reason_order}
-use Rattle.sfm_text.specs.ReadParts.{state_at, BeginsEnd, IsLineOf, IsOutcome}
+use Rattle.sfm_lines.specs.declared.line_fault.LineEnd.{LineEnd}
+use Rattle.sfm_lines.specs.declared.line_fault.LineEnd.TheVariants.{Fault, Memory}
+use Rattle.sfm_lines.specs.declared.reason.Reason.{Reason}
+use Rattle.sfm_lines.specs.declared.reason.Reason.TheVariants.{Long, Bytes, Word}
+use Rattle.sfm_lines.specs.declared.stage.Stage.TheVariants.{Terms}
+use Rattle.sfm_lines.specs.declared.word.TermWord.{TermWord}
+use Rattle.sfm_lines.specs.Lines.{tokens_of}
+use Rattle.sfm_lines.specs.Words.{word_text}
+use Rattle.sfm_lines.specs.Reading.{Has, Takes, IsBadByte, IsLineRefusal, Adds, AddsTerm, reason_order}
+use Rattle.sfm_lines.specs.ReadParts.{state_at, IsLineOf}
+use Rattle.sfm_text.specs.Judging.{BeginsEnd, IsOutcome}
 use Rattle.sfm_text.specs.Adding.{HasAsTerm, IsNoTerm, IsTermRefusal, IsTermAdded}
-use Rattle.sfm_text.proofs.WordLines.{not-end}
+use Rattle.sfm_lines.proofs.WordLines.{not-end}
 
 -- the line does not begin with `end`
 abbrev pub IsNotLast : List ℕ → Type 0

@@ -11,21 +11,21 @@ use Rattle.sfm_kind.specs.Kinds.{kind_places}
 use Rattle.sfm_kind.specs.Instance.{support_of}
 use Rattle.sfm_kind.specs.Limits.{total_size_of}
 use Rattle.sfm_kind.proofs.Bounds.{support-push, total_size-push}
-use Rattle.sfm_text.specs.declared.reason.Reason.{Reason}
-use Rattle.sfm_text.specs.declared.reason.Reason.TheVariants.{Long, Bytes, Name, Twice, Total, Short}
-use Rattle.sfm_text.specs.declared.stage.Stage.{Stage}
-use Rattle.sfm_text.specs.declared.stage.Stage.TheVariants.{Header, Ground, Terms, Ended}
-use Rattle.sfm_text.specs.Lines.{content_of, tokens_of}
-use Rattle.sfm_text.specs.Words.{word_text}
-use Rattle.sfm_text.specs.TermLines.{StandsTwice, StandsFor}
+use Rattle.sfm_lines.specs.declared.reason.Reason.{Reason}
+use Rattle.sfm_lines.specs.declared.reason.Reason.TheVariants.{Long, Bytes, Name, Twice, Total, Short}
+use Rattle.sfm_lines.specs.declared.stage.Stage.{Stage}
+use Rattle.sfm_lines.specs.declared.stage.Stage.TheVariants.{Header, Ground, Terms, Ended}
+use Rattle.sfm_lines.specs.Lines.{content_of, tokens_of}
+use Rattle.sfm_lines.specs.Words.{word_text}
+use Rattle.sfm_lines.specs.TermLines.{StandsTwice, StandsFor}
 use Rattle.sfm_text.proofs.Orders.{first_ordered, reason-at}
 use Rattle.sfm_text.proofs.TooMuch.{much-by-total, total-by-much}
-use Rattle.sfm_text.specs.Reading.{State, start, reason_order, reasons, Has, HasAt, AreTooMuch, FirstReason, IsFirstReason, Adds, Takes}
+use Rattle.sfm_lines.specs.Reading.{State, start, reason_order, reasons, Has, HasAt, AreTooMuch, FirstReason, IsFirstReason, Adds, Takes}
 use Rattle.sfm_text.specs.Standing.{bytes_of}
 use Rattle.sfm_text.specs.GoodText.{IsTextOf, HasFaultyLine, IsFaultOf, is_long, is_faulty, is_short}
-use Rattle.sfm_text.proofs.WordLines.{not-end}
-use Rattle.sfm_text.proofs.Matches.{AllZip-push}
-use Rattle.sfm_text.proofs.Repeats.{twice-at}
+use Rattle.sfm_lines.proofs.WordLines.{not-end}
+use Rattle.sfm_lines.proofs.Matches.{AllZip-push}
+use Rattle.sfm_lines.proofs.Repeats.{twice-at}
 use Rattle.sfm_text.proofs.SameTerms.{AgreeInTotal, stands-same}
 
 support-cons : (term : Kind) (terms : List Kind) → support_of (term ∷ terms) ≡ length (kind_places term) + support_of terms

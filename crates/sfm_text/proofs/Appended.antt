@@ -5,7 +5,7 @@ use Rattle.std.specs.List.{All, slice_split, onto_first}
 use Rattle.std.specs.Str.Lines.{strip_carriage_return}
 use Rattle.std.proofs.lemmas.List.{append-nil}
 use Rattle.std.proofs.lemmas.List.Splits.{slice_split_none, length-slice_split}
-use Rattle.sfm_text.specs.Lines.{pieces_of, without_empty_last}
+use Rattle.sfm_lines.specs.Lines.{pieces_of, without_empty_last}
 use Rattle.sfm_text.specs.Standing.{numbered}
 
 -- the pieces with a front put before the first

@@ -13,11 +13,11 @@ use Rattle.std.proofs.lemmas.Map.Made.{Contains-tail, is_member-Decides, length-
 use Rattle.std.proofs.lemmas.Slice.Eq.{bytes_eq-Decides}
 use Rattle.sfm_spec.specs.Sets.{Has}
 use Rattle.sfm_spec.specs.Kinds.{IsMatching, IsMatchable}
-use Rattle.sfm_text.specs.LabelTerms.{distinct_of, numbers_of}
-use Rattle.sfm_text.specs.CutParts.{place_among}
-use Rattle.sfm_text.specs.TermLines.{StandsTwice}
-use Rattle.sfm_text.proofs.Known.{any-distinct}
-use Rattle.sfm_text.proofs.Repeats.{twice-at, twice-same}
+use Rattle.sfm_lines.specs.LabelTerms.{distinct_of, numbers_of}
+use Rattle.sfm_lines.specs.CutParts.{place_among}
+use Rattle.sfm_lines.specs.TermLines.{StandsTwice}
+use Rattle.sfm_lines.proofs.Known.{any-distinct}
+use Rattle.sfm_lines.proofs.Repeats.{twice-at, twice-same}
 
 -- the members of the part have texts of their own lists, all different
 pub record AreOwn (lists : List (List (List ℕ))) (t : List Bool) (own : ℕ → List ℕ) : Type 0 where

@@ -2,7 +2,7 @@
 use Rattle.std.proofs.Common.{ℕ, List, [], ◌∷◌, ◌++◌, refl, sym, subst}
 use Rattle.std.specs.List.{FoldsTo}
 use Rattle.std.proofs.lemmas.List.{map-append}
-use Rattle.sfm_text.specs.Reading.{State, Takes}
+use Rattle.sfm_lines.specs.Reading.{State, Takes}
 use Rattle.sfm_text.specs.Standing.{bytes_of}
 
 pub follows-push : (s : State) (lines : List (List ℕ)) (t : State) (line : List ℕ) (u : State) → FoldsTo Takes s lines t → Takes t line u → FoldsTo Takes s (lines ++ line ∷ []) u

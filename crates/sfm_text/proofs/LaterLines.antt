@@ -2,14 +2,14 @@
 use Rattle.std.proofs.Common.{◌≢◌, ℕ, List, [], ◌∷◌, ◌++◌, AllPairs, refl, inr, arith}
 use Rattle.sfm_kind.specs.Instance.{InstanceData}
 use Rattle.sfm_kind.specs.declared.kind.Kind.{Kind}
-use Rattle.sfm_text.specs.declared.reason.Reason.TheVariants.{Bytes, Word, Shape, Number, Name, Twice, Law, Total}
-use Rattle.sfm_text.specs.declared.stage.Stage.TheVariants.{Terms}
-use Rattle.sfm_text.specs.declared.word.TermWord.{TermWord}
-use Rattle.sfm_text.specs.Lines.{tokens_of}
-use Rattle.sfm_text.specs.Words.{word_text}
-use Rattle.sfm_text.specs.TermLines.{StandsFor}
-use Rattle.sfm_text.specs.Reading.{FirstReason, Takes, AreTooMuch}
-use Rattle.sfm_text.specs.ReadParts.{state_at, IsLineOf, IsTermRead}
+use Rattle.sfm_lines.specs.declared.reason.Reason.TheVariants.{Bytes, Word, Shape, Number, Name, Twice, Law, Total}
+use Rattle.sfm_lines.specs.declared.stage.Stage.TheVariants.{Terms}
+use Rattle.sfm_lines.specs.declared.word.TermWord.{TermWord}
+use Rattle.sfm_lines.specs.Lines.{tokens_of}
+use Rattle.sfm_lines.specs.Words.{word_text}
+use Rattle.sfm_lines.specs.TermLines.{StandsFor}
+use Rattle.sfm_lines.specs.Reading.{FirstReason, Takes, AreTooMuch}
+use Rattle.sfm_lines.specs.ReadParts.{state_at, IsLineOf, IsTermRead}
 use Rattle.sfm_text.proofs.StageReasons.{none-at-all}
 use Rattle.sfm_text.proofs.SameTerms.{stands-same, much-same}
 

@@ -1,25 +1,18 @@
 -- The first line of a text, and the lines behind it.
-use Rattle.std.proofs.Common.{◌≡◌, ℕ, ◌+◌, ◌-◌, ◌<◌, ◌≤◌, List, [], ◌∷◌, length, get_or, take, drop, min, not, true, false, Bool, cond, refl, sym, ap, ◌∙◌, arith, ◌⊎◌, inl, inr}
-use Prim.Native.Nat.{zero, suc}
-use Rattle.std.specs.Prelude.{◌==◌, nat_lt, unwrap_or, Option, Some, None}
-use Rattle.std.specs.List.{position_or_len, slice_split, onto_first}
+use Rattle.std.proofs.Common.{◌≡◌, ℕ, ◌+◌, ◌-◌, ◌<◌, ◌≤◌, List, [], ◌∷◌, length, get_or, take, drop, min, true, false, Bool, cond, refl, sym, ap, ◌∙◌, arith, ◌⊎◌, inl, inr}
+use Rattle.std.specs.Prelude.{◌==◌}
+use Rattle.std.specs.List.{position_or_len, slice_split}
 use Rattle.std.specs.Str.Lines.{strip_carriage_return}
-use Rattle.std.proofs.lemmas.Bool.{cases_lt, lt-ltb, le-ltb}
+use Rattle.std.proofs.lemmas.Bool.{cases_lt}
 use Rattle.std.proofs.lemmas.List.{take_all, drop_all, length-take, length-drop, drop-drop, take-take}
-use Rattle.std.proofs.lemmas.List.Sums.{prefix_len-le-length}
 use Rattle.std.proofs.lemmas.List.Splits.{slice_split_first, length-slice_split}
-use Rattle.sfm_text.specs.Lines.{without_empty_last}
+use Rattle.sfm_lines.specs.Lines.{without_empty_last}
+use Rattle.sfm_lines.proofs.Cuts.{split-none}
 use Rattle.sfm_text.specs.Places.{placed_from, lines_from, LiesIn}
 
 -- where a line ends
 abbrev end_of : List ℕ → ℕ
 end_of text = position_or_len (λ c. c == 10) text
-
--- where nothing is found, the list is the one piece
-pub split-none : (p : ℕ → Bool) (xs : List ℕ) → length xs ≤ position_or_len p xs → slice_split p xs ≡ xs ∷ []
-split-none p [] h = refl
-split-none p (x ∷ xs) h =
-    elim (p x) as (λ b. (length (x ∷ xs) ≤ cond (not b) (1 + position_or_len p xs) 0) → cond b ([] ∷ slice_split p xs) (onto_first x (slice_split p xs)) ≡ (x ∷ xs) ∷ []) [ true ↦ λ k. absurd (omega arith) | false ↦ λ k. rw (split-none p xs (omega arith)) refl ] h
 
 -- a piece that is not the last stays
 pub without_empty_last-cons : (piece : List ℕ) (pieces : List (List ℕ)) → 0 < length pieces → without_empty_last (piece ∷ pieces) ≡ piece ∷ without_empty_last pieces
@@ -59,32 +52,11 @@ lines_from-next n a e m rest some cut = at (cases_lt e (length rest))
         let all : take e rest ≡ rest = take_all e rest ge in
         rw (next, none, without_empty_last-one rest some, all, drop_all (length rest) rest (omega arith)) refl
 
--- the place of the first element that passes, or else the length
-pub position-or : (p : ℕ → Bool) (xs : List ℕ) (r : Option ℕ) → r ≡ cond (nat_lt (position_or_len p xs) (length xs)) (Some (position_or_len p xs)) None → unwrap_or r (length xs) ≡ position_or_len p xs
-position-or p xs r h = at (cases_lt (position_or_len p xs) (length xs))
-  where
-    at : (position_or_len p xs < length xs) ⊎ (length xs ≤ position_or_len p xs) → unwrap_or r (length xs) ≡ position_or_len p xs
-    at (inl lt) = rw (h, lt-ltb (position_or_len p xs) (length xs) lt) refl
-    at (inr ge) =
-        let le : position_or_len p xs ≤ length xs = prefix_len-le-length (λ x. not (p x)) xs in
-        rw (h, le-ltb (position_or_len p xs) (length xs) ge) (omega arith)
-
 -- the first line of what is left of a text, from the place at on
 pub lines_from-at : (text : List ℕ) (n at e m : ℕ) (line rest : List ℕ) → rest ≡ drop at text → 0 < length rest → e ≡ end_of rest → m ≡ min (length rest) (e + 1) → line ≡ strip_carriage_return (take e rest) → lines_from n at (drop at text) ≡ record { number = n; start = at; bytes = line } ∷ lines_from (n + 1) (at + m) (drop (at + m) text)
 lines_from-at text n at e m line rest is some end next strip =
     let first = lines_from-next n at e m rest some (record { end = end; next = next }) in
     rw (← is, strip, ← drop-drop m at text, ← is) first
-
--- all that is left of a text
-pub rest-is : (text : List ℕ) (at : ℕ) → at ≤ length text → take (length text - at) (drop at text) ≡ drop at text
-rest-is text at h = take_all (length text - at) (drop at text) (omega (arith, length-drop at text))
-
-pub not_empty : (xs : List ℕ) → false ≡ (length xs == 0) → 0 < length xs
-not_empty xs h = nat_lt_of (length xs) h
-  where
-    nat_lt_of : (n : ℕ) → false ≡ (n == 0) → 0 < n
-    nat_lt_of zero h = cc
-    nat_lt_of (suc n) h = omega arith
 
 strip-take : (line : List ℕ) → strip_carriage_return line ≡ take (length (strip_carriage_return line)) line
 strip-take line = elim (get_or line (length line - 1) 0 == 13) as (λ b. cond b (take (length line - 1) line) line ≡ take (length (cond b (take (length line - 1) line) line)) line) [ true ↦ shorter (length line - 1) line | false ↦ sym (take_all (length line) line (omega arith)) ]

@@ -2,9 +2,9 @@
 use Rattle.std.proofs.Common.{◌≡◌, ℕ, zero, suc, ◌<◌, List, [], ◌∷◌, ◌++◌, ◌+◌, length, get_or, take, drop, refl, sym, ap, ◌∙◌, subst, length-append, arith}
 use Rattle.std.specs.List.{All}
 use Rattle.std.proofs.lemmas.List.{get_or-take}
-use Rattle.sfm_text.specs.declared.reason.Reason.{Reason}
-use Rattle.sfm_text.specs.declared.reason.Reason.TheVariants.{Long}
-use Rattle.sfm_text.specs.Reading.{State, Has, FirstReason, IsFirstReason, reason_order, reasons}
+use Rattle.sfm_lines.specs.declared.reason.Reason.{Reason}
+use Rattle.sfm_lines.specs.declared.reason.Reason.TheVariants.{Long}
+use Rattle.sfm_lines.specs.Reading.{State, Has, FirstReason, IsFirstReason, reason_order, reasons}
 
 -- each stands at its place
 pub reason-at : (reason : Reason) (d : Reason) → get_or reasons (reason_order reason) d ≡ reason

@@ -15,20 +15,20 @@ use Rattle.sfm_kind.specs.Limits.{AreInBounds, total_size_of}
 use Rattle.sfm_kind.specs.declared.kind.Kind.{Kind}
 use Rattle.sfm_kind.specs.declared.kind.Kind.TheVariants.{Weight, Cut, Need, Cover, Table, Concave, Uniform, Laminar, Graphic, Transversal}
 use Rattle.sfm_kind.proofs.Bounds.{kind-elements, total_size-push, support-push, in_bounds-push}
-use Rattle.sfm_text.specs.Parts.{LineParts}
-use Rattle.sfm_text.specs.Words.{lowest_of, IsMadeOf}
-use Rattle.sfm_text.specs.ReadParts.{IsTermOf}
-use Rattle.sfm_text.specs.RankLines.{IsRankMadeOf}
-use Rattle.sfm_text.specs.declared.word.RankKind.{RankKind}
-use Rattle.sfm_text.specs.declared.word.RankKind.TheVariants.{UniformRank, LaminarRank, GraphicRank, TransversalRank}
-use Rattle.sfm_text.specs.TermLines.{IsNumberFrom, IsElement, StandsFor}
-use Rattle.sfm_text.specs.Reading.{AreTooMuch}
-use Rattle.sfm_text.specs.declared.word.TermWord.{TermWord}
-use Rattle.sfm_text.specs.declared.word.TermWord.TheVariants.{WeightWord, CutWord, NeedWord, CoverWord, TableWord, ConcaveWord, RankWord}
-use Rattle.sfm_text.proofs.WordLines.{of-term-line}
-use Rattle.sfm_text.proofs.Matches.{AllZip-same, AllZip-both, length-AllZip}
-use Rattle.sfm_text.proofs.Numbers.{from-same}
-use Rattle.sfm_text.proofs.TermReasons.{place-same}
+use Rattle.sfm_lines.specs.Parts.{LineParts}
+use Rattle.sfm_lines.specs.Words.{lowest_of, IsMadeOf}
+use Rattle.sfm_lines.specs.ReadParts.{IsTermOf}
+use Rattle.sfm_lines.specs.RankLines.{IsRankMadeOf}
+use Rattle.sfm_lines.specs.declared.word.RankKind.{RankKind}
+use Rattle.sfm_lines.specs.declared.word.RankKind.TheVariants.{UniformRank, LaminarRank, GraphicRank, TransversalRank}
+use Rattle.sfm_lines.specs.TermLines.{IsNumberFrom, IsElement, StandsFor}
+use Rattle.sfm_lines.specs.Reading.{AreTooMuch}
+use Rattle.sfm_lines.specs.declared.word.TermWord.{TermWord}
+use Rattle.sfm_lines.specs.declared.word.TermWord.TheVariants.{WeightWord, CutWord, NeedWord, CoverWord, TableWord, ConcaveWord, RankWord}
+use Rattle.sfm_lines.proofs.WordLines.{of-term-line}
+use Rattle.sfm_lines.proofs.Matches.{AllZip-same, AllZip-both, length-AllZip}
+use Rattle.sfm_lines.proofs.Numbers.{from-same}
+use Rattle.sfm_lines.proofs.TermReasons.{place-same}
 use Rattle.sfm_text.proofs.TooMuch.{much-by-total, total-by-much}
 
 same_first : (a b : ℤ) → a ∷ [] ≡ b ∷ [] → a ≡ b

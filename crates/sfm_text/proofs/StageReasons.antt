@@ -4,20 +4,20 @@ use Rattle.std.specs.List.{All, Any}
 use Rattle.std.proofs.lemmas.List.Elements.{All-get_or}
 use Rattle.sfm_spec.specs.Names.{IsName}
 use Rattle.sfm_kind.specs.Instance.{InstanceData}
-use Rattle.sfm_text.specs.declared.reason.Reason.{Reason}
-use Rattle.sfm_text.specs.declared.reason.Reason.TheVariants.{Long, Bytes, Word, Shape, Number, Name, Twice, Law, Total}
-use Rattle.sfm_text.specs.declared.stage.Stage.TheVariants.{Header, Ground, Terms, Ended}
-use Rattle.sfm_text.specs.declared.word.TermWord.{TermWord}
-use Rattle.sfm_text.specs.Lines.{tokens_of}
-use Rattle.sfm_text.specs.Parts.{LineParts, IsMark, AreUnmarked}
-use Rattle.sfm_text.specs.Words.{word_text}
-use Rattle.sfm_text.specs.TermLines.{StandsTwice}
-use Rattle.sfm_text.specs.Reading.{State, Has, FirstReason, Takes, HasTermLine, reason_order}
-use Rattle.sfm_text.specs.ReadParts.{state_at, IsLineOf}
-use Rattle.sfm_text.proofs.Colons.{none-any}
-use Rattle.sfm_text.proofs.Passed.{all-more}
-use Rattle.sfm_text.proofs.WordLines.{not-end}
-use Rattle.sfm_text.proofs.TermReasons.{none-below}
+use Rattle.sfm_lines.specs.declared.reason.Reason.{Reason}
+use Rattle.sfm_lines.specs.declared.reason.Reason.TheVariants.{Long, Bytes, Word, Shape, Number, Name, Twice, Law, Total}
+use Rattle.sfm_lines.specs.declared.stage.Stage.TheVariants.{Header, Ground, Terms, Ended}
+use Rattle.sfm_lines.specs.declared.word.TermWord.{TermWord}
+use Rattle.sfm_lines.specs.Lines.{tokens_of}
+use Rattle.sfm_lines.specs.Parts.{LineParts, IsMark, AreUnmarked}
+use Rattle.sfm_lines.specs.Words.{word_text}
+use Rattle.sfm_lines.specs.TermLines.{StandsTwice}
+use Rattle.sfm_lines.specs.Reading.{State, Has, FirstReason, Takes, HasTermLine, reason_order}
+use Rattle.sfm_lines.specs.ReadParts.{state_at, IsLineOf}
+use Rattle.sfm_lines.proofs.Colons.{none-any}
+use Rattle.sfm_passes.proofs.Passed.{all-more}
+use Rattle.sfm_lines.proofs.WordLines.{not-end}
+use Rattle.sfm_lines.proofs.TermReasons.{none-below}
 
 order-below : (reason : Reason) → reason_order reason < 10
 order-below Long = omega arith

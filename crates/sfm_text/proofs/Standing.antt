@@ -10,17 +10,18 @@ use Rattle.std.proofs.lemmas.List.Sums.{fails_before_first, passes_at_first}
 use Rattle.std.proofs.lemmas.List.Elements.{filter-append}
 use Rattle.sfm_kind.specs.Instance.{InstanceData}
 use Rattle.sfm_text.specs.declared.end.TextEnd.{TextEnd}
-use Rattle.sfm_text.specs.declared.line_fault.Fault.{Fault}
+use Rattle.sfm_text.specs.declared.end.Fault.{Fault}
 use Rattle.sfm_text.specs.declared.reader.Reader.{Reader}
-use Rattle.sfm_text.specs.Lines.{pieces_of, without_empty_last, content_of, lines_of, tokens_of, are_skipped}
-use Rattle.sfm_text.specs.Reading.{start, Takes}
-use Rattle.sfm_text.specs.declared.reason.Reason.TheVariants.{Long, Short}
-use Rattle.sfm_text.specs.declared.stage.Stage.{Stage}
-use Rattle.sfm_text.specs.declared.stage.Stage.TheVariants.{Ended}
+use Rattle.sfm_lines.specs.Lines.{pieces_of, without_empty_last, content_of, lines_of, tokens_of, are_skipped}
+use Rattle.sfm_lines.specs.Reading.{start, Takes}
+use Rattle.sfm_lines.specs.declared.reason.Reason.TheVariants.{Long, Short}
+use Rattle.sfm_lines.specs.declared.stage.Stage.{Stage}
+use Rattle.sfm_lines.specs.declared.stage.Stage.TheVariants.{Ended}
 use Rattle.sfm_text.specs.GoodText.{text_limit, HasFaultyLine, IsTextOf, IsRefusalOf, IsFaultOf, is_long, is_faulty, is_short}
 use Rattle.sfm_text.specs.Standing.{numbered, is_content, content_among, bytes_of, Progress, progress_of, LeadTo, IsOpen, IsFaulty, HasRead, Stands, PassesLine, FailsLine, JudgesLine, LeadsTo, HasReadAll}
-use Rattle.sfm_text.proofs.LineCuts.{without_empty_last-cons, without_empty_last-one, rest-is}
-use Rattle.sfm_text.proofs.Cutting.{cut-at}
+use Rattle.sfm_text.proofs.LineCuts.{without_empty_last-cons, without_empty_last-one}
+use Rattle.sfm_lines.proofs.Cuts.{rest-is}
+use Rattle.sfm_lines.proofs.Cutting.{cut-at}
 use Rattle.sfm_text.proofs.Following.{lines-push}
 use Rattle.sfm_text.proofs.Orders.{first_listed}
 use Rattle.sfm_text.proofs.Appended.{pieces-more, pieces-longer, pieces-ended, some-pieces, without-last, numbered-append}
@@ -197,10 +198,6 @@ last-fault text (Some fault) P Q some h = subst (λ (l : List ℕ). HasFaultyLin
 
 pub faulty-last : (reader : Reader) (text : List ℕ) → true ≡ is_some reader.fault → HasRead reader text → HasReadAll reader text
 faulty-last reader text some h = last-fault text reader.fault (IsOpen (progress_of reader) reader.rest.items text) (LeadsTo text (progress_of reader)) some h
-
--- what `is_empty` says of a count
-pub none-count : (n : ℕ) → true ≡ (n == 0) → n ≡ 0
-none-count n h = eqb-true n 0 (sym h)
 
 pub some-count : (n : ℕ) → false ≡ (n == 0) → 0 < n
 some-count zero h = cc

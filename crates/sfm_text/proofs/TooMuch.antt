@@ -13,7 +13,7 @@ use Rattle.sfm_kind.specs.Limits.{AreInBounds, total_size_of}
 use Rattle.sfm_kind.specs.declared.kind.Kind.{Kind}
 use Rattle.sfm_kind.proofs.Bounds.{kind_size-low, total_size-low, total_size-push, support-push}
 use Rattle.sfm_kind.proofs.Meanings.{kinds-mean, total-size}
-use Rattle.sfm_text.specs.Reading.{AreTooMuch}
+use Rattle.sfm_lines.specs.Reading.{AreTooMuch}
 
 -- the sizes are too much by the meanings of the terms exactly where they are by what the terms tell of themselves
 pub much-by-total : (terms : List Kind) → pos (10 ^ 15) <ℤ total_size_of terms → AreTooMuch terms

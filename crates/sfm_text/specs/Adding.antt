@@ -2,16 +2,16 @@
 -- adds to an instance.
 use Rattle.std.specs.Prelude.{◌≢◌, ℕ, ◌<◌, List, ◌∷◌}
 use Rattle.sfm_kind.specs.Instance.{InstanceData}
-use Rattle.sfm_text.specs.declared.line_fault.LineEnd.{LineEnd}
-use Rattle.sfm_text.specs.declared.line_fault.LineEnd.TheVariants.{Fault, Memory}
-use Rattle.sfm_text.specs.declared.reason.Reason.{Reason}
-use Rattle.sfm_text.specs.declared.reason.Reason.TheVariants.{Word}
-use Rattle.sfm_text.specs.declared.stage.Stage.TheVariants.{Terms}
-use Rattle.sfm_text.specs.declared.word.TermWord.{TermWord}
-use Rattle.sfm_text.specs.Lines.{tokens_of}
-use Rattle.sfm_text.specs.Words.{word_text}
-use Rattle.sfm_text.specs.Reading.{Has, AddsTerm, reason_order}
-use Rattle.sfm_text.specs.ReadParts.{state_at}
+use Rattle.sfm_lines.specs.declared.line_fault.LineEnd.{LineEnd}
+use Rattle.sfm_lines.specs.declared.line_fault.LineEnd.TheVariants.{Fault, Memory}
+use Rattle.sfm_lines.specs.declared.reason.Reason.{Reason}
+use Rattle.sfm_lines.specs.declared.reason.Reason.TheVariants.{Word}
+use Rattle.sfm_lines.specs.declared.stage.Stage.TheVariants.{Terms}
+use Rattle.sfm_lines.specs.declared.word.TermWord.{TermWord}
+use Rattle.sfm_lines.specs.Lines.{tokens_of}
+use Rattle.sfm_lines.specs.Words.{word_text}
+use Rattle.sfm_lines.specs.Reading.{Has, AddsTerm, reason_order}
+use Rattle.sfm_lines.specs.ReadParts.{state_at}
 
 -- the line has that reason as a term line behind the terms of the instance. As in a text, but that the line `end` has a wrong
 -- word too

@@ -4,11 +4,11 @@ use Rattle.std.specs.List.{FoldsTo}
 use Rattle.sfm_kind.specs.declared.kind.Kind.{Kind}
 use Rattle.sfm_text.specs.declared.end.TextEnd.{TextEnd}
 use Rattle.sfm_text.specs.declared.end.TextEnd.TheVariants.{Refused, Memory}
-use Rattle.sfm_text.specs.declared.reason.Reason.{Reason}
-use Rattle.sfm_text.specs.declared.reason.Reason.TheVariants.{Long, Short}
-use Rattle.sfm_text.specs.declared.stage.Stage.TheVariants.{Ended}
-use Rattle.sfm_text.specs.Lines.{lines_of, content_of}
-use Rattle.sfm_text.specs.Reading.{State, start, IsFirstReason, Takes}
+use Rattle.sfm_lines.specs.declared.reason.Reason.{Reason}
+use Rattle.sfm_lines.specs.declared.reason.Reason.TheVariants.{Long, Short}
+use Rattle.sfm_lines.specs.declared.stage.Stage.TheVariants.{Ended}
+use Rattle.sfm_lines.specs.Lines.{lines_of, content_of}
+use Rattle.sfm_lines.specs.Reading.{State, start, IsFirstReason, Takes}
 
 -- the most bytes of an instance text
 abbrev pub text_limit : ℕ

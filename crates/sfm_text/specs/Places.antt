@@ -1,11 +1,7 @@
--- The lines of a text with the places in it at which they stand, and where a token ends.
-use Rattle.std.specs.Prelude.{◌≡◌, ℕ, ◌+◌, ◌≤◌, ◌==◌, ◌||◌, Bool, not, List, [], ◌∷◌, length, filter, slice_range}
+-- The lines of a text with the places in it at which they stand.
+use Rattle.std.specs.Prelude.{◌≡◌, ℕ, ◌+◌, ◌≤◌, not, List, [], ◌∷◌, length, filter, slice_range}
 use Rattle.std.specs.Str.Lines.{strip_carriage_return}
-use Rattle.sfm_text.specs.Lines.{pieces_of, without_empty_last, tokens_of, are_skipped}
-
--- a space or a tab
-abbrev pub is_blank : ℕ → Bool
-is_blank c = (c == 32) || (c == 9)
+use Rattle.sfm_lines.specs.Lines.{pieces_of, without_empty_last, tokens_of, are_skipped}
 
 -- a line of a text: its number, counted from 1, the place in the text at which it begins, and its bytes
 pub record TextLine : Type 0 where

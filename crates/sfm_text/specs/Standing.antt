@@ -2,12 +2,12 @@
 use Rattle.std.specs.Prelude.{◌≡◌, ◌⊎◌, ℕ, ◌+◌, ◌≤◌, min, true, false, Bool, not, List, [], ◌∷◌, ◌++◌, length, filter, map, MatchOption}
 use Rattle.std.specs.List.{FoldsTo, enumerate_from}
 use Rattle.std.specs.Str.Lines.{strip_carriage_return}
-use Rattle.sfm_text.specs.declared.line_fault.Fault.{Fault}
+use Rattle.sfm_text.specs.declared.end.Fault.{Fault}
 use Rattle.sfm_text.specs.declared.reader.Reader.{Reader}
-use Rattle.sfm_text.specs.Lines.{pieces_of, content_of, lines_of, tokens_of, are_skipped}
-use Rattle.sfm_text.specs.Reading.{State, start, Takes, FirstReason}
+use Rattle.sfm_lines.specs.Lines.{pieces_of, content_of, lines_of, tokens_of, are_skipped}
+use Rattle.sfm_lines.specs.Reading.{State, start, Takes, FirstReason}
 use Rattle.sfm_text.specs.GoodText.{text_limit, HasFaultyLine}
-use Rattle.sfm_text.specs.ReadParts.{state_of}
+use Rattle.sfm_text.specs.Judging.{state_of}
 
 -- these pieces as lines, numbered on from that number
 abbrev pub numbered : ℕ → List (List ℕ) → List (ℕ × List ℕ)

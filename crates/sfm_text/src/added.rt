@@ -3,24 +3,23 @@
 ghost use Rattle.std.specs.Prelude.{◌≡◌, ◌≢◌, ◌↔◌, ◌<◌, ◌≤◌, ◌^◌, ℕ, List, [], ◌∷◌, ◌++◌, length, IsTrue, Any, MatchBool, MatchOption, MatchResult, OnErr};
 ghost use Rattle.std.specs.List.{All};
 ghost use Rattle.sfm_kind.specs.Limits.{AreInBounds};
-ghost use Rattle.sfm_text.specs.Lines.{texts_of, tokens_of};
-ghost use Rattle.sfm_text.specs.Words.{word_text};
-ghost use Rattle.sfm_text.specs.Reading.{IsBadByte, AreTooMuch};
-ghost use Rattle.sfm_text.specs.ReadParts.{bytes_in, state_at, IsOutcome, IsTermRead};
-ghost use Rattle.sfm_text.specs.Passes.{IsEntryLine};
+ghost use Rattle.sfm_lines.specs.Lines.{texts_of, tokens_of};
+ghost use Rattle.sfm_lines.specs.Words.{word_text};
+ghost use Rattle.sfm_lines.specs.Reading.{IsBadByte, AreTooMuch};
+ghost use Rattle.sfm_lines.specs.ReadParts.{bytes_in, state_at, IsTermRead, IsEntryLine};
+ghost use Rattle.sfm_text.specs.Judging.{IsOutcome};
 ghost use Rattle.sfm_text.specs.GoodText.{text_limit};
 ghost use Rattle.sfm_text.specs.Adding.{IsTermAdded, IsTermRefusal};
-ghost use Rattle.sfm_text.specs.declared.stage.Stage.TheVariants.{Terms};
-ghost use Rattle.sfm_text.specs.declared.word.TermWord.{TermWord};
+ghost use Rattle.sfm_lines.specs.declared.stage.Stage.TheVariants.{Terms};
+ghost use Rattle.sfm_lines.specs.declared.word.TermWord.{TermWord};
 
-use crate::line_fault::LineEnd;
-use crate::long_line::{early_reason, early_term};
-use crate::reason::Reason;
-use crate::term_line::read_term;
-use crate::tokens::{first_token, tokens};
-use crate::word::{TermWord, term_word};
 use sfm_kind::{Instance, Kind};
 use sfm_law::Term;
+use sfm_lines::term_line::read_term;
+use sfm_lines::tokens::{first_token, tokens};
+use sfm_lines::word::{TermWord, term_word};
+use sfm_lines::{LineEnd, Reason};
+use sfm_passes::{early_reason, early_term};
 use std::alloc::Global;
 
 /// The most terms, places and sizes of a text in all.

@@ -1,10 +1,19 @@
-// The end of a reading or a solving that gives no answer.
+// The first fault of a text, and the end of a reading or a solving that gives no answer.
 ghost use Rattle.sfm_text.specs.declared.end.TextEnd.TheVariants.{Memory};
 ghost use Rattle.std.specs.Prelude.{◌≡◌};
 
-use crate::reason::Reason;
+use sfm_lines::Reason;
 use std::alloc::AllocError;
 use thiserror::Error;
+
+/// The first fault of a text.
+#[derive(Clone, Copy, Debug, PartialEq, Eq)]
+pub struct Fault {
+    /// The number of the line, counted from 1.
+    pub line: usize,
+    /// The first reason that the line has.
+    pub reason: Reason,
+}
 
 /// Why a text gave no instance or no answer.
 #[derive(Clone, Copy, Debug, PartialEq, Eq, Error)]

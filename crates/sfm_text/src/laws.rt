@@ -4,11 +4,11 @@ ghost use Rattle.std.specs.Prelude.{◌≡◌, ◌↔◌, ℕ, Bool, List, lengt
 ghost use Rattle.std.specs.List.{All};
 ghost use Rattle.sfm_spec.specs.Kinds.{Group, IsWithinCaps, IsMatchable};
 ghost use Rattle.sfm_laminar.specs.Crossing.{IsCrossing};
-ghost use Rattle.sfm_text.specs.LabelTerms.{numbers_of};
-ghost use Rattle.sfm_text.specs.RankLines.{least_groups};
-ghost use Rattle.sfm_text.specs.TermLines.{StandsTwice};
+ghost use Rattle.sfm_lines.specs.LabelTerms.{numbers_of};
+ghost use Rattle.sfm_lines.specs.RankLines.{least_groups};
+ghost use Rattle.sfm_lines.specs.TermLines.{StandsTwice};
 ghost use Rattle.sfm_kind.specs.declared.kind.Kind.{Kind};
-ghost use Rattle.sfm_text.specs.declared.reason.Reason.{Reason};
+ghost use Rattle.sfm_lines.specs.declared.reason.Reason.{Reason};
 ghost use Rattle.sfm_text.specs.GoodText.{IsTextOf, IsFaultOf};
 
 /// A text is not both good and faulty, and has one first fault: its line and its reason are the only ones.

@@ -5,8 +5,8 @@ ghost use Rattle.std.specs.Str.Lines.{strip_carriage_return};
 ghost use Rattle.std.specs.List.{All, position_or_len};
 ghost use Rattle.sfm_text.specs.Places.{span_of, placed_content, LiesIn};
 
-use crate::tokens::is_skipped;
 use sfm_base::Memory;
+use sfm_lines::tokens::is_skipped;
 use std::alloc::Global;
 
 /// A line of a text, without its line feed and without a carriage return at its end.

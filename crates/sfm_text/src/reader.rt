@@ -2,18 +2,16 @@
 // the names, the terms and the line that has not ended are kept, and behind the first fault no more than a count of bytes.
 ghost use Rattle.std.specs.Prelude.{◌≡◌, ◌==◌, ◌+◌, ◌≤◌, ◌<◌, ℕ, List, [], ◌∷◌, ◌++◌, length, true, false, None, Err, IfOk, IfErr, OnOk, OnErr};
 ghost use Rattle.std.specs.List.{All, concat};
-ghost use Rattle.sfm_text.specs.Lines.{texts_of};
+ghost use Rattle.sfm_lines.specs.Lines.{texts_of};
 ghost use Rattle.sfm_text.specs.GoodText.{text_limit, IsTextOf, IsRefusalOf};
 ghost use Rattle.sfm_text.specs.declared.end.TextEnd.TheVariants as ends;
 
-use crate::end::TextEnd;
-use crate::line_fault::{Fault, LineEnd};
+use crate::end::{Fault, TextEnd};
 use crate::lines::line_end;
 use crate::reading::Reading;
-use crate::reason::Reason;
-use crate::stage::Stage;
 use sfm_base::Memory;
 use sfm_kind::Instance;
+use sfm_lines::{LineEnd, Reason, Stage};
 use std::alloc::Global;
 use std::mem;
 

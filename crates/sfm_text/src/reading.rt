@@ -3,22 +3,19 @@ ghost use Rattle.std.specs.Prelude.{◌≡◌, ◌≢◌, ◌≤◌, ℕ, List, 
 ghost use Rattle.std.specs.List.{All};
 ghost use Rattle.std.specs.Str.Lines.{strip_carriage_return};
 ghost use Rattle.sfm_spec.specs.Names.{IsName};
-ghost use Rattle.sfm_text.specs.Lines.{texts_of, tokens_of};
-ghost use Rattle.sfm_text.specs.TermLines.{StandsTwice};
-ghost use Rattle.sfm_text.specs.Reading.{start, Takes, IsLineRefusal};
-ghost use Rattle.sfm_text.specs.ReadParts.{BeginsEnd};
+ghost use Rattle.sfm_lines.specs.Lines.{texts_of, tokens_of};
+ghost use Rattle.sfm_lines.specs.TermLines.{StandsTwice};
+ghost use Rattle.sfm_lines.specs.Reading.{start, Takes, IsLineRefusal};
+ghost use Rattle.sfm_text.specs.Judging.{BeginsEnd};
 ghost use Rattle.sfm_text.specs.GoodText.{text_limit};
 
 use crate::added::{add_line, are_good_bytes};
-use crate::between::Separator;
-use crate::line_fault::LineEnd;
 use crate::lines::without_return;
-use crate::passes::{are_names_in, has_mark_in, has_repeat_in};
-use crate::reason::Reason;
-use crate::stage::Stage;
-use crate::tokens::{first_token, has_token, is_skipped, token, tokens};
 use sfm_base::Memory;
 use sfm_kind::Instance;
+use sfm_lines::tokens::{first_token, has_token, is_skipped, token, tokens};
+use sfm_lines::{LineEnd, Reason, Stage};
+use sfm_passes::{Separator, are_names_in, has_mark_in, has_repeat_in};
 use std::alloc::Global;
 
 /// The most names of a ground.
@@ -86,8 +83,9 @@ fn with_names(alloc: Global, names: &[&[u8]]) -> Result<Instance, Memory>
 }
 
 impl Reading {
-    ghost use Rattle.sfm_text.specs.ReadParts.{state_at, state_of, IsOutcome, Passes, Fails};
-    ghost use Rattle.sfm_text.specs.declared.stage.Stage.TheVariants.{Header, Ground, Terms};
+    ghost use Rattle.sfm_lines.specs.ReadParts.{state_at};
+    ghost use Rattle.sfm_text.specs.Judging.{state_of, IsOutcome, Passes, Fails};
+    ghost use Rattle.sfm_lines.specs.declared.stage.Stage.TheVariants.{Header, Ground, Terms};
 
     /// Nothing has been read.
     pub fn new(alloc: Global) -> Reading

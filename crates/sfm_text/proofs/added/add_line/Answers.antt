@@ -1,8 +1,8 @@
 -- A line with the word of a term line is judged as one of a text.
 use Rattle.std.proofs.Common.{arith}
-use Rattle.sfm_text.specs.declared.line_fault.LineEnd.TheVariants.{Fault}
-use Rattle.sfm_text.specs.Lines.{tokens_of}
-use Rattle.sfm_text.proofs.FewLabels.{bytes-tokens, bytes-behind}
+use Rattle.sfm_lines.specs.declared.line_fault.LineEnd.TheVariants.{Fault}
+use Rattle.sfm_lines.specs.Lines.{tokens_of}
+use Rattle.sfm_lines.proofs.FewLabels.{bytes-tokens, bytes-behind}
 use Rattle.sfm_text.proofs.Adding.{judged-as, term-refused, term-not-last}
 use Rattle.sfm_text.proofs.added.add_line.Goals as goal
 

@@ -1,4 +1,4 @@
-use Rattle.sfm_text.specs.Lines.{texts_of}
+use Rattle.sfm_lines.specs.Lines.{texts_of}
 use Rattle.sfm_text.proofs.added.add_read.Goals as goal
 
 pub add_made-requires : goal.add_made-requires

@@ -1,4 +1,4 @@
-use Rattle.sfm_text.proofs.LeastGroups.{least-caps, crossing-from, crossing-for}
+use Rattle.sfm_lines.proofs.LeastGroups.{least-caps, crossing-from, crossing-for}
 use Rattle.sfm_text.proofs.laws.least_groups_suffice.Goals as goal
 
 pub returns-clause-caps : goal.returns-clause-caps

@@ -2,7 +2,7 @@ use Rattle.std.proofs.Common.{rules, tests, ◌∙◌}
 use Rattle.std.specs.Prelude.{◌==◌}
 use Rattle.std.proofs.lemmas.Iterator.{YieldsList-from_slice}
 use Rattle.std.proofs.lemmas.Iterator.Search.{position_from_yields_List}
-use Rattle.sfm_text.proofs.LineCuts.{position-or}
+use Rattle.sfm_lines.proofs.Cuts.{position-or}
 use Rattle.sfm_text.proofs.lines.line_end.Goals as goal
 
 pub returns : goal.returns

@@ -1,4 +1,4 @@
-use Rattle.sfm_text.specs.Lines.{tokens_of}
+use Rattle.sfm_lines.specs.Lines.{tokens_of}
 use Rattle.sfm_text.proofs.Adding.{last-by}
 use Rattle.sfm_text.proofs.reading.is_last.Goals as goal
 

@@ -1,5 +1,5 @@
 use Rattle.sfm_spec.specs.Names.{IsName}
-use Rattle.sfm_text.proofs.Repeats.{All-text, name-fresh}
+use Rattle.sfm_lines.proofs.Repeats.{All-text, name-fresh}
 use Rattle.sfm_text.proofs.reading.with_names.Goals as goal
 
 pub add_name-requires-clause-form : goal.add_name-requires-clause-form

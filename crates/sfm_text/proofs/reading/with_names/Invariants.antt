@@ -1,5 +1,5 @@
 use Rattle.std.proofs.Common.{◌≡◌, [], take}
-use Rattle.sfm_text.specs.Lines.{texts_of}
+use Rattle.sfm_lines.specs.Lines.{texts_of}
 use Rattle.sfm_text.proofs.reading.with_names.Given as goal
 
 abbrev pub invariant-loop-name : goal.invariant-loop-name

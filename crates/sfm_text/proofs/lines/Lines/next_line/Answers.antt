@@ -1,5 +1,6 @@
 use Rattle.std.proofs.Common.{refl, ap, length, arith}
-use Rattle.sfm_text.proofs.LineCuts.{lines_from-at, lies-at, rest-is, not_empty}
+use Rattle.sfm_text.proofs.LineCuts.{lines_from-at, lies-at}
+use Rattle.sfm_lines.proofs.Cuts.{rest-is, not_empty}
 use Rattle.sfm_text.proofs.lines.Lines.next_line.Goals as goal
 
 pub returns-clause-next : goal.returns-clause-next

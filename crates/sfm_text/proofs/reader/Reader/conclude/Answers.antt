@@ -1,5 +1,5 @@
 use Rattle.std.proofs.Common.{rules, ◌≡◌, ◌≢◌}
-use Rattle.sfm_text.specs.declared.stage.Stage.TheVariants.{Ended}
+use Rattle.sfm_lines.specs.declared.stage.Stage.TheVariants.{Ended}
 use Rattle.sfm_text.proofs.Standing.{conclude-short, conclude-good}
 use Rattle.sfm_text.proofs.reader.Reader.conclude.Goals as goal
 

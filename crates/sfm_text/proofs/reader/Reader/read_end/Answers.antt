@@ -1,7 +1,8 @@
 use Rattle.std.proofs.Common.{◌≡◌, ◌<◌, ℕ, List, [], length, refl, arith}
 use Rattle.std.proofs.lemmas.List.{nil_from_length}
 use Rattle.sfm_text.specs.Standing.{HasRead, HasReadAll, JudgesLine}
-use Rattle.sfm_text.proofs.Standing.{faulty-last, end-read, line-last, is-open, on_ok, none-count, some-count}
+use Rattle.sfm_text.proofs.Standing.{faulty-last, end-read, line-last, is-open, on_ok, some-count}
+use Rattle.sfm_lines.proofs.Cuts.{none-count}
 use Rattle.sfm_text.proofs.reader.Reader.read_end.Goals as goal
 
 pub returns-then-is_some : goal.returns-then-is_some

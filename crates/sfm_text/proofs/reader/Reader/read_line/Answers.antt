@@ -1,7 +1,8 @@
 use Rattle.std.proofs.Common.{◌≡◌, ℕ, List, [], ◌∷◌, ◌++◌, refl, sym, ap, ◌∙◌, arith}
 use Rattle.std.proofs.lemmas.List.{nil_from_length}
 use Rattle.sfm_text.specs.Standing.{HasRead, IsOpen, JudgesLine, progress_of}
-use Rattle.sfm_text.proofs.Standing.{line-read, none-count, on_ok}
+use Rattle.sfm_text.proofs.Standing.{line-read, on_ok}
+use Rattle.sfm_lines.proofs.Cuts.{none-count}
 use Rattle.sfm_text.proofs.reader.Reader.read_line.Goals as goal
 
 pub returns-then-is_empty-clause-read : goal.returns-then-is_empty-clause-read

@@ -1,8 +1,8 @@
 use Rattle.std.proofs.Common.{◌∷◌, codes, ◌∙◌, sym, refl}
 use Rattle.std.proofs.lemmas.Bool.{false≢true}
-use Rattle.sfm_text.specs.Lines.{tokens_of}
-use Rattle.sfm_text.specs.Parts.{IsMark}
-use Rattle.sfm_text.proofs.Passed.{any-behind}
+use Rattle.sfm_lines.specs.Lines.{tokens_of}
+use Rattle.sfm_lines.specs.Parts.{IsMark}
+use Rattle.sfm_passes.proofs.Passed.{any-behind}
 use Rattle.sfm_text.proofs.StageReasons.{ground-shape, ground-name, ground-twice, ground-total, ground-good, ground-unmarked, line-as}
 use Rattle.sfm_text.proofs.reading.Reading.take_ground.Goals as goal
 

@@ -1,5 +1,5 @@
 use Rattle.std.proofs.Common.{List, ℕ, [], ◌∷◌, codes, ap, ◌∙◌}
-use Rattle.sfm_text.specs.Lines.{tokens_of}
+use Rattle.sfm_lines.specs.Lines.{tokens_of}
 use Rattle.sfm_text.proofs.StageReasons.{header-good, line-as}
 use Rattle.sfm_text.proofs.reading.Reading.take_header.Goals as goal
 

@@ -1,0 +1,11 @@
+pub mod Lines
+pub mod Tokens
+pub mod Parts
+pub mod CutParts
+pub mod LabelTerms
+pub mod RankLines
+pub mod Words
+pub mod TermLines
+pub mod Reading
+pub mod Reasons
+pub mod ReadParts

@@ -1,0 +1,138 @@
+-- The state in which a text is read, the reasons for which a line is refused in a state, and the states that a good line
+-- leads from and to.
+use Rattle.std.specs.Prelude.{◌≡◌, ◌≢◌, ◌⊎◌, ℕ, ◌<◌, ◌^◌, List, [], ◌∷◌, ◌++◌, length, codes, Any, Contains, ℤ, pos, ◌<ℤ◌}
+use Rattle.std.specs.List.{All, AllZip}
+use Rattle.sfm_spec.specs.Names.{IsName}
+use Rattle.sfm_spec.specs.Families.{Meaning}
+use Rattle.sfm_kind.specs.Instance.{support_of}
+use Rattle.sfm_kind.specs.Meanings.{total_by, IsMeaningOf}
+use Rattle.sfm_kind.specs.declared.kind.Kind.{Kind}
+use Rattle.sfm_lines.specs.declared.reason.Reason.{Reason}
+use Rattle.sfm_lines.specs.declared.reason.Reason.TheVariants.{Long, Bytes, Word, Shape, Number, Name, Twice, Law, Total, Short}
+use Rattle.sfm_lines.specs.declared.stage.Stage.{Stage}
+use Rattle.sfm_lines.specs.declared.stage.Stage.TheVariants.{Header, Ground, Terms, Ended}
+use Rattle.sfm_lines.specs.declared.line_fault.LineEnd.{LineEnd}
+use Rattle.sfm_lines.specs.declared.line_fault.LineEnd.TheVariants.{Fault, Memory}
+use Rattle.sfm_lines.specs.declared.word.RankKind.{RankKind}
+use Rattle.sfm_lines.specs.declared.word.RankKind.TheVariants.{TransversalRank}
+use Rattle.sfm_lines.specs.declared.word.TermWord.{TermWord}
+use Rattle.sfm_lines.specs.Lines.{tokens_of}
+use Rattle.sfm_lines.specs.Parts.{LineParts, IsMark}
+use Rattle.sfm_lines.specs.Words.{word_text, lowest_of, BreaksLaw}
+use Rattle.sfm_lines.specs.TermLines.{IsShaped, IsNumberFrom, StandsTwice, StandsFor}
+
+-- which line is due, the names of the ground, and the terms so far
+pub record State : Type 0 where
+  pub stage : Stage
+  pub names : List (List ℕ)
+  pub terms : List Kind
+
+-- before the first content line
+abbrev pub start : State
+start = record { stage = Header; names = []; terms = [] }
+
+-- the reasons, in their order on a line
+abbrev pub reasons : List Reason
+reasons = Long ∷ Bytes ∷ Word ∷ Shape ∷ Number ∷ Name ∷ Twice ∷ Law ∷ Total ∷ Short ∷ []
+
+-- neither a tab nor a byte from the space to `~`
+abbrev pub IsBadByte : ℕ → Type 0
+IsBadByte c = (c ≢ 9) × ((c < 32) ⊎ (126 < c))
+
+-- a term line of which something holds of the word, the tokens behind it and the parts
+abbrev pub HasTermLine : List (List ℕ) → (TermWord → List (List ℕ) → LineParts → Type 0) → Type 0
+HasTermLine tokens P = (word : TermWord) × (rest : List (List ℕ)) × (parts : LineParts) × IsShaped tokens word rest parts × P word rest parts
+
+-- some name of a group is not one of the elements of its line
+abbrev pub HasStranger : LineParts → Type 0
+HasStranger parts = Any (λ names. Any (λ text. Contains parts.elements text → ⊥) names) parts.groups
+
+-- some label is not of the form of a name
+abbrev pub HasWrongLabel : LineParts → Type 0
+HasWrongLabel parts = Any (λ labels. Any (λ text. IsName text → ⊥) labels) parts.labels
+
+-- a slot stands twice in one entry; both ends of an edge may be one vertex
+abbrev pub HasSlotTwice : RankKind → List (List (List ℕ)) → Type 0
+HasSlotTwice TransversalRank labels = Any (λ slots. StandsTwice slots) labels
+HasSlotTwice _ labels = ⊥
+
+-- more terms, places or sizes than a text may have in all; the size of a term is that of its meaning
+abbrev pub AreTooMuch : List Kind → Type 0
+AreTooMuch terms = (4096 < length terms) ⊎ (16384 < support_of terms) ⊎ ((meant : List Meaning) × AllZip IsMeaningOf terms meant × (pos (10 ^ 15) <ℤ total_by terms meant))
+
+-- a line with these tokens has that reason where the line of a stage is due. Word: the first token is none that may begin the line.
+-- Shape: the tokens do not fit the pattern of the line. Number: what stands in a number's place is no number, or one outside its
+-- range. Name: what stands in a name's place is no name, or none of the ground where an element is meant, or no element of the line
+-- where one of a group is meant. Twice: a name stands twice in the ground line, or an element twice in a term line or in one of its
+-- groups, or a slot in an entry. Law: the numbers break the law of the kind. Total: there are too many names, or with this line too
+-- much in all
+abbrev pub HasAt : Stage → State → List (List ℕ) → Reason → Type 0
+HasAt Header s tokens Word = (rest : List (List ℕ)) → tokens ≢ codes "sfm" ∷ rest
+HasAt Header s tokens Shape = tokens ≢ codes "sfm" ∷ codes "1" ∷ []
+HasAt Ground s tokens Word = (rest : List (List ℕ)) → tokens ≢ codes "ground" ∷ rest
+HasAt Ground s tokens Shape = Any IsMark tokens
+HasAt Ground s tokens Name = (rest : List (List ℕ)) × (tokens ≡ codes "ground" ∷ rest) × Any (λ text. IsName text → ⊥) rest
+HasAt Ground s tokens Twice = (rest : List (List ℕ)) × (tokens ≡ codes "ground" ∷ rest) × StandsTwice rest
+HasAt Ground s tokens Total = (rest : List (List ℕ)) × (tokens ≡ codes "ground" ∷ rest) × (256 < length rest)
+HasAt Terms s tokens Word = ((rest : List (List ℕ)) → tokens ≢ codes "end" ∷ rest) × ((word : TermWord) (rest : List (List ℕ)) → tokens ≢ word_text word ∷ rest)
+HasAt Terms s tokens Shape = (tokens ≢ codes "end" ∷ []) × ((word : TermWord) (rest : List (List ℕ)) (parts : LineParts) → IsShaped tokens word rest parts → ⊥)
+HasAt Terms s tokens Number = HasTermLine tokens (λ word rest parts. Any (λ text. (value : ℤ) → IsNumberFrom (lowest_of word) text value → ⊥) parts.numbers)
+HasAt Terms s tokens Name = HasTermLine tokens (λ word rest parts. Any (λ text. IsName text → Contains s.names text → ⊥) parts.elements ⊎ HasStranger parts ⊎ HasWrongLabel parts)
+HasAt Terms s tokens Twice = HasTermLine tokens (λ word rest parts. StandsTwice parts.elements ⊎ Any (λ names. StandsTwice names) parts.groups ⊎ HasSlotTwice parts.rank parts.labels)
+HasAt Terms s tokens Law = HasTermLine tokens (λ word rest parts. (values : List ℤ) × AllZip (IsNumberFrom (lowest_of word)) parts.numbers values × BreaksLaw word parts values)
+HasAt Terms s tokens Total = (term : Kind) × StandsFor s.names tokens term × AreTooMuch (s.terms ++ term ∷ [])
+HasAt Ended s tokens Word = Unit {0}
+HasAt _ s tokens reason = ⊥
+
+-- the line has that reason in that state; that a text is too long or too short is said of no line
+abbrev pub Has : State → List ℕ → Reason → Type 0
+Has s line Long = ⊥
+Has s line Short = ⊥
+Has s line Bytes = Any IsBadByte line
+Has s line reason = HasAt s.stage s (tokens_of line) reason
+
+-- the line has that reason and none that comes before it
+pub record IsFirstReason (s : State) (line : List ℕ) (reason : Reason) : Type 0 where
+  pub holds : Has s line reason
+  pub first : (before behind : List Reason) → reasons ≡ before ++ reason ∷ behind → All (λ earlier. Has s line earlier → ⊥) before
+
+-- a term line adds its term
+abbrev pub AddsTerm : State → List (List ℕ) → State → Type 0
+AddsTerm s tokens t = (term : Kind) × StandsFor s.names tokens term × (t ≡ record { stage = Terms; names = s.names; terms = s.terms ++ term ∷ [] })
+
+-- what a line with these tokens leads to
+abbrev pub Adds : Stage → State → List (List ℕ) → State → Type 0
+Adds Header s tokens t = t ≡ record { stage = Ground; names = s.names; terms = s.terms }
+Adds Ground s tokens t = (names : List (List ℕ)) × (tokens ≡ codes "ground" ∷ names) × (t ≡ record { stage = Terms; names = names; terms = [] })
+Adds Terms s tokens t = ((tokens ≡ codes "end" ∷ []) × (t ≡ record { stage = Ended; names = s.names; terms = s.terms })) ⊎ AddsTerm s tokens t
+Adds Ended s tokens t = ⊥
+
+-- the line is good in the state s and leads to the state t
+pub record Takes (s : State) (line : List ℕ) (t : State) : Type 0 where
+  pub good : (reason : Reason) → Has s line reason → ⊥
+  pub adds : Adds s.stage s (tokens_of line) t
+
+-- ---- the reasons by their numbers, as the code goes through them
+
+-- the order of the reasons on a line
+abbrev pub reason_order : Reason → ℕ
+reason_order Long = 0
+reason_order Bytes = 1
+reason_order Word = 2
+reason_order Shape = 3
+reason_order Number = 4
+reason_order Name = 5
+reason_order Twice = 6
+reason_order Law = 7
+reason_order Total = 8
+reason_order Short = 9
+
+-- the line has that reason and none of a lower number
+pub record FirstReason (s : State) (line : List ℕ) (reason : Reason) : Type 0 where
+  pub holds : Has s line reason
+  pub first : (earlier : Reason) → reason_order earlier < reason_order reason → Has s line earlier → ⊥
+
+-- a refusal names the first reason; want of memory says nothing
+abbrev pub IsLineRefusal : State → List ℕ → LineEnd → Type 0
+IsLineRefusal s line (Fault reason) = FirstReason s line reason
+IsLineRefusal s line Memory = Unit {0}

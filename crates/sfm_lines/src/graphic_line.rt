@@ -1,0 +1,127 @@
+// The line `rank`, a number, `graphic`, a colon, and at least one edge `name=vertex-vertex`.
+ghost use Rattle.std.specs.Prelude.{◌≡◌, ◌<◌, ℕ, List, length, map, ◌^◌, MatchOption, IfOk, codes};
+ghost use Rattle.std.specs.List.{All};
+ghost use Rattle.sfm_matroid.specs.Ends.{edges_of};
+ghost use Rattle.sfm_lines.specs.Lines.{texts_of};
+ghost use Rattle.sfm_lines.specs.Parts.{IsLabelToken, IsLabelledLine};
+ghost use Rattle.sfm_lines.specs.LabelTerms.{edge_between};
+ghost use Rattle.sfm_lines.specs.CutParts.{AreLabelled, labelled_parts_of, place_among};
+ghost use Rattle.sfm_lines.specs.ReadParts.{AreGiven, HasLineParts, IsTermOf, parts_of, label_lists_of, joined};
+ghost use Rattle.sfm_lines.specs.declared.word.TermWord.TheVariants.{RankWord};
+ghost use Rattle.sfm_lines.specs.declared.word.RankKind.TheVariants.{GraphicRank};
+
+use crate::labels::{Labels, different, number_of};
+use crate::pair::cut_once;
+use crate::parts::Parts;
+use crate::rank_head::cut_head;
+use crate::word::RankKind;
+use indexmap::IndexSet;
+use sfm_base::Memory;
+use sfm_kind::Kind;
+use sfm_matroid::Graphic;
+use std::alloc::{AllocError, Global};
+
+/// An element and the two ends of its edge, or None where the token is no edge.
+fn cut_edge<'a>(
+    alloc: Global,
+    token: &'a [u8],
+) -> Result<Option<(&'a [u8], Labels<'a>)>, AllocError>
+    ensures { IfOk result (λ r. MatchOption r
+        ((entry : List ℕ × List (List ℕ)) → IsLabelToken GraphicRank token.now entry → ⊥)
+        (λ p. IsLabelToken GraphicRank token.now (p.0.now, texts_of p.1.texts.items))) }
+{
+    let Some((element, behind)) = cut_once(token, b'=') else {
+        return Ok(None);
+    };
+    let Some((tail, head)) = cut_once(behind, b'-') else {
+        return Ok(None);
+    };
+    let texts = vec![in alloc; tail, head]?;
+    Ok(Some((element, Labels { texts })))
+}
+
+/// The parts of a line with this number and these tokens behind the colon, or None where they do not have the line's shape.
+fn edge_parts<'a, 'b>(
+    alloc: Global,
+    number: &'a [u8],
+    tokens: &[&'a [u8]],
+) -> Result<Option<Parts<'a, 'b>>, AllocError>
+    ensures { IfOk result (λ r. MatchOption r
+        ((entries : List (List ℕ × List (List ℕ))) → AreLabelled GraphicRank (texts_of tokens.now) entries → ⊥)
+        (λ parts. (entries : List (List ℕ × List (List ℕ))) × AreLabelled GraphicRank (texts_of tokens.now) entries
+        × (parts_of parts ≡ labelled_parts_of GraphicRank number.now entries))) }
+{
+    if tokens.is_empty() {
+        return Ok(None);
+    }
+    let mut elements = Vec::new(alloc);
+    let mut labels = Vec::new(alloc);
+    for token in tokens {
+        let Some((element, texts)) = cut_edge(alloc, token)? else {
+            return Ok(None);
+        };
+        elements.push(element)?;
+        labels.push(texts)?;
+    }
+    let numbers = vec![in alloc; number]?;
+    Ok(Some(Parts {
+        numbers,
+        elements,
+        rank: RankKind::GraphicRank,
+        groups: Vec::new(alloc),
+        labels,
+    }))
+}
+
+/// The parts of the tokens behind the word, or None where they do not have the line's shape.
+pub fn graphic_parts<'a, 'b>(
+    alloc: Global,
+    tokens: &'b [&'a [u8]],
+) -> Result<Option<Parts<'a, 'b>>, AllocError>
+    ensures { IfOk result (HasLineParts (IsLabelledLine GraphicRank (codes "graphic")) (texts_of tokens.now)) }
+{
+    let Some((number, behind)) = cut_head(b"graphic", tokens) else {
+        return Ok(None);
+    };
+    edge_parts(alloc, number, behind)
+}
+
+/// The ends of the edges, by the places of their names among these.
+fn ends(
+    alloc: Global,
+    names: &IndexSet<&[u8]>,
+    labels: &[Labels],
+) -> Result<Vec<(u32, u32)>, Memory>
+    requires few { length names.now.keys < 2 ^ 24 }
+    requires two { All (λ texts. length texts ≡ 2) (label_lists_of labels.now) }
+    ensures { IfOk result (λ r. edges_of r.items ≡ map (λ texts. edge_between (map (place_among (texts_of names.now.keys)) texts)) (label_lists_of labels.now)) }
+{
+    let mut ends = Vec::new(alloc);
+    for element in labels {
+        let tail = number_of(names, element.texts[0]);
+        let head = number_of(names, element.texts[1]);
+        ends.push((tail, head))?;
+    }
+    Ok(ends)
+}
+
+/// The term with the first number for each edge of a greatest forest.
+pub fn graphic_term(
+    alloc: Global,
+    parts: &Parts,
+    values: &[i128],
+    places: &[usize],
+) -> Result<Kind, Memory>
+    requires rank { (parts_of parts.now).rank ≡ GraphicRank }
+    requires given { AreGiven RankWord values.now places.now }
+    requires one { length values.now ≡ 1 }
+    requires few { length (joined (parts_of parts.now).labels) < 2 ^ 24 }
+    requires two { All (λ texts. length texts ≡ 2) (parts_of parts.now).labels }
+    requires each { length (parts_of parts.now).labels ≡ length places.now }
+    ensures { IfOk result (IsTermOf RankWord (parts_of parts.now) values.now places.now) }
+{
+    let names = different(alloc, &parts.labels)?;
+    let ends = ends(alloc, &names, &parts.labels)?;
+    let graphic = Graphic::new(alloc, places, values[0], &ends)?;
+    Ok(Kind::Graphic(graphic))
+}

@@ -1,0 +1,146 @@
+// The groups of a line: whether their names are those of the line's elements, whether one stands twice, and the term that
+// they make. Names are sought in a set of the elements, since a line may have millions of either. A group's members are
+// found by going through the elements in order, so that they ascend.
+ghost use Rattle.std.specs.Prelude.{◌≡◌, ◌+◌, ◌^◌, ℕ, List, length, pos, ◌≤ℤ◌, Any, Contains, IfOk, MatchBool, MatchOption};
+ghost use Rattle.sfm_laminar.specs.Crossing.{IsCrossing};
+ghost use Rattle.std.specs.List.{All};
+ghost use Rattle.sfm_spec.specs.Bounds.{IsAtMost};
+ghost use Rattle.sfm_lines.specs.Lines.{texts_of, text_lists_of};
+ghost use Rattle.sfm_lines.specs.LabelTerms.{distinct_of};
+ghost use Rattle.sfm_lines.specs.RankLines.{is_among, members_of, groups_of, least_groups};
+ghost use Rattle.sfm_lines.specs.TermLines.{StandsTwice};
+ghost use Rattle.sfm_lines.specs.ReadParts.{AreGiven, IsTermOf, parts_of};
+ghost use Rattle.sfm_lines.specs.declared.word.TermWord.TheVariants.{RankWord};
+ghost use Rattle.sfm_lines.specs.declared.word.RankKind.TheVariants.{LaminarRank};
+
+use crate::kept::{keep, with_kept};
+use crate::labels::add_names;
+use crate::parts::Parts;
+use crate::repeat::has_repeat;
+use indexmap::IndexSet;
+use sfm_base::Memory;
+use sfm_kind::Kind;
+use sfm_laminar::CappedGroup;
+use std::alloc::{AllocError, Global};
+
+/// Whether a text is one of the texts.
+fn is_one_of(texts: &[&[u8]], text: &[u8]) -> bool
+    ensures { result ≡ is_among (texts_of texts.now) text.now }
+{
+    texts.iter().any(|other| *other == text)
+}
+
+/// The different elements.
+fn known<'a>(alloc: Global, elements: &[&'a [u8]]) -> Result<IndexSet<&'a [u8]>, Memory>
+    ensures { IfOk result (λ r. texts_of r.keys ≡ distinct_of (texts_of elements.now)) }
+{
+    let mut known = IndexSet::new(alloc);
+    add_names(&mut known, elements)?;
+    Ok(known)
+}
+
+/// Whether a text is one of the texts of which these are the different ones.
+pub fn is_known(known: &IndexSet<&[u8]>, text: &[u8]) -> bool
+    ensures { (texts : List (List ℕ)) → texts_of known.now.keys ≡ distinct_of texts → result ≡ is_among texts text.now }
+{
+    known.contains(text)
+}
+
+/// Whether each name is one of the texts of which these are the different ones.
+fn are_known(known: &IndexSet<&[u8]>, names: &[&[u8]]) -> bool
+    ensures { (texts : List (List ℕ)) → texts_of known.now.keys ≡ distinct_of texts → MatchBool result
+        (All (Contains texts) (texts_of names.now))
+        (Any (λ name. Contains texts name → ⊥) (texts_of names.now)) }
+{
+    for name in names {
+        if !is_known(known, name) {
+            return false;
+        }
+    }
+    true
+}
+
+/// Whether each name of each group is one of the elements of the line.
+pub fn are_members(alloc: Global, elements: &[&[u8]], groups: &[&[&[u8]]]) -> Result<bool, Memory>
+    ensures { IfOk result (λ r. MatchBool r
+        (All (λ names. All (Contains (texts_of elements.now)) names) (text_lists_of groups.now))
+        (Any (λ names. Any (λ name. Contains (texts_of elements.now) name → ⊥) names) (text_lists_of groups.now))) }
+{
+    let known = known(alloc, elements)?;
+    for names in groups {
+        if !are_known(&known, names) {
+            return Ok(false);
+        }
+    }
+    Ok(true)
+}
+
+/// Whether a name stands twice in some group.
+pub fn has_member_twice(alloc: Global, groups: &[&[&[u8]]]) -> Result<bool, Memory>
+    ensures { IfOk result (λ r. MatchBool r
+        (Any (λ names. StandsTwice names) (text_lists_of groups.now))
+        (All (λ names. StandsTwice names → ⊥) (text_lists_of groups.now))) }
+{
+    for names in groups {
+        if has_repeat(alloc, names)? {
+            return Ok(true);
+        }
+    }
+    Ok(false)
+}
+
+/// The places in the line of those elements that are among the names, in ascending order.
+pub fn members(alloc: Global, elements: &[&[u8]], names: &[&[u8]]) -> Result<Vec<usize>, AllocError>
+    ensures members { IfOk result (λ r. r.items ≡ members_of (texts_of elements.now) (texts_of names.now)) }
+{
+    let mut members = Vec::new(alloc);
+    for (e, element) in elements.iter().enumerate() {
+        if is_one_of(names, element) {
+            members.push(e)?;
+        }
+    }
+    Ok(members)
+}
+
+/// The groups of a line with these parts and numbers: of those with the same members one with the least cap.
+fn line_groups(
+    alloc: Global,
+    parts: &Parts,
+    values: &[i128],
+) -> Result<Vec<CappedGroup>, AllocError>
+    requires each { length values.now ≡ length (parts_of parts.now).groups + 1 }
+    requires low { All (λ value. pos 0 ≤ℤ value) values.now }
+    requires small { All (IsAtMost (10 ^ 12)) values.now }
+    ensures { IfOk result (λ r. r.items ≡ least_groups (groups_of values.now (parts_of parts.now))) }
+{
+    let mut groups = Vec::new(alloc);
+    for i in 0..parts.groups.len() {
+        let members = members(alloc, &parts.elements, parts.groups[i])?;
+        keep(&mut groups, CappedGroup::new(values[i + 1], members))?;
+    }
+    Ok(groups)
+}
+
+/// The term with the first number for each independent element, or None where two groups cross.
+pub fn laminar_term(
+    alloc: Global,
+    parts: &Parts,
+    values: &[i128],
+    places: &[usize],
+) -> Result<Option<Kind>, Memory>
+    requires each { length values.now ≡ length (parts_of parts.now).groups + 1 }
+    requires rank { (parts_of parts.now).rank ≡ LaminarRank }
+    requires named { length places.now ≡ length (parts_of parts.now).elements }
+    requires given { AreGiven RankWord values.now places.now }
+    ensures { IfOk result (λ r. MatchOption r
+        ((i : ℕ) × (j : ℕ) × IsCrossing (groups_of values.now (parts_of parts.now)) i j)
+        (λ term. IsTermOf RankWord (parts_of parts.now) values.now places.now term
+        × (((i : ℕ) × (j : ℕ) × IsCrossing (groups_of values.now (parts_of parts.now)) i j) → ⊥))) }
+{
+    let groups = line_groups(alloc, parts, values)?;
+    let made = with_kept(alloc, places, values[0], &groups)?;
+    match made {
+        Some(laminar) => Ok(Some(Kind::Laminar(laminar))),
+        None => Ok(None),
+    }
+}

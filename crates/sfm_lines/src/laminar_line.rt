@@ -1,0 +1,93 @@
+// The line `rank`, a number, `laminar`, a colon, at least one element, and any number of groups: for each a semicolon, a cap,
+// and at least one name of an element of the line.
+ghost use Rattle.std.specs.Prelude.{◌≡◌, ℕ, List, MatchOption, IfOk};
+ghost use Rattle.sfm_lines.specs.Lines.{texts_of, text_lists_of};
+ghost use Rattle.sfm_lines.specs.Parts.{IsLaminarLine};
+ghost use Rattle.sfm_lines.specs.CutParts.{is_semicolon, cut_at_semicolons, IsGroupCut, AreGroupsCut, laminar_parts_of};
+ghost use Rattle.sfm_lines.specs.ReadParts.{HasLineParts, parts_of};
+
+use crate::mark::has_mark;
+use crate::parts::Parts;
+use crate::rank_head::cut_head;
+use crate::word::RankKind;
+use std::alloc::{AllocError, Global};
+
+/// Whether the token is a semicolon alone.
+pub fn is_semicolon_token(token: &[u8]) -> bool
+    ensures { result ≡ is_semicolon token.now }
+{
+    token == b";".as_slice()
+}
+
+/// The runs of tokens between semicolons alone.
+fn pieces<'a, 'b>(alloc: Global, tokens: &'b [&'a [u8]]) -> Result<Vec<&'b [&'a [u8]]>, AllocError>
+    ensures { IfOk result (λ v. text_lists_of v.items ≡ cut_at_semicolons (texts_of tokens.now)) }
+{
+    tokens
+        .split(|token| is_semicolon_token(token))
+        .collect(alloc)
+}
+
+/// The cap and the names of a group, or None where the tokens are not those of one.
+fn cut_group<'a, 'b>(tokens: &'b [&'a [u8]]) -> Option<(&'a [u8], &'b [&'a [u8]])>
+    ensures { MatchOption result
+        ((group : List ℕ × List (List ℕ)) → IsGroupCut (texts_of tokens.now) group → ⊥)
+        (λ r. IsGroupCut (texts_of tokens.now) (r.0.now, texts_of r.1.now)) }
+{
+    let (cap, names) = tokens.split_first()?;
+    if names.is_empty() || has_mark(tokens) {
+        return None;
+    }
+    Some((*cap, names))
+}
+
+/// The parts of a line with this first number, of the pieces that its tokens behind the colon are cut into, or None where
+/// they do not have the line's shape.
+fn group_parts<'a, 'b>(
+    alloc: Global,
+    number: &'a [u8],
+    pieces: &[&'b [&'a [u8]]],
+) -> Result<Option<Parts<'a, 'b>>, AllocError>
+    ensures { IfOk result (λ r. MatchOption r
+        ((elements : List (List ℕ)) (groups : List (List ℕ × List (List ℕ))) → AreGroupsCut (text_lists_of pieces.now) elements groups → ⊥)
+        (λ parts. (elements : List (List ℕ)) × (groups : List (List ℕ × List (List ℕ))) × AreGroupsCut (text_lists_of pieces.now) elements groups
+        × (parts_of parts ≡ laminar_parts_of number.now elements groups))) }
+{
+    let Some((elements, rest)) = pieces.split_first() else {
+        return Ok(None);
+    };
+    if elements.is_empty() || has_mark(elements) {
+        return Ok(None);
+    }
+    let mut numbers = vec![in alloc; number]?;
+    let mut groups = Vec::new(alloc);
+    for piece in rest {
+        let Some((cap, names)) = cut_group(piece) else {
+            return Ok(None);
+        };
+        numbers.push(cap)?;
+        groups.push(names)?;
+    }
+    let elements = Vec::from_slice(alloc, elements)?;
+    Ok(Some(Parts {
+        numbers,
+        elements,
+        rank: RankKind::LaminarRank,
+        groups,
+        labels: Vec::new(alloc),
+    }))
+}
+
+/// The parts of the tokens behind the word, or None where they do not have the line's shape.
+pub fn laminar_parts<'a, 'b>(
+    alloc: Global,
+    tokens: &'b [&'a [u8]],
+) -> Result<Option<Parts<'a, 'b>>, AllocError>
+    ensures { IfOk result (HasLineParts IsLaminarLine (texts_of tokens.now)) }
+{
+    let Some((number, behind)) = cut_head(b"laminar", tokens) else {
+        return Ok(None);
+    };
+    let pieces = pieces(alloc, behind)?;
+    group_parts(alloc, number, &pieces)
+}

@@ -1,0 +1,21 @@
+// How a line `rank` begins whose third word is followed by a colon: a number, the word, and the colon.
+ghost use Rattle.std.specs.Prelude.{ℕ, List, MatchOption};
+ghost use Rattle.sfm_lines.specs.Lines.{texts_of};
+ghost use Rattle.sfm_lines.specs.Parts.{IsRankHead};
+
+use crate::mark::is_mark;
+
+/// The number and the tokens behind the colon of a line with this word, or None where it does not begin so.
+pub fn cut_head<'a, 'b>(word: &[u8], tokens: &'b [&'a [u8]]) -> Option<(&'a [u8], &'b [&'a [u8]])>
+    ensures { MatchOption result
+        ((number : List ℕ) (behind : List (List ℕ)) → IsRankHead word.now (texts_of tokens.now) number behind → ⊥)
+        (λ r. IsRankHead word.now (texts_of tokens.now) r.0.now (texts_of r.1.now)) }
+{
+    let (number, rest) = tokens.split_first()?;
+    let (kind, rest) = rest.split_first()?;
+    let (colon, rest) = rest.split_first()?;
+    if is_mark(number) || *kind != word || *colon != b":".as_slice() {
+        return None;
+    }
+    Some((*number, rest))
+}

@@ -1,0 +1,169 @@
+// Reading a term line: its parts are cut out by its word, and each kind of part is then read once for all words.
+ghost use Rattle.std.specs.Prelude.{◌≡◌, ◌<◌, ◌↔◌, ◌∷◌, ◌^◌, ℕ, List, ℤ, pos, neg_ℤ, ◌≤ℤ◌, Any, IsTrue, IfOk, IfErr, MatchOption, Some};
+ghost use Rattle.std.specs.List.{All, AllZip};
+ghost use Rattle.sfm_kind.specs.Names.{IsNewName, AreElementNames};
+ghost use Rattle.sfm_lines.specs.Lines.{texts_of};
+ghost use Rattle.sfm_lines.specs.Words.{lowest_of, word_text};
+ghost use Rattle.sfm_lines.specs.TermLines.{IsNumberFrom, IsElement, StandsTwice};
+ghost use Rattle.sfm_lines.specs.Reading.{IsLineRefusal};
+ghost use Rattle.sfm_lines.specs.ReadParts.{bytes_in, state_at, IsLineOf, IsTermRead, IsNumberOf, IsKnown, IsEntryLine};
+ghost use Rattle.sfm_lines.specs.declared.stage.Stage.TheVariants.{Terms};
+
+use crate::groups::{are_members, has_member_twice};
+use crate::labels::are_labels;
+use crate::line_fault::LineEnd;
+use crate::line_parts::line_parts;
+use crate::reason::Reason;
+use crate::terms::make_term;
+use crate::word::TermWord;
+use sfm_base::read_number;
+use sfm_kind::{Instance, Kind};
+use std::alloc::{AllocError, Global};
+
+/// The greatest number of an instance text.
+const HIGHEST: i128 = 1_000_000_000_000;
+
+/// The least number that may stand in the line of a word.
+fn lowest_number(word: TermWord) -> i128
+    ensures least { result ≡ lowest_of word }
+    ensures small { neg_ℤ (pos (10 ^ 12)) ≤ℤ result }
+{
+    match word {
+        TermWord::WeightWord | TermWord::TableWord | TermWord::ConcaveWord => -HIGHEST,
+        TermWord::CutWord | TermWord::NeedWord | TermWord::CoverWord | TermWord::RankWord => 0,
+    }
+}
+
+/// The number that a text is, or None where it is none or outside the range of the word's line.
+pub fn number_for(word: TermWord, text: &[u8]) -> Option<i128>
+    ensures { (value : ℤ) → (result ≡ Some value) ↔ IsNumberFrom (lowest_of word) text.now value }
+{
+    let lowest = lowest_number(word);
+    let value = read_number(text)?;
+    if lowest <= value && value <= HIGHEST {
+        Some(value)
+    } else {
+        None
+    }
+}
+
+/// The number that a text is, which is one in the range of the word's line.
+pub fn known_number(word: TermWord, text: &[u8]) -> i128
+    requires { IsNumberOf word text.now }
+    ensures { IsNumberFrom (lowest_of word) text.now result }
+{
+    let Some(value) = number_for(word, text) else {
+        unreachable!();
+    };
+    value
+}
+
+/// The numbers that the texts are, or None where one is none or outside the range of the word's line.
+fn read_numbers(
+    alloc: Global,
+    word: TermWord,
+    texts: &[&[u8]],
+) -> Result<Option<Vec<i128>>, AllocError>
+    ensures { IfOk result (λ r. MatchOption r
+        (Any (λ text. (value : ℤ) → IsNumberFrom (lowest_of word) text value → ⊥) (texts_of texts.now))
+        (λ values. AllZip (IsNumberFrom (lowest_of word)) (texts_of texts.now) values.items)) }
+{
+    let mut values = Vec::new(alloc);
+    for text in texts {
+        let Some(value) = number_for(word, text) else {
+            return Ok(None);
+        };
+        values.push(value)?;
+    }
+    Ok(Some(values))
+}
+
+/// The places of the elements that the texts name, or None where one is no element's name.
+fn read_places(
+    alloc: Global,
+    instance: &Instance,
+    texts: &[&[u8]],
+) -> Result<Option<Vec<usize>>, AllocError>
+    ensures { IfOk result (λ r. MatchOption r
+        (Any (IsNewName instance.now.names) (texts_of texts.now))
+        (λ places. AllZip (IsElement instance.now.names) (texts_of texts.now) places.items)) }
+{
+    let mut places = Vec::new(alloc);
+    for text in texts {
+        let Some(place) = instance.place_of(text) else {
+            return Ok(None);
+        };
+        places.push(place)?;
+    }
+    Ok(Some(places))
+}
+
+/// The places of the elements that the texts name, each of which is an element's name.
+pub fn known_places(
+    alloc: Global,
+    instance: &Instance,
+    texts: &[&[u8]],
+) -> Result<Vec<usize>, AllocError>
+    requires { All (IsKnown instance.now.names) (texts_of texts.now) }
+    ensures { IfOk result (λ places. AllZip (IsElement instance.now.names) (texts_of texts.now) places.items) }
+{
+    let Some(places) = read_places(alloc, instance, texts)? else {
+        unreachable!();
+    };
+    Ok(places)
+}
+
+/// Whether some place stands twice. With places below n it looks at no more than n + 1 of them.
+pub fn has_place_twice(places: &[usize]) -> bool
+    ensures { IsTrue result ↔ StandsTwice places.now }
+{
+    for (i, place) in places.iter().enumerate() {
+        if places[..i].contains(place) {
+            return true;
+        }
+    }
+    false
+}
+
+/// The term that a line with this word stands for, or the first reason for which it has none; a line of a transversal rank is read
+/// by itself.
+pub fn read_term(
+    alloc: Global,
+    instance: &Instance,
+    word: TermWord,
+    tokens: &[&[u8]],
+) -> Result<Kind, LineEnd>
+    requires names { AreElementNames instance.now.names }
+    requires short { bytes_in (texts_of tokens.now) < 2 ^ 24 }
+    requires other { IsEntryLine word (texts_of tokens.now) → ⊥ }
+    ensures read { IfOk result (IsTermRead instance.now word (texts_of tokens.now)) }
+    ensures refused { IfErr result (λ e. (line : List ℕ)
+        → IsLineOf line (word_text word ∷ texts_of tokens.now)
+        → IsLineRefusal (state_at Terms instance.now) line e) }
+{
+    let Some(parts) = line_parts(alloc, word, tokens)? else {
+        return Err(LineEnd::Fault(Reason::Shape));
+    };
+    let Some(values) = read_numbers(alloc, word, &parts.numbers)? else {
+        return Err(LineEnd::Fault(Reason::Number));
+    };
+    let Some(places) = read_places(alloc, instance, &parts.elements)? else {
+        return Err(LineEnd::Fault(Reason::Name));
+    };
+    if !are_members(alloc, &parts.elements, &parts.groups)? {
+        return Err(LineEnd::Fault(Reason::Name));
+    }
+    if !are_labels(&parts.labels) {
+        return Err(LineEnd::Fault(Reason::Name));
+    }
+    if has_place_twice(&places) {
+        return Err(LineEnd::Fault(Reason::Twice));
+    }
+    if has_member_twice(alloc, &parts.groups)? {
+        return Err(LineEnd::Fault(Reason::Twice));
+    }
+    match make_term(alloc, word, &parts, &values, &places)? {
+        Some(term) => Ok(term),
+        None => Err(LineEnd::Fault(Reason::Law)),
+    }
+}

@@ -1,0 +1,13 @@
+pub mod PieceCuts
+pub mod PieceGroups
+pub mod Passed
+pub mod KeptTokens
+pub mod SlotCuts
+pub mod Shaped
+pub mod LongNames
+pub mod LongReasons
+pub mod LongRanks
+pub mod LongLabels
+pub mod LongLaminar
+pub mod GroupTerms
+pub mod EntryTerms

@@ -1,0 +1,198 @@
+// The line `rank`, a number, `transversal`, a colon, and at least one entry `name=slot,slot,..`, judged by passes over it, and its
+// term. An entry may have millions of slots, so no list of them is made: of each entry as many of its first slots are kept as the
+// line has elements. These suffice, since a member of a part that has none of them finds one that no other member has.
+ghost use Rattle.std.specs.Prelude.{◌≡◌, ◌<◌, ◌≤ℤ◌, ◌∷◌, ◌^◌, ℕ, List, codes, length, map, pos, take, IfOk, MatchOption, MatchResult};
+ghost use Rattle.std.specs.List.{All, AllZip};
+ghost use Rattle.sfm_spec.specs.Bounds.{IsGiven, AreElements};
+ghost use Rattle.sfm_kind.specs.Names.{AreElementNames};
+ghost use Rattle.sfm_lines.specs.Lines.{pieces_of, texts_of, tokens_of};
+ghost use Rattle.sfm_lines.specs.Parts.{IsLabelToken};
+ghost use Rattle.sfm_lines.specs.CutParts.{place_among};
+ghost use Rattle.sfm_lines.specs.LabelTerms.{numbers_of};
+ghost use Rattle.sfm_lines.specs.ReadParts.{IsTermRead, label_lists_of, joined, IsEntryLine};
+ghost use Rattle.sfm_passes.specs.Passes.{AreFewEntries, IsReasonOf};
+ghost use Rattle.sfm_passes.specs.GroupPasses.{IsRefusedBy, IsToldBy};
+ghost use Rattle.sfm_lines.specs.declared.word.TermWord.TheVariants.{RankWord};
+ghost use Rattle.sfm_lines.specs.declared.word.RankKind.TheVariants.{TransversalRank};
+
+use crate::long_rank::{MOST_ELEMENTS, entries_fault, is_word};
+use crate::passes::token_count;
+use crate::slots::has_repeated_slot;
+use indexmap::IndexSet;
+use sfm_base::Memory;
+use sfm_kind::{Instance, Kind};
+use sfm_lines::labels::{Labels, different, numbers};
+use sfm_lines::pair::cut_once;
+use sfm_lines::term_line::{has_place_twice, known_number, known_places};
+use sfm_lines::tokens::{first_token, first_two, has_token};
+use sfm_lines::word::{RankKind, TermWord};
+use sfm_lines::{LineEnd, Reason};
+use sfm_matroid::{Entries, Transversal};
+use std::alloc::{AllocError, Global};
+
+/// The first reason of the number and the entries of a line, or None where there is none but perhaps that an element stands
+/// twice.
+fn entries_reason(
+    alloc: Global,
+    instance: &Instance,
+    number: &[u8],
+    colon: &[u8],
+    entries: &[u8],
+) -> Result<Option<Reason>, Memory>
+    requires names { AreElementNames instance.now.names }
+    requires some { 0 < length (tokens_of entries.now) }
+    ensures { IfOk result (λ r. MatchOption r
+        (AreFewEntries instance.now.names number.now colon.now (tokens_of entries.now))
+        (IsReasonOf instance.now RankWord (number.now ∷ codes "transversal" ∷ colon.now ∷ tokens_of entries.now))) }
+{
+    if let Some(reason) = entries_fault(
+        instance,
+        RankKind::TransversalRank,
+        number,
+        colon,
+        entries,
+    ) {
+        return Ok(Some(reason));
+    }
+    if has_token(entries, MOST_ELEMENTS) {
+        return Ok(Some(Reason::Twice));
+    }
+    if has_repeated_slot(alloc, entries)? {
+        return Ok(Some(Reason::Twice));
+    }
+    Ok(None)
+}
+
+/// The first so many pieces of a text between commas.
+fn first_slots<'a>(alloc: Global, text: &'a [u8], count: usize) -> Result<Vec<&'a [u8]>, AllocError>
+    ensures { IfOk result (λ v. texts_of v.items ≡ take count (pieces_of 44 text.now)) }
+{
+    text.split(|c| *c == b',').take(count).collect(alloc)
+}
+
+/// The element of an entry, and its first so many slots.
+fn cut_entry<'a>(
+    alloc: Global,
+    token: &'a [u8],
+    count: usize,
+) -> Result<(&'a [u8], Labels<'a>), AllocError>
+    requires { (entry : List ℕ × List (List ℕ)) × IsLabelToken TransversalRank token.now entry }
+    ensures { IfOk result (λ r. (entry : List ℕ × List (List ℕ)) × IsLabelToken TransversalRank token.now entry
+        × (r.0.now ≡ entry.0) × (texts_of r.1.texts.items ≡ take count entry.1)) }
+{
+    let Some((element, behind)) = cut_once(token, b'=') else {
+        unreachable!();
+    };
+    let texts = first_slots(alloc, behind, count)?;
+    Ok((element, Labels { texts }))
+}
+
+/// The elements of the entries of a line, and of each its first so many slots.
+fn cut_entries<'a>(
+    alloc: Global,
+    line: &'a [u8],
+    count: usize,
+) -> Result<(Vec<&'a [u8]>, Vec<Labels<'a>>), AllocError>
+    requires { All (λ token. (entry : List ℕ × List (List ℕ)) × IsLabelToken TransversalRank token entry) (tokens_of line.now) }
+    ensures { IfOk result (λ r. (entries : List (List ℕ × List (List ℕ))) × AllZip (IsLabelToken TransversalRank) (tokens_of line.now) entries
+        × (texts_of r.0.items ≡ map (λ entry. entry.0) entries) × (label_lists_of r.1.items ≡ map (λ entry. take count entry.1) entries)) }
+{
+    let mut elements = Vec::new(alloc);
+    let mut labels = Vec::new(alloc);
+    let mut left = line;
+    while let Some((token, behind)) = first_token(left) {
+        let (element, slots) = cut_entry(alloc, token, count)?;
+        elements.push(element)?;
+        labels.push(slots)?;
+        left = behind;
+    }
+    Ok((elements, labels))
+}
+
+/// The slots of the elements, by the places of their names among these.
+fn entries(alloc: Global, names: &IndexSet<&[u8]>, labels: &[Labels]) -> Result<Entries, Memory>
+    requires few { length names.now.keys < 2 ^ 24 }
+    ensures { IfOk result (λ r. r ≡ map (λ texts. map (place_among (texts_of names.now.keys)) texts) (label_lists_of labels.now)) }
+{
+    let mut entries = Entries::new(alloc);
+    for element in labels {
+        let slots = numbers(alloc, names, &element.texts)?;
+        entries.push(slots)?;
+    }
+    Ok(entries)
+}
+
+/// The term with a number for each element of a greatest part with slots of their own, of these slots.
+fn transversal(
+    alloc: Global,
+    places: &[usize],
+    w: i128,
+    labels: &[Labels],
+) -> Result<Transversal, Memory>
+    requires few { length (joined (label_lists_of labels.now)) < 2 ^ 24 }
+    requires each { length labels.now ≡ length places.now }
+    requires elements { AreElements places.now }
+    requires low { pos 0 ≤ℤ w }
+    requires given { IsGiven w }
+    ensures places { IfOk result (λ r. r.places ≡ places.now) }
+    ensures number { IfOk result (λ r. r.w ≡ w) }
+    ensures entries { IfOk result (λ r. r.entries ≡ numbers_of (label_lists_of labels.now)) }
+{
+    let names = different(alloc, labels)?;
+    let entries = entries(alloc, &names, labels)?;
+    Transversal::new(alloc, places, w, entries)
+}
+
+/// The term of a line with this number, this token in the place of the colon and these entries, or the first reason of it.
+fn entries_term(
+    alloc: Global,
+    instance: &Instance,
+    number: &[u8],
+    colon: &[u8],
+    entries: &[u8],
+) -> Result<Kind, LineEnd>
+    requires names { AreElementNames instance.now.names }
+    requires some { 0 < length (tokens_of entries.now) }
+    ensures { MatchResult result
+        (IsTermRead instance.now RankWord (number.now ∷ codes "transversal" ∷ colon.now ∷ tokens_of entries.now))
+        (IsRefusedBy instance.now RankWord (number.now ∷ codes "transversal" ∷ colon.now ∷ tokens_of entries.now)) }
+{
+    let fault = entries_reason(alloc, instance, number, colon, entries)?;
+    if let Some(reason) = fault {
+        return Err(LineEnd::Fault(reason));
+    }
+    let w = known_number(TermWord::RankWord, number);
+    let (elements, labels) = cut_entries(alloc, entries, token_count(entries))?;
+    let places = known_places(alloc, instance, &elements)?;
+    if has_place_twice(&places) {
+        return Err(LineEnd::Fault(Reason::Twice));
+    }
+    let term = transversal(alloc, &places, w, &labels)?;
+    Ok(Kind::Transversal(term))
+}
+
+/// The term of a line of a transversal rank with these tokens behind its word, or the first reason of it; None where the line is
+/// none.
+pub fn entry_line_term(
+    alloc: Global,
+    instance: &Instance,
+    line: &[u8],
+) -> Result<Option<Kind>, LineEnd>
+    requires { AreElementNames instance.now.names }
+    ensures { IsToldBy instance.now RankWord (tokens_of line.now) (IsEntryLine RankWord (tokens_of line.now) → ⊥) result }
+{
+    let Some((number, kind, behind)) = first_two(line) else {
+        return Ok(None);
+    };
+    if !is_word(kind, b"transversal") {
+        return Ok(None);
+    }
+    let Some((colon, entries)) = first_token(behind) else {
+        return Err(LineEnd::Fault(Reason::Shape));
+    };
+    if !has_token(entries, 0) {
+        return Err(LineEnd::Fault(Reason::Shape));
+    }
+    let term = entries_term(alloc, instance, number, colon, entries)?;
+    Ok(Some(term))
+}

@@ -1,0 +1,209 @@
+// The line of a laminar rank judged by passes over it, and its term. Such a line may be good however many groups it has, so its
+// groups are taken one after another, and of those with the same members one is kept. Where more are kept than there are sets of
+// 256 elements of which no two cross, it is told at once whether some cross, so that little is kept of any line.
+ghost use Rattle.std.specs.Prelude.{◌≡◌, ◌∷◌, ℕ, List, length, IsTrue, IfOk, MatchOption, MatchResult};
+ghost use Rattle.std.specs.List.{All, AllZip};
+ghost use Rattle.sfm_spec.specs.Bounds.{AreElements};
+ghost use Rattle.sfm_spec.specs.Kinds.{Group};
+ghost use Rattle.sfm_kind.specs.Names.{AreElementNames};
+ghost use Rattle.sfm_laminar.specs.Crossing.{IsCrossing};
+ghost use Rattle.sfm_laminar.specs.Groups.{IsBelow, IsGroup};
+ghost use Rattle.sfm_lines.specs.Lines.{texts_of, tokens_of};
+ghost use Rattle.sfm_lines.specs.CutParts.{cut_at_semicolons};
+ghost use Rattle.sfm_lines.specs.RankLines.{least_groups};
+ghost use Rattle.sfm_lines.specs.ReadParts.{IsTermRead};
+ghost use Rattle.sfm_passes.specs.Passes.{IsReasonOf};
+ghost use Rattle.sfm_passes.specs.GroupPasses.{AreGoodGroups, GroupHolds, IsGroupOf, IsRefusedBy, IsToldBy, laminar_tokens, pieces_left};
+ghost use Rattle.sfm_passes.specs.declared.group_test.GroupTest.TheVariants.{Whole, Cap};
+ghost use Rattle.sfm_lines.specs.declared.word.TermWord.TheVariants.{RankWord};
+
+use crate::between::Separator;
+use crate::group_test::{GroupTest, all_groups, all_have_members, different_in};
+use crate::long_rank::is_word;
+use crate::passes::{all_hold, has_mark_in, has_repeat_in, is_colon};
+use crate::piece_cut::first_piece;
+use crate::token_test::{TokenTest, is_number_of};
+use sfm_base::Memory;
+use sfm_kind::{Instance, Kind};
+use sfm_laminar::CappedGroup;
+use sfm_lines::groups::members;
+use sfm_lines::kept::{keep, with_kept};
+use sfm_lines::mark::is_mark;
+use sfm_lines::term_line::{known_number, known_places};
+use sfm_lines::tokens::{first_token, first_two, has_token, tokens};
+use sfm_lines::word::TermWord;
+use sfm_lines::{LineEnd, Reason};
+use std::alloc::Global;
+
+/// One more than there may be different sets of 256 elements of which no two cross.
+const MOST_SETS: usize = 512;
+
+/// The first reason of the number, the elements and the groups of a line before its law, or None where there is none.
+fn groups_fault(
+    alloc: Global,
+    instance: &Instance,
+    number: &[u8],
+    elements: &[u8],
+    groups: Option<&[u8]>,
+) -> Result<Option<Reason>, Memory>
+    requires { AreElementNames instance.now.names }
+    ensures { IfOk result (λ r. MatchOption r
+        (AreGoodGroups instance.now.names number.now (tokens_of elements.now) (pieces_left groups.entry))
+        (λ reason. (behind : List (List ℕ)) → cut_at_semicolons behind ≡ tokens_of elements.now ∷ pieces_left groups.entry → IsReasonOf instance.now RankWord (laminar_tokens number.now behind) reason)) }
+{
+    if is_mark(number) {
+        return Ok(Some(Reason::Shape));
+    }
+    if !has_token(elements, 0) {
+        return Ok(Some(Reason::Shape));
+    }
+    if has_mark_in(elements) {
+        return Ok(Some(Reason::Shape));
+    }
+    let whole = all_groups(alloc, GroupTest::Whole, groups)?;
+    if !whole {
+        return Ok(Some(Reason::Shape));
+    }
+    if !is_number_of(TermWord::RankWord, number) {
+        return Ok(Some(Reason::Number));
+    }
+    let capped = all_groups(alloc, GroupTest::Cap, groups)?;
+    if !capped {
+        return Ok(Some(Reason::Number));
+    }
+    if !all_hold(instance, TokenTest::Element, elements) {
+        return Ok(Some(Reason::Name));
+    }
+    let known = different_in(alloc, elements)?;
+    if !all_have_members(&known, groups) {
+        return Ok(Some(Reason::Name));
+    }
+    let repeated = has_repeat_in(alloc, Separator::Blanks, elements)?;
+    if repeated {
+        return Ok(Some(Reason::Twice));
+    }
+    let once = all_groups(alloc, GroupTest::Once, groups)?;
+    if !once {
+        return Ok(Some(Reason::Twice));
+    }
+    Ok(None)
+}
+
+/// The group that a piece tells.
+fn piece_group(alloc: Global, elements: &[&[u8]], piece: &[u8]) -> Result<CappedGroup, Memory>
+    requires whole { GroupHolds Whole (tokens_of piece.now) }
+    requires cap { GroupHolds Cap (tokens_of piece.now) }
+    ensures { IfOk result (λ r. IsGroupOf (texts_of elements.now) (tokens_of piece.now) r) }
+{
+    let Some((cap, names)) = first_token(piece) else {
+        unreachable!();
+    };
+    let value = known_number(TermWord::RankWord, cap);
+    let names = tokens(alloc, names)?;
+    let members = members(alloc, elements, &names)?;
+    Ok(CappedGroup::new(value, members))
+}
+
+/// Whether more groups are kept than there may be of which no two cross, and some cross.
+fn has_early_crossing(alloc: Global, places: &[usize], kept: &[CappedGroup]) -> Result<bool, Memory>
+    requires elements { AreElements places.now }
+    requires sound { All IsGroup kept.now }
+    requires below { All (IsBelow (length places.now)) kept.now }
+    ensures { IfOk result (λ r. IsTrue r → (i : ℕ) × (j : ℕ) × IsCrossing kept.now i j) }
+{
+    if kept.len() < MOST_SETS {
+        return Ok(false);
+    }
+    let made = with_kept(alloc, places, 0, kept)?;
+    match made {
+        Some(_) => Ok(false),
+        None => Ok(true),
+    }
+}
+
+/// The groups that the pieces tell, of those with the same members one with the least cap, or None where some cross.
+fn kept_groups(
+    alloc: Global,
+    places: &[usize],
+    elements: &[&[u8]],
+    groups: Option<&[u8]>,
+) -> Result<Option<Vec<CappedGroup>>, Memory>
+    requires elements { AreElements places.now }
+    requires named { length places.now ≡ length elements.now }
+    requires whole { All (GroupHolds Whole) (pieces_left groups) }
+    requires caps { All (GroupHolds Cap) (pieces_left groups) }
+    ensures { IfOk result (λ r. MatchOption r
+        ((all : List Group) × AllZip (IsGroupOf (texts_of elements.now)) (pieces_left groups.entry) all × ((i : ℕ) × (j : ℕ) × IsCrossing all i j))
+        (λ kept. (all : List Group) × AllZip (IsGroupOf (texts_of elements.now)) (pieces_left groups.entry) all × (kept.items ≡ least_groups all))) }
+{
+    let mut kept = Vec::new(alloc);
+    let mut left = groups;
+    while let Some(line) = left {
+        let (piece, rest) = first_piece(line);
+        let group = piece_group(alloc, elements, piece)?;
+        keep(&mut kept, group)?;
+        let crosses = has_early_crossing(alloc, places, &kept)?;
+        if crosses {
+            return Ok(None);
+        }
+        left = rest;
+    }
+    Ok(Some(kept))
+}
+
+/// The term of a line with this number, these elements and these groups, or the first reason of it.
+fn groups_term(
+    alloc: Global,
+    instance: &Instance,
+    number: &[u8],
+    elements: &[u8],
+    groups: Option<&[u8]>,
+) -> Result<Kind, LineEnd>
+    requires { AreElementNames instance.now.names }
+    ensures { (behind : List (List ℕ)) → cut_at_semicolons behind ≡ tokens_of elements.now ∷ pieces_left groups.entry → MatchResult result
+        (IsTermRead instance.now RankWord (laminar_tokens number.now behind))
+        (IsRefusedBy instance.now RankWord (laminar_tokens number.now behind)) }
+{
+    let fault = groups_fault(alloc, instance, number, elements, groups)?;
+    if let Some(reason) = fault {
+        return Err(LineEnd::Fault(reason));
+    }
+    let w = known_number(TermWord::RankWord, number);
+    let elements = tokens(alloc, elements)?;
+    let places = known_places(alloc, instance, &elements)?;
+    let told = kept_groups(alloc, &places, &elements, groups)?;
+    let Some(kept) = told else {
+        return Err(LineEnd::Fault(Reason::Law));
+    };
+    let made = with_kept(alloc, &places, w, &kept)?;
+    match made {
+        Some(laminar) => Ok(Kind::Laminar(laminar)),
+        None => Err(LineEnd::Fault(Reason::Law)),
+    }
+}
+
+/// The term of a line of a laminar rank with these tokens behind its word, or the first reason of it; None where the line is none.
+pub fn laminar_line_term(
+    alloc: Global,
+    instance: &Instance,
+    line: &[u8],
+) -> Result<Option<Kind>, LineEnd>
+    requires { AreElementNames instance.now.names }
+    ensures { IsToldBy instance.now RankWord (tokens_of line.now) (Unit {0}) result }
+{
+    let Some((number, kind, rest)) = first_two(line) else {
+        return Ok(None);
+    };
+    if !is_word(kind, b"laminar") {
+        return Ok(None);
+    }
+    let Some((colon, behind)) = first_token(rest) else {
+        return Err(LineEnd::Fault(Reason::Shape));
+    };
+    if !is_colon(colon) {
+        return Err(LineEnd::Fault(Reason::Shape));
+    }
+    let (elements, groups) = first_piece(behind);
+    let term = groups_term(alloc, instance, number, elements, groups)?;
+    Ok(Some(term))
+}

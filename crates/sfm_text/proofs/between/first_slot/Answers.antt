@@ -1,6 +1,0 @@
-use Rattle.sfm_text.proofs.LineCuts.{not_empty}
-use Rattle.sfm_text.proofs.SlotCuts.{slot-first}
-use Rattle.sfm_text.proofs.between.first_slot.Goals as goal
-
-pub returns-clause-cut : goal.returns-clause-cut
-returns-clause-cut c = slot-first c.args.text.now c.comma_place-end.result (not_empty _ c.if-is_empty.ensures) c.comma_place-end.ensures.place

@@ -1,8 +1,0 @@
-use Rattle.std.proofs.Common.{◌≡◌, take}
-use Rattle.sfm_text.specs.Lines.{texts_of}
-use Rattle.sfm_text.specs.LabelTerms.{distinct_of}
-use Rattle.sfm_text.specs.ReadParts.{label_lists_of, joined}
-use Rattle.sfm_text.proofs.labels.different.Given as goal
-
-abbrev pub invariant-loop-element : goal.invariant-loop-element
-invariant-loop-element l = texts_of l.names.keys ≡ distinct_of (joined (label_lists_of (take l.element-index l.labels)))

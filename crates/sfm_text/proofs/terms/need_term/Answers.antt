@@ -1,6 +1,0 @@
-use Rattle.std.proofs.Common.{◌∙◌}
-use Rattle.sfm_text.proofs.ReadLines.{two-places}
-use Rattle.sfm_text.proofs.terms.need_term.Goals as goal
-
-pub returns : goal.returns
-returns c = λ parts values. record { same_places = c.new.ensures ∙ two-places c.args.places.now _ _ c.requires.1.counts.1; made = tt }
