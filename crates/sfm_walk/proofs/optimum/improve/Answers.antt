@@ -146,3 +146,30 @@ returns-clause-counted g c =
     let fq : FitsSigned w128 c.args.q = c.ranges.q in
     let shift = c.args.shift.now in
     rw c.in_ok-next_walk.ensures.bases (counting_is (meanings t.places t.value_of c.args.terms.now) (length shift) c.args.q shift c.args.graph.now.bases c.loop-run.graph.bases c.args.steps.now c.loop-run.steps (simp to_z-of_z at c.loop-run.invariant.2))
+
+pub next_walk-requires-clause-run : goal.next_walk-requires-clause-run
+next_walk-requires-clause-run g c = c.loop-run.invariant.0.at
+
+pub advance-requires-clause-shifts : goal.advance-requires-clause-shifts
+advance-requires-clause-shifts g c = c.requires.shifts
+
+pub returns-clause-few : goal.returns-clause-few
+returns-clause-few g c = c.loop-run.invariant.3
+
+pub returns-clause-kept : goal.returns-clause-kept
+returns-clause-kept g c = c.loop-run.invariant.1
+
+pub returns-in_err-next_walk-clause-few : goal.returns-in_err-next_walk-clause-few
+returns-in_err-next_walk-clause-few g c = c.loop-run.invariant.3
+
+pub returns-in_err-advance-clause-few : goal.returns-in_err-advance-clause-few
+returns-in_err-advance-clause-few g c = c.loop-run.invariant.3
+
+pub returns-in_err-z-clause-few : goal.returns-in_err-z-clause-few
+returns-in_err-z-clause-few g c = omega arith
+
+pub returns-in_err-next_walk-clause-kept : goal.returns-in_err-next_walk-clause-kept
+returns-in_err-next_walk-clause-kept g c = c.loop-run.invariant.1
+
+pub returns-in_err-advance-clause-kept : goal.returns-in_err-advance-clause-kept
+returns-in_err-advance-clause-kept g c = c.loop-run.invariant.1
