@@ -89,3 +89,56 @@ restart_by-requires-clause-other g c =
     let graph : IsClaimed t.places t.value_of t.size_of t.fits c.args.terms.now n (pos 1) c.least_by.new.graph
     = subst (λ k. IsClaimed t.places t.value_of t.size_of t.fits c.args.terms.now k (pos 1) c.least_by.new.graph) sized c.in_ok-below.ensures.graph in
     rw c.requires.search.cold.are_spots.count graph
+
+pub least_by-requires-clause-graph : goal.least_by-requires-clause-graph
+least_by-requires-clause-graph g c =
+    let sized : length c.deref_mut.result.now ≡ c.args.n = ap length c.deref_mut.ensures.value ∙ c.requires.search.shift in
+    rw sized c.in_ok-keep_small.ensures.graph
+
+pub least_by-requires-clause-small : goal.least_by-requires-clause-small
+least_by-requires-clause-small g c = c.in_ok-keep_small.ensures.small
+
+pub keep_small-requires : goal.keep_small-requires
+keep_small-requires g c = record { graph = c.requires.search.warm }
+
+pub least_by-requires-2-clause-graph : goal.least_by-requires-2-clause-graph
+least_by-requires-2-clause-graph g c =
+    let n = c.args.n in
+    let v = c.args.search.now.shift in
+    let ws = c.least_by.new.shift in
+    let sized : length c.deref_mut.result.now ≡ n = ap length c.deref_mut.ensures.value ∙ c.requires.search.shift in
+    let mid : length (with_items v ws).items ≡ n = ap length (with_items_is v ws (c.least_by.auto.shift ∙ c.deref_mut.ensures.len)) ∙ c.least_by.auto.shift ∙ sized in
+    let sized2 : length c.deref_mut-2.result.now ≡ n = ap length c.deref_mut-2.ensures.value ∙ mid in
+    let told = rw c.requires.search.cold.are_spots.count at c.in_ok-restart_by.ensures.graph in
+    rw sized2 told
+
+pub least_by-requires-2-clause-slope : goal.least_by-requires-2-clause-slope
+least_by-requires-2-clause-slope g c =
+    let s = c.args.slope in
+    let fp : FitsSigned w128 s.num = omega (arith, ints, s.entry.low, s.entry.high) in
+    simp to_z-of_z c.requires.small
+
+pub returns-clause-least : goal.returns-clause-least
+returns-clause-least g c =
+    let t = g.T.Term in
+    let n = c.args.n in
+    let s = c.args.slope in
+    let ts = meanings t.places t.value_of c.args.terms.now in
+    let fp : FitsSigned w128 s.num = omega (arith, ints, s.entry.low, s.entry.high) in
+    let fq : FitsSigned w128 s.den = omega (arith, ints, s.factor.low, s.factor.high) in
+    let v = c.args.search.now.shift in
+    let ws = c.least_by.new.shift in
+    let sized : length c.deref_mut.result.now ≡ n = ap length c.deref_mut.ensures.value ∙ c.requires.search.shift in
+    let mid : length (with_items v ws).items ≡ n = ap length (with_items_is v ws (c.least_by.auto.shift ∙ c.deref_mut.ensures.len)) ∙ c.least_by.auto.shift ∙ sized in
+    let sized2 : length c.deref_mut-2.result.now ≡ n = ap length c.deref_mut-2.ensures.value ∙ mid in
+    let found : IsLeast ts (length c.deref_mut-2.result.now) s.den (even_shift (length c.deref_mut-2.result.now) s.num) c.in_ok-least.least = simp to_z-of_z at c.in_ok-least.ensures.least in
+    subst (λ k. IsLeast ts k s.den (even_shift k s.num) c.in_ok-least.least) sized2 found
+
+pub rows_times-requires-clause-bases : goal.rows_times-requires-clause-bases
+rows_times-requires-clause-bases g c = c.in_ok-below.ensures.graph.are_bases
+
+pub rows_times-requires-clause-sizes : goal.rows_times-requires-clause-sizes
+rows_times-requires-clause-sizes g c = c.requires.search.first.bounded.small
+
+pub restart_by-requires-clause-bases : goal.restart_by-requires-clause-bases
+restart_by-requires-clause-bases g c = c.in_ok-bases.ensures.bases

@@ -40,3 +40,27 @@ returns-clause-graph g c =
     let S : ℕ → Type 0 = λ k. IsShaped t.places t.value_of c.args.terms.now k c.minimise_from_start.new.graph in
     let h = c.in_ok-bases.ensures.graph in
     subst S (ap length same ∙ length-replicate n s.num) h
+
+pub minimise_from_start-requires-clause-bounded : goal.minimise_from_start-requires-clause-bounded
+minimise_from_start-requires-clause-bounded g c =
+    let n = length c.args.shift.now in
+    let s = c.args.slope in
+    let fp : FitsSigned w128 s.num = omega (arith, ints, s.entry.low, s.entry.high) in
+    let same : c.write_even.new.shift ≡ replicate n s.num = simp to_z-of_z at c.write_even.ensures in
+    rw (same, length-replicate n s.num) c.requires.firsts.bounded
+
+pub minimise_from_start-requires-clause-graph : goal.minimise_from_start-requires-clause-graph
+minimise_from_start-requires-clause-graph g c =
+    let n = length c.args.shift.now in
+    let s = c.args.slope in
+    let fp : FitsSigned w128 s.num = omega (arith, ints, s.entry.low, s.entry.high) in
+    let same : c.write_even.new.shift ≡ replicate n s.num = simp to_z-of_z at c.write_even.ensures in
+    rw (same, length-replicate n s.num) c.requires.graph
+
+pub minimise_from_start-requires-clause-firsts : goal.minimise_from_start-requires-clause-firsts
+minimise_from_start-requires-clause-firsts g c =
+    let n = length c.args.shift.now in
+    let s = c.args.slope in
+    let fp : FitsSigned w128 s.num = omega (arith, ints, s.entry.low, s.entry.high) in
+    let same : c.write_even.new.shift ≡ replicate n s.num = simp to_z-of_z at c.write_even.ensures in
+    rw (same, length-replicate n s.num) c.requires.firsts
