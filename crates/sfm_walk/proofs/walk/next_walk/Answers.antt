@@ -2,7 +2,7 @@ use Rattle.std.proofs.Common.{ℕ, length, refl, subst, ◌∙◌, FitsSigned}
 use Rattle.std.proofs.lemmas.Int.{to_z-of_z}
 use mir.Syntax.{w128}
 use Rattle.sfm_exchange.specs.Levels.{AreClosed, IsFirst, depth_of}
-use Rattle.sfm_exchange.proofs.ClaimedGraphs.{are_terms, have_links, low, own}
+use Rattle.sfm_exchange.proofs.ClaimedGraphs.{are_terms, have_links, low, own, shaped}
 use Rattle.sfm_exchange.proofs.Still.{over_word}
 use Rattle.sfm_exchange.proofs.Joining.{none_joins}
 use Rattle.sfm_exchange.proofs.Options.{match_none, match_some}
@@ -93,3 +93,18 @@ returns-clause-ends g c = λ _.
 
 pub prove_walk-requires-clause-small : goal.prove_walk-requires-clause-small
 prove_walk-requires-clause-small g c = rw c.loop-first.invariant.1 c.requires.small
+
+pub find_levels-requires-clause-few : goal.find_levels-requires-clause-few
+find_levels-requires-clause-few g c = rw (c.deref-in-loop-first-2.ensures.value, c.loop-first.invariant.2.is_rest.places) c.loop-first.invariant.0.bounded.few
+
+pub find_levels-requires-clause-count : goal.find_levels-requires-clause-count
+find_levels-requires-clause-count g c = rw (c.deref-in-loop-first.ensures.value, c.deref-in-loop-first-2.ensures.value, c.loop-first.invariant.2.is_rest.places) (shaped c.loop-first.invariant.0).union_count
+
+pub find_levels-requires-clause-turned : goal.find_levels-requires-clause-turned
+find_levels-requires-clause-turned g c = rw (c.deref-in-loop-first.ensures.value, c.deref.ensures.value) c.loop-first.invariant.0.are_turned
+
+pub find_levels-requires-clause-signs : goal.find_levels-requires-clause-signs
+find_levels-requires-clause-signs g c = rw c.deref-in-loop-first-2.ensures.value c.loop-first.invariant.2.signs
+
+pub returns-clause-bases : goal.returns-clause-bases
+returns-clause-bases g c = c.loop-first.invariant.1
