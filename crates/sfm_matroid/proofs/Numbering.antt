@@ -6,7 +6,7 @@ use Rattle.std.proofs.lemmas.List.{drop_more, get_or-map, get_or-replicate, leng
 use Rattle.std.proofs.lemmas.List.Elements.{All-set}
 use Rattle.std.proofs.lemmas.Grind.{take_at_read}
 use Rattle.sfm_spec.specs.Kinds.{no_edge}
-use Rattle.sfm_assign.specs.Splits.{IsCapacity}
+use Rattle.sfm_assign.specs.Splits.{Demands, IsCapacity}
 use Rattle.sfm_matroid.specs.Ends.{edges_of, edge_of}
 use Rattle.sfm_matroid.specs.Graphs.{edge_at, EndsBelow}
 use Rattle.sfm_matroid.specs.Numbered.{number, numbered, renumbered, ends_of, end_lists, vertices_after, vertex_capacities, with_vertex}
@@ -69,3 +69,7 @@ lists-push pairs lists items e lt inv is =
 
 pub demands-push : (x demands : List ℤ) (e : ℕ) (d : ℤ) → e < length x → demands ≡ take e x → demands ++ get_or x e d ∷ [] ≡ take (e + 1) x
 demands-push x demands e d lt inv = ap (λ ds. ds ++ get_or x e d ∷ []) inv ∙ sym (take_at_read x e d lt).1
+
+-- demands by their three parts
+pub same_demands : (d : Demands) (demands : List ℤ) (lists : List (List ℕ)) (capacities : List ℤ) → d.demands ≡ demands → d.lists ≡ lists → d.capacities ≡ capacities → d ≡ record { demands = demands; lists = lists; capacities = capacities }
+same_demands d demands lists capacities a b k = rw (sym a, sym b, sym k) refl

@@ -1,10 +1,14 @@
 use Rattle.std.proofs.Common.{◌≡◌, ◌∙◌, ◌<◌, length, get_or, ap, pos, arith, FitsSigned}
 use Rattle.std.proofs.lemmas.Int.{to_z-of_z}
+use Rattle.std.proofs.lemmas.List.{length-map, take_all}
 use Rattle.std.proofs.lemmas.List.Elements.{All-get_or}
 use mir.Syntax.{w128}
 use Rattle.sfm_assign.specs.Splits.{IsAmount}
+use Rattle.sfm_matroid.specs.Ends.{edges_of}
+use Rattle.sfm_matroid.specs.Numbered.{end_lists, ends_of, vertex_capacities}
+use Rattle.sfm_matroid.proofs.Labels.{length-edges}
 use Rattle.sfm_matroid.proofs.Fits.{amount_fits}
-use Rattle.sfm_matroid.proofs.Numbering.{pair-below, two-below, lists-push, demands-push, length-vertices}
+use Rattle.sfm_matroid.proofs.Numbering.{pair-below, two-below, lists-push, demands-push, length-vertices, same_demands, vertices_bounded}
 use Rattle.sfm_matroid.proofs.testing.end_demand.Goals as goal
 
 pub push-requires-clause-exist : goal.push-requires-clause-exist
@@ -34,3 +38,42 @@ loop-e-preserved c =
       lists = ap (λ d. d.lists) c.in_ok-push.ensures ∙ lists-push ends c.loop-e.demand.lists c.in_ok-vec.field-0.items e le inv.lists (rw are at c.in_ok-vec.ensures.items);
       capacities = ap (λ d. d.capacities) c.in_ok-push.ensures ∙ inv.capacities;
     }
+
+pub new-requires-clause-bounded : goal.new-requires-clause-bounded
+new-requires-clause-bounded c =
+    let m = c.args.graph.now.vertices in
+    let fm : FitsSigned w128 c.args.most = c.ranges.most in
+    let same : c.in_ok-capacities.capacities.items ≡ vertex_capacities m c.args.most c.args.a = simp to_z-of_z at c.in_ok-capacities.ensures in
+    rw (c.deref.ensures.value, same) (vertices_bounded m c.args.most c.args.a c.requires.low c.requires.high)
+
+pub loop-e-init : goal.loop-e-init
+loop-e-init c = record {
+  demands = ap (λ d. d.demands) c.in_ok-demand.ensures;
+  lists = ap (λ d. d.lists) c.in_ok-demand.ensures;
+  capacities = ap (λ d. d.capacities) c.in_ok-demand.ensures ∙ (c.deref.ensures.value ∙ c.in_ok-capacities.ensures);
+}
+
+pub push-requires-clause-amount : goal.push-requires-clause-amount
+push-requires-clause-amount c =
+    let x = c.args.x.now in
+    let e = c.loop-e.e in
+    let le : e < length c.args.graph.now.ends.items = rw c.deref-pair-items.ensures.value at c.loop-e-test.true in
+    let amount = All-get_or IsAmount x e (pos 0) (omega (arith, le, c.requires.entries)) c.requires.amounts in
+    let fx : FitsSigned w128 (get_or x e (pos 0)) = amount_fits _ amount in
+    simp to_z-of_z amount
+
+pub returns : goal.returns
+returns c =
+    let x = c.args.x.now in
+    let ends = c.args.graph.now.ends.items in
+    let lists = end_lists (edges_of ends) in
+    let e = c.loop-e.e in
+    let inv = c.loop-e.invariant in
+    let caps = vertex_capacities c.args.graph.now.vertices c.args.most c.args.a in
+    let fm : FitsSigned w128 c.args.most = c.ranges.most in
+    let end = rw c.deref-pair-items.ensures.value at c.loop-e-test.false in
+    let ll : length lists ≡ length ends = length-map (edges_of ends) ends_of ∙ length-edges ends in
+    let all : c.loop-e.demand.lists ≡ lists = inv.lists ∙ take_all e lists (rw ll end) in
+    let demands : c.loop-e.demand.demands ≡ x = inv.demands ∙ take_all e x (rw c.requires.entries end) in
+    let capacities : c.loop-e.demand.capacities ≡ caps = simp to_z-of_z at inv.capacities in
+    same_demands c.loop-e.demand x lists caps demands all capacities

@@ -1,6 +1,8 @@
-use Rattle.std.proofs.Common.{◌∙◌, [], set, pos, ◌*ℤ◌, length, refl, sym, ap, arith, rules, FitsSigned, length-set}
-use Rattle.std.proofs.lemmas.Int.{to_z-of_z}
+use Rattle.std.proofs.Common.{◌∙◌, [], set, pos, ◌*ℤ◌, length, refl, sym, ap, arith, rules, FitsSigned, length-set, ◌≤ℤ◌, ◌^◌, subst}
+use Rattle.std.proofs.lemmas.Int.{ints, to_z-of_z}
 use mir.Syntax.{w128}
+use Rattle.sfm_spec.specs.Bounds.{IsGiven}
+use Rattle.sfm_law.proofs.Fits.{given_fits}
 use Rattle.sfm_matroid.proofs.Fits.{IsAsked, product_is, raise_upto}
 use Rattle.sfm_matroid.proofs.GraphicBases.{capped_base}
 use Rattle.sfm_matroid.proofs.GraphicRooms.{end_vertex, rest_split, grown_capacity}
@@ -94,3 +96,23 @@ returns-clause-noted c =
     let sized = length-set x c.args.v (pos 0) ∙ (r.entries ∙ (sym s.same_count ∙ sym (length-numbered s.ends []))) in
     let over = over_grown (numbered s.ends) (vertex_count s.ends) (c.args.q *ℤ s.w) (set x c.args.v (pos 0)) c.end_near-root.result _ c.grow_from.new.self.demand c.args.u _ sized refl more in
     note_with (numbered s.ends) (vertex_count s.ends) (c.args.q *ℤ s.w) x c.take_kept-spare.new.note.root c.take_kept-spare.new.note.kept _ stays over
+
+pub cap_of-cap-requires-clause-low : goal.cap_of-cap-requires-clause-low
+cap_of-cap-requires-clause-low c = let s = c.args.self.now in subst (λ z. pos 0 ≤ℤ z) (sym (to_z-of_z w128 s.w (given_fits s.w s.given))) s.low
+
+pub cap_of-cap-requires-clause-given : goal.cap_of-cap-requires-clause-given
+cap_of-cap-requires-clause-given c = let s = c.args.self.now in subst IsGiven (sym (to_z-of_z w128 s.w (given_fits s.w s.given))) s.given
+
+pub limit_of-limit-requires-clause-low : goal.limit_of-limit-requires-clause-low
+limit_of-limit-requires-clause-low c =
+    let low = c.cap_of-cap.ensures.low in
+    let high = c.cap_of-cap.ensures.high in
+    let fc : FitsSigned w128 c.cap_of-cap.result = omega (arith, ints, low, high) in
+    subst (λ z. pos 0 ≤ℤ z) (sym (to_z-of_z w128 c.cap_of-cap.result fc)) low
+
+pub limit_of-limit-requires-clause-high : goal.limit_of-limit-requires-clause-high
+limit_of-limit-requires-clause-high c =
+    let low = c.cap_of-cap.ensures.low in
+    let high = c.cap_of-cap.ensures.high in
+    let fc : FitsSigned w128 c.cap_of-cap.result = omega (arith, ints, low, high) in
+    subst (λ z. z ≤ℤ pos (10 ^ 24)) (sym (to_z-of_z w128 c.cap_of-cap.result fc)) high

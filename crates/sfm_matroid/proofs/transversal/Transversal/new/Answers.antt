@@ -1,4 +1,8 @@
-use Rattle.std.proofs.Common.{◌∙◌, length, ap, sym, arith}
+use Rattle.std.proofs.Common.{◌∙◌, length, pos, ◌≤ℤ◌, ap, sym, subst, arith}
+use Rattle.std.proofs.lemmas.Int.{to_z-of_z}
+use mir.Syntax.{w128}
+use Rattle.sfm_spec.specs.Bounds.{IsGiven}
+use Rattle.sfm_law.proofs.Fits.{given_fits}
 use Rattle.sfm_base.proofs.Elements.{placed_few}
 use Rattle.sfm_spec.specs.Sets.{whole_set}
 use Rattle.sfm_matroid.specs.Slots.{suited}
@@ -15,3 +19,18 @@ invariant_of-result-clause-based c = c.in_ok-basis.ensures.taken ∙ ap (λ s. s
 
 pub matched-requires-clause-few : goal.matched-requires-clause-few
 matched-requires-clause-few c = let h = placed_few 256 c.args.elements.now c.requires.elements.placed in omega (arith, h, c.requires.same_count)
+
+pub invariant_of-result-clause-elements : goal.invariant_of-result-clause-elements
+invariant_of-result-clause-elements c = rw c.in_ok-places.ensures c.requires.elements
+
+pub invariant_of-result-clause-low : goal.invariant_of-result-clause-low
+invariant_of-result-clause-low c = subst (λ z. pos 0 ≤ℤ z) (sym (to_z-of_z w128 c.args.w (given_fits c.args.w c.requires.given))) c.requires.low
+
+pub invariant_of-result-clause-given : goal.invariant_of-result-clause-given
+invariant_of-result-clause-given c = subst IsGiven (sym (to_z-of_z w128 c.args.w (given_fits c.args.w c.requires.given))) c.requires.given
+
+pub returns-clause-places : goal.returns-clause-places
+returns-clause-places c = c.in_ok-places.ensures
+
+pub returns-clause-number : goal.returns-clause-number
+returns-clause-number c = to_z-of_z w128 c.args.w (given_fits c.args.w c.requires.given)

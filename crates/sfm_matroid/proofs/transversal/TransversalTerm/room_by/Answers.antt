@@ -1,9 +1,10 @@
-use Rattle.std.proofs.Common.{◌∙◌, ◌*ℤ◌, length, set, pos, ap, sym, rules, to_z, FitsSigned}
-use Rattle.std.proofs.lemmas.Int.{to_z-of_z}
+use Rattle.std.proofs.Common.{◌∙◌, ◌*ℤ◌, length, set, pos, ap, sym, rules, to_z, FitsSigned, ◌≤ℤ◌, ◌^◌, subst, arith}
+use Rattle.std.proofs.lemmas.Int.{ints, to_z-of_z}
 use Rattle.std.proofs.lemmas.List.Elements.{All-replicate}
 use mir.Syntax.{w128}
+use Rattle.sfm_spec.specs.Bounds.{IsGiven}
 use Rattle.sfm_assign.specs.Splits.{IsCapacity}
-use Rattle.sfm_law.proofs.Fits.{product_low}
+use Rattle.sfm_law.proofs.Fits.{given_fits, product_low}
 use Rattle.sfm_matroid.specs.Notes.{slot_demands}
 use Rattle.sfm_matroid.proofs.Fits.{IsAsked, product_is, raise_upto}
 use Rattle.sfm_matroid.proofs.TransversalBases.{held_base, rest_met, grown_capacity, no_capacity}
@@ -94,3 +95,23 @@ returns-clause-noted c =
       split = r.noted.split;
       spare = over_grown s.entries r.noted.m (c.args.q *ℤ s.w) c.args.x.now c.args.u c.args.v c.in_ok-most.most c.grow_from.new.self (r.entries ∙ sym s.same_count) grown;
     }
+
+pub cap_of-cap-requires-clause-low : goal.cap_of-cap-requires-clause-low
+cap_of-cap-requires-clause-low c = let s = c.args.self.now in subst (λ z. pos 0 ≤ℤ z) (sym (to_z-of_z w128 s.w (given_fits s.w s.given))) s.low
+
+pub cap_of-cap-requires-clause-given : goal.cap_of-cap-requires-clause-given
+cap_of-cap-requires-clause-given c = let s = c.args.self.now in subst IsGiven (sym (to_z-of_z w128 s.w (given_fits s.w s.given))) s.given
+
+pub limit_of-limit-requires-clause-low : goal.limit_of-limit-requires-clause-low
+limit_of-limit-requires-clause-low c =
+    let low = c.cap_of-cap.ensures.low in
+    let high = c.cap_of-cap.ensures.high in
+    let fc : FitsSigned w128 c.cap_of-cap.result = omega (arith, ints, low, high) in
+    subst (λ z. pos 0 ≤ℤ z) (sym (to_z-of_z w128 c.cap_of-cap.result fc)) low
+
+pub limit_of-limit-requires-clause-high : goal.limit_of-limit-requires-clause-high
+limit_of-limit-requires-clause-high c =
+    let low = c.cap_of-cap.ensures.low in
+    let high = c.cap_of-cap.ensures.high in
+    let fc : FitsSigned w128 c.cap_of-cap.result = omega (arith, ints, low, high) in
+    subst (λ z. z ≤ℤ pos (10 ^ 24)) (sym (to_z-of_z w128 c.cap_of-cap.result fc)) high
