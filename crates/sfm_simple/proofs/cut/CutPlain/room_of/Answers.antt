@@ -35,3 +35,26 @@ returns c =
     let u : c.args.u ≡ 1 = omega (arith, two) in
     let f0 : FitsSigned w128 (get_or c.args.x.now 0 (pos 0)) = entry_fits _ (All-get_or IsEntry c.args.x.now 0 (pos 0) (omega (arith, two)) r.small) in
     rw (u, v) (simp to_z-of_z (cut-capacity_down c.args.q s.c c.args.x.now two r.base))
+
+pub product-requires-clause-factor : goal.product-requires-clause-factor
+product-requires-clause-factor c = let fq : FitsSigned w128 c.args.q = c.ranges.q in simp to_z-of_z c.requires.factor
+
+pub product-requires-clause-given : goal.product-requires-clause-given
+product-requires-clause-given c =
+    let fc : FitsSigned w128 c.args.self.now.c = given_fits _ c.args.self.now.given in
+    simp to_z-of_z (given_more _ c.args.self.now.given)
+
+pub overflow_sub-result : goal.overflow_sub-result
+overflow_sub-result c =
+    let r = c.requires in
+    let s = c.args.self.now in
+    let x = c.args.x.now in
+    let two = r.entries ∙ s.two in
+    let fq : FitsSigned w128 c.args.q = c.ranges.q in
+    let fc : FitsSigned w128 s.c = given_fits _ s.given in
+    let f0 : FitsSigned w128 (get_or x 0 (pos 0)) = entry_fits _ (All-get_or IsEntry x 0 (pos 0) (omega (arith, two)) r.small) in
+    let fm : FitsSigned w128 (c.args.q *ℤ s.c) = product_fits _ _ r.factor (given_more _ s.given) in
+    let h = cut_base_back c.args.q s.c x two r.base in
+    let fd : FitsSigned w128 ((c.args.q *ℤ s.c) -ℤ get_or x 0 (pos 0)) = omega (arith, ints, h.low, h.high, fm) in
+    let p = simp to_z-of_z at c.product.ensures in
+    rw p (simp to_z-of_z fd)
