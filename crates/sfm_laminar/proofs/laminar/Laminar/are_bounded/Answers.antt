@@ -1,4 +1,4 @@
-use Rattle.std.proofs.Common.{◌≡◌, ℕ, ◌+◌, ◌<◌, List, length, ℤ, pos, ◌≤ℤ◌, ⊎_elim, refl, ap, subst, arith, FitsSigned}
+use Rattle.std.proofs.Common.{◌≡◌, ℕ, ◌+◌, ◌<◌, List, length, ℤ, pos, ◌≤ℤ◌, ⊎_elim, refl, subst, arith, FitsSigned}
 use Rattle.std.proofs.lemmas.Bool.{cases_lt, false≢true}
 use Rattle.std.proofs.lemmas.Int.{ints, to_z-of_z}
 use mir.Syntax.{w128}
@@ -30,8 +30,7 @@ returns-then-slack-lt0 c =
     let fr : FitsSigned w128 c.slack.result = record { sfits = c.slack.type_inv } in
     let made = simp to_z-of_z at c.slack.ensures in
     let t = simp to_z-of_z at c.if-slack-lt0.true in
-    let lt : c.loop-i.i < length s.groups = rw (← c.len-i-end.ensures) c.loop-i-test.true in
-    (
+    let lt : c.loop-i.i < length s.groups = rw (← c.len-i-end.ensures) c.loop-i-test.true in (
       (λ e. absurd (false≢true e)),
       (λ h. let low = h c.loop-i.i lt in let least : pos 0 ≤ℤ c.slack.result = rw made low in absurd (omega (arith, ints, least, t))),
     )

@@ -17,3 +17,15 @@ returns c =
     let ku : c.args.u < length s.places = rw (← r.entries) r.from in
     let kv : c.args.v < length s.places = rw (← r.entries) r.onto in
     simp to_z-of_z (laminar-capacity (length s.places) c.args.q s.w s.groups r.factor.low s.low s.grouped c.args.x.now r.entries r.base c.args.u c.args.v ku kv r.apart c.least_left.result is)
+
+pub least_left-requires-clause-factor : goal.least_left-requires-clause-factor
+least_left-requires-clause-factor c = let fq : FitsSigned w128 c.args.q = c.ranges.q in simp to_z-of_z c.requires.factor
+
+pub least_left-requires-clause-small : goal.least_left-requires-clause-small
+least_left-requires-clause-small c = c.requires.small
+
+pub least_left-requires-clause-from : goal.least_left-requires-clause-from
+least_left-requires-clause-from c = c.requires.from
+
+pub least_left-requires-clause-onto : goal.least_left-requires-clause-onto
+least_left-requires-clause-onto c = c.requires.onto
