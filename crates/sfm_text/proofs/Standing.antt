@@ -291,12 +291,12 @@ conclude-good reader text short all none stage =
     }
 
 -- what is concluded is what the reader comes to
-pub finish-good : (old new : Reader) (result : Result InstanceData TextEnd) → old.count ≤ text_limit → ((text : List ℕ) → HasRead old text → HasReadAll new text) → IfOk result (λ i. (text : List ℕ) → length text ≤ text_limit → HasReadAll new text → IsTextOf text i.names i.terms) → IfOk result (λ i. (text : List ℕ) → Stands old text → IsTextOf text i.names i.terms)
-finish-good old new (Ok i) few all h = λ text stands. let short = short-text old text few stands in h text short (all text (stands.read short))
+pub finish-good : (old new : Reader) (result : Result (Unit {0}) TextEnd) → old.count ≤ text_limit → ((text : List ℕ) → HasRead old text → HasReadAll new text) → OnOk result ((text : List ℕ) → length text ≤ text_limit → HasReadAll new text → IsTextOf text new.reading.instance.names new.reading.instance.terms) → OnOk result ((text : List ℕ) → Stands old text → IsTextOf text new.reading.instance.names new.reading.instance.terms)
+finish-good old new (Ok done) few all h = λ text stands. let short = short-text old text few stands in h text short (all text (stands.read short))
 finish-good old new (Err e) few all h = h
 
-pub finish-refused : (old new : Reader) (result : Result InstanceData TextEnd) → old.count ≤ text_limit → ((text : List ℕ) → HasRead old text → HasReadAll new text) → IfErr result (λ e. (text : List ℕ) → length text ≤ text_limit → HasReadAll new text → IsRefusalOf text e) → IfErr result (λ e. (text : List ℕ) → Stands old text → IsRefusalOf text e)
-finish-refused old new (Ok i) few all h = h
+pub finish-refused : (old new : Reader) (result : Result (Unit {0}) TextEnd) → old.count ≤ text_limit → ((text : List ℕ) → HasRead old text → HasReadAll new text) → IfErr result (λ e. (text : List ℕ) → length text ≤ text_limit → HasReadAll new text → IsRefusalOf text e) → IfErr result (λ e. (text : List ℕ) → Stands old text → IsRefusalOf text e)
+finish-refused old new (Ok done) few all h = h
 finish-refused old new (Err e) few all h = λ text stands. let short = short-text old text few stands in h text short (all text (stands.read short))
 
 -- one more piece, counted: too many bytes, or behind a fault

@@ -97,6 +97,25 @@ fn add_read(
     add_made(instance, term)
 }
 
+/// Adds the term of a line with this word and these tokens behind it.
+fn add_behind(
+    alloc: Global,
+    instance: &mut Instance,
+    word: TermWord,
+    rest: &[u8],
+) -> Result<(), LineEnd>
+    requires short { bytes_in (tokens_of rest.now) < 2 ^ 24 }
+    ensures outcome { IsOutcome (state_at Terms instance.old) (word_text word ∷ tokens_of rest.now) result (state_at Terms instance.new) }
+    ensures unchanged { OnErr result (instance.new ≡ instance.old) }
+{
+    let _count = instance.names_len();
+    if let Some(term) = early_term(alloc, instance, word, rest)? {
+        return add_made(instance, term);
+    }
+    let tokens = tokens(alloc, rest)?;
+    add_read(alloc, instance, word, &tokens)
+}
+
 /// Adds the term of a term line, which is no longer than a text may be, behind those of an instance.
 ///
 /// # Errors
@@ -118,9 +137,5 @@ pub fn add_line(alloc: Global, instance: &mut Instance, line: &[u8]) -> Result<(
     if let Some(reason) = early_reason(instance, word, rest) {
         return Err(LineEnd::Fault(reason));
     }
-    if let Some(term) = early_term(alloc, instance, word, rest)? {
-        return add_made(instance, term);
-    }
-    let tokens = tokens(alloc, rest)?;
-    add_read(alloc, instance, word, &tokens)
+    add_behind(alloc, instance, word, rest)
 }

@@ -95,6 +95,16 @@ impl Reader {
         ensures refused { IfErr result (λ end. (text : List ℕ) → Stands self text → IsRefusalOf text end) }
         ensures spent { self.spent ≡ true → result ≡ Err ends.Memory }
     {
+        self.close(alloc)?;
+        Ok(self.reading.instance)
+    }
+
+    /// Reads what is left of the text, and tells whether it is good; a fault of it ends the reader.
+    fn close(&mut self, alloc: Global) -> Result<(), TextEnd>
+        ensures read { OnOk result ((text : List ℕ) → Stands self.old text → IsTextOf text self.new.reading.instance.names self.new.reading.instance.terms) }
+        ensures refused { IfErr result (λ end. (text : List ℕ) → Stands self.old text → IsRefusalOf text end) }
+        ensures spent { self.old.spent ≡ true → result ≡ Err ends.Memory }
+    {
         if self.spent {
             return Err(TextEnd::Memory);
         }
@@ -115,11 +125,12 @@ impl Reader {
         }
     }
 
-    /// The instance of a text that has been read to its end and has no faulty line, or the fault that it ends too early.
-    fn conclude(self) -> Result<Instance, TextEnd>
-        requires { self.fault ≡ None }
-        ensures read { IfOk result (λ instance. (text : List ℕ) → length text ≤ text_limit → HasReadAll self text → IsTextOf text instance.names instance.terms) }
-        ensures refused { IfErr result (λ end. (text : List ℕ) → length text ≤ text_limit → HasReadAll self text → IsRefusalOf text end) }
+    /// Whether a text that has been read to its end and has no faulty line comes to its end, or else the fault that it ends too
+    /// early.
+    fn conclude(&self) -> Result<(), TextEnd>
+        requires { self.now.fault ≡ None }
+        ensures read { OnOk result ((text : List ℕ) → length text ≤ text_limit → HasReadAll self.now text → IsTextOf text self.now.reading.instance.names self.now.reading.instance.terms) }
+        ensures refused { IfErr result (λ end. (text : List ℕ) → length text ≤ text_limit → HasReadAll self.now text → IsRefusalOf text end) }
     {
         if self.reading.stage != Stage::Ended {
             return Err(TextEnd::Refused {
@@ -127,7 +138,7 @@ impl Reader {
                 reason: Reason::Short,
             });
         }
-        Ok(self.reading.instance)
+        Ok(())
     }
 
     /// Counts the bytes of a piece, and reads it where the text is neither too long nor faulty before it.

@@ -17,26 +17,13 @@ returns-in-Some-early_reason-clause-judged c =
     let told = c.in-Some-early_reason.ensures in
     term-refused i line (term-not-last line c.in-Some.word rest c.in-Some.ensures) (Fault c.in-Some-early_reason.reason) (told line (record { tokens_are = c.in-Some.ensures; good_bytes = c.if-not-are_good_bytes.ensures }))
 
-pub add_read-requires : goal.add_read-requires
-add_read-requires c =
+pub add_behind-requires : goal.add_behind-requires
+add_behind-requires c =
     let line = c.args.line.now in
-    let rest = tokens_of c.in-Some.rest.now in
     let few = bytes-tokens line in
     let short = c.requires.short in
-    record {
-      short = rw (c.deref.ensures.value, c.in_ok-tokens.ensures) (bytes-behind c.in-Some.word (tokens_of line) rest c.in-Some.ensures (omega (arith, few, short)));
-      other = rw (c.deref.ensures.value, c.in_ok-tokens.ensures) (rw c.in_default-2.is at c.in_ok-term.ensures);
-    }
+    record { short = bytes-behind c.in-Some.word (tokens_of line) (tokens_of c.in-Some.rest.now) c.in-Some.ensures (omega (arith, few, short)) }
 
 pub returns-clause-judged : goal.returns-clause-judged
 returns-clause-judged c =
-    let line = c.args.line.now in
-    let rest = tokens_of c.in-Some.rest.now in
-    judged-as c.args.instance.now c.add_read.new.instance line c.in-Some.word rest c.add_read.result (record { tokens_are = c.in-Some.ensures; good_bytes = c.if-not-are_good_bytes.ensures }) (rw (c.deref.ensures.value, c.in_ok-tokens.ensures) at c.add_read.ensures.outcome)
-
-pub returns-in-Some-2-clause-judged : goal.returns-in-Some-2-clause-judged
-returns-in-Some-2-clause-judged c =
-    let line = c.args.line.now in
-    let rest = tokens_of c.in-Some.rest.now in
-    let read = rw c.in-Some-2.is at c.in_ok-term.ensures in
-    judged-as c.args.instance.now c.add_made.new.instance line c.in-Some.word rest c.add_made.result (record { tokens_are = c.in-Some.ensures; good_bytes = c.if-not-are_good_bytes.ensures }) (c.add_made.ensures.outcome c.in-Some.word rest read)
+    judged-as c.args.instance.now c.add_behind.new.instance c.args.line.now c.in-Some.word (tokens_of c.in-Some.rest.now) c.add_behind.result (record { tokens_are = c.in-Some.ensures; good_bytes = c.if-not-are_good_bytes.ensures }) c.add_behind.ensures.outcome
