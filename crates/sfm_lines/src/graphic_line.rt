@@ -4,7 +4,7 @@ ghost use Rattle.std.specs.List.{All};
 ghost use Rattle.sfm_matroid.specs.Ends.{edges_of};
 ghost use Rattle.sfm_lines.specs.Lines.{texts_of};
 ghost use Rattle.sfm_lines.specs.Parts.{IsLabelToken, IsLabelledLine};
-ghost use Rattle.sfm_lines.specs.LabelTerms.{edge_between};
+ghost use Rattle.sfm_lines.specs.LabelTerms.{edge_between, numbers_of};
 ghost use Rattle.sfm_lines.specs.CutParts.{AreLabelled, labelled_parts_of, place_among};
 ghost use Rattle.sfm_lines.specs.ReadParts.{AreGiven, HasLineParts, IsTermOf, parts_of, label_lists_of, joined};
 ghost use Rattle.sfm_lines.specs.declared.word.TermWord.TheVariants.{RankWord};
@@ -105,6 +105,16 @@ fn ends(
     Ok(ends)
 }
 
+/// The ends of the edges with these labels, by the places of their names among the different ones.
+fn numbered_ends(alloc: Global, labels: &[Labels]) -> Result<Vec<(u32, u32)>, Memory>
+    requires few { length (joined (label_lists_of labels.now)) < 2 ^ 24 }
+    requires two { All (λ texts. length texts ≡ 2) (label_lists_of labels.now) }
+    ensures { IfOk result (λ r. edges_of r.items ≡ map edge_between (numbers_of (label_lists_of labels.now))) }
+{
+    let names = different(alloc, labels)?;
+    ends(alloc, &names, labels)
+}
+
 /// The term with the first number for each edge of a greatest forest.
 pub fn graphic_term(
     alloc: Global,
@@ -120,8 +130,7 @@ pub fn graphic_term(
     requires each { length (parts_of parts.now).labels ≡ length places.now }
     ensures { IfOk result (IsTermOf RankWord (parts_of parts.now) values.now places.now) }
 {
-    let names = different(alloc, &parts.labels)?;
-    let ends = ends(alloc, &names, &parts.labels)?;
+    let ends = numbered_ends(alloc, &parts.labels)?;
     let graphic = Graphic::new(alloc, places, values[0], &ends)?;
     Ok(Kind::Graphic(graphic))
 }

@@ -1,18 +1,20 @@
 // Reading a term line: its parts are cut out by its word, and each kind of part is then read once for all words.
-ghost use Rattle.std.specs.Prelude.{◌≡◌, ◌<◌, ◌↔◌, ◌∷◌, ◌^◌, ℕ, List, ℤ, pos, neg_ℤ, ◌≤ℤ◌, Any, IsTrue, IfOk, IfErr, MatchOption, Some};
+ghost use Rattle.std.specs.Prelude.{◌≡◌, ◌<◌, ◌↔◌, ◌∷◌, ◌^◌, ℕ, List, ℤ, pos, neg_ℤ, ◌≤ℤ◌, Any, IsTrue, IfOk, IfErr, MatchOption, Some, ◌≢◌, length};
 ghost use Rattle.std.specs.List.{All, AllZip};
 ghost use Rattle.sfm_kind.specs.Names.{IsNewName, AreElementNames};
 ghost use Rattle.sfm_lines.specs.Lines.{texts_of};
-ghost use Rattle.sfm_lines.specs.Words.{lowest_of, word_text};
+ghost use Rattle.sfm_lines.specs.Words.{HasParts, lowest_of, word_text};
 ghost use Rattle.sfm_lines.specs.TermLines.{IsNumberFrom, IsElement, StandsTwice};
 ghost use Rattle.sfm_lines.specs.Reading.{IsLineRefusal};
-ghost use Rattle.sfm_lines.specs.ReadParts.{bytes_in, state_at, IsLineOf, IsTermRead, IsNumberOf, IsKnown, IsEntryLine};
+ghost use Rattle.sfm_lines.specs.ReadParts.{bytes_in, state_at, IsLineOf, IsTermRead, IsNumberOf, IsKnown, IsEntryLine, parts_of, joined};
 ghost use Rattle.sfm_lines.specs.declared.stage.Stage.TheVariants.{Terms};
+ghost use Rattle.sfm_lines.specs.declared.word.RankKind.TheVariants.{TransversalRank};
 
 use crate::groups::{are_members, has_member_twice};
 use crate::labels::are_labels;
 use crate::line_fault::LineEnd;
 use crate::line_parts::line_parts;
+use crate::parts::Parts;
 use crate::reason::Reason;
 use crate::terms::make_term;
 use crate::word::TermWord;
@@ -125,6 +127,46 @@ pub fn has_place_twice(places: &[usize]) -> bool
     false
 }
 
+/// The term of a line with this word and these parts, or the first reason for which it has none.
+fn parts_term(
+    alloc: Global,
+    instance: &Instance,
+    word: TermWord,
+    parts: &Parts,
+) -> Result<Kind, LineEnd>
+    requires names { AreElementNames instance.now.names }
+    requires shape { (rest : List (List ℕ)) × HasParts word rest (parts_of parts.now) }
+    requires other { (parts_of parts.now).rank ≢ TransversalRank }
+    requires few { length (joined (parts_of parts.now).labels) < 2 ^ 24 }
+    ensures read { IfOk result (λ term. (rest : List (List ℕ)) → HasParts word rest (parts_of parts.now) → IsTermRead instance.now word rest term) }
+    ensures refused { IfErr result (λ e. (rest : List (List ℕ)) (line : List ℕ) → HasParts word rest (parts_of parts.now)
+        → IsLineOf line (word_text word ∷ rest)
+        → IsLineRefusal (state_at Terms instance.now) line e) }
+{
+    let Some(values) = read_numbers(alloc, word, &parts.numbers)? else {
+        return Err(LineEnd::Fault(Reason::Number));
+    };
+    let Some(places) = read_places(alloc, instance, &parts.elements)? else {
+        return Err(LineEnd::Fault(Reason::Name));
+    };
+    if !are_members(alloc, &parts.elements, &parts.groups)? {
+        return Err(LineEnd::Fault(Reason::Name));
+    }
+    if !are_labels(&parts.labels) {
+        return Err(LineEnd::Fault(Reason::Name));
+    }
+    if has_place_twice(&places) {
+        return Err(LineEnd::Fault(Reason::Twice));
+    }
+    if has_member_twice(alloc, &parts.groups)? {
+        return Err(LineEnd::Fault(Reason::Twice));
+    }
+    match make_term(alloc, word, parts, &values, &places)? {
+        Some(term) => Ok(term),
+        None => Err(LineEnd::Fault(Reason::Law)),
+    }
+}
+
 /// The term that a line with this word stands for, or the first reason for which it has none; a line of a transversal rank is read
 /// by itself.
 pub fn read_term(
@@ -144,26 +186,5 @@ pub fn read_term(
     let Some(parts) = line_parts(alloc, word, tokens)? else {
         return Err(LineEnd::Fault(Reason::Shape));
     };
-    let Some(values) = read_numbers(alloc, word, &parts.numbers)? else {
-        return Err(LineEnd::Fault(Reason::Number));
-    };
-    let Some(places) = read_places(alloc, instance, &parts.elements)? else {
-        return Err(LineEnd::Fault(Reason::Name));
-    };
-    if !are_members(alloc, &parts.elements, &parts.groups)? {
-        return Err(LineEnd::Fault(Reason::Name));
-    }
-    if !are_labels(&parts.labels) {
-        return Err(LineEnd::Fault(Reason::Name));
-    }
-    if has_place_twice(&places) {
-        return Err(LineEnd::Fault(Reason::Twice));
-    }
-    if has_member_twice(alloc, &parts.groups)? {
-        return Err(LineEnd::Fault(Reason::Twice));
-    }
-    match make_term(alloc, word, &parts, &values, &places)? {
-        Some(term) => Ok(term),
-        None => Err(LineEnd::Fault(Reason::Law)),
-    }
+    parts_term(alloc, instance, word, &parts)
 }
