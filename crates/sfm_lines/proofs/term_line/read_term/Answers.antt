@@ -1,4 +1,4 @@
-use Rattle.std.proofs.Common.{Result, Ok, Err, IfOk, IfErr, arith}
+use Rattle.std.proofs.Common.{arith}
 use Rattle.sfm_lines.specs.Lines.{texts_of}
 use Rattle.sfm_lines.specs.Words.{HasParts}
 use Rattle.sfm_lines.specs.ReadParts.{parts_of}
