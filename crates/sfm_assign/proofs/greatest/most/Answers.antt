@@ -1,4 +1,4 @@
-use Rattle.std.proofs.Common.{◌≡◌, set, get_or, ℤ, pos, ◌+ℤ◌, ◌-ℤ◌, ap, ◌∙◌, arith, rules, to_z, of_z, FitsSigned}
+use Rattle.std.proofs.Common.{◌≡◌, set, get_or, length, ℤ, pos, ◌+ℤ◌, ◌-ℤ◌, ap, ◌∙◌, arith, rules, to_z, of_z, FitsSigned, length-set}
 use Rattle.std.proofs.lemmas.Int.{ints, to_z-of_z}
 use mir.Syntax.{w128}
 use Rattle.sfm_spec.specs.Bounds.{total_of}
@@ -41,3 +41,28 @@ returns-in-Ok c =
     let fg : FitsSigned w128 g = search rules in
     let h = rw (same, to_z-of_z w128 s fs) at c.in_ok-more-in-Ok.ensures.most in
     rw (to_z-of_z w128 g fg) (most_from d c.demands.ensures.sound c.args.u c.requires.place s g (c.sum_of.ensures.total ∙ ap total_of c.capacities.ensures) h)
+
+pub raise-requires-clause-place : goal.raise-requires-clause-place
+raise-requires-clause-place c = rw c.in_ok-others.ensures c.requires.place
+
+pub sum_of-requires-clause-few : goal.sum_of-requires-clause-few
+sum_of-requires-clause-few c = rw c.capacities.ensures c.demands.ensures.sound.few_slots
+
+pub sum_of-requires-clause-bounded : goal.sum_of-requires-clause-bounded
+sum_of-requires-clause-bounded c = rw c.capacities.ensures c.demands.ensures.sound.bounded
+
+pub grow-requires-clause-place : goal.grow-requires-clause-place
+grow-requires-clause-place c =
+    let same = others (goal.at.grow-requires-clause-place c).In-Ok in
+    let place = c.requires.place in
+    let long = ap (λ (k : Demands). length k.demands) same ∙ length-set c.args.demand.now.demands c.args.u (pos 0) in
+    omega (arith, place, long)
+
+pub grow-requires-clause-low : goal.grow-requires-clause-low
+grow-requires-clause-low c =
+    let s : ℤ = c.sum_of.result in
+    let fs : FitsSigned w128 s = search rules in
+    simp to_z-of_z c.sum_of.ensures.amount.low
+
+pub bounds-demands-u : goal.bounds-demands-u
+bounds-demands-u c = rw c.demands.ensures.value c.requires.place

@@ -1,5 +1,10 @@
-use Rattle.std.proofs.Common.{sym, ap, length, ◌∙◌, arith}
+use Rattle.std.proofs.Common.{sym, ap, subst, refl, false, length, ◌∙◌, arith}
+use Rattle.sfm_assign.specs.Splits.{Demands}
+use Rattle.sfm_assign.specs.Cells.{AreMet}
+use Rattle.sfm_assign.specs.Search.{AreLeft}
 use Rattle.sfm_assign.proofs.Outcomes.{cells_for}
+use Rattle.std.proofs.lemmas.Bool.{both_ways}
+use Rattle.sfm_assign.proofs.Spreads.{answers_none}
 use Rattle.sfm_assign.proofs.kept.Kept.new.Goals as goal
 
 pub left_of-requires-clause-same : goal.left_of-requires-clause-same
@@ -13,3 +18,32 @@ left_of-requires-clause-below c =
     let k = c.in_ok-shares.ensures.shares in
     let cells = cells_for c.args.demand c.in_ok-shares.ensures.sound in
     rw (c.deref.ensures.value, c.capacities.ensures, k.in_lists) (λ e lt. let same = cells.same in cells.exist e (omega (arith, lt, same)))
+
+pub left_of-requires-clause-amounts : goal.left_of-requires-clause-amounts
+left_of-requires-clause-amounts c = rw c.deref-2.ensures.value c.in_ok-shares.ensures.shares.part.amounts
+
+pub left_of-requires-clause-within : goal.left_of-requires-clause-within
+left_of-requires-clause-within c = rw (c.deref-2.ensures.value, c.deref.ensures.value, c.capacities.ensures) c.in_ok-shares.ensures.shares.part.within
+
+pub invariant_of-result-2-clause-met : goal.invariant_of-result-2-clause-met
+invariant_of-result-2-clause-met c =
+    let k = c.in_ok-shares.shares in
+    subst (λ d. AreMet d k.cells.whos.items k.cells.slots.items k.y.items) (sym c.demand.view_is) c.in_ok-shares.ensures.shares
+
+pub invariant_of-result-2-clause-left : goal.invariant_of-result-2-clause-left
+invariant_of-result-2-clause-left c =
+    let k = c.in_ok-shares.shares in
+    let left = rw (c.deref-2.ensures.value, c.deref.ensures.value, c.capacities.ensures) at c.in_ok-rooms.ensures in
+    subst (λ (d : Demands). AreLeft d.capacities k.cells.slots.items k.y.items c.in_ok-rooms.rooms.items) (sym c.demand.view_is) left
+
+pub invariant_of-result-2-clause-few : goal.invariant_of-result-2-clause-few
+invariant_of-result-2-clause-few c = rw c.new.ensures (omega arith)
+
+pub invariant_of-result-2-clause-asked : goal.invariant_of-result-2-clause-asked
+invariant_of-result-2-clause-asked c = λ h. absurd (both_ways false refl h)
+
+pub invariant_of-result-2-clause-known : goal.invariant_of-result-2-clause-known
+invariant_of-result-2-clause-known c = rw c.new.ensures (answers_none _ _ _ _ _)
+
+pub returns : goal.returns
+returns c = c.demand.view_is

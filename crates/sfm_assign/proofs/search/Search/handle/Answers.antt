@@ -5,8 +5,8 @@ use mir.Syntax.{w128}
 use Rattle.sfm_spec.specs.Sets.{Has}
 use Rattle.sfm_assign.specs.Splits.{amount_at}
 use Rattle.sfm_assign.specs.Cells.{label_at}
-use Rattle.sfm_assign.proofs.Linking.{pass_here, pass_more, pass_falls}
-use Rattle.sfm_assign.proofs.Queues.{further_more, marked_here, marked_kept, marked_full}
+use Rattle.sfm_assign.proofs.Linking.{pass_begun, pass_here, pass_done, pass_more, pass_falls}
+use Rattle.sfm_assign.proofs.Queues.{further_none, further_more, marked_here, marked_kept, marked_full}
 use Rattle.sfm_assign.proofs.search.Search.handle.Goals as goal
 use Rattle.sfm_assign.proofs.search.Search.handle.Goals.{After-index-s, then-not-index+else-rooms-s-gt0+in_ok-sweep, else-not-index}
 
@@ -75,3 +75,36 @@ loop-at-preserved c =
             passed = pass_more chains c.in-Some.is inv.passed (Marked marks) c.index-at.ensures (λ f has. has) (ap (λ j. get_or marks j false) (sym is) ∙ (sym v ∙ w.if-not-index.false));
           }))
     ]
+
+pub loop-at-init : goal.loop-at-init
+loop-at-init c =
+    let cells = c.args.cells.now in
+    let self = c.args.self.now in
+    record {
+      handled = record { places = c.requires.places; progress = c.requires.progress; further = further_none self.nodes.items self.queue.items; full = c.requires.full; kept = λ m has. has };
+      passed = rw c.head-at.ensures (pass_begun cells.whos.items cells.by_who.heads.items cells.by_who.nexts.items c.args.i (λ e. Has self.marks.items (label_at cells.slots.items e)) cells.whos_chained);
+    }
+
+pub sweep-requires-clause-cells : goal.sweep-requires-clause-cells
+sweep-requires-clause-cells c = let h = c.loop-at.invariant.handled in rw (h.further.places, h.places) c.requires.cells
+
+pub sweep-requires-clause-same : goal.sweep-requires-clause-same
+sweep-requires-clause-same c = c.requires.same
+
+pub sweep-requires-clause-cell : goal.sweep-requires-clause-cell
+sweep-requires-clause-cell c = let (lt, mine) = pass_here c.in-Some.is c.loop-at.invariant.passed in lt
+
+pub sweep-requires-clause-found : goal.sweep-requires-clause-found
+sweep-requires-clause-found c =
+    let (lt, mine) = pass_here c.in-Some.is c.loop-at.invariant.passed in
+    let (b, is) = c.requires.found in
+    rw mine (b, c.loop-at.invariant.handled.further.kept c.args.i b is)
+
+pub sweep-requires-clause-progress : goal.sweep-requires-clause-progress
+sweep-requires-clause-progress c = c.loop-at.invariant.handled.progress
+
+pub returns-clause-handled : goal.returns-clause-handled
+returns-clause-handled c = c.loop-at.invariant.handled
+
+pub returns-clause-told : goal.returns-clause-told
+returns-clause-told c = λ e lt mine. pass_done c.in_default.is c.loop-at.invariant.passed e lt mine

@@ -1,10 +1,10 @@
-use Rattle.std.proofs.Common.{◌≡◌, ℕ, None, pos, ◌≤ℤ◌, arith, ◌∙◌}
+use Rattle.std.proofs.Common.{◌≡◌, ℕ, None, pos, ◌≤ℤ◌, length, refl, arith, ap, ◌∙◌}
 use Rattle.std.proofs.lemmas.List.{get_or_read}
 use Rattle.sfm_assign.specs.Splits.{amount_at}
 use Rattle.sfm_assign.specs.Cells.{label_at}
 use Rattle.sfm_assign.specs.Search.{node_at}
-use Rattle.sfm_assign.proofs.Linking.{pass_here, pass_more, pass_falls}
-use Rattle.sfm_assign.proofs.Queues.{further_more, out_before}
+use Rattle.sfm_assign.proofs.Linking.{pass_begun, pass_here, pass_more, pass_falls}
+use Rattle.sfm_assign.proofs.Queues.{further_none, further_more, out_before}
 use Rattle.sfm_assign.proofs.search.Search.sweep.Goals as goal
 
 pub find-requires-clause-own : goal.find-requires-clause-own
@@ -42,3 +42,26 @@ loop-at-preserved c =
       passed = pass_more c.args.cells.now.slots_chained c.in-Some.is inv.passed Seen c.index-at.ensures
           (λ f seen out. seen (out_before before.nodes.items before.queue.items after.nodes.items after.queue.items told.further (label_at whos f) out)) told.seen;
     }
+
+pub loop-at-init : goal.loop-at-init
+loop-at-init c =
+    let cells = c.args.cells.now in
+    let self = c.args.self.now in
+    record {
+      marks = refl;
+      progress = c.requires.progress;
+      further = further_none self.nodes.items self.queue.items;
+      passed = rw c.head-at.ensures (pass_begun cells.slots.items cells.by_slot.heads.items cells.by_slot.nexts.items c.index-s.result.now (λ f. node_at self.nodes.items (label_at cells.whos.items f) ≡ None → amount_at c.args.y.now f ≤ℤ pos 0) cells.slots_chained);
+    }
+
+pub find-requires-clause-cells : goal.find-requires-clause-cells
+find-requires-clause-cells c = let inv = c.loop-at.invariant in rw (inv.further.places, ap length inv.marks) c.requires.cells
+
+pub find-requires-clause-same : goal.find-requires-clause-same
+find-requires-clause-same c = c.requires.same
+
+pub find-requires-clause-other : goal.find-requires-clause-other
+find-requires-clause-other c = c.requires.cell
+
+pub find-requires-clause-progress : goal.find-requires-clause-progress
+find-requires-clause-progress c = c.loop-at.invariant.progress

@@ -1,10 +1,10 @@
-use Rattle.std.proofs.Common.{ℕ, length, pos, ◌≤ℤ◌, arith, ◌∙◌}
+use Rattle.std.proofs.Common.{ℕ, length, pos, ◌≤ℤ◌, refl, arith, ◌∙◌}
 use Rattle.std.proofs.lemmas.List.{get_or_read}
 use Rattle.sfm_spec.specs.Sets.{Has}
 use Rattle.sfm_assign.specs.Splits.{amount_at}
 use Rattle.sfm_assign.specs.Cells.{label_at}
-use Rattle.sfm_assign.proofs.Linking.{pass_here, pass_more, pass_done, pass_falls}
-use Rattle.sfm_assign.proofs.Spreads.{wider_more, spread_marked}
+use Rattle.sfm_assign.proofs.Linking.{pass_begun, pass_here, pass_more, pass_done, pass_falls}
+use Rattle.sfm_assign.proofs.Spreads.{wider_none, wider_more, spread_marked}
 use Rattle.sfm_assign.proofs.spread.Spread.sweep.Goals as goal
 
 pub find-requires-clause-own : goal.find-requires-clause-own
@@ -63,3 +63,46 @@ returns-in-Some-2-clause-wider c =
     let before = c.loop-at.self in
     let after = c.find.new.self in
     wider_more first.found before.found after.found first.queue.items before.queue.items after.queue.items c.loop-at.invariant.wider c.in_ok-answer.ensures.wider
+
+pub loop-at-init : goal.loop-at-init
+loop-at-init c =
+    let cells = c.args.shares.now.cells in
+    let self = c.args.self.now in
+    record {
+      from = refl;
+      next = refl;
+      marks = refl;
+      spread = c.requires.spread;
+      wider = wider_none self.found self.queue.items;
+      passed = rw c.head-at.ensures (pass_begun cells.slots.items cells.by_slot.heads.items cells.by_slot.nexts.items c.index-s.result.now (λ f. pos 1 ≤ℤ amount_at c.args.shares.now.y.items f → Has self.found (label_at cells.whos.items f)) cells.slots_chained);
+    }
+
+pub find-requires-clause-told : goal.find-requires-clause-told
+find-requires-clause-told c = c.requires.told
+
+pub find-requires-clause-other : goal.find-requires-clause-other
+find-requires-clause-other c = c.requires.cell
+
+pub find-requires-clause-spread : goal.find-requires-clause-spread
+find-requires-clause-spread c = c.loop-at.invariant.spread
+
+pub returns-in-Some-2-clause-from : goal.returns-in-Some-2-clause-from
+returns-in-Some-2-clause-from c = c.in_ok-answer.ensures.from ∙ c.loop-at.invariant.from
+
+pub returns-in-Some-2-clause-next : goal.returns-in-Some-2-clause-next
+returns-in-Some-2-clause-next c = c.in_ok-answer.ensures.next ∙ c.loop-at.invariant.next
+
+pub returns-in-Some-2-clause-spread : goal.returns-in-Some-2-clause-spread
+returns-in-Some-2-clause-spread c = c.in_ok-answer.ensures.spread
+
+pub returns-in-Some-2-clause-end : goal.returns-in-Some-2-clause-end
+returns-in-Some-2-clause-end c = rw c.loop-at.invariant.from at (rw c.in-Some-2.is at c.in_ok-answer.ensures.end)
+
+pub returns-clause-from : goal.returns-clause-from
+returns-clause-from c = c.loop-at.invariant.from
+
+pub returns-clause-next : goal.returns-clause-next
+returns-clause-next c = c.loop-at.invariant.next
+
+pub returns-clause-wider : goal.returns-clause-wider
+returns-clause-wider c = c.loop-at.invariant.wider

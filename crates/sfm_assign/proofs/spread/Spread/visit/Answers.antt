@@ -62,3 +62,27 @@ returns-clause-end c =
     let in_marks : k < length marks = omega (arith, exist, places) in
     let told = rw c.in_default.is at c.in_ok-answer.ensures.end in
     rw told (marked_here marks k in_marks, λ (t : ℕ) has. marked_kept marks k t in_marks has)
+
+pub sweep-requires-clause-told : goal.sweep-requires-clause-told
+sweep-requires-clause-told c = c.requires.told
+
+pub sweep-requires-clause-cell : goal.sweep-requires-clause-cell
+sweep-requires-clause-cell c = c.requires.cell
+
+pub sweep-requires-clause-found : goal.sweep-requires-clause-found
+sweep-requires-clause-found c = c.requires.found
+
+pub sweep-requires-clause-spread : goal.sweep-requires-clause-spread
+sweep-requires-clause-spread c = c.requires.spread
+
+pub returns-clause-from : goal.returns-clause-from
+returns-clause-from c = c.in_ok-answer.ensures.from
+
+pub returns-clause-next : goal.returns-clause-next
+returns-clause-next c = c.in_ok-answer.ensures.next
+
+pub returns-clause-spread : goal.returns-clause-spread
+returns-clause-spread c = c.in_ok-answer.ensures.spread
+
+pub returns-clause-wider : goal.returns-clause-wider
+returns-clause-wider c = c.in_ok-answer.ensures.wider
