@@ -1,5 +1,5 @@
-use Rattle.std.proofs.Common.{◌≡◌, ◌++◌, length, set, take, drop, inr, refl, sym, ap, ◌∙◌, get_or-set_same, FitsSigned}
-use Rattle.std.proofs.lemmas.Int.{to_z-of_z}
+use Rattle.std.proofs.Common.{◌≡◌, ◌++◌, List, ℤ, pos, ◌≤ℤ◌, length, set, take, drop, inr, refl, sym, ap, ◌∙◌, subst, arith, get_or-set_same, FitsSigned}
+use Rattle.std.proofs.lemmas.Int.{ints, to_z-of_z}
 use Rattle.std.proofs.lemmas.List.{take_at}
 use mir.Syntax.{w128}
 use mir.Val.{of_z, to_z}
@@ -10,7 +10,7 @@ use Rattle.sfm_law.specs.Room.{IsWithinRoom}
 use Rattle.sfm_exchange.specs.Based.{IsBased}
 use Rattle.sfm_exchange.specs.Claimed.{AreClaims}
 use Rattle.sfm_exchange.proofs.Basing.{based_after, size_low}
-use Rattle.sfm_exchange.proofs.ClaimedGraphs.{based, claimed_after, claimed_shown, claims_at, means, place_in, rows_after, rows_count, rows_shown, united_by}
+use Rattle.sfm_exchange.proofs.ClaimedGraphs.{base_count, based, claimed_after, claimed_shown, claims_at, means, place_in, rows_after, rows_count, rows_shown, united_by}
 use Rattle.sfm_exchange.proofs.moving.exchange_at.Given as given
 use Rattle.sfm_exchange.proofs.moving.exchange_at.Goals as goal
 use Rattle.sfm_exchange.proofs.moving.exchange_at.Goals.{After-at-1, After-moved-arg-1}
@@ -53,6 +53,43 @@ still g c b =
     let hop = c.args.hop in
     based_after t.places t.value_of t.size_of c.index-terms-i.result c.args.q (base_at c.args.graph.now.bases hop.term) c.exchange.new.x hop.u hop.v c.args.a b (came g c) c.requires.can.after (simp to_z-of_z at c.exchange.ensures.base)
 
+pub row_mut-x-requires : goal.row_mut-x-requires
+row_mut-x-requires g c = rw (base_count c.requires.graph) c.requires.inside
+
+pub moved-requires-clause-factor : goal.moved-requires-clause-factor
+moved-requires-clause-factor g c = let fq : FitsSigned w128 c.args.q = c.ranges.q in simp to_z-of_z c.requires.graph.factor
+
+pub moved-requires-clause-small : goal.moved-requires-clause-small
+moved-requires-clause-small g c = rw c.row_mut-x.ensures.value c.requires.can.small
+
+pub moved-requires-clause-apart : goal.moved-requires-clause-apart
+moved-requires-clause-apart g c = c.requires.can.apart
+
+pub moved-requires-clause-from : goal.moved-requires-clause-from
+moved-requires-clause-from g c = rw c.row_mut-x.ensures.value c.requires.can.raised
+
+pub moved-requires-clause-onto : goal.moved-requires-clause-onto
+moved-requires-clause-onto g c = rw c.row_mut-x.ensures.value c.requires.can.lowered
+
+pub moved-requires-clause-low : goal.moved-requires-clause-low
+moved-requires-clause-low g c =
+    let fa : FitsSigned w128 c.args.a = c.ranges.a in
+    let some = c.requires.low in
+    let low : pos 0 ≤ℤ c.args.a = omega (arith, ints, some) in
+    simp to_z-of_z low
+
+pub moved-requires-clause-high : goal.moved-requires-clause-high
+moved-requires-clause-high g c = let fa : FitsSigned w128 c.args.a = c.ranges.a in simp to_z-of_z c.requires.high
+
+pub moved-requires-clause-noted : goal.moved-requires-clause-noted
+moved-requires-clause-noted g c =
+    let fq : FitsSigned w128 c.args.q = c.ranges.q in
+    let r = c.requires in
+    let term = c.index-terms-i.result in
+    let F : List ℤ → Type 0 = λ x. g.T.Term.fits term c.index_mut-note.result.now c.args.q x in
+    let noted : F c.row_mut-x.result.now = subst F (sym c.row_mut-x.ensures.value) (r.graph.noted c.args.hop.term r.inside term c.index-terms-i.is c.index_mut-note.result.now c.index_mut-note.ensures.value) in
+    simp to_z-of_z noted
+
 pub moved-requires-clause-entries : goal.moved-requires-clause-entries
 moved-requires-clause-entries g c = rw c.row_mut-x.ensures.value (here g (goal.at.moved-requires-clause-entries g c).After-moved-arg-1).entries
 
@@ -64,6 +101,31 @@ moved-requires-clause-base g c = base g (goal.at.moved-requires-clause-base g c)
 
 pub moved-requires-clause-room : goal.moved-requires-clause-room
 moved-requires-clause-room g c = room g (goal.at.moved-requires-clause-room g c).After-moved-arg-1
+
+pub exchange-requires-clause-factor : goal.exchange-requires-clause-factor
+exchange-requires-clause-factor g c = let fq : FitsSigned w128 c.args.q = c.ranges.q in simp to_z-of_z c.requires.graph.factor
+
+pub exchange-requires-clause-small : goal.exchange-requires-clause-small
+exchange-requires-clause-small g c = rw c.row_mut-x.ensures.value c.requires.can.small
+
+pub exchange-requires-clause-apart : goal.exchange-requires-clause-apart
+exchange-requires-clause-apart g c = c.requires.can.apart
+
+pub exchange-requires-clause-from : goal.exchange-requires-clause-from
+exchange-requires-clause-from g c = rw c.row_mut-x.ensures.value c.requires.can.raised
+
+pub exchange-requires-clause-onto : goal.exchange-requires-clause-onto
+exchange-requires-clause-onto g c = rw c.row_mut-x.ensures.value c.requires.can.lowered
+
+pub exchange-requires-clause-low : goal.exchange-requires-clause-low
+exchange-requires-clause-low g c =
+    let fa : FitsSigned w128 c.args.a = c.ranges.a in
+    let some = c.requires.low in
+    let low : pos 0 ≤ℤ c.args.a = omega (arith, ints, some) in
+    simp to_z-of_z low
+
+pub exchange-requires-clause-high : goal.exchange-requires-clause-high
+exchange-requires-clause-high g c = let fa : FitsSigned w128 c.args.a = c.ranges.a in simp to_z-of_z c.requires.high
 
 pub exchange-requires-clause-entries : goal.exchange-requires-clause-entries
 exchange-requires-clause-entries g c = rw c.row_mut-x.ensures.value (here g (goal.at.exchange-requires-clause-entries g c).After-moved-arg-1).entries
@@ -79,6 +141,26 @@ renew_rows-requires-clause-based g c =
     let fq : FitsSigned w128 c.args.q = c.ranges.q in
     let at = goal.at.renew_rows-requires-clause-based g c in
     simp to_z-of_z (still g at.After-at-1 (here g at.After-moved-arg-1))
+
+pub renew_rows-requires-clause-noted : goal.renew_rows-requires-clause-noted
+renew_rows-requires-clause-noted g c = rw c.exchange.ensures.moved c.in_ok-moved.ensures
+
+pub renew_rows-requires-clause-apart : goal.renew_rows-requires-clause-apart
+renew_rows-requires-clause-apart g c = c.requires.can.apart
+
+pub renew_rows-requires-clause-raised : goal.renew_rows-requires-clause-raised
+renew_rows-requires-clause-raised g c =
+    let at = goal.at.renew_rows-requires-clause-raised g c in
+    let b = here g at.After-moved-arg-1 in
+    let s = still g at.After-at-1 b in
+    rw (s.entries ∙ sym b.entries) c.requires.can.raised
+
+pub renew_rows-requires-clause-lowered : goal.renew_rows-requires-clause-lowered
+renew_rows-requires-clause-lowered g c =
+    let at = goal.at.renew_rows-requires-clause-lowered g c in
+    let b = here g at.After-moved-arg-1 in
+    let s = still g at.After-at-1 b in
+    rw (s.entries ∙ sym b.entries) c.requires.can.lowered
 
 pub renew_rows-requires-clause-rows : goal.renew_rows-requires-clause-rows
 renew_rows-requires-clause-rows g c =
@@ -105,6 +187,15 @@ renew-requires-clause-rows g c =
     let shown = rows_shown r.graph c.args.hop.term r.inside c.index-terms-i.result c.index-terms-i.is c.index_mut-rows.result.now c.index_mut-rows.ensures.value in
     rw (c.deref.ensures.value, c.deref-2.ensures.value) (rows_after r.graph c.args.hop.term r.inside c.index-terms-i.result c.index-terms-i.is c.renew_rows.new.rows (c.in_ok-changes.ensures.rows ∙ shown.1))
 
+pub renew-requires-clause-few : goal.renew-requires-clause-few
+renew-requires-clause-few g c = rw c.deref.ensures.value c.requires.graph.bounded.few
+
+pub renew-requires-clause-count : goal.renew-requires-clause-count
+renew-requires-clause-count g c = rw c.deref.ensures.value c.requires.graph.are_unions.count
+
+pub renew-requires-clause-turned : goal.renew-requires-clause-turned
+renew-requires-clause-turned g c = c.requires.graph.are_turned
+
 pub renew-requires-clause-placed : goal.renew-requires-clause-placed
 renew-requires-clause-placed g c = λ k one.
     let (u, lu, is) = c.in_ok-changes.ensures.raised.changes.inside k (inr one) in
@@ -120,6 +211,9 @@ widen-requires-clause-inside g c = λ u lu.
     let count : length c.renew.new.unions.items ≡ length c.args.graph.now.spots.items = c.renew.ensures.renewed.count ∙ r.graph.are_unions.count in
     let below = place_in r.graph c.args.hop.term r.inside c.index-terms-i.result c.index-terms-i.is u (rw places at lu) in
     rw (places, count) below
+
+pub widen-requires-clause-turned : goal.widen-requires-clause-turned
+widen-requires-clause-turned g c = c.renew.ensures.turned
 
 pub widen-requires-clause-rows : goal.widen-requires-clause-rows
 widen-requires-clause-rows g c =

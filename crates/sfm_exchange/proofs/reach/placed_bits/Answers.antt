@@ -1,7 +1,7 @@
 use Rattle.std.proofs.Common.{refl, arith}
 use Rattle.sfm_base.proofs.Elements.{placed_few}
 use Rattle.sfm_exchange.proofs.InOrder.{four_words, has_by_words}
-use Rattle.sfm_exchange.proofs.Placing.{placing_more}
+use Rattle.sfm_exchange.proofs.Placing.{has_place, placing_begun, placing_done, placing_more}
 use Rattle.sfm_exchange.proofs.reach.placed_bits.Goals as goal
 
 pub of_words-requires : goal.of_words-requires
@@ -14,3 +14,15 @@ returns-then-are_in_order-clause-places c =
 pub loop-v-preserved : goal.loop-v-preserved
 loop-v-preserved c =
     rw c.remove.ensures (placing_more c.args.places.now c.args.part.now c.loop-v.part c.loop-v.bits c.insert.new.self c.in-Some.v c.requires.part c.loop-v.invariant c.in-Some.ensures.0 c.insert.ensures.put c.insert.ensures.others)
+
+pub loop-v-init : goal.loop-v-init
+loop-v-init c = placing_begun c.args.places.now c.args.part.now c.no_bits-bits.result c.no_bits-bits.ensures
+
+pub remove-requires : goal.remove-requires
+remove-requires c = has_place c.loop-v.part c.in-Some.v c.in-Some.ensures.0
+
+pub returns-clause-same : goal.returns-clause-same
+returns-clause-same c = c.loop-v.invariant.count
+
+pub returns-clause-places : goal.returns-clause-places
+returns-clause-places c = placing_done c.args.places.now c.args.part.now c.loop-v.part c.loop-v.bits c.loop-v.invariant c.in_default.ensures
