@@ -7,13 +7,13 @@ use Rattle.sfm_spec.specs.Progress.{sum_below}
 use Rattle.sfm_spec.specs.Terms.{times}
 use Rattle.sfm_spec.specs.Families.{Meaning}
 use Rattle.sfm_spec.specs.Walks.{base_at, term_at}
-use Rattle.sfm_exchange.specs.declared.bits.Bits.{Bits}
+use Rattle.sfm_reach.specs.declared.bits.Bits.{Bits}
 use Rattle.sfm_exchange.specs.declared.path.Hop.{Hop}
-use Rattle.sfm_exchange.specs.Bits.{bit_in, blank_bits, set_at}
+use Rattle.sfm_reach.specs.Bits.{bit_in, blank_bits, set_at}
 use Rattle.sfm_exchange.specs.Claimed.{IsAsked, claims_of}
 use Rattle.sfm_exchange.specs.Hops.{AreHops, IsHop, IsMovable, hop_at}
-use Rattle.sfm_exchange.specs.Reach.{IsRow, table_at}
-use Rattle.sfm_exchange.proofs.Levelling.{picking_shrinks}
+use Rattle.sfm_reach.specs.Reach.{IsRow, table_at}
+use Rattle.sfm_reach.proofs.Picking.{picking_shrinks}
 
 -- no more are claimed
 pub asked_le : (tables tables' : List (List Bits)) (claimed claimed' : List Bits) → IsAsked tables claimed tables' claimed' → (k : ℕ) → claims_of claimed < k → claims_of claimed' < k

@@ -4,10 +4,10 @@ use Rattle.std.proofs.Common.{◌≡◌, ◌≢◌, ◌⊎◌, ⊎_elim, inl, in
 use Rattle.std.proofs.lemmas.Bool.{cases_eq}
 use Rattle.sfm_spec.specs.Rows.{Depends}
 use Rattle.sfm_spec.specs.Terms.{SetFunction}
-use Rattle.sfm_exchange.specs.declared.bits.Bits.{Bits}
-use Rattle.sfm_exchange.specs.Bits.{bit_in, set_at, blank_bits}
+use Rattle.sfm_reach.specs.declared.bits.Bits.{Bits}
+use Rattle.sfm_reach.specs.Bits.{bit_in, set_at, blank_bits}
 use Rattle.sfm_exchange.specs.Claimed.{AreClaims}
-use Rattle.sfm_exchange.specs.Reach.{IsRow}
+use Rattle.sfm_reach.specs.Reach.{IsRow}
 use Rattle.sfm_exchange.specs.Renewed.{AreAsked}
 use Rattle.sfm_exchange.proofs.Claiming.{IsRenewing, finds, finds_s, rows_claimed, true_stays}
 use Rattle.sfm_exchange.proofs.RowsAfter.{follows_s}

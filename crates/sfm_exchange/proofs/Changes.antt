@@ -1,10 +1,10 @@
 -- Which rows of a term an exchange has changed, and how.
 use Rattle.std.proofs.Common.{◌≡◌, ◌≢◌, ◌↔◌, inl, refl, ⊎_elim, ℕ, ◌<◌, List, length, get_or, set, ℤ, sym, ◌∙◌, arith, get_or-set_other}
 use Rattle.sfm_spec.specs.Terms.{SetFunction}
-use Rattle.sfm_exchange.specs.declared.bits.Bits.{Bits}
+use Rattle.sfm_reach.specs.declared.bits.Bits.{Bits}
 use Rattle.sfm_exchange.specs.declared.renewing.Changes.{Changes}
-use Rattle.sfm_exchange.specs.Bits.{bit_in, blank_bits, set_at}
-use Rattle.sfm_exchange.specs.Reach.{IsRow}
+use Rattle.sfm_reach.specs.Bits.{bit_in, blank_bits, set_at}
+use Rattle.sfm_reach.specs.Reach.{IsRow}
 use Rattle.sfm_exchange.specs.Renewed.{AreAsked, AreChanges, AreJoined}
 use Rattle.sfm_exchange.proofs.AtOnce.{others_kept}
 use Rattle.sfm_exchange.proofs.Claiming.{IsRenewing, found_inside, others_stay}

@@ -12,25 +12,27 @@ use Rattle.sfm_spec.specs.Walks.{term_at, base_at}
 use Rattle.sfm_spec.proofs.Duality.{meanings-terms}
 use Rattle.sfm_spec.proofs.Walks.{bases-at}
 use Rattle.sfm_law.proofs.Lists.{all-at, meanings-at, length-meanings, length-bases, placed-meanings}
-use Rattle.sfm_exchange.specs.declared.bits.Bits.{Bits}
+use Rattle.sfm_reach.specs.declared.bits.Bits.{Bits}
 use Rattle.sfm_exchange.specs.declared.graph.Graph.{Graph}
 use Rattle.sfm_exchange.specs.declared.renewing.Changes.{Changes}
-use Rattle.sfm_exchange.specs.Based.{IsBased}
-use Rattle.sfm_exchange.specs.Bits.{bit_in, blank_bits, set_at}
+use Rattle.sfm_reach.specs.Based.{IsBased}
+use Rattle.sfm_reach.specs.Bits.{bit_in, blank_bits, set_at}
 use Rattle.sfm_exchange.specs.Claimed.{AreClaims, IsClaim}
 use Rattle.sfm_exchange.specs.Graph.{IsClaimed, IsShaped, IsWhole}
-use Rattle.sfm_exchange.specs.Reach.{IsRow, table_at}
+use Rattle.sfm_reach.specs.Reach.{IsRow, table_at}
 use Rattle.sfm_exchange.specs.Renewed.{AreChanges}
-use Rattle.sfm_exchange.specs.Spots.{spot_at, spots_at}
-use Rattle.sfm_exchange.specs.Turned.{AreTurned}
-use Rattle.sfm_exchange.specs.Unions.{AreRenewed, AreUnions, AreWidened, HaveLinks, HaveRows, IsArc}
-use Rattle.sfm_exchange.proofs.Basing.{is_based}
+use Rattle.sfm_reach.specs.Spots.{spot_at, spots_at}
+use Rattle.sfm_reach.specs.Turned.{AreTurned}
+use Rattle.sfm_reach.specs.Unions.{AreRenewed, AreUnions, AreWidened, HaveLinks, HaveRows, IsArc}
+use Rattle.sfm_reach.proofs.Basing.{is_based}
 use Rattle.sfm_exchange.proofs.Claiming.{claims_asked, rows_claimed}
 use Rattle.sfm_exchange.proofs.Exchanging.{bases_set}
-use Rattle.sfm_exchange.proofs.Noting.{notes_set, sized_at, sized_meanings, sized_read, sized_set, there_is}
-use Rattle.sfm_exchange.proofs.Reaching.{steps_table}
+use Rattle.sfm_reach.proofs.Noting.{notes_set, sized_at, sized_meanings, sized_read, sized_set, there_is}
+use Rattle.sfm_reach.proofs.Reaching.{steps_table}
 use Rattle.sfm_exchange.proofs.Telling.{step_told}
-use Rattle.sfm_exchange.proofs.Uniting.{have_rows, links_told, unions_renewed, unions_widened}
+use Rattle.sfm_reach.proofs.Uniting.{have_rows, unions_renewed}
+use Rattle.sfm_exchange.proofs.Linking.{links_told}
+use Rattle.sfm_exchange.proofs.Widening.{unions_widened}
 
 module _ {X N : Type 0} {places : X → List ℕ} {value : X → SetFunction} {size : X → ℤ} {fits : X → N → ℤ → List ℤ → Type 0} {terms : List X} {n : ℕ} {q : ℤ} {graph : Graph N} (h : IsClaimed places value size fits terms n q graph) where
   abbrev pub Terms : List Meaning

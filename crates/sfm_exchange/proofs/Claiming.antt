@@ -5,13 +5,13 @@ use Rattle.std.proofs.lemmas.Bool.{cases_eq}
 use Rattle.sfm_spec.specs.Sets.{AreDistinct}
 use Rattle.sfm_spec.specs.Rows.{Depends}
 use Rattle.sfm_spec.specs.Terms.{SetFunction, HasRoom}
-use Rattle.sfm_exchange.specs.declared.bits.Bits.{Bits}
-use Rattle.sfm_exchange.specs.Bits.{bit_in, set_at, blank_bits}
+use Rattle.sfm_reach.specs.declared.bits.Bits.{Bits}
+use Rattle.sfm_reach.specs.Bits.{bit_in, set_at, blank_bits}
 use Rattle.sfm_exchange.specs.Claimed.{AreClaims, IsClaim}
-use Rattle.sfm_exchange.specs.Reach.{IsRow}
+use Rattle.sfm_reach.specs.Reach.{IsRow}
 use Rattle.sfm_exchange.specs.Renewed.{AreDepending, AreJoined, IsJoined}
 use Rattle.sfm_exchange.proofs.RowsAfter.{IsOfTerm, IsRaising, arises_by, row_joined, row_tells, row_untouched, s_depends, stays_with}
-use Rattle.sfm_exchange.proofs.Words.{bit_in-lt}
+use Rattle.sfm_reach.proofs.Words.{bit_in-lt}
 
 -- what is in neither of two sets
 pub neither : (s o : Bits) (e c : ℕ) → c ≡ max (bit_in s e) (bit_in o e) → c ≢ 1 → (bit_in s e ≢ 1) × (bit_in o e ≢ 1)

@@ -4,11 +4,11 @@ use Rattle.std.proofs.lemmas.Bool.{cases_eq, eq-eqb, ne_eqb}
 use Rattle.sfm_spec.specs.Families.{Meaning}
 use Rattle.sfm_spec.specs.Labels.{FallsAlong, step_code}
 use Rattle.sfm_spec.specs.Walks.{Step, last_of}
-use Rattle.sfm_exchange.specs.declared.bits.Bits.{Bits}
+use Rattle.sfm_reach.specs.declared.bits.Bits.{Bits}
 use Rattle.sfm_exchange.specs.declared.path.Hop.{Hop}
-use Rattle.sfm_exchange.specs.Bits.{bit_in, set_at}
+use Rattle.sfm_reach.specs.Bits.{bit_in, set_at}
 use Rattle.sfm_exchange.specs.Levels.{depth_of}
-use Rattle.sfm_exchange.specs.Reach.{table_at}
+use Rattle.sfm_reach.specs.Reach.{table_at}
 use Rattle.sfm_exchange.specs.Hops.{IsHop, IsTold, AreHops, AreLeast, steps_of, step_of}
 
 pub steps_of-push : (hops : List Hop) (hop : Hop) → steps_of (hops ++ hop ∷ []) ≡ steps_of hops ++ step_of hop ∷ []

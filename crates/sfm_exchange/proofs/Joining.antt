@@ -4,10 +4,10 @@ use Rattle.sfm_spec.specs.Families.{Meaning, AreTerms, AreBases}
 use Rattle.sfm_spec.specs.Walks.{Step, AreSteps, IsWalk, Joins, last_of}
 use Rattle.sfm_spec.proofs.Walks.{first_below, step_below}
 use Rattle.sfm_law.specs.Rest.{IsRest}
-use Rattle.sfm_exchange.specs.declared.bits.Bits.{Bits}
-use Rattle.sfm_exchange.specs.Bits.{bit_in, set_at}
+use Rattle.sfm_reach.specs.declared.bits.Bits.{Bits}
+use Rattle.sfm_reach.specs.Bits.{bit_in, set_at}
 use Rattle.sfm_exchange.specs.Levels.{AreClosed, IsFirst}
-use Rattle.sfm_exchange.specs.Unions.{HaveLinks}
+use Rattle.sfm_reach.specs.Unions.{HaveLinks}
 
 module _ (terms : List Meaning) (rows : List (List ℤ)) (n : ℕ) (q : ℤ) (shift z : List ℤ) (low : pos 0 ≤ℤ q) (fit : AreTerms n terms) (bases : AreBases q terms rows) (zn : length z ≡ n) (rest : IsRest terms shift rows z) (unions : List Bits)
     (levels : List Bits) where

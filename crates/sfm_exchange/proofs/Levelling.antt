@@ -5,12 +5,12 @@ use Rattle.std.proofs.lemmas.Int.{ints, by_lt_z}
 use Rattle.std.proofs.lemmas.List.{length-append}
 use Rattle.std.proofs.Math.ListN.{get_or-append}
 use Rattle.std.proofs.Math.Seq.{get_or-append_seam}
-use Rattle.sfm_exchange.specs.declared.bits.Bits.{Bits}
-use Rattle.sfm_exchange.specs.Bits.{bit_in, set_at, blank_bits, IsTaken}
+use Rattle.sfm_reach.specs.declared.bits.Bits.{Bits}
+use Rattle.sfm_reach.specs.Bits.{bit_in, set_at, blank_bits}
 use Rattle.sfm_exchange.specs.Levels.{LeadsInto, AreLevels, AreClosed, IsFirst, depth_of}
 use Rattle.sfm_spec.specs.Progress.{sum_below}
 use Rattle.sfm_spec.proofs.Counts.{sum_below-lt}
-use Rattle.sfm_exchange.proofs.Words.{bit_in-lt}
+use Rattle.sfm_reach.proofs.Words.{bit_in-lt}
 use Rattle.sfm_exchange.proofs.Following.{depth_has, depth_le}
 
 -- of the first k places, those left that lead into the level
@@ -19,11 +19,6 @@ pub record IsNextTo (unions : List Bits) (level old left next : Bits) (k : ℕ) 
   pub below : (e : ℕ) → bit_in next e ≡ 1 → e < k
   pub leads : (e : ℕ) → bit_in next e ≡ 1 → LeadsInto unions e level
   pub closed : (e : ℕ) → e < k → LeadsInto unions e level → bit_in left e ≡ 0
-
--- fewer are ahead
-pub picking_shrinks : (ahead ahead' : Bits) (k : ℕ) → IsTaken ahead k ahead' → sum_below 256 (bit_in ahead') < sum_below 256 (bit_in ahead)
-picking_shrinks ahead ahead' k h = sum_below-lt 256 (bit_in ahead') (bit_in ahead) k
-    (λ e le. ⊎_elim (λ same. rw same (omega (arith, h.out))) (λ ne. let r = h.others e ne in omega (arith, r)) (cases_eq e k)) h.below (omega (arith, h.out, h.had))
 
 -- a bit that is not 1 is 0
 pub no_bit : (s : Bits) (e : ℕ) → (bit_in s e ≡ 1 → ⊥) → bit_in s e ≡ 0

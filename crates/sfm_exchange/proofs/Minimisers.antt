@@ -17,20 +17,20 @@ use Rattle.sfm_spec.proofs.Reach.{reached_set}
 use Rattle.sfm_spec.proofs.Sets.{has_or_not}
 use Rattle.sfm_spec.proofs.Walks.{has_below, step_below}
 use Rattle.sfm_law.specs.Rest.{IsRest}
-use Rattle.sfm_exchange.specs.declared.bits.Bits.{Bits}
+use Rattle.sfm_reach.specs.declared.bits.Bits.{Bits}
 use Rattle.sfm_exchange.specs.declared.graph.Graph.{Graph}
 use Rattle.sfm_exchange.specs.declared.signs.Signs.{Signs}
-use Rattle.sfm_exchange.specs.Bits.{bit_in, blank_bits, set_at}
+use Rattle.sfm_reach.specs.Bits.{bit_in, blank_bits, set_at}
 use Rattle.sfm_exchange.specs.Graph.{IsWhole}
 use Rattle.sfm_exchange.specs.Levels.{AreClosed}
-use Rattle.sfm_exchange.specs.Reached.{AreReached, AreWalked, IsSetOf}
+use Rattle.sfm_reach.specs.Reached.{AreReached, AreWalked, IsSetOf}
 use Rattle.sfm_exchange.specs.Signs.{AreSigns}
-use Rattle.sfm_exchange.specs.Turned.{AreTurned}
-use Rattle.sfm_exchange.specs.Unions.{AreLinks}
+use Rattle.sfm_reach.specs.Turned.{AreTurned}
+use Rattle.sfm_reach.specs.Unions.{AreLinks}
 use Rattle.sfm_exchange.proofs.Joining.{none_joins}
-use Rattle.sfm_exchange.proofs.Uniting.{links_of}
+use Rattle.sfm_reach.proofs.Uniting.{links_of}
 use Rattle.sfm_exchange.proofs.WholeGraphs.{are_terms, counted, low, unions_count}
-use Rattle.sfm_exchange.proofs.Words.{within_words}
+use Rattle.sfm_reach.proofs.Words.{within_words}
 
 -- the bits of n places as a set
 abbrev has_bit : Bits → ℕ → Bool

@@ -6,11 +6,11 @@ use Rattle.sfm_spec.specs.Rows.{Depends, RowLaws}
 use Rattle.sfm_spec.specs.Terms.{SetFunction, IsFamily, IsSubmodular, IsBase, HasRoom, exchanged}
 use Rattle.sfm_spec.proofs.Sums.{length-exchanged}
 use Rattle.sfm_spec.proofs.RowLaw.{depends_on, row_laws}
-use Rattle.sfm_exchange.specs.declared.bits.Bits.{Bits}
-use Rattle.sfm_exchange.specs.Bits.{bit_in}
-use Rattle.sfm_exchange.specs.Reach.{IsRow}
+use Rattle.sfm_reach.specs.declared.bits.Bits.{Bits}
+use Rattle.sfm_reach.specs.Bits.{bit_in}
+use Rattle.sfm_reach.specs.Reach.{IsRow}
 use Rattle.sfm_exchange.specs.Renewed.{IsExchanged, IsJoined}
-use Rattle.sfm_exchange.proofs.Words.{bit_in-lt}
+use Rattle.sfm_reach.proofs.Words.{bit_in-lt}
 
 -- the places of two rows, with one put in and one taken out
 pub joined_is : (row more a b c : Bits) (to out : ℕ) → ((e : ℕ) → bit_in a e ≡ max (bit_in row e) (bit_in more e)) → bit_in b to ≡ 1 → ((e : ℕ) → e ≢ to → bit_in b e ≡ bit_in a e)

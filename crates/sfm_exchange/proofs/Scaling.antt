@@ -12,14 +12,14 @@ use Rattle.sfm_spec.specs.Walks.{term_at, base_at}
 use Rattle.sfm_spec.proofs.RowLaw.{least_tight}
 use Rattle.sfm_spec.proofs.Scaled.{times_some, times-add, times-cancel, family-times, submodular-times}
 use Rattle.sfm_spec.proofs.Walks.{terms-at, bases-at}
-use Rattle.sfm_exchange.specs.declared.bits.Bits.{Bits}
-use Rattle.sfm_exchange.specs.declared.spots.Spot.{Spot}
-use Rattle.sfm_exchange.specs.Bits.{set_at}
+use Rattle.sfm_reach.specs.declared.bits.Bits.{Bits}
+use Rattle.sfm_reach.specs.declared.spots.Spot.{Spot}
+use Rattle.sfm_reach.specs.Bits.{set_at}
 use Rattle.sfm_exchange.specs.Claimed.{AreClaims}
 use Rattle.sfm_exchange.specs.Scaled.{row_times}
-use Rattle.sfm_exchange.specs.Reach.{IsRow, table_at}
-use Rattle.sfm_exchange.specs.Spots.{AreSpots, spots_at, spot_at}
-use Rattle.sfm_exchange.specs.Unions.{AreUnions, IsUnion}
+use Rattle.sfm_reach.specs.Reach.{IsRow, table_at}
+use Rattle.sfm_reach.specs.Spots.{AreSpots, spots_at, spot_at}
+use Rattle.sfm_reach.specs.Unions.{AreUnions, IsUnion}
 
 -- a sum of entries is multiplied with them
 pub sum_over-times : (q : ℤ) (s : List Bool) (x : List ℤ) → sum_over s (row_times q x) ≡ (q *ℤ sum_over s x)

@@ -3,16 +3,16 @@ use Rattle.std.proofs.Common.{◌≡◌, ◌≢◌, ◌↔◌, ⊎_elim, inl, in
 use Rattle.std.proofs.lemmas.Bool.{cases_eq}
 use Rattle.sfm_spec.specs.Rows.{Depends}
 use Rattle.sfm_spec.specs.Terms.{SetFunction}
-use Rattle.sfm_exchange.specs.declared.bits.Bits.{Bits}
+use Rattle.sfm_reach.specs.declared.bits.Bits.{Bits}
 use Rattle.sfm_exchange.specs.declared.renewing.Changes.{Changes}
 use Rattle.sfm_exchange.specs.declared.renewing.Raised.{Raised}
-use Rattle.sfm_exchange.specs.Bits.{bit_in, set_at}
+use Rattle.sfm_reach.specs.Bits.{bit_in, set_at}
 use Rattle.sfm_exchange.specs.Claimed.{AreClaims}
-use Rattle.sfm_exchange.specs.Reach.{IsRow}
+use Rattle.sfm_reach.specs.Reach.{IsRow}
 use Rattle.sfm_exchange.specs.Renewed.{AreChanges, AreShared, IsRaised}
 use Rattle.sfm_exchange.proofs.Claiming.{IsRenewing, finds, found_inside, row_claimed}
 use Rattle.sfm_exchange.proofs.RowsAfter.{IsOfTerm, IsRaising, follows_s, row_shared}
-use Rattle.sfm_exchange.proofs.Words.{bit_in-lt}
+use Rattle.sfm_reach.proofs.Words.{bit_in-lt}
 
 module _ (places : List ℕ) (shared : Bits) (raised : Raised) (before after : List Bits) (h : AreShared places shared raised (length places) before after) where
   -- these rows are true ones, and the others are what they were

@@ -5,11 +5,11 @@ use Rattle.std.proofs.lemmas.Int.{ints, by_lt_z}
 use Rattle.sfm_spec.specs.Terms.{exchanged}
 use Rattle.sfm_spec.proofs.MoveOrder.{exchanged-first, exchanged-second, exchanged-other}
 use Rattle.sfm_spec.proofs.Sums.{length-exchanged}
-use Rattle.sfm_exchange.specs.declared.bits.Bits.{Bits}
+use Rattle.sfm_reach.specs.declared.bits.Bits.{Bits}
 use Rattle.sfm_exchange.specs.declared.signs.Signs.{Signs}
-use Rattle.sfm_exchange.specs.Bits.{bit_in}
+use Rattle.sfm_reach.specs.Bits.{bit_in}
 use Rattle.sfm_exchange.specs.Signs.{AreMoved, AreSigns}
-use Rattle.sfm_exchange.proofs.Words.{bit_in-lt}
+use Rattle.sfm_reach.proofs.Words.{bit_in-lt}
 
 -- the ground without the places with z > 0
 pub others_left : (z : List ℤ) (signs : Signs) (left : Bits) → AreSigns z signs → ((e : ℕ) → bit_in left e ≡ bit_in signs.ground e - bit_in signs.over e)

@@ -6,12 +6,12 @@ use Rattle.sfm_spec.specs.Labels.{FallsAlong}
 use Rattle.sfm_spec.specs.Progress.{TakesLeastSteps}
 use Rattle.sfm_spec.specs.Walks.{Step, term_at, base_at, IsStep, AreSteps, last_of}
 use Rattle.sfm_spec.proofs.Walks.{terms-at, step_below}
-use Rattle.sfm_exchange.specs.declared.bits.Bits.{Bits}
+use Rattle.sfm_reach.specs.declared.bits.Bits.{Bits}
 use Rattle.sfm_exchange.specs.declared.path.Hop.{Hop}
-use Rattle.sfm_exchange.specs.Bits.{bit_in, set_at}
+use Rattle.sfm_reach.specs.Bits.{bit_in, set_at}
 use Rattle.sfm_exchange.specs.Claimed.{IsClaim}
-use Rattle.sfm_exchange.specs.Reach.{IsTable, table_at}
-use Rattle.sfm_exchange.specs.Unions.{IsReadable}
+use Rattle.sfm_reach.specs.Reach.{IsTable, table_at}
+use Rattle.sfm_reach.specs.Unions.{IsReadable}
 use Rattle.sfm_exchange.specs.Hops.{IsHop, IsTold, AreHops, AreLeast, AreNamed, hop_at, step_of, steps_of}
 
 -- the steps name their places

@@ -4,7 +4,7 @@ use Rattle.sfm_spec.specs.Terms.{SetFunction, IsFamily, IsSubmodular}
 use Rattle.sfm_spec.specs.Families.{meanings, AreTerms}
 use Rattle.sfm_exchange.specs.declared.graph.Graph.{Graph}
 use Rattle.sfm_exchange.specs.Graph.{IsWhole}
-use Rattle.sfm_exchange.specs.Unions.{HaveRows}
+use Rattle.sfm_reach.specs.Unions.{HaveRows}
 use Rattle.sfm_exchange.proofs.ClaimedGraphs.{whole_claimed}
 use Rattle.sfm_exchange.proofs.ClaimedGraphs as claimed
 

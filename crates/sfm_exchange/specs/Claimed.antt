@@ -3,9 +3,9 @@ use Rattle.std.specs.Prelude.{◌≡◌, ◌≢◌, ◌⊎◌, ℕ, ◌<◌, Lis
 use Rattle.std.specs.List.{sum_by}
 use Rattle.sfm_spec.specs.Progress.{sum_below}
 use Rattle.sfm_spec.specs.Terms.{SetFunction, HasRoom}
-use Rattle.sfm_exchange.specs.declared.bits.Bits.{Bits}
-use Rattle.sfm_exchange.specs.Bits.{bit_in, set_at}
-use Rattle.sfm_exchange.specs.Reach.{IsRow}
+use Rattle.sfm_reach.specs.declared.bits.Bits.{Bits}
+use Rattle.sfm_reach.specs.Bits.{bit_in, set_at}
+use Rattle.sfm_reach.specs.Reach.{IsRow}
 
 -- the row of the place u has at least the ground places to which it has room, and only those of other places of the term
 pub record IsClaim (places : List ℕ) (f : SetFunction) (x : List ℤ) (u : ℕ) (row : Bits) : Type 0 where

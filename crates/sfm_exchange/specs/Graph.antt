@@ -6,12 +6,12 @@ use Rattle.sfm_spec.specs.Terms.{SetFunction, times}
 use Rattle.sfm_spec.specs.Families.{meanings, AreBases}
 use Rattle.sfm_spec.specs.Walks.{term_at, base_at}
 use Rattle.sfm_exchange.specs.declared.graph.Graph.{Graph}
-use Rattle.sfm_exchange.specs.Bits.{set_at}
+use Rattle.sfm_reach.specs.Bits.{set_at}
 use Rattle.sfm_exchange.specs.Claimed.{AreClaims}
-use Rattle.sfm_exchange.specs.Spots.{AreSpots}
-use Rattle.sfm_exchange.specs.Reach.{AreNotes, AreSized, IsTable, table_at}
-use Rattle.sfm_exchange.specs.Turned.{AreTurned}
-use Rattle.sfm_exchange.specs.Unions.{AreUnions}
+use Rattle.sfm_reach.specs.Spots.{AreSpots}
+use Rattle.sfm_reach.specs.Reach.{AreNotes, AreSized, IsTable, table_at}
+use Rattle.sfm_reach.specs.Turned.{AreTurned}
+use Rattle.sfm_reach.specs.Unions.{AreUnions}
 
 -- the graph is one of q times the terms over n places: its rows are bases, the note of each fits it, there is a row for each
 -- place of each term, which tells the steps by the term, and a set of its claimed places for each term; the spots of each place are those of the terms, the adjacency of

@@ -7,9 +7,9 @@ use Rattle.sfm_spec.specs.Families.{Meaning}
 use Rattle.sfm_spec.specs.Walks.{Step, term_at, base_at, IsWalkMove, CanMove, last_of}
 use Rattle.sfm_spec.specs.Labels.{step_code}
 use Rattle.sfm_law.specs.Room.{IsWithinRoom}
-use Rattle.sfm_exchange.specs.declared.bits.Bits.{Bits}
-use Rattle.sfm_exchange.specs.Bits.{bit_in, set_at}
-use Rattle.sfm_exchange.specs.Reach.{table_at}
+use Rattle.sfm_reach.specs.declared.bits.Bits.{Bits}
+use Rattle.sfm_reach.specs.Bits.{bit_in, set_at}
+use Rattle.sfm_reach.specs.Reach.{table_at}
 use Rattle.sfm_exchange.specs.declared.path.Hop.{Hop}
 
 abbrev pub no_hop : Hop

@@ -1,7 +1,7 @@
 -- Levels of places by their distances to those with z > 0.
 use Rattle.std.specs.Prelude.{◌≡◌, ◌↔◌, ℕ, suc, ◌+◌, ◌<◌, ◌≤◌, List, [], ◌∷◌, length, slice_index_or, nat_eq, ℤ, pos, ◌<ℤ◌, if◌then◌else◌}
-use Rattle.sfm_exchange.specs.declared.bits.Bits.{Bits}
-use Rattle.sfm_exchange.specs.Bits.{bit_in, set_at}
+use Rattle.sfm_reach.specs.declared.bits.Bits.{Bits}
+use Rattle.sfm_reach.specs.Bits.{bit_in, set_at}
 
 -- from e a link leads into the set
 abbrev pub LeadsInto : List Bits → ℕ → Bits → Type 0
@@ -35,3 +35,13 @@ pub record IsFirst (n : ℕ) (unions : List Bits) (z : List ℤ) (levels : List 
   pub further : 1 < length levels
   pub last : (k : ℕ) → k + 1 ≡ length levels → bit_in (set_at levels k) first ≡ 1
   pub under : slice_index_or z first (pos 0) <ℤ pos 0
+
+-- from e a link leads into the set, by the sets of those that lead to a place
+abbrev pub IsLedBack : List Bits → ℕ → Bits → Type 0
+IsLedBack back e s = (t : ℕ) × (t < 256) × (bit_in (set_at back t) e ≡ 1) × (bit_in s t ≡ 1)
+
+-- of the places left those are next from which a link leads into a level, and they are left no more
+pub record AreNext (back : List Bits) (level left left' next : Bits) : Type 0 where
+  pub parted : (e : ℕ) → bit_in left' e + bit_in next e ≡ bit_in left e
+  pub leads : (e : ℕ) → bit_in next e ≡ 1 → IsLedBack back e level
+  pub closed : (e : ℕ) → IsLedBack back e level → bit_in left' e ≡ 0

@@ -1,12 +1,12 @@
 -- The rows of one term after an exchange.
 use Rattle.std.specs.Prelude.{◌≡◌, ◌≢◌, ◌↔◌, ◌⊎◌, ℕ, ◌<◌, ◌≤◌, List, length, slice_index_or, ℤ, pos, ◌≤ℤ◌}
 use Rattle.sfm_spec.specs.Terms.{SetFunction, IsBase, exchanged}
-use Rattle.sfm_exchange.specs.declared.bits.Bits.{Bits}
+use Rattle.sfm_reach.specs.declared.bits.Bits.{Bits}
 use Rattle.sfm_exchange.specs.declared.renewing.Changes.{Changes}
 use Rattle.sfm_exchange.specs.declared.renewing.Raised.{Raised}
-use Rattle.sfm_exchange.specs.Bits.{bit_in, set_at}
+use Rattle.sfm_reach.specs.Bits.{bit_in, set_at}
 use Rattle.sfm_exchange.specs.Claimed.{AreClaims}
-use Rattle.sfm_exchange.specs.Reach.{IsRow}
+use Rattle.sfm_reach.specs.Reach.{IsRow}
 
 -- a base from which another vector comes by raising s and lowering t
 pub record IsExchanged (f : SetFunction) (before after : List ℤ) (s t : ℕ) : Type 0 where

@@ -1,7 +1,7 @@
 -- The places by the sign of z.
 use Rattle.std.specs.Prelude.{◌≡◌, ◌≢◌, ◌↔◌, ℕ, ◌<◌, List, length, slice_index_or, ℤ, pos, ◌<ℤ◌, ◌≤ℤ◌}
 use Rattle.sfm_exchange.specs.declared.signs.Signs.{Signs}
-use Rattle.sfm_exchange.specs.Bits.{bit_in}
+use Rattle.sfm_reach.specs.Bits.{bit_in}
 
 -- the sets have all places, those with z > 0, and those with z < 0
 pub record AreSigns (z : List ℤ) (signs : Signs) : Type 0 where

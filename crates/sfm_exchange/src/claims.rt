@@ -7,22 +7,19 @@ ghost use Rattle.std.specs.List.{All};
 ghost use Rattle.sfm_spec.specs.Bounds.{IsEntry};
 ghost use Rattle.sfm_spec.specs.Families.{meanings};
 ghost use Rattle.sfm_spec.specs.Walks.{term_at};
-ghost use Rattle.sfm_exchange.specs.Bits.{bit_in, set_at};
+ghost use Rattle.sfm_reach.specs.Bits.{bit_in, set_at};
 ghost use Rattle.sfm_exchange.specs.Claimed.{IsAsked, claims_of};
 ghost use Rattle.sfm_exchange.specs.Graph.{IsClaimed, IsReady, IsStill};
 ghost use Rattle.sfm_exchange.specs.Hops.{AreHops, IsHop, IsMovable, hop_at};
-ghost use Rattle.sfm_exchange.specs.Reach.{table_at};
-ghost use Rattle.sfm_exchange.specs.Reached.{AreWalked};
-ghost use Rattle.sfm_exchange.specs.Unions.{IsArc};
+ghost use Rattle.sfm_reach.specs.Reach.{table_at};
+ghost use Rattle.sfm_reach.specs.Reached.{AreWalked};
+ghost use Rattle.sfm_reach.specs.Unions.{IsArc};
 
-use crate::bits::{Bits, only};
 use crate::graph::Graph;
 use crate::path::Hop;
-use crate::reach::{Based, row_by};
-use crate::reached::take_in;
-use crate::unions::renew;
 use sfm_base::Memory;
 use sfm_law::Term;
+use sfm_reach::{Based, Bits, only, renew, row_by, take_in};
 use std::alloc::Global;
 
 // Asks for the row of the place u of a term where it is only claimed.

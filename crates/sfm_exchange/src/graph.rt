@@ -11,14 +11,11 @@ ghost use Rattle.sfm_spec.specs.Bounds.{AreBounded, IsEntry, IsFactor};
 ghost use Rattle.sfm_spec.specs.Families.{meanings, AreBases};
 ghost use Rattle.sfm_exchange.specs.Graph.{IsGraph, IsShaped};
 
-use crate::asking::ask_all;
-use crate::bits::{Bits, no_bits};
-use crate::reach::{BitRows, blank_rows, notes_of};
-use crate::spots::{Spots, spots_of};
-use crate::turned::turned_of;
-use crate::unions::unions_of;
 use sfm_base::{Memory, Rows};
 use sfm_law::Term;
+use sfm_reach::{
+    BitRows, Bits, Spots, ask_all, blank_rows, no_bits, notes_of, spots_of, turned_of, unions_of,
+};
 use std::alloc::Global;
 
 /// The exchange graph of q times some terms at bases of theirs. Its vertices are the places of the ground, and an arc leads

@@ -3,15 +3,14 @@
 // place is so looked at once. The search stops at the first level that has a place
 // with z < 0; where a level is empty, no walk joins.
 ghost use Rattle.std.specs.Prelude.{◌≡◌, ◌↔◌, ◌<◌, ◌≤◌, ℕ, ℤ, pos, ◌<ℤ◌, ◌≤ℤ◌, length, IfOk, MatchOption, slice_index_or};
-ghost use Rattle.sfm_exchange.specs.Bits.{bit_in};
-ghost use Rattle.sfm_exchange.specs.Levels.{AreClosed, IsFirst};
-ghost use Rattle.sfm_exchange.specs.Turned.{AreNext, AreTurned, IsLedBack};
+ghost use Rattle.sfm_reach.specs.Bits.{bit_in};
+ghost use Rattle.sfm_exchange.specs.Levels.{AreClosed, AreNext, IsFirst, IsLedBack};
+ghost use Rattle.sfm_reach.specs.Turned.{AreTurned};
 ghost use Rattle.sfm_exchange.specs.Signs.{AreSigns};
 
-use crate::ahead::Ahead;
-use crate::bits::{Bits, no_bits};
 use crate::signs::Signs;
 use sfm_base::Memory;
+use sfm_reach::{Ahead, Bits, no_bits};
 
 // The places from which a link leads into a level.
 fn leading_into(back: &[Bits], level: &Bits) -> Bits

@@ -4,30 +4,20 @@
 // set by least steps. And the augmentation along a walk, by which the graph is brought up to the bases that come.
 #![tactic(auto)]
 
-mod ahead;
-mod asking;
-mod bits;
 mod claims;
 mod graph;
-mod image;
 mod levels;
 mod moving;
 mod multiples;
 mod path;
-mod reach;
-mod reached;
 mod renewing;
 mod signs;
-mod spots;
-mod turned;
-mod unions;
 
-pub use bits::{Bits, no_bits};
 pub use claims::{prove_walk, walked_from};
 pub use graph::{Graph, copy_rows, graph_at, restart};
 pub use levels::find_levels;
 pub use moving::{amount_of, move_along};
 pub use multiples::{copy_graph, restart_by};
 pub use path::{Hop, Path, follow};
-pub use reached::{reached_from, set_of};
+pub use sfm_reach::{Bits, no_bits, reached_from, set_of};
 pub use signs::{Signs, move_signs, signs_of};

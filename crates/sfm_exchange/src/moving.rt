@@ -14,11 +14,10 @@ ghost use Rattle.sfm_exchange.specs.Hops.{CanExchange, IsMovable, Moves, AreName
 
 use crate::graph::Graph;
 use crate::path::{Hop, Path};
-use crate::reach::Based;
 use crate::renewing::renew_rows;
-use crate::unions::{renew, widen};
 use sfm_base::Memory;
 use sfm_law::{Room, Term, exchange};
+use sfm_reach::{Based, renew, widen};
 use std::alloc::Global;
 
 /// The greatest amount up to a given one that each step can move.

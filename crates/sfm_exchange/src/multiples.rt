@@ -7,15 +7,13 @@ ghost use Rattle.sfm_spec.specs.Bounds.{AreBounded, IsEntry, IsFactor};
 ghost use Rattle.sfm_spec.specs.Families.{meanings, AreBases};
 ghost use Rattle.sfm_spec.specs.Walks.{base_at};
 ghost use Rattle.sfm_exchange.specs.Graph.{IsClaimed, IsGraph, IsShaped};
-ghost use Rattle.sfm_exchange.specs.Reach.{AreSized};
+ghost use Rattle.sfm_reach.specs.Reach.{AreSized};
 ghost use Rattle.sfm_exchange.specs.Scaled.{row_times};
 
-use crate::bits::no_bits;
 use crate::graph::{Graph, copy_rows, restart};
-use crate::reach::{BitRows, blank_rows, notes_of};
-use crate::spots::spots_of;
 use sfm_base::{Memory, Rows};
 use sfm_law::{Term, product};
+use sfm_reach::{BitRows, blank_rows, no_bits, notes_of, spots_of};
 use std::alloc::Global;
 
 // Whether b is q times a, where a is not too large to tell.

@@ -4,19 +4,17 @@ ghost use Rattle.std.specs.Prelude.{◌≡◌, ◌-◌, ◌<◌, ◌≤◌, ℕ,
 ghost use Rattle.sfm_spec.specs.Families.{meanings};
 ghost use Rattle.sfm_spec.specs.Labels.{FallsAlong, step_code};
 ghost use Rattle.sfm_spec.specs.Walks.{Step, last_of};
-ghost use Rattle.sfm_exchange.specs.Bits.{bit_in, set_at};
+ghost use Rattle.sfm_reach.specs.Bits.{bit_in, set_at};
 ghost use Rattle.sfm_exchange.specs.Levels.{depth_of, IsFirst, LeadsInto};
-ghost use Rattle.sfm_exchange.specs.Spots.{AreSpots, spot_at};
-ghost use Rattle.sfm_exchange.specs.Unions.{AreUnions, HasRows, HaveRows, IsReadable, spot_row};
-ghost use Rattle.sfm_exchange.specs.Reach.{table_at};
+ghost use Rattle.sfm_reach.specs.Spots.{AreSpots, spot_at};
+ghost use Rattle.sfm_reach.specs.Unions.{AreUnions, HasRows, HaveRows, IsReadable, spot_row};
+ghost use Rattle.sfm_reach.specs.Reach.{table_at};
 ghost use Rattle.sfm_exchange.specs.Hops.{AreHops, AreLeast, IsHop, IsTold, hop_at, step_of, steps_of};
 
-use crate::bits::Bits;
 use crate::graph::Graph;
-use crate::reach::BitRows;
-use crate::spots::{Spot, Spots};
 use sfm_base::Memory;
 use sfm_law::Term;
+use sfm_reach::{BitRows, Bits, Spot, Spots};
 
 /// A step of a walk: from one place to another by a term, and the numbers that the places have in the term.
 #[derive(Clone, Copy, Debug)]

@@ -10,19 +10,17 @@ ghost use Rattle.std.specs.Prelude.{◌≡◌, ◌≢◌, ◌↔◌, ◌⊎◌, 
 ghost use Rattle.sfm_spec.specs.Sets.{IsPlaced};
 ghost use Rattle.sfm_spec.specs.Rows.{Depends};
 ghost use Rattle.sfm_spec.specs.Terms.{times};
-ghost use Rattle.sfm_exchange.specs.Based.{IsBased};
-ghost use Rattle.sfm_exchange.specs.Bits.{bit_in, set_at};
+ghost use Rattle.sfm_reach.specs.Based.{IsBased};
+ghost use Rattle.sfm_reach.specs.Bits.{bit_in, set_at};
 ghost use Rattle.sfm_exchange.specs.Claimed.{AreClaims};
-ghost use Rattle.sfm_exchange.specs.Image.{IsImage};
-ghost use Rattle.sfm_exchange.specs.Reach.{IsRow};
+ghost use Rattle.sfm_reach.specs.Image.{IsImage};
+ghost use Rattle.sfm_reach.specs.Reach.{IsRow};
 ghost use Rattle.sfm_exchange.specs.Renewed.{AreAsked, AreDepending, AreJoined, AreRenewed, AreShared, IsExchanged, IsJoined, IsRaised};
 
-use crate::bits::{Bits, no_bits, only};
-use crate::image::Image;
 use crate::path::Hop;
-use crate::reach::{Based, BitRows, row_beside, row_by};
 use sfm_base::Memory;
 use sfm_law::Term;
+use sfm_reach::{Based, BitRows, Bits, Image, no_bits, only, row_beside, row_by};
 use std::alloc::Global;
 
 /// The rows that an exchange may have changed, by their ground places.

@@ -1,10 +1,10 @@
 // The places by the sign of z, as sets that are kept beside z. A move along a walk changes z at the two ends of the walk alone
 // and turns no sign, so each walk takes an end out where z has become 0 there, and nothing else.
 ghost use Rattle.std.specs.Prelude.{◌≡◌, ◌≢◌, ◌↔◌, ◌<◌, ◌≤◌, ℕ, ℤ, List, pos, ◌<ℤ◌, length, slice_index_or};
-ghost use Rattle.sfm_exchange.specs.Bits.{bit_in};
+ghost use Rattle.sfm_reach.specs.Bits.{bit_in};
 ghost use Rattle.sfm_exchange.specs.Signs.{AreMoved, AreSigns};
 
-use crate::bits::{Bits, no_bits};
+use sfm_reach::{Bits, no_bits};
 
 /// The places of the ground, those with z > 0, and those with z < 0.
 #[derive(Clone, Copy, Debug)]

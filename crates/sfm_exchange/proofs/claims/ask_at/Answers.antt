@@ -7,11 +7,11 @@ use mir.Syntax.{w128}
 use Rattle.sfm_spec.specs.Bounds.{IsEntry}
 use Rattle.sfm_spec.specs.Terms.{times}
 use Rattle.sfm_spec.specs.Walks.{base_at}
-use Rattle.sfm_exchange.specs.Based.{IsBased}
-use Rattle.sfm_exchange.specs.Bits.{blank_bits, set_at}
-use Rattle.sfm_exchange.specs.Reach.{IsRow, table_at}
+use Rattle.sfm_reach.specs.Based.{IsBased}
+use Rattle.sfm_reach.specs.Bits.{blank_bits, set_at}
+use Rattle.sfm_reach.specs.Reach.{IsRow, table_at}
 use Rattle.sfm_exchange.proofs.Asked.{claims_fewer, claims_kept}
-use Rattle.sfm_exchange.proofs.Basing.{size_low}
+use Rattle.sfm_reach.proofs.Basing.{size_low}
 use Rattle.sfm_exchange.proofs.ClaimedGraphs.{asked_after, base_count, based, claimed_shown, place_in, places_are, row_long, rows_after, rows_shown}
 use Rattle.sfm_exchange.proofs.claims.ask_at.Given as given
 use Rattle.sfm_exchange.proofs.claims.ask_at.Goals as goal

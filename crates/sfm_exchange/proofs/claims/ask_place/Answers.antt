@@ -4,8 +4,8 @@ use Rattle.std.proofs.lemmas.Int.{to_z-of_z}
 use Rattle.std.proofs.lemmas.List.{get_or_default}
 use mir.Syntax.{w128}
 use Rattle.sfm_spec.specs.Families.{meanings}
-use Rattle.sfm_exchange.specs.Bits.{bit_in, set_at}
-use Rattle.sfm_exchange.specs.Spots.{IsSpot, spot_at, spots_at}
+use Rattle.sfm_reach.specs.Bits.{bit_in, set_at}
+use Rattle.sfm_reach.specs.Spots.{IsSpot, spot_at, spots_at}
 use Rattle.sfm_exchange.proofs.ClaimedGraphs.{arcs_alone, counted}
 use Rattle.sfm_exchange.proofs.Still.{still_begun, still_ready, still_then}
 use Rattle.sfm_exchange.proofs.claims.ask_place.Given as given

@@ -1,8 +1,8 @@
 -- the rows of the spots so far are not claimed; the bases and the spots stay
 use Rattle.std.proofs.Common.{◌≡◌, ◌≢◌, ℕ, ◌<◌}
-use Rattle.sfm_exchange.specs.Bits.{bit_in, set_at}
+use Rattle.sfm_reach.specs.Bits.{bit_in, set_at}
 use Rattle.sfm_exchange.specs.Graph.{IsStill}
-use Rattle.sfm_exchange.specs.Spots.{spot_at, spots_at}
+use Rattle.sfm_reach.specs.Spots.{spot_at, spots_at}
 use Rattle.sfm_exchange.proofs.claims.ask_place.Given as goal
 
 abbrev pub invariant-loop-k : goal.invariant-loop-k

@@ -4,11 +4,11 @@ use Rattle.std.proofs.lemmas.Int.{to_z-of_z}
 use Rattle.std.proofs.lemmas.List.{get_or_default}
 use mir.Syntax.{w128}
 use Rattle.sfm_spec.specs.Families.{meanings}
-use Rattle.sfm_exchange.specs.Bits.{set_at}
-use Rattle.sfm_exchange.specs.Reach.{table_at}
+use Rattle.sfm_reach.specs.Bits.{set_at}
+use Rattle.sfm_reach.specs.Reach.{table_at}
 use Rattle.sfm_exchange.proofs.Asked.{true_movable}
 use Rattle.sfm_exchange.proofs.ClaimedGraphs.{counted, distinct_at, place_in, places_are, rows_count, rows_long}
-use Rattle.sfm_exchange.proofs.Noting.{there_is}
+use Rattle.sfm_reach.proofs.Noting.{there_is}
 use Rattle.sfm_exchange.proofs.claims.prove_hop.Given as given
 use Rattle.sfm_exchange.proofs.claims.prove_hop.Goals as goal
 use Rattle.sfm_exchange.proofs.claims.prove_hop.Goals.{After-ask_at, After-index-rows}

@@ -4,12 +4,12 @@ use Rattle.std.proofs.lemmas.List.{get_or_default}
 use mir.Syntax.{w128}
 use Rattle.sfm_spec.specs.Families.{meanings}
 use Rattle.sfm_spec.proofs.Walks.{step_below}
-use Rattle.sfm_exchange.specs.Bits.{blank_bits, set_at}
+use Rattle.sfm_reach.specs.Bits.{blank_bits, set_at}
 use Rattle.sfm_exchange.specs.Graph.{IsStill}
-use Rattle.sfm_exchange.specs.Unions.{IsArc}
+use Rattle.sfm_reach.specs.Unions.{IsArc}
 use Rattle.sfm_exchange.proofs.ClaimedGraphs.{are_terms, have_links, low, unions_count}
-use Rattle.sfm_exchange.proofs.Options.{match_none}
-use Rattle.sfm_exchange.proofs.Searching.{IsLook, ahead_below, search_begun, search_more, search_shrinks, walks_done}
+use Rattle.sfm_reach.proofs.Options.{match_none}
+use Rattle.sfm_reach.proofs.Searching.{IsLook, ahead_below, search_begun, search_more, search_shrinks, walks_done}
 use Rattle.sfm_exchange.proofs.Still.{still_begun, still_ready, still_then}
 use Rattle.sfm_exchange.proofs.claims.walked_from.Given as given
 use Rattle.sfm_exchange.proofs.claims.walked_from.Goals as goal

@@ -3,8 +3,8 @@ use Rattle.std.proofs.Common.{length}
 use Rattle.sfm_spec.specs.Families.{meanings}
 use Rattle.sfm_spec.specs.Progress.{sum_below}
 use Rattle.sfm_exchange.specs.Graph.{IsStill}
-use Rattle.sfm_exchange.specs.Unions.{IsArc}
-use Rattle.sfm_exchange.proofs.Searching.{IsSearching, work}
+use Rattle.sfm_reach.specs.Unions.{IsArc}
+use Rattle.sfm_reach.proofs.Searching.{IsSearching, work}
 use Rattle.sfm_exchange.proofs.claims.walked_from.Given as goal
 
 abbrev pub invariant-loop-e : goal.invariant-loop-e

@@ -2,10 +2,10 @@ use Rattle.std.proofs.Common.{rules, FitsSigned}
 use Rattle.std.proofs.lemmas.Int.{to_z-of_z}
 use mir.Syntax.{w128}
 use Rattle.sfm_spec.specs.Families.{meanings}
-use Rattle.sfm_exchange.specs.Unions.{HaveRows}
-use Rattle.sfm_exchange.proofs.Noting.{sized_meanings}
-use Rattle.sfm_exchange.proofs.Uniting.{have_rows}
-use Rattle.sfm_exchange.proofs.Basing.{are_based}
+use Rattle.sfm_reach.specs.Unions.{HaveRows}
+use Rattle.sfm_reach.proofs.Noting.{sized_meanings}
+use Rattle.sfm_reach.proofs.Uniting.{have_rows}
+use Rattle.sfm_reach.proofs.Basing.{are_based}
 use Rattle.sfm_exchange.proofs.graph.restart.Goals as goal
 
 pub notes_of-requires : goal.notes_of-requires

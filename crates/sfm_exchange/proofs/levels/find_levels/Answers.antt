@@ -1,7 +1,7 @@
 use Rattle.std.proofs.Common.{length, arith}
-use Rattle.sfm_exchange.proofs.Options.{match_none}
+use Rattle.sfm_reach.proofs.Options.{match_none}
 use Rattle.sfm_exchange.proofs.Levelling.{first_level, levels_closed, first_found, levelling_more, fewer_left}
-use Rattle.sfm_exchange.proofs.Turning.{next_to}
+use Rattle.sfm_exchange.proofs.Leading.{next_to}
 use Rattle.sfm_exchange.proofs.Signing.{others_left}
 use Rattle.sfm_exchange.proofs.levels.find_levels.Goals as goal
 
@@ -15,23 +15,23 @@ loop-left-init c =
 pub returns-then-is_empty : goal.returns-then-is_empty
 returns-then-is_empty c =
     let inv = c.loop-left.invariant in
-    levels_closed inv (next_to c.requires.turned inv c.next_level-level.ensures) (c.is_empty.ensures.empty c.if-is_empty.true)
+    levels_closed inv (next_to c.requires.few c.requires.turned inv c.next_level-level.ensures) (c.is_empty.ensures.empty c.if-is_empty.true)
 
 pub returns-in-Some : goal.returns-in-Some
 returns-in-Some c =
     let inv = c.loop-left.invariant in
     let common = c.in-Some.ensures in
-    rw c.in_ok-push-2.ensures.items (first_found inv (next_to c.requires.turned inv c.next_level-level.ensures) c.in-Some.first common.1 ((c.requires.signs.below c.in-Some.first).0 common.2).1)
+    rw c.in_ok-push-2.ensures.items (first_found inv (next_to c.requires.few c.requires.turned inv c.next_level-level.ensures) c.in-Some.first common.1 ((c.requires.signs.below c.in-Some.first).0 common.2).1)
 
 pub loop-left-smaller : goal.loop-left-smaller
 loop-left-smaller c =
     let inv = c.loop-left.invariant in
     let (p, one) = c.is_empty.ensures.some c.if-is_empty.false in
-    fewer_left inv (next_to c.requires.turned inv c.next_level-level.ensures) p one
+    fewer_left inv (next_to c.requires.few c.requires.turned inv c.next_level-level.ensures) p one
 
 pub loop-left-preserved : goal.loop-left-preserved
 loop-left-preserved c =
     let inv = c.loop-left.invariant in
-    let to = next_to c.requires.turned inv c.next_level-level.ensures in
+    let to = next_to c.requires.few c.requires.turned inv c.next_level-level.ensures in
     let none = match_none c.first_common.result _ _ c.first_common.ensures c.in_default.not-Some in
     rw c.in_ok-push-2.ensures.items (levelling_more inv to (λ p bit under. none p bit ((c.requires.signs.below p).1 (let l = to.below p bit in omega (arith, l), under))))

@@ -1,7 +1,7 @@
 -- the levels so far
 use Rattle.std.proofs.Common.{length}
 use Rattle.sfm_spec.specs.Progress.{sum_below}
-use Rattle.sfm_exchange.specs.Bits.{bit_in}
+use Rattle.sfm_reach.specs.Bits.{bit_in}
 use Rattle.sfm_exchange.proofs.Levelling.{IsLevelling}
 use Rattle.sfm_exchange.proofs.levels.find_levels.Given as goal
 

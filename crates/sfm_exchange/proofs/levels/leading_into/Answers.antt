@@ -1,6 +1,6 @@
-use Rattle.sfm_exchange.proofs.Levelling.{picking_shrinks}
-use Rattle.sfm_exchange.proofs.Options.{match_none}
-use Rattle.sfm_exchange.proofs.Turning.{joining_begun, joining_more}
+use Rattle.sfm_reach.proofs.Picking.{picking_shrinks}
+use Rattle.sfm_reach.proofs.Options.{match_none}
+use Rattle.sfm_exchange.proofs.Leading.{joining_begun, joining_more}
 use Rattle.sfm_exchange.proofs.levels.leading_into.Goals as goal
 
 pub loop-t-init : goal.loop-t-init

@@ -1,6 +1,5 @@
-use Rattle.std.proofs.Common.{◌≡◌, ⊎_elim, length, arith}
-use Rattle.std.proofs.lemmas.Bool.{cases_lt}
-use Rattle.sfm_exchange.proofs.Words.{bit_in-lt, within_words}
+use Rattle.std.proofs.Common.{arith}
+use Rattle.sfm_reach.proofs.Words.{bit_in-lt}
 use Rattle.sfm_exchange.proofs.levels.next_level.Goals as goal
 
 pub returns : goal.returns
@@ -16,7 +15,4 @@ returns c = record {
       let a = bit_in-lt c.args.left.now e in
       let one = (c.leading_into-next.ensures e).1 led in
       omega (arith, n, l, a, one);
-  inside = λ t one.
-      let words : length c.args.level.now.words ≡ 4 = omega arith in
-      ⊎_elim (λ l. l) (λ ge. absurd (let z = within_words c.args.level.now t (omega (arith, words, ge)) in omega (arith, z, one))) (cases_lt t 256);
 }

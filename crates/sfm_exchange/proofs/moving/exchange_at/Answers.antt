@@ -7,9 +7,9 @@ use Rattle.sfm_spec.specs.Terms.{times, exchanged, IsBase}
 use Rattle.sfm_spec.specs.Walks.{base_at}
 use Rattle.sfm_spec.proofs.Sums.{length-exchanged}
 use Rattle.sfm_law.specs.Room.{IsWithinRoom}
-use Rattle.sfm_exchange.specs.Based.{IsBased}
+use Rattle.sfm_reach.specs.Based.{IsBased}
 use Rattle.sfm_exchange.specs.Claimed.{AreClaims}
-use Rattle.sfm_exchange.proofs.Basing.{based_after, size_low}
+use Rattle.sfm_reach.proofs.Basing.{based_after, size_low}
 use Rattle.sfm_exchange.proofs.ClaimedGraphs.{base_count, based, claimed_after, claimed_shown, claims_at, means, place_in, rows_after, rows_count, rows_shown, united_by}
 use Rattle.sfm_exchange.proofs.moving.exchange_at.Given as given
 use Rattle.sfm_exchange.proofs.moving.exchange_at.Goals as goal

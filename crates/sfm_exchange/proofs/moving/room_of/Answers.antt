@@ -4,8 +4,8 @@ use Rattle.std.proofs.lemmas.Int.{to_z-of_z}
 use Rattle.std.proofs.lemmas.List.Elements.{All-get_or}
 use mir.Syntax.{w128}
 use Rattle.sfm_spec.specs.Bounds.{IsEntry}
-use Rattle.sfm_exchange.specs.Based.{IsBased}
-use Rattle.sfm_exchange.proofs.Basing.{size_low}
+use Rattle.sfm_reach.specs.Based.{IsBased}
+use Rattle.sfm_reach.proofs.Basing.{size_low}
 use Rattle.sfm_exchange.proofs.ClaimedGraphs.{base_count, based, counted, means, places_are}
 use Rattle.sfm_exchange.proofs.moving.room_of.Goals as goal
 

@@ -2,7 +2,7 @@ use Rattle.std.proofs.Common.{rules, FitsSigned}
 use Rattle.std.proofs.lemmas.Int.{to_z-of_z}
 use mir.Syntax.{w128}
 use Rattle.sfm_exchange.proofs.Scaling.{unions_same}
-use Rattle.sfm_exchange.proofs.Basing.{are_based}
+use Rattle.sfm_reach.proofs.Basing.{are_based}
 use Rattle.sfm_exchange.proofs.multiples.copy_graph.Goals as goal
 
 pub notes_of-requires : goal.notes_of-requires

@@ -1,6 +1,6 @@
 -- the rows so far are copied
 use Rattle.std.proofs.Common.{◌≡◌, ℕ, List, take}
-use Rattle.sfm_exchange.specs.Reach.{AreSized}
+use Rattle.sfm_reach.specs.Reach.{AreSized}
 use Rattle.sfm_exchange.proofs.multiples.copy_tables.Given as goal
 
 abbrev pub invariant-loop-i : goal.invariant-loop-i

@@ -8,7 +8,7 @@ use Rattle.sfm_exchange.specs.Graph.{IsGraph}
 use Rattle.sfm_exchange.specs.Scaled.{row_times}
 use Rattle.sfm_exchange.proofs.ClaimedGraphs.{are_terms, base_count, counted, whole_claimed}
 use Rattle.sfm_exchange.proofs.Scaling.{claims_times, unions_same}
-use Rattle.sfm_exchange.proofs.Basing.{are_based}
+use Rattle.sfm_reach.proofs.Basing.{are_based}
 use Rattle.sfm_exchange.proofs.multiples.restart_by.Goals as goal
 
 pub are_multiples-requires-clause-count : goal.are_multiples-requires-clause-count

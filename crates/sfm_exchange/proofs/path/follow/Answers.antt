@@ -3,7 +3,7 @@ use Rattle.std.proofs.lemmas.List.{length-append}
 use Rattle.sfm_spec.specs.Families.{meanings}
 use Rattle.sfm_spec.specs.Walks.{Step, last_of}
 use Rattle.sfm_spec.proofs.Walks.{last-push}
-use Rattle.sfm_exchange.specs.Bits.{bit_in, set_at}
+use Rattle.sfm_reach.specs.Bits.{bit_in, set_at}
 use Rattle.sfm_exchange.specs.Levels.{depth_of}
 use Rattle.sfm_exchange.specs.Hops.{steps_of, step_of}
 use Rattle.sfm_exchange.proofs.Following.{depth_has, depth_is, falls_push, hops_push, least_push, steps_of-push}

@@ -3,7 +3,7 @@ use Rattle.std.proofs.Common.{◌≡◌, ◌+◌, ◌<◌, length}
 use Rattle.sfm_spec.specs.Families.{meanings}
 use Rattle.sfm_spec.specs.Labels.{FallsAlong}
 use Rattle.sfm_spec.specs.Walks.{last_of}
-use Rattle.sfm_exchange.specs.Bits.{bit_in, set_at}
+use Rattle.sfm_reach.specs.Bits.{bit_in, set_at}
 use Rattle.sfm_exchange.specs.Levels.{depth_of}
 use Rattle.sfm_exchange.specs.Hops.{AreHops, AreLeast, steps_of}
 use Rattle.sfm_exchange.proofs.path.follow.Given as goal

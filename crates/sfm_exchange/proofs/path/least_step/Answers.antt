@@ -1,12 +1,12 @@
 use Rattle.std.proofs.Common.{◌≡◌, ◌<◌, length, sym, ap, ◌∙◌, arith}
 use Rattle.sfm_spec.specs.Families.{Meaning, meanings}
 use Rattle.sfm_spec.specs.Walks.{term_at}
-use Rattle.sfm_exchange.proofs.Options.{match_some, some_if_not}
+use Rattle.sfm_reach.proofs.Options.{match_some, some_if_not}
 use Rattle.sfm_law.proofs.Lists.{length-meanings, meanings-at}
-use Rattle.sfm_exchange.proofs.Spotting.{spot_found, spots_read}
-use Rattle.sfm_exchange.proofs.Uniting.{least_into}
-use Rattle.sfm_exchange.specs.Spots.{spots_at}
-use Rattle.sfm_exchange.specs.Spots.{IsSpot}
+use Rattle.sfm_reach.proofs.Spotting.{spot_found, spots_read}
+use Rattle.sfm_exchange.proofs.Linking.{least_into}
+use Rattle.sfm_reach.specs.Spots.{spots_at}
+use Rattle.sfm_reach.specs.Spots.{IsSpot}
 use Rattle.sfm_exchange.proofs.path.least_step.Given as given
 use Rattle.sfm_exchange.proofs.path.least_step.Goals as goal
 use Rattle.sfm_exchange.proofs.path.least_step.Goals.{After-elements, After-unwrap-spot}

@@ -1,7 +1,7 @@
 use Rattle.std.proofs.Common.{◌≡◌, ◌≢◌, ◌<◌, false, get_or, length, refl, ap, arith}
 use Rattle.std.proofs.lemmas.Bool.{both_ways}
 use Rattle.sfm_spec.specs.Terms.{times}
-use Rattle.sfm_exchange.specs.Bits.{bit_in}
+use Rattle.sfm_reach.specs.Bits.{bit_in}
 use Rattle.sfm_exchange.proofs.AtOnce.{asked_more, asked_past}
 use Rattle.sfm_exchange.proofs.renewing.ask_rows.Goals.{then-contains+in_ok-row, else-contains}
 use Rattle.sfm_exchange.proofs.renewing.ask_rows.Goals as goal

@@ -1,6 +1,6 @@
 -- the rows so far; the note fits
 use Rattle.sfm_spec.specs.Terms.{times}
-use Rattle.sfm_exchange.specs.Image.{IsImage}
+use Rattle.sfm_reach.specs.Image.{IsImage}
 use Rattle.sfm_exchange.specs.Renewed.{AreAsked}
 use Rattle.sfm_exchange.proofs.renewing.ask_rows.Given as goal
 

@@ -2,7 +2,7 @@ use Rattle.std.proofs.Common.{◌∙◌, refl, arith}
 use Rattle.std.proofs.lemmas.Int.{ints}
 use Rattle.sfm_spec.specs.Terms.{times}
 use Rattle.sfm_spec.proofs.Scaled.{family-times, submodular-times}
-use Rattle.sfm_exchange.specs.Bits.{bit_in}
+use Rattle.sfm_reach.specs.Bits.{bit_in}
 use Rattle.sfm_exchange.proofs.AtOnce.{exchange_asked, lead_to_s}
 use Rattle.sfm_exchange.proofs.Changes.{changes_anew, changes_grown}
 use Rattle.sfm_exchange.proofs.Claiming.{IsRenewing, exchange_more, exchange_still, neither}

@@ -2,7 +2,7 @@ use Rattle.std.proofs.Common.{◌≡◌, ◌<◌, length, get_or, refl, arith}
 use Rattle.std.proofs.lemmas.Int.{ints}
 use Rattle.sfm_spec.specs.Terms.{times}
 use Rattle.sfm_spec.proofs.Scaled.{family-times, submodular-times}
-use Rattle.sfm_exchange.specs.Bits.{bit_in}
+use Rattle.sfm_reach.specs.Bits.{bit_in}
 use Rattle.sfm_exchange.specs.Renewed.{IsJoined}
 use Rattle.sfm_exchange.proofs.RowsAfter.{row_shared}
 use Rattle.sfm_exchange.proofs.renewing.row_after.Goals as goal

@@ -1,5 +1,5 @@
 use Rattle.std.proofs.Common.{◌≡◌, ◌≢◌, ◌-◌, min, ◌<◌, ◌↔◌, ℕ, arith}
-use Rattle.sfm_exchange.proofs.Words.{bit_in-lt}
+use Rattle.sfm_reach.proofs.Words.{bit_in-lt}
 use Rattle.sfm_exchange.proofs.renewing.shared_places.Goals as goal
 
 -- one less another, and of that what a third has

@@ -1,6 +1,6 @@
 -- the places so far
 use Rattle.std.proofs.Common.{◌≡◌, ◌↔◌, ℕ, ◌<◌, get_or, pos, ◌<ℤ◌}
-use Rattle.sfm_exchange.specs.Bits.{bit_in}
+use Rattle.sfm_reach.specs.Bits.{bit_in}
 use Rattle.sfm_exchange.proofs.signs.places_under.Given as goal
 
 abbrev pub invariant-loop-e : goal.invariant-loop-e

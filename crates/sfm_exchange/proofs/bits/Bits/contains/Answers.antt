@@ -1,7 +1,0 @@
-use Rattle.std.proofs.Common.{rules}
-use Rattle.sfm_exchange.specs.Bits.{bit_in}
-use Rattle.sfm_exchange.proofs.bits.Bits.contains.Goals as goal
-
-pub returns : goal.returns
-unfolding bit_in
-returns c = (λ t. search rules, λ e. search rules)

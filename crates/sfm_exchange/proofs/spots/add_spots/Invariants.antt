@@ -1,6 +1,0 @@
--- the spots of the places so far
-use Rattle.sfm_exchange.specs.Spots.{AddsSpots}
-use Rattle.sfm_exchange.proofs.spots.add_spots.Given as goal
-
-abbrev pub invariant-loop-local : goal.invariant-loop-local
-invariant-loop-local l = AddsSpots l.places l.i l.local l.initial.spots.items l.spots.items

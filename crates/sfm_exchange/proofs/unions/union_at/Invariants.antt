@@ -1,6 +1,0 @@
--- the union of the rows so far
-use Rattle.sfm_exchange.specs.Unions.{IsUnion}
-use Rattle.sfm_exchange.proofs.unions.union_at.Given as goal
-
-abbrev pub invariant-loop-spot : goal.invariant-loop-spot
-invariant-loop-spot l = IsUnion l.rows l.spots l.spot-index l.union

@@ -1,0 +1,13 @@
+pub mod Options
+pub mod Placing
+pub mod Imaging
+pub mod InOrder
+pub mod Words
+pub mod Picking
+pub mod Spotting
+pub mod Uniting
+pub mod Turning
+pub mod Noting
+pub mod Reaching
+pub mod Searching
+pub mod Basing

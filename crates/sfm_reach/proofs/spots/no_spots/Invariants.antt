@@ -1,0 +1,6 @@
+-- the places so far have no spots
+use Rattle.std.proofs.Common.{◌≡◌, [], replicate}
+use Rattle.sfm_reach.proofs.spots.no_spots.Given as goal
+
+abbrev pub invariant-loop : goal.invariant-loop
+invariant-loop l = l.spots.items ≡ replicate l.counter []
