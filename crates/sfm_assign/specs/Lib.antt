@@ -1,11 +1,4 @@
-pub mod Splits
-pub mod Cells
-pub mod Chains
-pub mod Search
-pub mod Pours
-pub mod Lowers
-pub mod Ends
-pub mod Lenders
-pub mod Grown
 pub mod Spread
-pub mod Sides
+pub use Rattle.sfm_split.specs.Splits
+pub use Rattle.sfm_split.specs.Ends
+pub use Rattle.sfm_split.specs.Lenders

@@ -6,10 +6,10 @@ ghost use Rattle.sfm_assign.specs.Spread.{AreTold, IsKnown, AreLedTo, LeadsToRoo
 ghost use Rattle.sfm_assign.specs.declared.spread.Answer.TheVariants.{Full};
 ghost use Rattle.sfm_assign.specs.declared.spread.Answer.{Answer};
 
-use crate::splitting::Shares;
 use crate::spread::{Answer, Spread, find_answer};
 use crate::told::Told;
 use sfm_base::{Memory, Set};
+use sfm_split::Shares;
 use std::alloc::Global;
 
 /// A split as it stands: the amounts on its cells, and what its slots have left.

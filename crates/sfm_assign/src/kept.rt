@@ -4,28 +4,24 @@
 // where they come to it. The amounts for other demands are found beside those that stand and then put in their place, so that want
 // of memory leaves these as they were. All this is done in memory that is kept with the split and used again, so that none is
 // taken once there is enough.
-ghost use Rattle.std.specs.Prelude.{◌≡◌, ◌↔◌, ℕ, ◌<◌, ◌≤◌, true, false, length, slice_set, pos, ◌+ℤ◌, ◌≤ℤ◌, ◌<ℤ◌, IsTrue, IfOk, OnOk, OnErr, MatchResult, MatchBool};
+ghost use Rattle.std.specs.Prelude.{◌≡◌, ◌↔◌, ℕ, ◌<◌, ◌≤◌, true, false, length, slice_set, pos, ◌+ℤ◌, ◌≤ℤ◌, ◌<ℤ◌, IsTrue, IfOk, OnOk, OnErr, MatchResult, MatchBool, None};
 ghost use Rattle.std.specs.List.{All};
 ghost use Rattle.sfm_spec.specs.Sets.{Has};
-ghost use Rattle.sfm_assign.specs.Splits.{amount_at, CanBeMet, IsAmount, IsCapacity, AreDemands};
-ghost use Rattle.sfm_assign.specs.Cells.{AreMet};
-ghost use Rattle.sfm_assign.specs.Search.{AreLeft};
-ghost use Rattle.sfm_assign.specs.Lowers.{IsCharge, AreSmall};
-ghost use Rattle.sfm_assign.specs.Ends.{IsAssignEnd};
-ghost use Rattle.sfm_assign.specs.Grown.{IsGrown};
-ghost use Rattle.sfm_assign.specs.Lenders.{IsLender, with_more, IsMostUpto};
-ghost use Rattle.sfm_assign.specs.Spread.{AreAnswers, AreAsking, LeadsToRoom, AreLedTo};
+ghost use Rattle.sfm_split.specs.Splits.{amount_at, CanBeMet, IsAmount, IsCapacity, AreDemands};
+ghost use Rattle.sfm_split.specs.Cells.{AreMet};
+ghost use Rattle.sfm_split.specs.Search.{AreLeft};
+ghost use Rattle.sfm_split.specs.Ends.{IsAssignEnd};
+ghost use Rattle.sfm_split.specs.Grown.{IsGrown};
+ghost use Rattle.sfm_split.specs.Lenders.{IsLender, with_more, IsMostUpto};
+ghost use Rattle.sfm_assign.specs.Spread.{answer_at, AreAnswers, AreAsking, LeadsToRoom, AreLedTo};
 
-use crate::demand::Demand;
 use crate::gather::{Standing, gather};
-use crate::grown::raise_most;
-use crate::left::{Lefts, left_of};
-use crate::lower::{shift, write_more};
-use crate::splitting::{AssignEnd, Shares, met_shares, settle};
 use crate::spread::Spread;
 use crate::told::Told;
-use crate::work::{Work, copy_list, write_zeros};
 use sfm_base::{Memory, Set};
+use sfm_split::{
+    Aim, AssignEnd, Demand, Shares, Work, begin, find_amounts, left_of, met_shares, raise_most,
+};
 use std::alloc::Global;
 use std::mem;
 
@@ -51,13 +47,6 @@ pub struct Kept {
     ghost each: { length asking ≡ length demand.demands },
     ghost asked: { IsTrue counted → AreAsking demand.demands asking },
     ghost known: { AreAnswers (length demand.demands) shares.cells.whos.items shares.cells.slots.items shares.y.items rooms.items answers },
-}
-
-/// What the demands of a split are to be, and what its slots are to hold at most.
-#[derive(Clone, Copy, Debug)]
-pub struct Aim<'a> {
-    pub demands: &'a [i128],
-    pub capacities: &'a [i128],
 }
 
 /// Whether a demand asks for something.
@@ -90,6 +79,25 @@ fn write_others(set: &Set, u: usize, to: &mut Set)
     to.remove(u);
 }
 
+/// Puts the amounts that were found, and what slots have left with these, in place of those of a split. What was told of it is
+/// forgotten.
+fn take_over(
+    y: &mut Vec<i128>,
+    rooms: &mut Vec<i128>,
+    work: &mut Work,
+    answers: &mut Told,
+    search: &mut Spread,
+)
+    ensures amounts { y.new.items ≡ work.old.y.items }
+    ensures rooms { rooms.new.items ≡ work.old.left.rooms.items }
+    ensures same { length answers.new ≡ length answers.old }
+    ensures none { (u : ℕ) → answer_at answers.new u ≡ None }
+{
+    mem::swap(y, &mut work.y);
+    mem::swap(rooms, &mut work.left.rooms);
+    answers.forget(search);
+}
+
 impl Kept {
     /// Splits each demand over its slots, no slot getting more than its capacity; the demands are taken over.
     ///
@@ -99,15 +107,16 @@ impl Kept {
     pub fn new(alloc: Global, demand: Demand) -> Result<Kept, AssignEnd>
         ensures { MatchResult result (λ r. r.demand ≡ demand) (IsAssignEnd demand.demands demand.lists demand.capacities) }
     {
+        let asking = Set::empty(alloc, demand.demands().len())?;
+        let search = Spread::new(alloc)?;
         let shares = met_shares(alloc, &demand)?;
         let rooms = left_of(alloc, demand.capacities(), &shares.cells.slots, &shares.y)?;
-        let asking = Set::empty(alloc, demand.demands().len())?;
         Ok(Kept {
             demand,
             shares,
             rooms,
             answers: Told::new(alloc),
-            search: Spread::new(alloc)?,
+            search,
             work: Work::new(alloc),
             asking,
             counted: false,
@@ -122,57 +131,21 @@ impl Kept {
     pub fn copy(&self, alloc: Global) -> Result<Kept, Memory>
         ensures { IfOk result (λ r. r.demand ≡ self.now.demand) }
     {
+        let asking = Set::empty(alloc, self.asking.len())?;
+        let search = Spread::new(alloc)?;
+        let rooms = Vec::from_slice(alloc, &self.rooms)?;
+        let demand = self.demand.copy(alloc)?;
+        let shares = self.shares.copy(alloc)?;
         Ok(Kept {
-            demand: self.demand.copy(alloc)?,
-            shares: self.shares.copy(alloc)?,
-            rooms: Vec::from_slice(alloc, &self.rooms)?,
+            demand,
+            shares,
+            rooms,
             answers: Told::new(alloc),
-            search: Spread::new(alloc)?,
+            search,
             work: Work::new(alloc),
-            asking: Set::empty(alloc, self.asking.len())?,
+            asking,
             counted: false,
         })
-    }
-
-    /// Writes what the split leaves of other demands and capacities over the same lists: below nothing where it is too much.
-    fn charge(&self, left: &mut Lefts, demands: &[i128], capacities: &[i128]) -> Result<(), Memory>
-        requires sized { length demands.now ≡ length self.now.demand.demands }
-        requires slots { length capacities.now ≡ length self.now.demand.capacities }
-        requires amounts { All IsAmount demands.now }
-        requires bounded { All IsCapacity capacities.now }
-        ensures charge { OnOk result (IsCharge demands.now capacities.now self.now.shares.cells.whos.items self.now.shares.cells.slots.items self.now.shares.y.items left.new.lacks.items left.new.rooms.items) }
-        ensures lacks { OnOk result (AreSmall left.new.lacks.items) }
-        ensures rooms { OnOk result (AreSmall left.new.rooms.items) }
-    {
-        write_more(&mut left.lacks, demands, self.demand.demands())?;
-        copy_list(&mut left.rooms, &self.rooms)?;
-        shift(&mut left.rooms, capacities, self.demand.capacities());
-        Ok(())
-    }
-
-    /// Finds amounts by which other demands are met, over the same lists and with other capacities, and what slots then have left.
-    fn find_amounts(
-        &self,
-        alloc: Global,
-        work: &mut Work,
-        demands: &[i128],
-        capacities: &[i128],
-    ) -> Result<(), AssignEnd>
-        requires sized { length demands.now ≡ length self.now.demand.demands }
-        requires slots { length capacities.now ≡ length self.now.demand.capacities }
-        requires sound { AreDemands (record { demands = demands.now; lists = self.now.demand.lists; capacities = capacities.now }) }
-        ensures met { MatchResult result (λ _. AreMet (record { demands = demands.now; lists = self.now.demand.lists; capacities = capacities.now }) self.now.shares.cells.whos.items self.now.shares.cells.slots.items work.new.y.items) (IsAssignEnd demands.now self.now.demand.lists capacities.now) }
-        ensures lacks { OnOk result (AreLeft demands.now self.now.shares.cells.whos.items work.new.y.items work.new.left.lacks.items) }
-        ensures rooms { OnOk result (AreLeft capacities.now self.now.shares.cells.slots.items work.new.y.items work.new.left.rooms.items) }
-    {
-        self.charge(&mut work.left, demands, capacities)?;
-        copy_list(&mut work.y, &self.shares.y)?;
-        let cells = &self.shares.cells;
-        let told = settle(alloc, cells, &mut work.rest, &mut work.left, &mut work.y)?;
-        if let Some(set) = told {
-            return Err(AssignEnd::Shortage { set });
-        }
-        Ok(())
     }
 
     /// Puts other demands and capacities in place of these, over the same lists, and splits them, from the split as it stands:
@@ -194,41 +167,33 @@ impl Kept {
         ensures brought { MatchResult result (λ _. self.new.demand ≡ record { demands = demands.now; lists = self.old.demand.lists; capacities = capacities.now }) (IsAssignEnd demands.now self.old.demand.lists capacities.now) }
         ensures unchanged { OnErr result (self.new.demand ≡ self.old.demand) }
     {
-        let _sound = self.demand.lists();
-        let mut work = mem::replace(&mut self.work, Work::new(alloc));
-        let found = self.find_amounts(alloc, &mut work, demands, capacities);
-        self.work = work;
-        found?;
+        let _sound = self.demand.demands();
+        let aim = Aim {
+            demands,
+            capacities,
+        };
+        find_amounts(
+            alloc,
+            &mut self.work,
+            &self.demand,
+            &self.shares,
+            &self.rooms,
+            &aim,
+        )?;
         self.demand.copy_from(demands, capacities);
-        mem::swap(&mut self.shares.y, &mut self.work.y);
-        mem::swap(&mut self.rooms, &mut self.work.left.rooms);
-        self.answers.forget(&mut self.search);
+        take_over(
+            &mut self.shares.y,
+            &mut self.rooms,
+            &mut self.work,
+            &mut self.answers,
+            &mut self.search,
+        );
         self.counted = false;
         Ok(())
     }
 
-    /// Finds amounts by which all demands are met, and the demand u gets as much more as it can, up to a limit; tells how much.
-    fn find_grown(
-        &self,
-        alloc: Global,
-        work: &mut Work,
-        u: usize,
-        limit: i128,
-    ) -> Result<i128, Memory>
-        requires sound { AreDemands self.now.demand }
-        requires place { u < length self.now.demand.demands }
-        requires low { pos 0 ≤ℤ limit }
-        requires small { IsAmount (amount_at self.now.demand.demands u +ℤ limit) }
-        ensures { IfOk result (IsGrown self.now.demand self.now.shares.cells.whos.items self.now.shares.cells.slots.items work.new.y.items work.new.left.rooms.items u limit) }
-    {
-        write_zeros(&mut work.left.lacks, self.demand.demands())?;
-        copy_list(&mut work.left.rooms, &self.rooms)?;
-        copy_list(&mut work.y, &self.shares.y)?;
-        let more = raise_most(alloc, &self.shares.cells, work, u, limit)?;
-        Ok(more)
-    }
-
-    /// The same for other demands and capacities over the same lists, which can be met.
+    /// Finds amounts by which other demands are met, over the same lists and with other capacities, and the demand u gets as much more
+    /// as it can, up to a limit; tells how much. The other demands can be met.
     fn find_raised(
         &self,
         alloc: Global,
@@ -246,7 +211,7 @@ impl Kept {
         requires small { IsAmount (amount_at aim.now.demands.now u +ℤ limit) }
         ensures { IfOk result (IsGrown (record { demands = aim.now.demands.now; lists = self.now.demand.lists; capacities = aim.now.capacities.now }) self.now.shares.cells.whos.items self.now.shares.cells.slots.items work.new.y.items work.new.left.rooms.items u limit) }
     {
-        match self.find_amounts(alloc, work, aim.demands, aim.capacities) {
+        match find_amounts(alloc, work, &self.demand, &self.shares, &self.rooms, aim) {
             Ok(()) => {}
             Err(AssignEnd::Shortage { .. }) => unreachable!(),
             Err(AssignEnd::Memory) => return Err(Memory),
@@ -269,15 +234,17 @@ impl Kept {
         ensures most { IfOk result (IsMostUpto self.old.demand u limit) }
         ensures unchanged { OnErr result (self.new.demand ≡ self.old.demand) }
     {
-        let _sound = self.demand.lists();
-        let mut work = mem::replace(&mut self.work, Work::new(alloc));
-        let found = self.find_grown(alloc, &mut work, u, limit);
-        self.work = work;
-        let more = found?;
+        let _sound = self.demand.demands();
+        begin(&mut self.work, &self.demand, &self.shares, &self.rooms)?;
+        let more = raise_most(alloc, &self.shares.cells, &mut self.work, u, limit)?;
         self.demand.raise(u, more);
-        mem::swap(&mut self.shares.y, &mut self.work.y);
-        mem::swap(&mut self.rooms, &mut self.work.left.rooms);
-        self.answers.forget(&mut self.search);
+        take_over(
+            &mut self.shares.y,
+            &mut self.rooms,
+            &mut self.work,
+            &mut self.answers,
+            &mut self.search,
+        );
         self.counted = false;
         Ok(more)
     }
@@ -311,17 +278,18 @@ impl Kept {
         ensures most { IfOk result (IsMostUpto (record { demands = aim.now.demands.now; lists = self.old.demand.lists; capacities = aim.now.capacities.now }) u limit) }
         ensures unchanged { OnErr result (self.new.demand ≡ self.old.demand) }
     {
-        let _sound = self.demand.lists();
-        let _other = from.demand.lists();
-        let mut work = mem::replace(&mut self.work, Work::new(alloc));
-        let found = from.find_raised(alloc, &mut work, aim, u, limit);
-        self.work = work;
-        let more = found?;
+        let _sound = self.demand.demands();
+        let _other = from.demand.demands();
+        let more = from.find_raised(alloc, &mut self.work, aim, u, limit)?;
         self.demand.copy_from(aim.demands, aim.capacities);
         self.demand.raise(u, more);
-        mem::swap(&mut self.shares.y, &mut self.work.y);
-        mem::swap(&mut self.rooms, &mut self.work.left.rooms);
-        self.answers.forget(&mut self.search);
+        take_over(
+            &mut self.shares.y,
+            &mut self.rooms,
+            &mut self.work,
+            &mut self.answers,
+            &mut self.search,
+        );
         self.counted = false;
         Ok(more)
     }
@@ -364,7 +332,7 @@ impl Kept {
             (LeadsToRoom self.old.shares.cells.whos.items self.old.shares.cells.slots.items self.old.shares.y.items self.old.rooms.items u)
             (AreLedTo (length self.old.demand.demands) self.old.shares.cells.whos.items self.old.shares.cells.slots.items self.old.shares.y.items self.old.rooms.items u (slice_set to.new u true))) }
     {
-        let _sound = self.demand.lists();
+        let _sound = self.demand.demands();
         let split = Standing {
             shares: &self.shares,
             rooms: &self.rooms,
@@ -384,7 +352,7 @@ impl Kept {
         ensures places { length to.new ≡ length to.old }
         ensures reached { (v : ℕ) → v < length to.new → Has to.new v ↔ IsLender self.now.demand.demands self.now.demand.lists self.now.demand.capacities u v }
     {
-        let _sound = self.demand.lists();
+        let _sound = self.demand.demands();
         if room {
             write_others(&self.asking, u, to);
             return;

@@ -1,29 +1,13 @@
-// Demands split over slots: each demand over the slots of its own list, no slot above its capacity.
+// Splits of demands over slots that are kept while what is asked changes; the splits themselves are found in sfm_split.
 #![tactic(auto)]
 
-mod augment;
-mod cells;
-mod chains;
-mod demand;
-mod fill;
 mod gather;
 mod greatest;
-mod grown;
 mod kept;
-mod left;
-mod lower;
 mod met;
-mod nodes;
-mod pour;
-mod search;
-mod split;
-mod splitting;
 mod spread;
 mod told;
-mod work;
 
-pub use demand::Demand;
 pub use greatest::most;
-pub use kept::{Aim, Kept};
-pub use split::Split;
-pub use splitting::{AssignEnd, assign};
+pub use kept::Kept;
+pub use sfm_split::{Aim, AssignEnd, Demand, Split, assign};

@@ -6,14 +6,13 @@
 // more: once there is as much as was wanted before, none is taken.
 ghost use Rattle.std.specs.Prelude.{◌≡◌, ℕ, ◌+◌, ◌<◌, Bool, List, [], ◌∷◌, ◌++◌, true, length, slice_set, pos, ◌≤ℤ◌, IfOk, OnOk, MatchOption};
 ghost use Rattle.sfm_spec.specs.Sets.{Has, empty_set, union};
-ghost use Rattle.sfm_assign.specs.Splits.{amount_at};
-ghost use Rattle.sfm_assign.specs.Cells.{label_at};
+ghost use Rattle.sfm_split.specs.Splits.{amount_at};
+ghost use Rattle.sfm_split.specs.Cells.{label_at};
 ghost use Rattle.sfm_assign.specs.declared.spread.Answer.TheVariants.{Full};
 ghost use Rattle.sfm_assign.specs.Spread.{IsAnswer, AreTold, IsSpread, IsJoin, IsWider};
 
-use crate::nodes::Link;
-use crate::splitting::Shares;
 use sfm_base::{Memory, Set};
+use sfm_split::{Link, Shares};
 use std::alloc::Global;
 use std::mem;
 

@@ -1,9 +1,9 @@
 use Rattle.std.proofs.Common.{◌≡◌, ◌<◌, pos, ◌≤ℤ◌, length, refl, arith, ◌∙◌}
 use Rattle.std.proofs.lemmas.Int.{ints}
 use Rattle.std.proofs.lemmas.List.{get_or_read}
-use Rattle.sfm_assign.specs.Splits.{amount_at}
-use Rattle.sfm_assign.specs.Cells.{label_at}
-use Rattle.sfm_assign.proofs.Linking.{pass_begun, pass_falls, pass_here, pass_more}
+use Rattle.sfm_split.specs.Splits.{amount_at}
+use Rattle.sfm_split.specs.Cells.{label_at}
+use Rattle.sfm_split.proofs.Linking.{pass_begun, pass_falls, pass_here, pass_more}
 use Rattle.sfm_assign.specs.Spread.{AreTakenIn}
 use Rattle.sfm_assign.proofs.Gathering.{IsDone, gathered_none, gathered_more, done_still}
 use Rattle.sfm_assign.proofs.gather.gather.Goals.{After-index-s}

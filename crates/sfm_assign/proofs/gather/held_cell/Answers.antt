@@ -2,7 +2,7 @@ use Rattle.std.proofs.Common.{◌<◌, length, pos, arith}
 use Rattle.std.proofs.lemmas.Int.{ints}
 use Rattle.std.proofs.lemmas.List.{get_or_read}
 use Rattle.sfm_assign.proofs.Gathering.{nothing_on}
-use Rattle.sfm_assign.proofs.Linking.{pass_begun, pass_falls, pass_here, pass_more, pass_done}
+use Rattle.sfm_split.proofs.Linking.{pass_begun, pass_falls, pass_here, pass_more, pass_done}
 use Rattle.sfm_assign.proofs.gather.held_cell.Goals as goal
 
 pub loop-next-init : goal.loop-next-init

@@ -1,6 +1,6 @@
 -- the cells of the slot from some cell on are passed, and nothing is on them
 use Rattle.sfm_assign.proofs.Gathering.{nothing_on}
-use Rattle.sfm_assign.proofs.Linking.{IsPassed, ahead}
+use Rattle.sfm_split.proofs.Linking.{IsPassed, ahead}
 use Rattle.sfm_assign.proofs.gather.held_cell.Given as goal
 
 abbrev pub invariant-loop-next : goal.invariant-loop-next

@@ -1,5 +1,5 @@
-use Rattle.sfm_assign.specs.Cells.{cut}
-use Rattle.sfm_assign.proofs.Outcomes.{split_from}
+use Rattle.sfm_split.specs.Cells.{cut}
+use Rattle.sfm_split.proofs.Outcomes.{split_from}
 use Rattle.sfm_assign.proofs.kept.Kept.are_met.Goals as goal
 
 pub returns : goal.returns

@@ -1,12 +1,12 @@
 use Rattle.std.proofs.Common.{◌∙◌, sym, arith}
-use Rattle.sfm_assign.proofs.Outcomes.{cells_for}
+use Rattle.sfm_split.proofs.Outcomes.{cells_for}
 use Rattle.sfm_assign.proofs.kept.Kept.gather.Goals as goal
 
 pub gather-requires-clause-told : goal.gather-requires-clause-told
 gather-requires-clause-told c =
     let k = c.args.self.now in
     record {
-      cells = rw (c.requires.places, c.deref.ensures.value, k.left.places, k.met.in_order, k.met.in_lists) (cells_for k.demand c.lists-sound.ensures.sound);
+      cells = rw (c.requires.places, c.deref.ensures.value, k.left.places, k.met.in_order, k.met.in_lists) (cells_for k.demand c.demands-sound.ensures.sound);
       same = k.met.part.cells;
       known = rw (c.requires.places, c.deref.ensures.value) k.known;
     }

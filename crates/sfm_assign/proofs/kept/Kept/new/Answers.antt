@@ -1,8 +1,5 @@
-use Rattle.std.proofs.Common.{sym, ap, subst, refl, false, length, ◌∙◌, arith}
-use Rattle.sfm_assign.specs.Splits.{Demands}
-use Rattle.sfm_assign.specs.Cells.{AreMet}
-use Rattle.sfm_assign.specs.Search.{AreLeft}
-use Rattle.sfm_assign.proofs.Outcomes.{cells_for}
+use Rattle.std.proofs.Common.{sym, ap, refl, false, length, ◌∙◌, arith}
+use Rattle.sfm_split.proofs.Outcomes.{cells_for}
 use Rattle.std.proofs.lemmas.Bool.{both_ways}
 use Rattle.sfm_assign.proofs.Spreads.{answers_none}
 use Rattle.sfm_assign.proofs.kept.Kept.new.Goals as goal
@@ -25,25 +22,20 @@ left_of-requires-clause-amounts c = rw c.deref-2.ensures.value c.in_ok-shares.en
 pub left_of-requires-clause-within : goal.left_of-requires-clause-within
 left_of-requires-clause-within c = rw (c.deref-2.ensures.value, c.deref.ensures.value, c.capacities.ensures) c.in_ok-shares.ensures.shares.part.within
 
-pub invariant_of-result-2-clause-met : goal.invariant_of-result-2-clause-met
-invariant_of-result-2-clause-met c =
-    let k = c.in_ok-shares.shares in
-    subst (λ d. AreMet d k.cells.whos.items k.cells.slots.items k.y.items) (sym c.demand.view_is) c.in_ok-shares.ensures.shares
+pub invariant_of-result-clause-met : goal.invariant_of-result-clause-met
+invariant_of-result-clause-met c = c.in_ok-shares.ensures.shares
 
-pub invariant_of-result-2-clause-left : goal.invariant_of-result-2-clause-left
-invariant_of-result-2-clause-left c =
-    let k = c.in_ok-shares.shares in
-    let left = rw (c.deref-2.ensures.value, c.deref.ensures.value, c.capacities.ensures) at c.in_ok-rooms.ensures in
-    subst (λ (d : Demands). AreLeft d.capacities k.cells.slots.items k.y.items c.in_ok-rooms.rooms.items) (sym c.demand.view_is) left
+pub invariant_of-result-clause-left : goal.invariant_of-result-clause-left
+invariant_of-result-clause-left c = rw (c.deref-2.ensures.value, c.deref.ensures.value, c.capacities.ensures) at c.in_ok-rooms.ensures
 
-pub invariant_of-result-2-clause-few : goal.invariant_of-result-2-clause-few
-invariant_of-result-2-clause-few c = rw c.new.ensures (omega arith)
+pub invariant_of-result-clause-few : goal.invariant_of-result-clause-few
+invariant_of-result-clause-few c = rw c.new-2.ensures (omega arith)
 
-pub invariant_of-result-2-clause-asked : goal.invariant_of-result-2-clause-asked
-invariant_of-result-2-clause-asked c = λ h. absurd (both_ways false refl h)
+pub invariant_of-result-clause-asked : goal.invariant_of-result-clause-asked
+invariant_of-result-clause-asked c = λ h. absurd (both_ways false refl h)
 
-pub invariant_of-result-2-clause-known : goal.invariant_of-result-2-clause-known
-invariant_of-result-2-clause-known c = rw c.new.ensures (answers_none _ _ _ _ _)
+pub invariant_of-result-clause-known : goal.invariant_of-result-clause-known
+invariant_of-result-clause-known c = rw c.new-2.ensures (answers_none _ _ _ _ _)
 
 pub returns : goal.returns
-returns c = c.demand.view_is
+returns c = refl

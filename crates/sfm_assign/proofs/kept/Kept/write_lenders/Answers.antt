@@ -13,7 +13,7 @@ returns-then-room-clause-reached c =
     let left = rw k.met.in_lists at k.left in
     let room = rw (k.met.in_order, k.met.in_lists) at (rw c.if-room.true at c.requires.led) in
     let long = ap length c.write_others.ensures ∙ (length-set k.asking u false ∙ k.each) in
-    λ v lv. written_room d c.lists-sound.ensures.sound u c.requires.place k.shares.y.items k.rooms.items part met left room k.asking k.each (k.asked c.requires.counted) c.write_others.new.to c.write_others.ensures v (omega (arith, lv, long))
+    λ v lv. written_room d c.demands-sound.ensures.sound u c.requires.place k.shares.y.items k.rooms.items part met left room k.asking k.each (k.asked c.requires.counted) c.write_others.new.to c.write_others.ensures v (omega (arith, lv, long))
 
 pub returns-clause-reached : goal.returns-clause-reached
 returns-clause-reached c =
@@ -25,4 +25,4 @@ returns-clause-reached c =
     let left = rw k.met.in_lists at k.left in
     let led = rw (k.met.in_order, k.met.in_lists) at (rw c.if-room.false at c.requires.led) in
     let long = ap length c.remove.ensures ∙ (length-set c.args.to.now u false ∙ c.requires.room_for_answer) in
-    λ v lv. written_led d c.lists-sound.ensures.sound u c.requires.place k.shares.y.items k.rooms.items part met left (set c.args.to.now u true) led c.remove.new.self (c.remove.ensures ∙ sym (set-set c.args.to.now u true false)) v (omega (arith, lv, long))
+    λ v lv. written_led d c.demands-sound.ensures.sound u c.requires.place k.shares.y.items k.rooms.items part met left (set c.args.to.now u true) led c.remove.new.self (c.remove.ensures ∙ sym (set-set c.args.to.now u true false)) v (omega (arith, lv, long))

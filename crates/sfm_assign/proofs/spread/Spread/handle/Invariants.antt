@@ -1,9 +1,9 @@
 -- the cells of the demand from some cell on are passed: their slots are marked
 use Rattle.std.proofs.Common.{◌≡◌, length}
 use Rattle.sfm_spec.specs.Sets.{Has}
-use Rattle.sfm_assign.specs.Cells.{label_at}
+use Rattle.sfm_split.specs.Cells.{label_at}
 use Rattle.sfm_assign.specs.Spread.{IsSpread, IsWider}
-use Rattle.sfm_assign.proofs.Linking.{IsPassed, ahead}
+use Rattle.sfm_split.proofs.Linking.{IsPassed, ahead}
 use Rattle.sfm_assign.proofs.spread.Spread.handle.Given as goal
 
 abbrev pub invariant-loop-at : goal.invariant-loop-at

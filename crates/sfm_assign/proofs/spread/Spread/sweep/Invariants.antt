@@ -1,10 +1,10 @@
 -- the cells of the slot from some cell on are passed: of their demands, those that have something there were found
 use Rattle.std.proofs.Common.{◌≡◌, length, pos, ◌≤ℤ◌}
 use Rattle.sfm_spec.specs.Sets.{Has}
-use Rattle.sfm_assign.specs.Splits.{amount_at}
-use Rattle.sfm_assign.specs.Cells.{label_at}
+use Rattle.sfm_split.specs.Splits.{amount_at}
+use Rattle.sfm_split.specs.Cells.{label_at}
 use Rattle.sfm_assign.specs.Spread.{IsSpread, IsWider}
-use Rattle.sfm_assign.proofs.Linking.{IsPassed, ahead}
+use Rattle.sfm_split.proofs.Linking.{IsPassed, ahead}
 use Rattle.sfm_assign.proofs.spread.Spread.sweep.Given as goal
 
 abbrev pub invariant-loop-at : goal.invariant-loop-at

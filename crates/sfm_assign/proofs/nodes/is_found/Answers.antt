@@ -1,5 +1,0 @@
-use Rattle.sfm_assign.proofs.Searches.{found_of}
-use Rattle.sfm_assign.proofs.nodes.is_found.Goals as goal
-
-pub returns : goal.returns
-returns c = rw c.is_some.ensures (found_of _)

@@ -1,5 +1,0 @@
-use Rattle.sfm_assign.proofs.Cutting.{IsCutTo}
-use Rattle.sfm_assign.proofs.split.Split.cut.Given as goal
-
-abbrev pub invariant-loop-list : goal.invariant-loop-list
-invariant-loop-list l = IsCutTo l.lists l.y l.rows l.at l.list-index

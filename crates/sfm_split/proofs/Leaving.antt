@@ -1,0 +1,146 @@
+-- Amounts taken off the totals one after the other, and the demands that then lack something, in a list.
+use Rattle.std.proofs.Common.{◌≡◌, ℕ, ◌+◌, ◌<◌, ◌≤◌, List, [], ◌∷◌, ◌++◌, length, set, drop, ℤ, pos, ◌+ℤ◌, ◌-ℤ◌, ◌≤ℤ◌, refl, sym, ap, ◌∙◌, arith, ⊎_elim, length-set, get_or-set_other, get_or-set_same}
+use Rattle.std.proofs.lemmas.Int.{ints}
+use Rattle.std.proofs.lemmas.Bool.{cases_eq, cases_lt}
+use Rattle.std.proofs.lemmas.List.{get_or-drop, drop_all, length_push, get_or_push, get_or_append_left}
+use Rattle.sfm_split.specs.Splits.{sum_at, amount_at}
+use Rattle.sfm_split.specs.Cells.{label_at}
+use Rattle.sfm_split.specs.Search.{AreLeft, ListsBelow, ListsLacking, only}
+use Rattle.sfm_split.proofs.Amounts.{AreAmounts, sum_at-drop, sum_at-low, only-same, only-other}
+
+-- what the first e amounts leave
+pub record LeavesTo (totals : List ℤ) (labels : List ℕ) (y left : List ℤ) (e : ℕ) : Type 0 where
+  pub places : length left ≡ length totals
+  pub each : (k : ℕ) → k < length totals → (amount_at left k +ℤ sum_at k labels y) ≡ (amount_at totals k +ℤ sum_at k (drop e labels) (drop e y))
+
+rest_low : (k e : ℕ) (labels : List ℕ) (y : List ℤ) → AreAmounts y → pos 0 ≤ℤ sum_at k (drop e labels) (drop e y)
+rest_low k e labels y low = sum_at-low k (drop e labels) (drop e y) (λ i. let q = get_or-drop e y i (pos 0) in let h = low (e + i) in omega (arith, ints, q, h))
+
+-- the next amount is at most what is left
+pub next_fits : (totals : List ℤ) (labels : List ℕ) (y left : List ℤ) (e : ℕ) → length y ≡ length labels → AreAmounts y → e < length labels → label_at labels e < length totals
+    → sum_at (label_at labels e) labels y ≤ℤ amount_at totals (label_at labels e) → LeavesTo totals labels y left e → amount_at y e ≤ℤ amount_at left (label_at labels e)
+next_fits totals labels y left e same low lt below within inv =
+    let k = label_at labels e in
+    let h = inv.each k below in
+    let s = sum_at-drop k labels y e same lt in
+    let o = only-same k k (amount_at y e) refl in
+    let r = rest_low k (e + 1) labels y low in
+    omega (arith, ints, h, s, o, r, within)
+
+pub left_more : (totals : List ℤ) (labels : List ℕ) (y left : List ℤ) (e : ℕ) (x : ℤ) → x ≡ amount_at left (label_at labels e) → length y ≡ length labels → e < length labels → label_at labels e < length totals
+    → LeavesTo totals labels y left e → LeavesTo totals labels y (set left (label_at labels e) (x -ℤ amount_at y e)) (e + 1)
+left_more totals labels y left e x v same lt below inv = record {
+  places = length-set left (label_at labels e) (x -ℤ amount_at y e) ∙ inv.places;
+  each = λ k lk.
+      let j = label_at labels e in
+      let h = inv.each k lk in
+      let s = sum_at-drop k labels y e same lt in
+      let len = inv.places in
+      ⊎_elim
+      (λ (e' : k ≡ j).
+      let in_range : j < length left = omega (arith, len, below) in
+      let q = ap (λ i. amount_at (set left j (x -ℤ amount_at y e)) i) e' in
+      let p = ap (λ i. amount_at left i) e' in
+      let g = get_or-set_same left j (x -ℤ amount_at y e) (pos 0) in_range in
+      let o = only-same j k (amount_at y e) (sym e') in
+      omega (arith, ints, h, s, q, p, g, o, v))
+      (λ ne.
+      let g = get_or-set_other left j k (x -ℤ amount_at y e) (pos 0) ne in
+      let o = only-other j k (amount_at y e) (λ e'. ne (sym e')) in
+      omega (arith, ints, h, s, g, o))
+      (cases_eq k j);
+}
+
+pub left_none : (totals : List ℤ) (labels : List ℕ) (y : List ℤ) → LeavesTo totals labels y totals 0
+left_none totals labels y = record { places = refl; each = λ k lt. refl }
+
+pub left_all : (totals : List ℤ) (labels : List ℕ) (y left : List ℤ) (e : ℕ) → length labels ≤ e → LeavesTo totals labels y left e → AreLeft totals labels y left
+left_all totals labels y left e past inv = record {
+  places = inv.places;
+  each = λ k lk.
+      let h = inv.each k lk in
+      let d = drop_all e labels past in
+      let q = ap (λ ls. sum_at k ls (drop e y)) d in
+      omega (arith, ints, h, q);
+}
+
+-- what one number gets is taken from what it has left
+pub left_taken : (totals : List ℤ) (labels : List ℕ) (y z left : List ℤ) (j : ℕ) (a : ℤ) → j < length totals → AreLeft totals labels y left → ((k : ℕ) → sum_at k labels z ≡ (sum_at k labels y +ℤ only j k a))
+    → AreLeft totals labels z (set left j (amount_at left j -ℤ a))
+left_taken totals labels y z left j a below h got = record {
+  places = length-set left j (amount_at left j -ℤ a) ∙ h.places;
+  each = λ k lk.
+      let s = got k in
+      let p = h.each k lk in
+      let len = h.places in
+      ⊎_elim
+      (λ (q : k ≡ j).
+      let o = only-same j k a (sym q) in
+      let g = get_or-set_same left j (amount_at left j -ℤ a) (pos 0) (omega (arith, below, len)) in
+      let x = ap (λ i. amount_at (set left j (amount_at left j -ℤ a)) i) q in
+      let w = ap (λ i. amount_at left i) q in
+      omega (arith, ints, s, p, o, g, x, w))
+      (λ ne.
+      let o = only-other j k a (λ q. ne (sym q)) in
+      let g = get_or-set_other left j k (amount_at left j -ℤ a) (pos 0) ne in
+      omega (arith, ints, s, p, o, g))
+      (cases_eq k j);
+}
+
+-- ---- the demands that lack something
+
+pub listed_none : (lacks : List ℤ) → ListsBelow 0 lacks []
+listed_none lacks = record { rising = λ j k less lt. absurd (omega (arith, lt)); below = λ k lt. absurd (omega (arith, lt)); all = λ i lt some. absurd (omega (arith, lt)) }
+
+pub listed_skip : (i : ℕ) (lacks : List ℤ) (list : List ℕ) → amount_at lacks i ≤ℤ pos 0 → ListsBelow i lacks list → ListsBelow (i + 1) lacks list
+listed_skip i lacks list none h = record {
+  rising = h.rising;
+  below = λ k lt. let b = h.below k lt in omega (arith, b);
+  all = λ j lt some. ⊎_elim
+      (λ (l : j < i). h.all j l some)
+      (λ ge. let q : j ≡ i = omega (arith, ge, lt) in let v = ap (λ m. amount_at lacks m) q in absurd (omega (arith, ints, v, none, some)))
+      (cases_lt j i);
+}
+
+pub listed_more : (i : ℕ) (lacks : List ℤ) (list : List ℕ) → ListsBelow i lacks list → ListsBelow (i + 1) lacks (list ++ i ∷ [])
+listed_more i lacks list h = record {
+  rising = λ j k less lt. ⊎_elim
+      (λ (l : k < length list). let a = old j (omega (arith, l, less)) in let b = old k l in let r = h.rising j k less l in omega (arith, a, b, r))
+      (λ ge. let q = last k ge lt in let lj : j < length list = omega (arith, less, ge, lt, long) in let a = old j lj in let r = h.below j lj in omega (arith, a, q, r))
+      (cases_lt k (length list));
+  below = λ k lt. ⊎_elim
+      (λ (l : k < length list). let a = old k l in let r = h.below k l in omega (arith, a, r))
+      (λ ge. let q = last k ge lt in omega (arith, q))
+      (cases_lt k (length list));
+  all = λ j lt some. ⊎_elim
+      (λ (l : j < i). let (k, lk, q) = h.all j l some in (k, omega (arith, lk, long), old k lk ∙ q))
+      (λ ge. (length list, omega (arith, long), last (length list) (omega arith) (omega (arith, long)) ∙ omega (arith, ge, lt)))
+      (cases_lt j i);
+} where
+  long : length (list ++ i ∷ []) ≡ length list + 1
+  long = length_push list i
+
+  old : (k : ℕ) → k < length list → label_at (list ++ i ∷ []) k ≡ label_at list k
+  old k lt = get_or_append_left list (i ∷ []) 0 k lt
+
+  last : (k : ℕ) → length list ≤ k → k < length (list ++ i ∷ []) → label_at (list ++ i ∷ []) k ≡ i
+  last k ge lt = let l = long in get_or_push list i 0 k (omega (arith, ge, lt, l))
+
+-- where no demand lacks more than before
+pub listed_on : (lacks after : List ℤ) (list : List ℕ) → length after ≡ length lacks → ((i : ℕ) → i < length lacks → amount_at after i ≤ℤ amount_at lacks i) → ListsLacking lacks list → ListsLacking after list
+listed_on lacks after list same le h = record {
+  rising = h.rising;
+  below = λ k lt. let b = h.below k lt in omega (arith, b, same);
+  all = λ i lt some. let li : i < length lacks = omega (arith, lt, same) in let l = le i li in h.all i li (omega (arith, ints, l, some));
+}
+
+-- where one demand alone lacks something
+pub listed_one : (lacks : List ℤ) (u : ℕ) → u < length lacks → ((i : ℕ) → i < length lacks → (i ≡ u → ⊥) → amount_at lacks i ≤ℤ pos 0) → ListsLacking lacks (u ∷ [])
+listed_one lacks u lu none = record {
+  rising = λ j k less lt. absurd (omega (arith, less, lt));
+  below = λ k lt. let q : k ≡ 0 = omega (arith, lt) in rw q lu;
+  all = λ i lt some. ⊎_elim
+      (λ (q : i ≡ u). (0, omega arith, sym q))
+      (λ ne. let n = none i lt ne in absurd (omega (arith, ints, n, some)))
+      (cases_eq i u);
+}

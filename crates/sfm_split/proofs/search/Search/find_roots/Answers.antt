@@ -1,0 +1,55 @@
+use Rattle.std.proofs.Common.{refl, None, length, pos, ◌≤ℤ◌, ◌<◌, ◌≡◌, ℤ, ap, arith, rules, FitsSigned}
+use Rattle.std.proofs.lemmas.Int.{ints}
+use Rattle.std.proofs.lemmas.List.{get_or_read}
+use mir.Syntax.{w128}
+use Rattle.sfm_split.specs.Splits.{amount_at}
+use Rattle.sfm_split.specs.Cells.{label_at}
+use Rattle.sfm_split.proofs.Queues.{roots_none, roots_skip, roots_put, roots_all}
+use Rattle.sfm_split.proofs.search.Search.find_roots.Goals as goal
+use Rattle.sfm_split.proofs.search.Search.find_roots.Goals.{After-index-i, then-index-gt0+in_ok-push, else-index-gt0}
+
+-- the next demand of the list
+next_is : (c : After-index-i) → (c.loop-k.k < length c.args.left.now.lacking.items) × (c.index-i.result.now ≡ label_at c.args.left.now.lacking.items c.loop-k.k)
+next_is c =
+    let list = c.args.left.now.lacking in
+    let ok = list.ok.0 in
+    let lt : c.loop-k.k < length list.items = omega (arith, ok) in
+    (lt, get_or_read list.items c.loop-k.k c.index-i.result.now lt c.index-i.ensures 0)
+
+pub loop-k-init : goal.loop-k-init
+loop-k-init c =
+    let at = c.args.self.now in
+    let left = c.args.left.now in
+    record { marks = refl; roots = rw c.requires.queue (roots_none left.lacks.items left.lacking.items at.nodes.items c.requires.places c.requires.none) }
+
+pub loop-k-preserved : goal.loop-k-preserved
+loop-k-preserved c =
+    let (lt, is) = next_is (goal.at.loop-k-preserved c).After-index-i in
+    let left = c.args.left.now in
+    let lacks = left.lacks.items in
+    let list = left.lacking.items in
+    let k = c.loop-k.k in
+    let at = c.loop-k.self in
+    let inv = c.loop-k.invariant in
+    let x : ℤ = c.index.result.now in
+    let f : FitsSigned w128 x = search rules in
+    let below = c.requires.listed.below k lt in
+    let lack = get_or_read lacks c.index-i.result.now x (omega (arith, is, below)) c.index.ensures (pos 0) in
+    let same = ap (λ m. amount_at lacks m) is in
+    elim c.if-index-gt0.branch [
+      | then-index-gt0+in_ok-push w ↦ (
+          let t = w.if-index-gt0.true in
+          let some : pos 1 ≤ℤ amount_at lacks (label_at list k) = omega (arith, ints, t, lack, same) in
+          rw (w.self-is, w.in_ok-push.ensures.items, is) (record { marks = inv.marks; roots = roots_put lacks list at.nodes.items at.queue.items k inv.roots c.requires.listed lt (record { level = 0; link = None }) (refl, refl, some) }))
+      | else-index-gt0 w ↦ (
+          let t = w.if-index-gt0.false in
+          let full : amount_at lacks (label_at list k) ≤ℤ pos 0 = omega (arith, ints, t, lack, same) in
+          rw w.self-is (record { marks = inv.marks; roots = roots_skip lacks list at.nodes.items at.queue.items k inv.roots full }))
+    ]
+
+pub returns-clause-nodes : goal.returns-clause-nodes
+returns-clause-nodes c =
+    let left = c.args.left.now in
+    let at = c.loop-k.self in
+    let ok = left.lacking.ok.0 in
+    roots_all left.lacks.items left.lacking.items at.nodes.items at.queue.items c.loop-k.k c.loop-k.invariant.roots c.requires.listed (omega (arith, ok))

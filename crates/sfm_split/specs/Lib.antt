@@ -1,0 +1,10 @@
+pub mod Splits
+pub mod Cells
+pub mod Chains
+pub mod Search
+pub mod Pours
+pub mod Lowers
+pub mod Ends
+pub mod Lenders
+pub mod Grown
+pub mod Sides

@@ -1,0 +1,93 @@
+// The cells of demands in one list: a cell is a demand with one entry of its list. The cells of each demand and those of each
+// slot are linked, so that they are gone through without a look at the others.
+ghost use Rattle.std.specs.Prelude.{◌≡◌, ◌<◌, ◌++◌, length, pos, replicate, IfOk, OnOk};
+ghost use Rattle.std.specs.List.{All};
+ghost use Rattle.sfm_split.specs.Cells.{joined, owners};
+ghost use Rattle.sfm_split.specs.Chains.{AreChains};
+
+use crate::chains::Chains;
+use crate::demand::Slots;
+use sfm_base::Memory;
+use std::alloc::Global;
+
+/// The demand and the slot of each cell, in the order of the demands and of their lists, and the chains of these.
+#[derive(Drop)]
+pub struct Cells {
+    pub whos: Vec<usize>,
+    pub slots: Vec<usize>,
+    pub by_who: Chains,
+    pub by_slot: Chains,
+    ghost whos_chained: { AreChains whos.items by_who.heads.items by_who.nexts.items },
+    ghost slots_chained: { AreChains slots.items by_slot.heads.items by_slot.nexts.items },
+}
+
+/// How many cells lists have, to set aside room for them.
+fn count(lists: &[Slots]) -> usize {
+    let mut count: usize = 0;
+    for list in lists {
+        count = count.saturating_add(list.as_slice().len());
+    }
+    count
+}
+
+/// Puts the cells of a demand at the end.
+fn add(
+    whos: &mut Vec<usize>,
+    slots: &mut Vec<usize>,
+    i: usize,
+    list: &[usize],
+) -> Result<(), Memory>
+    ensures whos { OnOk result (whos.new.items ≡ whos.old.items ++ replicate (length list.now) i) }
+    ensures slots { OnOk result (slots.new.items ≡ slots.old.items ++ list.now) }
+{
+    slots.extend_from_slice(list)?;
+    for _ in 0..list.len() {
+        whos.push(i)?;
+    }
+    Ok(())
+}
+
+impl Cells {
+    /// The cells of lists of slots below m.
+    pub(crate) fn of(alloc: Global, lists: &[Slots], m: usize) -> Result<Cells, Memory>
+        requires exist { All (All (λ s. s < m)) lists.now }
+        ensures whos { IfOk result (λ r. r.whos.items ≡ owners 0 lists.now) }
+        ensures slots { IfOk result (λ r. r.slots.items ≡ joined lists.now) }
+    {
+        let count = count(lists);
+        let mut whos = Vec::with_capacity(alloc, count)?;
+        let mut slots = Vec::with_capacity(alloc, count)?;
+        for (i, list) in lists.iter().enumerate() {
+            add(&mut whos, &mut slots, i, list.as_slice())?;
+        }
+        let by_who = Chains::of(alloc, lists.len(), &whos)?;
+        let by_slot = Chains::of(alloc, m, &slots)?;
+        Ok(Cells {
+            whos,
+            slots,
+            by_who,
+            by_slot,
+        })
+    }
+
+    /// A copy.
+    pub(crate) fn copy(&self, alloc: Global) -> Result<Cells, Memory>
+        ensures whos { IfOk result (λ r. r.whos.items ≡ self.now.whos.items) }
+        ensures slots { IfOk result (λ r. r.slots.items ≡ self.now.slots.items) }
+    {
+        Ok(Cells {
+            whos: Vec::from_slice(alloc, &self.whos)?,
+            slots: Vec::from_slice(alloc, &self.slots)?,
+            by_who: self.by_who.copy(alloc)?,
+            by_slot: self.by_slot.copy(alloc)?,
+        })
+    }
+
+    /// Nothing on each cell.
+    pub(crate) fn nothing(&self, alloc: Global) -> Result<Vec<i128>, Memory>
+        ensures { IfOk result (λ y. y.items ≡ replicate (length self.now.whos.items) (pos 0)) }
+    {
+        let y = vec![in alloc; 0; self.whos.len()]?;
+        Ok(y)
+    }
+}

@@ -1,0 +1,108 @@
+// Amounts for other demands, found beside a split that stands, in memory of their own: either those of the split itself, of which
+// nothing is lacking, or amounts by which other demands over the same lists are met.
+ghost use Rattle.std.specs.Prelude.{◌≡◌, length, OnOk, MatchResult};
+ghost use Rattle.std.specs.List.{All};
+ghost use Rattle.sfm_split.specs.Splits.{IsAmount, IsCapacity, AreDemands};
+ghost use Rattle.sfm_split.specs.Cells.{AreMet};
+ghost use Rattle.sfm_split.specs.Search.{AreLeft};
+ghost use Rattle.sfm_split.specs.Lowers.{IsCharge, AreSmall};
+ghost use Rattle.sfm_split.specs.Ends.{IsAssignEnd};
+
+use crate::demand::Demand;
+use crate::left::Lefts;
+use crate::lower::{shift, write_more};
+use crate::splitting::{AssignEnd, Shares, settle};
+use crate::work::{Work, copy_list, write_zeros};
+use sfm_base::Memory;
+use std::alloc::Global;
+
+/// What the demands of a split are to be, and what its slots are to hold at most.
+#[derive(Clone, Copy, Debug)]
+pub struct Aim<'a> {
+    pub demands: &'a [i128],
+    pub capacities: &'a [i128],
+}
+
+/// Writes what amounts on cells leave of other demands and capacities, by what their slots have left of those that they meet: below
+/// nothing where it is too much.
+fn charge(
+    left: &mut Lefts,
+    demand: &Demand,
+    shares: &Shares,
+    rooms: &[i128],
+    aim: &Aim,
+) -> Result<(), Memory>
+    requires sized { length aim.now.demands.now ≡ length demand.now.demands }
+    requires slots { length aim.now.capacities.now ≡ length demand.now.capacities }
+    requires amounts { All IsAmount aim.now.demands.now }
+    requires bounded { All IsCapacity aim.now.capacities.now }
+    requires met { AreMet demand.now shares.now.cells.whos.items shares.now.cells.slots.items shares.now.y.items }
+    requires left { AreLeft demand.now.capacities shares.now.cells.slots.items shares.now.y.items rooms.now }
+    ensures charge { OnOk result (IsCharge aim.now.demands.now aim.now.capacities.now shares.now.cells.whos.items shares.now.cells.slots.items shares.now.y.items left.new.lacks.items left.new.rooms.items) }
+    ensures lacks { OnOk result (AreSmall left.new.lacks.items) }
+    ensures rooms { OnOk result (AreSmall left.new.rooms.items) }
+{
+    write_more(&mut left.lacks, aim.demands, demand.demands())?;
+    copy_list(&mut left.rooms, rooms)?;
+    shift(&mut left.rooms, aim.capacities, demand.capacities());
+    Ok(())
+}
+
+/// Finds amounts by which other demands are met, over the same lists and with other capacities, and what slots then have left. The
+/// split that stands meets the demands, and its slots have these rooms.
+///
+/// # Errors
+///
+/// `Shortage` where there is no split of them, `Memory` where there is none.
+pub fn find_amounts(
+    alloc: Global,
+    work: &mut Work,
+    demand: &Demand,
+    shares: &Shares,
+    rooms: &[i128],
+    aim: &Aim,
+) -> Result<(), AssignEnd>
+    requires sized { length aim.now.demands.now ≡ length demand.now.demands }
+    requires slots { length aim.now.capacities.now ≡ length demand.now.capacities }
+    requires sound { AreDemands (record { demands = aim.now.demands.now; lists = demand.now.lists; capacities = aim.now.capacities.now }) }
+    requires met { AreMet demand.now shares.now.cells.whos.items shares.now.cells.slots.items shares.now.y.items }
+    requires left { AreLeft demand.now.capacities shares.now.cells.slots.items shares.now.y.items rooms.now }
+    ensures met { MatchResult result (λ _. AreMet (record { demands = aim.now.demands.now; lists = demand.now.lists; capacities = aim.now.capacities.now }) shares.now.cells.whos.items shares.now.cells.slots.items work.new.y.items) (IsAssignEnd aim.now.demands.now demand.now.lists aim.now.capacities.now) }
+    ensures lacks { OnOk result (AreLeft aim.now.demands.now shares.now.cells.whos.items work.new.y.items work.new.left.lacks.items) }
+    ensures rooms { OnOk result (AreLeft aim.now.capacities.now shares.now.cells.slots.items work.new.y.items work.new.left.rooms.items) }
+{
+    charge(&mut work.left, demand, shares, rooms, aim)?;
+    copy_list(&mut work.y, &shares.y)?;
+    let told = settle(
+        alloc,
+        &shares.cells,
+        &mut work.rest,
+        &mut work.left,
+        &mut work.y,
+    )?;
+    if let Some(set) = told {
+        return Err(AssignEnd::Shortage { set });
+    }
+    Ok(())
+}
+
+/// Writes the amounts of a split that meets its demands, and what its slots have left; of the demands nothing is lacking.
+///
+/// # Errors
+///
+/// `Memory` where there is none.
+pub fn begin(
+    work: &mut Work,
+    demand: &Demand,
+    shares: &Shares,
+    rooms: &[i128],
+) -> Result<(), Memory>
+    requires met { AreMet demand.now shares.now.cells.whos.items shares.now.cells.slots.items shares.now.y.items }
+    ensures amounts { OnOk result (work.new.y.items ≡ shares.now.y.items) }
+    ensures lacks { OnOk result (AreLeft demand.now.demands shares.now.cells.whos.items shares.now.y.items work.new.left.lacks.items) }
+    ensures rooms { OnOk result (work.new.left.rooms.items ≡ rooms.now) }
+{
+    write_zeros(&mut work.left.lacks, demand.demands())?;
+    copy_list(&mut work.left.rooms, rooms)?;
+    copy_list(&mut work.y, &shares.y)
+}

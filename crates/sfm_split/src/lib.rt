@@ -1,0 +1,30 @@
+// Demands split over slots: each demand over the slots of its own list, no slot above its capacity. Amounts are raised from nothing,
+// or from those of a split of other demands; a split that is kept while what is asked changes stands in sfm_assign.
+#![tactic(auto)]
+
+mod augment;
+mod cells;
+mod chains;
+mod change;
+mod demand;
+mod fill;
+mod grown;
+mod left;
+mod lower;
+mod nodes;
+mod pour;
+mod search;
+mod split;
+mod splitting;
+mod work;
+
+pub use cells::Cells;
+pub use chains::Chains;
+pub use change::{Aim, begin, find_amounts};
+pub use demand::Demand;
+pub use grown::raise_most;
+pub use left::{Lefts, left_of};
+pub use nodes::Link;
+pub use split::Split;
+pub use splitting::{AssignEnd, Shares, assign, met_shares};
+pub use work::Work;

@@ -1,0 +1,172 @@
+// A split of all demands, or a set of them that asks for more than its slots have. The amounts on the cells are raised as far as
+// they go; where a demand still lacks something, those that were found ask for too much.
+ghost use Rattle.std.specs.Prelude.{◌≡◌, IfOk, MatchResult};
+ghost use Rattle.sfm_split.specs.Splits.{AreDemands, IsAssignment};
+ghost use Rattle.sfm_split.specs.Cells.{joined, owners, IsPart, AreMet};
+ghost use Rattle.sfm_split.specs.Search.{ListsLacking};
+ghost use Rattle.sfm_split.specs.Pours.{AreWithin, AreRaised, IsToldOf};
+ghost use Rattle.sfm_split.specs.Lowers.{AreCharged, AreSettled};
+ghost use Rattle.sfm_split.specs.Ends.{IsAssignEnd};
+
+use crate::cells::Cells;
+use crate::demand::Demand;
+use crate::fill::fill_from;
+use crate::left::{Lefts, lefts_of};
+use crate::lower::lower_all;
+use crate::nodes::found_set;
+use crate::pour::pour;
+use crate::split::Split;
+use crate::work::Rest;
+use sfm_base::{Memory, Set};
+use std::alloc::Global;
+
+/// Why demands are not split.
+#[derive(Debug, Drop)]
+pub enum AssignEnd {
+    /// The demands of the set together ask for more than their slots have, each slot counted once.
+    Shortage { set: Set },
+    /// Want of memory.
+    Memory,
+}
+
+impl From<Memory> for AssignEnd {
+    ghost use Rattle.sfm_split.specs.declared.splitting.AssignEnd.TheVariants.{Memory};
+
+    ghost from_gives = { λ _ e. e ≡ Memory };
+
+    fn from(_: Memory) -> Self {
+        AssignEnd::Memory
+    }
+}
+
+/// The cells of demands, and the amount on each.
+#[derive(Drop)]
+pub struct Shares {
+    pub cells: Cells,
+    pub y: Vec<i128>,
+}
+
+impl Shares {
+    /// A copy.
+    ///
+    /// # Errors
+    ///
+    /// `Memory` where there is none.
+    pub fn copy(&self, alloc: Global) -> Result<Shares, Memory>
+        ensures whos { IfOk result (λ r. r.cells.whos.items ≡ self.now.cells.whos.items) }
+        ensures slots { IfOk result (λ r. r.cells.slots.items ≡ self.now.cells.slots.items) }
+        ensures amounts { IfOk result (λ r. r.y.items ≡ self.now.y.items) }
+    {
+        Ok(Shares {
+            cells: self.cells.copy(alloc)?,
+            y: Vec::from_slice(alloc, &self.y)?,
+        })
+    }
+}
+
+/// Raises amounts by searches until each demand gets what it asks for; or, where one still lacks something, tells a closed set with
+/// all that do. What is left is kept with them.
+fn search_all(
+    alloc: Global,
+    cells: &Cells,
+    rest: &mut Rest,
+    left: &mut Lefts,
+    y: &mut [i128],
+) -> Result<Option<Set>, Memory>
+    requires within { AreWithin cells.now.whos.items cells.now.slots.items y.old left.old.lacks.items left.old.rooms.items }
+    requires listed { ListsLacking left.old.lacks.items left.old.lacking.items }
+    ensures raised { IfOk result (λ _. AreRaised cells.now.whos.items cells.now.slots.items y.old left.old.lacks.items left.old.rooms.items y.new left.new.lacks.items left.new.rooms.items) }
+    ensures told { IfOk result (IsToldOf cells.now.whos.items cells.now.slots.items y.new left.new.lacks.items left.new.rooms.items) }
+{
+    let search = fill_from(alloc, cells, rest, left, y)?;
+    if left.first_lacking().is_some() {
+        let set = found_set(alloc, &search.nodes)?;
+        rest.keep(search);
+        return Ok(Some(set));
+    }
+    rest.keep(search);
+    Ok(None)
+}
+
+/// Raises amounts until each demand gets what it asks for, first cell by cell, then by searches; or tells a closed set with all
+/// that still lack something.
+fn raise_all(
+    alloc: Global,
+    cells: &Cells,
+    rest: &mut Rest,
+    left: &mut Lefts,
+    y: &mut [i128],
+) -> Result<Option<Set>, Memory>
+    requires within { AreWithin cells.now.whos.items cells.now.slots.items y.old left.old.lacks.items left.old.rooms.items }
+    ensures raised { IfOk result (λ _. AreRaised cells.now.whos.items cells.now.slots.items y.old left.old.lacks.items left.old.rooms.items y.new left.new.lacks.items left.new.rooms.items) }
+    ensures told { IfOk result (IsToldOf cells.now.whos.items cells.now.slots.items y.new left.new.lacks.items left.new.rooms.items) }
+{
+    pour(cells, left, y);
+    left.list_lacking()?;
+    let set = search_all(alloc, cells, rest, left, y)?;
+    Ok(set)
+}
+
+/// Lowers the amounts that are too much, then raises amounts by searches until each demand gets what it asks for; or tells a
+/// closed set with all that still lack something.
+pub(crate) fn settle(
+    alloc: Global,
+    cells: &Cells,
+    rest: &mut Rest,
+    left: &mut Lefts,
+    y: &mut [i128],
+) -> Result<Option<Set>, Memory>
+    requires charged { AreCharged cells.now.whos.items cells.now.slots.items y.old left.old.lacks.items left.old.rooms.items }
+    ensures { IfOk result (AreSettled cells.now.whos.items cells.now.slots.items y.old left.old.lacks.items left.old.rooms.items y.new left.new.lacks.items left.new.rooms.items) }
+{
+    lower_all(cells, left, y);
+    left.list_lacking()?;
+    let set = search_all(alloc, cells, rest, left, y)?;
+    Ok(set)
+}
+
+/// Amounts raised until each demand gets what it asks for.
+pub(crate) fn raised(alloc: Global, demand: &Demand, shares: Shares) -> Result<Shares, AssignEnd>
+    requires in_order { shares.cells.whos.items ≡ owners 0 demand.now.lists }
+    requires in_lists { shares.cells.slots.items ≡ joined demand.now.lists }
+    requires part { IsPart demand.now.demands demand.now.capacities shares.cells.whos.items shares.cells.slots.items shares.y.items }
+    ensures sound { IfOk result (λ _. AreDemands demand.now) }
+    ensures shares { MatchResult result (λ r. AreMet demand.now r.cells.whos.items r.cells.slots.items r.y.items) (IsAssignEnd demand.now.demands demand.now.lists demand.now.capacities) }
+{
+    let Shares { cells, mut y } = shares;
+    let demands = demand.demands();
+    let mut left = lefts_of(alloc, &cells, demands, demand.capacities(), &y)?;
+    let mut rest = Rest::new(alloc);
+    if let Some(set) = raise_all(alloc, &cells, &mut rest, &mut left, &mut y)? {
+        return Err(AssignEnd::Shortage { set });
+    }
+    Ok(Shares { cells, y })
+}
+
+/// Amounts by which each demand gets what it asks for.
+///
+/// # Errors
+///
+/// `Shortage` where there is no split; `Memory` where there is none.
+pub fn met_shares(alloc: Global, demand: &Demand) -> Result<Shares, AssignEnd>
+    ensures sound { IfOk result (λ _. AreDemands demand.now) }
+    ensures shares { MatchResult result (λ r. AreMet demand.now r.cells.whos.items r.cells.slots.items r.y.items) (IsAssignEnd demand.now.demands demand.now.lists demand.now.capacities) }
+{
+    let cells = Cells::of(alloc, demand.lists(), demand.capacities().len())?;
+    let y = cells.nothing(alloc)?;
+    let shares = raised(alloc, demand, Shares { cells, y })?;
+    Ok(shares)
+}
+
+/// Splits each demand over its slots, no slot getting more than its capacity.
+///
+/// # Errors
+///
+/// `Shortage` where there is no split; `Memory` where there is none.
+pub fn assign(alloc: Global, demand: &Demand) -> Result<Split, AssignEnd>
+    ensures { MatchResult result (IsAssignment demand.now.demands demand.now.lists demand.now.capacities) (IsAssignEnd demand.now.demands demand.now.lists demand.now.capacities) }
+{
+    let shares = met_shares(alloc, demand)?;
+    let split = Split::cut(alloc, demand.lists(), &shares.y)?;
+    Ok(split)
+}
