@@ -1,4 +1,4 @@
-use Rattle.std.proofs.Common.{rules, FitsSigned}
+use Rattle.std.proofs.Common.{FitsSigned}
 use Rattle.std.proofs.lemmas.Int.{to_z-of_z}
 use mir.Syntax.{w128}
 use Rattle.sfm_laminar.proofs.Leasts.{least_first}
@@ -7,8 +7,8 @@ use Rattle.sfm_laminar.proofs.laminar.Laminar.least_entry.Goals as goal
 pub returns : goal.returns
 returns c =
     let fq : FitsSigned w128 c.args.q = c.ranges.q in
-    let fm : FitsSigned w128 c.place_most.result = search rules in
-    let fl : FitsSigned w128 c.least_left.result = search rules in
+    let fm : FitsSigned w128 c.place_most.result = record { sfits = c.place_most.type_inv } in
+    let fl : FitsSigned w128 c.least_left.result = record { sfits = c.least_left.type_inv } in
     let most = simp to_z-of_z at c.place_most.ensures.value in
     let is = rw most at (simp to_z-of_z at c.least_left.ensures) in
     simp to_z-of_z (least_first _ _ _ _ _ _ _ is)

@@ -1,4 +1,4 @@
-use Rattle.std.proofs.Common.{◌≡◌, ◌∙◌, arith, rules, FitsSigned, to_z, of_z, ℤ}
+use Rattle.std.proofs.Common.{◌≡◌, ◌∙◌, arith, FitsSigned, to_z, of_z, ℤ}
 use Rattle.std.proofs.lemmas.Bool.{both_ways}
 use Rattle.std.proofs.lemmas.Int.{to_z-of_z}
 use mir.Syntax.{w128}
@@ -10,7 +10,7 @@ use Rattle.sfm_laminar.proofs.laminar.Laminar.least_left.Goals.{then-not-has, el
 pub loop-i-init : goal.loop-i-init
 loop-i-init c =
     let fq : FitsSigned w128 c.args.q = c.ranges.q in
-    let fl : FitsSigned w128 c.least_entry-least.result = search rules in
+    let fl : FitsSigned w128 c.least_entry-least.result = record { sfits = c.least_entry-least.type_inv } in
     let entry = simp to_z-of_z at c.least_entry-least.ensures in
     simp to_z-of_z (least_begin _ _ _ _ _ _ _ _ entry)
 
@@ -30,8 +30,8 @@ loop-i-preserved c =
     let here = holder_at s.groups es u i c.holders-holders.ensures.exact c.loop-i-test.true in
     elim c.if-not-has.branch [
       | then-not-has w ↦
-          (let fs : FitsSigned w128 w.slack_by.result = search rules in
-          let fm : FitsSigned w128 w.min-least.result = search rules in
+          (let fs : FitsSigned w128 w.slack_by.result = record { sfits = w.slack_by.type_inv } in
+          let fm : FitsSigned w128 w.min-least.result = record { sfits = w.min-least.type_inv } in
           let is : to_z w128 c.if-not-has.least-bits ≡ w.min-least.result = w.least-is ∙ to_z-of_z w128 w.min-least.result fm in
           let b = to_z-of_z w128 w.slack_by.result fs ∙ w.slack_by.ensures in
           rw is (least_with q s.w s.groups x es u v i _ _ _ inv here.0 (here.1, λ h. both_ways c.has.result w.if-not-has.true (c.has.ensures.member.1 h)) b w.min-least.ensures.value))

@@ -1,4 +1,4 @@
-use Rattle.std.proofs.Common.{ℕ, ◌<◌, length, get_or, pos, ℤ, ◌+ℤ◌, ◌-ℤ◌, arith, rules, FitsSigned}
+use Rattle.std.proofs.Common.{ℕ, ◌<◌, length, get_or, pos, ℤ, ◌+ℤ◌, ◌-ℤ◌, arith, FitsSigned}
 use Rattle.std.proofs.lemmas.Int.{to_z-of_z}
 use mir.Syntax.{w128}
 use Rattle.sfm_laminar.specs.Crossing.{group_at}
@@ -23,7 +23,7 @@ loop-i-preserved c =
     let lt : i < length old = omega (arith, c.loop-i-test.true, c.loop-i.invariant.places) in
     let fh : FitsSigned w128 (get_or c.loop-i.slacks i (pos 0)) = bound_fits _ (still_small old c.loop-i.slacks i lt c.loop-i.invariant.rest c.requires.small) in
     let fa : FitsSigned w128 a = c.ranges.a in
-    let fr : FitsSigned w128 c.moved_slack.result = search rules in
+    let fr : FitsSigned w128 c.moved_slack.result = record { sfits = c.moved_slack.type_inv } in
     let inv = simp to_z-of_z at c.loop-i.invariant in
     let e = rw (inv.rest i (omega arith)) at (simp to_z-of_z at c.moved_slack.ensures) in
     let to : ℕ → ℤ = λ i. (get_or old i (pos 0) -ℤ share_of (length s.places) (group_at s.groups i) c.args.u a) +ℤ share_of (length s.places) (group_at s.groups i) c.args.v a in

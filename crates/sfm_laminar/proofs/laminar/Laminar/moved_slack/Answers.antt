@@ -1,4 +1,4 @@
-use Rattle.std.proofs.Common.{◌+ℤ◌, ◌-ℤ◌, arith, rules, FitsSigned}
+use Rattle.std.proofs.Common.{◌+ℤ◌, ◌-ℤ◌, arith, FitsSigned}
 use Rattle.std.proofs.lemmas.Int.{ints, to_z-of_z}
 use mir.Syntax.{w128}
 use Rattle.sfm_laminar.proofs.laminar.Laminar.moved_slack.Goals as goal
@@ -8,8 +8,8 @@ returns c =
     let r = c.requires in
     let fs : FitsSigned w128 c.args.slack = c.ranges.slack in
     let fa : FitsSigned w128 c.args.a = c.ranges.a in
-    let fl : FitsSigned w128 c.share_in.result = search rules in
-    let fm : FitsSigned w128 c.share_in-2.result = search rules in
+    let fl : FitsSigned w128 c.share_in.result = record { sfits = c.share_in.type_inv } in
+    let fm : FitsSigned w128 c.share_in-2.result = record { sfits = c.share_in-2.type_inv } in
     let less = simp to_z-of_z at c.share_in.ensures in
     let more = simp to_z-of_z at c.share_in-2.ensures in
     let fd : FitsSigned w128 (c.args.slack -ℤ c.share_in.result) = omega (arith, ints, r.small.low, r.small.high, less.low, less.high, r.high) in

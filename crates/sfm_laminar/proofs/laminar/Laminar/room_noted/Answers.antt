@@ -1,4 +1,4 @@
-use Rattle.std.proofs.Common.{rules, length, ◌<◌, FitsSigned}
+use Rattle.std.proofs.Common.{length, ◌<◌, FitsSigned}
 use Rattle.std.proofs.lemmas.Int.{to_z-of_z}
 use mir.Syntax.{w128}
 use Rattle.sfm_laminar.proofs.Exchanges.{laminar-capacity}
@@ -12,7 +12,7 @@ returns c =
     let r = c.requires in
     let s = c.args.self.now in
     let fq : FitsSigned w128 c.args.q = c.ranges.q in
-    let fl : FitsSigned w128 c.least_left.result = search rules in
+    let fl : FitsSigned w128 c.least_left.result = record { sfits = c.least_left.type_inv } in
     let is = simp to_z-of_z at c.least_left.ensures in
     let ku : c.args.u < length s.places = rw (← r.entries) r.from in
     let kv : c.args.v < length s.places = rw (← r.entries) r.onto in

@@ -1,4 +1,4 @@
-use Rattle.std.proofs.Common.{◌∙◌, false, length, get_or, ap, sym, rules, FitsSigned}
+use Rattle.std.proofs.Common.{◌∙◌, false, length, get_or, ap, sym, FitsSigned}
 use Rattle.std.proofs.lemmas.Int.{to_z-of_z}
 use mir.Syntax.{w128}
 use Rattle.sfm_rank.proofs.Terms.{share-in, share-out}
@@ -21,7 +21,7 @@ pub returns : goal.returns
 returns c =
     let s = c.args.self.now in
     let fq : FitsSigned w128 c.args.q = c.ranges.q in
-    let fm : FitsSigned w128 c.place_most.result = search rules in
+    let fm : FitsSigned w128 c.place_most.result = record { sfits = c.place_most.type_inv } in
     let most = simp to_z-of_z at c.place_most.ensures.value in
     let has = ap (λ t. get_or t c.args.j false) (sym s.based) ∙ (sym c.contains.ensures ∙ c.if-not-contains.false) in
     simp to_z-of_z (most ∙ sym (share-in c.args.q s.w (basis_of (length s.places) s.groups) c.args.j has))

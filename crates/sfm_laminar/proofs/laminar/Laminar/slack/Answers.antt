@@ -1,4 +1,4 @@
-use Rattle.std.proofs.Common.{◌≡◌, ◌∙◌, ◌*ℤ◌, ◌-ℤ◌, length, ap, pos, rules, FitsSigned}
+use Rattle.std.proofs.Common.{◌≡◌, ◌∙◌, ◌*ℤ◌, ◌-ℤ◌, length, ap, pos, FitsSigned}
 use Rattle.std.specs.Int.{int_min}
 use Rattle.std.proofs.lemmas.Int.{to_z-of_z}
 use mir.Syntax.{w128}
@@ -10,8 +10,8 @@ use Rattle.sfm_laminar.proofs.laminar.Laminar.slack.Goals as goal
 
 pub overflow_sub-result : goal.overflow_sub-result
 overflow_sub-result c =
-    let fb : FitsSigned w128 c.bound.result = search rules in
-    let fs : FitsSigned w128 c.sum_listed.result = search rules in
+    let fb : FitsSigned w128 c.bound.result = record { sfits = c.bound.type_inv } in
+    let fs : FitsSigned w128 c.sum_listed.result = record { sfits = c.sum_listed.type_inv } in
     simp to_z-of_z (difference_fits _ _ c.bound.ensures.small c.sum_listed.ensures.small)
 
 pub returns : goal.returns
@@ -20,9 +20,9 @@ returns c =
     let g = group_at s.groups c.args.i in
     let q = c.args.q in
     let fq : FitsSigned w128 q = c.ranges.q in
-    let fp : FitsSigned w128 c.place_most.result = search rules in
-    let fb : FitsSigned w128 c.bound.result = search rules in
-    let fs : FitsSigned w128 c.sum_listed.result = search rules in
+    let fp : FitsSigned w128 c.place_most.result = record { sfits = c.place_most.type_inv } in
+    let fb : FitsSigned w128 c.bound.result = record { sfits = c.bound.type_inv } in
+    let fs : FitsSigned w128 c.sum_listed.result = record { sfits = c.sum_listed.type_inv } in
     let fd : FitsSigned w128 (c.bound.result -ℤ c.sum_listed.result) = difference_fits _ _ c.bound.ensures.small c.sum_listed.ensures.small in
     let p = simp to_z-of_z at c.place_most.ensures.value in
     let b = simp to_z-of_z at c.bound.ensures.value in

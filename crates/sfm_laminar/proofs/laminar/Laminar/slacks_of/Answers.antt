@@ -1,4 +1,4 @@
-use Rattle.std.proofs.Common.{◌≡◌, ◌∙◌, ℤ, pos, length, arith, rules, FitsSigned}
+use Rattle.std.proofs.Common.{◌≡◌, ◌∙◌, ℤ, pos, length, arith, FitsSigned}
 use Rattle.std.proofs.lemmas.Int.{to_z-of_z}
 use mir.Syntax.{w128}
 use Rattle.sfm_laminar.specs.Crossing.{group_at}
@@ -10,7 +10,7 @@ pub loop-i-preserved : goal.loop-i-preserved
 loop-i-preserved c =
     let s = c.args.self.now in
     let fq : FitsSigned w128 c.args.q = c.ranges.q in
-    let fs : FitsSigned w128 c.slack.result = search rules in
+    let fs : FitsSigned w128 c.slack.result = record { sfits = c.slack.type_inv } in
     let inv = simp to_z-of_z at c.loop-i.invariant in
     let e = simp to_z-of_z at c.slack.ensures in
     rw c.in_ok-push.ensures.items (simp to_z-of_z (made_more ℤ (pos 0) (λ p. slack_of c.args.q s.w c.args.x.now (group_at s.groups p)) c.loop-i.i c.loop-i.slacks.items c.slack.result inv e))

@@ -1,6 +1,10 @@
-use Rattle.std.proofs.Common.{◌∙◌, List, length, true, ap, sym, subst}
+use Rattle.std.proofs.Common.{◌∙◌, List, length, pos, ◌≤ℤ◌, true, refl, ap, sym, subst}
 use Rattle.std.specs.List.{All}
+use Rattle.std.proofs.lemmas.Int.{to_z-of_z}
 use Rattle.std.proofs.lemmas.List.{length-replicate}
+use Rattle.std.proofs.lemmas.Result.{IfOk-from_err}
+use mir.Syntax.{w128}
+use Rattle.sfm_spec.specs.Bounds.{IsGiven}
 use Rattle.sfm_spec.specs.Kinds.{Group}
 use Rattle.sfm_base.proofs.Elements.{placed_few}
 use Rattle.sfm_laminar.specs.Groups.{IsGroup, AreGroups}
@@ -40,3 +44,36 @@ invariant_of-result-clause-indexed c = rw c.in_ok-places.ensures c.in_ok-index.e
 
 pub invariant_of-result-clause-masked : goal.invariant_of-result-clause-masked
 invariant_of-result-clause-masked c = rw c.in_ok-places.ensures c.in_ok-masks.ensures
+
+pub invariant_of-result-clause-elements : goal.invariant_of-result-clause-elements
+invariant_of-result-clause-elements c = rw c.in_ok-places.ensures c.requires.elements
+
+pub invariant_of-result-clause-low : goal.invariant_of-result-clause-low
+invariant_of-result-clause-low c = subst (λ z. pos 0 ≤ℤ z) (sym (to_z-of_z w128 c.args.w c.ranges.w)) c.requires.low
+
+pub invariant_of-result-clause-given : goal.invariant_of-result-clause-given
+invariant_of-result-clause-given c = subst IsGiven (sym (to_z-of_z w128 c.args.w c.ranges.w)) c.requires.given
+
+pub new-requires-2 : goal.new-requires-2
+new-requires-2 c = record { below = c.requires.below }
+
+pub grow-requires-clause-indexed : goal.grow-requires-clause-indexed
+grow-requires-clause-indexed c = rw (ap length c.in_ok-all.ensures ∙ length-replicate (length c.args.elements.now) true) c.in_ok-index.ensures
+
+pub returns : goal.returns
+returns c = (c.in_ok-places.ensures, to_z-of_z w128 c.args.w c.ranges.w, refl)
+
+pub returns-in_err-places : goal.returns-in_err-places
+returns-in_err-places c = IfOk-from_err _ _ c.from_residual.ensures.0
+
+pub returns-in_err-all : goal.returns-in_err-all
+returns-in_err-all c = IfOk-from_err _ _ c.from_residual-in_err-all.ensures.0
+
+pub returns-in_err-index : goal.returns-in_err-index
+returns-in_err-index c = IfOk-from_err _ _ c.from_residual-in_err-index.ensures.0
+
+pub returns-in_err-basis : goal.returns-in_err-basis
+returns-in_err-basis c = IfOk-from_err _ _ c.from_residual-in_err-basis.ensures.0
+
+pub returns-in_err-masks : goal.returns-in_err-masks
+returns-in_err-masks c = IfOk-from_err _ _ c.from_residual-in_err-masks.ensures.0
