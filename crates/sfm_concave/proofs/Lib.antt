@@ -2,6 +2,7 @@ pub mod Above
 pub mod Bases
 pub mod ConcaveBars
 pub mod ConcaveRooms
+pub mod Ends
 pub mod Increments
 pub mod LeastSoFar
 pub mod Ranks

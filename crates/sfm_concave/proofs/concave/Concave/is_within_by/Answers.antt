@@ -1,4 +1,4 @@
-use Rattle.std.proofs.Common.{◌≡◌, ◌≤◌, get_or, pos, refl, arith, rules, FitsSigned, ⊎_elim}
+use Rattle.std.proofs.Common.{◌≡◌, ◌≤◌, get_or, pos, refl, arith, FitsSigned, ⊎_elim}
 use Rattle.std.proofs.lemmas.Bool.{false≢true, cases_lt}
 use Rattle.std.proofs.lemmas.Int.{ints, to_z-of_z}
 use Rattle.std.proofs.lemmas.List.Elements.{All-get_or}
@@ -16,7 +16,7 @@ pub returns-then-slack_above-lt0 : goal.returns-then-slack_above-lt0
 returns-then-slack_above-lt0 c =
     let fq : FitsSigned w128 c.args.q = c.ranges.q in
     let fa = entry (goal.at.returns-then-slack_above-lt0 c).After-slack_above in
-    let fs : FitsSigned w128 c.slack_above.result = search rules in
+    let fs : FitsSigned w128 c.slack_above.result = record { sfits = c.slack_above.type_inv } in
     let e = simp to_z-of_z at c.slack_above.ensures in
     let less = simp to_z-of_z at c.if-slack_above-lt0.true in
     ((λ t. absurd (false≢true t)), (λ all. let z = all c.loop-a.a-index c.loop-a-test.true in absurd (omega (arith, ints, less, e, z))))
@@ -26,7 +26,7 @@ loop-a-preserved c =
     let i = c.loop-a.a-index in
     let fq : FitsSigned w128 c.args.q = c.ranges.q in
     let fa = entry (goal.at.loop-a-preserved c).After-slack_above in
-    let fs : FitsSigned w128 c.slack_above.result = search rules in
+    let fs : FitsSigned w128 c.slack_above.result = record { sfits = c.slack_above.type_inv } in
     let e = simp to_z-of_z at c.slack_above.ensures in
     let some = simp to_z-of_z at c.if-slack_above-lt0.false in
     let inv = simp to_z-of_z at c.loop-a.invariant in

@@ -1,4 +1,4 @@
-use Rattle.std.proofs.Common.{◌≤◌, ◌-◌, ◌∙◌, length, get_or, pos, sym, arith, rules, FitsSigned}
+use Rattle.std.proofs.Common.{◌≤◌, ◌-◌, ◌∙◌, length, get_or, pos, sym, arith, FitsSigned}
 use Rattle.std.proofs.lemmas.Int.{to_z-of_z}
 use Rattle.std.proofs.lemmas.List.Elements.{All-get_or}
 use mir.Syntax.{w128}
@@ -16,7 +16,7 @@ loop-i-init c =
     let r = c.requires in
     let y = c.args.ranking.sorted.now in
     let fq : FitsSigned w128 c.args.q = c.ranges.q in
-    let fs : FitsSigned w128 c.slack_without-least.result = search rules in
+    let fs : FitsSigned w128 c.slack_without-least.result = record { sfits = c.slack_without-least.type_inv } in
     let e = simp to_z-of_z at c.slack_without-least.ensures in
     simp to_z-of_z (
       least_begin (scaled c.args.q c.args.self.now.values) c.args.x.now c.args.u c.args.v r.from r.onto r.apart y (length y) (length y) _ (omega arith) e,
@@ -34,7 +34,7 @@ loop-i-preserved c =
     let few : length x ≤ 256 = omega (arith, r.entries, c.args.self.now.few) in
     let small = ranked_small x y c.args.ranking.sums.now r.ranked few r.small in
     let fa : FitsSigned w128 (get_or y (i - 1) (pos 0)) = entry_fits _ (All-get_or IsEntry y (i - 1) (pos 0) (omega (arith, more)) small) in
-    let fl : FitsSigned w128 c.lesser_slack-least.result = search rules in
+    let fl : FitsSigned w128 c.lesser_slack-least.result = record { sfits = c.lesser_slack-least.type_inv } in
     let own = simp to_z-of_z at c.share_between-share.ensures in
     let m = simp to_z-of_z at (c.lesser_slack-least.ensures (above_between (get_or y (i - 1) (pos 0)) x c.args.u c.args.v) own) in
     let inv = simp to_z-of_z at c.loop-i.invariant in

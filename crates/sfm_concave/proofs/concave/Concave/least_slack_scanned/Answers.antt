@@ -1,4 +1,4 @@
-use Rattle.std.proofs.Common.{◌∙◌, get_or, pos, refl, sym, arith, rules, FitsSigned}
+use Rattle.std.proofs.Common.{◌∙◌, get_or, pos, refl, sym, arith, FitsSigned}
 use Rattle.std.proofs.lemmas.Int.{to_z-of_z}
 use Rattle.std.proofs.lemmas.List.Elements.{All-get_or}
 use mir.Syntax.{w128}
@@ -14,7 +14,7 @@ pub loop-a-init : goal.loop-a-init
 loop-a-init c =
     let r = c.requires in
     let fq : FitsSigned w128 c.args.q = c.ranges.q in
-    let fs : FitsSigned w128 c.slack_without-least.result = search rules in
+    let fs : FitsSigned w128 c.slack_without-least.result = record { sfits = c.slack_without-least.type_inv } in
     let e = simp to_z-of_z at c.slack_without-least.ensures in
     simp to_z-of_z (least_begin (scaled c.args.q c.args.self.now.values) c.args.x.now c.args.u c.args.v r.from r.onto r.apart c.args.x.now 0 0 _ (omega arith) e)
 
@@ -25,7 +25,7 @@ loop-a-preserved c =
     let i = c.loop-a.a-index in
     let fq : FitsSigned w128 c.args.q = c.ranges.q in
     let fa : FitsSigned w128 (get_or x i (pos 0)) = entry_fits _ (All-get_or IsEntry x i (pos 0) c.loop-a-test.true r.small) in
-    let fl : FitsSigned w128 c.lesser_slack-least.result = search rules in
+    let fl : FitsSigned w128 c.lesser_slack-least.result = record { sfits = c.lesser_slack-least.type_inv } in
     let own = simp to_z-of_z at c.share_between-share.ensures in
     let m = simp to_z-of_z at (c.lesser_slack-least.ensures (above_between (get_or x i (pos 0)) x c.args.u c.args.v) own) in
     let inv = simp to_z-of_z at c.loop-a.invariant in

@@ -19,7 +19,7 @@ returns c =
     let h = scaled c.args.q c.args.self.now.values in
     let rest = c.share_from-rest in
     let fq : FitsSigned w128 c.args.q = c.ranges.q in
-    let fn : FitsSigned w128 c.scaled.result = search rules in
+    let fn : FitsSigned w128 c.scaled.result = record { sfits = c.scaled.type_inv } in
     let fr : FitsSigned w128 rest.result.sum = search rules in
     let fd = difference_fits _ _ c.scaled.ensures.small rest.ensures.sum.1 in
     let value = simp to_z-of_z at c.scaled.ensures.value in

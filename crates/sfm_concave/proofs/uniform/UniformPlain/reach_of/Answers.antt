@@ -1,4 +1,4 @@
-use Rattle.std.proofs.Common.{◌∙◌, ◌*ℤ◌, ◌≤ℤ◌, ◌<ℤ◌, get_or, pos, arith, rules, FitsSigned}
+use Rattle.std.proofs.Common.{◌∙◌, ◌*ℤ◌, ◌≤ℤ◌, ◌<ℤ◌, get_or, pos, arith, FitsSigned}
 use Rattle.std.proofs.lemmas.Int.{ints, to_z-of_z}
 use mir.Syntax.{w128}
 use Rattle.sfm_law.proofs.Entries.{fits_at}
@@ -16,7 +16,7 @@ returns-then-x-u-clause-reached c =
     let s = c.args.self.now in
     let fq : FitsSigned w128 c.args.q = c.ranges.q in
     let fa = entry (goal.at.returns-then-x-u-clause-reached c).After-most in
-    let fm : FitsSigned w128 c.most.result = search rules in
+    let fm : FitsSigned w128 c.most.result = record { sfits = c.most.type_inv } in
     let most = simp to_z-of_z at c.most.ensures.value in
     let h = simp to_z-of_z at c.if-x-u.true in
     let full : c.most.result ≤ℤ get_or c.args.x.now c.args.u (pos 0) = omega (arith, ints, h) in
@@ -28,8 +28,17 @@ returns-clause-reached c =
     let s = c.args.self.now in
     let fq : FitsSigned w128 c.args.q = c.ranges.q in
     let fa = entry (goal.at.returns-clause-reached c).After-most in
-    let fm : FitsSigned w128 c.most.result = search rules in
+    let fm : FitsSigned w128 c.most.result = record { sfits = c.most.type_inv } in
     let most = simp to_z-of_z at c.most.ensures.value in
     let h = simp to_z-of_z at c.if-x-u.false in
     let lacks : get_or c.args.x.now c.args.u (pos 0) <ℤ (c.args.q *ℤ s.w) = omega (arith, ints, h, most) in
     uniform-reach_over c.args.q s.w s.cap r.factor.low s.low c.args.x.now r.base c.args.u r.from lacks c.put_others_over.new.to (c.put_others_over.ensures.places ∙ r.room_for_answer) c.put_others_over.ensures.over
+
+pub returns-clause-places : goal.returns-clause-places
+returns-clause-places c = c.put_others_over.ensures.places
+
+pub put_others_over-requires-clause-small : goal.put_others_over-requires-clause-small
+put_others_over-requires-clause-small c = c.requires.small
+
+pub put_others_over-requires-clause-room_for_answer : goal.put_others_over-requires-clause-room_for_answer
+put_others_over-requires-clause-room_for_answer c = c.requires.room_for_answer
