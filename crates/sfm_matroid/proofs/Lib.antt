@@ -11,6 +11,7 @@ mod Lending
 mod Noted
 mod SlotNotes
 mod Fits
+mod Passed
 mod Kept
 mod Labels
 mod CutForms

@@ -1,23 +1,16 @@
 -- How the code tells tails.
-use Rattle.std.proofs.Common.{◌≡◌, ℕ, zero, suc, Bool, true, List, [], ◌∷◌, nat_eq, IsTrue, ◌↔◌, sym, arith, ⊎_elim}
-use Rattle.std.specs.List.{list_any}
-use Rattle.std.proofs.lemmas.Bool.{eq-eqb, eqb-true, or_cases, or_left, or_right, false≢true}
+use Rattle.std.proofs.Common.{◌≡◌, ◌≢◌, ℕ, ◌<◌, List, length, get_or, sym, ap, ◌∙◌, arith}
+use Rattle.sfm_spec.specs.Kinds.{Edge}
 use Rattle.sfm_matroid.specs.Ends.{edges_of}
 use Rattle.sfm_matroid.specs.Numbered.{IsTail}
+use Rattle.sfm_matroid.proofs.Labels.{length-edges}
+use Rattle.sfm_matroid.proofs.Numbering.{pair-edge}
 
-abbrev pub has_tail : ℕ → ℕ × ℕ → Bool
-has_tail a pair = nat_eq pair.0 a
+pub tail_at : (pairs : List (ℕ × ℕ)) (a e : ℕ) → e < length pairs → (get_or pairs e (0, 0)).0 ≡ a → IsTail (edges_of pairs) a
+tail_at pairs a e lt is = (e, (let l = length-edges pairs in omega (arith, l, lt)), sym is ∙ sym (ap (λ (edge : Edge). edge.tail) (pair-edge pairs e lt)))
 
-pub tail_test : (pairs : List (ℕ × ℕ)) (a : ℕ) → IsTrue (list_any (has_tail a) pairs) ↔ IsTail (edges_of pairs) a
-tail_test pairs a = (there pairs, here pairs) where
-  there : (pairs : List (ℕ × ℕ)) → list_any (has_tail a) pairs ≡ true → IsTail (edges_of pairs) a
-  there [] t = absurd (false≢true t)
-  there (pair ∷ pairs) t = ⊎_elim
-      (λ first. (0, omega arith, sym (eqb-true pair.0 a first)))
-      (λ rest. let (e, lt, is) = there pairs rest in (suc e, omega arith, is))
-      (or_cases (has_tail a pair) (list_any (has_tail a) pairs) t)
-
-  here : (pairs : List (ℕ × ℕ)) → IsTail (edges_of pairs) a → list_any (has_tail a) pairs ≡ true
-  here [] (e, lt, is) = absurd (omega (arith, lt))
-  here (pair ∷ pairs) (zero, lt, is) = or_left (has_tail a pair) (list_any (has_tail a) pairs) (eq-eqb pair.0 a (sym is))
-  here (pair ∷ pairs) (suc e, lt, is) = or_right (has_tail a pair) (list_any (has_tail a) pairs) (here pairs (e, omega arith, is))
+pub no_tail : (pairs : List (ℕ × ℕ)) (a : ℕ) → ((e : ℕ) → e < length pairs → (get_or pairs e (0, 0)).0 ≢ a) → IsTail (edges_of pairs) a → ⊥
+no_tail pairs a none (e, lt, is) =
+    let l = length-edges pairs in
+    let le : e < length pairs = omega (arith, l, lt) in
+    none e le (sym (is ∙ ap (λ (edge : Edge). edge.tail) (pair-edge pairs e le)))

@@ -103,10 +103,15 @@ pub(crate) fn brought(
 }
 
 /// Whether a vertex is the tail of an edge.
-fn is_tail(graph: &Graph, a: usize) -> bool
-    ensures { IsTrue result ↔ IsTail (edges_of graph.now.ends.items) a }
+fn is_tail(ends: &[(usize, usize)], a: usize) -> bool
+    ensures { IsTrue result ↔ IsTail (edges_of ends.now) a }
 {
-    graph.ends.iter().any(|pair| pair.0 == a)
+    for pair in ends {
+        if pair.0 == a {
+            return true;
+        }
+    }
+    false
 }
 
 /// Whether no edges get more than a number for each of their ends but a, if that is a tail: told by a split over the ends,
@@ -128,7 +133,7 @@ fn passes_tail(
     ensures told { IfOk result (λ r. IsTrue r ↔ (IsTail (edges_of graph.now.ends.items) a → IsWithinEnds (edges_of graph.now.ends.items) graph.now.vertices most x.now a)) }
     ensures over { IfOk result (λ r. IsTrue r → IsOverEnds (edges_of graph.now.ends.items) graph.now.vertices kept.new.demand) }
 {
-    if !is_tail(graph, a) {
+    if !is_tail(&graph.ends, a) {
         return Ok(true);
     }
     let passed = brought(alloc, graph, kept, x, most, a)?;
