@@ -6,7 +6,7 @@ use Rattle.std.proofs.lemmas.Int.{ints}
 use Rattle.std.proofs.lemmas.List.{length-replicate, set-get_or}
 use Rattle.std.specs.List.{All}
 use mir.Syntax.{w128}
-use Rattle.sfm_assign.specs.Splits.{amount_at, CanBeMet}
+use Rattle.sfm_assign.specs.Splits.{amount_at, CanBeMet, Demands}
 use Rattle.sfm_assign.specs.Lenders.{with_more, IsMostUpto}
 use Rattle.sfm_spec.specs.Sets.{Has, empty_set, intersection, size, sum_over}
 use Rattle.sfm_spec.specs.Kinds.{IsMatchable}
@@ -18,6 +18,7 @@ use Rattle.sfm_rank.specs.Terms.{at_places}
 use Rattle.sfm_rank.proofs.Terms.{at_places-length, at_places-at}
 use Rattle.sfm_rank.proofs.Growing.{is_grown, next-out}
 use Rattle.sfm_matroid.specs.Matchings.{matching-matroid}
+use Rattle.sfm_matroid.specs.Matched.{IsMatchedTo}
 use Rattle.sfm_matroid.specs.Notes.{slot_demands}
 use Rattle.sfm_matroid.specs.Slots.{slots_count, have_slots, above_slots, suited}
 use Rattle.sfm_matroid.specs.Ore.{AreSlotsBelow, matched_slots, matchable_by_slots}
@@ -148,3 +149,41 @@ module _ (entries : List (List ℕ)) (s : List Bool) (n : ℕ) where
 
     pub suited-same : get_or s n false ≡ false → t ≡ suited entries s (n + 1)
     suited-same out = let e : n + 1 ≡ suc n = omega arith in rw (e, out) is
+
+-- ---- a place more
+
+module _ (entries : List (List ℕ)) (s : List Bool) (e : ℕ) (lt : e < length entries) (t : List Bool) (d : Demands) (h : IsMatchedTo entries s e t d) where
+  is_out : get_or t e false ≡ false
+  is_out = ap (λ t. get_or t e false) h.taken ∙ suited-out entries s e lt
+
+  pub matched_place : e < length d.demands
+  matched_place = let n = ap (λ (d : Demands). length d.demands) h.split ∙ (at_places-length (pos 1) t ∙ h.places) in omega (arith, n, lt)
+
+  pub matched_none : amount_at d.demands e ≡ pos 0
+  matched_none = ap (λ (d : Demands). amount_at d.demands e) h.split ∙ ones-out t e is_out
+
+  -- one that is not in s
+  pub matched_pass : get_or s e false ≡ false → IsMatchedTo entries s (e + 1) t d
+  matched_pass out = record { m = h.m; below = h.below; places = h.places; taken = suited-same entries s e t h.taken out; split = h.split }
+
+  module _ (g : ℤ) (most : IsMostUpto d e (pos 1) g) where
+    upto : IsMostUpto (slot_demands entries h.m (pos 1) (at_places (pos 1) t)) e (pos 1) g
+    upto = rw h.split at most
+
+    pub matched_take : Has s e → g ≡ pos 1 → IsMatchedTo entries s (e + 1) (set t e true) (with_more d e g)
+    matched_take has one = record {
+      m = h.m;
+      below = h.below;
+      places = length-set t e true ∙ h.places;
+      taken = suited-taken entries s e t h.taken has (grown-suits entries h.m h.below t h.places e is_out g upto one);
+      split = ap (λ d. with_more d e g) h.split ∙ grown-taken entries h.m h.below t h.places e is_out g upto one;
+    }
+
+    pub matched_leave : g ≢ pos 1 → IsMatchedTo entries s (e + 1) t (with_more d e g)
+    matched_leave ne = record {
+      m = h.m;
+      below = h.below;
+      places = h.places;
+      taken = suited-left entries s e t h.taken (grown-not entries h.m h.below t h.places e is_out g upto ne);
+      split = ap (λ d. with_more d e g) h.split ∙ grown-left entries h.m h.below t h.places e is_out g upto ne;
+    }

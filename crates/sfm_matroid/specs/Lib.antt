@@ -6,6 +6,7 @@ pub mod Numbered
 pub mod Cuts
 pub mod Givers
 pub mod Notes
+pub mod Matched
 pub mod Counting
 pub mod Runs
 pub mod Trails

@@ -18,7 +18,7 @@ ghost use Rattle.sfm_matroid.specs.GraphicLaws.{graphic-family, graphic-submodul
 use crate::ends::Ends;
 use crate::givers::row;
 use crate::graph::{Graph, numbered};
-use crate::growing::{grow, whole};
+use crate::growing::{basis_of, grow};
 use crate::order::by_tails;
 use crate::ranked::{adds_up, cap_of, worth, write_start};
 use crate::room::{limit_of, moved, second_of, without};
@@ -74,8 +74,7 @@ impl Graphic {
         ensures ends { IfOk result (λ r. r.ends ≡ edges_of ends.now) }
     {
         let places = Places::from_slice(alloc, elements)?;
-        let all = whole(alloc, ends.len())?;
-        let basis = grow(alloc, ends, &all)?;
+        let basis = basis_of(alloc, ends)?;
         let graph = numbered(alloc, ends)?;
         let order = by_tails(alloc, &graph)?;
         let ends = Ends::from_slice(alloc, ends)?;

@@ -3,23 +3,11 @@
 // that of its head wherever it stands, so labels are equal exactly where a trail of taken edges joins the ends. No table of
 // vertices is needed, and k edges take k·k steps at most.
 ghost use Rattle.std.specs.Prelude.{◌≡◌, ◌<◌, true, length, map, slice_set, nat_eq, if◌then◌else◌, IfOk};
-ghost use Rattle.sfm_spec.specs.Sets.{whole_set};
-ghost use Rattle.sfm_matroid.specs.Graphs.{renamed, taken};
+ghost use Rattle.sfm_matroid.specs.Graphs.{graphic_basis, renamed, taken};
 ghost use Rattle.sfm_matroid.specs.Ends.{edges_of, both_renamed, labels_at};
 
 use sfm_base::{Memory, Set};
 use std::alloc::Global;
-
-/// All of k places.
-pub(crate) fn whole(alloc: Global, k: usize) -> Result<Set, Memory>
-    ensures { IfOk result (λ s. s ≡ whole_set k) }
-{
-    let mut s = Set::empty(alloc, k)?;
-    for e in 0..k {
-        s.insert(e);
-    }
-    Ok(s)
-}
 
 /// A label, or another where it is the one that goes.
 fn renamed(from: u32, to: u32, label: u32) -> u32
@@ -65,4 +53,13 @@ pub(crate) fn grow(alloc: Global, ends: &[(u32, u32)], s: &Set) -> Result<Set, M
         }
     }
     Ok(t)
+}
+
+/// The edges that are taken one after another where all may be.
+pub(crate) fn basis_of(alloc: Global, ends: &[(u32, u32)]) -> Result<Set, Memory>
+    ensures { IfOk result (λ t. t ≡ graphic_basis (edges_of ends.now)) }
+{
+    let all = Set::whole(alloc, ends.len())?;
+    let basis = grow(alloc, ends, &all)?;
+    Ok(basis)
 }

@@ -1,11 +1,12 @@
 // The test that tells what slots of entries may hold: each element is a demand that is split over the slots of its entry, of
 // which each holds the same number at most. Where slots hold 1 each, places with a demand of 1 have slots of their own; so places
 // are taken one after another by one split, in which each in turn is raised to 1 if the others leave it a slot.
-ghost use Rattle.std.specs.Prelude.{◌≡◌, ◌↔◌, ◌<◌, ◌≤◌, ◌^◌, length, replicate, pos, IfOk, IsTrue};
+ghost use Rattle.std.specs.Prelude.{◌≡◌, ◌↔◌, ◌+◌, ◌<◌, ◌≤◌, ◌^◌, length, replicate, pos, IfOk, IsTrue, OnOk};
 ghost use Rattle.std.specs.List.{All};
 ghost use Rattle.sfm_assign.specs.Splits.{CanBeMet};
+ghost use Rattle.sfm_matroid.specs.Matched.{IsMatchedTo};
 ghost use Rattle.sfm_matroid.specs.Notes.{AreSlotAmounts, slot_demands};
-ghost use Rattle.sfm_matroid.specs.Slots.{suited};
+ghost use Rattle.sfm_matroid.specs.Slots.{suited, transversal_basis};
 
 use crate::entries::Entries;
 use crate::splits::split_of;
@@ -67,6 +68,19 @@ fn untaken(alloc: Global, entries: &Entries, m: usize) -> Result<Kept, Memory>
     Ok(kept)
 }
 
+/// Takes a place of a set to t, if the split of those that are taken can give it a slot too.
+fn take(alloc: Global, kept: &mut Kept, s: &Set, t: &mut Set, e: usize) -> Result<(), Memory>
+    requires sized { length s.now ≡ length kept.old.demand.lists }
+    requires place { e < length s.now }
+    requires taken { IsMatchedTo kept.old.demand.lists s.now e t.old kept.old.demand }
+    ensures { OnOk result (IsMatchedTo kept.old.demand.lists s.now (e + 1) t.new kept.new.demand) }
+{
+    if s.contains(e) && kept.grow(alloc, e, 1)? == 1 {
+        t.insert(e);
+    }
+    Ok(())
+}
+
 /// The places of a set that are taken one after another while their slots suffice: a place is taken where the split of those
 /// that are taken can give it a slot too.
 pub(crate) fn matched(alloc: Global, entries: &Entries, s: &Set) -> Result<Set, Memory>
@@ -75,13 +89,20 @@ pub(crate) fn matched(alloc: Global, entries: &Entries, s: &Set) -> Result<Set, 
     ensures places { IfOk result (λ t. length t ≡ length s.now) }
     ensures taken { IfOk result (λ t. t ≡ suited entries.now s.now (length entries.now)) }
 {
-    let m = entries.above();
-    let mut kept = untaken(alloc, entries, m)?;
+    let mut kept = untaken(alloc, entries, entries.above())?;
     let mut t = Set::empty(alloc, s.len())?;
     for e in 0..s.len() {
-        if s.contains(e) && kept.grow(alloc, e, 1)? == 1 {
-            t.insert(e);
-        }
+        take(alloc, &mut kept, s, &mut t, e)?;
     }
     Ok(t)
+}
+
+/// The places that are taken one after another where all may be.
+pub(crate) fn basis_of(alloc: Global, entries: &Entries) -> Result<Set, Memory>
+    requires { length entries.now ≤ 256 }
+    ensures { IfOk result (λ t. t ≡ transversal_basis entries.now) }
+{
+    let all = Set::whole(alloc, entries.len())?;
+    let basis = matched(alloc, entries, &all)?;
+    Ok(basis)
 }

@@ -15,8 +15,7 @@ ghost use Rattle.sfm_matroid.specs.TransversalLaws.{transversal-family, transver
 
 use crate::entries::Entries;
 use crate::givers::row;
-use crate::growing::whole;
-use crate::matching::{can_be_met, matched, slot_demand};
+use crate::matching::{basis_of, can_be_met, matched, slot_demand};
 use crate::ranked::{adds_up, cap_of, worth, write_start};
 use crate::room::{limit_of, moved, second_of, without};
 use crate::splits::{SlotSplit, bring_split, keep_spare, slot_split};
@@ -64,8 +63,7 @@ impl Transversal {
         ensures entries { IfOk result (λ r. r.entries ≡ entries) }
     {
         let places = Places::from_slice(alloc, elements)?;
-        let all = whole(alloc, elements.len())?;
-        let basis = matched(alloc, &entries, &all)?;
+        let basis = basis_of(alloc, &entries)?;
         Ok(Transversal {
             places,
             w,

@@ -1,12 +1,12 @@
-use Rattle.std.proofs.Common.{◌∙◌, length, pos, ◌≤ℤ◌, ap, sym, subst, arith}
+use Rattle.std.proofs.Common.{◌∙◌, length, ap, sym, arith}
 use Rattle.std.proofs.lemmas.Int.{to_z-of_z}
 use mir.Syntax.{w128}
-use Rattle.sfm_spec.specs.Bounds.{IsGiven}
 use Rattle.sfm_law.proofs.Fits.{given_fits}
 use Rattle.sfm_base.proofs.Elements.{placed_few}
+use Rattle.sfm_matroid.specs.Graphs.{graphic_basis}
 use Rattle.sfm_matroid.specs.Numbered.{numbered, vertex_count}
+use Rattle.sfm_matroid.proofs.Passed.{given_passed, low_passed}
 use Rattle.sfm_matroid.proofs.Labels.{length-edges}
-use Rattle.sfm_matroid.proofs.Kept.{basis_from}
 use Rattle.sfm_matroid.proofs.graphic.Graphic.new.Goals as goal
 
 pub numbered-requires : goal.numbered-requires
@@ -19,7 +19,7 @@ pub invariant_of-result-clause-same_count : goal.invariant_of-result-clause-same
 invariant_of-result-clause-same_count c = ap length c.in_ok-ends.ensures ∙ (length-edges c.args.ends.now ∙ (c.requires.same_count ∙ ap length (sym c.in_ok-places.ensures)))
 
 pub invariant_of-result-clause-based : goal.invariant_of-result-clause-based
-invariant_of-result-clause-based c = basis_from c.args.ends.now _ _ _ c.in_ok-ends.ensures c.in_ok-all.ensures c.in_ok-basis.ensures.taken
+invariant_of-result-clause-based c = c.in_ok-basis.ensures ∙ ap graphic_basis (sym c.in_ok-ends.ensures)
 
 pub invariant_of-result-clause-of_ends : goal.invariant_of-result-clause-of_ends
 invariant_of-result-clause-of_ends c = c.in_ok-graph.ensures.ends ∙ ap numbered (sym c.in_ok-ends.ensures)
@@ -31,10 +31,10 @@ pub invariant_of-result-clause-elements : goal.invariant_of-result-clause-elemen
 invariant_of-result-clause-elements c = rw c.in_ok-places.ensures c.requires.elements
 
 pub invariant_of-result-clause-low : goal.invariant_of-result-clause-low
-invariant_of-result-clause-low c = subst (λ z. pos 0 ≤ℤ z) (sym (to_z-of_z w128 c.args.w (given_fits c.args.w c.requires.given))) c.requires.low
+invariant_of-result-clause-low c = low_passed c.args.w c.requires.given c.requires.low
 
 pub invariant_of-result-clause-given : goal.invariant_of-result-clause-given
-invariant_of-result-clause-given c = subst IsGiven (sym (to_z-of_z w128 c.args.w (given_fits c.args.w c.requires.given))) c.requires.given
+invariant_of-result-clause-given c = given_passed c.args.w c.requires.given
 
 pub returns-clause-places : goal.returns-clause-places
 returns-clause-places c = c.in_ok-places.ensures

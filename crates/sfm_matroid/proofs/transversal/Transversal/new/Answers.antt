@@ -1,11 +1,9 @@
-use Rattle.std.proofs.Common.{◌∙◌, length, pos, ◌≤ℤ◌, ap, sym, subst, arith}
+use Rattle.std.proofs.Common.{◌∙◌, length, ap, refl, sym, arith}
 use Rattle.std.proofs.lemmas.Int.{to_z-of_z}
 use mir.Syntax.{w128}
-use Rattle.sfm_spec.specs.Bounds.{IsGiven}
 use Rattle.sfm_law.proofs.Fits.{given_fits}
 use Rattle.sfm_base.proofs.Elements.{placed_few}
-use Rattle.sfm_spec.specs.Sets.{whole_set}
-use Rattle.sfm_matroid.specs.Slots.{suited}
+use Rattle.sfm_matroid.proofs.Passed.{given_passed, low_passed}
 use Rattle.sfm_matroid.proofs.transversal.Transversal.new.Goals as goal
 
 pub invariant_of-result-clause-few : goal.invariant_of-result-clause-few
@@ -15,22 +13,25 @@ pub invariant_of-result-clause-same_count : goal.invariant_of-result-clause-same
 invariant_of-result-clause-same_count c = c.requires.same_count ∙ ap length (sym c.in_ok-places.ensures)
 
 pub invariant_of-result-clause-based : goal.invariant_of-result-clause-based
-invariant_of-result-clause-based c = c.in_ok-basis.ensures.taken ∙ ap (λ s. suited c.args.entries s (length c.args.entries)) (c.in_ok-all.ensures ∙ ap whole_set (sym c.requires.same_count))
+invariant_of-result-clause-based c = c.in_ok-basis.ensures
 
-pub matched-requires-clause-few : goal.matched-requires-clause-few
-matched-requires-clause-few c = let h = placed_few 256 c.args.elements.now c.requires.elements.placed in omega (arith, h, c.requires.same_count)
+pub basis_of-requires : goal.basis_of-requires
+basis_of-requires c = let h = placed_few 256 c.args.elements.now c.requires.elements.placed in omega (arith, h, c.requires.same_count)
 
 pub invariant_of-result-clause-elements : goal.invariant_of-result-clause-elements
 invariant_of-result-clause-elements c = rw c.in_ok-places.ensures c.requires.elements
 
 pub invariant_of-result-clause-low : goal.invariant_of-result-clause-low
-invariant_of-result-clause-low c = subst (λ z. pos 0 ≤ℤ z) (sym (to_z-of_z w128 c.args.w (given_fits c.args.w c.requires.given))) c.requires.low
+invariant_of-result-clause-low c = low_passed c.args.w c.requires.given c.requires.low
 
 pub invariant_of-result-clause-given : goal.invariant_of-result-clause-given
-invariant_of-result-clause-given c = subst IsGiven (sym (to_z-of_z w128 c.args.w (given_fits c.args.w c.requires.given))) c.requires.given
+invariant_of-result-clause-given c = given_passed c.args.w c.requires.given
 
 pub returns-clause-places : goal.returns-clause-places
 returns-clause-places c = c.in_ok-places.ensures
 
 pub returns-clause-number : goal.returns-clause-number
 returns-clause-number c = to_z-of_z w128 c.args.w (given_fits c.args.w c.requires.given)
+
+pub returns-clause-entries : goal.returns-clause-entries
+returns-clause-entries c = refl
