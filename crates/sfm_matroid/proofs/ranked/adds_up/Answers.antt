@@ -4,6 +4,7 @@ use Rattle.std.proofs.lemmas.Int.{to_z-of_z}
 use mir.Syntax.{w128}
 use Rattle.sfm_law.proofs.Fits.{given_more, product_fits, product_high}
 use Rattle.sfm_matroid.proofs.Fits.{product_is, within_amounts}
+use Rattle.sfm_matroid.proofs.Passed.{factor_passed, more_passed}
 use Rattle.sfm_matroid.proofs.ranked.adds_up.Goals as goal
 
 pub returns-then-not-are_within-clause-told : goal.returns-then-not-are_within-clause-told
@@ -34,3 +35,24 @@ returns-clause-amounts c =
     let r = c.requires in
     let told = returns-clause-told c in
     λ h. within_amounts c.args.x.now (c.args.q *ℤ c.args.w) (product_high c.args.q c.args.w r.factor r.given) (told.0 h).0
+
+pub returns-then-not-are_within-clause-amounts : goal.returns-then-not-are_within-clause-amounts
+returns-then-not-are_within-clause-amounts c = λ t. absurd (false≢true t)
+
+pub product-most-requires-clause-factor : goal.product-most-requires-clause-factor
+product-most-requires-clause-factor c = factor_passed c.args.q c.ranges.q c.requires.factor
+
+pub product-most-requires-clause-given : goal.product-most-requires-clause-given
+product-most-requires-clause-given c = more_passed c.args.w c.requires.given
+
+pub product-sum-requires-clause-factor : goal.product-sum-requires-clause-factor
+product-sum-requires-clause-factor c = factor_passed c.args.q c.ranges.q c.requires.factor
+
+pub product-sum-requires-clause-given : goal.product-sum-requires-clause-given
+product-sum-requires-clause-given c = let fl : FitsSigned w128 c.args.whole = c.ranges.whole in simp to_z-of_z c.requires.whole
+
+pub has_sum-requires-clause-few : goal.has_sum-requires-clause-few
+has_sum-requires-clause-few c = c.requires.few
+
+pub has_sum-requires-clause-small : goal.has_sum-requires-clause-small
+has_sum-requires-clause-small c = c.requires.small

@@ -1,4 +1,4 @@
-use Rattle.std.proofs.Common.{◌*ℤ◌, FitsSigned}
+use Rattle.std.proofs.Common.{◌*ℤ◌, refl, FitsSigned}
 use Rattle.std.proofs.lemmas.Int.{to_z-of_z}
 use mir.Syntax.{w128}
 use Rattle.sfm_law.proofs.Fits.{rank_fits, rank_small}
@@ -19,3 +19,11 @@ returns-clause-small c =
     let small = rank_small c.args.w c.args.count r.low r.given r.none r.few in
     let f : FitsSigned w128 (c.args.w *ℤ c.args.count) = rank_fits (c.args.w *ℤ c.args.count) small in
     simp to_z-of_z small
+
+pub returns-clause-value : goal.returns-clause-value
+returns-clause-value c =
+    let r = c.requires in
+    let fw : FitsSigned w128 c.args.w = c.ranges.w in
+    let fc : FitsSigned w128 c.args.count = c.ranges.count in
+    let f : FitsSigned w128 (c.args.w *ℤ c.args.count) = rank_fits (c.args.w *ℤ c.args.count) (rank_small c.args.w c.args.count r.low r.given r.none r.few) in
+    simp to_z-of_z refl

@@ -1,9 +1,8 @@
-use Rattle.std.proofs.Common.{◌∙◌, [], set, pos, ◌*ℤ◌, length, refl, sym, ap, arith, rules, FitsSigned, length-set, ◌≤ℤ◌, ◌^◌, subst}
-use Rattle.std.proofs.lemmas.Int.{ints, to_z-of_z}
+use Rattle.std.proofs.Common.{◌≡◌, ◌∙◌, [], set, pos, ◌*ℤ◌, length, refl, sym, ap, arith, rules, FitsSigned, length-set}
+use Rattle.std.proofs.lemmas.Int.{to_z-of_z}
 use mir.Syntax.{w128}
-use Rattle.sfm_spec.specs.Bounds.{IsGiven}
-use Rattle.sfm_law.proofs.Fits.{given_fits}
 use Rattle.sfm_matroid.proofs.Fits.{IsAsked, product_is, raise_upto}
+use Rattle.sfm_matroid.proofs.Passed.{cap_high, cap_low, factor_passed, given_passed, low_passed}
 use Rattle.sfm_matroid.proofs.GraphicBases.{capped_base}
 use Rattle.sfm_matroid.proofs.GraphicRooms.{end_vertex, rest_split, grown_capacity}
 use Rattle.sfm_matroid.specs.Numbered.{numbered, vertex_count}
@@ -97,22 +96,44 @@ returns-clause-noted c =
     let over = over_grown (numbered s.ends) (vertex_count s.ends) (c.args.q *ℤ s.w) (set x c.args.v (pos 0)) c.end_near-root.result _ c.grow_from.new.self.demand c.args.u _ sized refl more in
     note_with (numbered s.ends) (vertex_count s.ends) (c.args.q *ℤ s.w) x c.take_kept-spare.new.note.root c.take_kept-spare.new.note.kept _ stays over
 
+pub cap_of-cap-requires-clause-factor : goal.cap_of-cap-requires-clause-factor
+cap_of-cap-requires-clause-factor c = factor_passed c.args.q c.ranges.q c.requires.factor
+
 pub cap_of-cap-requires-clause-low : goal.cap_of-cap-requires-clause-low
-cap_of-cap-requires-clause-low c = let s = c.args.self.now in subst (λ z. pos 0 ≤ℤ z) (sym (to_z-of_z w128 s.w (given_fits s.w s.given))) s.low
+cap_of-cap-requires-clause-low c = let s = c.args.self.now in low_passed s.w s.given s.low
 
 pub cap_of-cap-requires-clause-given : goal.cap_of-cap-requires-clause-given
-cap_of-cap-requires-clause-given c = let s = c.args.self.now in subst IsGiven (sym (to_z-of_z w128 s.w (given_fits s.w s.given))) s.given
+cap_of-cap-requires-clause-given c = let s = c.args.self.now in given_passed s.w s.given
 
 pub limit_of-limit-requires-clause-low : goal.limit_of-limit-requires-clause-low
-limit_of-limit-requires-clause-low c =
-    let low = c.cap_of-cap.ensures.low in
-    let high = c.cap_of-cap.ensures.high in
-    let fc : FitsSigned w128 c.cap_of-cap.result = omega (arith, ints, low, high) in
-    subst (λ z. pos 0 ≤ℤ z) (sym (to_z-of_z w128 c.cap_of-cap.result fc)) low
+limit_of-limit-requires-clause-low c = let cap = c.cap_of-cap.ensures in cap_low c.cap_of-cap.result cap.low cap.high
 
 pub limit_of-limit-requires-clause-high : goal.limit_of-limit-requires-clause-high
-limit_of-limit-requires-clause-high c =
-    let low = c.cap_of-cap.ensures.low in
-    let high = c.cap_of-cap.ensures.high in
-    let fc : FitsSigned w128 c.cap_of-cap.result = omega (arith, ints, low, high) in
-    subst (λ z. z ≤ℤ pos (10 ^ 24)) (sym (to_z-of_z w128 c.cap_of-cap.result fc)) high
+limit_of-limit-requires-clause-high c = let cap = c.cap_of-cap.ensures in cap_high c.cap_of-cap.result cap.low cap.high
+
+pub limit_of-limit-requires-clause-from : goal.limit_of-limit-requires-clause-from
+limit_of-limit-requires-clause-from c = c.requires.from
+
+pub limit_of-limit-requires-clause-onto : goal.limit_of-limit-requires-clause-onto
+limit_of-limit-requires-clause-onto c = c.requires.onto
+
+pub grow_from-requires-clause-lists : goal.grow_from-requires-clause-lists
+grow_from-requires-clause-lists c = c.in_ok-kept.ensures.lists
+
+-- what the vertices hold, and what they held
+slots : (c : After-aim-1) → length c.deref-2.result.now ≡ length c.take_kept-spare.new.note.kept.demand.capacities
+slots c =
+    let r = c.requires in
+    let kept = ap (λ k. length k.demand.capacities) c.take_kept-spare.ensures.kept ∙ (ap (λ d. length d.capacities) r.noted.split ∙ length-vertices _ _ _) in
+    ap length (asked c).capacities_are ∙ (length-vertices _ _ _ ∙ sym kept)
+
+pub grow_from-requires-clause-slots : goal.grow_from-requires-clause-slots
+grow_from-requires-clause-slots c = slots c ∙ sym c.in_ok-kept.ensures.slots
+
+pub grow_from-requires-clause-other_slots : goal.grow_from-requires-clause-other_slots
+grow_from-requires-clause-other_slots c = slots c
+
+pub grow_from-requires-clause-place : goal.grow_from-requires-clause-place
+grow_from-requires-clause-place c =
+    let l = ap length (asked c).demands_are ∙ length-set c.args.x.now c.args.v (pos 0) in
+    omega (arith, l, c.requires.from)

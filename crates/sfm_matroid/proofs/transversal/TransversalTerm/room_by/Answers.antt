@@ -1,12 +1,13 @@
-use Rattle.std.proofs.Common.{◌∙◌, ◌*ℤ◌, length, set, pos, ap, sym, rules, to_z, FitsSigned, ◌≤ℤ◌, ◌^◌, subst, arith}
-use Rattle.std.proofs.lemmas.Int.{ints, to_z-of_z}
+use Rattle.std.proofs.Common.{◌≡◌, ◌∙◌, ◌*ℤ◌, length, set, pos, ap, sym, rules, to_z, FitsSigned, arith, length-set}
+use Rattle.std.proofs.lemmas.Int.{to_z-of_z}
+use Rattle.std.proofs.lemmas.List.{length-replicate}
 use Rattle.std.proofs.lemmas.List.Elements.{All-replicate}
 use mir.Syntax.{w128}
-use Rattle.sfm_spec.specs.Bounds.{IsGiven}
 use Rattle.sfm_assign.specs.Splits.{IsCapacity}
-use Rattle.sfm_law.proofs.Fits.{given_fits, product_low}
+use Rattle.sfm_law.proofs.Fits.{product_low}
 use Rattle.sfm_matroid.specs.Notes.{slot_demands}
 use Rattle.sfm_matroid.proofs.Fits.{IsAsked, product_is, raise_upto}
+use Rattle.sfm_matroid.proofs.Passed.{cap_high, cap_low, factor_passed, given_passed, low_passed}
 use Rattle.sfm_matroid.proofs.TransversalBases.{held_base, rest_met, grown_capacity, no_capacity}
 use Rattle.sfm_matroid.proofs.SlotNotes.{over_grown}
 use Rattle.sfm_matroid.proofs.transversal.TransversalTerm.room_by.Goals.{After-aim-1}
@@ -96,22 +97,43 @@ returns-clause-noted c =
       spare = over_grown s.entries r.noted.m (c.args.q *ℤ s.w) c.args.x.now c.args.u c.args.v c.in_ok-most.most c.grow_from.new.self (r.entries ∙ sym s.same_count) grown;
     }
 
+pub cap_of-cap-requires-clause-factor : goal.cap_of-cap-requires-clause-factor
+cap_of-cap-requires-clause-factor c = factor_passed c.args.q c.ranges.q c.requires.factor
+
 pub cap_of-cap-requires-clause-low : goal.cap_of-cap-requires-clause-low
-cap_of-cap-requires-clause-low c = let s = c.args.self.now in subst (λ z. pos 0 ≤ℤ z) (sym (to_z-of_z w128 s.w (given_fits s.w s.given))) s.low
+cap_of-cap-requires-clause-low c = let s = c.args.self.now in low_passed s.w s.given s.low
 
 pub cap_of-cap-requires-clause-given : goal.cap_of-cap-requires-clause-given
-cap_of-cap-requires-clause-given c = let s = c.args.self.now in subst IsGiven (sym (to_z-of_z w128 s.w (given_fits s.w s.given))) s.given
+cap_of-cap-requires-clause-given c = let s = c.args.self.now in given_passed s.w s.given
 
 pub limit_of-limit-requires-clause-low : goal.limit_of-limit-requires-clause-low
-limit_of-limit-requires-clause-low c =
-    let low = c.cap_of-cap.ensures.low in
-    let high = c.cap_of-cap.ensures.high in
-    let fc : FitsSigned w128 c.cap_of-cap.result = omega (arith, ints, low, high) in
-    subst (λ z. pos 0 ≤ℤ z) (sym (to_z-of_z w128 c.cap_of-cap.result fc)) low
+limit_of-limit-requires-clause-low c = let cap = c.cap_of-cap.ensures in cap_low c.cap_of-cap.result cap.low cap.high
 
 pub limit_of-limit-requires-clause-high : goal.limit_of-limit-requires-clause-high
-limit_of-limit-requires-clause-high c =
-    let low = c.cap_of-cap.ensures.low in
-    let high = c.cap_of-cap.ensures.high in
-    let fc : FitsSigned w128 c.cap_of-cap.result = omega (arith, ints, low, high) in
-    subst (λ z. z ≤ℤ pos (10 ^ 24)) (sym (to_z-of_z w128 c.cap_of-cap.result fc)) high
+limit_of-limit-requires-clause-high c = let cap = c.cap_of-cap.ensures in cap_high c.cap_of-cap.result cap.low cap.high
+
+pub limit_of-limit-requires-clause-from : goal.limit_of-limit-requires-clause-from
+limit_of-limit-requires-clause-from c = c.requires.from
+
+pub limit_of-limit-requires-clause-onto : goal.limit_of-limit-requires-clause-onto
+limit_of-limit-requires-clause-onto c = c.requires.onto
+
+pub grow_from-requires-clause-lists : goal.grow_from-requires-clause-lists
+grow_from-requires-clause-lists c = c.in_ok-second.ensures.lists
+
+-- what the slots hold, and what they held
+slots : (c : After-aim-1) → length c.deref-2.result.now ≡ length c.args.note.now.kept.demand.capacities
+slots c =
+    let kept = ap (λ d. length d.capacities) c.requires.noted.split ∙ length-replicate _ _ in
+    ap length (asked c).capacities_are ∙ (length-replicate _ _ ∙ sym kept)
+
+pub grow_from-requires-clause-slots : goal.grow_from-requires-clause-slots
+grow_from-requires-clause-slots c = slots c ∙ sym c.in_ok-second.ensures.slots
+
+pub grow_from-requires-clause-other_slots : goal.grow_from-requires-clause-other_slots
+grow_from-requires-clause-other_slots c = slots c
+
+pub grow_from-requires-clause-place : goal.grow_from-requires-clause-place
+grow_from-requires-clause-place c =
+    let l = ap length (asked c).demands_are ∙ length-set c.args.x.now c.args.v (pos 0) in
+    omega (arith, l, c.requires.from)
