@@ -7,7 +7,7 @@ use Rattle.clap.specs.Words.{Row, Text, subcommand_name_of, subcommand_rows, sub
 use Rattle.clap.specs.declared.parser.matches.ArgMatches.{ArgMatches}
 use Rattle.clap.specs.declared.parser.matches.SubCommand.{SubCommand}
 use Rattle.clap.specs.declared.parser.matches.ArgMatches.TheViews.{out-ArgMatches, out-SubCommand}
-use Rattle.clap.specs.Words.{App, HasMatchesOf, fault_of, is_simple_and_free, takes}
+use Rattle.clap.specs.Words.{App, HasMatchesOf, fault_of, takes}
 use Rattle.clap.specs.declared.error.kind.ErrorKind.{ErrorKind}
 use Rattle.clap.specs.declared.error.kind.ErrorKind.TheVariants.{OutOfMemory}
 use Rattle.sfm_words.specs.Line.{sfm_line}
@@ -16,7 +16,7 @@ use Rattle.sfm_words.specs.declared.command.Command.{Command as Read}
 use Rattle.sfm_words.specs.declared.command.Refusal.{Refusal}
 use Rattle.sfm_words.specs.declared.command.Refusal.TheVariants.{Memory, Usage}
 use Rattle.sfm_words.proofs.Levels.{HasSmallSeed}
-use Rattle.sfm_words.proofs.Lines.{AskSome, form_asks, line_is_simple, reads}
+use Rattle.sfm_words.proofs.Lines.{AskSome, form_asks, reads}
 
 some_not_none : {X : Type 0} (x : X) → Some x ≡ None → ⊥
 some_not_none x e = true≢false (ap (λ o. is_some o) e)
@@ -49,16 +49,10 @@ abbrev pub IsAnswer : List Text → Result Read Refusal → Type 0
 IsAnswer words r = (read : Read) × (r ≡ Ok read) × Asks words (command_of read) × HasSmallSeed (command_of read)
 
 -- the command that was found, of words with no fault
-pub read_is : (line : App) (words : List Text) (m : ArgMatches) (found : Option Read) → line ≡ sfm_line → (is_simple_and_free line ≡ true → fault_of line words ≡ [])
-    → HasMatchesOf line words m → option_map command_of found ≡ option_and_then command_by (subcommand_rows_of m) → IsFound words found
-read_is line words m found is free has by = go found same
+pub read_is : (words : List Text) (m : ArgMatches) (found : Option Read) → fault_of sfm_line words ≡ [] → HasMatchesOf sfm_line words m
+    → option_map command_of found ≡ option_and_then command_by (subcommand_rows_of m) → IsFound words found
+read_is words m found no_fault matches by = go found same
   where
-    no_fault : fault_of sfm_line words ≡ []
-    no_fault = subst (λ a. is_simple_and_free a ≡ true → fault_of a words ≡ []) is free line_is_simple
-
-    matches : HasMatchesOf sfm_line words m
-    matches = subst (λ a. HasMatchesOf a words m) is has
-
     some : AskSome words
     some = reads words no_fault
 
@@ -104,11 +98,17 @@ module _ (line : App) (words : List Text) (kind : ErrorKind) (is : line ≡ sfm_
   memory_of Memory told taken = refl
   memory_of Usage told taken = absurd (told (passes (ap (λ a. takes a words) is ∙ taken)))
 
-  pub usage_is_not_taken : (r : Result Read Refusal) → IsErrAnd r (IsToldAs kind) → IfErr r (λ refusal. refusal ≡ Usage → takes sfm_line words ≡ false)
-  usage_is_not_taken (Ok read) told = tt
-  usage_is_not_taken (Err refusal) told = λ usage. not_true _ (λ taken. memory_is_no_usage (sym (memory_of refusal told taken) ∙ usage))
+  pub taken_for_memory : {X : Type 0} (r : Result X Refusal) → IsErrAnd r (IsToldAs kind) → IfErr r (λ refusal. takes sfm_line words ≡ true → refusal ≡ Memory)
+  taken_for_memory (Ok x) told = tt
+  taken_for_memory (Err refusal) told = memory_of refusal told
 
-  pub form_is_no_usage : (r : Result Read Refusal) → IsErrAnd r (IsToldAs kind) → (command : Command) → IsForm words command
+-- a refusal that comes of no words that clap takes, but for want of memory
+module _ (words : List Text) (told : Refusal) (is : takes sfm_line words ≡ true → told ≡ Memory) where
+  pub usage_is_not_taken : (r : Result Read Refusal) → IsErrAnd r (λ refusal. refusal ≡ told) → IfErr r (λ refusal. refusal ≡ Usage → takes sfm_line words ≡ false)
+  usage_is_not_taken (Ok read) e = tt
+  usage_is_not_taken (Err refusal) e = λ usage. not_true _ (λ taken. memory_is_no_usage (sym (e ∙ is taken) ∙ usage))
+
+  pub form_is_no_usage : (r : Result Read Refusal) → IsErrAnd r (λ refusal. refusal ≡ told) → (command : Command) → IsForm words command
       → MatchResult r (λ read. command_of read ≡ command) (λ refusal. refusal ≡ Memory)
-  form_is_no_usage (Ok read) told command form = absurd told
-  form_is_no_usage (Err refusal) told command form = memory_of refusal told (form_asks words command form).0
+  form_is_no_usage (Ok read) e command form = absurd e
+  form_is_no_usage (Err refusal) e command form = e ∙ is (form_asks words command form).0

@@ -1,8 +1,9 @@
 // The command that the words ask for: the subcommand in clap's matches of them, with its arguments.
-ghost use Rattle.std.specs.Prelude.{◌≡◌, ◌≤◌, ℕ, List, codes, map, option_map, option_and_then, IfOk, IfErr, MatchResult};
-ghost use Rattle.clap.specs.Words.{first_of, found_of, one_of, rows_of, subcommand_rows_of};
+ghost use Rattle.std.specs.Prelude.{◌≡◌, ◌≤◌, ℕ, List, [], true, codes, map, option_map, option_and_then, IfOk, IfErr, MatchResult};
+ghost use Rattle.clap.specs.Words.{HasMatchesOf, fault_of, first_of, found_of, one_of, rows_of, subcommand_rows_of, takes};
 ghost use Rattle.sfm_words.specs.Command.{Asks, IsForm, IsNotTaken, check, command_by, command_of, demo, number_of, solve};
 ghost use Rattle.sfm_words.specs.Command.{Command as Asked};
+ghost use Rattle.sfm_words.specs.Line.{sfm_line};
 
 use crate::command::{Command, Refusal};
 use crate::line::command_line;
@@ -68,6 +69,17 @@ fn command_in<'a>(matches: &ArgMatches<'a>) -> Option<Command<'a>>
     command_named(verb, found)
 }
 
+/// What clap finds in the words, of which it has no fault to tell. Only words that it does not take are `Usage`.
+fn matches_of<'a>(alloc: Global, words: &'a [&'a str]) -> Result<ArgMatches<'a>, Refusal>
+    ensures matches { IfOk result (λ found. HasMatchesOf sfm_line (map (λ word. word.now) words.now) found) }
+    ensures free { IfOk result (λ _. fault_of sfm_line (map (λ word. word.now) words.now) ≡ []) }
+    ensures refused { IfErr result (λ refusal. takes sfm_line (map (λ word. word.now) words.now) ≡ true → refusal ≡ Refusal.Memory) }
+{
+    let line = command_line(alloc)?;
+    let matches = line.try_get_matches_from(words)?;
+    Ok(matches)
+}
+
 /// The command that the words after the program's name ask for. Only words that clap does not take are `Usage`, and so are
 /// calls for help.
 pub fn read_command<'a>(alloc: Global, words: &'a [&'a str]) -> Result<Command<'a>, Refusal>
@@ -77,7 +89,6 @@ pub fn read_command<'a>(alloc: Global, words: &'a [&'a str]) -> Result<Command<'
         → MatchResult result (λ read. command_of read ≡ command) (λ refusal. refusal ≡ Refusal.Memory) }
     ensures seeds { IfOk result (λ command. (seed : ℕ) → command_of command ≡ demo seed → seed ≤ 999999999) }
 {
-    let line = command_line(alloc)?;
-    let matches = line.try_get_matches_from(words)?;
+    let matches = matches_of(alloc, words)?;
     command_in(&matches).ok_or(Refusal::Usage)
 }
