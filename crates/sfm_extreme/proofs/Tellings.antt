@@ -10,12 +10,12 @@ use Rattle.sfm_spec.proofs.Sets.{has_or_not}
 use Rattle.sfm_spec.proofs.Walks.{has_below}
 use Rattle.sfm_spec.proofs.Extremes.{in_complement, not_in_complement}
 use Rattle.sfm_spec.proofs.Pulls.{free_exactly, pulls_exactly}
-use Rattle.sfm_exchange.specs.declared.bits.Bits.{Bits}
+use Rattle.sfm_reach.specs.declared.bits.Bits.{Bits}
 use Rattle.sfm_exchange.specs.Bits.{bit_in}
 use Rattle.sfm_exchange.specs.Reached.{IsSetOf}
 use Rattle.sfm_exchange.proofs.Minimisers.{as_set, greatest, least, links_are, walks_reach}
 use Rattle.sfm_exchange.proofs.WholeGraphs.{are_terms, low, unions_count}
-use Rattle.sfm_exchange.proofs.Words.{bit_in-lt}
+use Rattle.sfm_reach.proofs.Words.{bit_in-lt}
 use Rattle.sfm_extreme.specs.declared.reading.Reading.{Reading}
 use Rattle.sfm_extreme.specs.Pulls.{ArePullRows, AreSquare, IsPullSet, Pulls, row_of}
 use Rattle.sfm_extreme.specs.Reading.{IsReading}

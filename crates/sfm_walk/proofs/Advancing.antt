@@ -12,7 +12,7 @@ use Rattle.sfm_spec.specs.Walks.{Step, base_at, term_at, IsStep, AreSteps, IsWal
 use Rattle.sfm_spec.proofs.Walks.{first_below, step_below}
 use Rattle.sfm_spec.proofs.Labels.{falls_all, falls_within}
 use Rattle.sfm_spec.proofs.MoveOrder.{exchanged-first, exchanged-second, exchanged-other}
-use Rattle.sfm_exchange.specs.declared.bits.Bits.{Bits}
+use Rattle.sfm_reach.specs.declared.bits.Bits.{Bits}
 use Rattle.sfm_exchange.specs.declared.path.Hop.{Hop}
 use Rattle.sfm_exchange.specs.Bits.{bit_in, set_at}
 use Rattle.sfm_law.specs.Rest.{IsRest}

@@ -7,7 +7,7 @@ use Rattle.sfm_spec.specs.Bounds.{AreBounded, IsAtMost, IsFactor, total_of}
 use Rattle.sfm_spec.specs.Terms.{SetFunction, IsSubmodular}
 use Rattle.sfm_spec.proofs.Scaled.{times-mono}
 use Rattle.std.proofs.lemmas.List.{length-map, get_or-map}
-use Rattle.sfm_exchange.proofs.Basing.{size_low, sizes_all}
+use Rattle.sfm_reach.proofs.Basing.{size_low, sizes_all}
 
 -- the same number for each place
 pub magnitudes-even : (n : ℕ) (p : ℤ) → IsAtMost (10 ^ 24) p → magnitudes (replicate n p) ≤ℤ pos (10 ^ 24 * n)

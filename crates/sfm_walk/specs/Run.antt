@@ -7,7 +7,7 @@ use Rattle.sfm_spec.specs.Progress.{IsProgress, TakesLeastSteps}
 use Rattle.sfm_spec.specs.Walks.{Step, IsStep, IsShortest, last_of}
 use Rattle.sfm_law.specs.Rest.{IsRest}
 use Rattle.sfm_walk.specs.declared.run.Run.{Run}
-use Rattle.sfm_exchange.specs.declared.bits.Bits.{Bits}
+use Rattle.sfm_reach.specs.declared.bits.Bits.{Bits}
 use Rattle.sfm_exchange.specs.declared.path.Hop.{Hop}
 use Rattle.sfm_exchange.specs.Hops.{AreHops, AreNamed, IsMovable, Moves, hop_at, steps_of}
 use Rattle.sfm_exchange.specs.Signs.{AreSigns}

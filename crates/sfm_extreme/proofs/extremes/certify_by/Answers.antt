@@ -6,7 +6,7 @@ use Rattle.sfm_spec.specs.Walks.{Joins}
 use Rattle.sfm_spec.proofs.Proving.{no_join}
 use Rattle.sfm_law.proofs.Rests.{rest-total}
 use Rattle.sfm_exchange.proofs.Minimisers.{greatest, least, proves}
-use Rattle.sfm_exchange.proofs.Options.{match_none, match_some}
+use Rattle.sfm_reach.proofs.Options.{match_none, match_some}
 use Rattle.sfm_exchange.proofs.WholeGraphs.{are_terms, low}
 use Rattle.sfm_extreme.specs.Reading.{IsReading}
 use Rattle.sfm_extreme.proofs.Deficits.{deficit_by_rest, value_by_prove}

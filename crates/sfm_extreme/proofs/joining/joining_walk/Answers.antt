@@ -9,7 +9,7 @@ use Rattle.sfm_exchange.specs.Unions.{IsReadable}
 use Rattle.sfm_exchange.proofs.Following.{length-steps_of}
 use Rattle.sfm_exchange.proofs.Joining.{joins_along}
 use Rattle.sfm_exchange.proofs.Minimisers.{none}
-use Rattle.sfm_exchange.proofs.Options.{match_none, match_some}
+use Rattle.sfm_reach.proofs.Options.{match_none, match_some}
 use Rattle.sfm_exchange.proofs.Telling.{hops_steps, tables_readable}
 use Rattle.sfm_exchange.proofs.WholeGraphs.{are_terms, counted, low, spot_rows, unions_count}
 use Rattle.sfm_extreme.proofs.joining.joining_walk.Goals as goal

@@ -5,7 +5,7 @@ use Rattle.sfm_exchange.specs.Levels.{AreClosed, IsFirst, depth_of}
 use Rattle.sfm_exchange.proofs.ClaimedGraphs.{are_terms, have_links, low, own, shaped}
 use Rattle.sfm_exchange.proofs.Still.{over_word}
 use Rattle.sfm_exchange.proofs.Joining.{none_joins}
-use Rattle.sfm_exchange.proofs.Options.{match_none, match_some}
+use Rattle.sfm_reach.proofs.Options.{match_none, match_some}
 use Rattle.sfm_walk.proofs.Advancing.{least_walk}
 use Rattle.sfm_walk.proofs.walk.next_walk.Goals as goal
 
