@@ -252,3 +252,21 @@ returns-clause-graph g c =
     let united = united_by r.graph i r.inside term is c.renew_rows.new.rows c.in_ok-changes.changes mid c.widen.new.unions.items raised.changes (rw (c.deref.ensures.value, c.deref-2.ensures.value) at c.renew.ensures.renewed) (rw (c.elements.ensures, table) at c.widen.ensures.widened) in
     rw whole (claimed_after r.graph i r.inside term is y c.renew_rows.new.note c.renew_rows.new.rows c.renew_rows.new.claimed _ (still g at.After-at-1 (here g at.After-moved-arg-1)) noted (e.rows ∙ shown.1)
     raised.claims united c.widen.ensures.turned refl refl refl refl refl)
+
+pub index_mut-note-requires : goal.index_mut-note-requires
+index_mut-note-requires g c = omega (arith, c.requires.inside, c.requires.graph.note_count, c.args.graph.now.notes.ok.0)
+
+pub offset_bounds-terms-i : goal.offset_bounds-terms-i
+offset_bounds-terms-i g c = omega (arith, c.requires.inside)
+
+pub bounds-terms-i : goal.bounds-terms-i
+bounds-terms-i g c = c.requires.inside
+
+pub index_mut-rows-requires : goal.index_mut-rows-requires
+index_mut-rows-requires g c = let r = rows_count c.requires.graph in omega (arith, c.requires.inside, r, c.args.graph.now.rows.ok.0)
+
+pub index_mut-claimed-requires : goal.index_mut-claimed-requires
+index_mut-claimed-requires g c = omega (arith, c.requires.inside, c.requires.graph.claim_count, c.args.graph.now.claimed.ok.0)
+
+pub index-requires : goal.index-requires
+index-requires g c = let r = rows_count c.requires.graph in omega (arith, c.requires.inside, r, c.args.graph.now.rows.ok.0)

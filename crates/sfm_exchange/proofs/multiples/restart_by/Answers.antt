@@ -1,4 +1,4 @@
-use Rattle.std.proofs.Common.{◌≡◌, ℕ, ◌<◌, length, sym, subst, ◌∙◌, pos, arith, FitsSigned}
+use Rattle.std.proofs.Common.{◌≡◌, ℕ, ◌<◌, length, map, refl, sym, ap, subst, ◌∙◌, pos, arith, FitsSigned}
 use Rattle.std.proofs.lemmas.Int.{to_z-of_z}
 use mir.Syntax.{w128}
 use Rattle.sfm_spec.specs.Families.{meanings}
@@ -58,3 +58,49 @@ returns-clause-graph g c =
       are_unions = rw (copied, c.copy_from_slice-2.ensures.items, c.deref-3.ensures.value) (unions_same r.graph.are_spots o.are_spots o.are_unions);
       are_turned = rw (c.copy_from_slice-2.ensures.items, c.deref-3.ensures.value, c.copy_from_slice-3.ensures.items, c.deref-4.ensures.value) o.are_turned;
     }
+
+pub restart-requires-clause-bounded : goal.restart-requires-clause-bounded
+restart-requires-clause-bounded g c =
+    let same : c.len-n.result ≡ length c.args.graph.now.spots.items = omega (arith, c.len-n.ensures, c.args.graph.now.spots.ok.0) in
+    rw same c.requires.bounded
+
+pub restart-requires-clause-factor : goal.restart-requires-clause-factor
+restart-requires-clause-factor g c = let fq : FitsSigned w128 c.args.q = c.ranges.q in simp to_z-of_z c.requires.factor
+
+pub restart-requires-clause-graph : goal.restart-requires-clause-graph
+restart-requires-clause-graph g c =
+    let same : c.len-n.result ≡ length c.args.graph.now.spots.items = omega (arith, c.len-n.ensures, c.args.graph.now.spots.ok.0) in
+    rw same c.requires.graph
+
+pub restart-requires-clause-bases : goal.restart-requires-clause-bases
+restart-requires-clause-bases g c = let fq : FitsSigned w128 c.args.q = c.ranges.q in simp to_z-of_z c.requires.bases
+
+pub restart-requires-clause-small : goal.restart-requires-clause-small
+restart-requires-clause-small g c = c.requires.small
+
+pub are_multiples-requires-clause-factor : goal.are_multiples-requires-clause-factor
+are_multiples-requires-clause-factor g c = let fq : FitsSigned w128 c.args.q = c.ranges.q in simp to_z-of_z c.requires.factor
+
+pub copy_tables-requires : goal.copy_tables-requires
+copy_tables-requires g c = (map g.T.Term.places c.args.terms.now, rw c.deref.ensures.value c.requires.other.sized_rows, c.requires.graph.sized_rows)
+
+pub copy_from_slice-requires : goal.copy_from_slice-requires
+copy_from_slice-requires g c =
+    let read = ap length c.deref-2.ensures.value in
+    omega (arith, read, c.requires.graph.claim_count, c.requires.other.claim_count, c.args.graph.now.claimed.ok.0)
+
+pub copy_from_slice-requires-2 : goal.copy_from_slice-requires-2
+copy_from_slice-requires-2 g c =
+    let read = ap length c.deref-3.ensures.value in
+    omega (arith, read, c.requires.graph.union_count, c.requires.other.are_unions.count, c.requires.other.are_spots.count, c.args.graph.now.unions.ok.0)
+
+pub copy_from_slice-requires-3 : goal.copy_from_slice-requires-3
+copy_from_slice-requires-3 g c =
+    let read = ap length c.deref-4.ensures.value in
+    omega (arith, read, c.requires.graph.back_count, c.requires.other.are_turned.count, c.args.graph.now.back.ok.0)
+
+pub returns-clause-bases : goal.returns-clause-bases
+returns-clause-bases g c = refl
+
+pub returns-then-not-are_multiples-clause-bases : goal.returns-then-not-are_multiples-clause-bases
+returns-then-not-are_multiples-clause-bases g c = c.in_ok-restart.ensures.bases

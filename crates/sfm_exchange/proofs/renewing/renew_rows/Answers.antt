@@ -80,3 +80,68 @@ returns-clause-raised g c =
       claims = claims_shared _ _ _ _ _ after.rows r.raising (record { within = r.raising.raised; place_is = refl; row_is = hs.row }) (shared_lead r _ _ told) _ _ after.claimed still;
       changes = changes_shared _ _ _ _ _ after.rows _ _ _ after.grown after.anew (shared_inside r _ _ told) grown;
     }
+
+pub depending-changed-requires-clause-placed : goal.depending-changed-requires-clause-placed
+depending-changed-requires-clause-placed g c = rw c.elements-places.ensures c.requires.based.placed
+
+pub depending-changed-requires-clause-rows : goal.depending-changed-requires-clause-rows
+depending-changed-requires-clause-rows g c = rw (c.as_slice.ensures, c.elements-places.ensures) (c.requires.rows ∙ c.requires.based.entries)
+
+pub depending-changed-requires-clause-lowered : goal.depending-changed-requires-clause-lowered
+depending-changed-requires-clause-lowered g c = rw (c.elements-places.ensures, ← c.requires.based.entries) c.requires.lowered
+
+pub row-before-requires : goal.row-before-requires
+row-before-requires g c = omega (arith, c.requires.rows, c.requires.raised)
+
+pub row_by-requires-clause-based : goal.row_by-requires-clause-based
+row_by-requires-clause-based g c = c.requires.based
+
+pub row_by-requires-clause-noted : goal.row_by-requires-clause-noted
+row_by-requires-clause-noted g c = c.requires.noted
+
+pub row_by-requires-clause-from : goal.row_by-requires-clause-from
+row_by-requires-clause-from g c = c.requires.raised
+
+pub row_by-requires-clause-rows : goal.row_by-requires-clause-rows
+row_by-requires-clause-rows g c = c.requires.rows
+
+pub join_rows-requires-clause-placed : goal.join_rows-requires-clause-placed
+join_rows-requires-clause-placed g c = rw c.elements-places.ensures c.requires.based.placed
+
+pub join_rows-requires-clause-rows : goal.join_rows-requires-clause-rows
+join_rows-requires-clause-rows g c = rw (c.in_ok-of_s.ensures.same, c.elements-places.ensures) (c.requires.rows ∙ c.requires.based.entries)
+
+pub join_rows-requires-2-clause-placed : goal.join_rows-requires-2-clause-placed
+join_rows-requires-2-clause-placed g c = rw c.elements-places.ensures c.requires.based.placed
+
+pub ask_rows-requires-clause-based : goal.ask_rows-requires-clause-based
+ask_rows-requires-clause-based g c = c.requires.based
+
+pub ask_rows-requires-clause-noted : goal.ask_rows-requires-clause-noted
+ask_rows-requires-clause-noted g c = c.in_ok-of_s.ensures.noted
+
+pub settle_shared-requires-clause-placed : goal.settle_shared-requires-clause-placed
+settle_shared-requires-clause-placed g c = rw c.elements-places.ensures c.requires.based.placed
+
+pub returns-then-contains-clause-noted : goal.returns-then-contains-clause-noted
+returns-then-contains-clause-noted g c = c.in_ok-of_s.ensures.noted
+
+pub returns-then-asks_at_once-clause-noted : goal.returns-then-asks_at_once-clause-noted
+returns-then-asks_at_once-clause-noted g c = c.in_ok-ask_rows.ensures.noted
+
+pub returns-clause-noted : goal.returns-clause-noted
+returns-clause-noted g c = c.in_ok-of_s.ensures.noted
+
+pub contains-requires : goal.contains-requires
+contains-requires g c = let b = c.requires.based in rw c.elements-places.ensures (b.placed.below c.args.hop.v (rw (← b.entries) c.requires.lowered))
+
+pub join_rows-requires-clause-to : goal.join_rows-requires-clause-to
+join_rows-requires-clause-to g c = let b = c.requires.based in rw c.elements-places.ensures (b.placed.below c.args.hop.u (rw (← b.entries) c.requires.raised))
+
+pub join_rows-requires-2-clause-to : goal.join_rows-requires-2-clause-to
+join_rows-requires-2-clause-to g c = let b = c.requires.based in rw c.elements-places.ensures (b.placed.below c.args.hop.u (rw (← b.entries) c.requires.raised))
+
+pub ask_rows-requires-clause-raised : goal.ask_rows-requires-clause-raised
+ask_rows-requires-clause-raised g c =
+    let b = c.requires.based in
+    record { within = rw (← b.entries) c.requires.raised; place_is = rw c.elements-places.ensures refl; row_is = c.in_ok-of_s.ensures.row }

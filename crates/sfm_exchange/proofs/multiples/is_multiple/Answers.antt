@@ -1,0 +1,30 @@
+use Rattle.std.proofs.Common.{◌≡◌, ◌+◌, [], ◌∷◌, ◌++◌, take, length, get_or, pos, ◌*ℤ◌, ap, sym, ◌∙◌, rules, arith, FitsSigned}
+use Rattle.std.proofs.lemmas.Int.{to_z-of_z}
+use Rattle.std.proofs.lemmas.List.{take_all, take_more, map_more}
+use mir.Syntax.{w128}
+use mir.Val.{of_z, to_z}
+use Rattle.sfm_exchange.specs.Scaled.{row_times}
+use Rattle.sfm_exchange.proofs.multiples.is_multiple.Goals as goal
+
+pub loop-j-preserved : goal.loop-j-preserved
+loop-j-preserved c =
+    let x = c.args.x.now in
+    let y = c.args.y.now in
+    let j = c.loop-j.j in
+    let fq : FitsSigned w128 c.args.q = c.ranges.q in
+    let fx : FitsSigned w128 (get_or x j (pos 0)) = search rules in
+    let fy : FitsSigned w128 (get_or y j (pos 0)) = search rules in
+    let l = c.loop-j-test.true in
+    let inv = simp to_z-of_z at c.loop-j.invariant in
+    let same : get_or y j (pos 0) ≡ c.args.q *ℤ get_or x j (pos 0) = simp to_z-of_z at (c.is_times.ensures c.if-not-is_times.false) in
+    let more : take (j + 1) y ≡ row_times c.args.q (take (j + 1) x) =
+    take_more y j (pos 0) (omega (arith, l, inv.0)) ∙ (ap (λ z. z ++ get_or y j (pos 0) ∷ []) inv.1 ∙ (ap (λ z. row_times c.args.q (take j x) ++ z ∷ []) same ∙ sym (map_more (λ z. c.args.q *ℤ z) x j (pos 0) l))) in
+    simp to_z-of_z (inv.0, more)
+
+pub returns : goal.returns
+returns c = λ same.
+    let fq : FitsSigned w128 c.args.q = c.ranges.q in
+    let inv = simp to_z-of_z at c.loop-j.invariant in
+    let end = c.loop-j-test.false in
+    let all : take c.loop-j.j c.args.x.now ≡ c.args.x.now = take_all c.loop-j.j c.args.x.now end in
+    sym (take_all c.loop-j.j c.args.y.now (omega (arith, end, inv.0))) ∙ (inv.1 ∙ ap (row_times c.args.q) all)
