@@ -40,7 +40,7 @@ impl<'a> Ahead<'a> {
         }
     }
 
-    /// Takes the least place that is still to come.
+    /// Takes one of the places that are still to come.
     #[inline(always)]
     pub fn next(&mut self) -> Option<usize>
         ensures { MatchOption result ((e : ℕ) → bit_in self.old e ≡ 0) (λ e. IsTaken self.old e self.new) }
