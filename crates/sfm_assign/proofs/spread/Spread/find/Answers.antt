@@ -1,11 +1,11 @@
-use Rattle.std.proofs.Common.{◌≡◌, ◌<◌, false, length, get_or, None, ℤ, pos, ◌≤ℤ◌, sym, rules, FitsSigned, arith, ◌∙◌}
+use Rattle.std.proofs.Common.{◌≡◌, ◌<◌, false, true, length, get_or, None, ℤ, pos, ◌≤ℤ◌, ap, sym, rules, FitsSigned, arith, ◌∙◌, get_or-set_same}
 use Rattle.std.proofs.lemmas.Int.{ints}
 use Rattle.std.proofs.lemmas.List.{get_or_read}
 use mir.Syntax.{w128}
 use Rattle.sfm_split.specs.Splits.{amount_at}
 use Rattle.sfm_split.specs.Cells.{label_at}
 use Rattle.sfm_assign.specs.Spread.{LeadsTo, IsAnswer}
-use Rattle.sfm_assign.proofs.Spreads.{led_further, spread_entered, taken, answer_told}
+use Rattle.sfm_assign.proofs.Spreads.{led_further, spread_entered, entered_wider, wider_none, taken, answer_told}
 use Rattle.sfm_assign.proofs.spread.Spread.find.Goals.{After-index-answers-f, In-Some}
 use Rattle.sfm_assign.proofs.spread.Spread.find.Goals as goal
 
@@ -71,3 +71,48 @@ returns-in_ok-joined-in-Some c =
       wider = rw e.queue wider;
       end = end;
     }
+
+pub returns-then-contains-clause-wider : goal.returns-then-contains-clause-wider
+returns-then-contains-clause-wider c = wider_none c.args.self.now.found c.args.self.now.queue.items
+
+pub returns-then-contains-clause-end : goal.returns-then-contains-clause-end
+returns-then-contains-clause-end c =
+    let who = get_or_read c.args.shares.now.cells.whos.items c.args.link.own c.index-f.result.now c.requires.own c.index-f.ensures 0 in
+    λ some. ap (λ k. get_or c.args.self.now.found k false) (sym who) ∙ (sym c.contains.ensures ∙ c.if-contains.true)
+
+pub returns-then-index-le0-clause-wider : goal.returns-then-index-le0-clause-wider
+returns-then-index-le0-clause-wider c = wider_none c.args.self.now.found c.args.self.now.queue.items
+
+pub returns-then-index-le0-clause-end : goal.returns-then-index-le0-clause-end
+returns-then-index-le0-clause-end c =
+    let lo = c.requires.own in
+    let same = c.requires.told.same in
+    let v : ℤ = c.index.result.now in
+    let fv : FitsSigned w128 v = search rules in
+    let value = get_or_read c.args.shares.now.y.items c.args.link.own v (omega (arith, lo, same)) c.index.ensures (pos 0) in
+    let none = c.if-index-le0.true in
+    λ some. absurd (omega (arith, ints, value, none, some))
+
+pub returns-in_ok-enter-in-None-clause-wider : goal.returns-in_ok-enter-in-None-clause-wider
+returns-in_ok-enter-in-None-clause-wider c =
+    let path = goal.at.returns-in_ok-enter-in-None-clause-wider c in
+    let (who, below, here) = led path.After-index-answers-f in
+    let self = c.args.self.now in
+    let e = c.in_ok-enter-in-None.ensures in
+    let out : get_or self.found c.index-f.result.now false ≡ false = sym c.contains.ensures ∙ c.if-contains.false in
+    rw (e.found, e.queue) (entered_wider (length c.args.answers.now) c.args.shares.now.cells.whos.items c.args.shares.now.cells.slots.items c.args.shares.now.y.items c.args.rooms.now self.from self.found self.marks self.queue.items self.next c.requires.spread c.index-f.result.now below out here)
+
+pub returns-in_ok-enter-in-None-clause-end : goal.returns-in_ok-enter-in-None-clause-end
+returns-in_ok-enter-in-None-clause-end c =
+    let path = goal.at.returns-in_ok-enter-in-None-clause-end c in
+    let (who, below, here) = led path.After-index-answers-f in
+    let found = c.args.self.now.found in
+    let places = c.requires.spread.places in
+    let wide : c.index-f.result.now < length found = omega (arith, below, places) in
+    λ some. rw (c.in_ok-enter-in-None.ensures.found, ← who) (get_or-set_same found c.index-f.result.now true false wide)
+
+pub enter-requires : goal.enter-requires
+enter-requires c =
+    let (who, below, here) = led (goal.at.enter-requires c).After-index-answers-f in
+    let places = c.requires.spread.places in
+    omega (arith, below, places)
