@@ -1,11 +1,12 @@
-use Rattle.std.proofs.Common.{◌≡◌, ◌<◌, pos, ◌≤ℤ◌, length, refl, arith, ◌∙◌}
+use Rattle.std.proofs.Common.{◌≡◌, ◌<◌, pos, ◌≤ℤ◌, length, refl, ap, arith, ◌∙◌}
 use Rattle.std.proofs.lemmas.Int.{ints}
 use Rattle.std.proofs.lemmas.List.{get_or_read}
 use Rattle.sfm_split.specs.Splits.{amount_at}
 use Rattle.sfm_split.specs.Cells.{label_at}
-use Rattle.sfm_split.proofs.Linking.{pass_begun, pass_falls, pass_here, pass_more}
+use Rattle.sfm_split.proofs.Linking.{pass_begun, pass_falls, pass_here, pass_more, pass_done}
 use Rattle.sfm_assign.specs.Spread.{AreTakenIn}
-use Rattle.sfm_assign.proofs.Gathering.{IsDone, gathered_none, gathered_more, done_still}
+use Rattle.sfm_assign.proofs.Spreads.{room_here}
+use Rattle.sfm_assign.proofs.Gathering.{IsDone, gathered_none, gathered_more, gathered_all, held_room, done_still}
 use Rattle.sfm_assign.proofs.gather.gather.Goals.{After-index-s}
 use Rattle.sfm_assign.proofs.gather.gather.Goals as goal
 
@@ -66,3 +67,26 @@ loop-next-preserved c =
       gathered = rw (← mine) (gathered_more n whos slots y rooms e before after lt (rw mine inv.gathered) taken);
       passed = pass_more s.cells.whos_chained c.in-Some.is inv.passed (IsDone n whos slots y rooms after) c.index-next.ensures (λ f done. done_still n whos slots y rooms before after f taken.kept done) (record { full = rw (← is) little; holders = taken.holders });
     }
+
+pub returns-then-split-s-gt0-clause-led : goal.returns-then-split-s-gt0-clause-led
+returns-then-split-s-gt0-clause-led c =
+    let s = c.args.split.now.shares.now in
+    let rooms = c.args.split.now.rooms.now in
+    let (lt, mine, is, below) = slot (goal.at.returns-then-split-s-gt0-clause-led c).After-index-s in
+    let q = ap (λ j. amount_at rooms j) is in
+    let more = c.if-split-s-gt0.true in
+    let room : pos 1 ≤ℤ amount_at rooms (label_at s.cells.slots.items c.in-Some.e) = omega (arith, ints, q, more) in
+    rw (← mine) (room_here s.cells.whos.items s.cells.slots.items s.y.items rooms c.in-Some.e lt room)
+
+pub returns-then-branch-clause-led : goal.returns-then-branch-clause-led
+returns-then-branch-clause-led c =
+    let s = c.args.split.now.shares.now in
+    let (lt, mine, is, below) = slot (goal.at.returns-then-branch-clause-led c).After-index-s in
+    let held = rw is at (rw c.if-branch.true at c.in_ok-take_slot.ensures.taken) in
+    rw (← mine) (held_room (length c.args.answers.now) s.cells.whos.items s.cells.slots.items s.y.items c.args.split.now.rooms.now c.in-Some.e lt held)
+
+pub returns-clause-led : goal.returns-clause-led
+returns-clause-led c =
+    let s = c.args.split.now.shares.now in
+    let inv = c.loop-next.invariant in
+    gathered_all (length c.args.answers.now) s.cells.whos.items s.cells.slots.items s.y.items c.args.split.now.rooms.now c.args.u c.loop-next.to c.requires.place inv.gathered (pass_done c.in_default.is inv.passed)
