@@ -38,6 +38,60 @@ taken c =
       all = λ one. omega (arith, ints, clamps, value, one);
     }
 
+pub take-requires-clause-low : goal.take-requires-clause-low
+take-requires-clause-low c =
+    let h = taken (goal.at.take-requires-clause-low c).After-min-a in
+    let a : ℤ = c.min-a.result in
+    let fa : FitsSigned w128 a = search rules in
+    rw (to_z-of_z w128 a fa) h.low
+
+pub take-requires-clause-enough : goal.take-requires-clause-enough
+take-requires-clause-enough c =
+    let h = taken (goal.at.take-requires-clause-enough c).After-min-a in
+    let a : ℤ = c.min-a.result in
+    let fa : FitsSigned w128 a = search rules in
+    rw (to_z-of_z w128 a fa) h.most
+
+pub put-requires-clause-low : goal.put-requires-clause-low
+put-requires-clause-low c =
+    let h = taken (goal.at.put-requires-clause-low c).After-min-a in
+    let w = c.requires.charged in
+    let a : ℤ = c.min-a.result in
+    let fa : FitsSigned w128 a = search rules in
+    let inside = w.cells.owned c.args.e c.requires.cell in
+    let places = w.charge.lacks_are.places in
+    let small = w.lacks_small (label_at c.args.cells.now.whos.items c.args.e) (omega (arith, inside, places)) in
+    let low = h.low in
+    rw (c.deref_mut.ensures.value, h.who, to_z-of_z w128 a fa) (omega (arith, ints, small, low))
+
+pub put-requires-clause-place : goal.put-requires-clause-place
+put-requires-clause-place c =
+    let h = taken (goal.at.put-requires-clause-place c).After-min-a in
+    let w = c.requires.charged in
+    let inside = w.cells.owned c.args.e c.requires.cell in
+    let places = w.charge.lacks_are.places in
+    rw (c.deref_mut.ensures.value, h.who) (omega (arith, inside, places))
+
+pub put-requires-2-clause-low : goal.put-requires-2-clause-low
+put-requires-2-clause-low c =
+    let h = taken (goal.at.put-requires-2-clause-low c).After-min-a in
+    let w = c.requires.charged in
+    let a : ℤ = c.min-a.result in
+    let fa : FitsSigned w128 a = search rules in
+    let inside = w.cells.exist c.args.e c.requires.cell in
+    let places = w.charge.rooms_are.places in
+    let small = w.rooms_small (label_at c.args.cells.now.slots.items c.args.e) (omega (arith, inside, places)) in
+    let low = h.low in
+    rw (c.deref_mut-2.ensures.value, h.slot, to_z-of_z w128 a fa) (omega (arith, ints, small, low))
+
+pub put-requires-2-clause-place : goal.put-requires-2-clause-place
+put-requires-2-clause-place c =
+    let h = taken (goal.at.put-requires-2-clause-place c).After-min-a in
+    let w = c.requires.charged in
+    let inside = w.cells.exist c.args.e c.requires.cell in
+    let places = w.charge.rooms_are.places in
+    rw (c.deref_mut-2.ensures.value, h.slot) (omega (arith, inside, places))
+
 pub put-requires-clause-high : goal.put-requires-clause-high
 put-requires-clause-high c =
     let h = taken (goal.at.put-requires-clause-high c).After-min-a in
