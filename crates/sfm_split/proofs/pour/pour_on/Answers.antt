@@ -51,6 +51,30 @@ share c =
       fits = omega (arith, ints, clamps, value, room);
     }
 
+pub take-requires-clause-low : goal.take-requires-clause-low
+take-requires-clause-low c =
+    let h = share (goal.at.take-requires-clause-low c).After-min-a in
+    let fa : FitsSigned w128 c.min-a.result = search rules in
+    rw (to_z-of_z w128 c.min-a.result fa) h.low
+
+pub take-requires-clause-enough : goal.take-requires-clause-enough
+take-requires-clause-enough c =
+    let h = share (goal.at.take-requires-clause-enough c).After-min-a in
+    let fa : FitsSigned w128 c.min-a.result = search rules in
+    rw (to_z-of_z w128 c.min-a.result fa, c.deref_mut.ensures.value, h.who) h.lacking
+
+pub take-requires-clause-place : goal.take-requires-clause-place
+take-requires-clause-place c =
+    let h = share (goal.at.take-requires-clause-place c).After-min-a in
+    let left = c.args.left.now in
+    rw (c.deref_mut.ensures.value, h.who) ((within_cells c.args.cells.now.whos.items c.args.cells.now.slots.items c.args.y.now left.lacks.items left.rooms.items c.requires.within).owned c.args.e c.requires.cell)
+
+pub take-requires-2-clause-place : goal.take-requires-2-clause-place
+take-requires-2-clause-place c =
+    let h = share (goal.at.take-requires-2-clause-place c).After-min-a in
+    let left = c.args.left.now in
+    rw (c.deref_mut-2.ensures.value, h.slot) ((within_cells c.args.cells.now.whos.items c.args.cells.now.slots.items c.args.y.now left.lacks.items left.rooms.items c.requires.within).exist c.args.e c.requires.cell)
+
 pub take-requires-2-clause-low : goal.take-requires-2-clause-low
 take-requires-2-clause-low c =
     let h = share (goal.at.take-requires-2-clause-low c).After-min-a in
