@@ -5,7 +5,7 @@ use mir.Syntax.{w128}
 use Rattle.sfm_split.specs.Splits.{amount_at}
 use Rattle.sfm_split.specs.Cells.{label_at}
 use Rattle.sfm_split.proofs.Searches.{written}
-use Rattle.sfm_split.proofs.Within.{within_cells, moved}
+use Rattle.sfm_split.proofs.Within.{within_cells, within_load, within_small, moved}
 use Rattle.sfm_split.proofs.fill.raise.Goals.{After-index-s, After-index}
 use Rattle.sfm_split.proofs.fill.raise.Goals as goal
 
@@ -45,6 +45,50 @@ returns-then-a-le0-clause-more c =
 
 pub augment-requires-clause-tree : goal.augment-requires-clause-tree
 augment-requires-clause-tree c = rw c.deref-4.ensures.value c.requires.tree
+
+pub augment-requires-clause-amounts : goal.augment-requires-clause-amounts
+augment-requires-clause-amounts c = c.requires.within.part.amounts
+
+pub augment-requires-clause-some : goal.augment-requires-clause-some
+augment-requires-clause-some c =
+    let a : ℤ = c.flow_along-a.result in
+    let fa : FitsSigned w128 a = search rules in
+    let on = c.if-a-le0.false in
+    rw (to_z-of_z w128 a fa) (omega (arith, ints, on))
+
+pub augment-requires-clause-small : goal.augment-requires-clause-small
+augment-requires-clause-small c =
+    let left = c.args.left.now in
+    within_load c.args.cells.now.whos.items c.args.cells.now.slots.items c.args.y.now left.lacks.items left.rooms.items c.requires.within
+
+pub augment-requires-clause-room : goal.augment-requires-clause-room
+augment-requires-clause-room c =
+    let path = goal.at.augment-requires-clause-room c in
+    let left = c.args.left.now in
+    let whos = c.args.cells.now.whos.items in
+    let slots = c.args.cells.now.slots.items in
+    let held = room path.After-index (slot path.After-index-s) in
+    let a : ℤ = c.flow_along-a.result in
+    let fr : FitsSigned w128 c.index.result.now = search rules in
+    let fa : FitsSigned w128 a = search rules in
+    let most = c.flow_along-a.ensures.most in
+    let exist = (within_cells whos slots c.args.y.now left.lacks.items left.rooms.items c.requires.within).exist c.args.e c.requires.cell in
+    let high = within_small whos slots c.args.y.now left.lacks.items left.rooms.items c.requires.within (label_at slots c.args.e) exist in
+    rw (to_z-of_z w128 a fa) (omega (arith, ints, most, held, high))
+
+pub take-requires-clause-low : goal.take-requires-clause-low
+take-requires-clause-low c =
+    let a : ℤ = c.flow_along-a.result in
+    let fa : FitsSigned w128 a = search rules in
+    let on = c.if-a-le0.false in
+    rw (to_z-of_z w128 a fa) (omega (arith, ints, on))
+
+pub take-requires-clause-place : goal.take-requires-clause-place
+take-requires-clause-place c =
+    let left = c.args.left.now in
+    let is = slot (goal.at.take-requires-clause-place c).After-index-s in
+    let exist = (within_cells c.args.cells.now.whos.items c.args.cells.now.slots.items c.args.y.now left.lacks.items left.rooms.items c.requires.within).exist c.args.e c.requires.cell in
+    rw (c.deref_mut-2.ensures.value, is) exist
 
 pub take-requires-clause-enough : goal.take-requires-clause-enough
 take-requires-clause-enough c =
