@@ -10,3 +10,6 @@ returns-in-Transversal-note-clause-room c = rw c.in-Transversal.is (rw (factor_k
 
 pub returns-in-Concave-note-clause-room : goal.returns-in-Concave-note-clause-room
 returns-in-Concave-note-clause-room c = rw c.in-Concave.is (rw (factor_kept _ c.requires.factor) at c.room_by-in-Concave-note.ensures.room)
+
+pub returns-in_default-clause-room : goal.returns-in_default-clause-room
+returns-in_default-clause-room c = rw (factor_kept _ c.requires.factor) at c.room.ensures.room
