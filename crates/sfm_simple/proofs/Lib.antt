@@ -5,6 +5,7 @@ pub mod NeedRooms
 pub mod PairRooms
 pub mod Pairs
 pub mod Places
+pub mod Scaling
 pub mod Steps
 pub mod TableRooms
 pub mod WeightRooms

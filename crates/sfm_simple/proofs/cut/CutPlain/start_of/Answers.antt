@@ -19,3 +19,9 @@ returns-clause-start c =
 
 pub returns-clause-greedy : goal.returns-clause-greedy
 returns-clause-greedy c = rw (returns-clause-start c) (cut-greedy _ c.args.q c.args.self.now.c c.args.self.now.two)
+
+pub product-most-requires-clause-factor : goal.product-most-requires-clause-factor
+product-most-requires-clause-factor c = let fq : FitsSigned w128 c.args.q = c.ranges.q in simp to_z-of_z c.requires.factor
+
+pub product-most-requires-clause-given : goal.product-most-requires-clause-given
+product-most-requires-clause-given c = let fc : FitsSigned w128 c.args.self.now.c = given_fits _ c.args.self.now.given in simp to_z-of_z (given_more _ c.args.self.now.given)

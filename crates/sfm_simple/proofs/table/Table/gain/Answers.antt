@@ -1,4 +1,4 @@
-use Rattle.std.proofs.Common.{◌≤◌, ◌+◌, ◌-◌, ◌*ℤ◌, ◌∙◌, pos, length, get_or, sym, ap, arith, rules, FitsSigned}
+use Rattle.std.proofs.Common.{◌≤◌, ◌+◌, ◌-◌, ◌*ℤ◌, ◌∙◌, pos, length, get_or, sym, ap, arith, FitsSigned}
 use Rattle.std.proofs.Math.Pow.{pow_mono}
 use Rattle.std.proofs.lemmas.Int.{to_z-of_z}
 use Rattle.std.proofs.lemmas.Nat.{pow_pos}
@@ -19,8 +19,8 @@ scaled-requires-2-clause-number c =
 
 pub overflow_sub-result : goal.overflow_sub-result
 overflow_sub-result c =
-    let fa : FitsSigned w128 c.scaled.result = search rules in
-    let fb : FitsSigned w128 c.scaled-2.result = search rules in
+    let fa : FitsSigned w128 c.scaled.result = record { sfits = c.scaled.type_inv } in
+    let fb : FitsSigned w128 c.scaled-2.result = record { sfits = c.scaled-2.type_inv } in
     simp to_z-of_z (difference_fits _ _ c.scaled.ensures.1 (at_most_more _ c.scaled-2.ensures.1))
 
 pub returns : goal.returns
@@ -28,8 +28,8 @@ returns c =
     let q = c.args.q in
     let values = c.args.self.now.values in
     let fq : FitsSigned w128 q = c.ranges.q in
-    let fa : FitsSigned w128 c.scaled.result = search rules in
-    let fb : FitsSigned w128 c.scaled-2.result = search rules in
+    let fa : FitsSigned w128 c.scaled.result = record { sfits = c.scaled.type_inv } in
+    let fb : FitsSigned w128 c.scaled-2.result = record { sfits = c.scaled-2.type_inv } in
     let fd = difference_fits _ _ c.scaled.ensures.1 (at_most_more _ c.scaled-2.ensures.1) in
     let after = (simp to_z-of_z at c.scaled.ensures.0) ∙ ap (λ n. q *ℤ get_or values (n - 1) (pos 0)) c.unit.ensures in
     let before = (simp to_z-of_z at c.scaled-2.ensures.0) ∙ ap (λ n. q *ℤ get_or values (n - 1) (pos 0)) c.unit-2.ensures in

@@ -1,4 +1,4 @@
-use Rattle.std.proofs.Common.{◌≡◌, ◌<◌, ◌^◌, ◌∙◌, length, refl, ap, arith, rules, FitsSigned, to_z, of_z, ℤ}
+use Rattle.std.proofs.Common.{◌≡◌, ◌<◌, ◌^◌, ◌∙◌, length, refl, ap, arith, FitsSigned, to_z, of_z, ℤ}
 use Rattle.std.proofs.lemmas.Bool.{false≢true}
 use Rattle.std.proofs.lemmas.Int.{ints, to_z-of_z}
 use Rattle.std.proofs.lemmas.Nat.{pow_below}
@@ -24,7 +24,7 @@ loop-s-init c =
     let q : ℤ = to_z w128 (of_z w128 c.args.q) in
     let low = pow_below c.args.u (length s.places) (omega (arith, r.from, r.entries)) in
     let split = unit_split (length x) c.args.u c.args.v r.from r.onto r.apart in
-    let f : FitsSigned w128 c.slack-least.result = search rules in
+    let f : FitsSigned w128 c.slack-least.result = record { sfits = c.slack-least.type_inv } in
     let is : c.slack-least.result ≡ slack_of q values x (2 ^ c.args.u) = c.slack-least.ensures ∙ ap (λ n. slack_of q values x n) c.unit.ensures in
     record { least = λ n h _. absurd (omega arith); reached = (2 ^ c.args.u, omega (arith, low, s.counted), split, to_z-of_z w128 c.slack-least.result f ∙ is) }
 
@@ -40,8 +40,8 @@ loop-s-preserved c =
     let lt : s < length values = omega (arith, c.loop-s-test.true, c.count-s-end.ensures) in
     elim c.if-splits.branch [
       | then-splits w ↦
-          (let fs : FitsSigned w128 w.slack.result = search rules in
-          let fm : FitsSigned w128 w.min-least.result = search rules in
+          (let fs : FitsSigned w128 w.slack.result = record { sfits = w.slack.type_inv } in
+          let fm : FitsSigned w128 w.min-least.result = record { sfits = w.min-least.type_inv } in
           let is : to_z w128 c.if-splits.least-bits ≡ w.min-least.result = w.least-is ∙ to_z-of_z w128 w.min-least.result fm in
           let b = to_z-of_z w128 w.slack.result fs ∙ w.slack.ensures in
           let m = w.min-least.ensures in

@@ -1,4 +1,4 @@
-use Rattle.std.proofs.Common.{◌≡◌, ◌<◌, ℤ, pos, length, get_or, of_z, arith, rules}
+use Rattle.std.proofs.Common.{◌≡◌, ◌<◌, ℤ, pos, length, get_or, of_z, arith}
 use Rattle.std.proofs.Math.Pow.{pow_mono}
 use Rattle.std.proofs.lemmas.Int.{ints}
 use Rattle.std.proofs.lemmas.List.Elements.{All-get_or}
@@ -22,7 +22,13 @@ pub invariant_of-result-clause-given : goal.invariant_of-result-clause-given
 invariant_of-result-clause-given c = rw c.in_ok-values.ensures c.requires.given
 
 pub invariant_of-result-clause-topped : goal.invariant_of-result-clause-topped
-invariant_of-result-clause-topped c = told_of_kept greatest c.greatest_magnitude-most.result _ _ (search rules) c.greatest_magnitude-most.ensures c.in_ok-values.ensures
+invariant_of-result-clause-topped c = told_of_kept greatest c.greatest_magnitude-most.result _ _ (record { sfits = c.greatest_magnitude-most.type_inv }) c.greatest_magnitude-most.ensures c.in_ok-values.ensures
+
+pub invariant_of-result-clause-elements : goal.invariant_of-result-clause-elements
+invariant_of-result-clause-elements c = rw c.in_ok-places.ensures c.requires.elements
+
+pub invariant_of-result-clause-counted : goal.invariant_of-result-clause-counted
+invariant_of-result-clause-counted c = rw (c.in_ok-places.ensures, c.in_ok-values.ensures) c.requires.counted
 
 from_bits : (a : ℤ) → IsGiven a → of_z w128 a ≡ 0 → a ≡ pos 0
 from_bits a h z = omega (arith, ints, z)

@@ -1,4 +1,4 @@
-use Rattle.std.proofs.Common.{◌≡◌, ◌^◌, ◌∙◌, length, ap, sym, rules}
+use Rattle.std.proofs.Common.{◌≡◌, ◌^◌, ◌∙◌, length, ap, sym}
 use Rattle.std.proofs.lemmas.Int.{to_z-of_z}
 use mir.Syntax.{w128}
 use Rattle.sfm_simple.proofs.TableRooms.{table-capacity}
@@ -10,4 +10,4 @@ returns c =
     let s = c.args.self.now in
     let counted : length s.values ≡ 2 ^ length c.args.x.now = s.counted ∙ ap (λ n. 2 ^ n) (sym r.entries) in
     let is = simp (to_z-of_z w128 c.args.q c.ranges.q) at c.least_slack.ensures in
-    simp (to_z-of_z w128 c.least_slack.result (search rules)) (table-capacity c.args.q s.values c.args.x.now counted r.base c.args.u c.args.v r.from r.onto r.apart c.least_slack.result is)
+    simp (to_z-of_z w128 c.least_slack.result (record { sfits = c.least_slack.type_inv })) (table-capacity c.args.q s.values c.args.x.now counted r.base c.args.u c.args.v r.from r.onto r.apart c.least_slack.result is)

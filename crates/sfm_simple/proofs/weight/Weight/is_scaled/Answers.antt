@@ -1,22 +1,15 @@
-use Rattle.std.proofs.Common.{◌≡◌, ℕ, ◌+◌, ◌<◌, ◌≤◌, List, [], ◌∷◌, ◌++◌, length, take, get_or, ℤ, pos, ◌*ℤ◌, refl, sym, ap, ◌∙◌, arith, rules, FitsSigned}
+use Rattle.std.proofs.Common.{◌<◌, ◌≤◌, length, get_or, pos, ◌*ℤ◌, refl, sym, ap, ◌∙◌, arith, rules, FitsSigned}
 use Rattle.std.proofs.lemmas.Bool.{false≢true}
 use Rattle.std.proofs.lemmas.Int.{to_z-of_z}
-use Rattle.std.proofs.lemmas.List.{get_or-map, map_push, take_all, take_more}
+use Rattle.std.proofs.lemmas.List.{get_or-map, take_all}
 use Rattle.std.proofs.lemmas.List.Elements.{All-get_or}
 use mir.Syntax.{w128}
 use mir.Val.{of_z, to_z}
 use Rattle.sfm_spec.specs.Bounds.{IsGiven}
 use Rattle.sfm_law.proofs.Fits.{given_fits, given_more, product_fits}
 use Rattle.sfm_simple.specs.WeightLaws.{scaled}
+use Rattle.sfm_simple.proofs.Scaling.{more_read}
 use Rattle.sfm_simple.proofs.weight.Weight.is_scaled.Goals as goal
-
-more : (q : ℤ) (weights x : List ℤ) (j : ℕ) → j < length weights → j < length x → take j x ≡ scaled q (take j weights) → get_or x j (pos 0) ≡ (q *ℤ get_or weights j (pos 0)) → take (j + 1) x ≡ scaled q (take (j + 1) weights)
-more q weights x j kw kx so_far e =
-    take_more x j (pos 0) kx
-    ∙ ap (λ z. z ++ get_or x j (pos 0) ∷ []) so_far
-    ∙ ap (λ a. scaled q (take j weights) ++ a ∷ []) e
-    ∙ sym (map_push (λ w. q *ℤ w) (take j weights) (get_or weights j (pos 0)))
-    ∙ ap (scaled q) (sym (take_more weights j (pos 0) kw))
 
 pub loop-j-preserved : goal.loop-j-preserved
 loop-j-preserved c =
@@ -32,7 +25,7 @@ loop-j-preserved c =
     let fx : FitsSigned w128 (get_or c.args.x.now j (pos 0)) = search rules in
     let made = simp to_z-of_z at (rw c.as_slice-w-items.ensures at c.product.ensures) in
     let read = simp to_z-of_z at (ap (to_z w128) (rw made at c.if-x-j.false)) in
-    simp to_z-of_z (more c.args.q me.weights c.args.x.now j kw kx so_far read)
+    simp to_z-of_z (more_read c.args.q me.weights c.args.x.now j kw kx so_far read)
 
 pub returns-then-x-j : goal.returns-then-x-j
 returns-then-x-j c =
@@ -56,3 +49,14 @@ returns c =
     let so_far = simp to_z-of_z at c.loop-j.invariant in
     let all = sym (take_all j c.args.x.now (omega (arith, end, me.same_count, c.requires.entries))) ∙ so_far ∙ ap (scaled c.args.q) (take_all j me.weights end) in
     ((λ t. all), (λ e. refl))
+
+pub product-requires-clause-factor : goal.product-requires-clause-factor
+product-requires-clause-factor c = let fq : FitsSigned w128 c.args.q = c.ranges.q in simp to_z-of_z c.requires.factor
+
+pub product-requires-clause-given : goal.product-requires-clause-given
+product-requires-clause-given c =
+    let me = c.args.self.now in
+    let j = c.loop-j.j in
+    let w : IsGiven (get_or me.weights j (pos 0)) = All-get_or IsGiven me.weights j (pos 0) (rw (← c.as_slice-w-items.ensures) c.loop-j-test.true) me.given in
+    let f : FitsSigned w128 (get_or me.weights j (pos 0)) = given_fits _ w in
+    rw c.as_slice-w-items.ensures (simp to_z-of_z (given_more _ w))

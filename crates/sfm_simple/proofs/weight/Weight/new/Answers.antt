@@ -1,4 +1,4 @@
-use Rattle.std.proofs.Common.{arith, rules}
+use Rattle.std.proofs.Common.{arith}
 use Rattle.sfm_spec.specs.Sets.{magnitudes}
 use Rattle.sfm_base.proofs.Elements.{placed_few}
 use Rattle.sfm_law.proofs.Entries.{told_of_kept}
@@ -16,4 +16,4 @@ pub invariant_of-result-clause-given : goal.invariant_of-result-clause-given
 invariant_of-result-clause-given c = rw c.in_ok-weights.ensures c.requires.given
 
 pub invariant_of-result-clause-totalled : goal.invariant_of-result-clause-totalled
-invariant_of-result-clause-totalled c = told_of_kept magnitudes c.sum_magnitudes-total.result _ _ (search rules) c.sum_magnitudes-total.ensures c.in_ok-weights.ensures
+invariant_of-result-clause-totalled c = told_of_kept magnitudes c.sum_magnitudes-total.result _ _ (record { sfits = c.sum_magnitudes-total.type_inv }) c.sum_magnitudes-total.ensures c.in_ok-weights.ensures
