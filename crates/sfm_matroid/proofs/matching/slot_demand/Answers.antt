@@ -1,7 +1,7 @@
 use Rattle.std.proofs.Common.{◌≡◌, ◌∙◌, ◌<◌, ◌++◌, ◌∷◌, List, [], ℕ, length, get_or, replicate, pos, ap, sym, arith, rules, FitsSigned}
 use Rattle.std.proofs.lemmas.Int.{to_z-of_z}
 use Rattle.std.proofs.lemmas.Grind.{take_at_read}
-use Rattle.std.proofs.lemmas.List.{get_or_read, length-replicate, take_all}
+use Rattle.std.proofs.lemmas.List.{get_or_read, length-replicate, length-take-le, take_all}
 use Rattle.std.proofs.lemmas.List.Elements.{All-get_or}
 use mir.Syntax.{w128}
 use Rattle.sfm_assign.specs.Splits.{IsAmount}
@@ -65,3 +65,11 @@ returns c =
     let demands : c.loop-e.demand.demands ≡ x = inv.demands ∙ take_all e x (rw c.requires.sized end) in
     let capacities : c.loop-e.demand.capacities ≡ replicate c.args.m c.args.most = simp to_z-of_z at inv.capacities in
     same_demands c.loop-e.demand x entries (replicate c.args.m c.args.most) demands lists capacities
+
+pub push-requires-clause-few : goal.push-requires-clause-few
+push-requires-clause-few c =
+    let x = c.args.x.now in
+    let e = c.loop-e.e in
+    let (le, item) = slots c in
+    let l = ap length c.loop-e.invariant.demands ∙ length-take-le e x (omega (arith, le, c.requires.sized)) in
+    omega (arith, l, le, c.requires.few)

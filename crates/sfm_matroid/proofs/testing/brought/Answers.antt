@@ -6,6 +6,7 @@ use Rattle.sfm_assign.specs.Splits.{CanBeMet, Demands}
 use Rattle.sfm_matroid.specs.Ends.{edges_of}
 use Rattle.sfm_matroid.specs.Notes.{end_demands}
 use Rattle.sfm_matroid.specs.Numbered.{vertex_capacities}
+use Rattle.sfm_matroid.proofs.Labels.{length-edges}
 use Rattle.sfm_matroid.proofs.Numbering.{length-vertices, same_demands, vertices_bounded}
 use Rattle.sfm_matroid.proofs.testing.brought.Goals as goal
 use Rattle.sfm_matroid.proofs.testing.brought.Goals.{After-deref, After-drop-capacities}
@@ -42,3 +43,9 @@ returns-in-Err-Shortage-clause-told c =
     let caps : c.deref.result.now ≡ vertex_capacities c.args.graph.now.vertices c.args.most c.args.a = c.deref.ensures.value ∙ simp to_z-of_z at c.in_ok-capacities.ensures in
     let end = rw (c.in-Err-Shortage.field-0-is, c.requires.over.lists, caps) at c.in-Err-Shortage.ensures.brought in
     ((λ t. absurd (false≢true t)), (λ h. absurd (end.1 h)))
+
+pub bring-requires-clause-sized : goal.bring-requires-clause-sized
+bring-requires-clause-sized c = c.requires.entries ∙ sym (c.requires.over.places ∙ length-edges c.args.graph.now.ends.items)
+
+pub bring-requires-clause-amounts : goal.bring-requires-clause-amounts
+bring-requires-clause-amounts c = c.requires.amounts

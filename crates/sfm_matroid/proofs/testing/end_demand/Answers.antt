@@ -1,6 +1,6 @@
 use Rattle.std.proofs.Common.{◌≡◌, ◌∙◌, ◌<◌, length, get_or, ap, pos, arith, FitsSigned}
 use Rattle.std.proofs.lemmas.Int.{to_z-of_z}
-use Rattle.std.proofs.lemmas.List.{length-map, take_all}
+use Rattle.std.proofs.lemmas.List.{length-map, length-take-le, take_all}
 use Rattle.std.proofs.lemmas.List.Elements.{All-get_or}
 use mir.Syntax.{w128}
 use Rattle.sfm_assign.specs.Splits.{IsAmount}
@@ -77,3 +77,13 @@ returns c =
     let demands : c.loop-e.demand.demands ≡ x = inv.demands ∙ take_all e x (rw c.requires.entries end) in
     let capacities : c.loop-e.demand.capacities ≡ caps = simp to_z-of_z at inv.capacities in
     same_demands c.loop-e.demand x lists caps demands all capacities
+
+pub push-requires-clause-few : goal.push-requires-clause-few
+push-requires-clause-few c =
+    let g = c.args.graph.now in
+    let x = c.args.x.now in
+    let e = c.loop-e.e in
+    let le : e < length g.ends.items = rw c.deref-pair-items.ensures.value at c.loop-e-test.true in
+    let l = ap length c.loop-e.invariant.demands ∙ length-take-le e x (omega (arith, le, c.requires.entries)) in
+    let few = g.few in
+    omega (arith, l, le, few)

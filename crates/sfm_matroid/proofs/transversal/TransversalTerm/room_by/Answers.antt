@@ -112,12 +112,6 @@ limit_of-limit-requires-clause-low c = let cap = c.cap_of-cap.ensures in cap_low
 pub limit_of-limit-requires-clause-high : goal.limit_of-limit-requires-clause-high
 limit_of-limit-requires-clause-high c = let cap = c.cap_of-cap.ensures in cap_high c.cap_of-cap.result cap.low cap.high
 
-pub limit_of-limit-requires-clause-from : goal.limit_of-limit-requires-clause-from
-limit_of-limit-requires-clause-from c = c.requires.from
-
-pub limit_of-limit-requires-clause-onto : goal.limit_of-limit-requires-clause-onto
-limit_of-limit-requires-clause-onto c = c.requires.onto
-
 pub grow_from-requires-clause-lists : goal.grow_from-requires-clause-lists
 grow_from-requires-clause-lists c = c.in_ok-second.ensures.lists
 
