@@ -1,13 +1,19 @@
 -- How the text grows by a piece: one more element, number or line; and the generator as its wrapping operations compute it.
-use Rattle.std.proofs.Common.{◌≡◌, ℕ, zero, suc, ◌+◌, ◌*◌, ◌/◌, ◌%◌, ◌^◌, ◌<◌, List, [], ◌∷◌, ◌++◌, length, get_or, take, ℤ, pos, ◌+ℤ◌, ◌-ℤ◌, refl, sym, ap, ◌∙◌, append_assoc, add-one}
+use Rattle.std.proofs.Common.{◌≡◌, ℕ, zero, suc, ◌+◌, ◌*◌, ◌/◌, ◌%◌, ◌^◌, ◌<◌, List, [], ◌∷◌, ◌++◌, length, get_or, take, ℤ, pos, ◌+ℤ◌, ◌-ℤ◌, Result, Ok, Err, OnOk, refl, sym, ap, ◌∙◌, append_assoc, add-one}
 use Rattle.std.proofs.Math.Nat.{mod-add-mod}
 use Rattle.std.proofs.lemmas.List.{append-nil, take_more}
 use Rattle.std.specs.Prelude.{codes}
 use Rattle.std.specs.Fmt.{decimal, signed_decimal}
 use Rattle.sfm_demo.specs.declared.kind.Kind.{Kind}
+use Rattle.sfm_demo.specs.declared.kind.Kind.TheVariants.{Table}
 use Rattle.sfm_demo.specs.Draws.{Drawing, done, next, top, ◌>>◌}
 use Rattle.sfm_demo.specs.DemoText.{demo_text_of, each, element, falling, level, line_of, lines, pair, series, set_values}
-use Rattle.sfm_demo.specs.Names.{IsPut, names, numbers, first_lines, last_lines, term_lines}
+use Rattle.sfm_demo.specs.Names.{IsPut, names, numbers, first_lines, last_lines, table_drawn, term_lines}
+
+-- what is said of a result that is passed on
+pub passed_on : {T E P Q : Type 0} (r : Result T E) → (P → Q) → OnOk r P → OnOk r Q
+passed_on (Ok _) then h = then h
+passed_on (Err _) then h = tt
 
 pub next-wrapping : (s : ℕ) → (s * 6364136223846793005 % 2 ^ 64 + 1442695040888963407) % 2 ^ 64 ≡ next s
 unfolding next
@@ -111,13 +117,29 @@ numbers_more x i out out' more h text put =
     ∙ ap (λ w. out ++ w) (sym (numbers-append (take i x) (a ∷ [])) ∙ ap numbers (sym (take_more x i (pos 0) h)))
 
 -- a line of numbers, a colon and names, in the pieces that it is put down in
-pub divided : (o o1 o2 o3 o4 first xs names : List ℕ) → o1 ≡ o ++ first → o2 ≡ o1 ++ xs → o3 ≡ o2 ++ (32 ∷ 58 ∷ []) → o4 ≡ o3 ++ names → o4 ≡ o ++ (first ++ (xs ++ ((32 ∷ 58 ∷ []) ++ names)))
-divided o o1 o2 o3 o4 first xs names h1 h2 h3 h4 = rw (h4, h3, h2, h1) (simp append_assoc)
+divided : (o o1 o2 o3 first xs names : List ℕ) → o1 ≡ o ++ first → o2 ≡ o1 ++ xs → o3 ≡ o2 ++ (codes " :" ++ names) → o3 ≡ o ++ (first ++ (xs ++ (codes " :" ++ names)))
+divided o o1 o2 o3 first xs names h1 h2 h3 = rw (h3, h2, h1) (simp append_assoc)
 
-pub table_drawn : (s s0 s1 s2 s3 t : ℕ) (x y z : ℤ) (v : List ℤ) → s0 ≡ s → v ≡ set_values x y z (pos t) → x ≡ (level s0).value → s1 ≡ (level s0).state → y ≡ (level s1).value → s2 ≡ (level s1).state
-    → z ≡ (level s2).value → s3 ≡ (level s2).state → t ≡ top 300 (next s3)
-    → v ≡ set_values (level s).value (level (level s).state).value (level (level (level s).state).state).value (pos (top 300 (next (level (level (level s).state).state).state)))
-table_drawn s s0 s1 s2 s3 t x y z v e0 ev ex e1 ey e2 ez e3 et = rw (ev, ex, ey, ez, et, e3, e2, e1, e0) refl
+pub values_drawn : (s s1 s2 s3 t : ℕ) (x y z : ℤ) (v : List ℤ) → v ≡ set_values x y z (pos t) → x ≡ (level s).value → s1 ≡ (level s).state → y ≡ (level s1).value → s2 ≡ (level s1).state
+    → z ≡ (level s2).value → s3 ≡ (level s2).state → t ≡ top 300 (next s3) → v ≡ (table_drawn s).value
+unfolding table_drawn
+values_drawn s s1 s2 s3 t x y z v ev ex e1 ey e2 ez e3 et = rw (ev, ex, ey, ez, et, e3, e2, e1) refl
+
+pub values_after : (s s1 s2 s3 s4 : ℕ) → s1 ≡ (level s).state → s2 ≡ (level s1).state → s3 ≡ (level s2).state → s4 ≡ next s3 → s4 ≡ (table_drawn s).state
+unfolding table_drawn
+values_after s s1 s2 s3 s4 e1 e2 e3 e4 = rw (e4, e3, e2, e1) refl
+
+pub table_put : (out out1 out2 more : List ℕ) (s s1 s2 p : ℕ) (v : List ℤ) → p ≡ top 200 (next s) → s1 ≡ next s → v ≡ (table_drawn s1).value → s2 ≡ (table_drawn s1).state
+    → out1 ≡ out ++ codes "table" → out2 ≡ out1 ++ numbers v → more ≡ out2 ++ (codes " :" ++ names p 17 3) → IsPut (line_of Table) out more s s2
+unfolding line_of table_drawn
+table_put out out1 out2 more s s1 s2 p v ep e1 ev e2 h1 h2 h3 =
+    let z = table_drawn (next s) in
+    let q = top 200 (next s) in
+    record {
+      text = divided out out1 out2 more (codes "table") (numbers z.value) (each element q 17 3 z.state).value h1 (h2 ∙ ap (λ w. out1 ++ numbers w) (ev ∙ ap (λ n. (table_drawn n).value) e1))
+          (h3 ∙ ap (λ n. out2 ++ (codes " :" ++ names n 17 3)) ep ∙ ap (λ w. out2 ++ (codes " :" ++ w)) (sym (named q 17 3 z.state)));
+      after = e2 ∙ ap (λ n. (table_drawn n).state) e1 ∙ sym (still q 17 3 z.state);
+    }
 
 pub level_of : (s n : ℕ) (a : ℤ) → n ≡ top 401 (next s) → a ≡ pos n -ℤ pos 200 → a ≡ (level s).value
 unfolding level
@@ -139,26 +161,26 @@ lines_more kind n s s' s'' out out' put more before line feed =
     series_more (λ i. line_of kind >> done (codes "\n")) n s s' s'' out out' more before
     (behind (line_of kind) (done (codes "\n")) s' s'' s'' out' put more line (record { text = feed; after = refl }))
 
--- eight pieces, one behind another
-pieces : (o o1 o2 o3 o4 o5 o6 o7 ground weights terms : List ℕ) → o ≡ [] → o1 ≡ o ++ codes "sfm 1\nground" → o2 ≡ o1 ++ ground → o3 ≡ o2 ++ codes "\nweight" → o4 ≡ o3 ++ weights
+-- seven pieces, one behind another
+pieces : (o o1 o2 o3 o4 o5 o6 o7 ground weights terms : List ℕ) → o1 ≡ o ++ codes "sfm 1\nground" → o2 ≡ o1 ++ ground → o3 ≡ o2 ++ codes "\nweight" → o4 ≡ o3 ++ weights
     → o5 ≡ o4 ++ codes "\n" → o6 ≡ o5 ++ terms → o7 ≡ o6 ++ codes "end\n"
-    → o7 ≡ (codes "sfm 1\nground" ++ ground) ++ ((codes "\nweight" ++ weights) ++ (codes "\n" ++ (terms ++ codes "end\n")))
-pieces o o1 o2 o3 o4 o5 o6 o7 ground weights terms h h1 h2 h3 h4 h5 h6 h7 = rw (h7, h6, h5, h4, h3, h2, h1, h) (simp append_assoc)
+    → o7 ≡ o ++ ((codes "sfm 1\nground" ++ ground) ++ ((codes "\nweight" ++ weights) ++ (codes "\n" ++ (terms ++ codes "end\n"))))
+pieces o o1 o2 o3 o4 o5 o6 o7 ground weights terms h1 h2 h3 h4 h5 h6 h7 = rw (h7, h6, h5, h4, h3, h2, h1) (simp append_assoc)
 
 -- four pieces, bracketed as the lines of a block are
 halves : (feed first last end : List ℕ) → feed ++ ((first ++ last) ++ end) ≡ (feed ++ first) ++ (last ++ end)
 halves feed first last end = ap (λ l. feed ++ l) (append_assoc first last end) ∙ sym (append_assoc feed first (last ++ end))
 
-pub whole : (o o1 o2 o3 o4 o5 o6 o7 : List ℕ) (seed s s' : ℕ) → o ≡ [] → o1 ≡ o ++ codes "sfm 1\nground" → o2 ≡ o1 ++ names 0 1 200 → o3 ≡ o2 ++ codes "\nweight" → s ≡ seed
-    → o4 ≡ o3 ++ (each pair 0 1 200 s).value → s' ≡ (each pair 0 1 200 s).state → o5 ≡ o4 ++ codes "\n" → o6 ≡ o5 ++ (term_lines s').value → o7 ≡ o6 ++ codes "end\n" → o7 ≡ demo_text_of seed
+pub whole : (o o1 o2 o3 o4 o5 o6 o7 : List ℕ) (seed s' : ℕ) → o1 ≡ o ++ codes "sfm 1\nground" → o2 ≡ o1 ++ names 0 1 200 → o3 ≡ o2 ++ codes "\nweight"
+    → o4 ≡ o3 ++ (each pair 0 1 200 seed).value → s' ≡ (each pair 0 1 200 seed).state → o5 ≡ o4 ++ codes "\n" → o6 ≡ o5 ++ (term_lines s').value → o7 ≡ o6 ++ codes "end\n"
+    → o7 ≡ o ++ demo_text_of seed
 unfolding demo_text_of term_lines
-whole o o1 o2 o3 o4 o5 o6 o7 seed s s' h h1 h2 h3 e h4 e' h5 h6 h7 =
-    let same : (each element 0 1 200 seed).state ≡ seed = still 0 1 200 seed in
-    let start : s ≡ (each element 0 1 200 seed).state = e ∙ sym same in
+whole o o1 o2 o3 o4 o5 o6 o7 seed s' h1 h2 h3 h4 e' h5 h6 h7 =
+    let start : seed ≡ (each element 0 1 200 seed).state = sym (still 0 1 200 seed) in
     let weighed : ℕ = (each pair 0 1 200 (each element 0 1 200 seed).state).state in
     let ground : List ℕ = (each element 0 1 200 seed).value in
     let weights : List ℕ = (each pair 0 1 200 (each element 0 1 200 seed).state).value in
     pieces o o1 o2 o3 o4 o5 o6 o7 ground weights (term_lines weighed).value
-    h h1 (h2 ∙ ap (λ w. o1 ++ w) (sym (named 0 1 200 seed))) h3 (h4 ∙ ap (λ t. o3 ++ (each pair 0 1 200 t).value) start) h5
+    h1 (h2 ∙ ap (λ w. o1 ++ w) (sym (named 0 1 200 seed))) h3 (h4 ∙ ap (λ t. o3 ++ (each pair 0 1 200 t).value) start) h5
     (h6 ∙ ap (λ t. o5 ++ (term_lines t).value) (e' ∙ ap (λ t. (each pair 0 1 200 t).state) start)) h7
-    ∙ ap (λ l. (codes "sfm 1\nground" ++ ground) ++ ((codes "\nweight" ++ weights) ++ l)) (halves (codes "\n") (first_lines weighed).value (last_lines (first_lines weighed).state).value (codes "end\n"))
+    ∙ ap (λ l. o ++ ((codes "sfm 1\nground" ++ ground) ++ ((codes "\nweight" ++ weights) ++ l))) (halves (codes "\n") (first_lines weighed).value (last_lines (first_lines weighed).state).value (codes "end\n"))

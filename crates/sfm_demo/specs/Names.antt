@@ -1,12 +1,12 @@
 -- The pieces of the text as the code writes them: names, for which nothing is drawn, numbers, and the lines of all terms.
-use Rattle.std.specs.Prelude.{◌≡◌, ℕ, List, ◌∷◌, ◌++◌, ℤ}
+use Rattle.std.specs.Prelude.{◌≡◌, ℕ, List, ◌∷◌, ◌++◌, ℤ, pos}
 use Rattle.std.specs.Fmt.{signed_decimal}
 use Rattle.std.specs.List.{flat_map}
 use Rattle.sfm_demo.specs.declared.kind.Item.{Item}
 use Rattle.sfm_demo.specs.declared.kind.Item.TheVariants.{Pair, Edge, Entry}
 use Rattle.sfm_demo.specs.declared.kind.Kind.TheVariants.{Cut, Need, Cover, Concave, Uniform, Laminar, Graphic, Transversal, Table}
-use Rattle.sfm_demo.specs.Draws.{Drawing, ◌>>◌}
-use Rattle.sfm_demo.specs.DemoText.{each, edge, element, entry, lines, pair}
+use Rattle.sfm_demo.specs.Draws.{Drawing, draw, done, ◌>>=◌, ◌>>◌}
+use Rattle.sfm_demo.specs.DemoText.{each, edge, element, entry, level, lines, pair, set_values}
 
 -- the text that is drawn from a state on stands behind what was there, and its draws are made
 pub record IsPut (piece : Drawing (List ℕ)) (out more : List ℕ) (from to : ℕ) : Type 0 where
@@ -36,3 +36,12 @@ last_lines = lines 5 Uniform >> lines 5 Laminar >> lines 5 Graphic >> lines 5 Tr
 
 unfoldable pub term_lines : Drawing (List ℕ)
 term_lines = first_lines >> last_lines
+
+-- the values of the sets of a table
+unfoldable pub table_drawn : Drawing (List ℤ)
+table_drawn = do
+  x ← level
+  y ← level
+  z ← level
+  t ← draw 300
+  done (set_values x y z (pos t))

@@ -5,12 +5,12 @@
 ghost use Rattle.std.specs.Prelude.{◌≡◌, ◌+◌, ◌%◌, ◌<◌, ◌++◌, OnOk, pos, neg_ℤ, ◌≤ℤ◌};
 ghost use Rattle.std.specs.String.{string_bytes};
 ghost use Rattle.sfm_demo.specs.DemoText.{line_of, level, set_values};
-ghost use Rattle.sfm_demo.specs.Names.{IsPut};
+ghost use Rattle.sfm_demo.specs.Names.{IsPut, table_drawn};
 ghost use Rattle.sfm_demo.specs.declared.kind.Kind.TheVariants.{Cut, Need, Cover, Concave, Uniform, Laminar, Graphic, Transversal, Table};
 
 use crate::draws::Draws;
 use crate::kind::Item;
-use crate::words::{ELEMENTS, write_items, write_numbers, write_run, write_sums};
+use crate::words::{ELEMENTS, write_items, write_numbers, write_run, write_set, write_sums};
 use std::alloc::AllocError;
 
 /// The element that stands d + 1 behind a.
@@ -59,8 +59,7 @@ pub fn write_concave(out: &mut String, draws: &mut Draws) -> Result<(), AllocErr
     let first = draws.draw(600);
     write!(out, "concave {first}")?;
     write_sums(out, draws, first as i64, 7)?;
-    write!(out, " :")?;
-    write_run(out, p, 11, 8)
+    write_set(out, p, 11, 8)
 }
 
 /// The rank of a uniform matroid of ten elements.
@@ -70,8 +69,8 @@ pub fn write_uniform(out: &mut String, draws: &mut Draws) -> Result<(), AllocErr
     let w = draws.draw(500);
     let c = 1 + draws.draw(9);
     let p = draws.draw(200);
-    write!(out, "rank {w} uniform {c} :")?;
-    write_run(out, p, 3, 10)
+    write!(out, "rank {w} uniform {c}")?;
+    write_set(out, p, 3, 10)
 }
 
 /// The rank of a laminar matroid of ten elements, with two groups.
@@ -81,8 +80,8 @@ pub fn write_laminar(out: &mut String, draws: &mut Draws) -> Result<(), AllocErr
     let w = draws.draw(500);
     let c = 1 + draws.draw(2);
     let p = draws.draw(200);
-    write!(out, "rank {w} laminar :")?;
-    write_run(out, p, 1, 10)?;
+    write!(out, "rank {w} laminar")?;
+    write_set(out, p, 1, 10)?;
     write!(out, " ; 4")?;
     write_run(out, p, 1, 6)?;
     write!(out, " ; {c}")?;
@@ -132,16 +131,21 @@ fn table_values(x: i64, y: i64, z: i64, t: u64) -> [i64; 8]
     ensures { result ≡ set_values x y z (pos t) }
 {
     let t = t as i64;
-    [
-        0,
-        x + t,
-        y + t,
-        x + y + t,
-        z + t,
-        x + z + t,
-        y + z + t,
-        x + y + z + t,
-    ]
+    let xy = x + y;
+    let zt = z + t;
+    [0, x + t, y + t, xy + t, zt, x + zt, y + zt, xy + zt]
+}
+
+/// The values of the sets of three elements, drawn: what the members bring, and then what all sets but the empty one have more.
+fn draw_values(draws: &mut Draws) -> [i64; 8]
+    ensures value { result ≡ (table_drawn draws.old).value }
+    ensures after { draws.new ≡ (table_drawn draws.old).state }
+{
+    let x = draw_level(draws);
+    let y = draw_level(draws);
+    let z = draw_level(draws);
+    let t = draws.draw(300);
+    table_values(x, y, z, t)
 }
 
 /// A table of the sets of three elements.
@@ -149,13 +153,8 @@ pub fn write_table(out: &mut String, draws: &mut Draws) -> Result<(), AllocError
     ensures { OnOk result (IsPut (line_of Table) (string_bytes out.old) (string_bytes out.new) draws.old draws.new) }
 {
     let p = draws.draw(200);
-    let x = draw_level(draws);
-    let y = draw_level(draws);
-    let z = draw_level(draws);
-    let t = draws.draw(300);
+    let values = draw_values(draws);
     write!(out, "table")?;
-    write_numbers(out, &table_values(x, y, z, t))?;
-    write!(out, " :")?;
-    write_run(out, p, 17, 3)?;
-    Ok(())
+    write_numbers(out, &values)?;
+    write_set(out, p, 17, 3)
 }

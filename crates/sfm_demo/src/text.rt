@@ -64,6 +64,19 @@ fn write_terms(out: &mut String, draws: &mut Draws) -> Result<(), AllocError>
     Ok(())
 }
 
+/// The whole text, drawn from the first state of the generator on.
+fn write_text(out: &mut String, draws: &mut Draws) -> Result<(), AllocError>
+    ensures { OnOk result (string_bytes out.new ≡ string_bytes out.old ++ demo_text_of draws.old) }
+{
+    write!(out, "sfm 1\nground")?;
+    write_run(out, 0, 1, ELEMENTS)?;
+    write!(out, "\nweight")?;
+    write_items(out, draws, Item::Pair, 0, 1, ELEMENTS)?;
+    writeln!(out)?;
+    write_terms(out, draws)?;
+    writeln!(out, "end")
+}
+
 /// The text of the demonstration instance of a seed.
 ///
 /// # Errors
@@ -74,13 +87,6 @@ pub fn demo_text(alloc: Global, seed: u64) -> Result<Vec<u8>, Memory>
     ensures { IfOk result (λ r. r.items ≡ demo_text_of seed) }
 {
     let mut out = String::new(alloc);
-    let mut draws = Draws::new(seed);
-    write!(out, "sfm 1\nground")?;
-    write_run(&mut out, 0, 1, ELEMENTS)?;
-    write!(out, "\nweight")?;
-    write_items(&mut out, &mut draws, Item::Pair, 0, 1, ELEMENTS)?;
-    writeln!(out)?;
-    write_terms(&mut out, &mut draws)?;
-    writeln!(out, "end")?;
+    write_text(&mut out, &mut Draws::new(seed))?;
     Ok(out.into_bytes())
 }

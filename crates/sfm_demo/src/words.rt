@@ -1,5 +1,5 @@
 // Words of a line, put at the end of a text with a space in front of each: elements, what is drawn for an element, and numbers.
-ghost use Rattle.std.specs.Prelude.{◌≡◌, ◌<◌, ◌≤◌, ◌++◌, OnOk, pos, ◌≤ℤ◌};
+ghost use Rattle.std.specs.Prelude.{◌≡◌, ◌<◌, ◌≤◌, ◌++◌, OnOk, codes, pos, ◌≤ℤ◌};
 ghost use Rattle.std.specs.String.{string_bytes};
 ghost use Rattle.sfm_demo.specs.DemoText.{each, edge, entry, falling, pair};
 ghost use Rattle.sfm_demo.specs.Names.{IsPut, item_of, names, numbers};
@@ -25,6 +25,17 @@ pub fn write_run(out: &mut String, p: u64, step: u64, count: u64) -> Result<(), 
         write!(out, " e{e}")?;
     }
     Ok(())
+}
+
+/// A colon, and so many elements.
+pub fn write_set(out: &mut String, p: u64, step: u64, count: u64) -> Result<(), AllocError>
+    requires first { p < 200 }
+    requires step { step < 200 }
+    requires count { count ≤ 200 }
+    ensures { OnOk result (string_bytes out.new ≡ string_bytes out.old ++ (codes " :" ++ names p step count)) }
+{
+    write!(out, " :")?;
+    write_run(out, p, step, count)
 }
 
 /// An element with a weight.
