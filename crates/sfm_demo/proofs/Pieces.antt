@@ -7,7 +7,7 @@ use Rattle.std.specs.Fmt.{decimal, signed_decimal}
 use Rattle.sfm_demo.specs.declared.kind.Kind.{Kind}
 use Rattle.sfm_demo.specs.declared.kind.Kind.TheVariants.{Table}
 use Rattle.sfm_demo.specs.Draws.{Drawing, done, next, top, ◌>>◌}
-use Rattle.sfm_demo.specs.DemoText.{demo_text_of, each, element, falling, level, line_of, lines, pair, series, set_values}
+use Rattle.sfm_demo.specs.DemoText.{demo_text_of, each, edge, element, falling, level, line_of, lines, pair, series, set_values}
 use Rattle.sfm_demo.specs.Names.{IsPut, names, numbers, first_lines, last_lines, table_drawn, term_lines}
 
 -- what is said of a result that is passed on
@@ -80,6 +80,12 @@ unfolding names element
 names_more p step j e out out' more here before put =
     let s : ℕ = (each element p step j 0).state in
     (each_more element p step j e 0 s s out out' more here (record { text = before; after = refl }) (record { text = put; after = refl })).text
+
+-- an element as an edge, of two drawn vertices
+pub edge_put : (out more : List ℕ) (s s1 s2 e u x : ℕ) → u ≡ top 6 (next s) → s1 ≡ next s → x ≡ top 6 (next s1) → s2 ≡ next s1
+    → more ≡ out ++ (codes " e" ++ (decimal e ++ (codes "=v" ++ (decimal u ++ (codes "-v" ++ decimal x))))) → IsPut (edge e) out more s s2
+unfolding edge element
+edge_put out more s s1 s2 e u x eu e1 ex e2 h = record { text = rw (h, eu, ex, e1) (simp append_assoc); after = e2 ∙ ap next e1 }
 
 -- pieces side by side, and names for which nothing is drawn
 pub ruleset joining = (append_assoc, named, still)

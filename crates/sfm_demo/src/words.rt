@@ -48,7 +48,6 @@ fn write_pair(out: &mut String, draws: &mut Draws, e: u64) -> Result<(), AllocEr
 }
 
 /// An element as an edge of two vertices.
-#[tactic(auto, unfolding(crate::specs::DemoText::edge, crate::specs::DemoText::element))]
 fn write_edge(out: &mut String, draws: &mut Draws, e: u64) -> Result<(), AllocError>
     ensures { OnOk result (IsPut (edge e) (string_bytes out.old) (string_bytes out.new) draws.old draws.new) }
 {
