@@ -1,29 +1,11 @@
 -- Cutting at a byte: what is found, and what is left behind it.
-use Rattle.std.specs.Option.{option_map}
-use Rattle.std.proofs.Common.{Option, Some, None, MatchOption, Bor, slice_get, take, drop, cond, sym, ◌≡◌, ℕ, ◌+◌, ◌-◌, ◌<◌, ◌≤◌, ◌⊎◌, inl, inr, Bool, true, false, List, [], ◌∷◌, length, not, refl, arith}
+use Rattle.std.proofs.Common.{Option, Some, None, take, drop, cond, sym, ◌≡◌, ℕ, ◌+◌, ◌-◌, ◌<◌, ◌≤◌, ◌⊎◌, inl, inr, Bool, true, false, List, [], ◌∷◌, length, get_or, not, refl, arith}
 use Prim.Native.Nat.{zero, suc}
-use Rattle.std.specs.Prelude.{◌==◌, nat_eq, nat_lt, unwrap_or}
-use Rattle.std.specs.List.{position_or_len, slice_split, onto_first}
+use Rattle.std.specs.Prelude.{◌==◌, nat_lt, unwrap_or}
+use Rattle.std.specs.List.{All, position_or_len, slice_split, onto_first}
 use Rattle.std.proofs.lemmas.Bool.{cases_lt, lt-ltb, le-ltb, eqb-true}
-use Rattle.std.proofs.lemmas.Bool.Decides.{nat_tests}
 use Rattle.std.proofs.lemmas.List.{take_all, length-drop}
 use Rattle.std.proofs.lemmas.List.Sums.{prefix_len-le-length}
-use Rattle.sfm_lines.specs.Lines.{has_bytes}
-
--- what `!piece.is_empty()` says
-pub has_bytes-is : (piece : List ℕ) → not (nat_eq (length piece) 0) ≡ has_bytes piece
-has_bytes-is [] = refl
-has_bytes-is (c ∷ piece) = grind (arith, nat_tests)
-
--- an item or none, from what stands at a place of a list
-pub slice_get_cases : (xs : List (List ℕ)) (i : ℕ) (r : Option (Bor (List ℕ))) → option_map (λ x. x.now) r ≡ slice_get xs i → MatchOption r (length xs ≤ i) (λ x. slice_get xs i ≡ Some x.now)
-slice_get_cases xs i None h = none_past xs i (sym h)
-  where
-    none_past : (xs : List (List ℕ)) (i : ℕ) → slice_get xs i ≡ None → length xs ≤ i
-    none_past [] i e = omega arith
-    none_past (x ∷ xs) zero e = cc
-    none_past (x ∷ xs) (suc i) e = omega (arith, none_past xs i e)
-slice_get_cases xs i (Some x) h = sym h
 
 -- where nothing is found, the list is the one piece
 pub split-none : (p : ℕ → Bool) (xs : List ℕ) → length xs ≤ position_or_len p xs → slice_split p xs ≡ xs ∷ []
@@ -56,3 +38,20 @@ not_empty xs h = nat_lt_of (length xs) h
 -- what `is_empty` says of a count
 pub none-count : (n : ℕ) → true ≡ (n == 0) → n ≡ 0
 none-count n h = eqb-true n 0 (sym h)
+
+-- where nothing passes, the length
+pub place-none : (p : ℕ → Bool) (xs : List ℕ) (i : ℕ) → length xs ≤ i → All (λ c. p c ≡ false) (take i xs) → length xs ≡ position_or_len p xs
+place-none p xs i ge none = all_of xs (rw (take_all i xs ge) at none)
+  where
+    all_of : (xs : List ℕ) → All (λ c. p c ≡ false) xs → length xs ≡ position_or_len p xs
+    all_of [] none = refl
+    all_of (x ∷ xs) none = let no : p x ≡ false = none 0 x (omega arith) in let rest = all_of xs (λ k d lt. none (suc k) d (omega (arith, lt))) in rw no (omega (arith, rest))
+
+-- the place of what passes behind such as do not
+pub place-here : (p : ℕ → Bool) (xs : List ℕ) (i d : ℕ) → i < length xs → All (λ c. p c ≡ false) (take i xs) → p (get_or xs i d) ≡ true → i ≡ position_or_len p xs
+place-here p [] i d lt none is = absurd (omega (arith, lt))
+place-here p (x ∷ xs) zero d lt none is = rw is refl
+place-here p (x ∷ xs) (suc i) d lt none is =
+    let no : p x ≡ false = none 0 x (omega arith) in
+    let rest = place-here p xs i d (omega (arith, lt)) (λ k e m. none (suc k) e (omega (arith, m))) is in
+    rw no (omega (arith, rest))

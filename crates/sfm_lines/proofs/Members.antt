@@ -16,10 +16,21 @@ use Rattle.sfm_lines.specs.RankLines.{is_among, members_of, group_of, groups_of,
 use Rattle.sfm_lines.proofs.LeastGroups.{with-more}
 use Rattle.sfm_lines.proofs.Repeats.{text-at}
 
--- what is told of texts is told of what points to them
-pub among-now : (texts : List (Bor (List ℕ))) (text : List ℕ) → list_any (λ other. bytes_eq other.now text) texts ≡ is_among (map (λ t. t.now) texts) text
-among-now [] text = refl
-among-now (t ∷ texts) text = ap (λ b. bytes_eq t.now text || b) (among-now texts text)
+either : (b : Bool) → (b || true) ≡ true
+either true = refl
+either false = refl
+
+-- a text that a pass over texts finds, and one that it does not find
+pub among-here : (texts : List (Bor (List ℕ))) (text : List ℕ) (i : ℕ) (d : Bor (List ℕ)) → i < length texts → bytes_eq (get_or texts i d).now text ≡ true → is_among (map (λ t. t.now) texts) text ≡ true
+among-here [] text i d lt is = absurd (omega (arith, lt))
+among-here (t ∷ texts) text zero d lt is = rw is refl
+among-here (t ∷ texts) text (suc i) d lt is = rw (among-here texts text i d (omega (arith, lt)) is) (either (bytes_eq t.now text))
+
+pub among-none : (texts : List (Bor (List ℕ))) (text : List ℕ) → All (λ other. bytes_eq other text ≡ false) (map (λ t. t.now) texts) → is_among (map (λ t. t.now) texts) text ≡ false
+among-none [] text none = refl
+among-none (t ∷ texts) text none =
+    let no : bytes_eq t.now text ≡ false = none 0 t.now (omega arith) in
+    rw (no, among-none texts text (λ k d lt. none (suc k) d (omega (arith, lt)))) refl
 
 pub among-contains : (texts : List (List ℕ)) (text : List ℕ) → is_among texts text ≡ true → Contains texts text
 among-contains texts text h =
@@ -36,10 +47,6 @@ pub contains-among : (texts : List (List ℕ)) (text : List ℕ) → Contains te
 contains-among [] text (k, lt, e) = absurd (omega arith)
 contains-among (t ∷ texts) text (zero, lt, e) = rw ((bytes_eq-Decides t text).1 e) refl
 contains-among (t ∷ texts) text (suc k, lt, e) = rw (contains-among texts text (k, omega arith, e)) (either (bytes_eq t text))
-  where
-    either : (b : Bool) → (b || true) ≡ true
-    either true = refl
-    either false = refl
 
 -- ---- one more element
 range-suc : (a n : ℕ) → range_with_len a (suc n) ≡ range_with_len a n ++ (a + n) ∷ []

@@ -21,7 +21,7 @@ use Rattle.sfm_lines.specs.Parts.{LineParts}
 use Rattle.sfm_lines.specs.Words.{word_text, lowest_of, HasParts, BreaksLaw}
 use Rattle.sfm_lines.specs.TermLines.{IsNumberFrom, IsElement, StandsTwice}
 use Rattle.sfm_lines.specs.Reading.{State, Has, HasStranger, HasWrongLabel, HasSlotTwice, FirstReason, reason_order}
-use Rattle.sfm_lines.specs.ReadParts.{state_at, IsLineOf, IsKnown, IsEntryLine}
+use Rattle.sfm_lines.specs.ReadParts.{state_at, IsPartsReason, IsLineOf, IsKnown, IsEntryLine}
 use Rattle.sfm_lines.proofs.WordLines.{of-term-line, not-end, shaped-here}
 use Rattle.sfm_lines.proofs.Matches.{AllZip-at, AllZip-both, AllZip-same, length-AllZip}
 use Rattle.sfm_lines.proofs.Numbers.{from-same}
@@ -217,6 +217,21 @@ module _ (instance : InstanceData) (word : TermWord) (rest : List (List ℕ)) (l
             -- the law is kept
             pub none-total : (reason : Reason) → reason_order reason < 8 → Has (state_at Terms instance) line reason → ⊥
             none-total = none-below (state_at Terms instance) line 8 (λ lt h. is.good_bytes h) (λ lt h. h.1 word rest is.tokens_are) (λ lt h. h.1 word rest parts (is.tokens_are, shape)) (λ lt h. no-number h) (λ lt h. no-name h) (λ lt h. no-twice h) (λ lt h. no-law h) (λ lt. absurd (omega arith))
+
+      -- what is wrong with groups, labels and places
+      pub at-parts : (places : List ℕ) → AreElementNames instance.names → AllZip (IsElement instance.names) parts.elements places → (reason : Reason) → IsPartsReason parts places reason → FirstReason (state_at Terms instance) line reason
+      at-parts places named elements Name (inl stranger) = at-stranger stranger
+      at-parts places named elements Name (inr wrong) = at-label wrong
+      at-parts places named elements Twice (forms, inl twice) = at-twice places named elements forms.members forms.labels twice
+      at-parts places named elements Twice (forms, inr any) = at-member-twice places named elements forms.members forms.labels any
+      at-parts places named elements Long h = absurd h
+      at-parts places named elements Bytes h = absurd h
+      at-parts places named elements Word h = absurd h
+      at-parts places named elements Shape h = absurd h
+      at-parts places named elements Number h = absurd h
+      at-parts places named elements Law h = absurd h
+      at-parts places named elements Total h = absurd h
+      at-parts places named elements Short h = absurd h
 
 -- ---- names
 

@@ -1,11 +1,13 @@
 -- What the parts of a line stand for, and what is known of a line whose parts have been read.
-use Rattle.std.specs.Prelude.{◌≡◌, ◌≢◌, ◌+◌, ◌<◌, ◌^◌, ◌≤ℤ◌, ℕ, List, [], ◌∷◌, length, codes, map, Any, Option, MatchOption, ℤ}
+use Rattle.std.specs.Prelude.{◌≡◌, ◌≢◌, ◌⊎◌, ◌+◌, ◌<◌, ◌^◌, ◌≤ℤ◌, ℕ, List, [], ◌∷◌, length, codes, map, Any, Contains, Option, MatchOption, ℤ}
 use Rattle.std.specs.List.{All, flat_map}
 use Rattle.sfm_spec.specs.Bounds.{IsAtMost, AreElements}
+use Rattle.sfm_spec.specs.Names.{IsName}
 use Rattle.sfm_kind.specs.Instance.{InstanceData}
 use Rattle.sfm_kind.specs.Meanings.{kind_places}
 use Rattle.sfm_kind.specs.declared.kind.Kind.{Kind}
 use Rattle.sfm_lines.specs.declared.reason.Reason.{Reason}
+use Rattle.sfm_lines.specs.declared.reason.Reason.TheVariants.{Name, Twice}
 use Rattle.sfm_lines.specs.declared.stage.Stage.{Stage}
 use Rattle.sfm_lines.specs.declared.stage.Stage.TheVariants.{Terms}
 use Rattle.sfm_lines.specs.declared.labels.Labels.{Labels}
@@ -17,8 +19,8 @@ use Rattle.sfm_lines.specs.Lines.{texts_of, text_lists_of, tokens_of}
 use Rattle.sfm_lines.specs.Parts.{LineParts, IsLabelledLine}
 use Rattle.sfm_lines.specs.CutParts.{AreCounts}
 use Rattle.sfm_lines.specs.Words.{word_text, lowest_of, BreaksLaw, IsMadeOf}
-use Rattle.sfm_lines.specs.TermLines.{AreRead, StandsFor, IsNumberFrom, IsElement}
-use Rattle.sfm_lines.specs.Reading.{State, IsBadByte, Has, reason_order}
+use Rattle.sfm_lines.specs.TermLines.{AreRead, StandsFor, StandsTwice, IsNumberFrom, IsElement}
+use Rattle.sfm_lines.specs.Reading.{State, IsBadByte, HasStranger, HasWrongLabel, Has, reason_order}
 
 -- the texts that labels point to
 abbrev pub label_lists_of : List Labels → List (List (List ℕ))
@@ -48,6 +50,23 @@ pub record AreReady (word : TermWord) (parts : LineParts) (values : List ℤ) (p
   pub read : AreRead word parts values places
   pub other : parts.rank ≢ TransversalRank
   pub few : length (joined parts.labels) < 2 ^ 24
+
+-- each name of a group is that of an element of the line, and each label has the form of a name
+pub record ArePartsNamed (parts : LineParts) : Type 0 where
+  pub members : All (λ names. All (Contains parts.elements) names) parts.groups
+  pub labels : All (λ texts. All IsName texts) parts.labels
+
+-- and neither an element, by its place, stands twice, nor a name of a group
+pub record ArePartsGood (parts : LineParts) (places : List ℕ) : Type 0 where
+  pub named : ArePartsNamed parts
+  pub once : StandsTwice places → ⊥
+  pub members_once : All (λ names. StandsTwice names → ⊥) parts.groups
+
+-- the first reason of groups, labels and places
+abbrev pub IsPartsReason : LineParts → List ℕ → Reason → Type 0
+IsPartsReason parts places Name = HasStranger parts ⊎ HasWrongLabel parts
+IsPartsReason parts places Twice = ArePartsNamed parts × (StandsTwice places ⊎ Any (λ names. StandsTwice names) parts.groups)
+IsPartsReason parts places _ = ⊥
 
 -- the term that a line with these parts stands for, with these numbers and elements at these places
 pub record IsTermOf (word : TermWord) (parts : LineParts) (values : List ℤ) (places : List ℕ) (term : Kind) : Type 0 where

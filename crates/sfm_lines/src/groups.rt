@@ -27,7 +27,12 @@ use std::alloc::{AllocError, Global};
 fn is_one_of(texts: &[&[u8]], text: &[u8]) -> bool
     ensures { result ≡ is_among (texts_of texts.now) text.now }
 {
-    texts.iter().any(|other| *other == text)
+    for other in texts {
+        if *other == text {
+            return true;
+        }
+    }
+    false
 }
 
 /// The different elements.
@@ -60,6 +65,20 @@ fn are_known(known: &IndexSet<&[u8]>, names: &[&[u8]]) -> bool
     true
 }
 
+/// Whether each name of each group is one of the texts of which these are the different ones.
+fn are_all_known(known: &IndexSet<&[u8]>, groups: &[&[&[u8]]]) -> bool
+    ensures { (texts : List (List ℕ)) → texts_of known.now.keys ≡ distinct_of texts → MatchBool result
+        (All (λ names. All (Contains texts) names) (text_lists_of groups.now))
+        (Any (λ names. Any (λ name. Contains texts name → ⊥) names) (text_lists_of groups.now)) }
+{
+    for names in groups {
+        if !are_known(known, names) {
+            return false;
+        }
+    }
+    true
+}
+
 /// Whether each name of each group is one of the elements of the line.
 pub fn are_members(alloc: Global, elements: &[&[u8]], groups: &[&[&[u8]]]) -> Result<bool, Memory>
     ensures { IfOk result (λ r. MatchBool r
@@ -67,12 +86,7 @@ pub fn are_members(alloc: Global, elements: &[&[u8]], groups: &[&[&[u8]]]) -> Re
         (Any (λ names. Any (λ name. Contains (texts_of elements.now) name → ⊥) names) (text_lists_of groups.now))) }
 {
     let known = known(alloc, elements)?;
-    for names in groups {
-        if !are_known(&known, names) {
-            return Ok(false);
-        }
-    }
-    Ok(true)
+    Ok(are_all_known(&known, groups))
 }
 
 /// Whether a name stands twice in some group.

@@ -34,7 +34,9 @@ fn cut_group<'a, 'b>(tokens: &'b [&'a [u8]]) -> Option<(&'a [u8], &'b [&'a [u8]]
         ((group : List ℕ × List (List ℕ)) → IsGroupCut (texts_of tokens.now) group → ⊥)
         (λ r. IsGroupCut (texts_of tokens.now) (r.0.now, texts_of r.1.now)) }
 {
-    let (cap, names) = tokens.split_first()?;
+    let Some((cap, names)) = tokens.split_first() else {
+        return None;
+    };
     if names.is_empty() || has_mark(tokens) {
         return None;
     }

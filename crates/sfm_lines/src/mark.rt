@@ -47,7 +47,9 @@ pub fn cut_at_colon<'a, 'b>(tokens: &'b [&'a [u8]]) -> Option<(&'b [&'a [u8]], &
         ((before behind : List (List ℕ)) → IsCutAtColon (texts_of tokens.now) before behind → ⊥)
         (λ r. IsCutAtColon (texts_of tokens.now) (texts_of r.0.now) (texts_of r.1.now)) }
 {
-    let at = colon_place(tokens)?;
+    let Some(at) = colon_place(tokens) else {
+        return None;
+    };
     let before = &tokens[..at];
     let behind = &tokens[at + 1..];
     if has_mark(before) || has_mark(behind) {

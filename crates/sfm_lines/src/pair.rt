@@ -22,7 +22,9 @@ pub fn cut_once(token: &[u8], b: u8) -> Option<(&[u8], &[u8])>
         ((before behind : List ℕ) → IsCutAt b token.now before behind → ⊥)
         (λ r. IsCutAt b token.now r.0.now r.1.now) }
 {
-    let at = place_of_byte(token, b)?;
+    let Some(at) = place_of_byte(token, b) else {
+        return None;
+    };
     let behind = &token[at + 1..];
     match place_of_byte(behind, b) {
         Some(_) => None,

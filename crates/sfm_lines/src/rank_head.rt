@@ -11,9 +11,9 @@ pub fn cut_head<'a, 'b>(word: &[u8], tokens: &'b [&'a [u8]]) -> Option<(&'a [u8]
         ((number : List ℕ) (behind : List (List ℕ)) → IsRankHead word.now (texts_of tokens.now) number behind → ⊥)
         (λ r. IsRankHead word.now (texts_of tokens.now) r.0.now (texts_of r.1.now)) }
 {
-    let (number, rest) = tokens.split_first()?;
-    let (kind, rest) = rest.split_first()?;
-    let (colon, rest) = rest.split_first()?;
+    let [number, kind, colon, rest @ ..] = tokens else {
+        return None;
+    };
     if is_mark(number) || *kind != word || *colon != b":".as_slice() {
         return None;
     }

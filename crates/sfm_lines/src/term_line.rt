@@ -6,7 +6,7 @@ ghost use Rattle.sfm_lines.specs.Lines.{texts_of};
 ghost use Rattle.sfm_lines.specs.Words.{HasParts, lowest_of, word_text};
 ghost use Rattle.sfm_lines.specs.TermLines.{IsNumberFrom, IsElement, StandsTwice};
 ghost use Rattle.sfm_lines.specs.Reading.{IsLineRefusal};
-ghost use Rattle.sfm_lines.specs.ReadParts.{bytes_in, state_at, IsLineOf, IsTermRead, IsNumberOf, IsKnown, IsEntryLine, parts_of, joined};
+ghost use Rattle.sfm_lines.specs.ReadParts.{bytes_in, state_at, ArePartsGood, IsPartsReason, IsLineOf, IsTermRead, IsNumberOf, IsKnown, IsEntryLine, parts_of, joined};
 ghost use Rattle.sfm_lines.specs.declared.stage.Stage.TheVariants.{Terms};
 ghost use Rattle.sfm_lines.specs.declared.word.RankKind.TheVariants.{TransversalRank};
 
@@ -18,7 +18,7 @@ use crate::parts::Parts;
 use crate::reason::Reason;
 use crate::terms::make_term;
 use crate::word::TermWord;
-use sfm_base::read_number;
+use sfm_base::{Memory, read_number};
 use sfm_kind::{Instance, Kind};
 use std::alloc::{AllocError, Global};
 
@@ -41,7 +41,9 @@ pub fn number_for(word: TermWord, text: &[u8]) -> Option<i128>
     ensures { (value : ℤ) → (result ≡ Some value) ↔ IsNumberFrom (lowest_of word) text.now value }
 {
     let lowest = lowest_number(word);
-    let value = read_number(text)?;
+    let Some(value) = read_number(text) else {
+        return None;
+    };
     if lowest <= value && value <= HIGHEST {
         Some(value)
     } else {
@@ -127,6 +129,27 @@ pub fn has_place_twice(places: &[usize]) -> bool
     false
 }
 
+/// The first reason of the groups, the labels and the places of a line with these parts, or None where there is none.
+fn parts_reason(alloc: Global, parts: &Parts, places: &[usize]) -> Result<Option<Reason>, Memory>
+    ensures { IfOk result (λ r. MatchOption r
+        (ArePartsGood (parts_of parts.now) places.now)
+        (IsPartsReason (parts_of parts.now) places.now)) }
+{
+    if !are_members(alloc, &parts.elements, &parts.groups)? {
+        return Ok(Some(Reason::Name));
+    }
+    if !are_labels(&parts.labels) {
+        return Ok(Some(Reason::Name));
+    }
+    if has_place_twice(places) {
+        return Ok(Some(Reason::Twice));
+    }
+    if has_member_twice(alloc, &parts.groups)? {
+        return Ok(Some(Reason::Twice));
+    }
+    Ok(None)
+}
+
 /// The term of a line with this word and these parts, or the first reason for which it has none.
 fn parts_term(
     alloc: Global,
@@ -149,17 +172,9 @@ fn parts_term(
     let Some(places) = read_places(alloc, instance, &parts.elements)? else {
         return Err(LineEnd::Fault(Reason::Name));
     };
-    if !are_members(alloc, &parts.elements, &parts.groups)? {
-        return Err(LineEnd::Fault(Reason::Name));
-    }
-    if !are_labels(&parts.labels) {
-        return Err(LineEnd::Fault(Reason::Name));
-    }
-    if has_place_twice(&places) {
-        return Err(LineEnd::Fault(Reason::Twice));
-    }
-    if has_member_twice(alloc, &parts.groups)? {
-        return Err(LineEnd::Fault(Reason::Twice));
+    let fault = parts_reason(alloc, parts, &places)?;
+    if let Some(reason) = fault {
+        return Err(LineEnd::Fault(reason));
     }
     match make_term(alloc, word, parts, &values, &places)? {
         Some(term) => Ok(term),

@@ -17,9 +17,12 @@ fn is_blank_byte(c: u8) -> bool
 fn blank_place(line: &[u8]) -> usize
     ensures { result ≡ position_or_len is_blank line.now }
 {
-    line.iter()
-        .position(|c| is_blank_byte(*c))
-        .unwrap_or(line.len())
+    for (i, c) in line.iter().enumerate() {
+        if is_blank_byte(*c) {
+            return i;
+        }
+    }
+    line.len()
 }
 
 /// The first token of a line and the line behind it, or None where there is no token. So tokens can be looked at one after
@@ -53,8 +56,12 @@ pub fn first_two(line: &[u8]) -> Option<(&[u8], &[u8], &[u8])>
         (length (tokens_of line.now) < 2)
         (λ r. tokens_of line.now ≡ r.0.now ∷ r.1.now ∷ tokens_of r.2.now) }
 {
-    let (first, rest) = first_token(line)?;
-    let (second, behind) = first_token(rest)?;
+    let Some((first, rest)) = first_token(line) else {
+        return None;
+    };
+    let Some((second, behind)) = first_token(rest) else {
+        return None;
+    };
     Some((first, second, behind))
 }
 
@@ -64,9 +71,19 @@ pub fn token(line: &[u8], i: usize) -> Option<&[u8]>
         (length (tokens_of line.now) ≤ i)
         (λ r. slice_get (tokens_of line.now) i ≡ Some r.now) }
 {
-    line.split(|c| is_blank_byte(*c))
-        .filter(|piece| !piece.is_empty())
-        .nth(i)
+    let mut due = i;
+    let mut left = line;
+    while due > 0 {
+        let Some((_, behind)) = first_token(left) else {
+            return None;
+        };
+        due -= 1;
+        left = behind;
+    }
+    match first_token(left) {
+        Some((first, _)) => Some(first),
+        None => None,
+    }
 }
 
 /// Whether a line has a token number i.
@@ -83,9 +100,13 @@ pub fn has_token(line: &[u8], i: usize) -> bool
 pub fn tokens(alloc: Global, line: &[u8]) -> Result<Vec<&[u8]>, AllocError>
     ensures { IfOk result (λ v. map (λ r. r.now) v.items ≡ tokens_of line.now) }
 {
-    line.split(|c| is_blank_byte(*c))
-        .filter(|piece| !piece.is_empty())
-        .collect(alloc)
+    let mut tokens = Vec::new(alloc);
+    let mut left = line;
+    while let Some((token, behind)) = first_token(left) {
+        tokens.push(token)?;
+        left = behind;
+    }
+    Ok(tokens)
 }
 
 /// Whether a line is blank or a comment.

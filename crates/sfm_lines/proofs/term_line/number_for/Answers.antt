@@ -13,27 +13,26 @@ use Rattle.sfm_lines.proofs.term_line.number_for.Goals.{else-lowest-value-via-th
 same_entry : (v : ℤ) → IsEntry v → to_z w128 (of_z w128 v) ≡ v
 same_entry v h = omega (arith, ints)
 
-pub returns-in_err-value : goal.returns-in_err-value
-returns-in_err-value c =
-    rw c.from_residual.ensures (λ w. (λ e. absurd (none-some w e), λ h. (c.in_err-value.ensures w).1 (h.0, entry-number c.args.word c.args.text.now w h)))
+pub returns-in_default : goal.returns-in_default
+returns-in_default c = λ w. (λ e. absurd (none-some w e), λ h. (c.in_default.ensures w).1 (h.0, entry-number c.args.word c.args.text.now w h))
 
 pub returns-then-value-le-HIGHEST : goal.returns-then-value-le-HIGHEST
 returns-then-value-le-HIGHEST c =
-    let v = c.in_ok-value.value in
-    let read = (c.in_ok-value.ensures v).0 refl in
+    let v = c.in-Some.value in
+    let read = (c.in-Some.ensures v).0 refl in
     let e : to_z w128 (of_z w128 v) ≡ v = same_entry v read.1 in
     let least = kept-lowest c.args.word c.lowest_number-lowest.result c.lowest_number-lowest.ensures.least in
     let is : IsNumberFrom (lowest_of c.args.word) c.args.text.now v = (read.0, omega (arith, ints, e, least, c.if-lowest-value.true), omega (arith, ints, e)) in
-    rw e (λ w. (λ s. subst (λ (z : ℤ). IsNumberFrom (lowest_of c.args.word) c.args.text.now z) (same_Some v w s) is, λ h. (c.in_ok-value.ensures w).1 (h.0, entry-number c.args.word c.args.text.now w h)))
+    rw e (λ w. (λ s. subst (λ (z : ℤ). IsNumberFrom (lowest_of c.args.word) c.args.text.now z) (same_Some v w s) is, λ h. (c.in-Some.ensures w).1 (h.0, entry-number c.args.word c.args.text.now w h)))
 
 pub returns-else-lowest-value : goal.returns-else-lowest-value
 returns-else-lowest-value c = λ w. (
   λ e. absurd (none-some w e),
   λ h.
-      let v = c.in_ok-value.value in
-      let read = (c.in_ok-value.ensures v).0 refl in
+      let v = c.in-Some.value in
+      let read = (c.in-Some.ensures v).0 refl in
       let e : to_z w128 (of_z w128 v) ≡ v = same_entry v read.1 in
-      let s : v ≡ w = same_Some v w ((c.in_ok-value.ensures w).1 (h.0, entry-number c.args.word c.args.text.now w h)) in
+      let s : v ≡ w = same_Some v w ((c.in-Some.ensures w).1 (h.0, entry-number c.args.word c.args.text.now w h)) in
       let least = kept-lowest c.args.word c.lowest_number-lowest.result c.lowest_number-lowest.ensures.least in
       absurd (elim c.else-lowest-value.branch [ else-lowest-value-via-then-lowest-value+else-value-le-HIGHEST b ↦ omega (arith, ints, e, s, h.2) | else-lowest-value-via-else-lowest-value b ↦ omega (arith, ints, e, s, h.1, least) ]),
 )
