@@ -19,3 +19,6 @@ invariant_of-self-2 c =
     let sum = added-total s.names s.terms.items c.args.term s.support s.total c.self.invariant bounded in
     let fits = sum.fits in
     rw (c.in_ok-push.ensures.items, c.elements-places.ensures, c.size-size.ensures, sum.is) (simp to_z-of_z (kept-added s.names s.terms.items c.args.term s.support s.total c.self.invariant bounded))
+
+pub returns-clause-added : goal.returns-clause-added
+returns-clause-added c = rw (← c.self.view_is) c.in_ok-push.ensures.items
