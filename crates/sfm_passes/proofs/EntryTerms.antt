@@ -1,6 +1,6 @@
 -- Lines of a transversal rank: which tokens are those of none, the first reason of one, and its term, which keeps of each entry as
 -- many of its first slots as the line has elements.
-use Rattle.std.proofs.Common.{◌≡◌, ◌≢◌, ◌<◌, ◌≤◌, ◌*◌, ◌^◌, ℕ, List, [], ◌∷◌, length, take, map, codes, ℤ, refl, sym, ap, ◌∙◌, length-append, length-take, arith}
+use Rattle.std.proofs.Common.{◌≡◌, ◌≢◌, ◌<◌, ◌≤◌, ◌*◌, ◌^◌, ℕ, List, [], ◌∷◌, length, take, map, codes, ℤ, Option, Some, None, Result, Ok, Err, refl, sym, ap, ◌∙◌, length-append, length-take, arith}
 use Rattle.std.specs.List.{All, Any, AllZip}
 use Rattle.std.proofs.lemmas.List.{length-map}
 use Rattle.std.proofs.lemmas.List.Elements.{All-nil}
@@ -9,7 +9,9 @@ use Rattle.sfm_spec.specs.Bounds.{AreElements}
 use Rattle.sfm_spec.specs.Names.{IsName}
 use Rattle.sfm_kind.specs.Names.{AreElementNames}
 use Rattle.sfm_kind.specs.Instance.{InstanceData}
+use Rattle.sfm_kind.specs.declared.kind.Kind.{Kind}
 use Rattle.sfm_kind.specs.declared.kind.Kind.TheVariants.{Transversal}
+use Rattle.sfm_lines.specs.declared.line_fault.LineEnd.{LineEnd}
 use Rattle.sfm_matroid.specs.declared.transversal.Transversal as transversals
 use Rattle.sfm_lines.specs.declared.reason.Reason.TheVariants.{Shape, Twice}
 use Rattle.sfm_passes.specs.declared.token_test.TokenTest.TheVariants.{Element, LabelledElement}
@@ -23,6 +25,7 @@ use Rattle.sfm_lines.specs.Words.{lowest_of}
 use Rattle.sfm_lines.specs.TermLines.{IsNumberFrom, IsElement, StandsTwice}
 use Rattle.sfm_lines.specs.ReadParts.{IsTermRead, joined, IsKnown, IsEntryLine}
 use Rattle.sfm_passes.specs.Passes.{Holds, IsReasonOf, RepeatsSlot, AreGoodEntries, AreFewEntries}
+use Rattle.sfm_passes.specs.GroupPasses.{IsToldBy}
 use Rattle.sfm_lines.proofs.Colons.{none-any}
 use Rattle.sfm_passes.proofs.LongLabels.{labelled-here, labelled-line, labels-named, labelled-slot}
 use Rattle.sfm_passes.proofs.LongRanks.{second}
@@ -39,6 +42,12 @@ few-tokens tokens few (parts, h) = omega (arith, few, ap length h.head.tokens_ar
 
 pub other-kind : (number kind : List ℕ) (more tokens : List (List ℕ)) → tokens ≡ number ∷ kind ∷ more → kind ≢ codes "transversal" → IsEntryLine RankWord tokens → ⊥
 other-kind number kind more tokens is other (parts, h) = other (second number kind h.number (codes "transversal") more (codes ":" ∷ h.behind) (sym is ∙ h.head.tokens_are))
+
+-- a line that is told where nothing else holds of it is told where something does
+pub told-other : (i : InstanceData) (tokens : List (List ℕ)) (Other : Type 0) → Other → (r : Result (Option Kind) LineEnd) → IsToldBy i RankWord tokens (Unit {0}) r → IsToldBy i RankWord tokens Other r
+told-other i tokens Other other (Ok None) h = other
+told-other i tokens Other other (Ok (Some term)) h = h
+told-other i tokens Other other (Err end) h = h
 
 pub not-rank : (word : TermWord) (tokens : List (List ℕ)) → word ≢ RankWord → IsEntryLine word tokens → ⊥
 not-rank RankWord tokens other h = other refl

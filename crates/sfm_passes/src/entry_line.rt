@@ -9,13 +9,13 @@ ghost use Rattle.sfm_lines.specs.Lines.{pieces_of, texts_of, tokens_of};
 ghost use Rattle.sfm_lines.specs.Parts.{IsLabelToken};
 ghost use Rattle.sfm_lines.specs.CutParts.{place_among};
 ghost use Rattle.sfm_lines.specs.LabelTerms.{numbers_of};
-ghost use Rattle.sfm_lines.specs.ReadParts.{IsTermRead, label_lists_of, joined, IsEntryLine};
+ghost use Rattle.sfm_lines.specs.ReadParts.{IsTermRead, label_lists_of, joined};
 ghost use Rattle.sfm_passes.specs.Passes.{AreFewEntries, IsReasonOf};
-ghost use Rattle.sfm_passes.specs.GroupPasses.{IsRefusedBy, IsToldBy};
+ghost use Rattle.sfm_passes.specs.GroupPasses.{IsRefusedBy};
 ghost use Rattle.sfm_lines.specs.declared.word.TermWord.TheVariants.{RankWord};
 ghost use Rattle.sfm_lines.specs.declared.word.RankKind.TheVariants.{TransversalRank};
 
-use crate::long_rank::{MOST_ELEMENTS, entries_fault, is_word};
+use crate::long_rank::{MOST_ELEMENTS, entries_fault};
 use crate::passes::token_count;
 use crate::slots::has_repeated_slot;
 use indexmap::IndexSet;
@@ -24,7 +24,7 @@ use sfm_kind::{Instance, Kind};
 use sfm_lines::labels::{Labels, different, numbers};
 use sfm_lines::pair::cut_once;
 use sfm_lines::term_line::{has_place_twice, known_number, known_places};
-use sfm_lines::tokens::{first_token, first_two, has_token};
+use sfm_lines::tokens::{first_token, has_token};
 use sfm_lines::word::{RankKind, TermWord};
 use sfm_lines::{LineEnd, Reason};
 use sfm_matroid::{Entries, Transversal};
@@ -171,28 +171,23 @@ fn entries_term(
     Ok(Kind::Transversal(term))
 }
 
-/// The term of a line of a transversal rank with these tokens behind its word, or the first reason of it; None where the line is
-/// none.
+/// The term of a line of a transversal rank with this number and these tokens behind its word, or the first reason of it.
 pub fn entry_line_term(
     alloc: Global,
     instance: &Instance,
-    line: &[u8],
-) -> Result<Option<Kind>, LineEnd>
+    number: &[u8],
+    rest: &[u8],
+) -> Result<Kind, LineEnd>
     requires { AreElementNames instance.now.names }
-    ensures { IsToldBy instance.now RankWord (tokens_of line.now) (IsEntryLine RankWord (tokens_of line.now) → ⊥) result }
+    ensures { MatchResult result
+        (IsTermRead instance.now RankWord (number.now ∷ codes "transversal" ∷ tokens_of rest.now))
+        (IsRefusedBy instance.now RankWord (number.now ∷ codes "transversal" ∷ tokens_of rest.now)) }
 {
-    let Some((number, kind, behind)) = first_two(line) else {
-        return Ok(None);
-    };
-    if !is_word(kind, b"transversal") {
-        return Ok(None);
-    }
-    let Some((colon, entries)) = first_token(behind) else {
+    let Some((colon, entries)) = first_token(rest) else {
         return Err(LineEnd::Fault(Reason::Shape));
     };
     if !has_token(entries, 0) {
         return Err(LineEnd::Fault(Reason::Shape));
     }
-    let term = entries_term(alloc, instance, number, colon, entries)?;
-    Ok(Some(term))
+    entries_term(alloc, instance, number, colon, entries)
 }

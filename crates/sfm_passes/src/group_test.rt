@@ -21,7 +21,7 @@ use sfm_lines::word::TermWord;
 use std::alloc::Global;
 
 /// What the piece of a group may be tried for.
-#[derive(Clone, Copy, Debug, PartialEq, Eq)]
+#[derive(Clone, Copy)]
 pub enum GroupTest {
     /// It is a cap and at least one name.
     Whole,
@@ -100,7 +100,7 @@ pub fn all_groups(alloc: Global, test: GroupTest, groups: Option<&[u8]>) -> Resu
 }
 
 /// The different tokens of a line.
-pub fn different_in<'a>(alloc: Global, line: &'a [u8]) -> Result<IndexSet<&'a [u8]>, Memory>
+fn different_in<'a>(alloc: Global, line: &'a [u8]) -> Result<IndexSet<&'a [u8]>, Memory>
     ensures { IfOk result (λ r. texts_of r.keys ≡ distinct_of (tokens_of line.now)) }
 {
     let mut names = IndexSet::new(alloc);
@@ -141,7 +141,7 @@ fn has_members(known: &IndexSet<&[u8]>, piece: &[u8]) -> bool
 }
 
 /// Whether each name of each piece that is left is one of the elements of which these are the different ones.
-pub fn all_have_members(known: &IndexSet<&[u8]>, groups: Option<&[u8]>) -> bool
+fn all_have_members(known: &IndexSet<&[u8]>, groups: Option<&[u8]>) -> bool
     ensures { (elements : List (List ℕ)) → texts_of known.now.keys ≡ distinct_of elements → MatchBool result
         (All (HasMembers elements) (pieces_left groups.entry))
         (Any (LacksMember elements) (pieces_left groups.entry)) }
@@ -155,4 +155,14 @@ pub fn all_have_members(known: &IndexSet<&[u8]>, groups: Option<&[u8]>) -> bool
         left = rest;
     }
     true
+}
+
+/// Whether each name of each piece that is left is one of the elements.
+pub fn are_members_in(alloc: Global, elements: &[u8], groups: Option<&[u8]>) -> Result<bool, Memory>
+    ensures { IfOk result (λ r. MatchBool r
+        (All (HasMembers (tokens_of elements.now)) (pieces_left groups.entry))
+        (Any (LacksMember (tokens_of elements.now)) (pieces_left groups.entry))) }
+{
+    let known = different_in(alloc, elements)?;
+    Ok(all_have_members(&known, groups))
 }

@@ -1,7 +1,7 @@
 // The line of a laminar rank judged by passes over it, and its term. Such a line may be good however many groups it has, so its
 // groups are taken one after another, and of those with the same members one is kept. Where more are kept than there are sets of
 // 256 elements of which no two cross, it is told at once whether some cross, so that little is kept of any line.
-ghost use Rattle.std.specs.Prelude.{◌≡◌, ◌∷◌, ℕ, List, length, IsTrue, IfOk, MatchOption, MatchResult};
+ghost use Rattle.std.specs.Prelude.{◌≡◌, ◌∷◌, ℕ, List, codes, length, IsTrue, IfOk, MatchOption, MatchResult};
 ghost use Rattle.std.specs.List.{All, AllZip};
 ghost use Rattle.sfm_spec.specs.Bounds.{AreElements};
 ghost use Rattle.sfm_spec.specs.Kinds.{Group};
@@ -13,13 +13,12 @@ ghost use Rattle.sfm_lines.specs.CutParts.{cut_at_semicolons};
 ghost use Rattle.sfm_lines.specs.RankLines.{least_groups};
 ghost use Rattle.sfm_lines.specs.ReadParts.{IsTermRead};
 ghost use Rattle.sfm_passes.specs.Passes.{IsReasonOf};
-ghost use Rattle.sfm_passes.specs.GroupPasses.{AreGoodGroups, GroupHolds, IsGroupOf, IsRefusedBy, IsToldBy, laminar_tokens, pieces_left};
+ghost use Rattle.sfm_passes.specs.GroupPasses.{AreGoodGroups, GroupHolds, IsGroupOf, IsRefusedBy, laminar_tokens, pieces_left};
 ghost use Rattle.sfm_passes.specs.declared.group_test.GroupTest.TheVariants.{Whole, Cap};
 ghost use Rattle.sfm_lines.specs.declared.word.TermWord.TheVariants.{RankWord};
 
 use crate::between::Separator;
-use crate::group_test::{GroupTest, all_groups, all_have_members, different_in};
-use crate::long_rank::is_word;
+use crate::group_test::{GroupTest, all_groups, are_members_in};
 use crate::passes::{all_hold, has_mark_in, has_repeat_in, is_colon};
 use crate::piece_cut::first_piece;
 use crate::token_test::{TokenTest, is_number_of};
@@ -30,7 +29,7 @@ use sfm_lines::groups::members;
 use sfm_lines::kept::{keep, with_kept};
 use sfm_lines::mark::is_mark;
 use sfm_lines::term_line::{known_number, known_places};
-use sfm_lines::tokens::{first_token, first_two, has_token, tokens};
+use sfm_lines::tokens::{first_token, has_token, tokens};
 use sfm_lines::word::TermWord;
 use sfm_lines::{LineEnd, Reason};
 use std::alloc::Global;
@@ -74,8 +73,8 @@ fn groups_fault(
     if !all_hold(instance, TokenTest::Element, elements) {
         return Ok(Some(Reason::Name));
     }
-    let known = different_in(alloc, elements)?;
-    if !all_have_members(&known, groups) {
+    let named = are_members_in(alloc, elements, groups)?;
+    if !named {
         return Ok(Some(Reason::Name));
     }
     let repeated = has_repeat_in(alloc, Separator::Blanks, elements)?;
@@ -182,21 +181,18 @@ fn groups_term(
     }
 }
 
-/// The term of a line of a laminar rank with these tokens behind its word, or the first reason of it; None where the line is none.
+/// The term of a line of a laminar rank with this number and these tokens behind its word, or the first reason of it.
 pub fn laminar_line_term(
     alloc: Global,
     instance: &Instance,
-    line: &[u8],
-) -> Result<Option<Kind>, LineEnd>
+    number: &[u8],
+    rest: &[u8],
+) -> Result<Kind, LineEnd>
     requires { AreElementNames instance.now.names }
-    ensures { IsToldBy instance.now RankWord (tokens_of line.now) (Unit {0}) result }
+    ensures { MatchResult result
+        (IsTermRead instance.now RankWord (number.now ∷ codes "laminar" ∷ tokens_of rest.now))
+        (IsRefusedBy instance.now RankWord (number.now ∷ codes "laminar" ∷ tokens_of rest.now)) }
 {
-    let Some((number, kind, rest)) = first_two(line) else {
-        return Ok(None);
-    };
-    if !is_word(kind, b"laminar") {
-        return Ok(None);
-    }
     let Some((colon, behind)) = first_token(rest) else {
         return Err(LineEnd::Fault(Reason::Shape));
     };
@@ -204,6 +200,5 @@ pub fn laminar_line_term(
         return Err(LineEnd::Fault(Reason::Shape));
     }
     let (elements, groups) = first_piece(behind);
-    let term = groups_term(alloc, instance, number, elements, groups)?;
-    Ok(Some(term))
+    groups_term(alloc, instance, number, elements, groups)
 }

@@ -3,7 +3,7 @@
 // longer line is not good: where its shape, its numbers and its names are, an element stands twice, as there are at most 256.
 // A line of a laminar rank may be good however long it is, and its term is told by passes too; so is that of each line of a
 // transversal rank, as one entry may have millions of slots.
-ghost use Rattle.std.specs.Prelude.{◌<◌, length, IsTrue, IfSome};
+ghost use Rattle.std.specs.Prelude.{◌<◌, ◌∷◌, codes, length, IsTrue, IfSome};
 ghost use Rattle.sfm_kind.specs.Names.{AreElementNames};
 ghost use Rattle.sfm_lines.specs.Lines.{tokens_of};
 ghost use Rattle.sfm_passes.specs.Passes.{IsReasonOf};
@@ -13,13 +13,13 @@ ghost use Rattle.sfm_lines.specs.declared.word.TermWord.TheVariants.{WeightWord,
 
 use crate::entry_line::entry_line_term;
 use crate::long_laminar::laminar_line_term;
-use crate::long_rank::{elements_reason, rank_reason};
+use crate::long_rank::{elements_reason, rank_kind, rank_reason};
 use crate::passes::{all_hold, colon_cut, first_hold, has_mark_in, token_count};
 use crate::token_test::{TokenTest, is_number_of};
 use sfm_kind::{Instance, Kind};
 use sfm_lines::line_parts::are_counts;
-use sfm_lines::tokens::{first_token, has_token};
-use sfm_lines::word::TermWord;
+use sfm_lines::tokens::{first_token, first_two, has_token};
+use sfm_lines::word::{RankKind, TermWord};
 use sfm_lines::{LineEnd, Reason};
 use std::alloc::Global;
 
@@ -120,19 +120,22 @@ pub fn early_reason(instance: &Instance, word: TermWord, line: &[u8]) -> Option<
     long_reason(instance, word, line)
 }
 
-/// The term of a long line of a laminar rank, or its first reason, as passes tell it; None where the line is another.
+/// The term of a line of a laminar rank with this number and these tokens behind its word, or its first reason; None where the line
+/// is not long.
 fn long_laminar_term(
     alloc: Global,
     instance: &Instance,
-    line: &[u8],
+    number: &[u8],
+    rest: &[u8],
 ) -> Result<Option<Kind>, LineEnd>
     requires { AreElementNames instance.now.names }
-    ensures { IsToldBy instance.now RankWord (tokens_of line.now) (Unit {0}) result }
+    ensures { IsToldBy instance.now RankWord (number.now ∷ codes "laminar" ∷ tokens_of rest.now) (Unit {0}) result }
 {
-    if !is_long(line) {
+    if !is_long(rest) {
         return Ok(None);
     }
-    laminar_line_term(alloc, instance, line)
+    let term = laminar_line_term(alloc, instance, number, rest)?;
+    Ok(Some(term))
 }
 
 /// The term of a line of a rank with these tokens behind its word, or its first reason, where passes tell it: if the line is a long
@@ -141,10 +144,19 @@ fn early_rank_term(alloc: Global, instance: &Instance, line: &[u8]) -> Result<Op
     requires { AreElementNames instance.now.names }
     ensures { IsToldBy instance.now RankWord (tokens_of line.now) (IsEntryLine RankWord (tokens_of line.now) → ⊥) result }
 {
-    if let Some(term) = long_laminar_term(alloc, instance, line)? {
-        return Ok(Some(term));
+    let Some((number, kind, rest)) = first_two(line) else {
+        return Ok(None);
+    };
+    match rank_kind(kind) {
+        RankKind::NoRank => Ok(None),
+        RankKind::UniformRank => Ok(None),
+        RankKind::LaminarRank => long_laminar_term(alloc, instance, number, rest),
+        RankKind::GraphicRank => Ok(None),
+        RankKind::TransversalRank => {
+            let term = entry_line_term(alloc, instance, number, rest)?;
+            Ok(Some(term))
+        }
     }
-    entry_line_term(alloc, instance, line)
 }
 
 /// The term of a line with this word and these tokens behind it, or its first reason, where passes tell it; None where the line is

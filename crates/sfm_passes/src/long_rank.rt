@@ -25,14 +25,14 @@ pub const MOST_ELEMENTS: usize = 256;
 const MOST_TOKENS: usize = 1_000;
 
 /// Whether a token is that word.
-pub fn is_word(token: &[u8], word: &[u8]) -> bool
+fn is_word(token: &[u8], word: &[u8]) -> bool
     ensures { MatchBool result (token.now ≡ word.now) (token.now ≢ word.now) }
 {
     token == word
 }
 
 /// Which rank a token means.
-fn rank_kind(token: &[u8]) -> RankKind
+pub fn rank_kind(token: &[u8]) -> RankKind
     ensures { IsRankNamed result token.now }
 {
     if is_word(token, b"uniform") {
@@ -175,7 +175,9 @@ pub fn rank_reason(instance: &Instance, line: &[u8]) -> Option<Reason>
     requires { AreElementNames instance.now.names }
     ensures { IfSome result (IsReasonOf instance.now RankWord (tokens_of line.now)) }
 {
-    let (number, kind, behind) = first_two(line)?;
+    let Some((number, kind, behind)) = first_two(line) else {
+        return None;
+    };
     match rank_kind(kind) {
         RankKind::NoRank => Some(Reason::Shape),
         RankKind::UniformRank => long_uniform_reason(instance, number, behind),

@@ -16,7 +16,7 @@ use sfm_lines::term_line::number_for;
 use sfm_lines::word::{RankKind, TermWord};
 
 /// What a token may be tried for.
-#[derive(Clone, Copy, Debug, PartialEq, Eq)]
+#[derive(Clone, Copy)]
 pub enum TokenTest {
     /// It is a pair `name:number`, as in a weight line.
     Pair,

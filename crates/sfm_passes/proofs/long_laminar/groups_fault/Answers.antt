@@ -35,20 +35,20 @@ returns-then-not-all_hold c = λ behind is.
     let (groups, each) = all-matched IsGroupCut (pieces_left c.args.groups) (by-yes c.in_ok-whole.whole _ _ c.if-not-whole.false c.in_ok-whole.ensures) in
     laminar-name c.args.instance.now c.args.number.now (tokens_of c.args.elements.now) behind (pieces_left c.args.groups) is (λ m. false≢true (c.if-is_mark.ensures.1 m)) c.if-not-has_token.ensures c.if-has_mark_in.ensures groups each c.if-not-is_number_of.ensures (by-yes c.in_ok-capped.capped _ _ c.if-not-capped.false c.in_ok-capped.ensures) c.if-not-all_hold.ensures
 
-pub returns-then-not-all_have_members : goal.returns-then-not-all_have_members
-returns-then-not-all_have_members c = λ behind is.
+pub returns-then-not-named : goal.returns-then-not-named
+returns-then-not-named c = λ behind is.
     let (groups, each) = all-matched IsGroupCut (pieces_left c.args.groups) (by-yes c.in_ok-whole.whole _ _ c.if-not-whole.false c.in_ok-whole.ensures) in
-    laminar-stranger c.args.instance.now c.args.number.now (tokens_of c.args.elements.now) behind (pieces_left c.args.groups) is (λ m. false≢true (c.if-is_mark.ensures.1 m)) c.if-not-has_token.ensures c.if-has_mark_in.ensures groups each c.if-not-is_number_of.ensures (by-yes c.in_ok-capped.capped _ _ c.if-not-capped.false c.in_ok-capped.ensures) (c.if-not-all_have_members.ensures (tokens_of c.args.elements.now) c.in_ok-known.ensures)
+    laminar-stranger c.args.instance.now c.args.number.now (tokens_of c.args.elements.now) behind (pieces_left c.args.groups) is (λ m. false≢true (c.if-is_mark.ensures.1 m)) c.if-not-has_token.ensures c.if-has_mark_in.ensures groups each c.if-not-is_number_of.ensures (by-yes c.in_ok-capped.capped _ _ c.if-not-capped.false c.in_ok-capped.ensures) (by-no c.in_ok-named.named _ _ c.if-not-named.true c.in_ok-named.ensures)
 
 pub returns-then-repeated : goal.returns-then-repeated
 returns-then-repeated c = λ behind is.
     let (groups, each) = all-matched IsGroupCut (pieces_left c.args.groups) (by-yes c.in_ok-whole.whole _ _ c.if-not-whole.false c.in_ok-whole.ensures) in
-    laminar-twice c.args.instance.now c.args.number.now (tokens_of c.args.elements.now) behind (pieces_left c.args.groups) is (λ m. false≢true (c.if-is_mark.ensures.1 m)) c.if-not-has_token.ensures c.if-has_mark_in.ensures groups each c.if-not-is_number_of.ensures (by-yes c.in_ok-capped.capped _ _ c.if-not-capped.false c.in_ok-capped.ensures) c.requires c.if-not-all_hold.ensures (c.if-not-all_have_members.ensures (tokens_of c.args.elements.now) c.in_ok-known.ensures) (c.in_ok-repeated.ensures.0 c.if-repeated.true)
+    laminar-twice c.args.instance.now c.args.number.now (tokens_of c.args.elements.now) behind (pieces_left c.args.groups) is (λ m. false≢true (c.if-is_mark.ensures.1 m)) c.if-not-has_token.ensures c.if-has_mark_in.ensures groups each c.if-not-is_number_of.ensures (by-yes c.in_ok-capped.capped _ _ c.if-not-capped.false c.in_ok-capped.ensures) c.requires c.if-not-all_hold.ensures (by-yes c.in_ok-named.named _ _ c.if-not-named.false c.in_ok-named.ensures) (c.in_ok-repeated.ensures.0 c.if-repeated.true)
 
 pub returns-then-not-once : goal.returns-then-not-once
 returns-then-not-once c = λ behind is.
     let (groups, each) = all-matched IsGroupCut (pieces_left c.args.groups) (by-yes c.in_ok-whole.whole _ _ c.if-not-whole.false c.in_ok-whole.ensures) in
-    laminar-again c.args.instance.now c.args.number.now (tokens_of c.args.elements.now) behind (pieces_left c.args.groups) is (λ m. false≢true (c.if-is_mark.ensures.1 m)) c.if-not-has_token.ensures c.if-has_mark_in.ensures groups each c.if-not-is_number_of.ensures (by-yes c.in_ok-capped.capped _ _ c.if-not-capped.false c.in_ok-capped.ensures) c.requires c.if-not-all_hold.ensures (c.if-not-all_have_members.ensures (tokens_of c.args.elements.now) c.in_ok-known.ensures) (by-no c.in_ok-once.once _ _ c.if-not-once.true c.in_ok-once.ensures)
+    laminar-again c.args.instance.now c.args.number.now (tokens_of c.args.elements.now) behind (pieces_left c.args.groups) is (λ m. false≢true (c.if-is_mark.ensures.1 m)) c.if-not-has_token.ensures c.if-has_mark_in.ensures groups each c.if-not-is_number_of.ensures (by-yes c.in_ok-capped.capped _ _ c.if-not-capped.false c.in_ok-capped.ensures) c.requires c.if-not-all_hold.ensures (by-yes c.in_ok-named.named _ _ c.if-not-named.false c.in_ok-named.ensures) (by-no c.in_ok-once.once _ _ c.if-not-once.true c.in_ok-once.ensures)
 
 pub returns : goal.returns
 returns c = record {
@@ -59,7 +59,7 @@ returns c = record {
   is_number = c.if-not-is_number_of.ensures;
   caps = by-yes c.in_ok-capped.capped _ _ c.if-not-capped.false c.in_ok-capped.ensures;
   known = c.if-not-all_hold.ensures;
-  members = c.if-not-all_have_members.ensures (tokens_of c.args.elements.now) c.in_ok-known.ensures;
+  members = by-yes c.in_ok-named.named _ _ c.if-not-named.false c.in_ok-named.ensures;
   once = λ t. false≢true (sym c.if-repeated.false ∙ c.in_ok-repeated.ensures.1 t);
   each_once = by-yes c.in_ok-once.once _ _ c.if-not-once.false c.in_ok-once.ensures;
 }
