@@ -31,7 +31,7 @@ const MOST_SIZE: i128 = 1_000_000_000_000_000;
 
 /// Whether a content line may hold the byte: a tab, or one from the space to `~`.
 fn is_good_byte(c: u8) -> bool
-    ensures { IsTrue result ↔ (IsBadByte c → ⊥) }
+    ensures { MatchBool result (IsBadByte c → ⊥) (IsBadByte c) }
 {
     c == b'\t' || (b' ' <= c && c <= b'~')
 }
@@ -40,7 +40,12 @@ fn is_good_byte(c: u8) -> bool
 pub(crate) fn are_good_bytes(line: &[u8]) -> bool
     ensures { MatchBool result (Any IsBadByte line.now → ⊥) (Any IsBadByte line.now) }
 {
-    line.iter().all(|c| is_good_byte(*c))
+    for c in line {
+        if !is_good_byte(*c) {
+            return false;
+        }
+    }
+    true
 }
 
 /// The word of a term line and the line behind it, or None where the first token is none of the words.
@@ -49,9 +54,13 @@ fn term_line(line: &[u8]) -> Option<(TermWord, &[u8])>
         ((word : TermWord) (rest : List (List ℕ)) → tokens_of line.now ≢ word_text word ∷ rest)
         (λ r. tokens_of line.now ≡ word_text r.0 ∷ tokens_of r.1.now) }
 {
-    let (first, rest) = first_token(line)?;
-    let word = term_word(first)?;
-    Some((word, rest))
+    let Some((first, rest)) = first_token(line) else {
+        return None;
+    };
+    match term_word(first) {
+        Some(word) => Some((word, rest)),
+        None => None,
+    }
 }
 
 /// Whether there is too much in all with one more term.

@@ -10,7 +10,7 @@ use sfm_lines::tokens::is_skipped;
 use std::alloc::Global;
 
 /// A line of a text, without its line feed and without a carriage return at its end.
-#[derive(Clone, Copy, Debug)]
+#[derive(Clone, Copy)]
 pub struct Line<'a> {
     /// The number of the line, counted from 1.
     pub number: usize,
@@ -20,7 +20,7 @@ pub struct Line<'a> {
 }
 
 /// The lines of a text that are still to come.
-#[derive(Clone, Copy, Debug)]
+#[derive(Clone, Copy)]
 pub struct Lines<'a> {
     text: &'a [u8],
     at: usize,

@@ -34,7 +34,9 @@ fn behind<'a>(word: &[u8], line: &'a [u8]) -> Option<&'a [u8]>
         ((rest : List (List ℕ)) → tokens_of line.now ≢ word.now ∷ rest)
         (λ rest. tokens_of line.now ≡ word.now ∷ tokens_of rest.now) }
 {
-    let (first, rest) = first_token(line)?;
+    let Some((first, rest)) = first_token(line) else {
+        return None;
+    };
     if first == word { Some(rest) } else { None }
 }
 
