@@ -1,7 +1,8 @@
 -- What the solver finds of an instance.
-use Rattle.std.specs.Prelude.{◌≡◌, List, length, map, ℤ, pos}
+use Rattle.std.specs.Prelude.{◌≡◌, ℕ, List, ◌++◌, length, map, codes, decimal, ℤ, pos}
 use Rattle.std.specs.List.{All}
 use Rattle.sfm_spec.specs.Bounds.{IsEntry}
+use Rattle.sfm_spec.specs.Sets.{size}
 use Rattle.sfm_spec.specs.Families.{AreBases, IsLeast, IsGreatest, Prove, even_shift, shifted_at}
 use Rattle.sfm_spec.specs.Walks.{IsFewWalks}
 use Rattle.sfm_kind.specs.Instance.{InstanceData}
@@ -32,3 +33,7 @@ pub record Gives (instance : InstanceData) (rows : List (List ℤ)) (found : Pro
   pub least : IsLeast (meanings_of instance.terms) (length instance.names) (pos 1) (even_shift (length instance.names) (pos 0)) found.least
   pub greatest : IsGreatest (meanings_of instance.terms) (length instance.names) (pos 1) (even_shift (length instance.names) (pos 0)) found.greatest
   pub value : found.value ≡ shifted_at (meanings_of instance.terms) (pos 1) (even_shift (length instance.names) (pos 0)) found.least
+
+-- the end of the line of a demonstration: the counts that an answer tells
+abbrev pub counts_told : Answer → List ℕ
+counts_told a = codes " least " ++ decimal (size a.least) ++ codes " greatest " ++ decimal (size a.greatest) ++ codes " blocks " ++ decimal (length a.blocks) ++ codes " slopes " ++ decimal (length a.breaks) ++ codes " valid\n"

@@ -2,7 +2,7 @@
 ghost use Rattle.std.specs.Prelude.{◌≡◌, ◌⊎◌, ◌≤◌, ◌++◌, decimal, IfOk, OnOk};
 ghost use Rattle.sfm_cert.specs.Solved.{answer_of};
 ghost use Rattle.sfm.specs.Demo.{demo_line, IsDueToDemo};
-ghost use Rattle.sfm.specs.Solving.{IsTrueAnswer};
+ghost use Rattle.sfm.specs.Solving.{IsTrueAnswer, counts_told};
 ghost use Rattle.sfm.specs.Status.{code_of};
 
 use crate::due::{Due, refuse};
@@ -27,6 +27,17 @@ fn put_count(out: &mut Vec<u8>, word: &[u8], n: usize) -> Result<(), AllocError>
     Ok(())
 }
 
+/// The counts that an answer tells, to the end of the line.
+fn put_counts(out: &mut Vec<u8>, solved: &Solved) -> Result<(), AllocError>
+    ensures { OnOk result (out.new.items ≡ out.old.items ++ counts_told (answer_of solved.now)) }
+{
+    put_count(out, b" least ", solved.least.size())?;
+    put_count(out, b" greatest ", solved.greatest.size())?;
+    put_count(out, b" blocks ", solved.blocks.len())?;
+    put_count(out, b" slopes ", solved.breaks.len())?;
+    out.extend_from_slice(b" valid\n")
+}
+
 /// The line that tells what an answer says.
 fn line_for(alloc: Global, seed: u64, solved: &Solved) -> Result<Vec<u8>, AllocError>
     ensures { IfOk result (λ line. line.items ≡ demo_line seed (answer_of solved.now)) }
@@ -36,11 +47,7 @@ fn line_for(alloc: Global, seed: u64, solved: &Solved) -> Result<Vec<u8>, AllocE
     out.extend_from_slice(buffer.format(seed).as_bytes())?;
     out.extend_from_slice(b" minimum ")?;
     out.extend_from_slice(buffer.format(solved.value).as_bytes())?;
-    put_count(&mut out, b" least ", solved.least.size())?;
-    put_count(&mut out, b" greatest ", solved.greatest.size())?;
-    put_count(&mut out, b" blocks ", solved.blocks.len())?;
-    put_count(&mut out, b" slopes ", solved.breaks.len())?;
-    out.extend_from_slice(b" valid\n")?;
+    put_counts(&mut out, solved)?;
     Ok(out)
 }
 

@@ -24,15 +24,15 @@ pub struct Due {
     pub status: Status,
 }
 
-/// The line `refused LINE REASON`.
-fn write_refusal(alloc: Global, line: usize, reason: Reason) -> Result<Vec<u8>, AllocError>
-    ensures { IfOk result (λ v. v.items ≡ refusal line reason) }
+/// A line of a word, the number of a line, and the word of the reason against it.
+fn fault_line(alloc: Global, word: &[u8], line: usize, reason: &[u8]) -> Result<Vec<u8>, AllocError>
+    ensures { IfOk result (λ v. v.items ≡ word.now ++ decimal line ++ codes " " ++ reason.now ++ codes "\n") }
 {
     let mut buffer = Buffer::new();
-    let mut out = Vec::from_slice(alloc, b"refused ")?;
+    let mut out = Vec::from_slice(alloc, word)?;
     out.extend_from_slice(buffer.format(line).as_bytes())?;
     out.extend_from_slice(b" ")?;
-    out.extend_from_slice(reason.word())?;
+    out.extend_from_slice(reason)?;
     out.extend_from_slice(b"\n")?;
     Ok(out)
 }
@@ -50,19 +50,6 @@ fn word_of(reason: Wrong) -> &'static [u8]
     }
 }
 
-/// The line `invalid LINE REASON`.
-fn write_invalid(alloc: Global, line: usize, reason: Wrong) -> Result<Vec<u8>, AllocError>
-    ensures { IfOk result (λ v. v.items ≡ verdict_line (Verdict.Invalid line reason)) }
-{
-    let mut buffer = Buffer::new();
-    let mut out = Vec::from_slice(alloc, b"invalid ")?;
-    out.extend_from_slice(buffer.format(line).as_bytes())?;
-    out.extend_from_slice(b" ")?;
-    out.extend_from_slice(word_of(reason))?;
-    out.extend_from_slice(b"\n")?;
-    Ok(out)
-}
-
 /// The line of a verdict, and its status.
 fn due_for_verdict(alloc: Global, verdict: Verdict) -> Result<Due, AllocError>
     ensures line { IfOk result (λ due. due.text.items ≡ verdict_line verdict) }
@@ -75,7 +62,7 @@ fn due_for_verdict(alloc: Global, verdict: Verdict) -> Result<Due, AllocError>
             status: Status::Done,
         }),
         Verdict::Invalid { line, reason } => Ok(Due {
-            text: write_invalid(alloc, line, reason)?,
+            text: fault_line(alloc, b"invalid ", line, word_of(reason))?,
             status: Status::Invalid,
         }),
     }
@@ -85,7 +72,7 @@ fn due_for_verdict(alloc: Global, verdict: Verdict) -> Result<Due, AllocError>
 pub fn refuse(alloc: Global, line: usize, reason: Reason) -> Result<Due, AllocError>
     ensures { IfOk result (λ due. (due.text.items ≡ refusal line reason) × (due.status ≡ Status.Refused)) }
 {
-    let text = write_refusal(alloc, line, reason)?;
+    let text = fault_line(alloc, b"refused ", line, reason.word())?;
     Ok(Due {
         text,
         status: Status::Refused,
