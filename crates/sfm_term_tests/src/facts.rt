@@ -12,19 +12,18 @@
 //     room 0 1 3        the room of (0, 1); `no` is one without a bound
 //     reach 0 2         the number of the part to which 0 has room
 //
-// A row costs no proof, since the functions that read and try it are proved for every table.
+// A row costs no proof, since the functions that read and try it are proved for every table. They answer yes or no.
 use crate::numbers::numbers_of;
 use crate::trial::{
-    At, has_base, has_places, has_reach, has_room, has_size, has_values, part, starts,
+    At, has_places, has_reach, has_room, has_size, has_values, is_base, is_no_base, part, starts,
 };
 use crate::{concave, graphs, laminar, simple, slots};
-use sfm_base::Memory;
-use sfm_kind::{Instance, Kind};
+use sfm_base::Set;
+use sfm_kind::Kind;
 use sfm_law::Term;
 use sfm_text::read_pieces;
 use std::alloc::Global;
 use std::process::Abort;
-use std::test::Fail;
 
 /// The terms of each kind.
 const TABLES: [&[(&str, &str)]; 5] = [
@@ -59,32 +58,32 @@ const HEAD: &str = "sfm 1\nground a b c d e f g h i j\n";
 /// What stands behind it.
 const TAIL: &str = "\nend\n";
 
-/// The instance of one line of a term.
-fn instance_of(rt: &impl Abort, alloc: Global, line: &str) -> Instance {
-    let pieces = [HEAD.as_bytes(), line.as_bytes(), TAIL.as_bytes()];
-    match read_pieces(alloc, &pieces) {
-        Ok(instance) => instance,
-        Err(_) => panic!(rt; "no term: {line}"),
-    }
-}
-
-/// The rank of a part.
-fn rank_of(rt: &impl Abort, alloc: Global, kind: &Kind, number: usize) -> Result<i128, Memory> {
+/// The rank of a part; nothing where a term has none, or memory lacks.
+fn rank_of(alloc: Global, kind: &Kind, s: &Set) -> Option<i128> {
     match kind {
-        Kind::Laminar(term) => term.rank(alloc, &part(alloc, term.places.len(), number)?),
-        Kind::Graphic(term) => term.rank(alloc, &part(alloc, term.places.len(), number)?),
-        Kind::Transversal(term) => term.rank(alloc, &part(alloc, term.places.len(), number)?),
-        _ => panic!(rt; "no rank"),
+        Kind::Laminar(term) if s.len() == term.places.len() => term.rank(alloc, s).ok(),
+        Kind::Graphic(term) if s.len() == term.places.len() => term.rank(alloc, s).ok(),
+        Kind::Transversal(term) if s.len() == term.places.len() => term.rank(alloc, s).ok(),
+        _ => None,
     }
 }
 
-/// Asserts the ranks of the parts by their numbers.
-fn has_ranks(rt: &impl Abort, alloc: Global, kind: &Kind, ranks: &[i128]) -> Result<(), Memory> {
-    for (number, rank) in ranks.iter().enumerate() {
-        let found = rank_of(rt, alloc, kind, number)?;
-        assert_eq!(rt; found, *rank, "part {number}");
+/// Whether a part has that rank.
+fn is_rank(alloc: Global, kind: &Kind, number: usize, rank: i128) -> bool {
+    match part(alloc, kind.elements().len(), number) {
+        Ok(s) => rank_of(alloc, kind, &s) == Some(rank),
+        Err(_) => false,
     }
-    Ok(())
+}
+
+/// Whether these are the ranks of the parts, by their numbers.
+fn has_ranks(alloc: Global, kind: &Kind, ranks: &[i128]) -> bool {
+    for number in 0..ranks.len() {
+        if !is_rank(alloc, kind, number, ranks[number]) {
+            return false;
+        }
+    }
+    true
 }
 
 /// What a line tells.
@@ -117,54 +116,39 @@ const WORDS: [(&str, Word); 10] = [
 ];
 
 /// The word with that text.
-fn word_of(rt: &impl Abort, text: &str) -> Word {
+fn word_of(text: &str) -> Option<Word> {
     for (word, told) in &WORDS {
         if *word == text {
-            return *told;
+            return Some(*told);
         }
     }
-    panic!(rt; "no word: {text}")
+    None
 }
 
-/// Asserts what a word and numbers tell of the bases of a term at a factor.
-fn has_base_told(
-    rt: &impl Abort,
-    alloc: Global,
-    kind: &Kind,
-    at: At,
-    word: Word,
-) -> Result<(), Memory> {
+/// Whether a term answers at a factor and a vector what a word and numbers tell.
+fn is_told_at(alloc: Global, kind: &Kind, at: At, word: Word, numbers: &[i128]) -> bool {
+    let beside = At {
+        q: at.q,
+        x: numbers,
+    };
     match word {
-        Word::Start => starts(rt, alloc, kind, at),
-        Word::Not => has_base(rt, alloc, kind, at, false),
-        Word::Base => has_base(rt, alloc, kind, at, true),
-        _ => Ok(()),
+        Word::Start => starts(alloc, kind, beside),
+        Word::Not => is_no_base(alloc, kind, beside),
+        Word::Base => is_base(alloc, kind, beside),
+        Word::Room => has_room(alloc, kind, at, numbers),
+        Word::Reach => has_reach(alloc, kind, at, numbers),
+        _ => true,
     }
 }
 
-/// Asserts what a word and numbers tell of a term at a factor and a vector.
-fn has_told(
-    rt: &impl Abort,
-    alloc: Global,
-    kind: &Kind,
-    at: At,
-    word: Word,
-    numbers: &[i128],
-) -> Result<(), Memory> {
+/// Whether a term answers what a word and numbers tell.
+fn is_told(alloc: Global, kind: &Kind, at: At, word: Word, numbers: &[i128]) -> bool {
     match word {
-        Word::Places => has_places(rt, kind, numbers),
-        Word::Size => has_size(rt, kind, numbers),
-        Word::Values => has_values(rt, alloc, kind, numbers),
-        Word::Ranks => has_ranks(rt, alloc, kind, numbers),
-        Word::Room => has_room(rt, alloc, kind, at, numbers),
-        Word::Reach => has_reach(rt, alloc, kind, at, numbers),
-        _ => {
-            let beside = At {
-                q: at.q,
-                x: numbers,
-            };
-            has_base_told(rt, alloc, kind, beside, word)
-        }
+        Word::Places => has_places(kind, numbers),
+        Word::Size => has_size(kind, numbers),
+        Word::Values => has_values(alloc, kind, numbers),
+        Word::Ranks => has_ranks(alloc, kind, numbers),
+        _ => is_told_at(alloc, kind, at, word, numbers),
     }
 }
 
@@ -173,79 +157,82 @@ fn words_of(line: &str) -> (&str, &str) {
     line.trim().split_once(' ').unwrap_or((line, ""))
 }
 
-/// What is told behind a line with these numbers.
-fn told_after(told: Told, word: Word, numbers: Vec<i128>) -> Told {
+/// Keeps what a word and numbers tell for the lines below.
+fn keep(told: &mut Told, word: Word, numbers: Vec<i128>) {
     match word {
-        Word::Base => Told {
-            q: told.q,
-            x: numbers,
-        },
-        Word::Factor => Told {
-            q: numbers.first().copied().unwrap_or(0),
-            x: told.x,
-        },
-        _ => told,
+        Word::Base => told.x = numbers,
+        Word::Factor => told.q = numbers.first().copied().unwrap_or(0),
+        _ => (),
     }
 }
 
-/// Asserts what a line tells of a term, and gives what is told behind it.
-fn has_fact(
-    rt: &impl Abort,
+/// Whether a term answers what a word and numbers tell behind what is told before, which is kept.
+fn has_numbers(
     alloc: Global,
     kind: &Kind,
-    told: Told,
-    line: &str,
-) -> Result<Told, Memory> {
-    let (text, rest) = words_of(line);
-    let word = word_of(rt, text);
-    let numbers = numbers_of(rt, alloc, rest)?;
+    told: &mut Told,
+    word: Word,
+    numbers: Vec<i128>,
+) -> bool {
     let at = At {
         q: told.q,
         x: told.x.as_slice(),
     };
-    has_told(rt, alloc, kind, at, word, numbers.as_slice())?;
-    Ok(told_after(told, word, numbers))
+    let is_so = is_told(alloc, kind, at, word, numbers.as_slice());
+    keep(told, word, numbers);
+    is_so
 }
 
-/// Asserts what the lines tell of a term.
-pub(crate) fn has_facts(
-    rt: &impl Abort,
-    alloc: Global,
-    kind: &Kind,
-    lines: &str,
-) -> Result<(), Memory> {
+/// Whether a term answers what a line tells behind what is told before.
+fn has_fact(alloc: Global, kind: &Kind, told: &mut Told, line: &str) -> bool {
+    let (text, rest) = words_of(line);
+    let Some(word) = word_of(text) else {
+        return false;
+    };
+    match numbers_of(alloc, rest) {
+        Some(numbers) => has_numbers(alloc, kind, told, word, numbers),
+        None => false,
+    }
+}
+
+/// Whether a term answers what the lines tell.
+pub(crate) fn has_facts(alloc: Global, kind: &Kind, lines: &str) -> bool {
     let mut told = Told {
         q: 1,
         x: Vec::new(alloc),
     };
     for line in lines.lines() {
-        told = has_fact(rt, alloc, kind, told, line)?;
+        if !has_fact(alloc, kind, &mut told, line) {
+            return false;
+        }
     }
-    Ok(())
+    true
 }
 
-/// Asserts what the lines tell of each term of an instance.
-fn have_facts(rt: &impl Abort, alloc: Global, kinds: &[Kind], lines: &str) -> Result<(), Memory> {
-    assert!(rt; kinds.len() == 1);
-    for kind in kinds {
-        has_facts(rt, alloc, kind, lines)?;
-    }
-    Ok(())
+/// Whether there is one term, which answers what the lines tell.
+fn have_facts(alloc: Global, kinds: &[Kind], lines: &str) -> bool {
+    kinds.len() == 1 && has_facts(alloc, &kinds[0], lines)
 }
 
-/// Asserts what a table tells: the lines of terms, each with what the term is to answer.
-fn try_table(rt: &impl Abort, alloc: Global, table: &[(&str, &str)]) -> Result<(), Memory> {
+/// Whether a row holds: the line of a term, and what the term is to answer.
+fn is_met(alloc: Global, row: &(&str, &str)) -> bool {
+    let pieces = [HEAD.as_bytes(), row.0.as_bytes(), TAIL.as_bytes()];
+    match read_pieces(alloc, &pieces) {
+        Ok(instance) => have_facts(alloc, instance.terms(), row.1),
+        Err(_) => false,
+    }
+}
+
+/// Asserts that the rows of a table hold.
+fn try_table(rt: &impl Abort, alloc: Global, table: &[(&str, &str)]) {
     for row in table {
-        let instance = instance_of(rt, alloc, row.0);
-        have_facts(rt, alloc, instance.terms(), row.1)?;
+        assert!(rt; is_met(alloc, row), "{}", row.0);
     }
-    Ok(())
 }
 
 #[test]
-fn terms(rt: HostRuntime) -> Result<(), Fail> {
+fn terms(rt: HostRuntime) {
     for table in &TABLES {
-        try_table(&rt, rt.alloc(), table)?;
+        try_table(&rt, rt.alloc(), table);
     }
-    Ok(())
 }

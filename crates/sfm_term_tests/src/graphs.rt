@@ -1,12 +1,9 @@
 // Ranks of graphic matroids, worked by hand: loops, edges side by side, a path, a triangle, and a square whose edges come in an
 // order that joins two labels; and terms whose vertices have numbers with gaps between them.
 use crate::facts::{ONE_OF_TWO, has_facts};
-use sfm_base::Memory;
 use sfm_kind::Kind;
 use sfm_matroid::Graphic;
 use std::alloc::Global;
-use std::process::Abort;
-use std::test::Fail;
 
 /// Terms of these kinds, and what each answers.
 pub(crate) const TERMS: [(&str, &str); 4] = [
@@ -87,37 +84,29 @@ const EDGES: [(i128, &[(u32, u32)], &str); 3] = [
     ),
 ];
 
-/// The term of three or four edges of the first elements.
-fn graph_of(
-    rt: &impl Abort,
-    alloc: Global,
-    w: i128,
-    ends: &[(u32, u32)],
-) -> Result<Graphic, Memory> {
-    assert!(rt; 0 <= w && w <= 5);
-    if ends.len() == 3 {
-        return Graphic::new(alloc, &[0, 1, 2], w, ends);
+/// The term of three or four edges of the first elements; nothing where there are others, or memory lacks.
+fn graph_of(alloc: Global, w: i128, ends: &[(u32, u32)]) -> Option<Graphic> {
+    if w < 0 || w > 5 {
+        return None;
     }
-    assert!(rt; ends.len() == 4);
-    Graphic::new(alloc, &[0, 1, 2, 3], w, ends)
+    match ends.len() {
+        3 => Graphic::new(alloc, &[0, 1, 2], w, ends).ok(),
+        4 => Graphic::new(alloc, &[0, 1, 2, 3], w, ends).ok(),
+        _ => None,
+    }
 }
 
-/// Asserts what a term of such edges answers.
-fn has_edges(
-    rt: &impl Abort,
-    alloc: Global,
-    w: i128,
-    ends: &[(u32, u32)],
-    lines: &str,
-) -> Result<(), Memory> {
-    let kind = Kind::Graphic(graph_of(rt, alloc, w, ends)?);
-    has_facts(rt, alloc, &kind, lines)
+/// Whether a term of such edges answers what the lines tell.
+fn has_edges(alloc: Global, w: i128, ends: &[(u32, u32)], lines: &str) -> bool {
+    match graph_of(alloc, w, ends) {
+        Some(term) => has_facts(alloc, &Kind::Graphic(term), lines),
+        None => false,
+    }
 }
 
 #[test]
-fn edges_by_their_ends(rt: HostRuntime) -> Result<(), Fail> {
+fn edges_by_their_ends(rt: HostRuntime) {
     for (w, ends, lines) in &EDGES {
-        has_edges(&rt, rt.alloc(), *w, ends, lines)?;
+        assert!(rt; has_edges(rt.alloc(), *w, ends, lines));
     }
-    Ok(())
 }

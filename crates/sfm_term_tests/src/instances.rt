@@ -8,81 +8,75 @@ use sfm_kind::{Instance, Kind, is_name};
 use sfm_law::Term;
 use sfm_simple::{Cut, Need, Weight};
 use std::alloc::Global;
-use std::process::Abort;
-use std::test::Fail;
 
 const MOST_SIZE: i128 = 1_000_000_000_000_000_000;
 
 /// The names of the elements.
 const NAMES: [&str; 2] = ["a", "b"];
 
-/// Adds an element with a new name.
-fn add_name(rt: &impl Abort, instance: &mut Instance, name: &[u8]) -> Result<(), Memory> {
-    assert!(rt; is_name(name));
-    assert!(rt; instance.place_of(name).is_none());
-    assert!(rt; instance.names_len() < 256);
-    instance.add_name(name)
+/// Adds an element with a new name, if it can be.
+fn add_name(instance: &mut Instance, name: &[u8]) -> bool {
+    if !is_name(name) || instance.place_of(name).is_some() || instance.names_len() >= 256 {
+        return false;
+    }
+    instance.add_name(name).is_ok()
 }
 
-/// Adds a term that the bounds take.
-fn add(rt: &impl Abort, instance: &mut Instance, term: Kind) -> Result<(), Memory> {
-    assert!(rt; instance.takes(&term));
-    instance.add_term(term)
+/// Adds the elements a and b, if they can be.
+fn add_names(instance: &mut Instance) -> bool {
+    for name in &NAMES {
+        if !add_name(instance, name.as_bytes()) {
+            return false;
+        }
+    }
+    true
+}
+
+/// Adds a term, if the bounds take it.
+fn add(instance: &mut Instance, term: Kind) -> bool {
+    instance.takes(&term) && instance.add_term(term).is_ok()
+}
+
+/// Adds weights -3 and 2, if they can be.
+fn add_weight(alloc: Global, instance: &mut Instance) -> bool {
+    match Weight::new(alloc, &[0, 1], &[-3, 2]) {
+        Ok(term) => add(instance, Kind::Weight(term)),
+        Err(_) => false,
+    }
+}
+
+/// Adds weights -3 and 2 and a cut of 4, if they can be.
+fn add_terms(alloc: Global, instance: &mut Instance) -> bool {
+    add_weight(alloc, instance) && add(instance, Kind::Cut(Cut::new(4, 0, 1)))
 }
 
 /// The sum of the values of terms over two elements at a part.
-fn sum_at<T: Term>(
-    rt: &impl Abort,
-    alloc: Global,
-    terms: &[T],
-    number: usize,
-) -> Result<i128, Memory> {
+fn sum_at(alloc: Global, terms: &[Kind], number: usize) -> Result<i128, Memory> {
     let mut sum = 0i128;
     for term in terms {
-        assert!(rt; term.elements().len() == 2);
         sum = sum.saturating_add(value_at(alloc, term, number)?);
     }
     Ok(sum)
 }
 
-/// Asserts the sums of the values of the terms at the four parts.
-fn has_sums(
-    rt: &impl Abort,
-    alloc: Global,
-    terms: &[Kind],
-    sums: &[i128; 4],
-) -> Result<(), Memory> {
+/// Whether terms are over two elements each.
+fn are_pairs(terms: &[Kind]) -> bool {
+    for term in terms {
+        if term.elements().len() != 2 {
+            return false;
+        }
+    }
+    true
+}
+
+/// Whether the sums of the values of the terms at the four parts are these.
+fn has_sums(alloc: Global, terms: &[Kind], sums: &[i128; 4]) -> bool {
     for number in 0..4 {
-        let found = sum_at(rt, alloc, terms, number)?;
-        assert!(rt; found == sums[number]);
+        if sum_at(alloc, terms, number) != Ok(sums[number]) {
+            return false;
+        }
     }
-    Ok(())
-}
-
-/// Adds the elements a and b.
-fn add_names(rt: &impl Abort, instance: &mut Instance) -> Result<(), Memory> {
-    for name in &NAMES {
-        add_name(rt, instance, name.as_bytes())?;
-    }
-    Ok(())
-}
-
-/// The elements a and b.
-fn with_two_names(rt: &impl Abort, alloc: Global) -> Result<Instance, Memory> {
-    let mut instance = Instance::new(alloc);
-    add_names(rt, &mut instance)?;
-    Ok(instance)
-}
-
-/// Adds weights -3 and 2 and a cut of 4.
-fn add_terms(rt: &impl Abort, alloc: Global, instance: &mut Instance) -> Result<(), Memory> {
-    add(rt, instance, weight_of(alloc)?)?;
-    add(rt, instance, Kind::Cut(Cut::new(4, 0, 1)))
-}
-
-/// The weights -3 and 2.
-fn weight_of(alloc: Global) -> Result<Kind, Memory> {
-    Ok(Kind::Weight(Weight::new(alloc, &[0, 1], &[-3, 2])?))
+    are_pairs(terms)
 }
 
 /// A name that no element has.
@@ -126,43 +120,43 @@ fn takes_more(instance: &Instance) -> bool {
     instance.takes(&Kind::Need(Need::new(0, 2)))
 }
 
-/// The instance of a weight and a cut over a and b.
-fn weight_and_cut(rt: &impl Abort, alloc: Global) -> Result<Instance, Memory> {
-    let mut instance = with_two_names(rt, alloc)?;
-    add_terms(rt, alloc, &mut instance)?;
-    Ok(instance)
-}
-
-/// Whether an instance is so.
-fn is_weight_and_cut(instance: &Instance) -> bool {
-    has_names(instance) && has_counts(instance) && !takes_more(instance)
-}
-
 /// The sums of the values of a weight and a cut.
 const SUMS: [i128; 4] = [0, 1, 2, -1];
 
-#[test]
-fn a_weight_and_a_cut(rt: HostRuntime) -> Result<(), Fail> {
-    let instance = weight_and_cut(&rt, rt.alloc())?;
-    assert!(rt; is_weight_and_cut(&instance));
-    has_sums(&rt, rt.alloc(), instance.terms(), &SUMS)?;
-    Ok(())
+/// Whether an instance is that of a weight and a cut over a and b.
+fn is_weight_and_cut(alloc: Global, instance: &Instance) -> bool {
+    has_names(instance)
+        && has_counts(instance)
+        && !takes_more(instance)
+        && has_sums(alloc, instance.terms(), &SUMS)
+}
+
+/// Whether the instance of a weight and a cut is so once it is made.
+fn makes_weight_and_cut(alloc: Global) -> bool {
+    let mut instance = Instance::new(alloc);
+    add_names(&mut instance)
+        && add_terms(alloc, &mut instance)
+        && is_weight_and_cut(alloc, &instance)
 }
 
 /// The sums of the values of a condition.
 const SUMS_OF_A_NEED: [i128; 4] = [0, NO, 0, 0];
 
-/// The instance of a condition over a and b.
-fn lone_need(rt: &impl Abort, alloc: Global) -> Result<Instance, Memory> {
-    let mut instance = with_two_names(rt, alloc)?;
-    add(rt, &mut instance, Kind::Need(Need::new(0, 1)))?;
-    Ok(instance)
+/// Whether the instance of a condition is so once it is made.
+fn makes_need(alloc: Global) -> bool {
+    let mut instance = Instance::new(alloc);
+    add_names(&mut instance)
+        && add(&mut instance, Kind::Need(Need::new(0, 1)))
+        && instance.total_size() == 0
+        && has_sums(alloc, instance.terms(), &SUMS_OF_A_NEED)
 }
 
 #[test]
-fn a_lone_need(rt: HostRuntime) -> Result<(), Fail> {
-    let instance = lone_need(&rt, rt.alloc())?;
-    assert!(rt; instance.total_size() == 0);
-    has_sums(&rt, rt.alloc(), instance.terms(), &SUMS_OF_A_NEED)?;
-    Ok(())
+fn a_weight_and_a_cut(rt: HostRuntime) {
+    assert!(rt; makes_weight_and_cut(rt.alloc()));
+}
+
+#[test]
+fn a_lone_need(rt: HostRuntime) {
+    assert!(rt; makes_need(rt.alloc()));
 }

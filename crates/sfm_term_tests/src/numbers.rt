@@ -1,35 +1,46 @@
 // Numbers in the text of a table, in which blanks stand between them.
-use sfm_base::{Memory, read_number};
+use sfm_base::read_number;
 use std::alloc::Global;
-use std::process::Abort;
 
 /// What `no` stands for: a part that is not allowed, or a room without a bound.
 pub(crate) const NO: i128 = i128::MAX;
 
-/// The number of a word.
-fn number_of(rt: &impl Abort, word: &str) -> i128 {
+/// The number of a word, or nothing where it is none.
+fn number_of(word: &str) -> Option<i128> {
     if word == "no" {
-        return NO;
+        return Some(NO);
     }
-    match read_number(word.as_bytes()) {
-        Some(a) => a,
-        None => panic!(rt; "no number: {word}"),
-    }
+    read_number(word.as_bytes())
 }
 
-/// The numbers of a text.
-pub(crate) fn numbers_of(rt: &impl Abort, alloc: Global, text: &str) -> Result<Vec<i128>, Memory> {
-    let mut numbers = Vec::new(alloc);
+/// Puts the numbers of a text behind others, and says whether each word is one, and there is memory.
+fn put_numbers(numbers: &mut Vec<i128>, text: &str) -> bool {
     for word in text.split_whitespace() {
-        numbers.push(number_of(rt, word))?;
+        let Some(number) = number_of(word) else {
+            return false;
+        };
+        if numbers.push(number).is_err() {
+            return false;
+        }
     }
-    Ok(numbers)
+    true
 }
 
-/// The number of that place, as that of a place or of a part.
-pub(crate) fn count_at(rt: &impl Abort, numbers: &[i128], i: usize) -> usize {
-    assert!(rt; i < numbers.len());
-    let number = numbers[i];
-    assert!(rt; 0 <= number && number < 65_536);
-    number as usize
+/// The numbers of a text, or nothing where a word is none, or memory lacks.
+pub(crate) fn numbers_of(alloc: Global, text: &str) -> Option<Vec<i128>> {
+    let mut numbers = Vec::new(alloc);
+    if put_numbers(&mut numbers, text) {
+        Some(numbers)
+    } else {
+        None
+    }
+}
+
+/// The number of that place, as that of a place or of a part; where there is none, or it is too large, one that no place has.
+pub(crate) fn count_at(numbers: &[i128], i: usize) -> usize {
+    if i < numbers.len() && 0 <= numbers[i] && numbers[i] < 65_536 {
+        numbers[i] as usize
+    } else {
+        usize::MAX
+    }
 }

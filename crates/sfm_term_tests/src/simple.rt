@@ -1,6 +1,7 @@
 // Each kind of weights, cuts, conditions, covers and tables, with answers worked by hand, and the refusals of tables.
 use crate::facts::ONE_OF_TWO;
 use sfm_simple::{Table, TableEnd};
+use std::alloc::Global;
 
 /// Terms of these kinds, and what each answers.
 pub(crate) const TERMS: [(&str, &str); 7] = [
@@ -104,18 +105,24 @@ pub(crate) const TERMS: [(&str, &str); 7] = [
     ),
 ];
 
+/// Whether a table over two elements is refused that breaks the law.
+fn refuses_two(alloc: Global) -> bool {
+    Table::new(alloc, &[0, 1], &[0, 1, 1, 3]).err()
+        == Some(TableEnd::LawBroken { set: 0, a: 0, b: 1 })
+}
+
+/// Whether a table is refused whose empty part has a value.
+fn refuses_empty(alloc: Global) -> bool {
+    Table::new(alloc, &[0, 1], &[1, 1, 1, 1]).err() == Some(TableEnd::NotZero)
+}
+
+/// Whether a table over three elements is refused that breaks the law at the last.
+fn refuses_three(alloc: Global) -> bool {
+    Table::new(alloc, &[0, 1, 2], &[0, 1, 1, 2, 1, 2, 2, 4]).err()
+        == Some(TableEnd::LawBroken { set: 1, a: 1, b: 2 })
+}
+
 #[test]
 fn tables_refused(rt: HostRuntime) {
-    assert_eq!(rt;
-        Table::new(rt.alloc(), &[0, 1], &[0, 1, 1, 3]).err(),
-        Some(TableEnd::LawBroken { set: 0, a: 0, b: 1 })
-    );
-    assert_eq!(rt;
-        Table::new(rt.alloc(), &[0, 1], &[1, 1, 1, 1]).err(),
-        Some(TableEnd::NotZero)
-    );
-    assert_eq!(rt;
-        Table::new(rt.alloc(), &[0, 1, 2], &[0, 1, 1, 2, 1, 2, 2, 4]).err(),
-        Some(TableEnd::LawBroken { set: 1, a: 1, b: 2 })
-    );
+    assert!(rt; refuses_two(rt.alloc()) && refuses_empty(rt.alloc()) && refuses_three(rt.alloc()));
 }

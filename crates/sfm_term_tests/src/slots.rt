@@ -4,12 +4,9 @@ ghost use Rattle.std.specs.Prelude.{◌↔◌, ◌<◌, ◌^◌, IsTrue};
 ghost use Rattle.std.specs.List.{All};
 
 use crate::facts::{ONE_OF_TWO, has_facts};
-use sfm_base::Memory;
 use sfm_kind::Kind;
 use sfm_matroid::{Entries, Transversal};
 use std::alloc::Global;
-use std::process::Abort;
-use std::test::Fail;
 
 /// What a term answers whose first element has slots that no other one has.
 const MORE_SLOTS: &str = "places 0 1 2 3
@@ -61,35 +58,35 @@ fn are_slots(slots: &[u32]) -> bool
     slots.iter().all(|v| *v < 16_777_216)
 }
 
-/// Puts an entry with these slots at the end.
-fn push_slots(
-    rt: &impl Abort,
-    alloc: Global,
-    entries: &mut Entries,
-    slots: &[u32],
-) -> Result<(), Memory> {
-    assert!(rt; are_slots(slots));
-    entries.push(Vec::from_slice(alloc, slots)?)
+/// Puts an entry with these slots at the end, if each is one, and there is memory.
+fn push_slots(alloc: Global, entries: &mut Entries, slots: &[u32]) -> bool {
+    if !are_slots(slots) {
+        return false;
+    }
+    match Vec::from_slice(alloc, slots) {
+        Ok(list) => entries.push(list).is_ok(),
+        Err(_) => false,
+    }
 }
 
 /// Puts entries with these slots at the end.
-fn push_all(
-    rt: &impl Abort,
-    alloc: Global,
-    entries: &mut Entries,
-    lists: &[&[u32]],
-) -> Result<(), Memory> {
+fn push_all(alloc: Global, entries: &mut Entries, lists: &[&[u32]]) -> bool {
     for slots in lists {
-        push_slots(rt, alloc, entries, slots)?;
+        if !push_slots(alloc, entries, slots) {
+            return false;
+        }
     }
-    Ok(())
+    true
 }
 
 /// Entries with these slots.
-fn entries_of(rt: &impl Abort, alloc: Global, lists: &[&[u32]]) -> Result<Entries, Memory> {
+fn entries_of(alloc: Global, lists: &[&[u32]]) -> Option<Entries> {
     let mut entries = Entries::new(alloc);
-    push_all(rt, alloc, &mut entries, lists)?;
-    Ok(entries)
+    if push_all(alloc, &mut entries, lists) {
+        Some(entries)
+    } else {
+        None
+    }
 }
 
 /// The entries of four elements, the last without slots.
@@ -102,18 +99,29 @@ const WITHOUT_SLOTS: &str = "places 4 0 2 9
     factor 2
     start 10 10 0 0";
 
-/// The term of four elements that are not the first.
-fn four_elements(rt: &impl Abort, alloc: Global) -> Result<Transversal, Memory> {
-    let entries = entries_of(rt, alloc, &FOUR)?;
-    assert!(rt; entries.len() == 4);
-    Transversal::new(alloc, &[4, 0, 2, 9], 5, entries)
+/// The term of four elements that are not the first; nothing where these are not four, or memory lacks.
+fn others_of(alloc: Global, entries: Entries) -> Option<Transversal> {
+    if entries.len() == 4 {
+        Transversal::new(alloc, &[4, 0, 2, 9], 5, entries).ok()
+    } else {
+        None
+    }
+}
+
+/// Whether a term of four elements that are not the first answers what it is to answer.
+fn moves_aside(alloc: Global) -> bool {
+    let Some(entries) = entries_of(alloc, &FOUR) else {
+        return false;
+    };
+    match others_of(alloc, entries) {
+        Some(term) => has_facts(alloc, &Kind::Transversal(term), WITHOUT_SLOTS),
+        None => false,
+    }
 }
 
 #[test]
-fn places_that_move_aside(rt: HostRuntime) -> Result<(), Fail> {
-    let kind = Kind::Transversal(four_elements(&rt, rt.alloc())?);
-    has_facts(&rt, rt.alloc(), &kind, WITHOUT_SLOTS)?;
-    Ok(())
+fn places_that_move_aside(rt: HostRuntime) {
+    assert!(rt; moves_aside(rt.alloc()));
 }
 
 /// What a term is worth for each of the rank, its entries, and what it answers: two elements with one slot, and the entries of a
@@ -129,38 +137,32 @@ const ENTRIES: [(i128, &[&[u32]], &str); 2] = [
     (3, &[&[0, 1, 2, 3, 4], &[0], &[0], &[0, 1]], MORE_SLOTS),
 ];
 
-/// The term of two or four of the first elements.
-fn slots_of(
-    rt: &impl Abort,
-    alloc: Global,
-    w: i128,
-    entries: Entries,
-) -> Result<Transversal, Memory> {
-    assert!(rt; 0 <= w && w <= 3);
-    if entries.len() == 2 {
-        return Transversal::new(alloc, &[0, 1], w, entries);
+/// The term of two or four of the first elements; nothing where there are others, or memory lacks.
+fn slots_of(alloc: Global, w: i128, entries: Entries) -> Option<Transversal> {
+    if w < 0 || w > 3 {
+        return None;
     }
-    assert!(rt; entries.len() == 4);
-    Transversal::new(alloc, &[0, 1, 2, 3], w, entries)
+    match entries.len() {
+        2 => Transversal::new(alloc, &[0, 1], w, entries).ok(),
+        4 => Transversal::new(alloc, &[0, 1, 2, 3], w, entries).ok(),
+        _ => None,
+    }
 }
 
-/// Asserts what a term of such entries answers.
-fn has_entries(
-    rt: &impl Abort,
-    alloc: Global,
-    w: i128,
-    lists: &[&[u32]],
-    lines: &str,
-) -> Result<(), Memory> {
-    let entries = entries_of(rt, alloc, lists)?;
-    let kind = Kind::Transversal(slots_of(rt, alloc, w, entries)?);
-    has_facts(rt, alloc, &kind, lines)
+/// Whether a term of such entries answers what the lines tell.
+fn has_entries(alloc: Global, w: i128, lists: &[&[u32]], lines: &str) -> bool {
+    let Some(entries) = entries_of(alloc, lists) else {
+        return false;
+    };
+    match slots_of(alloc, w, entries) {
+        Some(term) => has_facts(alloc, &Kind::Transversal(term), lines),
+        None => false,
+    }
 }
 
 #[test]
-fn entries_by_their_slots(rt: HostRuntime) -> Result<(), Fail> {
+fn entries_by_their_slots(rt: HostRuntime) {
     for (w, lists, lines) in &ENTRIES {
-        has_entries(&rt, rt.alloc(), *w, lists, lines)?;
+        assert!(rt; has_entries(rt.alloc(), *w, lists, lines));
     }
-    Ok(())
 }

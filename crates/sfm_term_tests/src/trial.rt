@@ -1,9 +1,10 @@
 // What a term is asked for in a test: its values, its first base, the rooms and the reach of places at a base, and that notes tell
-// the same, at the base and after an exchange. Parts are told by their numbers, place j counting 2^j.
-ghost use Rattle.std.specs.Prelude.{◌≡◌, ◌↔◌, ◌<◌, ◌^◌, ◌≤ℤ◌, length, pos, IsTrue, IfOk, OnOk};
+// the same, at the base and after an exchange. Each is asked by a function that answers yes or no, and no where memory lacks. Parts
+// are told by their numbers, place j counting 2^j.
+ghost use Rattle.std.specs.Prelude.{◌≡◌, ◌↔◌, ◌<◌, ◌^◌, ◌≤ℤ◌, length, pos, IsTrue, IfOk, IfSome};
 ghost use Rattle.std.specs.List.{All};
 ghost use Rattle.sfm_spec.specs.Bounds.{IsEntry, IsFactor};
-ghost use Rattle.sfm_spec.specs.Terms.{times, IsBase};
+ghost use Rattle.sfm_spec.specs.Terms.{times, exchanged};
 ghost use Rattle.sfm_law.specs.Room.{IsWithinRoom};
 ghost use Rattle.sfm_term_tests.specs.Based.{IsFit, IsBased, IsPair};
 
@@ -11,7 +12,6 @@ use crate::numbers::{NO, count_at};
 use sfm_base::{Memory, Set};
 use sfm_law::{Room, Term, exchange};
 use std::alloc::Global;
-use std::process::Abort;
 
 const MOST_ENTRY: i128 = 1_000_000_000_000_000_000_000_000_000_000;
 
@@ -86,20 +86,14 @@ fn are_places(elements: &[usize], places: &[i128]) -> bool {
     elements.len() == places.len()
 }
 
-/// Asserts the elements of the places.
-pub(crate) fn has_places<T: Term>(
-    rt: &impl Abort,
-    term: &T,
-    places: &[i128],
-) -> Result<(), Memory> {
-    assert!(rt; are_places(term.elements(), places));
-    Ok(())
+/// Whether these are the elements of the places.
+pub(crate) fn has_places<T: Term>(term: &T, places: &[i128]) -> bool {
+    are_places(term.elements(), places)
 }
 
-/// Asserts the size.
-pub(crate) fn has_size<T: Term>(rt: &impl Abort, term: &T, size: &[i128]) -> Result<(), Memory> {
-    assert!(rt; size.len() == 1 && term.size() == size[0]);
-    Ok(())
+/// Whether this is the size.
+pub(crate) fn has_size<T: Term>(term: &T, size: &[i128]) -> bool {
+    size.len() == 1 && term.size() == size[0]
 }
 
 /// The value of a part by its number.
@@ -108,41 +102,31 @@ pub(crate) fn value_at<T: Term>(alloc: Global, term: &T, number: usize) -> Resul
     Ok(term.value(alloc, &s)?.unwrap_or(NO))
 }
 
-/// Asserts the values of the parts.
-pub(crate) fn has_values<T: Term>(
-    rt: &impl Abort,
-    alloc: Global,
-    term: &T,
-    values: &[i128],
-) -> Result<(), Memory> {
-    for (number, value) in values.iter().enumerate() {
-        let found = value_at(alloc, term, number)?;
-        assert!(rt; found == *value, "part {number}");
+/// Whether these are the values of the parts.
+pub(crate) fn has_values<T: Term>(alloc: Global, term: &T, values: &[i128]) -> bool {
+    for number in 0..values.len() {
+        if value_at(alloc, term, number) != Ok(values[number]) {
+            return false;
+        }
     }
-    Ok(())
+    true
 }
 
-/// The first base of q times a term.
-fn start_of<T: Term>(alloc: Global, term: &T, q: i128) -> Result<Vec<i128>, Memory>
-    requires factor { IsFactor q }
+/// Whether the first base of q times a term is that one.
+fn is_start<T: Term>(alloc: Global, term: &T, at: At) -> bool
+    requires factor { IsFactor at.q }
     requires bounded { T.size_of term.now ≤ℤ pos (10 ^ 18) }
 {
-    let mut x = vec![in alloc; 1; term.elements().len()]?;
-    term.start(alloc, q, x.as_mut_slice())?;
-    Ok(x)
+    let Ok(mut x) = vec![in alloc; 1; term.elements().len()] else {
+        return false;
+    };
+    let started = term.start(alloc, at.q, x.as_mut_slice()).is_ok();
+    started && x.as_slice() == at.x
 }
 
-/// Asserts the first base of q times a term.
-pub(crate) fn starts<T: Term>(
-    rt: &impl Abort,
-    alloc: Global,
-    term: &T,
-    at: At,
-) -> Result<(), Memory> {
-    assert!(rt; is_factor(at.q) && is_small(term));
-    let x = start_of(alloc, term, at.q)?;
-    assert!(rt; x.as_slice() == at.x);
-    Ok(())
+/// Whether the first base of q times a term can be asked for, and is that one.
+pub(crate) fn starts<T: Term>(alloc: Global, term: &T, at: At) -> bool {
+    is_factor(at.q) && is_small(term) && is_start(alloc, term, at)
 }
 
 /// Whether a factor, a term and a vector are such that bases can be asked for.
@@ -152,56 +136,33 @@ fn fits<T: Term>(term: &T, q: i128, x: &[i128]) -> bool
     is_factor(q) && is_small(term) && is_sized(term, x) && are_entries(x)
 }
 
-/// Whether a vector is a base of q times a term, with all numbers within the bounds.
-fn is_base<T: Term>(alloc: Global, term: &T, q: i128, x: &[i128]) -> Result<bool, Memory>
-    ensures { IfOk result (λ r. IsTrue r → IsBased T.places T.value_of T.size_of term.now q x.now) }
+/// What a term tells of a vector: whether it is a base of q times the term, with all numbers within the bounds.
+fn tells_base<T: Term>(alloc: Global, term: &T, at: At) -> Result<bool, Memory>
+    ensures { IfOk result (λ r. IsTrue r → IsBased T.places T.value_of T.size_of term.now at.entry.q at.entry.x.now) }
 {
-    if fits(term, q, x) {
-        term.is_base(alloc, q, x)
+    if fits(term, at.q, at.x) {
+        term.is_base(alloc, at.q, at.x)
     } else {
         Ok(false)
     }
 }
 
-/// Asserts that a vector is a base of q times a term, or that it is none.
-pub(crate) fn has_base<T: Term>(
-    rt: &impl Abort,
-    alloc: Global,
-    term: &T,
-    at: At,
-    wanted: bool,
-) -> Result<(), Memory> {
-    assert!(rt; fits(term, at.q, at.x));
-    let found = is_base(alloc, term, at.q, at.x)?;
-    assert!(rt; found == wanted);
-    Ok(())
+/// Whether a vector is a base of q times a term.
+pub(crate) fn is_base<T: Term>(alloc: Global, term: &T, at: At) -> bool
+    ensures { IsTrue result → IsBased T.places T.value_of T.size_of term.now at.entry.q at.entry.x.now }
+{
+    match tells_base(alloc, term, at) {
+        Ok(found) => found,
+        Err(_) => false,
+    }
 }
 
-/// The part to which a place has room at a base.
-fn reach_at<T: Term>(alloc: Global, term: &T, at: Pair) -> Result<Set, Memory>
-    requires based { IsBased T.places T.value_of T.size_of term.now at.q at.x.now }
-    requires from { at.u < length at.x.now }
-{
-    let mut to = part(alloc, at.x.len(), 5)?;
-    term.reach(alloc, at.q, at.x, at.u, &mut to)?;
-    Ok(to)
-}
-
-/// The same by a note.
-fn reach_by_note<T: Term>(
-    alloc: Global,
-    term: &T,
-    at: Pair,
-    note: &mut T::Note,
-) -> Result<Set, Memory>
-    requires based { IsBased T.places T.value_of T.size_of term.now at.q at.x.now }
-    requires noted { T.fits term.now note.old at.q at.x.now }
-    requires from { at.u < length at.x.now }
-    ensures noted { OnOk result (T.fits term.now note.new at.entry.q at.entry.x.now) }
-{
-    let mut to = part(alloc, at.x.len(), 6)?;
-    term.reach_by(alloc, at.q, at.x, note, at.u, &mut to)?;
-    Ok(to)
+/// Whether bases of q times a term can be asked for, and a vector is none.
+pub(crate) fn is_no_base<T: Term>(alloc: Global, term: &T, at: At) -> bool {
+    match tells_base(alloc, term, at) {
+        Ok(found) => !found && fits(term, at.q, at.x),
+        Err(_) => false,
+    }
 }
 
 /// Whether two parts are the same.
@@ -209,190 +170,181 @@ fn is_same(s: &Set, other: &Set) -> bool {
     s.len() == other.len() && s.is_within(other) && other.is_within(s)
 }
 
-/// Asserts that a note tells the row of u at a base.
-fn tells_reach<T: Term>(
-    rt: &impl Abort,
-    alloc: Global,
-    term: &T,
-    at: Pair,
-    note: &mut T::Note,
-) -> Result<(), Memory>
+/// Whether the part to which a place has room at a base is that one.
+fn is_reach<T: Term>(alloc: Global, term: &T, at: Pair, wanted: &Set) -> bool
+    requires based { IsBased T.places T.value_of T.size_of term.now at.q at.x.now }
+    requires from { at.u < length at.x.now }
+{
+    let Ok(mut to) = part(alloc, at.x.len(), 5) else {
+        return false;
+    };
+    let reached = term.reach(alloc, at.q, at.x, at.u, &mut to).is_ok();
+    reached && is_same(&to, wanted)
+}
+
+/// Whether a note tells the row of u at a base.
+fn tells_reach<T: Term>(alloc: Global, term: &T, at: Pair, note: &mut T::Note) -> bool
     requires based { IsBased T.places T.value_of T.size_of term.now at.q at.x.now }
     requires noted { T.fits term.now note.old at.q at.x.now }
     requires from { at.u < length at.x.now }
-    ensures noted { OnOk result (T.fits term.now note.new at.entry.q at.entry.x.now) }
+    ensures noted { IsTrue result → T.fits term.now note.new at.entry.q at.entry.x.now }
 {
-    let told = reach_by_note(alloc, term, at, note)?;
-    let to = reach_at(alloc, term, at)?;
-    assert!(rt; is_same(&told, &to));
-    Ok(())
+    let Ok(mut to) = part(alloc, at.x.len(), 6) else {
+        return false;
+    };
+    let Ok(()) = term.reach_by(alloc, at.q, at.x, note, at.u, &mut to) else {
+        return false;
+    };
+    is_reach(alloc, term, at, &to)
 }
 
-/// Asserts that a note tells the row of u and the room of (u, v) at a base.
-fn tells<T: Term>(
-    rt: &impl Abort,
-    alloc: Global,
-    term: &T,
-    at: Pair,
-    note: &mut T::Note,
-) -> Result<(), Memory>
-    requires factor { IsFactor at.q }
-    requires entries { length at.x.now ≡ length (T.places term.now) }
-    requires bounded { T.size_of term.now ≤ℤ pos (10 ^ 18) }
-    requires small { All IsEntry at.x.now }
-    requires base { IsBase (times at.q (T.value_of term.now)) at.x.now }
+/// Whether a note tells the room of (u, v) at a base.
+fn tells_room<T: Term>(alloc: Global, term: &T, at: Pair, note: &mut T::Note) -> bool
+    requires based { IsBased T.places T.value_of T.size_of term.now at.q at.x.now }
     requires noted { T.fits term.now note.old at.q at.x.now }
     requires pair { IsPair at.u at.v at.x.now }
 {
-    tells_reach(rt, alloc, term, at, note)?;
-    let told = term.room_by(alloc, at.q, at.x, note, at.u, at.v)?;
-    let room = term.room(alloc, at.q, at.x, at.u, at.v)?;
-    assert!(rt; told == room);
-    Ok(())
+    let told = term.room_by(alloc, at.q, at.x, note, at.u, at.v);
+    told.is_ok() && told == term.room(alloc, at.q, at.x, at.u, at.v)
 }
 
-/// Asserts that a new note tells the row of u and the room of (u, v) at a base.
-fn tells_at<T: Term>(rt: &impl Abort, alloc: Global, term: &T, at: Pair) -> Result<(), Memory>
+/// Whether a note tells the row of u and the room of (u, v) at a base.
+fn tells<T: Term>(alloc: Global, term: &T, at: Pair, note: &mut T::Note) -> bool
+    requires based { IsBased T.places T.value_of T.size_of term.now at.q at.x.now }
+    requires noted { T.fits term.now note.old at.q at.x.now }
+    requires pair { IsPair at.u at.v at.x.now }
+{
+    tells_reach(alloc, term, at, note) && tells_room(alloc, term, at, note)
+}
+
+/// Whether a new note tells the row of u and the room of (u, v) at a base.
+fn tells_at<T: Term>(alloc: Global, term: &T, at: Pair) -> bool
     requires based { IsBased T.places T.value_of T.size_of term.now at.q at.x.now }
     requires pair { IsPair at.u at.v at.x.now }
 {
-    let mut note = term.note(alloc, at.q, at.x)?;
-    tells(rt, alloc, term, at, &mut note)
+    match term.note(alloc, at.q, at.x) {
+        Ok(mut note) => tells(alloc, term, at, &mut note),
+        Err(_) => false,
+    }
 }
 
-/// Asserts what a note that was brought up tells after an exchange.
-fn tells_behind<T: Term>(
-    rt: &impl Abort,
-    alloc: Global,
-    term: &T,
-    at: Pair,
-    a: i128,
-) -> Result<(), Memory>
+/// A new note that was brought up to an exchange.
+fn note_behind<T: Term>(alloc: Global, term: &T, at: Pair, a: i128) -> Result<T::Note, Memory>
+    requires based { IsBased T.places T.value_of T.size_of term.now at.q at.x.now }
+    requires pair { IsPair at.u at.v at.x.now }
+    requires low { pos 0 ≤ℤ a }
+    requires high { a ≤ℤ pos (10 ^ 30) }
+    requires room { IsWithinRoom (times at.q (T.value_of term.now)) at.x.now at.u at.v a }
+    ensures { IfOk result (λ note. T.fits term.now note at.entry.q (exchanged at.entry.x.now at.entry.u at.entry.v a)) }
+{
+    let mut note = term.note(alloc, at.q, at.x)?;
+    term.moved(alloc, at.q, at.x, &mut note, at.u, at.v, a)?;
+    Ok(note)
+}
+
+/// Whether a note tells what it is to tell at the base that an exchange makes of another.
+fn tells_behind<T: Term>(alloc: Global, term: &T, at: Pair, a: i128) -> bool
     requires based { IsBased T.places T.value_of T.size_of term.now at.q at.x.now }
     requires pair { IsPair at.u at.v at.x.now }
     requires low { pos 0 ≤ℤ a }
     requires high { a ≤ℤ pos (10 ^ 30) }
     requires room { IsWithinRoom (times at.q (T.value_of term.now)) at.x.now at.u at.v a }
 {
-    let mut note = term.note(alloc, at.q, at.x)?;
-    term.moved(alloc, at.q, at.x, &mut note, at.u, at.v, a)?;
-    let mut y = Vec::from_slice(alloc, at.x)?;
+    let Ok(mut note) = note_behind(alloc, term, at, a) else {
+        return false;
+    };
+    let Ok(mut y) = Vec::from_slice(alloc, at.x) else {
+        return false;
+    };
     exchange(term, at.q, &mut y, at.u, at.v, a);
-    assert!(rt; are_entries(&y));
+    let moved = At {
+        q: at.q,
+        x: y.as_slice(),
+    };
+    if !is_base(alloc, term, moved) {
+        return false;
+    }
     let back = Pair {
         q: at.q,
         x: y.as_slice(),
         u: at.v,
         v: at.u,
     };
-    tells(rt, alloc, term, back, &mut note)
+    tells(alloc, term, back, &mut note)
 }
 
-/// The room of two places at a base. Asserts what a note tells after as much as can be is exchanged between them.
-fn room_at<T: Term>(rt: &impl Abort, alloc: Global, term: &T, at: Pair) -> Result<Room, Memory>
+/// Whether the room of two places at a base is of that number, and notes tell the same after as much as can be is exchanged between
+/// them.
+fn is_room<T: Term>(alloc: Global, term: &T, at: Pair, number: i128) -> bool
     requires based { IsBased T.places T.value_of T.size_of term.now at.q at.x.now }
     requires pair { IsPair at.u at.v at.x.now }
 {
-    let room = term.room(alloc, at.q, at.x, at.u, at.v)?;
-    if let Room::Upto(a) = room {
-        assert!(rt; 0 <= a && a <= MOST_ENTRY);
-        tells_behind(rt, alloc, term, at, a)?;
-    }
-    Ok(room)
-}
-
-/// Whether a room is of that number.
-fn is_room(room: Room, number: i128) -> bool {
-    match room {
-        Room::Upto(a) => a == number,
-        Room::Unbounded => number == NO,
+    match term.room(alloc, at.q, at.x, at.u, at.v) {
+        Ok(Room::Upto(a)) => {
+            a == number && 0 <= a && a <= MOST_ENTRY && tells_behind(alloc, term, at, a)
+        }
+        Ok(Room::Unbounded) => number == NO,
+        Err(_) => false,
     }
 }
 
-/// Asserts the room of two places at what is to be a base, and that notes tell the same there and after an exchange.
-fn has_room_of<T: Term>(
-    rt: &impl Abort,
-    alloc: Global,
-    term: &T,
-    at: Pair,
-    number: i128,
-) -> Result<(), Memory>
+/// Whether the room of two places at what is to be a base is of that number, and notes tell the same there and after an exchange.
+fn is_told_room<T: Term>(alloc: Global, term: &T, at: Pair, number: i128) -> bool
     requires { IsPair at.u at.v at.x.now }
 {
-    assert!(rt; is_base(alloc, term, at.q, at.x)?);
-    tells_at(rt, alloc, term, at)?;
-    let room = room_at(rt, alloc, term, at)?;
-    assert!(rt; is_room(room, number));
-    Ok(())
+    let base = At { q: at.q, x: at.x };
+    is_base(alloc, term, base) && tells_at(alloc, term, at) && is_room(alloc, term, at, number)
 }
 
 /// The place of that number among k.
-fn place_at(rt: &impl Abort, numbers: &[i128], i: usize, k: usize) -> usize
-    ensures { result < k }
+fn place_at(numbers: &[i128], i: usize, k: usize) -> Option<usize>
+    ensures { IfSome result (λ place. place < k) }
 {
-    let place = count_at(rt, numbers, i);
-    assert!(rt; place < k);
-    place
+    let place = count_at(numbers, i);
+    if place < k { Some(place) } else { None }
 }
 
-/// The places that two numbers tell, at a vector.
-fn pair_at<'a>(rt: &impl Abort, at: At<'a>, numbers: &[i128]) -> Pair<'a>
-    ensures pair { IsPair result.u result.v result.x.now }
-{
-    let u = place_at(rt, numbers, 0, at.x.len());
-    let v = place_at(rt, numbers, 1, at.x.len());
-    assert!(rt; u != v);
-    Pair {
+/// Whether the room of two places at a base is of that number, and notes tell the same.
+pub(crate) fn has_room<T: Term>(alloc: Global, term: &T, at: At, numbers: &[i128]) -> bool {
+    let Some(u) = place_at(numbers, 0, at.x.len()) else {
+        return false;
+    };
+    let Some(v) = place_at(numbers, 1, at.x.len()) else {
+        return false;
+    };
+    if u == v || numbers.len() != 3 {
+        return false;
+    }
+    let pair = Pair {
         q: at.q,
         x: at.x,
         u,
         v,
+    };
+    is_told_room(alloc, term, pair, numbers[2])
+}
+
+/// Whether the part to which a place has room at what is to be a base is that one.
+fn is_told_reach<T: Term>(alloc: Global, term: &T, at: Pair, number: usize) -> bool
+    requires { at.u < length at.x.now }
+{
+    let base = At { q: at.q, x: at.x };
+    match part(alloc, at.x.len(), number) {
+        Ok(wanted) => is_base(alloc, term, base) && is_reach(alloc, term, at, &wanted),
+        Err(_) => false,
     }
 }
 
-/// Asserts the room of two places at a base, and that notes tell the same.
-pub(crate) fn has_room<T: Term>(
-    rt: &impl Abort,
-    alloc: Global,
-    term: &T,
-    at: At,
-    numbers: &[i128],
-) -> Result<(), Memory> {
-    assert!(rt; numbers.len() == 3);
-    has_room_of(rt, alloc, term, pair_at(rt, at, numbers), numbers[2])
-}
-
-/// Asserts the part to which a place has room at what is to be a base.
-fn has_reach_of<T: Term>(
-    rt: &impl Abort,
-    alloc: Global,
-    term: &T,
-    at: Pair,
-    number: usize,
-) -> Result<(), Memory>
-    requires { at.u < length at.x.now }
-{
-    assert!(rt; is_base(alloc, term, at.q, at.x)?);
-    let to = reach_at(alloc, term, at)?;
-    let wanted = part(alloc, at.x.len(), number)?;
-    assert!(rt; is_same(&to, &wanted));
-    Ok(())
-}
-
-/// Asserts the part to which a place has room at a base.
-pub(crate) fn has_reach<T: Term>(
-    rt: &impl Abort,
-    alloc: Global,
-    term: &T,
-    at: At,
-    numbers: &[i128],
-) -> Result<(), Memory> {
-    let u = place_at(rt, numbers, 0, at.x.len());
-    let at = Pair {
+/// Whether the part to which a place has room at a base is that one.
+pub(crate) fn has_reach<T: Term>(alloc: Global, term: &T, at: At, numbers: &[i128]) -> bool {
+    let Some(u) = place_at(numbers, 0, at.x.len()) else {
+        return false;
+    };
+    let pair = Pair {
         q: at.q,
         x: at.x,
         u,
         v: u,
     };
-    has_reach_of(rt, alloc, term, at, count_at(rt, numbers, 1))
+    is_told_reach(alloc, term, pair, count_at(numbers, 1))
 }
