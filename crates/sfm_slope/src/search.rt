@@ -37,10 +37,10 @@ impl<N> Search<N> {
         requires bounded { AreBounded n (map T.places terms.now) (map T.size_of terms.now) }
         ensures { IfOk result (IsSearch T.places T.value_of T.size_of T.fits terms.now n) }
     {
+        let shift = vec![in alloc; 0i128; n]?;
         let first = graph_at(alloc, terms, n, 1, first_rows(alloc, terms, 1)?)?;
         let warm = copy_graph(alloc, &first, terms, n, 1)?;
         let cold = copy_graph(alloc, &first, terms, n, 1)?;
-        let shift = vec![in alloc; 0i128; n]?;
         Ok(Search {
             alloc,
             first,
