@@ -79,3 +79,11 @@ pub record AreGrouped (rows : List (List Bool)) (firsts : List ℕ) (blocks : Li
   pub count : length blocks ≡ length firsts
   pub members : (i : ℕ) → i < length blocks → IsMembers rows (slice_index firsts i) (block_at blocks i).members
   pub needs : (i : ℕ) → i < length blocks → (block_at blocks i).needs ≡ needs_upto rows firsts i (length firsts)
+
+-- the blocks of the places that are not outside
+pub record AreBlocksBy (unions : List Bits) (outside : Bits) (blocks : List Block) : Type 0 where
+  pub rows : List (List Bool)
+  pub firsts : List ℕ
+  pub pulls : ArePullRows unions outside rows
+  pub are_firsts : AreFirsts rows firsts
+  pub grouped : AreGrouped rows firsts blocks

@@ -7,10 +7,11 @@ ghost use Rattle.sfm_spec.specs.Sets.{magnitudes};
 ghost use Rattle.sfm_spec.specs.Bounds.{AreBounded, IsEntry, IsFactor};
 ghost use Rattle.sfm_spec.specs.Families.{meanings, even_shift, AreBases, Prove};
 ghost use Rattle.sfm_extreme.specs.Certified.{IsAnswer, IsProved};
+ghost use Rattle.sfm_extreme.specs.Reading.{IsReading};
 
 use crate::deficit::deficit_of;
 use crate::joining::joining_walk;
-use crate::reading::read_at;
+use crate::reading::{Reading, read_at};
 use sfm_base::{Memory, Rows, Set};
 use sfm_exchange::set_of;
 use sfm_law::{Term, Walk};
@@ -82,7 +83,24 @@ fn certify_by<T: Term>(
         × (IsProved r ↔ Prove (meanings T.places T.value_of terms.now) (length shift.now) q shift.now bases.now)) }
 {
     let reading = read_at(alloc, terms, q, shift, bases)?;
-    let joins = joining_walk(alloc, terms, q, shift, &reading)?;
+    told_by(alloc, terms, q, shift, &reading)
+}
+
+// What is told by all that was read off bases.
+fn told_by<T: Term>(
+    alloc: Global,
+    terms: &[T],
+    q: i128,
+    shift: &[i128],
+    reading: &Reading<T::Note>,
+) -> Result<Certified, Memory>
+    requires reading { IsReading T.places T.value_of T.size_of T.fits terms.now (length shift.now) q shift.now reading.now }
+    requires shifts { magnitudes shift.now ≤ℤ pos (10 ^ 36) }
+    requires small { All (λ x. All IsEntry x) reading.now.graph.bases }
+    ensures { IfOk result (λ r. IsAnswer (meanings T.places T.value_of terms.now) (length shift.now) q shift.now reading.now.graph.bases r
+        × (IsProved r ↔ Prove (meanings T.places T.value_of terms.now) (length shift.now) q shift.now reading.now.graph.bases)) }
+{
+    let joins = joining_walk(alloc, terms, q, shift, reading)?;
     match joins {
         Some(walk) => Ok(Certified::NotOptimal { walk }),
         None => {

@@ -1,18 +1,20 @@
 // The blocks of the minimisers: the places between the least and the greatest minimiser, put together where each comes
 // along with the other. A block is told by its first place, and needs the other blocks whose first places come along
 // with it.
-ghost use Rattle.std.specs.Prelude.{◌≡◌, ℕ, ◌<◌, length, map, pos, IfOk, slice_index};
+ghost use Rattle.std.specs.Prelude.{◌≡◌, ℕ, ◌<◌, ◌≤◌, length, map, pos, IfOk, slice_index};
 ghost use Rattle.std.specs.List.{All};
 ghost use Rattle.sfm_spec.specs.Bounds.{AreBounded, IsEntry};
 ghost use Rattle.sfm_spec.specs.Blocks.{AreBlocks, Generate};
 ghost use Rattle.sfm_spec.specs.Families.{meanings, even_shift, AreBases, Prove};
+ghost use Rattle.sfm_exchange.specs.Bits.{bit_in, set_at};
 ghost use Rattle.sfm_extreme.specs.Blocks.{block_of};
-ghost use Rattle.sfm_extreme.specs.Pulls.{AreGrouped, AreSquare, IsMembers, needs_upto};
+ghost use Rattle.sfm_extreme.specs.Pulls.{AreBlocksBy, AreGrouped, AreSquare, IsMembers, needs_upto};
 
 use crate::firsts::firsts_in_order;
 use crate::pulling::pull_rows;
 use crate::reading::read_at;
 use sfm_base::{Memory, Rows, Set};
+use sfm_exchange::Bits;
 use sfm_law::Term;
 use std::alloc::Global;
 
@@ -50,7 +52,16 @@ pub fn blocks<T: Term>(
     let reading = read_at(alloc, terms, 1, &shift, bases)?;
     let mut outside = reading.reached;
     outside.union_with(&reading.leading);
-    let rows = pull_rows(alloc, &reading.graph.unions, &outside)?;
+    blocks_by(alloc, &reading.graph.unions, &outside)
+}
+
+// The blocks of the places that are not outside, by the places that links lead to.
+fn blocks_by(alloc: Global, unions: &[Bits], outside: &Bits) -> Result<Vec<Block>, Memory>
+    requires few { length unions.now ≤ 256 }
+    requires links { (e t : ℕ) → e < length unions.now → bit_in (set_at unions.now e) t ≡ 1 → t < length unions.now }
+    ensures { IfOk result (λ r. AreBlocksBy unions.now outside.now (map block_of r.items)) }
+{
+    let rows = pull_rows(alloc, unions, outside)?;
     let firsts = firsts_in_order(alloc, &rows)?;
     grouped(alloc, &rows, &firsts)
 }

@@ -11,11 +11,11 @@ use Rattle.sfm_law.proofs.Lists.{placed-meanings}
 use Rattle.sfm_exchange.proofs.Minimisers.{link_in}
 use Rattle.sfm_exchange.proofs.WholeGraphs.{unions_count}
 use Rattle.sfm_extreme.specs.Blocks.{block_of}
-use Rattle.sfm_extreme.specs.Pulls.{AreFirsts, AreGrouped, ArePullRows}
+use Rattle.sfm_extreme.specs.Pulls.{AreBlocksBy}
 use Rattle.sfm_extreme.specs.Reading.{IsReading}
 use Rattle.sfm_extreme.proofs.Deficits.{even_small}
 use Rattle.sfm_extreme.proofs.Generating.{blocks_are}
-use Rattle.sfm_extreme.proofs.Tellings.{square_of, tells}
+use Rattle.sfm_extreme.proofs.Tellings.{tells}
 use Rattle.sfm_extreme.proofs.grouping.blocks.Goals as goal
 
 pub read_at-requires-clause-bounded : goal.read_at-requires-clause-bounded
@@ -28,28 +28,16 @@ read_at-requires-clause-shifts g c =
     let zero : IsEntry (pos 0) = record { low = omega (arith, ints); high = omega (arith, ints) } in
     even_small c.deref.result.now c.args.n (pos 0) zero c.requires.bounded.few (search rules)
 
-pub pull_rows-requires-clause-few : goal.pull_rows-requires-clause-few
-pull_rows-requires-clause-few g c =
+pub blocks_by-requires-clause-few : goal.blocks_by-requires-clause-few
+blocks_by-requires-clause-few g c =
     let h = c.in_ok-reading.ensures.reading in
     let few = h.whole.bounded.few in
     rw (c.deref-2.ensures.value, unions_count h.whole) few
 
-pub pull_rows-requires-clause-links : goal.pull_rows-requires-clause-links
-pull_rows-requires-clause-links g c =
+pub blocks_by-requires-clause-links : goal.blocks_by-requires-clause-links
+blocks_by-requires-clause-links g c =
     let m = g.met.T.Term in
     rw c.deref-2.ensures.value (link_in c.in_ok-reading.ensures.reading.whole m.family m.submodular)
-
-pub firsts_in_order-requires-clause-square : goal.firsts_in_order-requires-clause-square
-firsts_in_order-requires-clause-square g c = rw c.deref-3.ensures.value (square_of c.in_ok-rows.ensures)
-
-pub firsts_in_order-requires-clause-few : goal.firsts_in_order-requires-clause-few
-firsts_in_order-requires-clause-few g c =
-    let h = c.in_ok-reading.ensures.reading in
-    let few = h.whole.bounded.few in
-    rw (c.deref-3.ensures.value, c.in_ok-rows.ensures.count, c.deref-2.ensures.value, unions_count h.whole) few
-
-pub grouped-requires-clause-square : goal.grouped-requires-clause-square
-grouped-requires-clause-square g c = rw c.deref-4.ensures.value (square_of c.in_ok-rows.ensures)
 
 pub returns-clause-exact : goal.returns-clause-exact
 returns-clause-exact g c =
@@ -62,12 +50,9 @@ returns-clause-exact g c =
     let same : c.deref.result.now ≡ shift = search rules in
     let h : IsReading t.places t.value_of t.size_of t.fits c.args.terms.now n (pos 1) shift reading = rw (same, length-replicate n (pos 0)) at c.in_ok-reading.ensures.reading in
     let prove : Prove ts n (pos 1) shift reading.graph.bases = rw c.in_ok-reading.ensures.bases c.requires.prove in
-    let rows = c.in_ok-rows.rows.items in
-    let pulls : ArePullRows reading.graph.unions.items c.union_with.new.self rows = rw c.deref-2.ensures.value at c.in_ok-rows.ensures in
-    let told = tells h m.family m.submodular prove c.union_with.new.self c.union_with.ensures rows pulls in
-    let firsts : AreFirsts rows c.in_ok-firsts.firsts.items = rw c.deref-3.ensures.value at c.in_ok-firsts.ensures in
-    IfOk-weaker c.grouped.result _ (λ r. AreBlocks ts n (pos 1) shift (map block_of r.items)) (λ r (k : AreGrouped rows c.in_ok-firsts.firsts.items (map block_of r.items)).
-    blocks_are ts n (pos 1) shift _ rows told c.in_ok-firsts.firsts.items firsts (map block_of r.items) k) (rw (c.deref-4.ensures.value, c.deref-5.ensures.value) at c.grouped.ensures)
+    IfOk-weaker c.blocks_by.result _ (λ r. AreBlocks ts n (pos 1) shift (map block_of r.items)) (λ r (k : AreBlocksBy reading.graph.unions.items c.union_with.new.self (map block_of r.items)).
+    let told = tells h m.family m.submodular prove c.union_with.new.self c.union_with.ensures k.rows k.pulls in
+    blocks_are ts n (pos 1) shift _ k.rows told k.firsts k.are_firsts (map block_of r.items) k.grouped) (rw c.deref-2.ensures.value at c.blocks_by.ensures)
 
 pub returns-clause-generate : goal.returns-clause-generate
 returns-clause-generate g c =
@@ -77,7 +62,7 @@ returns-clause-generate g c =
     let ts = meanings t.places t.value_of c.args.terms.now in
     let fit : AreTerms n ts = meanings-terms n t.places t.value_of m.family m.submodular c.args.terms.now (placed-meanings n t.places t.value_of c.args.terms.now c.requires.bounded.placed) in
     let low : pos 0 ≤ℤ pos 1 = omega (arith, ints) in
-    IfOk-weaker c.grouped.result _ (λ r. Generate ts n (pos 1) (even_shift n (pos 0)) (map block_of r.items)) (λ r (h : AreBlocks ts n (pos 1) (even_shift n (pos 0)) (map block_of r.items)).
+    IfOk-weaker c.blocks_by.result _ (λ r. Generate ts n (pos 1) (even_shift n (pos 0)) (map block_of r.items)) (λ r (h : AreBlocks ts n (pos 1) (even_shift n (pos 0)) (map block_of r.items)).
     blocks_generate ts n (pos 1) (even_shift n (pos 0)) low fit (map block_of r.items) h) (returns-clause-exact g c)
 
 pub read_at-requires-clause-bases : goal.read_at-requires-clause-bases
@@ -85,6 +70,3 @@ read_at-requires-clause-bases g c = c.requires.bases
 
 pub read_at-requires-clause-small : goal.read_at-requires-clause-small
 read_at-requires-clause-small g c = c.requires.small
-
-pub grouped-requires-clause-inside : goal.grouped-requires-clause-inside
-grouped-requires-clause-inside g c = rw (c.deref-4.ensures.value, c.deref-5.ensures.value) (rw c.deref-3.ensures.value at c.in_ok-firsts.ensures).inside
