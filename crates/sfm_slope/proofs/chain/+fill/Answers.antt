@@ -1,4 +1,4 @@
-use Rattle.std.proofs.Common.{map, refl, None}
+use Rattle.std.proofs.Common.{map, refl, None, arith}
 use Rattle.sfm_spec.specs.Sets.{empty_set}
 use Rattle.sfm_spec.specs.Families.{meanings}
 use Rattle.sfm_spec.specs.Laws.{ones}
@@ -25,3 +25,18 @@ returns-in_ok-push-in-Next-clause-part g t c =
     let ts = meanings d.places d.value_of c.args.terms.now in
     let h = rw c.in-Next.is at c.in_ok-next.ensures.turn in
     rw c.in_ok-push-in-Next.ensures.items (part_push ts n (ones n) c.args.found.now.items c.in-Next.next c.args.low.now.set c.args.high.now.set c.requires.before h.0 h.1 h.2 c.requires.gap.larger h.3)
+
+pub fill-requires : goal.fill-requires
+fill-requires g t c = λ κs lives.
+    let h = rw c.in-Between.is at c.in_ok-next.ensures.turn in
+    let less = h.0.larger in
+    let more = h.1.larger in
+    (omega (arith, less, more), (lives.0, (lives.1, (c.in_ok-next.ensures.search, (c.requires.before, (h.0, (c.requires.low_worth, h.2)))))))
+
+pub fill-requires-in-Between : goal.fill-requires-in-Between
+fill-requires-in-Between g t c = λ κs lives.
+    let h = rw c.in-Between.is at c.in_ok-next.ensures.turn in
+    let f = c.in_ok-fill-in-Between.ensures in
+    let less = h.0.larger in
+    let more = h.1.larger in
+    (omega (arith, less, more), (lives.0, (lives.1, (f.search, (f.part, (h.1, (h.2, c.requires.high_worth)))))))
