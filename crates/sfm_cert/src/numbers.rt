@@ -1,5 +1,5 @@
 // Numbers, lists of numbers and slopes, read from bytes.
-ghost use Rattle.std.specs.Prelude.{◌≡◌, ◌≢◌, ◌⊎◌, ℕ, ◌<◌, ◌≤◌, List, [], ◌∷◌, ◌++◌, length, ℤ, MatchOption, IfOk};
+ghost use Rattle.std.specs.Prelude.{◌≡◌, ◌≢◌, ◌⊎◌, ℕ, ◌<◌, ◌≤◌, List, [], ◌∷◌, ◌++◌, length, slice_index, take, ℤ, MatchOption, IfOk};
 ghost use Rattle.std.specs.Fmt.{decimal, signed_decimal};
 ghost use Rattle.std.specs.List.{All};
 ghost use Rattle.sfm_spec.specs.Bounds.{IsEntry, IsFactor};
@@ -28,7 +28,7 @@ pub fn split_token(bytes: &[u8]) -> (&[u8], &[u8])
     ensures plain { All (λ c. c ≢ 32) result.0.now }
     ensures stop { IsStop result.1.now }
 {
-    let end = bytes.iter().position(|c| *c == b' ').unwrap_or(bytes.len());
+    let end = place_of(bytes, b' ');
     (&bytes[..end], &bytes[end..])
 }
 
@@ -125,9 +125,27 @@ pub fn split_at_first(bytes: &[u8], value: u8) -> Option<(&[u8], &[u8])>
         (All (λ c. c ≢ value) bytes.now)
         (λ r. All (λ c. c ≢ value) r.0.now × (bytes.now ≡ r.0.now ++ (value ∷ r.1.now))) }
 {
-    let mid = bytes.iter().position(|c| *c == value)?;
+    let mid = place_of(bytes, value);
+    if mid >= bytes.len() {
+        return None;
+    }
     Some((&bytes[..mid], &bytes[mid + 1..]))
 }
+
+/// The place of the first byte of that value, or the length where there is none.
+fn place_of(bytes: &[u8], value: u8) -> usize
+    ensures within { result ≤ length bytes.now }
+    ensures before { All (λ c. c ≢ value) (take result bytes.now) }
+    ensures there { result < length bytes.now → slice_index bytes.now result ≡ value }
+{
+    for i in 0..bytes.len() {
+        if bytes[i] == value {
+            return i;
+        }
+    }
+    bytes.len()
+}
+
 /// The slope p/q, where q is from 1 to 1,000,000 and p/q is in lowest terms.
 fn lowest(p: i128, q: i128) -> Option<Slope>
     requires { IsEntry p }
