@@ -4,7 +4,6 @@ use Rattle.std.proofs.Common.{◌≡◌, ℕ, zero, suc, ◌+◌, ◌<◌, Bool,
 use Rattle.std.specs.Prelude.{codes}
 use Rattle.std.specs.List.{All}
 use Rattle.std.specs.Fmt.{signed_decimal}
-use Rattle.std.proofs.lemmas.Int.{ints}
 use Rattle.std.proofs.lemmas.List.{append-nil, length-replicate}
 use Rattle.std.proofs.lemmas.List.Elements.{All-nil, All-cons, All-head, All-tail, All-replicate}
 use Rattle.sfm_spec.specs.Bounds.{IsEntry}
@@ -15,6 +14,7 @@ use Rattle.sfm_cert.specs.Form.{IsFormed, IsFormedBlock, IsFormedBreak, AreForme
 use Rattle.sfm_cert.specs.Grammar.{BeginsAnswer}
 use Rattle.sfm_cert.specs.Lines.{Ratio, ratio_of, IsSlopeLine}
 use Rattle.sfm_cert.specs.Reading.{State, header, minimum, least, greatest, listing, bases, ended, Leads, LeadsOn}
+use Rattle.sfm_cert.proofs.Tokens.{count_entry}
 use Rattle.sfm_cert.proofs.Machine.{leads-append, regroup}
 
 -- ---- every place goes on to the end
@@ -23,7 +23,57 @@ abbrev zeros : ℕ → List ℤ
 zeros n = replicate n (pos 0)
 
 zero_entry : IsEntry (pos 0)
-zero_entry = record { low = omega (arith, ints); high = omega (arith, ints) }
+zero_entry = count_entry 0 (omega arith)
+
+-- ---- steps between numbers and between lists
+
+no_place : (i : ℕ) → i < 0 → ⊥
+no_place i lt = omega (arith, lt)
+
+zero_more : (k : ℕ) → k ≡ k + 0
+zero_more k = omega arith
+
+one_more : (k i : ℕ) → k + 1 + i ≡ k + suc i
+one_more k i = omega arith
+
+from_zero : (i : ℕ) → 0 + i ≡ i
+from_zero i = omega arith
+
+one_less : (i n : ℕ) → suc i < suc n → i < n
+one_less i n lt = omega (arith, lt)
+
+push_some : (slopes : List Ratio) (r : Ratio) → slopes ++ r ∷ [] ≡ [] → ⊥
+push_some [] r e = cc
+push_some (x ∷ slopes) r e = cc
+
+same_four : {a a' b b' c c' d d' : List ℕ} → a ≡ a' → b ≡ b' → c ≡ c' → d ≡ d' → (lines : List (List ℕ)) → a ∷ b ∷ c ∷ d ∷ lines ≡ a' ∷ b' ∷ c' ∷ d' ∷ lines
+same_four e f g h lines = cc
+
+-- what holds for a block and for those behind it holds for each
+each_block : (n k : ℕ) (block : Block) (blocks : List Block) → IsFormedBlock n k block → ((i : ℕ) → i < length blocks → IsFormedBlock n (k + 1 + i) (block_at blocks i))
+    → (i : ℕ) → i < length (block ∷ blocks) → IsFormedBlock n (k + i) (block_at (block ∷ blocks) i)
+each_block n k block blocks f g zero lt = subst (λ (m : ℕ). IsFormedBlock n m block) (zero_more k) f
+each_block n k block blocks f g (suc i) lt = subst (λ (m : ℕ). IsFormedBlock n m (block_at blocks i)) (one_more k i) (g i (one_less i (length blocks) lt))
+
+-- ---- none of these places is the end
+
+not_header : header ≡ ended → ⊥
+not_header e = cc
+
+not_minimum : minimum ≡ ended → ⊥
+not_minimum e = cc
+
+not_least : least ≡ ended → ⊥
+not_least e = cc
+
+not_greatest : greatest ≡ ended → ⊥
+not_greatest e = cc
+
+not_listing : (k : ℕ) (slopes : List Ratio) → listing k slopes ≡ ended → ⊥
+not_listing k slopes e = cc
+
+not_bases : (i : ℕ) (widths : List ℕ) (due : List Ratio) → bases i widths due ≡ ended → ⊥
+not_bases i widths due e = cc
 
 module _ (form : Form) where
   abbrev Goes : State → Type 0
@@ -75,8 +125,9 @@ module _ (form : Form) where
 
   -- ---- lines that lead to the end are those of an answer
 
-  not_ended : {s : State} → s ≡ ended → (s ≡ ended → ⊥) → ⊥
-  not_ended e h = h e
+  nothing : (lines : List (List ℕ)) → LeadsOn form ended lines ended → lines ≡ []
+  nothing [] h = refl
+  nothing (line ∷ lines) h = absurd h.1
 
   -- the sections that are due, and the end
   abbrev HoldsDue : List Ratio → List (List ℕ) → Type 0
@@ -91,7 +142,7 @@ module _ (form : Form) where
     holds : HoldsDue due more
 
   holds_bases : (lines : List (List ℕ)) (i : ℕ) (widths : List ℕ) (due : List Ratio) → LeadsOn form (bases i widths due) lines ended → HoldsBases i widths due lines
-  holds_bases [] i widths due e = absurd (not_ended e (λ f. cc))
+  holds_bases [] i widths due e = absurd (not_bases i widths due e)
   holds_bases (line ∷ lines) i (width ∷ widths) due (next, step, more) =
       let h = holds_bases lines (i + 1) widths due (subst (λ (s : State). LeadsOn form s lines ended) step.2 more) in
       record {
@@ -116,10 +167,7 @@ module _ (form : Form) where
     formed = record { widths_are = refl; small = All-nil (λ (x : List ℤ). All IsEntry x) };
     cut = refl;
     holds = ap (λ (l : List ℕ). l ∷ lines) step.0 ∙ ap (λ (l : List (List ℕ)). codes "end" ∷ l) (nothing lines (subst (λ (s : State). LeadsOn form s lines ended) step.1 more));
-  } where
-    nothing : (lines : List (List ℕ)) → LeadsOn form ended lines ended → lines ≡ []
-    nothing [] h = refl
-    nothing (line ∷ lines) h = absurd h.1
+  }
 
   -- the blocks and the slopes that are still to come, and the bases
   record HoldsListing (k : ℕ) (slopes : List Ratio) (lines : List (List ℕ)) : Type 0 where
@@ -138,7 +186,7 @@ module _ (form : Form) where
   IsSlope b = IsSlopeLine form.names (slope_line form.names b) (ratio_of b) b.members
 
   holds_listing : (lines : List (List ℕ)) (k : ℕ) (slopes : List Ratio) → LeadsOn form (listing k slopes) lines ended → HoldsListing k slopes lines
-  holds_listing [] k slopes e = absurd (not_ended e (λ f. cc))
+  holds_listing [] k slopes e = absurd (not_listing k slopes e)
   holds_listing (line ∷ lines) k slopes (next, inl (block, is, none, goes), more) =
       let h = holds_listing lines (k + 1) [] (subst (λ (s : State). LeadsOn form s lines ended) goes more) in
       record {
@@ -146,17 +194,13 @@ module _ (form : Form) where
         heads = h.heads;
         rows = h.rows;
         more = h.more;
-        are_blocks = first block h.blocks is.0 h.are_blocks;
+        are_blocks = each_block (length form.names) k block h.blocks is.0 h.are_blocks;
         are_heads = h.are_heads;
         are_rows = h.are_rows;
         cut = ap (λ (l : List ℕ). l ∷ lines) is.1 ∙ ap (λ (l : List (List ℕ)). block_line form.names (k + 1) block ∷ l) h.cut;
         holds = subst (λ (x : List Ratio). HoldsDue (x ++ map ratio_of h.heads) h.more) (sym none) h.holds;
         in_order = λ some. absurd (some none);
-      } where
-        first : (block : Block) (blocks : List Block) → IsFormedBlock (length form.names) k block → ((i : ℕ) → i < length blocks → IsFormedBlock (length form.names) (k + 1 + i) (block_at blocks i))
-            → (i : ℕ) → i < length (block ∷ blocks) → IsFormedBlock (length form.names) (k + i) (block_at (block ∷ blocks) i)
-        first block blocks f g zero lt = subst (λ (n : ℕ). IsFormedBlock (length form.names) n block) (omega arith) f
-        first block blocks f g (suc i) lt = subst (λ (n : ℕ). IsFormedBlock (length form.names) n (block_at blocks i)) (omega arith) (g i (omega (arith, lt)))
+      }
   holds_listing (line ∷ lines) k slopes (next, inr (inl (r, s, is, goes)), more) =
       let h = holds_listing lines k (slopes ++ r ∷ []) (subst (λ (t : State). LeadsOn form t lines ended) goes more) in
       let b : Break = record { num = r.num; den = r.den; members = s; bases = [] } in
@@ -166,7 +210,7 @@ module _ (form : Form) where
         heads = b ∷ h.heads;
         rows = h.rows;
         more = h.more;
-        are_blocks = λ i lt. absurd (omega (arith, lt));
+        are_blocks = λ i lt. absurd (no_place i lt);
         are_heads = All-cons IsSlope b h.heads (record { lowest = is.lowest; entry = is.entry; factor = is.factor; members = is.members; written = refl }) h.are_heads;
         are_rows = h.are_rows;
         cut = ap (λ (l : List ℕ). l ∷ lines) is.written
@@ -174,10 +218,7 @@ module _ (form : Form) where
             (h.cut ∙ ap (λ (x : List Block). block_lines form.names (k + 1) x ++ (slope_lines form.names h.heads ++ at_line (pos 0) (pos 1) ∷ (base_lines 1 h.rows ++ h.more))) none);
         holds = subst (λ (x : List Ratio). HoldsDue x h.more) (append_assoc slopes (r ∷ []) (map ratio_of h.heads)) h.holds;
         in_order = λ some. refl;
-      } where
-        push_some : (slopes : List Ratio) (r : Ratio) → slopes ++ r ∷ [] ≡ [] → ⊥
-        push_some [] r e = cc
-        push_some (x ∷ slopes) r e = cc
+      }
   holds_listing (line ∷ lines) k slopes (next, inr (inr (is, goes)), more) =
       let h = holds_bases lines 1 form.widths slopes (subst (λ (t : State). LeadsOn form t lines ended) goes more) in
       record {
@@ -185,7 +226,7 @@ module _ (form : Form) where
         heads = [];
         rows = h.rows;
         more = h.more;
-        are_blocks = λ i lt. absurd (omega (arith, lt));
+        are_blocks = λ i lt. absurd (no_place i lt);
         are_heads = All-nil IsSlope;
         are_rows = h.formed;
         cut = ap (λ (l : List ℕ). l ∷ lines) is ∙ ap (λ (l : List (List ℕ)). at_line (pos 0) (pos 1) ∷ l) h.cut;
@@ -224,7 +265,7 @@ module _ (form : Form) where
       let t = with_bases h.heads h.more h.are_heads h.holds in
       record {
         answer = record { value = value; least = low; greatest = high; blocks = h.blocks; bases = h.rows; breaks = t.breaks };
-        formed = record { value = hv; least = hl; greatest = hh; blocks = λ i lt. subst (λ (n : ℕ). IsFormedBlock (length form.names) n (block_at h.blocks i)) (omega arith) (h.are_blocks i lt); bases = h.are_rows; breaks = t.are };
+        formed = record { value = hv; least = hl; greatest = hh; blocks = λ i lt. subst (λ (n : ℕ). IsFormedBlock (length form.names) n (block_at h.blocks i)) (from_zero i) (h.are_blocks i lt); bases = h.are_rows; breaks = t.are };
         cut = ap (λ (l : List (List ℕ)). form.header ∷ (codes "minimum " ++ signed_decimal value) ∷ (codes "least" ++ listed form.names low) ∷ (codes "greatest" ++ listed form.names high) ∷ l)
             (regroup (block_lines form.names 1 h.blocks) (slope_lines form.names t.breaks) (at_line (pos 0) (pos 1)) (base_lines 1 h.rows) (break_lines t.breaks) (codes "end" ∷ [])
             ∙ ap (λ (l : List (List ℕ)). block_lines form.names 1 h.blocks ++ (l ++ at_line (pos 0) (pos 1) ∷ (base_lines 1 h.rows ++ (break_lines t.breaks ++ codes "end" ∷ [])))) t.same
@@ -233,23 +274,21 @@ module _ (form : Form) where
       }
 
   whole : (lines : List (List ℕ)) → LeadsOn form header lines ended → Whole lines
-  whole [] e = absurd (not_ended e (λ f. cc))
-  whole (l0 ∷ []) (s1, h1, e) = absurd (not_ended e (λ f. let g : minimum ≡ ended = sym h1.1 ∙ f in cc))
+  whole [] e = absurd (not_header e)
+  whole (l0 ∷ []) (s1, h1, e) = absurd (not_minimum (sym h1.1 ∙ e))
   whole (l0 ∷ l1 ∷ []) (s1, h1, (s2, h2, e)) =
       let k2 = subst (λ (s : State). Leads form s l1 s2) h1.1 h2 in
-      absurd (not_ended e (λ f. let g : least ≡ ended = sym k2.2 ∙ f in cc))
+      absurd (not_least (sym k2.2 ∙ e))
   whole (l0 ∷ l1 ∷ l2 ∷ []) (s1, h1, (s2, h2, (s3, h3, e))) =
       let k2 = subst (λ (s : State). Leads form s l1 s2) h1.1 h2 in
       let k3 = subst (λ (s : State). Leads form s l2 s3) k2.2 h3 in
-      absurd (not_ended e (λ f. let g : greatest ≡ ended = sym k3.2 ∙ f in cc))
+      absurd (not_greatest (sym k3.2 ∙ e))
   whole (l0 ∷ l1 ∷ l2 ∷ l3 ∷ lines) (s1, h1, (s2, h2, (s3, h3, (s4, h4, more)))) =
       let k2 = subst (λ (s : State). Leads form s l1 s2) h1.1 h2 in
       let k3 = subst (λ (s : State). Leads form s l2 s3) k2.2 h3 in
       let k4 = subst (λ (s : State). Leads form s l3 s4) k3.2 h4 in
       let w = whole_from k2.0 k3.0 k4.0 lines k2.1.0 k3.1.0 k4.1.0 (holds_listing lines 0 [] (subst (λ (s : State). LeadsOn form s lines ended) k4.2 more)) in
-      record { answer = w.answer; formed = w.formed; cut = w.cut ∙ same_four (sym h1.0) (sym k2.1.1) (sym k3.1.1) (sym k4.1.1) lines } where
-        same_four : {a a' b b' c c' d d' : List ℕ} → a ≡ a' → b ≡ b' → c ≡ c' → d ≡ d' → (lines : List (List ℕ)) → a ∷ b ∷ c ∷ d ∷ lines ≡ a' ∷ b' ∷ c' ∷ d' ∷ lines
-        same_four e f g h lines = cc
+      record { answer = w.answer; formed = w.formed; cut = w.cut ∙ same_four (sym h1.0) (sym k2.1.1) (sym k3.1.1) (sym k4.1.1) lines }
 
   -- lines that lead anywhere are the first ones of an answer
   pub begins_from : (lines : List (List ℕ)) (s : State) → LeadsOn form header lines s → BeginsAnswer form lines
