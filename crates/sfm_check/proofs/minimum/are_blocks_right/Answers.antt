@@ -2,7 +2,7 @@ use Rattle.std.proofs.Common.{◌≡◌, [], length, map, pos, sym, ap, ◌∙�
 use Rattle.std.proofs.lemmas.Bool.{eqb-true}
 use Rattle.std.proofs.lemmas.List.{length-map, nil_from_length}
 use Rattle.sfm_spec.specs.Blocks.{AreBlocks}
-use Rattle.sfm_spec.specs.Families.{even_shift, meanings}
+use Rattle.sfm_spec.specs.Families.{Prove, even_shift, meanings}
 use Rattle.sfm_kind.specs.Kinds.{kind_places, kind_value}
 use Rattle.sfm_extreme.specs.Blocks.{block_of}
 use Rattle.sfm_check.proofs.AtZero.{no_blocks}
@@ -18,6 +18,14 @@ returns-then-are_same c = λ none.
     let count = c.args.solved.now.blocks.ok.0 in
     let empty : items ≡ [] = nil_from_length items (omega (arith, none_left, count)) in
     subst (AreBlocks ms n (pos 1) (even_shift n (pos 0))) (sym (ap (map block_of) empty)) (no_blocks ms n (pos 1) (even_shift n (pos 0)) c.args.solved.now.least c.args.solved.now.greatest c.requires.least c.requires.greatest same)
+
+pub blocks-requires-clause-bases : goal.blocks-requires-clause-bases
+blocks-requires-clause-bases c = rw c.terms.ensures.terms c.requires.proved.bases
+
+pub blocks-requires-clause-prove : goal.blocks-requires-clause-prove
+blocks-requires-clause-prove c =
+    let p : Prove (meanings kind_places kind_value c.args.instance.now.terms) (length c.args.instance.now.names) (pos 1) (even_shift (length c.args.instance.now.names) (pos 0)) c.args.solved.now.bases = c.requires.proved.proves in
+    rw (c.terms.ensures.terms, c.names_len.ensures.len) p
 
 pub first_unlike-unlike-requires : goal.first_unlike-unlike-requires
 first_unlike-unlike-requires c = λ i lg ld.
