@@ -32,7 +32,7 @@ PARTS = [
         "sfm_text.GoodText", "sfm_lines.Reasons", "sfm_lines.", "sfm_text."]),
     ("Answer texts", ["sfm_cert.", "sfm_check."]),
     ("The text of a demonstration", ["sfm_demo.Draws", "sfm_demo."]),
-    ("The outside, the words, and how a call ends", ["sfm_io.", "sfm_words.", "sfm.Due", "sfm.Demo", "sfm."]),
+    ("The outside, the words, and how a call ends", ["sfm_io.", "sfm_words.", "sfm_due.Due", "sfm_due.", "sfm."]),
 ]
 
 HEAD = """# What must be believed

@@ -3,14 +3,14 @@ use Rattle.std.proofs.Common.{ℕ, List, Result, Ok, Err, sym, ◌∙◌, inl, i
 use Rattle.sfm_io.specs.Shelf.{ShelfState, KeepsShelf}
 use Rattle.sfm_kind.specs.Instance.{InstanceData}
 use Rattle.sfm_kind.proofs.Meanings.{kinds-mean}
-use Rattle.sfm.specs.Meanings.{meanings_of}
-use Rattle.sfm.specs.declared.status.Status.{Status}
-use Rattle.sfm.specs.declared.due.Due.{Due as DueText}
+use Rattle.sfm_due.specs.Meanings.{meanings_of}
+use Rattle.sfm_due.specs.declared.status.Status.{Status}
+use Rattle.sfm_due.specs.declared.due.Due.{Due as DueText}
 use Rattle.sfm_words.specs.Command.{check}
-use Rattle.sfm.specs.Headline.{IsNamed, IsSurelyHeld}
+use Rattle.sfm_due.specs.Files.{IsNamed, IsSurelyHeld, MissesText}
 use Rattle.sfm.specs.Opening.{ChecksAnswer, IsGoodFile}
-use Rattle.sfm.specs.Reading.{FailsToRead, MissesText, Prepares}
-use Rattle.sfm.proofs.ReadLemmas.{rose_later}
+use Rattle.sfm.specs.Preparing.{FailsToRead, Prepares}
+use Rattle.sfm_due.proofs.ReadLemmas.{rose_later}
 
 -- the instance was missed
 pub misses_file : (file answer : List ℕ) (before after : ShelfState) → MissesText file before after → FailsToRead (check file answer) before after

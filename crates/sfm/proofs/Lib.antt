@@ -1,8 +1,3 @@
-pub mod ReadLemmas
 pub mod Checks
 pub mod Demos
-pub mod Rows
-pub mod Moved
-pub mod Slopes
-pub mod Solves
-pub mod Feeds
+pub mod Said

@@ -1,26 +1,17 @@
 -- What one call of the program does: which answer it gives, why, and what it leaves of its shelf and its two sinks.
-use Rattle.std.specs.Prelude.{◌≡◌, ◌⊎◌, ℕ, ◌+◌, ◌<◌, List, length, take, drop, codes, true, Some, IsSome}
+use Rattle.std.specs.Prelude.{◌≡◌, ◌⊎◌, ℕ, ◌+◌, ◌<◌, List, length, take, drop, codes, Some}
 use Rattle.std.specs.Io.KnownBytes.{append_known}
-use Rattle.std.specs.Map.{lookup}
-use Rattle.std.specs.Str.{bytes_eq}
 use Rattle.sfm_io.specs.Faults.{Rose}
 use Rattle.sfm_io.specs.Shelf.{ShelfState, Texts}
 use Rattle.sfm_io.specs.Sink.{SinkState}
 use Rattle.sfm_text.specs.GoodText.{text_limit}
 use Rattle.sfm_cert.specs.Grammar.{answer_limit}
-use Rattle.sfm.specs.declared.status.Status.{Status}
-use Rattle.sfm.specs.declared.status.Status.TheVariants.{Done, Invalid, Refused, ReadFault, WriteFault, Memory, Usage}
+use Rattle.sfm_due.specs.declared.status.Status.{Status}
+use Rattle.sfm_due.specs.declared.status.Status.TheVariants.{Done, Invalid, Refused, ReadFault, WriteFault, Memory, Usage}
 use Rattle.sfm_words.specs.Command.{Command, Asks, IsForm, IsNotTaken, solve, check, demo}
-use Rattle.sfm.specs.Due.{IsDueToSolve, IsJudged, IsRefused, Question}
-use Rattle.sfm.specs.Demo.{IsDueToDemo}
-
--- the shelf is sound and holds the name
-abbrev pub IsSurelyHeld : ShelfState → List ℕ → Type 0
-IsSurelyHeld shelf name = (shelf.sound ≡ true) × ((texts : Texts) → shelf.texts ≡ Some texts → IsSome (lookup (λ key. bytes_eq key name) texts))
-
--- the first text of that name, where the shelf tells its texts
-abbrev pub IsNamed : ShelfState → List ℕ → List ℕ → Type 0
-IsNamed shelf name text = (texts : Texts) → shelf.texts ≡ Some texts → lookup (λ key. bytes_eq key name) texts ≡ Some text
+use Rattle.sfm_due.specs.Due.{IsDueToSolve, IsJudged, IsRefused, Question}
+use Rattle.sfm_due.specs.Demo.{IsDueToDemo}
+use Rattle.sfm_due.specs.Files.{IsNamed, IsSurelyHeld}
 
 -- the shelf surely holds each name that the command needs: the first, and the second where the text of the first has no fault;
 -- a demonstration needs none

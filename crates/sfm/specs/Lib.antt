@@ -1,10 +1,3 @@
-pub mod Status
-pub mod Meanings
-pub mod Moves
-pub mod Due
-pub mod Demo
 pub mod Headline
-pub mod Reading
-pub mod Solving
+pub mod Preparing
 pub mod Opening
-pub mod Feeding

@@ -7,16 +7,16 @@ use Rattle.sfm_cert.specs.Grammar.{answer_limit}
 use Rattle.sfm_cert.specs.Solved.{form_of}
 use Rattle.sfm_check.specs.declared.verdicts.Verdict.{Verdict}
 use Rattle.sfm_check.specs.Verdict.{IsVerdict}
-use Rattle.sfm.specs.declared.status.Status.{Status}
-use Rattle.sfm.specs.declared.status.Status.TheVariants.{Done, Invalid, Refused, ReadFault, Memory}
-use Rattle.sfm.specs.declared.due.Due.{Due as DueText}
+use Rattle.sfm_due.specs.declared.status.Status.{Status}
+use Rattle.sfm_due.specs.declared.status.Status.TheVariants.{Done, Invalid, Refused, ReadFault, Memory}
+use Rattle.sfm_due.specs.declared.due.Due.{Due as DueText}
 use Rattle.sfm.specs.declared.run.Opened.{Opened}
 use Rattle.sfm.specs.declared.run.Opened.TheVariants.{Good, Faulty}
-use Rattle.sfm.specs.Status.{code_of}
-use Rattle.sfm.specs.Due.{IsRefused, verdict_code, verdict_line}
-use Rattle.sfm.specs.Meanings.{meanings_of}
-use Rattle.sfm.specs.Headline.{HasRead, IsNamed}
-use Rattle.sfm.specs.Reading.{MissesText, WasRead}
+use Rattle.sfm_due.specs.Status.{code_of}
+use Rattle.sfm_due.specs.Due.{IsRefused, verdict_code, verdict_line}
+use Rattle.sfm_due.specs.Meanings.{meanings_of}
+use Rattle.sfm.specs.Headline.{HasRead}
+use Rattle.sfm_due.specs.Files.{IsNamed, MissesText, WasRead}
 
 -- a good text of that name
 pub record IsGoodFile (file : List ℕ) (shelf : ShelfState) (instance : InstanceData) : Type 0 where

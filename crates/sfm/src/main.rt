@@ -1,18 +1,13 @@
 // The program `sfm`: it passes its words, the files and the two streams to `run`, and ends with the code of the status.
 #![tactic(auto)]
 
-pub mod demo;
-pub mod due;
-pub mod feed;
 pub mod run;
-pub mod solve;
-pub mod status;
 #[cfg(test)]
 mod tests;
 
 use run::{complain, run};
+use sfm_due::Status;
 use sfm_io::{FileShelf, StreamSink};
-use status::Status;
 use std::alloc::AllocError;
 use std::env;
 use std::io::ErrorKind;

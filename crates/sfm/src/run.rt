@@ -3,51 +3,17 @@ ghost use Rattle.std.specs.Prelude.{◌≡◌, ◌⊎◌, ◌+◌, ◌≤◌, �
 ghost use Rattle.sfm_io.specs.Shelf.{KeepsShelf, ShelfState};
 ghost use Rattle.sfm_words.specs.Command.{command_of, solve as Solving, check as Checking, demo as Showing};
 ghost use Rattle.sfm.specs.Headline.{EndsFor, Ends, EndsByForm, Says, Complains, IsComplete};
-ghost use Rattle.sfm.specs.Reading.{ReadsOpen, ReadsText, Prepares};
+ghost use Rattle.sfm.specs.Preparing.{Prepares};
 ghost use Rattle.sfm.specs.Opening.{OpensInstance, ChecksAnswer};
 
-use crate::demo::due_to_demo;
-use crate::due::{Due, due_for_end, due_to_check, due_to_solve};
-use crate::feed::feed_text;
-use crate::status::Status;
 use sfm_cert::ANSWER_LIMIT;
-use sfm_io::{ReadEnd, Shelf, Sink, read_all, write_all};
+use sfm_due::{
+    Due, Status, due_for_end, due_to_check, due_to_demo, due_to_solve, feed_text, read_text,
+};
+use sfm_io::{Shelf, Sink, write_all};
 use sfm_kind::Instance;
 use sfm_words::{Command, Refusal, read_command};
 use std::alloc::Global;
-
-/// The rest of the open text, or None where it is longer than the limit.
-fn read_open<S: Shelf>(
-    alloc: Global,
-    shelf: &mut S,
-    limit: usize,
-) -> Result<Option<Vec<u8>>, Status>
-    ensures kept { KeepsShelf (S.state shelf.old) (S.state shelf.new) }
-    ensures read { ReadsOpen limit (S.state shelf.old) (S.state shelf.new) result }
-{
-    match read_all(alloc, shelf, limit) {
-        Ok(text) => Ok(Some(text)),
-        Err(ReadEnd::Long) => Ok(None),
-        Err(ReadEnd::Fault) => Err(Status::ReadFault),
-        Err(ReadEnd::Memory) => Err(Status::Memory),
-    }
-}
-
-/// The text of a file, or None where it is longer than the limit; else the status that says why there is none.
-fn read_text<S: Shelf>(
-    alloc: Global,
-    shelf: &mut S,
-    name: &str,
-    limit: usize,
-) -> Result<Option<Vec<u8>>, Status>
-    ensures kept { KeepsShelf (S.state shelf.old) (S.state shelf.new) }
-    ensures read { ReadsText limit name.now (S.state shelf.old) (S.state shelf.new) result }
-{
-    match shelf.open(name) {
-        Ok(()) => read_open(alloc, shelf, limit),
-        Err(_) => Err(Status::ReadFault),
-    }
-}
 
 /// Reads an instance, and makes what is due to solve it.
 fn prepare_solve<S: Shelf>(alloc: Global, shelf: &mut S, file: &str) -> Result<Due, Status>

@@ -1,6 +1,6 @@
 use Rattle.std.proofs.Common.{sym, ap, subst}
 use Rattle.sfm_words.specs.Command.{command_of}
-use Rattle.sfm.specs.Reading.{Prepares}
+use Rattle.sfm.specs.Preparing.{Prepares}
 use Rattle.sfm.proofs.run.prepare.Goals as goal
 
 pub prepare_demo-requires : goal.prepare_demo-requires

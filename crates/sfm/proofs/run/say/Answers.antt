@@ -1,4 +1,4 @@
-use Rattle.sfm.proofs.ReadLemmas.{says_all}
+use Rattle.sfm.proofs.Said.{says_all}
 use Rattle.sfm.proofs.run.say.Goals as goal
 
 pub returns : goal.returns

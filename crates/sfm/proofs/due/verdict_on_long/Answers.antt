@@ -1,9 +1,0 @@
-use Rattle.std.proofs.Common.{refl, arith}
-use Rattle.sfm_check.proofs.Short.{right_short}
-use Rattle.sfm.proofs.due.verdict_on_long.Goals as goal
-
-pub returns : goal.returns
-returns c answer l = (
-  (λ r. let s = right_short c.args.instance.now answer c.names_len-count.ensures.named c.terms-terms.ensures.bounded r in omega (arith, s, l)),
-  (refl, l),
-)

@@ -1,0 +1,9 @@
+pub mod Status
+pub mod Meanings
+pub mod Moves
+pub mod Due
+pub mod Files
+pub mod Owing
+pub mod Demo
+pub mod Solving
+pub mod Feeding

@@ -1,0 +1,17 @@
+// What is due for each command: a file of a shelf is read, an instance is solved, an answer is judged or a demonstration is
+// made, and the text that is to be written is made whole, with the status that goes with it.
+#![tactic(auto)]
+
+mod demo;
+mod due;
+mod feed;
+mod file;
+mod solve;
+mod status;
+
+pub use demo::due_to_demo;
+pub use due::{Due, due_for_end, due_to_check, due_to_solve};
+pub use feed::feed_text;
+pub use file::read_text;
+pub use solve::{solve_instance, solve_text};
+pub use status::Status;
