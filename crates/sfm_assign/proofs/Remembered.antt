@@ -7,7 +7,7 @@ use Rattle.std.proofs.lemmas.List.{length-replicate}
 use Rattle.sfm_spec.specs.Sets.{Has}
 use Rattle.sfm_spec.proofs.Sets.{has_or_not}
 use Rattle.sfm_split.specs.Splits.{amount_at, CanBeMet, Demands, AreDemands}
-use Rattle.sfm_split.specs.Cells.{joined, owners, label_at, AreCells, IsPart, IsMet, IsClosed}
+use Rattle.sfm_split.specs.Cells.{joined, owners, label_at, AreCells, AreMet, IsPart, IsMet, IsClosed}
 use Rattle.sfm_split.specs.Search.{AreLeft, only, node_at, IsFound, IsStuck, IsFoundSet, HasRoots, IsFilled, one_more, AreLenders}
 use Rattle.sfm_assign.specs.Spread.{IsStepClosed, AreLedTo, LeadsToRoom, AreAsking}
 use Rattle.sfm_split.specs.Lenders.{IsLender}
@@ -17,6 +17,11 @@ use Rattle.sfm_split.proofs.Searches.{some_apart}
 use Rattle.sfm_split.proofs.Filling.{found_exists, Searched, searched}
 use Rattle.sfm_split.proofs.Lending.{GetsOne, raise_one, lend_one}
 use Rattle.sfm_split.proofs.Loans.{more_part, lack_one, more_met, not_more, lenders_are, lenders_but, lenders_all}
+
+-- a split that meets its demands, and what its slots have left, over the cells as the lists tell them
+pub over_lists : (d : Demands) (whos slots : List ℕ) (y rooms : List ℤ) → AreMet d whos slots y → AreLeft d.capacities slots y rooms
+    → IsPart d.demands d.capacities (owners 0 d.lists) (joined d.lists) y × IsMet d.demands (owners 0 d.lists) y × AreLeft d.capacities (joined d.lists) y rooms
+over_lists d whos slots y rooms met left = (rw (met.in_order, met.in_lists) at met.part, rw met.in_order at met.met, rw met.in_lists at left)
 
 module _ (d : Demands) (sound : AreDemands d) (u : ℕ) (lu : u < length d.demands) (y rooms : List ℤ) (part : IsPart d.demands d.capacities (owners 0 d.lists) (joined d.lists) y) (met : IsMet d.demands (owners 0 d.lists) y) (lr : AreLeft d.capacities (joined d.lists) y rooms) where
   abbrev whos : List ℕ

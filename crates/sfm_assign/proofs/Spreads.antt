@@ -260,6 +260,10 @@ module _ (n : ℕ) (whos slots : List ℕ) (y rooms : List ℤ) where
   pub answers_forgotten : (answers : List (Option Answer)) → ((u : ℕ) → answer_at answers u ≡ None) → AreAnswers n whos slots y rooms answers
   answers_forgotten answers none = record { room = λ u is. absurd (no_answer (sym (none u) ∙ is)); led = λ u set is. absurd (no_answer (sym (none u) ∙ is)) }
 
+  -- of as many demands as before
+  pub answers_anew : (answers after : List (Option Answer)) (m : ℕ) → length answers ≤ m → n ≡ m → length after ≡ length answers → ((u : ℕ) → answer_at after u ≡ None) → (length after ≤ n) × AreAnswers n whos slots y rooms after
+  answers_anew answers after m few long same none = (omega (arith, few, long, same), answers_forgotten after none)
+
   pub answer_told : (answers : List (Option Answer)) (u : ℕ) (a : Answer) → AreAnswers n whos slots y rooms answers → answer_at answers u ≡ Some a → IsAnswer n whos slots y rooms u a
   answer_told answers u Room h is = h.room u is
   answer_told answers u (Full set) h is = h.led u set is

@@ -4,7 +4,7 @@
 // where they come to it. The amounts for other demands are found beside those that stand and then put in their place, so that want
 // of memory leaves these as they were. All this is done in memory that is kept with the split and used again, so that none is
 // taken once there is enough.
-ghost use Rattle.std.specs.Prelude.{◌≡◌, ◌↔◌, ℕ, ◌<◌, ◌≤◌, true, false, length, slice_set, pos, ◌+ℤ◌, ◌≤ℤ◌, ◌<ℤ◌, IsTrue, IfOk, OnOk, OnErr, MatchResult, MatchBool, None};
+ghost use Rattle.std.specs.Prelude.{◌≡◌, ◌↔◌, ℕ, ◌<◌, ◌≤◌, true, false, length, slice_set, pos, ◌+ℤ◌, ◌≤ℤ◌, ◌<ℤ◌, IsTrue, IfOk, OnOk, OnErr, MatchResult, MatchBool, None, []};
 ghost use Rattle.std.specs.List.{All};
 ghost use Rattle.sfm_spec.specs.Sets.{Has};
 ghost use Rattle.sfm_split.specs.Splits.{amount_at, CanBeMet, IsAmount, IsCapacity, AreDemands};
@@ -25,13 +25,9 @@ use sfm_split::{
 use std::alloc::Global;
 use std::mem;
 
-/// Demands with a split that meets them, which is kept by the amount on each cell.
+/// What is kept beside a split: what was told of it, and the memory in which this is found and the split is changed.
 #[derive(Drop)]
-pub struct Kept {
-    pub demand: Demand,
-    shares: Shares,
-    /// What each slot has left.
-    rooms: Vec<i128>,
+struct Beside {
     /// What is told of each demand, as far as it was asked for since the split changed.
     answers: Told,
     /// The memory of the searches that tell it.
@@ -41,12 +37,22 @@ pub struct Kept {
     /// The demands that ask for something, where these are counted.
     asking: Set,
     counted: bool,
+}
+
+/// Demands with a split that meets them, which is kept by the amount on each cell.
+#[derive(Drop)]
+pub struct Kept {
+    pub demand: Demand,
+    shares: Shares,
+    /// What each slot has left.
+    rooms: Vec<i128>,
+    beside: Beside,
     ghost met: { AreMet demand shares.cells.whos.items shares.cells.slots.items shares.y.items },
     ghost left: { AreLeft demand.capacities shares.cells.slots.items shares.y.items rooms.items },
-    ghost few: { length answers ≤ length demand.demands },
-    ghost each: { length asking ≡ length demand.demands },
-    ghost asked: { IsTrue counted → AreAsking demand.demands asking },
-    ghost known: { AreAnswers (length demand.demands) shares.cells.whos.items shares.cells.slots.items shares.y.items rooms.items answers },
+    ghost few: { length beside.answers ≤ length demand.demands },
+    ghost each: { length beside.asking ≡ length demand.demands },
+    ghost asked: { IsTrue beside.counted → AreAsking demand.demands beside.asking },
+    ghost known: { AreAnswers (length demand.demands) shares.cells.whos.items shares.cells.slots.items shares.y.items rooms.items beside.answers },
 }
 
 /// Whether a demand asks for something.
@@ -79,23 +85,61 @@ fn write_others(set: &Set, u: usize, to: &mut Set)
     to.remove(u);
 }
 
-/// Puts the amounts that were found, and what slots have left with these, in place of those of a split. What was told of it is
-/// forgotten.
-fn take_over(
-    y: &mut Vec<i128>,
-    rooms: &mut Vec<i128>,
+impl Beside {
+    /// For a split of n demands: nothing is told yet, and no memory of searches is used.
+    fn new(alloc: Global, n: usize) -> Result<Beside, Memory>
+        ensures answers { IfOk result (λ r. r.answers ≡ []) }
+        ensures asking { IfOk result (λ r. length r.asking ≡ n) }
+        ensures counted { IfOk result (λ r. r.counted ≡ false) }
+    {
+        let asking = Set::empty(alloc, n)?;
+        let search = Spread::new(alloc)?;
+        Ok(Beside {
+            answers: Told::new(alloc),
+            search,
+            work: Work::new(alloc),
+            asking,
+            counted: false,
+        })
+    }
+
+    /// Puts the amounts that were found, and what slots have left with these, in place of those of a split. What was told of it
+    /// is forgotten.
+    fn put(&mut self, y: &mut Vec<i128>, rooms: &mut Vec<i128>)
+        ensures amounts { y.new.items ≡ self.old.work.y.items }
+        ensures rooms { rooms.new.items ≡ self.old.work.left.rooms.items }
+        ensures same { length self.new.answers ≡ length self.old.answers }
+        ensures none { (u : ℕ) → answer_at self.new.answers u ≡ None }
+        ensures asking { self.new.asking ≡ self.old.asking }
+        ensures counted { self.new.counted ≡ false }
+    {
+        mem::swap(y, &mut self.work.y);
+        mem::swap(rooms, &mut self.work.left.rooms);
+        self.answers.forget(&mut self.search);
+        self.counted = false;
+    }
+}
+
+/// Finds amounts by which all demands are met still, and the demand u gets as much more as it can, up to a limit; tells how much.
+fn find_more(
+    alloc: Global,
     work: &mut Work,
-    answers: &mut Told,
-    search: &mut Spread,
-)
-    ensures amounts { y.new.items ≡ work.old.y.items }
-    ensures rooms { rooms.new.items ≡ work.old.left.rooms.items }
-    ensures same { length answers.new ≡ length answers.old }
-    ensures none { (u : ℕ) → answer_at answers.new u ≡ None }
+    demand: &Demand,
+    split: &Standing,
+    u: usize,
+    limit: i128,
+) -> Result<i128, Memory>
+    requires met { AreMet demand.now split.now.shares.now.cells.whos.items split.now.shares.now.cells.slots.items split.now.shares.now.y.items }
+    requires left { AreLeft demand.now.capacities split.now.shares.now.cells.slots.items split.now.shares.now.y.items split.now.rooms.now }
+    requires place { u < length demand.now.demands }
+    requires low { pos 0 ≤ℤ limit }
+    requires small { IsAmount (amount_at demand.now.demands u +ℤ limit) }
+    ensures { IfOk result (IsGrown demand.now split.now.shares.now.cells.whos.items split.now.shares.now.cells.slots.items work.new.y.items work.new.left.rooms.items u limit) }
 {
-    mem::swap(y, &mut work.y);
-    mem::swap(rooms, &mut work.left.rooms);
-    answers.forget(search);
+    let _sound = demand.demands();
+    begin(work, demand, split.shares, split.rooms)?;
+    let more = raise_most(alloc, &split.shares.cells, work, u, limit)?;
+    Ok(more)
 }
 
 impl Kept {
@@ -107,19 +151,29 @@ impl Kept {
     pub fn new(alloc: Global, demand: Demand) -> Result<Kept, AssignEnd>
         ensures { MatchResult result (λ r. r.demand ≡ demand) (IsAssignEnd demand.demands demand.lists demand.capacities) }
     {
-        let asking = Set::empty(alloc, demand.demands().len())?;
-        let search = Spread::new(alloc)?;
         let shares = met_shares(alloc, &demand)?;
         let rooms = left_of(alloc, demand.capacities(), &shares.cells.slots, &shares.y)?;
+        let kept = Kept::around(alloc, demand, shares, rooms)?;
+        Ok(kept)
+    }
+
+    /// A split that is kept, by its amounts and by what slots have left with these; nothing is remembered of it.
+    fn around(
+        alloc: Global,
+        demand: Demand,
+        shares: Shares,
+        rooms: Vec<i128>,
+    ) -> Result<Kept, Memory>
+        requires met { AreMet demand shares.cells.whos.items shares.cells.slots.items shares.y.items }
+        requires left { AreLeft demand.capacities shares.cells.slots.items shares.y.items rooms.items }
+        ensures { IfOk result (λ r. r.demand ≡ demand) }
+    {
+        let beside = Beside::new(alloc, demand.demands().len())?;
         Ok(Kept {
             demand,
             shares,
             rooms,
-            answers: Told::new(alloc),
-            search,
-            work: Work::new(alloc),
-            asking,
-            counted: false,
+            beside,
         })
     }
 
@@ -131,21 +185,10 @@ impl Kept {
     pub fn copy(&self, alloc: Global) -> Result<Kept, Memory>
         ensures { IfOk result (λ r. r.demand ≡ self.now.demand) }
     {
-        let asking = Set::empty(alloc, self.asking.len())?;
-        let search = Spread::new(alloc)?;
-        let rooms = Vec::from_slice(alloc, &self.rooms)?;
         let demand = self.demand.copy(alloc)?;
         let shares = self.shares.copy(alloc)?;
-        Ok(Kept {
-            demand,
-            shares,
-            rooms,
-            answers: Told::new(alloc),
-            search,
-            work: Work::new(alloc),
-            asking,
-            counted: false,
-        })
+        let rooms = Vec::from_slice(alloc, &self.rooms)?;
+        Kept::around(alloc, demand, shares, rooms)
     }
 
     /// Puts other demands and capacities in place of these, over the same lists, and splits them, from the split as it stands:
@@ -174,22 +217,32 @@ impl Kept {
         };
         find_amounts(
             alloc,
-            &mut self.work,
+            &mut self.beside.work,
             &self.demand,
             &self.shares,
             &self.rooms,
             &aim,
         )?;
         self.demand.copy_from(demands, capacities);
-        take_over(
-            &mut self.shares.y,
-            &mut self.rooms,
-            &mut self.work,
-            &mut self.answers,
-            &mut self.search,
-        );
-        self.counted = false;
+        self.beside.put(&mut self.shares.y, &mut self.rooms);
         Ok(())
+    }
+
+    /// Finds amounts by which other demands are met, which can be, over the same lists and with other capacities.
+    fn find_met(&self, alloc: Global, work: &mut Work, aim: &Aim) -> Result<(), Memory>
+        requires sized { length aim.now.demands.now ≡ length self.now.demand.demands }
+        requires slots { length aim.now.capacities.now ≡ length self.now.demand.capacities }
+        requires sound { AreDemands (record { demands = aim.now.demands.now; lists = self.now.demand.lists; capacities = aim.now.capacities.now }) }
+        requires can { CanBeMet aim.now.demands.now self.now.demand.lists aim.now.capacities.now }
+        ensures met { OnOk result (AreMet (record { demands = aim.now.demands.now; lists = self.now.demand.lists; capacities = aim.now.capacities.now }) self.now.shares.cells.whos.items self.now.shares.cells.slots.items work.new.y.items) }
+        ensures lacks { OnOk result (AreLeft aim.now.demands.now self.now.shares.cells.whos.items work.new.y.items work.new.left.lacks.items) }
+        ensures rooms { OnOk result (AreLeft aim.now.capacities.now self.now.shares.cells.slots.items work.new.y.items work.new.left.rooms.items) }
+    {
+        match find_amounts(alloc, work, &self.demand, &self.shares, &self.rooms, aim) {
+            Ok(()) => Ok(()),
+            Err(AssignEnd::Shortage { .. }) => unreachable!(),
+            Err(AssignEnd::Memory) => Err(Memory),
+        }
     }
 
     /// Finds amounts by which other demands are met, over the same lists and with other capacities, and the demand u gets as much more
@@ -211,11 +264,7 @@ impl Kept {
         requires small { IsAmount (amount_at aim.now.demands.now u +ℤ limit) }
         ensures { IfOk result (IsGrown (record { demands = aim.now.demands.now; lists = self.now.demand.lists; capacities = aim.now.capacities.now }) self.now.shares.cells.whos.items self.now.shares.cells.slots.items work.new.y.items work.new.left.rooms.items u limit) }
     {
-        match find_amounts(alloc, work, &self.demand, &self.shares, &self.rooms, aim) {
-            Ok(()) => {}
-            Err(AssignEnd::Shortage { .. }) => unreachable!(),
-            Err(AssignEnd::Memory) => return Err(Memory),
-        }
+        self.find_met(alloc, work, aim)?;
         let more = raise_most(alloc, &self.shares.cells, work, u, limit)?;
         Ok(more)
     }
@@ -235,17 +284,14 @@ impl Kept {
         ensures unchanged { OnErr result (self.new.demand ≡ self.old.demand) }
     {
         let _sound = self.demand.demands();
-        begin(&mut self.work, &self.demand, &self.shares, &self.rooms)?;
-        let more = raise_most(alloc, &self.shares.cells, &mut self.work, u, limit)?;
+        let split = Standing {
+            shares: &self.shares,
+            rooms: &self.rooms,
+        };
+        let work = &mut self.beside.work;
+        let more = find_more(alloc, work, &self.demand, &split, u, limit)?;
         self.demand.raise(u, more);
-        take_over(
-            &mut self.shares.y,
-            &mut self.rooms,
-            &mut self.work,
-            &mut self.answers,
-            &mut self.search,
-        );
-        self.counted = false;
+        self.beside.put(&mut self.shares.y, &mut self.rooms);
         Ok(more)
     }
 
@@ -280,49 +326,42 @@ impl Kept {
     {
         let _sound = self.demand.demands();
         let _other = from.demand.demands();
-        let more = from.find_raised(alloc, &mut self.work, aim, u, limit)?;
+        let more = from.find_raised(alloc, &mut self.beside.work, aim, u, limit)?;
         self.demand.copy_from(aim.demands, aim.capacities);
         self.demand.raise(u, more);
-        take_over(
-            &mut self.shares.y,
-            &mut self.rooms,
-            &mut self.work,
-            &mut self.answers,
-            &mut self.search,
-        );
-        self.counted = false;
+        self.beside.put(&mut self.shares.y, &mut self.rooms);
         Ok(more)
     }
 
     /// Sees to it that the demands that ask for something are counted.
     fn count_asking(&mut self)
         ensures same { self.new.demand ≡ self.old.demand }
-        ensures counted { IsTrue self.new.counted }
+        ensures counted { IsTrue self.new.beside.counted }
     {
-        if self.counted {
+        if self.beside.counted {
             return;
         }
-        write_asking(self.demand.demands(), &mut self.asking);
-        self.counted = true;
+        write_asking(self.demand.demands(), &mut self.beside.asking);
+        self.beside.counted = true;
     }
 
     /// Makes room for what is told of each demand.
     fn widen(&mut self) -> Result<(), Memory>
         ensures same { self.new.demand ≡ self.old.demand }
-        ensures counted { self.new.counted ≡ self.old.counted }
-        ensures places { OnOk result (length self.new.answers ≡ length self.new.demand.demands) }
+        ensures counted { self.new.beside.counted ≡ self.old.beside.counted }
+        ensures places { OnOk result (length self.new.beside.answers ≡ length self.new.demand.demands) }
     {
         let n = self.demand.demands().len();
-        self.answers.widen(n)
+        self.beside.answers.widen(n)
     }
 
     /// Gathers what the demand u leads to, but for u itself; tells whether a slot with room is led to.
     fn gather(&mut self, alloc: Global, u: usize, to: &mut Set) -> Result<bool, Memory>
         requires place { u < length self.old.demand.demands }
-        requires places { length self.old.answers ≡ length self.old.demand.demands }
+        requires places { length self.old.beside.answers ≡ length self.old.demand.demands }
         requires room_for_answer { length to.old ≡ length self.old.demand.demands }
         ensures same { self.new.demand ≡ self.old.demand }
-        ensures counted { self.new.counted ≡ self.old.counted }
+        ensures counted { self.new.beside.counted ≡ self.old.beside.counted }
         ensures whos { self.new.shares.cells.whos.items ≡ self.old.shares.cells.whos.items }
         ensures slots { self.new.shares.cells.slots.items ≡ self.old.shares.cells.slots.items }
         ensures amounts { self.new.shares.y.items ≡ self.old.shares.y.items }
@@ -337,14 +376,14 @@ impl Kept {
             shares: &self.shares,
             rooms: &self.rooms,
         };
-        let answers = &mut self.answers;
-        gather(alloc, &mut self.search, &split, answers, u, to)
+        let answers = &mut self.beside.answers;
+        gather(alloc, &mut self.beside.search, &split, answers, u, to)
     }
 
     /// Writes the demands that can lend to u over what was gathered.
     fn write_lenders(&self, room: bool, u: usize, to: &mut Set)
         requires place { u < length self.now.demand.demands }
-        requires counted { IsTrue self.now.counted }
+        requires counted { IsTrue self.now.beside.counted }
         requires room_for_answer { length to.old ≡ length self.now.demand.demands }
         requires led { MatchBool room
             (LeadsToRoom self.now.shares.cells.whos.items self.now.shares.cells.slots.items self.now.shares.y.items self.now.rooms.items u)
@@ -354,7 +393,7 @@ impl Kept {
     {
         let _sound = self.demand.demands();
         if room {
-            write_others(&self.asking, u, to);
+            write_others(&self.beside.asking, u, to);
             return;
         }
         to.remove(u);

@@ -1,4 +1,4 @@
-use Rattle.std.proofs.Common.{◌≡◌, ◌<◌, false, true, length, get_or, None, ℤ, pos, ◌≤ℤ◌, ap, sym, rules, FitsSigned, arith, ◌∙◌, get_or-set_same}
+use Rattle.std.proofs.Common.{◌≡◌, ◌<◌, false, true, length, get_or, None, ℤ, pos, ◌≤ℤ◌, refl, ap, sym, rules, FitsSigned, arith, ◌∙◌, get_or-set_same}
 use Rattle.std.proofs.lemmas.Int.{ints}
 use Rattle.std.proofs.lemmas.List.{get_or_read}
 use mir.Syntax.{w128}
@@ -42,15 +42,28 @@ take_in-requires-clause-sized c =
     let (who, below, here) = led path.After-index-answers-f in
     λ set is. (rw is at (told path.In-Some below)).places ∙ sym c.requires.spread.places
 
-pub returns-in_ok-enter-in-None-clause-spread : goal.returns-in_ok-enter-in-None-clause-spread
-returns-in_ok-enter-in-None-clause-spread c =
-    let path = goal.at.returns-in_ok-enter-in-None-clause-spread c in
+pub returns-in_ok-enter-in-None : goal.returns-in_ok-enter-in-None
+returns-in_ok-enter-in-None c =
+    let path = goal.at.returns-in_ok-enter-in-None c in
     let (who, below, here) = led path.After-index-answers-f in
+    let n = length c.args.answers.now in
+    let cells = c.args.shares.now.cells in
+    let y = c.args.shares.now.y.items in
+    let rooms = c.args.rooms.now in
     let self = c.args.self.now in
     let f = c.index-f.result.now in
     let e = c.in_ok-enter-in-None.ensures in
+    let places = c.requires.spread.places in
+    let wide : f < length self.found = omega (arith, below, places) in
     let out : get_or self.found f false ≡ false = sym c.contains.ensures ∙ c.if-contains.false in
-    rw (e.from, e.next, e.marks, e.found, e.queue) (spread_entered (length c.args.answers.now) c.args.shares.now.cells.whos.items c.args.shares.now.cells.slots.items c.args.shares.now.y.items c.args.rooms.now self.from self.found self.marks self.queue.items self.next c.requires.spread f below out here)
+    record {
+      from = e.from;
+      next = e.next;
+      marks = e.marks;
+      spread = rw (e.from, e.next, e.marks, e.found, e.queue) (spread_entered n cells.whos.items cells.slots.items y rooms self.from self.found self.marks self.queue.items self.next c.requires.spread f below out here);
+      wider = rw (e.found, e.queue) (entered_wider n cells.whos.items cells.slots.items y rooms self.from self.found self.marks self.queue.items self.next c.requires.spread f below out here);
+      end = λ some. rw (e.found, ← who) (get_or-set_same self.found f true false wide);
+    }
 
 pub returns-in_ok-joined-in-Some : goal.returns-in_ok-joined-in-Some
 returns-in_ok-joined-in-Some c =
@@ -72,47 +85,52 @@ returns-in_ok-joined-in-Some c =
       end = end;
     }
 
-pub returns-then-contains-clause-wider : goal.returns-then-contains-clause-wider
-returns-then-contains-clause-wider c = wider_none c.args.self.now.found c.args.self.now.queue.items
-
-pub returns-then-contains-clause-end : goal.returns-then-contains-clause-end
-returns-then-contains-clause-end c =
+pub returns-then-contains : goal.returns-then-contains
+returns-then-contains c =
     let who = get_or_read c.args.shares.now.cells.whos.items c.args.link.own c.index-f.result.now c.requires.own c.index-f.ensures 0 in
-    λ some. ap (λ k. get_or c.args.self.now.found k false) (sym who) ∙ (sym c.contains.ensures ∙ c.if-contains.true)
+    let self = c.args.self.now in
+    record {
+      from = refl;
+      next = refl;
+      marks = refl;
+      spread = c.requires.spread;
+      wider = wider_none self.found self.queue.items;
+      end = λ some. ap (λ k. get_or self.found k false) (sym who) ∙ (sym c.contains.ensures ∙ c.if-contains.true);
+    }
 
-pub returns-then-index-le0-clause-wider : goal.returns-then-index-le0-clause-wider
-returns-then-index-le0-clause-wider c = wider_none c.args.self.now.found c.args.self.now.queue.items
-
-pub returns-then-index-le0-clause-end : goal.returns-then-index-le0-clause-end
-returns-then-index-le0-clause-end c =
+pub returns-then-index-le0 : goal.returns-then-index-le0
+returns-then-index-le0 c =
     let lo = c.requires.own in
     let same = c.requires.told.same in
     let v : ℤ = c.index.result.now in
     let fv : FitsSigned w128 v = search rules in
     let value = get_or_read c.args.shares.now.y.items c.args.link.own v (omega (arith, lo, same)) c.index.ensures (pos 0) in
     let none = c.if-index-le0.true in
-    λ some. absurd (omega (arith, ints, value, none, some))
-
-pub returns-in_ok-enter-in-None-clause-wider : goal.returns-in_ok-enter-in-None-clause-wider
-returns-in_ok-enter-in-None-clause-wider c =
-    let path = goal.at.returns-in_ok-enter-in-None-clause-wider c in
-    let (who, below, here) = led path.After-index-answers-f in
-    let self = c.args.self.now in
-    let e = c.in_ok-enter-in-None.ensures in
-    let out : get_or self.found c.index-f.result.now false ≡ false = sym c.contains.ensures ∙ c.if-contains.false in
-    rw (e.found, e.queue) (entered_wider (length c.args.answers.now) c.args.shares.now.cells.whos.items c.args.shares.now.cells.slots.items c.args.shares.now.y.items c.args.rooms.now self.from self.found self.marks self.queue.items self.next c.requires.spread c.index-f.result.now below out here)
-
-pub returns-in_ok-enter-in-None-clause-end : goal.returns-in_ok-enter-in-None-clause-end
-returns-in_ok-enter-in-None-clause-end c =
-    let path = goal.at.returns-in_ok-enter-in-None-clause-end c in
-    let (who, below, here) = led path.After-index-answers-f in
-    let found = c.args.self.now.found in
-    let places = c.requires.spread.places in
-    let wide : c.index-f.result.now < length found = omega (arith, below, places) in
-    λ some. rw (c.in_ok-enter-in-None.ensures.found, ← who) (get_or-set_same found c.index-f.result.now true false wide)
+    record { from = refl; next = refl; marks = refl; spread = c.requires.spread; wider = wider_none c.args.self.now.found c.args.self.now.queue.items; end = λ some. absurd (omega (arith, ints, value, none, some)) }
 
 pub enter-requires : goal.enter-requires
 enter-requires c =
     let (who, below, here) = led (goal.at.enter-requires c).After-index-answers-f in
     let places = c.requires.spread.places in
     omega (arith, below, places)
+
+pub index-f-requires : goal.index-f-requires
+index-f-requires c = omega (arith, c.requires.own, c.args.shares.now.cells.whos.ok.0)
+
+pub index-requires : goal.index-requires
+index-requires c = omega (arith, c.requires.own, c.requires.told.same, c.args.shares.now.y.ok.0)
+
+pub bounds-answers-f : goal.bounds-answers-f
+bounds-answers-f c =
+    let own = c.args.link.own in
+    let lo = c.requires.own in
+    rw (get_or_read c.args.shares.now.cells.whos.items own c.index-f.result.now lo c.index-f.ensures 0) (c.requires.told.cells.owned own lo)
+
+pub offset_bounds-answers-f : goal.offset_bounds-answers-f
+offset_bounds-answers-f c =
+    let own = c.args.link.own in
+    let lo = c.requires.own in
+    let who = get_or_read c.args.shares.now.cells.whos.items own c.index-f.result.now lo c.index-f.ensures 0 in
+    let owned = c.requires.told.cells.owned own lo in
+    let l : c.index-f.result.now < length c.args.answers.now = omega (arith, who, owned) in
+    omega (arith, l)

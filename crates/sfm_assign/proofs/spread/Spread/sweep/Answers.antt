@@ -7,21 +7,21 @@ use Rattle.sfm_split.proofs.Linking.{pass_begun, pass_here, pass_more, pass_done
 use Rattle.sfm_assign.proofs.Spreads.{wider_none, wider_more, spread_marked}
 use Rattle.sfm_assign.proofs.spread.Spread.sweep.Goals as goal
 
-pub find-requires-clause-own : goal.find-requires-clause-own
-find-requires-clause-own c =
-    let same = c.requires.told.cells.same in
-    let (lt, mine) = pass_here c.in-Some.is c.loop-at.invariant.passed in
-    omega (arith, lt, same)
-
-pub find-requires-clause-shared : goal.find-requires-clause-shared
-find-requires-clause-shared c =
-    let same = c.requires.told.cells.same in
-    let lc = c.requires.cell in
-    let (lt, mine) = pass_here c.in-Some.is c.loop-at.invariant.passed in
-    mine ∙ get_or_read c.args.shares.now.cells.slots.items c.args.e c.index-s.result.now (omega (arith, lc, same)) c.index-s.ensures 0
-
-pub find-requires-clause-found : goal.find-requires-clause-found
-find-requires-clause-found c = c.loop-at.invariant.wider.kept (label_at c.args.shares.now.cells.whos.items c.args.e) c.requires.found
+pub find-requires : goal.find-requires
+find-requires c =
+    let r = c.requires in
+    let inv = c.loop-at.invariant in
+    let same = r.told.cells.same in
+    let lc = r.cell in
+    let (lt, mine) = pass_here c.in-Some.is inv.passed in
+    record {
+      told = r.told;
+      own = omega (arith, lt, same);
+      other = lc;
+      shared = mine ∙ get_or_read c.args.shares.now.cells.slots.items c.args.e c.index-s.result.now (omega (arith, lc, same)) c.index-s.ensures 0;
+      found = inv.wider.kept (label_at c.args.shares.now.cells.whos.items c.args.e) r.found;
+      spread = inv.spread;
+    }
 
 pub loop-at-smaller : goal.loop-at-smaller
 loop-at-smaller c = pass_falls c.args.shares.now.cells.slots_chained c.in-Some.is c.loop-at.invariant.passed c.index-at.ensures
@@ -45,6 +45,21 @@ loop-at-preserved c =
       passed = pass_more c.args.shares.now.cells.slots_chained c.in-Some.is inv.passed Seen c.index-at.ensures (λ f saw some. told.wider.kept (label_at whos f) (saw some)) (rw c.in_default-2.is at told.end);
     }
 
+pub returns-in-Some-2 : goal.returns-in-Some-2
+returns-in-Some-2 c =
+    let first = c.args.self.now in
+    let before = c.loop-at.self in
+    let after = c.find.new.self in
+    let inv = c.loop-at.invariant in
+    let o = c.in_ok-answer.ensures in
+    record {
+      from = o.from ∙ inv.from;
+      next = o.next ∙ inv.next;
+      spread = o.spread;
+      wider = wider_more first.found before.found after.found first.queue.items before.queue.items after.queue.items inv.wider o.wider;
+      end = rw inv.from at (rw c.in-Some-2.is at o.end);
+    }
+
 pub returns-clause-spread : goal.returns-clause-spread
 returns-clause-spread c =
     let slots = c.args.shares.now.cells.slots.items in
@@ -56,13 +71,6 @@ returns-clause-spread c =
     let slot = get_or_read slots c.args.e s (omega (arith, le, same)) c.index-s.ensures 0 in
     let all = pass_done c.in_default.is inv.passed in
     rw c.insert.ensures (spread_marked (length c.args.answers.now) c.args.shares.now.cells.whos.items slots c.args.shares.now.y.items c.args.rooms.now self.from self.found self.marks self.queue.items self.next inv.spread s (rw slot c.requires.full) (λ f lf is some. all f (omega (arith, lf, same)) is some))
-
-pub returns-in-Some-2-clause-wider : goal.returns-in-Some-2-clause-wider
-returns-in-Some-2-clause-wider c =
-    let first = c.args.self.now in
-    let before = c.loop-at.self in
-    let after = c.find.new.self in
-    wider_more first.found before.found after.found first.queue.items before.queue.items after.queue.items c.loop-at.invariant.wider c.in_ok-answer.ensures.wider
 
 pub loop-at-init : goal.loop-at-init
 loop-at-init c =
@@ -76,27 +84,6 @@ loop-at-init c =
       wider = wider_none self.found self.queue.items;
       passed = rw c.head-at.ensures (pass_begun cells.slots.items cells.by_slot.heads.items cells.by_slot.nexts.items c.index-s.result.now (λ f. pos 1 ≤ℤ amount_at c.args.shares.now.y.items f → Has self.found (label_at cells.whos.items f)) cells.slots_chained);
     }
-
-pub find-requires-clause-told : goal.find-requires-clause-told
-find-requires-clause-told c = c.requires.told
-
-pub find-requires-clause-other : goal.find-requires-clause-other
-find-requires-clause-other c = c.requires.cell
-
-pub find-requires-clause-spread : goal.find-requires-clause-spread
-find-requires-clause-spread c = c.loop-at.invariant.spread
-
-pub returns-in-Some-2-clause-from : goal.returns-in-Some-2-clause-from
-returns-in-Some-2-clause-from c = c.in_ok-answer.ensures.from ∙ c.loop-at.invariant.from
-
-pub returns-in-Some-2-clause-next : goal.returns-in-Some-2-clause-next
-returns-in-Some-2-clause-next c = c.in_ok-answer.ensures.next ∙ c.loop-at.invariant.next
-
-pub returns-in-Some-2-clause-spread : goal.returns-in-Some-2-clause-spread
-returns-in-Some-2-clause-spread c = c.in_ok-answer.ensures.spread
-
-pub returns-in-Some-2-clause-end : goal.returns-in-Some-2-clause-end
-returns-in-Some-2-clause-end c = rw c.loop-at.invariant.from at (rw c.in-Some-2.is at c.in_ok-answer.ensures.end)
 
 pub returns-clause-from : goal.returns-clause-from
 returns-clause-from c = c.loop-at.invariant.from

@@ -45,44 +45,22 @@ returns-then-rooms-s-gt0-clause-end c =
     let room : pos 1 ≤ℤ amount_at rooms (label_at slots e) = omega (arith, ints, q, t) in
     led_to_room whos slots y rooms c.args.self.now.from (label_at whos e) (c.requires.spread.led (label_at whos e) c.requires.found) (room_here whos slots y rooms e c.requires.cell room)
 
-pub sweep-requires-clause-full : goal.sweep-requires-clause-full
-sweep-requires-clause-full c =
+pub sweep-requires : goal.sweep-requires
+sweep-requires c =
     let rooms = c.args.rooms.now in
     let f : FitsSigned w128 (get_or rooms c.index-s.result.now (pos 0)) = search rules in
-    let q = ap (λ j. amount_at rooms j) (slot (goal.at.sweep-requires-clause-full c).After-index-s) in
+    let q = ap (λ j. amount_at rooms j) (slot (goal.at.sweep-requires c).After-index-s) in
     let t = c.if-rooms-s-gt0.false in
-    omega (arith, ints, q, t)
+    let r = c.requires in
+    record { told = r.told; cell = r.cell; full = omega (arith, ints, q, t); found = r.found; spread = r.spread }
 
-pub returns-clause-end : goal.returns-clause-end
-returns-clause-end c =
+pub returns : goal.returns
+returns c =
     let marks = c.args.self.now.marks in
     let k = label_at c.args.shares.now.cells.slots.items c.args.e in
     let exist = c.requires.told.cells.exist c.args.e c.requires.cell in
     let places = c.requires.spread.mark_places in
     let in_marks : k < length marks = omega (arith, exist, places) in
-    let told = rw c.in_default.is at c.in_ok-answer.ensures.end in
-    rw told (marked_here marks k in_marks, λ (t : ℕ) has. marked_kept marks k t in_marks has)
-
-pub sweep-requires-clause-told : goal.sweep-requires-clause-told
-sweep-requires-clause-told c = c.requires.told
-
-pub sweep-requires-clause-cell : goal.sweep-requires-clause-cell
-sweep-requires-clause-cell c = c.requires.cell
-
-pub sweep-requires-clause-found : goal.sweep-requires-clause-found
-sweep-requires-clause-found c = c.requires.found
-
-pub sweep-requires-clause-spread : goal.sweep-requires-clause-spread
-sweep-requires-clause-spread c = c.requires.spread
-
-pub returns-clause-from : goal.returns-clause-from
-returns-clause-from c = c.in_ok-answer.ensures.from
-
-pub returns-clause-next : goal.returns-clause-next
-returns-clause-next c = c.in_ok-answer.ensures.next
-
-pub returns-clause-spread : goal.returns-clause-spread
-returns-clause-spread c = c.in_ok-answer.ensures.spread
-
-pub returns-clause-wider : goal.returns-clause-wider
-returns-clause-wider c = c.in_ok-answer.ensures.wider
+    let o = c.in_ok-answer.ensures in
+    let told = rw c.in_default.is at o.end in
+    record { from = o.from; next = o.next; spread = o.spread; wider = o.wider; end = rw told (marked_here marks k in_marks, λ (t : ℕ) has. marked_kept marks k t in_marks has) }
