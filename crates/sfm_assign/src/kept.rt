@@ -26,7 +26,6 @@ use std::alloc::Global;
 use std::mem;
 
 /// What is kept beside a split: what was told of it, and the memory in which this is found and the split is changed.
-#[derive(Drop)]
 struct Beside {
     /// What is told of each demand, as far as it was asked for since the split changed.
     answers: Told,
@@ -40,7 +39,6 @@ struct Beside {
 }
 
 /// Demands with a split that meets them, which is kept by the amount on each cell.
-#[derive(Drop)]
 pub struct Kept {
     pub demand: Demand,
     shares: Shares,
@@ -83,6 +81,19 @@ fn write_others(set: &Set, u: usize, to: &mut Set)
     to.clear();
     to.union_with(set);
     to.remove(u);
+}
+
+// Written out, so that whoever lets one go does so in one step.
+impl Drop for Beside {
+    fn drop(self) {
+        let Self {
+            answers: _,
+            search: _,
+            work: _,
+            asking: _,
+            counted: _,
+        } = self;
+    }
 }
 
 impl Beside {
@@ -140,6 +151,18 @@ fn find_more(
     begin(work, demand, split.shares, split.rooms)?;
     let more = raise_most(alloc, &split.shares.cells, work, u, limit)?;
     Ok(more)
+}
+
+// As above.
+impl Drop for Kept {
+    fn drop(self) {
+        let Self {
+            demand: _,
+            shares: _,
+            rooms: _,
+            beside: _,
+        } = self;
+    }
 }
 
 impl Kept {
