@@ -1,4 +1,4 @@
-use Rattle.std.proofs.Common.{ℤ, rules, FitsSigned}
+use Rattle.std.proofs.Common.{rules, FitsSigned}
 use Rattle.std.proofs.lemmas.Int.{to_z-of_z}
 use mir.Syntax.{w128}
 use Rattle.sfm_split.specs.Grown.{MayGrow}
@@ -24,9 +24,7 @@ raise_most-requires c =
 
 pub returns : goal.returns
 returns c =
-    let limit : ℤ = c.args.limit in
-    let fq : FitsSigned w128 limit = c.ranges.limit in
-    let more : ℤ = c.in_ok-more.more in
-    let fm : FitsSigned w128 more = search rules in
+    let fq : FitsSigned w128 c.args.limit = c.ranges.limit in
+    let fm : FitsSigned w128 c.in_ok-more.more = search rules in
     let told = simp to_z-of_z at c.in_ok-more.ensures in
     simp to_z-of_z (told c.args.demand.now (begun (goal.at.returns c).In_ok-begin))

@@ -21,16 +21,14 @@ pub copy_from-requires : goal.copy_from-requires
 copy_from-requires c = let r = c.requires in record { places = r.sized; slots = r.slots; amounts = r.amounts; bounded = r.bounded }
 
 pub invariant_of-self : goal.invariant_of-self
-invariant_of-self c =
-    let k = c.args.self.now in
-    record { met = k.met; left = k.left; few = k.few; each = k.each; asked = k.asked; known = k.known }
+invariant_of-self c = let k = c.args.self.now in record { met = k.met; left = k.left; few = k.few; each = k.each; asked = k.asked; known = k.known }
 
 pub invariant_of-self-2 : goal.invariant_of-self-2
 invariant_of-self-2 c =
+    let found = c.in_ok-find_amounts.ensures in
+    let put = c.put.ensures in
     let k = c.args.self.now in
     let cells = k.shares.cells in
-    let put = c.put.ensures in
-    let found = c.in_ok-find_amounts.ensures in
     let told = c.copy_from.ensures in
     let long : length c.copy_from.new.self.demands ≡ length k.demand.demands = ap (λ (d : Demands). length d.demands) told ∙ c.requires.sized in
     let (few, known) = answers_anew (length c.copy_from.new.self.demands) cells.whos.items cells.slots.items c.put.new.y.items c.put.new.rooms.items k.beside.answers c.put.new.self.answers (length k.demand.demands) k.few long put.same put.none in

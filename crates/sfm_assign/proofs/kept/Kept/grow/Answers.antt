@@ -20,9 +20,7 @@ raise-requires c =
     record { place = c.requires.place; amount = simp to_z-of_z c.in_ok-more.ensures.amount }
 
 pub invariant_of-self : goal.invariant_of-self
-invariant_of-self c =
-    let k = c.args.self.now in
-    record { met = k.met; left = k.left; few = k.few; each = k.each; asked = k.asked; known = k.known }
+invariant_of-self c = let k = c.args.self.now in record { met = k.met; left = k.left; few = k.few; each = k.each; asked = k.asked; known = k.known }
 
 pub invariant_of-self-2 : goal.invariant_of-self-2
 invariant_of-self-2 c =

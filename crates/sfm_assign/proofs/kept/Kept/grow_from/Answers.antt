@@ -35,18 +35,16 @@ raise-requires c =
     record { place = rw c.copy_from.ensures c.requires.place; amount = rw c.copy_from.ensures (simp to_z-of_z c.in_ok-more.ensures.amount) }
 
 pub invariant_of-self : goal.invariant_of-self
-invariant_of-self c =
-    let k = c.args.self.now in
-    record { met = k.met; left = k.left; few = k.few; each = k.each; asked = k.asked; known = k.known }
+invariant_of-self c = let k = c.args.self.now in record { met = k.met; left = k.left; few = k.few; each = k.each; asked = k.asked; known = k.known }
 
 pub invariant_of-self-2 : goal.invariant_of-self-2
 invariant_of-self-2 c =
+    let put = c.put.ensures in
     let s = c.args.self.now in
     let o = c.args.from.now in
     let r = c.requires in
     let more : ℤ = c.in_ok-more.more in
     let fm : FitsSigned w128 more = search rules in
-    let put = c.put.ensures in
     let done = c.in_ok-more.ensures in
     let e = simp to_z-of_z at c.raise.ensures in
     let whos : s.shares.cells.whos.items ≡ o.shares.cells.whos.items = s.met.in_order ∙ (ap (owners 0) r.lists ∙ sym o.met.in_order) in

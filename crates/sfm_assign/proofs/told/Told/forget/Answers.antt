@@ -41,12 +41,12 @@ loop-k-preserved c =
       cleared = rw (c.forget_one.ensures, is) (cleared_more before.answers.items before.known.items c.loop-k.self-inside.answers.items c.loop-k.k below inv.cleared);
     }
 
-pub invariant_of-self : goal.invariant_of-self
-invariant_of-self c =
-    let ok = c.self.inside.known.ok.0 in
-    rw c.clear.ensures.items (listed_nothing c.loop-k.self-inside.answers.items (none (goal.at.invariant_of-self c).At-loop-k (omega (arith, ok))))
-
 pub returns-clause-none : goal.returns-clause-none
 returns-clause-none c =
     let ok = c.self.inside.known.ok.0 in
     none (goal.at.returns-clause-none c).At-loop-k (omega (arith, ok))
+
+pub invariant_of-self : goal.invariant_of-self
+invariant_of-self c =
+    let ok = c.self.inside.known.ok.0 in
+    rw c.clear.ensures.items (listed_nothing c.loop-k.self-inside.answers.items (none (goal.at.invariant_of-self c).At-loop-k (omega (arith, ok))))
