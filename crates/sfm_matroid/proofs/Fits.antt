@@ -1,14 +1,15 @@
 -- Amounts of a base fit 128 bits, and so does what is left of a number.
-use Rattle.std.proofs.Common.{◌≡◌, ◌≢◌, ◌↔◌, ◌^◌, IsTrue, ℕ, Bool, ◌<◌, List, length, get_or, set, ℤ, pos, ◌+ℤ◌, ◌-ℤ◌, ◌*ℤ◌, ◌≤ℤ◌, to_z, of_z, arith, ⊎_elim, Fits, FitsSigned, length-set, get_or-set_other, get_or-set_same}
+use Rattle.std.proofs.Common.{◌≡◌, ◌≢◌, ◌^◌, ℕ, ◌<◌, List, length, get_or, set, ℤ, pos, ◌-ℤ◌, ◌*ℤ◌, ◌≤ℤ◌, to_z, of_z, arith, ⊎_elim, Fits, FitsSigned, length-set, get_or-set_other, get_or-set_same}
 use Rattle.std.proofs.lemmas.Bool.{cases_eq}
 use Rattle.std.proofs.lemmas.Int.{ints, clamps, to_z-of_z}
 use Rattle.std.specs.Int.{int_min}
 use Rattle.std.specs.List.{All}
 use mir.Syntax.{w64, w128}
-use Rattle.sfm_assign.specs.Splits.{IsAmount, Demands}
-use Rattle.sfm_spec.specs.Bounds.{IsAtMost, IsFactor, IsGiven, total_of}
-use Rattle.sfm_law.proofs.Fits.{given_fits, product_low, product_high, rank_fits}
+use Rattle.sfm_assign.specs.Splits.{IsAmount}
+use Rattle.sfm_spec.specs.Bounds.{IsFactor, IsGiven}
+use Rattle.sfm_law.proofs.Fits.{given_fits, product_low, product_high}
 use Rattle.sfm_law.proofs.Monotone.{AreCounts}
+use Rattle.sfm_matroid.specs.Amounts.{AreCapped, IsRaise}
 
 -- entries from 0 to a number
 pub within_amounts : (x : List ℤ) (c : ℤ) → c ≤ℤ pos (10 ^ 24) → All (λ a. (pos 0 ≤ℤ a) × (a ≤ℤ c)) x → All IsAmount x
@@ -18,19 +19,15 @@ within_amounts x c h all k d lt = let r = all k d lt in record { low = r.0; high
 pub amounts_count : (x : List ℤ) → All IsAmount x → AreCounts x
 amounts_count x all e lt = (all e (pos 0) lt).low
 
--- entries from 0 to a number that is not above what may be asked for
-pub record AreCapped (c : ℤ) (x : List ℤ) : Type 0 where
-  pub low : pos 0 ≤ℤ c
-  pub high : c ≤ℤ pos (10 ^ 24)
-  pub fits : FitsSigned w128 c
-  pub within : All (λ a. (pos 0 ≤ℤ a) × (a ≤ℤ c)) x
-  pub amounts : All IsAmount x
+-- so a number that none exceeds fits, and they are amounts
+pub capped_fits : (c : ℤ) (x : List ℤ) → AreCapped c x → FitsSigned w128 c
+capped_fits c x all = let low = all.low in let high = all.high in omega (arith, ints, low, high)
+
+pub capped_amounts : (c : ℤ) (x : List ℤ) → AreCapped c x → All IsAmount x
+capped_amounts c x all = within_amounts x c all.high all.within
 
 pub capped : (q w : ℤ) → IsFactor q → pos 0 ≤ℤ w → IsGiven w → (x : List ℤ) → All (λ a. (pos 0 ≤ℤ a) × (a ≤ℤ (q *ℤ w))) x → AreCapped (q *ℤ w) x
-capped q w factor few given x within =
-    let low = product_low q w factor few in
-    let high = product_high q w factor given in
-    record { low = low; high = high; fits = omega (arith, ints, low, high); within = within; amounts = within_amounts x (q *ℤ w) high within }
+capped q w factor few given x within = record { low = product_low q w factor few; high = product_high q w factor given; within = within }
 
 -- a count as a number of 128 bits
 pub count_is : (n : ℕ) → Fits w64 n → to_z w128 n ≡ pos n
@@ -57,11 +54,6 @@ without_amounts x v all k d lt =
     (cases_eq k v)
 
 -- what u is raised by, up to the lesser of what v has and what it lacks itself of a number, where v has nothing more
-pub record IsRaise (x : List ℤ) (u v : ℕ) (limit : ℤ) : Type 0 where
-  pub rest : All IsAmount (set x v (pos 0))
-  pub low : pos 0 ≤ℤ limit
-  pub small : IsAmount (get_or (set x v (pos 0)) u (pos 0) +ℤ limit)
-
 pub raise_upto : (c : ℤ) (x : List ℤ) (u v : ℕ) (limit : ℤ) → AreCapped c x → u < length x → v < length x → u ≢ v → limit ≡ int_min (get_or x v (pos 0)) (c -ℤ get_or x u (pos 0)) → IsRaise x u v limit
 raise_upto c x u v limit all from onto ne is =
     let a = all.within u (pos 0) from in
@@ -70,25 +62,9 @@ raise_upto c x u v limit all from onto ne is =
     let high = all.high in
     let low : pos 0 ≤ℤ limit = omega (arith, ints, clamps, is, a.1, b.0) in
     record {
-      rest = without_amounts x v all.amounts;
+      from = from;
+      onto = onto;
+      rest = without_amounts x v (capped_amounts c x all);
       low = low;
       small = record { low = omega (arith, ints, e, low, a.0); high = omega (arith, ints, clamps, is, e, high) };
     }
-
--- what is asked of a second split: the demands d, which leave v nothing, and up to the limit more for u
-pub record IsAsked (c : ℤ) (x : List ℤ) (u v : ℕ) (limit : ℤ) (d : Demands) (demands : List ℤ) (lists : List (List ℕ)) (capacities : List ℤ) : Type 0 where
-  pub all : AreCapped c x
-  pub limit_is : limit ≡ int_min (get_or x v (pos 0)) (c -ℤ get_or x u (pos 0))
-  pub raise : IsRaise x u v limit
-  pub demands_are : demands ≡ d.demands
-  pub lists_are : lists ≡ d.lists
-  pub capacities_are : capacities ≡ d.capacities
-
--- what a sum tells of entries, by numbers as they are passed on in 128 bits
-pub sum_told : (even : Bool) (q w n size : ℤ) (x : List ℤ) → FitsSigned w128 q → IsGiven w → IsAtMost (10 ^ 21) n → n ≡ size
-    → IsTrue even ↔ (All (λ a. (pos 0 ≤ℤ a) × (a ≤ℤ (to_z w128 (of_z w128 q) *ℤ to_z w128 (of_z w128 w)))) x × (total_of x ≡ (to_z w128 (of_z w128 q) *ℤ to_z w128 (of_z w128 n))))
-    → IsTrue even ↔ (All (λ a. (pos 0 ≤ℤ a) × (a ≤ℤ (q *ℤ w))) x × (total_of x ≡ (q *ℤ size)))
-sum_told even q w n size x fq given small is told =
-    let fw : FitsSigned w128 w = given_fits w given in
-    let fn : FitsSigned w128 n = rank_fits n small in
-    rw is at (simp to_z-of_z at told)

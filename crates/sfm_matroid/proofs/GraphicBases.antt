@@ -1,6 +1,8 @@
 -- Bases of a graphic term by the tests of its code.
-use Rattle.std.proofs.Common.{◌≡◌, ◌↔◌, ℕ, ◌<◌, List, [], length, ℤ, pos, ◌*ℤ◌, ◌≤ℤ◌, sym, ◌∙◌}
+use Rattle.std.proofs.Common.{◌≡◌, ◌↔◌, ℕ, ◌<◌, ◌^◌, List, [], length, ℤ, pos, ◌*ℤ◌, ◌≤ℤ◌, to_z, of_z, sym, ap, ◌∙◌}
 use Rattle.std.specs.List.{All}
+use mir.Syntax.{w128}
+use Rattle.sfm_assign.specs.Splits.{IsAmount}
 use Rattle.sfm_spec.specs.Bounds.{IsFactor}
 use Rattle.sfm_spec.specs.Terms.{times, IsBase}
 use Rattle.sfm_spec.specs.Kinds.{Edge, IsForest}
@@ -9,11 +11,13 @@ use Rattle.sfm_rank.proofs.Bases.{IsTold, base_told, told_base}
 use Rattle.sfm_matroid.specs.Cuts.{IsWithinEnds}
 use Rattle.sfm_matroid.specs.Graphs.{graphic_rank, graphic_value, graphic_size}
 use Rattle.sfm_matroid.specs.Ends.{edges_of}
-use Rattle.sfm_matroid.specs.Numbered.{IsTail, numbered, vertex_count}
+use Rattle.sfm_matroid.specs.Amounts.{AreCapped, AreEndAmounts}
+use Rattle.sfm_matroid.specs.Numbered.{PassesTails, numbered, vertex_count}
 use Rattle.sfm_matroid.specs.declared.graphic.Graphic.{Graphic}
-use Rattle.sfm_matroid.proofs.Fits.{AreCapped, capped}
-use Rattle.sfm_matroid.proofs.Numbers.{numbered_below}
+use Rattle.sfm_matroid.proofs.Fits.{capped}
+use Rattle.sfm_matroid.proofs.Numbers.{length-numbered, numbered_below}
 use Rattle.sfm_matroid.proofs.OneTest.{tails_enough}
+use Rattle.sfm_matroid.proofs.Passed.{end_amounts_passed}
 use Rattle.sfm_matroid.specs.Forests.{forest-matroid, graphic-ranks}
 use Rattle.sfm_matroid.proofs.MatroidTests.{numbered_tests}
 
@@ -46,5 +50,13 @@ capped_base s q factor x sized base = capped q s.w factor s.low s.given x (base_
 
 -- the tests of the tails are enough, by the numbers of the ends as they are kept
 pub tails_tell : (s : Graphic) (c : ℤ) (x : List ℤ) → pos 0 ≤ℤ c
-    → ((a : ℕ) → a < s.graph.vertices → IsTail (edges_of s.graph.ends.items) a → IsWithinEnds (edges_of s.graph.ends.items) s.graph.vertices c x a) ↔ ((a : ℕ) → a < vertex_count s.ends → IsWithinEnds (numbered s.ends) (vertex_count s.ends) c x a)
+    → PassesTails (edges_of s.graph.ends.items) s.graph.vertices c x ↔ ((a : ℕ) → a < vertex_count s.ends → IsWithinEnds (numbered s.ends) (vertex_count s.ends) c x a)
 tails_tell s c x low = rw (s.of_ends, s.counted) ((λ within. tails_enough (numbered s.ends) (vertex_count s.ends) (numbered_below s.ends []) c low x within), (λ h a lt tail. h a lt))
+
+-- entries of a term are as many as its edges
+pub edges_sized : (s : Graphic) (x : List ℤ) → length x ≡ length s.places → length x ≡ length (numbered s.ends)
+edges_sized s x sized = sized ∙ (sym s.same_count ∙ sym (length-numbered s.ends []))
+
+-- and amounts of the edges that are kept, where a number is passed on
+pub end_amounts : (s : Graphic) (c : ℤ) → pos 0 ≤ℤ c → c ≤ℤ pos (10 ^ 24) → (x : List ℤ) → length x ≡ length s.places → All IsAmount x → AreEndAmounts (edges_of s.graph.ends.items) (to_z w128 (of_z w128 c)) x
+end_amounts s c low high x sized amounts = end_amounts_passed (edges_of s.graph.ends.items) c x (record { sized = edges_sized s x sized ∙ sym (ap length s.of_ends); amounts = amounts; low = low; high = high })

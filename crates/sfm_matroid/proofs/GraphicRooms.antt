@@ -5,6 +5,7 @@ use Rattle.std.proofs.Common.{◌≡◌, ◌≢◌, ℕ, ◌<◌, Bool, false, L
 use Rattle.std.proofs.lemmas.Bool.{cases_eq, cases_lt, false≢true}
 use Rattle.std.proofs.lemmas.Int.{ints, clamps, by_lt_z}
 use Rattle.std.specs.Int.{int_min}
+use Rattle.sfm_spec.specs.Bounds.{IsFactor}
 use Rattle.sfm_spec.specs.Rows.{Depends}
 use Rattle.sfm_spec.specs.Sets.{Has, sum_over}
 use Rattle.sfm_spec.specs.Terms.{times, IsBase, IsCapacity, HasRoom, exchanged}
@@ -16,6 +17,7 @@ use Rattle.sfm_assign.specs.Lenders.{IsMostUpto}
 use Rattle.sfm_law.specs.Room.{IsReach}
 use Rattle.sfm_law.proofs.Monotone.{AreCounts}
 use Rattle.sfm_rank.proofs.Bases.{raised-counts, lower, least_capacity, base_counts, given-counts, gives_room, room_gives}
+use Rattle.sfm_matroid.specs.Amounts.{CanHold}
 use Rattle.sfm_matroid.specs.Cuts.{IsWithinEnds}
 use Rattle.sfm_matroid.specs.Forests.{forest-matroid, graphic-ranks}
 use Rattle.sfm_matroid.specs.Givers.{IsGiver, IsRowIn}
@@ -24,8 +26,9 @@ use Rattle.sfm_matroid.specs.Graphs.{graphic_rank, graphic_value}
 use Rattle.sfm_matroid.specs.Notes.{end_demands}
 use Rattle.sfm_matroid.specs.Numbered.{IsEndOf, numbered, end_lists, vertex_capacities, vertex_count}
 use Rattle.sfm_matroid.specs.declared.graphic.Graphic.{Graphic}
-use Rattle.sfm_matroid.proofs.GraphicBases.{base_tests}
+use Rattle.sfm_matroid.proofs.GraphicBases.{base_tests, capped_base}
 use Rattle.sfm_matroid.proofs.MatroidTests.{numbered_tests}
+use Rattle.sfm_matroid.proofs.Numbering.{length-vertices, vertices_bounded}
 use Rattle.sfm_matroid.proofs.Numbers.{length-numbered, numbered_below}
 use Rattle.sfm_matroid.proofs.OneTest.{IsLessWithout, end_below, end_enough, less_exchanged, less_raised, more_exchanged}
 use Rattle.sfm_matroid.proofs.SplitTests.{split_within_ends, within_ends_split}
@@ -210,3 +213,15 @@ first_split k q w edges same low x kx base = ⊎_elim
 -- an end of an edge of a term is one of its vertices
 pub end_vertex : (s : Graphic) (u r : ℕ) → u < length s.places → IsEndOf (numbered s.ends) u r → r < vertex_count s.ends
 end_vertex s u r lt end = let l = length-numbered s.ends [] in let k = s.same_count in end_below (numbered s.ends) (vertex_count s.ends) (numbered_below s.ends []) u r (omega (arith, lt, l, k)) end
+
+-- what stays without v is split in the test of any vertex, beside the split of a base
+pub ends_hold : (s : Graphic) (q : ℤ) → IsFactor q → (x : List ℤ) → length x ≡ length s.places → IsBase (times q (graphic_value s.w s.ends)) x → (v r t : ℕ) → v < length x → r < vertex_count s.ends
+    → CanHold (end_demands (numbered s.ends) (vertex_count s.ends) (q *ℤ s.w) x t) x v (vertex_capacities (vertex_count s.ends) (q *ℤ s.w) r)
+ends_hold s q factor x sized base v r t xv lr =
+    let all = capped_base s q factor x sized base in
+    record {
+      sized = refl;
+      slots = length-vertices _ _ _ ∙ sym (length-vertices _ _ _);
+      bounded = vertices_bounded (vertex_count s.ends) (q *ℤ s.w) r all.low all.high;
+      met = rest_split (length s.places) q s.w s.ends s.same_count all.low x sized base v r xv lr;
+    }

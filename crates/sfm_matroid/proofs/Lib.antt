@@ -8,9 +8,11 @@ mod GraphicBases
 mod GraphicRooms
 mod TransversalBases
 mod Lending
+mod Options
 mod Noted
 mod SlotNotes
 mod Fits
+mod AnyRank
 mod Passed
 mod Kept
 mod Labels

@@ -5,6 +5,7 @@ pub mod Ends
 pub mod Numbered
 pub mod Cuts
 pub mod Givers
+pub mod Amounts
 pub mod Notes
 pub mod Matched
 pub mod Counting

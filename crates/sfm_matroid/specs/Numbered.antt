@@ -3,6 +3,7 @@
 use Rattle.std.proofs.Common.{◌≡◌, ◌⊎◌, ℕ, ◌<◌, List, [], ◌∷◌, ◌++◌, length, map, nat_eq, ℤ, pos, replicate, set, if◌then◌else◌}
 use Rattle.std.specs.List.{position_or_len}
 use Rattle.sfm_spec.specs.Kinds.{Edge}
+use Rattle.sfm_matroid.specs.Cuts.{IsWithinEnds}
 use Rattle.sfm_matroid.specs.Graphs.{edge_at}
 
 -- where v first stands in a list; its length where it does not
@@ -47,6 +48,10 @@ IsEnd edges v = (e : ℕ) × (e < length edges) × IsEndOf edges e v
 -- v is the tail of an edge
 abbrev pub IsTail : List Edge → ℕ → Type 0
 IsTail edges v = (e : ℕ) × (e < length edges) × (v ≡ (edge_at edges e).tail)
+
+-- no set of edges gets more than c for each of its ends but one, of m vertices, whichever tail that is
+abbrev pub PassesTails : List Edge → ℕ → ℤ → List ℤ → Type 0
+PassesTails edges m c x = (a : ℕ) → a < m → IsTail edges a → IsWithinEnds edges m c x a
 
 -- ---- edges as demands
 

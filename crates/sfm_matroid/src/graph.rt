@@ -4,8 +4,9 @@
 ghost use Rattle.std.specs.Prelude.{◌≡◌, ◌≤◌, length, IfOk, OnOk};
 ghost use Rattle.sfm_matroid.specs.Ends.{edges_of};
 ghost use Rattle.sfm_matroid.specs.Graphs.{EndsBelow};
-ghost use Rattle.sfm_matroid.specs.Numbered.{place_of, with_vertex, vertices_of, vertex_count, numbered};
+ghost use Rattle.sfm_matroid.specs.Numbered.{place_of, with_vertex, vertices_after, vertices_of, vertex_count, numbered};
 
+use crate::order::by_tails;
 use sfm_base::Memory;
 use std::alloc::Global;
 
@@ -16,6 +17,8 @@ pub(crate) struct Graph {
     pub ends: Vec<(usize, usize)>,
     /// How many vertices there are.
     pub vertices: usize,
+    /// The edges by their tails: one move of a root serves those with one tail.
+    pub order: Vec<usize>,
     pub ghost few: { length ends.items ≤ 256 },
     pub ghost below: { EndsBelow (edges_of ends.items) vertices },
     pub ghost small: { vertices ≤ 512 },
@@ -25,8 +28,8 @@ pub(crate) struct Graph {
 fn place(vertices: &[u32], v: u32) -> usize
     ensures { result ≡ place_of vertices.now v }
 {
-    for (i, u) in vertices.iter().enumerate() {
-        if *u == v {
+    for i in 0..vertices.len() {
+        if vertices[i] == v {
             return i;
         }
     }
@@ -43,15 +46,23 @@ fn put(vertices: &mut Vec<u32>, v: u32) -> Result<(), Memory>
     Ok(())
 }
 
+/// Puts the ends of edges behind vertices, tail before head, but those that stand there.
+fn put_ends(vertices: &mut Vec<u32>, ends: &[(u32, u32)]) -> Result<(), Memory>
+    ensures { OnOk result (vertices.new.items ≡ vertices_after vertices.old.items (edges_of ends.now)) }
+{
+    for pair in ends {
+        put(vertices, pair.0)?;
+        put(vertices, pair.1)?;
+    }
+    Ok(())
+}
+
 /// The vertices in the order in which they first stand among the ends.
 fn vertices(alloc: Global, ends: &[(u32, u32)]) -> Result<Vec<u32>, Memory>
     ensures { IfOk result (λ r. r.items ≡ vertices_of (edges_of ends.now)) }
 {
     let mut vertices = Vec::new(alloc);
-    for pair in ends {
-        put(&mut vertices, pair.0)?;
-        put(&mut vertices, pair.1)?;
-    }
+    put_ends(&mut vertices, ends)?;
     Ok(vertices)
 }
 
@@ -83,8 +94,11 @@ pub(crate) fn numbered(alloc: Global, ends: &[(u32, u32)]) -> Result<Graph, Memo
 {
     let vertices = vertices(alloc, ends)?;
     let numbers = placed(alloc, ends, &vertices)?;
+    let count = vertices.len();
+    let order = by_tails(alloc, &numbers, count)?;
     Ok(Graph {
         ends: numbers,
-        vertices: vertices.len(),
+        vertices: count,
+        order,
     })
 }

@@ -11,7 +11,6 @@ ghost use Rattle.sfm_spec.specs.Kinds.{IsForest, IsRank, IsRankFunction};
 ghost use Rattle.sfm_matroid.specs.Ends.{edges_of};
 ghost use Rattle.sfm_matroid.specs.Numbered.{IsEndOf, numbered, vertex_count};
 ghost use Rattle.sfm_matroid.specs.Notes.{graphic_fits, AreOverEnds, IsGraphicBase};
-ghost use Rattle.sfm_matroid.specs.declared.rooted.Spare.{Spare};
 ghost use Rattle.sfm_matroid.specs.Graphs.{graphic_rank, graphic_value, graphic_size, graphic_start, graphic_basis};
 ghost use Rattle.sfm_matroid.specs.GraphicLaws.{graphic-family, graphic-submodular, graphic-bounded, graphic-starts, graphic-starts_small};
 
@@ -19,13 +18,11 @@ use crate::ends::Ends;
 use crate::givers::row;
 use crate::graph::{Graph, numbered};
 use crate::growing::{basis_of, grow};
-use crate::order::by_tails;
 use crate::ranked::{adds_up, cap_of, worth, write_start};
-use crate::room::{limit_of, moved, second_of, without};
-use crate::rooted::{RootSplit, Spare, swap_spare, take_kept};
+use crate::room::{moved, pull_of};
+use crate::rooted::{RootSplit, let_splits_go, raise_spare, swap_spare};
 use crate::splits::split_of;
 use crate::testing::{brought, capacities, end_demand, passes_tails};
-use sfm_assign::Aim;
 use sfm_base::{Memory, Places, Set};
 use sfm_law::{Room, Term};
 use std::alloc::Global;
@@ -41,8 +38,6 @@ pub struct Graphic {
     pub basis: Set,
     /// The edges by the numbers of their ends: the tests that tell bases go over these.
     graph: Graph,
-    /// The edges by their tails: one move of a root serves those with one tail.
-    order: Vec<usize>,
     pub ghost elements: { AreElements places },
     pub ghost few: { length places ≤ 256 },
     pub ghost low: { pos 0 ≤ℤ w },
@@ -75,16 +70,14 @@ impl Graphic {
     {
         let places = Places::from_slice(alloc, elements)?;
         let basis = basis_of(alloc, ends)?;
+        let own = Ends::from_slice(alloc, ends)?;
         let graph = numbered(alloc, ends)?;
-        let order = by_tails(alloc, &graph)?;
-        let ends = Ends::from_slice(alloc, ends)?;
         Ok(Graphic {
             places,
             w,
-            ends,
+            ends: own,
             basis,
             graph,
-            order,
         })
     }
 
@@ -169,19 +162,26 @@ impl Graphic {
         self.bring(alloc, q, x, note, root)
     }
 
+    /// Whether there is a spare split, with its root at an end of u.
+    fn has_near(&self, note: &RootSplit, u: usize) -> bool
+        requires { u < length self.now.places }
+    {
+        match &note.spare {
+            Some(spare) => self.end_near(spare.root, u) == spare.root,
+            None => false,
+        }
+    }
+
     /// Takes the spare split in place of the one that is kept, if its root is an end of u. The other one is the spare then.
     fn take_spare(&self, note: &mut RootSplit, u: usize)
         requires place { u < length self.now.places }
         requires over { AreOverEnds (numbered self.now.ends) (vertex_count self.now.ends) note.old }
         ensures { AreOverEnds (numbered self.now.ends) (vertex_count self.now.ends) note.new }
     {
-        if let Some(spare) = note.spare.take() {
-            if self.end_near(spare.root, u) == spare.root {
-                swap_spare(note, spare);
-            } else {
-                note.spare = Some(spare);
-            }
+        if !self.has_near(note, u) {
+            return;
         }
+        swap_spare(note);
     }
 }
 
@@ -218,7 +218,7 @@ impl Term for Graphic {
     }
 
     fn order(&self) -> Option<&[usize]> {
-        Some(self.order.as_slice())
+        Some(self.graph.order.as_slice())
     }
 
     fn asks_at_once(&self) -> bool {
@@ -252,7 +252,7 @@ impl Term for Graphic {
     }
 
     fn is_base(&self, alloc: Global, q: i128, x: &[i128]) -> Result<bool, Memory> {
-        if !adds_up(x, q, self.w, self.size()) {
+        if !adds_up(x, q, self.w, &self.basis) {
             return Ok(false);
         }
         let passed = passes_tails(alloc, &self.graph, x, cap_of(q, self.w))?;
@@ -262,7 +262,9 @@ impl Term for Graphic {
     /// The room of (u, v) at a base, by a note that is made for it.
     fn room(&self, alloc: Global, q: i128, x: &[i128], u: usize, v: usize) -> Result<Room, Memory> {
         let mut note = self.note(alloc, q, x)?;
-        self.room_by(alloc, q, x, &mut note, u, v)
+        let room = self.room_by(alloc, q, x, &mut note, u, v);
+        let_splits_go(note);
+        room
     }
 
     /// Writes the places other than u to which u has room at a base, by a note that is made for it.
@@ -275,7 +277,9 @@ impl Term for Graphic {
         to: &mut Set,
     ) -> Result<(), Memory> {
         let mut note = self.note(alloc, q, x)?;
-        self.reach_by(alloc, q, x, &mut note, u, to)
+        let done = self.reach_by(alloc, q, x, &mut note, u, to);
+        let_splits_go(note);
+        done
     }
 
     /// The split in the test of a vertex.
@@ -316,17 +320,9 @@ impl Term for Graphic {
     ) -> Result<Room, Memory> {
         let cap = cap_of(q, self.w);
         let root = self.end_near(note.root, u);
-        let limit = limit_of(x, cap, u, v);
-        let rest = without(alloc, x, v)?;
+        let pull = pull_of(x, cap, u, v);
         let held = capacities(alloc, self.graph.vertices, cap, root)?;
-        let spare = take_kept(note);
-        let mut kept = second_of(alloc, &note.kept, spare)?;
-        let aim = Aim {
-            demands: &rest,
-            capacities: &held,
-        };
-        let most = kept.grow_from(alloc, &note.kept, &aim, u, limit)?;
-        note.spare = Some(Spare { root, kept });
+        let most = raise_spare(alloc, note, root, &held, x, &pull)?;
         Ok(Room::Upto(most))
     }
 

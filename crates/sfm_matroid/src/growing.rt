@@ -3,6 +3,7 @@
 // that of its head wherever it stands, so labels are equal exactly where a trail of taken edges joins the ends. No table of
 // vertices is needed, and k edges take k·k steps at most.
 ghost use Rattle.std.specs.Prelude.{◌≡◌, ◌<◌, true, length, map, slice_set, nat_eq, if◌then◌else◌, IfOk};
+ghost use Rattle.sfm_spec.specs.Sets.{empty_set};
 ghost use Rattle.sfm_matroid.specs.Graphs.{graphic_basis, renamed, taken};
 ghost use Rattle.sfm_matroid.specs.Ends.{edges_of, both_renamed, labels_at};
 
@@ -39,6 +40,19 @@ fn take(labels: &mut [(u32, u32)], t: &mut Set, e: usize)
     }
 }
 
+/// Takes the edges of a set to t one after another, by the labels of their ends, which are their vertices at first.
+fn take_each(labels: &mut [(u32, u32)], s: &Set, t: &mut Set)
+    requires places { length s.now ≡ length labels.old }
+    requires none { t.old ≡ empty_set (length s.now) }
+    ensures { t.new ≡ taken (edges_of labels.old) s.now (length labels.old) }
+{
+    for e in 0..s.len() {
+        if s.contains(e) {
+            take(labels, t, e);
+        }
+    }
+}
+
 /// The edges of a set that are taken one after another.
 pub(crate) fn grow(alloc: Global, ends: &[(u32, u32)], s: &Set) -> Result<Set, Memory>
     requires { length s.now ≡ length ends.now }
@@ -47,11 +61,7 @@ pub(crate) fn grow(alloc: Global, ends: &[(u32, u32)], s: &Set) -> Result<Set, M
 {
     let mut labels = Vec::from_slice(alloc, ends)?;
     let mut t = Set::empty(alloc, s.len())?;
-    for e in 0..s.len() {
-        if s.contains(e) {
-            take(&mut labels, &mut t, e);
-        }
-    }
+    take_each(&mut labels, s, &mut t);
     Ok(t)
 }
 
@@ -60,6 +70,5 @@ pub(crate) fn basis_of(alloc: Global, ends: &[(u32, u32)]) -> Result<Set, Memory
     ensures { IfOk result (λ t. t ≡ graphic_basis (edges_of ends.now)) }
 {
     let all = Set::whole(alloc, ends.len())?;
-    let basis = grow(alloc, ends, &all)?;
-    Ok(basis)
+    grow(alloc, ends, &all)
 }

@@ -1,15 +1,16 @@
 // The test that tells what slots of entries may hold: each element is a demand that is split over the slots of its entry, of
 // which each holds the same number at most. Where slots hold 1 each, places with a demand of 1 have slots of their own; so places
 // are taken one after another by one split, in which each in turn is raised to 1 if the others leave it a slot.
-ghost use Rattle.std.specs.Prelude.{◌≡◌, ◌↔◌, ◌+◌, ◌<◌, ◌≤◌, ◌^◌, length, replicate, pos, IfOk, IsTrue, OnOk};
+ghost use Rattle.std.specs.Prelude.{◌≡◌, ◌↔◌, ◌+◌, ◌<◌, ◌≤◌, ◌^◌, [], length, replicate, pos, IfOk, IsTrue, OnOk};
 ghost use Rattle.std.specs.List.{All};
-ghost use Rattle.sfm_assign.specs.Splits.{CanBeMet};
+ghost use Rattle.sfm_assign.specs.Splits.{CanBeMet, IsAmount};
+ghost use Rattle.sfm_spec.specs.Sets.{empty_set};
 ghost use Rattle.sfm_matroid.specs.Matched.{IsMatchedTo};
 ghost use Rattle.sfm_matroid.specs.Notes.{AreSlotAmounts, slot_demands};
 ghost use Rattle.sfm_matroid.specs.Slots.{suited, transversal_basis};
 
 use crate::entries::Entries;
-use crate::splits::split_of;
+use crate::splits::{let_go, split_of};
 use sfm_assign::{AssignEnd, Demand, Kept, assign};
 use sfm_base::{Memory, Set};
 use std::alloc::Global;
@@ -25,6 +26,26 @@ fn numbers(alloc: Global, slots: &[u32]) -> Result<Vec<usize>, Memory>
     Ok(numbers)
 }
 
+/// Puts the elements as demands that are split over the slots of their entries, where there are none before.
+fn push_slots(
+    alloc: Global,
+    entries: &Entries,
+    x: &[i128],
+    demand: &mut Demand,
+) -> Result<(), Memory>
+    requires few { length entries.now ≤ 256 }
+    requires sized { length x.now ≡ length entries.now }
+    requires amounts { All IsAmount x.now }
+    requires below { All (All (λ v. v < length demand.old.capacities)) entries.now }
+    requires none { (demand.old.demands ≡ []) × (demand.old.lists ≡ []) }
+    ensures { OnOk result (demand.new ≡ record { demands = x.now; lists = entries.now; capacities = demand.old.capacities }) }
+{
+    for (e, slots) in entries.as_slice().iter().enumerate() {
+        demand.push(x[e], numbers(alloc, slots.as_slice())?)?;
+    }
+    Ok(())
+}
+
 /// The elements as demands that are split over the slots of their entries, of which each of m holds a number.
 pub(crate) fn slot_demand(
     alloc: Global,
@@ -38,9 +59,7 @@ pub(crate) fn slot_demand(
 {
     let capacities = vec![in alloc; most; m]?;
     let mut demand = Demand::new(alloc, &capacities)?;
-    for (e, slots) in entries.as_slice().iter().enumerate() {
-        demand.push(x[e], numbers(alloc, slots.as_slice())?)?;
-    }
+    push_slots(alloc, entries, x, &mut demand)?;
     Ok(demand)
 }
 
@@ -64,8 +83,7 @@ fn untaken(alloc: Global, entries: &Entries, m: usize) -> Result<Kept, Memory>
 {
     let nothing = vec![in alloc; 0; entries.len()]?;
     let demand = slot_demand(alloc, entries, m, &nothing, 1)?;
-    let kept = split_of(alloc, demand)?;
-    Ok(kept)
+    split_of(alloc, demand)
 }
 
 /// Takes a place of a set to t, if the split of those that are taken can give it a slot too.
@@ -81,6 +99,20 @@ fn take(alloc: Global, kept: &mut Kept, s: &Set, t: &mut Set, e: usize) -> Resul
     Ok(())
 }
 
+/// Takes the places of a set one after another, if the split of those that are taken can give each a slot too.
+fn take_each(alloc: Global, kept: &mut Kept, s: &Set) -> Result<Set, Memory>
+    requires sized { length s.now ≡ length kept.old.demand.lists }
+    requires none { IsMatchedTo kept.old.demand.lists s.now 0 (empty_set (length kept.old.demand.lists)) kept.old.demand }
+    ensures places { IfOk result (λ t. length t ≡ length s.now) }
+    ensures taken { IfOk result (λ t. t ≡ suited kept.old.demand.lists s.now (length kept.old.demand.lists)) }
+{
+    let mut t = Set::empty(alloc, s.len())?;
+    for e in 0..s.len() {
+        take(alloc, kept, s, &mut t, e)?;
+    }
+    Ok(t)
+}
+
 /// The places of a set that are taken one after another while their slots suffice: a place is taken where the split of those
 /// that are taken can give it a slot too.
 pub(crate) fn matched(alloc: Global, entries: &Entries, s: &Set) -> Result<Set, Memory>
@@ -90,11 +122,9 @@ pub(crate) fn matched(alloc: Global, entries: &Entries, s: &Set) -> Result<Set, 
     ensures taken { IfOk result (λ t. t ≡ suited entries.now s.now (length entries.now)) }
 {
     let mut kept = untaken(alloc, entries, entries.above())?;
-    let mut t = Set::empty(alloc, s.len())?;
-    for e in 0..s.len() {
-        take(alloc, &mut kept, s, &mut t, e)?;
-    }
-    Ok(t)
+    let taken = take_each(alloc, &mut kept, s);
+    let_go(kept);
+    taken
 }
 
 /// The places that are taken one after another where all may be.
@@ -103,6 +133,5 @@ pub(crate) fn basis_of(alloc: Global, entries: &Entries) -> Result<Set, Memory>
     ensures { IfOk result (λ t. t ≡ transversal_basis entries.now) }
 {
     let all = Set::whole(alloc, entries.len())?;
-    let basis = matched(alloc, entries, &all)?;
-    Ok(basis)
+    matched(alloc, entries, &all)
 }

@@ -3,9 +3,10 @@
 ghost use Rattle.std.specs.Prelude.{◌≡◌, ◌↔◌, ◌<◌, ◌≤◌, ◌^◌, IsTrue, length, slice_index_or, pos, ◌*ℤ◌, ◌≤ℤ◌};
 ghost use Rattle.std.specs.List.{All};
 ghost use Rattle.sfm_assign.specs.Splits.{IsAmount};
-ghost use Rattle.sfm_spec.specs.Bounds.{IsAtMost, IsEntry, IsFactor, IsGiven, total_of};
+ghost use Rattle.sfm_spec.specs.Bounds.{IsAtMost, IsFactor, IsGiven, total_of};
 ghost use Rattle.sfm_spec.specs.Sets.{size};
 ghost use Rattle.sfm_rank.specs.Terms.{at_places};
+ghost use Rattle.sfm_matroid.specs.Amounts.{AreFactors, CanAdd, CanWeigh};
 
 use sfm_base::Set;
 use sfm_law::{are_within, has_sum, product};
@@ -24,9 +25,7 @@ fn ranked(w: i128, count: i128) -> i128
 
 /// The value of elements that are independent together.
 pub(crate) fn worth(w: i128, set: &Set) -> i128
-    requires low { pos 0 ≤ℤ w }
-    requires given { IsGiven w }
-    requires few { length set.now ≤ 256 }
+    requires { CanWeigh w set.now }
     ensures value { result ≡ w *ℤ pos (size set.now) }
     ensures small { IsAtMost (10 ^ 21) result }
 {
@@ -35,9 +34,7 @@ pub(crate) fn worth(w: i128, set: &Set) -> i128
 
 /// What no entry of a base of q times the term exceeds.
 pub(crate) fn cap_of(q: i128, w: i128) -> i128
-    requires factor { IsFactor q }
-    requires low { pos 0 ≤ℤ w }
-    requires given { IsGiven w }
+    requires { AreFactors q w }
     ensures value { result ≡ q *ℤ w }
     ensures low { pos 0 ≤ℤ result }
     ensures high { result ≤ℤ pos (10 ^ 24) }
@@ -76,20 +73,17 @@ pub(crate) fn write_start(q: i128, w: i128, set: &Set, x: &mut [i128])
     write_at(product(q, w), set, x);
 }
 
-/// Whether each entry is from 0 to q·w, and all together are q times a number.
-pub(crate) fn adds_up(x: &[i128], q: i128, w: i128, whole: i128) -> bool
-    requires factor { IsFactor q }
-    requires given { IsGiven w }
-    requires whole { IsAtMost (10 ^ 21) whole }
-    requires few { length x.now ≤ 256 }
-    requires small { All IsEntry x.now }
-    ensures told { IsTrue result ↔ (All (λ a. (pos 0 ≤ℤ a) × (a ≤ℤ (q *ℤ w))) x.now × (total_of x.now ≡ (q *ℤ whole))) }
+/// Whether each entry is from 0 to q·w, and all together are q times the value of a set.
+pub(crate) fn adds_up(x: &[i128], q: i128, w: i128, set: &Set) -> bool
+    requires { CanAdd q w x.now set.now }
+    ensures told { IsTrue result ↔ (All (λ a. (pos 0 ≤ℤ a) × (a ≤ℤ (q *ℤ w))) x.now × (total_of x.now ≡ (q *ℤ (w *ℤ pos (size set.now))))) }
     ensures amounts { IsTrue result → All IsAmount x.now }
 {
     let most = product(q, w);
     if !are_within(x, most) {
         return false;
     }
+    let whole = worth(w, set);
     let sum = product(q, whole);
     has_sum(x, sum)
 }

@@ -1,30 +1,40 @@
 // What the room of a pair at a base is found with: a split of what stays without the one that gives, in which the one that gets is
 // raised as far as all others leave room, up to what the other has and to what it lacks itself of the number that none exceeds.
-ghost use Rattle.std.specs.Prelude.{◌≡◌, ◌≢◌, ◌<◌, ◌≤◌, ◌^◌, length, slice_set, slice_index_or, pos, ◌-ℤ◌, ◌≤ℤ◌, IfOk, Some};
+ghost use Rattle.std.specs.Prelude.{◌≡◌, ◌≢◌, ◌<◌, length, slice_set, slice_index_or, pos, ◌-ℤ◌, IfOk};
 ghost use Rattle.std.specs.Int.{int_min};
-ghost use Rattle.std.specs.List.{All};
 ghost use Rattle.sfm_spec.specs.Terms.{exchanged};
-ghost use Rattle.sfm_assign.specs.Splits.{IsAmount};
-ghost use Rattle.sfm_assign.specs.declared.kept.Kept.{Kept};
+ghost use Rattle.sfm_assign.specs.Lenders.{with_more, IsMostUpto};
+ghost use Rattle.sfm_matroid.specs.Amounts.{AreCapped, CanMove, IsRaise, IsBeside, CanHold, rest_of};
 
-use sfm_assign::Kept;
+use sfm_assign::{Aim, Kept};
 use sfm_base::Memory;
 use std::alloc::Global;
 
-/// The lesser of what v has and what u lacks of a number.
-pub(crate) fn limit_of(x: &[i128], cap: i128, u: usize, v: usize) -> i128
-    requires amounts { All IsAmount x.now }
-    requires low { pos 0 ≤ℤ cap }
-    requires high { cap ≤ℤ pos (10 ^ 24) }
+/// A place that gets something, one that gives it, and how much that may be.
+#[derive(Drop)]
+pub(crate) struct Pull {
+    pub u: usize,
+    pub v: usize,
+    pub limit: i128,
+}
+
+/// What u may get of v: the lesser of what v has and what u lacks of a number.
+pub(crate) fn pull_of(x: &[i128], cap: i128, u: usize, v: usize) -> Pull
+    requires capped { AreCapped cap x.now }
     requires from { u < length x.now }
     requires onto { v < length x.now }
-    ensures { result ≡ int_min (slice_index_or x.now v (pos 0)) (cap -ℤ slice_index_or x.now u (pos 0)) }
+    requires apart { u ≢ v }
+    ensures u { result.u ≡ u }
+    ensures v { result.v ≡ v }
+    ensures limit { result.limit ≡ int_min (slice_index_or x.now v (pos 0)) (cap -ℤ slice_index_or x.now u (pos 0)) }
+    ensures raise { IsRaise x.now u v result.limit }
 {
-    x[v].min(cap - x[u])
+    let limit = x[v].min(cap - x[u]);
+    Pull { u, v, limit }
 }
 
 /// The entries, with nothing in a place.
-pub(crate) fn without(alloc: Global, x: &[i128], v: usize) -> Result<Vec<i128>, Memory>
+fn without(alloc: Global, x: &[i128], v: usize) -> Result<Vec<i128>, Memory>
     requires { v < length x.now }
     ensures { IfOk result (λ r. r.items ≡ slice_set x.now v (pos 0)) }
 {
@@ -41,11 +51,7 @@ pub(crate) fn moved(
     v: usize,
     a: i128,
 ) -> Result<Vec<i128>, Memory>
-    requires from { u < length x.now }
-    requires onto { v < length x.now }
-    requires apart { u ≢ v }
-    requires before { All IsAmount x.now }
-    requires after { All IsAmount (exchanged x.now u v a) }
+    requires { CanMove x.now u v a }
     ensures { IfOk result (λ r. r.items ≡ exchanged x.now u v a) }
 {
     let mut after = Vec::from_slice(alloc, x)?;
@@ -54,19 +60,31 @@ pub(crate) fn moved(
     Ok(after)
 }
 
-/// A split over the lists of another one, of whatever demands, for changes beside it: one that is at hand, or else a copy.
+/// Raises u in a second split beside one that is kept, in which v has nothing, as far as all others leave room, up to a limit;
+/// tells by how much.
 ///
 /// # Errors
 ///
 /// `Memory` where there is none.
-pub(crate) fn second_of(alloc: Global, kept: &Kept, spare: Option<Kept>) -> Result<Kept, Memory>
-    requires lists { (s : Kept) → spare ≡ Some s → s.demand.lists ≡ kept.now.demand.lists }
-    requires slots { (s : Kept) → spare ≡ Some s → length s.demand.capacities ≡ length kept.now.demand.capacities }
-    ensures lists { IfOk result (λ r. r.demand.lists ≡ kept.now.demand.lists) }
-    ensures slots { IfOk result (λ r. length r.demand.capacities ≡ length kept.now.demand.capacities) }
+pub(crate) fn raise(
+    alloc: Global,
+    kept: &Kept,
+    second: &mut Kept,
+    held: &[i128],
+    x: &[i128],
+    pull: &Pull,
+) -> Result<i128, Memory>
+    requires raise { IsRaise x.now pull.now.u pull.now.v pull.now.limit }
+    requires beside { IsBeside kept.now.demand second.old.demand }
+    requires held { CanHold kept.now.demand x.now pull.now.v held.now }
+    ensures most { IfOk result (IsMostUpto (rest_of kept.now.demand x.now pull.now.v held.now) pull.now.u pull.now.limit) }
+    ensures grown { IfOk result (λ r. second.new.demand ≡ with_more (rest_of kept.now.demand x.now pull.now.v held.now) pull.now.u r) }
 {
-    match spare {
-        Some(second) => Ok(second),
-        None => kept.copy(alloc),
-    }
+    let rest = without(alloc, x, pull.v)?;
+    let aim = Aim {
+        demands: &rest,
+        capacities: held,
+    };
+    let most = second.grow_from(alloc, kept, &aim, pull.u, pull.limit)?;
+    Ok(most)
 }

@@ -2,15 +2,18 @@
 // hold the same number at most, and that vertex nothing. The tests of the tails are enough: a part of the edges has the tail of
 // each of its edges, so the test of that tail asks no less of it than any other. One split is made from nothing, and brought
 // from each tail to the next.
-ghost use Rattle.std.specs.Prelude.{◌≡◌, ℕ, ◌↔◌, ◌<◌, ◌≤◌, ◌^◌, length, pos, ◌≤ℤ◌, IfOk, IsTrue};
+ghost use Rattle.std.specs.Prelude.{◌≡◌, ◌↔◌, ◌<◌, ◌≤◌, [], length, IfOk, IsTrue, OnOk};
 ghost use Rattle.std.specs.List.{All};
 ghost use Rattle.sfm_assign.specs.Splits.{IsAmount, CanBeMet};
 ghost use Rattle.sfm_matroid.specs.Ends.{edges_of};
+ghost use Rattle.sfm_matroid.specs.Amounts.{AreEndAmounts};
 ghost use Rattle.sfm_matroid.specs.Cuts.{IsWithinEnds};
+ghost use Rattle.sfm_matroid.specs.Graphs.{EndsBelow};
 ghost use Rattle.sfm_matroid.specs.Notes.{end_demands, IsOverEnds, IsSplitOrNone};
-ghost use Rattle.sfm_matroid.specs.Numbered.{IsTail, end_lists, vertex_capacities};
+ghost use Rattle.sfm_matroid.specs.Numbered.{IsTail, PassesTails, end_lists, vertex_capacities};
 
 use crate::graph::Graph;
+use crate::splits::{can_bring, let_go};
 use sfm_assign::{AssignEnd, Demand, Kept};
 use sfm_base::Memory;
 use std::alloc::Global;
@@ -26,6 +29,27 @@ pub(crate) fn capacities(alloc: Global, m: usize, most: i128, a: usize) -> Resul
     Ok(capacities)
 }
 
+/// Puts the edges as demands that are split over their ends, where there are none before.
+fn push_ends(
+    alloc: Global,
+    ends: &[(usize, usize)],
+    x: &[i128],
+    demand: &mut Demand,
+) -> Result<(), Memory>
+    requires few { length ends.now ≤ 256 }
+    requires sized { length x.now ≡ length ends.now }
+    requires amounts { All IsAmount x.now }
+    requires below { EndsBelow (edges_of ends.now) (length demand.old.capacities) }
+    requires none { (demand.old.demands ≡ []) × (demand.old.lists ≡ []) }
+    ensures { OnOk result (demand.new ≡ record { demands = x.now; lists = end_lists (edges_of ends.now); capacities = demand.old.capacities }) }
+{
+    for e in 0..ends.len() {
+        let (tail, head) = ends[e];
+        demand.push(x[e], vec![in alloc; tail, head]?)?;
+    }
+    Ok(())
+}
+
 /// The edges as demands that are split over their ends, of which each holds a number, and the vertex a nothing.
 pub(crate) fn end_demand(
     alloc: Global,
@@ -34,17 +58,12 @@ pub(crate) fn end_demand(
     most: i128,
     a: usize,
 ) -> Result<Demand, Memory>
-    requires entries { length x.now ≡ length graph.now.ends.items }
-    requires amounts { All IsAmount x.now }
-    requires low { pos 0 ≤ℤ most }
-    requires high { most ≤ℤ pos (10 ^ 24) }
+    requires { AreEndAmounts (edges_of graph.now.ends.items) most x.now }
     ensures { IfOk result (λ r. r ≡ end_demands (edges_of graph.now.ends.items) graph.now.vertices most x.now a) }
 {
     let capacities = capacities(alloc, graph.vertices, most, a)?;
     let mut demand = Demand::new(alloc, &capacities)?;
-    for (e, pair) in graph.ends.iter().enumerate() {
-        demand.push(x[e], vec![in alloc; pair.0, pair.1]?)?;
-    }
+    push_ends(alloc, &graph.ends, x, &mut demand)?;
     Ok(demand)
 }
 
@@ -56,10 +75,7 @@ fn split(
     most: i128,
     a: usize,
 ) -> Result<Option<Kept>, Memory>
-    requires entries { length x.now ≡ length graph.now.ends.items }
-    requires amounts { All IsAmount x.now }
-    requires low { pos 0 ≤ℤ most }
-    requires high { most ≤ℤ pos (10 ^ 24) }
+    requires { AreEndAmounts (edges_of graph.now.ends.items) most x.now }
     ensures { IfOk result (IsSplitOrNone (end_demands (edges_of graph.now.ends.items) graph.now.vertices most x.now a)) }
 {
     let demand = end_demand(alloc, graph, x, most, a)?;
@@ -83,23 +99,13 @@ pub(crate) fn brought(
     most: i128,
     a: usize,
 ) -> Result<bool, Memory>
-    requires entries { length x.now ≡ length graph.now.ends.items }
+    requires amounts { AreEndAmounts (edges_of graph.now.ends.items) most x.now }
     requires over { IsOverEnds (edges_of graph.now.ends.items) graph.now.vertices kept.old.demand }
-    requires amounts { All IsAmount x.now }
-    requires low { pos 0 ≤ℤ most }
-    requires high { most ≤ℤ pos (10 ^ 24) }
     ensures told { IfOk result (λ r. IsTrue r ↔ CanBeMet x.now (end_lists (edges_of graph.now.ends.items)) (vertex_capacities graph.now.vertices most a)) }
     ensures brought { IfOk result (λ r. IsTrue r → kept.new.demand ≡ end_demands (edges_of graph.now.ends.items) graph.now.vertices most x.now a) }
 {
     let capacities = capacities(alloc, graph.vertices, most, a)?;
-    match kept.bring(alloc, x, &capacities) {
-        Ok(()) => {
-            kept.are_met();
-            Ok(true)
-        }
-        Err(AssignEnd::Shortage { .. }) => Ok(false),
-        Err(AssignEnd::Memory) => Err(Memory),
-    }
+    can_bring(alloc, kept, x, &capacities)
 }
 
 /// Whether a vertex is the tail of an edge.
@@ -124,10 +130,7 @@ fn passes_tail(
     most: i128,
     a: usize,
 ) -> Result<bool, Memory>
-    requires entries { length x.now ≡ length graph.now.ends.items }
-    requires amounts { All IsAmount x.now }
-    requires low { pos 0 ≤ℤ most }
-    requires high { most ≤ℤ pos (10 ^ 24) }
+    requires amounts { AreEndAmounts (edges_of graph.now.ends.items) most x.now }
     requires vertex { a < graph.now.vertices }
     requires over { IsOverEnds (edges_of graph.now.ends.items) graph.now.vertices kept.old.demand }
     ensures told { IfOk result (λ r. IsTrue r ↔ (IsTail (edges_of graph.now.ends.items) a → IsWithinEnds (edges_of graph.now.ends.items) graph.now.vertices most x.now a)) }
@@ -149,12 +152,9 @@ fn passes_each(
     x: &[i128],
     most: i128,
 ) -> Result<bool, Memory>
-    requires entries { length x.now ≡ length graph.now.ends.items }
-    requires amounts { All IsAmount x.now }
-    requires low { pos 0 ≤ℤ most }
-    requires high { most ≤ℤ pos (10 ^ 24) }
+    requires amounts { AreEndAmounts (edges_of graph.now.ends.items) most x.now }
     requires over { IsOverEnds (edges_of graph.now.ends.items) graph.now.vertices kept.old.demand }
-    ensures { IfOk result (λ r. IsTrue r ↔ ((a : ℕ) → a < graph.now.vertices → IsTail (edges_of graph.now.ends.items) a → IsWithinEnds (edges_of graph.now.ends.items) graph.now.vertices most x.now a)) }
+    ensures { IfOk result (λ r. IsTrue r ↔ PassesTails (edges_of graph.now.ends.items) graph.now.vertices most x.now) }
 {
     for a in 0..graph.vertices {
         if !passes_tail(alloc, graph, kept, x, most, a)? {
@@ -175,21 +175,17 @@ pub(crate) fn passes_tails(
     x: &[i128],
     most: i128,
 ) -> Result<bool, Memory>
-    requires entries { length x.now ≡ length graph.now.ends.items }
-    requires amounts { All IsAmount x.now }
-    requires low { pos 0 ≤ℤ most }
-    requires high { most ≤ℤ pos (10 ^ 24) }
-    ensures { IfOk result (λ r. IsTrue r ↔ ((a : ℕ) → a < graph.now.vertices → IsTail (edges_of graph.now.ends.items) a → IsWithinEnds (edges_of graph.now.ends.items) graph.now.vertices most x.now a)) }
+    requires { AreEndAmounts (edges_of graph.now.ends.items) most x.now }
+    ensures { IfOk result (λ r. IsTrue r ↔ PassesTails (edges_of graph.now.ends.items) graph.now.vertices most x.now) }
 {
     if graph.ends.is_empty() {
         return Ok(true);
     }
     let first = graph.ends[0].0;
-    match split(alloc, graph, x, most, first)? {
-        Some(mut kept) => {
-            let passed = passes_each(alloc, graph, &mut kept, x, most)?;
-            Ok(passed)
-        }
-        None => Ok(false),
-    }
+    let Some(mut kept) = split(alloc, graph, x, most, first)? else {
+        return Ok(false);
+    };
+    let passed = passes_each(alloc, graph, &mut kept, x, most);
+    let_go(kept);
+    passed
 }

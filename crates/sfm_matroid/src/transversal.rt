@@ -17,9 +17,8 @@ use crate::entries::Entries;
 use crate::givers::row;
 use crate::matching::{basis_of, can_be_met, matched, slot_demand};
 use crate::ranked::{adds_up, cap_of, worth, write_start};
-use crate::room::{limit_of, moved, second_of, without};
-use crate::splits::{SlotSplit, bring_split, keep_spare, slot_split};
-use sfm_assign::Aim;
+use crate::room::{moved, pull_of};
+use crate::splits::{SlotSplit, bring_split, keep_spare, let_splits_go, raise_spare, slot_split};
 use sfm_base::{Memory, Places, Set};
 use sfm_law::{Room, Term};
 use std::alloc::Global;
@@ -124,6 +123,16 @@ impl Term for Transversal {
         self.places.as_slice()
     }
 
+    // These two, and `reach_with`, are as in the trait. As they stand here, nothing has to be proved of how notes of any kind are
+    // let go.
+    fn order(&self) -> Option<&[usize]> {
+        None
+    }
+
+    fn asks_at_once(&self) -> bool {
+        false
+    }
+
     /// The greatest value: that of all elements.
     fn size(&self) -> i128
         ensures value { result ≡ transversal_size self.now.w self.now.entries }
@@ -152,18 +161,19 @@ impl Term for Transversal {
 
     fn is_base(&self, alloc: Global, q: i128, x: &[i128]) -> Result<bool, Memory> {
         let m = self.entries.above();
-        if !adds_up(x, q, self.w, self.size()) {
+        if !adds_up(x, q, self.w, &self.basis) {
             return Ok(false);
         }
         let demand = slot_demand(alloc, &self.entries, m, x, cap_of(q, self.w))?;
-        let held = can_be_met(alloc, &demand)?;
-        Ok(held)
+        can_be_met(alloc, &demand)
     }
 
     /// The room of (u, v) at a base, by a note that is made for it.
     fn room(&self, alloc: Global, q: i128, x: &[i128], u: usize, v: usize) -> Result<Room, Memory> {
         let mut note = self.note(alloc, q, x)?;
-        self.room_by(alloc, q, x, &mut note, u, v)
+        let room = self.room_by(alloc, q, x, &mut note, u, v);
+        let_splits_go(note);
+        room
     }
 
     /// Writes the places other than u to which u has room at a base, by a note that is made for it.
@@ -176,15 +186,16 @@ impl Term for Transversal {
         to: &mut Set,
     ) -> Result<(), Memory> {
         let mut note = self.note(alloc, q, x)?;
-        self.reach_by(alloc, q, x, &mut note, u, to)
+        let done = self.reach_by(alloc, q, x, &mut note, u, to);
+        let_splits_go(note);
+        done
     }
 
     /// The split in the test that tells a base.
     fn note(&self, alloc: Global, q: i128, x: &[i128]) -> Result<SlotSplit, Memory> {
         let cap = cap_of(q, self.w);
         let m = self.entries.above();
-        let note = slot_split(alloc, &self.entries, m, x, cap)?;
-        Ok(note)
+        slot_split(alloc, &self.entries, m, x, cap)
     }
 
     /// Writes the places other than u to which u has room at a base, by the split that is kept beside it.
@@ -202,6 +213,20 @@ impl Term for Transversal {
         Ok(())
     }
 
+    /// Writes what `reach_by` does.
+    fn reach_with(
+        &self,
+        alloc: Global,
+        q: i128,
+        x: &[i128],
+        note: &mut SlotSplit,
+        _s: usize,
+        u: usize,
+        to: &mut Set,
+    ) -> Result<(), Memory> {
+        self.reach_by(alloc, q, x, note, u, to)
+    }
+
     /// The room of (u, v) at a base, by a second split beside the one that is kept, which stays. The second one, with nothing at v
     /// and as much more at u, is left as the spare.
     fn room_by(
@@ -214,18 +239,11 @@ impl Term for Transversal {
         v: usize,
     ) -> Result<Room, Memory> {
         let cap = cap_of(q, self.w);
-        let limit = limit_of(x, cap, u, v);
-        if limit == 0 {
+        let pull = pull_of(x, cap, u, v);
+        if pull.limit == 0 {
             return Ok(Room::Upto(0));
         }
-        let rest = without(alloc, x, v)?;
-        let mut second = second_of(alloc, &note.kept, note.spare.take())?;
-        let aim = Aim {
-            demands: &rest,
-            capacities: &note.capacities,
-        };
-        let most = second.grow_from(alloc, &note.kept, &aim, u, limit)?;
-        note.spare = Some(second);
+        let most = raise_spare(alloc, note, x, &pull)?;
         Ok(Room::Upto(most))
     }
 

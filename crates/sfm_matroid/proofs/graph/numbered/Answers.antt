@@ -14,13 +14,13 @@ invariant_of-result-clause-few c =
 pub invariant_of-result-clause-below : goal.invariant_of-result-clause-below
 invariant_of-result-clause-below c =
     let edges = edges_of c.args.ends.now in
-    let count : c.len.result ≡ vertex_count edges = c.len.ensures ∙ (c.in_ok-vertices.vertices.ok.0 ∙ ap length c.in_ok-vertices.ensures) in
+    let count : c.len-count.result ≡ vertex_count edges = c.len-count.ensures ∙ (c.in_ok-vertices.vertices.ok.0 ∙ ap length c.in_ok-vertices.ensures) in
     rw (c.in_ok-numbers.ensures, count) (numbered_below edges [])
 
 pub invariant_of-result-clause-small : goal.invariant_of-result-clause-small
 invariant_of-result-clause-small c =
     let edges = edges_of c.args.ends.now in
-    let count : c.len.result ≡ vertex_count edges = c.len.ensures ∙ (c.in_ok-vertices.vertices.ok.0 ∙ ap length c.in_ok-vertices.ensures) in
+    let count : c.len-count.result ≡ vertex_count edges = c.len-count.ensures ∙ (c.in_ok-vertices.vertices.ok.0 ∙ ap length c.in_ok-vertices.ensures) in
     let few = few_vertices edges in
     let l = length-edges c.args.ends.now in
     omega (arith, count, few, l, c.requires)

@@ -1,5 +1,6 @@
 use Rattle.std.proofs.Common.{◌∙◌, length, ap}
 use Rattle.std.proofs.lemmas.List.{length-replicate}
+use Rattle.std.proofs.lemmas.Result.{IfOk-weaker}
 use Rattle.sfm_spec.specs.Sets.{whole_set}
 use Rattle.sfm_matroid.specs.Slots.{suited}
 use Rattle.sfm_matroid.proofs.matching.basis_of.Goals as goal
@@ -13,4 +14,5 @@ matched-requires-clause-places c = ap length c.in_ok-all.ensures ∙ (length-rep
 pub returns : goal.returns
 returns c =
     let entries = c.args.entries.now in
-    c.in_ok-basis.ensures.taken ∙ ap (λ s. suited entries s (length entries)) (c.in_ok-all.ensures ∙ ap whole_set c.len.ensures)
+    let all = ap (λ s. suited entries s (length entries)) (c.in_ok-all.ensures ∙ ap whole_set c.len.ensures) in
+    IfOk-weaker c.matched.result _ _ (λ t is. is ∙ all) c.matched.ensures.taken

@@ -1,7 +1,8 @@
-use Rattle.std.proofs.Common.{◌≡◌, length, replicate, pos, refl, arith, rules}
+use Rattle.std.proofs.Common.{◌≡◌, length, replicate, pos, ◌∙◌, arith, rules}
 use Rattle.std.proofs.lemmas.Int.{ints}
 use Rattle.std.proofs.lemmas.List.{length-replicate}
 use Rattle.std.proofs.lemmas.List.Elements.{All-replicate}
+use Rattle.std.proofs.lemmas.Result.{IfOk-weaker}
 use Rattle.sfm_assign.specs.Splits.{IsAmount}
 use Rattle.sfm_matroid.proofs.Matched.{none_met}
 use Rattle.sfm_matroid.proofs.matching.untaken.Goals as goal
@@ -28,4 +29,5 @@ split_of-requires c =
 pub returns : goal.returns
 returns c =
     let h : c.in_ok-nothing.nothing.items ≡ replicate (length c.args.entries.now) (pos 0) = search rules in
-    rw (c.in_ok-kept.ensures, c.in_ok-demand.ensures, c.deref.ensures.value, h) refl
+    let is = rw (c.deref.ensures.value, h) at c.in_ok-demand.ensures in
+    IfOk-weaker c.split_of.result _ _ (λ kept same. same ∙ is) c.split_of.ensures

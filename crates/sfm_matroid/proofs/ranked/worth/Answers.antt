@@ -12,7 +12,7 @@ ranked-requires-clause-few c =
     omega (arith, ints, z, c.size.ensures, b, c.requires.few)
 
 pub ranked-requires-clause-low : goal.ranked-requires-clause-low
-ranked-requires-clause-low c = low_passed c.args.w c.requires.given c.requires.low
+ranked-requires-clause-low c = low_passed c.args.w c.requires.weight.given c.requires.weight.low
 
 pub ranked-requires-clause-given : goal.ranked-requires-clause-given
-ranked-requires-clause-given c = given_passed c.args.w c.requires.given
+ranked-requires-clause-given c = given_passed c.args.w c.requires.weight.given

@@ -1,5 +1,4 @@
-use Rattle.std.proofs.Common.{◌≢◌, ℕ, ◌<◌, List, length, get_or, ℤ, pos, ◌+ℤ◌, ◌-ℤ◌, arith, FitsSigned, refl}
-use Rattle.std.specs.List.{All}
+use Rattle.std.proofs.Common.{ℕ, List, get_or, ℤ, pos, ◌+ℤ◌, ◌-ℤ◌, to_z, of_z, arith, FitsSigned, refl}
 use Rattle.std.proofs.lemmas.Int.{to_z-of_z}
 use Rattle.std.proofs.lemmas.List.Elements.{All-get_or}
 use mir.Syntax.{w128}
@@ -7,8 +6,15 @@ use Rattle.sfm_spec.specs.Terms.{exchanged}
 use Rattle.sfm_spec.proofs.Sums.{length-exchanged}
 use Rattle.sfm_spec.proofs.MoveOrder.{exchanged-first, exchanged-second}
 use Rattle.sfm_assign.specs.Splits.{IsAmount}
+use Rattle.sfm_matroid.specs.Amounts.{CanMove}
 use Rattle.sfm_matroid.proofs.Fits.{amount_fits}
 use Rattle.sfm_matroid.proofs.room.moved.Goals as goal
+
+sum_passed : (a b : ℤ) → FitsSigned w128 a → FitsSigned w128 b → FitsSigned w128 (a +ℤ b) → FitsSigned w128 (to_z w128 (of_z w128 a) +ℤ to_z w128 (of_z w128 b))
+sum_passed a b fa fb h = simp to_z-of_z h
+
+difference_passed : (a b : ℤ) → FitsSigned w128 a → FitsSigned w128 b → FitsSigned w128 (a -ℤ b) → FitsSigned w128 (to_z w128 (of_z w128 a) -ℤ to_z w128 (of_z w128 b))
+difference_passed a b fa fb h = simp to_z-of_z h
 
 -- what u and v have before and after
 record DoFit (x : List ℤ) (u v : ℕ) (a : ℤ) : Type 0 where
@@ -17,40 +23,29 @@ record DoFit (x : List ℤ) (u v : ℕ) (a : ℤ) : Type 0 where
   has_v : FitsSigned w128 (get_or x v (pos 0))
   less : FitsSigned w128 (get_or x v (pos 0) -ℤ a)
 
-do_fit : (x : List ℤ) (u v : ℕ) (a : ℤ) → u < length x → v < length x → u ≢ v → All IsAmount x → All IsAmount (exchanged x u v a) → DoFit x u v a
-do_fit x u v a from onto apart before after =
+do_fit : (x : List ℤ) (u v : ℕ) (a : ℤ) → CanMove x u v a → DoFit x u v a
+do_fit x u v a r =
     let l = length-exchanged x u v a in
-    let eu = rw (exchanged-first x u v a from apart) at (All-get_or IsAmount (exchanged x u v a) u (pos 0) (omega (arith, from, l)) after) in
-    let ev = rw (exchanged-second x u v a onto) at (All-get_or IsAmount (exchanged x u v a) v (pos 0) (omega (arith, onto, l)) after) in
+    let eu = rw (exchanged-first x u v a r.from r.apart) at (All-get_or IsAmount (exchanged x u v a) u (pos 0) (omega (arith, r.from, l)) r.after) in
+    let ev = rw (exchanged-second x u v a r.onto) at (All-get_or IsAmount (exchanged x u v a) v (pos 0) (omega (arith, r.onto, l)) r.after) in
     record {
-      has_u = amount_fits _ (All-get_or IsAmount x u (pos 0) from before);
+      has_u = amount_fits _ (All-get_or IsAmount x u (pos 0) r.from r.before);
       more = amount_fits _ eu;
-      has_v = amount_fits _ (All-get_or IsAmount x v (pos 0) onto before);
+      has_v = amount_fits _ (All-get_or IsAmount x v (pos 0) r.onto r.before);
       less = amount_fits _ ev;
     }
 
 pub overflow_add-x : goal.overflow_add-x
-overflow_add-x c =
-    let r = c.requires in
-    let h = do_fit c.args.x.now c.args.u c.args.v c.args.a r.from r.onto r.apart r.before r.after in
-    let fa : FitsSigned w128 c.args.a = c.ranges.a in
-    let fu : FitsSigned w128 (get_or c.args.x.now c.args.u (pos 0)) = h.has_u in
-    simp to_z-of_z h.more
+overflow_add-x c = let h = do_fit c.args.x.now c.args.u c.args.v c.args.a c.requires in sum_passed _ _ h.has_u c.ranges.a h.more
 
 pub overflow_sub-x : goal.overflow_sub-x
-overflow_sub-x c =
-    let r = c.requires in
-    let h = do_fit c.args.x.now c.args.u c.args.v c.args.a r.from r.onto r.apart r.before r.after in
-    let fa : FitsSigned w128 c.args.a = c.ranges.a in
-    let fv : FitsSigned w128 (get_or c.args.x.now c.args.v (pos 0)) = h.has_v in
-    simp to_z-of_z h.less
+overflow_sub-x c = let h = do_fit c.args.x.now c.args.u c.args.v c.args.a c.requires in difference_passed _ _ h.has_v c.ranges.a h.less
 
 pub returns : goal.returns
 returns c =
-    let r = c.requires in
     let x = c.args.x.now in
     let a = c.args.a in
-    let h = do_fit x c.args.u c.args.v a r.from r.onto r.apart r.before r.after in
+    let h = do_fit x c.args.u c.args.v a c.requires in
     let fa : FitsSigned w128 a = c.ranges.a in
     let fu : FitsSigned w128 (get_or x c.args.u (pos 0)) = h.has_u in
     let fs : FitsSigned w128 (get_or x c.args.u (pos 0) +ℤ a) = h.more in

@@ -2,7 +2,7 @@ use Rattle.std.proofs.Common.{◌≡◌, ℕ, ◌<◌, ⊎_elim, arith, FitsSign
 use Rattle.std.proofs.lemmas.Bool.{both_ways, cases_lt, false≢true}
 use Rattle.std.proofs.lemmas.Int.{to_z-of_z}
 use mir.Syntax.{w128}
-use Rattle.sfm_matroid.proofs.Passed.{cap_high, cap_low}
+use Rattle.sfm_matroid.proofs.Passed.{end_amounts_passed}
 use Rattle.sfm_matroid.proofs.testing.passes_each.Goals as goal
 
 pub loop-a-preserved : goal.loop-a-preserved
@@ -24,17 +24,8 @@ returns-then-not-branch c =
     let told = simp to_z-of_z at c.in_ok-passes_tail.ensures.told in
     ((λ t. absurd (false≢true t)), (λ h. absurd (both_ways c.in_ok-passes_tail.field-0 c.if-not-branch.true (told.1 (h c.loop-a.a c.loop-a-test.true)))))
 
-pub passes_tail-requires-clause-entries : goal.passes_tail-requires-clause-entries
-passes_tail-requires-clause-entries c = c.requires.entries
-
 pub passes_tail-requires-clause-amounts : goal.passes_tail-requires-clause-amounts
-passes_tail-requires-clause-amounts c = c.requires.amounts
-
-pub passes_tail-requires-clause-low : goal.passes_tail-requires-clause-low
-passes_tail-requires-clause-low c = cap_low c.args.most c.requires.low c.requires.high
-
-pub passes_tail-requires-clause-high : goal.passes_tail-requires-clause-high
-passes_tail-requires-clause-high c = cap_high c.args.most c.requires.low c.requires.high
+passes_tail-requires-clause-amounts c = end_amounts_passed _ c.args.most c.args.x.now c.requires.amounts
 
 pub passes_tail-requires-clause-over : goal.passes_tail-requires-clause-over
 passes_tail-requires-clause-over c = c.loop-a.invariant.over

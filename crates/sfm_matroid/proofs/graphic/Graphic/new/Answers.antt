@@ -16,16 +16,16 @@ pub invariant_of-result-clause-few : goal.invariant_of-result-clause-few
 invariant_of-result-clause-few c = rw c.in_ok-places.ensures (placed_few 256 c.args.elements.now c.requires.elements.placed)
 
 pub invariant_of-result-clause-same_count : goal.invariant_of-result-clause-same_count
-invariant_of-result-clause-same_count c = ap length c.in_ok-ends.ensures ∙ (length-edges c.args.ends.now ∙ (c.requires.same_count ∙ ap length (sym c.in_ok-places.ensures)))
+invariant_of-result-clause-same_count c = ap length c.in_ok-own.ensures ∙ (length-edges c.args.ends.now ∙ (c.requires.same_count ∙ ap length (sym c.in_ok-places.ensures)))
 
 pub invariant_of-result-clause-based : goal.invariant_of-result-clause-based
-invariant_of-result-clause-based c = c.in_ok-basis.ensures ∙ ap graphic_basis (sym c.in_ok-ends.ensures)
+invariant_of-result-clause-based c = c.in_ok-basis.ensures ∙ ap graphic_basis (sym c.in_ok-own.ensures)
 
 pub invariant_of-result-clause-of_ends : goal.invariant_of-result-clause-of_ends
-invariant_of-result-clause-of_ends c = c.in_ok-graph.ensures.ends ∙ ap numbered (sym c.in_ok-ends.ensures)
+invariant_of-result-clause-of_ends c = c.in_ok-graph.ensures.ends ∙ ap numbered (sym c.in_ok-own.ensures)
 
 pub invariant_of-result-clause-counted : goal.invariant_of-result-clause-counted
-invariant_of-result-clause-counted c = c.in_ok-graph.ensures.vertices ∙ ap vertex_count (sym c.in_ok-ends.ensures)
+invariant_of-result-clause-counted c = c.in_ok-graph.ensures.vertices ∙ ap vertex_count (sym c.in_ok-own.ensures)
 
 pub invariant_of-result-clause-elements : goal.invariant_of-result-clause-elements
 invariant_of-result-clause-elements c = rw c.in_ok-places.ensures c.requires.elements
@@ -43,4 +43,4 @@ pub returns-clause-number : goal.returns-clause-number
 returns-clause-number c = to_z-of_z w128 c.args.w (given_fits c.args.w c.requires.given)
 
 pub returns-clause-ends : goal.returns-clause-ends
-returns-clause-ends c = c.in_ok-ends.ensures
+returns-clause-ends c = c.in_ok-own.ensures

@@ -1,5 +1,6 @@
 use Rattle.sfm_matroid.proofs.Kept.{graphic_kept}
+use Rattle.sfm_matroid.proofs.Passed.{weigh_passed}
 use Rattle.sfm_matroid.proofs.graphic.GraphicTerm.size.Goals as goal
 
-pub worth-requires-clause-few : goal.worth-requires-clause-few
-worth-requires-clause-few c = let s = c.args.self.now in rw (graphic_kept s) s.few
+pub worth-requires : goal.worth-requires
+worth-requires c = let s = c.args.self.now in weigh_passed s.w s.basis s.given s.low (rw (graphic_kept s) s.few)

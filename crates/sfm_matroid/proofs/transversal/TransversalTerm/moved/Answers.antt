@@ -5,7 +5,9 @@ use mir.Syntax.{w128}
 use Rattle.sfm_spec.specs.Terms.{exchanged}
 use Rattle.sfm_spec.proofs.Sums.{length-exchanged}
 use Rattle.sfm_law.proofs.Rooms.{base_within_room}
+use Rattle.sfm_matroid.proofs.AnyRank.{can_move}
 use Rattle.sfm_matroid.proofs.TransversalBases.{IsHeldBase, held_base}
+use Rattle.sfm_matroid.proofs.Fits.{capped_amounts}
 use Rattle.sfm_matroid.proofs.SlotNotes.{over_slots, slots_moved}
 use Rattle.sfm_matroid.specs.Notes.{IsOver, IsSpare}
 use Rattle.sfm_matroid.specs.declared.splits.SlotSplit.{SlotSplit}
@@ -40,16 +42,11 @@ brought c =
       spare = c.keep_spare.ensures.spare s.entries n.m over n.spare;
     }
 
-pub moved-requires-clause-before : goal.moved-requires-clause-before
-moved-requires-clause-before c = let r = c.requires in (held_base c.args.self.now c.args._q r.noted.m r.noted.below r.factor c.args.x.now r.entries r.base).capped.amounts
-
-pub moved-requires-clause-after : goal.moved-requires-clause-after
-moved-requires-clause-after c =
+pub moved-requires : goal.moved-requires
+moved-requires c =
     let r = c.requires in
-    let a = c.args.a in
-    let fa : FitsSigned w128 a = c.ranges.a in
-    let base = base_within_room a r.base r.from r.onto r.apart r.low r.room in
-    simp to_z-of_z (held_base c.args.self.now c.args._q r.noted.m r.noted.below r.factor (exchanged c.args.x.now c.args.u c.args.v a) (length-exchanged c.args.x.now c.args.u c.args.v a ∙ r.entries) base).capped.amounts
+    let s = c.args.self.now in
+    can_move (length s.places) _ _ (λ y sized base. (held_base s c.args._q r.noted.m r.noted.below r.factor y sized base).capped) c.args.x.now r.entries r.base c.args.u c.args.v r.from r.onto r.apart c.args.a r.low r.room c.ranges.a
 
 pub bring_split-requires-clause-sized : goal.bring_split-requires-clause-sized
 bring_split-requires-clause-sized c = let h = brought c in ap length h.demands_are ∙ (h.base.sized ∙ sym h.over.places)
@@ -58,7 +55,7 @@ pub bring_split-requires-clause-slots : goal.bring_split-requires-clause-slots
 bring_split-requires-clause-slots c = let h = brought c in ap length h.capacities_are ∙ (length-replicate _ _ ∙ sym h.over.slots)
 
 pub bring_split-requires-clause-amounts : goal.bring_split-requires-clause-amounts
-bring_split-requires-clause-amounts c = let h = brought c in rw h.demands_are h.base.capped.amounts
+bring_split-requires-clause-amounts c = let h = brought c in rw h.demands_are (capped_amounts _ _ h.base.capped)
 
 pub bring_split-requires-clause-bounded : goal.bring_split-requires-clause-bounded
 bring_split-requires-clause-bounded c = let h = brought c in rw h.capacities_are h.base.bounded

@@ -6,4 +6,4 @@ use Rattle.sfm_matroid.proofs.transversal.TransversalTerm.reach_with.Goals as go
 pub returns-clause-reached : goal.returns-clause-reached
 returns-clause-reached c =
     let fq : FitsSigned w128 c.args.q = c.ranges.q in
-    simp to_z-of_z at c.reach_with.ensures.reached
+    simp to_z-of_z at c.reach_by.ensures.reached

@@ -1,0 +1,30 @@
+use Rattle.std.proofs.Common.{refl, sym, ◌∙◌, rules, FitsSigned}
+use Rattle.std.proofs.lemmas.Int.{to_z-of_z}
+use Rattle.std.proofs.lemmas.Option.{none-some, same_Some}
+use mir.Syntax.{w128}
+use Rattle.sfm_matroid.proofs.splits.raise_spare.Goals as goal
+
+pub fill-requires : goal.fill-requires
+fill-requires c = c.requires.spare
+
+pub raise-requires-clause-raise : goal.raise-requires-clause-raise
+raise-requires-clause-raise c = c.requires.raise
+
+pub raise-requires-clause-beside : goal.raise-requires-clause-beside
+raise-requires-clause-beside c = let (k, is, beside) = c.in_ok-fill.ensures in rw (same_Some _ _ (sym is ∙ c.in-Some.is)) at beside
+
+pub raise-requires-clause-held : goal.raise-requires-clause-held
+raise-requires-clause-held c = rw c.deref.ensures.value c.requires.held
+
+pub unreachable-requires : goal.unreachable-requires
+unreachable-requires c = let (k, is, beside) = c.in_ok-fill.ensures in none-some k (sym c.in-None.is ∙ is)
+
+pub returns-clause-most : goal.returns-clause-most
+returns-clause-most c =
+    let fm : FitsSigned w128 c.in_ok-most-in-Some.most = search rules in
+    simp to_z-of_z (rw c.deref.ensures.value at c.in_ok-most-in-Some.ensures.most)
+
+pub returns-clause-spare : goal.returns-clause-spare
+returns-clause-spare c =
+    let fm : FitsSigned w128 c.in_ok-most-in-Some.most = search rules in
+    (_, refl, simp to_z-of_z (rw c.deref.ensures.value at c.in_ok-most-in-Some.ensures.grown))
