@@ -19,10 +19,7 @@ within_amounts x c h all k d lt = let r = all k d lt in record { low = r.0; high
 pub amounts_count : (x : List ℤ) → All IsAmount x → AreCounts x
 amounts_count x all e lt = (all e (pos 0) lt).low
 
--- so a number that none exceeds fits, and they are amounts
-pub capped_fits : (c : ℤ) (x : List ℤ) → AreCapped c x → FitsSigned w128 c
-capped_fits c x all = let low = all.low in let high = all.high in omega (arith, ints, low, high)
-
+-- so they are amounts
 pub capped_amounts : (c : ℤ) (x : List ℤ) → AreCapped c x → All IsAmount x
 capped_amounts c x all = within_amounts x c all.high all.within
 

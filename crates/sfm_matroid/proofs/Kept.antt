@@ -1,17 +1,15 @@
 -- The greatest independent part that is kept.
-use Rattle.std.proofs.Common.{◌≡◌, ℕ, Bool, true, List, [], length, sym, ap, ◌∙◌}
+use Rattle.std.proofs.Common.{◌≡◌, ℕ, Bool, true, List, length, sym, ap, ◌∙◌}
 use Rattle.std.proofs.lemmas.List.{length-replicate}
 use Rattle.sfm_spec.specs.Sets.{size, whole_set}
 use Rattle.sfm_spec.specs.Kinds.{Edge}
 use Rattle.sfm_matroid.specs.Graphs.{taken, graphic_basis, graphic_rank}
 use Rattle.sfm_matroid.specs.Runs.{taken-places}
 use Rattle.sfm_matroid.specs.Ends.{edges_of}
-use Rattle.sfm_matroid.specs.Numbered.{numbered}
 use Rattle.sfm_matroid.specs.Transversals.{length-transversal_basis}
 use Rattle.sfm_matroid.specs.declared.graphic.Graphic.{Graphic}
 use Rattle.sfm_matroid.specs.declared.transversal.Transversal.{Transversal}
 use Rattle.sfm_matroid.proofs.Labels.{length-edges}
-use Rattle.sfm_matroid.proofs.Numbers.{length-numbered}
 
 pub length-basis : (edges : List Edge) → length (graphic_basis edges) ≡ length edges
 length-basis edges = taken-places edges (whole_set (length edges)) (length-replicate (length edges) true) (length edges)
@@ -31,7 +29,3 @@ pub rank_taken : (pairs : List (ℕ × ℕ)) (edges : List Edge) (s t : List Boo
 rank_taken pairs edges s t is taken_is =
     let n = sym (length-edges pairs) ∙ ap length is in
     ap size taken_is ∙ (ap (λ m. size (taken (edges_of pairs) s m)) n ∙ ap (λ es. size (taken es s (length edges))) is)
-
--- the edges with the numbers of their ends are as many
-pub numbered_places : (pairs : List (ℕ × ℕ)) (edges : List Edge) → edges_of pairs ≡ numbered edges → length pairs ≡ length edges
-numbered_places pairs edges is = sym (length-edges pairs) ∙ (ap length is ∙ length-numbered edges [])

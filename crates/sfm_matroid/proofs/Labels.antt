@@ -1,6 +1,5 @@
 -- The labels of the ends of all edges, place by place.
-use Rattle.std.proofs.Common.{◌++◌, take, drop, ◌≡◌, ℕ, zero, suc, ◌+◌, ◌<◌, Bool, true, false, not, ◌&&◌, ⊎_elim, List, [], ◌∷◌, length, map, get_or, set, nat_eq, if◌then◌else◌, refl, sym, ap, ◌∙◌, arith}
-use Rattle.std.proofs.Math.Seq.{take-append_seam}
+use Rattle.std.proofs.Common.{◌≡◌, ℕ, zero, suc, ◌+◌, ◌<◌, Bool, true, false, not, ◌&&◌, ⊎_elim, List, [], ◌∷◌, length, map, get_or, set, nat_eq, if◌then◌else◌, refl, sym, ap, ◌∙◌, arith}
 use Rattle.std.proofs.lemmas.Bool.{cases_eq, eq-eqb}
 use Rattle.sfm_spec.specs.Sets.{Has}
 use Rattle.sfm_spec.specs.Kinds.{Edge}
@@ -92,7 +91,3 @@ renamed_all from to (o ∷ old) (p ∷ new) same h = rw (h 0 (omega arith), rena
 
 pub renamed_equal : (labels : List (ℕ × ℕ)) (a b : ℕ) → a ≡ b → labels ≡ map (both_renamed a b) labels
 renamed_equal labels a b same = rw same (sym (both_renamed-same b labels))
-
--- a list written over all elements of another
-pub refilled : (len : ℕ) (old new : List (ℕ × ℕ)) → len ≡ length old → length new ≡ length old → take len (new ++ drop (length new) old) ≡ new
-refilled len old new e same = let f : len ≡ length new = omega (arith, e, same) in rw f (take-append_seam new (drop (length new) old))
