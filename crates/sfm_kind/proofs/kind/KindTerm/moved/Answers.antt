@@ -2,50 +2,26 @@
 use Rattle.sfm_kind.proofs.Passed.{factor_kept, amount_kept}
 use Rattle.sfm_kind.proofs.kind.KindTerm.moved.Goals as goal
 
-pub moved-requires-clause-room : goal.moved-requires-clause-room
-moved-requires-clause-room c = rw (factor_kept _ c.requires.factor, amount_kept _ c.requires.low c.requires.high) (rw c.in-Laminar.is at c.requires.room)
+pub moved-requires : goal.moved-requires
+moved-requires c = rw (factor_kept _ c.requires.factor, amount_kept _ c.requires.low c.requires.high) (rw (c.in-Laminar.is, c.in-Laminar-note.is) at c.requires)
 
-pub moved-requires-in-Graphic-note-clause-room : goal.moved-requires-in-Graphic-note-clause-room
-moved-requires-in-Graphic-note-clause-room c = rw (factor_kept _ c.requires.factor, amount_kept _ c.requires.low c.requires.high) (rw c.in-Graphic.is at c.requires.room)
+pub returns-in-Laminar-note : goal.returns-in-Laminar-note
+returns-in-Laminar-note c = rw c.in-Laminar.is (rw (factor_kept _ c.requires.factor, amount_kept _ c.requires.low c.requires.high) at c.moved.ensures)
 
-pub moved-requires-in-Transversal-note-clause-room : goal.moved-requires-in-Transversal-note-clause-room
-moved-requires-in-Transversal-note-clause-room c = rw (factor_kept _ c.requires.factor, amount_kept _ c.requires.low c.requires.high) (rw c.in-Transversal.is at c.requires.room)
+pub moved-requires-in-Graphic-note : goal.moved-requires-in-Graphic-note
+moved-requires-in-Graphic-note c = rw (factor_kept _ c.requires.factor, amount_kept _ c.requires.low c.requires.high, c.deref_mut.ensures.value) (rw (c.in-Graphic.is, c.in-Graphic-note.is) at c.requires)
 
-pub moved-requires-in-Concave-note-clause-room : goal.moved-requires-in-Concave-note-clause-room
-moved-requires-in-Concave-note-clause-room c = rw (factor_kept _ c.requires.factor, amount_kept _ c.requires.low c.requires.high) (rw c.in-Concave.is at c.requires.room)
+pub returns-in-Graphic-note : goal.returns-in-Graphic-note
+returns-in-Graphic-note c = rw c.in-Graphic.is (rw (factor_kept _ c.requires.factor, amount_kept _ c.requires.low c.requires.high) at c.moved-in-Graphic-note.ensures)
 
-pub moved-requires-clause-entries : goal.moved-requires-clause-entries
-moved-requires-clause-entries c = rw c.in-Laminar.is at c.requires.entries
+pub moved-requires-in-Transversal-note : goal.moved-requires-in-Transversal-note
+moved-requires-in-Transversal-note c = rw (factor_kept _ c.requires.factor, amount_kept _ c.requires.low c.requires.high, c.deref_mut-in-Transversal-note.ensures.value) (rw (c.in-Transversal.is, c.in-Transversal-note.is) at c.requires)
 
-pub moved-requires-clause-bounded : goal.moved-requires-clause-bounded
-moved-requires-clause-bounded c = rw c.in-Laminar.is at c.requires.bounded
+pub returns-in-Transversal-note : goal.returns-in-Transversal-note
+returns-in-Transversal-note c = rw c.in-Transversal.is (rw (factor_kept _ c.requires.factor, amount_kept _ c.requires.low c.requires.high) at c.moved-in-Transversal-note.ensures)
 
-pub moved-requires-clause-base : goal.moved-requires-clause-base
-moved-requires-clause-base c = rw (factor_kept _ c.requires.factor) (rw c.in-Laminar.is at c.requires.base)
+pub moved-requires-in-Concave-note : goal.moved-requires-in-Concave-note
+moved-requires-in-Concave-note c = rw (factor_kept _ c.requires.factor, amount_kept _ c.requires.low c.requires.high) (rw (c.in-Concave.is, c.in-Concave-note.is) at c.requires)
 
-pub moved-requires-in-Graphic-note-clause-entries : goal.moved-requires-in-Graphic-note-clause-entries
-moved-requires-in-Graphic-note-clause-entries c = rw c.in-Graphic.is at c.requires.entries
-
-pub moved-requires-in-Graphic-note-clause-bounded : goal.moved-requires-in-Graphic-note-clause-bounded
-moved-requires-in-Graphic-note-clause-bounded c = rw c.in-Graphic.is at c.requires.bounded
-
-pub moved-requires-in-Graphic-note-clause-base : goal.moved-requires-in-Graphic-note-clause-base
-moved-requires-in-Graphic-note-clause-base c = rw (factor_kept _ c.requires.factor) (rw c.in-Graphic.is at c.requires.base)
-
-pub moved-requires-in-Transversal-note-clause-entries : goal.moved-requires-in-Transversal-note-clause-entries
-moved-requires-in-Transversal-note-clause-entries c = rw c.in-Transversal.is at c.requires.entries
-
-pub moved-requires-in-Transversal-note-clause-bounded : goal.moved-requires-in-Transversal-note-clause-bounded
-moved-requires-in-Transversal-note-clause-bounded c = rw c.in-Transversal.is at c.requires.bounded
-
-pub moved-requires-in-Transversal-note-clause-base : goal.moved-requires-in-Transversal-note-clause-base
-moved-requires-in-Transversal-note-clause-base c = rw (factor_kept _ c.requires.factor) (rw c.in-Transversal.is at c.requires.base)
-
-pub moved-requires-in-Concave-note-clause-entries : goal.moved-requires-in-Concave-note-clause-entries
-moved-requires-in-Concave-note-clause-entries c = rw c.in-Concave.is at c.requires.entries
-
-pub moved-requires-in-Concave-note-clause-bounded : goal.moved-requires-in-Concave-note-clause-bounded
-moved-requires-in-Concave-note-clause-bounded c = rw c.in-Concave.is at c.requires.bounded
-
-pub moved-requires-in-Concave-note-clause-base : goal.moved-requires-in-Concave-note-clause-base
-moved-requires-in-Concave-note-clause-base c = rw (factor_kept _ c.requires.factor) (rw c.in-Concave.is at c.requires.base)
+pub returns-in-Concave-note : goal.returns-in-Concave-note
+returns-in-Concave-note c = rw c.in-Concave.is (rw (amount_kept _ c.requires.low c.requires.high) at c.moved-in-Concave-note.ensures)

@@ -2,56 +2,32 @@
 use Rattle.sfm_kind.proofs.Passed.{factor_kept}
 use Rattle.sfm_kind.proofs.kind.KindTerm.reach_by.Goals as goal
 
-pub reach_by-requires-clause-entries : goal.reach_by-requires-clause-entries
-reach_by-requires-clause-entries c = rw c.in-Laminar.is at c.requires.entries
+pub reach_by-requires : goal.reach_by-requires
+reach_by-requires c = rw (factor_kept _ c.requires.factor) (rw (c.in-Laminar.is, c.in-Laminar-note.is) at c.requires)
 
-pub reach_by-requires-clause-bounded : goal.reach_by-requires-clause-bounded
-reach_by-requires-clause-bounded c = rw c.in-Laminar.is at c.requires.bounded
+pub returns-in-Laminar-note : goal.returns-in-Laminar-note
+returns-in-Laminar-note c = rw c.in-Laminar.is (rw (factor_kept _ c.requires.factor) at c.reach_by.ensures)
 
-pub reach_by-requires-clause-base : goal.reach_by-requires-clause-base
-reach_by-requires-clause-base c = rw (factor_kept _ c.requires.factor) (rw c.in-Laminar.is at c.requires.base)
+pub reach_by-requires-in-Graphic-note : goal.reach_by-requires-in-Graphic-note
+reach_by-requires-in-Graphic-note c = rw (factor_kept _ c.requires.factor, c.deref_mut.ensures.value) (rw (c.in-Graphic.is, c.in-Graphic-note.is) at c.requires)
 
-pub returns-in-Laminar-note-clause-reached : goal.returns-in-Laminar-note-clause-reached
-returns-in-Laminar-note-clause-reached c = rw c.in-Laminar.is (rw (factor_kept _ c.requires.factor) at c.reach_by.ensures.reached)
+pub returns-in-Graphic-note : goal.returns-in-Graphic-note
+returns-in-Graphic-note c = rw c.in-Graphic.is (rw (factor_kept _ c.requires.factor) at c.reach_by-in-Graphic-note.ensures)
 
-pub reach_by-requires-in-Graphic-note-clause-entries : goal.reach_by-requires-in-Graphic-note-clause-entries
-reach_by-requires-in-Graphic-note-clause-entries c = rw c.in-Graphic.is at c.requires.entries
+pub reach_by-requires-in-Transversal-note : goal.reach_by-requires-in-Transversal-note
+reach_by-requires-in-Transversal-note c = rw (factor_kept _ c.requires.factor, c.deref_mut-in-Transversal-note.ensures.value) (rw (c.in-Transversal.is, c.in-Transversal-note.is) at c.requires)
 
-pub reach_by-requires-in-Graphic-note-clause-bounded : goal.reach_by-requires-in-Graphic-note-clause-bounded
-reach_by-requires-in-Graphic-note-clause-bounded c = rw c.in-Graphic.is at c.requires.bounded
+pub returns-in-Transversal-note : goal.returns-in-Transversal-note
+returns-in-Transversal-note c = rw c.in-Transversal.is (rw (factor_kept _ c.requires.factor) at c.reach_by-in-Transversal-note.ensures)
 
-pub reach_by-requires-in-Graphic-note-clause-base : goal.reach_by-requires-in-Graphic-note-clause-base
-reach_by-requires-in-Graphic-note-clause-base c = rw (factor_kept _ c.requires.factor) (rw c.in-Graphic.is at c.requires.base)
+pub reach_by-requires-in-Concave-note : goal.reach_by-requires-in-Concave-note
+reach_by-requires-in-Concave-note c = rw (factor_kept _ c.requires.factor) (rw (c.in-Concave.is, c.in-Concave-note.is) at c.requires)
 
-pub returns-in-Graphic-note-clause-reached : goal.returns-in-Graphic-note-clause-reached
-returns-in-Graphic-note-clause-reached c = rw c.in-Graphic.is (rw (factor_kept _ c.requires.factor) at c.reach_by-in-Graphic-note.ensures.reached)
+pub returns-in-Concave-note : goal.returns-in-Concave-note
+returns-in-Concave-note c = rw c.in-Concave.is (rw (factor_kept _ c.requires.factor) at c.reach_by-in-Concave-note.ensures)
 
-pub reach_by-requires-in-Transversal-note-clause-entries : goal.reach_by-requires-in-Transversal-note-clause-entries
-reach_by-requires-in-Transversal-note-clause-entries c = rw c.in-Transversal.is at c.requires.entries
-
-pub reach_by-requires-in-Transversal-note-clause-bounded : goal.reach_by-requires-in-Transversal-note-clause-bounded
-reach_by-requires-in-Transversal-note-clause-bounded c = rw c.in-Transversal.is at c.requires.bounded
-
-pub reach_by-requires-in-Transversal-note-clause-base : goal.reach_by-requires-in-Transversal-note-clause-base
-reach_by-requires-in-Transversal-note-clause-base c = rw (factor_kept _ c.requires.factor) (rw c.in-Transversal.is at c.requires.base)
-
-pub returns-in-Transversal-note-clause-reached : goal.returns-in-Transversal-note-clause-reached
-returns-in-Transversal-note-clause-reached c = rw c.in-Transversal.is (rw (factor_kept _ c.requires.factor) at c.reach_by-in-Transversal-note.ensures.reached)
-
-pub reach_by-requires-in-Concave-note-clause-entries : goal.reach_by-requires-in-Concave-note-clause-entries
-reach_by-requires-in-Concave-note-clause-entries c = rw c.in-Concave.is at c.requires.entries
-
-pub reach_by-requires-in-Concave-note-clause-bounded : goal.reach_by-requires-in-Concave-note-clause-bounded
-reach_by-requires-in-Concave-note-clause-bounded c = rw c.in-Concave.is at c.requires.bounded
-
-pub reach_by-requires-in-Concave-note-clause-base : goal.reach_by-requires-in-Concave-note-clause-base
-reach_by-requires-in-Concave-note-clause-base c = rw (factor_kept _ c.requires.factor) (rw c.in-Concave.is at c.requires.base)
-
-pub returns-in-Concave-note-clause-reached : goal.returns-in-Concave-note-clause-reached
-returns-in-Concave-note-clause-reached c = rw c.in-Concave.is (rw (factor_kept _ c.requires.factor) at c.reach_by-in-Concave-note.ensures.reached)
-
-pub reach-requires-clause-base : goal.reach-requires-clause-base
-reach-requires-clause-base c = rw (factor_kept _ c.requires.factor) c.requires.base
+pub reach-requires : goal.reach-requires
+reach-requires c = rw (factor_kept _ c.requires.factor) (record { factor = c.requires.factor; entries = c.requires.entries; bounded = c.requires.bounded; small = c.requires.small; base = c.requires.base; from = c.requires.from; room_for_answer = c.requires.room_for_answer })
 
 pub returns-in_default-clause-reached : goal.returns-in_default-clause-reached
 returns-in_default-clause-reached c = rw (factor_kept _ c.requires.factor) at c.reach.ensures.reached

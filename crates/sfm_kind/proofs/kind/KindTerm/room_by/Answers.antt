@@ -2,14 +2,32 @@
 use Rattle.sfm_kind.proofs.Passed.{factor_kept}
 use Rattle.sfm_kind.proofs.kind.KindTerm.room_by.Goals as goal
 
-pub returns-in-Graphic-note-clause-room : goal.returns-in-Graphic-note-clause-room
-returns-in-Graphic-note-clause-room c = rw c.in-Graphic.is (rw (factor_kept _ c.requires.factor) at c.room_by-in-Graphic-note.ensures.room)
+pub room_by-requires : goal.room_by-requires
+room_by-requires c = rw (factor_kept _ c.requires.factor) (rw (c.in-Laminar.is, c.in-Laminar-note.is) at c.requires)
 
-pub returns-in-Transversal-note-clause-room : goal.returns-in-Transversal-note-clause-room
-returns-in-Transversal-note-clause-room c = rw c.in-Transversal.is (rw (factor_kept _ c.requires.factor) at c.room_by-in-Transversal-note.ensures.room)
+pub returns-in-Laminar-note : goal.returns-in-Laminar-note
+returns-in-Laminar-note c = rw c.in-Laminar.is (rw (factor_kept _ c.requires.factor) at c.room_by.ensures)
 
-pub returns-in-Concave-note-clause-room : goal.returns-in-Concave-note-clause-room
-returns-in-Concave-note-clause-room c = rw c.in-Concave.is (rw (factor_kept _ c.requires.factor) at c.room_by-in-Concave-note.ensures.room)
+pub room_by-requires-in-Graphic-note : goal.room_by-requires-in-Graphic-note
+room_by-requires-in-Graphic-note c = rw (factor_kept _ c.requires.factor, c.deref_mut.ensures.value) (rw (c.in-Graphic.is, c.in-Graphic-note.is) at c.requires)
+
+pub returns-in-Graphic-note : goal.returns-in-Graphic-note
+returns-in-Graphic-note c = rw c.in-Graphic.is (rw (factor_kept _ c.requires.factor) at c.room_by-in-Graphic-note.ensures)
+
+pub room_by-requires-in-Transversal-note : goal.room_by-requires-in-Transversal-note
+room_by-requires-in-Transversal-note c = rw (factor_kept _ c.requires.factor, c.deref_mut-in-Transversal-note.ensures.value) (rw (c.in-Transversal.is, c.in-Transversal-note.is) at c.requires)
+
+pub returns-in-Transversal-note : goal.returns-in-Transversal-note
+returns-in-Transversal-note c = rw c.in-Transversal.is (rw (factor_kept _ c.requires.factor) at c.room_by-in-Transversal-note.ensures)
+
+pub room_by-requires-in-Concave-note : goal.room_by-requires-in-Concave-note
+room_by-requires-in-Concave-note c = rw (factor_kept _ c.requires.factor) (rw (c.in-Concave.is, c.in-Concave-note.is) at c.requires)
+
+pub returns-in-Concave-note : goal.returns-in-Concave-note
+returns-in-Concave-note c = rw c.in-Concave.is (rw (factor_kept _ c.requires.factor) at c.room_by-in-Concave-note.ensures)
+
+pub room-requires : goal.room-requires
+room-requires c = rw (factor_kept _ c.requires.factor) (record { factor = c.requires.factor; entries = c.requires.entries; bounded = c.requires.bounded; small = c.requires.small; base = c.requires.base; apart = c.requires.apart; from = c.requires.from; onto = c.requires.onto })
 
 pub returns-in_default-clause-room : goal.returns-in_default-clause-room
 returns-in_default-clause-room c = rw (factor_kept _ c.requires.factor) at c.room.ensures.room
