@@ -19,7 +19,6 @@ use sfm_simple::{Cover, Cut, Need, Table, Weight};
 use std::alloc::Global;
 
 /// A term of any kind.
-#[derive(Drop)]
 pub enum Kind {
     /// A number for each element.
     Weight(Weight),
@@ -45,7 +44,6 @@ pub enum Kind {
 
 /// What is kept beside a base of a kind, so that its reach is found sooner. The splits, which are large, are boxed: so a note
 /// of any other kind is small, and costs little to make and to move.
-#[derive(Drop)]
 pub enum KindNote {
     /// Nothing, as beside the plain kinds.
     Nothing,
@@ -57,6 +55,27 @@ pub enum KindNote {
     Transversal(Box<<Transversal as Term>::Note>),
     /// The entries of a concave term in order.
     Concave(<Concave as Term>::Note),
+}
+
+// What is derived is proved in each crate that lets such a value go, with all that lies in it; what is written out, here alone.
+impl Drop for Kind {
+    fn drop(self) {
+        match self {
+            Kind::Weight(_) | Kind::Cut(_) | Kind::Cover(_) | Kind::Need(_) | Kind::Table(_) => {}
+            Kind::Concave(_) | Kind::Uniform(_) | Kind::Laminar(_) => {}
+            Kind::Graphic(_) | Kind::Transversal(_) => {}
+        }
+    }
+}
+
+// As above.
+impl Drop for KindNote {
+    fn drop(self) {
+        match self {
+            KindNote::Nothing | KindNote::Laminar(_) | KindNote::Concave(_) => {}
+            KindNote::Graphic(_) | KindNote::Transversal(_) => {}
+        }
+    }
 }
 
 /// A note that fits a base, on the heap. This stands apart, since a function pays as it begins for the room of all that it
