@@ -19,7 +19,7 @@ use Rattle.sfm_reach.specs.Based.{IsBased}
 use Rattle.sfm_reach.specs.Bits.{bit_in, blank_bits, set_at}
 use Rattle.sfm_exchange.specs.Claimed.{AreClaims, IsClaim}
 use Rattle.sfm_exchange.specs.Graph.{IsClaimed, IsShaped, IsWhole}
-use Rattle.sfm_reach.specs.Reach.{IsRow, table_at}
+use Rattle.sfm_reach.specs.Reach.{AreNotes, IsRow, table_at}
 use Rattle.sfm_exchange.specs.Renewed.{AreChanges}
 use Rattle.sfm_reach.specs.Spots.{spot_at, spots_at}
 use Rattle.sfm_reach.specs.Turned.{AreTurned}
@@ -126,6 +126,10 @@ module _ {X N : Type 0} {places : X → List ℕ} {value : X → SetFunction} {s
     -- and they are claims, where none is claimed the true ones
     pub claims_at : AreClaims (places term) (times q (value term)) (base_at graph.bases i) (set_at graph.claimed.items i) (table_at graph.rows.items i)
     claims_at = rw means at (h.claims i l)
+
+    -- with another note of it that fits, all notes fit
+    pub noted_still : (note : N) → fits term note q (base_at graph.bases i) → AreNotes fits q terms (set graph.notes.items i note) graph.bases
+    noted_still note fit = subst (AreNotes fits q terms (set graph.notes.items i note)) (set-get_or graph.bases i []) (notes_set fits q terms graph.notes.items graph.bases i term note (base_at graph.bases i) h.note_count base_count l h.noted is fit)
 
     -- its places are of the ground
     pub place_in : (u : ℕ) → u < length (places term) → get_or (places term) u 0 < n

@@ -4,11 +4,15 @@
 // adjacency the union of the rows of these, and the same is kept turned round, for searches backwards. That all of this is
 // so is one fact, `IsGraph`, which each call over a graph asks for and gives back; along walks some rows may be claimed, and
 // the fact is `IsClaimed`.
-ghost use Rattle.std.specs.Prelude.{◌≡◌, map, OnOk, IfOk};
+ghost use Rattle.std.specs.Prelude.{◌≡◌, ◌<◌, ◌≤◌, ℕ, length, map, [], ◌∷◌, ◌++◌, OnOk, IfOk};
 ghost use Rattle.std.specs.List.{All};
 ghost use Rattle.sfm_spec.specs.Sets.{IsPlaced};
 ghost use Rattle.sfm_spec.specs.Bounds.{AreBounded, IsEntry, IsFactor};
 ghost use Rattle.sfm_spec.specs.Families.{meanings, AreBases};
+ghost use Rattle.sfm_reach.specs.Based.{AreBased};
+ghost use Rattle.sfm_reach.specs.Reach.{AreNotes, AreSized, IsTable, table_at};
+ghost use Rattle.sfm_reach.specs.Turned.{AreTurned};
+ghost use Rattle.sfm_reach.specs.Unions.{AreUnions, HaveRows};
 ghost use Rattle.sfm_exchange.specs.Graph.{IsGraph, IsShaped};
 
 use sfm_base::{Memory, Rows};
@@ -63,19 +67,36 @@ pub fn graph_at<T: Term>(
 }
 
 // The lists of a graph of the terms over n places, with nothing in them yet but the spots.
-fn blank_graph<T: Term>(alloc: Global, terms: &[T], n: usize) -> Result<Graph<T::Note>, Memory>
+pub(crate) fn blank_graph<T: Term>(
+    alloc: Global,
+    terms: &[T],
+    n: usize,
+) -> Result<Graph<T::Note>, Memory>
     requires { All (IsPlaced n) (map T.places terms.now) }
     ensures { IfOk result (IsShaped T.places T.value_of terms.now n) }
 {
+    let spots = spots_of(alloc, terms, n)?;
+    let rows = blank_rows(alloc, terms)?;
+    let claimed = blank_sets(alloc, terms.len())?;
+    let unions = blank_sets(alloc, n)?;
+    let back = blank_sets(alloc, 256)?;
     Ok(Graph {
         bases: Rows::new(alloc),
-        spots: spots_of(alloc, terms, n)?,
+        spots,
         notes: Vec::new(alloc),
-        rows: blank_rows(alloc, terms)?,
-        claimed: vec![in alloc; no_bits(); terms.len()]?,
-        unions: vec![in alloc; no_bits(); n]?,
-        back: vec![in alloc; no_bits(); 256]?,
+        rows,
+        claimed,
+        unions,
+        back,
     })
+}
+
+// So many sets of places with nothing in them.
+fn blank_sets(alloc: Global, count: usize) -> Result<Vec<Bits>, Memory>
+    ensures { IfOk result (λ r. length r.items ≡ count) }
+{
+    let sets = vec![in alloc; no_bits(); count]?;
+    Ok(sets)
 }
 
 /// Makes the graph one of the same terms at other bases, and maybe at another factor. Its lists are used again, whatever is
@@ -100,12 +121,62 @@ pub fn restart<T: Term>(
     ensures graph { OnOk result (IsGraph T.places T.value_of T.fits terms.now n q graph.new) }
     ensures bases { OnOk result (graph.new.bases ≡ bases) }
 {
-    graph.notes = notes_of(alloc, terms, q, &bases)?;
-    ask_all(alloc, terms, q, &bases, &mut graph.notes, &mut graph.rows)?;
-    graph.claimed = vec![in alloc; no_bits(); terms.len()]?;
     graph.bases = bases;
-    graph.unions = unions_of(alloc, &graph.spots, &graph.rows)?;
-    graph.back = turned_of(alloc, &graph.unions)?;
+    ask_terms(
+        alloc,
+        terms,
+        q,
+        &graph.bases,
+        &mut graph.notes,
+        &mut graph.rows,
+    )?;
+    graph.claimed.fill(no_bits());
+    unite(
+        alloc,
+        &graph.spots,
+        &graph.rows,
+        &mut graph.unions,
+        &mut graph.back,
+    )?;
+    Ok(())
+}
+
+// Asks all terms at bases of theirs: for what the kind of each keeps beside its base, and for its rows.
+fn ask_terms<T: Term>(
+    alloc: Global,
+    terms: &[T],
+    q: i128,
+    bases: &Rows,
+    notes: &mut Vec<T::Note>,
+    rows: &mut Vec<BitRows>,
+) -> Result<(), Memory>
+    requires based { AreBased T.places T.value_of T.size_of terms.now q bases.now }
+    requires rows { AreSized (map T.places terms.now) rows.old.items }
+    ensures count { OnOk result (length notes.new.items ≡ length terms.now) }
+    ensures noted { OnOk result (AreNotes T.fits q terms.now notes.new.items bases.now) }
+    ensures rows { OnOk result (AreSized (map T.places terms.now) rows.new.items) }
+    ensures tables { OnOk result ((i : ℕ) → i < length terms.now → IsTable (meanings T.places T.value_of terms.now) q bases.now i (table_at rows.new.items i)) }
+{
+    *notes = notes_of(alloc, terms, q, bases)?;
+    ask_all(alloc, terms, q, bases, notes, rows)?;
+    Ok(())
+}
+
+// Writes for each place the union of the rows of its spots, and the same turned round.
+fn unite(
+    alloc: Global,
+    spots: &[Spots],
+    rows: &[BitRows],
+    unions: &mut Vec<Bits>,
+    back: &mut Vec<Bits>,
+) -> Result<(), Memory>
+    requires rows { HaveRows rows.now spots.now }
+    requires few { length spots.now ≤ 256 }
+    ensures unions { OnOk result (AreUnions rows.now spots.now unions.new.items) }
+    ensures turned { OnOk result (AreTurned unions.new.items back.new.items) }
+{
+    *unions = unions_of(alloc, spots, rows)?;
+    *back = turned_of(alloc, unions)?;
     Ok(())
 }
 
@@ -119,7 +190,15 @@ pub fn copy_rows(alloc: Global, rows: &Rows) -> Result<Rows, Memory>
 {
     let mut copied = Rows::new(alloc);
     for i in 0..rows.len() {
-        copied.push(Vec::from_slice(alloc, rows.row(i))?)?;
+        push_copy(alloc, rows.row(i), &mut copied)?;
     }
     Ok(copied)
+}
+
+// Puts the same row once more at the end.
+fn push_copy(alloc: Global, row: &[i128], to: &mut Rows) -> Result<(), Memory>
+    ensures { OnOk result (to.new ≡ to.old ++ row.now ∷ []) }
+{
+    to.push(Vec::from_slice(alloc, row)?)?;
+    Ok(())
 }

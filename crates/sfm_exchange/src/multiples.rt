@@ -7,13 +7,14 @@ ghost use Rattle.sfm_spec.specs.Bounds.{AreBounded, IsEntry, IsFactor};
 ghost use Rattle.sfm_spec.specs.Families.{meanings, AreBases};
 ghost use Rattle.sfm_spec.specs.Walks.{base_at};
 ghost use Rattle.sfm_exchange.specs.Graph.{IsClaimed, IsGraph, IsShaped};
-ghost use Rattle.sfm_reach.specs.Reach.{AreSized};
+ghost use Rattle.sfm_reach.specs.Based.{AreBased};
+ghost use Rattle.sfm_reach.specs.Reach.{AreNotes, AreSized};
 ghost use Rattle.sfm_exchange.specs.Scaled.{row_times};
 
-use crate::graph::{Graph, copy_rows, restart};
+use crate::graph::{Graph, blank_graph, copy_rows, restart};
 use sfm_base::{Memory, Rows};
 use sfm_law::{Term, product};
-use sfm_reach::{BitRows, blank_rows, no_bits, notes_of, spots_of};
+use sfm_reach::{BitRows, notes_of};
 use std::alloc::Global;
 
 // Whether b is q times a, where a is not too large to tell.
@@ -62,10 +63,38 @@ fn copy_tables(from: &[BitRows], to: &mut Vec<BitRows>)
     requires { (places : List (List ℕ)) × AreSized places from.now × AreSized places to.old.items }
     ensures { to.new.items ≡ from.now }
 {
-    for (i, rows) in from.iter().enumerate() {
+    for i in 0..from.len() {
         let at = &mut to[i];
-        at.copy_from(rows);
+        at.copy_from(&from[i]);
     }
+}
+
+// Takes over from another graph of the terms its rows, and what is read off them; the terms are asked for what they keep beside the
+// bases that stand.
+fn take_rows<T: Term>(
+    alloc: Global,
+    graph: &mut Graph<T::Note>,
+    terms: &[T],
+    q: i128,
+    other: &Graph<T::Note>,
+) -> Result<(), Memory>
+    requires based { AreBased T.places T.value_of T.size_of terms.now q graph.old.bases }
+    requires shaped { (n : ℕ) × IsShaped T.places T.value_of terms.now n graph.old × IsShaped T.places T.value_of terms.now n other.now }
+    ensures bases { OnOk result (graph.new.bases ≡ graph.old.bases) }
+    ensures spots { OnOk result (graph.new.spots.items ≡ graph.old.spots.items) }
+    ensures count { OnOk result (length graph.new.notes.items ≡ length terms.now) }
+    ensures noted { OnOk result (AreNotes T.fits q terms.now graph.new.notes.items graph.old.bases) }
+    ensures rows { OnOk result (graph.new.rows.items ≡ other.now.rows.items) }
+    ensures claimed { OnOk result (graph.new.claimed.items ≡ other.now.claimed.items) }
+    ensures unions { OnOk result (graph.new.unions.items ≡ other.now.unions.items) }
+    ensures back { OnOk result (graph.new.back.items ≡ other.now.back.items) }
+{
+    graph.notes = notes_of(alloc, terms, q, &graph.bases)?;
+    copy_tables(&other.rows, &mut graph.rows);
+    graph.claimed.copy_from_slice(&other.claimed);
+    graph.unions.copy_from_slice(&other.unions);
+    graph.back.copy_from_slice(&other.back);
+    Ok(())
 }
 
 /// Makes the graph one of q times the terms at other bases of theirs, as `restart` does. Where these are q times the bases
@@ -97,12 +126,8 @@ pub fn restart_by<T: Term>(
         restart(alloc, graph, terms, n, q, bases)?;
         return Ok(());
     }
-    graph.notes = notes_of(alloc, terms, q, &bases)?;
     graph.bases = bases;
-    copy_tables(&other.rows, &mut graph.rows);
-    graph.claimed.copy_from_slice(&other.claimed);
-    graph.unions.copy_from_slice(&other.unions);
-    graph.back.copy_from_slice(&other.back);
+    take_rows(alloc, graph, terms, q, other)?;
     Ok(())
 }
 
@@ -124,21 +149,8 @@ pub fn copy_graph<T: Term>(
     requires small { All (λ x. All IsEntry x) graph.now.bases }
     ensures { IfOk result (IsGraph T.places T.value_of T.fits terms.now n q) }
 {
-    let bases = copy_rows(alloc, &graph.bases)?;
-    let spots = spots_of(alloc, terms, n)?;
-    let notes = notes_of(alloc, terms, q, &bases)?;
-    let mut rows = blank_rows(alloc, terms)?;
-    copy_tables(&graph.rows, &mut rows);
-    let claimed = vec![in alloc; no_bits(); terms.len()]?;
-    let unions = Vec::from_slice(alloc, &graph.unions)?;
-    let back = Vec::from_slice(alloc, &graph.back)?;
-    Ok(Graph {
-        bases,
-        spots,
-        notes,
-        rows,
-        claimed,
-        unions,
-        back,
-    })
+    let mut copied = blank_graph(alloc, terms, n)?;
+    copied.bases = copy_rows(alloc, &graph.bases)?;
+    take_rows(alloc, &mut copied, terms, q, graph)?;
+    Ok(copied)
 }

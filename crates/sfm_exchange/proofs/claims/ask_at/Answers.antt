@@ -1,4 +1,4 @@
-use Rattle.std.proofs.Common.{◌≡◌, ◌<◌, inr, ⊎_elim, [], List, ℤ, get_or, length, set, refl, ap, sym, subst, ◌∙◌, arith, FitsSigned, get_or-set_same, length-set}
+use Rattle.std.proofs.Common.{◌≡◌, ◌<◌, inl, inr, ⊎_elim, [], List, ℤ, get_or, length, set, refl, ap, sym, subst, ◌∙◌, arith, FitsSigned, get_or-set_same, length-set}
 use Rattle.std.specs.List.{All}
 use Rattle.std.proofs.lemmas.Bool.{both_ways, cases_eq}
 use Rattle.std.proofs.lemmas.Int.{to_z-of_z}
@@ -12,7 +12,8 @@ use Rattle.sfm_reach.specs.Bits.{blank_bits, set_at}
 use Rattle.sfm_reach.specs.Reach.{IsRow, table_at}
 use Rattle.sfm_exchange.proofs.Asked.{claims_fewer, claims_kept}
 use Rattle.sfm_reach.proofs.Basing.{size_low}
-use Rattle.sfm_exchange.proofs.ClaimedGraphs.{asked_after, base_count, based, claimed_shown, place_in, places_are, row_long, rows_after, rows_shown}
+use Rattle.sfm_exchange.proofs.ClaimedGraphs.{asked_after, base_count, based, claimed_shown, place_in, places_are, row_long, rows_after, rows_count, rows_shown}
+use Rattle.sfm_exchange.proofs.Still.{still_begun}
 use Rattle.sfm_exchange.proofs.claims.ask_at.Given as given
 use Rattle.sfm_exchange.proofs.claims.ask_at.Goals as goal
 use Rattle.sfm_exchange.proofs.claims.ask_at.Goals.{After-index-claims, After-index-terms-i, After-index_mut-claimed, After-index_mut-rows}
@@ -159,3 +160,45 @@ returns-clause-asked g c =
     let one = rw (claims_are g at.After-index-claims) at (c.contains.ensures.0 c.if-not-contains.false) in
     let others = rw (claimed_are g at.After-index_mut-claimed) at c.remove.ensures.others in
     inr (claims_fewer c.args.graph.now.claimed.items c.args.i _ c.remove.new.self (rw r.ready.claimed.claim_count r.term) (rw c.elements-places.ensures (below g at.After-index-terms-i)) one c.remove.ensures.out others)
+
+pub bounds-terms-i : goal.bounds-terms-i
+bounds-terms-i g c = c.requires.term
+
+pub offset_bounds-terms-i : goal.offset_bounds-terms-i
+offset_bounds-terms-i g c = omega (arith, c.requires.term)
+
+pub index-claims-requires : goal.index-claims-requires
+index-claims-requires g c = omega (arith, c.requires.term, c.requires.ready.claimed.claim_count, c.args.graph.now.claimed.ok.0)
+
+pub index_mut-claimed-requires : goal.index_mut-claimed-requires
+index_mut-claimed-requires g c = omega (arith, c.requires.term, c.requires.ready.claimed.claim_count, c.args.graph.now.claimed.ok.0)
+
+pub index_mut-note-requires : goal.index_mut-note-requires
+index_mut-note-requires g c = omega (arith, c.requires.term, c.requires.ready.claimed.note_count, c.args.graph.now.notes.ok.0)
+
+pub index_mut-rows-requires : goal.index_mut-rows-requires
+index_mut-rows-requires g c = let r = rows_count c.requires.ready.claimed in omega (arith, c.requires.term, r, c.args.graph.now.rows.ok.0)
+
+pub renew-requires-clause-few : goal.renew-requires-clause-few
+renew-requires-clause-few g c = rw c.deref.ensures.value c.requires.ready.claimed.bounded.few
+
+pub renew-requires-clause-count : goal.renew-requires-clause-count
+renew-requires-clause-count g c = rw c.deref.ensures.value c.requires.ready.claimed.are_unions.count
+
+pub renew-requires-clause-turned : goal.renew-requires-clause-turned
+renew-requires-clause-turned g c = c.requires.ready.claimed.are_turned
+
+pub returns-then-not-contains-clause-still : goal.returns-then-not-contains-clause-still
+returns-then-not-contains-clause-still g c = still_begun c.requires.ready.claimed
+
+pub returns-then-not-contains-clause-spots : goal.returns-then-not-contains-clause-spots
+returns-then-not-contains-clause-spots g c = refl
+
+pub returns-then-not-contains-clause-kept : goal.returns-then-not-contains-clause-kept
+returns-then-not-contains-clause-kept g c = λ j e out. out
+
+pub returns-then-not-contains-clause-asked : goal.returns-then-not-contains-clause-asked
+returns-then-not-contains-clause-asked g c = inl (refl, refl)
+
+pub returns-clause-spots : goal.returns-clause-spots
+returns-clause-spots g c = refl

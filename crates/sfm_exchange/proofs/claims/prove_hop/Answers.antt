@@ -79,3 +79,12 @@ returns-clause-refused g c = λ no told.
     let at = goal.at.returns-clause-refused g c in
     let row = table g at.After-index-rows (inside g at.After-ask_at) in
     ⊎_elim (λ (same, kept). absurd (both_ways c.contains.result no (c.contains.ensures.1 (rw (c.row-row.ensures, row, same) told)))) (λ less. less) c.in_ok-ask_at.ensures.asked
+
+pub ask_at-requires-clause-ready : goal.ask_at-requires-clause-ready
+ask_at-requires-clause-ready g c = let fq : FitsSigned w128 c.args.q = c.ranges.q in simp to_z-of_z c.requires.ready
+
+pub returns-clause-still : goal.returns-clause-still
+returns-clause-still g c = let fq : FitsSigned w128 c.args.q = c.ranges.q in simp to_z-of_z at c.in_ok-ask_at.ensures.still
+
+pub returns-clause-asked : goal.returns-clause-asked
+returns-clause-asked g c = c.in_ok-ask_at.ensures.asked

@@ -1,5 +1,5 @@
 use Rattle.std.proofs.Common.{◌≡◌, ◌+◌, ◌<◌, ⊎_elim, inl, ℕ, length, refl, subst, ◌∙◌, arith, FitsSigned}
-use Rattle.std.proofs.lemmas.Bool.{cases_lt}
+use Rattle.std.proofs.lemmas.Bool.{cases_lt, false≢true}
 use Rattle.std.proofs.lemmas.Int.{to_z-of_z}
 use mir.Syntax.{w128}
 use Rattle.sfm_spec.specs.Families.{meanings}
@@ -58,3 +58,9 @@ returns-clause-proved g c =
     let inv = simp to_z-of_z at c.loop-hop.invariant in
     let done : c.loop-hop.hop-index ≡ length c.args.hops.now = omega (arith, c.loop-hop.auto.hop-index-end, c.loop-hop-test.false) in
     λ _ j l. inv.2 j (omega (arith, l, done))
+
+pub returns-clause-bases : goal.returns-clause-bases
+returns-clause-bases g c = c.loop-hop.invariant.0.bases
+
+pub returns-then-not-proved-clause-proved : goal.returns-then-not-proved-clause-proved
+returns-then-not-proved-clause-proved g c = λ yes. absurd (false≢true yes)

@@ -94,3 +94,6 @@ returns-clause-walked g c =
     let inv = simp to_z-of_z at c.loop-e.invariant in
     walks_done (meanings t.places t.value_of c.args.terms.now) (length c.args.graph.now.spots.items) c.args.q c.args.graph.now.bases c.args.firsts.now c.loop-e.found c.loop-e.ahead inv.1
     (match_none c.first.result _ _ c.first.ensures c.in_default.not-Some)
+
+pub returns-clause-bases : goal.returns-clause-bases
+returns-clause-bases g c = c.loop-e.invariant.0.bases

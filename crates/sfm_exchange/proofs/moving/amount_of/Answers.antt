@@ -48,3 +48,21 @@ returns-clause-greatest g c =
     let inv = simp to_z-of_z at c.loop-hop.invariant in
     let done : c.loop-hop.hop-index ≡ length c.args.hops.now = omega (arith, c.loop-hop.auto.hop-index-end, c.loop-hop-test.false) in
     λ b lb moves. inv.0.greatest b lb (λ j l. moves j (omega (arith, l, done)))
+
+pub returns-clause-bases : goal.returns-clause-bases
+returns-clause-bases g c = c.loop-hop.invariant.1.bases
+
+pub returns-clause-some : goal.returns-clause-some
+returns-clause-some g c = c.loop-hop.invariant.0.some
+
+pub returns-clause-within : goal.returns-clause-within
+returns-clause-within g c =
+    let fm : FitsSigned w128 c.args.most = c.ranges.most in
+    simp to_z-of_z at c.loop-hop.invariant.0.within
+
+pub returns-clause-moves : goal.returns-clause-moves
+returns-clause-moves g c =
+    let fq : FitsSigned w128 c.args.q = c.ranges.q in
+    let inv = simp to_z-of_z at c.loop-hop.invariant in
+    let done : c.loop-hop.hop-index ≡ length c.args.hops.now = omega (arith, c.loop-hop.auto.hop-index-end, c.loop-hop-test.false) in
+    λ k l. inv.0.moves k (omega (arith, l, done))

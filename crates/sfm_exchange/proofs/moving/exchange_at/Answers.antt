@@ -1,8 +1,10 @@
-use Rattle.std.proofs.Common.{◌≡◌, ◌++◌, List, ℤ, pos, ◌≤ℤ◌, length, set, take, drop, inr, refl, sym, ap, ◌∙◌, subst, arith, get_or-set_same, FitsSigned}
+use Rattle.std.proofs.Common.{◌≡◌, ◌<◌, ◌^◌, ◌++◌, List, ℤ, pos, ◌≤ℤ◌, length, set, take, drop, inr, refl, sym, ap, ◌∙◌, subst, arith, get_or-set_same, FitsSigned}
 use Rattle.std.proofs.lemmas.Int.{ints, to_z-of_z}
 use Rattle.std.proofs.lemmas.List.{take_at}
 use mir.Syntax.{w128}
 use mir.Val.{of_z, to_z}
+use Rattle.std.specs.List.{All}
+use Rattle.sfm_spec.specs.Bounds.{IsEntry, IsFactor}
 use Rattle.sfm_spec.specs.Terms.{times, exchanged, IsBase}
 use Rattle.sfm_spec.specs.Walks.{base_at}
 use Rattle.sfm_spec.proofs.Sums.{length-exchanged}
@@ -53,88 +55,57 @@ still g c b =
     let hop = c.args.hop in
     based_after t.places t.value_of t.size_of c.index-terms-i.result c.args.q (base_at c.args.graph.now.bases hop.term) c.exchange.new.x hop.u hop.v c.args.a b (came g c) c.requires.can.after (simp to_z-of_z at c.exchange.ensures.base)
 
+-- with as many entries
+long : (g : given.Over) (c : After-at-1 g) → length c.exchange.new.x ≡ length (base_at c.args.graph.now.bases c.args.hop.term)
+long g c = ap length (came g c) ∙ length-exchanged (base_at c.args.graph.now.bases c.args.hop.term) c.args.hop.u c.args.hop.v c.args.a
+
 pub row_mut-x-requires : goal.row_mut-x-requires
 row_mut-x-requires g c = rw (base_count c.requires.graph) c.requires.inside
 
-pub moved-requires-clause-factor : goal.moved-requires-clause-factor
-moved-requires-clause-factor g c = let fq : FitsSigned w128 c.args.q = c.ranges.q in simp to_z-of_z c.requires.graph.factor
+-- what both calls ask for
+factor : (g : given.Over) (c : After-moved-arg-1 g) → IsFactor (to_z w128 (of_z w128 c.args.q))
+factor g c = let fq : FitsSigned w128 c.args.q = c.ranges.q in simp to_z-of_z c.requires.graph.factor
 
-pub moved-requires-clause-small : goal.moved-requires-clause-small
-moved-requires-clause-small g c = rw c.row_mut-x.ensures.value c.requires.can.small
+entries : (g : given.Over) (c : After-moved-arg-1 g) → length c.row_mut-x.result.now ≡ length (g.T.Term.places c.index-terms-i.result)
+entries g c = rw c.row_mut-x.ensures.value (here g c).entries
 
-pub moved-requires-clause-apart : goal.moved-requires-clause-apart
-moved-requires-clause-apart g c = c.requires.can.apart
+small : (g : given.Over) (c : After-moved-arg-1 g) → All IsEntry c.row_mut-x.result.now
+small g c = rw c.row_mut-x.ensures.value c.requires.can.small
 
-pub moved-requires-clause-from : goal.moved-requires-clause-from
-moved-requires-clause-from g c = rw c.row_mut-x.ensures.value c.requires.can.raised
+from : (g : given.Over) (c : After-moved-arg-1 g) → c.args.hop.u < length c.row_mut-x.result.now
+from g c = rw c.row_mut-x.ensures.value c.requires.can.raised
 
-pub moved-requires-clause-onto : goal.moved-requires-clause-onto
-moved-requires-clause-onto g c = rw c.row_mut-x.ensures.value c.requires.can.lowered
+onto : (g : given.Over) (c : After-moved-arg-1 g) → c.args.hop.v < length c.row_mut-x.result.now
+onto g c = rw c.row_mut-x.ensures.value c.requires.can.lowered
 
-pub moved-requires-clause-low : goal.moved-requires-clause-low
-moved-requires-clause-low g c =
+low : (g : given.Over) (c : After-moved-arg-1 g) → pos 0 ≤ℤ to_z w128 (of_z w128 c.args.a)
+low g c =
     let fa : FitsSigned w128 c.args.a = c.ranges.a in
     let some = c.requires.low in
-    let low : pos 0 ≤ℤ c.args.a = omega (arith, ints, some) in
-    simp to_z-of_z low
+    let least : pos 0 ≤ℤ c.args.a = omega (arith, ints, some) in
+    simp to_z-of_z least
 
-pub moved-requires-clause-high : goal.moved-requires-clause-high
-moved-requires-clause-high g c = let fa : FitsSigned w128 c.args.a = c.ranges.a in simp to_z-of_z c.requires.high
+high : (g : given.Over) (c : After-moved-arg-1 g) → to_z w128 (of_z w128 c.args.a) ≤ℤ pos (10 ^ 30)
+high g c = let fa : FitsSigned w128 c.args.a = c.ranges.a in simp to_z-of_z c.requires.high
 
-pub moved-requires-clause-noted : goal.moved-requires-clause-noted
-moved-requires-clause-noted g c =
+noted : (g : given.Over) (c : After-moved-arg-1 g) → g.T.Term.fits c.index-terms-i.result c.index_mut-note.result.now (to_z w128 (of_z w128 c.args.q)) c.row_mut-x.result.now
+noted g c =
     let fq : FitsSigned w128 c.args.q = c.ranges.q in
     let r = c.requires in
     let term = c.index-terms-i.result in
     let F : List ℤ → Type 0 = λ x. g.T.Term.fits term c.index_mut-note.result.now c.args.q x in
-    let noted : F c.row_mut-x.result.now = subst F (sym c.row_mut-x.ensures.value) (r.graph.noted c.args.hop.term r.inside term c.index-terms-i.is c.index_mut-note.result.now c.index_mut-note.ensures.value) in
-    simp to_z-of_z noted
+    let fit : F c.row_mut-x.result.now = subst F (sym c.row_mut-x.ensures.value) (r.graph.noted c.args.hop.term r.inside term c.index-terms-i.is c.index_mut-note.result.now c.index_mut-note.ensures.value) in
+    simp to_z-of_z fit
 
-pub moved-requires-clause-entries : goal.moved-requires-clause-entries
-moved-requires-clause-entries g c = rw c.row_mut-x.ensures.value (here g (goal.at.moved-requires-clause-entries g c).After-moved-arg-1).entries
+pub moved-requires : goal.moved-requires
+moved-requires g c =
+    let at = (goal.at.moved-requires g c).After-moved-arg-1 in
+    record { factor = factor g at; entries = entries g at; bounded = (here g at).bounded; small = small g at; base = base g at; noted = noted g at; apart = c.requires.can.apart; from = from g at; onto = onto g at; low = low g at; high = high g at; room = room g at }
 
-pub moved-requires-clause-bounded : goal.moved-requires-clause-bounded
-moved-requires-clause-bounded g c = (here g (goal.at.moved-requires-clause-bounded g c).After-moved-arg-1).bounded
-
-pub moved-requires-clause-base : goal.moved-requires-clause-base
-moved-requires-clause-base g c = base g (goal.at.moved-requires-clause-base g c).After-moved-arg-1
-
-pub moved-requires-clause-room : goal.moved-requires-clause-room
-moved-requires-clause-room g c = room g (goal.at.moved-requires-clause-room g c).After-moved-arg-1
-
-pub exchange-requires-clause-factor : goal.exchange-requires-clause-factor
-exchange-requires-clause-factor g c = let fq : FitsSigned w128 c.args.q = c.ranges.q in simp to_z-of_z c.requires.graph.factor
-
-pub exchange-requires-clause-small : goal.exchange-requires-clause-small
-exchange-requires-clause-small g c = rw c.row_mut-x.ensures.value c.requires.can.small
-
-pub exchange-requires-clause-apart : goal.exchange-requires-clause-apart
-exchange-requires-clause-apart g c = c.requires.can.apart
-
-pub exchange-requires-clause-from : goal.exchange-requires-clause-from
-exchange-requires-clause-from g c = rw c.row_mut-x.ensures.value c.requires.can.raised
-
-pub exchange-requires-clause-onto : goal.exchange-requires-clause-onto
-exchange-requires-clause-onto g c = rw c.row_mut-x.ensures.value c.requires.can.lowered
-
-pub exchange-requires-clause-low : goal.exchange-requires-clause-low
-exchange-requires-clause-low g c =
-    let fa : FitsSigned w128 c.args.a = c.ranges.a in
-    let some = c.requires.low in
-    let low : pos 0 ≤ℤ c.args.a = omega (arith, ints, some) in
-    simp to_z-of_z low
-
-pub exchange-requires-clause-high : goal.exchange-requires-clause-high
-exchange-requires-clause-high g c = let fa : FitsSigned w128 c.args.a = c.ranges.a in simp to_z-of_z c.requires.high
-
-pub exchange-requires-clause-entries : goal.exchange-requires-clause-entries
-exchange-requires-clause-entries g c = rw c.row_mut-x.ensures.value (here g (goal.at.exchange-requires-clause-entries g c).After-moved-arg-1).entries
-
-pub exchange-requires-clause-base : goal.exchange-requires-clause-base
-exchange-requires-clause-base g c = base g (goal.at.exchange-requires-clause-base g c).After-moved-arg-1
-
-pub exchange-requires-clause-room : goal.exchange-requires-clause-room
-exchange-requires-clause-room g c = room g (goal.at.exchange-requires-clause-room g c).After-moved-arg-1
+pub exchange-requires : goal.exchange-requires
+exchange-requires g c =
+    let at = (goal.at.exchange-requires g c).After-moved-arg-1 in
+    record { factor = factor g at; entries = entries g at; small = small g at; apart = c.requires.can.apart; from = from g at; onto = onto g at; base = base g at; low = low g at; high = high g at; room = room g at }
 
 pub renew_rows-requires-clause-based : goal.renew_rows-requires-clause-based
 renew_rows-requires-clause-based g c =
@@ -149,18 +120,10 @@ pub renew_rows-requires-clause-apart : goal.renew_rows-requires-clause-apart
 renew_rows-requires-clause-apart g c = c.requires.can.apart
 
 pub renew_rows-requires-clause-raised : goal.renew_rows-requires-clause-raised
-renew_rows-requires-clause-raised g c =
-    let at = goal.at.renew_rows-requires-clause-raised g c in
-    let b = here g at.After-moved-arg-1 in
-    let s = still g at.After-at-1 b in
-    rw (s.entries ∙ sym b.entries) c.requires.can.raised
+renew_rows-requires-clause-raised g c = let at = goal.at.renew_rows-requires-clause-raised g c in rw (long g at.After-at-1) c.requires.can.raised
 
 pub renew_rows-requires-clause-lowered : goal.renew_rows-requires-clause-lowered
-renew_rows-requires-clause-lowered g c =
-    let at = goal.at.renew_rows-requires-clause-lowered g c in
-    let b = here g at.After-moved-arg-1 in
-    let s = still g at.After-at-1 b in
-    rw (s.entries ∙ sym b.entries) c.requires.can.lowered
+renew_rows-requires-clause-lowered g c = let at = goal.at.renew_rows-requires-clause-lowered g c in rw (long g at.After-at-1) c.requires.can.lowered
 
 pub renew_rows-requires-clause-rows : goal.renew_rows-requires-clause-rows
 renew_rows-requires-clause-rows g c =
@@ -227,8 +190,9 @@ returns-clause-moved g c =
     let bases = c.args.graph.now.bases in
     let i = c.args.hop.term in
     let y = c.exchange.new.x in
-    let moved = came g (goal.at.returns-clause-moved g c).After-at-1 in
-    let same : length y ≡ length (base_at bases i) = ap length moved ∙ length-exchanged (base_at bases i) c.args.hop.u c.args.hop.v c.args.a in
+    let at = (goal.at.returns-clause-moved g c).After-at-1 in
+    let moved = came g at in
+    let same = long g at in
     rw (take_at y (drop (length y) (base_at bases i)) (length (base_at bases i)) same) (ap (λ z. set bases i z) moved)
 
 pub returns-clause-graph : goal.returns-clause-graph
@@ -241,7 +205,7 @@ returns-clause-graph g c =
     let at = goal.at.returns-clause-graph g c in
     let y = c.exchange.new.x in
     let bases = c.args.graph.now.bases in
-    let same : length y ≡ length (base_at bases i) = ap length (came g at.After-at-1) ∙ length-exchanged (base_at bases i) c.args.hop.u c.args.hop.v c.args.a in
+    let same = long g at.After-at-1 in
     let whole : take (length (base_at bases i)) (y ++ drop (length y) (base_at bases i)) ≡ y = take_at y (drop (length y) (base_at bases i)) (length (base_at bases i)) same in
     let e = c.in_ok-changes.ensures in
     let shown = rows_shown r.graph c.args.hop.term r.inside c.index-terms-i.result c.index-terms-i.is c.index_mut-rows.result.now c.index_mut-rows.ensures.value in

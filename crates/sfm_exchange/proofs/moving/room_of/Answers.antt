@@ -1,12 +1,13 @@
-use Rattle.std.proofs.Common.{◌<◌, [], List, ℤ, length, sym, ap, subst, arith, FitsSigned}
+use Rattle.std.proofs.Common.{◌<◌, [], List, ℤ, length, length-set, ◌∙◌, refl, sym, ap, subst, arith, FitsSigned}
 use Rattle.std.specs.List.{All}
 use Rattle.std.proofs.lemmas.Int.{to_z-of_z}
 use Rattle.std.proofs.lemmas.List.Elements.{All-get_or}
 use mir.Syntax.{w128}
 use Rattle.sfm_spec.specs.Bounds.{IsEntry}
+use Rattle.sfm_spec.specs.Walks.{base_at}
 use Rattle.sfm_reach.specs.Based.{IsBased}
 use Rattle.sfm_reach.proofs.Basing.{size_low}
-use Rattle.sfm_exchange.proofs.ClaimedGraphs.{base_count, based, counted, means, places_are}
+use Rattle.sfm_exchange.proofs.ClaimedGraphs.{base_count, based, counted, means, noted_still, places_are}
 use Rattle.sfm_exchange.proofs.moving.room_of.Goals as goal
 
 pub index_mut-note-requires : goal.index_mut-note-requires
@@ -67,3 +68,30 @@ returns-clause-room g c =
     let l : i < length c.args.terms.now = rw (counted h) at c.requires.movable.term_in in
     let room = rw c.row.ensures at (simp to_z-of_z at c.in_ok-room.ensures.room) in
     rw (means h i l c.index-terms-i.result c.index-terms-i.is) room
+
+pub returns-clause-still : goal.returns-clause-still
+returns-clause-still g c =
+    let fq : FitsSigned w128 c.args.q = c.ranges.q in
+    let t = g.T.Term in
+    let h = c.requires.ready.claimed in
+    let i = c.args.hop.term in
+    let term = c.index-terms-i.result in
+    let note = c.room_by.new._note in
+    let l : i < length c.args.terms.now = rw (counted h) at c.requires.movable.term_in in
+    let fit : t.fits term note c.args.q (base_at c.args.graph.now.bases i) = rw c.row.ensures at (simp to_z-of_z at c.in_ok-room.ensures.noted) in
+    record {
+      claimed = record {
+        bounded = h.bounded;
+        factor = h.factor;
+        are_bases = h.are_bases;
+        note_count = length-set c.args.graph.now.notes.items i note ∙ h.note_count;
+        claim_count = h.claim_count;
+        noted = noted_still h i l term c.index-terms-i.is note fit;
+        sized_rows = h.sized_rows;
+        claims = h.claims;
+        are_spots = h.are_spots;
+        are_unions = h.are_unions;
+        are_turned = h.are_turned;
+      };
+      bases = refl;
+    }

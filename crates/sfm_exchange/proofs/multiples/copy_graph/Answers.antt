@@ -1,31 +1,44 @@
-use Rattle.std.proofs.Common.{rules, FitsSigned}
+use Rattle.std.proofs.Common.{FitsSigned, ap, length, sym, ◌∙◌}
 use Rattle.std.proofs.lemmas.Int.{to_z-of_z}
 use mir.Syntax.{w128}
+use Rattle.sfm_exchange.proofs.ClaimedGraphs.{shaped, whole_claimed}
 use Rattle.sfm_exchange.proofs.Scaling.{unions_same}
 use Rattle.sfm_reach.proofs.Basing.{are_based}
 use Rattle.sfm_exchange.proofs.multiples.copy_graph.Goals as goal
 
-pub notes_of-requires : goal.notes_of-requires
-notes_of-requires g c =
+pub blank_graph-requires : goal.blank_graph-requires
+blank_graph-requires g c = c.requires.bounded.placed
+
+pub take_rows-requires-clause-based : goal.take_rows-requires-clause-based
+take_rows-requires-clause-based g c =
     let m = g.met.T.Term in
     let fq : FitsSigned w128 c.args.q = c.ranges.q in
-    rw c.in_ok-bases.ensures (simp to_z-of_z (are_based m.submodular m.bounded c.requires.bounded c.requires.factor c.requires.graph.are_bases c.requires.small))
+    rw c.in_ok-copied-2.ensures (simp to_z-of_z (are_based m.submodular m.bounded c.requires.bounded c.requires.factor c.requires.graph.are_bases c.requires.small))
+
+pub take_rows-requires-clause-shaped : goal.take_rows-requires-clause-shaped
+take_rows-requires-clause-shaped g c =
+    let r = c.requires in
+    let b = c.in_ok-copied.ensures in (
+      c.args.n,
+      record { are_spots = b.are_spots; sized_rows = b.sized_rows; claim_count = b.claim_count; union_count = b.union_count; back_count = b.back_count },
+      shaped (whole_claimed (record { bounded = r.bounded; factor = r.factor; exact = r.graph })),
+    )
 
 pub returns : goal.returns
 returns g c =
     let fq : FitsSigned w128 c.args.q = c.ranges.q in
     let o = c.requires.graph in
-    let same = c.in_ok-bases.ensures in
-    let fitting = c.in_ok-notes.ensures in
-    let copied = rw c.deref.ensures.value at c.copy_tables.ensures in
+    let taken = c.in_ok-take_rows.ensures in
+    let bases = taken.bases ∙ c.in_ok-copied-2.ensures in
+    let spots = c.in_ok-copied.ensures.are_spots in
     record {
-      are_bases = rw same o.are_bases;
-      note_count = fitting.count;
-      claim_count = search rules;
-      noted = simp to_z-of_z at fitting.fit;
-      sized_rows = rw copied o.sized_rows;
-      tables = rw (copied, same) o.tables;
-      are_spots = c.in_ok-spots.ensures;
-      are_unions = rw (copied, c.in_ok-unions.ensures.items, c.deref-2.ensures.value) (unions_same c.in_ok-spots.ensures o.are_spots o.are_unions);
-      are_turned = rw (c.in_ok-unions.ensures.items, c.deref-2.ensures.value, c.in_ok-back.ensures.items, c.deref-3.ensures.value) o.are_turned;
+      are_bases = rw bases o.are_bases;
+      note_count = taken.count;
+      claim_count = rw taken.claimed o.claim_count;
+      noted = rw taken.bases (simp to_z-of_z at taken.noted);
+      sized_rows = rw taken.rows o.sized_rows;
+      tables = rw (taken.rows, bases) o.tables;
+      are_spots = rw taken.spots spots;
+      are_unions = rw (taken.spots, taken.rows, taken.unions) (unions_same spots o.are_spots o.are_unions);
+      are_turned = rw (taken.unions, taken.back) o.are_turned;
     }

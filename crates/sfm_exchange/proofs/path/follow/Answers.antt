@@ -1,4 +1,4 @@
-use Rattle.std.proofs.Common.{◌≡◌, ◌+◌, ◌-◌, ◌<◌, [], ◌∷◌, length, sym, ap, ◌∙◌, arith}
+use Rattle.std.proofs.Common.{◌≡◌, ◌+◌, ◌-◌, ◌<◌, [], ◌∷◌, length, refl, sym, ap, ◌∙◌, arith}
 use Rattle.std.proofs.lemmas.List.{length-append}
 use Rattle.sfm_spec.specs.Families.{meanings}
 use Rattle.sfm_spec.specs.Walks.{Step, last_of}
@@ -44,3 +44,44 @@ loop-k-preserved g c =
     let same = steps_of-push hops hop in
     let count = length-append hops (hop ∷ []) in
     rw c.in_ok-push.ensures.items (lk, onto, (sym (last-push first (steps_of hops) (step_of hop)) ∙ ap (λ s. last_of first s) (sym same)), more, rw same falls, omega (arith, count, inv.5, positive), least)
+
+pub loop-k-init : goal.loop-k-init
+loop-k-init g c =
+    let further = c.requires.first.further in
+    let k = length c.args.levels.now - 1 in
+    rw c.clear.ensures.items (omega (arith, further), c.requires.first.last k (omega (arith, further)), refl, tt, tt, omega (arith, further), tt)
+
+pub least_step-hop-requires-clause-spots : goal.least_step-hop-requires-clause-spots
+least_step-hop-requires-clause-spots g c = rw (c.deref.ensures.value, c.deref-in-loop-k-2.ensures.value) c.requires.spots
+
+pub least_step-hop-requires-clause-rows : goal.least_step-hop-requires-clause-rows
+least_step-hop-requires-clause-rows g c = rw (c.deref.ensures.value, c.deref-in-loop-k.ensures.value) c.requires.rows
+
+pub least_step-hop-requires-clause-unions : goal.least_step-hop-requires-clause-unions
+least_step-hop-requires-clause-unions g c = rw (c.deref.ensures.value, c.deref-in-loop-k.ensures.value, c.deref-in-loop-k-2.ensures.value) c.requires.unions
+
+pub least_step-hop-requires-clause-placed : goal.least_step-hop-requires-clause-placed
+least_step-hop-requires-clause-placed g c = rw c.deref-in-loop-k.ensures.value c.requires.placed
+
+pub least_step-hop-requires-clause-at : goal.least_step-hop-requires-clause-at
+least_step-hop-requires-clause-at g c =
+    let inv = c.loop-k.invariant in
+    rw c.deref-in-loop-k-2.ensures.value (c.requires.first.levelled.below c.loop-k.k c.loop-k.at inv.0 inv.1)
+
+pub returns-clause-hops : goal.returns-clause-hops
+returns-clause-hops g c = c.loop-k.invariant.3
+
+pub returns-clause-falls : goal.returns-clause-falls
+returns-clause-falls g c = c.loop-k.invariant.4
+
+pub returns-clause-least : goal.returns-clause-least
+returns-clause-least g c = c.loop-k.invariant.6
+
+pub returns-clause-last : goal.returns-clause-last
+returns-clause-last g c =
+    let inv = c.loop-k.invariant in
+    let zero : c.loop-k.k ≡ 0 = omega (arith, c.loop-k-test.false) in
+    rw (zero, inv.2) at inv.1
+
+pub returns-clause-some : goal.returns-clause-some
+returns-clause-some g c = omega (arith, c.loop-k.invariant.5, c.requires.first.further, c.loop-k-test.false)

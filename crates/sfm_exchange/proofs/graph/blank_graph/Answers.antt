@@ -1,0 +1,4 @@
+use Rattle.sfm_exchange.proofs.graph.blank_graph.Goals as goal
+
+pub returns : goal.returns
+returns g c = record { are_spots = c.in_ok-spots.ensures; sized_rows = c.in_ok-rows.ensures; claim_count = c.in_ok-claimed.ensures; union_count = c.in_ok-unions.ensures; back_count = c.in_ok-back.ensures }
