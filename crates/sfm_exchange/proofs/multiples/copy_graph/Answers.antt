@@ -1,4 +1,4 @@
-use Rattle.std.proofs.Common.{FitsSigned, ap, length, sym, ◌∙◌}
+use Rattle.std.proofs.Common.{FitsSigned, ◌∙◌}
 use Rattle.std.proofs.lemmas.Int.{to_z-of_z}
 use mir.Syntax.{w128}
 use Rattle.sfm_exchange.proofs.ClaimedGraphs.{shaped, whole_claimed}
