@@ -22,6 +22,10 @@ pub passed_on : {A E : Type 0} (r : Result A E) (end : E) (Q : E → Type 0) →
 passed_on (Ok x) end Q h q = absurd h
 passed_on (Err e) end Q h q = subst Q (sym h) q
 
+-- want of memory says nothing of where the reading stands
+pub wanting : {A : Type 0} (r : Result A AnswerEnd) (text : List ℕ) (from : Cursor) (IsGood : List ℕ → Type 0) → IsErrAnd r (λ e. e ≡ Memory) → IfErr r (EndsStuck text from IsGood)
+wanting r text from IsGood is = passed_on r Memory (EndsStuck text from IsGood) is tt
+
 -- no line is next
 pub stuck_without : (text : List ℕ) (from : Cursor) (IsGood : List ℕ → Type 0) → ((line : List ℕ) → IsNextLine text from.at line → ⊥) → IsStuck text from IsGood from.line
 stuck_without text from IsGood none = record { number_is = refl; none = λ line n g. none line n }

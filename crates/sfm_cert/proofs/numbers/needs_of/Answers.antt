@@ -1,5 +1,7 @@
-use Rattle.std.proofs.Common.{arith}
-use Rattle.sfm_cert.proofs.Needs.{needs_begin, needs_more, needs_none, not_empty}
+use Rattle.std.proofs.Common.{ap, length, arith}
+use Rattle.std.specs.Fmt.{decimal}
+use Rattle.std.proofs.lemmas.List.{length-append}
+use Rattle.sfm_cert.proofs.Needs.{needs_begin, needs_end, needs_more, needs_none, not_empty, is_empty_nil}
 use Rattle.sfm_cert.proofs.numbers.needs_of.Goals as goal
 
 pub loop-rest-init : goal.loop-rest-init
@@ -15,3 +17,9 @@ loop-rest-preserved c =
     let r = c.in-Some.ensures in
     rw c.in_ok-push.ensures.items
     (needs_more c.args.most c.args.bytes.now c.loop-rest.needs.items c.loop-rest.last c.in-Some.need c.loop-rest.rest.now c.in-Some.more.now (omega (arith, c.ranges.most)) c.loop-rest.invariant r.0 r.1 r.2 r.3)
+
+pub loop-rest-smaller : goal.loop-rest-smaller
+loop-rest-smaller c = let behind = ap length c.in-Some.ensures.3 in omega (arith, behind, length-append (decimal c.in-Some.need) c.in-Some.more.now)
+
+pub returns : goal.returns
+returns c = needs_end c.args.most c.args.bytes.now c.loop-rest.needs.items c.loop-rest.last c.loop-rest.rest.now c.loop-rest.invariant (is_empty_nil _ _ c.is_empty.ensures c.loop-rest-test.false)

@@ -3,7 +3,7 @@ use Rattle.std.proofs.lemmas.Int.{to_z-of_z}
 use mir.Syntax.{w128}
 use Rattle.sfm_cert.proofs.AnswerLines.{entry_fits}
 use Rattle.std.proofs.lemmas.List.{length_push}
-use Rattle.sfm_cert.proofs.Needs.{NumbersSoFar, numbers_begin, numbers_more, numbers_none, numbers_end, is_empty_nil}
+use Rattle.sfm_cert.proofs.Needs.{NumbersSoFar, numbers_begin, numbers_more, numbers_none, numbers_left, numbers_end, not_empty, is_empty_nil}
 use Rattle.sfm_cert.proofs.numbers.numbers_of.Goals as goal
 
 pub loop-init : goal.loop-init
@@ -23,6 +23,10 @@ loop-preserved c =
           (numbers_more c.args.count c.args.bytes.now c.loop.numbers.items a c.loop.rest.now c.in-Some.more.now c.loop.invariant.0 r.0 r.1 r.2),
       omega (arith, length_push c.loop.numbers.items a, ap length pushed, c.loop.invariant.1),
     )
+
+pub returns-then-not-is_empty : goal.returns-then-not-is_empty
+returns-then-not-is_empty c =
+    numbers_left c.args.count c.args.bytes.now c.loop.numbers.items c.loop.rest.now c.loop.invariant.0 (omega (arith, c.loop.invariant.1, c.loop-test.false, c.loop.auto.counter-end)) (not_empty _ _ c.is_empty.ensures c.if-not-is_empty.true)
 
 pub returns : goal.returns
 returns c = (

@@ -15,6 +15,24 @@ sections : (c : In_ok-breaks) → let heads = map break_of_head c.in_ok-heads.he
     ReadsBreaks (form_of c.args.instance.now) c.args.text.now c.read_rows.new.cursor c.read_breaks.new.cursor heads [] breaks × AreBreaksOf (form_of c.args.instance.now) heads breaks
 sections c = (rw c.deref.ensures.value at c.in_ok-breaks.ensures.read, rw c.deref.ensures.value at c.in_ok-breaks.ensures.same)
 
+pub read_blocks-requires : goal.read_blocks-requires
+read_blocks-requires c = c.in_ok-value.ensures.read.reads.within
+
+pub read_heads-requires : goal.read_heads-requires
+read_heads-requires c = c.in_ok-blocks.ensures.read.reads.within
+
+pub expect-requires : goal.expect-requires
+expect-requires c = c.in_ok-heads.ensures.read.within
+
+pub read_rows-requires : goal.read_rows-requires
+read_rows-requires c = c.in_ok-expect.ensures.within
+
+pub read_breaks-requires-clause-within : goal.read_breaks-requires-clause-within
+read_breaks-requires-clause-within c = c.in_ok-bases.ensures.read.within
+
+pub expect-requires-2 : goal.expect-requires-2
+expect-requires-2 c = c.in_ok-breaks.ensures.read.within
+
 pub read_breaks-requires-clause-heads : goal.read_breaks-requires-clause-heads
 read_breaks-requires-clause-heads c = rw c.deref.ensures.value c.in_ok-heads.ensures.read.formed
 
