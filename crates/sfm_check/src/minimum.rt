@@ -91,7 +91,10 @@ pub fn is_minimum_right(alloc: Global, instance: &Instance, solved: &Solved) -> 
         × IsProvedSection (meanings kind_places kind_value instance.now.terms) (length instance.now.names) (section_at (answer_of solved.now) 0)) }
 {
     tell_kept(instance);
-    if !are_between(alloc, instance, solved)? || !are_worth_least(alloc, instance, solved)? {
+    if !are_between(alloc, instance, solved)? {
+        return Ok(false);
+    }
+    if !are_worth_least(alloc, instance, solved)? {
         return Ok(false);
     }
     are_blocks_right(alloc, instance, solved)

@@ -1,6 +1,7 @@
-use Rattle.std.proofs.Common.{◌≡◌, ◌+◌, length, map, arith, subst, sym}
+use Rattle.std.proofs.Common.{◌≡◌, ℕ, ◌+◌, ◌≤◌, List, length, map, ⊎_elim, arith, subst, sym}
 use Rattle.std.proofs.lemmas.List.{length-map}
-use Rattle.sfm_spec.specs.Families.{meanings}
+use Rattle.sfm_spec.specs.Families.{Meaning, meanings}
+use Rattle.sfm_spec.specs.Laws.{Mark}
 use Rattle.sfm_kind.specs.Kinds.{kind_places, kind_value}
 use Rattle.sfm_extreme.specs.declared.extremes.Proved.{Proved}
 use Rattle.sfm_extreme.specs.Blocks.{block_of}
@@ -10,6 +11,7 @@ use Rattle.sfm_check.specs.Truth.{section_at}
 use Rattle.sfm_check.specs.Findings.{IsFirstWrongSlope, IsToldOf, IsTrueMinimum, IsWrongLine}
 use Rattle.sfm_check.proofs.AllSlopes.{all_slopes, fit, given_lowest, wrong_at}
 use Rattle.sfm_check.proofs.Following.{full_chain}
+use Rattle.sfm_check.proofs.Forming.{few_lines}
 use Rattle.sfm_check.proofs.Heads.{found_wrong, head_true, with_slopes, with_slopes-same, with_slopes-true}
 use Rattle.sfm_check.proofs.head.first_wrong.Goals as goal
 
@@ -19,6 +21,19 @@ first_wrong_before_slopes-requires-clause-told c =
     let n = length c.args.instance.now.names in
     let told = c.requires.told.each 0 c.index-found-0.result (omega arith) in
     subst (λ (z : Proved). IsToldOf ms n (section_at (answer_of c.args.solved.now) 0) z) (sym c.index-found-0.is) told
+
+-- a slope that is wrong is there, or stands behind the last one
+within : (terms : List Meaning) (n : ℕ) (marks : List Mark) (k : ℕ) → IsFirstWrongSlope terms n marks k → k ≤ length marks
+within terms n marks k w = ⊎_elim (λ here. omega (arith, here.0)) (λ end. omega (arith, end.0)) w.wrong
+
+pub overflow_add-result-in-Some-2 : goal.overflow_add-result-in-Some-2
+overflow_add-result-in-Some-2 c =
+    let a = answer_of c.args.solved.now in
+    let w : IsFirstWrongSlope (meanings kind_places kind_value c.args.instance.now.terms) (length c.args.instance.now.names) (map mark_of a.breaks) c.in-Some-2.k = rw c.in-Some-2.is at c.in_ok-k.ensures in
+    let k = within (meanings kind_places kind_value c.args.instance.now.terms) (length c.args.instance.now.names) (map mark_of a.breaks) c.in-Some-2.k w in
+    let lines = few_lines (form_of c.args.instance.now) a in
+    let most = c.requires.few in
+    omega (arith, lines, most, k, c.len.ensures, c.args.solved.now.blocks.ok.0, length-map c.args.solved.now.blocks.items block_of, length-map a.breaks mark_of)
 
 pub returns-in-Some-2 : goal.returns-in-Some-2
 returns-in-Some-2 c =

@@ -13,6 +13,9 @@ use Rattle.sfm_check.specs.Findings.{IsToldOf}
 use Rattle.sfm_check.proofs.Forming.{few_lines, section_in}
 use Rattle.sfm_check.proofs.sections.prove_sections.Goals as goal
 
+pub loop-s-init : goal.loop-s-init
+loop-s-init c = (ap length c.new-proved.ensures.items, λ s d l. absurd (omega (arith, l)))
+
 pub prove_section-requires-clause-at : goal.prove_section-requires-clause-at
 prove_section-requires-clause-at c = section_in c.args.solved.now.breaks.items (answer_of c.args.solved.now) c.loop-s.s _ refl (c.len-s-end.ensures ∙ c.args.solved.now.breaks.ok.0) c.loop-s-test.true
 
@@ -25,6 +28,11 @@ pub line_of_at-line-requires-clause-slopes : goal.line_of_at-line-requires-claus
 line_of_at-line-requires-clause-slopes c =
     let lines = few_lines (form_of c.args.instance.now) (answer_of c.args.solved.now) in
     omega (arith, lines, c.requires.few, c.args.solved.now.breaks.ok.0, c.len-in-None.ensures, length-map c.args.solved.now.breaks.items break_of)
+
+pub line_of_at-line-requires-clause-terms : goal.line_of_at-line-requires-clause-terms
+line_of_at-line-requires-clause-terms c =
+    let few = c.terms.ensures.bounded.few_terms in
+    omega (arith, few, ap length c.terms.ensures.terms, length-map c.args.instance.now.terms kind_places)
 
 pub line_of_at-line-requires-clause-section : goal.line_of_at-line-requires-clause-section
 line_of_at-line-requires-clause-section c =

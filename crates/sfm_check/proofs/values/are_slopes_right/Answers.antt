@@ -1,6 +1,6 @@
-use Rattle.std.proofs.Common.{◌≡◌, ◌<◌, length, map, ⊎_elim, sym, ap, ◌∙◌, refl, arith, subst}
+use Rattle.std.proofs.Common.{◌≡◌, ◌<◌, false, length, map, ⊎_elim, sym, ap, ◌∙◌, refl, arith, subst}
 use Rattle.std.proofs.lemmas.Bool.{cases_lt, eqb-true}
-use Rattle.std.proofs.lemmas.List.{length-map}
+use Rattle.std.proofs.lemmas.List.{length-map, length-replicate}
 use Rattle.sfm_spec.specs.Sets.{empty_set, size, whole_set}
 use Rattle.sfm_spec.specs.Families.{meanings}
 use Rattle.sfm_kind.specs.Kinds.{kind_places, kind_value}
@@ -28,6 +28,18 @@ attain-requires-clause-formed c = formed (goal.at.attain-requires-clause-formed 
 
 pub worth_of-requires-in-loop-k : goal.worth_of-requires-in-loop-k
 worth_of-requires-in-loop-k c = (formed (goal.at.worth_of-requires-in-loop-k c).After-index-found).members.places
+
+pub worth_of-requires : goal.worth_of-requires
+worth_of-requires c = ap length c.in_ok-empty.ensures ∙ (length-replicate c.names_len-n.result false ∙ c.names_len-n.ensures.len)
+
+pub ascends-requires : goal.ascends-requires
+ascends-requires c = let lt = c.loop-k-test.true in omega (arith, lt, c.args.solved.now.breaks.ok.0, c.len-k-end.ensures, ap length c.deref.ensures.value)
+
+pub attain-requires-clause-before : goal.attain-requires-clause-before
+attain-requires-clause-before c = c.loop-k.invariant.1
+
+pub attain-requires-clause-here : goal.attain-requires-clause-here
+attain-requires-clause-here c = rw c.in-Some-2.is at c.in_ok-here.ensures.small
 
 pub loop-k-init : goal.loop-k-init
 loop-k-init c =
