@@ -26,8 +26,8 @@ room_by-requires-in-Concave-note c = rw (factor_kept _ c.requires.factor) (rw (c
 pub returns-in-Concave-note : goal.returns-in-Concave-note
 returns-in-Concave-note c = rw c.in-Concave.is (rw (factor_kept _ c.requires.factor) at c.room_by-in-Concave-note.ensures)
 
-pub room-requires : goal.room-requires
-room-requires c = rw (factor_kept _ c.requires.factor) (record { factor = c.requires.factor; entries = c.requires.entries; bounded = c.requires.bounded; small = c.requires.small; base = c.requires.base; apart = c.requires.apart; from = c.requires.from; onto = c.requires.onto })
+pub room-requires-clause-base : goal.room-requires-clause-base
+room-requires-clause-base c = rw (factor_kept _ c.requires.factor) c.requires.base
 
 pub returns-in_default-clause-room : goal.returns-in_default-clause-room
 returns-in_default-clause-room c = rw (factor_kept _ c.requires.factor) at c.room.ensures.room
