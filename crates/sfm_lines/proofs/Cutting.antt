@@ -1,6 +1,10 @@
 -- Cutting a token at its one byte of some kind.
-use Rattle.std.proofs.Common.{◌≡◌, ◌≢◌, ℕ, ◌+◌, ◌<◌, List, [], ◌∷◌, ◌++◌, length, get_or, take, drop, refl, sym, ap, ◌∙◌, add-one, arith}
-use Rattle.std.specs.List.{All}
+use Rattle.std.proofs.Common.{◌≡◌, ◌≢◌, ℕ, ◌+◌, ◌<◌, ◌≤◌, List, [], ◌∷◌, ◌++◌, length, get_or, take, drop, refl, sym, ap, ◌∙◌, add-one, arith}
+use Rattle.std.specs.Prelude.{◌==◌}
+use Rattle.std.specs.List.{All, position_or_len}
+use Rattle.std.proofs.lemmas.Bool.{true≢false, eq-eqb, eqb-true}
+use Rattle.std.proofs.lemmas.List.{get_or-take, length-take}
+use Rattle.std.proofs.lemmas.List.Sums.{fails_before_first, passes_at_first}
 use Prim.Native.Nat.{zero, suc}
 use Rattle.sfm_lines.specs.Parts.{IsCutAt}
 use Rattle.sfm_lines.specs.CutParts.{IsFirstAt}
@@ -16,6 +20,20 @@ cut-at b xs place lt e = rw (add-one place) (cut-suc b xs place lt e)
 
 pub tail-none : {X : Type 0} (b c : X) (xs : List X) → All (λ e. e ≢ b) (c ∷ xs) → All (λ e. e ≢ b) xs
 tail-none b c xs h = λ k d lt. h (suc k) d (omega arith)
+
+-- the place at which a search for the byte ends, where there is one, and where there is none
+pub first-at : (b : ℕ) (text : List ℕ) (place : ℕ) → place ≡ position_or_len (λ c. c == b) text → place < length text → IsFirstAt b text place
+first-at b text place is lt = record {
+  within = lt;
+  here = rw is (eqb-true _ b (passes_at_first (λ c. c == b) text 0 (omega (arith, is, lt))));
+  none_before = λ k d m same.
+      let below : k < position_or_len (λ c. c == b) text = omega (arith, is, m, length-take place text) in
+      let no = fails_before_first (λ c. c == b) text k d below in
+      true≢false (sym (eq-eqb _ b (sym (get_or-take place text k d (omega (arith, m, length-take place text))) ∙ same)) ∙ no);
+}
+
+pub none-at : (b : ℕ) (text : List ℕ) (place : ℕ) → place ≡ position_or_len (λ c. c == b) text → length text ≤ place → All (λ c. c ≢ b) text
+none-at b text place is ge = λ k d lt same. true≢false (sym (eq-eqb _ b same) ∙ fails_before_first (λ c. c == b) text k d (omega (arith, is, ge, lt)))
 
 -- two cuts at the first byte b are one
 pub front-same : {X : Type 0} (b : X) (x y x' y' : List X) → All (λ c. c ≢ b) x → All (λ c. c ≢ b) x' → x ++ b ∷ y ≡ x' ++ b ∷ y' → (x ≡ x') × (y ≡ y')

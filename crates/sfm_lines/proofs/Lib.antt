@@ -21,4 +21,5 @@ pub mod SplitLines
 pub mod WordLines
 pub mod TermReasons
 pub mod FewLabels
+pub mod Different
 pub mod RankTerms

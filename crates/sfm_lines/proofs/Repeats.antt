@@ -1,5 +1,5 @@
 -- Lists in which something stands twice, or nothing.
-use Rattle.std.proofs.Common.{◌≡◌, ◌≢◌, ℕ, ◌+◌, ◌<◌, ◌≤◌, List, [], ◌∷◌, ◌++◌, length, get_or, take, map, Contains, Some, Bor, Bool, true, false, not, nat_eq, refl, sym, ap, ◌∙◌, arith}
+use Rattle.std.proofs.Common.{◌≡◌, ◌≢◌, ◌⊎◌, inl, inr, ℕ, zero, suc, ◌+◌, ◌<◌, ◌≤◌, List, [], ◌∷◌, ◌++◌, length, get_or, take, map, Contains, Some, Bor, Bool, true, false, not, nat_eq, refl, sym, ap, ◌∙◌, arith}
 use Rattle.std.specs.Cmp.Lexicographic.{pointwise, same_text}
 use Rattle.std.proofs.lemmas.Bool.{cases_lt}
 use Rattle.std.proofs.lemmas.List.Folds.{Any-from_list_any}
@@ -19,6 +19,19 @@ pub twice-same : {X : Type 0} (xs : List X) (d : X) (h : StandsTwice xs) → get
 twice-same xs d h =
     let lt : h.0 < length xs = omega (arith, h.2, h.3) in
     same_Some (get_or xs h.0 d) (get_or xs h.1 d) (sym (slice_get-get_or xs h.0 d lt) ∙ (h.4 ∙ slice_get-get_or xs h.1 d h.3))
+
+-- one more at the front
+pub twice-more : {X : Type 0} (x : X) (xs : List X) → StandsTwice xs → StandsTwice (x ∷ xs)
+twice-more x xs t = twice-at (x ∷ xs) (suc t.0) (suc t.1) x (omega (arith, t.2)) (omega (arith, t.3)) (twice-same xs x t)
+
+-- the first stands once more, or another twice behind it
+pub twice-split : {X : Type 0} (x : X) (xs : List X) → StandsTwice (x ∷ xs) → Contains xs x ⊎ StandsTwice xs
+twice-split x xs t = at t.0 t.1 t.2 t.3 (twice-same (x ∷ xs) x t)
+  where
+    at : (i j : ℕ) → i < j → j < length (x ∷ xs) → get_or (x ∷ xs) i x ≡ get_or (x ∷ xs) j x → Contains xs x ⊎ StandsTwice xs
+    at i zero lt within e = absurd (omega (arith, lt))
+    at zero (suc j) lt within e = inl (j, omega (arith, within), sym e)
+    at (suc i) (suc j) lt within e = inr (twice-at xs i j x (omega (arith, lt)) (omega (arith, within)) e)
 
 -- an element that stands before itself
 pub twice-seen : {X : Type 0} (xs : List X) (i : ℕ) (d : X) → i < length xs → Contains (take i xs) (get_or xs i d) → StandsTwice xs

@@ -1,7 +1,7 @@
 // The groups of a line: whether their names are those of the line's elements, whether one stands twice, and the term that
 // they make. Names are sought in a set of the elements, since a line may have millions of either. A group's members are
 // found by going through the elements in order, so that they ascend.
-ghost use Rattle.std.specs.Prelude.{◌≡◌, ◌+◌, ◌^◌, ℕ, List, length, pos, ◌≤ℤ◌, Any, Contains, IfOk, MatchBool, MatchOption};
+ghost use Rattle.std.specs.Prelude.{◌≡◌, ◌↔◌, ◌+◌, ◌^◌, ℕ, List, length, pos, ◌≤ℤ◌, Any, Contains, IsTrue, IfOk, MatchBool, MatchOption};
 ghost use Rattle.sfm_laminar.specs.Crossing.{IsCrossing};
 ghost use Rattle.std.specs.List.{All};
 ghost use Rattle.sfm_spec.specs.Bounds.{IsAtMost};
@@ -16,7 +16,6 @@ ghost use Rattle.sfm_lines.specs.declared.word.RankKind.TheVariants.{LaminarRank
 use crate::kept::{keep, with_kept};
 use crate::labels::add_names;
 use crate::parts::Parts;
-use crate::repeat::has_repeat;
 use indexmap::IndexSet;
 use sfm_base::Memory;
 use sfm_kind::Kind;
@@ -33,15 +32,6 @@ fn is_one_of(texts: &[&[u8]], text: &[u8]) -> bool
         }
     }
     false
-}
-
-/// The different elements.
-fn known<'a>(alloc: Global, elements: &[&'a [u8]]) -> Result<IndexSet<&'a [u8]>, Memory>
-    ensures { IfOk result (λ r. texts_of r.keys ≡ distinct_of (texts_of elements.now)) }
-{
-    let mut known = IndexSet::new(alloc);
-    add_names(&mut known, elements)?;
-    Ok(known)
 }
 
 /// Whether a text is one of the texts of which these are the different ones.
@@ -85,8 +75,18 @@ pub fn are_members(alloc: Global, elements: &[&[u8]], groups: &[&[&[u8]]]) -> Re
         (All (λ names. All (Contains (texts_of elements.now)) names) (text_lists_of groups.now))
         (Any (λ names. Any (λ name. Contains (texts_of elements.now) name → ⊥) names) (text_lists_of groups.now))) }
 {
-    let known = known(alloc, elements)?;
+    let mut known = IndexSet::new(alloc);
+    add_names(&mut known, elements)?;
     Ok(are_all_known(&known, groups))
+}
+
+/// Whether some name stands twice: then there are fewer different ones.
+fn has_repeat(alloc: Global, names: &[&[u8]]) -> Result<bool, Memory>
+    ensures { IfOk result (λ r. IsTrue r ↔ StandsTwice (texts_of names.now)) }
+{
+    let mut different = IndexSet::new(alloc);
+    add_names(&mut different, names)?;
+    Ok(different.len() < names.len())
 }
 
 /// Whether a name stands twice in some group.

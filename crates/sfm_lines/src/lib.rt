@@ -15,7 +15,6 @@ pub mod pair;
 mod parts;
 mod rank_head;
 mod reason;
-mod repeat;
 mod stage;
 pub mod term_line;
 mod terms;

@@ -15,7 +15,7 @@ use crate::mark::{cut_at_colon, has_mark};
 use crate::pair::cut_pair;
 use crate::parts::Parts;
 use crate::uniform_line::uniform_parts;
-use crate::word::TermWord;
+use crate::word::{RankKind, TermWord};
 use std::alloc::{AllocError, Global};
 
 /// Whether the line of a word may have so many numbers and so many elements.
@@ -48,7 +48,7 @@ fn counted_parts<'a, 'b>(
     if !are_counts(word, numbers.len(), elements.len()) {
         return Ok(None);
     }
-    let parts = Parts::copied(alloc, numbers, elements)?;
+    let parts = Parts::copied(alloc, RankKind::NoRank, numbers, elements)?;
     Ok(Some(parts))
 }
 
@@ -71,7 +71,13 @@ fn weight_parts<'a, 'b>(
         elements.push(element)?;
         numbers.push(number)?;
     }
-    Ok(Some(Parts::plain(alloc, numbers, elements)))
+    Ok(Some(Parts {
+        numbers,
+        elements,
+        rank: RankKind::NoRank,
+        groups: Vec::new(alloc),
+        labels: Vec::new(alloc),
+    }))
 }
 
 /// The parts of tokens that are so many numbers and then elements, or None where they are no line of the word.

@@ -1,19 +1,19 @@
-// Cutting a token at the one colon that it has.
-ghost use Rattle.std.specs.Prelude.{◌≢◌, ℕ, List, MatchOption};
-ghost use Rattle.std.specs.List.{All};
+// Cutting a token at the one byte of a kind that it has, as at the colon of a pair.
+ghost use Rattle.std.specs.Prelude.{◌≡◌, ◌==◌, ◌≤◌, ℕ, List, length, MatchOption};
+ghost use Rattle.std.specs.List.{position_or_len};
 ghost use Rattle.sfm_lines.specs.Parts.{IsCutAt, IsPairToken};
-ghost use Rattle.sfm_lines.specs.CutParts.{IsFirstAt};
 
-/// The place of the first byte b, or None where there is none.
-fn place_of_byte(text: &[u8], b: u8) -> Option<usize>
-    ensures { MatchOption result (All (λ c. c ≢ b) text.now) (IsFirstAt b text.now) }
+/// The place of the first byte b, or the length where there is none.
+pub fn place_of_byte(text: &[u8], b: u8) -> usize
+    ensures place { result ≡ position_or_len (λ c. c == b) text.now }
+    ensures within { result ≤ length text.now }
 {
-    for (i, c) in text.iter().enumerate() {
-        if *c == b {
-            return Some(i);
+    for i in 0..text.len() {
+        if text[i] == b {
+            return i;
         }
     }
-    None
+    text.len()
 }
 
 /// What stands before the one byte b of a token and behind it, or None where the token has none or more of them.
@@ -22,14 +22,15 @@ pub fn cut_once(token: &[u8], b: u8) -> Option<(&[u8], &[u8])>
         ((before behind : List ℕ) → IsCutAt b token.now before behind → ⊥)
         (λ r. IsCutAt b token.now r.0.now r.1.now) }
 {
-    let Some(at) = place_of_byte(token, b) else {
+    let at = place_of_byte(token, b);
+    if at >= token.len() {
         return None;
-    };
-    let behind = &token[at + 1..];
-    match place_of_byte(behind, b) {
-        Some(_) => None,
-        None => Some((&token[..at], behind)),
     }
+    let behind = &token[at + 1..];
+    if place_of_byte(behind, b) < behind.len() {
+        return None;
+    }
+    Some((&token[..at], behind))
 }
 
 /// The two parts of a token `name:number`, or None where it is none.

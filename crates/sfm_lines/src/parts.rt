@@ -1,7 +1,6 @@
 // What the tokens of a term line are cut into before they are read.
-ghost use Rattle.std.specs.Prelude.{◌≡◌, IfOk};
+ghost use Rattle.std.specs.Prelude.{◌≡◌, [], IfOk};
 ghost use Rattle.sfm_lines.specs.Lines.{texts_of};
-ghost use Rattle.sfm_lines.specs.Parts.{plain_parts};
 ghost use Rattle.sfm_lines.specs.ReadParts.{parts_of};
 
 use crate::labels::Labels;
@@ -20,29 +19,23 @@ pub struct Parts<'a, 'b> {
 }
 
 impl<'a, 'b> Parts<'a, 'b> {
-    /// Numbers and elements alone.
-    pub fn plain(alloc: Global, numbers: Vec<&'a [u8]>, elements: Vec<&'a [u8]>) -> Parts<'a, 'b>
-        ensures { parts_of result ≡ plain_parts (texts_of numbers.entry.items) (texts_of elements.entry.items) }
-    {
-        Parts {
-            numbers,
-            elements,
-            rank: RankKind::NoRank,
-            groups: Vec::new(alloc),
-            labels: Vec::new(alloc),
-        }
-    }
-
-    /// Numbers and elements alone, copied from a line.
+    /// Numbers and elements of a line that means this rank, neither groups nor labels.
     pub fn copied(
         alloc: Global,
+        rank: RankKind,
         numbers: &[&'a [u8]],
         elements: &[&'a [u8]],
     ) -> Result<Parts<'a, 'b>, AllocError>
-        ensures { IfOk result (λ parts. parts_of parts ≡ plain_parts (texts_of numbers.now) (texts_of elements.now)) }
+        ensures { IfOk result (λ parts. parts_of parts ≡ record { numbers = texts_of numbers.now; elements = texts_of elements.now; rank = rank; groups = []; labels = [] }) }
     {
         let numbers = Vec::from_slice(alloc, numbers)?;
         let elements = Vec::from_slice(alloc, elements)?;
-        Ok(Parts::plain(alloc, numbers, elements))
+        Ok(Parts {
+            numbers,
+            elements,
+            rank,
+            groups: Vec::new(alloc),
+            labels: Vec::new(alloc),
+        })
     }
 }

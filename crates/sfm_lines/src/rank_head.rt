@@ -4,6 +4,7 @@ ghost use Rattle.sfm_lines.specs.Lines.{texts_of};
 ghost use Rattle.sfm_lines.specs.Parts.{IsRankHead};
 
 use crate::mark::is_mark;
+use crate::word::is_word;
 
 /// The number and the tokens behind the colon of a line with this word, or None where it does not begin so.
 pub fn cut_head<'a, 'b>(word: &[u8], tokens: &'b [&'a [u8]]) -> Option<(&'a [u8], &'b [&'a [u8]])>
@@ -14,7 +15,13 @@ pub fn cut_head<'a, 'b>(word: &[u8], tokens: &'b [&'a [u8]]) -> Option<(&'a [u8]
     let [number, kind, colon, rest @ ..] = tokens else {
         return None;
     };
-    if is_mark(number) || *kind != word || *colon != b":".as_slice() {
+    if is_mark(number) {
+        return None;
+    }
+    if !is_word(kind, word) {
+        return None;
+    }
+    if !is_word(colon, b":") {
         return None;
     }
     Some((*number, rest))

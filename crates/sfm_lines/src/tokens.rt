@@ -17,8 +17,8 @@ fn is_blank_byte(c: u8) -> bool
 fn blank_place(line: &[u8]) -> usize
     ensures { result ≡ position_or_len is_blank line.now }
 {
-    for (i, c) in line.iter().enumerate() {
-        if is_blank_byte(*c) {
+    for i in 0..line.len() {
+        if is_blank_byte(line[i]) {
             return i;
         }
     }

@@ -8,7 +8,7 @@ ghost use Rattle.sfm_lines.specs.declared.word.RankKind.TheVariants.{UniformRank
 
 use crate::mark::cut_at_colon;
 use crate::parts::Parts;
-use crate::word::RankKind;
+use crate::word::{RankKind, is_word};
 use sfm_base::Memory;
 use sfm_concave::Uniform;
 use sfm_kind::Kind;
@@ -24,18 +24,22 @@ pub fn uniform_parts<'a, 'b>(
     let Some((before, elements)) = cut_at_colon(tokens) else {
         return Ok(None);
     };
-    if before.len() != 3 || elements.is_empty() || before[1] != b"uniform".as_slice() {
+    if before.len() != 3 {
         return Ok(None);
     }
-    let numbers = vec![in alloc; before[0], before[2]]?;
-    let elements = Vec::from_slice(alloc, elements)?;
-    Ok(Some(Parts {
-        numbers,
+    if elements.is_empty() {
+        return Ok(None);
+    }
+    if !is_word(before[1], b"uniform") {
+        return Ok(None);
+    }
+    let parts = Parts::copied(
+        alloc,
+        RankKind::UniformRank,
+        &[before[0], before[2]],
         elements,
-        rank: RankKind::UniformRank,
-        groups: Vec::new(alloc),
-        labels: Vec::new(alloc),
-    }))
+    )?;
+    Ok(Some(parts))
 }
 
 /// The term with the first number for each of these places, up to as many as the second.

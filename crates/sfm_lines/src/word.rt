@@ -1,5 +1,5 @@
 // The words that a term line begins with.
-ghost use Rattle.std.specs.Prelude.{◌≡◌, ◌≢◌, MatchOption};
+ghost use Rattle.std.specs.Prelude.{◌≡◌, ◌≢◌, MatchBool, MatchOption};
 ghost use Rattle.sfm_lines.specs.Words.{word_text};
 ghost use Rattle.sfm_lines.specs.declared.word.TermWord.{TermWord};
 
@@ -37,20 +37,39 @@ pub enum RankKind {
     TransversalRank,
 }
 
+/// Whether a token is that word.
+pub fn is_word(token: &[u8], word: &[u8]) -> bool
+    ensures { MatchBool result (token.now ≡ word.now) (token.now ≢ word.now) }
+{
+    token == word
+}
+
 /// The word that a token is, or None where it is none.
 pub fn term_word(token: &[u8]) -> Option<TermWord>
     ensures { MatchOption result
         ((word : TermWord) → token.now ≢ word_text word)
         (λ word. token.now ≡ word_text word) }
 {
-    match token {
-        b"weight" => Some(TermWord::WeightWord),
-        b"cut" => Some(TermWord::CutWord),
-        b"need" => Some(TermWord::NeedWord),
-        b"cover" => Some(TermWord::CoverWord),
-        b"table" => Some(TermWord::TableWord),
-        b"concave" => Some(TermWord::ConcaveWord),
-        b"rank" => Some(TermWord::RankWord),
-        _ => None,
+    if is_word(token, b"weight") {
+        return Some(TermWord::WeightWord);
     }
+    if is_word(token, b"cut") {
+        return Some(TermWord::CutWord);
+    }
+    if is_word(token, b"need") {
+        return Some(TermWord::NeedWord);
+    }
+    if is_word(token, b"cover") {
+        return Some(TermWord::CoverWord);
+    }
+    if is_word(token, b"table") {
+        return Some(TermWord::TableWord);
+    }
+    if is_word(token, b"concave") {
+        return Some(TermWord::ConcaveWord);
+    }
+    if is_word(token, b"rank") {
+        return Some(TermWord::RankWord);
+    }
+    None
 }
