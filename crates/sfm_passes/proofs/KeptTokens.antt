@@ -8,7 +8,7 @@ use Rattle.std.proofs.lemmas.List.{get_or_append_left, get_or-append-add}
 use mathlib.Core.Logic.{⊎_elim}
 use Rattle.sfm_kind.proofs.Keys.{new_where_none}
 use Rattle.sfm_lines.specs.TermLines.{StandsTwice}
-use Rattle.sfm_lines.proofs.Repeats.{twice-at, twice-same, found-among}
+use Rattle.sfm_lines.proofs.Repeats.{twice-at, twice-same, twice-more, found-among}
 
 -- whether a key is found tells whether the text is among the keys
 pub found-or-not : (keys : List (Bor (List ℕ))) (text : List ℕ) (b : Bool) → b ≡ list_any (λ y. pointwise nat_eq text y.now) keys → MatchBool b (Contains (map (λ k. k.now) keys) text) (Contains (map (λ k. k.now) keys) text → ⊥)
@@ -20,10 +20,6 @@ pub one-once : (text : List ℕ) → StandsTwice (text ∷ []) → ⊥
 one-once text t = absurd (omega (arith, t.2, t.3))
 
 module _ {X : Type 0} where
-  -- one more at the front
-  twice-more : (x : X) (xs : List X) → StandsTwice xs → StandsTwice (x ∷ xs)
-  twice-more x xs t = twice-at (x ∷ xs) (suc t.0) (suc t.1) x (omega (arith, t.2)) (omega (arith, t.3)) (twice-same xs x t)
-
   pub twice-rest : (kept rest : List X) → StandsTwice rest → StandsTwice (kept ++ rest)
   twice-rest [] rest t = t
   twice-rest (x ∷ kept) rest t = twice-more x (kept ++ rest) (twice-rest kept rest t)

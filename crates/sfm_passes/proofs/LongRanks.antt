@@ -1,8 +1,6 @@
 -- The first reason of a long line of a rank, from what passes over its tokens tell.
-use Rattle.std.proofs.Common.{◌≡◌, ◌≢◌, Bool, true, false, bytes_eq, MatchBool, inl, inr, ◌<◌, ℕ, List, [], ◌∷◌, ◌++◌, length, get_or, codes, refl, sym, ap, ◌∙◌, arith}
+use Rattle.std.proofs.Common.{◌≡◌, inl, inr, ◌<◌, ℕ, List, [], ◌∷◌, ◌++◌, length, get_or, codes, refl, ap, arith}
 use Rattle.std.specs.List.{Any}
-use Rattle.std.proofs.lemmas.Bool.{false≢true}
-use Rattle.std.proofs.lemmas.Slice.Eq.{bytes_eq-Decides}
 use Rattle.std.proofs.lemmas.List.Elements.{All-cons, All-nil}
 use Rattle.sfm_kind.specs.Instance.{InstanceData}
 use Rattle.sfm_lines.specs.declared.reason.Reason.TheVariants.{Shape, Number}
@@ -15,11 +13,6 @@ use Rattle.sfm_lines.proofs.GroupCuts.{group_tokens}
 use Rattle.sfm_lines.proofs.Colons.{none-any}
 use Rattle.sfm_passes.proofs.LongReasons.{long-shape, long-number}
 use Rattle.sfm_passes.proofs.Passed.{any-here, any-behind}
-
--- whether a token equals a word
-pub word-by : (token word : List ℕ) (r : Bool) → r ≡ bytes_eq token word → MatchBool r (token ≡ word) (token ≢ word)
-word-by token word true is = (bytes_eq-Decides token word).0 (sym is)
-word-by token word false is = λ same. false≢true (is ∙ (bytes_eq-Decides token word).1 same)
 
 -- the second token of a line of a rank is the word of one
 pub second : (number kind n k : List ℕ) (more rest : List (List ℕ)) → number ∷ kind ∷ more ≡ n ∷ k ∷ rest → kind ≡ k

@@ -1,10 +1,10 @@
 // Texts between separators, which are looked at one after another, so that no list of them is made: the tokens of a line
 // between blanks, and the slots of an entry between commas. The slots stand behind the byte before the first of them, so that
 // what is left behind a slot begins with the comma behind it, and nothing is left behind the last one.
-ghost use Rattle.std.specs.Prelude.{◌≡◌, ◌==◌, ◌<◌, ◌≤◌, [], ◌∷◌, length, IfSome, MatchOption};
-ghost use Rattle.std.specs.List.{position_or_len};
+ghost use Rattle.std.specs.Prelude.{◌≡◌, ◌<◌, [], ◌∷◌, length, IfSome, MatchOption};
 ghost use Rattle.sfm_passes.specs.Passes.{slots_behind, texts_between};
 
+use sfm_lines::pair::place_of_byte;
 use sfm_lines::tokens::first_token;
 
 /// What stands between the texts of a line.
@@ -14,14 +14,6 @@ pub enum Separator {
     Blanks,
     /// A comma, as between the slots of an entry.
     Comma,
-}
-
-/// The place of the first comma, or the length where there is none.
-fn comma_place(text: &[u8]) -> usize
-    ensures place { result ≡ position_or_len (λ c. c == 44) text.now }
-    ensures within { result ≤ length text.now }
-{
-    text.iter().position(|c| *c == b',').unwrap_or(text.len())
 }
 
 /// The first slot behind the first byte of a text, and what is left behind it, or None where nothing is left.
@@ -35,7 +27,7 @@ fn first_slot(text: &[u8]) -> Option<(&[u8], &[u8])>
         return None;
     }
     let slots = &text[1..];
-    let end = comma_place(slots);
+    let end = place_of_byte(slots, b',');
     Some((&slots[..end], &slots[end..]))
 }
 

@@ -99,19 +99,6 @@ pub fn all_groups(alloc: Global, test: GroupTest, groups: Option<&[u8]>) -> Resu
     Ok(true)
 }
 
-/// The different tokens of a line.
-fn different_in<'a>(alloc: Global, line: &'a [u8]) -> Result<IndexSet<&'a [u8]>, Memory>
-    ensures { IfOk result (λ r. texts_of r.keys ≡ distinct_of (tokens_of line.now)) }
-{
-    let mut names = IndexSet::new(alloc);
-    let mut left = line;
-    while let Some((token, behind)) = first_token(left) {
-        names.insert(token)?;
-        left = behind;
-    }
-    Ok(names)
-}
-
 /// Whether each token of a line is one of the texts of which these are the different ones.
 fn are_known_in(known: &IndexSet<&[u8]>, line: &[u8]) -> bool
     ensures { (texts : List (List ℕ)) → texts_of known.now.keys ≡ distinct_of texts → MatchBool result
@@ -163,6 +150,11 @@ pub fn are_members_in(alloc: Global, elements: &[u8], groups: Option<&[u8]>) -> 
         (All (HasMembers (tokens_of elements.now)) (pieces_left groups.entry))
         (Any (LacksMember (tokens_of elements.now)) (pieces_left groups.entry))) }
 {
-    let known = different_in(alloc, elements)?;
+    let mut known = IndexSet::new(alloc);
+    let mut left = elements;
+    while let Some((element, behind)) = first_token(left) {
+        known.insert(element)?;
+        left = behind;
+    }
     Ok(all_have_members(&known, groups))
 }

@@ -16,20 +16,13 @@ use sfm_kind::Instance;
 use sfm_lines::Reason;
 use sfm_lines::mark::is_mark;
 use sfm_lines::tokens::{first_token, first_two, has_token};
-use sfm_lines::word::{RankKind, TermWord};
+use sfm_lines::word::{RankKind, TermWord, is_word};
 
 /// The most elements of a ground.
 pub const MOST_ELEMENTS: usize = 256;
 
 /// The most tokens behind the word of a uniform rank in a line that is not long.
 const MOST_TOKENS: usize = 1_000;
-
-/// Whether a token is that word.
-fn is_word(token: &[u8], word: &[u8]) -> bool
-    ensures { MatchBool result (token.now ≡ word.now) (token.now ≢ word.now) }
-{
-    token == word
-}
 
 /// Which rank a token means.
 pub fn rank_kind(token: &[u8]) -> RankKind
