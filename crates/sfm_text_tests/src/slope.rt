@@ -4,7 +4,6 @@ use sfm_law::Break;
 use sfm_simple::{Cover, Weight};
 use sfm_slope::partition;
 use std::alloc::Global;
-use std::test::Fail;
 
 /// What a breakpoint tells: the numerator and the denominator of its slope, the size of its set, how many bases it has, and one
 /// of these by its number.
@@ -39,15 +38,13 @@ fn are_told(breaks: &[Break], told: &[Told]) -> bool {
     breaks.len() == told.len()
 }
 
-#[test]
-fn no_places(rt: HostRuntime) -> Result<(), Fail> {
+/// The breakpoints over no places.
+fn breaks_of_nothing(alloc: Global) -> Result<Vec<Break>, Memory> {
     let terms: [Weight; 0] = [];
-    let breaks = partition(rt.alloc(), &terms, 0)?;
-    assert!(rt; breaks.is_empty());
-    Ok(())
+    partition(alloc, &terms, 0)
 }
 
-// Each element is a breakpoint of its own; the first turn looks at 1, the second at -1/2.
+/// Each element is a breakpoint of its own; the first turn looks at 1, the second at -1/2.
 const BREAKS_OF_A_WEIGHT: [Told; 3] = [
     Told {
         num: -3,
@@ -81,14 +78,7 @@ fn breaks_of_a_weight(alloc: Global) -> Result<Vec<Break>, Memory> {
     partition(alloc, &terms, 3)
 }
 
-#[test]
-fn slopes_of_a_weight(rt: HostRuntime) -> Result<(), Fail> {
-    let breaks = breaks_of_a_weight(rt.alloc())?;
-    assert!(rt; are_told(&breaks, &BREAKS_OF_A_WEIGHT));
-    Ok(())
-}
-
-// 3 for the first two and 5 for the last three: all together at 8/5, between the slopes of the two.
+/// 3 for the first two and 5 for the last three: all together at 8/5, between the slopes of the two.
 const BREAKS_OF_COVERS: [Told; 2] = [
     Told {
         num: 3,
@@ -117,9 +107,22 @@ fn breaks_of_covers(alloc: Global) -> Result<Vec<Break>, Memory> {
     partition(alloc, &terms, 5)
 }
 
+/// Whether there are breakpoints that tell this; no where memory lacks.
+fn is_parted(parted: Result<Vec<Break>, Memory>, told: &[Told]) -> bool {
+    match parted {
+        Ok(breaks) => are_told(&breaks, told),
+        Err(_) => false,
+    }
+}
+
+/// Whether the breakpoints are those that were worked out.
+fn are_parted(alloc: Global) -> bool {
+    is_parted(breaks_of_nothing(alloc), &[])
+        && is_parted(breaks_of_a_weight(alloc), &BREAKS_OF_A_WEIGHT)
+        && is_parted(breaks_of_covers(alloc), &BREAKS_OF_COVERS)
+}
+
 #[test]
-fn slopes_of_covers(rt: HostRuntime) -> Result<(), Fail> {
-    let breaks = breaks_of_covers(rt.alloc())?;
-    assert!(rt; are_told(&breaks, &BREAKS_OF_COVERS));
-    Ok(())
+fn slopes_are_those_worked_out(rt: HostRuntime) {
+    assert!(rt; are_parted(rt.alloc()));
 }

@@ -3,9 +3,8 @@
 use sfm_base::read_number;
 use sfm_kind::Instance;
 use sfm_text::{Reason, TEXT_LIMIT, TextEnd, content_lines, read_instance, token};
-use std::alloc::{AllocError, Global};
+use std::alloc::Global;
 use std::process::Abort;
-use std::test::Fail;
 
 mod long;
 mod parts;
@@ -63,12 +62,17 @@ const GOOD_TERMS: [Told; 6] = [
     },
 ];
 
+/// Whether that text gives its names and its terms.
+fn is_good_read(alloc: Global) -> bool {
+    match read_instance(alloc, GOOD) {
+        Ok(instance) => has_names(&instance) && are_told(instance.terms(), &GOOD_TERMS),
+        Err(_) => false,
+    }
+}
+
 #[test]
-fn a_good_text_gives_names_and_terms(rt: HostRuntime) -> Result<(), Fail> {
-    let instance = read_instance(rt.alloc(), GOOD)?;
-    assert!(rt; has_names(&instance));
-    assert!(rt; are_told(instance.terms(), &GOOD_TERMS));
-    Ok(())
+fn a_good_text_gives_names_and_terms(rt: HostRuntime) {
+    assert!(rt; is_good_read(rt.alloc()));
 }
 
 /// What stands before the text of a row, and behind it.
@@ -83,65 +87,64 @@ const AMONG: Frame = ("sfm 1\nground a b c d\n", "\nend");
 /// A ground of four names, and no end.
 const LAST: Frame = ("sfm 1\nground a b c d\n", "");
 
-/// Adds a text with what stands in its first braces 3,000 times.
-fn push_spread(spread: &mut String, text: &str) -> Result<(), AllocError> {
-    let (head, rest) = text.split_once('{').unwrap_or((text, ""));
-    let (piece, tail) = rest.split_once('}').unwrap_or(("", ""));
-    spread.push_str(head)?;
-    push_many(spread, piece, 3_000)?;
-    spread.push_str(tail)
-}
-
-/// A text with what stands in its first braces 3,000 times.
-fn spread(alloc: Global, text: &str) -> Result<String, AllocError> {
-    let mut spread = String::new(alloc);
-    push_spread(&mut spread, text)?;
-    Ok(spread)
-}
-
-/// A text with its lines, and what stands in two braces 3,000 times.
-fn lines_of(alloc: Global, text: &str) -> Result<String, AllocError> {
-    let once = spread(alloc, text)?;
-    let twice = spread(alloc, once.as_str())?;
-    twice.replace(alloc, "|", "\n")
-}
-
-/// Adds three texts.
-fn push_three(text: &mut String, first: &str, second: &str, third: &str) -> Result<(), AllocError> {
-    text.push_str(first)?;
-    text.push_str(second)?;
-    text.push_str(third)
-}
-
-/// The text of a row in its frame.
-fn framed(alloc: Global, frame: Frame, text: &str) -> Result<String, AllocError> {
-    let lines = lines_of(alloc, text)?;
-    let mut framed = String::new(alloc);
-    push_three(&mut framed, frame.0, lines.as_str(), frame.1)?;
-    Ok(framed)
-}
-
-/// Asserts what a row tells: the line and the word of the first fault of a text, or `0 good`, and behind a colon that text. In the
-/// text `|` is a line feed, and what stands in braces comes 3,000 times.
-fn has_row(rt: &impl Abort, alloc: Global, frame: Frame, row: &str) -> Result<(), AllocError> {
-    let (fault, text) = row.split_once(':').unwrap_or((row, ""));
-    let (line, word) = fault.split_once(' ').unwrap_or((fault, ""));
-    let lines = framed(alloc, frame, text)?;
-    let found = first_fault(alloc, lines.as_bytes());
-    assert!(rt;
-        read_number(line.as_bytes()) == Some(found.0 as i128),
-        "{row}"
-    );
-    assert!(rt; word.as_bytes() == found.1, "{row}");
-    Ok(())
-}
-
-/// Asserts what the rows of a table tell, one on each line.
-fn has_faults(rt: &impl Abort, alloc: Global, frame: Frame, table: &str) -> Result<(), AllocError> {
-    for row in table.lines() {
-        has_row(rt, alloc, frame, row)?;
+/// Adds a part of a text: what stands before the brace that closes, if there is one, 3,000 times, and what stands behind it.
+fn push_part(text: &mut String, part: &str) -> bool {
+    match part.split_once('}') {
+        Some((piece, tail)) => push_many(text, piece, 3_000) && text.push_str(tail).is_ok(),
+        None => text.push_str(part).is_ok(),
     }
-    Ok(())
+}
+
+/// Adds a text with what stands in braces 3,000 times.
+fn push_spread(text: &mut String, row: &str) -> bool {
+    for part in row.split('{') {
+        if !push_part(text, part) {
+            return false;
+        }
+    }
+    true
+}
+
+/// Adds the text of a row in its frame.
+fn push_framed(text: &mut String, frame: Frame, row: &str) -> bool {
+    text.push_str(frame.0).is_ok() && push_spread(text, row) && text.push_str(frame.1).is_ok()
+}
+
+/// The text of a row in its frame, with its lines, and what stands in braces 3,000 times; nothing where memory lacks.
+fn framed(alloc: Global, frame: Frame, row: &str) -> Option<String> {
+    let Ok(lines) = row.replace(alloc, "|", "\n") else {
+        return None;
+    };
+    let mut text = String::new(alloc);
+    if push_framed(&mut text, frame, lines.as_str()) {
+        Some(text)
+    } else {
+        None
+    }
+}
+
+/// Whether the line and the word of a text's first fault are these.
+fn has_fault(alloc: Global, text: &[u8], fault: &str) -> bool {
+    let (line, word) = fault.split_once(' ').unwrap_or((fault, ""));
+    let found = first_fault(alloc, text);
+    read_number(line.as_bytes()) == Some(found.0 as i128) && word.as_bytes() == found.1
+}
+
+/// Whether a row holds: the line and the word of the first fault of a text, or `0 good`, and behind a colon that text. In the text
+/// `|` is a line feed, and what stands in braces comes 3,000 times.
+fn is_row(alloc: Global, frame: Frame, row: &str) -> bool {
+    let (fault, text) = row.split_once(':').unwrap_or((row, ""));
+    match framed(alloc, frame, text) {
+        Some(text) => has_fault(alloc, text.as_bytes(), fault),
+        None => false,
+    }
+}
+
+/// Asserts that the rows of a table hold, one on each line.
+fn has_faults(rt: &impl Abort, alloc: Global, frame: Frame, table: &str) {
+    for row in table.lines() {
+        assert!(rt; is_row(alloc, frame, row), "{row}");
+    }
 }
 
 const HEADERS: &str = "\
@@ -172,12 +175,6 @@ const HEADERS: &str = "\
 2 word:sfm 1|end
 2 word:sfm 1|sfm 1";
 
-#[test]
-fn headers(rt: HostRuntime) -> Result<(), Fail> {
-    has_faults(&rt, rt.alloc(), WHOLE, HEADERS)?;
-    Ok(())
-}
-
 const GROUNDS_AND_ENDS: &str = "\
 2 word:sfm 1|Ground a
 2 twice:sfm 1|ground a a
@@ -199,12 +196,6 @@ const GROUNDS_AND_ENDS: &str = "\
 3 shape:sfm 1|ground a|end :
 3 word:sfm 1|ground a|ground a
 3 word:sfm 1|ground a|sfm 1";
-
-#[test]
-fn grounds_and_ends(rt: HostRuntime) -> Result<(), Fail> {
-    has_faults(&rt, rt.alloc(), WHOLE, GROUNDS_AND_ENDS)?;
-    Ok(())
-}
 
 const WEIGHT_LINES: &str = "\
 0 good:weight a:-1000000000000|weight a:1000000000000
@@ -234,12 +225,6 @@ const WEIGHT_LINES: &str = "\
 3 word:Weight a:1
 6 number:weight a:1||#|weight a:x";
 
-#[test]
-fn weight_lines(rt: HostRuntime) -> Result<(), Fail> {
-    has_faults(&rt, rt.alloc(), AMONG, WEIGHT_LINES)?;
-    Ok(())
-}
-
 const CUTS_AND_CONDITIONS: &str = "\
 0 good:cut 1 a b|cut 0 b a|cut 1000000000000 a b
 3 shape:cut
@@ -263,12 +248,6 @@ const CUTS_AND_CONDITIONS: &str = "\
 3 name:need a z
 3 name:need a 1
 3 twice:need b b";
-
-#[test]
-fn cuts_and_conditions(rt: HostRuntime) -> Result<(), Fail> {
-    has_faults(&rt, rt.alloc(), AMONG, CUTS_AND_CONDITIONS)?;
-    Ok(())
-}
 
 const COVERS_AND_TABLES: &str = "\
 0 good:cover 5 a|cover 0 a b c d
@@ -300,10 +279,45 @@ const COVERS_AND_TABLES: &str = "\
 3 law:table 1 1 : a
 3 law:table 0 0 0 0 0 0 0 1 : a b c";
 
+/// The tables of texts and of their first faults, each with the frame of its texts.
+const FAULTS: [(Frame, &str); 5] = [
+    (WHOLE, HEADERS),
+    (WHOLE, GROUNDS_AND_ENDS),
+    (AMONG, WEIGHT_LINES),
+    (AMONG, CUTS_AND_CONDITIONS),
+    (AMONG, COVERS_AND_TABLES),
+];
+
+/// Asserts that the rows of tables hold, each in its frame.
+fn have_faults(rt: &impl Abort, alloc: Global, tables: &[(Frame, &str)]) {
+    for (frame, table) in tables {
+        has_faults(rt, alloc, *frame, table);
+    }
+}
+
+/// All such tables.
+const TABLES: [&[(Frame, &str)]; 3] = [&FAULTS, &ranks::FAULTS, &long::FAULTS];
+
 #[test]
-fn covers_and_tables(rt: HostRuntime) -> Result<(), Fail> {
-    has_faults(&rt, rt.alloc(), AMONG, COVERS_AND_TABLES)?;
-    Ok(())
+fn first_faults(rt: HostRuntime) {
+    for tables in &TABLES {
+        have_faults(&rt, rt.alloc(), tables);
+    }
+}
+
+/// Adds so many lines.
+fn push_lines(text: &mut String, lines: u32, line: &str) -> bool {
+    for _ in 0..lines {
+        if text.push_str("\n").is_err() || text.push_str(line).is_err() {
+            return false;
+        }
+    }
+    true
+}
+
+/// Adds a last line and the end.
+fn push_last(text: &mut String, last: &str) -> bool {
+    text.push_str("\n").is_ok() && text.push_str(last).is_ok() && text.push_str("\nend\n").is_ok()
 }
 
 /// Adds a text with so many names, so many lines of one weight, and a last one.
@@ -314,33 +328,11 @@ fn push_text(
     lines: u32,
     line: &str,
     last: &str,
-) -> Result<(), AllocError> {
-    text.push_str("sfm 1\nground")?;
-    push_numbered(alloc, text, " e", names, "")?;
-    push_lines(text, lines, line)?;
-    push_three(text, "\n", last, "\nend\n")
-}
-
-/// Adds so many lines.
-fn push_lines(text: &mut String, lines: u32, line: &str) -> Result<(), AllocError> {
-    for _ in 0..lines {
-        text.push_str("\n")?;
-        text.push_str(line)?;
-    }
-    Ok(())
-}
-
-/// A text with so many names, so many lines of one weight, and a last one.
-fn text_of(
-    alloc: Global,
-    names: u32,
-    lines: u32,
-    line: &str,
-    last: &str,
-) -> Result<String, AllocError> {
-    let mut text = String::new(alloc);
-    push_text(alloc, &mut text, names, lines, line, last)?;
-    Ok(text)
+) -> bool {
+    text.push_str("sfm 1\nground").is_ok()
+        && push_numbered(alloc, text, " e", names, "")
+        && push_lines(text, lines, line)
+        && push_last(text, last)
 }
 
 const MOST: &str = "weight e0:1000000000000";
@@ -377,60 +369,69 @@ const TOTALS: [Total; 10] = [
     ),
 ];
 
-/// Asserts the first fault of such a text.
-fn has_total(rt: &impl Abort, alloc: Global, row: &Total) -> Result<(), AllocError> {
+/// Whether such a text has that first fault.
+fn is_total(alloc: Global, row: &Total) -> bool {
     let (names, lines, line, last, fault, reason) = *row;
-    let text = text_of(alloc, names, lines, line, last)?;
-    assert!(rt; first_fault(alloc, text.as_bytes()) == (fault, reason));
-    Ok(())
+    let mut text = String::new(alloc);
+    push_text(alloc, &mut text, names, lines, line, last)
+        && first_fault(alloc, text.as_bytes()) == (fault, reason)
 }
 
 #[test]
-fn totals_are_bounded(rt: HostRuntime) -> Result<(), Fail> {
+fn totals_are_bounded(rt: HostRuntime) {
     for row in &TOTALS {
-        has_total(&rt, rt.alloc(), row)?;
+        assert!(rt; is_total(rt.alloc(), row));
     }
-    Ok(())
 }
 
-/// Adds the line of a table of so many names, which has that many values.
-fn push_table(
-    alloc: Global,
-    table: &mut String,
-    names: u32,
-    values: u32,
-) -> Result<(), AllocError> {
-    table.push_str("table")?;
-    push_many(table, " 0", values)?;
-    table.push_str(" :")?;
-    push_numbered(alloc, table, " e", names, "")
+/// What a long line is.
+#[derive(Clone, Copy)]
+enum Line {
+    /// A table of so many names, which has that many values.
+    Table(u32, u32),
+    /// So many weights of one element.
+    Weights(u32),
 }
 
-/// The first fault of a text of nine names with a table of some of them.
-fn fault_of_table(
-    alloc: Global,
-    names: u32,
-    values: u32,
-) -> Result<(usize, &'static [u8]), AllocError> {
-    let mut table = String::new(alloc);
-    push_table(alloc, &mut table, names, values)?;
-    let text = text_of(alloc, 9, 0, "", table.as_str())?;
-    Ok(first_fault(alloc, text.as_bytes()))
+/// Adds the line of a table.
+fn push_table(alloc: Global, line: &mut String, names: u32, values: u32) -> bool {
+    line.push_str("table").is_ok()
+        && push_many(line, " 0", values)
+        && line.push_str(" :").is_ok()
+        && push_numbered(alloc, line, " e", names, "")
 }
 
-/// The counts of names and of values of a table, and the first fault.
-const WIDE_TABLES: [(u32, u32, (usize, &[u8])); 2] = [
-    (8, 256, (0, b"good")),
-    (9, 512, (3, b"shape")),
+/// Adds a long line.
+fn push_line(alloc: Global, line: &mut String, long: Line) -> bool {
+    match long {
+        Line::Table(names, values) => push_table(alloc, line, names, values),
+        Line::Weights(count) => {
+            line.push_str("weight").is_ok() && push_many(line, " a:1", count)
+        }
+    }
+}
+
+/// Long lines behind nine names, and the first fault: a table has 8 names at most, and a line of 400,001 tokens is read.
+const LONG_LINES: [(Line, (usize, &[u8])); 3] = [
+    (Line::Table(8, 256), (0, b"good")),
+    (Line::Table(9, 512), (3, b"shape")),
+    (Line::Weights(400_000), (3, b"name")),
 ];
 
+/// Whether a text with a long line behind nine names has that first fault.
+fn has_long_line(alloc: Global, long: Line, fault: (usize, &[u8])) -> bool {
+    let mut line = String::new(alloc);
+    let mut text = String::new(alloc);
+    push_line(alloc, &mut line, long)
+        && push_text(alloc, &mut text, 9, 0, "", line.as_str())
+        && first_fault(alloc, text.as_bytes()) == fault
+}
+
 #[test]
-fn a_table_has_8_names_at_most(rt: HostRuntime) -> Result<(), Fail> {
-    for (names, values, fault) in &WIDE_TABLES {
-        let found = fault_of_table(rt.alloc(), *names, *values)?;
-        assert!(rt; found == *fault);
+fn long_lines_are_read(rt: HostRuntime) {
+    for (long, fault) in &LONG_LINES {
+        assert!(rt; has_long_line(rt.alloc(), *long, *fault));
     }
-    Ok(())
 }
 
 /// Texts with bytes that are no text, and the first fault.
@@ -447,43 +448,29 @@ const ANY_BYTE: [(&[u8], usize, &[u8]); 3] = [
 #[test]
 fn only_comments_may_hold_any_byte(rt: HostRuntime) {
     for (text, line, reason) in &ANY_BYTE {
-        assert_eq!(rt; first_fault(rt.alloc(), text), (*line, *reason));
+        assert!(rt; first_fault(rt.alloc(), text) == (*line, *reason));
+    }
+}
+
+/// Bytes, how often they come, and the first fault of that text: as many lines as there may be, and more bytes than there may be.
+const WIDEST: [(u8, usize, (usize, &[u8])); 2] = [
+    (b'\n', TEXT_LIMIT, (TEXT_LIMIT + 1, b"short")),
+    (b'#', TEXT_LIMIT + 1, (0, b"long")),
+];
+
+/// Whether a text of one byte so many times has that first fault.
+fn has_bytes(alloc: Global, byte: u8, count: usize, fault: (usize, &[u8])) -> bool {
+    match vec![in alloc; byte; count] {
+        Ok(text) => first_fault(alloc, &text) == fault,
+        Err(_) => false,
     }
 }
 
 #[test]
-fn a_text_of_many_lines_is_read(rt: HostRuntime) -> Result<(), Fail> {
-    let lines = vec![in rt.alloc(); b'\n'; TEXT_LIMIT]?;
-    let ended = read_instance(rt.alloc(), &lines).err();
-    let short = TextEnd::Refused {
-        line: TEXT_LIMIT + 1,
-        reason: Reason::Short,
-    };
-    assert_eq!(rt; ended, Some(short));
-    Ok(())
-}
-
-#[test]
-fn a_text_beyond_the_limit_is_long(rt: HostRuntime) -> Result<(), Fail> {
-    let long = vec![in rt.alloc(); b'#'; TEXT_LIMIT + 1]?;
-    assert_eq!(rt; first_fault(rt.alloc(), &long), (0, b"long".as_slice()));
-    Ok(())
-}
-
-/// The first fault of a text with a line of 400,001 tokens.
-fn fault_of_tokens(alloc: Global) -> Result<(usize, &'static [u8]), AllocError> {
-    let mut line = String::new(alloc);
-    line.push_str("weight")?;
-    push_many(&mut line, " a:1", 400_000)?;
-    let text = text_of(alloc, 1, 0, "", line.as_str())?;
-    Ok(first_fault(alloc, text.as_bytes()))
-}
-
-#[test]
-fn a_line_of_many_tokens_is_read(rt: HostRuntime) -> Result<(), Fail> {
-    let found = fault_of_tokens(rt.alloc())?;
-    assert!(rt; found == (3, b"name".as_slice()));
-    Ok(())
+fn texts_are_read_up_to_the_limit(rt: HostRuntime) {
+    for (byte, count, fault) in &WIDEST {
+        assert!(rt; has_bytes(rt.alloc(), *byte, *count, *fault));
+    }
 }
 
 /// A text, and the number, the start and the end of each of its lines that has something.
@@ -498,23 +485,37 @@ const TOKENS: [(&[u8], usize, Option<&[u8]>); 5] = [
     (b"\t a  bc ", 2, None),
 ];
 
-#[test]
-fn lines_have_their_places(rt: HostRuntime) -> Result<(), Fail> {
-    let spans = content_lines(rt.alloc(), SPANS.0)?;
-    assert!(rt; spans.as_slice() == SPANS.1);
-    Ok(())
+/// Whether the lines of that text are told so.
+fn has_spans(alloc: Global) -> bool {
+    match content_lines(alloc, SPANS.0) {
+        Ok(spans) => spans.as_slice() == SPANS.1,
+        Err(_) => false,
+    }
+}
+
+/// Whether tokens have their places.
+fn has_tokens() -> bool {
+    for (line, number, found) in &TOKENS {
+        if token(line, *number) != *found {
+            return false;
+        }
+    }
+    true
 }
 
 #[test]
-fn tokens_have_their_places(rt: HostRuntime) {
-    for (line, number, found) in &TOKENS {
-        assert!(rt; token(line, *number) == *found);
-    }
+fn lines_and_tokens_have_their_places(rt: HostRuntime) {
+    assert!(rt; has_spans(rt.alloc()) && has_tokens());
+}
+
+/// Whether reasons that no table above tells have their words, and want of memory is an end.
+fn has_words() -> bool {
+    Reason::Long.word() == b"long".as_slice()
+        && Reason::Total.word() == b"total".as_slice()
+        && TextEnd::from(sfm_base::Memory) == TextEnd::Memory
 }
 
 #[test]
 fn reasons_have_their_words(rt: HostRuntime) {
-    assert_eq!(rt; Reason::Long.word(), b"long".as_slice());
-    assert_eq!(rt; Reason::Total.word(), b"total".as_slice());
-    assert_eq!(rt; TextEnd::from(sfm_base::Memory), TextEnd::Memory);
+    assert!(rt; has_words());
 }

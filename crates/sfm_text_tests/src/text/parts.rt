@@ -1,24 +1,22 @@
-// What long texts are made of.
-use std::alloc::{AllocError, Global};
+// What long texts are made of. Each function that adds something says whether there was memory.
+use std::alloc::Global;
 
 /// Adds a piece so many times.
-pub(super) fn push_many(text: &mut String, piece: &str, count: u32) -> Result<(), AllocError> {
+pub(super) fn push_many(text: &mut String, piece: &str, count: u32) -> bool {
     for _ in 0..count {
-        text.push_str(piece)?;
+        if text.push_str(piece).is_err() {
+            return false;
+        }
     }
-    Ok(())
+    true
 }
 
 /// Adds a piece with a number between two others.
-fn push_number(
-    alloc: Global,
-    text: &mut String,
-    head: &str,
-    number: u32,
-    tail: &str,
-) -> Result<(), AllocError> {
-    let piece = format!(in alloc; "{head}{number}{tail}")?;
-    text.push_str(piece.as_str())
+fn push_number(alloc: Global, text: &mut String, head: &str, number: u32, tail: &str) -> bool {
+    match format!(in alloc; "{head}{number}{tail}") {
+        Ok(piece) => text.push_str(piece.as_str()).is_ok(),
+        Err(_) => false,
+    }
 }
 
 /// Adds such pieces with the numbers below a count.
@@ -28,9 +26,11 @@ pub(super) fn push_numbered(
     head: &str,
     count: u32,
     tail: &str,
-) -> Result<(), AllocError> {
+) -> bool {
     for number in 0..count {
-        push_number(alloc, text, head, number, tail)?;
+        if !push_number(alloc, text, head, number, tail) {
+            return false;
+        }
     }
-    Ok(())
+    true
 }

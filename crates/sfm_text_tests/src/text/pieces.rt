@@ -1,11 +1,9 @@
 // Texts in pieces: what is answered does not depend on where a text is cut.
 ghost use Rattle.std.specs.Prelude.{◌<◌};
 
-use sfm_base::Memory;
 use sfm_kind::Instance;
 use sfm_text::{Reader, TEXT_LIMIT, TextEnd, read_pieces};
 use std::alloc::Global;
-use std::test::Fail;
 
 /// The line and the word of the first fault, with the count of names and of terms where there is none.
 fn told(read: Result<Instance, TextEnd>) -> (usize, &'static [u8], usize, usize) {
@@ -50,11 +48,10 @@ const PIECES: [(&[&[u8]], (usize, &[u8], usize, usize)); 11] = [
 ];
 
 #[test]
-fn pieces_are_cut_anywhere(rt: HostRuntime) -> Result<(), Fail> {
+fn pieces_are_cut_anywhere(rt: HostRuntime) {
     for (pieces, found) in &PIECES {
-        assert_eq!(rt; told(read_pieces(rt.alloc(), pieces)), *found);
+        assert!(rt; told(read_pieces(rt.alloc(), pieces)) == *found);
     }
-    Ok(())
 }
 
 /// The instance of a text that comes in pieces of that many bytes.
@@ -74,28 +71,40 @@ const CUT: &[u8] = b"sfm 1\r\nground a b\r\nweight a:-3 b:2\r\ncut 4 a b\r\nend\
 /// The lengths of its pieces.
 const LENGTHS: [usize; 3] = [1, 7, 65_536];
 
+/// Whether that text is read in pieces of that many bytes.
+fn is_read(alloc: Global, size: usize) -> bool {
+    0 < size && told(read_cut(alloc, CUT, size)) == (0, b"good".as_slice(), 2, 2)
+}
+
 #[test]
 fn pieces_of_one_length(rt: HostRuntime) {
     for size in &LENGTHS {
-        assert!(rt; 0 < *size);
-        let found = told(read_cut(rt.alloc(), CUT, *size));
-        assert!(rt; found == (0, b"good".as_slice(), 2, 2));
+        assert!(rt; is_read(rt.alloc(), *size));
     }
 }
 
-/// Feeds so many bytes, each by itself.
-fn feed_many(alloc: Global, reader: &mut Reader, count: usize) -> Result<(), Memory> {
+/// Feeds so many bytes, each by itself, and says whether there was memory.
+fn feed_many(alloc: Global, reader: &mut Reader, count: usize) -> bool {
     for _ in 0..count {
-        reader.feed(alloc, b"#")?;
+        if reader.feed(alloc, b"#").is_err() {
+            return false;
+        }
     }
-    reader.feed(alloc, b"\n")
+    reader.feed(alloc, b"\n").is_ok()
+}
+
+/// Whether a long text is told as such that comes byte by byte.
+fn is_long(alloc: Global) -> bool {
+    let Ok(mut reader) = Reader::new(alloc) else {
+        return false;
+    };
+    if !feed_many(alloc, &mut reader, TEXT_LIMIT) {
+        return false;
+    }
+    told(reader.finish(alloc)) == (0, b"long".as_slice(), 0, 0)
 }
 
 #[test]
-fn a_long_text_byte_by_byte(rt: HostRuntime) -> Result<(), Fail> {
-    let mut reader = Reader::new(rt.alloc())?;
-    feed_many(rt.alloc(), &mut reader, TEXT_LIMIT)?;
-    let found = told(reader.finish(rt.alloc()));
-    assert!(rt; found == (0, b"long".as_slice(), 0, 0));
-    Ok(())
+fn a_long_text_byte_by_byte(rt: HostRuntime) {
+    assert!(rt; is_long(rt.alloc()));
 }

@@ -1,10 +1,10 @@
 // The lines of concave functions and of ranks.
 use super::told::{Numbers, Told, are_told};
-use super::{AMONG, has_faults};
+use super::{AMONG, Frame};
 use sfm_kind::Kind;
 use sfm_law::Term;
 use sfm_text::read_instance;
-use std::test::Fail;
+use std::alloc::Global;
 
 const CONCAVE_LINES: &str = "\
 0 good:concave 3 3 : a b|concave 3 5 6 : d a b|concave -1 : a
@@ -24,12 +24,6 @@ const CONCAVE_LINES: &str = "\
 3 law:concave 1 3 : a b
 3 law:concave 0 1 : a b
 3 law:concave 3 5 8 : a b c";
-
-#[test]
-fn concave_lines(rt: HostRuntime) -> Result<(), Fail> {
-    has_faults(&rt, rt.alloc(), AMONG, CONCAVE_LINES)?;
-    Ok(())
-}
 
 const UNIFORM_LINES: &str = "\
 0 good:rank 2 uniform 1 : a b|rank 0 uniform 0 : c
@@ -52,12 +46,6 @@ const UNIFORM_LINES: &str = "\
 3 number:rank 2 uniform 1000000000001 : a b
 3 name:rank 2 uniform 1 : a z
 3 twice:rank 2 uniform 1 : a b a";
-
-#[test]
-fn uniform_lines(rt: HostRuntime) -> Result<(), Fail> {
-    has_faults(&rt, rt.alloc(), AMONG, UNIFORM_LINES)?;
-    Ok(())
-}
 
 const LAMINAR_LINES: &str = "\
 0 good:rank 2 laminar : a b|rank 2 laminar : a ; 0 a
@@ -94,12 +82,6 @@ const LAMINAR_LINES: &str = "\
 3 law:rank 2 laminar : a b c ; 9 a b ; 0 b ; 1 c a
 3 law:rank 0 laminar : a b c ; 0 c b ; 0 a b";
 
-#[test]
-fn laminar_lines(rt: HostRuntime) -> Result<(), Fail> {
-    has_faults(&rt, rt.alloc(), AMONG, LAMINAR_LINES)?;
-    Ok(())
-}
-
 const GRAPHIC_LINES: &str = "\
 0 good:rank 2 graphic : a=u-v b=v-w c=w-u|rank 0 graphic : d=x-x
 0 good:rank 2 graphic : a=u-u b=u-v c=v-u d=u-v
@@ -133,12 +115,6 @@ const GRAPHIC_LINES: &str = "\
 3 twice:rank 2 graphic : a=u-v a=v-w
 3 twice:rank 2 graphic : b=u-v a=v-w b=u-v";
 
-#[test]
-fn graphic_lines(rt: HostRuntime) -> Result<(), Fail> {
-    has_faults(&rt, rt.alloc(), AMONG, GRAPHIC_LINES)?;
-    Ok(())
-}
-
 const TRANSVERSAL_LINES: &str = "\
 0 good:rank 2 transversal : a=s b=s,t c=t,u|rank 0 transversal : d=x
 0 good:rank 2 transversal : a=s b=s c=s d=a,b,c,d
@@ -169,11 +145,14 @@ const TRANSVERSAL_LINES: &str = "\
 3 twice:rank 2 transversal : a=s,t b=t,s,t
 3 twice:rank 2 transversal : a=s a=t";
 
-#[test]
-fn transversal_lines(rt: HostRuntime) -> Result<(), Fail> {
-    has_faults(&rt, rt.alloc(), AMONG, TRANSVERSAL_LINES)?;
-    Ok(())
-}
+/// Tables of faults, each with the frame of its texts.
+pub(super) const FAULTS: [(Frame, &str); 5] = [
+    (AMONG, CONCAVE_LINES),
+    (AMONG, UNIFORM_LINES),
+    (AMONG, LAMINAR_LINES),
+    (AMONG, GRAPHIC_LINES),
+    (AMONG, TRANSVERSAL_LINES),
+];
 
 const LINES_OF_TERMS: &[u8] =
     b"sfm 1\nground a b c d\nconcave 3 5 6 : d a b\nrank 7 uniform 2 : c a\nrank 5 laminar : d b a ; 2 b d ; 1 a\nend\n";
@@ -194,12 +173,8 @@ const TERMS: [Told; 3] = [
     },
 ];
 
-#[test]
-fn the_terms_are_those_of_their_lines(rt: HostRuntime) -> Result<(), Fail> {
-    let instance = read_instance(rt.alloc(), LINES_OF_TERMS)?;
-    assert!(rt; are_told(instance.terms(), &TERMS));
-    Ok(())
-}
+// The last value, and two and three elements with their worth, which the groups hold all.
+const SIZES: [i128; 3] = [6, 14, 15];
 
 const NAMES_OF_LABELS: &[u8] =
     b"sfm 1\nground a b c d\nrank 3 graphic : d=v-u a=u-w b=v-w c=w-w\nrank 4 transversal : b=t,s d=s,t a=t\nend\n";
@@ -217,7 +192,7 @@ const TERMS_OF_LABELS: [Told; 2] = [
 ];
 
 // Three edges make a circuit and one is a loop, so two are a greatest forest, and two of the three elements have slots of their own.
-const SIZES: [i128; 2] = [6, 8];
+const SIZES_OF_LABELS: [i128; 2] = [6, 8];
 
 /// Whether terms have these sizes.
 fn are_sized(terms: &[Kind], sizes: &[i128]) -> bool {
@@ -229,10 +204,27 @@ fn are_sized(terms: &[Kind], sizes: &[i128]) -> bool {
     terms.len() == sizes.len()
 }
 
+/// Whether a text has these terms, of these sizes.
+fn has_terms(alloc: Global, text: &[u8], told: &[Told], sizes: &[i128]) -> bool {
+    match read_instance(alloc, text) {
+        Ok(instance) => are_told(instance.terms(), told) && are_sized(instance.terms(), sizes),
+        Err(_) => false,
+    }
+}
+
 #[test]
-fn vertices_and_slots_are_told_by_their_names(rt: HostRuntime) -> Result<(), Fail> {
-    let instance = read_instance(rt.alloc(), NAMES_OF_LABELS)?;
-    assert!(rt; are_told(instance.terms(), &TERMS_OF_LABELS));
-    assert!(rt; are_sized(instance.terms(), &SIZES));
-    Ok(())
+fn the_terms_are_those_of_their_lines(rt: HostRuntime) {
+    assert!(rt; has_terms(rt.alloc(), LINES_OF_TERMS, &TERMS, &SIZES));
+}
+
+#[test]
+fn vertices_and_slots_are_told_by_their_names(rt: HostRuntime) {
+    assert!(rt;
+        has_terms(
+            rt.alloc(),
+            NAMES_OF_LABELS,
+            &TERMS_OF_LABELS,
+            &SIZES_OF_LABELS
+        )
+    );
 }

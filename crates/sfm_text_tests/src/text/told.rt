@@ -56,13 +56,16 @@ fn is_rank(term: &Kind, numbers: &Numbers) -> bool {
     }
 }
 
+/// Whether a term is that one.
+fn is_told(term: &Kind, told: &Told) -> bool {
+    term.elements() == told.places
+        && (is_plain(term, &told.numbers) || is_rank(term, &told.numbers))
+}
+
 /// Whether terms are these, in order.
 pub(super) fn are_told(terms: &[Kind], told: &[Told]) -> bool {
     for (term, row) in terms.iter().zip(told) {
-        if term.elements() != row.places {
-            return false;
-        }
-        if !is_plain(term, &row.numbers) && !is_rank(term, &row.numbers) {
+        if !is_told(term, row) {
             return false;
         }
     }
