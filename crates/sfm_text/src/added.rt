@@ -1,12 +1,14 @@
 // One term line, judged against an instance: its term is added behind the others, or the first reason is told for which the
 // line has none. A text's term lines are read by this call too, so that a line is judged alike wherever it comes from.
-ghost use Rattle.std.specs.Prelude.{◌≡◌, ◌≢◌, ◌↔◌, ◌<◌, ◌≤◌, ◌^◌, ℕ, List, [], ◌∷◌, ◌++◌, length, IsTrue, Any, MatchBool, MatchOption, MatchResult, OnErr};
+ghost use Rattle.std.specs.Prelude.{◌≡◌, ◌≢◌, ◌↔◌, ◌<◌, ◌≤◌, ◌^◌, ℕ, List, [], ◌∷◌, ◌++◌, length, IsTrue, Any, IfOk, IfErr, MatchBool, MatchOption, MatchResult, OnErr};
 ghost use Rattle.std.specs.List.{All};
 ghost use Rattle.sfm_kind.specs.Limits.{AreInBounds};
-ghost use Rattle.sfm_lines.specs.Lines.{texts_of, tokens_of};
+ghost use Rattle.sfm_kind.specs.Names.{AreElementNames};
+ghost use Rattle.sfm_lines.specs.Lines.{tokens_of};
 ghost use Rattle.sfm_lines.specs.Words.{word_text};
 ghost use Rattle.sfm_lines.specs.Reading.{IsBadByte, AreTooMuch};
-ghost use Rattle.sfm_lines.specs.ReadParts.{bytes_in, state_at, IsTermRead, IsEntryLine};
+ghost use Rattle.sfm_lines.specs.ReadParts.{bytes_in, state_at, IsTermRead};
+ghost use Rattle.sfm_passes.specs.GroupPasses.{IsRefusedBy};
 ghost use Rattle.sfm_text.specs.Judging.{IsOutcome};
 ghost use Rattle.sfm_text.specs.GoodText.{text_limit};
 ghost use Rattle.sfm_text.specs.Adding.{IsTermAdded, IsTermRefusal};
@@ -89,21 +91,24 @@ fn add_made(instance: &mut Instance, term: Kind) -> Result<(), LineEnd>
     Ok(())
 }
 
-/// Adds the term of a line with this word and these tokens behind it, which is none of a transversal rank.
-fn add_read(
+/// The term of a line with this word and these tokens behind it, or the first reason for which it has none but that there may be too
+/// much with it.
+fn read_behind(
     alloc: Global,
-    instance: &mut Instance,
+    instance: &Instance,
     word: TermWord,
-    tokens: &[&[u8]],
-) -> Result<(), LineEnd>
-    requires short { bytes_in (texts_of tokens.now) < 2 ^ 24 }
-    requires other { IsEntryLine word (texts_of tokens.now) → ⊥ }
-    ensures outcome { IsOutcome (state_at Terms instance.old) (word_text word ∷ texts_of tokens.now) result (state_at Terms instance.new) }
-    ensures unchanged { OnErr result (instance.new ≡ instance.old) }
+    rest: &[u8],
+) -> Result<Kind, LineEnd>
+    requires names { AreElementNames instance.now.names }
+    requires short { bytes_in (tokens_of rest.now) < 2 ^ 24 }
+    ensures read { IfOk result (IsTermRead instance.now word (tokens_of rest.now)) }
+    ensures refused { IfErr result (IsRefusedBy instance.now word (tokens_of rest.now)) }
 {
-    let _count = instance.names_len();
-    let term = read_term(alloc, instance, word, tokens)?;
-    add_made(instance, term)
+    if let Some(term) = early_term(alloc, instance, word, rest)? {
+        return Ok(term);
+    }
+    let tokens = tokens(alloc, rest)?;
+    read_term(alloc, instance, word, &tokens)
 }
 
 /// Adds the term of a line with this word and these tokens behind it.
@@ -118,11 +123,8 @@ fn add_behind(
     ensures unchanged { OnErr result (instance.new ≡ instance.old) }
 {
     let _count = instance.names_len();
-    if let Some(term) = early_term(alloc, instance, word, rest)? {
-        return add_made(instance, term);
-    }
-    let tokens = tokens(alloc, rest)?;
-    add_read(alloc, instance, word, &tokens)
+    let term = read_behind(alloc, instance, word, rest)?;
+    add_made(instance, term)
 }
 
 /// Adds the term of a term line, which is no longer than a text may be, behind those of an instance.

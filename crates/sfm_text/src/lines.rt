@@ -6,6 +6,7 @@ ghost use Rattle.std.specs.List.{All, position_or_len};
 ghost use Rattle.sfm_text.specs.Places.{span_of, placed_content, LiesIn};
 
 use sfm_base::Memory;
+use sfm_lines::pair::place_of_byte;
 use sfm_lines::tokens::is_skipped;
 use std::alloc::Global;
 
@@ -44,7 +45,7 @@ pub fn without_return(line: &[u8]) -> &[u8]
 pub fn line_end(text: &[u8]) -> usize
     ensures { result ≡ position_or_len (λ c. c == 10) text.now }
 {
-    text.iter().position(|c| *c == b'\n').unwrap_or(text.len())
+    place_of_byte(text, b'\n')
 }
 
 impl<'a> Lines<'a> {

@@ -253,9 +253,7 @@ pub fn read_instance(alloc: Global, text: &[u8]) -> Result<Instance, TextEnd>
     ensures read { IfOk result (λ instance. IsTextOf text.now instance.names instance.terms) }
     ensures refused { IfErr result (IsRefusalOf text.now) }
 {
-    let mut reader = Reader::new(alloc)?;
-    reader.feed(alloc, text)?;
-    reader.finish(alloc)
+    read_pieces(alloc, &[text])
 }
 
 /// The instance of a text that comes in pieces, or its first fault: the same wherever the text is cut.

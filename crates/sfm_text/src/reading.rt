@@ -3,7 +3,7 @@ ghost use Rattle.std.specs.Prelude.{◌≡◌, ◌≢◌, ◌≤◌, ℕ, List, 
 ghost use Rattle.std.specs.List.{All};
 ghost use Rattle.std.specs.Str.Lines.{strip_carriage_return};
 ghost use Rattle.sfm_spec.specs.Names.{IsName};
-ghost use Rattle.sfm_lines.specs.Lines.{texts_of, tokens_of};
+ghost use Rattle.sfm_lines.specs.Lines.{tokens_of};
 ghost use Rattle.sfm_lines.specs.TermLines.{StandsTwice};
 ghost use Rattle.sfm_lines.specs.Reading.{start, Takes, IsLineRefusal};
 ghost use Rattle.sfm_text.specs.Judging.{BeginsEnd};
@@ -13,7 +13,7 @@ use crate::added::{add_line, are_good_bytes};
 use crate::lines::without_return;
 use sfm_base::Memory;
 use sfm_kind::Instance;
-use sfm_lines::tokens::{first_token, has_token, is_skipped, token, tokens};
+use sfm_lines::tokens::{first_token, has_token, is_skipped, token};
 use sfm_lines::{LineEnd, Reason, Stage};
 use sfm_passes::{Separator, are_names_in, has_mark_in, has_repeat_in};
 use std::alloc::Global;
@@ -69,17 +69,19 @@ fn is_last(line: &[u8]) -> bool
     }
 }
 
-/// The instance with these names and no terms.
-fn with_names(alloc: Global, names: &[&[u8]]) -> Result<Instance, Memory>
-    requires forms { All IsName (texts_of names.now) }
-    requires distinct { StandsTwice (texts_of names.now) → ⊥ }
-    requires few { length names.now ≤ 256 }
-    ensures names { IfOk result (λ r. r.names ≡ texts_of names.now) }
+/// The instance with the names that stand in a line behind its word, and no terms.
+fn with_names(alloc: Global, line: &[u8]) -> Result<Instance, Memory>
+    requires forms { All IsName (tokens_of line.now) }
+    requires distinct { StandsTwice (tokens_of line.now) → ⊥ }
+    requires few { length (tokens_of line.now) ≤ 256 }
+    ensures names { IfOk result (λ r. r.names ≡ tokens_of line.now) }
     ensures terms { IfOk result (λ r. r.terms ≡ []) }
 {
     let mut instance = Instance::new(alloc);
-    for name in names {
+    let mut left = line;
+    while let Some((name, behind)) = first_token(left) {
         instance.add_name(name)?;
+        left = behind;
     }
     Ok(instance)
 }
@@ -153,7 +155,7 @@ impl Reading {
         Ok(())
     }
 
-    /// Takes the line with the names of the ground. A list of its names is made where they are few enough.
+    /// Takes the line with the names of the ground.
     fn take_ground(&mut self, alloc: Global, line: &[u8]) -> Result<(), LineEnd>
         ensures { IsOutcome (state_at Ground self.old.instance) (tokens_of line.now) result (state_of self.new) }
     {
@@ -172,8 +174,7 @@ impl Reading {
         if has_token(rest, MOST_NAMES) {
             return Err(LineEnd::Fault(Reason::Total));
         }
-        let names = tokens(alloc, rest)?;
-        self.instance = with_names(alloc, &names)?;
+        self.instance = with_names(alloc, rest)?;
         self.stage = Stage::Terms;
         Ok(())
     }

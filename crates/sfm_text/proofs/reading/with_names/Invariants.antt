@@ -1,9 +1,12 @@
-use Rattle.std.proofs.Common.{◌≡◌, [], take}
-use Rattle.sfm_lines.specs.Lines.{texts_of}
+use Rattle.std.proofs.Common.{◌≡◌, [], ◌++◌, length}
+use Rattle.sfm_lines.specs.Lines.{tokens_of}
 use Rattle.sfm_text.proofs.reading.with_names.Given as goal
 
 abbrev pub invariant-loop-name : goal.invariant-loop-name
 invariant-loop-name l = record {
-  names : l.instance.names ≡ texts_of (take l.name-index l.names);
+  names : tokens_of l.line ≡ l.instance.names ++ tokens_of l.left;
   terms : l.instance.terms ≡ [];
 }
+
+abbrev pub decreases-loop-name : goal.decreases-loop-name
+decreases-loop-name l = length l.left

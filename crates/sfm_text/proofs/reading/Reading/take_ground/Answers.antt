@@ -30,6 +30,6 @@ returns-then-has_token c = λ line is.
 pub returns : goal.returns
 returns c = λ line is.
     let names = tokens_of c.in-Some.rest.now in
-    rw (c.in_ok-self.ensures.names, c.in_ok-self.ensures.terms, c.deref.ensures.value, c.in_ok-names.ensures)
+    rw (c.in_ok-self.ensures.names, c.in_ok-self.ensures.terms)
     (ground-good c.args.self.now.instance line names (line-as line _ (codes "ground" ∷ names) c.in-Some.ensures is) (ground-unmarked names c.if-has_mark_in.ensures) c.if-not-are_names_in.ensures
     (λ t. false≢true (sym c.if-branch.false ∙ c.in_ok-has_repeat_in.ensures.1 t)) c.if-has_token.ensures)
