@@ -27,7 +27,6 @@ pub(crate) enum Answer {
 
 /// How far a search is: where it began, the demands that were found, the marked slots, the demands that are handled one after
 /// another, and the place of the next of these. The next search uses its memory again, and that of sets that are idle.
-#[derive(Drop)]
 pub(crate) struct Spread {
     from: usize,
     found: Set,
@@ -37,6 +36,21 @@ pub(crate) struct Spread {
     idle: Vec<Set>,
     /// For each slot a cell that may have something on it: a guess, of which nothing is known.
     hints: Vec<usize>,
+}
+
+// Written out, so that letting one go is one step, which is proved here once.
+impl Drop for Spread {
+    fn drop(self) {
+        let Self {
+            from: _,
+            found: _,
+            marks: _,
+            queue: _,
+            next: _,
+            idle: _,
+            hints: _,
+        } = self;
+    }
 }
 
 /// Makes a set the one with nothing of n places, in its own memory where it has as many.

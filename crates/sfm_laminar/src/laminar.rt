@@ -51,7 +51,6 @@ impl From<Memory> for LaminarEnd {
 }
 
 /// A number for each element of a greatest independent part (Schrijver, Combinatorial Optimization, section 39).
-#[derive(Drop)]
 pub struct Laminar {
     pub places: Places,
     pub w: i128,
@@ -70,6 +69,20 @@ pub struct Laminar {
     pub ghost based: { basis ≡ basis_of (length places) groups },
     pub ghost indexed: { IsIndex (length places) groups index },
     pub ghost masked: { AreMasks (length places) groups masks },
+}
+
+// Written out, so that letting one go is one step, which is proved here once.
+impl Drop for Laminar {
+    fn drop(self) {
+        let Self {
+            places: _,
+            w: _,
+            groups: _,
+            basis: _,
+            index: _,
+            masks: _,
+        } = self;
+    }
 }
 
 impl Laminar {

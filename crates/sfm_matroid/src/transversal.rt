@@ -25,7 +25,6 @@ use std::alloc::Global;
 
 /// A number for each element of a greatest independent part: elements are independent where they have slots of their own
 /// entries, all distinct (Schrijver, Combinatorial Optimization, section 39).
-#[derive(Drop)]
 pub struct Transversal {
     pub places: Places,
     pub w: i128,
@@ -38,6 +37,18 @@ pub struct Transversal {
     pub ghost given: { IsGiven w },
     pub ghost same_count: { length entries ≡ length places },
     pub ghost based: { basis ≡ transversal_basis entries },
+}
+
+// Written out, so that letting one go is one step, which is proved here once.
+impl Drop for Transversal {
+    fn drop(self) {
+        let Self {
+            places: _,
+            w: _,
+            entries: _,
+            basis: _,
+        } = self;
+    }
 }
 
 impl Transversal {

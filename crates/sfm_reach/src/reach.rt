@@ -25,11 +25,21 @@ pub struct Based<'a, T> {
 }
 
 /// The rows of one term, seen as a list of sets, with memory for the parts that the term tells.
-#[derive(Drop)]
 pub struct BitRows {
     rows: Vec<Bits>,
     part: Set,
     image: Option<Image>,
+}
+
+// Written out, so that letting one go is one step, which is proved here once.
+impl Drop for BitRows {
+    fn drop(self) {
+        let Self {
+            rows: _,
+            part: _,
+            image: _,
+        } = self;
+    }
 }
 
 impl Model for BitRows {

@@ -11,7 +11,6 @@ use sfm_base::Memory;
 use std::alloc::Global;
 
 /// The demand and the slot of each cell, in the order of the demands and of their lists, and the chains of these.
-#[derive(Drop)]
 pub struct Cells {
     pub whos: Vec<usize>,
     pub slots: Vec<usize>,
@@ -19,6 +18,18 @@ pub struct Cells {
     pub by_slot: Chains,
     ghost whos_chained: { AreChains whos.items by_who.heads.items by_who.nexts.items },
     ghost slots_chained: { AreChains slots.items by_slot.heads.items by_slot.nexts.items },
+}
+
+// Written out, so that letting one go is one step, which is proved here once.
+impl Drop for Cells {
+    fn drop(self) {
+        let Self {
+            whos: _,
+            slots: _,
+            by_who: _,
+            by_slot: _,
+        } = self;
+    }
 }
 
 /// How many cells lists have, to set aside room for them.

@@ -40,11 +40,22 @@ impl Slots {
 }
 
 /// Demands, the slots that each may use, and what each slot holds at most. A slot may stand more than once in a list.
-#[derive(Debug, Drop)]
+#[derive(Debug)]
 pub struct Demand {
     demands: Vec<i128>,
     lists: Vec<Slots>,
     capacities: Vec<i128>,
+}
+
+// Written out, so that letting one go is one step, which is proved here once.
+impl Drop for Demand {
+    fn drop(self) {
+        let Self {
+            demands: _,
+            lists: _,
+            capacities: _,
+        } = self;
+    }
 }
 
 impl Model for Demand {

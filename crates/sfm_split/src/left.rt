@@ -10,12 +10,22 @@ use sfm_base::Memory;
 use std::alloc::Global;
 
 /// What demands lack, and what slots have left.
-#[derive(Drop)]
 pub struct Lefts {
     pub lacks: Vec<i128>,
     pub rooms: Vec<i128>,
     /// The demands that lack something, in order, once they are listed; those that are met since stay.
     pub(crate) lacking: Vec<usize>,
+}
+
+// Written out, so that letting one go is one step, which is proved here once.
+impl Drop for Lefts {
+    fn drop(self) {
+        let Self {
+            lacks: _,
+            rooms: _,
+            lacking: _,
+        } = self;
+    }
 }
 
 impl Lefts {

@@ -16,11 +16,21 @@ use std::alloc::Global;
 
 /// The memory of a search, which the next one uses again: the node of each demand that was found, whether each slot is marked,
 /// and the demands that were found, in this order. So the next one has to clear the nodes of these alone.
-#[derive(Drop)]
 pub(crate) struct Search {
     pub nodes: Vec<Option<Node>>,
     pub marks: Vec<bool>,
     pub queue: Vec<usize>,
+}
+
+// Written out, so that letting one go is one step, which is proved here once.
+impl Drop for Search {
+    fn drop(self) {
+        let Self {
+            nodes: _,
+            marks: _,
+            queue: _,
+        } = self;
+    }
 }
 
 impl Search {

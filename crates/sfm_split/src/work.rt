@@ -11,11 +11,21 @@ use std::alloc::Global;
 use std::mem;
 
 /// The memory in which a split is changed.
-#[derive(Drop)]
 pub struct Work {
     pub y: Vec<i128>,
     pub left: Lefts,
     pub(crate) rest: Rest,
+}
+
+// Written out, so that letting one go is one step, which is proved here once.
+impl Drop for Work {
+    fn drop(self) {
+        let Self {
+            y: _,
+            left: _,
+            rest: _,
+        } = self;
+    }
 }
 
 impl Work {
