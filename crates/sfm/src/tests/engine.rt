@@ -15,8 +15,6 @@ use sfm_law::{Term, start_rows};
 use sfm_text::read_instance;
 use sfm_walk::{minimise, minimise_counted};
 use std::alloc::Global;
-use std::process::Abort;
-use std::test::Fail;
 
 const CUT: &[u8] = b"sfm 1\nground a b\nweight a:-3 b:2\ncut 4 a b\nend\n";
 
@@ -143,16 +141,28 @@ fn are_minimisers(small: &Small, least: u32, blocks: &[Block]) -> bool {
     true
 }
 
-fn try_blocks(rt: &impl Abort, alloc: Global, small: &Small) -> Result<(), Fail> {
-    let instance = read_instance(alloc, small.text)?;
+/// Whether the least minimiser and the blocks that are told of an instance make all minimisers.
+fn tells_minimisers(alloc: Global, instance: &Instance, small: &Small) -> bool {
     let terms = instance.terms();
     let n = instance.names_len();
-    let optimum = minimise(alloc, terms, n, 0, 1)?;
-    if let Certified::Proved(found) = certify(alloc, terms, n, 0, 1, &optimum.bases)? {
-        let list = blocks(alloc, terms, n, &optimum.bases)?;
-        assert!(rt; are_minimisers(small, number_of(&found.least), &list));
+    let Ok(optimum) = minimise(alloc, terms, n, 0, 1) else {
+        return false;
+    };
+    let Ok(Certified::Proved(found)) = certify(alloc, terms, n, 0, 1, &optimum.bases) else {
+        return false;
+    };
+    match blocks(alloc, terms, n, &optimum.bases) {
+        Ok(list) => are_minimisers(small, number_of(&found.least), &list),
+        Err(_) => false,
     }
-    Ok(())
+}
+
+/// Whether the text of an instance tells all minimisers.
+fn has_minimisers(alloc: Global, small: &Small) -> bool {
+    match read_instance(alloc, small.text) {
+        Ok(instance) => tells_minimisers(alloc, &instance, small),
+        Err(_) => false,
+    }
 }
 
 const SMALL: [Small; 10] = [
@@ -236,36 +246,33 @@ const SMALL: [Small; 10] = [
 ];
 
 #[test]
-fn closed_choices_of_blocks_are_the_minimisers(rt: HostRuntime) -> Result<(), Fail> {
+fn closed_choices_of_blocks_are_the_minimisers(rt: HostRuntime) {
     for small in &SMALL {
-        try_blocks(&rt, rt.alloc(), small)?;
+        assert!(rt; has_minimisers(rt.alloc(), small));
     }
-    Ok(())
 }
 
-/// Tries how many walks a minimum takes, and the row of the last term then.
-fn try_walks(
-    rt: &impl Abort,
-    alloc: Global,
-    text: &[u8],
-    walks: u64,
-    last: &[i128],
-) -> Result<(), Fail> {
-    let instance = read_instance(alloc, text)?;
+/// Whether the last of some rows is that one.
+fn has_last(rows: &Rows, last: &[i128]) -> bool {
+    !rows.is_empty() && rows.row(rows.len() - 1) == last
+}
+
+/// Whether a minimum takes so many walks, and has that row of the last term then.
+fn is_walked(alloc: Global, instance: &Instance, walks: u64, last: &[i128]) -> bool {
+    let n = instance.names_len();
     let mut steps = Steps::new();
-    let optimum = minimise_counted(
-        alloc,
-        instance.terms(),
-        instance.names_len(),
-        0,
-        1,
-        &mut steps,
-    )?;
-    assert_eq!(rt; steps.count(), walks);
-    let rows = optimum.bases.len();
-    assert!(rt; rows > 0);
-    assert_eq!(rt; optimum.bases.row(rows - 1), last);
-    Ok(())
+    match minimise_counted(alloc, instance.terms(), n, 0, 1, &mut steps) {
+        Ok(optimum) => steps.count() == walks && has_last(&optimum.bases, last),
+        Err(_) => false,
+    }
+}
+
+/// Whether the minimum of an instance is so, by its text.
+fn has_walks(alloc: Global, text: &[u8], walks: u64, last: &[i128]) -> bool {
+    match read_instance(alloc, text) {
+        Ok(instance) => is_walked(alloc, &instance, walks, last),
+        Err(_) => false,
+    }
 }
 
 /// Instances, how many walks their minimum takes, and the row of the last term then.
@@ -280,11 +287,10 @@ const WALKS: [(&[u8], u64, &[i128]); 3] = [
 ];
 
 #[test]
-fn walks_are_counted(rt: HostRuntime) -> Result<(), Fail> {
+fn walks_are_counted(rt: HostRuntime) {
     for (text, walks, last) in &WALKS {
-        try_walks(&rt, rt.alloc(), text, *walks, last)?;
+        assert!(rt; has_walks(rt.alloc(), text, *walks, last));
     }
-    Ok(())
 }
 
 /// The first bases of the terms.
@@ -310,59 +316,66 @@ fn are_bases(alloc: Global, terms: &[Kind], rows: &Rows) -> Result<bool, Memory>
 }
 
 /// The rows at 0/1 of an answer text, where they are bases of the terms.
-fn bases_in(alloc: Global, instance: &Instance, text: &[u8]) -> Result<Option<Rows>, Memory>
-    ensures bases { IfOk result (λ r. IfSome r (λ rows. AreBases (pos 1) (meanings kind_places kind_value instance.now.terms) rows)) }
-    ensures small { IfOk result (λ r. IfSome r (λ rows. All (λ row. All IsEntry row) rows)) }
+fn bases_in(alloc: Global, instance: &Instance, text: &[u8]) -> Option<Rows>
+    ensures bases { IfSome result (λ rows. AreBases (pos 1) (meanings kind_places kind_value instance.now.terms) rows) }
+    ensures small { IfSome result (λ rows. All (λ row. All IsEntry row) rows) }
 {
     let Ok(solved) = read_answer(alloc, instance, text) else {
-        return Ok(None);
+        return None;
     };
-    if !are_bases(alloc, instance.terms(), &solved.bases)? {
-        return Ok(None);
+    match are_bases(alloc, instance.terms(), &solved.bases) {
+        Ok(true) => Some(solved.bases),
+        _ => None,
     }
-    Ok(Some(solved.bases))
 }
 
-/// Tries that bases prove no minimum, and the first place and the steps of the walk that leaves them.
-fn try_left(
-    rt: &impl Abort,
-    alloc: Global,
-    instance: &Instance,
-    bases: &Rows,
-    first: usize,
-    steps: &[(usize, usize)],
-) -> Result<(), Fail>
+/// A walk that leaves bases: its first place and its steps.
+type Left = (usize, &'static [(usize, usize)]);
+
+/// Whether bases prove no minimum, and are left by that walk.
+fn are_left(alloc: Global, instance: &Instance, bases: &Rows, left: Left) -> bool
     requires bases { AreBases (pos 1) (meanings kind_places kind_value instance.now.terms) bases.now }
     requires small { All (λ row. All IsEntry row) bases.now }
 {
-    match certify(alloc, instance.terms(), instance.names_len(), 0, 1, bases)? {
-        Certified::Proved(_) => assert!(rt; false),
-        Certified::NotOptimal { walk } => {
-            assert_eq!(rt; walk.first, first);
-            assert_eq!(rt; walk.steps.as_slice(), steps);
+    match certify(alloc, instance.terms(), instance.names_len(), 0, 1, bases) {
+        Ok(Certified::NotOptimal { walk }) => {
+            walk.first == left.0 && walk.steps.as_slice() == left.1
         }
+        _ => false,
     }
-    Ok(())
 }
 
-const FROM_FIRST: &[(usize, usize)] = &[(0, 1)];
+const FROM_FIRST: Left = (1, &[(0, 1)]);
 
-#[test]
-fn bases_that_do_not_prove_are_left_by_a_walk(rt: HostRuntime) -> Result<(), Fail> {
-    let instance = read_instance(rt.alloc(), CUT)?;
-    let bases = first_bases(rt.alloc(), &instance)?;
-    try_left(&rt, rt.alloc(), &instance, &bases, 1, FROM_FIRST)
+/// Whether the first bases are left by their walk.
+fn are_first_left(alloc: Global, instance: &Instance) -> bool {
+    match first_bases(alloc, instance) {
+        Ok(bases) => are_left(alloc, instance, &bases, FROM_FIRST),
+        Err(_) => false,
+    }
 }
 
 const ZERO: &[u8] = b"answer 1\nminimum 0\nleast\ngreatest\nat 0/1\nbase 1 -3 2\nbase 2 0 0\nend\n";
 
-const FROM_ZERO: &[(usize, usize)] = &[(1, 1)];
+const FROM_ZERO: Left = (0, &[(1, 1)]);
+
+/// Whether zero as the base of a cut is left by its one walk.
+fn is_zero_left(alloc: Global, instance: &Instance) -> bool {
+    match bases_in(alloc, instance, ZERO) {
+        Some(bases) => are_left(alloc, instance, &bases, FROM_ZERO),
+        None => false,
+    }
+}
+
+/// Whether bases of the cut that prove no minimum are left by a walk.
+fn leaves(alloc: Global) -> bool {
+    match read_instance(alloc, CUT) {
+        Ok(instance) => are_first_left(alloc, &instance) && is_zero_left(alloc, &instance),
+        Err(_) => false,
+    }
+}
 
 #[test]
-fn zero_as_the_base_of_a_cut_is_left_by_its_one_walk(rt: HostRuntime) -> Result<(), Fail> {
-    let instance = read_instance(rt.alloc(), CUT)?;
-    match bases_in(rt.alloc(), &instance, ZERO)? {
-        Some(bases) => try_left(&rt, rt.alloc(), &instance, &bases, 0, FROM_ZERO),
-        None => panic!(rt; "no bases"),
-    }
+fn bases_that_do_not_prove_are_left_by_a_walk(rt: HostRuntime) {
+    assert!(rt; leaves(rt.alloc()));
 }

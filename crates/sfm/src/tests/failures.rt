@@ -1,8 +1,6 @@
 // Calls that fail: by the outside, by the words, and by texts that are too long.
-use crate::tests::cases::{
-    Case, Outside, READ_FAILED, SOLVE, SOUND, WRITE_FAILED, solve, try_case,
-};
-use std::test::Fail;
+use crate::tests::cases::{Case, Outside, READ_FAILED, SOLVE, SOUND, WRITE_FAILED, is_met, solve};
+use std::alloc::Global;
 
 const FIRST: &[u8] = b"sfm 1\nground a b\nweight a:-3 b:2\nend\n";
 
@@ -94,11 +92,10 @@ const OUTSIDE: [Case; 8] = [
 ];
 
 #[test]
-fn pieces_and_faults_of_the_outside(rt: HostRuntime) -> Result<(), Fail> {
-    for case in &OUTSIDE {
-        try_case(&rt, rt.alloc(), case)?;
+fn pieces_and_faults_of_the_outside(rt: HostRuntime) {
+    for number in 0..OUTSIDE.len() {
+        assert!(rt; is_met(rt.alloc(), &OUTSIDE[number]), "row {number}");
     }
-    Ok(())
 }
 
 const NO_COMMANDS: [&[&str]; 8] = [
@@ -112,24 +109,37 @@ const NO_COMMANDS: [&[&str]; 8] = [
     &["demo", "1000000000"],
 ];
 
+/// Whether a call with these words says how it is to be called.
+fn is_no_command(alloc: Global, words: &[&str]) -> bool {
+    let case = Case {
+        words,
+        err: USAGE,
+        ..solve(FIRST, 64, b"")
+    };
+    is_met(alloc, &case)
+}
+
 #[test]
-fn words_that_are_no_command(rt: HostRuntime) -> Result<(), Fail> {
-    for words in &NO_COMMANDS {
-        let case = Case {
-            words: *words,
-            err: USAGE,
-            ..solve(FIRST, 64, b"")
-        };
-        try_case(&rt, rt.alloc(), &case)?;
+fn words_that_are_no_command(rt: HostRuntime) {
+    for number in 0..NO_COMMANDS.len() {
+        assert!(rt;
+            is_no_command(rt.alloc(), NO_COMMANDS[number]),
+            "row {number}"
+        );
     }
-    Ok(())
 }
 
 const LONG: &[u8] = b"refused 0 long\n";
 
+/// Whether a text is refused that is longer than the limit.
+fn is_long_refused(alloc: Global) -> bool {
+    match vec![in alloc; b'#'; 16_777_217] {
+        Ok(text) => is_met(alloc, &solve(&text, 2, LONG)),
+        Err(_) => false,
+    }
+}
+
 #[test]
-fn refuses_a_long_text(rt: HostRuntime) -> Result<(), Fail> {
-    let alloc = rt.alloc();
-    let text = vec![in alloc; b'#'; 16_777_217]?;
-    try_case(&rt, alloc, &solve(text.as_slice(), 2, LONG))
+fn refuses_a_long_text(rt: HostRuntime) {
+    assert!(rt; is_long_refused(rt.alloc()));
 }

@@ -1,38 +1,21 @@
-// Hostile use, in tables: calls of the outside that fail, one after another; answers that were tampered with; texts that
-// end too soon, or that are as long as they may be. Each row is what the definitions ask for, worked by hand.
+// Hostile use: calls of the outside that fail, one after another; answers and instances that end too soon, or that are as long as
+// they may be; answers with another byte. Each row is what the definitions ask for, worked by hand.
 use crate::tests::cases::{
-    CHECK, Case, Outside, READ_FAILED, SOLVE, SOUND, WRITE_FAILED, call, is_met, parts_of, solve,
-    try_case, written,
+    CHECK, Case, Outside, READ_FAILED, SOLVE, SOUND, WRITE_FAILED, call, is_met, solve, written,
 };
 use crate::tests::shelves::WatchedShelf;
 use sfm_check::{Verdict, Wrong, judge};
 use sfm_io::MemorySink;
+use sfm_kind::Instance;
 use sfm_text::{TextEnd, read_instance};
 use std::alloc::Global;
 use std::process::Abort;
-use std::test::Fail;
 
-/// An instance and a right file for it.
-#[derive(Clone, Copy)]
-struct Worked<'a> {
-    text: &'a [u8],
-    answer: &'a [u8],
-}
+const CUT: &[u8] = b"sfm 1\nground a b\nweight a:-3 b:2\ncut 4 a b\nend\n";
 
-const CUT: Worked = Worked {
-    text: b"sfm 1\nground a b\nweight a:-3 b:2\ncut 4 a b\nend\n",
-    answer: b"answer 1\nminimum -1\nleast a b\ngreatest a b\nslope -1/2 a b\nat 0/1\nbase 1 -3 2\nbase 2 3 -3\nat -1/2\nbase 1 -6 4\nbase 2 5 -5\nend\n",
-};
-
-const NEED: Worked = Worked {
-    text: b"sfm 1\nground a b\nneed a b\nend\n",
-    answer: b"answer 1\nminimum 0\nleast\ngreatest a b\nblock 1 b :\nblock 2 a : 1\nslope 0/1 a b\nat 0/1\nbase 1 0 0\nat 0/1\nbase 1 0 0\nend\n",
-};
-
-const THREE: Worked = Worked {
-    text: b"sfm 1\nground a b c\nweight a:1 b:1 c:-2\nend\n",
-    answer: b"answer 1\nminimum -2\nleast c\ngreatest c\nslope -2/1 c\nslope 1/1 a b c\nat 0/1\nbase 1 1 1 -2\nat -2/1\nbase 1 1 1 -2\nat 1/1\nbase 1 1 1 -2\nend\n",
-};
+/// A right file for it.
+const CUT_ANSWER: &[u8] =
+    b"answer 1\nminimum -1\nleast a b\ngreatest a b\nslope -1/2 a b\nat 0/1\nbase 1 -3 2\nbase 2 3 -3\nat -1/2\nbase 1 -6 4\nbase 2 5 -5\nend\n";
 
 /// What fails in a call of the program.
 #[derive(Clone, Copy)]
@@ -107,28 +90,31 @@ fn outside_of<'a>(failing: Failing, number: usize, call: &'a [usize]) -> Outside
     }
 }
 
-/// One run in which the call of that number fails; `due` is written where none does.
-fn try_fault(
-    rt: &impl Abort,
-    alloc: Global,
-    row: &Faults,
-    number: usize,
-    due: &[u8],
-) -> Result<(), Fail> {
+/// Whether a run ends as it must in which the call of that number fails; `due` is written where none does.
+fn is_fault_met(alloc: Global, row: &Faults, number: usize, due: &[u8]) -> bool {
     let call = [number];
     let outside = outside_of(row.failing, number, &call);
     let written = written_before(row.failing, number, row.code).min(due.len());
     let case = Case {
         words: row.words,
-        first: CUT.text,
-        second: CUT.answer,
+        first: CUT,
+        second: CUT_ANSWER,
         outside: &outside,
         code: row.code,
         out: &due[..written],
         err: line_of(row.failing, row.code),
     };
-    assert!(rt; is_met(alloc, &case)?, "call {number}");
-    Ok(())
+    is_met(alloc, &case)
+}
+
+/// Whether the runs of a row end as they must.
+fn are_faults_met(alloc: Global, row: &Faults, due: &[u8]) -> bool {
+    for number in row.first..=row.last {
+        if !is_fault_met(alloc, row, number, due) {
+            return false;
+        }
+    }
+    true
 }
 
 const SINGLE: Outside = Outside {
@@ -137,11 +123,22 @@ const SINGLE: Outside = Outside {
 };
 
 /// What a run writes that nothing fails: it reads 1, 2 and 3 bytes in turn, and writes one byte at a time.
-fn due_of(rt: &impl Abort, alloc: Global, words: &[&str]) -> Result<MemorySink, Fail> {
-    let mut shelf = WatchedShelf::new(alloc, CUT.text, CUT.answer)?;
-    let ended = call(alloc, words, &mut shelf, &SINGLE)?;
-    assert_eq!(rt; ended.code, 0);
-    Ok(ended.out)
+fn due_of(alloc: Global, words: &[&str]) -> Option<MemorySink> {
+    let Ok(mut shelf) = WatchedShelf::new(alloc, CUT, CUT_ANSWER) else {
+        return None;
+    };
+    match call(alloc, words, &mut shelf, &SINGLE) {
+        Ok(ended) if ended.code == 0 => Some(ended.out),
+        _ => None,
+    }
+}
+
+/// Whether the runs of a row end as they must, by what a run writes that nothing fails.
+fn is_row(alloc: Global, row: &Faults) -> bool {
+    match due_of(alloc, row.words) {
+        Some(due) => are_faults_met(alloc, row, due.taken()),
+        None => false,
+    }
 }
 
 const CALLS_THAT_FAIL: [Faults; 8] = [
@@ -204,180 +201,134 @@ const CALLS_THAT_FAIL: [Faults; 8] = [
 ];
 
 #[test]
-fn calls_that_fail(rt: HostRuntime) -> Result<(), Fail> {
-    let alloc = rt.alloc();
-    for row in &CALLS_THAT_FAIL {
-        let due = due_of(&rt, alloc, row.words)?;
-        for number in row.first..row.last + 1 {
-            try_fault(&rt, alloc, row, number, due.taken())?;
+fn calls_that_fail(rt: HostRuntime) {
+    for number in 0..CALLS_THAT_FAIL.len() {
+        assert!(rt;
+            is_row(rt.alloc(), &CALLS_THAT_FAIL[number]),
+            "row {number}"
+        );
+    }
+}
+
+/// Whether a file for an instance has that verdict.
+fn is_judged(alloc: Global, instance: &Instance, file: &[u8], wanted: Verdict) -> bool {
+    match judge(alloc, instance, file) {
+        Ok(verdict) => verdict == wanted,
+        Err(_) => false,
+    }
+}
+
+/// The number of the last line of a text, which may be an empty one.
+fn last_line(text: &[u8]) -> usize {
+    let mut line = 1usize;
+    for byte in text {
+        if *byte == b'\n' {
+            line = line.wrapping_add(1);
         }
     }
-    Ok(())
+    line
 }
 
-/// A right file, the number of a line and the text in its place, or 0 and a text in place of all; and the line and the reason of the
-/// verdict, or none where it is valid.
-type Change = (
-    &'static Worked<'static>,
-    usize,
-    &'static [u8],
-    Option<(usize, Wrong)>,
-);
-
-/// Lines with another text in place of the one of that number, counted from 1.
-fn with_line(alloc: Global, lines: &[&[u8]], number: usize, text: &[u8]) -> Result<Vec<u8>, Fail> {
-    let mut file = Vec::new(alloc);
-    for (i, line) in lines.iter().enumerate() {
-        if i > 0 {
-            file.push(b'\n')?;
-        }
-        let is_changed = i == number.wrapping_sub(1);
-        file.extend_from_slice(if is_changed { text } else { line })?;
-    }
-    Ok(file)
+/// Whether the last line of a file is its first that is none of an answer.
+fn ends_too_soon(alloc: Global, instance: &Instance, file: &[u8]) -> bool {
+    let wanted = Verdict::Invalid {
+        line: last_line(file),
+        reason: Wrong::Grammar,
+    };
+    is_judged(alloc, instance, file, wanted)
 }
 
-/// The file that a change makes.
-fn changed(alloc: Global, change: &Change) -> Result<Vec<u8>, Fail> {
-    let (of, number, text, _) = *change;
-    if number == 0 {
-        return Ok(Vec::from_slice(alloc, text)?);
-    }
-    let lines = parts_of(alloc, of.answer, b'\n')?;
-    with_line(alloc, &lines, number, text)
-}
+const NEED: &[u8] = b"sfm 1\nground a b\nneed a b\nend\n";
 
-/// The verdict that is so wrong at a line, or a valid one.
-fn verdict_of(wrong: Option<(usize, Wrong)>) -> Verdict {
-    match wrong {
-        Some((line, reason)) => Verdict::Invalid { line, reason },
-        None => Verdict::Valid,
-    }
-}
+/// A right file for it.
+const NEED_ANSWER: &[u8] =
+    b"answer 1\nminimum 0\nleast\ngreatest a b\nblock 1 b :\nblock 2 a : 1\nslope 0/1 a b\nat 0/1\nbase 1 0 0\nat 0/1\nbase 1 0 0\nend\n";
 
-const CHANGES: [Change; 20] = [
-    (
-        &CUT,
-        8,
-        b"base 2 1000000000000000000000000000000 -1000000000000000000000000000000",
-        Some((8, Wrong::Base)),
-    ),
-    (
-        &CUT,
-        8,
-        b"base 2 1000000000000000000000000000001 -1000000000000000000000000000001",
-        Some((8, Wrong::Grammar)),
-    ),
-    (&CUT, 8, b"base 2 -1 1", Some((8, Wrong::Base))),
-    (&CUT, 11, b"base 2 9 -9", Some((11, Wrong::Base))),
-    (&CUT, 11, b"base 2 6 -6", Some((9, Wrong::Unproved))),
-    (
-        &CUT,
-        2,
-        b"minimum -1000000000000000000000000000000",
-        Some((2, Wrong::Answer)),
-    ),
-    (&CUT, 3, b"least b a", Some((3, Wrong::Grammar))),
-    (&CUT, 3, b"least a a", Some((3, Wrong::Grammar))),
-    (&CUT, 3, b"least z", Some((3, Wrong::Grammar))),
-    (&CUT, 5, b"slope -1/1000001 a b", Some((5, Wrong::Grammar))),
-    (&CUT, 5, b"slope -1/1000000 a b", Some((9, Wrong::Grammar))),
-    (&CUT, 12, b"end\nend", Some((13, Wrong::Grammar))),
-    (&CUT, 0, b"answer 1\n", Some((2, Wrong::Grammar))),
-    (&CUT, 0, b"", Some((1, Wrong::Grammar))),
-    (
-        &THREE,
-        0,
-        b"answer 1\nminimum -2\nleast c\ngreatest c\nslope -2/1 c\nslope 1/1 a b c\nat 0/1\nbase 1 1 1 -2\nat 1/1\nbase 1 1 1 -2\nat -2/1\nbase 1 1 1 -2\nend\n",
-        Some((9, Wrong::Grammar)),
-    ),
-    (
-        &THREE,
-        0,
-        b"answer 1\nminimum -2\nleast c\ngreatest c\nslope 1/1 a b c\nslope -2/1 c\nat 0/1\nbase 1 1 1 -2\nat 1/1\nbase 1 1 1 -2\nat -2/1\nbase 1 1 1 -2\nend\n",
-        Some((5, Wrong::Answer)),
-    ),
-    (
-        &THREE,
-        0,
-        b"answer 1\nminimum -2\nleast c\ngreatest c\nslope -2/1 c\nslope 0/1 c\nslope 1/1 a b c\nat 0/1\nbase 1 1 1 -2\nat -2/1\nbase 1 1 1 -2\nat 0/1\nbase 1 1 1 -2\nat 1/1\nbase 1 1 1 -2\nend\n",
-        Some((6, Wrong::Answer)),
-    ),
-    (&NEED, 5, b"block 1 b : 2", Some((5, Wrong::Grammar))),
-    (&CUT, 8, b"base 2 2 -2", None),
-    (&NEED, 1, b"answer 1", None),
-];
-
-/// Whether the file that a change makes has its verdict.
-fn has_verdict(alloc: Global, change: &Change) -> Result<bool, Fail> {
-    let instance = read_instance(alloc, change.0.text)?;
-    let file = changed(alloc, change)?;
-    let verdict = judge(alloc, &instance, file.as_slice())?;
-    Ok(verdict == verdict_of(change.3))
-}
-
-#[test]
-fn answers_that_were_tampered_with(rt: HostRuntime) -> Result<(), Fail> {
-    for (number, change) in CHANGES.iter().enumerate() {
-        assert!(rt; has_verdict(rt.alloc(), change)?, "row {number}");
-    }
-    Ok(())
-}
-
-#[test]
-fn answers_that_end_too_soon(rt: HostRuntime) -> Result<(), Fail> {
-    let alloc = rt.alloc();
-    let instance = read_instance(alloc, NEED.text)?;
-    for end in 0..NEED.answer.len() {
-        let text = &NEED.answer[..end];
-        let line = parts_of(alloc, text, b'\n')?.len();
-        let verdict = verdict_of(Some((line, Wrong::Grammar)));
-        assert_eq!(rt;
-            judge(alloc, &instance, text)?,
-            verdict,
+/// Asserts that each beginning of that file ends too soon.
+fn are_too_short(rt: &impl Abort, alloc: Global, instance: &Instance) {
+    for end in 0..NEED_ANSWER.len() {
+        assert!(rt;
+            ends_too_soon(alloc, instance, &NEED_ANSWER[..end]),
             "the first {end} bytes"
         );
     }
-    Ok(())
+}
+
+/// Whether a file is right with the right byte at a place alone, which it has again then.
+fn has_one_byte(
+    alloc: Global,
+    instance: &Instance,
+    file: &mut [u8],
+    place: usize,
+    right: u8,
+) -> bool {
+    if file.len() <= place {
+        return false;
+    }
+    for byte in 0..=255u8 {
+        file[place] = byte;
+        if is_judged(alloc, instance, file, Verdict::Valid) != (byte == right) {
+            return false;
+        }
+    }
+    file[place] = right;
+    true
+}
+
+/// Asserts that a copy of that file is right with no other byte at any place.
+fn has_no_other_byte(rt: &impl Abort, alloc: Global, instance: &Instance, file: &mut [u8]) {
+    for place in 0..NEED_ANSWER.len() {
+        assert!(rt;
+            has_one_byte(alloc, instance, file, place, NEED_ANSWER[place]),
+            "at {place}"
+        );
+    }
 }
 
 #[test]
-fn answers_with_another_byte(rt: HostRuntime) -> Result<(), Fail> {
-    let alloc = rt.alloc();
-    let instance = read_instance(alloc, NEED.text)?;
-    let mut file = Vec::from_slice(alloc, NEED.answer)?;
-    for (place, right) in NEED.answer.iter().enumerate() {
-        for byte in 0..=255u8 {
-            file[place] = byte;
-            let is_valid = judge(alloc, &instance, file.as_slice())? == Verdict::Valid;
-            assert_eq!(rt; is_valid, byte == *right, "byte {byte} at {place}");
-        }
-        file[place] = *right;
-    }
-    Ok(())
+fn answers_that_end_too_soon(rt: HostRuntime) {
+    let Ok(instance) = read_instance(rt.alloc(), NEED) else {
+        panic!(rt; "no instance");
+    };
+    are_too_short(&rt, rt.alloc(), &instance);
+}
+
+#[test]
+fn answers_with_another_byte(rt: HostRuntime) {
+    let Ok(instance) = read_instance(rt.alloc(), NEED) else {
+        panic!(rt; "no instance");
+    };
+    let Ok(mut file) = Vec::from_slice(rt.alloc(), NEED_ANSWER) else {
+        panic!(rt; "no memory");
+    };
+    has_no_other_byte(&rt, rt.alloc(), &instance, &mut file);
 }
 
 const EVERY_WORD: &[u8] =
     b"sfm 1\nground a b c d\nweight a:-3 b:2 c:-1 d:0\ncut 4 a b\nneed c d\ncover 3 a b c\nconcave 2 3 : b d\ntable 0 1 1 1 : a c\nrank 2 uniform 1 : a b\nrank 1 laminar : a b c ; 2 a b c ; 1 a b\nrank 2 graphic : a=u-v b=v-w c=u-w\nrank 1 transversal : c=s,t d=t\nend\n";
 
-#[test]
-fn instances_that_end_too_soon(rt: HostRuntime) -> Result<(), Fail> {
-    let alloc = rt.alloc();
-    for end in 0..EVERY_WORD.len() {
-        let text = &EVERY_WORD[..end];
-        let last = parts_of(alloc, text, b'\n')?.len();
-        match read_instance(alloc, text) {
-            Ok(_) => assert_eq!(rt; end, EVERY_WORD.len().wrapping_sub(1)),
-            Err(TextEnd::Refused { line, .. }) => {
-                assert!(rt;
-                    line == last || line == last.wrapping_add(1),
-                    "the first {end} bytes"
-                );
-            }
-            Err(TextEnd::Memory) => assert!(rt; false),
+/// Whether a text is read, where it is whole, or refused at its last line or behind it, where it is not.
+fn is_told(alloc: Global, text: &[u8], is_whole: bool) -> bool {
+    let last = last_line(text);
+    match read_instance(alloc, text) {
+        Ok(_) => is_whole,
+        Err(TextEnd::Refused { line, .. }) => {
+            !is_whole && (line == last || line == last.wrapping_add(1))
         }
+        Err(TextEnd::Memory) => false,
     }
-    Ok(())
+}
+
+/// Only the last line feed may be left out.
+#[test]
+fn instances_that_end_too_soon(rt: HostRuntime) {
+    for end in 0..EVERY_WORD.len() {
+        let is_whole = end == EVERY_WORD.len().wrapping_sub(1);
+        assert!(rt;
+            is_told(rt.alloc(), &EVERY_WORD[..end], is_whole),
+            "the first {end} bytes"
+        );
+    }
 }
 
 /// Instances, with the code, and whether the answer is opened.
@@ -390,49 +341,82 @@ const OPENED: [(&[u8], u8, bool); 2] = [
     ),
 ];
 
+/// Whether a check ends with that code, and asks for the answer or not.
+fn is_asked(alloc: Global, text: &[u8], code: u8, asked: bool) -> bool {
+    let Ok(mut shelf) = WatchedShelf::new(alloc, text, CUT_ANSWER) else {
+        return false;
+    };
+    match call(alloc, CHECK, &mut shelf, &SOUND) {
+        Ok(ended) => ended.code == code && shelf.second == asked,
+        Err(_) => false,
+    }
+}
+
 #[test]
-fn a_refused_instance_leaves_the_answer_unopened(rt: HostRuntime) -> Result<(), Fail> {
-    let alloc = rt.alloc();
+fn a_refused_instance_leaves_the_answer_unopened(rt: HostRuntime) {
     for (text, code, asked) in &OPENED {
-        let mut shelf = WatchedShelf::new(alloc, text, CUT.answer)?;
-        let ended = call(alloc, CHECK, &mut shelf, &SOUND)?;
-        assert_eq!(rt; ended.code, *code);
-        assert_eq!(rt; shelf.second, *asked);
+        assert!(rt; is_asked(rt.alloc(), text, *code, *asked));
     }
-    Ok(())
+}
+
+const TOO_LONG: Verdict = Verdict::Invalid {
+    line: 0,
+    reason: Wrong::Long,
+};
+
+/// Whether a file longer than the limit is wrong as a whole.
+fn is_too_long(alloc: Global, instance: &Instance) -> bool {
+    match vec![in alloc; b'a'; 268_435_457] {
+        Ok(file) => is_judged(alloc, instance, &file, TOO_LONG),
+        Err(_) => false,
+    }
+}
+
+/// The same over the cut.
+fn is_too_long_for_cut(alloc: Global) -> bool {
+    match read_instance(alloc, CUT) {
+        Ok(instance) => is_too_long(alloc, &instance),
+        Err(_) => false,
+    }
 }
 
 #[test]
-fn a_file_longer_than_the_limit(rt: HostRuntime) -> Result<(), Fail> {
-    let alloc = rt.alloc();
-    let instance = read_instance(alloc, CUT.text)?;
-    let file = vec![in alloc; b'a'; 268_435_457]?;
-    assert_eq!(rt;
-        judge(alloc, &instance, file.as_slice())?,
-        verdict_of(Some((0, Wrong::Long)))
-    );
-    Ok(())
+fn a_file_longer_than_the_limit(rt: HostRuntime) {
+    assert!(rt; is_too_long_for_cut(rt.alloc()));
 }
 
-/// A text with comment lines behind it, up to that size.
-fn filled_up(alloc: Global, text: &[u8], size: usize) -> Result<Vec<u8>, Fail> {
-    let mut filled = Vec::from_slice(alloc, text)?;
-    for place in filled.len()..size {
-        filled.push(if place % 64 == 63 { b'\n' } else { b'#' })?;
+/// Whether the answer of an instance begins so.
+fn begins(alloc: Global, text: &[u8], head: &[u8]) -> bool {
+    match written(alloc, &solve(text, 0, b"")) {
+        Some(answer) => answer.taken().starts_with(head),
+        None => false,
     }
-    Ok(filled)
+}
+
+/// Adds comment lines to a text up to that size.
+fn fill_up(text: &mut Vec<u8>, size: usize) -> bool {
+    for place in text.len()..size {
+        let byte = if place % 64 == 63 { b'\n' } else { b'#' };
+        if text.push(byte).is_err() {
+            return false;
+        }
+    }
+    true
 }
 
 const CUT_HEAD: &[u8] = b"answer 1\nminimum -1\nleast a b\ngreatest a b\nslope -1/2 a b\nat 0/1\n";
 
+/// Whether a text with comments up to the limit is solved.
+fn is_filled_solved(alloc: Global) -> bool {
+    let Ok(mut text) = Vec::from_slice(alloc, CUT) else {
+        return false;
+    };
+    fill_up(&mut text, 16_777_216) && text.len() == 16_777_216 && begins(alloc, &text, CUT_HEAD)
+}
+
 #[test]
-fn comments_up_to_the_limit(rt: HostRuntime) -> Result<(), Fail> {
-    let alloc = rt.alloc();
-    let text = filled_up(alloc, CUT.text, 16_777_216)?;
-    let answer = written(&rt, alloc, &solve(text.as_slice(), 0, b""))?;
-    assert_eq!(rt; text.len(), 16_777_216);
-    assert!(rt; answer.taken().starts_with(CUT_HEAD));
-    Ok(())
+fn comments_up_to_the_limit(rt: HostRuntime) {
+    assert!(rt; is_filled_solved(rt.alloc()));
 }
 
 const BOUND_GROUND: &[u8] = b"sfm 1\nground a\n";
@@ -448,17 +432,45 @@ const MORE_REFUSED: &[u8] = b"refused 1003 total\n";
 const BOUND_HEAD: &[u8] =
     b"answer 1\nminimum 0\nleast\ngreatest\nslope 1000000000000000/1 a\nat 0/1\n";
 
-#[test]
-fn weights_up_to_the_bound(rt: HostRuntime) -> Result<(), Fail> {
-    let alloc = rt.alloc();
-    let mut text = Vec::from_slice(alloc, BOUND_GROUND)?;
+/// Adds as many weights as there may be, and the end of the text.
+fn push_weights(text: &mut Vec<u8>, end: &[u8]) -> bool {
     for _ in 0..1000 {
-        text.extend_from_slice(BOUND_WEIGHT)?;
+        if text.extend_from_slice(BOUND_WEIGHT).is_err() {
+            return false;
+        }
     }
-    let mut more = Vec::from_slice(alloc, text.as_slice())?;
-    text.extend_from_slice(BOUND_END)?;
-    let answer = written(&rt, alloc, &solve(text.as_slice(), 0, b""))?;
-    assert!(rt; answer.taken().starts_with(BOUND_HEAD));
-    more.extend_from_slice(MORE_END)?;
-    try_case(&rt, alloc, &solve(more.as_slice(), 2, MORE_REFUSED))
+    text.extend_from_slice(end).is_ok()
+}
+
+/// A text with as many weights as there may be, and that end; nothing where memory lacks.
+fn bound_text(alloc: Global, end: &[u8]) -> Option<Vec<u8>> {
+    let Ok(mut text) = Vec::from_slice(alloc, BOUND_GROUND) else {
+        return None;
+    };
+    if push_weights(&mut text, end) {
+        Some(text)
+    } else {
+        None
+    }
+}
+
+/// Whether as many weights as there may be are solved.
+fn is_bound_solved(alloc: Global) -> bool {
+    match bound_text(alloc, BOUND_END) {
+        Some(text) => begins(alloc, &text, BOUND_HEAD),
+        None => false,
+    }
+}
+
+/// Whether one more is refused.
+fn is_more_refused(alloc: Global) -> bool {
+    match bound_text(alloc, MORE_END) {
+        Some(text) => is_met(alloc, &solve(&text, 2, MORE_REFUSED)),
+        None => false,
+    }
+}
+
+#[test]
+fn weights_up_to_the_bound(rt: HostRuntime) {
+    assert!(rt; is_bound_solved(rt.alloc()) && is_more_refused(rt.alloc()));
 }
