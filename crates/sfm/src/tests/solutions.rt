@@ -1,6 +1,7 @@
 // Instances that are solved. Which of several proving bases is written is free, so the lines of such bases are left open,
 // and each answer is checked against its instance.
 use crate::tests::cases::{Case, Outside, SOUND, parts_of, solve, solved};
+use sfm_due::solve_text;
 use std::alloc::Global;
 use std::process::Abort;
 
@@ -46,6 +47,14 @@ fn is_solved(alloc: Global, piece: usize, text: &[u8], wanted: &[u8]) -> bool {
     match solved(alloc, &case) {
         Some(answer) => has_lines(alloc, answer.taken(), wanted),
         None => false,
+    }
+}
+
+/// Whether an instance, of which the text is there whole, has an answer with the lines that are wanted.
+fn is_solved_whole(alloc: Global, text: &[u8], wanted: &[u8]) -> bool {
+    match solve_text(alloc, text) {
+        Ok(answer) => has_lines(alloc, answer.as_slice(), wanted),
+        Err(_) => false,
     }
 }
 
@@ -165,4 +174,10 @@ fn solves(rt: HostRuntime) {
     for (piece, rows) in &SOLUTIONS {
         are_solved(&rt, rt.alloc(), *piece, rows);
     }
+}
+
+#[test]
+fn solves_a_text_that_is_there_whole(rt: HostRuntime) {
+    let (text, wanted) = NEEDS_COVERS_AND_TABLES[1];
+    assert!(rt; is_solved_whole(rt.alloc(), text, wanted));
 }
