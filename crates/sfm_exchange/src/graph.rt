@@ -24,7 +24,6 @@ use std::alloc::Global;
 
 /// The exchange graph of q times some terms at bases of theirs. Its vertices are the places of the ground, and an arc leads
 /// from one place to another where a term has room for the exchange that raises the one and lowers the other.
-#[derive(Drop)]
 pub struct Graph<N> {
     /// The bases, one for each term.
     pub bases: Rows,
@@ -40,6 +39,39 @@ pub struct Graph<N> {
     pub unions: Vec<Bits>,
     /// The same turned round: the places that arcs come from.
     pub back: Vec<Bits>,
+}
+
+// Written out, so that letting one go is one step, which is proved here once.
+impl<N: Drop> Drop for Graph<N> {
+    fn drop(self) {
+        let Self {
+            bases: _,
+            spots: _,
+            notes: _,
+            rows: _,
+            claimed: _,
+            unions: _,
+            back: _,
+        } = self;
+    }
+}
+
+impl<N: Drop> Graph<N> {
+    /// The bases, of a graph that is done with.
+    pub fn into_bases(self) -> Rows
+        ensures { result ≡ self.bases }
+    {
+        let Graph {
+            bases,
+            spots: _,
+            notes: _,
+            rows: _,
+            claimed: _,
+            unions: _,
+            back: _,
+        } = self;
+        bases
+    }
 }
 
 /// The exchange graph of q times the terms at bases of theirs, over a ground of n places.

@@ -14,7 +14,6 @@ use sfm_law::{Term, rest_of};
 use std::alloc::Global;
 
 /// What is read off bases.
-#[derive(Drop)]
 pub struct Reading<N> {
     /// The exchange graph at the bases.
     pub graph: Graph<N>,
@@ -26,6 +25,19 @@ pub struct Reading<N> {
     pub reached: Bits,
     /// The places from which links lead to one with z > 0.
     pub leading: Bits,
+}
+
+// Written out, so that letting one go is one step, which is proved here once.
+impl<N: Drop> Drop for Reading<N> {
+    fn drop(self) {
+        let Self {
+            graph: _,
+            z: _,
+            signs: _,
+            reached: _,
+            leading: _,
+        } = self;
+    }
 }
 
 /// What is read off bases of q times the terms, with a shift for each place.

@@ -9,13 +9,25 @@ use std::alloc::{AllocError, Global};
 
 /// The texts of a term line in the places of numbers, and in the places of elements; which rank it means, and the names of
 /// each of its groups, and the labels of each element.
-#[derive(Drop)]
 pub struct Parts<'a, 'b> {
     pub numbers: Vec<&'a [u8]>,
     pub elements: Vec<&'a [u8]>,
     pub rank: RankKind,
     pub groups: Vec<&'b [&'a [u8]]>,
     pub labels: Vec<Labels<'a>>,
+}
+
+// Written out, so that letting one go is one step, which is proved here once.
+impl<'a, 'b> Drop for Parts<'a, 'b> {
+    fn drop(self) {
+        let Self {
+            numbers: _,
+            elements: _,
+            rank: _,
+            groups: _,
+            labels: _,
+        } = self;
+    }
 }
 
 impl<'a, 'b> Parts<'a, 'b> {

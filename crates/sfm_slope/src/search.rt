@@ -13,7 +13,6 @@ use sfm_law::Term;
 use std::alloc::Global;
 
 /// Three exchange graphs of the terms over one ground.
-#[derive(Drop)]
 pub struct Search<N> {
     /// Where lists are made.
     pub alloc: Global,
@@ -25,6 +24,19 @@ pub struct Search<N> {
     pub cold: Graph<N>,
     /// A number for each place of the ground.
     pub shift: Vec<i128>,
+}
+
+// Written out, so that letting one go is one step, which is proved here once.
+impl<N: Drop> Drop for Search<N> {
+    fn drop(self) {
+        let Self {
+            alloc: _,
+            first: _,
+            warm: _,
+            cold: _,
+            shift: _,
+        } = self;
+    }
 }
 
 impl<N> Search<N> {

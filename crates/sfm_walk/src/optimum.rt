@@ -96,7 +96,7 @@ pub fn minimise_counted<T: Term>(
     let mut graph = graph_at(alloc, terms, n, q, first_bases)?;
     let z = improve(alloc, &mut graph, terms, q, &shift, steps)?;
     Ok(Optimum {
-        bases: graph.bases,
+        bases: graph.into_bases(),
         z,
     })
 }

@@ -39,23 +39,23 @@ pub returns-clause-rest : goal.returns-clause-rest
 returns-clause-rest g c =
     let t = g.T.Term in
     let z = c.in_ok-z.z in
-    even g (goal.at.returns-clause-rest g c).After-improve (λ n q shift. (length z ≡ n) × ((e : ℕ) → e < n → get_or z e (pos 0) ≡ rest_at (meanings t.places t.value_of c.args.terms.now) c.improve.new.graph.bases shift e)) c.in_ok-z.ensures.rest
+    rw c.into_bases.ensures (even g (goal.at.returns-clause-rest g c).After-improve (λ n q shift. (length z ≡ n) × ((e : ℕ) → e < n → get_or z e (pos 0) ≡ rest_at (meanings t.places t.value_of c.args.terms.now) c.improve.new.graph.bases shift e)) c.in_ok-z.ensures.rest)
 
 pub returns-clause-ends : goal.returns-clause-ends
 returns-clause-ends g c =
     let t = g.T.Term in
-    even g (goal.at.returns-clause-ends g c).After-improve (λ n q shift. (first : ℕ) (steps : List Step) → Joins (meanings t.places t.value_of c.args.terms.now) q shift c.improve.new.graph.bases first steps → ⊥) c.in_ok-z.ensures.ends
+    rw c.into_bases.ensures (even g (goal.at.returns-clause-ends g c).After-improve (λ n q shift. (first : ℕ) (steps : List Step) → Joins (meanings t.places t.value_of c.args.terms.now) q shift c.improve.new.graph.bases first steps → ⊥) c.in_ok-z.ensures.ends)
 
 pub returns-clause-proves : goal.returns-clause-proves
 returns-clause-proves g c =
     let t = g.T.Term in
-    even g (goal.at.returns-clause-proves g c).After-improve (λ n q shift. Prove (meanings t.places t.value_of c.args.terms.now) n q shift c.improve.new.graph.bases) c.in_ok-z.ensures.proves
+    rw c.into_bases.ensures (even g (goal.at.returns-clause-proves g c).After-improve (λ n q shift. Prove (meanings t.places t.value_of c.args.terms.now) n q shift c.improve.new.graph.bases) c.in_ok-z.ensures.proves)
 
 pub returns-clause-counted : goal.returns-clause-counted
 returns-clause-counted g c =
     let t = g.T.Term in
     let known = rw (c.in_ok-graph.ensures.bases, c.in_ok-first_bases.ensures.starts) at c.in_ok-z.ensures.counted in
-    even g (goal.at.returns-clause-counted g c).After-improve (λ n q shift. IsCounted (meanings t.places t.value_of c.args.terms.now) n q shift (map (λ term. t.start_of term q) c.args.terms.now) c.improve.new.graph.bases c.args.steps.now c.improve.new.steps) known
+    rw c.into_bases.ensures (even g (goal.at.returns-clause-counted g c).After-improve (λ n q shift. IsCounted (meanings t.places t.value_of c.args.terms.now) n q shift (map (λ term. t.start_of term q) c.args.terms.now) c.improve.new.graph.bases c.args.steps.now c.improve.new.steps) known)
 
 pub returns-clause-few : goal.returns-clause-few
 returns-clause-few g c =
@@ -81,7 +81,7 @@ returns-in_err-z-clause-few g c =
 pub returns-clause-bases : goal.returns-clause-bases
 returns-clause-bases g c =
     let fq : FitsSigned w128 c.args.q = c.ranges.q in
-    simp to_z-of_z at c.in_ok-z.ensures.bases
+    rw c.into_bases.ensures (simp to_z-of_z at c.in_ok-z.ensures.bases)
 
 pub returns-clause-small : goal.returns-clause-small
-returns-clause-small g c = c.in_ok-z.ensures.small
+returns-clause-small g c = rw c.into_bases.ensures c.in_ok-z.ensures.small
