@@ -8,7 +8,7 @@ use std::alloc::Global;
 use std::marker::Model;
 
 /// Whole numbers, seen as a list of them.
-#[derive(Debug, Drop)]
+#[derive(Drop)]
 pub struct Numbers {
     items: Vec<i128>,
 }

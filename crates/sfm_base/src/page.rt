@@ -8,7 +8,7 @@ use std::alloc::Global;
 use std::marker::Model;
 
 /// Bytes in order, seen as their list and the number of further bytes that there is room for.
-#[derive(Debug, Drop)]
+#[derive(Drop)]
 pub struct Page {
     bytes: Vec<u8>,
     spare: usize,

@@ -6,7 +6,7 @@ use std::alloc::Global;
 use std::marker::Model;
 
 /// Places of the ground, seen as a list of numbers.
-#[derive(Debug, Drop)]
+#[derive(Drop)]
 pub struct Places {
     items: Vec<usize>,
 }

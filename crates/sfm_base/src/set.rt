@@ -12,7 +12,7 @@ use std::alloc::Global;
 use std::marker::Model;
 
 /// A set of places of a ground, seen as a list of truth values, one for each place.
-#[derive(Debug, Drop)]
+#[derive(Drop)]
 pub struct Set {
     n: usize,
     words: Vec<u64>,

@@ -9,7 +9,7 @@ ghost use Rattle.sfm_spec.specs.Bounds.{IsEntry, IsFactor};
 use std::cmp::Ordering;
 
 /// The number `num / den`, in lowest terms.
-#[derive(Clone, Copy, Debug, PartialEq, Eq)]
+#[derive(Clone, Copy, PartialEq, Eq)]
 pub struct Slope {
     /// From -10^30 to 10^30.
     pub num: i128,

@@ -4,7 +4,7 @@ ghost use Rattle.std.specs.Prelude.{◌≡◌, ℕ, ◌+◌, ◌-◌, ◌<◌, �
 use std::marker::Model;
 
 /// A count of steps, seen as a number.
-#[derive(Debug, Drop)]
+#[derive(Drop)]
 pub struct Steps {
     taken: u64,
 }

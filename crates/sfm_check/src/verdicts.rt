@@ -1,7 +1,7 @@
 // The verdicts.
 
 /// Why a text is not right, in the order in which one reason comes before another.
-#[derive(Clone, Copy, Debug, PartialEq, Eq)]
+#[derive(Clone, Copy, PartialEq, Eq)]
 pub enum Wrong {
     /// The text is too long.
     Long,
@@ -16,7 +16,7 @@ pub enum Wrong {
 }
 
 /// What is said of a text.
-#[derive(Clone, Copy, Debug, PartialEq, Eq)]
+#[derive(Clone, Copy, PartialEq, Eq)]
 pub enum Verdict {
     /// It is a right file.
     Valid,

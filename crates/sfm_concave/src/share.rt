@@ -11,7 +11,7 @@ use crate::ranking::{RankingView, count_upto};
 use sfm_law::sum_of;
 
 /// A count of places, and the sum of their entries.
-#[derive(Clone, Copy, Debug, PartialEq, Eq)]
+#[derive(Clone, Copy, PartialEq, Eq)]
 pub(crate) struct Share {
     pub count: usize,
     pub sum: i128,

@@ -1,7 +1,7 @@
 // The kinds of terms that a demonstration has many of, and what it draws for an element.
 
 /// A kind of term of which a demonstration has many lines.
-#[derive(Clone, Copy, Debug, PartialEq, Eq)]
+#[derive(Clone, Copy, PartialEq, Eq)]
 pub enum Kind {
     Cut,
     Need,
@@ -15,7 +15,7 @@ pub enum Kind {
 }
 
 /// What is drawn for an element.
-#[derive(Clone, Copy, Debug, PartialEq, Eq)]
+#[derive(Clone, Copy, PartialEq, Eq)]
 pub enum Item {
     /// A weight.
     Pair,

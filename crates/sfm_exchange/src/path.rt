@@ -17,7 +17,7 @@ use sfm_law::Term;
 use sfm_reach::{BitRows, Bits, Spot, Spots};
 
 /// A step of a walk: from one place to another by a term, and the numbers that the places have in the term.
-#[derive(Clone, Copy, Debug)]
+#[derive(Clone, Copy)]
 pub struct Hop {
     pub to: usize,
     pub term: usize,

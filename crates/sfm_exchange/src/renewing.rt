@@ -24,7 +24,7 @@ use sfm_reach::{Based, BitRows, Bits, Image, no_bits, only, row_beside, row_by};
 use std::alloc::Global;
 
 /// The rows that an exchange may have changed, by their ground places.
-#[derive(Clone, Copy, Debug)]
+#[derive(Clone, Copy)]
 pub struct Changes {
     /// Rows that have what they had, and maybe more.
     pub grown: Bits,
@@ -33,7 +33,7 @@ pub struct Changes {
 }
 
 /// The place that an exchange has raised: its place in the term, that in the ground, and its row at the base that came.
-#[derive(Clone, Copy, Debug)]
+#[derive(Clone, Copy)]
 pub struct Raised {
     pub local: usize,
     pub place: usize,

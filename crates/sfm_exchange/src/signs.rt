@@ -7,7 +7,7 @@ ghost use Rattle.sfm_exchange.specs.Signs.{AreMoved, AreSigns};
 use sfm_reach::{Bits, no_bits};
 
 /// The places of the ground, those with z > 0, and those with z < 0.
-#[derive(Clone, Copy, Debug)]
+#[derive(Clone, Copy)]
 pub struct Signs {
     pub ground: Bits,
     pub over: Bits,

@@ -19,7 +19,7 @@ use std::alloc::Global;
 
 /// The minimum that bases prove, with the extreme sets that attain it (Fujishige, Submodular Functions and
 /// Optimization, section 3: minimisers form a lattice).
-#[derive(Debug, Drop)]
+#[derive(Drop)]
 pub struct Proved {
     /// The least value of q times the sum less the shift.
     pub value: i128,
@@ -30,7 +30,7 @@ pub struct Proved {
 }
 
 /// What bases tell of the minimum.
-#[derive(Debug, Drop)]
+#[derive(Drop)]
 pub enum Certified {
     /// The bases prove it.
     Proved(Proved),

@@ -19,7 +19,7 @@ use sfm_law::Term;
 use std::alloc::Global;
 
 /// Places that are in the same minimisers, and the blocks that each minimiser with them has too.
-#[derive(Debug, Drop)]
+#[derive(Drop)]
 pub struct Block {
     /// The places.
     pub members: Set,

@@ -10,7 +10,7 @@ use std::alloc::Global;
 use std::marker::Model;
 
 /// Places, and how many of them may be independent together.
-#[derive(Debug, Drop)]
+#[derive(Drop)]
 pub struct CappedGroup {
     cap: i128,
     members: Vec<usize>,
@@ -48,7 +48,7 @@ impl CappedGroup {
 }
 
 /// Groups in the order in which they came, seen as a list.
-#[derive(Debug, Drop)]
+#[derive(Drop)]
 pub struct Groups {
     items: Vec<CappedGroup>,
 }

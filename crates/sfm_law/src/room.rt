@@ -2,7 +2,7 @@
 
 /// How much the first of two places can be raised, and the second lowered, so that a base stays a base:
 /// the exchange capacity (Fujishige, Submodular Functions and Optimization, section 4).
-#[derive(Clone, Copy, Debug, PartialEq, Eq)]
+#[derive(Clone, Copy, PartialEq, Eq)]
 pub enum Room {
     /// The greatest such number.
     Upto(i128),

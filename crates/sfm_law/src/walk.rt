@@ -7,7 +7,7 @@ use std::alloc::Global;
 use std::marker::Model;
 
 /// The steps of a walk, each the place at which it ends and its term, seen as a list of steps.
-#[derive(Debug, Drop)]
+#[derive(Drop)]
 pub struct WalkSteps {
     steps: Vec<(usize, usize)>,
 }
@@ -56,7 +56,7 @@ impl WalkSteps {
 }
 
 /// A walk: the place at which it begins, and its steps, each beginning where the one before ends.
-#[derive(Debug, Drop)]
+#[derive(Drop)]
 pub struct Walk {
     pub first: usize,
     pub steps: WalkSteps,

@@ -1,7 +1,7 @@
 // How far a text has been read.
 
 /// Which line is due.
-#[derive(Clone, Copy, Debug, PartialEq, Eq)]
+#[derive(Clone, Copy, PartialEq, Eq)]
 pub enum Stage {
     /// The header.
     Header,

@@ -4,7 +4,7 @@ ghost use Rattle.sfm_lines.specs.Words.{word_text};
 ghost use Rattle.sfm_lines.specs.declared.word.TermWord.{TermWord};
 
 /// What a term line may begin with.
-#[derive(Clone, Copy, Debug, PartialEq, Eq)]
+#[derive(Clone, Copy, PartialEq, Eq)]
 pub enum TermWord {
     /// `weight`
     WeightWord,
@@ -23,7 +23,7 @@ pub enum TermWord {
 }
 
 /// Which rank a line means by its third word.
-#[derive(Clone, Copy, Debug, PartialEq, Eq)]
+#[derive(Clone, Copy, PartialEq, Eq)]
 pub enum RankKind {
     /// None: the line is of another word.
     NoRank,

@@ -7,7 +7,7 @@ use std::alloc::Global;
 use std::marker::Model;
 
 /// Edges of a graph, seen as a list of edges with a tail and a head.
-#[derive(Debug, Drop)]
+#[derive(Drop)]
 pub struct Ends {
     items: Vec<(u32, u32)>,
 }

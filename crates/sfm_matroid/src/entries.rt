@@ -7,7 +7,7 @@ use std::alloc::Global;
 use std::marker::Model;
 
 /// The slots of an element, seen as a list of numbers.
-#[derive(Debug, Drop)]
+#[derive(Drop)]
 pub(crate) struct Slots {
     items: Vec<u32>,
 }
@@ -30,7 +30,7 @@ impl Slots {
 }
 
 /// The slots of each element, seen as a list of lists. A slot may stand more than once in an entry.
-#[derive(Debug, Drop)]
+#[derive(Drop)]
 pub struct Entries {
     items: Vec<Slots>,
     above: usize,

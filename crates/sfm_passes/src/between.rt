@@ -8,7 +8,7 @@ use sfm_lines::pair::place_of_byte;
 use sfm_lines::tokens::first_token;
 
 /// What stands between the texts of a line.
-#[derive(Clone, Copy, Debug, PartialEq, Eq)]
+#[derive(Clone, Copy, PartialEq, Eq)]
 pub enum Separator {
     /// Spaces and tabs, as between tokens.
     Blanks,

@@ -5,7 +5,7 @@ ghost use Rattle.sfm_base.specs.Words.{bit_of};
 ghost use Rattle.sfm_reach.specs.Bits.{bit_in};
 
 /// A set of places below 256.
-#[derive(Clone, Copy, Debug)]
+#[derive(Clone, Copy)]
 pub struct Bits {
     pub words: [u64; 4],
 }

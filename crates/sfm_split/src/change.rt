@@ -17,7 +17,7 @@ use sfm_base::Memory;
 use std::alloc::Global;
 
 /// What the demands of a split are to be, and what its slots are to hold at most.
-#[derive(Clone, Copy, Debug)]
+#[derive(Clone, Copy)]
 pub struct Aim<'a> {
     pub demands: &'a [i128],
     pub capacities: &'a [i128],

@@ -8,7 +8,7 @@ use std::alloc::Global;
 use std::marker::Model;
 
 /// The slots that a demand may use, seen as a list of numbers.
-#[derive(Debug, Drop)]
+#[derive(Drop)]
 pub(crate) struct Slots {
     items: Vec<usize>,
 }
@@ -40,7 +40,6 @@ impl Slots {
 }
 
 /// Demands, the slots that each may use, and what each slot holds at most. A slot may stand more than once in a list.
-#[derive(Debug)]
 pub struct Demand {
     demands: Vec<i128>,
     lists: Vec<Slots>,

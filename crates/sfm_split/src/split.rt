@@ -9,7 +9,7 @@ use std::alloc::Global;
 use std::marker::Model;
 
 /// For each demand the amounts on its slots, seen as a list of lists.
-#[derive(Debug, Drop)]
+#[derive(Drop)]
 pub struct Split {
     rows: Rows,
 }

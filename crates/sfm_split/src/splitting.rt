@@ -21,7 +21,7 @@ use sfm_base::{Memory, Set};
 use std::alloc::Global;
 
 /// Why demands are not split.
-#[derive(Debug, Drop)]
+#[derive(Drop)]
 pub enum AssignEnd {
     /// The demands of the set together ask for more than their slots have, each slot counted once.
     Shortage { set: Set },

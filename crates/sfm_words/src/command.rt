@@ -9,7 +9,7 @@ use clap::error::ErrorKind;
 use std::alloc::AllocError;
 
 /// What the program is asked for.
-#[derive(Clone, Copy, PartialEq, Eq, Debug)]
+#[derive(Clone, Copy, PartialEq, Eq)]
 pub enum Command<'a> {
     /// To solve the instance in a file.
     Solve { file: &'a str },
@@ -20,7 +20,7 @@ pub enum Command<'a> {
 }
 
 /// Why no command was read.
-#[derive(Clone, Copy, PartialEq, Eq, Debug, Drop)]
+#[derive(Clone, Copy, PartialEq, Eq, Drop)]
 pub enum Refusal {
     /// The words ask for no command, or for help.
     Usage,
