@@ -4,4 +4,3 @@ pub mod Levels
 pub mod Forms
 pub mod Lines
 pub mod Found
-pub mod Adding

@@ -1,6 +1,6 @@
 // The command line of the program as clap is told of it: two subcommands with the names of files, and one with a seed.
 ghost use Rattle.std.specs.Prelude.{◌≡◌, IfOk, codes, false};
-ghost use Rattle.clap.specs.Words.{app_of, rule_of};
+ghost use Rattle.clap.specs.Words.{App, app_of, rule_of, with_subcommand};
 ghost use Rattle.clap.specs.declared.builder.command.Command.TheViews.{out-Command as fields_of};
 ghost use Rattle.sfm_words.specs.Line.{program, word_rule, solve_line, check_line, demo_line, sfm_line};
 
@@ -63,12 +63,24 @@ fn program<'a>(alloc: Global) -> Command<'a>
         .subcommand_required(true)
 }
 
+/// A command line with one more subcommand, where there was memory for that.
+fn with_line<'a>(
+    line: Command<'a>,
+    more: Result<Command<'a>, AllocError>,
+) -> Result<Command<'a>, AllocError>
+    ensures { (whole part : App) → app_of line.entry ≡ whole
+        → IfOk more.entry (λ m. app_of m ≡ part)
+        → IfOk more.entry (λ m. (fields_of m).has_globals ≡ false)
+        → IfOk result (λ line. app_of line ≡ with_subcommand whole part.top) }
+{
+    line.subcommand(more?)
+}
+
 /// The command line, of the words after the program's name.
 pub(crate) fn command_line<'a>(alloc: Global) -> Result<Command<'a>, AllocError>
     ensures { IfOk result (λ line. app_of line ≡ sfm_line) }
 {
-    program(alloc)
-        .subcommand(solve_line(alloc)?)?
-        .subcommand(check_line(alloc)?)?
-        .subcommand(demo_line(alloc)?)
+    let line = with_line(program(alloc), solve_line(alloc))?;
+    let line = with_line(line, check_line(alloc))?;
+    with_line(line, demo_line(alloc))
 }
