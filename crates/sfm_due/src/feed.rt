@@ -67,8 +67,8 @@ fn feed_open<S: Shelf>(alloc: Global, shelf: &mut S) -> Result<Reader, Status>
     ensures kept { KeepsShelf (S.state shelf.old) (S.state shelf.new) }
     ensures read { FeedsOpen (S.state shelf.old) (S.state shelf.new) result }
 {
-    let mut reader = start(alloc)?;
     let mut buffer = room(alloc)?;
+    let mut reader = start(alloc)?;
     let mut done = 0;
     while done <= TEXT_LIMIT {
         let most = (TEXT_LIMIT - done).min(PIECE - 1) + 1;
