@@ -8,7 +8,6 @@ use sfm_law::Break;
 use std::alloc::{AllocError, AllocFailed};
 
 /// What an answer text says.
-#[derive(Drop)]
 pub struct Solved {
     /// The least value of the sum.
     pub value: i128,
@@ -22,6 +21,20 @@ pub struct Solved {
     pub bases: Rows,
     /// The slopes with two or more minimisers, each with its greatest one and bases that prove there.
     pub breaks: Vec<Break>,
+}
+
+// Written out, so that letting one go is one step, which is proved here once.
+impl Drop for Solved {
+    fn drop(self) {
+        let Self {
+            value: _,
+            least: _,
+            greatest: _,
+            blocks: _,
+            bases: _,
+            breaks: _,
+        } = self;
+    }
 }
 
 /// Why a text gave no answer.

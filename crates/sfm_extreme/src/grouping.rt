@@ -19,12 +19,21 @@ use sfm_law::Term;
 use std::alloc::Global;
 
 /// Places that are in the same minimisers, and the blocks that each minimiser with them has too.
-#[derive(Drop)]
 pub struct Block {
     /// The places.
     pub members: Set,
     /// The numbers of the blocks that it needs, counted from 1, ascending.
     pub needs: Vec<usize>,
+}
+
+// Written out, so that letting one go is one step, which is proved here once.
+impl Drop for Block {
+    fn drop(self) {
+        let Self {
+            members: _,
+            needs: _,
+        } = self;
+    }
 }
 
 /// The blocks that generate the minimisers, from bases of the terms that prove the minimum: the minimisers are exactly

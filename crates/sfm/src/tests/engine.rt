@@ -315,20 +315,6 @@ fn are_bases(alloc: Global, terms: &[Kind], rows: &Rows) -> Result<bool, Memory>
     Ok(true)
 }
 
-/// The rows at 0/1 of an answer text, where they are bases of the terms.
-fn bases_in(alloc: Global, instance: &Instance, text: &[u8]) -> Option<Rows>
-    ensures bases { IfSome result (λ rows. AreBases (pos 1) (meanings kind_places kind_value instance.now.terms) rows) }
-    ensures small { IfSome result (λ rows. All (λ row. All IsEntry row) rows) }
-{
-    let Ok(solved) = read_answer(alloc, instance, text) else {
-        return None;
-    };
-    match are_bases(alloc, instance.terms(), &solved.bases) {
-        Ok(true) => Some(solved.bases),
-        _ => None,
-    }
-}
-
 /// A walk that leaves bases: its first place and its steps.
 type Left = (usize, &'static [(usize, usize)]);
 
@@ -359,18 +345,22 @@ const ZERO: &[u8] = b"answer 1\nminimum 0\nleast\ngreatest\nat 0/1\nbase 1 -3 2\
 
 const FROM_ZERO: Left = (0, &[(1, 1)]);
 
-/// Whether zero as the base of a cut is left by its one walk.
-fn is_zero_left(alloc: Global, instance: &Instance) -> bool {
-    match bases_in(alloc, instance, ZERO) {
-        Some(bases) => are_left(alloc, instance, &bases, FROM_ZERO),
-        None => false,
+/// Whether the rows at 0/1 of an answer text are bases of the terms that are left by that walk.
+fn are_left_in(alloc: Global, instance: &Instance, text: &[u8], left: Left) -> bool {
+    let Ok(solved) = read_answer(alloc, instance, text) else {
+        return false;
+    };
+    match are_bases(alloc, instance.terms(), &solved.bases) {
+        Ok(true) => are_left(alloc, instance, &solved.bases, left),
+        _ => false,
     }
 }
 
 /// Whether bases of the cut that prove no minimum are left by a walk.
 fn leaves(alloc: Global) -> bool {
     match read_instance(alloc, CUT) {
-        Ok(instance) => are_first_left(alloc, &instance) && is_zero_left(alloc, &instance),
+        Ok(instance) => are_first_left(alloc, &instance)
+            && are_left_in(alloc, &instance, ZERO, FROM_ZERO),
         Err(_) => false,
     }
 }
