@@ -242,6 +242,20 @@ fn note_behind<T: Term>(alloc: Global, term: &T, at: Pair, a: i128) -> Result<T:
     Ok(note)
 }
 
+/// The base that an exchange makes of another.
+fn behind<T: Term>(alloc: Global, term: &T, at: Pair, a: i128) -> Result<Vec<i128>, Memory>
+    requires based { IsBased T.places T.value_of T.size_of term.now at.q at.x.now }
+    requires pair { IsPair at.u at.v at.x.now }
+    requires low { pos 0 ≤ℤ a }
+    requires high { a ≤ℤ pos (10 ^ 30) }
+    requires room { IsWithinRoom (times at.q (T.value_of term.now)) at.x.now at.u at.v a }
+    ensures { IfOk result (λ y. y.items ≡ exchanged at.entry.x.now at.entry.u at.entry.v a) }
+{
+    let mut y = Vec::from_slice(alloc, at.x)?;
+    exchange(term, at.q, &mut y, at.u, at.v, a);
+    Ok(y)
+}
+
 /// Whether a note tells what it is to tell at the base that an exchange makes of another.
 fn tells_behind<T: Term>(alloc: Global, term: &T, at: Pair, a: i128) -> bool
     requires based { IsBased T.places T.value_of T.size_of term.now at.q at.x.now }
@@ -250,13 +264,12 @@ fn tells_behind<T: Term>(alloc: Global, term: &T, at: Pair, a: i128) -> bool
     requires high { a ≤ℤ pos (10 ^ 30) }
     requires room { IsWithinRoom (times at.q (T.value_of term.now)) at.x.now at.u at.v a }
 {
+    let Ok(y) = behind(alloc, term, at, a) else {
+        return false;
+    };
     let Ok(mut note) = note_behind(alloc, term, at, a) else {
         return false;
     };
-    let Ok(mut y) = Vec::from_slice(alloc, at.x) else {
-        return false;
-    };
-    exchange(term, at.q, &mut y, at.u, at.v, a);
     let moved = At {
         q: at.q,
         x: y.as_slice(),
