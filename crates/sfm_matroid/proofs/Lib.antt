@@ -9,6 +9,7 @@ mod GraphicRooms
 mod TransversalBases
 mod Lending
 mod Options
+mod Beside
 mod Noted
 mod SlotNotes
 mod Fits

@@ -1,27 +1,27 @@
 -- The split with a root that is kept beside a base, and a spare one.
-use Rattle.std.proofs.Common.{◌≡◌, ℕ, List, length, ℤ, Some, refl, sym, ◌∙◌, length-set}
-use Rattle.std.proofs.lemmas.Option.{same_Some}
+use Rattle.std.proofs.Common.{◌≡◌, ℕ, List, length, ℤ, refl, sym, ◌∙◌}
 use Rattle.sfm_spec.specs.Kinds.{Edge}
-use Rattle.sfm_assign.specs.Splits.{Demands}
-use Rattle.sfm_assign.specs.Lenders.{with_more}
 use Rattle.sfm_matroid.specs.Amounts.{IsBeside}
+use Rattle.sfm_matroid.specs.declared.pair.SplitPair.{SplitPair}
 use Rattle.sfm_matroid.specs.declared.rooted.RootSplit.{RootSplit}
-use Rattle.sfm_matroid.specs.declared.rooted.Spare.{Spare}
+use Rattle.sfm_matroid.proofs.Beside.{spare_beside}
 use Rattle.sfm_matroid.proofs.Numbering.{length-vertices}
-use Rattle.sfm_matroid.specs.Notes.{end_demands, AreOverEnds, IsOverEnds, IsRootSplit}
+use Rattle.sfm_matroid.specs.Notes.{end_demands, AreBeside, AreOverEnds, IsOverEnds, IsRootSplit}
 
--- what is grown in a split over ends is over them still
-pub over_grown : (edges : List Edge) (m : ℕ) (c : ℤ) (y : List ℤ) (root : ℕ) (before after : Demands) (u : ℕ) (g : ℤ) → length y ≡ length edges → before ≡ end_demands edges m c y root → after ≡ with_more before u g → IsOverEnds edges m after
-over_grown edges m c y root before after u g sized is more = rw (more, is) (record { places = length-set y u _ ∙ sized; lists = refl; vertices = length-vertices m c root })
+module _ (edges : List Edge) (m : ℕ) where
+  -- a split of entries is one of whatever amounts
+  pub over_any : (c : ℤ) (x : List ℤ) (note : RootSplit) → length x ≡ length edges → IsRootSplit edges m c x note → AreOverEnds edges m note.pair
+  over_any c x note sized h = record { kept = rw h.split (record { places = sized; lists = refl; vertices = length-vertices m c note.root }); spare = h.spare }
 
--- beside the split of entries, whatever is over the same ends
-pub beside_ends : (edges : List Edge) (m : ℕ) (c : ℤ) (x : List ℤ) (root : ℕ) (d : Demands) → length x ≡ length edges → IsOverEnds edges m d → IsBeside (end_demands edges m c x root) d
-beside_ends edges m c x root d sized over = record { lists = over.lists; places = over.places ∙ sym sized; slots = over.vertices ∙ sym (length-vertices m c root) }
+  -- and so is one beside it
+  pub over_beside : (before after : SplitPair) → AreOverEnds edges m before → IsBeside before.kept.demand after.kept.demand → AreBeside after → AreOverEnds edges m after
+  over_beside before after over h spare = record {
+    kept = record { places = h.places ∙ over.kept.places; lists = h.lists ∙ over.kept.lists; vertices = h.slots ∙ over.kept.vertices };
+    spare = spare;
+  }
 
--- a split with a spare one in which a place was raised
-pub note_with : (edges : List Edge) (m : ℕ) (c : ℤ) (x : List ℤ) (note : RootSplit) → note.kept.demand ≡ end_demands edges m c x note.root → (s : Spare) × (note.spare ≡ Some s) × IsOverEnds edges m s.kept.demand → IsRootSplit edges m c x note
-note_with edges m c x note is (spare, some, over) = record { split = is; spare = λ s other. rw (same_Some spare s (sym some ∙ other)) at over }
-
--- a split of entries is one of whatever amounts
-pub over_any : (edges : List Edge) (m : ℕ) (c : ℤ) (x : List ℤ) (note : RootSplit) → length x ≡ length edges → IsRootSplit edges m c x note → AreOverEnds edges m note
-over_any edges m c x note sized h = record { kept = rw h.split (record { places = sized; lists = refl; vertices = length-vertices m c note.root }); spare = h.spare }
+  -- the split of entries, to which another one was brought
+  pub note_brought : (c : ℤ) (x : List ℤ) (before : SplitPair) (note : RootSplit) → length x ≡ length edges → AreOverEnds edges m before → note.pair.spare ≡ before.spare → note.pair.kept.demand ≡ end_demands edges m c x note.root → IsRootSplit edges m c x note
+  note_brought c x before note sized over same is =
+      let h : IsBeside before.kept.demand note.pair.kept.demand = rw is (record { lists = sym over.kept.lists; places = sized ∙ sym over.kept.places; slots = length-vertices m c note.root ∙ sym over.kept.vertices }) in
+      record { split = is; spare = spare_beside before note.pair same h over.spare }

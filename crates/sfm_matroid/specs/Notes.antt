@@ -6,10 +6,11 @@ use Rattle.sfm_spec.specs.Kinds.{Edge}
 use Rattle.sfm_spec.specs.Terms.{IsBase, times}
 use Rattle.sfm_assign.specs.Splits.{CanBeMet, Demands, IsAmount}
 use Rattle.sfm_assign.specs.declared.kept.Kept.{Kept}
+use Rattle.sfm_matroid.specs.Amounts.{IsBeside}
 use Rattle.sfm_matroid.specs.Graphs.{graphic_value}
 use Rattle.sfm_matroid.specs.Numbered.{end_lists, numbered, vertex_capacities, vertex_count}
+use Rattle.sfm_matroid.specs.declared.pair.SplitPair.{SplitPair}
 use Rattle.sfm_matroid.specs.declared.rooted.RootSplit.{RootSplit}
-use Rattle.sfm_matroid.specs.declared.rooted.Spare.{Spare}
 use Rattle.sfm_matroid.specs.declared.splits.SlotSplit.{SlotSplit}
 
 -- edges as demands that are split over their ends, where each of m vertices holds c, but a nothing
@@ -41,34 +42,27 @@ abbrev pub IsSplitOrNone : Demands → Option Kept → Type 0
 IsSplitOrNone d None = CanBeMet d.demands d.lists d.capacities → ⊥
 IsSplitOrNone d (Some kept) = (kept.demand ≡ d) × CanBeMet d.demands d.lists d.capacities
 
--- the split of x in the test of its root, where each of m vertices holds c; and a spare one over the same ends
-pub record IsRootSplit (edges : List Edge) (m : ℕ) (c : ℤ) (x : List ℤ) (note : RootSplit) : Type 0 where
-  pub split : note.kept.demand ≡ end_demands edges m c x note.root
-  pub spare : (s : Spare) → note.spare ≡ Some s → IsOverEnds edges m s.kept.demand
+-- a spare split, if there is one, is over the lists of the one that is kept
+abbrev pub AreBeside : SplitPair → Type 0
+AreBeside pair = (k : Kept) → pair.spare ≡ Some k → IsBeside pair.kept.demand k.demand
 
 -- splits of whatever amounts over the same ends: the one that is kept, and a spare one
-pub record AreOverEnds (edges : List Edge) (m : ℕ) (note : RootSplit) : Type 0 where
-  pub kept : IsOverEnds edges m note.kept.demand
-  pub spare : (s : Spare) → note.spare ≡ Some s → IsOverEnds edges m s.kept.demand
+pub record AreOverEnds (edges : List Edge) (m : ℕ) (pair : SplitPair) : Type 0 where
+  pub kept : IsOverEnds edges m pair.kept.demand
+  pub spare : AreBeside pair
 
--- a split of any demands over the slots of these entries, of which there are m
-pub record IsOver (entries : List (List ℕ)) (m : ℕ) (kept : Kept) : Type 0 where
-  pub lists : kept.demand.lists ≡ entries
-  pub places : length kept.demand.demands ≡ length entries
-  pub slots : length kept.demand.capacities ≡ m
-
--- the same of a split, if there is one
-abbrev pub IsSpare : List (List ℕ) → ℕ → Option Kept → Type 0
-IsSpare entries m None = Unit {0}
-IsSpare entries m (Some spare) = IsOver entries m spare
+-- the split of x in the test of its root, where each of m vertices holds c; and a spare one over the same ends
+pub record IsRootSplit (edges : List Edge) (m : ℕ) (c : ℤ) (x : List ℤ) (note : RootSplit) : Type 0 where
+  pub split : note.pair.kept.demand ≡ end_demands edges m c x note.root
+  pub spare : AreBeside note.pair
 
 -- the split of the entries where each slot holds c, with what the slots hold, and perhaps a spare one
 pub record IsSlotSplit (entries : List (List ℕ)) (c : ℤ) (x : List ℤ) (note : SlotSplit) : Type 0 where
   pub m : ℕ
   pub below : All (All (λ v. v < m)) entries
   pub holds : note.capacities.items ≡ replicate m c
-  pub split : note.kept.demand ≡ slot_demands entries m c x
-  pub spare : IsSpare entries m note.spare
+  pub split : note.pair.kept.demand ≡ slot_demands entries m c x
+  pub spare : AreBeside note.pair
 
 -- a base of q times a graphic term of k edges
 pub record IsGraphicBase (k : ℕ) (w : ℤ) (edges : List Edge) (q : ℤ) (x : List ℤ) : Type 0 where

@@ -18,14 +18,16 @@ use crate::ends::Ends;
 use crate::givers::row;
 use crate::graph::{Graph, numbered};
 use crate::growing::{basis_of, grow};
+use crate::pair::SplitPair;
 use crate::ranked::{adds_up, cap_of, worth, write_start};
 use crate::room::{moved, pull_of};
-use crate::rooted::{RootSplit, let_splits_go, raise_spare, swap_spare};
+use crate::rooted::RootSplit;
 use crate::splits::split_of;
 use crate::testing::{brought, capacities, end_demand, passes_tails};
 use sfm_base::{Memory, Places, Set};
 use sfm_law::{Room, Term};
 use std::alloc::Global;
+use std::mem;
 
 /// A number for each element of a greatest independent part: elements are edges, and independent where they are a forest
 /// (Schrijver, Combinatorial Optimization, section 39).
@@ -136,12 +138,12 @@ impl Graphic {
     ) -> Result<(), Memory>
         requires base { IsGraphicBase (length self.now.places) self.now.w self.now.ends q x.now }
         requires vertex { root < vertex_count self.now.ends }
-        requires over { AreOverEnds (numbered self.now.ends) (vertex_count self.now.ends) note.old }
+        requires over { AreOverEnds (numbered self.now.ends) (vertex_count self.now.ends) note.old.pair }
         ensures root { OnOk result (note.new.root ≡ root) }
         ensures noted { OnOk result (graphic_fits self.now.w self.now.ends note.new q x.now) }
     {
         let cap = cap_of(q, self.w);
-        if !brought(alloc, &self.graph, &mut note.kept, x, cap, root)? {
+        if !brought(alloc, &self.graph, &mut note.pair.kept, x, cap, root)? {
             unreachable!();
         }
         note.root = root;
@@ -178,22 +180,19 @@ impl Graphic {
     fn has_near(&self, note: &RootSplit, u: usize) -> bool
         requires { u < length self.now.places }
     {
-        match &note.spare {
-            Some(spare) => self.end_near(spare.root, u) == spare.root,
-            None => false,
-        }
+        note.pair.spare.is_some() && self.end_near(note.spare_root, u) == note.spare_root
     }
 
     /// Takes the spare split in place of the one that is kept, if its root is an end of u. The other one is the spare then.
     fn take_spare(&self, note: &mut RootSplit, u: usize)
         requires place { u < length self.now.places }
-        requires over { AreOverEnds (numbered self.now.ends) (vertex_count self.now.ends) note.old }
-        ensures { AreOverEnds (numbered self.now.ends) (vertex_count self.now.ends) note.new }
+        requires over { AreOverEnds (numbered self.now.ends) (vertex_count self.now.ends) note.old.pair }
+        ensures { AreOverEnds (numbered self.now.ends) (vertex_count self.now.ends) note.new.pair }
     {
-        if !self.has_near(note, u) {
-            return;
+        if self.has_near(note, u) {
+            note.pair.swap();
+            mem::swap(&mut note.root, &mut note.spare_root);
         }
-        swap_spare(note);
     }
 }
 
@@ -274,9 +273,7 @@ impl Term for Graphic {
     /// The room of (u, v) at a base, by a note that is made for it.
     fn room(&self, alloc: Global, q: i128, x: &[i128], u: usize, v: usize) -> Result<Room, Memory> {
         let mut note = self.note(alloc, q, x)?;
-        let room = self.room_by(alloc, q, x, &mut note, u, v);
-        let_splits_go(note);
-        room
+        self.room_by(alloc, q, x, &mut note, u, v)
     }
 
     /// Writes the places other than u to which u has room at a base, by a note that is made for it.
@@ -289,9 +286,7 @@ impl Term for Graphic {
         to: &mut Set,
     ) -> Result<(), Memory> {
         let mut note = self.note(alloc, q, x)?;
-        let done = self.reach_by(alloc, q, x, &mut note, u, to);
-        let_splits_go(note);
-        done
+        self.reach_by(alloc, q, x, &mut note, u, to)
     }
 
     /// The split in the test of a vertex.
@@ -300,9 +295,9 @@ impl Term for Graphic {
         let demand = end_demand(alloc, &self.graph, x, cap, 0)?;
         let kept = split_of(alloc, demand)?;
         Ok(RootSplit {
+            pair: SplitPair { kept, spare: None },
             root: 0,
-            kept,
-            spare: None,
+            spare_root: 0,
         })
     }
 
@@ -334,7 +329,8 @@ impl Term for Graphic {
         let root = self.end_near(note.root, u);
         let pull = pull_of(x, cap, u, v);
         let held = capacities(alloc, self.graph.vertices, cap, root)?;
-        let most = raise_spare(alloc, note, root, &held, x, &pull)?;
+        note.spare_root = root;
+        let most = note.pair.raise_spare(alloc, &held, x, &pull)?;
         Ok(Room::Upto(most))
     }
 
@@ -352,7 +348,7 @@ impl Term for Graphic {
     ) -> Result<(), Memory> {
         self.root_near(alloc, q, x, note, s)?;
         let cap = cap_of(q, self.w);
-        row(alloc, &mut note.kept, x, cap, u, to)?;
+        row(alloc, &mut note.pair.kept, x, cap, u, to)?;
         Ok(())
     }
 

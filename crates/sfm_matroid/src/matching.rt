@@ -10,7 +10,7 @@ ghost use Rattle.sfm_matroid.specs.Notes.{AreSlotAmounts, slot_demands};
 ghost use Rattle.sfm_matroid.specs.Slots.{suited, transversal_basis};
 
 use crate::entries::Entries;
-use crate::splits::{let_go, split_of};
+use crate::splits::split_of;
 use sfm_assign::{AssignEnd, Demand, Kept, assign};
 use sfm_base::{Memory, Set};
 use std::alloc::Global;
@@ -122,9 +122,7 @@ pub(crate) fn matched(alloc: Global, entries: &Entries, s: &Set) -> Result<Set, 
     ensures taken { IfOk result (λ t. t ≡ suited entries.now s.now (length entries.now)) }
 {
     let mut kept = untaken(alloc, entries, entries.above())?;
-    let taken = take_each(alloc, &mut kept, s);
-    let_go(kept);
-    taken
+    take_each(alloc, &mut kept, s)
 }
 
 /// The places that are taken one after another where all may be.

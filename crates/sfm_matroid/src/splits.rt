@@ -1,31 +1,31 @@
 // The split that is kept beside a base of a transversal term, for all searches at it. A base passes the test, so there is a split.
-// A room leaves a second split near the exchange that may come, and an exchange brings that one up, or else the one that is kept;
-// the other one is the spare then, and the next room uses its memory.
-ghost use Rattle.std.specs.Prelude.{◌≡◌, ◌↔◌, ◌<◌, ◌≤◌, ◌^◌, length, replicate, slice_index_or, pos, ◌+ℤ◌, ◌≤ℤ◌, ℕ, IfOk, IsTrue, OnOk, List, Some, None};
+// A room leaves a spare one near the exchange that may come, and an exchange brings that one up, or else the one that is kept.
+ghost use Rattle.std.specs.Prelude.{◌≡◌, ◌↔◌, length, replicate, IfOk, IsTrue, OnOk};
 ghost use Rattle.std.specs.List.{All};
-ghost use Rattle.sfm_assign.specs.Splits.{amount_at, IsAmount, IsCapacity, CanBeMet};
-ghost use Rattle.sfm_assign.specs.Lenders.{with_more, IsMostUpto};
-ghost use Rattle.sfm_assign.specs.declared.kept.Kept.{Kept};
-ghost use Rattle.sfm_matroid.specs.Amounts.{IsRaise, IsBeside, CanHold, rest_of};
-ghost use Rattle.sfm_matroid.specs.Notes.{AreSlotAmounts, IsSlotSplit, IsOver, IsSpare};
+ghost use Rattle.sfm_assign.specs.Splits.{IsAmount, IsCapacity, CanBeMet};
+ghost use Rattle.sfm_matroid.specs.Notes.{AreSlotAmounts, IsSlotSplit};
 
 use crate::entries::Entries;
 use crate::matching::slot_demand;
-use crate::room::{Pull, raise};
+use crate::pair::SplitPair;
 use sfm_assign::{AssignEnd, Demand, Kept};
 use sfm_base::Memory;
 use std::alloc::Global;
-use std::mem;
 
-/// The split over slots.
-#[derive(Drop)]
+/// The split over slots, with a spare one, and what each slot holds at most.
 pub struct SlotSplit {
-    pub kept: Kept,
-    /// What each slot holds at most.
+    pub pair: SplitPair,
     pub capacities: Vec<i128>,
-    /// Another split over the same slots, if there is one: where it was left for demands that are near those of an exchange,
-    /// it is brought up to these sooner.
-    pub spare: Option<Kept>,
+}
+
+// Written out, so that letting one go is one step, which is proved here once.
+impl Drop for SlotSplit {
+    fn drop(self) {
+        let Self {
+            pair: _,
+            capacities: _,
+        } = self;
+    }
 }
 
 /// A split of demands that can be met.
@@ -56,79 +56,9 @@ pub(crate) fn slot_split(
     let demand = slot_demand(alloc, entries, m, x, most)?;
     let kept = split_of(alloc, demand)?;
     Ok(SlotSplit {
-        kept,
+        pair: SplitPair { kept, spare: None },
         capacities,
-        spare: None,
     })
-}
-
-/// Keeps the spare split, if there is one, in place of the one that is kept, which is the spare one then.
-pub(crate) fn keep_spare(note: &mut SlotSplit)
-    ensures over { (entries : List (List ℕ)) (m : ℕ) → IsOver entries m note.old.kept → IsSpare entries m note.old.spare → IsOver entries m note.new.kept }
-    ensures capacities { note.new.capacities ≡ note.old.capacities }
-    ensures spare { (entries : List (List ℕ)) (m : ℕ) → IsOver entries m note.old.kept → IsSpare entries m note.old.spare → IsSpare entries m note.new.spare }
-{
-    if let Some(spare) = &mut note.spare {
-        mem::swap(&mut note.kept, spare);
-    }
-}
-
-/// Lets a split go.
-pub(crate) fn let_go(_kept: Kept) {}
-
-/// Lets the splits of a base go.
-pub(crate) fn let_splits_go(note: SlotSplit) {
-    let SlotSplit {
-        kept,
-        capacities: _held,
-        spare,
-    } = note;
-    let_go(kept);
-    if let Some(spare) = spare {
-        let_go(spare);
-    }
-}
-
-/// Sees to it that there is a split beside one that is kept: a copy, where there is none.
-fn fill(alloc: Global, kept: &Kept, spare: &mut Option<Kept>) -> Result<(), Memory>
-    requires { (k : Kept) → spare.old ≡ Some k → IsBeside kept.now.demand k.demand }
-    ensures { OnOk result ((k : Kept) × (spare.new ≡ Some k) × IsBeside kept.now.demand k.demand) }
-{
-    if spare.is_some() {
-        return Ok(());
-    }
-    let copy = kept.copy(alloc)?;
-    *spare = Some(copy);
-    Ok(())
-}
-
-/// Raises a place in the spare split, as `raise` does; if there is none, in a copy of the one that is kept.
-///
-/// # Errors
-///
-/// `Memory` where there is none.
-pub(crate) fn raise_spare(
-    alloc: Global,
-    note: &mut SlotSplit,
-    x: &[i128],
-    pull: &Pull,
-) -> Result<i128, Memory>
-    requires raise { IsRaise x.now pull.now.u pull.now.v pull.now.limit }
-    requires spare { (k : Kept) → note.old.spare ≡ Some k → IsBeside note.old.kept.demand k.demand }
-    requires held { CanHold note.old.kept.demand x.now pull.now.v note.old.capacities.items }
-    ensures kept { note.new.kept ≡ note.old.kept }
-    ensures capacities { note.new.capacities ≡ note.old.capacities }
-    ensures most { IfOk result (IsMostUpto (rest_of note.old.kept.demand x.now pull.now.v note.old.capacities.items) pull.now.u pull.now.limit) }
-    ensures spare { IfOk result (λ r. (k : Kept) × (note.new.spare ≡ Some k) × (k.demand ≡ with_more (rest_of note.old.kept.demand x.now pull.now.v note.old.capacities.items) pull.now.u r)) }
-{
-    fill(alloc, &note.kept, &mut note.spare)?;
-    match &mut note.spare {
-        Some(spare) => {
-            let most = raise(alloc, &note.kept, spare, &note.capacities, x, pull)?;
-            Ok(most)
-        }
-        None => unreachable!(),
-    }
 }
 
 /// Brings a split to other demands over the same lists, and to what slots hold then; false where these cannot be met.

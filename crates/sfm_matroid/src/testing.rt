@@ -13,7 +13,7 @@ ghost use Rattle.sfm_matroid.specs.Notes.{end_demands, IsOverEnds, IsSplitOrNone
 ghost use Rattle.sfm_matroid.specs.Numbered.{IsTail, PassesTails, end_lists, vertex_capacities};
 
 use crate::graph::Graph;
-use crate::splits::{can_bring, let_go};
+use crate::splits::can_bring;
 use sfm_assign::{AssignEnd, Demand, Kept};
 use sfm_base::Memory;
 use std::alloc::Global;
@@ -185,7 +185,5 @@ pub(crate) fn passes_tails(
     let Some(mut kept) = split(alloc, graph, x, most, first)? else {
         return Ok(false);
     };
-    let passed = passes_each(alloc, graph, &mut kept, x, most);
-    let_go(kept);
-    passed
+    passes_each(alloc, graph, &mut kept, x, most)
 }

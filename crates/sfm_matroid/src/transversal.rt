@@ -18,7 +18,7 @@ use crate::givers::row;
 use crate::matching::{basis_of, can_be_met, matched, slot_demand};
 use crate::ranked::{adds_up, cap_of, worth, write_start};
 use crate::room::{moved, pull_of};
-use crate::splits::{SlotSplit, bring_split, keep_spare, let_splits_go, raise_spare, slot_split};
+use crate::splits::{SlotSplit, bring_split, slot_split};
 use sfm_base::{Memory, Places, Set};
 use sfm_law::{Room, Term};
 use std::alloc::Global;
@@ -182,9 +182,7 @@ impl Term for Transversal {
     /// The room of (u, v) at a base, by a note that is made for it.
     fn room(&self, alloc: Global, q: i128, x: &[i128], u: usize, v: usize) -> Result<Room, Memory> {
         let mut note = self.note(alloc, q, x)?;
-        let room = self.room_by(alloc, q, x, &mut note, u, v);
-        let_splits_go(note);
-        room
+        self.room_by(alloc, q, x, &mut note, u, v)
     }
 
     /// Writes the places other than u to which u has room at a base, by a note that is made for it.
@@ -197,9 +195,7 @@ impl Term for Transversal {
         to: &mut Set,
     ) -> Result<(), Memory> {
         let mut note = self.note(alloc, q, x)?;
-        let done = self.reach_by(alloc, q, x, &mut note, u, to);
-        let_splits_go(note);
-        done
+        self.reach_by(alloc, q, x, &mut note, u, to)
     }
 
     /// The split in the test that tells a base.
@@ -220,7 +216,7 @@ impl Term for Transversal {
         to: &mut Set,
     ) -> Result<(), Memory> {
         let cap = cap_of(q, self.w);
-        row(alloc, &mut note.kept, x, cap, u, to)?;
+        row(alloc, &mut note.pair.kept, x, cap, u, to)?;
         Ok(())
     }
 
@@ -254,7 +250,7 @@ impl Term for Transversal {
         if pull.limit == 0 {
             return Ok(Room::Upto(0));
         }
-        let most = raise_spare(alloc, note, x, &pull)?;
+        let most = note.pair.raise_spare(alloc, &note.capacities, x, &pull)?;
         Ok(Room::Upto(most))
     }
 
@@ -270,7 +266,7 @@ impl Term for Transversal {
         a: i128,
     ) -> Result<(), Memory> {
         let after = moved(alloc, x, u, v, a)?;
-        keep_spare(note);
-        bring_split(alloc, &mut note.kept, &after, &note.capacities)
+        note.pair.swap();
+        bring_split(alloc, &mut note.pair.kept, &after, &note.capacities)
     }
 }

@@ -1,5 +1,6 @@
 use Rattle.std.proofs.Common.{◌≡◌, ◌∙◌, replicate, rules, FitsSigned}
 use Rattle.std.proofs.lemmas.Int.{to_z-of_z}
+use Rattle.std.proofs.lemmas.Option.{none-some}
 use mir.Syntax.{w128}
 use Rattle.sfm_matroid.proofs.splits.slot_split.Goals as goal
 
@@ -16,4 +17,4 @@ returns c =
     let fm : FitsSigned w128 c.args.most = c.ranges.most in
     let e = simp to_z-of_z at c.in_ok-demand.ensures in
     let h : c.in_ok-capacities.capacities.items ≡ replicate c.args.m c.args.most = search rules in
-    record { m = c.args.m; below = c.requires.amounts.below; holds = h; split = c.in_ok-kept.ensures ∙ e; spare = tt }
+    record { m = c.args.m; below = c.requires.amounts.below; holds = h; split = c.in_ok-kept.ensures ∙ e; spare = λ k some. absurd (none-some k some) }

@@ -26,7 +26,7 @@ none_split d (Some k) none is can = none k refl
 pub returns : goal.returns
 returns c =
     let fm : FitsSigned w128 c.args.most = c.ranges.most in
-    simp to_z-of_z at c.passes_each-passed.ensures
+    simp to_z-of_z at c.passes_each.ensures
 
 pub returns-in_default : goal.returns-in_default
 returns-in_default c =
@@ -57,10 +57,10 @@ returns-then-is_empty c =
 pub split-requires : goal.split-requires
 split-requires c = end_amounts_passed _ c.args.most c.args.x.now c.requires
 
-pub passes_each-passed-requires-clause-amounts : goal.passes_each-passed-requires-clause-amounts
-passes_each-passed-requires-clause-amounts c = end_amounts_passed _ c.args.most c.args.x.now c.requires
+pub passes_each-requires-clause-amounts : goal.passes_each-requires-clause-amounts
+passes_each-requires-clause-amounts c = end_amounts_passed _ c.args.most c.args.x.now c.requires
 
-pub passes_each-passed-requires-clause-over : goal.passes_each-passed-requires-clause-over
-passes_each-passed-requires-clause-over c =
+pub passes_each-requires-clause-over : goal.passes_each-requires-clause-over
+passes_each-requires-clause-over c =
     let h = rw c.in-Some.is at c.in_ok-kept.ensures in
     rw h.0 (record { places = c.requires.sized; lists = refl; vertices = length-vertices _ _ _ })

@@ -1,11 +1,13 @@
-use Rattle.std.proofs.Common.{◌≡◌, ◌*ℤ◌, length, to_z, of_z}
+use Rattle.std.proofs.Common.{◌≡◌, ◌*ℤ◌, length, to_z, of_z, refl}
 use Rattle.std.proofs.lemmas.Bool.{both_ways}
 use mir.Syntax.{w128}
 use Rattle.sfm_law.proofs.Fits.{product_low}
 use Rattle.sfm_matroid.proofs.Fits.{capped_amounts}
 use Rattle.sfm_matroid.proofs.Passed.{cap_passed, factors_passed}
-use Rattle.sfm_matroid.proofs.GraphicBases.{capped_base, end_amounts}
+use Rattle.sfm_matroid.specs.Numbered.{numbered, vertex_count}
+use Rattle.sfm_matroid.proofs.GraphicBases.{capped_base, edges_sized, end_amounts}
 use Rattle.sfm_matroid.proofs.GraphicRooms.{base_split}
+use Rattle.sfm_matroid.proofs.Noted.{note_brought}
 use Rattle.sfm_matroid.proofs.graphic.Graphic.bring.Goals.{After-cap_of-cap}
 use Rattle.sfm_matroid.proofs.graphic.Graphic.bring.Goals as goal
 
@@ -36,4 +38,5 @@ pub returns-clause-noted : goal.returns-clause-noted
 returns-clause-noted c =
     let s = c.args.self.now in
     let there = rw (s.of_ends, s.counted, cap_is (goal.at.returns-clause-noted c).After-cap_of-cap) at c.in_ok-brought.ensures.brought in
-    record { split = there c.if-not-branch.false; spare = c.requires.over.spare }
+    let b = c.requires.base in
+    note_brought (numbered s.ends) (vertex_count s.ends) (c.args.q *ℤ s.w) c.args.x.now c.args.note.now.pair _ (edges_sized s c.args.x.now b.sized) c.requires.over refl (there c.if-not-branch.false)

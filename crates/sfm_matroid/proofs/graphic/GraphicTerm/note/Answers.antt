@@ -1,4 +1,5 @@
 use Rattle.std.proofs.Common.{◌≡◌, ◌∙◌, ◌*ℤ◌, length, to_z, of_z}
+use Rattle.std.proofs.lemmas.Option.{none-some}
 use mir.Syntax.{w128}
 use Rattle.sfm_law.proofs.Fits.{product_low}
 use Rattle.sfm_matroid.proofs.Fits.{capped_amounts}
@@ -30,4 +31,4 @@ split_of-requires c =
 pub returns : goal.returns
 returns c =
     let s = c.args.self.now in
-    record { split = c.in_ok-kept.ensures ∙ rw (s.of_ends, s.counted, cap_is (goal.at.returns c).After-cap_of-cap) at c.in_ok-demand.ensures; spare = λ spare some. absurd (cc) }
+    record { split = c.in_ok-kept.ensures ∙ rw (s.of_ends, s.counted, cap_is (goal.at.returns c).After-cap_of-cap) at c.in_ok-demand.ensures; spare = λ k some. absurd (none-some k some) }

@@ -6,4 +6,4 @@ use Rattle.sfm_matroid.proofs.graphic.GraphicTerm.reach.Goals as goal
 pub returns-clause-reached : goal.returns-clause-reached
 returns-clause-reached c =
     let fq : FitsSigned w128 c.args.q = c.ranges.q in
-    simp to_z-of_z at c.reach_by-done.ensures.reached
+    simp to_z-of_z at c.reach_by.ensures.reached

@@ -1,7 +1,8 @@
-use Rattle.std.proofs.Common.{◌∙◌, length, FitsSigned}
+use Rattle.std.proofs.Common.{◌∙◌, length, refl, FitsSigned}
 use Rattle.std.proofs.lemmas.Int.{to_z-of_z}
 use mir.Syntax.{w128}
 use Rattle.sfm_law.proofs.Fits.{product_low}
+use Rattle.sfm_matroid.proofs.Beside.{spare_same}
 use Rattle.sfm_matroid.proofs.Passed.{cap_passed, factors_passed}
 use Rattle.sfm_matroid.proofs.GraphicRooms.{row_reach}
 use Rattle.sfm_matroid.proofs.graphic.GraphicTerm.reach_with.Goals as goal
@@ -22,4 +23,4 @@ pub returns-clause-noted : goal.returns-clause-noted
 returns-clause-noted c =
     let fq : FitsSigned w128 c.args.q = c.ranges.q in
     let noted = simp to_z-of_z at c.in_ok-root_near.ensures.noted in
-    record { split = c.row.ensures.same ∙ noted.split; spare = noted.spare }
+    record { split = c.row.ensures.same ∙ noted.split; spare = spare_same c.root_near.new.note.pair (record { kept = c.row.new.kept; spare = c.root_near.new.note.pair.spare }) refl c.row.ensures.same noted.spare }

@@ -1,13 +1,11 @@
-use Rattle.std.proofs.Common.{◌≡◌, ◌∙◌, ◌*ℤ◌, length, set, pos, ap, refl, sym, arith, rules, length-set, to_z, of_z, FitsSigned}
+use Rattle.std.proofs.Common.{◌≡◌, ◌∙◌, ◌*ℤ◌, length, ap, arith, rules, to_z, of_z, FitsSigned}
 use Rattle.std.proofs.lemmas.Int.{to_z-of_z}
 use mir.Syntax.{w128}
 use Rattle.sfm_law.proofs.Fits.{product_low}
-use Rattle.sfm_matroid.specs.Numbered.{numbered, vertex_capacities, vertex_count}
-use Rattle.sfm_matroid.specs.Notes.{end_demands}
+use Rattle.sfm_matroid.specs.Numbered.{vertex_capacities, vertex_count}
 use Rattle.sfm_matroid.proofs.Passed.{cap_passed, factors_passed}
-use Rattle.sfm_matroid.proofs.GraphicBases.{capped_base, edges_sized}
+use Rattle.sfm_matroid.proofs.GraphicBases.{capped_base}
 use Rattle.sfm_matroid.proofs.GraphicRooms.{end_vertex, ends_hold, grown_capacity}
-use Rattle.sfm_matroid.proofs.Noted.{beside_ends, note_with, over_grown}
 use Rattle.sfm_matroid.proofs.graphic.GraphicTerm.room_by.Goals.{After-cap_of-cap, After-deref}
 use Rattle.sfm_matroid.proofs.graphic.GraphicTerm.room_by.Goals as goal
 
@@ -28,9 +26,7 @@ pub raise_spare-requires-clause-raise : goal.raise_spare-requires-clause-raise
 raise_spare-requires-clause-raise c = let p = c.pull_of-pull.ensures in rw (p.u, p.v) p.raise
 
 pub raise_spare-requires-clause-spare : goal.raise_spare-requires-clause-spare
-raise_spare-requires-clause-spare c = λ spare is.
-    let r = c.requires in
-    rw r.noted.split (beside_ends _ _ _ _ _ spare.kept.demand (edges_sized c.args.self.now c.args.x.now r.entries) (r.noted.spare spare is))
+raise_spare-requires-clause-spare c = c.requires.noted.spare
 
 pub raise_spare-requires-clause-held : goal.raise_spare-requires-clause-held
 raise_spare-requires-clause-held c =
@@ -50,14 +46,4 @@ returns-clause-room c =
     simp to_z-of_z (grown_capacity (length s.places) c.args.q s.w s.ends s.same_count (product_low c.args.q s.w r.factor s.low) c.args.x.now r.entries r.base c.args.u c.args.v r.from r.onto r.apart c.end_near-root.result c.end_near-root.ensures _ most)
 
 pub returns-clause-noted : goal.returns-clause-noted
-returns-clause-noted c =
-    let r = c.requires in
-    let s = c.args.self.now in
-    let x = c.args.x.now in
-    let cap = c.args.q *ℤ s.w in
-    let p = c.pull_of-pull.ensures in
-    let e = c.raise_spare.ensures in
-    let (spare, some, more) = rw (r.noted.split, held (goal.at.returns-clause-noted c).After-deref, p.u, p.v) at c.in_ok-most.ensures.spare in
-    let sized = length-set x c.args.v (pos 0) ∙ edges_sized s x r.entries in
-    let over = over_grown (numbered s.ends) (vertex_count s.ends) cap (set x c.args.v (pos 0)) c.end_near-root.result _ _ c.args.u _ sized refl more in
-    note_with (numbered s.ends) (vertex_count s.ends) cap x _ (ap (λ k. k.demand) e.kept ∙ (r.noted.split ∙ ap (λ t. end_demands (numbered s.ends) (vertex_count s.ends) cap x t) (sym e.root))) (spare, some, over)
+returns-clause-noted c = record { split = ap (λ k. k.demand) c.raise_spare.ensures.kept ∙ c.requires.noted.split; spare = c.in_ok-most.ensures.spare }

@@ -1,5 +1,6 @@
-use Rattle.std.proofs.Common.{◌∙◌, length}
+use Rattle.std.proofs.Common.{◌∙◌, length, refl}
 use Rattle.sfm_law.proofs.Fits.{product_low}
+use Rattle.sfm_matroid.proofs.Beside.{spare_same}
 use Rattle.sfm_matroid.proofs.Passed.{cap_passed, factors_passed}
 use Rattle.sfm_matroid.proofs.TransversalBases.{reach_slots}
 use Rattle.sfm_matroid.proofs.transversal.TransversalTerm.reach_by.Goals as goal
@@ -18,4 +19,4 @@ returns-clause-reached c =
 pub returns-clause-noted : goal.returns-clause-noted
 returns-clause-noted c =
     let n = c.requires.noted in
-    record { m = n.m; below = n.below; holds = n.holds; split = c.row.ensures.same ∙ n.split; spare = n.spare }
+    record { m = n.m; below = n.below; holds = n.holds; split = c.row.ensures.same ∙ n.split; spare = spare_same c.args.note.now.pair (record { kept = c.row.new.kept; spare = c.args.note.now.pair.spare }) refl c.row.ensures.same n.spare }

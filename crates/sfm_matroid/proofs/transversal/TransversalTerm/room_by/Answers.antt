@@ -5,7 +5,6 @@ use mir.Syntax.{w128}
 use Rattle.sfm_law.proofs.Fits.{product_low}
 use Rattle.sfm_matroid.proofs.Passed.{cap_passed, factors_passed}
 use Rattle.sfm_matroid.proofs.TransversalBases.{grown_capacity, held_base, no_capacity, slots_hold}
-use Rattle.sfm_matroid.proofs.SlotNotes.{beside_slots, spare_grown}
 use Rattle.sfm_matroid.proofs.transversal.TransversalTerm.room_by.Goals.{After-pull_of-pull}
 use Rattle.sfm_matroid.proofs.transversal.TransversalTerm.room_by.Goals as goal
 
@@ -26,16 +25,13 @@ pub raise_spare-requires-clause-raise : goal.raise_spare-requires-clause-raise
 raise_spare-requires-clause-raise c = let p = c.pull_of-pull.ensures in rw (p.u, p.v) p.raise
 
 pub raise_spare-requires-clause-spare : goal.raise_spare-requires-clause-spare
-raise_spare-requires-clause-spare c =
-    let n = c.requires.noted in
-    let s = c.args.self.now in
-    rw n.split (beside_slots s.entries n.m (c.args.q *ℤ s.w) c.args.x.now (c.requires.entries ∙ sym s.same_count) c.args.note.now.spare n.spare)
+raise_spare-requires-clause-spare c = c.requires.noted.spare
 
 pub raise_spare-requires-clause-held : goal.raise_spare-requires-clause-held
 raise_spare-requires-clause-held c =
     let r = c.requires in
     let n = r.noted in
-    rw (n.split, n.holds, c.pull_of-pull.ensures.v) (slots_hold c.args.self.now c.args.q n.m n.below r.factor c.args.x.now r.entries r.base c.args.u c.args.v r.from r.onto r.apart)
+    rw (n.split, c.deref.ensures.value, n.holds, c.pull_of-pull.ensures.v) (slots_hold c.args.self.now c.args.q n.m n.below r.factor c.args.x.now r.entries r.base c.args.u c.args.v r.from r.onto r.apart)
 
 pub returns-clause-room : goal.returns-clause-room
 returns-clause-room c =
@@ -44,22 +40,13 @@ returns-clause-room c =
     let s = c.args.self.now in
     let p = c.pull_of-pull.ensures in
     let fm : FitsSigned w128 c.in_ok-most.most = search rules in
-    let most = rw (n.split, n.holds, p.u, p.v) at c.in_ok-most.ensures.most in
+    let most = rw (n.split, c.deref.ensures.value, n.holds, p.u, p.v) at c.in_ok-most.ensures.most in
     simp to_z-of_z (grown_capacity (length s.places) c.args.q s.w s.entries n.m n.below s.same_count (product_low c.args.q s.w r.factor s.low) c.args.x.now r.entries r.base c.args.u c.args.v r.from r.onto r.apart _ _ (most_is (goal.at.returns-clause-room c).After-pull_of-pull) most)
 
 pub returns-clause-noted : goal.returns-clause-noted
 returns-clause-noted c =
     let n = c.requires.noted in
-    let s = c.args.self.now in
-    let p = c.pull_of-pull.ensures in
-    let e = c.raise_spare.ensures in
-    record {
-      m = n.m;
-      below = n.below;
-      holds = ap (λ v. v.items) e.capacities ∙ n.holds;
-      split = ap (λ k. k.demand) e.kept ∙ n.split;
-      spare = spare_grown s.entries n.m (c.args.q *ℤ s.w) c.args.x.now c.args.u c.args.v _ _ (c.requires.entries ∙ sym s.same_count) (rw (n.split, n.holds, p.u, p.v) at c.in_ok-most.ensures.spare);
-    }
+    record { m = n.m; below = n.below; holds = n.holds; split = ap (λ k. k.demand) c.raise_spare.ensures.kept ∙ n.split; spare = c.in_ok-most.ensures.spare }
 
 pub returns-then-pull-eq0-clause-room : goal.returns-then-pull-eq0-clause-room
 returns-then-pull-eq0-clause-room c =

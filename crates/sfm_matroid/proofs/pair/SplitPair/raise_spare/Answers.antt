@@ -1,8 +1,9 @@
-use Rattle.std.proofs.Common.{refl, sym, ◌∙◌, rules, FitsSigned}
+use Rattle.std.proofs.Common.{Some, refl, sym, ◌∙◌, rules, FitsSigned}
 use Rattle.std.proofs.lemmas.Int.{to_z-of_z}
 use Rattle.std.proofs.lemmas.Option.{none-some, same_Some}
 use mir.Syntax.{w128}
-use Rattle.sfm_matroid.proofs.rooted.raise_spare.Goals as goal
+use Rattle.sfm_matroid.proofs.Beside.{grown_beside, spare_there}
+use Rattle.sfm_matroid.proofs.pair.SplitPair.raise_spare.Goals as goal
 
 pub fill-requires : goal.fill-requires
 fill-requires c = c.requires.spare
@@ -26,5 +27,7 @@ returns-clause-most c =
 
 pub returns-clause-spare : goal.returns-clause-spare
 returns-clause-spare c =
-    let fm : FitsSigned w128 c.in_ok-most-in-Some.most = search rules in
-    (_, refl, simp to_z-of_z c.in_ok-most-in-Some.ensures.grown)
+    let p = c.args.pull.now in
+    let d = c.args.self.now.kept.demand in
+    let grown = grown_beside d c.args.x.now p.v c.args.held.now p.u _ c.requires.held in
+    spare_there (record { kept = c.args.self.now.kept; spare = Some c.raise.new.second }) _ refl (rw c.in_ok-most-in-Some.ensures.grown grown)

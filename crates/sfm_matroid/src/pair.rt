@@ -1,0 +1,83 @@
+// A split that is kept, and a spare one over the same lists. A room is told in the spare one, which is left near the demands of an
+// exchange that may come: that takes it in place of the one that is kept, which is the spare one then, and the next room uses its
+// memory.
+ghost use Rattle.std.specs.Prelude.{◌≡◌, IfOk, OnOk, Some};
+ghost use Rattle.sfm_assign.specs.Lenders.{IsMostUpto};
+ghost use Rattle.sfm_assign.specs.declared.kept.Kept.{Kept};
+ghost use Rattle.sfm_matroid.specs.Amounts.{IsRaise, IsBeside, CanHold, rest_of};
+ghost use Rattle.sfm_matroid.specs.Notes.{AreBeside};
+
+use crate::room::{Pull, raise};
+use sfm_assign::Kept;
+use sfm_base::Memory;
+use std::alloc::Global;
+use std::mem;
+
+/// A split that is kept, and a spare one beside it, if there is one: where it was left for demands that are near those of an
+/// exchange, it is brought up to these sooner.
+pub struct SplitPair {
+    pub kept: Kept,
+    pub spare: Option<Kept>,
+}
+
+// Written out, so that letting one go is one step, which is proved here once.
+impl Drop for SplitPair {
+    fn drop(self) {
+        let Self { kept: _, spare: _ } = self;
+    }
+}
+
+/// Sees to it that there is a split beside one that is kept: a copy, where there is none.
+fn fill(alloc: Global, kept: &Kept, spare: &mut Option<Kept>) -> Result<(), Memory>
+    requires { (k : Kept) → spare.old ≡ Some k → IsBeside kept.now.demand k.demand }
+    ensures { OnOk result ((k : Kept) × (spare.new ≡ Some k) × IsBeside kept.now.demand k.demand) }
+{
+    if spare.is_some() {
+        return Ok(());
+    }
+    let copy = kept.copy(alloc)?;
+    *spare = Some(copy);
+    Ok(())
+}
+
+impl SplitPair {
+    /// Keeps the spare split, if there is one, in place of the one that is kept, which is the spare one then.
+    pub(crate) fn swap(&mut self)
+        requires { AreBeside self.old }
+        ensures kept { IsBeside self.old.kept.demand self.new.kept.demand }
+        ensures spare { AreBeside self.new }
+    {
+        if let Some(spare) = &mut self.spare {
+            mem::swap(&mut self.kept, spare);
+        }
+    }
+
+    /// Raises a place in the spare split, as `raise` does; if there is none, in a copy of the one that is kept.
+    ///
+    /// # Errors
+    ///
+    /// `Memory` where there is none.
+    pub(crate) fn raise_spare(
+        &mut self,
+        alloc: Global,
+        held: &[i128],
+        x: &[i128],
+        pull: &Pull,
+    ) -> Result<i128, Memory>
+        requires raise { IsRaise x.now pull.now.u pull.now.v pull.now.limit }
+        requires spare { AreBeside self.old }
+        requires held { CanHold self.old.kept.demand x.now pull.now.v held.now }
+        ensures kept { self.new.kept ≡ self.old.kept }
+        ensures most { IfOk result (IsMostUpto (rest_of self.old.kept.demand x.now pull.now.v held.now) pull.now.u pull.now.limit) }
+        ensures spare { OnOk result (AreBeside self.new) }
+    {
+        fill(alloc, &self.kept, &mut self.spare)?;
+        match &mut self.spare {
+            Some(spare) => {
+                let most = raise(alloc, &self.kept, spare, held, x, pull)?;
+                Ok(most)
+            }
+            None => unreachable!(),
+        }
+    }
+}
