@@ -68,8 +68,8 @@ impl Cells {
         let count = count(lists);
         let mut whos = Vec::with_capacity(alloc, count)?;
         let mut slots = Vec::with_capacity(alloc, count)?;
-        for (i, list) in lists.iter().enumerate() {
-            add(&mut whos, &mut slots, i, list.as_slice())?;
+        for i in 0..lists.len() {
+            add(&mut whos, &mut slots, i, lists[i].as_slice())?;
         }
         let by_who = Chains::of(alloc, lists.len(), &whos)?;
         let by_slot = Chains::of(alloc, m, &slots)?;

@@ -39,6 +39,13 @@ impl Slots {
     }
 }
 
+/// Puts a list at the end; false where there is no memory for it.
+fn put_list(lists: &mut Vec<Slots>, slots: Vec<usize>) -> bool
+    ensures { lists.new.items ≡ (if result then lists.old.items ++ slots.items ∷ [] else lists.old.items) }
+{
+    lists.push(Slots { items: slots }).is_ok()
+}
+
 /// Demands, the slots that each may use, and what each slot holds at most. A slot may stand more than once in a list.
 pub struct Demand {
     demands: Vec<i128>,
@@ -98,11 +105,11 @@ impl Demand {
         ensures { self.new ≡ (if is_ok result then record { demands = self.old.demands ++ d ∷ []; lists = self.old.lists ++ slots.items ∷ []; capacities = self.old.capacities } else self.old) }
     {
         self.demands.push(d)?;
-        if self.lists.push(Slots { items: slots }).is_err() {
-            self.demands.pop();
-            return Err(Memory);
+        if put_list(&mut self.lists, slots) {
+            return Ok(());
         }
-        Ok(())
+        self.demands.pop();
+        Err(Memory)
     }
 
     /// A copy.

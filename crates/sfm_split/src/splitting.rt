@@ -125,22 +125,21 @@ pub(crate) fn settle(
     Ok(set)
 }
 
-/// Amounts raised until each demand gets what it asks for.
-pub(crate) fn raised(alloc: Global, demand: &Demand, shares: Shares) -> Result<Shares, AssignEnd>
-    requires in_order { shares.cells.whos.items ≡ owners 0 demand.now.lists }
-    requires in_lists { shares.cells.slots.items ≡ joined demand.now.lists }
-    requires part { IsPart demand.now.demands demand.now.capacities shares.cells.whos.items shares.cells.slots.items shares.y.items }
-    ensures sound { IfOk result (λ _. AreDemands demand.now) }
-    ensures shares { MatchResult result (λ r. AreMet demand.now r.cells.whos.items r.cells.slots.items r.y.items) (IsAssignEnd demand.now.demands demand.now.lists demand.now.capacities) }
+/// Raises amounts until each demand gets what it asks for.
+fn raise_to(alloc: Global, demand: &Demand, cells: &Cells, y: &mut [i128]) -> Result<(), AssignEnd>
+    requires in_order { cells.now.whos.items ≡ owners 0 demand.now.lists }
+    requires in_lists { cells.now.slots.items ≡ joined demand.now.lists }
+    requires part { IsPart demand.now.demands demand.now.capacities cells.now.whos.items cells.now.slots.items y.old }
+    ensures sound { AreDemands demand.now }
+    ensures met { MatchResult result (λ _. AreMet demand.now cells.now.whos.items cells.now.slots.items y.new) (IsAssignEnd demand.now.demands demand.now.lists demand.now.capacities) }
 {
-    let Shares { cells, mut y } = shares;
     let demands = demand.demands();
-    let mut left = lefts_of(alloc, &cells, demands, demand.capacities(), &y)?;
+    let mut left = lefts_of(alloc, cells, demands, demand.capacities(), y)?;
     let mut rest = Rest::new(alloc);
-    if let Some(set) = raise_all(alloc, &cells, &mut rest, &mut left, &mut y)? {
+    if let Some(set) = raise_all(alloc, cells, &mut rest, &mut left, y)? {
         return Err(AssignEnd::Shortage { set });
     }
-    Ok(Shares { cells, y })
+    Ok(())
 }
 
 /// Amounts by which each demand gets what it asks for.
@@ -153,9 +152,9 @@ pub fn met_shares(alloc: Global, demand: &Demand) -> Result<Shares, AssignEnd>
     ensures shares { MatchResult result (λ r. AreMet demand.now r.cells.whos.items r.cells.slots.items r.y.items) (IsAssignEnd demand.now.demands demand.now.lists demand.now.capacities) }
 {
     let cells = Cells::of(alloc, demand.lists(), demand.capacities().len())?;
-    let y = cells.nothing(alloc)?;
-    let shares = raised(alloc, demand, Shares { cells, y })?;
-    Ok(shares)
+    let mut y = cells.nothing(alloc)?;
+    raise_to(alloc, demand, &cells, &mut y)?;
+    Ok(Shares { cells, y })
 }
 
 /// Splits each demand over its slots, no slot getting more than its capacity.

@@ -5,7 +5,7 @@ use mir.Syntax.{w128}
 use Rattle.sfm_split.specs.Cells.{label_at}
 use Rattle.sfm_split.specs.Search.{node_at, IsBranch}
 use Rattle.sfm_split.proofs.Augments.{level_of, level_some}
-use Rattle.sfm_split.proofs.Ways.{way_more, way_done}
+use Rattle.sfm_split.proofs.Ways.{way_begun, way_more, way_done, way_some}
 use Rattle.sfm_split.proofs.augment.flow_along.Goals.{In-Some}
 use Rattle.sfm_split.proofs.augment.flow_along.Goals as goal
 
@@ -71,3 +71,29 @@ returns-clause-way c =
     let lack = c.min.ensures.other_bound in
     let fm : FitsSigned w128 less = search rules in
     rw (to_z-of_z w128 less fm) (way_done whos slots c.args.nodes.now c.args.y.now c.args.lacks.now _ c.args.i who _ inv none less (omega (arith, ints, low)) (omega (arith, ints, lack)))
+
+pub loop-link-init : goal.loop-link-init
+loop-link-init c =
+    let fo : FitsSigned w128 c.args.most = c.ranges.most in
+    let (b, is) = c.requires.found in
+    simp to_z-of_z (way_begun c.args.cells.now.whos.items c.args.cells.now.slots.items c.args.nodes.now c.args.y.now c.args.lacks.now c.args.most c.args.i b is)
+
+pub returns-clause-most : goal.returns-clause-most
+returns-clause-most c =
+    let less : ℤ = c.min.result in
+    let fm : FitsSigned w128 less = search rules in
+    let low = c.min.ensures.self_bound in
+    let under = c.loop-link.invariant.under in
+    rw (to_z-of_z w128 less fm) (omega (arith, ints, low, under))
+
+pub returns-clause-some : goal.returns-clause-some
+returns-clause-some c =
+    let inv = c.loop-link.invariant in
+    let who = c.loop-link.who in
+    let none = sym (c.link_of.ensures inv.here inv.is_here) ∙ c.in_default.is in
+    let less : ℤ = c.min.result in
+    let fl : FitsSigned w128 (get_or c.args.lacks.now who (pos 0)) = search rules in
+    let fm : FitsSigned w128 less = search rules in
+    let value = c.min.ensures.value in
+    let fo : FitsSigned w128 c.args.most = c.ranges.most in
+    rw (to_z-of_z w128 less fm) (λ full roots one. way_some c.args.cells.now.whos.items c.args.cells.now.slots.items c.args.nodes.now c.args.y.now c.args.lacks.now _ c.args.i who _ inv none less (λ one some. omega (arith, ints, clamps, value, one, some)) full roots (rw (to_z-of_z w128 c.args.most fo) one))

@@ -1,23 +1,59 @@
-use Rattle.std.proofs.Common.{◌≡◌, ◌≤◌, ◌++◌, length, sym, ap, ◌∙◌, arith}
-use Rattle.std.proofs.lemmas.List.{drop_all, append-nil}
+use Rattle.std.proofs.Common.{◌≡◌, suc, ◌≤◌, ◌+◌, ◌++◌, [], length, drop, get_or, replicate, sym, ap, ◌∙◌, arith}
+use Rattle.std.proofs.lemmas.List.{append_assoc, append-nil, at_drop_more, drop_all, get_or_read}
 use Rattle.sfm_split.specs.Cells.{joined, owners}
 use Rattle.sfm_split.proofs.Rows.{cells_of}
+use Rattle.sfm_split.proofs.cells.Cells.of.Goals.{After-loop-i}
 use Rattle.sfm_split.proofs.cells.Cells.of.Goals as goal
 
-pub of-requires : goal.of-requires
-of-requires c =
+whole : (c : After-loop-i) → c.loop-i.whos.items ≡ owners 0 c.args.lists.now
+whole c =
     let lists = c.args.lists.now in
     let i = c.loop-i.i in
-    let past : length lists ≤ i = omega arith in
-    let whos : c.loop-i.whos.items ≡ owners 0 lists = sym (append-nil c.loop-i.whos.items) ∙ (ap (λ ls. c.loop-i.whos.items ++ owners i ls) (sym (drop_all i lists past)) ∙ c.loop-i.invariant.whos) in
-    record { below = rw (c.deref.ensures.value, whos) (cells_of c.args.m lists c.requires.exist).owned }
+    let whos = c.loop-i.whos.items in
+    let past : length lists ≤ i = c.loop-i-test.false in
+    sym (append-nil whos) ∙ (ap (λ ls. whos ++ owners i ls) (sym (drop_all i lists past)) ∙ c.loop-i.invariant.whos)
+
+all : (c : After-loop-i) → c.loop-i.slots.items ≡ joined c.args.lists.now
+all c =
+    let lists = c.args.lists.now in
+    let i = c.loop-i.i in
+    let slots = c.loop-i.slots.items in
+    let past : length lists ≤ i = c.loop-i-test.false in
+    sym (append-nil slots) ∙ (ap (λ ls. slots ++ joined ls) (sym (drop_all i lists past)) ∙ c.loop-i.invariant.slots)
+
+pub loop-i-preserved : goal.loop-i-preserved
+loop-i-preserved c =
+    let lists = c.args.lists.now in
+    let i = c.loop-i.i in
+    let inv = c.loop-i.invariant in
+    let lt = c.loop-i-test.true in
+    let is = c.as_slice.ensures ∙ get_or_read lists i c.index-lists-i.result lt c.index-lists-i.is [] in
+    let list = get_or lists i [] in
+    let one : i + 1 ≡ suc i = omega arith in
+    let whos = c.loop-i.whos.items in
+    let slots = c.loop-i.slots.items in
+    record {
+      whos = rw (c.in_ok-add.ensures.whos, is) (append_assoc whos (replicate (length list) i) (owners (i + 1) (drop (i + 1) lists)) ∙ (ap (λ k. whos ++ (replicate (length list) i ++ owners k (drop (i + 1) lists))) one ∙ (ap (λ r. whos ++ r) (sym (at_drop_more (owners i) lists i [] lt)) ∙ inv.whos)));
+      slots = rw (c.in_ok-add.ensures.slots, is) (append_assoc slots list (joined (drop (i + 1) lists)) ∙ (ap (λ r. slots ++ r) (sym (at_drop_more joined lists i [] lt)) ∙ inv.slots));
+    }
+
+pub of-requires : goal.of-requires
+of-requires c = record { below = rw (c.deref.ensures.value, whole (goal.at.of-requires c).After-loop-i) (cells_of c.args.m c.args.lists.now c.requires.exist).owned }
 
 pub of-requires-2 : goal.of-requires-2
 of-requires-2 c =
-    let lists = c.args.lists.now in
-    let i = c.loop-i.i in
-    let past : length lists ≤ i = omega arith in
-    let slots : c.loop-i.slots.items ≡ joined lists = sym (append-nil c.loop-i.slots.items) ∙ (ap (λ ls. c.loop-i.slots.items ++ joined ls) (sym (drop_all i lists past)) ∙ c.loop-i.invariant.slots) in
-    let cells = cells_of c.args.m lists c.requires.exist in
+    let cells = cells_of c.args.m c.args.lists.now c.requires.exist in
     let same = cells.same in
-    record { below = rw (c.deref-2.ensures.value, slots) (λ e lt. cells.exist e (omega (arith, lt, same))) }
+    record { below = rw (c.deref-2.ensures.value, all (goal.at.of-requires-2 c).After-loop-i) (λ e lt. cells.exist e (omega (arith, lt, same))) }
+
+pub invariant_of-result-clause-whos_chained : goal.invariant_of-result-clause-whos_chained
+invariant_of-result-clause-whos_chained c = rw c.deref.ensures.value at c.in_ok-by_who.ensures
+
+pub invariant_of-result-clause-slots_chained : goal.invariant_of-result-clause-slots_chained
+invariant_of-result-clause-slots_chained c = rw c.deref-2.ensures.value at c.in_ok-by_slot.ensures
+
+pub returns-clause-whos : goal.returns-clause-whos
+returns-clause-whos c = whole (goal.at.returns-clause-whos c).After-loop-i
+
+pub returns-clause-slots : goal.returns-clause-slots
+returns-clause-slots c = all (goal.at.returns-clause-slots c).After-loop-i
