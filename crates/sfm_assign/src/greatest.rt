@@ -1,10 +1,9 @@
 // The most that one demand can get while all others are met: these are met first, with nothing for it, and then it is raised by
 // as much as it can get besides. No demand can get more than all slots have together, so that serves as the limit.
-ghost use Rattle.std.specs.Prelude.{◌≡◌, ◌<◌, ◌≤◌, ◌^◌, length, slice_set, pos, ◌+ℤ◌, ◌≤ℤ◌, IfOk};
+ghost use Rattle.std.specs.Prelude.{◌≡◌, ◌<◌, ◌≤◌, ◌^◌, length, slice_set, pos, IfOk};
 ghost use Rattle.std.specs.List.{All};
 ghost use Rattle.sfm_spec.specs.Bounds.{total_of};
-ghost use Rattle.sfm_split.specs.Splits.{amount_at, IsAmount, IsCapacity, CanBeMet, IsMost};
-ghost use Rattle.sfm_split.specs.Lenders.{IsMostUpto};
+ghost use Rattle.sfm_split.specs.Splits.{IsAmount, IsCapacity, CanBeMet, IsMost};
 
 use crate::kept::Kept;
 use sfm_base::Memory;
@@ -35,16 +34,6 @@ fn without(alloc: Global, demand: &Demand, u: usize) -> Result<Demand, Memory>
     Ok(others)
 }
 
-/// Raises the demand u of a split as far as it goes, up to a limit, and tells by how much; the split is of no use then.
-fn raised(alloc: Global, mut kept: Kept, u: usize, limit: i128) -> Result<i128, Memory>
-    requires place { u < length kept.demand.demands }
-    requires low { pos 0 ≤ℤ limit }
-    requires small { IsAmount (amount_at kept.demand.demands u +ℤ limit) }
-    ensures { IfOk result (IsMostUpto kept.demand u limit) }
-{
-    kept.grow(alloc, u, limit)
-}
-
 /// The greatest amount that the demand u can get with all other demands met; what it asks for does not matter.
 ///
 /// # Errors
@@ -59,8 +48,8 @@ pub fn most(alloc: Global, demand: &Demand, u: usize) -> Result<i128, Memory>
     let others = without(alloc, demand, u)?;
     let limit = sum_of(demand.capacities());
     match Kept::new(alloc, others) {
-        Ok(kept) => {
-            let more = raised(alloc, kept, u, limit)?;
+        Ok(mut kept) => {
+            let more = kept.grow(alloc, u, limit)?;
             Ok(more)
         }
         Err(_) => Err(Memory),

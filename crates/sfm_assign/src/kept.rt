@@ -153,7 +153,7 @@ fn find_more(
     Ok(more)
 }
 
-// As above.
+// Written out, so that whoever lets one go does so in one step.
 impl Drop for Kept {
     fn drop(self) {
         let Self {
@@ -175,23 +175,17 @@ impl Kept {
         ensures { MatchResult result (λ r. r.demand ≡ demand) (IsAssignEnd demand.demands demand.lists demand.capacities) }
     {
         let shares = met_shares(alloc, &demand)?;
-        let rooms = left_of(alloc, demand.capacities(), &shares.cells.slots, &shares.y)?;
-        let kept = Kept::around(alloc, demand, shares, rooms)?;
+        let kept = Kept::around(alloc, demand, shares)?;
         Ok(kept)
     }
 
-    /// A split that is kept, by its amounts and by what slots have left with these; nothing is remembered of it.
-    fn around(
-        alloc: Global,
-        demand: Demand,
-        shares: Shares,
-        rooms: Vec<i128>,
-    ) -> Result<Kept, Memory>
-        requires met { AreMet demand shares.cells.whos.items shares.cells.slots.items shares.y.items }
-        requires left { AreLeft demand.capacities shares.cells.slots.items shares.y.items rooms.items }
+    /// A split that is kept, by its amounts; nothing is remembered of it.
+    fn around(alloc: Global, demand: Demand, shares: Shares) -> Result<Kept, Memory>
+        requires { AreMet demand shares.cells.whos.items shares.cells.slots.items shares.y.items }
         ensures { IfOk result (λ r. r.demand ≡ demand) }
     {
         let beside = Beside::new(alloc, demand.demands().len())?;
+        let rooms = left_of(alloc, demand.capacities(), &shares.cells.slots, &shares.y)?;
         Ok(Kept {
             demand,
             shares,
@@ -210,8 +204,7 @@ impl Kept {
     {
         let demand = self.demand.copy(alloc)?;
         let shares = self.shares.copy(alloc)?;
-        let rooms = Vec::from_slice(alloc, &self.rooms)?;
-        Kept::around(alloc, demand, shares, rooms)
+        Kept::around(alloc, demand, shares)
     }
 
     /// Puts other demands and capacities in place of these, over the same lists, and splits them, from the split as it stands:

@@ -11,10 +11,10 @@ use Rattle.sfm_assign.proofs.greatest.most.Goals as goal
 others : (c : In-Ok) → c.in-Ok.kept.demand ≡ record { demands = set c.args.demand.now.demands c.args.u (pos 0); lists = c.args.demand.now.lists; capacities = c.args.demand.now.capacities }
 others c = c.in-Ok.ensures ∙ c.in_ok-others.ensures
 
-pub raised-requires-clause-small : goal.raised-requires-clause-small
-raised-requires-clause-small c =
+pub grow-requires-clause-small : goal.grow-requires-clause-small
+grow-requires-clause-small c =
     let d = c.args.demand.now in
-    let same = others (goal.at.raised-requires-clause-small c).In-Ok in
+    let same = others (goal.at.grow-requires-clause-small c).In-Ok in
     let s : ℤ = c.sum_of-limit.result in
     let fs : FitsSigned w128 s = search rules in
     let none = ap (λ (k : Demands). amount_at k.demands c.args.u) same ∙ changed-at d.demands c.args.u c.requires.place (pos 0) in
@@ -30,7 +30,7 @@ returns-in-Ok c =
     let fs : FitsSigned w128 s = search rules in
     let g : ℤ = c.in_ok-more-in-Ok.more in
     let fg : FitsSigned w128 g = search rules in
-    let h = rw (same, to_z-of_z w128 s fs) at c.in_ok-more-in-Ok.ensures in
+    let h = rw (same, to_z-of_z w128 s fs) at c.in_ok-more-in-Ok.ensures.most in
     rw (to_z-of_z w128 g fg) (most_from d c.demands-sound.ensures.sound c.args.u c.requires.place s g (c.sum_of-limit.ensures.total ∙ ap total_of c.capacities.ensures) h)
 
 pub sum_of-limit-requires-clause-few : goal.sum_of-limit-requires-clause-few
@@ -39,15 +39,15 @@ sum_of-limit-requires-clause-few c = rw c.capacities.ensures c.demands-sound.ens
 pub sum_of-limit-requires-clause-bounded : goal.sum_of-limit-requires-clause-bounded
 sum_of-limit-requires-clause-bounded c = rw c.capacities.ensures c.demands-sound.ensures.sound.bounded
 
-pub raised-requires-clause-place : goal.raised-requires-clause-place
-raised-requires-clause-place c =
-    let same = others (goal.at.raised-requires-clause-place c).In-Ok in
+pub grow-requires-clause-place : goal.grow-requires-clause-place
+grow-requires-clause-place c =
+    let same = others (goal.at.grow-requires-clause-place c).In-Ok in
     let place = c.requires.place in
     let long = ap (λ (k : Demands). length k.demands) same ∙ length-set c.args.demand.now.demands c.args.u (pos 0) in
     omega (arith, place, long)
 
-pub raised-requires-clause-low : goal.raised-requires-clause-low
-raised-requires-clause-low c =
+pub grow-requires-clause-low : goal.grow-requires-clause-low
+grow-requires-clause-low c =
     let s : ℤ = c.sum_of-limit.result in
     let fs : FitsSigned w128 s = search rules in
     simp to_z-of_z c.sum_of-limit.ensures.amount.low

@@ -3,6 +3,7 @@ use Rattle.std.proofs.lemmas.Int.{ints}
 use mir.Syntax.{w128}
 use Rattle.sfm_split.specs.Splits.{amount_at}
 use Rattle.sfm_split.proofs.Outcomes.{amounts_low}
+use Rattle.sfm_assign.proofs.greatest.without.Goals.{After-demands}
 use Rattle.sfm_assign.proofs.greatest.without.Goals as goal
 
 pub raise-requires-clause-place : goal.raise-requires-clause-place
@@ -11,14 +12,18 @@ raise-requires-clause-place c = rw c.in_ok-others.ensures c.requires
 pub bounds-demands-u : goal.bounds-demands-u
 bounds-demands-u c = rw c.demands.ensures.value c.requires
 
-pub returns : goal.returns
-returns c =
-    let d = c.args.demand.now in
+-- with nothing for the demand
+none : (c : After-demands) → (amount_at c.args.demand.now.demands c.args.u +ℤ to_z w128 (of_z w128 (pos 0 -ℤ to_z w128 (of_z w128 (get_or c.demands.result.now c.args.u (pos 0)))))) ≡ pos 0
+none c =
     let u = c.args.u in
     let v : ℤ = get_or c.demands.result.now u (pos 0) in
     let fv : FitsSigned w128 v = search rules in
-    let x : ℤ = to_z w128 (of_z w128 v) in
     let is = ap (λ xs. amount_at xs u) c.demands.ensures.value in
-    let low = amounts_low d c.demands.ensures.sound u c.requires in
-    let zero : (amount_at d.demands u +ℤ to_z w128 (of_z w128 (pos 0 -ℤ x))) ≡ pos 0 = omega (arith, ints, is, low) in
-    rw (c.in_ok-others.ensures, zero) at c.raise.ensures
+    let low = amounts_low c.args.demand.now c.demands.ensures.sound u c.requires in
+    omega (arith, ints, is, low)
+
+pub raise-requires-clause-amount : goal.raise-requires-clause-amount
+raise-requires-clause-amount c = rw (c.in_ok-others.ensures, none (goal.at.raise-requires-clause-amount c).After-demands) (record { low = omega (arith, ints); high = omega (arith, ints) })
+
+pub returns : goal.returns
+returns c = rw (c.in_ok-others.ensures, none (goal.at.returns c).After-demands) at c.raise.ensures
