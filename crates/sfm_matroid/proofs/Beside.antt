@@ -1,6 +1,6 @@
 -- Splits over the same lists, that stand beside each other.
-use Rattle.std.proofs.Common.{◌≡◌, ℕ, List, ℤ, pos, Some, None, refl, sym, ◌∙◌, length-set}
-use Rattle.std.proofs.lemmas.Option.{none-some, same_Some}
+use Rattle.std.proofs.Common.{◌≡◌, ℕ, List, ℤ, pos, Some, refl, sym, ◌∙◌, length-set}
+use Rattle.std.proofs.lemmas.Option.{same_Some}
 use Rattle.sfm_assign.specs.Splits.{Demands}
 use Rattle.sfm_assign.specs.Lenders.{with_more}
 use Rattle.sfm_assign.specs.declared.kept.Kept.{Kept}

@@ -6,7 +6,7 @@ use Rattle.sfm_matroid.specs.declared.pair.SplitPair.{SplitPair}
 use Rattle.sfm_matroid.specs.declared.rooted.RootSplit.{RootSplit}
 use Rattle.sfm_matroid.proofs.Beside.{spare_beside}
 use Rattle.sfm_matroid.proofs.Numbering.{length-vertices}
-use Rattle.sfm_matroid.specs.Notes.{end_demands, AreBeside, AreOverEnds, IsOverEnds, IsRootSplit}
+use Rattle.sfm_matroid.specs.Notes.{end_demands, AreBeside, AreOverEnds, IsRootSplit}
 
 module _ (edges : List Edge) (m : ℕ) where
   -- a split of entries is one of whatever amounts

@@ -1,5 +1,5 @@
 -- The splits over slots that are kept beside a base.
-use Rattle.std.proofs.Common.{◌≡◌, ℕ, ◌<◌, List, length, replicate, ℤ, Result, Ok, Err, OnOk, refl, sym, ◌∙◌}
+use Rattle.std.proofs.Common.{◌≡◌, ℕ, ◌<◌, List, length, replicate, ℤ, Result, Ok, Err, OnOk, refl}
 use Rattle.std.specs.List.{All}
 use Rattle.sfm_matroid.specs.Amounts.{IsBeside}
 use Rattle.sfm_matroid.specs.declared.pair.SplitPair.{SplitPair}

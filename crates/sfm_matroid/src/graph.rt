@@ -4,7 +4,7 @@
 ghost use Rattle.std.specs.Prelude.{◌≡◌, ◌≤◌, length, IfOk, OnOk};
 ghost use Rattle.sfm_matroid.specs.Ends.{edges_of};
 ghost use Rattle.sfm_matroid.specs.Graphs.{EndsBelow};
-ghost use Rattle.sfm_matroid.specs.Numbered.{place_of, with_vertex, vertices_after, vertices_of, vertex_count, numbered};
+ghost use Rattle.sfm_matroid.specs.Numbered.{place_of, with_vertex, vertices_of, vertex_count, numbered};
 
 use crate::order::by_tails;
 use sfm_base::Memory;
@@ -46,23 +46,15 @@ fn put(vertices: &mut Vec<u32>, v: u32) -> Result<(), Memory>
     Ok(())
 }
 
-/// Puts the ends of edges behind vertices, tail before head, but those that stand there.
-fn put_ends(vertices: &mut Vec<u32>, ends: &[(u32, u32)]) -> Result<(), Memory>
-    ensures { OnOk result (vertices.new.items ≡ vertices_after vertices.old.items (edges_of ends.now)) }
-{
-    for pair in ends {
-        put(vertices, pair.0)?;
-        put(vertices, pair.1)?;
-    }
-    Ok(())
-}
-
 /// The vertices in the order in which they first stand among the ends.
 fn vertices(alloc: Global, ends: &[(u32, u32)]) -> Result<Vec<u32>, Memory>
     ensures { IfOk result (λ r. r.items ≡ vertices_of (edges_of ends.now)) }
 {
     let mut vertices = Vec::new(alloc);
-    put_ends(&mut vertices, ends)?;
+    for pair in ends {
+        put(&mut vertices, pair.0)?;
+        put(&mut vertices, pair.1)?;
+    }
     Ok(vertices)
 }
 

@@ -1,9 +1,9 @@
 // The test that tells what slots of entries may hold: each element is a demand that is split over the slots of its entry, of
 // which each holds the same number at most. Where slots hold 1 each, places with a demand of 1 have slots of their own; so places
 // are taken one after another by one split, in which each in turn is raised to 1 if the others leave it a slot.
-ghost use Rattle.std.specs.Prelude.{◌≡◌, ◌↔◌, ◌+◌, ◌<◌, ◌≤◌, ◌^◌, [], length, replicate, pos, IfOk, IsTrue, OnOk};
+ghost use Rattle.std.specs.Prelude.{◌≡◌, ◌+◌, ◌<◌, ◌≤◌, ◌^◌, [], length, replicate, pos, IfOk, OnOk};
 ghost use Rattle.std.specs.List.{All};
-ghost use Rattle.sfm_assign.specs.Splits.{CanBeMet, IsAmount};
+ghost use Rattle.sfm_assign.specs.Splits.{IsAmount};
 ghost use Rattle.sfm_spec.specs.Sets.{empty_set};
 ghost use Rattle.sfm_matroid.specs.Matched.{IsMatchedTo};
 ghost use Rattle.sfm_matroid.specs.Notes.{AreSlotAmounts, slot_demands};
@@ -11,7 +11,7 @@ ghost use Rattle.sfm_matroid.specs.Slots.{suited, transversal_basis};
 
 use crate::entries::Entries;
 use crate::splits::split_of;
-use sfm_assign::{AssignEnd, Demand, Kept, assign};
+use sfm_assign::{Demand, Kept};
 use sfm_base::{Memory, Set};
 use std::alloc::Global;
 
@@ -40,8 +40,10 @@ fn push_slots(
     requires none { (demand.old.demands ≡ []) × (demand.old.lists ≡ []) }
     ensures { OnOk result (demand.new ≡ record { demands = x.now; lists = entries.now; capacities = demand.old.capacities }) }
 {
-    for (e, slots) in entries.as_slice().iter().enumerate() {
-        demand.push(x[e], numbers(alloc, slots.as_slice())?)?;
+    let items = entries.as_slice();
+    for e in 0..items.len() {
+        let slots = numbers(alloc, items[e].as_slice())?;
+        demand.push(x[e], slots)?;
     }
     Ok(())
 }
@@ -61,17 +63,6 @@ pub(crate) fn slot_demand(
     let mut demand = Demand::new(alloc, &capacities)?;
     push_slots(alloc, entries, x, &mut demand)?;
     Ok(demand)
-}
-
-/// Whether demands can be met.
-pub(crate) fn can_be_met(alloc: Global, demand: &Demand) -> Result<bool, Memory>
-    ensures { IfOk result (λ r. IsTrue r ↔ CanBeMet demand.now.demands demand.now.lists demand.now.capacities) }
-{
-    match assign(alloc, demand) {
-        Ok(_) => Ok(true),
-        Err(AssignEnd::Shortage { .. }) => Ok(false),
-        Err(AssignEnd::Memory) => Err(Memory),
-    }
 }
 
 /// The split over slots that hold 1 each, where no place has one yet.

@@ -11,7 +11,7 @@ use sfm_base::Memory;
 use std::alloc::Global;
 
 /// A place that gets something, one that gives it, and how much that may be.
-#[derive(Drop)]
+#[derive(Clone, Copy)]
 pub(crate) struct Pull {
     pub u: usize,
     pub v: usize,

@@ -2,10 +2,7 @@
 // root, so a split can be brought to another root from where it stands. What an edge may get is told with the root at an end of it;
 // and so it is of an edge that has room to another one, with the root at an end of that. A room leaves a spare split, from which an
 // exchange goes on.
-ghost use Rattle.std.specs.Prelude.{◌≡◌};
-
 use crate::pair::SplitPair;
-use std::mem;
 
 /// The split of a base in the test of a vertex, and the split that the last room left, of whatever amounts, with its root.
 pub struct RootSplit {

@@ -3,7 +3,7 @@
 ghost use Rattle.std.specs.Prelude.{◌≡◌, ◌↔◌, length, replicate, IfOk, IsTrue, OnOk};
 ghost use Rattle.std.specs.List.{All};
 ghost use Rattle.sfm_assign.specs.Splits.{IsAmount, IsCapacity, CanBeMet};
-ghost use Rattle.sfm_matroid.specs.Notes.{AreSlotAmounts, IsSlotSplit};
+ghost use Rattle.sfm_matroid.specs.Notes.{AreSlotAmounts, IsSlotSplit, IsSplitOrNone};
 
 use crate::entries::Entries;
 use crate::matching::slot_demand;
@@ -25,6 +25,20 @@ impl Drop for SlotSplit {
             pair: _,
             capacities: _,
         } = self;
+    }
+}
+
+/// The split of demands; None where they cannot be met.
+pub(crate) fn try_split(alloc: Global, demand: Demand) -> Result<Option<Kept>, Memory>
+    ensures { IfOk result (IsSplitOrNone demand) }
+{
+    match Kept::new(alloc, demand) {
+        Ok(kept) => {
+            kept.are_met();
+            Ok(Some(kept))
+        }
+        Err(AssignEnd::Shortage { .. }) => Ok(None),
+        Err(AssignEnd::Memory) => Err(Memory),
     }
 }
 

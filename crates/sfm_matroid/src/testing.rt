@@ -9,12 +9,12 @@ ghost use Rattle.sfm_matroid.specs.Ends.{edges_of};
 ghost use Rattle.sfm_matroid.specs.Amounts.{AreEndAmounts};
 ghost use Rattle.sfm_matroid.specs.Cuts.{IsWithinEnds};
 ghost use Rattle.sfm_matroid.specs.Graphs.{EndsBelow};
-ghost use Rattle.sfm_matroid.specs.Notes.{end_demands, IsOverEnds, IsSplitOrNone};
+ghost use Rattle.sfm_matroid.specs.Notes.{end_demands, IsOverEnds};
 ghost use Rattle.sfm_matroid.specs.Numbered.{IsTail, PassesTails, end_lists, vertex_capacities};
 
 use crate::graph::Graph;
-use crate::splits::can_bring;
-use sfm_assign::{AssignEnd, Demand, Kept};
+use crate::splits::{can_bring, try_split};
+use sfm_assign::{Demand, Kept};
 use sfm_base::Memory;
 use std::alloc::Global;
 
@@ -65,28 +65,6 @@ pub(crate) fn end_demand(
     let mut demand = Demand::new(alloc, &capacities)?;
     push_ends(alloc, &graph.ends, x, &mut demand)?;
     Ok(demand)
-}
-
-/// The split of amounts from nothing, where each vertex holds a number, and the vertex a nothing; None where there is none.
-fn split(
-    alloc: Global,
-    graph: &Graph,
-    x: &[i128],
-    most: i128,
-    a: usize,
-) -> Result<Option<Kept>, Memory>
-    requires { AreEndAmounts (edges_of graph.now.ends.items) most x.now }
-    ensures { IfOk result (IsSplitOrNone (end_demands (edges_of graph.now.ends.items) graph.now.vertices most x.now a)) }
-{
-    let demand = end_demand(alloc, graph, x, most, a)?;
-    match Kept::new(alloc, demand) {
-        Ok(kept) => {
-            kept.are_met();
-            Ok(Some(kept))
-        }
-        Err(AssignEnd::Shortage { .. }) => Ok(None),
-        Err(AssignEnd::Memory) => Err(Memory),
-    }
 }
 
 /// Brings a split to other amounts, where each vertex holds a number, and the vertex a nothing; false where there is no such
@@ -182,7 +160,8 @@ pub(crate) fn passes_tails(
         return Ok(true);
     }
     let first = graph.ends[0].0;
-    let Some(mut kept) = split(alloc, graph, x, most, first)? else {
+    let demand = end_demand(alloc, graph, x, most, first)?;
+    let Some(mut kept) = try_split(alloc, demand)? else {
         return Ok(false);
     };
     passes_each(alloc, graph, &mut kept, x, most)

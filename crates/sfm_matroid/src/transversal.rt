@@ -15,10 +15,10 @@ ghost use Rattle.sfm_matroid.specs.TransversalLaws.{transversal-family, transver
 
 use crate::entries::Entries;
 use crate::givers::row;
-use crate::matching::{basis_of, can_be_met, matched, slot_demand};
+use crate::matching::{basis_of, matched, slot_demand};
 use crate::ranked::{adds_up, cap_of, worth, write_start};
 use crate::room::{moved, pull_of};
-use crate::splits::{SlotSplit, bring_split, slot_split};
+use crate::splits::{SlotSplit, bring_split, slot_split, try_split};
 use sfm_base::{Memory, Places, Set};
 use sfm_law::{Room, Term};
 use std::alloc::Global;
@@ -176,7 +176,8 @@ impl Term for Transversal {
             return Ok(false);
         }
         let demand = slot_demand(alloc, &self.entries, m, x, cap_of(q, self.w))?;
-        can_be_met(alloc, &demand)
+        let split = try_split(alloc, demand)?;
+        Ok(split.is_some())
     }
 
     /// The room of (u, v) at a base, by a note that is made for it.

@@ -35,7 +35,7 @@ returns-in_default c =
     let ends = g.ends.items in
     let x = c.args.x.now in
     let fm : FitsSigned w128 c.args.most = c.ranges.most in
-    let none = none_split _ _ c.in_default.not-Some (simp to_z-of_z at c.in_ok-kept.ensures) in
+    let none = none_split _ _ c.in_default.not-Some (simp to_z-of_z at (rw c.in_ok-demand.ensures at c.in_ok-kept.ensures)) in
     let more : 0 < g.ends.len = not_none g.ends.len _ c.is_empty.ensures c.if-is_empty.false in
     let some : 0 < length ends = omega (arith, more, g.ends.ok.0) in
     let pair = c.index.result.now in
@@ -54,13 +54,13 @@ returns-then-is_empty c =
     let none : g.ends.len ≡ 0 = eqb-true g.ends.len 0 (sym c.is_empty.ensures ∙ c.if-is_empty.true) in
     ((λ t a lt (e, le, is). absurd (omega (arith, l, le, none, g.ends.ok.0))), (λ h. refl))
 
-pub split-requires : goal.split-requires
-split-requires c = end_amounts_passed _ c.args.most c.args.x.now c.requires
+pub end_demand-requires : goal.end_demand-requires
+end_demand-requires c = end_amounts_passed _ c.args.most c.args.x.now c.requires
 
 pub passes_each-requires-clause-amounts : goal.passes_each-requires-clause-amounts
 passes_each-requires-clause-amounts c = end_amounts_passed _ c.args.most c.args.x.now c.requires
 
 pub passes_each-requires-clause-over : goal.passes_each-requires-clause-over
 passes_each-requires-clause-over c =
-    let h = rw c.in-Some.is at c.in_ok-kept.ensures in
+    let h = rw c.in-Some.is at (rw c.in_ok-demand.ensures at c.in_ok-kept.ensures) in
     rw h.0 (record { places = c.requires.sized; lists = refl; vertices = length-vertices _ _ _ })

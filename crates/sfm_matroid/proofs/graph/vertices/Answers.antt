@@ -2,7 +2,7 @@ use Rattle.std.proofs.Common.{◌∙◌, ◌+◌, ap, drop, get_or, sym}
 use Rattle.sfm_matroid.specs.Ends.{edges_of}
 use Rattle.sfm_matroid.specs.Numbered.{vertices_after, with_vertex}
 use Rattle.sfm_matroid.proofs.Numbering.{vertices-step}
-use Rattle.sfm_matroid.proofs.graph.put_ends.Goals as goal
+use Rattle.sfm_matroid.proofs.graph.vertices.Goals as goal
 
 pub loop-pair-preserved : goal.loop-pair-preserved
 loop-pair-preserved c =
