@@ -1,27 +1,16 @@
 -- Cutting at a byte: what is found, and what is left behind it.
-use Rattle.std.proofs.Common.{Option, Some, None, take, drop, cond, sym, ◌≡◌, ℕ, ◌+◌, ◌-◌, ◌<◌, ◌≤◌, ◌⊎◌, inl, inr, Bool, true, false, List, [], ◌∷◌, length, get_or, not, refl, arith}
+use Rattle.std.proofs.Common.{take, drop, cond, sym, ◌≡◌, ℕ, ◌+◌, ◌-◌, ◌<◌, ◌≤◌, Bool, true, false, List, [], ◌∷◌, length, get_or, not, refl, arith}
 use Prim.Native.Nat.{zero, suc}
-use Rattle.std.specs.Prelude.{◌==◌, nat_lt, unwrap_or}
+use Rattle.std.specs.Prelude.{◌==◌}
 use Rattle.std.specs.List.{All, position_or_len, slice_split, onto_first}
-use Rattle.std.proofs.lemmas.Bool.{cases_lt, lt-ltb, le-ltb, eqb-true}
+use Rattle.std.proofs.lemmas.Bool.{eqb-true}
 use Rattle.std.proofs.lemmas.List.{take_all, length-drop}
-use Rattle.std.proofs.lemmas.List.Sums.{prefix_len-le-length}
 
 -- where nothing is found, the list is the one piece
 pub split-none : (p : ℕ → Bool) (xs : List ℕ) → length xs ≤ position_or_len p xs → slice_split p xs ≡ xs ∷ []
 split-none p [] h = refl
 split-none p (x ∷ xs) h =
     elim (p x) as (λ b. (length (x ∷ xs) ≤ cond (not b) (1 + position_or_len p xs) 0) → cond b ([] ∷ slice_split p xs) (onto_first x (slice_split p xs)) ≡ (x ∷ xs) ∷ []) [ true ↦ λ k. absurd (omega arith) | false ↦ λ k. rw (split-none p xs (omega arith)) refl ] h
-
--- the place of the first element that passes, or else the length
-pub position-or : (p : ℕ → Bool) (xs : List ℕ) (r : Option ℕ) → r ≡ cond (nat_lt (position_or_len p xs) (length xs)) (Some (position_or_len p xs)) None → unwrap_or r (length xs) ≡ position_or_len p xs
-position-or p xs r h = at (cases_lt (position_or_len p xs) (length xs))
-  where
-    at : (position_or_len p xs < length xs) ⊎ (length xs ≤ position_or_len p xs) → unwrap_or r (length xs) ≡ position_or_len p xs
-    at (inl lt) = rw (h, lt-ltb (position_or_len p xs) (length xs) lt) refl
-    at (inr ge) =
-        let le : position_or_len p xs ≤ length xs = prefix_len-le-length (λ x. not (p x)) xs in
-        rw (h, le-ltb (position_or_len p xs) (length xs) ge) (omega arith)
 
 -- all that is left of a text
 pub rest-is : (text : List ℕ) (at : ℕ) → at ≤ length text → take (length text - at) (drop at text) ≡ drop at text

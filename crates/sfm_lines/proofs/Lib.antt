@@ -7,6 +7,7 @@ pub mod Colons
 pub mod Breaches
 pub mod Matches
 pub mod Steps
+pub mod Added
 pub mod GroupCuts
 pub mod Pieces
 pub mod Ranks
@@ -21,5 +22,4 @@ pub mod SplitLines
 pub mod WordLines
 pub mod TermReasons
 pub mod FewLabels
-pub mod Different
 pub mod RankTerms

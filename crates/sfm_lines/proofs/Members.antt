@@ -1,8 +1,10 @@
 -- The members of a group, as a pass over the elements of its line finds them.
-use Rattle.std.proofs.Common.{◌≡◌, ℕ, zero, suc, ◌+◌, ◌<◌, Bool, true, false, List, [], ◌∷◌, ◌++◌, ◌||◌, ◌^◌, length, get_or, map, Bor, Contains, ℤ, pos, ◌≤ℤ◌, refl, sym, ap, ◌∙◌, add-one, arith}
+use Rattle.std.proofs.Common.{◌≡◌, ◌≢◌, ℕ, zero, suc, ◌+◌, ◌<◌, Bool, true, false, List, [], ◌∷◌, ◌++◌, ◌||◌, ◌^◌, length, get_or, map, Bor, Contains, ℤ, pos, ◌≤ℤ◌, refl, sym, ap, ◌∙◌, add-one, arith}
 use Rattle.std.specs.Prelude.{bytes_eq}
 use Rattle.std.specs.List.{All, filter, range_with_len}
+use Rattle.std.proofs.lemmas.Bool.{true≢false}
 use Rattle.std.proofs.lemmas.Int.{ints}
+use Rattle.std.proofs.lemmas.List.{get_or_default}
 use Rattle.std.proofs.lemmas.Slice.Eq.{bytes_eq-Decides}
 use Rattle.std.proofs.lemmas.List.Elements.{All-filter, filter-append}
 use Rattle.std.proofs.lemmas.List.Kept.{IsStrictlyIncreasing-filter, AllPairs-from_increasing}
@@ -47,6 +49,9 @@ pub contains-among : (texts : List (List ℕ)) (text : List ℕ) → Contains te
 contains-among [] text (k, lt, e) = absurd (omega arith)
 contains-among (t ∷ texts) text (zero, lt, e) = rw ((bytes_eq-Decides t text).1 e) refl
 contains-among (t ∷ texts) text (suc k, lt, e) = rw (contains-among texts text (k, omega arith, e)) (either (bytes_eq t text))
+
+pub among-out : (texts : List (List ℕ)) (text : List ℕ) → is_among texts text ≡ false → All (λ other. other ≢ text) texts
+among-out texts text e = λ k d lt same. true≢false (sym (contains-among texts text (k, lt, get_or_default texts k text d lt ∙ same)) ∙ e)
 
 -- ---- one more element
 range-suc : (a n : ℕ) → range_with_len a (suc n) ≡ range_with_len a n ++ (a + n) ∷ []

@@ -1,12 +1,12 @@
 -- Lists in which something stands twice, or nothing.
-use Rattle.std.proofs.Common.{◌≡◌, ◌≢◌, ◌⊎◌, inl, inr, ℕ, zero, suc, ◌+◌, ◌<◌, ◌≤◌, List, [], ◌∷◌, ◌++◌, length, get_or, take, map, Contains, Some, Bor, Bool, true, false, not, nat_eq, refl, sym, ap, ◌∙◌, arith}
+use Rattle.std.proofs.Common.{◌≡◌, ◌≢◌, ℕ, suc, ◌+◌, ◌<◌, ◌≤◌, List, [], ◌∷◌, length, get_or, take, map, Contains, Some, Bor, Bool, true, false, not, nat_eq, refl, sym, ap, ◌∙◌, arith}
 use Rattle.std.specs.Cmp.Lexicographic.{pointwise, same_text}
 use Rattle.std.proofs.lemmas.Bool.{cases_lt}
 use Rattle.std.proofs.lemmas.List.Folds.{Any-from_list_any}
 use mathlib.Core.Logic.{⊎_elim}
 use Rattle.std.specs.List.{All, list_any}
 use Rattle.std.proofs.lemmas.Option.{slice_get-get_or, same_Some}
-use Rattle.std.proofs.lemmas.List.{get_or-take, get_or_default, length-take, length-map, get_or-map, take-map, take_all, map_more, map-append}
+use Rattle.std.proofs.lemmas.List.{get_or-take, get_or_default, length-take, length-map, get_or-map, take-map, take_all, map_more}
 use Rattle.std.proofs.lemmas.List.Elements.{All-get_or, All-push}
 use Rattle.sfm_lines.specs.TermLines.{StandsTwice}
 
@@ -24,15 +24,6 @@ twice-same xs d h =
 pub twice-more : {X : Type 0} (x : X) (xs : List X) → StandsTwice xs → StandsTwice (x ∷ xs)
 twice-more x xs t = twice-at (x ∷ xs) (suc t.0) (suc t.1) x (omega (arith, t.2)) (omega (arith, t.3)) (twice-same xs x t)
 
--- the first stands once more, or another twice behind it
-pub twice-split : {X : Type 0} (x : X) (xs : List X) → StandsTwice (x ∷ xs) → Contains xs x ⊎ StandsTwice xs
-twice-split x xs t = at t.0 t.1 t.2 t.3 (twice-same (x ∷ xs) x t)
-  where
-    at : (i j : ℕ) → i < j → j < length (x ∷ xs) → get_or (x ∷ xs) i x ≡ get_or (x ∷ xs) j x → Contains xs x ⊎ StandsTwice xs
-    at i zero lt within e = absurd (omega (arith, lt))
-    at zero (suc j) lt within e = inl (j, omega (arith, within), sym e)
-    at (suc i) (suc j) lt within e = inr (twice-at xs i j x (omega (arith, lt)) (omega (arith, within)) e)
-
 -- an element that stands before itself
 pub twice-seen : {X : Type 0} (xs : List X) (i : ℕ) (d : X) → i < length xs → Contains (take i xs) (get_or xs i d) → StandsTwice xs
 twice-seen xs i d lt seen =
@@ -40,13 +31,6 @@ twice-seen xs i d lt seen =
     let k_lt : k < i = omega (arith, seen.1, length-take i xs) in
     let n : k < length xs = omega arith in
     twice-at xs k i d k_lt lt (get_or_default xs k d (get_or xs i d) n ∙ (sym (get_or-take i xs k (get_or xs i d) k_lt) ∙ seen.2))
-
--- an element of a list without repeats is new
-pub fresh-at : {X : Type 0} (xs : List X) (i : ℕ) (d : X) → i < length xs → (StandsTwice xs → ⊥) → All (λ x. x ≢ get_or xs i d) (take i xs)
-fresh-at xs i d lt once = λ k e k_lt same.
-    let k_i : k < i = omega (arith, k_lt, length-take i xs) in
-    let n : k < length xs = omega arith in
-    once (twice-at xs k i d k_i lt (get_or_default xs k d e n ∙ (sym (get_or-take i xs k e k_i) ∙ same)))
 
 -- one more element that is new
 pub once-more : {X : Type 0} (xs : List X) (i : ℕ) (d : X) → i < length xs → (StandsTwice (take i xs) → ⊥) → All (λ x. x ≢ get_or xs i d) (take i xs) → StandsTwice (take (i + 1) xs) → ⊥
@@ -82,13 +66,6 @@ false_from_not false r e f = refl
 pub text-at : (texts : List (Bor (List ℕ))) (i : ℕ) (d : Bor (List ℕ)) → i < length texts → get_or (map (λ t. t.now) texts) i [] ≡ (get_or texts i d).now
 text-at texts i d lt = get_or-map (λ (t : Bor (List ℕ)). t.now) texts i d [] lt
 
--- a name of names without repeats is new
-pub name-fresh : (texts : List (Bor (List ℕ))) (i : ℕ) (d : Bor (List ℕ)) → i < length texts → (StandsTwice (map (λ t. t.now) texts) → ⊥) → All (λ x. x ≢ (get_or texts i d).now) (map (λ t. t.now) (take i texts))
-name-fresh texts i d lt once =
-    let now : Bor (List ℕ) → List ℕ = λ t. t.now in
-    let new = fresh-at (map now texts) i [] (omega (arith, lt, length-map texts now)) once in
-    rw (sym (take-map now i texts), sym (text-at texts i d lt)) new
-
 -- one more text that is new
 pub texts-once-more : (texts : List (Bor (List ℕ))) (i : ℕ) (d : Bor (List ℕ)) → i < length texts → (StandsTwice (map (λ t. t.now) (take i texts)) → ⊥) → All (λ x. x ≢ (get_or texts i d).now) (map (λ t. t.now) (take i texts)) → StandsTwice (map (λ t. t.now) (take (i + 1) texts)) → ⊥
 texts-once-more texts i d lt once new =
@@ -117,12 +94,6 @@ All-text P texts i d lt all =
     let now : Bor (List ℕ) → List ℕ = λ t. t.now in
     let at = All-get_or P (map now texts) i [] (omega (arith, lt, length-map texts now)) all in
     rw (text-at texts i d lt) at at
-
--- keys of the texts so far, with one more
-pub keys-more : (keys more texts : List (Bor (List ℕ))) (i : ℕ) (d : Bor (List ℕ)) → i < length texts → map (λ t. t.now) keys ≡ map (λ t. t.now) (take i texts) → more ≡ keys ++ get_or texts i d ∷ [] → map (λ t. t.now) more ≡ map (λ t. t.now) (take (i + 1) texts)
-keys-more keys more texts i d lt h e =
-    let now : Bor (List ℕ) → List ℕ = λ t. t.now in
-    rw (e, map-append now keys (get_or texts i d ∷ []), h, map_more now texts i d lt) refl
 
 -- one more text of which something holds
 pub All-texts-more : (P : List ℕ → Type 0) (texts : List (Bor (List ℕ))) (i : ℕ) (d : Bor (List ℕ)) → i < length texts → All P (map (λ t. t.now) (take i texts)) → P (get_or texts i d).now → All P (map (λ t. t.now) (take (i + 1) texts))

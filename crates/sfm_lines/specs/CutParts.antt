@@ -1,6 +1,6 @@
 -- How the code cuts the tokens of a line, told in the order of its steps: at the first byte or the first colon, between semicolons, and
 -- one element with labels after the other; and what it then makes of the pieces.
-use Rattle.std.specs.Prelude.{◌≡◌, ◌≢◌, ℕ, ◌-◌, ◌<◌, ◌≤◌, ◌^◌, take, slice_index, slice_get, Some, Bool, List, [], ◌∷◌, length, map, codes, bytes_eq}
+use Rattle.std.specs.Prelude.{◌≡◌, ◌≢◌, ℕ, ◌-◌, ◌<◌, ◌≤◌, ◌^◌, take, slice_index, slice_get, Some, Bool, List, [], ◌∷◌, ◌++◌, length, map, codes, bytes_eq}
 use Rattle.std.specs.List.{All, slice_split, AllZip, position_or_len}
 use Rattle.sfm_spec.specs.Kinds.{Group}
 use Rattle.sfm_laminar.specs.Crossing.{group_at}
@@ -69,6 +69,14 @@ pub record AreLabelled (rank : RankKind) (tokens : List (List ℕ)) (entries : L
 -- the number, the elements, and their labels
 abbrev pub labelled_parts_of : RankKind → List ℕ → List (List ℕ × List (List ℕ)) → LineParts
 labelled_parts_of rank number entries = record { numbers = number ∷ []; elements = map (λ entry. entry.0) entries; rank = rank; groups = []; labels = map (λ entry. entry.1) entries }
+
+-- the caps and the names of such groups, behind the numbers and the groups of a line
+abbrev pub with_groups : LineParts → List (List ℕ × List (List ℕ)) → LineParts
+with_groups parts groups = record { numbers = parts.numbers ++ map (λ group. group.0) groups; elements = parts.elements; rank = parts.rank; groups = parts.groups ++ map (λ group. group.1) groups; labels = parts.labels }
+
+-- further elements with labels, behind those of a line
+abbrev pub with_labelled : LineParts → List (List ℕ × List (List ℕ)) → LineParts
+with_labelled parts entries = record { numbers = parts.numbers; elements = parts.elements ++ map (λ entry. entry.0) entries; rank = parts.rank; groups = parts.groups; labels = parts.labels ++ map (λ entry. entry.1) entries }
 
 -- the place at which a text stands among others
 abbrev pub place_among : List (List ℕ) → List ℕ → ℕ

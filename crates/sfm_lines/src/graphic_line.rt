@@ -1,11 +1,11 @@
 // The line `rank`, a number, `graphic`, a colon, and at least one edge `name=vertex-vertex`.
-ghost use Rattle.std.specs.Prelude.{◌≡◌, ◌<◌, ℕ, List, length, map, ◌^◌, MatchOption, IfOk, codes};
-ghost use Rattle.std.specs.List.{All};
+ghost use Rattle.std.specs.Prelude.{◌≡◌, ◌<◌, ℕ, List, [], ◌∷◌, length, map, ◌^◌, MatchBool, MatchOption, IfOk, codes};
+ghost use Rattle.std.specs.List.{All, AllZip};
 ghost use Rattle.sfm_matroid.specs.Ends.{edges_of};
 ghost use Rattle.sfm_lines.specs.Lines.{texts_of};
 ghost use Rattle.sfm_lines.specs.Parts.{IsLabelToken, IsLabelledLine};
 ghost use Rattle.sfm_lines.specs.LabelTerms.{edge_between, numbers_of};
-ghost use Rattle.sfm_lines.specs.CutParts.{AreLabelled, labelled_parts_of, place_among};
+ghost use Rattle.sfm_lines.specs.CutParts.{AreLabelled, labelled_parts_of, with_labelled, place_among};
 ghost use Rattle.sfm_lines.specs.ReadParts.{AreGiven, HasLineParts, IsTermOf, parts_of, label_lists_of, joined};
 ghost use Rattle.sfm_lines.specs.declared.word.TermWord.TheVariants.{RankWord};
 ghost use Rattle.sfm_lines.specs.declared.word.RankKind.TheVariants.{GraphicRank};
@@ -22,22 +22,40 @@ use sfm_matroid::Graphic;
 use std::alloc::{AllocError, Global};
 
 /// An element and the two ends of its edge, or None where the token is no edge.
-fn cut_edge<'a>(
-    alloc: Global,
-    token: &'a [u8],
-) -> Result<Option<(&'a [u8], Labels<'a>)>, AllocError>
-    ensures { IfOk result (λ r. MatchOption r
+fn cut_edge(token: &[u8]) -> Option<(&[u8], &[u8], &[u8])>
+    ensures { MatchOption result
         ((entry : List ℕ × List (List ℕ)) → IsLabelToken GraphicRank token.now entry → ⊥)
-        (λ p. IsLabelToken GraphicRank token.now (p.0.now, texts_of p.1.texts.items))) }
+        (λ r. IsLabelToken GraphicRank token.now (r.0.now, r.1.now ∷ r.2.now ∷ [])) }
 {
     let Some((element, behind)) = cut_once(token, b'=') else {
-        return Ok(None);
+        return None;
     };
     let Some((tail, head)) = cut_once(behind, b'-') else {
-        return Ok(None);
+        return None;
     };
-    let texts = vec![in alloc; tail, head]?;
-    Ok(Some((element, Labels { texts })))
+    Some((element, tail, head))
+}
+
+/// Puts the elements of edges and their ends behind the elements and the labels of a line, up to a token that is no edge, and
+/// tells whether there is none.
+fn add_edges<'a, 'b>(
+    alloc: Global,
+    parts: &mut Parts<'a, 'b>,
+    tokens: &[&'a [u8]],
+) -> Result<bool, AllocError>
+    ensures { IfOk result (λ r. MatchBool r
+        ((entries : List (List ℕ × List (List ℕ))) × AllZip (IsLabelToken GraphicRank) (texts_of tokens.now) entries × (parts_of parts.new ≡ with_labelled (parts_of parts.old) entries))
+        ((entries : List (List ℕ × List (List ℕ))) → AllZip (IsLabelToken GraphicRank) (texts_of tokens.now) entries → ⊥)) }
+{
+    for token in tokens {
+        let Some((element, tail, head)) = cut_edge(token) else {
+            return Ok(false);
+        };
+        parts.elements.push(element)?;
+        let texts = vec![in alloc; tail, head]?;
+        parts.labels.push(Labels { texts })?;
+    }
+    Ok(true)
 }
 
 /// The parts of a line with this number and these tokens behind the colon, or None where they do not have the line's shape.
@@ -54,23 +72,11 @@ fn edge_parts<'a, 'b>(
     if tokens.is_empty() {
         return Ok(None);
     }
-    let mut elements = Vec::new(alloc);
-    let mut labels = Vec::new(alloc);
-    for token in tokens {
-        let Some((element, texts)) = cut_edge(alloc, token)? else {
-            return Ok(None);
-        };
-        elements.push(element)?;
-        labels.push(texts)?;
+    let mut parts = Parts::copied(alloc, RankKind::GraphicRank, &[number], &[])?;
+    if !add_edges(alloc, &mut parts, tokens)? {
+        return Ok(None);
     }
-    let numbers = vec![in alloc; number]?;
-    Ok(Some(Parts {
-        numbers,
-        elements,
-        rank: RankKind::GraphicRank,
-        groups: Vec::new(alloc),
-        labels,
-    }))
+    Ok(Some(parts))
 }
 
 /// The parts of the tokens behind the word, or None where they do not have the line's shape.

@@ -1,7 +1,7 @@
 // The groups of a line: whether their names are those of the line's elements, whether one stands twice, and the term that
-// they make. Names are sought in a set of the elements, since a line may have millions of either. A group's members are
-// found by going through the elements in order, so that they ascend.
-ghost use Rattle.std.specs.Prelude.{◌≡◌, ◌↔◌, ◌+◌, ◌^◌, ℕ, List, length, pos, ◌≤ℤ◌, Any, Contains, IsTrue, IfOk, MatchBool, MatchOption};
+// they make. A line of millions of names is told by passes, in `sfm_passes`; so a name is sought here by going through the
+// texts. A group's members are found by going through the elements in order, so that they ascend.
+ghost use Rattle.std.specs.Prelude.{◌≡◌, ◌+◌, ◌^◌, ℕ, List, length, pos, ◌≤ℤ◌, Any, Contains, IfOk, MatchBool, MatchOption};
 ghost use Rattle.sfm_laminar.specs.Crossing.{IsCrossing};
 ghost use Rattle.std.specs.List.{All};
 ghost use Rattle.sfm_spec.specs.Bounds.{IsAtMost};
@@ -14,7 +14,6 @@ ghost use Rattle.sfm_lines.specs.declared.word.TermWord.TheVariants.{RankWord};
 ghost use Rattle.sfm_lines.specs.declared.word.RankKind.TheVariants.{LaminarRank};
 
 use crate::kept::{keep, with_kept};
-use crate::labels::add_names;
 use crate::parts::Parts;
 use indexmap::IndexSet;
 use sfm_base::Memory;
@@ -41,28 +40,14 @@ pub fn is_known(known: &IndexSet<&[u8]>, text: &[u8]) -> bool
     known.contains(text)
 }
 
-/// Whether each name is one of the texts of which these are the different ones.
-fn are_known(known: &IndexSet<&[u8]>, names: &[&[u8]]) -> bool
-    ensures { (texts : List (List ℕ)) → texts_of known.now.keys ≡ distinct_of texts → MatchBool result
-        (All (Contains texts) (texts_of names.now))
-        (Any (λ name. Contains texts name → ⊥) (texts_of names.now)) }
+/// Whether each name is one of the elements of the line.
+fn are_among(elements: &[&[u8]], names: &[&[u8]]) -> bool
+    ensures { MatchBool result
+        (All (Contains (texts_of elements.now)) (texts_of names.now))
+        (Any (λ name. Contains (texts_of elements.now) name → ⊥) (texts_of names.now)) }
 {
     for name in names {
-        if !is_known(known, name) {
-            return false;
-        }
-    }
-    true
-}
-
-/// Whether each name of each group is one of the texts of which these are the different ones.
-fn are_all_known(known: &IndexSet<&[u8]>, groups: &[&[&[u8]]]) -> bool
-    ensures { (texts : List (List ℕ)) → texts_of known.now.keys ≡ distinct_of texts → MatchBool result
-        (All (λ names. All (Contains texts) names) (text_lists_of groups.now))
-        (Any (λ names. Any (λ name. Contains texts name → ⊥) names) (text_lists_of groups.now)) }
-{
-    for names in groups {
-        if !are_known(known, names) {
+        if !is_one_of(elements, name) {
             return false;
         }
     }
@@ -70,37 +55,45 @@ fn are_all_known(known: &IndexSet<&[u8]>, groups: &[&[&[u8]]]) -> bool
 }
 
 /// Whether each name of each group is one of the elements of the line.
-pub fn are_members(alloc: Global, elements: &[&[u8]], groups: &[&[&[u8]]]) -> Result<bool, Memory>
-    ensures { IfOk result (λ r. MatchBool r
+pub fn are_members(elements: &[&[u8]], groups: &[&[&[u8]]]) -> bool
+    ensures { MatchBool result
         (All (λ names. All (Contains (texts_of elements.now)) names) (text_lists_of groups.now))
-        (Any (λ names. Any (λ name. Contains (texts_of elements.now) name → ⊥) names) (text_lists_of groups.now))) }
+        (Any (λ names. Any (λ name. Contains (texts_of elements.now) name → ⊥) names) (text_lists_of groups.now)) }
 {
-    let mut known = IndexSet::new(alloc);
-    add_names(&mut known, elements)?;
-    Ok(are_all_known(&known, groups))
+    for names in groups {
+        if !are_among(elements, names) {
+            return false;
+        }
+    }
+    true
 }
 
-/// Whether some name stands twice: then there are fewer different ones.
-fn has_repeat(alloc: Global, names: &[&[u8]]) -> Result<bool, Memory>
-    ensures { IfOk result (λ r. IsTrue r ↔ StandsTwice (texts_of names.now)) }
+/// Whether some name stands twice.
+fn has_repeat(names: &[&[u8]]) -> bool
+    ensures { MatchBool result
+        (StandsTwice (texts_of names.now))
+        (StandsTwice (texts_of names.now) → ⊥) }
 {
-    let mut different = IndexSet::new(alloc);
-    add_names(&mut different, names)?;
-    Ok(different.len() < names.len())
+    for i in 0..names.len() {
+        if is_one_of(&names[..i], names[i]) {
+            return true;
+        }
+    }
+    false
 }
 
 /// Whether a name stands twice in some group.
-pub fn has_member_twice(alloc: Global, groups: &[&[&[u8]]]) -> Result<bool, Memory>
-    ensures { IfOk result (λ r. MatchBool r
+pub fn has_member_twice(groups: &[&[&[u8]]]) -> bool
+    ensures { MatchBool result
         (Any (λ names. StandsTwice names) (text_lists_of groups.now))
-        (All (λ names. StandsTwice names → ⊥) (text_lists_of groups.now))) }
+        (All (λ names. StandsTwice names → ⊥) (text_lists_of groups.now)) }
 {
     for names in groups {
-        if has_repeat(alloc, names)? {
-            return Ok(true);
+        if has_repeat(names) {
+            return true;
         }
     }
-    Ok(false)
+    false
 }
 
 /// The places in the line of those elements that are among the names, in ascending order.
@@ -108,8 +101,8 @@ pub fn members(alloc: Global, elements: &[&[u8]], names: &[&[u8]]) -> Result<Vec
     ensures members { IfOk result (λ r. r.items ≡ members_of (texts_of elements.now) (texts_of names.now)) }
 {
     let mut members = Vec::new(alloc);
-    for (e, element) in elements.iter().enumerate() {
-        if is_one_of(names, element) {
+    for e in 0..elements.len() {
+        if is_one_of(names, elements[e]) {
             members.push(e)?;
         }
     }

@@ -1,9 +1,10 @@
 // The line `rank`, a number, `laminar`, a colon, at least one element, and any number of groups: for each a semicolon, a cap,
 // and at least one name of an element of the line.
-ghost use Rattle.std.specs.Prelude.{◌≡◌, ℕ, List, MatchOption, IfOk};
+ghost use Rattle.std.specs.Prelude.{◌≡◌, ℕ, List, MatchBool, MatchOption, IfOk};
+ghost use Rattle.std.specs.List.{AllZip};
 ghost use Rattle.sfm_lines.specs.Lines.{texts_of, text_lists_of};
 ghost use Rattle.sfm_lines.specs.Parts.{IsLaminarLine};
-ghost use Rattle.sfm_lines.specs.CutParts.{is_semicolon, cut_at_semicolons, IsGroupCut, AreGroupsCut, laminar_parts_of};
+ghost use Rattle.sfm_lines.specs.CutParts.{is_semicolon, cut_at_semicolons, IsGroupCut, AreGroupsCut, laminar_parts_of, with_groups};
 ghost use Rattle.sfm_lines.specs.ReadParts.{HasLineParts, parts_of};
 
 use crate::mark::has_mark;
@@ -43,6 +44,26 @@ fn cut_group<'a, 'b>(tokens: &'b [&'a [u8]]) -> Option<(&'a [u8], &'b [&'a [u8]]
     Some((*cap, names))
 }
 
+/// Puts the caps and the names of the groups that pieces tell behind the numbers and the groups of a line, up to a piece that
+/// is no group, and tells whether there is none.
+fn add_groups<'a, 'b>(
+    parts: &mut Parts<'a, 'b>,
+    pieces: &[&'b [&'a [u8]]],
+) -> Result<bool, AllocError>
+    ensures { IfOk result (λ r. MatchBool r
+        ((groups : List (List ℕ × List (List ℕ))) × AllZip IsGroupCut (text_lists_of pieces.now) groups × (parts_of parts.new ≡ with_groups (parts_of parts.old) groups))
+        ((groups : List (List ℕ × List (List ℕ))) → AllZip IsGroupCut (text_lists_of pieces.now) groups → ⊥)) }
+{
+    for piece in pieces {
+        let Some((cap, names)) = cut_group(piece) else {
+            return Ok(false);
+        };
+        parts.numbers.push(cap)?;
+        parts.groups.push(names)?;
+    }
+    Ok(true)
+}
+
 /// The parts of a line with this first number, of the pieces that its tokens behind the colon are cut into, or None where
 /// they do not have the line's shape.
 fn group_parts<'a, 'b>(
@@ -61,23 +82,11 @@ fn group_parts<'a, 'b>(
     if elements.is_empty() || has_mark(elements) {
         return Ok(None);
     }
-    let mut numbers = vec![in alloc; number]?;
-    let mut groups = Vec::new(alloc);
-    for piece in rest {
-        let Some((cap, names)) = cut_group(piece) else {
-            return Ok(None);
-        };
-        numbers.push(cap)?;
-        groups.push(names)?;
+    let mut parts = Parts::copied(alloc, RankKind::LaminarRank, &[number], elements)?;
+    if !add_groups(&mut parts, rest)? {
+        return Ok(None);
     }
-    let elements = Vec::from_slice(alloc, elements)?;
-    Ok(Some(Parts {
-        numbers,
-        elements,
-        rank: RankKind::LaminarRank,
-        groups,
-        labels: Vec::new(alloc),
-    }))
+    Ok(Some(parts))
 }
 
 /// The parts of the tokens behind the word, or None where they do not have the line's shape.

@@ -12,7 +12,7 @@ pub mod line_parts;
 pub mod mark;
 mod names;
 pub mod pair;
-mod parts;
+pub mod parts;
 mod rank_head;
 mod reason;
 mod stage;

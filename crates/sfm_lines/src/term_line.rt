@@ -1,6 +1,7 @@
 // Reading a term line: its parts are cut out by its word, and each kind of part is then read once for all words.
 ghost use Rattle.std.specs.Prelude.{◌≡◌, ◌<◌, ◌↔◌, ◌∷◌, ◌^◌, ℕ, List, ℤ, pos, neg_ℤ, ◌≤ℤ◌, Any, IsTrue, IfOk, IfErr, MatchOption, Some, ◌≢◌, length};
 ghost use Rattle.std.specs.List.{All, AllZip};
+ghost use Rattle.sfm_kind.specs.Instance.{InstanceData};
 ghost use Rattle.sfm_kind.specs.Names.{IsNewName, AreElementNames};
 ghost use Rattle.sfm_lines.specs.Lines.{texts_of};
 ghost use Rattle.sfm_lines.specs.Words.{HasParts, lowest_of, word_text};
@@ -18,7 +19,7 @@ use crate::parts::Parts;
 use crate::reason::Reason;
 use crate::terms::make_term;
 use crate::word::TermWord;
-use sfm_base::{Memory, read_number};
+use sfm_base::read_number;
 use sfm_kind::{Instance, Kind};
 use std::alloc::{AllocError, Global};
 
@@ -121,8 +122,8 @@ pub fn known_places(
 pub fn has_place_twice(places: &[usize]) -> bool
     ensures { IsTrue result ↔ StandsTwice places.now }
 {
-    for (i, place) in places.iter().enumerate() {
-        if places[..i].contains(place) {
+    for i in 0..places.len() {
+        if places[..i].contains(&places[i]) {
             return true;
         }
     }
@@ -130,24 +131,54 @@ pub fn has_place_twice(places: &[usize]) -> bool
 }
 
 /// The first reason of the groups, the labels and the places of a line with these parts, or None where there is none.
-fn parts_reason(alloc: Global, parts: &Parts, places: &[usize]) -> Result<Option<Reason>, Memory>
-    ensures { IfOk result (λ r. MatchOption r
+fn parts_reason(parts: &Parts, places: &[usize]) -> Option<Reason>
+    ensures { MatchOption result
         (ArePartsGood (parts_of parts.now) places.now)
-        (IsPartsReason (parts_of parts.now) places.now)) }
+        (IsPartsReason (parts_of parts.now) places.now) }
 {
-    if !are_members(alloc, &parts.elements, &parts.groups)? {
-        return Ok(Some(Reason::Name));
+    if !are_members(&parts.elements, &parts.groups) {
+        return Some(Reason::Name);
     }
     if !are_labels(&parts.labels) {
-        return Ok(Some(Reason::Name));
+        return Some(Reason::Name);
     }
     if has_place_twice(places) {
-        return Ok(Some(Reason::Twice));
+        return Some(Reason::Twice);
     }
-    if has_member_twice(alloc, &parts.groups)? {
-        return Ok(Some(Reason::Twice));
+    if has_member_twice(&parts.groups) {
+        return Some(Reason::Twice);
     }
-    Ok(None)
+    None
+}
+
+/// The term of a line with this word and these parts, whose numbers and places have been read, or the first reason for which it
+/// has none.
+fn placed_term(
+    alloc: Global,
+    word: TermWord,
+    parts: &Parts,
+    values: &[i128],
+    places: &[usize],
+) -> Result<Kind, LineEnd>
+    requires shape { (rest : List (List ℕ)) × HasParts word rest (parts_of parts.now) }
+    requires numbers { AllZip (IsNumberFrom (lowest_of word)) (parts_of parts.now).numbers values.now }
+    requires elements { (names : List (List ℕ)) × AreElementNames names × AllZip (IsElement names) (parts_of parts.now).elements places.now }
+    requires other { (parts_of parts.now).rank ≢ TransversalRank }
+    requires few { length (joined (parts_of parts.now).labels) < 2 ^ 24 }
+    ensures read { (instance : InstanceData) → AreElementNames instance.names → AllZip (IsElement instance.names) (parts_of parts.now).elements places.now
+        → IfOk result (λ term. (rest : List (List ℕ)) → HasParts word rest (parts_of parts.now) → IsTermRead instance word rest term) }
+    ensures refused { (instance : InstanceData) → AreElementNames instance.names → AllZip (IsElement instance.names) (parts_of parts.now).elements places.now
+        → IfErr result (λ e. (rest : List (List ℕ)) (line : List ℕ) → HasParts word rest (parts_of parts.now)
+        → IsLineOf line (word_text word ∷ rest)
+        → IsLineRefusal (state_at Terms instance) line e) }
+{
+    if let Some(reason) = parts_reason(parts, places) {
+        return Err(LineEnd::Fault(reason));
+    }
+    match make_term(alloc, word, parts, values, places)? {
+        Some(term) => Ok(term),
+        None => Err(LineEnd::Fault(Reason::Law)),
+    }
 }
 
 /// The term of a line with this word and these parts, or the first reason for which it has none.
@@ -172,14 +203,7 @@ fn parts_term(
     let Some(places) = read_places(alloc, instance, &parts.elements)? else {
         return Err(LineEnd::Fault(Reason::Name));
     };
-    let fault = parts_reason(alloc, parts, &places)?;
-    if let Some(reason) = fault {
-        return Err(LineEnd::Fault(reason));
-    }
-    match make_term(alloc, word, parts, &values, &places)? {
-        Some(term) => Ok(term),
-        None => Err(LineEnd::Fault(Reason::Law)),
-    }
+    placed_term(alloc, word, parts, &values, &places)
 }
 
 /// The term that a line with this word stands for, or the first reason for which it has none; a line of a transversal rank is read

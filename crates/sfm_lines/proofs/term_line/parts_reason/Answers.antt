@@ -2,8 +2,8 @@ use Rattle.std.proofs.Common.{inl, inr, refl}
 use Rattle.std.proofs.lemmas.Bool.{false≢true}
 use Rattle.sfm_lines.proofs.term_line.parts_reason.Goals as goal
 
-pub returns-then-not-branch : goal.returns-then-not-branch
-returns-then-not-branch c = inl (rw (c.deref.ensures.value, c.deref-2.ensures.value) at rw c.if-not-branch.true at c.in_ok-are_members.ensures)
+pub returns-then-not-are_members : goal.returns-then-not-are_members
+returns-then-not-are_members c = inl (rw (c.deref.ensures.value, c.deref-2.ensures.value) at c.if-not-are_members.ensures)
 
 pub returns-then-not-are_labels : goal.returns-then-not-are_labels
 returns-then-not-are_labels c = inr (rw c.deref-3.ensures.value at c.if-not-are_labels.ensures)
@@ -11,27 +11,27 @@ returns-then-not-are_labels c = inr (rw c.deref-3.ensures.value at c.if-not-are_
 pub returns-then-has_place_twice : goal.returns-then-has_place_twice
 returns-then-has_place_twice c = (
   record {
-    members = rw (c.deref.ensures.value, c.deref-2.ensures.value) at rw c.if-not-branch.false at c.in_ok-are_members.ensures;
+    members = rw (c.deref.ensures.value, c.deref-2.ensures.value) at c.if-not-are_members.ensures;
     labels = rw c.deref-3.ensures.value at c.if-not-are_labels.ensures;
   },
   inl (c.if-has_place_twice.ensures.0 refl),
 )
 
-pub returns-then-branch : goal.returns-then-branch
-returns-then-branch c = (
+pub returns-then-has_member_twice : goal.returns-then-has_member_twice
+returns-then-has_member_twice c = (
   record {
-    members = rw (c.deref.ensures.value, c.deref-2.ensures.value) at rw c.if-not-branch.false at c.in_ok-are_members.ensures;
+    members = rw (c.deref.ensures.value, c.deref-2.ensures.value) at c.if-not-are_members.ensures;
     labels = rw c.deref-3.ensures.value at c.if-not-are_labels.ensures;
   },
-  inr (rw c.deref-4.ensures.value at rw c.if-branch.true at c.in_ok-has_member_twice.ensures),
+  inr (rw c.deref-4.ensures.value at c.if-has_member_twice.ensures),
 )
 
 pub returns : goal.returns
 returns c = record {
   named = record {
-    members = rw (c.deref.ensures.value, c.deref-2.ensures.value) at rw c.if-not-branch.false at c.in_ok-are_members.ensures;
+    members = rw (c.deref.ensures.value, c.deref-2.ensures.value) at c.if-not-are_members.ensures;
     labels = rw c.deref-3.ensures.value at c.if-not-are_labels.ensures;
   };
   once = λ t. false≢true (c.if-has_place_twice.ensures.1 t);
-  members_once = rw c.deref-4.ensures.value at rw c.if-branch.false at c.in_ok-has_member_twice.ensures;
+  members_once = rw c.deref-4.ensures.value at c.if-has_member_twice.ensures;
 }
