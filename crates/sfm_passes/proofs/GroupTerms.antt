@@ -1,5 +1,5 @@
 -- The groups that the pieces of a line tell, those that are kept as they are read one after another, and the term of the line.
-use Rattle.std.proofs.Common.{◌≡◌, ◌<◌, ◌+◌, ℕ, suc, List, [], ◌∷◌, ◌++◌, length, get_or, map, ℤ, pos, refl, sym, ap, ◌∙◌, length-append, add-one, arith}
+use Rattle.std.proofs.Common.{◌≡◌, ◌<◌, ◌+◌, ℕ, suc, List, [], ◌∷◌, ◌++◌, length, get_or, map, ℤ, pos, Option, Some, None, MatchOption, refl, sym, ap, ◌∙◌, length-append, add-one, arith}
 use Rattle.std.specs.List.{All, AllZip}
 use Rattle.std.proofs.lemmas.Int.{ints}
 use Rattle.std.proofs.lemmas.List.{same_lists, length-map, get_or-map, get_or_append_left}
@@ -165,6 +165,14 @@ told-sound elements pieces all kept told is = rw is (least-each IsGroup all (All
 
 pub told-below : (elements : List (List ℕ)) (pieces : List (List (List ℕ))) (all kept : List Group) → AllZip (IsGroupOf elements) pieces all → kept ≡ least_groups all → (k : ℕ) → k ≡ length elements → All (IsBelow k) kept
 told-below elements pieces all kept told is k same = rw (same, is) (least-each (IsBelow (length elements)) all (All-AllZip (IsGroupOf elements) (IsBelow (length elements)) (group-below elements) pieces all told))
+
+-- what the kept groups of all pieces tell is told of all groups
+pub pieces-told : (elements : List (List ℕ)) (pieces : List (List (List ℕ))) (all kept : List Group) (places : List ℕ) (given w : ℤ) → AllZip (IsGroupOf elements) pieces all → kept ≡ least_groups all → given ≡ w → (r : Option laminars.Laminar)
+    → MatchOption r ((i : ℕ) × (j : ℕ) × IsCrossing kept i j) (λ term. (term.places ≡ places) × (term.w ≡ given) × (term.groups ≡ kept) × ((i j : ℕ) → IsCrossing kept i j → ⊥))
+    → MatchOption r ((every : List Group) × AllZip (IsGroupOf elements) pieces every × ((i : ℕ) × (j : ℕ) × IsCrossing every i j))
+    (λ term. (every : List Group) × AllZip (IsGroupOf elements) pieces every × (term.places ≡ places) × (term.w ≡ w) × (term.groups ≡ least_groups every) × ((i j : ℕ) → IsCrossing (least_groups every) i j → ⊥))
+pieces-told elements pieces all kept places given w told is fits None cross = (all, told, crossing-from all (rw is at cross))
+pieces-told elements pieces all kept places given w told is fits (Some term) (same_places, same_w, same_groups, none) = (all, told, same_places, same_w ∙ fits, same_groups ∙ is, λ i j h. none i j (rw is h))
 
 -- ---- the elements
 

@@ -1,5 +1,5 @@
 -- What a token of a long line is tried for, and what the reason of such a line is.
-use Rattle.std.specs.Prelude.{◌≡◌, ◌≢◌, ℕ, ◌<◌, ◌≤◌, List, [], ◌∷◌, ◌++◌, length, codes, Any, ℤ}
+use Rattle.std.specs.Prelude.{◌≡◌, ◌≢◌, ℕ, ◌<◌, ◌≤◌, List, [], ◌∷◌, ◌++◌, length, map, take, codes, Any, ℤ}
 use Rattle.std.specs.List.{All, AllZip}
 use Rattle.sfm_spec.specs.Names.{IsName}
 use Rattle.sfm_kind.specs.Instance.{InstanceData}
@@ -84,6 +84,15 @@ pub record AreFewEntries (names : List (List ℕ)) (number colon : List ℕ) (to
   pub good : AreGoodEntries names TransversalRank number colon tokens
   pub few : length tokens ≤ 256
   pub once : All (λ token. RepeatsSlot token → ⊥) tokens
+
+-- elements and first slots, as many of each entry as there are entries, of such entries of which there is at least one
+pub record AreCutEntries (names : List (List ℕ)) (number colon : List ℕ) (tokens : List (List ℕ)) (parts : LineParts) : Type 0 where
+  pub good : AreFewEntries names number colon tokens
+  pub some : 0 < length tokens
+  pub entries : List (List ℕ × List (List ℕ))
+  pub each : AllZip (IsLabelToken TransversalRank) tokens entries
+  pub elements_are : parts.elements ≡ map (λ entry. entry.0) entries
+  pub labels_are : parts.labels ≡ map (λ entry. take (length tokens) entry.1) entries
 
 -- the tokens are those that are kept and then the rest, and none is kept twice
 pub record IsKept (tokens kept rest : List (List ℕ)) : Type 0 where

@@ -1,7 +1,7 @@
 // The line `rank`, a number, `transversal`, a colon, and at least one entry `name=slot,slot,..`, judged by passes over it, and its
 // term. An entry may have millions of slots, so no list of them is made: of each entry as many of its first slots are kept as the
 // line has elements. These suffice, since a member of a part that has none of them finds one that no other member has.
-ghost use Rattle.std.specs.Prelude.{◌≡◌, ◌<◌, ◌≤ℤ◌, ◌∷◌, ◌^◌, ℕ, List, codes, length, map, pos, take, IfOk, MatchOption, MatchResult};
+ghost use Rattle.std.specs.Prelude.{◌≡◌, ◌<◌, ◌≤ℤ◌, [], ◌∷◌, ◌++◌, ◌^◌, ℕ, List, codes, length, map, pos, take, IfOk, OnOk, MatchOption, MatchResult};
 ghost use Rattle.std.specs.List.{All, AllZip};
 ghost use Rattle.sfm_spec.specs.Bounds.{IsGiven, AreElements};
 ghost use Rattle.sfm_kind.specs.Names.{AreElementNames};
@@ -9,8 +9,8 @@ ghost use Rattle.sfm_lines.specs.Lines.{pieces_of, texts_of, tokens_of};
 ghost use Rattle.sfm_lines.specs.Parts.{IsLabelToken};
 ghost use Rattle.sfm_lines.specs.CutParts.{place_among};
 ghost use Rattle.sfm_lines.specs.LabelTerms.{numbers_of};
-ghost use Rattle.sfm_lines.specs.ReadParts.{IsTermRead, label_lists_of, joined};
-ghost use Rattle.sfm_passes.specs.Passes.{AreFewEntries, IsReasonOf};
+ghost use Rattle.sfm_lines.specs.ReadParts.{IsTermRead, label_lists_of, joined, parts_of};
+ghost use Rattle.sfm_passes.specs.Passes.{AreFewEntries, AreCutEntries, IsReasonOf};
 ghost use Rattle.sfm_passes.specs.GroupPasses.{IsRefusedBy};
 ghost use Rattle.sfm_lines.specs.declared.word.TermWord.TheVariants.{RankWord};
 ghost use Rattle.sfm_lines.specs.declared.word.RankKind.TheVariants.{TransversalRank};
@@ -23,6 +23,7 @@ use sfm_base::Memory;
 use sfm_kind::{Instance, Kind};
 use sfm_lines::labels::{Labels, different, numbers};
 use sfm_lines::pair::cut_once;
+use sfm_lines::parts::Parts;
 use sfm_lines::term_line::{has_place_twice, known_number, known_places};
 use sfm_lines::tokens::{first_token, has_token};
 use sfm_lines::word::{RankKind, TermWord};
@@ -70,43 +71,45 @@ fn first_slots<'a>(alloc: Global, text: &'a [u8], count: usize) -> Result<Vec<&'
     text.split(|c| *c == b',').take(count).collect(alloc)
 }
 
-/// The element of an entry, and its first so many slots.
-fn cut_entry<'a>(
+/// Puts the element of an entry and its first so many slots behind the elements and the labels of a line.
+fn add_entry<'a, 'b>(
     alloc: Global,
+    parts: &mut Parts<'a, 'b>,
     token: &'a [u8],
     count: usize,
-) -> Result<(&'a [u8], Labels<'a>), AllocError>
+) -> Result<(), AllocError>
     requires { (entry : List ℕ × List (List ℕ)) × IsLabelToken TransversalRank token.now entry }
-    ensures { IfOk result (λ r. (entry : List ℕ × List (List ℕ)) × IsLabelToken TransversalRank token.now entry
-        × (r.0.now ≡ entry.0) × (texts_of r.1.texts.items ≡ take count entry.1)) }
+    ensures { OnOk result ((entry : List ℕ × List (List ℕ)) × IsLabelToken TransversalRank token.now entry
+        × ((parts_of parts.new).elements ≡ (parts_of parts.old).elements ++ entry.0 ∷ []) × ((parts_of parts.new).labels ≡ (parts_of parts.old).labels ++ take count entry.1 ∷ [])) }
 {
     let Some((element, behind)) = cut_once(token, b'=') else {
         unreachable!();
     };
+    parts.elements.push(element)?;
     let texts = first_slots(alloc, behind, count)?;
-    Ok((element, Labels { texts }))
+    parts.labels.push(Labels { texts })?;
+    Ok(())
 }
 
-/// The elements of the entries of a line, and of each its first so many slots.
-fn cut_entries<'a>(
+/// Puts the elements of the entries of a line, and of each its first so many slots, where there were neither elements nor labels.
+fn add_entries<'a, 'b>(
     alloc: Global,
+    parts: &mut Parts<'a, 'b>,
     line: &'a [u8],
     count: usize,
-) -> Result<(Vec<&'a [u8]>, Vec<Labels<'a>>), AllocError>
-    requires { All (λ token. (entry : List ℕ × List (List ℕ)) × IsLabelToken TransversalRank token entry) (tokens_of line.now) }
-    ensures { IfOk result (λ r. (entries : List (List ℕ × List (List ℕ))) × AllZip (IsLabelToken TransversalRank) (tokens_of line.now) entries
-        × (texts_of r.0.items ≡ map (λ entry. entry.0) entries) × (label_lists_of r.1.items ≡ map (λ entry. take count entry.1) entries)) }
+) -> Result<(), AllocError>
+    requires elements { (parts_of parts.old).elements ≡ [] }
+    requires labels { (parts_of parts.old).labels ≡ [] }
+    requires each { All (λ token. (entry : List ℕ × List (List ℕ)) × IsLabelToken TransversalRank token entry) (tokens_of line.now) }
+    ensures { OnOk result ((entries : List (List ℕ × List (List ℕ))) × AllZip (IsLabelToken TransversalRank) (tokens_of line.now) entries
+        × ((parts_of parts.new).elements ≡ map (λ entry. entry.0) entries) × ((parts_of parts.new).labels ≡ map (λ entry. take count entry.1) entries)) }
 {
-    let mut elements = Vec::new(alloc);
-    let mut labels = Vec::new(alloc);
     let mut left = line;
     while let Some((token, behind)) = first_token(left) {
-        let (element, slots) = cut_entry(alloc, token, count)?;
-        elements.push(element)?;
-        labels.push(slots)?;
+        add_entry(alloc, parts, token, count)?;
         left = behind;
     }
-    Ok((elements, labels))
+    Ok(())
 }
 
 /// The slots of the elements, by the places of their names among these.
@@ -143,6 +146,28 @@ fn transversal(
     Transversal::new(alloc, places, w, entries)
 }
 
+/// The term of a line with this number, whose entries have these elements and these first slots, or the first reason of it.
+fn cut_term(
+    alloc: Global,
+    instance: &Instance,
+    number: &[u8],
+    parts: &Parts,
+) -> Result<Kind, LineEnd>
+    requires names { AreElementNames instance.now.names }
+    requires cut { (colon : List ℕ) × (tokens : List (List ℕ)) × AreCutEntries instance.now.names number.now colon tokens (parts_of parts.now) }
+    ensures { (colon : List ℕ) (tokens : List (List ℕ)) → AreCutEntries instance.now.names number.now colon tokens (parts_of parts.now) → MatchResult result
+        (IsTermRead instance.now RankWord (number.now ∷ codes "transversal" ∷ colon ∷ tokens))
+        (IsRefusedBy instance.now RankWord (number.now ∷ codes "transversal" ∷ colon ∷ tokens)) }
+{
+    let w = known_number(TermWord::RankWord, number);
+    let places = known_places(alloc, instance, &parts.elements)?;
+    if has_place_twice(&places) {
+        return Err(LineEnd::Fault(Reason::Twice));
+    }
+    let term = transversal(alloc, &places, w, &parts.labels)?;
+    Ok(Kind::Transversal(term))
+}
+
 /// The term of a line with this number, this token in the place of the colon and these entries, or the first reason of it.
 fn entries_term(
     alloc: Global,
@@ -161,14 +186,9 @@ fn entries_term(
     if let Some(reason) = fault {
         return Err(LineEnd::Fault(reason));
     }
-    let w = known_number(TermWord::RankWord, number);
-    let (elements, labels) = cut_entries(alloc, entries, token_count(entries))?;
-    let places = known_places(alloc, instance, &elements)?;
-    if has_place_twice(&places) {
-        return Err(LineEnd::Fault(Reason::Twice));
-    }
-    let term = transversal(alloc, &places, w, &labels)?;
-    Ok(Kind::Transversal(term))
+    let mut parts = Parts::copied(alloc, RankKind::TransversalRank, &[], &[])?;
+    add_entries(alloc, &mut parts, entries, token_count(entries))?;
+    cut_term(alloc, instance, number, &parts)
 }
 
 /// The term of a line of a transversal rank with this number and these tokens behind its word, or the first reason of it.

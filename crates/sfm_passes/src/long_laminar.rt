@@ -1,9 +1,9 @@
 // The line of a laminar rank judged by passes over it, and its term. Such a line may be good however many groups it has, so its
 // groups are taken one after another, and of those with the same members one is kept. Where more are kept than there are sets of
 // 256 elements of which no two cross, it is told at once whether some cross, so that little is kept of any line.
-ghost use Rattle.std.specs.Prelude.{◌≡◌, ◌∷◌, ℕ, List, codes, length, IsTrue, IfOk, MatchOption, MatchResult};
+ghost use Rattle.std.specs.Prelude.{◌≡◌, [], ◌∷◌, ◌≤ℤ◌, ℕ, List, codes, length, pos, IsTrue, IfOk, MatchBool, MatchOption, MatchResult};
 ghost use Rattle.std.specs.List.{All, AllZip};
-ghost use Rattle.sfm_spec.specs.Bounds.{AreElements};
+ghost use Rattle.sfm_spec.specs.Bounds.{IsGiven, AreElements};
 ghost use Rattle.sfm_spec.specs.Kinds.{Group};
 ghost use Rattle.sfm_kind.specs.Names.{AreElementNames};
 ghost use Rattle.sfm_laminar.specs.Crossing.{IsCrossing};
@@ -24,7 +24,7 @@ use crate::piece_cut::first_piece;
 use crate::token_test::{TokenTest, is_number_of};
 use sfm_base::Memory;
 use sfm_kind::{Instance, Kind};
-use sfm_laminar::CappedGroup;
+use sfm_laminar::{CappedGroup, Laminar};
 use sfm_lines::groups::members;
 use sfm_lines::kept::{keep, with_kept};
 use sfm_lines::mark::is_mark;
@@ -120,34 +120,61 @@ fn has_early_crossing(alloc: Global, places: &[usize], kept: &[CappedGroup]) -> 
     }
 }
 
-/// The groups that the pieces tell, of those with the same members one with the least cap, or None where some cross.
-fn kept_groups(
+/// Keeps the groups that the pieces tell, of those with the same members one with the least cap, and tells whether some cross.
+fn keep_groups(
     alloc: Global,
+    kept: &mut Vec<CappedGroup>,
     places: &[usize],
     elements: &[&[u8]],
     groups: Option<&[u8]>,
-) -> Result<Option<Vec<CappedGroup>>, Memory>
+) -> Result<bool, Memory>
+    requires none { kept.old.items ≡ [] }
     requires elements { AreElements places.now }
     requires named { length places.now ≡ length elements.now }
     requires whole { All (GroupHolds Whole) (pieces_left groups) }
     requires caps { All (GroupHolds Cap) (pieces_left groups) }
-    ensures { IfOk result (λ r. MatchOption r
+    ensures { IfOk result (λ r. MatchBool r
         ((all : List Group) × AllZip (IsGroupOf (texts_of elements.now)) (pieces_left groups.entry) all × ((i : ℕ) × (j : ℕ) × IsCrossing all i j))
-        (λ kept. (all : List Group) × AllZip (IsGroupOf (texts_of elements.now)) (pieces_left groups.entry) all × (kept.items ≡ least_groups all))) }
+        ((all : List Group) × AllZip (IsGroupOf (texts_of elements.now)) (pieces_left groups.entry) all × (kept.new.items ≡ least_groups all))) }
 {
-    let mut kept = Vec::new(alloc);
     let mut left = groups;
     while let Some(line) = left {
         let (piece, rest) = first_piece(line);
         let group = piece_group(alloc, elements, piece)?;
-        keep(&mut kept, group)?;
-        let crosses = has_early_crossing(alloc, places, &kept)?;
+        keep(kept, group)?;
+        let crosses = has_early_crossing(alloc, places, kept)?;
         if crosses {
-            return Ok(None);
+            return Ok(true);
         }
         left = rest;
     }
-    Ok(Some(kept))
+    Ok(false)
+}
+
+/// The term with this number at these places and the groups that the pieces tell, or None where some cross.
+fn pieces_term(
+    alloc: Global,
+    places: &[usize],
+    w: i128,
+    elements: &[&[u8]],
+    groups: Option<&[u8]>,
+) -> Result<Option<Laminar>, Memory>
+    requires elements { AreElements places.now }
+    requires named { length places.now ≡ length elements.now }
+    requires low { pos 0 ≤ℤ w }
+    requires given { IsGiven w }
+    requires whole { All (GroupHolds Whole) (pieces_left groups) }
+    requires caps { All (GroupHolds Cap) (pieces_left groups) }
+    ensures { IfOk result (λ r. MatchOption r
+        ((all : List Group) × AllZip (IsGroupOf (texts_of elements.now)) (pieces_left groups.entry) all × ((i : ℕ) × (j : ℕ) × IsCrossing all i j))
+        (λ term. (all : List Group) × AllZip (IsGroupOf (texts_of elements.now)) (pieces_left groups.entry) all
+        × (term.places ≡ places.now) × (term.w ≡ w) × (term.groups ≡ least_groups all) × ((i j : ℕ) → IsCrossing (least_groups all) i j → ⊥))) }
+{
+    let mut kept = Vec::new(alloc);
+    if keep_groups(alloc, &mut kept, places, elements, groups)? {
+        return Ok(None);
+    }
+    with_kept(alloc, places, w, &kept)
 }
 
 /// The term of a line with this number, these elements and these groups, or the first reason of it.
@@ -170,12 +197,7 @@ fn groups_term(
     let w = known_number(TermWord::RankWord, number);
     let elements = tokens(alloc, elements)?;
     let places = known_places(alloc, instance, &elements)?;
-    let told = kept_groups(alloc, &places, &elements, groups)?;
-    let Some(kept) = told else {
-        return Err(LineEnd::Fault(Reason::Law));
-    };
-    let made = with_kept(alloc, &places, w, &kept)?;
-    match made {
+    match pieces_term(alloc, &places, w, &elements, groups)? {
         Some(laminar) => Ok(Kind::Laminar(laminar)),
         None => Err(LineEnd::Fault(Reason::Law)),
     }

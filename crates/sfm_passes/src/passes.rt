@@ -100,24 +100,36 @@ fn has_kept(separator: Separator, kept: &IndexSet<&[u8]>, line: &[u8]) -> bool
     false
 }
 
-/// Whether some text of a line stands twice. A part of the texts is kept, and what stands behind it is compared with it, and
-/// then the next part, so that no more than one part is kept at a time.
-pub fn has_repeat_in(alloc: Global, separator: Separator, line: &[u8]) -> Result<bool, Memory>
+/// Whether some text of a line stands twice, by what is kept of it in place of what was kept. A part of the texts is kept, and
+/// what stands behind it is compared with it, and then the next part, so that no more than one part is kept at a time.
+fn repeats<'a>(
+    separator: Separator,
+    kept: &mut IndexSet<&'a [u8]>,
+    line: &'a [u8],
+) -> Result<bool, Memory>
     ensures { IfOk result (λ r. IsTrue r ↔ StandsTwice (texts_between separator line.now)) }
 {
     let mut left = line;
     while let Some((first, behind)) = first_between(separator, left) {
-        let mut kept = IndexSet::new(alloc);
+        kept.clear();
         kept.insert(first)?;
-        let Some(rest) = keep(separator, &mut kept, behind)? else {
+        let Some(rest) = keep(separator, kept, behind)? else {
             return Ok(true);
         };
-        if has_kept(separator, &kept, rest) {
+        if has_kept(separator, kept, rest) {
             return Ok(true);
         }
         left = rest;
     }
     Ok(false)
+}
+
+/// Whether some text of a line stands twice.
+pub fn has_repeat_in(alloc: Global, separator: Separator, line: &[u8]) -> Result<bool, Memory>
+    ensures { IfOk result (λ r. IsTrue r ↔ StandsTwice (texts_between separator line.now)) }
+{
+    let mut kept = IndexSet::new(alloc);
+    repeats(separator, &mut kept, line)
 }
 
 /// How many tokens a line has.

@@ -1,4 +1,4 @@
--- The line has no reason before the law, and the groups that are kept tell whether it has that one.
+-- The line has no reason before the law, and the groups of its pieces tell whether it has that one.
 use Rattle.std.proofs.Common.{◌≡◌, ℕ, List, Bor, length, to_z, of_z, ap, ◌∙◌, arith}
 use Rattle.std.specs.Int.{w128}
 use Rattle.std.specs.List.{AllZip}
@@ -7,9 +7,8 @@ use Rattle.std.proofs.lemmas.List.{length-map}
 use Rattle.sfm_lines.specs.Lines.{texts_of, tokens_of}
 use Rattle.sfm_lines.specs.TermLines.{IsElement}
 use Rattle.sfm_passes.specs.GroupPasses.{AreGoodGroups, pieces_left}
-use Rattle.sfm_lines.proofs.LeastGroups.{crossing-from}
 use Rattle.sfm_lines.proofs.Matches.{length-AllZip}
-use Rattle.sfm_passes.proofs.GroupTerms.{elements-fit, told-sound, told-below, term-law, term-read}
+use Rattle.sfm_passes.proofs.GroupTerms.{elements-fit, term-law, term-read}
 use Rattle.sfm_passes.proofs.long_laminar.groups_term.Goals as goal
 use Rattle.sfm_passes.proofs.long_laminar.groups_term.Goals.{After-known_number-w, In_ok-places, After-deref-3}
 
@@ -30,53 +29,35 @@ known_number-w-requires c = let g : AreGoodGroups c.args.instance.now.names c.ar
 pub known_places-requires : goal.known_places-requires
 known_places-requires c = rw (c.deref.ensures.value, c.in_ok-elements.ensures) (good (goal.at.known_places-requires c).After-known_number-w).known
 
-pub kept_groups-requires-clause-elements : goal.kept_groups-requires-clause-elements
-kept_groups-requires-clause-elements c =
-    let at = goal.at.kept_groups-requires-clause-elements c in
+pub pieces_term-requires-clause-elements : goal.pieces_term-requires-clause-elements
+pieces_term-requires-clause-elements c =
+    let at = goal.at.pieces_term-requires-clause-elements c in
     rw (c.deref-2.ensures.value) (elements-fit c.args.instance.now _ _ _ (good at.After-known_number-w) c.requires _ (known at.In_ok-places))
 
-pub kept_groups-requires-clause-named : goal.kept_groups-requires-clause-named
-kept_groups-requires-clause-named c =
-    let at = goal.at.kept_groups-requires-clause-named c in
+pub pieces_term-requires-clause-named : goal.pieces_term-requires-clause-named
+pieces_term-requires-clause-named c =
+    let at = goal.at.pieces_term-requires-clause-named c in
     omega (arith, ap length c.deref-2.ensures.value, length-AllZip _ _ _ (known at.In_ok-places), ap length (texts at.After-deref-3), length-map c.deref-3.result.now (λ (t : Bor (List ℕ)). t.now))
 
-pub returns-in_default-told : goal.returns-in_default-told
-returns-in_default-told c = λ behind is line of.
-    let at = goal.at.returns-in_default-told c in
-    let (all, each, cross) = rw (texts at.After-deref-3) at rw c.in_default-told.is at c.in_ok-told.ensures in
-    term-law c.args.instance.now _ _ behind _ is (good at.After-known_number-w) c.requires _ c.known_number-w.ensures _ (known at.In_ok-places) all each cross line of
+pub pieces_term-requires-clause-given : goal.pieces_term-requires-clause-given
+pieces_term-requires-clause-given c = let n = c.known_number-w.ensures in record { low = omega (arith, ints, n.1, n.2); high = omega (arith, ints, n.1, n.2) }
 
-pub with_kept-requires-clause-elements : goal.with_kept-requires-clause-elements
-with_kept-requires-clause-elements c =
-    let at = goal.at.with_kept-requires-clause-elements c in
-    rw (c.deref-4.ensures.value) (elements-fit c.args.instance.now _ _ _ (good at.After-known_number-w) c.requires _ (known at.In_ok-places))
+pub pieces_term-requires-clause-whole : goal.pieces_term-requires-clause-whole
+pieces_term-requires-clause-whole c = (good (goal.at.pieces_term-requires-clause-whole c).After-known_number-w).whole
 
-pub with_kept-requires-clause-given : goal.with_kept-requires-clause-given
-with_kept-requires-clause-given c = let n = c.known_number-w.ensures in record { low = omega (arith, ints, n.1, n.2); high = omega (arith, ints, n.1, n.2) }
+pub pieces_term-requires-clause-caps : goal.pieces_term-requires-clause-caps
+pieces_term-requires-clause-caps c = (good (goal.at.pieces_term-requires-clause-caps c).After-known_number-w).caps
 
-pub with_kept-requires-clause-sound : goal.with_kept-requires-clause-sound
-with_kept-requires-clause-sound c =
-    let (all, each, kept) = rw (texts (goal.at.with_kept-requires-clause-sound c).After-deref-3) at rw c.in-Some-told.is at c.in_ok-told.ensures in
-    told-sound _ _ all c.deref-5.result.now each (c.deref-5.ensures.value ∙ kept)
-
-pub with_kept-requires-clause-below : goal.with_kept-requires-clause-below
-with_kept-requires-clause-below c =
-    let at = goal.at.with_kept-requires-clause-below c in
-    let (all, each, kept) = rw (texts at.After-deref-3) at rw c.in-Some-told.is at c.in_ok-told.ensures in
-    told-below _ _ all c.deref-5.result.now each (c.deref-5.ensures.value ∙ kept) (length c.deref-4.result.now) (ap length c.deref-4.ensures.value ∙ length-AllZip _ _ _ (known at.In_ok-places))
-
-pub returns-in-Some-made : goal.returns-in-Some-made
-returns-in-Some-made c = λ behind is.
-    let at = goal.at.returns-in-Some-made c in
+pub returns-in-Some-2 : goal.returns-in-Some-2
+returns-in-Some-2 c = λ behind is.
+    let at = goal.at.returns-in-Some-2 c in
     let n = c.known_number-w.ensures in
-    let (all, each, kept) = rw (texts at.After-deref-3) at rw c.in-Some-told.is at c.in_ok-told.ensures in
     let fits : to_z w128 (of_z w128 c.known_number-w.result) ≡ c.known_number-w.result = omega (arith, ints, n.1, n.2) in
-    let made = rw c.in-Some-made.is at c.in_ok-made.ensures in
-    let is_kept = c.deref-5.ensures.value ∙ kept in
-    term-read c.args.instance.now _ _ behind _ is (good at.After-known_number-w) c.requires _ n _ (known at.In_ok-places) all each c.in-Some-made.laminar (made.0 ∙ c.deref-4.ensures.value) (made.1 ∙ fits) (made.2 ∙ is_kept) (λ a b h. made.3 a b (rw is_kept h))
+    let (all, each, same_places, same_w, same_groups, none) = rw (texts at.After-deref-3) at rw c.in-Some-2.is at c.in_ok-laminar.ensures in
+    term-read c.args.instance.now _ _ behind _ is (good at.After-known_number-w) c.requires _ n _ (known at.In_ok-places) all each c.in-Some-2.laminar (same_places ∙ c.deref-2.ensures.value) (same_w ∙ fits) same_groups none
 
 pub returns : goal.returns
 returns c = λ behind is line of.
     let at = goal.at.returns c in
-    let (all, each, kept) = rw (texts at.After-deref-3) at rw c.in-Some-told.is at c.in_ok-told.ensures in
-    term-law c.args.instance.now _ _ behind _ is (good at.After-known_number-w) c.requires _ c.known_number-w.ensures _ (known at.In_ok-places) all each (crossing-from all (rw (c.deref-5.ensures.value ∙ kept) at rw c.in-None.is at c.in_ok-made.ensures)) line of
+    let (all, each, cross) = rw (texts at.After-deref-3) at rw c.in-None.is at c.in_ok-laminar.ensures in
+    term-law c.args.instance.now _ _ behind _ is (good at.After-known_number-w) c.requires _ c.known_number-w.ensures _ (known at.In_ok-places) all each cross line of

@@ -2,7 +2,7 @@ use Rattle.sfm_lines.specs.Lines.{texts_of}
 use Rattle.sfm_passes.specs.GroupPasses.{pieces_left}
 use Rattle.sfm_passes.proofs.PieceCuts.{left_length}
 use Rattle.sfm_passes.proofs.GroupTerms.{KeptOf}
-use Rattle.sfm_passes.proofs.long_laminar.kept_groups.Given as goal
+use Rattle.sfm_passes.proofs.long_laminar.keep_groups.Given as goal
 
 abbrev pub invariant-loop-left : goal.invariant-loop-left
 invariant-loop-left l = KeptOf (texts_of l.elements) (pieces_left l.groups) (pieces_left l.left) l.kept.items

@@ -1,7 +1,7 @@
 use Rattle.std.proofs.Common.{length}
 use Rattle.sfm_passes.specs.Passes.{texts_between}
 use Rattle.sfm_lines.specs.TermLines.{StandsTwice}
-use Rattle.sfm_passes.proofs.passes.has_repeat_in.Given as goal
+use Rattle.sfm_passes.proofs.passes.repeats.Given as goal
 
 abbrev pub invariant-loop-first : goal.invariant-loop-first
 invariant-loop-first l = record {

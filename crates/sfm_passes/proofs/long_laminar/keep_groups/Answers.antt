@@ -1,15 +1,13 @@
-use Rattle.std.proofs.Common.{◌≡◌, [], ℕ, List, Bor, length, sym, ◌∙◌, rules}
+use Rattle.std.proofs.Common.{ℕ, List, Bor, length, sym, ◌∙◌}
 use Rattle.std.proofs.lemmas.List.{length-map}
 use Rattle.sfm_passes.specs.declared.group_test.GroupTest.TheVariants.{Whole, Cap}
 use Rattle.sfm_passes.specs.GroupPasses.{GroupHolds}
 use Rattle.sfm_passes.proofs.PieceCuts.{left-none, left-first, left-smaller}
 use Rattle.sfm_passes.proofs.GroupTerms.{nothing-kept, kept-more, kept-all, kept-sound, kept-below, kept-cross, left-holds}
-use Rattle.sfm_passes.proofs.long_laminar.kept_groups.Goals as goal
+use Rattle.sfm_passes.proofs.long_laminar.keep_groups.Goals as goal
 
 pub loop-left-init : goal.loop-left-init
-loop-left-init c =
-    let none : c.new-kept.result.items ≡ [] = search (rules, c.new-kept.ensures) in
-    rw none (nothing-kept _ _)
+loop-left-init c = rw c.requires.none (nothing-kept _ _)
 
 pub piece_group-requires-clause-whole : goal.piece_group-requires-clause-whole
 piece_group-requires-clause-whole c = left-holds (GroupHolds Whole) _ _ _ _ c.loop-left.invariant _ _ (left-first c.loop-left.left c.in-Some.line c.first_piece.result.0 c.first_piece.result.1 c.in-Some.is c.first_piece.ensures.pieces) c.requires.whole
