@@ -1,7 +1,11 @@
 -- What the reading of a line comes to: the state that it leads to, or its first reason.
-use Rattle.std.specs.Prelude.{◌≡◌, ℕ, Bool, true, false, List, ◌∷◌, codes, Result, MatchResult}
+use Rattle.std.specs.Prelude.{◌≡◌, ℕ, ◌≤◌, Bool, true, false, List, ◌∷◌, length, codes, Result, MatchResult}
+use Rattle.std.specs.List.{All}
+use Rattle.sfm_spec.specs.Names.{IsName}
 use Rattle.sfm_lines.specs.declared.line_fault.LineEnd.{LineEnd}
 use Rattle.sfm_lines.specs.Lines.{tokens_of, are_skipped}
+use Rattle.sfm_lines.specs.Parts.{AreUnmarked}
+use Rattle.sfm_lines.specs.TermLines.{StandsTwice}
 use Rattle.sfm_lines.specs.Reading.{State, Takes, IsLineRefusal}
 use Rattle.sfm_lines.specs.ReadParts.{state_at, IsLineOf}
 use Rattle.sfm_text.specs.declared.reading.Reading.{Reading}
@@ -12,6 +16,13 @@ state_of reading = state_at reading.stage reading.instance
 -- a line with these tokens was taken in the state s and led to t, or is refused for its first reason
 abbrev pub IsOutcome : State → List (List ℕ) → Result (Unit {0}) LineEnd → State → Type 0
 IsOutcome s tokens result t = (line : List ℕ) → IsLineOf line tokens → MatchResult result (λ _. Takes s line t) (IsLineRefusal s line)
+
+-- the names of a ground line have no reason
+pub record AreGroundNames (names : List (List ℕ)) : Type 0 where
+  pub unmarked : AreUnmarked names
+  pub forms : All IsName names
+  pub distinct : StandsTwice names → ⊥
+  pub few : length names ≤ 256
 
 -- the first token is `end`
 abbrev pub BeginsEnd : List (List ℕ) → Type 0

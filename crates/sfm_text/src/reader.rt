@@ -19,7 +19,6 @@ use std::mem;
 pub const TEXT_LIMIT: usize = 16_777_216;
 
 /// A reader of an instance text that comes in pieces, cut anywhere.
-#[derive(Drop)]
 pub struct Reader {
     /// Whether memory was wanting: then all further calls say so.
     spent: bool,
@@ -37,6 +36,21 @@ pub struct Reader {
     fault: Option<Fault>,
     ghost counted: { count ≤ 16777217 },
     ghost fewer: { lines + length rest.items ≤ count },
+}
+
+// Written out, so that letting one go is one step, which is proved here once.
+impl Drop for Reader {
+    fn drop(self) {
+        let Self {
+            spent: _,
+            count: _,
+            lines: _,
+            numbers: _,
+            rest: _,
+            reading: _,
+            fault: _,
+        } = self;
+    }
 }
 
 impl Reader {
@@ -96,7 +110,23 @@ impl Reader {
         ensures spent { self.spent ≡ true → result ≡ Err ends.Memory }
     {
         self.close(alloc)?;
-        Ok(self.reading.instance)
+        Ok(self.into_instance())
+    }
+
+    /// The instance that was read, of a reader that is done with.
+    fn into_instance(self) -> Instance
+        ensures { result ≡ self.reading.instance }
+    {
+        let Reader {
+            spent: _,
+            count: _,
+            lines: _,
+            numbers: _,
+            rest: _,
+            reading,
+            fault: _,
+        } = self;
+        reading.into_instance()
     }
 
     /// Reads what is left of the text, and tells whether it is good; a fault of it ends the reader.

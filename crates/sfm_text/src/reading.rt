@@ -1,12 +1,12 @@
 // Reading line by line: what a content line adds to what was read before it, or the first reason for which it is refused.
 ghost use Rattle.std.specs.Prelude.{◌≡◌, ◌≢◌, ◌≤◌, ℕ, List, [], ◌∷◌, length, bytes_eq, codes, MatchBool, IfOk, MatchOption, MatchResult};
-ghost use Rattle.std.specs.List.{All};
 ghost use Rattle.std.specs.Str.Lines.{strip_carriage_return};
-ghost use Rattle.sfm_spec.specs.Names.{IsName};
+ghost use Rattle.sfm_kind.specs.Instance.{InstanceData};
 ghost use Rattle.sfm_lines.specs.Lines.{tokens_of};
-ghost use Rattle.sfm_lines.specs.TermLines.{StandsTwice};
-ghost use Rattle.sfm_lines.specs.Reading.{start, Takes, IsLineRefusal};
-ghost use Rattle.sfm_text.specs.Judging.{BeginsEnd};
+ghost use Rattle.sfm_lines.specs.Reading.{start, FirstReason, Takes, IsLineRefusal};
+ghost use Rattle.sfm_lines.specs.ReadParts.{state_at, IsLineOf};
+ghost use Rattle.sfm_text.specs.Judging.{AreGroundNames, BeginsEnd};
+ghost use Rattle.sfm_lines.specs.declared.stage.Stage.TheVariants.{Ground};
 ghost use Rattle.sfm_text.specs.GoodText.{text_limit};
 
 use crate::added::{add_line, are_good_bytes};
@@ -22,10 +22,19 @@ use std::alloc::Global;
 const MOST_NAMES: usize = 256;
 
 /// What has been read of a text.
-#[derive(Drop)]
 pub struct Reading {
     pub stage: Stage,
     pub instance: Instance,
+}
+
+// Written out, so that letting one go is one step, which is proved here once.
+impl Drop for Reading {
+    fn drop(self) {
+        let Self {
+            stage: _,
+            instance: _,
+        } = self;
+    }
 }
 
 /// The line behind a word, or None where its first token is another.
@@ -69,11 +78,30 @@ fn is_last(line: &[u8]) -> bool
     }
 }
 
+/// The first reason of the names that stand in the ground line behind its word, or None where there is none.
+fn names_fault(alloc: Global, names: &[u8]) -> Result<Option<Reason>, Memory>
+    ensures { IfOk result (λ r. MatchOption r
+        (AreGroundNames (tokens_of names.now))
+        (λ reason. (instance : InstanceData) (line : List ℕ) → IsLineOf line (codes "ground" ∷ tokens_of names.now) → FirstReason (state_at Ground instance) line reason)) }
+{
+    if has_mark_in(names) {
+        return Ok(Some(Reason::Shape));
+    }
+    if !are_names_in(names) {
+        return Ok(Some(Reason::Name));
+    }
+    if has_repeat_in(alloc, Separator::Blanks, names)? {
+        return Ok(Some(Reason::Twice));
+    }
+    if has_token(names, MOST_NAMES) {
+        return Ok(Some(Reason::Total));
+    }
+    Ok(None)
+}
+
 /// The instance with the names that stand in a line behind its word, and no terms.
 fn with_names(alloc: Global, line: &[u8]) -> Result<Instance, Memory>
-    requires forms { All IsName (tokens_of line.now) }
-    requires distinct { StandsTwice (tokens_of line.now) → ⊥ }
-    requires few { length (tokens_of line.now) ≤ 256 }
+    requires { AreGroundNames (tokens_of line.now) }
     ensures names { IfOk result (λ r. r.names ≡ tokens_of line.now) }
     ensures terms { IfOk result (λ r. r.terms ≡ []) }
 {
@@ -99,6 +127,14 @@ impl Reading {
             stage: Stage::Header,
             instance: Instance::new(alloc),
         }
+    }
+
+    /// The instance, of what is done with.
+    pub fn into_instance(self) -> Instance
+        ensures { result ≡ self.instance }
+    {
+        let Reading { stage: _, instance } = self;
+        instance
     }
 
     /// Takes the next line, which is no longer than a text may be, and tells whether it counts: a blank line or a comment
@@ -162,17 +198,9 @@ impl Reading {
         let Some(rest) = behind(b"ground", line) else {
             return Err(LineEnd::Fault(Reason::Word));
         };
-        if has_mark_in(rest) {
-            return Err(LineEnd::Fault(Reason::Shape));
-        }
-        if !are_names_in(rest) {
-            return Err(LineEnd::Fault(Reason::Name));
-        }
-        if has_repeat_in(alloc, Separator::Blanks, rest)? {
-            return Err(LineEnd::Fault(Reason::Twice));
-        }
-        if has_token(rest, MOST_NAMES) {
-            return Err(LineEnd::Fault(Reason::Total));
+        let fault = names_fault(alloc, rest)?;
+        if let Some(reason) = fault {
+            return Err(LineEnd::Fault(reason));
         }
         self.instance = with_names(alloc, rest)?;
         self.stage = Stage::Terms;

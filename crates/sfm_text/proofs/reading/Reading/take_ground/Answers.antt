@@ -1,35 +1,20 @@
-use Rattle.std.proofs.Common.{◌∷◌, codes, ◌∙◌, sym, refl}
-use Rattle.std.proofs.lemmas.Bool.{false≢true}
+use Rattle.std.proofs.Common.{◌∷◌, codes}
 use Rattle.sfm_lines.specs.Lines.{tokens_of}
-use Rattle.sfm_lines.specs.Parts.{IsMark}
-use Rattle.sfm_passes.proofs.Passed.{any-behind}
-use Rattle.sfm_text.proofs.StageReasons.{ground-shape, ground-name, ground-twice, ground-total, ground-good, ground-unmarked, line-as}
+use Rattle.sfm_text.specs.Judging.{AreGroundNames}
+use Rattle.sfm_text.proofs.StageReasons.{ground-good, ground-unmarked, line-as}
 use Rattle.sfm_text.proofs.reading.Reading.take_ground.Goals as goal
 
-pub returns-then-has_mark_in : goal.returns-then-has_mark_in
-returns-then-has_mark_in c = λ line is.
+pub returns-in-Some-fault : goal.returns-in-Some-fault
+returns-in-Some-fault c = λ line is.
     let names = tokens_of c.in-Some.rest.now in
-    ground-shape c.args.self.now.instance line names (line-as line _ (codes "ground" ∷ names) c.in-Some.ensures is) (any-behind IsMark (codes "ground") names _ refl c.if-has_mark_in.ensures)
+    (rw c.in-Some-fault.is at c.in_ok-fault.ensures) c.args.self.now.instance line (line-as line _ (codes "ground" ∷ names) c.in-Some.ensures is)
 
-pub returns-then-not-are_names_in : goal.returns-then-not-are_names_in
-returns-then-not-are_names_in c = λ line is.
-    let names = tokens_of c.in-Some.rest.now in
-    ground-name c.args.self.now.instance line names (line-as line _ (codes "ground" ∷ names) c.in-Some.ensures is) (ground-unmarked names c.if-has_mark_in.ensures) c.if-not-are_names_in.ensures
-
-pub returns-then-branch : goal.returns-then-branch
-returns-then-branch c = λ line is.
-    let names = tokens_of c.in-Some.rest.now in
-    ground-twice c.args.self.now.instance line names (line-as line _ (codes "ground" ∷ names) c.in-Some.ensures is) (ground-unmarked names c.if-has_mark_in.ensures) c.if-not-are_names_in.ensures (c.in_ok-has_repeat_in.ensures.0 c.if-branch.true)
-
-pub returns-then-has_token : goal.returns-then-has_token
-returns-then-has_token c = λ line is.
-    let names = tokens_of c.in-Some.rest.now in
-    ground-total c.args.self.now.instance line names (line-as line _ (codes "ground" ∷ names) c.in-Some.ensures is) (ground-unmarked names c.if-has_mark_in.ensures) c.if-not-are_names_in.ensures
-    (λ t. false≢true (sym c.if-branch.false ∙ c.in_ok-has_repeat_in.ensures.1 t)) c.if-has_token.ensures
+pub with_names-requires : goal.with_names-requires
+with_names-requires c = rw c.in_default-fault.is at c.in_ok-fault.ensures
 
 pub returns : goal.returns
 returns c = λ line is.
     let names = tokens_of c.in-Some.rest.now in
+    let good : AreGroundNames names = rw c.in_default-fault.is at c.in_ok-fault.ensures in
     rw (c.in_ok-self.ensures.names, c.in_ok-self.ensures.terms)
-    (ground-good c.args.self.now.instance line names (line-as line _ (codes "ground" ∷ names) c.in-Some.ensures is) (ground-unmarked names c.if-has_mark_in.ensures) c.if-not-are_names_in.ensures
-    (λ t. false≢true (sym c.if-branch.false ∙ c.in_ok-has_repeat_in.ensures.1 t)) c.if-has_token.ensures)
+    (ground-good c.args.self.now.instance line names (line-as line _ (codes "ground" ∷ names) c.in-Some.ensures is) (ground-unmarked names good.unmarked) good.forms good.distinct good.few)
