@@ -1,5 +1,5 @@
 -- The first reason of a line of a laminar rank, from what passes over its pieces tell.
-use Rattle.std.proofs.Common.{◌≡◌, inl, inr, ◌<◌, ◌≤◌, ℕ, List, [], ◌∷◌, ◌++◌, length, map, codes, Contains, ℤ, refl, sym, ap, ◌∙◌, arith}
+use Rattle.std.proofs.Common.{◌≡◌, inl, inr, ◌<◌, ◌≤◌, ℕ, List, [], ◌∷◌, ◌++◌, length, map, codes, Contains, ℤ, Bool, true, false, MatchBool, refl, sym, ap, ◌∙◌, arith}
 use Rattle.std.specs.List.{All, Any, AllZip}
 use Rattle.std.proofs.lemmas.List.Elements.{All-nil}
 use Rattle.sfm_kind.specs.Names.{AreElementNames}
@@ -15,7 +15,7 @@ use Rattle.sfm_lines.specs.TermLines.{IsNumberFrom, IsElement, StandsTwice}
 use Rattle.sfm_lines.specs.Reading.{HasStranger}
 use Rattle.sfm_passes.specs.Passes.{Holds, IsReasonOf}
 use Rattle.sfm_lines.specs.ReadParts.{IsNumberOf}
-use Rattle.sfm_passes.specs.GroupPasses.{GroupHolds, GroupFails, HasMembers, LacksMember, laminar_tokens}
+use Rattle.sfm_passes.specs.GroupPasses.{AreShapedGroups, GroupHolds, GroupFails, HasMembers, LacksMember, laminar_tokens}
 use Rattle.sfm_lines.proofs.Colons.{none-any}
 use Rattle.sfm_lines.proofs.GroupCuts.{group_tokens, groups-cut, groups-behind, groups-each}
 use Rattle.sfm_passes.proofs.LongRanks.{other-word}
@@ -152,3 +152,9 @@ module _ (i : InstanceData) (number : List ℕ) (elements behind : List (List �
 
         pub laminar-again : Any (GroupFails Once) pieces → IsReasonOf i RankWord (laminar_tokens number behind) Twice
         laminar-again any = long-member i RankWord (laminar_tokens number behind) laminar-parts laminar-line laminar-values named (all-matched (IsElement i.names) elements known) members-named (All-nil _) (again any)
+
+-- what the pieces are tried for last tells whether the line has its shape
+pub shaped-by : (number : List ℕ) (elements : List (List ℕ)) (pieces : List (List (List ℕ))) → (IsMark number → ⊥) → 0 < length elements → AreUnmarked elements → (r : Bool) → MatchBool r (All (GroupHolds Whole) pieces) (Any (GroupFails Whole) pieces)
+    → MatchBool r (AreShapedGroups number elements pieces) ((i : InstanceData) (behind : List (List ℕ)) → cut_at_semicolons behind ≡ elements ∷ pieces → IsReasonOf i RankWord (laminar_tokens number behind) Shape)
+shaped-by number elements pieces no_mark some unmarked true whole = record { no_mark = no_mark; some = some; unmarked = unmarked; whole = whole }
+shaped-by number elements pieces no_mark some unmarked false any = λ i behind is. laminar-piece i number elements behind pieces is any

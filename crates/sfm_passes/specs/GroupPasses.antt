@@ -1,5 +1,5 @@
 -- What a piece of the line of a laminar rank is tried for, and what is known of a line whose pieces have passed.
-use Rattle.std.specs.Prelude.{◌≡◌, ℕ, ◌≤◌, false, List, [], ◌∷◌, ◌++◌, length, codes, Any, Contains, Option, Some, None, MatchOption, Result, MatchResult}
+use Rattle.std.specs.Prelude.{◌≡◌, ℕ, ◌<◌, ◌≤◌, false, List, [], ◌∷◌, ◌++◌, length, codes, Any, Contains, Option, Some, None, MatchOption, Result, MatchResult}
 use Rattle.std.specs.Borrow.{Bor}
 use Rattle.std.specs.List.{All}
 use Rattle.sfm_spec.specs.Kinds.{Group}
@@ -59,6 +59,13 @@ HasMembers elements piece = OfGroup (λ cap names. All (Contains elements) names
 -- some name of a piece is not
 abbrev pub LacksMember : List (List ℕ) → List (List ℕ) → Type 0
 LacksMember elements piece = SomeGroup (λ cap names. Any (λ name. Contains elements name → ⊥) names) piece
+
+-- the number, the elements and the pieces of the groups have the shape of the line
+pub record AreShapedGroups (number : List ℕ) (elements : List (List ℕ)) (pieces : List (List (List ℕ))) : Type 0 where
+  pub no_mark : IsMark number → ⊥
+  pub some : 0 < length elements
+  pub unmarked : AreUnmarked elements
+  pub whole : All (GroupHolds Whole) pieces
 
 -- the number, the elements and the pieces of the groups have no reason before the law
 pub record AreGoodGroups (names : List (List ℕ)) (number : List ℕ) (elements : List (List ℕ)) (pieces : List (List (List ℕ))) : Type 0 where

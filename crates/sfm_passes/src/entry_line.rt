@@ -125,6 +125,15 @@ fn entries(alloc: Global, names: &IndexSet<&[u8]>, labels: &[Labels]) -> Result<
     Ok(entries)
 }
 
+/// The slots of the elements, by the places of their names among the different ones.
+fn numbered_entries(alloc: Global, labels: &[Labels]) -> Result<Entries, Memory>
+    requires few { length (joined (label_lists_of labels.now)) < 2 ^ 24 }
+    ensures { IfOk result (λ r. r ≡ numbers_of (label_lists_of labels.now)) }
+{
+    let names = different(alloc, labels)?;
+    entries(alloc, &names, labels)
+}
+
 /// The term with a number for each element of a greatest part with slots of their own, of these slots.
 fn transversal(
     alloc: Global,
@@ -141,8 +150,7 @@ fn transversal(
     ensures number { IfOk result (λ r. r.w ≡ w) }
     ensures entries { IfOk result (λ r. r.entries ≡ numbers_of (label_lists_of labels.now)) }
 {
-    let names = different(alloc, labels)?;
-    let entries = entries(alloc, &names, labels)?;
+    let entries = numbered_entries(alloc, labels)?;
     Transversal::new(alloc, places, w, entries)
 }
 

@@ -1,5 +1,5 @@
 // Passes over the pieces of the groups of a laminar rank: what each piece is tried for.
-ghost use Rattle.std.specs.Prelude.{◌≡◌, ℕ, List, Any, Contains, IfOk, MatchBool, MatchOption};
+ghost use Rattle.std.specs.Prelude.{◌≡◌, ℕ, List, [], Any, Contains, IfOk, MatchBool, MatchOption};
 ghost use Rattle.std.specs.List.{All};
 ghost use Rattle.sfm_lines.specs.Lines.{texts_of, tokens_of};
 ghost use Rattle.sfm_lines.specs.LabelTerms.{distinct_of};
@@ -144,6 +144,25 @@ fn all_have_members(known: &IndexSet<&[u8]>, groups: Option<&[u8]>) -> bool
     true
 }
 
+/// Whether each name of each piece that is left is one of the elements, which are put into a set that holds nothing.
+fn are_members_by<'a>(
+    known: &mut IndexSet<&'a [u8]>,
+    elements: &'a [u8],
+    groups: Option<&[u8]>,
+) -> Result<bool, Memory>
+    requires { known.old.keys ≡ [] }
+    ensures { IfOk result (λ r. MatchBool r
+        (All (HasMembers (tokens_of elements.now)) (pieces_left groups.entry))
+        (Any (LacksMember (tokens_of elements.now)) (pieces_left groups.entry))) }
+{
+    let mut left = elements;
+    while let Some((element, behind)) = first_token(left) {
+        known.insert(element)?;
+        left = behind;
+    }
+    Ok(all_have_members(known, groups))
+}
+
 /// Whether each name of each piece that is left is one of the elements.
 pub fn are_members_in(alloc: Global, elements: &[u8], groups: Option<&[u8]>) -> Result<bool, Memory>
     ensures { IfOk result (λ r. MatchBool r
@@ -151,10 +170,5 @@ pub fn are_members_in(alloc: Global, elements: &[u8], groups: Option<&[u8]>) -> 
         (Any (LacksMember (tokens_of elements.now)) (pieces_left groups.entry))) }
 {
     let mut known = IndexSet::new(alloc);
-    let mut left = elements;
-    while let Some((element, behind)) = first_token(left) {
-        known.insert(element)?;
-        left = behind;
-    }
-    Ok(all_have_members(&known, groups))
+    are_members_by(&mut known, elements, groups)
 }

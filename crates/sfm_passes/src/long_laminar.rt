@@ -5,7 +5,9 @@ ghost use Rattle.std.specs.Prelude.{◌≡◌, [], ◌∷◌, ◌≤ℤ◌, ℕ,
 ghost use Rattle.std.specs.List.{All, AllZip};
 ghost use Rattle.sfm_spec.specs.Bounds.{IsGiven, AreElements};
 ghost use Rattle.sfm_spec.specs.Kinds.{Group};
+ghost use Rattle.sfm_kind.specs.Instance.{InstanceData};
 ghost use Rattle.sfm_kind.specs.Names.{AreElementNames};
+ghost use Rattle.sfm_lines.specs.declared.reason.Reason.TheVariants.{Shape};
 ghost use Rattle.sfm_laminar.specs.Crossing.{IsCrossing};
 ghost use Rattle.sfm_laminar.specs.Groups.{IsBelow, IsGroup};
 ghost use Rattle.sfm_lines.specs.Lines.{texts_of, tokens_of};
@@ -13,7 +15,7 @@ ghost use Rattle.sfm_lines.specs.CutParts.{cut_at_semicolons};
 ghost use Rattle.sfm_lines.specs.RankLines.{least_groups};
 ghost use Rattle.sfm_lines.specs.ReadParts.{IsTermRead};
 ghost use Rattle.sfm_passes.specs.Passes.{IsReasonOf};
-ghost use Rattle.sfm_passes.specs.GroupPasses.{AreGoodGroups, GroupHolds, IsGroupOf, IsRefusedBy, laminar_tokens, pieces_left};
+ghost use Rattle.sfm_passes.specs.GroupPasses.{AreShapedGroups, AreGoodGroups, GroupHolds, IsGroupOf, IsRefusedBy, laminar_tokens, pieces_left};
 ghost use Rattle.sfm_passes.specs.declared.group_test.GroupTest.TheVariants.{Whole, Cap};
 ghost use Rattle.sfm_lines.specs.declared.word.TermWord.TheVariants.{RankWord};
 
@@ -37,6 +39,29 @@ use std::alloc::Global;
 /// One more than there may be different sets of 256 elements of which no two cross.
 const MOST_SETS: usize = 512;
 
+/// Whether the number, the elements and the groups of a line have its shape.
+fn are_shaped(
+    alloc: Global,
+    number: &[u8],
+    elements: &[u8],
+    groups: Option<&[u8]>,
+) -> Result<bool, Memory>
+    ensures { IfOk result (λ r. MatchBool r
+        (AreShapedGroups number.now (tokens_of elements.now) (pieces_left groups.entry))
+        ((instance : InstanceData) (behind : List (List ℕ)) → cut_at_semicolons behind ≡ tokens_of elements.now ∷ pieces_left groups.entry → IsReasonOf instance RankWord (laminar_tokens number.now behind) Shape)) }
+{
+    if is_mark(number) {
+        return Ok(false);
+    }
+    if !has_token(elements, 0) {
+        return Ok(false);
+    }
+    if has_mark_in(elements) {
+        return Ok(false);
+    }
+    all_groups(alloc, GroupTest::Whole, groups)
+}
+
 /// The first reason of the number, the elements and the groups of a line before its law, or None where there is none.
 fn groups_fault(
     alloc: Global,
@@ -50,17 +75,8 @@ fn groups_fault(
         (AreGoodGroups instance.now.names number.now (tokens_of elements.now) (pieces_left groups.entry))
         (λ reason. (behind : List (List ℕ)) → cut_at_semicolons behind ≡ tokens_of elements.now ∷ pieces_left groups.entry → IsReasonOf instance.now RankWord (laminar_tokens number.now behind) reason)) }
 {
-    if is_mark(number) {
-        return Ok(Some(Reason::Shape));
-    }
-    if !has_token(elements, 0) {
-        return Ok(Some(Reason::Shape));
-    }
-    if has_mark_in(elements) {
-        return Ok(Some(Reason::Shape));
-    }
-    let whole = all_groups(alloc, GroupTest::Whole, groups)?;
-    if !whole {
+    let shaped = are_shaped(alloc, number, elements, groups)?;
+    if !shaped {
         return Ok(Some(Reason::Shape));
     }
     if !is_number_of(TermWord::RankWord, number) {

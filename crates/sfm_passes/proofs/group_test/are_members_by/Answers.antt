@@ -3,10 +3,10 @@ use Rattle.sfm_lines.specs.Lines.{tokens_of}
 use Rattle.sfm_lines.specs.LabelTerms.{distinct_of}
 use Rattle.sfm_lines.proofs.Numbering.{key-in}
 use Rattle.sfm_passes.proofs.Passed.{passed-more, passed-all}
-use Rattle.sfm_passes.proofs.group_test.are_members_in.Goals as goal
+use Rattle.sfm_passes.proofs.group_test.are_members_by.Goals as goal
 
 pub loop-element-init : goal.loop-element-init
-loop-element-init c = ([], refl, rw c.new-known.ensures.empty refl)
+loop-element-init c = ([], refl, rw c.requires refl)
 
 pub loop-element-preserved : goal.loop-element-preserved
 loop-element-preserved c =
