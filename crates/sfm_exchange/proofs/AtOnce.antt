@@ -32,19 +32,23 @@ asked_past places f x changed k before mid h none = record {
   others = h.others;
 }
 
-module _ {places : List ℕ} {f : SetFunction} {s t : ℕ} {x y : List ℤ} {claimed found : Bits} {rows : List Bits} (r : IsRenewing places f s t x y claimed found rows) (nothing : (e : ℕ) → bit_in claimed e ≢ 1)
-    (of_s : Bits) (hs : IsRow places f y s of_s) (others : Bits) (out : bit_in others (get_or places s 0) ≡ 0) (same : (e : ℕ) → e ≢ get_or places s 0 → bit_in others e ≡ bit_in found e) where
+-- what others have has been found too
+pub of_others : (found others : Bits) (place : ℕ) → bit_in others place ≡ 0 → ((e : ℕ) → e ≢ place → bit_in others e ≡ bit_in found e) → (e : ℕ) → bit_in others e ≡ 1 → bit_in found e ≡ 1
+of_others found others place out same e one = ⊎_elim (λ is. absurd (let none = rw (← is) at out in omega (arith, none, one))) (λ ne. sym (same e ne) ∙ one) (cases_eq e place)
+
+module _ {places : List ℕ} {f : SetFunction} {s t : ℕ} {x y : List ℤ} {claimed found : Bits} {rows : List Bits} (r : IsRenewing places f s t x y claimed found rows) (nothing : (e : ℕ) → bit_in claimed e ≢ 1) where
   row_before : (u : ℕ) → u < length places → IsRow places f x u (set_at rows u)
   row_before u lu = r.claims.exact u lu (nothing (get_or places u 0))
 
-  apart_at : (u : ℕ) → u < length places → u ≢ s → bit_in others (get_or places u 0) ≡ bit_in found (get_or places u 0)
-  apart_at u lu ne = same (get_or places u 0) (λ is. ne (r.raising.distinct u s lu r.raising.raised is))
+  -- all that were found depend on s
+  pub lead_to_s : (u : ℕ) → u < length places → bit_in found (get_or places u 0) ≡ 1 → Depends f y u s
+  lead_to_s u lu one = ⊎_elim (λ is. inl (sym is)) (λ ne. follows_s r.raising u lu (finds r u lu (row_before u lu) one)) (cases_eq u s)
 
-  -- all that are to be asked depend on s
-  pub lead_to_s : (u : ℕ) → u < length places → bit_in others (get_or places u 0) ≡ 1 → Depends f y u s
-  lead_to_s u lu one = ⊎_elim (λ is. inl (sym is)) (λ ne. follows_s r.raising u lu (finds r u lu (row_before u lu) (sym (apart_at u lu ne) ∙ one))) (cases_eq u s)
+  module _ (of_s : Bits) (hs : IsRow places f y s of_s) (others : Bits) (out : bit_in others (get_or places s 0) ≡ 0) (same : (e : ℕ) → e ≢ get_or places s 0 → bit_in others e ≡ bit_in found e)
+      (mid : List Bits) (asked : AreAsked places f y others (length places) (set rows s of_s) mid) where
+    apart_at : (u : ℕ) → u < length places → u ≢ s → bit_in others (get_or places u 0) ≡ bit_in found (get_or places u 0)
+    apart_at u lu ne = same (get_or places u 0) (λ is. ne (r.raising.distinct u s lu r.raising.raised is))
 
-  module _ (mid : List Bits) (asked : AreAsked places f y others (length places) (set rows s of_s) mid) where
     -- a row that is not asked
     row_stays : (u : ℕ) → u < length places → u ≢ s → bit_in found (get_or places u 0) ≢ 1 → set_at mid u ≡ set_at rows u
     row_stays u lu ne none = asked.others u lu (λ one. none (sym (apart_at u lu ne) ∙ one)) ∙ get_or-set_other rows s u of_s blank_bits ne

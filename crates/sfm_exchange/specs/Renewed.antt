@@ -1,5 +1,5 @@
 -- The rows of one term after an exchange.
-use Rattle.std.specs.Prelude.{◌≡◌, ◌≢◌, ◌↔◌, ◌⊎◌, ℕ, ◌<◌, ◌≤◌, List, length, slice_index_or, ℤ, pos, ◌≤ℤ◌}
+use Rattle.std.specs.Prelude.{◌≡◌, ◌≢◌, ◌↔◌, ◌⊎◌, ℕ, ◌<◌, ◌≤◌, List, length, slice_index_or, slice_set, ℤ, pos, ◌≤ℤ◌}
 use Rattle.sfm_spec.specs.Terms.{SetFunction, IsBase, exchanged}
 use Rattle.sfm_reach.specs.declared.bits.Bits.{Bits}
 use Rattle.sfm_exchange.specs.declared.renewing.Changes.{Changes}
@@ -41,6 +41,12 @@ pub record AreAsked (places : List ℕ) (f : SetFunction) (x : List ℤ) (change
   pub count : length after ≡ length before
   pub asked : (u : ℕ) → u < k → bit_in changed (slice_index_or places u 0) ≡ 1 → IsRow places f x u (set_at after u)
   pub others : (u : ℕ) → u < length places → bit_in changed (slice_index_or places u 0) ≢ 1 → set_at after u ≡ set_at before u
+
+-- the rows of some places have taken in one row and the place that was raised, and then the row of that is put in
+pub record AreTakenIn (places : List ℕ) (changed more : Bits) (raised : Raised) (before after : List Bits) : Type 0 where
+  pub mid : List Bits
+  pub joined : AreJoined places changed more raised.place (length places) before mid
+  pub put : after ≡ slice_set mid raised.local raised.row
 
 -- which rows of a term have changed, by their ground places: those of the one set have what they had, those of the other may be any, and all others stay
 pub record AreChanges (places : List ℕ) (changes : Changes) (before after : List Bits) : Type 0 where

@@ -4,13 +4,14 @@
 // adjacency the union of the rows of these, and the same is kept turned round, for searches backwards. That all of this is
 // so is one fact, `IsGraph`, which each call over a graph asks for and gives back; along walks some rows may be claimed, and
 // the fact is `IsClaimed`.
-ghost use Rattle.std.specs.Prelude.{◌≡◌, ◌<◌, ◌≤◌, ℕ, length, map, [], ◌∷◌, ◌++◌, OnOk, IfOk};
+ghost use Rattle.std.specs.Prelude.{◌≡◌, ◌≤◌, length, map, [], ◌∷◌, ◌++◌, OnOk, IfOk};
 ghost use Rattle.std.specs.List.{All};
 ghost use Rattle.sfm_spec.specs.Sets.{IsPlaced};
 ghost use Rattle.sfm_spec.specs.Bounds.{AreBounded, IsEntry, IsFactor};
 ghost use Rattle.sfm_spec.specs.Families.{meanings, AreBases};
+ghost use Rattle.sfm_reach.specs.Asked.{AreAllAsked};
 ghost use Rattle.sfm_reach.specs.Based.{AreBased};
-ghost use Rattle.sfm_reach.specs.Reach.{AreNotes, AreSized, IsTable, table_at};
+ghost use Rattle.sfm_reach.specs.Reach.{AreSized};
 ghost use Rattle.sfm_reach.specs.Turned.{AreTurned};
 ghost use Rattle.sfm_reach.specs.Unions.{AreUnions, HaveRows};
 ghost use Rattle.sfm_exchange.specs.Graph.{IsGraph, IsShaped};
@@ -184,10 +185,7 @@ fn ask_terms<T: Term>(
 ) -> Result<(), Memory>
     requires based { AreBased T.places T.value_of T.size_of terms.now q bases.now }
     requires rows { AreSized (map T.places terms.now) rows.old.items }
-    ensures count { OnOk result (length notes.new.items ≡ length terms.now) }
-    ensures noted { OnOk result (AreNotes T.fits q terms.now notes.new.items bases.now) }
-    ensures rows { OnOk result (AreSized (map T.places terms.now) rows.new.items) }
-    ensures tables { OnOk result ((i : ℕ) → i < length terms.now → IsTable (meanings T.places T.value_of terms.now) q bases.now i (table_at rows.new.items i)) }
+    ensures { OnOk result (AreAllAsked T.places T.value_of T.fits terms.now q bases.now notes.new.items rows.new.items) }
 {
     *notes = notes_of(alloc, terms, q, bases)?;
     ask_all(alloc, terms, q, bases, notes, rows)?;

@@ -15,7 +15,7 @@ ghost use Rattle.sfm_reach.specs.Bits.{bit_in, set_at};
 ghost use Rattle.sfm_exchange.specs.Claimed.{AreClaims};
 ghost use Rattle.sfm_reach.specs.Image.{IsImage};
 ghost use Rattle.sfm_reach.specs.Reach.{IsRow};
-ghost use Rattle.sfm_exchange.specs.Renewed.{AreAsked, AreDepending, AreJoined, AreRenewed, AreShared, IsExchanged, IsJoined, IsRaised};
+ghost use Rattle.sfm_exchange.specs.Renewed.{AreAsked, AreDepending, AreJoined, AreRenewed, AreShared, AreTakenIn, IsExchanged, IsJoined, IsRaised};
 
 use crate::path::Hop;
 use sfm_base::Memory;
@@ -93,13 +93,34 @@ fn join_rows(places: &[usize], changed: &Bits, more: &Bits, to: usize, rows: &mu
     }
 }
 
-// The rows of some places have grown, but that of one place may be any.
-fn grown_but(places: &Bits, place: usize) -> Changes
-    requires { place < 256 }
-    ensures anew { (e : ℕ) → (bit_in result.anew e ≡ 1) ↔ (e ≡ place) }
-    ensures grown { (e : ℕ) → (bit_in result.grown e ≡ 1) ↔ ((e ≢ place) × (bit_in places.now e ≡ 1)) }
+// Joins the rows of some places with one row and with the place that was raised, and puts in the row of that.
+fn take_in_raised(
+    places: &[usize],
+    changed: &Bits,
+    more: &Bits,
+    raised: &Raised,
+    rows: &mut BitRows,
+)
+    requires placed { IsPlaced 256 places.now }
+    requires rows { length rows.old ≡ length places.now }
+    requires local { raised.now.local < length places.now }
+    requires place { raised.now.place < 256 }
+    ensures count { length rows.new ≡ length rows.old }
+    ensures taken { AreTakenIn places.now changed.now more.now raised.now rows.old rows.new }
 {
-    let mut grown = *places;
+    join_rows(places, changed, more, raised.place, rows);
+    rows.set(raised.local, raised.row);
+}
+
+// The row of the place that was raised is true, and may be any; those of the other places that may have changed have grown.
+fn settle_raised(changed: &Bits, place: usize, claimed: &mut Bits) -> Changes
+    requires { place < 256 }
+    ensures claimed { (e : ℕ) → e ≢ place → bit_in claimed.new e ≡ bit_in claimed.old e }
+    ensures anew { (e : ℕ) → (bit_in result.anew e ≡ 1) ↔ (e ≡ place) }
+    ensures grown { (e : ℕ) → (bit_in result.grown e ≡ 1) ↔ ((e ≢ place) × (bit_in changed.now e ≡ 1)) }
+{
+    claimed.remove(place);
+    let mut grown = *changed;
     grown.remove(place);
     Changes {
         grown,
@@ -253,17 +274,15 @@ pub fn renew_rows<T: Term>(
     let changed = depending(places, rows.as_slice(), hop.v);
     let before = rows.row(hop.u);
     let of_s = row_by(alloc, at, note, hop.u, rows)?;
-    if of_s.contains(places[hop.v]) {
-        join_rows(places, &changed, &of_s, to, rows);
-        rows.set(hop.u, of_s);
-        claimed.remove(to);
-        return Ok(grown_but(&changed, to));
-    }
     let raised = Raised {
         local: hop.u,
         place: to,
         row: of_s,
     };
+    if of_s.contains(places[hop.v]) {
+        take_in_raised(places, &changed, &of_s, &raised, rows);
+        return Ok(settle_raised(&changed, to, claimed));
+    }
     if asks_at_once(at.term, claimed) {
         rows.set(hop.u, of_s);
         let mut others = changed;
@@ -274,11 +293,9 @@ pub fn renew_rows<T: Term>(
             anew: changed,
         });
     }
-    join_rows(places, &changed, &before, to, rows);
-    rows.set(hop.u, of_s);
+    take_in_raised(places, &changed, &before, &raised, rows);
     let shared = shared_places(&changed, &of_s, claimed);
     claimed.union_with(&changed);
-    claimed.remove(to);
-    let changes = grown_but(&changed, to);
+    let changes = settle_raised(&changed, to, claimed);
     Ok(settle_shared(places, &shared, &raised, rows, claimed, changes))
 }

@@ -6,3 +6,4 @@ pub mod Unions
 pub mod Turned
 pub mod Reached
 pub mod Based
+pub mod Asked

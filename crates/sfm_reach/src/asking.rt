@@ -1,8 +1,8 @@
 // The rows of all terms, as they are asked where a graph is made at some bases.
-ghost use Rattle.std.specs.Prelude.{◌≡◌, ◌<◌, ℕ, map, length, OnOk};
-ghost use Rattle.sfm_spec.specs.Families.{meanings};
+ghost use Rattle.std.specs.Prelude.{◌≡◌, map, length, OnOk};
+ghost use Rattle.sfm_reach.specs.Asked.{AreAllAsked};
 ghost use Rattle.sfm_reach.specs.Based.{AreBased};
-ghost use Rattle.sfm_reach.specs.Reach.{AreNotes, AreSized, IsTable, table_at};
+ghost use Rattle.sfm_reach.specs.Reach.{AreNotes, AreSized};
 
 use crate::reach::{Based, BitRows, ask};
 use sfm_base::{Memory, Rows};
@@ -23,10 +23,7 @@ pub fn ask_all<T: Term>(
     requires count { length notes.old.items ≡ length terms.now }
     requires noted { AreNotes T.fits q terms.now notes.old.items bases.now }
     requires rows { AreSized (map T.places terms.now) rows.old.items }
-    ensures count { OnOk result (length notes.new.items ≡ length terms.now) }
-    ensures noted { OnOk result (AreNotes T.fits q terms.now notes.new.items bases.now) }
-    ensures rows { OnOk result (AreSized (map T.places terms.now) rows.new.items) }
-    ensures tables { OnOk result ((i : ℕ) → i < length terms.now → IsTable (meanings T.places T.value_of terms.now) q bases.now i (table_at rows.new.items i)) }
+    ensures { OnOk result (AreAllAsked T.places T.value_of T.fits terms.now q bases.now notes.new.items rows.new.items) }
 {
     for (i, term) in terms.iter().enumerate() {
         let x = bases.row(i);

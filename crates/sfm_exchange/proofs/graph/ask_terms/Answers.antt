@@ -12,14 +12,5 @@ ask_all-requires-clause-based g c = let fq : FitsSigned w128 c.args.q = c.ranges
 pub ask_all-requires-clause-rows : goal.ask_all-requires-clause-rows
 ask_all-requires-clause-rows g c = c.requires.rows
 
-pub returns-clause-count : goal.returns-clause-count
-returns-clause-count g c = c.in_ok-ask_all.ensures.count
-
-pub returns-clause-noted : goal.returns-clause-noted
-returns-clause-noted g c = let fq : FitsSigned w128 c.args.q = c.ranges.q in simp to_z-of_z at c.in_ok-ask_all.ensures.noted
-
-pub returns-clause-rows : goal.returns-clause-rows
-returns-clause-rows g c = c.in_ok-ask_all.ensures.rows
-
-pub returns-clause-tables : goal.returns-clause-tables
-returns-clause-tables g c = let fq : FitsSigned w128 c.args.q = c.ranges.q in simp to_z-of_z at c.in_ok-ask_all.ensures.tables
+pub returns : goal.returns
+returns g c = let fq : FitsSigned w128 c.args.q = c.ranges.q in simp to_z-of_z at c.in_ok-ask_all.ensures

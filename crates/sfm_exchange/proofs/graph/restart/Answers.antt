@@ -23,7 +23,7 @@ unite-requires-clause-rows g c =
     let ts = meanings t.places t.value_of c.args.terms.now in
     let tables = c.ask_terms.new.rows.items in
     let spots = c.args.graph.now.spots.items in
-    let sized = sized_meanings t.places t.value_of c.args.terms.now tables c.in_ok-ask_terms.ensures.rows in
+    let sized = sized_meanings t.places t.value_of c.args.terms.now tables c.in_ok-ask_terms.ensures.sized in
     let have : HaveRows tables spots = have_rows ts c.args.n spots tables c.requires.graph.are_spots sized.0 sized.1 in
     rw (c.deref.ensures.value, c.deref-2.ensures.value) have
 
@@ -40,7 +40,7 @@ returns-clause-graph g c =
       note_count = ask.count;
       claim_count = omega (arith, c.fill.ensures.len, c.requires.graph.claim_count, c.args.graph.now.claimed.ok.0, c.fill.new.self.ok.0);
       noted = simp to_z-of_z at ask.noted;
-      sized_rows = ask.rows;
+      sized_rows = ask.sized;
       tables = simp to_z-of_z at ask.tables;
       are_spots = c.requires.graph.are_spots;
       are_unions = rw (c.deref.ensures.value, c.deref-2.ensures.value) at told.unions;

@@ -1,9 +1,9 @@
-use Rattle.std.proofs.Common.{◌∙◌, refl, arith}
+use Rattle.std.proofs.Common.{◌∙◌, refl, ap, length, length-set, arith}
 use Rattle.std.proofs.lemmas.Int.{ints}
 use Rattle.sfm_spec.specs.Terms.{times}
 use Rattle.sfm_spec.proofs.Scaled.{family-times, submodular-times}
 use Rattle.sfm_reach.specs.Bits.{bit_in}
-use Rattle.sfm_exchange.proofs.AtOnce.{exchange_asked, lead_to_s}
+use Rattle.sfm_exchange.proofs.AtOnce.{exchange_asked, lead_to_s, of_others}
 use Rattle.sfm_exchange.proofs.Changes.{changes_anew, changes_grown}
 use Rattle.sfm_exchange.proofs.Claiming.{IsRenewing, exchange_more, exchange_still, neither}
 use Rattle.sfm_exchange.proofs.Sharing.{changes_shared, claims_shared, shared_inside, shared_lead}
@@ -40,26 +40,26 @@ returns-then-contains-clause-raised g c =
     let r = renewing g (goal.at.returns-then-contains-clause-raised g c).After-depending-changed in
     let shown = c.elements-places.ensures in
     let hs = c.in_ok-of_s.ensures in
-    let joined = rw (shown, hs.same) at c.join_rows.ensures in
-    let made = rw shown at c.grown_but.ensures in
-    rw c.set.ensures (record {
-      claims = exchange_still r _ hs.row _ joined (rw shown at (c.if-contains.ensures.0 refl)) _ (rw shown at c.remove.ensures.others);
-      changes = changes_grown r _ hs.row c.grown_but.result _ _ joined made.anew made.grown;
+    let taken = rw (shown, hs.same) at c.take_in_raised.ensures.taken in
+    let made = rw shown at c.settle_raised.ensures in
+    rw taken.put (record {
+      claims = exchange_still r _ hs.row _ taken.joined (rw shown at (c.if-contains.ensures.0 refl)) _ made.claimed;
+      changes = changes_grown r _ hs.row c.settle_raised.result _ _ taken.joined made.anew made.grown;
     })
 
 pub ask_rows-requires-clause-leads : goal.ask_rows-requires-clause-leads
-ask_rows-requires-clause-leads g c = λ u l.
+ask_rows-requires-clause-leads g c = λ u l one.
     let r = renewing g (goal.at.ask_rows-requires-clause-leads g c).After-depending-changed in
-    let out = rw c.elements-places.ensures at c.remove-then-asks_at_once.ensures in
-    lead_to_s r (c.asks_at_once.ensures c.if-asks_at_once.true) _ c.in_ok-of_s.ensures.row _ out.out out.others u (rw (← c.requires.based.entries) l)
+    let out = rw c.elements-places.ensures at c.remove.ensures in
+    lead_to_s r (c.asks_at_once.ensures c.if-asks_at_once.true) u (rw (← c.requires.based.entries) l) (of_others _ _ _ out.out out.others _ one)
 
 pub returns-then-asks_at_once-clause-raised : goal.returns-then-asks_at_once-clause-raised
 returns-then-asks_at_once-clause-raised g c =
     let r = renewing g (goal.at.returns-then-asks_at_once-clause-raised g c).After-depending-changed in
     let hs = c.in_ok-of_s.ensures in
     let nothing = c.asks_at_once.ensures c.if-asks_at_once.true in
-    let out = rw c.elements-places.ensures at c.remove-then-asks_at_once.ensures in
-    let asked = rw (c.set-then-asks_at_once.ensures, hs.same) at c.in_ok-ask_rows.ensures.asked in
+    let out = rw c.elements-places.ensures at c.remove.ensures in
+    let asked = rw (c.set.ensures, hs.same) at c.in_ok-ask_rows.ensures.asked in
     record {
       claims = exchange_asked r nothing _ hs.row _ out.out out.others _ asked;
       changes = changes_anew r _ hs.row _ nothing _ out.out out.others _ asked c.no_bits.ensures refl;
@@ -70,12 +70,12 @@ returns-clause-raised g c =
     let r = renewing g (goal.at.returns-clause-raised g c).After-depending-changed in
     let shown = c.elements-places.ensures in
     let hs = c.in_ok-of_s.ensures in
-    let joined = rw (shown, hs.same, c.row-before.ensures) at c.join_rows-2.ensures in
-    let made = rw shown at c.grown_but-changes.ensures in
-    let still = exchange_more r _ hs.row _ joined _ (λ e ne none. neither c.args.claimed.now c.depending-changed.result e (bit_in c.remove-2.new.self e) (rw shown at c.remove-2.ensures.others e ne ∙ c.union_with.ensures e) none) in
-    let grown = changes_grown r _ hs.row c.grown_but-changes.result _ _ joined made.anew made.grown in
+    let taken = rw (shown, hs.same, c.row-before.ensures) at c.take_in_raised-2.ensures.taken in
+    let made = rw shown at c.settle_raised-changes.ensures in
+    let still = exchange_more r _ hs.row _ taken.joined _ (λ e ne none. neither c.args.claimed.now c.depending-changed.result e (bit_in c.settle_raised-changes.new.claimed e) (made.claimed e ne ∙ c.union_with.ensures e) none) in
+    let grown = changes_grown r _ hs.row c.settle_raised-changes.result _ _ taken.joined made.anew made.grown in
     let told = c.shared_places-shared.ensures in
-    let after = rw (shown, c.set-2.ensures) at c.settle_shared.ensures in
+    let after = rw (shown, taken.put) at c.settle_shared.ensures in
     record {
       claims = claims_shared _ _ _ _ _ after.rows r.raising (record { within = r.raising.raised; place_is = refl; row_is = hs.row }) (shared_lead r _ _ told) _ _ after.claimed still;
       changes = changes_shared _ _ _ _ _ after.rows _ _ _ after.grown after.anew (shared_inside r _ _ told) grown;
@@ -105,29 +105,8 @@ row_by-requires-clause-from g c = c.requires.raised
 pub row_by-requires-clause-rows : goal.row_by-requires-clause-rows
 row_by-requires-clause-rows g c = c.requires.rows
 
-pub join_rows-requires-clause-placed : goal.join_rows-requires-clause-placed
-join_rows-requires-clause-placed g c = rw c.elements-places.ensures c.requires.based.placed
-
-pub join_rows-requires-clause-rows : goal.join_rows-requires-clause-rows
-join_rows-requires-clause-rows g c = rw (c.in_ok-of_s.ensures.same, c.elements-places.ensures) (c.requires.rows ∙ c.requires.based.entries)
-
-pub join_rows-requires-2-clause-placed : goal.join_rows-requires-2-clause-placed
-join_rows-requires-2-clause-placed g c = rw c.elements-places.ensures c.requires.based.placed
-
-pub ask_rows-requires-clause-based : goal.ask_rows-requires-clause-based
-ask_rows-requires-clause-based g c = c.requires.based
-
-pub ask_rows-requires-clause-noted : goal.ask_rows-requires-clause-noted
-ask_rows-requires-clause-noted g c = c.in_ok-of_s.ensures.noted
-
-pub settle_shared-requires-clause-placed : goal.settle_shared-requires-clause-placed
-settle_shared-requires-clause-placed g c = rw c.elements-places.ensures c.requires.based.placed
-
 pub returns-then-contains-clause-noted : goal.returns-then-contains-clause-noted
 returns-then-contains-clause-noted g c = c.in_ok-of_s.ensures.noted
-
-pub returns-then-asks_at_once-clause-noted : goal.returns-then-asks_at_once-clause-noted
-returns-then-asks_at_once-clause-noted g c = c.in_ok-ask_rows.ensures.noted
 
 pub returns-clause-noted : goal.returns-clause-noted
 returns-clause-noted g c = c.in_ok-of_s.ensures.noted
@@ -135,13 +114,79 @@ returns-clause-noted g c = c.in_ok-of_s.ensures.noted
 pub contains-requires : goal.contains-requires
 contains-requires g c = let b = c.requires.based in rw c.elements-places.ensures (b.placed.below c.args.hop.v (rw (← b.entries) c.requires.lowered))
 
-pub join_rows-requires-clause-to : goal.join_rows-requires-clause-to
-join_rows-requires-clause-to g c = let b = c.requires.based in rw c.elements-places.ensures (b.placed.below c.args.hop.u (rw (← b.entries) c.requires.raised))
+pub take_in_raised-requires-clause-placed : goal.take_in_raised-requires-clause-placed
+take_in_raised-requires-clause-placed g c = rw c.elements-places.ensures c.requires.based.placed
 
-pub join_rows-requires-2-clause-to : goal.join_rows-requires-2-clause-to
-join_rows-requires-2-clause-to g c = let b = c.requires.based in rw c.elements-places.ensures (b.placed.below c.args.hop.u (rw (← b.entries) c.requires.raised))
+pub take_in_raised-requires-clause-rows : goal.take_in_raised-requires-clause-rows
+take_in_raised-requires-clause-rows g c = rw (c.in_ok-of_s.ensures.same, c.elements-places.ensures) (c.requires.rows ∙ c.requires.based.entries)
+
+pub take_in_raised-requires-clause-local : goal.take_in_raised-requires-clause-local
+take_in_raised-requires-clause-local g c = rw (c.elements-places.ensures, ← c.requires.based.entries) c.requires.raised
+
+pub take_in_raised-requires-clause-place : goal.take_in_raised-requires-clause-place
+take_in_raised-requires-clause-place g c = let b = c.requires.based in rw c.elements-places.ensures (b.placed.below c.args.hop.u (rw (← b.entries) c.requires.raised))
+
+pub settle_raised-requires : goal.settle_raised-requires
+settle_raised-requires g c = let b = c.requires.based in rw c.elements-places.ensures (b.placed.below c.args.hop.u (rw (← b.entries) c.requires.raised))
+
+pub ask_rows-requires-clause-based : goal.ask_rows-requires-clause-based
+ask_rows-requires-clause-based g c = c.requires.based
+
+pub ask_rows-requires-clause-noted : goal.ask_rows-requires-clause-noted
+ask_rows-requires-clause-noted g c = c.in_ok-of_s.ensures.noted
 
 pub ask_rows-requires-clause-raised : goal.ask_rows-requires-clause-raised
 ask_rows-requires-clause-raised g c =
     let b = c.requires.based in
     record { within = rw (← b.entries) c.requires.raised; place_is = rw c.elements-places.ensures refl; row_is = c.in_ok-of_s.ensures.row }
+
+pub ask_rows-requires-clause-rows : goal.ask_rows-requires-clause-rows
+ask_rows-requires-clause-rows g c = ap length c.set.ensures ∙ (length-set c.row_by.new.rows c.args.hop.u c.in_ok-of_s.of_s ∙ (ap length c.in_ok-of_s.ensures.same ∙ c.requires.rows))
+
+pub take_in_raised-requires-2-clause-placed : goal.take_in_raised-requires-2-clause-placed
+take_in_raised-requires-2-clause-placed g c = rw c.elements-places.ensures c.requires.based.placed
+
+pub take_in_raised-requires-2-clause-rows : goal.take_in_raised-requires-2-clause-rows
+take_in_raised-requires-2-clause-rows g c = rw (c.in_ok-of_s.ensures.same, c.elements-places.ensures) (c.requires.rows ∙ c.requires.based.entries)
+
+pub take_in_raised-requires-2-clause-local : goal.take_in_raised-requires-2-clause-local
+take_in_raised-requires-2-clause-local g c = rw (c.elements-places.ensures, ← c.requires.based.entries) c.requires.raised
+
+pub take_in_raised-requires-2-clause-place : goal.take_in_raised-requires-2-clause-place
+take_in_raised-requires-2-clause-place g c = let b = c.requires.based in rw c.elements-places.ensures (b.placed.below c.args.hop.u (rw (← b.entries) c.requires.raised))
+
+pub settle_raised-changes-requires : goal.settle_raised-changes-requires
+settle_raised-changes-requires g c = let b = c.requires.based in rw c.elements-places.ensures (b.placed.below c.args.hop.u (rw (← b.entries) c.requires.raised))
+
+pub settle_shared-requires-clause-placed : goal.settle_shared-requires-clause-placed
+settle_shared-requires-clause-placed g c = rw c.elements-places.ensures c.requires.based.placed
+
+pub settle_shared-requires-clause-place : goal.settle_shared-requires-clause-place
+settle_shared-requires-clause-place g c = let b = c.requires.based in rw c.elements-places.ensures (b.placed.below c.args.hop.u (rw (← b.entries) c.requires.raised))
+
+pub settle_shared-requires-clause-rows : goal.settle_shared-requires-clause-rows
+settle_shared-requires-clause-rows g c = c.take_in_raised-2.ensures.count ∙ rw (c.in_ok-of_s.ensures.same, c.elements-places.ensures) (c.requires.rows ∙ c.requires.based.entries)
+
+pub returns-then-contains-clause-rows : goal.returns-then-contains-clause-rows
+returns-then-contains-clause-rows g c = c.take_in_raised.ensures.count ∙ ap length c.in_ok-of_s.ensures.same
+
+pub returns-then-asks_at_once-clause-rows : goal.returns-then-asks_at_once-clause-rows
+returns-then-asks_at_once-clause-rows g c = c.in_ok-ask_rows.ensures.asked.count ∙ (ap length c.set.ensures ∙ (length-set c.row_by.new.rows c.args.hop.u c.in_ok-of_s.of_s ∙ ap length c.in_ok-of_s.ensures.same))
+
+pub returns-clause-rows : goal.returns-clause-rows
+returns-clause-rows g c = c.settle_shared.ensures.rows.count ∙ (c.take_in_raised-2.ensures.count ∙ ap length c.in_ok-of_s.ensures.same)
+
+pub returns-then-asks_at_once-clause-noted : goal.returns-then-asks_at_once-clause-noted
+returns-then-asks_at_once-clause-noted g c = c.in_ok-ask_rows.ensures.noted
+
+pub bounds-places-hop : goal.bounds-places-hop
+bounds-places-hop g c = rw (c.elements-places.ensures, ← c.requires.based.entries) c.requires.raised
+
+pub bounds-places-hop-2 : goal.bounds-places-hop-2
+bounds-places-hop-2 g c = rw (c.elements-places.ensures, ← c.requires.based.entries) c.requires.lowered
+
+pub set-requires : goal.set-requires
+set-requires g c = rw (c.in_ok-of_s.ensures.same, c.requires.rows) c.requires.raised
+
+pub remove-requires : goal.remove-requires
+remove-requires g c = let b = c.requires.based in rw c.elements-places.ensures (b.placed.below c.args.hop.u (rw (← b.entries) c.requires.raised))

@@ -9,8 +9,9 @@ use Rattle.sfm_spec.specs.Families.{Meaning, meanings}
 use Rattle.sfm_spec.specs.Walks.{base_at}
 use Rattle.sfm_law.proofs.Lists.{meanings-at, length-meanings}
 use Rattle.sfm_reach.specs.declared.bits.Bits.{Bits}
+use Rattle.sfm_reach.specs.Based.{IsBased}
 use Rattle.sfm_reach.specs.Reach.{IsReachTable, IsTable, table_at}
-use Rattle.sfm_reach.proofs.Noting.{notes_put, sized_set}
+use Rattle.sfm_reach.proofs.Noting.{notes_put, sized_read, sized_set}
 use Rattle.sfm_reach.proofs.Reaching.{table_steps}
 use Rattle.sfm_reach.proofs.asking.ask_all.Goals as goal
 
@@ -65,14 +66,33 @@ loop-i-preserved g c =
       notes_put t.fits c.args.q terms notes c.args.bases.now i term c.ask.new.note inv.2 l inv.3 is noted,
     )
 
-pub returns-clause-tables : goal.returns-clause-tables
-returns-clause-tables g c =
+pub returns : goal.returns
+returns g c =
     let fq : FitsSigned w128 c.args.q = c.ranges.q in
     let inv = simp to_z-of_z at c.loop-i.invariant in
-    λ i l. inv.1 i (omega (arith, l, c.loop-i.auto.i-end, c.loop-i-test.false))
+    record { count = inv.2; noted = inv.3; sized = inv.0; tables = λ i l. inv.1 i (omega (arith, l, c.loop-i.auto.i-end, c.loop-i-test.false)) }
 
-pub returns-clause-noted : goal.returns-clause-noted
-returns-clause-noted g c =
+pub loop-i-init : goal.loop-i-init
+loop-i-init g c =
+    let t = g.T.Term in
     let fq : FitsSigned w128 c.args.q = c.ranges.q in
-    let inv = simp to_z-of_z at c.loop-i.invariant in
-    inv.3
+    simp to_z-of_z (c.requires.rows, (λ i l. absurd {A = IsTable (meanings t.places t.value_of c.args.terms.now) c.args.q c.args.bases.now i (table_at c.args.rows.now.items i)} (omega (arith, l))), c.requires.count, c.requires.noted)
+
+pub row-x-requires : goal.row-x-requires
+row-x-requires g c = rw c.requires.based.count c.loop-i-test.true
+
+pub ask-requires-clause-based : goal.ask-requires-clause-based
+ask-requires-clause-based g c =
+    let t = g.T.Term in
+    let fq : FitsSigned w128 c.args.q = c.ranges.q in
+    let B : List ℤ → Type 0 = λ x. IsBased t.places t.value_of t.size_of c.index-terms-i.result c.args.q x in
+    simp to_z-of_z (subst B (sym c.row-x.ensures) (c.requires.based.each c.loop-i.i c.loop-i-test.true c.index-terms-i.result c.index-terms-i.is))
+
+pub ask-requires-clause-rows : goal.ask-requires-clause-rows
+ask-requires-clause-rows g c =
+    let t = g.T.Term in
+    let i = c.loop-i.i in
+    let l = c.loop-i-test.true in
+    let term = c.index-terms-i.result in
+    let sized = sized_read t.places c.args.terms.now c.loop-i.rows.items i term c.index_mut.result.now c.loop-i.invariant.0 l c.index-terms-i.is c.index_mut.ensures.value in
+    sized ∙ sym (ap length c.row-x.ensures ∙ (c.requires.based.each i l term c.index-terms-i.is).entries)

@@ -1,5 +1,6 @@
-use Rattle.std.proofs.Common.{refl, ◌∙◌}
+use Rattle.std.proofs.Common.{refl, sym, ap, ◌∙◌, true, false, length, length-set, arith}
 use Rattle.sfm_reach.proofs.Imaging.{coming_more, coming_done}
+use Rattle.sfm_reach.proofs.Placing.{has_place}
 use Rattle.sfm_reach.proofs.image.Image.put_in.Goals as goal
 
 pub loop-v-init : goal.loop-v-init
@@ -16,3 +17,41 @@ pub returns-clause-same : goal.returns-clause-same
 returns-clause-same c =
     let at = c.loop-v.self in
     coming_done c.args.places.now c.requires.placed at.part at.next at.ahead at.bits at.in_order c.loop-v.invariant.0 c.in_default.ensures ∙ c.loop-v.invariant.1
+
+pub remove-requires : goal.remove-requires
+remove-requires c = has_place c.loop-v.self.ahead c.in-Some.v c.in-Some.ensures.0
+
+pub insert-requires : goal.insert-requires
+insert-requires c =
+    let inv = c.loop-v.invariant.0 in
+    let l = has_place c.loop-v.self.ahead c.in-Some.v c.in-Some.ensures.0 in
+    omega (arith, l, inv.beside.count, inv.next_count)
+
+pub bounds-places-v : goal.bounds-places-v
+bounds-places-v c =
+    let inv = c.loop-v.invariant.0 in
+    let l = has_place c.loop-v.self.ahead c.in-Some.v c.in-Some.ensures.0 in
+    omega (arith, l, inv.beside.count, inv.next_count, inv.image.count)
+
+pub insert-requires-in-Some : goal.insert-requires-in-Some
+insert-requires-in-Some c =
+    let inv = c.loop-v.invariant.0 in
+    let l = has_place c.loop-v.self.ahead c.in-Some.v c.in-Some.ensures.0 in
+    c.requires.placed.below c.in-Some.v (omega (arith, l, inv.beside.count, inv.next_count, inv.image.count))
+
+pub invariant_of-self : goal.invariant_of-self
+invariant_of-self c = record { next_places = c.args.self.now.next_places; ahead_places = c.write_beside.ensures.count ∙ c.args.self.now.next_places }
+
+pub invariant_of-self-in-Some : goal.invariant_of-self-in-Some
+invariant_of-self-in-Some c =
+    let at = c.loop-v.self in
+    let inv = c.loop-v.invariant.0 in
+    let part = ap length c.insert.ensures ∙ length-set at.part c.in-Some.v true in
+    let ahead = ap length c.remove.ensures ∙ length-set at.ahead c.in-Some.v false in
+    record { next_places = inv.next_count ∙ sym part; ahead_places = ahead ∙ (inv.beside.count ∙ (inv.next_count ∙ sym part)) }
+
+pub returns-clause-image : goal.returns-clause-image
+returns-clause-image c = c.loop-v.invariant.0.image
+
+pub returns-clause-next : goal.returns-clause-next
+returns-clause-next c = c.loop-v.invariant.1

@@ -1,5 +1,6 @@
-use Rattle.std.proofs.Common.{refl}
-use Rattle.sfm_reach.proofs.Imaging.{leaving_less}
+use Rattle.std.proofs.Common.{refl, sym, ap, ◌∙◌, false, length, length-set, arith}
+use Rattle.sfm_reach.proofs.Imaging.{leaving_done, leaving_less}
+use Rattle.sfm_reach.proofs.Placing.{has_place}
 use Rattle.sfm_reach.proofs.image.Image.take_out.Goals as goal
 
 pub loop-v-init : goal.loop-v-init
@@ -11,3 +12,45 @@ loop-v-preserved c =
     let inv = c.loop-v.invariant in
     let p = c.in-Some.ensures.0 in
     rw (c.remove-in-Some.ensures, c.remove.ensures) (leaving_less c.args.places.now c.requires.placed at.part at.next at.ahead at.bits at.in_order c.remove-in-Some-2.new.self c.in-Some.v c.remove-in-Some-2.ensures.others inv.0 p c.remove-in-Some-2.ensures.out, inv.1)
+
+pub remove-requires : goal.remove-requires
+remove-requires c = has_place c.loop-v.self.ahead c.in-Some.v c.in-Some.ensures.0
+
+pub remove-requires-in-Some : goal.remove-requires-in-Some
+remove-requires-in-Some c =
+    let l = has_place c.loop-v.self.ahead c.in-Some.v c.in-Some.ensures.0 in
+    omega (arith, l, c.loop-v.invariant.0.beside.count)
+
+pub bounds-places-v : goal.bounds-places-v
+bounds-places-v c =
+    let inv = c.loop-v.invariant.0 in
+    let l = has_place c.loop-v.self.ahead c.in-Some.v c.in-Some.ensures.0 in
+    omega (arith, l, inv.beside.count, inv.image.count)
+
+pub remove-requires-in-Some-2 : goal.remove-requires-in-Some-2
+remove-requires-in-Some-2 c =
+    let inv = c.loop-v.invariant.0 in
+    let l = has_place c.loop-v.self.ahead c.in-Some.v c.in-Some.ensures.0 in
+    c.requires.placed.below c.in-Some.v (omega (arith, l, inv.beside.count, inv.image.count))
+
+pub invariant_of-self : goal.invariant_of-self
+invariant_of-self c = record { next_places = c.args.self.now.next_places; ahead_places = c.write_beside.ensures.count }
+
+pub invariant_of-self-in-Some : goal.invariant_of-self-in-Some
+invariant_of-self-in-Some c =
+    let at = c.loop-v.self in
+    let inv = c.loop-v.invariant.0 in
+    let part = ap length c.remove-in-Some.ensures ∙ length-set at.part c.in-Some.v false in
+    let ahead = ap length c.remove.ensures ∙ length-set at.ahead c.in-Some.v false in
+    record { next_places = inv.next_count ∙ sym part; ahead_places = ahead ∙ (inv.beside.count ∙ sym part) }
+
+pub returns-clause-image : goal.returns-clause-image
+returns-clause-image c = c.loop-v.invariant.0.image
+
+pub returns-clause-next : goal.returns-clause-next
+returns-clause-next c = c.loop-v.invariant.1
+
+pub returns-clause-within : goal.returns-clause-within
+returns-clause-within c =
+    let at = c.loop-v.self in
+    leaving_done c.args.places.now c.requires.placed at.part at.next at.ahead at.bits at.in_order c.loop-v.invariant.0 c.in_default.ensures
