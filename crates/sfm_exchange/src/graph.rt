@@ -155,7 +155,8 @@ pub fn restart<T: Term>(
     ensures bases { OnOk result (graph.new.bases ≡ bases) }
 {
     graph.bases = bases;
-    ask_terms(
+    graph.notes = notes_of(alloc, terms, q, &graph.bases)?;
+    ask_all(
         alloc,
         terms,
         q,
@@ -164,49 +165,8 @@ pub fn restart<T: Term>(
         &mut graph.rows,
     )?;
     graph.claimed.fill(no_bits());
-    unite(
-        alloc,
-        &graph.spots,
-        &graph.rows,
-        &mut graph.unions,
-        &mut graph.back,
-    )?;
-    Ok(())
-}
-
-// Asks all terms at bases of theirs: for what the kind of each keeps beside its base, and for its rows.
-fn ask_terms<T: Term>(
-    alloc: Global,
-    terms: &[T],
-    q: i128,
-    bases: &Rows,
-    notes: &mut Vec<T::Note>,
-    rows: &mut Vec<BitRows>,
-) -> Result<(), Memory>
-    requires based { AreBased T.places T.value_of T.size_of terms.now q bases.now }
-    requires rows { AreSized (map T.places terms.now) rows.old.items }
-    ensures { OnOk result (AreAllAsked T.places T.value_of T.fits terms.now q bases.now notes.new.items rows.new.items) }
-{
-    *notes = notes_of(alloc, terms, q, bases)?;
-    ask_all(alloc, terms, q, bases, notes, rows)?;
-    Ok(())
-}
-
-// Writes for each place the union of the rows of its spots, and the same turned round.
-fn unite(
-    alloc: Global,
-    spots: &[Spots],
-    rows: &[BitRows],
-    unions: &mut Vec<Bits>,
-    back: &mut Vec<Bits>,
-) -> Result<(), Memory>
-    requires rows { HaveRows rows.now spots.now }
-    requires few { length spots.now ≤ 256 }
-    ensures unions { OnOk result (AreUnions rows.now spots.now unions.new.items) }
-    ensures turned { OnOk result (AreTurned unions.new.items back.new.items) }
-{
-    *unions = unions_of(alloc, spots, rows)?;
-    *back = turned_of(alloc, unions)?;
+    graph.unions = unions_of(alloc, &graph.spots, &graph.rows)?;
+    graph.back = turned_of(alloc, &graph.unions)?;
     Ok(())
 }
 
@@ -220,15 +180,7 @@ pub fn copy_rows(alloc: Global, rows: &Rows) -> Result<Rows, Memory>
 {
     let mut copied = Rows::new(alloc);
     for i in 0..rows.len() {
-        push_copy(alloc, rows.row(i), &mut copied)?;
+        copied.push(Vec::from_slice(alloc, rows.row(i))?)?;
     }
     Ok(copied)
-}
-
-// Puts the same row once more at the end.
-fn push_copy(alloc: Global, row: &[i128], to: &mut Rows) -> Result<(), Memory>
-    ensures { OnOk result (to.new ≡ to.old ++ row.now ∷ []) }
-{
-    to.push(Vec::from_slice(alloc, row)?)?;
-    Ok(())
 }

@@ -6,4 +6,5 @@ pub loop-i-preserved : goal.loop-i-preserved
 loop-i-preserved c =
     let rows = c.args.rows.now in
     let i = c.loop-i.i in
-    c.in_ok-push_copy.ensures ∙ (ap (λ z. z ++ c.row.result.now ∷ []) c.loop-i.invariant ∙ (ap (λ z. take i rows ++ z ∷ []) c.row.ensures ∙ sym (take_more rows i [] (rw c.len-i-end.ensures at c.loop-i-test.true))))
+    let row = c.in_ok-from_slice.field-0.items in
+    c.in_ok-push.ensures ∙ (ap (λ z. z ++ row ∷ []) c.loop-i.invariant ∙ (ap (λ z. take i rows ++ z ∷ []) (c.in_ok-from_slice.ensures.items ∙ c.row.ensures) ∙ sym (take_more rows i [] (rw c.len-i-end.ensures at c.loop-i-test.true))))

@@ -8,33 +8,35 @@ use Rattle.sfm_reach.proofs.Uniting.{have_rows}
 use Rattle.sfm_reach.proofs.Basing.{are_based}
 use Rattle.sfm_exchange.proofs.graph.restart.Goals as goal
 
-pub ask_terms-requires-clause-based : goal.ask_terms-requires-clause-based
-ask_terms-requires-clause-based g c =
+pub notes_of-requires : goal.notes_of-requires
+notes_of-requires g c =
     let m = g.met.T.Term in
     let fq : FitsSigned w128 c.args.q = c.ranges.q in
     simp to_z-of_z (are_based m.submodular m.bounded c.requires.bounded c.requires.factor c.requires.bases c.requires.small)
 
-pub ask_terms-requires-clause-rows : goal.ask_terms-requires-clause-rows
-ask_terms-requires-clause-rows g c = c.requires.graph.sized_rows
+pub ask_all-requires-clause-based : goal.ask_all-requires-clause-based
+ask_all-requires-clause-based g c =
+    let m = g.met.T.Term in
+    let fq : FitsSigned w128 c.args.q = c.ranges.q in
+    simp to_z-of_z (are_based m.submodular m.bounded c.requires.bounded c.requires.factor c.requires.bases c.requires.small)
 
-pub unite-requires-clause-rows : goal.unite-requires-clause-rows
-unite-requires-clause-rows g c =
+pub ask_all-requires-clause-rows : goal.ask_all-requires-clause-rows
+ask_all-requires-clause-rows g c = c.requires.graph.sized_rows
+
+pub unions_of-requires : goal.unions_of-requires
+unions_of-requires g c =
     let t = g.T.Term in
     let ts = meanings t.places t.value_of c.args.terms.now in
-    let tables = c.ask_terms.new.rows.items in
+    let tables = c.ask_all.new.rows.items in
     let spots = c.args.graph.now.spots.items in
-    let sized = sized_meanings t.places t.value_of c.args.terms.now tables c.in_ok-ask_terms.ensures.sized in
+    let sized = sized_meanings t.places t.value_of c.args.terms.now tables c.in_ok-ask_all.ensures.sized in
     let have : HaveRows tables spots = have_rows ts c.args.n spots tables c.requires.graph.are_spots sized.0 sized.1 in
     rw (c.deref.ensures.value, c.deref-2.ensures.value) have
-
-pub unite-requires-clause-few : goal.unite-requires-clause-few
-unite-requires-clause-few g c = rw (c.deref.ensures.value, c.requires.graph.are_spots.count) c.requires.bounded.few
 
 pub returns-clause-graph : goal.returns-clause-graph
 returns-clause-graph g c =
     let fq : FitsSigned w128 c.args.q = c.ranges.q in
-    let ask = c.in_ok-ask_terms.ensures in
-    let told = c.in_ok-unite.ensures in
+    let ask = c.in_ok-ask_all.ensures in
     record {
       are_bases = c.requires.bases;
       note_count = ask.count;
@@ -43,6 +45,9 @@ returns-clause-graph g c =
       sized_rows = ask.sized;
       tables = simp to_z-of_z at ask.tables;
       are_spots = c.requires.graph.are_spots;
-      are_unions = rw (c.deref.ensures.value, c.deref-2.ensures.value) at told.unions;
-      are_turned = told.turned;
+      are_unions = rw (c.deref.ensures.value, c.deref-2.ensures.value) at c.in_ok-graph-2.ensures;
+      are_turned = rw c.deref-3.ensures.value at c.in_ok-graph-3.ensures;
     }
+
+pub turned_of-requires : goal.turned_of-requires
+turned_of-requires g c = rw (c.deref-3.ensures.value, c.in_ok-graph-2.ensures.count, c.deref.ensures.value, c.requires.graph.are_spots.count) c.requires.bounded.few
