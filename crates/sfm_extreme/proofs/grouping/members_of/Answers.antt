@@ -1,6 +1,7 @@
 use Rattle.std.proofs.Common.{◌≡◌, ℕ, Bool, false, List, [], length, get_or, sym, ap, ◌∙◌, arith}
-use Rattle.std.proofs.lemmas.Bool.{both_ways}
-use Rattle.std.proofs.lemmas.List.{get_or_read}
+use Rattle.std.proofs.lemmas.Bool.{both_ways, false≢true}
+use Rattle.std.proofs.lemmas.List.{get_or_read, length-replicate}
+use Rattle.sfm_reach.proofs.Placing.{none_in_empty}
 use Rattle.sfm_extreme.specs.Pulls.{Pulls, row_of}
 use Rattle.sfm_extreme.proofs.Groups.{marked_put, marked_skip}
 use Rattle.sfm_extreme.proofs.grouping.members_of.Goals as goal
@@ -32,3 +33,19 @@ returns c =
     let h = c.loop-d.invariant in
     let done = c.loop-d-test.false in
     record { places = h.places; exact = λ d l. h.exact d (omega (arith, l, done)) }
+
+pub contains-requires : goal.contains-requires
+contains-requires c =
+    let row = get_or_read c.args.rows.now c.args.first c.index-rows-first.result c.requires.inside c.index-rows-first.is [] in
+    rw (row, c.requires.square c.args.first c.requires.inside) c.loop-d-test.true
+
+pub contains-requires-then-contains : goal.contains-requires-then-contains
+contains-requires-then-contains c =
+    let row = get_or_read c.args.rows.now c.loop-d.d c.index-rows-d.result c.loop-d-test.true c.index-rows-d.is [] in
+    rw (row, c.requires.square c.loop-d.d c.loop-d-test.true) c.requires.inside
+
+pub insert-requires : goal.insert-requires
+insert-requires c = rw c.loop-d.invariant.places c.loop-d-test.true
+
+pub loop-d-init : goal.loop-d-init
+loop-d-init c = rw c.in_ok-members.ensures (record { places = length-replicate (length c.args.rows.now) false; exact = λ e l. absurd (omega (arith, l)); later = λ e _ has. false≢true (sym (none_in_empty (length c.args.rows.now) e) ∙ has) })

@@ -81,3 +81,30 @@ returns-clause-reading g c =
       reached_are = rw c.deref-2.ensures.value at c.reached_from-reached.ensures;
       leading_are = rw c.deref-3.ensures.value at c.reached_from-leading.ensures;
     }
+
+pub rest_of-requires-clause-placed : goal.rest_of-requires-clause-placed
+rest_of-requires-clause-placed g c = c.requires.bounded.placed
+
+pub rest_of-requires-clause-few : goal.rest_of-requires-clause-few
+rest_of-requires-clause-few g c = c.requires.bounded.few_places
+
+pub rest_of-requires-clause-small : goal.rest_of-requires-clause-small
+rest_of-requires-clause-small g c = c.requires.small
+
+pub rest_of-requires-clause-shifts : goal.rest_of-requires-clause-shifts
+rest_of-requires-clause-shifts g c = c.requires.shifts
+
+pub graph_at-requires-clause-bounded : goal.graph_at-requires-clause-bounded
+graph_at-requires-clause-bounded g c = c.requires.bounded
+
+pub graph_at-requires-clause-factor : goal.graph_at-requires-clause-factor
+graph_at-requires-clause-factor g c = let fq : FitsSigned w128 c.args.q = c.ranges.q in simp to_z-of_z c.requires.factor
+
+pub graph_at-requires-clause-bases : goal.graph_at-requires-clause-bases
+graph_at-requires-clause-bases g c = let fq : FitsSigned w128 c.args.q = c.ranges.q in simp to_z-of_z (rw c.in_ok-copied.ensures c.requires.bases)
+
+pub graph_at-requires-clause-small : goal.graph_at-requires-clause-small
+graph_at-requires-clause-small g c = rw c.in_ok-copied.ensures c.requires.small
+
+pub returns-clause-bases : goal.returns-clause-bases
+returns-clause-bases g c = c.in_ok-graph.ensures.bases ∙ c.in_ok-copied.ensures

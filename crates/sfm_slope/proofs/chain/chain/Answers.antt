@@ -1,6 +1,6 @@
 use Rattle.std.proofs.Common.{◌≡◌, [], get_or, false, true, None, refl, ◌∙◌, arith}
 use Rattle.std.proofs.lemmas.Bool.{both_ways}
-use Rattle.std.proofs.lemmas.List.{get_or-replicate}
+use Rattle.std.proofs.lemmas.List.{get_or-replicate, length-replicate}
 use Rattle.std.proofs.lemmas.List.Elements.{All-nil}
 use Rattle.sfm_spec.specs.Sets.{empty_set, whole_set}
 use Rattle.sfm_spec.specs.Families.{meanings}
@@ -67,3 +67,18 @@ returns-clause-search g c =
       | then-n-gt0+in_ok-fill w ↦ rw w.search-is w.in_ok-fill.ensures.search
       | else-n-gt0 w ↦ rw w.search-is c.requires.search
     ]
+
+pub worth_of-requires-clause-bounded : goal.worth_of-requires-clause-bounded
+worth_of-requires-clause-bounded g c = rw (c.in_ok-empty.ensures, length-replicate c.args.n false) c.requires.search.first.bounded
+
+pub worth_of-requires-2-clause-bounded : goal.worth_of-requires-2-clause-bounded
+worth_of-requires-2-clause-bounded g c = rw (c.in_ok-whole.ensures, length-replicate c.args.n true) c.requires.search.first.bounded
+
+pub fill-requires-clause-search : goal.fill-requires-clause-search
+fill-requires-clause-search g c = c.requires.search
+
+pub fill-requires-clause-low_worth : goal.fill-requires-clause-low_worth
+fill-requires-clause-low_worth g c = c.in_ok-low.ensures.worth
+
+pub fill-requires-clause-high_worth : goal.fill-requires-clause-high_worth
+fill-requires-clause-high_worth g c = c.in_ok-high.ensures.worth

@@ -1,5 +1,6 @@
 use Rattle.std.proofs.Common.{◌≡◌, ◌+◌, length, take, unwrap_or, ℤ, pos, ◌+ℤ◌, FitsSigned, rules, arith}
 use Rattle.std.proofs.lemmas.Int.{ints}
+use Rattle.std.proofs.lemmas.List.{take_all}
 use mir.Syntax.{w128}
 use Rattle.sfm_spec.specs.Bounds.{IsGiven}
 use Rattle.sfm_spec.specs.Families.{meanings, sum_at}
@@ -48,3 +49,6 @@ returns-clause-small g c =
     let s = c.args.set.now in
     let small = value_small t.places t.value_of t.size_of m.bounded (λ y. (m.submodular y).at_empty) s in
     rw c.loop-term.invariant (sum_given t.places t.value_of t.size_of s small c.args.terms.now c.loop-term.term-index c.requires.bounded.small)
+
+pub returns-clause-value : goal.returns-clause-value
+returns-clause-value g c = rw (take_all c.loop-term.term-index c.args.terms.now c.loop-term-test.false) at c.loop-term.invariant

@@ -173,3 +173,9 @@ returns-in_err-next_walk-clause-kept g c = c.loop-run.invariant.1
 
 pub returns-in_err-advance-clause-kept : goal.returns-in_err-advance-clause-kept
 returns-in_err-advance-clause-kept g c = c.loop-run.invariant.1
+
+pub rest_of-requires-clause-shifts : goal.rest_of-requires-clause-shifts
+rest_of-requires-clause-shifts g c = let shifts = c.requires.shifts in omega (arith, ints, shifts)
+
+pub rest_of-requires-clause-small : goal.rest_of-requires-clause-small
+rest_of-requires-clause-small g c = λ k d l i e lt. let s = c.requires.small k d l i e lt in record { low = omega (arith, ints, s.low); high = omega (arith, ints, s.high) }

@@ -1,4 +1,4 @@
-use Rattle.std.proofs.Common.{◌≡◌, ℕ, ◌+◌, ◌<◌, ◌≤◌, ℤ, List, length, map, get_or, pos, replicate, rules, FitsSigned}
+use Rattle.std.proofs.Common.{◌≡◌, ℕ, ◌+◌, ◌<◌, ◌≤◌, ℤ, List, length, map, get_or, pos, replicate, rules, arith, FitsSigned}
 use Rattle.std.proofs.lemmas.Int.{to_z-of_z}
 use Rattle.std.proofs.lemmas.List.{length-replicate}
 use mir.Syntax.{w128}
@@ -85,3 +85,30 @@ returns-clause-bases g c =
 
 pub returns-clause-small : goal.returns-clause-small
 returns-clause-small g c = rw c.into_bases.ensures c.in_ok-z.ensures.small
+
+pub start_rows-requires-clause-factor : goal.start_rows-requires-clause-factor
+start_rows-requires-clause-factor g c = let fq : FitsSigned w128 c.args.q = c.ranges.q in simp to_z-of_z c.requires.factor
+
+pub graph_at-requires-clause-bounded : goal.graph_at-requires-clause-bounded
+graph_at-requires-clause-bounded g c = c.requires.bounded
+
+pub graph_at-requires-clause-factor : goal.graph_at-requires-clause-factor
+graph_at-requires-clause-factor g c = let fq : FitsSigned w128 c.args.q = c.ranges.q in simp to_z-of_z c.requires.factor
+
+pub improve-requires-clause-room : goal.improve-requires-clause-room
+improve-requires-clause-room g c = c.requires.room
+
+pub returns-clause-kept : goal.returns-clause-kept
+returns-clause-kept g c = c.improve.ensures.kept
+
+pub returns-in_err-z-clause-kept : goal.returns-in_err-z-clause-kept
+returns-in_err-z-clause-kept g c = c.improve.ensures.kept
+
+pub returns-in_err-shift-clause-few : goal.returns-in_err-shift-clause-few
+returns-in_err-shift-clause-few g c = omega arith
+
+pub returns-in_err-first_bases-clause-few : goal.returns-in_err-first_bases-clause-few
+returns-in_err-first_bases-clause-few g c = omega arith
+
+pub returns-in_err-graph-clause-few : goal.returns-in_err-graph-clause-few
+returns-in_err-graph-clause-few g c = omega arith

@@ -60,3 +60,15 @@ returns-clause-few g c =
     let from_start = rw (c.in_ok-restart_by.ensures.bases, c.in_ok-first_bases.ensures.starts) at c.in_ok-improve.ensures.counted in
     let h = simp to_z-of_z at from_start in
     rw c.replace.ensures.value (h.0, h.1, h.2)
+
+pub start_rows-requires-clause-factor : goal.start_rows-requires-clause-factor
+start_rows-requires-clause-factor g c = let fq : FitsSigned w128 c.args.q = c.ranges.q in simp to_z-of_z c.requires.factor
+
+pub restart_by-requires-clause-factor : goal.restart_by-requires-clause-factor
+restart_by-requires-clause-factor g c = let fq : FitsSigned w128 c.args.q = c.ranges.q in simp to_z-of_z c.requires.factor
+
+pub restart_by-requires-clause-bases : goal.restart_by-requires-clause-bases
+restart_by-requires-clause-bases g c = c.in_ok-first_bases.ensures.bases
+
+pub improve-requires-clause-shifts : goal.improve-requires-clause-shifts
+improve-requires-clause-shifts g c = c.requires.shifts

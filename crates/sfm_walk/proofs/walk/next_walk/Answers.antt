@@ -1,4 +1,5 @@
-use Rattle.std.proofs.Common.{ℕ, length, refl, subst, ◌∙◌, FitsSigned}
+use Rattle.std.proofs.Common.{ℕ, length, refl, sym, subst, ◌∙◌, FitsSigned}
+use Rattle.std.proofs.lemmas.Bool.{false≢true}
 use Rattle.std.proofs.lemmas.Int.{to_z-of_z}
 use mir.Syntax.{w128}
 use Rattle.sfm_exchange.specs.Levels.{AreClosed, IsFirst, depth_of}
@@ -108,3 +109,9 @@ find_levels-requires-clause-signs g c = rw c.deref-in-loop-first-2.ensures.value
 
 pub returns-clause-bases : goal.returns-clause-bases
 returns-clause-bases g c = c.loop-first.invariant.1
+
+pub returns-clause-walk : goal.returns-clause-walk
+returns-clause-walk g c = λ yes. absurd (false≢true yes)
+
+pub returns-then-proved-clause-ends : goal.returns-then-proved-clause-ends
+returns-then-proved-clause-ends g c = λ no. absurd (false≢true (sym no))
