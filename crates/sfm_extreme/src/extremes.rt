@@ -63,27 +63,8 @@ pub fn certify<T: Term>(
     ensures exact { IfOk result (λ r. IsProved r ↔ Prove (meanings T.places T.value_of terms.now) n q (even_shift n p) bases.now) }
 {
     let shift = vec![in alloc; p; n]?;
-    certify_by(alloc, terms, q, &shift, bases)
-}
-
-// The same with a shift for each place in place of p.
-fn certify_by<T: Term>(
-    alloc: Global,
-    terms: &[T],
-    q: i128,
-    shift: &[i128],
-    bases: &Rows,
-) -> Result<Certified, Memory>
-    requires bounded { AreBounded (length shift.now) (map T.places terms.now) (map T.size_of terms.now) }
-    requires shifts { magnitudes shift.now ≤ℤ pos (10 ^ 36) }
-    requires factor { IsFactor q }
-    requires bases { AreBases q (meanings T.places T.value_of terms.now) bases.now }
-    requires small { All (λ x. All IsEntry x) bases.now }
-    ensures { IfOk result (λ r. IsAnswer (meanings T.places T.value_of terms.now) (length shift.now) q shift.now bases.now r
-        × (IsProved r ↔ Prove (meanings T.places T.value_of terms.now) (length shift.now) q shift.now bases.now)) }
-{
-    let reading = read_at(alloc, terms, q, shift, bases)?;
-    told_by(alloc, terms, q, shift, &reading)
+    let reading = read_at(alloc, terms, q, &shift, bases)?;
+    told_by(alloc, terms, q, &shift, &reading)
 }
 
 // What is told by all that was read off bases.

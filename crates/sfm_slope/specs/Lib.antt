@@ -5,4 +5,3 @@ pub mod Gaps
 pub mod Searches
 pub mod Turns
 pub mod Parts
-pub mod Sections

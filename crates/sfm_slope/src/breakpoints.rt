@@ -7,7 +7,6 @@ ghost use Rattle.sfm_spec.specs.Bounds.{AreBounded};
 ghost use Rattle.sfm_spec.specs.Families.{meanings};
 ghost use Rattle.sfm_spec.specs.Laws.{AreBreakpoints, ones};
 ghost use Rattle.sfm_slope.specs.Marks.{HasBases, mark_of};
-ghost use Rattle.sfm_slope.specs.Searches.{IsSearch};
 
 use crate::chain::chain;
 use crate::search::Search;
@@ -30,20 +29,7 @@ pub fn partition<T: Term>(alloc: Global, terms: &[T], n: usize) -> Result<Vec<Br
     ensures bases { IfOk result (λ r. All (HasBases (meanings T.places T.value_of terms.now) (λ q. map (λ term. T.start_of term q) terms.now) n) r.items) }
 {
     let mut search = Search::new(alloc, terms, n)?;
-    partition_by(&mut search, terms, n)
-}
-
-// The same with a search over the terms.
-fn partition_by<T: Term>(
-    search: &mut Search<T::Note>,
-    terms: &[T],
-    n: usize,
-) -> Result<Vec<Break>, Memory>
-    requires search { IsSearch T.places T.value_of T.size_of T.fits terms.now n search.old }
-    ensures slopes { IfOk result (λ r. AreBreakpoints (meanings T.places T.value_of terms.now) n (ones n) (map mark_of r.items)) }
-    ensures bases { IfOk result (λ r. All (HasBases (meanings T.places T.value_of terms.now) (λ q. map (λ term. T.start_of term q) terms.now) n) r.items) }
-{
-    let found = chain(search, terms, n)?;
-    let breaks = sections(search, terms, n, &found)?;
+    let found = chain(&mut search, terms, n)?;
+    let breaks = sections(&mut search, terms, n, &found)?;
     Ok(breaks)
 }

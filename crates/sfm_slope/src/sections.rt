@@ -1,19 +1,15 @@
 // The bases of each breakpoint. They are found by a run of their own from the first bases, so they hang on the terms and the
 // slope alone, and few walks lead to them, however the breakpoint was found.
-ghost use Rattle.std.specs.Prelude.{◌≡◌, ◌^◌, length, map, pos, IfOk, OnOk};
+ghost use Rattle.std.specs.Prelude.{◌≡◌, map, IfOk, OnOk};
 ghost use Rattle.std.specs.List.{All};
-ghost use Rattle.sfm_spec.specs.Bounds.{IsAtMost};
 ghost use Rattle.sfm_spec.specs.Families.{meanings};
-ghost use Rattle.sfm_exchange.specs.Graph.{IsClaimed, IsShaped};
 ghost use Rattle.sfm_slope.specs.Marks.{HasBases, mark_of};
 ghost use Rattle.sfm_slope.specs.Points.{IsInRange, found_mark};
 ghost use Rattle.sfm_slope.specs.Searches.{IsSearch};
-ghost use Rattle.sfm_slope.specs.Sections.{IsSection};
 
 use crate::search::{Search, write_even};
 use crate::turn::Breakpoint;
-use sfm_base::{Memory, Rows, Slope};
-use sfm_exchange::Graph;
+use sfm_base::Memory;
 use sfm_law::{Break, Term};
 use sfm_walk::minimise_from_start;
 use std::alloc::Global;
@@ -52,33 +48,14 @@ fn section<T: Term>(
 {
     let slope = point.slope;
     let set = point.set.copy(search.alloc)?;
-    let bases = bases_at(
+    write_even(&mut search.shift, slope.num);
+    let bases = minimise_from_start(
         search.alloc,
         &mut search.cold,
         &search.first,
         terms,
-        slope,
-        &mut search.shift,
+        slope.den,
+        &search.shift,
     )?;
     Ok(Break { slope, set, bases })
-}
-
-// Bases that prove at a slope, from the first bases there; all of the shift is written.
-fn bases_at<T: Term>(
-    alloc: Global,
-    graph: &mut Graph<T::Note>,
-    firsts: &Graph<T::Note>,
-    terms: &[T],
-    slope: Slope,
-    shift: &mut [i128],
-) -> Result<Rows, Memory>
-    requires graph { IsShaped T.places T.value_of terms.now (length shift.old) graph.old }
-    requires firsts { IsClaimed T.places T.value_of T.size_of T.fits terms.now (length shift.old) (pos 1) firsts.now }
-    requires small { IsAtMost (10 ^ 24) slope.num }
-    ensures graph { OnOk result (IsShaped T.places T.value_of terms.now (length shift.old) graph.new) }
-    ensures bases { IfOk result (IsSection (meanings T.places T.value_of terms.now) (λ q. map (λ term. T.start_of term q) terms.now) (length shift.old) slope.num slope.den) }
-{
-    write_even(shift, slope.num);
-    let bases = minimise_from_start(alloc, graph, firsts, terms, slope.den, shift)?;
-    Ok(bases)
 }

@@ -51,3 +51,9 @@ returns-clause-graph g c =
 
 pub turned_of-requires : goal.turned_of-requires
 turned_of-requires g c = rw (c.deref-3.ensures.value, c.in_ok-graph-2.ensures.count, c.deref.ensures.value, c.requires.graph.are_spots.count) c.requires.bounded.few
+
+pub ask_all-requires-clause-count : goal.ask_all-requires-clause-count
+ask_all-requires-clause-count g c = c.in_ok-graph.ensures.count
+
+pub ask_all-requires-clause-noted : goal.ask_all-requires-clause-noted
+ask_all-requires-clause-noted g c = c.in_ok-graph.ensures.fit

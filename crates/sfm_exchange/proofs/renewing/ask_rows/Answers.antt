@@ -39,3 +39,30 @@ returns-clause-asked g c =
     let end = c.loop-u.auto.u-end in
     let all : c.loop-u.u ≡ length places = omega (arith, c.loop-u-test.false, end, ap length shown) in
     rw (c.keep_image.ensures, ← all, ← c.lend_image.ensures.same) c.loop-u.invariant.0
+
+pub lend_image-requires : goal.lend_image-requires
+lend_image-requires g c = omega (arith, c.requires.rows, c.requires.based.entries, ap length c.elements-places.ensures)
+
+pub loop-u-init : goal.loop-u-init
+loop-u-init g c = (record { count = refl; asked = λ u l one. absurd (omega (arith, l)); others = λ u l none. refl }, c.requires.noted, rw c.elements-places.ensures at c.in_ok-image.ensures.image)
+
+pub row_after-requires-clause-based : goal.row_after-requires-clause-based
+row_after-requires-clause-based g c = c.requires.based
+
+pub row_after-requires-clause-noted : goal.row_after-requires-clause-noted
+row_after-requires-clause-noted g c = c.loop-u.invariant.1
+
+pub row_after-requires-clause-raised : goal.row_after-requires-clause-raised
+row_after-requires-clause-raised g c = c.requires.raised
+
+pub row_after-requires-clause-from : goal.row_after-requires-clause-from
+row_after-requires-clause-from g c = omega (arith, c.requires.based.entries, ap length c.elements-places.ensures, c.loop-u-test.true)
+
+pub row_after-requires-clause-image : goal.row_after-requires-clause-image
+row_after-requires-clause-image g c = c.loop-u.invariant.2
+
+pub set-requires : goal.set-requires
+set-requires g c = omega (arith, c.loop-u.invariant.0.count, ap length c.lend_image.ensures.same, c.requires.rows, c.requires.based.entries, ap length c.elements-places.ensures, c.loop-u-test.true)
+
+pub returns-clause-noted : goal.returns-clause-noted
+returns-clause-noted g c = c.loop-u.invariant.1

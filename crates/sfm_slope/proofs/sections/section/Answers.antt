@@ -1,31 +1,58 @@
-use Rattle.std.proofs.Common.{◌≡◌, List, ℤ, length, map, ap, subst, ◌∙◌}
-use Rattle.std.proofs.lemmas.List.{with_items_is}
-use Rattle.sfm_spec.specs.Families.{meanings}
-use Rattle.sfm_exchange.specs.Graph.{IsShaped}
-use Rattle.sfm_slope.specs.Sections.{IsSection}
+use Rattle.std.proofs.Common.{◌≡◌, length, replicate, sym, ap, ◌∙◌, FitsSigned, arith}
+use Rattle.std.proofs.lemmas.Int.{ints, to_z-of_z}
+use Rattle.std.proofs.lemmas.List.{length-replicate, with_items_is}
+use mir.Syntax.{w128}
+use Rattle.sfm_walk.proofs.Starting.{magnitudes-even}
+use Rattle.sfm_slope.proofs.sections.section.Given as given
 use Rattle.sfm_slope.proofs.sections.section.Goals as goal
+use Rattle.sfm_slope.proofs.sections.section.Goals.{After-deref}
+
+-- all of the shift is written
+written : (g : given.Over) (c : After-deref g) → c.deref.result.now ≡ replicate c.args.n c.args.point.now.slope.num
+written g c =
+    let s = c.args.point.now.slope in
+    let fp : FitsSigned w128 s.num = omega (arith, ints, s.entry.low, s.entry.high) in
+    let sized : length c.deref_mut.result.now ≡ c.args.n = ap length c.deref_mut.ensures.value ∙ c.requires.search.shift in
+    let even : c.write_even.new.shift ≡ replicate (length c.deref_mut.result.now) s.num = simp to_z-of_z at c.write_even.ensures in
+    c.deref.ensures.value ∙ (with_items_is c.args.search.now.shift c.write_even.new.shift (c.write_even.auto.shift ∙ c.deref_mut.ensures.len) ∙ (even ∙ ap (λ k. replicate k s.num) sized))
+
+-- so it has a number for each place
+long : (g : given.Over) (c : After-deref g) → length c.deref.result.now ≡ c.args.n
+long g c = ap length (written g c) ∙ length-replicate c.args.n c.args.point.now.slope.num
+
+pub minimise_from_start-requires-clause-bounded : goal.minimise_from_start-requires-clause-bounded
+minimise_from_start-requires-clause-bounded g c = rw (long g (goal.at.minimise_from_start-requires-clause-bounded g c).After-deref) c.requires.search.first.bounded
+
+pub minimise_from_start-requires-clause-shifts : goal.minimise_from_start-requires-clause-shifts
+minimise_from_start-requires-clause-shifts g c =
+    let n = c.args.n in
+    let s = c.args.point.now.slope in
+    let m = magnitudes-even n s.num c.requires.range.small in
+    let few = c.requires.search.first.bounded.few in
+    rw (written g (goal.at.minimise_from_start-requires-clause-shifts g c).After-deref) (omega (arith, ints, m, few))
+
+pub minimise_from_start-requires-clause-graph : goal.minimise_from_start-requires-clause-graph
+minimise_from_start-requires-clause-graph g c = rw (long g (goal.at.minimise_from_start-requires-clause-graph g c).After-deref) c.requires.search.cold
+
+pub minimise_from_start-requires-clause-firsts : goal.minimise_from_start-requires-clause-firsts
+minimise_from_start-requires-clause-firsts g c = rw (long g (goal.at.minimise_from_start-requires-clause-firsts g c).After-deref) c.requires.search.first
 
 pub returns-clause-search : goal.returns-clause-search
 returns-clause-search g c =
-    let t = g.T.Term in
-    let n = c.args.n in
-    let ws = c.bases_at.new.shift in
-    let sized : length c.deref_mut.result.now ≡ n = ap length c.deref_mut.ensures.value ∙ c.requires.search.shift in
-    let graph : IsShaped t.places t.value_of c.args.terms.now n c.bases_at.new.graph = subst (λ k. IsShaped t.places t.value_of c.args.terms.now k c.bases_at.new.graph) sized c.in_ok-bases.ensures.graph in
+    let at = (goal.at.returns-clause-search g c).After-deref in
     record {
       first = c.requires.search.first;
       warm = c.requires.search.warm;
-      cold = graph;
-      shift = ap length (with_items_is c.args.search.now.shift ws (c.bases_at.auto.shift ∙ c.deref_mut.ensures.len)) ∙ c.bases_at.auto.shift ∙ sized;
+      cold = rw (long g at) at c.in_ok-bases.ensures.graph;
+      shift = ap length (sym c.deref.ensures.value) ∙ long g at;
     }
 
 pub returns-clause-bases : goal.returns-clause-bases
 returns-clause-bases g c =
-    let t = g.T.Term in
-    let n = c.args.n in
     let s = c.args.point.now.slope in
-    let ts = meanings t.places t.value_of c.args.terms.now in
-    let firsts : ℤ → List (List ℤ) = λ q. map (λ x. t.start_of x q) c.args.terms.now in
-    let sized : length c.deref_mut.result.now ≡ n = ap length c.deref_mut.ensures.value ∙ c.requires.search.shift in
-    let h : IsSection ts firsts n s.num s.den c.in_ok-bases.bases = subst (λ k. IsSection ts firsts k s.num s.den c.in_ok-bases.bases) sized c.in_ok-bases.ensures.bases in
-    record { bases = h.are_bases; small = h.small; proves = h.proves; reached = h.reached; few = c.requires.range.few }
+    let fq : FitsSigned w128 s.den = omega (arith, ints, s.factor.low, s.factor.high) in
+    let same = written g (goal.at.returns-clause-bases g c).After-deref in
+    let h = c.in_ok-bases.ensures in
+    let proves = rw (same, length-replicate c.args.n s.num) at h.proves in
+    let few = rw (same, length-replicate c.args.n s.num) at h.few in
+    record { bases = simp to_z-of_z at h.bases; small = h.small; proves = simp to_z-of_z at proves; reached = simp to_z-of_z at few; few = c.requires.range.few }

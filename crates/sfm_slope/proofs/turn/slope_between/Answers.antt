@@ -1,10 +1,9 @@
-use Rattle.std.proofs.Common.{◌≡◌, ℕ, ◌<◌, ◌≤◌, ◌-◌, ℤ, pos, ◌-ℤ◌, ◌∙◌, subst, sym, arith, FitsSigned}
+use Rattle.std.proofs.Common.{◌≡◌, ℕ, ◌<◌, ◌≤◌, ◌-◌, ℤ, pos, ◌-ℤ◌, ◌∙◌, arith, FitsSigned}
 use Rattle.std.proofs.lemmas.Int.{ints, to_z-of_z}
 use Rattle.std.proofs.Math.Facts.{to_z_pos}
 use mir.Syntax.{w128}
 use mir.Val.{to_z}
 use Rattle.sfm_spec.specs.Bounds.{IsEntry, IsFactor, IsGiven}
-use Rattle.sfm_spec.specs.Slopes.{IsSameSlope}
 use Rattle.sfm_slope.proofs.turn.slope_between.Goals as goal
 
 given_fits : (a : ℤ) → IsGiven a → FitsSigned w128 a
