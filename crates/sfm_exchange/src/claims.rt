@@ -10,8 +10,7 @@ ghost use Rattle.sfm_spec.specs.Walks.{term_at};
 ghost use Rattle.sfm_reach.specs.Bits.{bit_in, set_at};
 ghost use Rattle.sfm_exchange.specs.Claimed.{IsAsked, claims_of};
 ghost use Rattle.sfm_exchange.specs.Graph.{IsClaimed, IsReady, IsStill};
-ghost use Rattle.sfm_exchange.specs.Hops.{AreHops, IsHop, IsMovable, hop_at};
-ghost use Rattle.sfm_reach.specs.Reach.{table_at};
+ghost use Rattle.sfm_exchange.specs.Hops.{AreHops, IsMovable, hop_at};
 ghost use Rattle.sfm_reach.specs.Reached.{AreWalked};
 ghost use Rattle.sfm_reach.specs.Unions.{IsArc};
 
@@ -66,27 +65,6 @@ fn ask_at<T: Term>(
     Ok(())
 }
 
-// Whether a step is a true one.
-fn prove_hop<T: Term>(
-    alloc: Global,
-    graph: &mut Graph<T::Note>,
-    terms: &[T],
-    q: i128,
-    hop: Hop,
-) -> Result<bool, Memory>
-    requires ready { IsReady T.places T.value_of T.size_of T.fits terms.now q graph.old }
-    requires named { (from : ℕ) × IsHop (meanings T.places T.value_of terms.now) from hop }
-    ensures still { OnOk result (IsStill T.places T.value_of T.size_of T.fits terms.now q graph.old graph.new) }
-    ensures asked { OnOk result (IsAsked graph.old.rows.items graph.old.claimed.items graph.new.rows.items graph.new.claimed.items) }
-    ensures proved { IfOk result (λ r. r ≡ true → IsMovable (meanings T.places T.value_of terms.now) q graph.old.bases hop) }
-    ensures refused { IfOk result (λ r. r ≡ false → bit_in (set_at (table_at graph.old.rows.items hop.term) hop.u) hop.to ≡ 1 → claims_of graph.new.claimed.items < claims_of graph.old.claimed.items) }
-{
-    ask_at(alloc, graph, terms, q, hop.term, hop.u)?;
-    let rows = &graph.rows[hop.term];
-    let row = rows.row(hop.u);
-    Ok(row.contains(hop.to))
-}
-
 /// Whether the steps of a walk, which the rows tell, are true ones: rows of theirs that are only claimed are asked. Where one
 /// is refused, fewer rows are claimed than before. After want of memory nothing is said of the graph.
 ///
@@ -109,8 +87,10 @@ pub fn prove_walk<T: Term>(
     ensures refused { IfOk result (λ r. r ≡ false → claims_of graph.new.claimed.items < claims_of graph.old.claimed.items) }
 {
     for hop in hops {
-        let proved = prove_hop(alloc, graph, terms, q, *hop)?;
-        if !proved {
+        ask_at(alloc, graph, terms, q, hop.term, hop.u)?;
+        let rows = &graph.rows[hop.term];
+        let row = rows.row(hop.u);
+        if !row.contains(hop.to) {
             return Ok(false);
         }
     }

@@ -1,15 +1,15 @@
 // The move along a walk: the greatest amount that the walk's steps and its ends allow, and its exchanges from the last step to
 // the first, each at the base that the exchanges behind it have left. What the graph keeps is brought up with each exchange,
 // so it fits the bases at every step; rows may be claimed all along.
-ghost use Rattle.std.specs.Prelude.{◌≡◌, ◌≢◌, ◌*◌, ◌^◌, ◌<◌, ◌≤◌, ℕ, ℤ, map, pos, ◌≤ℤ◌, length, slice_set, OnOk, IfOk};
+ghost use Rattle.std.specs.Prelude.{◌≡◌, ◌*◌, ◌^◌, ◌<◌, ◌≤◌, ℕ, ℤ, pos, ◌≤ℤ◌, length, slice_set, OnOk, IfOk};
 ghost use Rattle.std.specs.List.{All};
 ghost use Rattle.sfm_spec.specs.Bounds.{IsAtMost, IsEntry};
-ghost use Rattle.sfm_spec.specs.Terms.{times, exchanged};
+ghost use Rattle.sfm_spec.specs.Terms.{exchanged};
 ghost use Rattle.sfm_spec.specs.Families.{meanings};
 ghost use Rattle.sfm_spec.specs.Labels.{FallsAlong};
-ghost use Rattle.sfm_spec.specs.Walks.{IsWalkMove, base_at, term_at};
-ghost use Rattle.sfm_law.specs.Room.{AtMostRoom, IsRoom};
-ghost use Rattle.sfm_exchange.specs.Graph.{IsClaimed, IsReady, IsStill};
+ghost use Rattle.sfm_spec.specs.Walks.{IsWalkMove, base_at};
+ghost use Rattle.sfm_law.specs.Room.{AtMostRoom};
+ghost use Rattle.sfm_exchange.specs.Graph.{IsClaimed};
 ghost use Rattle.sfm_exchange.specs.Hops.{CanExchange, IsMovable, Moves, AreNamed, AreInOrder, hop_at, steps_of};
 
 use crate::graph::Graph;
@@ -42,29 +42,12 @@ pub fn amount_of<T: Term>(
 {
     let mut a = most;
     for hop in hops {
-        let room = room_of(alloc, graph, terms, q, *hop)?;
+        let i = hop.term;
+        let note = &mut graph.notes[i];
+        let room = terms[i].room_by(alloc, q, graph.bases.row(i), note, hop.u, hop.v)?;
         a = within(a, room);
     }
     Ok(a)
-}
-
-// The room of a step.
-fn room_of<T: Term>(
-    alloc: Global,
-    graph: &mut Graph<T::Note>,
-    terms: &[T],
-    q: i128,
-    hop: Hop,
-) -> Result<Room, Memory>
-    requires ready { IsReady T.places T.value_of T.size_of T.fits terms.now q graph.old }
-    requires movable { IsMovable (meanings T.places T.value_of terms.now) q graph.old.bases hop }
-    ensures still { OnOk result (IsStill T.places T.value_of T.size_of T.fits terms.now q graph.old graph.new) }
-    ensures room { IfOk result (IsRoom (times q (term_at (meanings T.places T.value_of terms.now) hop.term).value) (base_at graph.old.bases hop.term) hop.u hop.v) }
-{
-    let i = hop.term;
-    let note = &mut graph.notes[i];
-    let room = terms[i].room_by(alloc, q, graph.bases.row(i), note, hop.u, hop.v)?;
-    Ok(room)
 }
 
 // An amount, no more than the room.

@@ -11,7 +11,7 @@ ghost use Rattle.sfm_spec.specs.Sets.{IsPlaced};
 ghost use Rattle.sfm_spec.specs.Rows.{Depends};
 ghost use Rattle.sfm_spec.specs.Terms.{times};
 ghost use Rattle.sfm_reach.specs.Based.{IsBased};
-ghost use Rattle.sfm_reach.specs.Bits.{bit_in, set_at};
+ghost use Rattle.sfm_reach.specs.Bits.{bit_in};
 ghost use Rattle.sfm_exchange.specs.Claimed.{AreClaims};
 ghost use Rattle.sfm_reach.specs.Image.{IsImage};
 ghost use Rattle.sfm_reach.specs.Reach.{IsRow};

@@ -1,7 +1,7 @@
 // Whether bases prove the minimum. Where a walk joins, no bases with such a walk prove. Where none does, they prove: the
 // places that links of the exchange graph lead to from those with z < 0 are the least minimiser, those from which no link
 // leads to one with z > 0 the greatest, and the value is the sum of min(z, 0). No subset is ever tried.
-ghost use Rattle.std.specs.Prelude.{◌≡◌, ◌↔◌, length, map, pos, ◌^◌, ◌≤ℤ◌, IfOk};
+ghost use Rattle.std.specs.Prelude.{◌↔◌, length, map, pos, ◌^◌, ◌≤ℤ◌, IfOk};
 ghost use Rattle.std.specs.List.{All};
 ghost use Rattle.sfm_spec.specs.Sets.{magnitudes};
 ghost use Rattle.sfm_spec.specs.Bounds.{AreBounded, IsEntry, IsFactor};

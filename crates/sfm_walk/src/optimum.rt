@@ -13,7 +13,7 @@ ghost use Rattle.sfm_walk.specs.Counted.{IsCounted};
 ghost use Rattle.sfm_exchange.specs.Graph.{IsClaimed, IsShaped};
 ghost use Rattle.sfm_exchange.specs.Hops.{steps_of};
 ghost use Rattle.sfm_exchange.specs.Levels.{depth_of};
-ghost use Rattle.sfm_walk.specs.Run.{AreAdvanced, IsGreatest, IsLeastWalk, IsRunAt};
+ghost use Rattle.sfm_walk.specs.Run.{AreAdvanced, IsLeastWalk, IsRunAt};
 ghost use Rattle.sfm_exchange.specs.Signs.{AreMoved, AreSigns};
 
 use crate::rest::{most_of, move_rest};
@@ -199,46 +199,24 @@ fn advance<T: Term>(
     graph: &mut Graph<T::Note>,
     terms: &[T],
     q: i128,
-    shift: &[i128],
+    _shift: &[i128],
     run: &mut Run,
 ) -> Result<(), Memory>
-    requires graph { IsClaimed T.places T.value_of T.size_of T.fits terms.now (length shift.now) q graph.old }
-    requires shifts { magnitudes shift.now ≤ℤ pos (10 ^ 27) }
-    requires run { IsRunAt (meanings T.places T.value_of terms.now) shift.now graph.old.bases run.old }
-    requires walk { IsLeastWalk (meanings T.places T.value_of terms.now) (length shift.now) q shift.now graph.old.bases run.old.z.items (depth_of run.old.levels.items) run.old.path.first run.old.path.hops.items }
+    requires graph { IsClaimed T.places T.value_of T.size_of T.fits terms.now (length _shift.now) q graph.old }
+    requires shifts { magnitudes _shift.now ≤ℤ pos (10 ^ 27) }
+    requires run { IsRunAt (meanings T.places T.value_of terms.now) _shift.now graph.old.bases run.old }
+    requires walk { IsLeastWalk (meanings T.places T.value_of terms.now) (length _shift.now) q _shift.now graph.old.bases run.old.z.items (depth_of run.old.levels.items) run.old.path.first run.old.path.hops.items }
     requires small { All (λ x. All (IsAtMost (5 * 10 ^ 29)) x) graph.old.bases }
-    requires gap { neg_ℤ (pos (5 * 10 ^ 29)) ≤ℤ deficit (length shift.now) (rest_at (meanings T.places T.value_of terms.now) graph.old.bases shift.now) }
-    ensures graph { OnOk result (IsClaimed T.places T.value_of T.size_of T.fits terms.now (length shift.now) q graph.new) }
-    ensures advanced { OnOk result (AreAdvanced (meanings T.places T.value_of terms.now) (length shift.now) q shift.now graph.old.bases graph.new.bases run.new) }
-{
-    let a = greatest_amount(alloc, graph, terms, q, shift, run)?;
-    move_along(alloc, graph, terms, q, &run.path, a)?;
-    settle(run, a);
-    Ok(())
-}
-
-// The greatest amount that the walk and its ends allow.
-fn greatest_amount<T: Term>(
-    alloc: Global,
-    graph: &mut Graph<T::Note>,
-    terms: &[T],
-    q: i128,
-    shift: &[i128],
-    run: &Run,
-) -> Result<i128, Memory>
-    requires graph { IsClaimed T.places T.value_of T.size_of T.fits terms.now (length shift.now) q graph.old }
-    requires shifts { magnitudes shift.now ≤ℤ pos (10 ^ 27) }
-    requires small { All (λ x. All IsEntry x) graph.old.bases }
-    requires run { IsRunAt (meanings T.places T.value_of terms.now) shift.now graph.old.bases run.now }
-    requires walk { IsLeastWalk (meanings T.places T.value_of terms.now) (length shift.now) q shift.now graph.old.bases run.now.z.items (depth_of run.now.levels.items) run.now.path.first run.now.path.hops.items }
-    ensures graph { OnOk result (IsClaimed T.places T.value_of T.size_of T.fits terms.now (length shift.now) q graph.new) }
-    ensures bases { OnOk result (graph.new.bases ≡ graph.old.bases) }
-    ensures greatest { IfOk result (IsGreatest (meanings T.places T.value_of terms.now) q graph.old.bases run.now.z.items run.now.path.first run.now.path.hops.items) }
+    requires gap { neg_ℤ (pos (5 * 10 ^ 29)) ≤ℤ deficit (length _shift.now) (rest_at (meanings T.places T.value_of terms.now) graph.old.bases _shift.now) }
+    ensures graph { OnOk result (IsClaimed T.places T.value_of T.size_of T.fits terms.now (length _shift.now) q graph.new) }
+    ensures advanced { OnOk result (AreAdvanced (meanings T.places T.value_of terms.now) (length _shift.now) q _shift.now graph.old.bases graph.new.bases run.new) }
 {
     let last = run.path.last();
     let most = most_of(&run.z, run.path.first, last);
     let a = amount_of(alloc, graph, terms, q, &run.path.hops, most)?;
-    Ok(a)
+    move_along(alloc, graph, terms, q, &run.path, a)?;
+    settle(run, a);
+    Ok(())
 }
 
 // Brings z and its signs up once the walk has moved a.

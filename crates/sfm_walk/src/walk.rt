@@ -7,9 +7,9 @@ ghost use Rattle.std.specs.List.{All};
 ghost use Rattle.sfm_spec.specs.Bounds.{IsEntry};
 ghost use Rattle.sfm_spec.specs.Families.{meanings};
 ghost use Rattle.sfm_spec.specs.Walks.{Step, Joins};
-ghost use Rattle.sfm_exchange.specs.Levels.{depth_of, IsFirst};
+ghost use Rattle.sfm_exchange.specs.Levels.{depth_of};
 ghost use Rattle.sfm_exchange.specs.Graph.{IsClaimed};
-ghost use Rattle.sfm_walk.specs.Run.{IsLeastWalk, IsRunAt, IsSoughtWalk};
+ghost use Rattle.sfm_walk.specs.Run.{IsLeastWalk, IsRunAt};
 
 use crate::run::Run;
 use sfm_base::Memory;
@@ -23,17 +23,17 @@ pub fn next_walk<T: Term>(
     graph: &mut Graph<T::Note>,
     terms: &[T],
     q: i128,
-    shift: &[i128],
+    _shift: &[i128],
     run: &mut Run,
 ) -> Result<bool, Memory>
-    requires graph { IsClaimed T.places T.value_of T.size_of T.fits terms.now (length shift.now) q graph.old }
+    requires graph { IsClaimed T.places T.value_of T.size_of T.fits terms.now (length _shift.now) q graph.old }
     requires small { All (λ x. All IsEntry x) graph.old.bases }
-    requires run { IsRunAt (meanings T.places T.value_of terms.now) shift.now graph.old.bases run.old }
-    ensures graph { OnOk result (IsClaimed T.places T.value_of T.size_of T.fits terms.now (length shift.now) q graph.new) }
+    requires run { IsRunAt (meanings T.places T.value_of terms.now) _shift.now graph.old.bases run.old }
+    ensures graph { OnOk result (IsClaimed T.places T.value_of T.size_of T.fits terms.now (length _shift.now) q graph.new) }
     ensures bases { OnOk result (graph.new.bases ≡ graph.old.bases) }
-    ensures run { OnOk result (IsRunAt (meanings T.places T.value_of terms.now) shift.now graph.old.bases run.new) }
-    ensures walk { IfOk result (λ r. r ≡ true → IsLeastWalk (meanings T.places T.value_of terms.now) (length shift.now) q shift.now graph.old.bases run.new.z.items (depth_of run.new.levels.items) run.new.path.first run.new.path.hops.items) }
-    ensures ends { IfOk result (λ r. r ≡ false → (first : ℕ) (steps : List Step) → Joins (meanings T.places T.value_of terms.now) q shift.now graph.old.bases first steps → ⊥) }
+    ensures run { OnOk result (IsRunAt (meanings T.places T.value_of terms.now) _shift.now graph.old.bases run.new) }
+    ensures walk { IfOk result (λ r. r ≡ true → IsLeastWalk (meanings T.places T.value_of terms.now) (length _shift.now) q _shift.now graph.old.bases run.new.z.items (depth_of run.new.levels.items) run.new.path.first run.new.path.hops.items) }
+    ensures ends { IfOk result (λ r. r ≡ false → (first : ℕ) (steps : List Step) → Joins (meanings T.places T.value_of terms.now) q _shift.now graph.old.bases first steps → ⊥) }
 {
     while let Some(first) = find_levels(
         &graph.back,
@@ -43,37 +43,11 @@ pub fn next_walk<T: Term>(
         &mut run.levels,
     )? {
         run.path.first = first;
-        sought_walk(terms, graph, q, shift, run)?;
+        follow(terms, graph, &run.z, &run.levels, first, &mut run.path.hops)?;
         let proved = prove_walk(alloc, graph, terms, q, &run.path.hops)?;
         if proved {
             return Ok(true);
         }
     }
     Ok(false)
-}
-
-// Writes the walk of least steps that the rows tell from the first place of a run.
-fn sought_walk<T: Term>(
-    terms: &[T],
-    graph: &Graph<T::Note>,
-    _q: i128,
-    _shift: &[i128],
-    run: &mut Run,
-) -> Result<(), Memory>
-    requires graph { IsClaimed T.places T.value_of T.size_of T.fits terms.now (length _shift.now) _q graph.now }
-    requires run { IsRunAt (meanings T.places T.value_of terms.now) _shift.now graph.now.bases run.old }
-    requires first { IsFirst (length _shift.now) graph.now.unions.items run.old.z.items run.old.levels.items run.old.path.first }
-    ensures run { OnOk result (IsRunAt (meanings T.places T.value_of terms.now) _shift.now graph.now.bases run.new) }
-    ensures walk { OnOk result (IsSoughtWalk (meanings T.places T.value_of terms.now) (length _shift.now) _q _shift.now graph.now.bases graph.now.rows.items run.new.z.items (depth_of run.new.levels.items) run.new.path.first run.new.path.hops.items) }
-{
-    let path = &mut run.path;
-    follow(
-        terms,
-        graph,
-        &run.z,
-        &run.levels,
-        path.first,
-        &mut path.hops,
-    )?;
-    Ok(())
 }

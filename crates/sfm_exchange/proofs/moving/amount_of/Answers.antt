@@ -1,9 +1,19 @@
-use Rattle.std.proofs.Common.{◌≡◌, length, rules, arith, FitsSigned, ℤ, to_z}
+use Rattle.std.proofs.Common.{◌≡◌, ◌<◌, ◌∙◌, [], List, length, length-set, ap, subst, sym, rules, arith, FitsSigned, ℤ, to_z}
+use Rattle.std.specs.List.{All}
 use Rattle.std.proofs.lemmas.Int.{to_z-of_z}
+use Rattle.std.proofs.lemmas.List.Elements.{All-get_or}
 use mir.Syntax.{w128}
+use Rattle.sfm_spec.specs.Bounds.{IsEntry}
 use Rattle.sfm_spec.specs.Families.{meanings}
+use Rattle.sfm_spec.specs.Terms.{times}
+use Rattle.sfm_spec.specs.Walks.{base_at, term_at}
+use Rattle.sfm_law.specs.Room.{IsRoom}
+use Rattle.sfm_reach.specs.Based.{IsBased}
+use Rattle.sfm_reach.proofs.Basing.{size_low}
+use Rattle.sfm_exchange.specs.Hops.{hop_at}
 use Rattle.sfm_exchange.proofs.Amounts.{amount_none, amount_more}
-use Rattle.sfm_exchange.proofs.Still.{still_begun, still_ready, still_then}
+use Rattle.sfm_exchange.proofs.ClaimedGraphs.{base_count, based, counted, means, noted_still, places_are}
+use Rattle.sfm_exchange.proofs.Still.{still_begun}
 use Rattle.sfm_exchange.proofs.moving.amount_of.Goals as goal
 
 pub loop-hop-init : goal.loop-hop-init
@@ -13,13 +23,53 @@ loop-hop-init g c =
     let fm : FitsSigned w128 c.args.most = c.ranges.most in
     simp to_z-of_z (amount_none (meanings t.places t.value_of c.args.terms.now) c.args.q c.args.graph.now.bases c.args.hops.now c.args.most c.requires.most, still_begun c.requires.graph)
 
-pub room_of-requires-clause-ready : goal.room_of-requires-clause-ready
-room_of-requires-clause-ready g c = still_ready c.loop-hop.invariant.1 c.requires.small
+pub index_mut-note-requires : goal.index_mut-note-requires
+index_mut-note-requires g c =
+    let h = c.loop-hop.invariant.1.claimed in
+    let l = rw (counted h) at (c.requires.movable c.loop-hop.hop-index c.loop-hop-test.true).term_in in
+    omega (arith, l, h.note_count, c.loop-hop.graph.notes.ok.0)
 
-pub room_of-requires-clause-movable : goal.room_of-requires-clause-movable
-room_of-requires-clause-movable g c =
+pub bounds-terms-i : goal.bounds-terms-i
+bounds-terms-i g c = rw (counted c.requires.graph) at (c.requires.movable c.loop-hop.hop-index c.loop-hop-test.true).term_in
+
+pub offset_bounds-terms-i : goal.offset_bounds-terms-i
+offset_bounds-terms-i g c =
+    let l = rw (counted c.requires.graph) at (c.requires.movable c.loop-hop.hop-index c.loop-hop-test.true).term_in in
+    omega (arith, l)
+
+pub row-requires : goal.row-requires
+row-requires g c = rw (base_count c.loop-hop.invariant.1.claimed) (rw (counted c.requires.graph) at (c.requires.movable c.loop-hop.hop-index c.loop-hop-test.true).term_in)
+
+pub room_by-requires : goal.room_by-requires
+room_by-requires g c =
+    let t = g.T.Term in
+    let m = g.met.T.Term in
     let fq : FitsSigned w128 c.args.q = c.ranges.q in
-    simp to_z-of_z (rw c.loop-hop.invariant.1.bases (c.requires.movable c.loop-hop.hop-index c.loop-hop-test.true))
+    let still = simp to_z-of_z at c.loop-hop.invariant.1 in
+    let h = still.claimed in
+    let can = c.requires.movable c.loop-hop.hop-index c.loop-hop-test.true in
+    let i = (hop_at c.args.hops.now c.loop-hop.hop-index).term in
+    let l : i < length c.args.terms.now = rw (counted h) at can.term_in in
+    let term = c.index-terms-i.result in
+    let is = c.index-terms-i.is in
+    let bases = c.loop-hop.graph.bases in
+    let sound = size_low t.places t.value_of t.size_of m.submodular m.bounded in
+    let B : List ℤ → Type 0 = λ x. IsBased t.places t.value_of t.size_of term c.args.q x in
+    let F : List ℤ → Type 0 = λ x. t.fits term c.index_mut-note.result.now c.args.q x in
+    let b : B c.row.result.now = subst B (sym c.row.ensures) (based h i l term is sound (All-get_or (λ x. All IsEntry x) bases i [] (rw (base_count h) l) (rw still.bases c.requires.small))) in
+    let noted : F c.row.result.now = subst F (sym c.row.ensures) (h.noted i l term is c.index_mut-note.result.now c.index_mut-note.ensures.value) in
+    let long = ap length (places_are h i l term is) in
+    record {
+      factor = simp to_z-of_z b.factor;
+      entries = b.entries;
+      bounded = b.bounded;
+      small = b.small;
+      base = simp to_z-of_z b.base;
+      noted = simp to_z-of_z noted;
+      apart = can.apart;
+      from = omega (arith, b.entries, long, can.u_in);
+      onto = omega (arith, b.entries, long, can.v_in);
+    }
 
 pub loop-hop-preserved : goal.loop-hop-preserved
 loop-hop-preserved g c =
@@ -30,13 +80,42 @@ loop-hop-preserved g c =
     let ts = meanings t.places t.value_of c.args.terms.now in
     let k = c.loop-hop.hop-index in
     let inv = simp to_z-of_z at c.loop-hop.invariant in
+    let h = inv.1.claimed in
+    let can = c.requires.movable k c.loop-hop-test.true in
+    let hop = hop_at c.args.hops.now k in
+    let i = hop.term in
+    let l : i < length c.args.terms.now = rw (counted h) at can.term_in in
+    let term = c.index-terms-i.result in
+    let is = c.index-terms-i.is in
+    let graph = c.loop-hop.graph in
+    let note = c.room_by.new._note in
     let o = c.in_ok-room.ensures in
-    let room = rw inv.1.bases at (simp to_z-of_z at o.room) in
+    let told = rw c.row.ensures at (simp to_z-of_z at o.room) in
+    let here : IsRoom (times c.args.q (term_at ts i).value) (base_at graph.bases i) hop.u hop.v c.in_ok-room.room = rw (means h i l term is) told in
+    let room = rw inv.1.bases at here in
+    let fit : t.fits term note c.args.q (base_at graph.bases i) = rw c.row.ensures at (simp to_z-of_z at o.noted) in
     let a : ℤ = to_z w128 c.loop-hop.a-bits in
     let e = c.within-a.ensures in
-    let more = amount_more ts c.args.q c.args.graph.now.bases c.requires.graph.are_bases c.args.hops.now k c.args.most a c.within-a.result c.in_ok-room.room (c.requires.movable k c.loop-hop-test.true) inv.0 room
-    (λ j lj. c.requires.movable j (omega (arith, lj, c.loop-hop-test.true))) e.low e.room e.greatest in
-    simp to_z-of_z (more, still_then inv.1 (simp to_z-of_z at o.still))
+    let more = amount_more ts c.args.q c.args.graph.now.bases c.requires.graph.are_bases c.args.hops.now k c.args.most a c.within-a.result c.in_ok-room.room can inv.0 room (λ j lj. c.requires.movable j (omega (arith, lj, c.loop-hop-test.true))) e.low e.room e.greatest in
+    simp to_z-of_z (
+      more,
+      record {
+        claimed = record {
+          bounded = h.bounded;
+          factor = h.factor;
+          are_bases = h.are_bases;
+          note_count = length-set graph.notes.items i note ∙ h.note_count;
+          claim_count = h.claim_count;
+          noted = noted_still h i l term is note fit;
+          sized_rows = h.sized_rows;
+          claims = h.claims;
+          are_spots = h.are_spots;
+          are_unions = h.are_unions;
+          are_turned = h.are_turned;
+        };
+        bases = inv.1.bases;
+      },
+    )
 
 pub returns-clause-graph : goal.returns-clause-graph
 returns-clause-graph g c = let fq : FitsSigned w128 c.args.q = c.ranges.q in simp to_z-of_z at c.loop-hop.invariant.1.claimed

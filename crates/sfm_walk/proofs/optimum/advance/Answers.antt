@@ -1,15 +1,77 @@
-use Rattle.std.proofs.Common.{rules, arith, FitsSigned}
+use Rattle.std.proofs.Common.{◌≡◌, ◌≤ℤ◌, rules, arith, FitsSigned}
 use Rattle.std.proofs.lemmas.Int.{ints, to_z-of_z}
 use mir.Syntax.{w128}
+use Rattle.sfm_spec.specs.Families.{meanings}
+use Rattle.sfm_spec.specs.Walks.{last_of}
+use Rattle.sfm_law.proofs.Rests.{rest-small}
+use Rattle.sfm_exchange.specs.Hops.{steps_of}
 use Rattle.sfm_exchange.specs.Levels.{depth_of}
+use Rattle.sfm_walk.specs.Run.{IsGreatest}
 use Rattle.sfm_walk.proofs.Advancing.{entries_small}
 use Rattle.sfm_walk.proofs.Augmenting.{amount_small, apart, ends_moved, first_at, in_order, last_at, progress, rest_after, spread}
 use Rattle.sfm_exchange.proofs.ClaimedGraphs.{are_terms, low, own}
 use Rattle.sfm_exchange.proofs.Still.{over_word}
+use Rattle.sfm_walk.proofs.optimum.advance.Given as given
 use Rattle.sfm_walk.proofs.optimum.advance.Goals as goal
+use Rattle.sfm_walk.proofs.optimum.advance.Goals.{In_ok-a}
 
-pub greatest_amount-requires-clause-small : goal.greatest_amount-requires-clause-small
-greatest_amount-requires-clause-small g c = entries_small c.args.graph.now.bases c.requires.small
+-- the amount is the greatest that the walk and its ends allow
+greatest : (g : given.Over) (c : In_ok-a g) → let t = g.T.Term in let run = c.args.run.now in
+    IsGreatest (meanings t.places t.value_of c.args.terms.now) c.args.q c.args.graph.now.bases run.z.items run.path.first run.path.hops.items c.in_ok-a.a
+greatest g c =
+    let fq : FitsSigned w128 c.args.q = c.ranges.q in
+    let run = c.args.run.now in
+    let hops = run.path.hops.items in
+    let last : c.last-last.result ≡ last_of run.path.first (steps_of hops) = c.last-last.ensures in
+    let zv = c.deref.ensures.value in
+    let a = c.in_ok-a.a in
+    let fa : FitsSigned w128 a = search rules in
+    let fm : FitsSigned w128 c.most_of-most.result = search rules in
+    let o = c.in_ok-a.ensures in
+    let m = c.most_of-most.ensures in
+    let within : a ≤ℤ c.most_of-most.result = omega (arith, ints, fm, o.within) in
+    let at_most = rw (zv, last) at m.greatest in
+    let each = rw c.deref-2.ensures.value at (simp to_z-of_z at o.greatest) in
+    record {
+      some = o.some;
+      under = let u = rw zv at m.under in omega (arith, ints, u, within);
+      over = let u = rw (zv, last) at m.over in omega (arith, ints, u, within);
+      moves = rw c.deref-2.ensures.value at (simp to_z-of_z at o.moves);
+      greatest = λ b under over moves. each b (at_most b under over) moves;
+    }
+
+pub most_of-most-requires-clause-first : goal.most_of-most-requires-clause-first
+most_of-most-requires-clause-first g c =
+    let rest = c.requires.run.is_rest in
+    rw c.deref.ensures.value (first_at c.requires.walk rest.places rest)
+
+pub most_of-most-requires-clause-last : goal.most_of-most-requires-clause-last
+most_of-most-requires-clause-last g c =
+    let rest = c.requires.run.is_rest in
+    rw (c.deref.ensures.value, c.last-last.ensures) (last_at c.requires.walk rest.places rest)
+
+pub most_of-most-requires-clause-under : goal.most_of-most-requires-clause-under
+most_of-most-requires-clause-under g c = rw c.deref.ensures.value c.requires.walk.course.under
+
+pub most_of-most-requires-clause-over : goal.most_of-most-requires-clause-over
+most_of-most-requires-clause-over g c = rw (c.deref.ensures.value, c.last-last.ensures) c.requires.walk.course.over
+
+pub most_of-most-requires-clause-small : goal.most_of-most-requires-clause-small
+most_of-most-requires-clause-small g c =
+    let t = g.T.Term in
+    let bases = c.args.graph.now.bases in
+    let b = c.requires.graph.bounded in
+    let shifts = c.requires.shifts in
+    rw c.deref.ensures.value (rest-small t.places t.value_of c.args.terms.now c.args._shift.now bases c.args.run.now.z.items c.requires.run.is_rest (entries_small bases c.requires.small) b.few_places (omega (arith, ints, shifts)))
+
+pub amount_of-requires-clause-graph : goal.amount_of-requires-clause-graph
+amount_of-requires-clause-graph g c = let fq : FitsSigned w128 c.args.q = c.ranges.q in simp to_z-of_z (own c.requires.graph)
+
+pub amount_of-requires-clause-small : goal.amount_of-requires-clause-small
+amount_of-requires-clause-small g c = entries_small c.args.graph.now.bases c.requires.small
+
+pub amount_of-requires-clause-movable : goal.amount_of-requires-clause-movable
+amount_of-requires-clause-movable g c = let fq : FitsSigned w128 c.args.q = c.ranges.q in simp to_z-of_z (rw c.deref-2.ensures.value c.requires.walk.movable)
 
 pub move_along-requires-clause-graph : goal.move_along-requires-clause-graph
 move_along-requires-clause-graph g c = own c.in_ok-a.ensures.graph
@@ -21,7 +83,7 @@ pub move_along-requires-clause-high : goal.move_along-requires-clause-high
 move_along-requires-clause-high g c =
     let fq : FitsSigned w128 c.args.q = c.ranges.q in
     let fa : FitsSigned w128 c.in_ok-a.a = search rules in
-    let most = simp to_z-of_z at c.in_ok-a.ensures.greatest in
+    let most = greatest g (goal.at.move_along-requires-clause-high g c).In_ok-a in
     let rest = c.requires.run.is_rest in
     simp to_z-of_z (amount_small c.requires.walk rest.places rest c.in_ok-a.a most.under c.requires.gap)
 
@@ -32,7 +94,7 @@ move_along-requires-clause-order g c =
     let rest = c.requires.run.is_rest in
     let fq : FitsSigned w128 c.args.q = c.ranges.q in
     let fa : FitsSigned w128 c.in_ok-a.a = search rules in
-    let most = simp to_z-of_z at c.in_ok-a.ensures.greatest in
+    let most = greatest g (goal.at.move_along-requires-clause-order g c).In_ok-a in
     simp to_z-of_z (rw c.in_ok-a.ensures.bases (in_order c.requires.walk rest.places rest (low h) (are_terms h m.family m.submodular) h.are_bases c.in_ok-a.a most))
 
 pub move_along-requires-clause-falls : goal.move_along-requires-clause-falls
@@ -51,9 +113,7 @@ pub settle-requires-clause-apart : goal.settle-requires-clause-apart
 settle-requires-clause-apart g c = let rest = c.requires.run.is_rest in apart c.requires.walk rest.places rest
 
 pub returns-clause-graph : goal.returns-clause-graph
-returns-clause-graph g c =
-    let fq : FitsSigned w128 c.args.q = c.ranges.q in
-    over_word (simp to_z-of_z at c.in_ok-a.ensures.graph) c.in_ok-move_along.ensures.graph
+returns-clause-graph g c = over_word (over_word c.requires.graph c.in_ok-a.ensures.graph) c.in_ok-move_along.ensures.graph
 
 pub returns-clause-advanced : goal.returns-clause-advanced
 returns-clause-advanced g c =
@@ -66,7 +126,7 @@ returns-clause-advanced g c =
     let rest = c.requires.run.is_rest in
     let fit = are_terms h m.family m.submodular in
     let o = c.in_ok-a.ensures in
-    let most = simp to_z-of_z at o.greatest in
+    let most = greatest g (goal.at.returns-clause-advanced g c).In_ok-a in
     let after = c.move_along.new.graph.bases in
     let moved = rw o.bases at (simp to_z-of_z at c.in_ok-move_along.ensures.moved) in
     let z_is = simp to_z-of_z at c.settle.ensures.z in
@@ -80,32 +140,23 @@ returns-clause-advanced g c =
       spread = spread w rest.places rest (low h) fit h.are_bases a most after moved;
     }
 
-pub greatest_amount-requires-clause-graph : goal.greatest_amount-requires-clause-graph
-greatest_amount-requires-clause-graph g c = let fq : FitsSigned w128 c.args.q = c.ranges.q in simp to_z-of_z c.requires.graph
-
-pub greatest_amount-requires-clause-run : goal.greatest_amount-requires-clause-run
-greatest_amount-requires-clause-run g c = c.requires.run
-
-pub greatest_amount-requires-clause-walk : goal.greatest_amount-requires-clause-walk
-greatest_amount-requires-clause-walk g c = let fq : FitsSigned w128 c.args.q = c.ranges.q in simp to_z-of_z c.requires.walk
-
 pub move_along-requires-clause-low : goal.move_along-requires-clause-low
 move_along-requires-clause-low g c =
     let fa : FitsSigned w128 c.in_ok-a.a = search rules in
-    simp to_z-of_z c.in_ok-a.ensures.greatest.some
+    simp to_z-of_z c.in_ok-a.ensures.some
 
 pub move_along-requires-clause-named : goal.move_along-requires-clause-named
 move_along-requires-clause-named g c = c.requires.walk.named
 
 pub settle-requires-clause-low : goal.settle-requires-clause-low
-settle-requires-clause-low g c = let some = c.in_ok-a.ensures.greatest.some in omega (arith, ints, some)
+settle-requires-clause-low g c = let some = c.in_ok-a.ensures.some in omega (arith, ints, some)
 
 pub settle-requires-clause-under : goal.settle-requires-clause-under
 settle-requires-clause-under g c =
     let fa : FitsSigned w128 c.in_ok-a.a = search rules in
-    simp to_z-of_z c.in_ok-a.ensures.greatest.under
+    simp to_z-of_z (greatest g (goal.at.settle-requires-clause-under g c).In_ok-a).under
 
 pub settle-requires-clause-over : goal.settle-requires-clause-over
 settle-requires-clause-over g c =
     let fa : FitsSigned w128 c.in_ok-a.a = search rules in
-    simp to_z-of_z c.in_ok-a.ensures.greatest.over
+    simp to_z-of_z (greatest g (goal.at.settle-requires-clause-over g c).In_ok-a).over

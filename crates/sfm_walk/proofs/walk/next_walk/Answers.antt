@@ -2,42 +2,60 @@ use Rattle.std.proofs.Common.{ℕ, length, refl, sym, subst, ◌∙◌, FitsSign
 use Rattle.std.proofs.lemmas.Bool.{false≢true}
 use Rattle.std.proofs.lemmas.Int.{to_z-of_z}
 use mir.Syntax.{w128}
+use Rattle.sfm_spec.specs.Families.{meanings}
+use Rattle.sfm_law.specs.Rest.{IsRest}
 use Rattle.sfm_exchange.specs.Levels.{AreClosed, IsFirst, depth_of}
-use Rattle.sfm_exchange.proofs.ClaimedGraphs.{are_terms, have_links, low, own, shaped}
+use Rattle.sfm_exchange.specs.Spots.{AreSpots}
+use Rattle.sfm_exchange.proofs.Telling.{claims_readable}
+use Rattle.sfm_exchange.proofs.ClaimedGraphs.{are_terms, claims_in, counted, have_links, low, own, shaped, spot_rows, unions_count}
 use Rattle.sfm_exchange.proofs.Still.{over_word}
 use Rattle.sfm_exchange.proofs.Joining.{none_joins}
 use Rattle.sfm_reach.proofs.Options.{match_none, match_some}
-use Rattle.sfm_walk.proofs.Advancing.{least_walk}
+use Rattle.sfm_walk.proofs.Advancing.{least_walk, sought_walk}
+use Rattle.sfm_walk.proofs.walk.next_walk.Given as given
 use Rattle.sfm_walk.proofs.walk.next_walk.Goals as goal
+use Rattle.sfm_walk.proofs.walk.next_walk.Goals.{In-Some}
+
+-- the place that the search found is the first of a walk
+is_first : (g : given.Over) (c : In-Some g) → IsFirst (length c.args._shift.now) c.loop-first.graph.unions.items c.loop-first.run.z.items c.find_levels.new.levels.items c.in-Some.first
+is_first g c =
+    let F : ℕ → Type 0 = λ k. IsFirst k c.loop-first.graph.unions.items c.loop-first.run.z.items c.find_levels.new.levels.items c.in-Some.first in
+    subst F c.loop-first.invariant.2.is_rest.places (rw (c.deref-in-loop-first.ensures.value, c.deref-in-loop-first-2.ensures.value) at (match_some c.in_ok-first.field-0 c.in-Some.first _ _ c.in_ok-first.ensures c.in-Some.is))
 
 pub loop-first-init : goal.loop-first-init
 loop-first-init g c =
     let fq : FitsSigned w128 c.args.q = c.ranges.q in
     (simp to_z-of_z c.requires.graph, refl, c.requires.run)
 
-pub sought_walk-requires-clause-graph : goal.sought_walk-requires-clause-graph
-sought_walk-requires-clause-graph g c = c.loop-first.invariant.0
+pub follow-requires-clause-spots : goal.follow-requires-clause-spots
+follow-requires-clause-spots g c =
+    let t = g.T.Term in
+    let h = c.loop-first.invariant.0 in
+    subst (λ k. AreSpots (meanings t.places t.value_of c.args.terms.now) k c.loop-first.graph.spots.items) (sym (unions_count h)) h.are_spots
 
-pub sought_walk-requires-clause-run : goal.sought_walk-requires-clause-run
-sought_walk-requires-clause-run g c =
-    let at = c.loop-first.invariant.2 in
-    rw c.loop-first.invariant.1 (record { is_rest = at.is_rest; signs = at.signs })
+pub follow-requires-clause-rows : goal.follow-requires-clause-rows
+follow-requires-clause-rows g c = spot_rows c.loop-first.invariant.0
 
-pub sought_walk-requires-clause-first : goal.sought_walk-requires-clause-first
-sought_walk-requires-clause-first g c =
-    let graph = c.loop-first.graph in
-    let run = c.loop-first.run in
-    let levels = c.find_levels.new.levels.items in
-    let F : ℕ → Type 0 = λ k. IsFirst k graph.unions.items run.z.items levels c.in-Some.first in
-    subst F c.loop-first.invariant.2.is_rest.places (rw (c.deref-in-loop-first.ensures.value, c.deref-in-loop-first-2.ensures.value) at (match_some c.in_ok-first.field-0 c.in-Some.first _ _ c.in_ok-first.ensures c.in-Some.is))
+pub follow-requires-clause-unions : goal.follow-requires-clause-unions
+follow-requires-clause-unions g c = c.loop-first.invariant.0.are_unions
+
+pub follow-requires-clause-placed : goal.follow-requires-clause-placed
+follow-requires-clause-placed g c = λ i l.
+    let h = c.loop-first.invariant.0 in
+    let m = g.met.T.Term in
+    claims_readable _ _ _ _ (are_terms h m.family m.submodular) c.loop-first.graph.rows.items (claims_in h) h.bounded.few i (rw (counted h) l)
+
+pub follow-requires-clause-first : goal.follow-requires-clause-first
+follow-requires-clause-first g c =
+    let unions = c.loop-first.graph.unions.items in
+    let first = is_first g (goal.at.follow-requires-clause-first g c).In-Some in
+    rw (c.deref-in-Some.ensures.value, c.deref-in-Some-2.ensures.value) (subst (λ k. IsFirst k unions c.loop-first.run.z.items c.find_levels.new.levels.items c.in-Some.first) (sym (unions_count c.loop-first.invariant.0)) first)
 
 pub prove_walk-requires-clause-graph : goal.prove_walk-requires-clause-graph
 prove_walk-requires-clause-graph g c = own c.loop-first.invariant.0
 
 pub prove_walk-requires-clause-told : goal.prove_walk-requires-clause-told
-prove_walk-requires-clause-told g c =
-    let w = c.in_ok-sought_walk.ensures.walk in
-    (c.sought_walk.new.run.path.first, rw c.deref-in-Some.ensures.value w.told)
+prove_walk-requires-clause-told g c = (c.in-Some.first, rw c.deref-in-Some-3.ensures.value c.in_ok-follow.ensures.hops)
 
 pub loop-first-smaller : goal.loop-first-smaller
 loop-first-smaller g c = c.in_ok-proved.ensures.refused c.if-proved.false
@@ -47,7 +65,7 @@ loop-first-preserved g c =
     let fq : FitsSigned w128 c.args.q = c.ranges.q in
     let inv = simp to_z-of_z at c.loop-first.invariant in
     let o = c.in_ok-proved.ensures in
-    simp to_z-of_z (over_word inv.0 o.graph, o.bases ∙ inv.1, rw inv.1 at c.in_ok-sought_walk.ensures.run)
+    simp to_z-of_z (over_word inv.0 o.graph, o.bases ∙ inv.1, record { is_rest = inv.2.is_rest; signs = inv.2.signs })
 
 pub returns-then-proved-clause-graph : goal.returns-then-proved-clause-graph
 returns-then-proved-clause-graph g c =
@@ -59,17 +77,28 @@ pub returns-then-proved-clause-bases : goal.returns-then-proved-clause-bases
 returns-then-proved-clause-bases g c = c.in_ok-proved.ensures.bases ∙ c.loop-first.invariant.1
 
 pub returns-then-proved-clause-run : goal.returns-then-proved-clause-run
-returns-then-proved-clause-run g c = rw c.loop-first.invariant.1 at c.in_ok-sought_walk.ensures.run
+returns-then-proved-clause-run g c =
+    let at = c.loop-first.invariant.2 in
+    record { is_rest = at.is_rest; signs = at.signs }
 
 pub returns-then-proved-clause-walk : goal.returns-then-proved-clause-walk
 returns-then-proved-clause-walk g c = λ _.
+    let t = g.T.Term in
     let m = g.met.T.Term in
     let fq : FitsSigned w128 c.args.q = c.ranges.q in
     let inv = simp to_z-of_z at c.loop-first.invariant in
-    let run = c.sought_walk.new.run in
-    let e = c.in_ok-sought_walk.ensures in
-    let movable = rw c.deref-in-Some.ensures.value at (simp to_z-of_z at (c.in_ok-proved.ensures.proved c.if-proved.true)) in
-    rw inv.1 at (least_walk _ _ _ _ _ _ (low inv.0) (are_terms inv.0 m.family m.submodular) inv.0.are_bases e.run.is_rest.places e.run.is_rest c.loop-first.graph.rows.items (depth_of run.levels.items) run.path.first run.path.hops.items (simp to_z-of_z at e.walk) movable)
+    let h = inv.0 in
+    let fit = are_terms h m.family m.submodular in
+    let rest : IsRest (meanings t.places t.value_of c.args.terms.now) c.args._shift.now c.loop-first.graph.bases c.loop-first.run.z.items = rw inv.1 inv.2.is_rest in
+    let tables = c.loop-first.graph.rows.items in
+    let levels = c.find_levels.new.levels.items in
+    let first = c.in-Some.first in
+    let hops = c.follow.new.hops.items in
+    let e = c.in_ok-follow.ensures in
+    let v = c.deref-in-Some-2.ensures.value in
+    let sought = sought_walk _ _ _ _ _ _ (low h) fit h.are_bases rest.places rest c.loop-first.graph.unions.items (have_links h fit) levels first (is_first g (goal.at.returns-then-proved-clause-walk g c).In-Some) tables (claims_in h) hops e.some e.hops (rw v at e.falls) (rw v at e.least) (rw v at e.last) in
+    let movable = rw c.deref-in-Some-3.ensures.value at (simp to_z-of_z at (c.in_ok-proved.ensures.proved c.if-proved.true)) in
+    rw inv.1 at (least_walk _ _ _ _ _ _ (low h) fit h.are_bases rest.places rest tables (depth_of levels) first hops sought movable)
 
 pub returns-clause-graph : goal.returns-clause-graph
 returns-clause-graph g c = let fq : FitsSigned w128 c.args.q = c.ranges.q in simp to_z-of_z at c.loop-first.invariant.0
@@ -88,7 +117,7 @@ returns-clause-ends g c = λ _.
     let unions = c.loop-first.graph.unions.items in
     let levels = c.find_levels.new.levels.items in
     let shut = match_none c.in_ok-first.field-0 _ _ c.in_ok-first.ensures c.in_default.not-Some in
-    let closed : AreClosed (length c.args.shift.now) unions c.loop-first.run.z.items levels = subst (λ n. AreClosed n unions c.loop-first.run.z.items levels) rest.places (rw (c.deref-in-loop-first.ensures.value, c.deref-in-loop-first-2.ensures.value) at shut) in
+    let closed : AreClosed (length c.args._shift.now) unions c.loop-first.run.z.items levels = subst (λ n. AreClosed n unions c.loop-first.run.z.items levels) rest.places (rw (c.deref-in-loop-first.ensures.value, c.deref-in-loop-first-2.ensures.value) at shut) in
     let fit = are_terms inv.0 m.family m.submodular in
     rw inv.1 at (none_joins _ _ _ _ _ _ (low inv.0) fit inv.0.are_bases rest.places rest unions levels (have_links inv.0 fit) closed)
 
