@@ -71,7 +71,8 @@ fn prepare_check<S: Shelf>(
     file: &str,
     answer: &str,
 ) -> Result<Due, Status>
-    ensures { Prepares (Checking file.now answer.now) (S.state shelf.old) (S.state shelf.new) result }
+    ensures { Prepares (Checking file.now answer.now) (S.state shelf.old)
+        (S.state shelf.new) result }
 {
     match open_instance(alloc, shelf, file)? {
         Opened::Good(instance) => check_answer(alloc, shelf, &instance, answer),
@@ -105,7 +106,8 @@ fn prepare<S: Shelf>(alloc: Global, shelf: &mut S, command: Command) -> Result<D
 /// Makes what is due for a command whole, and writes that.
 fn obey<S: Shelf, K: Sink>(alloc: Global, command: Command, shelf: &mut S, out: &mut K) -> Status
     requires { (seed : ℕ) → command_of command ≡ Showing seed → seed ≤ 999999999 }
-    ensures { EndsFor (command_of command.entry) (S.state shelf.old) (S.state shelf.new) (K.state out.old) (K.state out.new) result }
+    ensures { EndsFor (command_of command.entry) (S.state shelf.old) (S.state shelf.new)
+        (K.state out.old) (K.state out.new) result }
 {
     let due = match prepare(alloc, shelf, command) {
         Ok(due) => due,
@@ -147,9 +149,12 @@ fn obey_words<'a, S: Shelf, K: Sink>(
     shelf: &mut S,
     out: &mut K,
 ) -> Status
-    ensures ended { Ends (map (λ word. word.now) words.now) (S.state shelf.old) (S.state shelf.new) (K.state out.old) (K.state out.new) result }
-    ensures by_form { EndsByForm (map (λ word. word.now) words.now) (S.state shelf.old) (S.state shelf.new) (K.state out.old) (K.state out.new) result }
-    ensures complete { IsComplete (map (λ word. word.now) words.now) (S.state shelf.old) (S.state shelf.new) (K.state out.old) (K.state out.new) result }
+    ensures ended { Ends (map (λ word. word.now) words.now) (S.state shelf.old) (S.state shelf.new)
+        (K.state out.old) (K.state out.new) result }
+    ensures by_form { EndsByForm (map (λ word. word.now) words.now) (S.state shelf.old)
+        (S.state shelf.new) (K.state out.old) (K.state out.new) result }
+    ensures complete { IsComplete (map (λ word. word.now) words.now) (S.state shelf.old)
+        (S.state shelf.new) (K.state out.old) (K.state out.new) result }
 {
     match read_command(alloc, words) {
         Ok(command) => obey(alloc, command, shelf, out),
@@ -167,10 +172,13 @@ pub fn run<'a, S: Shelf, K: Sink, E: Sink>(
     out: &mut K,
     err: &mut E,
 ) -> Status
-    ensures ended { Ends (map (λ word. word.now) words.now) (S.state shelf.old) (S.state shelf.new) (K.state out.old) (K.state out.new) result }
-    ensures by_form { EndsByForm (map (λ word. word.now) words.now) (S.state shelf.old) (S.state shelf.new) (K.state out.old) (K.state out.new) result }
+    ensures ended { Ends (map (λ word. word.now) words.now) (S.state shelf.old) (S.state shelf.new)
+        (K.state out.old) (K.state out.new) result }
+    ensures by_form { EndsByForm (map (λ word. word.now) words.now) (S.state shelf.old)
+        (S.state shelf.new) (K.state out.old) (K.state out.new) result }
     ensures said { Complains (E.state err.old) (E.state err.new) result }
-    ensures complete { IsComplete (map (λ word. word.now) words.now) (S.state shelf.old) (S.state shelf.new) (K.state out.old) (K.state out.new) result }
+    ensures complete { IsComplete (map (λ word. word.now) words.now) (S.state shelf.old)
+        (S.state shelf.new) (K.state out.old) (K.state out.new) result }
 {
     let status = obey_words(alloc, words, shelf, out);
     complain(err, status);

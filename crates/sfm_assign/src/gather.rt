@@ -27,10 +27,14 @@ fn learn(
     answers: &mut Told,
     h: usize,
 ) -> Result<(), Memory>
-    requires told { AreTold split.now.shares.now.cells.whos.items split.now.shares.now.cells.slots.items split.now.shares.now.y.items split.now.rooms.now answers.old }
+    requires told { AreTold split.now.shares.now.cells.whos.items
+        split.now.shares.now.cells.slots.items split.now.shares.now.y.items split.now.rooms.now
+        answers.old }
     requires place { h < length answers.old }
     ensures same { length answers.new ≡ length answers.old }
-    ensures told { AreTold split.now.shares.now.cells.whos.items split.now.shares.now.cells.slots.items split.now.shares.now.y.items split.now.rooms.now answers.new }
+    ensures told { AreTold split.now.shares.now.cells.whos.items
+        split.now.shares.now.cells.slots.items split.now.shares.now.y.items split.now.rooms.now
+        answers.new }
     ensures known { OnOk result (IsKnown answers.new h) }
 {
     if answers.knows(h) {
@@ -45,7 +49,8 @@ fn learn(
 fn is_held(shares: &Shares, s: usize, f: usize) -> bool
     requires same { length shares.now.y.items ≡ length shares.now.cells.whos.items }
     requires each { length shares.now.cells.slots.items ≡ length shares.now.cells.whos.items }
-    ensures { IsTrue result → IsHeldBy shares.now.cells.whos.items shares.now.cells.slots.items shares.now.y.items s f }
+    ensures { IsTrue result → IsHeldBy shares.now.cells.whos.items shares.now.cells.slots.items
+        shares.now.y.items s f }
 {
     f < shares.y.len() && shares.cells.slots[f] == s && shares.y[f] > 0
 }
@@ -54,7 +59,9 @@ fn is_held(shares: &Shares, s: usize, f: usize) -> bool
 fn held_cell(shares: &Shares, s: usize) -> Option<usize>
     requires same { length shares.now.y.items ≡ length shares.now.cells.whos.items }
     requires each { length shares.now.cells.slots.items ≡ length shares.now.cells.whos.items }
-    ensures { MatchOption result ((h : ℕ) → Holds shares.now.cells.whos.items shares.now.cells.slots.items shares.now.y.items s h → ⊥) (IsHeldBy shares.now.cells.whos.items shares.now.cells.slots.items shares.now.y.items s) }
+    ensures { MatchOption result ((h : ℕ) → Holds shares.now.cells.whos.items
+        shares.now.cells.slots.items shares.now.y.items s h → ⊥)
+        (IsHeldBy shares.now.cells.whos.items shares.now.cells.slots.items shares.now.y.items s) }
 {
     let mut next = shares.cells.by_slot.head(s);
     while let Some(f) = next {
@@ -71,7 +78,9 @@ fn held_cell(shares: &Shares, s: usize) -> Option<usize>
 fn holder_of(at: &mut Spread, shares: &Shares, s: usize) -> Option<usize>
     requires same { length shares.now.y.items ≡ length shares.now.cells.whos.items }
     requires each { length shares.now.cells.slots.items ≡ length shares.now.cells.whos.items }
-    ensures { MatchOption result ((h : ℕ) → Holds shares.now.cells.whos.items shares.now.cells.slots.items shares.now.y.items s h → ⊥) (Holds shares.now.cells.whos.items shares.now.cells.slots.items shares.now.y.items s) }
+    ensures { MatchOption result ((h : ℕ) → Holds shares.now.cells.whos.items
+        shares.now.cells.slots.items shares.now.y.items s h → ⊥)
+        (Holds shares.now.cells.whos.items shares.now.cells.slots.items shares.now.y.items s) }
 {
     if let Some(f) = at.hinted(s) {
         if is_held(shares, s, f) {
@@ -106,13 +115,22 @@ fn take_holder(
     h: usize,
     to: &mut Set,
 ) -> bool
-    requires told { AreTold split.now.shares.now.cells.whos.items split.now.shares.now.cells.slots.items split.now.shares.now.y.items split.now.rooms.now answers.now }
+    requires told { AreTold split.now.shares.now.cells.whos.items
+        split.now.shares.now.cells.slots.items split.now.shares.now.y.items split.now.rooms.now
+        answers.now }
     requires known { IsKnown answers.now h }
     requires place { h < length answers.now }
-    requires holds { Holds split.now.shares.now.cells.whos.items split.now.shares.now.cells.slots.items split.now.shares.now.y.items s h }
-    requires whole { IsFullClosed (length answers.now) split.now.shares.now.cells.whos.items split.now.shares.now.cells.slots.items split.now.shares.now.y.items split.now.rooms.now to.old }
+    requires holds { Holds split.now.shares.now.cells.whos.items
+        split.now.shares.now.cells.slots.items split.now.shares.now.y.items s h }
+    requires whole { IsFullClosed (length answers.now) split.now.shares.now.cells.whos.items
+        split.now.shares.now.cells.slots.items split.now.shares.now.y.items split.now.rooms.now
+        to.old }
     ensures places { length to.new ≡ length to.old }
-    ensures taken { MatchBool result (HeldWithRoom split.now.shares.now.cells.whos.items split.now.shares.now.cells.slots.items split.now.shares.now.y.items split.now.rooms.now s) (AreTakenIn (length answers.now) split.now.shares.now.cells.whos.items split.now.shares.now.cells.slots.items split.now.shares.now.y.items split.now.rooms.now s to.old to.new) }
+    ensures taken { MatchBool result (HeldWithRoom split.now.shares.now.cells.whos.items
+        split.now.shares.now.cells.slots.items split.now.shares.now.y.items split.now.rooms.now s)
+        (AreTakenIn (length answers.now) split.now.shares.now.cells.whos.items
+        split.now.shares.now.cells.slots.items split.now.shares.now.y.items split.now.rooms.now s
+        to.old to.new) }
 {
     if to.contains(h) {
         return false;
@@ -132,14 +150,23 @@ fn take_slot(
     s: usize,
     to: &mut Set,
 ) -> Result<bool, Memory>
-    requires told { AreTold split.now.shares.now.cells.whos.items split.now.shares.now.cells.slots.items split.now.shares.now.y.items split.now.rooms.now answers.old }
-    requires whole { IsFullClosed (length answers.old) split.now.shares.now.cells.whos.items split.now.shares.now.cells.slots.items split.now.shares.now.y.items split.now.rooms.now to.old }
+    requires told { AreTold split.now.shares.now.cells.whos.items
+        split.now.shares.now.cells.slots.items split.now.shares.now.y.items split.now.rooms.now
+        answers.old }
+    requires whole { IsFullClosed (length answers.old) split.now.shares.now.cells.whos.items
+        split.now.shares.now.cells.slots.items split.now.shares.now.y.items split.now.rooms.now
+        to.old }
     ensures same { length answers.new ≡ length answers.old }
     ensures places { length to.new ≡ length to.old }
-    ensures told { AreTold split.now.shares.now.cells.whos.items split.now.shares.now.cells.slots.items split.now.shares.now.y.items split.now.rooms.now answers.new }
+    ensures told { AreTold split.now.shares.now.cells.whos.items
+        split.now.shares.now.cells.slots.items split.now.shares.now.y.items split.now.rooms.now
+        answers.new }
     ensures taken { IfOk result (λ room. MatchBool room
-        (HeldWithRoom split.now.shares.now.cells.whos.items split.now.shares.now.cells.slots.items split.now.shares.now.y.items split.now.rooms.now s)
-        (AreTakenIn (length answers.old) split.now.shares.now.cells.whos.items split.now.shares.now.cells.slots.items split.now.shares.now.y.items split.now.rooms.now s to.old to.new)) }
+        (HeldWithRoom split.now.shares.now.cells.whos.items split.now.shares.now.cells.slots.items
+        split.now.shares.now.y.items split.now.rooms.now s)
+        (AreTakenIn (length answers.old) split.now.shares.now.cells.whos.items
+        split.now.shares.now.cells.slots.items split.now.shares.now.y.items split.now.rooms.now s
+        to.old to.new)) }
 {
     let Some(h) = holder_of(at, split.shares, s) else {
         return Ok(false);
@@ -158,15 +185,22 @@ pub(crate) fn gather(
     u: usize,
     to: &mut Set,
 ) -> Result<bool, Memory>
-    requires told { AreTold split.now.shares.now.cells.whos.items split.now.shares.now.cells.slots.items split.now.shares.now.y.items split.now.rooms.now answers.old }
+    requires told { AreTold split.now.shares.now.cells.whos.items
+        split.now.shares.now.cells.slots.items split.now.shares.now.y.items split.now.rooms.now
+        answers.old }
     requires place { u < length answers.old }
     requires places { length to.old ≡ length answers.old }
     ensures same { length answers.new ≡ length answers.old }
     ensures places { length to.new ≡ length to.old }
-    ensures told { AreTold split.now.shares.now.cells.whos.items split.now.shares.now.cells.slots.items split.now.shares.now.y.items split.now.rooms.now answers.new }
+    ensures told { AreTold split.now.shares.now.cells.whos.items
+        split.now.shares.now.cells.slots.items split.now.shares.now.y.items split.now.rooms.now
+        answers.new }
     ensures led { IfOk result (λ room. MatchBool room
-        (LeadsToRoom split.now.shares.now.cells.whos.items split.now.shares.now.cells.slots.items split.now.shares.now.y.items split.now.rooms.now u)
-        (AreLedTo (length answers.old) split.now.shares.now.cells.whos.items split.now.shares.now.cells.slots.items split.now.shares.now.y.items split.now.rooms.now u (slice_set to.new u true))) }
+        (LeadsToRoom split.now.shares.now.cells.whos.items split.now.shares.now.cells.slots.items
+        split.now.shares.now.y.items split.now.rooms.now u)
+        (AreLedTo (length answers.old) split.now.shares.now.cells.whos.items
+        split.now.shares.now.cells.slots.items split.now.shares.now.y.items split.now.rooms.now u
+        (slice_set to.new u true))) }
 {
     to.clear();
     let mut next = split.shares.cells.by_who.head(u);

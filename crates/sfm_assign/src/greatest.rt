@@ -27,7 +27,11 @@ fn sum_of(capacities: &[i128]) -> i128
 /// The same demands, with nothing for u.
 fn without(alloc: Global, demand: &Demand, u: usize) -> Result<Demand, Memory>
     requires { u < length demand.now.demands }
-    ensures { IfOk result (λ r. r ≡ record { demands = slice_set demand.now.demands u (pos 0); lists = demand.now.lists; capacities = demand.now.capacities }) }
+    ensures { IfOk result (λ r. r ≡ record {
+      demands = slice_set demand.now.demands u (pos 0);
+      lists = demand.now.lists;
+      capacities = demand.now.capacities;
+    }) }
 {
     let mut others = demand.copy(alloc)?;
     others.raise(u, -demand.demands()[u]);
@@ -41,7 +45,8 @@ fn without(alloc: Global, demand: &Demand, u: usize) -> Result<Demand, Memory>
 /// `Memory` where there is none.
 pub fn most(alloc: Global, demand: &Demand, u: usize) -> Result<i128, Memory>
     requires place { u < length demand.now.demands }
-    requires others { CanBeMet (slice_set demand.now.demands u (pos 0)) demand.now.lists demand.now.capacities }
+    requires others { CanBeMet (slice_set demand.now.demands u (pos 0)) demand.now.lists
+        demand.now.capacities }
     ensures { IfOk result (IsMost demand.now.demands demand.now.lists demand.now.capacities u) }
 {
     let _sound = demand.demands();

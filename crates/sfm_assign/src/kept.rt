@@ -50,7 +50,8 @@ pub struct Kept {
     ghost few: { length beside.answers ≤ length demand.demands },
     ghost each: { length beside.asking ≡ length demand.demands },
     ghost asked: { IsTrue beside.counted → AreAsking demand.demands beside.asking },
-    ghost known: { AreAnswers (length demand.demands) shares.cells.whos.items shares.cells.slots.items shares.y.items rooms.items beside.answers },
+    ghost known: { AreAnswers (length demand.demands) shares.cells.whos.items
+        shares.cells.slots.items shares.y.items rooms.items beside.answers },
 }
 
 /// Whether a demand asks for something.
@@ -140,12 +141,15 @@ fn find_more(
     u: usize,
     limit: i128,
 ) -> Result<i128, Memory>
-    requires met { AreMet demand.now split.now.shares.now.cells.whos.items split.now.shares.now.cells.slots.items split.now.shares.now.y.items }
-    requires left { AreLeft demand.now.capacities split.now.shares.now.cells.slots.items split.now.shares.now.y.items split.now.rooms.now }
+    requires met { AreMet demand.now split.now.shares.now.cells.whos.items
+        split.now.shares.now.cells.slots.items split.now.shares.now.y.items }
+    requires left { AreLeft demand.now.capacities split.now.shares.now.cells.slots.items
+        split.now.shares.now.y.items split.now.rooms.now }
     requires place { u < length demand.now.demands }
     requires low { pos 0 ≤ℤ limit }
     requires small { IsAmount (amount_at demand.now.demands u +ℤ limit) }
-    ensures { IfOk result (IsGrown demand.now split.now.shares.now.cells.whos.items split.now.shares.now.cells.slots.items work.new.y.items work.new.left.rooms.items u limit) }
+    ensures { IfOk result (IsGrown demand.now split.now.shares.now.cells.whos.items
+        split.now.shares.now.cells.slots.items work.new.y.items work.new.left.rooms.items u limit) }
 {
     let _sound = demand.demands();
     begin(work, demand, split.shares, split.rooms)?;
@@ -172,7 +176,8 @@ impl Kept {
     ///
     /// `Shortage` where there is no split, as `assign`; `Memory` where there is none.
     pub fn new(alloc: Global, demand: Demand) -> Result<Kept, AssignEnd>
-        ensures { MatchResult result (λ r. r.demand ≡ demand) (IsAssignEnd demand.demands demand.lists demand.capacities) }
+        ensures { MatchResult result (λ r. r.demand ≡ demand)
+            (IsAssignEnd demand.demands demand.lists demand.capacities) }
     {
         let shares = met_shares(alloc, &demand)?;
         let kept = Kept::around(alloc, demand, shares)?;
@@ -223,7 +228,13 @@ impl Kept {
         requires slots { length capacities.now ≡ length self.old.demand.capacities }
         requires amounts { All IsAmount demands.now }
         requires bounded { All IsCapacity capacities.now }
-        ensures brought { MatchResult result (λ _. self.new.demand ≡ record { demands = demands.now; lists = self.old.demand.lists; capacities = capacities.now }) (IsAssignEnd demands.now self.old.demand.lists capacities.now) }
+        ensures brought { MatchResult result (λ _. self.new.demand
+            ≡ record {
+              demands = demands.now;
+              lists = self.old.demand.lists;
+              capacities = capacities.now;
+            }) (IsAssignEnd demands.now self.old.demand.lists
+            capacities.now) }
         ensures unchanged { OnErr result (self.new.demand ≡ self.old.demand) }
     {
         let _sound = self.demand.demands();
@@ -248,11 +259,22 @@ impl Kept {
     fn find_met(&self, alloc: Global, work: &mut Work, aim: &Aim) -> Result<(), Memory>
         requires sized { length aim.now.demands.now ≡ length self.now.demand.demands }
         requires slots { length aim.now.capacities.now ≡ length self.now.demand.capacities }
-        requires sound { AreDemands (record { demands = aim.now.demands.now; lists = self.now.demand.lists; capacities = aim.now.capacities.now }) }
+        requires sound { AreDemands (record {
+          demands = aim.now.demands.now;
+          lists = self.now.demand.lists;
+          capacities = aim.now.capacities.now;
+        }) }
         requires can { CanBeMet aim.now.demands.now self.now.demand.lists aim.now.capacities.now }
-        ensures met { OnOk result (AreMet (record { demands = aim.now.demands.now; lists = self.now.demand.lists; capacities = aim.now.capacities.now }) self.now.shares.cells.whos.items self.now.shares.cells.slots.items work.new.y.items) }
-        ensures lacks { OnOk result (AreLeft aim.now.demands.now self.now.shares.cells.whos.items work.new.y.items work.new.left.lacks.items) }
-        ensures rooms { OnOk result (AreLeft aim.now.capacities.now self.now.shares.cells.slots.items work.new.y.items work.new.left.rooms.items) }
+        ensures met { OnOk result (AreMet (record {
+          demands = aim.now.demands.now;
+          lists = self.now.demand.lists;
+          capacities = aim.now.capacities.now;
+        })
+            self.now.shares.cells.whos.items self.now.shares.cells.slots.items work.new.y.items) }
+        ensures lacks { OnOk result (AreLeft aim.now.demands.now self.now.shares.cells.whos.items
+            work.new.y.items work.new.left.lacks.items) }
+        ensures rooms { OnOk result (AreLeft aim.now.capacities.now
+            self.now.shares.cells.slots.items work.new.y.items work.new.left.rooms.items) }
     {
         match find_amounts(alloc, work, &self.demand, &self.shares, &self.rooms, aim) {
             Ok(()) => Ok(()),
@@ -273,12 +295,22 @@ impl Kept {
     ) -> Result<i128, Memory>
         requires sized { length aim.now.demands.now ≡ length self.now.demand.demands }
         requires slots { length aim.now.capacities.now ≡ length self.now.demand.capacities }
-        requires sound { AreDemands (record { demands = aim.now.demands.now; lists = self.now.demand.lists; capacities = aim.now.capacities.now }) }
+        requires sound { AreDemands (record {
+          demands = aim.now.demands.now;
+          lists = self.now.demand.lists;
+          capacities = aim.now.capacities.now;
+        }) }
         requires met { CanBeMet aim.now.demands.now self.now.demand.lists aim.now.capacities.now }
         requires place { u < length aim.now.demands.now }
         requires low { pos 0 ≤ℤ limit }
         requires small { IsAmount (amount_at aim.now.demands.now u +ℤ limit) }
-        ensures { IfOk result (IsGrown (record { demands = aim.now.demands.now; lists = self.now.demand.lists; capacities = aim.now.capacities.now }) self.now.shares.cells.whos.items self.now.shares.cells.slots.items work.new.y.items work.new.left.rooms.items u limit) }
+        ensures { IfOk result (IsGrown (record {
+          demands = aim.now.demands.now;
+          lists = self.now.demand.lists;
+          capacities = aim.now.capacities.now;
+        })
+            self.now.shares.cells.whos.items self.now.shares.cells.slots.items work.new.y.items
+            work.new.left.rooms.items u limit) }
     {
         self.find_met(alloc, work, aim)?;
         let more = raise_most(alloc, &self.shares.cells, work, u, limit)?;
@@ -336,8 +368,17 @@ impl Kept {
         requires place { u < length aim.now.demands.now }
         requires low { pos 0 ≤ℤ limit }
         requires small { IsAmount (amount_at aim.now.demands.now u +ℤ limit) }
-        ensures grown { IfOk result (λ g. self.new.demand ≡ with_more (record { demands = aim.now.demands.now; lists = self.old.demand.lists; capacities = aim.now.capacities.now }) u g) }
-        ensures most { IfOk result (IsMostUpto (record { demands = aim.now.demands.now; lists = self.old.demand.lists; capacities = aim.now.capacities.now }) u limit) }
+        ensures grown { IfOk result (λ g. self.new.demand ≡ with_more
+            (record {
+              demands = aim.now.demands.now;
+              lists = self.old.demand.lists;
+              capacities = aim.now.capacities.now;
+            }) u g) }
+        ensures most { IfOk result (IsMostUpto (record {
+          demands = aim.now.demands.now;
+          lists = self.old.demand.lists;
+          capacities = aim.now.capacities.now;
+        }) u limit) }
         ensures unchanged { OnErr result (self.new.demand ≡ self.old.demand) }
     {
         let _sound = self.demand.demands();
@@ -365,7 +406,8 @@ impl Kept {
     fn widen(&mut self) -> Result<(), Memory>
         ensures same { self.new.demand ≡ self.old.demand }
         ensures counted { self.new.beside.counted ≡ self.old.beside.counted }
-        ensures places { OnOk result (length self.new.beside.answers ≡ length self.new.demand.demands) }
+        ensures places { OnOk result (length self.new.beside.answers
+            ≡ length self.new.demand.demands) }
     {
         let n = self.demand.demands().len();
         self.beside.answers.widen(n)
@@ -384,8 +426,11 @@ impl Kept {
         ensures rooms { self.new.rooms.items ≡ self.old.rooms.items }
         ensures places { length to.new ≡ length to.old }
         ensures led { IfOk result (λ room. MatchBool room
-            (LeadsToRoom self.old.shares.cells.whos.items self.old.shares.cells.slots.items self.old.shares.y.items self.old.rooms.items u)
-            (AreLedTo (length self.old.demand.demands) self.old.shares.cells.whos.items self.old.shares.cells.slots.items self.old.shares.y.items self.old.rooms.items u (slice_set to.new u true))) }
+            (LeadsToRoom self.old.shares.cells.whos.items self.old.shares.cells.slots.items
+            self.old.shares.y.items self.old.rooms.items u)
+            (AreLedTo (length self.old.demand.demands) self.old.shares.cells.whos.items
+            self.old.shares.cells.slots.items self.old.shares.y.items self.old.rooms.items u
+            (slice_set to.new u true))) }
     {
         let _sound = self.demand.demands();
         let split = Standing {
@@ -402,10 +447,15 @@ impl Kept {
         requires counted { IsTrue self.now.beside.counted }
         requires room_for_answer { length to.old ≡ length self.now.demand.demands }
         requires led { MatchBool room
-            (LeadsToRoom self.now.shares.cells.whos.items self.now.shares.cells.slots.items self.now.shares.y.items self.now.rooms.items u)
-            (AreLedTo (length self.now.demand.demands) self.now.shares.cells.whos.items self.now.shares.cells.slots.items self.now.shares.y.items self.now.rooms.items u (slice_set to.old u true)) }
+            (LeadsToRoom self.now.shares.cells.whos.items self.now.shares.cells.slots.items
+            self.now.shares.y.items self.now.rooms.items u)
+            (AreLedTo (length self.now.demand.demands) self.now.shares.cells.whos.items
+            self.now.shares.cells.slots.items self.now.shares.y.items self.now.rooms.items u
+            (slice_set to.old u true)) }
         ensures places { length to.new ≡ length to.old }
-        ensures reached { (v : ℕ) → v < length to.new → Has to.new v ↔ IsLender self.now.demand.demands self.now.demand.lists self.now.demand.capacities u v }
+        ensures reached { (v : ℕ) → v < length to.new → Has to.new v
+            ↔ IsLender self.now.demand.demands self.now.demand.lists self.now.demand.capacities u
+            v }
     {
         let _sound = self.demand.demands();
         if room {
@@ -426,7 +476,9 @@ impl Kept {
         requires room_for_answer { length to.old ≡ length self.old.demand.demands }
         ensures same { self.new.demand ≡ self.old.demand }
         ensures places { length to.new ≡ length to.old }
-        ensures reached { OnOk result ((v : ℕ) → v < length to.new → Has to.new v ↔ IsLender self.old.demand.demands self.old.demand.lists self.old.demand.capacities u v) }
+        ensures reached { OnOk result ((v : ℕ) → v < length to.new → Has to.new v
+            ↔ IsLender self.old.demand.demands self.old.demand.lists self.old.demand.capacities u
+            v) }
     {
         self.count_asking();
         self.widen()?;

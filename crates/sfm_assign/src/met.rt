@@ -6,7 +6,8 @@ use crate::kept::Kept;
 impl Kept {
     /// The demands are met, so they can be: a law, with nothing to do.
     pub fn are_met(&self)
-        ensures { CanBeMet self.now.demand.demands self.now.demand.lists self.now.demand.capacities }
+        ensures { CanBeMet self.now.demand.demands self.now.demand.lists
+            self.now.demand.capacities }
     {
         let _ = self.demand.demands();
     }

@@ -87,9 +87,11 @@ pub(crate) fn find_answer(
     answers: &[Option<Answer>],
     u: usize,
 ) -> Result<Answer, Memory>
-    requires told { AreTold shares.now.cells.whos.items shares.now.cells.slots.items shares.now.y.items rooms.now answers.now }
+    requires told { AreTold shares.now.cells.whos.items shares.now.cells.slots.items
+        shares.now.y.items rooms.now answers.now }
     requires place { u < length answers.now }
-    ensures { IfOk result (IsAnswer (length answers.now) shares.now.cells.whos.items shares.now.cells.slots.items shares.now.y.items rooms.now u) }
+    ensures { IfOk result (IsAnswer (length answers.now) shares.now.cells.whos.items
+        shares.now.cells.slots.items shares.now.y.items rooms.now u) }
 {
     at.begin(alloc, answers.len(), rooms.len(), u)?;
     while at.next < at.queue.len() {
@@ -198,7 +200,9 @@ impl Spread {
         ensures next { self.new.next ≡ self.old.next }
         ensures marks { self.new.marks ≡ self.old.marks }
         ensures queue { self.new.queue.items ≡ self.old.queue.items }
-        ensures found { IfOk result (λ r. MatchOption r (self.new.found ≡ union self.old.found set.now) (λ a. (self.new.found ≡ self.old.found) × Has set.now self.old.from × (a ≡ Full set.now))) }
+        ensures found { IfOk result (λ r. MatchOption r (self.new.found
+            ≡ union self.old.found set.now) (λ a. (self.new.found ≡ self.old.found)
+            × Has set.now self.old.from × (a ≡ Full set.now))) }
     {
         if set.contains(self.from) {
             let mut same = empty_of(alloc, &mut self.idle, set.len())?;
@@ -211,13 +215,15 @@ impl Spread {
 
     /// Takes in the answer of a demand; or tells it, where it is the answer of the first one as well.
     fn take_in(&mut self, alloc: Global, answer: &Answer) -> Result<Option<Answer>, Memory>
-        requires sized { (set : List Bool) → answer.now ≡ Full set → length set ≡ length self.old.found }
+        requires sized { (set : List Bool) → answer.now ≡ Full set
+            → length set ≡ length self.old.found }
         requires place { self.old.from < length self.old.found }
         ensures from { self.new.from ≡ self.old.from }
         ensures next { self.new.next ≡ self.old.next }
         ensures marks { self.new.marks ≡ self.old.marks }
         ensures queue { self.new.queue.items ≡ self.old.queue.items }
-        ensures found { IfOk result (IsJoin answer.now self.old.from self.old.found self.new.found) }
+        ensures found { IfOk result (IsJoin answer.now self.old.from self.old.found
+            self.new.found) }
     {
         match answer {
             Answer::Room => Ok(Some(Answer::Room)),
@@ -237,20 +243,29 @@ impl Spread {
         answers: &[Option<Answer>],
         link: Link,
     ) -> Result<Option<Answer>, Memory>
-        requires told { AreTold shares.now.cells.whos.items shares.now.cells.slots.items shares.now.y.items rooms.now answers.now }
+        requires told { AreTold shares.now.cells.whos.items shares.now.cells.slots.items
+            shares.now.y.items rooms.now answers.now }
         requires own { link.own < length shares.now.cells.whos.items }
         requires other { link.other < length shares.now.cells.whos.items }
-        requires shared { label_at shares.now.cells.slots.items link.own ≡ label_at shares.now.cells.slots.items link.other }
+        requires shared { label_at shares.now.cells.slots.items link.own
+            ≡ label_at shares.now.cells.slots.items link.other }
         requires found { Has self.old.found (label_at shares.now.cells.whos.items link.other) }
-        requires spread { IsSpread (length answers.now) shares.now.cells.whos.items shares.now.cells.slots.items shares.now.y.items rooms.now self.old.from self.old.found self.old.marks self.old.queue.items self.old.next }
+        requires spread { IsSpread (length answers.now) shares.now.cells.whos.items
+            shares.now.cells.slots.items shares.now.y.items rooms.now self.old.from self.old.found
+            self.old.marks self.old.queue.items self.old.next }
         ensures from { self.new.from ≡ self.old.from }
         ensures next { self.new.next ≡ self.old.next }
         ensures marks { self.new.marks ≡ self.old.marks }
-        ensures spread { OnOk result (IsSpread (length answers.now) shares.now.cells.whos.items shares.now.cells.slots.items shares.now.y.items rooms.now self.new.from self.new.found self.new.marks self.new.queue.items self.new.next) }
-        ensures wider { OnOk result (IsWider self.old.found self.old.queue.items self.new.found self.new.queue.items) }
+        ensures spread { OnOk result (IsSpread (length answers.now) shares.now.cells.whos.items
+            shares.now.cells.slots.items shares.now.y.items rooms.now self.new.from self.new.found
+            self.new.marks self.new.queue.items self.new.next) }
+        ensures wider { OnOk result (IsWider self.old.found self.old.queue.items self.new.found
+            self.new.queue.items) }
         ensures end { IfOk result (λ r. MatchOption r
-            (pos 1 ≤ℤ amount_at shares.now.y.items link.own → Has self.new.found (label_at shares.now.cells.whos.items link.own))
-            (IsAnswer (length answers.now) shares.now.cells.whos.items shares.now.cells.slots.items shares.now.y.items rooms.now self.old.from)) }
+            (pos 1 ≤ℤ amount_at shares.now.y.items link.own
+            → Has self.new.found (label_at shares.now.cells.whos.items link.own))
+            (IsAnswer (length answers.now) shares.now.cells.whos.items shares.now.cells.slots.items
+            shares.now.y.items rooms.now self.old.from)) }
     {
         let f = shares.cells.whos[link.own];
         if self.found.contains(f) {
@@ -280,18 +295,26 @@ impl Spread {
         answers: &[Option<Answer>],
         e: usize,
     ) -> Result<Option<Answer>, Memory>
-        requires told { AreTold shares.now.cells.whos.items shares.now.cells.slots.items shares.now.y.items rooms.now answers.now }
+        requires told { AreTold shares.now.cells.whos.items shares.now.cells.slots.items
+            shares.now.y.items rooms.now answers.now }
         requires cell { e < length shares.now.cells.whos.items }
         requires full { amount_at rooms.now (label_at shares.now.cells.slots.items e) ≤ℤ pos 0 }
         requires found { Has self.old.found (label_at shares.now.cells.whos.items e) }
-        requires spread { IsSpread (length answers.now) shares.now.cells.whos.items shares.now.cells.slots.items shares.now.y.items rooms.now self.old.from self.old.found self.old.marks self.old.queue.items self.old.next }
+        requires spread { IsSpread (length answers.now) shares.now.cells.whos.items
+            shares.now.cells.slots.items shares.now.y.items rooms.now self.old.from self.old.found
+            self.old.marks self.old.queue.items self.old.next }
         ensures from { self.new.from ≡ self.old.from }
         ensures next { self.new.next ≡ self.old.next }
-        ensures spread { OnOk result (IsSpread (length answers.now) shares.now.cells.whos.items shares.now.cells.slots.items shares.now.y.items rooms.now self.new.from self.new.found self.new.marks self.new.queue.items self.new.next) }
-        ensures wider { OnOk result (IsWider self.old.found self.old.queue.items self.new.found self.new.queue.items) }
+        ensures spread { OnOk result (IsSpread (length answers.now) shares.now.cells.whos.items
+            shares.now.cells.slots.items shares.now.y.items rooms.now self.new.from self.new.found
+            self.new.marks self.new.queue.items self.new.next) }
+        ensures wider { OnOk result (IsWider self.old.found self.old.queue.items self.new.found
+            self.new.queue.items) }
         ensures end { IfOk result (λ r. MatchOption r
-            (self.new.marks ≡ slice_set self.old.marks (label_at shares.now.cells.slots.items e) true)
-            (IsAnswer (length answers.now) shares.now.cells.whos.items shares.now.cells.slots.items shares.now.y.items rooms.now self.old.from)) }
+            (self.new.marks ≡ slice_set self.old.marks
+            (label_at shares.now.cells.slots.items e) true)
+            (IsAnswer (length answers.now) shares.now.cells.whos.items shares.now.cells.slots.items
+            shares.now.y.items rooms.now self.old.from)) }
     {
         let s = shares.cells.slots[e];
         let mut at = shares.cells.by_slot.head(s);
@@ -315,17 +338,25 @@ impl Spread {
         answers: &[Option<Answer>],
         e: usize,
     ) -> Result<Option<Answer>, Memory>
-        requires told { AreTold shares.now.cells.whos.items shares.now.cells.slots.items shares.now.y.items rooms.now answers.now }
+        requires told { AreTold shares.now.cells.whos.items shares.now.cells.slots.items
+            shares.now.y.items rooms.now answers.now }
         requires cell { e < length shares.now.cells.whos.items }
         requires found { Has self.old.found (label_at shares.now.cells.whos.items e) }
-        requires spread { IsSpread (length answers.now) shares.now.cells.whos.items shares.now.cells.slots.items shares.now.y.items rooms.now self.old.from self.old.found self.old.marks self.old.queue.items self.old.next }
+        requires spread { IsSpread (length answers.now) shares.now.cells.whos.items
+            shares.now.cells.slots.items shares.now.y.items rooms.now self.old.from self.old.found
+            self.old.marks self.old.queue.items self.old.next }
         ensures from { self.new.from ≡ self.old.from }
         ensures next { self.new.next ≡ self.old.next }
-        ensures spread { OnOk result (IsSpread (length answers.now) shares.now.cells.whos.items shares.now.cells.slots.items shares.now.y.items rooms.now self.new.from self.new.found self.new.marks self.new.queue.items self.new.next) }
-        ensures wider { OnOk result (IsWider self.old.found self.old.queue.items self.new.found self.new.queue.items) }
+        ensures spread { OnOk result (IsSpread (length answers.now) shares.now.cells.whos.items
+            shares.now.cells.slots.items shares.now.y.items rooms.now self.new.from self.new.found
+            self.new.marks self.new.queue.items self.new.next) }
+        ensures wider { OnOk result (IsWider self.old.found self.old.queue.items self.new.found
+            self.new.queue.items) }
         ensures end { IfOk result (λ r. MatchOption r
-            (Has self.new.marks (label_at shares.now.cells.slots.items e) × ((s : ℕ) → Has self.old.marks s → Has self.new.marks s))
-            (IsAnswer (length answers.now) shares.now.cells.whos.items shares.now.cells.slots.items shares.now.y.items rooms.now self.old.from)) }
+            (Has self.new.marks (label_at shares.now.cells.slots.items e)
+            × ((s : ℕ) → Has self.old.marks s → Has self.new.marks s))
+            (IsAnswer (length answers.now) shares.now.cells.whos.items shares.now.cells.slots.items
+            shares.now.y.items rooms.now self.old.from)) }
     {
         let s = shares.cells.slots[e];
         if self.marks.contains(s) {
@@ -348,13 +379,20 @@ impl Spread {
         rooms: &[i128],
         answers: &[Option<Answer>],
     ) -> Result<Option<Answer>, Memory>
-        requires told { AreTold shares.now.cells.whos.items shares.now.cells.slots.items shares.now.y.items rooms.now answers.now }
+        requires told { AreTold shares.now.cells.whos.items shares.now.cells.slots.items
+            shares.now.y.items rooms.now answers.now }
         requires place { self.old.next < length self.old.queue.items }
-        requires spread { IsSpread (length answers.now) shares.now.cells.whos.items shares.now.cells.slots.items shares.now.y.items rooms.now self.old.from self.old.found self.old.marks self.old.queue.items self.old.next }
+        requires spread { IsSpread (length answers.now) shares.now.cells.whos.items
+            shares.now.cells.slots.items shares.now.y.items rooms.now self.old.from self.old.found
+            self.old.marks self.old.queue.items self.old.next }
         ensures from { self.new.from ≡ self.old.from }
         ensures end { IfOk result (λ r. MatchOption r
-            ((self.new.next ≡ self.old.next + 1) × IsSpread (length answers.now) shares.now.cells.whos.items shares.now.cells.slots.items shares.now.y.items rooms.now self.new.from self.new.found self.new.marks self.new.queue.items self.new.next)
-            (IsAnswer (length answers.now) shares.now.cells.whos.items shares.now.cells.slots.items shares.now.y.items rooms.now self.old.from)) }
+            ((self.new.next ≡ self.old.next + 1) × IsSpread
+            (length answers.now) shares.now.cells.whos.items shares.now.cells.slots.items
+            shares.now.y.items rooms.now self.new.from self.new.found self.new.marks
+            self.new.queue.items self.new.next)
+            (IsAnswer (length answers.now) shares.now.cells.whos.items shares.now.cells.slots.items
+            shares.now.y.items rooms.now self.old.from)) }
     {
         let g = self.queue[self.next];
         let mut at = shares.cells.by_who.head(g);

@@ -56,7 +56,10 @@ impl Page {
     /// Puts bytes at the end. It takes no memory.
     pub fn put(&mut self, bytes: &[u8])
         requires { length bytes.now ≤ self.old.spare }
-        ensures { self.new ≡ record { bytes = self.old.bytes ++ bytes.now; spare = self.old.spare - length bytes.now } }
+        ensures { self.new ≡ record {
+          bytes = self.old.bytes ++ bytes.now;
+          spare = self.old.spare - length bytes.now;
+        } }
     {
         self.bytes.extend_from_slice(bytes).unwrap();
         self.spare -= bytes.len();

@@ -126,7 +126,8 @@ impl Set {
 
     /// The least place of the set.
     pub fn first(&self) -> Option<usize>
-        ensures { MatchOption result (self.now ≡ empty_set (length self.now)) (λ e. Has self.now e × ((k : ℕ) → k < e → ¬ Has self.now k)) }
+        ensures { MatchOption result (self.now ≡ empty_set (length self.now))
+            (λ e. Has self.now e × ((k : ℕ) → k < e → ¬ Has self.now k)) }
     {
         first(&self.words)
     }

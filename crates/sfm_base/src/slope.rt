@@ -37,9 +37,12 @@ impl Slope {
 
     /// Whether this slope is less than, the same as or greater than the other.
     pub fn compare(&self, other: &Slope) -> Ordering
-        ensures less { (result ≡ Ordering.Less) ↔ IsLowerSlope self.now.num self.now.den other.now.num other.now.den }
-        ensures equal { (result ≡ Ordering.Equal) ↔ IsSameSlope self.now.num self.now.den other.now.num other.now.den }
-        ensures greater { (result ≡ Ordering.Greater) ↔ IsLowerSlope other.now.num other.now.den self.now.num self.now.den }
+        ensures less { (result ≡ Ordering.Less) ↔ IsLowerSlope self.now.num self.now.den
+            other.now.num other.now.den }
+        ensures equal { (result ≡ Ordering.Equal) ↔ IsSameSlope self.now.num self.now.den
+            other.now.num other.now.den }
+        ensures greater { (result ≡ Ordering.Greater) ↔ IsLowerSlope other.now.num other.now.den
+            self.now.num self.now.den }
     {
         let mine = product(self.num, other.den);
         let theirs = product(other.num, self.den);

@@ -31,7 +31,8 @@ impl Joining {
 #[inline(always)]
 pub fn join(words: &mut [u64], other: &[u64], joining: Joining)
     requires { length words.old ≡ length other.now }
-    ensures { (e : ℕ) → bit_of words.new e ≡ joint joining (bit_of words.old e) (bit_of other.now e) }
+    ensures { (e : ℕ) → bit_of words.new e ≡ joint joining (bit_of words.old e)
+        (bit_of other.now e) }
 {
     for k in 0..words.len() {
         words[k] = joining.of(words[k], other[k]);
@@ -80,7 +81,8 @@ pub fn count(words: &[u64]) -> usize
 /// The least place that the words have.
 pub fn first(words: &[u64]) -> Option<usize>
     requires { length words.now ≤ 2 ^ 58 }
-    ensures { MatchOption result ((e : ℕ) → bit_of words.now e ≡ 0) (λ e. (bit_of words.now e ≡ 1) × ((k : ℕ) → k < e → bit_of words.now k ≡ 0)) }
+    ensures { MatchOption result ((e : ℕ) → bit_of words.now e ≡ 0)
+        (λ e. (bit_of words.now e ≡ 1) × ((k : ℕ) → k < e → bit_of words.now k ≡ 0)) }
 {
     for (k, word) in words.iter().enumerate() {
         if *word != 0 {

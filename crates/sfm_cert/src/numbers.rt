@@ -44,7 +44,8 @@ pub fn behind<'a>(bytes: &'a [u8], word: &[u8]) -> Option<&'a [u8]>
 /// The number behind the space at the front, and the bytes behind that number.
 fn split_entry(bytes: &[u8]) -> Option<(i128, &[u8])>
     ensures { MatchOption result
-        ((a : ℤ) (rest : List ℕ) → IsEntry a → IsStop rest → bytes.now ≡ 32 ∷ (signed_decimal a ++ rest) → ⊥)
+        ((a : ℤ) (rest : List ℕ) → IsEntry a → IsStop rest
+        → bytes.now ≡ 32 ∷ (signed_decimal a ++ rest) → ⊥)
         (λ r. IsEntry r.0 × IsStop r.1.now × (bytes.now ≡ 32 ∷ (signed_decimal r.0 ++ r.1.now))) }
 {
     let (token, rest) = split_token(behind(bytes, b" ")?);
@@ -96,8 +97,10 @@ pub fn needs_of(alloc: Global, bytes: &[u8], most: usize) -> Result<Option<Vec<u
 /// The number behind the space at the front, where it is above `last` and at most `most`, and the bytes behind it.
 fn split_need(bytes: &[u8], last: usize, most: usize) -> Option<(usize, &[u8])>
     ensures { MatchOption result
-        ((n : ℕ) (rest : List ℕ) → last < n → n ≤ most → IsStop rest → bytes.now ≡ 32 ∷ (decimal n ++ rest) → ⊥)
-        (λ r. (last < r.0) × (r.0 ≤ most) × IsStop r.1.now × (bytes.now ≡ 32 ∷ (decimal r.0 ++ r.1.now))) }
+        ((n : ℕ) (rest : List ℕ) → last < n → n ≤ most → IsStop rest
+        → bytes.now ≡ 32 ∷ (decimal n ++ rest) → ⊥)
+        (λ r. (last < r.0) × (r.0 ≤ most) × IsStop r.1.now
+        × (bytes.now ≡ 32 ∷ (decimal r.0 ++ r.1.now))) }
 {
     let (a, rest) = split_entry(bytes)?;
     if (last as i128) < a && a <= (most as i128) {

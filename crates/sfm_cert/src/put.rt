@@ -93,7 +93,8 @@ fn put_slope<O: Out>(out: &mut O, num: i128, den: i128)
 /// The line of a block, with its number.
 fn put_block<O: Out>(out: &mut O, instance: &Instance, number: usize, block: &Block)
     requires { length instance.now.names ≡ length block.now.members }
-    ensures { out.new ≡ O.after out.old (text_of (block_line instance.now.names number (block_of block.now) ∷ [])) }
+    ensures { out.new ≡ O.after out.old (text_of (block_line instance.now.names number
+        (block_of block.now) ∷ [])) }
 {
     out.put(b"block ");
     put_count(out, number);
@@ -105,8 +106,10 @@ fn put_block<O: Out>(out: &mut O, instance: &Instance, number: usize, block: &Bl
 
 /// A line for each block, numbered from 1.
 pub fn put_blocks<O: Out>(out: &mut O, instance: &Instance, blocks: &[Block])
-    requires { (i : ℕ) → i < length (map block_of blocks.now) → length (block_at (map block_of blocks.now) i).members ≡ length instance.now.names }
-    ensures { out.new ≡ O.after out.old (text_of (block_lines instance.now.names 1 (map block_of blocks.now))) }
+    requires { (i : ℕ) → i < length (map block_of blocks.now)
+        → length (block_at (map block_of blocks.now) i).members ≡ length instance.now.names }
+    ensures { out.new ≡ O.after out.old (text_of (block_lines instance.now.names 1
+        (map block_of blocks.now))) }
 {
     for (i, block) in blocks.iter().enumerate() {
         put_block(out, instance, i + 1, block);
@@ -116,7 +119,8 @@ pub fn put_blocks<O: Out>(out: &mut O, instance: &Instance, blocks: &[Block])
 /// The line of a slope, with its set.
 fn put_break<O: Out>(out: &mut O, instance: &Instance, b: &Break)
     requires { length instance.now.names ≡ length b.now.set }
-    ensures { out.new ≡ O.after out.old (text_of (slope_line instance.now.names (break_of b.now) ∷ [])) }
+    ensures { out.new ≡ O.after out.old (text_of (slope_line instance.now.names
+        (break_of b.now) ∷ [])) }
 {
     out.put(b"slope ");
     put_slope(out, b.slope.num, b.slope.den);
@@ -127,7 +131,8 @@ fn put_break<O: Out>(out: &mut O, instance: &Instance, b: &Break)
 /// A line for each slope.
 pub fn put_breaks<O: Out>(out: &mut O, instance: &Instance, breaks: &[Break])
     requires { All (λ b. length b.members ≡ length instance.now.names) (map break_of breaks.now) }
-    ensures { out.new ≡ O.after out.old (text_of (slope_lines instance.now.names (map break_of breaks.now))) }
+    ensures { out.new ≡ O.after out.old (text_of (slope_lines instance.now.names
+        (map break_of breaks.now))) }
 {
     for b in breaks {
         put_break(out, instance, b);
@@ -166,7 +171,8 @@ pub fn put_at<O: Out>(out: &mut O, slope: &Slope)
 /// The line that tells a slope, and the bases at it.
 pub fn put_section<O: Out>(out: &mut O, slope: &Slope, bases: &Rows)
     requires { All (λ base. All IsEntry base) bases.now }
-    ensures { out.new ≡ O.after out.old (text_of (section_lines slope.now.num slope.now.den bases.now)) }
+    ensures { out.new ≡ O.after out.old (text_of (section_lines slope.now.num slope.now.den
+        bases.now)) }
 {
     put_at(out, slope);
     out.put(b"\n");

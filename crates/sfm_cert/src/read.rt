@@ -31,9 +31,11 @@ fn read_blocks(
     cursor: &mut Cursor,
 ) -> Result<Vec<Block>, AnswerEnd>
     requires { cursor.old.at ≤ length text.now }
-    ensures read { IfOk result (λ blocks. ReadsBlocks (form_of instance.now) text.now cursor.old cursor.new (map block_of blocks.items)) }
+    ensures read { IfOk result (λ blocks. ReadsBlocks (form_of instance.now) text.now cursor.old
+        cursor.new (map block_of blocks.items)) }
     ensures next { IfOk result (λ _. slice_index text.now cursor.new.at ≢ 98) }
-    ensures stopped { IfErr result (EndsAt (form_of instance.now) text.now cursor.old (listing 0 [])) }
+    ensures stopped { IfErr result (EndsAt (form_of instance.now) text.now cursor.old
+        (listing 0 [])) }
 {
     let mut blocks = Vec::new(alloc);
     while begins(text, cursor, b'b') {
@@ -51,9 +53,11 @@ fn read_heads(
     cursor: &mut Cursor,
 ) -> Result<Vec<Head>, AnswerEnd>
     requires { cursor.old.at ≤ length text.now }
-    ensures read { IfOk result (λ heads. ReadsHeads (form_of instance.now) text.now cursor.old cursor.new (map break_of_head heads.items)) }
+    ensures read { IfOk result (λ heads. ReadsHeads (form_of instance.now) text.now cursor.old
+        cursor.new (map break_of_head heads.items)) }
     ensures next { IfOk result (λ _. slice_index text.now cursor.new.at ≢ 115) }
-    ensures stopped { IfErr result (λ end. (k : ℕ) → EndsAt (form_of instance.now) text.now cursor.old (listing k []) end) }
+    ensures stopped { IfErr result (λ end. (k : ℕ) → EndsAt
+        (form_of instance.now) text.now cursor.old (listing k []) end) }
 {
     let mut heads = Vec::new(alloc);
     while begins(text, cursor, b's') {
@@ -71,8 +75,11 @@ fn read_rows(
     cursor: &mut Cursor,
 ) -> Result<Rows, AnswerEnd>
     requires { cursor.old.at ≤ length text.now }
-    ensures read { IfOk result (λ rows. ReadsRows (form_of instance.now) text.now cursor.old cursor.new rows) }
-    ensures stopped { IfErr result (λ end. (due : List Ratio) → EndsAt (form_of instance.now) text.now cursor.old (bases 1 (form_of instance.now).widths due) end) }
+    ensures read { IfOk result (λ rows. ReadsRows (form_of instance.now) text.now cursor.old
+        cursor.new rows) }
+    ensures stopped { IfErr result (λ end. (due : List Ratio)
+        → EndsAt (form_of instance.now) text.now cursor.old
+        (bases 1 (form_of instance.now).widths due) end) }
 {
     let mut rows = Rows::new(alloc);
     for (i, term) in instance.terms().iter().enumerate() {
@@ -92,9 +99,13 @@ fn read_breaks(
 ) -> Result<Vec<Break>, AnswerEnd>
     requires within { cursor.old.at ≤ length text.now }
     requires heads { AreHeads (form_of instance.now) (map break_of_head heads.now) }
-    ensures read { IfOk result (λ breaks. ReadsBreaks (form_of instance.now) text.now cursor.old cursor.new (map break_of_head heads.now) [] (map break_of breaks.items)) }
-    ensures same { IfOk result (λ breaks. AreBreaksOf (form_of instance.now) (map break_of_head heads.now) (map break_of breaks.items)) }
-    ensures stopped { IfErr result (λ end. (i : ℕ) → EndsAt (form_of instance.now) text.now cursor.old (bases i [] (map ratio_of (map break_of_head heads.now))) end) }
+    ensures read { IfOk result (λ breaks. ReadsBreaks (form_of instance.now) text.now cursor.old
+        cursor.new (map break_of_head heads.now) [] (map break_of breaks.items)) }
+    ensures same { IfOk result (λ breaks. AreBreaksOf (form_of instance.now)
+        (map break_of_head heads.now) (map break_of breaks.items)) }
+    ensures stopped { IfErr result (λ end. (i : ℕ) → EndsAt
+        (form_of instance.now) text.now cursor.old
+        (bases i [] (map ratio_of (map break_of_head heads.now))) end) }
 {
     let mut breaks = Vec::new(alloc);
     for head in heads {
@@ -118,7 +129,8 @@ fn read_first(
     cursor: &mut Cursor,
 ) -> Result<(i128, Set, Set), AnswerEnd>
     requires { cursor.old.at ≤ length text.now }
-    ensures read { IfOk result (λ r. ReadsFirst (form_of instance.now) text.now cursor.old cursor.new r.0 r.1 r.2) }
+    ensures read { IfOk result (λ r. ReadsFirst (form_of instance.now) text.now cursor.old
+        cursor.new r.0 r.1 r.2) }
     ensures stopped { IfErr result (EndsAt (form_of instance.now) text.now cursor.old header) }
 {
     expect(text, cursor, b"answer 1")?;
@@ -134,7 +146,8 @@ fn read_first(
 ///
 /// `BadLine` with the first line that is not of the grammar at its place, where there is one; `Memory` where there is none.
 pub fn read_answer(alloc: Global, instance: &Instance, text: &[u8]) -> Result<Solved, AnswerEnd>
-    ensures read { IfOk result (λ solved. IsAnswerText (form_of instance.now) text.now (answer_of solved)) }
+    ensures read { IfOk result (λ solved. IsAnswerText (form_of instance.now) text.now
+        (answer_of solved)) }
     ensures refused { IfErr result (IsBadLineEnd (form_of instance.now) text.now) }
 {
     let _names = instance.names_len();

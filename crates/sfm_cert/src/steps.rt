@@ -24,8 +24,10 @@ const MOST_AT: usize = 68;
 /// The number of the minimum line.
 pub fn read_minimum(text: &[u8], cursor: &mut Cursor) -> Result<i128, AnswerEnd>
     requires { cursor.old.at ≤ length text.now }
-    ensures read { IfOk result (λ v. TakesSome text.now cursor.old cursor.new (λ line. IsMinimumLine line v)) }
-    ensures stuck { IfErr result (EndsStuck text.now cursor.old (λ line. (v : ℤ) × IsMinimumLine line v)) }
+    ensures read { IfOk result (λ v. TakesSome text.now cursor.old cursor.new
+        (λ line. IsMinimumLine line v)) }
+    ensures stuck { IfErr result (EndsStuck text.now cursor.old
+        (λ line. (v : ℤ) × IsMinimumLine line v)) }
 {
     let end = AnswerEnd::BadLine { line: cursor.line };
     let Some(line) = take_line(text, cursor) else {
@@ -46,8 +48,10 @@ pub fn read_set(
     word: &[u8],
 ) -> Result<Set, AnswerEnd>
     requires { cursor.old.at ≤ length text.now }
-    ensures read { IfOk result (λ s. TakesSome text.now cursor.old cursor.new (λ line. IsSetLine word.now instance.now.names line s)) }
-    ensures stuck { IfErr result (EndsStuck text.now cursor.old (λ line. (s : List Bool) × IsSetLine word.now instance.now.names line s)) }
+    ensures read { IfOk result (λ s. TakesSome text.now cursor.old cursor.new
+        (λ line. IsSetLine word.now instance.now.names line s)) }
+    ensures stuck { IfErr result (EndsStuck text.now cursor.old
+        (λ line. (s : List Bool) × IsSetLine word.now instance.now.names line s)) }
 {
     let end = AnswerEnd::BadLine { line: cursor.line };
     let Some(line) = take_line(text, cursor) else {
@@ -69,8 +73,10 @@ pub fn read_block(
 ) -> Result<Block, AnswerEnd>
     requires within { cursor.old.at ≤ length text.now }
     requires few { before + 1 < 18446744073709551616 }
-    ensures read { IfOk result (λ block. TakesSome text.now cursor.old cursor.new (λ line. IsBlockLine instance.now.names before line (block_of block))) }
-    ensures stuck { IfErr result (EndsStuck text.now cursor.old (λ line. (block : Generator) × IsBlockLine instance.now.names before line block)) }
+    ensures read { IfOk result (λ block. TakesSome text.now cursor.old cursor.new
+        (λ line. IsBlockLine instance.now.names before line (block_of block))) }
+    ensures stuck { IfErr result (EndsStuck text.now cursor.old
+        (λ line. (block : Generator) × IsBlockLine instance.now.names before line block)) }
 {
     let end = AnswerEnd::BadLine { line: cursor.line };
     let Some(line) = take_line(text, cursor) else {
@@ -90,8 +96,10 @@ pub fn read_head(
     cursor: &mut Cursor,
 ) -> Result<Head, AnswerEnd>
     requires { cursor.old.at ≤ length text.now }
-    ensures read { IfOk result (λ head. TakesSome text.now cursor.old cursor.new (λ line. IsSlopeLine instance.now.names line (ratio_of_head head) head.set)) }
-    ensures stuck { IfErr result (EndsStuck text.now cursor.old (λ line. (r : Ratio) × (s : List Bool) × IsSlopeLine instance.now.names line r s)) }
+    ensures read { IfOk result (λ head. TakesSome text.now cursor.old cursor.new
+        (λ line. IsSlopeLine instance.now.names line (ratio_of_head head) head.set)) }
+    ensures stuck { IfErr result (EndsStuck text.now cursor.old
+        (λ line. (r : Ratio) × (s : List Bool) × IsSlopeLine instance.now.names line r s)) }
 {
     let end = AnswerEnd::BadLine { line: cursor.line };
     let Some(line) = take_line(text, cursor) else {
@@ -112,8 +120,10 @@ pub fn read_base(
     width: usize,
 ) -> Result<Vec<i128>, AnswerEnd>
     requires { cursor.old.at ≤ length text.now }
-    ensures read { IfOk result (λ x. TakesSome text.now cursor.old cursor.new (λ line. IsBaseLine number width line x.items)) }
-    ensures stuck { IfErr result (EndsStuck text.now cursor.old (λ line. (x : List ℤ) × IsBaseLine number width line x)) }
+    ensures read { IfOk result (λ x. TakesSome text.now cursor.old cursor.new
+        (λ line. IsBaseLine number width line x.items)) }
+    ensures stuck { IfErr result (EndsStuck text.now cursor.old
+        (λ line. (x : List ℤ) × IsBaseLine number width line x)) }
 {
     let end = AnswerEnd::BadLine { line: cursor.line };
     let Some(line) = take_line(text, cursor) else {
@@ -133,8 +143,10 @@ pub fn read_at(
     slope: &Slope,
 ) -> Result<(), AnswerEnd>
     requires { cursor.old.at ≤ length text.now }
-    ensures read { IfOk result (λ _. TakesSome text.now cursor.old cursor.new (λ line. line ≡ at_line slope.now.num slope.now.den)) }
-    ensures stuck { IfErr result (EndsStuck text.now cursor.old (λ line. line ≡ at_line slope.now.num slope.now.den)) }
+    ensures read { IfOk result (λ _. TakesSome text.now cursor.old cursor.new
+        (λ line. line ≡ at_line slope.now.num slope.now.den)) }
+    ensures stuck { IfErr result (EndsStuck text.now cursor.old
+        (λ line. line ≡ at_line slope.now.num slope.now.den)) }
 {
     let mut due = Page::new(alloc);
     due.reserve(MOST_AT)?;

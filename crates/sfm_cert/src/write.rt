@@ -23,7 +23,8 @@ fn put_extremes<O: Out>(out: &mut O, instance: &Instance, solved: &Solved)
     requires value { IsEntry solved.now.value }
     requires least { length instance.now.names ≡ length solved.now.least }
     requires greatest { length instance.now.names ≡ length solved.now.greatest }
-    ensures { out.new ≡ O.after out.old (text_of (first_lines (form_of instance.now) (answer_of solved.now))) }
+    ensures { out.new ≡ O.after out.old (text_of (first_lines (form_of instance.now)
+        (answer_of solved.now))) }
 {
     out.put(b"answer 1\nminimum ");
     put_number(out, solved.value);
@@ -37,7 +38,8 @@ fn put_extremes<O: Out>(out: &mut O, instance: &Instance, solved: &Solved)
 /// The answer lines: the first lines, the blocks and the slopes.
 fn put_head<O: Out>(out: &mut O, instance: &Instance, solved: &Solved)
     requires { IsFormed (form_of instance.now) (answer_of solved.now) }
-    ensures { out.new ≡ O.after out.old (text_of (head_lines (form_of instance.now) (answer_of solved.now))) }
+    ensures { out.new ≡ O.after out.old (text_of (head_lines (form_of instance.now)
+        (answer_of solved.now))) }
 {
     put_extremes(out, instance, solved);
     put_blocks(out, instance, &solved.blocks);
@@ -57,7 +59,8 @@ fn put_proofs<O: Out>(out: &mut O, breaks: &[Break])
 /// The text of an answer, piece by piece.
 fn put_text<O: Out>(out: &mut O, instance: &Instance, solved: &Solved)
     requires { IsFormed (form_of instance.now) (answer_of solved.now) }
-    ensures { out.new ≡ O.after out.old (answer_text (form_of instance.now) (answer_of solved.now)) }
+    ensures { out.new ≡ O.after out.old (answer_text (form_of instance.now)
+        (answer_of solved.now)) }
 {
     put_head(out, instance, solved);
     put_section(out, &Slope::new(0, 1), &solved.bases);
@@ -81,9 +84,12 @@ pub fn answer_len(instance: &Instance, solved: &Solved) -> usize
 /// Puts the text of an answer at the end of a page that has room for it. It takes no memory.
 pub fn put_answer(page: &mut Page, instance: &Instance, solved: &Solved)
     requires formed { IsFormed (form_of instance.now) (answer_of solved.now) }
-    requires room { length (answer_text (form_of instance.now) (answer_of solved.now)) ≤ page.old.spare }
-    ensures bytes { page.new.bytes ≡ page.old.bytes ++ answer_text (form_of instance.now) (answer_of solved.now) }
-    ensures spare { page.new.spare ≡ page.old.spare - length (answer_text (form_of instance.now) (answer_of solved.now)) }
+    requires room { length (answer_text (form_of instance.now) (answer_of solved.now))
+        ≤ page.old.spare }
+    ensures bytes { page.new.bytes ≡ page.old.bytes ++ answer_text (form_of instance.now)
+        (answer_of solved.now) }
+    ensures spare { page.new.spare ≡ page.old.spare - length
+        (answer_text (form_of instance.now) (answer_of solved.now)) }
 {
     put_text(page, instance, solved);
 }
@@ -96,7 +102,8 @@ pub fn put_answer(page: &mut Page, instance: &Instance, solved: &Solved)
 pub fn write_answer(alloc: Global, instance: &Instance, solved: &Solved) -> Result<Vec<u8>, Memory>
     requires formed { IsFormed (form_of instance.now) (answer_of solved.now) }
     requires few { HasFewLines (answer_of solved.now) }
-    ensures { IfOk result (λ text. text.items ≡ answer_text (form_of instance.now) (answer_of solved.now)) }
+    ensures { IfOk result (λ text. text.items ≡ answer_text (form_of instance.now)
+        (answer_of solved.now)) }
 {
     let mut page = Page::new(alloc);
     page.reserve(answer_len(instance, solved))?;

@@ -47,10 +47,13 @@ pub fn first_no_base(
     solved: &Solved,
 ) -> Result<Option<usize>, Memory>
     requires formed { IsFormed (form_of instance.now) (answer_of solved.now) }
-    requires few { length (answer_lines (form_of instance.now) (answer_of solved.now)) ≤ answer_limit }
+    requires few { length (answer_lines (form_of instance.now) (answer_of solved.now))
+        ≤ answer_limit }
     ensures { IfOk result (λ r. MatchOption r
-        (AllRowsAreBases (meanings kind_places kind_value instance.now.terms) (answer_of solved.now))
-        (IsFirstNoBase (meanings kind_places kind_value instance.now.terms) (answer_of solved.now))) }
+        (AllRowsAreBases (meanings kind_places kind_value instance.now.terms)
+        (answer_of solved.now))
+        (IsFirstNoBase (meanings kind_places kind_value instance.now.terms)
+        (answer_of solved.now))) }
 {
     let terms = instance.terms();
     for s in 0..solved.breaks.len() + 1 {

@@ -28,7 +28,8 @@ pub fn before<'a>(empty: &'a Set, breaks: &'a [Break], k: usize) -> &'a Set
 /// Whether a slope has that set before as its least minimiser and a larger one, which it tells, as its greatest.
 fn is_next(found: &Proved, before: &Set, set: &Set) -> bool
     requires { AreOfOneGround found.now before.now set.now }
-    ensures { IsTrue result ↔ ((found.now.least ≡ before.now) × (found.now.greatest ≡ set.now) × (set.now ≢ before.now)) }
+    ensures { IsTrue result ↔ ((found.now.least ≡ before.now) × (found.now.greatest ≡ set.now)
+        × (set.now ≢ before.now)) }
 {
     are_same(&found.least, before) && are_same(&found.greatest, set) && !are_same(set, before)
 }
@@ -41,10 +42,13 @@ pub fn first_wrong_slope(
     found: &[Proved],
 ) -> Result<Option<usize>, Memory>
     requires formed { IsFormed (form_of instance.now) (answer_of solved.now) }
-    requires told { AreTold (meanings kind_places kind_value instance.now.terms) (length instance.now.names) (answer_of solved.now) found.now }
+    requires told { AreTold (meanings kind_places kind_value instance.now.terms)
+        (length instance.now.names) (answer_of solved.now) found.now }
     ensures { IfOk result (λ r. MatchOption r
-        (IsFullChain (meanings kind_places kind_value instance.now.terms) (length instance.now.names) (map mark_of (answer_of solved.now).breaks))
-        (IsFirstWrongSlope (meanings kind_places kind_value instance.now.terms) (length instance.now.names) (map mark_of (answer_of solved.now).breaks))) }
+        (IsFullChain (meanings kind_places kind_value instance.now.terms)
+        (length instance.now.names) (map mark_of (answer_of solved.now).breaks))
+        (IsFirstWrongSlope (meanings kind_places kind_value instance.now.terms)
+        (length instance.now.names) (map mark_of (answer_of solved.now).breaks))) }
 {
     let n = instance.names_len();
     let empty = Set::empty(alloc, n)?;

@@ -35,8 +35,11 @@ fn is_same_block(a: &Block, b: &Block) -> bool
 
 /// Where a list of blocks first differs from the one that is due, or one of the two ends.
 pub fn first_unlike(given: &[Block], due: &[Block]) -> Option<usize>
-    requires { (i : ℕ) → i < length given.now → i < length due.now → length (block_at (map block_of given.now) i).members ≡ length (block_at (map block_of due.now) i).members }
-    ensures { MatchOption result (map block_of given.now ≡ map block_of due.now) (IsFirstUnlike (map block_of given.now) (map block_of due.now)) }
+    requires { (i : ℕ) → i < length given.now → i < length due.now
+        → length (block_at (map block_of given.now) i).members
+        ≡ length (block_at (map block_of due.now) i).members }
+    ensures { MatchOption result (map block_of given.now ≡ map block_of due.now)
+        (IsFirstUnlike (map block_of given.now) (map block_of due.now)) }
 {
     for (i, block) in due.iter().enumerate() {
         if i == given.len() || !is_same_block(&given[i], block) {
@@ -58,15 +61,18 @@ fn first_wrong_line(
     due: &[Block],
 ) -> Option<usize>
     requires formed { IsFormed (form_of instance.now) (answer_of solved.now) }
-    requires few { length (answer_lines (form_of instance.now) (answer_of solved.now)) ≤ answer_limit }
+    requires few { length (answer_lines (form_of instance.now) (answer_of solved.now))
+        ≤ answer_limit }
     requires least { length found.now.least ≡ length instance.now.names }
     requires greatest { length found.now.greatest ≡ length instance.now.names }
     requires value { IsEntry found.now.value }
     requires named { AreElementNames instance.now.names }
-    requires blocks { (i : ℕ) → i < length due.now → IsFormedBlock (length instance.now.names) i (block_at (map block_of due.now) i) }
+    requires blocks { (i : ℕ) → i < length due.now → IsFormedBlock (length instance.now.names) i
+        (block_at (map block_of due.now) i) }
     ensures { (marks : List Mark) → MatchOption result
         (SaysTheSame (answer_of solved.now) (due_answer found.now due.now marks))
-        (IsWrongLine (form_of instance.now) (answer_of solved.now) (due_answer found.now due.now marks)) }
+        (IsWrongLine (form_of instance.now) (answer_of solved.now)
+        (due_answer found.now due.now marks)) }
 {
     if solved.value != found.value {
         return Some(2);
@@ -89,11 +95,15 @@ pub fn first_wrong_before_slopes(
     found: &Proved,
 ) -> Result<Option<usize>, Memory>
     requires formed { IsFormed (form_of instance.now) (answer_of solved.now) }
-    requires few { length (answer_lines (form_of instance.now) (answer_of solved.now)) ≤ answer_limit }
-    requires told { IsToldOf (meanings kind_places kind_value instance.now.terms) (length instance.now.names) (section_at (answer_of solved.now) 0) found.now }
+    requires few { length (answer_lines (form_of instance.now) (answer_of solved.now))
+        ≤ answer_limit }
+    requires told { IsToldOf (meanings kind_places kind_value instance.now.terms)
+        (length instance.now.names) (section_at (answer_of solved.now) 0) found.now }
     ensures { IfOk result (λ r. MatchOption r
-        (IsTrueMinimum (meanings kind_places kind_value instance.now.terms) (length instance.now.names) (answer_of solved.now))
-        (IsFirstWrong (form_of instance.now) (meanings kind_places kind_value instance.now.terms) (answer_of solved.now))) }
+        (IsTrueMinimum (meanings kind_places kind_value instance.now.terms)
+        (length instance.now.names) (answer_of solved.now))
+        (IsFirstWrong (form_of instance.now) (meanings kind_places kind_value instance.now.terms)
+        (answer_of solved.now))) }
 {
     let due = blocks(alloc, instance.terms(), instance.names_len(), &solved.bases)?;
     Ok(first_wrong_line(instance, solved, found, &due))
@@ -107,11 +117,15 @@ pub fn first_wrong(
     found: &[Proved],
 ) -> Result<Option<usize>, Memory>
     requires formed { IsFormed (form_of instance.now) (answer_of solved.now) }
-    requires few { length (answer_lines (form_of instance.now) (answer_of solved.now)) ≤ answer_limit }
-    requires told { AreTold (meanings kind_places kind_value instance.now.terms) (length instance.now.names) (answer_of solved.now) found.now }
+    requires few { length (answer_lines (form_of instance.now) (answer_of solved.now))
+        ≤ answer_limit }
+    requires told { AreTold (meanings kind_places kind_value instance.now.terms)
+        (length instance.now.names) (answer_of solved.now) found.now }
     ensures { IfOk result (λ r. MatchOption r
-        (IsTrueHead (meanings kind_places kind_value instance.now.terms) (length instance.now.names) (answer_of solved.now))
-        (IsFirstWrong (form_of instance.now) (meanings kind_places kind_value instance.now.terms) (answer_of solved.now))) }
+        (IsTrueHead (meanings kind_places kind_value instance.now.terms) (length instance.now.names)
+        (answer_of solved.now))
+        (IsFirstWrong (form_of instance.now) (meanings kind_places kind_value instance.now.terms)
+        (answer_of solved.now))) }
 {
     tell_kept(instance);
     if let Some(line) = first_wrong_before_slopes(alloc, instance, solved, &found[0])? {

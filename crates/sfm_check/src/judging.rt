@@ -25,9 +25,12 @@ use std::alloc::Global;
 /// What is to be said of what a text says, section by section.
 fn judge_sections(alloc: Global, instance: &Instance, solved: &Solved) -> Result<Verdict, Memory>
     requires formed { IsFormed (form_of instance.now) (answer_of solved.now) }
-    requires few { length (answer_lines (form_of instance.now) (answer_of solved.now)) ≤ answer_limit }
-    requires bases { AllRowsAreBases (meanings kind_places kind_value instance.now.terms) (answer_of solved.now) }
-    ensures { IfOk result (IsFound (form_of instance.now) (meanings kind_places kind_value instance.now.terms) (answer_of solved.now)) }
+    requires few { length (answer_lines (form_of instance.now) (answer_of solved.now))
+        ≤ answer_limit }
+    requires bases { AllRowsAreBases (meanings kind_places kind_value instance.now.terms)
+        (answer_of solved.now) }
+    ensures { IfOk result (IsFound (form_of instance.now)
+        (meanings kind_places kind_value instance.now.terms) (answer_of solved.now)) }
 {
     match prove_sections(alloc, instance, solved)? {
         Sections::Unproved { line } => Ok(Verdict::Invalid {
@@ -47,8 +50,10 @@ fn judge_sections(alloc: Global, instance: &Instance, solved: &Solved) -> Result
 /// What is to be said of what a text says.
 fn judge_solved(alloc: Global, instance: &Instance, solved: &Solved) -> Result<Verdict, Memory>
     requires formed { IsFormed (form_of instance.now) (answer_of solved.now) }
-    requires few { length (answer_lines (form_of instance.now) (answer_of solved.now)) ≤ answer_limit }
-    ensures { IfOk result (IsFound (form_of instance.now) (meanings kind_places kind_value instance.now.terms) (answer_of solved.now)) }
+    requires few { length (answer_lines (form_of instance.now) (answer_of solved.now))
+        ≤ answer_limit }
+    ensures { IfOk result (IsFound (form_of instance.now)
+        (meanings kind_places kind_value instance.now.terms) (answer_of solved.now)) }
 {
     if let Some(line) = first_no_base(alloc, instance, solved)? {
         return Ok(Verdict::Invalid {
@@ -69,7 +74,8 @@ fn judge_solved(alloc: Global, instance: &Instance, solved: &Solved) -> Result<V
 ///
 /// `Memory` where there is none.
 pub fn judge(alloc: Global, instance: &Instance, text: &[u8]) -> Result<Verdict, Memory>
-    ensures verdict { IfOk result (IsVerdict (form_of instance.now) (meanings kind_places kind_value instance.now.terms) text.now) }
+    ensures verdict { IfOk result (IsVerdict (form_of instance.now)
+        (meanings kind_places kind_value instance.now.terms) text.now) }
     ensures short { IfOk result (λ v. v ≡ Verdict.Valid → length text.now ≤ answer_limit) }
 {
     tell_kept(instance);

@@ -42,7 +42,8 @@ fn count_below(breaks: &[Break], limit: i128) -> usize
 /// Whether the extreme sets are those behind the slopes below 0 and before the slopes above it.
 fn are_between(alloc: Global, instance: &Instance, solved: &Solved) -> Result<bool, Memory>
     requires { IsFormed (form_of instance.now) (answer_of solved.now) }
-    ensures { IfOk result (λ r. IsTrue r → AreBetween (length instance.now.names) (answer_of solved.now)) }
+    ensures { IfOk result (λ r. IsTrue r → AreBetween (length instance.now.names)
+        (answer_of solved.now)) }
 {
     let breaks = solved.breaks.as_slice();
     let empty = Set::empty(alloc, instance.names_len())?;
@@ -54,7 +55,9 @@ fn are_between(alloc: Global, instance: &Instance, solved: &Solved) -> Result<bo
 /// Whether the value and those of the extreme sets are the sum of min(z, 0) at the bases at 0/1.
 fn are_worth_least(alloc: Global, instance: &Instance, solved: &Solved) -> Result<bool, Memory>
     requires { IsFormed (form_of instance.now) (answer_of solved.now) }
-    ensures { IfOk result (λ r. IsTrue r → AreWorthLeast (meanings kind_places kind_value instance.now.terms) (length instance.now.names) (answer_of solved.now)) }
+    ensures { IfOk result (λ r. IsTrue r → AreWorthLeast
+        (meanings kind_places kind_value instance.now.terms) (length instance.now.names)
+        (answer_of solved.now)) }
 {
     let Some(low) = worth_of(alloc, instance, &solved.least)? else {
         return Ok(false);
@@ -69,10 +72,17 @@ fn are_worth_least(alloc: Global, instance: &Instance, solved: &Solved) -> Resul
 /// Whether the blocks are those of the minimisers.
 fn are_blocks_right(alloc: Global, instance: &Instance, solved: &Solved) -> Result<bool, Memory>
     requires formed { IsFormed (form_of instance.now) (answer_of solved.now) }
-    requires proved { IsProvedSection (meanings kind_places kind_value instance.now.terms) (length instance.now.names) (section_at (answer_of solved.now) 0) }
-    requires least { IsLeast (meanings kind_places kind_value instance.now.terms) (length instance.now.names) (pos 1) (even_shift (length instance.now.names) (pos 0)) solved.now.least }
-    requires greatest { IsGreatest (meanings kind_places kind_value instance.now.terms) (length instance.now.names) (pos 1) (even_shift (length instance.now.names) (pos 0)) solved.now.greatest }
-    ensures { IfOk result (λ r. IsTrue r → AreBlocks (meanings kind_places kind_value instance.now.terms) (length instance.now.names) (pos 1) (even_shift (length instance.now.names) (pos 0)) (answer_of solved.now).blocks) }
+    requires proved { IsProvedSection (meanings kind_places kind_value instance.now.terms)
+        (length instance.now.names) (section_at (answer_of solved.now) 0) }
+    requires least { IsLeast (meanings kind_places kind_value instance.now.terms)
+        (length instance.now.names) (pos 1) (even_shift (length instance.now.names) (pos 0))
+        solved.now.least }
+    requires greatest { IsGreatest (meanings kind_places kind_value instance.now.terms)
+        (length instance.now.names) (pos 1) (even_shift (length instance.now.names) (pos 0))
+        solved.now.greatest }
+    ensures { IfOk result (λ r. IsTrue r → AreBlocks (meanings kind_places kind_value
+        instance.now.terms) (length instance.now.names) (pos 1)
+        (even_shift (length instance.now.names) (pos 0)) (answer_of solved.now).blocks) }
 {
     if are_same(&solved.least, &solved.greatest) {
         return Ok(solved.blocks.is_empty());
@@ -85,10 +95,15 @@ fn are_blocks_right(alloc: Global, instance: &Instance, solved: &Solved) -> Resu
 /// Whether what is said of the minimum is found true, and proved by the bases at 0/1, where the slopes are right.
 pub fn is_minimum_right(alloc: Global, instance: &Instance, solved: &Solved) -> Result<bool, Memory>
     requires formed { IsFormed (form_of instance.now) (answer_of solved.now) }
-    requires bases { AllRowsAreBases (meanings kind_places kind_value instance.now.terms) (answer_of solved.now) }
-    requires chain { IsFullChain (meanings kind_places kind_value instance.now.terms) (length instance.now.names) (map mark_of (answer_of solved.now).breaks) }
-    ensures { IfOk result (λ r. IsTrue r → IsTrueMinimum (meanings kind_places kind_value instance.now.terms) (length instance.now.names) (answer_of solved.now)
-        × IsProvedSection (meanings kind_places kind_value instance.now.terms) (length instance.now.names) (section_at (answer_of solved.now) 0)) }
+    requires bases { AllRowsAreBases (meanings kind_places kind_value instance.now.terms)
+        (answer_of solved.now) }
+    requires chain { IsFullChain (meanings kind_places kind_value instance.now.terms)
+        (length instance.now.names) (map mark_of (answer_of solved.now).breaks) }
+    ensures { IfOk result (λ r. IsTrue r → IsTrueMinimum
+        (meanings kind_places kind_value instance.now.terms) (length instance.now.names)
+        (answer_of solved.now)
+        × IsProvedSection (meanings kind_places kind_value instance.now.terms)
+        (length instance.now.names) (section_at (answer_of solved.now) 0)) }
 {
     tell_kept(instance);
     if !are_between(alloc, instance, solved)? {

@@ -20,9 +20,13 @@ use std::alloc::Global;
 /// Whether values and the bases at 0/1 tell that an answer is true and that its sections prove it.
 pub fn is_right(alloc: Global, instance: &Instance, solved: &Solved) -> Result<bool, Memory>
     requires formed { IsFormed (form_of instance.now) (answer_of solved.now) }
-    requires bases { AllRowsAreBases (meanings kind_places kind_value instance.now.terms) (answer_of solved.now) }
-    ensures { IfOk result (λ r. IsTrue r → IsTrueHead (meanings kind_places kind_value instance.now.terms) (length instance.now.names) (answer_of solved.now)
-        × AllAreProved (meanings kind_places kind_value instance.now.terms) (length instance.now.names) (answer_of solved.now)) }
+    requires bases { AllRowsAreBases (meanings kind_places kind_value instance.now.terms)
+        (answer_of solved.now) }
+    ensures { IfOk result (λ r. IsTrue r → IsTrueHead
+        (meanings kind_places kind_value instance.now.terms) (length instance.now.names)
+        (answer_of solved.now)
+        × AllAreProved (meanings kind_places kind_value instance.now.terms)
+        (length instance.now.names) (answer_of solved.now)) }
 {
     tell_kept(instance);
     if !are_slopes_right(alloc, instance, solved)? {

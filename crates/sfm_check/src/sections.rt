@@ -35,7 +35,8 @@ pub enum Sections {
 /// Section s of an answer: that of 0/1, and then one for each slope.
 pub fn section_of<'a>(solved: &'a Solved, s: usize) -> Section<'a>
     requires { s < length (sections_of (answer_of solved.now)) }
-    ensures { IsSection (section_at (answer_of solved.now) s) result.num result.den result.bases.now }
+    ensures { IsSection (section_at (answer_of solved.now) s) result.num result.den
+        result.bases.now }
 {
     if s == 0 {
         return Section {
@@ -60,11 +61,14 @@ pub fn prove_section(
     s: usize,
 ) -> Result<Option<Proved>, Memory>
     requires formed { IsFormed (form_of instance.now) (answer_of solved.now) }
-    requires bases { AllRowsAreBases (meanings kind_places kind_value instance.now.terms) (answer_of solved.now) }
+    requires bases { AllRowsAreBases (meanings kind_places kind_value instance.now.terms)
+        (answer_of solved.now) }
     requires at { s < length (sections_of (answer_of solved.now)) }
     ensures { IfOk result (λ r. MatchOption r
-        (IsProvedSection (meanings kind_places kind_value instance.now.terms) (length instance.now.names) (section_at (answer_of solved.now) s) → ⊥)
-        (IsToldOf (meanings kind_places kind_value instance.now.terms) (length instance.now.names) (section_at (answer_of solved.now) s))) }
+        (IsProvedSection (meanings kind_places kind_value instance.now.terms)
+        (length instance.now.names) (section_at (answer_of solved.now) s) → ⊥)
+        (IsToldOf (meanings kind_places kind_value instance.now.terms) (length instance.now.names)
+        (section_at (answer_of solved.now) s))) }
 {
     let section = section_of(solved, s);
     match certify(
@@ -87,9 +91,12 @@ pub fn prove_sections(
     solved: &Solved,
 ) -> Result<Sections, Memory>
     requires formed { IsFormed (form_of instance.now) (answer_of solved.now) }
-    requires few { length (answer_lines (form_of instance.now) (answer_of solved.now)) ≤ answer_limit }
-    requires bases { AllRowsAreBases (meanings kind_places kind_value instance.now.terms) (answer_of solved.now) }
-    ensures { IfOk result (AreSections (meanings kind_places kind_value instance.now.terms) (length instance.now.names) (answer_of solved.now)) }
+    requires few { length (answer_lines (form_of instance.now) (answer_of solved.now))
+        ≤ answer_limit }
+    requires bases { AllRowsAreBases (meanings kind_places kind_value instance.now.terms)
+        (answer_of solved.now) }
+    ensures { IfOk result (AreSections (meanings kind_places kind_value instance.now.terms)
+        (length instance.now.names) (answer_of solved.now)) }
 {
     let mut proved = Vec::new(alloc);
     for s in 0..solved.breaks.len() + 1 {

@@ -31,7 +31,9 @@ pub fn deficit_at(
 ) -> Result<i128, Memory>
     requires entry { IsEntry num }
     requires bases { AreFormedRows (form_of instance.now).widths bases.now }
-    ensures { IfOk result (λ r. r ≡ deficit (length instance.now.names) (rest_at (meanings kind_places kind_value instance.now.terms) bases.now (even_shift (length instance.now.names) num))) }
+    ensures { IfOk result (λ r. r ≡ deficit (length instance.now.names)
+        (rest_at (meanings kind_places kind_value instance.now.terms) bases.now
+        (even_shift (length instance.now.names) num))) }
 {
     let shift = vec![in alloc; num; instance.names_len()]?;
     let z = rest_of(alloc, instance.terms(), &shift, bases)?;
@@ -56,11 +58,14 @@ fn attain(
     before: &Worth,
     here: &Worth,
 ) -> Result<bool, Memory>
-    requires formed { IsFormedBreak (length instance.now.names) (form_of instance.now).widths (break_of found.now) }
+    requires formed { IsFormedBreak (length instance.now.names) (form_of instance.now).widths
+        (break_of found.now) }
     requires before { IsSmall before.now }
     requires here { IsSmall here.now }
-    ensures { IfOk result (λ r. IsTrue r → Attains (meanings kind_places kind_value instance.now.terms) (length instance.now.names) (break_of found.now) before.now
-        × Attains (meanings kind_places kind_value instance.now.terms) (length instance.now.names) (break_of found.now) here.now) }
+    ensures { IfOk result (λ r. IsTrue r → Attains (meanings kind_places kind_value
+        instance.now.terms) (length instance.now.names) (break_of found.now) before.now
+        × Attains (meanings kind_places kind_value instance.now.terms) (length instance.now.names)
+        (break_of found.now) here.now) }
 {
     let least = deficit_at(alloc, instance, found.slope.num, &found.bases)?;
     Ok(value_at(&found.slope, before) == least && value_at(&found.slope, here) == least)
@@ -84,8 +89,11 @@ fn ascends(breaks: &[Break], k: usize) -> bool
 /// Whether values tell that each slope is the next one, up to the whole ground, and that its bases prove.
 pub fn are_slopes_right(alloc: Global, instance: &Instance, solved: &Solved) -> Result<bool, Memory>
     requires formed { IsFormed (form_of instance.now) (answer_of solved.now) }
-    requires bases { AllRowsAreBases (meanings kind_places kind_value instance.now.terms) (answer_of solved.now) }
-    ensures { IfOk result (λ r. IsTrue r → AreRightSlopes (meanings kind_places kind_value instance.now.terms) (length instance.now.names) (answer_of solved.now)) }
+    requires bases { AllRowsAreBases (meanings kind_places kind_value instance.now.terms)
+        (answer_of solved.now) }
+    ensures { IfOk result (λ r. IsTrue r → AreRightSlopes
+        (meanings kind_places kind_value instance.now.terms) (length instance.now.names)
+        (answer_of solved.now)) }
 {
     tell_kept(instance);
     let n = instance.names_len();

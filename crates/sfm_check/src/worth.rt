@@ -21,7 +21,9 @@ pub struct Worth {
 /// The sum of all terms at a set, or None where a term does not allow its part.
 fn sum_of(alloc: Global, terms: &[Kind], set: &Set) -> Result<Option<i128>, Memory>
     requires { AreInBounds (length set.now) terms.now }
-    ensures { IfOk result (λ r. IfSome r (λ a. IsAllowed (meanings kind_places kind_value terms.now) set.now × (a ≡ sum_at (meanings kind_places kind_value terms.now) set.now))) }
+    ensures { IfOk result (λ r. IfSome r (λ a. IsAllowed
+        (meanings kind_places kind_value terms.now) set.now
+        × (a ≡ sum_at (meanings kind_places kind_value terms.now) set.now))) }
 {
     let mut sum = 0;
     for term in terms {
@@ -37,7 +39,8 @@ fn sum_of(alloc: Global, terms: &[Kind], set: &Set) -> Result<Option<i128>, Memo
 /// What a set of the ground is worth, or None where it is not allowed.
 pub fn worth_of(alloc: Global, instance: &Instance, set: &Set) -> Result<Option<Worth>, Memory>
     requires { length set.now ≡ length instance.now.names }
-    ensures worth { IfOk result (λ r. IfSome r (IsWorth (meanings kind_places kind_value instance.now.terms) set.now)) }
+    ensures worth { IfOk result (λ r. IfSome r (IsWorth (meanings kind_places kind_value
+        instance.now.terms) set.now)) }
     ensures small { IfOk result (λ r. IfSome r IsSmall) }
 {
     match sum_of(alloc, instance.terms(), set)? {

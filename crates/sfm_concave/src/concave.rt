@@ -64,7 +64,8 @@ impl Concave {
         requires elements { AreElements elements.now }
         requires counted { length values.now ≡ length elements.now }
         requires given { All IsGiven values.now }
-        ensures rises { (at : ℕ) → (result ≡ Err (ConcaveEnd.Rises at)) ↔ IsFirstRise values.now at }
+        ensures rises { (at : ℕ) → (result ≡ Err (ConcaveEnd.Rises at))
+            ↔ IsFirstRise values.now at }
         ensures falling { OnOk result (NeverRises values.now) }
         ensures places { IfOk result (λ r. r.places ≡ elements.now) }
         ensures values { IfOk result (λ r. r.values ≡ values.now) }
@@ -137,7 +138,8 @@ impl Concave {
         requires entries { length _x.now ≡ length self.now.places }
         requires small { All IsEntry _x.now }
         requires share { IsSomeShare share.count share.sum _x.now }
-        ensures { (s : List Bool) → IsShareOf share.count share.sum _x.now s → result ≡ slack (scaled q self.now.values) _x.now s }
+        ensures { (s : List Bool) → IsShareOf share.count share.sum _x.now s
+            → result ≡ slack (scaled q self.now.values) _x.now s }
     {
         self.scaled(q, share.count) - share.sum
     }
@@ -159,7 +161,8 @@ impl Concave {
         requires entries { length x.now ≡ length self.now.places }
         requires small { All IsEntry x.now }
         requires onto { v < length x.now }
-        ensures { result ≡ slack (scaled q self.now.values) x.now (slice_set (whole_set (length x.now)) v false) }
+        ensures { result ≡ slack (scaled q self.now.values) x.now
+            (slice_set (whole_set (length x.now)) v false) }
     {
         self.slack(q, x, share_without(x, v))
     }
@@ -170,7 +173,8 @@ impl Concave {
         requires entries { length x.now ≡ length self.now.places }
         requires small { All IsEntry x.now }
         requires share { IsSomeShare share.count share.sum x.now }
-        ensures { (s : List Bool) → IsShareOf share.count share.sum x.now s → result ≡ int_min least (slack (scaled q self.now.values) x.now s) }
+        ensures { (s : List Bool) → IsShareOf share.count share.sum x.now s
+            → result ≡ int_min least (slack (scaled q self.now.values) x.now s) }
     {
         least.min(self.slack(q, x, share))
     }
@@ -349,7 +353,8 @@ impl Concave {
         requires small { All IsEntry x.now }
         requires ranked { IsRanking x.now ranking.sorted.now ranking.sums.now }
         requires place { i ≤ length ranking.sorted.now }
-        ensures { IsTrue result ↔ (slack_from (scaled q self.now.values) ranking.entry.sorted.now i ≡ pos 0) }
+        ensures { IsTrue result ↔ (slack_from (scaled q self.now.values) ranking.entry.sorted.now i
+            ≡ pos 0) }
     {
         self.slack_from(q, x, ranking, i) == 0
     }
@@ -361,7 +366,8 @@ impl Concave {
         requires small { All IsEntry x.now }
         requires ranked { IsRanking x.now ranking.sorted.now ranking.sums.now }
         requires place { own ≤ length ranking.sorted.now }
-        ensures { MatchOption result (NoneTight (scaled q self.now.values) ranking.entry.sorted.now own) (IsLastTight (scaled q self.now.values) ranking.entry.sorted.now own) }
+        ensures { MatchOption result (NoneTight (scaled q self.now.values) ranking.entry.sorted.now
+            own) (IsLastTight (scaled q self.now.values) ranking.entry.sorted.now own) }
     {
         for i in (1..own).rev() {
             if self.is_tight(q, x, ranking, i) {

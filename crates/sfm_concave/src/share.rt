@@ -24,7 +24,8 @@ pub(crate) fn share_from(_x: &[i128], ranking: RankingView, upto: usize) -> Shar
     requires ranked { IsRanking _x.now ranking.sorted.now ranking.sums.now }
     requires place { upto ≤ length ranking.sorted.now }
     ensures count { result.count ≡ length ranking.entry.sorted.now - upto }
-    ensures sum { (result.sum ≡ total_of (drop upto ranking.entry.sorted.now)) × IsAtMost (10 ^ 33) result.sum }
+    ensures sum { (result.sum ≡ total_of (drop upto ranking.entry.sorted.now))
+        × IsAtMost (10 ^ 33) result.sum }
 {
     let len = ranking.sorted.len();
     Share {
@@ -100,7 +101,9 @@ fn put_in(x: &[i128], share: Share, u: usize) -> Share
     requires small { All IsEntry x.now }
     requires from { u < length x.now }
     requires share { IsSomeShare share.count share.sum x.now }
-    ensures { (s : List Bool) → IsShareOf share.count share.sum x.now s → slice_index_or s u false ≡ false → IsShareOf result.count result.sum x.now (slice_set s u true) }
+    ensures { (s : List Bool) → IsShareOf share.count share.sum x.now s
+        → slice_index_or s u false ≡ false → IsShareOf result.count result.sum x.now
+        (slice_set s u true) }
 {
     Share {
         count: share.count + 1,
@@ -115,7 +118,8 @@ fn take_out(x: &[i128], share: Share, v: usize) -> Share
     requires onto { v < length x.now }
     requires share { IsSomeShare share.count share.sum x.now }
     requires some { 1 ≤ share.count }
-    ensures { (s : List Bool) → IsShareOf share.count share.sum x.now s → Has s v → IsShareOf result.count result.sum x.now (slice_set s v false) }
+    ensures { (s : List Bool) → IsShareOf share.count share.sum x.now s → Has s v
+        → IsShareOf result.count result.sum x.now (slice_set s v false) }
 {
     Share {
         count: share.count - 1,
@@ -159,7 +163,8 @@ pub(crate) fn share_without(x: &[i128], v: usize) -> Share
     requires few { length x.now ≤ 256 }
     requires small { All IsEntry x.now }
     requires onto { v < length x.now }
-    ensures { IsShareOf result.count result.sum x.now (slice_set (whole_set (length x.now)) v false) }
+    ensures { IsShareOf result.count result.sum x.now
+        (slice_set (whole_set (length x.now)) v false) }
 {
     let all = Share {
         count: x.len(),

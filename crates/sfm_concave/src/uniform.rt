@@ -74,7 +74,8 @@ impl Uniform {
         requires factor { IsFactor q }
         requires few { length x.now ≤ 256 }
         requires small { All IsEntry x.now }
-        ensures { IsTrue result ↔ (total_of x.now ≡ (q *ℤ (self.now.w *ℤ rank_of self.now.cap (length x.now)))) }
+        ensures { IsTrue result ↔ (total_of x.now ≡ (q *ℤ (self.now.w *ℤ rank_of self.now.cap
+            (length x.now)))) }
     {
         has_sum(x, product(q, self.ranked(x.len())))
     }
@@ -128,7 +129,8 @@ impl Plain for Uniform {
         requires factor { IsFactor q }
         requires entries { length x.old ≡ length self.now.places }
         ensures start { x.new ≡ uniform_start q self.now.w self.now.cap (length self.now.places) }
-        ensures greedy { IsGreedy q (uniform_value self.now.w self.now.cap) (length self.now.places) x.new }
+        ensures greedy { IsGreedy q (uniform_value self.now.w self.now.cap)
+            (length self.now.places) x.new }
     {
         write_each(x, |j| self.gain(q, j));
     }

@@ -24,7 +24,8 @@ fn behind(a: u64, d: u64) -> u64
 
 /// A cut of two elements.
 pub fn write_cut(out: &mut String, draws: &mut Draws) -> Result<(), AllocError>
-    ensures { OnOk result (IsPut (line_of Cut) (string_bytes out.old) (string_bytes out.new) draws.old draws.new) }
+    ensures { OnOk result (IsPut (line_of Cut) (string_bytes out.old)
+        (string_bytes out.new) draws.old draws.new) }
 {
     let c = draws.draw(400);
     let a = draws.draw(200);
@@ -34,7 +35,8 @@ pub fn write_cut(out: &mut String, draws: &mut Draws) -> Result<(), AllocError>
 
 /// A condition on two elements.
 pub fn write_need(out: &mut String, draws: &mut Draws) -> Result<(), AllocError>
-    ensures { OnOk result (IsPut (line_of Need) (string_bytes out.old) (string_bytes out.new) draws.old draws.new) }
+    ensures { OnOk result (IsPut (line_of Need) (string_bytes out.old)
+        (string_bytes out.new) draws.old draws.new) }
 {
     let a = draws.draw(200);
     let b = behind(a, draws.draw(199));
@@ -43,7 +45,8 @@ pub fn write_need(out: &mut String, draws: &mut Draws) -> Result<(), AllocError>
 
 /// A cover of six elements.
 pub fn write_cover(out: &mut String, draws: &mut Draws) -> Result<(), AllocError>
-    ensures { OnOk result (IsPut (line_of Cover) (string_bytes out.old) (string_bytes out.new) draws.old draws.new) }
+    ensures { OnOk result (IsPut (line_of Cover) (string_bytes out.old)
+        (string_bytes out.new) draws.old draws.new) }
 {
     let w = draws.draw(1500);
     let p = draws.draw(200);
@@ -53,7 +56,8 @@ pub fn write_cover(out: &mut String, draws: &mut Draws) -> Result<(), AllocError
 
 /// A concave function of the number of elements among eight.
 pub fn write_concave(out: &mut String, draws: &mut Draws) -> Result<(), AllocError>
-    ensures { OnOk result (IsPut (line_of Concave) (string_bytes out.old) (string_bytes out.new) draws.old draws.new) }
+    ensures { OnOk result (IsPut (line_of Concave) (string_bytes out.old)
+        (string_bytes out.new) draws.old draws.new) }
 {
     let p = draws.draw(200);
     let first = draws.draw(600);
@@ -64,7 +68,8 @@ pub fn write_concave(out: &mut String, draws: &mut Draws) -> Result<(), AllocErr
 
 /// The rank of a uniform matroid of ten elements.
 pub fn write_uniform(out: &mut String, draws: &mut Draws) -> Result<(), AllocError>
-    ensures { OnOk result (IsPut (line_of Uniform) (string_bytes out.old) (string_bytes out.new) draws.old draws.new) }
+    ensures { OnOk result (IsPut (line_of Uniform) (string_bytes out.old)
+        (string_bytes out.new) draws.old draws.new) }
 {
     let w = draws.draw(500);
     let c = 1 + draws.draw(9);
@@ -75,7 +80,8 @@ pub fn write_uniform(out: &mut String, draws: &mut Draws) -> Result<(), AllocErr
 
 /// The rank of a laminar matroid of ten elements, with two groups.
 pub fn write_laminar(out: &mut String, draws: &mut Draws) -> Result<(), AllocError>
-    ensures { OnOk result (IsPut (line_of Laminar) (string_bytes out.old) (string_bytes out.new) draws.old draws.new) }
+    ensures { OnOk result (IsPut (line_of Laminar) (string_bytes out.old)
+        (string_bytes out.new) draws.old draws.new) }
 {
     let w = draws.draw(500);
     let c = 1 + draws.draw(2);
@@ -90,7 +96,8 @@ pub fn write_laminar(out: &mut String, draws: &mut Draws) -> Result<(), AllocErr
 
 /// The rank of a graphic matroid of ten edges.
 pub fn write_graphic(out: &mut String, draws: &mut Draws) -> Result<(), AllocError>
-    ensures { OnOk result (IsPut (line_of Graphic) (string_bytes out.old) (string_bytes out.new) draws.old draws.new) }
+    ensures { OnOk result (IsPut (line_of Graphic) (string_bytes out.old)
+        (string_bytes out.new) draws.old draws.new) }
 {
     let w = draws.draw(500);
     let p = draws.draw(200);
@@ -100,7 +107,8 @@ pub fn write_graphic(out: &mut String, draws: &mut Draws) -> Result<(), AllocErr
 
 /// The rank of a transversal matroid of eight elements.
 pub fn write_transversal(out: &mut String, draws: &mut Draws) -> Result<(), AllocError>
-    ensures { OnOk result (IsPut (line_of Transversal) (string_bytes out.old) (string_bytes out.new) draws.old draws.new) }
+    ensures { OnOk result (IsPut (line_of Transversal) (string_bytes out.old)
+        (string_bytes out.new) draws.old draws.new) }
 {
     let w = draws.draw(500);
     let p = draws.draw(200);
@@ -150,7 +158,8 @@ fn draw_values(draws: &mut Draws) -> [i64; 8]
 
 /// A table of the sets of three elements.
 pub fn write_table(out: &mut String, draws: &mut Draws) -> Result<(), AllocError>
-    ensures { OnOk result (IsPut (line_of Table) (string_bytes out.old) (string_bytes out.new) draws.old draws.new) }
+    ensures { OnOk result (IsPut (line_of Table) (string_bytes out.old)
+        (string_bytes out.new) draws.old draws.new) }
 {
     let p = draws.draw(200);
     let values = draw_values(draws);

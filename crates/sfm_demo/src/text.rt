@@ -16,7 +16,8 @@ use std::alloc::{AllocError, Global};
 
 /// One line of a kind, without its line feed.
 fn write_line(out: &mut String, draws: &mut Draws, kind: Kind) -> Result<(), AllocError>
-    ensures { OnOk result (IsPut (line_of kind) (string_bytes out.old) (string_bytes out.new) draws.old draws.new) }
+    ensures { OnOk result (IsPut (line_of kind) (string_bytes out.old)
+        (string_bytes out.new) draws.old draws.new) }
 {
     match kind {
         Kind::Cut => write_cut(out, draws),
@@ -38,7 +39,8 @@ fn write_lines(
     kind: Kind,
     count: usize,
 ) -> Result<(), AllocError>
-    ensures { OnOk result (IsPut (lines count kind) (string_bytes out.old) (string_bytes out.new) draws.old draws.new) }
+    ensures { OnOk result (IsPut (lines count kind) (string_bytes out.old)
+        (string_bytes out.new) draws.old draws.new) }
 {
     for _i in 0..count {
         write_line(out, draws, kind)?;
@@ -50,7 +52,8 @@ fn write_lines(
 /// The lines of the terms behind the weights.
 #[tactic(auto, unfolding(crate::specs::Names::term_lines), using(crate::proofs::Pieces::joining))]
 fn write_terms(out: &mut String, draws: &mut Draws) -> Result<(), AllocError>
-    ensures { OnOk result (string_bytes out.new ≡ string_bytes out.old ++ (term_lines draws.old).value) }
+    ensures { OnOk result (string_bytes out.new ≡ string_bytes out.old
+        ++ (term_lines draws.old).value) }
 {
     write_lines(out, draws, Kind::Cut, 100)?;
     write_lines(out, draws, Kind::Need, 20)?;

@@ -32,7 +32,8 @@ pub fn write_set(out: &mut String, p: u64, step: u64, count: u64) -> Result<(), 
     requires first { p < 200 }
     requires step { step < 200 }
     requires count { count ≤ 200 }
-    ensures { OnOk result (string_bytes out.new ≡ string_bytes out.old ++ (codes " :" ++ names p step count)) }
+    ensures { OnOk result (string_bytes out.new ≡ string_bytes out.old
+        ++ (codes " :" ++ names p step count)) }
 {
     write!(out, " :")?;
     write_run(out, p, step, count)
@@ -41,7 +42,8 @@ pub fn write_set(out: &mut String, p: u64, step: u64, count: u64) -> Result<(), 
 /// An element with a weight.
 #[tactic(auto, unfolding(crate::specs::DemoText::pair, crate::specs::DemoText::element))]
 fn write_pair(out: &mut String, draws: &mut Draws, e: u64) -> Result<(), AllocError>
-    ensures { OnOk result (IsPut (pair e) (string_bytes out.old) (string_bytes out.new) draws.old draws.new) }
+    ensures { OnOk result (IsPut (pair e) (string_bytes out.old)
+        (string_bytes out.new) draws.old draws.new) }
 {
     let w = draws.draw(2001) as i64 - 1000;
     write!(out, " e{e}:{w}")
@@ -49,7 +51,8 @@ fn write_pair(out: &mut String, draws: &mut Draws, e: u64) -> Result<(), AllocEr
 
 /// An element as an edge of two vertices.
 fn write_edge(out: &mut String, draws: &mut Draws, e: u64) -> Result<(), AllocError>
-    ensures { OnOk result (IsPut (edge e) (string_bytes out.old) (string_bytes out.new) draws.old draws.new) }
+    ensures { OnOk result (IsPut (edge e) (string_bytes out.old)
+        (string_bytes out.new) draws.old draws.new) }
 {
     let u = draws.draw(6);
     let x = draws.draw(6);
@@ -59,7 +62,8 @@ fn write_edge(out: &mut String, draws: &mut Draws, e: u64) -> Result<(), AllocEr
 /// An element with two slots.
 #[tactic(auto, unfolding(crate::specs::DemoText::entry, crate::specs::DemoText::element))]
 fn write_entry(out: &mut String, draws: &mut Draws, e: u64) -> Result<(), AllocError>
-    ensures { OnOk result (IsPut (entry e) (string_bytes out.old) (string_bytes out.new) draws.old draws.new) }
+    ensures { OnOk result (IsPut (entry e) (string_bytes out.old)
+        (string_bytes out.new) draws.old draws.new) }
 {
     let a = draws.draw(SLOTS);
     let b = (a + 1 + draws.draw(4)) % SLOTS;
@@ -68,7 +72,8 @@ fn write_entry(out: &mut String, draws: &mut Draws, e: u64) -> Result<(), AllocE
 
 /// An element with what is drawn for it.
 fn write_item(out: &mut String, draws: &mut Draws, item: Item, e: u64) -> Result<(), AllocError>
-    ensures { OnOk result (IsPut (item_of item e) (string_bytes out.old) (string_bytes out.new) draws.old draws.new) }
+    ensures { OnOk result (IsPut (item_of item e) (string_bytes out.old)
+        (string_bytes out.new) draws.old draws.new) }
 {
     match item {
         Item::Pair => write_pair(out, draws, e),
@@ -89,7 +94,8 @@ pub fn write_items(
     requires first { p < 200 }
     requires step { step < 200 }
     requires count { count ≤ 200 }
-    ensures { OnOk result (IsPut (each (item_of item) p step count) (string_bytes out.old) (string_bytes out.new) draws.old draws.new) }
+    ensures { OnOk result (IsPut (each (item_of item) p step count) (string_bytes out.old)
+        (string_bytes out.new) draws.old draws.new) }
 {
     for j in 0..count {
         write_item(out, draws, item, (p + step * j) % ELEMENTS)?;
@@ -107,7 +113,8 @@ pub fn write_sums(
     requires low { pos 0 ≤ℤ first }
     requires high { first ≤ℤ pos 600 }
     requires count { count ≤ 10 }
-    ensures { OnOk result (IsPut (falling count first first) (string_bytes out.old) (string_bytes out.new) draws.old draws.new) }
+    ensures { OnOk result (IsPut (falling count first first) (string_bytes out.old)
+        (string_bytes out.new) draws.old draws.new) }
 {
     let mut sum = first;
     let mut increment = first;

@@ -66,7 +66,8 @@ fn judged_answer(alloc: Global, instance: &Instance) -> Result<Solved, Memory>
 
 /// The line of a seed's instance.
 fn line_of(alloc: Global, seed: u64, instance: &Instance) -> Result<Vec<u8>, Memory>
-    ensures { IfOk result (λ line. (text : List ℕ) → IsTextOf text instance.now.names instance.now.terms → IsDemoed seed text line.items) }
+    ensures { IfOk result (λ line. (text : List ℕ) → IsTextOf text instance.now.names
+        instance.now.terms → IsDemoed seed text line.items) }
 {
     let solved = judged_answer(alloc, instance)?;
     Ok(line_for(alloc, seed, &solved)?)
@@ -76,7 +77,8 @@ fn line_of(alloc: Global, seed: u64, instance: &Instance) -> Result<Vec<u8>, Mem
 pub fn due_to_demo(alloc: Global, seed: u64) -> Result<Due, Memory>
     requires { seed ≤ 999999999 }
     ensures due { IfOk result (λ due. IsDueToDemo seed due.text.items (code_of due.status)) }
-    ensures answered { IfOk result (λ due. (due.status ≡ Status.Done) ⊎ (due.status ≡ Status.Refused)) }
+    ensures answered { IfOk result (λ due. (due.status ≡ Status.Done)
+        ⊎ (due.status ≡ Status.Refused)) }
 {
     let text = demo_text(alloc, seed)?;
     match read_instance(alloc, text.as_slice()) {

@@ -27,7 +27,8 @@ pub struct Due {
 
 /// A line of a word, the number of a line, and the word of the reason against it.
 fn fault_line(alloc: Global, word: &[u8], line: usize, reason: &[u8]) -> Result<Vec<u8>, AllocError>
-    ensures { IfOk result (λ v. v.items ≡ word.now ++ decimal line ++ codes " " ++ reason.now ++ codes "\n") }
+    ensures { IfOk result (λ v. v.items ≡ word.now ++ decimal line ++ codes " " ++ reason.now
+        ++ codes "\n") }
 {
     let mut buffer = Buffer::new();
     let mut out = Vec::from_slice(alloc, word)?;
@@ -55,7 +56,8 @@ fn word_of(reason: Wrong) -> &'static [u8]
 fn due_for_verdict(alloc: Global, verdict: Verdict) -> Result<Due, AllocError>
     ensures line { IfOk result (λ due. due.text.items ≡ verdict_line verdict) }
     ensures code { IfOk result (λ due. code_of due.status ≡ verdict_code verdict) }
-    ensures answered { IfOk result (λ due. (due.status ≡ Status.Done) ⊎ (due.status ≡ Status.Invalid)) }
+    ensures answered { IfOk result (λ due. (due.status ≡ Status.Done)
+        ⊎ (due.status ≡ Status.Invalid)) }
 {
     match verdict {
         Verdict::Valid => Ok(Due {
@@ -71,7 +73,8 @@ fn due_for_verdict(alloc: Global, verdict: Verdict) -> Result<Due, AllocError>
 
 /// The refusal of a text with this fault.
 pub fn refuse(alloc: Global, line: usize, reason: Reason) -> Result<Due, AllocError>
-    ensures { IfOk result (λ due. (due.text.items ≡ refusal line reason) × (due.status ≡ Status.Refused)) }
+    ensures { IfOk result (λ due. (due.text.items ≡ refusal line reason)
+        × (due.status ≡ Status.Refused)) }
 {
     let text = fault_line(alloc, b"refused ", line, reason.word())?;
     Ok(Due {
@@ -105,7 +108,8 @@ pub fn due_to_solve(alloc: Global, reader: Reader) -> Result<Due, Memory>
 
 /// The verdict on an answer that is too long. No right file is: an instance has few names, and few terms over few places.
 fn verdict_on_long(instance: &Instance) -> Verdict
-    ensures { (answer : List ℕ) → answer_limit < length answer → IsVerdict (form_of instance.now) (meanings_of instance.now.terms) answer result }
+    ensures { (answer : List ℕ) → answer_limit < length answer
+        → IsVerdict (form_of instance.now) (meanings_of instance.now.terms) answer result }
 {
     let _count = instance.names_len();
     let _terms = instance.terms();
@@ -121,7 +125,8 @@ fn verdict_on(
     instance: &Instance,
     bytes: &Option<Vec<u8>>,
 ) -> Result<Verdict, Memory>
-    ensures { IfOk result (λ v. (answer : List ℕ) → IsReadAs answer_limit bytes.now answer → IsVerdict (form_of instance.now) (meanings_of instance.now.terms) answer v) }
+    ensures { IfOk result (λ v. (answer : List ℕ) → IsReadAs answer_limit bytes.now answer
+        → IsVerdict (form_of instance.now) (meanings_of instance.now.terms) answer v) }
 {
     match bytes {
         Some(bytes) => judge(alloc, instance, bytes.as_slice()),

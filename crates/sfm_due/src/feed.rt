@@ -15,7 +15,8 @@ const PIECE: usize = 65_536;
 /// Feeds a reader with bytes, and tells how many they are.
 fn pass_on(alloc: Global, reader: &mut Reader, bytes: &[u8]) -> Result<usize, Status>
     ensures count { IfOk result (λ count. count ≡ length bytes.now) }
-    ensures stands { OnOk result ((text : List ℕ) → Stands reader.old text → Stands reader.new (text ++ bytes.now)) }
+    ensures stands { OnOk result ((text : List ℕ) → Stands reader.old text
+        → Stands reader.new (text ++ bytes.now)) }
     ensures wanting { IfErr result (λ status. status ≡ Status.Memory) }
 {
     match reader.feed(alloc, bytes) {
@@ -32,7 +33,8 @@ fn feed_on<S: Shelf>(
     buffer: &mut [u8],
 ) -> Result<usize, Status>
     requires { 0 < length buffer.old }
-    ensures { FeedsOn (S.state shelf.old) reader.old (length buffer.old) result reader.new (S.state shelf.new) }
+    ensures { FeedsOn (S.state shelf.old) reader.old (length buffer.old) result reader.new
+        (S.state shelf.new) }
 {
     match shelf.read(buffer) {
         Ok(count) => pass_on(alloc, reader, &buffer[..count]),

@@ -57,7 +57,8 @@ pub fn solve_instance(alloc: Global, instance: &Instance) -> Result<Solved, Memo
 
 /// The text of a right file for an instance.
 fn file_for(alloc: Global, instance: &Instance) -> Result<Vec<u8>, Memory>
-    ensures { IfOk result (λ file. (text : List ℕ) → IsTextOf text instance.now.names instance.now.terms → IsSolved text file.items) }
+    ensures { IfOk result (λ file. (text : List ℕ) → IsTextOf text instance.now.names
+        instance.now.terms → IsSolved text file.items) }
 {
     let solved = solve_instance(alloc, instance)?;
     Ok(write_answer(alloc, instance, &solved)?)
@@ -65,8 +66,10 @@ fn file_for(alloc: Global, instance: &Instance) -> Result<Vec<u8>, Memory>
 
 /// The text of a right file for the text that a reader stands for, or the first fault of that text.
 pub fn solve_read(alloc: Global, reader: Reader) -> Result<Vec<u8>, TextEnd>
-    ensures solved { IfOk result (λ file. (text : List ℕ) → Stands reader text → IsSolved text file.items) }
-    ensures refused { IfErr result (λ end. (text : List ℕ) → Stands reader text → IsRefusalOf text end) }
+    ensures solved { IfOk result (λ file. (text : List ℕ) → Stands reader text
+        → IsSolved text file.items) }
+    ensures refused { IfErr result (λ end. (text : List ℕ) → Stands reader text
+        → IsRefusalOf text end) }
 {
     let instance = reader.finish(alloc)?;
     Ok(file_for(alloc, &instance)?)

@@ -33,11 +33,15 @@ fn ask_at<T: Term>(
     requires ready { IsReady T.places T.value_of T.size_of T.fits terms.now q graph.old }
     requires term { i < length terms.now }
     requires place { u < length (term_at (meanings T.places T.value_of terms.now) i).places }
-    ensures still { OnOk result (IsStill T.places T.value_of T.size_of T.fits terms.now q graph.old graph.new) }
+    ensures still { OnOk result (IsStill T.places T.value_of T.size_of T.fits terms.now q graph.old
+        graph.new) }
     ensures spots { OnOk result (graph.new.spots.items ≡ graph.old.spots.items) }
-    ensures settled { OnOk result (bit_in (set_at graph.new.claimed.items i) (slice_index_or (term_at (meanings T.places T.value_of terms.now) i).places u 0) ≢ 1) }
-    ensures kept { OnOk result ((j e : ℕ) → bit_in (set_at graph.old.claimed.items j) e ≢ 1 → bit_in (set_at graph.new.claimed.items j) e ≢ 1) }
-    ensures asked { OnOk result (IsAsked graph.old.rows.items graph.old.claimed.items graph.new.rows.items graph.new.claimed.items) }
+    ensures settled { OnOk result (bit_in (set_at graph.new.claimed.items i)
+        (slice_index_or (term_at (meanings T.places T.value_of terms.now) i).places u 0) ≢ 1) }
+    ensures kept { OnOk result ((j e : ℕ) → bit_in (set_at graph.old.claimed.items j) e ≢ 1
+        → bit_in (set_at graph.new.claimed.items j) e ≢ 1) }
+    ensures asked { OnOk result (IsAsked graph.old.rows.items graph.old.claimed.items
+        graph.new.rows.items graph.new.claimed.items) }
 {
     let term = &terms[i];
     let places = term.elements();
@@ -78,13 +82,19 @@ pub fn prove_walk<T: Term>(
     q: i128,
     hops: &[Hop],
 ) -> Result<bool, Memory>
-    requires graph { IsClaimed T.places T.value_of T.size_of T.fits terms.now (length graph.old.spots.items) q graph.old }
+    requires graph { IsClaimed T.places T.value_of T.size_of T.fits terms.now
+        (length graph.old.spots.items) q graph.old }
     requires small { All (λ x. All IsEntry x) graph.old.bases }
-    requires told { (first : ℕ) × AreHops (meanings T.places T.value_of terms.now) graph.old.rows.items first hops.now }
-    ensures graph { OnOk result (IsClaimed T.places T.value_of T.size_of T.fits terms.now (length graph.old.spots.items) q graph.new) }
+    requires told { (first : ℕ) × AreHops (meanings T.places T.value_of terms.now)
+        graph.old.rows.items first hops.now }
+    ensures graph { OnOk result (IsClaimed T.places T.value_of T.size_of T.fits terms.now
+        (length graph.old.spots.items) q graph.new) }
     ensures bases { OnOk result (graph.new.bases ≡ graph.old.bases) }
-    ensures proved { IfOk result (λ r. r ≡ true → (k : ℕ) → k < length hops.now → IsMovable (meanings T.places T.value_of terms.now) q graph.old.bases (hop_at hops.now k)) }
-    ensures refused { IfOk result (λ r. r ≡ false → claims_of graph.new.claimed.items < claims_of graph.old.claimed.items) }
+    ensures proved { IfOk result (λ r. r ≡ true → (k : ℕ) → k < length hops.now
+        → IsMovable (meanings T.places T.value_of terms.now) q graph.old.bases
+        (hop_at hops.now k)) }
+    ensures refused { IfOk result (λ r. r ≡ false → claims_of graph.new.claimed.items
+        < claims_of graph.old.claimed.items) }
 {
     for hop in hops {
         ask_at(alloc, graph, terms, q, hop.term, hop.u)?;
@@ -107,8 +117,10 @@ fn ask_place<T: Term>(
 ) -> Result<(), Memory>
     requires ready { IsReady T.places T.value_of T.size_of T.fits terms.now q graph.old }
     requires place { e < length graph.old.spots.items }
-    ensures still { OnOk result (IsStill T.places T.value_of T.size_of T.fits terms.now q graph.old graph.new) }
-    ensures exact { OnOk result ((t : ℕ) → bit_in (set_at graph.new.unions.items e) t ≡ 1 → IsArc (meanings T.places T.value_of terms.now) q graph.old.bases e t) }
+    ensures still { OnOk result (IsStill T.places T.value_of T.size_of T.fits terms.now q graph.old
+        graph.new) }
+    ensures exact { OnOk result ((t : ℕ) → bit_in (set_at graph.new.unions.items e) t ≡ 1
+        → IsArc (meanings T.places T.value_of terms.now) q graph.old.bases e t) }
 {
     let here = &graph.spots[e];
     let listed = here.as_slice();
@@ -135,12 +147,15 @@ pub fn walked_from<T: Term>(
     q: i128,
     firsts: &Bits,
 ) -> Result<Bits, Memory>
-    requires graph { IsClaimed T.places T.value_of T.size_of T.fits terms.now (length graph.old.spots.items) q graph.old }
+    requires graph { IsClaimed T.places T.value_of T.size_of T.fits terms.now
+        (length graph.old.spots.items) q graph.old }
     requires small { All (λ x. All IsEntry x) graph.old.bases }
     requires firsts { (e : ℕ) → bit_in firsts.now e ≡ 1 → e < length graph.old.spots.items }
-    ensures graph { OnOk result (IsClaimed T.places T.value_of T.size_of T.fits terms.now (length graph.old.spots.items) q graph.new) }
+    ensures graph { OnOk result (IsClaimed T.places T.value_of T.size_of T.fits terms.now
+        (length graph.old.spots.items) q graph.new) }
     ensures bases { OnOk result (graph.new.bases ≡ graph.old.bases) }
-    ensures walked { IfOk result (AreWalked (meanings T.places T.value_of terms.now) (length graph.old.spots.items) q graph.old.bases firsts.now) }
+    ensures walked { IfOk result (AreWalked (meanings T.places T.value_of terms.now)
+        (length graph.old.spots.items) q graph.old.bases firsts.now) }
 {
     let mut found = *firsts;
     let mut ahead = *firsts;

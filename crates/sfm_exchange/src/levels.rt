@@ -48,7 +48,9 @@ pub fn find_levels(
     requires count { length _unions.now ≡ length _z.now }
     requires turned { AreTurned _unions.now back.now }
     requires signs { AreSigns _z.now signs.now }
-    ensures { IfOk result (λ r. MatchOption r (AreClosed (length _z.now) _unions.now _z.now levels.new.items) (λ first. IsFirst (length _z.now) _unions.now _z.now levels.new.items first)) }
+    ensures { IfOk result (λ r. MatchOption r (AreClosed
+        (length _z.now) _unions.now _z.now levels.new.items)
+        (λ first. IsFirst (length _z.now) _unions.now _z.now levels.new.items first)) }
 {
     let mut left = signs.ground;
     left.remove_all(&signs.over);

@@ -48,7 +48,8 @@ fn is_multiple(q: i128, x: &[i128], y: &[i128]) -> bool
 fn are_multiples(q: i128, rows: &Rows, bases: &Rows) -> bool
     requires factor { IsFactor q }
     requires count { length bases.now ≡ length rows.now }
-    ensures { result ≡ true → (i : ℕ) → i < length rows.now → base_at bases.now i ≡ row_times q (base_at rows.now i) }
+    ensures { result ≡ true → (i : ℕ) → i < length rows.now
+        → base_at bases.now i ≡ row_times q (base_at rows.now i) }
 {
     for i in 0..rows.len() {
         if !is_multiple(q, rows.row(i), bases.row(i)) {
@@ -79,11 +80,13 @@ fn take_rows<T: Term>(
     other: &Graph<T::Note>,
 ) -> Result<(), Memory>
     requires based { AreBased T.places T.value_of T.size_of terms.now q graph.old.bases }
-    requires shaped { (n : ℕ) × IsShaped T.places T.value_of terms.now n graph.old × IsShaped T.places T.value_of terms.now n other.now }
+    requires shaped { (n : ℕ) × IsShaped T.places T.value_of terms.now n graph.old
+        × IsShaped T.places T.value_of terms.now n other.now }
     ensures bases { OnOk result (graph.new.bases ≡ graph.old.bases) }
     ensures spots { OnOk result (graph.new.spots.items ≡ graph.old.spots.items) }
     ensures count { OnOk result (length graph.new.notes.items ≡ length terms.now) }
-    ensures noted { OnOk result (AreNotes T.fits q terms.now graph.new.notes.items graph.old.bases) }
+    ensures noted { OnOk result (AreNotes T.fits q terms.now graph.new.notes.items
+        graph.old.bases) }
     ensures rows { OnOk result (graph.new.rows.items ≡ other.now.rows.items) }
     ensures claimed { OnOk result (graph.new.claimed.items ≡ other.now.claimed.items) }
     ensures unions { OnOk result (graph.new.unions.items ≡ other.now.unions.items) }
@@ -112,13 +115,17 @@ pub fn restart_by<T: Term>(
     bases: Rows,
     other: &Graph<T::Note>,
 ) -> Result<(), Memory>
-    requires bounded { AreBounded (length graph.old.spots.items) (map T.places terms.now) (map T.size_of terms.now) }
+    requires bounded { AreBounded (length graph.old.spots.items) (map T.places terms.now)
+        (map T.size_of terms.now) }
     requires factor { IsFactor q }
-    requires graph { IsShaped T.places T.value_of terms.now (length graph.old.spots.items) graph.old }
-    requires other { IsClaimed T.places T.value_of T.size_of T.fits terms.now (length graph.old.spots.items) (pos 1) other.now }
+    requires graph { IsShaped T.places T.value_of terms.now
+        (length graph.old.spots.items) graph.old }
+    requires other { IsClaimed T.places T.value_of T.size_of T.fits terms.now
+        (length graph.old.spots.items) (pos 1) other.now }
     requires bases { AreBases q (meanings T.places T.value_of terms.now) bases }
     requires small { All (λ x. All IsEntry x) bases }
-    ensures graph { OnOk result (IsClaimed T.places T.value_of T.size_of T.fits terms.now (length graph.old.spots.items) q graph.new) }
+    ensures graph { OnOk result (IsClaimed T.places T.value_of T.size_of T.fits terms.now
+        (length graph.old.spots.items) q graph.new) }
     ensures bases { OnOk result (graph.new.bases ≡ bases) }
 {
     if !are_multiples(q, &other.bases, &bases) {

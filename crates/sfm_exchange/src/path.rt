@@ -49,8 +49,10 @@ impl Path {
 fn first_spot(spots: &[Spot], rows: &[BitRows], to: usize) -> Option<Spot>
     requires rows { HasRows rows.now spots.now }
     requires place { to < 256 }
-    ensures { MatchOption result ((j : ℕ) → j < length spots.now → bit_in (spot_row rows.now (spot_at spots.now j)) to ≡ 1 → ⊥)
-        (λ spot. (j : ℕ) × (j < length spots.now) × (spot_at spots.now j ≡ spot) × (bit_in (spot_row rows.now spot) to ≡ 1)
+    ensures { MatchOption result ((j : ℕ) → j < length spots.now
+        → bit_in (spot_row rows.now (spot_at spots.now j)) to ≡ 1 → ⊥)
+        (λ spot. (j : ℕ) × (j < length spots.now) × (spot_at spots.now j ≡ spot)
+        × (bit_in (spot_row rows.now spot) to ≡ 1)
         × ((i : ℕ) → i < j → bit_in (spot_row rows.now (spot_at spots.now i)) to ≡ 1 → ⊥)) }
 {
     for spot in spots {
@@ -64,7 +66,8 @@ fn first_spot(spots: &[Spot], rows: &[BitRows], to: usize) -> Option<Spot>
 
 // The number of a place in a term.
 fn local_of(places: &[usize], place: usize) -> Option<usize>
-    ensures { MatchOption result ((v : ℕ) → v < length places.now → slice_index_or places.now v 0 ≡ place → ⊥)
+    ensures { MatchOption result ((v : ℕ) → v < length places.now
+        → slice_index_or places.now v 0 ≡ place → ⊥)
         (λ v. (v < length places.now) × (slice_index_or places.now v 0 ≡ place)) }
 {
     for (v, at) in places.iter().enumerate() {
@@ -84,17 +87,21 @@ fn least_step<T: Term>(
     at: usize,
     level: &Bits,
 ) -> Hop
-    requires spots { AreSpots (meanings T.places T.value_of terms.now) (length unions.now) spots.now }
+    requires spots { AreSpots (meanings T.places T.value_of terms.now)
+        (length unions.now) spots.now }
     requires rows { HaveRows rows.now spots.now }
     requires unions { AreUnions rows.now spots.now unions.now }
-    requires placed { (i : ℕ) → i < length terms.now → IsReadable (meanings T.places T.value_of terms.now) rows.now i }
+    requires placed { (i : ℕ) → i < length terms.now → IsReadable
+        (meanings T.places T.value_of terms.now) rows.now i }
     requires at { at < length unions.now }
     requires leads { LeadsInto unions.now at level.now }
     ensures named { IsHop (meanings T.places T.value_of terms.now) at result }
     ensures reached { bit_in (set_at (table_at rows.now result.term) result.u) result.to ≡ 1 }
     ensures onto { bit_in level.now result.to ≡ 1 }
-    ensures least { (other : Step) → IsTold (meanings T.places T.value_of terms.now) rows.now at other → bit_in level.now other.to ≡ 1
-        → step_code (meanings T.places T.value_of terms.now) (step_of result) ≤ step_code (meanings T.places T.value_of terms.now) other }
+    ensures least { (other : Step) → IsTold (meanings T.places T.value_of terms.now) rows.now at
+        other → bit_in level.now other.to ≡ 1
+        → step_code (meanings T.places T.value_of terms.now) (step_of result) ≤ step_code
+        (meanings T.places T.value_of terms.now) other }
 {
     let to = unions[at].first_common(level).unwrap();
     let here = &spots[at];
@@ -121,15 +128,21 @@ pub fn follow<T: Term>(
     first: usize,
     hops: &mut Vec<Hop>,
 ) -> Result<(), Memory>
-    requires spots { AreSpots (meanings T.places T.value_of terms.now) (length graph.now.unions.items) graph.now.spots.items }
+    requires spots { AreSpots (meanings T.places T.value_of terms.now)
+        (length graph.now.unions.items) graph.now.spots.items }
     requires rows { HaveRows graph.now.rows.items graph.now.spots.items }
     requires unions { AreUnions graph.now.rows.items graph.now.spots.items graph.now.unions.items }
-    requires placed { (i : ℕ) → i < length terms.now → IsReadable (meanings T.places T.value_of terms.now) graph.now.rows.items i }
-    requires first { IsFirst (length graph.now.unions.items) graph.now.unions.items _z.now levels.now first }
-    ensures hops { OnOk result (AreHops (meanings T.places T.value_of terms.now) graph.now.rows.items first hops.new.items) }
+    requires placed { (i : ℕ) → i < length terms.now → IsReadable
+        (meanings T.places T.value_of terms.now) graph.now.rows.items i }
+    requires first { IsFirst (length graph.now.unions.items) graph.now.unions.items _z.now
+        levels.now first }
+    ensures hops { OnOk result (AreHops (meanings T.places T.value_of terms.now)
+        graph.now.rows.items first hops.new.items) }
     ensures falls { OnOk result (FallsAlong (depth_of levels.now) first (steps_of hops.new.items)) }
-    ensures least { OnOk result (AreLeast (meanings T.places T.value_of terms.now) graph.now.rows.items (depth_of levels.now) first hops.new.items) }
-    ensures last { OnOk result (bit_in (set_at levels.now 0) (last_of first (steps_of hops.new.items)) ≡ 1) }
+    ensures least { OnOk result (AreLeast (meanings T.places T.value_of terms.now)
+        graph.now.rows.items (depth_of levels.now) first hops.new.items) }
+    ensures last { OnOk result (bit_in (set_at levels.now 0)
+        (last_of first (steps_of hops.new.items)) ≡ 1) }
     ensures some { OnOk result (0 < length hops.new.items) }
 {
     hops.clear();

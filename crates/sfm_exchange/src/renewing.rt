@@ -117,7 +117,8 @@ fn settle_raised(changed: &Bits, place: usize, claimed: &mut Bits) -> Changes
     requires { place < 256 }
     ensures claimed { (e : ℕ) → e ≢ place → bit_in claimed.new e ≡ bit_in claimed.old e }
     ensures anew { (e : ℕ) → (bit_in result.anew e ≡ 1) ↔ (e ≡ place) }
-    ensures grown { (e : ℕ) → (bit_in result.grown e ≡ 1) ↔ ((e ≢ place) × (bit_in changed.now e ≡ 1)) }
+    ensures grown { (e : ℕ) → (bit_in result.grown e ≡ 1)
+        ↔ ((e ≢ place) × (bit_in changed.now e ≡ 1)) }
 {
     claimed.remove(place);
     let mut grown = *changed;
@@ -137,7 +138,8 @@ fn asks_at_once<T: Term>(term: &T, claimed: &Bits) -> bool
 
 // Of the places whose rows may have changed those that depend on the place that was raised for certain, and on which it depends.
 fn shared_places(changed: &Bits, of_s: &Bits, claimed: &Bits) -> Bits
-    ensures { (e : ℕ) → (bit_in result e ≡ 1) ↔ ((bit_in changed.now e ≡ 1) × (bit_in of_s.now e ≡ 1) × (bit_in claimed.now e ≢ 1)) }
+    ensures { (e : ℕ) → (bit_in result e ≡ 1) ↔ ((bit_in changed.now e ≡ 1)
+        × (bit_in of_s.now e ≡ 1) × (bit_in claimed.now e ≢ 1)) }
 {
     let mut shared = *changed;
     shared.remove_all(claimed);
@@ -173,10 +175,12 @@ fn settle_shared(
     requires placed { IsPlaced 256 places.now }
     requires rows { length rows.old ≡ length places.now }
     requires place { raised.now.place < 256 }
-    ensures rows { AreShared places.now shared.now raised.now (length places.now) rows.old rows.new }
+    ensures rows { AreShared places.now shared.now raised.now
+        (length places.now) rows.old rows.new }
     ensures claimed { (e : ℕ) → bit_in claimed.new e ≡ bit_in claimed.old e - bit_in shared.now e }
     ensures grown { (e : ℕ) → bit_in result.grown e ≡ bit_in changes.grown e - bit_in shared.now e }
-    ensures anew { (e : ℕ) → bit_in result.anew e ≡ max (bit_in changes.anew e) (bit_in shared.now e) }
+    ensures anew { (e : ℕ) → bit_in result.anew e ≡ max (bit_in changes.anew e)
+        (bit_in shared.now e) }
 {
     share_row(places, shared, raised, rows);
     claimed.remove_all(shared);
@@ -200,12 +204,17 @@ fn row_after<T: Term>(
 ) -> Result<Bits, Memory>
     requires based { IsBased T.places T.value_of T.size_of at.now.term.now at.now.q at.now.x.now }
     requires noted { T.fits at.now.term.now note.old at.now.q at.now.x.now }
-    requires raised { IsRaised (T.places at.now.term.now) (times at.now.q (T.value_of at.now.term.now)) at.now.x.now raised.now }
+    requires raised { IsRaised (T.places at.now.term.now) (times at.now.q
+        (T.value_of at.now.term.now)) at.now.x.now raised.now }
     requires from { u < length at.now.x.now }
-    requires leads { Depends (times at.now.q (T.value_of at.now.term.now)) at.now.x.now u raised.now.local }
-    requires image { IsImage (T.places at.now.term.now) image.old.part image.old.bits image.old.in_order }
-    ensures image { OnOk result (IsImage (T.places at.now.term.now) image.new.part image.new.bits image.new.in_order) }
-    ensures row { IfOk result (IsRow (T.places at.now.term.now) (times at.now.q (T.value_of at.now.term.now)) at.now.x.now u) }
+    requires leads { Depends (times at.now.q (T.value_of at.now.term.now)) at.now.x.now u
+        raised.now.local }
+    requires image { IsImage (T.places at.now.term.now) image.old.part image.old.bits
+        image.old.in_order }
+    ensures image { OnOk result (IsImage (T.places at.now.term.now) image.new.part image.new.bits
+        image.new.in_order) }
+    ensures row { IfOk result (IsRow (T.places at.now.term.now)
+        (times at.now.q (T.value_of at.now.term.now)) at.now.x.now u) }
     ensures noted { OnOk result (T.fits at.now.term.now note.new at.now.q at.now.x.now) }
 {
     let places = at.term.elements();
@@ -228,10 +237,15 @@ fn ask_rows<T: Term>(
 ) -> Result<(), Memory>
     requires based { IsBased T.places T.value_of T.size_of at.now.term.now at.now.q at.now.x.now }
     requires noted { T.fits at.now.term.now note.old at.now.q at.now.x.now }
-    requires raised { IsRaised (T.places at.now.term.now) (times at.now.q (T.value_of at.now.term.now)) at.now.x.now raised.now }
-    requires leads { (u : ℕ) → u < length at.now.x.now → bit_in changed.now (slice_index_or (T.places at.now.term.now) u 0) ≡ 1 → Depends (times at.now.q (T.value_of at.now.term.now)) at.now.x.now u raised.now.local }
+    requires raised { IsRaised (T.places at.now.term.now) (times at.now.q
+        (T.value_of at.now.term.now)) at.now.x.now raised.now }
+    requires leads { (u : ℕ) → u < length at.now.x.now → bit_in changed.now
+        (slice_index_or (T.places at.now.term.now) u 0) ≡ 1
+        → Depends (times at.now.q (T.value_of at.now.term.now)) at.now.x.now u raised.now.local }
     requires rows { length rows.old ≡ length at.now.x.now }
-    ensures asked { OnOk result (AreAsked (T.places at.now.term.now) (times at.now.q (T.value_of at.now.term.now)) at.now.x.now changed.now (length (T.places at.now.term.now)) rows.old rows.new) }
+    ensures asked { OnOk result (AreAsked (T.places at.now.term.now)
+        (times at.now.q (T.value_of at.now.term.now)) at.now.x.now changed.now
+        (length (T.places at.now.term.now)) rows.old rows.new) }
     ensures noted { OnOk result (T.fits at.now.term.now note.new at.now.q at.now.x.now) }
 {
     let places = at.term.elements();
@@ -263,11 +277,15 @@ pub fn renew_rows<T: Term>(
     requires raised { hop.u < length at.now.x.now }
     requires lowered { hop.v < length at.now.x.now }
     requires rows { length rows.old ≡ length at.now.x.now }
-    requires before { (before : List ℤ) × IsExchanged (times at.now.q (T.value_of at.now.term.now)) before at.now.x.now hop.u hop.v
-        × AreClaims (T.places at.now.term.now) (times at.now.q (T.value_of at.now.term.now)) before claimed.old rows.old }
+    requires before { (before : List ℤ) × IsExchanged (times at.now.q (T.value_of at.now.term.now))
+        before at.now.x.now hop.u hop.v
+        × AreClaims (T.places at.now.term.now) (times at.now.q (T.value_of at.now.term.now)) before
+        claimed.old rows.old }
     ensures rows { OnOk result (length rows.new ≡ length rows.old) }
     ensures noted { OnOk result (T.fits at.now.term.now note.new at.now.q at.now.x.now) }
-    ensures raised { IfOk result (λ r. AreRenewed (T.places at.now.term.now) (times at.now.q (T.value_of at.now.term.now)) at.now.x.now claimed.new r rows.old rows.new) }
+    ensures raised { IfOk result (λ r. AreRenewed (T.places at.now.term.now)
+        (times at.now.q (T.value_of at.now.term.now)) at.now.x.now claimed.new r rows.old
+        rows.new) }
 {
     let places = at.term.elements();
     let to = places[hop.u];

@@ -41,7 +41,8 @@ fn places_below(n: usize) -> Bits
 // The places with z > 0.
 fn places_over(z: &[i128]) -> Bits
     requires { length z.now ≤ 256 }
-    ensures { (e : ℕ) → (bit_in result e ≡ 1) ↔ ((e < length z.now) × (pos 0 <ℤ slice_index_or z.now e (pos 0))) }
+    ensures { (e : ℕ) → (bit_in result e ≡ 1) ↔ ((e < length z.now)
+        × (pos 0 <ℤ slice_index_or z.now e (pos 0))) }
 {
     let mut over = no_bits();
     for (e, a) in z.iter().enumerate() {
@@ -55,7 +56,8 @@ fn places_over(z: &[i128]) -> Bits
 // The places with z < 0.
 fn places_under(z: &[i128]) -> Bits
     requires { length z.now ≤ 256 }
-    ensures { (e : ℕ) → (bit_in result e ≡ 1) ↔ ((e < length z.now) × (slice_index_or z.now e (pos 0) <ℤ pos 0)) }
+    ensures { (e : ℕ) → (bit_in result e ≡ 1) ↔ ((e < length z.now)
+        × (slice_index_or z.now e (pos 0) <ℤ pos 0)) }
 {
     let mut under = no_bits();
     for (e, a) in z.iter().enumerate() {
@@ -82,7 +84,8 @@ pub fn move_signs(signs: &mut Signs, z: &[i128], first: usize, last: usize)
     requires few { length z.now ≤ 256 }
     requires first { first < length z.now }
     requires last { last < length z.now }
-    ensures { (before : List ℤ) → AreSigns before signs.old → AreMoved before z.now first last → AreSigns z.now signs.new }
+    ensures { (before : List ℤ) → AreSigns before signs.old → AreMoved before z.now first last
+        → AreSigns z.now signs.new }
 {
     settle(&mut signs.under, first, z[first]);
     settle(&mut signs.over, last, z[last]);

@@ -59,8 +59,10 @@ pub fn certify<T: Term>(
     requires factor { IsFactor q }
     requires bases { AreBases q (meanings T.places T.value_of terms.now) bases.now }
     requires small { All (λ x. All IsEntry x) bases.now }
-    ensures answer { IfOk result (IsAnswer (meanings T.places T.value_of terms.now) n q (even_shift n p) bases.now) }
-    ensures exact { IfOk result (λ r. IsProved r ↔ Prove (meanings T.places T.value_of terms.now) n q (even_shift n p) bases.now) }
+    ensures answer { IfOk result (IsAnswer (meanings T.places T.value_of terms.now) n q
+        (even_shift n p) bases.now) }
+    ensures exact { IfOk result (λ r. IsProved r ↔ Prove
+        (meanings T.places T.value_of terms.now) n q (even_shift n p) bases.now) }
 {
     let shift = vec![in alloc; p; n]?;
     let reading = read_at(alloc, terms, q, &shift, bases)?;
@@ -75,11 +77,14 @@ fn told_by<T: Term>(
     shift: &[i128],
     reading: &Reading<T::Note>,
 ) -> Result<Certified, Memory>
-    requires reading { IsReading T.places T.value_of T.size_of T.fits terms.now (length shift.now) q shift.now reading.now }
+    requires reading { IsReading T.places T.value_of T.size_of T.fits terms.now
+        (length shift.now) q shift.now reading.now }
     requires shifts { magnitudes shift.now ≤ℤ pos (10 ^ 36) }
     requires small { All (λ x. All IsEntry x) reading.now.graph.bases }
-    ensures { IfOk result (λ r. IsAnswer (meanings T.places T.value_of terms.now) (length shift.now) q shift.now reading.now.graph.bases r
-        × (IsProved r ↔ Prove (meanings T.places T.value_of terms.now) (length shift.now) q shift.now reading.now.graph.bases)) }
+    ensures { IfOk result (λ r. IsAnswer (meanings T.places T.value_of terms.now)
+        (length shift.now) q shift.now reading.now.graph.bases r
+        × (IsProved r ↔ Prove (meanings T.places T.value_of terms.now)
+        (length shift.now) q shift.now reading.now.graph.bases)) }
 {
     let joins = joining_walk(alloc, terms, q, shift, reading)?;
     match joins {

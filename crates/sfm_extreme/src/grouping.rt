@@ -53,9 +53,12 @@ pub fn blocks<T: Term>(
     requires bounded { AreBounded n (map T.places terms.now) (map T.size_of terms.now) }
     requires bases { AreBases (pos 1) (meanings T.places T.value_of terms.now) bases.now }
     requires small { All (λ x. All IsEntry x) bases.now }
-    requires prove { Prove (meanings T.places T.value_of terms.now) n (pos 1) (even_shift n (pos 0)) bases.now }
-    ensures exact { IfOk result (λ r. AreBlocks (meanings T.places T.value_of terms.now) n (pos 1) (even_shift n (pos 0)) (map block_of r.items)) }
-    ensures generate { IfOk result (λ r. Generate (meanings T.places T.value_of terms.now) n (pos 1) (even_shift n (pos 0)) (map block_of r.items)) }
+    requires prove { Prove (meanings T.places T.value_of terms.now) n (pos 1)
+        (even_shift n (pos 0)) bases.now }
+    ensures exact { IfOk result (λ r. AreBlocks (meanings T.places T.value_of terms.now) n (pos 1)
+        (even_shift n (pos 0)) (map block_of r.items)) }
+    ensures generate { IfOk result (λ r. Generate (meanings T.places T.value_of terms.now) n (pos 1)
+        (even_shift n (pos 0)) (map block_of r.items)) }
 {
     let shift = vec![in alloc; 0i128; n]?;
     let reading = read_at(alloc, terms, 1, &shift, bases)?;
@@ -67,7 +70,8 @@ pub fn blocks<T: Term>(
 // The blocks of the places that are not outside, by the places that links lead to.
 fn blocks_by(alloc: Global, unions: &[Bits], outside: &Bits) -> Result<Vec<Block>, Memory>
     requires few { length unions.now ≤ 256 }
-    requires links { (e t : ℕ) → e < length unions.now → bit_in (set_at unions.now e) t ≡ 1 → t < length unions.now }
+    requires links { (e t : ℕ) → e < length unions.now → bit_in (set_at unions.now e) t ≡ 1
+        → t < length unions.now }
     ensures { IfOk result (λ r. AreBlocksBy unions.now outside.now (map block_of r.items)) }
 {
     let rows = pull_rows(alloc, unions, outside)?;

@@ -24,9 +24,13 @@ pub fn joining_walk<T: Term>(
     _shift: &[i128],
     reading: &Reading<T::Note>,
 ) -> Result<Option<Walk>, Memory>
-    requires { IsReading T.places T.value_of T.size_of T.fits terms.now (length _shift.now) _q _shift.now reading.now }
-    ensures { IfOk result (λ r. MatchOption r ((first : ℕ) (steps : List Step) → Joins (meanings T.places T.value_of terms.now) _q _shift.now reading.now.graph.bases first steps → ⊥)
-        (λ w. Joins (meanings T.places T.value_of terms.now) _q _shift.now reading.now.graph.bases w.first w.steps)) }
+    requires { IsReading T.places T.value_of T.size_of T.fits terms.now
+        (length _shift.now) _q _shift.now reading.now }
+    ensures { IfOk result (λ r. MatchOption r ((first : ℕ) (steps : List Step)
+        → Joins (meanings T.places T.value_of terms.now) _q _shift.now reading.now.graph.bases first
+        steps → ⊥)
+        (λ w. Joins (meanings T.places T.value_of terms.now) _q _shift.now reading.now.graph.bases
+        w.first w.steps)) }
 {
     let graph = &reading.graph;
     let mut levels = Vec::new(alloc);

@@ -15,7 +15,8 @@ use std::alloc::Global;
 /// `Memory` where there is none.
 pub fn pull_rows(alloc: Global, unions: &[Bits], outside: &Bits) -> Result<Vec<Set>, Memory>
     requires few { length unions.now ≤ 256 }
-    requires links { (e t : ℕ) → e < length unions.now → bit_in (set_at unions.now e) t ≡ 1 → t < length unions.now }
+    requires links { (e t : ℕ) → e < length unions.now → bit_in (set_at unions.now e) t ≡ 1
+        → t < length unions.now }
     ensures { IfOk result (λ r. ArePullRows unions.now outside.now r.items) }
 {
     let mut rows = Vec::new(alloc);
@@ -29,7 +30,8 @@ pub fn pull_rows(alloc: Global, unions: &[Bits], outside: &Bits) -> Result<Vec<S
 // The places not outside that links lead to from the place e; none where e is outside.
 fn pull_row(unions: &[Bits], outside: &Bits, e: usize) -> Bits
     requires few { length unions.now ≤ 256 }
-    requires links { (e t : ℕ) → e < length unions.now → bit_in (set_at unions.now e) t ≡ 1 → t < length unions.now }
+    requires links { (e t : ℕ) → e < length unions.now → bit_in (set_at unions.now e) t ≡ 1
+        → t < length unions.now }
     requires inside { e < length unions.now }
     ensures { IsPullRow unions.now outside.now e result }
 {

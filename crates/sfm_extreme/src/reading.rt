@@ -52,12 +52,14 @@ pub fn read_at<T: Term>(
     shift: &[i128],
     bases: &Rows,
 ) -> Result<Reading<T::Note>, Memory>
-    requires bounded { AreBounded (length shift.now) (map T.places terms.now) (map T.size_of terms.now) }
+    requires bounded { AreBounded (length shift.now) (map T.places terms.now)
+        (map T.size_of terms.now) }
     requires shifts { magnitudes shift.now ≤ℤ pos (10 ^ 36) }
     requires factor { IsFactor q }
     requires bases { AreBases q (meanings T.places T.value_of terms.now) bases.now }
     requires small { All (λ x. All IsEntry x) bases.now }
-    ensures reading { IfOk result (IsReading T.places T.value_of T.size_of T.fits terms.now (length shift.now) q shift.now) }
+    ensures reading { IfOk result (IsReading T.places T.value_of T.size_of T.fits terms.now
+        (length shift.now) q shift.now) }
     ensures bases { IfOk result (λ r. r.graph.bases ≡ bases.now) }
 {
     let z = rest_of(alloc, terms, shift, bases)?;

@@ -70,7 +70,10 @@ impl Calls {
     pub(crate) fn make(&mut self) -> Result<(), Failed>
         ensures passes { OnOk result (¬ Contains self.old.failing (self.old.made + 1)) }
         ensures fails { OnErr result (Contains self.old.failing (self.old.made + 1)) }
-        ensures counts { self.new ≡ record self.old { made = counted self.old.made; faults = (if is_ok result then self.old.faults else counted self.old.faults) } }
+        ensures counts { self.new ≡ record self.old {
+          made = counted self.old.made;
+          faults = (if is_ok result then self.old.faults else counted self.old.faults);
+        } }
         ensures grows { (self.old.made ≤ self.new.made) × (self.old.faults ≤ self.new.faults) }
     {
         let fails = is_next_listed(self.failing.as_slice(), self.made);

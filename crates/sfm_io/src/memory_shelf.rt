@@ -65,7 +65,14 @@ impl Model for MemoryShelf {
 
     ghost use Rattle.sfm_io.specs.MemoryShelf.{unread, IsReadable};
 
-    ghost view = { λ s. record { texts = s.texts.items; rest = unread s.texts.items s.place; faults = s.calls.faults; calls = s.calls.made; piece = s.piece; failing = s.calls.failing } };
+    ghost view = { λ s. record {
+      texts = s.texts.items;
+      rest = unread s.texts.items s.place;
+      faults = s.calls.faults;
+      calls = s.calls.made;
+      piece = s.piece;
+      failing = s.calls.failing;
+    } };
 
     ghost invariant = { λ s. IsReadable s.texts.items s.place s.piece };
 }
@@ -75,7 +82,14 @@ impl MemoryShelf {
     /// over `open` and `read` together.
     pub fn new(alloc: Global, piece: usize, failing: &[usize]) -> Result<MemoryShelf, Memory>
         requires { 1 ≤ piece }
-        ensures { IfOk result (λ s. s ≡ record { texts = []; rest = []; faults = 0; calls = 0; piece = piece; failing = failing.now }) }
+        ensures { IfOk result (λ s. s ≡ record {
+          texts = [];
+          rest = [];
+          faults = 0;
+          calls = 0;
+          piece = piece;
+          failing = failing.now;
+        }) }
     {
         let calls = Calls::new(alloc, failing)?;
         Ok(MemoryShelf {
@@ -91,7 +105,10 @@ impl MemoryShelf {
     pub fn add(&mut self, name: &str, bytes: &[u8]) -> Result<(), Memory>
         requires fresh { text_of self.old.texts name.now ≡ None }
         requires unused { self.old.calls ≡ 0 }
-        ensures { self.new ≡ (if is_ok result then record self.old { texts = self.old.texts ++ (name.now, bytes.now) ∷ [] } else self.old) }
+        ensures { self.new ≡ (if is_ok result then record self.old {
+          texts = self.old.texts
+              ++ (name.now, bytes.now) ∷ [];
+        } else self.old) }
     {
         let name = String::from_str(self.alloc, name)?;
         let bytes = Vec::from_slice(self.alloc, bytes)?;

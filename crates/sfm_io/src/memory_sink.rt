@@ -25,7 +25,14 @@ impl Model for MemorySink {
 
     ghost Value = { HeldSink };
 
-    ghost view = { λ s. record { written = s.bytes.items; faults = s.calls.faults; calls = s.calls.made; piece = s.piece; room = s.room; failing = s.calls.failing } };
+    ghost view = { λ s. record {
+      written = s.bytes.items;
+      faults = s.calls.faults;
+      calls = s.calls.made;
+      piece = s.piece;
+      room = s.room;
+      failing = s.calls.failing;
+    } };
 
     ghost invariant = { λ s. (vec_len s.bytes + s.room ≤ vec_capacity s.bytes) × (1 ≤ s.piece) };
 }
@@ -40,7 +47,14 @@ impl MemorySink {
         failing: &[usize],
     ) -> Result<MemorySink, Memory>
         requires { 1 ≤ piece }
-        ensures { IfOk result (λ s. s ≡ record { written = []; faults = 0; calls = 0; piece = piece; room = room; failing = failing.now }) }
+        ensures { IfOk result (λ s. s ≡ record {
+          written = [];
+          faults = 0;
+          calls = 0;
+          piece = piece;
+          room = room;
+          failing = failing.now;
+        }) }
     {
         let calls = Calls::new(alloc, failing)?;
         let bytes = Vec::with_capacity(alloc, room)?;

@@ -22,8 +22,10 @@ pub trait Shelf {
         ensures { Reads (state self.old) result buf.new (state self.new) };
 
     /// A sound shelf tells its texts.
-    ghost sound_is_told: { (shelf : Self) → (state shelf).sound ≡ true → IsSome (state shelf).texts };
+    ghost sound_is_told: { (shelf : Self) → (state shelf).sound ≡ true
+        → IsSome (state shelf).texts };
 
     /// A shelf that tells its texts tells what is unread.
-    ghost texts_tell_rest: { (shelf : Self) → IsSome (state shelf).texts → IsSome (state shelf).rest };
+    ghost texts_tell_rest: { (shelf : Self) → IsSome (state shelf).texts
+        → IsSome (state shelf).rest };
 }

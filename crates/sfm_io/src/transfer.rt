@@ -46,7 +46,8 @@ fn read_on<S: Shelf>(
     buffer: &mut [u8],
 ) -> Result<usize, ReadEnd>
     requires { 0 < length buffer.old }
-    ensures { ReadsOn (S.state shelf.old) bytes.old.items (length buffer.old) result bytes.new.items (S.state shelf.new) }
+    ensures { ReadsOn (S.state shelf.old) bytes.old.items (length buffer.old) result bytes.new.items
+        (S.state shelf.new) }
 {
     let count = shelf.read(buffer)?;
     bytes.extend_from_slice(&buffer[..count])?;
@@ -58,8 +59,10 @@ fn read_on<S: Shelf>(
 pub fn read_all<S: Shelf>(alloc: Global, shelf: &mut S, limit: usize) -> Result<Vec<u8>, ReadEnd>
     ensures kept { KeepsShelf (S.state shelf.old) (S.state shelf.new) }
     ensures bounded { IfOk result (λ bytes. length bytes.items ≤ limit) }
-    ensures whole { IfOk result (λ bytes. IsRest (S.state shelf.old) bytes.items (S.state shelf.new)) }
-    ensures cause { IfErr result (λ end. IsCause (S.state shelf.old) limit end (S.state shelf.new)) }
+    ensures whole { IfOk result (λ bytes. IsRest (S.state shelf.old) bytes.items
+        (S.state shelf.new)) }
+    ensures cause { IfErr result (λ end. IsCause (S.state shelf.old) limit end
+        (S.state shelf.new)) }
 {
     let mut bytes = Vec::new(alloc);
     let mut buffer = vec![in alloc; 0u8; PIECE]?;

@@ -134,7 +134,8 @@ impl Instance {
 
     /// Whether the bounds hold with one more term.
     pub fn takes(&self, term: &Kind) -> bool
-        ensures { IsTrue result ↔ AreInBounds (length self.now.names) (self.now.terms ++ term.now ∷ []) }
+        ensures { IsTrue result ↔ AreInBounds (length self.now.names)
+            (self.now.terms ++ term.now ∷ []) }
     {
         let places = term.elements();
         self.has_room(places.len(), term.size()) && are_below(places, self.names.len())

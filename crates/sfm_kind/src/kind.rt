@@ -98,10 +98,16 @@ impl Kind {
     /// and 44): its places and values are a meaning, any two meanings have the same value on each part of its places, and the
     /// size and the first base are those of each meaning. A law, with nothing to do.
     pub fn means(&self)
-        ensures meaning { IsMeaningOf self.now (record { places = kind_places self.now; value = kind_value self.now }) }
-        ensures agree { (f g : SetFunction) → IsValueOf self.now f → IsValueOf self.now g → (s : List Bool) → length s ≡ length (kind_places self.now) → f s ≡ g s }
-        ensures size { (f : SetFunction) → IsValueOf self.now f → size_by self.now f ≡ kind_size self.now }
-        ensures starts { (f : SetFunction) (q : ℤ) → IsValueOf self.now f → IsStartOf self.now f q (kind_start self.now q) }
+        ensures meaning { IsMeaningOf self.now (record {
+          places = kind_places self.now;
+          value = kind_value self.now;
+        }) }
+        ensures agree { (f g : SetFunction) → IsValueOf self.now f → IsValueOf self.now g
+            → (s : List Bool) → length s ≡ length (kind_places self.now) → f s ≡ g s }
+        ensures size { (f : SetFunction) → IsValueOf self.now f
+            → size_by self.now f ≡ kind_size self.now }
+        ensures starts { (f : SetFunction) (q : ℤ) → IsValueOf self.now f
+            → IsStartOf self.now f q (kind_start self.now q) }
     {}
 }
 

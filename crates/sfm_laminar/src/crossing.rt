@@ -60,7 +60,9 @@ fn cross(a: &CappedGroup, b: &CappedGroup) -> bool
 /// The first group before a second one that crosses it, if there is one.
 fn first_before(groups: &Groups, second: usize) -> Option<usize>
     requires { second < length groups.now }
-    ensures { MatchOption result ((i : ℕ) → i < second → IsCrossing groups.now i second → ⊥) (λ i. IsCrossing groups.now i second × ((a : ℕ) → a < i → IsCrossing groups.now a second → ⊥)) }
+    ensures { MatchOption result ((i : ℕ) → i < second → IsCrossing groups.now i second → ⊥)
+        (λ i. IsCrossing groups.now i second × ((a : ℕ) → a < i → IsCrossing groups.now a second
+        → ⊥)) }
 {
     for first in 0..second {
         let a = groups.group(first);
@@ -91,7 +93,9 @@ fn is_repeated(groups: &Groups, second: usize) -> bool
 fn first_new_before(groups: &Groups, second: usize) -> Option<usize>
     requires place { second < length groups.now }
     requires none { (i j : ℕ) → j < second → IsCrossing groups.now i j → ⊥ }
-    ensures { MatchOption result ((i : ℕ) → i < second → IsCrossing groups.now i second → ⊥) (λ i. IsCrossing groups.now i second × ((a : ℕ) → a < i → IsCrossing groups.now a second → ⊥)) }
+    ensures { MatchOption result ((i : ℕ) → i < second → IsCrossing groups.now i second → ⊥)
+        (λ i. IsCrossing groups.now i second × ((a : ℕ) → a < i → IsCrossing groups.now a second
+        → ⊥)) }
 {
     if is_repeated(groups, second) {
         return None;
@@ -101,7 +105,8 @@ fn first_new_before(groups: &Groups, second: usize) -> Option<usize>
 
 /// The crossing with the least second group, and of these with the least first, if there is one.
 pub(crate) fn first_crossing(groups: &Groups) -> Option<Crossing>
-    ensures { MatchOption result (NoneCross groups.now) (λ r. IsFirstCrossing groups.now r.first r.second) }
+    ensures { MatchOption result (NoneCross groups.now)
+        (λ r. IsFirstCrossing groups.now r.first r.second) }
 {
     for second in 0..groups.len() {
         if let Some(first) = first_new_before(groups, second) {

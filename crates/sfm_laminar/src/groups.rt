@@ -85,7 +85,10 @@ impl Groups {
         requires low { pos 0 ≤ℤ cap }
         requires given { IsGiven cap }
         requires ascending { IsAscending members.items }
-        ensures { self.new ≡ (if is_ok result then self.old ++ record { cap = cap; members = members.items } ∷ [] else self.old) }
+        ensures { self.new ≡ (if is_ok result then self.old ++ record {
+          cap = cap;
+          members = members.items;
+        } ∷ [] else self.old) }
     {
         self.items.push(CappedGroup::new(cap, members))?;
         Ok(())

@@ -22,7 +22,8 @@ fn zeros(alloc: Global, groups: &Groups) -> Result<Vec<usize>, Memory>
 
 /// Whether one of the numbered groups has as many places as it may.
 fn has_full(groups: &Groups, numbers: &[usize], counts: &[usize]) -> bool
-    requires numbers { (p : ℕ) → p < length numbers.now → slice_index_or numbers.now p 0 < length groups.now }
+    requires numbers { (p : ℕ) → p < length numbers.now → slice_index_or numbers.now p 0
+        < length groups.now }
     requires counts { length counts.now ≡ length groups.now }
     ensures { IsTrue result ↔ HasFull groups.now numbers.now counts.now }
 {
@@ -36,7 +37,8 @@ fn has_full(groups: &Groups, numbers: &[usize], counts: &[usize]) -> bool
 
 /// Counts one place more for each of the numbered groups.
 fn raise(numbers: &[usize], counts: &mut [usize])
-    requires numbers { (p : ℕ) → p < length numbers.now → slice_index_or numbers.now p 0 < length counts.old }
+    requires numbers { (p : ℕ) → p < length numbers.now → slice_index_or numbers.now p 0
+        < length counts.old }
     requires ascending { IsAscending numbers.now }
     requires few { (i : ℕ) → slice_index_or counts.old i 0 ≤ 256 }
     ensures { counts.new ≡ raised counts.old numbers.now (length numbers.now) }

@@ -66,7 +66,8 @@ impl Index {
     /// The numbers of the groups that hold a place.
     pub(crate) fn of(&self, e: usize) -> &[usize]
         requires { e < length self.now }
-        ensures { (k : ℕ) (groups : List Group) → IsIndex k groups self.now → AreHoldersOf groups e result.now }
+        ensures { (k : ℕ) (groups : List Group) → IsIndex k groups self.now
+            → AreHoldersOf groups e result.now }
     {
         let holders = &self.holders[e];
         holders.numbers.as_slice()

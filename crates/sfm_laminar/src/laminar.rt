@@ -98,7 +98,8 @@ impl Laminar {
         requires low { pos 0 ≤ℤ w }
         requires given { IsGiven w }
         requires below { All (IsBelow (length elements.now)) groups }
-        ensures crosses { (first second : ℕ) → (result ≡ Err (LaminarEnd.Crosses first second)) ↔ IsFirstCrossing groups first second }
+        ensures crosses { (first second : ℕ) → (result ≡ Err (LaminarEnd.Crosses first second))
+            ↔ IsFirstCrossing groups first second }
         ensures tried { (result ≡ Err LaminarEnd.Memory) → NoneCross groups }
         ensures none { OnOk result (NoneCross groups) }
         ensures places { IfOk result (λ r. r.places ≡ elements.now) }
@@ -150,8 +151,10 @@ impl Laminar {
     /// `Memory` where there is none.
     pub fn rank(&self, alloc: Global, s: &Set) -> Result<i128, Memory>
         requires { length s.now ≡ length self.now.places }
-        ensures rank { IfOk result (λ r. r ≡ pos (rank (length self.now.places) self.now.groups s.now)) }
-        ensures greatest { IfOk result (λ r. (n : ℕ) × (r ≡ pos n) × IsRank (IsWithinCaps self.now.groups) s.now n) }
+        ensures rank { IfOk result (λ r. r ≡ pos (rank (length self.now.places) self.now.groups
+            s.now)) }
+        ensures greatest { IfOk result (λ r. (n : ℕ) × (r ≡ pos n)
+            × IsRank (IsWithinCaps self.now.groups) s.now n) }
     {
         let most = grow(alloc, &self.groups, &self.index, s)?;
         Ok(most.size() as i128)
@@ -159,7 +162,8 @@ impl Laminar {
 
     /// The value of each part is w times its rank: a law, with nothing to do.
     pub fn values_are_ranks(&self)
-        ensures { IsRankFunction (length self.now.places) self.now.w (IsWithinCaps self.now.groups) (laminar_value (length self.now.places) self.now.w self.now.groups) }
+        ensures { IsRankFunction (length self.now.places) self.now.w (IsWithinCaps self.now.groups)
+            (laminar_value (length self.now.places) self.now.w self.now.groups) }
     {}
 
     /// The value of a count of elements that are independent together.
@@ -184,8 +188,10 @@ impl Laminar {
     pub fn start_of(&self, q: i128, x: &mut [i128])
         requires factor { IsFactor q }
         requires entries { length x.old ≡ length self.now.places }
-        ensures start { x.new ≡ laminar_start (length self.now.places) q self.now.w self.now.groups }
-        ensures greedy { IsGreedy q (laminar_value (length self.now.places) self.now.w self.now.groups) (length self.now.places) x.new }
+        ensures start { x.new ≡ laminar_start (length self.now.places) q self.now.w
+            self.now.groups }
+        ensures greedy { IsGreedy q (laminar_value (length self.now.places) self.now.w
+            self.now.groups) (length self.now.places) x.new }
     {
         write_each(x, |j| self.share(q, j));
     }
@@ -194,7 +200,8 @@ impl Laminar {
     fn share(&self, q: i128, j: usize) -> i128
         requires factor { IsFactor q }
         requires place { j < length self.now.places }
-        ensures { result ≡ slice_index_or (laminar_start (length self.now.places) q self.now.w self.now.groups) j (pos 0) }
+        ensures { result ≡ slice_index_or (laminar_start
+            (length self.now.places) q self.now.w self.now.groups) j (pos 0) }
     {
         if !self.basis.contains(j) {
             return 0;
@@ -239,7 +246,8 @@ impl Laminar {
         requires factor { IsFactor q }
         requires entries { length x.now ≡ length self.now.places }
         requires small { All IsEntry x.now }
-        ensures { IsTrue result ↔ ((i : ℕ) → i < length self.now.groups → pos 0 ≤ℤ slack_of q self.now.w x.now (group_at self.now.groups i)) }
+        ensures { IsTrue result ↔ ((i : ℕ) → i < length self.now.groups
+            → pos 0 ≤ℤ slack_of q self.now.w x.now (group_at self.now.groups i)) }
     {
         for i in 0..self.groups.len() {
             if self.slack(q, x, i) < 0 {
@@ -262,7 +270,8 @@ impl Laminar {
         requires factor { IsFactor q }
         requires entries { length x.now ≡ length self.now.places }
         requires small { All IsEntry x.now }
-        ensures { IsTrue result ↔ (total_of x.now ≡ (q *ℤ laminar_size (length self.now.places) self.now.w self.now.groups)) }
+        ensures { IsTrue result ↔ (total_of x.now ≡ (q *ℤ laminar_size
+            (length self.now.places) self.now.w self.now.groups)) }
     {
         has_sum(x, product(q, self.most()))
     }
@@ -272,7 +281,8 @@ impl Laminar {
         requires factor { IsFactor q }
         requires entries { length x.now ≡ length self.now.places }
         requires small { All IsEntry x.now }
-        ensures { IsTrue result ↔ IsBase (times q (laminar_value (length self.now.places) self.now.w self.now.groups)) x.now }
+        ensures { IsTrue result ↔ IsBase (times q (laminar_value
+            (length self.now.places) self.now.w self.now.groups)) x.now }
     {
         if !self.are_capped(q, x) {
             return false;
@@ -311,7 +321,8 @@ impl Laminar {
         requires group { i < length self.now.groups }
         requires place { v < length self.now.places }
         ensures member { IsTrue result ↔ Contains (group_at self.now.groups i).members v }
-        ensures masked { result ≡ slice_index_or (mask (length self.now.places) (group_at self.now.groups i).members) v false }
+        ensures masked { result ≡ slice_index_or (mask (length self.now.places)
+            (group_at self.now.groups i).members) v false }
     {
         self.mask(i).contains(v)
     }
@@ -361,12 +372,14 @@ impl Laminar {
         requires factor { IsFactor q }
         requires entries { length x.now ≡ length self.now.places }
         requires small { All IsEntry x.now }
-        requires base { IsBase (times q (laminar_value (length self.now.places) self.now.w self.now.groups)) x.now }
+        requires base { IsBase (times q (laminar_value (length self.now.places) self.now.w
+            self.now.groups)) x.now }
         requires noted { IfSome note (λ n. laminar_fits self.now.w self.now.groups n.now q x.now) }
         requires apart { u ≢ v }
         requires from { u < length x.now }
         requires onto { v < length x.now }
-        ensures { IsRoom (times q (laminar_value (length self.now.places) self.now.w self.now.groups)) x.now u v result }
+        ensures { IsRoom (times q (laminar_value (length self.now.places) self.now.w
+            self.now.groups)) x.now u v result }
     {
         Room::Upto(self.least_left(q, x, note, u, v))
     }
@@ -377,11 +390,13 @@ impl Laminar {
         requires factor { IsFactor q }
         requires entries { length x.now ≡ length self.now.places }
         requires small { All IsEntry x.now }
-        requires base { IsBase (times q (laminar_value (length self.now.places) self.now.w self.now.groups)) x.now }
+        requires base { IsBase (times q (laminar_value (length self.now.places) self.now.w
+            self.now.groups)) x.now }
         requires apart { u ≢ v }
         requires from { u < length x.now }
         requires onto { v < length x.now }
-        ensures { IsRoom (times q (laminar_value (length self.now.places) self.now.w self.now.groups)) x.now u v result }
+        ensures { IsRoom (times q (laminar_value (length self.now.places) self.now.w
+            self.now.groups)) x.now u v result }
     {
         self.room_noted(q, x, None, u, v)
     }
@@ -393,7 +408,8 @@ impl Laminar {
         requires small { All IsEntry x.now }
         requires noted { IfSome note (λ n. laminar_fits self.now.w self.now.groups n.now q x.now) }
         requires group { i < length self.now.groups }
-        ensures { IsTrue result ↔ (slack_of q self.now.w x.now (group_at self.now.groups i) ≡ pos 0) }
+        ensures { IsTrue result ↔ (slack_of q self.now.w x.now (group_at self.now.groups i)
+            ≡ pos 0) }
     {
         self.slack_by(q, x, note, i) == 0
     }
@@ -422,7 +438,8 @@ impl Laminar {
         requires noted { IfSome note (λ n. laminar_fits self.now.w self.now.groups n.now q x.now) }
         requires from { u < length x.now }
         requires sized { length to.old ≡ length self.now.places }
-        ensures { IsKept to.old to.new (IsHeld q self.now.w self.now.groups x.now u (length self.now.groups)) }
+        ensures { IsKept to.old to.new (IsHeld q self.now.w self.now.groups x.now u
+            (length self.now.groups)) }
     {
         let holders = self.holders(u);
         for i in holders {
@@ -446,11 +463,13 @@ impl Laminar {
         requires factor { IsFactor q }
         requires entries { length x.now ≡ length self.now.places }
         requires small { All IsEntry x.now }
-        requires base { IsBase (times q (laminar_value (length self.now.places) self.now.w self.now.groups)) x.now }
+        requires base { IsBase (times q (laminar_value (length self.now.places) self.now.w
+            self.now.groups)) x.now }
         requires noted { IfSome note (λ n. laminar_fits self.now.w self.now.groups n.now q x.now) }
         requires from { u < length x.now }
         requires sized { length to.old ≡ length x.now }
-        ensures { IsReach (times q (laminar_value (length self.now.places) self.now.w self.now.groups)) x.now u to.new }
+        ensures { IsReach (times q (laminar_value (length self.now.places) self.now.w
+            self.now.groups)) x.now u to.new }
     {
         if !self.lacks(q, x, u) {
             to.clear();
@@ -467,11 +486,13 @@ impl Laminar {
         requires factor { IsFactor q }
         requires entries { length x.now ≡ length self.now.places }
         requires small { All IsEntry x.now }
-        requires base { IsBase (times q (laminar_value (length self.now.places) self.now.w self.now.groups)) x.now }
+        requires base { IsBase (times q (laminar_value (length self.now.places) self.now.w
+            self.now.groups)) x.now }
         requires from { u < length x.now }
         requires room_for_answer { length to.old ≡ length x.now }
         ensures places { length to.new ≡ length to.old }
-        ensures reached { IsReach (times q (laminar_value (length self.now.places) self.now.w self.now.groups)) x.now u to.new }
+        ensures reached { IsReach (times q (laminar_value (length self.now.places) self.now.w
+            self.now.groups)) x.now u to.new }
     {
         self.reach_noted(q, x, None, u, to);
     }
@@ -495,7 +516,8 @@ impl Laminar {
         requires group { i < length self.now.groups }
         requires place { v < length self.now.places }
         requires low { pos 0 ≤ℤ a }
-        ensures value { result ≡ share_of (length self.now.places) (group_at self.now.groups i) v a }
+        ensures value { result ≡ share_of (length self.now.places)
+            (group_at self.now.groups i) v a }
         ensures low { pos 0 ≤ℤ result }
         ensures high { result ≤ℤ a }
     {
@@ -510,7 +532,9 @@ impl Laminar {
         requires onto { v < length self.now.places }
         requires low { pos 0 ≤ℤ a }
         requires high { a ≤ℤ pos (10 ^ 30) }
-        ensures { result ≡ ((slack -ℤ share_of (length self.now.places) (group_at self.now.groups i) u a) +ℤ share_of (length self.now.places) (group_at self.now.groups i) v a) }
+        ensures { result ≡ ((slack -ℤ share_of (length self.now.places)
+            (group_at self.now.groups i) u a) +ℤ share_of (length self.now.places)
+            (group_at self.now.groups i) v a) }
     {
         slack - self.share_in(i, u, a) + self.share_in(i, v, a)
     }
@@ -524,7 +548,10 @@ impl Laminar {
         requires low { pos 0 ≤ℤ a }
         requires high { a ≤ℤ pos (10 ^ 30) }
         ensures places { length slacks.new ≡ length slacks.old }
-        ensures moved { (i : ℕ) → i < length slacks.old → slice_index_or slacks.new i (pos 0) ≡ ((slice_index_or slacks.old i (pos 0) -ℤ share_of (length self.now.places) (group_at self.now.groups i) u a) +ℤ share_of (length self.now.places) (group_at self.now.groups i) v a) }
+        ensures moved { (i : ℕ) → i < length slacks.old → slice_index_or slacks.new i (pos 0)
+            ≡ ((slice_index_or slacks.old i (pos 0) -ℤ share_of (length self.now.places)
+            (group_at self.now.groups i) u a) +ℤ share_of (length self.now.places)
+            (group_at self.now.groups i) v a) }
     {
         for i in 0..slacks.len() {
             slacks[i] = self.moved_slack(slacks[i], i, u, v, a);
@@ -553,11 +580,14 @@ impl Term for Laminar {
 
     ghost submodular = { λ s. laminar-submodular (length s.places) s.w s.groups s.low s.grouped };
 
-    ghost bounded = { λ s t a h e. laminar-bounded (length s.places) s.w s.groups s.low s.grouped t a h e };
+    ghost bounded = { λ s t a h e. laminar-bounded (length s.places) s.w s.groups s.low s.grouped t
+        a h e };
 
-    ghost starts = { λ s q low. laminar-starts (length s.places) s.w s.groups s.low s.grouped q low };
+    ghost starts = { λ s q low. laminar-starts (length s.places) s.w s.groups s.low s.grouped q
+        low };
 
-    ghost starts_small = { λ s q low. laminar-starts_small (length s.places) s.w s.groups s.low s.grouped q low };
+    ghost starts_small = { λ s q low. laminar-starts_small (length s.places) s.w s.groups s.low
+        s.grouped q low };
 
     fn elements(&self) -> &[usize] {
         self.places.as_slice()

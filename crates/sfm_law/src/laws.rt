@@ -54,11 +54,15 @@ pub fn order_of_exchanges<T: Term>(
     requires placed { ArePlaced _n (meanings T.places T.value_of _terms.now) }
     requires bases { AreBases _q (meanings T.places T.value_of _terms.now) _rows.now }
     requires amount { pos 1 ≤ℤ _a }
-    ensures { (steps : List Step) → IsShortest (meanings T.places T.value_of _terms.now) _q _shift.now _rows.now _first steps
+    ensures { (steps : List Step) → IsShortest (meanings T.places T.value_of _terms.now) _q
+        _shift.now _rows.now _first steps
         → AllCanMove (meanings T.places T.value_of _terms.now) _q _rows.now _first steps _a
-        → _a ≤ℤ neg_ℤ (rest_at (meanings T.places T.value_of _terms.now) _rows.now _shift.now _first)
-        → _a ≤ℤ rest_at (meanings T.places T.value_of _terms.now) _rows.now _shift.now (last_of _first steps)
-        → MoveLaws (meanings T.places T.value_of _terms.now) _n _q _shift.now _rows.now _first steps _a }
+        → _a ≤ℤ neg_ℤ (rest_at (meanings T.places T.value_of _terms.now) _rows.now _shift.now
+        _first)
+        → _a ≤ℤ rest_at (meanings T.places T.value_of _terms.now) _rows.now _shift.now
+        (last_of _first steps)
+        → MoveLaws (meanings T.places T.value_of _terms.now) _n _q _shift.now _rows.now _first steps
+        _a }
 {}
 
 /// Along ascending slopes minimisers nest, and what makes a list of slopes and sets all breakpoints in order, over
@@ -76,7 +80,8 @@ pub fn chain_of_slopes<T: Term>(_terms: &[T], _n: usize, _sizes: &[i128])
 pub fn blocks_generate<T: Term>(_terms: &[T], _n: usize, _q: i128, _shift: &[i128])
     requires factor { pos 0 ≤ℤ _q }
     requires placed { ArePlaced _n (meanings T.places T.value_of _terms.now) }
-    ensures { (blocks : List Block) → AreBlocks (meanings T.places T.value_of _terms.now) _n _q _shift.now blocks
+    ensures { (blocks : List Block) → AreBlocks (meanings T.places T.value_of _terms.now) _n _q
+        _shift.now blocks
         → Generate (meanings T.places T.value_of _terms.now) _n _q _shift.now blocks }
 {}
 

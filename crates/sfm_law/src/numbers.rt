@@ -56,7 +56,8 @@ pub fn least_left(x: &[i128], u: usize, v: usize, most: i128) -> i128
     requires most { IsAtMost (10 ^ 27) most }
     requires from { u < length x.now }
     requires onto { v < length x.now }
-    ensures { result ≡ int_min (slice_index_or x.now v (pos 0)) (most -ℤ slice_index_or x.now u (pos 0)) }
+    ensures { result ≡ int_min (slice_index_or x.now v (pos 0))
+        (most -ℤ slice_index_or x.now u (pos 0)) }
 {
     let left = most - x[u];
     x[v].min(left)

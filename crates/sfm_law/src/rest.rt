@@ -25,10 +25,12 @@ pub fn rest_of<T: Term>(
     requires placed { All (IsPlaced (length shift.now)) (map T.places terms.now) }
     requires few { sum (map length (map T.places terms.now)) ≤ 16384 }
     requires rows { length bases.now ≡ length terms.now }
-    requires entries { (i : ℕ) → i < length terms.now → length (base_at bases.now i) ≡ length (term_at (meanings T.places T.value_of terms.now) i).places }
+    requires entries { (i : ℕ) → i < length terms.now → length (base_at bases.now i)
+        ≡ length (term_at (meanings T.places T.value_of terms.now) i).places }
     requires small { All (λ x. All IsEntry x) bases.now }
     requires shifts { magnitudes shift.now ≤ℤ pos (10 ^ 36) }
-    ensures { IfOk result (λ z. IsRest (meanings T.places T.value_of terms.now) shift.now bases.now z.items) }
+    ensures { IfOk result (λ z. IsRest (meanings T.places T.value_of terms.now) shift.now bases.now
+        z.items) }
 {
     let mut z = negated(alloc, shift)?;
     for (i, term) in terms.iter().enumerate() {
@@ -56,7 +58,8 @@ fn add_row(places: &[usize], row: &[i128], z: &mut [i128])
     requires entries { length row.now ≡ length places.now }
     requires small { All IsEntry row.now }
     requires room { All (IsAtMost (2 * 10 ^ 36)) z.old }
-    ensures { (e : ℕ) → e < length z.old → slice_index_or z.new e (pos 0) ≡ slice_index_or z.old e (pos 0) +ℤ entry_at places.now row.now e }
+    ensures { (e : ℕ) → e < length z.old → slice_index_or z.new e (pos 0)
+        ≡ slice_index_or z.old e (pos 0) +ℤ entry_at places.now row.now e }
 {
     for (j, place) in places.iter().enumerate() {
         z[*place] += row[j];

@@ -235,11 +235,15 @@ pub trait Term {
     ghost submodular: { (term : Self) → IsSubmodular (length (places term)) (value_of term) };
 
     /// Each value lies between -size and size.
-    ghost bounded: { (term : Self) (s : List Bool) (a : ℤ) → length s ≡ length (places term) → value_of term s ≡ Some a → (neg_ℤ (size_of term) ≤ℤ a) × (a ≤ℤ size_of term) };
+    ghost bounded: { (term : Self) (s : List Bool) (a : ℤ) → length s ≡ length (places term)
+        → value_of term s ≡ Some a → (neg_ℤ (size_of term) ≤ℤ a) × (a ≤ℤ size_of term) };
 
     /// The start is a base.
-    ghost starts: { (term : Self) (q : ℤ) → pos 1 ≤ℤ q → (length (start_of term q) ≡ length (places term)) × IsBase (times q (value_of term)) (start_of term q) };
+    ghost starts: { (term : Self) (q : ℤ) → pos 1 ≤ℤ q → (length (start_of term q)
+        ≡ length (places term)) × IsBase (times q (value_of term)) (start_of term q) };
 
     /// Each entry of the start lies between -2·q·size and 2·q·size.
-    ghost starts_small: { (term : Self) (q : ℤ) → pos 1 ≤ℤ q → All (λ a. (neg_ℤ (pos 2 *ℤ q *ℤ size_of term) ≤ℤ a) × (a ≤ℤ (pos 2 *ℤ q *ℤ size_of term))) (start_of term q) };
+    ghost starts_small: { (term : Self) (q : ℤ) → pos 1 ≤ℤ q
+        → All (λ a. (neg_ℤ (pos 2 *ℤ q *ℤ size_of term) ≤ℤ a) × (a ≤ℤ (pos 2 *ℤ q *ℤ size_of term)))
+        (start_of term q) };
 }

@@ -47,7 +47,8 @@ pub fn put_over(x: &[i128], bar: Option<i128>, to: &mut Set)
     requires small { All IsEntry x.now }
     requires room_for_answer { length to.old ≡ length x.now }
     ensures places { length to.new ≡ length to.old }
-    ensures over { (v : ℕ) → v < length x.now → Has to.new v ↔ IsOver bar (slice_index_or x.now v (pos 0)) }
+    ensures over { (v : ℕ) → v < length x.now → Has to.new v
+        ↔ IsOver bar (slice_index_or x.now v (pos 0)) }
 {
     for (v, a) in x.iter().enumerate() {
         to.put(v, is_over(bar, *a));
@@ -60,7 +61,8 @@ pub fn put_others_over(x: &[i128], u: usize, bar: Option<i128>, to: &mut Set)
     requires from { u < length x.now }
     requires room_for_answer { length to.old ≡ length x.now }
     ensures places { length to.new ≡ length to.old }
-    ensures over { (v : ℕ) → v < length x.now → Has to.new v ↔ ((v ≢ u) × IsOver bar (slice_index_or x.now v (pos 0))) }
+    ensures over { (v : ℕ) → v < length x.now → Has to.new v
+        ↔ ((v ≢ u) × IsOver bar (slice_index_or x.now v (pos 0))) }
 {
     put_over(x, bar, to);
     to.remove(u);

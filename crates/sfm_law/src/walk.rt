@@ -34,7 +34,10 @@ impl WalkSteps {
 
     /// Puts a step behind the others: the place at which it ends, and its term.
     pub fn push(&mut self, to: usize, term: usize) -> Result<(), Memory>
-        ensures { self.new ≡ (if is_ok result then self.old ++ record { to = to; term = term } ∷ [] else self.old) }
+        ensures { self.new ≡ (if is_ok result then self.old ++ record {
+          to = to;
+          term = term;
+        } ∷ [] else self.old) }
     {
         self.steps.push((to, term))?;
         Ok(())

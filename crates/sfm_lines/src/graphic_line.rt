@@ -44,8 +44,11 @@ fn add_edges<'a, 'b>(
     tokens: &[&'a [u8]],
 ) -> Result<bool, AllocError>
     ensures { IfOk result (λ r. MatchBool r
-        ((entries : List (List ℕ × List (List ℕ))) × AllZip (IsLabelToken GraphicRank) (texts_of tokens.now) entries × (parts_of parts.new ≡ with_labelled (parts_of parts.old) entries))
-        ((entries : List (List ℕ × List (List ℕ))) → AllZip (IsLabelToken GraphicRank) (texts_of tokens.now) entries → ⊥)) }
+        ((entries : List (List ℕ × List (List ℕ)))
+        × AllZip (IsLabelToken GraphicRank) (texts_of tokens.now) entries
+        × (parts_of parts.new ≡ with_labelled (parts_of parts.old) entries))
+        ((entries : List (List ℕ × List (List ℕ)))
+        → AllZip (IsLabelToken GraphicRank) (texts_of tokens.now) entries → ⊥)) }
 {
     for token in tokens {
         let Some((element, tail, head)) = cut_edge(token) else {
@@ -65,8 +68,10 @@ fn edge_parts<'a, 'b>(
     tokens: &[&'a [u8]],
 ) -> Result<Option<Parts<'a, 'b>>, AllocError>
     ensures { IfOk result (λ r. MatchOption r
-        ((entries : List (List ℕ × List (List ℕ))) → AreLabelled GraphicRank (texts_of tokens.now) entries → ⊥)
-        (λ parts. (entries : List (List ℕ × List (List ℕ))) × AreLabelled GraphicRank (texts_of tokens.now) entries
+        ((entries : List (List ℕ × List (List ℕ)))
+        → AreLabelled GraphicRank (texts_of tokens.now) entries → ⊥)
+        (λ parts. (entries : List (List ℕ × List (List ℕ)))
+        × AreLabelled GraphicRank (texts_of tokens.now) entries
         × (parts_of parts ≡ labelled_parts_of GraphicRank number.now entries))) }
 {
     if tokens.is_empty() {
@@ -84,7 +89,8 @@ pub fn graphic_parts<'a, 'b>(
     alloc: Global,
     tokens: &'b [&'a [u8]],
 ) -> Result<Option<Parts<'a, 'b>>, AllocError>
-    ensures { IfOk result (HasLineParts (IsLabelledLine GraphicRank (codes "graphic")) (texts_of tokens.now)) }
+    ensures { IfOk result (HasLineParts (IsLabelledLine GraphicRank (codes "graphic"))
+        (texts_of tokens.now)) }
 {
     let Some((number, behind)) = cut_head(b"graphic", tokens) else {
         return Ok(None);
@@ -100,7 +106,9 @@ fn ends(
 ) -> Result<Vec<(u32, u32)>, Memory>
     requires few { length names.now.keys < 2 ^ 24 }
     requires two { All (λ texts. length texts ≡ 2) (label_lists_of labels.now) }
-    ensures { IfOk result (λ r. edges_of r.items ≡ map (λ texts. edge_between (map (place_among (texts_of names.now.keys)) texts)) (label_lists_of labels.now)) }
+    ensures { IfOk result (λ r. edges_of r.items ≡ map
+        (λ texts. edge_between (map (place_among (texts_of names.now.keys)) texts))
+        (label_lists_of labels.now)) }
 {
     let mut ends = Vec::new(alloc);
     for element in labels {
@@ -115,7 +123,8 @@ fn ends(
 fn numbered_ends(alloc: Global, labels: &[Labels]) -> Result<Vec<(u32, u32)>, Memory>
     requires few { length (joined (label_lists_of labels.now)) < 2 ^ 24 }
     requires two { All (λ texts. length texts ≡ 2) (label_lists_of labels.now) }
-    ensures { IfOk result (λ r. edges_of r.items ≡ map edge_between (numbers_of (label_lists_of labels.now))) }
+    ensures { IfOk result (λ r. edges_of r.items ≡ map edge_between
+        (numbers_of (label_lists_of labels.now))) }
 {
     let names = different(alloc, labels)?;
     ends(alloc, &names, labels)

@@ -35,7 +35,8 @@ fn is_one_of(texts: &[&[u8]], text: &[u8]) -> bool
 
 /// Whether a text is one of the texts of which these are the different ones.
 pub fn is_known(known: &IndexSet<&[u8]>, text: &[u8]) -> bool
-    ensures { (texts : List (List ℕ)) → texts_of known.now.keys ≡ distinct_of texts → result ≡ is_among texts text.now }
+    ensures { (texts : List (List ℕ)) → texts_of known.now.keys ≡ distinct_of texts
+        → result ≡ is_among texts text.now }
 {
     known.contains(text)
 }
@@ -58,7 +59,8 @@ fn are_among(elements: &[&[u8]], names: &[&[u8]]) -> bool
 pub fn are_members(elements: &[&[u8]], groups: &[&[&[u8]]]) -> bool
     ensures { MatchBool result
         (All (λ names. All (Contains (texts_of elements.now)) names) (text_lists_of groups.now))
-        (Any (λ names. Any (λ name. Contains (texts_of elements.now) name → ⊥) names) (text_lists_of groups.now)) }
+        (Any (λ names. Any (λ name. Contains (texts_of elements.now) name → ⊥) names)
+        (text_lists_of groups.now)) }
 {
     for names in groups {
         if !are_among(elements, names) {
@@ -98,7 +100,8 @@ pub fn has_member_twice(groups: &[&[&[u8]]]) -> bool
 
 /// The places in the line of those elements that are among the names, in ascending order.
 pub fn members(alloc: Global, elements: &[&[u8]], names: &[&[u8]]) -> Result<Vec<usize>, AllocError>
-    ensures members { IfOk result (λ r. r.items ≡ members_of (texts_of elements.now) (texts_of names.now)) }
+    ensures members { IfOk result (λ r. r.items ≡ members_of (texts_of elements.now)
+        (texts_of names.now)) }
 {
     let mut members = Vec::new(alloc);
     for e in 0..elements.len() {
@@ -118,7 +121,8 @@ fn line_groups(
     requires each { length values.now ≡ length (parts_of parts.now).groups + 1 }
     requires low { All (λ value. pos 0 ≤ℤ value) values.now }
     requires small { All (IsAtMost (10 ^ 12)) values.now }
-    ensures { IfOk result (λ r. r.items ≡ least_groups (groups_of values.now (parts_of parts.now))) }
+    ensures { IfOk result (λ r. r.items ≡ least_groups
+        (groups_of values.now (parts_of parts.now))) }
 {
     let mut groups = Vec::new(alloc);
     for i in 0..parts.groups.len() {

@@ -72,7 +72,8 @@ pub fn with_kept(
     requires below { All (IsBelow (length places.now)) kept.now }
     ensures { IfOk result (λ r. MatchOption r
         ((i : ℕ) × (j : ℕ) × IsCrossing kept.now i j)
-        (λ term. (term.places ≡ places.now) × (term.w ≡ w) × (term.groups ≡ kept.now) × ((i j : ℕ) → IsCrossing kept.now i j → ⊥))) }
+        (λ term. (term.places ≡ places.now) × (term.w ≡ w) × (term.groups ≡ kept.now)
+        × ((i j : ℕ) → IsCrossing kept.now i j → ⊥))) }
 {
     let groups = copied(alloc, kept)?;
     match Laminar::new(alloc, places, w, groups) {

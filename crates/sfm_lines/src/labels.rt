@@ -47,7 +47,8 @@ pub fn add_names<'a>(names: &mut IndexSet<&'a [u8]>, texts: &[&'a [u8]]) -> Resu
 
 /// The different labels of a line, in the order in which they first appear.
 pub fn different<'a>(alloc: Global, labels: &[Labels<'a>]) -> Result<IndexSet<&'a [u8]>, Memory>
-    ensures { IfOk result (λ r. texts_of r.keys ≡ distinct_of (joined (label_lists_of labels.now))) }
+    ensures { IfOk result (λ r. texts_of r.keys ≡ distinct_of
+        (joined (label_lists_of labels.now))) }
 {
     let mut names = IndexSet::new(alloc);
     for element in labels {
@@ -69,7 +70,8 @@ pub fn number_of(names: &IndexSet<&[u8]>, label: &[u8]) -> u32
 /// The numbers of labels.
 pub fn numbers(alloc: Global, names: &IndexSet<&[u8]>, labels: &[&[u8]]) -> Result<Vec<u32>, Memory>
     requires few { length names.now.keys < 2 ^ 24 }
-    ensures numbers { IfOk result (λ r. r.items ≡ map (place_among (texts_of names.now.keys)) (texts_of labels.now)) }
+    ensures numbers { IfOk result (λ r. r.items ≡ map (place_among (texts_of names.now.keys))
+        (texts_of labels.now)) }
     ensures small { IfOk result (λ r. All (λ v. v < 2 ^ 24) r.items) }
 {
     let mut numbers = Vec::new(alloc);

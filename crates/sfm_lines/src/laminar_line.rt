@@ -51,8 +51,11 @@ fn add_groups<'a, 'b>(
     pieces: &[&'b [&'a [u8]]],
 ) -> Result<bool, AllocError>
     ensures { IfOk result (λ r. MatchBool r
-        ((groups : List (List ℕ × List (List ℕ))) × AllZip IsGroupCut (text_lists_of pieces.now) groups × (parts_of parts.new ≡ with_groups (parts_of parts.old) groups))
-        ((groups : List (List ℕ × List (List ℕ))) → AllZip IsGroupCut (text_lists_of pieces.now) groups → ⊥)) }
+        ((groups : List (List ℕ × List (List ℕ))) × AllZip IsGroupCut
+        (text_lists_of pieces.now) groups × (parts_of parts.new
+        ≡ with_groups (parts_of parts.old) groups))
+        ((groups : List (List ℕ × List (List ℕ))) → AllZip IsGroupCut
+        (text_lists_of pieces.now) groups → ⊥)) }
 {
     for piece in pieces {
         let Some((cap, names)) = cut_group(piece) else {
@@ -72,8 +75,10 @@ fn group_parts<'a, 'b>(
     pieces: &[&'b [&'a [u8]]],
 ) -> Result<Option<Parts<'a, 'b>>, AllocError>
     ensures { IfOk result (λ r. MatchOption r
-        ((elements : List (List ℕ)) (groups : List (List ℕ × List (List ℕ))) → AreGroupsCut (text_lists_of pieces.now) elements groups → ⊥)
-        (λ parts. (elements : List (List ℕ)) × (groups : List (List ℕ × List (List ℕ))) × AreGroupsCut (text_lists_of pieces.now) elements groups
+        ((elements : List (List ℕ)) (groups : List (List ℕ × List (List ℕ)))
+        → AreGroupsCut (text_lists_of pieces.now) elements groups → ⊥)
+        (λ parts. (elements : List (List ℕ)) × (groups : List (List ℕ × List (List ℕ)))
+        × AreGroupsCut (text_lists_of pieces.now) elements groups
         × (parts_of parts ≡ laminar_parts_of number.now elements groups))) }
 {
     let Some((elements, rest)) = pieces.split_first() else {

@@ -38,7 +38,13 @@ impl<'a, 'b> Parts<'a, 'b> {
         numbers: &[&'a [u8]],
         elements: &[&'a [u8]],
     ) -> Result<Parts<'a, 'b>, AllocError>
-        ensures { IfOk result (λ parts. parts_of parts ≡ record { numbers = texts_of numbers.now; elements = texts_of elements.now; rank = rank; groups = []; labels = [] }) }
+        ensures { IfOk result (λ parts. parts_of parts ≡ record {
+          numbers = texts_of numbers.now;
+          elements = texts_of elements.now;
+          rank = rank;
+          groups = [];
+          labels = [];
+        }) }
     {
         let numbers = Vec::from_slice(alloc, numbers)?;
         let elements = Vec::from_slice(alloc, elements)?;

@@ -70,7 +70,8 @@ fn read_numbers(
     texts: &[&[u8]],
 ) -> Result<Option<Vec<i128>>, AllocError>
     ensures { IfOk result (λ r. MatchOption r
-        (Any (λ text. (value : ℤ) → IsNumberFrom (lowest_of word) text value → ⊥) (texts_of texts.now))
+        (Any (λ text. (value : ℤ) → IsNumberFrom (lowest_of word) text value → ⊥)
+        (texts_of texts.now))
         (λ values. AllZip (IsNumberFrom (lowest_of word)) (texts_of texts.now) values.items)) }
 {
     let mut values = Vec::new(alloc);
@@ -110,7 +111,8 @@ pub fn known_places(
     texts: &[&[u8]],
 ) -> Result<Vec<usize>, AllocError>
     requires { All (IsKnown instance.now.names) (texts_of texts.now) }
-    ensures { IfOk result (λ places. AllZip (IsElement instance.now.names) (texts_of texts.now) places.items) }
+    ensures { IfOk result (λ places. AllZip (IsElement instance.now.names)
+        (texts_of texts.now) places.items) }
 {
     let Some(places) = read_places(alloc, instance, texts)? else {
         unreachable!();
@@ -161,14 +163,20 @@ fn placed_term(
     places: &[usize],
 ) -> Result<Kind, LineEnd>
     requires shape { (rest : List (List ℕ)) × HasParts word rest (parts_of parts.now) }
-    requires numbers { AllZip (IsNumberFrom (lowest_of word)) (parts_of parts.now).numbers values.now }
-    requires elements { (names : List (List ℕ)) × AreElementNames names × AllZip (IsElement names) (parts_of parts.now).elements places.now }
+    requires numbers { AllZip (IsNumberFrom (lowest_of word))
+        (parts_of parts.now).numbers values.now }
+    requires elements { (names : List (List ℕ)) × AreElementNames names
+        × AllZip (IsElement names) (parts_of parts.now).elements places.now }
     requires other { (parts_of parts.now).rank ≢ TransversalRank }
     requires few { length (joined (parts_of parts.now).labels) < 2 ^ 24 }
-    ensures read { (instance : InstanceData) → AreElementNames instance.names → AllZip (IsElement instance.names) (parts_of parts.now).elements places.now
-        → IfOk result (λ term. (rest : List (List ℕ)) → HasParts word rest (parts_of parts.now) → IsTermRead instance word rest term) }
-    ensures refused { (instance : InstanceData) → AreElementNames instance.names → AllZip (IsElement instance.names) (parts_of parts.now).elements places.now
-        → IfErr result (λ e. (rest : List (List ℕ)) (line : List ℕ) → HasParts word rest (parts_of parts.now)
+    ensures read { (instance : InstanceData) → AreElementNames instance.names
+        → AllZip (IsElement instance.names) (parts_of parts.now).elements places.now
+        → IfOk result (λ term. (rest : List (List ℕ)) → HasParts word rest (parts_of parts.now)
+        → IsTermRead instance word rest term) }
+    ensures refused { (instance : InstanceData) → AreElementNames instance.names
+        → AllZip (IsElement instance.names) (parts_of parts.now).elements places.now
+        → IfErr result (λ e. (rest : List (List ℕ)) (line : List ℕ)
+        → HasParts word rest (parts_of parts.now)
         → IsLineOf line (word_text word ∷ rest)
         → IsLineRefusal (state_at Terms instance) line e) }
 {
@@ -192,8 +200,10 @@ fn parts_term(
     requires shape { (rest : List (List ℕ)) × HasParts word rest (parts_of parts.now) }
     requires other { (parts_of parts.now).rank ≢ TransversalRank }
     requires few { length (joined (parts_of parts.now).labels) < 2 ^ 24 }
-    ensures read { IfOk result (λ term. (rest : List (List ℕ)) → HasParts word rest (parts_of parts.now) → IsTermRead instance.now word rest term) }
-    ensures refused { IfErr result (λ e. (rest : List (List ℕ)) (line : List ℕ) → HasParts word rest (parts_of parts.now)
+    ensures read { IfOk result (λ term. (rest : List (List ℕ))
+        → HasParts word rest (parts_of parts.now) → IsTermRead instance.now word rest term) }
+    ensures refused { IfErr result (λ e. (rest : List (List ℕ)) (line : List ℕ)
+        → HasParts word rest (parts_of parts.now)
         → IsLineOf line (word_text word ∷ rest)
         → IsLineRefusal (state_at Terms instance.now) line e) }
 {

@@ -57,7 +57,8 @@ fn table_term(alloc: Global, values: &[i128], places: &[usize]) -> Result<Option
     requires { AreGiven TableWord values.now places.now }
     ensures { IfOk result (λ r. MatchOption r
         (IsSubmodular (length places.now) (table_value values.now) → ⊥)
-        (λ term. IsTermFor TableWord values.now places.now term × IsSubmodular (length places.now) (table_value values.now))) }
+        (λ term. IsTermFor TableWord values.now places.now term
+        × IsSubmodular (length places.now) (table_value values.now))) }
 {
     match Table::new(alloc, places, values) {
         Ok(table) => Ok(Some(Kind::Table(table))),
@@ -72,7 +73,8 @@ fn concave_term(alloc: Global, values: &[i128], places: &[usize]) -> Result<Opti
     requires { AreGiven ConcaveWord values.now places.now }
     ensures { IfOk result (λ r. MatchOption r
         ((at : ℕ) × RisesAt values.now at)
-        (λ term. IsTermFor ConcaveWord values.now places.now term × (((at : ℕ) × RisesAt values.now at) → ⊥))) }
+        (λ term. IsTermFor ConcaveWord values.now places.now term
+        × (((at : ℕ) × RisesAt values.now at) → ⊥))) }
 {
     match Concave::new(alloc, places, values) {
         Ok(concave) => Ok(Some(Kind::Concave(concave))),

@@ -46,7 +46,8 @@ pub fn uniform_parts<'a, 'b>(
 pub fn uniform_term(alloc: Global, values: &[i128], places: &[usize]) -> Result<Kind, Memory>
     requires given { AreGiven RankWord values.now places.now }
     requires two { length values.now ≡ 2 }
-    ensures { IfOk result (λ term. (parts : LineParts) → parts.rank ≡ UniformRank → IsTermOf RankWord parts values.now places.now term) }
+    ensures { IfOk result (λ term. (parts : LineParts) → parts.rank ≡ UniformRank
+        → IsTermOf RankWord parts values.now places.now term) }
 {
     let uniform = Uniform::new(alloc, places, values[0], values[1])?;
     Ok(Kind::Uniform(uniform))

@@ -103,7 +103,8 @@ impl Graphic {
     pub fn rank(&self, alloc: Global, s: &Set) -> Result<i128, Memory>
         requires { length s.now ≡ length self.now.places }
         ensures rank { IfOk result (λ r. r ≡ pos (graphic_rank self.now.ends s.now)) }
-        ensures greatest { IfOk result (λ r. (n : ℕ) × (r ≡ pos n) × IsRank (IsForest self.now.ends) s.now n) }
+        ensures greatest { IfOk result (λ r. (n : ℕ) × (r ≡ pos n)
+            × IsRank (IsForest self.now.ends) s.now n) }
     {
         let forest = grow(alloc, self.ends.as_slice(), s)?;
         Ok(forest.size() as i128)
@@ -111,7 +112,8 @@ impl Graphic {
 
     /// The value of each part is w times its rank: a law, with nothing to do.
     pub fn values_are_ranks(&self)
-        ensures { IsRankFunction (length self.now.places) self.now.w (IsForest self.now.ends) (graphic_value self.now.w self.now.ends) }
+        ensures { IsRankFunction (length self.now.places) self.now.w (IsForest self.now.ends)
+            (graphic_value self.now.w self.now.ends) }
     {}
 
     /// The root if it is an end of an edge, and else the tail of that.
@@ -138,7 +140,8 @@ impl Graphic {
     ) -> Result<(), Memory>
         requires base { IsGraphicBase (length self.now.places) self.now.w self.now.ends q x.now }
         requires vertex { root < vertex_count self.now.ends }
-        requires over { AreOverEnds (numbered self.now.ends) (vertex_count self.now.ends) note.old.pair }
+        requires over { AreOverEnds (numbered self.now.ends)
+            (vertex_count self.now.ends) note.old.pair }
         ensures root { OnOk result (note.new.root ≡ root) }
         ensures noted { OnOk result (graphic_fits self.now.w self.now.ends note.new q x.now) }
     {
@@ -186,7 +189,8 @@ impl Graphic {
     /// Takes the spare split in place of the one that is kept, if its root is an end of u. The other one is the spare then.
     fn take_spare(&self, note: &mut RootSplit, u: usize)
         requires place { u < length self.now.places }
-        requires over { AreOverEnds (numbered self.now.ends) (vertex_count self.now.ends) note.old.pair }
+        requires over { AreOverEnds (numbered self.now.ends)
+            (vertex_count self.now.ends) note.old.pair }
         ensures { AreOverEnds (numbered self.now.ends) (vertex_count self.now.ends) note.new.pair }
     {
         if self.has_near(note, u) {
@@ -218,11 +222,14 @@ impl Term for Graphic {
 
     ghost submodular = { λ s. graphic-submodular (length s.places) s.w s.ends s.same_count s.low };
 
-    ghost bounded = { λ s t a h e. graphic-bounded (length s.places) s.w s.ends s.same_count s.low t a h e };
+    ghost bounded = { λ s t a h e. graphic-bounded (length s.places) s.w s.ends s.same_count s.low t
+        a h e };
 
-    ghost starts = { λ s q low. graphic-starts (length s.places) s.w s.ends s.same_count s.low q low };
+    ghost starts = { λ s q low. graphic-starts (length s.places) s.w s.ends s.same_count s.low q
+        low };
 
-    ghost starts_small = { λ s q low. graphic-starts_small (length s.places) s.w s.ends s.same_count s.low q low };
+    ghost starts_small = { λ s q low. graphic-starts_small (length s.places) s.w s.ends s.same_count
+        s.low q low };
 
     fn elements(&self) -> &[usize] {
         self.places.as_slice()
@@ -255,7 +262,8 @@ impl Term for Graphic {
         requires factor { IsFactor q }
         requires entries { length x.old ≡ length self.now.places }
         ensures start { OnOk result (x.new ≡ graphic_start q self.now.w self.now.ends) }
-        ensures greedy { OnOk result (IsGreedy q (graphic_value self.now.w self.now.ends) (length self.now.places) x.new) }
+        ensures greedy { OnOk result (IsGreedy q (graphic_value self.now.w self.now.ends)
+            (length self.now.places) x.new) }
         ensures sure { IsOk result }
     {
         write_start(q, self.w, &self.basis, x);

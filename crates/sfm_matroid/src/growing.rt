@@ -30,8 +30,10 @@ fn rename(labels: &mut [(u32, u32)], from: u32, to: u32)
 fn take(labels: &mut [(u32, u32)], t: &mut Set, e: usize)
     requires edge { e < length labels.old }
     requires place { e < length t.old }
-    ensures labels { labels.new ≡ map (both_renamed (labels_at labels.old e).0 (labels_at labels.old e).1) labels.old }
-    ensures taken { t.new ≡ (if nat_eq (labels_at labels.old e).0 (labels_at labels.old e).1 then t.old else slice_set t.old e true) }
+    ensures labels { labels.new ≡ map (both_renamed (labels_at labels.old e).0
+        (labels_at labels.old e).1) labels.old }
+    ensures taken { t.new ≡ (if nat_eq (labels_at labels.old e).0
+        (labels_at labels.old e).1 then t.old else slice_set t.old e true) }
 {
     let (tail, head) = labels[e];
     if tail != head {

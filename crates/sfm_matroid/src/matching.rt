@@ -38,7 +38,11 @@ fn push_slots(
     requires amounts { All IsAmount x.now }
     requires below { All (All (λ v. v < length demand.old.capacities)) entries.now }
     requires none { (demand.old.demands ≡ []) × (demand.old.lists ≡ []) }
-    ensures { OnOk result (demand.new ≡ record { demands = x.now; lists = entries.now; capacities = demand.old.capacities }) }
+    ensures { OnOk result (demand.new ≡ record {
+      demands = x.now;
+      lists = entries.now;
+      capacities = demand.old.capacities;
+    }) }
 {
     let items = entries.as_slice();
     for e in 0..items.len() {
@@ -57,7 +61,11 @@ pub(crate) fn slot_demand(
     most: i128,
 ) -> Result<Demand, Memory>
     requires { AreSlotAmounts entries.now m most x.now }
-    ensures { IfOk result (λ r. r ≡ record { demands = x.now; lists = entries.now; capacities = replicate m most }) }
+    ensures { IfOk result (λ r. r ≡ record {
+      demands = x.now;
+      lists = entries.now;
+      capacities = replicate m most;
+    }) }
 {
     let capacities = vec![in alloc; most; m]?;
     let mut demand = Demand::new(alloc, &capacities)?;
@@ -70,7 +78,8 @@ fn untaken(alloc: Global, entries: &Entries, m: usize) -> Result<Kept, Memory>
     requires few { length entries.now ≤ 256 }
     requires few_slots { m ≤ 2 ^ 24 }
     requires below { All (All (λ v. v < m)) entries.now }
-    ensures { IfOk result (λ r. r.demand ≡ slot_demands entries.now m (pos 1) (replicate (length entries.now) (pos 0))) }
+    ensures { IfOk result (λ r. r.demand ≡ slot_demands entries.now m (pos 1)
+        (replicate (length entries.now) (pos 0))) }
 {
     let nothing = vec![in alloc; 0; entries.len()]?;
     let demand = slot_demand(alloc, entries, m, &nothing, 1)?;
@@ -93,9 +102,11 @@ fn take(alloc: Global, kept: &mut Kept, s: &Set, t: &mut Set, e: usize) -> Resul
 /// Takes the places of a set one after another, if the split of those that are taken can give each a slot too.
 fn take_each(alloc: Global, kept: &mut Kept, s: &Set) -> Result<Set, Memory>
     requires sized { length s.now ≡ length kept.old.demand.lists }
-    requires none { IsMatchedTo kept.old.demand.lists s.now 0 (empty_set (length kept.old.demand.lists)) kept.old.demand }
+    requires none { IsMatchedTo kept.old.demand.lists s.now 0
+        (empty_set (length kept.old.demand.lists)) kept.old.demand }
     ensures places { IfOk result (λ t. length t ≡ length s.now) }
-    ensures taken { IfOk result (λ t. t ≡ suited kept.old.demand.lists s.now (length kept.old.demand.lists)) }
+    ensures taken { IfOk result (λ t. t ≡ suited kept.old.demand.lists s.now
+        (length kept.old.demand.lists)) }
 {
     let mut t = Set::empty(alloc, s.len())?;
     for e in 0..s.len() {

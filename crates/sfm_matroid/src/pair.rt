@@ -68,7 +68,8 @@ impl SplitPair {
         requires spare { AreBeside self.old }
         requires held { CanHold self.old.kept.demand x.now pull.now.v held.now }
         ensures kept { self.new.kept ≡ self.old.kept }
-        ensures most { IfOk result (IsMostUpto (rest_of self.old.kept.demand x.now pull.now.v held.now) pull.now.u pull.now.limit) }
+        ensures most { IfOk result (IsMostUpto (rest_of self.old.kept.demand x.now pull.now.v
+            held.now) pull.now.u pull.now.limit) }
         ensures spare { OnOk result (AreBeside self.new) }
     {
         fill(alloc, &self.kept, &mut self.spare)?;

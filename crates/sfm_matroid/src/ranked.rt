@@ -76,7 +76,8 @@ pub(crate) fn write_start(q: i128, w: i128, set: &Set, x: &mut [i128])
 /// Whether each entry is from 0 to q·w, and all together are q times the value of a set.
 pub(crate) fn adds_up(x: &[i128], q: i128, w: i128, set: &Set) -> bool
     requires { CanAdd q w x.now set.now }
-    ensures told { IsTrue result ↔ (All (λ a. (pos 0 ≤ℤ a) × (a ≤ℤ (q *ℤ w))) x.now × (total_of x.now ≡ (q *ℤ (w *ℤ pos (size set.now))))) }
+    ensures told { IsTrue result ↔ (All (λ a. (pos 0 ≤ℤ a) × (a ≤ℤ (q *ℤ w))) x.now
+        × (total_of x.now ≡ (q *ℤ (w *ℤ pos (size set.now))))) }
     ensures amounts { IsTrue result → All IsAmount x.now }
 {
     let most = product(q, w);

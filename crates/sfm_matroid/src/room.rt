@@ -26,7 +26,8 @@ pub(crate) fn pull_of(x: &[i128], cap: i128, u: usize, v: usize) -> Pull
     requires apart { u ≢ v }
     ensures u { result.u ≡ u }
     ensures v { result.v ≡ v }
-    ensures limit { result.limit ≡ int_min (slice_index_or x.now v (pos 0)) (cap -ℤ slice_index_or x.now u (pos 0)) }
+    ensures limit { result.limit ≡ int_min (slice_index_or x.now v (pos 0))
+        (cap -ℤ slice_index_or x.now u (pos 0)) }
     ensures raise { IsRaise x.now u v result.limit }
 {
     let limit = x[v].min(cap - x[u]);
@@ -77,8 +78,10 @@ pub(crate) fn raise(
     requires raise { IsRaise x.now pull.now.u pull.now.v pull.now.limit }
     requires beside { IsBeside kept.now.demand second.old.demand }
     requires held { CanHold kept.now.demand x.now pull.now.v held.now }
-    ensures most { IfOk result (IsMostUpto (rest_of kept.now.demand x.now pull.now.v held.now) pull.now.u pull.now.limit) }
-    ensures grown { IfOk result (λ r. second.new.demand ≡ with_more (rest_of kept.now.demand x.now pull.now.v held.now) pull.now.u r) }
+    ensures most { IfOk result (IsMostUpto (rest_of kept.now.demand x.now pull.now.v held.now)
+        pull.now.u pull.now.limit) }
+    ensures grown { IfOk result (λ r. second.new.demand ≡ with_more
+        (rest_of kept.now.demand x.now pull.now.v held.now) pull.now.u r) }
 {
     let rest = without(alloc, x, pull.v)?;
     let aim = Aim {

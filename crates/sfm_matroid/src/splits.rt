@@ -86,8 +86,14 @@ pub(crate) fn can_bring(
     requires slots { length capacities.now ≡ length kept.old.demand.capacities }
     requires amounts { All IsAmount demands.now }
     requires bounded { All IsCapacity capacities.now }
-    ensures told { IfOk result (λ r. IsTrue r ↔ CanBeMet demands.now kept.old.demand.lists capacities.now) }
-    ensures brought { IfOk result (λ r. IsTrue r → kept.new.demand ≡ record { demands = demands.now; lists = kept.old.demand.lists; capacities = capacities.now }) }
+    ensures told { IfOk result (λ r. IsTrue r ↔ CanBeMet demands.now kept.old.demand.lists
+        capacities.now) }
+    ensures brought { IfOk result (λ r. IsTrue r → kept.new.demand
+        ≡ record {
+          demands = demands.now;
+          lists = kept.old.demand.lists;
+          capacities = capacities.now;
+        }) }
 {
     match kept.bring(alloc, demands, capacities) {
         Ok(()) => {
@@ -111,7 +117,11 @@ pub(crate) fn bring_split(
     requires amounts { All IsAmount demands.now }
     requires bounded { All IsCapacity capacities.now }
     requires met { CanBeMet demands.now kept.old.demand.lists capacities.now }
-    ensures { OnOk result (kept.new.demand ≡ record { demands = demands.now; lists = kept.old.demand.lists; capacities = capacities.now }) }
+    ensures { OnOk result (kept.new.demand ≡ record {
+      demands = demands.now;
+      lists = kept.old.demand.lists;
+      capacities = capacities.now;
+    }) }
 {
     if !can_bring(alloc, kept, demands, capacities)? {
         unreachable!();

@@ -41,7 +41,11 @@ fn push_ends(
     requires amounts { All IsAmount x.now }
     requires below { EndsBelow (edges_of ends.now) (length demand.old.capacities) }
     requires none { (demand.old.demands ≡ []) × (demand.old.lists ≡ []) }
-    ensures { OnOk result (demand.new ≡ record { demands = x.now; lists = end_lists (edges_of ends.now); capacities = demand.old.capacities }) }
+    ensures { OnOk result (demand.new ≡ record {
+      demands = x.now;
+      lists = end_lists (edges_of ends.now);
+      capacities = demand.old.capacities;
+    }) }
 {
     for e in 0..ends.len() {
         let (tail, head) = ends[e];
@@ -59,7 +63,8 @@ pub(crate) fn end_demand(
     a: usize,
 ) -> Result<Demand, Memory>
     requires { AreEndAmounts (edges_of graph.now.ends.items) most x.now }
-    ensures { IfOk result (λ r. r ≡ end_demands (edges_of graph.now.ends.items) graph.now.vertices most x.now a) }
+    ensures { IfOk result (λ r. r ≡ end_demands (edges_of graph.now.ends.items) graph.now.vertices
+        most x.now a) }
 {
     let capacities = capacities(alloc, graph.vertices, most, a)?;
     let mut demand = Demand::new(alloc, &capacities)?;
@@ -79,8 +84,10 @@ pub(crate) fn brought(
 ) -> Result<bool, Memory>
     requires amounts { AreEndAmounts (edges_of graph.now.ends.items) most x.now }
     requires over { IsOverEnds (edges_of graph.now.ends.items) graph.now.vertices kept.old.demand }
-    ensures told { IfOk result (λ r. IsTrue r ↔ CanBeMet x.now (end_lists (edges_of graph.now.ends.items)) (vertex_capacities graph.now.vertices most a)) }
-    ensures brought { IfOk result (λ r. IsTrue r → kept.new.demand ≡ end_demands (edges_of graph.now.ends.items) graph.now.vertices most x.now a) }
+    ensures told { IfOk result (λ r. IsTrue r ↔ CanBeMet x.now
+        (end_lists (edges_of graph.now.ends.items)) (vertex_capacities graph.now.vertices most a)) }
+    ensures brought { IfOk result (λ r. IsTrue r → kept.new.demand
+        ≡ end_demands (edges_of graph.now.ends.items) graph.now.vertices most x.now a) }
 {
     let capacities = capacities(alloc, graph.vertices, most, a)?;
     can_bring(alloc, kept, x, &capacities)
@@ -111,8 +118,10 @@ fn passes_tail(
     requires amounts { AreEndAmounts (edges_of graph.now.ends.items) most x.now }
     requires vertex { a < graph.now.vertices }
     requires over { IsOverEnds (edges_of graph.now.ends.items) graph.now.vertices kept.old.demand }
-    ensures told { IfOk result (λ r. IsTrue r ↔ (IsTail (edges_of graph.now.ends.items) a → IsWithinEnds (edges_of graph.now.ends.items) graph.now.vertices most x.now a)) }
-    ensures over { IfOk result (λ r. IsTrue r → IsOverEnds (edges_of graph.now.ends.items) graph.now.vertices kept.new.demand) }
+    ensures told { IfOk result (λ r. IsTrue r ↔ (IsTail (edges_of graph.now.ends.items) a
+        → IsWithinEnds (edges_of graph.now.ends.items) graph.now.vertices most x.now a)) }
+    ensures over { IfOk result (λ r. IsTrue r → IsOverEnds
+        (edges_of graph.now.ends.items) graph.now.vertices kept.new.demand) }
 {
     if !is_tail(&graph.ends, a) {
         return Ok(true);
@@ -132,7 +141,8 @@ fn passes_each(
 ) -> Result<bool, Memory>
     requires amounts { AreEndAmounts (edges_of graph.now.ends.items) most x.now }
     requires over { IsOverEnds (edges_of graph.now.ends.items) graph.now.vertices kept.old.demand }
-    ensures { IfOk result (λ r. IsTrue r ↔ PassesTails (edges_of graph.now.ends.items) graph.now.vertices most x.now) }
+    ensures { IfOk result (λ r. IsTrue r ↔ PassesTails
+        (edges_of graph.now.ends.items) graph.now.vertices most x.now) }
 {
     for a in 0..graph.vertices {
         if !passes_tail(alloc, graph, kept, x, most, a)? {
@@ -154,7 +164,8 @@ pub(crate) fn passes_tails(
     most: i128,
 ) -> Result<bool, Memory>
     requires { AreEndAmounts (edges_of graph.now.ends.items) most x.now }
-    ensures { IfOk result (λ r. IsTrue r ↔ PassesTails (edges_of graph.now.ends.items) graph.now.vertices most x.now) }
+    ensures { IfOk result (λ r. IsTrue r ↔ PassesTails
+        (edges_of graph.now.ends.items) graph.now.vertices most x.now) }
 {
     if graph.ends.is_empty() {
         return Ok(true);

@@ -90,7 +90,8 @@ impl Transversal {
     pub fn rank(&self, alloc: Global, s: &Set) -> Result<i128, Memory>
         requires { length s.now ≡ length self.now.places }
         ensures rank { IfOk result (λ r. r ≡ pos (transversal_rank self.now.entries s.now)) }
-        ensures greatest { IfOk result (λ r. (n : ℕ) × (r ≡ pos n) × IsRank (IsMatchable self.now.entries) s.now n) }
+        ensures greatest { IfOk result (λ r. (n : ℕ) × (r ≡ pos n)
+            × IsRank (IsMatchable self.now.entries) s.now n) }
     {
         let taken = matched(alloc, &self.entries, s)?;
         Ok(taken.size() as i128)
@@ -98,7 +99,8 @@ impl Transversal {
 
     /// The value of each part is w times its rank: a law, with nothing to do.
     pub fn values_are_ranks(&self)
-        ensures { IsRankFunction (length self.now.places) self.now.w (IsMatchable self.now.entries) (transversal_value self.now.w self.now.entries) }
+        ensures { IsRankFunction (length self.now.places) self.now.w (IsMatchable self.now.entries)
+            (transversal_value self.now.w self.now.entries) }
     {}
 }
 
@@ -122,13 +124,17 @@ impl Term for Transversal {
 
     ghost family = { λ s. transversal-family (length s.places) s.w s.entries s.same_count };
 
-    ghost submodular = { λ s. transversal-submodular (length s.places) s.w s.entries s.same_count s.low };
+    ghost submodular = { λ s. transversal-submodular (length s.places) s.w s.entries s.same_count
+        s.low };
 
-    ghost bounded = { λ s t a h e. transversal-bounded (length s.places) s.w s.entries s.same_count s.low t a h e };
+    ghost bounded = { λ s t a h e. transversal-bounded (length s.places) s.w s.entries s.same_count
+        s.low t a h e };
 
-    ghost starts = { λ s q low. transversal-starts (length s.places) s.w s.entries s.same_count s.low q low };
+    ghost starts = { λ s q low. transversal-starts (length s.places) s.w s.entries s.same_count
+        s.low q low };
 
-    ghost starts_small = { λ s q low. transversal-starts_small (length s.places) s.w s.entries s.same_count s.low q low };
+    ghost starts_small = { λ s q low. transversal-starts_small
+        (length s.places) s.w s.entries s.same_count s.low q low };
 
     fn elements(&self) -> &[usize] {
         self.places.as_slice()
@@ -163,7 +169,8 @@ impl Term for Transversal {
         requires factor { IsFactor q }
         requires entries { length x.old ≡ length self.now.places }
         ensures start { OnOk result (x.new ≡ transversal_start q self.now.w self.now.entries) }
-        ensures greedy { OnOk result (IsGreedy q (transversal_value self.now.w self.now.entries) (length self.now.places) x.new) }
+        ensures greedy { OnOk result (IsGreedy q (transversal_value self.now.w self.now.entries)
+            (length self.now.places) x.new) }
         ensures sure { IsOk result }
     {
         write_start(q, self.w, &self.basis, x);

@@ -44,7 +44,8 @@ fn entries_reason(
     requires some { 0 < length (tokens_of entries.now) }
     ensures { IfOk result (λ r. MatchOption r
         (AreFewEntries instance.now.names number.now colon.now (tokens_of entries.now))
-        (IsReasonOf instance.now RankWord (number.now ∷ codes "transversal" ∷ colon.now ∷ tokens_of entries.now))) }
+        (IsReasonOf instance.now RankWord (number.now ∷ codes "transversal" ∷ colon.now
+        ∷ tokens_of entries.now))) }
 {
     if let Some(reason) = entries_fault(
         instance,
@@ -79,8 +80,11 @@ fn add_entry<'a, 'b>(
     count: usize,
 ) -> Result<(), AllocError>
     requires { (entry : List ℕ × List (List ℕ)) × IsLabelToken TransversalRank token.now entry }
-    ensures { OnOk result ((entry : List ℕ × List (List ℕ)) × IsLabelToken TransversalRank token.now entry
-        × ((parts_of parts.new).elements ≡ (parts_of parts.old).elements ++ entry.0 ∷ []) × ((parts_of parts.new).labels ≡ (parts_of parts.old).labels ++ take count entry.1 ∷ [])) }
+    ensures { OnOk result ((entry : List ℕ × List (List ℕ))
+        × IsLabelToken TransversalRank token.now entry
+        × ((parts_of parts.new).elements ≡ (parts_of parts.old).elements ++ entry.0 ∷ [])
+        × ((parts_of parts.new).labels ≡ (parts_of parts.old).labels
+        ++ take count entry.1 ∷ [])) }
 {
     let Some((element, behind)) = cut_once(token, b'=') else {
         unreachable!();
@@ -100,9 +104,12 @@ fn add_entries<'a, 'b>(
 ) -> Result<(), AllocError>
     requires elements { (parts_of parts.old).elements ≡ [] }
     requires labels { (parts_of parts.old).labels ≡ [] }
-    requires each { All (λ token. (entry : List ℕ × List (List ℕ)) × IsLabelToken TransversalRank token entry) (tokens_of line.now) }
-    ensures { OnOk result ((entries : List (List ℕ × List (List ℕ))) × AllZip (IsLabelToken TransversalRank) (tokens_of line.now) entries
-        × ((parts_of parts.new).elements ≡ map (λ entry. entry.0) entries) × ((parts_of parts.new).labels ≡ map (λ entry. take count entry.1) entries)) }
+    requires each { All (λ token. (entry : List ℕ × List (List ℕ))
+        × IsLabelToken TransversalRank token entry) (tokens_of line.now) }
+    ensures { OnOk result ((entries : List (List ℕ × List (List ℕ)))
+        × AllZip (IsLabelToken TransversalRank) (tokens_of line.now) entries
+        × ((parts_of parts.new).elements ≡ map (λ entry. entry.0) entries)
+        × ((parts_of parts.new).labels ≡ map (λ entry. take count entry.1) entries)) }
 {
     let mut left = line;
     while let Some((token, behind)) = first_token(left) {
@@ -115,7 +122,8 @@ fn add_entries<'a, 'b>(
 /// The slots of the elements, by the places of their names among these.
 fn entries(alloc: Global, names: &IndexSet<&[u8]>, labels: &[Labels]) -> Result<Entries, Memory>
     requires few { length names.now.keys < 2 ^ 24 }
-    ensures { IfOk result (λ r. r ≡ map (λ texts. map (place_among (texts_of names.now.keys)) texts) (label_lists_of labels.now)) }
+    ensures { IfOk result (λ r. r ≡ map (λ texts. map (place_among (texts_of names.now.keys)) texts)
+        (label_lists_of labels.now)) }
 {
     let mut entries = Entries::new(alloc);
     for element in labels {
@@ -162,8 +170,11 @@ fn cut_term(
     parts: &Parts,
 ) -> Result<Kind, LineEnd>
     requires names { AreElementNames instance.now.names }
-    requires cut { (colon : List ℕ) × (tokens : List (List ℕ)) × AreCutEntries instance.now.names number.now colon tokens (parts_of parts.now) }
-    ensures { (colon : List ℕ) (tokens : List (List ℕ)) → AreCutEntries instance.now.names number.now colon tokens (parts_of parts.now) → MatchResult result
+    requires cut { (colon : List ℕ) × (tokens : List (List ℕ))
+        × AreCutEntries instance.now.names number.now colon tokens (parts_of parts.now) }
+    ensures { (colon : List ℕ) (tokens : List (List ℕ))
+        → AreCutEntries instance.now.names number.now colon tokens (parts_of parts.now)
+        → MatchResult result
         (IsTermRead instance.now RankWord (number.now ∷ codes "transversal" ∷ colon ∷ tokens))
         (IsRefusedBy instance.now RankWord (number.now ∷ codes "transversal" ∷ colon ∷ tokens)) }
 {
@@ -187,8 +198,10 @@ fn entries_term(
     requires names { AreElementNames instance.now.names }
     requires some { 0 < length (tokens_of entries.now) }
     ensures { MatchResult result
-        (IsTermRead instance.now RankWord (number.now ∷ codes "transversal" ∷ colon.now ∷ tokens_of entries.now))
-        (IsRefusedBy instance.now RankWord (number.now ∷ codes "transversal" ∷ colon.now ∷ tokens_of entries.now)) }
+        (IsTermRead instance.now RankWord (number.now ∷ codes "transversal" ∷ colon.now
+        ∷ tokens_of entries.now))
+        (IsRefusedBy instance.now RankWord (number.now ∷ codes "transversal" ∷ colon.now
+        ∷ tokens_of entries.now)) }
 {
     let fault = entries_reason(alloc, instance, number, colon, entries)?;
     if let Some(reason) = fault {
@@ -209,7 +222,8 @@ pub fn entry_line_term(
     requires { AreElementNames instance.now.names }
     ensures { MatchResult result
         (IsTermRead instance.now RankWord (number.now ∷ codes "transversal" ∷ tokens_of rest.now))
-        (IsRefusedBy instance.now RankWord (number.now ∷ codes "transversal" ∷ tokens_of rest.now)) }
+        (IsRefusedBy instance.now RankWord (number.now ∷ codes "transversal"
+        ∷ tokens_of rest.now)) }
 {
     let Some((colon, entries)) = first_token(rest) else {
         return Err(LineEnd::Fault(Reason::Shape));

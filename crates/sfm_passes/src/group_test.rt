@@ -33,7 +33,8 @@ pub enum GroupTest {
 
 /// Whether a piece is a cap and at least one name.
 fn is_whole(piece: &[u8]) -> bool
-    ensures { MatchBool result (GroupHolds Whole (tokens_of piece.now)) (GroupFails Whole (tokens_of piece.now)) }
+    ensures { MatchBool result (GroupHolds Whole (tokens_of piece.now))
+        (GroupFails Whole (tokens_of piece.now)) }
 {
     let Some((_, names)) = first_token(piece) else {
         return false;
@@ -49,7 +50,8 @@ fn is_whole(piece: &[u8]) -> bool
 
 /// Whether the cap of a piece is a number.
 fn has_cap(piece: &[u8]) -> bool
-    ensures { MatchBool result (GroupHolds Cap (tokens_of piece.now)) (GroupFails Cap (tokens_of piece.now)) }
+    ensures { MatchBool result (GroupHolds Cap (tokens_of piece.now))
+        (GroupFails Cap (tokens_of piece.now)) }
 {
     match first_token(piece) {
         Some((cap, _)) => is_number_of(TermWord::RankWord, cap),
@@ -59,7 +61,8 @@ fn has_cap(piece: &[u8]) -> bool
 
 /// Whether no name stands twice in a piece.
 fn is_once(alloc: Global, piece: &[u8]) -> Result<bool, Memory>
-    ensures { IfOk result (λ r. MatchBool r (GroupHolds Once (tokens_of piece.now)) (GroupFails Once (tokens_of piece.now))) }
+    ensures { IfOk result (λ r. MatchBool r (GroupHolds Once (tokens_of piece.now))
+        (GroupFails Once (tokens_of piece.now))) }
 {
     let Some((_, names)) = first_token(piece) else {
         return Ok(true);
@@ -72,7 +75,8 @@ fn is_once(alloc: Global, piece: &[u8]) -> Result<bool, Memory>
 
 /// Whether a piece passes the test.
 fn group_holds(alloc: Global, test: GroupTest, piece: &[u8]) -> Result<bool, Memory>
-    ensures { IfOk result (λ r. MatchBool r (GroupHolds test (tokens_of piece.now)) (GroupFails test (tokens_of piece.now))) }
+    ensures { IfOk result (λ r. MatchBool r (GroupHolds test (tokens_of piece.now))
+        (GroupFails test (tokens_of piece.now))) }
 {
     match test {
         GroupTest::Whole => Ok(is_whole(piece)),
@@ -101,7 +105,8 @@ pub fn all_groups(alloc: Global, test: GroupTest, groups: Option<&[u8]>) -> Resu
 
 /// Whether each token of a line is one of the texts of which these are the different ones.
 fn are_known_in(known: &IndexSet<&[u8]>, line: &[u8]) -> bool
-    ensures { (texts : List (List ℕ)) → texts_of known.now.keys ≡ distinct_of texts → MatchBool result
+    ensures { (texts : List (List ℕ)) → texts_of known.now.keys ≡ distinct_of texts
+        → MatchBool result
         (All (Contains texts) (tokens_of line.now))
         (Any (λ name. Contains texts name → ⊥) (tokens_of line.now)) }
 {
@@ -117,7 +122,8 @@ fn are_known_in(known: &IndexSet<&[u8]>, line: &[u8]) -> bool
 
 /// Whether each name of a piece is one of the elements of which these are the different ones.
 fn has_members(known: &IndexSet<&[u8]>, piece: &[u8]) -> bool
-    ensures { (elements : List (List ℕ)) → texts_of known.now.keys ≡ distinct_of elements → MatchBool result
+    ensures { (elements : List (List ℕ)) → texts_of known.now.keys ≡ distinct_of elements
+        → MatchBool result
         (HasMembers elements (tokens_of piece.now))
         (LacksMember elements (tokens_of piece.now)) }
 {
@@ -129,7 +135,8 @@ fn has_members(known: &IndexSet<&[u8]>, piece: &[u8]) -> bool
 
 /// Whether each name of each piece that is left is one of the elements of which these are the different ones.
 fn all_have_members(known: &IndexSet<&[u8]>, groups: Option<&[u8]>) -> bool
-    ensures { (elements : List (List ℕ)) → texts_of known.now.keys ≡ distinct_of elements → MatchBool result
+    ensures { (elements : List (List ℕ)) → texts_of known.now.keys ≡ distinct_of elements
+        → MatchBool result
         (All (HasMembers elements) (pieces_left groups.entry))
         (Any (LacksMember elements) (pieces_left groups.entry)) }
 {

@@ -48,7 +48,9 @@ fn are_shaped(
 ) -> Result<bool, Memory>
     ensures { IfOk result (λ r. MatchBool r
         (AreShapedGroups number.now (tokens_of elements.now) (pieces_left groups.entry))
-        ((instance : InstanceData) (behind : List (List ℕ)) → cut_at_semicolons behind ≡ tokens_of elements.now ∷ pieces_left groups.entry → IsReasonOf instance RankWord (laminar_tokens number.now behind) Shape)) }
+        ((instance : InstanceData) (behind : List (List ℕ))
+        → cut_at_semicolons behind ≡ tokens_of elements.now ∷ pieces_left groups.entry
+        → IsReasonOf instance RankWord (laminar_tokens number.now behind) Shape)) }
 {
     if is_mark(number) {
         return Ok(false);
@@ -72,8 +74,11 @@ fn groups_fault(
 ) -> Result<Option<Reason>, Memory>
     requires { AreElementNames instance.now.names }
     ensures { IfOk result (λ r. MatchOption r
-        (AreGoodGroups instance.now.names number.now (tokens_of elements.now) (pieces_left groups.entry))
-        (λ reason. (behind : List (List ℕ)) → cut_at_semicolons behind ≡ tokens_of elements.now ∷ pieces_left groups.entry → IsReasonOf instance.now RankWord (laminar_tokens number.now behind) reason)) }
+        (AreGoodGroups instance.now.names number.now (tokens_of elements.now)
+        (pieces_left groups.entry))
+        (λ reason. (behind : List (List ℕ)) → cut_at_semicolons behind
+        ≡ tokens_of elements.now ∷ pieces_left groups.entry
+        → IsReasonOf instance.now RankWord (laminar_tokens number.now behind) reason)) }
 {
     let shaped = are_shaped(alloc, number, elements, groups)?;
     if !shaped {
@@ -150,8 +155,10 @@ fn keep_groups(
     requires whole { All (GroupHolds Whole) (pieces_left groups) }
     requires caps { All (GroupHolds Cap) (pieces_left groups) }
     ensures { IfOk result (λ r. MatchBool r
-        ((all : List Group) × AllZip (IsGroupOf (texts_of elements.now)) (pieces_left groups.entry) all × ((i : ℕ) × (j : ℕ) × IsCrossing all i j))
-        ((all : List Group) × AllZip (IsGroupOf (texts_of elements.now)) (pieces_left groups.entry) all × (kept.new.items ≡ least_groups all))) }
+        ((all : List Group) × AllZip (IsGroupOf (texts_of elements.now))
+        (pieces_left groups.entry) all × ((i : ℕ) × (j : ℕ) × IsCrossing all i j))
+        ((all : List Group) × AllZip (IsGroupOf (texts_of elements.now))
+        (pieces_left groups.entry) all × (kept.new.items ≡ least_groups all))) }
 {
     let mut left = groups;
     while let Some(line) = left {
@@ -182,9 +189,12 @@ fn pieces_term(
     requires whole { All (GroupHolds Whole) (pieces_left groups) }
     requires caps { All (GroupHolds Cap) (pieces_left groups) }
     ensures { IfOk result (λ r. MatchOption r
-        ((all : List Group) × AllZip (IsGroupOf (texts_of elements.now)) (pieces_left groups.entry) all × ((i : ℕ) × (j : ℕ) × IsCrossing all i j))
-        (λ term. (all : List Group) × AllZip (IsGroupOf (texts_of elements.now)) (pieces_left groups.entry) all
-        × (term.places ≡ places.now) × (term.w ≡ w) × (term.groups ≡ least_groups all) × ((i j : ℕ) → IsCrossing (least_groups all) i j → ⊥))) }
+        ((all : List Group) × AllZip (IsGroupOf (texts_of elements.now))
+        (pieces_left groups.entry) all × ((i : ℕ) × (j : ℕ) × IsCrossing all i j))
+        (λ term. (all : List Group) × AllZip (IsGroupOf (texts_of elements.now))
+        (pieces_left groups.entry) all
+        × (term.places ≡ places.now) × (term.w ≡ w) × (term.groups ≡ least_groups all)
+        × ((i j : ℕ) → IsCrossing (least_groups all) i j → ⊥))) }
 {
     let mut kept = Vec::new(alloc);
     if keep_groups(alloc, &mut kept, places, elements, groups)? {
@@ -202,7 +212,8 @@ fn groups_term(
     groups: Option<&[u8]>,
 ) -> Result<Kind, LineEnd>
     requires { AreElementNames instance.now.names }
-    ensures { (behind : List (List ℕ)) → cut_at_semicolons behind ≡ tokens_of elements.now ∷ pieces_left groups.entry → MatchResult result
+    ensures { (behind : List (List ℕ)) → cut_at_semicolons behind
+        ≡ tokens_of elements.now ∷ pieces_left groups.entry → MatchResult result
         (IsTermRead instance.now RankWord (laminar_tokens number.now behind))
         (IsRefusedBy instance.now RankWord (laminar_tokens number.now behind)) }
 {

@@ -129,7 +129,8 @@ fn long_laminar_term(
     rest: &[u8],
 ) -> Result<Option<Kind>, LineEnd>
     requires { AreElementNames instance.now.names }
-    ensures { IsToldBy instance.now RankWord (number.now ∷ codes "laminar" ∷ tokens_of rest.now) (Unit {0}) result }
+    ensures { IsToldBy instance.now RankWord (number.now ∷ codes "laminar" ∷ tokens_of rest.now)
+        (Unit {0}) result }
 {
     if !is_long(rest) {
         return Ok(None);
@@ -142,7 +143,8 @@ fn long_laminar_term(
 /// one of a laminar rank, or one of a transversal rank.
 fn early_rank_term(alloc: Global, instance: &Instance, line: &[u8]) -> Result<Option<Kind>, LineEnd>
     requires { AreElementNames instance.now.names }
-    ensures { IsToldBy instance.now RankWord (tokens_of line.now) (IsEntryLine RankWord (tokens_of line.now) → ⊥) result }
+    ensures { IsToldBy instance.now RankWord (tokens_of line.now)
+        (IsEntryLine RankWord (tokens_of line.now) → ⊥) result }
 {
     let Some((number, kind, rest)) = first_two(line) else {
         return Ok(None);
@@ -168,7 +170,8 @@ pub fn early_term(
     line: &[u8],
 ) -> Result<Option<Kind>, LineEnd>
     requires { AreElementNames instance.now.names }
-    ensures { IsToldBy instance.now word (tokens_of line.now) (IsEntryLine word (tokens_of line.now) → ⊥) result }
+    ensures { IsToldBy instance.now word (tokens_of line.now)
+        (IsEntryLine word (tokens_of line.now) → ⊥) result }
 {
     if word != TermWord::RankWord {
         return Ok(None);

@@ -46,8 +46,10 @@ pub fn rank_kind(token: &[u8]) -> RankKind
 /// Whether a line with these tokens around its word is cut at its one colon alone, as that of a uniform rank.
 fn is_uniform_cut(number: &[u8], cap: &[u8], colon: &[u8], elements: &[u8]) -> bool
     ensures { MatchBool result
-        (IsCutAtColon (number.now ∷ codes "uniform" ∷ cap.now ∷ colon.now ∷ tokens_of elements.now) (number.now ∷ codes "uniform" ∷ cap.now ∷ []) (tokens_of elements.now))
-        ((parts : LineParts) → IsUniformLine (number.now ∷ codes "uniform" ∷ cap.now ∷ colon.now ∷ tokens_of elements.now) parts → ⊥) }
+        (IsCutAtColon (number.now ∷ codes "uniform" ∷ cap.now ∷ colon.now ∷ tokens_of elements.now)
+        (number.now ∷ codes "uniform" ∷ cap.now ∷ []) (tokens_of elements.now))
+        ((parts : LineParts) → IsUniformLine (number.now ∷ codes "uniform" ∷ cap.now ∷ colon.now
+        ∷ tokens_of elements.now) parts → ⊥) }
 {
     if is_mark(number) {
         return false;
@@ -67,7 +69,8 @@ fn is_uniform_cut(number: &[u8], cap: &[u8], colon: &[u8], elements: &[u8]) -> b
 /// The first reason of a line whose shape and numbers are good, by its elements, of which it has more than a ground.
 pub fn elements_reason(instance: &Instance, elements: &[u8]) -> Reason
     requires { AreElementNames instance.now.names }
-    ensures { (word : TermWord) (rest : List (List ℕ)) → HasTooMany word rest (tokens_of elements.now) → IsReasonOf instance.now word rest result }
+    ensures { (word : TermWord) (rest : List (List ℕ))
+        → HasTooMany word rest (tokens_of elements.now) → IsReasonOf instance.now word rest result }
 {
     if !all_hold(instance, TokenTest::Element, elements) {
         return Reason::Name;
@@ -79,7 +82,8 @@ pub fn elements_reason(instance: &Instance, elements: &[u8]) -> Reason
 fn uniform_reason(instance: &Instance, number: &[u8], behind: &[u8]) -> Reason
     requires names { AreElementNames instance.now.names }
     requires long { 1000 < length (tokens_of behind.now) }
-    ensures { IsReasonOf instance.now RankWord (number.now ∷ codes "uniform" ∷ tokens_of behind.now) result }
+    ensures { IsReasonOf instance.now RankWord (number.now ∷ codes "uniform" ∷ tokens_of behind.now)
+        result }
 {
     let Some((cap, colon, elements)) = first_two(behind) else {
         return Reason::Shape;
@@ -108,7 +112,8 @@ pub fn entries_fault(
     requires some { 0 < length (tokens_of entries.now) }
     ensures { MatchOption result
         (AreGoodEntries instance.now.names rank number.now colon.now (tokens_of entries.now))
-        (IsReasonOf instance.now RankWord (number.now ∷ label_word rank ∷ colon.now ∷ tokens_of entries.now)) }
+        (IsReasonOf instance.now RankWord (number.now ∷ label_word rank ∷ colon.now
+        ∷ tokens_of entries.now)) }
 {
     if is_mark(number) {
         return Some(Reason::Shape);
@@ -134,7 +139,8 @@ pub fn entries_fault(
 /// The first reason of a line of a graphic rank with this number and these tokens behind its word, or None where passes tell none.
 fn graphic_reason(instance: &Instance, number: &[u8], behind: &[u8]) -> Option<Reason>
     requires { AreElementNames instance.now.names }
-    ensures { IfSome result (IsReasonOf instance.now RankWord (number.now ∷ codes "graphic" ∷ tokens_of behind.now)) }
+    ensures { IfSome result (IsReasonOf instance.now RankWord
+        (number.now ∷ codes "graphic" ∷ tokens_of behind.now)) }
 {
     let Some((colon, edges)) = first_token(behind) else {
         return None;
@@ -155,7 +161,8 @@ fn graphic_reason(instance: &Instance, number: &[u8], behind: &[u8]) -> Option<R
 /// long.
 fn long_uniform_reason(instance: &Instance, number: &[u8], behind: &[u8]) -> Option<Reason>
     requires { AreElementNames instance.now.names }
-    ensures { IfSome result (IsReasonOf instance.now RankWord (number.now ∷ codes "uniform" ∷ tokens_of behind.now)) }
+    ensures { IfSome result (IsReasonOf instance.now RankWord
+        (number.now ∷ codes "uniform" ∷ tokens_of behind.now)) }
 {
     if !has_token(behind, MOST_TOKENS) {
         return None;

@@ -22,7 +22,8 @@ const MOST_KEPT: usize = 262_144;
 
 /// Whether some token of a line is a colon or a semicolon alone.
 pub fn has_mark_in(line: &[u8]) -> bool
-    ensures { MatchBool result (Any IsMark (tokens_of line.now)) (AreUnmarked (tokens_of line.now)) }
+    ensures { MatchBool result (Any IsMark (tokens_of line.now))
+        (AreUnmarked (tokens_of line.now)) }
 {
     let mut left = line;
     while let Some((token, behind)) = first_token(left) {
@@ -60,7 +61,9 @@ fn keep<'a>(
     requires { StandsTwice (texts_of kept.old.keys) → ⊥ }
     ensures { IfOk result (λ r. MatchOption r
         (StandsTwice (texts_of kept.old.keys ++ texts_between separator line.now))
-        (λ rest. IsKept (texts_of kept.old.keys ++ texts_between separator line.now) (texts_of kept.new.keys) (texts_between separator rest.now) × (length rest.now ≤ length line.now))) }
+        (λ rest. IsKept (texts_of kept.old.keys ++ texts_between separator line.now)
+        (texts_of kept.new.keys) (texts_between separator rest.now)
+        × (length rest.now ≤ length line.now))) }
 {
     let mut left = line;
     while kept.len() < MOST_KEPT {
@@ -88,7 +91,8 @@ fn is_kept(kept: &IndexSet<&[u8]>, token: &[u8]) -> bool
 fn has_kept(separator: Separator, kept: &IndexSet<&[u8]>, line: &[u8]) -> bool
     ensures { MatchBool result
         (Any (Contains (texts_of kept.now.keys)) (texts_between separator line.now))
-        (All (λ token. Contains (texts_of kept.now.keys) token → ⊥) (texts_between separator line.now)) }
+        (All (λ token. Contains (texts_of kept.now.keys) token → ⊥)
+        (texts_between separator line.now)) }
 {
     let mut left = line;
     while let Some((token, behind)) = first_between(separator, left) {
@@ -157,7 +161,8 @@ pub fn is_colon(token: &[u8]) -> bool
 pub fn colon_cut(line: &[u8]) -> Option<(usize, &[u8])>
     ensures { MatchOption result
         ((before behind : List (List ℕ)) → IsCutAtColon (tokens_of line.now) before behind → ⊥)
-        (λ r. (before : List (List ℕ)) × (length before ≡ r.0) × IsCutAtColon (tokens_of line.now) before (tokens_of r.1.now)) }
+        (λ r. (before : List (List ℕ)) × (length before ≡ r.0)
+        × IsCutAtColon (tokens_of line.now) before (tokens_of r.1.now)) }
 {
     let mut count = 0;
     let mut left = line;

@@ -28,7 +28,8 @@ fn semicolon_cut(line: &[u8]) -> Option<(&[u8], &[u8])>
 
 /// The first piece of a line, and the line behind its semicolon, if there is one.
 pub fn first_piece(line: &[u8]) -> (&[u8], Option<&[u8]>)
-    ensures pieces { cut_at_semicolons (tokens_of line.now) ≡ tokens_of result.0.now ∷ pieces_left result.1 }
+    ensures pieces { cut_at_semicolons (tokens_of line.now)
+        ≡ tokens_of result.0.now ∷ pieces_left result.1 }
     ensures shorter { IfSome result.1 (λ rest. length rest.now < length line.now) }
 {
     match semicolon_cut(line) {

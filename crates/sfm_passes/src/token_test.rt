@@ -48,7 +48,8 @@ pub fn is_number_of(word: TermWord, text: &[u8]) -> bool
 
 /// Whether a text names an element.
 fn is_known(instance: &Instance, text: &[u8]) -> bool
-    ensures { MatchBool result (IsKnown instance.now.names text.now) (IsKnown instance.now.names text.now → ⊥) }
+    ensures { MatchBool result (IsKnown instance.now.names text.now)
+        (IsKnown instance.now.names text.now → ⊥) }
 {
     match instance.place_of(text) {
         Some(_) => true,
@@ -72,7 +73,8 @@ fn is_pair(token: &[u8]) -> bool
 fn is_pair_number(token: &[u8]) -> bool
     ensures { MatchBool result
         ((pair : List ℕ × List ℕ) × IsPairToken token.now pair × IsNumberOf WeightWord pair.1)
-        (((pair : List ℕ × List ℕ) × IsPairToken token.now pair × IsNumberOf WeightWord pair.1) → ⊥) }
+        (((pair : List ℕ × List ℕ) × IsPairToken token.now pair × IsNumberOf WeightWord pair.1)
+        → ⊥) }
 {
     match cut_pair(token) {
         Some((_, number)) => is_number_of(TermWord::WeightWord, number),
@@ -84,7 +86,8 @@ fn is_pair_number(token: &[u8]) -> bool
 fn is_pair_element(instance: &Instance, token: &[u8]) -> bool
     ensures { MatchBool result
         ((pair : List ℕ × List ℕ) × IsPairToken token.now pair × IsKnown instance.now.names pair.0)
-        (((pair : List ℕ × List ℕ) × IsPairToken token.now pair × IsKnown instance.now.names pair.0) → ⊥) }
+        (((pair : List ℕ × List ℕ) × IsPairToken token.now pair × IsKnown instance.now.names pair.0)
+        → ⊥) }
 {
     match cut_pair(token) {
         Some((element, _)) => is_known(instance, element),
@@ -121,7 +124,8 @@ fn has_labels(rank: RankKind, text: &[u8]) -> bool
 fn entry_cut(rank: RankKind, token: &[u8]) -> Option<(&[u8], &[u8])>
     ensures { MatchOption result
         ((entry : List ℕ × List (List ℕ)) → IsLabelToken rank token.now entry → ⊥)
-        (λ r. (labels : List (List ℕ)) × IsLabelToken rank token.now (r.0.now, labels) × AreLabelsOf rank r.1.now labels) }
+        (λ r. (labels : List (List ℕ)) × IsLabelToken rank token.now (r.0.now, labels)
+        × AreLabelsOf rank r.1.now labels) }
 {
     let Some((element, text)) = cut_once(token, b'=') else {
         return None;
@@ -193,8 +197,10 @@ fn is_labelled(rank: RankKind, token: &[u8]) -> bool
 /// Whether a token is an element of the ground with labels.
 fn is_labelled_element(instance: &Instance, rank: RankKind, token: &[u8]) -> bool
     ensures { MatchBool result
-        ((entry : List ℕ × List (List ℕ)) × IsLabelToken rank token.now entry × IsKnown instance.now.names entry.0)
-        (((entry : List ℕ × List (List ℕ)) × IsLabelToken rank token.now entry × IsKnown instance.now.names entry.0) → ⊥) }
+        ((entry : List ℕ × List (List ℕ)) × IsLabelToken rank token.now entry
+        × IsKnown instance.now.names entry.0)
+        (((entry : List ℕ × List (List ℕ)) × IsLabelToken rank token.now entry
+        × IsKnown instance.now.names entry.0) → ⊥) }
 {
     match entry_cut(rank, token) {
         Some((element, _)) => is_known(instance, element),
@@ -206,7 +212,8 @@ fn is_labelled_element(instance: &Instance, rank: RankKind, token: &[u8]) -> boo
 fn has_named_labels(rank: RankKind, token: &[u8]) -> bool
     ensures { MatchBool result
         ((entry : List ℕ × List (List ℕ)) × IsLabelToken rank token.now entry × All IsName entry.1)
-        ((entry : List ℕ × List (List ℕ)) → IsLabelToken rank token.now entry → Any (λ label. IsName label → ⊥) entry.1) }
+        ((entry : List ℕ × List (List ℕ)) → IsLabelToken rank token.now entry
+        → Any (λ label. IsName label → ⊥) entry.1) }
 {
     match entry_cut(rank, token) {
         Some((_, text)) => are_named(rank, text),

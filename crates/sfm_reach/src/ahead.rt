@@ -43,7 +43,8 @@ impl<'a> Ahead<'a> {
     /// Takes one of the places that are still to come.
     #[inline(always)]
     pub fn next(&mut self) -> Option<usize>
-        ensures { MatchOption result ((e : ℕ) → bit_in self.old e ≡ 0) (λ e. IsTaken self.old e self.new) }
+        ensures { MatchOption result ((e : ℕ) → bit_in self.old e ≡ 0)
+            (λ e. IsTaken self.old e self.new) }
     {
         let mut k = self.k;
         let mut word = self.word;

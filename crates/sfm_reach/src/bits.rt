@@ -109,7 +109,8 @@ impl Bits {
 
     /// The least place of the set.
     pub fn first(&self) -> Option<usize>
-        ensures { MatchOption result ((e : ℕ) → bit_in self.now e ≢ 1) (λ e. (e < 256) × (bit_in self.now e ≡ 1)) }
+        ensures { MatchOption result ((e : ℕ) → bit_in self.now e ≢ 1)
+            (λ e. (e < 256) × (bit_in self.now e ≡ 1)) }
     {
         self.first_common(self)
     }

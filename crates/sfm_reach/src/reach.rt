@@ -51,7 +51,8 @@ impl Model for BitRows {
 
     ghost view = { λ s. s.rows.items };
 
-    ghost invariant = { λ s. (length s.part ≡ length s.rows.items) × ((i : Image) → s.image ≡ Some i → length i.part ≡ length s.rows.items) };
+    ghost invariant = { λ s. (length s.part ≡ length s.rows.items)
+        × ((i : Image) → s.image ≡ Some i → length i.part ≡ length s.rows.items) };
 }
 
 impl BitRows {
@@ -156,7 +157,8 @@ pub fn row_by<T: Term>(
     requires from { u < length at.now.x.now }
     requires rows { length rows.old ≡ length at.now.x.now }
     ensures same { rows.new ≡ rows.old }
-    ensures row { IfOk result (IsRow (T.places at.now.term.now) (times at.now.q (T.value_of at.now.term.now)) at.now.x.now u) }
+    ensures row { IfOk result (IsRow (T.places at.now.term.now)
+        (times at.now.q (T.value_of at.now.term.now)) at.now.x.now u) }
     ensures noted { OnOk result (T.fits at.now.term.now note.new at.now.q at.now.x.now) }
 {
     at.term
@@ -179,9 +181,12 @@ pub fn row_beside<T: Term>(
     requires onto { s < length at.now.x.now }
     requires from { u < length at.now.x.now }
     requires leads { Depends (times at.now.q (T.value_of at.now.term.now)) at.now.x.now u s }
-    requires image { IsImage (T.places at.now.term.now) image.old.part image.old.bits image.old.in_order }
-    ensures image { OnOk result (IsImage (T.places at.now.term.now) image.new.part image.new.bits image.new.in_order) }
-    ensures row { IfOk result (IsRow (T.places at.now.term.now) (times at.now.q (T.value_of at.now.term.now)) at.now.x.now u) }
+    requires image { IsImage (T.places at.now.term.now) image.old.part image.old.bits
+        image.old.in_order }
+    ensures image { OnOk result (IsImage (T.places at.now.term.now) image.new.part image.new.bits
+        image.new.in_order) }
+    ensures row { IfOk result (IsRow (T.places at.now.term.now)
+        (times at.now.q (T.value_of at.now.term.now)) at.now.x.now u) }
     ensures noted { OnOk result (T.fits at.now.term.now note.new at.now.q at.now.x.now) }
 {
     at.term
@@ -201,9 +206,11 @@ fn ask_row<T: Term>(
     requires based { IsBased T.places T.value_of T.size_of at.now.term.now at.now.q at.now.x.now }
     requires noted { T.fits at.now.term.now note.old at.now.q at.now.x.now }
     requires rows { length rows.old ≡ length at.now.x.now }
-    requires known { AreRowsOf (T.places at.now.term.now) (times at.now.q (T.value_of at.now.term.now)) at.now.x.now asked.old rows.old }
+    requires known { AreRowsOf (T.places at.now.term.now)
+        (times at.now.q (T.value_of at.now.term.now)) at.now.x.now asked.old rows.old }
     ensures rows { length rows.new ≡ length rows.old }
-    ensures known { OnOk result (AreRowsOf (T.places at.now.term.now) (times at.now.q (T.value_of at.now.term.now)) at.now.x.now asked.new rows.new) }
+    ensures known { OnOk result (AreRowsOf (T.places at.now.term.now)
+        (times at.now.q (T.value_of at.now.term.now)) at.now.x.now asked.new rows.new) }
     ensures kept { (v : ℕ) → bit_in asked.old v ≡ 1 → bit_in asked.new v ≡ 1 }
     ensures told { OnOk result (u < length at.now.x.now → bit_in asked.new u ≡ 1) }
     ensures noted { OnOk result (T.fits at.now.term.now note.new at.now.q at.now.x.now) }
@@ -232,7 +239,9 @@ pub fn ask<T: Term>(
     requires noted { T.fits at.now.term.now note.old at.now.q at.now.x.now }
     requires rows { length rows.old ≡ length at.now.x.now }
     ensures rows { length rows.new ≡ length rows.old }
-    ensures asked { OnOk result (IsReachTable (T.places at.now.term.now) (times at.now.q (T.value_of at.now.term.now)) at.now.x.now (length (T.places at.now.term.now)) rows.new) }
+    ensures asked { OnOk result (IsReachTable (T.places at.now.term.now)
+        (times at.now.q (T.value_of at.now.term.now)) at.now.x.now
+        (length (T.places at.now.term.now)) rows.new) }
     ensures noted { OnOk result (T.fits at.now.term.now note.new at.now.q at.now.x.now) }
 {
     let mut asked = no_bits();

@@ -13,7 +13,8 @@ use std::alloc::Global;
 pub fn reached_from(unions: &[Bits], firsts: &Bits) -> Bits
     requires few { length unions.now ≤ 256 }
     requires firsts { (e : ℕ) → bit_in firsts.now e ≡ 1 → e < length unions.now }
-    requires links { (e t : ℕ) → e < length unions.now → bit_in (set_at unions.now e) t ≡ 1 → t < length unions.now }
+    requires links { (e t : ℕ) → e < length unions.now → bit_in (set_at unions.now e) t ≡ 1
+        → t < length unions.now }
     ensures { AreReached unions.now firsts.now result }
 {
     let mut found = *firsts;

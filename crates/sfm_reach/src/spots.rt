@@ -82,7 +82,8 @@ fn no_spots(alloc: Global, n: usize) -> Result<Vec<Spots>, Memory>
 // Puts the spots of the term i at its places.
 fn add_spots(spots: &mut Vec<Spots>, places: &[usize], i: usize) -> Result<(), Memory>
     requires { IsPlaced (length spots.old.items) places.now }
-    ensures { OnOk result (AddsSpots places.now i (length places.now) spots.old.items spots.new.items) }
+    ensures { OnOk result (AddsSpots places.now i (length places.now) spots.old.items
+        spots.new.items) }
 {
     for (local, place) in places.iter().enumerate() {
         let at = &mut spots[*place];

@@ -29,7 +29,8 @@ pub fn turn(back: &mut [Bits], e: usize, before: &Bits, after: &Bits)
     requires column { (t : ℕ) → t < 256 → bit_in (set_at back.old t) e ≡ bit_in before.now t }
     ensures count { length back.new ≡ 256 }
     ensures column { (t : ℕ) → t < 256 → bit_in (set_at back.new t) e ≡ bit_in after.now t }
-    ensures others { (k t : ℕ) → k ≢ e → bit_in (set_at back.new t) k ≡ bit_in (set_at back.old t) k }
+    ensures others { (k t : ℕ) → k ≢ e → bit_in (set_at back.new t) k
+        ≡ bit_in (set_at back.old t) k }
 {
     let mut lost = *before;
     lost.remove_all(after);

@@ -73,10 +73,12 @@ pub fn widen(
     back: &mut Vec<Bits>,
 )
     requires placed { IsPlaced 256 places.now }
-    requires inside { (u : ℕ) → u < length places.now → slice_index_or places.now u 0 < length unions.old.items }
+    requires inside { (u : ℕ) → u < length places.now → slice_index_or places.now u 0
+        < length unions.old.items }
     requires rows { length rows.now ≡ length places.now }
     requires turned { AreTurned unions.old.items back.old.items }
-    ensures widened { AreWidened places.now rows.now grown.now (length places.now) unions.old.items unions.new.items }
+    ensures widened { AreWidened places.now rows.now grown.now
+        (length places.now) unions.old.items unions.new.items }
     ensures turned { AreTurned unions.new.items back.new.items }
 {
     for (u, place) in places.iter().enumerate() {

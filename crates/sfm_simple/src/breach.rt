@@ -81,7 +81,8 @@ fn first_second(values: &[i128], k: usize, s: usize, a: usize) -> Option<usize>
     requires number { s < 2 ^ k }
     requires in_range { a < k }
     requires first_out { slice_index_or (members k s) a false ≡ false }
-    ensures { MatchOption result ((b : ℕ) → BreaksLaw values.now k s a b → ⊥) (λ b. IsFirstSecond values.now k s a b) }
+    ensures { MatchOption result ((b : ℕ) → BreaksLaw values.now k s a b → ⊥)
+        (λ b. IsFirstSecond values.now k s a b) }
 {
     for b in a + 1..k {
         if !has(s, b) && gains_more(values, k, s, a, b) {
@@ -97,7 +98,8 @@ fn first_pair(values: &[i128], k: usize, s: usize) -> Option<(usize, usize)>
     requires few { k ≤ 8 }
     requires given { All IsGiven values.now }
     requires number { s < 2 ^ k }
-    ensures { MatchOption result ((a b : ℕ) → BreaksLaw values.now k s a b → ⊥) (λ pair. IsFirstPair values.now k s pair.0 pair.1) }
+    ensures { MatchOption result ((a b : ℕ) → BreaksLaw values.now k s a b → ⊥)
+        (λ pair. IsFirstPair values.now k s pair.0 pair.1) }
 {
     for a in 0..k {
         if !has(s, a) {
@@ -114,7 +116,8 @@ pub(crate) fn first_breach(values: &[i128], k: usize) -> Option<Breach>
     requires counted { length values.now ≡ 2 ^ k }
     requires few { k ≤ 8 }
     requires given { All IsGiven values.now }
-    ensures { MatchOption result ((n a b : ℕ) → BreaksLaw values.now k n a b → ⊥) (λ breach. IsFirstBreach values.now k breach.set breach.a breach.b) }
+    ensures { MatchOption result ((n a b : ℕ) → BreaksLaw values.now k n a b → ⊥)
+        (λ breach. IsFirstBreach values.now k breach.set breach.a breach.b) }
 {
     for s in 0..values.len() {
         if let Some((a, b)) = first_pair(values, k, s) {

@@ -22,7 +22,8 @@ pub(crate) fn put_other(room: Room, u: usize, to: &mut Set)
     requires two { length to.old ≡ 2 }
     requires from { u < 2 }
     ensures places { length to.new ≡ length to.old }
-    ensures reached { (f : SetFunction) (x : List ℤ) → length x ≡ 2 → IsRoom f x u (1 - u) room → IsReach f x u to.new }
+    ensures reached { (f : SetFunction) (x : List ℤ) → length x ≡ 2 → IsRoom f x u (1 - u) room
+        → IsReach f x u to.new }
 {
     to.clear();
     if is_open(room) {

@@ -75,8 +75,11 @@ impl Table {
         requires few { length elements.now ≤ 8 }
         requires counted { length values.now ≡ 2 ^ length elements.now }
         requires given { All IsGiven values.now }
-        ensures zero { (result ≡ Err TableEnd.NotZero) ↔ (slice_index_or values.now 0 (pos 0) ≢ pos 0) }
-        ensures broken { (set a b : ℕ) → (result ≡ Err (TableEnd.LawBroken set a b)) ↔ ((slice_index_or values.now 0 (pos 0) ≡ pos 0) × IsFirstBreach values.now (length elements.now) set a b) }
+        ensures zero { (result ≡ Err TableEnd.NotZero) ↔ (slice_index_or values.now 0 (pos 0)
+            ≢ pos 0) }
+        ensures broken { (set a b : ℕ) → (result ≡ Err (TableEnd.LawBroken set a b))
+            ↔ ((slice_index_or values.now 0 (pos 0) ≡ pos 0)
+            × IsFirstBreach values.now (length elements.now) set a b) }
         ensures lawful { OnOk result (IsSubmodular (length elements.now) (table_value values.now)) }
         ensures places { IfOk result (λ r. r.places ≡ elements.now) }
         ensures values { IfOk result (λ r. r.values ≡ values.now) }
@@ -114,7 +117,8 @@ impl Table {
     fn scaled(&self, q: i128, s: usize) -> i128
         requires factor { IsFactor q }
         requires number { s < length self.now.values }
-        ensures { (result ≡ (q *ℤ slice_index_or self.now.values s (pos 0))) × IsAtMost (10 ^ 27) result }
+        ensures { (result ≡ (q *ℤ slice_index_or self.now.values s (pos 0)))
+            × IsAtMost (10 ^ 27) result }
     {
         product(q, self.listed(s))
     }
@@ -162,7 +166,8 @@ impl Table {
         requires factor { IsFactor q }
         requires entries { length x.now ≡ length self.now.places }
         requires small { All IsEntry x.now }
-        ensures { IsTrue result ↔ ((n : ℕ) → n < length self.now.values → pos 0 ≤ℤ slack_of q self.now.values x.now n) }
+        ensures { IsTrue result ↔ ((n : ℕ) → n < length self.now.values
+            → pos 0 ≤ℤ slack_of q self.now.values x.now n) }
     {
         for s in 0..self.count() {
             if self.slack(q, x, s) < 0 {
@@ -198,7 +203,8 @@ impl Table {
         requires small { All IsEntry x.now }
         requires from { u < length x.now }
         requires number { s < length self.now.values }
-        ensures { IsTrue result ↔ (Has (members (length x.now) s) u × (slack_of q self.now.values x.now s ≡ pos 0)) }
+        ensures { IsTrue result ↔ (Has (members (length x.now) s) u
+            × (slack_of q self.now.values x.now s ≡ pos 0)) }
     {
         has(s, u) && self.is_tight(q, x, s)
     }
@@ -211,7 +217,9 @@ impl Table {
         requires from { u < length x.now }
         requires room_for_answer { length to.old ≡ length x.now }
         ensures places { length to.new ≡ length to.old }
-        ensures kept { (v : ℕ) → Has to.new v ↔ (Has to.old v × ((n : ℕ) → n < length self.now.values → Has (members (length x.now) n) u → slack_of q self.now.values x.now n ≡ pos 0 → Has (members (length x.now) n) v)) }
+        ensures kept { (v : ℕ) → Has to.new v ↔ (Has to.old v
+            × ((n : ℕ) → n < length self.now.values → Has (members (length x.now) n) u
+            → slack_of q self.now.values x.now n ≡ pos 0 → Has (members (length x.now) n) v)) }
     {
         for s in 0..self.count() {
             if self.is_tight_with(q, x, s, u) {

@@ -25,8 +25,10 @@ use std::alloc::Global;
 /// `Memory` where there is none.
 pub fn partition<T: Term>(alloc: Global, terms: &[T], n: usize) -> Result<Vec<Break>, Memory>
     requires bounded { AreBounded n (map T.places terms.now) (map T.size_of terms.now) }
-    ensures slopes { IfOk result (λ r. AreBreakpoints (meanings T.places T.value_of terms.now) n (ones n) (map mark_of r.items)) }
-    ensures bases { IfOk result (λ r. All (HasBases (meanings T.places T.value_of terms.now) (λ q. map (λ term. T.start_of term q) terms.now) n) r.items) }
+    ensures slopes { IfOk result (λ r. AreBreakpoints (meanings T.places T.value_of terms.now) n
+        (ones n) (map mark_of r.items)) }
+    ensures bases { IfOk result (λ r. All (HasBases (meanings T.places T.value_of terms.now)
+        (λ q. map (λ term. T.start_of term q) terms.now) n) r.items) }
 {
     let mut search = Search::new(alloc, terms, n)?;
     let found = chain(&mut search, terms, n)?;

@@ -25,8 +25,10 @@ pub fn chain<T: Term>(
     n: usize,
 ) -> Result<Vec<Breakpoint>, Memory>
     requires search { IsSearch T.places T.value_of T.size_of T.fits terms.now n search.old }
-    ensures search { OnOk result (IsSearch T.places T.value_of T.size_of T.fits terms.now n search.new) }
-    ensures slopes { IfOk result (λ r. AreBreakpoints (meanings T.places T.value_of terms.now) n (ones n) (map found_mark r.items)) }
+    ensures search { OnOk result (IsSearch T.places T.value_of T.size_of T.fits terms.now n
+        search.new) }
+    ensures slopes { IfOk result (λ r. AreBreakpoints (meanings T.places T.value_of terms.now) n
+        (ones n) (map found_mark r.items)) }
     ensures ranges { IfOk result (λ r. All (IsInRange n) r.items) }
 {
     let low = worth_of(search.alloc, terms, Set::empty(search.alloc, n)?)?;
@@ -48,12 +50,16 @@ fn fill<T: Term>(
     found: &mut Vec<Breakpoint>,
 ) -> Result<(), Memory>
     requires search { IsSearch T.places T.value_of T.size_of T.fits terms.now n search.old }
-    requires before { IsPartTo (meanings T.places T.value_of terms.now) n (ones n) found.old.items low.now.set }
-    requires gap { IsGap (meanings T.places T.value_of terms.now) n (ones n) low.now.set high.now.set }
+    requires before { IsPartTo (meanings T.places T.value_of terms.now) n
+        (ones n) found.old.items low.now.set }
+    requires gap { IsGap (meanings T.places T.value_of terms.now) n
+        (ones n) low.now.set high.now.set }
     requires low_worth { IsWorth (meanings T.places T.value_of terms.now) low.now }
     requires high_worth { IsWorth (meanings T.places T.value_of terms.now) high.now }
-    ensures search { OnOk result (IsSearch T.places T.value_of T.size_of T.fits terms.now n search.new) }
-    ensures part { OnOk result (IsPartTo (meanings T.places T.value_of terms.now) n (ones n) found.new.items high.now.set) }
+    ensures search { OnOk result (IsSearch T.places T.value_of T.size_of T.fits terms.now n
+        search.new) }
+    ensures part { OnOk result (IsPartTo (meanings T.places T.value_of terms.now) n
+        (ones n) found.new.items high.now.set) }
 {
     match take_turn(search, terms, n, low, high)? {
         Turn::Next(next) => {

@@ -29,8 +29,10 @@ pub fn least_at<T: Term>(
 ) -> Result<Set, Memory>
     requires search { IsSearch T.places T.value_of T.size_of T.fits terms.now n search.old }
     requires small { IsAtMost (10 ^ 24) slope.num }
-    ensures search { OnOk result (IsSearch T.places T.value_of T.size_of T.fits terms.now n search.new) }
-    ensures least { IfOk result (IsLeast (meanings T.places T.value_of terms.now) n slope.den (even_shift n slope.num)) }
+    ensures search { OnOk result (IsSearch T.places T.value_of T.size_of T.fits terms.now n
+        search.new) }
+    ensures least { IfOk result (IsLeast (meanings T.places T.value_of terms.now) n slope.den
+        (even_shift n slope.num)) }
 {
     let alloc = search.alloc;
     keep_small(alloc, &mut search.warm, terms, n)?;
@@ -77,7 +79,8 @@ fn keep_small<T: Term>(
     n: usize,
 ) -> Result<(), Memory>
     requires graph { IsClaimed T.places T.value_of T.size_of T.fits terms.now n (pos 1) graph.old }
-    ensures graph { OnOk result (IsClaimed T.places T.value_of T.size_of T.fits terms.now n (pos 1) graph.new) }
+    ensures graph { OnOk result (IsClaimed T.places T.value_of T.size_of T.fits terms.now n
+        (pos 1) graph.new) }
     ensures small { OnOk result (All (λ x. All (IsAtMost (10 ^ 25)) x) graph.new.bases) }
 {
     if are_small(&graph.bases, 10_000_000_000_000_000_000_000_000) {
@@ -98,10 +101,13 @@ fn least_by<T: Term>(
     shift: &mut [i128],
 ) -> Result<Set, Memory>
     requires slope { IsAtMost (10 ^ 24) p }
-    requires graph { IsClaimed T.places T.value_of T.size_of T.fits terms.now (length shift.old) q graph.old }
+    requires graph { IsClaimed T.places T.value_of T.size_of T.fits terms.now
+        (length shift.old) q graph.old }
     requires small { All (λ x. All (IsAtMost (10 ^ 25)) x) graph.old.bases }
-    ensures graph { OnOk result (IsClaimed T.places T.value_of T.size_of T.fits terms.now (length shift.old) q graph.new) }
-    ensures least { IfOk result (IsLeast (meanings T.places T.value_of terms.now) (length shift.old) q (even_shift (length shift.old) p)) }
+    ensures graph { OnOk result (IsClaimed T.places T.value_of T.size_of T.fits terms.now
+        (length shift.old) q graph.new) }
+    ensures least { IfOk result (IsLeast (meanings T.places T.value_of terms.now)
+        (length shift.old) q (even_shift (length shift.old) p)) }
 {
     write_even(shift, p);
     let mut steps = Steps::new();

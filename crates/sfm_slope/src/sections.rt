@@ -24,7 +24,8 @@ pub fn sections<T: Term>(
     requires search { IsSearch T.places T.value_of T.size_of T.fits terms.now n search.old }
     requires ranges { All (IsInRange n) found.now }
     ensures marks { IfOk result (λ r. map mark_of r.items ≡ map found_mark found.now) }
-    ensures bases { IfOk result (λ r. All (HasBases (meanings T.places T.value_of terms.now) (λ q. map (λ term. T.start_of term q) terms.now) n) r.items) }
+    ensures bases { IfOk result (λ r. All (HasBases (meanings T.places T.value_of terms.now)
+        (λ q. map (λ term. T.start_of term q) terms.now) n) r.items) }
 {
     let mut breaks = Vec::new(search.alloc);
     for point in found {
@@ -42,9 +43,11 @@ fn section<T: Term>(
 ) -> Result<Break, Memory>
     requires search { IsSearch T.places T.value_of T.size_of T.fits terms.now n search.old }
     requires range { IsInRange n point.now }
-    ensures search { OnOk result (IsSearch T.places T.value_of T.size_of T.fits terms.now n search.new) }
+    ensures search { OnOk result (IsSearch T.places T.value_of T.size_of T.fits terms.now n
+        search.new) }
     ensures mark { IfOk result (λ r. mark_of r ≡ found_mark point.now) }
-    ensures bases { IfOk result (HasBases (meanings T.places T.value_of terms.now) (λ q. map (λ term. T.start_of term q) terms.now) n) }
+    ensures bases { IfOk result (HasBases (meanings T.places T.value_of terms.now)
+        (λ q. map (λ term. T.start_of term q) terms.now) n) }
 {
     let slope = point.slope;
     let set = point.set.copy(search.alloc)?;

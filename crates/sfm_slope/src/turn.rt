@@ -44,11 +44,14 @@ pub fn take_turn<T: Term>(
 ) -> Result<Turn, Memory>
     requires search { IsSearch T.places T.value_of T.size_of T.fits terms.now n search.old }
     requires begun { IsBegun (meanings T.places T.value_of terms.now) n (ones n) low.now.set }
-    requires gap { IsGap (meanings T.places T.value_of terms.now) n (ones n) low.now.set high.now.set }
+    requires gap { IsGap (meanings T.places T.value_of terms.now) n
+        (ones n) low.now.set high.now.set }
     requires low_worth { IsWorth (meanings T.places T.value_of terms.now) low.now }
     requires high_worth { IsWorth (meanings T.places T.value_of terms.now) high.now }
-    ensures search { OnOk result (IsSearch T.places T.value_of T.size_of T.fits terms.now n search.new) }
-    ensures turn { IfOk result (IsTurn (meanings T.places T.value_of terms.now) n (ones n) low.now.set high.now.set) }
+    ensures search { OnOk result (IsSearch T.places T.value_of T.size_of T.fits terms.now n
+        search.new) }
+    ensures turn { IfOk result (IsTurn (meanings T.places T.value_of terms.now) n
+        (ones n) low.now.set high.now.set) }
 {
     let slope = slope_between(low, high);
     let least = least_at(search, terms, n, slope)?;
@@ -68,7 +71,8 @@ pub fn slope_between(low: &Worth, high: &Worth) -> Slope
     requires few { high.now.size ≤ 256 }
     requires low_small { IsGiven low.now.sum }
     requires high_small { IsGiven high.now.sum }
-    ensures { IsSameSlope (high.now.sum -ℤ low.now.sum) (pos high.now.size -ℤ pos low.now.size) result.num result.den }
+    ensures { IsSameSlope (high.now.sum -ℤ low.now.sum)
+        (pos high.now.size -ℤ pos low.now.size) result.num result.den }
 {
     let rise = high.sum - low.sum;
     let width = (high.size - low.size) as i128;

@@ -33,7 +33,8 @@ pub fn worth_of<T: Term>(alloc: Global, terms: &[T], set: Set) -> Result<Worth, 
 
 // The sum of all terms at a set.
 fn sum_of<T: Term>(alloc: Global, terms: &[T], set: &Set) -> Result<i128, Memory>
-    requires bounded { AreBounded (length set.now) (map T.places terms.now) (map T.size_of terms.now) }
+    requires bounded { AreBounded (length set.now) (map T.places terms.now)
+        (map T.size_of terms.now) }
     ensures value { IfOk result (λ r. r ≡ sum_at (meanings T.places T.value_of terms.now) set.now) }
     ensures small { IfOk result IsGiven }
 {
@@ -46,8 +47,10 @@ fn sum_of<T: Term>(alloc: Global, terms: &[T], set: &Set) -> Result<i128, Memory
 
 // The value of a term at a set, or 0 where the term does not allow its part.
 fn value_at<T: Term>(alloc: Global, term: &T, set: &Set) -> Result<i128, Memory>
-    requires placed { (j : ℕ) → j < length (T.places term.now) → slice_index (T.places term.now) j < length set.now }
-    ensures { IfOk result (λ r. r ≡ unwrap_or (T.value_of term.now (part (T.places term.now) set.now)) (pos 0)) }
+    requires placed { (j : ℕ) → j < length (T.places term.now)
+        → slice_index (T.places term.now) j < length set.now }
+    ensures { IfOk result (λ r. r ≡ unwrap_or (T.value_of term.now
+        (part (T.places term.now) set.now)) (pos 0)) }
 {
     let part = set.part(alloc, term.elements())?;
     let value = term.value(alloc, &part)?;

@@ -37,14 +37,16 @@ pub(crate) fn flow_along(
     i: usize,
     most: i128,
 ) -> i128
-    requires cells { (m : ℕ) × AreCells (length nodes.now) m cells.now.whos.items cells.now.slots.items }
+    requires cells { (m : ℕ) × AreCells (length nodes.now) m cells.now.whos.items
+        cells.now.slots.items }
     requires same { length y.now ≡ length cells.now.whos.items }
     requires places { length nodes.now ≡ length lacks.now }
     requires tree { AreBranches cells.now.whos.items cells.now.slots.items nodes.now }
     requires found { IsFound nodes.now i }
     ensures most { result ≤ℤ most }
     ensures way { Carries cells.now.whos.items nodes.now y.now lacks.now result i }
-    ensures some { AreNodes cells.now.whos.items cells.now.slots.items y.now nodes.now → AreRoots lacks.now nodes.now → pos 1 ≤ℤ most → pos 1 ≤ℤ result }
+    ensures some { AreNodes cells.now.whos.items cells.now.slots.items y.now nodes.now
+        → AreRoots lacks.now nodes.now → pos 1 ≤ℤ most → pos 1 ≤ℤ result }
 {
     let mut flow = most;
     let mut who = i;
@@ -65,17 +67,22 @@ pub(crate) fn augment(
     lacks: &mut [i128],
     y: &mut [i128],
 )
-    requires cells { (m : ℕ) × AreCells (length nodes.now) m cells.now.whos.items cells.now.slots.items }
+    requires cells { (m : ℕ) × AreCells (length nodes.now) m cells.now.whos.items
+        cells.now.slots.items }
     requires same { length y.old ≡ length cells.now.whos.items }
     requires places { length nodes.now ≡ length lacks.old }
     requires amounts { (e : ℕ) → pos 0 ≤ℤ amount_at y.old e }
     requires tree { AreBranches cells.now.whos.items cells.now.slots.items nodes.now }
     requires last { last < length cells.now.whos.items }
     requires some { pos 0 ≤ℤ a }
-    requires way { Carries cells.now.whos.items nodes.now y.old lacks.old a (label_at cells.now.whos.items last) }
-    requires small { (e : ℕ) → e < length cells.now.whos.items → sum_at (label_at cells.now.slots.items e) cells.now.slots.items y.old ≤ℤ pos (10 ^ 24) }
-    requires room { (sum_at (label_at cells.now.slots.items last) cells.now.slots.items y.old +ℤ a) ≤ℤ pos (10 ^ 24) }
-    ensures { (r : IsRaised cells.now.whos.items cells.now.slots.items nodes.now lacks.old last a y.old y.new) × (lacks.new ≡ slice_set lacks.old r.root (amount_at lacks.old r.root -ℤ a)) }
+    requires way { Carries cells.now.whos.items nodes.now y.old lacks.old a
+        (label_at cells.now.whos.items last) }
+    requires small { (e : ℕ) → e < length cells.now.whos.items
+        → sum_at (label_at cells.now.slots.items e) cells.now.slots.items y.old ≤ℤ pos (10 ^ 24) }
+    requires room { (sum_at (label_at cells.now.slots.items last) cells.now.slots.items y.old +ℤ a)
+        ≤ℤ pos (10 ^ 24) }
+    ensures { (r : IsRaised cells.now.whos.items cells.now.slots.items nodes.now lacks.old last a
+        y.old y.new) × (lacks.new ≡ slice_set lacks.old r.root (amount_at lacks.old r.root -ℤ a)) }
 {
     put(y, last, a);
     let mut who = cells.whos[last];

@@ -36,9 +36,13 @@ fn charge(
     requires slots { length aim.now.capacities.now ≡ length demand.now.capacities }
     requires amounts { All IsAmount aim.now.demands.now }
     requires bounded { All IsCapacity aim.now.capacities.now }
-    requires met { AreMet demand.now shares.now.cells.whos.items shares.now.cells.slots.items shares.now.y.items }
-    requires left { AreLeft demand.now.capacities shares.now.cells.slots.items shares.now.y.items rooms.now }
-    ensures charge { OnOk result (IsCharge aim.now.demands.now aim.now.capacities.now shares.now.cells.whos.items shares.now.cells.slots.items shares.now.y.items left.new.lacks.items left.new.rooms.items) }
+    requires met { AreMet demand.now shares.now.cells.whos.items shares.now.cells.slots.items
+        shares.now.y.items }
+    requires left { AreLeft demand.now.capacities shares.now.cells.slots.items shares.now.y.items
+        rooms.now }
+    ensures charge { OnOk result (IsCharge aim.now.demands.now aim.now.capacities.now
+        shares.now.cells.whos.items shares.now.cells.slots.items shares.now.y.items
+        left.new.lacks.items left.new.rooms.items) }
     ensures lacks { OnOk result (AreSmall left.new.lacks.items) }
     ensures rooms { OnOk result (AreSmall left.new.rooms.items) }
 {
@@ -64,12 +68,26 @@ pub fn find_amounts(
 ) -> Result<(), AssignEnd>
     requires sized { length aim.now.demands.now ≡ length demand.now.demands }
     requires slots { length aim.now.capacities.now ≡ length demand.now.capacities }
-    requires sound { AreDemands (record { demands = aim.now.demands.now; lists = demand.now.lists; capacities = aim.now.capacities.now }) }
-    requires met { AreMet demand.now shares.now.cells.whos.items shares.now.cells.slots.items shares.now.y.items }
-    requires left { AreLeft demand.now.capacities shares.now.cells.slots.items shares.now.y.items rooms.now }
-    ensures met { MatchResult result (λ _. AreMet (record { demands = aim.now.demands.now; lists = demand.now.lists; capacities = aim.now.capacities.now }) shares.now.cells.whos.items shares.now.cells.slots.items work.new.y.items) (IsAssignEnd aim.now.demands.now demand.now.lists aim.now.capacities.now) }
-    ensures lacks { OnOk result (AreLeft aim.now.demands.now shares.now.cells.whos.items work.new.y.items work.new.left.lacks.items) }
-    ensures rooms { OnOk result (AreLeft aim.now.capacities.now shares.now.cells.slots.items work.new.y.items work.new.left.rooms.items) }
+    requires sound { AreDemands (record {
+      demands = aim.now.demands.now;
+      lists = demand.now.lists;
+      capacities = aim.now.capacities.now;
+    }) }
+    requires met { AreMet demand.now shares.now.cells.whos.items shares.now.cells.slots.items
+        shares.now.y.items }
+    requires left { AreLeft demand.now.capacities shares.now.cells.slots.items shares.now.y.items
+        rooms.now }
+    ensures met { MatchResult result (λ _. AreMet (record {
+      demands = aim.now.demands.now;
+      lists = demand.now.lists;
+      capacities = aim.now.capacities.now;
+    }) shares.now.cells.whos.items
+        shares.now.cells.slots.items work.new.y.items)
+        (IsAssignEnd aim.now.demands.now demand.now.lists aim.now.capacities.now) }
+    ensures lacks { OnOk result (AreLeft aim.now.demands.now shares.now.cells.whos.items
+        work.new.y.items work.new.left.lacks.items) }
+    ensures rooms { OnOk result (AreLeft aim.now.capacities.now shares.now.cells.slots.items
+        work.new.y.items work.new.left.rooms.items) }
 {
     charge(&mut work.left, demand, shares, rooms, aim)?;
     copy_list(&mut work.y, &shares.y)?;
@@ -97,9 +115,11 @@ pub fn begin(
     shares: &Shares,
     rooms: &[i128],
 ) -> Result<(), Memory>
-    requires met { AreMet demand.now shares.now.cells.whos.items shares.now.cells.slots.items shares.now.y.items }
+    requires met { AreMet demand.now shares.now.cells.whos.items shares.now.cells.slots.items
+        shares.now.y.items }
     ensures amounts { OnOk result (work.new.y.items ≡ shares.now.y.items) }
-    ensures lacks { OnOk result (AreLeft demand.now.demands shares.now.cells.whos.items shares.now.y.items work.new.left.lacks.items) }
+    ensures lacks { OnOk result (AreLeft demand.now.demands shares.now.cells.whos.items
+        shares.now.y.items work.new.left.lacks.items) }
     ensures rooms { OnOk result (work.new.left.rooms.items ≡ rooms.now) }
 {
     write_zeros(&mut work.left.lacks, demand.demands())?;

@@ -41,7 +41,8 @@ impl Slots {
 
 /// Puts a list at the end; false where there is no memory for it.
 fn put_list(lists: &mut Vec<Slots>, slots: Vec<usize>) -> bool
-    ensures { lists.new.items ≡ (if result then lists.old.items ++ slots.items ∷ [] else lists.old.items) }
+    ensures { lists.new.items ≡ (if result then lists.old.items
+        ++ slots.items ∷ [] else lists.old.items) }
 {
     lists.push(Slots { items: slots }).is_ok()
 }
@@ -69,9 +70,17 @@ impl Model for Demand {
 
     ghost Value = { Demands };
 
-    ghost view = { λ s. record { demands = s.demands.items; lists = s.lists.items; capacities = s.capacities.items } };
+    ghost view = { λ s. record {
+      demands = s.demands.items;
+      lists = s.lists.items;
+      capacities = s.capacities.items;
+    } };
 
-    ghost invariant = { λ s. AreDemands (record { demands = s.demands.items; lists = s.lists.items; capacities = s.capacities.items }) };
+    ghost invariant = { λ s. AreDemands (record {
+      demands = s.demands.items;
+      lists = s.lists.items;
+      capacities = s.capacities.items;
+    }) };
 }
 
 impl Demand {
@@ -83,7 +92,11 @@ impl Demand {
     pub fn new(alloc: Global, capacities: &[i128]) -> Result<Demand, Memory>
         requires few { length capacities.now ≤ 2 ^ 24 }
         requires bounded { All IsCapacity capacities.now }
-        ensures { IfOk result (λ r. r ≡ record { demands = []; lists = []; capacities = capacities.now }) }
+        ensures { IfOk result (λ r. r ≡ record {
+          demands = [];
+          lists = [];
+          capacities = capacities.now;
+        }) }
     {
         let capacities = Vec::from_slice(alloc, capacities)?;
         Ok(Demand {
@@ -102,7 +115,11 @@ impl Demand {
         requires few { length self.old.demands < 256 }
         requires amount { IsAmount d }
         requires exist { All (λ s. s < length self.old.capacities) slots.items }
-        ensures { self.new ≡ (if is_ok result then record { demands = self.old.demands ++ d ∷ []; lists = self.old.lists ++ slots.items ∷ []; capacities = self.old.capacities } else self.old) }
+        ensures { self.new ≡ (if is_ok result then record {
+          demands = self.old.demands ++ d ∷ [];
+          lists = self.old.lists ++ slots.items ∷ [];
+          capacities = self.old.capacities;
+        } else self.old) }
     {
         self.demands.push(d)?;
         if put_list(&mut self.lists, slots) {
@@ -137,7 +154,11 @@ impl Demand {
         requires slots { length capacities.now ≡ length self.old.capacities }
         requires amounts { All IsAmount demands.now }
         requires bounded { All IsCapacity capacities.now }
-        ensures { self.new ≡ record { demands = demands.now; lists = self.old.lists; capacities = capacities.now } }
+        ensures { self.new ≡ record {
+          demands = demands.now;
+          lists = self.old.lists;
+          capacities = capacities.now;
+        } }
     {
         self.demands.copy_from_slice(demands);
         self.capacities.copy_from_slice(capacities);
@@ -147,7 +168,12 @@ impl Demand {
     pub fn raise(&mut self, u: usize, a: i128)
         requires place { u < length self.old.demands }
         requires amount { IsAmount (amount_at self.old.demands u +ℤ a) }
-        ensures { self.new ≡ record { demands = slice_set self.old.demands u (amount_at self.old.demands u +ℤ a); lists = self.old.lists; capacities = self.old.capacities } }
+        ensures { self.new ≡ record {
+          demands = slice_set self.old.demands u
+              (amount_at self.old.demands u +ℤ a);
+          lists = self.old.lists;
+          capacities = self.old.capacities;
+        } }
     {
         self.demands[u] += a;
     }

@@ -19,13 +19,17 @@ use std::alloc::Global;
 /// Moves as much as can move now, from the slot of a cell to a demand that lacks something, and takes it off what these have
 /// left; where the demand of the cell was found.
 fn raise(cells: &Cells, search: &Search, e: usize, left: &mut Lefts, y: &mut [i128])
-    requires within { AreWithin cells.now.whos.items cells.now.slots.items y.old left.old.lacks.items left.old.rooms.items }
+    requires within { AreWithin cells.now.whos.items cells.now.slots.items y.old
+        left.old.lacks.items left.old.rooms.items }
     requires places { length search.now.nodes.items ≡ length left.old.lacks.items }
     requires tree { AreBranches cells.now.whos.items cells.now.slots.items search.now.nodes.items }
     requires cell { e < length cells.now.whos.items }
-    ensures raised { AreRaised cells.now.whos.items cells.now.slots.items y.old left.old.lacks.items left.old.rooms.items y.new left.new.lacks.items left.new.rooms.items }
+    ensures raised { AreRaised cells.now.whos.items cells.now.slots.items y.old left.old.lacks.items
+        left.old.rooms.items y.new left.new.lacks.items left.new.rooms.items }
     ensures same { left.new.lacking.items ≡ left.old.lacking.items }
-    ensures more { IsOpen cells.now.whos.items cells.now.slots.items y.old left.old.lacks.items left.old.rooms.items search.now.nodes.items e → total_of left.new.lacks.items <ℤ total_of left.old.lacks.items }
+    ensures more { IsOpen cells.now.whos.items cells.now.slots.items y.old left.old.lacks.items
+        left.old.rooms.items search.now.nodes.items e
+        → total_of left.new.lacks.items <ℤ total_of left.old.lacks.items }
 {
     let i = cells.whos[e];
     let s = cells.slots[e];
@@ -43,10 +47,12 @@ fn raise(cells: &Cells, search: &Search, e: usize, left: &mut Lefts, y: &mut [i1
 /// Moves as much as can move from a slot along the links that a search found, to whichever demands have a cell there, as long as
 /// the slot has room.
 fn drain(cells: &Cells, search: &Search, s: usize, left: &mut Lefts, y: &mut [i128])
-    requires within { AreWithin cells.now.whos.items cells.now.slots.items y.old left.old.lacks.items left.old.rooms.items }
+    requires within { AreWithin cells.now.whos.items cells.now.slots.items y.old
+        left.old.lacks.items left.old.rooms.items }
     requires places { length search.now.nodes.items ≡ length left.old.lacks.items }
     requires tree { AreBranches cells.now.whos.items cells.now.slots.items search.now.nodes.items }
-    ensures raised { AreRaised cells.now.whos.items cells.now.slots.items y.old left.old.lacks.items left.old.rooms.items y.new left.new.lacks.items left.new.rooms.items }
+    ensures raised { AreRaised cells.now.whos.items cells.now.slots.items y.old left.old.lacks.items
+        left.old.rooms.items y.new left.new.lacks.items left.new.rooms.items }
     ensures same { left.new.lacking.items ≡ left.old.lacking.items }
 {
     let mut at = cells.by_slot.head(s);
@@ -68,12 +74,15 @@ pub(crate) fn fill_from(
     left: &mut Lefts,
     y: &mut [i128],
 ) -> Result<Search, Memory>
-    requires within { AreWithin cells.now.whos.items cells.now.slots.items y.old left.old.lacks.items left.old.rooms.items }
+    requires within { AreWithin cells.now.whos.items cells.now.slots.items y.old
+        left.old.lacks.items left.old.rooms.items }
     requires listed { ListsLacking left.old.lacks.items left.old.lacking.items }
-    ensures raised { AreRaised cells.now.whos.items cells.now.slots.items y.old left.old.lacks.items left.old.rooms.items y.new left.new.lacks.items left.new.rooms.items }
+    ensures raised { AreRaised cells.now.whos.items cells.now.slots.items y.old left.old.lacks.items
+        left.old.rooms.items y.new left.new.lacks.items left.new.rooms.items }
     ensures listed { IfOk result (λ _. ListsLacking left.new.lacks.items left.new.lacking.items) }
     ensures queued { IfOk result (λ r. AreQueued r.nodes.items r.queue.items) }
-    ensures stuck { IfOk result (λ r. IsSearch cells.now.whos.items cells.now.slots.items y.new left.new.lacks.items left.new.rooms.items r.nodes.items None) }
+    ensures stuck { IfOk result (λ r. IsSearch cells.now.whos.items cells.now.slots.items y.new
+        left.new.lacks.items left.new.rooms.items r.nodes.items None) }
 {
     let mut search = rest.ready(alloc, left.lacks.len(), left.rooms.len())?;
     while let Some(last) = search.run(cells, y, left)? {

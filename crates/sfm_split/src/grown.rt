@@ -23,9 +23,13 @@ pub fn raise_most(
     u: usize,
     limit: i128,
 ) -> Result<i128, Memory>
-    requires { (d : Demands) × MayGrow d cells.now.whos.items cells.now.slots.items work.old.y.items work.old.left.lacks.items work.old.left.rooms.items u limit }
-    ensures { IfOk result (λ more. (d : Demands) → MayGrow d cells.now.whos.items cells.now.slots.items work.old.y.items work.old.left.lacks.items work.old.left.rooms.items u limit
-        → IsGrown d cells.now.whos.items cells.now.slots.items work.new.y.items work.new.left.rooms.items u limit more) }
+    requires { (d : Demands) × MayGrow d cells.now.whos.items cells.now.slots.items work.old.y.items
+        work.old.left.lacks.items work.old.left.rooms.items u limit }
+    ensures { IfOk result (λ more. (d : Demands) → MayGrow d cells.now.whos.items
+        cells.now.slots.items work.old.y.items work.old.left.lacks.items work.old.left.rooms.items u
+        limit
+        → IsGrown d cells.now.whos.items cells.now.slots.items work.new.y.items
+        work.new.left.rooms.items u limit more) }
 {
     work.left.lacks[u] = limit;
     work.left.lacking.clear();

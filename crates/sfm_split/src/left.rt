@@ -47,7 +47,9 @@ impl Lefts {
     /// A demand that lacks something.
     pub(crate) fn first_lacking(&self) -> Option<usize>
         requires listed { ListsLacking self.now.lacks.items self.now.lacking.items }
-        ensures { MatchOption result ((i : ℕ) → i < length self.now.lacks.items → amount_at self.now.lacks.items i ≤ℤ pos 0) (λ i. (i < length self.now.lacks.items) × (pos 0 <ℤ amount_at self.now.lacks.items i)) }
+        ensures { MatchOption result ((i : ℕ) → i < length self.now.lacks.items
+            → amount_at self.now.lacks.items i ≤ℤ pos 0)
+            (λ i. (i < length self.now.lacks.items) × (pos 0 <ℤ amount_at self.now.lacks.items i)) }
     {
         for k in 0..self.lacking.len() {
             let i = self.lacking[k];
@@ -73,7 +75,8 @@ pub fn left_of(
     requires same { length y.now ≡ length labels.now }
     requires below { (e : ℕ) → e < length labels.now → label_at labels.now e < length totals.now }
     requires amounts { (e : ℕ) → pos 0 ≤ℤ amount_at y.now e }
-    requires within { (k : ℕ) → k < length totals.now → sum_at k labels.now y.now ≤ℤ amount_at totals.now k }
+    requires within { (k : ℕ) → k < length totals.now → sum_at k labels.now y.now
+        ≤ℤ amount_at totals.now k }
     ensures { IfOk result (λ r. AreLeft totals.now labels.now y.now r.items) }
 {
     let mut left = Vec::from_slice(alloc, totals)?;
@@ -91,10 +94,14 @@ pub(crate) fn lefts_of(
     capacities: &[i128],
     y: &[i128],
 ) -> Result<Lefts, Memory>
-    requires cells { AreCells (length demands.now) (length capacities.now) cells.now.whos.items cells.now.slots.items }
-    requires part { IsPart demands.now capacities.now cells.now.whos.items cells.now.slots.items y.now }
-    ensures lacks { IfOk result (λ r. AreLeft demands.now cells.now.whos.items y.now r.lacks.items) }
-    ensures rooms { IfOk result (λ r. AreLeft capacities.now cells.now.slots.items y.now r.rooms.items) }
+    requires cells { AreCells (length demands.now) (length capacities.now) cells.now.whos.items
+        cells.now.slots.items }
+    requires part { IsPart demands.now capacities.now cells.now.whos.items cells.now.slots.items
+        y.now }
+    ensures lacks { IfOk result (λ r. AreLeft demands.now cells.now.whos.items y.now
+        r.lacks.items) }
+    ensures rooms { IfOk result (λ r. AreLeft capacities.now cells.now.slots.items y.now
+        r.rooms.items) }
 {
     Ok(Lefts {
         lacks: left_of(alloc, demands, &cells.whos, y)?,

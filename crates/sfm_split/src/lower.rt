@@ -38,7 +38,8 @@ pub(crate) fn write_more(to: &mut Vec<i128>, totals: &[i128], before: &[i128]) -
     requires same { length before.now ≡ length totals.now }
     requires amounts { All IsAmount totals.now }
     requires amounts_before { All IsAmount before.now }
-    ensures { OnOk result (IsShifted totals.now before.now (replicate (length totals.now) (pos 0)) to.new.items) }
+    ensures { OnOk result (IsShifted totals.now before.now
+        (replicate (length totals.now) (pos 0)) to.new.items) }
 {
     to.clear();
     for k in 0..totals.len() {
@@ -51,9 +52,14 @@ pub(crate) fn write_more(to: &mut Vec<i128>, totals: &[i128], before: &[i128]) -
 fn lower_on(cells: &Cells, e: usize, over: i128, left: &mut Lefts, y: &mut [i128])
     requires cell { e < length cells.now.whos.items }
     requires low { pos 0 ≤ℤ over }
-    requires charged { AreCharged cells.now.whos.items cells.now.slots.items y.old left.old.lacks.items left.old.rooms.items }
-    ensures lowered { AreLowered cells.now.whos.items cells.now.slots.items y.old left.old.lacks.items left.old.rooms.items y.new left.new.lacks.items left.new.rooms.items }
-    ensures given { pos 1 ≤ℤ amount_at y.new e → (side : Side) → let k = label_at (of_side side cells.now.whos.items cells.now.slots.items) e in amount_at (of_side side left.new.lacks.items left.new.rooms.items) k ≡ (amount_at (of_side side left.old.lacks.items left.old.rooms.items) k +ℤ over) }
+    requires charged { AreCharged cells.now.whos.items cells.now.slots.items y.old
+        left.old.lacks.items left.old.rooms.items }
+    ensures lowered { AreLowered cells.now.whos.items cells.now.slots.items y.old
+        left.old.lacks.items left.old.rooms.items y.new left.new.lacks.items left.new.rooms.items }
+    ensures given { pos 1 ≤ℤ amount_at y.new e → (side : Side)
+        → let k = label_at (of_side side cells.now.whos.items cells.now.slots.items) e in amount_at
+        (of_side side left.new.lacks.items left.new.rooms.items) k
+        ≡ (amount_at (of_side side left.old.lacks.items left.old.rooms.items) k +ℤ over) }
 {
     let i = cells.whos[e];
     let s = cells.slots[e];
@@ -84,8 +90,10 @@ impl Side {
     /// By how much amounts are too much for the total k of the side; no more than 0 where they are not.
     fn excess(self, left: &Lefts, k: usize) -> i128
         requires place { k < length (of_side self left.now.lacks.items left.now.rooms.items) }
-        requires small { pos 0 ≤ℤ (amount_at (of_side self left.now.lacks.items left.now.rooms.items) k +ℤ pos (10 ^ 32)) }
-        ensures { result ≡ (pos 0 -ℤ amount_at (of_side self left.now.lacks.items left.now.rooms.items) k) }
+        requires small { pos 0 ≤ℤ (amount_at (of_side self left.now.lacks.items
+            left.now.rooms.items) k +ℤ pos (10 ^ 32)) }
+        ensures { result ≡ (pos 0 -ℤ amount_at (of_side self left.now.lacks.items
+            left.now.rooms.items) k) }
     {
         let totals = self.of(left);
         -totals[k]
@@ -93,7 +101,8 @@ impl Side {
 
     /// The chains of the side.
     fn chains(self, cells: &Cells) -> &Chains
-        ensures { AreChains (of_side self cells.now.whos.items cells.now.slots.items) result.now.heads.items result.now.nexts.items }
+        ensures { AreChains (of_side self cells.now.whos.items cells.now.slots.items)
+            result.now.heads.items result.now.nexts.items }
     {
         match self {
             Side::Demands => &cells.by_who,
@@ -105,8 +114,10 @@ impl Side {
 /// Lowers the amounts on the cells of a demand, or of a slot, until they are no more than its total.
 fn lower_along(cells: &Cells, side: Side, k: usize, left: &mut Lefts, y: &mut [i128])
     requires place { k < length (of_side side left.old.lacks.items left.old.rooms.items) }
-    requires charged { AreCharged cells.now.whos.items cells.now.slots.items y.old left.old.lacks.items left.old.rooms.items }
-    ensures lowered { AreLowered cells.now.whos.items cells.now.slots.items y.old left.old.lacks.items left.old.rooms.items y.new left.new.lacks.items left.new.rooms.items }
+    requires charged { AreCharged cells.now.whos.items cells.now.slots.items y.old
+        left.old.lacks.items left.old.rooms.items }
+    ensures lowered { AreLowered cells.now.whos.items cells.now.slots.items y.old
+        left.old.lacks.items left.old.rooms.items y.new left.new.lacks.items left.new.rooms.items }
     ensures mended { pos 0 ≤ℤ amount_at (of_side side left.new.lacks.items left.new.rooms.items) k }
 {
     let chains = side.chains(cells);
@@ -123,9 +134,12 @@ fn lower_along(cells: &Cells, side: Side, k: usize, left: &mut Lefts, y: &mut [i
 
 /// Lowers amounts until no demand, or no slot, gets more than its total.
 fn lower_side(cells: &Cells, side: Side, left: &mut Lefts, y: &mut [i128])
-    requires charged { AreCharged cells.now.whos.items cells.now.slots.items y.old left.old.lacks.items left.old.rooms.items }
-    ensures lowered { AreLowered cells.now.whos.items cells.now.slots.items y.old left.old.lacks.items left.old.rooms.items y.new left.new.lacks.items left.new.rooms.items }
-    ensures mended { (k : ℕ) → k < length (of_side side left.new.lacks.items left.new.rooms.items) → pos 0 ≤ℤ amount_at (of_side side left.new.lacks.items left.new.rooms.items) k }
+    requires charged { AreCharged cells.now.whos.items cells.now.slots.items y.old
+        left.old.lacks.items left.old.rooms.items }
+    ensures lowered { AreLowered cells.now.whos.items cells.now.slots.items y.old
+        left.old.lacks.items left.old.rooms.items y.new left.new.lacks.items left.new.rooms.items }
+    ensures mended { (k : ℕ) → k < length (of_side side left.new.lacks.items left.new.rooms.items)
+        → pos 0 ≤ℤ amount_at (of_side side left.new.lacks.items left.new.rooms.items) k }
 {
     for k in 0..side.of(left).len() {
         let totals = side.of(left);
@@ -137,8 +151,10 @@ fn lower_side(cells: &Cells, side: Side, left: &mut Lefts, y: &mut [i128])
 
 /// Lowers amounts until no demand gets more than it asks for, and no slot more than its capacity.
 pub(crate) fn lower_all(cells: &Cells, left: &mut Lefts, y: &mut [i128])
-    requires charged { AreCharged cells.now.whos.items cells.now.slots.items y.old left.old.lacks.items left.old.rooms.items }
-    ensures { AreMended cells.now.whos.items cells.now.slots.items y.old left.old.lacks.items left.old.rooms.items y.new left.new.lacks.items left.new.rooms.items }
+    requires charged { AreCharged cells.now.whos.items cells.now.slots.items y.old
+        left.old.lacks.items left.old.rooms.items }
+    ensures { AreMended cells.now.whos.items cells.now.slots.items y.old left.old.lacks.items
+        left.old.rooms.items y.new left.new.lacks.items left.new.rooms.items }
 {
     lower_side(cells, Side::Demands, left, y);
     lower_side(cells, Side::Slots, left, y);

@@ -102,7 +102,8 @@ impl Search {
         requires places { length self.old.nodes.items ≡ length left.now.lacks.items }
         requires queued { AreQueued self.old.nodes.items self.old.queue.items }
         ensures nodes { OnOk result (AreRootsOf left.now.lacks.items self.new.nodes.items) }
-        ensures marks { OnOk result (self.new.marks.items ≡ replicate (length self.old.marks.items) false) }
+        ensures marks { OnOk result (self.new.marks.items ≡ replicate
+            (length self.old.marks.items) false) }
         ensures queue { OnOk result (AreQueued self.new.nodes.items self.new.queue.items) }
     {
         self.clear();
@@ -119,14 +120,16 @@ impl Search {
         left: &Lefts,
     ) -> Result<Option<usize>, Memory>
         requires listed { ListsLacking left.now.lacks.items left.now.lacking.items }
-        requires cells { AreCells (length left.now.lacks.items) (length left.now.rooms.items) cells.now.whos.items cells.now.slots.items }
+        requires cells { AreCells (length left.now.lacks.items)
+            (length left.now.rooms.items) cells.now.whos.items cells.now.slots.items }
         requires same { length y.now ≡ length cells.now.whos.items }
         requires nodes { length self.old.nodes.items ≡ length left.now.lacks.items }
         requires places { length self.old.marks.items ≡ length left.now.rooms.items }
         requires queued { AreQueued self.old.nodes.items self.old.queue.items }
         ensures places { OnOk result (length self.new.marks.items ≡ length left.now.rooms.items) }
         ensures queued { OnOk result (AreQueued self.new.nodes.items self.new.queue.items) }
-        ensures search { IfOk result (IsSearch cells.now.whos.items cells.now.slots.items y.now left.now.lacks.items left.now.rooms.items self.new.nodes.items) }
+        ensures search { IfOk result (IsSearch cells.now.whos.items cells.now.slots.items y.now
+            left.now.lacks.items left.now.rooms.items self.new.nodes.items) }
     {
         self.begin(left)?;
         let mut next = 0;
@@ -142,17 +145,23 @@ impl Search {
 
     /// Finds the demand of a cell from another on its slot, where it has something there and was not found before.
     fn find(&mut self, cells: &Cells, y: &[i128], link: Link) -> Result<(), Memory>
-        requires cells { AreCells (length self.old.nodes.items) (length self.old.marks.items) cells.now.whos.items cells.now.slots.items }
+        requires cells { AreCells (length self.old.nodes.items)
+            (length self.old.marks.items) cells.now.whos.items cells.now.slots.items }
         requires same { length y.now ≡ length cells.now.whos.items }
         requires own { link.own < length cells.now.whos.items }
         requires other { link.other < length cells.now.whos.items }
-        requires shared { label_at cells.now.slots.items link.own ≡ label_at cells.now.slots.items link.other }
+        requires shared { label_at cells.now.slots.items link.own
+            ≡ label_at cells.now.slots.items link.other }
         requires found { IsFound self.old.nodes.items (label_at cells.now.whos.items link.other) }
-        requires progress { IsProgress cells.now.whos.items cells.now.slots.items y.now self.old.nodes.items self.old.marks.items self.old.queue.items }
+        requires progress { IsProgress cells.now.whos.items cells.now.slots.items y.now
+            self.old.nodes.items self.old.marks.items self.old.queue.items }
         ensures marks { self.new.marks.items ≡ self.old.marks.items }
-        ensures progress { OnOk result (IsProgress cells.now.whos.items cells.now.slots.items y.now self.new.nodes.items self.new.marks.items self.new.queue.items) }
-        ensures further { OnOk result (IsFurther self.old.nodes.items self.old.queue.items self.new.nodes.items self.new.queue.items) }
-        ensures seen { OnOk result (node_at self.new.nodes.items (label_at cells.now.whos.items link.own) ≡ None → amount_at y.now link.own ≤ℤ pos 0) }
+        ensures progress { OnOk result (IsProgress cells.now.whos.items cells.now.slots.items y.now
+            self.new.nodes.items self.new.marks.items self.new.queue.items) }
+        ensures further { OnOk result (IsFurther self.old.nodes.items self.old.queue.items
+            self.new.nodes.items self.new.queue.items) }
+        ensures seen { OnOk result (node_at self.new.nodes.items
+            (label_at cells.now.whos.items link.own) ≡ None → amount_at y.now link.own ≤ℤ pos 0) }
     {
         if y[link.own] <= 0 {
             return Ok(());
@@ -172,14 +181,19 @@ impl Search {
 
     /// Marks the slot of a cell of a found demand, and finds all demands that have something on it.
     fn sweep(&mut self, cells: &Cells, y: &[i128], e: usize) -> Result<(), Memory>
-        requires cells { AreCells (length self.old.nodes.items) (length self.old.marks.items) cells.now.whos.items cells.now.slots.items }
+        requires cells { AreCells (length self.old.nodes.items)
+            (length self.old.marks.items) cells.now.whos.items cells.now.slots.items }
         requires same { length y.now ≡ length cells.now.whos.items }
         requires cell { e < length cells.now.whos.items }
         requires found { IsFound self.old.nodes.items (label_at cells.now.whos.items e) }
-        requires progress { IsProgress cells.now.whos.items cells.now.slots.items y.now self.old.nodes.items self.old.marks.items self.old.queue.items }
-        ensures marks { OnOk result (self.new.marks.items ≡ slice_set self.old.marks.items (label_at cells.now.slots.items e) true) }
-        ensures progress { OnOk result (IsProgress cells.now.whos.items cells.now.slots.items y.now self.new.nodes.items self.new.marks.items self.new.queue.items) }
-        ensures further { OnOk result (IsFurther self.old.nodes.items self.old.queue.items self.new.nodes.items self.new.queue.items) }
+        requires progress { IsProgress cells.now.whos.items cells.now.slots.items y.now
+            self.old.nodes.items self.old.marks.items self.old.queue.items }
+        ensures marks { OnOk result (self.new.marks.items ≡ slice_set self.old.marks.items
+            (label_at cells.now.slots.items e) true) }
+        ensures progress { OnOk result (IsProgress cells.now.whos.items cells.now.slots.items y.now
+            self.new.nodes.items self.new.marks.items self.new.queue.items) }
+        ensures further { OnOk result (IsFurther self.old.nodes.items self.old.queue.items
+            self.new.nodes.items self.new.queue.items) }
     {
         let s = cells.slots[e];
         let mut at = cells.by_slot.head(s);
@@ -199,15 +213,20 @@ impl Search {
         rooms: &[i128],
         i: usize,
     ) -> Result<Option<usize>, Memory>
-        requires cells { AreCells (length self.old.nodes.items) (length rooms.now) cells.now.whos.items cells.now.slots.items }
+        requires cells { AreCells (length self.old.nodes.items)
+            (length rooms.now) cells.now.whos.items cells.now.slots.items }
         requires same { length y.now ≡ length cells.now.whos.items }
         requires places { length self.old.marks.items ≡ length rooms.now }
         requires found { IsFound self.old.nodes.items i }
-        requires progress { IsProgress cells.now.whos.items cells.now.slots.items y.now self.old.nodes.items self.old.marks.items self.old.queue.items }
+        requires progress { IsProgress cells.now.whos.items cells.now.slots.items y.now
+            self.old.nodes.items self.old.marks.items self.old.queue.items }
         requires full { (s : ℕ) → Has self.old.marks.items s → amount_at rooms.now s ≤ℤ pos 0 }
-        ensures handled { OnOk result (IsHandled cells.now.whos.items cells.now.slots.items y.now rooms.now self.old.nodes.items self.old.marks.items self.old.queue.items self.new.nodes.items self.new.marks.items self.new.queue.items) }
+        ensures handled { OnOk result (IsHandled cells.now.whos.items cells.now.slots.items y.now
+            rooms.now self.old.nodes.items self.old.marks.items self.old.queue.items
+            self.new.nodes.items self.new.marks.items self.new.queue.items) }
         ensures told { IfOk result (λ r. MatchOption r
-            ((e : ℕ) → e < length cells.now.whos.items → label_at cells.now.whos.items e ≡ i → Has self.new.marks.items (label_at cells.now.slots.items e))
+            ((e : ℕ) → e < length cells.now.whos.items → label_at cells.now.whos.items e ≡ i
+            → Has self.new.marks.items (label_at cells.now.slots.items e))
             (IsEnd cells.now.whos.items cells.now.slots.items rooms.now self.new.nodes.items)) }
     {
         let mut at = cells.by_who.head(i);

@@ -73,10 +73,13 @@ fn search_all(
     left: &mut Lefts,
     y: &mut [i128],
 ) -> Result<Option<Set>, Memory>
-    requires within { AreWithin cells.now.whos.items cells.now.slots.items y.old left.old.lacks.items left.old.rooms.items }
+    requires within { AreWithin cells.now.whos.items cells.now.slots.items y.old
+        left.old.lacks.items left.old.rooms.items }
     requires listed { ListsLacking left.old.lacks.items left.old.lacking.items }
-    ensures raised { IfOk result (λ _. AreRaised cells.now.whos.items cells.now.slots.items y.old left.old.lacks.items left.old.rooms.items y.new left.new.lacks.items left.new.rooms.items) }
-    ensures told { IfOk result (IsToldOf cells.now.whos.items cells.now.slots.items y.new left.new.lacks.items left.new.rooms.items) }
+    ensures raised { IfOk result (λ _. AreRaised cells.now.whos.items cells.now.slots.items y.old
+        left.old.lacks.items left.old.rooms.items y.new left.new.lacks.items left.new.rooms.items) }
+    ensures told { IfOk result (IsToldOf cells.now.whos.items cells.now.slots.items y.new
+        left.new.lacks.items left.new.rooms.items) }
 {
     let search = fill_from(alloc, cells, rest, left, y)?;
     if left.first_lacking().is_some() {
@@ -97,9 +100,12 @@ fn raise_all(
     left: &mut Lefts,
     y: &mut [i128],
 ) -> Result<Option<Set>, Memory>
-    requires within { AreWithin cells.now.whos.items cells.now.slots.items y.old left.old.lacks.items left.old.rooms.items }
-    ensures raised { IfOk result (λ _. AreRaised cells.now.whos.items cells.now.slots.items y.old left.old.lacks.items left.old.rooms.items y.new left.new.lacks.items left.new.rooms.items) }
-    ensures told { IfOk result (IsToldOf cells.now.whos.items cells.now.slots.items y.new left.new.lacks.items left.new.rooms.items) }
+    requires within { AreWithin cells.now.whos.items cells.now.slots.items y.old
+        left.old.lacks.items left.old.rooms.items }
+    ensures raised { IfOk result (λ _. AreRaised cells.now.whos.items cells.now.slots.items y.old
+        left.old.lacks.items left.old.rooms.items y.new left.new.lacks.items left.new.rooms.items) }
+    ensures told { IfOk result (IsToldOf cells.now.whos.items cells.now.slots.items y.new
+        left.new.lacks.items left.new.rooms.items) }
 {
     pour(cells, left, y);
     left.list_lacking()?;
@@ -116,8 +122,10 @@ pub(crate) fn settle(
     left: &mut Lefts,
     y: &mut [i128],
 ) -> Result<Option<Set>, Memory>
-    requires charged { AreCharged cells.now.whos.items cells.now.slots.items y.old left.old.lacks.items left.old.rooms.items }
-    ensures { IfOk result (AreSettled cells.now.whos.items cells.now.slots.items y.old left.old.lacks.items left.old.rooms.items y.new left.new.lacks.items left.new.rooms.items) }
+    requires charged { AreCharged cells.now.whos.items cells.now.slots.items y.old
+        left.old.lacks.items left.old.rooms.items }
+    ensures { IfOk result (AreSettled cells.now.whos.items cells.now.slots.items y.old
+        left.old.lacks.items left.old.rooms.items y.new left.new.lacks.items left.new.rooms.items) }
 {
     lower_all(cells, left, y);
     left.list_lacking()?;
@@ -129,9 +137,12 @@ pub(crate) fn settle(
 fn raise_to(alloc: Global, demand: &Demand, cells: &Cells, y: &mut [i128]) -> Result<(), AssignEnd>
     requires in_order { cells.now.whos.items ≡ owners 0 demand.now.lists }
     requires in_lists { cells.now.slots.items ≡ joined demand.now.lists }
-    requires part { IsPart demand.now.demands demand.now.capacities cells.now.whos.items cells.now.slots.items y.old }
+    requires part { IsPart demand.now.demands demand.now.capacities cells.now.whos.items
+        cells.now.slots.items y.old }
     ensures sound { AreDemands demand.now }
-    ensures met { MatchResult result (λ _. AreMet demand.now cells.now.whos.items cells.now.slots.items y.new) (IsAssignEnd demand.now.demands demand.now.lists demand.now.capacities) }
+    ensures met { MatchResult result (λ _. AreMet demand.now cells.now.whos.items
+        cells.now.slots.items y.new) (IsAssignEnd demand.now.demands demand.now.lists
+        demand.now.capacities) }
 {
     let demands = demand.demands();
     let mut left = lefts_of(alloc, cells, demands, demand.capacities(), y)?;
@@ -149,7 +160,9 @@ fn raise_to(alloc: Global, demand: &Demand, cells: &Cells, y: &mut [i128]) -> Re
 /// `Shortage` where there is no split; `Memory` where there is none.
 pub fn met_shares(alloc: Global, demand: &Demand) -> Result<Shares, AssignEnd>
     ensures sound { IfOk result (λ _. AreDemands demand.now) }
-    ensures shares { MatchResult result (λ r. AreMet demand.now r.cells.whos.items r.cells.slots.items r.y.items) (IsAssignEnd demand.now.demands demand.now.lists demand.now.capacities) }
+    ensures shares { MatchResult result (λ r. AreMet demand.now r.cells.whos.items
+        r.cells.slots.items r.y.items) (IsAssignEnd demand.now.demands demand.now.lists
+        demand.now.capacities) }
 {
     let cells = Cells::of(alloc, demand.lists(), demand.capacities().len())?;
     let mut y = cells.nothing(alloc)?;
@@ -163,7 +176,9 @@ pub fn met_shares(alloc: Global, demand: &Demand) -> Result<Shares, AssignEnd>
 ///
 /// `Shortage` where there is no split; `Memory` where there is none.
 pub fn assign(alloc: Global, demand: &Demand) -> Result<Split, AssignEnd>
-    ensures { MatchResult result (IsAssignment demand.now.demands demand.now.lists demand.now.capacities) (IsAssignEnd demand.now.demands demand.now.lists demand.now.capacities) }
+    ensures { MatchResult result (IsAssignment demand.now.demands demand.now.lists
+        demand.now.capacities) (IsAssignEnd demand.now.demands demand.now.lists
+        demand.now.capacities) }
 {
     let shares = met_shares(alloc, demand)?;
     let split = Split::cut(alloc, demand.lists(), &shares.y)?;

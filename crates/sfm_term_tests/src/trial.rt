@@ -138,7 +138,8 @@ fn fits<T: Term>(term: &T, q: i128, x: &[i128]) -> bool
 
 /// What a term tells of a vector: whether it is a base of q times the term, with all numbers within the bounds.
 fn tells_base<T: Term>(alloc: Global, term: &T, at: At) -> Result<bool, Memory>
-    ensures { IfOk result (λ r. IsTrue r → IsBased T.places T.value_of T.size_of term.now at.entry.q at.entry.x.now) }
+    ensures { IfOk result (λ r. IsTrue r → IsBased T.places T.value_of T.size_of term.now at.entry.q
+        at.entry.x.now) }
 {
     if fits(term, at.q, at.x) {
         term.is_base(alloc, at.q, at.x)
@@ -149,7 +150,8 @@ fn tells_base<T: Term>(alloc: Global, term: &T, at: At) -> Result<bool, Memory>
 
 /// Whether a vector is a base of q times a term.
 pub(crate) fn is_base<T: Term>(alloc: Global, term: &T, at: At) -> bool
-    ensures { IsTrue result → IsBased T.places T.value_of T.size_of term.now at.entry.q at.entry.x.now }
+    ensures { IsTrue result → IsBased T.places T.value_of T.size_of term.now at.entry.q
+        at.entry.x.now }
 {
     match tells_base(alloc, term, at) {
         Ok(found) => found,
@@ -235,7 +237,8 @@ fn note_behind<T: Term>(alloc: Global, term: &T, at: Pair, a: i128) -> Result<T:
     requires low { pos 0 ≤ℤ a }
     requires high { a ≤ℤ pos (10 ^ 30) }
     requires room { IsWithinRoom (times at.q (T.value_of term.now)) at.x.now at.u at.v a }
-    ensures { IfOk result (λ note. T.fits term.now note at.entry.q (exchanged at.entry.x.now at.entry.u at.entry.v a)) }
+    ensures { IfOk result (λ note. T.fits term.now note at.entry.q
+        (exchanged at.entry.x.now at.entry.u at.entry.v a)) }
 {
     let mut note = term.note(alloc, at.q, at.x)?;
     term.moved(alloc, at.q, at.x, &mut note, at.u, at.v, a)?;

@@ -78,9 +78,12 @@ fn is_too_much(instance: &Instance, term: &Kind) -> bool
 
 /// Adds the term of a line that has no other reason than that there may be too much with it.
 fn add_made(instance: &mut Instance, term: Kind) -> Result<(), LineEnd>
-    requires read { (word : TermWord) × (rest : List (List ℕ)) × IsTermRead instance.old word rest term }
-    ensures outcome { (word : TermWord) (rest : List (List ℕ)) → IsTermRead instance.old word rest term
-        → IsOutcome (state_at Terms instance.old) (word_text word ∷ rest) result (state_at Terms instance.new) }
+    requires read { (word : TermWord) × (rest : List (List ℕ))
+        × IsTermRead instance.old word rest term }
+    ensures outcome { (word : TermWord) (rest : List (List ℕ))
+        → IsTermRead instance.old word rest term
+        → IsOutcome (state_at Terms instance.old) (word_text word ∷ rest) result
+        (state_at Terms instance.new) }
     ensures unchanged { OnErr result (instance.new ≡ instance.old) }
 {
     let _count = instance.names_len();
@@ -119,7 +122,8 @@ fn add_behind(
     rest: &[u8],
 ) -> Result<(), LineEnd>
     requires short { bytes_in (tokens_of rest.now) < 2 ^ 24 }
-    ensures outcome { IsOutcome (state_at Terms instance.old) (word_text word ∷ tokens_of rest.now) result (state_at Terms instance.new) }
+    ensures outcome { IsOutcome (state_at Terms instance.old)
+        (word_text word ∷ tokens_of rest.now) result (state_at Terms instance.new) }
     ensures unchanged { OnErr result (instance.new ≡ instance.old) }
 {
     let _count = instance.names_len();
@@ -135,7 +139,8 @@ fn add_behind(
 /// the word of one or it has no token; `Memory` where there is none. The instance is then as it was.
 pub fn add_line(alloc: Global, instance: &mut Instance, line: &[u8]) -> Result<(), LineEnd>
     requires short { length line.now ≤ text_limit }
-    ensures judged { MatchResult result (λ _. IsTermAdded instance.old line.now instance.new) (IsTermRefusal instance.old line.now) }
+    ensures judged { MatchResult result (λ _. IsTermAdded instance.old line.now instance.new)
+        (IsTermRefusal instance.old line.now) }
     ensures unchanged { OnErr result (instance.new ≡ instance.old) }
 {
     if !are_good_bytes(line) {

@@ -13,18 +13,25 @@ ghost use Rattle.sfm_text.specs.GoodText.{IsTextOf, IsFaultOf};
 
 /// A text is not both good and faulty, and has one first fault: its line and its reason are the only ones.
 pub fn one_fault(_text: &[u8])
-    ensures not_both { (names : List (List ℕ)) (terms : List Kind) (line : ℕ) (reason : Reason) → IsTextOf _text.now names terms → IsFaultOf _text.now line reason → ⊥ }
-    ensures first { (line line' : ℕ) (reason reason' : Reason) → IsFaultOf _text.now line reason → IsFaultOf _text.now line' reason' → (line ≡ line') × (reason ≡ reason') }
+    ensures not_both { (names : List (List ℕ)) (terms : List Kind) (line : ℕ) (reason : Reason)
+        → IsTextOf _text.now names terms → IsFaultOf _text.now line reason → ⊥ }
+    ensures first { (line line' : ℕ) (reason reason' : Reason) → IsFaultOf _text.now line reason
+        → IsFaultOf _text.now line' reason' → (line ≡ line') × (reason ≡ reason') }
 {}
 
 /// Of groups with the same members one with the least cap stands for all: the same parts are within the caps of those that are
 /// kept so, and some of them cross exactly where some of the groups do.
 pub fn least_groups_suffice()
-    ensures caps { (groups : List Group) (t : List Bool) → IsWithinCaps (least_groups groups) t ↔ IsWithinCaps groups t }
-    ensures crossings { (groups : List Group) → ((i : ℕ) × (j : ℕ) × IsCrossing (least_groups groups) i j) ↔ ((i : ℕ) × (j : ℕ) × IsCrossing groups i j) }
+    ensures caps { (groups : List Group) (t : List Bool) → IsWithinCaps (least_groups groups) t
+        ↔ IsWithinCaps groups t }
+    ensures crossings { (groups : List Group) → ((i : ℕ) × (j : ℕ)
+        × IsCrossing (least_groups groups) i j) ↔ ((i : ℕ) × (j : ℕ) × IsCrossing groups i j) }
 {}
 
 /// An entry of different slots needs no more of them than its line has elements: with its first ones the same parts are independent.
 pub fn first_slots_suffice()
-    ensures { (labels : List (List (List ℕ))) (t : List Bool) → All (λ slots. StandsTwice slots → ⊥) labels → IsMatchable (numbers_of (map (take (length labels)) labels)) t ↔ IsMatchable (numbers_of labels) t }
+    ensures { (labels : List (List (List ℕ))) (t : List Bool)
+        → All (λ slots. StandsTwice slots → ⊥) labels
+        → IsMatchable (numbers_of (map (take (length labels)) labels)) t
+        ↔ IsMatchable (numbers_of labels) t }
 {}

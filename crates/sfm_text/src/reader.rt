@@ -82,7 +82,8 @@ impl Reader {
     ///
     /// `Memory` where there is none. The reader is then spent, and all further calls answer `Memory` too.
     pub fn feed(&mut self, alloc: Global, piece: &[u8]) -> Result<(), Memory>
-        ensures stands { OnOk result ((text : List ℕ) → Stands self.old text → Stands self.new (text ++ piece.now)) }
+        ensures stands { OnOk result ((text : List ℕ) → Stands self.old text
+            → Stands self.new (text ++ piece.now)) }
         ensures fresh { OnOk result ((self.old.spent ≡ false) × (self.new.spent ≡ false)) }
         ensures spent { OnErr result (self.new.spent ≡ true) }
     {
@@ -105,8 +106,10 @@ impl Reader {
     /// `Refused` with the line and the reason of the first fault; `Memory` where there is none, and where the reader is
     /// spent.
     pub fn finish(mut self, alloc: Global) -> Result<Instance, TextEnd>
-        ensures read { IfOk result (λ instance. (text : List ℕ) → Stands self text → IsTextOf text instance.names instance.terms) }
-        ensures refused { IfErr result (λ end. (text : List ℕ) → Stands self text → IsRefusalOf text end) }
+        ensures read { IfOk result (λ instance. (text : List ℕ) → Stands self text
+            → IsTextOf text instance.names instance.terms) }
+        ensures refused { IfErr result (λ end. (text : List ℕ) → Stands self text
+            → IsRefusalOf text end) }
         ensures spent { self.spent ≡ true → result ≡ Err ends.Memory }
     {
         self.close(alloc)?;
@@ -131,8 +134,10 @@ impl Reader {
 
     /// Reads what is left of the text, and tells whether it is good; a fault of it ends the reader.
     fn close(&mut self, alloc: Global) -> Result<(), TextEnd>
-        ensures read { OnOk result ((text : List ℕ) → Stands self.old text → IsTextOf text self.new.reading.instance.names self.new.reading.instance.terms) }
-        ensures refused { IfErr result (λ end. (text : List ℕ) → Stands self.old text → IsRefusalOf text end) }
+        ensures read { OnOk result ((text : List ℕ) → Stands self.old text
+            → IsTextOf text self.new.reading.instance.names self.new.reading.instance.terms) }
+        ensures refused { IfErr result (λ end. (text : List ℕ) → Stands self.old text
+            → IsRefusalOf text end) }
         ensures spent { self.old.spent ≡ true → result ≡ Err ends.Memory }
     {
         if self.spent {
@@ -159,8 +164,11 @@ impl Reader {
     /// early.
     fn conclude(&self) -> Result<(), TextEnd>
         requires { self.now.fault ≡ None }
-        ensures read { OnOk result ((text : List ℕ) → length text ≤ text_limit → HasReadAll self.now text → IsTextOf text self.now.reading.instance.names self.now.reading.instance.terms) }
-        ensures refused { IfErr result (λ end. (text : List ℕ) → length text ≤ text_limit → HasReadAll self.now text → IsRefusalOf text end) }
+        ensures read { OnOk result ((text : List ℕ) → length text ≤ text_limit
+            → HasReadAll self.now text → IsTextOf text self.now.reading.instance.names
+            self.now.reading.instance.terms) }
+        ensures refused { IfErr result (λ end. (text : List ℕ) → length text ≤ text_limit
+            → HasReadAll self.now text → IsRefusalOf text end) }
     {
         if self.reading.stage != Stage::Ended {
             return Err(TextEnd::Refused {
@@ -173,7 +181,8 @@ impl Reader {
 
     /// Counts the bytes of a piece, and reads it where the text is neither too long nor faulty before it.
     fn read_piece(&mut self, alloc: Global, piece: &[u8]) -> Result<(), Memory>
-        ensures stands { OnOk result ((text : List ℕ) → Stands self.old text → Stands self.new (text ++ piece.now)) }
+        ensures stands { OnOk result ((text : List ℕ) → Stands self.old text
+            → Stands self.new (text ++ piece.now)) }
         ensures spent { self.new.spent ≡ self.old.spent }
     {
         let count = (self.count + piece.len()).min(TEXT_LIMIT + 1);
@@ -190,8 +199,11 @@ impl Reader {
     /// Reads a piece, whose bytes have been counted, up to the first fault.
     fn read_lines(&mut self, alloc: Global, piece: &[u8]) -> Result<(), Memory>
         requires faultless { self.old.fault ≡ None }
-        requires room { self.old.lines + length self.old.rest.items + length piece.now ≤ self.old.count }
-        ensures read { OnOk result ((text : List ℕ) → IsOpen (progress_of self.old) self.old.rest.items text → HasRead self.new (text ++ piece.now)) }
+        requires room { self.old.lines + length self.old.rest.items + length piece.now
+            ≤ self.old.count }
+        ensures read { OnOk result ((text : List ℕ) → IsOpen
+            (progress_of self.old) self.old.rest.items text
+            → HasRead self.new (text ++ piece.now)) }
         ensures count { self.new.count ≡ self.old.count }
         ensures spent { self.new.spent ≡ self.old.spent }
     {
@@ -212,9 +224,12 @@ impl Reader {
     /// Ends the line that has not ended with these bytes, which hold no line feed, and judges it.
     fn read_line(&mut self, alloc: Global, front: &[u8]) -> Result<(), Memory>
         requires faultless { self.old.fault ≡ None }
-        requires room { self.old.lines + length self.old.rest.items + length front.now < self.old.count }
+        requires room { self.old.lines + length self.old.rest.items + length front.now
+            < self.old.count }
         requires plain { All (λ c. (c == 10) ≡ false) front.now }
-        ensures read { OnOk result ((text : List ℕ) → IsOpen (progress_of self.old) self.old.rest.items text → HasRead self.new (text ++ front.now ++ 10 ∷ [])) }
+        ensures read { OnOk result ((text : List ℕ) → IsOpen
+            (progress_of self.old) self.old.rest.items text
+            → HasRead self.new (text ++ front.now ++ 10 ∷ [])) }
         ensures rest { self.new.rest.items ≡ [] }
         ensures lines { self.new.lines ≤ self.old.lines + 1 }
         ensures count { self.new.count ≡ self.old.count }
@@ -231,7 +246,8 @@ impl Reader {
     /// Reads the last line, where it has not ended.
     fn read_end(&mut self, alloc: Global) -> Result<(), Memory>
         requires { self.old.count ≤ text_limit }
-        ensures read { OnOk result ((text : List ℕ) → HasRead self.old text → HasReadAll self.new text) }
+        ensures read { OnOk result ((text : List ℕ) → HasRead self.old text
+            → HasReadAll self.new text) }
     {
         if self.fault.is_some() {
             return Ok(());
@@ -292,7 +308,8 @@ pub fn read_instance(alloc: Global, text: &[u8]) -> Result<Instance, TextEnd>
 ///
 /// `Refused` with the line and the reason of the first fault; `Memory` where there is none.
 pub fn read_pieces(alloc: Global, pieces: &[&[u8]]) -> Result<Instance, TextEnd>
-    ensures read { IfOk result (λ instance. IsTextOf (concat (texts_of pieces.now)) instance.names instance.terms) }
+    ensures read { IfOk result (λ instance. IsTextOf (concat (texts_of pieces.now)) instance.names
+        instance.terms) }
     ensures refused { IfErr result (IsRefusalOf (concat (texts_of pieces.now))) }
 {
     let mut reader = Reader::new(alloc)?;

@@ -70,7 +70,8 @@ fn is_end(token: &[u8]) -> bool
 
 /// Whether the first token of a line is `end`.
 fn is_last(line: &[u8]) -> bool
-    ensures { MatchBool result (BeginsEnd (tokens_of line.now)) (BeginsEnd (tokens_of line.now) → ⊥) }
+    ensures { MatchBool result (BeginsEnd (tokens_of line.now))
+        (BeginsEnd (tokens_of line.now) → ⊥) }
 {
     match token(line, 0) {
         Some(first) => is_end(first),
@@ -82,7 +83,9 @@ fn is_last(line: &[u8]) -> bool
 fn names_fault(alloc: Global, names: &[u8]) -> Result<Option<Reason>, Memory>
     ensures { IfOk result (λ r. MatchOption r
         (AreGroundNames (tokens_of names.now))
-        (λ reason. (instance : InstanceData) (line : List ℕ) → IsLineOf line (codes "ground" ∷ tokens_of names.now) → FirstReason (state_at Ground instance) line reason)) }
+        (λ reason. (instance : InstanceData) (line : List ℕ)
+        → IsLineOf line (codes "ground" ∷ tokens_of names.now)
+        → FirstReason (state_at Ground instance) line reason)) }
 {
     if has_mark_in(names) {
         return Ok(Some(Reason::Shape));
@@ -146,7 +149,8 @@ impl Reading {
     pub fn take_line(&mut self, alloc: Global, piece: &[u8]) -> Result<bool, LineEnd>
         requires { length piece.now ≤ text_limit }
         ensures { MatchResult result
-            (λ counts. Passes counts (state_of self.old) (strip_carriage_return piece.now) (state_of self.new))
+            (λ counts. Passes counts (state_of self.old) (strip_carriage_return piece.now)
+            (state_of self.new))
             (Fails (state_of self.old) (strip_carriage_return piece.now)) }
     {
         let line = without_return(piece);
@@ -179,7 +183,8 @@ impl Reading {
 
     /// Takes the header `sfm 1`.
     fn take_header(&mut self, line: &[u8]) -> Result<(), LineEnd>
-        ensures { IsOutcome (state_at Header self.old.instance) (tokens_of line.now) result (state_of self.new) }
+        ensures { IsOutcome (state_at Header self.old.instance) (tokens_of line.now) result
+            (state_of self.new) }
     {
         let Some(rest) = behind(b"sfm", line) else {
             return Err(LineEnd::Fault(Reason::Word));
@@ -193,7 +198,8 @@ impl Reading {
 
     /// Takes the line with the names of the ground.
     fn take_ground(&mut self, alloc: Global, line: &[u8]) -> Result<(), LineEnd>
-        ensures { IsOutcome (state_at Ground self.old.instance) (tokens_of line.now) result (state_of self.new) }
+        ensures { IsOutcome (state_at Ground self.old.instance) (tokens_of line.now) result
+            (state_of self.new) }
     {
         let Some(rest) = behind(b"ground", line) else {
             return Err(LineEnd::Fault(Reason::Word));

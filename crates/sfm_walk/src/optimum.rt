@@ -55,10 +55,16 @@ pub fn minimise<T: Term>(
     requires factor { IsFactor q }
     ensures bases { IfOk result (λ r. AreBases q (meanings T.places T.value_of terms.now) r.bases) }
     ensures small { IfOk result (λ r. All (λ x. All IsEntry x) r.bases) }
-    ensures rest { IfOk result (λ r. (length r.z ≡ n) × ((e : ℕ) → e < n → slice_index_or r.z e (pos 0) ≡ rest_at (meanings T.places T.value_of terms.now) r.bases (even_shift n p) e)) }
-    ensures ends { IfOk result (λ r. (first : ℕ) (steps : List Step) → Joins (meanings T.places T.value_of terms.now) q (even_shift n p) r.bases first steps → ⊥) }
-    ensures proves { IfOk result (λ r. Prove (meanings T.places T.value_of terms.now) n q (even_shift n p) r.bases) }
-    ensures few { IfOk result (λ r. IsFewWalks (meanings T.places T.value_of terms.now) n q (even_shift n p) (map (λ term. T.start_of term q) terms.now) r.bases) }
+    ensures rest { IfOk result (λ r. (length r.z ≡ n) × ((e : ℕ) → e < n
+        → slice_index_or r.z e (pos 0) ≡ rest_at (meanings T.places T.value_of terms.now) r.bases
+        (even_shift n p) e)) }
+    ensures ends { IfOk result (λ r. (first : ℕ) (steps : List Step)
+        → Joins (meanings T.places T.value_of terms.now) q (even_shift n p) r.bases first steps
+        → ⊥) }
+    ensures proves { IfOk result (λ r. Prove (meanings T.places T.value_of terms.now) n q
+        (even_shift n p) r.bases) }
+    ensures few { IfOk result (λ r. IsFewWalks (meanings T.places T.value_of terms.now) n q
+        (even_shift n p) (map (λ term. T.start_of term q) terms.now) r.bases) }
 {
     let mut steps = Steps::new();
     minimise_counted(alloc, terms, n, p, q, &mut steps)
@@ -84,10 +90,16 @@ pub fn minimise_counted<T: Term>(
     requires factor { IsFactor q }
     ensures bases { IfOk result (λ r. AreBases q (meanings T.places T.value_of terms.now) r.bases) }
     ensures small { IfOk result (λ r. All (λ x. All IsEntry x) r.bases) }
-    ensures rest { IfOk result (λ r. (length r.z ≡ n) × ((e : ℕ) → e < n → slice_index_or r.z e (pos 0) ≡ rest_at (meanings T.places T.value_of terms.now) r.bases (even_shift n p) e)) }
-    ensures ends { IfOk result (λ r. (first : ℕ) (steps : List Step) → Joins (meanings T.places T.value_of terms.now) q (even_shift n p) r.bases first steps → ⊥) }
-    ensures proves { IfOk result (λ r. Prove (meanings T.places T.value_of terms.now) n q (even_shift n p) r.bases) }
-    ensures counted { IfOk result (λ r. IsCounted (meanings T.places T.value_of terms.now) n q (even_shift n p) (map (λ term. T.start_of term q) terms.now) r.bases steps.old steps.new) }
+    ensures rest { IfOk result (λ r. (length r.z ≡ n) × ((e : ℕ) → e < n
+        → slice_index_or r.z e (pos 0) ≡ rest_at (meanings T.places T.value_of terms.now) r.bases
+        (even_shift n p) e)) }
+    ensures ends { IfOk result (λ r. (first : ℕ) (steps : List Step)
+        → Joins (meanings T.places T.value_of terms.now) q (even_shift n p) r.bases first steps
+        → ⊥) }
+    ensures proves { IfOk result (λ r. Prove (meanings T.places T.value_of terms.now) n q
+        (even_shift n p) r.bases) }
+    ensures counted { IfOk result (λ r. IsCounted (meanings T.places T.value_of terms.now) n q
+        (even_shift n p) (map (λ term. T.start_of term q) terms.now) r.bases steps.old steps.new) }
     ensures few { steps.new ≤ steps.old + few_walks n (length terms.now) }
     ensures kept { steps.old ≤ steps.new }
 {
@@ -117,17 +129,23 @@ pub fn minimise_from_start<T: Term>(
     q: i128,
     shift: &[i128],
 ) -> Result<Rows, Memory>
-    requires bounded { AreBounded (length shift.now) (map T.places terms.now) (map T.size_of terms.now) }
+    requires bounded { AreBounded (length shift.now) (map T.places terms.now)
+        (map T.size_of terms.now) }
     requires shifts { magnitudes shift.now ≤ℤ pos (10 ^ 27) }
     requires factor { IsFactor q }
     requires graph { IsShaped T.places T.value_of terms.now (length shift.now) graph.old }
-    requires firsts { IsClaimed T.places T.value_of T.size_of T.fits terms.now (length shift.now) (pos 1) firsts.now }
-    ensures graph { OnOk result (IsShaped T.places T.value_of terms.now (length shift.now) graph.new) }
+    requires firsts { IsClaimed T.places T.value_of T.size_of T.fits terms.now (length shift.now)
+        (pos 1) firsts.now }
+    ensures graph { OnOk result (IsShaped T.places T.value_of terms.now
+        (length shift.now) graph.new) }
     ensures bases { IfOk result (AreBases q (meanings T.places T.value_of terms.now)) }
     ensures small { IfOk result (All (λ x. All IsEntry x)) }
-    ensures ends { IfOk result (λ r. (first : ℕ) (steps : List Step) → Joins (meanings T.places T.value_of terms.now) q shift.now r first steps → ⊥) }
-    ensures proves { IfOk result (Prove (meanings T.places T.value_of terms.now) (length shift.now) q shift.now) }
-    ensures few { IfOk result (IsFewWalks (meanings T.places T.value_of terms.now) (length shift.now) q shift.now (map (λ term. T.start_of term q) terms.now)) }
+    ensures ends { IfOk result (λ r. (first : ℕ) (steps : List Step)
+        → Joins (meanings T.places T.value_of terms.now) q shift.now r first steps → ⊥) }
+    ensures proves { IfOk result (Prove (meanings T.places T.value_of terms.now)
+        (length shift.now) q shift.now) }
+    ensures few { IfOk result (IsFewWalks (meanings T.places T.value_of terms.now)
+        (length shift.now) q shift.now (map (λ term. T.start_of term q) terms.now)) }
 {
     let first_bases = start_rows(alloc, terms, q)?;
     restart_by(alloc, graph, terms, q, first_bases, firsts)?;
@@ -154,15 +172,24 @@ pub fn improve<T: Term>(
 ) -> Result<Numbers, Memory>
     requires room { steps.old < 2 ^ 63 }
     requires shifts { magnitudes shift.now ≤ℤ pos (10 ^ 27) }
-    requires graph { IsClaimed T.places T.value_of T.size_of T.fits terms.now (length shift.now) q graph.old }
+    requires graph { IsClaimed T.places T.value_of T.size_of T.fits terms.now
+        (length shift.now) q graph.old }
     requires small { All (λ x. All (IsAtMost (10 ^ 25)) x) graph.old.bases }
-    ensures graph { OnOk result (IsClaimed T.places T.value_of T.size_of T.fits terms.now (length shift.now) q graph.new) }
-    ensures bases { OnOk result (AreBases q (meanings T.places T.value_of terms.now) graph.new.bases) }
+    ensures graph { OnOk result (IsClaimed T.places T.value_of T.size_of T.fits terms.now
+        (length shift.now) q graph.new) }
+    ensures bases { OnOk result (AreBases q (meanings T.places T.value_of terms.now)
+        graph.new.bases) }
     ensures small { OnOk result (All (λ x. All IsEntry x) graph.new.bases) }
-    ensures rest { IfOk result (λ r. (length r ≡ length shift.now) × ((e : ℕ) → e < length shift.now → slice_index_or r e (pos 0) ≡ rest_at (meanings T.places T.value_of terms.now) graph.new.bases shift.now e)) }
-    ensures ends { OnOk result ((first : ℕ) (steps : List Step) → Joins (meanings T.places T.value_of terms.now) q shift.now graph.new.bases first steps → ⊥) }
-    ensures proves { OnOk result (Prove (meanings T.places T.value_of terms.now) (length shift.now) q shift.now graph.new.bases) }
-    ensures counted { OnOk result (IsCounted (meanings T.places T.value_of terms.now) (length shift.now) q shift.now graph.old.bases graph.new.bases steps.old steps.new) }
+    ensures rest { IfOk result (λ r. (length r ≡ length shift.now)
+        × ((e : ℕ) → e < length shift.now → slice_index_or r e (pos 0)
+        ≡ rest_at (meanings T.places T.value_of terms.now) graph.new.bases shift.now e)) }
+    ensures ends { OnOk result ((first : ℕ) (steps : List Step)
+        → Joins (meanings T.places T.value_of terms.now) q shift.now graph.new.bases first steps
+        → ⊥) }
+    ensures proves { OnOk result (Prove (meanings T.places T.value_of terms.now)
+        (length shift.now) q shift.now graph.new.bases) }
+    ensures counted { OnOk result (IsCounted (meanings T.places T.value_of terms.now)
+        (length shift.now) q shift.now graph.old.bases graph.new.bases steps.old steps.new) }
     ensures few { steps.new ≤ steps.old + few_walks (length shift.now) (length terms.now) }
     ensures kept { steps.old ≤ steps.new }
 {
@@ -202,14 +229,21 @@ fn advance<T: Term>(
     _shift: &[i128],
     run: &mut Run,
 ) -> Result<(), Memory>
-    requires graph { IsClaimed T.places T.value_of T.size_of T.fits terms.now (length _shift.now) q graph.old }
+    requires graph { IsClaimed T.places T.value_of T.size_of T.fits terms.now
+        (length _shift.now) q graph.old }
     requires shifts { magnitudes _shift.now ≤ℤ pos (10 ^ 27) }
-    requires run { IsRunAt (meanings T.places T.value_of terms.now) _shift.now graph.old.bases run.old }
-    requires walk { IsLeastWalk (meanings T.places T.value_of terms.now) (length _shift.now) q _shift.now graph.old.bases run.old.z.items (depth_of run.old.levels.items) run.old.path.first run.old.path.hops.items }
+    requires run { IsRunAt (meanings T.places T.value_of terms.now) _shift.now graph.old.bases
+        run.old }
+    requires walk { IsLeastWalk (meanings T.places T.value_of terms.now)
+        (length _shift.now) q _shift.now graph.old.bases run.old.z.items
+        (depth_of run.old.levels.items) run.old.path.first run.old.path.hops.items }
     requires small { All (λ x. All (IsAtMost (5 * 10 ^ 29)) x) graph.old.bases }
-    requires gap { neg_ℤ (pos (5 * 10 ^ 29)) ≤ℤ deficit (length _shift.now) (rest_at (meanings T.places T.value_of terms.now) graph.old.bases _shift.now) }
-    ensures graph { OnOk result (IsClaimed T.places T.value_of T.size_of T.fits terms.now (length _shift.now) q graph.new) }
-    ensures advanced { OnOk result (AreAdvanced (meanings T.places T.value_of terms.now) (length _shift.now) q _shift.now graph.old.bases graph.new.bases run.new) }
+    requires gap { neg_ℤ (pos (5 * 10 ^ 29)) ≤ℤ deficit (length _shift.now)
+        (rest_at (meanings T.places T.value_of terms.now) graph.old.bases _shift.now) }
+    ensures graph { OnOk result (IsClaimed T.places T.value_of T.size_of T.fits terms.now
+        (length _shift.now) q graph.new) }
+    ensures advanced { OnOk result (AreAdvanced (meanings T.places T.value_of terms.now)
+        (length _shift.now) q _shift.now graph.old.bases graph.new.bases run.new) }
 {
     let last = run.path.last();
     let most = most_of(&run.z, run.path.first, last);
@@ -223,13 +257,19 @@ fn advance<T: Term>(
 fn settle(run: &mut Run, a: i128)
     requires few { length run.old.z.items ≤ 256 }
     requires first { run.old.path.first < length run.old.z.items }
-    requires last { last_of run.old.path.first (steps_of run.old.path.hops.items) < length run.old.z.items }
-    requires apart { run.old.path.first ≢ last_of run.old.path.first (steps_of run.old.path.hops.items) }
+    requires last { last_of run.old.path.first (steps_of run.old.path.hops.items)
+        < length run.old.z.items }
+    requires apart { run.old.path.first ≢ last_of run.old.path.first
+        (steps_of run.old.path.hops.items) }
     requires low { pos 0 ≤ℤ a }
     requires under { a ≤ℤ neg_ℤ (slice_index_or run.old.z.items run.old.path.first (pos 0)) }
-    requires over { a ≤ℤ slice_index_or run.old.z.items (last_of run.old.path.first (steps_of run.old.path.hops.items)) (pos 0) }
-    ensures z { run.new.z.items ≡ exchanged run.old.z.items run.old.path.first (last_of run.old.path.first (steps_of run.old.path.hops.items)) a }
-    ensures signs { AreMoved run.old.z.items (exchanged run.old.z.items run.old.path.first (last_of run.old.path.first (steps_of run.old.path.hops.items)) a) run.old.path.first (last_of run.old.path.first (steps_of run.old.path.hops.items))
+    requires over { a ≤ℤ slice_index_or run.old.z.items (last_of run.old.path.first
+        (steps_of run.old.path.hops.items)) (pos 0) }
+    ensures z { run.new.z.items ≡ exchanged run.old.z.items run.old.path.first
+        (last_of run.old.path.first (steps_of run.old.path.hops.items)) a }
+    ensures signs { AreMoved run.old.z.items (exchanged run.old.z.items run.old.path.first
+        (last_of run.old.path.first (steps_of run.old.path.hops.items)) a) run.old.path.first
+        (last_of run.old.path.first (steps_of run.old.path.hops.items))
         → AreSigns run.old.z.items run.old.signs → AreSigns run.new.z.items run.new.signs }
 {
     let last = run.path.last();

@@ -14,7 +14,8 @@ pub fn most_of(z: &[i128], first: usize, last: usize) -> i128
     ensures some { pos 1 ≤ℤ result }
     ensures under { result ≤ℤ neg_ℤ (slice_index_or z.now first (pos 0)) }
     ensures over { result ≤ℤ slice_index_or z.now last (pos 0) }
-    ensures greatest { (b : ℤ) → b ≤ℤ neg_ℤ (slice_index_or z.now first (pos 0)) → b ≤ℤ slice_index_or z.now last (pos 0) → b ≤ℤ result }
+    ensures greatest { (b : ℤ) → b ≤ℤ neg_ℤ (slice_index_or z.now first (pos 0))
+        → b ≤ℤ slice_index_or z.now last (pos 0) → b ≤ℤ result }
 {
     z[last].min(-z[first])
 }

@@ -26,14 +26,22 @@ pub fn next_walk<T: Term>(
     _shift: &[i128],
     run: &mut Run,
 ) -> Result<bool, Memory>
-    requires graph { IsClaimed T.places T.value_of T.size_of T.fits terms.now (length _shift.now) q graph.old }
+    requires graph { IsClaimed T.places T.value_of T.size_of T.fits terms.now
+        (length _shift.now) q graph.old }
     requires small { All (λ x. All IsEntry x) graph.old.bases }
-    requires run { IsRunAt (meanings T.places T.value_of terms.now) _shift.now graph.old.bases run.old }
-    ensures graph { OnOk result (IsClaimed T.places T.value_of T.size_of T.fits terms.now (length _shift.now) q graph.new) }
+    requires run { IsRunAt (meanings T.places T.value_of terms.now) _shift.now graph.old.bases
+        run.old }
+    ensures graph { OnOk result (IsClaimed T.places T.value_of T.size_of T.fits terms.now
+        (length _shift.now) q graph.new) }
     ensures bases { OnOk result (graph.new.bases ≡ graph.old.bases) }
-    ensures run { OnOk result (IsRunAt (meanings T.places T.value_of terms.now) _shift.now graph.old.bases run.new) }
-    ensures walk { IfOk result (λ r. r ≡ true → IsLeastWalk (meanings T.places T.value_of terms.now) (length _shift.now) q _shift.now graph.old.bases run.new.z.items (depth_of run.new.levels.items) run.new.path.first run.new.path.hops.items) }
-    ensures ends { IfOk result (λ r. r ≡ false → (first : ℕ) (steps : List Step) → Joins (meanings T.places T.value_of terms.now) q _shift.now graph.old.bases first steps → ⊥) }
+    ensures run { OnOk result (IsRunAt (meanings T.places T.value_of terms.now) _shift.now
+        graph.old.bases run.new) }
+    ensures walk { IfOk result (λ r. r ≡ true → IsLeastWalk (meanings T.places T.value_of terms.now)
+        (length _shift.now) q _shift.now graph.old.bases run.new.z.items
+        (depth_of run.new.levels.items) run.new.path.first run.new.path.hops.items) }
+    ensures ends { IfOk result (λ r. r ≡ false → (first : ℕ) (steps : List Step)
+        → Joins (meanings T.places T.value_of terms.now) q _shift.now graph.old.bases first steps
+        → ⊥) }
 {
     while let Some(first) = find_levels(
         &graph.back,

@@ -12,7 +12,8 @@ use std::alloc::Global;
 
 /// The word of an argument.
 fn word_of<'a>(found: &ArgMatches<'a>, id: &str) -> Option<&'a str>
-    ensures { option_map (λ word. word.now) result ≡ first_of id.now (rows_of (found_of found.now)) }
+    ensures { option_map (λ word. word.now) result ≡ first_of id.now
+        (rows_of (found_of found.now)) }
 {
     found.get_str(id)
 }
@@ -26,7 +27,8 @@ fn number_of(found: &ArgMatches<'_>, id: &str) -> Option<u64>
 
 /// `solve`, by its matches.
 fn solve_in<'a>(found: &ArgMatches<'a>) -> Option<Command<'a>>
-    ensures { option_map command_of result ≡ option_map solve (first_of (codes "FILE") (rows_of (found_of found.now))) }
+    ensures { option_map command_of result ≡ option_map solve
+        (first_of (codes "FILE") (rows_of (found_of found.now))) }
 {
     let file = word_of(found, "FILE")?;
     Some(Command::Solve { file })
@@ -34,7 +36,9 @@ fn solve_in<'a>(found: &ArgMatches<'a>) -> Option<Command<'a>>
 
 /// `check`, by its matches.
 fn check_in<'a>(found: &ArgMatches<'a>) -> Option<Command<'a>>
-    ensures { let rows = rows_of (found_of found.now) in option_map command_of result ≡ option_and_then (λ file. option_map (check file) (first_of (codes "ANSWER") rows)) (first_of (codes "FILE") rows) }
+    ensures { let rows = rows_of (found_of found.now) in option_map command_of result
+        ≡ option_and_then (λ file. option_map (check file) (first_of (codes "ANSWER") rows))
+        (first_of (codes "FILE") rows) }
 {
     let file = word_of(found, "FILE")?;
     let answer = word_of(found, "ANSWER")?;
@@ -43,7 +47,8 @@ fn check_in<'a>(found: &ArgMatches<'a>) -> Option<Command<'a>>
 
 /// `demo`, by its matches.
 fn demo_in<'a>(found: &ArgMatches<'a>) -> Option<Command<'a>>
-    ensures { option_map command_of result ≡ option_map demo (option_and_then number_of (one_of (codes "SEED") (rows_of (found_of found.now)))) }
+    ensures { option_map command_of result ≡ option_map demo
+        (option_and_then number_of (one_of (codes "SEED") (rows_of (found_of found.now)))) }
 {
     let seed = number_of(found, "SEED")?;
     Some(Command::Demo { seed })
@@ -63,7 +68,8 @@ fn command_named<'a>(verb: &str, found: &ArgMatches<'a>) -> Option<Command<'a>>
 
 /// The command that clap found.
 fn command_in<'a>(matches: &ArgMatches<'a>) -> Option<Command<'a>>
-    ensures { option_map command_of result ≡ option_and_then command_by (subcommand_rows_of matches.now) }
+    ensures { option_map command_of result ≡ option_and_then command_by
+        (subcommand_rows_of matches.now) }
 {
     let (verb, found) = matches.subcommand()?;
     command_named(verb, found)
@@ -71,9 +77,11 @@ fn command_in<'a>(matches: &ArgMatches<'a>) -> Option<Command<'a>>
 
 /// What clap finds in the words, of which it has no fault to tell. Only words that it does not take are `Usage`.
 fn matches_of<'a>(alloc: Global, words: &'a [&'a str]) -> Result<ArgMatches<'a>, Refusal>
-    ensures matches { IfOk result (λ found. HasMatchesOf sfm_line (map (λ word. word.now) words.now) found) }
+    ensures matches { IfOk result (λ found. HasMatchesOf sfm_line
+        (map (λ word. word.now) words.now) found) }
     ensures free { IfOk result (λ _. fault_of sfm_line (map (λ word. word.now) words.now) ≡ []) }
-    ensures refused { IfErr result (λ refusal. takes sfm_line (map (λ word. word.now) words.now) ≡ true → refusal ≡ Refusal.Memory) }
+    ensures refused { IfErr result (λ refusal. takes sfm_line (map (λ word. word.now) words.now)
+        ≡ true → refusal ≡ Refusal.Memory) }
 {
     let line = command_line(alloc)?;
     let matches = line.try_get_matches_from(words)?;
@@ -83,11 +91,15 @@ fn matches_of<'a>(alloc: Global, words: &'a [&'a str]) -> Result<ArgMatches<'a>,
 /// The command that the words after the program's name ask for. Only words that clap does not take are `Usage`, and so are
 /// calls for help.
 pub fn read_command<'a>(alloc: Global, words: &'a [&'a str]) -> Result<Command<'a>, Refusal>
-    ensures read { IfOk result (λ command. Asks (map (λ word. word.now) words.now) (command_of command)) }
-    ensures refused { IfErr result (λ refusal. refusal ≡ Refusal.Usage → IsNotTaken (map (λ word. word.now) words.now)) }
+    ensures read { IfOk result (λ command. Asks (map (λ word. word.now) words.now)
+        (command_of command)) }
+    ensures refused { IfErr result (λ refusal. refusal ≡ Refusal.Usage
+        → IsNotTaken (map (λ word. word.now) words.now)) }
     ensures form { (command : Asked) → IsForm (map (λ word. word.now) words.now) command
-        → MatchResult result (λ read. command_of read ≡ command) (λ refusal. refusal ≡ Refusal.Memory) }
-    ensures seeds { IfOk result (λ command. (seed : ℕ) → command_of command ≡ demo seed → seed ≤ 999999999) }
+        → MatchResult result (λ read. command_of read ≡ command)
+        (λ refusal. refusal ≡ Refusal.Memory) }
+    ensures seeds { IfOk result (λ command. (seed : ℕ) → command_of command ≡ demo seed
+        → seed ≤ 999999999) }
 {
     let matches = matches_of(alloc, words)?;
     command_in(&matches).ok_or(Refusal::Usage)

@@ -295,7 +295,8 @@ fn walks_are_counted(rt: HostRuntime) {
 
 /// The first bases of the terms.
 fn first_bases(alloc: Global, instance: &Instance) -> Result<Rows, Memory>
-    ensures bases { IfOk result (λ rows. AreBases (pos 1) (meanings kind_places kind_value instance.now.terms) rows) }
+    ensures bases { IfOk result (λ rows. AreBases (pos 1)
+        (meanings kind_places kind_value instance.now.terms) rows) }
     ensures small { IfOk result (λ rows. All (λ row. All IsEntry row) rows) }
 {
     start_rows(alloc, instance.terms(), 1)
@@ -305,7 +306,8 @@ fn first_bases(alloc: Global, instance: &Instance) -> Result<Rows, Memory>
 fn are_bases(alloc: Global, terms: &[Kind], rows: &Rows) -> Result<bool, Memory>
     requires bounded { All (λ term. kind_size term ≤ℤ pos (10 ^ 18)) terms.now }
     requires rows { AreFormedRows (map (λ term. length (kind_places term)) terms.now) rows.now }
-    ensures { IfOk result (λ r. IsTrue r → AreBases (pos 1) (meanings kind_places kind_value terms.now) rows.now) }
+    ensures { IfOk result (λ r. IsTrue r → AreBases (pos 1)
+        (meanings kind_places kind_value terms.now) rows.now) }
 {
     for (i, term) in terms.iter().enumerate() {
         if !term.is_base(alloc, 1, rows.row(i))? {
@@ -320,7 +322,8 @@ type Left = (usize, &'static [(usize, usize)]);
 
 /// Whether bases prove no minimum, and are left by that walk.
 fn are_left(alloc: Global, instance: &Instance, bases: &Rows, left: Left) -> bool
-    requires bases { AreBases (pos 1) (meanings kind_places kind_value instance.now.terms) bases.now }
+    requires bases { AreBases (pos 1) (meanings kind_places kind_value instance.now.terms)
+        bases.now }
     requires small { All (λ row. All IsEntry row) bases.now }
 {
     match certify(alloc, instance.terms(), instance.names_len(), 0, 1, bases) {
