@@ -2,9 +2,7 @@
 ghost use Rattle.std.specs.Prelude.{◌≡◌, ◌⊎◌, ◌+◌, ◌≤◌, ℕ, List, [], ◌∷◌, map, length, codes, IfOk, MatchOption};
 ghost use Rattle.sfm_io.specs.Shelf.{KeepsShelf, ShelfState};
 ghost use Rattle.sfm_words.specs.Command.{command_of, solve as Solving, check as Checking, demo as Showing};
-ghost use Rattle.sfm.specs.Headline.{EndsFor, Ends, EndsByForm, Says, Complains, IsComplete};
-ghost use Rattle.sfm.specs.Preparing.{Prepares};
-ghost use Rattle.sfm.specs.Opening.{OpensInstance, ChecksAnswer};
+ghost use Rattle.sfm.specs.{Headline.{EndsFor, Ends, EndsByForm, Says, Complains, IsComplete}, Preparing.{Prepares}, Opening.{OpensInstance, ChecksAnswer}};
 
 use sfm_cert::ANSWER_LIMIT;
 use sfm_due::{

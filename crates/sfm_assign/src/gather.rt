@@ -2,9 +2,7 @@
 // each other, so one of them tells for the slot; and a demand leads to what the holders of its slots lead to, and to no other.
 // So a search is made for holders alone, and few are: a dense graph has many edges and few vertices.
 ghost use Rattle.std.specs.Prelude.{◌≡◌, ℕ, ◌<◌, Bool, List, false, true, length, slice_set, IfOk, OnOk, MatchOption, MatchBool, IsTrue};
-ghost use Rattle.sfm_assign.specs.Spread.{AreTold, IsKnown, AreLedTo, LeadsToRoom, Holds, IsHeldBy, IsFullClosed, AreTakenIn, HeldWithRoom, IsPutTo};
-ghost use Rattle.sfm_assign.specs.declared.spread.Answer.TheVariants.{Full};
-ghost use Rattle.sfm_assign.specs.declared.spread.Answer.{Answer};
+ghost use Rattle.sfm_assign.specs.{Spread.{AreTold, IsKnown, AreLedTo, LeadsToRoom, Holds, IsHeldBy, IsFullClosed, AreTakenIn, HeldWithRoom, IsPutTo}, declared.spread.Answer.TheVariants.{Full}, declared.spread.Answer.{Answer}};
 
 use crate::spread::{Answer, Spread, find_answer};
 use crate::told::Told;

@@ -1,7 +1,6 @@
 // The most that one demand can get while all others are met: these are met first, with nothing for it, and then it is raised by
 // as much as it can get besides. No demand can get more than all slots have together, so that serves as the limit.
-ghost use Rattle.std.specs.Prelude.{◌≡◌, ◌<◌, ◌≤◌, ◌^◌, length, slice_set, pos, IfOk};
-ghost use Rattle.std.specs.List.{All};
+ghost use Rattle.std.specs.{Prelude.{◌≡◌, ◌<◌, ◌≤◌, ◌^◌, length, slice_set, pos, IfOk}, List.{All}};
 ghost use Rattle.sfm_spec.specs.Bounds.{total_of};
 ghost use Rattle.sfm_split.specs.Splits.{IsAmount, IsCapacity, CanBeMet, IsMost};
 

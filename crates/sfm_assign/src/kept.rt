@@ -4,15 +4,9 @@
 // where they come to it. The amounts for other demands are found beside those that stand and then put in their place, so that want
 // of memory leaves these as they were. All this is done in memory that is kept with the split and used again, so that none is
 // taken once there is enough.
-ghost use Rattle.std.specs.Prelude.{◌≡◌, ◌↔◌, ℕ, ◌<◌, ◌≤◌, true, false, length, slice_set, pos, ◌+ℤ◌, ◌≤ℤ◌, ◌<ℤ◌, IsTrue, IfOk, OnOk, OnErr, MatchResult, MatchBool, None, []};
-ghost use Rattle.std.specs.List.{All};
+ghost use Rattle.std.specs.{Prelude.{◌≡◌, ◌↔◌, ℕ, ◌<◌, ◌≤◌, true, false, length, slice_set, pos, ◌+ℤ◌, ◌≤ℤ◌, ◌<ℤ◌, IsTrue, IfOk, OnOk, OnErr, MatchResult, MatchBool, None, []}, List.{All}};
 ghost use Rattle.sfm_spec.specs.Sets.{Has};
-ghost use Rattle.sfm_split.specs.Splits.{amount_at, CanBeMet, IsAmount, IsCapacity, AreDemands};
-ghost use Rattle.sfm_split.specs.Cells.{AreMet};
-ghost use Rattle.sfm_split.specs.Search.{AreLeft};
-ghost use Rattle.sfm_split.specs.Ends.{IsAssignEnd};
-ghost use Rattle.sfm_split.specs.Grown.{IsGrown};
-ghost use Rattle.sfm_split.specs.Lenders.{IsLender, with_more, IsMostUpto};
+ghost use Rattle.sfm_split.specs.{Splits.{amount_at, CanBeMet, IsAmount, IsCapacity, AreDemands}, Cells.{AreMet}, Search.{AreLeft}, Ends.{IsAssignEnd}, Grown.{IsGrown}, Lenders.{IsLender, with_more, IsMostUpto}};
 ghost use Rattle.sfm_assign.specs.Spread.{answer_at, AreAnswers, AreAsking, LeadsToRoom, AreLedTo};
 
 use crate::gather::{Standing, gather};

@@ -18,8 +18,7 @@ pub(crate) struct Told {
 
 impl Model for Told {
     ghost use Rattle.std.specs.Prelude.{List, Option};
-    ghost use Rattle.sfm_assign.specs.declared.spread.Answer.{Answer};
-    ghost use Rattle.sfm_assign.specs.Spread.{AreListed};
+    ghost use Rattle.sfm_assign.specs.{declared.spread.Answer.{Answer}, Spread.{AreListed}};
 
     ghost Value = { List (Option Answer) };
 

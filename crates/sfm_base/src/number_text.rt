@@ -1,7 +1,6 @@
 // Reads the text of a whole number. A text of more than 31 digits is beyond the bound, so it is refused by its length,
 // and the value of what is left cannot overflow.
-ghost use Rattle.std.specs.Prelude.{◌≡◌, ◌↔◌, ℕ, ◌≤◌, ◌^◌, ℤ, length, slice_index, codes, SomeIff, IfSome, IsTrue};
-ghost use Rattle.std.specs.Str.Parse.{AllDigits, digits_value};
+ghost use Rattle.std.specs.{Prelude.{◌≡◌, ◌↔◌, ℕ, ◌≤◌, ◌^◌, ℤ, length, slice_index, codes, SomeIff, IfSome, IsTrue}, Str.Parse.{AllDigits, digits_value}};
 ghost use Rattle.sfm_spec.specs.Bounds.{IsEntry};
 ghost use Rattle.sfm_base.specs.NumberText.{IsCount, IsNumber};
 

@@ -1,6 +1,5 @@
 // Lists of whole numbers that keep their length, as the weights of a term or one row of a base.
-ghost use Rattle.std.specs.Prelude.{◌≡◌, List, ℤ, length, IfOk};
-ghost use Rattle.std.specs.Borrow.{sem};
+ghost use Rattle.std.specs.{Prelude.{◌≡◌, List, ℤ, length, IfOk}, Borrow.{sem}};
 ghost use Rattle.sfm_base.specs.Lending.{LendsNumbers};
 
 use crate::Memory;

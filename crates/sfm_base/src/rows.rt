@@ -1,6 +1,5 @@
 // Rows of numbers, one for each term: a list that grows at its end, and whose rows can be written in place.
-ghost use Rattle.std.specs.Prelude.{◌≡◌, ◌<◌, List, ℤ, length, slice_index_or, is_ok, [], ◌∷◌, ◌++◌, ◌==◌, if◌then◌else◌};
-ghost use Rattle.std.specs.Borrow.{sem};
+ghost use Rattle.std.specs.{Prelude.{◌≡◌, ◌<◌, List, ℤ, length, slice_index_or, is_ok, [], ◌∷◌, ◌++◌, ◌==◌, if◌then◌else◌}, Borrow.{sem}};
 ghost use Rattle.sfm_base.specs.Lending.{LendsRow};
 
 use crate::{Memory, Numbers};

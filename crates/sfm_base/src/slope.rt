@@ -1,10 +1,8 @@
 // Slopes: numbers over numbers in lowest terms. A slope p/q is divided by the greatest common divisor of both, which
 // leaves the same slope and no common divisor but 1. Two slopes compare as their cross products do, for which no
 // division is needed; with the bounds here no product exceeds 10^36.
-ghost use Rattle.std.specs.Prelude.{◌≡◌, ◌↔◌, ℕ, ◌≤◌, ◌<◌, ℤ, unsigned_abs, pos, ◌*ℤ◌, ◌≤ℤ◌};
-ghost use Rattle.std.specs.Int.{IsGcd, ◌∣◌};
-ghost use Rattle.sfm_spec.specs.Slopes.{IsLowest, IsSameSlope, IsLowerSlope};
-ghost use Rattle.sfm_spec.specs.Bounds.{IsEntry, IsFactor};
+ghost use Rattle.std.specs.{Prelude.{◌≡◌, ◌↔◌, ℕ, ◌≤◌, ◌<◌, ℤ, unsigned_abs, pos, ◌*ℤ◌, ◌≤ℤ◌}, Int.{IsGcd, ◌∣◌}};
+ghost use Rattle.sfm_spec.specs.{Slopes.{IsLowest, IsSameSlope, IsLowerSlope}, Bounds.{IsEntry, IsFactor}};
 
 use std::cmp::Ordering;
 

@@ -1,7 +1,6 @@
 // Sets of places as words of 64 bits each, bit t of word k telling of the place 64·k + t. A call goes over the words once
 // and says what it does to each bit.
-ghost use Rattle.std.specs.Prelude.{◌≡◌, ◌≢◌, ◌↔◌, ◌==◌, ℕ, ◌*◌, ◌<◌, ◌≤◌, ◌^◌, length, IsTrue, MatchOption};
-ghost use Rattle.std.specs.Int.{bit_at};
+ghost use Rattle.std.specs.{Prelude.{◌≡◌, ◌≢◌, ◌↔◌, ◌==◌, ℕ, ◌*◌, ◌<◌, ◌≤◌, ◌^◌, length, IsTrue, MatchOption}, Int.{bit_at}};
 ghost use Rattle.sfm_spec.specs.Sets.{size};
 ghost use Rattle.sfm_base.specs.Words.{bit_of, members, joint};
 

@@ -1,15 +1,10 @@
 // What the lines of an answer hold besides numbers: a list of names, read by one pass over the names of the ground, and
 // the lines of a set, a block, a slope and a base. Each is read in one way only, since what ends a name or a number is told
 // by the byte behind it, names differ, and they come in the order of the ground.
-ghost use Rattle.std.specs.Prelude.{◌≡◌, ◌≢◌, ◌↔◌, ℕ, ◌+◌, ◌<◌, ◌≤◌, ◌^◌, Bool, List, [], ◌∷◌, ◌++◌, codes, length, ℤ, IsTrue, MatchOption, IfOk};
-ghost use Rattle.std.specs.Fmt.{decimal, signed_decimal};
-ghost use Rattle.sfm_spec.specs.Sets.{Has};
-ghost use Rattle.sfm_spec.specs.Blocks.{Block as Generator};
-ghost use Rattle.sfm_spec.specs.Names.{IsName};
+ghost use Rattle.std.specs.{Prelude.{◌≡◌, ◌≢◌, ◌↔◌, ℕ, ◌+◌, ◌<◌, ◌≤◌, ◌^◌, Bool, List, [], ◌∷◌, ◌++◌, codes, length, ℤ, IsTrue, MatchOption, IfOk}, Fmt.{decimal, signed_decimal}};
+ghost use Rattle.sfm_spec.specs.{Sets.{Has}, Blocks.{Block as Generator}, Names.{IsName}};
 ghost use Rattle.sfm_extreme.specs.Blocks.{block_of};
-ghost use Rattle.sfm_cert.specs.Answer.{listed};
-ghost use Rattle.sfm_cert.specs.Lists.{IsStop, IsListCut};
-ghost use Rattle.sfm_cert.specs.Lines.{IsMinimumLine, IsSetLine, IsBlockLine, IsSlopeLine, IsBaseLine, ratio_of_head, Ratio};
+ghost use Rattle.sfm_cert.specs.{Answer.{listed}, Lists.{IsStop, IsListCut}, Lines.{IsMinimumLine, IsSetLine, IsBlockLine, IsSlopeLine, IsBaseLine, ratio_of_head, Ratio}};
 
 use crate::head::Head;
 use crate::numbers::{behind, needs_of, numbers_of, read_entry, slope_of, split_token};

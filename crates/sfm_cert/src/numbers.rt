@@ -1,12 +1,7 @@
 // Numbers, lists of numbers and slopes, read from bytes.
-ghost use Rattle.std.specs.Prelude.{◌≡◌, ◌≢◌, ◌⊎◌, ℕ, ◌<◌, ◌≤◌, List, [], ◌∷◌, ◌++◌, length, slice_index, take, ℤ, MatchOption, IfOk};
-ghost use Rattle.std.specs.Fmt.{decimal, signed_decimal};
-ghost use Rattle.std.specs.List.{All};
-ghost use Rattle.sfm_spec.specs.Bounds.{IsEntry, IsFactor};
-ghost use Rattle.sfm_spec.specs.Slopes.{IsLowest};
-ghost use Rattle.sfm_cert.specs.Answer.{slope_text};
-ghost use Rattle.sfm_cert.specs.LineLists.{counted, numbered};
-ghost use Rattle.sfm_cert.specs.Lists.{IsStop, AreNeeds};
+ghost use Rattle.std.specs.{Prelude.{◌≡◌, ◌≢◌, ◌⊎◌, ℕ, ◌<◌, ◌≤◌, List, [], ◌∷◌, ◌++◌, length, slice_index, take, ℤ, MatchOption, IfOk}, Fmt.{decimal, signed_decimal}, List.{All}};
+ghost use Rattle.sfm_spec.specs.{Bounds.{IsEntry, IsFactor}, Slopes.{IsLowest}};
+ghost use Rattle.sfm_cert.specs.{Answer.{slope_text}, LineLists.{counted, numbered}, Lists.{IsStop, AreNeeds}};
 
 use sfm_base::{Memory, Slope, read_number};
 use std::alloc::Global;

@@ -1,14 +1,8 @@
 // The pieces of an answer text, in order: names, numbers, and a line for a block, a slope or a base.
-ghost use Rattle.std.specs.Prelude.{◌≡◌, ℕ, ◌<◌, List, [], ◌∷◌, ◌++◌, length, map};
-ghost use Rattle.std.specs.Fmt.{decimal, signed_decimal};
-ghost use Rattle.std.specs.List.{All};
-ghost use Rattle.sfm_spec.specs.Bounds.{IsEntry};
-ghost use Rattle.sfm_spec.specs.Blocks.{block_at};
+ghost use Rattle.std.specs.{Prelude.{◌≡◌, ℕ, ◌<◌, List, [], ◌∷◌, ◌++◌, length, map}, Fmt.{decimal, signed_decimal}, List.{All}};
+ghost use Rattle.sfm_spec.specs.{Bounds.{IsEntry}, Blocks.{block_at}};
 ghost use Rattle.sfm_extreme.specs.Blocks.{block_of};
-ghost use Rattle.sfm_cert.specs.Answer.{listed, slope_text, at_line, block_line, slope_line, base_line, section_lines, text_of};
-ghost use Rattle.sfm_cert.specs.LineLists.{counted, numbered, block_lines, slope_lines, base_lines};
-ghost use Rattle.sfm_cert.specs.Form.{AreFormedRows};
-ghost use Rattle.sfm_cert.specs.Solved.{break_of};
+ghost use Rattle.sfm_cert.specs.{Answer.{listed, slope_text, at_line, block_line, slope_line, base_line, section_lines, text_of}, LineLists.{counted, numbered, block_lines, slope_lines, base_lines}, Form.{AreFormedRows}, Solved.{break_of}};
 
 use crate::out::Out;
 use itoa::Buffer;

@@ -2,12 +2,7 @@
 // line that is not read is the first bad one.
 ghost use Rattle.std.specs.Prelude.{◌≡◌, ◌≢◌, ℕ, ◌≤◌, List, [], length, map, slice_index, IfOk, IfErr};
 ghost use Rattle.sfm_extreme.specs.Blocks.{block_of};
-ghost use Rattle.sfm_cert.specs.Grammar.{IsAnswerText};
-ghost use Rattle.sfm_cert.specs.Lines.{Ratio, ratio_of};
-ghost use Rattle.sfm_cert.specs.Lists.{break_of_head};
-ghost use Rattle.sfm_cert.specs.Parts.{ReadsBlocks, ReadsHeads, ReadsRows, ReadsBreaks, AreBreaksOf, AreHeads, ReadsFirst};
-ghost use Rattle.sfm_cert.specs.Reading.{header, listing, bases, EndsAt};
-ghost use Rattle.sfm_cert.specs.Solved.{answer_of, break_of, form_of, IsBadLineEnd};
+ghost use Rattle.sfm_cert.specs.{Grammar.{IsAnswerText}, Lines.{Ratio, ratio_of}, Lists.{break_of_head}, Parts.{ReadsBlocks, ReadsHeads, ReadsRows, ReadsBreaks, AreBreaksOf, AreHeads, ReadsFirst}, Reading.{header, listing, bases, EndsAt}, Solved.{answer_of, break_of, form_of, IsBadLineEnd}};
 
 use crate::cursor::Cursor;
 use crate::head::Head;

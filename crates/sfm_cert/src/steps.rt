@@ -3,9 +3,7 @@
 ghost use Rattle.std.specs.Prelude.{◌≡◌, ℕ, ◌+◌, ◌<◌, ◌≤◌, ◌^◌, Bool, List, length, ℤ, IfOk, IfErr};
 ghost use Rattle.sfm_spec.specs.Blocks.{Block as Generator};
 ghost use Rattle.sfm_extreme.specs.Blocks.{block_of};
-ghost use Rattle.sfm_cert.specs.Answer.{at_line};
-ghost use Rattle.sfm_cert.specs.Lines.{IsMinimumLine, IsSetLine, IsBlockLine, IsSlopeLine, IsBaseLine, ratio_of_head, Ratio};
-ghost use Rattle.sfm_cert.specs.Reading.{TakesSome, EndsStuck};
+ghost use Rattle.sfm_cert.specs.{Answer.{at_line}, Lines.{IsMinimumLine, IsSetLine, IsBlockLine, IsSlopeLine, IsBaseLine, ratio_of_head, Ratio}, Reading.{TakesSome, EndsStuck}};
 
 use crate::cursor::Cursor;
 use crate::head::Head;

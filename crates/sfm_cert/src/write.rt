@@ -1,14 +1,8 @@
 // Writing an answer: a line for each thing that it says, then the bases that prove it. The same walk tells how long the
 // text is and writes it, so that room is made once, before the first byte, and nothing is refused behind that.
-ghost use Rattle.std.specs.Prelude.{◌≡◌, ◌-◌, ◌≤◌, ◌++◌, length, map, pos, IfOk};
-ghost use Rattle.std.specs.List.{All};
+ghost use Rattle.std.specs.{Prelude.{◌≡◌, ◌-◌, ◌≤◌, ◌++◌, length, map, pos, IfOk}, List.{All}};
 ghost use Rattle.sfm_spec.specs.Bounds.{IsEntry};
-ghost use Rattle.sfm_cert.specs.Answer.{head_lines, text_of};
-ghost use Rattle.sfm_cert.specs.LineLists.{answer_text, break_lines};
-ghost use Rattle.sfm_cert.specs.Reading.{first_lines};
-ghost use Rattle.sfm_cert.specs.Few.{HasFewLines};
-ghost use Rattle.sfm_cert.specs.Form.{IsFormed, IsFormedBreak};
-ghost use Rattle.sfm_cert.specs.Solved.{answer_of, break_of, form_of};
+ghost use Rattle.sfm_cert.specs.{Answer.{head_lines, text_of}, LineLists.{answer_text, break_lines}, Reading.{first_lines}, Few.{HasFewLines}, Form.{IsFormed, IsFormedBreak}, Solved.{answer_of, break_of, form_of}};
 
 use crate::out::{Gauge, Out};
 use crate::put::{put_blocks, put_breaks, put_names, put_number, put_section};

@@ -1,15 +1,9 @@
 // Whether the rows of an answer are bases of their terms: each row is tested by its term, section by section.
-ghost use Rattle.std.specs.Prelude.{◌≡◌, ◌<◌, ◌≤◌, ◌^◌, ℕ, length, map, slice_index_or, pos, ◌≤ℤ◌, IfOk, IfNone, IfSome, MatchOption};
-ghost use Rattle.std.specs.List.{All};
-ghost use Rattle.sfm_spec.specs.Bounds.{IsFactor};
-ghost use Rattle.sfm_spec.specs.Families.{meanings};
+ghost use Rattle.std.specs.{Prelude.{◌≡◌, ◌<◌, ◌≤◌, ◌^◌, ℕ, length, map, slice_index_or, pos, ◌≤ℤ◌, IfOk, IfNone, IfSome, MatchOption}, List.{All}};
+ghost use Rattle.sfm_spec.specs.{Bounds.{IsFactor}, Families.{meanings}};
 ghost use Rattle.sfm_kind.specs.Kinds.{kind_places, kind_value, kind_size};
-ghost use Rattle.sfm_cert.specs.Answer.{answer_lines};
-ghost use Rattle.sfm_cert.specs.Form.{IsFormed, AreFormedRows};
-ghost use Rattle.sfm_cert.specs.Grammar.{answer_limit};
-ghost use Rattle.sfm_cert.specs.Solved.{answer_of, form_of};
-ghost use Rattle.sfm_check.specs.Verdict.{IsFirstNoBase};
-ghost use Rattle.sfm_check.specs.Findings.{AllRowsAreBases, IsFirstNoBaseIn, AreBasesIn};
+ghost use Rattle.sfm_cert.specs.{Answer.{answer_lines}, Form.{IsFormed, AreFormedRows}, Grammar.{answer_limit}, Solved.{answer_of, form_of}};
+ghost use Rattle.sfm_check.specs.{Verdict.{IsFirstNoBase}, Findings.{AllRowsAreBases, IsFirstNoBaseIn, AreBasesIn}};
 
 use crate::sections::section_of;
 use sfm_base::{Memory, Rows};

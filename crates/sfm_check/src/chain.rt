@@ -3,11 +3,8 @@
 ghost use Rattle.std.specs.Prelude.{◌≡◌, ◌≢◌, ◌↔◌, ◌<◌, ◌≤◌, ℕ, length, map, IsTrue, IfOk, MatchOption};
 ghost use Rattle.sfm_spec.specs.Families.{meanings};
 ghost use Rattle.sfm_kind.specs.Kinds.{kind_places, kind_value};
-ghost use Rattle.sfm_cert.specs.Answer.{mark_of};
-ghost use Rattle.sfm_cert.specs.Form.{IsFormed};
-ghost use Rattle.sfm_cert.specs.Solved.{answer_of, form_of};
-ghost use Rattle.sfm_check.specs.Before.{members_before};
-ghost use Rattle.sfm_check.specs.Findings.{AreOfOneGround, AreTold, IsFirstWrongSlope, IsFullChain};
+ghost use Rattle.sfm_cert.specs.{Answer.{mark_of}, Form.{IsFormed}, Solved.{answer_of, form_of}};
+ghost use Rattle.sfm_check.specs.{Before.{members_before}, Findings.{AreOfOneGround, AreTold, IsFirstWrongSlope, IsFullChain}};
 
 use crate::same::are_same;
 use sfm_base::{Memory, Set};

@@ -1,20 +1,10 @@
 // What an answer says, against what is due: the least value, the extreme minimisers, the blocks and the slopes, line by line.
 ghost use Rattle.std.specs.Prelude.{◌≡◌, ◌↔◌, ◌<◌, ◌≤◌, ℕ, List, length, map, IsTrue, IfOk, MatchOption};
-ghost use Rattle.sfm_spec.specs.Bounds.{IsEntry};
-ghost use Rattle.sfm_spec.specs.Blocks.{block_at};
-ghost use Rattle.sfm_spec.specs.Families.{meanings};
-ghost use Rattle.sfm_spec.specs.Laws.{Mark};
-ghost use Rattle.sfm_kind.specs.Kinds.{kind_places, kind_value};
+ghost use Rattle.sfm_spec.specs.{Bounds.{IsEntry}, Blocks.{block_at}, Families.{meanings}, Laws.{Mark}};
+ghost use Rattle.sfm_kind.specs.{Kinds.{kind_places, kind_value}, Names.{AreElementNames}};
 ghost use Rattle.sfm_extreme.specs.Blocks.{block_of};
-ghost use Rattle.sfm_cert.specs.Form.{IsFormed, IsFormedBlock};
-ghost use Rattle.sfm_kind.specs.Names.{AreElementNames};
-ghost use Rattle.sfm_cert.specs.Solved.{answer_of, form_of};
-ghost use Rattle.sfm_cert.specs.Answer.{answer_lines};
-ghost use Rattle.sfm_cert.specs.Grammar.{answer_limit};
-ghost use Rattle.sfm_check.specs.Truth.{IsTrueHead, section_at};
-ghost use Rattle.sfm_check.specs.Verdict.{IsFirstWrong};
-ghost use Rattle.sfm_check.specs.Findings.{IsFirstUnlike, IsToldOf, IsTrueMinimum, AreTold, IsWrongLine, SaysTheSame};
-ghost use Rattle.sfm_check.specs.Due.{due_answer};
+ghost use Rattle.sfm_cert.specs.{Form.{IsFormed, IsFormedBlock}, Solved.{answer_of, form_of}, Answer.{answer_lines}, Grammar.{answer_limit}};
+ghost use Rattle.sfm_check.specs.{Truth.{IsTrueHead, section_at}, Verdict.{IsFirstWrong}, Findings.{IsFirstUnlike, IsToldOf, IsTrueMinimum, AreTold, IsWrongLine, SaysTheSame}, Due.{due_answer}};
 
 use crate::chain::first_wrong_slope;
 use crate::kept::tell_kept;

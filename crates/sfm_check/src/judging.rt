@@ -4,12 +4,8 @@
 ghost use Rattle.std.specs.Prelude.{◌≡◌, ◌≤◌, length, IfOk};
 ghost use Rattle.sfm_spec.specs.Families.{meanings};
 ghost use Rattle.sfm_kind.specs.Kinds.{kind_places, kind_value};
-ghost use Rattle.sfm_cert.specs.Answer.{answer_lines};
-ghost use Rattle.sfm_cert.specs.Form.{IsFormed};
-ghost use Rattle.sfm_cert.specs.Grammar.{answer_limit};
-ghost use Rattle.sfm_cert.specs.Solved.{answer_of, form_of};
-ghost use Rattle.sfm_check.specs.Verdict.{IsVerdict};
-ghost use Rattle.sfm_check.specs.Findings.{AllRowsAreBases, IsFound};
+ghost use Rattle.sfm_cert.specs.{Answer.{answer_lines}, Form.{IsFormed}, Grammar.{answer_limit}, Solved.{answer_of, form_of}};
+ghost use Rattle.sfm_check.specs.{Verdict.{IsVerdict}, Findings.{AllRowsAreBases, IsFound}};
 
 use crate::bases::first_no_base;
 use crate::head::first_wrong;

@@ -1,7 +1,6 @@
 // What every instance keeps, so that proofs may say it where no other call does.
 ghost use Rattle.std.specs.Prelude.{length};
-ghost use Rattle.sfm_kind.specs.Names.{AreElementNames};
-ghost use Rattle.sfm_kind.specs.Limits.{AreInBounds};
+ghost use Rattle.sfm_kind.specs.{Names.{AreElementNames}, Limits.{AreInBounds}};
 
 use sfm_kind::Instance;
 

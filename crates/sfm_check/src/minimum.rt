@@ -4,15 +4,10 @@
 // are the extreme minimisers and the bases prove. Where the two are one set, there is no block; else the bases tell them.
 // Where a test fails, nothing is told.
 ghost use Rattle.std.specs.Prelude.{◌≡◌, length, map, pos, IsTrue, IfOk};
-ghost use Rattle.sfm_spec.specs.Blocks.{AreBlocks};
-ghost use Rattle.sfm_spec.specs.Families.{meanings, even_shift, IsGreatest, IsLeast, Prove};
+ghost use Rattle.sfm_spec.specs.{Blocks.{AreBlocks}, Families.{meanings, even_shift, IsGreatest, IsLeast, Prove}};
 ghost use Rattle.sfm_kind.specs.Kinds.{kind_places, kind_value};
-ghost use Rattle.sfm_cert.specs.Answer.{mark_of};
-ghost use Rattle.sfm_cert.specs.Form.{IsFormed};
-ghost use Rattle.sfm_cert.specs.Solved.{answer_of, break_of, form_of};
-ghost use Rattle.sfm_check.specs.Truth.{IsProvedSection, section_at};
-ghost use Rattle.sfm_check.specs.Findings.{AllRowsAreBases, IsFullChain, IsTrueMinimum};
-ghost use Rattle.sfm_check.specs.Zero.{AreBetween, AreWorthLeast, IsCut};
+ghost use Rattle.sfm_cert.specs.{Answer.{mark_of}, Form.{IsFormed}, Solved.{answer_of, break_of, form_of}};
+ghost use Rattle.sfm_check.specs.{Truth.{IsProvedSection, section_at}, Findings.{AllRowsAreBases, IsFullChain, IsTrueMinimum}, Zero.{AreBetween, AreWorthLeast, IsCut}};
 
 use crate::chain::before;
 use crate::head::first_unlike;

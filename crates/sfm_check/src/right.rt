@@ -4,10 +4,8 @@
 ghost use Rattle.std.specs.Prelude.{length, IsTrue, IfOk};
 ghost use Rattle.sfm_spec.specs.Families.{meanings};
 ghost use Rattle.sfm_kind.specs.Kinds.{kind_places, kind_value};
-ghost use Rattle.sfm_cert.specs.Form.{IsFormed};
-ghost use Rattle.sfm_cert.specs.Solved.{answer_of, form_of};
-ghost use Rattle.sfm_check.specs.Truth.{IsTrueHead};
-ghost use Rattle.sfm_check.specs.Findings.{AllAreProved, AllRowsAreBases};
+ghost use Rattle.sfm_cert.specs.{Form.{IsFormed}, Solved.{answer_of, form_of}};
+ghost use Rattle.sfm_check.specs.{Truth.{IsTrueHead}, Findings.{AllAreProved, AllRowsAreBases}};
 
 use crate::kept::tell_kept;
 use crate::minimum::is_minimum_right;

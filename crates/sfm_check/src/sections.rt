@@ -2,12 +2,8 @@
 ghost use Rattle.std.specs.Prelude.{◌≡◌, ◌<◌, ◌≤◌, ℕ, length, map, IfOk, MatchOption};
 ghost use Rattle.sfm_spec.specs.Families.{meanings};
 ghost use Rattle.sfm_kind.specs.Kinds.{kind_places, kind_value};
-ghost use Rattle.sfm_cert.specs.Answer.{answer_lines};
-ghost use Rattle.sfm_cert.specs.Form.{IsFormed};
-ghost use Rattle.sfm_cert.specs.Grammar.{answer_limit};
-ghost use Rattle.sfm_cert.specs.Solved.{answer_of, form_of};
-ghost use Rattle.sfm_check.specs.Truth.{section_at, sections_of, IsProvedSection};
-ghost use Rattle.sfm_check.specs.Findings.{AllRowsAreBases, IsSection, IsToldOf, AreSections};
+ghost use Rattle.sfm_cert.specs.{Answer.{answer_lines}, Form.{IsFormed}, Grammar.{answer_limit}, Solved.{answer_of, form_of}};
+ghost use Rattle.sfm_check.specs.{Truth.{section_at, sections_of, IsProvedSection}, Findings.{AllRowsAreBases, IsSection, IsToldOf, AreSections}};
 
 use sfm_base::{Memory, Rows};
 use sfm_cert::{Solved, line_of_at};

@@ -3,14 +3,10 @@
 // Where slopes rise and sets grow so, from the empty set to the whole ground, each slope is the next one: a minimiser at a
 // smaller slope lies within those at a greater one. Where a test fails, nothing is told.
 ghost use Rattle.std.specs.Prelude.{◌≡◌, ◌<◌, length, map, slice_index_or, pos, ◌-ℤ◌, ◌*ℤ◌, IsTrue, IfOk, IfSome};
-ghost use Rattle.sfm_spec.specs.Bounds.{IsEntry};
-ghost use Rattle.sfm_spec.specs.Slopes.{IsLowerSlope};
-ghost use Rattle.sfm_spec.specs.Families.{meanings, deficit, even_shift, rest_at};
+ghost use Rattle.sfm_spec.specs.{Bounds.{IsEntry}, Slopes.{IsLowerSlope}, Families.{meanings, deficit, even_shift, rest_at}};
 ghost use Rattle.sfm_kind.specs.Kinds.{kind_places, kind_value};
-ghost use Rattle.sfm_cert.specs.Form.{AreFormedRows, IsFormed, IsFormedBreak};
-ghost use Rattle.sfm_cert.specs.Solved.{answer_of, break_of, form_of};
-ghost use Rattle.sfm_check.specs.Findings.{AllRowsAreBases};
-ghost use Rattle.sfm_check.specs.Values.{AreRightSlopes, Ascends, Attains, IsSmall, IsWorth};
+ghost use Rattle.sfm_cert.specs.{Form.{AreFormedRows, IsFormed, IsFormedBreak}, Solved.{answer_of, break_of, form_of}};
+ghost use Rattle.sfm_check.specs.{Findings.{AllRowsAreBases}, Values.{AreRightSlopes, Ascends, Attains, IsSmall, IsWorth}};
 
 use crate::kept::tell_kept;
 use crate::worth::{Worth, worth_of};

@@ -2,8 +2,7 @@
 // part. The sizes of all terms add to at most 10^18, so no sum of values exceeds that.
 ghost use Rattle.std.specs.Prelude.{◌≡◌, length, IfOk, IfSome};
 ghost use Rattle.sfm_spec.specs.Families.{meanings, sum_at, IsAllowed};
-ghost use Rattle.sfm_kind.specs.Kinds.{kind_places, kind_value};
-ghost use Rattle.sfm_kind.specs.Limits.{AreInBounds};
+ghost use Rattle.sfm_kind.specs.{Kinds.{kind_places, kind_value}, Limits.{AreInBounds}};
 ghost use Rattle.sfm_check.specs.Values.{IsWorth, IsSmall};
 
 use sfm_base::{Memory, Set};

@@ -2,18 +2,10 @@
 // Of the parts of one count those with the greatest entries leave least; and of these, only those that have all the entries above
 // some entry need to be tried: with u put in and v taken out for the room of (u, v). For a row the parts of the greatest entries
 // are tried from u's own entry on, one size after another: the first that leaves nothing tells the row.
-ghost use Rattle.std.specs.Prelude.{◌≡◌, ◌≢◌, ◌↔◌, ℕ, ◌+◌, ◌-◌, ◌<◌, ◌≤◌, ◌^◌, Bool, true, false, List, length, slice_index_or, slice_set, ℤ, pos, neg_ℤ, ◌*ℤ◌, ◌+ℤ◌, ◌-ℤ◌, ◌≤ℤ◌, ◌<ℤ◌, IfOk, IfSome, MatchOption, OnOk, IsTrue, Option, Some, Ok, Err};
-ghost use Rattle.std.specs.Int.{int_min};
-ghost use Rattle.std.specs.List.{All};
-ghost use Rattle.sfm_spec.specs.Bounds.{IsAtMost, IsEntry, IsFactor, IsGiven, AreElements};
-ghost use Rattle.sfm_spec.specs.Sets.{Has, whole_set};
-ghost use Rattle.sfm_spec.specs.Terms.{SetFunction, times, IsBase, IsFamily, IsSubmodular, IsGreedy, exchanged};
-ghost use Rattle.sfm_spec.specs.Kinds.{concave_value};
-ghost use Rattle.sfm_law.specs.Room.{IsRoom, IsReach, IsWithinRoom};
-ghost use Rattle.sfm_law.specs.Values.{greatest};
-ghost use Rattle.sfm_concave.specs.Rankings.{IsRanking};
-ghost use Rattle.sfm_concave.specs.Thresholds.{above, slack, IsShareOf, IsSomeShare, slack_from, IsLeastSlack, IsBar, IsLastTight, NoneTight, LeavesAbove};
-ghost use Rattle.sfm_concave.specs.ConcaveLaws.{number_of, scaled, IsFirstRise, NeverRises, gain_of, concave_start, concave-family, concave-submodular, concave-bounded, concave-starts, concave-starts_small};
+ghost use Rattle.std.specs.{Prelude.{◌≡◌, ◌≢◌, ◌↔◌, ℕ, ◌+◌, ◌-◌, ◌<◌, ◌≤◌, ◌^◌, Bool, true, false, List, length, slice_index_or, slice_set, ℤ, pos, neg_ℤ, ◌*ℤ◌, ◌+ℤ◌, ◌-ℤ◌, ◌≤ℤ◌, ◌<ℤ◌, IfOk, IfSome, MatchOption, OnOk, IsTrue, Option, Some, Ok, Err}, Int.{int_min}, List.{All}};
+ghost use Rattle.sfm_spec.specs.{Bounds.{IsAtMost, IsEntry, IsFactor, IsGiven, AreElements}, Sets.{Has, whole_set}, Terms.{SetFunction, times, IsBase, IsFamily, IsSubmodular, IsGreedy, exchanged}, Kinds.{concave_value}};
+ghost use Rattle.sfm_law.specs.{Room.{IsRoom, IsReach, IsWithinRoom}, Values.{greatest}};
+ghost use Rattle.sfm_concave.specs.{Rankings.{IsRanking}, Thresholds.{above, slack, IsShareOf, IsSomeShare, slack_from, IsLeastSlack, IsBar, IsLastTight, NoneTight, LeavesAbove}, ConcaveLaws.{number_of, scaled, IsFirstRise, NeverRises, gain_of, concave_start, concave-family, concave-submodular, concave-bounded, concave-starts, concave-starts_small}};
 
 use crate::ranking::{FEW, Ranking, RankingArrays, RankingView, count_upto, count_upto_place};
 use crate::rise::first_rise;

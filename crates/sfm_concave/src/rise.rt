@@ -1,6 +1,5 @@
 // The first increment of listed numbers that is above the one before.
-ghost use Rattle.std.specs.Prelude.{◌≡◌, ◌↔◌, ◌≤◌, ◌*◌, ◌^◌, length, IsTrue, MatchOption};
-ghost use Rattle.std.specs.List.{All};
+ghost use Rattle.std.specs.{Prelude.{◌≡◌, ◌↔◌, ◌≤◌, ◌*◌, ◌^◌, length, IsTrue, MatchOption}, List.{All}};
 ghost use Rattle.sfm_spec.specs.Bounds.{IsAtMost, IsGiven};
 ghost use Rattle.sfm_concave.specs.ConcaveLaws.{increment, RisesAt, IsFirstRise, NeverRises};
 

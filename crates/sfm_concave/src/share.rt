@@ -1,11 +1,8 @@
 // How many places a set has, and what they have in all, for the sets of places above an entry: by the ranking of the entries
 // where there is one, else by a look at each.
-ghost use Rattle.std.specs.Prelude.{◌≡◌, ◌≢◌, ◌-◌, ◌<◌, ◌≤◌, ◌^◌, Bool, IfSome, List, true, false, drop, length, slice_index_or, slice_set};
-ghost use Rattle.std.specs.List.{All};
-ghost use Rattle.sfm_spec.specs.Bounds.{IsAtMost, IsEntry, total_of};
-ghost use Rattle.sfm_spec.specs.Sets.{Has, whole_set};
-ghost use Rattle.sfm_concave.specs.Thresholds.{above, above_with, above_between, IsShareOf, IsSomeShare};
-ghost use Rattle.sfm_concave.specs.Rankings.{IsCut, IsRanking};
+ghost use Rattle.std.specs.{Prelude.{◌≡◌, ◌≢◌, ◌-◌, ◌<◌, ◌≤◌, ◌^◌, Bool, IfSome, List, true, false, drop, length, slice_index_or, slice_set}, List.{All}};
+ghost use Rattle.sfm_spec.specs.{Bounds.{IsAtMost, IsEntry, total_of}, Sets.{Has, whole_set}};
+ghost use Rattle.sfm_concave.specs.{Thresholds.{above, above_with, above_between, IsShareOf, IsSomeShare}, Rankings.{IsCut, IsRanking}};
 
 use crate::ranking::{RankingView, count_upto};
 use sfm_law::sum_of;

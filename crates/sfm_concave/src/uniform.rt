@@ -1,11 +1,8 @@
 // A number w times the count of a part, up to a cap: the weighted rank of a uniform matroid, which is a concave function of
 // the count. The bases of q times it are the vectors with entries from 0 to q·w that have q times the whole value in all:
 // so the room of (u, v) is what v has, or what u lacks of q·w where that is less.
-ghost use Rattle.std.specs.Prelude.{◌≡◌, ◌≢◌, ◌↔◌, ◌<◌, ◌≤◌, ◌^◌, length, ℤ, pos, ◌*ℤ◌, ◌≤ℤ◌, IfOk, IsTrue, Option, Some};
-ghost use Rattle.std.specs.List.{All};
-ghost use Rattle.sfm_spec.specs.Bounds.{IsAtMost, IsEntry, IsFactor, IsGiven, AreElements, total_of};
-ghost use Rattle.sfm_spec.specs.Terms.{times, IsGreedy};
-ghost use Rattle.sfm_spec.specs.Kinds.{uniform_value};
+ghost use Rattle.std.specs.{Prelude.{◌≡◌, ◌≢◌, ◌↔◌, ◌<◌, ◌≤◌, ◌^◌, length, ℤ, pos, ◌*ℤ◌, ◌≤ℤ◌, IfOk, IsTrue, Option, Some}, List.{All}};
+ghost use Rattle.sfm_spec.specs.{Bounds.{IsAtMost, IsEntry, IsFactor, IsGiven, AreElements, total_of}, Terms.{times, IsGreedy}, Kinds.{uniform_value}};
 ghost use Rattle.sfm_concave.specs.UniformLaws.{rank_of, IsUniformRoom, uniform_size, uniform_gain, uniform_start, uniform-family, uniform-submodular, uniform-bounded, uniform-starts, uniform-starts_small};
 
 use sfm_base::{Memory, Places, Set};

@@ -1,8 +1,6 @@
 // The whole text: the ground, the weights, so many lines of each kind, and the end.
-ghost use Rattle.std.specs.Prelude.{◌≡◌, ◌≤◌, ◌++◌, IfOk, OnOk};
-ghost use Rattle.std.specs.String.{string_bytes};
-ghost use Rattle.sfm_demo.specs.DemoText.{demo_text_of, line_of, lines};
-ghost use Rattle.sfm_demo.specs.Names.{IsPut, term_lines};
+ghost use Rattle.std.specs.{Prelude.{◌≡◌, ◌≤◌, ◌++◌, IfOk, OnOk}, String.{string_bytes}};
+ghost use Rattle.sfm_demo.specs.{DemoText.{demo_text_of, line_of, lines}, Names.{IsPut, term_lines}};
 
 use crate::draws::Draws;
 use crate::kind::{Item, Kind};

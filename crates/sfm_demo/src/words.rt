@@ -1,8 +1,6 @@
 // Words of a line, put at the end of a text with a space in front of each: elements, what is drawn for an element, and numbers.
-ghost use Rattle.std.specs.Prelude.{◌≡◌, ◌<◌, ◌≤◌, ◌++◌, OnOk, codes, pos, ◌≤ℤ◌};
-ghost use Rattle.std.specs.String.{string_bytes};
-ghost use Rattle.sfm_demo.specs.DemoText.{each, edge, entry, falling, pair};
-ghost use Rattle.sfm_demo.specs.Names.{IsPut, item_of, names, numbers};
+ghost use Rattle.std.specs.{Prelude.{◌≡◌, ◌<◌, ◌≤◌, ◌++◌, OnOk, codes, pos, ◌≤ℤ◌}, String.{string_bytes}};
+ghost use Rattle.sfm_demo.specs.{DemoText.{each, edge, entry, falling, pair}, Names.{IsPut, item_of, names, numbers}};
 
 use crate::draws::Draws;
 use crate::kind::Item;

@@ -2,9 +2,7 @@
 ghost use Rattle.std.specs.Prelude.{◌≡◌, ◌⊎◌, ◌≤◌, ◌++◌, ℕ, List, decimal, IfOk, OnOk};
 ghost use Rattle.sfm_cert.specs.Solved.{answer_of};
 ghost use Rattle.sfm_text.specs.GoodText.{IsTextOf};
-ghost use Rattle.sfm_due.specs.Demo.{demo_line, IsDemoed, IsDueToDemo};
-ghost use Rattle.sfm_due.specs.Solving.{IsTrueAnswer, counts_told};
-ghost use Rattle.sfm_due.specs.Status.{code_of};
+ghost use Rattle.sfm_due.specs.{Demo.{demo_line, IsDemoed, IsDueToDemo}, Solving.{IsTrueAnswer, counts_told}, Status.{code_of}};
 
 use crate::due::{Due, refuse};
 use crate::solve::solve_instance;

@@ -1,13 +1,8 @@
 // What is due for texts that were read: a file, a refusal or a verdict, made whole before any of it is written.
 ghost use Rattle.std.specs.Prelude.{◌≡◌, ◌⊎◌, ◌+◌, ◌++◌, ◌<◌, ℕ, List, length, codes, decimal, IfOk};
-ghost use Rattle.sfm_cert.specs.Solved.{form_of};
+ghost use Rattle.sfm_cert.specs.{Solved.{form_of}, Grammar.{answer_limit}};
 ghost use Rattle.sfm_check.specs.Verdict.{IsVerdict};
-ghost use Rattle.sfm_due.specs.Due.{verdict_line, verdict_code, wrong_word, IsRefused};
-ghost use Rattle.sfm_due.specs.Meanings.{meanings_of};
-ghost use Rattle.sfm_due.specs.Status.{code_of};
-ghost use Rattle.sfm_due.specs.Owing.{refusal, IsRefusalFor, IsSolveDueOf, IsCheckDueOf};
-ghost use Rattle.sfm_due.specs.Files.{IsReadAs};
-ghost use Rattle.sfm_cert.specs.Grammar.{answer_limit};
+ghost use Rattle.sfm_due.specs.{Due.{verdict_line, verdict_code, wrong_word, IsRefused}, Meanings.{meanings_of}, Status.{code_of}, Owing.{refusal, IsRefusalFor, IsSolveDueOf, IsCheckDueOf}, Files.{IsReadAs}};
 
 use crate::solve::solve_read;
 use crate::status::Status;

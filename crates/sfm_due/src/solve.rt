@@ -1,13 +1,9 @@
 // From the bytes of an instance to the bytes of its answer: bases that prove the minimum are found by walks of exchanges,
 // what they tell is read off them, and all slopes are sought, each with its bases.
 ghost use Rattle.std.specs.Prelude.{ℕ, List, IfOk, IfErr, length, []};
-ghost use Rattle.sfm_cert.specs.Form.{IsFormed};
-ghost use Rattle.sfm_cert.specs.Solved.{answer_of, form_of};
-ghost use Rattle.sfm_text.specs.GoodText.{IsRefusalOf, IsTextOf};
-ghost use Rattle.sfm_text.specs.Standing.{Stands};
-ghost use Rattle.sfm_due.specs.Due.{IsSolved};
-ghost use Rattle.sfm_due.specs.Meanings.{meanings_of};
-ghost use Rattle.sfm_due.specs.Solving.{Gives, IsTrueAnswer};
+ghost use Rattle.sfm_cert.specs.{Form.{IsFormed}, Solved.{answer_of, form_of}};
+ghost use Rattle.sfm_text.specs.{GoodText.{IsRefusalOf, IsTextOf}, Standing.{Stands}};
+ghost use Rattle.sfm_due.specs.{Due.{IsSolved}, Meanings.{meanings_of}, Solving.{Gives, IsTrueAnswer}};
 
 use sfm_base::Memory;
 use sfm_cert::{Solved, write_answer};

@@ -2,17 +2,10 @@
 // that it finds is moved along only once each of its steps is known to be a true one. A row that is asked for that is true from
 // then on, so where a step is refused, fewer rows are claimed, and the search begins anew. And where all that walks lead to
 // is sought, the rows of each place that is found are asked before the search goes on from there.
-ghost use Rattle.std.specs.Prelude.{◌≡◌, ◌≢◌, ◌<◌, ℕ, length, true, false, OnOk, IfOk, slice_index_or};
-ghost use Rattle.std.specs.List.{All};
-ghost use Rattle.sfm_spec.specs.Bounds.{IsEntry};
-ghost use Rattle.sfm_spec.specs.Families.{meanings};
-ghost use Rattle.sfm_spec.specs.Walks.{term_at};
-ghost use Rattle.sfm_reach.specs.Bits.{bit_in, set_at};
-ghost use Rattle.sfm_exchange.specs.Claimed.{IsAsked, claims_of};
-ghost use Rattle.sfm_exchange.specs.Graph.{IsClaimed, IsReady, IsStill};
-ghost use Rattle.sfm_exchange.specs.Hops.{AreHops, IsMovable, hop_at};
-ghost use Rattle.sfm_reach.specs.Reached.{AreWalked};
-ghost use Rattle.sfm_reach.specs.Unions.{IsArc};
+ghost use Rattle.std.specs.{Prelude.{◌≡◌, ◌≢◌, ◌<◌, ℕ, length, true, false, OnOk, IfOk, slice_index_or}, List.{All}};
+ghost use Rattle.sfm_spec.specs.{Bounds.{IsEntry}, Families.{meanings}, Walks.{term_at}};
+ghost use Rattle.sfm_reach.specs.{Bits.{bit_in, set_at}, Reached.{AreWalked}, Unions.{IsArc}};
+ghost use Rattle.sfm_exchange.specs.{Claimed.{IsAsked, claims_of}, Graph.{IsClaimed, IsReady, IsStill}, Hops.{AreHops, IsMovable, hop_at}};
 
 use crate::graph::Graph;
 use crate::path::Hop;

@@ -4,11 +4,8 @@
 // adjacency the union of the rows of these, and the same is kept turned round, for searches backwards. That all of this is
 // so is one fact, `IsGraph`, which each call over a graph asks for and gives back; along walks some rows may be claimed, and
 // the fact is `IsClaimed`.
-ghost use Rattle.std.specs.Prelude.{◌≡◌, length, map, OnOk, IfOk};
-ghost use Rattle.std.specs.List.{All};
-ghost use Rattle.sfm_spec.specs.Sets.{IsPlaced};
-ghost use Rattle.sfm_spec.specs.Bounds.{AreBounded, IsEntry, IsFactor};
-ghost use Rattle.sfm_spec.specs.Families.{meanings, AreBases};
+ghost use Rattle.std.specs.{Prelude.{◌≡◌, length, map, OnOk, IfOk}, List.{All}};
+ghost use Rattle.sfm_spec.specs.{Sets.{IsPlaced}, Bounds.{AreBounded, IsEntry, IsFactor}, Families.{meanings, AreBases}};
 ghost use Rattle.sfm_exchange.specs.Graph.{IsGraph, IsShaped};
 
 use sfm_base::{Memory, Rows};

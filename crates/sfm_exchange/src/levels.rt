@@ -3,10 +3,8 @@
 // place is so looked at once. The search stops at the first level that has a place
 // with z < 0; where a level is empty, no walk joins.
 ghost use Rattle.std.specs.Prelude.{◌≡◌, ◌↔◌, ◌<◌, ◌≤◌, ℕ, ℤ, pos, ◌<ℤ◌, ◌≤ℤ◌, length, IfOk, MatchOption, slice_index_or};
-ghost use Rattle.sfm_reach.specs.Bits.{bit_in};
-ghost use Rattle.sfm_exchange.specs.Levels.{AreClosed, AreNext, IsFirst, IsLedBack};
-ghost use Rattle.sfm_reach.specs.Turned.{AreTurned};
-ghost use Rattle.sfm_exchange.specs.Signs.{AreSigns};
+ghost use Rattle.sfm_reach.specs.{Bits.{bit_in}, Turned.{AreTurned}};
+ghost use Rattle.sfm_exchange.specs.{Levels.{AreClosed, AreNext, IsFirst, IsLedBack}, Signs.{AreSigns}};
 
 use crate::signs::Signs;
 use sfm_base::Memory;

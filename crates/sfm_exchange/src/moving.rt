@@ -1,16 +1,10 @@
 // The move along a walk: the greatest amount that the walk's steps and its ends allow, and its exchanges from the last step to
 // the first, each at the base that the exchanges behind it have left. What the graph keeps is brought up with each exchange,
 // so it fits the bases at every step; rows may be claimed all along.
-ghost use Rattle.std.specs.Prelude.{◌≡◌, ◌*◌, ◌^◌, ◌<◌, ◌≤◌, ℕ, ℤ, pos, ◌≤ℤ◌, length, slice_set, OnOk, IfOk};
-ghost use Rattle.std.specs.List.{All};
-ghost use Rattle.sfm_spec.specs.Bounds.{IsAtMost, IsEntry};
-ghost use Rattle.sfm_spec.specs.Terms.{exchanged};
-ghost use Rattle.sfm_spec.specs.Families.{meanings};
-ghost use Rattle.sfm_spec.specs.Labels.{FallsAlong};
-ghost use Rattle.sfm_spec.specs.Walks.{IsWalkMove, base_at};
+ghost use Rattle.std.specs.{Prelude.{◌≡◌, ◌*◌, ◌^◌, ◌<◌, ◌≤◌, ℕ, ℤ, pos, ◌≤ℤ◌, length, slice_set, OnOk, IfOk}, List.{All}};
+ghost use Rattle.sfm_spec.specs.{Bounds.{IsAtMost, IsEntry}, Terms.{exchanged}, Families.{meanings}, Labels.{FallsAlong}, Walks.{IsWalkMove, base_at}};
 ghost use Rattle.sfm_law.specs.Room.{AtMostRoom};
-ghost use Rattle.sfm_exchange.specs.Graph.{IsClaimed};
-ghost use Rattle.sfm_exchange.specs.Hops.{CanExchange, IsMovable, Moves, AreNamed, AreInOrder, hop_at, steps_of};
+ghost use Rattle.sfm_exchange.specs.{Graph.{IsClaimed}, Hops.{CanExchange, IsMovable, Moves, AreNamed, AreInOrder, hop_at, steps_of}};
 
 use crate::graph::Graph;
 use crate::path::{Hop, Path};

@@ -1,15 +1,10 @@
 // A graph at a multiple of the bases of another one. What depends on what at a base hangs on its tight sets alone, and the
 // sets that are tight at q times a base of a term, for q times the term, are those that are tight at the base. So all rows are
 // the same, those that are only claimed as well: they are copied into the memory that stands, and no term is asked.
-ghost use Rattle.std.specs.Prelude.{◌≡◌, ◌<◌, ◌^◌, ℕ, ℤ, List, true, length, map, pos, ◌*ℤ◌, OnOk, IfOk};
-ghost use Rattle.std.specs.List.{All};
-ghost use Rattle.sfm_spec.specs.Bounds.{AreBounded, IsEntry, IsFactor};
-ghost use Rattle.sfm_spec.specs.Families.{meanings, AreBases};
-ghost use Rattle.sfm_spec.specs.Walks.{base_at};
-ghost use Rattle.sfm_exchange.specs.Graph.{IsClaimed, IsGraph, IsShaped};
-ghost use Rattle.sfm_reach.specs.Based.{AreBased};
-ghost use Rattle.sfm_reach.specs.Reach.{AreNotes, AreSized};
-ghost use Rattle.sfm_exchange.specs.Scaled.{row_times};
+ghost use Rattle.std.specs.{Prelude.{◌≡◌, ◌<◌, ◌^◌, ℕ, ℤ, List, true, length, map, pos, ◌*ℤ◌, OnOk, IfOk}, List.{All}};
+ghost use Rattle.sfm_spec.specs.{Bounds.{AreBounded, IsEntry, IsFactor}, Families.{meanings, AreBases}, Walks.{base_at}};
+ghost use Rattle.sfm_exchange.specs.{Graph.{IsClaimed, IsGraph, IsShaped}, Scaled.{row_times}};
+ghost use Rattle.sfm_reach.specs.{Based.{AreBased}, Reach.{AreNotes, AreSized}};
 
 use crate::graph::{Graph, blank_graph, copy_rows, restart};
 use sfm_base::{Memory, Rows};

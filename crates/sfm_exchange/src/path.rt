@@ -1,15 +1,9 @@
 // One walk of least steps: from each place the walk takes, among the steps into the level below, the one to the least place,
 // and to that place the one of the first term. So no walk from its first place to a place with z > 0 has fewer steps.
 ghost use Rattle.std.specs.Prelude.{◌≡◌, ◌-◌, ◌<◌, ◌≤◌, ℕ, length, OnOk, MatchOption, slice_index_or};
-ghost use Rattle.sfm_spec.specs.Families.{meanings};
-ghost use Rattle.sfm_spec.specs.Labels.{FallsAlong, step_code};
-ghost use Rattle.sfm_spec.specs.Walks.{Step, last_of};
-ghost use Rattle.sfm_reach.specs.Bits.{bit_in, set_at};
-ghost use Rattle.sfm_exchange.specs.Levels.{depth_of, IsFirst, LeadsInto};
-ghost use Rattle.sfm_reach.specs.Spots.{AreSpots, spot_at};
-ghost use Rattle.sfm_reach.specs.Unions.{AreUnions, HasRows, HaveRows, IsReadable, spot_row};
-ghost use Rattle.sfm_reach.specs.Reach.{table_at};
-ghost use Rattle.sfm_exchange.specs.Hops.{AreHops, AreLeast, IsHop, IsTold, hop_at, step_of, steps_of};
+ghost use Rattle.sfm_spec.specs.{Families.{meanings}, Labels.{FallsAlong, step_code}, Walks.{Step, last_of}};
+ghost use Rattle.sfm_reach.specs.{Bits.{bit_in, set_at}, Spots.{AreSpots, spot_at}, Unions.{AreUnions, HasRows, HaveRows, IsReadable, spot_row}, Reach.{table_at}};
+ghost use Rattle.sfm_exchange.specs.{Levels.{depth_of, IsFirst, LeadsInto}, Hops.{AreHops, AreLeast, IsHop, IsTold, hop_at, step_of, steps_of}};
 
 use crate::graph::Graph;
 use sfm_base::Memory;

@@ -7,15 +7,9 @@
 // asked nor claimed. A term whose rows are cheap, or cheaper one after another, is asked for the others at once, so none of its rows
 // is ever claimed.
 ghost use Rattle.std.specs.Prelude.{◌≡◌, ◌≢◌, ◌↔◌, ◌⊎◌, IsTrue, true, ◌<◌, ◌-◌, max, ℕ, List, ℤ, length, IfOk, OnOk, slice_index_or};
-ghost use Rattle.sfm_spec.specs.Sets.{IsPlaced};
-ghost use Rattle.sfm_spec.specs.Rows.{Depends};
-ghost use Rattle.sfm_spec.specs.Terms.{times};
-ghost use Rattle.sfm_reach.specs.Based.{IsBased};
-ghost use Rattle.sfm_reach.specs.Bits.{bit_in};
-ghost use Rattle.sfm_exchange.specs.Claimed.{AreClaims};
-ghost use Rattle.sfm_reach.specs.Image.{IsImage};
-ghost use Rattle.sfm_reach.specs.Reach.{IsRow};
-ghost use Rattle.sfm_exchange.specs.Renewed.{AreAsked, AreDepending, AreJoined, AreRenewed, AreShared, AreTakenIn, IsExchanged, IsJoined, IsRaised};
+ghost use Rattle.sfm_spec.specs.{Sets.{IsPlaced}, Rows.{Depends}, Terms.{times}};
+ghost use Rattle.sfm_reach.specs.{Based.{IsBased}, Bits.{bit_in}, Image.{IsImage}, Reach.{IsRow}};
+ghost use Rattle.sfm_exchange.specs.{Claimed.{AreClaims}, Renewed.{AreAsked, AreDepending, AreJoined, AreRenewed, AreShared, AreTakenIn, IsExchanged, IsJoined, IsRaised}};
 
 use crate::path::Hop;
 use sfm_base::Memory;

@@ -1,8 +1,7 @@
 // The value that bases prove: the sum of min(z, 0) over all places. With the magnitudes of z bounded in all, no sum on
 // the way exceeds that bound.
 ghost use Rattle.std.specs.Prelude.{◌≡◌, ◌^◌, ℤ, length, slice_index_or, pos, ◌≤ℤ◌};
-ghost use Rattle.sfm_spec.specs.Sets.{magnitudes};
-ghost use Rattle.sfm_spec.specs.Families.{deficit};
+ghost use Rattle.sfm_spec.specs.{Sets.{magnitudes}, Families.{deficit}};
 
 /// The sum of min(z, 0).
 pub fn deficit_of(z: &[i128]) -> i128

@@ -1,13 +1,9 @@
 // Whether bases prove the minimum. Where a walk joins, no bases with such a walk prove. Where none does, they prove: the
 // places that links of the exchange graph lead to from those with z < 0 are the least minimiser, those from which no link
 // leads to one with z > 0 the greatest, and the value is the sum of min(z, 0). No subset is ever tried.
-ghost use Rattle.std.specs.Prelude.{◌↔◌, length, map, pos, ◌^◌, ◌≤ℤ◌, IfOk};
-ghost use Rattle.std.specs.List.{All};
-ghost use Rattle.sfm_spec.specs.Sets.{magnitudes};
-ghost use Rattle.sfm_spec.specs.Bounds.{AreBounded, IsEntry, IsFactor};
-ghost use Rattle.sfm_spec.specs.Families.{meanings, even_shift, AreBases, Prove};
-ghost use Rattle.sfm_extreme.specs.Certified.{IsAnswer, IsProved};
-ghost use Rattle.sfm_extreme.specs.Reading.{IsReading};
+ghost use Rattle.std.specs.{Prelude.{◌↔◌, length, map, pos, ◌^◌, ◌≤ℤ◌, IfOk}, List.{All}};
+ghost use Rattle.sfm_spec.specs.{Sets.{magnitudes}, Bounds.{AreBounded, IsEntry, IsFactor}, Families.{meanings, even_shift, AreBases, Prove}};
+ghost use Rattle.sfm_extreme.specs.{Certified.{IsAnswer, IsProved}, Reading.{IsReading}};
 
 use crate::deficit::deficit_of;
 use crate::joining::joining_walk;

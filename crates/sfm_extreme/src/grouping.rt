@@ -1,14 +1,10 @@
 // The blocks of the minimisers: the places between the least and the greatest minimiser, put together where each comes
 // along with the other. A block is told by its first place, and needs the other blocks whose first places come along
 // with it.
-ghost use Rattle.std.specs.Prelude.{◌≡◌, ℕ, ◌<◌, ◌≤◌, length, map, pos, IfOk, slice_index};
-ghost use Rattle.std.specs.List.{All};
-ghost use Rattle.sfm_spec.specs.Bounds.{AreBounded, IsEntry};
-ghost use Rattle.sfm_spec.specs.Blocks.{AreBlocks, Generate};
-ghost use Rattle.sfm_spec.specs.Families.{meanings, even_shift, AreBases, Prove};
+ghost use Rattle.std.specs.{Prelude.{◌≡◌, ℕ, ◌<◌, ◌≤◌, length, map, pos, IfOk, slice_index}, List.{All}};
+ghost use Rattle.sfm_spec.specs.{Bounds.{AreBounded, IsEntry}, Blocks.{AreBlocks, Generate}, Families.{meanings, even_shift, AreBases, Prove}};
 ghost use Rattle.sfm_exchange.specs.Bits.{bit_in, set_at};
-ghost use Rattle.sfm_extreme.specs.Blocks.{block_of};
-ghost use Rattle.sfm_extreme.specs.Pulls.{AreBlocksBy, AreGrouped, AreSquare, IsMembers, needs_upto};
+ghost use Rattle.sfm_extreme.specs.{Blocks.{block_of}, Pulls.{AreBlocksBy, AreGrouped, AreSquare, IsMembers, needs_upto}};
 
 use crate::firsts::firsts_in_order;
 use crate::pulling::pull_rows;

@@ -1,8 +1,7 @@
 // A walk that joins. A search backwards from the places with z > 0 finds, level by level, the places from which a walk leads
 // to one of them, up to the first level that has a place with z < 0. From there a shortest walk is taken, by least steps.
 ghost use Rattle.std.specs.Prelude.{◌≡◌, ℕ, List, length, IfOk, MatchOption};
-ghost use Rattle.sfm_spec.specs.Families.{meanings};
-ghost use Rattle.sfm_spec.specs.Walks.{Step, Joins};
+ghost use Rattle.sfm_spec.specs.{Families.{meanings}, Walks.{Step, Joins}};
 ghost use Rattle.sfm_exchange.specs.Hops.{steps_of};
 ghost use Rattle.sfm_extreme.specs.Reading.{IsReading};
 

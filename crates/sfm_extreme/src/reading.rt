@@ -1,11 +1,8 @@
 // The exchange graph at some bases, and what z tells of its places: the places by the sign of z, those that links lead to
 // from a place with z < 0, and those from which links lead to one with z > 0. A walk joins where a place is both; where none
 // is, the first are the least minimiser and the second all places outside the greatest.
-ghost use Rattle.std.specs.Prelude.{◌≡◌, ◌^◌, length, map, pos, ◌≤ℤ◌, IfOk};
-ghost use Rattle.std.specs.List.{All};
-ghost use Rattle.sfm_spec.specs.Sets.{magnitudes};
-ghost use Rattle.sfm_spec.specs.Bounds.{AreBounded, IsEntry, IsFactor};
-ghost use Rattle.sfm_spec.specs.Families.{meanings, AreBases};
+ghost use Rattle.std.specs.{Prelude.{◌≡◌, ◌^◌, length, map, pos, ◌≤ℤ◌, IfOk}, List.{All}};
+ghost use Rattle.sfm_spec.specs.{Sets.{magnitudes}, Bounds.{AreBounded, IsEntry, IsFactor}, Families.{meanings, AreBases}};
 ghost use Rattle.sfm_extreme.specs.Reading.{IsReading};
 
 use sfm_base::{Memory, Rows};

@@ -1,8 +1,7 @@
 // A shelf over the files of the system. It tells nothing of their bytes: only its count of faults is known.
 // What the system does with the bytes is taken on trust, so there is no more here than a call and a count.
 ghost use Rattle.std.specs.Prelude.{◌≡◌, is_ok, if◌then◌else◌};
-ghost use Rattle.sfm_io.specs.Faults.{counted};
-ghost use Rattle.sfm_io.specs.Shelf.{Opens, Reads, untold_state};
+ghost use Rattle.sfm_io.specs.{Faults.{counted}, Shelf.{Opens, Reads, untold_state}};
 ghost use Rattle.std.proofs.Common.{rules};
 
 use crate::calls::Faults;

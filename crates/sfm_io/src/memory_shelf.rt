@@ -1,10 +1,8 @@
 // A shelf over memory. It tells everything, and fails at the calls that it was told to fail at: so what a program does
 // over it is known to the byte, also where a call fails in mid-stream. It keeps the place of the next byte, which lies
 // within a text, so that a read copies from that text and no byte is stored twice.
-ghost use Rattle.std.specs.Prelude.{◌≡◌, ◌+◌, ◌<◌, ◌≤◌, [], ◌∷◌, ◌++◌, length, IfOk, is_ok, Some, None, MatchOption, refl, if◌then◌else◌};
-ghost use Rattle.std.specs.Str.{bytes_eq};
-ghost use Rattle.sfm_io.specs.Shelf.{Opens, Reads, text_of};
-ghost use Rattle.sfm_io.specs.HeldShelf.{OpensHeld, ReadsHeld, state_of, text_at};
+ghost use Rattle.std.specs.{Prelude.{◌≡◌, ◌+◌, ◌<◌, ◌≤◌, [], ◌∷◌, ◌++◌, length, IfOk, is_ok, Some, None, MatchOption, refl, if◌then◌else◌}, Str.{bytes_eq}};
+ghost use Rattle.sfm_io.specs.{Shelf.{Opens, Reads, text_of}, HeldShelf.{OpensHeld, ReadsHeld, state_of, text_at}};
 
 use crate::calls::Calls;
 use crate::{Failed, Shelf};

@@ -1,8 +1,7 @@
 // A sink over memory. Its room is made once, so a write takes no memory, and it fails at the calls that it was told to
 // fail at and where its room is used up. The room left and the bytes taken never exceed what was reserved.
 ghost use Rattle.std.specs.Prelude.{◌≡◌, ◌≤◌, [], IfOk};
-ghost use Rattle.sfm_io.specs.Sink.{Writes};
-ghost use Rattle.sfm_io.specs.HeldSink.{WritesHeld, state_of};
+ghost use Rattle.sfm_io.specs.{Sink.{Writes}, HeldSink.{WritesHeld, state_of}};
 
 use crate::calls::Calls;
 use crate::{Failed, Sink};

@@ -1,8 +1,7 @@
 // A sink over a writer of the system. It tells nothing of the bytes: only its count of faults is known.
 // What the system does with the bytes is taken on trust, so there is no more here than a call and a count.
 ghost use Rattle.std.specs.Prelude.{◌≡◌, is_ok, if◌then◌else◌};
-ghost use Rattle.sfm_io.specs.Faults.{counted};
-ghost use Rattle.sfm_io.specs.Sink.{Writes, untold_state};
+ghost use Rattle.sfm_io.specs.{Faults.{counted}, Sink.{Writes, untold_state}};
 
 use crate::calls::Faults;
 use crate::{Failed, Sink};

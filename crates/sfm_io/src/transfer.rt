@@ -1,9 +1,7 @@
 // Reads the open text of a shelf to its end, and writes bytes whole. Each turn takes at least one byte, or finds that
 // none is left, so both end whatever the shelf or the sink does.
 ghost use Rattle.std.specs.Prelude.{◌≡◌, ◌<◌, ◌≤◌, length, IfOk, IfErr};
-ghost use Rattle.sfm_io.specs.Shelf.{KeepsShelf};
-ghost use Rattle.sfm_io.specs.Transfer.{IsRest, IsCause, ReadsOn, WritesAll};
-ghost use Rattle.sfm_io.specs.declared.transfer.ReadEnd.TheVariants.{Fault, Memory};
+ghost use Rattle.sfm_io.specs.{Shelf.{KeepsShelf}, Transfer.{IsRest, IsCause, ReadsOn, WritesAll}, declared.transfer.ReadEnd.TheVariants.{Fault, Memory}};
 
 use crate::{Failed, Shelf, Sink};
 use std::alloc::{AllocError, Global};

@@ -1,12 +1,9 @@
 // An instance: the names of a ground and the terms over it. The bounds that each call over terms asks for are kept in the
 // type, so that a caller has them of every instance. Running totals of the places and the sizes of all terms are kept too,
 // so that a term is tested before it is added without a pass over the others.
-ghost use Rattle.std.specs.Prelude.{◌≡◌, ◌↔◌, ℕ, ◌<◌, ◌≤◌, List, [], ◌∷◌, ◌++◌, length, slice_get, slice_index_or, IsTrue, OnOk, OnErr, IfSome, IfNone, Some};
-ghost use Rattle.std.specs.List.{All};
+ghost use Rattle.std.specs.{Prelude.{◌≡◌, ◌↔◌, ℕ, ◌<◌, ◌≤◌, List, [], ◌∷◌, ◌++◌, length, slice_get, slice_index_or, IsTrue, OnOk, OnErr, IfSome, IfNone, Some}, List.{All}};
 ghost use Rattle.sfm_spec.specs.Names.{IsName};
-ghost use Rattle.sfm_kind.specs.Names.{IsNewName, AreElementNames};
-ghost use Rattle.sfm_kind.specs.Instance.{support_of};
-ghost use Rattle.sfm_kind.specs.Limits.{AreInBounds, HasRoomFor, total_size_of};
+ghost use Rattle.sfm_kind.specs.{Names.{IsNewName, AreElementNames}, Instance.{support_of}, Limits.{AreInBounds, HasRoomFor, total_size_of}};
 
 use crate::kind::Kind;
 use crate::names::Names;
@@ -45,8 +42,7 @@ impl Drop for Instance {
 }
 
 impl Model for Instance {
-    ghost use Rattle.sfm_kind.specs.Instance.{InstanceData};
-    ghost use Rattle.sfm_kind.specs.Limits.{IsKept};
+    ghost use Rattle.sfm_kind.specs.{Instance.{InstanceData}, Limits.{IsKept}};
 
     ghost Value = { InstanceData };
 

@@ -2,13 +2,10 @@
 // by cases over the kinds (specs/Kinds.antt), so a kind that is added brings one case to each law, and one to the macro by
 // which the calls pass on. The plain kinds keep nothing beside a base: what is asked by a note is asked of them as without
 // one. Graphic ranks alone have another way to ask for a row with a place to which the place of the row leads.
-ghost use Rattle.std.specs.Prelude.{◌≡◌, ◌≢◌, ◌↔◌, ℕ, ◌<◌, ◌≤◌, ◌^◌, Bool, List, length, ℤ, pos, neg_ℤ, ◌*ℤ◌, ◌≤ℤ◌, IfOk, OnOk, IsTrue, Option, Some};
-ghost use Rattle.std.specs.List.{All};
-ghost use Rattle.sfm_spec.specs.Bounds.{IsEntry, IsFactor};
-ghost use Rattle.sfm_spec.specs.Terms.{SetFunction, times, IsBase, IsFamily, IsSubmodular, exchanged};
+ghost use Rattle.std.specs.{Prelude.{◌≡◌, ◌≢◌, ◌↔◌, ℕ, ◌<◌, ◌≤◌, ◌^◌, Bool, List, length, ℤ, pos, neg_ℤ, ◌*ℤ◌, ◌≤ℤ◌, IfOk, OnOk, IsTrue, Option, Some}, List.{All}};
+ghost use Rattle.sfm_spec.specs.{Bounds.{IsEntry, IsFactor}, Terms.{SetFunction, times, IsBase, IsFamily, IsSubmodular, exchanged}};
 ghost use Rattle.sfm_law.specs.Room.{IsRoom, IsReach, IsWithinRoom};
-ghost use Rattle.sfm_kind.specs.Meanings.{kind_places, IsValueOf, IsMeaningOf, size_by, IsStartOf};
-ghost use Rattle.sfm_kind.specs.Kinds.{kind_value, kind_size, kind_start, kind_lean_value, kind_lean_calls, kind_fits, kind-family, kind-submodular, kind-bounded, kind-starts, kind-starts_small};
+ghost use Rattle.sfm_kind.specs.{Meanings.{kind_places, IsValueOf, IsMeaningOf, size_by, IsStartOf}, Kinds.{kind_value, kind_size, kind_start, kind_lean_value, kind_lean_calls, kind_fits, kind-family, kind-submodular, kind-bounded, kind-starts, kind-starts_small}};
 
 use sfm_base::{Memory, Set};
 use sfm_concave::{Concave, Uniform};

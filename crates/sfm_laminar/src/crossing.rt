@@ -1,8 +1,6 @@
 // The first two groups that cross: that share a place while neither holds the other.
-ghost use Rattle.std.specs.Prelude.{◌≡◌, ◌↔◌, ℕ, ◌<◌, List, length, slice_index_or, IsTrue, Contains, MatchOption};
-ghost use Rattle.std.specs.List.{All};
-ghost use Rattle.sfm_laminar.specs.Groups.{IsAscending, IsGroup, IsFirstCrossing, NoneCross, IsRepeated};
-ghost use Rattle.sfm_laminar.specs.Crossing.{ListsAll, ListsSome, AreCrossing, IsCrossing};
+ghost use Rattle.std.specs.{Prelude.{◌≡◌, ◌↔◌, ℕ, ◌<◌, List, length, slice_index_or, IsTrue, Contains, MatchOption}, List.{All}};
+ghost use Rattle.sfm_laminar.specs.{Groups.{IsAscending, IsGroup, IsFirstCrossing, NoneCross, IsRepeated}, Crossing.{ListsAll, ListsSome, AreCrossing, IsCrossing}};
 
 use crate::groups::{CappedGroup, Groups};
 use crate::place::lists;

@@ -1,9 +1,7 @@
 // Groups of places, each with a cap, in the order in which they come. A group is seen as its cap and its ascending members.
-ghost use Rattle.std.specs.Prelude.{◌≡◌, ◌↔◌, ℕ, ◌<◌, ◌≤◌, List, [], ◌∷◌, ◌++◌, length, slice_index_or, is_ok, ℤ, pos, ◌≤ℤ◌, if◌then◌else◌, IsTrue, Contains};
-ghost use Rattle.std.specs.List.{All};
+ghost use Rattle.std.specs.{Prelude.{◌≡◌, ◌↔◌, ℕ, ◌<◌, ◌≤◌, List, [], ◌∷◌, ◌++◌, length, slice_index_or, is_ok, ℤ, pos, ◌≤ℤ◌, if◌then◌else◌, IsTrue, Contains}, List.{All}};
 ghost use Rattle.sfm_spec.specs.Bounds.{IsGiven};
-ghost use Rattle.sfm_laminar.specs.Groups.{IsAscending, IsGroup};
-ghost use Rattle.sfm_laminar.specs.Crossing.{group_at};
+ghost use Rattle.sfm_laminar.specs.{Groups.{IsAscending, IsGroup}, Crossing.{group_at}};
 
 use sfm_base::Memory;
 use std::alloc::Global;
@@ -54,8 +52,7 @@ pub struct Groups {
 }
 
 impl Model for Groups {
-    ghost use Rattle.std.specs.Prelude.{List};
-    ghost use Rattle.std.specs.List.{All};
+    ghost use Rattle.std.specs.{Prelude.{List}, List.{All}};
     ghost use Rattle.sfm_spec.specs.Kinds.{Group};
     ghost use Rattle.sfm_laminar.specs.Groups.{IsGroup};
 

@@ -2,10 +2,7 @@
 // How many of its places each group has is counted beside it, so that a place looks at the numbers of its own groups alone.
 ghost use Rattle.std.specs.Prelude.{◌≡◌, ◌↔◌, ℕ, ◌<◌, ◌≤◌, false, List, length, slice_index_or, IfOk, IsTrue};
 ghost use Rattle.sfm_spec.specs.Sets.{empty_set};
-ghost use Rattle.sfm_laminar.specs.Groups.{IsAscending, AreGroups};
-ghost use Rattle.sfm_laminar.specs.Indexes.{IsIndex};
-ghost use Rattle.sfm_laminar.specs.Counts.{AreCounts, HasFull, raised};
-ghost use Rattle.sfm_laminar.specs.Grown.{step, grown};
+ghost use Rattle.sfm_laminar.specs.{Groups.{IsAscending, AreGroups}, Indexes.{IsIndex}, Counts.{AreCounts, HasFull, raised}, Grown.{step, grown}};
 
 use crate::groups::Groups;
 use crate::index::Index;

@@ -3,21 +3,10 @@
 // or its size where that is less, and that have q times the whole value in all. So the room of (u, v) is the least of what
 // v has, what u lacks of q·w, and what each group lacks that has u and not v. What each group lacks is kept beside a base, as the
 // places that have something are: a row is then made word by word, and a room is the least of a few numbers.
-ghost use Rattle.std.specs.Prelude.{◌≡◌, ◌≢◌, ◌↔◌, ℕ, ◌<◌, ◌≤◌, ◌^◌, Bool, true, false, List, length, slice_index_or, ℤ, pos, neg_ℤ, ◌*ℤ◌, ◌+ℤ◌, ◌-ℤ◌, ◌≤ℤ◌, ◌<ℤ◌, IfOk, IfSome, OnOk, IsTrue, Option, Some, Ok, Err, Contains};
-ghost use Rattle.std.specs.List.{All};
-ghost use Rattle.sfm_spec.specs.Bounds.{IsAtMost, IsEntry, IsFactor, IsGiven, AreElements, total_of};
-ghost use Rattle.sfm_spec.specs.Sets.{Has, size};
-ghost use Rattle.sfm_spec.specs.Terms.{SetFunction, times, IsBase, IsFamily, IsSubmodular, IsGreedy, exchanged};
-ghost use Rattle.sfm_spec.specs.Kinds.{IsWithinCaps, IsRank, IsRankFunction};
+ghost use Rattle.std.specs.{Prelude.{◌≡◌, ◌≢◌, ◌↔◌, ℕ, ◌<◌, ◌≤◌, ◌^◌, Bool, true, false, List, length, slice_index_or, ℤ, pos, neg_ℤ, ◌*ℤ◌, ◌+ℤ◌, ◌-ℤ◌, ◌≤ℤ◌, ◌<ℤ◌, IfOk, IfSome, OnOk, IsTrue, Option, Some, Ok, Err, Contains}, List.{All}};
+ghost use Rattle.sfm_spec.specs.{Bounds.{IsAtMost, IsEntry, IsFactor, IsGiven, AreElements, total_of}, Sets.{Has, size}, Terms.{SetFunction, times, IsBase, IsFamily, IsSubmodular, IsGreedy, exchanged}, Kinds.{IsWithinCaps, IsRank, IsRankFunction}};
 ghost use Rattle.sfm_law.specs.Room.{IsRoom, IsReach, IsWithinRoom};
-ghost use Rattle.sfm_laminar.specs.Groups.{IsGroup, IsBelow, AreGroups, NoneCross, IsFirstCrossing};
-ghost use Rattle.sfm_laminar.specs.Crossing.{group_at};
-ghost use Rattle.sfm_laminar.specs.Ranks.{rank};
-ghost use Rattle.sfm_laminar.specs.Indexes.{IsIndex, AreHoldersOf, AreMasks};
-ghost use Rattle.sfm_laminar.specs.Masks.{mask};
-ghost use Rattle.sfm_laminar.specs.Slacks.{AreSlacks, IsSupport, laminar_fits, share_of};
-ghost use Rattle.sfm_laminar.specs.Rooms.{slack_of, IsLeast, IsKept, IsHeld, IsHeldAt};
-ghost use Rattle.sfm_laminar.specs.LaminarLaws.{laminar_value, laminar_size, laminar_start, basis_of, laminar-family, laminar-submodular, laminar-bounded, laminar-starts, laminar-starts_small};
+ghost use Rattle.sfm_laminar.specs.{Groups.{IsGroup, IsBelow, AreGroups, NoneCross, IsFirstCrossing}, Crossing.{group_at}, Ranks.{rank}, Indexes.{IsIndex, AreHoldersOf, AreMasks}, Masks.{mask}, Slacks.{AreSlacks, IsSupport, laminar_fits, share_of}, Rooms.{slack_of, IsLeast, IsKept, IsHeld, IsHeldAt}, LaminarLaws.{laminar_value, laminar_size, laminar_start, basis_of, laminar-family, laminar-submodular, laminar-bounded, laminar-starts, laminar-starts_small}};
 
 use crate::crossing::first_crossing;
 use crate::groups::{CappedGroup, Groups};

@@ -1,10 +1,7 @@
 // For each group its members as a set, made once: a group then tells in one step whether it has a place, and keeps of a set what
 // it has of it word by word.
-ghost use Rattle.std.specs.Prelude.{◌≡◌, ◌<◌, [], length, slice_index_or, IfOk};
-ghost use Rattle.std.specs.List.{All};
-ghost use Rattle.sfm_laminar.specs.Groups.{IsAscending, IsBelow};
-ghost use Rattle.sfm_laminar.specs.Masks.{mask};
-ghost use Rattle.sfm_laminar.specs.Indexes.{AreMasks};
+ghost use Rattle.std.specs.{Prelude.{◌≡◌, ◌<◌, [], length, slice_index_or, IfOk}, List.{All}};
+ghost use Rattle.sfm_laminar.specs.{Groups.{IsAscending, IsBelow}, Masks.{mask}, Indexes.{AreMasks}};
 
 use crate::groups::Groups;
 use crate::place::lists;

@@ -1,10 +1,7 @@
 // What a group gets at the most, and what its members have together.
-ghost use Rattle.std.specs.Prelude.{◌≡◌, ◌↔◌, ◌<◌, ◌≤◌, ◌^◌, IsTrue, length, ℤ, ◌*ℤ◌, ◌≤ℤ◌, pos};
-ghost use Rattle.std.specs.Int.{int_min};
-ghost use Rattle.std.specs.List.{All};
+ghost use Rattle.std.specs.{Prelude.{◌≡◌, ◌↔◌, ◌<◌, ◌≤◌, ◌^◌, IsTrue, length, ℤ, ◌*ℤ◌, ◌≤ℤ◌, pos}, Int.{int_min}, List.{All}};
 ghost use Rattle.sfm_spec.specs.Bounds.{IsAtMost, IsEntry, IsFactor, IsGiven, total_of};
-ghost use Rattle.sfm_laminar.specs.Groups.{IsGroup};
-ghost use Rattle.sfm_laminar.specs.Masks.{sum_listed};
+ghost use Rattle.sfm_laminar.specs.{Groups.{IsGroup}, Masks.{sum_listed}};
 
 use crate::groups::CappedGroup;
 

@@ -1,9 +1,7 @@
 // What is kept beside a base, so that rooms and rows are told without a sum over the members of a group: what each group lacks,
 // and the places that have something. An exchange changes what those groups lack that have one of its places, by its amount.
-ghost use Rattle.std.specs.Prelude.{◌≡◌, ◌≢◌, ◌↔◌, ◌<◌, ◌^◌, IsTrue, length, pos, ◌≤ℤ◌, if◌then◌else◌, IfOk, IfSome};
-ghost use Rattle.std.specs.List.{All};
-ghost use Rattle.sfm_spec.specs.Bounds.{IsEntry};
-ghost use Rattle.sfm_spec.specs.Terms.{exchanged};
+ghost use Rattle.std.specs.{Prelude.{◌≡◌, ◌≢◌, ◌↔◌, ◌<◌, ◌^◌, IsTrue, length, pos, ◌≤ℤ◌, if◌then◌else◌, IfOk, IfSome}, List.{All}};
+ghost use Rattle.sfm_spec.specs.{Bounds.{IsEntry}, Terms.{exchanged}};
 ghost use Rattle.sfm_laminar.specs.Slacks.{IsSupport};
 
 use sfm_base::{Memory, Set};

@@ -1,14 +1,6 @@
 // Facts that hold of every term, by its meaning alone. The functions do nothing: each states a fact, and callers' proofs cite it.
-ghost use Rattle.std.specs.Prelude.{◌≡◌, ◌≢◌, List, ℕ, ◌<◌, length, pos, neg_ℤ, ◌≤ℤ◌};
-ghost use Rattle.std.specs.List.{All};
-ghost use Rattle.sfm_spec.specs.Blocks.{Block, AreBlocks, Generate};
-ghost use Rattle.sfm_spec.specs.Families.{meanings, AreBases, ArePlaced, rest_at};
-ghost use Rattle.sfm_spec.specs.Chains.{ChainLaws};
-ghost use Rattle.sfm_spec.specs.Labels.{FewWalksLaws};
-ghost use Rattle.sfm_spec.specs.Laws.{BaseLaws, MoveLaws};
-ghost use Rattle.sfm_spec.specs.Rows.{LeastTight, RowLaws};
-ghost use Rattle.sfm_spec.specs.Terms.{times, exchanged, IsBase, TightLaws};
-ghost use Rattle.sfm_spec.specs.Walks.{Step, AllCanMove, IsShortest, last_of};
+ghost use Rattle.std.specs.{Prelude.{◌≡◌, ◌≢◌, List, ℕ, ◌<◌, length, pos, neg_ℤ, ◌≤ℤ◌}, List.{All}};
+ghost use Rattle.sfm_spec.specs.{Blocks.{Block, AreBlocks, Generate}, Families.{meanings, AreBases, ArePlaced, rest_at}, Chains.{ChainLaws}, Labels.{FewWalksLaws}, Laws.{BaseLaws, MoveLaws}, Rows.{LeastTight, RowLaws}, Terms.{times, exchanged, IsBase, TightLaws}, Walks.{Step, AllCanMove, IsShortest, last_of}};
 
 use crate::term::Term;
 use sfm_base::Rows;

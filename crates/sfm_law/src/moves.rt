@@ -1,8 +1,6 @@
 // The one change that the engine makes to a base: one place is raised and another lowered by the same amount.
-ghost use Rattle.std.specs.Prelude.{◌≡◌, ◌≢◌, ◌<◌, ◌^◌, length, pos, ◌≤ℤ◌};
-ghost use Rattle.std.specs.List.{All};
-ghost use Rattle.sfm_spec.specs.Bounds.{IsEntry, IsFactor};
-ghost use Rattle.sfm_spec.specs.Terms.{times, IsBase, exchanged};
+ghost use Rattle.std.specs.{Prelude.{◌≡◌, ◌≢◌, ◌<◌, ◌^◌, length, pos, ◌≤ℤ◌}, List.{All}};
+ghost use Rattle.sfm_spec.specs.{Bounds.{IsEntry, IsFactor}, Terms.{times, IsBase, exchanged}};
 ghost use Rattle.sfm_law.specs.Room.{IsWithinRoom};
 
 use crate::term::Term;

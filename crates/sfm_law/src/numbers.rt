@@ -1,7 +1,5 @@
 // Products and sums of the numbers that a term and its bases are made of.
-ghost use Rattle.std.specs.Prelude.{◌≡◌, ◌↔◌, ◌<◌, ◌≤◌, ◌^◌, IsTrue, length, nat_abs, slice_index_or, ℤ, ◌*ℤ◌, ◌-ℤ◌, ◌≤ℤ◌, pos};
-ghost use Rattle.std.specs.Int.{int_min};
-ghost use Rattle.std.specs.List.{All};
+ghost use Rattle.std.specs.{Prelude.{◌≡◌, ◌↔◌, ◌<◌, ◌≤◌, ◌^◌, IsTrue, length, nat_abs, slice_index_or, ℤ, ◌*ℤ◌, ◌-ℤ◌, ◌≤ℤ◌, pos}, Int.{int_min}, List.{All}};
 ghost use Rattle.sfm_spec.specs.Bounds.{IsAtMost, IsEntry, IsFactor, IsGiven, total_of};
 
 /// The magnitude of a number.

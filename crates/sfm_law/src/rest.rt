@@ -1,12 +1,8 @@
 // z at each place of the ground: the sum of the rows there, less the shift. Each row is added to the places of its term
 // in turn, so each entry is read once. At most 16,384 entries of at most 10^30 come to a place with a shift of at most
 // 10^36, so no sum leaves 128 bits.
-ghost use Rattle.std.specs.Prelude.{◌≡◌, ℕ, ◌<◌, ◌≤◌, ◌*◌, ◌^◌, ℤ, length, map, sum, slice_index_or, pos, neg_ℤ, ◌+ℤ◌, ◌≤ℤ◌, IfOk};
-ghost use Rattle.std.specs.List.{All};
-ghost use Rattle.sfm_spec.specs.Sets.{IsPlaced, magnitudes};
-ghost use Rattle.sfm_spec.specs.Bounds.{IsAtMost, IsEntry};
-ghost use Rattle.sfm_spec.specs.Families.{meanings, entry_at, rest_at};
-ghost use Rattle.sfm_spec.specs.Walks.{base_at, term_at};
+ghost use Rattle.std.specs.{Prelude.{◌≡◌, ℕ, ◌<◌, ◌≤◌, ◌*◌, ◌^◌, ℤ, length, map, sum, slice_index_or, pos, neg_ℤ, ◌+ℤ◌, ◌≤ℤ◌, IfOk}, List.{All}};
+ghost use Rattle.sfm_spec.specs.{Sets.{IsPlaced, magnitudes}, Bounds.{IsAtMost, IsEntry}, Families.{meanings, entry_at, rest_at}, Walks.{base_at, term_at}};
 ghost use Rattle.sfm_law.specs.Rest.{IsRest};
 
 use crate::term::Term;

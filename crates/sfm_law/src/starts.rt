@@ -1,8 +1,6 @@
 // The first bases of a list of terms.
-ghost use Rattle.std.specs.Prelude.{◌≡◌, ◌^◌, length, map, pos, ◌≤ℤ◌, IfOk};
-ghost use Rattle.std.specs.List.{All};
-ghost use Rattle.sfm_spec.specs.Bounds.{IsEntry, IsFactor};
-ghost use Rattle.sfm_spec.specs.Families.{meanings, AreBases};
+ghost use Rattle.std.specs.{Prelude.{◌≡◌, ◌^◌, length, map, pos, ◌≤ℤ◌, IfOk}, List.{All}};
+ghost use Rattle.sfm_spec.specs.{Bounds.{IsEntry, IsFactor}, Families.{meanings, AreBases}};
 
 use crate::term::Term;
 use sfm_base::{Memory, Rows};

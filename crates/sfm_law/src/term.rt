@@ -1,10 +1,7 @@
 // What a term of a sum is: a submodular function of a few places, with a test of bases, exchange capacities,
 // and a first base. Everything above speaks of terms by this trait alone.
-ghost use Rattle.std.specs.Prelude.{◌≡◌, ◌≢◌, ◌↔◌, ℕ, ◌<◌, ◌^◌, Bool, List, length, ℤ, pos, neg_ℤ, ◌*ℤ◌, ◌≤ℤ◌, IfOk, IsOk, OnOk, IsTrue, Some};
-ghost use Rattle.std.specs.List.{All};
-ghost use Rattle.sfm_spec.specs.Bounds.{IsEntry, IsFactor};
-ghost use Rattle.sfm_spec.specs.Rows.{Depends};
-ghost use Rattle.sfm_spec.specs.Terms.{SetFunction, times, IsBase, IsFamily, IsSubmodular, exchanged};
+ghost use Rattle.std.specs.{Prelude.{◌≡◌, ◌≢◌, ◌↔◌, ℕ, ◌<◌, ◌^◌, Bool, List, length, ℤ, pos, neg_ℤ, ◌*ℤ◌, ◌≤ℤ◌, IfOk, IsOk, OnOk, IsTrue, Some}, List.{All}};
+ghost use Rattle.sfm_spec.specs.{Bounds.{IsEntry, IsFactor}, Rows.{Depends}, Terms.{SetFunction, times, IsBase, IsFamily, IsSubmodular, exchanged}};
 ghost use Rattle.sfm_law.specs.Room.{IsRoom, IsReach, IsWithinRoom};
 
 use crate::room::Room;

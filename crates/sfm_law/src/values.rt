@@ -1,9 +1,7 @@
 // What the kinds of terms do with lists of numbers: the greatest magnitude of some, the entries of a base one place after
 // another, and the places that have more than a number.
-ghost use Rattle.std.specs.Prelude.{◌≡◌, ◌≢◌, ◌↔◌, ℕ, ◌<◌, length, slice_index_or, pos, IsTrue};
-ghost use Rattle.std.specs.List.{All};
-ghost use Rattle.sfm_spec.specs.Bounds.{IsEntry, IsGiven};
-ghost use Rattle.sfm_spec.specs.Sets.{Has};
+ghost use Rattle.std.specs.{Prelude.{◌≡◌, ◌≢◌, ◌↔◌, ℕ, ◌<◌, length, slice_index_or, pos, IsTrue}, List.{All}};
+ghost use Rattle.sfm_spec.specs.{Bounds.{IsEntry, IsGiven}, Sets.{Has}};
 ghost use Rattle.sfm_law.specs.Values.{greatest, IsOver};
 
 use crate::numbers::magnitude;

@@ -1,14 +1,7 @@
 // The line `rank`, a number, `graphic`, a colon, and at least one edge `name=vertex-vertex`.
-ghost use Rattle.std.specs.Prelude.{◌≡◌, ◌<◌, ℕ, List, [], ◌∷◌, length, map, ◌^◌, MatchBool, MatchOption, IfOk, codes};
-ghost use Rattle.std.specs.List.{All, AllZip};
+ghost use Rattle.std.specs.{Prelude.{◌≡◌, ◌<◌, ℕ, List, [], ◌∷◌, length, map, ◌^◌, MatchBool, MatchOption, IfOk, codes}, List.{All, AllZip}};
 ghost use Rattle.sfm_matroid.specs.Ends.{edges_of};
-ghost use Rattle.sfm_lines.specs.Lines.{texts_of};
-ghost use Rattle.sfm_lines.specs.Parts.{IsLabelToken, IsLabelledLine};
-ghost use Rattle.sfm_lines.specs.LabelTerms.{edge_between, numbers_of};
-ghost use Rattle.sfm_lines.specs.CutParts.{AreLabelled, labelled_parts_of, with_labelled, place_among};
-ghost use Rattle.sfm_lines.specs.ReadParts.{AreGiven, HasLineParts, IsTermOf, parts_of, label_lists_of, joined};
-ghost use Rattle.sfm_lines.specs.declared.word.TermWord.TheVariants.{RankWord};
-ghost use Rattle.sfm_lines.specs.declared.word.RankKind.TheVariants.{GraphicRank};
+ghost use Rattle.sfm_lines.specs.{Lines.{texts_of}, Parts.{IsLabelToken, IsLabelledLine}, LabelTerms.{edge_between, numbers_of}, CutParts.{AreLabelled, labelled_parts_of, with_labelled, place_among}, ReadParts.{AreGiven, HasLineParts, IsTermOf, parts_of, label_lists_of, joined}, declared.word.TermWord.TheVariants.{RankWord}, declared.word.RankKind.TheVariants.{GraphicRank}};
 
 use crate::labels::{Labels, different, number_of};
 use crate::pair::cut_once;

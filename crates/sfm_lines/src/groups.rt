@@ -1,17 +1,10 @@
 // The groups of a line: whether their names are those of the line's elements, whether one stands twice, and the term that
 // they make. A line of millions of names is told by passes, in `sfm_passes`; so a name is sought here by going through the
 // texts. A group's members are found by going through the elements in order, so that they ascend.
-ghost use Rattle.std.specs.Prelude.{◌≡◌, ◌+◌, ◌^◌, ℕ, List, length, pos, ◌≤ℤ◌, Any, Contains, IfOk, MatchBool, MatchOption};
+ghost use Rattle.std.specs.{Prelude.{◌≡◌, ◌+◌, ◌^◌, ℕ, List, length, pos, ◌≤ℤ◌, Any, Contains, IfOk, MatchBool, MatchOption}, List.{All}};
 ghost use Rattle.sfm_laminar.specs.Crossing.{IsCrossing};
-ghost use Rattle.std.specs.List.{All};
 ghost use Rattle.sfm_spec.specs.Bounds.{IsAtMost};
-ghost use Rattle.sfm_lines.specs.Lines.{texts_of, text_lists_of};
-ghost use Rattle.sfm_lines.specs.LabelTerms.{distinct_of};
-ghost use Rattle.sfm_lines.specs.RankLines.{is_among, members_of, groups_of, least_groups};
-ghost use Rattle.sfm_lines.specs.TermLines.{StandsTwice};
-ghost use Rattle.sfm_lines.specs.ReadParts.{AreGiven, IsTermOf, parts_of};
-ghost use Rattle.sfm_lines.specs.declared.word.TermWord.TheVariants.{RankWord};
-ghost use Rattle.sfm_lines.specs.declared.word.RankKind.TheVariants.{LaminarRank};
+ghost use Rattle.sfm_lines.specs.{Lines.{texts_of, text_lists_of}, LabelTerms.{distinct_of}, RankLines.{is_among, members_of, groups_of, least_groups}, TermLines.{StandsTwice}, ReadParts.{AreGiven, IsTermOf, parts_of}, declared.word.TermWord.TheVariants.{RankWord}, declared.word.RankKind.TheVariants.{LaminarRank}};
 
 use crate::kept::{keep, with_kept};
 use crate::parts::Parts;

@@ -1,12 +1,9 @@
 // The groups of a laminar rank as its term has them: of those with the same members one with the least cap. There are fewer than
 // twice as many different sets as elements where no two cross, so what is kept is little however many groups a line has.
-ghost use Rattle.std.specs.Prelude.{◌≡◌, ◌≢◌, ℕ, ◌^◌, length, pos, ◌≤ℤ◌, IfOk, OnOk, MatchOption};
-ghost use Rattle.std.specs.List.{All};
+ghost use Rattle.std.specs.{Prelude.{◌≡◌, ◌≢◌, ℕ, ◌^◌, length, pos, ◌≤ℤ◌, IfOk, OnOk, MatchOption}, List.{All}};
 ghost use Rattle.sfm_spec.specs.Bounds.{IsAtMost, IsGiven, AreElements};
-ghost use Rattle.sfm_laminar.specs.Crossing.{IsCrossing};
-ghost use Rattle.sfm_laminar.specs.Groups.{IsBelow, IsGroup};
-ghost use Rattle.sfm_lines.specs.RankLines.{with_group};
-ghost use Rattle.sfm_lines.specs.CutParts.{IsFirstWith};
+ghost use Rattle.sfm_laminar.specs.{Crossing.{IsCrossing}, Groups.{IsBelow, IsGroup}};
+ghost use Rattle.sfm_lines.specs.{RankLines.{with_group}, CutParts.{IsFirstWith}};
 
 use sfm_base::Memory;
 use sfm_laminar::{CappedGroup, Groups, Laminar, LaminarEnd};

@@ -1,13 +1,9 @@
 // The labels of the elements of a line: the ends of edges, or the slots of entries. Whether they have the form of names, and the
 // numbers that stand for them. Equal labels of a line have one number, and the numbers go up from 0 in the order in which labels
 // first appear, as an insertion into a set in that order counts them.
-ghost use Rattle.std.specs.Prelude.{◌≡◌, ◌<◌, ◌^◌, ◌++◌, ℕ, List, length, map, Any, IfOk, OnOk, MatchBool};
-ghost use Rattle.std.specs.List.{All};
+ghost use Rattle.std.specs.{Prelude.{◌≡◌, ◌<◌, ◌^◌, ◌++◌, ℕ, List, length, map, Any, IfOk, OnOk, MatchBool}, List.{All}};
 ghost use Rattle.sfm_spec.specs.Names.{IsName};
-ghost use Rattle.sfm_lines.specs.Lines.{texts_of};
-ghost use Rattle.sfm_lines.specs.LabelTerms.{distinct_of};
-ghost use Rattle.sfm_lines.specs.CutParts.{place_among};
-ghost use Rattle.sfm_lines.specs.ReadParts.{label_lists_of, joined};
+ghost use Rattle.sfm_lines.specs.{Lines.{texts_of}, LabelTerms.{distinct_of}, CutParts.{place_among}, ReadParts.{label_lists_of, joined}};
 
 use crate::names::are_names;
 use indexmap::IndexSet;

@@ -1,11 +1,7 @@
 // The line `rank`, a number, `laminar`, a colon, at least one element, and any number of groups: for each a semicolon, a cap,
 // and at least one name of an element of the line.
-ghost use Rattle.std.specs.Prelude.{◌≡◌, ℕ, List, MatchBool, MatchOption, IfOk};
-ghost use Rattle.std.specs.List.{AllZip};
-ghost use Rattle.sfm_lines.specs.Lines.{texts_of, text_lists_of};
-ghost use Rattle.sfm_lines.specs.Parts.{IsLaminarLine};
-ghost use Rattle.sfm_lines.specs.CutParts.{is_semicolon, cut_at_semicolons, IsGroupCut, AreGroupsCut, laminar_parts_of, with_groups};
-ghost use Rattle.sfm_lines.specs.ReadParts.{HasLineParts, parts_of};
+ghost use Rattle.std.specs.{Prelude.{◌≡◌, ℕ, List, MatchBool, MatchOption, IfOk}, List.{AllZip}};
+ghost use Rattle.sfm_lines.specs.{Lines.{texts_of, text_lists_of}, Parts.{IsLaminarLine}, CutParts.{is_semicolon, cut_at_semicolons, IsGroupCut, AreGroupsCut, laminar_parts_of, with_groups}, ReadParts.{HasLineParts, parts_of}};
 
 use crate::mark::has_mark;
 use crate::parts::Parts;

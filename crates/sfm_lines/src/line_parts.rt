@@ -2,12 +2,7 @@
 // colon and elements; or the line of a rank, of which each has its own shape. A line of a transversal rank is none of these: its term is
 // told by passes, in `sfm_passes`.
 ghost use Rattle.std.specs.Prelude.{◌≡◌, ◌↔◌, length, IsTrue, IfOk, MatchOption};
-ghost use Rattle.sfm_lines.specs.Lines.{texts_of};
-ghost use Rattle.sfm_lines.specs.Parts.{plain_parts, IsColonLine, IsRankLine, IsWeightLine};
-ghost use Rattle.sfm_lines.specs.CutParts.{AreCounts, IsSplitLine};
-ghost use Rattle.sfm_lines.specs.Words.{HasParts};
-ghost use Rattle.sfm_lines.specs.ReadParts.{IsEntryLine, HasLineParts, parts_of};
-ghost use Rattle.sfm_lines.specs.declared.word.TermWord.TheVariants.{RankWord};
+ghost use Rattle.sfm_lines.specs.{Lines.{texts_of}, Parts.{plain_parts, IsColonLine, IsRankLine, IsWeightLine}, CutParts.{AreCounts, IsSplitLine}, Words.{HasParts}, ReadParts.{IsEntryLine, HasLineParts, parts_of}, declared.word.TermWord.TheVariants.{RankWord}};
 
 use crate::graphic_line::graphic_parts;
 use crate::laminar_line::laminar_parts;

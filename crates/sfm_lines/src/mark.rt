@@ -1,9 +1,6 @@
 // The tokens `:` and `;`, which stand between the parts of a line, and nowhere else.
-ghost use Rattle.std.specs.Prelude.{◌≢◌, ◌↔◌, ℕ, ◌<◌, List, length, codes, IsTrue, IfSome, Any, MatchBool, MatchOption};
-ghost use Rattle.std.specs.List.{All};
-ghost use Rattle.sfm_lines.specs.Lines.{texts_of};
-ghost use Rattle.sfm_lines.specs.Parts.{IsMark, AreUnmarked, IsCutAtColon};
-ghost use Rattle.sfm_lines.specs.CutParts.{IsFirstColon};
+ghost use Rattle.std.specs.{Prelude.{◌≢◌, ◌↔◌, ℕ, ◌<◌, List, length, codes, IsTrue, IfSome, Any, MatchBool, MatchOption}, List.{All}};
+ghost use Rattle.sfm_lines.specs.{Lines.{texts_of}, Parts.{IsMark, AreUnmarked, IsCutAtColon}, CutParts.{IsFirstColon}};
 
 /// Whether the token is a colon or a semicolon alone.
 pub fn is_mark(token: &[u8]) -> bool

@@ -1,6 +1,5 @@
 // Telling whether texts have the form of names.
-ghost use Rattle.std.specs.Prelude.{Any, MatchBool};
-ghost use Rattle.std.specs.List.{All};
+ghost use Rattle.std.specs.{Prelude.{Any, MatchBool}, List.{All}};
 ghost use Rattle.sfm_spec.specs.Names.{IsName};
 ghost use Rattle.sfm_lines.specs.Lines.{texts_of};
 

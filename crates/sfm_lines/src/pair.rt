@@ -1,6 +1,5 @@
 // Cutting a token at the one byte of a kind that it has, as at the colon of a pair.
-ghost use Rattle.std.specs.Prelude.{◌≡◌, ◌==◌, ◌≤◌, ℕ, List, length, MatchOption};
-ghost use Rattle.std.specs.List.{position_or_len};
+ghost use Rattle.std.specs.{Prelude.{◌≡◌, ◌==◌, ◌≤◌, ℕ, List, length, MatchOption}, List.{position_or_len}};
 ghost use Rattle.sfm_lines.specs.Parts.{IsCutAt, IsPairToken};
 
 /// The place of the first byte b, or the length where there is none.

@@ -1,7 +1,6 @@
 // What the tokens of a term line are cut into before they are read.
 ghost use Rattle.std.specs.Prelude.{◌≡◌, [], IfOk};
-ghost use Rattle.sfm_lines.specs.Lines.{texts_of};
-ghost use Rattle.sfm_lines.specs.ReadParts.{parts_of};
+ghost use Rattle.sfm_lines.specs.{Lines.{texts_of}, ReadParts.{parts_of}};
 
 use crate::labels::Labels;
 use crate::word::RankKind;

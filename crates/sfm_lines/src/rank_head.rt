@@ -1,7 +1,6 @@
 // How a line `rank` begins whose third word is followed by a colon: a number, the word, and the colon.
 ghost use Rattle.std.specs.Prelude.{ℕ, List, MatchOption};
-ghost use Rattle.sfm_lines.specs.Lines.{texts_of};
-ghost use Rattle.sfm_lines.specs.Parts.{IsRankHead};
+ghost use Rattle.sfm_lines.specs.{Lines.{texts_of}, Parts.{IsRankHead}};
 
 use crate::mark::is_mark;
 use crate::word::is_word;

@@ -1,15 +1,7 @@
 // Reading a term line: its parts are cut out by its word, and each kind of part is then read once for all words.
-ghost use Rattle.std.specs.Prelude.{◌≡◌, ◌<◌, ◌↔◌, ◌∷◌, ◌^◌, ℕ, List, ℤ, pos, neg_ℤ, ◌≤ℤ◌, Any, IsTrue, IfOk, IfErr, MatchOption, Some, ◌≢◌, length};
-ghost use Rattle.std.specs.List.{All, AllZip};
-ghost use Rattle.sfm_kind.specs.Instance.{InstanceData};
-ghost use Rattle.sfm_kind.specs.Names.{IsNewName, AreElementNames};
-ghost use Rattle.sfm_lines.specs.Lines.{texts_of};
-ghost use Rattle.sfm_lines.specs.Words.{HasParts, lowest_of, word_text};
-ghost use Rattle.sfm_lines.specs.TermLines.{IsNumberFrom, IsElement, StandsTwice};
-ghost use Rattle.sfm_lines.specs.Reading.{IsLineRefusal};
-ghost use Rattle.sfm_lines.specs.ReadParts.{bytes_in, state_at, ArePartsGood, IsPartsReason, IsLineOf, IsTermRead, IsNumberOf, IsKnown, IsEntryLine, parts_of, joined};
-ghost use Rattle.sfm_lines.specs.declared.stage.Stage.TheVariants.{Terms};
-ghost use Rattle.sfm_lines.specs.declared.word.RankKind.TheVariants.{TransversalRank};
+ghost use Rattle.std.specs.{Prelude.{◌≡◌, ◌<◌, ◌↔◌, ◌∷◌, ◌^◌, ℕ, List, ℤ, pos, neg_ℤ, ◌≤ℤ◌, Any, IsTrue, IfOk, IfErr, MatchOption, Some, ◌≢◌, length}, List.{All, AllZip}};
+ghost use Rattle.sfm_kind.specs.{Instance.{InstanceData}, Names.{IsNewName, AreElementNames}};
+ghost use Rattle.sfm_lines.specs.{Lines.{texts_of}, Words.{HasParts, lowest_of, word_text}, TermLines.{IsNumberFrom, IsElement, StandsTwice}, Reading.{IsLineRefusal}, ReadParts.{bytes_in, state_at, ArePartsGood, IsPartsReason, IsLineOf, IsTermRead, IsNumberOf, IsKnown, IsEntryLine, parts_of, joined}, declared.stage.Stage.TheVariants.{Terms}, declared.word.RankKind.TheVariants.{TransversalRank}};
 
 use crate::groups::{are_members, has_member_twice};
 use crate::labels::are_labels;

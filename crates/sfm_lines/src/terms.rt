@@ -1,11 +1,9 @@
 // The term of a line, made of the numbers and the places that were read of it, by the word of the line. Where the numbers of a kind
 // break its law, there is none. The term of a line of a transversal rank is made in `sfm_passes`.
 ghost use Rattle.std.specs.Prelude.{ℕ, List, length, ℤ, IfOk, MatchOption};
-ghost use Rattle.sfm_spec.specs.Terms.{IsSubmodular};
-ghost use Rattle.sfm_spec.specs.Kinds.{table_value};
+ghost use Rattle.sfm_spec.specs.{Terms.{IsSubmodular}, Kinds.{table_value}};
 ghost use Rattle.sfm_concave.specs.ConcaveLaws.{RisesAt};
-ghost use Rattle.sfm_lines.specs.ReadParts.{AreGiven, AreReady, IsTermFor, IsTermMade, parts_of};
-ghost use Rattle.sfm_lines.specs.declared.word.TermWord.TheVariants.{WeightWord, CutWord, NeedWord, CoverWord, TableWord, ConcaveWord, RankWord};
+ghost use Rattle.sfm_lines.specs.{ReadParts.{AreGiven, AreReady, IsTermFor, IsTermMade, parts_of}, declared.word.TermWord.TheVariants.{WeightWord, CutWord, NeedWord, CoverWord, TableWord, ConcaveWord, RankWord}};
 
 use crate::graphic_line::graphic_term;
 use crate::groups::laminar_term;

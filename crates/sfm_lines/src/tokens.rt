@@ -1,8 +1,6 @@
 // Cutting a line into tokens, all at once or one after another, and telling by the first of them whether the line counts.
-ghost use Rattle.std.specs.Prelude.{◌≡◌, ◌≤◌, ◌<◌, ℕ, List, [], ◌∷◌, length, map, slice_get, Some, IsTrue, IfOk, IfSome, MatchBool, MatchOption};
-ghost use Rattle.std.specs.List.{position_or_len};
-ghost use Rattle.sfm_lines.specs.Lines.{tokens_of, are_skipped};
-ghost use Rattle.sfm_lines.specs.Tokens.{is_blank, IsFirstCut};
+ghost use Rattle.std.specs.{Prelude.{◌≡◌, ◌≤◌, ◌<◌, ℕ, List, [], ◌∷◌, length, map, slice_get, Some, IsTrue, IfOk, IfSome, MatchBool, MatchOption}, List.{position_or_len}};
+ghost use Rattle.sfm_lines.specs.{Lines.{tokens_of, are_skipped}, Tokens.{is_blank, IsFirstCut}};
 
 use std::alloc::{AllocError, Global};
 

@@ -1,10 +1,6 @@
 // The line `rank`, a number, `uniform`, a cap, a colon, and at least one element.
 ghost use Rattle.std.specs.Prelude.{◌≡◌, length, IfOk};
-ghost use Rattle.sfm_lines.specs.Lines.{texts_of};
-ghost use Rattle.sfm_lines.specs.Parts.{LineParts, IsUniformLine};
-ghost use Rattle.sfm_lines.specs.ReadParts.{AreGiven, HasLineParts, IsTermOf};
-ghost use Rattle.sfm_lines.specs.declared.word.TermWord.TheVariants.{RankWord};
-ghost use Rattle.sfm_lines.specs.declared.word.RankKind.TheVariants.{UniformRank};
+ghost use Rattle.sfm_lines.specs.{Lines.{texts_of}, Parts.{LineParts, IsUniformLine}, ReadParts.{AreGiven, HasLineParts, IsTermOf}, declared.word.TermWord.TheVariants.{RankWord}, declared.word.RankKind.TheVariants.{UniformRank}};
 
 use crate::mark::cut_at_colon;
 use crate::parts::Parts;

@@ -1,7 +1,6 @@
 // The words that a term line begins with.
 ghost use Rattle.std.specs.Prelude.{◌≡◌, ◌≢◌, MatchBool, MatchOption};
-ghost use Rattle.sfm_lines.specs.Words.{word_text};
-ghost use Rattle.sfm_lines.specs.declared.word.TermWord.{TermWord};
+ghost use Rattle.sfm_lines.specs.{Words.{word_text}, declared.word.TermWord.{TermWord}};
 
 /// What a term line may begin with.
 #[derive(Clone, Copy, PartialEq, Eq)]

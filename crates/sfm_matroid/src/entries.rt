@@ -1,6 +1,5 @@
 // The slots of elements, entry by entry in the order in which they come, with a number above all slots.
-ghost use Rattle.std.specs.Prelude.{◌≡◌, ℕ, ◌<◌, ◌≤◌, ◌^◌, List, [], ◌∷◌, ◌++◌, length, slice_index_or, is_ok, if◌then◌else◌};
-ghost use Rattle.std.specs.List.{All};
+ghost use Rattle.std.specs.{Prelude.{◌≡◌, ℕ, ◌<◌, ◌≤◌, ◌^◌, List, [], ◌∷◌, ◌++◌, length, slice_index_or, is_ok, if◌then◌else◌}, List.{All}};
 
 use sfm_base::Memory;
 use std::alloc::Global;
@@ -37,8 +36,7 @@ pub struct Entries {
 }
 
 impl Model for Entries {
-    ghost use Rattle.std.specs.Prelude.{List, ℕ, ◌<◌, ◌≤◌, ◌^◌};
-    ghost use Rattle.std.specs.List.{All};
+    ghost use Rattle.std.specs.{Prelude.{List, ℕ, ◌<◌, ◌≤◌, ◌^◌}, List.{All}};
 
     ghost Value = { List (List ℕ) };
 

@@ -2,9 +2,7 @@
 // first stand, tail before head. So what is kept for each vertex is as long as there are vertices. Ends with one number are one
 // vertex, as each is that which stands in the place that its number tells among those listed.
 ghost use Rattle.std.specs.Prelude.{◌≡◌, ◌≤◌, length, IfOk, OnOk};
-ghost use Rattle.sfm_matroid.specs.Ends.{edges_of};
-ghost use Rattle.sfm_matroid.specs.Graphs.{EndsBelow};
-ghost use Rattle.sfm_matroid.specs.Numbered.{place_of, with_vertex, vertices_of, vertex_count, numbered};
+ghost use Rattle.sfm_matroid.specs.{Ends.{edges_of}, Graphs.{EndsBelow}, Numbered.{place_of, with_vertex, vertices_of, vertex_count, numbered}};
 
 use crate::order::by_tails;
 use sfm_base::Memory;

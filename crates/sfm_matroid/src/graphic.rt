@@ -5,14 +5,8 @@
 // has, what u lacks of q·w, and what u lacks of the most that it gets in that test without v, and to whom u has room is told by
 // one search in it.
 ghost use Rattle.std.specs.Prelude.{◌≡◌, ℕ, ◌<◌, ◌≤◌, ◌^◌, length, ℤ, pos, ◌≤ℤ◌, IfOk, IsOk, OnOk, Some, None};
-ghost use Rattle.sfm_spec.specs.Bounds.{IsAtMost, IsFactor, IsGiven, AreElements};
-ghost use Rattle.sfm_spec.specs.Terms.{IsGreedy};
-ghost use Rattle.sfm_spec.specs.Kinds.{IsForest, IsRank, IsRankFunction};
-ghost use Rattle.sfm_matroid.specs.Ends.{edges_of};
-ghost use Rattle.sfm_matroid.specs.Numbered.{IsEndOf, numbered, vertex_count};
-ghost use Rattle.sfm_matroid.specs.Notes.{graphic_fits, AreOverEnds, IsGraphicBase};
-ghost use Rattle.sfm_matroid.specs.Graphs.{graphic_rank, graphic_value, graphic_size, graphic_start, graphic_basis};
-ghost use Rattle.sfm_matroid.specs.GraphicLaws.{graphic-family, graphic-submodular, graphic-bounded, graphic-starts, graphic-starts_small};
+ghost use Rattle.sfm_spec.specs.{Bounds.{IsAtMost, IsFactor, IsGiven, AreElements}, Terms.{IsGreedy}, Kinds.{IsForest, IsRank, IsRankFunction}};
+ghost use Rattle.sfm_matroid.specs.{Ends.{edges_of}, Numbered.{IsEndOf, numbered, vertex_count}, Notes.{graphic_fits, AreOverEnds, IsGraphicBase}, Graphs.{graphic_rank, graphic_value, graphic_size, graphic_start, graphic_basis}, GraphicLaws.{graphic-family, graphic-submodular, graphic-bounded, graphic-starts, graphic-starts_small}};
 
 use crate::ends::Ends;
 use crate::givers::row;

@@ -4,8 +4,7 @@
 // vertices is needed, and k edges take k·k steps at most.
 ghost use Rattle.std.specs.Prelude.{◌≡◌, ◌<◌, true, length, map, slice_set, nat_eq, if◌then◌else◌, IfOk};
 ghost use Rattle.sfm_spec.specs.Sets.{empty_set};
-ghost use Rattle.sfm_matroid.specs.Graphs.{graphic_basis, renamed, taken};
-ghost use Rattle.sfm_matroid.specs.Ends.{edges_of, both_renamed, labels_at};
+ghost use Rattle.sfm_matroid.specs.{Graphs.{graphic_basis, renamed, taken}, Ends.{edges_of, both_renamed, labels_at}};
 
 use sfm_base::{Memory, Set};
 use std::alloc::Global;

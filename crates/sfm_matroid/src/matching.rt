@@ -1,13 +1,10 @@
 // The test that tells what slots of entries may hold: each element is a demand that is split over the slots of its entry, of
 // which each holds the same number at most. Where slots hold 1 each, places with a demand of 1 have slots of their own; so places
 // are taken one after another by one split, in which each in turn is raised to 1 if the others leave it a slot.
-ghost use Rattle.std.specs.Prelude.{◌≡◌, ◌+◌, ◌<◌, ◌≤◌, ◌^◌, [], length, replicate, pos, IfOk, OnOk};
-ghost use Rattle.std.specs.List.{All};
+ghost use Rattle.std.specs.{Prelude.{◌≡◌, ◌+◌, ◌<◌, ◌≤◌, ◌^◌, [], length, replicate, pos, IfOk, OnOk}, List.{All}};
 ghost use Rattle.sfm_assign.specs.Splits.{IsAmount};
 ghost use Rattle.sfm_spec.specs.Sets.{empty_set};
-ghost use Rattle.sfm_matroid.specs.Matched.{IsMatchedTo};
-ghost use Rattle.sfm_matroid.specs.Notes.{AreSlotAmounts, slot_demands};
-ghost use Rattle.sfm_matroid.specs.Slots.{suited, transversal_basis};
+ghost use Rattle.sfm_matroid.specs.{Matched.{IsMatchedTo}, Notes.{AreSlotAmounts, slot_demands}, Slots.{suited, transversal_basis}};
 
 use crate::entries::Entries;
 use crate::splits::split_of;

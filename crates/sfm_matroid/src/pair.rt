@@ -2,10 +2,8 @@
 // exchange that may come: that takes it in place of the one that is kept, which is the spare one then, and the next room uses its
 // memory.
 ghost use Rattle.std.specs.Prelude.{◌≡◌, IfOk, OnOk, Some};
-ghost use Rattle.sfm_assign.specs.Lenders.{IsMostUpto};
-ghost use Rattle.sfm_assign.specs.declared.kept.Kept.{Kept};
-ghost use Rattle.sfm_matroid.specs.Amounts.{IsRaise, IsBeside, CanHold, rest_of};
-ghost use Rattle.sfm_matroid.specs.Notes.{AreBeside};
+ghost use Rattle.sfm_assign.specs.{Lenders.{IsMostUpto}, declared.kept.Kept.{Kept}};
+ghost use Rattle.sfm_matroid.specs.{Amounts.{IsRaise, IsBeside, CanHold, rest_of}, Notes.{AreBeside}};
 
 use crate::room::{Pull, raise};
 use sfm_assign::Kept;

@@ -1,10 +1,8 @@
 // What both kinds of rank do alike: w for each member of a greatest independent part, the base with q·w at the members of that of
 // all elements, and what is asked of the entries of a base before they are tested by the kind.
-ghost use Rattle.std.specs.Prelude.{◌≡◌, ◌↔◌, ◌<◌, ◌≤◌, ◌^◌, IsTrue, length, slice_index_or, pos, ◌*ℤ◌, ◌≤ℤ◌};
-ghost use Rattle.std.specs.List.{All};
+ghost use Rattle.std.specs.{Prelude.{◌≡◌, ◌↔◌, ◌<◌, ◌≤◌, ◌^◌, IsTrue, length, slice_index_or, pos, ◌*ℤ◌, ◌≤ℤ◌}, List.{All}};
 ghost use Rattle.sfm_assign.specs.Splits.{IsAmount};
-ghost use Rattle.sfm_spec.specs.Bounds.{IsAtMost, IsFactor, IsGiven, total_of};
-ghost use Rattle.sfm_spec.specs.Sets.{size};
+ghost use Rattle.sfm_spec.specs.{Bounds.{IsAtMost, IsFactor, IsGiven, total_of}, Sets.{size}};
 ghost use Rattle.sfm_rank.specs.Terms.{at_places};
 ghost use Rattle.sfm_matroid.specs.Amounts.{AreFactors, CanAdd, CanWeigh};
 

@@ -1,7 +1,6 @@
 // What the room of a pair at a base is found with: a split of what stays without the one that gives, in which the one that gets is
 // raised as far as all others leave room, up to what the other has and to what it lacks itself of the number that none exceeds.
-ghost use Rattle.std.specs.Prelude.{◌≡◌, ◌≢◌, ◌<◌, length, slice_set, slice_index_or, pos, ◌-ℤ◌, IfOk};
-ghost use Rattle.std.specs.Int.{int_min};
+ghost use Rattle.std.specs.{Prelude.{◌≡◌, ◌≢◌, ◌<◌, length, slice_set, slice_index_or, pos, ◌-ℤ◌, IfOk}, Int.{int_min}};
 ghost use Rattle.sfm_spec.specs.Terms.{exchanged};
 ghost use Rattle.sfm_assign.specs.Lenders.{with_more, IsMostUpto};
 ghost use Rattle.sfm_matroid.specs.Amounts.{AreCapped, CanMove, IsRaise, IsBeside, CanHold, rest_of};

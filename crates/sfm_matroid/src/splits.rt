@@ -1,7 +1,6 @@
 // The split that is kept beside a base of a transversal term, for all searches at it. A base passes the test, so there is a split.
 // A room leaves a spare one near the exchange that may come, and an exchange brings that one up, or else the one that is kept.
-ghost use Rattle.std.specs.Prelude.{◌≡◌, ◌↔◌, length, replicate, IfOk, IsTrue, OnOk};
-ghost use Rattle.std.specs.List.{All};
+ghost use Rattle.std.specs.{Prelude.{◌≡◌, ◌↔◌, length, replicate, IfOk, IsTrue, OnOk}, List.{All}};
 ghost use Rattle.sfm_assign.specs.Splits.{IsAmount, IsCapacity, CanBeMet};
 ghost use Rattle.sfm_matroid.specs.Notes.{AreSlotAmounts, IsSlotSplit, IsSplitOrNone};
 

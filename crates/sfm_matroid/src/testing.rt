@@ -2,15 +2,9 @@
 // hold the same number at most, and that vertex nothing. The tests of the tails are enough: a part of the edges has the tail of
 // each of its edges, so the test of that tail asks no less of it than any other. One split is made from nothing, and brought
 // from each tail to the next.
-ghost use Rattle.std.specs.Prelude.{◌≡◌, ◌↔◌, ◌<◌, ◌≤◌, [], length, IfOk, IsTrue, OnOk};
-ghost use Rattle.std.specs.List.{All};
+ghost use Rattle.std.specs.{Prelude.{◌≡◌, ◌↔◌, ◌<◌, ◌≤◌, [], length, IfOk, IsTrue, OnOk}, List.{All}};
 ghost use Rattle.sfm_assign.specs.Splits.{IsAmount, CanBeMet};
-ghost use Rattle.sfm_matroid.specs.Ends.{edges_of};
-ghost use Rattle.sfm_matroid.specs.Amounts.{AreEndAmounts};
-ghost use Rattle.sfm_matroid.specs.Cuts.{IsWithinEnds};
-ghost use Rattle.sfm_matroid.specs.Graphs.{EndsBelow};
-ghost use Rattle.sfm_matroid.specs.Notes.{end_demands, IsOverEnds};
-ghost use Rattle.sfm_matroid.specs.Numbered.{IsTail, PassesTails, end_lists, vertex_capacities};
+ghost use Rattle.sfm_matroid.specs.{Ends.{edges_of}, Amounts.{AreEndAmounts}, Cuts.{IsWithinEnds}, Graphs.{EndsBelow}, Notes.{end_demands, IsOverEnds}, Numbered.{IsTail, PassesTails, end_lists, vertex_capacities}};
 
 use crate::graph::Graph;
 use crate::splits::{can_bring, try_split};

@@ -6,12 +6,8 @@
 // The split of a base is kept beside it. A room is then told in a copy of it, in which v gives up what it has and u is raised;
 // an exchange takes that copy, as it lacks only what v keeps.
 ghost use Rattle.std.specs.Prelude.{◌≡◌, ℕ, ◌<◌, ◌≤◌, ◌^◌, length, ℤ, pos, ◌≤ℤ◌, IfOk, IsOk, OnOk, Some};
-ghost use Rattle.sfm_spec.specs.Bounds.{IsAtMost, IsFactor, IsGiven, AreElements};
-ghost use Rattle.sfm_spec.specs.Terms.{IsGreedy};
-ghost use Rattle.sfm_spec.specs.Kinds.{IsMatchable, IsRank, IsRankFunction};
-ghost use Rattle.sfm_matroid.specs.Slots.{transversal_rank, transversal_basis, transversal_value, transversal_size, transversal_start};
-ghost use Rattle.sfm_matroid.specs.Notes.{transversal_fits};
-ghost use Rattle.sfm_matroid.specs.TransversalLaws.{transversal-family, transversal-submodular, transversal-bounded, transversal-starts, transversal-starts_small};
+ghost use Rattle.sfm_spec.specs.{Bounds.{IsAtMost, IsFactor, IsGiven, AreElements}, Terms.{IsGreedy}, Kinds.{IsMatchable, IsRank, IsRankFunction}};
+ghost use Rattle.sfm_matroid.specs.{Slots.{transversal_rank, transversal_basis, transversal_value, transversal_size, transversal_start}, Notes.{transversal_fits}, TransversalLaws.{transversal-family, transversal-submodular, transversal-bounded, transversal-starts, transversal-starts_small}};
 
 use crate::entries::Entries;
 use crate::givers::row;

@@ -1,19 +1,11 @@
 // The line `rank`, a number, `transversal`, a colon, and at least one entry `name=slot,slot,..`, judged by passes over it, and its
 // term. An entry may have millions of slots, so no list of them is made: of each entry as many of its first slots are kept as the
 // line has elements. These suffice, since a member of a part that has none of them finds one that no other member has.
-ghost use Rattle.std.specs.Prelude.{◌≡◌, ◌<◌, ◌≤ℤ◌, [], ◌∷◌, ◌++◌, ◌^◌, ℕ, List, codes, length, map, pos, take, IfOk, OnOk, MatchOption, MatchResult};
-ghost use Rattle.std.specs.List.{All, AllZip};
+ghost use Rattle.std.specs.{Prelude.{◌≡◌, ◌<◌, ◌≤ℤ◌, [], ◌∷◌, ◌++◌, ◌^◌, ℕ, List, codes, length, map, pos, take, IfOk, OnOk, MatchOption, MatchResult}, List.{All, AllZip}};
 ghost use Rattle.sfm_spec.specs.Bounds.{IsGiven, AreElements};
 ghost use Rattle.sfm_kind.specs.Names.{AreElementNames};
-ghost use Rattle.sfm_lines.specs.Lines.{pieces_of, texts_of, tokens_of};
-ghost use Rattle.sfm_lines.specs.Parts.{IsLabelToken};
-ghost use Rattle.sfm_lines.specs.CutParts.{place_among};
-ghost use Rattle.sfm_lines.specs.LabelTerms.{numbers_of};
-ghost use Rattle.sfm_lines.specs.ReadParts.{IsTermRead, label_lists_of, joined, parts_of};
-ghost use Rattle.sfm_passes.specs.Passes.{AreFewEntries, AreCutEntries, IsReasonOf};
-ghost use Rattle.sfm_passes.specs.GroupPasses.{IsRefusedBy};
-ghost use Rattle.sfm_lines.specs.declared.word.TermWord.TheVariants.{RankWord};
-ghost use Rattle.sfm_lines.specs.declared.word.RankKind.TheVariants.{TransversalRank};
+ghost use Rattle.sfm_lines.specs.{Lines.{pieces_of, texts_of, tokens_of}, Parts.{IsLabelToken}, CutParts.{place_among}, LabelTerms.{numbers_of}, ReadParts.{IsTermRead, label_lists_of, joined, parts_of}, declared.word.TermWord.TheVariants.{RankWord}, declared.word.RankKind.TheVariants.{TransversalRank}};
+ghost use Rattle.sfm_passes.specs.{Passes.{AreFewEntries, AreCutEntries, IsReasonOf}, GroupPasses.{IsRefusedBy}};
 
 use crate::long_rank::{MOST_ELEMENTS, entries_fault};
 use crate::passes::token_count;

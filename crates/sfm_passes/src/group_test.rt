@@ -1,13 +1,7 @@
 // Passes over the pieces of the groups of a laminar rank: what each piece is tried for.
-ghost use Rattle.std.specs.Prelude.{◌≡◌, ℕ, List, [], Any, Contains, IfOk, MatchBool, MatchOption};
-ghost use Rattle.std.specs.List.{All};
-ghost use Rattle.sfm_lines.specs.Lines.{texts_of, tokens_of};
-ghost use Rattle.sfm_lines.specs.LabelTerms.{distinct_of};
-ghost use Rattle.sfm_lines.specs.TermLines.{StandsTwice};
-ghost use Rattle.sfm_lines.specs.ReadParts.{IsNumberOf};
-ghost use Rattle.sfm_passes.specs.GroupPasses.{GroupHolds, GroupFails, HasMembers, LacksMember, OfGroup, SomeGroup, pieces_left};
-ghost use Rattle.sfm_passes.specs.declared.group_test.GroupTest.TheVariants.{Whole, Cap, Once};
-ghost use Rattle.sfm_lines.specs.declared.word.TermWord.TheVariants.{RankWord};
+ghost use Rattle.std.specs.{Prelude.{◌≡◌, ℕ, List, [], Any, Contains, IfOk, MatchBool, MatchOption}, List.{All}};
+ghost use Rattle.sfm_lines.specs.{Lines.{texts_of, tokens_of}, LabelTerms.{distinct_of}, TermLines.{StandsTwice}, ReadParts.{IsNumberOf}, declared.word.TermWord.TheVariants.{RankWord}};
+ghost use Rattle.sfm_passes.specs.{GroupPasses.{GroupHolds, GroupFails, HasMembers, LacksMember, OfGroup, SomeGroup, pieces_left}, declared.group_test.GroupTest.TheVariants.{Whole, Cap, Once}};
 
 use crate::between::Separator;
 use crate::passes::{has_mark_in, has_repeat_in};

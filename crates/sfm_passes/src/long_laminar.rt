@@ -1,23 +1,12 @@
 // The line of a laminar rank judged by passes over it, and its term. Such a line may be good however many groups it has, so its
 // groups are taken one after another, and of those with the same members one is kept. Where more are kept than there are sets of
 // 256 elements of which no two cross, it is told at once whether some cross, so that little is kept of any line.
-ghost use Rattle.std.specs.Prelude.{◌≡◌, [], ◌∷◌, ◌≤ℤ◌, ℕ, List, codes, length, pos, IsTrue, IfOk, MatchBool, MatchOption, MatchResult};
-ghost use Rattle.std.specs.List.{All, AllZip};
-ghost use Rattle.sfm_spec.specs.Bounds.{IsGiven, AreElements};
-ghost use Rattle.sfm_spec.specs.Kinds.{Group};
-ghost use Rattle.sfm_kind.specs.Instance.{InstanceData};
-ghost use Rattle.sfm_kind.specs.Names.{AreElementNames};
-ghost use Rattle.sfm_lines.specs.declared.reason.Reason.TheVariants.{Shape};
-ghost use Rattle.sfm_laminar.specs.Crossing.{IsCrossing};
-ghost use Rattle.sfm_laminar.specs.Groups.{IsBelow, IsGroup};
-ghost use Rattle.sfm_lines.specs.Lines.{texts_of, tokens_of};
-ghost use Rattle.sfm_lines.specs.CutParts.{cut_at_semicolons};
-ghost use Rattle.sfm_lines.specs.RankLines.{least_groups};
-ghost use Rattle.sfm_lines.specs.ReadParts.{IsTermRead};
-ghost use Rattle.sfm_passes.specs.Passes.{IsReasonOf};
-ghost use Rattle.sfm_passes.specs.GroupPasses.{AreShapedGroups, AreGoodGroups, GroupHolds, IsGroupOf, IsRefusedBy, laminar_tokens, pieces_left};
-ghost use Rattle.sfm_passes.specs.declared.group_test.GroupTest.TheVariants.{Whole, Cap};
-ghost use Rattle.sfm_lines.specs.declared.word.TermWord.TheVariants.{RankWord};
+ghost use Rattle.std.specs.{Prelude.{◌≡◌, [], ◌∷◌, ◌≤ℤ◌, ℕ, List, codes, length, pos, IsTrue, IfOk, MatchBool, MatchOption, MatchResult}, List.{All, AllZip}};
+ghost use Rattle.sfm_spec.specs.{Bounds.{IsGiven, AreElements}, Kinds.{Group}};
+ghost use Rattle.sfm_kind.specs.{Instance.{InstanceData}, Names.{AreElementNames}};
+ghost use Rattle.sfm_lines.specs.{declared.reason.Reason.TheVariants.{Shape}, Lines.{texts_of, tokens_of}, CutParts.{cut_at_semicolons}, RankLines.{least_groups}, ReadParts.{IsTermRead}, declared.word.TermWord.TheVariants.{RankWord}};
+ghost use Rattle.sfm_laminar.specs.{Crossing.{IsCrossing}, Groups.{IsBelow, IsGroup}};
+ghost use Rattle.sfm_passes.specs.{Passes.{IsReasonOf}, GroupPasses.{AreShapedGroups, AreGoodGroups, GroupHolds, IsGroupOf, IsRefusedBy, laminar_tokens, pieces_left}, declared.group_test.GroupTest.TheVariants.{Whole, Cap}};
 
 use crate::between::Separator;
 use crate::group_test::{GroupTest, all_groups, are_members_in};

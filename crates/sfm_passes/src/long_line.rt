@@ -5,11 +5,8 @@
 // transversal rank, as one entry may have millions of slots.
 ghost use Rattle.std.specs.Prelude.{◌<◌, ◌∷◌, codes, length, IsTrue, IfSome};
 ghost use Rattle.sfm_kind.specs.Names.{AreElementNames};
-ghost use Rattle.sfm_lines.specs.Lines.{tokens_of};
-ghost use Rattle.sfm_passes.specs.Passes.{IsReasonOf};
-ghost use Rattle.sfm_lines.specs.ReadParts.{IsEntryLine};
-ghost use Rattle.sfm_passes.specs.GroupPasses.{IsToldBy};
-ghost use Rattle.sfm_lines.specs.declared.word.TermWord.TheVariants.{WeightWord, CoverWord, ConcaveWord, RankWord};
+ghost use Rattle.sfm_lines.specs.{Lines.{tokens_of}, ReadParts.{IsEntryLine}, declared.word.TermWord.TheVariants.{WeightWord, CoverWord, ConcaveWord, RankWord}};
+ghost use Rattle.sfm_passes.specs.{Passes.{IsReasonOf}, GroupPasses.{IsToldBy}};
 
 use crate::entry_line::entry_line_term;
 use crate::long_laminar::laminar_line_term;

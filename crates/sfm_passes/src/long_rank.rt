@@ -4,11 +4,8 @@
 // `entry_line.rt`.
 ghost use Rattle.std.specs.Prelude.{◌≡◌, ◌≢◌, ◌<◌, ◌∷◌, [], ℕ, List, length, codes, IfSome, MatchBool, MatchOption};
 ghost use Rattle.sfm_kind.specs.Names.{AreElementNames};
-ghost use Rattle.sfm_lines.specs.Lines.{tokens_of};
-ghost use Rattle.sfm_lines.specs.Parts.{LineParts, IsCutAtColon, IsUniformLine};
+ghost use Rattle.sfm_lines.specs.{Lines.{tokens_of}, Parts.{LineParts, IsCutAtColon, IsUniformLine}, declared.word.TermWord.{TermWord}, declared.word.TermWord.TheVariants.{RankWord}};
 ghost use Rattle.sfm_passes.specs.Passes.{IsReasonOf, HasTooMany, IsRankNamed, HasLabels, label_word, AreGoodEntries};
-ghost use Rattle.sfm_lines.specs.declared.word.TermWord.{TermWord};
-ghost use Rattle.sfm_lines.specs.declared.word.TermWord.TheVariants.{RankWord};
 
 use crate::passes::{all_hold, has_mark_in, is_colon};
 use crate::token_test::{TokenTest, is_number_of};

@@ -1,11 +1,8 @@
 // Passes over the tokens of a line. A line that is refused may have millions of tokens, so they are looked at one after
 // another, and no list of them is made.
-ghost use Rattle.std.specs.Prelude.{◌≡◌, ◌↔◌, ◌≤◌, ◌++◌, ℕ, List, length, take, codes, bytes_eq, Any, Contains, IsTrue, IfOk, MatchBool, MatchOption};
-ghost use Rattle.std.specs.List.{All};
+ghost use Rattle.std.specs.{Prelude.{◌≡◌, ◌↔◌, ◌≤◌, ◌++◌, ℕ, List, length, take, codes, bytes_eq, Any, Contains, IsTrue, IfOk, MatchBool, MatchOption}, List.{All}};
 ghost use Rattle.sfm_spec.specs.Names.{IsName};
-ghost use Rattle.sfm_lines.specs.Lines.{texts_of, tokens_of};
-ghost use Rattle.sfm_lines.specs.Parts.{IsMark, AreUnmarked, IsCutAtColon};
-ghost use Rattle.sfm_lines.specs.TermLines.{StandsTwice};
+ghost use Rattle.sfm_lines.specs.{Lines.{texts_of, tokens_of}, Parts.{IsMark, AreUnmarked, IsCutAtColon}, TermLines.{StandsTwice}};
 ghost use Rattle.sfm_passes.specs.Passes.{Holds, Fails, IsKept, texts_between};
 
 use crate::between::{Separator, first_between};

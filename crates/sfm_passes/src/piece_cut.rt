@@ -1,9 +1,7 @@
 // The pieces of a line between semicolons alone, one after another, each as a part of the line, so that no list of them or of
 // their tokens is made.
-ghost use Rattle.std.specs.Prelude.{◌≡◌, ◌<◌, ◌∷◌, false, length, IfSome, MatchOption};
-ghost use Rattle.std.specs.List.{All};
-ghost use Rattle.sfm_lines.specs.Lines.{tokens_of};
-ghost use Rattle.sfm_lines.specs.CutParts.{is_semicolon, cut_at_semicolons};
+ghost use Rattle.std.specs.{Prelude.{◌≡◌, ◌<◌, ◌∷◌, false, length, IfSome, MatchOption}, List.{All}};
+ghost use Rattle.sfm_lines.specs.{Lines.{tokens_of}, CutParts.{is_semicolon, cut_at_semicolons}};
 ghost use Rattle.sfm_passes.specs.GroupPasses.{IsPieceCut, pieces_left};
 
 use sfm_lines::laminar_line::is_semicolon_token;

@@ -1,6 +1,5 @@
 // Whether a slot stands twice in an entry of a line, told by a pass over its slots, of which there may be millions.
-ghost use Rattle.std.specs.Prelude.{Any, IfOk, MatchBool};
-ghost use Rattle.std.specs.List.{All};
+ghost use Rattle.std.specs.{Prelude.{Any, IfOk, MatchBool}, List.{All}};
 ghost use Rattle.sfm_lines.specs.Lines.{tokens_of};
 ghost use Rattle.sfm_passes.specs.Passes.{RepeatsSlot};
 

@@ -1,14 +1,9 @@
 // What a token of a long term line is tried for: its form, and whether a part of it is a number, or names an element, or has the
 // form of a name.
-ghost use Rattle.std.specs.Prelude.{ℕ, List, [], ◌∷◌, Any, MatchBool, MatchOption};
-ghost use Rattle.std.specs.List.{All};
+ghost use Rattle.std.specs.{Prelude.{ℕ, List, [], ◌∷◌, Any, MatchBool, MatchOption}, List.{All}};
 ghost use Rattle.sfm_spec.specs.Names.{IsName};
-ghost use Rattle.sfm_lines.specs.Lines.{pieces_of};
-ghost use Rattle.sfm_lines.specs.Parts.{IsPairToken, IsCutAt, IsLabelToken, AreLabelsOf};
+ghost use Rattle.sfm_lines.specs.{Lines.{pieces_of}, Parts.{IsPairToken, IsCutAt, IsLabelToken, AreLabelsOf}, ReadParts.{IsNumberOf, IsKnown}, declared.word.TermWord.TheVariants.{WeightWord}, declared.word.RankKind.TheVariants.{GraphicRank}};
 ghost use Rattle.sfm_passes.specs.Passes.{Holds, Fails};
-ghost use Rattle.sfm_lines.specs.ReadParts.{IsNumberOf, IsKnown};
-ghost use Rattle.sfm_lines.specs.declared.word.TermWord.TheVariants.{WeightWord};
-ghost use Rattle.sfm_lines.specs.declared.word.RankKind.TheVariants.{GraphicRank};
 
 use sfm_kind::{Instance, is_name};
 use sfm_lines::pair::{cut_once, cut_pair};

@@ -1,7 +1,6 @@
 // Facts that hold of every matroid. The functions do nothing: each states a fact, and callers' proofs cite it.
 ghost use Rattle.std.specs.Prelude.{ℕ, Bool, List, pos, ◌≤ℤ◌};
-ghost use Rattle.sfm_rank.specs.Laws.{GrowthLaws, RankLaws};
-ghost use Rattle.sfm_rank.specs.Matroids.{AreRanks, IsMatroid};
+ghost use Rattle.sfm_rank.specs.{Laws.{GrowthLaws, RankLaws}, Matroids.{AreRanks, IsMatroid}};
 
 /// What a law may speak of: parts of some places, of which some are independent, and a number for each part.
 pub trait Independence {

@@ -17,8 +17,7 @@ pub struct Ahead<'a> {
 
 impl<'a> Model for Ahead<'a> {
     ghost use Rattle.std.specs.Prelude.{◌≡◌, ◌<◌, length};
-    ghost use Rattle.sfm_reach.specs.declared.bits.Bits.{Bits};
-    ghost use Rattle.sfm_reach.specs.Bits.{left_of};
+    ghost use Rattle.sfm_reach.specs.{declared.bits.Bits.{Bits}, Bits.{left_of}};
 
     ghost Value = { Bits };
 

@@ -1,8 +1,6 @@
 // The rows of all terms, as they are asked where a graph is made at some bases.
 ghost use Rattle.std.specs.Prelude.{◌≡◌, map, length, OnOk};
-ghost use Rattle.sfm_reach.specs.Asked.{AreAllAsked};
-ghost use Rattle.sfm_reach.specs.Based.{AreBased};
-ghost use Rattle.sfm_reach.specs.Reach.{AreNotes, AreSized};
+ghost use Rattle.sfm_reach.specs.{Asked.{AreAllAsked}, Based.{AreBased}, Reach.{AreNotes, AreSized}};
 
 use crate::reach::{Based, BitRows, ask};
 use sfm_base::{Memory, Rows};

@@ -3,8 +3,7 @@
 // Where the places of the term are the first of the ground, in their order, a part is its own image, and is taken over by words.
 ghost use Rattle.std.specs.Prelude.{◌≡◌, ◌↔◌, length, IfOk, IsTrue};
 ghost use Rattle.sfm_spec.specs.Sets.{IsPlaced, IsWithin};
-ghost use Rattle.sfm_reach.specs.Bits.{HasPlaces};
-ghost use Rattle.sfm_reach.specs.Image.{AreInOrder, IsBeside, IsImage};
+ghost use Rattle.sfm_reach.specs.{Bits.{HasPlaces}, Image.{AreInOrder, IsBeside, IsImage}};
 
 use crate::bits::{Bits, no_bits, of_words};
 use sfm_base::{Memory, Set};

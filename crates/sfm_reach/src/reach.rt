@@ -1,13 +1,8 @@
 // What each place of each term reaches at its base, kept as sets of ground places: one row for each place of the term.
 // Only the terms whose base has changed are asked again.
 ghost use Rattle.std.specs.Prelude.{◌≡◌, ℕ, ◌<◌, List, length, map, IfOk, OnOk, slice_set};
-ghost use Rattle.sfm_spec.specs.Sets.{IsPlaced};
-ghost use Rattle.sfm_spec.specs.Rows.{Depends};
-ghost use Rattle.sfm_spec.specs.Terms.{times};
-ghost use Rattle.sfm_reach.specs.Based.{AreBased, IsBased};
-ghost use Rattle.sfm_reach.specs.Bits.{HasPlaces, bit_in, set_at};
-ghost use Rattle.sfm_reach.specs.Image.{IsImage};
-ghost use Rattle.sfm_reach.specs.Reach.{IsReachTable, IsRow, AreRowsOf, AreNotes, AreSized};
+ghost use Rattle.sfm_spec.specs.{Sets.{IsPlaced}, Rows.{Depends}, Terms.{times}};
+ghost use Rattle.sfm_reach.specs.{Based.{AreBased, IsBased}, Bits.{HasPlaces, bit_in, set_at}, Image.{IsImage}, Reach.{IsReachTable, IsRow, AreRowsOf, AreNotes, AreSized}};
 
 use crate::bits::{Bits, no_bits, of_words};
 use crate::image::{Image, are_in_order};
@@ -44,8 +39,7 @@ impl Drop for BitRows {
 
 impl Model for BitRows {
     ghost use Rattle.std.specs.Prelude.{◌≡◌, List, length, Some};
-    ghost use Rattle.sfm_reach.specs.declared.bits.Bits.{Bits};
-    ghost use Rattle.sfm_reach.specs.declared.image.Image.{Image};
+    ghost use Rattle.sfm_reach.specs.{declared.bits.Bits.{Bits}, declared.image.Image.{Image}};
 
     ghost Value = { List Bits };
 

@@ -2,8 +2,7 @@
 // are found too. Each place is looked at once.
 ghost use Rattle.std.specs.Prelude.{◌≡◌, ◌↔◌, ◌<◌, ◌≤◌, ℕ, List, Bool, length, IfOk};
 ghost use Rattle.sfm_spec.specs.Sets.{Has};
-ghost use Rattle.sfm_reach.specs.Bits.{bit_in, set_at};
-ghost use Rattle.sfm_reach.specs.Reached.{AreReached, IsSetOf, IsTakenIn};
+ghost use Rattle.sfm_reach.specs.{Bits.{bit_in, set_at}, Reached.{AreReached, IsSetOf, IsTakenIn}};
 
 use crate::bits::Bits;
 use sfm_base::{Memory, Set};

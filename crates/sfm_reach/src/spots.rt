@@ -1,8 +1,6 @@
 // The terms at each place of the ground, made once: for each place a list of its spots, in the order of the terms.
-ghost use Rattle.std.specs.Prelude.{◌≡◌, List, [], ◌∷◌, ◌++◌, length, map, replicate, is_ok, IfOk, OnOk, if◌then◌else◌};
-ghost use Rattle.std.specs.List.{All};
-ghost use Rattle.sfm_spec.specs.Sets.{IsPlaced};
-ghost use Rattle.sfm_spec.specs.Families.{meanings};
+ghost use Rattle.std.specs.{Prelude.{◌≡◌, List, [], ◌∷◌, ◌++◌, length, map, replicate, is_ok, IfOk, OnOk, if◌then◌else◌}, List.{All}};
+ghost use Rattle.sfm_spec.specs.{Sets.{IsPlaced}, Families.{meanings}};
 ghost use Rattle.sfm_reach.specs.Spots.{AddsSpots, AreSpots};
 
 use sfm_base::Memory;

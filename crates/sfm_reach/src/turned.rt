@@ -2,8 +2,7 @@
 // one for each place of a level, and looks at no other place. Where a row changes, only the bits in which it differs are
 // turned over.
 ghost use Rattle.std.specs.Prelude.{◌≡◌, ◌≢◌, ◌<◌, ◌≤◌, ℕ, length, IfOk, if◌then◌else◌};
-ghost use Rattle.sfm_reach.specs.Bits.{bit_in, set_at};
-ghost use Rattle.sfm_reach.specs.Turned.{AreTurned, AreWritten};
+ghost use Rattle.sfm_reach.specs.{Bits.{bit_in, set_at}, Turned.{AreTurned, AreWritten}};
 
 use crate::ahead::Ahead;
 use crate::bits::{Bits, no_bits};

@@ -1,9 +1,7 @@
 // One row for each place of the ground: all places that a step by any term leads to from there.
 ghost use Rattle.std.specs.Prelude.{◌≡◌, ◌<◌, ◌≤◌, ℕ, length, IfOk, slice_index_or};
 ghost use Rattle.sfm_spec.specs.Sets.{IsPlaced};
-ghost use Rattle.sfm_reach.specs.Bits.{bit_in};
-ghost use Rattle.sfm_reach.specs.Turned.{AreTurned};
-ghost use Rattle.sfm_reach.specs.Unions.{IsUnion, AreRenewed, AreUnions, AreWidened, HasRows, HaveRows};
+ghost use Rattle.sfm_reach.specs.{Bits.{bit_in}, Turned.{AreTurned}, Unions.{IsUnion, AreRenewed, AreUnions, AreWidened, HasRows, HaveRows}};
 
 use crate::ahead::Ahead;
 use crate::bits::{Bits, no_bits};

@@ -1,10 +1,8 @@
 // The test of a table against the law of submodularity: the first set, in binary counting, with two places outside it
 // that gain more together than each alone. Where there is none, the table is submodular.
-ghost use Rattle.std.specs.Prelude.{◌≡◌, ◌↔◌, ℕ, ◌<◌, ◌≤◌, ◌^◌, true, false, length, slice_index_or, slice_set, IsTrue, MatchOption, ◌+ℤ◌, ◌<ℤ◌};
-ghost use Rattle.std.specs.List.{All};
+ghost use Rattle.std.specs.{Prelude.{◌≡◌, ◌↔◌, ℕ, ◌<◌, ◌≤◌, ◌^◌, true, false, length, slice_index_or, slice_set, IsTrue, MatchOption, ◌+ℤ◌, ◌<ℤ◌}, List.{All}};
 ghost use Rattle.sfm_spec.specs.Bounds.{IsGiven};
-ghost use Rattle.sfm_simple.specs.Subsets.{members};
-ghost use Rattle.sfm_simple.specs.Breaches.{listed_at, GainsMore, BreaksLaw, IsFirstBreach, IsFirstPair, IsFirstSecond};
+ghost use Rattle.sfm_simple.specs.{Subsets.{members}, Breaches.{listed_at, GainsMore, BreaksLaw, IsFirstBreach, IsFirstPair, IsFirstSecond}};
 
 use crate::subset::{has, unit};
 

@@ -1,10 +1,7 @@
 // A number w that counts where a part has an element of the term.
 // The bases of q times it have no negative entry, and q·w in all: so v can give to u whatever v has.
-ghost use Rattle.std.specs.Prelude.{◌≡◌, ◌↔◌, ◌<◌, ◌≤◌, length, ℤ, pos, ◌≤ℤ◌, IfOk, IsTrue, Option, Some};
-ghost use Rattle.std.specs.List.{All};
-ghost use Rattle.sfm_spec.specs.Bounds.{IsFactor, IsGiven, AreElements};
-ghost use Rattle.sfm_spec.specs.Terms.{times, IsGreedy};
-ghost use Rattle.sfm_spec.specs.Kinds.{cover_value};
+ghost use Rattle.std.specs.{Prelude.{◌≡◌, ◌↔◌, ◌<◌, ◌≤◌, length, ℤ, pos, ◌≤ℤ◌, IfOk, IsTrue, Option, Some}, List.{All}};
+ghost use Rattle.sfm_spec.specs.{Bounds.{IsFactor, IsGiven, AreElements}, Terms.{times, IsGreedy}, Kinds.{cover_value}};
 ghost use Rattle.sfm_simple.specs.CoverLaws.{cover_start, cover-family, cover-submodular, cover-bounded, cover-starts, cover-starts_small};
 
 use sfm_base::{Memory, Places, Set};

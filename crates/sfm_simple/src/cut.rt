@@ -1,9 +1,7 @@
 // A number c that counts where a part has the first of two elements and not the second.
 // The bases of q times it are t at the first and -t at the second, with t from 0 to q·c.
 ghost use Rattle.std.specs.Prelude.{◌≡◌, ◌≢◌, ◌↔◌, ◌<◌, ◌≤◌, [], ◌∷◌, length, ℤ, pos, ◌+ℤ◌, ◌≤ℤ◌, IsTrue, Option, Some};
-ghost use Rattle.sfm_spec.specs.Bounds.{IsEntry, IsFactor, IsGiven, AreElements};
-ghost use Rattle.sfm_spec.specs.Terms.{times, IsGreedy};
-ghost use Rattle.sfm_spec.specs.Kinds.{cut_value};
+ghost use Rattle.sfm_spec.specs.{Bounds.{IsEntry, IsFactor, IsGiven, AreElements}, Terms.{times, IsGreedy}, Kinds.{cut_value}};
 ghost use Rattle.sfm_simple.specs.CutLaws.{cut_start, cut-family, cut-submodular, cut-bounded, cut-starts, cut-starts_small};
 
 use crate::pair::put_other;

@@ -2,9 +2,7 @@
 // Its bases are t at the first and -t at the second, with t at least 0: from the first to the second every number can
 // be exchanged, and from the second to the first as much as the first has.
 ghost use Rattle.std.specs.Prelude.{◌≡◌, ◌≢◌, ◌↔◌, ◌<◌, ◌≤◌, [], ◌∷◌, length, ℤ, pos, ◌+ℤ◌, ◌≤ℤ◌, IsTrue, Option, Some};
-ghost use Rattle.sfm_spec.specs.Bounds.{IsEntry, AreElements};
-ghost use Rattle.sfm_spec.specs.Terms.{times};
-ghost use Rattle.sfm_spec.specs.Kinds.{need_value};
+ghost use Rattle.sfm_spec.specs.{Bounds.{IsEntry, AreElements}, Terms.{times}, Kinds.{need_value}};
 ghost use Rattle.sfm_simple.specs.NeedLaws.{need-family, need-submodular, need-bounded, need-starts, need-starts_small};
 
 use crate::pair::put_other;

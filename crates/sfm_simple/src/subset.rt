@@ -1,9 +1,6 @@
 // Sets of at most eight places by their numbers, place j counting 2^j: their members, their sums and their parts.
-ghost use Rattle.std.specs.Prelude.{◌≡◌, ℕ, ◌<◌, ◌≤◌, ◌^◌, false, length, slice_index_or};
-ghost use Rattle.std.specs.List.{All};
-ghost use Rattle.sfm_spec.specs.Bounds.{IsAtMost, IsEntry};
-ghost use Rattle.sfm_spec.specs.Kinds.{binary};
-ghost use Rattle.sfm_spec.specs.Sets.{intersection, sum_over};
+ghost use Rattle.std.specs.{Prelude.{◌≡◌, ℕ, ◌<◌, ◌≤◌, ◌^◌, false, length, slice_index_or}, List.{All}};
+ghost use Rattle.sfm_spec.specs.{Bounds.{IsAtMost, IsEntry}, Kinds.{binary}, Sets.{intersection, sum_over}};
 ghost use Rattle.sfm_simple.specs.Subsets.{members};
 
 use sfm_base::Set;

@@ -1,16 +1,10 @@
 // A number for each part of at most eight elements, listed in binary counting: any submodular function of them.
 // All calls go through the parts: what a part leaves of its value is its slack, a base leaves none negative, and the room
 // of (u, v) is the least slack of a part with u and not v.
-ghost use Rattle.std.specs.Prelude.{◌≡◌, ◌≢◌, ◌↔◌, ℕ, ◌+◌, ◌-◌, ◌<◌, ◌≤◌, ◌^◌, true, false, length, slice_index_or, ℤ, pos, ◌*ℤ◌, ◌≤ℤ◌, IfOk, OnOk, IsTrue, Option, Some, Ok, Err};
-ghost use Rattle.std.specs.List.{All};
-ghost use Rattle.sfm_spec.specs.Bounds.{IsAtMost, IsEntry, IsFactor, IsGiven, AreElements};
-ghost use Rattle.sfm_spec.specs.Sets.{Has};
-ghost use Rattle.sfm_spec.specs.Terms.{times, IsSubmodular, IsGreedy};
-ghost use Rattle.sfm_spec.specs.Kinds.{table_value};
+ghost use Rattle.std.specs.{Prelude.{◌≡◌, ◌≢◌, ◌↔◌, ℕ, ◌+◌, ◌-◌, ◌<◌, ◌≤◌, ◌^◌, true, false, length, slice_index_or, ℤ, pos, ◌*ℤ◌, ◌≤ℤ◌, IfOk, OnOk, IsTrue, Option, Some, Ok, Err}, List.{All}};
+ghost use Rattle.sfm_spec.specs.{Bounds.{IsAtMost, IsEntry, IsFactor, IsGiven, AreElements}, Sets.{Has}, Terms.{times, IsSubmodular, IsGreedy}, Kinds.{table_value}};
 ghost use Rattle.sfm_law.specs.Values.{greatest};
-ghost use Rattle.sfm_simple.specs.Subsets.{members};
-ghost use Rattle.sfm_simple.specs.Breaches.{IsFirstBreach};
-ghost use Rattle.sfm_simple.specs.TableLaws.{gain_of, table_start, slack_of, Separates, IsLeastSlack, table-family, table-bounded, table-starts, table-starts_small};
+ghost use Rattle.sfm_simple.specs.{Subsets.{members}, Breaches.{IsFirstBreach}, TableLaws.{gain_of, table_start, slack_of, Separates, IsLeastSlack, table-family, table-bounded, table-starts, table-starts_small}};
 
 use crate::breach::first_breach;
 use crate::place::all_but;

@@ -1,11 +1,7 @@
 // A number for each element; the value of a part is the sum of its numbers.
 // The one base of q times it is q times the numbers, so nothing can be exchanged.
-ghost use Rattle.std.specs.Prelude.{◌≡◌, ◌↔◌, ◌<◌, ◌≤◌, true, false, length, pos, IfOk, IsTrue, Option, Some, if◌then◌else◌};
-ghost use Rattle.std.specs.List.{All};
-ghost use Rattle.sfm_spec.specs.Bounds.{IsFactor, IsGiven, AreElements};
-ghost use Rattle.sfm_spec.specs.Sets.{sum_over, magnitudes};
-ghost use Rattle.sfm_spec.specs.Terms.{times, IsGreedy};
-ghost use Rattle.sfm_spec.specs.Kinds.{weight_value};
+ghost use Rattle.std.specs.{Prelude.{◌≡◌, ◌↔◌, ◌<◌, ◌≤◌, true, false, length, pos, IfOk, IsTrue, Option, Some, if◌then◌else◌}, List.{All}};
+ghost use Rattle.sfm_spec.specs.{Bounds.{IsFactor, IsGiven, AreElements}, Sets.{sum_over, magnitudes}, Terms.{times, IsGreedy}, Kinds.{weight_value}};
 ghost use Rattle.sfm_simple.specs.WeightLaws.{scaled, weight-family, weight-submodular, weight-bounded, weight-starts, weight-starts_small};
 
 use sfm_base::{Memory, Numbers, Places, Set};

@@ -1,11 +1,8 @@
 // All breakpoints in order, in two phases. First the chain of slopes and sets, in which each minimisation begins at the bases
 // that the one before ended at. Then the bases of each breakpoint, from the first bases. The sets come from the one, what
 // proves from the other, and both speak of the same slope: so neither has to be compared with the other.
-ghost use Rattle.std.specs.Prelude.{map, IfOk};
-ghost use Rattle.std.specs.List.{All};
-ghost use Rattle.sfm_spec.specs.Bounds.{AreBounded};
-ghost use Rattle.sfm_spec.specs.Families.{meanings};
-ghost use Rattle.sfm_spec.specs.Laws.{AreBreakpoints, ones};
+ghost use Rattle.std.specs.{Prelude.{map, IfOk}, List.{All}};
+ghost use Rattle.sfm_spec.specs.{Bounds.{AreBounded}, Families.{meanings}, Laws.{AreBreakpoints, ones}};
 ghost use Rattle.sfm_slope.specs.Marks.{HasBases, mark_of};
 
 use crate::chain::chain;

@@ -2,15 +2,9 @@
 // between two sets or a set strictly between them that is itself the set of a breakpoint; the breakpoints are then those below
 // this set and those above it. So for each breakpoint but the first there is one turn that finds no breakpoint: with J
 // breakpoints there are 2J - 1 turns. The sets lie within one another, so at most n calls are open at a time.
-ghost use Rattle.std.specs.Prelude.{map, IfOk, OnOk};
-ghost use Rattle.std.specs.List.{All};
-ghost use Rattle.sfm_spec.specs.Families.{meanings};
-ghost use Rattle.sfm_spec.specs.Laws.{AreBreakpoints, ones};
-ghost use Rattle.sfm_slope.specs.Gaps.{IsGap};
-ghost use Rattle.sfm_slope.specs.Points.{IsInRange, found_mark};
-ghost use Rattle.sfm_slope.specs.Parts.{IsPartTo};
-ghost use Rattle.sfm_slope.specs.Searches.{IsSearch};
-ghost use Rattle.sfm_slope.specs.Worths.{IsWorth};
+ghost use Rattle.std.specs.{Prelude.{map, IfOk, OnOk}, List.{All}};
+ghost use Rattle.sfm_spec.specs.{Families.{meanings}, Laws.{AreBreakpoints, ones}};
+ghost use Rattle.sfm_slope.specs.{Gaps.{IsGap}, Points.{IsInRange, found_mark}, Parts.{IsPartTo}, Searches.{IsSearch}, Worths.{IsWorth}};
 
 use crate::search::Search;
 use crate::turn::{Breakpoint, Turn, take_turn};

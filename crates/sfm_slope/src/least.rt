@@ -1,10 +1,8 @@
 // The least minimiser at a slope. A graph of the terms themselves goes from slope to slope: its bases at the slope before are
 // bases still, and z differs by the shift alone, so few walks are left. At a slope p/q with q > 1 it is taken to the whole
 // number below p/q, and q times its bases are where the walks for p/q begin.
-ghost use Rattle.std.specs.Prelude.{◌^◌, length, map, pos, ◌+ℤ◌, ◌*ℤ◌, ◌≤ℤ◌, ◌<ℤ◌, IfOk, OnOk};
-ghost use Rattle.std.specs.List.{All};
-ghost use Rattle.sfm_spec.specs.Bounds.{IsAtMost};
-ghost use Rattle.sfm_spec.specs.Families.{meanings, even_shift, IsLeast};
+ghost use Rattle.std.specs.{Prelude.{◌^◌, length, map, pos, ◌+ℤ◌, ◌*ℤ◌, ◌≤ℤ◌, ◌<ℤ◌, IfOk, OnOk}, List.{All}};
+ghost use Rattle.sfm_spec.specs.{Bounds.{IsAtMost}, Families.{meanings, even_shift, IsLeast}};
 ghost use Rattle.sfm_exchange.specs.Graph.{IsClaimed};
 ghost use Rattle.sfm_slope.specs.Searches.{IsSearch};
 

@@ -1,10 +1,8 @@
 // Bases to begin at: those of a slope that was looked at before, where their entries are small, and else the first bases of the
 // terms, whose entries always are. Bases of the terms hang on no slope, and q times a base of a term is one of q times the
 // term, so bases found at one slope serve at any other; they only have fewer walks before them.
-ghost use Rattle.std.specs.Prelude.{◌≡◌, ◌↔◌, ◌≤◌, ◌^◌, map, pos, unsigned_abs, ◌*ℤ◌, ◌≤ℤ◌, IsTrue, IfOk};
-ghost use Rattle.std.specs.List.{All};
-ghost use Rattle.sfm_spec.specs.Bounds.{IsAtMost, IsFactor, total_of};
-ghost use Rattle.sfm_spec.specs.Families.{meanings, AreBases};
+ghost use Rattle.std.specs.{Prelude.{◌≡◌, ◌↔◌, ◌≤◌, ◌^◌, map, pos, unsigned_abs, ◌*ℤ◌, ◌≤ℤ◌, IsTrue, IfOk}, List.{All}};
+ghost use Rattle.sfm_spec.specs.{Bounds.{IsAtMost, IsFactor, total_of}, Families.{meanings, AreBases}};
 
 use sfm_base::{Memory, Rows};
 use sfm_law::{Term, product, start_rows};

@@ -2,8 +2,7 @@
 // shift, which are made once and used again at each slope. The rows at the first bases hang on no slope, so one graph stays
 // at these, and no term is asked for them again.
 ghost use Rattle.std.specs.Prelude.{◌≡◌, length, map, IfOk};
-ghost use Rattle.sfm_spec.specs.Bounds.{AreBounded};
-ghost use Rattle.sfm_spec.specs.Families.{even_shift};
+ghost use Rattle.sfm_spec.specs.{Bounds.{AreBounded}, Families.{even_shift}};
 ghost use Rattle.sfm_slope.specs.Searches.{IsSearch};
 
 use crate::rows::first_rows;

@@ -1,11 +1,8 @@
 // The bases of each breakpoint. They are found by a run of their own from the first bases, so they hang on the terms and the
 // slope alone, and few walks lead to them, however the breakpoint was found.
-ghost use Rattle.std.specs.Prelude.{◌≡◌, map, IfOk, OnOk};
-ghost use Rattle.std.specs.List.{All};
+ghost use Rattle.std.specs.{Prelude.{◌≡◌, map, IfOk, OnOk}, List.{All}};
 ghost use Rattle.sfm_spec.specs.Families.{meanings};
-ghost use Rattle.sfm_slope.specs.Marks.{HasBases, mark_of};
-ghost use Rattle.sfm_slope.specs.Points.{IsInRange, found_mark};
-ghost use Rattle.sfm_slope.specs.Searches.{IsSearch};
+ghost use Rattle.sfm_slope.specs.{Marks.{HasBases, mark_of}, Points.{IsInRange, found_mark}, Searches.{IsSearch}};
 
 use crate::search::{Search, write_even};
 use crate::turn::Breakpoint;

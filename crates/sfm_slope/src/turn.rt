@@ -3,14 +3,8 @@
 // is the next breakpoint, and the higher set is the greatest minimiser there. Or it lies strictly between them, and the
 // breakpoints are those below it and those above it.
 ghost use Rattle.std.specs.Prelude.{◌<◌, ◌≤◌, map, pos, ◌-ℤ◌, IfOk, OnOk};
-ghost use Rattle.sfm_spec.specs.Bounds.{IsGiven};
-ghost use Rattle.sfm_spec.specs.Families.{meanings};
-ghost use Rattle.sfm_spec.specs.Slopes.{IsSameSlope};
-ghost use Rattle.sfm_spec.specs.Laws.{ones};
-ghost use Rattle.sfm_slope.specs.Gaps.{IsBegun, IsGap};
-ghost use Rattle.sfm_slope.specs.Searches.{IsSearch};
-ghost use Rattle.sfm_slope.specs.Worths.{IsWorth};
-ghost use Rattle.sfm_slope.specs.Turns.{IsTurn};
+ghost use Rattle.sfm_spec.specs.{Bounds.{IsGiven}, Families.{meanings}, Slopes.{IsSameSlope}, Laws.{ones}};
+ghost use Rattle.sfm_slope.specs.{Gaps.{IsBegun, IsGap}, Searches.{IsSearch}, Worths.{IsWorth}, Turns.{IsTurn}};
 
 use crate::least::least_at;
 use crate::search::Search;

@@ -2,9 +2,7 @@
 // of a term is asked for at the part of the set in the term; the sizes of all terms add to at most 10^18, so no sum of
 // values exceeds that.
 ghost use Rattle.std.specs.Prelude.{◌≡◌, ℕ, ◌<◌, length, map, pos, unwrap_or, slice_index, IfOk};
-ghost use Rattle.sfm_spec.specs.Bounds.{AreBounded, IsGiven};
-ghost use Rattle.sfm_spec.specs.Sets.{part};
-ghost use Rattle.sfm_spec.specs.Families.{meanings, sum_at, IsAllowed};
+ghost use Rattle.sfm_spec.specs.{Bounds.{AreBounded, IsGiven}, Sets.{part}, Families.{meanings, sum_at, IsAllowed}};
 ghost use Rattle.sfm_slope.specs.Worths.{IsWorth};
 
 use sfm_base::{Memory, Set};

@@ -1,9 +1,7 @@
 // An amount put on a slot with room, and moved from demand to demand along the links, until a demand gets it that lacks it. How
 // much can move is seen on the way itself, so links that were found serve as long as amounts are on their own cells.
 ghost use Rattle.std.specs.Prelude.{◌≡◌, ℕ, ◌<◌, ◌^◌, length, pos, ◌+ℤ◌, ◌-ℤ◌, ◌≤ℤ◌, Some, slice_set};
-ghost use Rattle.sfm_split.specs.Splits.{sum_at, amount_at};
-ghost use Rattle.sfm_split.specs.Cells.{label_at, AreCells};
-ghost use Rattle.sfm_split.specs.Search.{node_at, IsFound, AreNodes, AreRoots, AreBranches, Carries, IsRaised};
+ghost use Rattle.sfm_split.specs.{Splits.{sum_at, amount_at}, Cells.{label_at, AreCells}, Search.{node_at, IsFound, AreNodes, AreRoots, AreBranches, Carries, IsRaised}};
 
 use crate::cells::Cells;
 use crate::nodes::{Node, link_of};

@@ -1,9 +1,7 @@
 // The cells of demands in one list: a cell is a demand with one entry of its list. The cells of each demand and those of each
 // slot are linked, so that they are gone through without a look at the others.
-ghost use Rattle.std.specs.Prelude.{◌≡◌, ◌<◌, ◌++◌, length, pos, replicate, IfOk, OnOk};
-ghost use Rattle.std.specs.List.{All};
-ghost use Rattle.sfm_split.specs.Cells.{joined, owners};
-ghost use Rattle.sfm_split.specs.Chains.{AreChains};
+ghost use Rattle.std.specs.{Prelude.{◌≡◌, ◌<◌, ◌++◌, length, pos, replicate, IfOk, OnOk}, List.{All}};
+ghost use Rattle.sfm_split.specs.{Cells.{joined, owners}, Chains.{AreChains}};
 
 use crate::chains::Chains;
 use crate::demand::Slots;

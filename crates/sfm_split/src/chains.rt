@@ -2,8 +2,7 @@
 // the last one before it that has the same number, and so on. A chain is made cell by cell: each new cell is the last of its
 // number, and the one that was the last before stands behind it.
 ghost use Rattle.std.specs.Prelude.{◌≡◌, ℕ, ◌<◌, length, IfOk};
-ghost use Rattle.sfm_split.specs.Cells.{label_at};
-ghost use Rattle.sfm_split.specs.Chains.{cell_at, AreChains};
+ghost use Rattle.sfm_split.specs.{Cells.{label_at}, Chains.{cell_at, AreChains}};
 
 use sfm_base::Memory;
 use std::alloc::Global;

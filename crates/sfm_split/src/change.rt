@@ -1,12 +1,7 @@
 // Amounts for other demands, found beside a split that stands, in memory of their own: either those of the split itself, of which
 // nothing is lacking, or amounts by which other demands over the same lists are met.
-ghost use Rattle.std.specs.Prelude.{◌≡◌, length, OnOk, MatchResult};
-ghost use Rattle.std.specs.List.{All};
-ghost use Rattle.sfm_split.specs.Splits.{IsAmount, IsCapacity, AreDemands};
-ghost use Rattle.sfm_split.specs.Cells.{AreMet};
-ghost use Rattle.sfm_split.specs.Search.{AreLeft};
-ghost use Rattle.sfm_split.specs.Lowers.{IsCharge, AreSmall};
-ghost use Rattle.sfm_split.specs.Ends.{IsAssignEnd};
+ghost use Rattle.std.specs.{Prelude.{◌≡◌, length, OnOk, MatchResult}, List.{All}};
+ghost use Rattle.sfm_split.specs.{Splits.{IsAmount, IsCapacity, AreDemands}, Cells.{AreMet}, Search.{AreLeft}, Lowers.{IsCharge, AreSmall}, Ends.{IsAssignEnd}};
 
 use crate::demand::Demand;
 use crate::left::Lefts;

@@ -1,6 +1,5 @@
 // Demands in the order in which they come, each with the list of the slots that it may use, and the capacities of the slots.
-ghost use Rattle.std.specs.Prelude.{◌≡◌, ◌<◌, ◌≤◌, ◌^◌, [], ◌∷◌, ◌++◌, length, is_ok, slice_set, ◌+ℤ◌, IfOk, if◌then◌else◌};
-ghost use Rattle.std.specs.List.{All};
+ghost use Rattle.std.specs.{Prelude.{◌≡◌, ◌<◌, ◌≤◌, ◌^◌, [], ◌∷◌, ◌++◌, length, is_ok, slice_set, ◌+ℤ◌, IfOk, if◌then◌else◌}, List.{All}};
 ghost use Rattle.sfm_split.specs.Splits.{amount_at, IsAmount, IsCapacity, AreDemands};
 
 use sfm_base::Memory;

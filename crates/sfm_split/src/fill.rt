@@ -4,8 +4,7 @@
 // the searches.
 ghost use Rattle.std.specs.Prelude.{◌≡◌, ◌<◌, length, ◌<ℤ◌, IfOk, None};
 ghost use Rattle.sfm_spec.specs.Bounds.{total_of};
-ghost use Rattle.sfm_split.specs.Search.{ListsLacking, AreQueued, AreBranches, IsOpen, IsSearch};
-ghost use Rattle.sfm_split.specs.Pours.{AreWithin, AreRaised};
+ghost use Rattle.sfm_split.specs.{Search.{ListsLacking, AreQueued, AreBranches, IsOpen, IsSearch}, Pours.{AreWithin, AreRaised}};
 
 use crate::augment::{augment, flow_along, take};
 use crate::cells::Cells;

@@ -1,8 +1,7 @@
 // One demand raised as far as it goes, up to a limit, while all others stay met: it alone lacks something, and amounts are raised
 // until it can get no more.
 ghost use Rattle.std.specs.Prelude.{IfOk};
-ghost use Rattle.sfm_split.specs.Splits.{Demands};
-ghost use Rattle.sfm_split.specs.Grown.{MayGrow, IsGrown};
+ghost use Rattle.sfm_split.specs.{Splits.{Demands}, Grown.{MayGrow, IsGrown}};
 
 use crate::cells::Cells;
 use crate::fill::fill_from;

@@ -1,9 +1,7 @@
 // What is left of demands or of capacities once the amounts on the cells are taken off. Of many demands few lack something, so these
 // are listed, and what goes over them does not look at the others.
 ghost use Rattle.std.specs.Prelude.{◌≡◌, ℕ, ◌<◌, length, pos, ◌-ℤ◌, ◌≤ℤ◌, ◌<ℤ◌, IfOk, OnOk, MatchOption};
-ghost use Rattle.sfm_split.specs.Splits.{sum_at, amount_at};
-ghost use Rattle.sfm_split.specs.Cells.{label_at, AreCells, IsPart};
-ghost use Rattle.sfm_split.specs.Search.{AreLeft, ListsLacking};
+ghost use Rattle.sfm_split.specs.{Splits.{sum_at, amount_at}, Cells.{label_at, AreCells, IsPart}, Search.{AreLeft, ListsLacking}};
 
 use crate::cells::Cells;
 use sfm_base::Memory;

@@ -3,14 +3,8 @@
 // the amounts on its cells are lowered and given back to their demands and slots: first for all demands, then in the same way
 // for all slots. At the end of a chain nothing stands on it, and no demand or capacity is negative, so nothing is too much
 // there. What is left only rises, so what was mended stays so.
-ghost use Rattle.std.specs.Prelude.{◌≡◌, ℕ, ◌<◌, ◌^◌, length, replicate, pos, ◌+ℤ◌, ◌-ℤ◌, ◌≤ℤ◌, OnOk};
-ghost use Rattle.std.specs.List.{All};
-ghost use Rattle.sfm_split.specs.Splits.{amount_at, IsAmount};
-ghost use Rattle.sfm_split.specs.Cells.{label_at};
-ghost use Rattle.sfm_split.specs.Chains.{AreChains};
-ghost use Rattle.sfm_split.specs.Lowers.{IsShifted, AreCharged, AreLowered, AreMended};
-ghost use Rattle.sfm_split.specs.Sides.{of_side};
-ghost use Rattle.sfm_split.specs.declared.lower.Side.{Side};
+ghost use Rattle.std.specs.{Prelude.{◌≡◌, ℕ, ◌<◌, ◌^◌, length, replicate, pos, ◌+ℤ◌, ◌-ℤ◌, ◌≤ℤ◌, OnOk}, List.{All}};
+ghost use Rattle.sfm_split.specs.{Splits.{amount_at, IsAmount}, Cells.{label_at}, Chains.{AreChains}, Lowers.{IsShifted, AreCharged, AreLowered, AreMended}, Sides.{of_side}, declared.lower.Side.{Side}};
 
 use crate::augment::{put, take};
 use crate::cells::Cells;

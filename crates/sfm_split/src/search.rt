@@ -4,9 +4,7 @@
 // out, the demands that were found share their slots with no other that has something there, and these slots are full.
 ghost use Rattle.std.specs.Prelude.{◌≡◌, ℕ, ◌+◌, ◌<◌, ◌≤◌, true, false, List, [], length, replicate, slice_set, pos, ◌≤ℤ◌, IfOk, OnOk, MatchOption, Option, Some, None};
 ghost use Rattle.sfm_spec.specs.Sets.{Has};
-ghost use Rattle.sfm_split.specs.Splits.{amount_at};
-ghost use Rattle.sfm_split.specs.Cells.{label_at, AreCells};
-ghost use Rattle.sfm_split.specs.Search.{node_at, IsFound, ListsLacking, AreRootsOf, AreQueued, IsProgress, IsFurther, IsHandled, IsEnd, IsSearch};
+ghost use Rattle.sfm_split.specs.{Splits.{amount_at}, Cells.{label_at, AreCells}, Search.{node_at, IsFound, ListsLacking, AreRootsOf, AreQueued, IsProgress, IsFurther, IsHandled, IsEnd, IsSearch}};
 
 use crate::cells::Cells;
 use crate::left::Lefts;

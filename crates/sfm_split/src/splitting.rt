@@ -1,12 +1,7 @@
 // A split of all demands, or a set of them that asks for more than its slots have. The amounts on the cells are raised as far as
 // they go; where a demand still lacks something, those that were found ask for too much.
 ghost use Rattle.std.specs.Prelude.{◌≡◌, IfOk, MatchResult};
-ghost use Rattle.sfm_split.specs.Splits.{AreDemands, IsAssignment};
-ghost use Rattle.sfm_split.specs.Cells.{joined, owners, IsPart, AreMet};
-ghost use Rattle.sfm_split.specs.Search.{ListsLacking};
-ghost use Rattle.sfm_split.specs.Pours.{AreWithin, AreRaised, IsToldOf};
-ghost use Rattle.sfm_split.specs.Lowers.{AreCharged, AreSettled};
-ghost use Rattle.sfm_split.specs.Ends.{IsAssignEnd};
+ghost use Rattle.sfm_split.specs.{Splits.{AreDemands, IsAssignment}, Cells.{joined, owners, IsPart, AreMet}, Search.{ListsLacking}, Pours.{AreWithin, AreRaised, IsToldOf}, Lowers.{AreCharged, AreSettled}, Ends.{IsAssignEnd}};
 
 use crate::cells::Cells;
 use crate::demand::Demand;

@@ -1,8 +1,7 @@
 // Small demands over a few slots, in tables: how they are split, or that they ask for too much; and of a split that is kept, what
 // each step answers. All is worked by hand, and a row costs no proof. Each is asked by a function that answers yes or no, and no where
 // memory lacks.
-ghost use Rattle.std.specs.Prelude.{◌≡◌, ◌↔◌, ◌<◌, ◌≤◌, [], ◌∷◌, ◌++◌, length, slice_set, pos, IsTrue, IfOk};
-ghost use Rattle.std.specs.List.{All};
+ghost use Rattle.std.specs.{Prelude.{◌≡◌, ◌↔◌, ◌<◌, ◌≤◌, [], ◌∷◌, ◌++◌, length, slice_set, pos, IsTrue, IfOk}, List.{All}};
 ghost use Rattle.sfm_assign.specs.Splits.{IsAmount, IsCapacity};
 
 use sfm_assign::{AssignEnd, Demand, Kept, Split, assign, most};

@@ -1,7 +1,6 @@
 // Ranks of transversal matroids, worked by hand: one slot for two, a place that moves aside for another, an entry of more slots
 // than there are elements, and an entry without slots, which no text can say.
-ghost use Rattle.std.specs.Prelude.{◌↔◌, ◌<◌, ◌^◌, IsTrue};
-ghost use Rattle.std.specs.List.{All};
+ghost use Rattle.std.specs.{Prelude.{◌↔◌, ◌<◌, ◌^◌, IsTrue}, List.{All}};
 
 use crate::facts::{ONE_OF_TWO, has_facts};
 use sfm_kind::Kind;

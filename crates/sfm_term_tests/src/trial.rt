@@ -1,10 +1,8 @@
 // What a term is asked for in a test: its values, its first base, the rooms and the reach of places at a base, and that notes tell
 // the same, at the base and after an exchange. Each is asked by a function that answers yes or no, and no where memory lacks. Parts
 // are told by their numbers, place j counting 2^j.
-ghost use Rattle.std.specs.Prelude.{◌≡◌, ◌↔◌, ◌<◌, ◌^◌, ◌≤ℤ◌, length, pos, IsTrue, IfOk, IfSome};
-ghost use Rattle.std.specs.List.{All};
-ghost use Rattle.sfm_spec.specs.Bounds.{IsEntry, IsFactor};
-ghost use Rattle.sfm_spec.specs.Terms.{times, exchanged};
+ghost use Rattle.std.specs.{Prelude.{◌≡◌, ◌↔◌, ◌<◌, ◌^◌, ◌≤ℤ◌, length, pos, IsTrue, IfOk, IfSome}, List.{All}};
+ghost use Rattle.sfm_spec.specs.{Bounds.{IsEntry, IsFactor}, Terms.{times, exchanged}};
 ghost use Rattle.sfm_law.specs.Room.{IsWithinRoom};
 ghost use Rattle.sfm_term_tests.specs.Based.{IsFit, IsBased, IsPair};
 

@@ -1,19 +1,10 @@
 // One term line, judged against an instance: its term is added behind the others, or the first reason is told for which the
 // line has none. A text's term lines are read by this call too, so that a line is judged alike wherever it comes from.
-ghost use Rattle.std.specs.Prelude.{◌≡◌, ◌≢◌, ◌↔◌, ◌<◌, ◌≤◌, ◌^◌, ℕ, List, [], ◌∷◌, ◌++◌, length, IsTrue, Any, IfOk, IfErr, MatchBool, MatchOption, MatchResult, OnErr};
-ghost use Rattle.std.specs.List.{All};
-ghost use Rattle.sfm_kind.specs.Limits.{AreInBounds};
-ghost use Rattle.sfm_kind.specs.Names.{AreElementNames};
-ghost use Rattle.sfm_lines.specs.Lines.{tokens_of};
-ghost use Rattle.sfm_lines.specs.Words.{word_text};
-ghost use Rattle.sfm_lines.specs.Reading.{IsBadByte, AreTooMuch};
-ghost use Rattle.sfm_lines.specs.ReadParts.{bytes_in, state_at, IsTermRead};
+ghost use Rattle.std.specs.{Prelude.{◌≡◌, ◌≢◌, ◌↔◌, ◌<◌, ◌≤◌, ◌^◌, ℕ, List, [], ◌∷◌, ◌++◌, length, IsTrue, Any, IfOk, IfErr, MatchBool, MatchOption, MatchResult, OnErr}, List.{All}};
+ghost use Rattle.sfm_kind.specs.{Limits.{AreInBounds}, Names.{AreElementNames}};
+ghost use Rattle.sfm_lines.specs.{Lines.{tokens_of}, Words.{word_text}, Reading.{IsBadByte, AreTooMuch}, ReadParts.{bytes_in, state_at, IsTermRead}, declared.stage.Stage.TheVariants.{Terms}, declared.word.TermWord.{TermWord}};
 ghost use Rattle.sfm_passes.specs.GroupPasses.{IsRefusedBy};
-ghost use Rattle.sfm_text.specs.Judging.{IsOutcome};
-ghost use Rattle.sfm_text.specs.GoodText.{text_limit};
-ghost use Rattle.sfm_text.specs.Adding.{IsTermAdded, IsTermRefusal};
-ghost use Rattle.sfm_lines.specs.declared.stage.Stage.TheVariants.{Terms};
-ghost use Rattle.sfm_lines.specs.declared.word.TermWord.{TermWord};
+ghost use Rattle.sfm_text.specs.{Judging.{IsOutcome}, GoodText.{text_limit}, Adding.{IsTermAdded, IsTermRefusal}};
 
 use sfm_kind::{Instance, Kind};
 use sfm_law::Term;

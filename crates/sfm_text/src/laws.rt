@@ -1,14 +1,10 @@
 // Facts that hold of every text, of all groups and of all entries, by the definitions alone. The functions do nothing: they
 // state them, and proofs cite them.
-ghost use Rattle.std.specs.Prelude.{◌≡◌, ◌↔◌, ℕ, Bool, List, length, map, take};
-ghost use Rattle.std.specs.List.{All};
+ghost use Rattle.std.specs.{Prelude.{◌≡◌, ◌↔◌, ℕ, Bool, List, length, map, take}, List.{All}};
 ghost use Rattle.sfm_spec.specs.Kinds.{Group, IsWithinCaps, IsMatchable};
 ghost use Rattle.sfm_laminar.specs.Crossing.{IsCrossing};
-ghost use Rattle.sfm_lines.specs.LabelTerms.{numbers_of};
-ghost use Rattle.sfm_lines.specs.RankLines.{least_groups};
-ghost use Rattle.sfm_lines.specs.TermLines.{StandsTwice};
+ghost use Rattle.sfm_lines.specs.{LabelTerms.{numbers_of}, RankLines.{least_groups}, TermLines.{StandsTwice}, declared.reason.Reason.{Reason}};
 ghost use Rattle.sfm_kind.specs.declared.kind.Kind.{Kind};
-ghost use Rattle.sfm_lines.specs.declared.reason.Reason.{Reason};
 ghost use Rattle.sfm_text.specs.GoodText.{IsTextOf, IsFaultOf};
 
 /// A text is not both good and faulty, and has one first fault: its line and its reason are the only ones.

@@ -1,8 +1,6 @@
 // The lines of a text one after another, each found where the one before ends, so that no list of them is kept; and the
 // content lines, which are those that are neither blank nor comments.
-ghost use Rattle.std.specs.Prelude.{◌≡◌, ◌≤◌, ◌==◌, ℕ, ◌+◌, List, [], ◌∷◌, length, map, slice_index, slice_range, IsTrue, IfOk, MatchOption, IfSome, IfNone};
-ghost use Rattle.std.specs.Str.Lines.{strip_carriage_return};
-ghost use Rattle.std.specs.List.{All, position_or_len};
+ghost use Rattle.std.specs.{Prelude.{◌≡◌, ◌≤◌, ◌==◌, ℕ, ◌+◌, List, [], ◌∷◌, length, map, slice_index, slice_range, IsTrue, IfOk, MatchOption, IfSome, IfNone}, Str.Lines.{strip_carriage_return}, List.{All, position_or_len}};
 ghost use Rattle.sfm_text.specs.Places.{span_of, placed_content, LiesIn};
 
 use sfm_base::Memory;
@@ -49,8 +47,7 @@ pub fn line_end(text: &[u8]) -> usize
 }
 
 impl<'a> Lines<'a> {
-    ghost use Rattle.sfm_text.specs.Places.{placed_lines, LiesIn};
-    ghost use Rattle.sfm_text.specs.Cursor.{lines_left, content_left, line_of, text_of, next_number, IsSameText};
+    ghost use Rattle.sfm_text.specs.{Places.{placed_lines, LiesIn}, Cursor.{lines_left, content_left, line_of, text_of, next_number, IsSameText}};
 
     /// All lines of a text.
     pub fn new(text: &'a [u8]) -> Lines<'a>

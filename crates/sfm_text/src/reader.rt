@@ -1,7 +1,6 @@
 // Reading an instance text in pieces. A line is judged as soon as it ends, against what the lines before it led to. So only
 // the names, the terms and the line that has not ended are kept, and behind the first fault no more than a count of bytes.
-ghost use Rattle.std.specs.Prelude.{◌≡◌, ◌==◌, ◌+◌, ◌≤◌, ◌<◌, ℕ, List, [], ◌∷◌, ◌++◌, length, true, false, None, Err, IfOk, IfErr, OnOk, OnErr};
-ghost use Rattle.std.specs.List.{All, concat};
+ghost use Rattle.std.specs.{Prelude.{◌≡◌, ◌==◌, ◌+◌, ◌≤◌, ◌<◌, ℕ, List, [], ◌∷◌, ◌++◌, length, true, false, None, Err, IfOk, IfErr, OnOk, OnErr}, List.{All, concat}};
 ghost use Rattle.sfm_lines.specs.Lines.{texts_of};
 ghost use Rattle.sfm_text.specs.GoodText.{text_limit, IsTextOf, IsRefusalOf};
 ghost use Rattle.sfm_text.specs.declared.end.TextEnd.TheVariants as ends;

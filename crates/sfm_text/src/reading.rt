@@ -1,13 +1,8 @@
 // Reading line by line: what a content line adds to what was read before it, or the first reason for which it is refused.
-ghost use Rattle.std.specs.Prelude.{◌≡◌, ◌≢◌, ◌≤◌, ℕ, List, [], ◌∷◌, length, bytes_eq, codes, MatchBool, IfOk, MatchOption, MatchResult};
-ghost use Rattle.std.specs.Str.Lines.{strip_carriage_return};
+ghost use Rattle.std.specs.{Prelude.{◌≡◌, ◌≢◌, ◌≤◌, ℕ, List, [], ◌∷◌, length, bytes_eq, codes, MatchBool, IfOk, MatchOption, MatchResult}, Str.Lines.{strip_carriage_return}};
 ghost use Rattle.sfm_kind.specs.Instance.{InstanceData};
-ghost use Rattle.sfm_lines.specs.Lines.{tokens_of};
-ghost use Rattle.sfm_lines.specs.Reading.{start, FirstReason, Takes, IsLineRefusal};
-ghost use Rattle.sfm_lines.specs.ReadParts.{state_at, IsLineOf};
-ghost use Rattle.sfm_text.specs.Judging.{AreGroundNames, BeginsEnd};
-ghost use Rattle.sfm_lines.specs.declared.stage.Stage.TheVariants.{Ground};
-ghost use Rattle.sfm_text.specs.GoodText.{text_limit};
+ghost use Rattle.sfm_lines.specs.{Lines.{tokens_of}, Reading.{start, FirstReason, Takes, IsLineRefusal}, ReadParts.{state_at, IsLineOf}, declared.stage.Stage.TheVariants.{Ground}};
+ghost use Rattle.sfm_text.specs.{Judging.{AreGroundNames, BeginsEnd}, GoodText.{text_limit}};
 
 use crate::added::{add_line, are_good_bytes};
 use crate::lines::without_return;
@@ -118,9 +113,8 @@ fn with_names(alloc: Global, line: &[u8]) -> Result<Instance, Memory>
 }
 
 impl Reading {
-    ghost use Rattle.sfm_lines.specs.ReadParts.{state_at};
+    ghost use Rattle.sfm_lines.specs.{ReadParts.{state_at}, declared.stage.Stage.TheVariants.{Header, Ground, Terms}};
     ghost use Rattle.sfm_text.specs.Judging.{state_of, IsOutcome, Passes, Fails};
-    ghost use Rattle.sfm_lines.specs.declared.stage.Stage.TheVariants.{Header, Ground, Terms};
 
     /// Nothing has been read.
     pub fn new(alloc: Global) -> Reading

@@ -1,7 +1,6 @@
 // Small texts, each worked by hand against the grammar: a right text is read and written back the same, and a broken one is
 // bad at its line.
-ghost use Rattle.sfm_cert.specs.Form.{IsFormed};
-ghost use Rattle.sfm_cert.specs.Solved.{answer_of, form_of};
+ghost use Rattle.sfm_cert.specs.{Form.{IsFormed}, Solved.{answer_of, form_of}};
 
 use sfm_cert::{
     AnswerEnd, Solved, answer_len, line_of_at, line_of_base, read_answer, write_answer,

@@ -1,9 +1,7 @@
 // The least minimiser, once bases prove the minimum: the places that walks lead to from those with z < 0. Only the rows of
 // these places are asked, where they are only claimed.
-ghost use Rattle.std.specs.Prelude.{◌≡◌, ◌<◌, ℕ, length, pos, slice_index_or, OnOk, IfOk};
-ghost use Rattle.std.specs.List.{All};
-ghost use Rattle.sfm_spec.specs.Bounds.{IsEntry};
-ghost use Rattle.sfm_spec.specs.Families.{meanings, rest_at, IsLeast, Prove};
+ghost use Rattle.std.specs.{Prelude.{◌≡◌, ◌<◌, ℕ, length, pos, slice_index_or, OnOk, IfOk}, List.{All}};
+ghost use Rattle.sfm_spec.specs.{Bounds.{IsEntry}, Families.{meanings, rest_at, IsLeast, Prove}};
 ghost use Rattle.sfm_exchange.specs.Graph.{IsClaimed};
 
 use sfm_base::{Memory, Numbers, Set};

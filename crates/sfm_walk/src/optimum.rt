@@ -2,19 +2,10 @@
 // kept beside the bases is brought up. Each walk raises the sum of min(z, 0) by at least 1, so this ends, and then no walk
 // joins (Schrijver, Combinatorial Optimization, section 45; Fujishige, Submodular Functions and Optimization, section 4).
 // And each walk raises the potential of any lower bounds on distances and on least steps, so walks are few.
-ghost use Rattle.std.specs.Prelude.{◌≡◌, ◌+◌, ◌*◌, ◌^◌, ◌≢◌, ◌<◌, ◌≤◌, ℕ, ℤ, List, map, pos, neg_ℤ, ◌≤ℤ◌, length, OnOk, IfOk, slice_index_or};
-ghost use Rattle.std.specs.List.{All};
-ghost use Rattle.sfm_spec.specs.Sets.{magnitudes};
-ghost use Rattle.sfm_spec.specs.Bounds.{AreBounded, IsAtMost, IsEntry, IsFactor};
-ghost use Rattle.sfm_spec.specs.Families.{meanings, even_shift, rest_at, deficit, AreBases, Prove};
-ghost use Rattle.sfm_spec.specs.Terms.{exchanged};
-ghost use Rattle.sfm_spec.specs.Walks.{Step, Joins, IsFewWalks, few_walks, last_of};
-ghost use Rattle.sfm_walk.specs.Counted.{IsCounted};
-ghost use Rattle.sfm_exchange.specs.Graph.{IsClaimed, IsShaped};
-ghost use Rattle.sfm_exchange.specs.Hops.{steps_of};
-ghost use Rattle.sfm_exchange.specs.Levels.{depth_of};
-ghost use Rattle.sfm_walk.specs.Run.{AreAdvanced, IsLeastWalk, IsRunAt};
-ghost use Rattle.sfm_exchange.specs.Signs.{AreMoved, AreSigns};
+ghost use Rattle.std.specs.{Prelude.{◌≡◌, ◌+◌, ◌*◌, ◌^◌, ◌≢◌, ◌<◌, ◌≤◌, ℕ, ℤ, List, map, pos, neg_ℤ, ◌≤ℤ◌, length, OnOk, IfOk, slice_index_or}, List.{All}};
+ghost use Rattle.sfm_spec.specs.{Sets.{magnitudes}, Bounds.{AreBounded, IsAtMost, IsEntry, IsFactor}, Families.{meanings, even_shift, rest_at, deficit, AreBases, Prove}, Terms.{exchanged}, Walks.{Step, Joins, IsFewWalks, few_walks, last_of}};
+ghost use Rattle.sfm_walk.specs.{Counted.{IsCounted}, Run.{AreAdvanced, IsLeastWalk, IsRunAt}};
+ghost use Rattle.sfm_exchange.specs.{Graph.{IsClaimed, IsShaped}, Hops.{steps_of}, Levels.{depth_of}, Signs.{AreMoved, AreSigns}};
 
 use crate::rest::{most_of, move_rest};
 use crate::run::Run;

@@ -1,8 +1,6 @@
 // z at the two ends of a walk: how much it allows to be moved, and z brought up once that has moved.
-ghost use Rattle.std.specs.Prelude.{◌≡◌, ◌≢◌, ◌<ℤ◌, ℕ, ◌<◌, ◌*◌, ◌^◌, ℤ, length, slice_index_or, pos, neg_ℤ, ◌≤ℤ◌};
-ghost use Rattle.std.specs.List.{All};
-ghost use Rattle.sfm_spec.specs.Bounds.{IsAtMost};
-ghost use Rattle.sfm_spec.specs.Terms.{exchanged};
+ghost use Rattle.std.specs.{Prelude.{◌≡◌, ◌≢◌, ◌<ℤ◌, ℕ, ◌<◌, ◌*◌, ◌^◌, ℤ, length, slice_index_or, pos, neg_ℤ, ◌≤ℤ◌}, List.{All}};
+ghost use Rattle.sfm_spec.specs.{Bounds.{IsAtMost}, Terms.{exchanged}};
 
 /// The most that the ends of a walk allow.
 pub fn most_of(z: &[i128], first: usize, last: usize) -> i128

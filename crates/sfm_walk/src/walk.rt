@@ -2,13 +2,9 @@
 // z > 0 has fewer steps, and each step is the least of those that lead on. The search takes the rows that are claimed as they
 // are: they lack no step, so where all steps of its walk are true ones, it is such a walk, and where it finds none, none joins.
 // Each walk that is refused leaves fewer rows claimed.
-ghost use Rattle.std.specs.Prelude.{◌≡◌, ◌<◌, ℕ, List, length, true, false, OnOk, IfOk};
-ghost use Rattle.std.specs.List.{All};
-ghost use Rattle.sfm_spec.specs.Bounds.{IsEntry};
-ghost use Rattle.sfm_spec.specs.Families.{meanings};
-ghost use Rattle.sfm_spec.specs.Walks.{Step, Joins};
-ghost use Rattle.sfm_exchange.specs.Levels.{depth_of};
-ghost use Rattle.sfm_exchange.specs.Graph.{IsClaimed};
+ghost use Rattle.std.specs.{Prelude.{◌≡◌, ◌<◌, ℕ, List, length, true, false, OnOk, IfOk}, List.{All}};
+ghost use Rattle.sfm_spec.specs.{Bounds.{IsEntry}, Families.{meanings}, Walks.{Step, Joins}};
+ghost use Rattle.sfm_exchange.specs.{Levels.{depth_of}, Graph.{IsClaimed}};
 ghost use Rattle.sfm_walk.specs.Run.{IsLeastWalk, IsRunAt};
 
 use crate::run::Run;

@@ -1,9 +1,7 @@
 // What the program can be asked for, and why the words may ask for nothing.
 ghost use Rattle.std.specs.Prelude.{◌≡◌};
-ghost use Rattle.clap.specs.Words.{kind_of};
-ghost use Rattle.clap.specs.declared.error.kind.ErrorKind.TheVariants.{OutOfMemory};
-ghost use Rattle.sfm_words.specs.Command.{IsToldAs};
-ghost use Rattle.sfm_words.specs.declared.command.Refusal.TheVariants.{Memory};
+ghost use Rattle.clap.specs.{Words.{kind_of}, declared.error.kind.ErrorKind.TheVariants.{OutOfMemory}};
+ghost use Rattle.sfm_words.specs.{Command.{IsToldAs}, declared.command.Refusal.TheVariants.{Memory}};
 
 use clap::error::ErrorKind;
 use std::alloc::AllocError;

@@ -1,7 +1,6 @@
 // The command line of the program as clap is told of it: two subcommands with the names of files, and one with a seed.
 ghost use Rattle.std.specs.Prelude.{◌≡◌, IfOk, codes, false};
-ghost use Rattle.clap.specs.Words.{App, app_of, rule_of, with_subcommand};
-ghost use Rattle.clap.specs.declared.builder.command.Command.TheViews.{out-Command as fields_of};
+ghost use Rattle.clap.specs.{Words.{App, app_of, rule_of, with_subcommand}, declared.builder.command.Command.TheViews.{out-Command as fields_of}};
 ghost use Rattle.sfm_words.specs.Line.{program, word_rule, solve_line, check_line, demo_line, sfm_line};
 
 use clap::builder::ValueParser;

@@ -1,9 +1,7 @@
 // The command that the words ask for: the subcommand in clap's matches of them, with its arguments.
 ghost use Rattle.std.specs.Prelude.{◌≡◌, ◌≤◌, ℕ, List, [], true, codes, map, option_map, option_and_then, IfOk, IfErr, MatchResult};
 ghost use Rattle.clap.specs.Words.{HasMatchesOf, fault_of, first_of, found_of, one_of, rows_of, subcommand_rows_of, takes};
-ghost use Rattle.sfm_words.specs.Command.{Asks, IsForm, IsNotTaken, check, command_by, command_of, demo, number_of, solve};
-ghost use Rattle.sfm_words.specs.Command.{Command as Asked};
-ghost use Rattle.sfm_words.specs.Line.{sfm_line};
+ghost use Rattle.sfm_words.specs.{Command.{Asks, IsForm, IsNotTaken, check, command_by, command_of, demo, number_of, solve}, Command.{Command as Asked}, Line.{sfm_line}};
 
 use crate::command::{Command, Refusal};
 use crate::line::command_line;

@@ -1,9 +1,7 @@
 // The engine on small instances, against every set, and how many walks it takes. Every set is tried here, and nowhere else;
 // a set is a number whose bit e says whether it has the place e.
-ghost use Rattle.std.specs.Prelude.{pos, length, map, ◌^◌, ◌≤ℤ◌, IfOk, IfSome, IsTrue};
-ghost use Rattle.std.specs.List.{All};
-ghost use Rattle.sfm_spec.specs.Bounds.{IsEntry};
-ghost use Rattle.sfm_spec.specs.Families.{meanings, AreBases};
+ghost use Rattle.std.specs.{Prelude.{pos, length, map, ◌^◌, ◌≤ℤ◌, IfOk, IfSome, IsTrue}, List.{All}};
+ghost use Rattle.sfm_spec.specs.{Bounds.{IsEntry}, Families.{meanings, AreBases}};
 ghost use Rattle.sfm_kind.specs.Kinds.{kind_places, kind_size, kind_value};
 ghost use Rattle.sfm_cert.specs.Form.{AreFormedRows};
 
