@@ -91,13 +91,29 @@ def name_of(line):
     return words[0] if words else line
 
 
+def entries_of(source, listed):
+    """What the braces behind a module hold, with the module of each name: names, or modules with braces of their own."""
+    depth, entry = 0, ""
+    for sign in listed + ",":
+        depth += (sign == "{") - (sign == "}")
+        if sign != "," or depth:
+            entry += sign
+            continue
+        inner = re.fullmatch(r"\s*([\w.]+)\.\{(.*)\}\s*", entry)
+        if inner:
+            yield from entries_of(source + "." + inner[1], inner[2])
+        elif entry.strip():
+            yield source, entry.strip()
+        entry = ""
+
+
 def imports_of(text):
     """What `use` lines bring: names with the module and the name there, and short names of whole modules."""
     names, modules = {}, {}
-    for source, listed in re.findall(r"^(?:pub |ghost )?use Rattle\.([\w.]+?)\.\{([^}]*)\}", text, re.M):
-        for entry in filter(None, (part.strip() for part in listed.split(","))):
+    for source, listed in re.findall(r"^(?:pub |ghost )?use Rattle\.([\w.]+?)\.\{(.*)\};?$", text, re.M):
+        for origin, entry in entries_of(source, listed):
             there, _, here = entry.partition(" as ")
-            names[(here or there).strip()] = (source, there.strip())
+            names[(here or there).strip()] = (origin, there.strip())
     for source, short in re.findall(r"^(?:pub |ghost )?use Rattle\.([\w.]+) as (\w+)$", text, re.M):
         modules[short] = source
     return names, modules
