@@ -1,31 +1,32 @@
--- The words of `solve`, of `check` and of `demo`: where clap finds no fault it takes them, and finds the command.
-use Rattle.std.proofs.Common.{◌^◌, ◌≡◌, ◌⊎◌, ◌==◌, ◌||◌, ℕ, Bool, List, [], ◌∷◌, refl, true, false, Some, None, inl, inr, codes, cond}
-use Rattle.std.specs.Prelude.{nat_lt}
+-- The words behind that of a subcommand, for each form of them: where clap finds no fault it takes
+-- them, and finds a command; and where they are plain, theirs.
+use Rattle.std.proofs.Common.{◌^◌, ◌≡◌, ◌≤◌, ◌⊎◌, ◌==◌, ◌||◌, ℕ, Bool, List, [], ◌∷◌, refl, true, false, Some, None, inl, inr, codes, cond}
+use Rattle.std.specs.Prelude.{⊤, nat_lt}
+use Rattle.std.specs.Map.{lookup}
 use Rattle.std.specs.Str.{bytes_eq}
 use Rattle.std.specs.Str.Parse.{digits_value, without_leading_plus}
 use Rattle.std.proofs.lemmas.Bool.{leb-true}
+use Rattle.std.proofs.lemmas.Slice.Eq.{bytes_eq-Decides}
 use Rattle.clap.specs.Words.{Rule, Shape, Text}
-use Rattle.clap.specs.Walk.{Row, arg_by_long, arg_by_short, used, value}
-use Rattle.clap.specs.Takes.{step_passes}
-use Rattle.clap.specs.Simple.{built_leaf, filled, inherited, with_leaf_noted}
-use Rattle.clap.specs.Faults.{settle_fault, defaults_fault, step_fault}
-use Rattle.clap.specs.Kinds.{or_else}
-use Rattle.clap.specs.ValueTests.{is_numeral, is_unsigned_in}
-use Rattle.clap.specs.declared.error.kind.ErrorKind.TheVariants.{ValueValidation}
-use Rattle.clap.proofs.WalkLemmas.{both}
+use Rattle.clap.specs.Walk.{arg_by_long, arg_by_short}
+use Rattle.clap.specs.Simple.{built_leaf, inherited, with_leaf_noted}
+use Rattle.clap.specs.ValueTests.{accepts, is_numeral}
+use Rattle.clap.specs.declared.builder.value_parser.ValueParser.{ValueParser}
 use Rattle.clap.specs.declared.builder.value_parser.ValueParser.TheVariants.{NonEmptyString, Unsigned}
-use Rattle.sfm_words.specs.Line.{check_line, demo_line, sfm_line, solve_line, word_rule}
-use Rattle.sfm_words.specs.Command.{check, demo, solve}
-use Rattle.sfm_words.proofs.Turns.{none_of, HasHelpOnly, help, at, not_none, holding, some_word}
-use Rattle.sfm_words.proofs.Levels.{HoldsCommand, end_fault, IsFree, Reaches, after, full, one}
+use Rattle.clap.proofs.WalkLemmas.{both}
+use Rattle.sfm_words.specs.Line.{line_of, sfm_line}
+use Rattle.sfm_words.specs.Command.{Command}
+use Rattle.sfm_words.specs.Subcommand.{Maker, one, two, three, number, subcommands}
+use Rattle.sfm_words.proofs.Turns.{HasHelpOnly, help, not_none, holding}
+use Rattle.sfm_words.proofs.Levels.{Ends, Handles, HasSmallSeed, HoldsCommand, Then, handles_end, handles_place}
+use Rattle.sfm_words.proofs.Places.{IsHeld, has_place, holds, nothing, row, taken_at_end, waiting}
 
 -- a subcommand as it is built
-abbrev built_sub : Shape → Shape
-built_sub s = built_leaf (inherited (with_leaf_noted (record sfm_line.top { is_built = true })) s)
+abbrev pub sub_of : Text → Maker → Shape
+sub_of verb maker = built_leaf (inherited (with_leaf_noted (record sfm_line.top { is_built = true })) (line_of (verb, maker)).top)
 
--- the place of an argument of one word
-abbrev place : ℕ → Text → Rule
-place i id = record (filled (word_rule NonEmptyString id)) { index = Some i }
+same : (a : Text) → bytes_eq a a ≡ true
+same a = (bytes_eq-Decides a a).1 refl
 
 help_or_none : (b : Bool) → (cond b (Some help) None ≡ None) ⊎ (cond b (Some help) None ≡ Some help)
 help_or_none true = inr refl
@@ -39,111 +40,161 @@ has_help_only rules long short = record {
   short = λ x. rw (short x) (help_or_none _);
 }
 
--- ---- solve
+-- ---- the words of each form
 
-abbrev pub solve_sub : Shape
-solve_sub = built_sub solve_line.top
+-- words that are read, and plain ones that are a command's
+abbrev pub HandlesWords : Shape → (List Text → Command → Type 0) → Type 0
+HandlesWords s Plain = Handles s [] None 1 ⊤ Plain
 
-solve_helps : HasHelpOnly solve_sub.rules
-solve_helps = has_help_only _ (λ name. refl) (λ x. refl)
+abbrev name : ValueParser
+name = NonEmptyString
 
-solve_holds : (word : Text) → end_fault solve_sub (holding [] (Some (codes "FILE", word ∷ []))) ≡ [] → HoldsCommand solve_sub (holding [] (Some (codes "FILE", word ∷ [])))
-unfolding defaults_fault
-solve_holds [] e = absurd (not_none _ _ e)
-solve_holds (x ∷ xs) e = record { passes = rw (some_word x xs) refl; command = solve (x ∷ xs); found = refl; small = tt }
+-- a whole number that the line takes
+abbrev whole : ValueParser
+whole = Unsigned 0 999999999
 
-pub solve_words : (is_trailing : Bool) (words : List Text) → IsFree solve_sub (at [] None 1 is_trailing) words → Reaches solve_sub (at [] None 1 is_trailing) words
-unfolding defaults_fault
-solve_words = one solve_sub solve_helps [] None 1 (place 1 (codes "FILE")) refl (λ _. refl) (λ e. not_none _ _ e) then
-  where
-    then : (is_trailing : Bool) (word : Text) (words : List Text) → IsFree solve_sub (after solve_sub solve_helps [] None 1 (place 1 (codes "FILE")) is_trailing word) words
-        → Reaches solve_sub (after solve_sub solve_helps [] None 1 (place 1 (codes "FILE")) is_trailing word) words
-    then true word = full solve_sub solve_helps [] (Some (codes "FILE", word ∷ [])) 2 refl (solve_holds word) true
-    then false word = full solve_sub solve_helps [] (Some (codes "FILE", word ∷ [])) 2 refl (solve_holds word) false
+-- the number of a text
+abbrev pub value_of : Text → ℕ
+value_of text = digits_value 10 (without_leading_plus text)
 
--- ---- check
+module _ (verb a : Text) (make : Text → Command)
+    (listed : lookup (λ word. bytes_eq word verb) subcommands ≡ Some (one a make))
+    (small : (x : Text) → HasSmallSeed (make x)) where
+  abbrev one_sub : Shape
+  one_sub = sub_of verb (one a make)
 
-abbrev pub check_sub : Shape
-check_sub = built_sub check_line.top
+  one_helps : HasHelpOnly one_sub.rules
+  one_helps = has_help_only _ (λ long. refl) (λ short. refl)
 
-check_helps : HasHelpOnly check_sub.rules
-check_helps = has_help_only _ (λ name. refl) (λ x. refl)
+  one_a : (x : Text) → IsHeld one_sub [] (Some (a, x ∷ [])) (accepts false name x ≡ true)
+      (row name a x ∷ [])
+  one_a x = waiting name 1 a [] _ x (rw (same a) refl) refl refl
 
-file_row : Text → List Row
-file_row file = used (place 1 (codes "FILE")) (file ∷ []) []
+  one_words : HandlesWords one_sub (Then name (λ x. Ends (make x)))
+  one_words = handles_place one_sub one_helps [] None 1
+      (has_place nothing refl name 1 a refl refl refl (λ e. not_none _ _ e)) name _ (λ x.
+      handles_end one_sub one_helps [] (Some (a, x ∷ [])) 2 (make x) refl (taken_at_end (one_a x))
+      (holds (one_a x) refl (make x) refl (rw (same a) refl) (rw (listed, same a) refl) (small x)))
 
-check_holds : (file word : Text) → end_fault check_sub (holding (file_row file) (Some (codes "ANSWER", word ∷ []))) ≡ []
-    → HoldsCommand check_sub (holding (file_row file) (Some (codes "ANSWER", word ∷ [])))
-unfolding defaults_fault file_row
-check_holds file [] e = absurd (not_none _ _ e)
-check_holds file (x ∷ xs) e = record { passes = rw (some_word x xs) refl; command = check file (x ∷ xs); found = refl; small = tt }
+module _ (verb a b : Text) (make : Text → Text → Command)
+    (listed : lookup (λ word. bytes_eq word verb) subcommands ≡ Some (two a b make))
+    (ab : bytes_eq a b ≡ false) (small : (x y : Text) → HasSmallSeed (make x y)) where
+  abbrev two_sub : Shape
+  two_sub = sub_of verb (two a b make)
 
--- the file's name passes, where the next word finds no fault in it
-file_passes : (file : Text) → step_fault check_sub 2 (holding [] (Some (codes "FILE", file ∷ []))) value ≡ []
-    → step_passes check_sub 2 (holding [] (Some (codes "FILE", file ∷ []))) value ≡ true
-file_passes [] e = absurd (not_none _ _ e)
-file_passes (x ∷ xs) e = rw (some_word x xs) refl
+  two_helps : HasHelpOnly two_sub.rules
+  two_helps = has_help_only _ (λ long. refl) (λ short. refl)
 
-pub check_words : (is_trailing : Bool) (words : List Text) → IsFree check_sub (at [] None 1 is_trailing) words → Reaches check_sub (at [] None 1 is_trailing) words
-unfolding defaults_fault file_row
-check_words = one check_sub check_helps [] None 1 (place 1 (codes "FILE")) refl (λ _. refl) (λ e. not_none _ _ e) then
-  where
-    last : (file : Text) (is_trailing : Bool) (word : Text) (words : List Text)
-        → IsFree check_sub (after check_sub check_helps [] (Some (codes "FILE", file ∷ [])) 2 (place 2 (codes "ANSWER")) is_trailing word) words
-        → Reaches check_sub (after check_sub check_helps [] (Some (codes "FILE", file ∷ [])) 2 (place 2 (codes "ANSWER")) is_trailing word) words
-    last file true word = full check_sub check_helps (file_row file) (Some (codes "ANSWER", word ∷ [])) 3 refl (check_holds file word) true
-    last file false word = full check_sub check_helps (file_row file) (Some (codes "ANSWER", word ∷ [])) 3 refl (check_holds file word) false
+  two_a : (x : Text) → IsHeld two_sub [] (Some (a, x ∷ [])) (accepts false name x ≡ true)
+      (row name a x ∷ [])
+  two_a x = waiting name 1 a [] _ x (rw (same a) refl) refl refl
 
-    no_answer : (file : Text) → end_fault check_sub (holding [] (Some (codes "FILE", file ∷ []))) ≡ [] → ⊥
-    no_answer [] e = not_none _ _ e
-    no_answer (x ∷ xs) e = not_none _ _ (none_of (settle_fault check_sub.rules check_sub.args_override_self (holding [] (Some (codes "FILE", (x ∷ xs) ∷ [])))) _ e).1
+  two_b : (x y : Text) → IsHeld two_sub (row name a x ∷ []) (Some (b, y ∷ []))
+      (accepts false name y ≡ true) (row name a x ∷ row name b y ∷ [])
+  two_b x y = waiting name 2 b _ _ y (rw (ab, same b) refl) (rw ab refl) (rw (ab, ab) refl)
 
-    then : (is_trailing : Bool) (word : Text) (words : List Text) → IsFree check_sub (after check_sub check_helps [] None 1 (place 1 (codes "FILE")) is_trailing word) words
-        → Reaches check_sub (after check_sub check_helps [] None 1 (place 1 (codes "FILE")) is_trailing word) words
-    then true word = one check_sub check_helps [] (Some (codes "FILE", word ∷ [])) 2 (place 2 (codes "ANSWER")) refl (file_passes word) (no_answer word) (last word) true
-    then false word = one check_sub check_helps [] (Some (codes "FILE", word ∷ [])) 2 (place 2 (codes "ANSWER")) refl (file_passes word) (no_answer word) (last word) false
+  two_words : HandlesWords two_sub (Then name (λ x. Then name (λ y. Ends (make x y))))
+  two_words = handles_place two_sub two_helps [] None 1
+      (has_place nothing refl name 1 a refl refl refl (λ e. not_none _ _ e)) name _ (λ x.
+      handles_place two_sub two_helps [] (Some (a, x ∷ [])) 2
+      (has_place (two_a x) refl name 2 b refl ab refl
+      (λ e. not_none _ _ (rw (same a, ab) at e))) name _ (λ y.
+      handles_end two_sub two_helps _ (Some (b, y ∷ [])) 3 (make x y) refl
+      (taken_at_end (two_b x y)) (holds (two_b x y) refl (make x y) refl
+      (rw (same a, ab, same b) refl) (rw (listed, same a, ab, same b) refl) (small x y))))
 
--- ---- demo
+module _ (verb a b c : Text) (make : Text → Text → Text → Command)
+    (listed : lookup (λ word. bytes_eq word verb) subcommands ≡ Some (three a b c make))
+    (ab : bytes_eq a b ≡ false) (ac : bytes_eq a c ≡ false) (bc : bytes_eq b c ≡ false)
+    (small : (x y z : Text) → HasSmallSeed (make x y z)) where
+  abbrev three_sub : Shape
+  three_sub = sub_of verb (three a b c make)
 
-abbrev pub demo_sub : Shape
-demo_sub = built_sub demo_line.top
+  three_helps : HasHelpOnly three_sub.rules
+  three_helps = has_help_only _ (λ long. refl) (λ short. refl)
 
-demo_helps : HasHelpOnly demo_sub.rules
-demo_helps = has_help_only _ (λ name. refl) (λ x. refl)
+  three_a : (x : Text) → IsHeld three_sub [] (Some (a, x ∷ [])) (accepts false name x ≡ true)
+      (row name a x ∷ [])
+  three_a x = waiting name 1 a [] _ x (rw (same a) refl) refl refl
 
--- the place of the seed
-abbrev seed_place : Rule
-seed_place = record (filled (word_rule (Unsigned 0 999999999) (codes "SEED"))) { index = Some 1 }
+  three_b : (x y : Text) → IsHeld three_sub (row name a x ∷ []) (Some (b, y ∷ []))
+      (accepts false name y ≡ true) (row name a x ∷ row name b y ∷ [])
+  three_b x y = waiting name 2 b _ _ y (rw (ab, same b) refl) (rw ab refl) (rw (ab, ab) refl)
 
--- a value that is no fault is a number that the line takes
-number_in : (word : Text) → settle_fault demo_sub.rules demo_sub.args_override_self (holding [] (Some (codes "SEED", word ∷ []))) ≡ [] → is_unsigned_in 0 999999999 word ≡ true
-number_in word e = go (is_unsigned_in 0 999999999 word) e
-  where
-    go : (b : Bool) → or_else (cond b [] (ValueValidation ∷ [])) [] ≡ [] → b ≡ true
-    go true e = refl
-    go false e = absurd (not_none _ _ e)
+  three_c : (x y z : Text) → IsHeld three_sub (row name a x ∷ row name b y ∷ [])
+      (Some (c, z ∷ [])) (accepts false name z ≡ true)
+      (row name a x ∷ row name b y ∷ row name c z ∷ [])
+  three_c x y z = waiting name 3 c _ _ z (rw (ac, bc, same c) refl) (rw (ac, bc) refl)
+      (rw (ac, bc, ac, bc) refl)
 
-demo_holds : (word : Text) → end_fault demo_sub (holding [] (Some (codes "SEED", word ∷ []))) ≡ [] → HoldsCommand demo_sub (holding [] (Some (codes "SEED", word ∷ [])))
-unfolding defaults_fault
-demo_holds word e =
-    let digits = without_leading_plus word in
-    let is = number_in word (none_of _ _ e).0 in
-    let read = both _ _ is in
-    let bounds = both _ _ read.1 in
-    let numeral : is_numeral digits ≡ true = read.0 in
-    let fits : nat_lt (digits_value 10 digits) (2 ^ 64) ≡ true = bounds.0 in
-    record {
-      passes = rw is refl;
-      command = demo (digits_value 10 digits);
-      found = rw (numeral, fits) refl;
-      small = leb-true _ _ (both _ _ bounds.1).1;
-    }
+  three_words : HandlesWords three_sub
+      (Then name (λ x. Then name (λ y. Then name (λ z. Ends (make x y z)))))
+  three_words = handles_place three_sub three_helps [] None 1
+      (has_place nothing refl name 1 a refl refl refl (λ e. not_none _ _ e)) name _ (λ x.
+      handles_place three_sub three_helps [] (Some (a, x ∷ [])) 2
+      (has_place (three_a x) refl name 2 b refl ab refl
+      (λ e. not_none _ _ (rw (same a, ab) at e))) name _ (λ y.
+      handles_place three_sub three_helps _ (Some (b, y ∷ [])) 3
+      (has_place (three_b x y) refl name 3 c refl bc refl
+      (λ e. not_none _ _ (rw (same a, ab, same b, ac, bc) at e))) name _ (λ z.
+      handles_end three_sub three_helps _ (Some (c, z ∷ [])) 4 (make x y z) refl
+      (taken_at_end (three_c x y z)) (holds (three_c x y z) refl (make x y z) refl
+      (rw (same a, ab, same b, ac, bc, same c) refl)
+      (rw (listed, same a, ab, same b, ac, bc, same c) refl) (small x y z)))))
 
-pub demo_words : (is_trailing : Bool) (words : List Text) → IsFree demo_sub (at [] None 1 is_trailing) words → Reaches demo_sub (at [] None 1 is_trailing) words
-unfolding defaults_fault
-demo_words = one demo_sub demo_helps [] None 1 seed_place refl (λ _. refl) (λ e. not_none _ _ e) then
-  where
-    then : (is_trailing : Bool) (word : Text) (words : List Text) → IsFree demo_sub (after demo_sub demo_helps [] None 1 seed_place is_trailing word) words
-        → Reaches demo_sub (after demo_sub demo_helps [] None 1 seed_place is_trailing word) words
-    then true word = full demo_sub demo_helps [] (Some (codes "SEED", word ∷ [])) 2 refl (demo_holds word) true
-    then false word = full demo_sub demo_helps [] (Some (codes "SEED", word ∷ [])) 2 refl (demo_holds word) false
+module _ (verb a : Text) (make : ℕ → Command)
+    (listed : lookup (λ word. bytes_eq word verb) subcommands ≡ Some (number a make))
+    (small : (n : ℕ) → n ≤ 999999999 → HasSmallSeed (make n)) where
+  abbrev number_sub : Shape
+  number_sub = sub_of verb (number a make)
+
+  number_helps : HasHelpOnly number_sub.rules
+  number_helps = has_help_only _ (λ long. refl) (λ short. refl)
+
+  number_a : (x : Text) → IsHeld number_sub [] (Some (a, x ∷ [])) (accepts false whole x ≡ true)
+      (row whole a x ∷ [])
+  number_a x = waiting whole 1 a [] _ x (rw (same a) refl) refl refl
+
+  number_holds : (x : Text) → accepts false whole x ≡ true
+      → HoldsCommand number_sub (holding [] (Some (a, x ∷ []))) (make (value_of x))
+  number_holds x is =
+      let read = both _ _ is in
+      let bounds = both _ _ read.1 in
+      let numeral : is_numeral (without_leading_plus x) ≡ true = read.0 in
+      let fits : nat_lt (value_of x) (2 ^ 64) ≡ true = bounds.0 in
+      holds (number_a x) refl (make (value_of x)) refl (rw (same a) refl)
+      (rw (listed, same a, numeral, fits) refl)
+      (small (value_of x) (leb-true _ _ (both _ _ bounds.1).1)) is
+
+  number_words : HandlesWords number_sub (Then whole (λ x. Ends (make (value_of x))))
+  number_words = handles_place number_sub number_helps [] None 1
+      (has_place nothing refl whole 1 a refl refl refl (λ e. not_none _ _ e)) whole _ (λ x.
+      handles_end number_sub number_helps [] (Some (a, x ∷ [])) 2 (make (value_of x)) refl
+      (taken_at_end (number_a x)) (number_holds x))
+
+-- ---- any form
+
+-- the names of the arguments are apart, and the line takes the seed of a command that has one
+abbrev pub IsGood : Maker → Type 0
+IsGood (one a make) = (x : Text) → HasSmallSeed (make x)
+IsGood (two a b make) = (bytes_eq a b ≡ false) × ((x y : Text) → HasSmallSeed (make x y))
+IsGood (three a b c make) = (bytes_eq a b ≡ false) × (bytes_eq a c ≡ false)
+    × (bytes_eq b c ≡ false) × ((x y z : Text) → HasSmallSeed (make x y z))
+IsGood (number a make) = (n : ℕ) → n ≤ 999999999 → HasSmallSeed (make n)
+
+-- words that are plainly those of the form, and their command
+abbrev pub PlainWords : Maker → List Text → Command → Type 0
+PlainWords (one a make) = Then name (λ x. Ends (make x))
+PlainWords (two a b make) = Then name (λ x. Then name (λ y. Ends (make x y)))
+PlainWords (three a b c make) =
+    Then name (λ x. Then name (λ y. Then name (λ z. Ends (make x y z))))
+PlainWords (number a make) = Then whole (λ x. Ends (make (value_of x)))
+
+pub handles_words : (verb : Text) (maker : Maker)
+    → lookup (λ word. bytes_eq word verb) subcommands ≡ Some maker → IsGood maker
+    → HandlesWords (sub_of verb maker) (PlainWords maker)
+handles_words verb (one a make) listed small = one_words verb a make listed small
+handles_words verb (two a b make) listed (ab, small) = two_words verb a b make listed ab small
+handles_words verb (three a b c make) listed (ab, ac, bc, small) =
+    three_words verb a b c make listed ab ac bc small
+handles_words verb (number a make) listed small = number_words verb a make listed small

@@ -1,7 +1,9 @@
--- The words of the whole command line: where clap finds no fault it takes them, and its matches hold a command.
-use Rattle.std.proofs.Common.{◌≡◌, ◌∙◌, ◌==◌, ◌<◌, ◌^◌, ℕ, lt-ltb, le-leb, Bool, List, [], ◌∷◌, ◌++◌, arith, refl, sym, ap, subst, true, false, Some, None, inl, inr, codes}
-use Rattle.std.specs.Prelude.{length, nat_le, nat_lt, find, fold, is_some, option_and_then, option_map}
-use Rattle.std.specs.Option.{option_map_or}
+-- The words of the whole command line: where clap finds no fault it takes them, and its matches hold a command; and so it does where they are
+-- of a plain form.
+use Rattle.std.proofs.Common.{◌≡◌, ◌∙◌, ◌==◌, ◌<◌, ◌^◌, true≢false, ℕ, lt-ltb, le-leb, Bool, List, [], ◌∷◌, ◌++◌, arith, refl, sym, ap, cond, map, subst, true, false, Option, Some, None, inl, inr, codes}
+use Rattle.std.specs.Prelude.{⊤, nat_le, nat_lt, find, fold, is_some, option_and_then, option_map}
+use Rattle.std.specs.Map.{lookup}
+use Rattle.std.specs.Option.{option_map_or, unwrap_or}
 use Rattle.std.specs.Str.{bytes_eq}
 use Rattle.std.proofs.lemmas.Slice.Eq.{bytes_eq-Decides}
 use Rattle.std.proofs.lemmas.Bool.Decides.{Decides-eqb}
@@ -9,21 +11,21 @@ use Rattle.std.specs.Str.Parse.{digits_value, without_leading_plus}
 use Rattle.std.proofs.lemmas.Int.Digits.{digits_value-lt}
 use Rattle.std.proofs.lemmas.Str.Parse.{digit_from_value, without_leading_plus_none}
 use Rattle.std.proofs.Math.Nat.{pow-le-pow_right}
-use Rattle.clap.specs.ValueTests.{is_numeral}
-use Rattle.clap.specs.Lexer.{long_of, short_of}
-use Rattle.clap.proofs.OnLiterals.{clap_on_literals}
 use Rattle.clap.specs.Words.{Shape, Text, built}
+use Rattle.clap.specs.ValueTests.{is_numeral}
+use Rattle.clap.specs.declared.builder.value_parser.ValueParser.TheVariants.{NonEmptyString, Unsigned}
 use Rattle.clap.specs.Walk.{Names, Walk, answers_to, nothing_held, subcommand_met, idle, walk_from, walked}
-use Rattle.clap.specs.Simple.{entered, label_of, names_of, rows_at}
+use Rattle.clap.specs.Simple.{built_leaf, entered, help_shape, label_of, names_of, rows_at}
 use Rattle.clap.specs.Faults.{defaults_fault, entered_fault, fault_of, is_simple_and_free, level_fault, turn_fault, walk_fault}
 use Rattle.clap.specs.Takes.{entered_passes, level_passes, turn_passes, walk_passes}
-use Rattle.clap.proofs.WalkLemmas.{walk_stopped}
+use Rattle.clap.proofs.WalkLemmas.{find-map, walk_stopped}
 use Rattle.sfm_words.specs.Command.{Asks, Command, IsFileName, IsForm, IsSeed, check, command_by, demo, solve}
+use Rattle.sfm_words.specs.Subcommand.{Maker, subcommands}
 use Rattle.sfm_words.specs.Line.{sfm_line}
 use Rattle.sfm_words.proofs.Numbers.{numeral_told}
 use Rattle.sfm_words.proofs.Turns.{HasHelpOnly, at, dashes, dashes_or_value, none_of, not_none, value_fault, some_word}
-use Rattle.sfm_words.proofs.Levels.{HasSmallSeed, IsFree, Reaches}
-use Rattle.sfm_words.proofs.Forms.{check_sub, check_words, demo_sub, demo_words, has_help_only, solve_sub, solve_words}
+use Rattle.sfm_words.proofs.Levels.{Handles, HasSmallSeed, IsFree, IsPlain, Reaches}
+use Rattle.sfm_words.proofs.Forms.{IsGood, PlainWords, handles_words, has_help_only, sub_of, value_of}
 
 pub line_is_simple : is_simple_and_free sfm_line ≡ true
 line_is_simple = refl
@@ -33,6 +35,13 @@ top = (built sfm_line).top
 
 abbrev names : Names
 names = names_of (built sfm_line)
+
+-- the subcommand for help, as it is built
+abbrev help_sub : Shape
+help_sub = built_leaf help_shape
+
+some_not_none : {X : Type 0} (x : X) → Some x ≡ None → ⊥
+some_not_none x e = true≢false (ap (λ o. is_some o) e)
 
 -- the walk that has met a subcommand
 abbrev met_with : Text → List Text → Walk
@@ -47,9 +56,63 @@ stopped_passes s ns w p (x ∷ xs) = stopped_passes s ns w (p.0, p.1 ++ x ∷ []
 abbrev pub AskSome : List Text → Type 0
 AskSome words = (command : Command) × Asks words command × HasSmallSeed command
 
--- a verb, and the subcommand that it names
-module _ (verb : Text) (sub : Shape) (first : walked top.rules names (walk_from nothing_held) verb ≡ met_with verb [])
-    (passes : turn_passes top names (walk_from nothing_held) verb ≡ true) (named : find (λ s. answers_to verb (label_of s)) (built sfm_line).subs ≡ Some sub) where
+-- ---- the table
+
+-- a subcommand is found by its name as in the table
+finds : (rest : List Shape) (word : Text) (rows : List (Text × Maker)) → find (λ s. answers_to word (label_of s)) (map (λ row. sub_of row.0 row.1) rows ++ rest)
+    ≡ option_map_or (λ maker. Some (sub_of word maker)) (lookup (λ verb. bytes_eq verb word) rows) (find (λ s. answers_to word (label_of s)) rest)
+finds rest word [] = refl
+finds rest word (row ∷ rows) = go (bytes_eq row.0 word) refl (finds rest word rows)
+  where
+    go : (b : Bool) → bytes_eq row.0 word ≡ b → find (λ s. answers_to word (label_of s)) (map (λ row. sub_of row.0 row.1) rows ++ rest)
+        ≡ option_map_or (λ maker. Some (sub_of word maker)) (lookup (λ verb. bytes_eq verb word) rows) (find (λ s. answers_to word (label_of s)) rest)
+        → find (λ s. answers_to word (label_of s)) (map (λ row. sub_of row.0 row.1) (row ∷ rows) ++ rest)
+        ≡ option_map_or (λ maker. Some (sub_of word maker)) (lookup (λ verb. bytes_eq verb word) (row ∷ rows)) (find (λ s. answers_to word (label_of s)) rest)
+    go true e more = rw e (ap (λ verb. Some (sub_of verb row.1)) ((bytes_eq-Decides row.0 word).0 e))
+    go false e more = rw e more
+
+-- each row is good
+abbrev AreGood : List (Text × Maker) → Type 0
+AreGood [] = ⊤
+AreGood (row ∷ rows) = IsGood row.1 × AreGood rows
+
+good_row : (word : Text) (maker : Maker) (rows : List (Text × Maker)) → AreGood rows → lookup (λ verb. bytes_eq verb word) rows ≡ Some maker → IsGood maker
+good_row word maker [] good e = absurd (some_not_none maker (sym e))
+good_row word maker (row ∷ rows) good e = go (bytes_eq row.0 word) e (good_row word maker rows good.1)
+  where
+    go : (b : Bool) → cond b (Some row.1) (lookup (λ verb. bytes_eq verb word) rows) ≡ Some maker
+        → (lookup (λ verb. bytes_eq verb word) rows ≡ Some maker → IsGood maker) → IsGood maker
+    go true e more = subst IsGood (ap (λ o. unwrap_or o maker) e) good.0
+    go false e more = more e
+
+all_good : AreGood subcommands
+all_good = (λ x. tt, ((refl, λ x y. tt), (λ n small. small, tt)))
+
+-- a verb of the table, and the subcommand that it names
+module _ (verb : Text) (maker : Maker) (listed : lookup (λ word. bytes_eq word verb) subcommands ≡ Some maker) where
+  abbrev sub : Shape
+  sub = sub_of verb maker
+
+  named : find (λ s. answers_to verb (label_of s)) (built sfm_line).subs ≡ Some sub
+  named = finds (help_sub ∷ []) verb subcommands ∙ ap (λ o. option_map_or (λ maker. Some (sub_of verb maker)) o (find (λ s. answers_to verb (label_of s)) (help_sub ∷ []))) listed
+
+  met : subcommand_met names idle verb ≡ Some verb
+  met = ap (λ o. option_map (λ (p : Text × List Text). p.0) o) (sym (find-map (answers_to verb) label_of (built sfm_line).subs) ∙ ap (λ o. option_map label_of o) named)
+
+  no_topic : bytes_eq verb (codes "help") ≡ false
+  no_topic = go (bytes_eq verb (codes "help")) refl
+    where
+      go : (b : Bool) → bytes_eq verb (codes "help") ≡ b → b ≡ false
+      go false e = refl
+      go true e = absurd (some_not_none maker (sym listed ∙ ap (λ v. lookup (λ word. bytes_eq word v) subcommands) ((bytes_eq-Decides verb (codes "help")).0 e)))
+
+  first : walked top.rules names (walk_from nothing_held) verb ≡ met_with verb []
+  unfolding walked
+  first = rw met refl
+
+  passes : turn_passes top names (walk_from nothing_held) verb ≡ true
+  passes = rw (met, no_topic) refl
+
   walk_is : (words : List Text) → fold (walked top.rules names) (walk_from nothing_held) (verb ∷ words) ≡ met_with verb words
   walk_is words = ap (λ w. fold (walked top.rules names) w words) first ∙ sym (walk_stopped top.rules names (at [] None 1 false) verb [] words)
 
@@ -64,14 +127,6 @@ module _ (verb : Text) (sub : Shape) (first : walked top.rules names (walk_from 
       let parts = none_of (walk_fault sub [] (walk_from nothing_held) words) _ below in
       record { walk = parts.0; end = parts.1 }
 
-  level_passes_of : (words : List Text) → Reaches sub (at [] None 1 false) words → level_passes sub [] nothing_held words false ≡ true
-  level_passes_of words r = rw (r.walk, r.end.passes) refl
-
-  entered_passes_of : (words : List Text) → Reaches sub (at [] None 1 false) words
-      → entered_passes (built sfm_line) (fold (walked top.rules names) (walk_from nothing_held) (verb ∷ words)).stopped ≡ true
-  entered_passes_of words r = ap (λ stop. entered_passes (built sfm_line) stop) (stop_is words)
-      ∙ ap (λ o. option_map_or (λ (s : Shape). level_passes s [] nothing_held words false) o true) named ∙ level_passes_of words r
-
   entered_is : (words : List Text) → entered (built sfm_line) (fold (walked top.rules names) (walk_from nothing_held) (verb ∷ words)).stopped ≡ Some (rows_at sub words)
   entered_is words = ap (λ stop. entered (built sfm_line) stop) (stop_is words) ∙ ap (λ o. option_map (λ (s : Shape). rows_at s words) o) named
 
@@ -83,33 +138,33 @@ module _ (verb : Text) (sub : Shape) (first : walked top.rules names (walk_from 
       let end : (fold (walked top.rules names) (walked top.rules names (walk_from nothing_held) verb) words).held ≡ nothing_held = ap (λ (w : Walk). w.held) (walk_is words) in
       rw (passes, rest, end) refl
 
-  asks : (words : List Text) (r : Reaches sub (at [] None 1 false) words) → Asks (verb ∷ words) r.end.command
-  asks words r =
-      let below = entered_passes_of words r in
+  -- words that reach a command ask for it
+  pub asks : (words : List Text) (command : Command) → Reaches sub (at [] None 1 false) words command → Asks (verb ∷ words) command
+  asks words command r =
+      let level : level_passes sub [] nothing_held words false ≡ true = rw (r.walk, r.end.passes) refl in
+      let below : entered_passes (built sfm_line) (fold (walked top.rules names) (walk_from nothing_held) (verb ∷ words)).stopped ≡ true =
+      ap (λ stop. entered_passes (built sfm_line) stop) (stop_is words)
+      ∙ ap (λ o. option_map_or (λ (s : Shape). level_passes s [] nothing_held words false) o true) named ∙ level in
       let above : level_passes top names nothing_held (verb ∷ words)
       (is_some (entered (built sfm_line) (fold (walked top.rules names) (walk_from nothing_held) (verb ∷ words)).stopped)) ≡ true =
       ap (λ o. level_passes top names nothing_held (verb ∷ words) (is_some o)) (entered_is words) ∙ top_passes words in
       (rw (below, above) refl, ap (option_and_then command_by) (entered_is words) ∙ r.end.found)
 
-  pub asks_some : ((words : List Text) → IsFree sub (at [] None 1 false) words → Reaches sub (at [] None 1 false) words)
-      → (words : List Text) → fault_of sfm_line (verb ∷ words) ≡ [] → AskSome (verb ∷ words)
-  asks_some reach words e =
-      let r = reach words (fault_below words e) in
-      (r.end.command, asks words r, r.end.small)
+  verb_words : Handles sub [] None 1 ⊤ (PlainWords maker)
+  verb_words = handles_words verb maker listed (good_row verb maker subcommands all_good listed)
+
+  -- so do words with no fault
+  verb_asks : (words : List Text) → fault_of sfm_line (verb ∷ words) ≡ [] → AskSome (verb ∷ words)
+  verb_asks words e =
+      let (command, r) = verb_words.free false words (fault_below words e) in
+      (command, asks words command r, r.end.small)
+
+  -- and plain words
+  plain_asks : (words : List Text) (command : Command) → PlainWords maker words command
+      → Asks (verb ∷ words) command
+  plain_asks words command is = asks words command (verb_words.plain tt words command is)
 
 -- ---- the first word
-
-solve_asks : (words : List Text) → fault_of sfm_line (codes "solve" ∷ words) ≡ [] → AskSome (codes "solve" ∷ words)
-unfolding walked
-solve_asks = asks_some (codes "solve") solve_sub refl refl refl (solve_words false)
-
-check_asks : (words : List Text) → fault_of sfm_line (codes "check" ∷ words) ≡ [] → AskSome (codes "check" ∷ words)
-unfolding walked
-check_asks = asks_some (codes "check") check_sub refl refl refl (check_words false)
-
-demo_asks : (words : List Text) → fault_of sfm_line (codes "demo" ∷ words) ≡ [] → AskSome (codes "demo" ∷ words)
-unfolding walked
-demo_asks = asks_some (codes "demo") demo_sub refl refl refl (demo_words false)
 
 no_help : (words : List Text) → fault_of sfm_line (codes "help" ∷ words) ≡ [] → ⊥
 unfolding walk_fault
@@ -136,78 +191,80 @@ no_other word words met e =
 pub reads : (words : List Text) → fault_of sfm_line words ≡ [] → AskSome words
 unfolding walk_fault defaults_fault
 reads [] e = absurd (not_none _ _ e)
-reads (word ∷ words) e = go (bytes_eq (codes "solve") word) (bytes_eq (codes "check") word) (bytes_eq (codes "demo") word) (bytes_eq (codes "help") word) refl refl refl refl
+reads (word ∷ words) e = go (lookup (λ verb. bytes_eq verb word) subcommands) (bytes_eq (codes "help") word) refl refl
   where
-    is : (verb : Text) → bytes_eq verb word ≡ true → fault_of sfm_line (verb ∷ words) ≡ []
-    is verb same = subst (λ w. fault_of sfm_line (w ∷ words) ≡ []) (sym ((bytes_eq-Decides verb word).0 same)) e
+    go : (o : Option Maker) (b : Bool) → lookup (λ verb. bytes_eq verb word) subcommands ≡ o → bytes_eq (codes "help") word ≡ b → AskSome (word ∷ words)
+    go (Some maker) b listed at_b = verb_asks word maker listed words e
+    go None true none is = absurd (no_help words (subst (λ w. fault_of sfm_line (w ∷ words) ≡ []) (sym ((bytes_eq-Decides (codes "help") word).0 is)) e))
+    go None false none is_not =
+        let found : find (λ s. answers_to word (label_of s)) (built sfm_line).subs ≡ None =
+        finds (help_sub ∷ []) word subcommands ∙ ap (λ o. option_map_or (λ maker. Some (sub_of word maker)) o (find (λ s. answers_to word (label_of s)) (help_sub ∷ []))) none ∙ rw is_not refl in
+        absurd (no_other word words (ap (λ o. option_map (λ (p : Text × List Text). p.0) o)
+        (sym (find-map (answers_to word) label_of (built sfm_line).subs) ∙ ap (λ o. option_map label_of o) found)) e)
 
-    back : (verb : Text) → bytes_eq verb word ≡ true → AskSome (verb ∷ words) → AskSome (word ∷ words)
-    back verb same = subst (λ w. AskSome (w ∷ words)) ((bytes_eq-Decides verb word).0 same)
+-- ---- the plain forms
 
-    go : (a b c d : Bool) → bytes_eq (codes "solve") word ≡ a → bytes_eq (codes "check") word ≡ b → bytes_eq (codes "demo") word ≡ c → bytes_eq (codes "help") word ≡ d → AskSome (word ∷ words)
-    go true b c d at_a at_b at_c at_d = back (codes "solve") at_a (solve_asks words (is (codes "solve") at_a))
-    go false true c d at_a at_b at_c at_d = back (codes "check") at_b (check_asks words (is (codes "check") at_b))
-    go false false true d at_a at_b at_c at_d = back (codes "demo") at_c (demo_asks words (is (codes "demo") at_c))
-    go false false false true at_a at_b at_c at_d = absurd (no_help words (is (codes "help") at_d))
-    go false false false false at_a at_b at_c at_d =
-        let met : subcommand_met names idle word ≡ None = rw (at_a, at_b, at_c, at_d) refl in
-        absurd (no_other word words met e)
-
--- ---- the listed forms
-
--- what a name that is no option looks like to clap
-record IsPlain (name : Text) : Type 0 where
-  apart : bytes_eq name dashes ≡ false
-  long : long_of name ≡ None
-  short : short_of name ≡ None
-  some : nat_lt 0 (length name) ≡ true
-
-name_is_plain : (name : Text) → IsFileName name → IsPlain name
+name_is_plain : (name : Text) → IsFileName name → IsPlain NonEmptyString name
 name_is_plain [] is = absurd (omega (arith, is.0))
 name_is_plain (x ∷ xs) is = go (x == 45) refl
   where
-    go : (b : Bool) → (x == 45) ≡ b → IsPlain (x ∷ xs)
+    go : (b : Bool) → (x == 45) ≡ b → IsPlain NonEmptyString (x ∷ xs)
     go true e = absurd (is.1 ((Decides-eqb x 45).0 e))
-    go false e = record { apart = rw e refl; long = rw e refl; short = rw e refl; some = some_word x xs }
-
-solve_form : (file : Text) → IsPlain file → Asks (codes "solve" ∷ file ∷ []) (solve file)
-unfolding clap_on_literals
-solve_form file f = rw (f.apart, f.long, f.short, f.some) (refl, refl)
-
-check_form : (file answer : Text) → IsPlain file → IsPlain answer → Asks (codes "check" ∷ file ∷ answer ∷ []) (check file answer)
-unfolding clap_on_literals
-check_form file answer f a = rw (f.apart, f.long, f.short, a.apart, a.long, a.short, f.some, a.some) (refl, refl)
-
--- what the text of a seed looks like to clap
-record IsNumber (text : Text) : Type 0 where
-  plain : IsPlain text
-  unsigned : without_leading_plus text ≡ text
-  numeral : is_numeral text ≡ true
-  fits : nat_lt (digits_value 10 text) (2 ^ 64) ≡ true
-  large : nat_le 0 (digits_value 10 text) ≡ true
-  small : nat_le (digits_value 10 text) 999999999 ≡ true
-
-seed_is_number : (text : Text) (seed : ℕ) → IsSeed text seed → IsNumber text
-seed_is_number [] seed is = absurd (omega (arith, is.0))
-seed_is_number (x ∷ xs) seed is =
-    let first = digit_from_value x is.2.0 in
-    let below : digits_value 10 (x ∷ xs) < 10 ^ 9 = omega (arith, digits_value-lt 10 (x ∷ xs) is.2, pow-le-pow_right {n = 10} (omega arith) is.1) in
-    record {
-      plain = name_is_plain (x ∷ xs) (omega arith, λ e. omega (arith, first, e));
-      unsigned = without_leading_plus_none (x ∷ xs) (λ e. omega (arith, first, e));
-      numeral = numeral_told (x ∷ xs) (is.0, is.2);
-      fits = lt-ltb _ _ (omega (arith, below));
-      large = le-leb _ _ (omega arith);
-      small = le-leb _ _ (omega (arith, below));
+    go false e = record {
+      is = record {
+        apart = rw e refl;
+        long = rw e refl;
+        short = λ flags at. absurd (some_not_none flags (sym at ∙ rw e refl));
+      };
+      taken = some_word x xs;
     }
 
-demo_form : (text : Text) → IsNumber text → Asks (codes "demo" ∷ text ∷ []) (demo (digits_value 10 text))
-unfolding clap_on_literals
-demo_form text f = rw (f.plain.apart, f.plain.long, f.plain.short, f.unsigned, f.numeral, f.fits, f.large, f.small) (refl, refl)
+seed_is_plain : (text : Text) (seed : ℕ) → IsSeed text seed
+    → IsPlain (Unsigned 0 999999999) text × (demo (value_of text) ≡ demo seed)
+seed_is_plain [] seed is = absurd (omega (arith, is.0))
+seed_is_plain (x ∷ xs) seed is =
+    let first = digit_from_value x is.2.0 in
+    let below : digits_value 10 (x ∷ xs) < 10 ^ 9 = omega (
+      arith,
+      digits_value-lt 10 (x ∷ xs) is.2,
+      pow-le-pow_right {n = 10} (omega arith) is.1,
+    ) in
+    let unsigned : without_leading_plus (x ∷ xs) ≡ x ∷ xs =
+    without_leading_plus_none (x ∷ xs) (λ e. omega (arith, first, e)) in
+    let numeral : is_numeral (x ∷ xs) ≡ true = numeral_told (x ∷ xs) (is.0, is.2) in
+    let fits : nat_lt (digits_value 10 (x ∷ xs)) (2 ^ 64) ≡ true = lt-ltb _ _ (omega (arith, below)) in
+    let large : nat_le 0 (digits_value 10 (x ∷ xs)) ≡ true = le-leb _ _ (omega arith) in
+    let small : nat_le (digits_value 10 (x ∷ xs)) 999999999 ≡ true =
+    le-leb _ _ (omega (arith, below)) in (
+      record {
+        is = (name_is_plain (x ∷ xs) (omega arith, λ e. omega (arith, first, e))).is;
+        taken = rw (unsigned, numeral, fits, large, small) refl;
+      },
+      rw unsigned (ap demo is.3),
+    )
 
-pub form_asks : (words : List Text) (command : Command) → IsForm words command → Asks words command
-form_asks words (solve file) form = subst (λ v. Asks v (solve file)) (sym form.0) (solve_form file (name_is_plain file form.1))
-form_asks words (check file answer) form =
-    subst (λ v. Asks v (check file answer)) (sym form.0) (check_form file answer (name_is_plain file form.1) (name_is_plain answer form.2))
-form_asks words (demo seed) form =
-    subst (λ v. Asks v (demo seed)) (sym form.1) (subst (λ n. Asks (codes "demo" ∷ form.0 ∷ []) (demo n)) form.2.3 (demo_form form.0 (seed_is_number form.0 seed form.2)))
+-- words that are plainly those behind a subcommand's own
+abbrev IsPlainIn : Option Maker → List Text → Command → Type 0
+IsPlainIn None words command = ⊥
+IsPlainIn (Some maker) words command = PlainWords maker words command
+
+asks_by : {words : List Text} (verb : Text) (behind : List Text) (command : Command)
+    → words ≡ verb ∷ behind
+    → IsPlainIn (lookup (λ word. bytes_eq word verb) subcommands) behind command
+    → Asks words command
+asks_by verb behind command is plain = subst (λ v. Asks v command) (sym is)
+    (go (lookup (λ word. bytes_eq word verb) subcommands) refl plain)
+  where
+    go : (o : Option Maker) → lookup (λ word. bytes_eq word verb) subcommands ≡ o
+        → IsPlainIn o behind command → Asks (verb ∷ behind) command
+    go None listed plain = absurd plain
+    go (Some maker) listed plain = plain_asks verb maker listed behind command plain
+
+pub form_asks : (words : List Text) (command : Command) → IsForm words command
+    → Asks words command
+form_asks words (solve file) (is, f) =
+    asks_by (codes "solve") (file ∷ []) (solve file) is (name_is_plain file f, refl)
+form_asks words (check file answer) (is, f, a) = asks_by (codes "check") (file ∷ answer ∷ [])
+    (check file answer) is (name_is_plain file f, (name_is_plain answer a, refl))
+form_asks words (demo seed) (text, is, s) =
+    asks_by (codes "demo") (text ∷ []) (demo seed) is (seed_is_plain text seed s)

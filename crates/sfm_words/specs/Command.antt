@@ -1,5 +1,6 @@
--- The commands, and the words that ask for them.
+-- The words that ask for a command.
 use Rattle.std.specs.Prelude.{◌≡◌, ◌≢◌, ◌<◌, ◌≤◌, ◌^◌, ◌&&◌, ℕ, List, [], ◌∷◌, true, false, Option, Some, None, if◌then◌else◌, length, slice_index, nat_lt, codes, option_map, option_and_then}
+use Rattle.std.specs.Map.{lookup}
 use Rattle.std.specs.Str.{bytes_eq}
 use Rattle.std.specs.Str.Parse.{AllDigits, digits_value, without_leading_plus}
 use Rattle.clap.specs.ValueTests.{is_numeral}
@@ -7,16 +8,12 @@ use Rattle.clap.specs.Words.{Row, Text, first_of, one_of, subcommand_of, takes}
 use Rattle.clap.specs.declared.error.kind.ErrorKind.{ErrorKind}
 use Rattle.clap.specs.declared.error.kind.ErrorKind.TheVariants.{OutOfMemory}
 use Rattle.sfm_words.specs.Line.{sfm_line}
+use Rattle.sfm_words.specs.Subcommand.{Maker, subcommands}
+pub use Rattle.sfm_words.specs.Subcommand.{Command, solve, check, demo, one, two, three, number}
 use Rattle.sfm_words.specs.declared.command.Command.{Command as Read}
 use Rattle.sfm_words.specs.declared.command.Command.TheVariants.{Solve as ReadSolve, Check as ReadCheck, Demo as ReadDemo}
 use Rattle.sfm_words.specs.declared.command.Refusal.{Refusal}
 use Rattle.sfm_words.specs.declared.command.Refusal.TheVariants.{Memory, Usage}
-
--- to solve an instance, or to check an answer of one, each by the names of files; or a demonstration, on the instance of a seed
-pub data Command : Type 0 where
-  solve : Text → Command
-  check : Text → Text → Command
-  demo : ℕ → Command
 
 -- the command that was read
 abbrev pub command_of : Read → Command
@@ -32,13 +29,19 @@ number_of text =
     let digits = without_leading_plus text in
     if is_numeral digits && nat_lt (digits_value 10 digits) (2 ^ 64) then Some (digits_value 10 digits) else None
 
+-- the command that the matches of a subcommand make
+abbrev pub made_of : Maker → List Row → Option Command
+made_of (one a make) rows = option_map make (first_of a rows)
+made_of (two a b make) rows =
+    option_and_then (λ x. option_map (make x) (first_of b rows)) (first_of a rows)
+made_of (three a b c make) rows = option_and_then (λ x. option_and_then
+    (λ y. option_map (make x y) (first_of c rows)) (first_of b rows)) (first_of a rows)
+made_of (number a make) rows = option_map make (option_and_then number_of (one_of a rows))
+
 -- the command that a subcommand is, by its name and its matches
 abbrev pub command_by : Text × List Row → Option Command
-command_by found =
-    let file = first_of (codes "FILE") found.1 in
-    if bytes_eq found.0 (codes "solve") then option_map solve file
-    else (if bytes_eq found.0 (codes "check") then option_and_then (λ name. option_map (check name) (first_of (codes "ANSWER") found.1)) file
-    else (if bytes_eq found.0 (codes "demo") then option_map demo (option_and_then number_of (one_of (codes "SEED") found.1)) else None))
+command_by found = option_and_then (λ maker. made_of maker found.1)
+    (lookup (λ verb. bytes_eq verb found.0) subcommands)
 
 -- clap takes the words, and its matches of them are the command
 abbrev pub Asks : List Text → Command → Type 0

@@ -1,2 +1,3 @@
+pub mod Subcommand
 pub mod Line
 pub mod Command

@@ -1,7 +1,8 @@
-// The command line of the program as clap is told of it: two subcommands with the names of files, and one with a seed.
-ghost use Rattle.std.specs.Prelude.{◌≡◌, IfOk, codes, false};
-ghost use Rattle.clap.specs.{Words.{App, app_of, rule_of, with_subcommand}, declared.builder.command.Command.TheViews.{out-Command as fields_of}};
-ghost use Rattle.sfm_words.specs.Line.{program, word_rule, solve_line, check_line, demo_line, sfm_line};
+// The command line of the program as clap is told of it: a subcommand for each row of the table in `specs/Subcommand.antt`,
+// in that order. A function for each form of what follows the subcommand's word adds one.
+ghost use Rattle.std.specs.Prelude.{◌≡◌, IfOk, false};
+ghost use Rattle.clap.specs.{Words.{App, app_of, new_app, rule_of, with_rule, with_subcommand}, declared.builder.command.Command.TheViews.{out-Command as fields_of}};
+ghost use Rattle.sfm_words.specs.Line.{program, word_rule, sfm_line};
 
 use clap::builder::ValueParser;
 use clap::{Arg, Command};
@@ -17,40 +18,48 @@ fn required_word<'a>(alloc: Global, id: &'a str) -> Arg<'a>
         .value_parser(ValueParser::NonEmptyString)
 }
 
-/// The seed of an instance: a whole number from 0 to 999,999,999, which has to be there.
-fn required_seed<'a>(alloc: Global) -> Arg<'a>
-    ensures rule { rule_of result ≡ word_rule (ValueParser.Unsigned 0 999999999) (codes "SEED") }
+/// An argument of a whole number from 0 to 999,999,999, which has to be there.
+fn required_number<'a>(alloc: Global, id: &'a str) -> Arg<'a>
+    ensures rule { rule_of result ≡ word_rule (ValueParser.Unsigned 0 999999999) id.entry.now }
     ensures local { result.global ≡ false }
 {
-    Arg::new(alloc, "SEED")
+    Arg::new(alloc, id)
         .required(true)
         .value_parser(ValueParser::Unsigned(0, 999_999_999))
 }
 
-/// `solve FILE`
-fn solve_line<'a>(alloc: Global) -> Result<Command<'a>, AllocError>
-    ensures app { IfOk result (λ line. app_of line ≡ solve_line) }
+/// `VERB A`, where A is the name of a file.
+fn one_name<'a>(alloc: Global, verb: &'a str, a: &'a str) -> Result<Command<'a>, AllocError>
+    ensures app { IfOk result (λ line. app_of line ≡ with_rule (new_app verb.entry.now)
+        (word_rule ValueParser.NonEmptyString a.entry.now)) }
     ensures local { IfOk result (λ line. (fields_of line).has_globals ≡ false) }
 {
-    Command::new(alloc, "solve").arg(required_word(alloc, "FILE"))
+    Command::new(alloc, verb).arg(required_word(alloc, a))
 }
 
-/// `check FILE ANSWER`
-fn check_line<'a>(alloc: Global) -> Result<Command<'a>, AllocError>
-    ensures app { IfOk result (λ line. app_of line ≡ check_line) }
+/// `VERB A B`, where A and B are names of files.
+fn two_names<'a>(
+    alloc: Global,
+    verb: &'a str,
+    a: &'a str,
+    b: &'a str,
+) -> Result<Command<'a>, AllocError>
+    ensures app { IfOk result (λ line. app_of line
+        ≡ with_rule (with_rule (new_app verb.entry.now)
+        (word_rule ValueParser.NonEmptyString a.entry.now))
+        (word_rule ValueParser.NonEmptyString b.entry.now)) }
     ensures local { IfOk result (λ line. (fields_of line).has_globals ≡ false) }
 {
-    Command::new(alloc, "check")
-        .arg(required_word(alloc, "FILE"))?
-        .arg(required_word(alloc, "ANSWER"))
+    one_name(alloc, verb, a)?.arg(required_word(alloc, b))
 }
 
-/// `demo SEED`
-fn demo_line<'a>(alloc: Global) -> Result<Command<'a>, AllocError>
-    ensures app { IfOk result (λ line. app_of line ≡ demo_line) }
+/// `VERB A`, where A is a number.
+fn one_number<'a>(alloc: Global, verb: &'a str, a: &'a str) -> Result<Command<'a>, AllocError>
+    ensures app { IfOk result (λ line. app_of line ≡ with_rule (new_app verb.entry.now)
+        (word_rule (ValueParser.Unsigned 0 999999999) a.entry.now)) }
     ensures local { IfOk result (λ line. (fields_of line).has_globals ≡ false) }
 {
-    Command::new(alloc, "demo").arg(required_seed(alloc))
+    Command::new(alloc, verb).arg(required_number(alloc, a))
 }
 
 /// The program, without its subcommands: its words begin after its name, and have to name a subcommand.
@@ -79,7 +88,8 @@ fn with_line<'a>(
 pub(crate) fn command_line<'a>(alloc: Global) -> Result<Command<'a>, AllocError>
     ensures { IfOk result (λ line. app_of line ≡ sfm_line) }
 {
-    let line = with_line(program(alloc), solve_line(alloc))?;
-    let line = with_line(line, check_line(alloc))?;
-    with_line(line, demo_line(alloc))
+    let line = program(alloc);
+    let line = with_line(line, one_name(alloc, "solve", "FILE"))?;
+    let line = with_line(line, two_names(alloc, "check", "FILE", "ANSWER"))?;
+    with_line(line, one_number(alloc, "demo", "SEED"))
 }

@@ -1,7 +1,7 @@
 // The command that the words ask for: the subcommand in clap's matches of them, with its arguments.
 ghost use Rattle.std.specs.Prelude.{◌≡◌, ◌≤◌, ℕ, List, [], true, codes, map, option_map, option_and_then, IfOk, IfErr, MatchResult};
-ghost use Rattle.clap.specs.Words.{HasMatchesOf, fault_of, first_of, found_of, one_of, rows_of, subcommand_rows_of, takes};
-ghost use Rattle.sfm_words.specs.{Command.{Asks, IsForm, IsNotTaken, check, command_by, command_of, demo, number_of, solve}, Command.{Command as Asked}, Line.{sfm_line}};
+ghost use Rattle.clap.specs.Words.{HasMatchesOf, Text, fault_of, first_of, found_of, one_of, rows_of, subcommand_rows_of, takes};
+ghost use Rattle.sfm_words.specs.{Command.{Asks, IsForm, IsNotTaken, command_by, command_of, demo, made_of, number_of, two}, Command.{Command as Asked}, Line.{sfm_line}};
 
 use crate::command::{Command, Refusal};
 use crate::line::command_line;
@@ -23,33 +23,15 @@ fn number_of(found: &ArgMatches<'_>, id: &str) -> Option<u64>
     found.get_one::<u64>(id)
 }
 
-/// `solve`, by its matches.
-fn solve_in<'a>(found: &ArgMatches<'a>) -> Option<Command<'a>>
-    ensures { option_map command_of result ≡ option_map solve
-        (first_of (codes "FILE") (rows_of (found_of found.now))) }
+/// The words of two arguments.
+fn two_words_of<'a>(found: &ArgMatches<'a>, a: &str, b: &str) -> Option<(&'a str, &'a str)>
+    ensures { (make : Text → Text → Asked)
+        → option_map (λ words. make words.0.now words.1.now) result
+        ≡ made_of (two a.now b.now make) (rows_of (found_of found.now)) }
 {
-    let file = word_of(found, "FILE")?;
-    Some(Command::Solve { file })
-}
-
-/// `check`, by its matches.
-fn check_in<'a>(found: &ArgMatches<'a>) -> Option<Command<'a>>
-    ensures { let rows = rows_of (found_of found.now) in option_map command_of result
-        ≡ option_and_then (λ file. option_map (check file) (first_of (codes "ANSWER") rows))
-        (first_of (codes "FILE") rows) }
-{
-    let file = word_of(found, "FILE")?;
-    let answer = word_of(found, "ANSWER")?;
-    Some(Command::Check { file, answer })
-}
-
-/// `demo`, by its matches.
-fn demo_in<'a>(found: &ArgMatches<'a>) -> Option<Command<'a>>
-    ensures { option_map command_of result ≡ option_map demo
-        (option_and_then number_of (one_of (codes "SEED") (rows_of (found_of found.now)))) }
-{
-    let seed = number_of(found, "SEED")?;
-    Some(Command::Demo { seed })
+    let x = word_of(found, a)?;
+    let y = word_of(found, b)?;
+    Some((x, y))
 }
 
 /// The command of this name, by its matches.
@@ -57,9 +39,18 @@ fn command_named<'a>(verb: &str, found: &ArgMatches<'a>) -> Option<Command<'a>>
     ensures { option_map command_of result ≡ command_by (verb.now, rows_of (found_of found.now)) }
 {
     match verb {
-        "solve" => solve_in(found),
-        "check" => check_in(found),
-        "demo" => demo_in(found),
+        "solve" => {
+            let file = word_of(found, "FILE")?;
+            Some(Command::Solve { file })
+        }
+        "check" => {
+            let (file, answer) = two_words_of(found, "FILE", "ANSWER")?;
+            Some(Command::Check { file, answer })
+        }
+        "demo" => {
+            let seed = number_of(found, "SEED")?;
+            Some(Command::Demo { seed })
+        }
         _ => None,
     }
 }

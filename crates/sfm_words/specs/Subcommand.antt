@@ -1,0 +1,25 @@
+-- The commands, and the subcommands of the command line that ask for them.
+use Rattle.std.specs.Prelude.{ℕ, List, [], ◌∷◌, codes}
+use Rattle.clap.specs.Words.{Text}
+
+-- to solve an instance, or to check an answer of one, each by the names of files; or a demonstration, on the instance of a seed
+pub data Command : Type 0 where
+  solve : Text → Command
+  check : Text → Text → Command
+  demo : ℕ → Command
+
+-- what follows the word of a subcommand, and the command that it makes: names of files, or a number, each in the argument
+-- of this name
+pub data Maker : Type 0 where
+  one : Text → (Text → Command) → Maker
+  two : (a b : Text) → (Text → Text → Command) → Maker
+  three : (a b c : Text) → (Text → Text → Text → Command) → Maker
+  number : Text → (ℕ → Command) → Maker
+
+-- the subcommands, each by its word
+abbrev pub subcommands : List (Text × Maker)
+subcommands =
+    (codes "solve", one (codes "FILE") solve)
+    ∷ (codes "check", two (codes "FILE") (codes "ANSWER") check)
+    ∷ (codes "demo", number (codes "SEED") demo)
+    ∷ []
