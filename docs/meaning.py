@@ -29,7 +29,7 @@ PARTS = [
     ("Instance texts", [
         "sfm_spec.Names", "sfm_base.NumberText", "sfm_lines.Lines", "sfm_lines.Parts",
         "sfm_lines.LabelTerms", "sfm_lines.RankLines", "sfm_lines.Words", "sfm_lines.TermLines", "sfm_lines.Reading",
-        "sfm_text.GoodText", "sfm_lines.Reasons", "sfm_lines.", "sfm_text."]),
+        "sfm_text.Language", "sfm_text.GoodText", "sfm_lines.Reasons", "sfm_lines.", "sfm_text."]),
     ("Answer texts", ["sfm_cert.", "sfm_check."]),
     ("The text of a demonstration", ["sfm_demo.Draws", "sfm_demo."]),
     ("The outside, the words, and how a call ends", ["sfm_io.", "sfm_words.", "sfm_due.Due", "sfm_due.", "sfm."]),

@@ -1,10 +1,9 @@
--- Lines lead to one state, but for what the terms keep that no reason asks of: two readings of the same lines have the same
--- stage and the same names, and terms of the same places and sizes. So a text is good or has a first fault, and one alone.
-use Rattle.std.proofs.Common.{◌≡◌, ◌≢◌, ◌⊎◌, inl, inr, ℕ, ◌+◌, ◌<◌, ◌≤◌, List, [], ◌∷◌, ◌++◌, length, get_or, map, codes, AllPairs, refl, sym, ap, subst, ◌∙◌, arith}
-use Rattle.std.specs.List.{AllZip, FoldsTo}
-use Rattle.std.proofs.lemmas.Bool.{cases_lt}
+-- What a line of an instance text leads to is one state, but for how its terms are kept: states of the same stage and the
+-- same names, whose terms are one by one the same, are told apart by no reason, and a line leads from two such states to two such.
+use Rattle.std.proofs.Common.{◌≡◌, ◌≢◌, inl, inr, ℕ, ◌+◌, List, [], ◌∷◌, ◌++◌, length, map, codes, AllPairs, refl, sym, ap, subst, ◌∙◌, arith}
+use Rattle.std.specs.List.{AllZip}
 use Rattle.std.proofs.lemmas.Int.{ints}
-use Rattle.std.proofs.lemmas.List.{map-append, length_push}
+use Rattle.std.proofs.lemmas.List.{length_push}
 use Rattle.std.proofs.lemmas.List.Sums.{sum_by-cons}
 use Rattle.sfm_kind.specs.declared.kind.Kind.{Kind}
 use Rattle.sfm_kind.specs.Kinds.{kind_places}
@@ -15,14 +14,14 @@ use Rattle.sfm_lines.specs.declared.reason.Reason.{Reason}
 use Rattle.sfm_lines.specs.declared.reason.Reason.TheVariants.{Long, Bytes, Name, Twice, Total, Short}
 use Rattle.sfm_lines.specs.declared.stage.Stage.{Stage}
 use Rattle.sfm_lines.specs.declared.stage.Stage.TheVariants.{Header, Ground, Terms, Ended}
-use Rattle.sfm_lines.specs.Lines.{content_of, tokens_of}
+use Rattle.sfm_lines.specs.Lines.{tokens_of}
 use Rattle.sfm_lines.specs.Words.{word_text}
 use Rattle.sfm_lines.specs.TermLines.{StandsTwice, StandsFor}
-use Rattle.sfm_text.proofs.Orders.{first_ordered, reason-at}
+use Rattle.sfm_text.proofs.Orders.{first_once}
+use Rattle.sfm_text.proofs.Readings.{IsKept}
 use Rattle.sfm_text.proofs.TooMuch.{much-by-total, total-by-much}
-use Rattle.sfm_lines.specs.Reading.{State, start, reason_order, reasons, Has, HasAt, AreTooMuch, FirstReason, IsFirstReason, Adds, Takes}
-use Rattle.sfm_text.specs.Standing.{bytes_of}
-use Rattle.sfm_text.specs.GoodText.{IsTextOf, HasFaultyLine, IsFaultOf, is_long, is_faulty, is_short}
+use Rattle.sfm_lines.specs.Reading.{State, start, Has, HasAt, AreTooMuch, Adds, Takes}
+use Rattle.sfm_text.specs.GoodText.{instance_language}
 use Rattle.sfm_lines.proofs.WordLines.{not-end}
 use Rattle.sfm_lines.proofs.Matches.{AllZip-push}
 use Rattle.sfm_lines.proofs.Repeats.{twice-at}
@@ -113,99 +112,12 @@ takes-alike s t line u v same h g = at s.stage refl h.adds (subst (λ (stage : S
         })
     at Ended is a b = absurd a
 
-follows-alike : (lines : List (List ℕ)) (s t u v : State) → Alike s t → FoldsTo Takes s lines u → FoldsTo Takes t lines v → Alike u v
-follows-alike [] s t u v same h g = subst (λ (x : State). Alike x v) h (subst (λ (x : State). Alike s x) g same)
-follows-alike (line ∷ lines) s t u v same (s', h, hs) (t', g, gs) = follows-alike lines s' t' u v (takes-alike s t line s' t' same h g) hs gs
-
--- lines that are good are so up to each of them
-follows-parts : (before after : List (List ℕ)) (s t : State) → FoldsTo Takes s (before ++ after) t → (u : State) × FoldsTo Takes s before u × FoldsTo Takes u after t
-follows-parts [] after s t h = (s, refl, h)
-follows-parts (line ∷ before) after s t (r, takes, h) = let (u, front, back) = follows-parts before after r t h in (u, (r, takes, front), back)
-
--- a line with a reason is not good behind the same lines
-not-good : (before after : List (List ℕ)) (line : List ℕ) (s t : State) (reason : Reason) → FoldsTo Takes start before s → Has s line reason → FoldsTo Takes start (before ++ line ∷ after) t → ⊥
-not-good before after line s t reason h has good =
-    let (u, front, (v, takes, back)) = follows-parts before (line ∷ after) start t good in
-    takes.good reason (has-alike s u line reason (follows-alike before start start s u start-alike h front) has)
-
-bytes-parts : (before after : List (ℕ × List ℕ)) (line : ℕ × List ℕ) → bytes_of (before ++ line ∷ after) ≡ bytes_of before ++ line.1 ∷ bytes_of after
-bytes-parts before after line = map-append (λ (l : ℕ × List ℕ). l.1) before (line ∷ after)
-
--- a text with a faulty line is not good to its end
-pub faulty-or-good : (text : List ℕ) (number : ℕ) (reason : Reason) (t : State) → HasFaultyLine text number reason → FoldsTo Takes start (bytes_of (content_of text)) t → ⊥
-faulty-or-good text number reason t h good =
-    let all : bytes_of (content_of text) ≡ bytes_of h.before ++ h.line ∷ bytes_of h.after = ap bytes_of h.content ∙ bytes-parts h.before h.after (number, h.line) in
-    not-good (bytes_of h.before) (bytes_of h.after) h.line h.state t reason h.good (h.fault).holds (subst (λ (lines : List (List ℕ)). FoldsTo Takes start lines t) all good)
-
--- the order of the reasons tells them apart
-same-reason : (a b : Reason) → reason_order a ≡ reason_order b → a ≡ b
-same-reason a b e = sym (reason-at a a) ∙ (ap (λ n. get_or reasons n a) e ∙ reason-at b a)
-
--- a line has one first reason in two such states
-first-alike : (s t : State) (line : List ℕ) (a b : Reason) → Alike s t → Alike t s → FirstReason s line a → FirstReason t line b → a ≡ b
-first-alike s t line a b same same' h g = at (cases_lt (reason_order a) (reason_order b)) (cases_lt (reason_order b) (reason_order a))
-  where
-    at : (reason_order a < reason_order b) ⊎ (reason_order b ≤ reason_order a) → (reason_order b < reason_order a) ⊎ (reason_order a ≤ reason_order b) → a ≡ b
-    at (inl lt) other = absurd (g.first a lt (has-alike s t line a same h.holds))
-    at (inr le) (inl lt) = absurd (h.first b lt (has-alike t s line b same' g.holds))
-    at (inr le) (inr ge) = same-reason a b (omega (arith, le, ge))
-
--- two cuts of one list at a place: at the same place, or one inside the front of the other
-data Cuts (a b : ℕ × List ℕ) (xs ys zs ws : List (ℕ × List ℕ)) : Type 0 where
-  same_place : xs ≡ zs → a ≡ b → Cuts a b xs ys zs ws
-  inside : (more : List (ℕ × List ℕ)) → zs ≡ xs ++ a ∷ more → Cuts a b xs ys zs ws
-  outside : (more : List (ℕ × List ℕ)) → xs ≡ zs ++ b ∷ more → Cuts a b xs ys zs ws
-
-two-cuts : (a b : ℕ × List ℕ) (xs ys zs ws : List (ℕ × List ℕ)) → xs ++ a ∷ ys ≡ zs ++ b ∷ ws → Cuts a b xs ys zs ws
-two-cuts a b [] ys [] ws e = same_place refl (cc)
-two-cuts a b [] ys (z ∷ zs) ws e = let first : a ≡ z = cc in inside zs (ap (λ (l : ℕ × List ℕ). l ∷ zs) (sym first))
-two-cuts a b (x ∷ xs) ys [] ws e = let first : x ≡ b = cc in outside xs (ap (λ (l : ℕ × List ℕ). l ∷ xs) first)
-two-cuts a b (x ∷ xs) ys (z ∷ zs) ws e =
-    let first : x ≡ z = cc in
-    let rest : xs ++ a ∷ ys ≡ zs ++ b ∷ ws = cc in
-    more first (two-cuts a b xs ys zs ws rest)
-  where
-    more : x ≡ z → Cuts a b xs ys zs ws → Cuts a b (x ∷ xs) ys (z ∷ zs) ws
-    more first (same_place front line) = let both : x ∷ xs ≡ z ∷ zs = cc in same_place both line
-    more first (inside behind is) = inside behind (rw (first, is) refl)
-    more first (outside behind is) = outside behind (rw (first, is) refl)
-
--- a faulty line is not within the good lines before another
-not-inside : (before more zs : List (ℕ × List ℕ)) (line : ℕ × List ℕ) (s t : State) (reason : Reason) → zs ≡ before ++ line ∷ more → FoldsTo Takes start (bytes_of before) s → Has s line.1 reason → FoldsTo Takes start (bytes_of zs) t → ⊥
-not-inside before more zs line s t reason is h has good =
-    let all : bytes_of zs ≡ bytes_of before ++ line.1 ∷ bytes_of more = ap bytes_of is ∙ bytes-parts before more line in
-    not-good (bytes_of before) (bytes_of more) line.1 s t reason h has (subst (λ (lines : List (List ℕ)). FoldsTo Takes start lines t) all good)
-
--- two faulty lines of one text are one, with one reason
-faulty-once : (text : List ℕ) (number number' : ℕ) (reason reason' : Reason) → HasFaultyLine text number reason → HasFaultyLine text number' reason' → (number ≡ number') × (reason ≡ reason')
-faulty-once text number number' reason reason' h g = at (two-cuts (number, h.line) (number', g.line) h.before h.after g.before g.after (sym h.content ∙ g.content))
-  where
-    at : Cuts (number, h.line) (number', g.line) h.before h.after g.before g.after → (number ≡ number') × (reason ≡ reason')
-    at (same_place front line) =
-        let good : FoldsTo Takes start (bytes_of h.before) g.state = rw front g.good in
-        let fault : IsFirstReason g.state h.line reason' = rw (ap (λ (l : ℕ × List ℕ). l.1) line) g.fault in
-        let forth = follows-alike (bytes_of h.before) start start h.state g.state start-alike h.good good in
-        let back = follows-alike (bytes_of h.before) start start g.state h.state start-alike good h.good in (
-          ap (λ (l : ℕ × List ℕ). l.0) line,
-          first-alike h.state g.state h.line reason reason' forth back (first_ordered h.state h.line reason h.fault) (first_ordered g.state h.line reason' fault),
-        )
-    at (inside more is) = absurd (not-inside h.before more g.before (number, h.line) h.state g.state reason is h.good (h.fault).holds g.good)
-    at (outside more is) = absurd (not-inside g.before more h.before (number', g.line) g.state h.state reason' is g.good (g.fault).holds h.good)
-
--- a good text has no fault
-pub good-or-faulty : (text : List ℕ) (names : List (List ℕ)) (terms : List Kind) (line : ℕ) (reason : Reason) → IsTextOf text names terms → IsFaultOf text line reason → ⊥
-good-or-faulty text names terms line reason good (is_long at is long) = omega (arith, good.short, long)
-good-or-faulty text names terms line reason good (is_faulty short faulty) = faulty-or-good text line reason _ faulty good.lines
-good-or-faulty text names terms line reason good (is_short at is short early) = early.2 (follows-alike (bytes_of (content_of text)) start start early.0 _ start-alike early.1 good.lines).stage
-
--- and a text has one first fault
-pub faults-once : (text : List ℕ) (line line' : ℕ) (reason reason' : Reason) → IsFaultOf text line reason → IsFaultOf text line' reason' → (line ≡ line') × (reason ≡ reason')
-faults-once text line line' reason reason' (is_long at is long) (is_long at' is' long') = (at ∙ sym at', is ∙ sym is')
-faults-once text line line' reason reason' (is_long at is long) (is_faulty short faulty) = absurd (omega (arith, long, short))
-faults-once text line line' reason reason' (is_long at is long) (is_short at' is' short early) = absurd (omega (arith, long, short))
-faults-once text line line' reason reason' (is_faulty short faulty) (is_long at is long) = absurd (omega (arith, long, short))
-faults-once text line line' reason reason' (is_faulty short faulty) (is_faulty short' faulty') = faulty-once text line line' reason reason' faulty faulty'
-faults-once text line line' reason reason' (is_faulty short faulty) (is_short at is short' early) = absurd (faulty-or-good text line reason early.0 faulty early.1)
-faults-once text line line' reason reason' (is_short at is short early) (is_long at' is' long) = absurd (omega (arith, long, short))
-faults-once text line line' reason reason' (is_short at is short early) (is_faulty short' faulty) = absurd (faulty-or-good text line' reason' early.0 faulty early.1)
-faults-once text line line' reason reason' (is_short at is short early) (is_short at' is' short' early') = (at ∙ sym at', is ∙ sym is')
+-- so no two readings of an instance text come to states that differ in more than that
+pub instances-kept : IsKept instance_language Alike
+instances-kept = record {
+  start = start-alike;
+  takes = takes-alike;
+  ends = λ s t same end. sym same.stage ∙ end;
+  refuses = λ s t line reason u same first takes. takes.good reason (has-alike s t line reason same first.holds);
+  once = λ s t line a b same back. first_once (Has s line) (Has t line) a b (λ reason. has-alike s t line reason same) (λ reason. has-alike t s line reason back);
+}

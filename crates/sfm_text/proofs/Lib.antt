@@ -7,6 +7,6 @@ pub mod StageReasons
 pub mod SameTerms
 pub mod LaterLines
 pub mod Adding
-pub mod Following
+pub mod Readings
 pub mod Alike
 pub mod Standing

@@ -13,7 +13,7 @@ use Rattle.sfm_text.specs.declared.end.TextEnd.{TextEnd}
 use Rattle.sfm_text.specs.declared.end.Fault.{Fault}
 use Rattle.sfm_text.specs.declared.reader.Reader.{Reader}
 use Rattle.sfm_lines.specs.Lines.{pieces_of, without_empty_last, content_of, lines_of, tokens_of, are_skipped}
-use Rattle.sfm_lines.specs.Reading.{start, Takes}
+use Rattle.sfm_lines.specs.Reading.{start, Has, Takes}
 use Rattle.sfm_lines.specs.declared.reason.Reason.TheVariants.{Long, Short}
 use Rattle.sfm_lines.specs.declared.stage.Stage.{Stage}
 use Rattle.sfm_lines.specs.declared.stage.Stage.TheVariants.{Ended}
@@ -22,7 +22,7 @@ use Rattle.sfm_text.specs.Standing.{numbered, is_content, content_among, bytes_o
 use Rattle.sfm_text.proofs.LineCuts.{without_empty_last-cons, without_empty_last-one}
 use Rattle.sfm_lines.proofs.Cuts.{rest-is}
 use Rattle.sfm_lines.proofs.Cutting.{cut-at}
-use Rattle.sfm_text.proofs.Following.{lines-push}
+use Rattle.sfm_text.proofs.Readings.{lines-push}
 use Rattle.sfm_text.proofs.Orders.{first_listed}
 use Rattle.sfm_text.proofs.Appended.{pieces-more, pieces-longer, pieces-ended, some-pieces, without-last, numbered-append}
 
@@ -70,7 +70,7 @@ lead-passes ended piece p q lead passes = at passes.kept
         let before = content_among (numbered 1 ended) in
         let line : ℕ × List ℕ = line_behind ended piece in
         let number : p.lines + 1 ≡ 1 + length ended = omega (arith, lead.count) in
-        let good = lines-push start before p.state line q.state lead.good takes in
+        let good = lines-push Takes start before p.state line q.state lead.good takes in
         record {
           count = count;
           numbers = more ∙ (rw (lead.numbers, number) (sym (map-append number_of before (line ∷ []))) ∙ ap (map number_of) (sym e));
@@ -96,7 +96,7 @@ faulty-line text ended piece more p fault lines lead fails =
       state = p.state;
       content = ap content_among lines ∙ (e ∙ ap (λ (n : ℕ). content_among (numbered 1 ended) ++ (n, strip_carriage_return piece) ∷ content_among (numbered (1 + length ended + 1) more)) number);
       good = lead.good;
-      fault = first_listed p.state (strip_carriage_return piece) fault.reason fails.reason;
+      fault = first_listed (Has p.state (strip_carriage_return piece)) fault.reason (fails.reason).holds (fails.reason).first;
     }
 
 -- the lines of a text whose last piece has ended, and of what comes behind it

@@ -1,5 +1,6 @@
 pub mod Places
 pub mod Cursor
+pub mod Language
 pub mod GoodText
 pub mod Judging
 pub mod Adding
