@@ -1,4 +1,5 @@
 pub mod LineCuts
+pub mod Placed
 pub mod Appended
 pub mod FirstSlots
 pub mod TooMuch

@@ -1,7 +1,8 @@
 // The lines of a text one after another, each found where the one before ends, so that no list of them is kept; and the
 // content lines, which are those that are neither blank nor comments.
-ghost use Rattle.std.specs.{Prelude.{◌≡◌, ◌≤◌, ◌==◌, ℕ, ◌+◌, List, [], ◌∷◌, length, map, slice_index, slice_range, IsTrue, IfOk, MatchOption, IfSome, IfNone}, Str.Lines.{strip_carriage_return}, List.{All, position_or_len}};
-ghost use Rattle.sfm_text.specs.Places.{span_of, placed_content, LiesIn};
+ghost use Rattle.std.specs.{Prelude.{◌≡◌, ◌≤◌, ◌==◌, ℕ, ◌+◌, List, [], ◌∷◌, drop, length, map, slice_index, slice_range, IsTrue, IfOk, MatchOption, IfSome, IfNone}, Str.Lines.{strip_carriage_return}, List.{All, position_or_len}};
+ghost use Rattle.sfm_lines.specs.Lines.{lines_of};
+ghost use Rattle.sfm_text.specs.Places.{span_of, placed_content, lines_from, LiesIn};
 
 use sfm_base::Memory;
 use sfm_lines::pair::place_of_byte;
@@ -15,6 +16,7 @@ pub struct Line<'a> {
     pub number: usize,
     /// The place in the text at which it begins.
     pub start: usize,
+    /// Its bytes.
     pub bytes: &'a [u8],
 }
 
@@ -26,6 +28,8 @@ pub struct Lines<'a> {
     number: usize,
     ghost within: { at ≤ length text.now },
     ghost counted: { number ≤ at + 1 },
+    ghost whole: { number + length (lines_from number at (drop at text.now))
+        ≡ length (lines_of text.now) + 1 },
 }
 
 /// The line without a carriage return at its end.
@@ -47,13 +51,14 @@ pub fn line_end(text: &[u8]) -> usize
 }
 
 impl<'a> Lines<'a> {
-    ghost use Rattle.sfm_text.specs.{Places.{placed_lines, LiesIn}, Cursor.{lines_left, content_left, line_of, text_of, next_number, IsSameText}};
+    ghost use Rattle.sfm_lines.specs.Lines.{lines_of, content_of};
+    ghost use Rattle.sfm_text.specs.{Places.{placed_content, LiesIn}, Cursor.{lines_left, placed_left, content_left, line_of, text_of, next_number}};
 
     /// All lines of a text.
     pub fn new(text: &'a [u8]) -> Lines<'a>
-        ensures left { lines_left result ≡ placed_lines text.now }
+        ensures content { content_left result ≡ content_of text.now }
+        ensures places { placed_left result ≡ placed_content text.now }
         ensures text { text_of result ≡ text.now }
-        ensures first { next_number result ≡ 1 }
     {
         Lines {
             text,
@@ -76,7 +81,7 @@ impl<'a> Lines<'a> {
             (λ line. lines_left self.old ≡ line_of line ∷ lines_left self.new) }
         ensures end { IfNone result (lines_left self.new ≡ []) }
         ensures placed { IfSome result (λ line. LiesIn (text_of self.old) (line_of line)) }
-        ensures same_text { IsSameText self.old self.new }
+        ensures text { text_of self.new ≡ text_of self.old }
     {
         let rest = &self.text[self.at..];
         if rest.is_empty() {
@@ -93,14 +98,19 @@ impl<'a> Lines<'a> {
         Some(line)
     }
 
-    /// The next line that is neither blank nor a comment, or None where no such line is left.
+    /// The next line that is neither blank nor a comment, or None where no such line is left. The number of the next line is then
+    /// one more than that of all lines.
     pub fn next_content(&mut self) -> Option<Line<'a>>
         ensures next { MatchOption result
             (content_left self.old ≡ [])
-            (λ line. content_left self.old ≡ line_of line ∷ content_left self.new) }
-        ensures end { IfNone result (lines_left self.new ≡ []) }
+            (λ line. content_left self.old ≡ (line.number, line.bytes.now) ∷ content_left self.new) }
+        ensures places { MatchOption result
+            (placed_left self.old ≡ [])
+            (λ line. placed_left self.old ≡ line_of line ∷ placed_left self.new) }
         ensures placed { IfSome result (λ line. LiesIn (text_of self.old) (line_of line)) }
-        ensures same_text { IsSameText self.old self.new }
+        ensures end { IfNone result
+            (next_number self.new ≡ length (lines_of (text_of self.new)) + 1) }
+        ensures text { text_of self.new ≡ text_of self.old }
     {
         while let Some(line) = self.next_line() {
             if !is_skipped(line.bytes) {

@@ -2,7 +2,7 @@
 // right is proved; here the calls succeed with ample memory, and the reasons are compared with those worked by hand.
 use sfm_base::read_number;
 use sfm_kind::Instance;
-use sfm_text::{Reason, TEXT_LIMIT, TextEnd, content_lines, read_instance, token};
+use sfm_text::{Lines, Reason, TEXT_LIMIT, TextEnd, content_lines, read_instance, token};
 use std::alloc::Global;
 use std::process::Abort;
 
@@ -476,6 +476,9 @@ fn texts_are_read_up_to_the_limit(rt: HostRuntime) {
 /// A text, and the number, the start and the end of each of its lines that has something.
 const SPANS: (&[u8], &[(usize, usize, usize)]) = (b"#\n a b\r\n\nc", &[(2, 2, 6), (4, 9, 10)]);
 
+/// The same text: the number and the bytes of each of these lines, and one more than the number of all.
+const CONTENT: (&[(usize, &[u8])], usize) = (&[(2, b" a b"), (4, b"c")], 5);
+
 /// Lines, and the token of a number.
 const TOKENS: [(&[u8], usize, Option<&[u8]>); 5] = [
     (b" a \tbc", 0, Some(b"a")),
@@ -493,6 +496,20 @@ fn has_spans(alloc: Global) -> bool {
     }
 }
 
+/// Whether a cursor comes to these lines, and then to the end.
+fn has_content() -> bool {
+    let mut lines = Lines::new(SPANS.0);
+    for (number, bytes) in CONTENT.0 {
+        let Some(line) = lines.next_content() else {
+            return false;
+        };
+        if line.number != *number || line.bytes != *bytes {
+            return false;
+        }
+    }
+    lines.next_content().is_none() && lines.number() == CONTENT.1
+}
+
 /// Whether tokens have their places.
 fn has_tokens() -> bool {
     for (line, number, found) in &TOKENS {
@@ -505,7 +522,7 @@ fn has_tokens() -> bool {
 
 #[test]
 fn lines_and_tokens_have_their_places(rt: HostRuntime) {
-    assert!(rt; has_spans(rt.alloc()) && has_tokens());
+    assert!(rt; has_spans(rt.alloc()) && has_content() && has_tokens());
 }
 
 /// Whether reasons that no table above tells have their words, and want of memory is an end.
