@@ -25,13 +25,14 @@ use Rattle.sfm_text.specs.GoodText.{instance_language}
 use Rattle.sfm_lines.proofs.WordLines.{not-end}
 use Rattle.sfm_lines.proofs.Matches.{AllZip-push}
 use Rattle.sfm_lines.proofs.Repeats.{twice-at}
-use Rattle.sfm_text.proofs.SameTerms.{AgreeInTotal, stands-same}
+use Rattle.sfm_text.specs.OneTerm.{AreOneTerm}
+use Rattle.sfm_text.proofs.SameTerms.{stands-same}
 
 support-cons : (term : Kind) (terms : List Kind) → support_of (term ∷ terms) ≡ length (kind_places term) + support_of terms
 support-cons term terms = sum_by-cons (λ (n : ℕ). n) (length (kind_places term)) (map length (map kind_places terms))
 
--- terms of the same places and sizes are as many, and have as much in all
-alike-total : (a b : List Kind) → AllZip AgreeInTotal a b → (length a ≡ length b) × (support_of a ≡ support_of b) × (total_size_of a ≡ total_size_of b)
+-- terms that are one by one the same are as many, and have as much in all
+alike-total : (a b : List Kind) → AllZip AreOneTerm a b → (length a ≡ length b) × (support_of a ≡ support_of b) × (total_size_of a ≡ total_size_of b)
 alike-total [] [] h = (refl, refl, refl)
 alike-total [] (t ∷ b) h = absurd h
 alike-total (s ∷ a) [] h = absurd h
@@ -43,7 +44,7 @@ alike-total (s ∷ a) (t ∷ b) (same, h) =
     )
 
 -- so there is too much with one more term exactly where there is with the others
-much-alike : (a b : List Kind) (term : Kind) → AllZip AgreeInTotal a b → AreTooMuch (a ++ term ∷ []) → AreTooMuch (b ++ term ∷ [])
+much-alike : (a b : List Kind) (term : Kind) → AllZip AreOneTerm a b → AreTooMuch (a ++ term ∷ []) → AreTooMuch (b ++ term ∷ [])
 much-alike a b term h many =
     let (count, places, size) = alike-total a b h in
     at count places size many
@@ -54,11 +55,11 @@ much-alike a b term h many =
     at count places size (inr (inr (meant, means, many))) =
         much-by-total (b ++ term ∷ []) (omega (arith, ints, total-by-much (a ++ term ∷ []) meant means many, size, total_size-push a term, total_size-push b term))
 
--- two states that no reason tells apart
+-- two states of one stage, with the same names and terms: no reason tells them apart
 pub record Alike (s t : State) : Type 0 where
   pub stage : s.stage ≡ t.stage
   pub names : s.names ≡ t.names
-  pub terms : AllZip AgreeInTotal s.terms t.terms
+  pub terms : AllZip AreOneTerm s.terms t.terms
   pub distinct : AllPairs (λ a b. a ≢ b) s.names
 
 start-alike : Alike start start
@@ -107,7 +108,7 @@ takes-alike s t line u v same h g = at s.stage refl h.adds (subst (λ (stage : S
         rw (more.2, more'.2) (record {
           stage = refl;
           names = same.names;
-          terms = AllZip-push AgreeInTotal s.terms t.terms more.0 more'.0 same.terms agree;
+          terms = AllZip-push AreOneTerm s.terms t.terms more.0 more'.0 same.terms agree;
           distinct = same.distinct;
         })
     at Ended is a b = absurd a

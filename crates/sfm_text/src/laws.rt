@@ -1,11 +1,11 @@
 // Facts that hold of every text, of all groups and of all entries, by the definitions alone. The functions do nothing: they
 // state them, and proofs cite them.
-ghost use Rattle.std.specs.{Prelude.{◌≡◌, ◌↔◌, ℕ, Bool, List, length, map, take}, List.{All}};
+ghost use Rattle.std.specs.{Prelude.{◌≡◌, ◌↔◌, ℕ, Bool, List, length, map, take}, List.{All, AllZip}};
 ghost use Rattle.sfm_spec.specs.Kinds.{Group, IsWithinCaps, IsMatchable};
 ghost use Rattle.sfm_laminar.specs.Crossing.{IsCrossing};
 ghost use Rattle.sfm_lines.specs.{LabelTerms.{numbers_of}, RankLines.{least_groups}, TermLines.{StandsTwice}, declared.reason.Reason.{Reason}};
 ghost use Rattle.sfm_kind.specs.declared.kind.Kind.{Kind};
-ghost use Rattle.sfm_text.specs.GoodText.{IsTextOf, IsFaultOf};
+ghost use Rattle.sfm_text.specs.{GoodText.{IsTextOf, IsFaultOf}, OneTerm.{AreOneTerm}};
 
 /// A text is not both good and faulty, and has one first fault: its line and its reason are the only ones.
 pub fn one_fault(_text: &[u8])
@@ -13,6 +13,13 @@ pub fn one_fault(_text: &[u8])
         → IsTextOf _text.now names terms → IsFaultOf _text.now line reason → ⊥ }
     ensures first { (line line' : ℕ) (reason reason' : Reason) → IsFaultOf _text.now line reason
         → IsFaultOf _text.now line' reason' → (line ≡ line') × (reason ≡ reason') }
+{}
+
+/// A good text stands for one thing: however it is read, the names are the same, and so is each term.
+pub fn one_meaning(_text: &[u8])
+    ensures { (names names' : List (List ℕ)) (terms terms' : List Kind)
+        → IsTextOf _text.now names terms → IsTextOf _text.now names' terms'
+        → (names ≡ names') × AllZip AreOneTerm terms terms' }
 {}
 
 /// Of groups with the same members one with the least cap stands for all: the same parts are within the caps of those that are
