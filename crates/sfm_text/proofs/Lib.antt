@@ -10,4 +10,5 @@ pub mod LaterLines
 pub mod Adding
 pub mod Readings
 pub mod Alike
+pub mod Counted
 pub mod Standing

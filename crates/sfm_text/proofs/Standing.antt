@@ -210,6 +210,7 @@ open-last text rest p none is =
     let lines : lines_of text ≡ numbered 1 is.ended = ap (λ (pieces : List (List ℕ)). numbered 1 (without_empty_last pieces)) cut ∙ ap (numbered 1) (without-last is.ended [] [] ∙ append-nil is.ended) in
     record {
       count = (is.lead).count ∙ sym (ap length lines ∙ length-numbered 1 is.ended);
+      numbers = (is.lead).numbers ∙ ap (λ (l : List (ℕ × List ℕ)). map number_of (content_among l)) (sym lines);
       good = subst (λ (l : List (ℕ × List ℕ)). FoldsTo Takes start (bytes_of (content_among l)) p.state) (sym lines) (is.lead).good;
     }
 
@@ -225,6 +226,7 @@ line-last text piece old new some is same judged = at new.fault (subst (λ (l : 
         let lead = lead-passes is.ended old.rest.items (progress_of old) (progress_of new) is.lead passes in
         record {
           count = lead.count ∙ sym (ap length lines ∙ length-numbered 1 (is.ended ++ old.rest.items ∷ []));
+          numbers = lead.numbers ∙ ap (λ (l : List (ℕ × List ℕ)). map number_of (content_among l)) (sym lines);
           good = subst (λ (l : List (ℕ × List ℕ)). FoldsTo Takes start (bytes_of (content_among l)) (progress_of new).state) (sym lines) lead.good;
         }
     at (Some fault) fails = faulty-line text is.ended old.rest.items [] (progress_of old) fault lines is.lead fails
@@ -268,6 +270,7 @@ finish-faulty old new text fault few all some stands =
     at None some h = absurd (cc)
     at (Some other) some h = let same : other ≡ fault = cc in subst (λ (f : Fault). HasFaultyLine text f.line f.reason) same h
 
+-- or none
 leads : (reader : Reader) (text : List ℕ) → reader.fault ≡ None → HasReadAll reader text → LeadsTo text (progress_of reader)
 leads reader text none all = at reader.fault none all
   where
@@ -275,29 +278,10 @@ leads reader text none all = at reader.fault none all
     at None none h = h
     at (Some other) none h = absurd (cc)
 
--- no fault, and no end
-pub conclude-short : (reader : Reader) (text : List ℕ) → length text ≤ text_limit → HasReadAll reader text → reader.fault ≡ None → reader.reading.stage ≢ Ended → IsFaultOf text (reader.lines + 1) Short
-conclude-short reader text short all none stage =
-    let lead = leads reader text none all in
-    is_short (ap (λ (n : ℕ). n + 1) lead.count) refl short ((progress_of reader).state, lead.good, stage)
-
--- no fault, and the end
-pub conclude-good : (reader : Reader) (text : List ℕ) → length text ≤ text_limit → HasReadAll reader text → reader.fault ≡ None → reader.reading.stage ≡ Ended → IsTextOf text reader.reading.instance.names reader.reading.instance.terms
-conclude-good reader text short all none stage =
-    let lead = leads reader text none all in
-    record {
-      short = short;
-      lines = subst (λ (s : Stage). FoldsTo Takes start (bytes_of (content_of text)) (record { stage = s; names = reader.reading.instance.names; terms = reader.reading.instance.terms })) stage lead.good;
-    }
-
--- what is concluded is what the reader comes to
-pub finish-good : (old new : Reader) (result : Result (Unit {0}) TextEnd) → old.count ≤ text_limit → ((text : List ℕ) → HasRead old text → HasReadAll new text) → OnOk result ((text : List ℕ) → length text ≤ text_limit → HasReadAll new text → IsTextOf text new.reading.instance.names new.reading.instance.terms) → OnOk result ((text : List ℕ) → Stands old text → IsTextOf text new.reading.instance.names new.reading.instance.terms)
-finish-good old new (Ok done) few all h = λ text stands. let short = short-text old text few stands in h text short (all text (stands.read short))
-finish-good old new (Err e) few all h = h
-
-pub finish-refused : (old new : Reader) (result : Result (Unit {0}) TextEnd) → old.count ≤ text_limit → ((text : List ℕ) → HasRead old text → HasReadAll new text) → IfErr result (λ e. (text : List ℕ) → length text ≤ text_limit → HasReadAll new text → IsRefusalOf text e) → IfErr result (λ e. (text : List ℕ) → Stands old text → IsRefusalOf text e)
-finish-refused old new (Ok done) few all h = h
-finish-refused old new (Err e) few all h = λ text stands. let short = short-text old text few stands in h text short (all text (stands.read short))
+pub finish-leads : (old new : Reader) (text : List ℕ) → old.count ≤ text_limit → (HasRead old text → HasReadAll new text) → new.fault ≡ None → Stands old text → (length text ≤ text_limit) × LeadsTo text (progress_of new)
+finish-leads old new text few all none stands =
+    let short = short-text old text few stands in
+    (short, leads new text none (all (stands.read short)))
 
 -- one more piece, counted: too many bytes, or behind a fault
 pub piece-long : (old new : Reader) (text piece : List ℕ) → new.count ≡ min (old.count + length piece) (text_limit + 1) → text_limit < new.count → Stands old text → Stands new (text ++ piece)
@@ -334,10 +318,10 @@ pub stands-end : (reader : Reader) (pieces : List (Bor (List ℕ))) (i : ℕ) �
 stands-end reader pieces i past h = rw (take_all i pieces past) at h
 
 -- what is answered for a text for which a reader stands
-pub answer-read : (reader : Reader) (text : List ℕ) (result : Result InstanceData TextEnd) → Stands reader text → IfOk result (λ i. (t : List ℕ) → Stands reader t → IsTextOf t i.names i.terms) → IfOk result (λ i. IsTextOf text i.names i.terms)
-answer-read reader text (Ok i) stands h = h text stands
-answer-read reader text (Err e) stands h = h
+pub answer-ok : {X : Type 0} (reader : Reader) (text : List ℕ) (result : Result X TextEnd) (P : List ℕ → X → Type 0) → Stands reader text → IfOk result (λ x. (t : List ℕ) → Stands reader t → P t x) → IfOk result (λ x. P text x)
+answer-ok reader text (Ok x) P stands h = h text stands
+answer-ok reader text (Err e) P stands h = h
 
-pub answer-refused : (reader : Reader) (text : List ℕ) (result : Result InstanceData TextEnd) → Stands reader text → IfErr result (λ e. (t : List ℕ) → Stands reader t → IsRefusalOf t e) → IfErr result (IsRefusalOf text)
-answer-refused reader text (Ok i) stands h = h
+pub answer-refused : {X : Type 0} (reader : Reader) (text : List ℕ) (result : Result X TextEnd) → Stands reader text → IfErr result (λ e. (t : List ℕ) → Stands reader t → IsRefusalOf t e) → IfErr result (IsRefusalOf text)
+answer-refused reader text (Ok x) stands h = h
 answer-refused reader text (Err e) stands h = h text stands

@@ -24,7 +24,7 @@ pub record IsNoTerm (instance : InstanceData) (line : List ℕ) (reason : Reason
   pub holds : HasAsTerm instance line reason
   pub first : (earlier : Reason) → reason_order earlier < reason_order reason → HasAsTerm instance line earlier → ⊥
 
--- a refusal names the first reason; want of memory says nothing
+-- a refusal names the first reason; out of memory says nothing
 abbrev pub IsTermRefusal : InstanceData → List ℕ → LineEnd → Type 0
 IsTermRefusal instance line (Fault reason) = IsNoTerm instance line reason
 IsTermRefusal instance line Memory = Unit {0}

@@ -3,6 +3,7 @@ pub mod Cursor
 pub mod Language
 pub mod GoodText
 pub mod OneTerm
+pub mod Numbered
 pub mod Judging
 pub mod Adding
 pub mod Standing

@@ -3,11 +3,15 @@ use Rattle.std.specs.Prelude.{◌≡◌, ◌⊎◌, ℕ, ◌+◌, ◌≤◌, min
 use Rattle.std.specs.List.{FoldsTo, enumerate_from}
 use Rattle.std.specs.Str.Lines.{strip_carriage_return}
 use Rattle.sfm_text.specs.declared.end.Fault.{Fault}
+use Rattle.sfm_text.specs.declared.reader.Numbered.{Numbered}
 use Rattle.sfm_text.specs.declared.reader.Reader.{Reader}
 use Rattle.sfm_lines.specs.Lines.{pieces_of, content_of, lines_of, tokens_of, are_skipped}
 use Rattle.sfm_lines.specs.Reading.{State, start, Takes, FirstReason}
+use Rattle.sfm_lines.specs.ReadParts.{state_at}
+use Rattle.sfm_lines.specs.declared.stage.Stage.TheVariants.{Ended}
 use Rattle.sfm_text.specs.GoodText.{text_limit, HasFaultyLine}
 use Rattle.sfm_text.specs.Judging.{state_of}
+use Rattle.sfm_text.specs.Numbered.{AreNumbersOf}
 
 -- these pieces as lines, numbered on from that number
 abbrev pub numbered : ℕ → List (List ℕ) → List (ℕ × List ℕ)
@@ -78,8 +82,15 @@ JudgesLine old piece new = MatchOption new.fault (PassesLine (progress_of old) (
 -- all lines of the text are good, and lead there
 pub record LeadsTo (text : List ℕ) (p : Progress) : Type 0 where
   pub count : p.lines ≡ length (lines_of text)
+  pub numbers : p.numbers ≡ map (λ line. line.0) (content_of text)
   pub good : FoldsTo Takes start (bytes_of (content_of text)) p.state
 
 -- all that can be read of the text has been
 abbrev pub HasReadAll : Reader → List ℕ → Type 0
 HasReadAll reader text = MatchOption reader.fault (LeadsTo text (progress_of reader)) (λ fault. HasFaultyLine text fault.line fault.reason)
+
+-- the text comes to its end, and stands for the instance, with these numbers of its lines
+pub record IsToldBy (text : List ℕ) (r : Numbered) : Type 0 where
+  pub lines : FoldsTo Takes start (bytes_of (content_of text)) (state_at Ended r.instance)
+  pub numbers : AreNumbersOf text r.ground_line r.term_lines.items
+  pub counted : length r.term_lines.items ≡ length r.instance.terms

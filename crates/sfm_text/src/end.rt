@@ -21,7 +21,7 @@ pub enum TextEnd {
     /// The text has a fault: the first, with its line, counted from 1 (0 is the text as a whole).
     #[error("line {line}: {reason:?}")]
     Refused { line: usize, reason: Reason },
-    /// Memory was wanting.
+    /// Out of memory.
     #[error("out of memory")]
     Memory,
 }

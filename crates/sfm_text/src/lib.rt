@@ -11,6 +11,6 @@ mod reading;
 pub use added::add_line;
 pub use end::TextEnd;
 pub use lines::{Line, Lines, content_lines};
-pub use reader::{Reader, TEXT_LIMIT, read_instance, read_pieces};
+pub use reader::{Numbered, Reader, TEXT_LIMIT, read_instance, read_numbered, read_pieces};
 pub use sfm_lines::tokens::token;
 pub use sfm_lines::{LineEnd, Reason};

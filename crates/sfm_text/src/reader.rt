@@ -1,8 +1,8 @@
 // Reading an instance text in pieces. A line is judged as soon as it ends, against what the lines before it led to. So only
 // the names, the terms and the line that has not ended are kept, and behind the first fault no more than a count of bytes.
-ghost use Rattle.std.specs.{Prelude.{◌≡◌, ◌==◌, ◌+◌, ◌≤◌, ◌<◌, ℕ, List, [], ◌∷◌, ◌++◌, length, true, false, None, Err, IfOk, IfErr, OnOk, OnErr}, List.{All, concat}};
+ghost use Rattle.std.specs.{Prelude.{◌≡◌, ◌==◌, ◌+◌, ◌≤◌, ◌<◌, ℕ, List, [], ◌∷◌, ◌++◌, length, true, false, None, Err, IfOk, IfErr, OnOk, OnErr, MatchOption}, List.{All, concat}};
 ghost use Rattle.sfm_lines.specs.Lines.{texts_of};
-ghost use Rattle.sfm_text.specs.GoodText.{text_limit, IsTextOf, IsRefusalOf};
+ghost use Rattle.sfm_text.specs.{GoodText.{text_limit, IsTextOf, IsRefusalOf}, Numbered.{AreNumbersOf}};
 ghost use Rattle.sfm_text.specs.declared.end.TextEnd.TheVariants as ends;
 
 use crate::end::{Fault, TextEnd};
@@ -17,9 +17,44 @@ use std::mem;
 /// The most bytes of an instance text.
 pub const TEXT_LIMIT: usize = 16_777_216;
 
+/// What a good text stands for, with the numbers of its lines, counted from 1.
+pub struct Numbered {
+    /// The names and the terms.
+    pub instance: Instance,
+    /// The number of the line with the names.
+    pub ground_line: usize,
+    /// The number of the line of each term, in order.
+    pub term_lines: Vec<usize>,
+}
+
+// Written out, so that letting one go is one step, which is proved here once.
+impl Drop for Numbered {
+    fn drop(self) {
+        let Self {
+            instance: _,
+            ground_line: _,
+            term_lines: _,
+        } = self;
+    }
+}
+
+impl Numbered {
+    /// The instance alone.
+    pub fn into_instance(self) -> Instance
+        ensures { result ≡ self.instance }
+    {
+        let Numbered {
+            instance,
+            ground_line: _,
+            term_lines: _,
+        } = self;
+        instance
+    }
+}
+
 /// A reader of an instance text that comes in pieces, cut anywhere.
 pub struct Reader {
-    /// Whether memory was wanting: then all further calls say so.
+    /// Whether a call ran out of memory: then all further calls say so.
     spent: bool,
     /// How many bytes have come, or one more than a text may have where more have come.
     count: usize,
@@ -53,7 +88,7 @@ impl Drop for Reader {
 }
 
 impl Reader {
-    ghost use Rattle.sfm_text.specs.Standing.{Stands, HasRead, HasReadAll, IsOpen, JudgesLine, progress_of};
+    ghost use Rattle.sfm_text.specs.{GoodText.{EndsEarly}, Standing.{Stands, HasRead, HasReadAll, LeadsTo, IsOpen, JudgesLine, IsToldBy, progress_of}};
 
     /// Nothing has been read.
     ///
@@ -104,37 +139,76 @@ impl Reader {
     ///
     /// `Refused` with the line and the reason of the first fault; `Memory` where there is none, and where the reader is
     /// spent.
-    pub fn finish(mut self, alloc: Global) -> Result<Instance, TextEnd>
+    pub fn finish(self, alloc: Global) -> Result<Instance, TextEnd>
         ensures read { IfOk result (λ instance. (text : List ℕ) → Stands self text
             → IsTextOf text instance.names instance.terms) }
         ensures refused { IfErr result (λ end. (text : List ℕ) → Stands self text
             → IsRefusalOf text end) }
         ensures spent { self.spent ≡ true → result ≡ Err ends.Memory }
     {
-        self.close(alloc)?;
-        Ok(self.into_instance())
+        let numbered = self.finish_numbered(alloc)?;
+        Ok(numbered.into_instance())
     }
 
-    /// The instance that was read, of a reader that is done with.
-    fn into_instance(self) -> Instance
-        ensures { result ≡ self.reading.instance }
+    /// The instance of the whole text and the numbers of its lines, or its first fault.
+    ///
+    /// # Errors
+    ///
+    /// As those of `finish`.
+    pub fn finish_numbered(mut self, alloc: Global) -> Result<Numbered, TextEnd>
+        ensures read { IfOk result (λ r. (text : List ℕ) → Stands self text
+            → IsTextOf text r.instance.names r.instance.terms) }
+        ensures numbered { IfOk result (λ r. (text : List ℕ) → Stands self text
+            → AreNumbersOf text r.ground_line r.term_lines.items) }
+        ensures counted { IfOk result (λ r. (text : List ℕ) → Stands self text
+            → length r.term_lines.items ≡ length r.instance.terms) }
+        ensures refused { IfErr result (λ end. (text : List ℕ) → Stands self text
+            → IsRefusalOf text end) }
+        ensures spent { self.spent ≡ true → result ≡ Err ends.Memory }
+    {
+        self.close(alloc)?;
+        let lines = self.lines;
+        match self.into_numbered() {
+            Some(numbered) => Ok(numbered),
+            None => Err(TextEnd::Refused {
+                line: lines + 1,
+                reason: Reason::Short,
+            }),
+        }
+    }
+
+    /// What was read of a text without a faulty line, or None where it ends too early, of a reader that is done with.
+    fn into_numbered(self) -> Option<Numbered>
+        ensures { MatchOption result
+            ((text : List ℕ) → LeadsTo text (progress_of self) → EndsEarly text)
+            (λ r. (text : List ℕ) → LeadsTo text (progress_of self) → IsToldBy text r) }
     {
         let Reader {
             spent: _,
             count: _,
             lines: _,
-            numbers: _,
+            numbers,
             rest: _,
             reading,
             fault: _,
         } = self;
-        reading.into_instance()
+        if reading.stage != Stage::Ended {
+            return None;
+        }
+        let Some((ground_line, term_lines)) = split_numbers(numbers) else {
+            return None;
+        };
+        Some(Numbered {
+            instance: reading.into_instance(),
+            ground_line,
+            term_lines,
+        })
     }
 
-    /// Reads what is left of the text, and tells whether it is good; a fault of it ends the reader.
+    /// Reads what is left of the text: a line with a fault, or too many bytes, end the reader.
     fn close(&mut self, alloc: Global) -> Result<(), TextEnd>
         ensures read { OnOk result ((text : List ℕ) → Stands self.old text
-            → IsTextOf text self.new.reading.instance.names self.new.reading.instance.terms) }
+            → (length text ≤ text_limit) × LeadsTo text (progress_of self.new)) }
         ensures refused { IfErr result (λ end. (text : List ℕ) → Stands self.old text
             → IsRefusalOf text end) }
         ensures spent { self.old.spent ≡ true → result ≡ Err ends.Memory }
@@ -155,27 +229,8 @@ impl Reader {
                 line: fault.line,
                 reason: fault.reason,
             }),
-            None => self.conclude(),
+            None => Ok(()),
         }
-    }
-
-    /// Whether a text that has been read to its end and has no faulty line comes to its end, or else the fault that it ends too
-    /// early.
-    fn conclude(&self) -> Result<(), TextEnd>
-        requires { self.now.fault ≡ None }
-        ensures read { OnOk result ((text : List ℕ) → length text ≤ text_limit
-            → HasReadAll self.now text → IsTextOf text self.now.reading.instance.names
-            self.now.reading.instance.terms) }
-        ensures refused { IfErr result (λ end. (text : List ℕ) → length text ≤ text_limit
-            → HasReadAll self.now text → IsRefusalOf text end) }
-    {
-        if self.reading.stage != Stage::Ended {
-            return Err(TextEnd::Refused {
-                line: self.lines + 1,
-                reason: Reason::Short,
-            });
-        }
-        Ok(())
     }
 
     /// Counts the bytes of a piece, and reads it where the text is neither too long nor faulty before it.
@@ -289,6 +344,21 @@ impl Reader {
     }
 }
 
+/// The numbers of the ground line and of the term lines, of those of all content lines of a good text: the header has the first,
+/// and the line `end` the last. None where these are fewer than three.
+fn split_numbers(mut numbers: Vec<usize>) -> Option<(usize, Vec<usize>)>
+    ensures { MatchOption result (length numbers.items < 3) (λ r. (header : ℕ) × (last : ℕ)
+        × (numbers.items ≡ header ∷ r.0 ∷ (r.1.items ++ last ∷ []))) }
+{
+    if numbers.len() < 3 {
+        return None;
+    }
+    let _header = numbers.remove(0);
+    let ground_line = numbers.remove(0);
+    let _last = numbers.pop();
+    Some((ground_line, numbers))
+}
+
 /// The instance that a text stands for, or its first fault.
 ///
 /// # Errors
@@ -316,4 +386,20 @@ pub fn read_pieces(alloc: Global, pieces: &[&[u8]]) -> Result<Instance, TextEnd>
         reader.feed(alloc, piece)?;
     }
     reader.finish(alloc)
+}
+
+/// The instance of a text and the numbers of its lines, or its first fault.
+///
+/// # Errors
+///
+/// `Refused` with the line and the reason of the first fault; `Memory` where there is none.
+pub fn read_numbered(alloc: Global, text: &[u8]) -> Result<Numbered, TextEnd>
+    ensures read { IfOk result (λ r. IsTextOf text.now r.instance.names r.instance.terms) }
+    ensures numbered { IfOk result (λ r. AreNumbersOf text.now r.ground_line r.term_lines.items) }
+    ensures counted { IfOk result (λ r. length r.term_lines.items ≡ length r.instance.terms) }
+    ensures refused { IfErr result (IsRefusalOf text.now) }
+{
+    let mut reader = Reader::new(alloc)?;
+    reader.feed(alloc, text)?;
+    reader.finish_numbered(alloc)
 }

@@ -2,7 +2,9 @@
 // right is proved; here the calls succeed with ample memory, and the reasons are compared with those worked by hand.
 use sfm_base::read_number;
 use sfm_kind::Instance;
-use sfm_text::{Lines, Reason, TEXT_LIMIT, TextEnd, content_lines, read_instance, token};
+use sfm_text::{
+    Lines, Reason, TEXT_LIMIT, TextEnd, content_lines, read_instance, read_numbered, token,
+};
 use std::alloc::Global;
 use std::process::Abort;
 
@@ -479,6 +481,13 @@ const SPANS: (&[u8], &[(usize, usize, usize)]) = (b"#\n a b\r\n\nc", &[(2, 2, 6)
 /// The same text: the number and the bytes of each of these lines, and one more than the number of all.
 const CONTENT: (&[(usize, &[u8])], usize) = (&[(2, b" a b"), (4, b"c")], 5);
 
+/// A text, the number of its ground line and those of its term lines.
+const NUMBERED: (&[u8], usize, &[usize]) = (
+    b"# x\nsfm 1\n\nground a b\nneed a b\n#\nweight a:1\nend\n",
+    4,
+    &[5, 7],
+);
+
 /// Lines, and the token of a number.
 const TOKENS: [(&[u8], usize, Option<&[u8]>); 5] = [
     (b" a \tbc", 0, Some(b"a")),
@@ -510,6 +519,14 @@ fn has_content() -> bool {
     lines.next_content().is_none() && lines.number() == CONTENT.1
 }
 
+/// Whether that text is read with these numbers.
+fn has_numbers(alloc: Global) -> bool {
+    match read_numbered(alloc, NUMBERED.0) {
+        Ok(read) => read.ground_line == NUMBERED.1 && read.term_lines.as_slice() == NUMBERED.2,
+        Err(_) => false,
+    }
+}
+
 /// Whether tokens have their places.
 fn has_tokens() -> bool {
     for (line, number, found) in &TOKENS {
@@ -523,6 +540,11 @@ fn has_tokens() -> bool {
 #[test]
 fn lines_and_tokens_have_their_places(rt: HostRuntime) {
     assert!(rt; has_spans(rt.alloc()) && has_content() && has_tokens());
+}
+
+#[test]
+fn lines_of_terms_have_their_numbers(rt: HostRuntime) {
+    assert!(rt; has_numbers(rt.alloc()));
 }
 
 /// Whether reasons that no table above tells have their words, and want of memory is an end.
