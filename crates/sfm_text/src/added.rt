@@ -30,7 +30,7 @@ fn is_good_byte(c: u8) -> bool
 }
 
 /// Whether a content line may hold each of the bytes.
-pub(crate) fn are_good_bytes(line: &[u8]) -> bool
+pub fn are_good_bytes(line: &[u8]) -> bool
     ensures { MatchBool result (Any IsBadByte line.now → ⊥) (Any IsBadByte line.now) }
 {
     for c in line {

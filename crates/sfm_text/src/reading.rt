@@ -33,7 +33,7 @@ impl Drop for Reading {
 }
 
 /// The line behind a word, or None where its first token is another.
-fn behind<'a>(word: &[u8], line: &'a [u8]) -> Option<&'a [u8]>
+pub fn behind<'a>(word: &[u8], line: &'a [u8]) -> Option<&'a [u8]>
     ensures { MatchOption result
         ((rest : List (List ℕ)) → tokens_of line.now ≢ word.now ∷ rest)
         (λ rest. tokens_of line.now ≡ word.now ∷ tokens_of rest.now) }
@@ -45,7 +45,7 @@ fn behind<'a>(word: &[u8], line: &'a [u8]) -> Option<&'a [u8]>
 }
 
 /// Whether a line has the one token `1`.
-fn is_version(line: &[u8]) -> bool
+pub fn is_version(line: &[u8]) -> bool
     ensures { MatchBool result
         (tokens_of line.now ≡ codes "1" ∷ [])
         (tokens_of line.now ≢ codes "1" ∷ []) }
@@ -64,7 +64,7 @@ fn is_end(token: &[u8]) -> bool
 }
 
 /// Whether the first token of a line is `end`.
-fn is_last(line: &[u8]) -> bool
+pub fn is_last(line: &[u8]) -> bool
     ensures { MatchBool result (BeginsEnd (tokens_of line.now))
         (BeginsEnd (tokens_of line.now) → ⊥) }
 {
