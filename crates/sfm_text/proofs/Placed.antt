@@ -1,10 +1,9 @@
 -- The lines of a text with their places are its lines.
-use Rattle.std.proofs.Common.{◌≡◌, ℕ, ◌+◌, Bool, true, false, not, cond, List, [], ◌∷◌, length, map, refl, sym, ap, ◌∙◌, arith}
+use Rattle.std.proofs.Common.{◌≡◌, ℕ, ◌+◌, true, false, cond, List, [], ◌∷◌, length, map, refl, sym, ap, ◌∙◌}
 use Rattle.std.specs.Prelude.{filter}
 use Rattle.std.specs.List.{enumerate_from}
 use Rattle.std.specs.Str.Lines.{strip_carriage_return}
 use Rattle.std.proofs.lemmas.List.{length-map}
-use Rattle.std.proofs.lemmas.List.FromFn.{length-enumerate_from}
 use Rattle.sfm_lines.specs.Lines.{pieces_of, without_empty_last, lines_of, content_of}
 use Rattle.sfm_text.specs.Places.{TextLine, placed_from, placed_lines, placed_content, content_among}
 use Rattle.sfm_text.specs.Standing.{is_content}

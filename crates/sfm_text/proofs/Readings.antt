@@ -1,13 +1,13 @@
 -- Two readings of one text, in any language of lines: where a relation of states is kept by the lines and told apart by no
 -- reason and no end, they end in related states. So a text is good or has a first fault, and one alone.
-use Rattle.std.proofs.Common.{◌≡◌, ℕ, ◌<◌, ◌≤◌, List, [], ◌∷◌, ◌++◌, length, map, refl, sym, ap, subst, ◌∙◌, arith}
+use Rattle.std.proofs.Common.{◌≡◌, ℕ, List, [], ◌∷◌, ◌++◌, refl, sym, ap, subst, ◌∙◌, arith}
 use Rattle.std.specs.List.{FoldsTo}
 use Rattle.std.proofs.lemmas.Fn.{FoldsTo-push}
 use Rattle.std.proofs.lemmas.List.{map-append}
 use Rattle.sfm_lines.specs.declared.reason.Reason.{Reason}
 use Rattle.sfm_lines.specs.Lines.{content_of}
 use Rattle.sfm_text.specs.Standing.{bytes_of}
-use Rattle.sfm_text.specs.Language.{text_limit, Language, IsReadAs, HasFaultyLineIn, IsFaultIn, is_long, is_faulty, is_short}
+use Rattle.sfm_text.specs.Language.{Language, IsReadAs, HasFaultyLineIn, IsFaultIn, is_long, is_faulty, is_short}
 
 -- lines that lead from one state to another do so by the state behind each of them
 pub folds-parts : {S X : Type 0} (Takes : S → X → S → Type 0) (before after : List X) (s t : S)

@@ -1,5 +1,5 @@
 -- What a reader has read, line by line: how it goes on with a line that ends, and what it comes to at the end of the text.
-use Rattle.std.proofs.Common.{◌≡◌, ◌≢◌, ◌⊎◌, Bor, inl, inr, ℕ, ◌+◌, ◌<◌, ◌≤◌, min, List, [], ◌∷◌, ◌++◌, ◌-◌, length, get_or, take, drop, map, not, Bool, true, false, Option, Some, None, MatchOption, is_some, Result, Ok, Err, refl, sym, ap, subst, ◌∙◌, arith, append_assoc, length-append}
+use Rattle.std.proofs.Common.{◌≡◌, ◌⊎◌, Bor, inl, inr, ℕ, ◌+◌, ◌<◌, ◌≤◌, min, List, [], ◌∷◌, ◌++◌, ◌-◌, length, get_or, take, drop, map, not, Bool, true, false, Option, Some, None, MatchOption, is_some, Result, Ok, Err, refl, sym, ap, subst, ◌∙◌, arith, append_assoc, length-append}
 use Prim.Native.Nat.{zero, suc}
 use Rattle.std.specs.Prelude.{◌==◌, OnOk, IfOk, IfErr}
 use Rattle.std.specs.List.{All, concat, filter, position_or_len, FoldsTo}
@@ -8,16 +8,13 @@ use Rattle.std.proofs.lemmas.Bool.{false≢true, eqb-true}
 use Rattle.std.proofs.lemmas.List.{append-nil, map-append, length-take, get_or-take, map_more, take_all}
 use Rattle.std.proofs.lemmas.List.Sums.{fails_before_first, passes_at_first}
 use Rattle.std.proofs.lemmas.List.Elements.{filter-append}
-use Rattle.sfm_kind.specs.Instance.{InstanceData}
 use Rattle.sfm_text.specs.declared.end.TextEnd.{TextEnd}
 use Rattle.sfm_text.specs.declared.end.Fault.{Fault}
 use Rattle.sfm_text.specs.declared.reader.Reader.{Reader}
-use Rattle.sfm_lines.specs.Lines.{pieces_of, without_empty_last, content_of, lines_of, tokens_of, are_skipped}
+use Rattle.sfm_lines.specs.Lines.{pieces_of, without_empty_last, lines_of, tokens_of, are_skipped}
 use Rattle.sfm_lines.specs.Reading.{start, Has, Takes}
-use Rattle.sfm_lines.specs.declared.reason.Reason.TheVariants.{Long, Short}
-use Rattle.sfm_lines.specs.declared.stage.Stage.{Stage}
-use Rattle.sfm_lines.specs.declared.stage.Stage.TheVariants.{Ended}
-use Rattle.sfm_text.specs.GoodText.{text_limit, HasFaultyLine, IsTextOf, IsRefusalOf, IsFaultOf, is_long, is_faulty, is_short}
+use Rattle.sfm_lines.specs.declared.reason.Reason.TheVariants.{Long}
+use Rattle.sfm_text.specs.GoodText.{text_limit, HasFaultyLine, IsRefusalOf, IsFaultOf, is_long, is_faulty}
 use Rattle.sfm_text.specs.Standing.{numbered, is_content, content_among, bytes_of, Progress, progress_of, LeadTo, IsOpen, IsFaulty, HasRead, Stands, PassesLine, FailsLine, JudgesLine, LeadsTo, HasReadAll}
 use Rattle.sfm_text.proofs.LineCuts.{without_empty_last-cons, without_empty_last-one}
 use Rattle.sfm_lines.proofs.Cuts.{rest-is}
