@@ -34,12 +34,14 @@ takes-one s line t takes = at s.stage refl takes.adds
     at Terms is (inr (term, stands, adds)) = rw (adds, is) (omega (arith, length_push s.terms term))
     at Ended is adds = absurd adds
 
-folds-count : (lines : List (List ℕ)) (s t : State) → FoldsTo Takes s lines t → lines_to t ≡ lines_to s + length lines
+folds-count : (lines : List (List ℕ)) (s t : State) → FoldsTo Takes s lines t
+    → lines_to t ≡ lines_to s + length lines
 folds-count [] s t h = omega (arith, ap lines_to h)
 folds-count (line ∷ lines) s t (r, takes, h) = omega (arith, takes-one s line r takes, folds-count lines r t h)
 
 -- so many lines has a text that comes to its end
-pub content-count : (text : List ℕ) (s : State) → FoldsTo Takes start (bytes_of (content_of text)) s → s.stage ≡ Ended → length (content_of text) ≡ 3 + length s.terms
+pub content-count : (text : List ℕ) (s : State) → FoldsTo Takes start (bytes_of (content_of text)) s
+    → s.stage ≡ Ended → length (content_of text) ≡ 3 + length s.terms
 content-count text s h ended =
     let count : lines_to s ≡ 0 + length (bytes_of (content_of text)) = folds-count (bytes_of (content_of text)) start s h in
     let last : lines_to s ≡ 3 + length s.terms = ap (λ (stage : Stage). lines_by stage (length s.terms)) ended in
@@ -54,15 +56,21 @@ module _ (text : List ℕ) (p : Progress) (lead : LeadsTo text p) (ended : p.sta
   not-few few = omega (arith, count, few)
 
   -- and those between them are the numbers of the term lines
-  pub told-numbers : (ground : ℕ) (between : List ℕ) → (header : ℕ) × (last : ℕ) × (p.numbers ≡ header ∷ ground ∷ (between ++ last ∷ [])) → AreNumbersOf text ground between
+  pub told-numbers : (ground : ℕ) (between : List ℕ)
+      → (header : ℕ) × (last : ℕ) × (p.numbers ≡ header ∷ ground ∷ (between ++ last ∷ []))
+      → AreNumbersOf text ground between
   told-numbers ground between (header, last, is) = record { header = header; last = last; numbers = sym lead.numbers ∙ is }
 
-  pub told-count : (ground : ℕ) (between : List ℕ) → (header : ℕ) × (last : ℕ) × (p.numbers ≡ header ∷ ground ∷ (between ++ last ∷ [])) → length between ≡ length p.state.terms
+  pub told-count : (ground : ℕ) (between : List ℕ)
+      → (header : ℕ) × (last : ℕ) × (p.numbers ≡ header ∷ ground ∷ (between ++ last ∷ []))
+      → length between ≡ length p.state.terms
   told-count ground between (header, last, is) = omega (arith, count, ap length is, length_push between last)
 
 -- what is told at the end of a text, of what its lines have led to
-pub told-by : (text : List ℕ) (reader : Reader) (r : Numbered) → LeadsTo text (progress_of reader) → reader.reading.stage ≡ Ended → r.instance ≡ reader.reading.instance
-    → (header : ℕ) × (last : ℕ) × (reader.numbers.items ≡ header ∷ r.ground_line ∷ (r.term_lines.items ++ last ∷ [])) → IsToldBy text r
+pub told-by : (text : List ℕ) (reader : Reader) (r : Numbered) → LeadsTo text (progress_of reader)
+    → reader.reading.stage ≡ Ended → r.instance ≡ reader.reading.instance
+    → (header : ℕ) × (last : ℕ) × (reader.numbers.items ≡ header ∷ r.ground_line ∷ (r.term_lines.items ++ last ∷ []))
+    → IsToldBy text r
 told-by text reader r lead ended same split = record {
   lines = subst (λ (i : InstanceData). FoldsTo Takes start (bytes_of (content_of text)) (state_at Ended i)) (sym same) (subst (λ (stage : Stage). FoldsTo Takes start (bytes_of (content_of text)) (state_at stage reader.reading.instance)) ended lead.good);
   numbers = told-numbers text (progress_of reader) lead ended r.ground_line r.term_lines.items split;

@@ -27,7 +27,8 @@ order-at (suc (suc (suc (suc (suc (suc (suc (suc zero)))))))) d lt = refl
 order-at (suc (suc (suc (suc (suc (suc (suc (suc (suc zero))))))))) d lt = refl
 order-at (suc (suc (suc (suc (suc (suc (suc (suc (suc (suc k)))))))))) d lt = absurd (omega (arith, lt))
 
-reasons-cut : (reason : Reason) → reasons ≡ take (reason_order reason) reasons ++ reason ∷ drop (reason_order reason + 1) reasons
+reasons-cut : (reason : Reason)
+    → reasons ≡ take (reason_order reason) reasons ++ reason ∷ drop (reason_order reason + 1) reasons
 reasons-cut Long = refl
 reasons-cut _ = refl
 
@@ -40,7 +41,8 @@ pub first_listed : (Has : Reason → Type 0) (reason : Reason) → Has reason
     → ((earlier : Reason) → reason_order earlier < reason_order reason → Has earlier → ⊥)
     → IsFirstOf Has reason
 first_listed Has reason holds none = record { holds = holds; first = first } where
-  first : (before behind : List Reason) → reasons ≡ before ++ reason ∷ behind → All (λ earlier. Has earlier → ⊥) before
+  first : (before behind : List Reason) → reasons ≡ before ++ reason ∷ behind
+      → All (λ earlier. Has earlier → ⊥) before
   first before behind e = λ k d lt.
       let count : length before < 10 = omega (arith, ap length e, length-append before (reason ∷ behind)) in
       let here : get_or reasons (length before) d ≡ reason = ap (λ (l : List Reason). get_or l (length before) d) e ∙ get_or_at before reason behind d (length before) refl in
@@ -63,7 +65,8 @@ same-reason a b e = sym (reason-at a a) ∙ (ap (λ n. get_or reasons n a) e ∙
 
 -- of the same reasons one is the first
 pub first_once : (Has Has' : Reason → Type 0) (a b : Reason)
-    → ((reason : Reason) → Has reason → Has' reason) → ((reason : Reason) → Has' reason → Has reason)
+    → ((reason : Reason) → Has reason → Has' reason)
+    → ((reason : Reason) → Has' reason → Has reason)
     → IsFirstOf Has a → IsFirstOf Has' b → a ≡ b
 first_once Has Has' a b forth back h g = at (cases_lt (reason_order a) (reason_order b)) (cases_lt (reason_order b) (reason_order a))
   where

@@ -9,7 +9,8 @@ use Rattle.sfm_text.specs.Places.{TextLine, placed_from, placed_lines, placed_co
 use Rattle.sfm_text.specs.Standing.{is_content}
 use Rattle.sfm_text.specs.Cursor.{numbered_line}
 
-numbered-content : (lines : List TextLine) → map numbered_line (content_among lines) ≡ filter is_content (map numbered_line lines)
+numbered-content : (lines : List TextLine)
+    → map numbered_line (content_among lines) ≡ filter is_content (map numbered_line lines)
 numbered-content [] = refl
 numbered-content (line ∷ lines) =
     elim (is_content (numbered_line line)) as (λ b. map numbered_line (cond b (line ∷ content_among lines) (content_among lines)) ≡ cond b (numbered_line line ∷ filter is_content (map numbered_line lines)) (filter is_content (map numbered_line lines))) [
@@ -17,7 +18,8 @@ numbered-content (line ∷ lines) =
       | false ↦ numbered-content lines
     ]
 
-numbered-from : (number start : ℕ) (pieces : List (List ℕ)) → map numbered_line (placed_from number start pieces) ≡ enumerate_from number (map strip_carriage_return pieces)
+numbered-from : (number start : ℕ) (pieces : List (List ℕ))
+    → map numbered_line (placed_from number start pieces) ≡ enumerate_from number (map strip_carriage_return pieces)
 numbered-from number start [] = refl
 numbered-from number start (piece ∷ pieces) = ap (λ (more : List (ℕ × List ℕ)). (number, strip_carriage_return piece) ∷ more) (numbered-from (number + 1) (start + length piece + 1) pieces)
 

@@ -18,13 +18,15 @@ folds-parts Takes (x ∷ before) after s t (r, takes, h) =
     let (u, front, back) = folds-parts Takes before after r t h in
     (u, (r, takes, front), back)
 
-bytes-parts : (before after : List (ℕ × List ℕ)) (line : ℕ × List ℕ) → bytes_of (before ++ line ∷ after) ≡ bytes_of before ++ line.1 ∷ bytes_of after
+bytes-parts : (before after : List (ℕ × List ℕ)) (line : ℕ × List ℕ)
+    → bytes_of (before ++ line ∷ after) ≡ bytes_of before ++ line.1 ∷ bytes_of after
 bytes-parts before after line = map-append (λ (l : ℕ × List ℕ). l.1) before (line ∷ after)
 
 -- one more line that is taken
 pub lines-push : {S : Type 0} (Takes : S → List ℕ → S → Type 0) (s : S) (done : List (ℕ × List ℕ)) (t : S)
     (line : ℕ × List ℕ) (u : S)
-    → FoldsTo Takes s (bytes_of done) t → Takes t line.1 u → FoldsTo Takes s (bytes_of (done ++ line ∷ [])) u
+    → FoldsTo Takes s (bytes_of done) t → Takes t line.1 u
+    → FoldsTo Takes s (bytes_of (done ++ line ∷ [])) u
 lines-push Takes s done t line u h takes = rw (map-append (λ (l : ℕ × List ℕ). l.1) done (line ∷ [])) (FoldsTo-push Takes s (bytes_of done) t line.1 u h takes)
 
 -- two cuts of one list at a place: at the same place, or one inside the front of the other
@@ -33,7 +35,8 @@ data Cuts (a b : ℕ × List ℕ) (xs ys zs ws : List (ℕ × List ℕ)) : Type 
   inside : (more : List (ℕ × List ℕ)) → zs ≡ xs ++ a ∷ more → Cuts a b xs ys zs ws
   outside : (more : List (ℕ × List ℕ)) → xs ≡ zs ++ b ∷ more → Cuts a b xs ys zs ws
 
-two-cuts : (a b : ℕ × List ℕ) (xs ys zs ws : List (ℕ × List ℕ)) → xs ++ a ∷ ys ≡ zs ++ b ∷ ws → Cuts a b xs ys zs ws
+two-cuts : (a b : ℕ × List ℕ) (xs ys zs ws : List (ℕ × List ℕ)) → xs ++ a ∷ ys ≡ zs ++ b ∷ ws
+    → Cuts a b xs ys zs ws
 two-cuts a b [] ys [] ws e = same_place refl (cc)
 two-cuts a b [] ys (z ∷ zs) ws e = let first : a ≡ z = cc in inside zs (ap (λ (l : ℕ × List ℕ). l ∷ zs) (sym first))
 two-cuts a b (x ∷ xs) ys [] ws e = let first : x ≡ b = cc in outside xs (ap (λ (l : ℕ × List ℕ). l ∷ xs) first)
@@ -50,7 +53,8 @@ two-cuts a b (x ∷ xs) ys (z ∷ zs) ws e =
 -- the relation holds at the start, each line keeps it, and two states of it are told apart by no reason and no end
 pub record IsKept {S : Type 0} (L : Language S) (R : S → S → Type 0) : Type 0 where
   pub start : R L.start L.start
-  pub takes : (s t : S) (line : List ℕ) (u v : S) → R s t → L.Takes s line u → L.Takes t line v → R u v
+  pub takes : (s t : S) (line : List ℕ) (u v : S) → R s t → L.Takes s line u → L.Takes t line v
+      → R u v
   pub ends : (s t : S) → R s t → L.IsEnd s → L.IsEnd t
   pub refuses : (s t : S) (line : List ℕ) (reason : Reason) (u : S)
       → R s t → L.IsFirst s line reason → L.Takes t line u → ⊥
@@ -72,12 +76,14 @@ equality-kept {S} L takes refuses once = record {
 }
 
 module _ {S : Type 0} (L : Language S) (R : S → S → Type 0) (kept : IsKept L R) where
-  folds-alike : (lines : List (List ℕ)) (s t u v : S) → R s t → FoldsTo L.Takes s lines u → FoldsTo L.Takes t lines v → R u v
+  folds-alike : (lines : List (List ℕ)) (s t u v : S) → R s t → FoldsTo L.Takes s lines u
+      → FoldsTo L.Takes t lines v → R u v
   folds-alike [] s t u v same h g = subst (λ (x : S). R x v) h (subst (λ (x : S). R s x) g same)
   folds-alike (line ∷ lines) s t u v same (s', h, hs) (t', g, gs) = folds-alike lines s' t' u v (kept.takes s t line s' t' same h g) hs gs
 
   -- the same lines lead to related states
-  pub lines-alike : (lines : List (List ℕ)) (s t : S) → FoldsTo L.Takes L.start lines s → FoldsTo L.Takes L.start lines t → R s t
+  pub lines-alike : (lines : List (List ℕ)) (s t : S) → FoldsTo L.Takes L.start lines s
+      → FoldsTo L.Takes L.start lines t → R s t
   lines-alike lines s t h g = folds-alike lines L.start L.start s t kept.start h g
 
   -- and so does a text, however it is read
@@ -85,7 +91,9 @@ module _ {S : Type 0} (L : Language S) (R : S → S → Type 0) (kept : IsKept L
   readings-alike text s t h g = lines-alike (bytes_of (content_of text)) s t h.lines g.lines
 
   -- a line with a reason is not good behind the same lines
-  not-good : (before all more : List (ℕ × List ℕ)) (line : ℕ × List ℕ) (s t : S) (reason : Reason) → all ≡ before ++ line ∷ more → FoldsTo L.Takes L.start (bytes_of before) s → L.IsFirst s line.1 reason → FoldsTo L.Takes L.start (bytes_of all) t → ⊥
+  not-good : (before all more : List (ℕ × List ℕ)) (line : ℕ × List ℕ) (s t : S) (reason : Reason)
+      → all ≡ before ++ line ∷ more → FoldsTo L.Takes L.start (bytes_of before) s
+      → L.IsFirst s line.1 reason → FoldsTo L.Takes L.start (bytes_of all) t → ⊥
   not-good before all more line s t reason is h fault good =
       let parts : bytes_of all ≡ bytes_of before ++ line.1 ∷ bytes_of more = ap bytes_of is ∙ bytes-parts before more line in
       let cut = subst (λ (lines : List (List ℕ)). FoldsTo L.Takes L.start lines t) parts good in
@@ -93,17 +101,22 @@ module _ {S : Type 0} (L : Language S) (R : S → S → Type 0) (kept : IsKept L
       kept.refuses s u line.1 reason v (lines-alike (bytes_of before) s u h front) fault takes
 
   -- a text with a faulty line is not good to its end
-  faulty-or-good : (text : List ℕ) (number : ℕ) (reason : Reason) (t : S) → HasFaultyLineIn L text number reason → FoldsTo L.Takes L.start (bytes_of (content_of text)) t → ⊥
+  faulty-or-good : (text : List ℕ) (number : ℕ) (reason : Reason) (t : S)
+      → HasFaultyLineIn L text number reason
+      → FoldsTo L.Takes L.start (bytes_of (content_of text)) t → ⊥
   faulty-or-good text number reason t h good = not-good h.before (content_of text) h.after (number, h.line) h.state t reason h.content h.good h.fault good
 
   -- a good text has no fault
-  pub good-or-faulty : (text : List ℕ) (s : S) (number : ℕ) (reason : Reason) → IsReadAs L text s → L.IsEnd s → IsFaultIn L text number reason → ⊥
+  pub good-or-faulty : (text : List ℕ) (s : S) (number : ℕ) (reason : Reason) → IsReadAs L text s
+      → L.IsEnd s → IsFaultIn L text number reason → ⊥
   good-or-faulty text s number reason good end (is_long at is long) = omega (arith, good.short, long)
   good-or-faulty text s number reason good end (is_faulty short faulty) = faulty-or-good text number reason s faulty good.lines
   good-or-faulty text s number reason good end (is_short at is short early) = early.2 (kept.ends s early.0 (lines-alike (bytes_of (content_of text)) s early.0 good.lines early.1) end)
 
   -- two faulty lines of one text are one, with one reason
-  faulty-once : (text : List ℕ) (number number' : ℕ) (reason reason' : Reason) → HasFaultyLineIn L text number reason → HasFaultyLineIn L text number' reason' → (number ≡ number') × (reason ≡ reason')
+  faulty-once : (text : List ℕ) (number number' : ℕ) (reason reason' : Reason)
+      → HasFaultyLineIn L text number reason → HasFaultyLineIn L text number' reason'
+      → (number ≡ number') × (reason ≡ reason')
   faulty-once text number number' reason reason' h g = at (two-cuts (number, h.line) (number', g.line) h.before h.after g.before g.after (sym h.content ∙ g.content))
     where
       at : Cuts (number, h.line) (number', g.line) h.before h.after g.before g.after → (number ≡ number') × (reason ≡ reason')
@@ -117,7 +130,9 @@ module _ {S : Type 0} (L : Language S) (R : S → S → Type 0) (kept : IsKept L
       at (outside more is) = absurd (not-good g.before h.before more (number', g.line) g.state h.state reason' is g.good g.fault h.good)
 
   -- and a text has one first fault
-  pub faults-once : (text : List ℕ) (line line' : ℕ) (reason reason' : Reason) → IsFaultIn L text line reason → IsFaultIn L text line' reason' → (line ≡ line') × (reason ≡ reason')
+  pub faults-once : (text : List ℕ) (line line' : ℕ) (reason reason' : Reason)
+      → IsFaultIn L text line reason → IsFaultIn L text line' reason'
+      → (line ≡ line') × (reason ≡ reason')
   faults-once text line line' reason reason' (is_long at is long) (is_long at' is' long') = (at ∙ sym at', is ∙ sym is')
   faults-once text line line' reason reason' (is_long at is long) (is_faulty short faulty) = absurd (omega (arith, long, short))
   faults-once text line line' reason reason' (is_long at is long) (is_short at' is' short early) = absurd (omega (arith, long, short))

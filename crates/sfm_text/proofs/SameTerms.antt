@@ -39,14 +39,19 @@ same_both : (a b c d : ℤ) → a ∷ b ∷ [] ≡ c ∷ d ∷ [] → (a ≡ c) 
 same_both a b c d e = let first : a ≡ c = cc in let second : b ≡ d = cc in (first, second)
 
 -- the meanings of two terms of the same places, by the values of each
-meanings-by : (s t : Kind) → kind_places s ≡ kind_places t → ((f : SetFunction) → IsValueOf s f → IsValueOf t f) → ((f : SetFunction) → IsValueOf t f → IsValueOf s f) → (meant : Meaning) → IsMeaningOf s meant ↔ IsMeaningOf t meant
+meanings-by : (s t : Kind) → kind_places s ≡ kind_places t
+    → ((f : SetFunction) → IsValueOf s f → IsValueOf t f)
+    → ((f : SetFunction) → IsValueOf t f → IsValueOf s f) → (meant : Meaning)
+    → IsMeaningOf s meant ↔ IsMeaningOf t meant
 meanings-by s t same forth back meant = (
   λ h. record { places = h.places ∙ same; values = forth meant.value h.values },
   λ h. record { places = h.places ∙ sym same; values = back meant.value h.values },
 )
 
 -- a rank is told by its number and what it is made of
-rank-one : (rank : RankKind) (parts : LineParts) (values : List ℤ) (s t : Kind) → kind_places s ≡ kind_places t → IsRankMadeOf rank parts values s → IsRankMadeOf rank parts values t → AreOneTerm s t
+rank-one : (rank : RankKind) (parts : LineParts) (values : List ℤ) (s t : Kind)
+    → kind_places s ≡ kind_places t → IsRankMadeOf rank parts values s
+    → IsRankMadeOf rank parts values t → AreOneTerm s t
 rank-one UniformRank parts values (Uniform a) (Uniform b) same h g =
     let (number, cap) = same_both a.w a.cap b.w b.cap (h ∙ sym g) in
     let places : a.places ≡ b.places = same in
@@ -97,7 +102,9 @@ rank-one TransversalRank parts values (Transversal a) _ same h g = absurd g
 rank-one _ parts values _ _ same h g = absurd h
 
 -- and a term of each word by its places and its numbers
-made-one : (word : TermWord) (parts : LineParts) (values : List ℤ) (s t : Kind) → kind_places s ≡ kind_places t → IsMadeOf word parts values s → IsMadeOf word parts values t → AreOneTerm s t
+made-one : (word : TermWord) (parts : LineParts) (values : List ℤ) (s t : Kind)
+    → kind_places s ≡ kind_places t → IsMadeOf word parts values s → IsMadeOf word parts values t
+    → AreOneTerm s t
 made-one RankWord parts values s t same h g = rank-one parts.rank parts values s t same h g
 made-one WeightWord parts values (Weight a) (Weight b) same h g =
     let weights : a.weights ≡ b.weights = h ∙ sym g in
@@ -162,7 +169,8 @@ made-one TableWord parts values (Table a) _ same h g = absurd g
 made-one ConcaveWord parts values (Concave a) _ same h g = absurd g
 made-one _ parts values _ _ same h g = absurd h
 
-pub stands-same : (names tokens : List (List ℕ)) (s t : Kind) → AllPairs (λ a b. a ≢ b) names → StandsFor names tokens s → StandsFor names tokens t → AreOneTerm s t
+pub stands-same : (names tokens : List (List ℕ)) (s t : Kind) → AllPairs (λ a b. a ≢ b) names
+    → StandsFor names tokens s → StandsFor names tokens t → AreOneTerm s t
 stands-same names tokens s t distinct h g =
     let P : TermWord → List (List ℕ) → LineParts → Type 0 = λ word rest parts. (values : List ℤ) × (places : List ℕ) × AllZip (IsNumberFrom (lowest_of word)) parts.numbers values × AllZip (IsElement names) parts.elements places × IsTermOf word parts values places t in
     let (values, places, numbers, elements, made) = of-term-line h.word tokens h.rest h.parts P h.shaped.0 h.shaped.1 (g.word, g.rest, g.parts, g.shaped, (g.values, g.places, g.numbers, g.elements, record { same_places = g.same_places; made = g.made })) in
@@ -172,14 +180,16 @@ stands-same names tokens s t distinct h g =
     made-one h.word h.parts h.values s t (h.same_places ∙ sym made'.same_places) h.made made'.made
 
 -- so there is too much with the one exactly where there is with the other
-pub much-same : (terms : List Kind) (s t : Kind) → AreOneTerm s t → AreTooMuch (terms ++ t ∷ []) → AreTooMuch (terms ++ s ∷ [])
+pub much-same : (terms : List Kind) (s t : Kind) → AreOneTerm s t → AreTooMuch (terms ++ t ∷ [])
+    → AreTooMuch (terms ++ s ∷ [])
 much-same terms s t same (inl many) = inl (omega (arith, many, length_push terms s, length_push terms t))
 much-same terms s t same (inr (inl many)) = inr (inl (omega (arith, many, support-push terms s, support-push terms t, ap length same.places)))
 much-same terms s t same (inr (inr (meant, means, many))) =
     much-by-total (terms ++ s ∷ []) (omega (arith, ints, total-by-much (terms ++ t ∷ []) meant means many, total_size-push terms s, total_size-push terms t, same.size))
 
 -- the places of the term are places of the ground
-pub stands-placed : (names tokens : List (List ℕ)) (term : Kind) → StandsFor names tokens term → IsPlaced (length names) (kind_places term)
+pub stands-placed : (names tokens : List (List ℕ)) (term : Kind) → StandsFor names tokens term
+    → IsPlaced (length names) (kind_places term)
 stands-placed names tokens term h =
     let is : kind_places term ≡ h.places = h.same_places in
     let n = length-AllZip (IsElement names) h.parts.elements h.places h.elements in
@@ -192,7 +202,9 @@ stands-placed names tokens term h =
     }
 
 -- a term that is not too much keeps the bounds
-pub bounded-more : (n : ℕ) (terms : List Kind) (term : Kind) → AreInBounds n terms → IsPlaced n (kind_places term) → (AreTooMuch (terms ++ term ∷ []) → ⊥) → AreInBounds n (terms ++ term ∷ [])
+pub bounded-more : (n : ℕ) (terms : List Kind) (term : Kind) → AreInBounds n terms
+    → IsPlaced n (kind_places term) → (AreTooMuch (terms ++ term ∷ []) → ⊥)
+    → AreInBounds n (terms ++ term ∷ [])
 bounded-more n terms term h placed few = in_bounds-push n terms term h placed (record {
   few_terms = ⊎_elim (λ (lt : 4096 < length (terms ++ term ∷ [])). absurd (few (inl lt))) (λ (le : length (terms ++ term ∷ []) ≤ 4096). omega (arith, le, length_push terms term)) (cases_lt 4096 (length (terms ++ term ∷ [])));
   few_places = ⊎_elim (λ (lt : 16384 < support_of (terms ++ term ∷ [])). absurd (few (inr (inl lt)))) (λ (le : support_of (terms ++ term ∷ []) ≤ 16384). omega (arith, le, support-push terms term)) (cases_lt 16384 (support_of (terms ++ term ∷ [])));

@@ -103,7 +103,8 @@ impl<'a> Lines<'a> {
     pub fn next_content(&mut self) -> Option<Line<'a>>
         ensures next { MatchOption result
             (content_left self.old ≡ [])
-            (λ line. content_left self.old ≡ (line.number, line.bytes.now) ∷ content_left self.new) }
+            (λ line. content_left self.old
+            ≡ (line.number, line.bytes.now) ∷ content_left self.new) }
         ensures places { MatchOption result
             (placed_left self.old ≡ [])
             (λ line. placed_left self.old ≡ line_of line ∷ placed_left self.new) }
