@@ -9,4 +9,7 @@ mod run;
 mod walk;
 
 pub use least::least_minimiser;
-pub use optimum::{Optimum, improve, minimise, minimise_counted, minimise_from_start};
+pub use optimum::{
+    Optimum, Optimum as OptimumAt, improve, minimise, minimise_at, minimise_at_counted,
+    minimise_counted, minimise_from_start,
+};

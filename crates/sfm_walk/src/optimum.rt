@@ -95,9 +95,78 @@ pub fn minimise_counted<T: Term>(
     ensures kept { steps.old ≤ steps.new }
 {
     let shift = vec![in alloc; p; n]?;
+    minimise_at_counted(alloc, terms, n, q, &shift, steps)
+}
+
+/// Bases that prove the minimum of q times the sum of the terms, less the shift of each element, over a ground of n places. The
+/// magnitudes of the shift add to at most 10^27. `minimise` is the case of one number for all elements.
+///
+/// # Errors
+///
+/// `Memory` where there is none.
+pub fn minimise_at<T: Term>(
+    alloc: Global,
+    terms: &[T],
+    n: usize,
+    q: i128,
+    shift: &[i128],
+) -> Result<Optimum, Memory>
+    requires bounded { AreBounded n (map T.places terms.now) (map T.size_of terms.now) }
+    requires each { length shift.now ≡ n }
+    requires shifts { magnitudes shift.now ≤ℤ pos (10 ^ 27) }
+    requires factor { IsFactor q }
+    ensures bases { IfOk result (λ r. AreBases q (meanings T.places T.value_of terms.now) r.bases) }
+    ensures small { IfOk result (λ r. All (λ x. All IsEntry x) r.bases) }
+    ensures rest { IfOk result (λ r. (length r.z ≡ n) × ((e : ℕ) → e < n
+        → slice_index_or r.z e (pos 0) ≡ rest_at (meanings T.places T.value_of terms.now) r.bases
+        shift.now e)) }
+    ensures ends { IfOk result (λ r. (first : ℕ) (steps : List Step)
+        → Joins (meanings T.places T.value_of terms.now) q shift.now r.bases first steps → ⊥) }
+    ensures proves { IfOk result (λ r. Prove (meanings T.places T.value_of terms.now) n q
+        shift.now r.bases) }
+    ensures few { IfOk result (λ r. IsFewWalks (meanings T.places T.value_of terms.now) n q
+        shift.now (map (λ term. T.start_of term q) terms.now) r.bases) }
+{
+    let mut steps = Steps::new();
+    minimise_at_counted(alloc, terms, n, q, shift, &mut steps)
+}
+
+/// The same, and each walk is counted, from a count below 2^63. With an answer the count has risen by the number of walks
+/// that led to its bases, and without one by no more than there may be.
+///
+/// # Errors
+///
+/// `Memory` where there is none.
+pub fn minimise_at_counted<T: Term>(
+    alloc: Global,
+    terms: &[T],
+    n: usize,
+    q: i128,
+    shift: &[i128],
+    steps: &mut Steps,
+) -> Result<Optimum, Memory>
+    requires room { steps.old < 2 ^ 63 }
+    requires bounded { AreBounded n (map T.places terms.now) (map T.size_of terms.now) }
+    requires each { length shift.now ≡ n }
+    requires shifts { magnitudes shift.now ≤ℤ pos (10 ^ 27) }
+    requires factor { IsFactor q }
+    ensures bases { IfOk result (λ r. AreBases q (meanings T.places T.value_of terms.now) r.bases) }
+    ensures small { IfOk result (λ r. All (λ x. All IsEntry x) r.bases) }
+    ensures rest { IfOk result (λ r. (length r.z ≡ n) × ((e : ℕ) → e < n
+        → slice_index_or r.z e (pos 0) ≡ rest_at (meanings T.places T.value_of terms.now) r.bases
+        shift.now e)) }
+    ensures ends { IfOk result (λ r. (first : ℕ) (steps : List Step)
+        → Joins (meanings T.places T.value_of terms.now) q shift.now r.bases first steps → ⊥) }
+    ensures proves { IfOk result (λ r. Prove (meanings T.places T.value_of terms.now) n q
+        shift.now r.bases) }
+    ensures counted { IfOk result (λ r. IsCounted (meanings T.places T.value_of terms.now) n q
+        shift.now (map (λ term. T.start_of term q) terms.now) r.bases steps.old steps.new) }
+    ensures few { steps.new ≤ steps.old + few_walks n (length terms.now) }
+    ensures kept { steps.old ≤ steps.new }
+{
     let first_bases = start_rows(alloc, terms, q)?;
     let mut graph = graph_at(alloc, terms, n, q, first_bases)?;
-    let z = improve(alloc, &mut graph, terms, q, &shift, steps)?;
+    let z = improve(alloc, &mut graph, terms, q, shift, steps)?;
     Ok(Optimum {
         bases: graph.into_bases(),
         z,

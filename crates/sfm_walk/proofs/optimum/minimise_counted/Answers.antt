@@ -1,114 +1,98 @@
-use Rattle.std.proofs.Common.{◌≡◌, ℕ, ◌+◌, ◌<◌, ◌≤◌, ℤ, List, length, map, get_or, pos, replicate, rules, arith, FitsSigned}
+use Rattle.std.proofs.Common.{◌≡◌, ℕ, ◌<◌, ℤ, List, length, map, get_or, pos, replicate, rules, arith, FitsSigned}
 use Rattle.std.proofs.lemmas.Int.{to_z-of_z}
 use Rattle.std.proofs.lemmas.List.{length-replicate}
+use Rattle.std.specs.Result.{IfOk}
 use mir.Syntax.{w128}
 use mir.Val.{of_z, to_z}
 use Rattle.sfm_spec.specs.Families.{meanings, even_shift, rest_at, Prove}
-use Rattle.sfm_spec.specs.Walks.{Step, Joins, few_walks}
+use Rattle.sfm_spec.specs.Walks.{Step, Joins}
 use Rattle.sfm_walk.specs.Counted.{IsCounted}
-use Rattle.sfm_walk.proofs.Starting.{even_small, sizes_bounded, starts_bounded}
-use Rattle.sfm_exchange.proofs.ClaimedGraphs.{whole_claimed}
+use Rattle.sfm_walk.proofs.Starting.{even_small}
 use Rattle.sfm_walk.proofs.optimum.minimise_counted.Given as given
 use Rattle.sfm_walk.proofs.optimum.minimise_counted.Goals as goal
-use Rattle.sfm_walk.proofs.optimum.minimise_counted.Goals.{After-improve}
+use Rattle.sfm_walk.proofs.optimum.minimise_counted.Goals.{After-minimise_at_counted}
 
 -- what holds at the shift as it was written holds at the even one
-even : (g : given.Over) (c : After-improve g) (P : ℕ → ℤ → List ℤ → Type 0) → P (length c.deref.result.now) (to_z w128 (of_z w128 c.args.q)) c.deref.result.now → P c.args.n c.args.q (even_shift c.args.n c.args.p)
+even : (g : given.Over) (c : After-minimise_at_counted g) (P : ℤ → List ℤ → Type 0)
+    → P (to_z w128 (of_z w128 c.args.q)) c.deref.result.now
+    → P c.args.q (even_shift c.args.n c.args.p)
 even g c P h =
     let fq : FitsSigned w128 c.args.q = c.ranges.q in
     let same : c.deref.result.now ≡ replicate c.args.n c.args.p = search rules in
-    let known : P (length c.deref.result.now) c.args.q c.deref.result.now = simp to_z-of_z at h in
-    rw (same, length-replicate c.args.n c.args.p) at known
+    let known : P c.args.q c.deref.result.now = simp to_z-of_z at h in
+    rw same at known
 
-pub start_rows-requires-clause-bounded : goal.start_rows-requires-clause-bounded
-start_rows-requires-clause-bounded g c = let t = g.T.Term in let m = g.met.T.Term in sizes_bounded t.places t.value_of t.size_of m.submodular m.bounded _ c.args.terms.now c.requires.bounded
-
-pub improve-requires-clause-shifts : goal.improve-requires-clause-shifts
-improve-requires-clause-shifts g c =
-    even_small c.deref.result.now c.args.n c.args.p c.requires.slope c.requires.bounded.few (search rules)
-
-pub improve-requires-clause-small : goal.improve-requires-clause-small
-improve-requires-clause-small g c =
-    let t = g.T.Term in
-    let m = g.met.T.Term in
-    let fq : FitsSigned w128 c.args.q = c.ranges.q in
-    let rows = simp to_z-of_z at c.in_ok-first_bases.ensures.starts in
-    rw (c.in_ok-graph.ensures.bases, rows) (starts_bounded t.places t.value_of t.size_of m.submodular m.bounded _ c.args.terms.now c.requires.bounded t.start_of c.args.q (λ x. m.starts_small x c.args.q) c.requires.factor)
-
-pub returns-clause-rest : goal.returns-clause-rest
-returns-clause-rest g c =
-    let t = g.T.Term in
-    let z = c.in_ok-z.z in
-    rw c.into_bases.ensures (even g (goal.at.returns-clause-rest g c).After-improve (λ n q shift. (length z ≡ n) × ((e : ℕ) → e < n → get_or z e (pos 0) ≡ rest_at (meanings t.places t.value_of c.args.terms.now) c.improve.new.graph.bases shift e)) c.in_ok-z.ensures.rest)
-
-pub returns-clause-ends : goal.returns-clause-ends
-returns-clause-ends g c =
-    let t = g.T.Term in
-    rw c.into_bases.ensures (even g (goal.at.returns-clause-ends g c).After-improve (λ n q shift. (first : ℕ) (steps : List Step) → Joins (meanings t.places t.value_of c.args.terms.now) q shift c.improve.new.graph.bases first steps → ⊥) c.in_ok-z.ensures.ends)
-
-pub returns-clause-proves : goal.returns-clause-proves
-returns-clause-proves g c =
-    let t = g.T.Term in
-    rw c.into_bases.ensures (even g (goal.at.returns-clause-proves g c).After-improve (λ n q shift. Prove (meanings t.places t.value_of c.args.terms.now) n q shift c.improve.new.graph.bases) c.in_ok-z.ensures.proves)
-
-pub returns-clause-counted : goal.returns-clause-counted
-returns-clause-counted g c =
-    let t = g.T.Term in
-    let known = rw (c.in_ok-graph.ensures.bases, c.in_ok-first_bases.ensures.starts) at c.in_ok-z.ensures.counted in
-    rw c.into_bases.ensures (even g (goal.at.returns-clause-counted g c).After-improve (λ n q shift. IsCounted (meanings t.places t.value_of c.args.terms.now) n q shift (map (λ term. t.start_of term q) c.args.terms.now) c.improve.new.graph.bases c.args.steps.now c.improve.new.steps) known)
-
-pub returns-clause-few : goal.returns-clause-few
-returns-clause-few g c =
-    even g (goal.at.returns-clause-few g c).After-improve (λ n q shift. c.improve.new.steps ≤ c.args.steps.now + few_walks n (length c.args.terms.now)) c.improve.ensures.few
-
-pub improve-requires-clause-graph : goal.improve-requires-clause-graph
-improve-requires-clause-graph g c =
-    let fq : FitsSigned w128 c.args.q = c.ranges.q in
-    let r = c.requires in
+pub minimise_at_counted-requires-clause-each : goal.minimise_at_counted-requires-clause-each
+minimise_at_counted-requires-clause-each g c =
     let same : c.deref.result.now ≡ replicate c.args.n c.args.p = search rules in
-    rw (same, length-replicate c.args.n c.args.p) (simp to_z-of_z (whole_claimed (record { bounded = r.bounded; factor = r.factor; exact = simp to_z-of_z at c.in_ok-graph.ensures.graph })))
+    rw same (length-replicate c.args.n c.args.p)
 
-pub graph_at-requires-clause-bases : goal.graph_at-requires-clause-bases
-graph_at-requires-clause-bases g c = c.in_ok-first_bases.ensures.bases
+pub minimise_at_counted-requires-clause-shifts : goal.minimise_at_counted-requires-clause-shifts
+minimise_at_counted-requires-clause-shifts g c =
+    let r = c.requires in
+    even_small c.deref.result.now c.args.n c.args.p r.slope r.bounded.few (search rules)
 
-pub graph_at-requires-clause-small : goal.graph_at-requires-clause-small
-graph_at-requires-clause-small g c = c.in_ok-first_bases.ensures.small
+pub minimise_at_counted-requires-clause-factor : goal.minimise_at_counted-requires-clause-factor
+minimise_at_counted-requires-clause-factor g c =
+    let fq : FitsSigned w128 c.args.q = c.ranges.q in
+    simp to_z-of_z c.requires.factor
 
-pub returns-in_err-z-clause-few : goal.returns-in_err-z-clause-few
-returns-in_err-z-clause-few g c =
-    even g (goal.at.returns-in_err-z-clause-few g c).After-improve (λ n q shift. c.improve.new.steps ≤ c.args.steps.now + few_walks n (length c.args.terms.now)) c.improve.ensures.few
+pub minimise_at_counted-requires-clause-bounded : goal.minimise_at_counted-requires-clause-bounded
+minimise_at_counted-requires-clause-bounded g c = c.requires.bounded
+
+pub minimise_at_counted-requires-clause-room : goal.minimise_at_counted-requires-clause-room
+minimise_at_counted-requires-clause-room g c = c.requires.room
 
 pub returns-clause-bases : goal.returns-clause-bases
 returns-clause-bases g c =
     let fq : FitsSigned w128 c.args.q = c.ranges.q in
-    rw c.into_bases.ensures (simp to_z-of_z at c.in_ok-z.ensures.bases)
+    simp to_z-of_z at c.minimise_at_counted.ensures.bases
 
 pub returns-clause-small : goal.returns-clause-small
-returns-clause-small g c = rw c.into_bases.ensures c.in_ok-z.ensures.small
+returns-clause-small g c = c.minimise_at_counted.ensures.small
 
-pub start_rows-requires-clause-factor : goal.start_rows-requires-clause-factor
-start_rows-requires-clause-factor g c = let fq : FitsSigned w128 c.args.q = c.ranges.q in simp to_z-of_z c.requires.factor
+pub returns-clause-rest : goal.returns-clause-rest
+returns-clause-rest g c =
+    let t = g.T.Term in
+    let ts = meanings t.places t.value_of c.args.terms.now in
+    let n = c.args.n in
+    let call = c.minimise_at_counted in
+    even g (goal.at.returns-clause-rest g c).After-minimise_at_counted
+    (λ q shift. IfOk call.result (λ r. (length r.z ≡ n) × ((e : ℕ) → e < n
+    → get_or r.z e (pos 0) ≡ rest_at ts r.bases shift e))) call.ensures.rest
 
-pub graph_at-requires-clause-bounded : goal.graph_at-requires-clause-bounded
-graph_at-requires-clause-bounded g c = c.requires.bounded
+pub returns-clause-ends : goal.returns-clause-ends
+returns-clause-ends g c =
+    let t = g.T.Term in
+    let ts = meanings t.places t.value_of c.args.terms.now in
+    let call = c.minimise_at_counted in
+    even g (goal.at.returns-clause-ends g c).After-minimise_at_counted
+    (λ q shift. IfOk call.result (λ r. (first : ℕ) (steps : List Step)
+    → Joins ts q shift r.bases first steps → ⊥)) call.ensures.ends
 
-pub graph_at-requires-clause-factor : goal.graph_at-requires-clause-factor
-graph_at-requires-clause-factor g c = let fq : FitsSigned w128 c.args.q = c.ranges.q in simp to_z-of_z c.requires.factor
+pub returns-clause-proves : goal.returns-clause-proves
+returns-clause-proves g c =
+    let t = g.T.Term in
+    let ts = meanings t.places t.value_of c.args.terms.now in
+    let call = c.minimise_at_counted in
+    even g (goal.at.returns-clause-proves g c).After-minimise_at_counted
+    (λ q shift. IfOk call.result (λ r. Prove ts c.args.n q shift r.bases)) call.ensures.proves
 
-pub improve-requires-clause-room : goal.improve-requires-clause-room
-improve-requires-clause-room g c = c.requires.room
+pub returns-clause-counted : goal.returns-clause-counted
+returns-clause-counted g c =
+    let t = g.T.Term in
+    let ts = meanings t.places t.value_of c.args.terms.now in
+    let call = c.minimise_at_counted in
+    even g (goal.at.returns-clause-counted g c).After-minimise_at_counted
+    (λ q shift. IfOk call.result (λ r. IsCounted ts c.args.n q shift
+    (map (λ x. t.start_of x q) c.args.terms.now) r.bases c.args.steps.now call.new.steps))
+    call.ensures.counted
+
+pub returns-clause-few : goal.returns-clause-few
+returns-clause-few g c = c.minimise_at_counted.ensures.few
 
 pub returns-clause-kept : goal.returns-clause-kept
-returns-clause-kept g c = c.improve.ensures.kept
-
-pub returns-in_err-z-clause-kept : goal.returns-in_err-z-clause-kept
-returns-in_err-z-clause-kept g c = c.improve.ensures.kept
+returns-clause-kept g c = c.minimise_at_counted.ensures.kept
 
 pub returns-in_err-shift-clause-few : goal.returns-in_err-shift-clause-few
 returns-in_err-shift-clause-few g c = omega arith
-
-pub returns-in_err-first_bases-clause-few : goal.returns-in_err-first_bases-clause-few
-returns-in_err-first_bases-clause-few g c = omega arith
-
-pub returns-in_err-graph-clause-few : goal.returns-in_err-graph-clause-few
-returns-in_err-graph-clause-few g c = omega arith

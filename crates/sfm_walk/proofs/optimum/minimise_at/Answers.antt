@@ -1,0 +1,44 @@
+use Rattle.std.proofs.Common.{map, FitsSigned}
+use Rattle.std.proofs.lemmas.Int.{to_z-of_z}
+use Rattle.std.proofs.lemmas.Result.{IfOk-weaker}
+use mir.Syntax.{w128}
+use Rattle.sfm_spec.specs.Families.{meanings}
+use Rattle.sfm_spec.specs.Walks.{IsFewWalks}
+use Rattle.sfm_walk.specs.Counted.{IsCounted}
+use Rattle.sfm_walk.proofs.optimum.minimise_at.Goals as goal
+
+pub returns-clause-bases : goal.returns-clause-bases
+returns-clause-bases g c =
+    let fq : FitsSigned w128 c.args.q = c.ranges.q in
+    simp to_z-of_z at c.minimise_at_counted.ensures.bases
+
+pub returns-clause-rest : goal.returns-clause-rest
+returns-clause-rest g c = c.minimise_at_counted.ensures.rest
+
+pub returns-clause-proves : goal.returns-clause-proves
+returns-clause-proves g c =
+    let fq : FitsSigned w128 c.args.q = c.ranges.q in
+    simp to_z-of_z at c.minimise_at_counted.ensures.proves
+
+pub returns-clause-small : goal.returns-clause-small
+returns-clause-small g c = c.minimise_at_counted.ensures.small
+
+pub returns-clause-ends : goal.returns-clause-ends
+returns-clause-ends g c =
+    let fq : FitsSigned w128 c.args.q = c.ranges.q in
+    simp to_z-of_z at c.minimise_at_counted.ensures.ends
+
+pub returns-clause-few : goal.returns-clause-few
+returns-clause-few g c =
+    let fq : FitsSigned w128 c.args.q = c.ranges.q in
+    let t = g.T.Term in
+    let ts = meanings t.places t.value_of c.args.terms.now in
+    let n = c.args.n in
+    let q = c.args.q in
+    let shift = c.args.shift.now in
+    let starts = map (λ x. t.start_of x q) c.args.terms.now in
+    let call = c.minimise_at_counted in
+    let h = simp to_z-of_z at call.ensures.counted in
+    IfOk-weaker call.result
+    (λ r. IsCounted ts n q shift starts r.bases c.new-steps.result call.new.steps)
+    (λ r. IsFewWalks ts n q shift starts r.bases) (λ r k. (k.0, k.1, k.2)) h
