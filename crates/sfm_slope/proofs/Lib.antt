@@ -6,3 +6,4 @@ pub mod Turns
 pub mod Scaled
 pub mod Floors
 pub mod Starts
+pub mod Ones

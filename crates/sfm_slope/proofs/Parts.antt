@@ -13,15 +13,15 @@ use Rattle.sfm_slope.specs.Parts.{IsPartTo}
 use Rattle.sfm_slope.specs.Points.{IsInRange, found_mark}
 
 pub part_none : (terms : List Meaning) (n : ℕ) (sizes : List ℤ) → IsPartTo terms n sizes [] (empty_set n)
-part_none terms n sizes = record { chain = refl; ranges = All-nil (IsInRange n) }
+part_none terms n sizes = record { chain = refl; ranges = All-nil (IsInRange sizes) }
 
 pub part_push : (terms : List Meaning) (n : ℕ) (sizes : List ℤ) (found : List Breakpoint) (b : Breakpoint) (low high : List Bool) → IsPartTo terms n sizes found low
-    → IsLeast terms n b.slope.den (sized_shift sizes b.slope.num) low → IsGreatest terms n b.slope.den (sized_shift sizes b.slope.num) b.set → b.set ≡ high → size low < size high → IsInRange n b
+    → IsLeast terms n b.slope.den (sized_shift sizes b.slope.num) low → IsGreatest terms n b.slope.den (sized_shift sizes b.slope.num) b.set → b.set ≡ high → size low < size high → IsInRange sizes b
     → IsPartTo terms n sizes (found ++ b ∷ []) high
 part_push terms n sizes found b low high h least great same larger range = record {
   chain = subst (λ s. IsChainTo terms n sizes (empty_set n) (map found_mark (found ++ b ∷ [])) s) same
       (rw (map-append found_mark found (b ∷ [])) (chain_push terms n sizes (empty_set n) (map found_mark found) low (found_mark b) h.chain b.slope.lowest.positive great least (rw same larger)));
-  ranges = All-append (IsInRange n) found (b ∷ []) h.ranges (All-cons (IsInRange n) b [] range (All-nil (IsInRange n)));
+  ranges = All-append (IsInRange sizes) found (b ∷ []) h.ranges (All-cons (IsInRange sizes) b [] range (All-nil (IsInRange sizes)));
 }
 
 marks-lowest : (found : List Breakpoint) → AreLowest (map found_mark found)

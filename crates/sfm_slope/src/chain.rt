@@ -2,8 +2,9 @@
 // between two sets or a set strictly between them that is itself the set of a breakpoint; the breakpoints are then those below
 // this set and those above it. So for each breakpoint but the first there is one turn that finds no breakpoint: with J
 // breakpoints there are 2J - 1 turns. The sets lie within one another, so at most n calls are open at a time.
-ghost use Rattle.std.specs.{Prelude.{map, IfOk, OnOk}, List.{All}};
-ghost use Rattle.sfm_spec.specs.{Families.{meanings}, Laws.{AreBreakpoints, ones}};
+ghost use Rattle.std.specs.{Prelude.{length, map, IfOk, OnOk}, List.{All}};
+ghost use Rattle.sfm_spec.specs.{Families.{meanings}, Laws.{AreBreakpoints}};
+ghost use Rattle.sfm_sizes.specs.Sizes.{AreElementSizes};
 ghost use Rattle.sfm_slope.specs.{Gaps.{IsGap}, Points.{IsInRange, found_mark}, Parts.{IsPartTo}, Searches.{IsSearch}, Worths.{IsWorth}};
 
 use crate::search::Search;
@@ -16,20 +17,23 @@ use sfm_law::Term;
 pub fn chain<T: Term>(
     search: &mut Search<T::Note>,
     terms: &[T],
-    n: usize,
+    sizes: &[i128],
 ) -> Result<Vec<Breakpoint>, Memory>
-    requires search { IsSearch T.places T.value_of T.size_of T.fits terms.now n search.old }
-    ensures search { OnOk result (IsSearch T.places T.value_of T.size_of T.fits terms.now n
-        search.new) }
-    ensures slopes { IfOk result (λ r. AreBreakpoints (meanings T.places T.value_of terms.now) n
-        (ones n) (map found_mark r.items)) }
-    ensures ranges { IfOk result (λ r. All (IsInRange n) r.items) }
+    requires sizes { AreElementSizes (length sizes.now) sizes.now }
+    requires search { IsSearch T.places T.value_of T.size_of T.fits terms.now
+        (length sizes.now) search.old }
+    ensures search { OnOk result (IsSearch T.places T.value_of T.size_of T.fits terms.now
+        (length sizes.now) search.new) }
+    ensures slopes { IfOk result (λ r. AreBreakpoints (meanings T.places T.value_of terms.now)
+        (length sizes.now) sizes.now (map found_mark r.items)) }
+    ensures ranges { IfOk result (λ r. All (IsInRange sizes.now) r.items) }
 {
-    let low = worth_of(search.alloc, terms, Set::empty(search.alloc, n)?)?;
-    let high = worth_of(search.alloc, terms, Set::whole(search.alloc, n)?)?;
+    let n = sizes.len();
+    let low = worth_of(search.alloc, terms, sizes, Set::empty(search.alloc, n)?)?;
+    let high = worth_of(search.alloc, terms, sizes, Set::whole(search.alloc, n)?)?;
     let mut found = Vec::new(search.alloc);
     if n > 0 {
-        fill(search, terms, n, &low, &high, &mut found)?;
+        fill(search, terms, sizes, &low, &high, &mut found)?;
     }
     Ok(found)
 }
@@ -38,31 +42,33 @@ pub fn chain<T: Term>(
 fn fill<T: Term>(
     search: &mut Search<T::Note>,
     terms: &[T],
-    n: usize,
+    sizes: &[i128],
     low: &Worth,
     high: &Worth,
     found: &mut Vec<Breakpoint>,
 ) -> Result<(), Memory>
-    requires search { IsSearch T.places T.value_of T.size_of T.fits terms.now n search.old }
-    requires before { IsPartTo (meanings T.places T.value_of terms.now) n
-        (ones n) found.old.items low.now.set }
-    requires gap { IsGap (meanings T.places T.value_of terms.now) n
-        (ones n) low.now.set high.now.set }
-    requires low_worth { IsWorth (meanings T.places T.value_of terms.now) low.now }
-    requires high_worth { IsWorth (meanings T.places T.value_of terms.now) high.now }
-    ensures search { OnOk result (IsSearch T.places T.value_of T.size_of T.fits terms.now n
-        search.new) }
-    ensures part { OnOk result (IsPartTo (meanings T.places T.value_of terms.now) n
-        (ones n) found.new.items high.now.set) }
+    requires sizes { AreElementSizes (length sizes.now) sizes.now }
+    requires search { IsSearch T.places T.value_of T.size_of T.fits terms.now
+        (length sizes.now) search.old }
+    requires before { IsPartTo (meanings T.places T.value_of terms.now)
+        (length sizes.now) sizes.now found.old.items low.now.set }
+    requires gap { IsGap (meanings T.places T.value_of terms.now)
+        (length sizes.now) sizes.now low.now.set high.now.set }
+    requires low_worth { IsWorth (meanings T.places T.value_of terms.now) sizes.now low.now }
+    requires high_worth { IsWorth (meanings T.places T.value_of terms.now) sizes.now high.now }
+    ensures search { OnOk result (IsSearch T.places T.value_of T.size_of T.fits terms.now
+        (length sizes.now) search.new) }
+    ensures part { OnOk result (IsPartTo (meanings T.places T.value_of terms.now)
+        (length sizes.now) sizes.now found.new.items high.now.set) }
 {
-    match take_turn(search, terms, n, low, high)? {
+    match take_turn(search, terms, sizes, low, high)? {
         Turn::Next(next) => {
             found.push(next)?;
             Ok(())
         }
         Turn::Between(mid) => {
-            fill(search, terms, n, low, &mid, found)?;
-            fill(search, terms, n, &mid, high, found)
+            fill(search, terms, sizes, low, &mid, found)?;
+            fill(search, terms, sizes, &mid, high, found)
         }
     }
 }

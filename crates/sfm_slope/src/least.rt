@@ -2,15 +2,17 @@
 // bases still, and z differs by the shift alone, so few walks are left. At a slope p/q with q > 1 it is taken to the whole
 // number below p/q, and q times its bases are where the walks for p/q begin.
 ghost use Rattle.std.specs.{Prelude.{◌^◌, length, map, pos, ◌+ℤ◌, ◌*ℤ◌, ◌≤ℤ◌, ◌<ℤ◌, IfOk, OnOk}, List.{All}};
-ghost use Rattle.sfm_spec.specs.{Bounds.{IsAtMost}, Families.{meanings, even_shift, IsLeast}};
+ghost use Rattle.sfm_spec.specs.{Bounds.{IsAtMost}, Families.{meanings, sized_shift, IsLeast}, Sets.{magnitudes}};
 ghost use Rattle.sfm_exchange.specs.Graph.{IsClaimed};
+ghost use Rattle.sfm_sizes.specs.Sizes.{AreElementSizes};
 ghost use Rattle.sfm_slope.specs.Searches.{IsSearch};
 
 use crate::rows::{are_small, first_rows, rows_times};
-use crate::search::{Search, write_even};
+use crate::search::Search;
 use sfm_base::{Memory, Set, Slope, Steps};
 use sfm_exchange::{Graph, restart, restart_by};
 use sfm_law::Term;
+use sfm_sizes::write_sized;
 use sfm_walk::{improve, least_minimiser};
 use std::alloc::Global;
 
@@ -22,20 +24,23 @@ use std::alloc::Global;
 pub fn least_at<T: Term>(
     search: &mut Search<T::Note>,
     terms: &[T],
-    n: usize,
+    sizes: &[i128],
     slope: Slope,
 ) -> Result<Set, Memory>
-    requires search { IsSearch T.places T.value_of T.size_of T.fits terms.now n search.old }
-    requires small { IsAtMost (10 ^ 24) slope.num }
-    ensures search { OnOk result (IsSearch T.places T.value_of T.size_of T.fits terms.now n
-        search.new) }
-    ensures least { IfOk result (IsLeast (meanings T.places T.value_of terms.now) n slope.den
-        (even_shift n slope.num)) }
+    requires sizes { AreElementSizes (length sizes.now) sizes.now }
+    requires search { IsSearch T.places T.value_of T.size_of T.fits terms.now
+        (length sizes.now) search.old }
+    requires small { IsAtMost (10 ^ 19) slope.num }
+    ensures search { OnOk result (IsSearch T.places T.value_of T.size_of T.fits terms.now
+        (length sizes.now) search.new) }
+    ensures least { IfOk result (IsLeast (meanings T.places T.value_of terms.now)
+        (length sizes.now) slope.den (sized_shift sizes.now slope.num)) }
 {
     let alloc = search.alloc;
-    keep_small(alloc, &mut search.warm, terms, n)?;
+    keep_small(alloc, &mut search.warm, terms, sizes.len())?;
     let floor = floor_of(slope);
-    let below = least_by(alloc, &mut search.warm, terms, 1, floor, &mut search.shift)?;
+    write_sized(&mut search.shift, sizes, floor);
+    let below = least_by(alloc, &mut search.warm, terms, 1, &search.shift)?;
     if slope.den == 1 {
         return Ok(below);
     }
@@ -48,21 +53,15 @@ pub fn least_at<T: Term>(
         bases,
         &search.warm,
     )?;
-    let least = least_by(
-        alloc,
-        &mut search.cold,
-        terms,
-        slope.den,
-        slope.num,
-        &mut search.shift,
-    )?;
+    write_sized(&mut search.shift, sizes, slope.num);
+    let least = least_by(alloc, &mut search.cold, terms, slope.den, &search.shift)?;
     Ok(least)
 }
 
 /// The greatest whole number that is at most a slope.
 pub fn floor_of(slope: Slope) -> i128
-    requires { IsAtMost (10 ^ 24) slope.num }
-    ensures small { IsAtMost (10 ^ 24) result }
+    requires { IsAtMost (10 ^ 19) slope.num }
+    ensures small { IsAtMost (10 ^ 19) result }
     ensures least { (slope.den *ℤ result) ≤ℤ slope.num }
     ensures next { slope.num <ℤ (slope.den *ℤ (result +ℤ pos 1)) }
 {
@@ -89,25 +88,23 @@ fn keep_small<T: Term>(
     Ok(())
 }
 
-// The least minimiser at p/q, from the bases of the graph; all of the shift is written.
+// The least minimiser of q times the terms less the shift, from the bases of the graph.
 fn least_by<T: Term>(
     alloc: Global,
     graph: &mut Graph<T::Note>,
     terms: &[T],
     q: i128,
-    p: i128,
-    shift: &mut [i128],
+    shift: &[i128],
 ) -> Result<Set, Memory>
-    requires slope { IsAtMost (10 ^ 24) p }
+    requires shifts { magnitudes shift.now ≤ℤ pos (10 ^ 27) }
     requires graph { IsClaimed T.places T.value_of T.size_of T.fits terms.now
-        (length shift.old) q graph.old }
+        (length shift.now) q graph.old }
     requires small { All (λ x. All (IsAtMost (10 ^ 25)) x) graph.old.bases }
     ensures graph { OnOk result (IsClaimed T.places T.value_of T.size_of T.fits terms.now
-        (length shift.old) q graph.new) }
+        (length shift.now) q graph.new) }
     ensures least { IfOk result (IsLeast (meanings T.places T.value_of terms.now)
-        (length shift.old) q (even_shift (length shift.old) p)) }
+        (length shift.now) q shift.now) }
 {
-    write_even(shift, p);
     let mut steps = Steps::new();
     let z = improve(alloc, graph, terms, q, shift, &mut steps)?;
     let least = least_minimiser(alloc, graph, terms, q, shift, &z)?;

@@ -11,4 +11,4 @@ mod sections;
 mod turn;
 mod worth;
 
-pub use breakpoints::partition;
+pub use breakpoints::{partition, partition_by};

@@ -1,8 +1,8 @@
 // What the search for the breakpoints and the runs for their sections share: three exchange graphs of the terms and a
 // shift, which are made once and used again at each slope. The rows at the first bases hang on no slope, so one graph stays
 // at these, and no term is asked for them again.
-ghost use Rattle.std.specs.Prelude.{◌≡◌, length, map, IfOk};
-ghost use Rattle.sfm_spec.specs.{Bounds.{AreBounded}, Families.{even_shift}};
+ghost use Rattle.std.specs.Prelude.{map, IfOk};
+ghost use Rattle.sfm_spec.specs.Bounds.{AreBounded};
 ghost use Rattle.sfm_slope.specs.Searches.{IsSearch};
 
 use crate::rows::first_rows;
@@ -60,11 +60,4 @@ impl<N> Search<N> {
             shift,
         })
     }
-}
-
-/// Makes each number of a shift the same.
-pub fn write_even(shift: &mut [i128], p: i128)
-    ensures { shift.new ≡ even_shift (length shift.old) p }
-{
-    shift.fill(p);
 }

@@ -1,13 +1,15 @@
 // The bases of each breakpoint. They are found by a run of their own from the first bases, so they hang on the terms and the
 // slope alone, and few walks lead to them, however the breakpoint was found.
-ghost use Rattle.std.specs.{Prelude.{◌≡◌, map, IfOk, OnOk}, List.{All}};
+ghost use Rattle.std.specs.{Prelude.{◌≡◌, length, map, IfOk, OnOk}, List.{All}};
 ghost use Rattle.sfm_spec.specs.Families.{meanings};
-ghost use Rattle.sfm_slope.specs.{Marks.{HasBases, mark_of}, Points.{IsInRange, found_mark}, Searches.{IsSearch}};
+ghost use Rattle.sfm_sizes.specs.Sizes.{AreElementSizes};
+ghost use Rattle.sfm_slope.specs.{Marks.{HasBasesBy, mark_of}, Points.{IsInRange, found_mark}, Searches.{IsSearch}};
 
-use crate::search::{Search, write_even};
+use crate::search::Search;
 use crate::turn::Breakpoint;
 use sfm_base::Memory;
 use sfm_law::{Break, Term};
+use sfm_sizes::write_sized;
 use sfm_walk::minimise_from_start;
 use std::alloc::Global;
 
@@ -15,18 +17,20 @@ use std::alloc::Global;
 pub fn sections<T: Term>(
     search: &mut Search<T::Note>,
     terms: &[T],
-    n: usize,
+    sizes: &[i128],
     found: &[Breakpoint],
 ) -> Result<Vec<Break>, Memory>
-    requires search { IsSearch T.places T.value_of T.size_of T.fits terms.now n search.old }
-    requires ranges { All (IsInRange n) found.now }
+    requires sizes { AreElementSizes (length sizes.now) sizes.now }
+    requires search { IsSearch T.places T.value_of T.size_of T.fits terms.now
+        (length sizes.now) search.old }
+    requires ranges { All (IsInRange sizes.now) found.now }
     ensures marks { IfOk result (λ r. map mark_of r.items ≡ map found_mark found.now) }
-    ensures bases { IfOk result (λ r. All (HasBases (meanings T.places T.value_of terms.now)
-        (λ q. map (λ term. T.start_of term q) terms.now) n) r.items) }
+    ensures bases { IfOk result (λ r. All (HasBasesBy (meanings T.places T.value_of terms.now)
+        (λ q. map (λ term. T.start_of term q) terms.now) (length sizes.now) sizes.now) r.items) }
 {
     let mut breaks = Vec::new(search.alloc);
     for point in found {
-        breaks.push(section(search, terms, n, point)?)?;
+        breaks.push(section(search, terms, sizes, point)?)?;
     }
     Ok(breaks)
 }
@@ -35,20 +39,22 @@ pub fn sections<T: Term>(
 fn section<T: Term>(
     search: &mut Search<T::Note>,
     terms: &[T],
-    n: usize,
+    sizes: &[i128],
     point: &Breakpoint,
 ) -> Result<Break, Memory>
-    requires search { IsSearch T.places T.value_of T.size_of T.fits terms.now n search.old }
-    requires range { IsInRange n point.now }
-    ensures search { OnOk result (IsSearch T.places T.value_of T.size_of T.fits terms.now n
-        search.new) }
+    requires sizes { AreElementSizes (length sizes.now) sizes.now }
+    requires search { IsSearch T.places T.value_of T.size_of T.fits terms.now
+        (length sizes.now) search.old }
+    requires range { IsInRange sizes.now point.now }
+    ensures search { OnOk result (IsSearch T.places T.value_of T.size_of T.fits terms.now
+        (length sizes.now) search.new) }
     ensures mark { IfOk result (λ r. mark_of r ≡ found_mark point.now) }
-    ensures bases { IfOk result (HasBases (meanings T.places T.value_of terms.now)
-        (λ q. map (λ term. T.start_of term q) terms.now) n) }
+    ensures bases { IfOk result (HasBasesBy (meanings T.places T.value_of terms.now)
+        (λ q. map (λ term. T.start_of term q) terms.now) (length sizes.now) sizes.now) }
 {
     let slope = point.slope;
     let set = point.set.copy(search.alloc)?;
-    write_even(&mut search.shift, slope.num);
+    write_sized(&mut search.shift, sizes, slope.num);
     let bases = minimise_from_start(
         search.alloc,
         &mut search.cold,

@@ -2,8 +2,9 @@
 // empty. At the slope at which both sets are worth as much, the least minimiser is either the lower set: then the slope
 // is the next breakpoint, and the higher set is the greatest minimiser there. Or it lies strictly between them, and the
 // breakpoints are those below it and those above it.
-ghost use Rattle.std.specs.Prelude.{◌<◌, ◌≤◌, map, pos, ◌-ℤ◌, IfOk, OnOk};
-ghost use Rattle.sfm_spec.specs.{Bounds.{IsGiven}, Families.{meanings}, Slopes.{IsSameSlope}, Laws.{ones}};
+ghost use Rattle.std.specs.Prelude.{◌^◌, length, map, pos, ◌-ℤ◌, ◌≤ℤ◌, ◌<ℤ◌, IfOk, OnOk};
+ghost use Rattle.sfm_spec.specs.{Bounds.{IsGiven}, Families.{meanings}, Slopes.{IsSameSlope}};
+ghost use Rattle.sfm_sizes.specs.Sizes.{AreElementSizes};
 ghost use Rattle.sfm_slope.specs.{Gaps.{IsBegun, IsGap}, Searches.{IsSearch}, Worths.{IsWorth}, Turns.{IsTurn}};
 
 use crate::least::least_at;
@@ -32,43 +33,47 @@ pub enum Turn {
 pub fn take_turn<T: Term>(
     search: &mut Search<T::Note>,
     terms: &[T],
-    n: usize,
+    sizes: &[i128],
     low: &Worth,
     high: &Worth,
 ) -> Result<Turn, Memory>
-    requires search { IsSearch T.places T.value_of T.size_of T.fits terms.now n search.old }
-    requires begun { IsBegun (meanings T.places T.value_of terms.now) n (ones n) low.now.set }
-    requires gap { IsGap (meanings T.places T.value_of terms.now) n
-        (ones n) low.now.set high.now.set }
-    requires low_worth { IsWorth (meanings T.places T.value_of terms.now) low.now }
-    requires high_worth { IsWorth (meanings T.places T.value_of terms.now) high.now }
-    ensures search { OnOk result (IsSearch T.places T.value_of T.size_of T.fits terms.now n
-        search.new) }
-    ensures turn { IfOk result (IsTurn (meanings T.places T.value_of terms.now) n
-        (ones n) low.now.set high.now.set) }
+    requires sizes { AreElementSizes (length sizes.now) sizes.now }
+    requires search { IsSearch T.places T.value_of T.size_of T.fits terms.now
+        (length sizes.now) search.old }
+    requires begun { IsBegun (meanings T.places T.value_of terms.now)
+        (length sizes.now) sizes.now low.now.set }
+    requires gap { IsGap (meanings T.places T.value_of terms.now)
+        (length sizes.now) sizes.now low.now.set high.now.set }
+    requires low_worth { IsWorth (meanings T.places T.value_of terms.now) sizes.now low.now }
+    requires high_worth { IsWorth (meanings T.places T.value_of terms.now) sizes.now high.now }
+    ensures search { OnOk result (IsSearch T.places T.value_of T.size_of T.fits terms.now
+        (length sizes.now) search.new) }
+    ensures turn { IfOk result (IsTurn (meanings T.places T.value_of terms.now)
+        (length sizes.now) sizes.now low.now.set high.now.set) }
 {
     let slope = slope_between(low, high);
-    let least = least_at(search, terms, n, slope)?;
+    let least = least_at(search, terms, sizes, slope)?;
     if least.size() == low.size {
         return Ok(Turn::Next(Breakpoint {
             slope,
             set: high.set.copy(search.alloc)?,
         }));
     }
-    let between = worth_of(search.alloc, terms, least)?;
+    let between = worth_of(search.alloc, terms, sizes, least)?;
     Ok(Turn::Between(between))
 }
 
 /// The slope at which both sets are worth as much.
 pub fn slope_between(low: &Worth, high: &Worth) -> Slope
-    requires larger { low.now.size < high.now.size }
-    requires few { high.now.size ≤ 256 }
+    requires low { pos 0 ≤ℤ low.now.weight }
+    requires larger { low.now.weight <ℤ high.now.weight }
+    requires high { high.now.weight ≤ℤ pos (10 ^ 6) }
     requires low_small { IsGiven low.now.sum }
     requires high_small { IsGiven high.now.sum }
     ensures { IsSameSlope (high.now.sum -ℤ low.now.sum)
-        (pos high.now.size -ℤ pos low.now.size) result.num result.den }
+        (high.now.weight -ℤ low.now.weight) result.num result.den }
 {
     let rise = high.sum - low.sum;
-    let width = (high.size - low.size) as i128;
+    let width = high.weight - low.weight;
     Slope::new(rise, width)
 }

@@ -1,16 +1,21 @@
+use Rattle.std.proofs.Common.{map}
+use Rattle.sfm_spec.specs.Families.{meanings}
+use Rattle.sfm_slope.proofs.Ones.{all_have_bases}
 use Rattle.sfm_slope.proofs.breakpoints.partition.Goals as goal
 
-pub chain-requires : goal.chain-requires
-chain-requires g c = record { search = c.in_ok-search.ensures }
+pub ones-requires : goal.ones-requires
+ones-requires g c = record { few = c.requires.bounded.few }
 
-pub sections-requires-clause-search : goal.sections-requires-clause-search
-sections-requires-clause-search g c = c.in_ok-found.ensures.search
-
-pub sections-requires-clause-ranges : goal.sections-requires-clause-ranges
-sections-requires-clause-ranges g c = rw c.deref.ensures.value c.in_ok-found.ensures.ranges
+pub partition_by-requires-clause-sizes : goal.partition_by-requires-clause-sizes
+partition_by-requires-clause-sizes g c = rw c.deref.ensures.value c.in_ok-sizes.ensures.sizes
 
 pub returns-clause-slopes : goal.returns-clause-slopes
-returns-clause-slopes g c = rw (c.in_ok-breaks.ensures.marks, c.deref.ensures.value) c.in_ok-found.ensures.slopes
+returns-clause-slopes g c =
+    rw (c.deref.ensures.value, c.in_ok-sizes.ensures.ones) at c.in_ok-breaks.ensures.slopes
 
 pub returns-clause-bases : goal.returns-clause-bases
-returns-clause-bases g c = c.in_ok-breaks.ensures.bases
+returns-clause-bases g c =
+    let t = g.T.Term in
+    let h = rw (c.deref.ensures.value, c.in_ok-sizes.ensures.ones) at c.in_ok-breaks.ensures.bases in
+    all_have_bases (meanings t.places t.value_of c.args.terms.now)
+    (λ q. map (λ x. t.start_of x q) c.args.terms.now) c.args.n _ h

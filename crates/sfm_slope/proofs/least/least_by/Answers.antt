@@ -1,38 +1,15 @@
-use Rattle.std.proofs.Common.{◌≡◌, length, replicate, FitsSigned, arith}
-use Rattle.std.proofs.lemmas.Int.{ints, to_z-of_z}
-use Rattle.std.proofs.lemmas.List.{length-replicate}
+use Rattle.std.proofs.Common.{FitsSigned}
+use Rattle.std.proofs.lemmas.Int.{to_z-of_z}
 use mir.Syntax.{w128}
-use Rattle.sfm_walk.proofs.Starting.{magnitudes-even}
 use Rattle.sfm_slope.proofs.least.least_by.Goals as goal
 
 pub improve-requires-clause-shifts : goal.improve-requires-clause-shifts
-improve-requires-clause-shifts g c =
-    let n = length c.args.shift.now in
-    let p = c.args.p in
-    let fp : FitsSigned w128 p = c.ranges.p in
-    let same : c.write_even.new.shift ≡ replicate n p = simp to_z-of_z at c.write_even.ensures in
-    let m = magnitudes-even n p c.requires.slope in
-    let few = c.requires.graph.bounded.few in
-    rw same (omega (arith, ints, m, few))
-
-pub returns-clause-least : goal.returns-clause-least
-returns-clause-least g c =
-    let n = length c.args.shift.now in
-    let p = c.args.p in
-    let fp : FitsSigned w128 p = c.ranges.p in
-    let fq : FitsSigned w128 c.args.q = c.ranges.q in
-    let same : c.write_even.new.shift ≡ replicate n p = simp to_z-of_z at c.write_even.ensures in
-    let h = rw (same, length-replicate n p) at c.in_ok-least.ensures.least in
-    simp to_z-of_z at h
+improve-requires-clause-shifts g c = c.requires.shifts
 
 pub improve-requires-clause-graph : goal.improve-requires-clause-graph
 improve-requires-clause-graph g c =
-    let n = length c.args.shift.now in
-    let p = c.args.p in
-    let fp : FitsSigned w128 p = c.ranges.p in
     let fq : FitsSigned w128 c.args.q = c.ranges.q in
-    let same : c.write_even.new.shift ≡ replicate n p = simp to_z-of_z at c.write_even.ensures in
-    rw (same, length-replicate n p) (simp to_z-of_z c.requires.graph)
+    simp to_z-of_z c.requires.graph
 
 pub least_minimiser-requires-clause-graph : goal.least_minimiser-requires-clause-graph
 least_minimiser-requires-clause-graph g c = c.in_ok-z.ensures.graph
@@ -46,12 +23,12 @@ least_minimiser-requires-clause-rest g c = c.in_ok-z.ensures.rest
 pub least_minimiser-requires-clause-proves : goal.least_minimiser-requires-clause-proves
 least_minimiser-requires-clause-proves g c = c.in_ok-z.ensures.proves
 
+pub returns-clause-least : goal.returns-clause-least
+returns-clause-least g c =
+    let fq : FitsSigned w128 c.args.q = c.ranges.q in
+    simp to_z-of_z at c.in_ok-least.ensures.least
+
 pub returns-clause-graph : goal.returns-clause-graph
 returns-clause-graph g c =
-    let n = length c.args.shift.now in
-    let p = c.args.p in
-    let fp : FitsSigned w128 p = c.ranges.p in
     let fq : FitsSigned w128 c.args.q = c.ranges.q in
-    let same : c.write_even.new.shift ≡ replicate n p = simp to_z-of_z at c.write_even.ensures in
-    let h = rw (same, length-replicate n p) at c.in_ok-least.ensures.graph in
-    simp to_z-of_z at h
+    simp to_z-of_z at c.in_ok-least.ensures.graph

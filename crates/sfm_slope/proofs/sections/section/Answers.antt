@@ -1,35 +1,51 @@
-use Rattle.std.proofs.Common.{◌≡◌, length, replicate, sym, ap, ◌∙◌, FitsSigned, arith}
+use Rattle.std.proofs.Common.{◌≡◌, ◌^◌, length, sym, ap, ◌∙◌, FitsSigned, arith}
 use Rattle.std.proofs.lemmas.Int.{ints, to_z-of_z}
-use Rattle.std.proofs.lemmas.List.{length-replicate, with_items_is}
+use Rattle.std.proofs.lemmas.List.{length-map, with_items_is}
 use mir.Syntax.{w128}
-use Rattle.sfm_walk.proofs.Starting.{magnitudes-even}
+use Rattle.sfm_spec.specs.Families.{sized_shift}
+use Rattle.sfm_sizes.proofs.Sized.{sized-small}
 use Rattle.sfm_slope.proofs.sections.section.Given as given
 use Rattle.sfm_slope.proofs.sections.section.Goals as goal
 use Rattle.sfm_slope.proofs.sections.section.Goals.{After-deref}
 
 -- all of the shift is written
-written : (g : given.Over) (c : After-deref g) → c.deref.result.now ≡ replicate c.args.n c.args.point.now.slope.num
+written : (g : given.Over) (c : After-deref g)
+    → c.deref.result.now ≡ sized_shift c.args.sizes.now c.args.point.now.slope.num
 written g c =
     let s = c.args.point.now.slope in
     let fp : FitsSigned w128 s.num = omega (arith, ints, s.entry.low, s.entry.high) in
-    let sized : length c.deref_mut.result.now ≡ c.args.n = ap length c.deref_mut.ensures.value ∙ c.requires.search.shift in
-    let even : c.write_even.new.shift ≡ replicate (length c.deref_mut.result.now) s.num = simp to_z-of_z at c.write_even.ensures in
-    c.deref.ensures.value ∙ (with_items_is c.args.search.now.shift c.write_even.new.shift (c.write_even.auto.shift ∙ c.deref_mut.ensures.len) ∙ (even ∙ ap (λ k. replicate k s.num) sized))
+    let sized : c.write_sized.new.shift ≡ sized_shift c.args.sizes.now s.num
+    = simp to_z-of_z at c.write_sized.ensures in
+    c.deref.ensures.value
+    ∙ (with_items_is c.args.search.now.shift c.write_sized.new.shift
+    (c.write_sized.auto.shift ∙ c.deref_mut.ensures.len) ∙ sized)
 
 -- so it has a number for each place
-long : (g : given.Over) (c : After-deref g) → length c.deref.result.now ≡ c.args.n
-long g c = ap length (written g c) ∙ length-replicate c.args.n c.args.point.now.slope.num
+long : (g : given.Over) (c : After-deref g) → length c.deref.result.now ≡ length c.args.sizes.now
+long g c = ap length (written g c) ∙ length-map c.args.sizes.now _
+
+pub write_sized-requires-clause-sizes : goal.write_sized-requires-clause-sizes
+write_sized-requires-clause-sizes g c =
+    let sized : length c.deref_mut.result.now ≡ length c.args.sizes.now
+    = ap length c.deref_mut.ensures.value ∙ c.requires.search.shift in
+    rw sized c.requires.sizes
+
+pub write_sized-requires-clause-small : goal.write_sized-requires-clause-small
+write_sized-requires-clause-small g c =
+    let s = c.args.point.now.slope in
+    let r = c.requires.range.small in
+    let fp : FitsSigned w128 s.num = omega (arith, ints, s.entry.low, s.entry.high) in
+    simp to_z-of_z (record { low = omega (arith, ints, r.low); high = omega (arith, ints, r.high) })
 
 pub minimise_from_start-requires-clause-bounded : goal.minimise_from_start-requires-clause-bounded
 minimise_from_start-requires-clause-bounded g c = rw (long g (goal.at.minimise_from_start-requires-clause-bounded g c).After-deref) c.requires.search.first.bounded
 
 pub minimise_from_start-requires-clause-shifts : goal.minimise_from_start-requires-clause-shifts
 minimise_from_start-requires-clause-shifts g c =
-    let n = c.args.n in
     let s = c.args.point.now.slope in
-    let m = magnitudes-even n s.num c.requires.range.small in
-    let few = c.requires.search.first.bounded.few in
-    rw (written g (goal.at.minimise_from_start-requires-clause-shifts g c).After-deref) (omega (arith, ints, m, few))
+    let m = sized-small (10 ^ 19) _ c.args.sizes.now s.num c.requires.range.small c.requires.sizes in
+    let at = (goal.at.minimise_from_start-requires-clause-shifts g c).After-deref in
+    rw (written g at) (omega (arith, ints, m))
 
 pub minimise_from_start-requires-clause-graph : goal.minimise_from_start-requires-clause-graph
 minimise_from_start-requires-clause-graph g c = rw (long g (goal.at.minimise_from_start-requires-clause-graph g c).After-deref) c.requires.search.cold
@@ -53,6 +69,6 @@ returns-clause-bases g c =
     let fq : FitsSigned w128 s.den = omega (arith, ints, s.factor.low, s.factor.high) in
     let same = written g (goal.at.returns-clause-bases g c).After-deref in
     let h = c.in_ok-bases.ensures in
-    let proves = rw (same, length-replicate c.args.n s.num) at h.proves in
-    let few = rw (same, length-replicate c.args.n s.num) at h.few in
+    let proves = rw (same, length-map c.args.sizes.now _) at h.proves in
+    let few = rw (same, length-map c.args.sizes.now _) at h.few in
     record { bases = simp to_z-of_z at h.bases; small = h.small; proves = simp to_z-of_z at proves; reached = simp to_z-of_z at few; few = c.requires.range.few }

@@ -1,8 +1,8 @@
-use Rattle.std.proofs.Common.{◌≡◌, [], ◌∷◌, map, ap, ◌∙◌}
+use Rattle.std.proofs.Common.{◌≡◌, [], ◌∷◌, length, map, ap, ◌∙◌}
 use Rattle.std.proofs.lemmas.List.{map-append, take_all}
 use Rattle.std.proofs.lemmas.List.Elements.{All-append, All-nil, All-cons}
 use Rattle.sfm_spec.specs.Families.{meanings}
-use Rattle.sfm_slope.specs.Marks.{HasBases, mark_of}
+use Rattle.sfm_slope.specs.Marks.{HasBasesBy, mark_of}
 use Rattle.sfm_slope.specs.Points.{found_mark}
 use Rattle.sfm_slope.proofs.Scaled.{mapped_more}
 use Rattle.sfm_slope.proofs.sections.sections.Goals as goal
@@ -18,7 +18,7 @@ loop-point-preserved g c =
     let point = c.point-item.result in
     let b = c.in_ok-section.field-0 in
     let before = c.loop-point.invariant in
-    let P = HasBases (meanings t.places t.value_of c.args.terms.now) (λ q. map (λ x. t.start_of x q) c.args.terms.now) c.args.n in
+    let P = HasBasesBy (meanings t.places t.value_of c.args.terms.now) (λ q. map (λ x. t.start_of x q) c.args.terms.now) (length c.args.sizes.now) c.args.sizes.now in
     let told : mark_of b ≡ found_mark point = c.in_ok-section.ensures.mark in
     record {
       search = c.in_ok-section.ensures.search;

@@ -1,15 +1,15 @@
 -- the breakpoints so far
-use Rattle.std.proofs.Common.{◌≡◌, map, take}
+use Rattle.std.proofs.Common.{◌≡◌, length, map, take}
 use Rattle.std.specs.List.{All}
 use Rattle.sfm_spec.specs.Families.{meanings}
-use Rattle.sfm_slope.specs.Marks.{HasBases, mark_of}
+use Rattle.sfm_slope.specs.Marks.{HasBasesBy, mark_of}
 use Rattle.sfm_slope.specs.Points.{found_mark}
 use Rattle.sfm_slope.specs.Searches.{IsSearch}
 use Rattle.sfm_slope.proofs.sections.sections.Given as goal
 
 abbrev pub invariant-loop-point : goal.invariant-loop-point
 invariant-loop-point g l = let t = g.T.Term in record {
-  search : IsSearch t.places t.value_of t.size_of t.fits l.terms l.n l.search;
+  search : IsSearch t.places t.value_of t.size_of t.fits l.terms (length l.sizes) l.search;
   marks : map mark_of l.breaks.items ≡ map found_mark (take l.point-index l.found);
-  bases : All (HasBases (meanings t.places t.value_of l.terms) (λ q. map (λ x. t.start_of x q) l.terms) l.n) l.breaks.items;
+  bases : All (HasBasesBy (meanings t.places t.value_of l.terms) (λ q. map (λ x. t.start_of x q) l.terms) (length l.sizes) l.sizes) l.breaks.items;
 }
