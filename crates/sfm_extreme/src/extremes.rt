@@ -1,7 +1,7 @@
 // Whether bases prove the minimum. Where a walk joins, no bases with such a walk prove. Where none does, they prove: the
 // places that links of the exchange graph lead to from those with z < 0 are the least minimiser, those from which no link
 // leads to one with z > 0 the greatest, and the value is the sum of min(z, 0). No subset is ever tried.
-ghost use Rattle.std.specs.{Prelude.{◌↔◌, length, map, pos, ◌^◌, ◌≤ℤ◌, IfOk}, List.{All}};
+ghost use Rattle.std.specs.{Prelude.{◌≡◌, ◌↔◌, length, map, pos, ◌^◌, ◌≤ℤ◌, IfOk}, List.{All}};
 ghost use Rattle.sfm_spec.specs.{Sets.{magnitudes}, Bounds.{AreBounded, IsEntry, IsFactor}, Families.{meanings, even_shift, AreBases, Prove}};
 ghost use Rattle.sfm_extreme.specs.{Certified.{IsAnswer, IsProved}, Reading.{IsReading}};
 
@@ -61,8 +61,36 @@ pub fn certify<T: Term>(
         (meanings T.places T.value_of terms.now) n q (even_shift n p) bases.now) }
 {
     let shift = vec![in alloc; p; n]?;
-    let reading = read_at(alloc, terms, q, &shift, bases)?;
-    told_by(alloc, terms, q, &shift, &reading)
+    certify_at(alloc, terms, n, q, &shift, bases)
+}
+
+/// Whether bases of q times their terms prove the minimum of q times the sum less the shift of each place, over a ground
+/// of n places. The magnitudes of all shifts together are at most 10^36.
+///
+/// # Errors
+///
+/// `Memory` where there is none.
+pub fn certify_at<T: Term>(
+    alloc: Global,
+    terms: &[T],
+    n: usize,
+    q: i128,
+    shift: &[i128],
+    bases: &Rows,
+) -> Result<Certified, Memory>
+    requires bounded { AreBounded n (map T.places terms.now) (map T.size_of terms.now) }
+    requires each { length shift.now ≡ n }
+    requires shifts { magnitudes shift.now ≤ℤ pos (10 ^ 36) }
+    requires factor { IsFactor q }
+    requires bases { AreBases q (meanings T.places T.value_of terms.now) bases.now }
+    requires small { All (λ x. All IsEntry x) bases.now }
+    ensures answer { IfOk result (IsAnswer (meanings T.places T.value_of terms.now) n q shift.now
+        bases.now) }
+    ensures exact { IfOk result (λ r. IsProved r ↔ Prove
+        (meanings T.places T.value_of terms.now) n q shift.now bases.now) }
+{
+    let reading = read_at(alloc, terms, q, shift, bases)?;
+    told_by(alloc, terms, q, shift, &reading)
 }
 
 // What is told by all that was read off bases.

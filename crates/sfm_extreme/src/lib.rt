@@ -12,5 +12,5 @@ mod pulling;
 mod reading;
 
 pub use deficit::deficit_of;
-pub use extremes::{Certified, Proved, certify};
+pub use extremes::{Certified, Proved, certify, certify_at};
 pub use grouping::{Block, blocks};
