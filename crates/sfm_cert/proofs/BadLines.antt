@@ -15,6 +15,9 @@ use Rattle.sfm_cert.specs.Answer.{Answer, Form, listed, slope_text, text_of, at_
 use Rattle.sfm_cert.specs.LineLists.{counted, numbered}
 use Rattle.sfm_cert.specs.Form.{IsFormed}
 use Rattle.sfm_cert.specs.Grammar.{IsLine, IsBadLine}
+use Rattle.sfm_cert.specs.Header.{header_text}
+use Rattle.sfm_cert.specs.declared.header.Header.{Header}
+use Rattle.sfm_cert.specs.declared.header.Header.TheVariants.{Answer as AnswerHeader, Weighed}
 use Rattle.sfm_cert.specs.Reading.{State, header, minimum, least, greatest, listing, bases, ended, Leads, LeadsOn, Stops}
 use Rattle.sfm_cert.specs.declared.cursor.Cursor.{Cursor}
 use Rattle.sfm_cert.proofs.Tokens.{same_front}
@@ -94,8 +97,9 @@ at_line_line p q = joined (codes "at ") (slope_text p q) (word_line (codes "at "
 same_line : (x y : List ℕ) → x ≡ y → IsLine y → IsLine x
 same_line x y e h = All-same (λ c. c ≢ 10) x y e h
 
-pub header_line : IsLine (codes "answer 1")
-header_line = word_line (codes "answer 1") refl
+pub header_line : (header : Header) → IsLine (header_text header)
+header_line AnswerHeader = word_line (codes "answer 1") refl
+header_line Weighed = word_line (codes "weighed 1") refl
 
 module _ (form : Form) (clean : IsLine form.header) (named : All IsName form.names) where
   leads_line : (s : State) (line : List ℕ) (t : State) → Leads form s line t → IsLine line

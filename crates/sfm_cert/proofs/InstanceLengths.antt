@@ -10,7 +10,10 @@ use Rattle.sfm_cert.specs.Answer.{Answer}
 use Rattle.sfm_cert.specs.LineLists.{answer_text}
 use Rattle.sfm_cert.specs.Few.{HasFewLines}
 use Rattle.sfm_cert.specs.Form.{IsFormed}
-use Rattle.sfm_cert.specs.Solved.{form_of}
+use Rattle.sfm_cert.specs.Header.{header_text}
+use Rattle.sfm_cert.specs.Solved.{form_with}
+use Rattle.sfm_cert.specs.declared.header.Header.{Header}
+use Rattle.sfm_cert.specs.declared.header.Header.TheVariants.{Answer as AnswerHeader, Weighed}
 use Rattle.sfm_cert.proofs.Lengths.{AreFewWidths, IsSmallAnswer, answer_short}
 
 same_widths : (ts : List Kind) → map length (map kind_places ts) ≡ map (λ term. length (kind_places term)) ts
@@ -25,15 +28,20 @@ few_widths n ts bounded =
       places = subst (λ (z : List ℕ). sum z ≤ 16384) (same_widths ts) bounded.few_places;
     }
 
-pub instance_text_short : (instance : InstanceData) (a : Answer) → AreElementNames instance.names → AreInBounds (length instance.names) instance.terms → IsFormed (form_of instance) a
-    → HasFewLines a → length (answer_text (form_of instance) a) ≤ 268435456
-instance_text_short instance a fine bounded formed few =
-    let small : IsSmallAnswer (form_of instance) a = record {
-      header = omega arith;
+-- the first line is short
+header_short : (header : Header) → length (header_text header) ≤ 100
+header_short AnswerHeader = omega arith
+header_short Weighed = omega arith
+
+pub instance_text_short : (header : Header) (instance : InstanceData) (a : Answer) → AreElementNames instance.names → AreInBounds (length instance.names) instance.terms → IsFormed (form_with (header_text header) instance) a
+    → HasFewLines a → length (answer_text (form_with (header_text header) instance) a) ≤ 268435456
+instance_text_short header instance a fine bounded formed few =
+    let small : IsSmallAnswer (form_with (header_text header) instance) a = record {
+      header = header_short header;
       names = λ i d l. (fine.forms i d l).short;
       few_names = fine.few;
       widths = few_widths (length instance.names) instance.terms bounded;
       few_blocks = few.blocks;
       few_breaks = few.breaks;
     } in
-    answer_short (form_of instance) a formed small
+    answer_short (form_with (header_text header) instance) a formed small

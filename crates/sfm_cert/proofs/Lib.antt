@@ -10,6 +10,7 @@ pub mod Parts
 pub mod BadLines
 pub mod Sections
 pub mod First
+pub mod AnyHeader
 pub mod Whole
 pub mod Unique
 pub mod OneAnswer

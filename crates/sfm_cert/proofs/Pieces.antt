@@ -31,6 +31,10 @@ module _ {S : Type 0} (after : S → List ℕ → S) (joined : (out : S) (x y : 
       → o7 ≡ after o (a ++ (b ++ (c ++ (d ++ (e ++ (f ++ g))))))
   seven o o1 o2 o3 o4 o5 o6 o7 a b c d e f g h1 h2 h3 h4 h5 h6 h7 = both o o1 o7 a (b ++ (c ++ (d ++ (e ++ (f ++ g))))) h1 (six o1 o2 o3 o4 o5 o6 o7 b c d e f g h2 h3 h4 h5 h6 h7)
 
+  pub eight : (o o1 o2 o3 o4 o5 o6 o7 o8 : S) (a b c d e f g h : List ℕ) → o1 ≡ after o a → o2 ≡ after o1 b → o3 ≡ after o2 c → o4 ≡ after o3 d → o5 ≡ after o4 e → o6 ≡ after o5 f → o7 ≡ after o6 g → o8 ≡ after o7 h
+      → o8 ≡ after o (a ++ (b ++ (c ++ (d ++ (e ++ (f ++ (g ++ h)))))))
+  eight o o1 o2 o3 o4 o5 o6 o7 o8 a b c d e f g h h1 h2 h3 h4 h5 h6 h7 h8 = both o o1 o8 a (b ++ (c ++ (d ++ (e ++ (f ++ (g ++ h)))))) h1 (seven o1 o2 o3 o4 o5 o6 o7 o8 b c d e f g h h2 h3 h4 h5 h6 h7 h8)
+
   -- three lists of lines
   pub three_lines : (o o1 o2 o3 : S) (a b c : List (List ℕ)) → o1 ≡ after o (text_of a) → o2 ≡ after o1 (text_of b) → o3 ≡ after o2 (text_of c) → o3 ≡ after o (text_of (a ++ b ++ c))
   three_lines o o1 o2 o3 a b c h1 h2 h3 =

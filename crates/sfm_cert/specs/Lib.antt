@@ -1,4 +1,5 @@
 pub mod Answer
+pub mod Header
 pub mod LineLists
 pub mod Few
 pub mod Form

@@ -16,9 +16,13 @@ break_of b = record { num = b.slope.num; den = b.slope.den; members = b.set; bas
 abbrev pub answer_of : Solved → Answer
 answer_of s = record { value = s.value; least = s.least; greatest = s.greatest; blocks = map block_of s.blocks.items; bases = s.bases; breaks = map break_of s.breaks.items }
 
--- what an instance asks of an answer: its names, and how many places each term has
+-- what an instance asks of an answer text with that first line: its names, and how many places each term has
+abbrev pub form_with : List ℕ → InstanceData → Form
+form_with header instance = record { header = header; names = instance.names; widths = map (λ term. length (kind_places term)) instance.terms }
+
+-- the same where each element counts one
 abbrev pub form_of : InstanceData → Form
-form_of instance = record { header = codes "answer 1"; names = instance.names; widths = map (λ term. length (kind_places term)) instance.terms }
+form_of instance = form_with (codes "answer 1") instance
 
 -- a bad line is the first one; want of memory says nothing
 abbrev pub IsBadLineEnd : Form → List ℕ → AnswerEnd → Type 0

@@ -3,6 +3,7 @@
 
 mod cursor;
 mod head;
+mod header;
 mod lines;
 mod lists;
 mod next;
@@ -14,7 +15,8 @@ mod solved;
 mod steps;
 mod write;
 
+pub use header::Header;
 pub use lines::{line_of_at, line_of_base};
-pub use read::{ANSWER_LIMIT, read_answer};
+pub use read::{ANSWER_LIMIT, read_answer, read_weighed, read_with};
 pub use solved::{AnswerEnd, Solved};
-pub use write::{answer_len, put_answer, write_answer};
+pub use write::{answer_len, put_answer, write_answer, write_weighed, write_with};

@@ -1,11 +1,13 @@
 // Reading an answer text: its lines are read one kind after another, and each kind of line begins in its own way, so the first
-// line that is not read is the first bad one.
-ghost use Rattle.std.specs.Prelude.{◌≡◌, ◌≢◌, ℕ, ◌≤◌, List, [], length, map, slice_index, IfOk, IfErr};
+// line that is not read is the first bad one. What stands behind the first line does not depend on it, so the parts behind it
+// are read as those of the form with `answer 1`.
+ghost use Rattle.std.specs.Prelude.{◌≡◌, ◌≢◌, ℕ, ◌≤◌, List, [], codes, length, map, slice_index, IfOk, IfErr};
 ghost use Rattle.sfm_extreme.specs.Blocks.{block_of};
-ghost use Rattle.sfm_cert.specs.{Grammar.{IsAnswerText}, Lines.{Ratio, ratio_of}, Lists.{break_of_head}, Parts.{ReadsBlocks, ReadsHeads, ReadsRows, ReadsBreaks, AreBreaksOf, AreHeads, ReadsFirst}, Reading.{header, listing, bases, EndsAt}, Solved.{answer_of, break_of, form_of, IsBadLineEnd}};
+ghost use Rattle.sfm_cert.specs.{Grammar.{IsAnswerText}, Header.{header_text}, Lines.{Ratio, ratio_of}, Lists.{break_of_head}, Parts.{ReadsBlocks, ReadsHeads, ReadsRows, ReadsBreaks, AreBreaksOf, AreHeads, ReadsFirst}, Reading.{header as header_due, listing, bases, EndsAt}, Solved.{answer_of, break_of, form_of, form_with, IsBadLineEnd}};
 
 use crate::cursor::Cursor;
 use crate::head::Head;
+use crate::header::Header;
 use crate::next::{begins, expect};
 use crate::solved::{AnswerEnd, Solved};
 use crate::steps::{read_at, read_base, read_block, read_head, read_minimum, read_set};
@@ -119,35 +121,43 @@ fn read_breaks(
 /// The first four lines: the minimum, the least and the greatest minimiser.
 fn read_first(
     alloc: Global,
+    header: Header,
     instance: &Instance,
     text: &[u8],
     cursor: &mut Cursor,
 ) -> Result<(i128, Set, Set), AnswerEnd>
     requires { cursor.old.at ≤ length text.now }
-    ensures read { IfOk result (λ r. ReadsFirst (form_of instance.now) text.now cursor.old
-        cursor.new r.0 r.1 r.2) }
-    ensures stopped { IfErr result (EndsAt (form_of instance.now) text.now cursor.old header) }
+    ensures read { IfOk result (λ r. ReadsFirst (form_with (header_text header) instance.now)
+        text.now cursor.old cursor.new r.0 r.1 r.2) }
+    ensures stopped { IfErr result (EndsAt (form_with (header_text header) instance.now) text.now
+        cursor.old header_due) }
 {
-    expect(text, cursor, b"answer 1")?;
+    expect(text, cursor, header.text())?;
     let value = read_minimum(text, cursor)?;
     let least = read_set(alloc, instance, text, cursor, b"least")?;
     let greatest = read_set(alloc, instance, text, cursor, b"greatest")?;
     Ok((value, least, greatest))
 }
 
-/// What a text says, by the grammar that the instance's names and terms ask for.
+/// What a text with that first line says, by the grammar that the instance's names and terms ask for.
 ///
 /// # Errors
 ///
 /// `BadLine` with the first line that is not of the grammar at its place, where there is one; `Memory` where there is none.
-pub fn read_answer(alloc: Global, instance: &Instance, text: &[u8]) -> Result<Solved, AnswerEnd>
-    ensures read { IfOk result (λ solved. IsAnswerText (form_of instance.now) text.now
-        (answer_of solved)) }
-    ensures refused { IfErr result (IsBadLineEnd (form_of instance.now) text.now) }
+pub fn read_with(
+    alloc: Global,
+    header: Header,
+    instance: &Instance,
+    text: &[u8],
+) -> Result<Solved, AnswerEnd>
+    ensures read { IfOk result (λ solved. IsAnswerText (form_with (header_text header) instance.now)
+        text.now (answer_of solved)) }
+    ensures refused { IfErr result (IsBadLineEnd (form_with (header_text header) instance.now)
+        text.now) }
 {
     let _names = instance.names_len();
     let mut cursor = Cursor { at: 0, line: 1 };
-    let (value, least, greatest) = read_first(alloc, instance, text, &mut cursor)?;
+    let (value, least, greatest) = read_first(alloc, header, instance, text, &mut cursor)?;
     let blocks = read_blocks(alloc, instance, text, &mut cursor)?;
     let heads = read_heads(alloc, instance, text, &mut cursor)?;
     expect(text, &mut cursor, b"at 0/1")?;
@@ -165,4 +175,36 @@ pub fn read_answer(alloc: Global, instance: &Instance, text: &[u8]) -> Result<So
         bases,
         breaks,
     })
+}
+
+/// What a text says, where each element counts one.
+///
+/// # Errors
+///
+/// As `read_with`.
+pub fn read_answer(alloc: Global, instance: &Instance, text: &[u8]) -> Result<Solved, AnswerEnd>
+    ensures read { IfOk result (λ solved. IsAnswerText (form_of instance.now) text.now
+        (answer_of solved)) }
+    ensures refused { IfErr result (IsBadLineEnd (form_of instance.now) text.now) }
+{
+    read_with(alloc, Header::Answer, instance, text)
+}
+
+/// What a text says, where each element counts its size. The grammar does not look at sizes.
+///
+/// # Errors
+///
+/// As `read_with`.
+pub fn read_weighed(
+    alloc: Global,
+    instance: &Instance,
+    _sizes: &[i128],
+    text: &[u8],
+) -> Result<Solved, AnswerEnd>
+    ensures read { IfOk result (λ solved. IsAnswerText (form_with (codes "weighed 1") instance.now)
+        text.now (answer_of solved)) }
+    ensures refused { IfErr result (IsBadLineEnd (form_with (codes "weighed 1") instance.now)
+        text.now) }
+{
+    read_with(alloc, Header::Weighed, instance, text)
 }

@@ -1,9 +1,11 @@
 // Writing an answer: a line for each thing that it says, then the bases that prove it. The same walk tells how long the
-// text is and writes it, so that room is made once, before the first byte, and nothing is refused behind that.
-ghost use Rattle.std.specs.{Prelude.{◌≡◌, ◌-◌, ◌≤◌, ◌++◌, length, map, pos, IfOk}, List.{All}};
+// text is and writes it, so that room is made once, before the first byte, and nothing is refused behind that. The first
+// line is all that differs where elements have sizes.
+ghost use Rattle.std.specs.{Prelude.{◌≡◌, ◌-◌, ◌≤◌, ◌++◌, codes, length, map, pos, IfOk}, List.{All}};
 ghost use Rattle.sfm_spec.specs.Bounds.{IsEntry};
-ghost use Rattle.sfm_cert.specs.{Answer.{head_lines, text_of}, LineLists.{answer_text, break_lines}, Reading.{first_lines}, Few.{HasFewLines}, Form.{IsFormed, IsFormedBreak}, Solved.{answer_of, break_of, form_of}};
+ghost use Rattle.sfm_cert.specs.{Answer.{head_lines, text_of}, Header.{header_text}, LineLists.{answer_text, break_lines}, Reading.{first_lines}, Few.{HasFewLines}, Form.{IsFormed, IsFormedBreak}, Solved.{answer_of, break_of, form_of, form_with}};
 
+use crate::header::Header;
 use crate::out::{Gauge, Out};
 use crate::put::{put_blocks, put_breaks, put_names, put_number, put_section};
 use crate::solved::Solved;
@@ -13,14 +15,15 @@ use sfm_law::Break;
 use std::alloc::Global;
 
 /// The first lines: the minimum and its extreme minimisers.
-fn put_extremes<O: Out>(out: &mut O, instance: &Instance, solved: &Solved)
+fn put_extremes<O: Out>(out: &mut O, header: Header, instance: &Instance, solved: &Solved)
     requires value { IsEntry solved.now.value }
     requires least { length instance.now.names ≡ length solved.now.least }
     requires greatest { length instance.now.names ≡ length solved.now.greatest }
-    ensures { out.new ≡ O.after out.old (text_of (first_lines (form_of instance.now)
-        (answer_of solved.now))) }
+    ensures { out.new ≡ O.after out.old (text_of (first_lines
+        (form_with (header_text header) instance.now) (answer_of solved.now))) }
 {
-    out.put(b"answer 1\nminimum ");
+    out.put(header.text());
+    out.put(b"\nminimum ");
     put_number(out, solved.value);
     out.put(b"\nleast");
     put_names(out, instance, &solved.least);
@@ -30,12 +33,12 @@ fn put_extremes<O: Out>(out: &mut O, instance: &Instance, solved: &Solved)
 }
 
 /// The answer lines: the first lines, the blocks and the slopes.
-fn put_head<O: Out>(out: &mut O, instance: &Instance, solved: &Solved)
-    requires { IsFormed (form_of instance.now) (answer_of solved.now) }
-    ensures { out.new ≡ O.after out.old (text_of (head_lines (form_of instance.now)
-        (answer_of solved.now))) }
+fn put_head<O: Out>(out: &mut O, header: Header, instance: &Instance, solved: &Solved)
+    requires { IsFormed (form_with (header_text header) instance.now) (answer_of solved.now) }
+    ensures { out.new ≡ O.after out.old (text_of (head_lines
+        (form_with (header_text header) instance.now) (answer_of solved.now))) }
 {
-    put_extremes(out, instance, solved);
+    put_extremes(out, header, instance, solved);
     put_blocks(out, instance, &solved.blocks);
     put_breaks(out, instance, &solved.breaks);
 }
@@ -51,31 +54,41 @@ fn put_proofs<O: Out>(out: &mut O, breaks: &[Break])
 }
 
 /// The text of an answer, piece by piece.
-fn put_text<O: Out>(out: &mut O, instance: &Instance, solved: &Solved)
-    requires { IsFormed (form_of instance.now) (answer_of solved.now) }
-    ensures { out.new ≡ O.after out.old (answer_text (form_of instance.now)
+fn put_text<O: Out>(out: &mut O, header: Header, instance: &Instance, solved: &Solved)
+    requires { IsFormed (form_with (header_text header) instance.now) (answer_of solved.now) }
+    ensures { out.new ≡ O.after out.old (answer_text (form_with (header_text header) instance.now)
         (answer_of solved.now)) }
 {
-    put_head(out, instance, solved);
+    put_head(out, header, instance, solved);
     put_section(out, &Slope::new(0, 1), &solved.bases);
     put_proofs(out, &solved.breaks);
     out.put(b"end\n");
 }
 
-/// How many bytes the text of an answer has. It takes no memory.
+/// How many bytes the text of an answer has, where each element counts one. It takes no memory.
 pub fn answer_len(instance: &Instance, solved: &Solved) -> usize
     requires formed { IsFormed (form_of instance.now) (answer_of solved.now) }
     requires few { HasFewLines (answer_of solved.now) }
     ensures { result ≡ length (answer_text (form_of instance.now) (answer_of solved.now)) }
 {
+    len_with(Header::Answer, instance, solved)
+}
+
+// How many bytes the text of an answer with that first line has.
+fn len_with(header: Header, instance: &Instance, solved: &Solved) -> usize
+    requires formed { IsFormed (form_with (header_text header) instance.now) (answer_of solved.now) }
+    requires few { HasFewLines (answer_of solved.now) }
+    ensures { result ≡ length (answer_text (form_with (header_text header) instance.now)
+        (answer_of solved.now)) }
+{
     let _ = instance.terms();
     let _ = instance.names_len();
     let mut gauge = Gauge::new();
-    put_text(&mut gauge, instance, solved);
+    put_text(&mut gauge, header, instance, solved);
     gauge.used()
 }
 
-/// Puts the text of an answer at the end of a page that has room for it. It takes no memory.
+/// Puts the text of an answer at the end of a page that has room for it, where each element counts one. It takes no memory.
 pub fn put_answer(page: &mut Page, instance: &Instance, solved: &Solved)
     requires formed { IsFormed (form_of instance.now) (answer_of solved.now) }
     requires room { length (answer_text (form_of instance.now) (answer_of solved.now))
@@ -85,10 +98,45 @@ pub fn put_answer(page: &mut Page, instance: &Instance, solved: &Solved)
     ensures spare { page.new.spare ≡ page.old.spare - length
         (answer_text (form_of instance.now) (answer_of solved.now)) }
 {
-    put_text(page, instance, solved);
+    put_with(page, Header::Answer, instance, solved);
 }
 
-/// The text of an answer. Room for all of it is made first, and nothing is refused behind that.
+// The same with that first line.
+fn put_with(page: &mut Page, header: Header, instance: &Instance, solved: &Solved)
+    requires formed { IsFormed (form_with (header_text header) instance.now) (answer_of solved.now) }
+    requires room { length (answer_text (form_with (header_text header) instance.now)
+        (answer_of solved.now)) ≤ page.old.spare }
+    ensures bytes { page.new.bytes ≡ page.old.bytes ++ answer_text
+        (form_with (header_text header) instance.now) (answer_of solved.now) }
+    ensures spare { page.new.spare ≡ page.old.spare - length
+        (answer_text (form_with (header_text header) instance.now) (answer_of solved.now)) }
+{
+    put_text(page, header, instance, solved);
+}
+
+/// The text of an answer with that first line. Room for all of it is made first, and nothing is refused behind that.
+///
+/// # Errors
+///
+/// `Memory` where there is none.
+pub fn write_with(
+    alloc: Global,
+    header: Header,
+    instance: &Instance,
+    solved: &Solved,
+) -> Result<Vec<u8>, Memory>
+    requires formed { IsFormed (form_with (header_text header) instance.now) (answer_of solved.now) }
+    requires few { HasFewLines (answer_of solved.now) }
+    ensures { IfOk result (λ text. text.items ≡ answer_text
+        (form_with (header_text header) instance.now) (answer_of solved.now)) }
+{
+    let mut page = Page::new(alloc);
+    page.reserve(len_with(header, instance, solved))?;
+    put_with(&mut page, header, instance, solved);
+    Ok(page.into_vec())
+}
+
+/// The text of an answer, where each element counts one.
 ///
 /// # Errors
 ///
@@ -99,8 +147,19 @@ pub fn write_answer(alloc: Global, instance: &Instance, solved: &Solved) -> Resu
     ensures { IfOk result (λ text. text.items ≡ answer_text (form_of instance.now)
         (answer_of solved.now)) }
 {
-    let mut page = Page::new(alloc);
-    page.reserve(answer_len(instance, solved))?;
-    put_answer(&mut page, instance, solved);
-    Ok(page.into_vec())
+    write_with(alloc, Header::Answer, instance, solved)
+}
+
+/// The text of an answer, where each element counts its size.
+///
+/// # Errors
+///
+/// `Memory` where there is none.
+pub fn write_weighed(alloc: Global, instance: &Instance, solved: &Solved) -> Result<Vec<u8>, Memory>
+    requires formed { IsFormed (form_of instance.now) (answer_of solved.now) }
+    requires few { HasFewLines (answer_of solved.now) }
+    ensures { IfOk result (λ text. text.items ≡ answer_text
+        (form_with (codes "weighed 1") instance.now) (answer_of solved.now)) }
+{
+    write_with(alloc, Header::Weighed, instance, solved)
 }

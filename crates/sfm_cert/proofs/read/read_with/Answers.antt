@@ -49,12 +49,12 @@ returns-in_err-value-clause-refused c =
 pub returns-in_err-blocks-clause-refused : goal.returns-in_err-blocks-clause-refused
 returns-in_err-blocks-clause-refused c =
     bad_blocks (form_with (header_text c.args.header) c.args.instance.now) (header_line c.args.header) c.names_len-names.ensures.named.forms c.args.text.now _ refl refl c.in_ok-value.ensures.read
-    c.from_residual-in_err-blocks.result c.in_err-blocks.field-0.0 c.from_residual-in_err-blocks.ensures.1 (ends_behind c.args.instance.now (header_text c.args.header) tt c.in_err-blocks.ensures.stopped)
+    c.from_residual-in_err-blocks.result c.in_err-blocks.field-0.0 c.from_residual-in_err-blocks.ensures.1 (ends_behind c.args.instance.now (header_text c.args.header) c.args.text.now _ _ c.in_err-blocks.field-0.0 tt c.in_err-blocks.ensures.stopped)
 
 pub returns-in_err-heads-clause-refused : goal.returns-in_err-heads-clause-refused
 returns-in_err-heads-clause-refused c =
     bad_heads (form_with (header_text c.args.header) c.args.instance.now) (header_line c.args.header) c.names_len-names.ensures.named.forms c.args.text.now _ refl refl c.in_ok-value.ensures.read (blocks_behind c.args.instance.now (header_text c.args.header) c.in_ok-blocks.ensures.read) c.in_ok-blocks.ensures.next
-    c.from_residual-in_err-heads.result c.in_err-heads.field-0.0 c.from_residual-in_err-heads.ensures.1 (λ k. ends_behind c.args.instance.now (header_text c.args.header) tt (c.in_err-heads.ensures.stopped k))
+    c.from_residual-in_err-heads.result c.in_err-heads.field-0.0 c.from_residual-in_err-heads.ensures.1 (λ k. ends_behind c.args.instance.now (header_text c.args.header) c.args.text.now _ _ c.in_err-heads.field-0.0 tt (c.in_err-heads.ensures.stopped k))
 
 pub returns-in_err-expect-clause-refused : goal.returns-in_err-expect-clause-refused
 returns-in_err-expect-clause-refused c =
@@ -64,12 +64,12 @@ returns-in_err-expect-clause-refused c =
 pub returns-in_err-bases-clause-refused : goal.returns-in_err-bases-clause-refused
 returns-in_err-bases-clause-refused c =
     bad_rows (form_with (header_text c.args.header) c.args.instance.now) (header_line c.args.header) c.names_len-names.ensures.named.forms c.args.text.now _ refl refl c.in_ok-value.ensures.read (blocks_behind c.args.instance.now (header_text c.args.header) c.in_ok-blocks.ensures.read) c.in_ok-blocks.ensures.next (heads_behind c.args.instance.now (header_text c.args.header) c.in_ok-heads.ensures.read) c.in_ok-heads.ensures.next c.in_ok-expect.ensures.taken c.in_ok-expect.ensures.within
-    c.from_residual-in_err-bases.result c.in_err-bases.field-0.0 c.from_residual-in_err-bases.ensures.1 (λ d. ends_behind c.args.instance.now (header_text c.args.header) tt (c.in_err-bases.ensures.stopped d))
+    c.from_residual-in_err-bases.result c.in_err-bases.field-0.0 c.from_residual-in_err-bases.ensures.1 (λ d. ends_behind c.args.instance.now (header_text c.args.header) c.args.text.now _ _ c.in_err-bases.field-0.0 tt (c.in_err-bases.ensures.stopped d))
 
 pub returns-in_err-breaks-clause-refused : goal.returns-in_err-breaks-clause-refused
 returns-in_err-breaks-clause-refused c =
     bad_breaks (form_with (header_text c.args.header) c.args.instance.now) (header_line c.args.header) c.names_len-names.ensures.named.forms c.args.text.now _ refl refl c.in_ok-value.ensures.read (blocks_behind c.args.instance.now (header_text c.args.header) c.in_ok-blocks.ensures.read) c.in_ok-blocks.ensures.next (heads_behind c.args.instance.now (header_text c.args.header) c.in_ok-heads.ensures.read) c.in_ok-heads.ensures.next c.in_ok-expect.ensures.taken c.in_ok-expect.ensures.within (rows_behind c.args.instance.now (header_text c.args.header) c.in_ok-bases.ensures.read)
-    c.from_residual-in_err-breaks.result c.in_err-breaks.field-0.0 c.from_residual-in_err-breaks.ensures.1 (λ k. ends_behind c.args.instance.now (header_text c.args.header) tt ((rw c.deref.ensures.value at c.in_err-breaks.ensures.stopped) k))
+    c.from_residual-in_err-breaks.result c.in_err-breaks.field-0.0 c.from_residual-in_err-breaks.ensures.1 (λ k. ends_behind c.args.instance.now (header_text c.args.header) c.args.text.now _ _ c.in_err-breaks.field-0.0 tt ((rw c.deref.ensures.value at c.in_err-breaks.ensures.stopped) k))
 
 pub returns-in_err-expect-2-clause-refused : goal.returns-in_err-expect-2-clause-refused
 returns-in_err-expect-2-clause-refused c =

@@ -1,11 +1,12 @@
 use Rattle.std.proofs.Common.{◌≡◌, ◌++◌, ◌∷◌, [], map, pos, sym, ap, ◌∙◌, arith, refl}
 use Rattle.std.specs.Prelude.{codes}
 use Rattle.sfm_cert.specs.Answer.{head_lines, section_lines, text_of}
+use Rattle.sfm_cert.specs.Header.{header_text}
 use Rattle.sfm_cert.specs.LineLists.{break_lines}
 use Rattle.std.proofs.lemmas.Nat.Gcd.{dvd-zero, dvd_refl}
 use Rattle.sfm_spec.specs.Slopes.{IsLowest}
 use Rattle.sfm_spec.proofs.Lowest.{lowest_unique, lowest_of_gcd}
-use Rattle.sfm_cert.specs.Solved.{answer_of, break_of, form_of}
+use Rattle.sfm_cert.specs.Solved.{answer_of, break_of, form_with}
 use Rattle.sfm_cert.proofs.Pieces.{three_lines, appended_lines}
 use Rattle.sfm_cert.proofs.write.put_text.Goals as goal
 
@@ -16,7 +17,7 @@ zero_lowest = lowest_of_gcd (pos 0) (pos 1) (pos 0) 1 1 (omega arith) (dvd-zero 
 pub returns : goal.returns
 returns g c =
     let s = c.args.solved.now in
-    let head = head_lines (form_of c.args.instance.now) (answer_of s) in
+    let head = head_lines (form_with (header_text c.args.header) c.args.instance.now) (answer_of s) in
     let first = section_lines (pos 0) (pos 1) s.bases in
     let more = break_lines (map break_of s.breaks.items) in
     let section : c.put_section.new.out ≡ g.O.Out.after c.put_head.new.out (text_of first) =
