@@ -1,5 +1,5 @@
 -- All breakpoints of the terms of an instance, against the slopes of an answer.
-use Rattle.std.proofs.Common.{◌≡◌, ◌≢◌, ◌⊎◌, inl, inr, ℕ, ◌+◌, ◌<◌, ◌≤◌, ◌^◌, Bool, List, [], ◌∷◌, ◌++◌, length, map, get_or, take, drop, pos, refl, sym, ap, ◌∙◌, arith, subst}
+use Rattle.std.proofs.Common.{◌≡◌, ◌≢◌, ◌⊎◌, inl, inr, ℕ, ◌+◌, ◌<◌, ◌≤◌, ◌^◌, Bool, List, [], ◌∷◌, ◌++◌, length, map, get_or, take, drop, ℤ, pos, refl, sym, ap, ◌∙◌, arith, subst}
 use Rattle.std.specs.Prelude.{unsigned_abs}
 use borrow.Author.Differences.{abs_is}
 use Rattle.std.specs.List.{All}
@@ -9,11 +9,11 @@ use Rattle.std.proofs.Math.Seq.{drop-append_seam}
 use Rattle.std.proofs.lemmas.List.Elements.{All-drop, All-from_get_or}
 use Rattle.sfm_spec.specs.Slopes.{IsLowest}
 use Rattle.sfm_spec.specs.Families.{AreTerms, IsAllowed, meanings, sum_at}
-use Rattle.sfm_spec.specs.Laws.{AreBreakpoints, Mark, no_mark, ones}
+use Rattle.sfm_spec.specs.Laws.{AreBreakpoints, Mark, no_mark}
 use Rattle.sfm_spec.specs.Search.{AreLowest, mark_at}
 use Rattle.sfm_spec.proofs.Breakpoints.{breakpoint_den, breakpoint_num, breakpoints_exist, breakpoints_unique}
 use Rattle.sfm_spec.proofs.Duality.{meanings-terms}
-use Rattle.sfm_spec.proofs.Ones.{ones-places, ones-sizes, total-ones}
+use Rattle.sfm_sizes.specs.Sizes.{AreElementSizes}
 use Rattle.sfm_law.proofs.Lists.{placed-meanings}
 use Rattle.sfm_kind.specs.declared.kind.Kind.{Kind}
 use Rattle.sfm_kind.specs.Limits.{AreInBounds}
@@ -63,11 +63,11 @@ module _ (n : ℕ) (ts : List Kind) (bounded : AreInBounds n ts) where
   pub fit : AreTerms n (meanings kind_places kind_value ts)
   fit = meanings-terms n kind_places kind_value kind-family kind-submodular ts (placed-meanings n kind_places kind_value ts bounded.placed)
 
-  pub all_slopes : (marks : List Mark) × AreBreakpoints (meanings kind_places kind_value ts) n (ones n) marks
-  all_slopes = breakpoints_exist (meanings kind_places kind_value ts) n (ones n) fit (ones-places n) (ones-sizes n)
+  pub all_slopes : (sizes : List ℤ) → AreElementSizes n sizes → (marks : List Mark) × AreBreakpoints (meanings kind_places kind_value ts) n sizes marks
+  all_slopes sizes sized = breakpoints_exist (meanings kind_places kind_value ts) n sizes fit sized.places sized.positive
 
-  pub same_slopes : (marks marks' : List Mark) → AreBreakpoints (meanings kind_places kind_value ts) n (ones n) marks → AreBreakpoints (meanings kind_places kind_value ts) n (ones n) marks' → marks ≡ marks'
-  same_slopes = breakpoints_unique (meanings kind_places kind_value ts) n (ones n) fit (ones-places n) (ones-sizes n)
+  pub same_slopes : (sizes : List ℤ) → AreElementSizes n sizes → (marks marks' : List Mark) → AreBreakpoints (meanings kind_places kind_value ts) n sizes marks → AreBreakpoints (meanings kind_places kind_value ts) n sizes marks' → marks ≡ marks'
+  same_slopes sizes sized = breakpoints_unique (meanings kind_places kind_value ts) n sizes fit sized.places sized.positive
 
   sum_within : (s : List Bool) → length s ≡ n → IsAllowed (meanings kind_places kind_value ts) s → unsigned_abs (sum_at (meanings kind_places kind_value ts) s) ≤ 10 ^ 18
   sum_within s places allowed =
@@ -76,32 +76,32 @@ module _ (n : ℕ) (ts : List Kind) (bounded : AreInBounds n ts) where
       let x = abs_is (sum_at (meanings kind_places kind_value ts) s) in
       omega (arith, ints, r.0, r.1, m, x)
 
-  pub due_plain : (names : List (List ℕ)) (marks : List Mark) → length names ≡ n → n ≤ 256 → AreBreakpoints (meanings kind_places kind_value ts) n (ones n) marks → All (IsPlainMark names) marks
-  due_plain names marks ln few are = All-from_get_or (IsPlainMark names) marks no_mark each where
+  pub due_plain : (sizes : List ℤ) → AreElementSizes n sizes → (names : List (List ℕ)) (marks : List Mark) → length names ≡ n → AreBreakpoints (meanings kind_places kind_value ts) n sizes marks → All (IsPlainMark names) marks
+  due_plain sizes sized names marks ln are = All-from_get_or (IsPlainMark names) marks no_mark each where
     each : (i : ℕ) → i < length marks → IsPlainMark names (mark_at marks i)
     each i l =
         let m = mark_at marks i in
         let b = are.sound i l in
         let low = are.lowest i l in
-        let small = breakpoint_num (meanings kind_places kind_value ts) n (ones n) fit (ones-places n) (ones-sizes n) (10 ^ 18) sum_within m.num m.den m.members low b in
-        let short = breakpoint_den (meanings kind_places kind_value ts) n (ones n) fit (ones-places n) (ones-sizes n) m.num m.den m.members low b in
+        let small = breakpoint_num (meanings kind_places kind_value ts) n sizes fit sized.places sized.positive (10 ^ 18) sum_within m.num m.den m.members low b in
+        let short = breakpoint_den (meanings kind_places kind_value ts) n sizes fit sized.places sized.positive m.num m.den m.members low b in
         let x = abs_is m.num in
         let one = low.positive in
-        let t = total-ones n in
+        let t = sized.small in
         record {
           num = record { low = omega (arith, ints, small, x); high = omega (arith, ints, small, x) };
-          den = record { low = omega (arith, ints, one); high = omega (arith, ints, short, t, few) };
+          den = record { low = omega (arith, ints, one); high = omega (arith, ints, short, t) };
           places = b.greatest.minimiser.places ∙ sym ln;
         }
 
 -- ---- the first wrong slope is on the first wrong line
 
-module _ (form : Form) (a : Answer) (ts : List Kind) (formed : IsFormed form a) (fine : AreElementNames form.names) (bounded : AreInBounds (length form.names) ts) where
-  pub wrong_at : (t : Answer) (k : ℕ) → AreBreakpoints (meanings kind_places kind_value ts) (length form.names) (ones (length form.names)) (map mark_of t.breaks) → SaysTheSame a t
-      → IsFirstWrongSlope (meanings kind_places kind_value ts) (length form.names) (map mark_of a.breaks) k → IsWrongLine form a t (5 + length a.blocks + k)
+module _ (form : Form) (a : Answer) (ts : List Kind) (formed : IsFormed form a) (fine : AreElementNames form.names) (bounded : AreInBounds (length form.names) ts) (sizes : List ℤ) (sized : AreElementSizes (length form.names) sizes) where
+  pub wrong_at : (t : Answer) (k : ℕ) → AreBreakpoints (meanings kind_places kind_value ts) (length form.names) sizes (map mark_of t.breaks) → SaysTheSame a t
+      → IsFirstWrongSlope (meanings kind_places kind_value ts) (length form.names) sizes (map mark_of a.breaks) k → IsWrongLine form a t (5 + length a.blocks + k)
   wrong_at t k are same w =
-      let d = wrong_slope_departs (meanings kind_places kind_value ts) (length form.names) (fit (length form.names) ts bounded) (map mark_of a.breaks) (map mark_of t.breaks) k (given_lowest form a formed) are w in
-      let plain = due_plain (length form.names) ts bounded form.names (map mark_of t.breaks) refl fine.few are in
+      let d = wrong_slope_departs (meanings kind_places kind_value ts) (length form.names) sizes (fit (length form.names) ts bounded) sized (map mark_of a.breaks) (map mark_of t.breaks) k (given_lowest form a formed) are w in
+      let plain = due_plain (length form.names) ts bounded sizes sized form.names (map mark_of t.breaks) refl are in
       wrong_slope form a t k (take k (map mark_of a.breaks)) (drop k (map mark_of a.breaks)) d.rest fine
       (All-drop (IsPlainMark form.names) k (map mark_of a.breaks) (given_plain form a formed))
       (behind (take k (map mark_of a.breaks)) d.rest (subst (All (IsPlainMark form.names)) d.parts plain))

@@ -7,13 +7,13 @@ use Rattle.std.proofs.lemmas.Bool.{cases_lt}
 use Rattle.std.proofs.lemmas.List.{length-map, length-replicate, get_or-map}
 use Rattle.sfm_spec.specs.Sets.{empty_set, size, whole_set, IsWithin}
 use Rattle.sfm_spec.specs.Slopes.{IsLowerSlope}
-use Rattle.sfm_spec.specs.Families.{Meaning, AreBases, AreTerms, IsMinimiser, Prove, deficit, even_shift, rest_at, shifted_at, sum_at}
-use Rattle.sfm_spec.specs.Laws.{Mark, no_mark, ones}
+use Rattle.sfm_spec.specs.Families.{Meaning, AreBases, AreTerms, IsMinimiser, Prove, deficit, rest_at, shifted_at, sized_shift, sum_at}
+use Rattle.sfm_spec.specs.Laws.{Mark, no_mark}
 use Rattle.sfm_spec.specs.Search.{mark_at}
 use Rattle.sfm_spec.proofs.Duality.{proved_by, reached_back}
 use Rattle.sfm_spec.proofs.Lattice.{none_in_empty}
 use Rattle.sfm_spec.proofs.Nest.{shifted-sized, slopes_nest}
-use Rattle.sfm_spec.proofs.Ones.{ones-places, ones-shift, ones-sizes, sum-ones}
+use Rattle.sfm_sizes.specs.Sizes.{AreElementSizes}
 use Rattle.sfm_spec.proofs.Search.{within_whole}
 use Rattle.sfm_cert.specs.Answer.{Answer, Break, Form, mark_of}
 use Rattle.sfm_cert.specs.Form.{IsFormed}
@@ -25,31 +25,24 @@ use Rattle.sfm_check.specs.declared.worth.Worth.{Worth}
 no_break : Break
 no_break = record { num = pos 0; den = pos 1; members = []; bases = [] }
 
--- what a set is worth at a slope, by its size and its sum
-pub worth_shifted : (terms : List Meaning) (n : ℕ) (p q : ℤ) (s : List Bool) → length s ≡ n → shifted_at terms q (even_shift n p) s ≡ (q *ℤ sum_at terms s -ℤ p *ℤ pos (size s))
-worth_shifted terms n p q s places =
-    ap (λ z. shifted_at terms q z s) (sym (ones-shift n p)) ∙ (shifted-sized terms (ones n) p q s ∙ ap (λ z. q *ℤ sum_at terms s -ℤ p *ℤ z) (sum-ones n s places))
-
-module _ (terms : List Meaning) (n : ℕ) (fit : AreTerms n terms) where
+module _ (terms : List Meaning) (n : ℕ) (sizes : List ℤ) (fit : AreTerms n terms) (sized : AreElementSizes n sizes) where
   -- a set that attains the bound of the bases
-  pub minimiser_by : (b : Break) (s : List Bool) (w : Worth) → AreBases b.den terms b.bases → length s ≡ n → IsWorth terms s w → Attains terms n b w
-      → IsMinimiser terms n b.den (even_shift n b.num) s × Prove terms n b.den (even_shift n b.num) b.bases
+  pub minimiser_by : (b : Break) (s : List Bool) (w : Worth) → AreBases b.den terms b.bases → length s ≡ n → IsWorth terms sizes s w → Attains terms n sizes b w
+      → IsMinimiser terms n b.den (sized_shift sizes b.num) s × Prove terms n b.den (sized_shift sizes b.num) b.bases
   minimiser_by b s w bases places h attains =
-      let one = worth_shifted terms n b.num b.den s places in
-      let by = ap (λ z. b.den *ℤ z -ℤ b.num *ℤ pos w.size) h.sum ∙ ap (λ z. b.den *ℤ sum_at terms s -ℤ b.num *ℤ pos z) h.size in
-      let same : shifted_at terms b.den (even_shift n b.num) s ≡ deficit n (rest_at terms b.bases (even_shift n b.num)) = one ∙ (sym by ∙ attains) in
-      let (signed, tight) = reached_back terms b.bases n b.den (even_shift n b.num) fit bases s places h.allowed same in
-      proved_by terms b.bases n b.den (even_shift n b.num) fit bases s places signed tight
+      let one = shifted-sized terms sizes b.num b.den s in
+      let by = ap (λ z. b.den *ℤ z -ℤ b.num *ℤ w.weight) h.sum ∙ ap (λ z. b.den *ℤ sum_at terms s -ℤ b.num *ℤ z) h.weight in
+      let same : shifted_at terms b.den (sized_shift sizes b.num) s ≡ deficit n (rest_at terms b.bases (sized_shift sizes b.num)) = one ∙ (sym by ∙ attains) in
+      let (signed, tight) = reached_back terms b.bases n b.den (sized_shift sizes b.num) fit bases s places h.allowed same in
+      proved_by terms b.bases n b.den (sized_shift sizes b.num) fit bases s places signed tight
 
   -- minimisers at a lower slope lie within those at a higher one
-  pub nested : (p q p' q' : ℤ) (s t : List Bool) → pos 1 ≤ℤ q → pos 1 ≤ℤ q' → IsLowerSlope p q p' q' → IsMinimiser terms n q (even_shift n p) s → IsMinimiser terms n q' (even_shift n p') t → IsWithin s t
+  pub nested : (p q p' q' : ℤ) (s t : List Bool) → pos 1 ≤ℤ q → pos 1 ≤ℤ q' → IsLowerSlope p q p' q' → IsMinimiser terms n q (sized_shift sizes p) s → IsMinimiser terms n q' (sized_shift sizes p') t → IsWithin s t
   nested p q p' q' s t lq lq' less hs ht =
-      slopes_nest terms n (ones n) fit (ones-places n) (ones-sizes n) p q p' q' s t lq lq' less
-      (subst (λ z. IsMinimiser terms n q z s) (sym (ones-shift n p)) hs)
-      (subst (λ z. IsMinimiser terms n q' z t) (sym (ones-shift n p')) ht)
+      slopes_nest terms n sizes fit sized.places sized.positive p q p' q' s t lq lq' less hs ht
 
   module _ (form : Form) (a : Answer) (names : length form.names ≡ n) (formed : IsFormed form a) (bases : (s : ℕ) → s < length (sections_of a) → AreBases (section_at a s).den terms (section_at a s).bases)
-      (steps : (k : ℕ) → k < length a.breaks → IsStepAt terms n a k) where
+      (steps : (k : ℕ) → k < length a.breaks → IsStepAt terms n sizes a k) where
     at : ℕ → Break
     at k = get_or a.breaks k no_break
 
@@ -85,24 +78,24 @@ module _ (terms : List Meaning) (n : ℕ) (fit : AreTerms n terms) where
     rows : (k : ℕ) → k < length a.breaks → AreBases (at k).den terms (at k).bases
     rows k l = subst (λ (z : Section). AreBases z.den terms z.bases) (section_is k l) (bases (suc k) (omega (arith, l, length-map a.breaks section_of)))
 
-    step : (k : ℕ) → k < length a.breaks → IsStep terms n (before k) (at k)
+    step : (k : ℕ) → k < length a.breaks → IsStep terms n sizes (before k) (at k)
     unfolding before at
     step k l = (steps k l).step no_break
 
-    low : (k : ℕ) → k < length a.breaks → IsMinimiser terms n (at k).den (even_shift n (at k).num) (before k)
+    low : (k : ℕ) → k < length a.breaks → IsMinimiser terms n (at k).den (sized_shift sizes (at k).num) (before k)
     low k l = let s = step k l in (minimiser_by (at k) (before k) s.lower (rows k l) (before_places k l) s.lower_is s.lower_attains).0
 
-    high : (k : ℕ) → k < length a.breaks → IsMinimiser terms n (at k).den (even_shift n (at k).num) (at k).members
+    high : (k : ℕ) → k < length a.breaks → IsMinimiser terms n (at k).den (sized_shift sizes (at k).num) (at k).members
     high k l = let s = step k l in (minimiser_by (at k) (at k).members s.higher (rows k l) (places k l) s.higher_is s.higher_attains).0
 
-    proves : (k : ℕ) → k < length a.breaks → Prove terms n (at k).den (even_shift n (at k).num) (at k).bases
+    proves : (k : ℕ) → k < length a.breaks → Prove terms n (at k).den (sized_shift sizes (at k).num) (at k).bases
     proves k l = let s = step k l in (minimiser_by (at k) (at k).members s.higher (rows k l) (places k l) s.higher_is s.higher_attains).1
 
     rises : (k : ℕ) → suc k < length a.breaks → IsLowerSlope (at k).num (at k).den (at (suc k)).num (at (suc k)).den
     unfolding at
     rises k l = (steps (suc k) l).ascends k no_break refl
 
-    within : (k : ℕ) (t : List Bool) → k < length a.breaks → IsMinimiser terms n (at k).den (even_shift n (at k).num) t → IsWithin (before k) t
+    within : (k : ℕ) (t : List Bool) → k < length a.breaks → IsMinimiser terms n (at k).den (sized_shift sizes (at k).num) t → IsWithin (before k) t
     unfolding before
     within zero t l ht = λ e h. absurd (none_in_empty n e h)
     within (suc k) t l ht =
@@ -110,7 +103,7 @@ module _ (terms : List Meaning) (n : ℕ) (fit : AreTerms n terms) where
         subst (λ z. IsWithin z t) (sym (behind k lk)) (nested (at k).num (at k).den (at (suc k)).num (at (suc k)).den (at k).members t (positive k lk) (positive (suc k) l) (rises k l) (high k lk) ht)
 
     module _ (ends : set_before (empty_set n) (map mark_of a.breaks) (length a.breaks) ≡ whole_set n) where
-      has_within : (k : ℕ) (t : List Bool) → k < length a.breaks → IsMinimiser terms n (at k).den (even_shift n (at k).num) t → IsWithin t (at k).members
+      has_within : (k : ℕ) (t : List Bool) → k < length a.breaks → IsMinimiser terms n (at k).den (sized_shift sizes (at k).num) t → IsWithin t (at k).members
       unfolding before
       has_within k t l ht = ⊎_elim
           (λ more. subst (IsWithin t) (behind k l) (nested (at k).num (at k).den (at (suc k)).num (at (suc k)).den t (before (suc k)) (positive k l) (positive (suc k) more) (rises k more) ht (low (suc k) more)))
@@ -120,7 +113,7 @@ module _ (terms : List Meaning) (n : ℕ) (fit : AreTerms n terms) where
           subst (IsWithin t) (sym whole) (within_whole n t ht.places))
           (cases_lt (suc k) (length a.breaks))
 
-      next : (k : ℕ) → k < length a.breaks → IsNextSlope terms n (before k) (mark_of (at k))
+      next : (k : ℕ) → k < length a.breaks → IsNextSlope terms n sizes (before k) (mark_of (at k))
       next k l =
           let s = step k l in
           let grows = s.larger in
@@ -132,20 +125,20 @@ module _ (terms : List Meaning) (n : ℕ) (fit : AreTerms n terms) where
             larger = omega (arith, grows, from, to);
           }
 
-      chain : IsFullChain terms n (map mark_of a.breaks)
+      chain : IsFullChain terms n sizes (map mark_of a.breaks)
       unfolding before
       chain = record {
         each = λ k l.
             let lk : k < length a.breaks = omega (arith, l, length-map a.breaks mark_of) in
-            subst (λ (m : Mark). IsNextSlope terms n (before k) m) (sym (mark_is k lk)) (next k lk);
+            subst (λ (m : Mark). IsNextSlope terms n sizes (before k) m) (sym (mark_is k lk)) (next k lk);
         ends = ap before (length-map a.breaks mark_of) ∙ ends;
       }
 
-      proved : (s : ℕ) → s ≢ 0 → s < length (sections_of a) → IsProvedSection terms n (section_at a s)
+      proved : (s : ℕ) → s ≢ 0 → s < length (sections_of a) → IsProvedSection terms n sizes (section_at a s)
       proved zero ne l = absurd (ne refl)
       proved (suc k) ne l =
           let lk : k < length a.breaks = omega (arith, l, length-map a.breaks section_of) in
-          subst (λ (z : Section). IsProvedSection terms n z) (sym (section_is k lk)) (record { bases = rows k lk; proves = proves k lk })
+          subst (λ (z : Section). IsProvedSection terms n sizes z) (sym (section_is k lk)) (record { bases = rows k lk; proves = proves k lk })
 
-      pub slopes_right : AreRightSlopes terms n a
+      pub slopes_right : AreRightSlopes terms n sizes a
       slopes_right = record { chain = chain; proved = proved }

@@ -1,5 +1,5 @@
 -- The slopes of an answer, as the program keeps them.
-use Rattle.std.proofs.Common.{◌≡◌, ◌≢◌, ℕ, ◌+◌, ◌-◌, ◌<◌, Bool, List, length, map, get_or, sym, ap, ◌∙◌, arith, subst, add-one}
+use Rattle.std.proofs.Common.{◌≡◌, ◌≢◌, ℕ, ◌+◌, ◌-◌, ◌<◌, Bool, List, length, map, get_or, ℤ, sym, ap, ◌∙◌, arith, subst, add-one}
 use Rattle.std.proofs.lemmas.List.{length-map, get_or-map}
 use Rattle.sfm_spec.specs.Sets.{empty_set}
 use Rattle.sfm_spec.specs.Slopes.{IsLowerSlope}
@@ -47,12 +47,12 @@ ascends_by items k b c ne l eb ec less = λ j d e.
     (subst (λ (x : Break). IsLowerSlope x.num x.den (get_or items k c).slope.num (get_or items k c).slope.den) (sym one) less)
 
 -- what was tested of a slope
-pub step_by : (terms : List Meaning) (n : ℕ) (solved : Solved) (k : ℕ) (b : Found) (before here : Worth) → k < length solved.breaks.items → b ≡ get_or solved.breaks.items k b
-    → IsWorth terms (set_before (empty_set n) (map mark_of (answer_of solved).breaks) k) before → IsWorth terms b.set here → before.size < here.size
-    → Attains terms n (break_of b) before → Attains terms n (break_of b) here → Ascends (map break_of solved.breaks.items) k → IsStepAt terms n (answer_of solved) k
-step_by terms n solved k b before here l e wb wh larger ab ah up = record {
+pub step_by : (terms : List Meaning) (n : ℕ) (sizes : List ℤ) (solved : Solved) (k : ℕ) (b : Found) (before here : Worth) → k < length solved.breaks.items → b ≡ get_or solved.breaks.items k b
+    → IsWorth terms sizes (set_before (empty_set n) (map mark_of (answer_of solved).breaks) k) before → IsWorth terms sizes b.set here → before.size < here.size
+    → Attains terms n sizes (break_of b) before → Attains terms n sizes (break_of b) here → Ascends (map break_of solved.breaks.items) k → IsStepAt terms n sizes (answer_of solved) k
+step_by terms n sizes solved k b before here l e wb wh larger ab ah up = record {
   ascends = up;
-  step = λ d. subst (IsStep terms n (set_before (empty_set n) (map mark_of (answer_of solved).breaks) k)) (sym (kept_at solved.breaks.items k b d l e)) (record {
+  step = λ d. subst (IsStep terms n sizes (set_before (empty_set n) (map mark_of (answer_of solved).breaks) k)) (sym (kept_at solved.breaks.items k b d l e)) (record {
     lower = before;
     higher = here;
     lower_is = wb;

@@ -1,12 +1,13 @@
 -- The value of a sum of terms is small, as their sizes add up to little.
-use Rattle.std.proofs.Common.{◌≡◌, ℕ, zero, suc, Bool, true, false, List, [], ◌∷◌, map, pos, neg_ℤ, ◌≤ℤ◌, refl, arith}
+use Rattle.std.proofs.Common.{ℕ, Bool, List, [], ◌∷◌, map, ℤ, pos, neg_ℤ, ◌≤ℤ◌, arith}
 use Rattle.std.proofs.lemmas.Int.{ints}
 use Rattle.std.proofs.lemmas.List.{length-map}
-use Rattle.sfm_spec.specs.Sets.{part, sum_over}
+use Rattle.sfm_spec.specs.Sets.{part}
 use Rattle.sfm_spec.specs.Bounds.{IsEntry, total_of}
-use Rattle.sfm_spec.specs.Families.{meanings, IsAllowed, even_shift, shifted_at, sum_at}
+use Rattle.sfm_spec.specs.Families.{meanings, IsAllowed, shifted_at, sized_shift, sum_at}
 use Rattle.sfm_spec.proofs.Tight.{some_of}
 use Rattle.sfm_spec.proofs.Lattice.{value_is}
+use Rattle.sfm_spec.proofs.Nest.{shifted-sized}
 use Rattle.sfm_kind.specs.declared.kind.Kind.{Kind}
 use Rattle.sfm_kind.specs.Limits.{AreInBounds}
 use Rattle.sfm_kind.specs.Kinds.{kind_places, kind_size, kind_value, kind-bounded}
@@ -21,17 +22,10 @@ sum_small (t ∷ ts) s allowed =
     let v = value_is (kind_value t (part (kind_places t) s)) a e in
     (omega (arith, ints, b, r, v), omega (arith, ints, b, r, v))
 
-no_shift : (n : ℕ) (s : List Bool) → sum_over s (even_shift n (pos 0)) ≡ pos 0
-no_shift zero [] = refl
-no_shift zero (b ∷ s) = refl
-no_shift (suc n) [] = refl
-no_shift (suc n) (true ∷ s) = let r = no_shift n s in omega (arith, ints, r)
-no_shift (suc n) (false ∷ s) = let r = no_shift n s in omega (arith, ints, r)
-
 -- the value at 0/1 of an allowed set
-pub value_small : (n : ℕ) (ts : List Kind) (s : List Bool) → AreInBounds n ts → IsAllowed (meanings kind_places kind_value ts) s → IsEntry (shifted_at (meanings kind_places kind_value ts) (pos 1) (even_shift n (pos 0)) s)
-value_small n ts s bounded allowed =
+pub value_small : (n : ℕ) (sizes : List ℤ) (ts : List Kind) (s : List Bool) → AreInBounds n ts → IsAllowed (meanings kind_places kind_value ts) s → IsEntry (shifted_at (meanings kind_places kind_value ts) (pos 1) (sized_shift sizes (pos 0)) s)
+value_small n sizes ts s bounded allowed =
     let r = sum_small ts s allowed in
-    let z = no_shift n s in
+    let z = shifted-sized (meanings kind_places kind_value ts) sizes (pos 0) (pos 1) s in
     let m = bounded.small in
     record { low = omega (arith, ints, r, z, m); high = omega (arith, ints, r, z, m) }

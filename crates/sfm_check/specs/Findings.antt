@@ -4,7 +4,7 @@ use Rattle.sfm_spec.specs.Sets.{empty_set, size, whole_set}
 use Rattle.sfm_spec.specs.Laws.{Mark}
 use Rattle.sfm_spec.specs.Search.{mark_at}
 use Rattle.sfm_spec.specs.Terms.{times, IsBase}
-use Rattle.sfm_spec.specs.Families.{Meaning, IsLeast, IsGreatest, even_shift, shifted_at}
+use Rattle.sfm_spec.specs.Families.{Meaning, IsLeast, IsGreatest, shifted_at, sized_shift}
 use Rattle.sfm_spec.specs.Blocks.{AreBlocks, Block, block_at}
 use Rattle.sfm_spec.specs.Walks.{term_at, base_at}
 use Rattle.sfm_extreme.specs.declared.extremes.Proved.{Proved}
@@ -38,21 +38,21 @@ pub record IsSection (section : Section) (num den : ℤ) (rows : List (List ℤ)
   pub rows_are : section.bases ≡ rows
 
 -- the bases of a section prove the minimum, which is as told
-pub record IsToldOf (terms : List Meaning) (n : ℕ) (section : Section) (p : Proved) : Type 0 where
-  pub proved : IsProvedSection terms n section
-  pub least : IsLeast terms n section.den (even_shift n section.num) p.least
-  pub greatest : IsGreatest terms n section.den (even_shift n section.num) p.greatest
-  pub value : p.value ≡ shifted_at terms section.den (even_shift n section.num) p.least
+pub record IsToldOf (terms : List Meaning) (n : ℕ) (sizes : List ℤ) (section : Section) (p : Proved) : Type 0 where
+  pub proved : IsProvedSection terms n sizes section
+  pub least : IsLeast terms n section.den (sized_shift sizes section.num) p.least
+  pub greatest : IsGreatest terms n section.den (sized_shift sizes section.num) p.greatest
+  pub value : p.value ≡ shifted_at terms section.den (sized_shift sizes section.num) p.least
 
 -- what the bases of all sections tell, one after the other
-pub record AreTold (terms : List Meaning) (n : ℕ) (a : Answer) (found : List Proved) : Type 0 where
+pub record AreTold (terms : List Meaning) (n : ℕ) (sizes : List ℤ) (a : Answer) (found : List Proved) : Type 0 where
   pub count : length found ≡ length (sections_of a)
-  pub each : (s : ℕ) (d : Proved) → s < length (sections_of a) → IsToldOf terms n (section_at a s) (slice_index_or found s d)
+  pub each : (s : ℕ) (d : Proved) → s < length (sections_of a) → IsToldOf terms n sizes (section_at a s) (slice_index_or found s d)
 
 -- what all sections tell, or the line of the first that does not prove
-abbrev pub AreSections : List Meaning → ℕ → Answer → Sections → Type 0
-AreSections terms n a (AllProved found) = AreTold terms n a found.items
-AreSections terms n a (OneUnproved line) = IsFirstUnproved terms n a line
+abbrev pub AreSections : List Meaning → ℕ → List ℤ → Answer → Sections → Type 0
+AreSections terms n sizes a (AllProved found) = AreTold terms n sizes a found.items
+AreSections terms n sizes a (OneUnproved line) = IsFirstUnproved terms n sizes a line
 
 -- where two lists of blocks first differ, or one of them ends
 pub record IsFirstUnlike (given due : List Block) (i : ℕ) : Type 0 where
@@ -69,11 +69,11 @@ pub record SaysTheSame (a truth : Answer) : Type 0 where
   pub blocks : a.blocks ≡ truth.blocks
 
 -- what the answer says is true, but for the slopes
-pub record IsTrueMinimum (terms : List Meaning) (n : ℕ) (a : Answer) : Type 0 where
-  pub least : IsLeast terms n (pos 1) (even_shift n (pos 0)) a.least
-  pub greatest : IsGreatest terms n (pos 1) (even_shift n (pos 0)) a.greatest
-  pub value : a.value ≡ shifted_at terms (pos 1) (even_shift n (pos 0)) a.least
-  pub blocks : AreBlocks terms n (pos 1) (even_shift n (pos 0)) a.blocks
+pub record IsTrueMinimum (terms : List Meaning) (n : ℕ) (sizes : List ℤ) (a : Answer) : Type 0 where
+  pub least : IsLeast terms n (pos 1) (sized_shift sizes (pos 0)) a.least
+  pub greatest : IsGreatest terms n (pos 1) (sized_shift sizes (pos 0)) a.greatest
+  pub value : a.value ≡ shifted_at terms (pos 1) (sized_shift sizes (pos 0)) a.least
+  pub blocks : AreBlocks terms n (pos 1) (sized_shift sizes (pos 0)) a.blocks
 
 -- the set before slope k: that of the slope before, or the first set
 abbrev pub set_before : List Bool → List Mark → ℕ → List Bool
@@ -81,9 +81,9 @@ set_before first marks zero = first
 set_before first marks (suc k) = (mark_at marks k).members
 
 -- the slope has the set before as its least minimiser, and a larger one as its greatest
-pub record IsNextSlope (terms : List Meaning) (n : ℕ) (before : List Bool) (mark : Mark) : Type 0 where
-  pub least : IsLeast terms n mark.den (even_shift n mark.num) before
-  pub greatest : IsGreatest terms n mark.den (even_shift n mark.num) mark.members
+pub record IsNextSlope (terms : List Meaning) (n : ℕ) (sizes : List ℤ) (before : List Bool) (mark : Mark) : Type 0 where
+  pub least : IsLeast terms n mark.den (sized_shift sizes mark.num) before
+  pub greatest : IsGreatest terms n mark.den (sized_shift sizes mark.num) mark.members
   pub larger : size before < size mark.members
 
 -- the extreme sets that a section tells, the set before a slope and that of the slope are of one ground
@@ -93,14 +93,14 @@ pub record AreOfOneGround (found : Proved) (before set : List Bool) : Type 0 whe
   pub both : length set ≡ length before
 
 -- each slope is the next one, and the last set is the whole
-pub record IsFullChain (terms : List Meaning) (n : ℕ) (marks : List Mark) : Type 0 where
-  pub each : (k : ℕ) → k < length marks → IsNextSlope terms n (set_before (empty_set n) marks k) (mark_at marks k)
+pub record IsFullChain (terms : List Meaning) (n : ℕ) (sizes : List ℤ) (marks : List Mark) : Type 0 where
+  pub each : (k : ℕ) → k < length marks → IsNextSlope terms n sizes (set_before (empty_set n) marks k) (mark_at marks k)
   pub ends : set_before (empty_set n) marks (length marks) ≡ whole_set n
 
 -- the first slope that is not the next one, or the number of them where one is missing
-pub record IsFirstWrongSlope (terms : List Meaning) (n : ℕ) (marks : List Mark) (k : ℕ) : Type 0 where
-  pub before : (j : ℕ) → j < k → IsNextSlope terms n (set_before (empty_set n) marks j) (mark_at marks j)
-  pub wrong : ((k < length marks) × (IsNextSlope terms n (set_before (empty_set n) marks k) (mark_at marks k) → ⊥)) ⊎ ((k ≡ length marks) × (set_before (empty_set n) marks k ≢ whole_set n))
+pub record IsFirstWrongSlope (terms : List Meaning) (n : ℕ) (sizes : List ℤ) (marks : List Mark) (k : ℕ) : Type 0 where
+  pub before : (j : ℕ) → j < k → IsNextSlope terms n sizes (set_before (empty_set n) marks j) (mark_at marks j)
+  pub wrong : ((k < length marks) × (IsNextSlope terms n sizes (set_before (empty_set n) marks k) (mark_at marks k) → ⊥)) ⊎ ((k ≡ length marks) × (set_before (empty_set n) marks k ≢ whole_set n))
 
 -- the first line of an answer that is not the due one
 pub record IsWrongLine (form : Form) (a truth : Answer) (line : ℕ) : Type 0 where
@@ -111,14 +111,14 @@ pub record IsWrongLine (form : Form) (a truth : Answer) (line : ℕ) : Type 0 wh
   pub before : (i : ℕ) → i < at → slice_index_or (answer_lines form a) i [] ≡ slice_index_or (due_lines form truth) i []
 
 -- the bases of each section prove the minimum there
-abbrev pub AllAreProved : List Meaning → ℕ → Answer → Type 0
-AllAreProved terms n a = (s : ℕ) → s < length (sections_of a) → IsProvedSection terms n (section_at a s)
+abbrev pub AllAreProved : List Meaning → ℕ → List ℤ → Answer → Type 0
+AllAreProved terms n sizes a = (s : ℕ) → s < length (sections_of a) → IsProvedSection terms n sizes (section_at a s)
 
 -- what is found of an answer, in the order of the reasons
-abbrev pub IsFound : Form → List Meaning → Answer → Verdict → Type 0
-IsFound form terms a Valid = IsTrueHead terms (length form.names) a × AllAreProved terms (length form.names) a
-IsFound form terms a (Invalid line Long) = ⊥
-IsFound form terms a (Invalid line Grammar) = ⊥
-IsFound form terms a (Invalid line Base) = IsFirstNoBase terms a line
-IsFound form terms a (Invalid line Unproved) = AllAreBases terms a × IsFirstUnproved terms (length form.names) a line
-IsFound form terms a (Invalid line AnswerLine) = AllAreProved terms (length form.names) a × IsFirstWrong form terms a line
+abbrev pub IsFound : Form → List Meaning → List ℤ → Answer → Verdict → Type 0
+IsFound form terms sizes a Valid = IsTrueHead terms (length form.names) sizes a × AllAreProved terms (length form.names) sizes a
+IsFound form terms sizes a (Invalid line Long) = ⊥
+IsFound form terms sizes a (Invalid line Grammar) = ⊥
+IsFound form terms sizes a (Invalid line Base) = IsFirstNoBase terms a line
+IsFound form terms sizes a (Invalid line Unproved) = AllAreBases terms a × IsFirstUnproved terms (length form.names) sizes a line
+IsFound form terms sizes a (Invalid line AnswerLine) = AllAreProved terms (length form.names) sizes a × IsFirstWrong form terms sizes a line

@@ -1,20 +1,20 @@
 -- Which answers are true of a sum of terms, with bases that prove them; which texts are right.
 use Rattle.std.specs.Prelude.{◌≡◌, ℕ, List, [], ◌∷◌, map, length, slice_index_or, ℤ, pos}
 use Rattle.std.specs.List.{All}
-use Rattle.sfm_spec.specs.Families.{Meaning, IsLeast, IsGreatest, AreBases, Prove, even_shift, shifted_at}
+use Rattle.sfm_spec.specs.Families.{Meaning, IsLeast, IsGreatest, AreBases, Prove, shifted_at, sized_shift}
 use Rattle.sfm_spec.specs.Blocks.{AreBlocks}
-use Rattle.sfm_spec.specs.Laws.{AreBreakpoints, ones}
+use Rattle.sfm_spec.specs.Laws.{AreBreakpoints}
 use Rattle.sfm_cert.specs.Answer.{Answer, Break, Form, mark_of}
 use Rattle.sfm_cert.specs.Grammar.{IsAnswerText}
 
 -- what the answer lines say is true: the least value, the extreme minimisers, the blocks that generate all minimisers, and
--- every slope with two or more minimisers, with the greatest
-pub record IsTrueHead (terms : List Meaning) (n : ℕ) (a : Answer) : Type 0 where
-  pub least : IsLeast terms n (pos 1) (even_shift n (pos 0)) a.least
-  pub greatest : IsGreatest terms n (pos 1) (even_shift n (pos 0)) a.greatest
-  pub value : a.value ≡ shifted_at terms (pos 1) (even_shift n (pos 0)) a.least
-  pub blocks : AreBlocks terms n (pos 1) (even_shift n (pos 0)) a.blocks
-  pub breaks : AreBreakpoints terms n (ones n) (map mark_of a.breaks)
+-- every slope with two or more minimisers, with the greatest, where each element has its size
+pub record IsTrueHead (terms : List Meaning) (n : ℕ) (sizes : List ℤ) (a : Answer) : Type 0 where
+  pub least : IsLeast terms n (pos 1) (sized_shift sizes (pos 0)) a.least
+  pub greatest : IsGreatest terms n (pos 1) (sized_shift sizes (pos 0)) a.greatest
+  pub value : a.value ≡ shifted_at terms (pos 1) (sized_shift sizes (pos 0)) a.least
+  pub blocks : AreBlocks terms n (pos 1) (sized_shift sizes (pos 0)) a.blocks
+  pub breaks : AreBreakpoints terms n sizes (map mark_of a.breaks)
 
 -- a slope, and the bases that are to prove the minimum there
 pub record Section : Type 0 where
@@ -39,13 +39,13 @@ abbrev pub section_at : Answer → ℕ → Section
 section_at a s = slice_index_or (sections_of a) s no_section
 
 -- bases of each term that prove the minimum at the slope
-pub record IsProvedSection (terms : List Meaning) (n : ℕ) (section : Section) : Type 0 where
+pub record IsProvedSection (terms : List Meaning) (n : ℕ) (sizes : List ℤ) (section : Section) : Type 0 where
   pub bases : AreBases section.den terms section.bases
-  pub proves : Prove terms n section.den (even_shift n section.num) section.bases
+  pub proves : Prove terms n section.den (sized_shift sizes section.num) section.bases
 
 -- the text of an answer that is true, with bases that prove it
-pub record IsRightFile (form : Form) (terms : List Meaning) (text : List ℕ) : Type 0 where
+pub record IsRightFile (form : Form) (terms : List Meaning) (sizes : List ℤ) (text : List ℕ) : Type 0 where
   pub answer : Answer
   pub is_text : IsAnswerText form text answer
-  pub head : IsTrueHead terms (length form.names) answer
-  pub sections : All (IsProvedSection terms (length form.names)) (sections_of answer)
+  pub head : IsTrueHead terms (length form.names) sizes answer
+  pub sections : All (IsProvedSection terms (length form.names) sizes) (sections_of answer)

@@ -1,6 +1,6 @@
 -- What is said of a text that is offered as the answer of an instance: that it is right, or its first fault.
 -- The reasons stand in an order: each speaks of texts that none of the ones before applies to.
-use Rattle.std.specs.Prelude.{◌≡◌, ◌≢◌, ◌⊎◌, ℕ, ◌+◌, ◌<◌, ◌≤◌, List, [], ◌∷◌, ◌++◌, length, slice_index_or, pos}
+use Rattle.std.specs.Prelude.{◌≡◌, ◌≢◌, ◌⊎◌, ℕ, ◌+◌, ◌<◌, ◌≤◌, List, [], ◌∷◌, ◌++◌, length, slice_index_or, ℤ, pos}
 use Rattle.std.specs.List.{All}
 use Rattle.sfm_spec.specs.Terms.{times, IsBase}
 use Rattle.sfm_spec.specs.Families.{Meaning, AreBases}
@@ -36,37 +36,37 @@ abbrev pub AllAreBases : List Meaning → Answer → Type 0
 AllAreBases terms a = (s : ℕ) → s < length (sections_of a) → AreBases (section_at a s).den terms (section_at a s).bases
 
 -- the line of the first section whose bases do not prove
-pub record IsFirstUnproved (terms : List Meaning) (n : ℕ) (a : Answer) (line : ℕ) : Type 0 where
+pub record IsFirstUnproved (terms : List Meaning) (n : ℕ) (sizes : List ℤ) (a : Answer) (line : ℕ) : Type 0 where
   pub section : ℕ
   pub is_section : section < length (sections_of a)
   pub line_is : line ≡ line_at (length a.blocks) (length a.breaks) (length terms) section
-  pub unproved : IsProvedSection terms n (section_at a section) → ⊥
-  pub before : (s : ℕ) → s < section → IsProvedSection terms n (section_at a s)
+  pub unproved : IsProvedSection terms n sizes (section_at a section) → ⊥
+  pub before : (s : ℕ) → s < section → IsProvedSection terms n sizes (section_at a s)
 
 -- the lines that are due: what is true, and the line of the first section
 abbrev pub due_lines : Form → Answer → List (List ℕ)
 due_lines form truth = head_lines form truth ++ at_line (pos 0) (pos 1) ∷ []
 
 -- the first line that is not the due one
-pub record IsFirstWrong (form : Form) (terms : List Meaning) (a : Answer) (line : ℕ) : Type 0 where
+pub record IsFirstWrong (form : Form) (terms : List Meaning) (sizes : List ℤ) (a : Answer) (line : ℕ) : Type 0 where
   pub truth : Answer
   pub at : ℕ
-  pub is_true : IsTrueHead terms (length form.names) truth
+  pub is_true : IsTrueHead terms (length form.names) sizes truth
   pub is_due : at < length (due_lines form truth)
   pub line_is : line ≡ at + 1
   pub wrong : slice_index_or (answer_lines form a) at [] ≢ slice_index_or (due_lines form truth) at []
   pub before : (i : ℕ) → i < at → slice_index_or (answer_lines form a) i [] ≡ slice_index_or (due_lines form truth) i []
 
 -- the reason applies to the text, at that line, and none of the reasons before it applies
-abbrev pub IsFaultOf : Form → List Meaning → List ℕ → ℕ → Wrong → Type 0
-IsFaultOf form terms text line Long = (line ≡ 0) × (answer_limit < length text)
-IsFaultOf form terms text line Grammar = (length text ≤ answer_limit) × IsBadLine form text line
-IsFaultOf form terms text line Base = (length text ≤ answer_limit) × ((a : Answer) × IsAnswerText form text a × IsFirstNoBase terms a line)
-IsFaultOf form terms text line Unproved = (length text ≤ answer_limit) × ((a : Answer) × IsAnswerText form text a × AllAreBases terms a × IsFirstUnproved terms (length form.names) a line)
-IsFaultOf form terms text line AnswerLine = (length text ≤ answer_limit)
-    × ((a : Answer) × IsAnswerText form text a × All (IsProvedSection terms (length form.names)) (sections_of a) × IsFirstWrong form terms a line)
+abbrev pub IsFaultOf : Form → List Meaning → List ℤ → List ℕ → ℕ → Wrong → Type 0
+IsFaultOf form terms sizes text line Long = (line ≡ 0) × (answer_limit < length text)
+IsFaultOf form terms sizes text line Grammar = (length text ≤ answer_limit) × IsBadLine form text line
+IsFaultOf form terms sizes text line Base = (length text ≤ answer_limit) × ((a : Answer) × IsAnswerText form text a × IsFirstNoBase terms a line)
+IsFaultOf form terms sizes text line Unproved = (length text ≤ answer_limit) × ((a : Answer) × IsAnswerText form text a × AllAreBases terms a × IsFirstUnproved terms (length form.names) sizes a line)
+IsFaultOf form terms sizes text line AnswerLine = (length text ≤ answer_limit)
+    × ((a : Answer) × IsAnswerText form text a × All (IsProvedSection terms (length form.names) sizes) (sections_of a) × IsFirstWrong form terms sizes a line)
 
 -- the verdict on a text: `valid` exactly where it is a right file, and else its first fault
-abbrev pub IsVerdict : Form → List Meaning → List ℕ → Verdict → Type 0
-IsVerdict form terms text Valid = IsRightFile form terms text
-IsVerdict form terms text (Invalid line reason) = (IsRightFile form terms text → ⊥) × IsFaultOf form terms text line reason
+abbrev pub IsVerdict : Form → List Meaning → List ℤ → List ℕ → Verdict → Type 0
+IsVerdict form terms sizes text Valid = IsRightFile form terms sizes text
+IsVerdict form terms sizes text (Invalid line reason) = (IsRightFile form terms sizes text → ⊥) × IsFaultOf form terms sizes text line reason

@@ -1,7 +1,7 @@
 -- Where the slopes of an answer pass 0/1, and what its extreme sets are worth there.
 use Rattle.std.specs.Prelude.{◌≡◌, ℕ, suc, ◌<◌, ◌≤◌, List, length, map, ℤ, pos, ◌<ℤ◌, ◌≤ℤ◌}
 use Rattle.sfm_spec.specs.Sets.{empty_set}
-use Rattle.sfm_spec.specs.Families.{Meaning, deficit, even_shift, rest_at}
+use Rattle.sfm_spec.specs.Families.{Meaning, deficit, rest_at, sized_shift}
 use Rattle.sfm_spec.specs.Laws.{Mark}
 use Rattle.sfm_spec.specs.Search.{mark_at}
 use Rattle.sfm_cert.specs.Answer.{Answer, mark_of}
@@ -25,11 +25,11 @@ pub record AreBetween (n : ℕ) (a : Answer) : Type 0 where
   pub greatest : a.greatest ≡ set_before (empty_set n) (map mark_of a.breaks) high
 
 -- the value, and those of the extreme sets, are the sum of min(z, 0) at the bases at 0/1
-pub record AreWorthLeast (terms : List Meaning) (n : ℕ) (a : Answer) : Type 0 where
+pub record AreWorthLeast (terms : List Meaning) (n : ℕ) (sizes : List ℤ) (a : Answer) : Type 0 where
   pub low : Worth
   pub high : Worth
-  pub low_is : IsWorth terms a.least low
-  pub high_is : IsWorth terms a.greatest high
-  pub value : a.value ≡ deficit n (rest_at terms a.bases (even_shift n (pos 0)))
-  pub low_attains : low.sum ≡ deficit n (rest_at terms a.bases (even_shift n (pos 0)))
-  pub high_attains : high.sum ≡ deficit n (rest_at terms a.bases (even_shift n (pos 0)))
+  pub low_is : IsWorth terms sizes a.least low
+  pub high_is : IsWorth terms sizes a.greatest high
+  pub value : a.value ≡ deficit n (rest_at terms a.bases (sized_shift sizes (pos 0)))
+  pub low_attains : low.sum ≡ deficit n (rest_at terms a.bases (sized_shift sizes (pos 0)))
+  pub high_attains : high.sum ≡ deficit n (rest_at terms a.bases (sized_shift sizes (pos 0)))

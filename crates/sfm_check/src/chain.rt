@@ -35,17 +35,18 @@ fn is_next(found: &Proved, before: &Set, set: &Set) -> bool
 pub fn first_wrong_slope(
     alloc: Global,
     instance: &Instance,
+    _sizes: &[i128],
     solved: &Solved,
     found: &[Proved],
 ) -> Result<Option<usize>, Memory>
     requires formed { IsFormed (form_of instance.now) (answer_of solved.now) }
     requires told { AreTold (meanings kind_places kind_value instance.now.terms)
-        (length instance.now.names) (answer_of solved.now) found.now }
+        (length instance.now.names) _sizes.now (answer_of solved.now) found.now }
     ensures { IfOk result (λ r. MatchOption r
         (IsFullChain (meanings kind_places kind_value instance.now.terms)
-        (length instance.now.names) (map mark_of (answer_of solved.now).breaks))
+        (length instance.now.names) _sizes.now (map mark_of (answer_of solved.now).breaks))
         (IsFirstWrongSlope (meanings kind_places kind_value instance.now.terms)
-        (length instance.now.names) (map mark_of (answer_of solved.now).breaks))) }
+        (length instance.now.names) _sizes.now (map mark_of (answer_of solved.now).breaks))) }
 {
     let n = instance.names_len();
     let empty = Set::empty(alloc, n)?;

@@ -1,9 +1,11 @@
 // What an answer says, against what is due: the least value, the extreme minimisers, the blocks and the slopes, line by line.
+// The first line was read, so it is the due one, whatever it is.
 ghost use Rattle.std.specs.Prelude.{◌≡◌, ◌↔◌, ◌<◌, ◌≤◌, ℕ, List, length, map, IsTrue, IfOk, MatchOption};
 ghost use Rattle.sfm_spec.specs.{Bounds.{IsEntry}, Blocks.{block_at}, Families.{meanings}, Laws.{Mark}};
 ghost use Rattle.sfm_kind.specs.{Kinds.{kind_places, kind_value}, Names.{AreElementNames}};
 ghost use Rattle.sfm_extreme.specs.Blocks.{block_of};
-ghost use Rattle.sfm_cert.specs.{Form.{IsFormed, IsFormedBlock}, Solved.{answer_of, form_of}, Answer.{answer_lines}, Grammar.{answer_limit}};
+ghost use Rattle.sfm_cert.specs.{Form.{IsFormed, IsFormedBlock}, Solved.{answer_of, form_of, form_with}, Answer.{answer_lines}, Grammar.{answer_limit}};
+ghost use Rattle.sfm_sizes.specs.Sizes.{AreElementSizes};
 ghost use Rattle.sfm_check.specs.{Truth.{IsTrueHead, section_at}, Verdict.{IsFirstWrong}, Findings.{IsFirstUnlike, IsToldOf, IsTrueMinimum, AreTold, IsWrongLine, SaysTheSame}, Due.{due_answer}};
 
 use crate::chain::first_wrong_slope;
@@ -59,9 +61,9 @@ fn first_wrong_line(
     requires named { AreElementNames instance.now.names }
     requires blocks { (i : ℕ) → i < length due.now → IsFormedBlock (length instance.now.names) i
         (block_at (map block_of due.now) i) }
-    ensures { (marks : List Mark) → MatchOption result
+    ensures { (header : List ℕ) (marks : List Mark) → MatchOption result
         (SaysTheSame (answer_of solved.now) (due_answer found.now due.now marks))
-        (IsWrongLine (form_of instance.now) (answer_of solved.now)
+        (IsWrongLine (form_with header instance.now) (answer_of solved.now)
         (due_answer found.now due.now marks)) }
 {
     if solved.value != found.value {
@@ -81,19 +83,21 @@ fn first_wrong_line(
 pub fn first_wrong_before_slopes(
     alloc: Global,
     instance: &Instance,
+    _sizes: &[i128],
     solved: &Solved,
     found: &Proved,
 ) -> Result<Option<usize>, Memory>
+    requires sizes { AreElementSizes (length instance.now.names) _sizes.now }
     requires formed { IsFormed (form_of instance.now) (answer_of solved.now) }
     requires few { length (answer_lines (form_of instance.now) (answer_of solved.now))
         ≤ answer_limit }
     requires told { IsToldOf (meanings kind_places kind_value instance.now.terms)
-        (length instance.now.names) (section_at (answer_of solved.now) 0) found.now }
-    ensures { IfOk result (λ r. MatchOption r
+        (length instance.now.names) _sizes.now (section_at (answer_of solved.now) 0) found.now }
+    ensures { IfOk result (λ r. (header : List ℕ) → MatchOption r
         (IsTrueMinimum (meanings kind_places kind_value instance.now.terms)
-        (length instance.now.names) (answer_of solved.now))
-        (IsFirstWrong (form_of instance.now) (meanings kind_places kind_value instance.now.terms)
-        (answer_of solved.now))) }
+        (length instance.now.names) _sizes.now (answer_of solved.now))
+        (IsFirstWrong (form_with header instance.now)
+        (meanings kind_places kind_value instance.now.terms) _sizes.now (answer_of solved.now))) }
 {
     let due = blocks(alloc, instance.terms(), instance.names_len(), &solved.bases)?;
     Ok(first_wrong_line(instance, solved, found, &due))
@@ -103,25 +107,27 @@ pub fn first_wrong_before_slopes(
 pub fn first_wrong(
     alloc: Global,
     instance: &Instance,
+    sizes: &[i128],
     solved: &Solved,
     found: &[Proved],
 ) -> Result<Option<usize>, Memory>
+    requires sizes { AreElementSizes (length instance.now.names) sizes.now }
     requires formed { IsFormed (form_of instance.now) (answer_of solved.now) }
     requires few { length (answer_lines (form_of instance.now) (answer_of solved.now))
         ≤ answer_limit }
     requires told { AreTold (meanings kind_places kind_value instance.now.terms)
-        (length instance.now.names) (answer_of solved.now) found.now }
-    ensures { IfOk result (λ r. MatchOption r
+        (length instance.now.names) sizes.now (answer_of solved.now) found.now }
+    ensures { IfOk result (λ r. (header : List ℕ) → MatchOption r
         (IsTrueHead (meanings kind_places kind_value instance.now.terms) (length instance.now.names)
-        (answer_of solved.now))
-        (IsFirstWrong (form_of instance.now) (meanings kind_places kind_value instance.now.terms)
-        (answer_of solved.now))) }
+        sizes.now (answer_of solved.now))
+        (IsFirstWrong (form_with header instance.now)
+        (meanings kind_places kind_value instance.now.terms) sizes.now (answer_of solved.now))) }
 {
     tell_kept(instance);
-    if let Some(line) = first_wrong_before_slopes(alloc, instance, solved, &found[0])? {
+    if let Some(line) = first_wrong_before_slopes(alloc, instance, sizes, solved, &found[0])? {
         return Ok(Some(line));
     }
-    match first_wrong_slope(alloc, instance, solved, found)? {
+    match first_wrong_slope(alloc, instance, sizes, solved, found)? {
         Some(k) => Ok(Some(5 + solved.blocks.len() + k)),
         None => Ok(None),
     }

@@ -1,10 +1,11 @@
 // The judge. A text that is read as an answer has its rows tested as bases of their terms. It may then be found right by
 // values; where it is not, each section's bases are tested as a proof, and then what it says against what the proved bases
 // tell, which gives the first fault. Nothing here finds bases of its own.
-ghost use Rattle.std.specs.Prelude.{◌≡◌, ◌≤◌, length, IfOk};
-ghost use Rattle.sfm_spec.specs.Families.{meanings};
+ghost use Rattle.std.specs.Prelude.{◌≡◌, ◌≤◌, ℕ, List, codes, length, IfOk};
+ghost use Rattle.sfm_spec.specs.{Families.{meanings}, Laws.{ones}};
 ghost use Rattle.sfm_kind.specs.Kinds.{kind_places, kind_value};
-ghost use Rattle.sfm_cert.specs.{Answer.{answer_lines}, Form.{IsFormed}, Grammar.{answer_limit}, Solved.{answer_of, form_of}};
+ghost use Rattle.sfm_cert.specs.{Answer.{answer_lines}, Form.{IsFormed}, Grammar.{answer_limit}, Header.{header_text}, Solved.{answer_of, form_of, form_with}};
+ghost use Rattle.sfm_sizes.specs.Sizes.{AreElementSizes};
 ghost use Rattle.sfm_check.specs.{Verdict.{IsVerdict}, Findings.{AllRowsAreBases, IsFound}};
 
 use crate::bases::first_no_base;
@@ -14,26 +15,33 @@ use crate::right::is_right;
 use crate::sections::{Sections, prove_sections};
 use crate::verdicts::{Verdict, Wrong};
 use sfm_base::Memory;
-use sfm_cert::{ANSWER_LIMIT, AnswerEnd, Solved, read_answer};
+use sfm_cert::{ANSWER_LIMIT, AnswerEnd, Header, Solved, read_with};
 use sfm_kind::Instance;
+use sfm_sizes::ones;
 use std::alloc::Global;
 
 /// What is to be said of what a text says, section by section.
-fn judge_sections(alloc: Global, instance: &Instance, solved: &Solved) -> Result<Verdict, Memory>
+fn judge_sections(
+    alloc: Global,
+    instance: &Instance,
+    sizes: &[i128],
+    solved: &Solved,
+) -> Result<Verdict, Memory>
+    requires sizes { AreElementSizes (length instance.now.names) sizes.now }
     requires formed { IsFormed (form_of instance.now) (answer_of solved.now) }
     requires few { length (answer_lines (form_of instance.now) (answer_of solved.now))
         ≤ answer_limit }
     requires bases { AllRowsAreBases (meanings kind_places kind_value instance.now.terms)
         (answer_of solved.now) }
-    ensures { IfOk result (IsFound (form_of instance.now)
-        (meanings kind_places kind_value instance.now.terms) (answer_of solved.now)) }
+    ensures { IfOk result (λ v. (header : List ℕ) → IsFound (form_with header instance.now)
+        (meanings kind_places kind_value instance.now.terms) sizes.now (answer_of solved.now) v) }
 {
-    match prove_sections(alloc, instance, solved)? {
+    match prove_sections(alloc, instance, sizes, solved)? {
         Sections::Unproved { line } => Ok(Verdict::Invalid {
             line,
             reason: Wrong::Unproved,
         }),
-        Sections::Proved(proved) => match first_wrong(alloc, instance, solved, &proved)? {
+        Sections::Proved(proved) => match first_wrong(alloc, instance, sizes, solved, &proved)? {
             Some(line) => Ok(Verdict::Invalid {
                 line,
                 reason: Wrong::Answer,
@@ -44,12 +52,18 @@ fn judge_sections(alloc: Global, instance: &Instance, solved: &Solved) -> Result
 }
 
 /// What is to be said of what a text says.
-fn judge_solved(alloc: Global, instance: &Instance, solved: &Solved) -> Result<Verdict, Memory>
+fn judge_solved(
+    alloc: Global,
+    instance: &Instance,
+    sizes: &[i128],
+    solved: &Solved,
+) -> Result<Verdict, Memory>
+    requires sizes { AreElementSizes (length instance.now.names) sizes.now }
     requires formed { IsFormed (form_of instance.now) (answer_of solved.now) }
     requires few { length (answer_lines (form_of instance.now) (answer_of solved.now))
         ≤ answer_limit }
-    ensures { IfOk result (IsFound (form_of instance.now)
-        (meanings kind_places kind_value instance.now.terms) (answer_of solved.now)) }
+    ensures { IfOk result (λ v. (header : List ℕ) → IsFound (form_with header instance.now)
+        (meanings kind_places kind_value instance.now.terms) sizes.now (answer_of solved.now) v) }
 {
     if let Some(line) = first_no_base(alloc, instance, solved)? {
         return Ok(Verdict::Invalid {
@@ -57,21 +71,63 @@ fn judge_solved(alloc: Global, instance: &Instance, solved: &Solved) -> Result<V
             reason: Wrong::Base,
         });
     }
-    if is_right(alloc, instance, solved)? {
+    if is_right(alloc, instance, sizes, solved)? {
         return Ok(Verdict::Valid);
     }
-    judge_sections(alloc, instance, solved)
+    judge_sections(alloc, instance, sizes, solved)
 }
 
 /// What is to be said of a text that is offered as the answer of an instance, whoever wrote it: that it is right, or
-/// the first reason against it with its first line.
+/// the first reason against it with its first line. Each element counts one.
 ///
 /// # Errors
 ///
 /// `Memory` where there is none.
 pub fn judge(alloc: Global, instance: &Instance, text: &[u8]) -> Result<Verdict, Memory>
     ensures verdict { IfOk result (IsVerdict (form_of instance.now)
-        (meanings kind_places kind_value instance.now.terms) text.now) }
+        (meanings kind_places kind_value instance.now.terms) (ones (length instance.now.names))
+        text.now) }
+    ensures short { IfOk result (λ v. v ≡ Verdict.Valid → length text.now ≤ answer_limit) }
+{
+    tell_kept(instance);
+    let sizes = ones(alloc, instance.names_len())?;
+    judge_with(alloc, Header::Answer, instance, &sizes, text)
+}
+
+/// The same where each element counts its size.
+///
+/// # Errors
+///
+/// `Memory` where there is none.
+pub fn judge_weighed(
+    alloc: Global,
+    instance: &Instance,
+    sizes: &[i128],
+    text: &[u8],
+) -> Result<Verdict, Memory>
+    requires sizes { AreElementSizes (length instance.now.names) sizes.now }
+    ensures verdict { IfOk result (IsVerdict (form_with (codes "weighed 1") instance.now)
+        (meanings kind_places kind_value instance.now.terms) sizes.now text.now) }
+    ensures short { IfOk result (λ v. v ≡ Verdict.Valid → length text.now ≤ answer_limit) }
+{
+    judge_with(alloc, Header::Weighed, instance, sizes, text)
+}
+
+/// The same of a text with that first line.
+///
+/// # Errors
+///
+/// `Memory` where there is none.
+pub fn judge_with(
+    alloc: Global,
+    header: Header,
+    instance: &Instance,
+    sizes: &[i128],
+    text: &[u8],
+) -> Result<Verdict, Memory>
+    requires sizes { AreElementSizes (length instance.now.names) sizes.now }
+    ensures verdict { IfOk result (IsVerdict (form_with (header_text header) instance.now)
+        (meanings kind_places kind_value instance.now.terms) sizes.now text.now) }
     ensures short { IfOk result (λ v. v ≡ Verdict.Valid → length text.now ≤ answer_limit) }
 {
     tell_kept(instance);
@@ -81,8 +137,8 @@ pub fn judge(alloc: Global, instance: &Instance, text: &[u8]) -> Result<Verdict,
             reason: Wrong::Long,
         });
     }
-    match read_answer(alloc, instance, text) {
-        Ok(solved) => judge_solved(alloc, instance, &solved),
+    match read_with(alloc, header, instance, text) {
+        Ok(solved) => judge_solved(alloc, instance, sizes, &solved),
         Err(AnswerEnd::BadLine { line }) => Ok(Verdict::Invalid {
             line,
             reason: Wrong::Grammar,

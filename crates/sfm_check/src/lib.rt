@@ -14,5 +14,5 @@ mod values;
 mod verdicts;
 mod worth;
 
-pub use judging::judge;
+pub use judging::{judge, judge_weighed, judge_with};
 pub use verdicts::{Verdict, Wrong};

@@ -4,9 +4,10 @@
 // are the extreme minimisers and the bases prove. Where the two are one set, there is no block; else the bases tell them.
 // Where a test fails, nothing is told.
 ghost use Rattle.std.specs.Prelude.{◌≡◌, length, map, pos, IsTrue, IfOk};
-ghost use Rattle.sfm_spec.specs.{Blocks.{AreBlocks}, Families.{meanings, even_shift, IsGreatest, IsLeast, Prove}};
+ghost use Rattle.sfm_spec.specs.{Blocks.{AreBlocks}, Families.{meanings, even_shift, AreBases, IsGreatest, IsLeast, Prove}};
 ghost use Rattle.sfm_kind.specs.Kinds.{kind_places, kind_value};
 ghost use Rattle.sfm_cert.specs.{Answer.{mark_of}, Form.{IsFormed}, Solved.{answer_of, break_of, form_of}};
+ghost use Rattle.sfm_sizes.specs.Sizes.{AreElementSizes};
 ghost use Rattle.sfm_check.specs.{Truth.{IsProvedSection, section_at}, Findings.{AllRowsAreBases, IsFullChain, IsTrueMinimum}, Zero.{AreBetween, AreWorthLeast, IsCut}};
 
 use crate::chain::before;
@@ -48,27 +49,36 @@ fn are_between(alloc: Global, instance: &Instance, solved: &Solved) -> Result<bo
 }
 
 /// Whether the value and those of the extreme sets are the sum of min(z, 0) at the bases at 0/1.
-fn are_worth_least(alloc: Global, instance: &Instance, solved: &Solved) -> Result<bool, Memory>
-    requires { IsFormed (form_of instance.now) (answer_of solved.now) }
+fn are_worth_least(
+    alloc: Global,
+    instance: &Instance,
+    sizes: &[i128],
+    solved: &Solved,
+) -> Result<bool, Memory>
+    requires sizes { AreElementSizes (length instance.now.names) sizes.now }
+    requires formed { IsFormed (form_of instance.now) (answer_of solved.now) }
     ensures { IfOk result (λ r. IsTrue r → AreWorthLeast
         (meanings kind_places kind_value instance.now.terms) (length instance.now.names)
-        (answer_of solved.now)) }
+        sizes.now (answer_of solved.now)) }
 {
-    let Some(low) = worth_of(alloc, instance, &solved.least)? else {
+    let Some(low) = worth_of(alloc, instance, sizes, &solved.least)? else {
         return Ok(false);
     };
-    let Some(high) = worth_of(alloc, instance, &solved.greatest)? else {
+    let Some(high) = worth_of(alloc, instance, sizes, &solved.greatest)? else {
         return Ok(false);
     };
-    let least = deficit_at(alloc, instance, 0, &solved.bases)?;
+    let least = deficit_at(alloc, instance, sizes, 0, &solved.bases)?;
     Ok(solved.value == least && low.sum == least && high.sum == least)
 }
 
 /// Whether the blocks are those of the minimisers.
 fn are_blocks_right(alloc: Global, instance: &Instance, solved: &Solved) -> Result<bool, Memory>
     requires formed { IsFormed (form_of instance.now) (answer_of solved.now) }
-    requires proved { IsProvedSection (meanings kind_places kind_value instance.now.terms)
-        (length instance.now.names) (section_at (answer_of solved.now) 0) }
+    requires bases { AreBases (pos 1) (meanings kind_places kind_value instance.now.terms)
+        solved.now.bases }
+    requires prove { Prove (meanings kind_places kind_value instance.now.terms)
+        (length instance.now.names) (pos 1) (even_shift (length instance.now.names) (pos 0))
+        solved.now.bases }
     requires least { IsLeast (meanings kind_places kind_value instance.now.terms)
         (length instance.now.names) (pos 1) (even_shift (length instance.now.names) (pos 0))
         solved.now.least }
@@ -88,23 +98,29 @@ fn are_blocks_right(alloc: Global, instance: &Instance, solved: &Solved) -> Resu
 }
 
 /// Whether what is said of the minimum is found true, and proved by the bases at 0/1, where the slopes are right.
-pub fn is_minimum_right(alloc: Global, instance: &Instance, solved: &Solved) -> Result<bool, Memory>
+pub fn is_minimum_right(
+    alloc: Global,
+    instance: &Instance,
+    sizes: &[i128],
+    solved: &Solved,
+) -> Result<bool, Memory>
+    requires sizes { AreElementSizes (length instance.now.names) sizes.now }
     requires formed { IsFormed (form_of instance.now) (answer_of solved.now) }
     requires bases { AllRowsAreBases (meanings kind_places kind_value instance.now.terms)
         (answer_of solved.now) }
     requires chain { IsFullChain (meanings kind_places kind_value instance.now.terms)
-        (length instance.now.names) (map mark_of (answer_of solved.now).breaks) }
+        (length instance.now.names) sizes.now (map mark_of (answer_of solved.now).breaks) }
     ensures { IfOk result (λ r. IsTrue r → IsTrueMinimum
         (meanings kind_places kind_value instance.now.terms) (length instance.now.names)
-        (answer_of solved.now)
+        sizes.now (answer_of solved.now)
         × IsProvedSection (meanings kind_places kind_value instance.now.terms)
-        (length instance.now.names) (section_at (answer_of solved.now) 0)) }
+        (length instance.now.names) sizes.now (section_at (answer_of solved.now) 0)) }
 {
     tell_kept(instance);
     if !are_between(alloc, instance, solved)? {
         return Ok(false);
     }
-    if !are_worth_least(alloc, instance, solved)? {
+    if !are_worth_least(alloc, instance, sizes, solved)? {
         return Ok(false);
     }
     are_blocks_right(alloc, instance, solved)

@@ -3,12 +3,14 @@ ghost use Rattle.std.specs.Prelude.{◌≡◌, ◌<◌, ◌≤◌, ℕ, length, 
 ghost use Rattle.sfm_spec.specs.Families.{meanings};
 ghost use Rattle.sfm_kind.specs.Kinds.{kind_places, kind_value};
 ghost use Rattle.sfm_cert.specs.{Answer.{answer_lines}, Form.{IsFormed}, Grammar.{answer_limit}, Solved.{answer_of, form_of}};
+ghost use Rattle.sfm_sizes.specs.Sizes.{AreElementSizes};
 ghost use Rattle.sfm_check.specs.{Truth.{section_at, sections_of, IsProvedSection}, Findings.{AllRowsAreBases, IsSection, IsToldOf, AreSections}};
 
 use sfm_base::{Memory, Rows};
 use sfm_cert::{Solved, line_of_at};
-use sfm_extreme::{Certified, Proved, certify};
+use sfm_extreme::{Certified, Proved, certify_at};
 use sfm_kind::Instance;
+use sfm_sizes::shift_by;
 use std::alloc::Global;
 
 /// A slope, and the bases that are to prove the minimum there.
@@ -53,26 +55,29 @@ pub fn section_of<'a>(solved: &'a Solved, s: usize) -> Section<'a>
 pub fn prove_section(
     alloc: Global,
     instance: &Instance,
+    sizes: &[i128],
     solved: &Solved,
     s: usize,
 ) -> Result<Option<Proved>, Memory>
+    requires sizes { AreElementSizes (length instance.now.names) sizes.now }
     requires formed { IsFormed (form_of instance.now) (answer_of solved.now) }
     requires bases { AllRowsAreBases (meanings kind_places kind_value instance.now.terms)
         (answer_of solved.now) }
     requires at { s < length (sections_of (answer_of solved.now)) }
     ensures { IfOk result (λ r. MatchOption r
         (IsProvedSection (meanings kind_places kind_value instance.now.terms)
-        (length instance.now.names) (section_at (answer_of solved.now) s) → ⊥)
+        (length instance.now.names) sizes.now (section_at (answer_of solved.now) s) → ⊥)
         (IsToldOf (meanings kind_places kind_value instance.now.terms) (length instance.now.names)
-        (section_at (answer_of solved.now) s))) }
+        sizes.now (section_at (answer_of solved.now) s))) }
 {
     let section = section_of(solved, s);
-    match certify(
+    let shift = shift_by(alloc, sizes, section.num)?;
+    match certify_at(
         alloc,
         instance.terms(),
         instance.names_len(),
-        section.num,
         section.den,
+        &shift,
         section.bases,
     )? {
         Certified::Proved(found) => Ok(Some(found)),
@@ -84,19 +89,21 @@ pub fn prove_section(
 pub fn prove_sections(
     alloc: Global,
     instance: &Instance,
+    sizes: &[i128],
     solved: &Solved,
 ) -> Result<Sections, Memory>
+    requires sizes { AreElementSizes (length instance.now.names) sizes.now }
     requires formed { IsFormed (form_of instance.now) (answer_of solved.now) }
     requires few { length (answer_lines (form_of instance.now) (answer_of solved.now))
         ≤ answer_limit }
     requires bases { AllRowsAreBases (meanings kind_places kind_value instance.now.terms)
         (answer_of solved.now) }
     ensures { IfOk result (AreSections (meanings kind_places kind_value instance.now.terms)
-        (length instance.now.names) (answer_of solved.now)) }
+        (length instance.now.names) sizes.now (answer_of solved.now)) }
 {
     let mut proved = Vec::new(alloc);
     for s in 0..solved.breaks.len() + 1 {
-        match prove_section(alloc, instance, solved, s)? {
+        match prove_section(alloc, instance, sizes, solved, s)? {
             Some(found) => proved.push(found)?,
             None => {
                 let line = line_of_at(

@@ -3,9 +3,10 @@
 // Where slopes rise and sets grow so, from the empty set to the whole ground, each slope is the next one: a minimiser at a
 // smaller slope lies within those at a greater one. Where a test fails, nothing is told.
 ghost use Rattle.std.specs.Prelude.{◌≡◌, ◌<◌, length, map, slice_index_or, pos, ◌-ℤ◌, ◌*ℤ◌, IsTrue, IfOk, IfSome};
-ghost use Rattle.sfm_spec.specs.{Bounds.{IsEntry}, Slopes.{IsLowerSlope}, Families.{meanings, deficit, even_shift, rest_at}};
+ghost use Rattle.sfm_spec.specs.{Bounds.{IsEntry}, Slopes.{IsLowerSlope}, Families.{meanings, deficit, rest_at, sized_shift}};
 ghost use Rattle.sfm_kind.specs.Kinds.{kind_places, kind_value};
 ghost use Rattle.sfm_cert.specs.{Form.{AreFormedRows, IsFormed, IsFormedBreak}, Solved.{answer_of, break_of, form_of}};
+ghost use Rattle.sfm_sizes.specs.Sizes.{AreElementSizes};
 ghost use Rattle.sfm_check.specs.{Findings.{AllRowsAreBases}, Values.{AreRightSlopes, Ascends, Attains, IsSmall, IsWorth}};
 
 use crate::kept::tell_kept;
@@ -15,6 +16,7 @@ use sfm_cert::Solved;
 use sfm_extreme::deficit_of;
 use sfm_kind::Instance;
 use sfm_law::{Break, rest_of};
+use sfm_sizes::shift_by;
 use std::alloc::Global;
 use std::cmp::Ordering;
 
@@ -22,27 +24,29 @@ use std::cmp::Ordering;
 pub fn deficit_at(
     alloc: Global,
     instance: &Instance,
+    sizes: &[i128],
     num: i128,
     bases: &Rows,
 ) -> Result<i128, Memory>
+    requires sizes { AreElementSizes (length instance.now.names) sizes.now }
     requires entry { IsEntry num }
     requires bases { AreFormedRows (form_of instance.now).widths bases.now }
     ensures { IfOk result (λ r. r ≡ deficit (length instance.now.names)
         (rest_at (meanings kind_places kind_value instance.now.terms) bases.now
-        (even_shift (length instance.now.names) num))) }
+        (sized_shift sizes.now num))) }
 {
-    let shift = vec![in alloc; num; instance.names_len()]?;
+    let shift = shift_by(alloc, sizes, num)?;
     let z = rest_of(alloc, instance.terms(), &shift, bases)?;
     Ok(deficit_of(&z))
 }
 
-/// What a set is worth at a slope p/q: q times the sum, less p for each place.
+/// What a set is worth at a slope p/q: q times the sum, less p for each unit of size.
 fn value_at(slope: &Slope, worth: &Worth) -> i128
     requires { IsSmall worth.now }
-    ensures { result ≡ (slope.now.den *ℤ worth.now.sum -ℤ slope.now.num *ℤ pos worth.now.size) }
+    ensures { result ≡ (slope.now.den *ℤ worth.now.sum -ℤ slope.now.num *ℤ worth.now.weight) }
 {
     let values = slope.den * worth.sum;
-    let shift = slope.num * worth.size as i128;
+    let shift = slope.num * worth.weight;
     values - shift
 }
 
@@ -50,20 +54,22 @@ fn value_at(slope: &Slope, worth: &Worth) -> i128
 fn attain(
     alloc: Global,
     instance: &Instance,
+    sizes: &[i128],
     found: &Break,
     before: &Worth,
     here: &Worth,
 ) -> Result<bool, Memory>
+    requires sizes { AreElementSizes (length instance.now.names) sizes.now }
     requires formed { IsFormedBreak (length instance.now.names) (form_of instance.now).widths
         (break_of found.now) }
     requires before { IsSmall before.now }
     requires here { IsSmall here.now }
     ensures { IfOk result (λ r. IsTrue r → Attains (meanings kind_places kind_value
-        instance.now.terms) (length instance.now.names) (break_of found.now) before.now
+        instance.now.terms) (length instance.now.names) sizes.now (break_of found.now) before.now
         × Attains (meanings kind_places kind_value instance.now.terms) (length instance.now.names)
-        (break_of found.now) here.now) }
+        sizes.now (break_of found.now) here.now) }
 {
-    let least = deficit_at(alloc, instance, found.slope.num, &found.bases)?;
+    let least = deficit_at(alloc, instance, sizes, found.slope.num, &found.bases)?;
     Ok(value_at(&found.slope, before) == least && value_at(&found.slope, here) == least)
 }
 
@@ -83,29 +89,35 @@ fn ascends(breaks: &[Break], k: usize) -> bool
 }
 
 /// Whether values tell that each slope is the next one, up to the whole ground, and that its bases prove.
-pub fn are_slopes_right(alloc: Global, instance: &Instance, solved: &Solved) -> Result<bool, Memory>
+pub fn are_slopes_right(
+    alloc: Global,
+    instance: &Instance,
+    sizes: &[i128],
+    solved: &Solved,
+) -> Result<bool, Memory>
+    requires sizes { AreElementSizes (length instance.now.names) sizes.now }
     requires formed { IsFormed (form_of instance.now) (answer_of solved.now) }
     requires bases { AllRowsAreBases (meanings kind_places kind_value instance.now.terms)
         (answer_of solved.now) }
     ensures { IfOk result (λ r. IsTrue r → AreRightSlopes
         (meanings kind_places kind_value instance.now.terms) (length instance.now.names)
-        (answer_of solved.now)) }
+        sizes.now (answer_of solved.now)) }
 {
     tell_kept(instance);
     let n = instance.names_len();
     let empty = Set::empty(alloc, n)?;
-    let Some(mut before) = worth_of(alloc, instance, &empty)? else {
+    let Some(mut before) = worth_of(alloc, instance, sizes, &empty)? else {
         return Ok(false);
     };
     for k in 0..solved.breaks.len() {
         let found = &solved.breaks[k];
-        let Some(here) = worth_of(alloc, instance, &found.set)? else {
+        let Some(here) = worth_of(alloc, instance, sizes, &found.set)? else {
             return Ok(false);
         };
         if before.size >= here.size || !ascends(&solved.breaks, k) {
             return Ok(false);
         }
-        if !attain(alloc, instance, found, &before, &here)? {
+        if !attain(alloc, instance, sizes, found, &before, &here)? {
             return Ok(false);
         }
         before = here;

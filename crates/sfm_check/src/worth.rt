@@ -1,19 +1,22 @@
-// What a set is worth: how many places it has, and the sum of all terms there, or nothing where a term does not allow its
-// part. The sizes of all terms add to at most 10^18, so no sum of values exceeds that.
+// What a set is worth: how many places it has, their sizes together, and the sum of all terms there, or nothing where a
+// term does not allow its part. The sizes of all terms add to at most 10^18, so no sum of values exceeds that.
 ghost use Rattle.std.specs.Prelude.{◌≡◌, length, IfOk, IfSome};
 ghost use Rattle.sfm_spec.specs.Families.{meanings, sum_at, IsAllowed};
 ghost use Rattle.sfm_kind.specs.{Kinds.{kind_places, kind_value}, Limits.{AreInBounds}};
+ghost use Rattle.sfm_sizes.specs.Sizes.{AreElementSizes};
 ghost use Rattle.sfm_check.specs.Values.{IsWorth, IsSmall};
 
 use sfm_base::{Memory, Set};
 use sfm_kind::{Instance, Kind};
 use sfm_law::Term;
+use sfm_sizes::weight_of;
 use std::alloc::Global;
 
-/// How many places an allowed set has, and the sum of all terms there.
+/// How many places an allowed set has, their sizes together, and the sum of all terms there.
 #[derive(Clone, Copy)]
 pub struct Worth {
     pub size: usize,
+    pub weight: i128,
     pub sum: i128,
 }
 
@@ -36,15 +39,22 @@ fn sum_of(alloc: Global, terms: &[Kind], set: &Set) -> Result<Option<i128>, Memo
 }
 
 /// What a set of the ground is worth, or None where it is not allowed.
-pub fn worth_of(alloc: Global, instance: &Instance, set: &Set) -> Result<Option<Worth>, Memory>
-    requires { length set.now ≡ length instance.now.names }
+pub fn worth_of(
+    alloc: Global,
+    instance: &Instance,
+    sizes: &[i128],
+    set: &Set,
+) -> Result<Option<Worth>, Memory>
+    requires sizes { AreElementSizes (length instance.now.names) sizes.now }
+    requires places { length set.now ≡ length instance.now.names }
     ensures worth { IfOk result (λ r. IfSome r (IsWorth (meanings kind_places kind_value
-        instance.now.terms) set.now)) }
+        instance.now.terms) sizes.now set.now)) }
     ensures small { IfOk result (λ r. IfSome r IsSmall) }
 {
     match sum_of(alloc, instance.terms(), set)? {
         Some(sum) => Ok(Some(Worth {
             size: set.size(),
+            weight: weight_of(set, sizes),
             sum,
         })),
         None => Ok(None),

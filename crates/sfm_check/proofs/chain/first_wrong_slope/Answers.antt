@@ -15,14 +15,14 @@ use Rattle.sfm_check.proofs.chain.first_wrong_slope.Goals as goal
 use Rattle.sfm_check.proofs.chain.first_wrong_slope.Goals.{After-index-breaks-k, After-size}
 
 -- the slope that is judged
-slope : (c : After-index-breaks-k) → IsJudged (meanings kind_places kind_value c.args.instance.now.terms) (length c.args.instance.now.names) (answer_of c.args.solved.now) c.loop-k.k c.index-breaks-k.result c.index-found-k.result c.before-in-loop-k.result.now
+slope : (c : After-index-breaks-k) → IsJudged (meanings kind_places kind_value c.args.instance.now.terms) (length c.args.instance.now.names) c.args._sizes.now (answer_of c.args.solved.now) c.loop-k.k c.index-breaks-k.result c.index-found-k.result c.before-in-loop-k.result.now
 slope c =
     let items = c.args.solved.now.breaks.items in
     let slice = c.as_slice-breaks.ensures.value in
     let few = ap length slice in
     let lt = c.loop-k-test.true in
     let empty = c.in_ok-empty.ensures ∙ ap empty_set c.names_len-n.ensures.len in
-    judged (meanings kind_places kind_value c.args.instance.now.terms) (form_of c.args.instance.now) (answer_of c.args.solved.now) items c.args.found.now c.loop-k.k c.index-breaks-k.result c.index-found-k.result c.in_ok-empty.empty c.before-in-loop-k.result.now
+    judged (meanings kind_places kind_value c.args.instance.now.terms) c.args._sizes.now (form_of c.args.instance.now) (answer_of c.args.solved.now) items c.args.found.now c.loop-k.k c.index-breaks-k.result c.index-found-k.result c.in_ok-empty.empty c.before-in-loop-k.result.now
     c.requires.formed c.requires.told refl (omega (arith, lt, few)) (rw slice at c.index-breaks-k.is) c.index-found-k.is empty (c.before-in-loop-k.ensures ∙ ap (λ z. members_before c.in_ok-empty.empty z c.loop-k.k) slice)
 
 pub is_next-requires : goal.is_next-requires
@@ -40,7 +40,7 @@ loop-k-preserved c = λ j l.
     let next = next_by (slope (goal.at.loop-k-preserved c).After-index-breaks-k) t.0 (t.1 ∙ set) (λ e. t.2 (set ∙ e)) in
     ⊎_elim
     (λ less. c.loop-k.invariant j less)
-    (λ ge. let at : c.loop-k.k ≡ j = omega arith in subst (λ i. IsNextSlope (meanings kind_places kind_value c.args.instance.now.terms) n (set_before (empty_set n) (map mark_of a.breaks) i) (mark_at (map mark_of a.breaks) i)) at next)
+    (λ ge. let at : c.loop-k.k ≡ j = omega arith in subst (λ i. IsNextSlope (meanings kind_places kind_value c.args.instance.now.terms) n c.args._sizes.now (set_before (empty_set n) (map mark_of a.breaks) i) (mark_at (map mark_of a.breaks) i)) at next)
     (cases_lt j c.loop-k.k)
 
 pub returns-then-not-is_next : goal.returns-then-not-is_next

@@ -10,5 +10,5 @@ use Rattle.sfm_check.proofs.chain.first_wrong_slope.Given as goal
 
 -- the slopes before are right
 abbrev pub invariant-loop-k : goal.invariant-loop-k
-invariant-loop-k l = (j : ℕ) → j < l.k → IsNextSlope (meanings kind_places kind_value l.instance.terms) (length l.instance.names)
+invariant-loop-k l = (j : ℕ) → j < l.k → IsNextSlope (meanings kind_places kind_value l.instance.terms) (length l.instance.names) l._sizes
     (set_before (empty_set (length l.instance.names)) (map mark_of (answer_of l.solved).breaks) j) (mark_at (map mark_of (answer_of l.solved).breaks) j)

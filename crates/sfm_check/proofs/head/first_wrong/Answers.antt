@@ -1,4 +1,5 @@
-use Rattle.std.proofs.Common.{◌≡◌, ℕ, ◌+◌, ◌≤◌, List, length, map, ⊎_elim, arith, subst, sym}
+use Rattle.std.proofs.Common.{◌≡◌, ℕ, ◌+◌, ◌≤◌, List, [], length, map, ℤ, ⊎_elim, arith, subst, sym}
+use Rattle.std.specs.Prelude.{codes}
 use Rattle.std.proofs.lemmas.List.{length-map}
 use Rattle.sfm_spec.specs.Families.{Meaning, meanings}
 use Rattle.sfm_spec.specs.Laws.{Mark}
@@ -6,7 +7,8 @@ use Rattle.sfm_kind.specs.Kinds.{kind_places, kind_value}
 use Rattle.sfm_extreme.specs.declared.extremes.Proved.{Proved}
 use Rattle.sfm_extreme.specs.Blocks.{block_of}
 use Rattle.sfm_cert.specs.Answer.{mark_of}
-use Rattle.sfm_cert.specs.Solved.{answer_of, form_of}
+use Rattle.sfm_cert.specs.Solved.{answer_of, form_of, form_with}
+use Rattle.sfm_cert.proofs.AnyHeader.{formed_any}
 use Rattle.sfm_check.specs.Truth.{section_at}
 use Rattle.sfm_check.specs.Findings.{IsFirstWrongSlope, IsToldOf, IsTrueMinimum, IsWrongLine}
 use Rattle.sfm_check.proofs.AllSlopes.{all_slopes, fit, given_lowest, wrong_at}
@@ -20,42 +22,45 @@ first_wrong_before_slopes-requires-clause-told c =
     let ms = meanings kind_places kind_value c.args.instance.now.terms in
     let n = length c.args.instance.now.names in
     let told = c.requires.told.each 0 c.index-found-0.result (omega arith) in
-    subst (λ (z : Proved). IsToldOf ms n (section_at (answer_of c.args.solved.now) 0) z) (sym c.index-found-0.is) told
+    subst (λ (z : Proved). IsToldOf ms n c.args.sizes.now (section_at (answer_of c.args.solved.now) 0) z) (sym c.index-found-0.is) told
 
 -- a slope that is wrong is there, or stands behind the last one
-within : (terms : List Meaning) (n : ℕ) (marks : List Mark) (k : ℕ) → IsFirstWrongSlope terms n marks k → k ≤ length marks
-within terms n marks k w = ⊎_elim (λ here. omega (arith, here.0)) (λ end. omega (arith, end.0)) w.wrong
+within : (terms : List Meaning) (n : ℕ) (sizes : List ℤ) (marks : List Mark) (k : ℕ) → IsFirstWrongSlope terms n sizes marks k → k ≤ length marks
+within terms n sizes marks k w = ⊎_elim (λ here. omega (arith, here.0)) (λ end. omega (arith, end.0)) w.wrong
 
 pub overflow_add-result-in-Some-2 : goal.overflow_add-result-in-Some-2
 overflow_add-result-in-Some-2 c =
     let a = answer_of c.args.solved.now in
-    let w : IsFirstWrongSlope (meanings kind_places kind_value c.args.instance.now.terms) (length c.args.instance.now.names) (map mark_of a.breaks) c.in-Some-2.k = rw c.in-Some-2.is at c.in_ok-k.ensures in
-    let k = within (meanings kind_places kind_value c.args.instance.now.terms) (length c.args.instance.now.names) (map mark_of a.breaks) c.in-Some-2.k w in
+    let w : IsFirstWrongSlope (meanings kind_places kind_value c.args.instance.now.terms) (length c.args.instance.now.names) c.args.sizes.now (map mark_of a.breaks) c.in-Some-2.k = rw c.in-Some-2.is at c.in_ok-k.ensures in
+    let k = within (meanings kind_places kind_value c.args.instance.now.terms) (length c.args.instance.now.names) c.args.sizes.now (map mark_of a.breaks) c.in-Some-2.k w in
     let lines = few_lines (form_of c.args.instance.now) a in
     let most = c.requires.few in
     omega (arith, lines, most, k, c.len.ensures, c.args.solved.now.blocks.ok.0, length-map c.args.solved.now.blocks.items block_of, length-map a.breaks mark_of)
 
+pub returns-in-Some : goal.returns-in-Some
+returns-in-Some c = λ header. rw c.in-Some.is at (c.in_ok-line.ensures header)
+
 pub returns-in-Some-2 : goal.returns-in-Some-2
-returns-in-Some-2 c =
-    let form = form_of c.args.instance.now in
+returns-in-Some-2 c = λ header.
+    let form = form_with header c.args.instance.now in
     let ts = c.args.instance.now.terms in
     let ms = meanings kind_places kind_value ts in
     let n = length c.args.instance.now.names in
     let a = answer_of c.args.solved.now in
     let k = c.in-Some-2.k in
-    let (marks, slopes) = all_slopes n ts c.tell_kept.ensures.bounded in
-    let head : IsTrueMinimum ms n a = rw c.in_default.is at c.in_ok-line.ensures in
-    let truth = with_slopes-true ms n a marks head slopes in
-    let w : IsFirstWrongSlope ms n (map mark_of a.breaks) k = rw c.in-Some-2.is at c.in_ok-k.ensures in
-    let x = wrong_at form a ts c.requires.formed c.tell_kept.ensures.named c.tell_kept.ensures.bounded (with_slopes a marks) k truth.breaks (with_slopes-same a marks) w in
+    let (marks, slopes) = all_slopes n ts c.tell_kept.ensures.bounded c.args.sizes.now c.requires.sizes in
+    let head : IsTrueMinimum ms n c.args.sizes.now a = rw c.in_default.is at (c.in_ok-line.ensures []) in
+    let truth = with_slopes-true ms n c.args.sizes.now a marks head slopes in
+    let w : IsFirstWrongSlope ms n c.args.sizes.now (map mark_of a.breaks) k = rw c.in-Some-2.is at c.in_ok-k.ensures in
+    let x = wrong_at form a ts (formed_any c.args.instance.now (codes "answer 1") header c.requires.formed) c.tell_kept.ensures.named c.tell_kept.ensures.bounded c.args.sizes.now c.requires.sizes (with_slopes a marks) k truth.breaks (with_slopes-same a marks) w in
     let blocks : length a.blocks ≡ c.len.result = omega (arith, c.len.ensures, length-map c.args.solved.now.blocks.items block_of, c.args.solved.now.blocks.ok.0) in
-    found_wrong form ms a (with_slopes a marks) (5 + c.len.result + k) truth (subst (λ z. IsWrongLine form a (with_slopes a marks) (5 + z + k)) blocks x)
+    found_wrong form ms c.args.sizes.now a (with_slopes a marks) (5 + c.len.result + k) truth (subst (λ z. IsWrongLine form a (with_slopes a marks) (5 + z + k)) blocks x)
 
 pub returns-in-None : goal.returns-in-None
-returns-in-None c =
+returns-in-None c = λ header.
     let ts = c.args.instance.now.terms in
     let ms = meanings kind_places kind_value ts in
     let n = length c.args.instance.now.names in
     let a = answer_of c.args.solved.now in
-    let head : IsTrueMinimum ms n a = rw c.in_default.is at c.in_ok-line.ensures in
-    head_true ms n a head (full_chain ms n (fit n ts c.tell_kept.ensures.bounded) (map mark_of a.breaks) (given_lowest (form_of c.args.instance.now) a c.requires.formed) (rw c.in-None.is at c.in_ok-k.ensures))
+    let head : IsTrueMinimum ms n c.args.sizes.now a = rw c.in_default.is at (c.in_ok-line.ensures []) in
+    head_true ms n c.args.sizes.now a head (full_chain ms n c.args.sizes.now (fit n ts c.tell_kept.ensures.bounded) c.requires.sizes (map mark_of a.breaks) (given_lowest (form_of c.args.instance.now) a c.requires.formed) (rw c.in-None.is at c.in_ok-k.ensures))

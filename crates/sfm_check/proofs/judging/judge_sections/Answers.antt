@@ -11,17 +11,17 @@ no_proved : Proved
 no_proved = record { value = pos 0; least = []; greatest = [] }
 
 pub returns-in-Unproved : goal.returns-in-Unproved
-returns-in-Unproved c = (
+returns-in-Unproved c = λ header. (
   all_bases c.args.instance.now (answer_of c.args.solved.now) c.requires.formed c.requires.bases,
   rw c.in-Unproved.is at c.in_ok-line.ensures,
 )
 
 pub returns-in-Some : goal.returns-in-Some
-returns-in-Some c =
-    let told : AreTold (meanings kind_places kind_value c.args.instance.now.terms) (length c.args.instance.now.names) (answer_of c.args.solved.now) c.in-Proved.proved.items = rw c.in-Proved.is at c.in_ok-line.ensures in
-    ((λ s l. (told.each s no_proved l).proved), rw c.in-Some.is at c.in_ok-line-in-Proved.ensures)
+returns-in-Some c = λ header.
+    let told : AreTold (meanings kind_places kind_value c.args.instance.now.terms) (length c.args.instance.now.names) c.args.sizes.now (answer_of c.args.solved.now) c.in-Proved.proved.items = rw c.in-Proved.is at c.in_ok-line.ensures in
+    ((λ s l. (told.each s no_proved l).proved), rw c.in-Some.is at (c.in_ok-line-in-Proved.ensures header))
 
 pub returns : goal.returns
-returns c =
-    let told : AreTold (meanings kind_places kind_value c.args.instance.now.terms) (length c.args.instance.now.names) (answer_of c.args.solved.now) c.in-Proved.proved.items = rw c.in-Proved.is at c.in_ok-line.ensures in
-    (rw c.in-None.is at c.in_ok-line-in-Proved.ensures, (λ s l. (told.each s no_proved l).proved))
+returns c = λ header.
+    let told : AreTold (meanings kind_places kind_value c.args.instance.now.terms) (length c.args.instance.now.names) c.args.sizes.now (answer_of c.args.solved.now) c.in-Proved.proved.items = rw c.in-Proved.is at c.in_ok-line.ensures in
+    (rw c.in-None.is at (c.in_ok-line-in-Proved.ensures header), (λ s l. (told.each s no_proved l).proved))

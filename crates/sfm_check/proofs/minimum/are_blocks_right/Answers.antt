@@ -20,11 +20,11 @@ returns-then-are_same c = λ none.
     subst (AreBlocks ms n (pos 1) (even_shift n (pos 0))) (sym (ap (map block_of) empty)) (no_blocks ms n (pos 1) (even_shift n (pos 0)) c.args.solved.now.least c.args.solved.now.greatest c.requires.least c.requires.greatest same)
 
 pub blocks-requires-clause-bases : goal.blocks-requires-clause-bases
-blocks-requires-clause-bases c = rw c.terms.ensures.terms c.requires.proved.bases
+blocks-requires-clause-bases c = rw c.terms.ensures.terms c.requires.bases
 
 pub blocks-requires-clause-prove : goal.blocks-requires-clause-prove
 blocks-requires-clause-prove c =
-    let p : Prove (meanings kind_places kind_value c.args.instance.now.terms) (length c.args.instance.now.names) (pos 1) (even_shift (length c.args.instance.now.names) (pos 0)) c.args.solved.now.bases = c.requires.proved.proves in
+    let p : Prove (meanings kind_places kind_value c.args.instance.now.terms) (length c.args.instance.now.names) (pos 1) (even_shift (length c.args.instance.now.names) (pos 0)) c.args.solved.now.bases = c.requires.prove in
     rw (c.terms.ensures.terms, c.names_len.ensures.len) p
 
 pub first_unlike-unlike-requires : goal.first_unlike-unlike-requires

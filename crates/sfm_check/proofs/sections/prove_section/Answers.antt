@@ -1,27 +1,51 @@
-use Rattle.std.proofs.Common.{◌≡◌, length, arith, subst, sym, FitsSigned}
+use Rattle.std.proofs.Common.{◌≡◌, ◌^◌, ◌≤ℤ◌, length, pos, arith, subst, sym, ap, ◌∙◌, FitsSigned}
+use Rattle.std.proofs.lemmas.List.{length-map}
 use Rattle.std.proofs.lemmas.Int.{ints, to_z-of_z}
 use mir.Syntax.{w128}
-use Rattle.sfm_spec.specs.Families.{meanings, Prove, even_shift}
+use Rattle.sfm_spec.specs.Families.{meanings, Prove, sized_shift}
 use Rattle.sfm_kind.specs.Kinds.{kind_places, kind_value}
 use Rattle.sfm_extreme.specs.declared.extremes.Certified.TheVariants.{Proved as Proves}
 use Rattle.sfm_extreme.specs.Certified.{IsAnswer}
 use Rattle.sfm_cert.specs.Solved.{answer_of}
 use Rattle.sfm_check.specs.Truth.{Section, section_at}
 use Rattle.sfm_check.specs.Findings.{IsToldOf}
+use Rattle.sfm_sizes.proofs.Sized.{sized-small}
 use Rattle.sfm_check.proofs.Forming.{formed_parts, part_bases, same_section}
 use Rattle.sfm_check.proofs.sections.prove_section.Goals as goal
+use Rattle.sfm_check.proofs.sections.prove_section.Goals.{After-deref}
 
-pub certify-requires-clause-entry : goal.certify-requires-clause-entry
-certify-requires-clause-entry c =
+pub shift_by-requires-clause-sizes : goal.shift_by-requires-clause-sizes
+shift_by-requires-clause-sizes c = rw c.requires.sizes.places c.requires.sizes
+
+pub shift_by-requires-clause-small : goal.shift_by-requires-clause-small
+shift_by-requires-clause-small c =
     let entry = (formed_parts c.requires.formed c.requires.at c.section_of-section.ensures).entry in
     let fn : FitsSigned w128 c.section_of-section.result.num = omega (arith, ints, entry) in
     simp to_z-of_z entry
 
-pub certify-requires-clause-small : goal.certify-requires-clause-small
-certify-requires-clause-small c = (formed_parts c.requires.formed c.requires.at c.section_of-section.ensures).rows.small
+-- the shift is p for each unit of size
+shift : (c : After-deref) → c.deref.result.now ≡ sized_shift c.args.sizes.now c.section_of-section.result.num
+shift c =
+    let entry = (formed_parts c.requires.formed c.requires.at c.section_of-section.ensures).entry in
+    let fn : FitsSigned w128 c.section_of-section.result.num = omega (arith, ints, entry) in
+    c.deref.ensures.value ∙ simp to_z-of_z at c.in_ok-shift.ensures
 
-pub certify-requires-clause-bases : goal.certify-requires-clause-bases
-certify-requires-clause-bases c =
+pub certify_at-requires-clause-each : goal.certify_at-requires-clause-each
+certify_at-requires-clause-each c =
+    let is = shift (goal.at.certify_at-requires-clause-each c).After-deref in
+    ap length is ∙ (length-map c.args.sizes.now _ ∙ (c.requires.sizes.places ∙ sym c.names_len.ensures.len))
+
+pub certify_at-requires-clause-shifts : goal.certify_at-requires-clause-shifts
+certify_at-requires-clause-shifts c =
+    let entry = (formed_parts c.requires.formed c.requires.at c.section_of-section.ensures).entry in
+    let is = shift (goal.at.certify_at-requires-clause-shifts c).After-deref in
+    rw is (sized-small (10 ^ 30) (length c.args.instance.now.names) c.args.sizes.now c.section_of-section.result.num entry c.requires.sizes)
+
+pub certify_at-requires-clause-small : goal.certify_at-requires-clause-small
+certify_at-requires-clause-small c = (formed_parts c.requires.formed c.requires.at c.section_of-section.ensures).rows.small
+
+pub certify_at-requires-clause-bases : goal.certify_at-requires-clause-bases
+certify_at-requires-clause-bases c =
     let f = formed_parts c.requires.formed c.requires.at c.section_of-section.ensures in
     let factor = f.factor in
     let fd : FitsSigned w128 c.section_of-section.result.den = omega (arith, ints, factor) in
@@ -31,11 +55,10 @@ pub returns : goal.returns
 returns c = λ p.
     let f = formed_parts c.requires.formed c.requires.at c.section_of-section.ensures in
     let factor = f.factor in
-    let entry = f.entry in
     let section = c.section_of-section.result in
     let fd : FitsSigned w128 section.den = omega (arith, ints, factor) in
-    let fn : FitsSigned w128 section.num = omega (arith, ints, entry) in
-    let raw = rw (c.in-NotOptimal.is, c.terms.ensures.terms, c.names_len.ensures.len) at c.in_ok-found.ensures.exact in
+    let is = shift (goal.at.returns c).After-deref in
+    let raw = rw (c.in-NotOptimal.is, c.terms.ensures.terms, c.names_len.ensures.len, is) at c.in_ok-found.ensures.exact in
     let never = simp to_z-of_z at raw.1 in
     never (rw (c.section_of-section.ensures.num_is, c.section_of-section.ensures.den_is, c.section_of-section.ensures.rows_are) at p.proves)
 
@@ -43,26 +66,25 @@ pub returns-in-Proved : goal.returns-in-Proved
 returns-in-Proved c =
     let ms = meanings kind_places kind_value c.args.instance.now.terms in
     let n = length c.args.instance.now.names in
+    let sizes = c.args.sizes.now in
     let num = c.section_of-section.result.num in
     let den = c.section_of-section.result.den in
     let rows = c.section_of-section.result.bases.now in
-    let f = formed_parts c.requires.formed c.requires.at c.section_of-section.ensures in
-    let factor = f.factor in
-    let entry = f.entry in
+    let factor = (formed_parts c.requires.formed c.requires.at c.section_of-section.ensures).factor in
     let fd : FitsSigned w128 den = omega (arith, ints, factor) in
-    let fn : FitsSigned w128 num = omega (arith, ints, entry) in
+    let is = shift (goal.at.returns-in-Proved c).After-deref in
     let bases = part_bases c.args.instance.now c.requires.formed c.requires.bases c.requires.at c.section_of-section.ensures in
-    let exact = rw (c.in-Proved.is, c.terms.ensures.terms, c.names_len.ensures.len) at c.in_ok-found.ensures.exact in
-    let proves : Prove ms n den (even_shift n num) rows = simp to_z-of_z at (exact.0 tt) in
-    let answer = rw (c.in-Proved.is, c.terms.ensures.terms, c.names_len.ensures.len) at c.in_ok-found.ensures.answer in
-    let told : IsAnswer ms n den (even_shift n num) rows (Proves c.in-Proved.found) = simp to_z-of_z at answer in
+    let exact = rw (c.in-Proved.is, c.terms.ensures.terms, c.names_len.ensures.len, is) at c.in_ok-found.ensures.exact in
+    let proves : Prove ms n den (sized_shift sizes num) rows = simp to_z-of_z at (exact.0 tt) in
+    let answer = rw (c.in-Proved.is, c.terms.ensures.terms, c.names_len.ensures.len, is) at c.in_ok-found.ensures.answer in
+    let told : IsAnswer ms n den (sized_shift sizes num) rows (Proves c.in-Proved.found) = simp to_z-of_z at answer in
     let plain : Section = record { num = num; den = den; bases = rows } in
-    let here : IsToldOf ms n plain c.in-Proved.found = record { proved = record { bases = bases; proves = proves }; least = told.0; greatest = told.1; value = told.2 } in
-    let is : section_at (answer_of c.args.solved.now) c.args.s ≡ plain = same_section (section_at (answer_of c.args.solved.now) c.args.s) num den rows c.section_of-section.ensures in
-    subst (λ (z : Section). IsToldOf ms n z c.in-Proved.found) (sym is) here
+    let here : IsToldOf ms n sizes plain c.in-Proved.found = record { proved = record { bases = bases; proves = proves }; least = told.0; greatest = told.1; value = told.2 } in
+    let same : section_at (answer_of c.args.solved.now) c.args.s ≡ plain = same_section (section_at (answer_of c.args.solved.now) c.args.s) num den rows c.section_of-section.ensures in
+    subst (λ (z : Section). IsToldOf ms n sizes z c.in-Proved.found) (sym same) here
 
-pub certify-requires-clause-factor : goal.certify-requires-clause-factor
-certify-requires-clause-factor c =
+pub certify_at-requires-clause-factor : goal.certify_at-requires-clause-factor
+certify_at-requires-clause-factor c =
     let factor = (formed_parts c.requires.formed c.requires.at c.section_of-section.ensures).factor in
     let fd : FitsSigned w128 c.section_of-section.result.den = omega (arith, ints, factor) in
     simp to_z-of_z factor

@@ -48,7 +48,7 @@ returns-in-None c =
     let breaks = c.args.solved.now.breaks.ok.0 in
     let blocks = c.args.solved.now.blocks.ok.0 in
     let ls = section_in items a c.loop-s.s _ refl (c.len-s-end.ensures ∙ breaks) c.loop-s-test.true in
-    let never : IsProvedSection (meanings kind_places kind_value ts) n (section_at a c.loop-s.s) → ⊥ = rw c.in-None.is at c.in_ok-found.ensures in
+    let never : IsProvedSection (meanings kind_places kind_value ts) n c.args.sizes.now (section_at a c.loop-s.s) → ⊥ = rw c.in-None.is at c.in_ok-found.ensures in
     let kb : c.len.result ≡ length a.blocks = c.len.ensures ∙ (blocks ∙ sym (length-map c.args.solved.now.blocks.items block_of)) in
     let kj : c.len-in-None.result ≡ length a.breaks = c.len-in-None.ensures ∙ (breaks ∙ sym (length-map items break_of)) in
     let km : length c.terms.result.now ≡ length (meanings kind_places kind_value ts) = ap length c.terms.ensures.terms ∙ sym (length-meanings kind_places kind_value ts) in
@@ -67,7 +67,7 @@ loop-s-preserved c =
     let ms = meanings kind_places kind_value c.args.instance.now.terms in
     let n = length c.args.instance.now.names in
     let found = c.in-Some.found in
-    let there : IsToldOf ms n (section_at a c.loop-s.s) found = rw c.in-Some.is at c.in_ok-found.ensures in
+    let there : IsToldOf ms n c.args.sizes.now (section_at a c.loop-s.s) found = rw c.in-Some.is at c.in_ok-found.ensures in
     let pushed = c.in_ok-push-in-Some.ensures.items in
     let count = c.loop-s.invariant.0 in (
       ap length pushed ∙ (length_push c.loop-s.proved.items found ∙ ap (λ z. z + 1) count),
@@ -75,12 +75,12 @@ loop-s-preserved c =
           (λ less.
           let lo : s < length c.loop-s.proved.items = omega (arith, less, count) in
           let same : get_or c.push.new.self.items s d ≡ get_or c.loop-s.proved.items s d = ap (λ z. get_or z s d) pushed ∙ get_or_append_left c.loop-s.proved.items (found ∷ []) d s lo in
-          subst (λ (z : Proved). IsToldOf ms n (section_at a s) z) (sym same) (c.loop-s.invariant.1 s d less))
+          subst (λ (z : Proved). IsToldOf ms n c.args.sizes.now (section_at a s) z) (sym same) (c.loop-s.invariant.1 s d less))
           (λ ge.
           let at : c.loop-s.s ≡ s = omega arith in
           let last : s ≡ length c.loop-s.proved.items = omega (arith, at, count) in
           let same : get_or c.push.new.self.items s d ≡ found = ap (λ z. get_or z s d) pushed ∙ get_or_push c.loop-s.proved.items found d s (sym last) in
-          subst (λ (z : Proved). IsToldOf ms n (section_at a s) z) (sym same) (subst (λ k. IsToldOf ms n (section_at a k) found) at there))
+          subst (λ (z : Proved). IsToldOf ms n c.args.sizes.now (section_at a s) z) (sym same) (subst (λ k. IsToldOf ms n c.args.sizes.now (section_at a k) found) at there))
           (cases_lt s c.loop-s.s)),
     )
 

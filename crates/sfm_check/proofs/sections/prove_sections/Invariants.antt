@@ -10,4 +10,4 @@ use Rattle.sfm_check.proofs.sections.prove_sections.Given as goal
 -- each section before has told its minimum
 abbrev pub invariant-loop-s : goal.invariant-loop-s
 invariant-loop-s l = (length l.proved.items ≡ l.s)
-    × ((s : ℕ) (d : Proved) → s < l.s → IsToldOf (meanings kind_places kind_value l.instance.terms) (length l.instance.names) (section_at (answer_of l.solved) s) (get_or l.proved.items s d))
+    × ((s : ℕ) (d : Proved) → s < l.s → IsToldOf (meanings kind_places kind_value l.instance.terms) (length l.instance.names) l.sizes (section_at (answer_of l.solved) s) (get_or l.proved.items s d))

@@ -26,11 +26,11 @@ formed c =
 pub attain-requires-clause-formed : goal.attain-requires-clause-formed
 attain-requires-clause-formed c = formed (goal.at.attain-requires-clause-formed c).After-index-found
 
-pub worth_of-requires-in-loop-k : goal.worth_of-requires-in-loop-k
-worth_of-requires-in-loop-k c = (formed (goal.at.worth_of-requires-in-loop-k c).After-index-found).members.places
+pub worth_of-requires-in-loop-k-clause-places : goal.worth_of-requires-in-loop-k-clause-places
+worth_of-requires-in-loop-k-clause-places c = (formed (goal.at.worth_of-requires-in-loop-k-clause-places c).After-index-found).members.places
 
-pub worth_of-requires : goal.worth_of-requires
-worth_of-requires c = ap length c.in_ok-empty.ensures ∙ (length-replicate c.names_len-n.result false ∙ c.names_len-n.ensures.len)
+pub worth_of-requires-clause-places : goal.worth_of-requires-clause-places
+worth_of-requires-clause-places c = ap length c.in_ok-empty.ensures ∙ (length-replicate c.names_len-n.result false ∙ c.names_len-n.ensures.len)
 
 pub ascends-requires : goal.ascends-requires
 ascends-requires c = let lt = c.loop-k-test.true in omega (arith, lt, c.args.solved.now.breaks.ok.0, c.len-k-end.ensures, ap length c.deref.ensures.value)
@@ -45,8 +45,8 @@ pub loop-k-init : goal.loop-k-init
 loop-k-init c =
     let ms = meanings kind_places kind_value c.args.instance.now.terms in
     let empty : c.in_ok-empty.empty ≡ empty_set (length c.args.instance.now.names) = c.in_ok-empty.ensures ∙ ap empty_set c.names_len-n.ensures.len in
-    let worth : IsWorth ms c.in_ok-empty.empty c.in-Some.before = rw c.in-Some.is at c.in_ok-before.ensures.worth in
-    (subst (λ s. IsWorth ms s c.in-Some.before) empty worth, rw c.in-Some.is at c.in_ok-before.ensures.small, λ j l. absurd (omega (arith, l)))
+    let worth : IsWorth ms c.args.sizes.now c.in_ok-empty.empty c.in-Some.before = rw c.in-Some.is at c.in_ok-before.ensures.worth in
+    (subst (λ s. IsWorth ms c.args.sizes.now s c.in-Some.before) empty worth, rw c.in-Some.is at c.in_ok-before.ensures.small, λ j l. absurd (omega (arith, l)))
 
 pub loop-k-preserved : goal.loop-k-preserved
 loop-k-preserved c =
@@ -60,16 +60,16 @@ loop-k-preserved c =
     let lk : c.loop-k.k < length items = omega (arith, lt, count, c.len-k-end.ensures) in
     let b = c.index-found.result.now in
     let here = c.in-Some-2.here in
-    let worth : IsWorth ms b.set here = rw c.in-Some-2.is at c.in_ok-here.ensures.worth in
+    let worth : IsWorth ms c.args.sizes.now b.set here = rw c.in-Some-2.is at c.in_ok-here.ensures.worth in
     let grows = c.if-before-here.false in
     let attained = c.in_ok-attain.ensures c.if-not-branch.false in
     let up = c.ascends.ensures c.if-not-ascends.false in
-    let step : IsStepAt ms n (answer_of solved) k = step_by ms n solved k b c.loop-k.before here lk c.index-found.ensures c.loop-k.invariant.0 worth (omega (arith, grows)) attained.0 attained.1 (rw c.deref.ensures.value at up) in (
-      subst (λ s. IsWorth ms s here) (sym (behind_at (empty_set n) items k b lk c.index-found.ensures)) worth,
+    let step : IsStepAt ms n c.args.sizes.now (answer_of solved) k = step_by ms n c.args.sizes.now solved k b c.loop-k.before here lk c.index-found.ensures c.loop-k.invariant.0 worth (omega (arith, grows)) attained.0 attained.1 (rw c.deref.ensures.value at up) in (
+      subst (λ s. IsWorth ms c.args.sizes.now s here) (sym (behind_at (empty_set n) items k b lk c.index-found.ensures)) worth,
       rw c.in-Some-2.is at c.in_ok-here.ensures.small,
       (λ j l. ⊎_elim
           (λ less. c.loop-k.invariant.2 j less)
-          (λ ge. let at : c.loop-k.k ≡ j = omega arith in subst (IsStepAt ms n (answer_of solved)) at step)
+          (λ ge. let at : c.loop-k.k ≡ j = omega arith in subst (IsStepAt ms n c.args.sizes.now (answer_of solved)) at step)
           (cases_lt j k)),
     )
 
@@ -94,5 +94,5 @@ returns c = λ true.
     let places : length (set_before (empty_set n) (map mark_of a.breaks) k) ≡ n = ap length (sym (before_same n (empty_set n) items k refl)) ∙ before_places (form_of instance) a items (empty_set n) k c.requires.formed refl refl (omega (arith, last)) in
     let full : size (set_before (empty_set n) (map mark_of a.breaks) k) ≡ n = sym size_is ∙ (whole_size ∙ c.names_len-n.ensures.len) in
     let ends : set_before (empty_set n) (map mark_of a.breaks) (length a.breaks) ≡ whole_set n = ap (set_before (empty_set n) (map mark_of a.breaks)) (breaks ∙ sym last) ∙ whole_by_size n (set_before (empty_set n) (map mark_of a.breaks) k) places full in
-    slopes_right ms n (fit n ts c.tell_kept.ensures.bounded) (form_of instance) a refl c.requires.formed (all_bases instance a c.requires.formed c.requires.bases)
+    slopes_right ms n c.args.sizes.now (fit n ts c.tell_kept.ensures.bounded) c.requires.sizes (form_of instance) a refl c.requires.formed (all_bases instance a c.requires.formed c.requires.bases)
     (λ j l. c.loop-k.invariant.2 j (omega (arith, l, last, breaks))) ends

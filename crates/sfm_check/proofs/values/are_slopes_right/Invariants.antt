@@ -10,6 +10,6 @@ use Rattle.sfm_check.specs.Values.{IsSmall, IsStepAt, IsWorth}
 use Rattle.sfm_check.proofs.values.are_slopes_right.Given as goal
 
 abbrev pub invariant-loop-k : goal.invariant-loop-k
-invariant-loop-k l = IsWorth (meanings kind_places kind_value l.instance.terms) (set_before (empty_set (length l.instance.names)) (map mark_of (answer_of l.solved).breaks) l.k) l.before
+invariant-loop-k l = IsWorth (meanings kind_places kind_value l.instance.terms) l.sizes (set_before (empty_set (length l.instance.names)) (map mark_of (answer_of l.solved).breaks) l.k) l.before
     × IsSmall l.before
-    × ((j : ℕ) → j < l.k → IsStepAt (meanings kind_places kind_value l.instance.terms) (length l.instance.names) (answer_of l.solved) j)
+    × ((j : ℕ) → j < l.k → IsStepAt (meanings kind_places kind_value l.instance.terms) (length l.instance.names) l.sizes (answer_of l.solved) j)

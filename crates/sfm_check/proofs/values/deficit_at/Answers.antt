@@ -1,32 +1,38 @@
-use Rattle.std.proofs.Common.{◌≡◌, ◌<◌, ◌≤◌, ◌^◌, ℕ, List, [], ◌∷◌, length, map, get_or, replicate, ℤ, pos, ◌≤ℤ◌, sym, ap, ◌∙◌, rules, arith, FitsSigned}
+use Rattle.std.proofs.Common.{◌≡◌, ◌<◌, ◌≤◌, ◌^◌, ℕ, List, [], ◌∷◌, length, map, get_or, ℤ, pos, ◌≤ℤ◌, sym, ap, ◌∙◌, rules, arith, FitsSigned}
 use Rattle.std.proofs.lemmas.Int.{ints, to_z-of_z}
-use Rattle.std.proofs.lemmas.List.{get_or_default, length-map, length-replicate}
-use Rattle.sfm_spec.specs.Bounds.{IsEntry}
+use Rattle.std.proofs.lemmas.List.{get_or_default, length-map}
 use mir.Syntax.{w128}
 use Rattle.sfm_spec.specs.Sets.{magnitudes}
-use Rattle.sfm_spec.specs.Families.{Meaning, deficit, even_shift, meanings, rest_at}
+use Rattle.sfm_spec.specs.Families.{Meaning, deficit, meanings, rest_at, sized_shift}
 use Rattle.sfm_kind.specs.declared.kind.Kind.{Kind}
 use Rattle.sfm_spec.specs.Walks.{base_at, term_at}
 use Rattle.sfm_law.specs.Rest.{IsRest}
 use Rattle.sfm_law.proofs.Lists.{meanings-at}
-use Rattle.sfm_law.proofs.Rests.{magnitudes-replicate, rest-total}
+use Rattle.sfm_law.proofs.Rests.{rest-total}
 use Rattle.sfm_extreme.proofs.Deficits.{deficit_by_rest}
 use Rattle.sfm_kind.specs.Kinds.{kind_places, kind_value}
 use Rattle.sfm_cert.specs.Form.{AreFormedRows}
+use Rattle.sfm_sizes.proofs.Sized.{sized-small}
 use Rattle.sfm_check.proofs.Forming.{row_count, row_width}
 use Rattle.sfm_check.proofs.values.deficit_at.Goals.{After-deref}
 use Rattle.sfm_check.proofs.values.deficit_at.Goals as goal
 
--- the shift is the number at each place
-shift : (c : After-deref) → c.deref.result.now ≡ replicate (length c.args.instance.now.names) c.args.num
+pub shift_by-requires-clause-sizes : goal.shift_by-requires-clause-sizes
+shift_by-requires-clause-sizes c = rw c.requires.sizes.places c.requires.sizes
+
+-- the shift is the number for each unit of size
+shift : (c : After-deref) → c.deref.result.now ≡ sized_shift c.args.sizes.now c.args.num
 shift c =
     let e = c.requires.entry in
     let fn : FitsSigned w128 c.args.num = omega (arith, ints, e) in
-    let same : c.deref.result.now ≡ replicate c.names_len.result c.args.num = search rules in
-    same ∙ ap (λ n. replicate n c.args.num) c.names_len.ensures.len
+    c.deref.ensures.value ∙ simp to_z-of_z at c.in_ok-shift.ensures
 
 shift-places : (c : After-deref) → length c.deref.result.now ≡ length c.args.instance.now.names
-shift-places c = ap length (shift c) ∙ length-replicate (length c.args.instance.now.names) c.args.num
+shift-places c = ap length (shift c) ∙ (length-map c.args.sizes.now _ ∙ c.requires.sizes.places)
+
+-- its magnitudes are small
+shift-small : (c : After-deref) → magnitudes c.deref.result.now ≤ℤ pos (10 ^ 36)
+shift-small c = rw (shift c) (sized-small (10 ^ 30) (length c.args.instance.now.names) c.args.sizes.now c.args.num c.requires.entry c.requires.sizes)
 
 pub rest_of-requires-clause-placed : goal.rest_of-requires-clause-placed
 rest_of-requires-clause-placed c = rw (c.terms.ensures.terms, shift-places (goal.at.rest_of-requires-clause-placed c).After-deref) c.terms.ensures.bounded.placed
@@ -53,15 +59,8 @@ rest_of-requires-clause-few c = rw c.terms.ensures.terms c.terms.ensures.bounded
 pub rest_of-requires-clause-entries : goal.rest_of-requires-clause-entries
 rest_of-requires-clause-entries c = rw c.terms.ensures.terms (entries c.args.instance.now.terms c.args.bases.now c.requires.bases)
 
--- the shift, and what z is
-shift_is : (n : ℕ) (p : ℤ) (shift : List ℤ) → shift ≡ replicate n p → IsEntry p → n ≤ 256 → magnitudes shift ≤ℤ pos (10 ^ 36)
-shift_is n p shift same entry few =
-    let m = magnitudes-replicate n p entry in
-    rw same (omega (arith, ints, m, few))
-
 pub rest_of-requires-clause-shifts : goal.rest_of-requires-clause-shifts
-rest_of-requires-clause-shifts c =
-    shift_is (length c.args.instance.now.names) c.args.num c.deref.result.now (shift (goal.at.rest_of-requires-clause-shifts c).After-deref) c.requires.entry c.terms.ensures.bounded.few
+rest_of-requires-clause-shifts c = shift-small (goal.at.rest_of-requires-clause-shifts c).After-deref
 
 pub deficit_of-requires : goal.deficit_of-requires
 deficit_of-requires c =
@@ -72,7 +71,7 @@ deficit_of-requires c =
     let path = (goal.at.deficit_of-requires c).After-deref in
     let places = shift-places path in
     let rest : IsRest (meanings kind_places kind_value ts) c.deref.result.now c.args.bases.now c.in_ok-z.z.items = rw c.terms.ensures.terms at c.in_ok-z.ensures in
-    rw c.deref-2.ensures.value (rest-total kind_places kind_value ts c.deref.result.now c.args.bases.now c.in_ok-z.z.items rest c.requires.bases.small b.few_places (omega (arith, few, places)) (shift_is n c.args.num c.deref.result.now (shift path) c.requires.entry few))
+    rw c.deref-2.ensures.value (rest-total kind_places kind_value ts c.deref.result.now c.args.bases.now c.in_ok-z.z.items rest c.requires.bases.small b.few_places (omega (arith, few, places)) (shift-small path))
 
 pub returns : goal.returns
 returns c =
@@ -86,6 +85,6 @@ returns c =
     let rest : IsRest ms c.deref.result.now rows c.in_ok-z.z.items = rw c.terms.ensures.terms at c.in_ok-z.ensures in
     let value = rw c.deref-2.ensures.value at c.deficit_of.ensures in
     let by = deficit_by_rest ms c.deref.result.now rows c.in_ok-z.z.items rest in
-    let there : deficit (length c.deref.result.now) (rest_at ms rows c.deref.result.now) ≡ deficit n (rest_at ms rows (even_shift n c.args.num)) =
+    let there : deficit (length c.deref.result.now) (rest_at ms rows c.deref.result.now) ≡ deficit n (rest_at ms rows (sized_shift c.args.sizes.now c.args.num)) =
     ap (λ k. deficit k (rest_at ms rows c.deref.result.now)) (shift-places path) ∙ ap (λ (z : List ℤ). deficit n (rest_at ms rows z)) (shift path) in
     simp to_z-of_z (value ∙ (by ∙ there))

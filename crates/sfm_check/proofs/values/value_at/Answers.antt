@@ -1,5 +1,5 @@
-use Rattle.std.proofs.Common.{◌≡◌, ◌^◌, ℕ, ℤ, pos, neg_ℤ, ◌-ℤ◌, ◌*ℤ◌, ◌≤ℤ◌, ◌≤◌, arith, refl, to_z, FitsSigned}
-use Rattle.std.proofs.lemmas.Int.{ints, to_z-of_z, to_z_pos}
+use Rattle.std.proofs.Common.{◌^◌, ℕ, ℤ, pos, neg_ℤ, ◌-ℤ◌, ◌*ℤ◌, ◌≤ℤ◌, arith, refl, FitsSigned}
+use Rattle.std.proofs.lemmas.Int.{ints, to_z-of_z}
 use mir.Syntax.{w128}
 use Rattle.sfm_spec.specs.Bounds.{IsAtMost, IsEntry, IsFactor, IsGiven}
 use Rattle.sfm_spec.proofs.Scaled.{times-comm, times-mono, times-neg}
@@ -16,13 +16,13 @@ product_bound k m q a low high h =
     (omega (arith, ints, up, down, turned, wide, same), omega (arith, ints, up, down, turned, wide, same))
 
 -- the words of a value, and what is computed of them
-are_small : (den num sum : ℤ) (size : ℕ) → IsFactor den → IsEntry num → IsGiven sum → size ≤ 256
-    → FitsSigned w128 den × FitsSigned w128 num × FitsSigned w128 sum × (to_z w128 size ≡ pos size) × FitsSigned w128 (den *ℤ sum) × FitsSigned w128 (num *ℤ pos size) × FitsSigned w128 (den *ℤ sum -ℤ num *ℤ pos size)
-are_small den num sum size factor entry given few =
+are_small : (den num sum weight : ℤ) → IsFactor den → IsEntry num → IsGiven sum → (pos 0 ≤ℤ weight) × (weight ≤ℤ pos (10 ^ 6))
+    → FitsSigned w128 den × FitsSigned w128 num × FitsSigned w128 sum × FitsSigned w128 weight × FitsSigned w128 (den *ℤ sum) × FitsSigned w128 (num *ℤ weight) × FitsSigned w128 (den *ℤ sum -ℤ num *ℤ weight)
+are_small den num sum weight factor entry given few =
     let low = factor.low in
     let a = product_bound (10 ^ 6) (10 ^ 18) den sum (omega (arith, ints, low)) factor.high given in
-    let b = product_bound 256 (10 ^ 30) (pos size) num (omega (arith, ints)) (omega (arith, ints, few)) entry in
-    let same = times-comm num (pos size) in
+    let b = product_bound (10 ^ 6) (10 ^ 30) weight num few.0 few.1 entry in
+    let same = times-comm num weight in
     let a0 = a.0 in
     let a1 = a.1 in
     let b0 = b.0 in
@@ -30,24 +30,24 @@ are_small den num sum size factor entry given few =
       omega (arith, ints, factor),
       omega (arith, ints, entry),
       omega (arith, ints, given),
-      to_z_pos w128 size (omega (arith, few)),
+      omega (arith, ints, few),
       omega (arith, ints, a0, a1),
       omega (arith, ints, b0, b1, same),
       omega (arith, ints, a0, a1, b0, b1, same),
     )
 
 pub overflow_mul-values : goal.overflow_mul-values
-overflow_mul-values c = let (fd, fn, fs, size, first, second, both) = are_small c.args.slope.now.den c.args.slope.now.num c.args.worth.now.sum c.args.worth.now.size c.args.slope.now.factor c.args.slope.now.entry c.requires.sum c.requires.size in simp to_z-of_z first
+overflow_mul-values c = let (fd, fn, fs, fw, first, second, both) = are_small c.args.slope.now.den c.args.slope.now.num c.args.worth.now.sum c.args.worth.now.weight c.args.slope.now.factor c.args.slope.now.entry c.requires.sum c.requires.weight in simp to_z-of_z first
 
 pub overflow_mul-shift : goal.overflow_mul-shift
-overflow_mul-shift c = let (fd, fn, fs, size, first, second, both) = are_small c.args.slope.now.den c.args.slope.now.num c.args.worth.now.sum c.args.worth.now.size c.args.slope.now.factor c.args.slope.now.entry c.requires.sum c.requires.size in rw size (simp to_z-of_z second)
+overflow_mul-shift c = let (fd, fn, fs, fw, first, second, both) = are_small c.args.slope.now.den c.args.slope.now.num c.args.worth.now.sum c.args.worth.now.weight c.args.slope.now.factor c.args.slope.now.entry c.requires.sum c.requires.weight in simp to_z-of_z second
 
 pub overflow_sub-result : goal.overflow_sub-result
 overflow_sub-result c =
-    let (fd, fn, fs, size, first, second, both) = are_small c.args.slope.now.den c.args.slope.now.num c.args.worth.now.sum c.args.worth.now.size c.args.slope.now.factor c.args.slope.now.entry c.requires.sum c.requires.size in
-    rw size (simp to_z-of_z both)
+    let (fd, fn, fs, fw, first, second, both) = are_small c.args.slope.now.den c.args.slope.now.num c.args.worth.now.sum c.args.worth.now.weight c.args.slope.now.factor c.args.slope.now.entry c.requires.sum c.requires.weight in
+    simp to_z-of_z both
 
 pub returns : goal.returns
 returns c =
-    let (fd, fn, fs, size, first, second, both) = are_small c.args.slope.now.den c.args.slope.now.num c.args.worth.now.sum c.args.worth.now.size c.args.slope.now.factor c.args.slope.now.entry c.requires.sum c.requires.size in
-    rw size (simp to_z-of_z refl)
+    let (fd, fn, fs, fw, first, second, both) = are_small c.args.slope.now.den c.args.slope.now.num c.args.worth.now.sum c.args.worth.now.weight c.args.slope.now.factor c.args.slope.now.entry c.requires.sum c.requires.weight in
+    simp to_z-of_z refl

@@ -1,4 +1,4 @@
-use Rattle.std.proofs.Common.{◌≤◌, arith, FitsSigned}
+use Rattle.std.proofs.Common.{◌≤◌, ◌^◌, pos, ◌≤ℤ◌, arith, FitsSigned}
 use Rattle.std.proofs.lemmas.Int.{ints, to_z-of_z}
 use mir.Syntax.{w128}
 use Rattle.sfm_spec.specs.Bounds.{IsGiven}
@@ -18,5 +18,17 @@ returns-in-Some-clause-small c =
     let given : IsGiven c.in-Some.sum = record { low = omega (arith, ints, r.0, r.1, m, e); high = omega (arith, ints, r.0, r.1, m, e) } in
     let fits : FitsSigned w128 c.in-Some.sum = omega (arith, ints, given.low, given.high) in
     let low = size_below_length s in
-    let size : c.size.result ≤ 256 = omega (arith, low, few, c.size.ensures, c.requires) in
-    record { size = size; sum = simp to_z-of_z given }
+    let size : c.size.result ≤ 256 = omega (arith, low, few, c.size.ensures, c.requires.places) in
+    let light = c.weight_of.ensures.low in
+    let heavy = c.weight_of.ensures.high in
+    let most = c.requires.sizes.small in
+    let fw : FitsSigned w128 c.weight_of.result = omega (arith, ints, light, heavy, most) in
+    let most_is : c.weight_of.result ≤ℤ pos (10 ^ 6) = omega (arith, ints, heavy, most) in
+    record {
+      size = size;
+      weight = (simp to_z-of_z light, simp to_z-of_z most_is);
+      sum = simp to_z-of_z given;
+    }
+
+pub weight_of-requires : goal.weight_of-requires
+weight_of-requires c = record { sizes = rw c.requires.places c.requires.sizes }
