@@ -55,7 +55,8 @@ module _ (instance : InstanceData) (a b : List ℕ) where
       let more = leads_on_behind next lines to one.1 rest in
       ((next, one.0, more.0), more.1)
 
-  reads_behind : {text : List ℕ} {from to : Cursor} {s t : State} {lines : List (List ℕ)} → IsBehind s
+  reads_behind : {text : List ℕ} {from to : Cursor} {s t : State} {lines : List (List ℕ)}
+      → IsBehind s
       → Reads (form_with a instance) text from to s t lines
       → Reads (form_with b instance) text from to s t lines
   reads_behind {s = s} {t = t} {lines = lines} behind h = record {

@@ -76,7 +76,8 @@ pub fn answer_len(instance: &Instance, solved: &Solved) -> usize
 
 // How many bytes the text of an answer with that first line has.
 fn len_with(header: Header, instance: &Instance, solved: &Solved) -> usize
-    requires formed { IsFormed (form_with (header_text header) instance.now) (answer_of solved.now) }
+    requires formed { IsFormed (form_with (header_text header) instance.now)
+        (answer_of solved.now) }
     requires few { HasFewLines (answer_of solved.now) }
     ensures { result ≡ length (answer_text (form_with (header_text header) instance.now)
         (answer_of solved.now)) }
@@ -103,7 +104,8 @@ pub fn put_answer(page: &mut Page, instance: &Instance, solved: &Solved)
 
 // The same with that first line.
 fn put_with(page: &mut Page, header: Header, instance: &Instance, solved: &Solved)
-    requires formed { IsFormed (form_with (header_text header) instance.now) (answer_of solved.now) }
+    requires formed { IsFormed (form_with (header_text header) instance.now)
+        (answer_of solved.now) }
     requires room { length (answer_text (form_with (header_text header) instance.now)
         (answer_of solved.now)) ≤ page.old.spare }
     ensures bytes { page.new.bytes ≡ page.old.bytes ++ answer_text
@@ -125,7 +127,8 @@ pub fn write_with(
     instance: &Instance,
     solved: &Solved,
 ) -> Result<Vec<u8>, Memory>
-    requires formed { IsFormed (form_with (header_text header) instance.now) (answer_of solved.now) }
+    requires formed { IsFormed (form_with (header_text header) instance.now)
+        (answer_of solved.now) }
     requires few { HasFewLines (answer_of solved.now) }
     ensures { IfOk result (λ text. text.items ≡ answer_text
         (form_with (header_text header) instance.now) (answer_of solved.now)) }

@@ -5,7 +5,7 @@
 use Rattle.std.proofs.Common.{◌≡◌, ◌≢◌, ⊎_elim, ℕ, zero, suc, ◌<◌, Bool, List, [], length, map, get_or, ℤ, pos, ◌-ℤ◌, ◌*ℤ◌, ◌≤ℤ◌, refl, sym, ap, ◌∙◌, arith, subst}
 use Rattle.std.proofs.lemmas.Bool.{cases_lt}
 use Rattle.std.proofs.lemmas.List.{length-map, length-replicate, get_or-map}
-use Rattle.sfm_spec.specs.Sets.{empty_set, size, whole_set, IsWithin}
+use Rattle.sfm_spec.specs.Sets.{empty_set, whole_set, IsWithin}
 use Rattle.sfm_spec.specs.Slopes.{IsLowerSlope}
 use Rattle.sfm_spec.specs.Families.{Meaning, AreBases, AreTerms, IsMinimiser, Prove, deficit, rest_at, shifted_at, sized_shift, sum_at}
 use Rattle.sfm_spec.specs.Laws.{Mark, no_mark}

@@ -57,30 +57,40 @@ blocks-requires-clause-prove c =
     let ms = meanings kind_places kind_value c.args.instance.now.terms in
     let n = length c.args.instance.now.names in
     let rows = c.args.solved.now.bases in
-    let p : Prove ms n (pos 1) (even_shift n (pos 0)) rows = subst (λ z. Prove ms n (pos 1) z rows) (zero_shift n c.args._sizes.now c.requires.sizes) c.requires.told.proved.proves in
+    let p : Prove ms n (pos 1) (even_shift n (pos 0)) rows = subst (λ z. Prove ms n (pos 1) z rows)
+    (zero_shift n c.args._sizes.now c.requires.sizes) c.requires.told.proved.proves in
     rw (c.terms.ensures.terms, c.names_len.ensures.len) p
 
 -- the blocks that the bases tell are those at the shift by sizes
-are_due : (c : After-deref) → AreBlocks (meanings kind_places kind_value c.args.instance.now.terms) (length c.args.instance.now.names) (pos 1) (sized_shift c.args._sizes.now (pos 0)) (map block_of c.in_ok-due.due.items)
+are_due : (c : After-deref) → AreBlocks (meanings kind_places kind_value c.args.instance.now.terms)
+    (length c.args.instance.now.names) (pos 1) (sized_shift c.args._sizes.now (pos 0))
+    (map block_of c.in_ok-due.due.items)
 are_due c =
     let ms = meanings kind_places kind_value c.args.instance.now.terms in
     let n = length c.args.instance.now.names in
     let due = map block_of c.in_ok-due.due.items in
-    let are : AreBlocks ms n (pos 1) (even_shift n (pos 0)) due = rw (c.terms.ensures.terms, c.names_len.ensures.len) at c.in_ok-due.ensures.exact in
-    subst (λ z. AreBlocks ms n (pos 1) z due) (sym (zero_shift n c.args._sizes.now c.requires.sizes)) are
+    let are : AreBlocks ms n (pos 1) (even_shift n (pos 0)) due =
+    rw (c.terms.ensures.terms, c.names_len.ensures.len) at c.in_ok-due.ensures.exact in
+    subst (λ z. AreBlocks ms n (pos 1) z due)
+    (sym (zero_shift n c.args._sizes.now c.requires.sizes)) are
 
 pub first_wrong_line-requires-clause-value : goal.first_wrong_line-requires-clause-value
 first_wrong_line-requires-clause-value c =
     let told = c.requires.told in
-    subst IsEntry (sym told.value) (value_small (length c.args.instance.now.names) c.args._sizes.now c.args.instance.now.terms c.args.found.now.least c.terms.ensures.bounded told.least.minimiser.allowed)
+    subst IsEntry (sym told.value) (value_small (length c.args.instance.now.names)
+    c.args._sizes.now c.args.instance.now.terms c.args.found.now.least c.terms.ensures.bounded
+    told.least.minimiser.allowed)
 
 pub first_wrong_line-requires-clause-blocks : goal.first_wrong_line-requires-clause-blocks
 first_wrong_line-requires-clause-blocks c =
-    let ts = c.args.instance.now.terms in
+    let ms = meanings kind_places kind_value c.args.instance.now.terms in
     let n = length c.args.instance.now.names in
     let due = c.in_ok-due.due.items in
     let are = are_due (goal.at.first_wrong_line-requires-clause-blocks c).After-deref in
-    λ i l. rw c.deref.ensures.value (blocks_formed (meanings kind_places kind_value ts) n (pos 1) (sized_shift c.args._sizes.now (pos 0)) (map block_of due) are i (let e = ap length c.deref.ensures.value in omega (arith, l, e, length-map due block_of)))
+    let shown = ap length c.deref.ensures.value in
+    λ i l. rw c.deref.ensures.value
+    (blocks_formed ms n (pos 1) (sized_shift c.args._sizes.now (pos 0)) (map block_of due) are i
+    (omega (arith, l, shown, length-map due block_of)))
 
 pub returns : goal.returns
 returns c = λ header.
@@ -91,6 +101,10 @@ returns c = λ header.
     let due = c.in_ok-due.due.items in
     let a = answer_of c.args.solved.now in
     let (marks, slopes) = all_slopes n ts c.terms.ensures.bounded sizes c.requires.sizes in
-    let truth = true_due ms n sizes a c.args.found.now due marks c.requires.told (are_due (goal.at.returns c).After-deref) slopes in
-    let told : MatchOption c.first_wrong_line.result (SaysTheSame a (due_answer c.args.found.now due marks)) (IsWrongLine (form_with header c.args.instance.now) a (due_answer c.args.found.now due marks)) = (let w = c.first_wrong_line.ensures header marks in rw c.deref.ensures.value at w) in
-    judged (form_with header c.args.instance.now) ms sizes a (due_answer c.args.found.now due marks) c.first_wrong_line.result truth told
+    let form = form_with header c.args.instance.now in
+    let truth = due_answer c.args.found.now due marks in
+    let is_true = true_due ms n sizes a c.args.found.now due marks c.requires.told
+    (are_due (goal.at.returns c).After-deref) slopes in
+    let told : MatchOption c.first_wrong_line.result (SaysTheSame a truth) (IsWrongLine form a truth) =
+    (let w = c.first_wrong_line.ensures header marks in rw c.deref.ensures.value at w) in
+    judged form ms sizes a truth c.first_wrong_line.result is_true told

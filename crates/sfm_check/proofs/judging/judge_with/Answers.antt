@@ -17,23 +17,40 @@ if_ok (Ok x) P Q f h = f x h
 if_ok (Err e) P Q f h = tt
 
 pub judge_solved-requires-clause-few : goal.judge_solved-requires-clause-few
-judge_solved-requires-clause-few c = few_by_text (form_with (header_text c.args.header) c.args.instance.now) c.args.text.now (answer_of c.in-Ok.solved) c.in-Ok.ensures.read c.if-text-gt-ANSWER_LIMIT.false
+judge_solved-requires-clause-few c =
+    few_by_text (form_with (header_text c.args.header) c.args.instance.now) c.args.text.now
+    (answer_of c.in-Ok.solved) c.in-Ok.ensures.read c.if-text-gt-ANSWER_LIMIT.false
 
 pub judge_solved-requires-clause-formed : goal.judge_solved-requires-clause-formed
-judge_solved-requires-clause-formed c = formed_any c.args.instance.now (header_text c.args.header) (codes "answer 1") c.in-Ok.ensures.read.formed
+judge_solved-requires-clause-formed c =
+    formed_any c.args.instance.now (header_text c.args.header) (codes "answer 1")
+    c.in-Ok.ensures.read.formed
 
 pub returns-in-Ok-clause-verdict : goal.returns-in-Ok-clause-verdict
 returns-in-Ok-clause-verdict c =
-    if_ok c.judge_solved.result _ _ (λ v found. found_verdict (form_with (header_text c.args.header) c.args.instance.now) (meanings kind_places kind_value c.args.instance.now.terms) c.args.sizes.now c.args.text.now (answer_of c.in-Ok.solved) (header_line c.args.header) c.tell_kept.ensures.named (fit (length c.args.instance.now.names) c.args.instance.now.terms c.tell_kept.ensures.bounded) c.requires.sizes c.in-Ok.ensures.read c.if-text-gt-ANSWER_LIMIT.false v (found (header_text c.args.header))) c.judge_solved.ensures
+    let instance = c.args.instance.now in
+    let header = header_text c.args.header in
+    let kept = c.tell_kept.ensures in
+    if_ok c.judge_solved.result _ _
+    (λ v found. found_verdict (form_with header instance)
+    (meanings kind_places kind_value instance.terms) c.args.sizes.now c.args.text.now
+    (answer_of c.in-Ok.solved) (header_line c.args.header) kept.named
+    (fit (length instance.names) instance.terms kept.bounded) c.requires.sizes c.in-Ok.ensures.read
+    c.if-text-gt-ANSWER_LIMIT.false v (found header))
+    c.judge_solved.ensures
 
 pub returns-in-Ok-clause-short : goal.returns-in-Ok-clause-short
-returns-in-Ok-clause-short c = if_ok c.judge_solved.result _ _ (λ v found valid. c.if-text-gt-ANSWER_LIMIT.false) c.judge_solved.ensures
+returns-in-Ok-clause-short c =
+    if_ok c.judge_solved.result _ _ (λ v found valid. c.if-text-gt-ANSWER_LIMIT.false)
+    c.judge_solved.ensures
 
 -- a text that is too long is not right
 pub returns-then-text-gt-ANSWER_LIMIT-clause-verdict : goal.returns-then-text-gt-ANSWER_LIMIT-clause-verdict
 returns-then-text-gt-ANSWER_LIMIT-clause-verdict c = (
   (λ r.
-      let l = right_short c.args.header c.args.instance.now c.args.sizes.now c.args.text.now c.tell_kept.ensures.named c.tell_kept.ensures.bounded c.requires.sizes r in
+      let kept = c.tell_kept.ensures in
+      let l = right_short c.args.header c.args.instance.now c.args.sizes.now c.args.text.now
+      kept.named kept.bounded c.requires.sizes r in
       let m = c.if-text-gt-ANSWER_LIMIT.true in
       omega (arith, l, m)),
   (refl, c.if-text-gt-ANSWER_LIMIT.true),

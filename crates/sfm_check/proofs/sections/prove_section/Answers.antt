@@ -1,4 +1,4 @@
-use Rattle.std.proofs.Common.{◌≡◌, ◌^◌, ◌≤ℤ◌, length, pos, arith, subst, sym, ap, ◌∙◌, FitsSigned}
+use Rattle.std.proofs.Common.{◌≡◌, ◌^◌, length, arith, subst, sym, ap, ◌∙◌, FitsSigned}
 use Rattle.std.proofs.lemmas.List.{length-map}
 use Rattle.std.proofs.lemmas.Int.{ints, to_z-of_z}
 use mir.Syntax.{w128}
@@ -19,14 +19,16 @@ shift_by-requires-clause-sizes c = rw c.requires.sizes.places c.requires.sizes
 
 pub shift_by-requires-clause-small : goal.shift_by-requires-clause-small
 shift_by-requires-clause-small c =
-    let entry = (formed_parts c.requires.formed c.requires.at c.section_of-section.ensures).entry in
+    let f = formed_parts c.requires.formed c.requires.at c.section_of-section.ensures in
+    let entry = f.entry in
     let fn : FitsSigned w128 c.section_of-section.result.num = omega (arith, ints, entry) in
     simp to_z-of_z entry
 
 -- the shift is p for each unit of size
 shift : (c : After-deref) → c.deref.result.now ≡ sized_shift c.args.sizes.now c.section_of-section.result.num
 shift c =
-    let entry = (formed_parts c.requires.formed c.requires.at c.section_of-section.ensures).entry in
+    let f = formed_parts c.requires.formed c.requires.at c.section_of-section.ensures in
+    let entry = f.entry in
     let fn : FitsSigned w128 c.section_of-section.result.num = omega (arith, ints, entry) in
     c.deref.ensures.value ∙ simp to_z-of_z at c.in_ok-shift.ensures
 
@@ -37,19 +39,23 @@ certify_at-requires-clause-each c =
 
 pub certify_at-requires-clause-shifts : goal.certify_at-requires-clause-shifts
 certify_at-requires-clause-shifts c =
-    let entry = (formed_parts c.requires.formed c.requires.at c.section_of-section.ensures).entry in
+    let f = formed_parts c.requires.formed c.requires.at c.section_of-section.ensures in
+    let entry = f.entry in
     let is = shift (goal.at.certify_at-requires-clause-shifts c).After-deref in
-    rw is (sized-small (10 ^ 30) (length c.args.instance.now.names) c.args.sizes.now c.section_of-section.result.num entry c.requires.sizes)
+    rw is (sized-small (10 ^ 30) (length c.args.instance.now.names) c.args.sizes.now
+    c.section_of-section.result.num entry c.requires.sizes)
 
 pub certify_at-requires-clause-small : goal.certify_at-requires-clause-small
-certify_at-requires-clause-small c = (formed_parts c.requires.formed c.requires.at c.section_of-section.ensures).rows.small
+certify_at-requires-clause-small c =
+    (formed_parts c.requires.formed c.requires.at c.section_of-section.ensures).rows.small
 
 pub certify_at-requires-clause-bases : goal.certify_at-requires-clause-bases
 certify_at-requires-clause-bases c =
     let f = formed_parts c.requires.formed c.requires.at c.section_of-section.ensures in
     let factor = f.factor in
     let fd : FitsSigned w128 c.section_of-section.result.den = omega (arith, ints, factor) in
-    rw c.terms.ensures.terms (simp to_z-of_z (part_bases c.args.instance.now c.requires.formed c.requires.bases c.requires.at c.section_of-section.ensures))
+    rw c.terms.ensures.terms (simp to_z-of_z (part_bases c.args.instance.now c.requires.formed
+    c.requires.bases c.requires.at c.section_of-section.ensures))
 
 pub returns : goal.returns
 returns c = λ p.
@@ -58,9 +64,11 @@ returns c = λ p.
     let section = c.section_of-section.result in
     let fd : FitsSigned w128 section.den = omega (arith, ints, factor) in
     let is = shift (goal.at.returns c).After-deref in
-    let raw = rw (c.in-NotOptimal.is, c.terms.ensures.terms, c.names_len.ensures.len, is) at c.in_ok-found.ensures.exact in
+    let found = c.in_ok-found.ensures.exact in
+    let raw = rw (c.in-NotOptimal.is, c.terms.ensures.terms, c.names_len.ensures.len, is) at found in
     let never = simp to_z-of_z at raw.1 in
-    never (rw (c.section_of-section.ensures.num_is, c.section_of-section.ensures.den_is, c.section_of-section.ensures.rows_are) at p.proves)
+    let parts = c.section_of-section.ensures in
+    never (rw (parts.num_is, parts.den_is, parts.rows_are) at p.proves)
 
 pub returns-in-Proved : goal.returns-in-Proved
 returns-in-Proved c =
@@ -70,21 +78,34 @@ returns-in-Proved c =
     let num = c.section_of-section.result.num in
     let den = c.section_of-section.result.den in
     let rows = c.section_of-section.result.bases.now in
-    let factor = (formed_parts c.requires.formed c.requires.at c.section_of-section.ensures).factor in
+    let f = formed_parts c.requires.formed c.requires.at c.section_of-section.ensures in
+    let factor = f.factor in
     let fd : FitsSigned w128 den = omega (arith, ints, factor) in
     let is = shift (goal.at.returns-in-Proved c).After-deref in
-    let bases = part_bases c.args.instance.now c.requires.formed c.requires.bases c.requires.at c.section_of-section.ensures in
-    let exact = rw (c.in-Proved.is, c.terms.ensures.terms, c.names_len.ensures.len, is) at c.in_ok-found.ensures.exact in
+    let bases = part_bases c.args.instance.now c.requires.formed c.requires.bases c.requires.at
+    c.section_of-section.ensures in
+    let exact = rw (c.in-Proved.is, c.terms.ensures.terms, c.names_len.ensures.len, is)
+    at c.in_ok-found.ensures.exact in
     let proves : Prove ms n den (sized_shift sizes num) rows = simp to_z-of_z at (exact.0 tt) in
-    let answer = rw (c.in-Proved.is, c.terms.ensures.terms, c.names_len.ensures.len, is) at c.in_ok-found.ensures.answer in
-    let told : IsAnswer ms n den (sized_shift sizes num) rows (Proves c.in-Proved.found) = simp to_z-of_z at answer in
+    let answer = rw (c.in-Proved.is, c.terms.ensures.terms, c.names_len.ensures.len, is)
+    at c.in_ok-found.ensures.answer in
+    let found = c.in-Proved.found in
+    let told : IsAnswer ms n den (sized_shift sizes num) rows (Proves found) =
+    simp to_z-of_z at answer in
     let plain : Section = record { num = num; den = den; bases = rows } in
-    let here : IsToldOf ms n sizes plain c.in-Proved.found = record { proved = record { bases = bases; proves = proves }; least = told.0; greatest = told.1; value = told.2 } in
-    let same : section_at (answer_of c.args.solved.now) c.args.s ≡ plain = same_section (section_at (answer_of c.args.solved.now) c.args.s) num den rows c.section_of-section.ensures in
-    subst (λ (z : Section). IsToldOf ms n sizes z c.in-Proved.found) (sym same) here
+    let here : IsToldOf ms n sizes plain found = record {
+      proved = record { bases = bases; proves = proves };
+      least = told.0;
+      greatest = told.1;
+      value = told.2;
+    } in
+    let at = section_at (answer_of c.args.solved.now) c.args.s in
+    let same : at ≡ plain = same_section at num den rows c.section_of-section.ensures in
+    subst (λ (z : Section). IsToldOf ms n sizes z found) (sym same) here
 
 pub certify_at-requires-clause-factor : goal.certify_at-requires-clause-factor
 certify_at-requires-clause-factor c =
-    let factor = (formed_parts c.requires.formed c.requires.at c.section_of-section.ensures).factor in
+    let f = formed_parts c.requires.formed c.requires.at c.section_of-section.ensures in
+    let factor = f.factor in
     let fd : FitsSigned w128 c.section_of-section.result.den = omega (arith, ints, factor) in
     simp to_z-of_z factor

@@ -1,4 +1,4 @@
-use Rattle.std.proofs.Common.{◌≡◌, ◌<◌, ◌≤◌, ◌^◌, ℕ, List, [], ◌∷◌, length, map, get_or, ℤ, pos, ◌≤ℤ◌, sym, ap, ◌∙◌, rules, arith, FitsSigned}
+use Rattle.std.proofs.Common.{◌≡◌, ◌<◌, ◌^◌, ℕ, List, [], ◌∷◌, length, map, get_or, ℤ, pos, ◌≤ℤ◌, sym, ap, ◌∙◌, rules, arith, FitsSigned}
 use Rattle.std.proofs.lemmas.Int.{ints, to_z-of_z}
 use Rattle.std.proofs.lemmas.List.{get_or_default, length-map}
 use mir.Syntax.{w128}
@@ -32,7 +32,9 @@ shift-places c = ap length (shift c) ∙ (length-map c.args.sizes.now _ ∙ c.re
 
 -- its magnitudes are small
 shift-small : (c : After-deref) → magnitudes c.deref.result.now ≤ℤ pos (10 ^ 36)
-shift-small c = rw (shift c) (sized-small (10 ^ 30) (length c.args.instance.now.names) c.args.sizes.now c.args.num c.requires.entry c.requires.sizes)
+shift-small c =
+    rw (shift c) (sized-small (10 ^ 30) (length c.args.instance.now.names) c.args.sizes.now c.args.num
+    c.requires.entry c.requires.sizes)
 
 pub rest_of-requires-clause-placed : goal.rest_of-requires-clause-placed
 rest_of-requires-clause-placed c = rw (c.terms.ensures.terms, shift-places (goal.at.rest_of-requires-clause-placed c).After-deref) c.terms.ensures.bounded.placed
@@ -71,7 +73,9 @@ deficit_of-requires c =
     let path = (goal.at.deficit_of-requires c).After-deref in
     let places = shift-places path in
     let rest : IsRest (meanings kind_places kind_value ts) c.deref.result.now c.args.bases.now c.in_ok-z.z.items = rw c.terms.ensures.terms at c.in_ok-z.ensures in
-    rw c.deref-2.ensures.value (rest-total kind_places kind_value ts c.deref.result.now c.args.bases.now c.in_ok-z.z.items rest c.requires.bases.small b.few_places (omega (arith, few, places)) (shift-small path))
+    rw c.deref-2.ensures.value (rest-total kind_places kind_value ts c.deref.result.now
+    c.args.bases.now c.in_ok-z.z.items rest c.requires.bases.small b.few_places
+    (omega (arith, few, places)) (shift-small path))
 
 pub returns : goal.returns
 returns c =

@@ -11,7 +11,8 @@ use Rattle.sfm_extreme.proofs.extremes.certify_at.Goals.{After-told_by}
 
 -- what is told of the bases that were read is told of the bases themselves
 told : (g : given.Over) (c : After-told_by g) → let t = g.T.Term in let ts = meanings t.places t.value_of c.args.terms.now in
-    IfOk c.told_by.result (λ r. IsAnswer ts c.args.n c.args.q c.args.shift.now c.args.bases.now r × (IsProved r ↔ Prove ts c.args.n c.args.q c.args.shift.now c.args.bases.now))
+    IfOk c.told_by.result (λ r. IsAnswer ts c.args.n c.args.q c.args.shift.now c.args.bases.now r
+    × (IsProved r ↔ Prove ts c.args.n c.args.q c.args.shift.now c.args.bases.now))
 told g c =
     let fq : FitsSigned w128 c.args.q = c.ranges.q in
     rw (c.requires.each, c.in_ok-reading.ensures.bases) at (simp to_z-of_z at c.told_by.ensures)
@@ -23,7 +24,11 @@ pub told_by-requires-clause-small : goal.told_by-requires-clause-small
 told_by-requires-clause-small g c = rw c.in_ok-reading.ensures.bases c.requires.small
 
 pub returns-clause-answer : goal.returns-clause-answer
-returns-clause-answer g c = IfOk-weaker c.told_by.result _ _ (λ r h. h.0) (told g (goal.at.returns-clause-answer g c).After-told_by)
+returns-clause-answer g c =
+    IfOk-weaker c.told_by.result _ _ (λ r h. h.0)
+    (told g (goal.at.returns-clause-answer g c).After-told_by)
 
 pub returns-clause-exact : goal.returns-clause-exact
-returns-clause-exact g c = IfOk-weaker c.told_by.result _ _ (λ r h. h.1) (told g (goal.at.returns-clause-exact g c).After-told_by)
+returns-clause-exact g c =
+    IfOk-weaker c.told_by.result _ _ (λ r h. h.1)
+    (told g (goal.at.returns-clause-exact g c).After-told_by)
