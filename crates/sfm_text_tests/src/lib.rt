@@ -1,8 +1,10 @@
-// Tests of texts, answers and slopes, by their public calls.
+// Tests of texts, answers, minima and slopes, by their public calls.
 #![tactic(auto)]
 
 #[cfg(test)]
 mod cert;
+#[cfg(test)]
+mod shift;
 #[cfg(test)]
 mod slope;
 #[cfg(test)]

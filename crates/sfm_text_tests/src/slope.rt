@@ -2,7 +2,7 @@
 use sfm_base::Memory;
 use sfm_law::Break;
 use sfm_simple::{Cover, Weight};
-use sfm_slope::partition;
+use sfm_slope::{partition, partition_by};
 use std::alloc::Global;
 
 /// What a breakpoint tells: the numerator and the denominator of its slope, the size of its set, how many bases it has, and one
@@ -107,6 +107,66 @@ fn breaks_of_covers(alloc: Global) -> Result<Vec<Break>, Memory> {
     partition(alloc, &terms, 5)
 }
 
+/// Where b counts two, the turn between c and all looks at 2/3, and b and then a are the blocks.
+const BREAKS_OF_A_SIZED_WEIGHT: [Told; 3] = [
+    Told {
+        num: -2,
+        den: 1,
+        size: 1,
+        bases: 1,
+        number: 0,
+        base: &[1, 1, -2],
+    },
+    Told {
+        num: 1,
+        den: 2,
+        size: 2,
+        bases: 1,
+        number: 0,
+        base: &[2, 2, -4],
+    },
+    Told {
+        num: 1,
+        den: 1,
+        size: 3,
+        bases: 1,
+        number: 0,
+        base: &[1, 1, -2],
+    },
+];
+
+/// The breakpoints of weights, where the second element counts two.
+fn breaks_of_a_sized_weight(alloc: Global) -> Result<Vec<Break>, Memory> {
+    let terms = [Weight::new(alloc, &[0, 1, 2], &[1, 1, -2])?];
+    partition_by(alloc, &terms, 3, &[1, 2, 1])
+}
+
+/// All sizes together are as large as may be.
+const BREAKS_OF_A_LARGE_ELEMENT: [Told; 2] = [
+    Told {
+        num: -1,
+        den: 1,
+        size: 1,
+        bases: 1,
+        number: 0,
+        base: &[1, -1],
+    },
+    Told {
+        num: 1,
+        den: 999_999,
+        size: 2,
+        bases: 1,
+        number: 0,
+        base: &[999_999, -999_999],
+    },
+];
+
+/// The breakpoints of weights, where the first element counts 999,999.
+fn breaks_of_a_large_element(alloc: Global) -> Result<Vec<Break>, Memory> {
+    let terms = [Weight::new(alloc, &[0, 1], &[1, -1])?];
+    partition_by(alloc, &terms, 2, &[999_999, 1])
+}
+
 /// Whether there are breakpoints that tell this; no where memory lacks.
 fn is_parted(parted: Result<Vec<Break>, Memory>, told: &[Told]) -> bool {
     match parted {
@@ -120,6 +180,8 @@ fn are_parted(alloc: Global) -> bool {
     is_parted(breaks_of_nothing(alloc), &[])
         && is_parted(breaks_of_a_weight(alloc), &BREAKS_OF_A_WEIGHT)
         && is_parted(breaks_of_covers(alloc), &BREAKS_OF_COVERS)
+        && is_parted(breaks_of_a_sized_weight(alloc), &BREAKS_OF_A_SIZED_WEIGHT)
+        && is_parted(breaks_of_a_large_element(alloc), &BREAKS_OF_A_LARGE_ELEMENT)
 }
 
 #[test]
