@@ -1,0 +1,8 @@
+pub mod Numbers
+pub mod Side
+pub mod Frame
+pub mod Sizes
+pub mod Passes
+pub mod SizeLines
+pub mod Pins
+pub mod PinLines

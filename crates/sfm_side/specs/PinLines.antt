@@ -1,0 +1,66 @@
+-- The text of pins as it is read: the names of a line are put one after another.
+use Rattle.std.specs.Prelude.{◌≡◌, ◌≢◌, ◌⊎◌, ℕ, Bool, true, List, [], ◌∷◌, length, codes, slice_get, slice_set, Some, Option, Any, MatchOption}
+use Rattle.std.specs.List.{All}
+use Rattle.sfm_spec.specs.Sets.{Has}
+use Rattle.sfm_lines.specs.declared.reason.Reason.{Reason}
+use Rattle.sfm_lines.specs.Parts.{IsMark}
+use Rattle.sfm_lines.specs.ReadParts.{IsKnown}
+use Rattle.sfm_text.specs.Language.{IsFirstOf}
+use Rattle.sfm_side.specs.declared.pins.Pins.{Pins}
+use Rattle.sfm_side.specs.declared.pins.Side.{Side}
+use Rattle.sfm_side.specs.declared.pins.Side.TheVariants.{In, Out}
+use Rattle.sfm_side.specs.Pins.{PinData, HasPin}
+
+-- what is read of pins
+abbrev pub pins_of : Pins → PinData
+pins_of pins = record { inside = pins.inside; outside = pins.outside }
+
+-- both sets are of n elements
+pub record AreOver (n : ℕ) (pins : PinData) : Type 0 where
+  pub inside : length pins.inside ≡ n
+  pub outside : length pins.outside ≡ n
+
+-- the word of a line
+abbrev pub side_word : Side → List ℕ
+side_word In = codes "in"
+side_word Out = codes "out"
+
+-- the set that a line adds to, and the other
+abbrev pub to_of : Side → PinData → List Bool
+to_of In p = p.inside
+to_of Out p = p.outside
+
+abbrev pub other_of : Side → PinData → List Bool
+other_of In p = p.outside
+other_of Out p = p.inside
+
+-- each name is of an element that is in neither set, and puts it into the first
+abbrev pub PutsNames : List (List ℕ) → (to other : List Bool) → List (List ℕ) → List Bool → Type 0
+PutsNames names to other [] after = after ≡ to
+PutsNames names to other (text ∷ texts) after = (e : ℕ) × (slice_get names e ≡ Some text)
+    × (Has to e → ⊥) × (Has other e → ⊥) × PutsNames names (slice_set to e true) other texts after
+
+-- one name is of an element that is in one of the sets already
+abbrev pub PutsAgain : List (List ℕ) → (to other : List Bool) → List (List ℕ) → Type 0
+PutsAgain names to other [] = ⊥
+PutsAgain names to other (text ∷ texts) = (e : ℕ) × (slice_get names e ≡ Some text)
+    × ((Has to e ⊎ Has other e)
+    ⊎ ((Has to e → ⊥) × (Has other e → ⊥) × PutsAgain names (slice_set to e true) other texts))
+
+-- the texts are names of elements, at least one, and none is a mark
+pub record AreNamesGood (names texts : List (List ℕ)) : Type 0 where
+  pub some : texts ≢ []
+  pub unmarked : Any IsMark texts → ⊥
+  pub known : All (IsKnown names) texts
+
+-- so they are, or a line of them has that reason first, whatever is pinned
+abbrev pub AreNamesTold : List (List ℕ) → List (List ℕ) → Option Reason → Type 0
+AreNamesTold names texts result = MatchOption result (AreNamesGood names texts)
+    (λ reason. (p : PinData) (side : Side)
+    → IsFirstOf (HasPin names p (side_word side ∷ texts)) reason)
+
+-- the names are put into the set of their side, and the other stays
+pub record PutsSide (names : List (List ℕ)) (side : Side) (p : PinData) (texts : List (List ℕ))
+    (q : PinData) : Type 0 where
+  pub puts : PutsNames names (to_of side p) (other_of side p) texts (to_of side q)
+  pub other : other_of side q ≡ other_of side p
