@@ -1,0 +1,100 @@
+// Texts of pins.
+use crate::rows::{instance_of, is_fault, text_of};
+use sfm_base::Set;
+use sfm_kind::Instance;
+use sfm_side::{Pins, read_pins};
+use std::alloc::Global;
+use std::process::Abort;
+
+/// Whether a set of the elements a, b and c has those that are listed.
+fn has_listed(set: &Set, list: &str) -> bool {
+    set.len() == 3
+        && set.contains(0) == list.contains('a')
+        && set.contains(1) == list.contains('b')
+        && set.contains(2) == list.contains('c')
+}
+
+/// Whether the pins are those that are listed, with a `/` between the members and the others.
+fn are_listed(pins: &Pins, list: &str) -> bool {
+    let (inside, outside) = list.split_once('/').unwrap_or((list, ""));
+    has_listed(&pins.inside, inside) && has_listed(&pins.outside, outside)
+}
+
+/// Whether a text gives what is told: pins behind `=`, or else its first fault.
+fn is_told(alloc: Global, instance: &Instance, text: &[u8], told: &str) -> bool {
+    match read_pins(alloc, instance, text) {
+        Ok(pins) => match told.strip_prefix("=") {
+            Some(list) => are_listed(&pins, list),
+            None => false,
+        },
+        Err(end) => is_fault(end, told),
+    }
+}
+
+/// Whether a row holds: what is told of a text, and behind an arrow that text.
+fn is_row(alloc: Global, instance: &Instance, row: &str) -> bool {
+    let (told, text) = row.split_once('>').unwrap_or((row, ""));
+    match text_of(alloc, text) {
+        Some(text) => is_told(alloc, instance, text.as_bytes(), told),
+        None => false,
+    }
+}
+
+/// Whether all rows hold, over a ground of a, b and c.
+fn are_rows(alloc: Global, rows: &[&str]) -> bool {
+    let Some(instance) = instance_of(alloc, "ground a b c") else {
+        return false;
+    };
+    for row in rows {
+        if !is_row(alloc, &instance, row) {
+            return false;
+        }
+    }
+    true
+}
+
+/// The frame of the text.
+const FRAMES: [&str; 11] = [
+    "1 short>",
+    "1 word>sizes 1",
+    "1 shape>pins",
+    "1 shape>pins 2",
+    "1 shape>pins 1 x",
+    "2 shape>pins 1|end x",
+    "3 word>pins 1|end|in z",
+    "=/>pins 1|end|# x",
+    "2 word>pins 1|at a",
+    "2 word>pins 1|pins 1",
+    "2 short>pins 1",
+];
+
+#[test]
+fn a_text_of_pins_has_its_frame(rt: HostRuntime) {
+    assert!(rt; are_rows(rt.alloc(), &FRAMES));
+}
+
+/// The lines of the text.
+const LINES: [&str; 17] = [
+    "=a/b>pins 1|in a|out b|end",
+    "=/a>pins 1|out a|end",
+    "=ab/c>pins 1|in b|out c|in a|end",
+    "=abc/>pins 1|in c a b|end",
+    "=/>pins 1|end",
+    "3 twice>pins 1|in a|out a|end",
+    "3 twice>pins 1|in a|in a|end",
+    "3 twice>pins 1|out a|in b a|end",
+    "2 twice>pins 1|in a a|end",
+    "2 shape>pins 1|in|end",
+    "2 shape>pins 1|in :|end",
+    "2 shape>pins 1|out a ;|end",
+    "2 name>pins 1|in z|end",
+    "2 name>pins 1|in a:1|end",
+    "2 name>pins 1|out a-b|end",
+    "2 name>pins 1|in z z|end",
+    "2 word>pins 1|inside a|end",
+];
+
+#[test]
+fn lines_of_pins_have_their_reasons(rt: HostRuntime) {
+    assert!(rt; are_rows(rt.alloc(), &LINES));
+}
