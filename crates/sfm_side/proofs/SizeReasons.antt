@@ -23,10 +23,10 @@ use Rattle.sfm_passes.proofs.Passed.{all-matched, matched-each, matched-one}
 use Rattle.sfm_text.specs.Language.{IsFirstOf}
 use Rattle.sfm_text.proofs.Orders.{first_listed}
 use Rattle.sfm_side.specs.declared.passes.TokenTest.TheVariants.{Pair, PairSize, PairElement}
-use Rattle.sfm_side.specs.Frame.{IsFramed}
+use Rattle.sfm_side.specs.Frame.{IsFramed, IsSaid}
 use Rattle.sfm_side.specs.Sizes.{IsSize, IsSizeLine, HasSizeLine, GivesSizes, HasInSizes, sizes_of, sizes_form}
 use Rattle.sfm_side.specs.Passes.{Passes}
-use Rattle.sfm_side.specs.SizeLines.{Puts, PutsTwice, ArePairsGood, IsSaid}
+use Rattle.sfm_side.specs.SizeLines.{Puts, PutsTwice, ArePairsGood}
 use Rattle.sfm_side.proofs.Putting.{names_in, numbers_in, puts-parts, puts-new, puts-once, twice-parts}
 
 -- a form of sizes tells nothing that the frame tells, and of the end no more than that it is no size line

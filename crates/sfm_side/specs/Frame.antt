@@ -1,6 +1,6 @@
 -- What a frame tells of the lines of a side text: which line opens it, which line of the form comes next, where it ends,
 -- and the faults that every form has in common.
-use Rattle.std.specs.Prelude.{◌≡◌, ◌≢◌, ℕ, ◌+◌, ◌<◌, ◌≤◌, List, [], ◌∷◌, ◌++◌, length, map, Any, codes}
+use Rattle.std.specs.Prelude.{◌≡◌, ◌≢◌, ℕ, ◌+◌, ◌<◌, ◌≤◌, List, [], ◌∷◌, ◌++◌, length, map, Any, codes, Option, MatchOption}
 use Rattle.std.specs.List.{FoldsTo}
 use Rattle.sfm_lines.specs.declared.reason.Reason.{Reason}
 use Rattle.sfm_lines.specs.declared.reason.Reason.TheVariants.{Long, Bytes, Word, Shape, Short}
@@ -9,7 +9,7 @@ use Rattle.sfm_lines.specs.Reading.{IsBadByte, reason_order}
 use Rattle.sfm_text.specs.declared.end.TextEnd.{TextEnd}
 use Rattle.sfm_text.specs.declared.end.TextEnd.TheVariants.{Refused, Memory}
 use Rattle.sfm_text.specs.Cursor.{content_left, text_of}
-use Rattle.sfm_text.specs.Language.{text_limit}
+use Rattle.sfm_text.specs.Language.{text_limit, IsFirstOf}
 use Rattle.sfm_side.specs.declared.frame.Frame.{Frame}
 use Rattle.sfm_side.specs.declared.frame.Due.{Due}
 use Rattle.sfm_side.specs.declared.frame.Due.TheVariants.{Inner, End, Faulty}
@@ -125,3 +125,14 @@ pub record IsReadTo {D : Type 0} (form : SideForm D) (text : List ℕ) (left : L
   pub done : List (ℕ × List ℕ)
   pub content : content_of text ≡ done ++ left
   pub good : FoldsTo (side_language form).Takes header (map (λ line. line.1) done) (lines d)
+
+-- the line with these tokens has no reason, and is said by a form to lead from d to said
+pub record IsSaid {D : Type 0} (form : SideForm D) (d : D) (tokens : List (List ℕ)) (said : D)
+    : Type 0 where
+  pub good : (reason : Reason) → form.HasIn d tokens reason → ⊥
+  pub says : form.Says d tokens said
+
+-- a line with these tokens is taken, or has that reason first
+abbrev pub IsTold : {D : Type 0} → SideForm D → D → List (List ℕ) → Option Reason → D → Type 0
+IsTold form d tokens result said =
+    MatchOption result (IsSaid form d tokens said) (IsFirstOf (form.HasIn d tokens))

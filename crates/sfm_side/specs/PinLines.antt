@@ -7,8 +7,8 @@ use Rattle.sfm_lines.specs.Parts.{IsMark}
 use Rattle.sfm_lines.specs.ReadParts.{IsKnown}
 use Rattle.sfm_text.specs.Language.{IsFirstOf}
 use Rattle.sfm_side.specs.declared.pins.Pins.{Pins}
-use Rattle.sfm_side.specs.declared.pins.Side.{Side}
-use Rattle.sfm_side.specs.declared.pins.Side.TheVariants.{In, Out}
+use Rattle.sfm_side.specs.declared.pins.Pin.{Pin}
+use Rattle.sfm_side.specs.declared.pins.Pin.TheVariants.{In, Out}
 use Rattle.sfm_side.specs.Pins.{PinData, HasPin}
 
 -- what is read of pins
@@ -21,16 +21,16 @@ pub record AreOver (n : ℕ) (pins : PinData) : Type 0 where
   pub outside : length pins.outside ≡ n
 
 -- the word of a line
-abbrev pub side_word : Side → List ℕ
-side_word In = codes "in"
-side_word Out = codes "out"
+abbrev pub pin_word : Pin → List ℕ
+pin_word In = codes "in"
+pin_word Out = codes "out"
 
 -- the set that a line adds to, and the other
-abbrev pub to_of : Side → PinData → List Bool
+abbrev pub to_of : Pin → PinData → List Bool
 to_of In p = p.inside
 to_of Out p = p.outside
 
-abbrev pub other_of : Side → PinData → List Bool
+abbrev pub other_of : Pin → PinData → List Bool
 other_of In p = p.outside
 other_of Out p = p.inside
 
@@ -56,11 +56,11 @@ pub record AreNamesGood (names texts : List (List ℕ)) : Type 0 where
 -- so they are, or a line of them has that reason first, whatever is pinned
 abbrev pub AreNamesTold : List (List ℕ) → List (List ℕ) → Option Reason → Type 0
 AreNamesTold names texts result = MatchOption result (AreNamesGood names texts)
-    (λ reason. (p : PinData) (side : Side)
-    → IsFirstOf (HasPin names p (side_word side ∷ texts)) reason)
+    (λ reason. (p : PinData) (pin : Pin)
+    → IsFirstOf (HasPin names p (pin_word pin ∷ texts)) reason)
 
--- the names are put into the set of their side, and the other stays
-pub record PutsSide (names : List (List ℕ)) (side : Side) (p : PinData) (texts : List (List ℕ))
+-- the names are put into the set of their pin, and the other stays
+pub record PutsPins (names : List (List ℕ)) (pin : Pin) (p : PinData) (texts : List (List ℕ))
     (q : PinData) : Type 0 where
-  pub puts : PutsNames names (to_of side p) (other_of side p) texts (to_of side q)
-  pub other : other_of side q ≡ other_of side p
+  pub puts : PutsNames names (to_of pin p) (other_of pin p) texts (to_of pin q)
+  pub other : other_of pin q ≡ other_of pin p

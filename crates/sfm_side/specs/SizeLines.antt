@@ -6,7 +6,6 @@ use Rattle.std.specs.List.{All}
 use Rattle.sfm_lines.specs.declared.reason.Reason.{Reason}
 use Rattle.sfm_lines.specs.Parts.{IsPairToken}
 use Rattle.sfm_text.specs.Language.{IsFirstOf}
-use Rattle.sfm_side.specs.Side.{SideForm}
 use Rattle.sfm_side.specs.Sizes.{IsSize, HasInSizes}
 use Rattle.sfm_side.specs.Passes.{Passes}
 use Rattle.sfm_side.specs.declared.passes.TokenTest.TheVariants.{Pair, PairSize, PairElement}
@@ -60,14 +59,3 @@ abbrev pub ArePairsTold : List (List ℕ) → List (List ℕ) → Option Reason 
 ArePairsTold names rest result = MatchOption result (ArePairsGood names rest)
     (λ reason. (given : List (Option ℤ))
     → IsFirstOf (HasInSizes names given (codes "size" ∷ rest)) reason)
-
--- the line with these tokens has no reason, and is said by a form to lead from d to said
-pub record IsSaid {D : Type 0} (form : SideForm D) (d : D) (tokens : List (List ℕ)) (said : D)
-    : Type 0 where
-  pub good : (reason : Reason) → form.HasIn d tokens reason → ⊥
-  pub says : form.Says d tokens said
-
--- a line with these tokens is taken, or has that reason first
-abbrev pub IsTold : {D : Type 0} → SideForm D → D → List (List ℕ) → Option Reason → D → Type 0
-IsTold form d tokens result said =
-    MatchOption result (IsSaid form d tokens said) (IsFirstOf (form.HasIn d tokens))

@@ -4,8 +4,8 @@
 ghost use Rattle.std.specs.{Prelude.{◌≡◌, ◌≢◌, ◌∷◌, ℕ, Bool, List, length, IfOk, IfErr, MatchBool, MatchOption}, List.{All}};
 ghost use Rattle.sfm_lines.specs.{Lines.{tokens_of}, ReadParts.{IsKnown}};
 ghost use Rattle.sfm_text.specs.Language.{IsReadAs, IsRefusalIn};
-ghost use Rattle.sfm_side.specs.declared.pins.Side.{Side};
-ghost use Rattle.sfm_side.specs.{Side.{side_language, ended}, Pins.{pins_form}, PinLines.{pins_of, side_word, to_of, other_of, AreOver, PutsNames, PutsAgain, PutsSide, AreNamesTold}, SizeLines.{IsTold}};
+ghost use Rattle.sfm_side.specs.declared.pins.Pin.{Pin};
+ghost use Rattle.sfm_side.specs.{Side.{side_language, ended}, Frame.{IsTold}, Pins.{pins_form}, PinLines.{pins_of, pin_word, to_of, other_of, AreOver, PutsNames, PutsAgain, PutsPins, AreNamesTold}};
 
 use crate::frame::Frame;
 use crate::passes::{TokenTest, all_pass};
@@ -25,22 +25,22 @@ pub struct Pins {
 
 /// Which of the two a line pins.
 #[derive(Clone, Copy)]
-enum Side {
+enum Pin {
     In,
     Out,
 }
 
 /// What the first token of a line says that it pins, and the line behind it; None where it is another token.
-fn side_of(line: &[u8]) -> Option<(Side, &[u8])>
+fn pin_of(line: &[u8]) -> Option<(Pin, &[u8])>
     ensures { MatchOption result
-        ((side : Side) (rest : List (List ℕ)) → tokens_of line.now ≢ side_word side ∷ rest)
-        (λ r. tokens_of line.now ≡ side_word r.0 ∷ tokens_of r.1.now) }
+        ((pin : Pin) (rest : List (List ℕ)) → tokens_of line.now ≢ pin_word pin ∷ rest)
+        (λ r. tokens_of line.now ≡ pin_word r.0 ∷ tokens_of r.1.now) }
 {
     if let Some(rest) = behind(b"in", line) {
-        return Some((Side::In, rest));
+        return Some((Pin::In, rest));
     }
     if let Some(rest) = behind(b"out", line) {
-        return Some((Side::Out, rest));
+        return Some((Pin::Out, rest));
     }
     None
 }
@@ -88,20 +88,20 @@ fn put_names(instance: &Instance, to: &mut Set, other: &Set, line: &[u8]) -> boo
     true
 }
 
-/// Whether each name of a line is of an element that is not pinned; each is then put into the set of that side.
-fn put_side(instance: &Instance, pins: &mut Pins, side: Side, line: &[u8]) -> bool
+/// Whether each name of a line is of an element that is not pinned; each is then put into the set of that pin.
+fn put_pins(instance: &Instance, pins: &mut Pins, pin: Pin, line: &[u8]) -> bool
     requires over { AreOver (length instance.now.names) (pins_of pins.old) }
     requires known { All (IsKnown instance.now.names) (tokens_of line.now) }
     ensures put { MatchBool result
-        (PutsSide instance.now.names side (pins_of pins.old) (tokens_of line.now)
+        (PutsPins instance.now.names pin (pins_of pins.old) (tokens_of line.now)
         (pins_of pins.new))
-        (PutsAgain instance.now.names (to_of side (pins_of pins.old))
-        (other_of side (pins_of pins.old)) (tokens_of line.now)) }
+        (PutsAgain instance.now.names (to_of pin (pins_of pins.old))
+        (other_of pin (pins_of pins.old)) (tokens_of line.now)) }
     ensures over { AreOver (length instance.now.names) (pins_of pins.new) }
 {
-    match side {
-        Side::In => put_names(instance, &mut pins.inside, &pins.outside, line),
-        Side::Out => put_names(instance, &mut pins.outside, &pins.inside, line),
+    match pin {
+        Pin::In => put_names(instance, &mut pins.inside, &pins.outside, line),
+        Pin::Out => put_names(instance, &mut pins.outside, &pins.inside, line),
     }
 }
 
@@ -112,14 +112,14 @@ fn take_line(instance: &Instance, pins: &mut Pins, line: &[u8]) -> Option<Reason
         result (pins_of pins.new) }
     ensures over { AreOver (length instance.now.names) (pins_of pins.new) }
 {
-    let Some((side, rest)) = side_of(line) else {
+    let Some((pin, rest)) = pin_of(line) else {
         return Some(Reason::Word);
     };
     if let Some(reason) = names_reason(instance, rest) {
         return Some(reason);
     }
     let _count = instance.names_len();
-    if !put_side(instance, pins, side, rest) {
+    if !put_pins(instance, pins, pin, rest) {
         return Some(Reason::Twice);
     }
     None

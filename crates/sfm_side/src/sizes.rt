@@ -8,7 +8,7 @@ ghost use Rattle.sfm_kind.specs.Names.{AreElementNames};
 ghost use Rattle.sfm_lines.specs.{Lines.{tokens_of}, Reading.{IsBadByte}};
 ghost use Rattle.sfm_text.specs.Language.{IsReadAs, IsRefusalIn, IsFirstOf};
 ghost use Rattle.sfm_sizes.specs.Sizes.{AreElementSizes};
-ghost use Rattle.sfm_side.specs.{Side.{side_language, ended}, Sizes.{sizes_of, sizes_form}, SizeLines.{given_of, count_of, AreKept, IsSizePair, Puts, PutsTwice, ArePairsTold, IsTold}, Passes.{Passes}};
+ghost use Rattle.sfm_side.specs.{Side.{side_language, ended}, Frame.{IsTold}, Sizes.{sizes_of, sizes_form}, SizeLines.{given_of, count_of, AreKept, IsSizePair, Puts, PutsTwice, ArePairsTold}, Passes.{Passes}};
 ghost use Rattle.sfm_side.specs.declared.passes.TokenTest.TheVariants.{Pair, PairSize, PairElement};
 
 use crate::frame::Frame;
