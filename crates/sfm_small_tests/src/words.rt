@@ -8,7 +8,7 @@ fn asks_for<'a>(alloc: Global, words: &'a [&'a str], wanted: Result<Command<'a>,
 }
 
 /// Words, and the command that they ask for.
-const COMMANDS: [(&[&str], Command); 20] = [
+const COMMANDS: [(&[&str], Command); 25] = [
     (&["solve", "first"], Command::Solve { file: "first" }),
     (&["solve", "-"], Command::Solve { file: "-" }),
     (
@@ -68,6 +68,44 @@ const COMMANDS: [(&[&str], Command); 20] = [
     (&["demo", "+1"], Command::Demo { seed: 1 }),
     (&["demo", "--", "12"], Command::Demo { seed: 12 }),
     (&["demo", "12", "--"], Command::Demo { seed: 12 }),
+    (
+        &["weigh", "first", "second"],
+        Command::Weigh {
+            file: "first",
+            sizes: "second",
+        },
+    ),
+    (
+        &["weigh", "--", "-first", "-second"],
+        Command::Weigh {
+            file: "-first",
+            sizes: "-second",
+        },
+    ),
+    (
+        &["weighed", "first", "second", "third"],
+        Command::Weighed {
+            file: "first",
+            sizes: "second",
+            answer: "third",
+        },
+    ),
+    (
+        &["weighed", "weigh", "--", "-second", "-third"],
+        Command::Weighed {
+            file: "weigh",
+            sizes: "-second",
+            answer: "-third",
+        },
+    ),
+    (
+        &["weighed", "first", "second", "third", "--"],
+        Command::Weighed {
+            file: "first",
+            sizes: "second",
+            answer: "third",
+        },
+    ),
 ];
 
 #[test]
@@ -78,7 +116,7 @@ fn reads_the_words_of_a_command(rt: HostRuntime) {
 }
 
 /// Words that ask for none.
-const OTHER_WORDS: [&[&str]; 45] = [
+const OTHER_WORDS: [&[&str]; 57] = [
     &[],
     &[""],
     &["solve"],
@@ -124,6 +162,18 @@ const OTHER_WORDS: [&[&str]; 45] = [
     &["solve", "first", "-h"],
     &["-V"],
     &["--version"],
+    &["weigh"],
+    &["weigh", "first"],
+    &["weigh", "first", ""],
+    &["weigh", "first", "second", "third"],
+    &["weigh", "first", "-second"],
+    &["weighed", "first", "second"],
+    &["weighed", "", "second", "third"],
+    &["weighed", "first", "", "third"],
+    &["weighed", "first", "second", ""],
+    &["weighed", "first", "second", "third", "fourth"],
+    &["weighed", "first", "second", "third", "--help"],
+    &["weighe", "first", "second"],
 ];
 
 #[test]

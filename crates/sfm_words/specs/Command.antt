@@ -9,9 +9,9 @@ use Rattle.clap.specs.declared.error.kind.ErrorKind.{ErrorKind}
 use Rattle.clap.specs.declared.error.kind.ErrorKind.TheVariants.{OutOfMemory}
 use Rattle.sfm_words.specs.Line.{sfm_line}
 use Rattle.sfm_words.specs.Subcommand.{Maker, subcommands}
-pub use Rattle.sfm_words.specs.Subcommand.{Command, solve, check, demo, one, two, three, number}
+pub use Rattle.sfm_words.specs.Subcommand.{Command, solve, check, demo, weigh, weighed, one, two, three, number}
 use Rattle.sfm_words.specs.declared.command.Command.{Command as Read}
-use Rattle.sfm_words.specs.declared.command.Command.TheVariants.{Solve as ReadSolve, Check as ReadCheck, Demo as ReadDemo}
+use Rattle.sfm_words.specs.declared.command.Command.TheVariants.{Solve as ReadSolve, Check as ReadCheck, Demo as ReadDemo, Weigh as ReadWeigh, Weighed as ReadWeighed}
 use Rattle.sfm_words.specs.declared.command.Refusal.{Refusal}
 use Rattle.sfm_words.specs.declared.command.Refusal.TheVariants.{Memory, Usage}
 
@@ -20,6 +20,8 @@ abbrev pub command_of : Read → Command
 command_of (ReadSolve file) = solve file.now
 command_of (ReadCheck file answer) = check file.now answer.now
 command_of (ReadDemo seed) = demo seed
+command_of (ReadWeigh file sizes) = weigh file.now sizes.now
+command_of (ReadWeighed file sizes answer) = weighed file.now sizes.now answer.now
 
 -- ---- what clap finds in the words
 
@@ -66,8 +68,11 @@ IsFileName name = (0 < length name) × (slice_index name 0 ≢ 45)
 abbrev pub IsSeed : Text → ℕ → Type 0
 IsSeed text seed = (0 < length text) × (length text ≤ 9) × AllDigits 10 text × (digits_value 10 text ≡ seed)
 
--- the words are `solve FILE`, `check FILE ANSWER` or `demo SEED`
+-- the words are `solve FILE`, `check FILE ANSWER`, `demo SEED`, `weigh FILE SIZES` or `weighed FILE SIZES ANSWER`
 abbrev pub IsForm : List Text → Command → Type 0
 IsForm words (solve file) = (words ≡ codes "solve" ∷ file ∷ []) × IsFileName file
 IsForm words (check file answer) = (words ≡ codes "check" ∷ file ∷ answer ∷ []) × IsFileName file × IsFileName answer
 IsForm words (demo seed) = (text : Text) × (words ≡ codes "demo" ∷ text ∷ []) × IsSeed text seed
+IsForm words (weigh file sizes) = (words ≡ codes "weigh" ∷ file ∷ sizes ∷ []) × IsFileName file × IsFileName sizes
+IsForm words (weighed file sizes answer) = (words ≡ codes "weighed" ∷ file ∷ sizes ∷ answer ∷ [])
+    × IsFileName file × IsFileName sizes × IsFileName answer

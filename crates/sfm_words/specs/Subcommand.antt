@@ -2,11 +2,14 @@
 use Rattle.std.specs.Prelude.{ℕ, List, [], ◌∷◌, codes}
 use Rattle.clap.specs.Words.{Text}
 
--- to solve an instance, or to check an answer of one, each by the names of files; or a demonstration, on the instance of a seed
+-- to solve an instance, or to check an answer of one, each by the names of files; a demonstration, on the instance of a seed;
+-- or to weigh an instance by the sizes in a second file, or to check an answer of that
 pub data Command : Type 0 where
   solve : Text → Command
   check : Text → Text → Command
   demo : ℕ → Command
+  weigh : Text → Text → Command
+  weighed : Text → Text → Text → Command
 
 -- what follows the word of a subcommand, and the command that it makes: names of files, or a number, each in the argument
 -- of this name
@@ -22,4 +25,6 @@ subcommands =
     (codes "solve", one (codes "FILE") solve)
     ∷ (codes "check", two (codes "FILE") (codes "ANSWER") check)
     ∷ (codes "demo", number (codes "SEED") demo)
+    ∷ (codes "weigh", two (codes "FILE") (codes "SIZES") weigh)
+    ∷ (codes "weighed", three (codes "FILE") (codes "SIZES") (codes "ANSWER") weighed)
     ∷ []

@@ -10,11 +10,29 @@ use std::alloc::AllocError;
 #[derive(Clone, Copy, PartialEq, Eq)]
 pub enum Command<'a> {
     /// To solve the instance in a file.
-    Solve { file: &'a str },
+    Solve {
+        file: &'a str,
+    },
     /// To check the answer in a second file against the instance in the first.
-    Check { file: &'a str, answer: &'a str },
+    Check {
+        file: &'a str,
+        answer: &'a str,
+    },
     /// A demonstration, on the instance of a seed.
-    Demo { seed: u64 },
+    Demo {
+        seed: u64,
+    },
+    /// To weigh the instance in a file by the sizes in a second.
+    Weigh {
+        file: &'a str,
+        sizes: &'a str,
+    },
+    /// To check the answer in a third file against the instance in the first and the sizes in the second.
+    Weighed {
+        file: &'a str,
+        sizes: &'a str,
+        answer: &'a str,
+    },
 }
 
 /// Why no command was read.

@@ -53,6 +53,24 @@ fn two_names<'a>(
     one_name(alloc, verb, a)?.arg(required_word(alloc, b))
 }
 
+/// `VERB A B C`, where A, B and C are names of files.
+fn three_names<'a>(
+    alloc: Global,
+    verb: &'a str,
+    a: &'a str,
+    b: &'a str,
+    c: &'a str,
+) -> Result<Command<'a>, AllocError>
+    ensures app { IfOk result (λ line. app_of line
+        ≡ with_rule (with_rule (with_rule (new_app verb.entry.now)
+        (word_rule ValueParser.NonEmptyString a.entry.now))
+        (word_rule ValueParser.NonEmptyString b.entry.now))
+        (word_rule ValueParser.NonEmptyString c.entry.now)) }
+    ensures local { IfOk result (λ line. (fields_of line).has_globals ≡ false) }
+{
+    two_names(alloc, verb, a, b)?.arg(required_word(alloc, c))
+}
+
 /// `VERB A`, where A is a number.
 fn one_number<'a>(alloc: Global, verb: &'a str, a: &'a str) -> Result<Command<'a>, AllocError>
     ensures app { IfOk result (λ line. app_of line ≡ with_rule (new_app verb.entry.now)
@@ -91,5 +109,10 @@ pub(crate) fn command_line<'a>(alloc: Global) -> Result<Command<'a>, AllocError>
     let line = program(alloc);
     let line = with_line(line, one_name(alloc, "solve", "FILE"))?;
     let line = with_line(line, two_names(alloc, "check", "FILE", "ANSWER"))?;
-    with_line(line, one_number(alloc, "demo", "SEED"))
+    let line = with_line(line, one_number(alloc, "demo", "SEED"))?;
+    let line = with_line(line, two_names(alloc, "weigh", "FILE", "SIZES"))?;
+    with_line(
+        line,
+        three_names(alloc, "weighed", "FILE", "SIZES", "ANSWER"),
+    )
 }

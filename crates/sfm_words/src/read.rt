@@ -1,7 +1,7 @@
 // The command that the words ask for: the subcommand in clap's matches of them, with its arguments.
 ghost use Rattle.std.specs.Prelude.{◌≡◌, ◌≤◌, ℕ, List, [], true, codes, map, option_map, option_and_then, IfOk, IfErr, MatchResult};
 ghost use Rattle.clap.specs.Words.{HasMatchesOf, Text, fault_of, first_of, found_of, one_of, rows_of, subcommand_rows_of, takes};
-ghost use Rattle.sfm_words.specs.{Command.{Asks, IsForm, IsNotTaken, command_by, command_of, demo, made_of, number_of, two}, Command.{Command as Asked}, Line.{sfm_line}};
+ghost use Rattle.sfm_words.specs.{Command.{Asks, IsForm, IsNotTaken, command_by, command_of, demo, made_of, number_of, three, two}, Command.{Command as Asked}, Line.{sfm_line}};
 
 use crate::command::{Command, Refusal};
 use crate::line::command_line;
@@ -34,6 +34,23 @@ fn two_words_of<'a>(found: &ArgMatches<'a>, a: &str, b: &str) -> Option<(&'a str
     Some((x, y))
 }
 
+/// The words of three arguments.
+fn three_words_of<'a>(
+    found: &ArgMatches<'a>,
+    a: &str,
+    b: &str,
+    c: &str,
+) -> Option<(&'a str, &'a str, &'a str)>
+    ensures { (make : Text → Text → Text → Asked)
+        → option_map (λ words. make words.0.now words.1.now words.2.now) result
+        ≡ made_of (three a.now b.now c.now make) (rows_of (found_of found.now)) }
+{
+    let x = word_of(found, a)?;
+    let y = word_of(found, b)?;
+    let z = word_of(found, c)?;
+    Some((x, y, z))
+}
+
 /// The command of this name, by its matches.
 fn command_named<'a>(verb: &str, found: &ArgMatches<'a>) -> Option<Command<'a>>
     ensures { option_map command_of result ≡ command_by (verb.now, rows_of (found_of found.now)) }
@@ -50,6 +67,18 @@ fn command_named<'a>(verb: &str, found: &ArgMatches<'a>) -> Option<Command<'a>>
         "demo" => {
             let seed = number_of(found, "SEED")?;
             Some(Command::Demo { seed })
+        }
+        "weigh" => {
+            let (file, sizes) = two_words_of(found, "FILE", "SIZES")?;
+            Some(Command::Weigh { file, sizes })
+        }
+        "weighed" => {
+            let (file, sizes, answer) = three_words_of(found, "FILE", "SIZES", "ANSWER")?;
+            Some(Command::Weighed {
+                file,
+                sizes,
+                answer,
+            })
         }
         _ => None,
     }

@@ -5,4 +5,6 @@ pub returns : goal.returns
 returns c =
     let one = c.in_ok-line.ensures _ _ c.program-line.ensures c.one_name.ensures.app c.one_name.ensures.local in
     let two = c.in_ok-line-2.ensures _ _ one c.two_names.ensures.app c.two_names.ensures.local in
-    c.with_line-3.ensures _ _ two c.one_number.ensures.app c.one_number.ensures.local
+    let three = c.in_ok-line-3.ensures _ _ two c.one_number.ensures.app c.one_number.ensures.local in
+    let four = c.in_ok-line-4.ensures _ _ three c.two_names-2.ensures.app c.two_names-2.ensures.local in
+    c.with_line-5.ensures _ _ four c.three_names.ensures.app c.three_names.ensures.local
