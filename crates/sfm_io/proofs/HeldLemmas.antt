@@ -8,12 +8,14 @@ use Rattle.sfm_io.specs.HeldShelf.{HeldShelf, OpensHeld, ReadsHeld, after_call, 
 use Rattle.sfm_io.proofs.FaultLemmas.{Rose-counted, are_past_later, past-Contains}
 
 -- what a call keeps
-pub KeepsShelf-held : (before after : HeldShelf) (went : Bool) (rest : List ℕ) → after ≡ after_call before went rest → CountsOn before after → KeepsShelf (state_of before) (state_of after)
-KeepsShelf-held before after went rest change counts =
+pub KeepsShelf-held : (before after : HeldShelf) (went : Bool) (names : List (List ℕ)) (rest : List ℕ) → after ≡ after_call before went names rest → CountsOn before after
+    → KeepsShelf names (state_of before) (state_of after)
+KeepsShelf-held before after went names rest change counts =
     record {
       texts = ap (λ (s : HeldShelf). Some s.texts) change;
       faults = counts.faults;
       sound = λ past. subst (λ (failing : List ℕ). are_past failing after.calls ≡ true) (sym (ap (λ (s : HeldShelf). s.failing) change)) (are_past_later before.failing before.calls after.calls counts.calls past);
+      asked = ap (λ (s : HeldShelf). s.asked) change;
     }
 
 -- no call of a sound shelf is listed
@@ -29,7 +31,7 @@ Reads-held {before = before} {after = after} {old = old} {new = new} {result = O
     let given : take k new ≡ take k before.rest = ap (take k) h.bytes ∙ take_at (take k before.rest) (drop k old) k front in
     let left : after.rest ≡ drop k before.rest = ap (λ (s : HeldShelf). s.rest) h.change ∙ ap (λ n. drop n before.rest) (sym h.count) in
     record {
-      kept = KeepsShelf-held before after true _ h.change h.counts;
+      kept = KeepsShelf-held before after true _ _ h.change h.counts;
       count = omega (arith, parts);
       taken = sym (ap (λ xs. xs ++ after.rest) given ∙ ap (λ xs. take k before.rest ++ xs) left ∙ take-append-drop k before.rest);
       ends = λ none some. nil_from_length before.rest (omega (arith, h.count, none, some, parts, length-drop k old));
@@ -39,7 +41,7 @@ Reads-held {before = before} {after = after} {old = old} {new = new} {result = O
     }
 Reads-held {before = before} {after = after} {result = Err e} h piece =
     record {
-      kept = KeepsShelf-held before after false _ h.change h.counts;
+      kept = KeepsShelf-held before after false _ _ h.change h.counts;
       count = tt;
       taken = tt;
       ends = tt;
@@ -64,7 +66,7 @@ not_both (Some text) none some = cc none
 pub Opens-held : {T E : Type 0} {before after : HeldShelf} {name : List ℕ} {result : Result T E} → OpensHeld before name result after → Opens (state_of before) name result (state_of after)
 Opens-held {before = before} {after = after} {name = name} {result = Ok x} h =
     record {
-      kept = KeepsShelf-held before after true _ h.change h.counts;
+      kept = KeepsShelf-held before after true _ _ h.change h.counts;
       opened = λ texts told. let same : before.texts ≡ texts = cc told in
           subst (λ (ts : Texts). (text : List ℕ) × (text_of ts name ≡ Some text) × (Some after.rest ≡ Some text)) same (text_told before.texts name after.rest h.opens.1 (ap (λ (s : HeldShelf). s.rest) h.change));
       closed = tt;
@@ -73,7 +75,7 @@ Opens-held {before = before} {after = after} {name = name} {result = Ok x} h =
     }
 Opens-held {before = before} {after = after} {name = name} {result = Err e} h =
     record {
-      kept = KeepsShelf-held before after false _ h.change h.counts;
+      kept = KeepsShelf-held before after false _ _ h.change h.counts;
       opened = tt;
       closed = λ _ _. ap (λ (s : HeldShelf). Some s.rest) h.change;
       rose = subst (Rose before.faults) (sym (ap (λ (s : HeldShelf). s.faults) h.change)) (Rose-counted before.faults);

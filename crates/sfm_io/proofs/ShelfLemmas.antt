@@ -1,7 +1,7 @@
 -- Lemmas on shelves: one read after another.
-use Rattle.std.proofs.Common.{◌≡◌, ℕ, ◌+◌, ◌<◌, List, [], ◌++◌, length, drop, Option, Some, None, Ok, Err, refl, sym, ◌∙◌, ap, arith}
+use Rattle.std.proofs.Common.{◌≡◌, ℕ, ◌+◌, ◌<◌, List, [], ◌++◌, length, drop, Option, Some, None, Ok, Err, refl, sym, ◌∙◌, ap, arith, append_assoc}
 use Rattle.std.specs.Prelude.{IsSome}
-use Rattle.std.proofs.lemmas.List.{drop_at, length-append, nil_from_length}
+use Rattle.std.proofs.lemmas.List.{append-nil, drop_at, length-append, nil_from_length}
 use Rattle.std.proofs.KnownBytes.{Consumes-nil, Consumes-trans}
 use Rattle.std.specs.Io.KnownBytes.{Consumes, IsAtEnd}
 use Rattle.sfm_io.specs.Shelf.{ShelfState, KeepsShelf}
@@ -10,15 +10,20 @@ use Rattle.sfm_io.specs.declared.transfer.ReadEnd.{ReadEnd}
 use Rattle.sfm_io.specs.declared.transfer.ReadEnd.TheVariants.{Fault, Long, Memory}
 use Rattle.sfm_io.proofs.FaultLemmas.{Rose_later}
 
-pub KeepsShelf-refl : (s : ShelfState) → KeepsShelf s s
-KeepsShelf-refl s = record { texts = refl; faults = omega arith; sound = λ h. h }
+pub KeepsShelf-refl : (s : ShelfState) → KeepsShelf [] s s
+KeepsShelf-refl s = record { texts = refl; faults = omega arith; sound = λ h. h; asked = sym (append-nil s.asked) }
 
-pub KeepsShelf-trans : {a b c : ShelfState} → KeepsShelf a b → KeepsShelf b c → KeepsShelf a c
-KeepsShelf-trans h k = record { texts = k.texts ∙ h.texts; faults = omega arith; sound = λ s. k.sound (h.sound s) }
+pub KeepsShelf-trans : {a b c : ShelfState} (xs ys : List (List ℕ)) → KeepsShelf xs a b → KeepsShelf ys b c → KeepsShelf (xs ++ ys) a c
+KeepsShelf-trans {a = a} xs ys h k = record {
+  texts = k.texts ∙ h.texts;
+  faults = omega (arith, h.faults, k.faults);
+  sound = λ s. k.sound (h.sound s);
+  asked = k.asked ∙ ap (λ ns. ns ++ ys) h.asked ∙ append_assoc a.asked xs ys;
+}
 
 -- a shelf gave these bytes since it was `before`
 pub record HasRead (before : ShelfState) (bytes : List ℕ) (after : ShelfState) : Type 0 where
-  pub kept : KeepsShelf before after
+  pub kept : KeepsShelf [] before after
   pub taken : Consumes before.rest after.rest bytes
 
 pub HasRead-none : (s : ShelfState) → HasRead s [] s
@@ -28,7 +33,7 @@ HasRead-none s = record { kept = KeepsShelf-refl s; taken = Consumes-nil s.rest 
 pub HasRead-more : {before middle after : ShelfState} {had has : List ℕ} {most k : ℕ} → HasRead before had middle → ReadsOn middle had most (Ok k) has after → HasRead before has after
 HasRead-more {before = before} {middle = middle} {after = after} {had = had} h r =
     let (bytes, joined, taken) = r.taken in
-    record { kept = KeepsShelf-trans h.kept r.kept; taken = rw joined (Consumes-trans before.rest middle.rest after.rest had bytes h.taken taken) }
+    record { kept = KeepsShelf-trans [] [] h.kept r.kept; taken = rw joined (Consumes-trans before.rest middle.rest after.rest had bytes h.taken taken) }
 
 -- bytes that are told are the front of what was told
 pub Consumes-told : (a b : Option (List ℕ)) (bytes r : List ℕ) → Consumes a b bytes → a ≡ Some r → (left : List ℕ) × (r ≡ bytes ++ left) × (b ≡ Some left)

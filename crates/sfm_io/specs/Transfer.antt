@@ -36,7 +36,7 @@ IsStop before Memory after = ⊤
 
 -- one read of at most so many bytes, which are put behind those that were there
 pub record ReadsOn (before : ShelfState) (had : List ℕ) (most : ℕ) (result : Result ℕ ReadEnd) (has : List ℕ) (after : ShelfState) : Type 0 where
-  pub kept : KeepsShelf before after
+  pub kept : KeepsShelf [] before after
   pub count : IfOk result (λ k. (length has ≡ length had + k) × (k ≤ most))
   pub taken : OnOk result ((bytes : List ℕ) × (has ≡ had ++ bytes) × Consumes before.rest after.rest bytes)
   pub ends : IfOk result (λ k. k ≡ 0 → IsAtEnd before.rest)

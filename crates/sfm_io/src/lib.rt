@@ -2,6 +2,7 @@
 // All reading and writing goes through these two traits, so that a run can be proved, and tried, over memory.
 #![tactic(auto)]
 
+mod asked;
 mod calls;
 mod file_shelf;
 mod memory_shelf;

@@ -4,6 +4,7 @@
 ghost use Rattle.std.specs.{Prelude.{◌≡◌, ◌+◌, ◌<◌, ◌≤◌, [], ◌∷◌, ◌++◌, length, IfOk, is_ok, Some, None, MatchOption, refl, if◌then◌else◌}, Str.{bytes_eq}};
 ghost use Rattle.sfm_io.specs.{Shelf.{Opens, Reads, text_of}, HeldShelf.{OpensHeld, ReadsHeld, state_of, text_at}};
 
+use crate::asked::Asked;
 use crate::calls::Calls;
 use crate::{Failed, Shelf};
 use sfm_base::Memory;
@@ -54,6 +55,7 @@ pub struct MemoryShelf {
     place: Option<Place>,
     piece: usize,
     calls: Calls,
+    asked: Asked,
 }
 
 impl Model for MemoryShelf {
@@ -70,6 +72,7 @@ impl Model for MemoryShelf {
       calls = s.calls.made;
       piece = s.piece;
       failing = s.calls.failing;
+      asked = s.asked.names;
     } };
 
     ghost invariant = { λ s. IsReadable s.texts.items s.place s.piece };
@@ -87,6 +90,7 @@ impl MemoryShelf {
           calls = 0;
           piece = piece;
           failing = failing.now;
+          asked = [];
         }) }
     {
         let calls = Calls::new(alloc, failing)?;
@@ -96,6 +100,7 @@ impl MemoryShelf {
             place: None,
             piece,
             calls,
+            asked: Asked::new(),
         })
     }
 
@@ -136,6 +141,7 @@ impl Shelf for MemoryShelf {
         ensures exact { OpensHeld self.old name.now result self.new }
         ensures opens { Opens (state_of self.old) name.now result (state_of self.new) }
     {
+        self.asked = self.asked.and(name);
         self.place = None;
         self.calls.make()?;
         let Some(text) = place_of(self.texts.as_slice(), name) else {

@@ -9,7 +9,8 @@ pub struct Failed;
 
 /// Named texts that can be opened and read, one at a time.
 pub trait Shelf {
-    /// The texts and the unread bytes, where they are told, the count of faults, and whether no call can fail any more.
+    /// The texts and the unread bytes, where they are told, the count of faults, whether no call can fail any more, and the
+    /// names that `open` was asked for.
     ghost state: { Self → ShelfState };
 
     /// Opens the text of that name at its first byte. After a failed call nothing is open.

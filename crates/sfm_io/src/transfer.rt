@@ -1,6 +1,6 @@
 // Reads the open text of a shelf to its end, and writes bytes whole. Each turn takes at least one byte, or finds that
 // none is left, so both end whatever the shelf or the sink does.
-ghost use Rattle.std.specs.Prelude.{◌≡◌, ◌<◌, ◌≤◌, length, IfOk, IfErr};
+ghost use Rattle.std.specs.Prelude.{◌≡◌, ◌<◌, ◌≤◌, [], length, IfOk, IfErr};
 ghost use Rattle.sfm_io.specs.{Shelf.{KeepsShelf}, Transfer.{IsRest, IsCause, ReadsOn, WritesAll}, declared.transfer.ReadEnd.TheVariants.{Fault, Memory}};
 
 use crate::{Failed, Shelf, Sink};
@@ -55,7 +55,7 @@ fn read_on<S: Shelf>(
 /// Reads what is left of the open text, which is to be at most `limit` bytes. It stops at one byte more.
 /// After a fault or want of memory nothing is said of how much was read.
 pub fn read_all<S: Shelf>(alloc: Global, shelf: &mut S, limit: usize) -> Result<Vec<u8>, ReadEnd>
-    ensures kept { KeepsShelf (S.state shelf.old) (S.state shelf.new) }
+    ensures kept { KeepsShelf [] (S.state shelf.old) (S.state shelf.new) }
     ensures bounded { IfOk result (λ bytes. length bytes.items ≤ limit) }
     ensures whole { IfOk result (λ bytes. IsRest (S.state shelf.old) bytes.items
         (S.state shelf.new)) }

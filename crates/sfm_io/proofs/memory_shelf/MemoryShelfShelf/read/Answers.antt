@@ -1,7 +1,7 @@
 -- What a read of memory does to the byte gives what every read does.
 use Rattle.std.proofs.Common.{◌≡◌, rules, arith, refl, ap, sym, ◌+◌, min, length, drop}
 use Rattle.std.proofs.lemmas.Grind.{common_steps}
-use Rattle.std.proofs.lemmas.List.{take_rest, drop-drop}
+use Rattle.std.proofs.lemmas.List.{append-nil, take_rest, drop-drop}
 use Rattle.sfm_io.specs.HeldShelf.{text_at}
 use Rattle.sfm_io.specs.MemoryShelf.{unread}
 use Rattle.sfm_io.proofs.HeldLemmas.{Reads-held}
@@ -26,7 +26,7 @@ returns-clause-exact c =
       count = count;
       bytes = rw (rest, c.copy_from_slice.ensures.after, take_rest) refl;
       untouched = tt;
-      change = rw (c.in_ok-make.ensures.counts, left, ← count) refl;
+      change = rw (c.in_ok-make.ensures.counts, left, ← count, append-nil c.self.inside.asked.names) refl;
       counts = search rules;
     }
 
