@@ -1,13 +1,9 @@
 // The program `sfm`: it passes its words, the files and the two streams to `run`, and ends with the code of the status.
 #![tactic(auto)]
 
-pub mod run;
-#[cfg(test)]
-mod tests;
-
-use run::{complain, run};
 use sfm_due::Status;
 use sfm_io::{FileShelf, StreamSink};
+use sfm_run::{complain, run};
 use std::alloc::AllocError;
 use std::env;
 use std::io::ErrorKind;

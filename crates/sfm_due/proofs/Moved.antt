@@ -5,7 +5,7 @@ use Rattle.std.proofs.lemmas.Bool.{cases_lt}
 use Rattle.std.proofs.lemmas.Int.{ints}
 use Rattle.std.proofs.lemmas.List.{ext_get_or, get_or_past}
 use Rattle.std.proofs.lemmas.Option.{slice_get-get_or, slice_get_within, same_Some}
-use Rattle.sfm_spec.specs.Families.{Meaning, AreBases, AreTerms, even_shift, rest_at}
+use Rattle.sfm_spec.specs.Families.{Meaning, AreBases, AreTerms, rest_at, sized_shift}
 use Rattle.sfm_spec.specs.Walks.{AreSteps, AllCanMove, IsFewWalks, IsWalk, IsWalkChain, IsWalkMove, MovesAlong, base_at, last_of, no_term, term_at}
 use Rattle.sfm_spec.specs.Walks as walks
 use Rattle.sfm_spec.proofs.Moves.{move_none, move_more}
@@ -170,11 +170,11 @@ start_bases : (terms : List Kind) (q : ℤ) → pos 1 ≤ℤ q → AreBases q (m
 start_bases [] q low = tt
 start_bases (kind ∷ kinds) q low = let h = kind-starts kind q low in (h.0, h.1, start_bases kinds q low)
 
-pub reached : (terms : List Kind) (n : ℕ) (section : Section) → AreInBounds n terms → pos 1 ≤ℤ section.den
-    → IsFewWalks (meanings_of terms) n section.den (even_shift n section.num) (starts_of terms section.den) section.bases → IsReached terms (meanings_of terms) n section
-reached terms n section bounded low h =
+pub reached : (terms : List Kind) (n : ℕ) (sizes : List ℤ) (section : Section) → AreInBounds n terms → pos 1 ≤ℤ section.den
+    → IsFewWalks (meanings_of terms) n section.den (sized_shift sizes section.num) (starts_of terms section.den) section.bases → IsReached terms (meanings_of terms) n sizes section
+reached terms n sizes section bounded low h =
     let (t, few, chain) = h in
-    let (amounts, count, moved) = moves_of (meanings_of terms) n section.den (even_shift n section.num) low (fit n terms bounded) t (starts_of terms section.den) section.bases (start_bases terms section.den low) chain in
+    let (amounts, count, moved) = moves_of (meanings_of terms) n section.den (sized_shift sizes section.num) low (fit n terms bounded) t (starts_of terms section.den) section.bases (start_bases terms section.den low) chain in
     record {
       firsts = starts_of terms section.den;
       amounts = amounts;

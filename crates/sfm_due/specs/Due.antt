@@ -1,15 +1,16 @@
 -- What is due for the texts that a command names: the text that is to be written, and the code that goes with it.
-use Rattle.std.specs.Prelude.{◌≡◌, ◌⊎◌, ℕ, ◌≤◌, List, ◌++◌, length, codes, decimal, ℤ}
+use Rattle.std.specs.Prelude.{◌≡◌, ℕ, ◌≤◌, List, ◌++◌, length, codes, decimal, ℤ}
 use Rattle.std.specs.List.{All, AllZip, FoldsTo, zip}
-use Rattle.sfm_spec.specs.Families.{Meaning, even_shift}
+use Rattle.sfm_spec.specs.Families.{Meaning, sized_shift}
+use Rattle.sfm_spec.specs.Laws.{ones}
 use Rattle.sfm_spec.specs.Walks.{few_walks}
 use Rattle.sfm_kind.specs.declared.kind.Kind.{Kind}
 use Rattle.sfm_kind.specs.Instance.{InstanceData}
 use Rattle.sfm_kind.specs.Meanings.{IsMeaningOf, IsStartOf}
 use Rattle.sfm_lines.specs.declared.reason.Reason.{Reason}
 use Rattle.sfm_lines.specs.Reasons.{reason_word}
-use Rattle.sfm_text.specs.GoodText.{IsTextOf, IsFaultOf}
-use Rattle.sfm_cert.specs.Solved.{form_of}
+use Rattle.sfm_text.specs.GoodText.{IsTextOf}
+use Rattle.sfm_cert.specs.Solved.{form_with}
 use Rattle.sfm_check.specs.Truth.{IsRightFile, Section, sections_of}
 use Rattle.sfm_check.specs.declared.verdicts.Verdict.{Verdict}
 use Rattle.sfm_check.specs.declared.verdicts.Verdict.TheVariants.{Valid, Invalid}
@@ -36,43 +37,61 @@ abbrev pub verdict_code : Verdict → ℕ
 verdict_code Valid = 0
 verdict_code (Invalid line reason) = 1
 
--- what a good text asks: the instance that it stands for, and the meanings of its terms
-pub record Question (text : List ℕ) : Type 0 where
+-- what is asked: an instance, and what its terms mean
+pub record Question : Type 0 where
   pub instance : InstanceData
-  pub good : IsTextOf text instance.names instance.terms
   pub meant : List Meaning
-  pub means : AllZip IsMeaningOf instance.terms meant
 
--- few moves along shortest walks, one after the other, lead to the bases of a section at its slope from the first bases of the terms
-pub record IsReached (terms : List Kind) (meant : List Meaning) (n : ℕ) (section : Section) : Type 0 where
+-- the text has no fault, and asks this: it stands for these names and terms, which mean so
+pub record IsAsked (text : List ℕ) (asked : Question) : Type 0 where
+  pub good : IsTextOf text asked.instance.names asked.instance.terms
+  pub means : AllZip IsMeaningOf asked.instance.terms asked.meant
+
+-- few moves along shortest walks, one after the other, lead to the bases of a section at its slope from the first bases of the terms,
+-- where each element has its size
+pub record IsReached (terms : List Kind) (meant : List Meaning) (n : ℕ) (sizes : List ℤ) (section : Section) : Type 0 where
   pub firsts : List (List ℤ)
   pub amounts : List ℤ
   pub starts : AllZip (λ (kind, term) first. IsStartOf kind term.value section.den first) (zip terms meant) firsts
   pub few : length amounts ≤ few_walks n (length meant)
-  pub moved : FoldsTo (Moves meant section.den (even_shift n section.num)) firsts amounts section.bases
+  pub moved : FoldsTo (Moves meant section.den (sized_shift sizes section.num)) firsts amounts section.bases
 
--- the file is a right one for the text, which is good, by the meanings of the terms that it stands for; and few walks lead to the
--- bases of each section
-pub record IsSolved (text file : List ℕ) : Type 0 where
-  pub asked : Question text
-  pub right : IsRightFile (form_of asked.instance) asked.meant file
-  pub reached : All (IsReached asked.instance.terms asked.meant (length asked.instance.names)) (sections_of right.answer)
+-- the file, with that first line, is a right one for what is asked, where each element has its size; and few walks lead to the bases
+-- of each section
+pub record IsSolvedBy (header : List ℕ) (sizes : List ℤ) (asked : Question) (file : List ℕ) : Type 0 where
+  pub right : IsRightFile (form_with header asked.instance) asked.meant sizes file
+  pub reached : All (IsReached asked.instance.terms asked.meant (length asked.instance.names) sizes) (sections_of right.answer)
 
--- the written text names the first fault of the text
-pub record IsRefused (text written : List ℕ) : Type 0 where
+-- the file is a right one where each element counts one
+abbrev pub IsSolved : Question → List ℕ → Type 0
+IsSolved asked file = IsSolvedBy (codes "answer 1") (ones (length asked.instance.names)) asked file
+
+-- the file is a right one where each element has its size
+abbrev pub IsWeighed : Question → List ℤ → List ℕ → Type 0
+IsWeighed asked sizes file = IsSolvedBy (codes "weighed 1") sizes asked file
+
+-- the line that refuses a text: a word for what the text is, the number of a line, and the word of the reason against it
+abbrev pub refusal : List ℕ → ℕ → Reason → List ℕ
+refusal word line reason = word ++ codes " " ++ decimal line ++ codes " " ++ reason_word reason ++ codes "\n"
+
+-- the written text names the first fault, where it tells which that is
+pub record NamesFault (word : List ℕ) (IsFault : ℕ → Reason → Type 0) (written : List ℕ) : Type 0 where
   pub line : ℕ
   pub reason : Reason
-  pub fault : IsFaultOf text line reason
-  pub named : written ≡ codes "refused " ++ decimal line ++ codes " " ++ reason_word reason ++ codes "\n"
+  pub fault : IsFault line reason
+  pub named : written ≡ refusal word line reason
 
--- the written text is the verdict on the answer for the text, which is good
-pub record IsJudged (text answer written : List ℕ) (code : ℕ) : Type 0 where
-  pub asked : Question text
+-- the written text is the verdict on the answer, which is to have that first line, to what is asked, where each element has its size
+pub record IsJudgedBy (header : List ℕ) (sizes : List ℤ) (asked : Question) (answer written : List ℕ) (code : ℕ) : Type 0 where
   pub verdict : Verdict
-  pub judged : IsVerdict (form_of asked.instance) asked.meant answer verdict
+  pub judged : IsVerdict (form_with header asked.instance) asked.meant sizes answer verdict
   pub named : written ≡ verdict_line verdict
   pub coded : code ≡ verdict_code verdict
 
--- what is due to be written for an instance text that is to be solved, and the code
-abbrev pub IsDueToSolve : List ℕ → List ℕ → ℕ → Type 0
-IsDueToSolve text written code = (IsSolved text written × (code ≡ 0)) ⊎ (IsRefused text written × (code ≡ 2))
+-- the written text is the verdict on the answer where each element counts one
+abbrev pub IsJudged : Question → List ℕ → List ℕ → ℕ → Type 0
+IsJudged asked answer written code = IsJudgedBy (codes "answer 1") (ones (length asked.instance.names)) asked answer written code
+
+-- the written text is the verdict on the answer where each element has its size
+abbrev pub IsJudgedBySizes : Question → List ℤ → List ℕ → List ℕ → ℕ → Type 0
+IsJudgedBySizes asked sizes answer written code = IsJudgedBy (codes "weighed 1") sizes asked answer written code

@@ -1,5 +1,5 @@
 -- What is known of a reader that was fed with the text of a file.
-use Rattle.std.specs.Prelude.{◌≡◌, ◌⊎◌, ℕ, ◌<◌, ◌≤◌, List, ◌++◌, length, Result, Ok, Err, IfOk, IfErr}
+use Rattle.std.specs.Prelude.{◌≡◌, ◌⊎◌, ℕ, ◌<◌, ◌≤◌, List, [], ◌++◌, length, Result, Ok, Err, IfOk, IfErr}
 use Rattle.std.specs.Io.KnownBytes.{Consumes, IsAtEnd}
 use Rattle.sfm_io.specs.Shelf.{ShelfState, KeepsShelf}
 use Rattle.sfm_io.specs.Transfer.{IsRest, IsLong, IsFault}
@@ -23,7 +23,7 @@ IsStopped before after status = ((status ≡ ReadFault) × IsFault before after)
 
 -- one read of at most so many bytes, with which a reader was fed
 pub record FeedsOn (before : ShelfState) (old : Reader) (most : ℕ) (result : Result ℕ Status) (new : Reader) (after : ShelfState) : Type 0 where
-  pub kept : KeepsShelf before after
+  pub kept : KeepsShelf [] before after
   pub small : IfOk result (λ count. count ≤ most)
   pub fed : IfOk result (λ count. Feeds before after old new count)
   pub ends : IfOk result (λ count. count ≡ 0 → IsAtEnd before.rest)

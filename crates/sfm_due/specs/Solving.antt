@@ -16,13 +16,14 @@ use Rattle.sfm_cert.specs.Solved.{form_of}
 use Rattle.sfm_check.specs.Truth.{IsProvedSection, IsTrueHead, sections_of}
 use Rattle.sfm_due.specs.Meanings.{meanings_of}
 
--- an answer of the instance's form that is true, with bases that prove it and that few walks lead to; it has few lines
-pub record IsTrueAnswer (instance : InstanceData) (a : Answer) : Type 0 where
+-- an answer of the instance's form that is true where each element has its size, with bases that prove it and that few walks lead to;
+-- it has few lines
+pub record IsTrueAnswer (instance : InstanceData) (sizes : List ℤ) (a : Answer) : Type 0 where
   pub formed : IsFormed (form_of instance) a
   pub few : HasFewLines a
-  pub head : IsTrueHead (meanings_of instance.terms) (length instance.names) a
-  pub sections : All (IsProvedSection (meanings_of instance.terms) (length instance.names)) (sections_of a)
-  pub reached : All (IsReached instance.terms (meanings_of instance.terms) (length instance.names)) (sections_of a)
+  pub head : IsTrueHead (meanings_of instance.terms) (length instance.names) sizes a
+  pub sections : All (IsProvedSection (meanings_of instance.terms) (length instance.names) sizes) (sections_of a)
+  pub reached : All (IsReached instance.terms (meanings_of instance.terms) (length instance.names) sizes) (sections_of a)
 
 -- bases that prove the minimum and that few walks lead to, and what they tell
 pub record Gives (instance : InstanceData) (rows : List (List ℤ)) (found : Proved) : Type 0 where

@@ -1,11 +1,11 @@
 // A demonstration: the instance of a seed is solved, its answer is judged as any other, and one line tells what it says.
-ghost use Rattle.std.specs.Prelude.{◌≡◌, ◌⊎◌, ◌≤◌, ◌++◌, ℕ, List, decimal, IfOk, OnOk};
+ghost use Rattle.std.specs.Prelude.{◌≡◌, ◌≤◌, ◌++◌, decimal, length, IfOk, OnOk};
+ghost use Rattle.sfm_spec.specs.Laws.{ones};
 ghost use Rattle.sfm_cert.specs.Solved.{answer_of};
-ghost use Rattle.sfm_text.specs.GoodText.{IsTextOf};
-ghost use Rattle.sfm_due.specs.{Demo.{demo_line, IsDemoed, IsDueToDemo}, Solving.{IsTrueAnswer, counts_told}, Status.{code_of}};
+ghost use Rattle.sfm_due.specs.{Demo.{demo_line, IsDemoed, IsDueToDemo}, Meanings.{question_of}, Owing.{IsMade}, Solving.{IsTrueAnswer, counts_told}};
 
 use crate::due::{Due, refuse};
-use crate::solve::solve_instance;
+use crate::solve::{ones_of, solve_by};
 use crate::status::Status;
 use itoa::Buffer;
 use sfm_base::Memory;
@@ -52,9 +52,11 @@ fn line_for(alloc: Global, seed: u64, solved: &Solved) -> Result<Vec<u8>, AllocE
 
 /// The answer of an instance, which was judged.
 fn judged_answer(alloc: Global, instance: &Instance) -> Result<Solved, Memory>
-    ensures { IfOk result (λ s. IsTrueAnswer instance.now (answer_of s)) }
+    ensures { IfOk result (λ s. IsTrueAnswer instance.now (ones (length instance.now.names))
+        (answer_of s)) }
 {
-    let solved = solve_instance(alloc, instance)?;
+    let sizes = ones_of(alloc, instance)?;
+    let solved = solve_by(alloc, instance, &sizes)?;
     let file = write_answer(alloc, instance, &solved)?;
     match judge(alloc, instance, file.as_slice())? {
         Verdict::Valid => Ok(solved),
@@ -64,8 +66,7 @@ fn judged_answer(alloc: Global, instance: &Instance) -> Result<Solved, Memory>
 
 /// The line of a seed's instance.
 fn line_of(alloc: Global, seed: u64, instance: &Instance) -> Result<Vec<u8>, Memory>
-    ensures { IfOk result (λ line. (text : List ℕ) → IsTextOf text instance.now.names
-        instance.now.terms → IsDemoed seed text line.items) }
+    ensures { IfOk result (λ line. IsDemoed seed (question_of instance.now) line.items) }
 {
     let solved = judged_answer(alloc, instance)?;
     Ok(line_for(alloc, seed, &solved)?)
@@ -74,9 +75,7 @@ fn line_of(alloc: Global, seed: u64, instance: &Instance) -> Result<Vec<u8>, Mem
 /// What is due for the demonstration of a seed.
 pub fn due_to_demo(alloc: Global, seed: u64) -> Result<Due, Memory>
     requires { seed ≤ 999999999 }
-    ensures due { IfOk result (λ due. IsDueToDemo seed due.text.items (code_of due.status)) }
-    ensures answered { IfOk result (λ due. (due.status ≡ Status.Done)
-        ⊎ (due.status ≡ Status.Refused)) }
+    ensures { IfOk result (IsMade (IsDueToDemo seed)) }
 {
     let text = demo_text(alloc, seed)?;
     match read_instance(alloc, text.as_slice()) {
@@ -84,7 +83,7 @@ pub fn due_to_demo(alloc: Global, seed: u64) -> Result<Due, Memory>
             text: line_of(alloc, seed, &instance)?,
             status: Status::Done,
         }),
-        Err(TextEnd::Refused { line, reason }) => Ok(refuse(alloc, line, reason)?),
+        Err(TextEnd::Refused { line, reason }) => Ok(refuse(alloc, b"refused", line, reason)?),
         Err(TextEnd::Memory) => Err(Memory),
     }
 }

@@ -1,16 +1,18 @@
 // What is due for texts that were read: a file, a refusal or a verdict, made whole before any of it is written.
 ghost use Rattle.std.specs.Prelude.{◌≡◌, ◌⊎◌, ◌+◌, ◌++◌, ◌<◌, ℕ, List, length, codes, decimal, IfOk};
-ghost use Rattle.sfm_cert.specs.{Solved.{form_of}, Grammar.{answer_limit}};
+ghost use Rattle.sfm_sizes.specs.Sizes.{AreElementSizes};
+ghost use Rattle.sfm_cert.specs.{Header.{header_text}, Solved.{form_with}, Grammar.{answer_limit}};
 ghost use Rattle.sfm_check.specs.Verdict.{IsVerdict};
-ghost use Rattle.sfm_due.specs.{Due.{verdict_line, verdict_code, wrong_word, IsRefused}, Meanings.{meanings_of}, Status.{code_of}, Owing.{refusal, IsRefusalFor, IsSolveDueOf, IsCheckDueOf}, Files.{IsReadAs}};
+ghost use Rattle.sfm_due.specs.{Due.{verdict_line, verdict_code, wrong_word, refusal, IsJudged, IsJudgedBySizes, IsSolved, IsWeighed}, Meanings.{meanings_of, question_of}, Status.{code_of}, Owing.{IsMade}, Files.{IsReadAs}};
 
-use crate::solve::solve_read;
+use crate::solve::{file_by, file_for, ones_of};
 use crate::status::Status;
 use itoa::Buffer;
 use sfm_base::Memory;
-use sfm_check::{Verdict, Wrong, judge};
+use sfm_cert::Header;
+use sfm_check::{Verdict, Wrong, judge_with};
 use sfm_kind::Instance;
-use sfm_text::{Reader, Reason, TextEnd};
+use sfm_text::Reason;
 use std::alloc::{AllocError, Global};
 
 /// A text that is to be written, and the status that goes with it.
@@ -20,13 +22,14 @@ pub struct Due {
     pub status: Status,
 }
 
-/// A line of a word, the number of a line, and the word of the reason against it.
+/// A line of a word, the number of a line, and the word of the reason against that.
 fn fault_line(alloc: Global, word: &[u8], line: usize, reason: &[u8]) -> Result<Vec<u8>, AllocError>
-    ensures { IfOk result (λ v. v.items ≡ word.now ++ decimal line ++ codes " " ++ reason.now
-        ++ codes "\n") }
+    ensures { IfOk result (λ v. v.items ≡ word.now ++ codes " " ++ decimal line ++ codes " "
+        ++ reason.now ++ codes "\n") }
 {
     let mut buffer = Buffer::new();
     let mut out = Vec::from_slice(alloc, word)?;
+    out.extend_from_slice(b" ")?;
     out.extend_from_slice(buffer.format(line).as_bytes())?;
     out.extend_from_slice(b" ")?;
     out.extend_from_slice(reason)?;
@@ -60,51 +63,62 @@ fn due_for_verdict(alloc: Global, verdict: Verdict) -> Result<Due, AllocError>
             status: Status::Done,
         }),
         Verdict::Invalid { line, reason } => Ok(Due {
-            text: fault_line(alloc, b"invalid ", line, word_of(reason))?,
+            text: fault_line(alloc, b"invalid", line, word_of(reason))?,
             status: Status::Invalid,
         }),
     }
 }
 
-/// The refusal of a text with this fault.
-pub fn refuse(alloc: Global, line: usize, reason: Reason) -> Result<Due, AllocError>
-    ensures { IfOk result (λ due. (due.text.items ≡ refusal line reason)
+/// The line that refuses a text with this fault, at a line counted from 1 (0 where the whole text is too long). The word
+/// tells what the text is: `refused` for the instance that a command is about.
+pub fn refuse(alloc: Global, word: &[u8], line: usize, reason: Reason) -> Result<Due, AllocError>
+    ensures { IfOk result (λ due. (due.text.items ≡ refusal word.now line reason)
         × (due.status ≡ Status.Refused)) }
 {
-    let text = fault_line(alloc, b"refused ", line, reason.word())?;
+    let text = fault_line(alloc, word, line, reason.word())?;
     Ok(Due {
         text,
         status: Status::Refused,
     })
 }
 
-/// The refusal that ends the reading of a text, where it is no want of memory.
-pub fn due_for_end(alloc: Global, end: TextEnd) -> Result<Due, Memory>
-    ensures { IfOk result (IsRefusalFor end) }
+/// What is due to solve an instance.
+///
+/// # Errors
+///
+/// `Memory` where there is none.
+pub fn due_to_solve(alloc: Global, instance: &Instance) -> Result<Due, Memory>
+    ensures { IfOk result (IsMade (λ written code. IsSolved (question_of instance.now) written
+        × (code ≡ 0))) }
 {
-    match end {
-        TextEnd::Refused { line, reason } => Ok(refuse(alloc, line, reason)?),
-        TextEnd::Memory => Err(Memory),
-    }
+    Ok(Due {
+        text: file_for(alloc, instance)?,
+        status: Status::Done,
+    })
 }
 
-/// What is due to solve the text that a reader stands for.
-pub fn due_to_solve(alloc: Global, reader: Reader) -> Result<Due, Memory>
-    ensures { IfOk result (IsSolveDueOf reader) }
+/// What is due to find the slopes of an instance where each element has its size.
+///
+/// # Errors
+///
+/// `Memory` where there is none.
+pub fn due_to_weigh(alloc: Global, instance: &Instance, sizes: &[i128]) -> Result<Due, Memory>
+    requires { AreElementSizes (length instance.now.names) sizes.now }
+    ensures { IfOk result (IsMade (λ written code. IsWeighed (question_of instance.now) sizes.now
+        written × (code ≡ 0))) }
 {
-    match solve_read(alloc, reader) {
-        Ok(text) => Ok(Due {
-            text,
-            status: Status::Done,
-        }),
-        Err(end) => due_for_end(alloc, end),
-    }
+    Ok(Due {
+        text: file_by(alloc, Header::Weighed, instance, sizes)?,
+        status: Status::Done,
+    })
 }
 
 /// The verdict on an answer that is too long. No right file is: an instance has few names, and few terms over few places.
-fn verdict_on_long(instance: &Instance) -> Verdict
+fn verdict_on_long(_header: Header, instance: &Instance, _sizes: &[i128]) -> Verdict
+    requires { AreElementSizes (length instance.now.names) _sizes.now }
     ensures { (answer : List ℕ) → answer_limit < length answer
-        → IsVerdict (form_of instance.now) (meanings_of instance.now.terms) answer result }
+        → IsVerdict (form_with (header_text _header) instance.now) (meanings_of instance.now.terms)
+        _sizes.now answer result }
 {
     let _count = instance.names_len();
     let _terms = instance.terms();
@@ -117,26 +131,55 @@ fn verdict_on_long(instance: &Instance) -> Verdict
 /// The verdict on an answer that was read, or, for None, on one that is too long.
 fn verdict_on(
     alloc: Global,
+    header: Header,
     instance: &Instance,
+    sizes: &[i128],
     bytes: &Option<Vec<u8>>,
 ) -> Result<Verdict, Memory>
+    requires { AreElementSizes (length instance.now.names) sizes.now }
     ensures { IfOk result (λ v. (answer : List ℕ) → IsReadAs answer_limit bytes.now answer
-        → IsVerdict (form_of instance.now) (meanings_of instance.now.terms) answer v) }
+        → IsVerdict (form_with (header_text header) instance.now) (meanings_of instance.now.terms)
+        sizes.now answer v) }
 {
     match bytes {
-        Some(bytes) => judge(alloc, instance, bytes.as_slice()),
-        None => Ok(verdict_on_long(instance)),
+        Some(bytes) => judge_with(alloc, header, instance, sizes, bytes.as_slice()),
+        None => Ok(verdict_on_long(header, instance, sizes)),
     }
 }
 
 /// What is due to check an answer that was read, or, for None, one that is too long, against an instance.
+///
+/// # Errors
+///
+/// `Memory` where there is none.
 pub fn due_to_check(
     alloc: Global,
     instance: &Instance,
     bytes: &Option<Vec<u8>>,
 ) -> Result<Due, Memory>
-    ensures { IfOk result (IsCheckDueOf instance.now bytes.now) }
+    ensures { IfOk result (λ due. (answer : List ℕ) → IsReadAs answer_limit bytes.now answer
+        → IsMade (IsJudged (question_of instance.now) answer) due) }
 {
-    let verdict = verdict_on(alloc, instance, bytes)?;
+    let sizes = ones_of(alloc, instance)?;
+    let verdict = verdict_on(alloc, Header::Answer, instance, &sizes, bytes)?;
+    Ok(due_for_verdict(alloc, verdict)?)
+}
+
+/// The same of an answer where each element has its size.
+///
+/// # Errors
+///
+/// `Memory` where there is none.
+pub fn due_to_check_weighed(
+    alloc: Global,
+    instance: &Instance,
+    sizes: &[i128],
+    bytes: &Option<Vec<u8>>,
+) -> Result<Due, Memory>
+    requires { AreElementSizes (length instance.now.names) sizes.now }
+    ensures { IfOk result (λ due. (answer : List ℕ) → IsReadAs answer_limit bytes.now answer
+        → IsMade (IsJudgedBySizes (question_of instance.now) sizes.now answer) due) }
+{
+    let verdict = verdict_on(alloc, Header::Weighed, instance, sizes, bytes)?;
     Ok(due_for_verdict(alloc, verdict)?)
 }

@@ -1,5 +1,5 @@
 // Reading an instance from the shelf: each piece is fed to a reader as it comes, so the text is nowhere kept whole.
-ghost use Rattle.std.specs.Prelude.{◌≡◌, ◌<◌, ℕ, List, [], ◌++◌, length, vec_len, IfOk, IfErr, OnOk};
+ghost use Rattle.std.specs.Prelude.{◌≡◌, ◌<◌, ℕ, List, [], ◌∷◌, ◌++◌, length, vec_len, IfOk, IfErr, OnOk};
 ghost use Rattle.sfm_text.specs.Standing.{Stands};
 ghost use Rattle.sfm_io.specs.Shelf.{KeepsShelf};
 ghost use Rattle.sfm_due.specs.Feeding.{FeedsOn, FeedsOpen, FeedsText};
@@ -66,7 +66,7 @@ fn room(alloc: Global) -> Result<Vec<u8>, Status>
 
 /// Feeds a reader with the rest of the open text, or with what comes up to one byte past the limit.
 fn feed_open<S: Shelf>(alloc: Global, shelf: &mut S) -> Result<Reader, Status>
-    ensures kept { KeepsShelf (S.state shelf.old) (S.state shelf.new) }
+    ensures kept { KeepsShelf [] (S.state shelf.old) (S.state shelf.new) }
     ensures read { FeedsOpen (S.state shelf.old) (S.state shelf.new) result }
 {
     let mut buffer = room(alloc)?;
@@ -85,7 +85,7 @@ fn feed_open<S: Shelf>(alloc: Global, shelf: &mut S) -> Result<Reader, Status>
 
 /// Feeds a reader with the text of a file; else the status that says why there is none.
 pub fn feed_text<S: Shelf>(alloc: Global, shelf: &mut S, name: &str) -> Result<Reader, Status>
-    ensures kept { KeepsShelf (S.state shelf.old) (S.state shelf.new) }
+    ensures kept { KeepsShelf (name.now ∷ []) (S.state shelf.old) (S.state shelf.new) }
     ensures read { FeedsText name.now (S.state shelf.old) (S.state shelf.new) result }
 {
     match shelf.open(name) {

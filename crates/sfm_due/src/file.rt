@@ -1,4 +1,5 @@
 // Reading a file whole from the shelf, up to a limit.
+ghost use Rattle.std.specs.Prelude.{[], ◌∷◌};
 ghost use Rattle.sfm_io.specs.Shelf.{KeepsShelf};
 ghost use Rattle.sfm_due.specs.Files.{ReadsOpen, ReadsText};
 
@@ -12,7 +13,7 @@ fn read_open<S: Shelf>(
     shelf: &mut S,
     limit: usize,
 ) -> Result<Option<Vec<u8>>, Status>
-    ensures kept { KeepsShelf (S.state shelf.old) (S.state shelf.new) }
+    ensures kept { KeepsShelf [] (S.state shelf.old) (S.state shelf.new) }
     ensures read { ReadsOpen limit (S.state shelf.old) (S.state shelf.new) result }
 {
     match read_all(alloc, shelf, limit) {
@@ -30,7 +31,7 @@ pub fn read_text<S: Shelf>(
     name: &str,
     limit: usize,
 ) -> Result<Option<Vec<u8>>, Status>
-    ensures kept { KeepsShelf (S.state shelf.old) (S.state shelf.new) }
+    ensures kept { KeepsShelf (name.now ∷ []) (S.state shelf.old) (S.state shelf.new) }
     ensures read { ReadsText limit name.now (S.state shelf.old) (S.state shelf.new) result }
 {
     match shelf.open(name) {

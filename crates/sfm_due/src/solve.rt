@@ -1,33 +1,39 @@
-// From the bytes of an instance to the bytes of its answer: bases that prove the minimum are found by walks of exchanges,
-// what they tell is read off them, and all slopes are sought, each with its bases.
-ghost use Rattle.std.specs.Prelude.{ℕ, List, IfOk, IfErr, length, []};
-ghost use Rattle.sfm_cert.specs.{Form.{IsFormed}, Solved.{answer_of, form_of}};
-ghost use Rattle.sfm_text.specs.{GoodText.{IsRefusalOf, IsTextOf}, Standing.{Stands}};
-ghost use Rattle.sfm_due.specs.{Due.{IsSolved}, Meanings.{meanings_of}, Solving.{Gives, IsTrueAnswer}};
+// From an instance to the bytes of its answer: bases that prove the minimum are found by walks of exchanges, what they tell is
+// read off them, and all slopes are sought, each with its bases. Elements have sizes, by which the slopes go; the minimum does
+// not depend on them. To solve an instance is to weigh it where each element counts one.
+ghost use Rattle.std.specs.Prelude.{◌≡◌, IfOk, IfErr, length};
+ghost use Rattle.sfm_spec.specs.Laws.{ones};
+ghost use Rattle.sfm_sizes.specs.Sizes.{AreElementSizes};
+ghost use Rattle.sfm_cert.specs.{Form.{IsFormed}, Header.{header_text}, Solved.{answer_of, form_of}};
+ghost use Rattle.sfm_text.specs.GoodText.{IsRefusalOf};
+ghost use Rattle.sfm_due.specs.{Due.{IsAsked, IsSolved, IsSolvedBy, Question}, Meanings.{meanings_of, question_of}, Solving.{Gives, IsTrueAnswer}};
 
 use sfm_base::Memory;
-use sfm_cert::{Solved, write_answer};
+use sfm_cert::{Header, Solved, write_with};
 use sfm_extreme::{Certified, Proved, blocks, certify};
 use sfm_kind::Instance;
-use sfm_slope::partition;
-use sfm_text::{Reader, TextEnd};
+use sfm_sizes::ones;
+use sfm_slope::partition_by;
+use sfm_text::{TextEnd, read_instance};
 use sfm_walk::{Optimum, minimise};
-use std::alloc::Global;
+use std::alloc::{AllocError, Global};
 
 /// The answer that bases which prove the minimum give, with all slopes.
 fn answer_by(
     alloc: Global,
     instance: &Instance,
+    sizes: &[i128],
     optimum: Optimum,
     found: Proved,
 ) -> Result<Solved, Memory>
-    requires { Gives instance.now optimum.bases found }
-    ensures { IfOk result (λ s. IsTrueAnswer instance.now (answer_of s)) }
+    requires sizes { AreElementSizes (length instance.now.names) sizes.now }
+    requires gives { Gives instance.now optimum.bases found }
+    ensures { IfOk result (λ s. IsTrueAnswer instance.now sizes.now (answer_of s)) }
 {
     let terms = instance.terms();
     let n = instance.names_len();
     let blocks = blocks(alloc, terms, n, &optimum.bases)?;
-    let breaks = partition(alloc, terms, n)?;
+    let breaks = partition_by(alloc, terms, n, sizes)?;
     Ok(Solved {
         value: found.value,
         least: found.least,
@@ -38,45 +44,62 @@ fn answer_by(
     })
 }
 
-/// The answer of an instance, with bases that prove it.
-pub fn solve_instance(alloc: Global, instance: &Instance) -> Result<Solved, Memory>
-    ensures { IfOk result (λ s. IsTrueAnswer instance.now (answer_of s)) }
+/// The answer of an instance where each element has its size, with bases that prove it.
+///
+/// # Errors
+///
+/// `Memory` where there is none.
+pub fn solve_by(alloc: Global, instance: &Instance, sizes: &[i128]) -> Result<Solved, Memory>
+    requires { AreElementSizes (length instance.now.names) sizes.now }
+    ensures { IfOk result (λ s. IsTrueAnswer instance.now sizes.now (answer_of s)) }
 {
     let terms = instance.terms();
     let n = instance.names_len();
     let optimum = minimise(alloc, terms, n, 0, 1)?;
     match certify(alloc, terms, n, 0, 1, &optimum.bases)? {
-        Certified::Proved(found) => answer_by(alloc, instance, optimum, found),
+        Certified::Proved(found) => answer_by(alloc, instance, sizes, optimum, found),
         Certified::NotOptimal { walk: _ } => unreachable!(),
     }
 }
 
-/// The text of a right file for an instance.
-fn file_for(alloc: Global, instance: &Instance) -> Result<Vec<u8>, Memory>
-    ensures { IfOk result (λ file. (text : List ℕ) → IsTextOf text instance.now.names
-        instance.now.terms → IsSolved text file.items) }
+/// The text of a right file, with that first line, for an instance where each element has its size.
+pub(crate) fn file_by(
+    alloc: Global,
+    header: Header,
+    instance: &Instance,
+    sizes: &[i128],
+) -> Result<Vec<u8>, Memory>
+    requires { AreElementSizes (length instance.now.names) sizes.now }
+    ensures { IfOk result (λ file. IsSolvedBy (header_text header) sizes.now
+        (question_of instance.now) file.items) }
 {
-    let solved = solve_instance(alloc, instance)?;
-    Ok(write_answer(alloc, instance, &solved)?)
+    let solved = solve_by(alloc, instance, sizes)?;
+    Ok(write_with(alloc, header, instance, &solved)?)
 }
 
-/// The text of a right file for the text that a reader stands for, or the first fault of that text.
-pub fn solve_read(alloc: Global, reader: Reader) -> Result<Vec<u8>, TextEnd>
-    ensures solved { IfOk result (λ file. (text : List ℕ) → Stands reader text
-        → IsSolved text file.items) }
-    ensures refused { IfErr result (λ end. (text : List ℕ) → Stands reader text
-        → IsRefusalOf text end) }
+/// The sizes of an instance's elements where each counts one.
+pub(crate) fn ones_of(alloc: Global, instance: &Instance) -> Result<Vec<i128>, AllocError>
+    ensures ones { IfOk result (λ r. r.items ≡ ones (length instance.now.names)) }
+    ensures sizes { IfOk result (λ r. AreElementSizes (length instance.now.names) r.items) }
 {
-    let instance = reader.finish(alloc)?;
-    Ok(file_for(alloc, &instance)?)
+    let _terms = instance.terms();
+    ones(alloc, instance.names_len())
+}
+
+/// The text of a right file for an instance.
+pub(crate) fn file_for(alloc: Global, instance: &Instance) -> Result<Vec<u8>, Memory>
+    ensures { IfOk result (λ file. IsSolved (question_of instance.now) file.items) }
+{
+    let sizes = ones_of(alloc, instance)?;
+    file_by(alloc, Header::Answer, instance, &sizes)
 }
 
 /// The text of a right file for an instance text, or the first fault of that text.
 pub fn solve_text(alloc: Global, text: &[u8]) -> Result<Vec<u8>, TextEnd>
-    ensures solved { IfOk result (λ file. IsSolved text.now file.items) }
+    ensures solved { IfOk result (λ file. (asked : Question) × IsAsked text.now asked
+        × IsSolved asked file.items) }
     ensures refused { IfErr result (IsRefusalOf text.now) }
 {
-    let mut reader = Reader::new(alloc)?;
-    reader.feed(alloc, text)?;
-    solve_read(alloc, reader)
+    let instance = read_instance(alloc, text)?;
+    Ok(file_for(alloc, &instance)?)
 }

@@ -12,7 +12,7 @@ pub loop-done-preserved : goal.loop-done-preserved
 loop-done-preserved g c = record { fed = fed-more _ _ _ _ _ c.loop-done.done _ c.in_ok-count.count c.loop-done.invariant.fed c.in_ok-count.ensures; bounded = omega (arith, c.in_ok-count.ensures.small, c.loop-done.invariant.bounded, c.loop-done.invariant.piece, length-take (c.min-most.result + 1) c.deref_mut.result.now); piece = c.loop-done.invariant.piece }
 
 pub returns-in_err-count-clause-kept : goal.returns-in_err-count-clause-kept
-returns-in_err-count-clause-kept g c = KeepsShelf-trans c.loop-done.invariant.fed.read.kept c.feed_on.ensures.kept
+returns-in_err-count-clause-kept g c = KeepsShelf-trans _ _ c.loop-done.invariant.fed.read.kept c.feed_on.ensures.kept
 
 pub returns-in_err-count-clause-read : goal.returns-in_err-count-clause-read
 returns-in_err-count-clause-read g c =
@@ -20,7 +20,7 @@ returns-in_err-count-clause-read g c =
     rw (p.1, p.2) (fed-stop _ _ _ _ _ c.loop-done.done _ _ c.loop-done.invariant.fed c.in_err-count.ensures)
 
 pub returns-then-count-eq0-clause-kept : goal.returns-then-count-eq0-clause-kept
-returns-then-count-eq0-clause-kept g c = KeepsShelf-trans c.loop-done.invariant.fed.read.kept c.in_ok-count.ensures.kept
+returns-then-count-eq0-clause-kept g c = KeepsShelf-trans _ _ c.loop-done.invariant.fed.read.kept c.in_ok-count.ensures.kept
 
 pub returns-then-count-eq0-clause-read : goal.returns-then-count-eq0-clause-read
 returns-then-count-eq0-clause-read g c = fed-whole _ _ _ _ _ c.loop-done.done _ _ c.if-count-eq0.true (omega (arith, c.loop-done-test.true)) c.loop-done.invariant.fed c.in_ok-count.ensures

@@ -1,13 +1,13 @@
-use Rattle.std.proofs.Common.{length, map, pos, sym, arith, subst, FitsSigned}
+use Rattle.std.proofs.Common.{◌≡◌, length, map, pos, sym, arith, subst, FitsSigned}
 use Rattle.std.specs.List.{All}
 use Rattle.std.proofs.lemmas.Int.{ints, to_z-of_z}
 use mir.Syntax.{w128}
 use Rattle.sfm_spec.specs.Bounds.{IsEntry}
 use Rattle.sfm_spec.specs.Blocks.{AreBlocks}
-use Rattle.sfm_spec.specs.Families.{even_shift}
-use Rattle.sfm_spec.specs.Laws.{AreBreakpoints, ones}
+use Rattle.sfm_spec.specs.Families.{even_shift, shifted_at, sized_shift}
+use Rattle.sfm_spec.specs.Laws.{AreBreakpoints}
 use Rattle.sfm_kind.specs.Kinds.{kind_start}
-use Rattle.sfm_slope.specs.Marks.{HasBases, mark_of as kept_mark}
+use Rattle.sfm_slope.specs.Marks.{HasBasesBy, mark_of as kept_mark}
 use Rattle.sfm_extreme.specs.Blocks.{block_of}
 use Rattle.sfm_cert.specs.Answer.{Answer}
 use Rattle.sfm_cert.specs.Solved.{break_of}
@@ -15,27 +15,31 @@ use Rattle.sfm_check.proofs.Small.{value_small}
 use Rattle.sfm_due.specs.Meanings.{meanings_of}
 use Rattle.sfm_due.specs.Solving.{IsTrueAnswer}
 use Rattle.sfm_due.proofs.Slopes.{formed_breaks, proved_breaks, reached_breaks, same_marks}
-use Rattle.sfm_due.proofs.Solves.{true_answer}
+use Rattle.sfm_due.proofs.Solves.{no_shift, true_answer}
 use Rattle.sfm_due.proofs.solve.answer_by.Goals as goal
 
 pub returns : goal.returns
 returns c =
     let instance = c.args.instance.now in
+    let sizes = c.args.sizes.now in
     let n = length instance.names in
-    let h = c.requires in
-    let entry : IsEntry c.args.found.value = subst IsEntry (sym h.value) (value_small n instance.terms c.args.found.least c.terms-terms.ensures.bounded h.least.minimiser.allowed) in
+    let h = c.requires.gives in
+    let sized = c.requires.sizes in
+    let zero : even_shift n (pos 0) ≡ sized_shift sizes (pos 0) = no_shift n sizes sized in
+    let small : IsEntry (shifted_at (meanings_of instance.terms) (pos 1) (sized_shift sizes (pos 0)) c.args.found.least) = value_small n sizes instance.terms c.args.found.least c.terms-terms.ensures.bounded h.least.minimiser.allowed in
+    let entry : IsEntry c.args.found.value = subst IsEntry (sym h.value) (rw zero small) in
     let fits : FitsSigned w128 c.args.found.value = omega (arith, ints, entry) in
     let blocks : AreBlocks (meanings_of instance.terms) n (pos 1) (even_shift n (pos 0)) (map block_of c.in_ok-blocks.blocks.items) = rw (c.terms-terms.ensures.terms, c.names_len-n.ensures.len) at c.in_ok-blocks.ensures.exact in
     let found = c.in_ok-breaks.breaks.items in
     let a : Answer = record { value = c.args.found.value; least = c.args.found.least; greatest = c.args.found.greatest; blocks = map block_of c.in_ok-blocks.blocks.items; bases = c.args.optimum.bases; breaks = map break_of found } in
-    let slopes : AreBreakpoints (meanings_of instance.terms) n (ones n) (map kept_mark found) = rw (c.terms-terms.ensures.terms, c.names_len-n.ensures.len) at c.in_ok-breaks.ensures.slopes in
-    let has : All (HasBases (meanings_of instance.terms) (λ q. map (λ kind. kind_start kind q) instance.terms) n) found = rw (c.terms-terms.ensures.terms, c.names_len-n.ensures.len) at c.in_ok-breaks.ensures.bases in
-    let done : IsTrueAnswer instance a = true_answer instance a c.names_len-n.ensures.named c.terms-terms.ensures.bounded (record {
+    let slopes : AreBreakpoints (meanings_of instance.terms) n sizes (map kept_mark found) = rw (c.terms-terms.ensures.terms, c.names_len-n.ensures.len) at c.in_ok-breaks.ensures.slopes in
+    let has : All (HasBasesBy (meanings_of instance.terms) (λ q. map (λ kind. kind_start kind q) instance.terms) n sizes) found = rw (c.terms-terms.ensures.terms, c.names_len-n.ensures.len) at c.in_ok-breaks.ensures.bases in
+    let done : IsTrueAnswer instance sizes a = true_answer instance sizes a c.names_len-n.ensures.named c.terms-terms.ensures.bounded sized (record {
       gives = h;
       blocks = blocks;
-      slopes = subst (AreBreakpoints (meanings_of instance.terms) n (ones n)) (same_marks found) slopes;
-      breaks = formed_breaks instance c.terms-terms.ensures.bounded found slopes has;
-      proved = proved_breaks instance c.terms-terms.ensures.bounded found slopes has;
-      reached = reached_breaks instance c.terms-terms.ensures.bounded found slopes has;
+      slopes = subst (AreBreakpoints (meanings_of instance.terms) n sizes) (same_marks found) slopes;
+      breaks = formed_breaks instance c.terms-terms.ensures.bounded sizes sized found slopes has;
+      proved = proved_breaks instance c.terms-terms.ensures.bounded sizes sized found slopes has;
+      reached = reached_breaks instance c.terms-terms.ensures.bounded sizes sized found slopes has;
     }) in
     simp to_z-of_z done

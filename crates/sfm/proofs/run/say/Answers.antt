@@ -1,5 +1,0 @@
-use Rattle.sfm.proofs.Said.{says_all}
-use Rattle.sfm.proofs.run.say.Goals as goal
-
-pub returns : goal.returns
-returns g c = says_all _ _ _ _ c.write_all.ensures

@@ -1,3 +1,0 @@
-pub mod Headline
-pub mod Preparing
-pub mod Opening

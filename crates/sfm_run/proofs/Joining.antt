@@ -1,0 +1,101 @@
+-- A file is read behind others, and what is prepared behind it is prepared for the whole task.
+use Rattle.std.proofs.Common.{◌≡◌, ℕ, List, [], ◌∷◌, ◌++◌, Result, Ok, Err, refl, sym, ◌∙◌, ap, inl, inr, ⊎_elim}
+use Rattle.std.specs.Prelude.{IfOk, MatchOption}
+use Rattle.sfm_io.specs.Faults.{Rose}
+use Rattle.sfm_io.specs.Shelf.{ShelfState, KeepsShelf}
+use Rattle.sfm_io.proofs.ShelfLemmas.{KeepsShelf-refl, KeepsShelf-trans}
+use Rattle.sfm_due.specs.declared.due.Due.{Due}
+use Rattle.sfm_due.specs.declared.status.Status.{Status}
+use Rattle.sfm_base.specs.declared.memory.Memory.{Memory as OutOfMemory}
+use Rattle.sfm_due.specs.Status.{code_of}
+use Rattle.sfm_due.specs.Files.{IsNamed, IsSurelyHeld, MissesText, WasRead}
+use Rattle.sfm_due.specs.Owing.{IsMade}
+use Rattle.sfm_due.proofs.ReadLemmas.{rose_later}
+use Rattle.sfm_run.specs.declared.open.Opened.{Opened}
+use Rattle.sfm_run.specs.declared.open.Opened.TheVariants.{Good, Faulty}
+use Rattle.sfm_run.specs.Task.{Along, FailsAt, File, IsAfter, IsDueAt, IsNext, StopsAt, Task, Way, and_file, ends, no_way, reads}
+use Rattle.sfm_run.specs.Preparing.{OpensFile, PassesOn, Prepares, PreparesFrom, ReadsFile}
+
+-- a shelf of which nothing was read
+pub stays : (shelf : ShelfState) → IsAfter no_way shelf shelf
+stays shelf = record { kept = KeepsShelf-refl shelf; last = refl }
+
+-- memory ran out before anything was read
+pub stops_at_once : (task : Task) (shelf : ShelfState) → Along (StopsAt shelf shelf) shelf no_way task
+stops_at_once (ends Due) shelf = stays shelf
+stops_at_once (reads file rest) shelf = inl (inl (stays shelf))
+
+-- what a later shelf tells of a name is told of the first
+named_before : {names : List (List ℕ)} (shelf mid : ShelfState) (name text : List ℕ) → KeepsShelf names shelf mid → IsNamed mid name text → IsNamed shelf name text
+named_before shelf mid name text kept named texts are = named texts (kept.texts ∙ are)
+
+held_later : {names : List (List ℕ)} (shelf mid : ShelfState) (name : List ℕ) → KeepsShelf names shelf mid → IsSurelyHeld shelf name → IsSurelyHeld mid name
+held_later shelf mid name kept (sound, held) = (kept.sound sound, (λ texts are. held texts (sym kept.texts ∙ are)))
+
+missed_before : {names : List (List ℕ)} (shelf mid after : ShelfState) (name : List ℕ) → KeepsShelf names shelf mid → MissesText name mid after → MissesText name shelf after
+missed_before shelf mid after name kept miss = record {
+  rose = rose_later shelf.faults mid.faults after.faults kept.faults miss.rose;
+  unsure = λ held. miss.unsure (held_later shelf mid name kept held);
+}
+
+module _ {X : Type 0} (file : File X) (shelf mid after : ShelfState) (way : Way) (before : IsAfter way shelf mid) where
+  -- one file more was read
+  one_more : {P : List ℕ → Type 0} (r : ReadsFile file mid after P) → IsAfter (and_file way file r.text) shelf after
+  one_more r = record {
+    kept = KeepsShelf-trans way.names (file.name ∷ []) before.kept r.kept;
+    last = λ texts are. r.read texts (before.kept.texts ∙ are);
+  }
+
+  named : {P : List ℕ → Type 0} (r : ReadsFile file mid after P) → IsNamed shelf file.name r.text
+  named r = named_before shelf mid file.name r.text before.kept r.named
+
+-- the file was not read
+pub misses : {V X : Type 0} (view : V → X) (file : File X) (rest : X → Task) (mid after : ShelfState) (status : Status)
+    → OpensFile view file mid after (Err status) → Prepares (reads file rest) mid after (Err status)
+misses view file rest mid after status (kept, inl (fault, miss)) shelf way before =
+    inl (fault, inl (missed_before shelf mid after file.name before.kept miss, KeepsShelf-trans way.names (file.name ∷ []) before.kept kept))
+misses view file rest mid after status (kept, inr memory) shelf way before = inr (memory, inl (inr (KeepsShelf-trans way.names (file.name ∷ []) before.kept kept)))
+
+-- its text is not good
+pub refuses : {V X : Type 0} (view : V → X) (file : File X) (rest : X → Task) (mid after : ShelfState) (due : Due)
+    → OpensFile view file mid after (Ok (Faulty due)) → Prepares (reads file rest) mid after (Ok due)
+refuses view file rest mid after due (r, refused) shelf way before = (
+  inl (r.text, named file shelf mid after way before r, r.holds, ap code_of refused, one_more file shelf mid after way before r),
+  inr (inr refused),
+)
+
+-- its text is good, and what is prepared behind it
+pub behind : {X : Type 0} (file : File X) (rest : X → Task) (x : X) (mid after last : ShelfState) (result : Result Due Status)
+    → ReadsFile file mid after (λ text. file.Stands text x) → Prepares (rest x) after last result → Prepares (reads file rest) mid last result
+behind file rest x mid after last result r then shelf way before = at result (then shelf (and_file way file r.text) (one_more file shelf mid after way before r)) where
+  goes : (P : Way → Task → Type 0) → Along P shelf (and_file way file r.text) (rest x) → Along P shelf way (reads file rest)
+  goes P h = inr (r.text, x, named file shelf mid after way before r, r.holds, h)
+
+  at : (result : Result Due Status) → PreparesFrom shelf last (and_file way file r.text) (rest x) result → PreparesFrom shelf last way (reads file rest) result
+  at (Ok due) (h, answered) = (goes (IsDueAt shelf last due.text.items (code_of due.status)) h, answered)
+  at (Err status) (inl (fault, h)) = inl (fault, goes (FailsAt shelf last) h)
+  at (Err status) (inr (memory, h)) = inr (memory, goes (StopsAt shelf last) h)
+
+pub goes_on : {V X : Type 0} (view : V → X) (file : File X) (rest : X → Task) (v : V) (mid after last : ShelfState) (result : Result Due Status)
+    → OpensFile view file mid after (Ok (Good v)) → Prepares (rest (view v)) after last result → Prepares (reads file rest) mid last result
+goes_on view file rest v mid after last result r then = behind file rest (view v) mid after last result r then
+
+-- a text was made without the shelf, or memory ran out
+pub made : (IsDue : List ℕ → ℕ → Type 0) (given : Result Due OutOfMemory) (result : Result Due Status) (mid : ShelfState) → IfOk given (IsMade IsDue) → PassesOn given result → Prepares (ends IsDue) mid mid result
+made IsDue (Ok due) (Ok same) mid h is shelf way before = rw is ((h.owed, before), h.answered)
+made IsDue (Ok due) (Err status) mid h is shelf way before = inr (is, before)
+made IsDue (Err m) (Ok same) mid h is shelf way before = absurd is
+made IsDue (Err m) (Err status) mid h is shelf way before = inr (is, before)
+
+-- a shelf that surely holds what is needed fails nowhere
+pub no_failure : (task : Task) (way : Way) (shelf shelf' : ShelfState) → ((name : List ℕ) → Along (IsNext name) shelf way task → IsSurelyHeld shelf name) → Along (FailsAt shelf shelf') shelf way task → ⊥
+no_failure (ends Due) way shelf shelf' held fails = fails
+no_failure (reads file rest) way shelf shelf' held (inl (miss, kept)) = miss.unsure (held file.name (inl refl))
+no_failure (reads file rest) way shelf shelf' held (inr (text, x, is, stands, fails)) =
+    no_failure (rest x) (and_file way file text) shelf shelf' (λ name needs. held name (inr (text, x, is, stands, needs))) fails
+
+-- where a file was missed a fault rose
+pub failure_rose : (task : Task) (way : Way) (shelf shelf' : ShelfState) → Along (FailsAt shelf shelf') shelf way task → Rose shelf.faults shelf'.faults
+failure_rose (ends Due) way shelf shelf' fails = absurd fails
+failure_rose (reads file rest) way shelf shelf' (inl (miss, kept)) = miss.rose
+failure_rose (reads file rest) way shelf shelf' (inr (text, x, is, stands, fails)) = failure_rose (rest x) (and_file way file text) shelf shelf' fails

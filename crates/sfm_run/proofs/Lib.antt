@@ -1,0 +1,4 @@
+mod Ending
+mod Joining
+mod Opening
+mod Said

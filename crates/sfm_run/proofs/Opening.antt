@@ -1,0 +1,67 @@
+-- What was read of a file makes what opening it gives.
+use Rattle.std.proofs.Common.{◌≡◌, ℕ, List, [], ◌∷◌, codes, length, ℤ, Option, Some, None, Result, Ok, Err, refl, subst, inl, inr}
+use Rattle.std.specs.Prelude.{IfOk, Vec}
+use Rattle.std.specs.Global.{Global}
+use Rattle.sfm_io.specs.Shelf.{ShelfState, KeepsShelf}
+use Rattle.sfm_kind.specs.Instance.{InstanceData}
+use Rattle.sfm_kind.proofs.Meanings.{kinds-mean}
+use Rattle.sfm_lines.specs.declared.reason.Reason.{Reason}
+use Rattle.sfm_lines.specs.declared.reason.Reason.TheVariants.{Long}
+use Rattle.sfm_sizes.specs.Sizes.{AreElementSizes}
+use Rattle.sfm_side.specs.Side.{side_language}
+use Rattle.sfm_side.specs.Sizes.{sizes_form}
+use Rattle.sfm_text.specs.Language.{IsFaultIn, is_long, text_limit}
+use Rattle.sfm_text.specs.GoodText.{IsFaultOf, IsTextOf}
+use Rattle.sfm_text.specs.declared.reader.Reader.{Reader}
+use Rattle.sfm_text.specs.Standing.{Stands}
+use Rattle.sfm_cert.specs.Grammar.{answer_limit}
+use Rattle.sfm_due.specs.declared.due.Due.{Due}
+use Rattle.sfm_due.specs.declared.status.Status.{Status}
+use Rattle.sfm_due.specs.declared.status.Status.TheVariants.{Refused}
+use Rattle.sfm_due.specs.Due.{refusal}
+use Rattle.sfm_due.specs.Feeding.{FeedsText}
+use Rattle.sfm_due.specs.Files.{IsReadAs, ReadsText}
+use Rattle.sfm_due.specs.Meanings.{question_of}
+use Rattle.sfm_run.specs.declared.open.Opened.{Opened}
+use Rattle.sfm_run.specs.declared.open.Opened.TheVariants.{Good, Faulty}
+use Rattle.sfm_run.specs.Task.{Task, reads}
+use Rattle.sfm_run.specs.Files.{answer_file, instance_file, sizes_file}
+use Rattle.sfm_run.specs.Preparing.{IfGood, IsFaulty, OpensFile, Prepares, TellsSizes, items_of}
+use Rattle.sfm_run.proofs.Joining.{behind, misses}
+
+-- a good instance
+pub opens : (word name : List ℕ) (before after : ShelfState) (reader : Reader) (instance : InstanceData) → KeepsShelf (name ∷ []) before after → FeedsText name before after (Ok reader)
+    → ((text : List ℕ) → Stands reader text → IsTextOf text instance.names instance.terms) → OpensFile question_of (instance_file word name) before after (Ok (Good instance))
+opens word name before after reader instance kept (text, stands, named, read) good = record {
+  text = text;
+  named = named;
+  kept = kept;
+  read = read;
+  holds = record { good = good text stands; means = kinds-mean instance.terms };
+}
+
+-- a text of sizes that is too long
+pub opens_long : (instance : InstanceData) (name : List ℕ) (before after : ShelfState) (result : Result (Opened (Vec ℤ Global)) Status) → KeepsShelf (name ∷ []) before after
+    → ReadsText text_limit name before after (Ok None) → IsFaulty (codes "sizes") 0 Long result → OpensFile items_of (sizes_file (question_of instance) name) before after result
+opens_long instance name before after (Ok (Good v)) kept fed is = absurd is
+opens_long instance name before after (Ok (Faulty due)) kept (text, more, named, read) (is, refused) = (
+  record {
+    text = text;
+    named = named;
+    kept = kept;
+    read = read;
+    holds = record { line = 0; reason = Long; fault = is_long refl refl more; named = is };
+  },
+  refused,
+)
+opens_long instance name before after (Err status) kept fed memory = (kept, inr memory)
+
+-- an answer was read, and what was then made
+pub answers : (name : List ℕ) (rest : List ℕ → Task) (mid after : ShelfState) (bytes : Option (Vec ℕ Global)) (result : Result Due Status) → KeepsShelf (name ∷ []) mid after → ReadsText answer_limit name mid after (Ok bytes)
+    → ((text : List ℕ) → IsReadAs answer_limit bytes text → Prepares (rest text) after after result) → Prepares (reads (answer_file name) rest) mid after result
+answers name rest mid after bytes result kept (text, is, named, read) then =
+    behind (answer_file name) rest text mid after after result (record { text = text; named = named; kept = kept; read = read; holds = refl }) (then text is)
+
+-- an answer was not read
+pub misses_answer : (name : List ℕ) (rest : List ℕ → Task) (mid after : ShelfState) (status : Status) → KeepsShelf (name ∷ []) mid after → ReadsText answer_limit name mid after (Err status) → Prepares (reads (answer_file name) rest) mid after (Err status)
+misses_answer name rest mid after status kept miss = misses (λ (text : List ℕ). text) (answer_file name) rest mid after status (kept, miss)

@@ -1,0 +1,35 @@
+-- The kinds of files that tasks read.
+use Rattle.std.specs.Prelude.{◌≡◌, ℕ, List, codes, ℤ}
+use Rattle.sfm_text.specs.Language.{IsFaultIn, IsReadAs, text_limit}
+use Rattle.sfm_text.specs.GoodText.{IsFaultOf}
+use Rattle.sfm_side.specs.Side.{SideForm, ended, side_language}
+use Rattle.sfm_side.specs.Sizes.{sizes_form, sizes_of}
+use Rattle.sfm_cert.specs.Grammar.{answer_limit}
+use Rattle.sfm_due.specs.Due.{IsAsked, NamesFault, Question}
+use Rattle.sfm_run.specs.Task.{File}
+
+-- a file with an instance, which that word refuses
+abbrev pub instance_file : List ℕ → List ℕ → File Question
+instance_file word name = record {
+  name = name;
+  limit = text_limit;
+  Stands = IsAsked;
+  Refuses = λ text written. NamesFault word (IsFaultOf text) written;
+}
+
+-- a file with a text beside an instance, which that word refuses, and what is told on of what the text says
+abbrev pub side_file : {D X : Type 0} → List ℕ → SideForm D → (D → X → Type 0) → List ℕ → File X
+side_file word form Tells name = record {
+  name = name;
+  limit = text_limit;
+  Stands = λ text x. (d : _) × IsReadAs (side_language form) text (ended d) × Tells d x;
+  Refuses = λ text written. NamesFault word (IsFaultIn (side_language form) text) written;
+}
+
+-- a file with the sizes of the elements
+abbrev pub sizes_file : Question → List ℕ → File (List ℤ)
+sizes_file asked = side_file (codes "sizes") (sizes_form asked.instance.names) (λ given sizes. sizes ≡ sizes_of given)
+
+-- a file with an answer, of which no text is refused: a verdict says what is wrong with it
+abbrev pub answer_file : List ℕ → File (List ℕ)
+answer_file name = record { name = name; limit = answer_limit; Stands = λ text x. x ≡ text; Refuses = λ text written. ⊥ }

@@ -1,0 +1,24 @@
+-- What is to be done for each command.
+use Rattle.std.specs.Prelude.{◌≡◌, ℕ, List, codes}
+use Rattle.sfm_words.specs.Subcommand.{Command, solve, check, demo, weigh, weighed}
+use Rattle.sfm_due.specs.Due.{IsJudged, IsJudgedBySizes, IsSolved, IsWeighed, Question}
+use Rattle.sfm_due.specs.Demo.{IsDueToDemo}
+use Rattle.sfm_run.specs.Task.{File, Task, ends, reads}
+use Rattle.sfm_run.specs.Files.{answer_file, instance_file, sizes_file}
+
+-- a text that was asked for is due, with code 0
+abbrev pub done : (List ℕ → Type 0) → Task
+done IsRight = ends (λ written code. IsRight written × (code ≡ 0))
+
+-- the instance that a command is about
+abbrev pub main_file : List ℕ → File Question
+main_file = instance_file (codes "refused")
+
+-- the task of a command
+abbrev pub task_of : Command → Task
+task_of (solve file) = reads (main_file file) (λ asked. done (IsSolved asked))
+task_of (check file answer) = reads (main_file file) (λ asked. reads (answer_file answer) (λ text. ends (IsJudged asked text)))
+task_of (demo seed) = ends (IsDueToDemo seed)
+task_of (weigh file sizes) = reads (main_file file) (λ asked. reads (sizes_file asked sizes) (λ w. done (IsWeighed asked w)))
+task_of (weighed file sizes answer) = reads (main_file file) (λ asked. reads (sizes_file asked sizes)
+    (λ w. reads (answer_file answer) (λ text. ends (IsJudgedBySizes asked w text))))

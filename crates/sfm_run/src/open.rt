@@ -1,0 +1,82 @@
+// Files that commands open: each is read whole, and stands for something, or is refused.
+ghost use Rattle.std.specs.Prelude.{◌≡◌, length, IfOk};
+ghost use Rattle.sfm_sizes.specs.Sizes.{AreElementSizes};
+ghost use Rattle.sfm_due.specs.Meanings.{question_of};
+ghost use Rattle.sfm_run.specs.{Files.{instance_file, sizes_file}, Preparing.{IfGood, IsFaulty, OpensFile, TellsSizes, items_of}};
+
+use sfm_due::{Due, Status, feed_text, read_text, refuse};
+use sfm_io::Shelf;
+use sfm_kind::Instance;
+use sfm_side::read_sizes;
+use sfm_text::{Reason, TEXT_LIMIT, TextEnd};
+use std::alloc::Global;
+
+/// What a good text stands for, or what is due for one that is not good.
+#[derive(Drop)]
+pub enum Opened<T> {
+    Good(T),
+    Faulty(Due),
+}
+
+/// What is due for a text with this fault, which that word refuses.
+fn faulty<T: Drop>(
+    alloc: Global,
+    word: &[u8],
+    line: usize,
+    reason: Reason,
+) -> Result<Opened<T>, Status>
+    ensures { IsFaulty word.now line reason result }
+{
+    match refuse(alloc, word, line, reason) {
+        Ok(due) => Ok(Opened::Faulty(due)),
+        Err(_) => Err(Status::Memory),
+    }
+}
+
+/// Opens a file with an instance. A text with a fault is refused with that word.
+pub fn open_instance<S: Shelf>(
+    alloc: Global,
+    shelf: &mut S,
+    word: &[u8],
+    file: &str,
+) -> Result<Opened<Instance>, Status>
+    ensures { OpensFile question_of (instance_file word.now file.now) (S.state shelf.old)
+        (S.state shelf.new) result }
+{
+    let reader = feed_text(alloc, shelf, file)?;
+    match reader.finish(alloc) {
+        Ok(instance) => Ok(Opened::Good(instance)),
+        Err(TextEnd::Refused { line, reason }) => faulty(alloc, word, line, reason),
+        Err(TextEnd::Memory) => Err(Status::Memory),
+    }
+}
+
+/// The sizes that a text gives the elements of an instance, or what is due for a text with a fault.
+fn sizes_in(alloc: Global, instance: &Instance, text: &[u8]) -> Result<Opened<Vec<i128>>, Status>
+    ensures told { TellsSizes instance.now text.now result }
+{
+    match read_sizes(alloc, instance, text) {
+        Ok(sizes) => Ok(Opened::Good(sizes)),
+        Err(TextEnd::Refused { line, reason }) => faulty(alloc, b"sizes", line, reason),
+        Err(TextEnd::Memory) => Err(Status::Memory),
+    }
+}
+
+/// Opens a file with the sizes of the elements of an instance.
+pub fn open_sizes<S: Shelf>(
+    alloc: Global,
+    shelf: &mut S,
+    instance: &Instance,
+    file: &str,
+) -> Result<Opened<Vec<i128>>, Status>
+    ensures opened { OpensFile items_of (sizes_file (question_of instance.now) file.now)
+        (S.state shelf.old) (S.state shelf.new) result }
+    ensures sizes { IfOk result (IfGood (λ v. AreElementSizes (length instance.now.names)
+        (items_of v))) }
+{
+    match read_text(alloc, shelf, file, TEXT_LIMIT) {
+        Ok(Some(text)) => sizes_in(alloc, instance, text.as_slice()),
+        Ok(None) => faulty(alloc, b"sizes", 0, Reason::Long),
+        Err(status) => Err(status),
+    }
+}

@@ -1,0 +1,190 @@
+// What is due for each command, made whole before any of it is written.
+ghost use Rattle.std.specs.Prelude.{◌≡◌, ◌≤◌, ℕ, List, length, IfOk};
+ghost use Rattle.sfm_io.specs.Shelf.{ShelfState};
+ghost use Rattle.sfm_words.specs.{Command.{command_of}, Subcommand.{solve as Solving, check as Checking, demo as Showing, weigh as Weighing, weighed as CheckingWeighed}};
+ghost use Rattle.sfm_sizes.specs.Sizes.{AreElementSizes};
+ghost use Rattle.sfm_due.specs.{Due.{IsJudged, IsJudgedBySizes, IsSolved, IsWeighed}, Meanings.{question_of}, Owing.{IsMade}};
+ghost use Rattle.sfm_run.specs.{Files.{answer_file, sizes_file}, Preparing.{PassesOn, Prepares}, Task.{ends, reads}, Tasks.{done, task_of}};
+
+use crate::open::{Opened, open_instance, open_sizes};
+use sfm_base::Memory;
+use sfm_cert::ANSWER_LIMIT;
+use sfm_due::{
+    Due, Status, due_to_check, due_to_check_weighed, due_to_demo, due_to_solve, due_to_weigh,
+    read_text,
+};
+use sfm_io::Shelf;
+use sfm_kind::Instance;
+use sfm_words::Command;
+use std::alloc::Global;
+
+/// What was made without the shelf, or that memory ran out.
+fn made(due: Result<Due, Memory>) -> Result<Due, Status>
+    ensures { PassesOn due result }
+{
+    match due {
+        Ok(due) => Ok(due),
+        Err(_) => Err(Status::Memory),
+    }
+}
+
+/// Reads an instance, and makes what is due to solve it.
+fn prepare_solve<S: Shelf>(alloc: Global, shelf: &mut S, file: &str) -> Result<Due, Status>
+    ensures { Prepares (task_of (Solving file.now)) (S.state shelf.old) (S.state shelf.new) result }
+{
+    match open_instance(alloc, shelf, b"refused", file) {
+        Ok(Opened::Good(instance)) => made(due_to_solve(alloc, &instance)),
+        Ok(Opened::Faulty(due)) => Ok(due),
+        Err(status) => Err(status),
+    }
+}
+
+/// Reads an answer, and makes what is due to check it against an instance.
+fn check_answer<S: Shelf>(
+    alloc: Global,
+    shelf: &mut S,
+    instance: &Instance,
+    answer: &str,
+) -> Result<Due, Status>
+    ensures { Prepares (reads (answer_file answer.now) (λ text. ends (IsJudged
+        (question_of instance.now) text))) (S.state shelf.old) (S.state shelf.new) result }
+{
+    match read_text(alloc, shelf, answer, ANSWER_LIMIT) {
+        Ok(text) => made(due_to_check(alloc, instance, &text)),
+        Err(status) => Err(status),
+    }
+}
+
+/// Reads an instance and then, where that has no fault, an answer, and makes what is due to check it.
+fn prepare_check<S: Shelf>(
+    alloc: Global,
+    shelf: &mut S,
+    file: &str,
+    answer: &str,
+) -> Result<Due, Status>
+    ensures { Prepares (task_of (Checking file.now answer.now)) (S.state shelf.old)
+        (S.state shelf.new) result }
+{
+    match open_instance(alloc, shelf, b"refused", file) {
+        Ok(Opened::Good(instance)) => check_answer(alloc, shelf, &instance, answer),
+        Ok(Opened::Faulty(due)) => Ok(due),
+        Err(status) => Err(status),
+    }
+}
+
+/// Makes what is due for a demonstration; no file is opened.
+fn prepare_demo(alloc: Global, seed: u64) -> Result<Due, Status>
+    requires { seed ≤ 999999999 }
+    ensures { (shelf : ShelfState) → Prepares (task_of (Showing seed)) shelf shelf result }
+{
+    made(due_to_demo(alloc, seed))
+}
+
+/// Reads sizes behind an instance, and makes what is due to find its slopes by them.
+fn weigh_behind<S: Shelf>(
+    alloc: Global,
+    shelf: &mut S,
+    instance: &Instance,
+    sizes: &str,
+) -> Result<Due, Status>
+    ensures { Prepares (reads (sizes_file (question_of instance.now) sizes.now) (λ w. done
+        (IsWeighed (question_of instance.now) w))) (S.state shelf.old) (S.state shelf.new) result }
+{
+    match open_sizes(alloc, shelf, instance, sizes) {
+        Ok(Opened::Good(sizes)) => made(due_to_weigh(alloc, instance, &sizes)),
+        Ok(Opened::Faulty(due)) => Ok(due),
+        Err(status) => Err(status),
+    }
+}
+
+/// Reads an instance and sizes, and makes what is due to find its slopes by them.
+fn prepare_weigh<S: Shelf>(
+    alloc: Global,
+    shelf: &mut S,
+    file: &str,
+    sizes: &str,
+) -> Result<Due, Status>
+    ensures { Prepares (task_of (Weighing file.now sizes.now)) (S.state shelf.old)
+        (S.state shelf.new) result }
+{
+    match open_instance(alloc, shelf, b"refused", file) {
+        Ok(Opened::Good(instance)) => weigh_behind(alloc, shelf, &instance, sizes),
+        Ok(Opened::Faulty(due)) => Ok(due),
+        Err(status) => Err(status),
+    }
+}
+
+/// Reads an answer behind an instance and sizes, and makes what is due to check it against them.
+fn check_weighed<S: Shelf>(
+    alloc: Global,
+    shelf: &mut S,
+    instance: &Instance,
+    sizes: &[i128],
+    answer: &str,
+) -> Result<Due, Status>
+    requires { AreElementSizes (length instance.now.names) sizes.now }
+    ensures { Prepares (reads (answer_file answer.now) (λ text. ends (IsJudgedBySizes
+        (question_of instance.now) sizes.now text))) (S.state shelf.old) (S.state shelf.new) result }
+{
+    match read_text(alloc, shelf, answer, ANSWER_LIMIT) {
+        Ok(text) => made(due_to_check_weighed(alloc, instance, sizes, &text)),
+        Err(status) => Err(status),
+    }
+}
+
+/// Reads sizes and an answer behind an instance, and makes what is due to check the answer.
+fn weighed_behind<S: Shelf>(
+    alloc: Global,
+    shelf: &mut S,
+    instance: &Instance,
+    sizes: &str,
+    answer: &str,
+) -> Result<Due, Status>
+    ensures { Prepares (reads (sizes_file (question_of instance.now) sizes.now) (λ w. reads
+        (answer_file answer.now) (λ text. ends (IsJudgedBySizes (question_of instance.now) w text))))
+        (S.state shelf.old) (S.state shelf.new) result }
+{
+    match open_sizes(alloc, shelf, instance, sizes) {
+        Ok(Opened::Good(sizes)) => check_weighed(alloc, shelf, instance, &sizes, answer),
+        Ok(Opened::Faulty(due)) => Ok(due),
+        Err(status) => Err(status),
+    }
+}
+
+/// Reads an instance, sizes and an answer, each where those before it have no fault, and makes what is due to check the
+/// answer.
+fn prepare_weighed<S: Shelf>(
+    alloc: Global,
+    shelf: &mut S,
+    file: &str,
+    sizes: &str,
+    answer: &str,
+) -> Result<Due, Status>
+    ensures { Prepares (task_of (CheckingWeighed file.now sizes.now answer.now))
+        (S.state shelf.old) (S.state shelf.new) result }
+{
+    match open_instance(alloc, shelf, b"refused", file) {
+        Ok(Opened::Good(instance)) => weighed_behind(alloc, shelf, &instance, sizes, answer),
+        Ok(Opened::Faulty(due)) => Ok(due),
+        Err(status) => Err(status),
+    }
+}
+
+/// Makes what is due for a command whole.
+pub fn prepare<S: Shelf>(alloc: Global, shelf: &mut S, command: Command) -> Result<Due, Status>
+    requires { (seed : ℕ) → command_of command ≡ Showing seed → seed ≤ 999999999 }
+    ensures { Prepares (task_of (command_of command.entry)) (S.state shelf.old) (S.state shelf.new)
+        result }
+{
+    match command {
+        Command::Solve { file } => prepare_solve(alloc, shelf, file),
+        Command::Check { file, answer } => prepare_check(alloc, shelf, file, answer),
+        Command::Demo { seed } => prepare_demo(alloc, seed),
+        Command::Weigh { file, sizes } => prepare_weigh(alloc, shelf, file, sizes),
+        Command::Weighed {
+            file,
+            sizes,
+            answer,
+        } => prepare_weighed(alloc, shelf, file, sizes, answer),
+    }
+}

@@ -1,0 +1,42 @@
+// Calls over an instance, a text beside it and an answer, in memory.
+use crate::cases::{Ended, SOUND, call};
+use sfm_base::Memory;
+use sfm_io::MemoryShelf;
+use std::alloc::Global;
+
+/// One call: its words, the texts of the files `file`, `side` and `answer`, and what must come.
+#[derive(Clone, Copy)]
+pub struct Row<'a> {
+    pub words: &'a [&'a str],
+    pub file: &'a [u8],
+    pub side: &'a [u8],
+    pub answer: &'a [u8],
+    pub code: u8,
+    pub out: &'a [u8],
+    pub err: &'a [u8],
+}
+
+/// A shelf with the three texts.
+fn shelf_of(alloc: Global, row: &Row) -> Result<MemoryShelf, Memory> {
+    let mut shelf = MemoryShelf::new(alloc, 65536, &[])?;
+    shelf.add("file", row.file)?;
+    shelf.add("side", row.side)?;
+    shelf.add("answer", row.answer)?;
+    Ok(shelf)
+}
+
+/// One call over the three texts.
+fn called(alloc: Global, row: &Row) -> Result<Ended, Memory> {
+    let mut shelf = shelf_of(alloc, row)?;
+    call(alloc, row.words, &mut shelf, &SOUND)
+}
+
+/// Whether a call ends as it must.
+pub fn is_met(alloc: Global, row: &Row) -> bool {
+    match called(alloc, row) {
+        Ok(ended) => {
+            ended.code == row.code && ended.out.taken() == row.out && ended.err.taken() == row.err
+        }
+        Err(_) => false,
+    }
+}
