@@ -4,7 +4,7 @@
     docs/meaning.py            writes docs/MEANING.md anew from the sources
     docs/meaning.py --check    compares docs/MEANING.md with the sources; the status is 1 where they differ
 
-The contract of `run` (crates/sfm/src/run.rt) names definitions in the `specs/` of the crates. Each is a block of lines
+The contract of `run` (crates/sfm_run/src/call.rt) names definitions in the `specs/` of the crates. Each is a block of lines
 that begins at the left margin; the comment before it says in a sentence what it means. Names are followed through the
 `use` lines of each file. Definitions of the library, and the types that the code declares, are named and not followed.
 """
@@ -16,7 +16,7 @@ import sys
 
 ROOT = pathlib.Path(__file__).resolve().parent.parent
 DOCUMENT = ROOT / "docs" / "MEANING.md"
-TOP = "crates/sfm/src/run.rt"
+TOP = "crates/sfm_run/src/call.rt"
 CALL = "pub fn run"
 
 # In reading order: the mathematics, then the texts, then the outside and how a call ends.
@@ -30,14 +30,15 @@ PARTS = [
         "sfm_spec.Names", "sfm_base.NumberText", "sfm_lines.Lines", "sfm_lines.Parts",
         "sfm_lines.LabelTerms", "sfm_lines.RankLines", "sfm_lines.Words", "sfm_lines.TermLines", "sfm_lines.Reading",
         "sfm_text.Language", "sfm_text.GoodText", "sfm_lines.Reasons", "sfm_lines.", "sfm_text."]),
+    ("Texts beside an instance", ["sfm_side.Side", "sfm_side.Numbers", "sfm_side."]),
     ("Answer texts", ["sfm_cert.", "sfm_check."]),
     ("The text of a demonstration", ["sfm_demo.Draws", "sfm_demo."]),
-    ("The outside, the words, and how a call ends", ["sfm_io.", "sfm_words.", "sfm_due.Due", "sfm_due.", "sfm."]),
+    ("The outside, the words, and how a call ends", ["sfm_io.", "sfm_words.Subcommand", "sfm_words.", "sfm_due.Due", "sfm_due.", "sfm_run.Task", "sfm_run."]),
 ]
 
 HEAD = """# What must be believed
 
-The contract of the one top call `run` (`crates/sfm/src/run.rt`) is proved. What it says rests on the definitions below:
+The contract of the one top call `run` (`crates/sfm_run/src/call.rt`) is proved. What it says rests on the definitions below:
 all that its clauses reach, in reading order, with the file of each. A reader who agrees with them needs to read no code
 and no proof. `docs/meaning.py` makes this page from the sources, and `docs/meaning.py --check` compares the two.
 """
