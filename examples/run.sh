@@ -18,7 +18,7 @@ instances() {
   for file in "$here"/*.sfm; do
     echo "$(basename "$file")"
     sfm solve "$file" >"$work/answer"
-    sed '/^at /Q' "$work/answer" | cut -c1-100
+    sed '/^at /,$d' "$work/answer" | cut -c1-100
     sfm check "$file" "$work/answer"
   done
 }
