@@ -1,15 +1,19 @@
 #!/usr/bin/env python3
 """Finds how well a network holds together, where it is densest, and its parts from the densest on.
 
-EDGES is a list of edges, two names of vertices a line (at most 256 lines; `#` begins a comment). The instance is one rank line:
-how many edges a part needs to join what it joins. Its first slope is 1 over the greatest density, the most edges for each
+EDGES is a list of edges, two names of vertices a line (at most 256 edges; `#` begins a comment). Behind them may stand the braces
+in which networkx writes the data of an edge, which are passed over. The instance is one rank line: how many edges a part needs
+to join what it joins. Its first slope is 1 over the greatest density, the most edges for each
 vertex but one of a part; its last slope is 1 over the strength, the fewest edges that must be cut for each further piece.
 
     python3 network.py data/karate.edges --svg karate.svg
 """
 import argparse
+import re
+import sys
 
 from answers import in_lines, solve
+from faults import MOST_NAMES, fault, name_of, read_text, run_main, write_text
 
 SIZE = 460
 # Colours of the parts from the densest on; the last one serves for all further parts.
@@ -18,11 +22,19 @@ COLOURS = ["#b2182b", "#ef8a62", "#e0a800", "#5aae61", "#4393c3", "#2166ac", "#7
 
 def read_edges(path):
     """The edges of a file, each a pair of names."""
-    with open(path, encoding="ascii") as file:
-        edges = [tuple(line.split("#")[0].split()) for line in file]
-    edges = [edge for edge in edges if edge]
-    if not edges or len(edges) > 256 or any(len(edge) != 2 for edge in edges):
-        raise SystemExit(f"{path}: it needs 1 to 256 lines of two names")
+    edges = []
+    for number, line in enumerate(read_text(path).splitlines(), 1):
+        words = re.sub(r"\{.*\}\s*$", "", line.split("#")[0]).split()
+        if not words:
+            continue
+        if len(words) != 2:
+            what = "one name stands" if len(words) == 1 else f"{len(words)} words stand"
+            raise fault(path, number, f"{what} here, where an edge has two names with a space between")
+        edges.append(tuple(name_of(path, number, word) for word in words))
+        if len(edges) > MOST_NAMES:
+            raise fault(path, number, f"this is one edge more than {MOST_NAMES}, the most that an instance has")
+    if not edges:
+        raise fault(path, None, "no edge stands in it")
     return edges
 
 
@@ -177,9 +189,8 @@ def main():
     found = parts(edges, solve(instance(edges), options.instance))
     print("\n".join(tell(edges, found)))
     if options.svg:
-        with open(options.svg, "w", encoding="ascii", newline="\n") as file:
-            file.write(draw(edges, found))
+        write_text(options.svg, draw(edges, found))
 
 
 if __name__ == "__main__":
-    main()
+    sys.exit(run_main(main))

@@ -1,7 +1,8 @@
 #!/usr/bin/env python3
 """Parts a grey picture (PGM, at most 256 pixels) into a dark object and the rest, and draws what was found.
 
-Each pixel is an element and weighs its grey less LEVEL, so what is darker than LEVEL speaks for the object. A border between
+Each pixel is an element and weighs its grey less LEVEL, so what is darker than LEVEL speaks for the object; with --bright it is
+what is brighter, and the weight is LEVEL less the grey. A border between
 two neighbours, one in the object and one not, costs BORDER. The least set is the object. A slope moves LEVEL, so the slope at
 which a pixel comes in, added to LEVEL, is its grey in a picture made smooth by the cost of borders (total variation).
 
@@ -9,30 +10,53 @@ which a pixel comes in, added to LEVEL, is its grey in a picture made smooth by 
 """
 import argparse
 import re
+import sys
 
 from answers import solve
+from faults import MOST_NAMES, fault, read_bytes, run_main, write_text
 
 # The kind of a PGM, its width, height and greatest grey; a comment goes from # to the end of a line.
 PGM_HEAD = re.compile(rb"(P[25])" + 3 * rb"(?:\s|#[^\n]*\n)+(\d+)" + rb"\s")
+SMALLER = "ImageMagick makes one: convert PICTURE -colorspace Gray -resize 16x16 -depth 8 small.pgm"
 CELL = 12
 GAP = 28
 # Colours of the heat map from early to late.
 HEAT = [(59, 15, 112), (140, 41, 129), (222, 73, 104), (254, 159, 109), (252, 253, 191)]
 
 
+def plain_greys(path, data, start):
+    """The greys of a plain picture, each with its line; a comment goes from # to the end of a line."""
+    first = data.count(b"\n", 0, start) + 1
+    for number, line in enumerate(data[start:].split(b"\n"), first):
+        for word in line.split(b"#")[0].split():
+            if not re.fullmatch(rb"[0-9]+", word):
+                raise fault(path, number, f"{word.decode('ascii', 'replace')!r} stands where a grey is due, a whole number")
+            yield int(word), number
+
+
 def read_pgm(path):
     """The rows of a picture, each grey from 0 (black) to 255 (white). Plain (P2) and raw (P5) files are read."""
-    with open(path, "rb") as file:
-        data = file.read()
+    data = read_bytes(path)
     head = PGM_HEAD.match(data)
-    width, height, most = (int(word) for word in head.groups()[1:]) if head else (0, 0, 0)
-    if not 0 < width * height <= 256 or not 0 < most < 256:
-        raise SystemExit(f"{path}: it needs to be a PGM of 1 to 256 pixels with one byte each")
-    body = data[head.end() :]
-    greys = list(body) if head[1] == b"P5" else [int(word) for word in body.split()]
-    if len(greys) < width * height:
-        raise SystemExit(f"{path}: it ends too early")
-    greys = [grey * 255 // most for grey in greys]
+    if not head:
+        raise fault(path, 1, f"this is no PGM with its width, height and greatest grey. {SMALLER}")
+    width, height, most = (int(word) for word in head.groups()[1:])
+    if not 0 < width * height <= MOST_NAMES:
+        raise fault(path, None, f"it has {width} x {height} pixels, and 1 to {MOST_NAMES} are taken. {SMALLER}")
+    if not 0 < most < 256:
+        raise fault(path, None, f"its greatest grey is {most}, and 1 to 255 are taken. {SMALLER}")
+    if head[1] == b"P5":
+        greys = [(grey, None) for grey in data[head.end() :]]
+    else:
+        greys = list(plain_greys(path, data, head.end()))
+    count = width * height
+    if len(greys) < count:
+        raise fault(path, None, f"it ends after {len(greys)} greys, where {width} x {height} are due")
+    for place, (grey, line) in enumerate(greys[:count]):
+        if grey > most:
+            where = f"row {place // width + 1}, column {place % width + 1}"
+            raise fault(path, line, f"the grey of {where} is {grey}, and the greatest is said to be {most}")
+    greys = [grey * 255 // most for grey, _ in greys[:count]]
     return [greys[row * width : (row + 1) * width] for row in range(height)]
 
 
@@ -40,15 +64,16 @@ def name(row, column):
     return f"r{row}c{column}"
 
 
-def instance(rows, level, border):
+def instance(rows, options):
     """A weight for each pixel, and for each two neighbours a concave line that costs BORDER where it has one of the two."""
+    sign = -1 if options.bright else 1
     places = [(r, c) for r in range(len(rows)) for c in range(len(rows[0]))]
     lines = ["sfm 1", "ground " + " ".join(name(*place) for place in places)]
-    lines.append("weight " + " ".join(f"{name(r, c)}:{rows[r][c] - level}" for r, c in places))
+    lines.append("weight " + " ".join(f"{name(r, c)}:{sign * (rows[r][c] - options.level)}" for r, c in places))
     for r, c in places:
         for r2, c2 in ((r, c + 1), (r + 1, c)):
             if r2 < len(rows) and c2 < len(rows[0]):
-                lines.append(f"concave {border} 0 : {name(r, c)} {name(r2, c2)}")
+                lines.append(f"concave {options.border} 0 : {name(r, c)} {name(r2, c2)}")
     return [*lines, "end"]
 
 
@@ -117,20 +142,22 @@ def main():
     parser = argparse.ArgumentParser(description=__doc__, formatter_class=argparse.RawDescriptionHelpFormatter)
     parser.add_argument("picture", help="a picture in PGM")
     parser.add_argument("--level", type=int, default=128, help="what is darker speaks for the object (128)")
-    parser.add_argument("--border", type=int, default=16, help="what a border between two pixels costs (16)")
+    parser.add_argument("--bright", action="store_true", help="what is brighter than the level speaks for the object")
+    parser.add_argument("--border", type=int, default=16, help="what a border between two pixels costs, from 0 (16)")
     parser.add_argument("--svg", help="where to draw what was found")
     parser.add_argument("--instance", help="where to keep the instance")
     options = parser.parse_args()
+    if not 0 <= options.border <= 10**12 or abs(options.level) > 10**9:
+        parser.error("--border is from 0 to 10^12, and --level within 10^9 either way")
     rows = read_pgm(options.picture)
-    answer = solve(instance(rows, options.level, options.border), options.instance)
+    answer = solve(instance(rows, options), options.instance)
     least = set(answer.least)
     for r, row in enumerate(rows):
         print("".join("#" if name(r, c) in least else "." for c in range(len(row))))
     print(f"minimum {answer.minimum}, {len(least)} of {len(rows) * len(rows[0])} pixels, {len(answer.steps)} slopes")
     if options.svg:
-        with open(options.svg, "w", encoding="ascii", newline="\n") as file:
-            file.write(draw(rows, answer))
+        write_text(options.svg, draw(rows, answer))
 
 
 if __name__ == "__main__":
-    main()
+    sys.exit(run_main(main))

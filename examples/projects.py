@@ -1,27 +1,70 @@
 #!/usr/bin/env python3
 """Chooses projects that need one another, and draws what the choice costs and brings as a bounty for each project grows.
 
-PROJECTS is a table in CSV with the columns name, cost, worth and needs (names with a space between). A choice takes with each
-project all that it needs (a closure). The slopes say how the best choice grows as each project chosen brings a bounty more.
+PROJECTS is a table in CSV with the columns name, cost, worth and needs (names with a space between), in any order, with commas
+or semicolons between cells. Costs and worths are whole numbers. A choice takes with each project all that it needs (a closure).
+The slopes say how the best choice grows as each project chosen brings a bounty more.
 
     python3 projects.py data/projects.csv --svg projects.svg
 """
 import argparse
 import csv
 import math
+import sys
 from collections import namedtuple
 
 from answers import in_lines, solve
+from faults import MOST_NAMES, fault, name_of, read_text, run_main, whole_of, write_text
 
+COLUMNS = ("name", "cost", "worth", "needs")
 Project = namedtuple("Project", "cost worth needs")
 WIDE, TALL, LEFT, TOP = 640, 300, 60, 40
 
 
+def read_rows(path):
+    """The rows of a table, each with the number of its first line and its cells by the names of their columns."""
+    text = read_text(path)
+    heading = next((line for line in text.splitlines() if line.strip()), "")
+    table = csv.reader(text.splitlines(), delimiter=";" if heading.count(";") > heading.count(",") else ",")
+    columns, line = None, 1
+    while True:
+        try:
+            cells = [cell.strip() for cell in next(table)]
+        except StopIteration:
+            return
+        except csv.Error as error:
+            raise fault(path, table.line_num, str(error))
+        if columns is None and any(cells):
+            columns = [cell.lower() for cell in cells]
+            for column in COLUMNS:
+                if columns.count(column) != 1:
+                    raise fault(path, line, f"the heading needs one column {column!r}, beside the others of {', '.join(COLUMNS)}")
+        elif any(cells):
+            if len(cells) != len(columns):
+                raise fault(path, line, f"{len(cells)} cells stand here, where the heading has {len(columns)}")
+            yield line, dict(zip(columns, cells))
+        line = table.line_num + 1
+
+
 def read_projects(path):
     """The projects of a table by their names."""
-    with open(path, encoding="ascii", newline="") as file:
-        rows = list(csv.DictReader(file))
-    return {row["name"]: Project(int(row["cost"]), int(row["worth"]), row["needs"].split()) for row in rows}
+    projects, lines = {}, {}
+    for line, row in read_rows(path):
+        name = name_of(path, line, row["name"])
+        if name in projects:
+            raise fault(path, line, f"the name {name} stands twice, first in line {lines[name]}")
+        numbers = [whole_of(path, line, f"the {column} of {name}", row[column]) for column in ("cost", "worth")]
+        projects[name], lines[name] = Project(*numbers, list(dict.fromkeys(row["needs"].split()))), line
+        if len(projects) > MOST_NAMES:
+            raise fault(path, line, f"this is one project more than {MOST_NAMES}, the most that an instance has")
+    for name, project in projects.items():
+        for other in project.needs:
+            if other not in projects or other == name:
+                what = "itself" if other == name else f"{other!r}, which is the name of no row"
+                raise fault(path, lines[name], f"{name} needs {what} (names in 'needs' have a space between)")
+    if not projects:
+        raise fault(path, None, "no project stands in it")
+    return projects
 
 
 def instance(projects):
@@ -124,9 +167,8 @@ def main():
     answer = solve(instance(projects), options.instance)
     print("\n".join(tell(projects, answer)))
     if options.svg:
-        with open(options.svg, "w", encoding="ascii", newline="\n") as file:
-            file.write(draw(curve(projects, answer)))
+        write_text(options.svg, draw(curve(projects, answer)))
 
 
 if __name__ == "__main__":
-    main()
+    sys.exit(run_main(main))

@@ -1,6 +1,6 @@
 #!/usr/bin/env bash
-# run.sh: runs each command that README.md, docs/GUIDE.md, docs/FORMATS.md and docs/sfm.1 quote, each script of this folder and
-# each instance, and compares what they print and draw with what is stored. The program is `sfm` on the path, or the one that SFM
+# run.sh: runs each command that README.md, docs/GUIDE.md, docs/FORMATS.md and docs/sfm.1 quote, each script of this folder, also on
+# files that it can't take, and each instance, and compares what they print and draw with what is stored. The program is `sfm` on the path, or the one that SFM
 # names. Nothing in the repository is changed. With --write what is stored (expected/ and pictures/) is written anew.
 # The commands that build the program stand in README.md without a prompt, and are not run.
 here=$(cd "$(dirname "$0")" && pwd)
@@ -46,6 +46,7 @@ for folder in expected pictures; do
   diff -r "$folder" "$work/$folder" >"$work/difference" || { failed=1; head -40 "$work/difference"; }
   echo "examples/$folder: $(ls "$folder" | wc -l) files compared"
 done
+python3 test_scripts.py || failed=1
 python3 quoted.py "$top" README.md docs/GUIDE.md docs/FORMATS.md docs/sfm.1 || failed=1
 [ "$failed" -eq 0 ] && echo "all as stored"
 exit "$failed"

@@ -5,8 +5,10 @@
     python3 show.py towns.answer
 """
 import argparse
+import sys
 
 from answers import Answer
+from faults import read_text, run_main
 
 
 def listed(names):
@@ -36,10 +38,10 @@ def table(answer):
 def main():
     parser = argparse.ArgumentParser(description=__doc__, formatter_class=argparse.RawDescriptionHelpFormatter)
     parser.add_argument("answer", help="a file that sfm solve wrote")
-    with open(parser.parse_args().answer, encoding="ascii") as file:
-        answer = Answer(file.read())
+    path = parser.parse_args().answer
+    answer = Answer(read_text(path), path)
     print("\n".join([*head(answer), "", *table(answer)]))
 
 
 if __name__ == "__main__":
-    main()
+    sys.exit(run_main(main))
