@@ -27,9 +27,10 @@ def fault(path, line, what):
 
 
 def run_main(main):
-    """The exit code of a script: 0, or that of what stopped it, which is told in one line."""
+    """The exit code of a script: what `main` gives, 0 where it gives none, or that of what stopped it, which is told in one line."""
+    sys.stdout.reconfigure(errors="backslashreplace")
     try:
-        main()
+        code = main() or 0
         sys.stdout.flush()
     except Stop as stop:
         print(stop.line, file=sys.stderr)
@@ -38,7 +39,7 @@ def run_main(main):
         # whoever reads has enough; what is left to be printed goes nowhere
         os.dup2(os.open(os.devnull, os.O_WRONLY), sys.stdout.fileno())
         return 4
-    return 0
+    return code
 
 
 def read_bytes(path):
