@@ -23,6 +23,18 @@ instances() {
   done
 }
 
+# The lines of outside.txt, each of which has to stand in the answer of its instance.
+outside() {
+  local missing=0 count=0
+  while IFS='|' read -r file line way; do
+    file=${file% } line=${line# } line=${line% }
+    sfm solve "$file" | grep -Fqx -- "$line" || { missing=$((missing + 1)); echo "$file: no line '$line', found by$way"; }
+    count=$((count + 1))
+  done < <(grep -v '^#' outside.txt)
+  echo "outside.txt: $count lines, $missing missing"
+  [ "$missing" -eq 0 ]
+}
+
 cd "$here" || exit 3
 instances >"$work/expected/instances.txt"
 python3 picture.py data/cells.pgm --svg "$work/pictures/cells.svg" >"$work/expected/cells.txt"
@@ -46,6 +58,7 @@ for folder in expected pictures; do
   diff -r "$folder" "$work/$folder" >"$work/difference" || { failed=1; head -40 "$work/difference"; }
   echo "examples/$folder: $(ls "$folder" | wc -l) files compared"
 done
+outside || failed=1
 python3 test_scripts.py || failed=1
 python3 test_why.py || failed=1
 python3 quoted.py "$top" README.md docs/GUIDE.md docs/FORMATS.md docs/sfm.1 || failed=1
