@@ -107,7 +107,7 @@ def refused_run(library, command, number, once, seconds):
 
 
 def try_each(library, command, step, once, seconds):
-    """Refuses every `step`-th call until there are no more. Counts the runs that ended by want of memory and those that went
+    """Refuses every `step`-th call until there are no more. Counts the runs that ended out of memory and those that went
     on, and lists those that ended otherwise."""
     due = subprocess.run(command, capture_output=True, timeout=seconds, check=True)
     number, wanting, went_on, wrong = 1, 0, 0, []
