@@ -9,7 +9,7 @@ import tempfile
 from collections import namedtuple
 from fractions import Fraction
 
-from faults import Stop, fault, write_text
+from faults import Stop, fault, read_text, write_text
 
 Block = namedtuple("Block", "names needs")
 # One slope: where it is, the names that come in there, the whole set from there on, and what that set is worth.
@@ -18,26 +18,32 @@ Step = namedtuple("Step", "slope new names value")
 LISTED = r"((?: [A-Za-z0-9_]+)*)"
 # The lines of an answer up to its proof, in their order: those of a word may stand there as often as is said.
 LINES = [
-    ("answer", re.compile("answer 1"), 1),
+    ("answer", re.compile("answer 1|weighed 1"), 1),
     ("minimum", re.compile(r"minimum (-?[0-9]+)"), 1),
     ("least", re.compile("least" + LISTED), 1),
     ("greatest", re.compile("greatest" + LISTED), 1),
     ("block", re.compile(f"block [0-9]+{LISTED} :((?: [0-9]+)*)"), None),
     ("slope", re.compile(f"slope (-?[0-9]+/[1-9][0-9]*){LISTED}"), None),
 ]
+# Answers to `sfm solve` begin with the one word, those to `sfm weigh` with the other.
+SAME = {"answer": "weighed"}
 
 
 class Answer:
-    """The answer lines of an answer text: minimum, least, greatest, blocks and steps."""
+    """The answer lines of an answer text: minimum, least, greatest, blocks and steps. Slopes count elements by their sizes, where
+    the answer is one to `sfm weigh`; an element that has none counts as 1."""
 
-    def __init__(self, text, path="the answer"):
+    def __init__(self, text, path="the answer", sizes=None):
+        self.sizes = sizes or {}
+        # whether the values of steps are known: they are not where slopes count by sizes that were not told
+        self.counted = sizes is not None or not text.startswith("weighed")
         self.minimum, self.least, self.greatest = 0, [], []
         self.blocks, self.steps = [], []
         lines = text.splitlines()
         at = 0
         for word, form, count in LINES:
             first = at
-            while at < len(lines) and lines[at].split(" ")[0] == word and at - first != count:
+            while at < len(lines) and lines[at].split(" ")[0] in (word, SAME.get(word)) and at - first != count:
                 found = form.fullmatch(lines[at])
                 if not found:
                     what = f"this is no {word} line of an answer" if at else no_answer(word, lines, at)
@@ -62,11 +68,11 @@ class Answer:
             self.steps.append(self.next_step(Fraction(found[0]), found[1].split()))
 
     def next_step(self, slope, names):
-        """The step at a slope. What its set is worth follows from the one before: each new element adds the slope."""
+        """The step at a slope. What its set is worth follows from the one before: each new element adds the slope, by its size."""
         before, value = (self.steps[-1].names, self.steps[-1].value) if self.steps else ([], 0)
         seen = set(before)
         new = [name for name in names if name not in seen]
-        return Step(slope, new, names, value + slope * len(new))
+        return Step(slope, new, names, value + slope * sum(self.sizes.get(name, 1) for name in new))
 
     def slope_of(self):
         """For each element the slope at which it comes in."""
@@ -86,7 +92,20 @@ def no_answer(due, lines, at):
         "invalid": "this is a verdict and no answer",
         "demo": "this is the line of 'sfm demo' and no answer",
     }
-    return known.get(word, "this is no answer: its first line is not 'answer 1'")
+    return known.get(word, "this is no answer: its first line is not 'answer 1', nor 'weighed 1'")
+
+
+def read_sizes(path):
+    """The sizes that a text of sizes gives, by names of elements."""
+    sizes = {}
+    for number, line in enumerate(read_text(path).splitlines(), 1):
+        word, *pairs = line.split() or ["#"]
+        for pair in pairs if word == "size" else []:
+            if not re.fullmatch(r"[A-Za-z0-9_]+:[1-9][0-9]*", pair):
+                raise fault(path, number, f"{pair!r} is no pair name:size")
+            name, size = pair.split(":")
+            sizes[name] = int(size)
+    return sizes
 
 
 def run(*words):
@@ -99,19 +118,29 @@ def run(*words):
     return done.returncode, done.stdout
 
 
-def solve(lines, keep=None):
-    """Solves the instance of these lines, has the answer checked, and reads it. The instance is kept in the file `keep`."""
+def run_well(*words):
+    """Runs the program, and gives what it printed. It has to end with 0."""
+    code, text = run(*words)
+    if code != 0:
+        raise Stop(code if code > 0 else 70, f"sfm {words[0]} ends with {code}: {text.strip()}")
+    return text
+
+
+def solve(lines, keep=None, sizes=None):
+    """Solves the instance of these lines, has the answer checked, and reads it. The instance is kept in the file `keep`. Where there
+    are sizes of elements, slopes count by these."""
     with tempfile.TemporaryDirectory() as folder:
         instance, answer = keep or os.path.join(folder, "instance.sfm"), os.path.join(folder, "answer")
         write_text(instance, "\n".join(lines) + "\n")
-        code, text = run("solve", instance)
-        if code != 0:
-            raise Stop(code if code > 0 else 70, f"sfm solve ends with {code}: {text.strip()}")
+        files = [instance]
+        if sizes:
+            files.append(instance + ".sizes")
+            pairs = [f"{name}:{size}" for name, size in sizes.items()]
+            write_text(files[1], "\n".join(["sizes 1", "size " + " ".join(pairs), "end"]) + "\n")
+        text = run_well("weigh" if sizes else "solve", *files)
         write_text(answer, text)
-        code, verdict = run("check", instance, answer)
-        if code != 0:
-            raise Stop(code if code > 0 else 70, f"sfm check ends with {code}: {verdict.strip()}")
-    return Answer(text)
+        run_well("weighed" if sizes else "check", *files, answer)
+    return Answer(text, sizes=sizes)
 
 
 def in_lines(names, width=100, indent="    "):

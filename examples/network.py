@@ -1,54 +1,96 @@
 #!/usr/bin/env python3
 """Finds how well a network holds together, where it is densest, and its parts from the densest on.
 
-EDGES is a list of edges, two names of vertices a line (at most 256 edges; `#` begins a comment). Behind them may stand the braces
-in which networkx writes the data of an edge, which are passed over. The instance is one rank line: how many edges a part needs
-to join what it joins. Its first slope is 1 over the greatest density, the most edges for each
-vertex but one of a part; its last slope is 1 over the strength, the fewest edges that must be cut for each further piece.
+EDGES is a list of edges, two names of vertices a line (at most 256 edges; `#` begins a comment). A third column has what an edge
+is worth, a whole number from 1, or {'weight': 3}, as networkx writes it; an edge without one is worth 1. The instance is one
+rank line: how many edges a part needs to join what it joins; what edges are worth are sizes, by which `sfm weigh` counts. The
+first slope is 1 over the greatest density, the most worth of edges for each vertex but one of a part; the last slope is 1 over the
+strength, the least worth of edges that must be cut for each further piece.
 
     python3 network.py data/karate.edges --svg karate.svg
 """
 import argparse
+import ast
 import re
 import sys
+from collections import namedtuple
 
 from answers import in_lines, solve
-from faults import MOST_NAMES, fault, name_of, read_text, run_main, write_text
+from faults import MOST_NAMES, fault, name_of, read_text, run_main, whole_of, write_text
 
 SIZE = 460
 # Colours of the parts from the densest on; the last one serves for all further parts.
 COLOURS = ["#b2182b", "#ef8a62", "#e0a800", "#5aae61", "#4393c3", "#2166ac", "#762a83", "#777777"]
+MOST_WORTH = 10**6
+
+Edge = namedtuple("Edge", "u v worth")
+
+
+def words_of(path, number, line):
+    """The words of a line, with the weight that stands in braces behind them in their place."""
+    found = re.fullmatch(r"([^{#]*)(\{.*\})\s*", line)
+    if not found:
+        return line.split("#")[0].split()
+    try:
+        weight = ast.literal_eval(found[2]).get("weight")
+    except (ValueError, SyntaxError, AttributeError):
+        raise fault(path, number, f"{found[2]} is not what networkx writes, such as {{'weight': 3}}")
+    return found[1].split() + ([] if weight is None else [str(weight)])
+
+
+def worth_of(path, number, text):
+    """What an edge is worth: 3, and 3.0 as well, as networkx may write it."""
+    worth = whole_of(path, number, "the worth of the edge", re.sub(r"\.0+$", "", text))
+    if not 1 <= worth <= MOST_WORTH:
+        raise fault(path, number, f"the worth of the edge is {worth}, and it is from 1 to {MOST_WORTH:,}")
+    return worth
 
 
 def read_edges(path):
-    """The edges of a file, each a pair of names."""
+    """The edges of a file."""
     edges = []
     for number, line in enumerate(read_text(path).splitlines(), 1):
-        words = re.sub(r"\{.*\}\s*$", "", line.split("#")[0]).split()
+        words = words_of(path, number, line)
         if not words:
             continue
-        if len(words) != 2:
+        if len(words) not in (2, 3):
             what = "one name stands" if len(words) == 1 else f"{len(words)} words stand"
-            raise fault(path, number, f"{what} here, where an edge has two names with a space between")
-        edges.append(tuple(name_of(path, number, word) for word in words))
+            raise fault(path, number, f"{what} here, where an edge has two names with a space between, and its worth behind them")
+        ends = [name_of(path, number, word) for word in words[:2]]
+        edges.append(Edge(*ends, worth_of(path, number, words[2]) if len(words) == 3 else 1))
         if len(edges) > MOST_NAMES:
             raise fault(path, number, f"this is one edge more than {MOST_NAMES}, the most that an instance has")
     if not edges:
         raise fault(path, None, "no edge stands in it")
+    if worth(edges) > MOST_WORTH:
+        raise fault(path, None, f"its edges are worth {worth(edges):,} together, and {MOST_WORTH:,} are taken")
     return edges
+
+
+def worth(edges):
+    return sum(edge.worth for edge in edges)
+
+
+def name(place):
+    return f"e{place + 1}"
+
+
+def sizes_of(edges):
+    """What edges are worth, where some are not worth 1; else nothing, since elements without sizes count as 1 each."""
+    return {name(place): edge.worth for place, edge in enumerate(edges)} if worth(edges) > len(edges) else None
 
 
 def instance(edges):
     """The edges are the elements e1, e2 and so on of one graphic rank."""
-    names = [f"e{number}" for number in range(1, len(edges) + 1)]
-    entries = [f"{name}={u}-{v}" for name, (u, v) in zip(names, edges)]
+    names = [name(place) for place in range(len(edges))]
+    entries = [f"{name(place)}={edge.u}-{edge.v}" for place, edge in enumerate(edges)]
     return ["sfm 1", "ground " + " ".join(names), "rank 1 graphic : " + " ".join(entries), "end"]
 
 
 def joined(edges):
     """The vertices of each connected piece that these edges make, in the order in which they are met."""
-    label = {vertex: vertex for edge in edges for vertex in edge}
-    for u, v in edges:
+    label = {vertex: vertex for edge in edges for vertex in edge[:2]}
+    for u, v, _ in edges:
         old, new = label[v], label[u]
         if old != new:
             label = {vertex: new if it == old else it for vertex, it in label.items()}
@@ -62,8 +104,8 @@ def parts(edges, answer):
     """For each slope: the slope, the edges that come in, and the pieces that are new when they are in."""
     found, known = [], []
     for step in answer.steps:
-        new = [edges[int(name[1:]) - 1] for name in step.new]
-        pieces = joined([edges[int(name[1:]) - 1] for name in step.names])
+        new = [edges[int(it[1:]) - 1] for it in step.new]
+        pieces = joined([edges[int(it[1:]) - 1] for it in step.names])
         found.append((step.slope, new, [piece for piece in pieces if piece not in known]))
         known = pieces
     return found
@@ -75,12 +117,13 @@ def by_length(name):
 
 
 def counted(edges):
-    return "1 edge" if len(edges) == 1 else f"{len(edges)} edges"
+    count = "1 edge" if len(edges) == 1 else f"{len(edges)} edges"
+    return count if worth(edges) == len(edges) else f"{count} worth {worth(edges)}"
 
 
 def tell(edges, found):
     """What the slopes say, as lines of text. A slope of 0 is that of edges from a vertex to itself."""
-    vertices = {vertex for edge in edges for vertex in edge}
+    vertices = {vertex for edge in edges for vertex in edge[:2]}
     lines = [f"{len(vertices)} vertices, {counted(edges)}"]
     slopes = [slope for slope, _, _ in found if slope > 0]
     if slopes:
@@ -93,9 +136,9 @@ def tell(edges, found):
 
 def distances(edges):
     """For each two vertices the fewest edges from one to the other; the number of vertices where there is no way."""
-    vertices = list(dict.fromkeys(vertex for edge in edges for vertex in edge))
+    vertices = list(dict.fromkeys(vertex for edge in edges for vertex in edge[:2]))
     beside = {vertex: set() for vertex in vertices}
-    for u, v in edges:
+    for u, v, _ in edges:
         beside[u].add(v)
         beside[v].add(u)
     found = {}
@@ -153,7 +196,7 @@ def draw(edges, found):
     lines, discs, key, first = [], [], [], {}
     for number, (slope, new, _) in enumerate(found):
         colour = COLOURS[min(number, len(COLOURS) - 1)]
-        for u, v in new:
+        for u, v, _ in new:
             first.setdefault(u, colour)
             first.setdefault(v, colour)
             (x1, y1), (x2, y2) = at[u], at[v]
@@ -183,10 +226,10 @@ def main():
     parser = argparse.ArgumentParser(description=__doc__, formatter_class=argparse.RawDescriptionHelpFormatter)
     parser.add_argument("edges", help="a list of edges")
     parser.add_argument("--svg", help="where to draw the network")
-    parser.add_argument("--instance", help="where to keep the instance")
+    parser.add_argument("--instance", help="where to keep the instance, and its sizes in FILE.sizes")
     options = parser.parse_args()
     edges = read_edges(options.edges)
-    found = parts(edges, solve(instance(edges), options.instance))
+    found = parts(edges, solve(instance(edges), options.instance, sizes_of(edges)))
     print("\n".join(tell(edges, found)))
     if options.svg:
         write_text(options.svg, draw(edges, found))

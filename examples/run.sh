@@ -13,7 +13,7 @@ ln -s "$(realpath "$program")" "$work/bin/sfm"
 export PATH="$work/bin:$PATH" PYTHONDONTWRITEBYTECODE=1
 unset SFM
 
-# The answer of each instance up to its proof, 100 letters of a line, and the verdict on the whole.
+# The answer of each instance up to its proof, 100 letters of a line, and the verdict on the whole; then of those with sizes.
 instances() {
   for file in "$here"/*.sfm; do
     echo "$(basename "$file")"
@@ -21,14 +21,23 @@ instances() {
     sed '/^at /,$d' "$work/answer" | cut -c1-100
     sfm check "$file" "$work/answer"
   done
+  for sizes in "$here"/*.sizes; do
+    file=${sizes%.sizes}.sfm
+    echo "$(basename "$file") $(basename "$sizes")"
+    sfm weigh "$file" "$sizes" >"$work/answer"
+    sed '/^at /,$d' "$work/answer" | cut -c1-100
+    sfm weighed "$file" "$sizes" "$work/answer"
+  done
 }
 
-# The lines of outside.txt, each of which has to stand in the answer of its instance.
+# The lines of outside.txt, each of which has to stand in the answer of its instance, or of its instance with sizes.
 outside() {
   local missing=0 count=0
   while IFS='|' read -r file line way; do
-    file=${file% } line=${line# } line=${line% }
-    sfm solve "$file" | grep -Fqx -- "$line" || { missing=$((missing + 1)); echo "$file: no line '$line', found by$way"; }
+    file=${file% } line=${line# } line=${line% } command=solve
+    [ "$file" = "${file% *}" ] || command=weigh
+    # the name of an instance and that of its sizes stand with a space between
+    sfm "$command" $file | grep -Fqx -- "$line" || { missing=$((missing + 1)); echo "$file: no line '$line', found by$way"; }
     count=$((count + 1))
   done < <(grep -v '^#' outside.txt)
   echo "outside.txt: $count lines, $missing missing"
@@ -39,7 +48,7 @@ cd "$here" || exit 3
 instances >"$work/expected/instances.txt"
 python3 picture.py data/cells.pgm --svg "$work/pictures/cells.svg" >"$work/expected/cells.txt"
 python3 projects.py data/projects.csv --svg "$work/pictures/projects.svg" >"$work/expected/projects.txt"
-for name in karate petersen grid; do
+for name in karate petersen grid roads; do
   python3 network.py "data/$name.edges" --svg "$work/pictures/$name.svg" >"$work/expected/$name.txt"
 done
 sfm solve projects.sfm >"$work/answer" && python3 show.py "$work/answer" >"$work/expected/show.txt"

@@ -3,11 +3,15 @@
 
     sfm solve towns.sfm > towns.answer
     python3 show.py towns.answer
+
+An answer to `sfm weigh` is shown with the sizes that were given, as its values follow from these:
+
+    python3 show.py jobs.answer --sizes jobs.sizes
 """
 import argparse
 import sys
 
-from answers import Answer
+from answers import Answer, read_sizes
 from faults import read_text, run_main
 
 
@@ -28,18 +32,22 @@ def head(answer):
 
 
 def table(answer):
-    """A row for each slope: from there on, so many elements, worth so much, and those that are new."""
+    """A row for each slope: from there on, so many elements, worth so much where that is known, and those that are new."""
     rows = [("from slope", "elements", "value", "new")]
-    rows += [(str(step.slope), str(len(step.names)), str(step.value), listed(step.new)) for step in answer.steps]
+    for step in answer.steps:
+        value = str(step.value) if answer.counted else "?"
+        rows.append((str(step.slope), str(len(step.names)), value, listed(step.new)))
     widths = [max(len(row[column]) for row in rows) for column in range(3)]
     return ["  ".join([*(row[i].rjust(widths[i]) for i in range(3)), row[3]]) for row in rows]
 
 
 def main():
     parser = argparse.ArgumentParser(description=__doc__, formatter_class=argparse.RawDescriptionHelpFormatter)
-    parser.add_argument("answer", help="a file that sfm solve wrote")
-    path = parser.parse_args().answer
-    answer = Answer(read_text(path), path)
+    parser.add_argument("answer", help="a file that sfm solve or sfm weigh wrote")
+    parser.add_argument("--sizes", help="the sizes that sfm weigh was given")
+    options = parser.parse_args()
+    sizes = read_sizes(options.sizes) if options.sizes else None
+    answer = Answer(read_text(options.answer), options.answer, sizes)
     print("\n".join([*head(answer), "", *table(answer)]))
 
 
