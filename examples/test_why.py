@@ -1,5 +1,5 @@
 #!/usr/bin/env python3
-"""Mistakes in instances, each with the line that `sfm solve` prints and the place and sentence of `why.py`, compared with both.
+"""Mistakes in instances and in texts of sizes, each with the line that `sfm solve` prints and the place and sentence of `why.py`, compared with both.
 
     python3 test_why.py
 
@@ -11,7 +11,7 @@ import sys
 import tempfile
 from collections import namedtuple
 
-from why import why
+from why import Instance, Sizes, first_fault
 
 # What is wrong, the text of the instance, the line of `sfm`, and that of `why.py` from the column on.
 Row = namedtuple("Row", "mistake text line cause")
@@ -401,7 +401,7 @@ ROWS = [
         "sizes too large",
         whole("sfm 1", "ground a", *["weight a:1000000000000"] * 1001, "end"),
         "refused 1003 total",
-        "1: with this line sizes add to 1,001,000,000,000,000, and 1,000,000,000,000,000 are taken: use smaller units",
+        "1: with this line sizes add to 1,001,000,000,000,000, and 1,000,000,000,000,000 are taken: count in a greater unit",
     ),
     Row(
         "too many terms",
@@ -418,30 +418,127 @@ ROWS = [
 ]
 
 
-def differs(row, folder):
-    """What is wrong with a row, or None."""
-    path = os.path.join(folder, "it.sfm")
-    with open(path, "wb") as file:
+# Texts of sizes over the elements a, b, c and d.
+SIZES = [
+    Row("no text", b"", "sizes 1 short", "the text ends here, and 'sizes 1' is still due"),
+    Row("no end", whole("sizes 1", "size a:2"), "sizes 3 short", "the text ends here, and the line 'end' is still due"),
+    Row("an instance", text("weight a:1"), "sizes 1 word", "1: sfm stands here: a text of sizes begins with 'sizes 1'"),
+    Row(
+        "another version",
+        whole("sizes 2", "end"),
+        "sizes 1 shape",
+        "7: 2 stands here, and the first line is 'sizes 1', with nothing behind it",
+    ),
+    Row(
+        "a weight line",
+        whole("sizes 1", "weight a:2", "end"),
+        "sizes 2 word",
+        "1: weight begins no line: lines of sizes begin with size or end",
+    ),
+    Row(
+        "a line behind end",
+        whole("sizes 1", "end", "size a:2"),
+        "sizes 3 word",
+        "1: size stands behind 'end', where blank lines and comments alone may follow",
+    ),
+    Row(
+        "no pair",
+        whole("sizes 1", "size", "end"),
+        "sizes 2 shape",
+        "5: nothing stands here, where pairs name:number are due",
+    ),
+    Row(
+        "a space in a pair",
+        whole("sizes 1", "size a: 2", "end"),
+        "sizes 2 shape",
+        "9: 2 stands alone: write a:2, without a space",
+    ),
+    Row(
+        "a comment behind a line",
+        whole("sizes 1", "size a:2 # two", "end"),
+        "sizes 2 shape",
+        "10: a comment has a line of its own, and begins it",
+    ),
+    Row(
+        "a size of 0",
+        whole("sizes 1", "size a:0", "end"),
+        "sizes 2 number",
+        "8: 0 is out of range: numbers here are 1 to 1,000,000",
+    ),
+    Row(
+        "a decimal",
+        whole("sizes 1", "size a:0.5", "end"),
+        "sizes 2 number",
+        "8: 0.5 is no whole number: multiply all numbers by 10",
+    ),
+    Row(
+        "a bad name and a bad number",
+        whole("sizes 1", "size e:0", "end"),
+        "sizes 2 number",
+        "8: 0 is out of range: numbers here are 1 to 1,000,000",
+    ),
+    Row(
+        "a name that is not there",
+        whole("sizes 1", "size e:2", "end"),
+        "sizes 2 name",
+        "6: e is none of the 4 names of the ground line",
+    ),
+    Row(
+        "an element twice in a line",
+        whole("sizes 1", "size a:2 a:3", "end"),
+        "sizes 2 twice",
+        "10: a stands twice in the line, first at column 6",
+    ),
+    Row(
+        "an element in two lines",
+        whole("sizes 1", "size a:2", "size b:1 a:3", "end"),
+        "sizes 3 twice",
+        "10: a has a size from a line before",
+    ),
+    Row(
+        "too large",
+        whole("sizes 1", "size a:999998", "end"),
+        "sizes 2 total",
+        "6: with this line the sizes of all elements add to 1,000,001, and 1,000,000 are taken",
+    ),
+    Row(
+        "a byte order mark",
+        b"\xef\xbb\xbfsizes 1\nend\n",
+        "sizes 1 bytes",
+        "1: a byte order mark stands here: save the file as UTF-8 without it",
+    ),
+]
+
+
+def differs(row, command, files, reading):
+    """What is wrong with a row, or None. Its text is the last of the files."""
+    with open(files[-1], "wb") as file:
         file.write(row.text)
-    done = subprocess.run([os.environ.get("SFM", "sfm"), "solve", path], capture_output=True, text=True)
+    done = subprocess.run([os.environ.get("SFM", "sfm"), command, *files], capture_output=True, text=True)
     if done.returncode != 2 or done.stdout != row.line + "\n":
         return f"sfm ends with {done.returncode}: {done.stdout[:60]!r}"
-    line, reason, column, cause = why(row.text)
+    line, reason, column, cause = first_fault(reading, row.text) or (None, None, None, "there is no fault")
     said = f"{column}: {cause}" if column else cause
-    if f"refused {line} {reason}" != row.line or said != row.cause:
-        return f"why.py says refused {line} {reason}, {said}"
+    if f"{row.line.split()[0]} {line} {reason}" != row.line or said != row.cause:
+        return f"why.py says {line} {reason}, {said}"
     return None
 
 
 def main():
     wrong = 0
     with tempfile.TemporaryDirectory() as folder:
-        for row in ROWS:
-            difference = differs(row, folder)
+        good, it = (os.path.join(folder, name) for name in ("good.sfm", "it"))
+        with open(good, "wb") as file:
+            file.write(text("weight a:1"))
+        for row in ROWS + SIZES:
+            if row in SIZES:
+                difference = differs(row, "weigh", [good, it], Sizes(["a", "b", "c", "d"]))
+            else:
+                difference = differs(row, "solve", [it], Instance())
             if difference:
                 wrong += 1
                 print(f"{row.mistake}: {difference}")
-    print(f"mistakes: {len(ROWS)} rows, {wrong} differ", flush=True)
+    print(f"mistakes: {len(ROWS) + len(SIZES)} rows, {wrong} differ", flush=True)
     return 1 if wrong else 0
 
 

@@ -5,8 +5,14 @@
     refused 3 number
     mistakes/decimal.sfm:3:10: -1.5 is no whole number: multiply all numbers by 10
 
-It reads the text itself, by the rules of docs/FORMATS.md, and does not run `sfm`. The place is FILE:LINE:COLUMN, columns counted in
-bytes from 1. The code is 2 where there is a fault, 0 where there is none, and 3 where the file can't be read.
+With the name of a text of sizes behind it, it tells of that text in the same way, where the instance has no fault:
+
+    $ python3 why.py jobs.sfm mistakes/zero.sizes
+    sizes 2 number
+    mistakes/zero.sizes:2:10: 0 is out of range: numbers here are 1 to 1,000,000
+
+It reads the texts itself, by the rules of docs/FORMATS.md, and does not run `sfm`. The place is FILE:LINE:COLUMN, columns counted
+in bytes from 1. The code is 2 where there is a fault, 0 where there is none, and 3 where a file can't be read.
 """
 import argparse
 import difflib
@@ -18,6 +24,7 @@ from faults import read_bytes, run_main
 
 MOST_BYTES, MOST_NUMBER, MOST_SIZE = 16_777_216, 10**12, 10**15
 MOST_NAMES, MOST_TERMS, MOST_PLACES = 256, 4096, 16_384
+MOST_ELEMENT_SIZE = 1_000_000
 NUMBER = re.compile(r"0|-?[1-9][0-9]*")
 NAME = re.compile(r"[A-Za-z0-9_]{1,32}")
 NAMES_HAVE = "names have 1 to 32 of A-Z a-z 0-9 _"
@@ -213,7 +220,8 @@ def edge_parts(number, tokens, end):
     for token in words_of(tokens, end, due):
         name, ends = cut_at(token, "=", due)
         if ends.text.count("-") != 1:
-            raise Refused("shape", ends.column, f"{shown(token.text)} has {counted(ends.text.count('-'), 'hyphen')} behind =, where {due}")
+            hyphens = counted(ends.text.count("-"), "hyphen")
+            raise Refused("shape", ends.column, f"{shown(token.text)} has {hyphens} behind =, where {due}")
         elements.append(name)
         others += cut_at(Piece(ends.text + " ", ends.column), "-", due)
     others = [Piece(other.text.rstrip(" "), other.column) for other in others]
@@ -269,15 +277,16 @@ def parts_of(tokens, end):
 # The reasons `number`, `name` and `twice`.
 
 
-def test_number(piece, low):
-    """A whole number from `low` to 10^12."""
-    text, range_ = piece.text, f"{low:,} to {MOST_NUMBER:,}"
+def test_number(piece, low, high=MOST_NUMBER):
+    """A whole number from `low` to `high`."""
+    text, range_ = piece.text, f"{low:,} to {high:,}"
     if NUMBER.fullmatch(text):
-        if low <= int(text) <= MOST_NUMBER:
+        if low <= int(text) <= high:
             return
         raise Refused("number", piece.column, f"{shown(text)} is out of range: numbers here are {range_}")
     if re.fullmatch(r"-?[0-9]*\.[0-9]+", text):
-        raise Refused("number", piece.column, f"{shown(text)} is no whole number: multiply all numbers by {10 ** len(text.split('.')[1])}")
+        unit = 10 ** len(text.split(".")[1])
+        raise Refused("number", piece.column, f"{shown(text)} is no whole number: multiply all numbers by {unit}")
     if re.fullmatch(r"[+-]?[0-9]{1,3}(,[0-9]{3})+", text):
         raise Refused("number", piece.column, f"{shown(text)} has commas: write {shown(text.replace(',', '').lstrip('+'))}")
     if text.endswith((",", ";")) and NUMBER.fullmatch(text[:-1]):
@@ -307,7 +316,8 @@ def test_element(piece, names):
         near = [name for name in names if name.lower() == piece.text.lower()]
         near = near or difflib.get_close_matches(piece.text, names, 1, 0.8)
         hint = f"; {near[0]} is" if near else ""
-        raise Refused("name", piece.column, f"{shown(piece.text)} is none of the {counted(len(names), 'name')} of the ground line{hint}")
+        cause = f"{shown(piece.text)} is none of the {counted(len(names), 'name')} of the ground line{hint}"
+        raise Refused("name", piece.column, cause)
 
 
 def test_twice(pieces, where):
@@ -336,7 +346,8 @@ def test_tokens(parts, names):
         for piece in members:
             test_name(piece)
             if piece.text not in own:
-                raise Refused("name", piece.column, f"{shown(piece.text)} is in a group, and not among the elements before the first ';'")
+                cause = f"{shown(piece.text)} is in a group, and not among the elements before the first ';'"
+                raise Refused("name", piece.column, cause)
     test_twice(parts.elements, "among the elements of the line")
     for _, members in parts.groups:
         test_twice(members, "in the group")
@@ -453,6 +464,30 @@ def size_of(parts):
     return max((abs(number) for number in numbers), default=0)
 
 
+def test_header(tokens, end, due):
+    """The first line has the word, 1, and nothing behind it."""
+    if [token.text for token in tokens] != due.split():
+        wrong = tokens[1:] if tokens[1:] and tokens[1].text != "1" else tokens[2:]
+        place, said = (wrong[0].column, shown(wrong[0].text)) if wrong else (end, "nothing")
+        raise Refused("shape", place, f"{said} stands here, and the first line is '{due}', with nothing behind it")
+
+
+def test_end(tokens):
+    if len(tokens) > 1:
+        raise not_here(tokens[1], "nothing follows 'end' in its line")
+
+
+def with_comment(tokens, take):
+    """Takes tokens; where they are refused, a comment that stands behind a line is told as the cause."""
+    try:
+        take()
+    except Refused as refused:
+        comment = next((token.column for token in tokens if token.text.startswith("#")), None)
+        if comment and (refused.reason == "shape" or refused.reason in ("number", "name") and refused.column >= comment):
+            raise Refused(refused.reason, comment, "a comment has a line of its own, and begins it")
+        raise
+
+
 class Instance:
     """What is known of an instance behind the lines that were read."""
 
@@ -468,32 +503,23 @@ class Instance:
         test_bytes(line)
         test_word(self.stage, tokens, self.before)
         self.before = tokens[0].text
-        try:
-            self.take_tokens(tokens, end)
-        except Refused as refused:
-            comment = next((token.column for token in tokens if token.text.startswith("#")), None)
-            if comment and (refused.reason == "shape" or refused.reason in ("number", "name") and refused.column >= comment):
-                raise Refused(refused.reason, comment, "a comment has a line of its own, and begins it")
-            raise
+        with_comment(tokens, lambda: self.take_tokens(tokens, end))
 
     def take_tokens(self, tokens, end):
         if self.stage == "header":
-            self.take_header(tokens, end)
+            test_header(tokens, end, "sfm 1")
+            self.stage = "ground"
         elif self.stage == "ground":
             self.take_ground(tokens)
         elif self.before == "end":
-            if len(tokens) > 1:
-                raise not_here(tokens[1], "nothing follows 'end' in its line")
+            test_end(tokens)
             self.stage = "behind"
         else:
             self.take_term(parts_of(tokens, end), tokens[0].column)
 
-    def take_header(self, tokens, end):
-        if [token.text for token in tokens] != ["sfm", "1"]:
-            wrong = tokens[1:] if tokens[1:] and tokens[1].text != "1" else tokens[2:]
-            place, said = (wrong[0].column, shown(wrong[0].text)) if wrong else (end, "nothing")
-            raise Refused("shape", place, f"{said} stands here, and the first line is 'sfm 1', with nothing behind it")
-        self.stage = "ground"
+    def due(self):
+        known = {"header": "'sfm 1'", "ground": "the line 'ground ..'", "terms": "the line 'end'", "behind": None}
+        return known[self.stage]
 
     def take_ground(self, tokens):
         for token in tokens[1:]:
@@ -503,7 +529,8 @@ class Instance:
             test_name(token)
         test_twice(tokens[1:], "in the ground line")
         if len(tokens) > MOST_NAMES + 1:
-            raise Refused("total", tokens[MOST_NAMES + 1].column, f"there are {len(tokens) - 1:,} names, and {MOST_NAMES} are taken")
+            cause = f"there are {len(tokens) - 1:,} names, and {MOST_NAMES} are taken"
+            raise Refused("total", tokens[MOST_NAMES + 1].column, cause)
         self.names = {token.text: None for token in tokens[1:]}
         self.stage = "terms"
 
@@ -520,41 +547,95 @@ class Instance:
         if self.places > MOST_PLACES:
             raise Refused("total", column, f"with this line {self.places:,} names of elements stand, and {MOST_PLACES:,} are taken")
         if self.sizes > MOST_SIZE:
-            raise Refused("total", column, f"with this line sizes add to {self.sizes:,}, and {MOST_SIZE:,} are taken: use smaller units")
+            cause = f"with this line sizes add to {self.sizes:,}, and {MOST_SIZE:,} are taken: count in a greater unit"
+            raise Refused("total", column, cause)
 
 
-def why(data):
-    """The first fault of a text as its line, reason, column and cause, or None."""
+class Sizes:
+    """What is known of a text of sizes behind the lines that were read, over the names of an instance."""
+
+    def __init__(self, names):
+        self.stage, self.names, self.given = "header", names, {}
+
+    def take(self, line):
+        """Takes a content line, or refuses it for its first reason."""
+        tokens = [Piece(found[0].decode("latin-1"), found.start() + 1) for found in re.finditer(rb"[^ \t]+", line)]
+        end = tokens[-1].column + len(tokens[-1].text)
+        test_bytes(line)
+        self.test_word(tokens[0])
+        if self.stage == "header":
+            test_header(tokens, end, "sizes 1")
+            self.stage = "lines"
+        elif tokens[0].text == "end":
+            test_end(tokens)
+            self.stage = "behind"
+        else:
+            with_comment(tokens, lambda: self.take_sizes(weight_parts(tokens[1:], end)))
+
+    def test_word(self, token):
+        word, column = token
+        if self.stage == "header" and word != "sizes":
+            raise Refused("word", column, f"{shown(word)} stands here: a text of sizes begins with 'sizes 1'")
+        if self.stage == "lines" and word not in ("size", "end"):
+            raise Refused("word", column, f"{shown(word)} begins no line: lines of sizes begin with size or end")
+        if self.stage == "behind":
+            raise Refused("word", column, f"{shown(word)} stands behind 'end', where blank lines and comments alone may follow")
+
+    def take_sizes(self, parts):
+        for piece in parts.numbers:
+            test_number(piece, 1, MOST_ELEMENT_SIZE)
+        for piece in parts.elements:
+            test_element(piece, self.names)
+        test_twice(parts.elements, "in the line")
+        for piece in parts.elements:
+            if piece.text in self.given:
+                raise Refused("twice", piece.column, f"{shown(piece.text)} has a size from a line before")
+        self.given.update((name.text, int(size.text)) for name, size in zip(parts.elements, parts.numbers))
+        total = sum(self.given.get(name, 1) for name in self.names)
+        if total > MOST_ELEMENT_SIZE:
+            cause = f"with this line the sizes of all elements add to {total:,}, and {MOST_ELEMENT_SIZE:,} are taken"
+            raise Refused("total", parts.elements[0].column, cause)
+
+    def due(self):
+        return {"header": "'sizes 1'", "lines": "the line 'end'", "behind": None}[self.stage]
+
+
+def first_fault(reading, data):
+    """The first fault of a text as its line, reason, column and cause, or None. What reads it takes line by line."""
     if len(data) > MOST_BYTES:
         return 0, "long", None, f"the text has {len(data):,} bytes, and {MOST_BYTES:,} are taken"
     lines = data.split(b"\n")
     if not lines[-1]:
         lines.pop()
-    instance = Instance()
     for number, line in enumerate(lines, 1):
         line = line[:-1] if line.endswith(b"\r") else line
         first = line.lstrip(b" \t")
         if first and not first.startswith(b"#"):
             try:
-                instance.take(line)
+                reading.take(line)
             except Refused as refused:
                 return number, refused.reason, refused.column, refused.cause
-    if instance.stage != "behind":
-        due = {"header": "'sfm 1'", "ground": "the line 'ground ..'", "terms": "the line 'end'"}[instance.stage]
-        return len(lines) + 1, "short", None, f"the text ends here, and {due} is still due"
+    if reading.due():
+        return len(lines) + 1, "short", None, f"the text ends here, and {reading.due()} is still due"
     return None
 
 
 def main():
     parser = argparse.ArgumentParser(description=__doc__, formatter_class=argparse.RawDescriptionHelpFormatter)
     parser.add_argument("instance", help="an instance")
-    path = parser.parse_args().instance
-    found = why(read_bytes(path))
+    parser.add_argument("sizes", nargs="?", help="a text of sizes")
+    options = parser.parse_args()
+    path, kind = options.instance, "refused"
+    instance = Instance()
+    found = first_fault(instance, read_bytes(path))
+    if options.sizes and not found:
+        path, kind = options.sizes, "sizes"
+        found = first_fault(Sizes(instance.names), read_bytes(path))
     if not found:
-        print(f"{path}: this instance has no fault")
+        print(f"{path}: this text has no fault")
         return 0
     line, reason, column, cause = found
-    print(f"refused {line} {reason}")
+    print(f"{kind} {line} {reason}")
     print(f"{path}{f':{line}' if line else ''}{f':{column}' if column else ''}: {cause}")
     return 2
 
