@@ -68,6 +68,7 @@ for folder in expected pictures; do
   echo "examples/$folder: $(ls "$folder" | wc -l) files compared"
 done
 outside || failed=1
+python3 every_set.py --all . || failed=1
 python3 test_scripts.py || failed=1
 python3 test_why.py || failed=1
 python3 quoted.py "$top" README.md docs/GUIDE.md docs/FORMATS.md docs/sfm.1 || failed=1

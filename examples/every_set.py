@@ -1,0 +1,227 @@
+#!/usr/bin/env python3
+"""Answers a small instance without `sfm`: tries every set, by the words of docs/FORMATS.md alone, in exact fractions.
+
+It prints what an answer says before its proof, as `sfm solve` does, or as `sfm weigh` does where SIZES is given:
+
+    python3 every_set.py towns.sfm
+    python3 every_set.py jobs.sfm jobs.sizes
+
+With --all it takes each instance of a folder with at most 14 elements, also with its sizes where it has some, and compares each line
+with what `sfm` says. A set of elements is a number here: bit i is set where the set has the i-th name of the ground.
+"""
+import argparse
+import glob
+import os
+import sys
+from fractions import Fraction
+
+from answers import read_sizes, run_well
+from faults import fault, read_text, run_main
+
+MOST = 14
+
+
+def has(chosen, place):
+    return chosen >> place & 1
+
+
+def best_choice(count, is_free):
+    """For each set of so many elements the number of elements of a largest free set within it."""
+    best = [0] * 2**count
+    for chosen in range(1, 2**count):
+        members = [i for i in range(count) if has(chosen, i)]
+        best[chosen] = len(members) if is_free(members) else max(best[chosen & ~(1 << i)] for i in members)
+    return best
+
+
+def is_forest(edges):
+    """Whether no edges of these close a trail: each one joins two pieces of the network that were apart before."""
+    piece = {vertex: vertex for edge in edges for vertex in edge}
+    for u, v in edges:
+        if piece[u] == piece[v]:
+            return False
+        old, new = piece[u], piece[v]
+        piece = {vertex: new if mark == old else mark for vertex, mark in piece.items()}
+    return True
+
+
+def have_own_slots(entries, used=()):
+    """Whether these entries can have slots of their own, all different, beside those that are used."""
+    return not entries or any(have_own_slots(entries[1:], (*used, slot)) for slot in entries[0] if slot not in used)
+
+
+def cut_at(tokens, sign):
+    """The tokens before each sign, and those behind the last."""
+    pieces = [[]]
+    for token in tokens:
+        if token == sign:
+            pieces.append([])
+        else:
+            pieces[-1].append(token)
+    return pieces
+
+
+def rank_of(kind, rest):
+    """The elements of a rank, and for each set of them the number of elements of a largest choice."""
+    if kind == "uniform":
+        names = rest[2:]
+        return names, best_choice(len(names), lambda members: len(members) <= int(rest[0]))
+    if kind == "laminar":
+        (_, *names), *groups = cut_at(rest, ";")
+        caps = [(int(group[0]), {names.index(name) for name in group[1:]}) for group in groups]
+        return names, best_choice(len(names), lambda members: all(len(group & set(members)) <= cap for cap, group in caps))
+    pairs = [token.split("=") for token in rest[1:]]
+    names = [name for name, _ in pairs]
+    if kind == "graphic":
+        edges = [edge.split("-") for _, edge in pairs]
+        return names, best_choice(len(names), lambda members: is_forest([edges[i] for i in members]))
+    slots = [entry.split(",") for _, entry in pairs]
+    return names, best_choice(len(names), lambda members: have_own_slots([slots[i] for i in members]))
+
+
+def worths_of(word, rest):
+    """The elements of a term line, and for each set of them what it is worth; None where the set is not allowed."""
+    if word == "weight":
+        names, numbers = zip(*(pair.split(":") for pair in rest))
+        return names, [sum(int(number) for i, number in enumerate(numbers) if has(chosen, i)) for chosen in range(2 ** len(names))]
+    if word == "cut":
+        return rest[1:], [0, int(rest[0]), 0, 0]
+    if word == "need":
+        return rest, [0, None, 0, 0]
+    if word == "cover":
+        return rest[1:], [int(rest[0]) if chosen else 0 for chosen in range(2 ** (len(rest) - 1))]
+    if word == "rank":
+        names, best = rank_of(rest[1], rest[2:])
+        return names, [int(rest[0]) * count for count in best]
+    numbers, names = cut_at(rest, ":")
+    if word == "table":
+        return names, [int(number) for number in numbers]
+    return names, [int(["0", *numbers][bin(chosen).count("1")]) for chosen in range(2 ** len(names))]
+
+
+def read_instance(path):
+    """The ground, and the value of each set; None where it is not allowed. The instance has no fault."""
+    lines = [line.split() for line in read_text(path).splitlines()]
+    lines = [line for line in lines if line and not line[0].startswith("#")]
+    if lines[:1] != [["sfm", "1"]] or lines[-1] != ["end"]:
+        raise fault(path, None, "this is no instance of version 1")
+    ground = lines[1][1:]
+    if len(ground) > MOST:
+        raise fault(path, None, f"it has {len(ground)} elements, and at most {MOST} are taken, as every set is tried")
+    values = [0] * 2 ** len(ground)
+    for word, *rest in lines[2:-1]:
+        names, worths = worths_of(word, rest)
+        places = [ground.index(name) for name in names]
+        for chosen, value in enumerate(values):
+            worth = worths[sum(has(chosen, place) << i for i, place in enumerate(places))]
+            values[chosen] = None if value is None or worth is None else value + worth
+    return ground, values
+
+
+def least_of(worths):
+    """The least worth of these, and the sets that have it. What is None is left out."""
+    least = min(worth for worth in worths if worth is not None)
+    return least, [chosen for chosen, worth in enumerate(worths) if worth == least]
+
+
+def all_of(sets):
+    """What all of these sets have in common."""
+    common = sets[0]
+    for chosen in sets:
+        common &= chosen
+    return common
+
+
+def any_of(sets):
+    """What one or more of these sets have."""
+    joined = 0
+    for chosen in sets:
+        joined |= chosen
+    return joined
+
+
+def blocks_of(best, count):
+    """The blocks of the best sets in order: elements that come along with one another, and the numbers of the blocks they need."""
+    free = [e for e in range(count) if has(any_of(best) & ~all_of(best), e)]
+    # with an element comes what each best set that has it has besides
+    along = {e: all_of([chosen for chosen in best if has(chosen, e)]) & ~all_of(best) for e in free}
+    blocks = {along[e]: [d for d in free if along[d] == along[e]] for e in free}
+    order = sorted(blocks, key=lambda closed: (bin(closed).count("1"), blocks[closed][0]))
+    return [
+        (blocks[closed], [i for i, other in enumerate(order, 1) if other != closed and other & closed == other]) for closed in order
+    ]
+
+
+def slopes_of(values, weights):
+    """All slopes at which two or more sets are best, in order, each with the greatest of these sets."""
+    found, last = [], 0
+    while any(value is not None and weights[chosen] > weights[last] for chosen, value in enumerate(values)):
+        slope = min(
+            Fraction(value - values[last], weights[chosen] - weights[last])
+            for chosen, value in enumerate(values)
+            if value is not None and weights[chosen] > weights[last]
+        )
+        _, best = least_of([None if value is None else value - slope * weights[chosen] for chosen, value in enumerate(values)])
+        last = any_of(best)
+        found.append((slope, last))
+    return found
+
+
+def answer_lines(path, sizes_path=None):
+    """What an answer says before its proof."""
+    ground, values = read_instance(path)
+    sizes = read_sizes(sizes_path) if sizes_path else {}
+    weights = [sum(sizes.get(name, 1) for e, name in enumerate(ground) if has(chosen, e)) for chosen in range(len(values))]
+
+    def line(*words, chosen):
+        return " ".join([*words, *(name for e, name in enumerate(ground) if has(chosen, e))])
+
+    least, best = least_of(values)
+    lines = ["weighed 1" if sizes_path else "answer 1", f"minimum {least}"]
+    lines += [line("least", chosen=all_of(best)), line("greatest", chosen=any_of(best))]
+    for number, (block, needs) in enumerate(blocks_of(best, len(ground)), 1):
+        lines.append(" ".join(["block", str(number), *(ground[e] for e in block), ":", *map(str, needs)]))
+    for slope, chosen in slopes_of(values, weights):
+        lines.append(line("slope", f"{slope.numerator}/{slope.denominator}", chosen=chosen))
+    return lines
+
+
+def is_small(path):
+    ground = next((line.split() for line in read_text(path).splitlines() if line.startswith("ground")), [])
+    return len(ground) - 1 <= MOST
+
+
+def compare(folder):
+    """Compares the answers of `sfm` with those that are found here, and prints the lines of which only one side knows."""
+    count, wrong = 0, 0
+    for path in sorted(glob.glob(os.path.join(folder, "*.sfm"))):
+        sizes_path = path[:-4] + ".sizes"
+        for files in [(path,), (path, sizes_path)] if os.path.exists(sizes_path) else [(path,)]:
+            if not is_small(path):
+                continue
+            said = run_well("weigh" if files[1:] else "solve", *files).splitlines()
+            said, found = said[: said.index("at 0/1")], answer_lines(*files)
+            count += 1
+            if said != found:
+                wrong += 1
+                print(" ".join(os.path.basename(file) for file in files))
+                print("\n".join([f"  sfm says {line}" for line in said if line not in found]))
+                print("\n".join([f"  found    {line}" for line in found if line not in said]))
+    print(f"every set tried: {count} answers, {wrong} differ")
+    return 1 if wrong else 0
+
+
+def main():
+    parser = argparse.ArgumentParser(description=__doc__, formatter_class=argparse.RawDescriptionHelpFormatter)
+    parser.add_argument("file", help="an instance, or with --all a folder")
+    parser.add_argument("sizes", nargs="?", help="the sizes of its elements")
+    parser.add_argument("--all", action="store_true", help="compare each small instance of the folder with what sfm says")
+    options = parser.parse_args()
+    if options.all:
+        return compare(options.file)
+    print("\n".join(answer_lines(options.file, options.sizes)))
+    return 0
+
+
+if __name__ == "__main__":
+    sys.exit(run_main(main))
