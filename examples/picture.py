@@ -34,15 +34,15 @@ def plain_greys(path, data, start):
             yield int(word), number
 
 
-def read_pgm(path):
+def read_pgm(path, most_pixels=MOST_NAMES):
     """The rows of a picture, each grey from 0 (black) to 255 (white). Plain (P2) and raw (P5) files are read."""
     data = read_bytes(path)
     head = PGM_HEAD.match(data)
     if not head:
         raise fault(path, 1, f"this is no PGM with its width, height and greatest grey. {SMALLER}")
     width, height, most = (int(word) for word in head.groups()[1:])
-    if not 0 < width * height <= MOST_NAMES:
-        raise fault(path, None, f"it has {width} x {height} pixels, and 1 to {MOST_NAMES} are taken. {SMALLER}")
+    if not 0 < width * height <= most_pixels:
+        raise fault(path, None, f"it has {width} x {height} pixels, and 1 to {most_pixels:,} are taken. {SMALLER}")
     if not 0 < most < 256:
         raise fault(path, None, f"its greatest grey is {most}, and 1 to 255 are taken. {SMALLER}")
     if head[1] == b"P5":

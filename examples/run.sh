@@ -44,9 +44,17 @@ outside() {
   [ "$missing" -eq 0 ]
 }
 
+# A picture in a few regions: what is found by trying every set of them is what sfm says.
+regions() {
+  python3 regions.py data/lake.pgm --regions 12 --instance "$work/few.sfm" >"$work/few.txt"
+  python3 every_set.py "$work/few.sfm" "$work/few.sfm.sizes" >"$work/found"
+  sfm weigh "$work/few.sfm" "$work/few.sfm.sizes" | sed '/^at /,$d' | diff - "$work/found" && echo "regions.py: as found by every set"
+}
+
 cd "$here" || exit 3
 instances >"$work/expected/instances.txt"
 python3 picture.py data/cells.pgm --svg "$work/pictures/cells.svg" >"$work/expected/cells.txt"
+python3 regions.py data/lake.pgm --svg "$work/pictures/lake.svg" >"$work/expected/lake.txt"
 python3 projects.py data/projects.csv --svg "$work/pictures/projects.svg" >"$work/expected/projects.txt"
 for name in karate petersen grid roads; do
   python3 network.py "data/$name.edges" --svg "$work/pictures/$name.svg" >"$work/expected/$name.txt"
@@ -69,6 +77,7 @@ for folder in expected pictures; do
 done
 outside || failed=1
 python3 every_set.py --all . || failed=1
+regions || failed=1
 python3 test_scripts.py || failed=1
 python3 test_why.py || failed=1
 python3 quoted.py "$top" README.md docs/GUIDE.md docs/FORMATS.md docs/sfm.1 || failed=1

@@ -94,6 +94,14 @@ PICTURE = [
     Row("picture.py it", "P2\n2 2\n255\n10 20 30\n", 2, "it: it ends after 3 greys, where 2 x 2 are due"),
 ]
 
+REGIONS = [
+    Row("regions.py it", None, 3, "it: No such file or directory"),
+    Row("regions.py it", "P2\n2 2\n255\n" + GREYS, 0, "2 x 2 pixels, 4 regions"),
+    Row("regions.py it", "P2\n2 2\n255\n9 9 9 9\n", 0, "2 x 2 pixels, 1 regions"),
+    Row("regions.py --regions 3 it", "P2\n2 2\n255\n" + GREYS, 0, "2 x 2 pixels, 3 regions"),
+    Row("regions.py it", "P2\n1001 1000\n255\n", 2, "it: it has 1001 x 1000 pixels, and 1 to 1,000,000 are taken. " + SMALLER),
+]
+
 SHELL = [
     Row("array.sh . out", "", 64, "array.sh: SLURM_ARRAY_TASK_ID is '', and . has 0 instances, counted from 1"),
     Row("array.sh .", "", 64, "usage: array.sh INSTANCES ANSWERS"),
@@ -127,7 +135,7 @@ def differs(row):
 def main():
     os.environ.pop("SLURM_ARRAY_TASK_ID", None)
     os.environ.pop("SLURM_SUBMIT_DIR", None)
-    rows = SHOW + PROJECTS + NETWORK + PICTURE + SHELL
+    rows = SHOW + PROJECTS + NETWORK + PICTURE + REGIONS + SHELL
     wrong = 0
     for row in rows:
         why = differs(row)
