@@ -21,7 +21,7 @@ Project = namedtuple("Project", "cost worth needs")
 WIDE, TALL, LEFT, TOP = 640, 300, 60, 40
 
 
-def read_rows(path):
+def read_rows(path, wanted=COLUMNS):
     """The rows of a table, each with the number of its first line and its cells by the names of their columns."""
     text = read_text(path)
     heading = next((line for line in text.splitlines() if line.strip()), "")
@@ -36,9 +36,9 @@ def read_rows(path):
             raise fault(path, table.line_num, str(error))
         if columns is None and any(cells):
             columns = [cell.lower() for cell in cells]
-            for column in COLUMNS:
+            for column in wanted:
                 if columns.count(column) != 1:
-                    raise fault(path, line, f"the heading needs one column {column!r}, beside the others of {', '.join(COLUMNS)}")
+                    raise fault(path, line, f"the heading needs one column {column!r}, beside the others of {', '.join(wanted)}")
         elif any(cells):
             if len(cells) != len(columns):
                 raise fault(path, line, f"{len(cells)} cells stand here, where the heading has {len(columns)}")

@@ -56,6 +56,7 @@ instances >"$work/expected/instances.txt"
 python3 picture.py data/cells.pgm --svg "$work/pictures/cells.svg" >"$work/expected/cells.txt"
 python3 regions.py data/lake.pgm --svg "$work/pictures/lake.svg" >"$work/expected/lake.txt"
 python3 projects.py data/projects.csv --svg "$work/pictures/projects.svg" >"$work/expected/projects.txt"
+python3 order.py data/storm.csv --all --svg "$work/pictures/storm.svg" >"$work/expected/storm.txt"
 for name in karate petersen grid roads; do
   python3 network.py "data/$name.edges" --svg "$work/pictures/$name.svg" >"$work/expected/$name.txt"
 done

@@ -60,6 +60,22 @@ PROJECTS = [
     Row("projects.py --svg no/it.svg it", HEADING + "a,1,3,\n", 4, "no/it.svg: No such file or directory"),
 ]
 
+JOBS = "name,hours,waiting,after\n"
+ORDER = [
+    Row("order.py it", None, 3, "it: No such file or directory"),
+    Row("order.py --all it", JOBS + "a,3,1,\nb,1,9,a\nc,2,0,\n", 0, "3 jobs, 6 hours, 2 groups"),
+    Row("order.py it", "After;waiting;HOURS;name\n;1;3;a\na;2;4;b\n", 0, "2 jobs, 7 hours, 1 groups"),
+    Row("order.py it", "", 2, "it: no job stands in it"),
+    Row("order.py it", "name,hours,after\n", 2, "it:1: the heading needs one column 'waiting', beside the others of name, hours, waiting, after"),
+    Row("order.py it", JOBS + "a,3,1,\na,3,1,\n", 2, "it:3: the name a stands twice, first in line 2"),
+    Row("order.py it", JOBS + "a,0,1,\n", 2, "it:2: a has 0 hours and a waiting of 1: hours are from 1, and waiting is from 0"),
+    Row("order.py it", JOBS + "a,1.5,1,\n", 2, "it:2: 'hours' of a is 1.5: numbers are whole, so multiply all of them by 10"),
+    Row("order.py it", JOBS + "a,1,1,b\n", 2, "it:2: a comes after 'b', which is the name of no row"),
+    Row("order.py it", JOBS + "c,1,1,\na,1,1,b\nb,1,1,a\n", 2, "it:3: a can't begin: it waits for jobs that wait for one another"),
+    Row("order.py it", JOBS + "a,999999,1,\nb,2,1,\n", 2, "it: its jobs take more than 1,000,000 hours together"),
+    Row("order.py --all it", JOBS + "".join(f"j{i},1,1,\n" for i in range(19)), 2, "it: it has 19 jobs, and --all takes 18"),
+]
+
 TWO = "where an edge has two names with a space between, and its worth behind them"
 NETWORK = [
     Row("network.py it", None, 3, "it: No such file or directory"),
@@ -135,7 +151,7 @@ def differs(row):
 def main():
     os.environ.pop("SLURM_ARRAY_TASK_ID", None)
     os.environ.pop("SLURM_SUBMIT_DIR", None)
-    rows = SHOW + PROJECTS + NETWORK + PICTURE + REGIONS + SHELL
+    rows = SHOW + PROJECTS + NETWORK + PICTURE + REGIONS + ORDER + SHELL
     wrong = 0
     for row in rows:
         why = differs(row)
