@@ -100,7 +100,14 @@ def worths_of(word, rest):
 
 
 def read_instance(path):
-    """The ground, and the value of each set; None where it is not allowed. The instance has no fault."""
+    """The ground, and the value of each set; None where it is not allowed."""
+    try:
+        return ground_and_values(path)
+    except (ValueError, IndexError, TypeError, KeyError):
+        raise fault(path, None, "this is no good instance; 'sfm solve' says where its first fault is")
+
+
+def ground_and_values(path):
     lines = [line.split() for line in read_text(path).splitlines()]
     lines = [line for line in lines if line and not line[0].startswith("#")]
     if lines[:1] != [["sfm", "1"]] or lines[-1] != ["end"]:

@@ -118,6 +118,15 @@ REGIONS = [
     Row("regions.py it", "P2\n1001 1000\n255\n", 2, "it: it has 1001 x 1000 pixels, and 1 to 1,000,000 are taken. " + SMALLER),
 ]
 
+EVERY = [
+    Row("every_set.py it", None, 3, "it: No such file or directory"),
+    Row("every_set.py it", "# one\nsfm 1\nground a\nend\n", 0, "answer 1"),
+    Row("every_set.py it", "sfm 1\nground\nend\n", 0, "answer 1"),
+    Row("every_set.py it", "", 2, "it: this is no instance of version 1"),
+    Row("every_set.py it", "sfm 1\nground a\nweight b:1\nend\n", 2, "it: this is no good instance; 'sfm solve' says where its first fault is"),
+    Row("every_set.py it", "sfm 1\nground" + 15 * " a" + "\nend\n", 2, "it: it has 15 elements, and at most 14 are taken, as every set is tried"),
+]
+
 SHELL = [
     Row("array.sh . out", "", 64, "array.sh: SLURM_ARRAY_TASK_ID is '', and . has 0 instances, counted from 1"),
     Row("array.sh .", "", 64, "usage: array.sh INSTANCES ANSWERS"),
@@ -151,7 +160,7 @@ def differs(row):
 def main():
     os.environ.pop("SLURM_ARRAY_TASK_ID", None)
     os.environ.pop("SLURM_SUBMIT_DIR", None)
-    rows = SHOW + PROJECTS + NETWORK + PICTURE + REGIONS + ORDER + SHELL
+    rows = SHOW + PROJECTS + NETWORK + PICTURE + REGIONS + ORDER + EVERY + SHELL
     wrong = 0
     for row in rows:
         why = differs(row)
