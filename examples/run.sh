@@ -82,5 +82,6 @@ regions || failed=1
 python3 test_scripts.py || failed=1
 python3 test_why.py || failed=1
 python3 quoted.py "$top" README.md docs/GUIDE.md docs/FORMATS.md docs/sfm.1 || failed=1
+python3 "$top/docs/meaning.py" --check || failed=1
 [ "$failed" -eq 0 ] && echo "all as stored"
 exit "$failed"
