@@ -8,7 +8,21 @@ fn asks_for<'a>(alloc: Global, words: &'a [&'a str], wanted: Result<Command<'a>,
 }
 
 /// Words, and the command that they ask for.
-const COMMANDS: [(&[&str], Command); 25] = [
+const COMMANDS: [(&[&str], Command); 27] = [
+    (
+        &["ask", "first", "second"],
+        Command::Ask {
+            file: "first",
+            pins: "second",
+        },
+    ),
+    (
+        &["ask", "--", "-first", "ask"],
+        Command::Ask {
+            file: "-first",
+            pins: "ask",
+        },
+    ),
     (&["solve", "first"], Command::Solve { file: "first" }),
     (&["solve", "-"], Command::Solve { file: "-" }),
     (
@@ -116,7 +130,10 @@ fn reads_the_words_of_a_command(rt: HostRuntime) {
 }
 
 /// Words that ask for none.
-const OTHER_WORDS: [&[&str]; 57] = [
+const OTHER_WORDS: [&[&str]; 60] = [
+    &["ask", "first"],
+    &["ask", "first", ""],
+    &["ask", "first", "second", "third"],
     &[],
     &[""],
     &["solve"],

@@ -9,9 +9,9 @@ use Rattle.clap.specs.declared.error.kind.ErrorKind.{ErrorKind}
 use Rattle.clap.specs.declared.error.kind.ErrorKind.TheVariants.{OutOfMemory}
 use Rattle.sfm_words.specs.Line.{sfm_line}
 use Rattle.sfm_words.specs.Subcommand.{Maker, subcommands}
-pub use Rattle.sfm_words.specs.Subcommand.{Command, solve, check, demo, weigh, weighed, one, two, three, number}
+pub use Rattle.sfm_words.specs.Subcommand.{Command, solve, check, demo, weigh, weighed, ask, one, two, three, number}
 use Rattle.sfm_words.specs.declared.command.Command.{Command as Read}
-use Rattle.sfm_words.specs.declared.command.Command.TheVariants.{Solve as ReadSolve, Check as ReadCheck, Demo as ReadDemo, Weigh as ReadWeigh, Weighed as ReadWeighed}
+use Rattle.sfm_words.specs.declared.command.Command.TheVariants.{Solve as ReadSolve, Check as ReadCheck, Demo as ReadDemo, Weigh as ReadWeigh, Weighed as ReadWeighed, Ask as ReadAsk}
 use Rattle.sfm_words.specs.declared.command.Refusal.{Refusal}
 use Rattle.sfm_words.specs.declared.command.Refusal.TheVariants.{Memory, Usage}
 
@@ -22,10 +22,11 @@ command_of (ReadCheck file answer) = check file.now answer.now
 command_of (ReadDemo seed) = demo seed
 command_of (ReadWeigh file sizes) = weigh file.now sizes.now
 command_of (ReadWeighed file sizes answer) = weighed file.now sizes.now answer.now
+command_of (ReadAsk file pins) = ask file.now pins.now
 
 -- ---- what clap finds in the words
 
--- the number that `u64` reads from a text
+-- the number of a text of decimal digits, behind at most one plus sign, below 2^64
 abbrev pub number_of : Text → Option ℕ
 number_of text =
     let digits = without_leading_plus text in
@@ -60,7 +61,7 @@ IsToldAs kind Usage = kind ≢ OutOfMemory
 
 -- ---- the plain forms of a command
 
--- a name of a file: not empty, and no option
+-- a name of a file: not empty, and not beginning with `-`
 abbrev pub IsFileName : Text → Type 0
 IsFileName name = (0 < length name) × (slice_index name 0 ≢ 45)
 
@@ -68,7 +69,7 @@ IsFileName name = (0 < length name) × (slice_index name 0 ≢ 45)
 abbrev pub IsSeed : Text → ℕ → Type 0
 IsSeed text seed = (0 < length text) × (length text ≤ 9) × AllDigits 10 text × (digits_value 10 text ≡ seed)
 
--- the words are `solve FILE`, `check FILE ANSWER`, `demo SEED`, `weigh FILE SIZES` or `weighed FILE SIZES ANSWER`
+-- the words are `solve FILE`, `check FILE ANSWER`, `demo SEED`, `weigh FILE SIZES`, `weighed FILE SIZES ANSWER` or `ask FILE PINS`
 abbrev pub IsForm : List Text → Command → Type 0
 IsForm words (solve file) = (words ≡ codes "solve" ∷ file ∷ []) × IsFileName file
 IsForm words (check file answer) = (words ≡ codes "check" ∷ file ∷ answer ∷ []) × IsFileName file × IsFileName answer
@@ -76,3 +77,4 @@ IsForm words (demo seed) = (text : Text) × (words ≡ codes "demo" ∷ text ∷
 IsForm words (weigh file sizes) = (words ≡ codes "weigh" ∷ file ∷ sizes ∷ []) × IsFileName file × IsFileName sizes
 IsForm words (weighed file sizes answer) = (words ≡ codes "weighed" ∷ file ∷ sizes ∷ answer ∷ [])
     × IsFileName file × IsFileName sizes × IsFileName answer
+IsForm words (ask file pins) = (words ≡ codes "ask" ∷ file ∷ pins ∷ []) × IsFileName file × IsFileName pins

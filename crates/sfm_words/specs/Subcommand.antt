@@ -3,13 +3,15 @@ use Rattle.std.specs.Prelude.{ℕ, List, [], ◌∷◌, codes}
 use Rattle.clap.specs.Words.{Text}
 
 -- to solve an instance, or to check an answer of one, each by the names of files; a demonstration, on the instance of a seed;
--- or to weigh an instance by the sizes in a second file, or to check an answer of that
+-- to weigh an instance by the sizes in a second file, or to check an answer of that; or to ask for the best set with the pins in a
+-- second file
 pub data Command : Type 0 where
   solve : Text → Command
   check : Text → Text → Command
   demo : ℕ → Command
   weigh : Text → Text → Command
   weighed : Text → Text → Text → Command
+  ask : Text → Text → Command
 
 -- what follows the word of a subcommand, and the command that it makes: names of files, or a number, each in the argument
 -- of this name
@@ -27,4 +29,5 @@ subcommands =
     ∷ (codes "demo", number (codes "SEED") demo)
     ∷ (codes "weigh", two (codes "FILE") (codes "SIZES") weigh)
     ∷ (codes "weighed", three (codes "FILE") (codes "SIZES") (codes "ANSWER") weighed)
+    ∷ (codes "ask", two (codes "FILE") (codes "PINS") ask)
     ∷ []

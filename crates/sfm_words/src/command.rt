@@ -33,6 +33,11 @@ pub enum Command<'a> {
         sizes: &'a str,
         answer: &'a str,
     },
+    /// To find the best set of the instance in a file among those that hold what the second pins in and nothing that it pins out.
+    Ask {
+        file: &'a str,
+        pins: &'a str,
+    },
 }
 
 /// Why no command was read.
@@ -40,7 +45,7 @@ pub enum Command<'a> {
 pub enum Refusal {
     /// The words ask for no command, or for help.
     Usage,
-    /// Memory was wanting.
+    /// Out of memory.
     Memory,
 }
 

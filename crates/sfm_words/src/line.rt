@@ -111,8 +111,9 @@ pub(crate) fn command_line<'a>(alloc: Global) -> Result<Command<'a>, AllocError>
     let line = with_line(line, two_names(alloc, "check", "FILE", "ANSWER"))?;
     let line = with_line(line, one_number(alloc, "demo", "SEED"))?;
     let line = with_line(line, two_names(alloc, "weigh", "FILE", "SIZES"))?;
-    with_line(
+    let line = with_line(
         line,
         three_names(alloc, "weighed", "FILE", "SIZES", "ANSWER"),
-    )
+    )?;
+    with_line(line, two_names(alloc, "ask", "FILE", "PINS"))
 }

@@ -80,6 +80,10 @@ fn command_named<'a>(verb: &str, found: &ArgMatches<'a>) -> Option<Command<'a>>
                 answer,
             })
         }
+        "ask" => {
+            let (file, pins) = two_words_of(found, "FILE", "PINS")?;
+            Some(Command::Ask { file, pins })
+        }
         _ => None,
     }
 }

@@ -7,4 +7,5 @@ returns c =
     let two = c.in_ok-line-2.ensures _ _ one c.two_names.ensures.app c.two_names.ensures.local in
     let three = c.in_ok-line-3.ensures _ _ two c.one_number.ensures.app c.one_number.ensures.local in
     let four = c.in_ok-line-4.ensures _ _ three c.two_names-2.ensures.app c.two_names-2.ensures.local in
-    c.with_line-5.ensures _ _ four c.three_names.ensures.app c.three_names.ensures.local
+    let five = c.in_ok-line-5.ensures _ _ four c.three_names.ensures.app c.three_names.ensures.local in
+    c.with_line-6.ensures _ _ five c.two_names-3.ensures.app c.two_names-3.ensures.local
