@@ -1,0 +1,3 @@
+pub mod Pinned
+pub mod Shifts
+pub mod Asking
