@@ -49,7 +49,8 @@ fn put_best(text: &mut Vec<u8>, instance: &Instance, best: &Pinned) -> Result<()
     put_names(text, instance, &best.least)?;
     text.extend_from_slice(b"\ngreatest")?;
     put_names(text, instance, &best.greatest)?;
-    text.extend_from_slice(b"\nend\n")
+    text.extend_from_slice(b"\nend\n")?;
+    Ok(())
 }
 
 /// Puts what is told at the end.
