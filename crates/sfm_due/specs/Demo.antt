@@ -10,8 +10,8 @@ use Rattle.sfm_demo.specs.DemoText.{demo_text_of}
 use Rattle.sfm_text.specs.GoodText.{IsFaultOf}
 use Rattle.sfm_due.specs.Due.{IsAsked, NamesFault, Question}
 
--- the line of what an answer says: the least value, how many elements the least and the greatest minimiser have, and how many
--- blocks and slopes there are
+-- the line of what an answer says: the seed, the least value, how many elements the least and the greatest minimiser have, how many
+-- blocks and slopes there are, and that it is valid
 abbrev pub demo_line : ℕ → Answer → List ℕ
 demo_line seed a = codes "demo " ++ decimal seed ++ codes " minimum " ++ signed_decimal a.value ++ codes " least " ++ decimal (size a.least) ++ codes " greatest " ++ decimal (size a.greatest)
     ++ codes " blocks " ++ decimal (length a.blocks) ++ codes " slopes " ++ decimal (length a.breaks) ++ codes " valid\n"

@@ -47,8 +47,8 @@ pub record IsAsked (text : List ℕ) (asked : Question) : Type 0 where
   pub good : IsTextOf text asked.instance.names asked.instance.terms
   pub means : AllZip IsMeaningOf asked.instance.terms asked.meant
 
--- few moves along shortest walks, one after the other, lead to the bases of a section at its slope from the first bases of the terms,
--- where each element has its size
+-- at most n + n(n+1)(nm+1) moves along shortest walks, one after the other, of n elements and m terms, lead to the bases of a section
+-- at its slope from the first bases of the terms, where each element has its size
 pub record IsReached (terms : List Kind) (meant : List Meaning) (n : ℕ) (sizes : List ℤ) (section : Section) : Type 0 where
   pub firsts : List (List ℤ)
   pub amounts : List ℤ
@@ -62,36 +62,37 @@ pub record IsSolvedBy (header : List ℕ) (sizes : List ℤ) (asked : Question) 
   pub right : IsRightFile (form_with header asked.instance) asked.meant sizes file
   pub reached : All (IsReached asked.instance.terms asked.meant (length asked.instance.names) sizes) (sections_of right.answer)
 
--- the file is a right one where each element counts one
+-- the file is a right one, reached by few walks, where each element counts one
 abbrev pub IsSolved : Question → List ℕ → Type 0
 IsSolved asked file = IsSolvedBy (codes "answer 1") (ones (length asked.instance.names)) asked file
 
--- the file is a right one where each element has its size
+-- the file is a right one, reached by few walks, where each element has its size
 abbrev pub IsWeighed : Question → List ℤ → List ℕ → Type 0
 IsWeighed asked sizes file = IsSolvedBy (codes "weighed 1") sizes asked file
 
--- the line that refuses a text: a word for what the text is, the number of a line, and the word of the reason against it
+-- the line that refuses a text: a word for which text it is, or `refused`, the number of a line, and the word of the reason against it
 abbrev pub refusal : List ℕ → ℕ → Reason → List ℕ
 refusal word line reason = word ++ codes " " ++ decimal line ++ codes " " ++ reason_word reason ++ codes "\n"
 
--- the written text names the first fault, where it tells which that is
+-- the written text is the refusal of a line and a reason that are the first fault
 pub record NamesFault (word : List ℕ) (IsFault : ℕ → Reason → Type 0) (written : List ℕ) : Type 0 where
   pub line : ℕ
   pub reason : Reason
   pub fault : IsFault line reason
   pub named : written ≡ refusal word line reason
 
--- the written text is the verdict on the answer, which is to have that first line, to what is asked, where each element has its size
+-- the written text, with this code, is the verdict on the answer, which is to have that first line, to what is asked, where each
+-- element has its size
 pub record IsJudgedBy (header : List ℕ) (sizes : List ℤ) (asked : Question) (answer written : List ℕ) (code : ℕ) : Type 0 where
   pub verdict : Verdict
   pub judged : IsVerdict (form_with header asked.instance) asked.meant sizes answer verdict
   pub named : written ≡ verdict_line verdict
   pub coded : code ≡ verdict_code verdict
 
--- the written text is the verdict on the answer where each element counts one
+-- the written text, with this code, is the verdict on the answer where each element counts one
 abbrev pub IsJudged : Question → List ℕ → List ℕ → ℕ → Type 0
 IsJudged asked answer written code = IsJudgedBy (codes "answer 1") (ones (length asked.instance.names)) asked answer written code
 
--- the written text is the verdict on the answer where each element has its size
+-- the written text, with this code, is the verdict on the answer where each element has its size
 abbrev pub IsJudgedBySizes : Question → List ℤ → List ℕ → List ℕ → ℕ → Type 0
 IsJudgedBySizes asked sizes answer written code = IsJudgedBy (codes "weighed 1") sizes asked answer written code

@@ -17,7 +17,7 @@ pub record Feeds (before after : ShelfState) (old new : Reader) (count : ℕ) : 
   pub taken : Consumes before.rest after.rest bytes
   pub stands : (text : List ℕ) → Stands old text → Stands new (text ++ bytes)
 
--- the shelf failed, or memory was wanting
+-- the shelf failed, or memory ran out
 abbrev pub IsStopped : (before after : ShelfState) → Status → Type 0
 IsStopped before after status = ((status ≡ ReadFault) × IsFault before after) ⊎ (status ≡ Memory)
 

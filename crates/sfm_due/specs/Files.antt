@@ -9,7 +9,7 @@ use Rattle.sfm_io.specs.Transfer.{IsRest, IsLong, IsFault}
 use Rattle.sfm_due.specs.declared.status.Status.{Status}
 use Rattle.sfm_due.specs.declared.status.Status.TheVariants.{ReadFault, Memory}
 
--- the shelf is sound and holds the name
+-- the shelf is sound, and holds the name where it tells its texts
 abbrev pub IsSurelyHeld : ShelfState → List ℕ → Type 0
 IsSurelyHeld shelf name = (shelf.sound ≡ true) × ((texts : Texts) → shelf.texts ≡ Some texts → IsSome (lookup (λ key. bytes_eq key name) texts))
 
@@ -17,11 +17,11 @@ IsSurelyHeld shelf name = (shelf.sound ≡ true) × ((texts : Texts) → shelf.t
 abbrev pub IsNamed : ShelfState → List ℕ → List ℕ → Type 0
 IsNamed shelf name text = (texts : Texts) → shelf.texts ≡ Some texts → lookup (λ key. bytes_eq key name) texts ≡ Some text
 
--- all of a text was read, or one byte past the limit where it is longer
+-- all of a text was read, or one byte past the limit where it is longer, as far as the shelf tells its texts
 abbrev pub WasRead : ShelfState → ShelfState → ℕ → List ℕ → Type 0
 WasRead before after limit text = (texts : Texts) → before.texts ≡ Some texts → after.rest ≡ Some (drop (limit + 1) text)
 
--- a named file could not be read
+-- a named file could not be read: a fault came, and the shelf is none that surely holds it
 pub record MissesText (name : List ℕ) (shelf shelf' : ShelfState) : Type 0 where
   pub rose : Rose shelf.faults shelf'.faults
   pub unsure : IsSurelyHeld shelf name → ⊥

@@ -1,6 +1,8 @@
 // What is due for texts that were read: a file, a refusal or a verdict, made whole before any of it is written.
 ghost use Rattle.std.specs.Prelude.{◌≡◌, ◌⊎◌, ◌+◌, ◌++◌, ◌<◌, ℕ, List, length, codes, decimal, IfOk};
 ghost use Rattle.sfm_sizes.specs.Sizes.{AreElementSizes};
+ghost use Rattle.sfm_side.specs.PinLines.{pins_of};
+ghost use Rattle.sfm_ask.specs.Pinned.{IsAnswered};
 ghost use Rattle.sfm_cert.specs.{Header.{header_text}, Solved.{form_with}, Grammar.{answer_limit}};
 ghost use Rattle.sfm_check.specs.Verdict.{IsVerdict};
 ghost use Rattle.sfm_due.specs.{Due.{verdict_line, verdict_code, wrong_word, refusal, IsJudged, IsJudgedBySizes, IsSolved, IsWeighed}, Meanings.{meanings_of, question_of}, Status.{code_of}, Owing.{IsMade}, Files.{IsReadAs}};
@@ -8,10 +10,12 @@ ghost use Rattle.sfm_due.specs.{Due.{verdict_line, verdict_code, wrong_word, ref
 use crate::solve::{file_by, file_for, ones_of};
 use crate::status::Status;
 use itoa::Buffer;
+use sfm_ask::asked_text;
 use sfm_base::Memory;
 use sfm_cert::Header;
 use sfm_check::{Verdict, Wrong, judge_with};
 use sfm_kind::Instance;
+use sfm_side::Pins;
 use sfm_text::Reason;
 use std::alloc::{AllocError, Global};
 
@@ -109,6 +113,23 @@ pub fn due_to_weigh(alloc: Global, instance: &Instance, sizes: &[i128]) -> Resul
 {
     Ok(Due {
         text: file_by(alloc, Header::Weighed, instance, sizes)?,
+        status: Status::Done,
+    })
+}
+
+/// What is due to find the best set of an instance with these pins.
+///
+/// # Errors
+///
+/// `Memory` where there is none.
+pub fn due_to_ask(alloc: Global, instance: &Instance, pins: &Pins) -> Result<Due, Memory>
+    requires inside { length pins.now.inside ≡ length instance.now.names }
+    requires outside { length pins.now.outside ≡ length instance.now.names }
+    ensures { IfOk result (IsMade (λ written code. IsAnswered instance.now.names
+        (meanings_of instance.now.terms) (pins_of pins.now) written × (code ≡ 0))) }
+{
+    Ok(Due {
+        text: asked_text(alloc, instance, pins)?,
         status: Status::Done,
     })
 }

@@ -10,7 +10,9 @@ mod solve;
 mod status;
 
 pub use demo::due_to_demo;
-pub use due::{Due, due_to_check, due_to_check_weighed, due_to_solve, due_to_weigh, refuse};
+pub use due::{
+    Due, due_to_ask, due_to_check, due_to_check_weighed, due_to_solve, due_to_weigh, refuse,
+};
 pub use feed::feed_text;
 pub use file::read_text;
 pub use solve::{solve_by, solve_text};

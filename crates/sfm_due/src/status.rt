@@ -9,13 +9,13 @@ pub enum Status {
     Done,
     /// The checked answer is not a right one for its instance.
     Invalid,
-    /// The instance has a fault, which was named.
+    /// A text has a fault, which was named.
     Refused,
     /// A file could not be opened or read.
     ReadFault,
     /// What was due could not be written whole.
     WriteFault,
-    /// Memory was wanting.
+    /// Out of memory.
     Memory,
     /// The words are no command.
     Usage,

@@ -9,22 +9,22 @@ use Rattle.sfm_due.specs.declared.status.Status.{Status}
 use Rattle.sfm_due.specs.declared.status.Status.TheVariants.{Done, Invalid, Refused, ReadFault, WriteFault, Memory, Usage}
 use Rattle.sfm_due.specs.Owing.{IsAnswer}
 use Rattle.sfm_due.specs.Status.{code_of}
-use Rattle.sfm_run.specs.Task.{Along, FailsAt, HoldsNeeded, IsDue, StopsAt, Task, no_way}
+use Rattle.sfm_run.specs.Task.{Along, FailsAt, HoldsNeeded, IsDue, StopsAt, Task, nothing_read}
 use Rattle.sfm_run.specs.Headline.{EndsFor, FailsToWrite, WritesDue}
 use Rattle.sfm_run.specs.Preparing.{Prepares, PreparesFrom}
 use Rattle.sfm_run.proofs.Joining.{failure_rose, no_failure, stays}
 
 -- nothing was prepared
 pub ends_early : (task : Task) (shelf shelf' : ShelfState) (out : SinkState) (status : Status) → Prepares task shelf shelf' (Err status) → EndsFor task shelf shelf' out out status
-ends_early task shelf shelf' out status h = at (h shelf no_way (stays shelf)) where
-  at : PreparesFrom shelf shelf' no_way task (Err status) → EndsFor task shelf shelf' out out status
+ends_early task shelf shelf' out status h = at (h shelf nothing_read (stays shelf)) where
+  at : PreparesFrom shelf shelf' nothing_read task (Err status) → EndsFor task shelf shelf' out out status
   at (inl (fault, fails)) = rw fault (fails, refl)
   at (inr (memory, stops)) = rw memory (stops, refl)
 
 -- what was prepared was written whole
 pub ends_written : {T E : Type 0} (task : Task) (shelf shelf' : ShelfState) (out out' : SinkState) (due : Due) (t : T) → Prepares task shelf shelf' (Ok due) → WritesAll {E = E} out due.text.items (Ok t) out'
     → EndsFor task shelf shelf' out out' due.status
-ends_written task shelf shelf' out out' due t h written = at (h shelf no_way (stays shelf)) where
+ends_written task shelf shelf' out out' due t h written = at (h shelf nothing_read (stays shelf)) where
   at : IsDue task shelf shelf' due.text.items (code_of due.status) × IsAnswer due.status → EndsFor task shelf shelf' out out' due.status
   at (owed, inl done) = let d : IsDue task shelf shelf' due.text.items 0 = rw done at owed in rw done (due.text.items, d, written.whole)
   at (owed, inr (inl invalid)) = let d : IsDue task shelf shelf' due.text.items 1 = rw invalid at owed in rw invalid (due.text.items, d, written.whole)
@@ -35,7 +35,7 @@ pub ends_unwritten : {T E : Type 0} (task : Task) (shelf shelf' : ShelfState) (o
     → EndsFor task shelf shelf' out out' WriteFault
 ends_unwritten task shelf shelf' out out' due e h written =
     let (count, less, gained) = written.front in
-    record { written = due.text.items; code = code_of due.status; count = count; due = (h shelf no_way (stays shelf)).0; front = less; gained = gained; rose = written.rose }
+    record { written = due.text.items; code = code_of due.status; count = count; due = (h shelf nothing_read (stays shelf)).0; front = less; gained = gained; rose = written.rose }
 
 -- where what is needed is surely there, or no fault of the shelf comes, and no fault of the sink comes, a text is written, or memory
 -- ran out
@@ -44,8 +44,8 @@ pub completes : (task : Task) (shelf shelf' : ShelfState) (out out' : SinkState)
 completes task shelf shelf' out out' Done h sure sunk = inl refl
 completes task shelf shelf' out out' Invalid h sure sunk = inr (inl refl)
 completes task shelf shelf' out out' Refused h sure sunk = inr (inr (inl refl))
-completes task shelf shelf' out out' ReadFault (fails, same) (inl held) sunk = absurd (no_failure task no_way shelf shelf' held fails)
-completes task shelf shelf' out out' ReadFault (fails, same) (inr calm) sunk = absurd (calm (failure_rose task no_way shelf shelf' fails))
+completes task shelf shelf' out out' ReadFault (fails, same) (inl held) sunk = absurd (no_failure task nothing_read shelf shelf' held fails)
+completes task shelf shelf' out out' ReadFault (fails, same) (inr calm) sunk = absurd (calm (failure_rose task nothing_read shelf shelf' fails))
 completes task shelf shelf' out out' WriteFault h sure sunk = absurd (sunk h.rose)
 completes task shelf shelf' out out' Memory h sure sunk = inr (inr (inr refl))
 completes task shelf shelf' out out' Usage h sure sunk = absurd h

@@ -13,15 +13,15 @@ use Rattle.sfm_due.specs.Owing.{IsMade}
 use Rattle.sfm_due.proofs.ReadLemmas.{rose_later}
 use Rattle.sfm_run.specs.declared.open.Opened.{Opened}
 use Rattle.sfm_run.specs.declared.open.Opened.TheVariants.{Good, Faulty}
-use Rattle.sfm_run.specs.Task.{Along, FailsAt, File, IsAfter, IsDueAt, IsNext, StopsAt, Task, Way, and_file, ends, no_way, reads}
+use Rattle.sfm_run.specs.Task.{Along, FailsAt, File, IsAfter, IsDueAt, IsNext, StopsAt, Task, Way, and_file, ends, nothing_read, reads}
 use Rattle.sfm_run.specs.Preparing.{OpensFile, PassesOn, Prepares, PreparesFrom, ReadsFile}
 
 -- a shelf of which nothing was read
-pub stays : (shelf : ShelfState) → IsAfter no_way shelf shelf
+pub stays : (shelf : ShelfState) → IsAfter nothing_read shelf shelf
 stays shelf = record { kept = KeepsShelf-refl shelf; last = refl }
 
 -- memory ran out before anything was read
-pub stops_at_once : (task : Task) (shelf : ShelfState) → Along (StopsAt shelf shelf) shelf no_way task
+pub stops_at_once : (task : Task) (shelf : ShelfState) → Along (StopsAt shelf shelf) shelf nothing_read task
 stops_at_once (ends Due) shelf = stays shelf
 stops_at_once (reads file rest) shelf = inl (inl (stays shelf))
 

@@ -7,10 +7,8 @@ use Rattle.sfm_kind.specs.Instance.{InstanceData}
 use Rattle.sfm_kind.proofs.Meanings.{kinds-mean}
 use Rattle.sfm_lines.specs.declared.reason.Reason.{Reason}
 use Rattle.sfm_lines.specs.declared.reason.Reason.TheVariants.{Long}
-use Rattle.sfm_sizes.specs.Sizes.{AreElementSizes}
-use Rattle.sfm_side.specs.Side.{side_language}
-use Rattle.sfm_side.specs.Sizes.{sizes_form}
-use Rattle.sfm_text.specs.Language.{IsFaultIn, is_long, text_limit}
+use Rattle.sfm_side.specs.Side.{SideForm}
+use Rattle.sfm_text.specs.Language.{is_long, text_limit}
 use Rattle.sfm_text.specs.GoodText.{IsFaultOf, IsTextOf}
 use Rattle.sfm_text.specs.declared.reader.Reader.{Reader}
 use Rattle.sfm_text.specs.Standing.{Stands}
@@ -25,8 +23,8 @@ use Rattle.sfm_due.specs.Meanings.{question_of}
 use Rattle.sfm_run.specs.declared.open.Opened.{Opened}
 use Rattle.sfm_run.specs.declared.open.Opened.TheVariants.{Good, Faulty}
 use Rattle.sfm_run.specs.Task.{Task, reads}
-use Rattle.sfm_run.specs.Files.{answer_file, instance_file, sizes_file}
-use Rattle.sfm_run.specs.Preparing.{IfGood, IsFaulty, OpensFile, Prepares, TellsSizes, items_of}
+use Rattle.sfm_run.specs.Files.{answer_file, instance_file, side_file}
+use Rattle.sfm_run.specs.Preparing.{IsFaulty, OpensFile, Prepares}
 use Rattle.sfm_run.proofs.Joining.{behind, misses}
 
 -- a good instance
@@ -40,11 +38,11 @@ opens word name before after reader instance kept (text, stands, named, read) go
   holds = record { good = good text stands; means = kinds-mean instance.terms };
 }
 
--- a text of sizes that is too long
-pub opens_long : (instance : InstanceData) (name : List ℕ) (before after : ShelfState) (result : Result (Opened (Vec ℤ Global)) Status) → KeepsShelf (name ∷ []) before after
-    → ReadsText text_limit name before after (Ok None) → IsFaulty (codes "sizes") 0 Long result → OpensFile items_of (sizes_file (question_of instance) name) before after result
-opens_long instance name before after (Ok (Good v)) kept fed is = absurd is
-opens_long instance name before after (Ok (Faulty due)) kept (text, more, named, read) (is, refused) = (
+-- a text beside an instance that is too long
+pub opens_long : {D V X : Type 0} (view : V → X) (word : List ℕ) (form : SideForm D) (Says : D → X → Type 0) (name : List ℕ) (before after : ShelfState) (result : Result (Opened V) Status)
+    → KeepsShelf (name ∷ []) before after → ReadsText text_limit name before after (Ok None) → IsFaulty word 0 Long result → OpensFile view (side_file word form Says name) before after result
+opens_long view word form Says name before after (Ok (Good v)) kept fed is = absurd is
+opens_long view word form Says name before after (Ok (Faulty due)) kept (text, more, named, read) (is, refused) = (
   record {
     text = text;
     named = named;
@@ -54,7 +52,7 @@ opens_long instance name before after (Ok (Faulty due)) kept (text, more, named,
   },
   refused,
 )
-opens_long instance name before after (Err status) kept fed memory = (kept, inr memory)
+opens_long view word form Says name before after (Err status) kept fed memory = (kept, inr memory)
 
 -- an answer was read, and what was then made
 pub answers : (name : List ℕ) (rest : List ℕ → Task) (mid after : ShelfState) (bytes : Option (Vec ℕ Global)) (result : Result Due Status) → KeepsShelf (name ∷ []) mid after → ReadsText answer_limit name mid after (Ok bytes)

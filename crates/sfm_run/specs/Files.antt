@@ -4,6 +4,7 @@ use Rattle.sfm_text.specs.Language.{IsFaultIn, IsReadAs, text_limit}
 use Rattle.sfm_text.specs.GoodText.{IsFaultOf}
 use Rattle.sfm_side.specs.Side.{SideForm, ended, side_language}
 use Rattle.sfm_side.specs.Sizes.{sizes_form, sizes_of}
+use Rattle.sfm_side.specs.Pins.{PinData, pins_form}
 use Rattle.sfm_cert.specs.Grammar.{answer_limit}
 use Rattle.sfm_due.specs.Due.{IsAsked, NamesFault, Question}
 use Rattle.sfm_run.specs.Task.{File}
@@ -29,6 +30,10 @@ side_file word form Tells name = record {
 -- a file with the sizes of the elements
 abbrev pub sizes_file : Question → List ℕ → File (List ℤ)
 sizes_file asked = side_file (codes "sizes") (sizes_form asked.instance.names) (λ given sizes. sizes ≡ sizes_of given)
+
+-- a file with pinned elements
+abbrev pub pins_file : Question → List ℕ → File PinData
+pins_file asked = side_file (codes "pins") (pins_form asked.instance.names) (λ p pins. pins ≡ p)
 
 -- a file with an answer, of which no text is refused: a verdict says what is wrong with it
 abbrev pub answer_file : List ℕ → File (List ℕ)

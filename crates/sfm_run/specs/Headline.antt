@@ -8,7 +8,7 @@ use Rattle.sfm_due.specs.declared.status.Status.{Status}
 use Rattle.sfm_due.specs.declared.status.Status.TheVariants.{Done, Invalid, Refused, ReadFault, WriteFault, Memory, Usage}
 use Rattle.sfm_words.specs.Subcommand.{Command}
 use Rattle.sfm_words.specs.Command.{Asks, IsForm, IsNotTaken}
-use Rattle.sfm_run.specs.Task.{Task, Along, FailsAt, HoldsNeeded, IsDue, StopsAt, no_way}
+use Rattle.sfm_run.specs.Task.{Task, Along, FailsAt, HoldsNeeded, IsDue, StopsAt, nothing_read}
 use Rattle.sfm_run.specs.Tasks.{task_of}
 
 -- what was due was written whole
@@ -31,9 +31,9 @@ abbrev pub EndsFor : Task → (shelf shelf' : ShelfState) → (out out' : SinkSt
 EndsFor task shelf shelf' out out' Done = WritesDue task shelf shelf' out out' 0
 EndsFor task shelf shelf' out out' Invalid = WritesDue task shelf shelf' out out' 1
 EndsFor task shelf shelf' out out' Refused = WritesDue task shelf shelf' out out' 2
-EndsFor task shelf shelf' out out' ReadFault = Along (FailsAt shelf shelf') shelf no_way task × (out' ≡ out)
+EndsFor task shelf shelf' out out' ReadFault = Along (FailsAt shelf shelf') shelf nothing_read task × (out' ≡ out)
 EndsFor task shelf shelf' out out' WriteFault = FailsToWrite task shelf shelf' out out'
-EndsFor task shelf shelf' out out' Memory = Along (StopsAt shelf shelf') shelf no_way task × (out' ≡ out)
+EndsFor task shelf shelf' out out' Memory = Along (StopsAt shelf shelf') shelf nothing_read task × (out' ≡ out)
 EndsFor task shelf shelf' out out' Usage = ⊥
 
 -- the words were not read: clap does not take them, or memory ran out
@@ -45,7 +45,7 @@ abbrev pub Ends : List (List ℕ) → (shelf shelf' : ShelfState) → (out out' 
 Ends words shelf shelf' out out' status =
     (IsUnread words status × (shelf' ≡ shelf) × (out' ≡ out)) ⊎ ((command : Command) × Asks words command × EndsFor (task_of command) shelf shelf' out out' status)
 
--- words of the plain form of a command ask for that command, and the call ends as it does
+-- words of the plain form of a command ask for that command, and the call ends as its task does
 abbrev pub EndsByForm : List (List ℕ) → (shelf shelf' : ShelfState) → (out out' : SinkState) → Status → Type 0
 EndsByForm words shelf shelf' out out' status =
     (command : Command) → IsForm words command → Asks words command × EndsFor (task_of command) shelf shelf' out out' status
@@ -61,11 +61,11 @@ abbrev pub Complains : (err err' : SinkState) → Status → Type 0
 Complains err err' ReadFault = Says (codes "sfm: read failed\n") err err'
 Complains err err' WriteFault = Says (codes "sfm: write failed\n") err err'
 Complains err err' Memory = Says (codes "sfm: out of memory\n") err err'
-Complains err err' Usage = Says (codes "usage: sfm solve FILE | check FILE ANSWER | demo SEED | weigh FILE SIZES | weighed FILE SIZES ANSWER\n") err err'
+Complains err err' Usage = Says (codes "usage: sfm solve FILE | check FILE ANSWER | demo SEED | weigh FILE SIZES | weighed FILE SIZES ANSWER | ask FILE PINS\n") err err'
 Complains err err' _ = err' ≡ err
 
--- where the words are a command whose names are surely there, or no fault of the shelf comes, and no fault of the sink comes, what is
--- due is written, or memory ran out
+-- where the words are a command whose names are surely there, or no fault of the shelf comes, and no fault of the sink comes, the status
+-- is one with which what is due is written, or memory ran out
 abbrev pub IsComplete : List (List ℕ) → (shelf shelf' : ShelfState) → (out out' : SinkState) → Status → Type 0
 IsComplete words shelf shelf' out out' status = (command : Command) → Asks words command
     → HoldsNeeded shelf (task_of command) ⊎ (Rose shelf.faults shelf'.faults → ⊥) → (Rose out.faults out'.faults → ⊥)

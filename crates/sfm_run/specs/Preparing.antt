@@ -1,10 +1,8 @@
 -- What was prepared: a text that is due whole, or why there is none; and a file that was opened.
-use Rattle.std.specs.Prelude.{◌≡◌, ◌⊎◌, ℕ, List, [], ◌∷◌, length, ℤ, Result, Ok, Err, Vec}
+use Rattle.std.specs.Prelude.{◌≡◌, ◌⊎◌, ℕ, List, [], ◌∷◌, ℤ, Result, Ok, Err, Vec}
 use Rattle.std.specs.Global.{Global}
 use Rattle.sfm_base.specs.declared.memory.Memory.{Memory as OutOfMemory}
 use Rattle.sfm_io.specs.Shelf.{ShelfState, KeepsShelf}
-use Rattle.sfm_kind.specs.Instance.{InstanceData}
-use Rattle.sfm_sizes.specs.Sizes.{AreElementSizes}
 use Rattle.sfm_lines.specs.declared.reason.Reason.{Reason}
 use Rattle.sfm_due.specs.declared.due.Due.{Due}
 use Rattle.sfm_due.specs.declared.status.Status.{Status}
@@ -12,9 +10,7 @@ use Rattle.sfm_due.specs.declared.status.Status.TheVariants.{ReadFault, Memory, 
 use Rattle.sfm_due.specs.Status.{code_of}
 use Rattle.sfm_due.specs.Files.{IsNamed, MissesText, WasRead}
 use Rattle.sfm_due.specs.Due.{refusal}
-use Rattle.sfm_due.specs.Meanings.{question_of}
 use Rattle.sfm_due.specs.Owing.{IsAnswer}
-use Rattle.sfm_run.specs.Files.{sizes_file}
 use Rattle.sfm_run.specs.declared.open.Opened.{Opened}
 use Rattle.sfm_run.specs.declared.open.Opened.TheVariants.{Good, Faulty}
 use Rattle.sfm_run.specs.Task.{Along, FailsAt, File, IsAfter, IsDueAt, StopsAt, Task, Way}
@@ -60,11 +56,11 @@ IsFaulty word line reason (Ok (Good v)) = ⊥
 IsFaulty word line reason (Ok (Faulty due)) = (due.text.items ≡ refusal word line reason) × (due.status ≡ Refused)
 IsFaulty word line reason (Err status) = status ≡ Memory
 
--- the sizes that a text gives, or its refusal, or that memory ran out
-abbrev pub TellsSizes : InstanceData → List ℕ → Result (Opened (Vec ℤ Global)) Status → Type 0
-TellsSizes instance text (Ok (Good v)) = (sizes_file (question_of instance) []).Stands text v.items × AreElementSizes (length instance.names) v.items
-TellsSizes instance text (Ok (Faulty due)) = (sizes_file (question_of instance) []).Refuses text due.text.items × (due.status ≡ Refused)
-TellsSizes instance text (Err status) = status ≡ Memory
+-- what a text beside an instance stands for, or its refusal, or that memory ran out
+abbrev pub Tells : {V X : Type 0} → (V → X) → File X → List ℕ → Result (Opened V) Status → Type 0
+Tells view file text (Ok (Good v)) = file.Stands text (view v)
+Tells view file text (Ok (Faulty due)) = file.Refuses text due.text.items × (due.status ≡ Refused)
+Tells view file text (Err status) = status ≡ Memory
 
 -- the sizes that a list has
 abbrev pub items_of : Vec ℤ Global → List ℤ

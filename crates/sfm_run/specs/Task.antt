@@ -23,8 +23,8 @@ pub record Way : Type 0 where
   pub last : Option (ℕ × List ℕ)
 
 -- nothing
-abbrev pub no_way : Way
-no_way = record { names = []; last = None }
+abbrev pub nothing_read : Way
+nothing_read = record { names = []; last = None }
 
 -- one file more, of this text
 abbrev pub and_file : {X : Type 0} → Way → File X → List ℕ → Way
@@ -50,7 +50,7 @@ IsNext name way (reads file rest) = name ≡ file.name
 
 -- the shelf surely holds each name that the task needs: the first, and each further one where all texts before it are good
 abbrev pub HoldsNeeded : ShelfState → Task → Type 0
-HoldsNeeded shelf task = (name : List ℕ) → Along (IsNext name) shelf no_way task → IsSurelyHeld shelf name
+HoldsNeeded shelf task = (name : List ℕ) → Along (IsNext name) shelf nothing_read task → IsSurelyHeld shelf name
 
 -- this text is now due, with this code: what the task ends with, or the refusal, with code 2, of the next file
 abbrev pub IsDueAt : (shelf shelf' : ShelfState) → List ℕ → ℕ → Way → Task → Type 0
@@ -60,7 +60,7 @@ IsDueAt shelf shelf' written code way (reads file rest) = (text : List ℕ) × I
 
 -- this text is due for the task, with this code
 abbrev pub IsDue : Task → (shelf shelf' : ShelfState) → List ℕ → ℕ → Type 0
-IsDue task shelf shelf' written code = Along (IsDueAt shelf shelf' written code) shelf no_way task
+IsDue task shelf shelf' written code = Along (IsDueAt shelf shelf' written code) shelf nothing_read task
 
 -- the next file could not be opened or read to its end; it was the last that was asked for
 abbrev pub FailsAt : (shelf shelf' : ShelfState) → Way → Task → Type 0

@@ -1,10 +1,11 @@
 -- What is to be done for each command.
 use Rattle.std.specs.Prelude.{◌≡◌, ℕ, List, codes}
-use Rattle.sfm_words.specs.Subcommand.{Command, solve, check, demo, weigh, weighed}
+use Rattle.sfm_words.specs.Subcommand.{Command, solve, check, demo, weigh, weighed, ask}
 use Rattle.sfm_due.specs.Due.{IsJudged, IsJudgedBySizes, IsSolved, IsWeighed, Question}
+use Rattle.sfm_ask.specs.Pinned.{IsAnswered}
 use Rattle.sfm_due.specs.Demo.{IsDueToDemo}
 use Rattle.sfm_run.specs.Task.{File, Task, ends, reads}
-use Rattle.sfm_run.specs.Files.{answer_file, instance_file, sizes_file}
+use Rattle.sfm_run.specs.Files.{answer_file, instance_file, pins_file, sizes_file}
 
 -- a text that was asked for is due, with code 0
 abbrev pub done : (List ℕ → Type 0) → Task
@@ -22,3 +23,5 @@ task_of (demo seed) = ends (IsDueToDemo seed)
 task_of (weigh file sizes) = reads (main_file file) (λ asked. reads (sizes_file asked sizes) (λ w. done (IsWeighed asked w)))
 task_of (weighed file sizes answer) = reads (main_file file) (λ asked. reads (sizes_file asked sizes)
     (λ w. reads (answer_file answer) (λ text. ends (IsJudgedBySizes asked w text))))
+task_of (ask file pins) = reads (main_file file) (λ asked. reads (pins_file asked pins)
+    (λ p. done (IsAnswered asked.instance.names asked.meant p)))

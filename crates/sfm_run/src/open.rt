@@ -1,13 +1,14 @@
 // Files that commands open: each is read whole, and stands for something, or is refused.
-ghost use Rattle.std.specs.Prelude.{◌≡◌, length, IfOk};
+ghost use Rattle.std.specs.Prelude.{◌≡◌, [], length, IfOk};
 ghost use Rattle.sfm_sizes.specs.Sizes.{AreElementSizes};
+ghost use Rattle.sfm_side.specs.PinLines.{AreOver, pins_of};
 ghost use Rattle.sfm_due.specs.Meanings.{question_of};
-ghost use Rattle.sfm_run.specs.{Files.{instance_file, sizes_file}, Preparing.{IfGood, IsFaulty, OpensFile, TellsSizes, items_of}};
+ghost use Rattle.sfm_run.specs.{Files.{instance_file, pins_file, sizes_file}, Preparing.{IfGood, IsFaulty, OpensFile, Tells, items_of}};
 
 use sfm_due::{Due, Status, feed_text, read_text, refuse};
 use sfm_io::Shelf;
 use sfm_kind::Instance;
-use sfm_side::read_sizes;
+use sfm_side::{Pins, read_pins, read_sizes};
 use sfm_text::{Reason, TEXT_LIMIT, TextEnd};
 use std::alloc::Global;
 
@@ -53,7 +54,9 @@ pub fn open_instance<S: Shelf>(
 
 /// The sizes that a text gives the elements of an instance, or what is due for a text with a fault.
 fn sizes_in(alloc: Global, instance: &Instance, text: &[u8]) -> Result<Opened<Vec<i128>>, Status>
-    ensures told { TellsSizes instance.now text.now result }
+    ensures told { Tells items_of (sizes_file (question_of instance.now) []) text.now result }
+    ensures sizes { IfOk result (IfGood (λ v. AreElementSizes (length instance.now.names)
+        (items_of v))) }
 {
     match read_sizes(alloc, instance, text) {
         Ok(sizes) => Ok(Opened::Good(sizes)),
@@ -77,6 +80,36 @@ pub fn open_sizes<S: Shelf>(
     match read_text(alloc, shelf, file, TEXT_LIMIT) {
         Ok(Some(text)) => sizes_in(alloc, instance, text.as_slice()),
         Ok(None) => faulty(alloc, b"sizes", 0, Reason::Long),
+        Err(status) => Err(status),
+    }
+}
+
+/// The elements of an instance that a text pins, or what is due for a text with a fault.
+fn pins_in(alloc: Global, instance: &Instance, text: &[u8]) -> Result<Opened<Pins>, Status>
+    ensures told { Tells pins_of (pins_file (question_of instance.now) []) text.now result }
+    ensures over { IfOk result (IfGood (λ p. AreOver (length instance.now.names) (pins_of p))) }
+{
+    match read_pins(alloc, instance, text) {
+        Ok(pins) => Ok(Opened::Good(pins)),
+        Err(TextEnd::Refused { line, reason }) => faulty(alloc, b"pins", line, reason),
+        Err(TextEnd::Memory) => Err(Status::Memory),
+    }
+}
+
+/// Opens a file with pinned elements of an instance.
+pub fn open_pins<S: Shelf>(
+    alloc: Global,
+    shelf: &mut S,
+    instance: &Instance,
+    file: &str,
+) -> Result<Opened<Pins>, Status>
+    ensures opened { OpensFile pins_of (pins_file (question_of instance.now) file.now)
+        (S.state shelf.old) (S.state shelf.new) result }
+    ensures over { IfOk result (IfGood (λ p. AreOver (length instance.now.names) (pins_of p))) }
+{
+    match read_text(alloc, shelf, file, TEXT_LIMIT) {
+        Ok(Some(text)) => pins_in(alloc, instance, text.as_slice()),
+        Ok(None) => faulty(alloc, b"pins", 0, Reason::Long),
         Err(status) => Err(status),
     }
 }

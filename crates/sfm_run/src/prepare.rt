@@ -1,17 +1,18 @@
 // What is due for each command, made whole before any of it is written.
 ghost use Rattle.std.specs.Prelude.{◌≡◌, ◌≤◌, ℕ, List, length, IfOk};
 ghost use Rattle.sfm_io.specs.Shelf.{ShelfState};
-ghost use Rattle.sfm_words.specs.{Command.{command_of}, Subcommand.{solve as Solving, check as Checking, demo as Showing, weigh as Weighing, weighed as CheckingWeighed}};
+ghost use Rattle.sfm_words.specs.{Command.{command_of}, Subcommand.{solve as Solving, check as Checking, demo as Showing, weigh as Weighing, weighed as CheckingWeighed, ask as Asking}};
+ghost use Rattle.sfm_ask.specs.Pinned.{IsAnswered};
 ghost use Rattle.sfm_sizes.specs.Sizes.{AreElementSizes};
-ghost use Rattle.sfm_due.specs.{Due.{IsJudged, IsJudgedBySizes, IsSolved, IsWeighed}, Meanings.{question_of}, Owing.{IsMade}};
-ghost use Rattle.sfm_run.specs.{Files.{answer_file, sizes_file}, Preparing.{PassesOn, Prepares}, Task.{ends, reads}, Tasks.{done, task_of}};
+ghost use Rattle.sfm_due.specs.{Due.{IsJudged, IsJudgedBySizes, IsSolved, IsWeighed}, Meanings.{meanings_of, question_of}, Owing.{IsMade}};
+ghost use Rattle.sfm_run.specs.{Files.{answer_file, pins_file, sizes_file}, Preparing.{PassesOn, Prepares}, Task.{ends, reads}, Tasks.{done, task_of}};
 
-use crate::open::{Opened, open_instance, open_sizes};
+use crate::open::{Opened, open_instance, open_pins, open_sizes};
 use sfm_base::Memory;
 use sfm_cert::ANSWER_LIMIT;
 use sfm_due::{
-    Due, Status, due_to_check, due_to_check_weighed, due_to_demo, due_to_solve, due_to_weigh,
-    read_text,
+    Due, Status, due_to_ask, due_to_check, due_to_check_weighed, due_to_demo, due_to_solve,
+    due_to_weigh, read_text,
 };
 use sfm_io::Shelf;
 use sfm_kind::Instance;
@@ -170,6 +171,41 @@ fn prepare_weighed<S: Shelf>(
     }
 }
 
+/// Reads pins behind an instance, and makes what is due to find its best set with them.
+fn ask_behind<S: Shelf>(
+    alloc: Global,
+    shelf: &mut S,
+    instance: &Instance,
+    pins: &str,
+) -> Result<Due, Status>
+    ensures { Prepares (reads (pins_file (question_of instance.now) pins.now) (λ p. done
+        (IsAnswered instance.now.names (meanings_of instance.now.terms) p))) (S.state shelf.old)
+        (S.state shelf.new) result }
+{
+    match open_pins(alloc, shelf, instance, pins) {
+        Ok(Opened::Good(pins)) => made(due_to_ask(alloc, instance, &pins)),
+        Ok(Opened::Faulty(due)) => Ok(due),
+        Err(status) => Err(status),
+    }
+}
+
+/// Reads an instance and pins, and makes what is due to find its best set with them.
+fn prepare_ask<S: Shelf>(
+    alloc: Global,
+    shelf: &mut S,
+    file: &str,
+    pins: &str,
+) -> Result<Due, Status>
+    ensures { Prepares (task_of (Asking file.now pins.now)) (S.state shelf.old)
+        (S.state shelf.new) result }
+{
+    match open_instance(alloc, shelf, b"refused", file) {
+        Ok(Opened::Good(instance)) => ask_behind(alloc, shelf, &instance, pins),
+        Ok(Opened::Faulty(due)) => Ok(due),
+        Err(status) => Err(status),
+    }
+}
+
 /// Makes what is due for a command whole.
 pub fn prepare<S: Shelf>(alloc: Global, shelf: &mut S, command: Command) -> Result<Due, Status>
     requires { (seed : ℕ) → command_of command ≡ Showing seed → seed ≤ 999999999 }
@@ -186,5 +222,6 @@ pub fn prepare<S: Shelf>(alloc: Global, shelf: &mut S, command: Command) -> Resu
             sizes,
             answer,
         } => prepare_weighed(alloc, shelf, file, sizes, answer),
+        Command::Ask { file, pins } => prepare_ask(alloc, shelf, file, pins),
     }
 }
