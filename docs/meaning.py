@@ -38,7 +38,7 @@ PARTS = [
         "sfm_spec.Names", "sfm_base.NumberText", "sfm_lines.Lines", "sfm_lines/word", "sfm_lines.Parts",
         "sfm_lines.LabelTerms", "sfm_lines.RankLines", "sfm_lines.Words", "sfm_lines.TermLines", "sfm_lines/",
         "sfm_lines.Reading", "sfm_text.Language", "sfm_text.GoodText", "sfm_lines.Reasons", "sfm_lines.", "sfm_text."]),
-    ("Texts beside an instance", ["sfm_side.Side", "sfm_side.Numbers", "sfm_side."]),
+    ("Texts beside an instance", ["sfm_side.Side", "sfm_side.Numbers", "sfm_side.", "sfm_ask."]),
     ("Answer texts", ["sfm_cert.", "sfm_check/", "sfm_check."]),
     ("The text of a demonstration", ["sfm_demo.Draws", "sfm_demo/", "sfm_demo."]),
     ("The outside, the words, and how a call ends", [
