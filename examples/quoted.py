@@ -19,7 +19,10 @@ from collections import namedtuple
 
 # A command with the lines that it prints; its code where the document says it.
 Quote = namedtuple("Quote", "line command printed code")
-USAGE = "usage: sfm solve FILE | check FILE ANSWER | demo SEED | weigh FILE SIZES | weighed FILE SIZES ANSWER"
+USAGE = (
+    "usage: sfm solve FILE | check FILE ANSWER | demo SEED"
+    " | weigh FILE SIZES | weighed FILE SIZES ANSWER | ask FILE PINS"
+)
 
 
 def blocks_of(lines):
