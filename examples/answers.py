@@ -9,9 +9,11 @@ import tempfile
 from collections import namedtuple
 from fractions import Fraction
 
-from faults import Stop, fault, read_text, write_text
+from faults import Stop, fault, name_of, read_text, write_text
 
 Block = namedtuple("Block", "names needs")
+# What `sfm ask` says: the least value, and the extreme sets that attain it, each as a list of names.
+Asked = namedtuple("Asked", "minimum least greatest")
 # One slope: where it is, the names that come in there, the whole set from there on, and what that set is worth.
 Step = namedtuple("Step", "slope new names value")
 
@@ -108,6 +110,16 @@ def read_sizes(path):
     return sizes
 
 
+def read_pins(path):
+    """The names that a text of pins holds in, and those that it holds out."""
+    pins = {"in": [], "out": []}
+    for number, line in enumerate(read_text(path).splitlines(), 1):
+        word, *names = line.split() or ["#"]
+        for name in names if word in pins else []:
+            pins[word].append(name_of(path, number, name))
+    return pins["in"], pins["out"]
+
+
 def run(*words):
     """Runs the program, and gives its exit code and what it printed."""
     program = os.environ.get("SFM", "sfm")
@@ -141,6 +153,35 @@ def solve(lines, keep=None, sizes=None):
         write_text(answer, text)
         run_well("weighed" if sizes else "check", *files, answer)
     return Answer(text, sizes=sizes)
+
+
+def ask(instance, inside, outside, keep=None):
+    """What `sfm ask` says of the instance in a file, over the sets that have the names of the one list and none of the other; None
+    where there is no such set. The text of pins is kept in the file `keep`."""
+    lines = ["pins 1", *(" ".join([word, *names]) for word, names in (("in", inside), ("out", outside)) if names), "end"]
+    with tempfile.TemporaryDirectory() as folder:
+        pins = keep or os.path.join(folder, "pins")
+        write_text(pins, "\n".join(lines) + "\n")
+        text = run_well("ask", instance, pins)
+    return asked_of(text)
+
+
+def ask_lines(lines, inside, outside, keep=None):
+    """What `sfm ask` says of the instance of these lines. The instance is kept in the file `keep`, and its pins beside it."""
+    with tempfile.TemporaryDirectory() as folder:
+        instance = keep or os.path.join(folder, "instance.sfm")
+        write_text(instance, "\n".join(lines) + "\n")
+        return ask(instance, inside, outside, instance + ".pins")
+
+
+def asked_of(text):
+    """What a text on pins says: None where it says that there is no set."""
+    if text == "none\n":
+        return None
+    found = re.fullmatch(rf"pinned 1\nminimum (-?[0-9]+)\nleast{LISTED}\ngreatest{LISTED}\nend\n", text)
+    if not found:
+        raise Stop(70, "sfm ask prints what is no text on pins")
+    return Asked(int(found[1]), found[2].split(), found[3].split())
 
 
 def in_lines(names, width=100, indent="    "):

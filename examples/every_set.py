@@ -1,22 +1,25 @@
 #!/usr/bin/env python3
 """Answers a small instance without `sfm`: tries every set, by the words of docs/FORMATS.md alone, in exact fractions.
 
-It prints what an answer says before its proof, as `sfm solve` does, or as `sfm weigh` does where SIZES is given:
+It prints what an answer says before its proof, as `sfm solve` does, or as `sfm weigh` does where SIZES is given. With --pins it
+prints what `sfm ask` does:
 
     python3 every_set.py towns.sfm
     python3 every_set.py jobs.sfm jobs.sizes
+    python3 every_set.py border.sfm --pins border.pins
 
-With --all it takes each instance of a folder with at most 14 elements, also with its sizes where it has some, and compares each line
-with what `sfm` says. A set of elements is a number here: bit i is set where the set has the i-th name of the ground.
+With --all it takes each instance of a folder with at most 14 elements, also with its sizes and its pins where it has some, and with
+each element held in and out alone, and compares each line with what `sfm` says. A set of elements is a number here: bit i is set where the set has the i-th name of the ground.
 """
 import argparse
 import glob
 import os
 import sys
+import tempfile
 from fractions import Fraction
 
-from answers import read_sizes, run_well
-from faults import fault, read_text, run_main
+from answers import read_pins, read_sizes, run_well
+from faults import fault, read_text, run_main, write_text
 
 MOST = 14
 
@@ -174,23 +177,34 @@ def slopes_of(values, weights):
     return found
 
 
-def answer_lines(path, sizes_path=None):
-    """What an answer says before its proof."""
-    ground, values = read_instance(path)
-    sizes = read_sizes(sizes_path) if sizes_path else {}
-    weights = [sum(sizes.get(name, 1) for e, name in enumerate(ground) if has(chosen, e)) for chosen in range(len(values))]
+def line_of(ground, chosen, *words):
+    """A line of words and of the names that a set has."""
+    return " ".join([*words, *(name for e, name in enumerate(ground) if has(chosen, e))])
 
-    def line(*words, chosen):
-        return " ".join([*words, *(name for e, name in enumerate(ground) if has(chosen, e))])
 
+def answer_lines(ground, values, sizes=None):
+    """What an answer says before its proof, one to `sfm weigh` where there are sizes."""
+    sized = sizes or {}
+    weights = [sum(sized.get(name, 1) for e, name in enumerate(ground) if has(chosen, e)) for chosen in range(len(values))]
     least, best = least_of(values)
-    lines = ["weighed 1" if sizes_path else "answer 1", f"minimum {least}"]
-    lines += [line("least", chosen=all_of(best)), line("greatest", chosen=any_of(best))]
+    lines = ["answer 1" if sizes is None else "weighed 1", f"minimum {least}"]
+    lines += [line_of(ground, all_of(best), "least"), line_of(ground, any_of(best), "greatest")]
     for number, (block, needs) in enumerate(blocks_of(best, len(ground)), 1):
         lines.append(" ".join(["block", str(number), *(ground[e] for e in block), ":", *map(str, needs)]))
     for slope, chosen in slopes_of(values, weights):
-        lines.append(line("slope", f"{slope.numerator}/{slope.denominator}", chosen=chosen))
+        lines.append(line_of(ground, chosen, "slope", f"{slope.numerator}/{slope.denominator}"))
     return lines
+
+
+def pinned_lines(ground, values, inside, outside):
+    """What is said of the sets that have all names of the one list and none of the other."""
+    must, never = (sum(1 << ground.index(name) for name in names) for names in (inside, outside))
+    asked = [value if chosen & must == must and not chosen & never else None for chosen, value in enumerate(values)]
+    if all(value is None for value in asked):
+        return ["none"]
+    least, best = least_of(asked)
+    sets = [line_of(ground, all_of(best), "least"), line_of(ground, any_of(best), "greatest")]
+    return ["pinned 1", f"minimum {least}", *sets, "end"]
 
 
 def is_small(path):
@@ -198,23 +212,38 @@ def is_small(path):
     return len(ground) - 1 <= MOST
 
 
+def cases_of(path, pins_path):
+    """The words of each call of `sfm` on an instance, and the lines that are due. Pins of one element are written to a file."""
+    ground, values = read_instance(path)
+    yield ("solve", path), answer_lines(ground, values)
+    beside = path[:-4] + ".sizes"
+    if os.path.exists(beside):
+        yield ("weigh", path, beside), answer_lines(ground, values, read_sizes(beside))
+    beside = path[:-4] + ".pins"
+    if os.path.exists(beside):
+        yield ("ask", path, beside), pinned_lines(ground, values, *read_pins(beside))
+    for name in ground:
+        for word, inside, outside in (("in", [name], []), ("out", [], [name])):
+            write_text(pins_path, f"pins 1\n{word} {name}\nend\n")
+            yield ("ask", path, pins_path), pinned_lines(ground, values, inside, outside)
+
+
 def compare(folder):
-    """Compares the answers of `sfm` with those that are found here, and prints the lines of which only one side knows."""
-    count, wrong = 0, 0
-    for path in sorted(glob.glob(os.path.join(folder, "*.sfm"))):
-        sizes_path = path[:-4] + ".sizes"
-        for files in [(path,), (path, sizes_path)] if os.path.exists(sizes_path) else [(path,)]:
-            if not is_small(path):
-                continue
-            said = run_well("weigh" if files[1:] else "solve", *files).splitlines()
-            said, found = said[: said.index("at 0/1")], answer_lines(*files)
-            count += 1
-            if said != found:
-                wrong += 1
-                print(" ".join(os.path.basename(file) for file in files))
-                print("\n".join([f"  sfm says {line}" for line in said if line not in found]))
-                print("\n".join([f"  found    {line}" for line in found if line not in said]))
-    print(f"every set tried: {count} answers, {wrong} differ")
+    """Compares what `sfm` says with what is found here, and prints the lines of which only one side knows."""
+    counts, wrong = {"solve": 0, "weigh": 0, "ask": 0}, 0
+    with tempfile.TemporaryDirectory() as work:
+        for path in filter(is_small, sorted(glob.glob(os.path.join(folder, "*.sfm")))):
+            for words, found in cases_of(path, os.path.join(work, "one.pins")):
+                said = run_well(*words).splitlines()
+                said = said[: said.index("at 0/1")] if "at 0/1" in said else said
+                counts[words[0]] += 1
+                if said != found:
+                    wrong += 1
+                    print(" ".join([words[0], *(os.path.basename(file) for file in words[1:])]))
+                    print("\n".join([f"  sfm says {line}" for line in said if line not in found]))
+                    print("\n".join([f"  found    {line}" for line in found if line not in said]))
+    answers = counts["solve"] + counts["weigh"]
+    print(f"every set tried: {answers} answers and {counts['ask']} texts on pins, {wrong} differ")
     return 1 if wrong else 0
 
 
@@ -222,11 +251,20 @@ def main():
     parser = argparse.ArgumentParser(description=__doc__, formatter_class=argparse.RawDescriptionHelpFormatter)
     parser.add_argument("file", help="an instance, or with --all a folder")
     parser.add_argument("sizes", nargs="?", help="the sizes of its elements")
+    parser.add_argument("--pins", help="the elements that are held in and out; then slopes are not told")
     parser.add_argument("--all", action="store_true", help="compare each small instance of the folder with what sfm says")
     options = parser.parse_args()
     if options.all:
         return compare(options.file)
-    print("\n".join(answer_lines(options.file, options.sizes)))
+    ground, values = read_instance(options.file)
+    if options.pins:
+        inside, outside = read_pins(options.pins)
+        for name in [name for name in inside + outside if name not in ground]:
+            raise fault(options.pins, None, f"{name} is no name of the ground")
+        lines = pinned_lines(ground, values, inside, outside)
+    else:
+        lines = answer_lines(ground, values, read_sizes(options.sizes) if options.sizes else None)
+    print("\n".join(lines))
     return 0
 
 

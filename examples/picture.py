@@ -7,19 +7,32 @@ two neighbours, one in the object and one not, costs BORDER. The least set is th
 which a pixel comes in, added to LEVEL, is its grey in a picture made smooth by the cost of borders (total variation).
 
     python3 picture.py data/cells.pgm --svg cells.svg
+
+A stroke of a brush holds pixels in the object or out of it: --in and --out take a pixel ROW,COLUMN, counted from 0, or the straight
+line between two of them, and stand as often as there are strokes. The object is then the least set of those that keep to them.
+
+    python3 picture.py data/cells.pgm --in 5,2-5,9 --out 13,12 --svg cells.svg
 """
 import argparse
 import re
 import sys
+from collections import namedtuple
 
-from answers import solve
-from faults import MOST_NAMES, fault, read_bytes, run_main, write_text
+from answers import ask_lines, solve
+from faults import MOST_NAMES, Stop, fault, read_bytes, run_main, write_text
 
 # The kind of a PGM, its width, height and greatest grey; a comment goes from # to the end of a line.
 PGM_HEAD = re.compile(rb"(P[25])" + 3 * rb"(?:\s|#[^\n]*\n)+(\d+)" + rb"\s")
+# The pixels on strokes, and what is least among the sets that keep to them.
+Held = namedtuple("Held", "inside outside asked")
+# A stroke: a pixel, or two of them with a line between.
+STROKE = re.compile(r"([0-9]+),([0-9]+)(?:-([0-9]+),([0-9]+))?")
 SMALLER = "ImageMagick makes one: convert PICTURE -colorspace Gray -resize 16x16 -depth 8 small.pgm"
 CELL = 12
 GAP = 28
+# Colours of what is in a set and what is not, and of strokes.
+IN, OUT = "#1f4e79", "#e8eef4"
+HELD_IN, HELD_OUT = "#1b9e4b", "#e0301e"
 # Colours of the heat map from early to late.
 HEAT = [(59, 15, 112), (140, 41, 129), (222, 73, 104), (254, 159, 109), (252, 253, 191)]
 
@@ -77,6 +90,33 @@ def instance(rows, options):
     return [*lines, "end"]
 
 
+def pixels_of(strokes, rows):
+    """The places of the pixels on strokes, in the order of the rows, none twice."""
+    places = set()
+    for stroke in strokes:
+        found = STROKE.fullmatch(stroke)
+        if not found:
+            raise Stop(2, f"{stroke!r} is no stroke: a pixel is ROW,COLUMN, and a line ROW,COLUMN-ROW,COLUMN")
+        r, c, r2, c2 = (int(number) for number in (*found.groups()[:2], found[3] or found[1], found[4] or found[2]))
+        if max(r, r2) >= len(rows) or max(c, c2) >= len(rows[0]):
+            raise Stop(2, f"{stroke!r} leaves the picture, which has {len(rows)} rows and {len(rows[0])} columns, counted from 0")
+        steps = max(abs(r2 - r), abs(c2 - c), 1)
+        # the nearest pixel to each step of the line, in whole numbers
+        places |= {tuple((2 * a * (steps - i) + 2 * b * i + steps) // (2 * steps) for a, b in ((r, r2), (c, c2))) for i in range(steps + 1)}
+    return sorted(places)
+
+
+def held_by(rows, lines, options):
+    """The pixels on the strokes, and what is least for these lines among the sets that keep to them. There always is such a set, as
+    a picture has no needs."""
+    inside, outside = pixels_of(options.inside, rows), pixels_of(options.outside, rows)
+    for row, column in inside:
+        if (row, column) in outside:
+            raise Stop(2, f"the pixel {row},{column} is held in and held out")
+    asked = ask_lines(lines, [name(*place) for place in inside], [name(*place) for place in outside], options.instance)
+    return Held(inside, outside, asked)
+
+
 def mixed(share):
     """The colour of the heat map at a share from 0 to 1."""
     place = share * (len(HEAT) - 1)
@@ -106,8 +146,14 @@ def legend(left, top, width, low, high):
     return parts
 
 
-def draw(rows, answer):
-    """An SVG of three panels: the picture, the least set, and the slope at which each pixel comes in."""
+def marks(left, places, colour):
+    """A small square on each of the pixels that are held."""
+    return [f'<rect x="{left + c * CELL + 3}" y="{24 + r * CELL + 3}" width="6" height="6" fill="{colour}"/>' for r, c in places]
+
+
+def draw(rows, answer, held):
+    """An SVG of three panels: the picture, the least set, and the slope at which each pixel comes in. With strokes: the picture with
+    these, the least set, and the least one of those that keep to them."""
     slopes, least = answer.slope_of(), set(answer.least)
     low, high = min(slopes.values()), max(slopes.values())
     width, height = len(rows[0]) * CELL, len(rows) * CELL
@@ -117,12 +163,22 @@ def draw(rows, answer):
         return f"#{rows[r][c]:02x}{rows[r][c]:02x}{rows[r][c]:02x}"
 
     def member(r, c):
-        return "#1f4e79" if name(r, c) in least else "#e8eef4"
+        return IN if name(r, c) in least else OUT
+
+    def kept(r, c):
+        return IN if name(r, c) in held.asked.least else OUT
 
     def heat(r, c):
         return mixed(float((slopes[name(r, c)] - low) / (high - low))) if high > low else mixed(0)
 
     wide, tall = lefts[2] + width + 8, 24 + height + 36
+    if held:
+        last = panel(rows, lefts[2], "least set with strokes", kept)
+        last += marks(lefts[0], held.inside, HELD_IN) + marks(lefts[0], held.outside, HELD_OUT)
+        last.append(f'<text x="{lefts[0]}" y="{24 + height + 20}" class="small" style="fill: {HELD_IN}">held in</text>')
+        last.append(f'<text x="{lefts[0] + 60}" y="{24 + height + 20}" class="small" style="fill: {HELD_OUT}">held out</text>')
+    else:
+        last = panel(rows, lefts[2], "slope at which it comes in", heat) + legend(lefts[2], 24 + height + 8, width, low, high)
     parts = [
         f'<svg xmlns="http://www.w3.org/2000/svg" width="{wide}" height="{tall}" viewBox="0 0 {wide} {tall}">',
         "<style>text { font: 13px sans-serif; fill: #222 } .small { font-size: 11px }</style>",
@@ -130,8 +186,7 @@ def draw(rows, answer):
         '<g shape-rendering="crispEdges">',
         *panel(rows, lefts[0], "picture", grey),
         *panel(rows, lefts[1], "least set", member),
-        *panel(rows, lefts[2], "slope at which it comes in", heat),
-        *legend(lefts[2], 24 + height + 8, width, low, high),
+        *last,
         "</g>",
         "</svg>",
     ]
@@ -144,19 +199,28 @@ def main():
     parser.add_argument("--level", type=int, default=128, help="what is darker speaks for the object (128)")
     parser.add_argument("--bright", action="store_true", help="what is brighter than the level speaks for the object")
     parser.add_argument("--border", type=int, default=16, help="what a border between two pixels costs, from 0 (16)")
+    parser.add_argument("--in", dest="inside", metavar="STROKE", action="append", default=[], help="pixels held in the object")
+    parser.add_argument("--out", dest="outside", metavar="STROKE", action="append", default=[], help="pixels held out of it")
     parser.add_argument("--svg", help="where to draw what was found")
-    parser.add_argument("--instance", help="where to keep the instance")
+    parser.add_argument("--instance", help="where to keep the instance; its pins are kept beside it, in a file .pins")
     options = parser.parse_args()
     if not 0 <= options.border <= 10**12 or abs(options.level) > 10**9:
         parser.error("--border is from 0 to 10^12, and --level within 10^9 either way")
     rows = read_pgm(options.picture)
-    answer = solve(instance(rows, options), options.instance)
-    least = set(answer.least)
+    lines = instance(rows, options)
+    held = held_by(rows, lines, options) if options.inside or options.outside else None
+    answer = solve(lines, options.instance)
+    least = set(held.asked.least if held else answer.least)
     for r, row in enumerate(rows):
         print("".join("#" if name(r, c) in least else "." for c in range(len(row))))
-    print(f"minimum {answer.minimum}, {len(least)} of {len(rows) * len(rows[0])} pixels, {len(answer.steps)} slopes")
+    pixels = f"{len(least)} of {len(rows) * len(rows[0])} pixels"
+    if held:
+        print(f"minimum {held.asked.minimum}, {pixels}, {len(held.inside)} held in and {len(held.outside)} held out")
+        print(f"without strokes: minimum {answer.minimum}, {len(answer.least)} pixels")
+    else:
+        print(f"minimum {answer.minimum}, {pixels}, {len(answer.steps)} slopes")
     if options.svg:
-        write_text(options.svg, draw(rows, answer))
+        write_text(options.svg, draw(rows, answer, held))
 
 
 if __name__ == "__main__":

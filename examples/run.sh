@@ -13,7 +13,8 @@ ln -s "$(realpath "$program")" "$work/bin/sfm"
 export PATH="$work/bin:$PATH" PYTHONDONTWRITEBYTECODE=1
 unset SFM
 
-# The answer of each instance up to its proof, 100 letters of a line, and the verdict on the whole; then of those with sizes.
+# The answer of each instance up to its proof, 100 letters of a line, and the verdict on the whole; then of those with sizes, and the
+# text on pins of those with pins.
 instances() {
   for file in "$here"/*.sfm; do
     echo "$(basename "$file")"
@@ -27,6 +28,11 @@ instances() {
     sfm weigh "$file" "$sizes" >"$work/answer"
     sed '/^at /,$d' "$work/answer" | cut -c1-100
     sfm weighed "$file" "$sizes" "$work/answer"
+  done
+  for pins in "$here"/*.pins; do
+    file=${pins%.pins}.sfm
+    echo "$(basename "$file") $(basename "$pins")"
+    sfm ask "$file" "$pins"
   done
 }
 
@@ -51,9 +57,32 @@ regions() {
   sfm weigh "$work/few.sfm" "$work/few.sfm.sizes" | sed '/^at /,$d' | diff - "$work/found" && echo "regions.py: as found by every set"
 }
 
+# A picture of 12 pixels with strokes: what is found by trying every set is what sfm says.
+strokes() {
+  printf 'P2 4 3 255\n90 140 150 100\n130 120 160 125\n200 110 135 60\n' >"$work/few.pgm"
+  python3 picture.py "$work/few.pgm" --in 0,1-1,2 --out 2,1 --instance "$work/few.sfm" >"$work/few.txt"
+  python3 every_set.py "$work/few.sfm" --pins "$work/few.sfm.pins" >"$work/found"
+  sfm ask "$work/few.sfm" "$work/few.sfm.pins" | diff - "$work/found" && echo "picture.py: as found by every set"
+}
+
+# The prices of the elements of small instances, by sfm and by every_set.py in its place, which does what `sfm ask` does.
+prices() {
+  printf '#!/bin/sh\nexec python3 "%s/every_set.py" "$2" --pins "$3"\n' "$here" >"$work/every"
+  chmod +x "$work/every"
+  local wrong=0 files
+  for files in projects.sfm border.sfm "border.sfm border.pins" clash.sfm "clash.sfm clash.pins" attack.sfm licences.sfm; do
+    # the name of an instance and that of its pins stand with a space between
+    python3 price.py $files | diff - <(SFM="$work/every" python3 price.py $files) || wrong=1
+  done
+  [ "$wrong" -eq 0 ] && echo "price.py: as found by every set"
+}
+
 cd "$here" || exit 3
 instances >"$work/expected/instances.txt"
 python3 picture.py data/cells.pgm --svg "$work/pictures/cells.svg" >"$work/expected/cells.txt"
+python3 picture.py data/cells.pgm --border 30 --in 10,5-10,6 --out 12,12-14,14 --svg "$work/pictures/strokes.svg" \
+  >"$work/expected/strokes.txt"
+python3 price.py projects.sfm >"$work/expected/price.txt"
 python3 regions.py data/lake.pgm --svg "$work/pictures/lake.svg" >"$work/expected/lake.txt"
 python3 projects.py data/projects.csv --svg "$work/pictures/projects.svg" >"$work/expected/projects.txt"
 python3 order.py data/storm.csv --all --svg "$work/pictures/storm.svg" >"$work/expected/storm.txt"
@@ -79,6 +108,8 @@ done
 outside || failed=1
 python3 every_set.py --all . || failed=1
 regions || failed=1
+strokes || failed=1
+prices || failed=1
 python3 test_scripts.py || failed=1
 python3 test_why.py || failed=1
 python3 quoted.py "$top" README.md docs/GUIDE.md docs/FORMATS.md docs/sfm.1 || failed=1

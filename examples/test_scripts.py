@@ -107,6 +107,11 @@ PICTURE = [
     Row("picture.py it", "P2\n2 2\n255\n10 20\n30 x4\n", 2, "it:5: 'x4' stands where a grey is due, a whole number"),
     Row("picture.py it", "P2\n2 2\n35\n" + GREYS, 2, "it:5: the grey of row 2, column 2 is 40, and the greatest is said to be 35"),
     Row("picture.py it", b"P5\n2 2\n9\n\x01\x02\x03\x0a", 2, "it: the grey of row 2, column 2 is 10, and the greatest is said to be 9"),
+    Row("picture.py --out 0,0-1,1 it", "P2\n2 2\n255\n" + GREYS, 0, ".#"),
+    Row("picture.py --in 0,0 --in 1,1 --bright it", "P2\n2 2\n255\n" + GREYS, 0, "#."),
+    Row("picture.py --in 0,0-0 it", "P2\n2 2\n255\n" + GREYS, 2, "'0,0-0' is no stroke: a pixel is ROW,COLUMN, and a line ROW,COLUMN-ROW,COLUMN"),
+    Row("picture.py --in 0,0-1,2 it", "P2\n2 2\n255\n" + GREYS, 2, "'0,0-1,2' leaves the picture, which has 2 rows and 2 columns, counted from 0"),
+    Row("picture.py --in 0,0 --out 1,0-0,0 it", "P2\n2 2\n255\n" + GREYS, 2, "the pixel 0,0 is held in and held out"),
     Row("picture.py it", "P2\n2 2\n255\n10 20 30\n", 2, "it: it ends after 3 greys, where 2 x 2 are due"),
 ]
 
@@ -122,9 +127,20 @@ EVERY = [
     Row("every_set.py it", None, 3, "it: No such file or directory"),
     Row("every_set.py it", "# one\nsfm 1\nground a\nend\n", 0, "answer 1"),
     Row("every_set.py it", "sfm 1\nground\nend\n", 0, "answer 1"),
+    Row("every_set.py it --pins it", "sfm 1\nground in\nend\n", 0, "pinned 1"),
     Row("every_set.py it", "", 2, "it: this is no instance of version 1"),
     Row("every_set.py it", "sfm 1\nground a\nweight b:1\nend\n", 2, "it: this is no good instance; 'sfm solve' says where its first fault is"),
     Row("every_set.py it", "sfm 1\nground" + 15 * " a" + "\nend\n", 2, "it: it has 15 elements, and at most 14 are taken, as every set is tried"),
+]
+
+TWO_NAMES = "sfm 1\nground a b\nweight a:-3 b:2\nneed a b\nend\n"
+PRICE = [
+    Row("price.py it", None, 3, "it: No such file or directory"),
+    Row("price.py it", TWO_NAMES, 0, "least value -1"),
+    Row("price.py it nowhere", TWO_NAMES, 3, "nowhere: No such file or directory"),
+    Row("price.py it it", TWO_NAMES, 2, "sfm ask ends with 2: pins 1 word"),
+    Row("price.py it", "sfm 1\nground\nend\n", 0, "least value 0"),
+    Row("price.py it", "sfm 1\nend\n", 2, "sfm ask ends with 2: refused 2 word"),
 ]
 
 SHELL = [
@@ -160,7 +176,7 @@ def differs(row):
 def main():
     os.environ.pop("SLURM_ARRAY_TASK_ID", None)
     os.environ.pop("SLURM_SUBMIT_DIR", None)
-    rows = SHOW + PROJECTS + NETWORK + PICTURE + REGIONS + ORDER + EVERY + SHELL
+    rows = SHOW + PROJECTS + NETWORK + PICTURE + REGIONS + ORDER + EVERY + PRICE + SHELL
     wrong = 0
     for row in rows:
         why = differs(row)
