@@ -1,5 +1,6 @@
 #!/usr/bin/env python3
-"""Mistakes in instances and in texts of sizes, each with the line that `sfm solve` prints and the place and sentence of `why.py`, compared with both.
+"""Mistakes in instances and in texts of sizes and of pins, each with the line that `sfm` prints and the place and sentence of
+`why.py`, compared with both.
 
     python3 test_why.py
 
@@ -11,7 +12,7 @@ import sys
 import tempfile
 from collections import namedtuple
 
-from why import Instance, Sizes, first_fault
+from why import Instance, Pins, Sizes, first_fault
 
 # What is wrong, the text of the instance, the line of `sfm`, and that of `why.py` from the column on.
 Row = namedtuple("Row", "mistake text line cause")
@@ -509,6 +510,19 @@ SIZES = [
     ),
 ]
 
+PINS = [
+    Row("sizes", whole("sizes 1", "end"), "pins 1 word", "1: sizes stands here: a text of pins begins with 'pins 1'"),
+    Row("another word", whole("pins 1", "at a", "end"), "pins 2 word", "1: at begins no line: lines of pins begin with in, out or end"),
+    Row("no name", whole("pins 1", "in", "end"), "pins 2 shape", "3: nothing stands here, where a name is due"),
+    Row("a colon", whole("pins 1", "in : a", "end"), "pins 2 shape", "4: : stands here, where a name is due"),
+    Row("another name", whole("pins 1", "out a e", "end"), "pins 2 name", "7: e is none of the 4 names of the ground line"),
+    Row("no name before twice", whole("pins 1", "in e e", "end"), "pins 2 name", "4: e is none of the 4 names of the ground line"),
+    Row("twice in a line", whole("pins 1", "in a b a", "end"), "pins 2 twice", "8: a stands twice in the line, first at column 4"),
+    Row("in and out", whole("pins 1", "in a", "out b a", "end"), "pins 3 twice", "7: a is held in by a line before"),
+    Row("out two times", whole("pins 1", "out a", "out a", "end"), "pins 3 twice", "5: a is held out by a line before"),
+    Row("no end", whole("pins 1", "in a"), "pins 3 short", "the text ends here, and the line 'end' is still due"),
+]
+
 
 def differs(row, command, files, reading):
     """What is wrong with a row, or None. Its text is the last of the files."""
@@ -530,15 +544,17 @@ def main():
         good, it = (os.path.join(folder, name) for name in ("good.sfm", "it"))
         with open(good, "wb") as file:
             file.write(text("weight a:1"))
-        for row in ROWS + SIZES:
+        for row in ROWS + SIZES + PINS:
             if row in SIZES:
                 difference = differs(row, "weigh", [good, it], Sizes(["a", "b", "c", "d"]))
+            elif row in PINS:
+                difference = differs(row, "ask", [good, it], Pins(["a", "b", "c", "d"]))
             else:
                 difference = differs(row, "solve", [it], Instance())
             if difference:
                 wrong += 1
                 print(f"{row.mistake}: {difference}")
-    print(f"mistakes: {len(ROWS) + len(SIZES)} rows, {wrong} differ", flush=True)
+    print(f"mistakes: {len(ROWS) + len(SIZES) + len(PINS)} rows, {wrong} differ", flush=True)
     return 1 if wrong else 0
 
 

@@ -1,5 +1,5 @@
 #!/usr/bin/env python3
-"""Says why an instance is refused: the line that `sfm solve` prints, and the place and the cause in a sentence.
+"""Says why a text is refused: the line that `sfm solve` prints, and the place and the cause in a sentence.
 
     $ python3 why.py mistakes/decimal.sfm
     refused 3 number
@@ -10,6 +10,12 @@ With the name of a text of sizes behind it, it tells of that text in the same wa
     $ python3 why.py jobs.sfm mistakes/zero.sizes
     sizes 2 number
     mistakes/zero.sizes:2:10: 0 is out of range: numbers here are 1 to 1,000,000
+
+With --pins and the name of a text of pins, it tells of that one:
+
+    $ python3 why.py border.sfm --pins mistakes/both.pins
+    pins 3 twice
+    mistakes/both.pins:3:5: p1 is held in by a line before
 
 It reads the texts itself, by the rules of docs/FORMATS.md, and does not run `sfm`. The place is FILE:LINE:COLUMN, columns counted
 in bytes from 1. The code is 2 where there is a fault, 0 where there is none, and 3 where a file can't be read.
@@ -600,6 +606,49 @@ class Sizes:
         return {"header": "'sizes 1'", "lines": "the line 'end'", "behind": None}[self.stage]
 
 
+class Pins:
+    """What is known of a text of pins behind the lines that were read, over the names of an instance."""
+
+    def __init__(self, names):
+        self.stage, self.names, self.held = "header", names, {}
+
+    def take(self, line):
+        """Takes a content line, or refuses it for its first reason."""
+        tokens = [Piece(found[0].decode("latin-1"), found.start() + 1) for found in re.finditer(rb"[^ \t]+", line)]
+        end = tokens[-1].column + len(tokens[-1].text)
+        test_bytes(line)
+        self.test_word(tokens[0])
+        if self.stage == "header":
+            test_header(tokens, end, "pins 1")
+            self.stage = "lines"
+        elif tokens[0].text == "end":
+            test_end(tokens)
+            self.stage = "behind"
+        else:
+            self.take_pins(tokens[0].text, words_of(tokens[1:], end, "a name is due"))
+
+    def test_word(self, token):
+        word, column = token
+        if self.stage == "header" and word != "pins":
+            raise Refused("word", column, f"{shown(word)} stands here: a text of pins begins with 'pins 1'")
+        if self.stage == "lines" and word not in ("in", "out", "end"):
+            raise Refused("word", column, f"{shown(word)} begins no line: lines of pins begin with in, out or end")
+        if self.stage == "behind":
+            raise Refused("word", column, f"{shown(word)} stands behind 'end', where blank lines and comments alone may follow")
+
+    def take_pins(self, word, pieces):
+        for piece in pieces:
+            test_element(piece, self.names)
+        test_twice(pieces, "in the line")
+        for piece in pieces:
+            if piece.text in self.held:
+                raise Refused("twice", piece.column, f"{shown(piece.text)} is held {self.held[piece.text]} by a line before")
+        self.held.update((piece.text, word) for piece in pieces)
+
+    def due(self):
+        return {"header": "'pins 1'", "lines": "the line 'end'", "behind": None}[self.stage]
+
+
 def first_fault(reading, data):
     """The first fault of a text as its line, reason, column and cause, or None. What reads it takes line by line."""
     if len(data) > MOST_BYTES:
@@ -624,6 +673,7 @@ def main():
     parser = argparse.ArgumentParser(description=__doc__, formatter_class=argparse.RawDescriptionHelpFormatter)
     parser.add_argument("instance", help="an instance")
     parser.add_argument("sizes", nargs="?", help="a text of sizes")
+    parser.add_argument("--pins", help="a text of pins")
     options = parser.parse_args()
     path, kind = options.instance, "refused"
     instance = Instance()
@@ -631,6 +681,9 @@ def main():
     if options.sizes and not found:
         path, kind = options.sizes, "sizes"
         found = first_fault(Sizes(instance.names), read_bytes(path))
+    if options.pins and not found:
+        path, kind = options.pins, "pins"
+        found = first_fault(Pins(instance.names), read_bytes(path))
     if not found:
         print(f"{path}: this text has no fault")
         return 0
