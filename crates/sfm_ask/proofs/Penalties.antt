@@ -1,11 +1,10 @@
 -- What a set pays for the pins that it breaks, and what the shift of pins comes to on a set.
-use Rattle.std.proofs.Common.{◌≡◌, ◌⊎◌, ℕ, zero, suc, ◌+◌, ◌*◌, ◌≤◌, ◌^◌, Bool, true, false, List, [], ◌∷◌, length, get_or, nat_abs, ℤ, pos, neg_ℤ, ◌+ℤ◌, ◌-ℤ◌, ◌*ℤ◌, ◌≤ℤ◌, if◌then◌else◌, inl, inr, ⊎_elim, refl, ap, ◌∙◌, arith}
+use Rattle.std.proofs.Common.{◌≡◌, ◌⊎◌, ℕ, zero, suc, ◌+◌, Bool, true, false, List, [], ◌∷◌, length, ℤ, pos, ◌+ℤ◌, ◌-ℤ◌, ◌*ℤ◌, ◌≤ℤ◌, if◌then◌else◌, inl, inr, ⊎_elim, refl, ap, ◌∙◌, arith}
 use Rattle.std.proofs.lemmas.Int.{ints}
-use Rattle.sfm_spec.specs.Sets.{Has, IsWithin, magnitudes, size, sum_over}
-use Rattle.sfm_spec.specs.Bounds.{IsAtMost}
+use Rattle.sfm_spec.specs.Sets.{Has, IsWithin, size, sum_over}
 use Rattle.sfm_spec.proofs.Scaled.{times-add}
 use Rattle.sfm_spec.proofs.Where.{size-cons}
-use Rattle.sfm_ask.specs.Shifts.{shift_for, shift_of_pins}
+use Rattle.sfm_ask.specs.Shifts.{shift_of_pins}
 
 -- the set has every element that must be in, and none that must be out
 pub record Keeps (inside outside s : List Bool) : Type 0 where

@@ -1,12 +1,11 @@
 -- Where the penalty exceeds every difference of two values, the minimisers with the shift of pins are those among the sets that
 -- keep all pins, if there is such a set; and the least minimiser tells whether there is.
-use Rattle.std.proofs.Common.{◌≡◌, ◌⊎◌, ℕ, Bool, List, length, ℤ, pos, ◌+ℤ◌, ◌-ℤ◌, ◌≤ℤ◌, ◌<ℤ◌, inl, inr, ⊎_elim, sym, ◌∙◌, arith}
+use Rattle.std.proofs.Common.{◌≡◌, ◌⊎◌, ℕ, Bool, List, length, ℤ, pos, ◌+ℤ◌, ◌-ℤ◌, ◌<ℤ◌, inl, inr, ⊎_elim, sym, ◌∙◌, arith}
 use Rattle.std.proofs.lemmas.Int.{ints}
-use Rattle.sfm_spec.specs.Sets.{IsWithin}
 use Rattle.sfm_spec.specs.Families.{Meaning, IsAllowed, IsMinimiser, IsLeast, IsGreatest, shifted_at, sum_at}
 use Rattle.sfm_ask.specs.Pinned.{IsPinned, IsPinnedMinimiser, IsPinnedMinimum}
 use Rattle.sfm_ask.specs.Shifts.{shift_of_pins}
-use Rattle.sfm_ask.proofs.Penalties.{Keeps, broken, broken-low, keeps-free, keeps-or-pays, promised, shift-is}
+use Rattle.sfm_ask.proofs.Penalties.{Keeps, broken, keeps-free, keeps-or-pays, promised, shift-is}
 
 module _ (terms : List Meaning) (n : ℕ) (inside outside : List Bool) (m : ℤ)
     (same_in : length inside ≡ n) (same_out : length outside ≡ n)

@@ -1,5 +1,5 @@
 -- What the extreme minimisers with the shift of pins tell of an instance, and that all numbers on the way are small.
-use Rattle.std.proofs.Common.{◌≡◌, ℕ, ◌^◌, Bool, List, length, ℤ, pos, neg_ℤ, ◌+ℤ◌, ◌*ℤ◌, ◌≤ℤ◌, sym, ap, ◌∙◌, arith}
+use Rattle.std.proofs.Common.{◌≡◌, ◌^◌, Bool, List, length, ℤ, pos, ◌+ℤ◌, ◌*ℤ◌, arith}
 use Rattle.std.proofs.lemmas.Int.{ints}
 use Rattle.sfm_spec.specs.Sets.{size}
 use Rattle.sfm_spec.specs.Bounds.{IsAtMost, IsEntry}
@@ -11,7 +11,7 @@ use Rattle.sfm_extreme.specs.declared.extremes.Proved.{Proved}
 use Rattle.sfm_ask.specs.Pinned.{IsPinned, IsPinnedMinimum}
 use Rattle.sfm_ask.specs.Shifts.{shift_of_pins}
 use Rattle.sfm_ask.specs.Asking.{IsFoundAt, penalty_of}
-use Rattle.sfm_ask.proofs.Penalties.{Keeps, promised, promised-is}
+use Rattle.sfm_ask.proofs.Penalties.{Keeps, promised-is}
 use Rattle.sfm_ask.proofs.Values.{less-than-penalty, penalty-small, promised-small, sum-within}
 use Rattle.sfm_ask.proofs.Pinning.{none-pinned, pinned-minimum, worth-pinned}
 

@@ -1,6 +1,6 @@
 -- Values of a sum lie within the sizes of its terms together, so any two differ by less than the penalty; and with that penalty no
 -- number on the way is great.
-use Rattle.std.proofs.Common.{◌≡◌, ℕ, zero, suc, ◌+◌, ◌*◌, ◌<◌, ◌≤◌, ◌^◌, Bool, true, false, List, [], ◌∷◌, length, map, get_or, nat_abs, FitsSigned, ℤ, pos, negsuc, neg_ℤ, ◌+ℤ◌, ◌-ℤ◌, ◌*ℤ◌, ◌≤ℤ◌, ◌<ℤ◌, refl, arith}
+use Rattle.std.proofs.Common.{◌≡◌, ℕ, zero, suc, ◌+◌, ◌*◌, ◌<◌, ◌≤◌, ◌^◌, Bool, true, false, List, [], ◌∷◌, length, get_or, nat_abs, FitsSigned, ℤ, pos, negsuc, neg_ℤ, ◌+ℤ◌, ◌-ℤ◌, ◌*ℤ◌, ◌≤ℤ◌, ◌<ℤ◌, refl, arith}
 use Rattle.std.proofs.lemmas.Int.{ints}
 use Rattle.std.proofs.lemmas.List.{length-map}
 use mir.Syntax.{w128}
@@ -10,7 +10,7 @@ use Rattle.sfm_spec.specs.Families.{meanings, IsAllowed, sum_at}
 use Rattle.sfm_spec.proofs.Tight.{some_of}
 use Rattle.sfm_spec.proofs.Lattice.{value_is}
 use Rattle.sfm_kind.specs.declared.kind.Kind.{Kind}
-use Rattle.sfm_kind.specs.Kinds.{kind_places, kind_size, kind_value, kind-bounded}
+use Rattle.sfm_kind.specs.Kinds.{kind_places, kind_value, kind-bounded}
 use Rattle.sfm_kind.specs.Limits.{AreInBounds, total_size_of}
 use Rattle.sfm_kind.specs.Instance.{InstanceData}
 use Rattle.sfm_kind.proofs.Bounds.{total_size-low}

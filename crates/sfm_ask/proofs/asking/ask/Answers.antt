@@ -1,4 +1,4 @@
-use Rattle.std.proofs.Common.{◌≡◌, length, ℤ, pos, ◌*ℤ◌, ◌+ℤ◌, FitsSigned, arith, ap, sym, ◌∙◌}
+use Rattle.std.proofs.Common.{◌≡◌, pos, ◌*ℤ◌, ◌+ℤ◌, FitsSigned, arith, sym, ◌∙◌}
 use Rattle.std.proofs.lemmas.Int.{ints, to_z-of_z}
 use mir.Syntax.{w128}
 use Rattle.sfm_ask.specs.Shifts.{shift_of_pins}
