@@ -1,0 +1,54 @@
+-- What a call from C gives for texts: the text that is due, with its code.
+use Rattle.std.specs.Prelude.{◌≡◌, ◌⊎◌, ℕ, List, [], codes, Option, ℤ}
+use Rattle.sfm_lines.specs.declared.reason.Reason.{Reason}
+use Rattle.sfm_text.specs.Language.{IsFaultIn, IsReadAs}
+use Rattle.sfm_text.specs.GoodText.{IsFaultOf}
+use Rattle.sfm_side.specs.Side.{ended, side_language}
+use Rattle.sfm_side.specs.Sizes.{sizes_form, sizes_of}
+use Rattle.sfm_due.specs.Due.{IsAsked, IsJudged, IsJudgedBySizes, IsSolved, IsWeighed, NamesFault, Question}
+
+-- the text of which this is said stands for something, for which this is due; or its first fault is named behind a word, with code 2
+abbrev pub IsDueBehind : {X : Type 0} → (X → Type 0) → List ℕ → (ℕ → Reason → Type 0)
+    → (X → List ℕ → ℕ → Type 0) → List ℕ → ℕ → Type 0
+IsDueBehind Stands word IsFault IsDue written code =
+    ((x : _) × Stands x × IsDue x written code) ⊎ (NamesFault word IsFault written × (code ≡ 2))
+
+-- what is due behind the text of an instance
+abbrev pub IsDueForInstance : List ℕ → (Question → List ℕ → ℕ → Type 0) → List ℕ → ℕ → Type 0
+IsDueForInstance text = IsDueBehind (IsAsked text) (codes "refused") (IsFaultOf text)
+
+-- the text gives the elements of what is asked these sizes
+abbrev pub GivesSizesOf : Question → List ℕ → List ℤ → Type 0
+GivesSizesOf asked text sizes = (given : List (Option ℤ)) × (sizes ≡ sizes_of given)
+    × IsReadAs (side_language (sizes_form asked.instance.names)) text (ended given)
+
+-- what is due behind the text of the sizes of an instance's elements
+abbrev pub IsDueForSizes : Question → List ℕ → (List ℤ → List ℕ → ℕ → Type 0) → List ℕ → ℕ → Type 0
+IsDueForSizes asked text = IsDueBehind (GivesSizesOf asked text) (codes "sizes")
+    (IsFaultIn (side_language (sizes_form asked.instance.names)) text)
+
+-- a text that was asked for, with code 0
+abbrev pub IsDone : (List ℕ → Type 0) → List ℕ → ℕ → Type 0
+IsDone IsRight written code = IsRight written × (code ≡ 0)
+
+-- a right answer of the instance
+abbrev pub IsDueToSolve : List ℕ → List ℕ → ℕ → Type 0
+IsDueToSolve text = IsDueForInstance text (λ asked. IsDone (IsSolved asked))
+
+-- the verdict on an answer
+abbrev pub IsDueToCheck : List ℕ → List ℕ → List ℕ → ℕ → Type 0
+IsDueToCheck text answer = IsDueForInstance text (λ asked. IsJudged asked answer)
+
+-- a right answer of the instance by the sizes
+abbrev pub IsDueToWeigh : List ℕ → List ℕ → List ℕ → ℕ → Type 0
+IsDueToWeigh text sizes =
+    IsDueForInstance text (λ asked. IsDueForSizes asked sizes (λ by. IsDone (IsWeighed asked by)))
+
+-- the verdict on an answer by the sizes
+abbrev pub IsDueToCheckWeighed : List ℕ → List ℕ → List ℕ → List ℕ → ℕ → Type 0
+IsDueToCheckWeighed text sizes answer = IsDueForInstance text
+    (λ asked. IsDueForSizes asked sizes (λ by. IsJudgedBySizes asked by answer))
+
+-- a call gives what is due, with its code, or, with code 5, no byte, as memory ran out
+abbrev pub Gives : (List ℕ → ℕ → Type 0) → List ℕ → ℕ → Type 0
+Gives IsDue written code = IsDue written code ⊎ ((code ≡ 5) × (written ≡ []))
