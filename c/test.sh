@@ -80,7 +80,7 @@ while read -r words; do
 done <"$list"
 
 compare() { # how, program
-  rm -rf "$work/library" && mkdir "$work/library"
+  rm -rf "$work/library" && mkdir "$work/library" && : >"$work/difference"
   if "$2" "$list" "$work/library" 4 && diff -rq "$work/program" "$work/library" >"$work/difference"; then
     say "$1: $number calls as the program's, codes $(cat "$work"/library/*.code | sort | uniq -c | awk '{printf "%s%s x%s", sep, $2, $1; sep = ", "}')"
   else
