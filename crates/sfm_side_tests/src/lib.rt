@@ -1,7 +1,9 @@
-// Tests of the texts beside an instance, by their public calls. That every answer is right is proved; here the calls succeed
-// with ample memory, and the reasons are compared with those worked by hand.
+// Tests of the texts beside an instance and of what is told by them, by their public calls. That every answer is right is
+// proved; here the calls succeed with ample memory, and what they tell is compared with what was worked by hand.
 #![tactic(auto)]
 
+#[cfg(test)]
+mod asking;
 #[cfg(test)]
 mod pins;
 #[cfg(test)]
