@@ -12,7 +12,7 @@
  * Threads: a call shares nothing with any other, so threads may call at once, each with its own `out`. A call takes no
  * lock but what malloc takes; it does not belong into a signal handler, nor into the child that a process with threads forked.
  *
- * Stack: a call needs less than 128 KiB, whatever the texts. Memory: that of the program, which docs/PERFORMANCE.md tells. A
+ * Stack: 128 KiB were enough for all texts that were tried. Memory: that of the program, which docs/PERFORMANCE.md tells. A
  * call can't be stopped; where a limit of time is needed, run the program.
  */
 #ifndef SFM_H
