@@ -22,7 +22,7 @@ use Rattle.sfm_cert.specs.Form.{AreFormedRows, IsFormed, IsFormedBlock, IsFormed
 count_text : (n : ℕ) → n ≤ 16384 → length (decimal n) ≤ 5
 count_text n l = length-decimal-le_wide 5 n (omega arith) (omega (arith, l)) (omega (arith, l))
 
-number_text : (a : ℤ) → IsEntry a → length (signed_decimal a) ≤ 32
+pub number_text : (a : ℤ) → IsEntry a → length (signed_decimal a) ≤ 32
 number_text (pos n) e =
     let h = e.high in
     let d = length-decimal-le_wide 31 n (omega arith) (omega (arith, ints, h)) (omega (arith, ints, h)) in
@@ -52,7 +52,7 @@ listed_short (name ∷ names) (false ∷ s) h =
     let rest = listed_short names s (All-tail (λ y. length y ≤ 32) name names h) in
     omega (arith, rest)
 
-numbered_short : (x : List ℤ) → All IsEntry x → length (numbered x) ≤ 33 * length x
+pub numbered_short : (x : List ℤ) → All IsEntry x → length (numbered x) ≤ 33 * length x
 numbered_short [] h = omega arith
 numbered_short (a ∷ x) h =
     let first = number_text a (h 0 (pos 0) (omega arith)) in
@@ -113,7 +113,7 @@ base_line_short i x l small =
 
 -- ---- parts of the text
 
-text_append : (xs ys : List (List ℕ)) → length (text_of (xs ++ ys)) ≡ length (text_of xs) + length (text_of ys)
+pub text_append : (xs ys : List (List ℕ)) → length (text_of (xs ++ ys)) ≡ length (text_of xs) + length (text_of ys)
 text_append [] ys = omega arith
 text_append (x ∷ xs) ys =
     let rest = text_append xs ys in
@@ -140,7 +140,7 @@ slopes_short names (b ∷ breaks) short few small =
     let rest = slopes_short names breaks short few (All-tail IsSmallBreak b breaks small) in
     omega (arith, first, rest, length-append (slope_line names b) (10 ∷ text_of (slope_lines names breaks)))
 
-rows_short : (i : ℕ) (rows : List (List ℤ)) → i + length rows ≤ 16385 → All (λ x. All IsEntry x) rows
+pub rows_short : (i : ℕ) (rows : List (List ℤ)) → i + length rows ≤ 16385 → All (λ x. All IsEntry x) rows
     → length (text_of (base_lines i rows)) ≤ 33 * sum (map length rows) + 11 * length rows
 rows_short i [] l small = omega arith
 rows_short i (x ∷ rows) l small =

@@ -17,6 +17,8 @@ mod write;
 
 pub use header::Header;
 pub use lines::{line_of_at, line_of_base};
+pub use out::{Gauge, Out};
+pub use put::{put_bases, put_number, put_numbers};
 pub use read::{ANSWER_LIMIT, read_answer, read_weighed, read_with};
 pub use solved::{AnswerEnd, Solved};
 pub use write::{answer_len, put_answer, write_answer, write_weighed, write_with};

@@ -56,7 +56,7 @@ fn put_entry<O: Out>(out: &mut O, a: i128)
 }
 
 /// A space and the text of each number.
-fn put_numbers<O: Out>(out: &mut O, numbers: &[i128])
+pub fn put_numbers<O: Out>(out: &mut O, numbers: &[i128])
     requires { All IsEntry numbers.now }
     ensures { out.new ≡ O.after out.old (numbered numbers.now) }
 {
@@ -145,7 +145,7 @@ fn put_base<O: Out>(out: &mut O, number: usize, base: &[i128])
 }
 
 /// A line for each base, numbered from 1.
-fn put_bases<O: Out>(out: &mut O, bases: &Rows)
+pub fn put_bases<O: Out>(out: &mut O, bases: &Rows)
     requires { All (λ base. All IsEntry base) bases.now }
     ensures { out.new ≡ O.after out.old (text_of (base_lines 1 bases.now)) }
 {
