@@ -1,0 +1,3 @@
+pub mod Squares
+pub mod LevelLaw
+pub mod LevelBack
