@@ -19,7 +19,7 @@ use Rattle.clap.specs.Simple.{built_leaf, entered, help_shape, label_of, names_o
 use Rattle.clap.specs.Faults.{defaults_fault, entered_fault, fault_of, is_simple_and_free, level_fault, turn_fault, walk_fault}
 use Rattle.clap.specs.Takes.{entered_passes, level_passes, turn_passes, walk_passes}
 use Rattle.clap.proofs.WalkLemmas.{find-map, walk_stopped}
-use Rattle.sfm_words.specs.Command.{Asks, Command, IsFileName, IsForm, IsSeed, check, command_by, ask, demo, solve, weigh, weighed}
+use Rattle.sfm_words.specs.Command.{Asks, Command, IsFileName, IsForm, IsSeed, check, command_by, ask, demo, edit, level, solve, weigh, weighed}
 use Rattle.sfm_words.specs.Subcommand.{Maker, subcommands}
 use Rattle.sfm_words.specs.Line.{sfm_line}
 use Rattle.sfm_words.proofs.Numbers.{numeral_told}
@@ -86,7 +86,7 @@ good_row word maker (row ∷ rows) good e = go (bytes_eq row.0 word) e (good_row
     go false e more = more e
 
 all_good : AreGood subcommands
-all_good = (λ x. tt, ((refl, λ x y. tt), (λ n small. small, ((refl, λ x y. tt), ((refl, refl, refl, λ x y z. tt), ((refl, λ x y. tt), tt))))))
+all_good = (λ x. tt, ((refl, λ x y. tt), (λ n small. small, ((refl, λ x y. tt), ((refl, refl, refl, λ x y z. tt), ((refl, λ x y. tt), (λ x. tt, ((refl, λ x y. tt), tt))))))))
 
 -- a verb of the table, and the subcommand that it names
 module _ (verb : Text) (maker : Maker) (listed : lookup (λ word. bytes_eq word verb) subcommands ≡ Some maker) where
@@ -275,3 +275,7 @@ form_asks words (weighed file sizes answer) (is, f, s, a) =
     (name_is_plain file f, (name_is_plain sizes s, (name_is_plain answer a, refl)))
 form_asks words (ask file pins) (is, f, p) = asks_by (codes "ask") (file ∷ pins ∷ [])
     (ask file pins) is (name_is_plain file f, (name_is_plain pins p, refl))
+form_asks words (level file) (is, f) =
+    asks_by (codes "level") (file ∷ []) (level file) is (name_is_plain file f, refl)
+form_asks words (edit file edits) (is, f, d) = asks_by (codes "edit") (file ∷ edits ∷ [])
+    (edit file edits) is (name_is_plain file f, (name_is_plain edits d, refl))

@@ -9,9 +9,9 @@ use Rattle.clap.specs.declared.error.kind.ErrorKind.{ErrorKind}
 use Rattle.clap.specs.declared.error.kind.ErrorKind.TheVariants.{OutOfMemory}
 use Rattle.sfm_words.specs.Line.{sfm_line}
 use Rattle.sfm_words.specs.Subcommand.{Maker, subcommands}
-pub use Rattle.sfm_words.specs.Subcommand.{Command, solve, check, demo, weigh, weighed, ask, one, two, three, number}
+pub use Rattle.sfm_words.specs.Subcommand.{Command, solve, check, demo, weigh, weighed, ask, level, edit, one, two, three, number}
 use Rattle.sfm_words.specs.declared.command.Command.{Command as Read}
-use Rattle.sfm_words.specs.declared.command.Command.TheVariants.{Solve as ReadSolve, Check as ReadCheck, Demo as ReadDemo, Weigh as ReadWeigh, Weighed as ReadWeighed, Ask as ReadAsk}
+use Rattle.sfm_words.specs.declared.command.Command.TheVariants.{Solve as ReadSolve, Check as ReadCheck, Demo as ReadDemo, Weigh as ReadWeigh, Weighed as ReadWeighed, Ask as ReadAsk, Level as ReadLevel, Edit as ReadEdit}
 use Rattle.sfm_words.specs.declared.command.Refusal.{Refusal}
 use Rattle.sfm_words.specs.declared.command.Refusal.TheVariants.{Memory, Usage}
 
@@ -23,6 +23,8 @@ command_of (ReadDemo seed) = demo seed
 command_of (ReadWeigh file sizes) = weigh file.now sizes.now
 command_of (ReadWeighed file sizes answer) = weighed file.now sizes.now answer.now
 command_of (ReadAsk file pins) = ask file.now pins.now
+command_of (ReadLevel file) = level file.now
+command_of (ReadEdit file edits) = edit file.now edits.now
 
 -- ---- what clap finds in the words
 
@@ -69,7 +71,8 @@ IsFileName name = (0 < length name) × (slice_index name 0 ≢ 45)
 abbrev pub IsSeed : Text → ℕ → Type 0
 IsSeed text seed = (0 < length text) × (length text ≤ 9) × AllDigits 10 text × (digits_value 10 text ≡ seed)
 
--- the words are `solve FILE`, `check FILE ANSWER`, `demo SEED`, `weigh FILE SIZES`, `weighed FILE SIZES ANSWER` or `ask FILE PINS`
+-- the words are `solve FILE`, `check FILE ANSWER`, `demo SEED`, `weigh FILE SIZES`, `weighed FILE SIZES ANSWER`, `ask FILE PINS`,
+-- `level FILE` or `edit FILE EDITS`
 abbrev pub IsForm : List Text → Command → Type 0
 IsForm words (solve file) = (words ≡ codes "solve" ∷ file ∷ []) × IsFileName file
 IsForm words (check file answer) = (words ≡ codes "check" ∷ file ∷ answer ∷ []) × IsFileName file × IsFileName answer
@@ -78,3 +81,5 @@ IsForm words (weigh file sizes) = (words ≡ codes "weigh" ∷ file ∷ sizes �
 IsForm words (weighed file sizes answer) = (words ≡ codes "weighed" ∷ file ∷ sizes ∷ answer ∷ [])
     × IsFileName file × IsFileName sizes × IsFileName answer
 IsForm words (ask file pins) = (words ≡ codes "ask" ∷ file ∷ pins ∷ []) × IsFileName file × IsFileName pins
+IsForm words (level file) = (words ≡ codes "level" ∷ file ∷ []) × IsFileName file
+IsForm words (edit file edits) = (words ≡ codes "edit" ∷ file ∷ edits ∷ []) × IsFileName file × IsFileName edits

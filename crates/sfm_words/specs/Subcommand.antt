@@ -3,8 +3,8 @@ use Rattle.std.specs.Prelude.{ℕ, List, [], ◌∷◌, codes}
 use Rattle.clap.specs.Words.{Text}
 
 -- to solve an instance, or to check an answer of one, each by the names of files; a demonstration, on the instance of a seed;
--- to weigh an instance by the sizes in a second file, or to check an answer of that; or to ask for the best set with the pins in a
--- second file
+-- to weigh an instance by the sizes in a second file, or to check an answer of that; to ask for the best set with the pins in a
+-- second file; for the most level base of an instance; or to solve an instance with the edits in a second file
 pub data Command : Type 0 where
   solve : Text → Command
   check : Text → Text → Command
@@ -12,6 +12,8 @@ pub data Command : Type 0 where
   weigh : Text → Text → Command
   weighed : Text → Text → Text → Command
   ask : Text → Text → Command
+  level : Text → Command
+  edit : Text → Text → Command
 
 -- what follows the word of a subcommand, and the command that it makes: names of files, or a number, each in the argument
 -- of this name
@@ -30,4 +32,6 @@ subcommands =
     ∷ (codes "weigh", two (codes "FILE") (codes "SIZES") weigh)
     ∷ (codes "weighed", three (codes "FILE") (codes "SIZES") (codes "ANSWER") weighed)
     ∷ (codes "ask", two (codes "FILE") (codes "PINS") ask)
+    ∷ (codes "level", one (codes "FILE") level)
+    ∷ (codes "edit", two (codes "FILE") (codes "EDITS") edit)
     ∷ []

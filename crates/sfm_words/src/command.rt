@@ -38,6 +38,15 @@ pub enum Command<'a> {
         file: &'a str,
         pins: &'a str,
     },
+    /// To find the most level base of the instance in a file.
+    Level {
+        file: &'a str,
+    },
+    /// To solve the instance in a file with the edits in a second.
+    Edit {
+        file: &'a str,
+        edits: &'a str,
+    },
 }
 
 /// Why no command was read.

@@ -115,5 +115,7 @@ pub(crate) fn command_line<'a>(alloc: Global) -> Result<Command<'a>, AllocError>
         line,
         three_names(alloc, "weighed", "FILE", "SIZES", "ANSWER"),
     )?;
-    with_line(line, two_names(alloc, "ask", "FILE", "PINS"))
+    let line = with_line(line, two_names(alloc, "ask", "FILE", "PINS"))?;
+    let line = with_line(line, one_name(alloc, "level", "FILE"))?;
+    with_line(line, two_names(alloc, "edit", "FILE", "EDITS"))
 }

@@ -84,6 +84,14 @@ fn command_named<'a>(verb: &str, found: &ArgMatches<'a>) -> Option<Command<'a>>
             let (file, pins) = two_words_of(found, "FILE", "PINS")?;
             Some(Command::Ask { file, pins })
         }
+        "level" => {
+            let file = word_of(found, "FILE")?;
+            Some(Command::Level { file })
+        }
+        "edit" => {
+            let (file, edits) = two_words_of(found, "FILE", "EDITS")?;
+            Some(Command::Edit { file, edits })
+        }
         _ => None,
     }
 }

@@ -8,4 +8,6 @@ returns c =
     let three = c.in_ok-line-3.ensures _ _ two c.one_number.ensures.app c.one_number.ensures.local in
     let four = c.in_ok-line-4.ensures _ _ three c.two_names-2.ensures.app c.two_names-2.ensures.local in
     let five = c.in_ok-line-5.ensures _ _ four c.three_names.ensures.app c.three_names.ensures.local in
-    c.with_line-6.ensures _ _ five c.two_names-3.ensures.app c.two_names-3.ensures.local
+    let six = c.in_ok-line-6.ensures _ _ five c.two_names-3.ensures.app c.two_names-3.ensures.local in
+    let seven = c.in_ok-line-7.ensures _ _ six c.one_name-2.ensures.app c.one_name-2.ensures.local in
+    c.with_line-8.ensures _ _ seven c.two_names-4.ensures.app c.two_names-4.ensures.local
