@@ -21,7 +21,7 @@ use Rattle.sfm_exchange.specs.Reach.{table_at}
 use Rattle.sfm_exchange.specs.Unions.{HaveLinks}
 use Rattle.sfm_exchange.specs.Levels.{depth_of, IsFirst}
 use Rattle.sfm_exchange.specs.Hops.{AreHops, AreLeast, AreNamed, IsMovable, hop_at, steps_of}
-use Rattle.sfm_walk.specs.Run.{IsLeastWalk, IsSoughtWalk, IsUpTo}
+use Rattle.sfm_walk.specs.Run.{IsLeastWalk, IsSoughtWalk}
 use Rattle.sfm_exchange.proofs.Telling.{hops_least, hops_named}
 use Rattle.sfm_exchange.proofs.Following.{length-steps_of, depth_has, depth_le, depth_bound}
 
@@ -143,14 +143,3 @@ pub entries_small : (rows : List (List ℤ)) → All (λ x. All (IsAtMost (5 * 1
 entries_small rows h = All-from_get_or (λ x. All IsEntry x) rows [] (λ i li. All-from_get_or IsEntry (base_at rows i) (pos 0) (λ j lj.
     let b : IsAtMost (5 * 10 ^ 29) (get_or (base_at rows i) j (pos 0)) = All-get_or (IsAtMost (5 * 10 ^ 29)) (base_at rows i) j (pos 0) lj (All-get_or (λ x. All (IsAtMost (5 * 10 ^ 29)) x) rows i [] li h) in
     record { low = omega (arith, ints, b.low); high = omega (arith, ints, b.high) }))
-
-pub up_to_small : (rows : List (List ℤ)) → All (λ x. All (IsAtMost (5 * 10 ^ 29)) x) rows → All (λ x. All (IsUpTo (pos (5 * 10 ^ 29))) x) rows
-up_to_small rows h = All-from_get_or (λ x. All (IsUpTo (pos (5 * 10 ^ 29))) x) rows [] (λ i li. All-from_get_or (IsUpTo (pos (5 * 10 ^ 29))) (base_at rows i) (pos 0) (λ j lj.
-    let b : IsAtMost (5 * 10 ^ 29) (get_or (base_at rows i) j (pos 0)) = All-get_or (IsAtMost (5 * 10 ^ 29)) (base_at rows i) j (pos 0) lj (All-get_or (λ x. All (IsAtMost (5 * 10 ^ 29)) x) rows i [] li h) in
-    record { low = b.low; high = b.high }))
-
--- entries that have spread by little are small still
-pub entries_spread : (rows after : List (List ℤ)) (b d : ℤ) → All (λ x. All (IsUpTo (b +ℤ d)) x) after → (b +ℤ d) ≤ℤ pos (10 ^ 30) → All (λ x. All IsEntry x) after
-entries_spread rows after b d h le = All-from_get_or (λ x. All IsEntry x) after [] (λ i li. All-from_get_or IsEntry (base_at after i) (pos 0) (λ j lj.
-    let o : IsUpTo (b +ℤ d) (get_or (base_at after i) j (pos 0)) = All-get_or (IsUpTo (b +ℤ d)) (base_at after i) j (pos 0) lj (All-get_or (λ x. All (IsUpTo (b +ℤ d)) x) after i [] li h) in
-    record { low = omega (arith, ints, o.low, le); high = omega (arith, ints, o.high, le) }))

@@ -16,7 +16,8 @@ use Rattle.sfm_spec.proofs.Sums.{length-exchanged}
 use Rattle.sfm_law.specs.Rest.{IsRest}
 use Rattle.sfm_exchange.specs.declared.path.Hop.{Hop}
 use Rattle.sfm_exchange.specs.Hops.{AreNamed, AreInOrder, IsMovable, Moves, hop_at, steps_of}
-use Rattle.sfm_walk.specs.Run.{IsGreatest, IsLeastWalk, IsUpTo}
+use Rattle.sfm_walk.specs.Run.{IsGreatest, IsLeastWalk}
+use Rattle.sfm_walk.specs.Spread.{AreSpread, IsUpTo}
 use Rattle.sfm_exchange.specs.Signs.{AreMoved}
 use Rattle.sfm_walk.proofs.Advancing.{ends_apart, exchanged-each}
 use Rattle.sfm_exchange.proofs.Signing.{moved_ends}
@@ -110,8 +111,7 @@ module _ {terms : List Meaning} {n : ℕ} {q : ℤ} {shift : List ℤ} {rows : L
     ends_moved = moved_ends z first last a first_at last_at apart w.course.under w.course.over most.under most.over
 
     -- no entry has changed by more than the deficit has risen
-    pub spread : (after : List (List ℤ)) → IsWalkMove terms rows first (steps_of hops) a after → (b : ℤ) → All (λ x. All (IsUpTo b) x) rows
-        → All (λ x. All (IsUpTo (b +ℤ (deficit n (rest_at terms after shift) -ℤ deficit n (rest_at terms rows shift)))) x) after
+    pub spread : (after : List (List ℤ)) → IsWalkMove terms rows first (steps_of hops) a after → AreSpread terms n shift rows after
     spread after moved b small =
         let gain = laws.gains after moved in
         All-from_get_or (λ x. All (IsUpTo (b +ℤ (deficit n (rest_at terms after shift) -ℤ deficit n (rest_at terms rows shift)))) x) after [] (λ i li.

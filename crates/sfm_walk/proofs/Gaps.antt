@@ -2,6 +2,7 @@
 use Rattle.std.proofs.Common.{◌≡◌, ⊎_elim, ℕ, zero, suc, ◌+◌, ◌*◌, ◌^◌, ◌<◌, ◌≤◌, List, [], ◌∷◌, length, map, sum, get_or, nat_eq, ℤ, pos, negsuc, neg_ℤ, nat_abs, ◌+ℤ◌, ◌≤ℤ◌, ◌<ℤ◌, if◌then◌else◌, refl, sym, ap, ◌∙◌, arith}
 use Rattle.std.specs.List.{All}
 use Rattle.std.specs.Int.{int_min}
+use Rattle.std.proofs.Math.Nat.{mul-le-mul_left}
 use Rattle.std.proofs.lemmas.Bool.{cases_eq, eq-eqb, ne_eqb}
 use Rattle.std.proofs.lemmas.Int.{ints, clamps}
 use Rattle.std.proofs.lemmas.List.Elements.{All-head, All-tail}
@@ -39,29 +40,30 @@ single-low (suc n) (suc p) a b low h =
       both e = ⊎_elim (λ s. eq-eqb (suc p) (suc e) (ap suc s) ∙ sym (eq-eqb p e s)) (λ ne. ne_eqb (suc p) (suc e) (λ s. ne (omega (arith, s))) ∙ sym (ne_eqb p e ne)) (cases_eq p e)
 
 -- the entries of one row
-entries-low : (n : ℕ) (places : List ℕ) (x : List ℤ) → All (IsAtMost (10 ^ 25)) x → neg_ℤ (pos (10 ^ 25 * length places)) ≤ℤ deficit n (entry_at places x)
-entries-low n [] x h = let z = deficit-zero n in let s = deficit-same n (entry_at [] x) (λ e. pos 0) (λ e. refl) in omega (arith, ints, z, s)
-entries-low n (p ∷ places) [] h = let z = deficit-zero n in let s = deficit-same n (entry_at (p ∷ places) []) (λ e. pos 0) (λ e. refl) in omega (arith, ints, z, s)
-entries-low n (p ∷ places) (a ∷ x) h =
-    let ha = All-head (IsAtMost (10 ^ 25)) a x h in
-    let r = entries-low n places x (All-tail (IsAtMost (10 ^ 25)) a x h) in
-    let one = single-low n p a (pos (10 ^ 25)) (omega (arith, ints)) ha.low in
+entries-low : (m n : ℕ) (places : List ℕ) (x : List ℤ) → All (IsAtMost m) x → neg_ℤ (pos (m * length places)) ≤ℤ deficit n (entry_at places x)
+entries-low m n [] x h = let z = deficit-zero n in let s = deficit-same n (entry_at [] x) (λ e. pos 0) (λ e. refl) in omega (arith, ints, z, s)
+entries-low m n (p ∷ places) [] h = let z = deficit-zero n in let s = deficit-same n (entry_at (p ∷ places) []) (λ e. pos 0) (λ e. refl) in omega (arith, ints, z, s)
+entries-low m n (p ∷ places) (a ∷ x) h =
+    let ha = All-head (IsAtMost m) a x h in
+    let r = entries-low m n places x (All-tail (IsAtMost m) a x h) in
+    let one = single-low n p a (pos m) (omega (arith, ints)) ha.low in
     let d = deficit-add n (λ e. if nat_eq p e then a else pos 0) (entry_at places x) in
     let s = deficit-same n (entry_at (p ∷ places) (a ∷ x)) (λ e. (if nat_eq p e then a else pos 0) +ℤ entry_at places x e) (λ e. refl) in
     omega (arith, ints, r, one, d, s)
 
 -- the rows of all terms
-rows-low : {X : Type 0} (n : ℕ) (places : X → List ℕ) (value : X → SetFunction) (xs : List X) (rows : List (List ℤ)) → All (λ x. All (IsAtMost (10 ^ 25)) x) rows
-    → neg_ℤ (pos (10 ^ 25 * sum (map length (map places xs)))) ≤ℤ deficit n (base_sum_at (meanings places value xs) rows)
-rows-low n places value [] rows h = let z = deficit-zero n in let s = deficit-same n (base_sum_at [] rows) (λ e. pos 0) (λ e. refl) in omega (arith, ints, z, s)
-rows-low n places value (y ∷ xs) [] h = let z = deficit-zero n in let s = deficit-same n (base_sum_at (meanings places value (y ∷ xs)) []) (λ e. pos 0) (λ e. refl) in omega (arith, ints, z, s)
-rows-low n places value (y ∷ xs) (x ∷ rows) h =
-    let one = entries-low n (places y) x (All-head (λ x. All (IsAtMost (10 ^ 25)) x) x rows h) in
-    let r = rows-low n places value xs rows (All-tail (λ x. All (IsAtMost (10 ^ 25)) x) x rows h) in
+rows-low : {X : Type 0} (m n : ℕ) (places : X → List ℕ) (value : X → SetFunction) (xs : List X) (rows : List (List ℤ)) → All (λ x. All (IsAtMost m) x) rows
+    → neg_ℤ (pos (m * sum (map length (map places xs)))) ≤ℤ deficit n (base_sum_at (meanings places value xs) rows)
+rows-low m n places value [] rows h = let z = deficit-zero n in let s = deficit-same n (base_sum_at [] rows) (λ e. pos 0) (λ e. refl) in omega (arith, ints, z, s)
+rows-low m n places value (y ∷ xs) [] h = let z = deficit-zero n in let s = deficit-same n (base_sum_at (meanings places value (y ∷ xs)) []) (λ e. pos 0) (λ e. refl) in omega (arith, ints, z, s)
+rows-low m n places value (y ∷ xs) (x ∷ rows) h =
+    let one = entries-low m n (places y) x (All-head (λ x. All (IsAtMost m) x) x rows h) in
+    let r = rows-low m n places value xs rows (All-tail (λ x. All (IsAtMost m) x) x rows h) in
     let d = deficit-add n (entry_at (places y) x) (base_sum_at (meanings places value xs) rows) in
     let s = deficit-same n (base_sum_at (meanings places value (y ∷ xs)) (x ∷ rows)) (λ e. entry_at (places y) x e +ℤ base_sum_at (meanings places value xs) rows e) (λ e. refl) in
     let total : sum (map length (map places (y ∷ xs))) ≡ length (places y) + sum (map length (map places xs)) = sum_by-cons (λ n. n) (length (places y)) (map length (map places xs)) in
-    omega (arith, ints, one, r, d, s, total)
+    let all : m * sum (map length (map places (y ∷ xs))) ≡ m * (length (places y) + sum (map length (map places xs))) = ap (λ k. m * k) total in
+    omega (arith, ints, one, r, d, s, all)
 
 -- the shift
 shift-low : (shift : List ℤ) → neg_ℤ (magnitudes shift) ≤ℤ deficit (length shift) (λ e. neg_ℤ (get_or shift e (pos 0)))
@@ -69,16 +71,24 @@ shift-low [] = omega (arith, ints)
 shift-low (pos k ∷ shift) = let r = shift-low shift in omega (arith, ints, clamps, r)
 shift-low (negsuc k ∷ shift) = let r = shift-low shift in omega (arith, ints, clamps, r)
 
--- the sum of min(z, 0)
+-- the sum of min(z, 0), where no entry is above m in magnitude
+pub deficit_by : {X : Type 0} (m s : ℕ) (places : X → List ℕ) (value : X → SetFunction) (xs : List X) (rows : List (List ℤ)) (shift : List ℤ) → All (λ x. All (IsAtMost m) x) rows → sum (map length (map places xs)) ≤ 16384
+    → magnitudes shift ≤ℤ pos s → neg_ℤ (pos (16384 * m + s)) ≤ℤ deficit (length shift) (rest_at (meanings places value xs) rows shift)
+deficit_by m s places value xs rows shift h few small =
+    let n = length shift in
+    let r = rows-low m n places value xs rows h in
+    let low = shift-low shift in
+    let d = deficit-add n (base_sum_at (meanings places value xs) rows) (λ e. neg_ℤ (get_or shift e (pos 0))) in
+    let k = deficit-same n (rest_at (meanings places value xs) rows shift) (λ e. base_sum_at (meanings places value xs) rows e +ℤ neg_ℤ (get_or shift e (pos 0))) (λ e. omega (arith, ints)) in
+    let all = mul-le-mul_left m few in
+    omega (arith, ints, r, low, d, k, all, small)
+
+-- the same of entries and shifts as they begin
 pub deficit_low : {X : Type 0} (places : X → List ℕ) (value : X → SetFunction) (xs : List X) (rows : List (List ℤ)) (shift : List ℤ) → All (λ x. All (IsAtMost (10 ^ 25)) x) rows → sum (map length (map places xs)) ≤ 16384
     → magnitudes shift ≤ℤ pos (10 ^ 27) → neg_ℤ (pos (4 * 10 ^ 29)) ≤ℤ deficit (length shift) (rest_at (meanings places value xs) rows shift)
 deficit_low places value xs rows shift h few small =
-    let n = length shift in
-    let r = rows-low n places value xs rows h in
-    let s = shift-low shift in
-    let d = deficit-add n (base_sum_at (meanings places value xs) rows) (λ e. neg_ℤ (get_or shift e (pos 0))) in
-    let k = deficit-same n (rest_at (meanings places value xs) rows shift) (λ e. base_sum_at (meanings places value xs) rows e +ℤ neg_ℤ (get_or shift e (pos 0))) (λ e. omega (arith, ints)) in
-    omega (arith, ints, r, s, d, k, few, small)
+    let d = deficit_by (10 ^ 25) (10 ^ 27) places value xs rows shift h few small in
+    omega (arith, ints, d)
 
 -- what rises towards 0 has a lesser magnitude
 pub abs_falls : (a b : ℤ) → a <ℤ b → b ≤ℤ pos 0 → nat_abs b < nat_abs a

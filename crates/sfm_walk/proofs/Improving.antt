@@ -1,20 +1,20 @@
 -- The run at the start of each walk.
-use Rattle.std.proofs.Common.{◌≡◌, ℕ, ◌*◌, ◌^◌, ◌<◌, ◌≤◌, List, [], length, ℤ, pos, neg_ℤ, nat_abs, ◌+ℤ◌, ◌-ℤ◌, ◌≤ℤ◌, get_or, arith}
+use Rattle.std.proofs.Common.{ℕ, ◌*◌, ◌^◌, ◌<◌, ◌≤◌, List, length, ℤ, pos, neg_ℤ, nat_abs, ◌+ℤ◌, ◌-ℤ◌, ◌≤ℤ◌, arith}
 use Rattle.std.specs.List.{All}
 use Rattle.std.proofs.lemmas.Int.{ints}
-use Rattle.std.proofs.lemmas.List.Elements.{All-get_or, All-from_get_or}
 use Rattle.sfm_spec.specs.Bounds.{IsAtMost}
 use Rattle.sfm_spec.specs.Terms.{SetFunction, IsFamily, IsSubmodular}
 use Rattle.sfm_spec.specs.Families.{meanings, rest_at, deficit, AreTerms}
-use Rattle.sfm_spec.specs.Walks.{base_at}
 use Rattle.sfm_spec.proofs.Gain.{moves_along}
 use Rattle.sfm_spec.proofs.Moves.{deficit_not_above}
 use Rattle.sfm_exchange.specs.declared.graph.Graph.{Graph}
 use Rattle.sfm_walk.specs.declared.run.Run.{Run}
 use Rattle.sfm_exchange.specs.Graph.{IsClaimed}
-use Rattle.sfm_walk.specs.Run.{AreAdvanced, IsRunAt, IsUpTo}
+use Rattle.sfm_walk.specs.Run.{AreAdvanced, IsRunAt}
+use Rattle.sfm_walk.specs.Spread.{AreSpread}
 use Rattle.sfm_exchange.proofs.ClaimedGraphs.{are_terms, low}
 use Rattle.sfm_walk.proofs.Gaps.{abs_falls}
+use Rattle.sfm_walk.proofs.Spreads.{at_most, bound_is, up_to}
 
 -- the graph is whole, z and its signs are those of its bases, the sum of min(z, 0) is not below that at first, which was not
 -- low, and no entry has changed by more than it has risen
@@ -23,23 +23,7 @@ pub record IsImproving {X N : Type 0} (places : X → List ℕ) (value : X → S
   pub at : IsRunAt (meanings places value terms) shift graph.bases run
   pub gap : neg_ℤ (pos (4 * 10 ^ 29)) ≤ℤ deficit (length shift) (rest_at (meanings places value terms) init shift)
   pub risen : deficit (length shift) (rest_at (meanings places value terms) init shift) ≤ℤ deficit (length shift) (rest_at (meanings places value terms) graph.bases shift)
-  pub small : All (λ x. All (IsUpTo (pos (10 ^ 25) +ℤ (deficit (length shift) (rest_at (meanings places value terms) graph.bases shift) -ℤ deficit (length shift) (rest_at (meanings places value terms) init shift)))) x) graph.bases
-
--- entries of a bound that has not grown
-pub same_bound : (rows : List (List ℤ)) (b : ℤ) → All (λ x. All (IsAtMost (10 ^ 25)) x) rows → pos (10 ^ 25) ≤ℤ b → All (λ x. All (IsUpTo b) x) rows
-same_bound rows b h le = All-from_get_or (λ x. All (IsUpTo b) x) rows [] (λ i li. All-from_get_or (IsUpTo b) (base_at rows i) (pos 0) (λ j lj.
-    let o : IsAtMost (10 ^ 25) (get_or (base_at rows i) j (pos 0)) = All-get_or (IsAtMost (10 ^ 25)) (base_at rows i) j (pos 0) lj (All-get_or (λ x. All (IsAtMost (10 ^ 25)) x) rows i [] li h) in
-    record { low = omega (arith, ints, o.low, le); high = omega (arith, ints, o.high, le) }))
-
--- a bound as a number
-pub at_most : (m : ℕ) (rows : List (List ℤ)) (b : ℤ) → All (λ x. All (IsUpTo b) x) rows → b ≤ℤ pos m → All (λ x. All (IsAtMost m) x) rows
-at_most m rows b h le = All-from_get_or (λ x. All (IsAtMost m) x) rows [] (λ i li. All-from_get_or (IsAtMost m) (base_at rows i) (pos 0) (λ j lj.
-    let o : IsUpTo b (get_or (base_at rows i) j (pos 0)) = All-get_or (IsUpTo b) (base_at rows i) j (pos 0) lj (All-get_or (λ x. All (IsUpTo b) x) rows i [] li h) in
-    record { low = omega (arith, ints, o.low, le); high = omega (arith, ints, o.high, le) }))
-
--- a bound told otherwise
-pub bound_is : (rows : List (List ℤ)) (b c : ℤ) → All (λ x. All (IsUpTo b) x) rows → b ≡ c → All (λ x. All (IsUpTo c) x) rows
-bound_is rows b c h e = rw e at h
+  pub spread : AreSpread (meanings places value terms) (length shift) shift init graph.bases
 
 module _ {X N : Type 0} {places : X → List ℕ} {value : X → SetFunction} {size : X → ℤ} {fits : X → N → ℤ → List ℤ → Type 0} {terms : List X} {q : ℤ} {shift : List ℤ} {init : List (List ℤ)} {graph : Graph N} {run : Run}
     (h : IsImproving places value size fits terms q shift init graph run) where
@@ -47,12 +31,12 @@ module _ {X N : Type 0} {places : X → List ℕ} {value : X → SetFunction} {s
   abbrev D : List (List ℤ) → ℤ
   D rows = deficit (length shift) (rest_at (meanings places value terms) rows shift)
 
-  -- the entries are small
-  pub small_still : (m : ℕ) → 5 * 10 ^ 29 ≤ m → All (λ x. All (IsAtMost m) x) graph.bases
-  small_still m wide =
+  -- the entries are small, where those at first are
+  pub small_still : All (λ x. All (IsAtMost (10 ^ 29)) x) init → (m : ℕ) → 5 * 10 ^ 29 ≤ m → All (λ x. All (IsAtMost m) x) graph.bases
+  small_still small m wide =
       let gap = h.gap in
       let up = deficit_not_above (length shift) (rest_at (meanings places value terms) graph.bases shift) in
-      at_most m graph.bases (pos (10 ^ 25) +ℤ (D graph.bases -ℤ D init)) h.small (omega (arith, ints, gap, up, wide))
+      at_most m graph.bases (pos (10 ^ 29) +ℤ (D graph.bases -ℤ D init)) (h.spread (pos (10 ^ 29)) (up_to (10 ^ 29) init small)) (omega (arith, ints, gap, up, wide))
 
   pub gap_still : neg_ℤ (pos (5 * 10 ^ 29)) ≤ℤ D graph.bases
   gap_still = let gap = h.gap in let r = h.risen in omega (arith, ints, gap, r)
@@ -75,5 +59,5 @@ module _ {X N : Type 0} {places : X → List ℕ} {value : X → SetFunction} {s
         at = p.at;
         gap = h.gap;
         risen = let r = h.risen in omega (arith, ints, r, rises);
-        small = bound_is graph'.bases ((pos (10 ^ 25) +ℤ (D graph.bases -ℤ D init)) +ℤ (D graph'.bases -ℤ D graph.bases)) (pos (10 ^ 25) +ℤ (D graph'.bases -ℤ D init)) (p.spread (pos (10 ^ 25) +ℤ (D graph.bases -ℤ D init)) h.small) (omega (arith, ints));
+        spread = λ b small. bound_is graph'.bases ((b +ℤ (D graph.bases -ℤ D init)) +ℤ (D graph'.bases -ℤ D graph.bases)) (b +ℤ (D graph'.bases -ℤ D init)) (p.spread (b +ℤ (D graph.bases -ℤ D init)) (h.spread b small)) (omega (arith, ints));
       }

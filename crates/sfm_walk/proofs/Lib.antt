@@ -1,5 +1,6 @@
 pub mod Advancing
 pub mod Gaps
+pub mod Spreads
 pub mod Improving
 pub mod Starting
 pub mod Counting

@@ -1,11 +1,11 @@
 -- What a minimisation keeps beside the graph.
-use Rattle.std.specs.Prelude.{◌≡◌, ℕ, ◌+◌, ◌<◌, ◌≤◌, List, length, slice_index_or, ℤ, pos, ◌<ℤ◌, ◌≤ℤ◌, neg_ℤ, ◌+ℤ◌, ◌-ℤ◌}
-use Rattle.std.specs.List.{All}
-use Rattle.sfm_spec.specs.Families.{Meaning, rest_at, deficit}
+use Rattle.std.specs.Prelude.{◌≡◌, ℕ, ◌+◌, ◌<◌, ◌≤◌, List, length, slice_index_or, ℤ, pos, ◌<ℤ◌, ◌≤ℤ◌, neg_ℤ}
+use Rattle.sfm_spec.specs.Families.{Meaning, rest_at}
 use Rattle.sfm_spec.specs.Labels.{FallsAlong}
 use Rattle.sfm_spec.specs.Progress.{IsProgress, TakesLeastSteps}
 use Rattle.sfm_spec.specs.Walks.{Step, IsStep, IsShortest, last_of}
 use Rattle.sfm_law.specs.Rest.{IsRest}
+use Rattle.sfm_walk.specs.Spread.{AreSpread}
 use Rattle.sfm_walk.specs.declared.run.Run.{Run}
 use Rattle.sfm_reach.specs.declared.bits.Bits.{Bits}
 use Rattle.sfm_exchange.specs.declared.path.Hop.{Hop}
@@ -50,14 +50,9 @@ pub record IsGreatest (terms : List Meaning) (q : ℤ) (rows : List (List ℤ)) 
   pub moves : (k : ℕ) → k < length hops → Moves terms q rows (hop_at hops k) a
   pub greatest : (b : ℤ) → b ≤ℤ neg_ℤ (slice_index_or z first (pos 0)) → b ≤ℤ slice_index_or z (last_of first (steps_of hops)) (pos 0) → ((k : ℕ) → k < length hops → Moves terms q rows (hop_at hops k) b) → b ≤ℤ a
 
--- a magnitude of at most b
-pub record IsUpTo (b a : ℤ) : Type 0 where
-  pub low : neg_ℤ b ≤ℤ a
-  pub high : a ≤ℤ b
-
 -- bases that came by a move along a walk: the run is at them, they are progress, and no entry has changed by more than the sum
 -- of min(z, 0) has risen
 pub record AreAdvanced (terms : List Meaning) (n : ℕ) (q : ℤ) (shift : List ℤ) (before after : List (List ℤ)) (run : Run) : Type 0 where
   pub at : IsRunAt terms shift after run
   pub progress : IsProgress terms n q shift before after
-  pub spread : (b : ℤ) → All (λ x. All (IsUpTo b) x) before → All (λ x. All (IsUpTo (b +ℤ (deficit n (rest_at terms after shift) -ℤ deficit n (rest_at terms before shift)))) x) after
+  pub spread : AreSpread terms n shift before after

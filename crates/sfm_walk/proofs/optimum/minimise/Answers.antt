@@ -46,3 +46,9 @@ returns-clause-few g c =
     let starts = map (λ x. t.start_of x q) c.args.terms.now in
     let h = simp to_z-of_z at c.minimise_counted.ensures.counted in
     IfOk-weaker c.minimise_counted.result (λ r. IsCounted ts n q shift starts r.bases c.new-steps.result c.minimise_counted.new.steps) (λ r. IsFewWalks ts n q shift starts r.bases) (λ r k. (k.0, k.1, k.2)) h
+
+pub returns-clause-plain : goal.returns-clause-plain
+returns-clause-plain g c =
+    let fq : FitsSigned w128 c.args.q = c.ranges.q in
+    let fp : FitsSigned w128 c.args.p = c.ranges.p in
+    simp to_z-of_z at c.minimise_counted.ensures.plain

@@ -1,13 +1,14 @@
-use Rattle.std.proofs.Common.{◌≡◌, ℕ, ◌<◌, ℤ, List, length, map, get_or, pos, replicate, rules, arith, FitsSigned}
-use Rattle.std.proofs.lemmas.Int.{to_z-of_z}
+use Rattle.std.proofs.Common.{◌≡◌, ℕ, ◌<◌, ℤ, List, length, map, get_or, pos, ◌≤ℤ◌, replicate, rules, arith, FitsSigned}
+use Rattle.std.proofs.lemmas.Int.{ints, to_z-of_z}
 use Rattle.std.proofs.lemmas.List.{length-replicate}
 use Rattle.std.specs.Result.{IfOk}
 use mir.Syntax.{w128}
 use mir.Val.{of_z, to_z}
+use Rattle.sfm_spec.specs.Sets.{magnitudes}
 use Rattle.sfm_spec.specs.Families.{meanings, even_shift, rest_at, Prove}
 use Rattle.sfm_spec.specs.Walks.{Step, Joins}
 use Rattle.sfm_walk.specs.Counted.{IsCounted}
-use Rattle.sfm_walk.proofs.Starting.{even_small}
+use Rattle.sfm_walk.proofs.Starting.{even_small, magnitudes_none}
 use Rattle.sfm_walk.proofs.optimum.minimise_counted.Given as given
 use Rattle.sfm_walk.proofs.optimum.minimise_counted.Goals as goal
 use Rattle.sfm_walk.proofs.optimum.minimise_counted.Goals.{After-minimise_at_counted}
@@ -96,3 +97,10 @@ returns-clause-kept g c = c.minimise_at_counted.ensures.kept
 
 pub returns-in_err-shift-clause-few : goal.returns-in_err-shift-clause-few
 returns-in_err-shift-clause-few g c = omega arith
+
+pub returns-clause-plain : goal.returns-clause-plain
+returns-clause-plain g c = λ none one.
+    let fq : FitsSigned w128 c.args.q = c.ranges.q in
+    let same : c.deref.result.now ≡ replicate c.args.n c.args.p = search rules in
+    let no : magnitudes c.deref.result.now ≤ℤ pos 0 = rw (same, none) (magnitudes_none c.args.n) in
+    c.minimise_at_counted.ensures.plain (simp to_z-of_z one) (omega (arith, ints, no))

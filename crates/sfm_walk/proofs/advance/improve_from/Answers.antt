@@ -1,4 +1,4 @@
-use Rattle.std.proofs.Common.{◌*◌, ◌^◌, length, pos, ℤ, ◌-ℤ◌, ◌+ℤ◌, arith, FitsSigned}
+use Rattle.std.proofs.Common.{◌*◌, ◌^◌, length, ℤ, ◌-ℤ◌, ◌+ℤ◌, arith, FitsSigned}
 use Rattle.std.proofs.lemmas.Int.{ints, to_z-of_z}
 use Rattle.std.proofs.lemmas.List.{length-map}
 use mir.Syntax.{w128}
@@ -6,11 +6,11 @@ use Rattle.sfm_spec.specs.Families.{meanings, rest_at, deficit}
 use Rattle.sfm_spec.proofs.LeastWalks.{few_walks_small}
 use Rattle.sfm_spec.proofs.Proving.{prove_if_none}
 use Rattle.sfm_spec.proofs.Walks.{bases-at}
-use Rattle.sfm_walk.proofs.Gaps.{deficit_low}
 use Rattle.sfm_walk.proofs.Counting.{IsCounting, counting_none, counting_more, counting_few, counting_is}
-use Rattle.sfm_walk.proofs.Improving.{IsImproving, falls, gap_still, improving_after, same_bound, small_still}
+use Rattle.sfm_walk.proofs.Improving.{IsImproving, falls, gap_still, improving_after, small_still}
+use Rattle.sfm_walk.proofs.Spreads.{bound_is}
 use Rattle.sfm_exchange.proofs.ClaimedGraphs.{are_terms, base_count, counted, low}
-use Rattle.sfm_walk.proofs.optimum.improve.Goals as goal
+use Rattle.sfm_walk.proofs.advance.improve_from.Goals as goal
 
 pub rest_of-requires-clause-placed : goal.rest_of-requires-clause-placed
 rest_of-requires-clause-placed g c = c.requires.graph.bounded.placed
@@ -47,9 +47,9 @@ loop-run-init g c =
     let start : IsImproving t.places t.value_of t.size_of t.fits c.args.terms.now c.args.q shift init c.args.graph.now c.run_at-run.result = record {
       whole = r.graph;
       at = record { is_rest = rw z_is c.in_ok-z.ensures; signs = rw z_is c.run_at-run.ensures.signs };
-      gap = deficit_low t.places t.value_of c.args.terms.now init shift r.small r.graph.bounded.few_places r.shifts;
+      gap = r.gap;
       risen = omega (arith, ints);
-      small = same_bound init (pos (10 ^ 25) +ℤ (D -ℤ D)) r.small (omega (arith, ints));
+      spread = λ b small. bound_is init b (b +ℤ (D -ℤ D)) small (omega (arith, ints));
     } in
     simp to_z-of_z (start, omega arith, counting_none ts (length shift) c.args.q shift init c.args.steps.now, omega arith)
 
@@ -57,7 +57,7 @@ pub next_walk-requires-clause-graph : goal.next_walk-requires-clause-graph
 next_walk-requires-clause-graph g c = c.loop-run.invariant.0.whole
 
 pub next_walk-requires-clause-small : goal.next_walk-requires-clause-small
-next_walk-requires-clause-small g c = small_still c.loop-run.invariant.0 (10 ^ 30) (omega arith)
+next_walk-requires-clause-small g c = small_still c.loop-run.invariant.0 c.requires.small (10 ^ 30) (omega arith)
 
 pub advance-requires-clause-graph : goal.advance-requires-clause-graph
 advance-requires-clause-graph g c =
@@ -73,7 +73,7 @@ advance-requires-clause-walk g c =
     rw c.in_ok-next_walk.ensures.bases (c.in_ok-next_walk.ensures.walk c.if-branch.true)
 
 pub advance-requires-clause-small : goal.advance-requires-clause-small
-advance-requires-clause-small g c = rw c.in_ok-next_walk.ensures.bases (small_still c.loop-run.invariant.0 (5 * 10 ^ 29) (omega arith))
+advance-requires-clause-small g c = rw c.in_ok-next_walk.ensures.bases (small_still c.loop-run.invariant.0 c.requires.small (5 * 10 ^ 29) (omega arith))
 
 pub advance-requires-clause-gap : goal.advance-requires-clause-gap
 advance-requires-clause-gap g c = rw c.in_ok-next_walk.ensures.bases (gap_still c.loop-run.invariant.0)
@@ -119,7 +119,7 @@ returns-clause-bases g c =
     (simp to_z-of_z at c.in_ok-next_walk.ensures.graph).are_bases
 
 pub returns-clause-small : goal.returns-clause-small
-returns-clause-small g c = rw c.in_ok-next_walk.ensures.bases (small_still c.loop-run.invariant.0 (10 ^ 30) (omega arith))
+returns-clause-small g c = rw c.in_ok-next_walk.ensures.bases (small_still c.loop-run.invariant.0 c.requires.small (10 ^ 30) (omega arith))
 
 pub returns-clause-rest : goal.returns-clause-rest
 returns-clause-rest g c =
@@ -146,6 +146,9 @@ returns-clause-counted g c =
     let fq : FitsSigned w128 c.args.q = c.ranges.q in
     let shift = c.args.shift.now in
     rw c.in_ok-next_walk.ensures.bases (counting_is (meanings t.places t.value_of c.args.terms.now) (length shift) c.args.q shift c.args.graph.now.bases c.loop-run.graph.bases c.args.steps.now c.loop-run.steps (simp to_z-of_z at c.loop-run.invariant.2))
+
+pub returns-clause-spread : goal.returns-clause-spread
+returns-clause-spread g c = rw c.in_ok-next_walk.ensures.bases c.loop-run.invariant.0.spread
 
 pub next_walk-requires-clause-run : goal.next_walk-requires-clause-run
 next_walk-requires-clause-run g c = c.loop-run.invariant.0.at

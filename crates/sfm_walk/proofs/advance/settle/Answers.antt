@@ -7,8 +7,8 @@ use Rattle.sfm_spec.specs.Walks.{last_of}
 use Rattle.sfm_spec.proofs.Sums.{length-exchanged}
 use Rattle.sfm_exchange.specs.Hops.{steps_of}
 use Rattle.sfm_exchange.specs.Signs.{AreMoved}
-use Rattle.sfm_walk.proofs.optimum.settle.Goals as goal
-use Rattle.sfm_walk.proofs.optimum.settle.Goals.{After-move_rest}
+use Rattle.sfm_walk.proofs.advance.settle.Goals as goal
+use Rattle.sfm_walk.proofs.advance.settle.Goals.{After-move_rest}
 
 -- z once the walk has moved a
 moved : (c : After-move_rest) → let run = c.args.run.now in c.move_rest.new.z ≡ exchanged run.z.items run.path.first (last_of run.path.first (steps_of run.path.hops.items)) c.args.a

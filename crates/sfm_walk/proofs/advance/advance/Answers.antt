@@ -11,9 +11,9 @@ use Rattle.sfm_walk.proofs.Advancing.{entries_small}
 use Rattle.sfm_walk.proofs.Augmenting.{amount_small, apart, ends_moved, first_at, in_order, last_at, progress, rest_after, spread}
 use Rattle.sfm_exchange.proofs.ClaimedGraphs.{are_terms, low, own}
 use Rattle.sfm_exchange.proofs.Still.{over_word}
-use Rattle.sfm_walk.proofs.optimum.advance.Given as given
-use Rattle.sfm_walk.proofs.optimum.advance.Goals as goal
-use Rattle.sfm_walk.proofs.optimum.advance.Goals.{In_ok-a}
+use Rattle.sfm_walk.proofs.advance.advance.Given as given
+use Rattle.sfm_walk.proofs.advance.advance.Goals as goal
+use Rattle.sfm_walk.proofs.advance.advance.Goals.{In_ok-a}
 
 -- the amount is the greatest that the walk and its ends allow
 greatest : (g : given.Over) (c : In_ok-a g) → let t = g.T.Term in let run = c.args.run.now in

@@ -4,7 +4,7 @@ use Rattle.sfm_spec.specs.Families.{meanings, rest_at, deficit}
 use Rattle.sfm_spec.specs.Walks.{few_walks}
 use Rattle.sfm_walk.proofs.Counting.{IsCounting}
 use Rattle.sfm_walk.proofs.Improving.{IsImproving}
-use Rattle.sfm_walk.proofs.optimum.improve.Given as goal
+use Rattle.sfm_walk.proofs.advance.improve_from.Given as goal
 
 abbrev pub invariant-loop-run : goal.invariant-loop-run
 invariant-loop-run g l = let t = g.T.Term in IsImproving t.places t.value_of t.size_of t.fits l.terms l.q l.shift l.initial.graph.bases l.graph l.run
