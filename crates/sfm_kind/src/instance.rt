@@ -1,7 +1,7 @@
 // An instance: the names of a ground and the terms over it. The bounds that each call over terms asks for are kept in the
 // type, so that a caller has them of every instance. Running totals of the places and the sizes of all terms are kept too,
 // so that a term is tested before it is added without a pass over the others.
-ghost use Rattle.std.specs.{Prelude.{◌≡◌, ◌↔◌, ℕ, ◌<◌, ◌≤◌, List, [], ◌∷◌, ◌++◌, length, slice_get, slice_index_or, IsTrue, OnOk, OnErr, IfSome, IfNone, Some}, List.{All}};
+ghost use Rattle.std.specs.{Prelude.{◌≡◌, ◌↔◌, ℕ, ◌<◌, ◌≤◌, List, [], ◌∷◌, ◌++◌, length, slice_get, slice_index_or, IsTrue, OnOk, OnErr, IfSome, IfNone, Some}, List.{All, remove}};
 ghost use Rattle.sfm_spec.specs.Names.{IsName};
 ghost use Rattle.sfm_kind.specs.{Names.{IsNewName, AreElementNames}, Instance.{support_of}, Limits.{AreInBounds, HasRoomFor, total_size_of}};
 
@@ -170,5 +170,16 @@ impl Instance {
         self.support += places;
         self.total += size;
         Ok(())
+    }
+
+    /// Takes term line i out, counted from 0; those behind it close up.
+    pub fn drop_line(&mut self, i: usize)
+        requires { i < length self.old.terms }
+        ensures terms { self.new.terms ≡ remove self.old.terms i }
+        ensures names { self.new.names ≡ self.old.names }
+    {
+        let term = self.terms.remove(i);
+        self.support -= term.elements().len();
+        self.total -= term.size();
     }
 }
