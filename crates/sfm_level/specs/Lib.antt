@@ -1,0 +1,4 @@
+pub mod LevelText
+pub mod Told
+pub mod Sums
+pub mod Levelling
