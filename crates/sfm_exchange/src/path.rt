@@ -1,14 +1,15 @@
 // One walk of least steps: from each place the walk takes, among the steps into the level below, the one to the least place,
 // and to that place the one of the first term. So no walk from its first place to a place with z > 0 has fewer steps.
-ghost use Rattle.std.specs.Prelude.{◌≡◌, ◌-◌, ◌<◌, ◌≤◌, ℕ, length, OnOk, MatchOption, slice_index_or};
+ghost use Rattle.std.specs.Prelude.{◌≡◌, ◌-◌, ◌<◌, ◌≤◌, ℕ, length, IfOk, OnOk, MatchOption, slice_index_or};
 ghost use Rattle.sfm_spec.specs.{Families.{meanings}, Labels.{FallsAlong, step_code}, Walks.{Step, last_of}};
 ghost use Rattle.sfm_reach.specs.{Bits.{bit_in, set_at}, Spots.{AreSpots, spot_at}, Unions.{AreUnions, HasRows, HaveRows, IsReadable, spot_row}, Reach.{table_at}};
 ghost use Rattle.sfm_exchange.specs.{Levels.{depth_of, IsFirst, LeadsInto}, Hops.{AreHops, AreLeast, IsHop, IsTold, hop_at, step_of, steps_of}};
 
 use crate::graph::Graph;
 use sfm_base::Memory;
-use sfm_law::Term;
+use sfm_law::{Term, WalkSteps};
 use sfm_reach::{BitRows, Bits, Spot, Spots};
+use std::alloc::Global;
 
 /// A step of a walk: from one place to another by a term, and the numbers that the places have in the term.
 #[derive(Clone, Copy)]
@@ -58,8 +59,8 @@ fn first_spot(spots: &[Spot], rows: &[BitRows], to: usize) -> Option<Spot>
     None
 }
 
-// The number of a place in a term.
-fn local_of(places: &[usize], place: usize) -> Option<usize>
+/// The number of a place in a term.
+pub fn local_of(places: &[usize], place: usize) -> Option<usize>
     ensures { MatchOption result ((v : ℕ) → v < length places.now
         → slice_index_or places.now v 0 ≡ place → ⊥)
         (λ v. (v < length places.now) × (slice_index_or places.now v 0 ≡ place)) }
@@ -156,4 +157,19 @@ pub fn follow<T: Term>(
         at = hop.to;
     }
     Ok(())
+}
+
+/// The steps of a walk, without their places in the terms.
+///
+/// # Errors
+///
+/// `Memory` where there is none.
+pub fn steps_along(alloc: Global, hops: &[Hop]) -> Result<WalkSteps, Memory>
+    ensures { IfOk result (λ r. r ≡ steps_of hops.now) }
+{
+    let mut steps = WalkSteps::new(alloc);
+    for hop in hops {
+        steps.push(hop.to, hop.term)?;
+    }
+    Ok(steps)
 }
