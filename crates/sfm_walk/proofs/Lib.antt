@@ -5,3 +5,6 @@ pub mod Improving
 pub mod Starting
 pub mod Counting
 pub mod Augmenting
+pub mod Marking
+pub mod Falling
+pub mod Stepping

@@ -9,10 +9,10 @@ ghost use Rattle.sfm_walk.specs.{Counted.{IsCounted}, Run.{AreAdvanced, IsLeastW
 ghost use Rattle.sfm_exchange.specs.{Graph.{IsClaimed}, Hops.{steps_of}, Levels.{depth_of}, Signs.{AreMoved, AreSigns}};
 
 use crate::rest::{most_of, move_rest};
-use crate::run::Run;
+use crate::run::{Run, run_at};
 use crate::walk::next_walk;
 use sfm_base::{Memory, Numbers, Steps};
-use sfm_exchange::{Graph, Path, amount_of, move_along, move_signs, signs_of};
+use sfm_exchange::{Graph, amount_of, move_along, move_signs};
 use sfm_law::{Term, rest_of};
 use std::alloc::Global;
 
@@ -108,24 +108,6 @@ pub fn improve_from<T: Term>(
         steps.tick();
     }
     Ok(Numbers::from_vec(run.z))
-}
-
-// A run at z, before any search.
-fn run_at(alloc: Global, z: Vec<i128>) -> Run
-    requires { length z.items ≤ 256 }
-    ensures z { result.z ≡ z }
-    ensures signs { AreSigns z.items result.signs }
-{
-    let signs = signs_of(&z);
-    Run {
-        z,
-        signs,
-        levels: Vec::new(alloc),
-        path: Path {
-            first: 0,
-            hops: Vec::new(alloc),
-        },
-    }
 }
 
 // Moves along the walk that was found by the greatest amount, and brings z and its signs up with it.
