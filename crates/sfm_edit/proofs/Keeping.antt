@@ -1,0 +1,162 @@
+-- Which terms are kept, as edits go on: the old ones stand first, in their old order.
+use Rattle.std.proofs.Common.{◌≡◌, ◌⊎◌, inl, inr, ℕ, zero, suc, ◌+◌, ◌<◌, ◌≤◌, List, [], ◌∷◌, ◌++◌, length, get_or, slice_get, Option, Some, None, refl, sym, ap, subst, ◌∙◌, arith}
+use Rattle.std.specs.List.{remove}
+use Rattle.std.proofs.lemmas.Bool.{cases_lt}
+use Rattle.std.proofs.lemmas.Option.{same_Some, slice_get_within, get_or_from_slice_get}
+use Rattle.std.proofs.lemmas.List.{length_push}
+use Rattle.std.proofs.lemmas.List.Edits.{length-remove}
+use Rattle.std.proofs.lemmas.List.FromFn.{length-map-range_with_len, get_or-map-range_with_len}
+use Rattle.sfm_lines.specs.Reading.{State}
+use Rattle.sfm_kind.specs.declared.kind.Kind.{Kind}
+use Rattle.sfm_edit.specs.Edits.{Editing, all_kept, Edits}
+use Rattle.sfm_edit.specs.Origins.{AreOrigins}
+
+-- ---- before the first edit
+
+all-kept-at : (n j : ℕ) (origin : Option ℕ) → slice_get (all_kept n) j ≡ Some origin
+    → (j < n) × (origin ≡ Some j)
+all-kept-at n j origin at =
+    let within : j < length (all_kept n) = slice_get_within (all_kept n) j origin at in
+    let lt : j < n = omega (arith, within, length-map-range_with_len (λ i. Some i) 0 n) in
+    let here : get_or (all_kept n) j None ≡ origin = get_or_from_slice_get (all_kept n) j origin None at in
+    (lt, sym here ∙ get_or-map-range_with_len (λ i. Some i) 0 n j j None lt (omega arith))
+
+pub origins-first : (terms : List Kind) → AreOrigins terms terms (all_kept (length terms))
+origins-first terms = record {
+  count = length-map-range_with_len (λ i. Some i) 0 (length terms);
+  same = λ j i at.
+      let (lt, is) = all-kept-at (length terms) j (Some i) at in
+      let here : i ≡ j = same_Some i j is in
+      (omega (arith, lt, here), ap (slice_get terms) (sym here));
+  ascending = λ j k h i lt at at'.
+      let first : h ≡ j = same_Some h j (all-kept-at (length terms) j (Some h) at).1 in
+      let second : i ≡ k = same_Some i k (all-kept-at (length terms) k (Some i) at').1 in
+      omega (arith, lt, first, second);
+  behind = λ j k lt within at. let is : None ≡ Some j = (all-kept-at (length terms) j None at).1 in absurd (cc);
+}
+
+-- ---- one is taken out
+
+-- what stands at j without the one at i stood at k before
+abbrev IsPast : (i j k : ℕ) → Type 0
+IsPast i j k = ((j < i) × (k ≡ j)) ⊎ ((i ≤ j) × (k ≡ j + 1))
+
+past : (i j : ℕ) → (k : ℕ) × IsPast i j k
+past i j = at (cases_lt j i)
+  where
+    at : (j < i) ⊎ (i ≤ j) → (k : ℕ) × IsPast i j k
+    at (inl lt) = (j, inl (lt, refl))
+    at (inr le) = (j + 1, inr (le, refl))
+
+past-order : (i j k j' k' : ℕ) → j < k → IsPast i j j' → IsPast i k k' → j' < k'
+past-order i j k j' k' lt (inl (a, b)) (inl (c, d)) = omega (arith, lt, a, b, c, d)
+past-order i j k j' k' lt (inl (a, b)) (inr (c, d)) = omega (arith, lt, a, b, c, d)
+past-order i j k j' k' lt (inr (a, b)) (inl (c, d)) = omega (arith, lt, a, b, c, d)
+past-order i j k j' k' lt (inr (a, b)) (inr (c, d)) = omega (arith, lt, a, b, c, d)
+
+past-within : (i j k n m : ℕ) → m + 1 ≡ n → j < m → IsPast i j k → k < n
+past-within i j k n m one lt (inl (a, b)) = omega (arith, one, lt, b)
+past-within i j k n m one lt (inr (a, b)) = omega (arith, one, lt, b)
+
+get-past : {X : Type 0} (xs : List X) (i j k : ℕ) → i < length xs → IsPast i j k
+    → slice_get (remove xs i) j ≡ slice_get xs k
+get-past [] i j k within is = absurd (omega (arith, within))
+get-past (x ∷ xs) zero j k within (inl (lt, is)) = absurd (omega (arith, lt))
+get-past (x ∷ xs) zero j k within (inr (le, is)) = ap (slice_get (x ∷ xs)) (let e : suc j ≡ k = omega (arith, is) in e)
+get-past (x ∷ xs) (suc i) zero k within (inl (lt, is)) = ap (slice_get (x ∷ xs)) (sym is)
+get-past (x ∷ xs) (suc i) zero k within (inr (le, is)) = absurd (omega (arith, le))
+get-past (x ∷ xs) (suc i) (suc j) zero within (inl (lt, is)) = absurd (omega (arith, is))
+get-past (x ∷ xs) (suc i) (suc j) zero within (inr (le, is)) = absurd (omega (arith, is))
+get-past (x ∷ xs) (suc i) (suc j) (suc k) within (inl (lt, is)) = get-past xs i j k (omega (arith, within)) (inl (omega (arith, lt), omega (arith, is)))
+get-past (x ∷ xs) (suc i) (suc j) (suc k) within (inr (le, is)) = get-past xs i j k (omega (arith, within)) (inr (omega (arith, le), omega (arith, is)))
+
+pub origins-removed : (old new : List Kind) (kept : List (Option ℕ)) (i : ℕ) → i < length new
+    → AreOrigins old new kept → AreOrigins old (remove new i) (remove kept i)
+origins-removed old new kept i within h = record {
+  count = omega (arith, length-remove new i within, less, h.count);
+  same = λ j origin at.
+      let (k, is) = past i j in
+      let (lt, same) = h.same k origin (sym (get-past kept i j k inside is) ∙ at) in
+      (lt, get-past new i j k within is ∙ same);
+  ascending = λ j k a b lt at at'.
+      let (j', is) = past i j in
+      let (k', is') = past i k in
+      h.ascending j' k' a b (past-order i j k j' k' lt is is') (sym (get-past kept i j j' inside is) ∙ at) (sym (get-past kept i k k' inside is') ∙ at');
+  behind = λ j k lt short at.
+      let (j', is) = past i j in
+      let (k', is') = past i k in
+      get-past kept i k k' inside is' ∙ h.behind j' k' (past-order i j k j' k' lt is is') (past-within i k k' (length kept) (length (remove kept i)) less short is') (sym (get-past kept i j j' inside is) ∙ at);
+}
+  where
+    inside : i < length kept
+    inside = omega (arith, within, h.count)
+
+    less : length (remove kept i) + 1 ≡ length kept
+    less = length-remove kept i inside
+
+-- ---- one is added
+
+get-old : {X : Type 0} (xs : List X) (x : X) (j : ℕ) → j < length xs
+    → slice_get (xs ++ x ∷ []) j ≡ slice_get xs j
+get-old [] x j lt = absurd (omega (arith, lt))
+get-old (y ∷ xs) x zero lt = refl
+get-old (y ∷ xs) x (suc j) lt = get-old xs x j (omega (arith, lt))
+
+get-new : {X : Type 0} (xs : List X) (x : X) → slice_get (xs ++ x ∷ []) (length xs) ≡ Some x
+get-new [] x = refl
+get-new (y ∷ xs) x = get-new xs x
+
+pub origins-added : (old new : List Kind) (kept : List (Option ℕ)) (term : Kind)
+    → AreOrigins old new kept → AreOrigins old (new ++ term ∷ []) (kept ++ None ∷ [])
+origins-added old new kept term h = record {
+  count = omega (arith, length_push kept None, length_push new term, h.count);
+  same = λ j i at.
+      let (lt, before) = old-at j i at in
+      let (within, same) = h.same j i before in
+      (within, get-old new term j (omega (arith, lt, h.count)) ∙ same);
+  ascending = λ j k a b lt at at'. h.ascending j k a b lt (old-at j a at).1 (old-at k b at').1;
+  behind = λ j k lt short at. at-end k (omega (arith, short, length_push kept None)) (λ within. h.behind j k lt within (sym (get-old kept None j (omega (arith, lt, within))) ∙ at));
+}
+  where
+    -- an old place is that of an old term
+    old-at : (j i : ℕ) → slice_get (kept ++ None ∷ []) j ≡ Some (Some i)
+        → (j < length kept) × (slice_get kept j ≡ Some (Some i))
+    old-at j i at = on (cases_lt j (length kept))
+      where
+        on : (j < length kept) ⊎ (length kept ≤ j)
+            → (j < length kept) × (slice_get kept j ≡ Some (Some i))
+        on (inl lt) = (lt, sym (get-old kept None j lt) ∙ at)
+        on (inr le) =
+            let short : j < length (kept ++ None ∷ []) = slice_get_within (kept ++ None ∷ []) j (Some i) at in
+            let last : j ≡ length kept = omega (arith, short, le, length_push kept None) in
+            let same : Some None ≡ Some (Some i) = sym (get-new kept None) ∙ (ap (slice_get (kept ++ None ∷ [])) (sym last) ∙ at) in
+            let none : None ≡ Some i = same_Some None (Some i) same in
+            absurd (cc)
+
+    -- what stands at a place is None where it is so before the last
+    at-end : (k : ℕ) → k < length kept + 1 → (k < length kept → slice_get kept k ≡ Some None)
+        → slice_get (kept ++ None ∷ []) k ≡ Some None
+    at-end k short before = on (cases_lt k (length kept))
+      where
+        on : (k < length kept) ⊎ (length kept ≤ k) → slice_get (kept ++ None ∷ []) k ≡ Some None
+        on (inl lt) = get-old kept None k lt ∙ before lt
+        on (inr le) =
+            let last : k ≡ length kept = omega (arith, short, le) in
+            ap (slice_get (kept ++ None ∷ [])) last ∙ get-new kept None
+
+-- ---- one line
+
+-- what a line leads to keeps the origins
+pub origins-edited : (old : List Kind) (e f : Editing) (tokens : List (List ℕ)) → Edits e tokens f
+    → AreOrigins old e.instance.terms e.kept → AreOrigins old f.instance.terms f.kept
+origins-edited old e f tokens (inl (text, i, is, number, same)) h =
+    subst (λ (g : Editing). AreOrigins old g.instance.terms g.kept) (sym same) (origins-removed old e.instance.terms e.kept i number.0 h)
+origins-edited old e f tokens (inr (rest, is, (term, stands, same), kept)) h =
+    let terms : f.instance.terms ≡ e.instance.terms ++ term ∷ [] = ap (λ (s : State). s.terms) same in
+    rw (terms, kept) (origins-added old e.instance.terms e.kept term h)
+
+-- and the names
+pub names-edited : (e f : Editing) (tokens : List (List ℕ)) → Edits e tokens f
+    → f.instance.names ≡ e.instance.names
+names-edited e f tokens (inl (text, i, is, number, same)) = ap (λ (g : Editing). g.instance.names) same
+names-edited e f tokens (inr (rest, is, (term, stands, same), kept)) = ap (λ (s : State). s.names) same

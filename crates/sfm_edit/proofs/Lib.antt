@@ -1,0 +1,6 @@
+pub mod Numbered
+pub mod LineLengths
+pub mod Reasons
+pub mod Keeping
+pub mod Alike
+pub mod OneEditing

@@ -1,0 +1,84 @@
+-- The text of edits of an instance: term lines are taken out by their numbers, and new ones added behind the others.
+use Rattle.std.specs.Prelude.{◌≡◌, ◌≢◌, ◌⊎◌, ℕ, ◌+◌, ◌<◌, List, [], ◌∷◌, ◌++◌, length, map, codes, Option, Some, None, pos}
+use Rattle.std.specs.List.{remove, range_with_len}
+use Rattle.sfm_base.specs.NumberText.{IsNumber}
+use Rattle.sfm_kind.specs.Instance.{InstanceData}
+use Rattle.sfm_lines.specs.declared.reason.Reason.{Reason}
+use Rattle.sfm_lines.specs.declared.reason.Reason.TheVariants.{Word, Shape, Number}
+use Rattle.sfm_lines.specs.declared.stage.Stage.TheVariants.{Terms}
+use Rattle.sfm_lines.specs.declared.word.TermWord.{TermWord}
+use Rattle.sfm_lines.specs.Parts.{IsMark}
+use Rattle.sfm_lines.specs.Words.{word_text}
+use Rattle.sfm_lines.specs.Reading.{HasAt, AddsTerm}
+use Rattle.sfm_lines.specs.ReadParts.{state_at}
+use Rattle.sfm_side.specs.Side.{SideForm}
+
+-- an instance under edits, and for each of its terms its place among the terms before the first edit, None where it was
+-- added
+pub record Editing : Type 0 where
+  pub instance : InstanceData
+  pub kept : List (Option ℕ)
+
+-- n terms that are at their old places
+abbrev pub all_kept : ℕ → List (Option ℕ)
+all_kept n = map (λ i. Some i) (range_with_len 0 n)
+
+-- before the first edit
+abbrev pub unedited : InstanceData → Editing
+unedited instance = record { instance = instance; kept = all_kept (length instance.terms) }
+
+-- without term line i, counted from 0: its term is gone, and those behind it close up
+abbrev pub without_line : Editing → ℕ → Editing
+without_line e i = record {
+  instance = record { names = e.instance.names; terms = remove e.instance.terms i };
+  kept = remove e.kept i;
+}
+
+-- the tokens are `drop` and one more, which is no mark
+abbrev pub IsDrop : List (List ℕ) → List ℕ → Type 0
+IsDrop tokens text = (tokens ≡ codes "drop" ∷ text ∷ []) × (IsMark text → ⊥)
+
+-- the text is the number of line i of so many, counted from 1
+abbrev pub IsLineNumber : ℕ → List ℕ → ℕ → Type 0
+IsLineNumber count text i = (i < count) × IsNumber text (pos (i + 1))
+
+-- the tokens behind `add` have that reason as a term line behind those of the instance
+abbrev pub HasAdded : InstanceData → List (List ℕ) → Reason → Type 0
+HasAdded instance tokens reason = (rest : List (List ℕ)) × (tokens ≡ codes "add" ∷ rest)
+    × HasAt Terms (state_at Terms instance) rest reason
+
+-- the reasons of a line. Word: neither `drop` nor `add` and the word of a term line. Shape and Number also: those of
+-- `drop`, whose number is that of a term line in the list as it is. The others are those of the term line behind `add`
+abbrev pub HasEdit : Editing → List (List ℕ) → Reason → Type 0
+HasEdit e tokens Word = ((rest : List (List ℕ)) → tokens ≢ codes "drop" ∷ rest)
+    × ((word : TermWord) (rest : List (List ℕ)) → tokens ≢ codes "add" ∷ word_text word ∷ rest)
+HasEdit e tokens Shape = ((rest : List (List ℕ)) × (tokens ≡ codes "drop" ∷ rest)
+    × ((text : List ℕ) → IsDrop tokens text → ⊥)) ⊎ HasAdded e.instance tokens Shape
+HasEdit e tokens Number = ((text : List ℕ) × IsDrop tokens text
+    × ((i : ℕ) → IsLineNumber (length e.instance.terms) text i → ⊥))
+    ⊎ HasAdded e.instance tokens Number
+HasEdit e tokens reason = HasAdded e.instance tokens reason
+
+-- `drop N` takes term line N out, counted from 1 in the list as it is then
+abbrev pub Drops : Editing → List (List ℕ) → Editing → Type 0
+Drops e tokens f = (text : List ℕ) × (i : ℕ) × IsDrop tokens text
+    × IsLineNumber (length e.instance.terms) text i × (f ≡ without_line e i)
+
+-- `add` and a term line adds its term behind the others
+abbrev pub AddsLine : Editing → List (List ℕ) → Editing → Type 0
+AddsLine e tokens f = (rest : List (List ℕ)) × (tokens ≡ codes "add" ∷ rest)
+    × AddsTerm (state_at Terms e.instance) rest (state_at Terms f.instance)
+    × (f.kept ≡ e.kept ++ None ∷ [])
+
+-- what a good line leads to
+abbrev pub Edits : Editing → List (List ℕ) → Editing → Type 0
+Edits e tokens f = Drops e tokens f ⊎ AddsLine e tokens f
+
+-- the texts of edits of an instance
+abbrev pub edits_form : InstanceData → SideForm Editing
+edits_form instance = record {
+  word = codes "edits";
+  nothing = unedited instance;
+  HasIn = HasEdit;
+  Says = Edits;
+}
