@@ -1,4 +1,5 @@
 pub mod Gaps
+pub mod Nears
 pub mod Values
 pub mod Ratios
 pub mod Parts

@@ -1,18 +1,20 @@
 -- What a turn finds, by the slope at which both sets are worth as much and the least minimiser there.
-use Rattle.std.proofs.Common.{◌≡◌, ◌≢◌, ℕ, ◌^◌, Bool, List, length, ℤ, pos, ◌-ℤ◌, ◌≤ℤ◌, ◌<ℤ◌, refl, sym, subst, ◌∙◌, arith}
+use Rattle.std.proofs.Common.{◌≡◌, ◌≢◌, ℕ, ◌^◌, Bool, List, length, ℤ, pos, ◌-ℤ◌, ◌≤ℤ◌, ◌<ℤ◌, refl, sym, subst, ◌∙◌, arith, ⊎_elim}
 use Rattle.std.proofs.lemmas.Int.{ints}
 use Rattle.sfm_spec.specs.Sets.{size}
 use Rattle.sfm_spec.specs.Slopes.{IsSameSlope}
-use Rattle.sfm_spec.specs.Families.{Meaning, AreTerms, IsLeast, IsGreatest, sized_shift}
+use Rattle.sfm_spec.specs.Families.{Meaning, AreTerms, IsAllowed, IsLeast, IsGreatest, sized_shift}
 use Rattle.sfm_spec.proofs.Search.{floor_places}
 use Rattle.sfm_base.specs.declared.slope.Slope.{Slope}
 use Rattle.sfm_sizes.specs.Sizes.{AreElementSizes}
 use Rattle.sfm_sizes.proofs.Weighing.{weight-bounds}
 use Rattle.sfm_slope.specs.declared.worth.Worth.{Worth}
 use Rattle.sfm_slope.specs.Gaps.{IsBegun, IsGap}
+use Rattle.sfm_slope.specs.Nears.{IsLargerBelow, IsLeastNear}
 use Rattle.sfm_slope.specs.Points.{IsInRange}
 use Rattle.sfm_slope.specs.Worths.{IsWorth}
 use Rattle.sfm_slope.proofs.Gaps.{gap_between, gap_greatest, gap_same}
+use Rattle.sfm_slope.proofs.Nears.{gap_larger}
 use Rattle.sfm_slope.proofs.Ratios.{IsRatio, gap_heavier, ratio_of_worths}
 
 module _ {terms : List Meaning} {n : ℕ} {sizes : List ℤ} (fit : AreTerms n terms)
@@ -39,7 +41,12 @@ module _ {terms : List Meaning} {n : ℕ} {sizes : List ℤ} (fit : AreTerms n t
     turn_ratio = ratio_of_worths terms n sizes low high slope.num slope.den fit are.places are.positive
         low_places wl wh gap slope.lowest same
 
-    module _ {found : List Bool} (least : IsLeast terms n slope.den (sized_shift sizes slope.num) found) where
+    module _ {found : List Bool}
+        (near : IsLeastNear terms n sizes slope.num slope.den low.size found) where
+      -- as large as the lower set, it is the least minimiser
+      least_here : size found ≡ low.size → IsLeast terms n slope.den (sized_shift sizes slope.num) found
+      least_here e = ⊎_elim (λ least. least) (λ h. let l = h.larger in absurd (omega (arith, l, e))) near
+
       pub turn_next : size found ≡ low.size
           → IsLeast terms n slope.den (sized_shift sizes slope.num) low.set
           × IsGreatest terms n slope.den (sized_shift sizes slope.num) high.set
@@ -48,9 +55,9 @@ module _ {terms : List Meaning} {n : ℕ} {sizes : List ℤ} (fit : AreTerms n t
           let r = turn_ratio in
           let is : found ≡ low.set
           = gap_same terms n sizes fit are.places are.positive low.set high.set begun gap slope.num slope.den
-          r.positive r.even found least (e ∙ wl.size) in
+          r.positive r.even found (least_here e) (e ∙ wl.size) in
           let here : IsLeast terms n slope.den (sized_shift sizes slope.num) low.set
-          = subst (λ s. IsLeast terms n slope.den (sized_shift sizes slope.num) s) is least in (
+          = subst (λ s. IsLeast terms n slope.den (sized_shift sizes slope.num) s) is (least_here e) in (
             here,
             gap_greatest terms n sizes fit are.places are.positive low.set high.set begun gap slope.num
                 slope.den r.positive r.even here,
@@ -62,5 +69,18 @@ module _ {terms : List Meaning} {n : ℕ} {sizes : List ℤ} (fit : AreTerms n t
           → IsGap terms n sizes low.set found × IsGap terms n sizes found high.set
       turn_between ne =
           let r = turn_ratio in
-          gap_between terms n sizes fit are.places are.positive low.set high.set begun gap slope.num slope.den
-          r.positive r.even found least (λ e. ne (e ∙ sym wl.size))
+          ⊎_elim
+          (λ least. gap_between terms n sizes fit are.places are.positive low.set high.set begun gap slope.num
+          slope.den r.positive r.even found least (λ e. ne (e ∙ sym wl.size)))
+          (λ h. gap_larger terms n sizes fit are.places are.positive low.set high.set begun gap slope.num
+          slope.den r.positive r.even found
+          (subst (λ k. IsLargerBelow terms n sizes slope.num slope.den k found) wl.size h))
+          near
+
+      -- it has n places
+      pub near_places : length found ≡ n
+      near_places = ⊎_elim (λ least. least.minimiser.places) (λ h. h.least.minimiser.places) near
+
+      -- and is allowed
+      pub near_allowed : IsAllowed terms found
+      near_allowed = ⊎_elim (λ least. least.minimiser.allowed) (λ h. h.least.minimiser.allowed) near

@@ -1,13 +1,14 @@
 // One turn of the search for breakpoints between two sets, the lower of which is the set of the breakpoint before, or
 // empty. At the slope at which both sets are worth as much, the least minimiser is either the lower set: then the slope
 // is the next breakpoint, and the higher set is the greatest minimiser there. Or it lies strictly between them, and the
-// breakpoints are those below it and those above it.
+// breakpoints are those below it and those above it. The least minimiser at a lower slope does as well, where it is larger
+// than the lower set: it lies within the one at this slope.
 ghost use Rattle.std.specs.Prelude.{◌^◌, length, map, pos, ◌-ℤ◌, ◌≤ℤ◌, ◌<ℤ◌, IfOk, OnOk};
 ghost use Rattle.sfm_spec.specs.{Bounds.{IsGiven}, Families.{meanings}, Slopes.{IsSameSlope}};
 ghost use Rattle.sfm_sizes.specs.Sizes.{AreElementSizes};
 ghost use Rattle.sfm_slope.specs.{Gaps.{IsBegun, IsGap}, Searches.{IsSearch}, Worths.{IsWorth}, Turns.{IsTurn}};
 
-use crate::least::least_at;
+use crate::least::least_near;
 use crate::search::Search;
 use crate::worth::{Worth, worth_of};
 use sfm_base::{Memory, Set, Slope};
@@ -52,7 +53,7 @@ pub fn take_turn<T: Term>(
         (length sizes.now) sizes.now low.now.set high.now.set) }
 {
     let slope = slope_between(low, high);
-    let least = least_at(search, terms, sizes, slope)?;
+    let least = least_near(search, terms, sizes, slope, low.size)?;
     if least.size() == low.size {
         return Ok(Turn::Next(Breakpoint {
             slope,

@@ -1,7 +1,7 @@
 use Rattle.std.proofs.Common.{◌≡◌, sym, ◌∙◌}
 use Rattle.sfm_spec.specs.Sets.{size}
 use Rattle.sfm_exchange.proofs.ClaimedGraphs.{are_terms}
-use Rattle.sfm_slope.proofs.Turns.{turn_between, turn_next, turn_ratio, turn_weights}
+use Rattle.sfm_slope.proofs.Turns.{near_allowed, near_places, turn_between, turn_next, turn_ratio, turn_weights}
 use Rattle.sfm_slope.proofs.turn.take_turn.Goals as goal
 
 pub slope_between-slope-requires : goal.slope_between-slope-requires
@@ -18,8 +18,8 @@ slope_between-slope-requires g c =
       high_small = r.high_worth.small;
     }
 
-pub least_at-requires-clause-small : goal.least_at-requires-clause-small
-least_at-requires-clause-small g c =
+pub least_near-requires-clause-small : goal.least_near-requires-clause-small
+least_near-requires-clause-small g c =
     let m = g.met.T.Term in
     let r = c.requires in
     let fit = are_terms r.search.first m.family m.submodular in
@@ -38,7 +38,28 @@ returns-then-size-low-clause-turn g c =
     (turn_next fit r.sizes r.low_worth r.high_worth r.begun r.gap slope.result slope.ensures least same)
 
 pub worth_of-requires-clause-sizes : goal.worth_of-requires-clause-sizes
-worth_of-requires-clause-sizes g c = rw c.in_ok-least.ensures.least.minimiser.places c.requires.sizes
+worth_of-requires-clause-sizes g c =
+    let m = g.met.T.Term in
+    let r = c.requires in
+    let fit = are_terms r.search.first m.family m.submodular in
+    let slope = c.slope_between-slope in
+    rw (near_places fit r.sizes r.low_worth r.high_worth r.begun r.gap slope.result slope.ensures c.in_ok-least.ensures.least) r.sizes
+
+pub worth_of-requires-clause-bounded : goal.worth_of-requires-clause-bounded
+worth_of-requires-clause-bounded g c =
+    let m = g.met.T.Term in
+    let r = c.requires in
+    let fit = are_terms r.search.first m.family m.submodular in
+    let slope = c.slope_between-slope in
+    rw (near_places fit r.sizes r.low_worth r.high_worth r.begun r.gap slope.result slope.ensures c.in_ok-least.ensures.least) r.search.first.bounded
+
+pub worth_of-requires-clause-allowed : goal.worth_of-requires-clause-allowed
+worth_of-requires-clause-allowed g c =
+    let m = g.met.T.Term in
+    let r = c.requires in
+    let fit = are_terms r.search.first m.family m.submodular in
+    let slope = c.slope_between-slope in
+    near_allowed fit r.sizes r.low_worth r.high_worth r.begun r.gap slope.result slope.ensures c.in_ok-least.ensures.least
 
 pub returns-clause-turn : goal.returns-clause-turn
 returns-clause-turn g c =
