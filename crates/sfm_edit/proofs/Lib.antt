@@ -4,3 +4,4 @@ pub mod Reasons
 pub mod Keeping
 pub mod Alike
 pub mod OneEditing
+pub mod FirstBases

@@ -1,3 +1,4 @@
 pub mod Edits
 pub mod Origins
 pub mod EditLines
+pub mod Resuming
