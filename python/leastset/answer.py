@@ -1,0 +1,228 @@
+"""What an answer says, in the elements of its instance."""
+from __future__ import annotations
+
+import re
+from bisect import bisect_left, bisect_right
+from fractions import Fraction
+from typing import Dict, FrozenSet, Iterable, Iterator, List, Mapping, NamedTuple, Optional, Tuple, Union
+
+from .errors import Unreadable
+from .instance import Element, Instance
+from .texts import content, parts
+
+Slope = Union[int, float, Fraction]
+
+
+class Block(NamedTuple):
+    """Elements that come along whole or not at all, each time with the blocks that they need: places in `blocks`, from 0."""
+
+    members: FrozenSet[Element]
+    needs: FrozenSet[int]
+
+
+class Step(NamedTuple):
+    """A slope, the elements that come in there, all that are in from there on, and what these are worth. Elements are in the order
+    of the ground. The worth is None where they count by sizes that were not told."""
+
+    slope: Fraction
+    new: Tuple[Element, ...]
+    members: Tuple[Element, ...]
+    worth: Optional[Fraction]
+
+
+class Pinned(NamedTuple):
+    """The least value among the sets that keep to pins, and the smallest and the greatest of them that attain it."""
+
+    minimum: int
+    least: FrozenSet[Element]
+    greatest: FrozenSet[Element]
+
+
+LISTED = r"((?: [A-Za-z0-9_]+)*)"
+# The lines of an answer up to its proof, in their order: those of a word may stand there as often as is said.
+LINES = [
+    ("answer", re.compile("answer 1|weighed 1"), 1),
+    ("minimum", re.compile(r"minimum (-?[0-9]+)"), 1),
+    ("least", re.compile("least" + LISTED), 1),
+    ("greatest", re.compile("greatest" + LISTED), 1),
+    ("block", re.compile(f"block [0-9]+{LISTED} :((?: [0-9]+)*)"), None),
+    ("slope", re.compile(f"slope (-?[0-9]+/[1-9][0-9]*){LISTED}"), None),
+]
+PINNED = re.compile(rf"pinned 1\nminimum (-?[0-9]+)\nleast{LISTED}\ngreatest{LISTED}\nend\n")
+# What other texts begin with that are taken for answers.
+OTHERS = {
+    "": "the file is empty, or begins with a blank line",
+    "sfm": "this is an instance; an answer is what 'sfm solve' writes for it",
+    "valid": "this is a verdict and no answer",
+    "invalid": "this is a verdict and no answer",
+    "demo": "this is the line of 'sfm demo' and no answer",
+}
+
+
+class Answer:
+    """An answer text and what it says.
+
+    `instance` is what it answers, if its elements and its bases are to be told by more than names; `sizes` are those by which its
+    slopes count elements. Where the text is no answer there is `Unreadable`; whether it is the right one, `check` tells.
+
+    >>> text = "answer 1,minimum -3,least ash,greatest ash birch,block 1 birch :,slope -3/1 ash,slope 0/1 ash birch,at 0/1,.."
+    >>> answer = Answer(text.replace(",", chr(10)))
+    >>> answer.minimum, answer.least, answer.slope_of("birch")
+    (-3, frozenset({'ash'}), Fraction(0, 1))
+    >>> [sorted(best) for best in answer.minimisers()]
+    [['ash'], ['ash', 'birch']]
+    """
+
+    #: what the best sets are worth
+    minimum: int
+    #: the smallest best set
+    least: FrozenSet[Element]
+    #: the greatest best set
+    greatest: FrozenSet[Element]
+
+    def __init__(
+        self, text: str, instance: Union[Instance, str, None] = None, sizes: Optional[Mapping[Element, int]] = None
+    ) -> None:
+        #: the whole text, with its proof
+        self.text = text
+        #: the sizes that were told
+        self.sizes = sizes
+        #: what all best sets are made of: `least` and some blocks, each with all that it needs
+        self.blocks: List[Block] = []
+        #: for each slope what is in from there on
+        self.steps: List[Step] = []
+        self._elements = instance.elements() if isinstance(instance, Instance) else None
+        # the term lines as they are now, as an instance may get further ones
+        self._terms = tuple(instance.lines) if isinstance(instance, Instance) else instance
+        proof = text.find("\nat ") + 1
+        self._read((text[: text.find("\n", proof)] if proof else text).splitlines())
+        #: the elements in their order
+        self.ground: Tuple[Element, ...] = self.steps[-1].members if self.steps else ()
+        #: for each slope the greatest set that is best there
+        self.slopes: List[Tuple[Fraction, FrozenSet[Element]]] = [(it.slope, frozenset(it.members)) for it in self.steps]
+
+    def _read(self, lines: List[str]) -> None:
+        """Reads the lines up to the first one of the proof."""
+        at = 0
+        for word, form, most in LINES:
+            first = at
+            words = (word, "weighed") if word == "answer" else (word,)
+            while at < len(lines) and lines[at].split(" ")[0] in words and at - first != most:
+                found = form.fullmatch(lines[at])
+                if not found:
+                    raise Unreadable(at + 1, f"this is no {word} line of an answer" if at else _no_answer(word, lines))
+                self._take(word, found.groups())
+                at += 1
+            if most and at == first:
+                raise Unreadable(at + 1, _no_answer(word, lines))
+        if at == len(lines) or lines[at] != "at 0/1":
+            raise Unreadable(at + 1, "the proof of an answer is due here, and its first line is 'at 0/1'")
+
+    def _take(self, word: str, found: Tuple[str, ...]) -> None:
+        if word == "minimum":
+            self.minimum = int(found[0])
+        elif word == "least":
+            self.least = frozenset(self._listed(found[0]))
+        elif word == "greatest":
+            self.greatest = frozenset(self._listed(found[0]))
+        elif word == "block":
+            needs = frozenset(int(number) - 1 for number in found[1].split())
+            self.blocks.append(Block(frozenset(self._listed(found[0])), needs))
+        elif word == "slope":
+            self.steps.append(self._step(Fraction(found[0]), self._listed(found[1])))
+
+    def _listed(self, names: str) -> Tuple[Element, ...]:
+        found = names.split()
+        return tuple(found) if self._elements is None else tuple(self._elements[name] for name in found)
+
+    def _step(self, slope: Fraction, members: Tuple[Element, ...]) -> Step:
+        """The step at a slope. What its set is worth follows from the one before: each new element adds the slope, by its size."""
+        before = self.steps[-1] if self.steps else Step(slope, (), (), Fraction(0))
+        seen = set(before.members)
+        new = tuple(element for element in members if element not in seen)
+        if before.worth is None or (self.sizes is None and self.text.startswith("weighed")):
+            return Step(slope, new, members, None)
+        count = len(new) if self.sizes is None else sum(self.sizes.get(element, 1) for element in new)
+        return Step(slope, new, members, before.worth + slope * count)
+
+    def __repr__(self) -> str:
+        counts = f"{len(self.least)} to {len(self.greatest)} elements, {len(self.slopes)} slopes"
+        return f"<Answer minimum {self.minimum}, {counts}>"
+
+    def in_order(self, elements: Iterable[Element]) -> List[Element]:
+        """These elements in the order of the ground."""
+        chosen = frozenset(elements)
+        return [element for element in self.ground if element in chosen]
+
+    def minimisers(self) -> Iterator[FrozenSet[Element]]:
+        """All best sets, one after another, `least` first; there may be very many."""
+        open_ends: List[Tuple[int, FrozenSet[Element], FrozenSet[int]]] = [(0, self.least, frozenset())]
+        while open_ends:
+            place, members, taken = open_ends.pop()
+            if place == len(self.blocks):
+                yield members
+                continue
+            block = self.blocks[place]
+            if block.needs <= taken:
+                open_ends.append((place + 1, members | block.members, taken | {place}))
+            open_ends.append((place + 1, members, taken))
+
+    def greatest_at(self, slope: Slope) -> FrozenSet[Element]:
+        """The greatest best set where each element is cheaper by the slope, by its size where sizes were told."""
+        place = bisect_right([at for at, _ in self.slopes], slope)
+        return self.slopes[place - 1][1] if place else frozenset()
+
+    def least_at(self, slope: Slope) -> FrozenSet[Element]:
+        """The smallest such set: at a slope of `slopes` that of the one before, elsewhere the same as the greatest."""
+        place = bisect_left([at for at, _ in self.slopes], slope)
+        return self.slopes[place - 1][1] if place else frozenset()
+
+    def slope_of(self, element: Element) -> Fraction:
+        """The slope at which an element comes in: how much cheaper it and all others must get until it belongs to a best set."""
+        for step in self.steps:
+            if element in step.new:
+                return step.slope
+        raise ValueError(f"{element!r} is no element of this instance")
+
+    def bases(self, slope: Slope = 0) -> List[Dict[Element, int]]:
+        """The proof at a slope, 0 or one of `slopes`: for each term its base, a number for each of its elements.
+
+        At p/q no set bears more in the base of a term than it is worth to q times that term. So the negative ones of the sums at
+        each element, less p each, add to a bound on q times what any set is worth less p for each element, and that is attained.
+        """
+        if self._terms is None:
+            raise ValueError("bases are told by the elements of terms: read the answer with its instance")
+        ratio = Fraction(slope)
+        lines = self.text.splitlines()
+        try:
+            start = lines.index(f"at {ratio.numerator}/{ratio.denominator}") + 1
+        except ValueError:
+            raise ValueError(f"{slope} is neither 0 nor a slope of this answer") from None
+        terms = content(self._terms)[2:-1] if isinstance(self._terms, str) else self._terms
+        found = []
+        for term, line in zip(terms, lines[start : start + len(terms)]):
+            elements = self._listed(" ".join(parts(term)[1]))
+            found.append(dict(zip(elements, map(int, line.split(" ")[2:]))))
+        return found
+
+
+def _no_answer(due: str, lines: List[str]) -> str:
+    """What is wrong where the line of a word is due and another one stands there, or none."""
+    if due != "answer":
+        return f"a line '{due} ..' is due here; has the answer been cut off?"
+    first = lines[0] if lines else ""
+    if first.startswith("refused"):
+        return f"this is a refusal and no answer: {first}"
+    return OTHERS.get(first.split(" ")[0], "this is no answer: its first line is not 'answer 1', nor 'weighed 1'")
+
+
+def pinned(text: str, instance: Union[Instance, str, None] = None) -> Optional[Pinned]:
+    """What a text on pins says; None where it says that no set keeps to them."""
+    if text == "none\n":
+        return None
+    found = PINNED.fullmatch(text)
+    if not found:
+        raise Unreadable(1, "this is no text on pins")
+    elements = instance.elements() if isinstance(instance, Instance) else {}
+    least, greatest = (frozenset(elements.get(name, name) for name in names.split()) for names in found.groups()[1:])
+    return Pinned(int(found[1]), least, greatest)

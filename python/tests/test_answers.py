@@ -1,0 +1,108 @@
+"""Tests of what answers tell: it is what is found by trying every set."""
+import importlib.util
+import random
+import tempfile
+import unittest
+from fractions import Fraction
+
+from common import ENGINES, Test, every_set, random_instance
+import leastset
+from leastset import models
+
+
+def of(instance, chosen):
+    """The set that a number stands for in every_set.py."""
+    return frozenset(element for place, element in enumerate(instance.ground) if every_set.has(chosen, place))
+
+
+class Answers(Test):
+    def test_answers_are_as_found_by_every_set(self):
+        rng = random.Random(2)
+        for _ in range(60):
+            made = random_instance(rng)
+            with tempfile.NamedTemporaryFile("w", suffix=".sfm") as file:
+                file.write(made.text())
+                file.flush()
+                _, values = every_set.read_instance(file.name)
+            sizes = {element: rng.randint(1, 5) for element in made.ground}
+            for engine in ENGINES:
+                leastset.use(engine)
+                self.compare(made, values, leastset.solve(made), {})
+                self.compare(made, values, leastset.weigh(made, sizes), sizes)
+                self.compare_pins(made, values, rng.choice(made.ground), rng.choice(made.ground))
+                by_text = leastset.solve(made.text())
+                self.assertEqual([made.elements()[name] for name in by_text.ground], list(made.ground))
+                self.assertEqual(len(by_text.bases()), len(made.lines))
+
+    def compare(self, made, values, answer, sizes):
+        least, best = every_set.least_of(values)
+        self.assertEqual((answer.minimum, answer.ground), (least, made.ground))
+        self.assertEqual((answer.least, answer.greatest), (of(made, every_set.all_of(best)), of(made, every_set.any_of(best))))
+        found = list(answer.minimisers())
+        self.assertEqual((set(found), len(found), found[0]), ({of(made, it) for it in best}, len(best), answer.least))
+        weights = [sum(sizes.get(element, 1) for element in of(made, chosen)) for chosen in range(len(values))]
+        self.assertEqual(answer.slopes, [(slope, of(made, it)) for slope, it in every_set.slopes_of(values, weights)])
+        for slope in {at + shift for at, _ in answer.slopes for shift in (0, Fraction(1, 97), Fraction(-1, 97))}:
+            _, best = every_set.least_of([None if it is None else it - slope * weights[i] for i, it in enumerate(values)])
+            self.assertEqual(answer.greatest_at(slope), of(made, every_set.any_of(best)))
+            self.assertEqual(answer.least_at(slope), of(made, every_set.all_of(best)))
+        for slope in (0, *(at for at, _ in answer.slopes)):
+            p, q = Fraction(slope).numerator, Fraction(slope).denominator
+            sums = {e: sum(base.get(e, 0) for base in answer.bases(slope)) - p * sizes.get(e, 1) for e in made.ground}
+            bound, _ = every_set.least_of([None if it is None else q * it - p * weights[i] for i, it in enumerate(values)])
+            self.assertEqual(sum(min(0, it) for it in sums.values()), bound)
+        for step in answer.steps:
+            self.assertEqual(step.worth, min(it for i, it in enumerate(values) if of(made, i) == set(step.members)))
+            self.assertTrue(all(answer.slope_of(element) == step.slope for element in step.new))
+
+    def compare_pins(self, made, values, inside, outside):
+        asked = leastset.ask(made, [inside], [outside])
+        worths = [value if inside in of(made, i) and outside not in of(made, i) else None for i, value in enumerate(values)]
+        if all(it is None for it in worths):
+            self.assertIsNone(asked)
+        else:
+            least, best = every_set.least_of(worths)
+            self.assertEqual(asked, (least, of(made, every_set.all_of(best)), of(made, every_set.any_of(best))))
+
+    def test_a_wrong_answer_is_invalid(self):
+        made = leastset.Instance("ab")
+        made.weight({"a": -5, "b": 2})
+        text = leastset.solve(made).text.replace("minimum -5", "minimum -6")
+        for engine in ENGINES:
+            leastset.use(engine)
+            with self.assertRaises(leastset.Invalid) as caught:
+                leastset.check(made, text)
+            self.assertEqual((caught.exception.line, caught.exception.reason), (2, "answer"))
+
+    def test_many_best_sets_come_one_after_another(self):
+        best = leastset.solve(leastset.Instance(range(256))).minimisers()
+        self.assertEqual([next(best), len(next(best)), len(next(best))], [frozenset(), 1, 1])
+
+
+class Models(Test):
+    @unittest.skipUnless(importlib.util.find_spec("numpy"), "there is no numpy")
+    def test_a_picture_of_numpy(self):
+        import numpy
+
+        greys = numpy.array([[9, 8, 0], [9, 4, 1], [8, 9, 9]], dtype=numpy.uint8)
+        self.assertEqual(models.segmentation(greys, numpy.uint8(5), 2).least, {(0, 2), (1, 2)})
+
+    @unittest.skipUnless(importlib.util.find_spec("networkx"), "there is no networkx")
+    def test_graphs_of_networkx(self):
+        import networkx
+
+        self.assertEqual(models.strength(networkx.petersen_graph()).strength, Fraction(5, 3))
+        club = networkx.karate_club_graph()
+        self.assertEqual(models.densest_part(club), models.densest_part(club.edges(data="weight")))
+        self.assertEqual(models.closure({"mill": 9, "dam": -6}, networkx.DiGraph([("mill", "dam")])).gain, 3)
+
+    def test_graphs_of_such_a_form(self):
+        class Graph:
+            nodes = ["a", "b", "c"]
+
+            def edges(self, data=None, default=None):
+                return [("a", "b", 3)] if data else [("a", "b")]
+
+        self.assertEqual(models.densest_part(Graph()), (Fraction(3, 2), {"a", "b"}))
+        self.assertEqual(models.closure({"a": 3, "b": -1}, Graph()), (2, {"a", "b"}))
+        self.assertRaises(ValueError, models.strength, [("a", "a")])
