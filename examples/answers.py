@@ -1,187 +1,101 @@
-"""What the scripts beside this file share: to run `sfm` on an instance, and to read what its answer says before the proof.
+"""What the scripts beside this file share over the package `leastset` of ../python: to solve by the program, to keep the texts that it
+is given, and to say in one line what is wrong.
 
 The program is `sfm` on the path, or the one that the environment variable SFM names.
 """
 import os
-import re
-import subprocess
-import tempfile
-from collections import namedtuple
-from fractions import Fraction
+import sys
+from contextlib import contextmanager
 
-from faults import Stop, fault, name_of, read_text, write_text
+from faults import Stop, fault, read_text, write_text
 
-Block = namedtuple("Block", "names needs")
-# What `sfm ask` says: the least value, and the extreme sets that attain it, each as a list of names.
-Asked = namedtuple("Asked", "minimum least greatest")
-# One slope: where it is, the names that come in there, the whole set from there on, and what that set is worth.
-Step = namedtuple("Step", "slope new names value")
+sys.path.insert(0, os.path.join(os.path.dirname(os.path.abspath(__file__)), "..", "python"))
+import leastset  # noqa: E402
+from leastset import texts  # noqa: E402
+from leastset.answer import pinned  # noqa: E402
 
-LISTED = r"((?: [A-Za-z0-9_]+)*)"
-# The lines of an answer up to its proof, in their order: those of a word may stand there as often as is said.
-LINES = [
-    ("answer", re.compile("answer 1|weighed 1"), 1),
-    ("minimum", re.compile(r"minimum (-?[0-9]+)"), 1),
-    ("least", re.compile("least" + LISTED), 1),
-    ("greatest", re.compile("greatest" + LISTED), 1),
-    ("block", re.compile(f"block [0-9]+{LISTED} :((?: [0-9]+)*)"), None),
-    ("slope", re.compile(f"slope (-?[0-9]+/[1-9][0-9]*){LISTED}"), None),
-]
-# Answers to `sfm solve` begin with the one word, those to `sfm weigh` with the other.
-SAME = {"answer": "weighed"}
+PROGRAM = leastset.Program(os.environ.get("SFM", "sfm"))
+leastset.use(PROGRAM)
 
 
-class Answer:
-    """The answer lines of an answer text: minimum, least, greatest, blocks and steps. Slopes count elements by their sizes, where
-    the answer is one to `sfm weigh`; an element that has none counts as 1."""
-
-    def __init__(self, text, path="the answer", sizes=None):
-        self.sizes = sizes or {}
-        # whether the values of steps are known: they are not where slopes count by sizes that were not told
-        self.counted = sizes is not None or not text.startswith("weighed")
-        self.minimum, self.least, self.greatest = 0, [], []
-        self.blocks, self.steps = [], []
-        lines = text.splitlines()
-        at = 0
-        for word, form, count in LINES:
-            first = at
-            while at < len(lines) and lines[at].split(" ")[0] in (word, SAME.get(word)) and at - first != count:
-                found = form.fullmatch(lines[at])
-                if not found:
-                    what = f"this is no {word} line of an answer" if at else no_answer(word, lines, at)
-                    raise fault(path, at + 1, what)
-                self.take(word, found.groups())
-                at += 1
-            if count and at == first:
-                raise fault(path, at + 1, no_answer(word, lines, at))
-        if at == len(lines) or lines[at] != "at 0/1":
-            raise fault(path, at + 1, "the proof of an answer is due here, and its first line is 'at 0/1'")
-
-    def take(self, word, found):
-        if word == "minimum":
-            self.minimum = int(found[0])
-        elif word == "least":
-            self.least = found[0].split()
-        elif word == "greatest":
-            self.greatest = found[0].split()
-        elif word == "block":
-            self.blocks.append(Block(found[0].split(), [int(number) for number in found[1].split()]))
-        elif word == "slope":
-            self.steps.append(self.next_step(Fraction(found[0]), found[1].split()))
-
-    def next_step(self, slope, names):
-        """The step at a slope. What its set is worth follows from the one before: each new element adds the slope, by its size."""
-        before, value = (self.steps[-1].names, self.steps[-1].value) if self.steps else ([], 0)
-        seen = set(before)
-        new = [name for name in names if name not in seen]
-        return Step(slope, new, names, value + slope * sum(self.sizes.get(name, 1) for name in new))
-
-    def slope_of(self):
-        """For each element the slope at which it comes in."""
-        return {name: step.slope for step in self.steps for name in step.new}
+@contextmanager
+def stopped(word):
+    """What ends a call of the program for a word other than well ends the script, with the same code."""
+    try:
+        yield
+    except leastset.NoEngine as error:
+        raise Stop(3, f"{error}; put sfm on the path, or name it by SFM")
+    except leastset.OutOfMemory:
+        raise Stop(5, f"sfm {word} ends with 5: ")
+    except leastset.Failed as error:
+        raise Stop(error.code if error.code > 0 else 70, f"sfm {word} ends with {error.code}: ")
+    except leastset.Invalid as error:
+        raise Stop(1, f"sfm {word} ends with 1: {error.said}")
+    except leastset.Refused as error:
+        raise Stop(2, f"sfm {word} ends with 2: {error.said}")
 
 
-def no_answer(due, lines, at):
-    """What is wrong where the line of a word is due and another one stands there, or none."""
-    if due != "answer":
-        return f"a line '{due} ..' is due here; has the answer been cut off?"
-    word = lines[at].split(" ")[0] if lines else ""
-    known = {
-        "": "the file is empty, or begins with a blank line",
-        "refused": f"this is a refusal and no answer: {lines[at] if lines else ''}",
-        "sfm": "this is an instance; an answer is what 'sfm solve' writes for it",
-        "valid": "this is a verdict and no answer",
-        "invalid": "this is a verdict and no answer",
-        "demo": "this is the line of 'sfm demo' and no answer",
-    }
-    return known.get(word, "this is no answer: its first line is not 'answer 1', nor 'weighed 1'")
+@contextmanager
+def read_of(path):
+    """A text that is not of its form is a fault of the file."""
+    try:
+        yield
+    except leastset.Unreadable as error:
+        raise fault(path, error.line, error.what)
 
 
 def read_sizes(path):
     """The sizes that a text of sizes gives, by names of elements."""
-    sizes = {}
-    for number, line in enumerate(read_text(path).splitlines(), 1):
-        word, *pairs = line.split() or ["#"]
-        for pair in pairs if word == "size" else []:
-            if not re.fullmatch(r"[A-Za-z0-9_]+:[1-9][0-9]*", pair):
-                raise fault(path, number, f"{pair!r} is no pair name:size")
-            name, size = pair.split(":")
-            sizes[name] = int(size)
-    return sizes
+    with read_of(path):
+        return texts.read_sizes(read_text(path))
 
 
 def read_pins(path):
     """The names that a text of pins holds in, and those that it holds out."""
-    pins = {"in": [], "out": []}
-    for number, line in enumerate(read_text(path).splitlines(), 1):
-        word, *names = line.split() or ["#"]
-        for name in names if word in pins else []:
-            pins[word].append(name_of(path, number, name))
-    return pins["in"], pins["out"]
+    with read_of(path):
+        return texts.read_pins(read_text(path))
 
 
-def run(*words):
-    """Runs the program, and gives its exit code and what it printed."""
-    program = os.environ.get("SFM", "sfm")
-    try:
-        done = subprocess.run([program, *words], stdout=subprocess.PIPE, text=True)
-    except OSError as error:
-        raise Stop(3, f"{program}: {error.strerror}; put sfm on the path, or name it by SFM")
-    return done.returncode, done.stdout
+def read_answer(path, sizes=None):
+    """The answer in a file. Where it is one to `sfm weigh`, what its sets are worth follows from the sizes."""
+    with read_of(path):
+        return leastset.Answer(read_text(path), sizes=sizes)
 
 
 def run_well(*words):
     """Runs the program, and gives what it printed. It has to end with 0."""
-    code, text = run(*words)
-    if code != 0:
-        raise Stop(code if code > 0 else 70, f"sfm {words[0]} ends with {code}: {text.strip()}")
+    with stopped(words[0]):
+        code, said = PROGRAM.run(*words)
+        text = said.decode("ascii")
+        if code != 0:
+            raise Stop(code, f"sfm {words[0]} ends with {code}: {text.strip()}")
     return text
 
 
-def solve(lines, keep=None, sizes=None):
-    """Solves the instance of these lines, has the answer checked, and reads it. The instance is kept in the file `keep`. Where there
-    are sizes of elements, slopes count by these."""
-    with tempfile.TemporaryDirectory() as folder:
-        instance, answer = keep or os.path.join(folder, "instance.sfm"), os.path.join(folder, "answer")
-        write_text(instance, "\n".join(lines) + "\n")
-        files = [instance]
+def solve(instance, keep=None, sizes=None):
+    """The answer to an instance, which was judged. The instance is kept in the file `keep`. Where there are sizes of elements, slopes
+    count by these; they are kept beside the instance."""
+    if keep:
+        write_text(keep, instance.text())
         if sizes:
-            files.append(instance + ".sizes")
-            pairs = [f"{name}:{size}" for name, size in sizes.items()]
-            write_text(files[1], "\n".join(["sizes 1", "size " + " ".join(pairs), "end"]) + "\n")
-        text = run_well("weigh" if sizes else "solve", *files)
-        write_text(answer, text)
-        run_well("weighed" if sizes else "check", *files, answer)
-    return Answer(text, sizes=sizes)
+            write_text(keep + ".sizes", texts.sizes_text(sizes))
+    with stopped("weigh" if sizes else "solve"):
+        return leastset.weigh(instance, sizes) if sizes else leastset.solve(instance)
 
 
 def ask(instance, inside, outside, keep=None):
-    """What `sfm ask` says of the instance in a file, over the sets that have the names of the one list and none of the other; None
-    where there is no such set. The text of pins is kept in the file `keep`."""
-    lines = ["pins 1", *(" ".join([word, *names]) for word, names in (("in", inside), ("out", outside)) if names), "end"]
-    with tempfile.TemporaryDirectory() as folder:
-        pins = keep or os.path.join(folder, "pins")
-        write_text(pins, "\n".join(lines) + "\n")
-        text = run_well("ask", instance, pins)
-    return asked_of(text)
+    """What is least among the sets that have the names of the one list and none of the other; None where there is no such set. The
+    instance and its pins are kept in the files `keep` and `keep`.pins."""
+    if keep:
+        write_text(keep, instance.text())
+        write_text(keep + ".pins", texts.pins_text(inside, outside))
+    with stopped("ask"):
+        return leastset.ask(instance, inside, outside)
 
 
-def ask_lines(lines, inside, outside, keep=None):
-    """What `sfm ask` says of the instance of these lines. The instance is kept in the file `keep`, and its pins beside it."""
-    with tempfile.TemporaryDirectory() as folder:
-        instance = keep or os.path.join(folder, "instance.sfm")
-        write_text(instance, "\n".join(lines) + "\n")
-        return ask(instance, inside, outside, instance + ".pins")
-
-
-def asked_of(text):
-    """What a text on pins says: None where it says that there is no set."""
-    if text == "none\n":
-        return None
-    found = re.fullmatch(rf"pinned 1\nminimum (-?[0-9]+)\nleast{LISTED}\ngreatest{LISTED}\nend\n", text)
-    if not found:
-        raise Stop(70, "sfm ask prints what is no text on pins")
-    return Asked(int(found[1]), found[2].split(), found[3].split())
+def asked_of(path, pins):
+    """What is least for the instance in a file, among the sets that keep to the pins in another."""
+    return pinned(run_well("ask", path, pins))
 
 
 def in_lines(names, width=100, indent="    "):

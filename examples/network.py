@@ -15,7 +15,7 @@ import re
 import sys
 from collections import namedtuple
 
-from answers import in_lines, solve
+from answers import in_lines, leastset, solve
 from faults import MOST_NAMES, fault, name_of, read_text, run_main, whole_of, write_text
 
 SIZE = 460
@@ -82,9 +82,10 @@ def sizes_of(edges):
 
 def instance(edges):
     """The edges are the elements e1, e2 and so on of one graphic rank."""
-    names = [name(place) for place in range(len(edges))]
-    entries = [f"{name(place)}={edge.u}-{edge.v}" for place, edge in enumerate(edges)]
-    return ["sfm 1", "ground " + " ".join(names), "rank 1 graphic : " + " ".join(entries), "end"]
+    links = {name(place): (edge.u, edge.v) for place, edge in enumerate(edges)}
+    network = leastset.Instance(links)
+    network.rank_graphic(1, links)
+    return network
 
 
 def joined(edges):
@@ -105,7 +106,7 @@ def parts(edges, answer):
     found, known = [], []
     for step in answer.steps:
         new = [edges[int(it[1:]) - 1] for it in step.new]
-        pieces = joined([edges[int(it[1:]) - 1] for it in step.names])
+        pieces = joined([edges[int(it[1:]) - 1] for it in step.members])
         found.append((step.slope, new, [piece for piece in pieces if piece not in known]))
         known = pieces
     return found

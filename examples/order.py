@@ -16,7 +16,7 @@ import sys
 from collections import namedtuple
 from fractions import Fraction
 
-from answers import in_lines, solve
+from answers import in_lines, leastset, solve
 from faults import MOST_NAMES, fault, name_of, run_main, whole_of, write_text
 from projects import axis, read_rows, rounded
 
@@ -70,10 +70,12 @@ def refuse_circles(path, jobs, lines):
 
 
 def instance(jobs):
-    lines = ["sfm 1", "ground " + " ".join(jobs)]
-    lines.append("weight " + " ".join(f"{name}:{-job.waiting}" for name, job in jobs.items()))
-    lines += [f"need {name} {other}" for name, job in jobs.items() for other in job.after]
-    return [*lines, "end"]
+    order = leastset.Instance(jobs)
+    order.weight({name: -job.waiting for name, job in jobs.items()})
+    for name, job in jobs.items():
+        for other in job.after:
+            order.need(name, other)
+    return order
 
 
 def best_order(jobs, names, start):

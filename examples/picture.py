@@ -18,7 +18,7 @@ import re
 import sys
 from collections import namedtuple
 
-from answers import ask_lines, solve
+from answers import ask, leastset, solve
 from faults import MOST_NAMES, Stop, fault, read_bytes, run_main, write_text
 
 # The kind of a PGM, its width, height and greatest grey; a comment goes from # to the end of a line.
@@ -81,13 +81,13 @@ def instance(rows, options):
     """A weight for each pixel, and for each two neighbours a concave line that costs BORDER where it has one of the two."""
     sign = -1 if options.bright else 1
     places = [(r, c) for r in range(len(rows)) for c in range(len(rows[0]))]
-    lines = ["sfm 1", "ground " + " ".join(name(*place) for place in places)]
-    lines.append("weight " + " ".join(f"{name(r, c)}:{sign * (rows[r][c] - options.level)}" for r, c in places))
+    picture = leastset.Instance(name(*place) for place in places)
+    picture.weight({name(r, c): sign * (rows[r][c] - options.level) for r, c in places})
     for r, c in places:
         for r2, c2 in ((r, c + 1), (r + 1, c)):
             if r2 < len(rows) and c2 < len(rows[0]):
-                lines.append(f"concave {options.border} 0 : {name(r, c)} {name(r2, c2)}")
-    return [*lines, "end"]
+                picture.border(options.border, name(r, c), name(r2, c2))
+    return picture
 
 
 def pixels_of(strokes, rows):
@@ -106,14 +106,14 @@ def pixels_of(strokes, rows):
     return sorted(places)
 
 
-def held_by(rows, lines, options):
-    """The pixels on the strokes, and what is least for these lines among the sets that keep to them. There always is such a set, as
-    a picture has no needs."""
+def held_by(rows, picture, options):
+    """The pixels on the strokes, and what is least among the sets that keep to them. There always is such a set, as a picture has no
+    needs."""
     inside, outside = pixels_of(options.inside, rows), pixels_of(options.outside, rows)
     for row, column in inside:
         if (row, column) in outside:
             raise Stop(2, f"the pixel {row},{column} is held in and held out")
-    asked = ask_lines(lines, [name(*place) for place in inside], [name(*place) for place in outside], options.instance)
+    asked = ask(picture, [name(*place) for place in inside], [name(*place) for place in outside], options.instance)
     return Held(inside, outside, asked)
 
 
@@ -154,7 +154,7 @@ def marks(left, places, colour):
 def draw(rows, answer, held):
     """An SVG of three panels: the picture, the least set, and the slope at which each pixel comes in. With strokes: the picture with
     these, the least set, and the least one of those that keep to them."""
-    slopes, least = answer.slope_of(), set(answer.least)
+    slopes, least = {pixel: answer.slope_of(pixel) for pixel in answer.ground}, answer.least
     low, high = min(slopes.values()), max(slopes.values())
     width, height = len(rows[0]) * CELL, len(rows) * CELL
     lefts = [8 + i * (width + GAP) for i in range(3)]
@@ -207,10 +207,10 @@ def main():
     if not 0 <= options.border <= 10**12 or abs(options.level) > 10**9:
         parser.error("--border is from 0 to 10^12, and --level within 10^9 either way")
     rows = read_pgm(options.picture)
-    lines = instance(rows, options)
-    held = held_by(rows, lines, options) if options.inside or options.outside else None
-    answer = solve(lines, options.instance)
-    least = set(held.asked.least if held else answer.least)
+    picture = instance(rows, options)
+    held = held_by(rows, picture, options) if options.inside or options.outside else None
+    answer = solve(picture, options.instance)
+    least = held.asked.least if held else answer.least
     for r, row in enumerate(rows):
         print("".join("#" if name(r, c) in least else "." for c in range(len(row))))
     pixels = f"{len(least)} of {len(rows) * len(rows[0])} pixels"

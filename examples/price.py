@@ -16,8 +16,8 @@ without an element that the greatest best set lacks.
 import argparse
 import sys
 
-from answers import ask, asked_of, read_pins, run_well
-from faults import read_text, run_main
+from answers import ask, asked_of, read_pins
+from faults import read_bytes, run_main
 
 
 def ground_of(text):
@@ -30,12 +30,12 @@ def value_of(asked):
     return None if asked is None else asked.minimum
 
 
-def values_of(path, name, best, inside, outside):
+def values_of(instance, name, best, inside, outside):
     """The least value with the element in, and with it out; None where there is no such set."""
     if name in best.least:
-        return best.minimum, value_of(ask(path, inside, [*outside, name]))
+        return best.minimum, value_of(ask(instance, inside, [*outside, name]))
     if name not in best.greatest:
-        return value_of(ask(path, [*inside, name], outside)), best.minimum
+        return value_of(ask(instance, [*inside, name], outside)), best.minimum
     return best.minimum, best.minimum
 
 
@@ -54,19 +54,19 @@ def main():
     parser.add_argument("file", help="an instance")
     parser.add_argument("pins", nargs="?", help="a text of pins, which hold throughout")
     options = parser.parse_args()
-    text = read_text(options.file)
+    instance = read_bytes(options.file).decode("utf-8", "surrogateescape")
     if options.pins:
         held = read_pins(options.pins)
-        best = asked_of(run_well("ask", options.file, options.pins))
+        best = asked_of(options.file, options.pins)
     else:
         held = [], []
-        best = ask(options.file, *held)
+        best = ask(instance, *held)
     if best is None:
         print("none")
         return
-    free = [name for name in ground_of(text) if name not in held[0] and name not in held[1]]
+    free = [name for name in ground_of(instance) if name not in held[0] and name not in held[1]]
     print(f"least value {best.minimum}")
-    print("\n".join(table([(name, *values_of(options.file, name, best, *held)) for name in free])))
+    print("\n".join(table([(name, *values_of(instance, name, best, *held)) for name in free])))
 
 
 if __name__ == "__main__":

@@ -13,7 +13,7 @@ import math
 import sys
 from collections import namedtuple
 
-from answers import in_lines, solve
+from answers import in_lines, leastset, solve
 from faults import MOST_NAMES, fault, name_of, read_text, run_main, whole_of, write_text
 
 COLUMNS = ("name", "cost", "worth", "needs")
@@ -69,16 +69,18 @@ def read_projects(path):
 
 def instance(projects):
     """A project weighs its cost less its worth, and a choice that has it has what it needs."""
-    lines = ["sfm 1", "ground " + " ".join(projects)]
-    lines.append("weight " + " ".join(f"{name}:{it.cost - it.worth}" for name, it in projects.items()))
-    lines += [f"need {name} {other}" for name, it in projects.items() for other in it.needs]
-    return [*lines, "end"]
+    choice = leastset.Instance(projects)
+    choice.weight({name: it.cost - it.worth for name, it in projects.items()})
+    for name, it in projects.items():
+        for other in it.needs:
+            choice.need(name, other)
+    return choice
 
 
 def curve(projects, answer):
     """For each slope: the slope, and what the choice from there on costs and is worth."""
     return [
-        (step.slope, sum(projects[name].cost for name in step.names), sum(projects[name].worth for name in step.names))
+        (step.slope, sum(projects[name].cost for name in step.members), sum(projects[name].worth for name in step.members))
         for step in answer.steps
     ]
 
@@ -89,9 +91,9 @@ def tell(projects, answer):
     cost, worth = sum(it.cost for it in chosen), sum(it.worth for it in chosen)
     lines = [f"{len(projects)} projects, {len(answer.steps)} slopes"]
     lines.append(f"best: {len(chosen)} projects for {cost}, worth {worth}, gain {-answer.minimum}")
-    lines.append(in_lines(answer.least))
+    lines.append(in_lines(answer.in_order(answer.least)))
     for step in [step for step in answer.steps if step.slope > 0][:3]:
-        lines.append(f"with a bounty of {step.slope} for each: {len(step.new)} more, gain without it {-step.value}")
+        lines.append(f"with a bounty of {step.slope} for each: {len(step.new)} more, gain without it {-step.worth}")
         lines.append(in_lines(step.new))
     return lines
 

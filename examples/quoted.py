@@ -92,7 +92,7 @@ def run_document(folder, document):
     quotes = read_quotes(os.path.join(folder, document))
     wrong = 0
     with tempfile.TemporaryDirectory() as copy:
-        for name in ("README.md", "docs", "examples", "bench"):
+        for name in ("README.md", "docs", "examples", "bench", "python"):
             source, target = os.path.join(folder, name), os.path.join(copy, name)
             (shutil.copytree if os.path.isdir(source) else shutil.copy)(source, target)
         for quote in quotes:

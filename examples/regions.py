@@ -14,7 +14,7 @@ import sys
 from collections import Counter, namedtuple
 from fractions import Fraction
 
-from answers import solve
+from answers import leastset, solve
 from faults import MOST_NAMES, run_main, write_text
 from picture import legend, mixed, read_pgm
 
@@ -84,11 +84,11 @@ def borders_of(rows, regions):
 def instance(rows, regions, options):
     """A weight for each region, and for each border a concave line that costs its length times BORDER where it parts the two."""
     sign = -1 if options.bright else 1
-    weights = [f"{name(region)}:{sign * sum(rows[r][c] - options.level for r, c in pixels_of(region))}" for region in regions]
-    lines = ["sfm 1", "ground " + " ".join(map(name, regions)), "weight " + " ".join(weights)]
+    picture = leastset.Instance(map(name, regions))
+    picture.weight({name(region): sign * sum(rows[r][c] - options.level for r, c in pixels_of(region)) for region in regions})
     for (one, other), length in borders_of(rows, regions):
-        lines.append(f"concave {length * options.border} 0 : {name(one)} {name(other)}")
-    return [*lines, "end"]
+        picture.border(length * options.border, name(one), name(other))
+    return picture
 
 
 def photograph(rows, left, top, cell):
@@ -117,7 +117,7 @@ def panel(regions, left, top, cell, colour):
 def draw(rows, regions, answer):
     """An SVG of three panels: the picture, the least set, and the slope at which each region comes in."""
     cell = max(2, 256 // max(len(rows), len(rows[0])) // 2 * 2)
-    slopes, least = answer.slope_of(), set(answer.least)
+    slopes, least = {element: answer.slope_of(element) for element in answer.ground}, answer.least
     low, high = min(slopes.values()), max(slopes.values())
     width, height, top = len(rows[0]) * cell, len(rows) * cell, 24
     lefts = [8 + i * (width + GAP) for i in range(3)]

@@ -1,8 +1,8 @@
 #!/usr/bin/env bash
 # run.sh: runs each command that README.md, docs/GUIDE.md, docs/FORMATS.md and docs/sfm.1 quote, each script of this folder, also on
 # files that it can't take, and each instance, and compares what they print and draw with what is stored; then c/test.sh, where a C
-# compiler and the archive of the library are there. The program is `sfm` on the path, or the one that SFM names. Nothing in the
-# repository is changed. With --write what is stored (expected/ and pictures/) is written anew.
+# compiler and the archive of the library are there, and python/test.sh. The program is `sfm` on the path, or the one that SFM names.
+# Nothing in the repository is changed. With --write what is stored (expected/ and pictures/) is written anew.
 # The commands that build the program stand in README.md without a prompt, and are not run.
 here=$(cd "$(dirname "$0")" && pwd)
 top=$(dirname "$here")
@@ -119,6 +119,11 @@ if command -v "${CC:-cc}" >"$work/difference" && [ -e "$top/crates/sfm_c/out/lib
   bash "$top/c/test.sh" || failed=1
 else
   echo "c/test.sh: passed over, as there is no C compiler, or no archive of crates/sfm_c (rt lib)"
+fi
+if python3 -c "import ensurepip, venv" 2>"$work/difference"; then
+  bash "$top/python/test.sh" || failed=1
+else
+  echo "python/test.sh: passed over, as this Python makes no environments"
 fi
 [ "$failed" -eq 0 ] && echo "all as stored"
 exit "$failed"

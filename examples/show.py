@@ -11,8 +11,8 @@ An answer to `sfm weigh` is shown with the sizes that were given, as its values 
 import argparse
 import sys
 
-from answers import Answer, read_sizes
-from faults import read_text, run_main
+from answers import read_answer, read_sizes
+from faults import run_main
 
 
 def listed(names):
@@ -22,12 +22,13 @@ def listed(names):
 def head(answer):
     """The minimum, and the sets that attain it."""
     lines = [f"least value {answer.minimum}"]
+    least, greatest = (listed(answer.in_order(members)) for members in (answer.least, answer.greatest))
     if answer.least == answer.greatest:
-        return [*lines, f"at one set alone: {listed(answer.least)}"]
-    lines += [f"smallest such set: {listed(answer.least)}", f"greatest such set: {listed(answer.greatest)}"]
+        return [*lines, f"at one set alone: {least}"]
+    lines += [f"smallest such set: {least}", f"greatest such set: {greatest}"]
     for number, block in enumerate(answer.blocks, 1):
-        needs = " with " + ", ".join(f"choice {need}" for need in block.needs) if block.needs else ""
-        lines.append(f"choice {number}{needs}: {listed(block.names)} may come along, all or none")
+        needs = " with " + ", ".join(f"choice {need + 1}" for need in sorted(block.needs)) if block.needs else ""
+        lines.append(f"choice {number}{needs}: {listed(answer.in_order(block.members))} may come along, all or none")
     return lines
 
 
@@ -35,8 +36,8 @@ def table(answer):
     """A row for each slope: from there on, so many elements, worth so much where that is known, and those that are new."""
     rows = [("from slope", "elements", "value", "new")]
     for step in answer.steps:
-        value = str(step.value) if answer.counted else "?"
-        rows.append((str(step.slope), str(len(step.names)), value, listed(step.new)))
+        value = "?" if step.worth is None else str(step.worth)
+        rows.append((str(step.slope), str(len(step.members)), value, listed(step.new)))
     widths = [max(len(row[column]) for row in rows) for column in range(3)]
     return ["  ".join([*(row[i].rjust(widths[i]) for i in range(3)), row[3]]) for row in rows]
 
@@ -47,7 +48,7 @@ def main():
     parser.add_argument("--sizes", help="the sizes that sfm weigh was given")
     options = parser.parse_args()
     sizes = read_sizes(options.sizes) if options.sizes else None
-    answer = Answer(read_text(options.answer), options.answer, sizes)
+    answer = read_answer(options.answer, sizes)
     print("\n".join([*head(answer), "", *table(answer)]))
 
 
