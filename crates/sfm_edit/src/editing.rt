@@ -35,6 +35,16 @@ impl Drop for Edited {
     }
 }
 
+impl Edited {
+    /// The instance alone.
+    pub fn into_instance(self) -> Instance
+        ensures { result ≡ self.instance }
+    {
+        let Edited { instance, kept: _ } = self;
+        instance
+    }
+}
+
 /// The one token of a line, which is no mark; None where the line is another.
 fn only_token(line: &[u8]) -> Option<&[u8]>
     ensures { MatchOption result
