@@ -1,3 +1,4 @@
+pub mod Summing
 pub mod ReadLemmas
 pub mod Demos
 pub mod Rows

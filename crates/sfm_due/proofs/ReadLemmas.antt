@@ -2,7 +2,6 @@
 use Rattle.std.proofs.Common.{◌≡◌, ℕ, suc, ◌+◌, ◌<◌, ◌≤◌, true, List, length, Option, Some, None, Result, Ok, Err, IsSome, refl, arith, inl, inr, replicate}
 use Rattle.std.proofs.lemmas.Bool.{false≢true}
 use Rattle.std.proofs.lemmas.List.{length-replicate, drop_all}
-use Rattle.std.proofs.Math.Seq.{take-length}
 use Rattle.sfm_io.specs.Faults.{Rose}
 use Rattle.sfm_io.specs.Shelf.{ShelfState, Texts, Opens}
 use Rattle.sfm_io.specs.Transfer.{IsRest, IsLong, IsFault}

@@ -2,6 +2,8 @@ pub mod Status
 pub mod Meanings
 pub mod Moves
 pub mod Due
+pub mod Level
+pub mod Sums
 pub mod Files
 pub mod Owing
 pub mod Demo

@@ -1,6 +1,5 @@
 -- What a call gives that opens nothing: a text that is due, with the status that goes with it, or that memory ran out.
-use Rattle.std.specs.Prelude.{◌≡◌, ◌⊎◌, ℕ, List, Result, Ok, Err}
-use Rattle.sfm_base.specs.declared.memory.Memory.{Memory as OutOfMemory}
+use Rattle.std.specs.Prelude.{◌≡◌, ◌⊎◌, ℕ, List}
 use Rattle.sfm_due.specs.declared.due.Due.{Due}
 use Rattle.sfm_due.specs.declared.status.Status.{Status}
 use Rattle.sfm_due.specs.declared.status.Status.TheVariants.{Done, Invalid, Refused}

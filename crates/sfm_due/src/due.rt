@@ -55,7 +55,11 @@ fn word_of(reason: Wrong) -> &'static [u8]
 }
 
 /// The line of a verdict, and its status.
-fn due_for_verdict(alloc: Global, verdict: Verdict) -> Result<Due, AllocError>
+///
+/// # Errors
+///
+/// `AllocError` where there is no memory.
+pub fn due_for_verdict(alloc: Global, verdict: Verdict) -> Result<Due, AllocError>
     ensures line { IfOk result (λ due. due.text.items ≡ verdict_line verdict) }
     ensures code { IfOk result (λ due. code_of due.status ≡ verdict_code verdict) }
     ensures answered { IfOk result (λ due. (due.status ≡ Status.Done)

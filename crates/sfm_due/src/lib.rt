@@ -6,14 +6,17 @@ mod demo;
 mod due;
 mod feed;
 mod file;
+mod level;
 mod solve;
 mod status;
 
 pub use demo::due_to_demo;
 pub use due::{
-    Due, due_to_ask, due_to_check, due_to_check_weighed, due_to_solve, due_to_weigh, refuse,
+    Due, due_for_verdict, due_to_ask, due_to_check, due_to_check_weighed, due_to_solve,
+    due_to_weigh, refuse,
 };
 pub use feed::feed_text;
 pub use file::read_text;
+pub use level::{due_to_level, too_large};
 pub use solve::{solve_by, solve_text};
 pub use status::Status;
