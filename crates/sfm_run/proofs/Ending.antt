@@ -1,5 +1,5 @@
 -- How a call ends, by what was prepared and by what was written of it.
-use Rattle.std.proofs.Common.{◌≡◌, ◌⊎◌, inl, inr, ℕ, List, Result, Ok, Err, refl, sym}
+use Rattle.std.proofs.Common.{◌≡◌, ◌⊎◌, inl, inr, Ok, Err, refl}
 use Rattle.sfm_io.specs.Faults.{Rose}
 use Rattle.sfm_io.specs.Shelf.{ShelfState}
 use Rattle.sfm_io.specs.Sink.{SinkState}
@@ -9,8 +9,8 @@ use Rattle.sfm_due.specs.declared.status.Status.{Status}
 use Rattle.sfm_due.specs.declared.status.Status.TheVariants.{Done, Invalid, Refused, ReadFault, WriteFault, Memory, Usage}
 use Rattle.sfm_due.specs.Owing.{IsAnswer}
 use Rattle.sfm_due.specs.Status.{code_of}
-use Rattle.sfm_run.specs.Task.{Along, FailsAt, HoldsNeeded, IsDue, StopsAt, Task, nothing_read}
-use Rattle.sfm_run.specs.Headline.{EndsFor, FailsToWrite, WritesDue}
+use Rattle.sfm_run.specs.Task.{HoldsNeeded, IsDue, Task, nothing_read}
+use Rattle.sfm_run.specs.Headline.{EndsFor}
 use Rattle.sfm_run.specs.Preparing.{Prepares, PreparesFrom}
 use Rattle.sfm_run.proofs.Joining.{failure_rose, no_failure, stays}
 

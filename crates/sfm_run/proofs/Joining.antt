@@ -1,6 +1,6 @@
 -- A file is read behind others, and what is prepared behind it is prepared for the whole task.
-use Rattle.std.proofs.Common.{◌≡◌, ℕ, List, [], ◌∷◌, ◌++◌, Result, Ok, Err, refl, sym, ◌∙◌, ap, inl, inr, ⊎_elim}
-use Rattle.std.specs.Prelude.{IfOk, MatchOption}
+use Rattle.std.proofs.Common.{ℕ, List, [], ◌∷◌, Result, Ok, Err, refl, sym, ◌∙◌, ap, inl, inr}
+use Rattle.std.specs.Prelude.{IfOk}
 use Rattle.sfm_io.specs.Faults.{Rose}
 use Rattle.sfm_io.specs.Shelf.{ShelfState, KeepsShelf}
 use Rattle.sfm_io.proofs.ShelfLemmas.{KeepsShelf-refl, KeepsShelf-trans}
@@ -8,10 +8,9 @@ use Rattle.sfm_due.specs.declared.due.Due.{Due}
 use Rattle.sfm_due.specs.declared.status.Status.{Status}
 use Rattle.sfm_base.specs.declared.memory.Memory.{Memory as OutOfMemory}
 use Rattle.sfm_due.specs.Status.{code_of}
-use Rattle.sfm_due.specs.Files.{IsNamed, IsSurelyHeld, MissesText, WasRead}
+use Rattle.sfm_due.specs.Files.{IsNamed, IsSurelyHeld, MissesText}
 use Rattle.sfm_due.specs.Owing.{IsMade}
 use Rattle.sfm_due.proofs.ReadLemmas.{rose_later}
-use Rattle.sfm_run.specs.declared.open.Opened.{Opened}
 use Rattle.sfm_run.specs.declared.open.Opened.TheVariants.{Good, Faulty}
 use Rattle.sfm_run.specs.Task.{Along, FailsAt, File, IsAfter, IsDueAt, IsNext, StopsAt, Task, Way, and_file, ends, nothing_read, reads}
 use Rattle.sfm_run.specs.Preparing.{OpensFile, PassesOn, Prepares, PreparesFrom, ReadsFile}

@@ -1,30 +1,33 @@
 -- What was read of a file makes what opening it gives.
-use Rattle.std.proofs.Common.{◌≡◌, ℕ, List, [], ◌∷◌, codes, length, ℤ, Option, Some, None, Result, Ok, Err, refl, subst, inl, inr}
-use Rattle.std.specs.Prelude.{IfOk, Vec}
+use Rattle.std.proofs.Common.{ℕ, List, [], ◌∷◌, codes, ◌≤ℤ◌, Option, None, Result, Ok, Err, refl, inl, inr}
+use Rattle.std.specs.Prelude.{Vec}
 use Rattle.std.specs.Global.{Global}
 use Rattle.sfm_io.specs.Shelf.{ShelfState, KeepsShelf}
 use Rattle.sfm_kind.specs.Instance.{InstanceData}
+use Rattle.sfm_kind.specs.Limits.{total_size_of}
 use Rattle.sfm_kind.proofs.Meanings.{kinds-mean}
 use Rattle.sfm_lines.specs.declared.reason.Reason.{Reason}
-use Rattle.sfm_lines.specs.declared.reason.Reason.TheVariants.{Long}
+use Rattle.sfm_lines.specs.declared.reason.Reason.TheVariants.{Long, Total}
 use Rattle.sfm_side.specs.Side.{SideForm}
 use Rattle.sfm_text.specs.Language.{is_long, text_limit}
 use Rattle.sfm_text.specs.GoodText.{IsFaultOf, IsTextOf}
 use Rattle.sfm_text.specs.declared.reader.Reader.{Reader}
 use Rattle.sfm_text.specs.Standing.{Stands}
+use Rattle.sfm_text.specs.Numbered.{AreNumbersOf}
 use Rattle.sfm_cert.specs.Grammar.{answer_limit}
 use Rattle.sfm_due.specs.declared.due.Due.{Due}
 use Rattle.sfm_due.specs.declared.status.Status.{Status}
-use Rattle.sfm_due.specs.declared.status.Status.TheVariants.{Refused}
-use Rattle.sfm_due.specs.Due.{refusal}
 use Rattle.sfm_due.specs.Feeding.{FeedsText}
 use Rattle.sfm_due.specs.Files.{IsReadAs, ReadsText}
 use Rattle.sfm_due.specs.Meanings.{question_of}
+use Rattle.sfm_due.specs.Level.{level_limit}
+use Rattle.sfm_due.specs.Sums.{PassesAt}
+use Rattle.sfm_due.proofs.Summing.{small-enough, too-large}
 use Rattle.sfm_run.specs.declared.open.Opened.{Opened}
 use Rattle.sfm_run.specs.declared.open.Opened.TheVariants.{Good, Faulty}
 use Rattle.sfm_run.specs.Task.{Task, reads}
-use Rattle.sfm_run.specs.Files.{answer_file, instance_file, side_file}
-use Rattle.sfm_run.specs.Preparing.{IsFaulty, OpensFile, Prepares}
+use Rattle.sfm_run.specs.Files.{answer_file, instance_file, level_file, side_file}
+use Rattle.sfm_run.specs.Preparing.{IsFaulty, OpensFile, Prepares, Tells}
 use Rattle.sfm_run.proofs.Joining.{behind, misses}
 
 -- a good instance
@@ -63,3 +66,58 @@ answers name rest mid after bytes result kept (text, is, named, read) then =
 -- an answer was not read
 pub misses_answer : (name : List ℕ) (rest : List ℕ → Task) (mid after : ShelfState) (status : Status) → KeepsShelf (name ∷ []) mid after → ReadsText answer_limit name mid after (Err status) → Prepares (reads (answer_file name) rest) mid after (Err status)
 misses_answer name rest mid after status kept miss = misses (λ (text : List ℕ). text) (answer_file name) rest mid after status (kept, miss)
+
+-- an instance of which the most level base is asked for
+pub opens_level : (name : List ℕ) (before after : ShelfState) (reader : Reader)
+    (result : Result (Opened InstanceData) Status) → KeepsShelf (name ∷ []) before after
+    → FeedsText name before after (Ok reader)
+    → ((text : List ℕ) → Stands reader text → Tells question_of (level_file []) text result)
+    → OpensFile question_of (level_file name) before after result
+opens_level name before after reader (Ok (Good v)) kept (text, stands, named, read) told =
+    record { text = text; named = named; kept = kept; read = read; holds = told text stands }
+opens_level name before after reader (Ok (Faulty due)) kept (text, stands, named, read) told = (
+  record { text = text; named = named; kept = kept; read = read; holds = (told text stands).0 },
+  (told text stands).1,
+)
+opens_level name before after reader (Err status) kept (text, stands, named, read) told =
+    (kept, inr (told text stands))
+
+-- one whose sizes add to too much
+pub tells_too_large : (text : List ℕ) (instance : InstanceData) (ground : ℕ) (lines : List ℕ) (line : ℕ)
+    (result : Result (Opened InstanceData) Status) → IsTextOf text instance.names instance.terms
+    → AreNumbersOf text ground lines → PassesAt instance.terms lines line
+    → IsFaulty (codes "refused") line Total result
+    → Tells question_of (level_file []) text result
+tells_too_large text instance ground lines line (Ok (Good v)) good numbered passes is = absurd is
+tells_too_large text instance ground lines line (Ok (Faulty due)) good numbered passes (is, refused) = (
+  record { line = line; reason = Total; fault = inr (too-large text instance ground lines line good numbered passes, refl); named = is },
+  refused,
+)
+tells_too_large text instance ground lines line (Err status) good numbered passes memory = memory
+
+-- one whose sizes do not
+pub tells_small : (text : List ℕ) (instance : InstanceData) → IsTextOf text instance.names instance.terms
+    → total_size_of instance.terms ≤ℤ level_limit
+    → Tells question_of (level_file []) text (Ok (Good instance))
+tells_small text instance good small =
+    (record { good = good; means = kinds-mean instance.terms }, small-enough instance small)
+
+-- a text with a fault
+pub opens_level_faulty : (name : List ℕ) (before after : ShelfState) (reader : Reader)
+    (line : ℕ) (reason : Reason) (result : Result (Opened InstanceData) Status)
+    → KeepsShelf (name ∷ []) before after → FeedsText name before after (Ok reader)
+    → ((text : List ℕ) → Stands reader text → IsFaultOf text line reason)
+    → IsFaulty (codes "refused") line reason result
+    → OpensFile question_of (level_file name) before after result
+opens_level_faulty name before after reader line reason (Ok (Good v)) kept fed fault is = absurd is
+opens_level_faulty name before after reader line reason (Ok (Faulty due)) kept (text, stands, named, read) fault (is, refused) = (
+  record {
+    text = text;
+    named = named;
+    kept = kept;
+    read = read;
+    holds = record { line = line; reason = reason; fault = inl (fault text stands); named = is };
+  },
+  refused,
+)
+opens_level_faulty name before after reader line reason (Err status) kept fed fault memory = (kept, inr memory)

@@ -1,12 +1,16 @@
 -- The kinds of files that tasks read.
 use Rattle.std.specs.Prelude.{◌≡◌, ℕ, List, codes, ℤ}
+use Rattle.std.specs.List.{AllZip}
+use Rattle.sfm_kind.specs.Meanings.{IsMeaningOf}
 use Rattle.sfm_text.specs.Language.{IsFaultIn, IsReadAs, text_limit}
 use Rattle.sfm_text.specs.GoodText.{IsFaultOf}
 use Rattle.sfm_side.specs.Side.{SideForm, ended, side_language}
 use Rattle.sfm_side.specs.Sizes.{sizes_form, sizes_of}
 use Rattle.sfm_side.specs.Pins.{PinData, pins_form}
+use Rattle.sfm_edit.specs.Edits.{edits_form}
 use Rattle.sfm_cert.specs.Grammar.{answer_limit}
 use Rattle.sfm_due.specs.Due.{IsAsked, NamesFault, Question}
+use Rattle.sfm_due.specs.Level.{IsLevelFault, IsSmallEnough}
 use Rattle.sfm_run.specs.Task.{File}
 
 -- a file with an instance, which that word refuses
@@ -34,6 +38,20 @@ sizes_file asked = side_file (codes "sizes") (sizes_form asked.instance.names) (
 -- a file with pinned elements
 abbrev pub pins_file : Question → List ℕ → File PinData
 pins_file asked = side_file (codes "pins") (pins_form asked.instance.names) (λ p pins. pins ≡ p)
+
+-- a file with edits of an instance, which asks for the instance that they lead to
+abbrev pub edits_file : Question → List ℕ → File Question
+edits_file asked = side_file (codes "edits") (edits_form asked.instance) (λ e edited.
+    (edited.instance ≡ e.instance) × AllZip IsMeaningOf e.instance.terms edited.meant)
+
+-- a file with an instance of which the most level base is found
+abbrev pub level_file : List ℕ → File Question
+level_file name = record {
+  name = name;
+  limit = text_limit;
+  Stands = λ text asked. IsAsked text asked × IsSmallEnough asked;
+  Refuses = λ text written. NamesFault (codes "refused") (IsLevelFault text) written;
+}
 
 -- a file with an answer, of which no text is refused: a verdict says what is wrong with it
 abbrev pub answer_file : List ℕ → File (List ℕ)

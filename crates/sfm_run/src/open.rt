@@ -1,15 +1,18 @@
 // Files that commands open: each is read whole, and stands for something, or is refused.
-ghost use Rattle.std.specs.Prelude.{◌≡◌, [], length, IfOk};
+ghost use Rattle.std.specs.Prelude.{◌≡◌, ℕ, List, [], length, IfOk, ◌≤ℤ◌};
+ghost use Rattle.sfm_kind.specs.Limits.{total_size_of};
 ghost use Rattle.sfm_sizes.specs.Sizes.{AreElementSizes};
+ghost use Rattle.sfm_text.specs.{GoodText.{IsTextOf}, Numbered.{AreNumbersOf}};
 ghost use Rattle.sfm_side.specs.PinLines.{AreOver, pins_of};
-ghost use Rattle.sfm_due.specs.Meanings.{question_of};
-ghost use Rattle.sfm_run.specs.{Files.{instance_file, pins_file, sizes_file}, Preparing.{IfGood, IsFaulty, OpensFile, Tells, items_of}};
+ghost use Rattle.sfm_due.specs.{Level.{level_limit}, Meanings.{question_of}};
+ghost use Rattle.sfm_run.specs.{Files.{edits_file, instance_file, level_file, pins_file, sizes_file}, Preparing.{IfGood, IsFaulty, OpensFile, Tells, items_of}};
 
-use sfm_due::{Due, Status, feed_text, read_text, refuse};
+use sfm_due::{Due, Status, feed_text, read_text, refuse, too_large};
+use sfm_edit::apply;
 use sfm_io::Shelf;
 use sfm_kind::Instance;
 use sfm_side::{Pins, read_pins, read_sizes};
-use sfm_text::{Reason, TEXT_LIMIT, TextEnd};
+use sfm_text::{Numbered, Reason, TEXT_LIMIT, TextEnd};
 use std::alloc::Global;
 
 /// What a good text stands for, or what is due for one that is not good.
@@ -110,6 +113,67 @@ pub fn open_pins<S: Shelf>(
     match read_text(alloc, shelf, file, TEXT_LIMIT) {
         Ok(Some(text)) => pins_in(alloc, instance, text.as_slice()),
         Ok(None) => faulty(alloc, b"pins", 0, Reason::Long),
+        Err(status) => Err(status),
+    }
+}
+
+/// An instance of which the most level base is found, or what is due for one whose sizes add to too much.
+fn level_in(alloc: Global, numbered: Numbered) -> Result<Opened<Instance>, Status>
+    requires { length numbered.term_lines.items ≡ length numbered.instance.terms }
+    ensures told { (text : List ℕ) → IsTextOf text numbered.instance.names numbered.instance.terms
+        → AreNumbersOf text numbered.ground_line numbered.term_lines.items
+        → Tells question_of (level_file []) text result }
+    ensures small { IfOk result (IfGood (λ instance. total_size_of instance.terms ≤ℤ level_limit)) }
+{
+    match too_large(&numbered.instance, &numbered.term_lines) {
+        Some(line) => faulty(alloc, b"refused", line, Reason::Total),
+        None => Ok(Opened::Good(numbered.into_instance())),
+    }
+}
+
+/// Opens a file with an instance of which the most level base is asked for: one whose sizes add to more than 10^13 is refused
+/// too, at the line at which they do.
+pub fn open_level<S: Shelf>(
+    alloc: Global,
+    shelf: &mut S,
+    file: &str,
+) -> Result<Opened<Instance>, Status>
+    ensures opened { OpensFile question_of (level_file file.now) (S.state shelf.old)
+        (S.state shelf.new) result }
+    ensures small { IfOk result (IfGood (λ instance. total_size_of instance.terms ≤ℤ level_limit)) }
+{
+    let reader = feed_text(alloc, shelf, file)?;
+    match reader.finish_numbered(alloc) {
+        Ok(numbered) => level_in(alloc, numbered),
+        Err(TextEnd::Refused { line, reason }) => faulty(alloc, b"refused", line, reason),
+        Err(TextEnd::Memory) => Err(Status::Memory),
+    }
+}
+
+/// The instance that edits lead to, or what is due for a text of edits with a fault.
+fn edits_in(alloc: Global, instance: Instance, text: &[u8]) -> Result<Opened<Instance>, Status>
+    ensures { Tells question_of (edits_file (question_of instance) []) text.now result }
+{
+    match apply(alloc, instance, text) {
+        Ok(edited) => Ok(Opened::Good(edited.into_instance())),
+        Err(TextEnd::Refused { line, reason }) => faulty(alloc, b"edits", line, reason),
+        Err(TextEnd::Memory) => Err(Status::Memory),
+    }
+}
+
+/// Opens a file with edits of an instance, and gives the instance that they lead to.
+pub fn open_edits<S: Shelf>(
+    alloc: Global,
+    shelf: &mut S,
+    instance: Instance,
+    file: &str,
+) -> Result<Opened<Instance>, Status>
+    ensures { OpensFile question_of (edits_file (question_of instance) file.now)
+        (S.state shelf.old) (S.state shelf.new) result }
+{
+    match read_text(alloc, shelf, file, TEXT_LIMIT) {
+        Ok(Some(text)) => edits_in(alloc, instance, text.as_slice()),
+        Ok(None) => faulty(alloc, b"edits", 0, Reason::Long),
         Err(status) => Err(status),
     }
 }

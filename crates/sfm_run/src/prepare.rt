@@ -1,18 +1,18 @@
 // What is due for each command, made whole before any of it is written.
 ghost use Rattle.std.specs.Prelude.{◌≡◌, ◌≤◌, ℕ, List, length, IfOk};
 ghost use Rattle.sfm_io.specs.Shelf.{ShelfState};
-ghost use Rattle.sfm_words.specs.{Command.{command_of}, Subcommand.{solve as Solving, check as Checking, demo as Showing, weigh as Weighing, weighed as CheckingWeighed, ask as Asking}};
+ghost use Rattle.sfm_words.specs.{Command.{command_of}, Subcommand.{solve as Solving, check as Checking, demo as Showing, weigh as Weighing, weighed as CheckingWeighed, ask as Asking, level as Levelling, edit as Editing}};
 ghost use Rattle.sfm_ask.specs.Pinned.{IsAnswered};
 ghost use Rattle.sfm_sizes.specs.Sizes.{AreElementSizes};
 ghost use Rattle.sfm_due.specs.{Due.{IsJudged, IsJudgedBySizes, IsSolved, IsWeighed}, Meanings.{meanings_of, question_of}, Owing.{IsMade}};
-ghost use Rattle.sfm_run.specs.{Files.{answer_file, pins_file, sizes_file}, Preparing.{PassesOn, Prepares}, Task.{ends, reads}, Tasks.{done, task_of}};
+ghost use Rattle.sfm_run.specs.{Files.{answer_file, edits_file, pins_file, sizes_file}, Preparing.{PassesOn, Prepares}, Task.{ends, reads}, Tasks.{done, task_of}};
 
-use crate::open::{Opened, open_instance, open_pins, open_sizes};
+use crate::open::{Opened, open_edits, open_instance, open_level, open_pins, open_sizes};
 use sfm_base::Memory;
 use sfm_cert::ANSWER_LIMIT;
 use sfm_due::{
-    Due, Status, due_to_ask, due_to_check, due_to_check_weighed, due_to_demo, due_to_solve,
-    due_to_weigh, read_text,
+    Due, Status, due_to_ask, due_to_check, due_to_check_weighed, due_to_demo, due_to_level,
+    due_to_solve, due_to_weigh, read_text,
 };
 use sfm_io::Shelf;
 use sfm_kind::Instance;
@@ -206,6 +206,52 @@ fn prepare_ask<S: Shelf>(
     }
 }
 
+/// Reads an instance, and makes what is due to find its most level base.
+fn prepare_level<S: Shelf>(alloc: Global, shelf: &mut S, file: &str) -> Result<Due, Status>
+    ensures { Prepares (task_of (Levelling file.now)) (S.state shelf.old) (S.state shelf.new)
+        result }
+{
+    match open_level(alloc, shelf, file) {
+        Ok(Opened::Good(instance)) => made(due_to_level(alloc, &instance)),
+        Ok(Opened::Faulty(due)) => Ok(due),
+        Err(status) => Err(status),
+    }
+}
+
+/// Reads edits of an instance, and makes what is due to solve the instance that they lead to.
+fn edit_behind<S: Shelf>(
+    alloc: Global,
+    shelf: &mut S,
+    instance: Instance,
+    edits: &str,
+) -> Result<Due, Status>
+    ensures { Prepares (reads (edits_file (question_of instance) edits.now) (λ edited. done
+        (IsSolved edited))) (S.state shelf.old) (S.state shelf.new) result }
+{
+    match open_edits(alloc, shelf, instance, edits) {
+        Ok(Opened::Good(edited)) => made(due_to_solve(alloc, &edited)),
+        Ok(Opened::Faulty(due)) => Ok(due),
+        Err(status) => Err(status),
+    }
+}
+
+/// Reads an instance and edits of it, and makes what is due to solve the instance that they lead to.
+fn prepare_edit<S: Shelf>(
+    alloc: Global,
+    shelf: &mut S,
+    file: &str,
+    edits: &str,
+) -> Result<Due, Status>
+    ensures { Prepares (task_of (Editing file.now edits.now)) (S.state shelf.old)
+        (S.state shelf.new) result }
+{
+    match open_instance(alloc, shelf, b"refused", file) {
+        Ok(Opened::Good(instance)) => edit_behind(alloc, shelf, instance, edits),
+        Ok(Opened::Faulty(due)) => Ok(due),
+        Err(status) => Err(status),
+    }
+}
+
 /// Makes what is due for a command whole.
 pub fn prepare<S: Shelf>(alloc: Global, shelf: &mut S, command: Command) -> Result<Due, Status>
     requires { (seed : ℕ) → command_of command ≡ Showing seed → seed ≤ 999999999 }
@@ -223,5 +269,7 @@ pub fn prepare<S: Shelf>(alloc: Global, shelf: &mut S, command: Command) -> Resu
             answer,
         } => prepare_weighed(alloc, shelf, file, sizes, answer),
         Command::Ask { file, pins } => prepare_ask(alloc, shelf, file, pins),
+        Command::Level { file } => prepare_level(alloc, shelf, file),
+        Command::Edit { file, edits } => prepare_edit(alloc, shelf, file, edits),
     }
 }

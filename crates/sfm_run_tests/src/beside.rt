@@ -40,3 +40,11 @@ pub fn is_met(alloc: Global, row: &Row) -> bool {
         Err(_) => false,
     }
 }
+
+/// Whether a call ends with the code of a row, and writes what begins as the row says.
+pub fn begins(alloc: Global, row: &Row) -> bool {
+    match called(alloc, row) {
+        Ok(ended) => ended.code == row.code && ended.out.taken().starts_with(row.out),
+        Err(_) => false,
+    }
+}

@@ -8,7 +8,7 @@ const FIRST_ANSWER: &[u8] =
     b"answer 1\nminimum -3\nleast a\ngreatest a\nslope -3/1 a\nslope 2/1 a b\nat 0/1\nbase 1 -3 2\nat -3/1\nbase 1 -3 2\nat 2/1\nbase 1 -3 2\nend\n";
 
 const USAGE: &[u8] =
-    b"usage: sfm solve FILE | check FILE ANSWER | demo SEED | weigh FILE SIZES | weighed FILE SIZES ANSWER | ask FILE PINS\n";
+    b"usage: sfm solve FILE | check FILE ANSWER | demo SEED | weigh FILE SIZES | weighed FILE SIZES ANSWER | ask FILE PINS | level FILE | edit FILE EDITS\n";
 
 /// A right text that is solved, of which nothing fails.
 const SOLVED: Case = Case {
@@ -99,7 +99,7 @@ fn pieces_and_faults_of_the_outside(rt: HostRuntime) {
     }
 }
 
-const NO_COMMANDS: [&[&str]; 14] = [
+const NO_COMMANDS: [&[&str]; 18] = [
     &["solv", "first"],
     &["solve", "-first"],
     &["solve", ""],
@@ -114,6 +114,10 @@ const NO_COMMANDS: [&[&str]; 14] = [
     &["weighed", "first", "second"],
     &["ask", "first"],
     &["ask", "first", "second", "third"],
+    &["level"],
+    &["level", "first", "second"],
+    &["edit", "first"],
+    &["edit", "first", "second", "third"],
 ];
 
 /// Whether a call with these words says how it is to be called.

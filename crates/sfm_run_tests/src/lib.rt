@@ -12,11 +12,15 @@ mod checks;
 #[cfg(test)]
 mod demos;
 #[cfg(test)]
+mod edits;
+#[cfg(test)]
 mod engine;
 #[cfg(test)]
 mod failures;
 #[cfg(test)]
 mod hostile;
+#[cfg(test)]
+mod levels;
 #[cfg(test)]
 mod refusals;
 #[cfg(test)]

@@ -1,4 +1,3 @@
-use Rattle.std.proofs.Common.{ℕ, List}
 use Rattle.std.proofs.lemmas.Result.{IfOk-weaker}
 use Rattle.sfm_due.specs.Due.{IsJudgedBySizes}
 use Rattle.sfm_due.specs.Meanings.{question_of}
