@@ -2,7 +2,8 @@
  *
  *     same LIST OUT THREADS
  *
- * A line of LIST is what stands behind `sfm`: `solve FILE`, `check FILE ANSWER`, `weigh FILE SIZES` or `weighed FILE SIZES ANSWER`.
+ * A line of LIST is what stands behind `sfm`: `solve FILE`, `check FILE ANSWER`, `weigh FILE SIZES`, `weighed FILE SIZES ANSWER`,
+ * `ask FILE PINS`, `level FILE` or `edit FILE EDITS`.
  * The text of line N goes to the file OUT/N, and the code to OUT/N.code. The lines are dealt to the threads, each of which has a
  * stack of 128 KiB.
  */
@@ -64,6 +65,12 @@ static void call_line(int number) {
     uint32_t code;
     if (given == 2 && !strcmp(words[0], "solve"))
         code = sfm_solve(text[0].at, text[0].len, &out);
+    else if (given == 2 && !strcmp(words[0], "level"))
+        code = sfm_level(text[0].at, text[0].len, &out);
+    else if (given == 3 && !strcmp(words[0], "ask"))
+        code = sfm_ask(text[0].at, text[0].len, text[1].at, text[1].len, &out);
+    else if (given == 3 && !strcmp(words[0], "edit"))
+        code = sfm_edit(text[0].at, text[0].len, text[1].at, text[1].len, &out);
     else if (given == 3 && !strcmp(words[0], "check"))
         code = sfm_check(text[0].at, text[0].len, text[1].at, text[1].len, &out);
     else if (given == 3 && !strcmp(words[0], "weigh"))

@@ -28,9 +28,9 @@ extern "C" {
 
 /* The codes. */
 enum {
-    SFM_DONE = 0,    /* the answer, or `valid` */
+    SFM_DONE = 0,    /* the answer, `valid`, what is told of pins, or the level text */
     SFM_INVALID = 1, /* `invalid LINE REASON`: the answer that was checked is not right */
-    SFM_REFUSED = 2, /* `refused LINE REASON` or `sizes LINE REASON`: the instance, or the text of sizes, has a fault */
+    SFM_REFUSED = 2, /* `refused LINE REASON`, or `sizes`, `pins` or `edits` so: that text has a fault */
     SFM_MEMORY = 5   /* no text: out of memory */
 };
 
@@ -57,6 +57,17 @@ uint32_t sfm_weigh(const uint8_t *text, size_t len, const uint8_t *sizes, size_t
 /* The verdict on an answer by sizes, as `sfm weighed`: SFM_DONE, SFM_INVALID, SFM_REFUSED or SFM_MEMORY. */
 uint32_t sfm_weighed(const uint8_t *text, size_t len, const uint8_t *sizes, size_t sizes_len,
                      const uint8_t *answer, size_t answer_len, struct sfm_text *out);
+
+/* The best set with pinned elements, as `sfm ask`: SFM_DONE, also with the text `none`, SFM_REFUSED or SFM_MEMORY. */
+uint32_t sfm_ask(const uint8_t *text, size_t len, const uint8_t *pins, size_t pins_len,
+                 struct sfm_text *out);
+
+/* The most level base of an instance, as `sfm level`: SFM_DONE, SFM_REFUSED or SFM_MEMORY. */
+uint32_t sfm_level(const uint8_t *text, size_t len, struct sfm_text *out);
+
+/* The answer of an edited instance, as `sfm edit`: SFM_DONE, SFM_REFUSED or SFM_MEMORY. */
+uint32_t sfm_edit(const uint8_t *text, size_t len, const uint8_t *edits, size_t edits_len,
+                  struct sfm_text *out);
 
 /* Gives the memory of a text back, and leaves none. The block is one of malloc: a language that can't call what stands here
  * calls free(at) itself, where len is not 0. */

@@ -22,7 +22,7 @@ lib=$work/to/usr/lib
 so="-L$lib -lsfm -Wl,-rpath,$lib"
 
 # The names that each library defines for others.
-wanted="sfm_check sfm_solve sfm_weigh sfm_weighed"
+wanted="sfm_ask sfm_check sfm_edit sfm_level sfm_solve sfm_weigh sfm_weighed"
 [ "$(nm -D --defined-only "$lib/libsfm.so" | awk '{print $3}' | sort | xargs)" = "$wanted" ] || fail "libsfm.so exports other names"
 [ "$(nm -g --defined-only "$lib/libsfm.a" | awk 'NF == 3 {print $3}' | sort | xargs)" = "$wanted" ] || fail "libsfm.a exports other names"
 if command -v pkg-config >"$work/null"; then
@@ -59,6 +59,9 @@ list=$work/list
 : >"$work/none"
 add() { echo "$*" >>"$list"; }
 count=0
+beside() { # the text of that kind beside a file, or a random one
+  if [ -e "${1%.sfm}.$2" ]; then echo "${1%.sfm}.$2"; else echo "$work/texts/$((count % 500)).$2"; fi
+}
 for file in "$top"/examples/*.sfm "$top"/examples/mistakes/*.sfm "$work"/texts/*.sfm "$work/none"; do
   name=$(basename "$file" .sfm) sizes=${file%.sfm}.sizes
   [ -e "$sizes" ] || sizes=$work/texts/$((count++ % 500)).sizes
@@ -69,6 +72,9 @@ for file in "$top"/examples/*.sfm "$top"/examples/mistakes/*.sfm "$work"/texts/*
   sed '$s/[0-8]/9/' "$work/texts/$name.weighed" >"$work/texts/$name.by"
   add solve "$file"
   add weigh "$file" "$sizes"
+  add level "$file"
+  add ask "$file" "$(beside "$file" pins)"
+  add edit "$file" "$(beside "$file" edits)"
   for answer in answer cut other weighed; do add check "$file" "$work/texts/$name.$answer"; done
   for answer in weighed by answer; do add weighed "$file" "$sizes" "$work/texts/$name.$answer"; done
 done

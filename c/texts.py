@@ -1,6 +1,6 @@
 #!/usr/bin/env python3
-"""texts.py FOLDER COUNT: writes COUNT random instances and texts of sizes into FOLDER, always the same: N.sfm and N.sizes. Some of
-them have a fault."""
+"""texts.py FOLDER COUNT: writes COUNT random instances and texts of sizes, pins and edits into FOLDER, always the same: N.sfm,
+N.sizes, N.pins and N.edits. Some of them have a fault."""
 import random
 import sys
 from pathlib import Path
@@ -50,6 +50,16 @@ def sizes(names):
     return ["sizes 1", *(f"size {name}:{rng.randint(1, 5)}" for name in some(names, 0, 10)), "end"]
 
 
+def pins(names):
+    held = some(names, 0, 4)
+    return ["pins 1", *(f"{rng.choice(['in', 'out'])} {name}" for name in held), "end"]
+
+
+def edits(names):
+    lines = (f"add {term(names)}" if rng.randrange(3) else f"drop {rng.randint(1, 4)}" for _ in range(rng.randint(0, 4)))
+    return ["edits 1", *lines, "end"]
+
+
 def written(lines):
     """The text of the lines, in one of six cases with a fault that a hand makes."""
     text = bytearray("".join(line + "\n" for line in lines).encode())
@@ -72,7 +82,8 @@ def main():
     for number in range(count):
         lines, names = instance()
         (folder / f"{number}.sfm").write_bytes(written(lines))
-        (folder / f"{number}.sizes").write_bytes(written(sizes(names)))
+        for kind in (sizes, pins, edits):
+            (folder / f"{number}.{kind.__name__}").write_bytes(written(kind(names)))
 
 
 main()

@@ -1,10 +1,16 @@
 -- What a call from C gives for texts: the text that is due, with its code.
 use Rattle.std.specs.Prelude.{◌≡◌, ◌⊎◌, ℕ, List, [], codes, Option, ℤ}
+use Rattle.std.specs.List.{AllZip}
+use Rattle.sfm_kind.specs.Meanings.{IsMeaningOf}
 use Rattle.sfm_lines.specs.declared.reason.Reason.{Reason}
 use Rattle.sfm_text.specs.Language.{IsFaultIn, IsReadAs}
 use Rattle.sfm_text.specs.GoodText.{IsFaultOf}
 use Rattle.sfm_side.specs.Side.{ended, side_language}
 use Rattle.sfm_side.specs.Sizes.{sizes_form, sizes_of}
+use Rattle.sfm_side.specs.Pins.{PinData, pins_form}
+use Rattle.sfm_edit.specs.Edits.{Editing, edits_form}
+use Rattle.sfm_ask.specs.Pinned.{IsAnswered}
+use Rattle.sfm_due.specs.Level.{IsLevelFault, IsLevelled, IsSmallEnough}
 use Rattle.sfm_due.specs.Due.{IsAsked, IsJudged, IsJudgedBySizes, IsSolved, IsWeighed, NamesFault, Question}
 
 -- the text of which this is said stands for something, for which this is due; or its first fault is named behind a word, with code 2
@@ -27,6 +33,26 @@ abbrev pub IsDueForSizes : Question → List ℕ → (List ℤ → List ℕ → 
 IsDueForSizes asked text = IsDueBehind (GivesSizesOf asked text) (codes "sizes")
     (IsFaultIn (side_language (sizes_form asked.instance.names)) text)
 
+-- the text pins these elements of what is asked
+abbrev pub GivesPinsOf : Question → List ℕ → PinData → Type 0
+GivesPinsOf asked text pins = IsReadAs (side_language (pins_form asked.instance.names)) text (ended pins)
+
+-- what is due behind the text of pinned elements
+abbrev pub IsDueForPins : Question → List ℕ → (PinData → List ℕ → ℕ → Type 0) → List ℕ → ℕ → Type 0
+IsDueForPins asked text = IsDueBehind (GivesPinsOf asked text) (codes "pins")
+    (IsFaultIn (side_language (pins_form asked.instance.names)) text)
+
+-- the text leads what is asked to this question
+abbrev pub LeadsTo : Question → List ℕ → Question → Type 0
+LeadsTo asked text edited = (e : Editing) × (edited.instance ≡ e.instance)
+    × AllZip IsMeaningOf e.instance.terms edited.meant
+    × IsReadAs (side_language (edits_form asked.instance)) text (ended e)
+
+-- what is due behind the text of edits
+abbrev pub IsDueForEdits : Question → List ℕ → (Question → List ℕ → ℕ → Type 0) → List ℕ → ℕ → Type 0
+IsDueForEdits asked text = IsDueBehind (LeadsTo asked text) (codes "edits")
+    (IsFaultIn (side_language (edits_form asked.instance)) text)
+
 -- a text that was asked for, with code 0
 abbrev pub IsDone : (List ℕ → Type 0) → List ℕ → ℕ → Type 0
 IsDone IsRight written code = IsRight written × (code ≡ 0)
@@ -48,6 +74,21 @@ IsDueToWeigh text sizes =
 abbrev pub IsDueToCheckWeighed : List ℕ → List ℕ → List ℕ → List ℕ → ℕ → Type 0
 IsDueToCheckWeighed text sizes answer = IsDueForInstance text
     (λ asked. IsDueForSizes asked sizes (λ by. IsJudgedBySizes asked by answer))
+
+-- the best set of the instance with the pins
+abbrev pub IsDueToAsk : List ℕ → List ℕ → List ℕ → ℕ → Type 0
+IsDueToAsk text pins = IsDueForInstance text (λ asked. IsDueForPins asked pins
+    (λ p. IsDone (IsAnswered asked.instance.names asked.meant p)))
+
+-- the most level base of the instance, whose sizes are small enough
+abbrev pub IsDueToLevel : List ℕ → List ℕ → ℕ → Type 0
+IsDueToLevel text = IsDueBehind (λ asked. IsAsked text asked × IsSmallEnough asked) (codes "refused")
+    (IsLevelFault text) (λ asked. IsDone (IsLevelled asked))
+
+-- a right answer of the instance that the edits lead to
+abbrev pub IsDueToEdit : List ℕ → List ℕ → List ℕ → ℕ → Type 0
+IsDueToEdit text edits =
+    IsDueForInstance text (λ asked. IsDueForEdits asked edits (λ edited. IsDone (IsSolved edited)))
 
 -- a call gives what is due, with its code, or, with code 5, no byte, as memory ran out
 abbrev pub Gives : (List ℕ → ℕ → Type 0) → List ℕ → ℕ → Type 0

@@ -1,15 +1,16 @@
 // What C may call: an instance text to its answer, and a text that is offered as an answer to the verdict on it, each also
-// by sizes of the elements. Each call gives the text that the program writes for files with these texts, and the code that
+// by sizes of the elements; the best set with pinned elements; the most level base; and the answer of an edited instance. Each call gives the text that the program writes for files with these texts, and the code that
 // it ends with. No call keeps anything, or touches more than its texts and memory of its own; c/sfm.h declares them to C.
 #![tactic(auto)]
 
 mod make;
-mod verdict;
 
 ghost use Rattle.std.specs.Prelude.{◌≡◌};
-ghost use Rattle.sfm_c.specs.Calls.{Gives, IsDueToCheck, IsDueToCheckWeighed, IsDueToSolve, IsDueToWeigh};
+ghost use Rattle.sfm_c.specs.Calls.{Gives, IsDueToAsk, IsDueToCheck, IsDueToCheckWeighed, IsDueToEdit, IsDueToLevel, IsDueToSolve, IsDueToWeigh};
 
-use crate::make::{give, make_check, make_solve, make_weigh, make_weighed};
+use crate::make::{
+    give, make_ask, make_check, make_edit, make_level, make_solve, make_weigh, make_weighed,
+};
 use std::alloc::Global;
 
 /// A text in memory of its own.
@@ -58,4 +59,32 @@ pub extern "C" fn sfm_weighed(
     ensures { Gives (IsDueToCheckWeighed text.now sizes.now answer.now) out.new.bytes.now result }
 {
     give(make_weighed(alloc, text, sizes, answer), out)
+}
+
+/// Finds the best set of the instance of a text among those that have the elements that a second text says are in, and none
+/// that it says are out. 0: the text that tells it, which may be `none`; 2: one of the texts has a fault, the first of which
+/// is named; 5: memory ran out.
+#[unsafe(no_mangle)]
+pub extern "C" fn sfm_ask(alloc: Global, text: &[u8], pins: &[u8], out: &mut SfmText) -> u32
+    ensures { Gives (IsDueToAsk text.now pins.now) out.new.bytes.now result }
+{
+    give(make_ask(alloc, text, pins), out)
+}
+
+/// Finds the most level base of the instance of a text. 0: the text that tells it, with bases of the terms; 2: the text has a
+/// fault, or its sizes add to more than 10^13, which is named; 5: memory ran out.
+#[unsafe(no_mangle)]
+pub extern "C" fn sfm_level(alloc: Global, text: &[u8], out: &mut SfmText) -> u32
+    ensures { Gives (IsDueToLevel text.now) out.new.bytes.now result }
+{
+    give(make_level(alloc, text), out)
+}
+
+/// Solves the instance that the edits of a second text lead to from that of a first. 0: its answer; 2: one of the texts has a
+/// fault, the first of which is named; 5: memory ran out.
+#[unsafe(no_mangle)]
+pub extern "C" fn sfm_edit(alloc: Global, text: &[u8], edits: &[u8], out: &mut SfmText) -> u32
+    ensures { Gives (IsDueToEdit text.now edits.now) out.new.bytes.now result }
+{
+    give(make_edit(alloc, text, edits), out)
 }

@@ -1,20 +1,24 @@
 // What is due for texts, made whole: the texts are read one after the other, as the program reads its files.
-ghost use Rattle.std.specs.Prelude.{◌≡◌, length, codes, IfOk};
+ghost use Rattle.std.specs.Prelude.{◌≡◌, ℕ, List, length, codes, IfOk};
+ghost use Rattle.sfm_text.specs.{GoodText.{IsTextOf}, Numbered.{AreNumbersOf}};
+ghost use Rattle.sfm_ask.specs.Pinned.{IsAnswered};
 ghost use Rattle.sfm_sizes.specs.Sizes.{AreElementSizes};
-ghost use Rattle.sfm_due.specs.{Due.{IsJudged, IsJudgedBy, IsJudgedBySizes, IsWeighed}, Meanings.{question_of}, Owing.{IsMade}};
+ghost use Rattle.sfm_due.specs.{Due.{IsJudged, IsJudgedBy, IsJudgedBySizes, IsSolved, IsWeighed}, Level.{IsLevelFault, IsLevelled, IsSmallEnough}, Meanings.{meanings_of, question_of}, Owing.{IsMade}};
 ghost use Rattle.sfm_cert.specs.Header.{header_text};
-ghost use Rattle.sfm_c.specs.{Calls.{IsDone, IsDueForSizes, IsDueToCheck, IsDueToCheckWeighed, IsDueToSolve, IsDueToWeigh}, Making.{GoesOut, IsRefusalDue}};
+ghost use Rattle.sfm_c.specs.{Calls.{IsDone, IsDueForEdits, IsDueForPins, IsDueForSizes, IsDueToAsk, IsDueToCheck, IsDueToCheckWeighed, IsDueToEdit, IsDueToLevel, IsDueToSolve, IsDueToWeigh}, Making.{GoesOut, IsRefusalDue}};
 
 use crate::SfmText;
-use crate::verdict::due_for_verdict;
 use sfm_base::Memory;
 use sfm_cert::Header;
 use sfm_check::judge_with;
-use sfm_due::{Due, due_to_solve, due_to_weigh, refuse};
+use sfm_due::{
+    Due, due_for_verdict, due_to_ask, due_to_level, due_to_solve, due_to_weigh, refuse, too_large,
+};
+use sfm_edit::apply;
 use sfm_kind::Instance;
-use sfm_side::read_sizes;
+use sfm_side::{read_pins, read_sizes};
 use sfm_sizes::ones;
-use sfm_text::{TextEnd, read_instance};
+use sfm_text::{Numbered, Reason, TextEnd, read_instance, read_numbered};
 use std::alloc::Global;
 
 /// Lets what is due go out, in memory of its own, and gives its code; where memory ran out, no byte goes out, and the code
@@ -133,6 +137,72 @@ pub(crate) fn make_weighed(
 {
     match read_instance(alloc, text) {
         Ok(instance) => check_by(alloc, &instance, sizes, answer),
+        Err(end) => due_for_end(alloc, b"refused", end),
+    }
+}
+
+/// What is due to find the best set of an instance with the pins of a text.
+fn ask_by(alloc: Global, instance: &Instance, pins: &[u8]) -> Result<Due, Memory>
+    ensures { IfOk result (IsMade (IsDueForPins (question_of instance.now) pins.now
+        (λ p. IsDone (IsAnswered instance.now.names (meanings_of instance.now.terms) p)))) }
+{
+    match read_pins(alloc, instance, pins) {
+        Ok(pinned) => due_to_ask(alloc, instance, &pinned),
+        Err(end) => due_for_end(alloc, b"pins", end),
+    }
+}
+
+/// What is due to find the best set of the instance of a text with the pins of a second one.
+pub(crate) fn make_ask(alloc: Global, text: &[u8], pins: &[u8]) -> Result<Due, Memory>
+    ensures { IfOk result (IsMade (IsDueToAsk text.now pins.now)) }
+{
+    match read_instance(alloc, text) {
+        Ok(instance) => ask_by(alloc, &instance, pins),
+        Err(end) => due_for_end(alloc, b"refused", end),
+    }
+}
+
+/// What is due to find the most level base of an instance with the numbers of its lines.
+fn level_of(alloc: Global, numbered: &Numbered) -> Result<Due, Memory>
+    requires { length numbered.now.term_lines.items ≡ length numbered.now.instance.terms }
+    ensures { (text : List ℕ)
+        → IsTextOf text numbered.now.instance.names numbered.now.instance.terms
+        → AreNumbersOf text numbered.now.ground_line numbered.now.term_lines.items
+        → IfOk result (IsMade (IsDueToLevel text)) }
+{
+    match too_large(&numbered.instance, &numbered.term_lines) {
+        Some(line) => Ok(refuse(alloc, b"refused", line, Reason::Total)?),
+        None => due_to_level(alloc, &numbered.instance),
+    }
+}
+
+/// What is due to find the most level base of the instance of a text.
+pub(crate) fn make_level(alloc: Global, text: &[u8]) -> Result<Due, Memory>
+    ensures { IfOk result (IsMade (IsDueToLevel text.now)) }
+{
+    match read_numbered(alloc, text) {
+        Ok(numbered) => level_of(alloc, &numbered),
+        Err(end) => due_for_end(alloc, b"refused", end),
+    }
+}
+
+/// What is due to solve the instance that the edits of a text lead to.
+fn edit_by(alloc: Global, instance: Instance, edits: &[u8]) -> Result<Due, Memory>
+    ensures { IfOk result (IsMade (IsDueForEdits (question_of instance) edits.now
+        (λ edited. IsDone (IsSolved edited)))) }
+{
+    match apply(alloc, instance, edits) {
+        Ok(edited) => due_to_solve(alloc, &edited.instance),
+        Err(end) => due_for_end(alloc, b"edits", end),
+    }
+}
+
+/// What is due to solve the instance that the edits of a second text lead to from that of a first.
+pub(crate) fn make_edit(alloc: Global, text: &[u8], edits: &[u8]) -> Result<Due, Memory>
+    ensures { IfOk result (IsMade (IsDueToEdit text.now edits.now)) }
+{
+    match read_instance(alloc, text) {
+        Ok(instance) => edit_by(alloc, instance, edits),
         Err(end) => due_for_end(alloc, b"refused", end),
     }
 }
