@@ -1,16 +1,10 @@
 -- The floor of a slope.
-use Rattle.std.proofs.Common.{zero, ◌/◌, ◌<◌, ℤ, pos, negsuc, ◌+ℤ◌, ◌*ℤ◌, ◌≤ℤ◌, ◌<ℤ◌, arith}
+use Rattle.std.proofs.Common.{zero, ◌<◌, ℤ, pos, negsuc, ◌*ℤ◌, ◌≤ℤ◌, arith}
 use Rattle.std.proofs.Math.Nat.{lt-mul-div-succ, mul-div-le}
 use Rattle.std.proofs.lemmas.Int.{ints}
 use Rattle.std.specs.Int.{int_div_euclid}
-use Rattle.sfm_spec.proofs.Scaled.{times-add}
 
 pub floor-least : (p q : ℤ) → pos 1 ≤ℤ q → (q *ℤ int_div_euclid p q) ≤ℤ p
 floor-least p (negsuc b) one = absurd (omega (arith, ints, one))
 floor-least (pos a) (pos b) one = omega (arith, ints, mul-div-le a b)
 floor-least (negsuc a) (pos b) one = let some : zero < b = omega (arith, ints, one) in omega (arith, ints, lt-mul-div-succ a {b = b} some)
-
-pub floor-next : (p q : ℤ) → pos 1 ≤ℤ q → p <ℤ (q *ℤ (int_div_euclid p q +ℤ pos 1))
-floor-next p (negsuc b) one = absurd (omega (arith, ints, one))
-floor-next (pos a) (pos b) one = let some : zero < b = omega (arith, ints, one) in omega (arith, ints, lt-mul-div-succ a {b = b} some)
-floor-next (negsuc a) (pos b) one = let e = times-add (pos b) (negsuc (a / b)) (pos 1) in omega (arith, ints, mul-div-le a b, e)

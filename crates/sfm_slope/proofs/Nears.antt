@@ -1,34 +1,31 @@
 -- The least minimiser at a slope, or a larger one than some set at a slope below.
-use Rattle.std.proofs.Common.{◌≡◌, ◌≢◌, ◌⊎◌, ℕ, ◌<◌, Bool, List, length, ℤ, pos, ◌+ℤ◌, ◌*ℤ◌, ◌≤ℤ◌, ◌<ℤ◌, Option, Some, None, sym, ◌∙◌, arith, inl, inr}
+use Rattle.std.proofs.Common.{◌≡◌, ◌⊎◌, ℕ, ◌<◌, Bool, List, length, ℤ, pos, ◌*ℤ◌, ◌≤ℤ◌, Option, Some, None, sym, ◌∙◌, arith, inl, inr}
 use Rattle.std.proofs.lemmas.Int.{ints, by_lt_z}
 use Rattle.sfm_spec.specs.Sets.{size, IsWithin}
-use Rattle.sfm_spec.specs.Slopes.{IsLowerSlope, IsSameSlope}
+use Rattle.sfm_spec.specs.Slopes.{IsSameSlope}
 use Rattle.sfm_spec.specs.Families.{Meaning, AreTerms, IsMinimiser, IsLeast, sized_shift}
 use Rattle.sfm_spec.specs.Laws.{Mark}
-use Rattle.sfm_spec.specs.Search.{IsAbove, IsEven, IsFloor}
+use Rattle.sfm_spec.specs.Search.{IsEven, IsFloor}
 use Rattle.sfm_spec.proofs.Lattice.{least_exists}
 use Rattle.sfm_spec.proofs.Nest.{least_same_slope, same_slope, slopes_nest}
 use Rattle.sfm_spec.proofs.Scaled.{times-comm}
-use Rattle.sfm_spec.proofs.Search.{floor_places, floor_within}
+use Rattle.sfm_spec.proofs.Search.{floor_within}
 use Rattle.sfm_spec.proofs.Sizes.{AreSizes, size_within}
 use Rattle.sfm_slope.specs.Gaps.{IsBegun, IsGap}
 use Rattle.sfm_slope.specs.Nears.{IsLargerBelow, IsLeastNear}
 use Rattle.sfm_slope.proofs.Gaps.{gap_between}
 
--- a whole slope is the slope itself where the denominator is 1, and at most that in any case
-pub near_whole : (terms : List Meaning) (n : ℕ) (sizes : List ℤ) (p q floor : ℤ) (most : ℕ) (s : List Bool)
-    → (q *ℤ floor) ≤ℤ p → p <ℤ (q *ℤ (floor +ℤ pos 1)) → IsLeast terms n (pos 1) (sized_shift sizes floor) s
-    → (q ≡ pos 1) ⊎ (most < size s) → IsLeastNear terms n sizes p q most s
-near_whole terms n sizes p q floor most s low high least (inl one) =
-    let l : (pos 1 *ℤ floor) ≤ℤ p = rw one at low in
-    let h : p <ℤ (pos 1 *ℤ (floor +ℤ pos 1)) = rw one at high in
-    let is : floor ≡ p = omega (arith, ints, l, h) in
-    inl (rw (one, ← is) least)
-near_whole terms n sizes p q floor most s low high least (inr more) = inr (record {
-  num = floor;
-  den = pos 1;
+-- the least minimiser at so many 64ths, where these are the slope, or are at most the slope and the set is larger
+pub near_part : (terms : List Meaning) (n : ℕ) (sizes : List ℤ) (p q part : ℤ) (most : ℕ) (s : List Bool)
+    → pos 1 ≤ℤ q → (q *ℤ part) ≤ℤ (p *ℤ pos 64) → IsLeast terms n (pos 64) (sized_shift sizes part) s
+    → IsSameSlope part (pos 64) p q ⊎ (most < size s) → IsLeastNear terms n sizes p q most s
+near_part terms n sizes p q part most s lq low least (inl same) =
+    inl (least_same_slope terms n sizes part (pos 64) p q s (omega (arith, ints)) lq same least)
+near_part terms n sizes p q part most s lq low least (inr more) = inr (record {
+  num = part;
+  den = pos 64;
   positive = omega (arith, ints);
-  below = omega (arith, ints, low, times-comm floor q);
+  below = rw (times-comm part q) low;
   least = least;
   larger = more;
 })

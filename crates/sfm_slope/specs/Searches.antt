@@ -4,10 +4,10 @@ use Rattle.sfm_spec.specs.Terms.{SetFunction}
 use Rattle.sfm_exchange.specs.Graph.{IsClaimed, IsShaped}
 use Rattle.sfm_slope.specs.declared.search.Search.{Search}
 
--- all graphs are of the terms over n places, the first and the warm one at bases of the terms themselves, the cold one at
--- whatever was left in it; a shift has a number for each place
+-- all graphs are of the terms over n places, the first one at bases of the terms themselves, the warm one at bases of 64 times
+-- the terms, the cold one at whatever was left in it; a shift has a number for each place
 pub record IsSearch {X N : Type 0} (places : X → List ℕ) (value : X → SetFunction) (size : X → ℤ) (fits : X → N → ℤ → List ℤ → Type 0) (terms : List X) (n : ℕ) (search : Search N) : Type 0 where
   pub first : IsClaimed places value size fits terms n (pos 1) search.first
-  pub warm : IsClaimed places value size fits terms n (pos 1) search.warm
+  pub warm : IsClaimed places value size fits terms n (pos 64) search.warm
   pub cold : IsShaped places value terms n search.cold
   pub shift : length search.shift.items ≡ n

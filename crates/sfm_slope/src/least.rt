@@ -1,15 +1,15 @@
-// The least minimiser at a slope. A graph of the terms themselves goes from slope to slope: its bases at the slope before are
-// bases still, and z differs by the shift alone, so few walks are left. At a slope p/q with q > 1 it is taken to the whole
-// number below p/q, and q times its bases are where the walks for p/q begin. Where the least minimiser at that whole number is
-// large enough to part the search, no such walks are needed.
-ghost use Rattle.std.specs.{Prelude.{◌^◌, length, map, pos, ◌+ℤ◌, ◌*ℤ◌, ◌≤ℤ◌, ◌<ℤ◌, IfOk, OnOk}, List.{All}};
-ghost use Rattle.sfm_spec.specs.{Bounds.{IsAtMost}, Families.{meanings, sized_shift, IsLeast}, Sets.{magnitudes}};
+// The least minimiser at a slope. A graph of 64 times the terms goes from slope to slope: its bases at the slope before are
+// bases still, and z differs by the shift alone, so few walks are left. At a slope it is taken to the 64th below it. Where the
+// least minimiser there is large enough to part the search, or that 64th is the slope, nothing more is needed. Else, at a
+// slope p/q, q times its bases are where few walks are left. Where q is too large for this, they begin at the first bases.
+ghost use Rattle.std.specs.{Prelude.{◌≡◌, ◌^◌, true, length, map, pos, ◌*ℤ◌, ◌≤ℤ◌, IfOk, OnOk}, List.{All}};
+ghost use Rattle.sfm_spec.specs.{Bounds.{IsAtMost}, Families.{meanings, sized_shift, IsLeast}, Sets.{magnitudes}, Slopes.{IsSameSlope}};
 ghost use Rattle.sfm_exchange.specs.Graph.{IsClaimed};
 ghost use Rattle.sfm_sizes.specs.Sizes.{AreElementSizes};
 ghost use Rattle.sfm_slope.specs.{Nears.{IsLeastNear}, Searches.{IsSearch}};
 
-use crate::rows::{are_small, first_rows, rows_times};
-use crate::search::Search;
+use crate::rows::{are_small, first_rows, grains, rows_times};
+use crate::search::{GRAIN, Search};
 use sfm_base::{Memory, Set, Slope, Steps};
 use sfm_exchange::{Graph, restart, restart_by};
 use sfm_law::Term;
@@ -17,8 +17,8 @@ use sfm_sizes::write_sized;
 use sfm_walk::{improve, least_minimiser};
 use std::alloc::Global;
 
-/// The least minimiser at a slope; or, where that of the whole number below it has more than so many places already, this one,
-/// which is found on the way. It lies within the other.
+/// The least minimiser at a slope; or, where that of a slope just below has more than so many places already, this one, which
+/// is found on the way. It lies within the other.
 ///
 /// # Errors
 ///
@@ -39,16 +39,41 @@ pub fn least_near<T: Term>(
     ensures least { IfOk result (IsLeastNear (meanings T.places T.value_of terms.now)
         (length sizes.now) sizes.now slope.num slope.den size) }
 {
-    let floor = floor_of(slope);
-    let below = least_below(search, terms, sizes, floor)?;
-    if slope.den == 1 || below.size() > size {
+    let part = part_below(slope);
+    let below = least_below(search, terms, sizes, part)?;
+    if is_part(slope, part) || below.size() > size {
         return Ok(below);
+    }
+    if slope.den > MOST_DENOMINATOR {
+        let least = least_from_first(search, terms, sizes, slope)?;
+        return Ok(least);
     }
     let least = least_at(search, terms, sizes, slope)?;
     Ok(least)
 }
 
-// The least minimiser at a whole slope, where the walks begin at the warm bases.
+// The greatest denominator that may be multiplied by the grain.
+const MOST_DENOMINATOR: i128 = 15_625;
+
+// How many 64ths the greatest one has that is at most a slope.
+fn part_below(slope: Slope) -> i128
+    requires { IsAtMost (10 ^ 19) slope.num }
+    ensures small { IsAtMost (10 ^ 21) result }
+    ensures least { (slope.den *ℤ result) ≤ℤ (slope.num *ℤ pos 64) }
+{
+    grains(slope.num).div_euclid(slope.den)
+}
+
+// Whether so many 64ths are a slope.
+fn is_part(slope: Slope, part: i128) -> bool
+    requires small { IsAtMost (10 ^ 19) slope.num }
+    requires part { IsAtMost (10 ^ 21) part }
+    ensures { result ≡ true → IsSameSlope part (pos 64) slope.num slope.den }
+{
+    part * slope.den == grains(slope.num)
+}
+
+// The least minimiser at so many 64ths, where the walks begin at the warm bases.
 fn least_below<T: Term>(
     search: &mut Search<T::Note>,
     terms: &[T],
@@ -58,21 +83,48 @@ fn least_below<T: Term>(
     requires sizes { AreElementSizes (length sizes.now) sizes.now }
     requires search { IsSearch T.places T.value_of T.size_of T.fits terms.now
         (length sizes.now) search.old }
-    requires small { IsAtMost (10 ^ 19) p }
+    requires small { IsAtMost (10 ^ 21) p }
     ensures search { OnOk result (IsSearch T.places T.value_of T.size_of T.fits terms.now
         (length sizes.now) search.new) }
     ensures least { IfOk result (IsLeast (meanings T.places T.value_of terms.now)
-        (length sizes.now) (pos 1) (sized_shift sizes.now p)) }
+        (length sizes.now) (pos 64) (sized_shift sizes.now p)) }
 {
     let alloc = search.alloc;
     keep_small(alloc, &mut search.warm, terms, sizes.len())?;
     write_sized(&mut search.shift, sizes, p);
-    let least = least_by(alloc, &mut search.warm, terms, 1, &search.shift)?;
+    let least = least_by(alloc, &mut search.warm, terms, GRAIN, &search.shift)?;
     Ok(least)
 }
 
 // The least minimiser at a slope, where the walks begin at a multiple of the warm bases.
 fn least_at<T: Term>(
+    search: &mut Search<T::Note>,
+    terms: &[T],
+    sizes: &[i128],
+    slope: Slope,
+) -> Result<Set, Memory>
+    requires sizes { AreElementSizes (length sizes.now) sizes.now }
+    requires search { IsSearch T.places T.value_of T.size_of T.fits terms.now
+        (length sizes.now) search.old }
+    requires small { IsAtMost (10 ^ 19) slope.num }
+    requires few { slope.den ≤ℤ pos 15625 }
+    ensures search { OnOk result (IsSearch T.places T.value_of T.size_of T.fits terms.now
+        (length sizes.now) search.new) }
+    ensures least { IfOk result (IsLeast (meanings T.places T.value_of terms.now)
+        (length sizes.now) slope.den (sized_shift sizes.now slope.num)) }
+{
+    let alloc = search.alloc;
+    let p = grains(slope.num);
+    let q = grains(slope.den);
+    let bases = rows_times(alloc, terms, slope.den, &search.warm.bases)?;
+    restart(alloc, &mut search.cold, terms, sizes.len(), q, bases)?;
+    write_sized(&mut search.shift, sizes, p);
+    let least = least_by(alloc, &mut search.cold, terms, q, &search.shift)?;
+    Ok(least)
+}
+
+// The least minimiser at a slope, where the walks begin at the first bases.
+fn least_from_first<T: Term>(
     search: &mut Search<T::Note>,
     terms: &[T],
     sizes: &[i128],
@@ -88,47 +140,37 @@ fn least_at<T: Term>(
         (length sizes.now) slope.den (sized_shift sizes.now slope.num)) }
 {
     let alloc = search.alloc;
-    let bases = rows_times(alloc, terms, slope.den, &search.warm.bases)?;
+    let bases = first_rows(alloc, terms, slope.den)?;
     restart_by(
         alloc,
         &mut search.cold,
         terms,
         slope.den,
         bases,
-        &search.warm,
+        &search.first,
     )?;
     write_sized(&mut search.shift, sizes, slope.num);
     let least = least_by(alloc, &mut search.cold, terms, slope.den, &search.shift)?;
     Ok(least)
 }
 
-/// The greatest whole number that is at most a slope.
-pub fn floor_of(slope: Slope) -> i128
-    requires { IsAtMost (10 ^ 19) slope.num }
-    ensures small { IsAtMost (10 ^ 19) result }
-    ensures least { (slope.den *ℤ result) ≤ℤ slope.num }
-    ensures next { slope.num <ℤ (slope.den *ℤ (result +ℤ pos 1)) }
-{
-    slope.num.div_euclid(slope.den)
-}
-
-// Leaves a graph of the terms as it is where its entries are small, and else takes it to the first bases.
+// Leaves a graph of 64 times the terms as it is where its entries are small, and else takes it to the first bases.
 fn keep_small<T: Term>(
     alloc: Global,
     graph: &mut Graph<T::Note>,
     terms: &[T],
     n: usize,
 ) -> Result<(), Memory>
-    requires graph { IsClaimed T.places T.value_of T.size_of T.fits terms.now n (pos 1) graph.old }
+    requires graph { IsClaimed T.places T.value_of T.size_of T.fits terms.now n (pos 64) graph.old }
     ensures graph { OnOk result (IsClaimed T.places T.value_of T.size_of T.fits terms.now n
-        (pos 1) graph.new) }
+        (pos 64) graph.new) }
     ensures small { OnOk result (All (λ x. All (IsAtMost (10 ^ 25)) x) graph.new.bases) }
 {
     if are_small(&graph.bases, 10_000_000_000_000_000_000_000_000) {
         return Ok(());
     }
-    let bases = first_rows(alloc, terms, 1)?;
-    restart(alloc, graph, terms, n, 1, bases)?;
+    let bases = first_rows(alloc, terms, GRAIN)?;
+    restart(alloc, graph, terms, n, GRAIN, bases)?;
     Ok(())
 }
 

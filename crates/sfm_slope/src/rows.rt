@@ -4,6 +4,7 @@
 ghost use Rattle.std.specs.{Prelude.{◌≡◌, ◌↔◌, ◌≤◌, ◌^◌, map, pos, unsigned_abs, ◌*ℤ◌, ◌≤ℤ◌, IsTrue, IfOk}, List.{All}};
 ghost use Rattle.sfm_spec.specs.{Bounds.{IsAtMost, IsFactor, total_of}, Families.{meanings, AreBases}};
 
+use crate::search::GRAIN;
 use sfm_base::{Memory, Rows};
 use sfm_law::{Term, product, start_rows};
 use std::alloc::Global;
@@ -23,8 +24,17 @@ pub fn first_rows<T: Term>(alloc: Global, terms: &[T], q: i128) -> Result<Rows, 
     Ok(rows)
 }
 
-/// Bases of q times the terms with entries of magnitude at most 10^25: q times the given bases of the terms where these have
-/// entries of at most 10^19, and else the first bases.
+/// A number times `GRAIN`.
+pub fn grains(a: i128) -> i128
+    requires { IsAtMost (10 ^ 19) a }
+    ensures times { result ≡ (a *ℤ pos 64) }
+    ensures small { IsAtMost (10 ^ 21) result }
+{
+    a * GRAIN
+}
+
+/// Bases of q times `GRAIN` times the terms with entries of magnitude at most 10^25: q times the given bases of `GRAIN` times
+/// the terms where these have entries of at most 10^19, and else the first bases.
 ///
 /// # Errors
 ///
@@ -37,15 +47,17 @@ pub fn rows_times<T: Term>(
 ) -> Result<Rows, Memory>
     requires sizes { total_of (map T.size_of terms.now) ≤ℤ pos (10 ^ 18) }
     requires factor { IsFactor q }
-    requires bases { AreBases (pos 1) (meanings T.places T.value_of terms.now) bases.now }
-    ensures bases { IfOk result (AreBases q (meanings T.places T.value_of terms.now)) }
+    requires few { q ≤ℤ pos 15625 }
+    requires bases { AreBases (pos 64) (meanings T.places T.value_of terms.now) bases.now }
+    ensures bases { IfOk result (AreBases (q *ℤ pos 64)
+        (meanings T.places T.value_of terms.now)) }
     ensures small { IfOk result (λ r. All (λ x. All (IsAtMost (10 ^ 25)) x) r) }
 {
     if are_small(bases, 10_000_000_000_000_000_000) {
         let rows = all_times(alloc, q, bases)?;
         return Ok(rows);
     }
-    first_rows(alloc, terms, q)
+    first_rows(alloc, terms, grains(q))
 }
 
 /// Whether each entry of each row has a magnitude of at most `most`.

@@ -1,15 +1,19 @@
 // What the search for the breakpoints and the runs for their sections share: three exchange graphs of the terms and a
 // shift, which are made once and used again at each slope. The rows at the first bases hang on no slope, so one graph stays
-// at these, and no term is asked for them again.
+// at these, and no term is asked for them again. One goes from slope to slope at 64 times the terms, whatever the denominators
+// are: so it comes within a 64th of each slope, though slopes may lie close together where sizes are large.
 ghost use Rattle.std.specs.Prelude.{map, IfOk};
 ghost use Rattle.sfm_spec.specs.Bounds.{AreBounded};
 ghost use Rattle.sfm_slope.specs.Searches.{IsSearch};
 
 use crate::rows::first_rows;
 use sfm_base::Memory;
-use sfm_exchange::{Graph, copy_graph, graph_at};
+use sfm_exchange::{Graph, copy_graph, graph_at, restart_by};
 use sfm_law::Term;
 use std::alloc::Global;
+
+/// The factor of the graph that goes from slope to slope.
+pub const GRAIN: i128 = 64;
 
 /// Three exchange graphs of the terms over one ground.
 pub struct Search<N> {
@@ -17,7 +21,7 @@ pub struct Search<N> {
     pub alloc: Global,
     /// Of the terms themselves, at their first bases.
     pub first: Graph<N>,
-    /// Of the terms themselves, at the bases of the slope that was looked at last.
+    /// Of `GRAIN` times the terms, at the bases of the slope that was looked at last.
     pub warm: Graph<N>,
     /// Of some factor times the terms, made one at other bases before each use.
     pub cold: Graph<N>,
@@ -50,7 +54,9 @@ impl<N> Search<N> {
     {
         let shift = vec![in alloc; 0i128; n]?;
         let first = graph_at(alloc, terms, n, 1, first_rows(alloc, terms, 1)?)?;
-        let warm = copy_graph(alloc, &first, terms, n, 1)?;
+        let mut warm = copy_graph(alloc, &first, terms, n, 1)?;
+        let bases = first_rows(alloc, terms, GRAIN)?;
+        restart_by(alloc, &mut warm, terms, GRAIN, bases, &first)?;
         let cold = copy_graph(alloc, &first, terms, n, 1)?;
         Ok(Search {
             alloc,

@@ -1,22 +1,37 @@
-use Rattle.std.proofs.Common.{◌≡◌, ◌^◌, length, ap, sym, ◌∙◌, FitsSigned, arith}
+use Rattle.std.proofs.Common.{◌≡◌, ◌^◌, length, pos, ◌*ℤ◌, ap, sym, ◌∙◌, FitsSigned, arith}
 use Rattle.std.proofs.lemmas.Int.{ints, to_z-of_z}
 use Rattle.std.proofs.lemmas.List.{length-map, with_items_is}
 use mir.Syntax.{w128}
-use Rattle.sfm_spec.specs.Families.{sized_shift}
-use Rattle.sfm_exchange.proofs.ClaimedGraphs.{shaped}
+use Rattle.sfm_spec.specs.Families.{meanings, sized_shift, IsLeast}
+use Rattle.sfm_spec.specs.Bounds.{IsFactor}
+use Rattle.sfm_spec.proofs.Nest.{least_same_slope}
+use Rattle.sfm_exchange.proofs.ClaimedGraphs.{shaped, whole_claimed}
 use Rattle.sfm_sizes.proofs.Sized.{sized-small}
-use Rattle.sfm_slope.proofs.Scaled.{rows-entries}
+use Rattle.sfm_slope.proofs.Scaled.{factor-grains, same-grains}
 use Rattle.sfm_slope.proofs.least.least_at.Given as given
 use Rattle.sfm_slope.proofs.least.least_at.Goals as goal
 use Rattle.sfm_slope.proofs.least.least_at.Goals.{After-deref}
 
--- all of the shift is written
-written : (g : given.Over) (c : After-deref g)
-    → c.deref.result.now ≡ sized_shift c.args.sizes.now c.args.slope.num
-written g c =
+-- 64 times the numbers of the slope
+tops : (g : given.Over) (c : After-deref g) → c.grains-p.result ≡ (c.args.slope.num *ℤ pos 64)
+tops g c =
     let s = c.args.slope in
     let fp : FitsSigned w128 s.num = omega (arith, ints, s.entry.low, s.entry.high) in
-    let sized : c.write_sized.new.shift ≡ sized_shift c.args.sizes.now s.num
+    simp to_z-of_z at c.grains-p.ensures.times
+
+bottoms : (g : given.Over) (c : After-deref g) → c.grains-q.result ≡ (c.args.slope.den *ℤ pos 64)
+bottoms g c =
+    let s = c.args.slope in
+    let fq : FitsSigned w128 s.den = omega (arith, ints, s.factor.low, s.factor.high) in
+    simp to_z-of_z at c.grains-q.ensures.times
+
+-- all of the shift is written
+written : (g : given.Over) (c : After-deref g)
+    → c.deref.result.now ≡ sized_shift c.args.sizes.now c.grains-p.result
+written g c =
+    let small = c.grains-p.ensures.small in
+    let fp : FitsSigned w128 c.grains-p.result = omega (arith, ints, small.low, small.high) in
+    let sized : c.write_sized.new.shift ≡ sized_shift c.args.sizes.now c.grains-p.result
     = simp to_z-of_z at c.write_sized.ensures in
     c.deref.ensures.value
     ∙ (with_items_is c.args.search.now.shift c.write_sized.new.shift
@@ -26,57 +41,30 @@ written g c =
 long : (g : given.Over) (c : After-deref g) → length c.deref.result.now ≡ length c.args.sizes.now
 long g c = ap length (written g c) ∙ length-map c.args.sizes.now _
 
-pub rows_times-requires-clause-bases : goal.rows_times-requires-clause-bases
-rows_times-requires-clause-bases g c = c.requires.search.warm.are_bases
-
-pub rows_times-requires-clause-sizes : goal.rows_times-requires-clause-sizes
-rows_times-requires-clause-sizes g c = c.requires.search.first.bounded.small
-
-pub restart_by-requires-clause-bounded : goal.restart_by-requires-clause-bounded
-restart_by-requires-clause-bounded g c = rw c.requires.search.cold.are_spots.count c.requires.search.first.bounded
-
-pub restart_by-requires-clause-graph : goal.restart_by-requires-clause-graph
-restart_by-requires-clause-graph g c = rw c.requires.search.cold.are_spots.count c.requires.search.cold
-
-pub restart_by-requires-clause-bases : goal.restart_by-requires-clause-bases
-restart_by-requires-clause-bases g c = c.in_ok-bases.ensures.bases
-
-pub restart_by-requires-clause-small : goal.restart_by-requires-clause-small
-restart_by-requires-clause-small g c = rows-entries c.in_ok-bases.bases c.in_ok-bases.ensures.small
-
-pub restart_by-requires-clause-other : goal.restart_by-requires-clause-other
-restart_by-requires-clause-other g c = rw c.requires.search.cold.are_spots.count c.requires.search.warm
-
-pub write_sized-requires-clause-sizes : goal.write_sized-requires-clause-sizes
-write_sized-requires-clause-sizes g c =
-    let sized : length c.deref_mut.result.now ≡ length c.args.sizes.now
-    = ap length c.deref_mut.ensures.value ∙ c.requires.search.shift in
-    rw sized c.requires.sizes
-
-pub write_sized-requires-clause-small : goal.write_sized-requires-clause-small
-write_sized-requires-clause-small g c =
-    let s = c.args.slope in
-    let r = c.requires.small in
-    let fp : FitsSigned w128 s.num = omega (arith, ints, s.entry.low, s.entry.high) in
-    simp to_z-of_z (record { low = omega (arith, ints, r.low); high = omega (arith, ints, r.high) })
-
 pub least_by-requires-clause-shifts : goal.least_by-requires-clause-shifts
 least_by-requires-clause-shifts g c =
-    let m = sized-small (10 ^ 19) _ c.args.sizes.now c.args.slope.num c.requires.small c.requires.sizes in
+    let m = sized-small (10 ^ 21) _ c.args.sizes.now c.grains-p.result c.grains-p.ensures.small c.requires.sizes in
     rw (written g (goal.at.least_by-requires-clause-shifts g c).After-deref) (omega (arith, ints, m))
 
 pub least_by-requires-clause-graph : goal.least_by-requires-clause-graph
 least_by-requires-clause-graph g c =
-    let told = rw c.requires.search.cold.are_spots.count at c.in_ok-restart_by.ensures.graph in
-    rw (long g (goal.at.least_by-requires-clause-graph g c).After-deref) told
+    let s = c.args.slope in
+    let small = c.grains-q.ensures.small in
+    let fq : FitsSigned w128 c.grains-q.result = omega (arith, ints, small.low, small.high) in
+    let at = (goal.at.least_by-requires-clause-graph g c).After-deref in
+    let factor : IsFactor c.grains-q.result
+    = rw (bottoms g at) (factor-grains s.den s.factor c.requires.few) in
+    let exact = simp to_z-of_z at c.in_ok-restart.ensures.graph in
+    let told = whole_claimed (record { bounded = c.requires.search.first.bounded; factor = factor; exact = exact }) in
+    rw (long g at) (simp to_z-of_z told)
 
 pub least_by-requires-clause-small : goal.least_by-requires-clause-small
-least_by-requires-clause-small g c = rw c.in_ok-restart_by.ensures.bases c.in_ok-bases.ensures.small
+least_by-requires-clause-small g c = rw c.in_ok-restart.ensures.bases c.in_ok-bases.ensures.small
 
 pub returns-clause-search : goal.returns-clause-search
 returns-clause-search g c =
-    let s = c.args.slope in
-    let fq : FitsSigned w128 s.den = omega (arith, ints, s.factor.low, s.factor.high) in
+    let small = c.grains-q.ensures.small in
+    let fq : FitsSigned w128 c.grains-q.result = omega (arith, ints, small.low, small.high) in
     let at = (goal.at.returns-clause-search g c).After-deref in
     let cold = rw (long g at) at (simp to_z-of_z at c.in_ok-least.ensures.graph) in
     record {
@@ -88,7 +76,18 @@ returns-clause-search g c =
 
 pub returns-clause-least : goal.returns-clause-least
 returns-clause-least g c =
+    let t = g.T.Term in
     let s = c.args.slope in
-    let fq : FitsSigned w128 s.den = omega (arith, ints, s.factor.low, s.factor.high) in
+    let sizes = c.args.sizes.now in
+    let n = length sizes in
+    let ts = meanings t.places t.value_of c.args.terms.now in
+    let small = c.grains-q.ensures.small in
+    let fq : FitsSigned w128 c.grains-q.result = omega (arith, ints, small.low, small.high) in
     let at = (goal.at.returns-clause-least g c).After-deref in
-    rw (written g at, length-map c.args.sizes.now _) at (simp to_z-of_z at c.in_ok-least.ensures.least)
+    let found : IsLeast ts n c.grains-q.result (sized_shift sizes c.grains-p.result) c.in_ok-least.least
+    = rw (written g at, length-map sizes _) at (simp to_z-of_z at c.in_ok-least.ensures.least) in
+    let here : IsLeast ts n (s.den *ℤ pos 64) (sized_shift sizes (s.num *ℤ pos 64)) c.in_ok-least.least
+    = rw (← tops g at, ← bottoms g at) found in
+    let one = s.factor.low in
+    least_same_slope ts n sizes (s.num *ℤ pos 64) (s.den *ℤ pos 64) s.num s.den c.in_ok-least.least
+    (omega (arith, ints, one)) one (same-grains s.num s.den) here

@@ -41,7 +41,7 @@ write_sized-requires-clause-small g c =
 
 pub least_by-requires-clause-shifts : goal.least_by-requires-clause-shifts
 least_by-requires-clause-shifts g c =
-    let m = sized-small (10 ^ 19) _ c.args.sizes.now c.args.p c.requires.small c.requires.sizes in
+    let m = sized-small (10 ^ 21) _ c.args.sizes.now c.args.p c.requires.small c.requires.sizes in
     rw (written g (goal.at.least_by-requires-clause-shifts g c).After-deref) (omega (arith, ints, m))
 
 pub least_by-requires-clause-graph : goal.least_by-requires-clause-graph

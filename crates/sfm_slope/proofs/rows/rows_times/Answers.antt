@@ -1,4 +1,4 @@
-use Rattle.std.proofs.Common.{◌≡◌, ◌^◌, map, FitsSigned}
+use Rattle.std.proofs.Common.{◌≡◌, ◌^◌, map, pos, FitsSigned}
 use Rattle.std.proofs.lemmas.Int.{to_z-of_z}
 use mir.Syntax.{w128}
 use Rattle.sfm_spec.specs.Families.{meanings}
@@ -13,7 +13,7 @@ returns-then-are_small-clause-bases g c =
     let bases = c.args.bases.now in
     let fq : FitsSigned w128 q = c.ranges.q in
     let same : c.in_ok-rows.rows ≡ map (row_times q) bases = simp to_z-of_z at c.in_ok-rows.ensures in
-    rw same (bases-times q (meanings t.places t.value_of c.args.terms.now) bases c.requires.factor.low c.requires.bases)
+    rw same (bases-times q (pos 64) (meanings t.places t.value_of c.args.terms.now) bases c.requires.factor.low c.requires.bases)
 
 pub returns-then-are_small-clause-small : goal.returns-then-are_small-clause-small
 returns-then-are_small-clause-small g c =

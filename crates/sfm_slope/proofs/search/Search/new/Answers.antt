@@ -13,10 +13,30 @@ pub returns : goal.returns
 returns g c =
     record {
       first = whole_claimed (record { bounded = c.requires.bounded; factor = one; exact = c.in_ok-first.ensures.graph });
-      warm = whole_claimed (record { bounded = c.requires.bounded; factor = one; exact = c.in_ok-warm.ensures });
+      warm = rw c.in_ok-warm.ensures.are_spots.count at c.in_ok-restart_by.ensures.graph;
       cold = shaped (whole_claimed (record { bounded = c.requires.bounded; factor = one; exact = c.in_ok-cold.ensures }));
       shift = search rules;
     }
+
+pub first_rows-requires-2-clause-sizes : goal.first_rows-requires-2-clause-sizes
+first_rows-requires-2-clause-sizes g c = c.requires.bounded.small
+
+pub restart_by-requires-clause-bounded : goal.restart_by-requires-clause-bounded
+restart_by-requires-clause-bounded g c = rw c.in_ok-warm.ensures.are_spots.count c.requires.bounded
+
+pub restart_by-requires-clause-graph : goal.restart_by-requires-clause-graph
+restart_by-requires-clause-graph g c =
+    rw c.in_ok-warm.ensures.are_spots.count (shaped (whole_claimed (record { bounded = c.requires.bounded; factor = one; exact = c.in_ok-warm.ensures })))
+
+pub restart_by-requires-clause-other : goal.restart_by-requires-clause-other
+restart_by-requires-clause-other g c =
+    rw c.in_ok-warm.ensures.are_spots.count (whole_claimed (record { bounded = c.requires.bounded; factor = one; exact = c.in_ok-first.ensures.graph }))
+
+pub restart_by-requires-clause-bases : goal.restart_by-requires-clause-bases
+restart_by-requires-clause-bases g c = c.in_ok-bases.ensures.bases
+
+pub restart_by-requires-clause-small : goal.restart_by-requires-clause-small
+restart_by-requires-clause-small g c = rows-entries c.in_ok-bases.bases c.in_ok-bases.ensures.small
 
 pub first_rows-requires-clause-sizes : goal.first_rows-requires-clause-sizes
 first_rows-requires-clause-sizes g c = c.requires.bounded.small
