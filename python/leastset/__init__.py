@@ -17,8 +17,8 @@ above 0, what brings something is below 0, and the answer tells the sets that ar
 The work is done by the proved solver and judge: by the library libsfm.so where it is found, and else by the program sfm (`engines`).
 `solve` has each answer judged. Nothing is proved of this package itself. `leastset.models` has well-known problems.
 """
-from .answer import Answer, Block, Pinned, Step
-from .calls import ask, check, solve, weigh
+from .answer import Answer, Block, Level, Pinned, Step
+from .calls import ask, check, level, solve, weigh
 from .engines import Library, Program, engine, use
 from .errors import Error, Failed, Invalid, NoEngine, OutOfMemory, Refused, TimedOut, Unreadable
 from .instance import Instance
@@ -31,6 +31,7 @@ __all__ = [
     "Failed",
     "Instance",
     "Invalid",
+    "Level",
     "Library",
     "NoEngine",
     "OutOfMemory",
@@ -43,6 +44,7 @@ __all__ = [
     "ask",
     "check",
     "engine",
+    "level",
     "solve",
     "use",
     "weigh",

@@ -4,7 +4,7 @@ from __future__ import annotations
 import re
 from bisect import bisect_left, bisect_right
 from fractions import Fraction
-from typing import Dict, FrozenSet, Iterable, Iterator, List, Mapping, NamedTuple, Optional, Tuple, Union
+from typing import Dict, FrozenSet, Iterable, Iterator, List, Mapping, NamedTuple, Optional, Sequence, Tuple, Union
 
 from .errors import Unreadable
 from .instance import Element, Instance
@@ -38,6 +38,15 @@ class Pinned(NamedTuple):
     greatest: FrozenSet[Element]
 
 
+class Level(NamedTuple):
+    """A number for each element, all together what the ground is worth and no set with more than it is worth, with the least sum of
+    squares; and for each term a base, a number for each of its elements: these add up to the vector."""
+
+    squares: int
+    vector: Dict[Element, int]
+    bases: List[Dict[Element, int]]
+
+
 LISTED = r"((?: [A-Za-z0-9_]+)*)"
 # The lines of an answer up to its proof, in their order: those of a word may stand there as often as is said.
 LINES = [
@@ -49,6 +58,7 @@ LINES = [
     ("slope", re.compile(f"slope (-?[0-9]+/[1-9][0-9]*){LISTED}"), None),
 ]
 PINNED = re.compile(rf"pinned 1\nminimum (-?[0-9]+)\nleast{LISTED}\ngreatest{LISTED}\nend\n")
+LEVEL = re.compile(r"level 1\nsquares ([0-9]+)\nvector((?: -?[0-9]+)*)\n((?:base [0-9]+(?: -?[0-9]+)*\n)*)end\n")
 # What other texts begin with that are taken for answers.
 OTHERS = {
     "": "the file is empty, or begins with a blank line",
@@ -199,11 +209,17 @@ class Answer:
         except ValueError:
             raise ValueError(f"{slope} is neither 0 nor a slope of this answer") from None
         terms = content(self._terms)[2:-1] if isinstance(self._terms, str) else self._terms
-        found = []
-        for term, line in zip(terms, lines[start : start + len(terms)]):
-            elements = self._listed(" ".join(parts(term)[1]))
-            found.append(dict(zip(elements, map(int, line.split(" ")[2:]))))
-        return found
+        return _bases(terms, lines[start : start + len(terms)], self._elements)
+
+
+def _bases(terms: Sequence[str], lines: Sequence[str], elements: Optional[Mapping[str, Element]]) -> List[Dict[Element, int]]:
+    """For each term line its base, by elements, from the line that tells it."""
+    found = []
+    for term, line in zip(terms, lines):
+        names = parts(term)[1]
+        of = names if elements is None else [elements[name] for name in names]
+        found.append(dict(zip(of, map(int, line.split(" ")[2:]))))
+    return found
 
 
 def _no_answer(due: str, lines: List[str]) -> str:
@@ -226,3 +242,15 @@ def pinned(text: str, instance: Union[Instance, str, None] = None) -> Optional[P
     elements = instance.elements() if isinstance(instance, Instance) else {}
     least, greatest = (frozenset(elements.get(name, name) for name in names.split()) for names in found.groups()[1:])
     return Pinned(int(found[1]), least, greatest)
+
+
+def levelled(text: str, instance: Union[Instance, str]) -> Level:
+    """What a level text says of an instance."""
+    found = LEVEL.fullmatch(text)
+    if not found:
+        raise Unreadable(1, "this is no level text")
+    _, ground, *terms = content(instance.text() if isinstance(instance, Instance) else instance)[:-1]
+    elements = instance.elements() if isinstance(instance, Instance) else None
+    names = ground.split()[1:]
+    order = names if elements is None else [elements[name] for name in names]
+    return Level(int(found[1]), dict(zip(order, map(int, found[2].split()))), _bases(terms, found[3].splitlines(), elements))

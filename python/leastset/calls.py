@@ -1,4 +1,4 @@
-"""Instances in, answers out: `solve`, `weigh`, `ask` and `check`.
+"""Instances in, answers out: `solve`, `weigh`, `ask`, `level` and `check`.
 
 An instance is an `Instance`, or the text of one, whose elements are then its names. With `timeout` a call ends with `TimedOut`
 after so many seconds; it is made by the program, as a call of the library can't be stopped.
@@ -8,7 +8,7 @@ from __future__ import annotations
 import time
 from typing import FrozenSet, Iterable, List, Mapping, Optional, Union
 
-from .answer import Answer, Pinned, pinned
+from .answer import Answer, Level, Pinned, levelled, pinned
 from .engines import engine
 from .errors import Invalid, OutOfMemory, Refused, TimedOut
 from .instance import Element, Instance, Number, whole
@@ -82,6 +82,19 @@ def ask(
     """
     pins = pins_text(_names(instance, inside), _names(instance, outside))
     return pinned(_done("ask", _Clock(timeout), _text(instance), pins), instance)
+
+
+def level(instance: Source, *, timeout: Optional[float] = None) -> Level:
+    """The most level way to share out what all elements are worth together: no set has more than it is worth, and the sum of
+    squares is least. Nothing judges it; that its bases are such is told by their terms.
+
+    >>> loads = Instance(["lathe", "mill", "press"])
+    >>> loads.cover(12, ["lathe", "mill"])
+    >>> loads.cover(6, ["mill", "press"])
+    >>> level(loads).vector
+    {'lathe': 6, 'mill': 6, 'press': 6}
+    """
+    return levelled(_done("level", _Clock(timeout), _text(instance)), instance)
 
 
 def check(
