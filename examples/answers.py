@@ -93,6 +93,14 @@ def ask(instance, inside, outside, keep=None):
         return leastset.ask(instance, inside, outside)
 
 
+def level(instance, keep=None):
+    """The most level base of an instance, which is kept in the file `keep`."""
+    if keep:
+        write_text(keep, instance.text())
+    with stopped("level"):
+        return leastset.level(instance)
+
+
 def asked_of(path, pins):
     """What is least for the instance in a file, among the sets that keep to the pins in another."""
     return pinned(run_well("ask", path, pins))

@@ -9,7 +9,9 @@ prints what `sfm ask` does:
     python3 every_set.py border.sfm --pins border.pins
 
 With --all it takes each instance of a folder with at most 14 elements, also with its sizes and its pins where it has some, and with
-each element held in and out alone, and compares each line with what `sfm` says. A set of elements is a number here: bit i is set where the set has the i-th name of the ground.
+each element held in and out alone, and compares each line with what `sfm` says. Of what `sfm level` says it sees that no set has more
+than it is worth, and that the squares are the least. A set of elements is a number here: bit i is set where the set has the i-th name
+of the ground.
 """
 import argparse
 import glob
@@ -207,6 +209,34 @@ def pinned_lines(ground, values, inside, outside):
     return ["pinned 1", f"minimum {least}", *sets, "end"]
 
 
+def least_squares(values, count):
+    """The least sum of squares of a vector of whole numbers of which no set has more than it is worth, and the ground all of it. What
+    comes in at a slope has the slope in the most level vector of fractions, and in that of whole numbers one of the two beside it."""
+    squares, last = 0, 0
+    for slope, chosen in slopes_of(values, [bin(chosen).count("1") for chosen in range(2**count)]):
+        size, worth, floor = bin(chosen & ~last).count("1"), values[chosen] - values[last], slope.numerator // slope.denominator
+        above = worth - floor * size
+        squares, last = squares + above * (floor + 1) ** 2 + (size - above) * floor**2, chosen
+    return squares
+
+
+def is_level(path):
+    """Whether what `sfm level` says of an instance is so."""
+    ground, values = read_instance(path)
+    lines = run_well("level", path).splitlines()
+    vector = [int(number) for number in lines[2].split()[1:]]
+    sums = [sum(number for e, number in enumerate(vector) if has(chosen, e)) for chosen in range(len(values))]
+    within = all(value is None or total <= value for total, value in zip(sums, values))
+    squares = sum(number * number for number in vector)
+    return (
+        lines[:2] == ["level 1", f"squares {squares}"]
+        and len(vector) == len(ground)
+        and within
+        and sums[-1] == values[-1]
+        and squares == least_squares(values, len(ground))
+    )
+
+
 def is_small(path):
     ground = next((line.split() for line in read_text(path).splitlines() if line.startswith("ground")), [])
     return len(ground) - 1 <= MOST
@@ -230,9 +260,13 @@ def cases_of(path, pins_path):
 
 def compare(folder):
     """Compares what `sfm` says with what is found here, and prints the lines of which only one side knows."""
-    counts, wrong = {"solve": 0, "weigh": 0, "ask": 0}, 0
+    counts, wrong = {"solve": 0, "weigh": 0, "ask": 0, "level": 0}, 0
     with tempfile.TemporaryDirectory() as work:
         for path in filter(is_small, sorted(glob.glob(os.path.join(folder, "*.sfm")))):
+            counts["level"] += 1
+            if not is_level(path):
+                wrong += 1
+                print(f"level {os.path.basename(path)}")
             for words, found in cases_of(path, os.path.join(work, "one.pins")):
                 said = run_well(*words).splitlines()
                 said = said[: said.index("at 0/1")] if "at 0/1" in said else said
@@ -243,7 +277,8 @@ def compare(folder):
                     print("\n".join([f"  sfm says {line}" for line in said if line not in found]))
                     print("\n".join([f"  found    {line}" for line in found if line not in said]))
     answers = counts["solve"] + counts["weigh"]
-    print(f"every set tried: {answers} answers and {counts['ask']} texts on pins, {wrong} differ")
+    told = f"{answers} answers, {counts['ask']} texts on pins and {counts['level']} level texts"
+    print(f"every set tried: {told}, {wrong} differ")
     return 1 if wrong else 0
 
 

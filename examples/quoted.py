@@ -21,7 +21,7 @@ from collections import namedtuple
 Quote = namedtuple("Quote", "line command printed code")
 USAGE = (
     "usage: sfm solve FILE | check FILE ANSWER | demo SEED"
-    " | weigh FILE SIZES | weighed FILE SIZES ANSWER | ask FILE PINS"
+    " | weigh FILE SIZES | weighed FILE SIZES ANSWER | ask FILE PINS | level FILE | edit FILE EDITS"
 )
 
 

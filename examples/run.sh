@@ -14,8 +14,8 @@ ln -s "$(realpath "$program")" "$work/bin/sfm"
 export PATH="$work/bin:$PATH" PYTHONDONTWRITEBYTECODE=1
 unset SFM
 
-# The answer of each instance up to its proof, 100 letters of a line, and the verdict on the whole; then of those with sizes, and the
-# text on pins of those with pins.
+# The answer of each instance up to its proof, 100 letters of a line, and the verdict on the whole; then of those with sizes; the least
+# squares of each; the answer of those with edits, and the text on pins of those with pins.
 instances() {
   for file in "$here"/*.sfm; do
     echo "$(basename "$file")"
@@ -29,6 +29,15 @@ instances() {
     sfm weigh "$file" "$sizes" >"$work/answer"
     sed '/^at /,$d' "$work/answer" | cut -c1-100
     sfm weighed "$file" "$sizes" "$work/answer"
+  done
+  for file in "$here"/*.sfm; do
+    echo "$(basename "$file")"
+    sfm level "$file" | head -2
+  done
+  for edits in "$here"/*.edits; do
+    file=${edits%.edits}.sfm
+    echo "$(basename "$file") $(basename "$edits")"
+    sfm edit "$file" "$edits" | sed '/^at /,$d' | cut -c1-100
   done
   for pins in "$here"/*.pins; do
     file=${pins%.pins}.sfm
@@ -87,6 +96,7 @@ python3 price.py projects.sfm >"$work/expected/price.txt"
 python3 regions.py data/lake.pgm --svg "$work/pictures/lake.svg" >"$work/expected/lake.txt"
 python3 projects.py data/projects.csv --svg "$work/pictures/projects.svg" >"$work/expected/projects.txt"
 python3 order.py data/storm.csv --all --svg "$work/pictures/storm.svg" >"$work/expected/storm.txt"
+python3 loads.py data/loads.csv --all --svg "$work/pictures/loads.svg" >"$work/expected/loads.txt"
 for name in karate petersen grid roads; do
   python3 network.py "data/$name.edges" --svg "$work/pictures/$name.svg" >"$work/expected/$name.txt"
 done
