@@ -4,6 +4,7 @@ from __future__ import annotations
 import re
 from bisect import bisect_left, bisect_right
 from fractions import Fraction
+from functools import cached_property
 from typing import Dict, FrozenSet, Iterable, Iterator, List, Mapping, NamedTuple, Optional, Sequence, Tuple, Union
 
 from .errors import Unreadable
@@ -55,7 +56,7 @@ LINES = [
     ("least", re.compile("least" + LISTED), 1),
     ("greatest", re.compile("greatest" + LISTED), 1),
     ("block", re.compile(f"block [0-9]+{LISTED} :((?: [0-9]+)*)"), None),
-    ("slope", re.compile(f"slope (-?[0-9]+/[1-9][0-9]*){LISTED}"), None),
+    ("slope", re.compile(f"slope (-?[0-9]+)/([1-9][0-9]*){LISTED}"), None),
 ]
 PINNED = re.compile(rf"pinned 1\nminimum (-?[0-9]+)\nleast{LISTED}\ngreatest{LISTED}\nend\n")
 LEVEL = re.compile(r"level 1\nsquares ([0-9]+)\nvector((?: -?[0-9]+)*)\n((?:base [0-9]+(?: -?[0-9]+)*\n)*)end\n")
@@ -99,17 +100,15 @@ class Answer:
         self.sizes = sizes
         #: what all best sets are made of: `least` and some blocks, each with all that it needs
         self.blocks: List[Block] = []
-        #: for each slope what is in from there on
-        self.steps: List[Step] = []
+        #: the elements in their order
+        self.ground: Tuple[Element, ...] = ()
+        #: for each slope the greatest set that is best there
+        self.slopes: List[Tuple[Fraction, FrozenSet[Element]]] = []
         self._elements = instance.elements() if isinstance(instance, Instance) else None
         # the term lines as they are now, as an instance may get further ones
         self._terms = tuple(instance.lines) if isinstance(instance, Instance) else instance
         proof = text.find("\nat ") + 1
         self._read((text[: text.find("\n", proof)] if proof else text).splitlines())
-        #: the elements in their order
-        self.ground: Tuple[Element, ...] = self.steps[-1].members if self.steps else ()
-        #: for each slope the greatest set that is best there
-        self.slopes: List[Tuple[Fraction, FrozenSet[Element]]] = [(it.slope, frozenset(it.members)) for it in self.steps]
 
     def _read(self, lines: List[str]) -> None:
         """Reads the lines up to the first one of the proof."""
@@ -139,21 +138,27 @@ class Answer:
             needs = frozenset(int(number) - 1 for number in found[1].split())
             self.blocks.append(Block(frozenset(self._listed(found[0])), needs))
         elif word == "slope":
-            self.steps.append(self._step(Fraction(found[0]), self._listed(found[1])))
+            # the last one has the whole ground
+            self.ground = self._listed(found[2])
+            self.slopes.append((Fraction(int(found[0]), int(found[1])), frozenset(self.ground)))
 
     def _listed(self, names: str) -> Tuple[Element, ...]:
         found = names.split()
         return tuple(found) if self._elements is None else tuple(self._elements[name] for name in found)
 
-    def _step(self, slope: Fraction, members: Tuple[Element, ...]) -> Step:
-        """The step at a slope. What its set is worth follows from the one before: each new element adds the slope, by its size."""
-        before = self.steps[-1] if self.steps else Step(slope, (), (), Fraction(0))
-        seen = set(before.members)
-        new = tuple(element for element in members if element not in seen)
-        if before.worth is None or (self.sizes is None and self.text.startswith("weighed")):
-            return Step(slope, new, members, None)
-        count = len(new) if self.sizes is None else sum(self.sizes.get(element, 1) for element in new)
-        return Step(slope, new, members, before.worth + slope * count)
+    @cached_property
+    def steps(self) -> List[Step]:
+        """For each slope what comes in there. Each new element adds the slope to the worth, by its size."""
+        found: List[Step] = []
+        before: FrozenSet[Element] = frozenset()
+        worth = None if self.sizes is None and self.text.startswith("weighed") else Fraction(0)
+        for slope, members in self.slopes:
+            new = self.in_order(members - before)
+            if worth is not None:
+                worth += slope * sum((self.sizes or {}).get(element, 1) for element in new)
+            found.append(Step(slope, tuple(new), tuple(self.in_order(members)), worth))
+            before = members
+        return found
 
     def __repr__(self) -> str:
         counts = f"{len(self.least)} to {len(self.greatest)} elements, {len(self.slopes)} slopes"
@@ -189,9 +194,9 @@ class Answer:
 
     def slope_of(self, element: Element) -> Fraction:
         """The slope at which an element comes in: how much cheaper it and all others must get until it belongs to a best set."""
-        for step in self.steps:
-            if element in step.new:
-                return step.slope
+        for slope, members in self.slopes:
+            if element in members:
+                return slope
         raise ValueError(f"{element!r} is no element of this instance")
 
     def bases(self, slope: Slope = 0) -> List[Dict[Element, int]]:

@@ -71,7 +71,8 @@ def ask(
     instance: Source, inside: Iterable[Element] = (), outside: Iterable[Element] = (), *, timeout: Optional[float] = None
 ) -> Optional[Pinned]:
     """The least value among the sets that have all elements of the one list and none of the other, with the smallest and the
-    greatest set that attain it; None where there is no such set. It comes without a proof, so nothing judges it.
+    greatest set that attain it; None where there is no such set. It comes without a proof, so nothing judges it. An element that
+    stands in both lists is a fault.
 
     >>> mill = Instance(["mill", "dam"])
     >>> mill.weight({"mill": -4, "dam": 6})
@@ -80,7 +81,11 @@ def ask(
     2
     >>> ask(mill, inside=["mill"], outside=["dam"])
     """
-    pins = pins_text(_names(instance, inside), _names(instance, outside))
+    held_in, held_out = dict.fromkeys(inside), dict.fromkeys(outside)
+    for element in held_in:
+        if element in held_out:
+            raise ValueError(f"{element!r} is held in and held out")
+    pins = pins_text(_names(instance, held_in), _names(instance, held_out))
     return pinned(_done("ask", _Clock(timeout), _text(instance), pins), instance)
 
 

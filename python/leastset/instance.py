@@ -26,7 +26,7 @@ def whole(number: Number, what: str) -> int:
     ValueError: the weight is 1.5, and numbers are whole: multiply all of them by the same
     """
     try:
-        return operator.index(number)  # type: ignore[arg-type]
+        return int(operator.index(number))  # type: ignore[arg-type]
     except TypeError:
         pass
     if not isinstance(number, (Real, Decimal)):

@@ -56,6 +56,9 @@ class Answers(Test):
             self.assertTrue(all(answer.slope_of(element) == step.slope for element in step.new))
 
     def compare_pins(self, made, values, inside, outside):
+        if inside == outside:
+            self.assertRaises(ValueError, leastset.ask, made, [inside], [outside])
+            return
         asked = leastset.ask(made, [inside], [outside])
         worths = [value if inside in of(made, i) and outside not in of(made, i) else None for i, value in enumerate(values)]
         if all(it is None for it in worths):

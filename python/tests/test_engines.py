@@ -63,7 +63,7 @@ class Engines(Test):
         leastset.use(LIBRARY)
         rng = random.Random(3)
         for checked in (False, True):
-            start = time.perf_counter()
+            start, work = time.perf_counter(), time.process_time()
             for _ in range(10_000):
                 made = leastset.Instance("abcdefgh")
                 made.weight({element: rng.randint(-9, 3) for element in "abcdefgh"})
@@ -71,9 +71,10 @@ class Engines(Test):
                 made.border(3, "a", "e")
                 made.cover(5, "efgh")
                 leastset.solve(made, check=checked)
-            took = time.perf_counter() - start
-            print(f"python: 10,000 solves of 8 elements in {took:.2f} s{', judged' if checked else ''}; the mark is 5 s")
-            self.assertLess(took, 15, "three times the mark")
+            took, work = time.perf_counter() - start, time.process_time() - work
+            how = "solved and judged" if checked else "solved"
+            print(f"python: 10,000 instances of 8 elements {how} in {took:.2f} s, {work:.2f} s of processor time; the mark is 5 s")
+            self.assertLess(work, 10, "twice the mark, as machines are busy")
 
     def test_a_limit_of_time_ends_a_call(self):
         start = time.monotonic()
