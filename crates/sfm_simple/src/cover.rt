@@ -40,6 +40,18 @@ impl Cover {
         Ok(Cover { places, w })
     }
 
+    /// A term that is equal in every part.
+    ///
+    /// # Errors
+    ///
+    /// `Memory` where there is none.
+    pub fn copy(&self, alloc: Global) -> Result<Cover, Memory>
+        ensures { IfOk result (λ r. r ≡ self.now) }
+    {
+        let places = Places::from_slice(alloc, self.places.as_slice())?;
+        Ok(Cover { places, w: self.w })
+    }
+
     /// Writes zeros, but q·w at the first place.
     fn write_start(&self, q: i128, x: &mut [i128])
         requires factor { IsFactor q }

@@ -42,6 +42,16 @@ impl Cut {
     {
         Cut { places: [a, b], c }
     }
+
+    /// A term that is equal in every part.
+    pub fn copy(&self) -> Cut
+        ensures { result ≡ self.now }
+    {
+        Cut {
+            places: self.places,
+            c: self.c,
+        }
+    }
 }
 
 impl Plain for Cut {

@@ -37,6 +37,15 @@ impl Need {
     {
         Need { places: [a, b] }
     }
+
+    /// A condition that is equal in every part.
+    pub fn copy(&self) -> Need
+        ensures { result ≡ self.now }
+    {
+        Need {
+            places: self.places,
+        }
+    }
 }
 
 impl Plain for Need {

@@ -98,6 +98,23 @@ impl Table {
         })
     }
 
+    /// A term that is equal in every part.
+    ///
+    /// # Errors
+    ///
+    /// `Memory` where there is none.
+    pub fn copy(&self, alloc: Global) -> Result<Table, Memory>
+        ensures { IfOk result (λ r. r ≡ self.now) }
+    {
+        let places = Places::from_slice(alloc, self.places.as_slice())?;
+        let values = Numbers::from_slice(alloc, self.values.as_slice())?;
+        Ok(Table {
+            places,
+            values,
+            most: self.most,
+        })
+    }
+
     /// The value of the part with the number s.
     fn listed(&self, s: usize) -> i128
         requires { s < length self.now.values }

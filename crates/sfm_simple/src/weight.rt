@@ -63,6 +63,23 @@ impl Weight {
         })
     }
 
+    /// A term that is equal in every part.
+    ///
+    /// # Errors
+    ///
+    /// `Memory` where there is none.
+    pub fn copy(&self, alloc: Global) -> Result<Weight, Memory>
+        ensures { IfOk result (λ r. r ≡ self.now) }
+    {
+        let places = Places::from_slice(alloc, self.places.as_slice())?;
+        let weights = Numbers::from_slice(alloc, self.weights.as_slice())?;
+        Ok(Weight {
+            places,
+            weights,
+            total: self.total,
+        })
+    }
+
     /// The sum of a part's numbers.
     fn sum_of(&self, s: &Set) -> i128
         requires { length s.now ≡ length self.now.places }
