@@ -1,5 +1,5 @@
 // Groups of places, each with a cap, in the order in which they come. A group is seen as its cap and its ascending members.
-ghost use Rattle.std.specs.{Prelude.{◌≡◌, ◌↔◌, ℕ, ◌<◌, ◌≤◌, List, [], ◌∷◌, ◌++◌, length, slice_index_or, is_ok, ℤ, pos, ◌≤ℤ◌, if◌then◌else◌, IsTrue, Contains}, List.{All}};
+ghost use Rattle.std.specs.{Prelude.{◌≡◌, ◌↔◌, ℕ, ◌<◌, ◌≤◌, List, [], ◌∷◌, ◌++◌, length, slice_index_or, is_ok, ℤ, pos, ◌≤ℤ◌, if◌then◌else◌, IfOk, IsTrue, Contains}, List.{All}};
 ghost use Rattle.sfm_spec.specs.Bounds.{IsGiven};
 ghost use Rattle.sfm_laminar.specs.{Groups.{IsAscending, IsGroup}, Crossing.{group_at}};
 
@@ -28,6 +28,18 @@ impl CappedGroup {
         ensures { result ≡ record { cap = cap; members = members.items } }
     {
         CappedGroup { cap, members }
+    }
+
+    /// A group with the same cap and the same members.
+    ///
+    /// # Errors
+    ///
+    /// `Memory` where there is none.
+    fn copy(&self, alloc: Global) -> Result<CappedGroup, Memory>
+        ensures { IfOk result (λ r. r ≡ self.now) }
+    {
+        let members = Vec::from_slice(alloc, &self.members)?;
+        Ok(CappedGroup::new(self.cap, members))
     }
 
     /// How many members may be independent together.
@@ -89,6 +101,21 @@ impl Groups {
     {
         self.items.push(CappedGroup::new(cap, members))?;
         Ok(())
+    }
+
+    /// The same groups in the same order.
+    ///
+    /// # Errors
+    ///
+    /// `Memory` where there is none.
+    pub fn copy(&self, alloc: Global) -> Result<Groups, Memory>
+        ensures { IfOk result (λ r. r ≡ self.now) }
+    {
+        let mut items = Vec::with_capacity(alloc, self.items.len())?;
+        for group in &self.items {
+            items.push(group.copy(alloc)?)?;
+        }
+        Ok(Groups { items })
     }
 
     /// How many groups there are.

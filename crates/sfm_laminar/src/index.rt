@@ -38,6 +38,16 @@ impl Model for Index {
     ghost view = { λ s. s.holders.items };
 }
 
+impl Holders {
+    /// The same numbers.
+    fn copy(&self, alloc: Global) -> Result<Holders, Memory>
+        ensures { IfOk result (λ r. r ≡ self.now) }
+    {
+        let numbers = Vec::from_slice(alloc, &self.numbers)?;
+        Ok(Holders { numbers })
+    }
+}
+
 /// The groups that hold a place.
 fn holders_of(alloc: Global, groups: &Groups, e: usize) -> Result<Holders, Memory>
     ensures { IfOk result (λ r. r ≡ holders groups.now e (length groups.now)) }
@@ -59,6 +69,17 @@ impl Index {
         let mut holders = Vec::new(alloc);
         for e in 0..k {
             holders.push(holders_of(alloc, groups, e)?)?;
+        }
+        Ok(Index { holders })
+    }
+
+    /// The same lists.
+    pub(crate) fn copy(&self, alloc: Global) -> Result<Index, Memory>
+        ensures { IfOk result (λ r. r ≡ self.now) }
+    {
+        let mut holders = Vec::with_capacity(alloc, self.holders.len())?;
+        for numbers in &self.holders {
+            holders.push(numbers.copy(alloc)?)?;
         }
         Ok(Index { holders })
     }

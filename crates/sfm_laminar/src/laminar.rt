@@ -133,6 +133,29 @@ impl Laminar {
         })
     }
 
+    /// A term that is equal in every part.
+    ///
+    /// # Errors
+    ///
+    /// `Memory` where there is none.
+    pub fn copy(&self, alloc: Global) -> Result<Laminar, Memory>
+        ensures { IfOk result (λ r. r ≡ self.now) }
+    {
+        let places = Places::from_slice(alloc, self.places.as_slice())?;
+        let groups = self.groups.copy(alloc)?;
+        let basis = self.basis.copy(alloc)?;
+        let index = self.index.copy(alloc)?;
+        let masks = self.masks.copy(alloc)?;
+        Ok(Laminar {
+            places,
+            w: self.w,
+            groups,
+            basis,
+            index,
+            masks,
+        })
+    }
+
     /// How many elements of a part may be independent together, and no more.
     ///
     /// # Errors

@@ -50,6 +50,17 @@ impl Masks {
         Ok(Masks { sets })
     }
 
+    /// The same sets.
+    pub(crate) fn copy(&self, alloc: Global) -> Result<Masks, Memory>
+        ensures { IfOk result (λ r. r ≡ self.now) }
+    {
+        let mut sets = Vec::with_capacity(alloc, self.sets.len())?;
+        for set in &self.sets {
+            sets.push(set.copy(alloc)?)?;
+        }
+        Ok(Masks { sets })
+    }
+
     /// The members of the group i.
     pub(crate) fn of(&self, i: usize) -> &Set
         requires { i < length self.now }
