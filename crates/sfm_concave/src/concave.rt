@@ -75,6 +75,23 @@ impl Concave {
         })
     }
 
+    /// A term that is equal in every part.
+    ///
+    /// # Errors
+    ///
+    /// `Memory` where there is none.
+    pub fn copy(&self, alloc: Global) -> Result<Concave, Memory>
+        ensures { IfOk result (λ r. r ≡ self.now) }
+    {
+        let places = Places::from_slice(alloc, self.places.as_slice())?;
+        let values = Numbers::from_slice(alloc, self.values.as_slice())?;
+        Ok(Concave {
+            places,
+            values,
+            most: self.most,
+        })
+    }
+
     /// The number of a count of places.
     fn number(&self, count: usize) -> i128
         requires { count ≤ length self.now.values }

@@ -40,6 +40,22 @@ impl Uniform {
         Ok(Uniform { places, w, cap })
     }
 
+    /// A term that is equal in every part.
+    ///
+    /// # Errors
+    ///
+    /// `Memory` where there is none.
+    pub fn copy(&self, alloc: Global) -> Result<Uniform, Memory>
+        ensures { IfOk result (λ r. r ≡ self.now) }
+    {
+        let places = Places::from_slice(alloc, self.places.as_slice())?;
+        Ok(Uniform {
+            places,
+            w: self.w,
+            cap: self.cap,
+        })
+    }
+
     /// The value of a count of places. The cap is taken before multiplying, so that the product stays small.
     fn ranked(&self, count: usize) -> i128
         requires { count ≤ 256 }
