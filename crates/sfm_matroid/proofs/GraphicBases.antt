@@ -50,7 +50,7 @@ capped_base s q factor x sized base = capped q s.w factor s.low s.given x (base_
 
 -- the tests of the tails are enough, by the numbers of the ends as they are kept
 pub tails_tell : (s : Graphic) (c : ℤ) (x : List ℤ) → pos 0 ≤ℤ c
-    → PassesTails (edges_of s.graph.ends.items) s.graph.vertices c x ↔ ((a : ℕ) → a < vertex_count s.ends → IsWithinEnds (numbered s.ends) (vertex_count s.ends) c x a)
+    → PassesTails (edges_of s.graph.ends) s.graph.vertices c x ↔ ((a : ℕ) → a < vertex_count s.ends → IsWithinEnds (numbered s.ends) (vertex_count s.ends) c x a)
 tails_tell s c x low = rw (s.of_ends, s.counted) ((λ within. tails_enough (numbered s.ends) (vertex_count s.ends) (numbered_below s.ends []) c low x within), (λ h a lt tail. h a lt))
 
 -- entries of a term are as many as its edges
@@ -58,5 +58,5 @@ pub edges_sized : (s : Graphic) (x : List ℤ) → length x ≡ length s.places 
 edges_sized s x sized = sized ∙ (sym s.same_count ∙ sym (length-numbered s.ends []))
 
 -- and amounts of the edges that are kept, where a number is passed on
-pub end_amounts : (s : Graphic) (c : ℤ) → pos 0 ≤ℤ c → c ≤ℤ pos (10 ^ 24) → (x : List ℤ) → length x ≡ length s.places → All IsAmount x → AreEndAmounts (edges_of s.graph.ends.items) (to_z w128 (of_z w128 c)) x
-end_amounts s c low high x sized amounts = end_amounts_passed (edges_of s.graph.ends.items) c x (record { sized = edges_sized s x sized ∙ sym (ap length s.of_ends); amounts = amounts; low = low; high = high })
+pub end_amounts : (s : Graphic) (c : ℤ) → pos 0 ≤ℤ c → c ≤ℤ pos (10 ^ 24) → (x : List ℤ) → length x ≡ length s.places → All IsAmount x → AreEndAmounts (edges_of s.graph.ends) (to_z w128 (of_z w128 c)) x
+end_amounts s c low high x sized amounts = end_amounts_passed (edges_of s.graph.ends) c x (record { sized = edges_sized s x sized ∙ sym (ap length s.of_ends); amounts = amounts; low = low; high = high })

@@ -1,5 +1,5 @@
 // The slots of elements, entry by entry in the order in which they come, with a number above all slots.
-ghost use Rattle.std.specs.{Prelude.{◌≡◌, ℕ, ◌<◌, ◌≤◌, ◌^◌, List, [], ◌∷◌, ◌++◌, length, slice_index_or, is_ok, if◌then◌else◌}, List.{All}};
+ghost use Rattle.std.specs.{Prelude.{◌≡◌, ℕ, ◌<◌, ◌≤◌, ◌^◌, List, [], ◌∷◌, ◌++◌, length, slice_index_or, is_ok, IfOk, if◌then◌else◌}, List.{All}};
 
 use sfm_base::Memory;
 use std::alloc::Global;
@@ -25,6 +25,14 @@ impl Slots {
         ensures { result.now ≡ self.now }
     {
         self.items.as_slice()
+    }
+
+    /// A copy.
+    fn copy(&self, alloc: Global) -> Result<Slots, Memory>
+        ensures { IfOk result (λ r. r ≡ self.now) }
+    {
+        let items = Vec::from_slice(alloc, &self.items)?;
+        Ok(Slots { items })
     }
 }
 
@@ -69,6 +77,24 @@ impl Entries {
         self.items.push(Slots { items: slots })?;
         self.above = above;
         Ok(())
+    }
+
+    /// A copy.
+    ///
+    /// # Errors
+    ///
+    /// `Memory` where there is none.
+    pub(crate) fn copy(&self, alloc: Global) -> Result<Entries, Memory>
+        ensures { IfOk result (λ r. r ≡ self.now) }
+    {
+        let mut items = Vec::with_capacity(alloc, self.items.len())?;
+        for slots in &self.items {
+            items.push(slots.copy(alloc)?)?;
+        }
+        Ok(Entries {
+            items,
+            above: self.above,
+        })
     }
 
     /// How many entries there are.

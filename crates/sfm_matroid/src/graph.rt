@@ -4,22 +4,42 @@
 ghost use Rattle.std.specs.Prelude.{◌≡◌, ◌≤◌, length, IfOk, OnOk};
 ghost use Rattle.sfm_matroid.specs.{Ends.{edges_of}, Graphs.{EndsBelow}, Numbered.{place_of, with_vertex, vertices_of, vertex_count, numbered}};
 
+use crate::ends::Pairs;
 use crate::order::by_tails;
-use sfm_base::Memory;
+use sfm_base::{Memory, Places};
 use std::alloc::Global;
 
 /// Edges, the ends of which are numbers below that of the vertices.
 #[derive(Drop)]
 pub(crate) struct Graph {
     /// The tail and the head of each edge.
-    pub ends: Vec<(usize, usize)>,
+    pub ends: Pairs,
     /// How many vertices there are.
     pub vertices: usize,
     /// The edges by their tails: one move of a root serves those with one tail.
-    pub order: Vec<usize>,
-    pub ghost few: { length ends.items ≤ 256 },
-    pub ghost below: { EndsBelow (edges_of ends.items) vertices },
+    pub order: Places,
+    pub ghost few: { length ends ≤ 256 },
+    pub ghost below: { EndsBelow (edges_of ends) vertices },
     pub ghost small: { vertices ≤ 512 },
+}
+
+impl Graph {
+    /// A copy.
+    ///
+    /// # Errors
+    ///
+    /// `Memory` where there is none.
+    pub(crate) fn copy(&self, alloc: Global) -> Result<Graph, Memory>
+        ensures { IfOk result (λ r. r ≡ self.now) }
+    {
+        let ends = self.ends.copy(alloc)?;
+        let order = Places::from_slice(alloc, self.order.as_slice())?;
+        Ok(Graph {
+            ends,
+            vertices: self.vertices,
+            order,
+        })
+    }
 }
 
 /// Where a vertex stands among others; how many they are, where it does not.
@@ -79,7 +99,7 @@ fn placed(
 /// `Memory` where there is none.
 pub(crate) fn numbered(alloc: Global, ends: &[(u32, u32)]) -> Result<Graph, Memory>
     requires { length ends.now ≤ 256 }
-    ensures ends { IfOk result (λ r. edges_of r.ends.items ≡ numbered (edges_of ends.now)) }
+    ensures ends { IfOk result (λ r. edges_of r.ends ≡ numbered (edges_of ends.now)) }
     ensures vertices { IfOk result (λ r. r.vertices ≡ vertex_count (edges_of ends.now)) }
 {
     let vertices = vertices(alloc, ends)?;
@@ -87,7 +107,7 @@ pub(crate) fn numbered(alloc: Global, ends: &[(u32, u32)]) -> Result<Graph, Memo
     let count = vertices.len();
     let order = by_tails(alloc, &numbers, count)?;
     Ok(Graph {
-        ends: numbers,
+        ends: Pairs::from_vec(numbers),
         vertices: count,
         order,
     })

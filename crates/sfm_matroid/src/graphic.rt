@@ -39,7 +39,7 @@ pub struct Graphic {
     pub ghost given: { IsGiven w },
     pub ghost same_count: { length ends ≡ length places },
     pub ghost based: { basis ≡ graphic_basis ends },
-    ghost of_ends: { edges_of graph.ends.items ≡ numbered ends },
+    ghost of_ends: { edges_of graph.ends ≡ numbered ends },
     ghost counted: { graph.vertices ≡ vertex_count ends },
 }
 
@@ -89,6 +89,27 @@ impl Graphic {
         })
     }
 
+    /// A copy.
+    ///
+    /// # Errors
+    ///
+    /// `Memory` where there is none.
+    pub fn copy(&self, alloc: Global) -> Result<Graphic, Memory>
+        ensures { IfOk result (λ r. r ≡ self.now) }
+    {
+        let places = Places::from_slice(alloc, self.places.as_slice())?;
+        let ends = self.ends.copy(alloc)?;
+        let basis = self.basis.copy(alloc)?;
+        let graph = self.graph.copy(alloc)?;
+        Ok(Graphic {
+            places,
+            w: self.w,
+            ends,
+            basis,
+            graph,
+        })
+    }
+
     /// How many elements of a part may be independent together, and no more.
     ///
     /// # Errors
@@ -115,7 +136,7 @@ impl Graphic {
         requires { u < length self.now.places }
         ensures { IsEndOf (numbered self.now.ends) u result }
     {
-        let (tail, head) = self.graph.ends[u];
+        let (tail, head) = self.graph.ends.as_slice()[u];
         if root == head { head } else { tail }
     }
 

@@ -56,13 +56,13 @@ pub(crate) fn end_demand(
     most: i128,
     a: usize,
 ) -> Result<Demand, Memory>
-    requires { AreEndAmounts (edges_of graph.now.ends.items) most x.now }
-    ensures { IfOk result (λ r. r ≡ end_demands (edges_of graph.now.ends.items) graph.now.vertices
+    requires { AreEndAmounts (edges_of graph.now.ends) most x.now }
+    ensures { IfOk result (λ r. r ≡ end_demands (edges_of graph.now.ends) graph.now.vertices
         most x.now a) }
 {
     let capacities = capacities(alloc, graph.vertices, most, a)?;
     let mut demand = Demand::new(alloc, &capacities)?;
-    push_ends(alloc, &graph.ends, x, &mut demand)?;
+    push_ends(alloc, graph.ends.as_slice(), x, &mut demand)?;
     Ok(demand)
 }
 
@@ -76,12 +76,12 @@ pub(crate) fn brought(
     most: i128,
     a: usize,
 ) -> Result<bool, Memory>
-    requires amounts { AreEndAmounts (edges_of graph.now.ends.items) most x.now }
-    requires over { IsOverEnds (edges_of graph.now.ends.items) graph.now.vertices kept.old.demand }
+    requires amounts { AreEndAmounts (edges_of graph.now.ends) most x.now }
+    requires over { IsOverEnds (edges_of graph.now.ends) graph.now.vertices kept.old.demand }
     ensures told { IfOk result (λ r. IsTrue r ↔ CanBeMet x.now
-        (end_lists (edges_of graph.now.ends.items)) (vertex_capacities graph.now.vertices most a)) }
+        (end_lists (edges_of graph.now.ends)) (vertex_capacities graph.now.vertices most a)) }
     ensures brought { IfOk result (λ r. IsTrue r → kept.new.demand
-        ≡ end_demands (edges_of graph.now.ends.items) graph.now.vertices most x.now a) }
+        ≡ end_demands (edges_of graph.now.ends) graph.now.vertices most x.now a) }
 {
     let capacities = capacities(alloc, graph.vertices, most, a)?;
     can_bring(alloc, kept, x, &capacities)
@@ -109,15 +109,15 @@ fn passes_tail(
     most: i128,
     a: usize,
 ) -> Result<bool, Memory>
-    requires amounts { AreEndAmounts (edges_of graph.now.ends.items) most x.now }
+    requires amounts { AreEndAmounts (edges_of graph.now.ends) most x.now }
     requires vertex { a < graph.now.vertices }
-    requires over { IsOverEnds (edges_of graph.now.ends.items) graph.now.vertices kept.old.demand }
-    ensures told { IfOk result (λ r. IsTrue r ↔ (IsTail (edges_of graph.now.ends.items) a
-        → IsWithinEnds (edges_of graph.now.ends.items) graph.now.vertices most x.now a)) }
+    requires over { IsOverEnds (edges_of graph.now.ends) graph.now.vertices kept.old.demand }
+    ensures told { IfOk result (λ r. IsTrue r ↔ (IsTail (edges_of graph.now.ends) a
+        → IsWithinEnds (edges_of graph.now.ends) graph.now.vertices most x.now a)) }
     ensures over { IfOk result (λ r. IsTrue r → IsOverEnds
-        (edges_of graph.now.ends.items) graph.now.vertices kept.new.demand) }
+        (edges_of graph.now.ends) graph.now.vertices kept.new.demand) }
 {
-    if !is_tail(&graph.ends, a) {
+    if !is_tail(graph.ends.as_slice(), a) {
         return Ok(true);
     }
     let passed = brought(alloc, graph, kept, x, most, a)?;
@@ -133,10 +133,10 @@ fn passes_each(
     x: &[i128],
     most: i128,
 ) -> Result<bool, Memory>
-    requires amounts { AreEndAmounts (edges_of graph.now.ends.items) most x.now }
-    requires over { IsOverEnds (edges_of graph.now.ends.items) graph.now.vertices kept.old.demand }
+    requires amounts { AreEndAmounts (edges_of graph.now.ends) most x.now }
+    requires over { IsOverEnds (edges_of graph.now.ends) graph.now.vertices kept.old.demand }
     ensures { IfOk result (λ r. IsTrue r ↔ PassesTails
-        (edges_of graph.now.ends.items) graph.now.vertices most x.now) }
+        (edges_of graph.now.ends) graph.now.vertices most x.now) }
 {
     for a in 0..graph.vertices {
         if !passes_tail(alloc, graph, kept, x, most, a)? {
@@ -157,14 +157,15 @@ pub(crate) fn passes_tails(
     x: &[i128],
     most: i128,
 ) -> Result<bool, Memory>
-    requires { AreEndAmounts (edges_of graph.now.ends.items) most x.now }
+    requires { AreEndAmounts (edges_of graph.now.ends) most x.now }
     ensures { IfOk result (λ r. IsTrue r ↔ PassesTails
-        (edges_of graph.now.ends.items) graph.now.vertices most x.now) }
+        (edges_of graph.now.ends) graph.now.vertices most x.now) }
 {
-    if graph.ends.is_empty() {
+    let ends = graph.ends.as_slice();
+    if ends.is_empty() {
         return Ok(true);
     }
-    let first = graph.ends[0].0;
+    let first = ends[0].0;
     let demand = end_demand(alloc, graph, x, most, first)?;
     let Some(mut kept) = try_split(alloc, demand)? else {
         return Ok(false);

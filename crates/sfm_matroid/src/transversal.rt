@@ -78,6 +78,25 @@ impl Transversal {
         })
     }
 
+    /// A copy.
+    ///
+    /// # Errors
+    ///
+    /// `Memory` where there is none.
+    pub fn copy(&self, alloc: Global) -> Result<Transversal, Memory>
+        ensures { IfOk result (λ r. r ≡ self.now) }
+    {
+        let places = Places::from_slice(alloc, self.places.as_slice())?;
+        let entries = self.entries.copy(alloc)?;
+        let basis = self.basis.copy(alloc)?;
+        Ok(Transversal {
+            places,
+            w: self.w,
+            entries,
+            basis,
+        })
+    }
+
     /// How many elements of a part may be independent together, and no more.
     ///
     /// # Errors

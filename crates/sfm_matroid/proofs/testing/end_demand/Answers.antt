@@ -15,10 +15,10 @@ pub new-requires-clause-bounded : goal.new-requires-clause-bounded
 new-requires-clause-bounded c = rw (held c) (vertices_bounded c.args.graph.now.vertices c.args.most c.args.a c.requires.low c.requires.high)
 
 pub push_ends-requires-clause-few : goal.push_ends-requires-clause-few
-push_ends-requires-clause-few c = rw c.deref-2.ensures.value c.args.graph.now.few
+push_ends-requires-clause-few c = rw c.as_slice.ensures c.args.graph.now.few
 
 pub push_ends-requires-clause-sized : goal.push_ends-requires-clause-sized
-push_ends-requires-clause-sized c = c.requires.sized ∙ (length-edges _ ∙ sym (ap length c.deref-2.ensures.value))
+push_ends-requires-clause-sized c = c.requires.sized ∙ (length-edges _ ∙ sym (ap length c.as_slice.ensures))
 
 pub push_ends-requires-clause-amounts : goal.push_ends-requires-clause-amounts
 push_ends-requires-clause-amounts c = c.requires.amounts
@@ -26,7 +26,7 @@ push_ends-requires-clause-amounts c = c.requires.amounts
 pub push_ends-requires-clause-below : goal.push_ends-requires-clause-below
 push_ends-requires-clause-below c =
     let caps = ap (λ d. d.capacities) c.in_ok-demand.ensures ∙ held (goal.at.push_ends-requires-clause-below c).After-deref in
-    rw (c.deref-2.ensures.value, caps, length-vertices c.args.graph.now.vertices c.args.most c.args.a) c.args.graph.now.below
+    rw (c.as_slice.ensures, caps, length-vertices c.args.graph.now.vertices c.args.most c.args.a) c.args.graph.now.below
 
 pub push_ends-requires-clause-none : goal.push_ends-requires-clause-none
 push_ends-requires-clause-none c = (ap (λ d. d.demands) c.in_ok-demand.ensures, ap (λ d. d.lists) c.in_ok-demand.ensures)
@@ -34,4 +34,4 @@ push_ends-requires-clause-none c = (ap (λ d. d.demands) c.in_ok-demand.ensures,
 pub returns : goal.returns
 returns c =
     let caps = ap (λ d. d.capacities) c.in_ok-demand.ensures ∙ held (goal.at.returns c).After-deref in
-    rw (c.deref-2.ensures.value, caps) at c.in_ok-push_ends.ensures
+    rw (c.as_slice.ensures, caps) at c.in_ok-push_ends.ensures

@@ -8,6 +8,6 @@ use Rattle.sfm_matroid.proofs.testing.passes_each.Given as goal
 
 abbrev pub invariant-loop-a : goal.invariant-loop-a
 invariant-loop-a l = record {
-  over : IsOverEnds (edges_of l.graph.ends.items) l.graph.vertices l.kept.demand;
-  passed : (b : ℕ) → b < l.a → IsTail (edges_of l.graph.ends.items) b → IsWithinEnds (edges_of l.graph.ends.items) l.graph.vertices l.most l.x b;
+  over : IsOverEnds (edges_of l.graph.ends) l.graph.vertices l.kept.demand;
+  passed : (b : ℕ) → b < l.a → IsTail (edges_of l.graph.ends) b → IsWithinEnds (edges_of l.graph.ends) l.graph.vertices l.most l.x b;
 }

@@ -11,7 +11,7 @@ use Rattle.sfm_matroid.proofs.testing.passes_tail.Goals as goal
 
 pub returns-then-not-is_tail-clause-told : goal.returns-then-not-is_tail-clause-told
 returns-then-not-is_tail-clause-told c =
-    let is = rw c.deref.ensures.value at c.is_tail.ensures in
+    let is = rw c.as_slice.ensures at c.is_tail.ensures in
     ((λ t tail. absurd (both_ways c.is_tail.result c.if-not-is_tail.true (is.1 tail))), (λ h. refl))
 
 pub returns-then-not-is_tail-clause-over : goal.returns-then-not-is_tail-clause-over
@@ -29,11 +29,11 @@ returns-clause-told c =
     let g = c.args.graph.now in
     let x = c.args.x.now in
     let fm : FitsSigned w128 c.args.most = c.ranges.most in
-    let is = rw c.deref.ensures.value at c.is_tail.ensures in
+    let is = rw c.as_slice.ensures at c.is_tail.ensures in
     let told = simp to_z-of_z at c.in_ok-passed.ensures.told in
     let all = r.amounts in (
-      (λ t tail. split_within_ends (edges_of g.ends.items) g.vertices g.below c.args.most x all.sized c.args.a r.vertex (told.0 t)),
-      (λ h. told.1 (within_ends_split (edges_of g.ends.items) g.vertices g.below c.args.most x all.sized c.args.a r.vertex all.low (amounts_count x all.amounts) (h (is.0 c.if-not-is_tail.false)))),
+      (λ t tail. split_within_ends (edges_of g.ends) g.vertices g.below c.args.most x all.sized c.args.a r.vertex (told.0 t)),
+      (λ h. told.1 (within_ends_split (edges_of g.ends) g.vertices g.below c.args.most x all.sized c.args.a r.vertex all.low (amounts_count x all.amounts) (h (is.0 c.if-not-is_tail.false)))),
     )
 
 pub returns-clause-over : goal.returns-clause-over

@@ -1,7 +1,6 @@
-use Rattle.std.proofs.Common.{◌≡◌, ◌∙◌, ℕ, zero, suc, ◌<◌, Bool, false, Option, Some, None, length, refl, get_or, nat_eq, sym, ap, arith, FitsSigned}
+use Rattle.std.proofs.Common.{◌≡◌, ◌∙◌, ℕ, zero, suc, ◌<◌, Bool, false, Option, Some, None, List, length, refl, get_or, nat_eq, sym, ap, arith, FitsSigned}
 use Rattle.std.proofs.lemmas.Bool.{eqb-true, false≢true}
 use Rattle.std.proofs.lemmas.Int.{to_z-of_z}
-use Rattle.std.proofs.lemmas.List.{get_or_read}
 use mir.Syntax.{w128}
 use Rattle.sfm_assign.specs.Splits.{CanBeMet, Demands}
 use Rattle.sfm_assign.specs.declared.kept.Kept.{Kept}
@@ -32,17 +31,15 @@ pub returns-in_default : goal.returns-in_default
 returns-in_default c =
     let r = c.requires in
     let g = c.args.graph.now in
-    let ends = g.ends.items in
+    let ends = g.ends in
     let x = c.args.x.now in
     let fm : FitsSigned w128 c.args.most = c.ranges.most in
     let none = none_split _ _ c.in_default.not-Some (simp to_z-of_z at (rw c.in_ok-demand.ensures at c.in_ok-kept.ensures)) in
-    let more : 0 < g.ends.len = not_none g.ends.len _ c.is_empty.ensures c.if-is_empty.false in
-    let some : 0 < length ends = omega (arith, more, g.ends.ok.0) in
-    let pair = c.index.result.now in
-    let read : pair ≡ get_or ends 0 (0, 0) = get_or_read ends 0 pair some c.index.ensures (0, 0) in
-    let first = pair.0 in
-    let lt : first < g.vertices = rw read (pair-below ends g.vertices 0 g.below some).0 in
-    let tail = tail_at ends first 0 some (sym (ap (λ (p : ℕ × ℕ). p.0) read)) in (
+    let is = c.as_slice-ends.ensures in
+    let some : 0 < length ends = rw is at (not_none _ _ c.is_empty.ensures c.if-is_empty.false) in
+    let first = (get_or c.as_slice-ends.result.now 0 (0, 0)).0 in
+    let lt : first < g.vertices = rw is (pair-below ends g.vertices 0 g.below some).0 in
+    let tail = tail_at ends first 0 some (sym (ap (λ (pairs : List (ℕ × ℕ)). (get_or pairs 0 (0, 0)).0) is)) in (
       (λ t. absurd (false≢true t)),
       (λ h. absurd (none (within_ends_split (edges_of ends) g.vertices g.below c.args.most x r.sized first lt r.low (amounts_count x r.amounts) (h first lt tail)))),
     )
@@ -50,9 +47,10 @@ returns-in_default c =
 pub returns-then-is_empty : goal.returns-then-is_empty
 returns-then-is_empty c =
     let g = c.args.graph.now in
-    let l = length-edges g.ends.items in
-    let none : g.ends.len ≡ 0 = eqb-true g.ends.len 0 (sym c.is_empty.ensures ∙ c.if-is_empty.true) in
-    ((λ t a lt (e, le, is). absurd (omega (arith, l, le, none, g.ends.ok.0))), (λ h. refl))
+    let l = length-edges g.ends in
+    let none = eqb-true _ 0 (sym c.is_empty.ensures ∙ c.if-is_empty.true) in
+    let same = ap length c.as_slice-ends.ensures in
+    ((λ t a lt (e, le, is). absurd (omega (arith, l, le, none, same))), (λ h. refl))
 
 pub end_demand-requires : goal.end_demand-requires
 end_demand-requires c = end_amounts_passed _ c.args.most c.args.x.now c.requires
