@@ -106,6 +106,28 @@ impl Kind {
         ensures starts { (f : SetFunction) (q : ℤ) → IsValueOf self.now f
             → IsStartOf self.now f q (kind_start self.now q) }
     {}
+
+    /// A term that is equal in every part, what its kind keeps to itself too: so all that is proved of a term holds of its copy.
+    ///
+    /// # Errors
+    ///
+    /// `Memory` where there is none.
+    pub fn copy(&self, alloc: Global) -> Result<Kind, Memory>
+        ensures { IfOk result (λ r. r ≡ self.now) }
+    {
+        match self {
+            Kind::Weight(term) => Ok(Kind::Weight(term.copy(alloc)?)),
+            Kind::Cut(term) => Ok(Kind::Cut(term.copy())),
+            Kind::Cover(term) => Ok(Kind::Cover(term.copy(alloc)?)),
+            Kind::Need(term) => Ok(Kind::Need(term.copy())),
+            Kind::Table(term) => Ok(Kind::Table(term.copy(alloc)?)),
+            Kind::Concave(term) => Ok(Kind::Concave(term.copy(alloc)?)),
+            Kind::Uniform(term) => Ok(Kind::Uniform(term.copy(alloc)?)),
+            Kind::Laminar(term) => Ok(Kind::Laminar(term.copy(alloc)?)),
+            Kind::Graphic(term) => Ok(Kind::Graphic(term.copy(alloc)?)),
+            Kind::Transversal(term) => Ok(Kind::Transversal(term.copy(alloc)?)),
+        }
+    }
 }
 
 // What a kind's term answers, whichever kind it is.
