@@ -209,9 +209,19 @@ pub(crate) fn has_facts(alloc: Global, kind: &Kind, lines: &str) -> bool {
     true
 }
 
-/// Whether there is one term, which answers what the lines tell.
+/// Whether a copy of a term answers what the lines tell.
+fn copy_has_facts(alloc: Global, kind: &Kind, lines: &str) -> bool {
+    match kind.copy(alloc) {
+        Ok(copy) => has_facts(alloc, &copy, lines),
+        Err(_) => false,
+    }
+}
+
+/// Whether there is one term, which answers what the lines tell, as its copy does.
 fn have_facts(alloc: Global, kinds: &[Kind], lines: &str) -> bool {
-    kinds.len() == 1 && has_facts(alloc, &kinds[0], lines)
+    kinds.len() == 1
+        && has_facts(alloc, &kinds[0], lines)
+        && copy_has_facts(alloc, &kinds[0], lines)
 }
 
 /// Whether a row holds: the line of a term, and what the term is to answer.
