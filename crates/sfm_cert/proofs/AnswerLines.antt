@@ -6,8 +6,8 @@ use Rattle.sfm_spec.specs.Blocks.{Block}
 use mir.Syntax.{w128}
 use Rattle.std.specs.Fmt.{decimal, signed_decimal}
 use Rattle.std.proofs.lemmas.List.{take_more, append-nil, get_or-map}
-use Rattle.sfm_cert.specs.Answer.{Break, listed, block_line, slope_line, base_line, section_lines, text_of}
-use Rattle.sfm_cert.specs.LineLists.{counted, numbered, block_lines, slope_lines, base_lines, break_lines}
+use Rattle.sfm_cert.specs.Answer.{Break, listed, block_line, slope_line, row_line, row_lines, section_lines, text_of}
+use Rattle.sfm_cert.specs.LineLists.{counted, numbered, block_lines, slope_lines, break_lines}
 
 -- ---- lines one behind another
 
@@ -46,11 +46,13 @@ listed-more names s e h lt =
       same : length (take e names) ≡ length (take e s)
       same = omega (arith, length-take e names, length-take e s)
 
-pub base_lines-push : (i : ℕ) (rows : List (List ℤ)) (x : List ℤ) → base_lines i (rows ++ x ∷ []) ≡ base_lines i rows ++ base_line (i + length rows) x ∷ []
-base_lines-push i [] x = ap (λ n. base_line n x ∷ []) (omega arith)
-base_lines-push i (y ∷ rows) x =
+pub row_lines-push : (word : List ℕ) (i : ℕ) (rows : List (List ℤ)) (x : List ℤ)
+    → row_lines word i (rows ++ x ∷ []) ≡ row_lines word i rows ++ row_line word (decimal (i + length rows)) x ∷ []
+row_lines-push word i [] x = ap (λ n. row_line word (decimal n) x ∷ []) (omega arith)
+row_lines-push word i (y ∷ rows) x =
     let n : (i + 1) + length rows ≡ i + length (y ∷ rows) = omega arith in
-    ap (λ r. base_line i y ∷ r) (base_lines-push (i + 1) rows x ∙ ap (λ m. base_lines (i + 1) rows ++ base_line m x ∷ []) n)
+    ap (λ r. row_line word (decimal i) y ∷ r)
+    (row_lines-push word (i + 1) rows x ∙ ap (λ m. row_lines word (i + 1) rows ++ row_line word (decimal m) x ∷ []) n)
 
 pub block_lines-push : (names : List (List ℕ)) (i : ℕ) (blocks : List Block) (b : Block) → block_lines names i (blocks ++ b ∷ []) ≡ block_lines names i blocks ++ block_line names (i + length blocks) b ∷ []
 block_lines-push names i [] b = ap (λ n. block_line names n b ∷ []) (omega arith)

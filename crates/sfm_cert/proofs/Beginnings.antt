@@ -8,10 +8,10 @@ use Rattle.std.proofs.lemmas.List.{append-nil, length-replicate}
 use Rattle.std.proofs.lemmas.List.Elements.{All-nil, All-cons, All-head, All-tail, All-replicate}
 use Rattle.sfm_spec.specs.Bounds.{IsEntry}
 use Rattle.sfm_spec.specs.Blocks.{Block, block_at}
-use Rattle.sfm_cert.specs.Answer.{Answer, Break, Form, listed, block_line, slope_line, at_line, base_line, section_lines, answer_lines}
-use Rattle.sfm_cert.specs.LineLists.{block_lines, slope_lines, base_lines, break_lines}
+use Rattle.sfm_cert.specs.Answer.{Answer, Break, Form, listed, block_line, slope_line, at_line, section_lines, answer_lines}
+use Rattle.sfm_cert.specs.LineLists.{block_lines, slope_lines, base_lines, break_lines, base_line}
 use Rattle.sfm_cert.specs.Form.{IsFormed, IsFormedBlock, IsFormedBreak, AreFormedRows}
-use Rattle.sfm_cert.specs.Grammar.{BeginsAnswer}
+use Rattle.sfm_cert.specs.Grammar.{BeginsOne}
 use Rattle.sfm_cert.specs.Lines.{Ratio, ratio_of, IsSlopeLine}
 use Rattle.sfm_cert.specs.Reading.{State, header, minimum, least, greatest, listing, bases, ended, Leads, LeadsOn}
 use Rattle.sfm_cert.proofs.Tokens.{count_entry}
@@ -291,7 +291,7 @@ module _ (form : Form) where
       record { answer = w.answer; formed = w.formed; cut = w.cut ∙ same_four (sym h1.0) (sym k2.1.1) (sym k3.1.1) (sym k4.1.1) lines }
 
   -- lines that lead anywhere are the first ones of an answer
-  pub begins_from : (lines : List (List ℕ)) (s : State) → LeadsOn form header lines s → BeginsAnswer form lines
+  pub begins_from : (lines : List (List ℕ)) (s : State) → LeadsOn form header lines s → BeginsOne (IsFormed form) (answer_lines form) lines
   begins_from lines s h =
       let g = goes_on s in
       let w = whole (lines ++ g.0) (leads-append form header lines s g.0 ended h g.1) in

@@ -13,7 +13,7 @@ use Rattle.std.proofs.lemmas.Map.Keys.{sorted_from_strictly_increasing}
 use Rattle.std.proofs.lemmas.Map.Views.{length-le_from_below}
 use Rattle.sfm_spec.specs.Bounds.{IsEntry, IsFactor}
 use Rattle.sfm_spec.specs.Blocks.{Block, block_at, no_block}
-use Rattle.sfm_cert.specs.Answer.{Answer, Break, Form, listed, slope_text, block_line, slope_line, at_line, base_line, section_lines, head_lines, answer_lines, text_of}
+use Rattle.sfm_cert.specs.Answer.{Answer, Break, Form, listed, slope_text, block_line, slope_line, at_line, row_line, row_lines, section_lines, head_lines, answer_lines, text_of}
 use Rattle.sfm_cert.specs.LineLists.{counted, numbered, block_lines, slope_lines, base_lines, break_lines}
 use Rattle.sfm_cert.specs.Form.{AreFormedRows, IsFormed, IsFormedBlock, IsFormedBreak}
 
@@ -105,11 +105,12 @@ at_line_short p q ep eq =
     let text = slope_text_short p q ep eq in
     omega (arith, text, length-append (codes "at ") (slope_text p q))
 
-base_line_short : (i : ℕ) (x : List ℤ) → i ≤ 16384 → All IsEntry x → length (base_line i x) ≤ 33 * length x + 10
-base_line_short i x l small =
+-- a row by a short word
+row_line_short : (word : List ℕ) (i : ℕ) (x : List ℤ) → length word ≤ 8 → i ≤ 16384 → All IsEntry x → length (row_line word (decimal i) x) ≤ 33 * length x + 13
+row_line_short word i x few l small =
     let number = count_text i l in
     let all = numbered_short x small in
-    omega (arith, number, all, length-append (codes "base ") (decimal i), length-append (codes "base " ++ decimal i) (numbered x))
+    omega (arith, few, number, all, length-append word (decimal i), length-append (word ++ decimal i) (numbered x))
 
 -- ---- parts of the text
 
@@ -140,16 +141,16 @@ slopes_short names (b ∷ breaks) short few small =
     let rest = slopes_short names breaks short few (All-tail IsSmallBreak b breaks small) in
     omega (arith, first, rest, length-append (slope_line names b) (10 ∷ text_of (slope_lines names breaks)))
 
-pub rows_short : (i : ℕ) (rows : List (List ℤ)) → i + length rows ≤ 16385 → All (λ x. All IsEntry x) rows
-    → length (text_of (base_lines i rows)) ≤ 33 * sum (map length rows) + 11 * length rows
-rows_short i [] l small = omega arith
-rows_short i (x ∷ rows) l small =
-    let first = base_line_short i x (omega (arith, l)) (small 0 [] (omega arith)) in
-    let rest = rows_short (i + 1) rows (omega (arith, l)) (All-tail (λ y. All IsEntry y) x rows small) in
+pub rows_short : (word : List ℕ) (i : ℕ) (rows : List (List ℤ)) → length word ≤ 8 → i + length rows ≤ 16385 → All (λ x. All IsEntry x) rows
+    → length (text_of (row_lines word i rows)) ≤ 33 * sum (map length rows) + 14 * length rows
+rows_short word i [] few l small = omega arith
+rows_short word i (x ∷ rows) few l small =
+    let first = row_line_short word i x few (omega (arith, l)) (small 0 [] (omega arith)) in
+    let rest = rows_short word (i + 1) rows few (omega (arith, l)) (All-tail (λ y. All IsEntry y) x rows small) in
     let both = sum-map length (x ∷ rows) in
     let behind = sum-map length rows in
     let parts = sum_by-cons length x rows in
-    omega (arith, first, rest, both, behind, parts, length-append (base_line i x) (10 ∷ text_of (base_lines (i + 1) rows)))
+    omega (arith, first, rest, both, behind, parts, length-append (row_line word (decimal i) x) (10 ∷ text_of (row_lines word (i + 1) rows)))
 
 -- the terms are few, and so are their places in all
 pub record AreFewWidths (widths : List ℕ) : Type 0 where
@@ -157,7 +158,7 @@ pub record AreFewWidths (widths : List ℕ) : Type 0 where
   pub places : sum widths ≤ 16384
 
 section_short : (widths : List ℕ) (p q : ℤ) (rows : List (List ℤ)) → AreFewWidths widths → IsEntry p → IsEntry q → AreFormedRows widths rows
-    → length (text_of (section_lines p q rows)) ≤ 720965
+    → length (text_of (section_lines p q rows)) ≤ 770117
 section_short widths p q rows few ep eq formed =
     let at = at_line_short p q ep eq in
     let count = length-map rows length in
@@ -165,11 +166,11 @@ section_short widths p q rows few ep eq formed =
     let total = ap sum formed.widths_are in
     let terms = few.terms in
     let places = few.places in
-    let all = rows_short 1 rows (omega (arith, count, same, terms)) formed.small in
+    let all = rows_short (codes "base ") 1 rows (omega arith) (omega (arith, count, same, terms)) formed.small in
     omega (arith, at, count, same, total, terms, places, all, length-append (at_line p q) (10 ∷ text_of (base_lines 1 rows)))
 
 breaks_short : (n : ℕ) (widths : List ℕ) (breaks : List Break) → AreFewWidths widths → All (IsFormedBreak n widths) breaks
-    → length (text_of (break_lines breaks)) ≤ 720965 * length breaks
+    → length (text_of (break_lines breaks)) ≤ 770117 * length breaks
 breaks_short n widths [] few formed = omega arith
 breaks_short n widths (b ∷ breaks) few formed =
     let one = formed 0 b (omega arith) in

@@ -7,6 +7,7 @@ pub mod Machine
 pub mod Beginnings
 pub mod Ends
 pub mod Parts
+pub mod CleanLines
 pub mod BadLines
 pub mod Sections
 pub mod First

@@ -2,14 +2,14 @@
 use Rattle.std.proofs.Common.{◌≡◌, ◌≢◌, ℕ, ◌+◌, Bool, List, [], ◌∷◌, ◌++◌, length, ℤ, refl, sym, ap, subst, ◌∙◌, append_assoc, inl, inr}
 use Rattle.std.specs.Prelude.{codes}
 use Rattle.std.specs.List.{All}
-use Rattle.std.specs.Fmt.{decimal}
+use Rattle.std.specs.Fmt.{decimal, signed_decimal}
 use Rattle.std.proofs.lemmas.List.{append-nil, append_cancel_left}
 use Rattle.sfm_spec.specs.Sets.{Has}
 use Rattle.sfm_spec.specs.Blocks.{Block}
-use Rattle.sfm_cert.specs.Answer.{listed, slope_text, block_line, base_line}
+use Rattle.sfm_cert.specs.Answer.{listed, slope_text, block_line, row_line}
 use Rattle.sfm_cert.specs.LineLists.{counted, numbered}
 use Rattle.sfm_cert.specs.Lists.{IsStop, IsListCut, AreNeeds}
-use Rattle.sfm_cert.specs.Lines.{IsSetLine, IsBlockLine, Ratio, IsSlopeLine, IsBaseLine}
+use Rattle.sfm_cert.specs.Lines.{IsSetLine, IsBlockLine, Ratio, IsSlopeLine, IsRowLine}
 use Rattle.sfm_cert.proofs.Tokens.{same_front, slope_text-plain, factor_entry}
 use Rattle.sfm_cert.proofs.Names.{listed-stop}
 
@@ -66,14 +66,16 @@ slope_parts_of_line names line bytes token list r s e f plain stop h =
 pub slope_set : (names : List (List ℕ)) (list : List ℕ) (s : List Bool) (rest : List ℕ) (t : List Bool) → IsListCut names list s rest → length t ≡ length names → list ≡ listed names t → (t ≡ s) × ([] ≡ rest)
 slope_set names list s rest t cut n e = cut.only t [] n (inl refl) (e ∙ sym (append-nil (listed names t)))
 
--- ---- bases
+-- ---- a word and a number
 
-pub base_cut : (i : ℕ) (x : List ℤ) → base_line i x ≡ codes "base " ++ (decimal i ++ numbered x)
-base_cut i x = append_assoc (codes "base ") (decimal i) (numbered x)
+pub value_parts : (word line bytes : List ℕ) (v : ℤ) → line ≡ word ++ bytes → line ≡ word ++ signed_decimal v → bytes ≡ signed_decimal v
+value_parts word line bytes v e h = append_cancel_left word bytes (signed_decimal v) (sym e ∙ h)
 
-pub base_parts : (i width : ℕ) (line bytes : List ℕ) (x : List ℤ) → line ≡ codes "base " ++ (decimal i ++ bytes) → IsBaseLine i width line x → bytes ≡ numbered x
-base_parts i width line bytes x e h =
-    append_cancel_left (decimal i) bytes (numbered x) (append_cancel_left (codes "base ") (decimal i ++ bytes) (decimal i ++ numbered x) (sym e ∙ h.2 ∙ base_cut i x))
+-- ---- rows of numbers
 
-pub base_from : (i : ℕ) (line bytes : List ℕ) (x : List ℤ) → line ≡ codes "base " ++ (decimal i ++ bytes) → bytes ≡ numbered x → line ≡ base_line i x
-base_from i line bytes x e f = e ∙ ap (λ b. codes "base " ++ (decimal i ++ b)) f ∙ sym (base_cut i x)
+pub row_cut : (word label : List ℕ) (x : List ℤ) → row_line word label x ≡ word ++ (label ++ numbered x)
+row_cut word label x = append_assoc word label (numbered x)
+
+pub row_parts : (word label : List ℕ) (width : ℕ) (line bytes : List ℕ) (x : List ℤ) → line ≡ word ++ (label ++ bytes) → IsRowLine word label width line x → bytes ≡ numbered x
+row_parts word label width line bytes x e h =
+    append_cancel_left label bytes (numbered x) (append_cancel_left word (label ++ bytes) (label ++ numbered x) (sym e ∙ h.2 ∙ row_cut word label x))

@@ -1,21 +1,21 @@
 -- A text is the text of one answer alone.
 use Rattle.std.proofs.Common.{◌≡◌, ◌≢◌, ℕ, suc, ◌+◌, ◌<◌, ◌^◌, Bool, List, [], ◌∷◌, ◌++◌, length, map, get_or, ℤ, pos, refl, sym, ap, subst, ◌∙◌, arith, append_assoc}
-use Rattle.std.specs.Prelude.{codes}
+use Rattle.std.specs.Prelude.{codes, decimal}
 use Rattle.std.specs.List.{All}
 use Rattle.std.proofs.lemmas.List.{append_cancel_left}
 use Rattle.std.proofs.lemmas.List.Elements.{All-head, All-tail}
 use Rattle.sfm_spec.specs.Bounds.{IsEntry}
 use Rattle.sfm_spec.specs.Blocks.{Block, block_at}
 use Rattle.sfm_kind.specs.Names.{AreElementNames}
-use Rattle.sfm_cert.specs.Answer.{Answer, Break, Form, block_line, slope_line, at_line, base_line, answer_lines}
-use Rattle.sfm_cert.specs.LineLists.{block_lines, slope_lines, base_lines, break_lines}
+use Rattle.sfm_cert.specs.Answer.{Answer, Break, Form, block_line, slope_line, at_line, answer_lines}
+use Rattle.sfm_cert.specs.LineLists.{block_lines, slope_lines, base_lines, break_lines, base_line}
 use Rattle.sfm_cert.specs.Form.{IsFormedBlock, IsFormedBreak}
 use Rattle.sfm_cert.specs.Grammar.{IsLine, IsAnswerText}
 use Rattle.sfm_cert.specs.Lines.{ratio_of}
 use Rattle.sfm_cert.proofs.BadLines.{one_list}
 use Rattle.sfm_cert.proofs.Machine.{regroup}
 use Rattle.sfm_cert.proofs.Tokens.{one_number}
-use Rattle.sfm_cert.proofs.Unique.{listed-same, block_line-same, slope_line-same, base_line-same}
+use Rattle.sfm_cert.proofs.Unique.{listed-same, block_line-same, slope_line-same, row_line-same}
 
 cons_head : {a b : List ℕ} {x y : List (List ℕ)} → a ∷ x ≡ b ∷ y → a ≡ b
 cons_head e = cc
@@ -71,7 +71,7 @@ module _ (form : Form) (named : AreElementNames form.names) where
   same_rows i (a ∷ x) (b ∷ y) u v w hx hy e =
       let f : length a ≡ length b = cc in
       let g : map length x ≡ map length y = cc in
-      let one = base_line-same i (length a) (base_line i a) a b (refl, All-head (λ (r : List ℤ). All IsEntry r) a x hx, refl) (sym f, All-head (λ (r : List ℤ). All IsEntry r) b y hy, cons_head e) in
+      let one = row_line-same (codes "base ") (decimal i) (length a) (base_line i a) a b (refl, All-head (λ (r : List ℤ). All IsEntry r) a x hx, refl) (sym f, All-head (λ (r : List ℤ). All IsEntry r) b y hy, cons_head e) in
       let r = same_rows (i + 1) x y u v g (All-tail (λ (z : List ℤ). All IsEntry z) a x hx) (All-tail (λ (z : List ℤ). All IsEntry z) b y hy) (cons_tail e) in
       (ap (λ c. c ∷ x) one ∙ ap (λ z. b ∷ z) r.0, r.1)
 

@@ -1,6 +1,6 @@
 -- The lines of a part of an answer text, read one by one.
 use Rattle.std.proofs.Common.{◌≡◌, ℕ, ◌+◌, ◌<◌, ◌≤◌, Result, List, [], ◌∷◌, ◌++◌, length, take, drop, get_or, map, ℤ, inl, inr, Bool, refl, sym, ap, subst, ◌∙◌, arith}
-use Rattle.std.specs.Prelude.{IfErr, IsErrAnd}
+use Rattle.std.specs.Prelude.{IfErr, IsErrAnd, codes}
 use Rattle.std.specs.List.{All}
 use Rattle.std.proofs.lemmas.List.{length_push, get_or_push, get_or_append_left, drop_more, take_more, map_push, drop_all, take_all}
 use Rattle.std.proofs.lemmas.List.Elements.{All-nil, All-push}
@@ -8,15 +8,15 @@ use Rattle.std.proofs.Math.Nat.{eq-or-lt_of_le}
 use mathlib.Core.Logic.{⊎_elim}
 use Rattle.sfm_spec.specs.Bounds.{IsEntry}
 use Rattle.sfm_spec.specs.Blocks.{Block, block_at, no_block}
-use Rattle.sfm_cert.specs.Answer.{Break, Form, block_line, base_line}
-use Rattle.sfm_cert.specs.LineLists.{block_lines, slope_lines, base_lines}
+use Rattle.sfm_cert.specs.Answer.{Break, Form, block_line}
+use Rattle.sfm_cert.specs.LineLists.{block_lines, slope_lines, base_lines, base_line}
 use Rattle.sfm_cert.specs.Form.{IsFormedBlock}
 use Rattle.sfm_cert.specs.Lines.{IsBlockLine, IsSlopeLine, IsBaseLine, Ratio, ratio_of}
 use Rattle.sfm_cert.specs.Parts.{ReadsBlocks, ReadsHeads, ReadsRows}
 use Rattle.sfm_cert.specs.Reading.{State, listing, bases, Leads, Reads, EndsAt, EndsStuck, TakesSome, IsNextLine}
 use Rattle.sfm_cert.specs.declared.cursor.Cursor.{Cursor}
 use Rattle.sfm_cert.specs.declared.solved.AnswerEnd.{AnswerEnd}
-use Rattle.sfm_cert.proofs.AnswerLines.{block_lines-push, slope_lines-push, base_lines-push}
+use Rattle.sfm_cert.proofs.AnswerLines.{block_lines-push, slope_lines-push, row_lines-push}
 use Rattle.sfm_cert.proofs.Ends.{passed_on, reads_begin, reads_more, stops_stuck, first_byte}
 
 module _ (form : Form) (text : List ℕ) where
@@ -116,7 +116,7 @@ module _ (form : Form) (text : List ℕ) where
     within = t.within;
     count = omega (arith, length_push rows x, r.count);
     reads = λ due.
-        let lines_are : base_lines 1 rows ++ t.line ∷ [] ≡ base_lines 1 (rows ++ x ∷ []) = ap (λ l. base_lines 1 rows ++ l ∷ []) (t.good.2 ∙ ap (λ n. base_line n x) (omega (arith, r.count))) ∙ sym (base_lines-push 1 rows x) in
+        let lines_are : base_lines 1 rows ++ t.line ∷ [] ≡ base_lines 1 (rows ++ x ∷ []) = ap (λ l. base_lines 1 rows ++ l ∷ []) (t.good.2 ∙ ap (λ n. base_line n x) (omega (arith, r.count))) ∙ sym (row_lines-push (codes "base ") 1 rows x) in
         let ws = widths_due i width d in
         let before = subst (λ (l : List ℕ). Reads form text from to (bases 1 form.widths due) (bases (i + 1) l due) (base_lines 1 rows)) ws (r.reads due) in
         subst (λ (l : List (List ℕ)). Reads form text from to' (bases 1 form.widths due) (bases (i + 1 + 1) (drop (i + 1) form.widths) due) l) lines_are

@@ -2,7 +2,7 @@
 use Rattle.std.proofs.Common.{◌≡◌, ◌≢◌, ℕ, suc, ◌+◌, ◌<◌, ◌≤◌, ◌^◌, Bool, true, false, List, [], ◌∷◌, ◌++◌, length, ℤ, pos, inl, inr, refl, sym, ap, ◌∙◌, arith, append_assoc}
 use Rattle.std.specs.Prelude.{AllPairs, codes}
 use Rattle.std.specs.List.{All}
-use Rattle.std.specs.Fmt.{decimal}
+use Rattle.std.specs.Fmt.{decimal, signed_decimal}
 use Rattle.std.proofs.lemmas.List.{append-nil, append_cancel_left}
 use Rattle.std.proofs.lemmas.List.Elements.{All-head, All-tail, All-weaker}
 use Rattle.std.proofs.lemmas.Bool.{false≢true}
@@ -12,12 +12,12 @@ use Rattle.sfm_spec.specs.Blocks.{Block}
 use Rattle.sfm_kind.specs.Names.{AreElementNames, IsNewName}
 use Rattle.sfm_cert.specs.Answer.{listed, slope_text}
 use Rattle.sfm_cert.specs.LineLists.{counted, numbered}
-use Rattle.sfm_cert.specs.Lines.{IsBlockLine, IsSlopeLine, IsBaseLine, Ratio}
+use Rattle.sfm_cert.specs.Lines.{IsSetLine, IsValueLine, IsRowLine, IsBlockLine, IsSlopeLine, Ratio}
 use Rattle.sfm_cert.specs.Lists.{IsNamesStop}
-use Rattle.sfm_cert.proofs.Tokens.{same_entry, count_entry, slope_text-same, slope_text-plain, factor_entry}
+use Rattle.sfm_cert.proofs.Tokens.{one_number, same_entry, count_entry, slope_text-same, slope_text-plain, factor_entry}
 use Rattle.sfm_cert.proofs.Needs.{numbered-stop, counted-stop}
 use Rattle.sfm_cert.proofs.Names.{listed_first, listed-stop}
-use Rattle.sfm_cert.proofs.LineForms.{block_cut, slope_line_cut, slope_parts_of_line, list_stop, base_cut}
+use Rattle.sfm_cert.proofs.LineForms.{block_cut, slope_line_cut, slope_parts_of_line, list_stop, value_parts, row_cut, row_parts}
 
 -- ---- lists of names
 
@@ -102,6 +102,11 @@ slope_line-same names line r r' s s' h p q =
     let n = slope_text-same r.num r.den r'.num r'.den p.entry (factor_entry r.den p.factor) q.entry (factor_entry r'.den q.factor) t.0 in
     (n.0, n.1, listed-same names s s' h p.members.places q.members.places t.1)
 
-pub base_line-same : (i width : ℕ) (line : List ℕ) (x y : List ℤ) → IsBaseLine i width line x → IsBaseLine i width line y → x ≡ y
-base_line-same i width line x y p q =
-    numbered-same x y p.1 q.1 (append_cancel_left (decimal i) (numbered x) (numbered y) (append_cancel_left (codes "base ") (decimal i ++ numbered x) (decimal i ++ numbered y) (sym (base_cut i x) ∙ sym p.2 ∙ q.2 ∙ base_cut i y)))
+pub row_line-same : (word label : List ℕ) (width : ℕ) (line : List ℕ) (x y : List ℤ) → IsRowLine word label width line x → IsRowLine word label width line y → x ≡ y
+row_line-same word label width line x y p q = numbered-same x y p.1 q.1 (row_parts word label width line (numbered x) y (p.2 ∙ row_cut word label x) q)
+
+pub value_line-same : (word line : List ℕ) (v w : ℤ) → IsValueLine word line v → IsValueLine word line w → v ≡ w
+value_line-same word line v w p q = one_number v w p.0 q.0 (value_parts word line (signed_decimal v) w p.1 q.1)
+
+pub set_line-same : (word : List ℕ) (names : List (List ℕ)) (line : List ℕ) (s t : List Bool) → AreElementNames names → IsSetLine word names line s → IsSetLine word names line t → s ≡ t
+set_line-same word names line s t h p q = listed-same names s t h p.0 q.0 (append_cancel_left word (listed names s) (listed names t) (sym p.1 ∙ q.1))

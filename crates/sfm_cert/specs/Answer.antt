@@ -58,13 +58,17 @@ head_lines form a = form.header ∷ (codes "minimum " ++ signed_decimal a.value)
 abbrev pub at_line : ℤ → ℤ → List ℕ
 at_line p q = codes "at " ++ slope_text p q
 
--- the line of a base: the number of its term, and its entries
-abbrev pub base_line : ℕ → List ℤ → List ℕ
-base_line i x = codes "base " ++ decimal i ++ spaced signed_decimal x
+-- the line of a row of numbers: a word, a label, and the numbers
+abbrev pub row_line : List ℕ → List ℕ → List ℤ → List ℕ
+row_line word label x = word ++ label ++ spaced signed_decimal x
+
+-- a line for each row, with its number for a label, counted on from i
+abbrev pub row_lines : List ℕ → ℕ → List (List ℤ) → List (List ℕ)
+row_lines word i rows = map (λ (i, x). row_line word (decimal i) x) (enumerate_from i rows)
 
 -- the lines of a section: its slope, and a base for each term, numbered from 1
 abbrev pub section_lines : ℤ → ℤ → List (List ℤ) → List (List ℕ)
-section_lines p q rows = at_line p q ∷ map (λ (i, x). base_line i x) (enumerate_from 1 rows)
+section_lines p q rows = at_line p q ∷ row_lines (codes "base ") 1 rows
 
 -- the lines of an answer: what it says, the bases at 0/1, the bases at each slope, and the end
 abbrev pub answer_lines : Form → Answer → List (List ℕ)

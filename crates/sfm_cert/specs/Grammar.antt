@@ -13,22 +13,26 @@ pub record IsAnswerText (form : Form) (text : List ℕ) (a : Answer) : Type 0 wh
   pub formed : IsFormed form a
   pub written : text ≡ text_of (answer_lines form a)
 
--- the lines are the first ones of some answer
-abbrev pub BeginsAnswer : Form → List (List ℕ) → Type 0
-BeginsAnswer form lines = (a : Answer) × (rest : List (List ℕ)) × IsFormed form a × (answer_lines form a ≡ lines ++ rest)
+-- the lines are the first ones of some text of good form
+abbrev pub BeginsOne : {A : Type 0} → (A → Type 0) → (A → List (List ℕ)) → List (List ℕ) → Type 0
+BeginsOne {A} formed lines_by lines = (a : A) × (rest : List (List ℕ)) × formed a × (lines_by a ≡ lines ++ rest)
 
 -- a line holds no line feed
 abbrev pub IsLine : List ℕ → Type 0
 IsLine line = All (λ c. c ≢ 10) line
 
--- the lines before that number are the first ones of an answer. The text does not end with them as a whole answer, and with the next
--- line, where there is one with a line feed behind it, they are no longer the first ones of an answer
-pub record IsBadLine (form : Form) (text : List ℕ) (number : ℕ) : Type 0 where
+-- the lines before that number are the first ones of a text of good form. The text does not end with them as a whole one, and with the
+-- next line, where there is one with a line feed behind it, they are no longer the first ones of such a text
+pub record IsBadLineOf {A : Type 0} (formed : A → Type 0) (lines_by : A → List (List ℕ)) (text : List ℕ) (number : ℕ) : Type 0 where
   pub before : List (List ℕ)
   pub behind : List ℕ
   pub are_lines : All IsLine before
   pub cut : text ≡ text_of before ++ behind
   pub counted : number ≡ length before + 1
-  pub good : BeginsAnswer form before
-  pub bad : (line rest : List ℕ) → IsLine line → behind ≡ line ++ (10 ∷ rest) → BeginsAnswer form (before ++ line ∷ []) → ⊥
-  pub unfinished : (a : Answer) → IsAnswerText form text a → ⊥
+  pub good : BeginsOne formed lines_by before
+  pub bad : (line rest : List ℕ) → IsLine line → behind ≡ line ++ (10 ∷ rest) → BeginsOne formed lines_by (before ++ line ∷ []) → ⊥
+  pub unfinished : (a : A) → formed a → text ≡ text_of (lines_by a) → ⊥
+
+-- the same of answers
+abbrev pub IsBadLine : Form → List ℕ → ℕ → Type 0
+IsBadLine form text number = IsBadLineOf (IsFormed form) (answer_lines form) text number

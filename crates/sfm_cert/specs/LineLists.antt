@@ -1,9 +1,9 @@
 -- The lists of the numbers and of the lines of an answer, each by its own word: the code writes and reads each one by one.
-use Rattle.std.specs.Prelude.{ℕ, List, map, decimal, ℤ}
+use Rattle.std.specs.Prelude.{ℕ, List, codes, map, decimal, ℤ}
 use Rattle.std.specs.List.{enumerate_from, flat_map}
 use Rattle.std.specs.Fmt.{signed_decimal}
 use Rattle.sfm_spec.specs.Blocks.{Block}
-use Rattle.sfm_cert.specs.Answer.{Answer, Break, Form, answer_lines, base_line, block_line, section_lines, slope_line, spaced, text_of}
+use Rattle.sfm_cert.specs.Answer.{Answer, Break, Form, answer_lines, block_line, row_line, row_lines, section_lines, slope_line, spaced, text_of}
 
 -- counts, each behind a space
 abbrev pub counted : List ℕ → List ℕ
@@ -21,9 +21,13 @@ block_lines names i blocks = map (λ (i, block). block_line names i block) (enum
 abbrev pub slope_lines : List (List ℕ) → List Break → List (List ℕ)
 slope_lines names breaks = map (slope_line names) breaks
 
+-- the line of a base: the number of its term, and its entries
+abbrev pub base_line : ℕ → List ℤ → List ℕ
+base_line i x = row_line (codes "base ") (decimal i) x
+
 -- a line for each base, numbered on from i
 abbrev pub base_lines : ℕ → List (List ℤ) → List (List ℕ)
-base_lines i rows = map (λ (i, x). base_line i x) (enumerate_from i rows)
+base_lines i rows = row_lines (codes "base ") i rows
 
 -- a section for each slope
 abbrev pub break_lines : List Break → List (List ℕ)

@@ -1,16 +1,20 @@
 -- The lines of an answer, one kind at a time, and what each says.
-use Rattle.std.specs.Prelude.{◌≡◌, ℕ, ◌+◌, Bool, List, ◌++◌, codes, length, ℤ}
+use Rattle.std.specs.Prelude.{◌≡◌, ℕ, ◌+◌, Bool, List, ◌++◌, codes, decimal, length, ℤ}
 use Rattle.std.specs.Fmt.{signed_decimal}
 use Rattle.std.specs.List.{All}
 use Rattle.sfm_spec.specs.Bounds.{IsEntry, IsFactor}
 use Rattle.sfm_spec.specs.Blocks.{Block}
 use Rattle.sfm_spec.specs.Slopes.{IsLowest}
-use Rattle.sfm_cert.specs.Answer.{Break, listed, slope_text, block_line, base_line}
+use Rattle.sfm_cert.specs.Answer.{Break, listed, slope_text, block_line, row_line}
 use Rattle.sfm_cert.specs.Form.{IsFormedBlock, IsSomeSet}
 use Rattle.sfm_cert.specs.declared.head.Head.{Head}
 
+-- a word and a number
+abbrev pub IsValueLine : List ℕ → List ℕ → ℤ → Type 0
+IsValueLine word line v = IsEntry v × (line ≡ word ++ signed_decimal v)
+
 abbrev pub IsMinimumLine : List ℕ → ℤ → Type 0
-IsMinimumLine line v = IsEntry v × (line ≡ codes "minimum " ++ signed_decimal v)
+IsMinimumLine line v = IsValueLine (codes "minimum ") line v
 
 -- a word and a list of names
 abbrev pub IsSetLine : List ℕ → List (List ℕ) → List ℕ → List Bool → Type 0
@@ -35,9 +39,13 @@ pub record IsSlopeLine (names : List (List ℕ)) (line : List ℕ) (r : Ratio) (
   pub members : IsSomeSet (length names) s
   pub written : line ≡ codes "slope " ++ slope_text r.num r.den ++ listed names s
 
+-- a word, a label and so many numbers
+abbrev pub IsRowLine : List ℕ → List ℕ → ℕ → List ℕ → List ℤ → Type 0
+IsRowLine word label width line x = (length x ≡ width) × All IsEntry x × (line ≡ row_line word label x)
+
 -- the line of base i, which has so many numbers
 abbrev pub IsBaseLine : ℕ → ℕ → List ℕ → List ℤ → Type 0
-IsBaseLine i width line x = (length x ≡ width) × All IsEntry x × (line ≡ base_line i x)
+IsBaseLine i width line x = IsRowLine (codes "base ") (decimal i) width line x
 
 abbrev pub ratio_of_head : Head → Ratio
 ratio_of_head h = record { num = h.slope.num; den = h.slope.den }

@@ -1,10 +1,10 @@
-// What the lines of an answer hold besides numbers: a list of names, read by one pass over the names of the ground, and
-// the lines of a set, a block, a slope and a base. Each is read in one way only, since what ends a name or a number is told
-// by the byte behind it, names differ, and they come in the order of the ground.
+// What the lines of a text hold besides numbers: a list of names, read by one pass over the names of the ground, and the
+// lines of a value, a set, a block, a slope and a row. Each is read in one way only, since what ends a name or a number is
+// told by the byte behind it, names differ, and they come in the order of the ground.
 ghost use Rattle.std.specs.{Prelude.{◌≡◌, ◌≢◌, ◌↔◌, ℕ, ◌+◌, ◌<◌, ◌≤◌, ◌^◌, Bool, List, [], ◌∷◌, ◌++◌, codes, length, ℤ, IsTrue, MatchOption, IfOk}, Fmt.{decimal, signed_decimal}};
 ghost use Rattle.sfm_spec.specs.{Sets.{Has}, Blocks.{Block as Generator}, Names.{IsName}};
 ghost use Rattle.sfm_extreme.specs.Blocks.{block_of};
-ghost use Rattle.sfm_cert.specs.{Answer.{listed}, Lists.{IsStop, IsListCut}, Lines.{IsMinimumLine, IsSetLine, IsBlockLine, IsSlopeLine, IsBaseLine, ratio_of_head, Ratio}};
+ghost use Rattle.sfm_cert.specs.{Answer.{listed}, Lists.{IsStop, IsListCut}, Lines.{IsValueLine, IsSetLine, IsBlockLine, IsSlopeLine, IsRowLine, ratio_of_head, Ratio}};
 
 use crate::head::Head;
 use crate::numbers::{behind, needs_of, numbers_of, read_entry, slope_of, split_token};
@@ -65,11 +65,13 @@ fn has_some(set: &Set) -> bool
     false
 }
 
-/// The number of a minimum line, or None where the line is none.
-pub fn minimum_of(line: &[u8]) -> Option<i128>
-    ensures { MatchOption result ((v : ℤ) → IsMinimumLine line.now v → ⊥) (IsMinimumLine line.now) }
+/// The number of a line of this word and a number, or None where the line is none.
+pub fn value_of(line: &[u8], word: &[u8]) -> Option<i128>
+    ensures { MatchOption result
+        ((v : ℤ) → IsValueLine word.now line.now v → ⊥)
+        (IsValueLine word.now line.now) }
 {
-    read_entry(behind(line, b"minimum ")?)
+    read_entry(behind(line, word)?)
 }
 
 /// The set of a line of this word and a list of names, or None where the line is none.
@@ -93,6 +95,15 @@ pub fn set_of(
     Ok(Some(members))
 }
 
+/// The bytes behind a word and a label.
+fn behind_label<'a>(line: &'a [u8], word: &[u8], label: &[u8]) -> Option<&'a [u8]>
+    ensures { MatchOption result
+        ((rest : List ℕ) → line.now ≡ word.now ++ (label.now ++ rest) → ⊥)
+        (λ rest. line.now ≡ word.now ++ (label.now ++ rest.now)) }
+{
+    behind(behind(line, word)?, label)
+}
+
 /// The bytes behind a word and a count.
 fn behind_count<'a>(line: &'a [u8], word: &[u8], count: usize) -> Option<&'a [u8]>
     ensures { MatchOption result
@@ -100,7 +111,7 @@ fn behind_count<'a>(line: &'a [u8], word: &[u8], count: usize) -> Option<&'a [u8
         (λ rest. line.now ≡ word.now ++ (decimal count ++ rest.now)) }
 {
     let mut buffer = Buffer::new();
-    behind(behind(line, word)?, buffer.format(count).as_bytes())
+    behind_label(line, word, buffer.format(count).as_bytes())
 }
 
 /// The block of a block line that stands behind so many others, or None where the line is none.
@@ -151,18 +162,19 @@ pub fn head_of_line(alloc: Global, instance: &Instance, line: &[u8]) -> Result<O
     Ok(Some(Head { slope, set }))
 }
 
-/// The numbers of the line of base `number`, of which there are `width`, or None where the line is none.
-pub fn base_of(
+/// The numbers of a line of this word and label, of which there are `width`, or None where the line is none.
+pub fn row_of(
     alloc: Global,
-    number: usize,
+    word: &[u8],
+    label: &[u8],
     width: usize,
     line: &[u8],
 ) -> Result<Option<Vec<i128>>, Memory>
     ensures { IfOk result (λ r. MatchOption r
-        ((x : List ℤ) → IsBaseLine number width line.now x → ⊥)
-        (λ x. IsBaseLine number width line.now x.items)) }
+        ((x : List ℤ) → IsRowLine word.now label.now width line.now x → ⊥)
+        (λ x. IsRowLine word.now label.now width line.now x.items)) }
 {
-    let Some(bytes) = behind_count(line, b"base ", number) else {
+    let Some(bytes) = behind_label(line, word, label) else {
         return Ok(None);
     };
     let Some(numbers) = numbers_of(alloc, bytes, width)? else {

@@ -1,8 +1,8 @@
-// The pieces of an answer text, in order: names, numbers, and a line for a block, a slope or a base.
+// The pieces of a text, in order: names, numbers, and a line for a block, a slope or a row.
 ghost use Rattle.std.specs.{Prelude.{◌≡◌, ℕ, ◌<◌, List, [], ◌∷◌, ◌++◌, length, map}, Fmt.{decimal, signed_decimal}, List.{All}};
 ghost use Rattle.sfm_spec.specs.{Bounds.{IsEntry}, Blocks.{block_at}};
 ghost use Rattle.sfm_extreme.specs.Blocks.{block_of};
-ghost use Rattle.sfm_cert.specs.{Answer.{listed, slope_text, at_line, block_line, slope_line, base_line, section_lines, text_of}, LineLists.{counted, numbered, block_lines, slope_lines, base_lines}, Form.{AreFormedRows}, Solved.{break_of}};
+ghost use Rattle.sfm_cert.specs.{Answer.{listed, slope_text, at_line, block_line, slope_line, row_line, row_lines, section_lines, text_of}, LineLists.{counted, numbered, block_lines, slope_lines}, Form.{AreFormedRows}, Solved.{break_of}};
 
 use crate::out::Out;
 use itoa::Buffer;
@@ -133,24 +133,24 @@ pub fn put_breaks<O: Out>(out: &mut O, instance: &Instance, breaks: &[Break])
     }
 }
 
-/// The line of a base, with its number.
-fn put_base<O: Out>(out: &mut O, number: usize, base: &[i128])
-    requires { All IsEntry base.now }
-    ensures { out.new ≡ O.after out.old (text_of (base_line number base.now ∷ [])) }
+/// The line of a row, with its number.
+fn put_row<O: Out>(out: &mut O, word: &[u8], number: usize, row: &[i128])
+    requires { All IsEntry row.now }
+    ensures { out.new ≡ O.after out.old (text_of (row_line word.now (decimal number) row.now ∷ [])) }
 {
-    out.put(b"base ");
+    out.put(word);
     put_count(out, number);
-    put_numbers(out, base);
+    put_numbers(out, row);
     out.put(b"\n");
 }
 
-/// A line for each base, numbered from 1.
-pub fn put_bases<O: Out>(out: &mut O, bases: &Rows)
-    requires { All (λ base. All IsEntry base) bases.now }
-    ensures { out.new ≡ O.after out.old (text_of (base_lines 1 bases.now)) }
+/// A line for each row: a word, its number counted from 1, and its entries.
+pub fn put_rows<O: Out>(out: &mut O, word: &[u8], rows: &Rows)
+    requires { All (λ row. All IsEntry row) rows.now }
+    ensures { out.new ≡ O.after out.old (text_of (row_lines word.now 1 rows.now)) }
 {
-    for i in 0..bases.len() {
-        put_base(out, i + 1, bases.row(i));
+    for i in 0..rows.len() {
+        put_row(out, word, i + 1, rows.row(i));
     }
 }
 
@@ -170,5 +170,5 @@ pub fn put_section<O: Out>(out: &mut O, slope: &Slope, bases: &Rows)
 {
     put_at(out, slope);
     out.put(b"\n");
-    put_bases(out, bases);
+    put_rows(out, b"base ", bases);
 }

@@ -10,7 +10,7 @@ use crate::head::Head;
 use crate::header::Header;
 use crate::next::{begins, expect};
 use crate::solved::{AnswerEnd, Solved};
-use crate::steps::{read_at, read_base, read_block, read_head, read_minimum, read_set};
+use crate::steps::{read_at, read_base, read_block, read_head, read_set, read_value};
 use sfm_base::{Rows, Set};
 use sfm_extreme::Block;
 use sfm_kind::Instance;
@@ -133,7 +133,7 @@ fn read_first(
         cursor.old header_due) }
 {
     expect(text, cursor, header.text())?;
-    let value = read_minimum(text, cursor)?;
+    let value = read_value(text, cursor, b"minimum ")?;
     let least = read_set(alloc, instance, text, cursor, b"least")?;
     let greatest = read_set(alloc, instance, text, cursor, b"greatest")?;
     Ok((value, least, greatest))

@@ -1,16 +1,17 @@
-// The lines of an answer text, read one at a time: each call reads the next line where it is of its kind, and tells the
+// The lines of a text, read one at a time: each call reads the next line where it is of its kind, and tells the
 // number of that line where it is not.
 ghost use Rattle.std.specs.Prelude.{◌≡◌, ℕ, ◌+◌, ◌<◌, ◌≤◌, ◌^◌, Bool, List, length, ℤ, IfOk, IfErr};
 ghost use Rattle.sfm_spec.specs.Blocks.{Block as Generator};
 ghost use Rattle.sfm_extreme.specs.Blocks.{block_of};
-ghost use Rattle.sfm_cert.specs.{Answer.{at_line}, Lines.{IsMinimumLine, IsSetLine, IsBlockLine, IsSlopeLine, IsBaseLine, ratio_of_head, Ratio}, Reading.{TakesSome, EndsStuck}};
+ghost use Rattle.sfm_cert.specs.{Answer.{at_line}, Lines.{IsValueLine, IsSetLine, IsBlockLine, IsSlopeLine, IsRowLine, IsBaseLine, ratio_of_head, Ratio}, Reading.{TakesSome, EndsStuck}};
 
 use crate::cursor::Cursor;
 use crate::head::Head;
-use crate::lists::{base_of, block_of_line, head_of_line, minimum_of, set_of};
+use crate::lists::{block_of_line, head_of_line, row_of, set_of, value_of};
 use crate::next::{expect, take_line};
 use crate::put::put_at;
 use crate::solved::AnswerEnd;
+use itoa::Buffer;
 use sfm_base::{Page, Set, Slope};
 use sfm_extreme::Block;
 use sfm_kind::Instance;
@@ -19,25 +20,34 @@ use std::alloc::Global;
 /// The most bytes of the line that tells a slope: the word, the space, two numbers and what parts them.
 const MOST_AT: usize = 68;
 
-/// The number of the minimum line.
-pub fn read_minimum(text: &[u8], cursor: &mut Cursor) -> Result<i128, AnswerEnd>
+/// The number of a line of this word and a number.
+///
+/// # Errors
+///
+/// `BadLine` with the number of the next line, where it is no such line or no line feed follows.
+pub fn read_value(text: &[u8], cursor: &mut Cursor, word: &[u8]) -> Result<i128, AnswerEnd>
     requires { cursor.old.at ≤ length text.now }
     ensures read { IfOk result (λ v. TakesSome text.now cursor.old cursor.new
-        (λ line. IsMinimumLine line v)) }
+        (λ line. IsValueLine word.now line v)) }
     ensures stuck { IfErr result (EndsStuck text.now cursor.old
-        (λ line. (v : ℤ) × IsMinimumLine line v)) }
+        (λ line. (v : ℤ) × IsValueLine word.now line v)) }
 {
     let end = AnswerEnd::BadLine { line: cursor.line };
     let Some(line) = take_line(text, cursor) else {
         return Err(end);
     };
-    let Some(value) = minimum_of(line) else {
+    let Some(value) = value_of(line, word) else {
         return Err(end);
     };
     Ok(value)
 }
 
-/// The set of a line of this word.
+/// The set of a line of this word and a list of names.
+///
+/// # Errors
+///
+/// `BadLine` with the number of the next line, where it is no such line or no line feed follows; `Memory` where there is
+/// none.
 pub fn read_set(
     alloc: Global,
     instance: &Instance,
@@ -109,6 +119,36 @@ pub fn read_head(
     Ok(head)
 }
 
+/// The numbers of a line of this word and label, of which there are `width`.
+///
+/// # Errors
+///
+/// `BadLine` with the number of the next line, where it is no such line or no line feed follows; `Memory` where there is
+/// none.
+pub fn read_row(
+    alloc: Global,
+    text: &[u8],
+    cursor: &mut Cursor,
+    word: &[u8],
+    label: &[u8],
+    width: usize,
+) -> Result<Vec<i128>, AnswerEnd>
+    requires { cursor.old.at ≤ length text.now }
+    ensures read { IfOk result (λ x. TakesSome text.now cursor.old cursor.new
+        (λ line. IsRowLine word.now label.now width line x.items)) }
+    ensures stuck { IfErr result (EndsStuck text.now cursor.old
+        (λ line. (x : List ℤ) × IsRowLine word.now label.now width line x)) }
+{
+    let end = AnswerEnd::BadLine { line: cursor.line };
+    let Some(line) = take_line(text, cursor) else {
+        return Err(end);
+    };
+    let Some(numbers) = row_of(alloc, word, label, width, line)? else {
+        return Err(end);
+    };
+    Ok(numbers)
+}
+
 /// The numbers of the line of base `number`, of which there are `width`.
 pub fn read_base(
     alloc: Global,
@@ -123,14 +163,9 @@ pub fn read_base(
     ensures stuck { IfErr result (EndsStuck text.now cursor.old
         (λ line. (x : List ℤ) × IsBaseLine number width line x)) }
 {
-    let end = AnswerEnd::BadLine { line: cursor.line };
-    let Some(line) = take_line(text, cursor) else {
-        return Err(end);
-    };
-    let Some(numbers) = base_of(alloc, number, width, line)? else {
-        return Err(end);
-    };
-    Ok(numbers)
+    let mut buffer = Buffer::new();
+    let label = buffer.format(number).as_bytes();
+    read_row(alloc, text, cursor, b"base ", label, width)
 }
 
 /// Reads the line that tells a slope.

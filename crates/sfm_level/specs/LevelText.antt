@@ -5,8 +5,7 @@ use Rattle.std.specs.Fmt.{signed_decimal}
 use Rattle.sfm_spec.specs.Bounds.{IsEntry}
 use Rattle.sfm_spec.specs.Families.{Meaning, AreBases}
 use Rattle.sfm_squares.specs.Level.{IsLevel, IsSumOf, squares}
-use Rattle.sfm_cert.specs.Answer.{Form, spaced, text_of}
-use Rattle.sfm_cert.specs.LineLists.{base_lines}
+use Rattle.sfm_cert.specs.Answer.{Form, row_lines, spaced, text_of}
 use Rattle.sfm_cert.specs.Form.{AreFormedRows}
 
 -- what a level text says: the least sum of squares, the base of the sum that has it, and the bases of the terms
@@ -19,7 +18,7 @@ pub record LevelAnswer : Type 0 where
 abbrev pub level_lines : Form → LevelAnswer → List (List ℕ)
 level_lines form a = codes "level 1" ∷ (codes "squares " ++ signed_decimal a.squares)
     ∷ (codes "vector" ++ spaced signed_decimal a.vector)
-    ∷ (base_lines 1 a.bases ++ codes "end" ∷ [])
+    ∷ (row_lines (codes "base ") 1 a.bases ++ codes "end" ∷ [])
 
 -- what it says is true of the terms: bases of theirs add up to the vector, which is a most level base of the sum
 pub record IsTrueLevel (terms : List Meaning) (n : ℕ) (a : LevelAnswer) : Type 0 where

@@ -9,7 +9,7 @@ ghost use Rattle.sfm_level.specs.{LevelText.{level_lines, IsFormedLevel, IsLevel
 use crate::levelling::level;
 use crate::told::Level;
 use sfm_base::{Memory, Page};
-use sfm_cert::{Gauge, Out, put_bases, put_number, put_numbers};
+use sfm_cert::{Gauge, Out, put_number, put_numbers, put_rows};
 use sfm_kind::Instance;
 use std::alloc::Global;
 
@@ -26,7 +26,7 @@ fn put_level<O: Out>(out: &mut O, level: &Level)
     out.put(b"\nvector");
     put_numbers(out, level.vector.as_slice());
     out.put(b"\n");
-    put_bases(out, &level.bases);
+    put_rows(out, b"base ", &level.bases);
     out.put(b"end\n");
 }
 

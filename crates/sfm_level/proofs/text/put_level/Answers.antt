@@ -18,4 +18,4 @@ returns g c =
     = rw c.as_slice.ensures at c.put_numbers.ensures in
     rw (text_of-append (base_lines 1 l.bases) (codes "end" ∷ []))
     (seven g.O.Out.after g.met.O.Out.joined _ _ _ _ _ _ _ _ _ _ _ _ _ _ _ c.put.ensures put
-    c.put-2.ensures numbers c.put-3.ensures c.put_bases.ensures c.put-4.ensures)
+    c.put-2.ensures numbers c.put-3.ensures c.put_rows.ensures c.put-4.ensures)
