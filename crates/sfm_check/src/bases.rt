@@ -12,8 +12,14 @@ use sfm_kind::{Instance, Kind};
 use sfm_law::Term;
 use std::alloc::Global;
 
-/// The first term of which the row is no base, times q.
-fn first_no_base_in(
+/// The number, counted from 0, of the first of some terms of which the row is no base of q times the term, or None where
+/// all are bases. There is a row for each term, of as many entries as the term has places, each of magnitude at most 10^30;
+/// q is from 1 to 1,000,000, and each size at most 10^18.
+///
+/// # Errors
+///
+/// `Memory` where there is none.
+pub fn first_no_base_in(
     alloc: Global,
     terms: &[Kind],
     q: i128,

@@ -14,5 +14,7 @@ mod values;
 mod verdicts;
 mod worth;
 
+pub use bases::first_no_base_in;
 pub use judging::{judge, judge_weighed, judge_with};
+pub use same::are_same;
 pub use verdicts::{Verdict, Wrong};
