@@ -1,10 +1,8 @@
 -- Where the reading of a whole answer text stops, there is the first bad line.
-use Rattle.std.proofs.Common.{◌≡◌, ℕ, ◌+◌, List, [], ◌∷◌, ◌++◌, length, drop, pos, inl, inr, refl, sym, ap, subst, ◌∙◌, arith, append_assoc}
+use Rattle.std.proofs.Common.{◌≡◌, ℕ, ◌+◌, List, [], ◌∷◌, ◌++◌, pos, inl, inr, refl}
 use Rattle.std.specs.Prelude.{codes}
 use Rattle.std.specs.List.{All}
 use Rattle.std.specs.Fmt.{decimal, signed_decimal}
-use Rattle.std.proofs.lemmas.List.{length-drop}
-use Rattle.std.proofs.lemmas.List.Elements.{All-nil, All-cons}
 use Rattle.sfm_spec.specs.Names.{IsName}
 use Rattle.sfm_cert.specs.Answer.{Answer, Form, listed, slope_text, text_of, answer_lines}
 use Rattle.sfm_cert.specs.LineLists.{counted}
@@ -13,10 +11,11 @@ use Rattle.sfm_cert.specs.Grammar.{IsLine, IsBadLine}
 use Rattle.sfm_cert.specs.Header.{header_text}
 use Rattle.sfm_cert.specs.declared.header.Header.{Header}
 use Rattle.sfm_cert.specs.declared.header.Header.TheVariants.{Answer as AnswerHeader, Weighed}
-use Rattle.sfm_cert.specs.Reading.{State, header, minimum, least, greatest, listing, bases, ended, Leads, LeadsOn, Stops}
+use Rattle.sfm_cert.specs.Reading.{State, header, minimum, least, greatest, listing, bases, ended, Leads, Stops}
 use Rattle.sfm_cert.specs.declared.cursor.Cursor.{Cursor}
-use Rattle.sfm_cert.proofs.CleanLines.{word_line, decimal_line, number_line, joined, listed_line, counted_line, row_line_line, slope_text_line, at_line_line, same_line, text_lines, same_lines}
-use Rattle.sfm_cert.proofs.Machine.{leads_answer, leads_rest}
+use Rattle.sfm_cert.proofs.CleanLines.{word_line, decimal_line, number_line, joined, listed_line, counted_line, row_line_line, slope_text_line, at_line_line, same_line}
+use Rattle.sfm_cert.proofs.Rules.{first_bad, one_list as lines_of_one}
+use Rattle.sfm_cert.proofs.Machine.{one_next, leads_answer}
 use Rattle.sfm_cert.proofs.Beginnings.{begins_from}
 
 -- ---- no line of an answer holds a line feed
@@ -47,34 +46,11 @@ module _ (form : Form) (clean : IsLine form.header) (named : All IsName form.nam
   leads_line (bases i [] []) line t h = same_line line (codes "end") h.0 (word_line (codes "end") refl)
   leads_line ended line t h = absurd h
 
-  all_lines : (s : State) (lines : List (List ℕ)) (t : State) → LeadsOn form s lines t → All IsLine lines
-  all_lines s [] t h = All-nil IsLine
-  all_lines s (line ∷ lines) t h = All-cons IsLine line lines (leads_line s line h.0 h.1) (all_lines h.0 lines t h.2)
-
   pub bad_line : (text : List ℕ) (start : Cursor) (number : ℕ) → start.at ≡ 0 → start.line ≡ 1 → Stops form text start header number → IsBadLine form text number
-  bad_line text start number zero_at one_line h = record {
-    before = h.lines;
-    behind = drop h.to.at text;
-    are_lines = h.reads.are_lines;
-    cut = cut;
-    counted = omega (arith, h.number_is, h.reads.number, one_line);
-    good = begins_from form h.lines h.next h.reads.leads;
-    bad = λ line rest is e b.
-        let goes = leads_rest form header h.lines h.next (line ∷ b.1) ended h.reads.leads
-        (subst (λ (x : List (List ℕ)). LeadsOn form header x ended) (b.3 ∙ append_assoc h.lines (line ∷ []) b.1) (leads_answer form b.0 b.2)) in
-        h.none line goes.0 (record { is_line = is; rest = rest; cut = e }) goes.1;
-    unfinished = λ a formed written.
-        let whole = leads_answer form a formed in
-        let t = text_lines h.lines (answer_lines form a) (drop h.to.at text) h.reads.are_lines (all_lines header (answer_lines form a) ended whole) (sym written ∙ cut) in
-        at_end t.0 (leads_rest form header h.lines h.next t.0 ended h.reads.leads (subst (λ (x : List (List ℕ)). LeadsOn form header x ended) t.1 whole)) t.2;
-  } where
-    cut : text ≡ text_of h.lines ++ drop h.to.at text
-    cut = sym (ap (λ n. drop n text) zero_at) ∙ h.reads.cut
-
-    at_end : (more : List (List ℕ)) → LeadsOn form h.next more ended → drop h.to.at text ≡ text_of more → ⊥
-    at_end [] e f = omega (arith, h.left e, length-drop h.to.at text, ap length f)
-    at_end (line ∷ more) goes f = h.none line goes.0 (record { is_line = leads_line h.next line goes.0 goes.1; rest = text_of more; cut = f }) goes.1
+  bad_line text start number zero_at one_line h =
+      first_bad (Leads form) header ended (IsFormed form) (answer_lines form) (one_next form) leads_line (leads_answer form) (begins_from form) text start number zero_at one_line h
 
   -- answers of one text have the same lines
   pub one_list : (a b : Answer) → IsFormed form a → IsFormed form b → text_of (answer_lines form a) ≡ text_of (answer_lines form b) → answer_lines form a ≡ answer_lines form b
-  one_list a b ha hb e = same_lines (answer_lines form a) (answer_lines form b) (all_lines header (answer_lines form a) ended (leads_answer form a ha)) (all_lines header (answer_lines form b) ended (leads_answer form b hb)) e
+  one_list a b ha hb e =
+      lines_of_one (Leads form) header ended (IsFormed form) (answer_lines form) (one_next form) leads_line (leads_answer form) (begins_from form) a b ha hb e

@@ -15,7 +15,8 @@ use Rattle.sfm_cert.specs.Grammar.{BeginsOne}
 use Rattle.sfm_cert.specs.Lines.{Ratio, ratio_of, IsSlopeLine}
 use Rattle.sfm_cert.specs.Reading.{State, header, minimum, least, greatest, listing, bases, ended, Leads, LeadsOn}
 use Rattle.sfm_cert.proofs.Tokens.{count_entry}
-use Rattle.sfm_cert.proofs.Machine.{leads-append, regroup}
+use Rattle.sfm_cert.proofs.Machine.{regroup}
+use Rattle.sfm_cert.proofs.Rules.{leads-append}
 
 -- ---- every place goes on to the end
 
@@ -294,5 +295,5 @@ module _ (form : Form) where
   pub begins_from : (lines : List (List ℕ)) (s : State) → LeadsOn form header lines s → BeginsOne (IsFormed form) (answer_lines form) lines
   begins_from lines s h =
       let g = goes_on s in
-      let w = whole (lines ++ g.0) (leads-append form header lines s g.0 ended h g.1) in
+      let w = whole (lines ++ g.0) (leads-append (Leads form) header lines s g.0 ended h g.1) in
       (w.answer, g.0, w.formed, w.cut)

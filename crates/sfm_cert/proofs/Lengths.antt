@@ -38,10 +38,10 @@ factor_entry q f = let low = f.low in let high = f.high in record { low = omega 
 -- ---- lists in a line
 
 -- each name has at most 32 bytes
-abbrev AreShort : List (List ℕ) → Type 0
+abbrev pub AreShort : List (List ℕ) → Type 0
 AreShort names = All (λ name. length name ≤ 32) names
 
-listed_short : (names : List (List ℕ)) (s : List Bool) → AreShort names → length (listed names s) ≤ 33 * length names
+pub listed_short : (names : List (List ℕ)) (s : List Bool) → AreShort names → length (listed names s) ≤ 33 * length names
 listed_short [] s h = omega arith
 listed_short (name ∷ names) [] h = omega arith
 listed_short (name ∷ names) (true ∷ s) h =

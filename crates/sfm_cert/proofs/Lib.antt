@@ -3,11 +3,13 @@ pub mod Tokens
 pub mod Needs
 pub mod Names
 pub mod LineForms
+pub mod CleanLines
+pub mod Rules
 pub mod Machine
 pub mod Beginnings
 pub mod Ends
+pub mod Slots
 pub mod Parts
-pub mod CleanLines
 pub mod BadLines
 pub mod Sections
 pub mod First

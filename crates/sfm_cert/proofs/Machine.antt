@@ -13,6 +13,7 @@ use Rattle.sfm_cert.specs.Form.{IsFormed, IsFormedBlock, IsFormedBreak, AreForme
 use Rattle.sfm_cert.specs.Lines.{IsBlockLine, Ratio, ratio_of, IsSlopeLine}
 use Rattle.sfm_cert.specs.Reading.{State, header, minimum, least, greatest, listing, bases, ended, Leads, LeadsOn}
 use Rattle.sfm_cert.proofs.Tokens.{slope_text-same, slope_text-plain, factor_entry}
+use Rattle.sfm_cert.proofs.Rules.{leads-append}
 use Rattle.sfm_cert.proofs.LineForms.{slope_parts_of_line, slope_line_cut, list_stop}
 
 pub regroup : (b s : List (List ℕ)) (x : List ℕ) (r k e : List (List ℕ)) → b ++ s ++ x ∷ r ++ k ++ e ≡ b ++ (s ++ x ∷ (r ++ (k ++ e)))
@@ -65,17 +66,6 @@ module _ (form : Form) where
   one_next (bases i [] []) line t u h h' = h.1 ∙ sym h'.1
   one_next ended line t u h h' = absurd h
 
-  -- ---- lines one behind another
-
-  pub leads-append : (s : State) (xs : List (List ℕ)) (t : State) (ys : List (List ℕ)) (u : State) → LeadsOn form s xs t → LeadsOn form t ys u → LeadsOn form s (xs ++ ys) u
-  leads-append s [] t ys u h k = subst (λ (v : State). LeadsOn form v ys u) (sym h) k
-  leads-append s (x ∷ xs) t ys u h k = (h.0, h.1, leads-append h.0 xs t ys u h.2 k)
-
-  pub leads_rest : (s : State) (xs : List (List ℕ)) (t : State) (ys : List (List ℕ)) (u : State) → LeadsOn form s xs t → LeadsOn form s (xs ++ ys) u → LeadsOn form t ys u
-  leads_rest s [] t ys u h k = subst (λ (v : State). LeadsOn form v ys u) h k
-  leads_rest s (x ∷ xs) t ys u h k =
-      leads_rest h.0 xs t ys u h.2 (subst (λ (v : State). LeadsOn form v (xs ++ ys) u) (one_next s x k.0 h.0 k.1 h.1) k.2)
-
   -- ---- the lines of an answer lead to the end
 
   leads_blocks : (k : ℕ) (blocks : List Block) → ((i : ℕ) → i < length blocks → IsFormedBlock (length form.names) (k + i) (block_at blocks i))
@@ -119,7 +109,7 @@ module _ (form : Form) where
     bases 1 form.widths (map ratio_of breaks),
     (refl, refl),
     subst (λ (x : List (List ℕ)). LeadsOn form (bases 1 form.widths (map ratio_of breaks)) x ended) (sym (append_assoc (base_lines 1 b.bases) (break_lines breaks) (codes "end" ∷ [])))
-        (leads-append (bases 1 form.widths (map ratio_of breaks)) (base_lines 1 b.bases) (bases (1 + length b.bases) [] (map ratio_of breaks)) (break_lines breaks ++ codes "end" ∷ []) ended
+        (leads-append (Leads form) (bases 1 form.widths (map ratio_of breaks)) (base_lines 1 b.bases) (bases (1 + length b.bases) [] (map ratio_of breaks)) (break_lines breaks ++ codes "end" ∷ []) ended
         (leads_widths 1 b.bases (map ratio_of breaks) (All-head (IsFormedBreak (length form.names) form.widths) b breaks h).bases)
         (leads_breaks (1 + length b.bases) breaks (All-tail (IsFormedBreak (length form.names) form.widths) b breaks h))),
   )
@@ -141,10 +131,10 @@ module _ (form : Form) where
     tail : LeadsOn form (listing 0 []) (block_lines form.names 1 a.blocks ++ slope_lines form.names a.breaks ++ section_lines (pos 0) (pos 1) a.bases ++ break_lines a.breaks ++ codes "end" ∷ []) ended
     tail = subst (λ (x : List (List ℕ)). LeadsOn form (listing 0 []) x ended)
         (sym (regroup (block_lines form.names 1 a.blocks) (slope_lines form.names a.breaks) (at_line (pos 0) (pos 1)) (base_lines 1 a.bases) (break_lines a.breaks) (codes "end" ∷ [])))
-        (leads-append (listing 0 []) (block_lines form.names 1 a.blocks) (listing (0 + length a.blocks) []) _ ended (leads_blocks 0 a.blocks (λ i lt. subst (λ (n : ℕ). IsFormedBlock (length form.names) n (block_at a.blocks i)) (omega arith) (h.blocks i lt)))
-        (leads-append (listing (0 + length a.blocks) []) (slope_lines form.names a.breaks) (listing (0 + length a.blocks) (map ratio_of a.breaks)) _ ended (leads_slopes (0 + length a.blocks) [] a.breaks h.breaks) (
+        (leads-append (Leads form) (listing 0 []) (block_lines form.names 1 a.blocks) (listing (0 + length a.blocks) []) _ ended (leads_blocks 0 a.blocks (λ i lt. subst (λ (n : ℕ). IsFormedBlock (length form.names) n (block_at a.blocks i)) (omega arith) (h.blocks i lt)))
+        (leads-append (Leads form) (listing (0 + length a.blocks) []) (slope_lines form.names a.breaks) (listing (0 + length a.blocks) (map ratio_of a.breaks)) _ ended (leads_slopes (0 + length a.blocks) [] a.breaks h.breaks) (
           bases 1 form.widths (map ratio_of a.breaks),
           inr (inr (refl, refl)),
-          leads-append (bases 1 form.widths (map ratio_of a.breaks)) (base_lines 1 a.bases) (bases (1 + length a.bases) [] (map ratio_of a.breaks)) (break_lines a.breaks ++ codes "end" ∷ []) ended
+          leads-append (Leads form) (bases 1 form.widths (map ratio_of a.breaks)) (base_lines 1 a.bases) (bases (1 + length a.bases) [] (map ratio_of a.breaks)) (break_lines a.breaks ++ codes "end" ∷ []) ended
               (leads_widths 1 a.bases (map ratio_of a.breaks) h.bases) (leads_breaks (1 + length a.bases) a.breaks h.breaks),
         )))

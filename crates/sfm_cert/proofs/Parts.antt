@@ -13,7 +13,7 @@ use Rattle.sfm_cert.specs.LineLists.{block_lines, slope_lines, base_lines, base_
 use Rattle.sfm_cert.specs.Form.{IsFormedBlock}
 use Rattle.sfm_cert.specs.Lines.{IsBlockLine, IsSlopeLine, IsBaseLine, Ratio, ratio_of}
 use Rattle.sfm_cert.specs.Parts.{ReadsBlocks, ReadsHeads, ReadsRows}
-use Rattle.sfm_cert.specs.Reading.{State, listing, bases, Leads, Reads, EndsAt, EndsStuck, TakesSome, IsNextLine}
+use Rattle.sfm_cert.specs.Reading.{State, listing, bases, Leads, Reads, EndsAt, EndsStuck, TakesSome, IsNextLine, ended}
 use Rattle.sfm_cert.specs.declared.cursor.Cursor.{Cursor}
 use Rattle.sfm_cert.specs.declared.solved.AnswerEnd.{AnswerEnd}
 use Rattle.sfm_cert.proofs.AnswerLines.{block_lines-push, slope_lines-push, row_lines-push}
@@ -23,7 +23,7 @@ module _ (form : Form) (text : List ℕ) where
   -- ---- blocks
 
   pub blocks_begin : (from : Cursor) → from.at ≤ length text → ReadsBlocks form text from from []
-  blocks_begin from h = record { reads = reads_begin form text from (listing 0 []) h; formed = λ i lt. absurd (omega (arith, lt)) }
+  blocks_begin from h = record { reads = reads_begin (Leads form) text from (listing 0 []) h; formed = λ i lt. absurd (omega (arith, lt)) }
 
   formed_push : (blocks : List Block) (b : Block) → ((i : ℕ) → i < length blocks → IsFormedBlock (length form.names) i (block_at blocks i)) → IsFormedBlock (length form.names) (length blocks) b
       → (i : ℕ) → i < length (blocks ++ b ∷ []) → IsFormedBlock (length form.names) i (block_at (blocks ++ b ∷ []) i)
@@ -41,7 +41,7 @@ module _ (form : Form) (text : List ℕ) where
         let lines_are : block_lines form.names 1 blocks ++ t.line ∷ [] ≡ block_lines form.names 1 (blocks ++ b ∷ []) = ap (λ l. block_lines form.names 1 blocks ++ l ∷ []) (sym line_is) ∙ sym (block_lines-push form.names 1 blocks b) in
         let n : length blocks + 1 ≡ length (blocks ++ b ∷ []) = sym (length_push blocks b) in
         subst (λ (l : List (List ℕ)). Reads form text from to' (listing 0 []) (listing (length (blocks ++ b ∷ [])) []) l) lines_are
-        (reads_more form text from to to' (listing 0 []) (listing (length blocks) []) (listing (length (blocks ++ b ∷ [])) []) (block_lines form.names 1 blocks) t.line r.reads t.takes t.within
+        (reads_more (Leads form) text from to to' (listing 0 []) (listing (length blocks) []) (listing (length (blocks ++ b ∷ [])) []) (block_lines form.names 1 blocks) t.line r.reads t.takes t.within
         (inl (b, t.good, refl, ap (λ m. listing m []) (sym n))));
     formed = formed_push blocks b r.formed t.good.0;
   }
@@ -49,19 +49,19 @@ module _ (form : Form) (text : List ℕ) where
   -- a line that begins with `b` leads on as a block line alone
   only_block : (at k : ℕ) (slopes : List Ratio) (line : List ℕ) (next : State) → get_or text at 0 ≡ 98 → IsNextLine text at line → Leads form (listing k slopes) line next → (b : Block) × IsBlockLine form.names k line b
   only_block at k slopes line next e n (inl b) = (b.0, b.1)
-  only_block at k slopes line next e n (inr (inl s)) = absurd (omega (arith, e, first_byte form text at 115 line n (ap (λ x. get_or x 0 0) s.2.written) (omega arith)))
-  only_block at k slopes line next e n (inr (inr a)) = absurd (omega (arith, e, first_byte form text at 97 line n (ap (λ x. get_or x 0 0) a.0) (omega arith)))
+  only_block at k slopes line next e n (inr (inl s)) = absurd (omega (arith, e, first_byte text at 115 line n (ap (λ x. get_or x 0 0) s.2.written) (omega arith)))
+  only_block at k slopes line next e n (inr (inr a)) = absurd (omega (arith, e, first_byte text at 97 line n (ap (λ x. get_or x 0 0) a.0) (omega arith)))
 
   pub blocks_stop : {A : Type 0} (result : Result A AnswerEnd) (from to : Cursor) (blocks : List Block) (end : AnswerEnd) → IsErrAnd result (λ e. e ≡ end) → ReadsBlocks form text from to blocks → get_or text to.at 0 ≡ 98
       → EndsStuck text to (λ line. (b : Block) × IsBlockLine form.names (length blocks) line b) end → IfErr result (EndsAt form text from (listing 0 []))
   blocks_stop result from to blocks end is r e s = passed_on result end (EndsAt form text from (listing 0 [])) is
-      (stops_stuck form text from to (listing 0 []) (listing (length blocks) []) (block_lines form.names 1 blocks) (λ line. (b : Block) × IsBlockLine form.names (length blocks) line b) end r.reads s
+      (stops_stuck (Leads form) text ended from to (listing 0 []) (listing (length blocks) []) (block_lines form.names 1 blocks) (λ line. (b : Block) × IsBlockLine form.names (length blocks) line b) end r.reads s
       (λ line next n l. only_block to.at (length blocks) [] line next e n l) (λ f. cc))
 
   -- ---- slopes
 
   pub heads_begin : (from : Cursor) → from.at ≤ length text → ReadsHeads form text from from []
-  heads_begin from h = record { within = h; reads = λ k. reads_begin form text from (listing k []) h; formed = All-nil (λ b. (line : List ℕ) × IsSlopeLine form.names line (ratio_of b) b.members); stay = λ e. refl }
+  heads_begin from h = record { within = h; reads = λ k. reads_begin (Leads form) text from (listing k []) h; formed = All-nil (λ b. (line : List ℕ) × IsSlopeLine form.names line (ratio_of b) b.members); stay = λ e. refl }
 
   pub heads_more : (from to to' : Cursor) (heads : List Break) (b : Break) → ReadsHeads form text from to heads → TakesSome text to to' (λ line. IsSlopeLine form.names line (ratio_of b) b.members)
       → ReadsHeads form text from to' (heads ++ b ∷ [])
@@ -70,7 +70,7 @@ module _ (form : Form) (text : List ℕ) where
     reads = λ k.
         let lines_are : slope_lines form.names heads ++ t.line ∷ [] ≡ slope_lines form.names (heads ++ b ∷ []) = ap (λ l. slope_lines form.names heads ++ l ∷ []) t.good.written ∙ sym (slope_lines-push form.names heads b) in
         subst (λ (l : List (List ℕ)). Reads form text from to' (listing k []) (listing k (map ratio_of (heads ++ b ∷ []))) l) lines_are
-        (reads_more form text from to to' (listing k []) (listing k (map ratio_of heads)) (listing k (map ratio_of (heads ++ b ∷ []))) (slope_lines form.names heads) t.line (r.reads k) t.takes t.within
+        (reads_more (Leads form) text from to to' (listing k []) (listing k (map ratio_of heads)) (listing k (map ratio_of (heads ++ b ∷ []))) (slope_lines form.names heads) t.line (r.reads k) t.takes t.within
         (inr (inl (ratio_of b, b.members, t.good, ap (λ m. listing k m) (map_push ratio_of heads b)))));
     formed = All-push (λ c. (line : List ℕ) × IsSlopeLine form.names line (ratio_of c) c.members) heads b r.formed (t.line, t.good);
     stay = λ e. absurd (some heads b e);
@@ -80,14 +80,14 @@ module _ (form : Form) (text : List ℕ) where
     some (h ∷ heads) b e = cc
 
   only_slope : (at k : ℕ) (slopes : List Ratio) (line : List ℕ) (next : State) → get_or text at 0 ≡ 115 → IsNextLine text at line → Leads form (listing k slopes) line next → (r : Ratio) × (s : List Bool) × IsSlopeLine form.names line r s
-  only_slope at k slopes line next e n (inl b) = absurd (omega (arith, e, first_byte form text at 98 line n (ap (λ x. get_or x 0 0) b.1.1) (omega arith)))
+  only_slope at k slopes line next e n (inl b) = absurd (omega (arith, e, first_byte text at 98 line n (ap (λ x. get_or x 0 0) b.1.1) (omega arith)))
   only_slope at k slopes line next e n (inr (inl s)) = (s.0, s.1, s.2)
-  only_slope at k slopes line next e n (inr (inr a)) = absurd (omega (arith, e, first_byte form text at 97 line n (ap (λ x. get_or x 0 0) a.0) (omega arith)))
+  only_slope at k slopes line next e n (inr (inr a)) = absurd (omega (arith, e, first_byte text at 97 line n (ap (λ x. get_or x 0 0) a.0) (omega arith)))
 
   pub heads_stop : {A : Type 0} (result : Result A AnswerEnd) (from to : Cursor) (heads : List Break) (end : AnswerEnd) → IsErrAnd result (λ e. e ≡ end) → ReadsHeads form text from to heads → get_or text to.at 0 ≡ 115
       → EndsStuck text to (λ line. (r : Ratio) × (s : List Bool) × IsSlopeLine form.names line r s) end → IfErr result (λ end. (k : ℕ) → EndsAt form text from (listing k []) end)
   heads_stop result from to heads end is r e s = passed_on result end (λ end. (k : ℕ) → EndsAt form text from (listing k []) end) is (λ k.
-      stops_stuck form text from to (listing k []) (listing k (map ratio_of heads)) (slope_lines form.names heads) (λ line. (r : Ratio) × (s : List Bool) × IsSlopeLine form.names line r s) end (r.reads k) s
+      stops_stuck (Leads form) text ended from to (listing k []) (listing k (map ratio_of heads)) (slope_lines form.names heads) (λ line. (r : Ratio) × (s : List Bool) × IsSlopeLine form.names line r s) end (r.reads k) s
       (λ line next n l. only_slope to.at k (map ratio_of heads) line next e n l) (λ f. cc))
 
   -- ---- bases
@@ -108,7 +108,7 @@ module _ (form : Form) (text : List ℕ) where
   widths_due i width d = drop_more form.widths i 0 d.below ∙ ap (λ n. n ∷ drop (i + 1) form.widths) d.is
 
   pub rows_begin : (from : Cursor) → from.at ≤ length text → RowsSoFar from from 0 []
-  rows_begin from h = record { within = h; count = refl; reads = λ due. reads_begin form text from (bases 1 form.widths due) h; widths_are = refl; small = All-nil (λ (x : List ℤ). All IsEntry x) }
+  rows_begin from h = record { within = h; count = refl; reads = λ due. reads_begin (Leads form) text from (bases 1 form.widths due) h; widths_are = refl; small = All-nil (λ (x : List ℤ). All IsEntry x) }
 
   pub rows_more : (from to to' : Cursor) (i width : ℕ) (rows : List (List ℤ)) (x : List ℤ) → IsDue i width → RowsSoFar from to i rows → TakesSome text to to' (λ line. IsBaseLine (i + 1) width line x)
       → RowsSoFar from to' (i + 1) (rows ++ x ∷ [])
@@ -120,7 +120,7 @@ module _ (form : Form) (text : List ℕ) where
         let ws = widths_due i width d in
         let before = subst (λ (l : List ℕ). Reads form text from to (bases 1 form.widths due) (bases (i + 1) l due) (base_lines 1 rows)) ws (r.reads due) in
         subst (λ (l : List (List ℕ)). Reads form text from to' (bases 1 form.widths due) (bases (i + 1 + 1) (drop (i + 1) form.widths) due) l) lines_are
-        (reads_more form text from to to' (bases 1 form.widths due) (bases (i + 1) (width ∷ drop (i + 1) form.widths) due) (bases (i + 1 + 1) (drop (i + 1) form.widths) due) (base_lines 1 rows) t.line before t.takes t.within
+        (reads_more (Leads form) text from to to' (bases 1 form.widths due) (bases (i + 1) (width ∷ drop (i + 1) form.widths) due) (bases (i + 1 + 1) (drop (i + 1) form.widths) due) (base_lines 1 rows) t.line before t.takes t.within
         (x, t.good, refl));
     widths_are = map_push length rows x ∙ ap (λ l. l ++ length x ∷ []) r.widths_are ∙ ap (λ n. take i form.widths ++ n ∷ []) (t.good.0 ∙ sym d.is) ∙ sym (take_more form.widths i 0 d.below);
     small = All-push (λ (y : List ℤ). All IsEntry y) rows x r.small t.good.1;
@@ -131,7 +131,7 @@ module _ (form : Form) (text : List ℕ) where
   rows_stop result from to i width rows end is d r s = passed_on result end (λ end. (due : List Ratio) → EndsAt form text from (bases 1 form.widths due) end) is (λ due.
       let ws = widths_due i width d in
       let before = subst (λ (l : List ℕ). Reads form text from to (bases 1 form.widths due) (bases (i + 1) l due) (base_lines 1 rows)) ws (r.reads due) in
-      stops_stuck form text from to (bases 1 form.widths due) (bases (i + 1) (width ∷ drop (i + 1) form.widths) due) (base_lines 1 rows) (λ line. (x : List ℤ) × IsBaseLine (i + 1) width line x) end before s
+      stops_stuck (Leads form) text ended from to (bases 1 form.widths due) (bases (i + 1) (width ∷ drop (i + 1) form.widths) due) (base_lines 1 rows) (λ line. (x : List ℤ) × IsBaseLine (i + 1) width line x) end before s
       (λ line next n l. (l.0, l.1)) (λ f. cc))
 
   pub rows_end : (from to : Cursor) (i : ℕ) (rows : List (List ℤ)) → length form.widths ≤ i → i ≤ length form.widths → RowsSoFar from to i rows → ReadsRows form text from to rows

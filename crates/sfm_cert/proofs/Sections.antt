@@ -9,7 +9,7 @@ use Rattle.sfm_cert.specs.LineLists.{slope_lines, base_lines, break_lines}
 use Rattle.sfm_cert.specs.Form.{IsFormedBreak}
 use Rattle.sfm_cert.specs.Lines.{IsSlopeLine, Ratio, ratio_of}
 use Rattle.sfm_cert.specs.Parts.{ReadsRows, ReadsBreaks, AreBreaksOf, AreHeads}
-use Rattle.sfm_cert.specs.Reading.{bases, Reads, EndsAt, EndsStuck, TakesSome}
+use Rattle.sfm_cert.specs.Reading.{bases, Reads, EndsAt, EndsStuck, TakesSome, ended, Leads}
 use Rattle.sfm_cert.specs.declared.cursor.Cursor.{Cursor}
 use Rattle.sfm_cert.specs.declared.solved.AnswerEnd.{AnswerEnd}
 use Rattle.sfm_cert.proofs.AnswerLines.{slope_lines-push, break_lines-push}
@@ -23,7 +23,7 @@ module _ (form : Form) (text : List ℕ) (heads : List Break) where
     pub formed : All (IsFormedBreak (length form.names) form.widths) breaks
 
   pub breaks_begin : (from : Cursor) → from.at ≤ length text → BreaksSoFar from from 0 []
-  breaks_begin from h = record { within = h; reads = λ k. (k, reads_begin form text from (bases k [] (map ratio_of heads)) h); same = refl; formed = All-nil (IsFormedBreak (length form.names) form.widths) }
+  breaks_begin from h = record { within = h; reads = λ k. (k, reads_begin (Leads form) text from (bases k [] (map ratio_of heads)) h); same = refl; formed = All-nil (IsFormedBreak (length form.names) form.widths) }
 
   -- the section of a place is due, that of the slope line b
   pub record IsSectionOf (i : ℕ) (b : Break) : Type 0 where
@@ -44,7 +44,7 @@ module _ (form : Form) (text : List ℕ) (heads : List Break) where
   at_next from to mid i breaks b d so t k =
       let r = at_slope from to i breaks b d so k in
       subst (λ (l : List ℕ). Reads form text from mid (bases k [] (map ratio_of heads)) (bases 1 form.widths (map ratio_of (drop (i + 1) heads))) (break_lines breaks ++ l ∷ [])) t.good
-      (reads_more form text from to mid (bases k [] (map ratio_of heads)) (bases r.0 [] (map ratio_of (b ∷ drop (i + 1) heads))) (bases 1 form.widths (map ratio_of (drop (i + 1) heads))) (break_lines breaks) t.line r.1 t.takes t.within (t.good, refl))
+      (reads_more (Leads form) text from to mid (bases k [] (map ratio_of heads)) (bases r.0 [] (map ratio_of (b ∷ drop (i + 1) heads))) (bases 1 form.widths (map ratio_of (drop (i + 1) heads))) (break_lines breaks) t.line r.1 t.takes t.within (t.good, refl))
 
   pub breaks_more : (from to mid to' : Cursor) (i : ℕ) (breaks : List Break) (b c : Break) → IsSectionOf i b → AreHeads form heads → BreaksSoFar from to i breaks
       → TakesSome text to mid (λ line. line ≡ at_line b.num b.den) → ReadsRows form text mid to' c.bases → c.num ≡ b.num → c.den ≡ b.den → c.members ≡ b.members → BreaksSoFar from to' (i + 1) (breaks ++ c ∷ [])
@@ -57,7 +57,7 @@ module _ (form : Form) (text : List ℕ) (heads : List Break) where
           length c.bases + 1,
           subst (λ (l : List (List ℕ)). Reads form text from to' (bases k [] (map ratio_of heads)) (bases (length c.bases + 1) [] (map ratio_of (drop (i + 1) heads))) l)
               (append_assoc (break_lines breaks) (at_line b.num b.den ∷ []) (base_lines 1 c.bases) ∙ ap (λ l. break_lines breaks ++ l ∷ base_lines 1 c.bases) (ap (λ x. at_line x b.den) (sym p) ∙ ap (λ x. at_line c.num x) (sym q)) ∙ sym (break_lines-push breaks c))
-              (reads_then form text from mid to' (bases k [] (map ratio_of heads)) (bases 1 form.widths (map ratio_of (drop (i + 1) heads))) (bases (length c.bases + 1) [] (map ratio_of (drop (i + 1) heads))) (break_lines breaks ++ at_line b.num b.den ∷ []) (base_lines 1 c.bases)
+              (reads_then (Leads form) text from mid to' (bases k [] (map ratio_of heads)) (bases 1 form.widths (map ratio_of (drop (i + 1) heads))) (bases (length c.bases + 1) [] (map ratio_of (drop (i + 1) heads))) (break_lines breaks ++ at_line b.num b.den ∷ []) (base_lines 1 c.bases)
               (at_next from to mid i breaks b d so t k) (rows.reads (map ratio_of (drop (i + 1) heads)))),
         );
         same = slope_lines-push form.names breaks c ∙ ap (λ l. l ++ slope_line form.names c ∷ []) so.same ∙ ap (λ l. slope_lines form.names (take i heads) ++ l ∷ []) line_is
@@ -82,13 +82,13 @@ module _ (form : Form) (text : List ℕ) (heads : List Break) where
       → EndsStuck text to (λ line. line ≡ at_line b.num b.den) end → IfErr result (λ end. (k : ℕ) → EndsAt form text from (bases k [] (map ratio_of heads)) end)
   breaks_stop_at result from to i breaks b end is d so s = stopped result from end is (λ k.
       let r = at_slope from to i breaks b d so k in
-      stops_stuck form text from to (bases k [] (map ratio_of heads)) (bases r.0 [] (map ratio_of (b ∷ drop (i + 1) heads))) (break_lines breaks) (λ line. line ≡ at_line b.num b.den) end r.1 s (λ line next n l. l.0) (λ f. cc))
+      stops_stuck (Leads form) text ended from to (bases k [] (map ratio_of heads)) (bases r.0 [] (map ratio_of (b ∷ drop (i + 1) heads))) (break_lines breaks) (λ line. line ≡ at_line b.num b.den) end r.1 s (λ line next n l. l.0) (λ f. cc))
 
   pub breaks_stop_rows : {A : Type 0} (result : Result A AnswerEnd) (from to mid : Cursor) (i : ℕ) (breaks : List Break) (b : Break) (end : AnswerEnd) → IsErrAnd result (λ e. e ≡ end) → IsSectionOf i b
       → BreaksSoFar from to i breaks → TakesSome text to mid (λ line. line ≡ at_line b.num b.den)
       → ((due : List Ratio) → EndsAt form text mid (bases 1 form.widths due) end) → IfErr result (λ end. (k : ℕ) → EndsAt form text from (bases k [] (map ratio_of heads)) end)
   breaks_stop_rows result from to mid i breaks b end is d so t s = stopped result from end is (λ k.
-      stops_then form text from mid (bases k [] (map ratio_of heads)) (bases 1 form.widths (map ratio_of (drop (i + 1) heads))) (break_lines breaks ++ at_line b.num b.den ∷ []) end
+      stops_then (Leads form) text ended from mid (bases k [] (map ratio_of heads)) (bases 1 form.widths (map ratio_of (drop (i + 1) heads))) (break_lines breaks ++ at_line b.num b.den ∷ []) end
       (at_next from to mid i breaks b d so t k) (s (map ratio_of (drop (i + 1) heads))))
 
   pub breaks_end : (from to : Cursor) (i : ℕ) (breaks : List Break) → length heads ≤ i → BreaksSoFar from to i breaks → ReadsBreaks form text from to heads [] breaks

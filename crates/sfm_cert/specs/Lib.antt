@@ -10,3 +10,4 @@ pub mod Lists
 pub mod Lines
 pub mod Pages
 pub mod Parts
+pub mod Slots
