@@ -1,0 +1,84 @@
+// Whether the steps of a walk can all move an amount, as their terms tell it.
+ghost use Rattle.std.specs.{Prelude.{◌≡◌, ◌≢◌, ◌<◌, ◌^◌, ℕ, List, map, pos, ◌≤ℤ◌, length, slice_index_or, IsTrue}, List.{All}};
+ghost use Rattle.sfm_spec.specs.{Bounds.{AreBounded, IsEntry, IsFactor}, Terms.{times, IsBase, exchanged}, Families.{meanings, AreBases}, Walks.{AllCanMove}};
+ghost use Rattle.sfm_law.specs.Room.{AtMostRoom};
+
+use sfm_base::Rows;
+use sfm_exchange::local_of;
+use sfm_law::{Room, Term, Walk};
+use std::alloc::Global;
+
+/// Whether an amount is at most the room.
+fn is_within(a: i128, room: Room) -> bool
+    ensures { IsTrue result → AtMostRoom a room }
+{
+    match room {
+        Room::Upto(most) => a <= most,
+        Room::Unbounded => true,
+    }
+}
+
+/// Whether a term has room at a base to raise the one place of the ground by the amount and lower the other.
+fn can_step<T: Term>(
+    alloc: Global,
+    term: &T,
+    q: i128,
+    x: &[i128],
+    ends: (usize, usize),
+    a: i128,
+) -> bool
+    requires bounded { T.size_of term.now ≤ℤ pos (10 ^ 18) }
+    requires factor { IsFactor q }
+    requires entries { length x.now ≡ length (T.places term.now) }
+    requires base { IsBase (times q (T.value_of term.now)) x.now }
+    requires small { All IsEntry x.now }
+    requires low { pos 0 ≤ℤ a }
+    ensures { IsTrue result → (u : ℕ) × (v : ℕ) × (u < length (T.places term.now))
+        × (v < length (T.places term.now)) × (slice_index_or (T.places term.now) u 0 ≡ ends.0)
+        × (slice_index_or (T.places term.now) v 0 ≡ ends.1) × (u ≢ v)
+        × IsBase (times q (T.value_of term.now)) (exchanged x.now u v a) }
+{
+    let Some(u) = local_of(term.elements(), ends.0) else {
+        return false;
+    };
+    let Some(v) = local_of(term.elements(), ends.1) else {
+        return false;
+    };
+    if u == v {
+        return false;
+    }
+    match term.room(alloc, q, x, u, v) {
+        Ok(room) => is_within(a, room),
+        Err(_) => false,
+    }
+}
+
+/// Whether each step of a walk can move an amount at bases of q times the terms.
+pub fn can_move<T: Term>(
+    alloc: Global,
+    terms: &[T],
+    q: i128,
+    bases: &Rows,
+    walk: &Walk,
+    a: i128,
+) -> bool
+    requires bounded { (n : ℕ) × AreBounded n (map T.places terms.now) (map T.size_of terms.now) }
+    requires factor { IsFactor q }
+    requires bases { AreBases q (meanings T.places T.value_of terms.now) bases.now }
+    requires small { All (λ x. All IsEntry x) bases.now }
+    requires low { pos 0 ≤ℤ a }
+    ensures { IsTrue result → AllCanMove (meanings T.places T.value_of terms.now) q bases.now
+        walk.now.first walk.now.steps a }
+{
+    let mut from = walk.first;
+    for (to, i) in walk.steps.as_slice() {
+        if *i >= terms.len() || *i >= bases.len() {
+            return false;
+        }
+        if !can_step(alloc, &terms[*i], q, bases.row(*i), (from, *to), a) {
+            return false;
+        }
+        from = *to;
+    }
+    true
+}
