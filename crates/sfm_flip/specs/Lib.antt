@@ -1,0 +1,4 @@
+pub mod Flipped
+pub mod FlipLaws
+pub mod Known
+pub mod Flips

@@ -1,0 +1,201 @@
+// A term turned round: what a part is worth is what its rest is worth, less the whole. So its bases are the negated ones, and its room
+// of (u, v) is that of (v, u) at the negated base (Fujishige, Submodular Functions and Optimization, section 2.3). It is seen as the
+// term that is turned. The row of a place is its column in the term: the places whose rows have it.
+ghost use Rattle.std.specs.{Prelude.{◌≡◌, ◌≢◌, ◌↔◌, ◌*◌, ◌^◌, ◌<◌, Bool, List, length, ℤ, pos, neg_ℤ, ◌*ℤ◌, ◌≤ℤ◌, IfOk, OnOk, IsTrue, Some}, List.{All}};
+ghost use Rattle.sfm_spec.specs.{Bounds.{IsEntry, IsFactor}, Terms.{SetFunction, times, IsBase, IsFamily, IsSubmodular, exchanged}};
+ghost use Rattle.sfm_law.specs.Room.{IsRoom, IsReach, IsWithinRoom};
+ghost use Rattle.sfm_kind.specs.{Meanings.{kind_places}, Kinds.{kind_size}};
+ghost use Rattle.sfm_flip.specs.{Flipped.{negated}, Flips.{flip_value, flip_size, flip_start, flip_fits, flip-family, flip-submodular, flip-bounded, flip-starts, flip-starts_small}};
+
+use crate::note::{FlipNote, blank_rows, find_rows, forget_rows, put_column};
+use sfm_base::{Memory, Numbers, Set};
+use sfm_kind::Kind;
+use sfm_law::{Room, Term, exchange};
+use std::alloc::Global;
+use std::marker::Model;
+
+/// A term turned round, seen as the term that is turned. The size of that is at most 5·10^17.
+pub struct Flip {
+    term: Kind,
+}
+
+// Written out, so that letting one go is one step, which is proved here once.
+impl Drop for Flip {
+    fn drop(self) {
+        let Self { term: _ } = self;
+    }
+}
+
+impl Model for Flip {
+    ghost use Rattle.std.specs.Prelude.{◌*◌, ◌^◌, pos, ◌≤ℤ◌};
+    ghost use Rattle.sfm_kind.specs.{Kinds.{kind_size}, declared.kind.Kind.{Kind}};
+
+    ghost Value = { Kind };
+
+    ghost view = { λ s. s.term };
+
+    ghost invariant = { λ s. kind_size s.term ≤ℤ pos (5 * 10 ^ 17) };
+}
+
+impl Flip {
+    /// The term turned round. Its size is twice that of the term.
+    pub fn new(term: Kind) -> Flip
+        requires { kind_size term ≤ℤ pos (5 * 10 ^ 17) }
+        ensures { result ≡ term }
+    {
+        Flip { term }
+    }
+}
+
+/// Turns the sign of each number.
+fn turn(x: &mut [i128])
+    requires { All IsEntry x.old }
+    ensures { x.new ≡ negated x.old }
+{
+    for a in x.iter_mut() {
+        *a = -*a;
+    }
+}
+
+/// The numbers with their signs turned.
+fn turned(alloc: Global, x: &[i128]) -> Result<Numbers, Memory>
+    requires { All IsEntry x.now }
+    ensures { IfOk result (λ r. r ≡ negated x.now) }
+{
+    let mut numbers = Numbers::from_slice(alloc, x)?;
+    turn(numbers.as_mut_slice());
+    Ok(numbers)
+}
+
+impl Term for Flip {
+    type Note = FlipNote;
+
+    ghost places = { kind_places };
+
+    ghost value_of = { flip_value };
+
+    ghost size_of = { flip_size };
+
+    ghost start_of = { flip_start };
+
+    ghost lean_value = { λ s. ⊥ };
+
+    ghost lean_calls = { λ s. ⊥ };
+
+    ghost fits = { flip_fits };
+
+    ghost family = { flip-family };
+
+    ghost submodular = { flip-submodular };
+
+    ghost bounded = { flip-bounded };
+
+    ghost starts = { flip-starts };
+
+    ghost starts_small = { flip-starts_small };
+
+    fn elements(&self) -> &[usize] {
+        self.term.elements()
+    }
+
+    fn size(&self) -> i128 {
+        2 * self.term.size()
+    }
+
+    fn value(&self, alloc: Global, s: &Set) -> Result<Option<i128>, Memory> {
+        let rest = s.complement(alloc)?;
+        let whole = Set::whole(alloc, s.len())?;
+        let Some(all) = self.term.value(alloc, &whole)? else {
+            return Ok(None);
+        };
+        match self.term.value(alloc, &rest)? {
+            Some(value) => Ok(Some(value - all)),
+            None => Ok(None),
+        }
+    }
+
+    fn start(&self, alloc: Global, q: i128, x: &mut [i128]) -> Result<(), Memory> {
+        self.term.start(alloc, q, x)?;
+        turn(x);
+        Ok(())
+    }
+
+    fn is_base(&self, alloc: Global, q: i128, x: &[i128]) -> Result<bool, Memory> {
+        let base = turned(alloc, x)?;
+        self.term.is_base(alloc, q, base.as_slice())
+    }
+
+    fn room(&self, alloc: Global, q: i128, x: &[i128], u: usize, v: usize) -> Result<Room, Memory> {
+        let base = turned(alloc, x)?;
+        self.term.room(alloc, q, base.as_slice(), v, u)
+    }
+
+    fn reach(
+        &self,
+        alloc: Global,
+        q: i128,
+        x: &[i128],
+        u: usize,
+        to: &mut Set,
+    ) -> Result<(), Memory> {
+        let mut note = self.note(alloc, q, x)?;
+        self.reach_by(alloc, q, x, &mut note, u, to)
+    }
+
+    fn note(&self, alloc: Global, q: i128, x: &[i128]) -> Result<FlipNote, Memory> {
+        let base = turned(alloc, x)?;
+        let rows = blank_rows(alloc, x.len())?;
+        let known = Set::empty(alloc, x.len())?;
+        let inner = self.term.note(alloc, q, base.as_slice())?;
+        Ok(FlipNote {
+            inner,
+            base,
+            rows,
+            known,
+        })
+    }
+
+    fn reach_by(
+        &self,
+        alloc: Global,
+        q: i128,
+        _x: &[i128],
+        note: &mut FlipNote,
+        u: usize,
+        to: &mut Set,
+    ) -> Result<(), Memory> {
+        find_rows(alloc, &self.term, q, note)?;
+        put_column(&note.rows, u, to);
+        Ok(())
+    }
+
+    fn room_by(
+        &self,
+        alloc: Global,
+        q: i128,
+        _x: &[i128],
+        note: &mut FlipNote,
+        u: usize,
+        v: usize,
+    ) -> Result<Room, Memory> {
+        self.term
+            .room_by(alloc, q, note.base.as_slice(), &mut note.inner, v, u)
+    }
+
+    fn moved(
+        &self,
+        alloc: Global,
+        q: i128,
+        _x: &[i128],
+        note: &mut FlipNote,
+        u: usize,
+        v: usize,
+        a: i128,
+    ) -> Result<(), Memory> {
+        self.term
+            .moved(alloc, q, note.base.as_slice(), &mut note.inner, v, u, a)?;
+        exchange(&self.term, q, note.base.as_mut_slice(), v, u, a);
+        forget_rows(&note.rows, u, &mut note.known);
+        Ok(())
+    }
+}
