@@ -1,0 +1,2 @@
+pub mod SideNotes
+pub mod Sides
