@@ -58,7 +58,11 @@ fn turn(x: &mut [i128])
 }
 
 /// The numbers with their signs turned.
-fn turned(alloc: Global, x: &[i128]) -> Result<Numbers, Memory>
+///
+/// # Errors
+///
+/// `Memory` where there is none.
+pub fn turned(alloc: Global, x: &[i128]) -> Result<Numbers, Memory>
     requires { All IsEntry x.now }
     ensures { IfOk result (λ r. r ≡ negated x.now) }
 {

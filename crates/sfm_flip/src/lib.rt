@@ -4,5 +4,5 @@
 mod flip;
 mod note;
 
-pub use flip::Flip;
+pub use flip::{Flip, turned};
 pub use note::FlipNote;
