@@ -1,0 +1,514 @@
+// What terms turned round answer, worked by hand; and walks over bases of terms of every kind, on either side: from the first base as
+// much as can be is exchanged between each two places in turn, and after each exchange a note that came along is to tell the rows and
+// the rooms that the term tells without it. Each is tried by a function that answers yes or no, and no where memory lacks.
+ghost use Rattle.std.specs.{Prelude.{◌≡◌, ◌≢◌, ◌↔◌, ◌<◌, ◌*◌, ◌^◌, ◌≤ℤ◌, length, pos, IsTrue, IfOk, IfSome}, List.{All}};
+ghost use Rattle.sfm_spec.specs.{Bounds.{IsEntry, IsFactor}, Terms.{times}};
+ghost use Rattle.sfm_law.specs.Room.{IsWithinRoom};
+ghost use Rattle.sfm_kind.specs.Kinds.{kind_size};
+ghost use Rattle.sfm_sides_tests.specs.Based.{IsFit, IsBased};
+
+use sfm_base::{Memory, Set};
+use sfm_concave::{Concave, Uniform};
+use sfm_flip::Flip;
+use sfm_kind::Kind;
+use sfm_laminar::{Groups, Laminar};
+use sfm_law::{Room, Term, exchange};
+use sfm_matroid::{Entries, Graphic, Transversal};
+use sfm_sides::Side;
+use sfm_simple::{Cover, Cut, Need, Table, Weight};
+use std::alloc::Global;
+
+const MOST_ENTRY: i128 = 1_000_000_000_000_000_000_000_000_000_000;
+
+const MOST_SIZE: i128 = 1_000_000_000_000_000_000;
+
+const MOST_HALF: i128 = 500_000_000_000_000_000;
+
+/// The factor of the walks.
+const Q: i128 = 2;
+
+/// How many kinds there are.
+const KINDS: usize = 10;
+
+/// Whether each number is a possible entry of a base.
+fn are_entries(x: &[i128]) -> bool
+    ensures { IsTrue result ↔ All IsEntry x.now }
+{
+    x.iter().all(|a| -MOST_ENTRY <= *a && *a <= MOST_ENTRY)
+}
+
+/// Whether a number is a factor.
+fn is_factor(q: i128) -> bool
+    ensures { IsTrue result ↔ IsFactor q }
+{
+    1 <= q && q <= 1_000_000
+}
+
+/// Whether a term is not too large to be asked for bases.
+fn is_small<T: Term>(term: &T) -> bool
+    ensures { IsTrue result ↔ T.size_of term.now ≤ℤ pos (10 ^ 18) }
+{
+    term.size() <= MOST_SIZE
+}
+
+/// Whether a vector has a number for each place of a term.
+fn is_sized<T: Term>(term: &T, x: &[i128]) -> bool
+    ensures { IsTrue result ↔ length x.now ≡ length (T.places term.now) }
+{
+    x.len() == term.elements().len()
+}
+
+/// Whether a factor, a term and a vector are such that bases can be asked for.
+fn fits<T: Term>(term: &T, q: i128, x: &[i128]) -> bool
+    ensures { IsTrue result → IsFit T.places T.size_of term.now q x.now }
+{
+    is_factor(q) && is_small(term) && is_sized(term, x) && are_entries(x)
+}
+
+/// What a term tells of a vector: whether it is a base of q times the term, with all numbers within the bounds.
+fn tells_base<T: Term>(alloc: Global, term: &T, q: i128, x: &[i128]) -> Result<bool, Memory>
+    ensures { IfOk result (λ r. IsTrue r → IsBased T.places T.value_of T.size_of term.now q
+        x.now) }
+{
+    if fits(term, q, x) {
+        term.is_base(alloc, q, x)
+    } else {
+        Ok(false)
+    }
+}
+
+/// Whether a vector is a base of q times a term.
+fn is_base<T: Term>(alloc: Global, term: &T, q: i128, x: &[i128]) -> bool
+    ensures { IsTrue result → IsBased T.places T.value_of T.size_of term.now q x.now }
+{
+    match tells_base(alloc, term, q, x) {
+        Ok(found) => found,
+        Err(_) => false,
+    }
+}
+
+/// The first base of q times a term, if memory is there.
+fn first_base<T: Term>(alloc: Global, term: &T, q: i128) -> Option<Vec<i128>>
+    requires factor { IsFactor q }
+    requires bounded { T.size_of term.now ≤ℤ pos (10 ^ 18) }
+{
+    let Ok(mut x) = vec![in alloc; 1; term.elements().len()] else {
+        return None;
+    };
+    match term.start(alloc, q, x.as_mut_slice()) {
+        Ok(()) => Some(x),
+        Err(_) => None,
+    }
+}
+
+/// Whether two parts are the same.
+fn is_same(s: &Set, other: &Set) -> bool {
+    s.len() == other.len() && s.is_within(other) && other.is_within(s)
+}
+
+/// The part to which a place has room at a base, if memory is there.
+fn reach_of<T: Term>(alloc: Global, term: &T, q: i128, x: &[i128], u: usize) -> Option<Set>
+    requires based { IsBased T.places T.value_of T.size_of term.now q x.now }
+    requires from { u < length x.now }
+{
+    let Ok(mut to) = Set::whole(alloc, x.len()) else {
+        return None;
+    };
+    match term.reach(alloc, q, x, u, &mut to) {
+        Ok(()) => Some(to),
+        Err(_) => None,
+    }
+}
+
+/// Whether the part to which a place has room at a base is that one.
+fn is_reach<T: Term>(alloc: Global, term: &T, q: i128, x: &[i128], u: usize, wanted: &Set) -> bool
+    requires based { IsBased T.places T.value_of T.size_of term.now q x.now }
+    requires from { u < length x.now }
+{
+    match reach_of(alloc, term, q, x, u) {
+        Some(to) => is_same(&to, wanted),
+        None => false,
+    }
+}
+
+/// Whether a note tells the row of u at a base, by both of its calls.
+fn tells_row<T: Term>(
+    alloc: Global,
+    term: &T,
+    q: i128,
+    x: &[i128],
+    note: &mut T::Note,
+    u: usize,
+) -> bool
+    requires based { IsBased T.places T.value_of T.size_of term.now q x.now }
+    requires noted { T.fits term.now note.old q x.now }
+    requires from { u < length x.now }
+    ensures noted { IsTrue result → T.fits term.now note.new q x.now }
+{
+    let Ok(mut to) = Set::whole(alloc, x.len()) else {
+        return false;
+    };
+    let Ok(()) = term.reach_by(alloc, q, x, note, u, &mut to) else {
+        return false;
+    };
+    if !is_reach(alloc, term, q, x, u, &to) {
+        return false;
+    }
+    let Ok(()) = term.reach_with(alloc, q, x, note, u, u, &mut to) else {
+        return false;
+    };
+    is_reach(alloc, term, q, x, u, &to)
+}
+
+/// Whether a note tells each row at a base.
+fn tells_rows<T: Term>(alloc: Global, term: &T, q: i128, x: &[i128], note: &mut T::Note) -> bool
+    requires based { IsBased T.places T.value_of T.size_of term.now q x.now }
+    requires noted { T.fits term.now note.old q x.now }
+    ensures noted { IsTrue result → T.fits term.now note.new q x.now }
+{
+    for u in 0..x.len() {
+        if !tells_row(alloc, term, q, x, note, u) {
+            return false;
+        }
+    }
+    true
+}
+
+/// A place that is raised and one that is lowered.
+#[derive(Clone, Copy)]
+struct Pair {
+    u: usize,
+    v: usize,
+}
+
+/// Exchanges an amount between two places of a base, and brings a note up to that.
+fn exchange_by<T: Term>(
+    alloc: Global,
+    term: &T,
+    q: i128,
+    x: &mut Vec<i128>,
+    note: &mut T::Note,
+    pair: Pair,
+    a: i128,
+) -> bool
+    requires based { IsBased T.places T.value_of T.size_of term.now q x.old.items }
+    requires noted { T.fits term.now note.old q x.old.items }
+    requires apart { pair.u ≢ pair.v }
+    requires from { pair.u < length x.old.items }
+    requires onto { pair.v < length x.old.items }
+    requires low { pos 0 ≤ℤ a }
+    requires high { a ≤ℤ pos (10 ^ 30) }
+    requires room { IsWithinRoom (times q (T.value_of term.now)) x.old.items pair.u pair.v a }
+    ensures count { length x.new.items ≡ length x.old.items }
+    ensures based { IsTrue result → IsBased T.places T.value_of T.size_of term.now q x.new.items }
+    ensures noted { IsTrue result → T.fits term.now note.new q x.new.items }
+{
+    let moved = term.moved(alloc, q, x, note, pair.u, pair.v, a).is_ok();
+    exchange(term, q, x, pair.u, pair.v, a);
+    moved && is_base(alloc, term, q, x)
+}
+
+/// Exchanges as much as can be between two places of a base, where there is a bound, and brings a note up to that, which is to tell
+/// that room.
+fn step<T: Term>(
+    alloc: Global,
+    term: &T,
+    q: i128,
+    x: &mut Vec<i128>,
+    note: &mut T::Note,
+    pair: Pair,
+) -> bool
+    requires based { IsBased T.places T.value_of T.size_of term.now q x.old.items }
+    requires noted { T.fits term.now note.old q x.old.items }
+    requires apart { pair.u ≢ pair.v }
+    requires from { pair.u < length x.old.items }
+    requires onto { pair.v < length x.old.items }
+    ensures count { length x.new.items ≡ length x.old.items }
+    ensures based { IsTrue result → IsBased T.places T.value_of T.size_of term.now q x.new.items }
+    ensures noted { IsTrue result → T.fits term.now note.new q x.new.items }
+{
+    let Ok(told) = term.room_by(alloc, q, x, note, pair.u, pair.v) else {
+        return false;
+    };
+    match term.room(alloc, q, x, pair.u, pair.v) {
+        Ok(Room::Upto(a)) => {
+            told == Room::Upto(a)
+                && 0 <= a
+                && a <= MOST_ENTRY
+                && exchange_by(alloc, term, q, x, note, pair, a)
+        }
+        Ok(Room::Unbounded) => told == Room::Unbounded,
+        Err(_) => false,
+    }
+}
+
+/// Whether a note tells each row after an exchange between two places, unless they are one.
+fn tells_step<T: Term>(
+    alloc: Global,
+    term: &T,
+    q: i128,
+    x: &mut Vec<i128>,
+    note: &mut T::Note,
+    pair: Pair,
+) -> bool
+    requires based { IsBased T.places T.value_of T.size_of term.now q x.old.items }
+    requires noted { T.fits term.now note.old q x.old.items }
+    requires from { pair.u < length x.old.items }
+    requires onto { pair.v < length x.old.items }
+    ensures count { length x.new.items ≡ length x.old.items }
+    ensures based { IsTrue result → IsBased T.places T.value_of T.size_of term.now q x.new.items }
+    ensures noted { IsTrue result → T.fits term.now note.new q x.new.items }
+{
+    pair.u == pair.v || step(alloc, term, q, x, note, pair) && tells_rows(alloc, term, q, x, note)
+}
+
+/// Whether a note tells what it is to tell after exchanges between one place and each other one in turn.
+fn tells_steps<T: Term>(
+    alloc: Global,
+    term: &T,
+    q: i128,
+    x: &mut Vec<i128>,
+    note: &mut T::Note,
+    u: usize,
+) -> bool
+    requires based { IsBased T.places T.value_of T.size_of term.now q x.old.items }
+    requires noted { T.fits term.now note.old q x.old.items }
+    requires from { u < length x.old.items }
+    ensures count { length x.new.items ≡ length x.old.items }
+    ensures based { IsTrue result → IsBased T.places T.value_of T.size_of term.now q x.new.items }
+    ensures noted { IsTrue result → T.fits term.now note.new q x.new.items }
+{
+    for v in 0..x.len() {
+        if !tells_step(alloc, term, q, x, note, Pair { u, v }) {
+            return false;
+        }
+    }
+    true
+}
+
+/// Whether a new note tells what it is to tell along exchanges from a base.
+fn tells_from<T: Term>(alloc: Global, term: &T, q: i128, x: &mut Vec<i128>) -> bool
+    requires { IsBased T.places T.value_of T.size_of term.now q x.old.items }
+{
+    let Ok(mut note) = term.note(alloc, q, x) else {
+        return false;
+    };
+    for u in 0..x.len() {
+        if !tells_steps(alloc, term, q, x, &mut note, u) {
+            return false;
+        }
+    }
+    true
+}
+
+/// Whether the first base of a term is one, and notes tell what they are to tell along exchanges from there.
+fn walks<T: Term>(alloc: Global, term: &T) -> bool {
+    if !is_small(term) {
+        return false;
+    }
+    match first_base(alloc, term, Q) {
+        Some(mut x) => is_base(alloc, term, Q, &x) && tells_from(alloc, term, Q, &mut x),
+        None => false,
+    }
+}
+
+/// A rank of four places with groups: one of the first two, and two of the first three.
+fn laminar(alloc: Global) -> Result<Option<Kind>, Memory> {
+    let mut groups = Groups::new(alloc);
+    groups.push(2, vec![in alloc; 0, 1, 2]?)?;
+    groups.push(1, vec![in alloc; 0, 1]?)?;
+    match Laminar::new(alloc, &[0, 1, 2, 3], 3, groups) {
+        Ok(term) => Ok(Some(Kind::Laminar(term))),
+        Err(_) => Ok(None),
+    }
+}
+
+/// A rank of four places with three slots.
+fn transversal(alloc: Global) -> Result<Kind, Memory> {
+    let mut entries = Entries::new(alloc);
+    entries.push(vec![in alloc; 5u32]?)?;
+    entries.push(vec![in alloc; 5u32, 7]?)?;
+    entries.push(vec![in alloc; 7u32, 9]?)?;
+    entries.push(vec![in alloc; 9u32]?)?;
+    Ok(Kind::Transversal(Transversal::new(alloc, &[0, 1, 2, 3], 2, entries)?))
+}
+
+/// A square with one diagonal.
+const EDGES: [(u32, u32); 5] = [(3, 8), (8, 4), (4, 9), (9, 3), (3, 4)];
+
+/// A term of the kind with that number, if memory is there.
+fn kind_of(alloc: Global, number: usize) -> Option<Kind> {
+    match number {
+        0 => Some(Kind::Weight(Weight::new(alloc, &[0, 1], &[-3, 2]).ok()?)),
+        1 => Some(Kind::Cut(Cut::new(3, 0, 1))),
+        2 => Some(Kind::Cover(Cover::new(alloc, 5, &[2, 0, 1]).ok()?)),
+        3 => Some(Kind::Need(Need::new(0, 1))),
+        4 => Some(Kind::Table(Table::new(alloc, &[0, 1], &[0, 4, 3, 5]).ok()?)),
+        5 => Some(Kind::Concave(Concave::new(alloc, &[0, 1, 2], &[4, 7, 8]).ok()?)),
+        6 => Some(Kind::Uniform(Uniform::new(alloc, &[0, 1, 2, 3], 3, 2).ok()?)),
+        7 => laminar(alloc).ok()?,
+        8 => Some(Kind::Graphic(Graphic::new(alloc, &[0, 1, 2, 3, 4], 2, &EDGES).ok()?)),
+        _ => transversal(alloc).ok(),
+    }
+}
+
+/// A term turned round, if it is not too large for that.
+fn flip_of(kind: Kind) -> Option<Flip> {
+    if kind.size() <= MOST_HALF {
+        Some(Flip::new(kind))
+    } else {
+        None
+    }
+}
+
+/// The value of the part of one place; nothing where there is no such place or value, or memory lacks.
+fn single_value<T: Term>(alloc: Global, term: &T, e: usize) -> Option<i128> {
+    let k = term.elements().len();
+    if e >= k {
+        return None;
+    }
+    let mut s = Set::empty(alloc, k).ok()?;
+    s.insert(e);
+    term.value(alloc, &s).ok()?
+}
+
+/// Whether those are the values of the parts of one place.
+fn has_values<T: Term>(alloc: Global, term: &T, values: &[i128]) -> bool {
+    for e in 0..values.len() {
+        if single_value(alloc, term, e) != Some(values[e]) {
+            return false;
+        }
+    }
+    true
+}
+
+/// A place that is raised, one that is lowered, and how much can be exchanged between them.
+#[derive(Clone, Copy)]
+struct Told {
+    u: usize,
+    v: usize,
+    a: i128,
+}
+
+/// The rooms of a concave term turned round at its first base: each is that of the other order at 4, 3 and 1.
+const ROOMS: [Told; 3] = [
+    Told { u: 1, v: 2, a: 2 },
+    Told { u: 0, v: 1, a: 1 },
+    Told { u: 1, v: 0, a: 0 },
+];
+
+/// Whether the room of two places of a base is that.
+fn has_room<T: Term>(alloc: Global, term: &T, x: &[i128], told: Told) -> bool
+    requires { IsBased T.places T.value_of T.size_of term.now (pos 1) x.now }
+{
+    if told.u == told.v || told.u >= x.len() || told.v >= x.len() {
+        return false;
+    }
+    term.room(alloc, 1, x, told.u, told.v) == Ok(Room::Upto(told.a))
+}
+
+/// Whether the rooms between places of a base are those.
+fn has_rooms<T: Term>(alloc: Global, term: &T, x: &[i128], rooms: &[Told]) -> bool
+    requires { IsBased T.places T.value_of T.size_of term.now (pos 1) x.now }
+{
+    for told in rooms {
+        if !has_room(alloc, term, x, *told) {
+            return false;
+        }
+    }
+    true
+}
+
+/// Whether a term has those rooms at what is to be a base of it, and there room from the first place to the other two.
+fn answers<T: Term>(alloc: Global, term: &T, x: &[i128], rooms: &[Told]) -> bool {
+    if x.len() != 3 || !is_base(alloc, term, 1, x) || !has_rooms(alloc, term, x, rooms) {
+        return false;
+    }
+    let Some(to) = reach_of(alloc, term, 1, x, 0) else {
+        return false;
+    };
+    to.len() == 3 && !to.contains(0) && to.contains(1) && to.contains(2)
+}
+
+/// Whether the first base of a term is that one.
+fn starts<T: Term>(alloc: Global, term: &T, x: &[i128]) -> bool {
+    if !is_small(term) {
+        return false;
+    }
+    match first_base(alloc, term, 1) {
+        Some(found) => found.as_slice() == x,
+        None => false,
+    }
+}
+
+/// A term of the kind with that number, turned round.
+fn flipped(alloc: Global, number: usize) -> Option<Flip> {
+    flip_of(kind_of(alloc, number)?)
+}
+
+/// Whether a concave term turned round answers what was worked by hand.
+fn is_concave_right(alloc: Global) -> bool {
+    let Some(term) = flipped(alloc, 5) else {
+        return false;
+    };
+    term.size() == 16
+        && has_values(alloc, &term, &[-1, -1, -1])
+        && starts(alloc, &term, &[-4, -3, -1])
+        && answers(alloc, &term, &[-4, -3, -1], &ROOMS)
+}
+
+/// Whether a cut turned round answers what was worked by hand.
+fn is_cut_right(alloc: Global) -> bool {
+    let Some(term) = flipped(alloc, 1) else {
+        return false;
+    };
+    term.size() == 6 && has_values(alloc, &term, &[0, 3]) && starts(alloc, &term, &[-3, 3])
+}
+
+/// Whether the term of the kind with that number walks, turned round and on either side.
+fn all_walk(alloc: Global, number: usize) -> bool {
+    let Some(kind) = kind_of(alloc, number) else {
+        return false;
+    };
+    let Some(flip) = flipped(alloc, number) else {
+        return false;
+    };
+    let Some(turned) = flipped(alloc, number) else {
+        return false;
+    };
+    walks(alloc, &flip) && walks(alloc, &Side::Left(kind)) && walks(alloc, &Side::Right(turned))
+}
+
+/// Whether the left side names the order of a graphic rank and is asked for rows at once, and the right side is not.
+fn are_orders_right(alloc: Global) -> bool {
+    let Some(kind) = kind_of(alloc, 8) else {
+        return false;
+    };
+    let Some(turned) = flipped(alloc, 8) else {
+        return false;
+    };
+    let left = Side::Left(kind);
+    let right = Side::Right(turned);
+    left.order().is_some()
+        && left.asks_at_once()
+        && right.order().is_none()
+        && !right.asks_at_once()
+}
+
+#[test]
+fn answers_by_hand(rt: HostRuntime) {
+    assert!(rt; is_concave_right(rt.alloc()));
+    assert!(rt; is_cut_right(rt.alloc()));
+}
+
+#[test]
+fn orders(rt: HostRuntime) {
+    assert!(rt; are_orders_right(rt.alloc()));
+}
+
+#[test]
+fn notes_come_along(rt: HostRuntime) {
+    for number in 0..KINDS {
+        assert!(rt; all_walk(rt.alloc(), number), "{}", number);
+    }
+}
