@@ -1,5 +1,5 @@
 -- The sizes of the first terms, one after another, by the kinds and by what they mean.
-use Rattle.std.proofs.Common.{◌≡◌, ℕ, zero, suc, ◌+◌, ◌<◌, List, [], ◌∷◌, length, get_or, take, pos, ◌+ℤ◌, ◌≤ℤ◌, ◌^◌, refl, arith}
+use Rattle.std.proofs.Common.{◌≡◌, ℕ, zero, suc, ◌+◌, ◌<◌, ◌≤◌, List, [], ◌∷◌, length, get_or, take, pos, ◌+ℤ◌, ◌≤ℤ◌, ◌^◌, refl, arith}
 use Rattle.std.specs.List.{AllZip}
 use Rattle.std.proofs.lemmas.Int.{ints}
 use Rattle.sfm_spec.specs.Families.{Meaning}
@@ -60,21 +60,31 @@ first-sizes (kind ∷ terms) [] (suc i) h = absurd h
 first-sizes (kind ∷ terms) (term ∷ meant) (suc i) h =
     omega (arith, ints, kind-size kind term.value h.0.values, first-sizes terms meant i h.1)
 
+-- more of the first terms have no less
+pub first-more : (terms : List Kind) (i j : ℕ) → i ≤ j → total_size_of (take i terms) ≤ℤ total_size_of (take j terms)
+first-more terms zero j le = total_size-low (take j terms)
+first-more terms (suc i) zero le = absurd (omega (arith, le))
+first-more [] (suc i) (suc j) le = omega (arith, ints)
+first-more (t ∷ terms) (suc i) (suc j) le = omega (arith, ints, first-more terms i j (omega (arith, le)))
+
 -- the line at which the terms of a text pass the limit is that at which the text is too large
 pub too-large : (text : List ℕ) (instance : InstanceData) (ground : ℕ) (lines : List ℕ) (line : ℕ)
     → IsTextOf text instance.names instance.terms → AreNumbersOf text ground lines
     → PassesAt instance.terms lines line → IsTooLarge text line
-too-large text instance ground lines line good numbered h = record {
-  asked = question_of instance;
-  is_asked = record { good = good; means = means };
-  ground = ground;
-  lines = lines;
-  numbered = numbered;
-  i = h.i;
-  line_is = h.line_is;
-  before = rw (first-sizes instance.terms (meanings_of instance.terms) h.i means) h.before;
-  more = rw (first-sizes instance.terms (meanings_of instance.terms) (h.i + 1) means) h.more;
-} where
+too-large text instance ground lines line good numbered h = (
+  record { asked = question_of instance; ground_line = ground; lines = lines },
+  record { asked = record { good = good; means = means }; numbered = numbered },
+  record {
+    i = h.i;
+    line_is = h.line_is;
+    holds = rw (first-sizes instance.terms (meanings_of instance.terms) (h.i + 1) means) h.more;
+    before = λ j l over.
+        let o = rw (first-sizes instance.terms (meanings_of instance.terms) (j + 1) means) at over in
+        let m = first-more instance.terms (j + 1) h.i (omega (arith, l)) in
+        let b = h.before in
+        omega (arith, ints, o, m, b);
+  },
+) where
   means : AllZip IsMeaningOf instance.terms (meanings_of instance.terms)
   means = kinds-mean instance.terms
 

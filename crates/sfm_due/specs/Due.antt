@@ -27,10 +27,14 @@ wrong_word Base = codes "base"
 wrong_word Unproved = codes "unproved"
 wrong_word Answer = codes "answer"
 
+-- the line that names a fault of a text: a word, the number of a line, and the word of the reason against it
+abbrev pub fault_line : List ℕ → ℕ → List ℕ → List ℕ
+fault_line word line reason = word ++ codes " " ++ decimal line ++ codes " " ++ reason ++ codes "\n"
+
 -- the line of a verdict
 abbrev pub verdict_line : Verdict → List ℕ
 verdict_line Valid = codes "valid\n"
-verdict_line (Invalid line reason) = codes "invalid " ++ decimal line ++ codes " " ++ wrong_word reason ++ codes "\n"
+verdict_line (Invalid line reason) = fault_line (codes "invalid") line (wrong_word reason)
 
 -- the exit code of a verdict
 abbrev pub verdict_code : Verdict → ℕ
@@ -70,9 +74,9 @@ IsSolved asked file = IsSolvedBy (codes "answer 1") (ones (length asked.instance
 abbrev pub IsWeighed : Question → List ℤ → List ℕ → Type 0
 IsWeighed asked sizes file = IsSolvedBy (codes "weighed 1") sizes asked file
 
--- the line that refuses a text: a word for which text it is, or `refused`, the number of a line, and the word of the reason against it
+-- the line that refuses a text, behind a word for which text it is, or `refused`
 abbrev pub refusal : List ℕ → ℕ → Reason → List ℕ
-refusal word line reason = word ++ codes " " ++ decimal line ++ codes " " ++ reason_word reason ++ codes "\n"
+refusal word line reason = fault_line word line (reason_word reason)
 
 -- the written text is the refusal of a line and a reason that are the first fault
 pub record NamesFault (word : List ℕ) (IsFault : ℕ → Reason → Type 0) (written : List ℕ) : Type 0 where

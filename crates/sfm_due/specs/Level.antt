@@ -1,29 +1,22 @@
 -- What is due for the most level base of an instance, of which the sizes add to at most 10^13.
-use Rattle.std.specs.Prelude.{◌≡◌, ◌⊎◌, ℕ, ◌+◌, ◌^◌, List, take, slice_get, Some, ℤ, pos, ◌≤ℤ◌, ◌<ℤ◌}
+use Rattle.std.specs.Prelude.{◌≡◌, ◌⊎◌, ℕ, ◌+◌, ◌^◌, List, take, ℤ, pos, ◌≤ℤ◌, ◌<ℤ◌}
 use Rattle.sfm_kind.specs.Meanings.{total_by}
 use Rattle.sfm_lines.specs.declared.reason.Reason.{Reason}
 use Rattle.sfm_lines.specs.declared.reason.Reason.TheVariants.{Total}
 use Rattle.sfm_text.specs.GoodText.{IsFaultOf}
-use Rattle.sfm_text.specs.Numbered.{AreNumbersOf}
 use Rattle.sfm_cert.specs.Solved.{form_of}
 use Rattle.sfm_level.specs.LevelText.{IsLevelText}
-use Rattle.sfm_due.specs.Due.{IsAsked, Question}
+use Rattle.sfm_due.specs.Due.{Question}
+use Rattle.sfm_due.specs.Lined.{IsFirstLine, IsLined, Lined}
 
 -- the most that the sizes of the terms may add to
 abbrev pub level_limit : ℤ
 level_limit = pos (10 ^ 13)
 
--- the sizes of the terms up to a line add to more than that, and those before the line do not
-pub record IsTooLarge (text : List ℕ) (line : ℕ) : Type 0 where
-  pub asked : Question
-  pub is_asked : IsAsked text asked
-  pub ground : ℕ
-  pub lines : List ℕ
-  pub numbered : AreNumbersOf text ground lines
-  pub i : ℕ
-  pub line_is : slice_get lines i ≡ Some line
-  pub before : total_by (take i asked.instance.terms) asked.meant ≤ℤ level_limit
-  pub more : level_limit <ℤ total_by (take (i + 1) asked.instance.terms) asked.meant
+-- the first line of a text with which the sizes of the terms add to more than that
+abbrev pub IsTooLarge : List ℕ → ℕ → Type 0
+IsTooLarge text line = (side : Lined) × IsLined text side
+    × IsFirstLine (λ i. level_limit <ℤ total_by (take (i + 1) side.asked.instance.terms) side.asked.meant) side.lines line
 
 -- the first fault of a text, or, where it has none, that its sizes are too large
 abbrev pub IsLevelFault : List ℕ → ℕ → Reason → Type 0

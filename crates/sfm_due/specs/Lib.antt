@@ -2,6 +2,7 @@ pub mod Status
 pub mod Meanings
 pub mod Moves
 pub mod Due
+pub mod Lined
 pub mod Level
 pub mod Sums
 pub mod Files

@@ -1,11 +1,11 @@
 // What is due for texts that were read: a file, a refusal or a verdict, made whole before any of it is written.
-ghost use Rattle.std.specs.Prelude.{◌≡◌, ◌⊎◌, ◌+◌, ◌++◌, ◌<◌, ℕ, List, length, codes, decimal, IfOk};
+ghost use Rattle.std.specs.Prelude.{◌≡◌, ◌⊎◌, ◌+◌, ◌<◌, ℕ, List, length, IfOk};
 ghost use Rattle.sfm_sizes.specs.Sizes.{AreElementSizes};
 ghost use Rattle.sfm_side.specs.PinLines.{pins_of};
 ghost use Rattle.sfm_ask.specs.Pinned.{IsAnswered};
 ghost use Rattle.sfm_cert.specs.{Header.{header_text}, Solved.{form_with}, Grammar.{answer_limit}};
 ghost use Rattle.sfm_check.specs.Verdict.{IsVerdict};
-ghost use Rattle.sfm_due.specs.{Due.{verdict_line, verdict_code, wrong_word, refusal, IsJudged, IsJudgedBySizes, IsSolved, IsWeighed}, Meanings.{meanings_of, question_of}, Status.{code_of}, Owing.{IsMade}, Files.{IsReadAs}};
+ghost use Rattle.sfm_due.specs.{Due.{verdict_line, verdict_code, wrong_word, fault_line, refusal, IsJudged, IsJudgedBySizes, IsSolved, IsWeighed}, Meanings.{meanings_of, question_of}, Status.{code_of}, Owing.{IsMade}, Files.{IsReadAs}};
 
 use crate::solve::{file_by, file_for, ones_of};
 use crate::status::Status;
@@ -27,9 +27,13 @@ pub struct Due {
 }
 
 /// A line of a word, the number of a line, and the word of the reason against that.
-fn fault_line(alloc: Global, word: &[u8], line: usize, reason: &[u8]) -> Result<Vec<u8>, AllocError>
-    ensures { IfOk result (λ v. v.items ≡ word.now ++ codes " " ++ decimal line ++ codes " "
-        ++ reason.now ++ codes "\n") }
+fn named_fault(
+    alloc: Global,
+    word: &[u8],
+    line: usize,
+    reason: &[u8],
+) -> Result<Vec<u8>, AllocError>
+    ensures { IfOk result (λ v. v.items ≡ fault_line word.now line reason.now) }
 {
     let mut buffer = Buffer::new();
     let mut out = Vec::from_slice(alloc, word)?;
@@ -71,10 +75,26 @@ pub fn due_for_verdict(alloc: Global, verdict: Verdict) -> Result<Due, AllocErro
             status: Status::Done,
         }),
         Verdict::Invalid { line, reason } => Ok(Due {
-            text: fault_line(alloc, b"invalid", line, word_of(reason))?,
+            text: named_fault(alloc, b"invalid", line, word_of(reason))?,
             status: Status::Invalid,
         }),
     }
+}
+
+/// The line that refuses a text at a line, for the reason of a word. The first word tells what the text is.
+///
+/// # Errors
+///
+/// `AllocError` where there is no memory.
+pub fn refuse_by(alloc: Global, word: &[u8], line: usize, reason: &[u8]) -> Result<Due, AllocError>
+    ensures { IfOk result (λ due. (due.text.items ≡ fault_line word.now line reason.now)
+        × (due.status ≡ Status.Refused)) }
+{
+    let text = named_fault(alloc, word, line, reason)?;
+    Ok(Due {
+        text,
+        status: Status::Refused,
+    })
 }
 
 /// The line that refuses a text with this fault, at a line counted from 1 (0 where the whole text is too long). The word
@@ -83,11 +103,7 @@ pub fn refuse(alloc: Global, word: &[u8], line: usize, reason: Reason) -> Result
     ensures { IfOk result (λ due. (due.text.items ≡ refusal word.now line reason)
         × (due.status ≡ Status.Refused)) }
 {
-    let text = fault_line(alloc, word, line, reason.word())?;
-    Ok(Due {
-        text,
-        status: Status::Refused,
-    })
+    refuse_by(alloc, word, line, reason.word())
 }
 
 /// What is due to solve an instance.

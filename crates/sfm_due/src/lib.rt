@@ -13,7 +13,7 @@ mod status;
 pub use demo::due_to_demo;
 pub use due::{
     Due, due_for_verdict, due_to_ask, due_to_check, due_to_check_weighed, due_to_solve,
-    due_to_weigh, refuse,
+    due_to_weigh, refuse, refuse_by,
 };
 pub use feed::feed_text;
 pub use file::read_text;
