@@ -1,0 +1,6 @@
+mod Meeting
+mod Apart
+mod TrueMet
+mod SideTerms
+mod Small
+mod Found
