@@ -8,7 +8,7 @@ fn asks_for<'a>(alloc: Global, words: &'a [&'a str], wanted: Result<Command<'a>,
 }
 
 /// Words, and the command that they ask for.
-const COMMANDS: [(&[&str], Command); 27] = [
+const COMMANDS: [(&[&str], Command); 29] = [
     (
         &["ask", "first", "second"],
         Command::Ask {
@@ -120,6 +120,21 @@ const COMMANDS: [(&[&str], Command); 27] = [
             answer: "third",
         },
     ),
+    (
+        &["meet", "first", "second"],
+        Command::Meet {
+            left: "first",
+            right: "second",
+        },
+    ),
+    (
+        &["met", "first", "--", "-second", "third"],
+        Command::Met {
+            left: "first",
+            right: "-second",
+            answer: "third",
+        },
+    ),
 ];
 
 #[test]
@@ -130,7 +145,10 @@ fn reads_the_words_of_a_command(rt: HostRuntime) {
 }
 
 /// Words that ask for none.
-const OTHER_WORDS: [&[&str]; 60] = [
+const OTHER_WORDS: [&[&str]; 63] = [
+    &["meet", "first"],
+    &["met", "first", "second"],
+    &["met", "first", "second", ""],
     &["ask", "first"],
     &["ask", "first", ""],
     &["ask", "first", "second", "third"],

@@ -19,8 +19,8 @@ use Rattle.clap.specs.Simple.{built_leaf, entered, help_shape, label_of, names_o
 use Rattle.clap.specs.Faults.{defaults_fault, entered_fault, fault_of, is_simple_and_free, level_fault, turn_fault, walk_fault}
 use Rattle.clap.specs.Takes.{entered_passes, level_passes, turn_passes, walk_passes}
 use Rattle.clap.proofs.WalkLemmas.{find-map, walk_stopped}
-use Rattle.sfm_words.specs.Command.{Asks, Command, IsFileName, IsForm, IsSeed, check, command_by, ask, demo, edit, level, solve, weigh, weighed}
-use Rattle.sfm_words.specs.Subcommand.{Maker, subcommands}
+use Rattle.sfm_words.specs.Command.{Asks, Command, IsFileName, IsForm, IsPlainFor, IsSeed, command_by}
+use Rattle.sfm_words.specs.Subcommand.{Maker, number, one, subcommands, three, two}
 use Rattle.sfm_words.specs.Line.{sfm_line}
 use Rattle.sfm_words.proofs.Numbers.{numeral_told}
 use Rattle.sfm_words.proofs.Turns.{HasHelpOnly, at, dashes, dashes_or_value, none_of, not_none, value_fault, some_word}
@@ -86,7 +86,7 @@ good_row word maker (row ∷ rows) good e = go (bytes_eq row.0 word) e (good_row
     go false e more = more e
 
 all_good : AreGood subcommands
-all_good = (λ x. tt, ((refl, λ x y. tt), (λ n small. small, ((refl, λ x y. tt), ((refl, refl, refl, λ x y z. tt), ((refl, λ x y. tt), (λ x. tt, ((refl, λ x y. tt), tt))))))))
+all_good = (λ x. tt, ((refl, λ x y. tt), (λ n small. small, ((refl, λ x y. tt), ((refl, refl, refl, λ x y z. tt), ((refl, λ x y. tt), (λ x. tt, ((refl, λ x y. tt), ((refl, λ x y. tt), ((refl, refl, refl, λ x y z. tt), tt))))))))))
 
 -- a verb of the table, and the subcommand that it names
 module _ (verb : Text) (maker : Maker) (listed : lookup (λ word. bytes_eq word verb) subcommands ≡ Some maker) where
@@ -219,10 +219,10 @@ name_is_plain (x ∷ xs) is = go (x == 45) refl
       taken = some_word x xs;
     }
 
-seed_is_plain : (text : Text) (seed : ℕ) → IsSeed text seed
-    → IsPlain (Unsigned 0 999999999) text × (demo (value_of text) ≡ demo seed)
-seed_is_plain [] seed is = absurd (omega (arith, is.0))
-seed_is_plain (x ∷ xs) seed is =
+seed_is_plain : (make : ℕ → Command) (text : Text) (seed : ℕ) → IsSeed text seed
+    → IsPlain (Unsigned 0 999999999) text × (make (value_of text) ≡ make seed)
+seed_is_plain make [] seed is = absurd (omega (arith, is.0))
+seed_is_plain make (x ∷ xs) seed is =
     let first = digit_from_value x is.2.0 in
     let below : digits_value 10 (x ∷ xs) < 10 ^ 9 = omega (
       arith,
@@ -240,42 +240,23 @@ seed_is_plain (x ∷ xs) seed is =
         is = (name_is_plain (x ∷ xs) (omega arith, λ e. omega (arith, first, e))).is;
         taken = rw (unsigned, numeral, fits, large, small) refl;
       },
-      rw unsigned (ap demo is.3),
+      rw unsigned (ap make is.3),
     )
 
--- words that are plainly those behind a subcommand's own
-abbrev IsPlainIn : Option Maker → List Text → Command → Type 0
-IsPlainIn None words command = ⊥
-IsPlainIn (Some maker) words command = PlainWords maker words command
-
-asks_by : {words : List Text} (verb : Text) (behind : List Text) (command : Command)
-    → words ≡ verb ∷ behind
-    → IsPlainIn (lookup (λ word. bytes_eq word verb) subcommands) behind command
-    → Asks words command
-asks_by verb behind command is plain = subst (λ v. Asks v command) (sym is)
-    (go (lookup (λ word. bytes_eq word verb) subcommands) refl plain)
-  where
-    go : (o : Option Maker) → lookup (λ word. bytes_eq word verb) subcommands ≡ o
-        → IsPlainIn o behind command → Asks (verb ∷ behind) command
-    go None listed plain = absurd plain
-    go (Some maker) listed plain = plain_asks verb maker listed behind command plain
+-- words of the plain form of a subcommand are plainly those behind its own
+plain_words : (maker : Maker) (words : List Text) (command : Command) → IsPlainFor maker words command
+    → PlainWords maker words command
+plain_words (one a make) words command (x, is, f, made) =
+    rw is (name_is_plain x f, made)
+plain_words (two a b make) words command (x, y, is, f, g, made) =
+    rw is (name_is_plain x f, (name_is_plain y g, made))
+plain_words (three a b c make) words command (x, y, z, is, f, g, h, made) =
+    rw is (name_is_plain x f, (name_is_plain y g, (name_is_plain z h, made)))
+plain_words (number a make) words command (x, seed, is, s, made) =
+    let (plain, same) = seed_is_plain make x seed s in
+    rw is (plain, same ∙ made)
 
 pub form_asks : (words : List Text) (command : Command) → IsForm words command
     → Asks words command
-form_asks words (solve file) (is, f) =
-    asks_by (codes "solve") (file ∷ []) (solve file) is (name_is_plain file f, refl)
-form_asks words (check file answer) (is, f, a) = asks_by (codes "check") (file ∷ answer ∷ [])
-    (check file answer) is (name_is_plain file f, (name_is_plain answer a, refl))
-form_asks words (demo seed) (text, is, s) =
-    asks_by (codes "demo") (text ∷ []) (demo seed) is (seed_is_plain text seed s)
-form_asks words (weigh file sizes) (is, f, s) = asks_by (codes "weigh") (file ∷ sizes ∷ [])
-    (weigh file sizes) is (name_is_plain file f, (name_is_plain sizes s, refl))
-form_asks words (weighed file sizes answer) (is, f, s, a) =
-    asks_by (codes "weighed") (file ∷ sizes ∷ answer ∷ []) (weighed file sizes answer) is
-    (name_is_plain file f, (name_is_plain sizes s, (name_is_plain answer a, refl)))
-form_asks words (ask file pins) (is, f, p) = asks_by (codes "ask") (file ∷ pins ∷ [])
-    (ask file pins) is (name_is_plain file f, (name_is_plain pins p, refl))
-form_asks words (level file) (is, f) =
-    asks_by (codes "level") (file ∷ []) (level file) is (name_is_plain file f, refl)
-form_asks words (edit file edits) (is, f, d) = asks_by (codes "edit") (file ∷ edits ∷ [])
-    (edit file edits) is (name_is_plain file f, (name_is_plain edits d, refl))
+form_asks words command (verb, maker, behind, is, listed, plain) = subst (λ v. Asks v command) (sym is)
+    (plain_asks verb maker listed behind command (plain_words maker behind command plain))

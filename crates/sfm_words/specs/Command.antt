@@ -9,9 +9,9 @@ use Rattle.clap.specs.declared.error.kind.ErrorKind.{ErrorKind}
 use Rattle.clap.specs.declared.error.kind.ErrorKind.TheVariants.{OutOfMemory}
 use Rattle.sfm_words.specs.Line.{sfm_line}
 use Rattle.sfm_words.specs.Subcommand.{Maker, subcommands}
-pub use Rattle.sfm_words.specs.Subcommand.{Command, solve, check, demo, weigh, weighed, ask, level, edit, one, two, three, number}
+pub use Rattle.sfm_words.specs.Subcommand.{Command, solve, check, demo, weigh, weighed, ask, level, edit, meet, met, one, two, three, number}
 use Rattle.sfm_words.specs.declared.command.Command.{Command as Read}
-use Rattle.sfm_words.specs.declared.command.Command.TheVariants.{Solve as ReadSolve, Check as ReadCheck, Demo as ReadDemo, Weigh as ReadWeigh, Weighed as ReadWeighed, Ask as ReadAsk, Level as ReadLevel, Edit as ReadEdit}
+use Rattle.sfm_words.specs.declared.command.Command.TheVariants.{Solve as ReadSolve, Check as ReadCheck, Demo as ReadDemo, Weigh as ReadWeigh, Weighed as ReadWeighed, Ask as ReadAsk, Level as ReadLevel, Edit as ReadEdit, Meet as ReadMeet, Met as ReadMet}
 use Rattle.sfm_words.specs.declared.command.Refusal.{Refusal}
 use Rattle.sfm_words.specs.declared.command.Refusal.TheVariants.{Memory, Usage}
 
@@ -25,6 +25,8 @@ command_of (ReadWeighed file sizes answer) = weighed file.now sizes.now answer.n
 command_of (ReadAsk file pins) = ask file.now pins.now
 command_of (ReadLevel file) = level file.now
 command_of (ReadEdit file edits) = edit file.now edits.now
+command_of (ReadMeet left right) = meet left.now right.now
+command_of (ReadMet left right answer) = met left.now right.now answer.now
 
 -- ---- what clap finds in the words
 
@@ -71,15 +73,15 @@ IsFileName name = (0 < length name) × (slice_index name 0 ≢ 45)
 abbrev pub IsSeed : Text → ℕ → Type 0
 IsSeed text seed = (0 < length text) × (length text ≤ 9) × AllDigits 10 text × (digits_value 10 text ≡ seed)
 
--- the words are `solve FILE`, `check FILE ANSWER`, `demo SEED`, `weigh FILE SIZES`, `weighed FILE SIZES ANSWER`, `ask FILE PINS`,
--- `level FILE` or `edit FILE EDITS`
+-- words behind that of a subcommand that are names of files, or a seed, and the command that they make
+abbrev pub IsPlainFor : Maker → List Text → Command → Type 0
+IsPlainFor (one a make) words command = (x : Text) × (words ≡ x ∷ []) × IsFileName x × (make x ≡ command)
+IsPlainFor (two a b make) words command = (x y : Text) × (words ≡ x ∷ y ∷ []) × IsFileName x × IsFileName y × (make x y ≡ command)
+IsPlainFor (three a b c make) words command = (x y z : Text) × (words ≡ x ∷ y ∷ z ∷ [])
+    × IsFileName x × IsFileName y × IsFileName z × (make x y z ≡ command)
+IsPlainFor (number a make) words command = (x : Text) × (seed : ℕ) × (words ≡ x ∷ []) × IsSeed x seed × (make seed ≡ command)
+
+-- the words are that of a subcommand, and behind it what it takes
 abbrev pub IsForm : List Text → Command → Type 0
-IsForm words (solve file) = (words ≡ codes "solve" ∷ file ∷ []) × IsFileName file
-IsForm words (check file answer) = (words ≡ codes "check" ∷ file ∷ answer ∷ []) × IsFileName file × IsFileName answer
-IsForm words (demo seed) = (text : Text) × (words ≡ codes "demo" ∷ text ∷ []) × IsSeed text seed
-IsForm words (weigh file sizes) = (words ≡ codes "weigh" ∷ file ∷ sizes ∷ []) × IsFileName file × IsFileName sizes
-IsForm words (weighed file sizes answer) = (words ≡ codes "weighed" ∷ file ∷ sizes ∷ answer ∷ [])
-    × IsFileName file × IsFileName sizes × IsFileName answer
-IsForm words (ask file pins) = (words ≡ codes "ask" ∷ file ∷ pins ∷ []) × IsFileName file × IsFileName pins
-IsForm words (level file) = (words ≡ codes "level" ∷ file ∷ []) × IsFileName file
-IsForm words (edit file edits) = (words ≡ codes "edit" ∷ file ∷ edits ∷ []) × IsFileName file × IsFileName edits
+IsForm words command = (verb : Text) × (maker : Maker) × (behind : List Text) × (words ≡ verb ∷ behind)
+    × (lookup (λ word. bytes_eq word verb) subcommands ≡ Some maker) × IsPlainFor maker behind command

@@ -4,7 +4,8 @@ use Rattle.clap.specs.Words.{Text}
 
 -- to solve an instance, or to check an answer of one, each by the names of files; a demonstration, on the instance of a seed;
 -- to weigh an instance by the sizes in a second file, or to check an answer of that; to ask for the best set with the pins in a
--- second file; for the most level base of an instance; or to solve an instance with the edits in a second file
+-- second file; for the most level base of an instance; to solve an instance with the edits in a second file; or for the common
+-- vectors of two instances, or to check a text that tells one
 pub data Command : Type 0 where
   solve : Text → Command
   check : Text → Text → Command
@@ -14,6 +15,8 @@ pub data Command : Type 0 where
   ask : Text → Text → Command
   level : Text → Command
   edit : Text → Text → Command
+  meet : Text → Text → Command
+  met : Text → Text → Text → Command
 
 -- what follows the word of a subcommand, and the command that it makes: names of files, or a number, each in the argument
 -- of this name
@@ -34,4 +37,6 @@ subcommands =
     ∷ (codes "ask", two (codes "FILE") (codes "PINS") ask)
     ∷ (codes "level", one (codes "FILE") level)
     ∷ (codes "edit", two (codes "FILE") (codes "EDITS") edit)
+    ∷ (codes "meet", two (codes "LEFT") (codes "RIGHT") meet)
+    ∷ (codes "met", three (codes "LEFT") (codes "RIGHT") (codes "ANSWER") met)
     ∷ []

@@ -47,6 +47,17 @@ pub enum Command<'a> {
         file: &'a str,
         edits: &'a str,
     },
+    /// To find a greatest common vector of the instances in two files.
+    Meet {
+        left: &'a str,
+        right: &'a str,
+    },
+    /// To check the text in a third file as one of a greatest common vector of the instances in the first two.
+    Met {
+        left: &'a str,
+        right: &'a str,
+        answer: &'a str,
+    },
 }
 
 /// Why no command was read.

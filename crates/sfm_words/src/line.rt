@@ -117,5 +117,7 @@ pub(crate) fn command_line<'a>(alloc: Global) -> Result<Command<'a>, AllocError>
     )?;
     let line = with_line(line, two_names(alloc, "ask", "FILE", "PINS"))?;
     let line = with_line(line, one_name(alloc, "level", "FILE"))?;
-    with_line(line, two_names(alloc, "edit", "FILE", "EDITS"))
+    let line = with_line(line, two_names(alloc, "edit", "FILE", "EDITS"))?;
+    let line = with_line(line, two_names(alloc, "meet", "LEFT", "RIGHT"))?;
+    with_line(line, three_names(alloc, "met", "LEFT", "RIGHT", "ANSWER"))
 }

@@ -92,6 +92,18 @@ fn command_named<'a>(verb: &str, found: &ArgMatches<'a>) -> Option<Command<'a>>
             let (file, edits) = two_words_of(found, "FILE", "EDITS")?;
             Some(Command::Edit { file, edits })
         }
+        "meet" => {
+            let (left, right) = two_words_of(found, "LEFT", "RIGHT")?;
+            Some(Command::Meet { left, right })
+        }
+        "met" => {
+            let (left, right, answer) = three_words_of(found, "LEFT", "RIGHT", "ANSWER")?;
+            Some(Command::Met {
+                left,
+                right,
+                answer,
+            })
+        }
         _ => None,
     }
 }

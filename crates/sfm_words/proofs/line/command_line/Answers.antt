@@ -10,4 +10,6 @@ returns c =
     let five = c.in_ok-line-5.ensures _ _ four c.three_names.ensures.app c.three_names.ensures.local in
     let six = c.in_ok-line-6.ensures _ _ five c.two_names-3.ensures.app c.two_names-3.ensures.local in
     let seven = c.in_ok-line-7.ensures _ _ six c.one_name-2.ensures.app c.one_name-2.ensures.local in
-    c.with_line-8.ensures _ _ seven c.two_names-4.ensures.app c.two_names-4.ensures.local
+    let eight = c.in_ok-line-8.ensures _ _ seven c.two_names-4.ensures.app c.two_names-4.ensures.local in
+    let nine = c.in_ok-line-9.ensures _ _ eight c.two_names-5.ensures.app c.two_names-5.ensures.local in
+    c.with_line-10.ensures _ _ nine c.three_names-2.ensures.app c.three_names-2.ensures.local

@@ -24,4 +24,6 @@ returns-in_default c =
       differ (codes "ask") v d.not-ask,
       differ (codes "level") v d.not-level,
       differ (codes "edit") v d.not-edit,
+      differ (codes "meet") v d.not-meet,
+      differ (codes "met") v d.not-met,
     ) refl
