@@ -23,11 +23,16 @@ use Rattle.sfm_due.specs.Meanings.{question_of}
 use Rattle.sfm_due.specs.Level.{level_limit}
 use Rattle.sfm_due.specs.Sums.{PassesAt}
 use Rattle.sfm_due.proofs.Summing.{small-enough, too-large}
+use Rattle.sfm_due.specs.Lined.{IsLined, Lined}
+use Rattle.sfm_text.specs.declared.reader.Numbered.{Numbered}
+use Rattle.sfm_pair.specs.declared.clash.Clash.{Clash}
+use Rattle.sfm_pair.specs.Pair.{IsClashOf}
+use Rattle.sfm_pair.specs.Sides.{lined_of}
 use Rattle.sfm_run.specs.declared.open.Opened.{Opened}
 use Rattle.sfm_run.specs.declared.open.Opened.TheVariants.{Good, Faulty}
 use Rattle.sfm_run.specs.Task.{Task, reads}
-use Rattle.sfm_run.specs.Files.{answer_file, instance_file, level_file, side_file}
-use Rattle.sfm_run.specs.Preparing.{IsFaulty, OpensFile, Prepares, Tells}
+use Rattle.sfm_run.specs.Files.{answer_file, instance_file, left_file, level_file, right_file, side_file}
+use Rattle.sfm_run.specs.Preparing.{IsClashing, IsFaulty, OpensFile, Prepares, Tells}
 use Rattle.sfm_run.proofs.Joining.{behind, misses}
 
 -- a good instance
@@ -121,3 +126,72 @@ opens_level_faulty name before after reader line reason (Ok (Faulty due)) kept (
   refused,
 )
 opens_level_faulty name before after reader line reason (Err status) kept fed fault memory = (kept, inr memory)
+
+-- a text of either side
+pub is_lined : (text : List ℕ) (side : Numbered) → IsTextOf text side.instance.names side.instance.terms
+    → AreNumbersOf text side.ground_line side.term_lines.items → IsLined text (lined_of side)
+is_lined text side good numbered = record {
+  asked = record { good = good; means = kinds-mean side.instance.terms };
+  numbered = numbered;
+}
+
+-- the left of two texts
+pub opens_left : (name : List ℕ) (before after : ShelfState) (reader : Reader) (side : Numbered)
+    → KeepsShelf (name ∷ []) before after → FeedsText name before after (Ok reader)
+    → ((text : List ℕ) → Stands reader text → IsTextOf text side.instance.names side.instance.terms)
+    → ((text : List ℕ) → Stands reader text → AreNumbersOf text side.ground_line side.term_lines.items)
+    → OpensFile lined_of (left_file name) before after (Ok (Good side))
+opens_left name before after reader side kept (text, stands, named, read) good numbered = record {
+  text = text;
+  named = named;
+  kept = kept;
+  read = read;
+  holds = is_lined text side (good text stands) (numbered text stands);
+}
+
+-- the right one, told by what it says behind the left
+pub opens_right : (left : Lined) (name : List ℕ) (before after : ShelfState) (reader : Reader)
+    (result : Result (Opened Numbered) Status) → KeepsShelf (name ∷ []) before after
+    → FeedsText name before after (Ok reader)
+    → ((text : List ℕ) → Stands reader text → Tells lined_of (right_file left []) text result)
+    → OpensFile lined_of (right_file left name) before after result
+opens_right left name before after reader (Ok (Good v)) kept (text, stands, named, read) told =
+    record { text = text; named = named; kept = kept; read = read; holds = told text stands }
+opens_right left name before after reader (Ok (Faulty due)) kept (text, stands, named, read) told = (
+  record { text = text; named = named; kept = kept; read = read; holds = (told text stands).0 },
+  (told text stands).1,
+)
+opens_right left name before after reader (Err status) kept (text, stands, named, read) told =
+    (kept, inr (told text stands))
+
+-- one with a fault
+pub opens_right_faulty : (left : Lined) (name : List ℕ) (before after : ShelfState) (reader : Reader)
+    (line : ℕ) (reason : Reason) (result : Result (Opened Numbered) Status)
+    → KeepsShelf (name ∷ []) before after → FeedsText name before after (Ok reader)
+    → ((text : List ℕ) → Stands reader text → IsFaultOf text line reason)
+    → IsFaulty (codes "right") line reason result
+    → OpensFile lined_of (right_file left name) before after result
+opens_right_faulty left name before after reader line reason (Ok (Good v)) kept fed fault is = absurd is
+opens_right_faulty left name before after reader line reason (Ok (Faulty due)) kept (text, stands, named, read) fault (is, refused) = (
+  record {
+    text = text;
+    named = named;
+    kept = kept;
+    read = read;
+    holds = inl (record { line = line; reason = reason; fault = fault text stands; named = is });
+  },
+  refused,
+)
+opens_right_faulty left name before after reader line reason (Err status) kept fed fault memory = (kept, inr memory)
+
+-- one that does not go together with the left
+pub tells_clash : (left : Lined) (text : List ℕ) (right : Numbered) (clash : Clash) (line : ℕ)
+    (result : Result (Opened Numbered) Status) → IsLined text (lined_of right)
+    → IsClashOf left (lined_of right) clash line → IsClashing clash line result
+    → Tells lined_of (right_file left []) text result
+tells_clash left text right clash line (Ok (Good v)) lined is named = absurd named
+tells_clash left text right clash line (Ok (Faulty due)) lined is (named, refused) = (
+  inr (lined_of right, lined, clash, line, is, named),
+  refused,
+)
+tells_clash left text right clash line (Err status) lined is memory = memory

@@ -61,7 +61,7 @@ abbrev pub Complains : (err err' : SinkState) → Status → Type 0
 Complains err err' ReadFault = Says (codes "sfm: read failed\n") err err'
 Complains err err' WriteFault = Says (codes "sfm: write failed\n") err err'
 Complains err err' Memory = Says (codes "sfm: out of memory\n") err err'
-Complains err err' Usage = Says (codes "usage: sfm solve FILE | check FILE ANSWER | demo SEED | weigh FILE SIZES | weighed FILE SIZES ANSWER | ask FILE PINS | level FILE | edit FILE EDITS\n") err err'
+Complains err err' Usage = Says (codes "usage: sfm solve FILE | check FILE ANSWER | demo SEED | weigh FILE SIZES | weighed FILE SIZES ANSWER | ask FILE PINS | level FILE | edit FILE EDITS | meet LEFT RIGHT | met LEFT RIGHT ANSWER\n") err err'
 Complains err err' _ = err' ≡ err
 
 -- where the words are a command whose names are surely there, or no fault of the shelf comes, and no fault of the sink comes, the status

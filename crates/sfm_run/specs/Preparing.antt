@@ -11,6 +11,8 @@ use Rattle.sfm_due.specs.Status.{code_of}
 use Rattle.sfm_due.specs.Files.{IsNamed, MissesText, WasRead}
 use Rattle.sfm_due.specs.Due.{refusal}
 use Rattle.sfm_due.specs.Owing.{IsAnswer}
+use Rattle.sfm_pair.specs.declared.clash.Clash.{Clash}
+use Rattle.sfm_pair.specs.Pair.{clash_line}
 use Rattle.sfm_run.specs.declared.open.Opened.{Opened}
 use Rattle.sfm_run.specs.declared.open.Opened.TheVariants.{Good, Faulty}
 use Rattle.sfm_run.specs.Task.{Along, FailsAt, File, IsAfter, IsDueAt, StopsAt, Task, Way}
@@ -55,6 +57,12 @@ abbrev pub IsFaulty : {V : Type 0} → List ℕ → ℕ → Reason → Result (O
 IsFaulty word line reason (Ok (Good v)) = ⊥
 IsFaulty word line reason (Ok (Faulty due)) = (due.text.items ≡ refusal word line reason) × (due.status ≡ Refused)
 IsFaulty word line reason (Err status) = status ≡ Memory
+
+-- the refusal of two texts that do not go together, or that memory ran out
+abbrev pub IsClashing : {V : Type 0} → Clash → ℕ → Result (Opened V) Status → Type 0
+IsClashing clash line (Ok (Good v)) = ⊥
+IsClashing clash line (Ok (Faulty due)) = (due.text.items ≡ clash_line clash line) × (due.status ≡ Refused)
+IsClashing clash line (Err status) = status ≡ Memory
 
 -- what a text beside an instance stands for, or its refusal, or that memory ran out
 abbrev pub Tells : {V X : Type 0} → (V → X) → File X → List ℕ → Result (Opened V) Status → Type 0

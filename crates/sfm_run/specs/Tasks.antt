@@ -1,12 +1,13 @@
 -- What is to be done for each command.
 use Rattle.std.specs.Prelude.{◌≡◌, ℕ, List, codes}
-use Rattle.sfm_words.specs.Subcommand.{Command, solve, check, demo, weigh, weighed, ask, level, edit}
+use Rattle.sfm_words.specs.Subcommand.{Command, solve, check, demo, weigh, weighed, ask, level, edit, meet, met}
 use Rattle.sfm_due.specs.Due.{IsJudged, IsJudgedBySizes, IsSolved, IsWeighed, Question}
 use Rattle.sfm_ask.specs.Pinned.{IsAnswered}
 use Rattle.sfm_due.specs.Demo.{IsDueToDemo}
 use Rattle.sfm_due.specs.Level.{IsLevelled}
+use Rattle.sfm_pair.specs.Pair.{IsMeeting, IsMetJudged}
 use Rattle.sfm_run.specs.Task.{File, Task, ends, reads}
-use Rattle.sfm_run.specs.Files.{answer_file, edits_file, instance_file, level_file, pins_file, sizes_file}
+use Rattle.sfm_run.specs.Files.{answer_file, edits_file, instance_file, left_file, level_file, pins_file, right_file, sizes_file}
 
 -- a text that was asked for is due, with code 0
 abbrev pub done : (List ℕ → Type 0) → Task
@@ -29,3 +30,6 @@ task_of (ask file pins) = reads (main_file file) (λ asked. reads (pins_file ask
 task_of (level file) = reads (level_file file) (λ asked. done (IsLevelled asked))
 task_of (edit file edits) = reads (main_file file) (λ asked. reads (edits_file asked edits)
     (λ edited. done (IsSolved edited)))
+task_of (meet left right) = reads (left_file left) (λ l. reads (right_file l right) (λ r. done (IsMeeting l.asked r.asked)))
+task_of (met left right answer) = reads (left_file left) (λ l. reads (right_file l right)
+    (λ r. reads (answer_file answer) (λ text. ends (IsMetJudged l.asked r.asked text))))

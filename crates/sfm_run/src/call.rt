@@ -43,7 +43,7 @@ pub fn complain<E: Sink>(err: &mut E, status: Status)
         Status::Memory => say(err, b"sfm: out of memory\n"),
         Status::Usage => say(
             err,
-            b"usage: sfm solve FILE | check FILE ANSWER | demo SEED | weigh FILE SIZES | weighed FILE SIZES ANSWER | ask FILE PINS | level FILE | edit FILE EDITS\n",
+            b"usage: sfm solve FILE | check FILE ANSWER | demo SEED | weigh FILE SIZES | weighed FILE SIZES ANSWER | ask FILE PINS | level FILE | edit FILE EDITS | meet LEFT RIGHT | met LEFT RIGHT ANSWER\n",
         ),
     }
 }

@@ -5,12 +5,16 @@ ghost use Rattle.sfm_sizes.specs.Sizes.{AreElementSizes};
 ghost use Rattle.sfm_text.specs.{GoodText.{IsTextOf}, Numbered.{AreNumbersOf}};
 ghost use Rattle.sfm_side.specs.PinLines.{AreOver, pins_of};
 ghost use Rattle.sfm_due.specs.{Level.{level_limit}, Meanings.{question_of}};
-ghost use Rattle.sfm_run.specs.{Files.{edits_file, instance_file, level_file, pins_file, sizes_file}, Preparing.{IfGood, IsFaulty, OpensFile, Tells, items_of}};
+ghost use Rattle.sfm_due.specs.Lined.{IsLined};
+ghost use Rattle.sfm_meet.specs.Meetable.{AreMeetable};
+ghost use Rattle.sfm_pair.specs.Sides.{lined_of};
+ghost use Rattle.sfm_run.specs.{Files.{edits_file, instance_file, left_file, level_file, pins_file, right_file, sizes_file}, Preparing.{IfGood, IsClashing, IsFaulty, OpensFile, Tells, items_of}};
 
 use sfm_due::{Due, Status, feed_text, read_text, refuse, too_large};
 use sfm_edit::apply;
 use sfm_io::Shelf;
 use sfm_kind::Instance;
+use sfm_pair::{Clash, clash_of, refuse_clash};
 use sfm_side::{Pins, read_pins, read_sizes};
 use sfm_text::{Numbered, Reason, TEXT_LIMIT, TextEnd};
 use std::alloc::Global;
@@ -146,6 +150,69 @@ pub fn open_level<S: Shelf>(
     match reader.finish_numbered(alloc) {
         Ok(numbered) => level_in(alloc, numbered),
         Err(TextEnd::Refused { line, reason }) => faulty(alloc, b"refused", line, reason),
+        Err(TextEnd::Memory) => Err(Status::Memory),
+    }
+}
+
+/// Opens the left of two files with instances, of which the common vectors are asked for.
+pub fn open_left<S: Shelf>(
+    alloc: Global,
+    shelf: &mut S,
+    file: &str,
+) -> Result<Opened<Numbered>, Status>
+    ensures opened { OpensFile lined_of (left_file file.now) (S.state shelf.old)
+        (S.state shelf.new) result }
+    ensures counted { IfOk result (IfGood (λ side. length side.term_lines.items
+        ≡ length side.instance.terms)) }
+{
+    let reader = feed_text(alloc, shelf, file)?;
+    match reader.finish_numbered(alloc) {
+        Ok(numbered) => Ok(Opened::Good(numbered)),
+        Err(TextEnd::Refused { line, reason }) => faulty(alloc, b"left", line, reason),
+        Err(TextEnd::Memory) => Err(Status::Memory),
+    }
+}
+
+/// What is due for two good texts that do not go together.
+fn clashing<T: Drop>(alloc: Global, clash: Clash, line: usize) -> Result<Opened<T>, Status>
+    ensures { IsClashing clash line result }
+{
+    match refuse_clash(alloc, clash, line) {
+        Ok(due) => Ok(Opened::Faulty(due)),
+        Err(_) => Err(Status::Memory),
+    }
+}
+
+/// An instance beside another one, or what is due where they do not go together.
+fn beside(alloc: Global, left: &Numbered, right: Numbered) -> Result<Opened<Numbered>, Status>
+    requires left { length left.now.term_lines.items ≡ length left.now.instance.terms }
+    requires right { length right.term_lines.items ≡ length right.instance.terms }
+    ensures told { (text : List ℕ) → IsLined text (lined_of right)
+        → Tells lined_of (right_file (lined_of left.now) []) text result }
+    ensures meetable { IfOk result (IfGood (λ r. AreMeetable left.now.instance r.instance)) }
+{
+    match clash_of(left, &right) {
+        Some((clash, line)) => clashing(alloc, clash, line),
+        None => Ok(Opened::Good(right)),
+    }
+}
+
+/// Opens the right one of them: one that does not go together with the left is refused too.
+pub fn open_right<S: Shelf>(
+    alloc: Global,
+    shelf: &mut S,
+    left: &Numbered,
+    file: &str,
+) -> Result<Opened<Numbered>, Status>
+    requires { length left.now.term_lines.items ≡ length left.now.instance.terms }
+    ensures opened { OpensFile lined_of (right_file (lined_of left.now) file.now)
+        (S.state shelf.old) (S.state shelf.new) result }
+    ensures meetable { IfOk result (IfGood (λ r. AreMeetable left.now.instance r.instance)) }
+{
+    let reader = feed_text(alloc, shelf, file)?;
+    match reader.finish_numbered(alloc) {
+        Ok(numbered) => beside(alloc, left, numbered),
+        Err(TextEnd::Refused { line, reason }) => faulty(alloc, b"right", line, reason),
         Err(TextEnd::Memory) => Err(Status::Memory),
     }
 }

@@ -1,13 +1,17 @@
 // What is due for each command, made whole before any of it is written.
 ghost use Rattle.std.specs.Prelude.{◌≡◌, ◌≤◌, ℕ, List, length, IfOk};
 ghost use Rattle.sfm_io.specs.Shelf.{ShelfState};
-ghost use Rattle.sfm_words.specs.{Command.{command_of}, Subcommand.{solve as Solving, check as Checking, demo as Showing, weigh as Weighing, weighed as CheckingWeighed, ask as Asking, level as Levelling, edit as Editing}};
+ghost use Rattle.sfm_words.specs.{Command.{command_of}, Subcommand.{solve as Solving, check as Checking, demo as Showing, weigh as Weighing, weighed as CheckingWeighed, ask as Asking, level as Levelling, edit as Editing, meet as Meeting, met as CheckingMet}};
 ghost use Rattle.sfm_ask.specs.Pinned.{IsAnswered};
 ghost use Rattle.sfm_sizes.specs.Sizes.{AreElementSizes};
 ghost use Rattle.sfm_due.specs.{Due.{IsJudged, IsJudgedBySizes, IsSolved, IsWeighed}, Meanings.{meanings_of, question_of}, Owing.{IsMade}};
-ghost use Rattle.sfm_run.specs.{Files.{answer_file, edits_file, pins_file, sizes_file}, Preparing.{PassesOn, Prepares}, Task.{ends, reads}, Tasks.{done, task_of}};
+ghost use Rattle.sfm_meet.specs.Meetable.{AreMeetable};
+ghost use Rattle.sfm_pair.specs.{Pair.{IsMeeting, IsMetJudged}, Sides.{lined_of}};
+ghost use Rattle.sfm_run.specs.{Files.{answer_file, edits_file, pins_file, right_file, sizes_file}, Preparing.{PassesOn, Prepares}, Task.{ends, reads}, Tasks.{done, task_of}};
 
-use crate::open::{Opened, open_edits, open_instance, open_level, open_pins, open_sizes};
+use crate::open::{
+    Opened, open_edits, open_instance, open_left, open_level, open_pins, open_right, open_sizes,
+};
 use sfm_base::Memory;
 use sfm_cert::ANSWER_LIMIT;
 use sfm_due::{
@@ -16,6 +20,8 @@ use sfm_due::{
 };
 use sfm_io::Shelf;
 use sfm_kind::Instance;
+use sfm_pair::{due_to_meet, due_to_met};
+use sfm_text::Numbered;
 use sfm_words::Command;
 use std::alloc::Global;
 
@@ -252,6 +258,99 @@ fn prepare_edit<S: Shelf>(
     }
 }
 
+/// Reads the right one behind the left, and makes what is due to find their common vectors.
+fn meet_behind<S: Shelf>(
+    alloc: Global,
+    shelf: &mut S,
+    left: &Numbered,
+    right: &str,
+) -> Result<Due, Status>
+    requires { length left.now.term_lines.items ≡ length left.now.instance.terms }
+    ensures { Prepares (reads (right_file (lined_of left.now) right.now) (λ r. done
+        (IsMeeting (question_of left.now.instance) r.asked))) (S.state shelf.old)
+        (S.state shelf.new) result }
+{
+    match open_right(alloc, shelf, left, right) {
+        Ok(Opened::Good(right)) => made(due_to_meet(alloc, &left.instance, &right.instance)),
+        Ok(Opened::Faulty(due)) => Ok(due),
+        Err(status) => Err(status),
+    }
+}
+
+/// Reads two instances, and makes what is due to find their common vectors.
+fn prepare_meet<S: Shelf>(
+    alloc: Global,
+    shelf: &mut S,
+    left: &str,
+    right: &str,
+) -> Result<Due, Status>
+    ensures { Prepares (task_of (Meeting left.now right.now)) (S.state shelf.old)
+        (S.state shelf.new) result }
+{
+    match open_left(alloc, shelf, left) {
+        Ok(Opened::Good(left)) => meet_behind(alloc, shelf, &left, right),
+        Ok(Opened::Faulty(due)) => Ok(due),
+        Err(status) => Err(status),
+    }
+}
+
+/// Reads an answer behind two instances, and makes what is due to check it against them.
+fn check_met<S: Shelf>(
+    alloc: Global,
+    shelf: &mut S,
+    left: &Instance,
+    right: &Instance,
+    answer: &str,
+) -> Result<Due, Status>
+    requires { AreMeetable left.now right.now }
+    ensures { Prepares (reads (answer_file answer.now) (λ text. ends (IsMetJudged
+        (question_of left.now) (question_of right.now) text))) (S.state shelf.old)
+        (S.state shelf.new) result }
+{
+    match read_text(alloc, shelf, answer, ANSWER_LIMIT) {
+        Ok(text) => made(due_to_met(alloc, left, right, &text)),
+        Err(status) => Err(status),
+    }
+}
+
+/// Reads the right one and an answer behind the left, and makes what is due to check the answer.
+fn met_behind<S: Shelf>(
+    alloc: Global,
+    shelf: &mut S,
+    left: &Numbered,
+    right: &str,
+    answer: &str,
+) -> Result<Due, Status>
+    requires { length left.now.term_lines.items ≡ length left.now.instance.terms }
+    ensures { Prepares (reads (right_file (lined_of left.now) right.now) (λ r. reads
+        (answer_file answer.now) (λ text. ends (IsMetJudged (question_of left.now.instance) r.asked
+        text)))) (S.state shelf.old) (S.state shelf.new) result }
+{
+    match open_right(alloc, shelf, left, right) {
+        Ok(Opened::Good(right)) => check_met(alloc, shelf, &left.instance, &right.instance, answer),
+        Ok(Opened::Faulty(due)) => Ok(due),
+        Err(status) => Err(status),
+    }
+}
+
+/// Reads two instances and an answer, each where those before it have no fault, and makes what is due to check the answer.
+fn prepare_met<S: Shelf>(
+    alloc: Global,
+    shelf: &mut S,
+    left: &str,
+    right: &str,
+    answer: &str,
+) -> Result<Due, Status>
+    ensures { Prepares (task_of (CheckingMet left.now right.now answer.now))
+        (S.state shelf.old) (S.state shelf.new) result }
+{
+    match open_left(alloc, shelf, left) {
+        Ok(Opened::Good(left)) => met_behind(alloc, shelf, &left, right, answer),
+        Ok(Opened::Faulty(due)) => Ok(due),
+        Err(status) => Err(status),
+    }
+}
+
 /// Makes what is due for a command whole.
 pub fn prepare<S: Shelf>(alloc: Global, shelf: &mut S, command: Command) -> Result<Due, Status>
     requires { (seed : ℕ) → command_of command ≡ Showing seed → seed ≤ 999999999 }
@@ -271,5 +370,11 @@ pub fn prepare<S: Shelf>(alloc: Global, shelf: &mut S, command: Command) -> Resu
         Command::Ask { file, pins } => prepare_ask(alloc, shelf, file, pins),
         Command::Level { file } => prepare_level(alloc, shelf, file),
         Command::Edit { file, edits } => prepare_edit(alloc, shelf, file, edits),
+        Command::Meet { left, right } => prepare_meet(alloc, shelf, left, right),
+        Command::Met {
+            left,
+            right,
+            answer,
+        } => prepare_met(alloc, shelf, left, right, answer),
     }
 }
