@@ -26,7 +26,7 @@ fn shelf_of(alloc: Global, row: &Row) -> Result<MemoryShelf, Memory> {
 }
 
 /// One call over the three texts.
-fn called(alloc: Global, row: &Row) -> Result<Ended, Memory> {
+pub fn called(alloc: Global, row: &Row) -> Result<Ended, Memory> {
     let mut shelf = shelf_of(alloc, row)?;
     call(alloc, row.words, &mut shelf, &SOUND)
 }

@@ -8,7 +8,7 @@ const FIRST_ANSWER: &[u8] =
     b"answer 1\nminimum -3\nleast a\ngreatest a\nslope -3/1 a\nslope 2/1 a b\nat 0/1\nbase 1 -3 2\nat -3/1\nbase 1 -3 2\nat 2/1\nbase 1 -3 2\nend\n";
 
 const USAGE: &[u8] =
-    b"usage: sfm solve FILE | check FILE ANSWER | demo SEED | weigh FILE SIZES | weighed FILE SIZES ANSWER | ask FILE PINS | level FILE | edit FILE EDITS\n";
+    b"usage: sfm solve FILE | check FILE ANSWER | demo SEED | weigh FILE SIZES | weighed FILE SIZES ANSWER | ask FILE PINS | level FILE | edit FILE EDITS | meet LEFT RIGHT | met LEFT RIGHT ANSWER\n";
 
 /// A right text that is solved, of which nothing fails.
 const SOLVED: Case = Case {

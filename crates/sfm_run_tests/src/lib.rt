@@ -22,6 +22,8 @@ mod hostile;
 #[cfg(test)]
 mod levels;
 #[cfg(test)]
+mod meets;
+#[cfg(test)]
 mod refusals;
 #[cfg(test)]
 mod shelves;
