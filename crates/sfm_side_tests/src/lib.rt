@@ -5,6 +5,8 @@
 #[cfg(test)]
 mod asking;
 #[cfg(test)]
+mod edits;
+#[cfg(test)]
 mod pins;
 #[cfg(test)]
 mod rows;
