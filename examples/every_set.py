@@ -2,16 +2,18 @@
 """Answers a small instance without `sfm`: tries every set, by the words of docs/FORMATS.md alone, in exact fractions.
 
 It prints what an answer says before its proof, as `sfm solve` does, or as `sfm weigh` does where SIZES is given. With --pins it
-prints what `sfm ask` does:
+prints what `sfm ask` does, and with --meet the first three lines of what `sfm meet` does:
 
     python3 every_set.py towns.sfm
     python3 every_set.py jobs.sfm jobs.sizes
     python3 every_set.py border.sfm --pins border.pins
+    python3 every_set.py shares.sfm --meet shares.right.sfm
 
 With --all it takes each instance of a folder with at most 14 elements, also with its sizes and its pins where it has some, and with
 each element held in and out alone, and compares each line with what `sfm` says. Of what `sfm level` says it sees that no set has more
-than it is worth, and that the squares are the least. A set of elements is a number here: bit i is set where the set has the i-th name
-of the ground.
+than it is worth, and that the squares are the least; and of what `sfm meet` says of an instance X.sfm and X.right.sfm that no set has
+more than either is worth, and all elements as much as the least split. A set of elements is a number here: bit i is set where the set
+has the i-th name of the ground.
 """
 import argparse
 import glob
@@ -237,6 +239,28 @@ def is_level(path):
     )
 
 
+def split_lines(path, beside):
+    """The least that one instance is on a set and the other on its rest, with the least set that has it, in lines of `sfm meet`."""
+    (ground, left), (other, right) = read_instance(path), read_instance(beside)
+    if ground != other or None in left or None in right:
+        raise fault(beside, None, f"it is over another ground than {path}, or one of them has a condition")
+    least, best = least_of([value + right[len(left) - 1 - chosen] for chosen, value in enumerate(left)])
+    return ["meet 1", f"value {least}", line_of(ground, all_of(best), "set")]
+
+
+def is_meeting(path, beside):
+    """Whether what `sfm meet` says of two instances is so, and `sfm met` takes it."""
+    text = run_well("meet", path, beside)
+    lines = text.splitlines()
+    common = [int(number) for number in lines[3].split()[1:]]
+    with tempfile.TemporaryDirectory() as work:
+        write_text(os.path.join(work, "text"), text)
+        verdict = run_well("met", path, beside, os.path.join(work, "text"))
+    sums = [sum(number for e, number in enumerate(common) if has(chosen, e)) for chosen in range(2 ** len(common))]
+    within = all(total <= min(pair) for total, *pair in zip(sums, read_instance(path)[1], read_instance(beside)[1]))
+    return verdict == "valid\n" and lines[:3] == split_lines(path, beside) and within and f"value {sums[-1]}" == lines[1]
+
+
 def is_small(path):
     ground = next((line.split() for line in read_text(path).splitlines() if line.startswith("ground")), [])
     return len(ground) - 1 <= MOST
@@ -260,13 +284,19 @@ def cases_of(path, pins_path):
 
 def compare(folder):
     """Compares what `sfm` says with what is found here, and prints the lines of which only one side knows."""
-    counts, wrong = {"solve": 0, "weigh": 0, "ask": 0, "level": 0}, 0
+    counts, wrong = {"solve": 0, "weigh": 0, "ask": 0, "level": 0, "meet": 0}, 0
     with tempfile.TemporaryDirectory() as work:
         for path in filter(is_small, sorted(glob.glob(os.path.join(folder, "*.sfm")))):
             counts["level"] += 1
             if not is_level(path):
                 wrong += 1
                 print(f"level {os.path.basename(path)}")
+            beside = path[:-4] + ".right.sfm"
+            if os.path.exists(beside):
+                counts["meet"] += 1
+                if not is_meeting(path, beside):
+                    wrong += 1
+                    print(f"meet {os.path.basename(path)} {os.path.basename(beside)}")
             for words, found in cases_of(path, os.path.join(work, "one.pins")):
                 said = run_well(*words).splitlines()
                 said = said[: said.index("at 0/1")] if "at 0/1" in said else said
@@ -277,7 +307,7 @@ def compare(folder):
                     print("\n".join([f"  sfm says {line}" for line in said if line not in found]))
                     print("\n".join([f"  found    {line}" for line in found if line not in said]))
     answers = counts["solve"] + counts["weigh"]
-    told = f"{answers} answers, {counts['ask']} texts on pins and {counts['level']} level texts"
+    told = f"{answers} answers, {counts['ask']} texts on pins, {counts['level']} level texts and {counts['meet']} common vectors"
     print(f"every set tried: {told}, {wrong} differ")
     return 1 if wrong else 0
 
@@ -287,10 +317,14 @@ def main():
     parser.add_argument("file", help="an instance, or with --all a folder")
     parser.add_argument("sizes", nargs="?", help="the sizes of its elements")
     parser.add_argument("--pins", help="the elements that are held in and out; then slopes are not told")
+    parser.add_argument("--meet", metavar="RIGHT", help="another instance; then the least split of the two is told")
     parser.add_argument("--all", action="store_true", help="compare each small instance of the folder with what sfm says")
     options = parser.parse_args()
     if options.all:
         return compare(options.file)
+    if options.meet:
+        print("\n".join(split_lines(options.file, options.meet)))
+        return 0
     ground, values = read_instance(options.file)
     if options.pins:
         inside, outside = read_pins(options.pins)

@@ -22,6 +22,7 @@ Quote = namedtuple("Quote", "line command printed code")
 USAGE = (
     "usage: sfm solve FILE | check FILE ANSWER | demo SEED"
     " | weigh FILE SIZES | weighed FILE SIZES ANSWER | ask FILE PINS | level FILE | edit FILE EDITS"
+    " | meet LEFT RIGHT | met LEFT RIGHT ANSWER"
 )
 
 

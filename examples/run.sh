@@ -15,7 +15,8 @@ export PATH="$work/bin:$PATH" PYTHONDONTWRITEBYTECODE=1
 unset SFM
 
 # The answer of each instance up to its proof, 100 letters of a line, and the verdict on the whole; then of those with sizes; the least
-# squares of each; the answer of those with edits, and the text on pins of those with pins.
+# squares of each; the least split of two instances, and the verdict on the text that tells it; the answer of those with edits, and the
+# text on pins of those with pins.
 instances() {
   for file in "$here"/*.sfm; do
     echo "$(basename "$file")"
@@ -33,6 +34,13 @@ instances() {
   for file in "$here"/*.sfm; do
     echo "$(basename "$file")"
     sfm level "$file" | head -2
+  done
+  for right in "$here"/*.right.sfm; do
+    file=${right%.right.sfm}.sfm
+    echo "$(basename "$file") $(basename "$right")"
+    sfm meet "$file" "$right" >"$work/answer"
+    head -3 "$work/answer"
+    sfm met "$file" "$right" "$work/answer"
   done
   for edits in "$here"/*.edits; do
     file=${edits%.edits}.sfm
@@ -97,6 +105,7 @@ python3 regions.py data/lake.pgm --svg "$work/pictures/lake.svg" >"$work/expecte
 python3 projects.py data/projects.csv --svg "$work/pictures/projects.svg" >"$work/expected/projects.txt"
 python3 order.py data/storm.csv --all --svg "$work/pictures/storm.svg" >"$work/expected/storm.txt"
 python3 loads.py data/loads.csv --all --svg "$work/pictures/loads.svg" >"$work/expected/loads.txt"
+python3 meet.py data/links.csv --all | grep -v chosen >"$work/expected/links.txt"
 for name in karate petersen grid roads; do
   python3 network.py "data/$name.edges" --svg "$work/pictures/$name.svg" >"$work/expected/$name.txt"
 done
