@@ -40,15 +40,18 @@ PARTS = [
         "sfm_lines.Reading", "sfm_text.Language", "sfm_text.GoodText", "sfm_lines.Reasons", "sfm_lines.", "sfm_text."]),
     ("Texts beside an instance", ["sfm_side.Side", "sfm_side.Numbers", "sfm_side.", "sfm_edit.", "sfm_ask."]),
     ("Answer texts", ["sfm_cert.", "sfm_check/", "sfm_check.", "sfm_level."]),
+    ("Two sums at once", ["sfm_meet.Common", "sfm_meet.Met", "sfm_meet.", "sfm_met.MetText", "sfm_met."]),
     ("The text of a demonstration", ["sfm_demo.Draws", "sfm_demo/", "sfm_demo."]),
     ("The outside, the words, and how a call ends", [
         "sfm_io.", "sfm_io/", "sfm_words.Subcommand", "sfm_words.", "sfm_due/", "sfm_due.Moves", "sfm_due.Due", "sfm_due.",
+        "sfm_pair/", "sfm_pair.",
         "sfm_run.Task", "sfm_run.Files", "sfm_run.Tasks", "sfm_run."]),
     ("The contract", ["sfm_run/"]),
 ]
 
 # Sentences of definitions before which their files have none.
 SENTENCES = {
+    "complement": "the places that are not in the set",
     "edges_of": "the edges of these pairs, in their order",
     "◌>>=◌": "what m makes, and then what f makes of its value, from the state that m leaves",
 }
