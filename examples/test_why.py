@@ -1,6 +1,6 @@
 #!/usr/bin/env python3
-"""Mistakes in instances and in texts of sizes and of pins, each with the line that `sfm` prints and the place and sentence of
-`why.py`, compared with both.
+"""Mistakes in instances and in texts of sizes, of pins and of edits, each with the line that `sfm` prints and the place and sentence
+of `why.py`, compared with both.
 
     python3 test_why.py
 
@@ -12,7 +12,7 @@ import sys
 import tempfile
 from collections import namedtuple
 
-from why import Instance, Pins, Sizes, first_fault
+from why import Edits, Instance, Pins, Sizes, first_fault
 
 # What is wrong, the text of the instance, the line of `sfm`, and that of `why.py` from the column on.
 Row = namedtuple("Row", "mistake text line cause")
@@ -521,7 +521,185 @@ PINS = [
     Row("in and out", whole("pins 1", "in a", "out b a", "end"), "pins 3 twice", "7: a is held in by a line before"),
     Row("out two times", whole("pins 1", "out a", "out a", "end"), "pins 3 twice", "5: a is held out by a line before"),
     Row("no end", whole("pins 1", "in a"), "pins 3 short", "the text ends here, and the line 'end' is still due"),
+    Row("a comment", whole("pins 1", "in a # held", "end"), "pins 2 name", "6: a comment has a line of its own, and begins it"),
 ]
+
+NO_TERM_LINE = ", without the header, the ground line and comments"
+# Texts of edits of an instance over the elements a, b, c and d, with the one term line `weight a:1`.
+EDITS = [
+    Row("no text", b"", "edits 1 short", "the text ends here, and 'edits 1' is still due"),
+    Row("no end", whole("edits 1", "drop 1"), "edits 3 short", "the text ends here, and the line 'end' is still due"),
+    Row("pins", whole("pins 1", "end"), "edits 1 word", "1: pins stands here: a text of edits begins with 'edits 1'"),
+    Row(
+        "another version",
+        whole("edits 2", "end"),
+        "edits 1 shape",
+        "7: 2 stands here, and the first line is 'edits 1', with nothing behind it",
+    ),
+    Row(
+        "another word",
+        whole("edits 1", "remove 1", "end"),
+        "edits 2 word",
+        "1: remove begins no line: lines of edits begin with drop, add or end",
+    ),
+    Row(
+        "a term line alone",
+        whole("edits 1", "weight a:2", "end"),
+        "edits 2 word",
+        "1: weight begins no line of edits: a term line stands behind 'add'",
+    ),
+    Row(
+        "nothing added",
+        whole("edits 1", "add", "end"),
+        "edits 2 word",
+        "4: nothing stands here, where a term line is due behind 'add'",
+    ),
+    Row(
+        "no term line added",
+        whole("edits 1", "add cost a:2", "end"),
+        "edits 2 word",
+        "5: cost begins no term line: they begin with weight, cut, need, cover, concave, table, rank",
+    ),
+    Row(
+        "the end added",
+        whole("edits 1", "add end"),
+        "edits 2 word",
+        "5: end begins no term line: they begin with weight, cut, need, cover, concave, table, rank",
+    ),
+    Row("a capital", whole("edits 1", "add Cut 1 a b"), "edits 2 word", "5: Cut begins no term line, but cut does"),
+    Row(
+        "a line behind end",
+        whole("edits 1", "end", "drop 1"),
+        "edits 3 word",
+        "1: drop stands behind 'end', where blank lines and comments alone may follow",
+    ),
+    Row("no number", whole("edits 1", "drop", "end"), "edits 2 shape", "5: nothing stands here, where drop has the number of a term line"),
+    Row(
+        "two numbers",
+        whole("edits 1", "drop 1 2", "end"),
+        "edits 2 shape",
+        "8: 2 stands here, where drop has one number: each line that is to go has a line of its own",
+    ),
+    Row(
+        "changed in place",
+        whole("edits 1", "drop 1 weight a:2", "end"),
+        "edits 2 shape",
+        "8: weight stands here, where drop has one number: each line that is to go has a line of its own",
+    ),
+    Row("a colon", whole("edits 1", "drop :", "end"), "edits 2 shape", "6: : stands here, where drop has the number of a term line"),
+    Row(
+        "a comment behind a line",
+        whole("edits 1", "drop 1 # the weights", "end"),
+        "edits 2 shape",
+        "8: a comment has a line of its own, and begins it",
+    ),
+    Row(
+        "a comment behind an added line",
+        whole("edits 1", "add cut 1 a b # border", "end"),
+        "edits 2 shape",
+        "15: a comment has a line of its own, and begins it",
+    ),
+    Row("a word behind end", whole("edits 1", "end 1"), "edits 2 shape", "5: 1 stands here, where nothing follows 'end' in its line"),
+    Row(
+        "a space in a pair",
+        whole("edits 1", "  add weight a: -1", "end"),
+        "edits 2 shape",
+        "17: -1 stands alone: write a:-1, without a space",
+    ),
+    Row(
+        "counted by the lines of the file",
+        whole("edits 1", "drop 3", "end"),
+        "edits 2 number",
+        "6: there is no term line 3: the list then has 1 term line" + NO_TERM_LINE,
+    ),
+    Row(
+        "dropped two times",
+        whole("edits 1", "drop 1", "drop 1", "end"),
+        "edits 3 number",
+        "6: there is no term line 1: the list then has 0 term lines" + NO_TERM_LINE,
+    ),
+    Row(
+        "counted from 0",
+        whole("edits 1", "drop 0", "end"),
+        "edits 2 number",
+        "6: there is no term line 0: the list then has 1 term line" + NO_TERM_LINE,
+    ),
+    Row(
+        "behind an added line that is not there",
+        whole("edits 1", "add cut 1 a b", "drop 3", "end"),
+        "edits 3 number",
+        "6: there is no term line 3: the list then has 2 term lines" + NO_TERM_LINE,
+    ),
+    Row(
+        "a word for a number",
+        whole("edits 1", "drop all", "end"),
+        "edits 2 number",
+        "6: all stands where a number is due, of the range 1 to 1",
+    ),
+    Row("zeros", whole("edits 1", "drop 01", "end"), "edits 2 number", "6: 01 has a + or zeros before it: write 1"),
+    Row(
+        "a gain in an added cut",
+        whole("edits 1", "add cut -3 a b", "end"),
+        "edits 2 number",
+        "9: -3 is out of range: numbers here are 0 to 1,000,000,000,000",
+    ),
+    Row("another name", whole("edits 1", "add need a e", "end"), "edits 2 name", "12: e is none of the 4 names of the ground line"),
+    Row(
+        "twice in a line",
+        whole("edits 1", "add cover 1 b b", "end"),
+        "edits 2 twice",
+        "15: b stands twice among the elements of the line, first at column 13",
+    ),
+    Row(
+        "numbers that rise faster",
+        whole("edits 1", "add concave 1 3 : a b", "end"),
+        "edits 2 law",
+        "15: number 2 is 3 and rises by 2, where the one before rises by 1: rises must not grow",
+    ),
+    Row(
+        "groups that cross",
+        whole("edits 1", "add rank 1 laminar : a b c ; 1 a b ; 1 b c", "end"),
+        "edits 2 law",
+        "38: group 2 shares b with group 1, and neither holds the other",
+    ),
+    Row(
+        "too many terms",
+        whole("edits 1", "drop 1", *["add cover 1 a"] * 4097, "end"),
+        "edits 4099 total",
+        "5: this is term line 4,097, and 4,096 are taken",
+    ),
+    Row(
+        "too many terms before some are dropped",
+        whole("edits 1", *["add cover 1 a b c d"] * 4096, "drop 1", "end"),
+        "edits 4097 total",
+        "5: this is term line 4,097, and 4,096 are taken",
+    ),
+    Row(
+        "sizes too large",
+        whole("edits 1", "drop 1", "add weight a:2", *["add weight b:1000000000000"] * 1000, "end"),
+        "edits 1003 total",
+        "5: with this line sizes add to 1,000,000,000,000,002, and 1,000,000,000,000,000 are taken: count in a greater unit",
+    ),
+    Row(
+        "a byte order mark",
+        b"\xef\xbb\xbfedits 1\nend\n",
+        "edits 1 bytes",
+        "1: a byte order mark stands here: save the file as UTF-8 without it",
+    ),
+    Row(
+        "an umlaut in a dropped line",
+        "edits 1\ndrop ü\nend\n".encode(),
+        "edits 2 bytes",
+        "6: ü can stand in a comment line alone: names have 1 to 32 of A-Z a-z 0-9 _",
+    ),
+]
+
+
+def good():
+    """What is known of an instance with one term line."""
+    instance = Instance()
+    first_fault(instance, text("weight a:1"))
+    return instance
 
 
 def differs(row, command, files, reading):
@@ -541,20 +719,22 @@ def differs(row, command, files, reading):
 def main():
     wrong = 0
     with tempfile.TemporaryDirectory() as folder:
-        good, it = (os.path.join(folder, name) for name in ("good.sfm", "it"))
-        with open(good, "wb") as file:
+        one, it = (os.path.join(folder, name) for name in ("one.sfm", "it"))
+        with open(one, "wb") as file:
             file.write(text("weight a:1"))
-        for row in ROWS + SIZES + PINS:
+        for row in ROWS + SIZES + PINS + EDITS:
             if row in SIZES:
-                difference = differs(row, "weigh", [good, it], Sizes(["a", "b", "c", "d"]))
+                difference = differs(row, "weigh", [one, it], Sizes(good().names))
             elif row in PINS:
-                difference = differs(row, "ask", [good, it], Pins(["a", "b", "c", "d"]))
+                difference = differs(row, "ask", [one, it], Pins(good().names))
+            elif row in EDITS:
+                difference = differs(row, "edit", [one, it], Edits(good()))
             else:
                 difference = differs(row, "solve", [it], Instance())
             if difference:
                 wrong += 1
                 print(f"{row.mistake}: {difference}")
-    print(f"mistakes: {len(ROWS) + len(SIZES) + len(PINS)} rows, {wrong} differ", flush=True)
+    print(f"mistakes: {len(ROWS + SIZES + PINS + EDITS)} rows, {wrong} differ", flush=True)
     return 1 if wrong else 0
 
 

@@ -11,11 +11,15 @@ With the name of a text of sizes behind it, it tells of that text in the same wa
     sizes 2 number
     mistakes/zero.sizes:2:10: 0 is out of range: numbers here are 1 to 1,000,000
 
-With --pins and the name of a text of pins, it tells of that one:
+With --pins and the name of a text of pins, it tells of that one, and with --edits of a text of edits; --sizes does for one of sizes
+what the name alone does:
 
     $ python3 why.py border.sfm --pins mistakes/both.pins
     pins 3 twice
     mistakes/both.pins:3:5: p1 is held in by a line before
+    $ python3 why.py towns.sfm --edits mistakes/gone.edits
+    edits 3 number
+    mistakes/gone.edits:3:6: there is no term line 3: the list then has 2 term lines, without the header, the ground line and comments
 
 It reads the texts itself, by the rules of docs/FORMATS.md, and does not run `sfm`. The place is FILE:LINE:COLUMN, columns counted
 in bytes from 1. The code is 2 where there is a fault, 0 where there is none, and 3 where a file can't be read.
@@ -103,7 +107,7 @@ def test_word(stage, tokens, before):
     if stage == "ground" and word != "ground":
         raise Refused("word", column, f"{shown(word)} stands here, where 'ground' with the names of all elements is due")
     if stage == "behind":
-        raise Refused("word", column, f"{shown(word)} stands behind 'end', where blank lines and comments alone may follow")
+        test_behind(word, column)
     if stage == "terms" and word in ("sfm", "ground"):
         raise Refused("word", column, f"a second line {word} stands here, and an instance has one")
     if stage == "terms" and word not in WORDS:
@@ -494,17 +498,27 @@ def with_comment(tokens, take):
         raise
 
 
+def tokens_of(line):
+    return [Piece(found[0].decode("latin-1"), found.start() + 1) for found in re.finditer(rb"[^ \t]+", line)]
+
+
+def test_behind(word, column):
+    raise Refused("word", column, f"{shown(word)} stands behind 'end', where blank lines and comments alone may follow")
+
+
 class Instance:
     """What is known of an instance behind the lines that were read."""
 
     def __init__(self):
         self.stage, self.before = "header", ""
         self.names = {}
-        self.terms = self.places = self.sizes = 0
+        # for each term its places and its size, and all of these together
+        self.terms = []
+        self.places = self.sizes = 0
 
     def take(self, line):
         """Takes a content line, or refuses it for its first reason."""
-        tokens = [Piece(found[0].decode("latin-1"), found.start() + 1) for found in re.finditer(rb"[^ \t]+", line)]
+        tokens = tokens_of(line)
         end = tokens[-1].column + len(tokens[-1].text)
         test_bytes(line)
         test_word(self.stage, tokens, self.before)
@@ -547,47 +561,74 @@ class Instance:
         elif parts.kind == "table":
             test_table(parts.numbers, parts.elements)
         test_groups(parts.groups)
-        self.terms, self.places, self.sizes = self.terms + 1, self.places + len(parts.elements), self.sizes + size_of(parts)
-        if self.terms > MOST_TERMS:
-            raise Refused("total", column, f"this is term line {self.terms:,}, and {MOST_TERMS:,} are taken")
+        self.terms.append((len(parts.elements), size_of(parts)))
+        self.places, self.sizes = self.places + self.terms[-1][0], self.sizes + self.terms[-1][1]
+        if len(self.terms) > MOST_TERMS:
+            raise Refused("total", column, f"this is term line {len(self.terms):,}, and {MOST_TERMS:,} are taken")
         if self.places > MOST_PLACES:
             raise Refused("total", column, f"with this line {self.places:,} names of elements stand, and {MOST_PLACES:,} are taken")
         if self.sizes > MOST_SIZE:
             cause = f"with this line sizes add to {self.sizes:,}, and {MOST_SIZE:,} are taken: count in a greater unit"
             raise Refused("total", column, cause)
 
+    def drop_term(self, place):
+        """Takes the term at a place out, counted from 0."""
+        places, size = self.terms.pop(place)
+        self.places, self.sizes = self.places - places, self.sizes - size
 
-class Sizes:
-    """What is known of a text of sizes behind the lines that were read, over the names of an instance."""
 
-    def __init__(self, names):
-        self.stage, self.names, self.given = "header", names, {}
+class Beside:
+    """What is known of a text beside an instance behind the lines that were read. It begins with its word and 1, each line behind
+    that begins with one of some words, which `take_line` takes, and the last is `end`."""
+
+    word, words = "", ()
+
+    def __init__(self):
+        self.stage = "header"
 
     def take(self, line):
         """Takes a content line, or refuses it for its first reason."""
-        tokens = [Piece(found[0].decode("latin-1"), found.start() + 1) for found in re.finditer(rb"[^ \t]+", line)]
+        tokens = tokens_of(line)
         end = tokens[-1].column + len(tokens[-1].text)
         test_bytes(line)
-        self.test_word(tokens[0])
+        self.test_word(tokens, end)
+        with_comment(tokens, lambda: self.take_tokens(tokens, end))
+
+    def test_word(self, tokens, _end):
+        word, column = tokens[0]
+        if self.stage == "header" and word != self.word:
+            raise Refused("word", column, f"{shown(word)} stands here: a text of {self.word} begins with '{self.word} 1'")
+        if self.stage == "lines" and word not in (*self.words, "end"):
+            cause = f"{shown(word)} begins no line: lines of {self.word} begin with {', '.join(self.words)} or end"
+            raise Refused("word", column, cause)
+        if self.stage == "behind":
+            test_behind(word, column)
+
+    def take_tokens(self, tokens, end):
         if self.stage == "header":
-            test_header(tokens, end, "sizes 1")
+            test_header(tokens, end, f"{self.word} 1")
             self.stage = "lines"
         elif tokens[0].text == "end":
             test_end(tokens)
             self.stage = "behind"
         else:
-            with_comment(tokens, lambda: self.take_sizes(weight_parts(tokens[1:], end)))
+            self.take_line(tokens, end)
 
-    def test_word(self, token):
-        word, column = token
-        if self.stage == "header" and word != "sizes":
-            raise Refused("word", column, f"{shown(word)} stands here: a text of sizes begins with 'sizes 1'")
-        if self.stage == "lines" and word not in ("size", "end"):
-            raise Refused("word", column, f"{shown(word)} begins no line: lines of sizes begin with size or end")
-        if self.stage == "behind":
-            raise Refused("word", column, f"{shown(word)} stands behind 'end', where blank lines and comments alone may follow")
+    def due(self):
+        return {"header": f"'{self.word} 1'", "lines": "the line 'end'", "behind": None}[self.stage]
 
-    def take_sizes(self, parts):
+
+class Sizes(Beside):
+    """What is known of a text of sizes behind the lines that were read, over the names of an instance."""
+
+    word, words = "sizes", ("size",)
+
+    def __init__(self, names):
+        super().__init__()
+        self.names, self.given = names, {}
+
+    def take_line(self, tokens, end):
+        parts = weight_parts(tokens[1:], end)
         for piece in parts.numbers:
             test_number(piece, 1, MOST_ELEMENT_SIZE)
         for piece in parts.elements:
@@ -602,41 +643,18 @@ class Sizes:
             cause = f"with this line the sizes of all elements add to {total:,}, and {MOST_ELEMENT_SIZE:,} are taken"
             raise Refused("total", parts.elements[0].column, cause)
 
-    def due(self):
-        return {"header": "'sizes 1'", "lines": "the line 'end'", "behind": None}[self.stage]
 
-
-class Pins:
+class Pins(Beside):
     """What is known of a text of pins behind the lines that were read, over the names of an instance."""
 
+    word, words = "pins", ("in", "out")
+
     def __init__(self, names):
-        self.stage, self.names, self.held = "header", names, {}
+        super().__init__()
+        self.names, self.held = names, {}
 
-    def take(self, line):
-        """Takes a content line, or refuses it for its first reason."""
-        tokens = [Piece(found[0].decode("latin-1"), found.start() + 1) for found in re.finditer(rb"[^ \t]+", line)]
-        end = tokens[-1].column + len(tokens[-1].text)
-        test_bytes(line)
-        self.test_word(tokens[0])
-        if self.stage == "header":
-            test_header(tokens, end, "pins 1")
-            self.stage = "lines"
-        elif tokens[0].text == "end":
-            test_end(tokens)
-            self.stage = "behind"
-        else:
-            self.take_pins(tokens[0].text, words_of(tokens[1:], end, "a name is due"))
-
-    def test_word(self, token):
-        word, column = token
-        if self.stage == "header" and word != "pins":
-            raise Refused("word", column, f"{shown(word)} stands here: a text of pins begins with 'pins 1'")
-        if self.stage == "lines" and word not in ("in", "out", "end"):
-            raise Refused("word", column, f"{shown(word)} begins no line: lines of pins begin with in, out or end")
-        if self.stage == "behind":
-            raise Refused("word", column, f"{shown(word)} stands behind 'end', where blank lines and comments alone may follow")
-
-    def take_pins(self, word, pieces):
+    def take_line(self, tokens, end):
+        word, pieces = tokens[0].text, words_of(tokens[1:], end, "a name is due")
         for piece in pieces:
             test_element(piece, self.names)
         test_twice(pieces, "in the line")
@@ -645,8 +663,49 @@ class Pins:
                 raise Refused("twice", piece.column, f"{shown(piece.text)} is held {self.held[piece.text]} by a line before")
         self.held.update((piece.text, word) for piece in pieces)
 
-    def due(self):
-        return {"header": "'pins 1'", "lines": "the line 'end'", "behind": None}[self.stage]
+
+class Edits(Beside):
+    """What is known of a text of edits behind the lines that were read. They change the instance that was read before."""
+
+    word, words = "edits", ("drop", "add")
+
+    def __init__(self, instance):
+        super().__init__()
+        self.instance = instance
+
+    def test_word(self, tokens, end):
+        word, column = tokens[0]
+        if self.stage == "lines" and word in WORDS[:-1]:
+            raise Refused("word", column, f"{word} begins no line of edits: a term line stands behind 'add'")
+        super().test_word(tokens, end)
+        if self.stage == "lines" and word == "add":
+            self.test_added(tokens[1:], end)
+
+    def test_added(self, tokens, end):
+        """The first token behind `add`."""
+        if not tokens:
+            raise Refused("word", end, "nothing stands here, where a term line is due behind 'add'")
+        word, column = tokens[0]
+        if word not in WORDS[:-1]:
+            hint = f", but {word.lower()} does" if word.lower() in WORDS[:-1] else f": they begin with {', '.join(WORDS[:-1])}"
+            raise Refused("word", column, f"{shown(word)} begins no term line" + hint)
+
+    def take_line(self, tokens, end):
+        if tokens[0].text == "drop":
+            self.take_drop(tokens[1:], end)
+        else:
+            self.instance.take_term(parts_of(tokens[1:], end), tokens[1].column)
+
+    def take_drop(self, tokens, end):
+        number, *others = words_of(tokens, end, "drop has the number of a term line")
+        if others:
+            raise not_here(others[0], "drop has one number: each line that is to go has a line of its own")
+        count = len(self.instance.terms)
+        if NUMBER.fullmatch(number.text) and not 1 <= int(number.text) <= count:
+            cause = f"there is no term line {shown(number.text)}: the list then has {counted(count, 'term line')}"
+            raise Refused("number", number.column, cause + ", without the header, the ground line and comments")
+        test_number(number, 1, max(count, 1))
+        self.instance.drop_term(int(number.text) - 1)
 
 
 def first_fault(reading, data):
@@ -673,17 +732,19 @@ def main():
     parser = argparse.ArgumentParser(description=__doc__, formatter_class=argparse.RawDescriptionHelpFormatter)
     parser.add_argument("instance", help="an instance")
     parser.add_argument("sizes", nargs="?", help="a text of sizes")
+    parser.add_argument("--sizes", dest="more_sizes", metavar="SIZES", help="the same")
     parser.add_argument("--pins", help="a text of pins")
+    parser.add_argument("--edits", help="a text of edits")
     options = parser.parse_args()
     path, kind = options.instance, "refused"
     instance = Instance()
     found = first_fault(instance, read_bytes(path))
-    if options.sizes and not found:
-        path, kind = options.sizes, "sizes"
-        found = first_fault(Sizes(instance.names), read_bytes(path))
-    if options.pins and not found:
-        path, kind = options.pins, "pins"
-        found = first_fault(Pins(instance.names), read_bytes(path))
+    # the edits come last, as they change the instance
+    beside = [(options.sizes, Sizes), (options.more_sizes, Sizes), (options.pins, Pins), (options.edits, Edits)]
+    for text, form in beside:
+        if text and not found:
+            path, kind = text, form.word
+            found = first_fault(form(instance if form is Edits else instance.names), read_bytes(path))
     if not found:
         print(f"{path}: this text has no fault")
         return 0
