@@ -3,6 +3,7 @@ from __future__ import annotations
 
 import re
 from itertools import count
+from numbers import Integral
 from typing import Container, Dict, Hashable, Iterable, List, Mapping, Optional, Sequence, Tuple
 
 from .errors import Unreadable
@@ -31,9 +32,9 @@ def names_for(things: Sequence[Hashable]) -> Dict[Hashable, str]:
 
 
 def _like(thing: Hashable) -> str:
-    """A name that is like a string, a number, or a tuple of these; empty for other things."""
+    """A name that is like a string, a whole number (be it one of numpy), or a tuple of these; empty for other things."""
     parts = thing if isinstance(thing, tuple) else (thing,)
-    if not all(isinstance(part, (str, int)) for part in parts):
+    if not all(isinstance(part, (str, Integral)) for part in parts):
         return ""
     return re.sub("[^A-Za-z0-9_]+", "_", "_".join(map(str, parts)))[:32]
 

@@ -1,13 +1,10 @@
 """Tests of what answers tell: it is what is found by trying every set."""
-import importlib.util
 import random
 import tempfile
-import unittest
 from fractions import Fraction
 
 from common import ENGINES, Test, every_set, random_instance
 import leastset
-from leastset import models
 
 
 def of(instance, chosen):
@@ -80,32 +77,3 @@ class Answers(Test):
     def test_many_best_sets_come_one_after_another(self):
         best = leastset.solve(leastset.Instance(range(256))).minimisers()
         self.assertEqual([next(best), len(next(best)), len(next(best))], [frozenset(), 1, 1])
-
-
-class Models(Test):
-    @unittest.skipUnless(importlib.util.find_spec("numpy"), "there is no numpy")
-    def test_a_picture_of_numpy(self):
-        import numpy
-
-        greys = numpy.array([[9, 8, 0], [9, 4, 1], [8, 9, 9]], dtype=numpy.uint8)
-        self.assertEqual(models.segmentation(greys, numpy.uint8(5), 2).least, {(0, 2), (1, 2)})
-
-    @unittest.skipUnless(importlib.util.find_spec("networkx"), "there is no networkx")
-    def test_graphs_of_networkx(self):
-        import networkx
-
-        self.assertEqual(models.strength(networkx.petersen_graph()).strength, Fraction(5, 3))
-        club = networkx.karate_club_graph()
-        self.assertEqual(models.densest_part(club), models.densest_part(club.edges(data="weight")))
-        self.assertEqual(models.closure({"mill": 9, "dam": -6}, networkx.DiGraph([("mill", "dam")])).gain, 3)
-
-    def test_graphs_of_such_a_form(self):
-        class Graph:
-            nodes = ["a", "b", "c"]
-
-            def edges(self, data=None, default=None):
-                return [("a", "b", 3)] if data else [("a", "b")]
-
-        self.assertEqual(models.densest_part(Graph()), (Fraction(3, 2), {"a", "b"}))
-        self.assertEqual(models.closure({"a": 3, "b": -1}, Graph()), (2, {"a", "b"}))
-        self.assertRaises(ValueError, models.strength, [("a", "a")])
