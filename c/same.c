@@ -3,7 +3,7 @@
  *     same LIST OUT THREADS
  *
  * A line of LIST is what stands behind `sfm`: `solve FILE`, `check FILE ANSWER`, `weigh FILE SIZES`, `weighed FILE SIZES ANSWER`,
- * `ask FILE PINS`, `level FILE` or `edit FILE EDITS`.
+ * `ask FILE PINS`, `level FILE`, `edit FILE EDITS`, `meet LEFT RIGHT` or `met LEFT RIGHT ANSWER`.
  * The text of line N goes to the file OUT/N, and the code to OUT/N.code. The lines are dealt to the threads, each of which has a
  * stack of 128 KiB.
  */
@@ -77,6 +77,10 @@ static void call_line(int number) {
         code = sfm_weigh(text[0].at, text[0].len, text[1].at, text[1].len, &out);
     else if (given == 4 && !strcmp(words[0], "weighed"))
         code = sfm_weighed(text[0].at, text[0].len, text[1].at, text[1].len, text[2].at, text[2].len, &out);
+    else if (given == 3 && !strcmp(words[0], "meet"))
+        code = sfm_meet(text[0].at, text[0].len, text[1].at, text[1].len, &out);
+    else if (given == 4 && !strcmp(words[0], "met"))
+        code = sfm_met(text[0].at, text[0].len, text[1].at, text[1].len, text[2].at, text[2].len, &out);
     else
         die("a line is no call");
     for (int i = 1; i < given; i++)

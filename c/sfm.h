@@ -28,9 +28,10 @@ extern "C" {
 
 /* The codes. */
 enum {
-    SFM_DONE = 0,    /* the answer, `valid`, what is told of pins, or the level text */
+    SFM_DONE = 0,    /* the answer, `valid`, what is told of pins, the level text, or the common text */
     SFM_INVALID = 1, /* `invalid LINE REASON`: the answer that was checked is not right */
-    SFM_REFUSED = 2, /* `refused LINE REASON`, or `sizes`, `pins` or `edits` so: that text has a fault */
+    SFM_REFUSED = 2, /* `refused LINE REASON`, or `sizes`, `pins` or `edits` so: that text has a fault; or `left` or `right` so:
+                      * it has one, or these two do not go together */
     SFM_MEMORY = 5   /* no text: out of memory */
 };
 
@@ -68,6 +69,15 @@ uint32_t sfm_level(const uint8_t *text, size_t len, struct sfm_text *out);
 /* The answer of an edited instance, as `sfm edit`: SFM_DONE, SFM_REFUSED or SFM_MEMORY. */
 uint32_t sfm_edit(const uint8_t *text, size_t len, const uint8_t *edits, size_t edits_len,
                   struct sfm_text *out);
+
+/* A greatest common vector of two instances, as `sfm meet`: SFM_DONE, SFM_REFUSED, also where they do not go together, or
+ * SFM_MEMORY. */
+uint32_t sfm_meet(const uint8_t *left, size_t left_len, const uint8_t *right, size_t right_len,
+                  struct sfm_text *out);
+
+/* The verdict on what sfm_meet gives, whoever wrote it, as `sfm met`: SFM_DONE, SFM_INVALID, SFM_REFUSED or SFM_MEMORY. */
+uint32_t sfm_met(const uint8_t *left, size_t left_len, const uint8_t *right, size_t right_len,
+                 const uint8_t *answer, size_t answer_len, struct sfm_text *out);
 
 /* Gives the memory of a text back, and leaves none. The block is one of malloc: a language that can't call what stands here
  * calls free(at) itself, where len is not 0. */

@@ -22,7 +22,7 @@ lib=$work/to/usr/lib
 so="-L$lib -lsfm -Wl,-rpath,$lib"
 
 # The names that each library defines for others.
-wanted="sfm_ask sfm_check sfm_edit sfm_level sfm_solve sfm_weigh sfm_weighed"
+wanted="sfm_ask sfm_check sfm_edit sfm_level sfm_meet sfm_met sfm_solve sfm_weigh sfm_weighed"
 [ "$(nm -D --defined-only "$lib/libsfm.so" | awk '{print $3}' | sort | xargs)" = "$wanted" ] || fail "libsfm.so exports other names"
 [ "$(nm -g --defined-only "$lib/libsfm.a" | awk 'NF == 3 {print $3}' | sort | xargs)" = "$wanted" ] || fail "libsfm.a exports other names"
 if command -v pkg-config >"$work/null"; then
@@ -67,16 +67,26 @@ for file in "$top"/examples/*.sfm "$top"/examples/mistakes/*.sfm "$work"/texts/*
   [ -e "$sizes" ] || sizes=$work/texts/$((count++ % 500)).sizes
   "$program" solve "$file" >"$work/texts/$name.answer"
   "$program" weigh "$file" "$sizes" >"$work/texts/$name.weighed"
+  right=$(beside "$file" right.sfm)
+  [ -e "$right" ] || right=$(beside "$file" right)
+  "$program" meet "$file" "$right" >"$work/texts/$name.met"
   head -c -1 "$work/texts/$name.answer" >"$work/texts/$name.cut"
   sed '0,/[1-8]/s/[1-8]/9/' "$work/texts/$name.answer" >"$work/texts/$name.other"
   sed '$s/[0-8]/9/' "$work/texts/$name.weighed" >"$work/texts/$name.by"
+  head -c -1 "$work/texts/$name.met" >"$work/texts/$name.met-cut"
+  sed '2s/[0-8]$/9/' "$work/texts/$name.met" >"$work/texts/$name.met-value"
+  sed '4s/[0-8]$/9/' "$work/texts/$name.met" >"$work/texts/$name.met-common"
+  sed '/^right /s/[0-8]$/9/' "$work/texts/$name.met" >"$work/texts/$name.met-base"
   add solve "$file"
   add weigh "$file" "$sizes"
   add level "$file"
   add ask "$file" "$(beside "$file" pins)"
   add edit "$file" "$(beside "$file" edits)"
+  add meet "$file" "$right"
+  add meet "$right" "$file"
   for answer in answer cut other weighed; do add check "$file" "$work/texts/$name.$answer"; done
   for answer in weighed by answer; do add weighed "$file" "$sizes" "$work/texts/$name.$answer"; done
+  for answer in met met-cut met-value met-common met-base answer; do add met "$file" "$right" "$work/texts/$name.$answer"; done
 done
 number=0
 while read -r words; do

@@ -1,6 +1,6 @@
 #!/usr/bin/env python3
-"""texts.py FOLDER COUNT: writes COUNT random instances and texts of sizes, pins and edits into FOLDER, always the same: N.sfm,
-N.sizes, N.pins and N.edits. Some of them have a fault."""
+"""texts.py FOLDER COUNT: writes COUNT random instances, texts of sizes, pins and edits beside them, and second instances over the
+same elements into FOLDER, always the same: N.sfm, N.sizes, N.pins, N.edits and N.right. Some of them have a fault."""
 import random
 import sys
 from pathlib import Path
@@ -41,9 +41,8 @@ def term(names):
     return " ".join([f"weight {rng.choice(names)}:{rng.randint(-20, 20)}"])
 
 
-def instance():
-    names = [f"x{i}" for i in range(rng.randint(1, 10))]
-    return ["sfm 1", " ".join(["ground", *names]), *(term(names) for _ in range(rng.randint(0, 8))), "end"], names
+def instance(names):
+    return ["sfm 1", " ".join(["ground", *names]), *(term(names) for _ in range(rng.randint(0, 8))), "end"]
 
 
 def sizes(names):
@@ -58,6 +57,11 @@ def pins(names):
 def edits(names):
     lines = (f"add {term(names)}" if rng.randrange(3) else f"drop {rng.randint(1, 4)}" for _ in range(rng.randint(0, 4)))
     return ["edits 1", *lines, "end"]
+
+
+def right(names):
+    """A second instance; most of them have no conditions, as two instances with one are refused."""
+    return [line for line in instance(names) if rng.randrange(4) == 0 or not line.startswith("need")]
 
 
 def written(lines):
@@ -80,9 +84,9 @@ def written(lines):
 def main():
     folder, count = Path(sys.argv[1]), int(sys.argv[2])
     for number in range(count):
-        lines, names = instance()
-        (folder / f"{number}.sfm").write_bytes(written(lines))
-        for kind in (sizes, pins, edits):
+        names = [f"x{i}" for i in range(rng.randint(1, 10))]
+        (folder / f"{number}.sfm").write_bytes(written(instance(names)))
+        for kind in (sizes, pins, edits, right):
             (folder / f"{number}.{kind.__name__}").write_bytes(written(kind(names)))
 
 

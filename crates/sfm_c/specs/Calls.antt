@@ -12,6 +12,8 @@ use Rattle.sfm_edit.specs.Edits.{Editing, edits_form}
 use Rattle.sfm_ask.specs.Pinned.{IsAnswered}
 use Rattle.sfm_due.specs.Level.{IsLevelFault, IsLevelled, IsSmallEnough}
 use Rattle.sfm_due.specs.Due.{IsAsked, IsJudged, IsJudgedBySizes, IsSolved, IsWeighed, NamesFault, Question}
+use Rattle.sfm_due.specs.Lined.{IsLined, Lined}
+use Rattle.sfm_pair.specs.Pair.{GoTogether, IsMeeting, IsMetJudged, NamesClash}
 
 -- the text of which this is said stands for something, for which this is due; or its first fault is named behind a word, with code 2
 abbrev pub IsDueBehind : {X : Type 0} → (X → Type 0) → List ℕ → (ℕ → Reason → Type 0)
@@ -53,6 +55,20 @@ abbrev pub IsDueForEdits : Question → List ℕ → (Question → List ℕ → 
 IsDueForEdits asked text = IsDueBehind (LeadsTo asked text) (codes "edits")
     (IsFaultIn (side_language (edits_form asked.instance)) text)
 
+-- what is due behind the left of two texts of which the common vectors are asked for
+abbrev pub IsDueForLeft : List ℕ → (Lined → List ℕ → ℕ → Type 0) → List ℕ → ℕ → Type 0
+IsDueForLeft text = IsDueBehind (IsLined text) (codes "left") (IsFaultOf text)
+
+-- the text asks this, which goes together with what the left text asks
+abbrev pub GoesBeside : Lined → List ℕ → Lined → Type 0
+GoesBeside left text right = IsLined text right × GoTogether left right
+
+-- what is due behind the right text; or, of a good one that does not go together with the left, the reason is named, with code 2
+abbrev pub IsDueForRight : Lined → List ℕ → (Lined → List ℕ → ℕ → Type 0) → List ℕ → ℕ → Type 0
+IsDueForRight left text IsDue written code =
+    IsDueBehind (GoesBeside left text) (codes "right") (IsFaultOf text) IsDue written code
+    ⊎ (NamesClash left text written × (code ≡ 2))
+
 -- a text that was asked for, with code 0
 abbrev pub IsDone : (List ℕ → Type 0) → List ℕ → ℕ → Type 0
 IsDone IsRight written code = IsRight written × (code ≡ 0)
@@ -89,6 +105,16 @@ IsDueToLevel text = IsDueBehind (λ asked. IsAsked text asked × IsSmallEnough a
 abbrev pub IsDueToEdit : List ℕ → List ℕ → List ℕ → ℕ → Type 0
 IsDueToEdit text edits =
     IsDueForInstance text (λ asked. IsDueForEdits asked edits (λ edited. IsDone (IsSolved edited)))
+
+-- a greatest common vector of two instances
+abbrev pub IsDueToMeet : List ℕ → List ℕ → List ℕ → ℕ → Type 0
+IsDueToMeet left right =
+    IsDueForLeft left (λ l. IsDueForRight l right (λ r. IsDone (IsMeeting l.asked r.asked)))
+
+-- the verdict on the text of a common vector of two instances
+abbrev pub IsDueToMet : List ℕ → List ℕ → List ℕ → List ℕ → ℕ → Type 0
+IsDueToMet left right answer =
+    IsDueForLeft left (λ l. IsDueForRight l right (λ r. IsMetJudged l.asked r.asked answer))
 
 -- a call gives what is due, with its code, or, with code 5, no byte, as memory ran out
 abbrev pub Gives : (List ℕ → ℕ → Type 0) → List ℕ → ℕ → Type 0

@@ -40,7 +40,7 @@ pub(crate) fn give(due: Result<Due, Memory>, out: &mut SfmText) -> u32
 }
 
 /// What is due for a text that is not good, which that word refuses.
-fn due_for_end(alloc: Global, word: &[u8], end: TextEnd) -> Result<Due, Memory>
+pub(crate) fn due_for_end(alloc: Global, word: &[u8], end: TextEnd) -> Result<Due, Memory>
     ensures { IfOk result (IsRefusalDue word.now end) }
 {
     match end {
