@@ -11,10 +11,9 @@ without a ring, and the firms of all others. --all compares with all choices of 
 import argparse
 import os
 import sys
-import tempfile
 from collections import namedtuple
 
-from answers import leastset, run_well
+from answers import leastset, stopped
 from every_set import is_forest
 from faults import MOST_NAMES, fault, name_of, run_main, whole_of, write_text
 from projects import read_rows
@@ -68,15 +67,17 @@ def firms_of(links, each):
 
 
 def meet(links, each, folder):
-    """What is told of the two instances, which are kept in a folder, and judged."""
-    left, right, told = (os.path.join(folder, name) for name in ("network.sfm", "firms.sfm", "met"))
-    write_text(left, network_of(links).text())
-    write_text(right, firms_of(links, each).text())
-    text = run_well("meet", left, right)
-    write_text(told, text)
-    run_well("met", left, right, told)
-    _, value, members, common, *_ = (line.split() for line in text.splitlines())
-    return Found(int(value[1]), members[1:], [name for name, entry in zip(links, common[1:]) if entry == "1"])
+    """What is told of the two instances, and was judged. Where there is a folder, both are kept in it, and the text that tells it."""
+    left, right = network_of(links), firms_of(links, each)
+    if folder:
+        write_text(os.path.join(folder, "network.sfm"), left.text())
+        write_text(os.path.join(folder, "firms.sfm"), right.text())
+    with stopped("meet"):
+        told = leastset.meet(left, right)
+    if folder:
+        write_text(os.path.join(folder, "met"), told.text)
+    inner = [name for name in links if name in told.members]
+    return Found(told.total, inner, [name for name, entry in told.common.items() if entry == 1])
 
 
 def tell(links, found):
@@ -119,8 +120,7 @@ def main():
     each = whole_of("--each", None, "the number of links that each firm builds", options.each)
     if each < 0:
         raise fault("--each", None, f"{each} is below 0")
-    with tempfile.TemporaryDirectory() as work:
-        found = meet(links, each, options.folder or work)
+    found = meet(links, each, options.folder)
     print("\n".join(tell(links, found)))
     return compare(options.links, links, each, found) if options.all else 0
 

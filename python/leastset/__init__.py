@@ -17,8 +17,8 @@ above 0, what brings something is below 0, and the answer tells the sets that ar
 The work is done by the proved solver and judge: by the library libsfm.so where it is found, and else by the program sfm (`engines`).
 `solve` has each answer judged. Nothing is proved of this package itself. `leastset.models` has well-known problems.
 """
-from .answer import Answer, Block, Level, Pinned, Step
-from .calls import ask, check, level, solve, weigh
+from .answer import Answer, Block, Common, Level, Pinned, Step
+from .calls import ask, check, level, meet, met, solve, weigh
 from .engines import Library, Program, engine, use
 from .errors import Error, Failed, Invalid, NoEngine, OutOfMemory, Refused, TimedOut, Unreadable
 from .instance import Instance
@@ -27,6 +27,7 @@ __version__ = "1.0.0"
 __all__ = [
     "Answer",
     "Block",
+    "Common",
     "Error",
     "Failed",
     "Instance",
@@ -45,6 +46,8 @@ __all__ = [
     "check",
     "engine",
     "level",
+    "meet",
+    "met",
     "solve",
     "use",
     "weigh",

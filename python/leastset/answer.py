@@ -48,7 +48,22 @@ class Level(NamedTuple):
     bases: List[Dict[Element, int]]
 
 
+class Common(NamedTuple):
+    """A number for each element, `common`, of which no set gets more than it is worth in either of two instances; no such
+    numbers have a greater `total`. That is what the set `members` is worth in the left instance and its rest in the right one, and
+    no smaller set shows it. For each term of either there is a base, a number for each of its elements: the smaller of the two
+    sums at an element is its number in `common`. `text` is what was written, which `met` judges."""
+
+    total: int
+    members: FrozenSet[Element]
+    common: Dict[Element, int]
+    left: List[Dict[Element, int]]
+    right: List[Dict[Element, int]]
+    text: str
+
+
 LISTED = r"((?: [A-Za-z0-9_]+)*)"
+NUMBERS = "(?: -?[0-9]+)*"
 # The lines of an answer up to its proof, in their order: those of a word may stand there as often as is said.
 LINES = [
     ("answer", re.compile("answer 1|weighed 1"), 1),
@@ -59,7 +74,11 @@ LINES = [
     ("slope", re.compile(f"slope (-?[0-9]+)/([1-9][0-9]*){LISTED}"), None),
 ]
 PINNED = re.compile(rf"pinned 1\nminimum (-?[0-9]+)\nleast{LISTED}\ngreatest{LISTED}\nend\n")
-LEVEL = re.compile(r"level 1\nsquares ([0-9]+)\nvector((?: -?[0-9]+)*)\n((?:base [0-9]+(?: -?[0-9]+)*\n)*)end\n")
+LEVEL = re.compile(rf"level 1\nsquares ([0-9]+)\nvector({NUMBERS})\n((?:base [0-9]+{NUMBERS}\n)*)end\n")
+COMMON = re.compile(
+    rf"meet 1\nvalue (-?[0-9]+)\nset{LISTED}\ncommon({NUMBERS})\n"
+    rf"((?:left [0-9]+{NUMBERS}\n)*)((?:right [0-9]+{NUMBERS}\n)*)end\n"
+)
 # What other texts begin with that are taken for answers.
 OTHERS = {
     "": "the file is empty, or begins with a blank line",
@@ -219,12 +238,7 @@ class Answer:
 
 def _bases(terms: Sequence[str], lines: Sequence[str], elements: Optional[Mapping[str, Element]]) -> List[Dict[Element, int]]:
     """For each term line its base, by elements, from the line that tells it."""
-    found = []
-    for term, line in zip(terms, lines):
-        names = parts(term)[1]
-        of = names if elements is None else [elements[name] for name in names]
-        found.append(dict(zip(of, map(int, line.split(" ")[2:]))))
-    return found
+    return [_vector(parts(term)[1], line.split(" ")[2:], elements) for term, line in zip(terms, lines)]
 
 
 def _no_answer(due: str, lines: List[str]) -> str:
@@ -254,8 +268,41 @@ def levelled(text: str, instance: Union[Instance, str]) -> Level:
     found = LEVEL.fullmatch(text)
     if not found:
         raise Unreadable(1, "this is no level text")
-    _, ground, *terms = content(instance.text() if isinstance(instance, Instance) else instance)[:-1]
     elements = instance.elements() if isinstance(instance, Instance) else None
-    names = ground.split()[1:]
-    order = names if elements is None else [elements[name] for name in names]
-    return Level(int(found[1]), dict(zip(order, map(int, found[2].split()))), _bases(terms, found[3].splitlines(), elements))
+    names, terms = _ground_and_terms(instance)
+    return Level(int(found[1]), _vector(names, found[2].split(), elements), _bases(terms, found[3].splitlines(), elements))
+
+
+def common_of(text: str, left: Union[Instance, str], right: Union[Instance, str]) -> Common:
+    """What a common text says of two instances, in the elements of the one that has others than names."""
+    found = COMMON.fullmatch(text)
+    if not found:
+        raise Unreadable(1, "this is no common text")
+    elements = next((side.elements() for side in (left, right) if isinstance(side, Instance)), None)
+    (names, terms), (_, others) = _ground_and_terms(left), _ground_and_terms(right)
+    return Common(
+        total=int(found[1]),
+        members=frozenset(_named(found[2].split(), elements)),
+        common=_vector(names, found[3].split(), elements),
+        left=_bases(terms, found[4].splitlines(), elements),
+        right=_bases(others, found[5].splitlines(), elements),
+        text=text,
+    )
+
+
+def _ground_and_terms(instance: Union[Instance, str]) -> Tuple[List[str], List[str]]:
+    """The names of the elements of an instance without a fault, and its term lines."""
+    _, ground, *terms = content(instance.text() if isinstance(instance, Instance) else instance)[:-1]
+    return ground.split()[1:], terms
+
+
+def _named(names: Sequence[str], elements: Optional[Mapping[str, Element]]) -> List[Element]:
+    """The elements of these names, which are the names themselves where no elements are told."""
+    return [name if elements is None else elements[name] for name in names]
+
+
+def _vector(
+    names: Sequence[str], numbers: Sequence[str], elements: Optional[Mapping[str, Element]]
+) -> Dict[Element, int]:
+    """The numbers by the elements of these names."""
+    return dict(zip(_named(names, elements), map(int, numbers)))

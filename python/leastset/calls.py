@@ -1,4 +1,4 @@
-"""Instances in, answers out: `solve`, `weigh`, `ask`, `level` and `check`.
+"""Instances in, answers out: `solve`, `weigh`, `ask`, `level` and `check`; and of two instances `meet` and `met`.
 
 An instance is an `Instance`, or the text of one, whose elements are then its names. With `timeout` a call ends with `TimedOut`
 after so many seconds; it is made by the program, as a call of the library can't be stopped.
@@ -6,9 +6,9 @@ after so many seconds; it is made by the program, as a call of the library can't
 from __future__ import annotations
 
 import time
-from typing import FrozenSet, Iterable, List, Mapping, Optional, Union
+from typing import FrozenSet, Iterable, List, Mapping, Optional, Sequence, Union
 
-from .answer import Answer, Level, Pinned, levelled, pinned
+from .answer import Answer, Common, Level, Pinned, common_of, levelled, pinned
 from .engines import engine
 from .errors import Invalid, OutOfMemory, Refused, TimedOut
 from .instance import Element, Instance, Number, whole
@@ -102,6 +102,49 @@ def level(instance: Source, *, timeout: Optional[float] = None) -> Level:
     return levelled(_done("level", _Clock(timeout), _text(instance)), instance)
 
 
+def meet(left: Source, right: Source, *, check: bool = True, timeout: Optional[float] = None) -> Common:
+    """A greatest vector that both of two instances allow: no set gets more than it is worth in either. With `check` it has been
+    judged, and there is `Invalid` if it is not right. Both have the same elements in the same order, and no `need`.
+
+    >>> clubs = ["arts", "books", "choir", "dance"]
+    >>> town, county = Instance(clubs), Instance(clubs)
+    >>> for number, funded in [(7, ["arts", "books"]), (5, ["books", "choir"]), (6, ["dance"])]:
+    ...     town.cover(number, funded)
+    >>> for number, funded in [(4, ["arts", "dance"]), (9, ["books"]), (8, ["choir"])]:
+    ...     county.cover(number, funded)
+    >>> plan = meet(town, county)
+    >>> plan.total, sorted(plan.members), sum(plan.common.values())
+    (16, ['books', 'choir'], 16)
+
+    The bases prove that: in a sum of them no set gets more than it is worth.
+
+    >>> sums = [{club: sum(base.get(club, 0) for base in bases) for club in clubs} for bases in (plan.left, plan.right)]
+    >>> plan.common == {club: min(it[club] for it in sums) for club in clubs}
+    True
+    """
+    if isinstance(left, Instance) and isinstance(right, Instance) and left.ground != right.ground:
+        raise ValueError("the two instances do not have the same elements in the same order")
+    clock, texts = _Clock(timeout), (_text(left), _text(right))
+    said = _done("meet", clock, *texts)
+    if check:
+        _done("met", clock, *texts, said)
+    return common_of(said, left, right)
+
+
+def met(left: Source, right: Source, answer: Union[Common, str], *, timeout: Optional[float] = None) -> None:
+    """Judges what `meet` tells, or a text of that form, whoever wrote it: nothing where it is right, else there is `Invalid`.
+
+    >>> one, other = Instance(["ash"]), Instance(["ash"])
+    >>> one.weight({"ash": 5})
+    >>> other.weight({"ash": 3})
+    >>> met(one, other, meet(one, other))
+    >>> met(one, other, meet(one, other).text.replace("value 3", "value 4"))
+    Traceback (most recent call last):
+    leastset.errors.Invalid: invalid 2 answer
+    """
+    _done("met", _Clock(timeout), _text(left), _text(right), answer.text if isinstance(answer, Common) else answer)
+
+
 def check(
     instance: Source,
     answer: Union[Answer, str],
@@ -150,12 +193,12 @@ def _done(word: str, clock: _Clock, *texts: str) -> str:
     return text
 
 
-def _refusal(said: str, texts: Iterable[str]) -> Refused:
+def _refusal(said: str, texts: Sequence[str]) -> Refused:
     """The refusal with the line that it names: that of the instance, or of the text beside it."""
-    instance, *beside = texts
     word, number, reason = said.split()
-    source = line_of(instance if word == "refused" else beside[0], int(number))
-    lines = content(instance)
+    source = line_of(texts[0 if word in ("refused", "left") else 1], int(number))
+    # the right one of two instances has a ground of its own
+    lines = content(texts[1 if word == "right" else 0])
     names: FrozenSet[str] = frozenset(lines[1].split()[1:]) if len(lines) > 1 else frozenset()
     return Refused(said, source, blamed(reason, source, names))
 

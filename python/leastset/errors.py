@@ -21,8 +21,9 @@ class Verdict(Error, ValueError):
 class Refused(Verdict):
     """A text has a fault.
 
-    `word` says which one: `refused` for the instance, `sizes` or `pins` for the text beside it. `source` is the line itself, and
-    `token` what is wrong in it, as far as the line alone tells; else None. docs/FORMATS.md lists the reasons.
+    `word` says which one: `refused` for the instance, `sizes` or `pins` for the text beside it, `left` or `right` for one of two
+    instances. `source` is the line itself, and `token` what is wrong in it, as far as the line alone tells; else None.
+    docs/FORMATS.md lists the reasons.
 
     >>> import leastset
     >>> towns = leastset.Instance(["ash", "birch"])

@@ -27,11 +27,15 @@ class Test(unittest.TestCase):
         leastset.use(None)
 
 
-def random_instance(rng):
-    """A random instance of at most 7 elements of several types, with all kinds of terms."""
+def random_ground(rng):
+    """At most 7 elements of several types."""
     kinds = [lambda i: f"x{i}", lambda i: i, lambda i: ("r", i), lambda i: frozenset([i]), lambda i: f"{i}, ü"]
-    made = leastset.Instance(rng.choice(kinds)(i) for i in range(rng.randint(1, 7)))
-    ground = list(made.ground)
+    return [rng.choice(kinds)(i) for i in range(rng.randint(1, 7))]
+
+
+def random_instance(rng, ground, conditions=True):
+    """A random instance over these elements, with all kinds of terms, or with all but conditions."""
+    made = leastset.Instance(ground)
 
     def some(least=1):
         return rng.sample(ground, rng.randint(min(least, len(ground)), len(ground)))
@@ -46,7 +50,10 @@ def random_instance(rng):
             made.weight({element: rng.randint(-9, 9) for element in members})
         elif kind in (2, 3, 4) and len(ground) > 1:
             pair = rng.sample(ground, 2)
-            made.need(*pair) if kind == 2 else (made.cut if kind == 3 else made.border)(number, *pair)
+            if kind > 2:
+                (made.cut if kind == 3 else made.border)(number, *pair)
+            elif conditions:
+                made.need(*pair)
         elif kind == 5:
             made.cover(number, members)
         elif kind == 6:

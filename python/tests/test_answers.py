@@ -3,7 +3,7 @@ import random
 import tempfile
 from fractions import Fraction
 
-from common import ENGINES, Test, every_set, random_instance
+from common import ENGINES, Test, every_set, random_ground, random_instance
 import leastset
 
 
@@ -12,15 +12,25 @@ def of(instance, chosen):
     return frozenset(element for place, element in enumerate(instance.ground) if every_set.has(chosen, place))
 
 
+def values_of(instance):
+    """What each set is worth; None where it is not allowed."""
+    with tempfile.NamedTemporaryFile("w", suffix=".sfm") as file:
+        file.write(instance.text())
+        file.flush()
+        return every_set.read_instance(file.name)[1]
+
+
+def sums_of(bases, instance):
+    """What the bases of terms add up to at each element."""
+    return {element: sum(base.get(element, 0) for base in bases) for element in instance.ground}
+
+
 class Answers(Test):
     def test_answers_are_as_found_by_every_set(self):
         rng = random.Random(2)
         for _ in range(60):
-            made = random_instance(rng)
-            with tempfile.NamedTemporaryFile("w", suffix=".sfm") as file:
-                file.write(made.text())
-                file.flush()
-                _, values = every_set.read_instance(file.name)
+            made = random_instance(rng, random_ground(rng))
+            values = values_of(made)
             sizes = {element: rng.randint(1, 5) for element in made.ground}
             for engine in ENGINES:
                 leastset.use(engine)
@@ -63,6 +73,43 @@ class Answers(Test):
         else:
             least, best = every_set.least_of(worths)
             self.assertEqual(asked, (least, of(made, every_set.all_of(best)), of(made, every_set.any_of(best))))
+
+    def test_common_vectors_are_as_found_by_every_set(self):
+        rng = random.Random(4)
+        for _ in range(60):
+            ground = random_ground(rng)
+            left, right = (random_instance(rng, ground, conditions=False) for _ in range(2))
+            for engine in ENGINES:
+                leastset.use(engine)
+                for texts in ((left, right), (left.text(), right), (left, right.text())):
+                    self.compare_common(left, right, leastset.meet(*texts))
+                self.assertEqual(set(leastset.meet(left.text(), right.text()).common), set(left.names.values()))
+
+    def compare_common(self, left, right, told):
+        values, others = values_of(left), values_of(right)
+        least, best = every_set.least_of([value + others[-1 - chosen] for chosen, value in enumerate(values)])
+        self.assertEqual((told.total, told.members), (least, of(left, every_set.all_of(best))))
+        for chosen, pair in enumerate(zip(values, others)):
+            self.assertLessEqual(sum(told.common[element] for element in of(left, chosen)), min(pair))
+        self.assertEqual(sum(told.common.values()), told.total)
+        self.assertEqual((len(told.left), len(told.right)), (len(left.lines), len(right.lines)))
+        sums, other_sums = sums_of(told.left, left), sums_of(told.right, right)
+        self.assertEqual(told.common, {element: min(sums[element], other_sums[element]) for element in left.ground})
+
+    def test_a_wrong_common_vector_is_invalid(self):
+        left, right = leastset.Instance("ab"), leastset.Instance("ab")
+        left.cover(5, "ab")
+        right.weight({"a": 3, "b": 1})
+        text = leastset.meet(left, right).text
+        for engine in ENGINES:
+            leastset.use(engine)
+            leastset.met(left, right, text)
+            for line, reason in ((2, "answer"), (4, "unproved"), (7, "grammar")):
+                lines = text.splitlines(keepends=True)
+                lines[line - 1] = {2: "value 5\n", 4: "common 3 2\n", 7: "end"}[line]
+                with self.assertRaises(leastset.Invalid) as caught:
+                    leastset.met(left, right, "".join(lines))
+                self.assertEqual((caught.exception.line, caught.exception.reason), (line, reason))
 
     def test_a_wrong_answer_is_invalid(self):
         made = leastset.Instance("ab")

@@ -23,11 +23,15 @@ def cases():
         for name in sorted(file for part in folders for file in glob.glob(f"{part}/*.sfm")):
             text, beside = Path(name).read_bytes(), Path(name).with_suffix(".sizes")
             sizes = beside.read_bytes() if beside.exists() else sizes
+            rights = [Path(name).with_suffix(ending) for ending in (".right.sfm", ".right")]
+            right = next((file.read_bytes() for file in rights if file.exists()), text)
             yield "solve", text
             yield "weigh", text, sizes
             yield "check", text, PROGRAM.call("solve", text)[1]
             yield "weighed", text, sizes, PROGRAM.call("weigh", text, sizes)[1].replace(b"1", b"2", 1)
             yield "ask", text, b"pins 1\nend\n"
+            yield "meet", text, right
+            yield "met", text, right, PROGRAM.call("meet", text, right)[1].replace(b"value 1", b"value 2", 1)
 
 
 def slow():

@@ -42,6 +42,14 @@ REFUSALS = [
     ("concave 1 3 : a b", "law", None),
     ("cut 1 a", "shape", None),
 ]
+# A left and a right text that meet refuses: the lines behind the ground, the line that is written, and the token.
+NOT_MET = [
+    ("ground a b", "ground b a", "right 2 ground", None),
+    ("ground a b\nneed a b", "ground a b\nneed b a", "left 3 need", None),
+    ("ground a b", "ground a b\n\nneed b a", "right 4 need", None),
+    ("ground a b\ncover 1 c", "ground b a", "left 3 name", "c"),
+    ("ground a b", "ground a c\ncover 1 a b", "right 3 name", "b"),
+]
 
 
 class Faults(Test):
@@ -65,6 +73,14 @@ class Faults(Test):
         with self.assertRaises(leastset.Refused) as caught:
             leastset.weigh("sfm 1\nground a b\nend\n", {"a": 0})
         self.assertEqual((caught.exception.word, caught.exception.line, caught.exception.token), ("sizes", 2, "0"))
+
+    def test_two_instances_that_do_not_go_together(self):
+        for left, right, said, token in NOT_MET:
+            with self.assertRaises(leastset.Refused) as caught:
+                leastset.meet(f"sfm 1\n{left}\nend\n", f"sfm 1\n{right}\nend\n")
+            self.assertEqual((caught.exception.said, caught.exception.token), (said, token))
+        with self.assertRaises(ValueError):
+            leastset.meet(leastset.Instance([7]), leastset.Instance(["7"]))
 
     def test_names_are_legal_and_all_different(self):
         for things in permutations(["a b", "a_b", ("a", "b"), "e0", "e1", "", 1.5, "x" * 40], 4):
