@@ -18,9 +18,7 @@ element e = done (codes " e" ++ decimal e)
 
 -- a drawn number below k
 abbrev pub number : ℕ → Drawing (List ℕ)
-number k = do
-  n ← draw k
-  done (decimal n)
+number k = draw k >>= λ n. done (decimal n)
 
 -- two different drawn numbers below k, each behind a text
 abbrev pub two : ℕ → String → String → Drawing (List ℕ)
@@ -40,15 +38,11 @@ each text p step count = series count (λ j. text ((p + step * j) % 200))
 
 -- the same from a drawn element on
 abbrev pub some : (ℕ → Drawing (List ℕ)) → ℕ → ℕ → Drawing (List ℕ)
-some text step count = do
-  p ← draw 200
-  each text p step count
+some text step count = draw 200 >>= λ p. each text p step count
 
 -- an element and its weight, from -1000 to 1000
 unfoldable pub pair : ℕ → Drawing (List ℕ)
-pair e = do
-  w ← draw 2001
-  element e >> say ":" >> done (signed_decimal (pos w -ℤ pos 1000))
+pair e = element e >> say ":" >> (draw 2001 >>= λ w. done (signed_decimal (pos w -ℤ pos 1000)))
 
 -- an element and two of six vertices
 unfoldable pub edge : ℕ → Drawing (List ℕ)
@@ -67,9 +61,7 @@ falling (suc n) a d = do
 
 -- a number from -200 to 200
 unfoldable pub level : Drawing ℤ
-level = do
-  n ← draw 401
-  done (pos n -ℤ pos 200)
+level = draw 401 >>= λ n. done (pos n -ℤ pos 200)
 
 -- the values of the sets of three elements, by their numbers: what the members bring, and t where there are any
 unfoldable pub set_values : ℤ → ℤ → ℤ → ℤ → List ℤ
@@ -85,10 +77,7 @@ line_of Concave = do
   d ← draw 600
   say "concave " >> done (decimal d) >> falling 7 (pos d) (pos d)
   say " :" >> each element p 11 8
-line_of Uniform = do
-  say "rank " >> number 500
-  c ← draw 9
-  say " uniform " >> done (decimal (1 + c)) >> say " :" >> some element 3 10
+line_of Uniform = say "rank " >> number 500 >> say " uniform " >> (draw 9 >>= λ c. done (decimal (1 + c))) >> say " :" >> some element 3 10
 line_of Laminar = do
   say "rank " >> number 500
   c ← draw 2
