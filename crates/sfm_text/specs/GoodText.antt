@@ -1,17 +1,19 @@
 -- Which texts are good instance texts and the instance that each stands for, and the first fault of a text that is not good.
-use Rattle.std.specs.Prelude.{◌≡◌, ℕ, List}
+use Rattle.std.specs.Prelude.{◌≡◌, ℕ, List, [], map}
+use Rattle.std.specs.List.{FoldsTo}
 use Rattle.sfm_kind.specs.declared.kind.Kind.{Kind}
 use Rattle.sfm_text.specs.declared.end.TextEnd.{TextEnd}
 use Rattle.sfm_lines.specs.declared.reason.Reason.{Reason}
-use Rattle.sfm_lines.specs.declared.stage.Stage.TheVariants.{Ended}
-use Rattle.sfm_lines.specs.Reading.{State, start, Has, Takes}
+use Rattle.sfm_lines.specs.declared.stage.Stage.TheVariants.{Header, Ended}
+use Rattle.sfm_lines.specs.Lines.{content_of}
+use Rattle.sfm_lines.specs.Reading.{State, Has, Takes}
 pub use Rattle.sfm_text.specs.Language.{text_limit, is_long, is_faulty, is_short}
-use Rattle.sfm_text.specs.Language.{Language, IsFirstOf, IsReadAs, HasFaultyLineIn, EndsEarlyIn, IsFaultIn, IsRefusalIn}
+use Rattle.sfm_text.specs.Language.{Language, IsFirstOf, IsReadAs, HasFaultyLineIn, IsFaultIn, IsRefusalIn}
 
--- how an instance text is read: up to the line `end`
+-- how an instance text is read: up to the line `end`; before the first content line the header is due
 abbrev pub instance_language : Language State
 instance_language = record {
-  start = start;
+  start = record { stage = Header; names = []; terms = [] };
   Takes = Takes;
   IsFirst = λ s line reason. IsFirstOf (Has s line) reason;
   IsEnd = λ s. s.stage ≡ Ended;
@@ -27,7 +29,9 @@ HasFaultyLine text number reason = HasFaultyLineIn instance_language text number
 
 -- all content lines are good, and do not come to the end
 abbrev pub EndsEarly : List ℕ → Type 0
-EndsEarly text = EndsEarlyIn instance_language text
+EndsEarly text = (state : State)
+    × FoldsTo instance_language.Takes instance_language.start (map (λ line. line.1) (content_of text)) state
+    × (instance_language.IsEnd state → ⊥)
 
 -- the first fault of a text: at line 0 that it is too long, or else at a line the first reason that it has there, or
 -- behind the last line that it ends too early

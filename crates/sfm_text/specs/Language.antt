@@ -42,21 +42,16 @@ pub record HasFaultyLineIn {S : Type 0} (L : Language S) (text : List ℕ) (numb
   pub good : FoldsTo L.Takes L.start (map (λ line. line.1) before) state
   pub fault : L.IsFirst state line reason
 
--- all content lines are good, and do not come to the end
-abbrev pub EndsEarlyIn : {S : Type 0} → Language S → List ℕ → Type 0
-EndsEarlyIn {S} L text = (state : S)
-    × FoldsTo L.Takes L.start (map (λ line. line.1) (content_of text)) state
-    × (L.IsEnd state → ⊥)
-
 -- the first fault of a text: at line 0 that it is too long, or else at a line the first reason that it has there, or
--- behind the last line that it ends too early
+-- behind the last line, where all are good and do not come to the end, that it ends too early
 pub data IsFaultIn {S : Type 0} (L : Language S) (text : List ℕ) (number : ℕ) (reason : Reason)
     : Type 0 where
   is_long : number ≡ 0 → reason ≡ Long → text_limit < length text → IsFaultIn L text number reason
   is_faulty : length text ≤ text_limit → HasFaultyLineIn L text number reason
       → IsFaultIn L text number reason
   is_short : number ≡ length (lines_of text) + 1 → reason ≡ Short → length text ≤ text_limit
-      → EndsEarlyIn L text → IsFaultIn L text number reason
+      → ((state : S) × FoldsTo L.Takes L.start (map (λ line. line.1) (content_of text)) state × (L.IsEnd state → ⊥))
+      → IsFaultIn L text number reason
 
 -- a refusal names the first fault; out of memory says nothing
 abbrev pub IsRefusalIn : {S : Type 0} → Language S → List ℕ → TextEnd → Type 0
