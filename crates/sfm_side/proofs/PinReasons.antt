@@ -18,8 +18,8 @@ use Rattle.sfm_text.proofs.Orders.{first_listed}
 use Rattle.sfm_side.specs.declared.pins.Pin.{Pin}
 use Rattle.sfm_side.specs.declared.pins.Pin.TheVariants.{In, Out}
 use Rattle.sfm_side.specs.Frame.{IsFramed, IsSaid}
-use Rattle.sfm_side.specs.Pins.{PinData, HasNames, IsPinLine, IsWithNames, IsGiven, HasPin, pins_form}
-use Rattle.sfm_side.specs.PinLines.{pin_word, to_of, other_of, AreOver, PutsNames, PutsAgain, PutsPins, AreNamesGood}
+use Rattle.sfm_side.specs.Pins.{PinData, HasNames, IsPinLine, IsWithNames, HasPin, pins_form}
+use Rattle.sfm_side.specs.PinLines.{pin_word, to_of, other_of, AreOver, PutsNames, PutsAgain, PutsPins, AreNamesGood, IsPinnedBefore}
 use Rattle.sfm_side.proofs.Pinning.{puts-set, puts-fresh, puts-single, again-parts}
 
 -- a form of pins tells nothing that the frame tells, and of the end no more than that it is no line of pins
@@ -137,7 +137,7 @@ module _ (names : List (List ℕ)) (p : PinData) (pin : Pin) (texts : List (List
           at : (pin' : Pin) → StandsTwice texts ⊎ Any (λ text.
               (e : ℕ) × (slice_get names e ≡ Some text) × (Has
               (to_of pin' p) e ⊎ Has (other_of pin' p) e)) texts
-              → StandsTwice texts ⊎ Any (IsGiven names p) texts
+              → StandsTwice texts ⊎ Any (IsPinnedBefore names p) texts
           at pin' (inl twice) = inl twice
           at In (inr any) = inr any
           at Out (inr (k, text, lt, here, (e, of, inl h))) = inr (k, text, lt, here, (e, of, inr h))
@@ -148,14 +148,14 @@ module _ (names : List (List ℕ)) (p : PinData) (pin : Pin) (texts : List (List
         no-twice : HasPin names p (pin_word pin ∷ texts) Twice → ⊥
         no-twice (others, line, why) = at (one-texts pin others line) why
           where
-            among : (pin' : Pin) → Any (IsGiven names p) texts → Any (λ text.
+            among : (pin' : Pin) → Any (IsPinnedBefore names p) texts → Any (λ text.
                 (e : ℕ) × (slice_get names e ≡ Some text) × (Has
                 (to_of pin' p) e ⊎ Has (other_of pin' p) e)) texts
             among In any = any
             among Out (k, text, lt, here, (e, of, inl h)) = (k, text, lt, here, (e, of, inr h))
             among Out (k, text, lt, here, (e, of, inr h)) = (k, text, lt, here, (e, of, inl h))
 
-            at : others ≡ texts → StandsTwice others ⊎ Any (IsGiven names p) others → ⊥
+            at : others ≡ texts → StandsTwice others ⊎ Any (IsPinnedBefore names p) others → ⊥
             at same (inl twice) = puts-single names named.distinct (other_of pin p) (to_of pin p) texts after sized puts (rw same at twice)
             at same (inr any) = puts-fresh names named.distinct (other_of pin p) (to_of pin p) texts after sized puts (among pin (rw same at any))
 

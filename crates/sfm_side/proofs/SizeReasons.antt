@@ -24,10 +24,14 @@ use Rattle.sfm_text.specs.Language.{IsFirstOf}
 use Rattle.sfm_text.proofs.Orders.{first_listed}
 use Rattle.sfm_side.specs.declared.passes.TokenTest.TheVariants.{Pair, PairSize, PairElement}
 use Rattle.sfm_side.specs.Frame.{IsFramed, IsSaid}
-use Rattle.sfm_side.specs.Sizes.{IsSize, IsSizeLine, HasSizeLine, GivesSizes, HasInSizes, sizes_of, sizes_form}
+use Rattle.sfm_side.specs.Sizes.{IsSize, HasSizeLine, GivesSizes, HasInSizes, sizes_of, sizes_form}
 use Rattle.sfm_side.specs.Passes.{Passes}
 use Rattle.sfm_side.specs.SizeLines.{Puts, PutsTwice, ArePairsGood}
 use Rattle.sfm_side.proofs.Putting.{names_in, numbers_in, puts-parts, puts-new, puts-once, twice-parts}
+
+-- the line is `size`, and pairs with these parts
+abbrev IsSizeLine : List (List ℕ) → LineParts → Type 0
+IsSizeLine tokens parts = (rest : List (List ℕ)) × (tokens ≡ codes "size" ∷ rest) × IsWeightLine rest parts
 
 -- a form of sizes tells nothing that the frame tells, and of the end no more than that it is no size line
 pub sizes-framed : (names : List (List ℕ)) → IsFramed (sizes_form names)

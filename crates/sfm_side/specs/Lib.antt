@@ -1,4 +1,3 @@
-pub mod Numbers
 pub mod Side
 pub mod Frame
 pub mod Sizes

@@ -20,6 +20,11 @@ pub record AreOver (n : ℕ) (pins : PinData) : Type 0 where
   pub inside : length pins.inside ≡ n
   pub outside : length pins.outside ≡ n
 
+-- the element of that name is pinned already
+abbrev pub IsPinnedBefore : List (List ℕ) → PinData → List ℕ → Type 0
+IsPinnedBefore names p text =
+    (e : ℕ) × (slice_get names e ≡ Some text) × (Has p.inside e ⊎ Has p.outside e)
+
 -- the word of a line
 abbrev pub pin_word : Pin → List ℕ
 pin_word In = codes "in"

@@ -27,20 +27,15 @@ pub record IsWithNames (names texts : List (List ℕ)) (s t : List Bool) : Type 
   pub exact : (e : ℕ) → Has t e ↔ (Has s e ⊎ ((text : List ℕ) × (slice_get names e ≡ Some text)
       × Contains texts text))
 
--- the element of that name is pinned already
-abbrev pub IsGiven : List (List ℕ) → PinData → List ℕ → Type 0
-IsGiven names p text =
-    (e : ℕ) × (slice_get names e ≡ Some text) × (Has p.inside e ⊎ Has p.outside e)
-
--- the reasons of a line
+-- the reasons of a line. Twice: an element stands twice in it, or is pinned already
 abbrev pub HasPin : List (List ℕ) → PinData → List (List ℕ) → Reason → Type 0
 HasPin names p tokens Word =
     (rest : List (List ℕ)) → (tokens ≢ codes "in" ∷ rest) × (tokens ≢ codes "out" ∷ rest)
 HasPin names p tokens Shape = (texts : List (List ℕ)) → IsPinLine tokens texts → ⊥
 HasPin names p tokens Name = (texts : List (List ℕ)) × IsPinLine tokens texts
     × Any (λ text. IsName text → Contains names text → ⊥) texts
-HasPin names p tokens Twice = (texts : List (List ℕ)) × IsPinLine tokens texts
-    × (StandsTwice texts ⊎ Any (IsGiven names p) texts)
+HasPin names p tokens Twice = (texts : List (List ℕ)) × IsPinLine tokens texts × (StandsTwice texts
+    ⊎ Any (λ text. (e : ℕ) × (slice_get names e ≡ Some text) × (Has p.inside e ⊎ Has p.outside e)) texts)
 HasPin names p tokens reason = ⊥
 
 -- what a good line says

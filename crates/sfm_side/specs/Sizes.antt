@@ -1,31 +1,27 @@
 -- The text of sizes: how much each element of a ground counts.
-use Rattle.std.specs.Prelude.{◌≡◌, ◌≢◌, ◌⊎◌, ℕ, ◌^◌, List, ◌∷◌, length, map, fold, set, zip, replicate, slice_get, codes, Any, Contains, Option, Some, None, unwrap_or, ℤ, pos, ◌<ℤ◌}
+use Rattle.std.specs.Prelude.{◌≡◌, ◌≢◌, ◌⊎◌, ℕ, ◌^◌, List, ◌∷◌, length, map, fold, set, zip, replicate, slice_get, codes, Any, Contains, Option, Some, None, unwrap_or, ℤ, pos, ◌≤ℤ◌, ◌<ℤ◌}
 use Rattle.std.specs.List.{AllZip}
 use Rattle.sfm_spec.specs.Bounds.{total_of}
 use Rattle.sfm_spec.specs.Names.{IsName}
+use Rattle.sfm_base.specs.NumberText.{IsNumber}
 use Rattle.sfm_lines.specs.declared.reason.Reason.{Reason}
 use Rattle.sfm_lines.specs.declared.reason.Reason.TheVariants.{Word, Shape, Number, Name, Twice, Total}
 use Rattle.sfm_lines.specs.Parts.{LineParts, IsWeightLine}
 use Rattle.sfm_lines.specs.TermLines.{StandsTwice}
-use Rattle.sfm_side.specs.Numbers.{IsNumberIn}
 use Rattle.sfm_side.specs.Side.{SideForm}
 
 -- an element that is not named has the size 1
 abbrev pub sizes_of : List (Option ℤ) → List ℤ
 sizes_of given = map (λ size. unwrap_or size (pos 1)) given
 
--- the line is `size`, and pairs with these parts: names of elements, and numbers
-abbrev pub IsSizeLine : List (List ℕ) → LineParts → Type 0
-IsSizeLine tokens parts =
-    (rest : List (List ℕ)) × (tokens ≡ codes "size" ∷ rest) × IsWeightLine rest parts
-
--- a size line of whose parts something holds
+-- the line is `size`, and pairs of names and numbers, of whose parts something holds
 abbrev pub HasSizeLine : List (List ℕ) → (LineParts → Type 0) → Type 0
-HasSizeLine tokens P = (parts : LineParts) × IsSizeLine tokens parts × P parts
+HasSizeLine tokens P = (parts : LineParts)
+    × ((rest : List (List ℕ)) × (tokens ≡ codes "size" ∷ rest) × IsWeightLine rest parts) × P parts
 
--- a size that may be written
+-- a size that may be written: the text of a number from 1 to 1,000,000
 abbrev pub IsSize : List ℕ → ℤ → Type 0
-IsSize text value = IsNumberIn (pos 1) (pos (10 ^ 6)) text value
+IsSize text value = IsNumber text value × (pos 1 ≤ℤ value) × (value ≤ℤ pos (10 ^ 6))
 
 -- the sizes that are known behind a size line: each number is that of its element
 abbrev pub GivesSizes : List (List ℕ) → List (Option ℤ) → LineParts → List (Option ℤ) → Type 0
