@@ -23,7 +23,8 @@ use Rattle.sfm_text.specs.OneTerm.{AreOneTerm}
 use Rattle.sfm_text.proofs.Alike.{Alike}
 use Rattle.sfm_text.proofs.SameTerms.{stands-same}
 use Rattle.sfm_text.proofs.TooMuch.{much-by-total, total-by-much}
-use Rattle.sfm_edit.specs.Edits.{Editing, without_line, HasAdded, HasEdit, Drops, AddsLine, Edits}
+use Rattle.sfm_edit.specs.Edits.{Editing, without_line, HasAdded, HasEdit, Drops, AddsLine}
+use Rattle.sfm_edit.specs.EditLines.{Edits}
 use Rattle.sfm_edit.proofs.Reasons.{same-rest, drop-no-add, end-no-drop, end-no-add}
 
 -- the same names, terms that are one by one the same, and the same places of the kept ones

@@ -8,8 +8,9 @@ use Rattle.std.proofs.lemmas.List.Edits.{length-remove}
 use Rattle.std.proofs.lemmas.List.FromFn.{length-map-range_with_len, get_or-map-range_with_len}
 use Rattle.sfm_lines.specs.Reading.{State}
 use Rattle.sfm_kind.specs.declared.kind.Kind.{Kind}
-use Rattle.sfm_edit.specs.Edits.{Editing, all_kept, Edits}
-use Rattle.sfm_edit.specs.Origins.{AreOrigins}
+use Rattle.sfm_edit.specs.EditLines.{Edits}
+use Rattle.sfm_edit.specs.Edits.{Editing}
+use Rattle.sfm_edit.specs.Origins.{AreOrigins, all_kept}
 
 -- ---- before the first edit
 

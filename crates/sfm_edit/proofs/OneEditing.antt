@@ -10,7 +10,8 @@ use Rattle.sfm_text.specs.Language.{Language, IsReadAs, IsFaultIn}
 use Rattle.sfm_text.proofs.Orders.{first_once}
 use Rattle.sfm_text.proofs.Readings.{IsKept, readings-alike, good-or-faulty, faults-once}
 use Rattle.sfm_side.specs.Side.{SideState, header, lines, ended, HasSide, AddsSide, side_language}
-use Rattle.sfm_edit.specs.Edits.{Editing, unedited, edits_form}
+use Rattle.sfm_edit.specs.Edits.{Editing, edits_form}
+use Rattle.sfm_edit.specs.EditLines.{unedited}
 use Rattle.sfm_edit.proofs.Alike.{AreAlike, alike-itself, has-alike, edits-alike, end-no-edit}
 
 -- two states of the reading of a text of edits that differ only in how terms are kept

@@ -19,14 +19,6 @@ pub record Editing : Type 0 where
   pub instance : InstanceData
   pub kept : List (Option ℕ)
 
--- n terms that are at their old places
-abbrev pub all_kept : ℕ → List (Option ℕ)
-all_kept n = map (λ i. Some i) (range_with_len 0 n)
-
--- before the first edit
-abbrev pub unedited : InstanceData → Editing
-unedited instance = record { instance = instance; kept = all_kept (length instance.terms) }
-
 -- without term line i, counted from 0: its term is gone, and those behind it close up
 abbrev pub without_line : Editing → ℕ → Editing
 without_line e i = record {
@@ -70,15 +62,11 @@ AddsLine e tokens f = (rest : List (List ℕ)) × (tokens ≡ codes "add" ∷ re
     × AddsTerm (state_at Terms e.instance) rest (state_at Terms f.instance)
     × (f.kept ≡ e.kept ++ None ∷ [])
 
--- what a good line leads to
-abbrev pub Edits : Editing → List (List ℕ) → Editing → Type 0
-Edits e tokens f = Drops e tokens f ⊎ AddsLine e tokens f
-
--- the texts of edits of an instance
+-- the texts of edits of an instance, all of whose terms are at their old places before the first edit
 abbrev pub edits_form : InstanceData → SideForm Editing
 edits_form instance = record {
   word = codes "edits";
-  nothing = unedited instance;
+  nothing = record { instance = instance; kept = map (λ i. Some i) (range_with_len 0 (length instance.terms)) };
   HasIn = HasEdit;
-  Says = Edits;
+  Says = λ e tokens f. Drops e tokens f ⊎ AddsLine e tokens f;
 }

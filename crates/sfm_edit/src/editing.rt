@@ -6,7 +6,7 @@ ghost use Rattle.sfm_base.specs.NumberText.{IsNumber};
 ghost use Rattle.sfm_lines.specs.{Lines.{tokens_of}, Reading.{IsBadByte}};
 ghost use Rattle.sfm_text.specs.{Language.{text_limit, IsReadAs, IsRefusalIn}};
 ghost use Rattle.sfm_side.specs.Side.{side_language, ended};
-ghost use Rattle.sfm_edit.specs.{Edits.{edits_form, unedited, IsDrop, IsLineNumber}, EditLines.{editing_of, IsEdited, IsEditRefusal}, Origins.{AreOrigins}};
+ghost use Rattle.sfm_edit.specs.{Edits.{edits_form, IsDrop, IsLineNumber}, EditLines.{editing_of, IsEdited, IsEditRefusal, unedited}, Origins.{AreOrigins}};
 
 use crate::origins::Origins;
 use sfm_base::read_number;

@@ -1,7 +1,7 @@
 // Where the terms of an edited instance come from. As terms are added behind the others, and those behind one that is taken
 // out close up, the old ones stand first, in their old order.
 ghost use Rattle.std.specs.{Prelude.{◌≡◌, ◌<◌, [], ◌∷◌, ◌++◌, length, slice_index_or, is_ok, if◌then◌else◌, None, IfOk}, List.{remove}};
-ghost use Rattle.sfm_edit.specs.Edits.{all_kept};
+ghost use Rattle.sfm_edit.specs.Origins.{all_kept};
 
 use sfm_base::Memory;
 use std::alloc::Global;
