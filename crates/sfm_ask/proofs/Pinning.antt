@@ -3,7 +3,8 @@
 use Rattle.std.proofs.Common.{◌≡◌, ◌⊎◌, ℕ, Bool, List, length, ℤ, pos, ◌+ℤ◌, ◌-ℤ◌, ◌<ℤ◌, inl, inr, ⊎_elim, sym, ◌∙◌, arith}
 use Rattle.std.proofs.lemmas.Int.{ints}
 use Rattle.sfm_spec.specs.Families.{Meaning, IsAllowed, IsMinimiser, IsLeast, IsGreatest, shifted_at, sum_at}
-use Rattle.sfm_ask.specs.Pinned.{IsPinned, IsPinnedMinimiser, IsPinnedMinimum}
+use Rattle.sfm_ask.specs.Pinned.{IsPinned}
+use Rattle.sfm_ask.specs.Asking.{IsPinnedMinimiser, IsPinnedMinimum}
 use Rattle.sfm_ask.specs.Shifts.{shift_of_pins}
 use Rattle.sfm_ask.proofs.Penalties.{Keeps, broken, keeps-free, keeps-or-pays, promised, shift-is}
 

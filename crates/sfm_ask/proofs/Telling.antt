@@ -8,7 +8,8 @@ use Rattle.sfm_kind.specs.Kinds.{kind_places, kind_value}
 use Rattle.sfm_kind.specs.Instance.{InstanceData}
 use Rattle.sfm_kind.specs.Limits.{AreInBounds}
 use Rattle.sfm_extreme.specs.declared.extremes.Proved.{Proved}
-use Rattle.sfm_ask.specs.Pinned.{IsPinned, IsPinnedMinimum}
+use Rattle.sfm_ask.specs.Pinned.{IsPinned}
+use Rattle.sfm_ask.specs.Asking.{IsPinnedMinimum}
 use Rattle.sfm_ask.specs.Shifts.{shift_of_pins}
 use Rattle.sfm_ask.specs.Asking.{IsFoundAt, penalty_of}
 use Rattle.sfm_ask.proofs.Penalties.{Keeps, promised-is}

@@ -1,8 +1,9 @@
 -- What is told of pinned members, as the calls give it, and how it is written.
-use Rattle.std.specs.Prelude.{◌≡◌, ℕ, Bool, List, [], ◌∷◌, ◌++◌, length, codes, ℤ, pos, ◌+ℤ◌, ◌*ℤ◌}
+use Rattle.std.specs.Prelude.{◌≡◌, ℕ, Bool, List, [], ◌∷◌, ◌++◌, length, codes, ℤ, pos, ◌+ℤ◌, ◌*ℤ◌, ◌≤ℤ◌}
 use Rattle.std.specs.Fmt.{signed_decimal}
 use Rattle.sfm_spec.specs.Bounds.{IsEntry}
-use Rattle.sfm_spec.specs.Families.{Meaning, IsLeast, IsGreatest, meanings, shifted_at}
+use Rattle.sfm_spec.specs.Sets.{IsWithin}
+use Rattle.sfm_spec.specs.Families.{Meaning, IsLeast, IsGreatest, meanings, shifted_at, sum_at}
 use Rattle.sfm_kind.specs.Kinds.{kind_places, kind_value}
 use Rattle.sfm_kind.specs.Instance.{InstanceData}
 use Rattle.sfm_kind.specs.Limits.{total_size_of}
@@ -11,7 +12,23 @@ use Rattle.sfm_extreme.specs.declared.extremes.Proved.{Proved}
 use Rattle.sfm_side.specs.Pins.{PinData}
 use Rattle.sfm_ask.specs.declared.asking.Asked.{Asked}
 use Rattle.sfm_ask.specs.declared.asking.Asked.TheVariants.{Best, Nothing}
-use Rattle.sfm_ask.specs.Pinned.{IsPinned, IsPinnedMinimum}
+use Rattle.sfm_ask.specs.Pinned.{IsPinned}
+
+-- a set of which the sum of the terms is least among those that are pinned so
+pub record IsPinnedMinimiser (terms : List Meaning) (n : ℕ) (inside outside s : List Bool) : Type 0
+  where
+    pub pinned : IsPinned terms n inside outside s
+    pub least : (t : List Bool) → IsPinned terms n inside outside t
+        → sum_at terms s ≤ℤ sum_at terms t
+
+-- the least value, with the least and the greatest set that attain it
+pub record IsPinnedMinimum (terms : List Meaning) (n : ℕ) (inside outside : List Bool) (value : ℤ)
+    (least greatest : List Bool) : Type 0 where
+  pub low : IsPinnedMinimiser terms n inside outside least
+  pub high : IsPinnedMinimiser terms n inside outside greatest
+  pub value_is : value ≡ sum_at terms least
+  pub between : (t : List Bool) → IsPinnedMinimiser terms n inside outside t
+      → IsWithin least t × IsWithin t greatest
 
 -- the least value with its extreme sets, or nothing where no set is pinned
 abbrev pub IsAskedOf : List Meaning → ℕ → PinData → Asked → Type 0

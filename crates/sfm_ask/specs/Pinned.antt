@@ -1,5 +1,5 @@
 -- The least value of a sum among the sets that have some elements and lack some others, and the text that tells it.
-use Rattle.std.specs.Prelude.{◌≡◌, ◌⊎◌, ℕ, Bool, List, [], ◌∷◌, ◌++◌, length, codes, ℤ, ◌≤ℤ◌}
+use Rattle.std.specs.Prelude.{◌≡◌, ◌⊎◌, ℕ, Bool, List, [], ◌∷◌, ◌++◌, length, codes, ◌≤ℤ◌}
 use Rattle.std.specs.Fmt.{signed_decimal}
 use Rattle.sfm_spec.specs.Sets.{Has, IsWithin}
 use Rattle.sfm_spec.specs.Families.{Meaning, IsAllowed, sum_at}
@@ -13,20 +13,13 @@ pub record IsPinned (terms : List Meaning) (n : ℕ) (inside outside s : List Bo
   pub has : IsWithin inside s
   pub lacks : (e : ℕ) → Has outside e → Has s e → ⊥
 
--- one of which the sum of the terms is least
-pub record IsPinnedMinimiser (terms : List Meaning) (n : ℕ) (inside outside s : List Bool) : Type 0
-  where
-    pub pinned : IsPinned terms n inside outside s
-    pub least : (t : List Bool) → IsPinned terms n inside outside t
-        → sum_at terms s ≤ℤ sum_at terms t
-
--- the least value, with the least and the greatest set that attain it
-pub record IsPinnedMinimum (terms : List Meaning) (n : ℕ) (inside outside : List Bool) (value : ℤ)
-    (least greatest : List Bool) : Type 0 where
-  pub low : IsPinnedMinimiser terms n inside outside least
-  pub high : IsPinnedMinimiser terms n inside outside greatest
-  pub value_is : value ≡ sum_at terms least
-  pub between : (t : List Bool) → IsPinnedMinimiser terms n inside outside t
+-- the least and the greatest of those sets of which the sum of the terms is least
+pub record ArePinned (terms : List Meaning) (n : ℕ) (inside outside least greatest : List Bool) : Type 0 where
+  pub low : IsPinned terms n inside outside least
+  pub high : IsPinned terms n inside outside greatest
+  pub minimum : (t : List Bool) → IsPinned terms n inside outside t → sum_at terms least ≤ℤ sum_at terms t
+  pub same : sum_at terms greatest ≡ sum_at terms least
+  pub between : (t : List Bool) → IsPinned terms n inside outside t → sum_at terms t ≡ sum_at terms least
       → IsWithin least t × IsWithin t greatest
 
 -- the text on pinned members: the least value with the extreme sets that attain it, or that there is no such set
@@ -34,8 +27,8 @@ abbrev pub IsAnswered : List (List ℕ) → List Meaning → PinData → List �
 IsAnswered names meant pins written =
     (((s : List Bool) → IsPinned meant (length names) pins.inside pins.outside s → ⊥)
     × (written ≡ codes "none\n"))
-    ⊎ ((value : ℤ) × (least : List Bool) × (greatest : List Bool)
-    × IsPinnedMinimum meant (length names) pins.inside pins.outside value least greatest
-    × (written ≡ text_of (codes "pinned 1" ∷ (codes "minimum " ++ signed_decimal value)
+    ⊎ ((least : List Bool) × (greatest : List Bool)
+    × ArePinned meant (length names) pins.inside pins.outside least greatest
+    × (written ≡ text_of (codes "pinned 1" ∷ (codes "minimum " ++ signed_decimal (sum_at meant least))
     ∷ (codes "least" ++ listed names least) ∷ (codes "greatest" ++ listed names greatest)
     ∷ codes "end" ∷ [])))
