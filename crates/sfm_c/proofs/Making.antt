@@ -14,12 +14,12 @@ use Rattle.sfm_text.specs.Language.{Language, IsFaultIn, IsRefusalIn}
 use Rattle.sfm_text.specs.GoodText.{IsFaultOf, IsTextOf, instance_language}
 use Rattle.sfm_due.specs.declared.due.Due.{Due}
 use Rattle.sfm_due.specs.declared.status.Status.TheVariants.{Refused}
-use Rattle.sfm_due.specs.Due.{IsAsked, Question, refusal}
-use Rattle.sfm_due.specs.Level.{IsLevelled, level_limit}
+use Rattle.sfm_due.specs.Due.{IsAsked, Question}
+use Rattle.sfm_due.specs.Level.{level_limit}
 use Rattle.sfm_due.specs.Sums.{PassesAt}
 use Rattle.sfm_due.proofs.Summing.{small-enough, too-large}
 use Rattle.sfm_due.specs.Meanings.{question_of}
-use Rattle.sfm_due.specs.Owing.{IsMade}
+use Rattle.sfm_due.specs.Owing.{IsMade, refusal, IsLevelled}
 use Rattle.sfm_due.specs.Status.{code_of}
 use Rattle.sfm_c.specs.Calls.{Gives, IsDone, IsDueBehind, IsDueForInstance, IsDueToLevel}
 use Rattle.sfm_c.specs.Making.{GoesOut, IsRefusalDue}

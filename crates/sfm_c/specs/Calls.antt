@@ -10,10 +10,12 @@ use Rattle.sfm_side.specs.Sizes.{sizes_form, sizes_of}
 use Rattle.sfm_side.specs.Pins.{PinData, pins_form}
 use Rattle.sfm_edit.specs.Edits.{Editing, edits_form}
 use Rattle.sfm_ask.specs.Pinned.{IsAnswered}
-use Rattle.sfm_due.specs.Level.{IsLevelFault, IsLevelled, IsSmallEnough}
-use Rattle.sfm_due.specs.Due.{IsAsked, IsJudged, IsJudgedBySizes, IsSolved, IsWeighed, NamesFault, Question}
+use Rattle.sfm_due.specs.Level.{IsLevelFault}
+use Rattle.sfm_due.specs.Owing.{IsLevelled, IsSmallEnough, IsJudgedBySizes, IsWeighed}
+use Rattle.sfm_due.specs.Due.{IsAsked, IsJudged, IsSolved, NamesFault, Question}
 use Rattle.sfm_due.specs.Lined.{IsLined, Lined}
-use Rattle.sfm_pair.specs.Pair.{GoTogether, IsMeeting, IsMetJudged, NamesClash}
+use Rattle.sfm_pair.specs.Pair.{GoTogether, IsMeeting, NamesClash}
+use Rattle.sfm_pair.specs.Sides.{IsMetJudged}
 
 -- the text of which this is said stands for something, for which this is due; or its first fault is named behind a word, with code 2
 abbrev pub IsDueBehind : {X : Type 0} → (X → Type 0) → List ℕ → (ℕ → Reason → Type 0)

@@ -6,7 +6,7 @@ use Rattle.sfm_text.specs.declared.end.TextEnd.{TextEnd}
 use Rattle.sfm_text.specs.declared.end.TextEnd.TheVariants as ends
 use Rattle.sfm_due.specs.declared.due.Due.{Due}
 use Rattle.sfm_due.specs.declared.status.Status.TheVariants.{Refused}
-use Rattle.sfm_due.specs.Due.{refusal}
+use Rattle.sfm_due.specs.Owing.{refusal}
 use Rattle.sfm_due.specs.Status.{code_of}
 
 -- the line that refuses a text for its end, with its status

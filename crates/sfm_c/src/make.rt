@@ -3,7 +3,7 @@ ghost use Rattle.std.specs.Prelude.{◌≡◌, ℕ, List, length, codes, IfOk};
 ghost use Rattle.sfm_text.specs.{GoodText.{IsTextOf}, Numbered.{AreNumbersOf}};
 ghost use Rattle.sfm_ask.specs.Pinned.{IsAnswered};
 ghost use Rattle.sfm_sizes.specs.Sizes.{AreElementSizes};
-ghost use Rattle.sfm_due.specs.{Due.{IsJudged, IsJudgedBy, IsJudgedBySizes, IsSolved, IsWeighed}, Level.{IsLevelFault, IsLevelled, IsSmallEnough}, Meanings.{meanings_of, question_of}, Owing.{IsMade}};
+ghost use Rattle.sfm_due.specs.{Due.{IsJudged, IsJudgedBy, IsSolved}, Level.{IsLevelFault}, Meanings.{meanings_of, question_of}, Owing.{IsMade, IsJudgedBySizes, IsWeighed, IsLevelled, IsSmallEnough}};
 ghost use Rattle.sfm_cert.specs.Header.{header_text};
 ghost use Rattle.sfm_c.specs.{Calls.{IsDone, IsDueForEdits, IsDueForPins, IsDueForSizes, IsDueToAsk, IsDueToCheck, IsDueToCheckWeighed, IsDueToEdit, IsDueToLevel, IsDueToSolve, IsDueToWeigh}, Making.{GoesOut, IsRefusalDue}};
 

@@ -3,7 +3,7 @@
 ghost use Rattle.std.specs.Prelude.{◌≡◌, ℕ, List, length, IfOk};
 ghost use Rattle.sfm_due.specs.{Lined.{IsLined}, Meanings.{question_of}, Owing.{IsMade}};
 ghost use Rattle.sfm_meet.specs.Meetable.{AreMeetable};
-ghost use Rattle.sfm_pair.specs.{Pair.{IsMeeting, IsMetJudged}, Sides.{lined_of}};
+ghost use Rattle.sfm_pair.specs.{Pair.{IsMeeting}, Sides.{IsMetJudged, lined_of}};
 ghost use Rattle.sfm_c.specs.Calls.{IsDone, IsDueForRight, IsDueToMeet, IsDueToMet};
 
 use crate::make::due_for_end;

@@ -6,7 +6,8 @@ use Rattle.sfm_spec.specs.Blocks.{Block}
 use mir.Syntax.{w128}
 use Rattle.std.specs.Fmt.{decimal, signed_decimal}
 use Rattle.std.proofs.lemmas.List.{take_more, append-nil, get_or-map}
-use Rattle.sfm_cert.specs.Answer.{Break, listed, block_line, slope_line, row_line, row_lines, section_lines, text_of}
+use Rattle.sfm_cert.specs.Answer.{Break, listed, block_line, slope_line, row_lines, section_lines, text_of}
+use Rattle.sfm_cert.specs.Lines.{row_line}
 use Rattle.sfm_cert.specs.LineLists.{counted, numbered, block_lines, slope_lines, break_lines}
 
 -- ---- lines one behind another

@@ -5,9 +5,9 @@ use Rattle.std.specs.List.{All}
 use Rattle.std.specs.Fmt.{decimal, signed_decimal}
 use Rattle.sfm_spec.specs.Names.{IsName}
 use Rattle.sfm_cert.specs.Answer.{Answer, Form, listed, slope_text, text_of, answer_lines}
-use Rattle.sfm_cert.specs.LineLists.{counted}
+use Rattle.sfm_cert.specs.LineLists.{counted, IsBadLine}
 use Rattle.sfm_cert.specs.Form.{IsFormed}
-use Rattle.sfm_cert.specs.Grammar.{IsLine, IsBadLine}
+use Rattle.sfm_cert.specs.Grammar.{IsLine}
 use Rattle.sfm_cert.specs.Header.{header_text}
 use Rattle.sfm_cert.specs.declared.header.Header.{Header}
 use Rattle.sfm_cert.specs.declared.header.Header.TheVariants.{Answer as AnswerHeader, Weighed}

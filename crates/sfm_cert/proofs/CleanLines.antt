@@ -10,7 +10,8 @@ use mathlib.Core.Bool.{true≢false}
 use lib.Dec.{eqb}
 use mathlib.Core.Logic.{⊎_elim}
 use Rattle.sfm_spec.specs.Names.{IsName, IsNameByte}
-use Rattle.sfm_cert.specs.Answer.{listed, slope_text, row_line, text_of, at_line}
+use Rattle.sfm_cert.specs.Answer.{listed, slope_text, text_of, at_line}
+use Rattle.sfm_cert.specs.Lines.{row_line}
 use Rattle.sfm_cert.specs.LineLists.{counted, numbered}
 use Rattle.sfm_cert.specs.Grammar.{IsLine}
 use Rattle.sfm_cert.proofs.Tokens.{same_front}

@@ -6,10 +6,10 @@ use Rattle.std.specs.Fmt.{decimal, signed_decimal}
 use Rattle.std.proofs.lemmas.List.{append-nil, append_cancel_left}
 use Rattle.sfm_spec.specs.Sets.{Has}
 use Rattle.sfm_spec.specs.Blocks.{Block}
-use Rattle.sfm_cert.specs.Answer.{listed, slope_text, block_line, row_line}
+use Rattle.sfm_cert.specs.Answer.{listed, slope_text, block_line}
 use Rattle.sfm_cert.specs.LineLists.{counted, numbered}
 use Rattle.sfm_cert.specs.Lists.{IsStop, IsListCut, AreNeeds}
-use Rattle.sfm_cert.specs.Lines.{IsSetLine, IsBlockLine, Ratio, IsSlopeLine, IsRowLine}
+use Rattle.sfm_cert.specs.Lines.{IsSetLine, IsBlockLine, Ratio, IsSlopeLine, IsRowLine, row_line}
 use Rattle.sfm_cert.proofs.Tokens.{same_front, slope_text-plain, factor_entry}
 use Rattle.sfm_cert.proofs.Names.{listed-stop}
 

@@ -8,9 +8,9 @@ use Rattle.sfm_spec.specs.Bounds.{IsEntry}
 use Rattle.sfm_spec.specs.Blocks.{Block, block_at}
 use Rattle.sfm_kind.specs.Names.{AreElementNames}
 use Rattle.sfm_cert.specs.Answer.{Answer, Break, Form, block_line, slope_line, at_line, answer_lines}
-use Rattle.sfm_cert.specs.LineLists.{block_lines, slope_lines, base_lines, break_lines, base_line}
+use Rattle.sfm_cert.specs.LineLists.{block_lines, slope_lines, base_lines, break_lines, base_line, IsAnswerText}
 use Rattle.sfm_cert.specs.Form.{IsFormedBlock, IsFormedBreak}
-use Rattle.sfm_cert.specs.Grammar.{IsLine, IsAnswerText}
+use Rattle.sfm_cert.specs.Grammar.{IsLine}
 use Rattle.sfm_cert.specs.Lines.{ratio_of}
 use Rattle.sfm_cert.proofs.BadLines.{one_list}
 use Rattle.sfm_cert.proofs.Machine.{regroup}

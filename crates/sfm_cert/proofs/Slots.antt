@@ -7,7 +7,8 @@ use Rattle.std.proofs.lemmas.List.{length-replicate}
 use Rattle.std.proofs.lemmas.List.Elements.{All-nil, All-cons, All-head, All-tail, All-replicate}
 use Rattle.sfm_spec.specs.Bounds.{IsEntry}
 use Rattle.sfm_spec.specs.Names.{IsName}
-use Rattle.sfm_cert.specs.Answer.{listed, row_line, row_lines}
+use Rattle.sfm_cert.specs.Answer.{listed, row_lines}
+use Rattle.sfm_cert.specs.Lines.{row_line}
 use Rattle.sfm_cert.specs.Form.{AreFormedRows}
 use Rattle.sfm_cert.specs.Grammar.{IsLine}
 use Rattle.sfm_cert.specs.Reading.{LeadsOnBy, ReadsBy, EndsAtBy, EndsStuck, TakesSome}

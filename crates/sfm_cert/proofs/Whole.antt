@@ -8,8 +8,8 @@ use Rattle.std.proofs.lemmas.List.{append-nil, drop_all}
 use Rattle.sfm_spec.specs.Names.{IsName}
 use Rattle.sfm_spec.specs.Blocks.{Block}
 use Rattle.sfm_cert.specs.Answer.{Break, Form, listed, at_line, text_of}
-use Rattle.sfm_cert.specs.LineLists.{block_lines, slope_lines, base_lines, break_lines}
-use Rattle.sfm_cert.specs.Grammar.{IsLine, IsAnswerText, IsBadLine}
+use Rattle.sfm_cert.specs.LineLists.{block_lines, slope_lines, base_lines, break_lines, IsAnswerText, IsBadLine}
+use Rattle.sfm_cert.specs.Grammar.{IsLine}
 use Rattle.sfm_cert.specs.Lines.{Ratio, ratio_of}
 use Rattle.sfm_cert.specs.Parts.{ReadsFirst, ReadsBlocks, ReadsHeads, ReadsRows, ReadsBreaks, AreBreaksOf}
 use Rattle.sfm_cert.specs.Reading.{State, header, listing, bases, ended, Leads, Reads, EndsAt, EndsStuck, Takes, IsNextLine}

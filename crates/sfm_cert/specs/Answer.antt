@@ -58,13 +58,9 @@ head_lines form a = form.header ∷ (codes "minimum " ++ signed_decimal a.value)
 abbrev pub at_line : ℤ → ℤ → List ℕ
 at_line p q = codes "at " ++ slope_text p q
 
--- the line of a row of numbers: a word, a label, and the numbers
-abbrev pub row_line : List ℕ → List ℕ → List ℤ → List ℕ
-row_line word label x = word ++ label ++ spaced signed_decimal x
-
 -- a line for each row, with its number for a label, counted on from i
 abbrev pub row_lines : List ℕ → ℕ → List (List ℤ) → List (List ℕ)
-row_lines word i rows = map (λ (i, x). row_line word (decimal i) x) (enumerate_from i rows)
+row_lines word i rows = map (λ (i, x). word ++ decimal i ++ spaced signed_decimal x) (enumerate_from i rows)
 
 -- the lines of a section: its slope, and a base for each term, numbered from 1
 abbrev pub section_lines : ℤ → ℤ → List (List ℤ) → List (List ℕ)
@@ -83,10 +79,7 @@ text_of (line ∷ lines) = line ++ (10 ∷ text_of lines)
 abbrev pub mark_of : Break → Mark
 mark_of b = record { num = b.num; den = b.den; members = b.members }
 
--- the line of a section, with k block lines, j slope lines and m terms: 0 is that of 0/1, and the slopes follow
+-- the line of a section, with k block lines, j slope lines and m terms: 0 is that of 0/1, and the slopes follow; that of its base i,
+-- counted from 1, stands i lines below
 abbrev pub line_at : ℕ → ℕ → ℕ → ℕ → ℕ
 line_at k j m s = 5 + k + j + s * (m + 1)
-
--- the line of base i of it, counted from 1
-abbrev pub line_base : ℕ → ℕ → ℕ → ℕ → ℕ → ℕ
-line_base k j m s i = line_at k j m s + i

@@ -1,17 +1,16 @@
--- Which texts are answers, and the first line at which a text stops being the beginning of one.
+-- Which texts are of a form, by the lines of what they say, and the first line at which a text stops being the beginning of one.
 use Rattle.std.specs.Prelude.{◌≡◌, ◌≢◌, ℕ, ◌+◌, List, [], ◌∷◌, ◌++◌, length}
 use Rattle.std.specs.List.{All}
-use Rattle.sfm_cert.specs.Answer.{Answer, Form, answer_lines, text_of}
-use Rattle.sfm_cert.specs.Form.{IsFormed}
+use Rattle.sfm_cert.specs.Answer.{text_of}
 
 -- the longest answer text
 abbrev pub answer_limit : ℕ
 answer_limit = 268435456
 
--- the text of an answer of this form
-pub record IsAnswerText (form : Form) (text : List ℕ) (a : Answer) : Type 0 where
-  pub formed : IsFormed form a
-  pub written : text ≡ text_of (answer_lines form a)
+-- the text is the lines of this, which has the form
+pub record IsTextBy {A : Type 0} (Formed : A → Type 0) (lines_by : A → List (List ℕ)) (text : List ℕ) (a : A) : Type 0 where
+  pub formed : Formed a
+  pub written : text ≡ text_of (lines_by a)
 
 -- the lines are the first ones of some text of good form
 abbrev pub BeginsOne : {A : Type 0} → (A → Type 0) → (A → List (List ℕ)) → List (List ℕ) → Type 0
@@ -32,7 +31,3 @@ pub record IsBadLineOf {A : Type 0} (formed : A → Type 0) (lines_by : A → Li
   pub good : BeginsOne formed lines_by before
   pub bad : (line rest : List ℕ) → IsLine line → behind ≡ line ++ (10 ∷ rest) → BeginsOne formed lines_by (before ++ line ∷ []) → ⊥
   pub unfinished : (a : A) → formed a → text ≡ text_of (lines_by a) → ⊥
-
--- the same of answers
-abbrev pub IsBadLine : Form → List ℕ → ℕ → Type 0
-IsBadLine form text number = IsBadLineOf (IsFormed form) (answer_lines form) text number

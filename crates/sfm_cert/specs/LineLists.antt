@@ -3,7 +3,10 @@ use Rattle.std.specs.Prelude.{ℕ, List, codes, map, decimal, ℤ}
 use Rattle.std.specs.List.{enumerate_from, flat_map}
 use Rattle.std.specs.Fmt.{signed_decimal}
 use Rattle.sfm_spec.specs.Blocks.{Block}
-use Rattle.sfm_cert.specs.Answer.{Answer, Break, Form, answer_lines, block_line, row_line, row_lines, section_lines, slope_line, spaced, text_of}
+use Rattle.sfm_cert.specs.Answer.{Answer, Break, Form, answer_lines, block_line, row_lines, section_lines, slope_line, spaced, text_of}
+use Rattle.sfm_cert.specs.Form.{IsFormed}
+use Rattle.sfm_cert.specs.Grammar.{IsBadLineOf, IsTextBy}
+use Rattle.sfm_cert.specs.Lines.{row_line}
 
 -- counts, each behind a space
 abbrev pub counted : List ℕ → List ℕ
@@ -36,3 +39,11 @@ break_lines breaks = flat_map (λ (b : Break). section_lines b.num b.den b.bases
 -- the lines of an answer, each with a line feed behind it
 abbrev pub answer_text : Form → Answer → List ℕ
 answer_text form a = text_of (answer_lines form a)
+
+-- the text of an answer of this form
+abbrev pub IsAnswerText : Form → List ℕ → Answer → Type 0
+IsAnswerText form text a = IsTextBy (IsFormed form) (answer_lines form) text a
+
+-- the first bad line of a text that is to be one
+abbrev pub IsBadLine : Form → List ℕ → ℕ → Type 0
+IsBadLine form text number = IsBadLineOf (IsFormed form) (answer_lines form) text number

@@ -5,7 +5,7 @@ use Rattle.std.specs.List.{All}
 use Rattle.sfm_spec.specs.Bounds.{IsEntry, IsFactor}
 use Rattle.sfm_spec.specs.Blocks.{Block}
 use Rattle.sfm_spec.specs.Slopes.{IsLowest}
-use Rattle.sfm_cert.specs.Answer.{Break, listed, slope_text, block_line, row_line}
+use Rattle.sfm_cert.specs.Answer.{Break, listed, slope_text, block_line, spaced}
 use Rattle.sfm_cert.specs.Form.{IsFormedBlock, IsSomeSet}
 use Rattle.sfm_cert.specs.declared.head.Head.{Head}
 
@@ -38,6 +38,10 @@ pub record IsSlopeLine (names : List (List ℕ)) (line : List ℕ) (r : Ratio) (
   pub factor : IsFactor r.den
   pub members : IsSomeSet (length names) s
   pub written : line ≡ codes "slope " ++ slope_text r.num r.den ++ listed names s
+
+-- the line of a row of numbers: a word, a label, and the numbers
+abbrev pub row_line : List ℕ → List ℕ → List ℤ → List ℕ
+row_line word label x = word ++ label ++ spaced signed_decimal x
 
 -- a word, a label and so many numbers
 abbrev pub IsRowLine : List ℕ → List ℕ → ℕ → List ℕ → List ℤ → Type 0

@@ -8,7 +8,7 @@ use Rattle.sfm_cert.specs.declared.solved.Solved.{Solved}
 use Rattle.sfm_cert.specs.declared.solved.AnswerEnd.{AnswerEnd}
 use Rattle.sfm_cert.specs.declared.solved.AnswerEnd.TheVariants.{BadLine, Memory}
 use Rattle.sfm_cert.specs.Answer.{Answer, Break, Form}
-use Rattle.sfm_cert.specs.Grammar.{IsBadLine}
+use Rattle.sfm_cert.specs.LineLists.{IsBadLine}
 
 abbrev pub break_of : Found → Break
 break_of b = record { num = b.slope.num; den = b.slope.den; members = b.set; bases = b.bases }

@@ -3,7 +3,7 @@
 // are read as those of the form with `answer 1`.
 ghost use Rattle.std.specs.Prelude.{◌≡◌, ◌≢◌, ℕ, ◌≤◌, List, [], codes, length, map, slice_index, IfOk, IfErr};
 ghost use Rattle.sfm_extreme.specs.Blocks.{block_of};
-ghost use Rattle.sfm_cert.specs.{Grammar.{IsAnswerText}, Header.{header_text}, Lines.{Ratio, ratio_of}, Lists.{break_of_head}, Parts.{ReadsBlocks, ReadsHeads, ReadsRows, ReadsBreaks, AreBreaksOf, AreHeads, ReadsFirst}, Reading.{header as header_due, listing, bases, EndsAt}, Solved.{answer_of, break_of, form_of, form_with, IsBadLineEnd}};
+ghost use Rattle.sfm_cert.specs.{Header.{header_text}, Lines.{Ratio, ratio_of}, Lists.{break_of_head}, Parts.{ReadsBlocks, ReadsHeads, ReadsRows, ReadsBreaks, AreBreaksOf, AreHeads, ReadsFirst}, Reading.{header as header_due, listing, bases, EndsAt}, Solved.{answer_of, break_of, form_of, form_with, IsBadLineEnd}, LineLists.{IsAnswerText}};
 
 use crate::cursor::Cursor;
 use crate::head::Head;

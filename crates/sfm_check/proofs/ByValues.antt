@@ -17,8 +17,8 @@ use Rattle.sfm_sizes.specs.Sizes.{AreElementSizes}
 use Rattle.sfm_spec.proofs.Search.{within_whole}
 use Rattle.sfm_cert.specs.Answer.{Answer, Break, Form, mark_of}
 use Rattle.sfm_cert.specs.Form.{IsFormed}
-use Rattle.sfm_check.specs.Truth.{Section, IsProvedSection, no_section, section_at, section_of, sections_of}
-use Rattle.sfm_check.specs.Findings.{IsFullChain, IsNextSlope, set_before}
+use Rattle.sfm_check.specs.Truth.{Section, IsProvedSection, section_at, section_of, sections_of}
+use Rattle.sfm_check.specs.Findings.{IsFullChain, IsNextSlope, set_before, no_section}
 use Rattle.sfm_check.specs.Values.{AreRightSlopes, Attains, IsStep, IsStepAt, IsWorth}
 use Rattle.sfm_check.specs.declared.worth.Worth.{Worth}
 

@@ -3,7 +3,7 @@ use Rattle.std.proofs.Common.{◌≡◌, ◌≢◌, ℕ, zero, suc, ◌+◌, ◌
 use Rattle.std.specs.List.{All}
 use Rattle.std.proofs.lemmas.Int.{ints}
 use Rattle.std.proofs.lemmas.List.{length-append, length-map, length-replicate, get_or-map}
-use Rattle.std.proofs.lemmas.List.Elements.{All-map, All-tail}
+use Rattle.std.proofs.lemmas.List.Elements.{All-from_get_or, All-map, All-tail}
 use Rattle.sfm_spec.specs.Sets.{empty_set}
 use Rattle.sfm_spec.specs.Bounds.{IsEntry, IsFactor}
 use Rattle.sfm_spec.specs.Terms.{times, IsBase}
@@ -20,9 +20,8 @@ use Rattle.sfm_cert.specs.LineLists.{block_lines, break_lines, slope_lines}
 use Rattle.sfm_cert.specs.Form.{AreFormedRows, IsFormed}
 use Rattle.sfm_cert.specs.Solved.{break_of, form_of}
 use Rattle.sfm_law.specs.declared.breaks.Break.{Break as Found}
-use Rattle.sfm_check.specs.Truth.{Section, no_section, section_at, section_of, sections_of}
-use Rattle.sfm_check.specs.Verdict.{AllAreBases}
-use Rattle.sfm_check.specs.Findings.{AllRowsAreBases, IsSection}
+use Rattle.sfm_check.specs.Truth.{Section, section_at, section_of, sections_of}
+use Rattle.sfm_check.specs.Findings.{AllRowsAreBases, IsSection, no_section, AllAreBases}
 
 pub record IsFormedSection (widths : List ℕ) (section : Section) : Type 0 where
   pub entry : IsEntry section.num
@@ -126,9 +125,10 @@ section_bases q (t ∷ ts) (x ∷ rows) f bases =
 
 -- where each row is a base, so are those of each section
 pub all_bases : (instance : InstanceData) (a : Answer) → IsFormed (form_of instance) a → AllRowsAreBases (meanings kind_places kind_value instance.terms) a → AllAreBases (meanings kind_places kind_value instance.terms) a
-all_bases instance a formed rows s l = section_bases (section_at a s).den instance.terms (section_at a s).bases (formed_section (form_of instance) a s formed l).rows (λ i k. rows s i l k)
+all_bases instance a formed rows = All-from_get_or (λ (section : Section). AreBases section.den (meanings kind_places kind_value instance.terms) section.bases) (sections_of a) no_section
+    (λ s l. section_bases (section_at a s).den instance.terms (section_at a s).bases (formed_section (form_of instance) a s formed l).rows (λ i k. rows s i l k))
 
 -- and so are those of the parts of a section
 pub part_bases : (instance : InstanceData) {a : Answer} {s : ℕ} {num den : ℤ} {rows : List (List ℤ)} → IsFormed (form_of instance) a → AllRowsAreBases (meanings kind_places kind_value instance.terms) a → s < length (sections_of a) → IsSection (section_at a s) num den rows
     → AreBases den (meanings kind_places kind_value instance.terms) rows
-part_bases instance {a = a} {s = s} {num = num} {den = den} {rows = rows} f bases l e = subst (λ (z : Section). AreBases z.den (meanings kind_places kind_value instance.terms) z.bases) (same_section (section_at a s) num den rows e) (all_bases instance a f bases s l)
+part_bases instance {a = a} {s = s} {num = num} {den = den} {rows = rows} f bases l e = subst (λ (z : Section). AreBases z.den (meanings kind_places kind_value instance.terms) z.bases) (same_section (section_at a s) num den rows e) (all_bases instance a f bases s no_section l)

@@ -10,14 +10,15 @@ use Rattle.sfm_spec.proofs.Walks.{bases-at}
 use Rattle.sfm_sizes.specs.Sizes.{AreElementSizes}
 use Rattle.sfm_kind.specs.Names.{AreElementNames}
 use Rattle.sfm_cert.specs.Answer.{Answer, Form, mark_of, answer_lines, text_of}
-use Rattle.sfm_cert.specs.Grammar.{IsAnswerText, IsLine, answer_limit}
+use Rattle.sfm_cert.specs.Grammar.{IsLine, answer_limit}
+use Rattle.sfm_cert.specs.LineLists.{IsAnswerText}
 use Rattle.sfm_cert.proofs.OneAnswer.{one_answer}
-use Rattle.sfm_check.specs.Truth.{IsProvedSection, IsRightFile, IsTrueHead, no_section, section_at, sections_of}
+use Rattle.sfm_check.specs.Truth.{IsProvedSection, IsRightFile, IsTrueHead, section_at, sections_of}
 use Rattle.sfm_check.specs.declared.verdicts.Wrong.TheVariants.{Long, Grammar, Base, Unproved, Answer as AnswerLine}
 use Rattle.sfm_check.specs.declared.verdicts.Verdict.{Verdict}
 use Rattle.sfm_check.specs.declared.verdicts.Verdict.TheVariants.{Valid, Invalid}
 use Rattle.sfm_check.specs.Verdict.{IsFirstNoBase, IsFirstUnproved, IsFirstWrong, IsVerdict, due_lines}
-use Rattle.sfm_check.specs.Findings.{AllAreProved, IsFound}
+use Rattle.sfm_check.specs.Findings.{AllAreProved, IsFound, no_section}
 use Rattle.sfm_check.proofs.Forming.{few_lines}
 use Rattle.sfm_check.proofs.OneBlocks.{one_blocks}
 use Rattle.sfm_check.proofs.WrongLines.{line_due, slope_lines-same}
@@ -88,5 +89,5 @@ module _ (form : Form) (terms : List Meaning) (sizes : List ℤ) (text : List �
   found_verdict (Invalid line Long) f = absurd f
   found_verdict (Invalid line Grammar) f = absurd f
   found_verdict (Invalid line Base) f = ((λ r. no_base line f r), (short, (a, is_text, f)))
-  found_verdict (Invalid line Unproved) f = ((λ r. no_proof line f.1 r), (short, (a, is_text, f.0, f.1)))
-  found_verdict (Invalid line AnswerLine) f = ((λ r. no_line line f.1 r), (short, (a, is_text, all_proved f.0, f.1)))
+  found_verdict (Invalid line Unproved) f = ((λ r. no_proof line f.1 r), (short, (a, is_text, f)))
+  found_verdict (Invalid line AnswerLine) f = ((λ r. no_line line f.1 r), (short, (a, is_text, (all_proved f.0, f.1))))

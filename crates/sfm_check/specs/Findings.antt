@@ -1,10 +1,11 @@
 -- What the steps of a judgement find of an answer: of its rows, of its sections, and of what it says.
 use Rattle.std.specs.Prelude.{◌≡◌, ◌≢◌, ◌⊎◌, ℕ, zero, suc, ◌+◌, ◌<◌, ◌≤◌, Bool, List, [], length, slice_index_or, ℤ, pos}
+use Rattle.std.specs.List.{All}
 use Rattle.sfm_spec.specs.Sets.{empty_set, size, whole_set}
 use Rattle.sfm_spec.specs.Laws.{Mark}
 use Rattle.sfm_spec.specs.Search.{mark_at}
 use Rattle.sfm_spec.specs.Terms.{times, IsBase}
-use Rattle.sfm_spec.specs.Families.{Meaning, IsLeast, IsGreatest, shifted_at, sized_shift}
+use Rattle.sfm_spec.specs.Families.{Meaning, AreBases, IsLeast, IsGreatest, shifted_at, sized_shift}
 use Rattle.sfm_spec.specs.Blocks.{AreBlocks, Block, block_at}
 use Rattle.sfm_spec.specs.Walks.{term_at, base_at}
 use Rattle.sfm_extreme.specs.declared.extremes.Proved.{Proved}
@@ -15,7 +16,7 @@ use Rattle.sfm_check.specs.declared.sections.Sections.TheVariants.{Proved as All
 use Rattle.sfm_check.specs.declared.verdicts.Wrong.TheVariants.{Long, Grammar, Base, Unproved, Answer as AnswerLine}
 use Rattle.sfm_check.specs.declared.verdicts.Verdict.{Verdict}
 use Rattle.sfm_check.specs.declared.verdicts.Verdict.TheVariants.{Valid, Invalid}
-use Rattle.sfm_check.specs.Verdict.{IsBaseAt, AllAreBases, IsFirstNoBase, IsFirstUnproved, IsFirstWrong, due_lines}
+use Rattle.sfm_check.specs.Verdict.{IsBaseAt, IsFirstNoBase, IsFirstUnproved, IsFirstWrong, due_lines}
 
 -- each row is a base of its term, times q
 abbrev pub AreBasesIn : List Meaning → ℤ → List (List ℤ) → Type 0
@@ -26,6 +27,14 @@ pub record IsFirstNoBaseIn (terms : List Meaning) (q : ℤ) (rows : List (List �
   pub is_term : i < length terms
   pub no_base : IsBase (times q (term_at terms i).value) (base_at rows i) → ⊥
   pub before : (j : ℕ) → j < i → IsBase (times q (term_at terms j).value) (base_at rows j)
+
+-- what stands past the end of a list of sections
+abbrev pub no_section : Section
+no_section = record { num = pos 0; den = pos 1; bases = [] }
+
+-- the bases of each section are bases of the terms
+abbrev pub AllAreBases : List Meaning → Answer → Type 0
+AllAreBases terms a = All (λ (section : Section). AreBases section.den terms section.bases) (sections_of a)
 
 -- each row of each section is a base
 abbrev pub AllRowsAreBases : List Meaning → Answer → Type 0

@@ -4,8 +4,15 @@ use Rattle.std.specs.List.{All}
 use Rattle.sfm_spec.specs.Families.{Meaning, IsLeast, IsGreatest, AreBases, Prove, shifted_at, sized_shift}
 use Rattle.sfm_spec.specs.Blocks.{AreBlocks}
 use Rattle.sfm_spec.specs.Laws.{AreBreakpoints}
-use Rattle.sfm_cert.specs.Answer.{Answer, Break, Form, mark_of}
-use Rattle.sfm_cert.specs.Grammar.{IsAnswerText}
+use Rattle.sfm_kind.specs.Instance.{InstanceData}
+use Rattle.sfm_cert.specs.Answer.{Answer, Break, Form, answer_lines, mark_of}
+use Rattle.sfm_cert.specs.Form.{IsFormed}
+use Rattle.sfm_cert.specs.Grammar.{IsTextBy}
+
+-- what is asked: an instance, and what its terms mean
+pub record Question : Type 0 where
+  pub instance : InstanceData
+  pub meant : List Meaning
 
 -- what the answer lines say is true: the least value, the extreme minimisers, the blocks that generate all minimisers, and
 -- every slope with two or more minimisers, with the greatest, where each element has its size
@@ -30,13 +37,9 @@ section_of b = record { num = b.num; den = b.den; bases = b.bases }
 abbrev pub sections_of : Answer → List Section
 sections_of a = record { num = pos 0; den = pos 1; bases = a.bases } ∷ map section_of a.breaks
 
--- what stands past the end of a list of sections
-abbrev pub no_section : Section
-no_section = record { num = pos 0; den = pos 1; bases = [] }
-
--- the section number s, counted from 0
+-- the section number s, counted from 0; past the end stands one of no bases
 abbrev pub section_at : Answer → ℕ → Section
-section_at a s = slice_index_or (sections_of a) s no_section
+section_at a s = slice_index_or (sections_of a) s (record { num = pos 0; den = pos 1; bases = [] })
 
 -- bases of each term that prove the minimum at the slope
 pub record IsProvedSection (terms : List Meaning) (n : ℕ) (sizes : List ℤ) (section : Section) : Type 0 where
@@ -46,6 +49,6 @@ pub record IsProvedSection (terms : List Meaning) (n : ℕ) (sizes : List ℤ) (
 -- the text of an answer that is true, with bases that prove it
 pub record IsRightFile (form : Form) (terms : List Meaning) (sizes : List ℤ) (text : List ℕ) : Type 0 where
   pub answer : Answer
-  pub is_text : IsAnswerText form text answer
+  pub is_text : IsTextBy (IsFormed form) (answer_lines form) text answer
   pub head : IsTrueHead terms (length form.names) sizes answer
   pub sections : All (IsProvedSection terms (length form.names) sizes) (sections_of answer)

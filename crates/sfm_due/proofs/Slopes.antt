@@ -18,7 +18,8 @@ use Rattle.sfm_slope.specs.Marks.{HasBasesBy, mark_of as kept_mark}
 use Rattle.sfm_cert.specs.Answer.{mark_of}
 use Rattle.sfm_cert.specs.Form.{IsFormedBreak}
 use Rattle.sfm_cert.specs.Solved.{break_of, form_of}
-use Rattle.sfm_check.specs.Truth.{IsProvedSection, no_section, section_of}
+use Rattle.sfm_check.specs.Truth.{IsProvedSection, section_of}
+use Rattle.sfm_check.specs.Findings.{no_section}
 use Rattle.sfm_check.proofs.AllSlopes.{due_plain}
 use Rattle.sfm_check.proofs.OneToOne.{IsPlainMark}
 use Rattle.sfm_kind.specs.Kinds.{kind_start}

@@ -12,7 +12,8 @@ use Rattle.sfm_kind.proofs.Bounds.{kind_size-low, total_size-low}
 use Rattle.sfm_kind.proofs.Meanings.{kind-size, kinds-mean, total-size}
 use Rattle.sfm_text.specs.GoodText.{IsTextOf}
 use Rattle.sfm_text.specs.Numbered.{AreNumbersOf}
-use Rattle.sfm_due.specs.Level.{IsSmallEnough, IsTooLarge, level_limit}
+use Rattle.sfm_due.specs.Level.{level_limit}
+use Rattle.sfm_due.specs.Owing.{IsSmallEnough, IsTooLarge}
 use Rattle.sfm_due.specs.Meanings.{meanings_of, question_of}
 use Rattle.sfm_due.specs.Sums.{PassesAt}
 

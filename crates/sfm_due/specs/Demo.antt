@@ -7,7 +7,8 @@ use Rattle.sfm_cert.specs.Answer.{Answer}
 use Rattle.sfm_cert.specs.Solved.{form_of}
 use Rattle.sfm_check.specs.Truth.{IsRightFile}
 use Rattle.sfm_demo.specs.DemoText.{demo_text_of}
-use Rattle.sfm_text.specs.GoodText.{IsFaultOf}
+use Rattle.sfm_text.specs.Language.{IsFaultIn}
+use Rattle.sfm_text.specs.GoodText.{instance_language}
 use Rattle.sfm_due.specs.Due.{IsAsked, NamesFault, Question}
 
 -- the line of what an answer says: the seed, the least value, how many elements the least and the greatest minimiser have, how many
@@ -25,4 +26,4 @@ pub record IsDemoed (seed : ℕ) (asked : Question) (written : List ℕ) : Type 
 -- what is due to be written for a seed, and the code
 abbrev pub IsDueToDemo : ℕ → List ℕ → ℕ → Type 0
 IsDueToDemo seed written code = ((asked : Question) × IsAsked (demo_text_of seed) asked × IsDemoed seed asked written × (code ≡ 0))
-    ⊎ (NamesFault (codes "refused") (IsFaultOf (demo_text_of seed)) written × (code ≡ 2))
+    ⊎ (NamesFault (codes "refused") (IsFaultIn instance_language (demo_text_of seed)) written × (code ≡ 2))

@@ -5,12 +5,15 @@ use Rattle.sfm_spec.specs.Families.{Meaning, sized_shift}
 use Rattle.sfm_spec.specs.Laws.{ones}
 use Rattle.sfm_spec.specs.Walks.{few_walks}
 use Rattle.sfm_kind.specs.declared.kind.Kind.{Kind}
-use Rattle.sfm_kind.specs.Instance.{InstanceData}
 use Rattle.sfm_kind.specs.Meanings.{IsMeaningOf, IsStartOf}
 use Rattle.sfm_lines.specs.declared.reason.Reason.{Reason}
 use Rattle.sfm_lines.specs.Reasons.{reason_word}
-use Rattle.sfm_text.specs.GoodText.{IsTextOf}
+use Rattle.sfm_lines.specs.declared.stage.Stage.TheVariants.{Ended}
+use Rattle.sfm_lines.specs.ReadParts.{state_at}
+use Rattle.sfm_text.specs.Language.{IsReadAs}
+use Rattle.sfm_text.specs.GoodText.{instance_language}
 use Rattle.sfm_cert.specs.Solved.{form_with}
+pub use Rattle.sfm_check.specs.Truth.{Question}
 use Rattle.sfm_check.specs.Truth.{IsRightFile, Section, sections_of}
 use Rattle.sfm_check.specs.declared.verdicts.Verdict.{Verdict}
 use Rattle.sfm_check.specs.declared.verdicts.Verdict.TheVariants.{Valid, Invalid}
@@ -31,24 +34,14 @@ wrong_word Answer = codes "answer"
 abbrev pub fault_line : List ℕ → ℕ → List ℕ → List ℕ
 fault_line word line reason = word ++ codes " " ++ decimal line ++ codes " " ++ reason ++ codes "\n"
 
--- the line of a verdict
-abbrev pub verdict_line : Verdict → List ℕ
-verdict_line Valid = codes "valid\n"
-verdict_line (Invalid line reason) = fault_line (codes "invalid") line (wrong_word reason)
+-- the written text is the line of the verdict, and the code goes with it
+abbrev pub SaysVerdict : Verdict → List ℕ → ℕ → Type 0
+SaysVerdict Valid written code = (written ≡ codes "valid\n") × (code ≡ 0)
+SaysVerdict (Invalid line reason) written code = (written ≡ fault_line (codes "invalid") line (wrong_word reason)) × (code ≡ 1)
 
--- the exit code of a verdict
-abbrev pub verdict_code : Verdict → ℕ
-verdict_code Valid = 0
-verdict_code (Invalid line reason) = 1
-
--- what is asked: an instance, and what its terms mean
-pub record Question : Type 0 where
-  pub instance : InstanceData
-  pub meant : List Meaning
-
--- the text has no fault, and asks this: it stands for these names and terms, which mean so
+-- the text has no fault, and asks this: it stands for this instance, whose terms mean so
 pub record IsAsked (text : List ℕ) (asked : Question) : Type 0 where
-  pub good : IsTextOf text asked.instance.names asked.instance.terms
+  pub good : IsReadAs instance_language text (state_at Ended asked.instance)
   pub means : AllZip IsMeaningOf asked.instance.terms asked.meant
 
 -- at most n + n(n+1)(nm+1) moves along shortest walks, one after the other, of n elements and m terms, lead to the bases of a section
@@ -70,33 +63,24 @@ pub record IsSolvedBy (header : List ℕ) (sizes : List ℤ) (asked : Question) 
 abbrev pub IsSolved : Question → List ℕ → Type 0
 IsSolved asked file = IsSolvedBy (codes "answer 1") (ones (length asked.instance.names)) asked file
 
--- the file is a right one, reached by few walks, where each element has its size
-abbrev pub IsWeighed : Question → List ℤ → List ℕ → Type 0
-IsWeighed asked sizes file = IsSolvedBy (codes "weighed 1") sizes asked file
-
--- the line that refuses a text, behind a word for which text it is, or `refused`
-abbrev pub refusal : List ℕ → ℕ → Reason → List ℕ
-refusal word line reason = fault_line word line (reason_word reason)
-
--- the written text is the refusal of a line and a reason that are the first fault
+-- the written text refuses another at a line and for a reason that are its first fault, behind a word for which text it is, or `refused`
 pub record NamesFault (word : List ℕ) (IsFault : ℕ → Reason → Type 0) (written : List ℕ) : Type 0 where
   pub line : ℕ
   pub reason : Reason
   pub fault : IsFault line reason
-  pub named : written ≡ refusal word line reason
+  pub named : written ≡ fault_line word line (reason_word reason)
+
+-- the written text, with this code, says a verdict that is the right one
+pub record NamesVerdict (IsDue : Verdict → Type 0) (written : List ℕ) (code : ℕ) : Type 0 where
+  pub verdict : Verdict
+  pub judged : IsDue verdict
+  pub said : SaysVerdict verdict written code
 
 -- the written text, with this code, is the verdict on the answer, which is to have that first line, to what is asked, where each
 -- element has its size
-pub record IsJudgedBy (header : List ℕ) (sizes : List ℤ) (asked : Question) (answer written : List ℕ) (code : ℕ) : Type 0 where
-  pub verdict : Verdict
-  pub judged : IsVerdict (form_with header asked.instance) asked.meant sizes answer verdict
-  pub named : written ≡ verdict_line verdict
-  pub coded : code ≡ verdict_code verdict
+abbrev pub IsJudgedBy : List ℕ → List ℤ → Question → List ℕ → List ℕ → ℕ → Type 0
+IsJudgedBy header sizes asked answer written code = NamesVerdict (IsVerdict (form_with header asked.instance) asked.meant sizes answer) written code
 
 -- the written text, with this code, is the verdict on the answer where each element counts one
 abbrev pub IsJudged : Question → List ℕ → List ℕ → ℕ → Type 0
 IsJudged asked answer written code = IsJudgedBy (codes "answer 1") (ones (length asked.instance.names)) asked answer written code
-
--- the written text, with this code, is the verdict on the answer where each element has its size
-abbrev pub IsJudgedBySizes : Question → List ℤ → List ℕ → List ℕ → ℕ → Type 0
-IsJudgedBySizes asked sizes answer written code = IsJudgedBy (codes "weighed 1") sizes asked answer written code

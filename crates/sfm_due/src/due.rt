@@ -5,7 +5,7 @@ ghost use Rattle.sfm_side.specs.PinLines.{pins_of};
 ghost use Rattle.sfm_ask.specs.Pinned.{IsAnswered};
 ghost use Rattle.sfm_cert.specs.{Header.{header_text}, Solved.{form_with}, Grammar.{answer_limit}};
 ghost use Rattle.sfm_check.specs.Verdict.{IsVerdict};
-ghost use Rattle.sfm_due.specs.{Due.{verdict_line, verdict_code, wrong_word, fault_line, refusal, IsJudged, IsJudgedBySizes, IsSolved, IsWeighed}, Meanings.{meanings_of, question_of}, Status.{code_of}, Owing.{IsMade}, Files.{IsReadAs}};
+ghost use Rattle.sfm_due.specs.{Due.{SaysVerdict, wrong_word, fault_line, IsJudged, IsSolved}, Meanings.{meanings_of, question_of}, Status.{code_of}, Owing.{IsMade, refusal, IsJudgedBySizes, IsWeighed}, Files.{IsReadAs}};
 
 use crate::solve::{file_by, file_for, ones_of};
 use crate::status::Status;
@@ -64,8 +64,7 @@ fn word_of(reason: Wrong) -> &'static [u8]
 ///
 /// `AllocError` where there is no memory.
 pub fn due_for_verdict(alloc: Global, verdict: Verdict) -> Result<Due, AllocError>
-    ensures line { IfOk result (λ due. due.text.items ≡ verdict_line verdict) }
-    ensures code { IfOk result (λ due. code_of due.status ≡ verdict_code verdict) }
+    ensures said { IfOk result (λ due. SaysVerdict verdict due.text.items (code_of due.status)) }
     ensures answered { IfOk result (λ due. (due.status ≡ Status.Done)
         ⊎ (due.status ≡ Status.Invalid)) }
 {

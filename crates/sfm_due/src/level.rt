@@ -2,7 +2,7 @@
 // the sum of its squares is an entry; the line at which they add to more is named.
 ghost use Rattle.std.specs.Prelude.{◌≡◌, ℕ, ◌^◌, length, pos, ◌≤ℤ◌, IfOk, MatchOption};
 ghost use Rattle.sfm_kind.specs.Limits.{total_size_of};
-ghost use Rattle.sfm_due.specs.{Level.{IsLevelled, level_limit}, Meanings.{question_of}, Owing.{IsMade}, Sums.{PassesAt}};
+ghost use Rattle.sfm_due.specs.{Level.{level_limit}, Meanings.{question_of}, Owing.{IsMade, IsLevelled}, Sums.{PassesAt}};
 
 use crate::due::Due;
 use crate::status::Status;

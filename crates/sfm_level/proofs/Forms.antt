@@ -12,7 +12,7 @@ use Rattle.sfm_cert.specs.Answer.{Form, text_of}
 use Rattle.sfm_cert.specs.LineLists.{base_lines, numbered}
 use Rattle.sfm_cert.proofs.Lengths.{AreFewWidths, number_text, numbered_short, rows_short, text_append}
 use Rattle.sfm_squares.specs.Level.{IsLevel, IsSumOf, squares}
-use Rattle.sfm_level.specs.LevelText.{LevelAnswer, IsFormedLevel, IsTrueLevel, level_lines}
+use Rattle.sfm_level.specs.Told.{LevelAnswer, IsFormedLevel, IsTrueLevel, level_lines}
 use Rattle.sfm_level.specs.Sums.{sums_of}
 use Rattle.sfm_level.proofs.Bounds.{roots-small, squares-low}
 use Rattle.sfm_level.proofs.Values.{sums_are}

@@ -1,40 +1,17 @@
--- What a level text says, and the lines that say it.
-use Rattle.std.specs.Prelude.{◌≡◌, ℕ, List, [], ◌∷◌, ◌++◌, length, codes, ℤ, pos}
-use Rattle.std.specs.List.{All}
+-- What a level text says.
+use Rattle.std.specs.Prelude.{◌≡◌, ℕ, List, [], ◌∷◌, ◌++◌, codes, ℤ, pos}
 use Rattle.std.specs.Fmt.{signed_decimal}
-use Rattle.sfm_spec.specs.Bounds.{IsEntry}
 use Rattle.sfm_spec.specs.Families.{Meaning, AreBases}
 use Rattle.sfm_squares.specs.Level.{IsLevel, IsSumOf, squares}
-use Rattle.sfm_cert.specs.Answer.{Form, row_lines, spaced, text_of}
-use Rattle.sfm_cert.specs.Form.{AreFormedRows}
+use Rattle.sfm_cert.specs.Answer.{row_lines, spaced, text_of}
 
--- what a level text says: the least sum of squares, the base of the sum that has it, and the bases of the terms
-pub record LevelAnswer : Type 0 where
-  pub squares : ℤ
+-- the written text is that of a most level base of the sum, and of bases of the terms that add up to it: the sum of its squares, its
+-- entries, and a line for each base, numbered from 1
+pub record IsLevelText (terms : List Meaning) (n : ℕ) (written : List ℕ) : Type 0 where
   pub vector : List ℤ
   pub bases : List (List ℤ)
-
--- its lines, of a form as answers have one
-abbrev pub level_lines : Form → LevelAnswer → List (List ℕ)
-level_lines form a = codes "level 1" ∷ (codes "squares " ++ signed_decimal a.squares)
-    ∷ (codes "vector" ++ spaced signed_decimal a.vector)
-    ∷ (row_lines (codes "base ") 1 a.bases ++ codes "end" ∷ [])
-
--- what it says is true of the terms: bases of theirs add up to the vector, which is a most level base of the sum
-pub record IsTrueLevel (terms : List Meaning) (n : ℕ) (a : LevelAnswer) : Type 0 where
-  pub bases : AreBases (pos 1) terms a.bases
-  pub sum : IsSumOf terms n a.bases a.vector
-  pub level : IsLevel terms n a.vector
-  pub squares : a.squares ≡ squares a.vector
-
--- the numbers are small, and there is one for each element and each place
-pub record IsFormedLevel (form : Form) (a : LevelAnswer) : Type 0 where
-  pub squares : IsEntry a.squares
-  pub count : length a.vector ≡ length form.names
-  pub vector : All IsEntry a.vector
-  pub bases : AreFormedRows form.widths a.bases
-
--- the written text is that of a most level base of the sum, and of bases of the terms that add up to it
-abbrev pub IsLevelText : Form → List Meaning → List ℕ → Type 0
-IsLevelText form terms written = (told : LevelAnswer) × IsTrueLevel terms (length form.names) told
-    × (written ≡ text_of (level_lines form told))
+  pub are_bases : AreBases (pos 1) terms bases
+  pub sum : IsSumOf terms n bases vector
+  pub level : IsLevel terms n vector
+  pub text : written ≡ text_of (codes "level 1" ∷ (codes "squares " ++ signed_decimal (squares vector))
+      ∷ (codes "vector" ++ spaced signed_decimal vector) ∷ (row_lines (codes "base ") 1 bases ++ codes "end" ∷ []))

@@ -3,7 +3,7 @@ ghost use Rattle.std.specs.Prelude.{◌^◌, length, pos, ◌≤ℤ◌, IfOk};
 ghost use Rattle.sfm_spec.specs.Families.{meanings};
 ghost use Rattle.sfm_kind.specs.{Kinds.{kind_places, kind_value}, Limits.{total_size_of}};
 ghost use Rattle.sfm_cert.specs.Solved.{form_of};
-ghost use Rattle.sfm_level.specs.{LevelText.{IsTrueLevel, IsFormedLevel}, Told.{level_of}};
+ghost use Rattle.sfm_level.specs.Told.{IsTrueLevel, IsFormedLevel, level_of};
 
 use crate::passes::level_rows;
 use crate::sums::{squares_of, sums};

@@ -4,7 +4,7 @@ ghost use Rattle.std.specs.{Prelude.{◌≡◌, ◌++◌, ◌≤◌, ◌^◌, le
 ghost use Rattle.sfm_spec.specs.{Bounds.{IsEntry}, Families.{meanings}};
 ghost use Rattle.sfm_kind.specs.{Kinds.{kind_places, kind_value}, Limits.{total_size_of}};
 ghost use Rattle.sfm_cert.specs.{Answer.{Form, text_of}, Solved.{form_of}};
-ghost use Rattle.sfm_level.specs.{LevelText.{level_lines, IsFormedLevel, IsLevelText}, Told.{level_of}};
+ghost use Rattle.sfm_level.specs.{LevelText.{IsLevelText}, Told.{level_lines, level_of, IsFormedLevel}};
 
 use crate::levelling::level;
 use crate::told::Level;
@@ -77,8 +77,8 @@ pub fn write_level(alloc: Global, instance: &Instance, level: &Level) -> Result<
 /// `Memory` where there is none.
 pub fn level_text(alloc: Global, instance: &Instance) -> Result<Vec<u8>, Memory>
     requires { total_size_of instance.now.terms ≤ℤ pos (10 ^ 13) }
-    ensures { IfOk result (λ text. IsLevelText (form_of instance.now)
-        (meanings kind_places kind_value instance.now.terms) text.items) }
+    ensures { IfOk result (λ text. IsLevelText (meanings kind_places kind_value instance.now.terms)
+        (length instance.now.names) text.items) }
 {
     let told = level(alloc, instance)?;
     write_level(alloc, instance, &told)

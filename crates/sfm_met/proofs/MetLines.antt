@@ -6,7 +6,8 @@ use Rattle.std.specs.List.{All}
 use Rattle.std.proofs.lemmas.List.Elements.{All-nil, All-cons, All-append}
 use Rattle.sfm_spec.specs.Bounds.{IsEntry}
 use Rattle.sfm_spec.specs.Names.{IsName}
-use Rattle.sfm_cert.specs.Answer.{Form, listed, row_line, row_lines, text_of}
+use Rattle.sfm_cert.specs.Answer.{Form, listed, row_lines, text_of}
+use Rattle.sfm_cert.specs.Lines.{row_line}
 use Rattle.sfm_cert.specs.LineLists.{numbered}
 use Rattle.sfm_cert.specs.Form.{AreFormedRows}
 use Rattle.sfm_cert.specs.Grammar.{BeginsOne, IsBadLineOf, IsLine}

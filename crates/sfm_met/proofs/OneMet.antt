@@ -5,10 +5,12 @@ use Rattle.std.specs.List.{All}
 use Rattle.std.proofs.lemmas.List.Elements.{All-head, All-tail}
 use Rattle.sfm_spec.specs.Bounds.{IsEntry}
 use Rattle.sfm_kind.specs.Names.{AreElementNames}
-use Rattle.sfm_cert.specs.Answer.{Form, row_line, row_lines}
+use Rattle.sfm_cert.specs.Answer.{Form, row_lines}
+use Rattle.sfm_cert.specs.Lines.{row_line}
 use Rattle.sfm_cert.proofs.Unique.{row_line-same, set_line-same, value_line-same}
 use Rattle.sfm_meet.specs.Met.{MetAnswer}
-use Rattle.sfm_met.specs.MetText.{IsMetText, met_lines}
+use Rattle.sfm_met.specs.MetText.{met_lines}
+use Rattle.sfm_met.specs.MetReading.{IsMetText}
 use Rattle.sfm_met.proofs.MetLines.{same_lines}
 
 head_of : {a b : List ℕ} {x y : List (List ℕ)} → a ∷ x ≡ b ∷ y → a ≡ b

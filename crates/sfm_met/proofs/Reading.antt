@@ -5,8 +5,8 @@ use Rattle.std.specs.List.{All}
 use Rattle.std.proofs.lemmas.List.{length_push, drop_more, take_more, map_push, drop_all, take_all}
 use Rattle.std.proofs.lemmas.List.Elements.{All-nil, All-push}
 use Rattle.sfm_spec.specs.Bounds.{IsEntry}
-use Rattle.sfm_cert.specs.Answer.{row_line, row_lines}
-use Rattle.sfm_cert.specs.Lines.{IsRowLine, IsSetLine, IsValueLine}
+use Rattle.sfm_cert.specs.Answer.{row_lines}
+use Rattle.sfm_cert.specs.Lines.{IsRowLine, IsSetLine, IsValueLine, row_line}
 use Rattle.sfm_cert.specs.Reading.{EndsAtBy, EndsStuck, ReadsBy, Takes, TakesSome}
 use Rattle.sfm_cert.specs.Slots.{FillsNext, Slot, exact, row, row_slots, set, value}
 use Rattle.sfm_cert.specs.declared.cursor.Cursor.{Cursor}

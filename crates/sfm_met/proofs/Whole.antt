@@ -13,9 +13,9 @@ use Rattle.sfm_cert.specs.declared.solved.AnswerEnd.{AnswerEnd}
 use Rattle.sfm_cert.specs.declared.solved.AnswerEnd.TheVariants.{BadLine, Memory}
 use Rattle.sfm_cert.proofs.Ends.{passed_on, reads_more, reads_then, stops_then}
 use Rattle.sfm_cert.proofs.Slots.{slot_stuck}
-use Rattle.sfm_met.specs.MetText.{IsFormedMet, IsMetText, met_lines}
+use Rattle.sfm_met.specs.MetText.{IsFormedMet, met_lines}
 use Rattle.sfm_met.specs.MetSlots.{base_slots, right_slots, slots_of, told_head}
-use Rattle.sfm_met.specs.MetReading.{IsBadMetEnd, ReadsSide, ReadsTold}
+use Rattle.sfm_met.specs.MetReading.{IsBadMetEnd, ReadsSide, ReadsTold, IsMetText}
 use Rattle.sfm_met.proofs.MetLines.{bad_line}
 use Rattle.sfm_met.proofs.Reading.{SideEnds, ToldEnds}
 

@@ -4,12 +4,13 @@ use Rattle.std.specs.List.{All}
 use Rattle.sfm_spec.specs.Bounds.{IsEntry}
 use Rattle.sfm_cert.specs.Answer.{Form, row_lines}
 use Rattle.sfm_cert.specs.Form.{AreFormedRows}
-use Rattle.sfm_cert.specs.Grammar.{IsBadLineOf}
+use Rattle.sfm_cert.specs.Grammar.{IsBadLineOf, IsTextBy}
 use Rattle.sfm_cert.specs.Reading.{ReadsBy}
 use Rattle.sfm_cert.specs.Slots.{FillsNext, Slot, row_slots}
 use Rattle.sfm_cert.specs.declared.cursor.Cursor.{Cursor}
 use Rattle.sfm_cert.specs.declared.solved.AnswerEnd.{AnswerEnd}
 use Rattle.sfm_cert.specs.declared.solved.AnswerEnd.TheVariants.{BadLine, Memory}
+use Rattle.sfm_meet.specs.Met.{MetAnswer}
 use Rattle.sfm_met.specs.MetText.{IsFormedMet, met_lines}
 use Rattle.sfm_met.specs.MetSlots.{told_head, told_slots}
 
@@ -27,6 +28,10 @@ pub record ReadsTold (names : List (List ℕ)) (text : List ℕ) (from to : Curs
   pub places : length members ≡ length names
   pub count : length common ≡ length names
   pub entries : All IsEntry common
+
+-- the text says this
+abbrev pub IsMetText : Form → Form → List ℕ → MetAnswer → Type 0
+IsMetText left right text a = IsTextBy (IsFormedMet left right) (met_lines left.names) text a
 
 -- a bad line is the first one; want of memory says nothing
 abbrev pub IsBadMetEnd : Form → Form → List ℕ → AnswerEnd → Type 0

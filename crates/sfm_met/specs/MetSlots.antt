@@ -1,7 +1,8 @@
 -- The lines of a text by what each is to be, as the code writes and reads them one after another.
 use Rattle.std.specs.Prelude.{ℕ, Bool, List, [], ◌∷◌, ◌++◌, codes, length, ℤ}
 use Rattle.std.specs.Fmt.{signed_decimal}
-use Rattle.sfm_cert.specs.Answer.{Form, listed, row_line}
+use Rattle.sfm_cert.specs.Answer.{Form, listed}
+use Rattle.sfm_cert.specs.Lines.{row_line}
 use Rattle.sfm_cert.specs.Slots.{Slot, exact, value, set, row, row_slots}
 use Rattle.sfm_meet.specs.Met.{MetAnswer}
 

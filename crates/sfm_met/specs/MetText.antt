@@ -3,15 +3,9 @@ use Rattle.std.specs.Prelude.{◌≡◌, ℕ, List, [], ◌∷◌, ◌++◌, len
 use Rattle.std.specs.List.{All}
 use Rattle.std.specs.Fmt.{signed_decimal}
 use Rattle.sfm_spec.specs.Bounds.{IsEntry}
-use Rattle.sfm_spec.specs.Families.{Meaning}
-use Rattle.sfm_cert.specs.Answer.{Form, listed, row_lines, spaced, text_of}
+use Rattle.sfm_cert.specs.Answer.{Form, listed, row_lines, spaced}
 use Rattle.sfm_cert.specs.Form.{AreFormedRows}
 use Rattle.sfm_meet.specs.Met.{MetAnswer}
-
--- one of two sums: what its lines depend on, and what its terms mean
-pub record Sum : Type 0 where
-  pub form : Form
-  pub terms : List Meaning
 
 -- its lines: the least value, the least set, the common vector, and a line for each base of the left and then of the right,
 -- numbered from 1
@@ -28,8 +22,3 @@ pub record IsFormedMet (left right : Form) (a : MetAnswer) : Type 0 where
   pub common : All IsEntry a.common
   pub left_rows : AreFormedRows left.widths a.left
   pub right_rows : AreFormedRows right.widths a.right
-
--- the text says this
-pub record IsMetText (left right : Form) (text : List ℕ) (a : MetAnswer) : Type 0 where
-  pub formed : IsFormedMet left right a
-  pub written : text ≡ text_of (met_lines left.names a)

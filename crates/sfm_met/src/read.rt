@@ -2,7 +2,7 @@
 ghost use Rattle.std.specs.Prelude.{◌≡◌, ℕ, ◌≤◌, List, [], ◌++◌, decimal, length, ℤ, IfOk, IfErr};
 ghost use Rattle.sfm_cert.specs.{Lines.{IsRowLine}, Reading.{EndsAtBy, EndsStuck, TakesSome}, Slots.{FillsNext, Slot, row_slots}, Solved.{form_of}};
 ghost use Rattle.sfm_meet.specs.Told.{met_of};
-ghost use Rattle.sfm_met.specs.{MetText.{IsMetText}, MetSlots.{told_slots}, MetReading.{IsBadMetEnd, ReadsSide, ReadsTold}};
+ghost use Rattle.sfm_met.specs.{MetSlots.{told_slots}, MetReading.{IsBadMetEnd, ReadsSide, ReadsTold, IsMetText}};
 
 use itoa::Buffer;
 use sfm_base::{Numbers, Rows, Set};

@@ -3,13 +3,10 @@ use Rattle.std.specs.Prelude.{◌≡◌, ◌≢◌, ◌⊎◌, ℕ, ◌+◌, ◌
 use Rattle.sfm_kind.specs.declared.kind.Kind.{Kind}
 use Rattle.sfm_kind.specs.Instance.{support_of}
 use Rattle.sfm_kind.specs.Meanings.{total_by}
-use Rattle.sfm_check.specs.declared.verdicts.Verdict.{Verdict}
-use Rattle.sfm_cert.specs.Solved.{form_of}
 use Rattle.sfm_meet.specs.Common.{IsGreatestCommon}
 use Rattle.sfm_meet.specs.Meetable.{IsNeed, HasNoNeed}
-use Rattle.sfm_met.specs.MetText.{Sum}
-use Rattle.sfm_met.specs.MetVerdict.{IsRightMet, IsMetVerdict}
-use Rattle.sfm_due.specs.Due.{Question, verdict_line, verdict_code, fault_line}
+use Rattle.sfm_met.specs.MetVerdict.{IsRightMet}
+use Rattle.sfm_due.specs.Due.{Question, fault_line}
 use Rattle.sfm_due.specs.Lined.{IsFirstLine, IsLined, Lined}
 use Rattle.sfm_pair.specs.declared.clash.Clash.{Clash}
 use Rattle.sfm_pair.specs.declared.clash.Clash.TheVariants.{Ground, LeftNeed, RightNeed, Total}
@@ -50,18 +47,7 @@ NamesClash left text written = (right : Lined) × IsLined text right
 abbrev pub GoTogether : Lined → Lined → Type 0
 GoTogether left right = (clash : Clash) (line : ℕ) → IsClashOf left right clash line → ⊥
 
--- what is asked, as one of two sums
-abbrev pub sum_of : Question → Sum
-sum_of asked = record { form = form_of asked.instance; terms = asked.meant }
-
 -- the written text is right for the two, and its common vector is a greatest one
 pub record IsMeeting (left right : Question) (written : List ℕ) : Type 0 where
-  pub told : IsRightMet (sum_of left) (sum_of right) written
+  pub told : IsRightMet left right written
   pub greatest : IsGreatestCommon left.meant right.meant (length left.instance.names) told.answer.common
-
--- the written text, with this code, is the verdict on the answer
-pub record IsMetJudged (left right : Question) (answer written : List ℕ) (code : ℕ) : Type 0 where
-  pub verdict : Verdict
-  pub judged : IsMetVerdict (sum_of left) (sum_of right) answer verdict
-  pub named : written ≡ verdict_line verdict
-  pub coded : code ≡ verdict_code verdict

@@ -4,7 +4,7 @@ ghost use Rattle.sfm_cert.specs.Grammar.{answer_limit};
 ghost use Rattle.sfm_due.specs.{Files.{IsReadAs}, Meanings.{question_of}, Owing.{IsMade}};
 ghost use Rattle.sfm_meet.specs.Meetable.{AreMeetable};
 ghost use Rattle.sfm_met.specs.MetVerdict.{IsMetVerdict};
-ghost use Rattle.sfm_pair.specs.Pair.{IsMeeting, IsMetJudged, clash_line, sum_of};
+ghost use Rattle.sfm_pair.specs.{Pair.{IsMeeting, clash_line}, Sides.{IsMetJudged}};
 
 use crate::clash::Clash;
 use sfm_base::Memory;
@@ -50,8 +50,8 @@ pub fn due_to_meet(alloc: Global, left: &Instance, right: &Instance) -> Result<D
 /// The verdict on a text that is too long. No right one is: the ground has few names, and the terms have few places.
 fn verdict_on_long(left: &Instance, right: &Instance) -> Verdict
     requires { AreMeetable left.now right.now }
-    ensures { (answer : List ℕ) → answer_limit < length answer → IsMetVerdict
-        (sum_of (question_of left.now)) (sum_of (question_of right.now)) answer result }
+    ensures { (answer : List ℕ) → answer_limit < length answer → IsMetVerdict (question_of left.now)
+        (question_of right.now) answer result }
 {
     let _count = left.names_len();
     let _left_terms = left.terms();
@@ -71,7 +71,7 @@ fn verdict_on(
 ) -> Result<Verdict, Memory>
     requires { AreMeetable left.now right.now }
     ensures { IfOk result (λ v. (answer : List ℕ) → IsReadAs answer_limit bytes.now answer
-        → IsMetVerdict (sum_of (question_of left.now)) (sum_of (question_of right.now)) answer v) }
+        → IsMetVerdict (question_of left.now) (question_of right.now) answer v) }
 {
     match bytes {
         Some(bytes) => judge_met(alloc, left, right, bytes.as_slice()),

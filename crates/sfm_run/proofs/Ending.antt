@@ -35,7 +35,7 @@ pub ends_unwritten : {T E : Type 0} (task : Task) (shelf shelf' : ShelfState) (o
     → EndsFor task shelf shelf' out out' WriteFault
 ends_unwritten task shelf shelf' out out' due e h written =
     let (count, less, gained) = written.front in
-    record { written = due.text.items; code = code_of due.status; count = count; due = (h shelf nothing_read (stays shelf)).0; front = less; gained = gained; rose = written.rose }
+    (due.text.items, code_of due.status, (h shelf nothing_read (stays shelf)).0, record { count = count; gained = gained; whole = λ l. written.rose }, less)
 
 -- where what is needed is surely there, or no fault of the shelf comes, and no fault of the sink comes, a text is written, or memory
 -- ran out
@@ -46,6 +46,6 @@ completes task shelf shelf' out out' Invalid h sure sunk = inr (inl refl)
 completes task shelf shelf' out out' Refused h sure sunk = inr (inr (inl refl))
 completes task shelf shelf' out out' ReadFault (fails, same) (inl held) sunk = absurd (no_failure task nothing_read shelf shelf' held fails)
 completes task shelf shelf' out out' ReadFault (fails, same) (inr calm) sunk = absurd (calm (failure_rose task nothing_read shelf shelf' fails))
-completes task shelf shelf' out out' WriteFault h sure sunk = absurd (sunk h.rose)
+completes task shelf shelf' out out' WriteFault (written, code, owed, part, less) sure sunk = absurd (sunk (part.whole less))
 completes task shelf shelf' out out' Memory h sure sunk = inr (inr (inr refl))
 completes task shelf shelf' out out' Usage h sure sunk = absurd h

@@ -52,7 +52,8 @@ module _ {X : Type 0} (file : File X) (shelf mid after : ShelfState) (way : Way)
 pub misses : {V X : Type 0} (view : V → X) (file : File X) (rest : X → Task) (mid after : ShelfState) (status : Status)
     → OpensFile view file mid after (Err status) → Prepares (reads file rest) mid after (Err status)
 misses view file rest mid after status (kept, inl (fault, miss)) shelf way before =
-    inl (fault, inl (missed_before shelf mid after file.name before.kept miss, KeepsShelf-trans way.names (file.name ∷ []) before.kept kept))
+    let m = missed_before shelf mid after file.name before.kept miss in
+    inl (fault, inl (m.rose, m.unsure, KeepsShelf-trans way.names (file.name ∷ []) before.kept kept))
 misses view file rest mid after status (kept, inr memory) shelf way before = inr (memory, inl (inr (KeepsShelf-trans way.names (file.name ∷ []) before.kept kept)))
 
 -- its text is not good
@@ -89,12 +90,12 @@ made IsDue (Err m) (Err status) mid h is shelf way before = inr (is, before)
 -- a shelf that surely holds what is needed fails nowhere
 pub no_failure : (task : Task) (way : Way) (shelf shelf' : ShelfState) → ((name : List ℕ) → Along (IsNext name) shelf way task → IsSurelyHeld shelf name) → Along (FailsAt shelf shelf') shelf way task → ⊥
 no_failure (ends Due) way shelf shelf' held fails = fails
-no_failure (reads file rest) way shelf shelf' held (inl (miss, kept)) = miss.unsure (held file.name (inl refl))
+no_failure (reads file rest) way shelf shelf' held (inl (rose, unsure, kept)) = unsure (held file.name (inl refl))
 no_failure (reads file rest) way shelf shelf' held (inr (text, x, is, stands, fails)) =
     no_failure (rest x) (and_file way file text) shelf shelf' (λ name needs. held name (inr (text, x, is, stands, needs))) fails
 
 -- where a file was missed a fault rose
 pub failure_rose : (task : Task) (way : Way) (shelf shelf' : ShelfState) → Along (FailsAt shelf shelf') shelf way task → Rose shelf.faults shelf'.faults
 failure_rose (ends Due) way shelf shelf' fails = absurd fails
-failure_rose (reads file rest) way shelf shelf' (inl (miss, kept)) = miss.rose
+failure_rose (reads file rest) way shelf shelf' (inl (rose, unsure, kept)) = rose
 failure_rose (reads file rest) way shelf shelf' (inr (text, x, is, stands, fails)) = failure_rose (rest x) (and_file way file text) shelf shelf' fails

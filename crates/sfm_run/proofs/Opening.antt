@@ -31,14 +31,15 @@ use Rattle.sfm_pair.specs.Sides.{lined_of}
 use Rattle.sfm_run.specs.declared.open.Opened.{Opened}
 use Rattle.sfm_run.specs.declared.open.Opened.TheVariants.{Good, Faulty}
 use Rattle.sfm_run.specs.Task.{Task, reads}
-use Rattle.sfm_run.specs.Files.{answer_file, instance_file, left_file, level_file, right_file, side_file}
+use Rattle.sfm_run.specs.Files.{answer_file, left_file, level_file, right_file, side_file}
+use Rattle.sfm_run.specs.Tasks.{main_file}
 use Rattle.sfm_run.specs.Preparing.{IsClashing, IsFaulty, OpensFile, Prepares, Tells}
 use Rattle.sfm_run.proofs.Joining.{behind, misses}
 
 -- a good instance
-pub opens : (word name : List ℕ) (before after : ShelfState) (reader : Reader) (instance : InstanceData) → KeepsShelf (name ∷ []) before after → FeedsText name before after (Ok reader)
-    → ((text : List ℕ) → Stands reader text → IsTextOf text instance.names instance.terms) → OpensFile question_of (instance_file word name) before after (Ok (Good instance))
-opens word name before after reader instance kept (text, stands, named, read) good = record {
+pub opens : (name : List ℕ) (before after : ShelfState) (reader : Reader) (instance : InstanceData) → KeepsShelf (name ∷ []) before after → FeedsText name before after (Ok reader)
+    → ((text : List ℕ) → Stands reader text → IsTextOf text instance.names instance.terms) → OpensFile question_of (main_file name) before after (Ok (Good instance))
+opens name before after reader instance kept (text, stands, named, read) good = record {
   text = text;
   named = named;
   kept = kept;

@@ -15,24 +15,22 @@ use Rattle.sfm_run.specs.Tasks.{task_of}
 abbrev pub WritesDue : Task → (shelf shelf' : ShelfState) → (out out' : SinkState) → ℕ → Type 0
 WritesDue task shelf shelf' out out' code = (written : List ℕ) × IsDue task shelf shelf' written code × (out'.written ≡ append_known out.written written)
 
--- of what was due only a front was written: a fault of the sink
-pub record FailsToWrite (task : Task) (shelf shelf' : ShelfState) (out out' : SinkState) : Type 0 where
-  pub written : List ℕ
-  pub code : ℕ
+-- a text was written, or a front of it with a fault of the sink
+pub record Says (text : List ℕ) (sink sink' : SinkState) : Type 0 where
   pub count : ℕ
-  pub due : IsDue task shelf shelf' written code
-  pub front : count < length written
-  pub gained : out'.written ≡ append_known out.written (take count written)
-  pub rose : Rose out.faults out'.faults
+  pub gained : sink'.written ≡ append_known sink.written (take count text)
+  pub whole : count < length text → Rose sink.faults sink'.faults
 
 -- how a task ends: each status with its cause, and with which names were asked for, in order and no others. A file could not be read
--- where a fault of the shelf came, which is not a sound one that holds what is needed
+-- where a fault of the shelf came, which is not a sound one that holds what is needed; what is due could not be written where only a
+-- front of it was
 abbrev pub EndsFor : Task → (shelf shelf' : ShelfState) → (out out' : SinkState) → Status → Type 0
 EndsFor task shelf shelf' out out' Done = WritesDue task shelf shelf' out out' 0
 EndsFor task shelf shelf' out out' Invalid = WritesDue task shelf shelf' out out' 1
 EndsFor task shelf shelf' out out' Refused = WritesDue task shelf shelf' out out' 2
 EndsFor task shelf shelf' out out' ReadFault = Along (FailsAt shelf shelf') shelf nothing_read task × (out' ≡ out)
-EndsFor task shelf shelf' out out' WriteFault = FailsToWrite task shelf shelf' out out'
+EndsFor task shelf shelf' out out' WriteFault = (written : List ℕ) × (code : ℕ) × IsDue task shelf shelf' written code
+    × (part : Says written out out') × (part.count < length written)
 EndsFor task shelf shelf' out out' Memory = Along (StopsAt shelf shelf') shelf nothing_read task × (out' ≡ out)
 EndsFor task shelf shelf' out out' Usage = ⊥
 
@@ -49,12 +47,6 @@ Ends words shelf shelf' out out' status =
 abbrev pub EndsByForm : List (List ℕ) → (shelf shelf' : ShelfState) → (out out' : SinkState) → Status → Type 0
 EndsByForm words shelf shelf' out out' status =
     (command : Command) → IsForm words command → Asks words command × EndsFor (task_of command) shelf shelf' out out' status
-
--- a line was written, or a front of it with a fault of the sink
-pub record Says (line : List ℕ) (err err' : SinkState) : Type 0 where
-  pub count : ℕ
-  pub gained : err'.written ≡ append_known err.written (take count line)
-  pub whole : count < length line → Rose err.faults err'.faults
 
 -- what is said of each status on the second sink: a fixed line of each failure, and nothing of the others
 abbrev pub Complains : (err err' : SinkState) → Status → Type 0

@@ -9,8 +9,7 @@ use Rattle.sfm_due.specs.declared.status.Status.{Status}
 use Rattle.sfm_due.specs.declared.status.Status.TheVariants.{ReadFault, Memory, Refused}
 use Rattle.sfm_due.specs.Status.{code_of}
 use Rattle.sfm_due.specs.Files.{IsNamed, MissesText, WasRead}
-use Rattle.sfm_due.specs.Due.{refusal}
-use Rattle.sfm_due.specs.Owing.{IsAnswer}
+use Rattle.sfm_due.specs.Owing.{IsAnswer, refusal}
 use Rattle.sfm_pair.specs.declared.clash.Clash.{Clash}
 use Rattle.sfm_pair.specs.Pair.{clash_line}
 use Rattle.sfm_run.specs.declared.open.Opened.{Opened}

@@ -1,8 +1,9 @@
 -- What is to be done for a command: files are read one after the other, each for what its text stands for, and then a text is due.
 -- One definition each of what is due, of the names that are needed and of those that are asked for serves every command.
 use Rattle.std.specs.Prelude.{◌≡◌, ◌⊎◌, ℕ, List, [], ◌∷◌, ◌++◌, Option, Some, None, MatchOption}
+use Rattle.sfm_io.specs.Faults.{Rose}
 use Rattle.sfm_io.specs.Shelf.{ShelfState, KeepsShelf}
-use Rattle.sfm_due.specs.Files.{IsNamed, IsSurelyHeld, MissesText, WasRead}
+use Rattle.sfm_due.specs.Files.{IsNamed, IsSurelyHeld, WasRead}
 
 -- a file that is read: its name, the most bytes of its text, what a good text stands for, and the text that is due for one that is
 -- not good
@@ -65,7 +66,8 @@ IsDue task shelf shelf' written code = Along (IsDueAt shelf shelf' written code)
 -- the next file could not be opened or read to its end; it was the last that was asked for
 abbrev pub FailsAt : (shelf shelf' : ShelfState) → Way → Task → Type 0
 FailsAt shelf shelf' way (ends Due) = ⊥
-FailsAt shelf shelf' way (reads file rest) = MissesText file.name shelf shelf' × KeepsShelf (way.names ++ file.name ∷ []) shelf shelf'
+FailsAt shelf shelf' way (reads file rest) = Rose shelf.faults shelf'.faults × (IsSurelyHeld shelf file.name → ⊥)
+    × KeepsShelf (way.names ++ file.name ∷ []) shelf shelf'
 
 -- memory ran out with nothing more asked for, or while the next file was read, which was the last that was asked for
 abbrev pub StopsAt : (shelf shelf' : ShelfState) → Way → Task → Type 0

@@ -8,7 +8,7 @@ ghost use Rattle.sfm_due.specs.{Level.{level_limit}, Meanings.{question_of}};
 ghost use Rattle.sfm_due.specs.Lined.{IsLined};
 ghost use Rattle.sfm_meet.specs.Meetable.{AreMeetable};
 ghost use Rattle.sfm_pair.specs.Sides.{lined_of};
-ghost use Rattle.sfm_run.specs.{Files.{edits_file, instance_file, left_file, level_file, pins_file, right_file, sizes_file}, Preparing.{IfGood, IsClashing, IsFaulty, OpensFile, Tells, items_of}};
+ghost use Rattle.sfm_run.specs.{Files.{edits_file, left_file, level_file, pins_file, right_file, sizes_file}, Preparing.{IfGood, IsClashing, IsFaulty, OpensFile, Tells, items_of}, Tasks.{main_file}};
 
 use sfm_due::{Due, Status, feed_text, read_text, refuse, too_large};
 use sfm_edit::apply;
@@ -41,20 +41,19 @@ fn faulty<T: Drop>(
     }
 }
 
-/// Opens a file with an instance. A text with a fault is refused with that word.
+/// Opens a file with the instance that a command is about.
 pub fn open_instance<S: Shelf>(
     alloc: Global,
     shelf: &mut S,
-    word: &[u8],
     file: &str,
 ) -> Result<Opened<Instance>, Status>
-    ensures { OpensFile question_of (instance_file word.now file.now) (S.state shelf.old)
-        (S.state shelf.new) result }
+    ensures { OpensFile question_of (main_file file.now) (S.state shelf.old) (S.state shelf.new)
+        result }
 {
     let reader = feed_text(alloc, shelf, file)?;
     match reader.finish(alloc) {
         Ok(instance) => Ok(Opened::Good(instance)),
-        Err(TextEnd::Refused { line, reason }) => faulty(alloc, word, line, reason),
+        Err(TextEnd::Refused { line, reason }) => faulty(alloc, b"refused", line, reason),
         Err(TextEnd::Memory) => Err(Status::Memory),
     }
 }

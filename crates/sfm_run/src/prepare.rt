@@ -4,9 +4,9 @@ ghost use Rattle.sfm_io.specs.Shelf.{ShelfState};
 ghost use Rattle.sfm_words.specs.{Command.{command_of}, Subcommand.{solve as Solving, check as Checking, demo as Showing, weigh as Weighing, weighed as CheckingWeighed, ask as Asking, level as Levelling, edit as Editing, meet as Meeting, met as CheckingMet}};
 ghost use Rattle.sfm_ask.specs.Pinned.{IsAnswered};
 ghost use Rattle.sfm_sizes.specs.Sizes.{AreElementSizes};
-ghost use Rattle.sfm_due.specs.{Due.{IsJudged, IsJudgedBySizes, IsSolved, IsWeighed}, Meanings.{meanings_of, question_of}, Owing.{IsMade}};
+ghost use Rattle.sfm_due.specs.{Due.{IsJudged, IsSolved}, Meanings.{meanings_of, question_of}, Owing.{IsMade, IsJudgedBySizes, IsWeighed}};
 ghost use Rattle.sfm_meet.specs.Meetable.{AreMeetable};
-ghost use Rattle.sfm_pair.specs.{Pair.{IsMeeting, IsMetJudged}, Sides.{lined_of}};
+ghost use Rattle.sfm_pair.specs.{Pair.{IsMeeting}, Sides.{lined_of, IsMetJudged}};
 ghost use Rattle.sfm_run.specs.{Files.{answer_file, edits_file, pins_file, right_file, sizes_file}, Preparing.{PassesOn, Prepares}, Task.{ends, reads}, Tasks.{done, task_of}};
 
 use crate::open::{
@@ -39,7 +39,7 @@ fn made(due: Result<Due, Memory>) -> Result<Due, Status>
 fn prepare_solve<S: Shelf>(alloc: Global, shelf: &mut S, file: &str) -> Result<Due, Status>
     ensures { Prepares (task_of (Solving file.now)) (S.state shelf.old) (S.state shelf.new) result }
 {
-    match open_instance(alloc, shelf, b"refused", file) {
+    match open_instance(alloc, shelf, file) {
         Ok(Opened::Good(instance)) => made(due_to_solve(alloc, &instance)),
         Ok(Opened::Faulty(due)) => Ok(due),
         Err(status) => Err(status),
@@ -72,7 +72,7 @@ fn prepare_check<S: Shelf>(
     ensures { Prepares (task_of (Checking file.now answer.now)) (S.state shelf.old)
         (S.state shelf.new) result }
 {
-    match open_instance(alloc, shelf, b"refused", file) {
+    match open_instance(alloc, shelf, file) {
         Ok(Opened::Good(instance)) => check_answer(alloc, shelf, &instance, answer),
         Ok(Opened::Faulty(due)) => Ok(due),
         Err(status) => Err(status),
@@ -114,7 +114,7 @@ fn prepare_weigh<S: Shelf>(
     ensures { Prepares (task_of (Weighing file.now sizes.now)) (S.state shelf.old)
         (S.state shelf.new) result }
 {
-    match open_instance(alloc, shelf, b"refused", file) {
+    match open_instance(alloc, shelf, file) {
         Ok(Opened::Good(instance)) => weigh_behind(alloc, shelf, &instance, sizes),
         Ok(Opened::Faulty(due)) => Ok(due),
         Err(status) => Err(status),
@@ -170,7 +170,7 @@ fn prepare_weighed<S: Shelf>(
     ensures { Prepares (task_of (CheckingWeighed file.now sizes.now answer.now))
         (S.state shelf.old) (S.state shelf.new) result }
 {
-    match open_instance(alloc, shelf, b"refused", file) {
+    match open_instance(alloc, shelf, file) {
         Ok(Opened::Good(instance)) => weighed_behind(alloc, shelf, &instance, sizes, answer),
         Ok(Opened::Faulty(due)) => Ok(due),
         Err(status) => Err(status),
@@ -205,7 +205,7 @@ fn prepare_ask<S: Shelf>(
     ensures { Prepares (task_of (Asking file.now pins.now)) (S.state shelf.old)
         (S.state shelf.new) result }
 {
-    match open_instance(alloc, shelf, b"refused", file) {
+    match open_instance(alloc, shelf, file) {
         Ok(Opened::Good(instance)) => ask_behind(alloc, shelf, &instance, pins),
         Ok(Opened::Faulty(due)) => Ok(due),
         Err(status) => Err(status),
@@ -251,7 +251,7 @@ fn prepare_edit<S: Shelf>(
     ensures { Prepares (task_of (Editing file.now edits.now)) (S.state shelf.old)
         (S.state shelf.new) result }
 {
-    match open_instance(alloc, shelf, b"refused", file) {
+    match open_instance(alloc, shelf, file) {
         Ok(Opened::Good(instance)) => edit_behind(alloc, shelf, instance, edits),
         Ok(Opened::Faulty(due)) => Ok(due),
         Err(status) => Err(status),

@@ -1,4 +1,4 @@
-use Rattle.sfm_due.specs.Due.{IsWeighed}
+use Rattle.sfm_due.specs.Owing.{IsWeighed}
 use Rattle.sfm_c.specs.Calls.{IsDone, IsDueForSizes}
 use Rattle.sfm_c.proofs.Making.{for_instance}
 use Rattle.sfm_c.proofs.make.make_weigh.Goals as goal

@@ -1,4 +1,4 @@
-use Rattle.sfm_due.specs.Due.{IsJudgedBySizes}
+use Rattle.sfm_due.specs.Owing.{IsJudgedBySizes}
 use Rattle.sfm_c.specs.Calls.{IsDueForSizes}
 use Rattle.sfm_c.proofs.Making.{for_instance}
 use Rattle.sfm_c.proofs.make.make_weighed.Goals as goal

@@ -1,4 +1,4 @@
-use Rattle.sfm_pair.specs.Pair.{IsMetJudged}
+use Rattle.sfm_pair.specs.Sides.{IsMetJudged}
 use Rattle.sfm_c.specs.Calls.{IsDueForRight}
 use Rattle.sfm_c.proofs.Pairing.{for_left, lined}
 use Rattle.sfm_c.proofs.pair.make_met.Goals as goal

@@ -2,7 +2,7 @@ use Rattle.std.proofs.Common.{ℕ, List}
 use Rattle.sfm_text.specs.declared.reader.Numbered.{Numbered}
 use Rattle.sfm_due.specs.Lined.{Lined}
 use Rattle.sfm_due.specs.Meanings.{question_of}
-use Rattle.sfm_pair.specs.Pair.{IsMetJudged}
+use Rattle.sfm_pair.specs.Sides.{IsMetJudged}
 use Rattle.sfm_c.proofs.Pairing.{for_both, for_clash}
 use Rattle.sfm_c.proofs.pair.met_of.Goals as goal
 

@@ -1,7 +1,8 @@
 use Rattle.std.proofs.Common.{◌≡◌, ◌++◌, ◌∷◌, ◌+◌, ◌<◌, length, get_or, take, [], ap, ◌∙◌, arith, length-take}
 use Rattle.std.specs.Prelude.{decimal}
 use Rattle.std.proofs.lemmas.List.{take_more}
-use Rattle.sfm_cert.specs.Answer.{row_line, row_lines, text_of}
+use Rattle.sfm_cert.specs.Answer.{row_lines, text_of}
+use Rattle.sfm_cert.specs.Lines.{row_line}
 use Rattle.sfm_cert.proofs.AnswerLines.{row_lines-push}
 use Rattle.sfm_cert.proofs.Pieces.{appended_lines}
 use Rattle.sfm_cert.proofs.put.put_rows.Goals as goal

@@ -9,7 +9,7 @@ use Rattle.sfm_kind.specs.Limits.{AreInBounds}
 use Rattle.sfm_kind.specs.Kinds.{kind_places, kind_value, kind_size}
 use Rattle.sfm_extreme.specs.Blocks.{block_of}
 use Rattle.sfm_law.proofs.Lists.{length-meanings}
-use Rattle.sfm_cert.specs.Answer.{line_base}
+use Rattle.sfm_cert.specs.Answer.{line_at}
 use Rattle.sfm_cert.specs.Solved.{answer_of, break_of, form_of}
 use Rattle.sfm_check.specs.Truth.{section_at, sections_of, section_of as section_from}
 use Rattle.sfm_check.specs.Verdict.{IsBaseAt}
@@ -101,8 +101,8 @@ returns-in-Some c =
       term = c.in-Some.i;
       is_section = ls;
       is_term = told.is_term;
-      line_is = c.line_of_base-line.ensures ∙ (ap (λ z. line_base z c.len-in-Some.result (length c.terms-terms.result.now) c.loop-s.s (c.in-Some.i + 1)) kb
-          ∙ (ap (λ z. line_base (length a.blocks) z (length c.terms-terms.result.now) c.loop-s.s (c.in-Some.i + 1)) kj ∙ ap (λ z. line_base (length a.blocks) (length a.breaks) z c.loop-s.s (c.in-Some.i + 1)) km));
+      line_is = c.line_of_base-line.ensures ∙ (ap (λ z. line_at z c.len-in-Some.result (length c.terms-terms.result.now) c.loop-s.s + (c.in-Some.i + 1)) kb
+          ∙ (ap (λ z. line_at (length a.blocks) z (length c.terms-terms.result.now) c.loop-s.s + (c.in-Some.i + 1)) kj ∙ ap (λ z. line_at (length a.blocks) (length a.breaks) z c.loop-s.s + (c.in-Some.i + 1)) km));
       no_base = told.no_base;
       before = λ s i l k e. ⊎_elim
           (λ less. c.loop-s.invariant s i less k)

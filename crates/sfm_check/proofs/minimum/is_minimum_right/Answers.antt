@@ -10,7 +10,7 @@ use Rattle.sfm_cert.specs.Form.{IsFormed}
 use Rattle.sfm_cert.specs.Solved.{answer_of, form_of}
 use Rattle.sfm_sizes.specs.Sizes.{AreElementSizes}
 use Rattle.sfm_check.specs.Truth.{IsProvedSection, section_at}
-use Rattle.sfm_check.specs.Findings.{AllRowsAreBases, IsFullChain, IsTrueMinimum}
+use Rattle.sfm_check.specs.Findings.{AllRowsAreBases, IsFullChain, IsTrueMinimum, no_section}
 use Rattle.sfm_check.specs.Zero.{AreBetween, AreWorthLeast}
 use Rattle.sfm_check.proofs.AllSlopes.{fit, given_lowest}
 use Rattle.sfm_check.proofs.AtZero.{IsToldAtZero, told_at_zero, zero_shift}
@@ -30,7 +30,7 @@ told : (instance : InstanceData) (sizes : List ℤ) (a : Answer)
 told instance sizes a bounded sized formed bases chain between worth =
     told_at_zero (meanings kind_places kind_value instance.terms) (length instance.names) sizes a
     (fit (length instance.names) instance.terms bounded) sized
-    (all_bases instance a formed bases 0 (omega arith)) formed.least formed.greatest
+    (all_bases instance a formed bases 0 no_section (omega arith)) formed.least formed.greatest
     (given_lowest (form_of instance) a formed) chain between worth
 
 pub are_blocks_right-requires-clause-bases : goal.are_blocks_right-requires-clause-bases

@@ -7,7 +7,7 @@ use Rattle.sfm_kind.specs.Kinds.{kind_places, kind_value}
 use Rattle.sfm_cert.specs.Answer.{mark_of}
 use Rattle.sfm_cert.specs.Form.{IsFormedBreak}
 use Rattle.sfm_cert.specs.Solved.{answer_of, break_of, form_of}
-use Rattle.sfm_check.specs.Findings.{set_before}
+use Rattle.sfm_check.specs.Findings.{no_section, set_before}
 use Rattle.sfm_check.specs.Values.{IsStepAt, IsWorth}
 use Rattle.sfm_check.proofs.AllSlopes.{fit}
 use Rattle.sfm_check.proofs.ByValues.{slopes_right}
@@ -94,5 +94,5 @@ returns c = λ true.
     let places : length (set_before (empty_set n) (map mark_of a.breaks) k) ≡ n = ap length (sym (before_same n (empty_set n) items k refl)) ∙ before_places (form_of instance) a items (empty_set n) k c.requires.formed refl refl (omega (arith, last)) in
     let full : size (set_before (empty_set n) (map mark_of a.breaks) k) ≡ n = sym size_is ∙ (whole_size ∙ c.names_len-n.ensures.len) in
     let ends : set_before (empty_set n) (map mark_of a.breaks) (length a.breaks) ≡ whole_set n = ap (set_before (empty_set n) (map mark_of a.breaks)) (breaks ∙ sym last) ∙ whole_by_size n (set_before (empty_set n) (map mark_of a.breaks) k) places full in
-    slopes_right ms n c.args.sizes.now (fit n ts c.tell_kept.ensures.bounded) c.requires.sizes (form_of instance) a refl c.requires.formed (all_bases instance a c.requires.formed c.requires.bases)
+    slopes_right ms n c.args.sizes.now (fit n ts c.tell_kept.ensures.bounded) c.requires.sizes (form_of instance) a refl c.requires.formed (λ s l. all_bases instance a c.requires.formed c.requires.bases s no_section l)
     (λ j l. c.loop-k.invariant.2 j (omega (arith, l, last, breaks))) ends

@@ -2,8 +2,7 @@ use Rattle.std.proofs.Common.{◌≡◌, ℕ, ◌-◌, ◌^◌, ◌≤◌, lengt
 use Rattle.sfm_cert.specs.Answer.{text_of}
 use Rattle.sfm_cert.specs.Solved.{form_of}
 use Rattle.sfm_cert.proofs.InstanceLengths.{few_widths}
-use Rattle.sfm_level.specs.LevelText.{level_lines}
-use Rattle.sfm_level.specs.Told.{level_of}
+use Rattle.sfm_level.specs.Told.{level_lines, level_of}
 use Rattle.sfm_level.proofs.Forms.{level_short}
 use Rattle.sfm_level.proofs.text.level_len.Goals as goal
 

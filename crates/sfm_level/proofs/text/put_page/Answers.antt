@@ -2,8 +2,7 @@ use Rattle.std.proofs.Common.{◌++◌, ap, ◌∙◌}
 use Rattle.std.proofs.lemmas.List.{take_all}
 use Rattle.sfm_cert.specs.Answer.{text_of}
 use Rattle.sfm_cert.specs.Solved.{form_of}
-use Rattle.sfm_level.specs.LevelText.{level_lines}
-use Rattle.sfm_level.specs.Told.{level_of}
+use Rattle.sfm_level.specs.Told.{level_lines, level_of}
 use Rattle.sfm_level.proofs.text.put_page.Goals as goal
 
 pub returns : goal.returns

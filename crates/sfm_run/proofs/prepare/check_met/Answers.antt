@@ -1,6 +1,6 @@
 use Rattle.std.proofs.lemmas.Result.{IfOk-weaker}
 use Rattle.sfm_due.specs.Meanings.{question_of}
-use Rattle.sfm_pair.specs.Pair.{IsMetJudged}
+use Rattle.sfm_pair.specs.Sides.{IsMetJudged}
 use Rattle.sfm_run.specs.Task.{ends}
 use Rattle.sfm_run.proofs.Joining.{made}
 use Rattle.sfm_run.proofs.Opening.{answers, misses_answer}

@@ -1,5 +1,5 @@
 use Rattle.std.proofs.lemmas.Result.{IfOk-weaker}
-use Rattle.sfm_due.specs.Due.{IsJudgedBySizes}
+use Rattle.sfm_due.specs.Owing.{IsJudgedBySizes}
 use Rattle.sfm_due.specs.Meanings.{question_of}
 use Rattle.sfm_run.specs.Task.{ends}
 use Rattle.sfm_run.proofs.Joining.{made}

@@ -2,8 +2,7 @@ use Rattle.std.proofs.Common.{ℕ, List}
 use Rattle.sfm_due.specs.Lined.{Lined}
 use Rattle.sfm_due.specs.Due.{Question}
 use Rattle.sfm_due.specs.Meanings.{question_of}
-use Rattle.sfm_pair.specs.Pair.{IsMetJudged}
-use Rattle.sfm_pair.specs.Sides.{lined_of}
+use Rattle.sfm_pair.specs.Sides.{lined_of, IsMetJudged}
 use Rattle.sfm_run.specs.Task.{Task, ends, reads}
 use Rattle.sfm_run.specs.Files.{answer_file, right_file}
 use Rattle.sfm_run.proofs.Joining.{goes_on, misses, refuses}

@@ -1,6 +1,6 @@
 use Rattle.std.proofs.Common.{◌≡◌}
 use Rattle.sfm_due.specs.Due.{Question}
-use Rattle.sfm_due.specs.Level.{IsLevelled}
+use Rattle.sfm_due.specs.Owing.{IsLevelled}
 use Rattle.sfm_due.specs.Meanings.{question_of}
 use Rattle.sfm_run.specs.Task.{Task}
 use Rattle.sfm_run.specs.Files.{level_file}

@@ -1,5 +1,6 @@
 use Rattle.std.proofs.Common.{ℕ, List}
-use Rattle.sfm_due.specs.Due.{IsWeighed, Question}
+use Rattle.sfm_due.specs.Due.{Question}
+use Rattle.sfm_due.specs.Owing.{IsWeighed}
 use Rattle.sfm_due.specs.Meanings.{question_of}
 use Rattle.sfm_run.specs.Task.{Task, reads}
 use Rattle.sfm_run.specs.Files.{sizes_file}

@@ -1,5 +1,6 @@
 use Rattle.std.proofs.Common.{ℕ, List}
-use Rattle.sfm_due.specs.Due.{IsJudgedBySizes, Question}
+use Rattle.sfm_due.specs.Due.{Question}
+use Rattle.sfm_due.specs.Owing.{IsJudgedBySizes}
 use Rattle.sfm_due.specs.Meanings.{question_of}
 use Rattle.sfm_run.specs.Task.{Task, ends, reads}
 use Rattle.sfm_run.specs.Files.{answer_file, sizes_file}

@@ -1,5 +1,6 @@
 use Rattle.std.proofs.Common.{◌≡◌, List, ℤ}
-use Rattle.sfm_due.specs.Due.{IsWeighed, Question}
+use Rattle.sfm_due.specs.Due.{Question}
+use Rattle.sfm_due.specs.Owing.{IsWeighed}
 use Rattle.sfm_due.specs.Meanings.{question_of}
 use Rattle.sfm_run.specs.Preparing.{items_of}
 use Rattle.sfm_run.specs.Task.{Task}
