@@ -19,5 +19,6 @@ pub use levels::find_levels;
 pub use moving::{amount_of, move_along};
 pub use multiples::{copy_graph, restart_by};
 pub use path::{Hop, Path, follow, local_of, steps_along};
+pub use renewing::renew_rows;
 pub use sfm_reach::{Bits, no_bits, reached_from, set_of};
 pub use signs::{Signs, move_signs, signs_of};

@@ -17,7 +17,7 @@ pub use ahead::Ahead;
 pub use asking::ask_all;
 pub use bits::{Bits, no_bits, only};
 pub use image::Image;
-pub use reach::{Based, BitRows, blank_rows, notes_of, row_beside, row_by};
+pub use reach::{Based, BitRows, ask, blank_rows, notes_of, row_beside, row_by};
 pub use reached::{reached_from, set_of, take_in};
 pub use spots::{Spot, Spots, spots_of};
 pub use turned::turned_of;

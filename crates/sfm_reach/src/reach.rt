@@ -50,8 +50,8 @@ impl Model for BitRows {
 }
 
 impl BitRows {
-    // Rows with no place.
-    fn blank(alloc: Global, len: usize) -> Result<BitRows, Memory>
+    /// So many rows, each with no place.
+    pub fn blank(alloc: Global, len: usize) -> Result<BitRows, Memory>
         ensures { IfOk result (λ r. length r ≡ len) }
     {
         let rows = vec![in alloc; no_bits(); len]?;
