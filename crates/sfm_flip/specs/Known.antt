@@ -1,32 +1,55 @@
--- What a note of a term that is turned round tells: what the term's own note tells of the negated base, and the rows of the term
--- there that are known.
-use Rattle.std.specs.Prelude.{◌≡◌, ℕ, ◌<◌, ◌^◌, Bool, List, [], length, slice_index_or, ℤ, pos, ◌≤ℤ◌}
-use Rattle.std.specs.List.{All}
-use Rattle.sfm_spec.specs.Bounds.{IsEntry, IsFactor}
+-- What a note of a term that is turned round tells: what the term's own note tells of the negated base, and the rows of the term there,
+-- or at the base before it, by the exchange that is owed.
+use Rattle.std.specs.Prelude.{◌≡◌, ◌≢◌, ◌↔◌, ℕ, ◌<◌, Bool, List, length, ℤ, Option, Some, None}
 use Rattle.sfm_spec.specs.Sets.{Has}
-use Rattle.sfm_spec.specs.Terms.{SetFunction, times, IsBase}
-use Rattle.sfm_law.specs.Room.{IsReach}
+use Rattle.sfm_spec.specs.Terms.{SetFunction, times, HasRoom}
+use Rattle.sfm_reach.specs.declared.bits.Bits.{Bits}
+use Rattle.sfm_reach.specs.Based.{IsBased}
+use Rattle.sfm_reach.specs.Bits.{bit_in, set_at}
+use Rattle.sfm_reach.specs.Reach.{IsRow}
+use Rattle.sfm_exchange.specs.Claimed.{AreClaims}
+use Rattle.sfm_exchange.specs.Renewed.{IsExchanged}
 use Rattle.sfm_kind.specs.Meanings.{kind_places}
 use Rattle.sfm_kind.specs.Kinds.{kind_value, kind_size, kind_fits}
 use Rattle.sfm_kind.specs.declared.kind.Kind.{Kind}
 use Rattle.sfm_flip.specs.declared.note.FlipNote.{FlipNote}
-
--- a set for each place of a base: where the place is known, the set is its row, the places other than it to which it has room
-pub record AreKnownRows (f : SetFunction) (x : List ℤ) (known : List Bool) (rows : List (List Bool)) : Type 0 where
-  pub places : length known ≡ length x
-  pub count : length rows ≡ length x
-  pub sizes : (u : ℕ) → u < length x → length (slice_index_or rows u []) ≡ length x
-  pub exact : (u : ℕ) → u < length x → Has known u → IsReach f x u (slice_index_or rows u [])
+use Rattle.sfm_flip.specs.declared.note.Owed.{Owed}
 
 -- x is a base of q times the term, within the bounds of the calls of a term
-pub record IsBaseOf (kind : Kind) (q : ℤ) (x : List ℤ) : Type 0 where
-  pub factor : IsFactor q
-  pub entries : length x ≡ length (kind_places kind)
-  pub bounded : kind_size kind ≤ℤ pos (10 ^ 18)
-  pub small : All IsEntry x
-  pub base : IsBase (times q (kind_value kind)) x
+abbrev pub IsBaseOf : Kind → ℤ → List ℤ → Type 0
+IsBaseOf kind q x = IsBased kind_places kind_value kind_size kind q x
+
+-- the base has come by the exchange that is owed from one at which the rows are those of the term, some of them only claimed
+pub record IsOwed (places : List ℕ) (f : SetFunction) (x : List ℤ) (claimed : Bits) (rows : List Bits) (owed : Owed) : Type 0 where
+  pub apart : owed.raised ≢ owed.lowered
+  pub raised_in : owed.raised < length x
+  pub lowered_in : owed.lowered < length x
+  pub before : List ℤ
+  pub came : IsExchanged f before x owed.raised owed.lowered
+  pub claims : AreClaims places f before claimed rows
+
+-- the rows are those of the term at the base, some of them only claimed; where an exchange is owed, at the base before that
+abbrev pub AreKept : List ℕ → SetFunction → List ℤ → Bits → List Bits → Option Owed → Type 0
+AreKept places f x claimed rows None = AreClaims places f x claimed rows
+AreKept places f x claimed rows (Some owed) = IsOwed places f x claimed rows owed
 
 -- what is kept beside the base of q times the term that the note keeps is true there
 pub record IsNoted (kind : Kind) (q : ℤ) (note : FlipNote) : Type 0 where
   pub inner : kind_fits kind note.inner q note.base
-  pub rows : AreKnownRows (times q (kind_value kind)) note.base note.known note.rows.items
+  pub count : length note.rows ≡ length (kind_places kind)
+  pub rows : AreKept (kind_places kind) (times q (kind_value kind)) note.base note.claimed note.rows note.owed
+
+-- the same, where no exchange is owed
+pub record IsSettled (kind : Kind) (q : ℤ) (note : FlipNote) : Type 0 where
+  pub inner : kind_fits kind note.inner q note.base
+  pub count : length note.rows ≡ length (kind_places kind)
+  pub claims : AreClaims (kind_places kind) (times q (kind_value kind)) note.base note.claimed note.rows
+  pub nothing : note.owed ≡ None
+
+-- of the first k rows those that have a ground place are true ones
+abbrev pub AreTrueAt : List ℕ → SetFunction → List ℤ → List Bits → ℕ → ℕ → Type 0
+AreTrueAt places f x rows place k = (v : ℕ) → v < k → bit_in (set_at rows v) place ≡ 1 → IsRow places f x v (set_at rows v)
+
+-- s has the places other than u that have room to u
+abbrev pub IsColumn : SetFunction → List ℤ → ℕ → List Bool → Type 0
+IsColumn f x u s = (v : ℕ) → v < length x → Has s v ↔ ((v ≢ u) × HasRoom f x v u)

@@ -1,13 +1,13 @@
 // A term turned round: what a part is worth is what its rest is worth, less the whole. So its bases are the negated ones, and its room
 // of (u, v) is that of (v, u) at the negated base (Fujishige, Submodular Functions and Optimization, section 2.3). It is seen as the
-// term that is turned. The row of a place is its column in the term: the places whose rows have it.
+// term that is turned. The row of a place is its column in the term: the places whose rows have it (note.rt).
 ghost use Rattle.std.specs.{Prelude.{◌≡◌, ◌≢◌, ◌↔◌, ◌*◌, ◌^◌, ◌<◌, Bool, List, length, ℤ, pos, neg_ℤ, ◌*ℤ◌, ◌≤ℤ◌, IfOk, OnOk, IsTrue, Some}, List.{All}};
 ghost use Rattle.sfm_spec.specs.{Bounds.{IsEntry, IsFactor}, Terms.{SetFunction, times, IsBase, IsFamily, IsSubmodular, exchanged}};
 ghost use Rattle.sfm_law.specs.Room.{IsRoom, IsReach, IsWithinRoom};
 ghost use Rattle.sfm_kind.specs.{Meanings.{kind_places}, Kinds.{kind_size}};
 ghost use Rattle.sfm_flip.specs.{Flipped.{negated}, Flips.{flip_value, flip_size, flip_start, flip_fits, flip-family, flip-submodular, flip-bounded, flip-starts, flip-starts_small}};
 
-use crate::note::{FlipNote, blank_rows, find_rows, forget_rows, put_column};
+use crate::note::{FlipNote, Owed, note_at, settle, tell_column};
 use sfm_base::{Memory, Numbers, Set};
 use sfm_kind::Kind;
 use sfm_law::{Room, Term, exchange};
@@ -102,6 +102,10 @@ impl Term for Flip {
         self.term.elements()
     }
 
+    fn asks_at_once(&self) -> bool {
+        self.term.asks_at_once()
+    }
+
     fn size(&self) -> i128 {
         2 * self.term.size()
     }
@@ -148,15 +152,7 @@ impl Term for Flip {
 
     fn note(&self, alloc: Global, q: i128, x: &[i128]) -> Result<FlipNote, Memory> {
         let base = turned(alloc, x)?;
-        let rows = blank_rows(alloc, x.len())?;
-        let known = Set::empty(alloc, x.len())?;
-        let inner = self.term.note(alloc, q, base.as_slice())?;
-        Ok(FlipNote {
-            inner,
-            base,
-            rows,
-            known,
-        })
+        note_at(alloc, &self.term, q, base)
     }
 
     fn reach_by(
@@ -168,9 +164,7 @@ impl Term for Flip {
         u: usize,
         to: &mut Set,
     ) -> Result<(), Memory> {
-        find_rows(alloc, &self.term, q, note)?;
-        put_column(&note.rows, u, to);
-        Ok(())
+        tell_column(alloc, &self.term, q, note, u, to)
     }
 
     fn room_by(
@@ -196,10 +190,17 @@ impl Term for Flip {
         v: usize,
         a: i128,
     ) -> Result<(), Memory> {
+        if a == 0 {
+            return Ok(());
+        }
+        settle(alloc, &self.term, q, note)?;
         self.term
             .moved(alloc, q, note.base.as_slice(), &mut note.inner, v, u, a)?;
         exchange(&self.term, q, note.base.as_mut_slice(), v, u, a);
-        forget_rows(&note.rows, u, &mut note.known);
+        note.owed = Some(Owed {
+            raised: v,
+            lowered: u,
+        });
         Ok(())
     }
 }

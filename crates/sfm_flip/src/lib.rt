@@ -5,4 +5,4 @@ mod flip;
 mod note;
 
 pub use flip::{Flip, turned};
-pub use note::FlipNote;
+pub use note::{FlipNote, Owed};

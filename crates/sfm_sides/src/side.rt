@@ -114,10 +114,7 @@ impl Term for Side {
     }
 
     fn asks_at_once(&self) -> bool {
-        match self {
-            Side::Left(term) => term.asks_at_once(),
-            Side::Right(_) => false,
-        }
+        by_side!(self, term => term.asks_at_once())
     }
 
     fn size(&self) -> i128 {

@@ -479,7 +479,7 @@ fn all_walk(alloc: Global, number: usize) -> bool {
     walks(alloc, &flip) && walks(alloc, &Side::Left(kind)) && walks(alloc, &Side::Right(turned))
 }
 
-/// Whether the left side names the order of a graphic rank and is asked for rows at once, and the right side is not.
+/// Whether the left side names the order of a graphic rank and the right side does not, and both are asked for rows at once.
 fn are_orders_right(alloc: Global) -> bool {
     let Some(kind) = kind_of(alloc, 8) else {
         return false;
@@ -489,10 +489,7 @@ fn are_orders_right(alloc: Global) -> bool {
     };
     let left = Side::Left(kind);
     let right = Side::Right(turned);
-    left.order().is_some()
-        && left.asks_at_once()
-        && right.order().is_none()
-        && !right.asks_at_once()
+    left.order().is_some() && left.asks_at_once() && right.order().is_none() && right.asks_at_once()
 }
 
 #[test]

@@ -1,14 +1,14 @@
 -- A row is a column of the term at the negated base.
 use Rattle.std.proofs.Common.{◌≡◌, ◌∙◌}
+use Rattle.std.proofs.lemmas.Result.{on_ok_weaker}
 use Rattle.sfm_kind.specs.Kinds.{kind_value, kind-family, kind-submodular}
-use Rattle.sfm_flip.specs.Flipped.{negated}
 use Rattle.sfm_kind.proofs.Passed.{factor_kept}
 use Rattle.sfm_flip.proofs.Bases.{base_of}
-use Rattle.sfm_flip.proofs.KnownRows.{column_is}
+use Rattle.sfm_flip.proofs.KnownRows.{reach_is}
 use Rattle.sfm_flip.proofs.flip.FlipTerm.reach_by.Goals as goal
 
-pub find_rows-requires-clause-base : goal.find_rows-requires-clause-base
-find_rows-requires-clause-base c =
+pub tell_column-requires-clause-based : goal.tell_column-requires-clause-based
+tell_column-requires-clause-based c =
     let s = c.args.self.now in
     let r = c.requires in
     let v : c.self.inside.term ≡ s = c.self.view_is in
@@ -18,11 +18,6 @@ pub returns-clause-reached : goal.returns-clause-reached
 returns-clause-reached c =
     let s = c.args.self.now in
     let r = c.requires in
-    let x = c.args._x.now in
-    let told = c.in_ok-find_rows.ensures in
     let v : c.self.inside.term ≡ s = c.self.view_is in
-    let base : c.find_rows.new.note.base ≡ negated x = told.base ∙ r.noted.0 in
-    let rows = rw (factor_kept _ r.factor, base, v) at told.noted.rows in
-    let column = rw (c.deref.ensures.value, r.room_for_answer) at c.put_column.ensures.column in
-    column_is _ (kind_value s) (kind-family s) (kind-submodular s) c.args.q r.factor.low x c.find_rows.new.note.known c.find_rows.new.note.rows.items c.args.u c.put_column.new.to
-    r.entries rows (rw r.noted.0 at told.known) r.from (c.put_column.ensures.places ∙ r.room_for_answer) column
+    let column = rw (factor_kept _ r.factor, r.noted.0, v) at c.tell_column.ensures.column in
+    on_ok_weaker c.tell_column.result (reach_is _ (kind_value s) (kind-family s) (kind-submodular s) c.args.q r.factor.low c.args._x.now c.args.u c.tell_column.new.to r.entries r.from (c.tell_column.ensures.places ∙ r.room_for_answer)) column
