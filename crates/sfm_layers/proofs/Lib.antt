@@ -1,0 +1,4 @@
+pub mod Levels
+pub mod Layers
+pub mod Ones
+pub mod Kept

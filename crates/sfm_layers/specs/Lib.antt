@@ -1,0 +1,3 @@
+pub mod Weights
+pub mod Kept
+pub mod Layers
