@@ -9,4 +9,5 @@ pub mod Ranks
 pub mod Replacing
 pub mod Shares
 pub mod Tights
+pub mod UniformRanks
 pub mod UniformRooms

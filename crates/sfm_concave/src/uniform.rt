@@ -1,12 +1,14 @@
 // A number w times the count of a part, up to a cap: the weighted rank of a uniform matroid, which is a concave function of
 // the count. The bases of q times it are the vectors with entries from 0 to q·w that have q times the whole value in all:
 // so the room of (u, v) is what v has, or what u lacks of q·w where that is less.
-ghost use Rattle.std.specs.{Prelude.{◌≡◌, ◌≢◌, ◌↔◌, ◌<◌, ◌≤◌, ◌^◌, length, ℤ, pos, ◌*ℤ◌, ◌≤ℤ◌, IfOk, IsTrue, Option, Some}, List.{All}};
-ghost use Rattle.sfm_spec.specs.{Bounds.{IsAtMost, IsEntry, IsFactor, IsGiven, AreElements, total_of}, Terms.{times, IsGreedy}, Kinds.{uniform_value}};
+ghost use Rattle.std.specs.{Prelude.{◌≡◌, ◌≢◌, ◌↔◌, ℕ, ◌<◌, ◌≤◌, ◌^◌, length, ℤ, pos, ◌*ℤ◌, ◌≤ℤ◌, IfOk, IsTrue, Option, Some}, List.{All}};
+ghost use Rattle.sfm_spec.specs.{Bounds.{IsAtMost, IsEntry, IsFactor, IsGiven, AreElements, total_of}, Sets.{Has}, Terms.{times, IsGreedy}, Kinds.{uniform_value}};
+ghost use Rattle.sfm_layers.specs.Kept.{kept};
 ghost use Rattle.sfm_concave.specs.UniformLaws.{rank_of, IsUniformRoom, uniform_size, uniform_gain, uniform_start, uniform-family, uniform-submodular, uniform-bounded, uniform-starts, uniform-starts_small};
 
 use sfm_base::{Memory, Places, Set};
 use sfm_law::{Plain, Room, are_within, has_sum, least_left, product, put_others_over, write_each};
+use sfm_layers::kept_of;
 use std::alloc::Global;
 
 /// A number for each element of a part, but for at most `cap` of them: the weighted rank of a uniform matroid (Schrijver,
@@ -54,6 +56,24 @@ impl Uniform {
             w: self.w,
             cap: self.cap,
         })
+    }
+
+    /// The rank over the elements that are kept alone, which each count w where they are independent.
+    ///
+    /// # Errors
+    ///
+    /// `Memory` where there is none.
+    pub fn restricted(&self, alloc: Global, keep: &Set, w: i128) -> Result<Uniform, Memory>
+        requires each { length keep.now ≡ length self.now.places }
+        requires some { (e : ℕ) × Has keep.now e }
+        requires low { pos 0 ≤ℤ w }
+        requires given { IsGiven w }
+        ensures places { IfOk result (λ r. r.places ≡ kept keep.now self.now.places) }
+        ensures number { IfOk result (λ r. r.w ≡ w) }
+        ensures cap { IfOk result (λ r. r.cap ≡ self.now.cap) }
+    {
+        let elements = kept_of(alloc, keep, self.places.as_slice())?;
+        Uniform::new(alloc, &elements, w, self.cap)
     }
 
     /// The value of a count of places. The cap is taken before multiplying, so that the product stays small.

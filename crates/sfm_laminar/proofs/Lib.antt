@@ -9,5 +9,6 @@ pub mod Leasts
 pub mod Ends
 mod Holders
 mod Counted
+pub mod Cut
 mod Repeats
 mod Slacking

@@ -7,5 +7,6 @@ pub mod Ranks
 pub mod LaminarLaws
 pub mod Indexes
 pub mod Counts
+pub mod Cut
 pub mod Rooms
 pub mod Slacks

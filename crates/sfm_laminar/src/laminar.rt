@@ -105,7 +105,7 @@ impl Laminar {
     }
 
     /// The same, where no two groups cross.
-    fn uncrossed(
+    pub(crate) fn uncrossed(
         alloc: Global,
         elements: &[usize],
         w: i128,

@@ -10,6 +10,7 @@ pub mod laminar;
 mod masks;
 mod number;
 mod place;
+mod restrict;
 pub mod slacks;
 
 pub use groups::{CappedGroup, Groups};

@@ -20,3 +20,5 @@ mod Labels
 mod CutForms
 mod Numbers
 mod SlotForms
+mod KeptPlaces
+pub mod Restricted

@@ -1,7 +1,8 @@
 // The slots of elements, entry by entry in the order in which they come, with a number above all slots.
 ghost use Rattle.std.specs.{Prelude.{◌≡◌, ℕ, ◌<◌, ◌≤◌, ◌^◌, List, [], ◌∷◌, ◌++◌, length, slice_index_or, is_ok, IfOk, if◌then◌else◌}, List.{All}};
+ghost use Rattle.sfm_layers.specs.Kept.{kept};
 
-use sfm_base::Memory;
+use sfm_base::{Memory, Set};
 use std::alloc::Global;
 use std::marker::Model;
 
@@ -90,6 +91,27 @@ impl Entries {
         let mut items = Vec::with_capacity(alloc, self.items.len())?;
         for slots in &self.items {
             items.push(slots.copy(alloc)?)?;
+        }
+        Ok(Entries {
+            items,
+            above: self.above,
+        })
+    }
+
+    /// The entries that are kept, in their order.
+    ///
+    /// # Errors
+    ///
+    /// `Memory` where there is none.
+    pub(crate) fn restricted(&self, alloc: Global, keep: &Set) -> Result<Entries, Memory>
+        requires { length keep.now ≡ length self.now }
+        ensures { IfOk result (λ r. r ≡ kept keep.now self.now) }
+    {
+        let mut items = Vec::new(alloc);
+        for e in 0..self.items.len() {
+            if keep.contains(e) {
+                items.push(self.items[e].copy(alloc)?)?;
+            }
         }
         Ok(Entries {
             items,

@@ -12,6 +12,7 @@ mod matching;
 mod order;
 pub mod pair;
 mod ranked;
+mod restrict;
 mod room;
 pub mod rooted;
 pub mod splits;
