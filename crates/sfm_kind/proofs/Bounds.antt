@@ -12,7 +12,7 @@ use Rattle.sfm_spec.specs.Names.{IsName}
 use Rattle.sfm_spec.specs.Bounds.{AreElements}
 use Rattle.sfm_kind.specs.Kinds.{kind_places, kind_size, kind-submodular, kind-bounded}
 use Rattle.sfm_kind.specs.Names.{IsNewName, AreElementNames}
-use Rattle.sfm_kind.specs.Instance.{support_of}
+use Rattle.sfm_kind.specs.Instance.{support_of, width_of, terms_in}
 use Rattle.sfm_kind.specs.Limits.{AreInBounds, HasRoomFor, total_size_of, IsKept}
 use lib.Signed.{le_z}
 use mir.Syntax.{w128}
@@ -53,6 +53,14 @@ support-push terms term =
     let after = sum-map length (map kind_places terms ++ kind_places term ∷ []) in
     let more = sum_by_push length (map kind_places terms) (kind_places term) in
     rw (map-append kind_places terms (term ∷ [])) (after ∙ (more ∙ ap (λ z. z + length (kind_places term)) (sym before)))
+
+-- the terms of some lines are those of all of them
+pub terms_in-push : (lines : List ℕ) (layers : ℕ) → terms_in (lines ++ layers ∷ []) ≡ terms_in lines + width_of layers
+terms_in-push lines layers =
+    let before = sum-map width_of lines in
+    let after = sum-map width_of (lines ++ layers ∷ []) in
+    let more = sum_by_push width_of lines layers in
+    omega (arith, before, after, more)
 
 -- places stay below a greater number of names
 pub placed_more : (n m : ℕ) (places : List ℕ) → n ≤ m → IsPlaced n places → IsPlaced m places
@@ -105,19 +113,23 @@ in_bounds-last n terms term h =
     )
 
 -- what an instance keeps, with one more name
-pub kept-named : (names : List (List ℕ)) (name : List ℕ) (terms : List Kind) (support : ℕ) (total : ℤ) → IsKept names terms support total → IsName name → IsNewName names name → length names < 256 → IsKept (names ++ name ∷ []) terms support total
-kept-named names name terms support total h form fresh few = record {
+pub kept-named : (names : List (List ℕ)) (name : List ℕ) (terms : List Kind) (lines : List ℕ) (support : ℕ) (total : ℤ) → IsKept names terms lines support total → IsName name → IsNewName names name → length names < 256
+    → IsKept (names ++ name ∷ []) terms lines support total
+kept-named names name terms lines support total h form fresh few = record {
   named = named-push names name h.named form fresh few;
   bounded = rw (length_push names name) (in_bounds-named (length names) terms (omega arith) h.bounded);
+  lined = h.lined;
   supported = h.supported;
   totalled = h.totalled;
 }
 
--- and with one more term
-pub kept-added : (names : List (List ℕ)) (terms : List Kind) (term : Kind) (support : ℕ) (total : ℤ) → IsKept names terms support total → AreInBounds (length names) (terms ++ term ∷ []) → IsKept names (terms ++ term ∷ []) (support + length (kind_places term)) (total +ℤ kind_size term)
-kept-added names terms term support total h bounded = record {
+-- and with one more term, which is a line of its own
+pub kept-added : (names : List (List ℕ)) (terms : List Kind) (lines : List ℕ) (term : Kind) (support : ℕ) (total : ℤ) → IsKept names terms lines support total → AreInBounds (length names) (terms ++ term ∷ [])
+    → IsKept names (terms ++ term ∷ []) (lines ++ 0 ∷ []) (support + length (kind_places term)) (total +ℤ kind_size term)
+kept-added names terms lines term support total h bounded = record {
   named = h.named;
   bounded = bounded;
+  lined = omega (arith, terms_in-push lines 0, h.lined, length_push terms term);
   supported = omega (arith, h.supported, support-push terms term);
   totalled = omega (arith, ints, h.totalled, total_size-push terms term);
 }
@@ -127,8 +139,8 @@ pub record IsTotal (total : ℤ) : Type 0 where
   pub low : pos 0 ≤ℤ total
   pub high : total ≤ℤ pos (10 ^ 18)
 
-pub kept-total : (names : List (List ℕ)) (terms : List Kind) (support : ℕ) (total : ℤ) → IsKept names terms support total → IsTotal total
-kept-total names terms support total h = record {
+pub kept-total : (names : List (List ℕ)) (terms : List Kind) (lines : List ℕ) (support : ℕ) (total : ℤ) → IsKept names terms lines support total → IsTotal total
+kept-total names terms lines support total h = record {
   low = omega (arith, ints, h.totalled, total_size-low terms);
   high = omega (arith, ints, h.totalled, h.bounded.small);
 }
@@ -138,18 +150,18 @@ pub record IsSum (total size : ℤ) : Type 0 where
   pub fits : FitsSigned w128 (total +ℤ size)
   pub is : (to_z w128 (of_z w128 total) +ℤ to_z w128 (of_z w128 size)) ≡ (total +ℤ size)
 
-pub added-total : (names : List (List ℕ)) (terms : List Kind) (term : Kind) (support : ℕ) (total : ℤ) → IsKept names terms support total → AreInBounds (length names) (terms ++ term ∷ []) → IsSum total (kind_size term)
-added-total names terms term support total h bounded =
-    let known = kept-total names terms support total h in
+pub added-total : (names : List (List ℕ)) (terms : List Kind) (lines : List ℕ) (term : Kind) (support : ℕ) (total : ℤ) → IsKept names terms lines support total → AreInBounds (length names) (terms ++ term ∷ []) → IsSum total (kind_size term)
+added-total names terms lines term support total h bounded =
+    let known = kept-total names terms lines support total h in
     let low = kind_size-low term in
     let room = (in_bounds-last (length names) terms term bounded).1 in
     let small : (total +ℤ kind_size term) ≤ℤ pos (10 ^ 18) = omega (arith, ints, h.totalled, room.small) in
     record { fits = omega (arith, ints, known.low, low, small); is = omega (arith, ints, known.low, low, small) }
 
 -- with few enough terms and places, the size decides
-pub room_exact : (names : List (List ℕ)) (terms : List Kind) (support : ℕ) (total : ℤ) (places : ℕ) (size : ℤ) → IsKept names terms support total → length terms < 16384 → places ≤ 16384 - support
+pub room_exact : (names : List (List ℕ)) (terms : List Kind) (lines : List ℕ) (support : ℕ) (total : ℤ) (places : ℕ) (size : ℤ) → IsKept names terms lines support total → length terms < 16384 → places ≤ 16384 - support
     → IsTrue (le_z size (pos (10 ^ 18) -ℤ total)) ↔ HasRoomFor terms places size
-room_exact names terms support total places size h few_terms few_places = (
+room_exact names terms lines support total places size h few_terms few_places = (
   λ t. record {
     few_terms = few_terms;
     few_places = omega (arith, few_places, h.supported, h.bounded.few_places);

@@ -3,3 +3,10 @@ pub mod Bounds
 pub mod Meanings
 pub mod Passed
 pub mod Removed
+pub mod Lined
+pub mod Ranked
+pub mod Layered
+pub mod Levels
+pub mod Brought
+pub mod Stepped
+pub mod Parted

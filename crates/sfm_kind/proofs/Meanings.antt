@@ -8,7 +8,11 @@ use Rattle.std.proofs.lemmas.List.{length-append, length-replicate}
 use Rattle.sfm_spec.specs.Sets.{whole_set}
 use Rattle.sfm_spec.specs.Terms.{SetFunction, first_places, IsGreedy}
 use Rattle.sfm_spec.specs.Families.{Meaning, meanings}
-use Rattle.sfm_spec.specs.Kinds.{IsRank, IsRankFunction}
+use Rattle.sfm_spec.specs.Kinds.{IsWithinCaps, IsForest, IsMatchable}
+use Rattle.sfm_spec.specs.Laws.{ones}
+use Rattle.sfm_spec.proofs.Ones.{ones-places}
+use Rattle.sfm_layers.specs.Weights.{IsWeightedRank}
+use Rattle.sfm_layers.proofs.Ones.{greatest-one, weighted-rank}
 use Rattle.sfm_spec.proofs.Sizes.{size-whole}
 use Rattle.sfm_simple.specs.TableLaws.{greatest, table-greedy}
 use Rattle.sfm_simple.specs.WeightLaws.{weight-greedy}
@@ -17,11 +21,14 @@ use Rattle.sfm_simple.specs.CoverLaws.{cover-greedy}
 use Rattle.sfm_concave.specs.ConcaveLaws.{concave-greedy}
 use Rattle.sfm_concave.specs.ConcaveLaws as concaves
 use Rattle.sfm_concave.specs.UniformLaws.{uniform-greedy}
-use Rattle.sfm_laminar.specs.LaminarLaws.{laminar-function, laminar-greedy}
+use Rattle.sfm_concave.proofs.UniformRanks.{uniform-weighted}
+use Rattle.sfm_laminar.specs.LaminarLaws.{laminar_value, laminar-function, laminar-greedy}
+use Rattle.sfm_matroid.specs.Graphs.{graphic_value}
+use Rattle.sfm_matroid.specs.Slots.{transversal_value}
 use Rattle.sfm_matroid.specs.GraphicLaws.{graphic-function, graphic-greedy}
 use Rattle.sfm_matroid.specs.TransversalLaws.{transversal-function, transversal-greedy}
 use Rattle.sfm_kind.specs.Kinds.{kind_value, kind_size, kind_start}
-use Rattle.sfm_kind.specs.Meanings.{kind_places, IsValueOf, IsMeaningOf, value_of_all, size_by, total_by, IsStartOf, AreStarts}
+use Rattle.sfm_kind.specs.Meanings.{kind_places, IsIndependentIn, IsValueOf, IsMeaningOf, value_of_all, size_by, total_by, IsStartOf, AreStarts}
 use Rattle.sfm_kind.specs.Limits.{total_size_of}
 use Rattle.sfm_kind.specs.declared.kind.Kind.{Kind}
 use Rattle.sfm_kind.specs.declared.kind.Kind.TheVariants.{Weight, Cut, Cover, Need, Table, Concave, Uniform, Laminar, Graphic, Transversal}
@@ -35,10 +42,19 @@ kind-means (Cover term) = record { places = refl; values = refl }
 kind-means (Need term) = record { places = refl; values = refl }
 kind-means (Table term) = record { places = refl; values = refl }
 kind-means (Concave term) = record { places = refl; values = refl }
-kind-means (Uniform term) = record { places = refl; values = refl }
-kind-means (Laminar term) = record { places = refl; values = laminar-function (length term.places) term.w term.groups term.grouped }
-kind-means (Graphic term) = record { places = refl; values = graphic-function (length term.places) term.w term.ends term.same_count }
-kind-means (Transversal term) = record { places = refl; values = transversal-function (length term.places) term.w term.entries term.same_count }
+kind-means (Uniform term) = record { places = refl; values = uniform-weighted (length term.places) term.w term.cap term.cap_low }
+kind-means (Laminar term) = record {
+  places = refl;
+  values = weighted-rank (length term.places) term.w (IsWithinCaps term.groups) (laminar_value (length term.places) term.w term.groups) (laminar-function (length term.places) term.w term.groups term.grouped);
+}
+kind-means (Graphic term) = record {
+  places = refl;
+  values = weighted-rank (length term.places) term.w (IsForest term.ends) (graphic_value term.w term.ends) (graphic-function (length term.places) term.w term.ends term.same_count);
+}
+kind-means (Transversal term) = record {
+  places = refl;
+  values = weighted-rank (length term.places) term.w (IsMatchable term.entries) (transversal_value term.w term.entries) (transversal-function (length term.places) term.w term.entries term.same_count);
+}
 
 pub kinds-mean : (terms : List Kind) → AllZip IsMeaningOf terms (meanings kind_places kind_value terms)
 kinds-mean [] = tt
@@ -46,20 +62,12 @@ kinds-mean (kind ∷ terms) = (kind-means kind, kinds-mean terms)
 
 -- ---- two meanings of one term agree
 
--- a part has one rank
-rank-one : (IsIndependent : List Bool → Type 0) (s : List Bool) (a b : ℕ) → IsRank IsIndependent s a → IsRank IsIndependent s b → a ≡ b
-rank-one IsIndependent s a b h g =
-    let (t, ht, within, free, full) = h.reached in
-    let (u, hu, within', free', full') = g.reached in
-    let up = g.greatest t ht within free in
-    let down = h.greatest u hu within' free' in
-    omega (arith, full, full', up, down)
-
-ranks-agree : (k : ℕ) (w : ℤ) (IsIndependent : List Bool → Type 0) (f g : SetFunction) → IsRankFunction k w IsIndependent f → IsRankFunction k w IsIndependent g → (s : List Bool) → length s ≡ k → f s ≡ g s
+-- those of a rank, as a part has one greatest weight
+ranks-agree : (k : ℕ) (w : ℤ) (IsIndependent : List Bool → Type 0) (f g : SetFunction) → IsWeightedRank w IsIndependent (ones k) f → IsWeightedRank w IsIndependent (ones k) g → (s : List Bool) → length s ≡ k → f s ≡ g s
 ranks-agree k w IsIndependent f g hf hg s ks =
-    let (a, ra, ea) = hf s ks in
-    let (b, rb, eb) = hg s ks in
-    ea ∙ ap (λ r. Some (w *ℤ pos r)) (rank-one IsIndependent s a b ra rb) ∙ sym eb
+    let (a, ra, ea) = hf s (ks ∙ sym (ones-places k)) in
+    let (b, rb, eb) = hg s (ks ∙ sym (ones-places k)) in
+    ea ∙ (ap (λ r. Some (w *ℤ r)) (greatest-one IsIndependent (ones k) s a b ra rb) ∙ sym eb)
 
 one-value : (f g h : SetFunction) → f ≡ h → g ≡ h → (s : List Bool) → f s ≡ g s
 one-value f g h e d s = ap (λ (p : SetFunction). p s) (e ∙ sym d)
@@ -71,10 +79,10 @@ values-agree (Cover term) f g e d s ks = one-value f g _ e d s
 values-agree (Need term) f g e d s ks = one-value f g _ e d s
 values-agree (Table term) f g e d s ks = one-value f g _ e d s
 values-agree (Concave term) f g e d s ks = one-value f g _ e d s
-values-agree (Uniform term) f g e d s ks = one-value f g _ e d s
-values-agree (Laminar term) f g e d s ks = ranks-agree _ _ _ f g e d s ks
-values-agree (Graphic term) f g e d s ks = ranks-agree _ _ _ f g e d s ks
-values-agree (Transversal term) f g e d s ks = ranks-agree _ _ _ f g e d s ks
+values-agree (Uniform term) f g e d s ks = ranks-agree (length term.places) term.w (IsIndependentIn (Uniform term)) f g e d s ks
+values-agree (Laminar term) f g e d s ks = ranks-agree (length term.places) term.w (IsWithinCaps term.groups) f g e d s ks
+values-agree (Graphic term) f g e d s ks = ranks-agree (length term.places) term.w (IsForest term.ends) f g e d s ks
+values-agree (Transversal term) f g e d s ks = ranks-agree (length term.places) term.w (IsMatchable term.entries) f g e d s ks
 
 -- ---- the size
 

@@ -1,8 +1,8 @@
--- The bounds and the running totals of an instance as one of its terms is taken out.
-use Rattle.std.proofs.Common.{◌≡◌, ℕ, zero, suc, ◌+◌, ◌-◌, ◌<◌, ◌≤◌, List, [], ◌∷◌, ◌++◌, length, get_or, take, drop, map, ℤ, ◌+ℤ◌, ◌-ℤ◌, to_z, of_z, FitsSigned, sym, ap, ◌∙◌, arith}
+-- The bounds and the running totals of an instance as terms are taken out.
+use Rattle.std.proofs.Common.{◌≡◌, ℕ, zero, suc, ◌+◌, ◌-◌, ◌<◌, ◌≤◌, ◌^◌, List, [], ◌∷◌, ◌++◌, length, get_or, take, drop, map, ℤ, pos, ◌+ℤ◌, ◌-ℤ◌, ◌≤ℤ◌, to_z, of_z, FitsSigned, refl, sym, ap, ◌∙◌, arith}
 use Rattle.std.specs.List.{All, remove, sum_by}
 use Rattle.std.proofs.lemmas.Int.{ints}
-use Rattle.std.proofs.lemmas.List.{map-append, take-map, drop-map, length-map, get_or-map}
+use Rattle.std.proofs.lemmas.List.{map-append, take-map, drop-map, length-map, get_or-map, length-append, length-drop, length-take-le, take_at, drop_at, drop-drop, take-append-drop}
 use Rattle.std.proofs.lemmas.List.Edits.{length-remove}
 use Rattle.std.proofs.lemmas.List.Elements.{All-append, All-take, All-drop}
 use Rattle.std.proofs.lemmas.List.Sums.{sum-map, sum_by-remove}
@@ -11,7 +11,7 @@ use Rattle.sfm_spec.specs.Sets.{IsPlaced}
 use Rattle.sfm_kind.specs.declared.kind.Kind.{Kind}
 use Rattle.sfm_kind.specs.Kinds.{kind_places, kind_size}
 use Rattle.sfm_kind.specs.Instance.{support_of}
-use Rattle.sfm_kind.specs.Limits.{AreInBounds, total_size_of, IsKept}
+use Rattle.sfm_kind.specs.Limits.{AreInBounds, total_size_of}
 use Rattle.sfm_kind.proofs.Bounds.{kind_size-low, total_size-low}
 
 -- taking one out commutes with a map
@@ -58,33 +58,76 @@ in_bounds-remove n terms i term lt is h = record {
   small = omega (arith, ints, total_size-remove terms i term lt is, kind_size-low term, h.small);
 }
 
--- what an instance keeps, with one term less
-pub kept-removed : (names : List (List ℕ)) (terms : List Kind) (i : ℕ) (term : Kind) (support : ℕ)
-    (total : ℤ) → i < length terms → term ≡ get_or terms i term → IsKept names terms support total
-    → IsKept names (remove terms i) (support - length (kind_places term)) (total -ℤ kind_size term)
-kept-removed names terms i term support total lt is h = record {
-  named = h.named;
-  bounded = in_bounds-remove (length names) terms i term lt is h.bounded;
-  supported = omega (arith, h.supported, support-remove terms i term lt is);
-  totalled = omega (arith, ints, h.totalled, total_size-remove terms i term lt is);
-}
-
 -- the size of a term that is taken out of the running total, in 128 bits
 pub record IsRest (support places : ℕ) (total size : ℤ) : Type 0 where
   pub places_fit : places ≤ support
   pub fits : FitsSigned w128 (total -ℤ size)
   pub is : (to_z w128 (of_z w128 total) -ℤ to_z w128 (of_z w128 size)) ≡ (total -ℤ size)
 
-pub removed-rest : (names : List (List ℕ)) (terms : List Kind) (i : ℕ) (term : Kind) (support : ℕ)
-    (total : ℤ) → i < length terms → term ≡ get_or terms i term → IsKept names terms support total
-    → IsRest support (length (kind_places term)) total (kind_size term)
-removed-rest names terms i term support total lt is h =
+-- the totals of some terms without one of them
+pub record AreRest (terms : List Kind) (i : ℕ) (support places : ℕ) (total size : ℤ) : Type 0 where
+  pub rest : IsRest support places total size
+  pub supported : support - places ≡ support_of (remove terms i)
+  pub totalled : (total -ℤ size) ≡ total_size_of (remove terms i)
+  pub smaller : (total -ℤ size) ≤ℤ total
+
+pub removed-rest : (terms : List Kind) (i : ℕ) (term : Kind) (support : ℕ) (total : ℤ) → i < length terms → term ≡ get_or terms i term
+    → support ≡ support_of terms → total ≡ total_size_of terms → total ≤ℤ pos (10 ^ 18)
+    → AreRest terms i support (length (kind_places term)) total (kind_size term)
+removed-rest terms i term support total lt is supported totalled small =
     let low = kind_size-low term in
     let rest = total_size-low (remove terms i) in
     let sum = total_size-remove terms i term lt is in
-    let small = h.bounded.small in
+    let places = support-remove terms i term lt is in
     record {
-      places_fit = omega (arith, h.supported, support-remove terms i term lt is);
-      fits = omega (arith, ints, h.totalled, low, rest, sum, small);
-      is = omega (arith, ints, h.totalled, low, rest, sum, small);
+      rest = record {
+        places_fit = omega (arith, supported, places);
+        fits = omega (arith, ints, totalled, low, rest, sum, small);
+        is = omega (arith, ints, totalled, low, rest, sum, small);
+      };
+      supported = omega (arith, supported, places);
+      totalled = omega (arith, ints, totalled, sum);
+      smaller = omega (arith, ints, low);
     }
+
+-- ---- some terms in a row
+
+-- what is left of a list when so many items from a place on are taken out
+abbrev pub cut_out : {X : Type 0} → List X → ℕ → ℕ → List X
+cut_out xs first count = take first xs ++ drop (first + count) xs
+
+-- one more is taken out at the same place
+pub cut_out-more : {X : Type 0} (xs : List X) (first count : ℕ) → first + count < length xs → remove (cut_out xs first count) first ≡ cut_out xs first (count + 1)
+cut_out-more xs first count lt =
+    let front : length (take first xs) ≡ first = length-take-le first xs (omega (arith, lt)) in
+    let left : take first (cut_out xs first count) ≡ take first xs = take_at (take first xs) (drop (first + count) xs) first front in
+    let back : drop first (cut_out xs first count) ≡ drop (first + count) xs = drop_at (take first xs) (drop (first + count) xs) first front in
+    let one : drop (first + 1) (cut_out xs first count) ≡ drop ((first + count) + 1) xs = sym (drop-drop 1 first (cut_out xs first count)) ∙ (ap (λ l. drop 1 l) back ∙ drop-drop 1 (first + count) xs) in
+    let at : suc first ≡ first + 1 = omega arith in
+    let to : (first + count) + 1 ≡ first + (count + 1) = omega arith in
+    ap (λ l. l ++ drop (suc first) (cut_out xs first count)) left
+    ∙ (ap (λ n. take first xs ++ drop n (cut_out xs first count)) at
+    ∙ (ap (λ l. take first xs ++ l) one
+    ∙ ap (λ n. take first xs ++ drop n xs) to))
+
+pub cut_out-none : {X : Type 0} (xs : List X) (first : ℕ) → cut_out xs first 0 ≡ xs
+cut_out-none xs first = let z : first + 0 ≡ first = omega arith in ap (λ n. take first xs ++ drop n xs) z ∙ take-append-drop first xs
+
+-- the bounds hold for what is left
+pub in_bounds-cut : (n : ℕ) (terms : List Kind) (first count : ℕ) → first + count ≤ length terms → AreInBounds n terms → AreInBounds n (cut_out terms first count)
+in_bounds-cut n terms first zero le h = rw (cut_out-none terms first) h
+in_bounds-cut n terms first (suc count) le h =
+    let before = in_bounds-cut n terms first count (omega (arith, le)) h in
+    let len : length (cut_out terms first count) ≡ length (take first terms) + length (drop (first + count) terms) = length-append (take first terms) (drop (first + count) terms) in
+    let front = length-take-le first terms (omega (arith, le)) in
+    let back = length-drop (first + count) terms in
+    let lt : first < length (cut_out terms first count) = omega (arith, le, len, front, back) in
+    let (term, is) = at (cut_out terms first count) first lt in
+    let less = in_bounds-remove n (cut_out terms first count) first term lt is before in
+    let same : remove (cut_out terms first count) first ≡ cut_out terms first (suc count) = cut_out-more terms first count (omega (arith, le)) ∙ ap (λ c. cut_out terms first c) (omega arith) in
+    rw same at less
+  where
+    at : (xs : List Kind) (i : ℕ) → i < length xs → (x : Kind) × (x ≡ get_or xs i x)
+    at [] i lt = absurd (omega (arith, lt))
+    at (x ∷ xs) zero lt = (x, refl)
+    at (x ∷ xs) (suc i) lt = at xs i (omega (arith, lt))

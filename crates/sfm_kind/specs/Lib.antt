@@ -3,4 +3,7 @@ pub mod Meanings
 pub mod Kinds
 pub mod Names
 pub mod Instance
+pub mod Layers
+pub mod Restricted
+pub mod Levels
 pub mod Limits

@@ -5,7 +5,7 @@ use Rattle.sfm_spec.specs.Bounds.{AreBounded, total_of}
 use Rattle.sfm_kind.specs.Names.{AreElementNames}
 use Rattle.sfm_kind.specs.Meanings.{kind_places}
 use Rattle.sfm_kind.specs.Kinds.{kind_size}
-use Rattle.sfm_kind.specs.Instance.{support_of}
+use Rattle.sfm_kind.specs.Instance.{support_of, terms_in}
 use Rattle.sfm_kind.specs.declared.kind.Kind.{Kind}
 
 -- what each call over the terms asks of them, over a ground of n elements
@@ -22,9 +22,10 @@ pub record HasRoomFor (terms : List Kind) (places : ℕ) (size : ℤ) : Type 0 w
   pub few_places : support_of terms + places ≤ 16384
   pub small : (total_size_of terms +ℤ size) ≤ℤ pos (10 ^ 18)
 
--- what every instance keeps of its names, its terms and its running totals
-pub record IsKept (names : List (List ℕ)) (terms : List Kind) (support : ℕ) (total : ℤ) : Type 0 where
+-- what every instance keeps of its names, its terms, its lines and its running totals
+pub record IsKept (names : List (List ℕ)) (terms : List Kind) (lines : List ℕ) (support : ℕ) (total : ℤ) : Type 0 where
   pub named : AreElementNames names
   pub bounded : AreInBounds (length names) terms
+  pub lined : terms_in lines ≡ length terms
   pub supported : support ≡ support_of terms
   pub totalled : total ≡ total_size_of terms

@@ -1,11 +1,13 @@
 -- What a term of each kind means: its places, its values, its size and its first base, each by definition. The values of a
 -- rank are told by the relation of the textbook, so that nothing here says how a rank is found.
 -- Textbook: Schrijver, Combinatorial Optimization, sections 39, 44 and 45.
-use Rattle.std.specs.Prelude.{◌≡◌, ℕ, List, [], ◌∷◌, length, unwrap_or, ℤ, pos, ◌+ℤ◌}
-use Rattle.sfm_spec.specs.Sets.{magnitudes, whole_set}
+use Rattle.std.specs.Prelude.{◌≡◌, ℕ, Bool, List, [], ◌∷◌, length, unwrap_or, ℤ, pos, ◌+ℤ◌, ◌≤ℤ◌}
+use Rattle.sfm_spec.specs.Sets.{size, magnitudes, whole_set}
 use Rattle.sfm_spec.specs.Terms.{SetFunction, IsGreedy}
 use Rattle.sfm_spec.specs.Families.{Meaning}
-use Rattle.sfm_spec.specs.Kinds.{weight_value, cut_value, cover_value, need_value, table_value, concave_value, uniform_value, IsWithinCaps, IsForest, IsMatchable, IsRankFunction}
+use Rattle.sfm_spec.specs.Kinds.{weight_value, cut_value, cover_value, need_value, table_value, concave_value, IsWithinCaps, IsForest, IsMatchable}
+use Rattle.sfm_spec.specs.Laws.{ones}
+use Rattle.sfm_layers.specs.Weights.{IsWeightedRank}
 use Rattle.sfm_simple.specs.TableLaws.{greatest}
 use Rattle.sfm_kind.specs.declared.kind.Kind.{Kind}
 use Rattle.sfm_kind.specs.declared.kind.Kind.TheVariants.{Weight, Cut, Cover, Need, Table, Concave, Uniform, Laminar, Graphic, Transversal}
@@ -23,8 +25,24 @@ kind_places (Laminar term) = term.places
 kind_places (Graphic term) = term.places
 kind_places (Transversal term) = term.places
 
--- these are the values of a term, by definition: those of a rank are w times the greatest number of places that are
--- independent together
+-- the parts of a rank that are independent; no other term has such
+abbrev pub IsIndependentIn : Kind → List Bool → Type 0
+IsIndependentIn (Uniform term) t = pos (size t) ≤ℤ term.cap
+IsIndependentIn (Laminar term) t = IsWithinCaps term.groups t
+IsIndependentIn (Graphic term) t = IsForest term.ends t
+IsIndependentIn (Transversal term) t = IsMatchable term.entries t
+IsIndependentIn _ t = ⊥
+
+-- what each independent element of a rank counts
+abbrev pub factor_of : Kind → ℤ
+factor_of (Uniform term) = term.w
+factor_of (Laminar term) = term.w
+factor_of (Graphic term) = term.w
+factor_of (Transversal term) = term.w
+factor_of _ = pos 0
+
+-- these are the values of a term, by definition: those of a rank are w times the greatest weight of an independent part,
+-- where each place weighs 1
 abbrev pub IsValueOf : Kind → SetFunction → Type 0
 IsValueOf (Weight term) f = f ≡ weight_value term.weights
 IsValueOf (Cut term) f = f ≡ cut_value term.c
@@ -32,10 +50,7 @@ IsValueOf (Cover term) f = f ≡ cover_value term.w
 IsValueOf (Need term) f = f ≡ need_value
 IsValueOf (Table term) f = f ≡ table_value term.values
 IsValueOf (Concave term) f = f ≡ concave_value term.values
-IsValueOf (Uniform term) f = f ≡ uniform_value term.w term.cap
-IsValueOf (Laminar term) f = IsRankFunction (length term.places) term.w (IsWithinCaps term.groups) f
-IsValueOf (Graphic term) f = IsRankFunction (length term.places) term.w (IsForest term.ends) f
-IsValueOf (Transversal term) f = IsRankFunction (length term.places) term.w (IsMatchable term.entries) f
+IsValueOf kind f = IsWeightedRank (factor_of kind) (IsIndependentIn kind) (ones (length (kind_places kind))) f
 
 -- what a term means: its places, and its values by definition
 pub record IsMeaningOf (kind : Kind) (term : Meaning) : Type 0 where

@@ -1,12 +1,14 @@
 // An instance: the names of a ground and the terms over it. The bounds that each call over terms asks for are kept in the
 // type, so that a caller has them of every instance. Running totals of the places and the sizes of all terms are kept too,
 // so that a term is tested before it is added without a pass over the others.
-ghost use Rattle.std.specs.{Prelude.{◌≡◌, ◌↔◌, ℕ, ◌<◌, ◌≤◌, List, [], ◌∷◌, ◌++◌, length, slice_get, slice_index_or, IsTrue, OnOk, OnErr, IfSome, IfNone, Some}, List.{All, remove}};
+ghost use Rattle.std.specs.{Prelude.{◌≡◌, ◌↔◌, ℕ, ◌+◌, ◌<◌, ◌≤◌, ◌^◌, pos, ◌≤ℤ◌, List, [], ◌∷◌, ◌++◌, length, take, drop, suc, slice_get, slice_index_or, IsTrue, OnOk, OnErr, IfSome, IfNone, Some}, List.{All, remove}};
 ghost use Rattle.sfm_spec.specs.Names.{IsName};
-ghost use Rattle.sfm_kind.specs.{Names.{IsNewName, AreElementNames}, Instance.{support_of}, Limits.{AreInBounds, HasRoomFor, total_size_of}};
+ghost use Rattle.sfm_kind.specs.{Names.{IsNewName, AreElementNames}, Instance.{support_of, width_of, terms_in}, Limits.{AreInBounds, HasRoomFor, total_size_of}};
 
 use crate::kind::Kind;
+use crate::layers::Layers;
 use crate::names::Names;
+use crate::version::Version;
 use sfm_base::Memory;
 use sfm_law::Term;
 use std::alloc::Global;
@@ -22,9 +24,14 @@ const MOST_SIZE: i128 = 1_000_000_000_000_000_000;
 ///
 /// There are at most 256 names, all different. There are at most 16,384 terms, whose places are distinct and below the
 /// number of names; they have at most 16,384 places in all, and their sizes add to at most 10^18.
+///
+/// A term line has one term, or is layered: it is a rank whose elements have weights, and has its layers for terms.
 pub struct Instance {
+    version: Version,
     names: Names,
     terms: Vec<Kind>,
+    /// For each term line the number of its layers, 0 where it has none.
+    lines: Vec<usize>,
     support: usize,
     total: i128,
 }
@@ -33,8 +40,10 @@ pub struct Instance {
 impl Drop for Instance {
     fn drop(self) {
         let Self {
+            version: _,
             names: _,
             terms: _,
+            lines: _,
             support: _,
             total: _,
         } = self;
@@ -46,9 +55,14 @@ impl Model for Instance {
 
     ghost Value = { InstanceData };
 
-    ghost view = { λ s. record { names = s.names; terms = s.terms.items } };
+    ghost view = { λ s. record {
+      version = s.version;
+      names = s.names;
+      terms = s.terms.items;
+      lines = s.lines.items;
+    } };
 
-    ghost invariant = { λ s. IsKept s.names s.terms.items s.support s.total };
+    ghost invariant = { λ s. IsKept s.names s.terms.items s.lines.items s.support s.total };
 }
 
 /// Whether each place is below n.
@@ -58,18 +72,143 @@ fn are_below(places: &[usize], n: usize) -> bool
     places.iter().all(|e| *e < n)
 }
 
+/// How many terms a line of so many layers has.
+fn width(layers: usize) -> usize
+    ensures { result ≡ width_of layers }
+{
+    if layers == 0 {
+        return 1;
+    }
+    layers
+}
+
+/// How many terms stand before those of line i.
+fn terms_before(lines: &[usize], i: usize) -> usize
+    requires within { i ≤ length lines.now }
+    requires few { terms_in lines.now ≤ 16384 }
+    ensures { result ≡ terms_in (take i lines.now) }
+{
+    let mut before = 0;
+    for j in 0..i {
+        before += width(lines[j]);
+    }
+    before
+}
+
+/// The number of places of some terms, added.
+fn places_in(terms: &[Kind]) -> usize
+    requires { support_of terms.now ≤ 16384 }
+    ensures { result ≡ support_of terms.now }
+{
+    let mut places = 0;
+    for term in terms {
+        places += term.elements().len();
+    }
+    places
+}
+
+/// The sizes of some terms, added.
+fn size_of(terms: &[Kind]) -> i128
+    requires { total_size_of terms.now ≤ℤ pos (10 ^ 18) }
+    ensures { result ≡ total_size_of terms.now }
+{
+    let mut total = 0;
+    for term in terms {
+        total += term.size();
+    }
+    total
+}
+
+/// Takes term i out of some terms, and out of their totals; those behind it close up.
+fn take_out(terms: &mut Vec<Kind>, support: &mut usize, total: &mut i128, i: usize)
+    requires within { i < length terms.old.items }
+    requires supported { support.old ≡ support_of terms.old.items }
+    requires totalled { total.old ≡ total_size_of terms.old.items }
+    requires small { total.old ≤ℤ pos (10 ^ 18) }
+    ensures terms { terms.new.items ≡ remove terms.old.items i }
+    ensures supported { support.new ≡ support_of (remove terms.old.items i) }
+    ensures totalled { total.new ≡ total_size_of (remove terms.old.items i) }
+    ensures smaller { total.new ≤ℤ total.old }
+{
+    let term = terms.remove(i);
+    *support -= term.elements().len();
+    *total -= term.size();
+}
+
+/// Takes so many terms out, from one on.
+fn take_out_all(
+    terms: &mut Vec<Kind>,
+    support: &mut usize,
+    total: &mut i128,
+    first: usize,
+    count: usize,
+)
+    requires within { first + count ≤ length terms.old.items }
+    requires supported { support.old ≡ support_of terms.old.items }
+    requires totalled { total.old ≡ total_size_of terms.old.items }
+    requires small { total.old ≤ℤ pos (10 ^ 18) }
+    ensures terms { terms.new.items ≡ take first terms.old.items
+        ++ drop (first + count) terms.old.items }
+    ensures supported { support.new ≡ support_of terms.new.items }
+    ensures totalled { total.new ≡ total_size_of terms.new.items }
+{
+    for _taken in 0..count {
+        take_out(terms, support, total, first);
+    }
+}
+
 impl Instance {
-    /// No names and no terms.
+    /// No names and no terms, of the first version.
     pub fn new(alloc: Global) -> Instance
+        ensures version { result.version ≡ Version.First }
         ensures names { result.names ≡ [] }
         ensures terms { result.terms ≡ [] }
+        ensures lines { result.lines ≡ [] }
     {
         Instance {
+            version: Version::First,
             names: Names::new(alloc),
             terms: Vec::new(alloc),
+            lines: Vec::new(alloc),
             support: 0,
             total: 0,
         }
+    }
+
+    /// The number of the version: 1 or 2.
+    pub fn version(&self) -> u8
+        ensures first { (self.now.version ≡ Version.First) ↔ (result ≡ 1) }
+        ensures second { (self.now.version ≡ Version.Second) ↔ (result ≡ 2) }
+    {
+        match self.version {
+            Version::First => 1,
+            Version::Second => 2,
+        }
+    }
+
+    /// The version of the text that the instance stands for.
+    pub fn text_version(&self) -> Version
+        ensures { result ≡ self.now.version }
+    {
+        self.version
+    }
+
+    /// Makes it an instance of the second version; all else stays.
+    pub fn set_version2(&mut self)
+        ensures version { self.new.version ≡ Version.Second }
+        ensures names { self.new.names ≡ self.old.names }
+        ensures terms { self.new.terms ≡ self.old.terms }
+        ensures lines { self.new.lines ≡ self.old.lines }
+    {
+        self.version = Version::Second;
+    }
+
+    /// For each term line the number of its layers, 0 where it has one term and no layers.
+    pub fn lines(&self) -> &[usize]
+        ensures lines { result.now ≡ self.now.lines }
+        ensures lined { terms_in self.now.lines ≡ length self.now.terms }
+    {
+        self.lines.as_slice()
     }
 
     /// How many names there are.
@@ -147,13 +286,15 @@ impl Instance {
         requires fresh { IsNewName self.old.names name.now }
         requires few { length self.old.names < 256 }
         ensures added { OnOk result (self.new.names ≡ self.old.names ++ name.now ∷ []) }
+        ensures version { self.new.version ≡ self.old.version }
         ensures terms { self.new.terms ≡ self.old.terms }
+        ensures lines { self.new.lines ≡ self.old.lines }
         ensures unchanged { OnErr result (self.new ≡ self.old) }
     {
         self.names.push(name)
     }
 
-    /// Adds a term behind the others.
+    /// Adds a term behind the others, as a line of its own.
     ///
     /// # Errors
     ///
@@ -161,25 +302,63 @@ impl Instance {
     pub fn add_term(&mut self, term: Kind) -> Result<(), Memory>
         requires { AreInBounds (length self.old.names) (self.old.terms ++ term ∷ []) }
         ensures added { OnOk result (self.new.terms ≡ self.old.terms ++ term ∷ []) }
+        ensures plain { OnOk result (self.new.lines ≡ self.old.lines ++ 0 ∷ []) }
+        ensures version { self.new.version ≡ self.old.version }
         ensures names { self.new.names ≡ self.old.names }
         ensures unchanged { OnErr result (self.new ≡ self.old) }
     {
+        self.lines.reserve(1)?;
         let places = term.elements().len();
         let size = term.size();
         self.terms.push(term)?;
+        self.lines.push_reserved(0);
         self.support += places;
         self.total += size;
         Ok(())
     }
 
-    /// Takes term line i out, counted from 0; those behind it close up.
+    /// Adds the layers of a rank behind the other terms, as one line.
+    ///
+    /// # Errors
+    ///
+    /// `Memory` where there is none; the instance is then as it was.
+    pub fn add_layers(&mut self, layers: Layers) -> Result<(), Memory>
+        requires { AreInBounds (length self.old.names) (self.old.terms ++ layers) }
+        ensures added { OnOk result (self.new.terms ≡ self.old.terms ++ layers) }
+        ensures layered { OnOk result (self.new.lines ≡ self.old.lines ++ length layers ∷ []) }
+        ensures version { self.new.version ≡ self.old.version }
+        ensures names { self.new.names ≡ self.old.names }
+        ensures unchanged { OnErr result (self.new ≡ self.old) }
+    {
+        self.lines.reserve(1)?;
+        let count = layers.count();
+        let mut parts = layers.into_parts();
+        let places = places_in(parts.as_slice());
+        let size = size_of(parts.as_slice());
+        self.terms.append(&mut parts)?;
+        self.lines.push_reserved(count);
+        self.support += places;
+        self.total += size;
+        Ok(())
+    }
+
+    /// Takes term line i out, counted from 0, with all its terms; those behind it close up.
     pub fn drop_line(&mut self, i: usize)
-        requires { i < length self.old.terms }
-        ensures terms { self.new.terms ≡ remove self.old.terms i }
+        requires { i < length self.old.lines }
+        ensures terms { self.new.terms ≡ take (terms_in (take i self.old.lines)) self.old.terms
+            ++ drop (terms_in (take (suc i) self.old.lines)) self.old.terms }
+        ensures lines { self.new.lines ≡ remove self.old.lines i }
+        ensures version { self.new.version ≡ self.old.version }
         ensures names { self.new.names ≡ self.old.names }
     {
-        let term = self.terms.remove(i);
-        self.support -= term.elements().len();
-        self.total -= term.size();
+        let first = terms_before(self.lines.as_slice(), i);
+        let layers = self.lines.remove(i);
+        take_out_all(
+            &mut self.terms,
+            &mut self.support,
+            &mut self.total,
+            first,
+            width(layers),
+        );
     }
 }
