@@ -7,6 +7,7 @@ use mir.Syntax.{w128}
 use Rattle.std.specs.Fmt.{decimal, signed_decimal}
 use Rattle.std.proofs.lemmas.List.{take_more, append-nil, get_or-map}
 use Rattle.sfm_cert.specs.Answer.{Break, listed, block_line, slope_line, row_lines, section_lines, text_of}
+use Rattle.sfm_cert.specs.Labels.{label_in}
 use Rattle.sfm_cert.specs.Lines.{row_line}
 use Rattle.sfm_cert.specs.LineLists.{counted, numbered, block_lines, slope_lines, break_lines}
 
@@ -47,13 +48,13 @@ listed-more names s e h lt =
       same : length (take e names) ≡ length (take e s)
       same = omega (arith, length-take e names, length-take e s)
 
-pub row_lines-push : (word : List ℕ) (i : ℕ) (rows : List (List ℤ)) (x : List ℤ)
-    → row_lines word i (rows ++ x ∷ []) ≡ row_lines word i rows ++ row_line word (decimal (i + length rows)) x ∷ []
-row_lines-push word i [] x = ap (λ n. row_line word (decimal n) x ∷ []) (omega arith)
-row_lines-push word i (y ∷ rows) x =
+pub row_lines-push : (word lines : List ℕ) (i : ℕ) (rows : List (List ℤ)) (x : List ℤ)
+    → row_lines word lines i (rows ++ x ∷ []) ≡ row_lines word lines i rows ++ row_line word (label_in lines (i + length rows)) x ∷ []
+row_lines-push word lines i [] x = ap (λ n. row_line word (label_in lines n) x ∷ []) (omega arith)
+row_lines-push word lines i (y ∷ rows) x =
     let n : (i + 1) + length rows ≡ i + length (y ∷ rows) = omega arith in
-    ap (λ r. row_line word (decimal i) y ∷ r)
-    (row_lines-push word (i + 1) rows x ∙ ap (λ m. row_lines word (i + 1) rows ++ row_line word (decimal m) x ∷ []) n)
+    ap (λ r. row_line word (label_in lines i) y ∷ r)
+    (row_lines-push word lines (i + 1) rows x ∙ ap (λ m. row_lines word lines (i + 1) rows ++ row_line word (label_in lines m) x ∷ []) n)
 
 pub block_lines-push : (names : List (List ℕ)) (i : ℕ) (blocks : List Block) (b : Block) → block_lines names i (blocks ++ b ∷ []) ≡ block_lines names i blocks ++ block_line names (i + length blocks) b ∷ []
 block_lines-push names i [] b = ap (λ n. block_line names n b ∷ []) (omega arith)
@@ -65,9 +66,11 @@ pub slope_lines-push : (names : List (List ℕ)) (breaks : List Break) (b : Brea
 slope_lines-push names [] b = refl
 slope_lines-push names (c ∷ breaks) b = ap (λ r. slope_line names c ∷ r) (slope_lines-push names breaks b)
 
-pub break_lines-push : (breaks : List Break) (b : Break) → break_lines (breaks ++ b ∷ []) ≡ break_lines breaks ++ section_lines b.num b.den b.bases
-break_lines-push [] b = append-nil (section_lines b.num b.den b.bases)
-break_lines-push (c ∷ breaks) b = ap (λ r. section_lines c.num c.den c.bases ++ r) (break_lines-push breaks b) ∙ sym (append_assoc (section_lines c.num c.den c.bases) (break_lines breaks) (section_lines b.num b.den b.bases))
+pub break_lines-push : (lines : List ℕ) (breaks : List Break) (b : Break) → break_lines lines (breaks ++ b ∷ []) ≡ break_lines lines breaks ++ section_lines lines b.num b.den b.bases
+break_lines-push lines [] b = append-nil (section_lines lines b.num b.den b.bases)
+break_lines-push lines (c ∷ breaks) b =
+    ap (λ r. section_lines lines c.num c.den c.bases ++ r) (break_lines-push lines breaks b)
+    ∙ sym (append_assoc (section_lines lines c.num c.den c.bases) (break_lines lines breaks) (section_lines lines b.num b.den b.bases))
 
 -- ---- numbers that fit
 
@@ -94,11 +97,11 @@ slope_lines-more names breaks i d b h e =
     ap (slope_lines names) (take_more breaks i d h) ∙ slope_lines-push names (take i breaks) (get_or breaks i d)
     ∙ ap (λ c. slope_lines names (take i breaks) ++ slope_line names c ∷ []) e
 
-pub break_lines-more : (breaks : List Break) (i : ℕ) (d b : Break) → i < length breaks → get_or breaks i d ≡ b
-    → break_lines (take (i + 1) breaks) ≡ break_lines (take i breaks) ++ section_lines b.num b.den b.bases
-break_lines-more breaks i d b h e =
-    ap break_lines (take_more breaks i d h) ∙ break_lines-push (take i breaks) (get_or breaks i d)
-    ∙ ap (λ c. break_lines (take i breaks) ++ section_lines c.num c.den c.bases) e
+pub break_lines-more : (lines : List ℕ) (breaks : List Break) (i : ℕ) (d b : Break) → i < length breaks → get_or breaks i d ≡ b
+    → break_lines lines (take (i + 1) breaks) ≡ break_lines lines (take i breaks) ++ section_lines lines b.num b.den b.bases
+break_lines-more lines breaks i d b h e =
+    ap (break_lines lines) (take_more breaks i d h) ∙ break_lines-push lines (take i breaks) (get_or breaks i d)
+    ∙ ap (λ c. break_lines lines (take i breaks) ++ section_lines lines c.num c.den c.bases) e
 
 pub factor_fits : (q : ℤ) → IsFactor q → FitsSigned w128 q
 factor_fits q h = omega (arith, ints, h.low, h.high)

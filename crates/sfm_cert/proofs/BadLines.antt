@@ -9,11 +9,13 @@ use Rattle.sfm_cert.specs.LineLists.{counted, IsBadLine}
 use Rattle.sfm_cert.specs.Form.{IsFormed}
 use Rattle.sfm_cert.specs.Grammar.{IsLine}
 use Rattle.sfm_cert.specs.Header.{header_text}
+use Rattle.sfm_cert.specs.Labels.{label_in}
 use Rattle.sfm_cert.specs.declared.header.Header.{Header}
 use Rattle.sfm_cert.specs.declared.header.Header.TheVariants.{Answer as AnswerHeader, Weighed}
 use Rattle.sfm_cert.specs.Reading.{State, header, minimum, least, greatest, listing, bases, ended, Leads, Stops}
 use Rattle.sfm_cert.specs.declared.cursor.Cursor.{Cursor}
 use Rattle.sfm_cert.proofs.CleanLines.{word_line, decimal_line, number_line, joined, listed_line, counted_line, row_line_line, slope_text_line, at_line_line, same_line}
+use Rattle.sfm_cert.proofs.Labels.{label_line}
 use Rattle.sfm_cert.proofs.Rules.{first_bad, one_list as lines_of_one}
 use Rattle.sfm_cert.proofs.Machine.{one_next, leads_answer}
 use Rattle.sfm_cert.proofs.Beginnings.{begins_from}
@@ -41,7 +43,7 @@ module _ (form : Form) (clean : IsLine form.header) (named : All IsName form.nam
       (joined (codes "slope " ++ slope_text r.num r.den) (listed form.names s) (joined (codes "slope ") (slope_text r.num r.den) (word_line (codes "slope ") refl) (slope_text_line r.num r.den)) (listed_line form.names s named))
   leads_line (listing k slopes) line t (inr (inr (is, goes))) = same_line line _ is (at_line_line (pos 0) (pos 1))
   leads_line (bases i (width ∷ widths) due) line t h =
-      same_line line _ h.1.2 (row_line_line (codes "base ") (decimal i) h.0 (word_line (codes "base ") refl) (decimal_line i))
+      same_line line _ h.1.2 (row_line_line (codes "base ") (label_in form.lines i) h.0 (word_line (codes "base ") refl) (label_line form.lines i))
   leads_line (bases i [] (r ∷ due)) line t h = same_line line _ h.0 (at_line_line r.num r.den)
   leads_line (bases i [] []) line t h = same_line line (codes "end") h.0 (word_line (codes "end") refl)
   leads_line ended line t h = absurd h

@@ -84,7 +84,7 @@ module _ (form : Form) where
   goes_bases i [] due more = more i
   goes_bases i (width ∷ widths) due more =
       let g = goes_bases (i + 1) widths due more in
-      (base_line i (zeros width) ∷ g.0, (bases (i + 1) widths due, (zeros width, (length-replicate width (pos 0), All-replicate IsEntry width (pos 0) zero_entry, refl), refl), g.1))
+      (base_line form.lines i (zeros width) ∷ g.0, (bases (i + 1) widths due, (zeros width, (length-replicate width (pos 0), All-replicate IsEntry width (pos 0) zero_entry, refl), refl), g.1))
 
   goes_due : (due : List Ratio) (i : ℕ) → Goes (bases i [] due)
   goes_due [] i = (codes "end" ∷ [], (ended, (refl, refl), refl))
@@ -133,13 +133,13 @@ module _ (form : Form) where
   -- the sections that are due, and the end
   abbrev HoldsDue : List Ratio → List (List ℕ) → Type 0
   HoldsDue [] lines = lines ≡ codes "end" ∷ []
-  HoldsDue (r ∷ due) lines = (rows : List (List ℤ)) × (more : List (List ℕ)) × AreFormedRows form.widths rows × (lines ≡ section_lines r.num r.den rows ++ more) × HoldsDue due more
+  HoldsDue (r ∷ due) lines = (rows : List (List ℤ)) × (more : List (List ℕ)) × AreFormedRows form.widths rows × (lines ≡ section_lines form.lines r.num r.den rows ++ more) × HoldsDue due more
 
   record HoldsBases (i : ℕ) (widths : List ℕ) (due : List Ratio) (lines : List (List ℕ)) : Type 0 where
     rows : List (List ℤ)
     more : List (List ℕ)
     formed : AreFormedRows widths rows
-    cut : lines ≡ base_lines i rows ++ more
+    cut : lines ≡ base_lines form.lines i rows ++ more
     holds : HoldsDue due more
 
   holds_bases : (lines : List (List ℕ)) (i : ℕ) (widths : List ℕ) (due : List Ratio) → LeadsOn form (bases i widths due) lines ended → HoldsBases i widths due lines
@@ -150,7 +150,7 @@ module _ (form : Form) where
         rows = step.0 ∷ h.rows;
         more = h.more;
         formed = record { widths_are = ap (λ (n : ℕ). n ∷ map length h.rows) step.1.0 ∙ ap (λ (w : List ℕ). width ∷ w) h.formed.widths_are; small = All-cons (λ (x : List ℤ). All IsEntry x) step.0 h.rows step.1.1 h.formed.small };
-        cut = ap (λ (l : List ℕ). l ∷ lines) step.1.2 ∙ ap (λ (l : List (List ℕ)). base_line i step.0 ∷ l) h.cut;
+        cut = ap (λ (l : List ℕ). l ∷ lines) step.1.2 ∙ ap (λ (l : List (List ℕ)). base_line form.lines i step.0 ∷ l) h.cut;
         holds = h.holds;
       }
   holds_bases (line ∷ lines) i [] (r ∷ due) (next, step, more) =
@@ -179,7 +179,7 @@ module _ (form : Form) where
     are_blocks : (i : ℕ) → i < length blocks → IsFormedBlock (length form.names) (k + i) (block_at blocks i)
     are_heads : All (λ b. IsSlopeLine form.names (slope_line form.names b) (ratio_of b) b.members) heads
     are_rows : AreFormedRows form.widths rows
-    cut : lines ≡ block_lines form.names (k + 1) blocks ++ (slope_lines form.names heads ++ at_line (pos 0) (pos 1) ∷ (base_lines 1 rows ++ more))
+    cut : lines ≡ block_lines form.names (k + 1) blocks ++ (slope_lines form.names heads ++ at_line (pos 0) (pos 1) ∷ (base_lines form.lines 1 rows ++ more))
     holds : HoldsDue (slopes ++ map ratio_of heads) more
     in_order : (slopes ≡ [] → ⊥) → blocks ≡ []
 
@@ -216,7 +216,7 @@ module _ (form : Form) where
         are_rows = h.are_rows;
         cut = ap (λ (l : List ℕ). l ∷ lines) is.written
             ∙ ap (λ (l : List (List ℕ)). slope_line form.names b ∷ l)
-            (h.cut ∙ ap (λ (x : List Block). block_lines form.names (k + 1) x ++ (slope_lines form.names h.heads ++ at_line (pos 0) (pos 1) ∷ (base_lines 1 h.rows ++ h.more))) none);
+            (h.cut ∙ ap (λ (x : List Block). block_lines form.names (k + 1) x ++ (slope_lines form.names h.heads ++ at_line (pos 0) (pos 1) ∷ (base_lines form.lines 1 h.rows ++ h.more))) none);
         holds = subst (λ (x : List Ratio). HoldsDue x h.more) (append_assoc slopes (r ∷ []) (map ratio_of h.heads)) h.holds;
         in_order = λ some. refl;
       }
@@ -240,7 +240,7 @@ module _ (form : Form) where
     breaks : List Break
     are : All (IsFormedBreak (length form.names) form.widths) breaks
     same : slope_lines form.names breaks ≡ slope_lines form.names heads
-    cut : lines ≡ break_lines breaks ++ codes "end" ∷ []
+    cut : lines ≡ break_lines form.lines breaks ++ codes "end" ∷ []
 
   with_bases : (heads : List Break) (lines : List (List ℕ)) → All IsSlope heads → HoldsDue (map ratio_of heads) lines → HoldsBreaks heads lines
   with_bases [] lines h e = record { breaks = []; are = All-nil (IsFormedBreak (length form.names) form.widths); same = refl; cut = e }
@@ -252,7 +252,7 @@ module _ (form : Form) where
         breaks = c ∷ t.breaks;
         are = All-cons (IsFormedBreak (length form.names) form.widths) c t.breaks (record { lowest = is.lowest; entry = is.entry; factor = is.factor; members = is.members; bases = formed }) t.are;
         same = ap (λ (l : List (List ℕ)). slope_line form.names b ∷ l) t.same;
-        cut = cut ∙ ap (λ (l : List (List ℕ)). section_lines b.num b.den rows ++ l) t.cut ∙ sym (append_assoc (section_lines b.num b.den rows) (break_lines t.breaks) (codes "end" ∷ []));
+        cut = cut ∙ ap (λ (l : List (List ℕ)). section_lines form.lines b.num b.den rows ++ l) t.cut ∙ sym (append_assoc (section_lines form.lines b.num b.den rows) (break_lines form.lines t.breaks) (codes "end" ∷ []));
       }
 
   pub record Whole (lines : List (List ℕ)) : Type 0 where
@@ -268,9 +268,9 @@ module _ (form : Form) where
         answer = record { value = value; least = low; greatest = high; blocks = h.blocks; bases = h.rows; breaks = t.breaks };
         formed = record { value = hv; least = hl; greatest = hh; blocks = λ i lt. subst (λ (n : ℕ). IsFormedBlock (length form.names) n (block_at h.blocks i)) (from_zero i) (h.are_blocks i lt); bases = h.are_rows; breaks = t.are };
         cut = ap (λ (l : List (List ℕ)). form.header ∷ (codes "minimum " ++ signed_decimal value) ∷ (codes "least" ++ listed form.names low) ∷ (codes "greatest" ++ listed form.names high) ∷ l)
-            (regroup (block_lines form.names 1 h.blocks) (slope_lines form.names t.breaks) (at_line (pos 0) (pos 1)) (base_lines 1 h.rows) (break_lines t.breaks) (codes "end" ∷ [])
-            ∙ ap (λ (l : List (List ℕ)). block_lines form.names 1 h.blocks ++ (l ++ at_line (pos 0) (pos 1) ∷ (base_lines 1 h.rows ++ (break_lines t.breaks ++ codes "end" ∷ [])))) t.same
-            ∙ ap (λ (l : List (List ℕ)). block_lines form.names 1 h.blocks ++ (slope_lines form.names h.heads ++ at_line (pos 0) (pos 1) ∷ (base_lines 1 h.rows ++ l))) (sym t.cut)
+            (regroup (block_lines form.names 1 h.blocks) (slope_lines form.names t.breaks) (at_line (pos 0) (pos 1)) (base_lines form.lines 1 h.rows) (break_lines form.lines t.breaks) (codes "end" ∷ [])
+            ∙ ap (λ (l : List (List ℕ)). block_lines form.names 1 h.blocks ++ (l ++ at_line (pos 0) (pos 1) ∷ (base_lines form.lines 1 h.rows ++ (break_lines form.lines t.breaks ++ codes "end" ∷ [])))) t.same
+            ∙ ap (λ (l : List (List ℕ)). block_lines form.names 1 h.blocks ++ (slope_lines form.names h.heads ++ at_line (pos 0) (pos 1) ∷ (base_lines form.lines 1 h.rows ++ l))) (sym t.cut)
             ∙ sym h.cut);
       }
 

@@ -14,14 +14,13 @@ use Rattle.std.proofs.lemmas.Map.Views.{length-le_from_below}
 use Rattle.sfm_spec.specs.Bounds.{IsEntry, IsFactor}
 use Rattle.sfm_spec.specs.Blocks.{Block, block_at, no_block}
 use Rattle.sfm_cert.specs.Answer.{Answer, Break, Form, listed, slope_text, block_line, slope_line, at_line, row_lines, section_lines, head_lines, answer_lines, text_of}
+use Rattle.sfm_cert.specs.Labels.{label_in}
 use Rattle.sfm_cert.specs.Lines.{row_line}
 use Rattle.sfm_cert.specs.LineLists.{counted, numbered, block_lines, slope_lines, base_lines, break_lines}
 use Rattle.sfm_cert.specs.Form.{AreFormedRows, IsFormed, IsFormedBlock, IsFormedBreak}
+use Rattle.sfm_cert.proofs.Labels.{AreFewLines, count_short, label_short}
 
 -- ---- numbers
-
-count_text : (n : ℕ) → n ≤ 16384 → length (decimal n) ≤ 5
-count_text n l = length-decimal-le_wide 5 n (omega arith) (omega (arith, l)) (omega (arith, l))
 
 pub number_text : (a : ℤ) → IsEntry a → length (signed_decimal a) ≤ 32
 number_text (pos n) e =
@@ -64,7 +63,7 @@ counted_short : (x : List ℕ) → All (λ j. j ≤ 256) x → length (counted x
 counted_short [] h = omega arith
 counted_short (j ∷ x) h =
     let small = h 0 0 (omega arith) in
-    let first = count_text j (omega (arith, small)) in
+    let first = count_short j (omega (arith, small)) in
     let rest = counted_short x (All-tail (λ j. j ≤ 256) j x h) in
     omega (arith, first, rest, length-append (32 ∷ decimal j) (counted x))
 
@@ -83,7 +82,7 @@ pub record HasFewNeeds (block : Block) : Type 0 where
 
 block_line_short : (names : List (List ℕ)) (i : ℕ) (block : Block) → AreShort names → length names ≤ 256 → i ≤ 256 → HasFewNeeds block → length (block_line names i block) ≤ 10240
 block_line_short names i block short few l needs =
-    let number = count_text i (omega (arith, l)) in
+    let number = count_short i (omega (arith, l)) in
     let members = listed_short names block.members short in
     let all = counted_short block.needs needs.small in
     let count = needs.few in
@@ -106,12 +105,11 @@ at_line_short p q ep eq =
     let text = slope_text_short p q ep eq in
     omega (arith, text, length-append (codes "at ") (slope_text p q))
 
--- a row by a short word
-row_line_short : (word : List ℕ) (i : ℕ) (x : List ℤ) → length word ≤ 8 → i ≤ 16384 → All IsEntry x → length (row_line word (decimal i) x) ≤ 33 * length x + 13
-row_line_short word i x few l small =
-    let number = count_text i l in
+-- a row by a short word and a short label
+row_line_short : (word label : List ℕ) (x : List ℤ) → length word ≤ 8 → length label ≤ 11 → All IsEntry x → length (row_line word label x) ≤ 33 * length x + 19
+row_line_short word label x few short small =
     let all = numbered_short x small in
-    omega (arith, few, number, all, length-append word (decimal i), length-append (word ++ decimal i) (numbered x))
+    omega (arith, few, short, all, length-append word label, length-append (word ++ label) (numbered x))
 
 -- ---- parts of the text
 
@@ -142,42 +140,42 @@ slopes_short names (b ∷ breaks) short few small =
     let rest = slopes_short names breaks short few (All-tail IsSmallBreak b breaks small) in
     omega (arith, first, rest, length-append (slope_line names b) (10 ∷ text_of (slope_lines names breaks)))
 
-pub rows_short : (word : List ℕ) (i : ℕ) (rows : List (List ℤ)) → length word ≤ 8 → i + length rows ≤ 16385 → All (λ x. All IsEntry x) rows
-    → length (text_of (row_lines word i rows)) ≤ 33 * sum (map length rows) + 14 * length rows
-rows_short word i [] few l small = omega arith
-rows_short word i (x ∷ rows) few l small =
-    let first = row_line_short word i x few (omega (arith, l)) (small 0 [] (omega arith)) in
-    let rest = rows_short word (i + 1) rows few (omega (arith, l)) (All-tail (λ y. All IsEntry y) x rows small) in
+pub rows_short : (word lines : List ℕ) (i : ℕ) (rows : List (List ℤ)) → length word ≤ 8 → AreFewLines lines → All (λ x. All IsEntry x) rows
+    → length (text_of (row_lines word lines i rows)) ≤ 33 * sum (map length rows) + 20 * length rows
+rows_short word lines i [] few l small = omega arith
+rows_short word lines i (x ∷ rows) few l small =
+    let first = row_line_short word (label_in lines i) x few (label_short lines i l) (small 0 [] (omega arith)) in
+    let rest = rows_short word lines (i + 1) rows few l (All-tail (λ y. All IsEntry y) x rows small) in
     let both = sum-map length (x ∷ rows) in
     let behind = sum-map length rows in
     let parts = sum_by-cons length x rows in
-    omega (arith, first, rest, both, behind, parts, length-append (row_line word (decimal i) x) (10 ∷ text_of (row_lines word (i + 1) rows)))
+    omega (arith, first, rest, both, behind, parts, length-append (row_line word (label_in lines i) x) (10 ∷ text_of (row_lines word lines (i + 1) rows)))
 
 -- the terms are few, and so are their places in all
 pub record AreFewWidths (widths : List ℕ) : Type 0 where
   pub terms : length widths ≤ 16384
   pub places : sum widths ≤ 16384
 
-section_short : (widths : List ℕ) (p q : ℤ) (rows : List (List ℤ)) → AreFewWidths widths → IsEntry p → IsEntry q → AreFormedRows widths rows
-    → length (text_of (section_lines p q rows)) ≤ 770117
-section_short widths p q rows few ep eq formed =
+section_short : (lines widths : List ℕ) (p q : ℤ) (rows : List (List ℤ)) → AreFewLines lines → AreFewWidths widths → IsEntry p → IsEntry q → AreFormedRows widths rows
+    → length (text_of (section_lines lines p q rows)) ≤ 868421
+section_short lines widths p q rows short few ep eq formed =
     let at = at_line_short p q ep eq in
     let count = length-map rows length in
     let same = ap length formed.widths_are in
     let total = ap sum formed.widths_are in
     let terms = few.terms in
     let places = few.places in
-    let all = rows_short (codes "base ") 1 rows (omega arith) (omega (arith, count, same, terms)) formed.small in
-    omega (arith, at, count, same, total, terms, places, all, length-append (at_line p q) (10 ∷ text_of (base_lines 1 rows)))
+    let all = rows_short (codes "base ") lines 1 rows (omega arith) short formed.small in
+    omega (arith, at, count, same, total, terms, places, all, length-append (at_line p q) (10 ∷ text_of (base_lines lines 1 rows)))
 
-breaks_short : (n : ℕ) (widths : List ℕ) (breaks : List Break) → AreFewWidths widths → All (IsFormedBreak n widths) breaks
-    → length (text_of (break_lines breaks)) ≤ 770117 * length breaks
-breaks_short n widths [] few formed = omega arith
-breaks_short n widths (b ∷ breaks) few formed =
+breaks_short : (n : ℕ) (lines widths : List ℕ) (breaks : List Break) → AreFewLines lines → AreFewWidths widths → All (IsFormedBreak n widths) breaks
+    → length (text_of (break_lines lines breaks)) ≤ 868421 * length breaks
+breaks_short n lines widths [] short few formed = omega arith
+breaks_short n lines widths (b ∷ breaks) short few formed =
     let one = formed 0 b (omega arith) in
-    let first = section_short widths b.num b.den b.bases few one.entry (factor_entry b.den one.factor) one.bases in
-    let rest = breaks_short n widths breaks few (All-tail (IsFormedBreak n widths) b breaks formed) in
-    omega (arith, first, rest, text_append (section_lines b.num b.den b.bases) (break_lines breaks))
+    let first = section_short lines widths b.num b.den b.bases short few one.entry (factor_entry b.den one.factor) one.bases in
+    let rest = breaks_short n lines widths breaks short few (All-tail (IsFormedBreak n widths) b breaks formed) in
+    omega (arith, first, rest, text_append (section_lines lines b.num b.den b.bases) (break_lines lines breaks))
 
 -- ---- the whole text
 
@@ -186,6 +184,7 @@ pub record IsSmallAnswer (form : Form) (a : Answer) : Type 0 where
   pub header : length form.header ≤ 100
   pub names : AreShort form.names
   pub few_names : length form.names ≤ 256
+  pub lines : AreFewLines form.lines
   pub widths : AreFewWidths form.widths
   pub few_blocks : length a.blocks ≤ 256
   pub few_breaks : length a.breaks ≤ 256
@@ -234,10 +233,10 @@ head_short form a f s =
 pub answer_short : (form : Form) (a : Answer) → IsFormed form a → IsSmallAnswer form a → length (text_of (answer_lines form a)) ≤ 268435456
 answer_short form a f s =
     let head = head_short form a f s in
-    let first = section_short form.widths (pos 0) (pos 1) a.bases s.widths entry_zero entry_one f.bases in
-    let breaks = breaks_short (length form.names) form.widths a.breaks s.widths f.breaks in
+    let first = section_short form.lines form.widths (pos 0) (pos 1) a.bases s.lines s.widths entry_zero entry_one f.bases in
+    let breaks = breaks_short (length form.names) form.lines form.widths a.breaks s.lines s.widths f.breaks in
     let few = s.few_breaks in
-    let one = text_append (head_lines form a) (section_lines (pos 0) (pos 1) a.bases) in
-    let two = text_append (head_lines form a ++ section_lines (pos 0) (pos 1) a.bases) (break_lines a.breaks) in
-    let three = text_append (head_lines form a ++ section_lines (pos 0) (pos 1) a.bases ++ break_lines a.breaks) (codes "end" ∷ []) in
+    let one = text_append (head_lines form a) (section_lines form.lines (pos 0) (pos 1) a.bases) in
+    let two = text_append (head_lines form a ++ section_lines form.lines (pos 0) (pos 1) a.bases) (break_lines form.lines a.breaks) in
+    let three = text_append (head_lines form a ++ section_lines form.lines (pos 0) (pos 1) a.bases ++ break_lines form.lines a.breaks) (codes "end" ∷ []) in
     omega (arith, head, first, breaks, few, one, two, three)

@@ -4,6 +4,7 @@ pub mod Needs
 pub mod Names
 pub mod LineForms
 pub mod CleanLines
+pub mod Labels
 pub mod Rules
 pub mod Machine
 pub mod Beginnings

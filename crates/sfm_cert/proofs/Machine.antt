@@ -91,25 +91,25 @@ module _ (form : Form) where
         (leads_slopes k (slopes ++ ratio_of b ∷ []) breaks (All-tail (IsFormedBreak (length form.names) form.widths) b breaks h)),
   )
 
-  pub leads_bases : (i : ℕ) (rows : List (List ℤ)) (due : List Ratio) → All (λ x. All IsEntry x) rows → LeadsOn form (bases i (map length rows) due) (base_lines i rows) (bases (i + length rows) [] due)
+  pub leads_bases : (i : ℕ) (rows : List (List ℤ)) (due : List Ratio) → All (λ x. All IsEntry x) rows → LeadsOn form (bases i (map length rows) due) (base_lines form.lines i rows) (bases (i + length rows) [] due)
   leads_bases i [] due h = ap (λ (n : ℕ). bases n [] due) (omega arith)
   leads_bases i (x ∷ rows) due h = (
     bases (i + 1) (map length rows) due,
     (x, (refl, All-head (λ (y : List ℤ). All IsEntry y) x rows h, refl), refl),
-    subst (λ (n : ℕ). LeadsOn form (bases (i + 1) (map length rows) due) (base_lines (i + 1) rows) (bases n [] due)) (omega arith)
+    subst (λ (n : ℕ). LeadsOn form (bases (i + 1) (map length rows) due) (base_lines form.lines (i + 1) rows) (bases n [] due)) (omega arith)
         (leads_bases (i + 1) rows due (All-tail (λ (y : List ℤ). All IsEntry y) x rows h)),
   )
 
-  leads_widths : (i : ℕ) (rows : List (List ℤ)) (due : List Ratio) → AreFormedRows form.widths rows → LeadsOn form (bases i form.widths due) (base_lines i rows) (bases (i + length rows) [] due)
-  leads_widths i rows due h = subst (λ (w : List ℕ). LeadsOn form (bases i w due) (base_lines i rows) (bases (i + length rows) [] due)) h.widths_are (leads_bases i rows due h.small)
+  leads_widths : (i : ℕ) (rows : List (List ℤ)) (due : List Ratio) → AreFormedRows form.widths rows → LeadsOn form (bases i form.widths due) (base_lines form.lines i rows) (bases (i + length rows) [] due)
+  leads_widths i rows due h = subst (λ (w : List ℕ). LeadsOn form (bases i w due) (base_lines form.lines i rows) (bases (i + length rows) [] due)) h.widths_are (leads_bases i rows due h.small)
 
-  leads_breaks : (i : ℕ) (breaks : List Break) → All (IsFormedBreak (length form.names) form.widths) breaks → LeadsOn form (bases i [] (map ratio_of breaks)) (break_lines breaks ++ codes "end" ∷ []) ended
+  leads_breaks : (i : ℕ) (breaks : List Break) → All (IsFormedBreak (length form.names) form.widths) breaks → LeadsOn form (bases i [] (map ratio_of breaks)) (break_lines form.lines breaks ++ codes "end" ∷ []) ended
   leads_breaks i [] h = (ended, (refl, refl), refl)
   leads_breaks i (b ∷ breaks) h = (
     bases 1 form.widths (map ratio_of breaks),
     (refl, refl),
-    subst (λ (x : List (List ℕ)). LeadsOn form (bases 1 form.widths (map ratio_of breaks)) x ended) (sym (append_assoc (base_lines 1 b.bases) (break_lines breaks) (codes "end" ∷ [])))
-        (leads-append (Leads form) (bases 1 form.widths (map ratio_of breaks)) (base_lines 1 b.bases) (bases (1 + length b.bases) [] (map ratio_of breaks)) (break_lines breaks ++ codes "end" ∷ []) ended
+    subst (λ (x : List (List ℕ)). LeadsOn form (bases 1 form.widths (map ratio_of breaks)) x ended) (sym (append_assoc (base_lines form.lines 1 b.bases) (break_lines form.lines breaks) (codes "end" ∷ [])))
+        (leads-append (Leads form) (bases 1 form.widths (map ratio_of breaks)) (base_lines form.lines 1 b.bases) (bases (1 + length b.bases) [] (map ratio_of breaks)) (break_lines form.lines breaks ++ codes "end" ∷ []) ended
         (leads_widths 1 b.bases (map ratio_of breaks) (All-head (IsFormedBreak (length form.names) form.widths) b breaks h).bases)
         (leads_breaks (1 + length b.bases) breaks (All-tail (IsFormedBreak (length form.names) form.widths) b breaks h))),
   )
@@ -128,13 +128,13 @@ module _ (form : Form) where
       ),
     ),
   ) where
-    tail : LeadsOn form (listing 0 []) (block_lines form.names 1 a.blocks ++ slope_lines form.names a.breaks ++ section_lines (pos 0) (pos 1) a.bases ++ break_lines a.breaks ++ codes "end" ∷ []) ended
+    tail : LeadsOn form (listing 0 []) (block_lines form.names 1 a.blocks ++ slope_lines form.names a.breaks ++ section_lines form.lines (pos 0) (pos 1) a.bases ++ break_lines form.lines a.breaks ++ codes "end" ∷ []) ended
     tail = subst (λ (x : List (List ℕ)). LeadsOn form (listing 0 []) x ended)
-        (sym (regroup (block_lines form.names 1 a.blocks) (slope_lines form.names a.breaks) (at_line (pos 0) (pos 1)) (base_lines 1 a.bases) (break_lines a.breaks) (codes "end" ∷ [])))
+        (sym (regroup (block_lines form.names 1 a.blocks) (slope_lines form.names a.breaks) (at_line (pos 0) (pos 1)) (base_lines form.lines 1 a.bases) (break_lines form.lines a.breaks) (codes "end" ∷ [])))
         (leads-append (Leads form) (listing 0 []) (block_lines form.names 1 a.blocks) (listing (0 + length a.blocks) []) _ ended (leads_blocks 0 a.blocks (λ i lt. subst (λ (n : ℕ). IsFormedBlock (length form.names) n (block_at a.blocks i)) (omega arith) (h.blocks i lt)))
         (leads-append (Leads form) (listing (0 + length a.blocks) []) (slope_lines form.names a.breaks) (listing (0 + length a.blocks) (map ratio_of a.breaks)) _ ended (leads_slopes (0 + length a.blocks) [] a.breaks h.breaks) (
           bases 1 form.widths (map ratio_of a.breaks),
           inr (inr (refl, refl)),
-          leads-append (Leads form) (bases 1 form.widths (map ratio_of a.breaks)) (base_lines 1 a.bases) (bases (1 + length a.bases) [] (map ratio_of a.breaks)) (break_lines a.breaks ++ codes "end" ∷ []) ended
+          leads-append (Leads form) (bases 1 form.widths (map ratio_of a.breaks)) (base_lines form.lines 1 a.bases) (bases (1 + length a.bases) [] (map ratio_of a.breaks)) (break_lines form.lines a.breaks ++ codes "end" ∷ []) ended
               (leads_widths 1 a.bases (map ratio_of a.breaks) h.bases) (leads_breaks (1 + length a.bases) a.breaks h.breaks),
         )))

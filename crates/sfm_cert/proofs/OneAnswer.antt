@@ -1,6 +1,6 @@
 -- A text is the text of one answer alone.
 use Rattle.std.proofs.Common.{◌≡◌, ◌≢◌, ℕ, suc, ◌+◌, ◌<◌, ◌^◌, Bool, List, [], ◌∷◌, ◌++◌, length, map, get_or, ℤ, pos, refl, sym, ap, subst, ◌∙◌, arith, append_assoc}
-use Rattle.std.specs.Prelude.{codes, decimal}
+use Rattle.std.specs.Prelude.{codes}
 use Rattle.std.specs.List.{All}
 use Rattle.std.proofs.lemmas.List.{append_cancel_left}
 use Rattle.std.proofs.lemmas.List.Elements.{All-head, All-tail}
@@ -11,6 +11,7 @@ use Rattle.sfm_cert.specs.Answer.{Answer, Break, Form, block_line, slope_line, a
 use Rattle.sfm_cert.specs.LineLists.{block_lines, slope_lines, base_lines, break_lines, base_line, IsAnswerText}
 use Rattle.sfm_cert.specs.Form.{IsFormedBlock, IsFormedBreak}
 use Rattle.sfm_cert.specs.Grammar.{IsLine}
+use Rattle.sfm_cert.specs.Labels.{label_in}
 use Rattle.sfm_cert.specs.Lines.{ratio_of}
 use Rattle.sfm_cert.proofs.BadLines.{one_list}
 use Rattle.sfm_cert.proofs.Machine.{regroup}
@@ -64,19 +65,19 @@ module _ (form : Form) (named : AreElementNames form.names) where
       (ap (λ (m : List Bool). let w : Block = record { members = m; needs = b.needs } in w ∷ x) one.0 ∙ ap (λ (n : List ℕ). let w : Block = record { members = c.members; needs = n } in w ∷ x) one.1 ∙ ap (λ z. c ∷ z) r.0, r.1)
 
   -- the base lines of as many rows of the same widths
-  same_rows : (i : ℕ) (x y : List (List ℤ)) (u v : List (List ℕ)) → map length x ≡ map length y → All (λ r. All IsEntry r) x → All (λ r. All IsEntry r) y → base_lines i x ++ u ≡ base_lines i y ++ v → (x ≡ y) × (u ≡ v)
+  same_rows : (i : ℕ) (x y : List (List ℤ)) (u v : List (List ℕ)) → map length x ≡ map length y → All (λ r. All IsEntry r) x → All (λ r. All IsEntry r) y → base_lines form.lines i x ++ u ≡ base_lines form.lines i y ++ v → (x ≡ y) × (u ≡ v)
   same_rows i [] [] u v w hx hy e = (refl, e)
   same_rows i [] (b ∷ y) u v w hx hy e = absurd (cc)
   same_rows i (a ∷ x) [] u v w hx hy e = absurd (cc)
   same_rows i (a ∷ x) (b ∷ y) u v w hx hy e =
       let f : length a ≡ length b = cc in
       let g : map length x ≡ map length y = cc in
-      let one = row_line-same (codes "base ") (decimal i) (length a) (base_line i a) a b (refl, All-head (λ (r : List ℤ). All IsEntry r) a x hx, refl) (sym f, All-head (λ (r : List ℤ). All IsEntry r) b y hy, cons_head e) in
+      let one = row_line-same (codes "base ") (label_in form.lines i) (length a) (base_line form.lines i a) a b (refl, All-head (λ (r : List ℤ). All IsEntry r) a x hx, refl) (sym f, All-head (λ (r : List ℤ). All IsEntry r) b y hy, cons_head e) in
       let r = same_rows (i + 1) x y u v g (All-tail (λ (z : List ℤ). All IsEntry z) a x hx) (All-tail (λ (z : List ℤ). All IsEntry z) b y hy) (cons_tail e) in
       (ap (λ c. c ∷ x) one ∙ ap (λ z. b ∷ z) r.0, r.1)
 
   -- the sections of slopes with the same slope lines
-  same_breaks : (x y : List Break) (u v : List (List ℕ)) → AreFormedBreaks x → AreFormedBreaks y → slope_lines form.names x ≡ slope_lines form.names y → break_lines x ++ u ≡ break_lines y ++ v → (x ≡ y) × (u ≡ v)
+  same_breaks : (x y : List Break) (u v : List (List ℕ)) → AreFormedBreaks x → AreFormedBreaks y → slope_lines form.names x ≡ slope_lines form.names y → break_lines form.lines x ++ u ≡ break_lines form.lines y ++ v → (x ≡ y) × (u ≡ v)
   same_breaks [] [] u v hx hy s e = (refl, e)
   same_breaks [] (c ∷ y) u v hx hy s e = absurd (cc)
   same_breaks (b ∷ x) [] u v hx hy s e = absurd (cc)
@@ -86,9 +87,9 @@ module _ (form : Form) (named : AreElementNames form.names) where
       let one = slope_line-same form.names (slope_line form.names b) (ratio_of b) (ratio_of c) b.members c.members named
       (record { lowest = hb.lowest; entry = hb.entry; factor = hb.factor; members = hb.members; written = refl })
       (record { lowest = hc.lowest; entry = hc.entry; factor = hc.factor; members = hc.members; written = cons_head s }) in
-      let tails : base_lines 1 b.bases ++ (break_lines x ++ u) ≡ base_lines 1 c.bases ++ (break_lines y ++ v)
-      = sym (append_assoc (base_lines 1 b.bases) (break_lines x) u) ∙ cons_tail e ∙ append_assoc (base_lines 1 c.bases) (break_lines y) v in
-      let rows = same_rows 1 b.bases c.bases (break_lines x ++ u) (break_lines y ++ v) (hb.bases.widths_are ∙ sym hc.bases.widths_are) hb.bases.small hc.bases.small tails in
+      let tails : base_lines form.lines 1 b.bases ++ (break_lines form.lines x ++ u) ≡ base_lines form.lines 1 c.bases ++ (break_lines form.lines y ++ v)
+      = sym (append_assoc (base_lines form.lines 1 b.bases) (break_lines form.lines x) u) ∙ cons_tail e ∙ append_assoc (base_lines form.lines 1 c.bases) (break_lines form.lines y) v in
+      let rows = same_rows 1 b.bases c.bases (break_lines form.lines x ++ u) (break_lines form.lines y ++ v) (hb.bases.widths_are ∙ sym hc.bases.widths_are) hb.bases.small hc.bases.small tails in
       let r = same_breaks x y u v (All-tail (IsFormedBreak (length form.names) form.widths) b x hx) (All-tail (IsFormedBreak (length form.names) form.widths) c y hy) (cons_tail s) rows.1 in
       (ap (λ z. z ∷ x) (same_break b c one.0 one.1 one.2 rows.0) ∙ ap (λ z. c ∷ z) r.0, r.1) where
         same_break : (b c : Break) → b.num ≡ c.num → b.den ≡ c.den → b.members ≡ c.members → b.bases ≡ c.bases → b ≡ c
@@ -112,9 +113,9 @@ module _ (form : Form) (named : AreElementNames form.names) where
       let value = one_number a.value b.value ha.formed.value hb.formed.value (append_cancel_left (codes "minimum ") _ _ (cons_head (cons_tail e))) in
       let low = listed-same form.names a.least b.least named ha.formed.least hb.formed.least (append_cancel_left (codes "least") _ _ (cons_head (cons_tail (cons_tail e)))) in
       let high = listed-same form.names a.greatest b.greatest named ha.formed.greatest hb.formed.greatest (append_cancel_left (codes "greatest") _ _ (cons_head (cons_tail (cons_tail (cons_tail e))))) in
-      let tail = sym (regroup (block_lines form.names 1 a.blocks) (slope_lines form.names a.breaks) (at_line (pos 0) (pos 1)) (base_lines 1 a.bases) (break_lines a.breaks) (codes "end" ∷ []))
+      let tail = sym (regroup (block_lines form.names 1 a.blocks) (slope_lines form.names a.breaks) (at_line (pos 0) (pos 1)) (base_lines form.lines 1 a.bases) (break_lines form.lines a.breaks) (codes "end" ∷ []))
       ∙ cons_tail (cons_tail (cons_tail (cons_tail e)))
-      ∙ regroup (block_lines form.names 1 b.blocks) (slope_lines form.names b.breaks) (at_line (pos 0) (pos 1)) (base_lines 1 b.bases) (break_lines b.breaks) (codes "end" ∷ []) in
+      ∙ regroup (block_lines form.names 1 b.blocks) (slope_lines form.names b.breaks) (at_line (pos 0) (pos 1)) (base_lines form.lines 1 b.bases) (break_lines form.lines b.breaks) (codes "end" ∷ []) in
       let blocks = same_blocks 0 a.blocks b.blocks _ _ (omega (arith, few)) (no_block_next a.breaks (at_line (pos 0) (pos 1)) _ refl) (no_block_next b.breaks (at_line (pos 0) (pos 1)) _ refl) (from_zero a.blocks ha.formed.blocks) (from_zero b.blocks hb.formed.blocks) tail in
       let slopes = same_slopes a.breaks b.breaks (at_line (pos 0) (pos 1)) _ _ refl ha.formed.breaks hb.formed.breaks blocks.1 in
       let rows = same_rows 1 a.bases b.bases _ _ (ha.formed.bases.widths_are ∙ sym hb.formed.bases.widths_are) ha.formed.bases.small hb.formed.bases.small slopes.2 in

@@ -11,6 +11,7 @@ use Rattle.sfm_spec.specs.Blocks.{Block, block_at, no_block}
 use Rattle.sfm_cert.specs.Answer.{Break, Form, block_line}
 use Rattle.sfm_cert.specs.LineLists.{block_lines, slope_lines, base_lines, base_line}
 use Rattle.sfm_cert.specs.Form.{IsFormedBlock}
+use Rattle.sfm_cert.specs.Labels.{label_in}
 use Rattle.sfm_cert.specs.Lines.{IsBlockLine, IsSlopeLine, IsBaseLine, Ratio, ratio_of}
 use Rattle.sfm_cert.specs.Parts.{ReadsBlocks, ReadsHeads, ReadsRows}
 use Rattle.sfm_cert.specs.Reading.{State, listing, bases, Leads, Reads, EndsAt, EndsStuck, TakesSome, IsNextLine, ended}
@@ -95,7 +96,7 @@ module _ (form : Form) (text : List ℕ) where
   pub record RowsSoFar (from to : Cursor) (i : ℕ) (rows : List (List ℤ)) : Type 0 where
     pub within : to.at ≤ length text
     pub count : length rows ≡ i
-    pub reads : (due : List Ratio) → Reads form text from to (bases 1 form.widths due) (bases (i + 1) (drop i form.widths) due) (base_lines 1 rows)
+    pub reads : (due : List Ratio) → Reads form text from to (bases 1 form.widths due) (bases (i + 1) (drop i form.widths) due) (base_lines form.lines 1 rows)
     pub widths_are : map length rows ≡ take i form.widths
     pub small : All (λ x. All IsEntry x) rows
 
@@ -110,34 +111,34 @@ module _ (form : Form) (text : List ℕ) where
   pub rows_begin : (from : Cursor) → from.at ≤ length text → RowsSoFar from from 0 []
   rows_begin from h = record { within = h; count = refl; reads = λ due. reads_begin (Leads form) text from (bases 1 form.widths due) h; widths_are = refl; small = All-nil (λ (x : List ℤ). All IsEntry x) }
 
-  pub rows_more : (from to to' : Cursor) (i width : ℕ) (rows : List (List ℤ)) (x : List ℤ) → IsDue i width → RowsSoFar from to i rows → TakesSome text to to' (λ line. IsBaseLine (i + 1) width line x)
+  pub rows_more : (from to to' : Cursor) (i width : ℕ) (rows : List (List ℤ)) (x : List ℤ) → IsDue i width → RowsSoFar from to i rows → TakesSome text to to' (λ line. IsBaseLine (label_in form.lines (i + 1)) width line x)
       → RowsSoFar from to' (i + 1) (rows ++ x ∷ [])
   rows_more from to to' i width rows x d r t = record {
     within = t.within;
     count = omega (arith, length_push rows x, r.count);
     reads = λ due.
-        let lines_are : base_lines 1 rows ++ t.line ∷ [] ≡ base_lines 1 (rows ++ x ∷ []) = ap (λ l. base_lines 1 rows ++ l ∷ []) (t.good.2 ∙ ap (λ n. base_line n x) (omega (arith, r.count))) ∙ sym (row_lines-push (codes "base ") 1 rows x) in
+        let lines_are : base_lines form.lines 1 rows ++ t.line ∷ [] ≡ base_lines form.lines 1 (rows ++ x ∷ []) = ap (λ l. base_lines form.lines 1 rows ++ l ∷ []) (t.good.2 ∙ ap (λ n. base_line form.lines n x) (omega (arith, r.count))) ∙ sym (row_lines-push (codes "base ") form.lines 1 rows x) in
         let ws = widths_due i width d in
-        let before = subst (λ (l : List ℕ). Reads form text from to (bases 1 form.widths due) (bases (i + 1) l due) (base_lines 1 rows)) ws (r.reads due) in
+        let before = subst (λ (l : List ℕ). Reads form text from to (bases 1 form.widths due) (bases (i + 1) l due) (base_lines form.lines 1 rows)) ws (r.reads due) in
         subst (λ (l : List (List ℕ)). Reads form text from to' (bases 1 form.widths due) (bases (i + 1 + 1) (drop (i + 1) form.widths) due) l) lines_are
-        (reads_more (Leads form) text from to to' (bases 1 form.widths due) (bases (i + 1) (width ∷ drop (i + 1) form.widths) due) (bases (i + 1 + 1) (drop (i + 1) form.widths) due) (base_lines 1 rows) t.line before t.takes t.within
+        (reads_more (Leads form) text from to to' (bases 1 form.widths due) (bases (i + 1) (width ∷ drop (i + 1) form.widths) due) (bases (i + 1 + 1) (drop (i + 1) form.widths) due) (base_lines form.lines 1 rows) t.line before t.takes t.within
         (x, t.good, refl));
     widths_are = map_push length rows x ∙ ap (λ l. l ++ length x ∷ []) r.widths_are ∙ ap (λ n. take i form.widths ++ n ∷ []) (t.good.0 ∙ sym d.is) ∙ sym (take_more form.widths i 0 d.below);
     small = All-push (λ (y : List ℤ). All IsEntry y) rows x r.small t.good.1;
   }
 
   pub rows_stop : {A : Type 0} (result : Result A AnswerEnd) (from to : Cursor) (i width : ℕ) (rows : List (List ℤ)) (end : AnswerEnd) → IsErrAnd result (λ e. e ≡ end) → IsDue i width → RowsSoFar from to i rows
-      → EndsStuck text to (λ line. (x : List ℤ) × IsBaseLine (i + 1) width line x) end → IfErr result (λ end. (due : List Ratio) → EndsAt form text from (bases 1 form.widths due) end)
+      → EndsStuck text to (λ line. (x : List ℤ) × IsBaseLine (label_in form.lines (i + 1)) width line x) end → IfErr result (λ end. (due : List Ratio) → EndsAt form text from (bases 1 form.widths due) end)
   rows_stop result from to i width rows end is d r s = passed_on result end (λ end. (due : List Ratio) → EndsAt form text from (bases 1 form.widths due) end) is (λ due.
       let ws = widths_due i width d in
-      let before = subst (λ (l : List ℕ). Reads form text from to (bases 1 form.widths due) (bases (i + 1) l due) (base_lines 1 rows)) ws (r.reads due) in
-      stops_stuck (Leads form) text ended from to (bases 1 form.widths due) (bases (i + 1) (width ∷ drop (i + 1) form.widths) due) (base_lines 1 rows) (λ line. (x : List ℤ) × IsBaseLine (i + 1) width line x) end before s
+      let before = subst (λ (l : List ℕ). Reads form text from to (bases 1 form.widths due) (bases (i + 1) l due) (base_lines form.lines 1 rows)) ws (r.reads due) in
+      stops_stuck (Leads form) text ended from to (bases 1 form.widths due) (bases (i + 1) (width ∷ drop (i + 1) form.widths) due) (base_lines form.lines 1 rows) (λ line. (x : List ℤ) × IsBaseLine (label_in form.lines (i + 1)) width line x) end before s
       (λ line next n l. (l.0, l.1)) (λ f. cc))
 
   pub rows_end : (from to : Cursor) (i : ℕ) (rows : List (List ℤ)) → length form.widths ≤ i → i ≤ length form.widths → RowsSoFar from to i rows → ReadsRows form text from to rows
   rows_end from to i rows h k r = record {
     within = r.within;
-    reads = λ due. subst (λ (l : List ℕ). Reads form text from to (bases 1 form.widths due) (bases (length rows + 1) l due) (base_lines 1 rows)) (drop_all i form.widths h)
-        (subst (λ (n : ℕ). Reads form text from to (bases 1 form.widths due) (bases (n + 1) (drop i form.widths) due) (base_lines 1 rows)) (sym r.count) (r.reads due));
+    reads = λ due. subst (λ (l : List ℕ). Reads form text from to (bases 1 form.widths due) (bases (length rows + 1) l due) (base_lines form.lines 1 rows)) (drop_all i form.widths h)
+        (subst (λ (n : ℕ). Reads form text from to (bases 1 form.widths due) (bases (n + 1) (drop i form.widths) due) (base_lines form.lines 1 rows)) (sym r.count) (r.reads due));
     formed = record { widths_are = r.widths_are ∙ take_all i form.widths h; small = r.small };
   }

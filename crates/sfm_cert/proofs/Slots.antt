@@ -1,6 +1,5 @@
 -- Texts of slots: each line is judged by itself, so the first line that does not fill its slot is the first bad one.
 use Rattle.std.proofs.Common.{◌≡◌, ℕ, ◌+◌, Bool, false, List, [], ◌∷◌, ◌++◌, length, map, replicate, ℤ, pos, refl, sym, ap, subst, ◌∙◌, arith}
-use Rattle.std.specs.Prelude.{decimal}
 use Rattle.std.specs.List.{All}
 use Rattle.std.specs.Fmt.{signed_decimal}
 use Rattle.std.proofs.lemmas.List.{length-replicate}
@@ -11,12 +10,14 @@ use Rattle.sfm_cert.specs.Answer.{listed, row_lines}
 use Rattle.sfm_cert.specs.Lines.{row_line}
 use Rattle.sfm_cert.specs.Form.{AreFormedRows}
 use Rattle.sfm_cert.specs.Grammar.{IsLine}
+use Rattle.sfm_cert.specs.Labels.{label_in}
 use Rattle.sfm_cert.specs.Reading.{LeadsOnBy, ReadsBy, EndsAtBy, EndsStuck, TakesSome}
 use Rattle.sfm_cert.specs.Slots.{Slot, exact, value, set, row, Fills, FillsNext, IsCleanSlot, row_slots}
 use Rattle.sfm_cert.specs.declared.cursor.Cursor.{Cursor}
 use Rattle.sfm_cert.specs.declared.solved.AnswerEnd.{AnswerEnd}
-use Rattle.sfm_cert.proofs.CleanLines.{decimal_line, joined, listed_line, number_line, row_line_line}
+use Rattle.sfm_cert.proofs.CleanLines.{joined, listed_line, number_line, row_line_line}
 use Rattle.sfm_cert.proofs.Ends.{reads_more, stops_stuck}
+use Rattle.sfm_cert.proofs.Labels.{label_line}
 use Rattle.sfm_cert.proofs.Rules.{LeadsOneWay, LeadsClean, leads-append}
 use Rattle.sfm_cert.proofs.Tokens.{count_entry}
 
@@ -26,10 +27,11 @@ zeros n = replicate n (pos 0)
 zero_entry : IsEntry (pos 0)
 zero_entry = count_entry 0 (omega arith)
 
--- slots of rows by a word are clean where the word is
-pub clean_rows : (word : List ℕ) (i : ℕ) (widths : List ℕ) → IsLine word → All IsCleanSlot (row_slots word i widths)
-clean_rows word i [] w = All-nil IsCleanSlot
-clean_rows word i (width ∷ widths) w = All-cons IsCleanSlot (row word (decimal i) width) (row_slots word (i + 1) widths) (w, decimal_line i) (clean_rows word (i + 1) widths w)
+-- slots of rows by a word are clean where the word is, as labels are
+pub clean_rows : (word lines : List ℕ) (i : ℕ) (widths : List ℕ) → IsLine word → All IsCleanSlot (row_slots word lines i widths)
+clean_rows word lines i [] w = All-nil IsCleanSlot
+clean_rows word lines i (width ∷ widths) w =
+    All-cons IsCleanSlot (row word (label_in lines i) width) (row_slots word lines (i + 1) widths) (w, label_line lines i) (clean_rows word lines (i + 1) widths w)
 
 module _ (names : List (List ℕ)) where
   -- ---- the rule
@@ -79,38 +81,38 @@ module _ (names : List (List ℕ)) where
 
   -- ---- rows
 
-  pub rows_fill : (word : List ℕ) (i : ℕ) (rows : List (List ℤ)) (left : List Slot) → IsLine word → All (λ x. All IsEntry x) rows
-      → FillOn (row_slots word i (map length rows) ++ left) (row_lines word i rows) left
-  rows_fill word i [] left w h = refl
-  rows_fill word i (x ∷ rows) left w h = (
-    row_slots word (i + 1) (map length rows) ++ left,
-    (row_line_line word (decimal i) x w (decimal_line i), (x, (refl, All-head (λ (y : List ℤ). All IsEntry y) x rows h, refl)), refl),
-    rows_fill word (i + 1) rows left w (All-tail (λ (y : List ℤ). All IsEntry y) x rows h),
+  pub rows_fill : (word lines : List ℕ) (i : ℕ) (rows : List (List ℤ)) (left : List Slot) → IsLine word → All (λ x. All IsEntry x) rows
+      → FillOn (row_slots word lines i (map length rows) ++ left) (row_lines word lines i rows) left
+  rows_fill word lines i [] left w h = refl
+  rows_fill word lines i (x ∷ rows) left w h = (
+    row_slots word lines (i + 1) (map length rows) ++ left,
+    (row_line_line word (label_in lines i) x w (label_line lines i), (x, (refl, All-head (λ (y : List ℤ). All IsEntry y) x rows h, refl)), refl),
+    rows_fill word lines (i + 1) rows left w (All-tail (λ (y : List ℤ). All IsEntry y) x rows h),
   )
 
   -- lines that fill slots of rows, and others behind them
-  pub record HoldRows (word : List ℕ) (i : ℕ) (widths : List ℕ) (left : List Slot) (lines : List (List ℕ)) : Type 0 where
+  pub record HoldRows (word layers : List ℕ) (i : ℕ) (widths : List ℕ) (left : List Slot) (lines : List (List ℕ)) : Type 0 where
     pub rows : List (List ℤ)
     pub more : List (List ℕ)
     pub formed : AreFormedRows widths rows
-    pub cut : lines ≡ row_lines word i rows ++ more
+    pub cut : lines ≡ row_lines word layers i rows ++ more
     pub behind : FillOn left more []
 
   not_filled : (slot : Slot) (slots : List Slot) → slot ∷ slots ≡ [] → ⊥
   not_filled slot slots e = cc
 
-  pub hold_rows : (word : List ℕ) (i : ℕ) (widths : List ℕ) (left : List Slot) (lines : List (List ℕ)) → FillOn (row_slots word i widths ++ left) lines []
-      → HoldRows word i widths left lines
-  hold_rows word i [] left lines h = record {
+  pub hold_rows : (word layers : List ℕ) (i : ℕ) (widths : List ℕ) (left : List Slot) (lines : List (List ℕ)) → FillOn (row_slots word layers i widths ++ left) lines []
+      → HoldRows word layers i widths left lines
+  hold_rows word layers i [] left lines h = record {
     rows = [];
     more = lines;
     formed = record { widths_are = refl; small = All-nil (λ (x : List ℤ). All IsEntry x) };
     cut = refl;
     behind = h;
   }
-  hold_rows word i (width ∷ widths) left [] h = absurd (not_filled _ _ h)
-  hold_rows word i (width ∷ widths) left (line ∷ lines) (next, (clean, (x, is), goes), more) =
-      let h = hold_rows word (i + 1) widths left lines (subst (λ (s : List Slot). FillOn s lines []) goes more) in
+  hold_rows word layers i (width ∷ widths) left [] h = absurd (not_filled _ _ h)
+  hold_rows word layers i (width ∷ widths) left (line ∷ lines) (next, (clean, (x, is), goes), more) =
+      let h = hold_rows word layers (i + 1) widths left lines (subst (λ (s : List Slot). FillOn s lines []) goes more) in
       record {
         rows = x ∷ h.rows;
         more = h.more;
@@ -118,7 +120,7 @@ module _ (names : List (List ℕ)) where
           widths_are = ap (λ (n : ℕ). n ∷ map length h.rows) is.0 ∙ ap (λ (w : List ℕ). width ∷ w) h.formed.widths_are;
           small = All-cons (λ (y : List ℤ). All IsEntry y) x h.rows is.1 h.formed.small;
         };
-        cut = ap (λ (l : List ℕ). l ∷ lines) is.2 ∙ ap (λ (l : List (List ℕ)). row_line word (decimal i) x ∷ l) h.cut;
+        cut = ap (λ (l : List ℕ). l ∷ lines) is.2 ∙ ap (λ (l : List (List ℕ)). row_line word (label_in layers i) x ∷ l) h.cut;
         behind = h.behind;
       }
 

@@ -73,10 +73,10 @@ module _ (form : Form) (clean : IsLine form.header) (named : All IsName form.nam
 
           module _ {c5 : Cursor} {rows : List (List ℤ)} (h5 : ReadsRows form text c4 c5 rows) where
             abbrev lines5 : List (List ℕ)
-            lines5 = lines3 ++ at_line (pos 0) (pos 1) ∷ [] ++ base_lines 1 rows
+            lines5 = lines3 ++ at_line (pos 0) (pos 1) ∷ [] ++ base_lines form.lines 1 rows
 
             r5 : Reads form text c0 c5 header (bases (length rows + 1) [] (map ratio_of heads)) lines5
-            r5 = reads_then (Leads form) text c0 c4 c5 header (bases 1 form.widths (map ratio_of heads)) (bases (length rows + 1) [] (map ratio_of heads)) (lines3 ++ at_line (pos 0) (pos 1) ∷ []) (base_lines 1 rows) r4 (h5.reads (map ratio_of heads))
+            r5 = reads_then (Leads form) text c0 c4 c5 header (bases 1 form.widths (map ratio_of heads)) (bases (length rows + 1) [] (map ratio_of heads)) (lines3 ++ at_line (pos 0) (pos 1) ∷ []) (base_lines form.lines 1 rows) r4 (h5.reads (map ratio_of heads))
 
             pub bad_breaks : {A : Type 0} (r : Result A AnswerEnd) (end : AnswerEnd) → IsErrAnd r (λ e. e ≡ end) → ((i : ℕ) → EndsAt form text c5 (bases i [] (map ratio_of heads)) end) → IfErr r (IsBadLineEnd form text)
             bad_breaks r end is h = bad_first r end is (stops_then (Leads form) text ended c0 c5 header (bases (length rows + 1) [] (map ratio_of heads)) lines5 end r5 (h (length rows + 1)))
@@ -85,19 +85,19 @@ module _ (form : Form) (clean : IsLine form.header) (named : All IsName form.nam
               abbrev last : ℕ
               last = (h6.reads (length rows + 1)).0
 
-              r6 : Reads form text c0 c6 header (bases last [] []) (lines5 ++ break_lines breaks)
-              r6 = reads_then (Leads form) text c0 c5 c6 header (bases (length rows + 1) [] (map ratio_of heads)) (bases last [] []) lines5 (break_lines breaks) r5 (h6.reads (length rows + 1)).1
+              r6 : Reads form text c0 c6 header (bases last [] []) (lines5 ++ break_lines form.lines breaks)
+              r6 = reads_then (Leads form) text c0 c5 c6 header (bases (length rows + 1) [] (map ratio_of heads)) (bases last [] []) lines5 (break_lines form.lines breaks) r5 (h6.reads (length rows + 1)).1
 
               pub bad_last : {A : Type 0} (r : Result A AnswerEnd) (end : AnswerEnd) → IsErrAnd r (λ e. e ≡ end) → EndsStuck text c6 (λ line. line ≡ codes "end") end → IfErr r (IsBadLineEnd form text)
-              bad_last r end is s = bad_first r end is (stops_stuck (Leads form) text ended c0 c6 header (bases last [] []) (lines5 ++ break_lines breaks) (λ line. line ≡ codes "end") end r6 s (λ line next n l. l.0) (λ f. cc))
+              bad_last r end is s = bad_first r end is (stops_stuck (Leads form) text ended c0 c6 header (bases last [] []) (lines5 ++ break_lines form.lines breaks) (λ line. line ≡ codes "end") end r6 s (λ line next n l. l.0) (λ f. cc))
 
               module _ {c7 : Cursor} (t7 : Takes text c6 c7 (codes "end")) (within7 : c7.at ≤ length text) where
-                r7 : Reads form text c0 c7 header ended (lines5 ++ break_lines breaks ++ codes "end" ∷ [])
-                r7 = reads_more (Leads form) text c0 c6 c7 header (bases last [] []) ended (lines5 ++ break_lines breaks) (codes "end") r6 t7 within7 (refl, refl)
+                r7 : Reads form text c0 c7 header ended (lines5 ++ break_lines form.lines breaks ++ codes "end" ∷ [])
+                r7 = reads_more (Leads form) text c0 c6 c7 header (bases last [] []) ended (lines5 ++ break_lines form.lines breaks) (codes "end") r6 t7 within7 (refl, refl)
 
                 pub bad_behind : c7.at < length text → IsBadLine form text c7.line
                 bad_behind h = bad_line form clean named text c0 c7.line zero_at one_line (record {
-                  lines = lines5 ++ break_lines breaks ++ codes "end" ∷ [];
+                  lines = lines5 ++ break_lines form.lines breaks ++ codes "end" ∷ [];
                   to = c7;
                   next = ended;
                   reads = r7;
@@ -110,8 +110,8 @@ module _ (form : Form) (clean : IsLine form.header) (named : All IsName form.nam
                 whole_text h = record {
                   formed = record { value = h1.small; least = h1.places_low; greatest = h1.places_high; blocks = h2.formed; bases = h5.formed; breaks = are.formed };
                   written =
-                      sym (ap (λ n. drop n text) zero_at) ∙ r7.cut ∙ ap (λ x. text_of (lines5 ++ break_lines breaks ++ codes "end" ∷ []) ++ x) (drop_all c7.at text h) ∙ append-nil (text_of (lines5 ++ break_lines breaks ++ codes "end" ∷ []))
-                      ∙ ap text_of (gather (front value low high) (block_lines form.names 1 blocks) (slope_lines form.names heads) (slope_lines form.names breaks) (at_line (pos 0) (pos 1)) (base_lines 1 rows) (break_lines breaks) (codes "end" ∷ []) (sym are.same));
+                      sym (ap (λ n. drop n text) zero_at) ∙ r7.cut ∙ ap (λ x. text_of (lines5 ++ break_lines form.lines breaks ++ codes "end" ∷ []) ++ x) (drop_all c7.at text h) ∙ append-nil (text_of (lines5 ++ break_lines form.lines breaks ++ codes "end" ∷ []))
+                      ∙ ap text_of (gather (front value low high) (block_lines form.names 1 blocks) (slope_lines form.names heads) (slope_lines form.names breaks) (at_line (pos 0) (pos 1)) (base_lines form.lines 1 rows) (break_lines form.lines breaks) (codes "end" ∷ []) (sym are.same));
                 } where
                   gather : (f b s s' : List (List ℕ)) (a : List ℕ) (r k e : List (List ℕ)) → s ≡ s' → f ++ b ++ s ++ a ∷ [] ++ r ++ k ++ e ≡ f ++ (b ++ s') ++ a ∷ r ++ k ++ e
                   gather f b s s' a r k e same = ap (λ x. f ++ b ++ x ++ a ∷ [] ++ r ++ k ++ e) same ∙ simp append_assoc

@@ -4,6 +4,7 @@ use Rattle.std.specs.List.{enumerate_from, flat_map, zip}
 use Rattle.std.specs.Fmt.{signed_decimal}
 use Rattle.sfm_spec.specs.Blocks.{Block}
 use Rattle.sfm_spec.specs.Laws.{Mark}
+use Rattle.sfm_cert.specs.Labels.{label_in}
 
 -- a slope, its set, and a base per term
 pub record Break : Type 0 where
@@ -21,10 +22,12 @@ pub record Answer : Type 0 where
   pub bases : List (List ℤ)
   pub breaks : List Break
 
--- what the lines depend on besides: the words of the first line, the names of the ground, and how many elements each term has
+-- what the lines depend on besides: the words of the first line, the names of the ground, how many layers each line of terms has,
+-- and how many elements each term
 pub record Form : Type 0 where
   pub header : List ℕ
   pub names : List (List ℕ)
+  pub lines : List ℕ
   pub widths : List ℕ
 
 -- a space and the name of each member, in the order of the ground
@@ -58,17 +61,18 @@ head_lines form a = form.header ∷ (codes "minimum " ++ signed_decimal a.value)
 abbrev pub at_line : ℤ → ℤ → List ℕ
 at_line p q = codes "at " ++ slope_text p q
 
--- a line for each row, with its number for a label, counted on from i
-abbrev pub row_lines : List ℕ → ℕ → List (List ℤ) → List (List ℕ)
-row_lines word i rows = map (λ (i, x). word ++ decimal i ++ spaced signed_decimal x) (enumerate_from i rows)
+-- a line for each row, with the label of its term, counted on from i, of lines with so many layers
+abbrev pub row_lines : List ℕ → List ℕ → ℕ → List (List ℤ) → List (List ℕ)
+row_lines word lines i rows = map (λ (i, x). word ++ label_in lines i ++ spaced signed_decimal x) (enumerate_from i rows)
 
--- the lines of a section: its slope, and a base for each term, numbered from 1
-abbrev pub section_lines : ℤ → ℤ → List (List ℤ) → List (List ℕ)
-section_lines p q rows = at_line p q ∷ row_lines (codes "base ") 1 rows
+-- the lines of a section: its slope, and a base for each term
+abbrev pub section_lines : List ℕ → ℤ → ℤ → List (List ℤ) → List (List ℕ)
+section_lines lines p q rows = at_line p q ∷ row_lines (codes "base ") lines 1 rows
 
 -- the lines of an answer: what it says, the bases at 0/1, the bases at each slope, and the end
 abbrev pub answer_lines : Form → Answer → List (List ℕ)
-answer_lines form a = head_lines form a ++ section_lines (pos 0) (pos 1) a.bases ++ flat_map (λ (b : Break). section_lines b.num b.den b.bases) a.breaks ++ codes "end" ∷ []
+answer_lines form a = head_lines form a ++ section_lines form.lines (pos 0) (pos 1) a.bases
+    ++ flat_map (λ (b : Break). section_lines form.lines b.num b.den b.bases) a.breaks ++ codes "end" ∷ []
 
 -- lines, each with a line feed behind it
 abbrev pub text_of : List (List ℕ) → List ℕ

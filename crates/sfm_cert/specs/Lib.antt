@@ -1,3 +1,5 @@
+pub mod Labels
+pub mod Spots
 pub mod Answer
 pub mod Header
 pub mod LineLists

@@ -6,6 +6,7 @@ use Rattle.sfm_spec.specs.Blocks.{Block}
 use Rattle.sfm_cert.specs.Answer.{Answer, Break, Form, answer_lines, block_line, row_lines, section_lines, slope_line, spaced, text_of}
 use Rattle.sfm_cert.specs.Form.{IsFormed}
 use Rattle.sfm_cert.specs.Grammar.{IsBadLineOf, IsTextBy}
+use Rattle.sfm_cert.specs.Labels.{label_in}
 use Rattle.sfm_cert.specs.Lines.{row_line}
 
 -- counts, each behind a space
@@ -24,17 +25,17 @@ block_lines names i blocks = map (λ (i, block). block_line names i block) (enum
 abbrev pub slope_lines : List (List ℕ) → List Break → List (List ℕ)
 slope_lines names breaks = map (slope_line names) breaks
 
--- the line of a base: the number of its term, and its entries
-abbrev pub base_line : ℕ → List ℤ → List ℕ
-base_line i x = row_line (codes "base ") (decimal i) x
+-- the line of a base: the label of its term, and its entries
+abbrev pub base_line : List ℕ → ℕ → List ℤ → List ℕ
+base_line lines i x = row_line (codes "base ") (label_in lines i) x
 
--- a line for each base, numbered on from i
-abbrev pub base_lines : ℕ → List (List ℤ) → List (List ℕ)
-base_lines i rows = row_lines (codes "base ") i rows
+-- a line for each base, counted on from i
+abbrev pub base_lines : List ℕ → ℕ → List (List ℤ) → List (List ℕ)
+base_lines lines i rows = row_lines (codes "base ") lines i rows
 
 -- a section for each slope
-abbrev pub break_lines : List Break → List (List ℕ)
-break_lines breaks = flat_map (λ (b : Break). section_lines b.num b.den b.bases) breaks
+abbrev pub break_lines : List ℕ → List Break → List (List ℕ)
+break_lines lines breaks = flat_map (λ (b : Break). section_lines lines b.num b.den b.bases) breaks
 
 -- the lines of an answer, each with a line feed behind it
 abbrev pub answer_text : Form → Answer → List ℕ

@@ -1,5 +1,5 @@
 -- The lines of an answer, one kind at a time, and what each says.
-use Rattle.std.specs.Prelude.{◌≡◌, ℕ, ◌+◌, Bool, List, ◌++◌, codes, decimal, length, ℤ}
+use Rattle.std.specs.Prelude.{◌≡◌, ℕ, ◌+◌, Bool, List, ◌++◌, codes, length, ℤ}
 use Rattle.std.specs.Fmt.{signed_decimal}
 use Rattle.std.specs.List.{All}
 use Rattle.sfm_spec.specs.Bounds.{IsEntry, IsFactor}
@@ -47,9 +47,9 @@ row_line word label x = word ++ label ++ spaced signed_decimal x
 abbrev pub IsRowLine : List ℕ → List ℕ → ℕ → List ℕ → List ℤ → Type 0
 IsRowLine word label width line x = (length x ≡ width) × All IsEntry x × (line ≡ row_line word label x)
 
--- the line of base i, which has so many numbers
-abbrev pub IsBaseLine : ℕ → ℕ → List ℕ → List ℤ → Type 0
-IsBaseLine i width line x = IsRowLine (codes "base ") (decimal i) width line x
+-- the line of a base by its label, which has so many numbers
+abbrev pub IsBaseLine : List ℕ → ℕ → List ℕ → List ℤ → Type 0
+IsBaseLine label width line x = IsRowLine (codes "base ") label width line x
 
 abbrev pub ratio_of_head : Head → Ratio
 ratio_of_head h = record { num = h.slope.num; den = h.slope.den }

@@ -26,13 +26,13 @@ pub record ReadsHeads (form : Form) (text : List ℕ) (from to : Cursor) (heads 
 -- a base line for each term, whatever is due behind them
 pub record ReadsRows (form : Form) (text : List ℕ) (from to : Cursor) (rows : List (List ℤ)) : Type 0 where
   pub within : to.at ≤ length text
-  pub reads : (due : List Ratio) → Reads form text from to (bases 1 form.widths due) (bases (length rows + 1) [] due) (base_lines 1 rows)
+  pub reads : (due : List Ratio) → Reads form text from to (bases 1 form.widths due) (bases (length rows + 1) [] due) (base_lines form.lines 1 rows)
   pub formed : AreFormedRows form.widths rows
 
 -- a section for each slope
 pub record ReadsBreaks (form : Form) (text : List ℕ) (from to : Cursor) (heads due : List Break) (breaks : List Break) : Type 0 where
   pub within : to.at ≤ length text
-  pub reads : (i : ℕ) → (j : ℕ) × Reads form text from to (bases i [] (map ratio_of heads)) (bases j [] (map ratio_of due)) (break_lines breaks)
+  pub reads : (i : ℕ) → (j : ℕ) × Reads form text from to (bases i [] (map ratio_of heads)) (bases j [] (map ratio_of due)) (break_lines form.lines breaks)
 
 -- the breaks have the slope lines of the heads, and are of good form
 pub record AreBreaksOf (form : Form) (heads breaks : List Break) : Type 0 where

@@ -5,6 +5,7 @@ use Rattle.std.specs.List.{All}
 use Rattle.sfm_spec.specs.Blocks.{Block}
 use Rattle.sfm_cert.specs.Answer.{Answer, Form, listed, at_line, text_of}
 use Rattle.sfm_cert.specs.Grammar.{IsLine}
+use Rattle.sfm_cert.specs.Labels.{label_in}
 use Rattle.sfm_cert.specs.Lines.{IsMinimumLine, IsSetLine, IsBlockLine, Ratio, IsSlopeLine, IsBaseLine}
 use Rattle.sfm_cert.specs.declared.cursor.Cursor.{Cursor}
 use Rattle.sfm_cert.specs.declared.solved.AnswerEnd.{AnswerEnd}
@@ -83,7 +84,7 @@ pub data State : Type 0 where
   greatest : State
   -- so many blocks were read, and these slopes
   listing : ℕ → List Ratio → State
-  -- the number and the widths of the bases that are due, and the slopes whose bases are due behind them
+  -- the number of the next base and the widths of those that are due, and the slopes whose bases are due behind them
   bases : ℕ → List ℕ → List Ratio → State
   ended : State
 
@@ -97,7 +98,7 @@ Leads form (listing k slopes) line next =
     ((block : Block) × IsBlockLine form.names k line block × (slopes ≡ []) × (next ≡ listing (k + 1) []))
     ⊎ ((r : Ratio) × (s : List Bool) × IsSlopeLine form.names line r s × (next ≡ listing k (slopes ++ r ∷ [])))
     ⊎ ((line ≡ at_line (pos 0) (pos 1)) × (next ≡ bases 1 form.widths slopes))
-Leads form (bases i (width ∷ widths) due) line next = (x : List ℤ) × IsBaseLine i width line x × (next ≡ bases (i + 1) widths due)
+Leads form (bases i (width ∷ widths) due) line next = (x : List ℤ) × IsBaseLine (label_in form.lines i) width line x × (next ≡ bases (i + 1) widths due)
 Leads form (bases i [] (r ∷ due)) line next = (line ≡ at_line r.num r.den) × (next ≡ bases 1 form.widths due)
 Leads form (bases i [] []) line next = (line ≡ codes "end") × (next ≡ ended)
 Leads form ended line next = ⊥

@@ -1,6 +1,7 @@
 -- Texts of which each line is known beforehand but for its number, set or numbers.
-use Rattle.std.specs.Prelude.{◌≡◌, ℕ, Bool, List, [], ◌∷◌, ◌+◌, decimal, ℤ}
+use Rattle.std.specs.Prelude.{◌≡◌, ℕ, Bool, List, [], ◌∷◌, ◌+◌, ℤ}
 use Rattle.sfm_cert.specs.Grammar.{IsLine}
+use Rattle.sfm_cert.specs.Labels.{label_in}
 use Rattle.sfm_cert.specs.Lines.{IsValueLine, IsSetLine, IsRowLine}
 
 -- what a line is to be
@@ -33,7 +34,7 @@ IsCleanSlot (value word) = IsLine word
 IsCleanSlot (set word) = IsLine word
 IsCleanSlot (row word label width) = IsLine word × IsLine label
 
--- slots for rows, with a number for a label, counted on from i
-abbrev pub row_slots : List ℕ → ℕ → List ℕ → List Slot
-row_slots word i [] = []
-row_slots word i (width ∷ widths) = row word (decimal i) width ∷ row_slots word (i + 1) widths
+-- slots for rows, with the labels of terms, counted on from i, of lines with so many layers
+abbrev pub row_slots : List ℕ → List ℕ → ℕ → List ℕ → List Slot
+row_slots word lines i [] = []
+row_slots word lines i (width ∷ widths) = row word (label_in lines i) width ∷ row_slots word lines (i + 1) widths

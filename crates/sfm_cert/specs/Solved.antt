@@ -16,9 +16,10 @@ break_of b = record { num = b.slope.num; den = b.slope.den; members = b.set; bas
 abbrev pub answer_of : Solved → Answer
 answer_of s = record { value = s.value; least = s.least; greatest = s.greatest; blocks = map block_of s.blocks.items; bases = s.bases; breaks = map break_of s.breaks.items }
 
--- what an instance asks of an answer text with that first line: its names, and how many places each term has
+-- what an instance asks of an answer text with that first line: its names, the layers of its lines, and how many places each term
+-- has
 abbrev pub form_with : List ℕ → InstanceData → Form
-form_with header instance = record { header = header; names = instance.names; widths = map (λ term. length (kind_places term)) instance.terms }
+form_with header instance = record { header = header; names = instance.names; lines = instance.lines; widths = map (λ term. length (kind_places term)) instance.terms }
 
 -- the same where each element counts one
 abbrev pub form_of : InstanceData → Form

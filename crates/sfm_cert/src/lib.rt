@@ -13,6 +13,7 @@ mod out;
 mod put;
 mod read;
 mod solved;
+mod spot;
 mod steps;
 mod write;
 
@@ -24,5 +25,6 @@ pub use out::{Gauge, Out};
 pub use put::{put_names, put_number, put_numbers, put_rows};
 pub use read::{ANSWER_LIMIT, read_answer, read_weighed, read_with};
 pub use solved::{AnswerEnd, Solved};
-pub use steps::{read_row, read_set, read_value};
+pub use spot::Spot;
+pub use steps::{read_labelled, read_row, read_set, read_value};
 pub use write::{answer_len, put_answer, write_answer, write_weighed, write_with};

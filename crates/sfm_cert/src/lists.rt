@@ -4,10 +4,11 @@
 ghost use Rattle.std.specs.{Prelude.{◌≡◌, ◌≢◌, ◌↔◌, ℕ, ◌+◌, ◌<◌, ◌≤◌, ◌^◌, Bool, List, [], ◌∷◌, ◌++◌, codes, length, ℤ, IsTrue, MatchOption, IfOk}, Fmt.{decimal, signed_decimal}};
 ghost use Rattle.sfm_spec.specs.{Sets.{Has}, Blocks.{Block as Generator}, Names.{IsName}};
 ghost use Rattle.sfm_extreme.specs.Blocks.{block_of};
-ghost use Rattle.sfm_cert.specs.{Answer.{listed}, Lists.{IsStop, IsListCut}, Lines.{IsValueLine, IsSetLine, IsBlockLine, IsSlopeLine, IsRowLine, ratio_of_head, Ratio}};
+ghost use Rattle.sfm_cert.specs.{Answer.{listed}, Lists.{IsStop, IsListCut}, Lines.{IsValueLine, IsSetLine, IsBlockLine, IsSlopeLine, IsRowLine, ratio_of_head, Ratio}, Spots.{spot_label}};
 
 use crate::head::Head;
 use crate::numbers::{behind, needs_of, numbers_of, read_entry, slope_of, split_token};
+use crate::spot::Spot;
 use itoa::Buffer;
 use sfm_base::{Memory, Set};
 use sfm_extreme::Block;
@@ -114,6 +115,20 @@ fn behind_count<'a>(line: &'a [u8], word: &[u8], count: usize) -> Option<&'a [u8
     behind_label(line, word, buffer.format(count).as_bytes())
 }
 
+/// The bytes behind a word and the label of a term.
+fn behind_spot<'a>(line: &'a [u8], word: &[u8], spot: Spot) -> Option<&'a [u8]>
+    requires { spot.before + 1 < 18446744073709551616 }
+    ensures { MatchOption result
+        ((rest : List ℕ) → line.now ≡ word.now ++ (spot_label spot ++ rest) → ⊥)
+        (λ rest. line.now ≡ word.now ++ (spot_label spot ++ rest.now)) }
+{
+    let rest = behind_count(line, word, spot.before + 1)?;
+    if spot.layer == 0 {
+        return Some(rest);
+    }
+    behind_count(rest, b".", spot.layer)
+}
+
 /// The block of a block line that stands behind so many others, or None where the line is none.
 pub fn block_of_line(
     alloc: Global,
@@ -175,6 +190,28 @@ pub fn row_of(
         (λ x. IsRowLine word.now label.now width line.now x.items)) }
 {
     let Some(bytes) = behind_label(line, word, label) else {
+        return Ok(None);
+    };
+    let Some(numbers) = numbers_of(alloc, bytes, width)? else {
+        return Ok(None);
+    };
+    Ok(Some(numbers))
+}
+
+/// The numbers of a line of this word and the label of a term, of which there are `width`, or None where the line is none.
+pub fn labelled_of(
+    alloc: Global,
+    word: &[u8],
+    spot: Spot,
+    width: usize,
+    line: &[u8],
+) -> Result<Option<Vec<i128>>, Memory>
+    requires { spot.before + 1 < 18446744073709551616 }
+    ensures { IfOk result (λ r. MatchOption r
+        ((x : List ℤ) → IsRowLine word.now (spot_label spot) width line.now x → ⊥)
+        (λ x. IsRowLine word.now (spot_label spot) width line.now x.items)) }
+{
+    let Some(bytes) = behind_spot(line, word, spot) else {
         return Ok(None);
     };
     let Some(numbers) = numbers_of(alloc, bytes, width)? else {

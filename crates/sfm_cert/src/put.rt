@@ -1,10 +1,11 @@
 // The pieces of a text, in order: names, numbers, and a line for a block, a slope or a row.
-ghost use Rattle.std.specs.{Prelude.{◌≡◌, ℕ, ◌<◌, List, [], ◌∷◌, ◌++◌, length, map}, Fmt.{decimal, signed_decimal}, List.{All}};
+ghost use Rattle.std.specs.{Prelude.{◌≡◌, ℕ, ◌+◌, ◌<◌, List, [], ◌∷◌, ◌++◌, length, map}, Fmt.{decimal, signed_decimal}, List.{All}};
 ghost use Rattle.sfm_spec.specs.{Bounds.{IsEntry}, Blocks.{block_at}};
 ghost use Rattle.sfm_extreme.specs.Blocks.{block_of};
-ghost use Rattle.sfm_cert.specs.{Answer.{listed, slope_text, at_line, block_line, slope_line, row_lines, section_lines, text_of}, LineLists.{counted, numbered, block_lines, slope_lines}, Form.{AreFormedRows}, Solved.{break_of}, Lines.{row_line}};
+ghost use Rattle.sfm_cert.specs.{Answer.{listed, slope_text, at_line, block_line, slope_line, row_lines, section_lines, text_of}, LineLists.{counted, numbered, block_lines, slope_lines}, Form.{AreFormedRows}, Solved.{break_of}, Lines.{row_line}, Spots.{spot_label}};
 
 use crate::out::Out;
+use crate::spot::Spot;
 use itoa::Buffer;
 use sfm_base::{Rows, Set, Slope};
 use sfm_extreme::Block;
@@ -133,24 +134,42 @@ pub fn put_breaks<O: Out>(out: &mut O, instance: &Instance, breaks: &[Break])
     }
 }
 
-/// The line of a row, with its number.
-fn put_row<O: Out>(out: &mut O, word: &[u8], number: usize, row: &[i128])
-    requires { All IsEntry row.now }
-    ensures { out.new ≡ O.after out.old (text_of (row_line word.now (decimal number) row.now ∷ [])) }
+/// The label of a term: the number of its line, and behind a point that of its layer, where its line has layers.
+fn put_label<O: Out>(out: &mut O, spot: Spot)
+    requires { spot.before + 1 < 18446744073709551616 }
+    ensures { out.new ≡ O.after out.old (spot_label spot) }
+{
+    put_count(out, spot.before + 1);
+    if spot.layer > 0 {
+        out.put(b".");
+        put_count(out, spot.layer);
+    }
+}
+
+/// The line of a row, with the label of its term.
+fn put_row<O: Out>(out: &mut O, word: &[u8], spot: Spot, row: &[i128])
+    requires few { spot.before + 1 < 18446744073709551616 }
+    requires small { All IsEntry row.now }
+    ensures { out.new ≡ O.after out.old (text_of (row_line word.now (spot_label spot) row.now ∷ [])) }
 {
     out.put(word);
-    put_count(out, number);
+    put_label(out, spot);
     put_numbers(out, row);
     out.put(b"\n");
 }
 
-/// A line for each row: a word, its number counted from 1, and its entries.
-pub fn put_rows<O: Out>(out: &mut O, word: &[u8], rows: &Rows)
-    requires { All (λ row. All IsEntry row) rows.now }
-    ensures { out.new ≡ O.after out.old (text_of (row_lines word.now 1 rows.now)) }
+/// A line for each term: a word, its label, and the entries of its row.
+pub fn put_rows<O: Out>(out: &mut O, instance: &Instance, word: &[u8], rows: &Rows)
+    requires count { length rows.now ≡ length instance.now.terms }
+    requires small { All (λ row. All IsEntry row) rows.now }
+    ensures { out.new ≡ O.after out.old (text_of (row_lines word.now instance.now.lines 1 rows.now)) }
 {
+    let _ = instance.terms();
+    let lines = instance.lines();
+    let mut spot = Spot::first(lines);
     for i in 0..rows.len() {
-        put_row(out, word, i + 1, rows.row(i));
+        put_row(out, word, spot, rows.row(i));
+        spot = spot.next(lines);
     }
 }
 
@@ -163,12 +182,13 @@ pub fn put_at<O: Out>(out: &mut O, slope: &Slope)
 }
 
 /// The line that tells a slope, and the bases at it.
-pub fn put_section<O: Out>(out: &mut O, slope: &Slope, bases: &Rows)
-    requires { All (λ base. All IsEntry base) bases.now }
-    ensures { out.new ≡ O.after out.old (text_of (section_lines slope.now.num slope.now.den
-        bases.now)) }
+pub fn put_section<O: Out>(out: &mut O, instance: &Instance, slope: &Slope, bases: &Rows)
+    requires count { length bases.now ≡ length instance.now.terms }
+    requires small { All (λ base. All IsEntry base) bases.now }
+    ensures { out.new ≡ O.after out.old (text_of (section_lines instance.now.lines slope.now.num
+        slope.now.den bases.now)) }
 {
     put_at(out, slope);
     out.put(b"\n");
-    put_rows(out, b"base ", bases);
+    put_rows(out, instance, b"base ", bases);
 }

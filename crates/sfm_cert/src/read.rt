@@ -10,6 +10,7 @@ use crate::head::Head;
 use crate::header::Header;
 use crate::next::{begins, expect};
 use crate::solved::{AnswerEnd, Solved};
+use crate::spot::Spot;
 use crate::steps::{read_at, read_base, read_block, read_head, read_set, read_value};
 use sfm_base::{Rows, Set};
 use sfm_extreme::Block;
@@ -78,10 +79,13 @@ fn read_rows(
         → EndsAt (form_of instance.now) text.now cursor.old
         (bases 1 (form_of instance.now).widths due) end) }
 {
+    let lines = instance.lines();
+    let mut spot = Spot::first(lines);
     let mut rows = Rows::new(alloc);
-    for (i, term) in instance.terms().iter().enumerate() {
-        let numbers = read_base(alloc, text, cursor, i + 1, term.elements().len())?;
+    for term in instance.terms() {
+        let numbers = read_base(alloc, text, cursor, spot, term.elements().len())?;
         rows.push(numbers)?;
+        spot = spot.next(lines);
     }
     Ok(rows)
 }

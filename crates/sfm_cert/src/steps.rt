@@ -3,15 +3,15 @@
 ghost use Rattle.std.specs.Prelude.{◌≡◌, ℕ, ◌+◌, ◌<◌, ◌≤◌, ◌^◌, Bool, List, length, ℤ, IfOk, IfErr};
 ghost use Rattle.sfm_spec.specs.Blocks.{Block as Generator};
 ghost use Rattle.sfm_extreme.specs.Blocks.{block_of};
-ghost use Rattle.sfm_cert.specs.{Answer.{at_line}, Lines.{IsValueLine, IsSetLine, IsBlockLine, IsSlopeLine, IsRowLine, IsBaseLine, ratio_of_head, Ratio}, Reading.{TakesSome, EndsStuck}};
+ghost use Rattle.sfm_cert.specs.{Answer.{at_line}, Lines.{IsValueLine, IsSetLine, IsBlockLine, IsSlopeLine, IsRowLine, IsBaseLine, ratio_of_head, Ratio}, Reading.{TakesSome, EndsStuck}, Spots.{spot_label}};
 
 use crate::cursor::Cursor;
 use crate::head::Head;
-use crate::lists::{block_of_line, head_of_line, row_of, set_of, value_of};
+use crate::lists::{block_of_line, head_of_line, labelled_of, row_of, set_of, value_of};
 use crate::next::{expect, take_line};
 use crate::put::put_at;
 use crate::solved::AnswerEnd;
-use itoa::Buffer;
+use crate::spot::Spot;
 use sfm_base::{Page, Set, Slope};
 use sfm_extreme::Block;
 use sfm_kind::Instance;
@@ -149,23 +149,52 @@ pub fn read_row(
     Ok(numbers)
 }
 
-/// The numbers of the line of base `number`, of which there are `width`.
+/// The numbers of a line of this word and the label of a term, of which there are `width`.
+///
+/// # Errors
+///
+/// As `read_row`.
+pub fn read_labelled(
+    alloc: Global,
+    text: &[u8],
+    cursor: &mut Cursor,
+    word: &[u8],
+    spot: Spot,
+    width: usize,
+) -> Result<Vec<i128>, AnswerEnd>
+    requires within { cursor.old.at ≤ length text.now }
+    requires few { spot.before + 1 < 18446744073709551616 }
+    ensures read { IfOk result (λ x. TakesSome text.now cursor.old cursor.new
+        (λ line. IsRowLine word.now (spot_label spot) width line x.items)) }
+    ensures stuck { IfErr result (EndsStuck text.now cursor.old
+        (λ line. (x : List ℤ) × IsRowLine word.now (spot_label spot) width line x)) }
+{
+    let end = AnswerEnd::BadLine { line: cursor.line };
+    let Some(line) = take_line(text, cursor) else {
+        return Err(end);
+    };
+    let Some(numbers) = labelled_of(alloc, word, spot, width, line)? else {
+        return Err(end);
+    };
+    Ok(numbers)
+}
+
+/// The numbers of the line of the base of a term, of which there are `width`.
 pub fn read_base(
     alloc: Global,
     text: &[u8],
     cursor: &mut Cursor,
-    number: usize,
+    spot: Spot,
     width: usize,
 ) -> Result<Vec<i128>, AnswerEnd>
-    requires { cursor.old.at ≤ length text.now }
+    requires within { cursor.old.at ≤ length text.now }
+    requires few { spot.before + 1 < 18446744073709551616 }
     ensures read { IfOk result (λ x. TakesSome text.now cursor.old cursor.new
-        (λ line. IsBaseLine number width line x.items)) }
+        (λ line. IsBaseLine (spot_label spot) width line x.items)) }
     ensures stuck { IfErr result (EndsStuck text.now cursor.old
-        (λ line. (x : List ℤ) × IsBaseLine number width line x)) }
+        (λ line. (x : List ℤ) × IsBaseLine (spot_label spot) width line x)) }
 {
-    let mut buffer = Buffer::new();
-    let label = buffer.format(number).as_bytes();
-    read_row(alloc, text, cursor, b"base ", label, width)
+    read_labelled(alloc, text, cursor, b"base ", spot, width)
 }
 
 /// Reads the line that tells a slope.

@@ -3,7 +3,7 @@
 // line is all that differs where elements have sizes.
 ghost use Rattle.std.specs.{Prelude.{◌≡◌, ◌-◌, ◌≤◌, ◌++◌, codes, length, map, pos, IfOk}, List.{All}};
 ghost use Rattle.sfm_spec.specs.Bounds.{IsEntry};
-ghost use Rattle.sfm_cert.specs.{Answer.{head_lines, text_of}, Header.{header_text}, LineLists.{answer_text, break_lines}, Reading.{first_lines}, Few.{HasFewLines}, Form.{IsFormed, IsFormedBreak}, Solved.{answer_of, break_of, form_of, form_with}};
+ghost use Rattle.sfm_cert.specs.{Answer.{head_lines, text_of}, Header.{header_text}, LineLists.{answer_text, break_lines}, Reading.{first_lines}, Few.{HasFewLines}, Form.{AreFormedRows, IsFormed}, Solved.{answer_of, break_of, form_of, form_with}};
 
 use crate::header::Header;
 use crate::out::{Gauge, Out};
@@ -44,12 +44,14 @@ fn put_head<O: Out>(out: &mut O, header: Header, instance: &Instance, solved: &S
 }
 
 /// The bases at each slope.
-fn put_proofs<O: Out>(out: &mut O, breaks: &[Break])
-    requires { All (λ b. All (λ base. All IsEntry base) b.bases) (map break_of breaks.now) }
-    ensures { out.new ≡ O.after out.old (text_of (break_lines (map break_of breaks.now))) }
+fn put_proofs<O: Out>(out: &mut O, instance: &Instance, breaks: &[Break])
+    requires { All (λ b. AreFormedRows (form_of instance.now).widths b.bases)
+        (map break_of breaks.now) }
+    ensures { out.new ≡ O.after out.old (text_of (break_lines instance.now.lines
+        (map break_of breaks.now))) }
 {
     for b in breaks {
-        put_section(out, &b.slope, &b.bases);
+        put_section(out, instance, &b.slope, &b.bases);
     }
 }
 
@@ -60,8 +62,8 @@ fn put_text<O: Out>(out: &mut O, header: Header, instance: &Instance, solved: &S
         (answer_of solved.now)) }
 {
     put_head(out, header, instance, solved);
-    put_section(out, &Slope::new(0, 1), &solved.bases);
-    put_proofs(out, &solved.breaks);
+    put_section(out, instance, &Slope::new(0, 1), &solved.bases);
+    put_proofs(out, instance, &solved.breaks);
     out.put(b"end\n");
 }
 
@@ -83,6 +85,7 @@ fn len_with(header: Header, instance: &Instance, solved: &Solved) -> usize
         (answer_of solved.now)) }
 {
     let _ = instance.terms();
+    let _ = instance.lines();
     let _ = instance.names_len();
     let mut gauge = Gauge::new();
     put_text(&mut gauge, header, instance, solved);

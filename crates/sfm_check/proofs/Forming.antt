@@ -103,9 +103,9 @@ few_lines form a =
     let b = length-block_lines form.names 1 a.blocks in
     let s = length-slope_lines form.names a.breaks in
     let h : length (head_lines form a) ≡ 4 + (length a.blocks + length a.breaks) = omega (arith, length-append (block_lines form.names 1 a.blocks) (slope_lines form.names a.breaks), b, s) in
-    let sec = length-append (head_lines form a) (section_lines (pos 0) (pos 1) a.bases) in
-    let brk = length-append (head_lines form a ++ section_lines (pos 0) (pos 1) a.bases) (break_lines a.breaks) in
-    let end = length-append (head_lines form a ++ section_lines (pos 0) (pos 1) a.bases ++ break_lines a.breaks) ((101 ∷ 110 ∷ 100 ∷ []) ∷ []) in
+    let sec = length-append (head_lines form a) (section_lines form.lines (pos 0) (pos 1) a.bases) in
+    let brk = length-append (head_lines form a ++ section_lines form.lines (pos 0) (pos 1) a.bases) (break_lines form.lines a.breaks) in
+    let end = length-append (head_lines form a ++ section_lines form.lines (pos 0) (pos 1) a.bases ++ break_lines form.lines a.breaks) ((101 ∷ 110 ∷ 100 ∷ []) ∷ []) in
     omega (arith, h, sec, brk, end)
 
 abbrev tail : List ℕ → List ℕ

@@ -1,5 +1,5 @@
 -- A right file for the terms of an instance is no longer than the limit, so none is refused for its length.
-use Rattle.std.proofs.Common.{ℕ, ◌≤◌, List, length, map, ℤ, pos, sym, arith, subst}
+use Rattle.std.proofs.Common.{◌≡◌, ℕ, ◌≤◌, List, length, map, ℤ, pos, sym, arith, subst}
 use Rattle.std.proofs.lemmas.List.{length-map}
 use Rattle.sfm_spec.specs.Sets.{empty_set}
 use Rattle.sfm_spec.specs.Families.{meanings, sized_shift}
@@ -7,7 +7,7 @@ use Rattle.sfm_spec.specs.Laws.{AreBreakpoints, Mark}
 use Rattle.sfm_spec.proofs.Chain.{chain_count, chain_of_breakpoints}
 use Rattle.sfm_sizes.specs.Sizes.{AreElementSizes}
 use Rattle.sfm_kind.specs.declared.kind.Kind.{Kind}
-use Rattle.sfm_kind.specs.Instance.{InstanceData}
+use Rattle.sfm_kind.specs.Instance.{InstanceData, terms_in}
 use Rattle.sfm_kind.specs.Limits.{AreInBounds}
 use Rattle.sfm_kind.specs.Kinds.{kind_places, kind_value}
 use Rattle.sfm_kind.specs.Names.{AreElementNames}
@@ -42,7 +42,7 @@ head_few instance sizes a fine bounded sized head =
       breaks = omega (arith, slopes, few, length-map a.breaks mark_of);
     }
 
-pub right_short : (header : Header) (instance : InstanceData) (sizes : List ℤ) (text : List ℕ) → AreElementNames instance.names → AreInBounds (length instance.names) instance.terms → AreElementSizes (length instance.names) sizes
-    → IsRightFile (form_with (header_text header) instance) (meanings kind_places kind_value instance.terms) sizes text → length text ≤ answer_limit
-right_short header instance sizes text fine bounded sized r =
-    subst (λ (z : List ℕ). length z ≤ answer_limit) (sym r.is_text.written) (instance_text_short header instance r.answer fine bounded r.is_text.formed (head_few instance sizes r.answer fine bounded sized r.head))
+pub right_short : (header : Header) (instance : InstanceData) (sizes : List ℤ) (text : List ℕ) → AreElementNames instance.names → AreInBounds (length instance.names) instance.terms → terms_in instance.lines ≡ length instance.terms
+    → AreElementSizes (length instance.names) sizes → IsRightFile (form_with (header_text header) instance) (meanings kind_places kind_value instance.terms) sizes text → length text ≤ answer_limit
+right_short header instance sizes text fine bounded lined sized r =
+    subst (λ (z : List ℕ). length z ≤ answer_limit) (sym r.is_text.written) (instance_text_short header instance r.answer fine bounded lined r.is_text.formed (head_few instance sizes r.answer fine bounded sized r.head))

@@ -30,11 +30,11 @@ length-later form a =
     omega (arith, o, i, length-block_lines form.names 1 a.blocks, length-slope_lines form.names a.breaks)
 
 -- the answer lines come first
-due_first : (form : Form) (a : Answer) → answer_lines form a ≡ due_lines form a ++ (base_lines 1 a.bases ++ break_lines a.breaks ++ codes "end" ∷ [])
+due_first : (form : Form) (a : Answer) → answer_lines form a ≡ due_lines form a ++ (base_lines form.lines 1 a.bases ++ break_lines form.lines a.breaks ++ codes "end" ∷ [])
 due_first form a = simp append_assoc
 
 pub line_due : (form : Form) (a : Answer) (i : ℕ) → i < length (due_lines form a) → get_or (answer_lines form a) i [] ≡ get_or (due_lines form a) i []
-line_due form a i l = ap (λ z. get_or z i []) (due_first form a) ∙ get_or_append_left (due_lines form a) (base_lines 1 a.bases ++ break_lines a.breaks ++ codes "end" ∷ []) [] i l
+line_due form a i l = ap (λ z. get_or z i []) (due_first form a) ∙ get_or_append_left (due_lines form a) (base_lines form.lines 1 a.bases ++ break_lines form.lines a.breaks ++ codes "end" ∷ []) [] i l
 
 line_later : (form : Form) (a : Answer) (i : ℕ) → i < length (later_lines form a) → get_or (answer_lines form a) (suc (suc (suc (suc i)))) [] ≡ get_or (later_lines form a) i []
 line_later form a i l = line_due form a (suc (suc (suc (suc i)))) (omega arith)

@@ -36,7 +36,7 @@ IsJudgedBySizes asked sizes answer written code = IsJudgedBy (codes "weighed 1")
 
 -- the written text is that of a most level base, with bases of the terms that add up to it
 abbrev pub IsLevelled : Question → List ℕ → Type 0
-IsLevelled asked written = IsLevelText asked.meant (length asked.instance.names) written
+IsLevelled asked written = IsLevelText asked.instance.lines asked.meant (length asked.instance.names) written
 
 -- what is asked is of sizes for which its most level base is found
 abbrev pub IsSmallEnough : Question → Type 0

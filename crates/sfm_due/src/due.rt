@@ -162,6 +162,7 @@ fn verdict_on_long(_header: Header, instance: &Instance, _sizes: &[i128]) -> Ver
 {
     let _count = instance.names_len();
     let _terms = instance.terms();
+    let _lines = instance.lines();
     Verdict::Invalid {
         line: 0,
         reason: Wrong::Long,

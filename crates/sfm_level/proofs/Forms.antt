@@ -10,6 +10,7 @@ use Rattle.sfm_kind.specs.declared.kind.Kind.{Kind}
 use Rattle.sfm_kind.specs.Kinds.{kind_places, kind_value}
 use Rattle.sfm_cert.specs.Answer.{Form, text_of}
 use Rattle.sfm_cert.specs.LineLists.{base_lines, numbered}
+use Rattle.sfm_cert.proofs.Labels.{AreFewLines}
 use Rattle.sfm_cert.proofs.Lengths.{AreFewWidths, number_text, numbered_short, rows_short, text_append}
 use Rattle.sfm_squares.specs.Level.{IsLevel, IsSumOf, squares}
 use Rattle.sfm_level.specs.Told.{LevelAnswer, IsFormedLevel, IsTrueLevel, level_lines}
@@ -64,9 +65,9 @@ told_formed form ts bases vector total widths are_bases small count sum near =
 
 -- the text has few lines, each of a few numbers
 pub level_short : (form : Form) (a : LevelAnswer) → IsFormedLevel form a
-    → length form.names ≤ 256 → AreFewWidths form.widths
+    → length form.names ≤ 256 → AreFewLines form.lines → AreFewWidths form.widths
     → length (text_of (level_lines form a)) ≤ 1000000
-level_short form a f few widths =
+level_short form a f few lines widths =
     let number = number_text a.squares f.squares in
     let vector = numbered_short a.vector f.vector in
     let count = f.count in
@@ -75,9 +76,9 @@ level_short form a f few widths =
     let total = ap sum f.bases.widths_are in
     let terms = widths.terms in
     let places = widths.places in
-    let rows = rows_short (codes "base ") 1 a.bases (omega arith) (omega (arith, rows_count, rows_same, terms)) f.bases.small in
-    let end = text_append (base_lines 1 a.bases) (codes "end" ∷ []) in
-    let tail = text_of (base_lines 1 a.bases ++ codes "end" ∷ []) in
+    let rows = rows_short (codes "base ") form.lines 1 a.bases (omega arith) lines f.bases.small in
+    let end = text_append (base_lines form.lines 1 a.bases) (codes "end" ∷ []) in
+    let tail = text_of (base_lines form.lines 1 a.bases ++ codes "end" ∷ []) in
     let third = codes "vector" ++ numbered a.vector in
     let second = codes "squares " ++ signed_decimal a.squares in
     let v = length-append (codes "vector") (numbered a.vector) in

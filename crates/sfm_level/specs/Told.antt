@@ -23,7 +23,7 @@ level_of l = record { squares = l.squares; vector = l.vector; bases = l.bases }
 abbrev pub level_lines : Form → LevelAnswer → List (List ℕ)
 level_lines form a = codes "level 1" ∷ (codes "squares " ++ signed_decimal a.squares)
     ∷ (codes "vector" ++ spaced signed_decimal a.vector)
-    ∷ (row_lines (codes "base ") 1 a.bases ++ codes "end" ∷ [])
+    ∷ (row_lines (codes "base ") form.lines 1 a.bases ++ codes "end" ∷ [])
 
 -- what it says is true of the terms: bases of theirs add up to the vector, which is a most level base of the sum
 pub record IsTrueLevel (terms : List Meaning) (n : ℕ) (a : LevelAnswer) : Type 0 where

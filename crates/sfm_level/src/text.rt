@@ -1,9 +1,9 @@
 // The text of a most level base: the sum of its squares, its entries, and the bases of the terms. The same walk tells how long
 // the text is and writes it, so that room is made once, before the first byte, and nothing is refused behind that.
-ghost use Rattle.std.specs.{Prelude.{◌≡◌, ◌++◌, ◌≤◌, ◌^◌, length, pos, ◌≤ℤ◌, IfOk}, List.{All}};
-ghost use Rattle.sfm_spec.specs.{Bounds.{IsEntry}, Families.{meanings}};
+ghost use Rattle.std.specs.Prelude.{◌≡◌, ◌++◌, ◌≤◌, ◌^◌, length, pos, ◌≤ℤ◌, IfOk};
+ghost use Rattle.sfm_spec.specs.Families.{meanings};
 ghost use Rattle.sfm_kind.specs.{Kinds.{kind_places, kind_value}, Limits.{total_size_of}};
-ghost use Rattle.sfm_cert.specs.{Answer.{Form, text_of}, Solved.{form_of}};
+ghost use Rattle.sfm_cert.specs.{Answer.{text_of}, Solved.{form_of}};
 ghost use Rattle.sfm_level.specs.{LevelText.{IsLevelText}, Told.{level_lines, level_of, IsFormedLevel}};
 
 use crate::levelling::level;
@@ -14,11 +14,9 @@ use sfm_kind::Instance;
 use std::alloc::Global;
 
 // The text, piece by piece.
-fn put_level<O: Out>(out: &mut O, level: &Level)
-    requires squares { IsEntry level.now.squares }
-    requires vector { All IsEntry level.now.vector }
-    requires bases { All (λ x. All IsEntry x) level.now.bases }
-    ensures { (form : Form) → out.new ≡ O.after out.old (text_of (level_lines form
+fn put_level<O: Out>(out: &mut O, instance: &Instance, level: &Level)
+    requires { IsFormedLevel (form_of instance.now) (level_of level.now) }
+    ensures { out.new ≡ O.after out.old (text_of (level_lines (form_of instance.now)
         (level_of level.now))) }
 {
     out.put(b"level 1\nsquares ");
@@ -26,7 +24,7 @@ fn put_level<O: Out>(out: &mut O, level: &Level)
     out.put(b"\nvector");
     put_numbers(out, level.vector.as_slice());
     out.put(b"\n");
-    put_rows(out, b"base ", &level.bases);
+    put_rows(out, instance, b"base ", &level.bases);
     out.put(b"end\n");
 }
 
@@ -36,9 +34,10 @@ fn level_len(instance: &Instance, level: &Level) -> usize
     ensures { result ≡ length (text_of (level_lines (form_of instance.now) (level_of level.now))) }
 {
     let _ = instance.terms();
+    let _ = instance.lines();
     let _ = instance.names_len();
     let mut gauge = Gauge::new();
-    put_level(&mut gauge, level);
+    put_level(&mut gauge, instance, level);
     gauge.used()
 }
 
@@ -50,7 +49,7 @@ fn put_page(page: &mut Page, instance: &Instance, level: &Level)
     ensures { page.new.bytes ≡ page.old.bytes ++ text_of (level_lines (form_of instance.now)
         (level_of level.now)) }
 {
-    put_level(page, level);
+    put_level(page, instance, level);
 }
 
 /// The text of a most level base. Room for all of it is made first, and nothing is refused behind that.
@@ -77,8 +76,8 @@ pub fn write_level(alloc: Global, instance: &Instance, level: &Level) -> Result<
 /// `Memory` where there is none.
 pub fn level_text(alloc: Global, instance: &Instance) -> Result<Vec<u8>, Memory>
     requires { total_size_of instance.now.terms ≤ℤ pos (10 ^ 13) }
-    ensures { IfOk result (λ text. IsLevelText (meanings kind_places kind_value instance.now.terms)
-        (length instance.now.names) text.items) }
+    ensures { IfOk result (λ text. IsLevelText instance.now.lines
+        (meanings kind_places kind_value instance.now.terms) (length instance.now.names) text.items) }
 {
     let told = level(alloc, instance)?;
     write_level(alloc, instance, &told)

@@ -10,6 +10,7 @@ use Rattle.sfm_spec.specs.Sets.{IsPlaced, part}
 use Rattle.sfm_spec.specs.Bounds.{AreBounded, total_of}
 use Rattle.sfm_spec.specs.Families.{Meaning, IsAllowed, AreTerms, IsTerm, meanings}
 use Rattle.sfm_spec.proofs.Tight.{is_some_of}
+use Rattle.sfm_spec.proofs.Ones.{ones-places}
 use Rattle.sfm_kind.specs.Kinds.{kind_places, kind_value, kind_size, kind-family, kind-submodular}
 use Rattle.sfm_kind.specs.Instance.{InstanceData, support_of}
 use Rattle.sfm_kind.specs.Limits.{AreInBounds, total_size_of}
@@ -120,9 +121,9 @@ valued (Need term) free s h = absurd (free tt)
 valued (Table term) free s h = refl
 valued (Concave term) free s h = refl
 valued (Uniform term) free s h = refl
-valued (Laminar term) free s h = let (r, is, e) = (kind-means (Laminar term)).values s h in is_some_of _ _ e
-valued (Graphic term) free s h = let (r, is, e) = (kind-means (Graphic term)).values s h in is_some_of _ _ e
-valued (Transversal term) free s h = let (r, is, e) = (kind-means (Transversal term)).values s h in is_some_of _ _ e
+valued (Laminar term) free s h = let (r, is, e) = (kind-means (Laminar term)).values s (h ∙ sym (ones-places (length term.places))) in is_some_of _ _ e
+valued (Graphic term) free s h = let (r, is, e) = (kind-means (Graphic term)).values s (h ∙ sym (ones-places (length term.places))) in is_some_of _ _ e
+valued (Transversal term) free s h = let (r, is, e) = (kind-means (Transversal term)).values s (h ∙ sym (ones-places (length term.places))) in is_some_of _ _ e
 
 pub all_allowed : (n : ℕ) (terms : List Kind) → HasNoNeed terms → AllAllowed (side_terms terms) n
 all_allowed n [] h s same = tt

@@ -1,11 +1,12 @@
 -- The lines of a text, read one by one.
 use Rattle.std.proofs.Common.{◌≡◌, ℕ, ◌+◌, ◌<◌, ◌≤◌, Result, List, [], ◌∷◌, ◌++◌, length, take, drop, get_or, map, ℤ, Bool, refl, sym, ap, subst, ◌∙◌, arith}
-use Rattle.std.specs.Prelude.{IfErr, IsErrAnd, codes, decimal}
+use Rattle.std.specs.Prelude.{IfErr, IsErrAnd, codes}
 use Rattle.std.specs.List.{All}
 use Rattle.std.proofs.lemmas.List.{length_push, drop_more, take_more, map_push, drop_all, take_all}
 use Rattle.std.proofs.lemmas.List.Elements.{All-nil, All-push}
 use Rattle.sfm_spec.specs.Bounds.{IsEntry}
-use Rattle.sfm_cert.specs.Answer.{row_lines}
+use Rattle.sfm_cert.specs.Answer.{Form, row_lines}
+use Rattle.sfm_cert.specs.Labels.{label_in}
 use Rattle.sfm_cert.specs.Lines.{IsRowLine, IsSetLine, IsValueLine, row_line}
 use Rattle.sfm_cert.specs.Reading.{EndsAtBy, EndsStuck, ReadsBy, Takes, TakesSome}
 use Rattle.sfm_cert.specs.Slots.{FillsNext, Slot, exact, row, row_slots, set, value}
@@ -20,65 +21,65 @@ use Rattle.sfm_met.specs.MetReading.{ReadsSide, ReadsTold}
 -- ---- rows
 
 -- an end at the rows, whatever is due behind them
-abbrev pub SideEnds : List ℕ → List ℕ → List ℕ → Cursor → AnswerEnd → Type 0
-SideEnds word widths text from end = (names : List (List ℕ)) (more : List Slot) → EndsAtBy (FillsNext names) [] text from (row_slots word 1 widths ++ more) end
+abbrev pub SideEnds : List ℕ → Form → List ℕ → Cursor → AnswerEnd → Type 0
+SideEnds word form text from end = (names : List (List ℕ)) (more : List Slot) → EndsAtBy (FillsNext names) [] text from (row_slots word form.lines 1 form.widths ++ more) end
 
-module _ (word widths text : List ℕ) where
+module _ (word : List ℕ) (form : Form) (text : List ℕ) where
   pub record RowsSoFar (from to : Cursor) (i : ℕ) (rows : List (List ℤ)) : Type 0 where
     pub within : to.at ≤ length text
     pub count : length rows ≡ i
-    pub reads : (names : List (List ℕ)) (more : List Slot) → ReadsBy (FillsNext names) text from to (row_slots word 1 widths ++ more) (row_slots word (i + 1) (drop i widths) ++ more) (row_lines word 1 rows)
-    pub widths_are : map length rows ≡ take i widths
+    pub reads : (names : List (List ℕ)) (more : List Slot) → ReadsBy (FillsNext names) text from to (row_slots word form.lines 1 form.widths ++ more) (row_slots word form.lines (i + 1) (drop i form.widths) ++ more) (row_lines word form.lines 1 rows)
+    pub widths_are : map length rows ≡ take i form.widths
     pub small : All (λ x. All IsEntry x) rows
 
   -- the row of a place is due, of so many numbers
   pub record IsDue (i width : ℕ) : Type 0 where
-    pub below : i < length widths
-    pub is : get_or widths i 0 ≡ width
+    pub below : i < length form.widths
+    pub is : get_or form.widths i 0 ≡ width
 
-  widths_due : (i width : ℕ) → IsDue i width → drop i widths ≡ width ∷ drop (i + 1) widths
-  widths_due i width d = drop_more widths i 0 d.below ∙ ap (λ n. n ∷ drop (i + 1) widths) d.is
+  widths_due : (i width : ℕ) → IsDue i width → drop i form.widths ≡ width ∷ drop (i + 1) form.widths
+  widths_due i width d = drop_more form.widths i 0 d.below ∙ ap (λ n. n ∷ drop (i + 1) form.widths) d.is
 
   pub rows_begin : (from : Cursor) → from.at ≤ length text → RowsSoFar from from 0 []
   rows_begin from h = record {
     within = h;
     count = refl;
-    reads = λ names more. reads_begin (FillsNext names) text from (row_slots word 1 widths ++ more) h;
+    reads = λ names more. reads_begin (FillsNext names) text from (row_slots word form.lines 1 form.widths ++ more) h;
     widths_are = refl;
     small = All-nil (λ (x : List ℤ). All IsEntry x);
   }
 
   -- what is due before the row
   before : (from to : Cursor) (i width : ℕ) (rows : List (List ℤ)) → IsDue i width → RowsSoFar from to i rows → (names : List (List ℕ)) (more : List Slot)
-      → ReadsBy (FillsNext names) text from to (row_slots word 1 widths ++ more) (row word (decimal (i + 1)) width ∷ (row_slots word (i + 1 + 1) (drop (i + 1) widths) ++ more)) (row_lines word 1 rows)
+      → ReadsBy (FillsNext names) text from to (row_slots word form.lines 1 form.widths ++ more) (row word (label_in form.lines (i + 1)) width ∷ (row_slots word form.lines (i + 1 + 1) (drop (i + 1) form.widths) ++ more)) (row_lines word form.lines 1 rows)
   before from to i width rows d r names more =
-      subst (λ (l : List ℕ). ReadsBy (FillsNext names) text from to (row_slots word 1 widths ++ more) (row_slots word (i + 1) l ++ more) (row_lines word 1 rows)) (widths_due i width d) (r.reads names more)
+      subst (λ (l : List ℕ). ReadsBy (FillsNext names) text from to (row_slots word form.lines 1 form.widths ++ more) (row_slots word form.lines (i + 1) l ++ more) (row_lines word form.lines 1 rows)) (widths_due i width d) (r.reads names more)
 
-  pub rows_more : (from to to' : Cursor) (i width : ℕ) (rows : List (List ℤ)) (x : List ℤ) → IsDue i width → RowsSoFar from to i rows → TakesSome text to to' (λ line. IsRowLine word (decimal (i + 1)) width line x)
+  pub rows_more : (from to to' : Cursor) (i width : ℕ) (rows : List (List ℤ)) (x : List ℤ) → IsDue i width → RowsSoFar from to i rows → TakesSome text to to' (λ line. IsRowLine word (label_in form.lines (i + 1)) width line x)
       → RowsSoFar from to' (i + 1) (rows ++ x ∷ [])
   rows_more from to to' i width rows x d r t = record {
     within = t.within;
     count = omega (arith, length_push rows x, r.count);
     reads = λ names more.
-        let lines_are : row_lines word 1 rows ++ t.line ∷ [] ≡ row_lines word 1 (rows ++ x ∷ []) = ap (λ l. row_lines word 1 rows ++ l ∷ []) (t.good.2 ∙ ap (λ n. row_line word (decimal n) x) (omega (arith, r.count))) ∙ sym (row_lines-push word 1 rows x) in
-        subst (λ (l : List (List ℕ)). ReadsBy (FillsNext names) text from to' (row_slots word 1 widths ++ more) (row_slots word (i + 1 + 1) (drop (i + 1) widths) ++ more) l) lines_are
-        (slot_read names text from (row_slots word 1 widths ++ more) to to' (row word (decimal (i + 1)) width) (row_slots word (i + 1 + 1) (drop (i + 1) widths) ++ more) (row_lines word 1 rows)
-        (λ line. IsRowLine word (decimal (i + 1)) width line x) (before from to i width rows d r names more) t (λ g. (x, g)));
-    widths_are = map_push length rows x ∙ ap (λ l. l ++ length x ∷ []) r.widths_are ∙ ap (λ n. take i widths ++ n ∷ []) (t.good.0 ∙ sym d.is) ∙ sym (take_more widths i 0 d.below);
+        let lines_are : row_lines word form.lines 1 rows ++ t.line ∷ [] ≡ row_lines word form.lines 1 (rows ++ x ∷ []) = ap (λ l. row_lines word form.lines 1 rows ++ l ∷ []) (t.good.2 ∙ ap (λ n. row_line word (label_in form.lines n) x) (omega (arith, r.count))) ∙ sym (row_lines-push word form.lines 1 rows x) in
+        subst (λ (l : List (List ℕ)). ReadsBy (FillsNext names) text from to' (row_slots word form.lines 1 form.widths ++ more) (row_slots word form.lines (i + 1 + 1) (drop (i + 1) form.widths) ++ more) l) lines_are
+        (slot_read names text from (row_slots word form.lines 1 form.widths ++ more) to to' (row word (label_in form.lines (i + 1)) width) (row_slots word form.lines (i + 1 + 1) (drop (i + 1) form.widths) ++ more) (row_lines word form.lines 1 rows)
+        (λ line. IsRowLine word (label_in form.lines (i + 1)) width line x) (before from to i width rows d r names more) t (λ g. (x, g)));
+    widths_are = map_push length rows x ∙ ap (λ l. l ++ length x ∷ []) r.widths_are ∙ ap (λ n. take i form.widths ++ n ∷ []) (t.good.0 ∙ sym d.is) ∙ sym (take_more form.widths i 0 d.below);
     small = All-push (λ (y : List ℤ). All IsEntry y) rows x r.small t.good.1;
   }
 
   pub rows_stop : {A : Type 0} (result : Result A AnswerEnd) (from to : Cursor) (i width : ℕ) (rows : List (List ℤ)) (end : AnswerEnd) → IsErrAnd result (λ e. e ≡ end) → IsDue i width → RowsSoFar from to i rows
-      → EndsStuck text to (λ line. (x : List ℤ) × IsRowLine word (decimal (i + 1)) width line x) end → IfErr result (SideEnds word widths text from)
-  rows_stop result from to i width rows end is d r s = passed_on result end (SideEnds word widths text from) is (λ names more.
-      slot_stuck names text from (row_slots word 1 widths ++ more) to (row word (decimal (i + 1)) width) (row_slots word (i + 1 + 1) (drop (i + 1) widths) ++ more) (row_lines word 1 rows) end
+      → EndsStuck text to (λ line. (x : List ℤ) × IsRowLine word (label_in form.lines (i + 1)) width line x) end → IfErr result (SideEnds word form text from)
+  rows_stop result from to i width rows end is d r s = passed_on result end (SideEnds word form text from) is (λ names more.
+      slot_stuck names text from (row_slots word form.lines 1 form.widths ++ more) to (row word (label_in form.lines (i + 1)) width) (row_slots word form.lines (i + 1 + 1) (drop (i + 1) form.widths) ++ more) (row_lines word form.lines 1 rows) end
       (before from to i width rows d r names more) s)
 
-  pub rows_end : (from to : Cursor) (i : ℕ) (rows : List (List ℤ)) → length widths ≤ i → RowsSoFar from to i rows → ReadsSide word widths text from to rows
+  pub rows_end : (from to : Cursor) (i : ℕ) (rows : List (List ℤ)) → length form.widths ≤ i → RowsSoFar from to i rows → ReadsSide word form text from to rows
   rows_end from to i rows h r = record {
     within = r.within;
-    reads = λ names more. subst (λ (l : List ℕ). ReadsBy (FillsNext names) text from to (row_slots word 1 widths ++ more) (row_slots word (i + 1) l ++ more) (row_lines word 1 rows)) (drop_all i widths h) (r.reads names more);
-    formed = record { widths_are = r.widths_are ∙ take_all i widths h; small = r.small };
+    reads = λ names more. subst (λ (l : List ℕ). ReadsBy (FillsNext names) text from to (row_slots word form.lines 1 form.widths ++ more) (row_slots word form.lines (i + 1) l ++ more) (row_lines word form.lines 1 rows)) (drop_all i form.widths h) (r.reads names more);
+    formed = record { widths_are = r.widths_are ∙ take_all i form.widths h; small = r.small };
   }
 
 -- ---- the first lines

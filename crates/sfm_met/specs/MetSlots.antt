@@ -19,11 +19,11 @@ told_slots names more = exact (codes "meet 1") ∷ value (codes "value ") ∷ se
 
 -- the lines of the bases of the right sum, and the end
 abbrev pub right_slots : Form → List Slot
-right_slots right = row_slots (codes "right ") 1 right.widths ++ exact (codes "end") ∷ []
+right_slots right = row_slots (codes "right ") right.lines 1 right.widths ++ exact (codes "end") ∷ []
 
 -- the lines of the bases of both sums, and the end
 abbrev pub base_slots : Form → Form → List Slot
-base_slots left right = row_slots (codes "left ") 1 left.widths ++ right_slots right
+base_slots left right = row_slots (codes "left ") left.lines 1 left.widths ++ right_slots right
 
 -- all lines
 abbrev pub slots_of : Form → Form → List Slot

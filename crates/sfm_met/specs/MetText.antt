@@ -7,12 +7,11 @@ use Rattle.sfm_cert.specs.Answer.{Form, listed, row_lines, spaced}
 use Rattle.sfm_cert.specs.Form.{AreFormedRows}
 use Rattle.sfm_meet.specs.Met.{MetAnswer}
 
--- its lines: the least value, the least set, the common vector, and a line for each base of the left and then of the right,
--- numbered from 1
-abbrev pub met_lines : List (List ℕ) → MetAnswer → List (List ℕ)
-met_lines names a = codes "meet 1" ∷ (codes "value " ++ signed_decimal a.value) ∷ (codes "set" ++ listed names a.members)
+-- its lines: the least value, the least set, the common vector, and a line for each base of the left and then of the right
+abbrev pub met_lines : Form → Form → MetAnswer → List (List ℕ)
+met_lines left right a = codes "meet 1" ∷ (codes "value " ++ signed_decimal a.value) ∷ (codes "set" ++ listed left.names a.members)
     ∷ (codes "common" ++ spaced signed_decimal a.common)
-    ∷ (row_lines (codes "left ") 1 a.left ++ row_lines (codes "right ") 1 a.right ++ codes "end" ∷ [])
+    ∷ (row_lines (codes "left ") left.lines 1 a.left ++ row_lines (codes "right ") right.lines 1 a.right ++ codes "end" ∷ [])
 
 -- the numbers are small, and there is one for each element and each place of a term
 pub record IsFormedMet (left right : Form) (a : MetAnswer) : Type 0 where

@@ -19,7 +19,7 @@ use Rattle.sfm_check.specs.Truth.{Question}
 -- the text says what is true of the sums, with bases that prove it
 pub record IsRightMet (left right : Question) (text : List ℕ) : Type 0 where
   pub answer : MetAnswer
-  pub is_text : IsTextBy (IsFormedMet (form_of left.instance) (form_of right.instance)) (met_lines left.instance.names) text answer
+  pub is_text : IsTextBy (IsFormedMet (form_of left.instance) (form_of right.instance)) (met_lines (form_of left.instance) (form_of right.instance)) text answer
   pub proved : IsProvedMet left.meant right.meant (length left.instance.names) answer
   pub split : IsLeastSplit left.meant right.meant (length left.instance.names) answer.value answer.members
 
@@ -49,4 +49,4 @@ IsAgainstMet left right a line _ = ⊥
 abbrev pub IsMetVerdict : Question → Question → List ℕ → Verdict → Type 0
 IsMetVerdict left right text Valid = IsRightMet left right text
 IsMetVerdict left right text (Invalid line reason) = (IsRightMet left right text → ⊥)
-    × IsFaultBy (IsFormedMet (form_of left.instance) (form_of right.instance)) (met_lines left.instance.names) (IsAgainstMet left right) text line reason
+    × IsFaultBy (IsFormedMet (form_of left.instance) (form_of right.instance)) (met_lines (form_of left.instance) (form_of right.instance)) (IsAgainstMet left right) text line reason

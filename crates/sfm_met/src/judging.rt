@@ -114,6 +114,8 @@ pub fn judge_met(
     let _names = left.names_len();
     let _left_terms = left.terms();
     let _right_terms = right.terms();
+    let _left_lines = left.lines();
+    let _right_lines = right.lines();
     if text.len() > ANSWER_LIMIT {
         return Ok(Verdict::Invalid {
             line: 0,

@@ -1,36 +1,15 @@
 // Reading a text: each line is of a kind that is known beforehand, so the first that is not read is the first bad one.
-ghost use Rattle.std.specs.Prelude.{◌≡◌, ℕ, ◌≤◌, List, [], ◌++◌, decimal, length, ℤ, IfOk, IfErr};
-ghost use Rattle.sfm_cert.specs.{Lines.{IsRowLine}, Reading.{EndsAtBy, EndsStuck, TakesSome}, Slots.{FillsNext, Slot, row_slots}, Solved.{form_of}};
+ghost use Rattle.std.specs.Prelude.{◌≡◌, ℕ, ◌≤◌, List, [], ◌++◌, length, ℤ, IfOk, IfErr};
+ghost use Rattle.sfm_cert.specs.{Reading.{EndsAtBy}, Slots.{FillsNext, Slot, row_slots}, Solved.{form_of}};
 ghost use Rattle.sfm_meet.specs.Told.{met_of};
 ghost use Rattle.sfm_met.specs.{MetSlots.{told_slots}, MetReading.{IsBadMetEnd, ReadsSide, ReadsTold, IsMetText}};
 
-use itoa::Buffer;
 use sfm_base::{Numbers, Rows, Set};
-use sfm_cert::{AnswerEnd, Cursor, expect, read_row, read_set, read_value};
+use sfm_cert::{AnswerEnd, Cursor, Spot, expect, read_labelled, read_row, read_set, read_value};
 use sfm_kind::Instance;
 use sfm_law::Term;
 use sfm_meet::{Bases, Met};
 use std::alloc::Global;
-
-/// The numbers of the line of this word and number, of which there are `width`.
-fn read_numbered(
-    alloc: Global,
-    text: &[u8],
-    cursor: &mut Cursor,
-    word: &[u8],
-    number: usize,
-    width: usize,
-) -> Result<Vec<i128>, AnswerEnd>
-    requires { cursor.old.at ≤ length text.now }
-    ensures read { IfOk result (λ x. TakesSome text.now cursor.old cursor.new
-        (λ line. IsRowLine word.now (decimal number) width line x.items)) }
-    ensures stuck { IfErr result (EndsStuck text.now cursor.old
-        (λ line. (x : List ℤ) × IsRowLine word.now (decimal number) width line x)) }
-{
-    let mut buffer = Buffer::new();
-    let label = buffer.format(number).as_bytes();
-    read_row(alloc, text, cursor, word, label, width)
-}
 
 /// A line of this word for each term of an instance.
 fn read_side(
@@ -41,17 +20,20 @@ fn read_side(
     word: &[u8],
 ) -> Result<Rows, AnswerEnd>
     requires { cursor.old.at ≤ length text.now }
-    ensures read { IfOk result (λ rows. ReadsSide word.now (form_of instance.now).widths text.now
+    ensures read { IfOk result (λ rows. ReadsSide word.now (form_of instance.now) text.now
         cursor.old cursor.new rows) }
     ensures stopped { IfErr result (λ end. (names : List (List ℕ)) (more : List Slot)
         → EndsAtBy (FillsNext names) [] text.now cursor.old
-        (row_slots word.now 1 (form_of instance.now).widths ++ more) end) }
+        (row_slots word.now instance.now.lines 1 (form_of instance.now).widths ++ more) end) }
 {
+    let lines = instance.lines();
+    let mut spot = Spot::first(lines);
     let mut rows = Rows::new(alloc);
-    for (i, term) in instance.terms().iter().enumerate() {
+    for term in instance.terms() {
         let width = term.elements().len();
-        let numbers = read_numbered(alloc, text, cursor, word, i + 1, width)?;
+        let numbers = read_labelled(alloc, text, cursor, word, spot, width)?;
         rows.push(numbers)?;
+        spot = spot.next(lines);
     }
     Ok(rows)
 }

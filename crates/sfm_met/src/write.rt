@@ -31,29 +31,33 @@ fn put_told<O: Out>(out: &mut O, instance: &Instance, met: &Met)
 /// The text, piece by piece.
 fn put_met<O: Out>(out: &mut O, left: &Instance, right: &Instance, met: &Met)
     requires { IsFormedMet (form_of left.now) (form_of right.now) (met_of met.now) }
-    ensures { out.new ≡ O.after out.old (text_of (met_lines left.now.names (met_of met.now))) }
+    ensures { out.new ≡ O.after out.old (text_of (met_lines (form_of left.now) (form_of right.now)
+        (met_of met.now))) }
 {
     put_told(out, left, met);
-    put_rows(out, b"left ", &met.bases.left);
-    put_rows(out, b"right ", &met.bases.right);
+    put_rows(out, left, b"left ", &met.bases.left);
+    put_rows(out, right, b"right ", &met.bases.right);
     out.put(b"end\n");
 }
 
 /// How many bytes the text has.
 fn met_len(left: &Instance, right: &Instance, met: &Met) -> usize
     requires { IsFormedMet (form_of left.now) (form_of right.now) (met_of met.now) }
-    ensures { result ≡ length (text_of (met_lines left.now.names (met_of met.now))) }
+    ensures { result ≡ length (text_of (met_lines (form_of left.now) (form_of right.now)
+        (met_of met.now))) }
 {
     let _names = left.names_len();
     let _left_terms = left.terms();
     let _right_terms = right.terms();
+    let _left_lines = left.lines();
+    let _right_lines = right.lines();
     let mut gauge = Gauge::new();
     put_met(&mut gauge, left, right, met);
     gauge.used()
 }
 
 /// The text of what is told of two instances: the least value of a split, its least set, a common vector, and a line for each base
-/// of the left terms and then of the right ones, numbered from 1. Room for all of it is made first.
+/// of the left terms and then of the right ones, by its label. Room for all of it is made first.
 ///
 /// # Errors
 ///
@@ -65,7 +69,8 @@ pub fn write_met(
     met: &Met,
 ) -> Result<Vec<u8>, Memory>
     requires { IsFormedMet (form_of left.now) (form_of right.now) (met_of met.now) }
-    ensures { IfOk result (λ text. text.items ≡ text_of (met_lines left.now.names (met_of met.now))) }
+    ensures { IfOk result (λ text. text.items ≡ text_of (met_lines (form_of left.now)
+        (form_of right.now) (met_of met.now))) }
 {
     let mut page = Page::new(alloc);
     page.reserve(met_len(left, right, met))?;

@@ -56,6 +56,8 @@ fn verdict_on_long(left: &Instance, right: &Instance) -> Verdict
     let _count = left.names_len();
     let _left_terms = left.terms();
     let _right_terms = right.terms();
+    let _left_lines = left.lines();
+    let _right_lines = right.lines();
     Verdict::Invalid {
         line: 0,
         reason: Wrong::Long,

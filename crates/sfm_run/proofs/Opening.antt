@@ -38,7 +38,7 @@ use Rattle.sfm_run.proofs.Joining.{behind, misses}
 
 -- a good instance
 pub opens : (name : List ℕ) (before after : ShelfState) (reader : Reader) (instance : InstanceData) → KeepsShelf (name ∷ []) before after → FeedsText name before after (Ok reader)
-    → ((text : List ℕ) → Stands reader text → IsTextOf text instance.names instance.terms) → OpensFile question_of (main_file name) before after (Ok (Good instance))
+    → ((text : List ℕ) → Stands reader text → IsTextOf text instance) → OpensFile question_of (main_file name) before after (Ok (Good instance))
 opens name before after reader instance kept (text, stands, named, read) good = record {
   text = text;
   named = named;
@@ -90,7 +90,7 @@ opens_level name before after reader (Err status) kept (text, stands, named, rea
 
 -- one whose sizes add to too much
 pub tells_too_large : (text : List ℕ) (instance : InstanceData) (ground : ℕ) (lines : List ℕ) (line : ℕ)
-    (result : Result (Opened InstanceData) Status) → IsTextOf text instance.names instance.terms
+    (result : Result (Opened InstanceData) Status) → IsTextOf text instance
     → AreNumbersOf text ground lines → PassesAt instance.terms lines line
     → IsFaulty (codes "refused") line Total result
     → Tells question_of (level_file []) text result
@@ -102,7 +102,7 @@ tells_too_large text instance ground lines line (Ok (Faulty due)) good numbered 
 tells_too_large text instance ground lines line (Err status) good numbered passes memory = memory
 
 -- one whose sizes do not
-pub tells_small : (text : List ℕ) (instance : InstanceData) → IsTextOf text instance.names instance.terms
+pub tells_small : (text : List ℕ) (instance : InstanceData) → IsTextOf text instance
     → total_size_of instance.terms ≤ℤ level_limit
     → Tells question_of (level_file []) text (Ok (Good instance))
 tells_small text instance good small =
@@ -129,7 +129,7 @@ opens_level_faulty name before after reader line reason (Ok (Faulty due)) kept (
 opens_level_faulty name before after reader line reason (Err status) kept fed fault memory = (kept, inr memory)
 
 -- a text of either side
-pub is_lined : (text : List ℕ) (side : Numbered) → IsTextOf text side.instance.names side.instance.terms
+pub is_lined : (text : List ℕ) (side : Numbered) → IsTextOf text side.instance
     → AreNumbersOf text side.ground_line side.term_lines.items → IsLined text (lined_of side)
 is_lined text side good numbered = record {
   asked = record { good = good; means = kinds-mean side.instance.terms };
@@ -139,7 +139,7 @@ is_lined text side good numbered = record {
 -- the left of two texts
 pub opens_left : (name : List ℕ) (before after : ShelfState) (reader : Reader) (side : Numbered)
     → KeepsShelf (name ∷ []) before after → FeedsText name before after (Ok reader)
-    → ((text : List ℕ) → Stands reader text → IsTextOf text side.instance.names side.instance.terms)
+    → ((text : List ℕ) → Stands reader text → IsTextOf text side.instance)
     → ((text : List ℕ) → Stands reader text → AreNumbersOf text side.ground_line side.term_lines.items)
     → OpensFile lined_of (left_file name) before after (Ok (Good side))
 opens_left name before after reader side kept (text, stands, named, read) good numbered = record {

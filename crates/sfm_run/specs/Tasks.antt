@@ -31,7 +31,7 @@ task_of (weighed file sizes answer) = reads (main_file file) (λ asked. reads (s
     (λ w. reads (answer_file answer) (λ text. ends (IsJudgedBy (codes "weighed 1") w asked text))))
 task_of (ask file pins) = reads (main_file file) (λ asked. reads (pins_file asked pins)
     (λ p. done (IsAnswered asked.instance.names asked.meant p)))
-task_of (level file) = reads (level_file file) (λ asked. done (IsLevelText asked.meant (length asked.instance.names)))
+task_of (level file) = reads (level_file file) (λ asked. done (IsLevelText asked.instance.lines asked.meant (length asked.instance.names)))
 task_of (edit file edits) = reads (main_file file) (λ asked. reads (edits_file asked edits)
     (λ edited. done (IsSolved edited)))
 task_of (meet left right) = reads (left_file left) (λ l. reads (right_file l right) (λ r. done (IsMeeting l.asked r.asked)))

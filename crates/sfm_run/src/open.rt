@@ -123,7 +123,7 @@ pub fn open_pins<S: Shelf>(
 /// An instance of which the most level base is found, or what is due for one whose sizes add to too much.
 fn level_in(alloc: Global, numbered: Numbered) -> Result<Opened<Instance>, Status>
     requires { length numbered.term_lines.items ≡ length numbered.instance.terms }
-    ensures told { (text : List ℕ) → IsTextOf text numbered.instance.names numbered.instance.terms
+    ensures told { (text : List ℕ) → IsTextOf text numbered.instance
         → AreNumbersOf text numbered.ground_line numbered.term_lines.items
         → Tells question_of (level_file []) text result }
     ensures small { IfOk result (IfGood (λ instance. total_size_of instance.terms ≤ℤ level_limit)) }

@@ -13,6 +13,6 @@ returns c =
     let instance = c.args.instance.now in
     let s = c.args.solved.now in
     let text = answer_text (form_with (header_text c.args.header) instance) (answer_of s) in
-    let short : length text ≤ 268435456 = instance_text_short c.args.header instance (answer_of s) c.names_len.ensures.named c.terms.ensures.bounded c.requires.formed c.requires.few in
+    let short : length text ≤ 268435456 = instance_text_short c.args.header instance (answer_of s) c.names_len.ensures.named c.terms.ensures.bounded c.lines.ensures.lined c.requires.formed c.requires.few in
     let left : c.put_text.new.out ≡ c.new-gauge.result - length text = c.put_text.ensures in
     used c.new-gauge.result c.put_text.new.out (length text) c.used.result c.new-gauge.ensures left c.used.ensures short

@@ -50,7 +50,7 @@ returns-then-text-gt-ANSWER_LIMIT-clause-verdict c = (
   (λ r.
       let kept = c.tell_kept.ensures in
       let l = right_short c.args.header c.args.instance.now c.args.sizes.now c.args.text.now
-      kept.named kept.bounded c.requires.sizes r in
+      kept.named kept.bounded kept.lined c.requires.sizes r in
       let m = c.if-text-gt-ANSWER_LIMIT.true in
       omega (arith, l, m)),
   (refl, c.if-text-gt-ANSWER_LIMIT.true),

@@ -14,7 +14,7 @@ returns c =
     let form = form_of instance in
     let told = level_of c.in_ok-told.told in
     IfOk-weaker c.write_level.result (λ text. text.items ≡ text_of (level_lines form told))
-    (λ text. IsLevelText (meanings kind_places kind_value instance.terms) (length instance.names) text.items)
+    (λ text. IsLevelText instance.lines (meanings kind_places kind_value instance.terms) (length instance.names) text.items)
     (λ text is. record {
       vector = told.vector;
       bases = told.bases;

@@ -10,5 +10,5 @@ returns c =
     let page = c.args.page.now in
     let form = form_of c.args.instance.now in
     let text = text_of (level_lines form (level_of c.args.level.now)) in
-    ap (λ p. p.bytes) (c.put_level.ensures form)
+    ap (λ p. p.bytes) c.put_level.ensures
     ∙ ap (λ x. page.bytes ++ x) (take_all page.spare text c.requires.room)

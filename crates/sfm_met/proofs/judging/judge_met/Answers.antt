@@ -16,7 +16,7 @@ pub returns-then-text-gt-ANSWER_LIMIT : goal.returns-then-text-gt-ANSWER_LIMIT
 returns-then-text-gt-ANSWER_LIMIT c = record {
   verdict = (
     (λ r.
-        let l = met_short c.args.left.now c.args.right.now c.args.text.now c.names_len-names.ensures.named c.terms-left_terms.ensures.bounded (length c.args.right.now.names) c.terms-right_terms.ensures.bounded r in
+        let l = met_short c.args.left.now c.args.right.now c.args.text.now c.names_len-names.ensures.named c.terms-left_terms.ensures.bounded (length c.args.right.now.names) c.terms-right_terms.ensures.bounded (c.lines-left_lines.ensures.lined, c.lines-right_lines.ensures.lined) r in
         let m = c.if-text-gt-ANSWER_LIMIT.true in
         omega (arith, l, m)),
     (refl, c.if-text-gt-ANSWER_LIMIT.true),
