@@ -30,13 +30,13 @@ TOP = "sfm_run/call", "run"
 PARTS = [
     ("Sets, terms and their sums", [
         "sfm_spec.Sets", "sfm_spec.Terms", "sfm_spec.Kinds", "sfm_spec.Families", "sfm_spec.Laws", "sfm_spec.Slopes",
-        "sfm_spec.Blocks", "sfm_spec.Walks", "sfm_spec.Bounds", "sfm_spec.", "sfm_squares."]),
+        "sfm_spec.Blocks", "sfm_spec.Walks", "sfm_spec.Bounds", "sfm_spec.", "sfm_layers.", "sfm_squares."]),
     ("Terms as they are kept", [
         "sfm_base/", "sfm_base.", "sfm_law.", "sfm_simple.", "sfm_simple/", "sfm_concave.", "sfm_concave/",
         "sfm_laminar.", "sfm_laminar/", "sfm_matroid.", "sfm_matroid/", "sfm_kind/", "sfm_kind."]),
     ("Instance texts", [
         "sfm_spec.Names", "sfm_base.NumberText", "sfm_lines.Lines", "sfm_lines/word", "sfm_lines.Parts",
-        "sfm_lines.LabelTerms", "sfm_lines.RankLines", "sfm_lines.Words", "sfm_lines.TermLines", "sfm_lines/",
+        "sfm_lines.LabelTerms", "sfm_lines.RankLines", "sfm_lines.Versions", "sfm_lines.Words", "sfm_lines.TermLines", "sfm_lines/",
         "sfm_lines.Reading", "sfm_text.Language", "sfm_text.GoodText", "sfm_lines.Reasons", "sfm_lines.", "sfm_text."]),
     ("Texts beside an instance", ["sfm_side.Side", "sfm_side.Numbers", "sfm_side.", "sfm_edit.", "sfm_ask."]),
     ("Answer texts", ["sfm_cert.", "sfm_check/", "sfm_check.", "sfm_level."]),

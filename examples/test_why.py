@@ -27,6 +27,11 @@ def text(line):
     return whole("sfm 1", "ground a b c d", line, "end")
 
 
+def text2(line):
+    """The same in version 2."""
+    return whole("sfm 2", "ground a b c d", line, "end")
+
+
 def named(count):
     return " ".join(f"n{number}" for number in range(1, count + 1))
 
@@ -90,19 +95,19 @@ ROWS = [
         "no header",
         whole("ground a b", "end"),
         "refused 1 word",
-        "1: the line 'sfm 1' is missing: an instance begins with 'sfm 1'",
+        "1: the line 'sfm 1' is missing: an instance begins with 'sfm 1' or 'sfm 2'",
     ),
     Row(
         "an answer",
         whole("answer 1", "minimum 0"),
         "refused 1 word",
-        "1: this is an answer: an instance begins with 'sfm 1'",
+        "1: this is an answer: an instance begins with 'sfm 1' or 'sfm 2'",
     ),
     Row(
         "another version",
-        whole("sfm 2", "ground a", "end"),
+        whole("sfm 3", "ground a", "end"),
         "refused 1 shape",
-        "5: 2 stands here, and the first line is 'sfm 1', with nothing behind it",
+        "5: 3 stands here, and the first line is 'sfm 1' or 'sfm 2', with nothing behind it",
     ),
     Row(
         "names in place of the ground line",
@@ -415,6 +420,18 @@ ROWS = [
         whole("sfm 1", "ground " + named(200), *["cover 1 " + named(200)] * 85, "end"),
         "refused 84 total",
         "1: with this line 16,400 names of elements stand, and 16,384 are taken",
+    ),
+    Row(
+        "a number too large for version 2",
+        text2("weight a:1000000000000001"),
+        "refused 3 number",
+        "10: 1000000000000001 is out of range: numbers here are -1,000,000,000,000,000 to 1,000,000,000,000,000",
+    ),
+    Row(
+        "sizes too large for version 2",
+        whole("sfm 2", "ground a", *["weight a:1000000000000000"] * 1001, "end"),
+        "refused 1003 total",
+        "1: with this line sizes add to 1,001,000,000,000,000,000, and 1,000,000,000,000,000,000 are taken: count in a greater unit",
     ),
 ]
 

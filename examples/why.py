@@ -32,7 +32,9 @@ from collections import namedtuple
 
 from faults import read_bytes, run_main
 
-MOST_BYTES, MOST_NUMBER, MOST_SIZE = 16_777_216, 10**12, 10**15
+MOST_BYTES = 16_777_216
+# by version
+MOST_NUMBER, MOST_SIZE = {"1": 10**12, "2": 10**15}, {"1": 10**15, "2": 10**18}
 MOST_NAMES, MOST_TERMS, MOST_PLACES = 256, 4096, 16_384
 MOST_ELEMENT_SIZE = 1_000_000
 NUMBER = re.compile(r"0|-?[1-9][0-9]*")
@@ -103,7 +105,7 @@ def test_word(stage, tokens, before):
     word, column = tokens[0]
     if stage == "header" and word != "sfm":
         known = {"answer": "this is an answer", "refused": "this is a refusal", "ground": "the line 'sfm 1' is missing"}
-        raise Refused("word", column, known.get(word, f"{shown(word)} stands here") + ": an instance begins with 'sfm 1'")
+        raise Refused("word", column, known.get(word, f"{shown(word)} stands here") + ": an instance begins with 'sfm 1' or 'sfm 2'")
     if stage == "ground" and word != "ground":
         raise Refused("word", column, f"{shown(word)} stands here, where 'ground' with the names of all elements is due")
     if stage == "behind":
@@ -287,7 +289,7 @@ def parts_of(tokens, end):
 # The reasons `number`, `name` and `twice`.
 
 
-def test_number(piece, low, high=MOST_NUMBER):
+def test_number(piece, low, high):
     """A whole number from `low` to `high`."""
     text, range_ = piece.text, f"{low:,} to {high:,}"
     if NUMBER.fullmatch(text):
@@ -338,15 +340,10 @@ def test_twice(pieces, where):
         first[piece.text] = piece.column
 
 
-def lowest(kind):
-    """The least number that a line of this kind may have."""
-    return -MOST_NUMBER if kind in ("weight", "concave", "table") else 0
-
-
-def test_tokens(parts, names):
-    """The numbers, the names and what stands twice, of a line of the right shape."""
+def test_tokens(parts, names, most):
+    """The numbers, the names and what stands twice, of a line of the right shape; `most` is the greatest number that may stand."""
     for piece in parts.numbers:
-        test_number(piece, lowest(parts.kind))
+        test_number(piece, -most if parts.kind in ("weight", "concave", "table") else 0, most)
     own = {piece.text for piece in parts.elements}
     for piece in parts.elements:
         test_element(piece, names)
@@ -412,34 +409,41 @@ def test_groups(groups):
 # The reason `total`.
 
 
-def laminar_rank(parts):
+# Each gives the places of a best choice from these in order: a place is taken where the choice stays free with it.
+
+
+def uniform_choice(parts, order):
+    return order[: int(parts.numbers[1].text)]
+
+
+def laminar_choice(parts, order):
     room = [[int(cap.text), {piece.text for piece in members}] for cap, members in parts.groups]
-    rank = 0
-    for piece in parts.elements:
-        mine = [group for group in room if piece.text in group[1]]
+    chosen = []
+    for place in order:
+        mine = [group for group in room if parts.elements[place].text in group[1]]
         if all(group[0] > 0 for group in mine):
-            rank += 1
+            chosen.append(place)
             for group in mine:
                 group[0] -= 1
-    return rank
+    return chosen
 
 
-def graphic_rank(parts):
+def graphic_choice(parts, order):
     label = {piece.text: piece.text for piece in parts.others}
-    rank = 0
-    for u, v in zip(parts.others[::2], parts.others[1::2]):
-        new, old = label[u.text], label[v.text]
+    chosen = []
+    for place in order:
+        new, old = (label[parts.others[2 * place + end].text] for end in (0, 1))
         if new != old:
-            rank += 1
+            chosen.append(place)
             label = {vertex: new if it == old else it for vertex, it in label.items()}
-    return rank
+    return chosen
 
 
-def transversal_rank(parts):
-    """The most elements that can have slots of their own: a matching that grows by ways through slots that are taken."""
+def transversal_choice(parts, order):
+    """Elements that can have slots of their own: a matching that grows by ways through slots that are taken."""
     slots = [[piece.text for piece in entry] for entry in parts.entries]
-    holder, slot_of = {}, {}
-    for start in range(len(slots)):
+    holder, slot_of, chosen = {}, {}, []
+    for start in order:
         came, level, free = {}, [start], None
         while level and free is None:
             later = []
@@ -452,34 +456,35 @@ def transversal_rank(parts):
                         else:
                             free = slot
             level = later
+        if free is not None:
+            chosen.append(start)
         while free is not None:
             element = came[free]
             holder[free], slot_of[element], free = element, free, slot_of.get(element)
-    return len(holder)
+    return chosen
+
+
+CHOICES = {"uniform": uniform_choice, "laminar": laminar_choice, "graphic": graphic_choice, "transversal": transversal_choice}
 
 
 def size_of(parts):
     """The size of a term, as docs/FORMATS.md has it."""
     numbers = [int(piece.text) for piece in parts.numbers]
-    ranks = {
-        "uniform": lambda: min(numbers[1], len(parts.elements)),
-        "laminar": lambda: laminar_rank(parts),
-        "graphic": lambda: graphic_rank(parts),
-        "transversal": lambda: transversal_rank(parts),
-    }
-    if parts.kind in ranks:
-        return numbers[0] * ranks[parts.kind]()
+    if parts.kind in CHOICES:
+        return numbers[0] * len(CHOICES[parts.kind](parts, range(len(parts.elements))))
     if parts.kind == "weight":
         return sum(abs(number) for number in numbers)
     return max((abs(number) for number in numbers), default=0)
 
 
-def test_header(tokens, end, due):
-    """The first line has the word, 1, and nothing behind it."""
-    if [token.text for token in tokens] != due.split():
-        wrong = tokens[1:] if tokens[1:] and tokens[1].text != "1" else tokens[2:]
+def test_header(tokens, end, *due):
+    """The first line is one of some lines of a word and a number, with nothing behind it."""
+    texts = [token.text for token in tokens]
+    if texts not in [line.split() for line in due]:
+        wrong = tokens[2:] if texts[:2] in [line.split() for line in due] else tokens[1:]
         place, said = (wrong[0].column, shown(wrong[0].text)) if wrong else (end, "nothing")
-        raise Refused("shape", place, f"{said} stands here, and the first line is '{due}', with nothing behind it")
+        lines = " or ".join(f"'{line}'" for line in due)
+        raise Refused("shape", place, f"{said} stands here, and the first line is {lines}, with nothing behind it")
 
 
 def test_end(tokens):
@@ -511,8 +516,8 @@ class Instance:
 
     def __init__(self):
         self.stage, self.before = "header", ""
-        self.names = {}
-        # for each term its places and its size, and all of these together
+        self.version, self.names = "1", {}
+        # for each term line its places and its size, and all of these together
         self.terms = []
         self.places = self.sizes = 0
 
@@ -527,7 +532,8 @@ class Instance:
 
     def take_tokens(self, tokens, end):
         if self.stage == "header":
-            test_header(tokens, end, "sfm 1")
+            test_header(tokens, end, "sfm 1", "sfm 2")
+            self.version = tokens[1].text
             self.stage = "ground"
         elif self.stage == "ground":
             self.take_ground(tokens)
@@ -555,7 +561,7 @@ class Instance:
         self.stage = "terms"
 
     def take_term(self, parts, column):
-        test_tokens(parts, self.names)
+        test_tokens(parts, self.names, MOST_NUMBER[self.version])
         if parts.kind == "concave":
             test_concave(parts.numbers)
         elif parts.kind == "table":
@@ -567,12 +573,13 @@ class Instance:
             raise Refused("total", column, f"this is term line {len(self.terms):,}, and {MOST_TERMS:,} are taken")
         if self.places > MOST_PLACES:
             raise Refused("total", column, f"with this line {self.places:,} names of elements stand, and {MOST_PLACES:,} are taken")
-        if self.sizes > MOST_SIZE:
-            cause = f"with this line sizes add to {self.sizes:,}, and {MOST_SIZE:,} are taken: count in a greater unit"
+        most = MOST_SIZE[self.version]
+        if self.sizes > most:
+            cause = f"with this line sizes add to {self.sizes:,}, and {most:,} are taken: count in a greater unit"
             raise Refused("total", column, cause)
 
     def drop_term(self, place):
-        """Takes the term at a place out, counted from 0."""
+        """Takes the term line at a place out, counted from 0."""
         places, size = self.terms.pop(place)
         self.places, self.sizes = self.places - places, self.sizes - size
 

@@ -44,11 +44,11 @@ faulty L text Stands word IsDue end is result h = IfOk-weaker result _ _ (λ due
 }) h
 
 -- the text of an instance
-pub asks : (text : List ℕ) (instance : InstanceData) → IsTextOf text instance.names instance.terms → IsAsked text (question_of instance)
+pub asks : (text : List ℕ) (instance : InstanceData) → IsTextOf text instance → IsAsked text (question_of instance)
 asks text instance good = record { good = good; means = kinds-mean instance.terms }
 
 -- what is made for the question of an instance is due for its text
-pub for_instance : (text : List ℕ) (instance : InstanceData) → IsTextOf text instance.names instance.terms → (IsDue : Question → List ℕ → ℕ → Type 0)
+pub for_instance : (text : List ℕ) (instance : InstanceData) → IsTextOf text instance → (IsDue : Question → List ℕ → ℕ → Type 0)
     → (result : Result Due Memory) → IfOk result (IsMade (IsDue (question_of instance))) → IfOk result (IsMade (IsDueForInstance text IsDue))
 for_instance text instance good IsDue = stands (IsAsked text) (codes "refused") (IsFaultOf text) IsDue (question_of instance) (asks text instance good)
 
@@ -68,7 +68,7 @@ faulty_by L text Stands word IsFault IsDue more end is result h = IfOk-weaker re
 
 -- an instance whose sizes add to too much
 pub too_large_due : (text : List ℕ) (instance : InstanceData) (ground : ℕ) (lines : List ℕ) (line : ℕ)
-    → IsTextOf text instance.names instance.terms → AreNumbersOf text ground lines
+    → IsTextOf text instance → AreNumbersOf text ground lines
     → PassesAt instance.terms lines line → (due : Due)
     → due.text.items ≡ refusal (codes "refused") line Total → due.status ≡ Refused
     → IsMade (IsDueToLevel text) due
@@ -86,7 +86,7 @@ too_large_due text instance ground lines line good numbered passes due named ref
 }
 
 -- one whose sizes do not
-pub small_due : (text : List ℕ) (instance : InstanceData) → IsTextOf text instance.names instance.terms
+pub small_due : (text : List ℕ) (instance : InstanceData) → IsTextOf text instance
     → total_size_of instance.terms ≤ℤ level_limit → (result : Result Due Memory)
     → IfOk result (IsMade (IsDone (IsLevelled (question_of instance))))
     → IfOk result (IsMade (IsDueToLevel text))

@@ -166,7 +166,7 @@ pub(crate) fn make_ask(alloc: Global, text: &[u8], pins: &[u8]) -> Result<Due, M
 fn level_of(alloc: Global, numbered: &Numbered) -> Result<Due, Memory>
     requires { length numbered.now.term_lines.items ≡ length numbered.now.instance.terms }
     ensures { (text : List ℕ)
-        → IsTextOf text numbered.now.instance.names numbered.now.instance.terms
+        → IsTextOf text numbered.now.instance
         → AreNumbersOf text numbered.now.ground_line numbered.now.term_lines.items
         → IfOk result (IsMade (IsDueToLevel text)) }
 {

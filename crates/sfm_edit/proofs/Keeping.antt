@@ -1,16 +1,20 @@
 -- Which terms are kept, as edits go on: the old ones stand first, in their old order.
-use Rattle.std.proofs.Common.{◌≡◌, ◌⊎◌, inl, inr, ℕ, zero, suc, ◌+◌, ◌<◌, ◌≤◌, List, [], ◌∷◌, ◌++◌, length, get_or, slice_get, Option, Some, None, refl, sym, ap, subst, ◌∙◌, arith}
+use Rattle.std.proofs.Common.{◌≡◌, ◌⊎◌, inl, inr, ℕ, zero, suc, ◌+◌, ◌<◌, ◌≤◌, List, [], ◌∷◌, ◌++◌, length, get_or, slice_get, take, drop, Option, Some, None, refl, sym, ap, subst, ◌∙◌, arith}
 use Rattle.std.specs.List.{remove}
 use Rattle.std.proofs.lemmas.Bool.{cases_lt}
 use Rattle.std.proofs.lemmas.Option.{same_Some, slice_get_within, get_or_from_slice_get}
-use Rattle.std.proofs.lemmas.List.{length_push}
+use Rattle.std.proofs.lemmas.List.{length_push, length-append, length-take-le, length-drop}
+use Rattle.std.proofs.Math.ListN.{drop_of_length-le}
 use Rattle.std.proofs.lemmas.List.Edits.{length-remove}
 use Rattle.std.proofs.lemmas.List.FromFn.{length-map-range_with_len, get_or-map-range_with_len}
 use Rattle.sfm_lines.specs.Reading.{State}
 use Rattle.sfm_kind.specs.declared.kind.Kind.{Kind}
+use Rattle.sfm_kind.specs.Instance.{width_of, terms_in}
+use Rattle.sfm_kind.proofs.Removed.{cut_out, cut_out-none, cut_out-more}
 use Rattle.sfm_edit.specs.EditLines.{Edits}
-use Rattle.sfm_edit.specs.Edits.{Editing}
+use Rattle.sfm_edit.specs.Edits.{Editing, without_terms}
 use Rattle.sfm_edit.specs.Origins.{AreOrigins, all_kept}
+use Rattle.sfm_edit.proofs.Widths.{next-line}
 
 -- ---- before the first edit
 
@@ -95,6 +99,38 @@ origins-removed old new kept i within h = record {
     less : length (remove kept i) + 1 ≡ length kept
     less = length-remove kept i inside
 
+-- ---- some in a row are taken out
+
+-- behind the last there is nothing to take out
+past-end : {X : Type 0} (xs : List X) (first count : ℕ) → length xs ≤ first + count → cut_out xs first (suc count) ≡ cut_out xs first count
+past-end xs first count le =
+    let more : drop (first + suc count) xs ≡ [] = drop_of_length-le xs (omega (arith, le)) in
+    let here : drop (first + count) xs ≡ [] = drop_of_length-le xs le in
+    ap (λ l. take first xs ++ l) (more ∙ sym here)
+
+origins-cut : (old new : List Kind) (kept : List (Option ℕ)) (first count : ℕ) → AreOrigins old new kept → AreOrigins old (cut_out new first count) (cut_out kept first count)
+origins-cut old new kept first zero h = rw (cut_out-none new first, cut_out-none kept first) h
+origins-cut old new kept first (suc count) h = on (cases_lt (first + count) (length new)) (origins-cut old new kept first count h)
+  where
+    on : (first + count < length new) ⊎ (length new ≤ first + count) → AreOrigins old (cut_out new first count) (cut_out kept first count) → AreOrigins old (cut_out new first (suc count)) (cut_out kept first (suc count))
+    on (inr le) before = rw (past-end new first count le, past-end kept first count (omega (arith, le, h.count))) before
+    on (inl lt) before =
+        let len = length-append (take first new) (drop (first + count) new) in
+        let front = length-take-le first new (omega (arith, lt)) in
+        let back = length-drop (first + count) new in
+        let less = origins-removed old (cut_out new first count) (cut_out kept first count) first (omega (arith, lt, len, front, back)) before in
+        let next : count + 1 ≡ suc count = omega arith in
+        let terms : remove (cut_out new first count) first ≡ cut_out new first (suc count) = cut_out-more new first count lt ∙ ap (λ c. cut_out new first c) next in
+        let origins : remove (cut_out kept first count) first ≡ cut_out kept first (suc count) = cut_out-more kept first count (omega (arith, lt, h.count)) ∙ ap (λ c. cut_out kept first c) next in
+        rw (← terms, ← origins) less
+
+-- those of a line
+origins-without : (old new : List Kind) (kept : List (Option ℕ)) (lines : List ℕ) (i : ℕ) → i < length lines → AreOrigins old new kept
+    → AreOrigins old (without_terms lines i new) (without_terms lines i kept)
+origins-without old new kept lines i lt h =
+    let is = next-line lines i lt in
+    rw is (origins-cut old new kept (terms_in (take i lines)) (width_of (get_or lines i 0)) h)
+
 -- ---- one is added
 
 get-old : {X : Type 0} (xs : List X) (x : X) (j : ℕ) → j < length xs
@@ -151,7 +187,7 @@ origins-added old new kept term h = record {
 pub origins-edited : (old : List Kind) (e f : Editing) (tokens : List (List ℕ)) → Edits e tokens f
     → AreOrigins old e.instance.terms e.kept → AreOrigins old f.instance.terms f.kept
 origins-edited old e f tokens (inl (text, i, is, number, same)) h =
-    subst (λ (g : Editing). AreOrigins old g.instance.terms g.kept) (sym same) (origins-removed old e.instance.terms e.kept i number.0 h)
+    subst (λ (g : Editing). AreOrigins old g.instance.terms g.kept) (sym same) (origins-without old e.instance.terms e.kept e.instance.lines i number.0 h)
 origins-edited old e f tokens (inr (rest, is, (term, stands, same), kept)) h =
     let terms : f.instance.terms ≡ e.instance.terms ++ term ∷ [] = ap (λ (s : State). s.terms) same in
     rw (terms, kept) (origins-added old e.instance.terms e.kept term h)

@@ -1,3 +1,4 @@
+pub mod Widths
 pub mod Numbered
 pub mod LineLengths
 pub mod Reasons

@@ -74,11 +74,11 @@ module _ (instance : InstanceData) (distinct : AllPairs (λ a b. a ≢ b) instan
 
   module _ (text : List ℕ) where
     pub one-reading : (a b : Editing) → IsReadAs L text (ended a) → IsReadAs L text (ended b)
-        → (a.instance.names ≡ b.instance.names) × AllZip AreOneTerm a.instance.terms b.instance.terms
-        × (a.kept ≡ b.kept)
+        → (a.instance.version ≡ b.instance.version) × (a.instance.names ≡ b.instance.names)
+        × AllZip AreOneTerm a.instance.terms b.instance.terms × (a.instance.lines ≡ b.instance.lines) × (a.kept ≡ b.kept)
     one-reading a b h g =
         let same : AreAlike a b = readings-alike L StatesAlike kept text (ended a) (ended b) h g in
-        (same.instance.names, same.instance.terms, same.kept)
+        (same.instance.version, same.instance.names, same.instance.terms, same.instance.lines, same.kept)
 
     pub not-both : (a : Editing) (line : ℕ) (reason : Reason) → IsReadAs L text (ended a)
         → IsFaultIn L text line reason → ⊥

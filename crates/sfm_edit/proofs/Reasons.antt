@@ -5,6 +5,7 @@ use Rattle.std.specs.Prelude.{Result, Ok, Err, MatchResult}
 use Rattle.std.specs.List.{Any, remove}
 use Rattle.std.specs.Result.{IsErrAnd}
 use Rattle.sfm_kind.specs.declared.kind.Kind.{Kind}
+use Rattle.sfm_kind.specs.declared.version.Version.{Version}
 use Rattle.sfm_kind.specs.Instance.{InstanceData}
 use Rattle.sfm_lines.specs.declared.line_fault.LineEnd.{LineEnd}
 use Rattle.sfm_lines.specs.declared.line_fault.LineEnd.TheVariants.{Fault, Memory}
@@ -20,7 +21,7 @@ use Rattle.sfm_text.specs.Adding.{HasAsTerm, IsTermRefusal, IsTermAdded}
 use Rattle.sfm_text.specs.Language.{IsFirstOf}
 use Rattle.sfm_text.proofs.Orders.{first_listed}
 use Rattle.sfm_side.specs.Frame.{IsFramed}
-use Rattle.sfm_edit.specs.Edits.{Editing, without_line, IsDrop, IsLineNumber, HasAdded, HasEdit, edits_form}
+use Rattle.sfm_edit.specs.Edits.{Editing, without_terms, without_line, IsDrop, IsLineNumber, HasAdded, HasEdit, edits_form}
 use Rattle.sfm_edit.specs.EditLines.{IsEdited, IsEditRefusal}
 
 -- lists with the same first token and the same rest
@@ -47,15 +48,17 @@ on-refusal Q P (Ok a) end is p = absurd is
 on-refusal Q P (Err e) end is p = subst P (sym is) p
 
 -- an instance under edits, part by part
-abbrev editing : List (List ℕ) → List Kind → List (Option ℕ) → Editing
-editing names terms kept = record { instance = record { names = names; terms = terms }; kept = kept }
+abbrev editing : Version → List (List ℕ) → List Kind → List ℕ → List (Option ℕ) → Editing
+editing version names terms lines kept = record { instance = record { version = version; names = names; terms = terms; lines = lines }; kept = kept }
 
-same-editing : (a b : Editing) → a.instance.names ≡ b.instance.names
-    → a.instance.terms ≡ b.instance.terms → a.kept ≡ b.kept → a ≡ b
-same-editing a b names terms kept =
-    ap (λ n. editing n a.instance.terms a.kept) names
-    ∙ (ap (λ t. editing b.instance.names t a.kept) terms
-    ∙ ap (λ k. editing b.instance.names b.instance.terms k) kept)
+same-editing : (a b : Editing) → a.instance.version ≡ b.instance.version → a.instance.names ≡ b.instance.names
+    → a.instance.terms ≡ b.instance.terms → a.instance.lines ≡ b.instance.lines → a.kept ≡ b.kept → a ≡ b
+same-editing a b version names terms lines kept =
+    ap (λ v. editing v a.instance.names a.instance.terms a.instance.lines a.kept) version
+    ∙ (ap (λ n. editing b.instance.version n a.instance.terms a.instance.lines a.kept) names
+    ∙ (ap (λ t. editing b.instance.version b.instance.names t a.instance.lines a.kept) terms
+    ∙ (ap (λ l. editing b.instance.version b.instance.names b.instance.terms l a.kept) lines
+    ∙ ap (λ k. editing b.instance.version b.instance.names b.instance.terms b.instance.lines k) kept)))
 
 -- the reasons of the form are none that the frame tells, and of the end no more than that it is no edit
 pub edits-framed : (instance : InstanceData) → IsFramed (edits_form instance)
@@ -150,13 +153,13 @@ module _ (e : Editing) (rest : List (List ℕ)) where
     no-shape (inr (other, at, h)) = drop-no-add rest other at
 
     -- the token is the number of no line
-    pub drop-number : ((i : ℕ) → IsLineNumber (length e.instance.terms) text i → ⊥)
+    pub drop-number : ((i : ℕ) → IsLineNumber (length e.instance.lines) text i → ⊥)
         → IsFirstOf (HasEdit e (codes "drop" ∷ rest)) Number
     drop-number none = first_listed (HasEdit e (codes "drop" ∷ rest)) Number (inl (text, is, none))
         (before 4 (λ lt. no-shape) (λ lt. absurd (omega (arith, lt))))
 
     -- it is that of a line
-    taken : (i : ℕ) → IsLineNumber (length e.instance.terms) text i
+    taken : (i : ℕ) → IsLineNumber (length e.instance.lines) text i
         → IsEdited e (codes "drop" ∷ rest) (without_line e i)
     taken i number = record {
       good = λ reason. before 10 (λ lt. no-shape) (λ lt. no-number) reason (below reason);
@@ -174,11 +177,12 @@ module _ (e : Editing) (rest : List (List ℕ)) where
             (rw same at none) i number
         no-number (inr (other, at, h)) = drop-no-add rest other at
 
-    pub drop-taken : (i : ℕ) (f : Editing) → IsLineNumber (length e.instance.terms) text i
-        → f.instance.names ≡ e.instance.names → f.instance.terms ≡ remove e.instance.terms i
-        → f.kept ≡ remove e.kept i → IsEdited e (codes "drop" ∷ rest) f
-    drop-taken i f number names terms kept =
-        subst (IsEdited e (codes "drop" ∷ rest)) (sym (same-editing f (without_line e i) names terms kept)) (taken i number)
+    pub drop-taken : (i : ℕ) (f : Editing) → IsLineNumber (length e.instance.lines) text i
+        → f.instance.version ≡ e.instance.version → f.instance.names ≡ e.instance.names
+        → f.instance.terms ≡ without_terms e.instance.lines i e.instance.terms → f.instance.lines ≡ remove e.instance.lines i
+        → f.kept ≡ without_terms e.instance.lines i e.kept → IsEdited e (codes "drop" ∷ rest) f
+    drop-taken i f number version names terms lines kept =
+        subst (IsEdited e (codes "drop" ∷ rest)) (sym (same-editing f (without_line e i) version names terms lines kept)) (taken i number)
 
 -- ---- a line that begins with `add`, with a line of these bytes behind it
 

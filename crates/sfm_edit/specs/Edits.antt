@@ -1,8 +1,8 @@
 -- The text of edits of an instance: term lines are taken out by their numbers, and new ones added behind the others.
-use Rattle.std.specs.Prelude.{◌≡◌, ◌≢◌, ◌⊎◌, ℕ, ◌+◌, ◌<◌, List, [], ◌∷◌, ◌++◌, length, map, codes, Option, Some, None, pos}
+use Rattle.std.specs.Prelude.{◌≡◌, ◌≢◌, ◌⊎◌, ℕ, ◌+◌, ◌<◌, List, [], ◌∷◌, ◌++◌, length, map, suc, take, drop, codes, Option, Some, None, pos}
 use Rattle.std.specs.List.{remove, range_with_len}
 use Rattle.sfm_base.specs.NumberText.{IsNumber}
-use Rattle.sfm_kind.specs.Instance.{InstanceData}
+use Rattle.sfm_kind.specs.Instance.{InstanceData, terms_in}
 use Rattle.sfm_lines.specs.declared.reason.Reason.{Reason}
 use Rattle.sfm_lines.specs.declared.reason.Reason.TheVariants.{Word, Shape, Number}
 use Rattle.sfm_lines.specs.declared.stage.Stage.TheVariants.{Terms}
@@ -19,11 +19,15 @@ pub record Editing : Type 0 where
   pub instance : InstanceData
   pub kept : List (Option ℕ)
 
--- without term line i, counted from 0: its term is gone, and those behind it close up
+-- what is left of a list with an item for each term when those of line i are taken out
+abbrev pub without_terms : {X : Type 0} → List ℕ → ℕ → List X → List X
+without_terms lines i items = take (terms_in (take i lines)) items ++ drop (terms_in (take (suc i) lines)) items
+
+-- without term line i, counted from 0: its terms are gone, and those behind them close up
 abbrev pub without_line : Editing → ℕ → Editing
 without_line e i = record {
-  instance = record { names = e.instance.names; terms = remove e.instance.terms i };
-  kept = remove e.kept i;
+  instance = record e.instance { terms = without_terms e.instance.lines i e.instance.terms; lines = remove e.instance.lines i };
+  kept = without_terms e.instance.lines i e.kept;
 }
 
 -- the tokens are `drop` and one more, which is no mark
@@ -47,14 +51,14 @@ HasEdit e tokens Word = ((rest : List (List ℕ)) → tokens ≢ codes "drop" �
 HasEdit e tokens Shape = ((rest : List (List ℕ)) × (tokens ≡ codes "drop" ∷ rest)
     × ((text : List ℕ) → IsDrop tokens text → ⊥)) ⊎ HasAdded e.instance tokens Shape
 HasEdit e tokens Number = ((text : List ℕ) × IsDrop tokens text
-    × ((i : ℕ) → IsLineNumber (length e.instance.terms) text i → ⊥))
+    × ((i : ℕ) → IsLineNumber (length e.instance.lines) text i → ⊥))
     ⊎ HasAdded e.instance tokens Number
 HasEdit e tokens reason = HasAdded e.instance tokens reason
 
 -- `drop N` takes term line N out, counted from 1 in the list as it is then
 abbrev pub Drops : Editing → List (List ℕ) → Editing → Type 0
 Drops e tokens f = (text : List ℕ) × (i : ℕ) × IsDrop tokens text
-    × IsLineNumber (length e.instance.terms) text i × (f ≡ without_line e i)
+    × IsLineNumber (length e.instance.lines) text i × (f ≡ without_line e i)
 
 -- `add` and a term line adds its term behind the others
 abbrev pub AddsLine : Editing → List (List ℕ) → Editing → Type 0

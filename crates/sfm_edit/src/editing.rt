@@ -1,7 +1,8 @@
 // A text of edits, applied to an instance line by line. What stands behind `add` is read by the call that reads the term lines
 // of an instance text, so that a line is judged alike wherever it comes from; what stands behind `drop` is the number of a term
 // line in the list as it then is. Where a line is refused or memory is wanting, all is let go, so that nothing has to be undone.
-ghost use Rattle.std.specs.Prelude.{◌≡◌, ◌∷◌, ℕ, ◌+◌, ◌<◌, ◌≤◌, List, length, codes, pos, Any, IfOk, IfErr, MatchOption, MatchResult};
+ghost use Rattle.std.specs.Prelude.{◌≡◌, ◌∷◌, ℕ, ◌+◌, ◌<◌, ◌≤◌, List, length, take, codes, pos, Any, IfOk, IfErr, MatchOption, MatchResult};
+ghost use Rattle.sfm_kind.specs.Instance.{width_of, terms_in};
 ghost use Rattle.sfm_base.specs.NumberText.{IsNumber};
 ghost use Rattle.sfm_lines.specs.{Lines.{tokens_of}, Reading.{IsBadByte}};
 ghost use Rattle.sfm_text.specs.{Language.{text_limit, IsReadAs, IsRefusalIn}};
@@ -82,6 +83,29 @@ fn line_place(text: &[u8], count: usize) -> Option<usize>
     Some((number - 1) as usize)
 }
 
+/// How many terms a line of so many layers has.
+fn width(layers: usize) -> usize
+    ensures { result ≡ width_of layers }
+{
+    if layers == 0 {
+        return 1;
+    }
+    layers
+}
+
+/// How many terms stand before those of line i.
+fn terms_before(lines: &[usize], i: usize) -> usize
+    requires within { i ≤ length lines.now }
+    requires few { terms_in lines.now ≤ 16384 }
+    ensures { result ≡ terms_in (take i lines.now) }
+{
+    let mut before = 0;
+    for j in 0..i {
+        before += width(lines[j]);
+    }
+    before
+}
+
 /// Takes the term line out whose number stands in a line behind `drop`.
 fn take_drop(edited: &mut Edited, line: &[u8]) -> Result<(), LineEnd>
     requires count { length edited.old.kept ≡ length edited.old.instance.terms }
@@ -93,11 +117,15 @@ fn take_drop(edited: &mut Edited, line: &[u8]) -> Result<(), LineEnd>
     let Some(text) = only_token(line) else {
         return Err(LineEnd::Fault(Reason::Shape));
     };
-    let Some(i) = line_place(text, edited.instance.terms().len()) else {
+    let _terms = edited.instance.terms();
+    let lines = edited.instance.lines();
+    let Some(i) = line_place(text, lines.len()) else {
         return Err(LineEnd::Fault(Reason::Number));
     };
+    let first = terms_before(lines, i);
+    let count = width(lines[i]);
     edited.instance.drop_line(i);
-    edited.kept.remove(i);
+    edited.kept.remove_all(first, count);
     Ok(())
 }
 

@@ -15,8 +15,9 @@ pub fn one_edited_instance(_text: &[u8])
         → AllPairs (λ x y. x ≢ y) instance.names
         → IsReadAs (side_language (edits_form instance)) _text.now (ended a)
         → IsReadAs (side_language (edits_form instance)) _text.now (ended b)
-        → (a.instance.names ≡ b.instance.names)
-        × AllZip AreOneTerm a.instance.terms b.instance.terms × (a.kept ≡ b.kept) }
+        → (a.instance.version ≡ b.instance.version) × (a.instance.names ≡ b.instance.names)
+        × AllZip AreOneTerm a.instance.terms b.instance.terms
+        × (a.instance.lines ≡ b.instance.lines) × (a.kept ≡ b.kept) }
     ensures not_both { (instance : InstanceData) (a : Editing) (line : ℕ) (reason : Reason)
         → AllPairs (λ x y. x ≢ y) instance.names
         → IsReadAs (side_language (edits_form instance)) _text.now (ended a)

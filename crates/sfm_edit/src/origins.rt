@@ -1,6 +1,6 @@
 // Where the terms of an edited instance come from. As terms are added behind the others, and those behind one that is taken
 // out close up, the old ones stand first, in their old order.
-ghost use Rattle.std.specs.{Prelude.{◌≡◌, ◌<◌, [], ◌∷◌, ◌++◌, length, slice_index_or, is_ok, if◌then◌else◌, None, IfOk}, List.{remove}};
+ghost use Rattle.std.specs.Prelude.{◌≡◌, ◌+◌, ◌<◌, ◌≤◌, [], ◌∷◌, ◌++◌, length, take, drop, slice_index_or, is_ok, if◌then◌else◌, None, IfOk};
 ghost use Rattle.sfm_edit.specs.Origins.{all_kept};
 
 use sfm_base::Memory;
@@ -20,6 +20,17 @@ impl Model for Origins {
     ghost Value = { List (Option ℕ) };
 
     ghost view = { λ s. s.places.items };
+}
+
+/// Takes so many places out, from one on; those behind them close up.
+fn take_out(places: &mut Vec<Option<usize>>, first: usize, count: usize)
+    requires { first + count ≤ length places.old.items }
+    ensures { places.new.items ≡ take first places.old.items
+        ++ drop (first + count) places.old.items }
+{
+    for _taken in 0..count {
+        places.remove(first);
+    }
 }
 
 impl Origins {
@@ -57,11 +68,11 @@ impl Origins {
         Ok(())
     }
 
-    /// One term less, that at j; those behind it close up.
-    pub(crate) fn remove(&mut self, j: usize)
-        requires { j < length self.old }
-        ensures { self.new ≡ remove self.old j }
+    /// So many terms less, from one on; those behind them close up.
+    pub(crate) fn remove_all(&mut self, first: usize, count: usize)
+        requires { first + count ≤ length self.old }
+        ensures { self.new ≡ take first self.old ++ drop (first + count) self.old }
     {
-        self.places.remove(j);
+        take_out(&mut self.places, first, count);
     }
 }

@@ -131,7 +131,7 @@ groups-below values parts k same i d lt =
     rw (is, same) (members-below parts.elements (get_or parts.groups i []))
 
 -- and the groups are as a term takes them
-pub groups-sound : (values : List ℤ) (parts : LineParts) → length values ≡ length parts.groups + 1 → All (λ value. pos 0 ≤ℤ value) values → All (IsAtMost (10 ^ 12)) values → All IsGroup (groups_of values parts)
+pub groups-sound : (values : List ℤ) (parts : LineParts) → length values ≡ length parts.groups + 1 → All (λ value. pos 0 ≤ℤ value) values → All (IsAtMost (10 ^ 15)) values → All IsGroup (groups_of values parts)
 groups-sound values parts each low small i d lt =
     let m = length parts.groups in
     let f = λ (j : ℕ). group_of values parts j in

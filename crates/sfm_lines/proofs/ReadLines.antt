@@ -6,17 +6,18 @@ use Rattle.std.specs.List.{All}
 use Rattle.std.proofs.lemmas.List.{length-map, length-take, length-drop}
 use Rattle.std.proofs.lemmas.List.Elements.{All-map}
 use Rattle.sfm_spec.specs.Bounds.{IsAtMost}
+use Rattle.sfm_kind.specs.declared.version.Version.TheVariants.{Second}
 use Rattle.sfm_lines.specs.Parts.{LineParts, IsPairToken, IsSplitAt, IsColonLine, IsRankLine, IsUniformLine, IsLaminarLine, IsLabelToken, IsLabelledLine}
 use Rattle.sfm_lines.specs.CutParts.{AreCounts}
 use Rattle.sfm_lines.specs.Words.{lowest_of, HasParts}
-use Rattle.sfm_lines.specs.TermLines.{AreRead, IsNumberFrom}
+use Rattle.sfm_lines.specs.TermLines.{AreRead, IsNumberFor}
 use Rattle.sfm_lines.specs.ReadParts.{AreGiven}
 use Rattle.sfm_lines.specs.declared.word.RankKind.{RankKind}
 use Rattle.sfm_lines.specs.declared.word.RankKind.TheVariants.{UniformRank, LaminarRank, GraphicRank, TransversalRank}
 use Rattle.sfm_lines.specs.declared.word.TermWord.{TermWord}
 use Rattle.sfm_lines.specs.declared.word.TermWord.TheVariants.{WeightWord, CutWord, NeedWord, CoverWord, TableWord, ConcaveWord, RankWord}
 use Rattle.sfm_lines.proofs.Matches.{length-AllZip, All-AllZip}
-use Rattle.sfm_lines.proofs.Numbers.{small-number}
+use Rattle.sfm_lines.proofs.Numbers.{low-number, small-number}
 use Rattle.sfm_lines.proofs.Ranks.{IsLineOfRank, line-of-rank}
 
 -- a list of one and a list of two
@@ -25,7 +26,7 @@ one-value [] d h = absurd (omega (arith, h))
 one-value (a ∷ []) d h = refl
 one-value (a ∷ b ∷ values) d h = absurd (omega (arith, h))
 
-pub kept-value : (values : List ℤ) → length values ≡ 1 → All (IsAtMost (10 ^ 12)) values → to_z w128 (of_z w128 (get_or values 0 (pos 0))) ∷ [] ≡ values
+pub kept-value : (values : List ℤ) → length values ≡ 1 → All (IsAtMost (10 ^ 15)) values → to_z w128 (of_z w128 (get_or values 0 (pos 0))) ∷ [] ≡ values
 kept-value values one small =
     let s = small 0 (pos 0) (omega (arith, one)) in
     let kept : to_z w128 (of_z w128 (get_or values 0 (pos 0))) ≡ get_or values 0 (pos 0) = omega (arith, ints, s.low, s.high) in
@@ -84,7 +85,7 @@ some-element ConcaveWord numbers elements h = h.0
 some-element RankWord numbers elements h = h
 
 values-count : (word : TermWord) (parts : LineParts) (values : List ℤ) (places : List ℕ) → AreRead word parts values places → length values ≡ length parts.numbers
-values-count word parts values places h = length-AllZip (IsNumberFrom (lowest_of word)) parts.numbers values h.numbers
+values-count word parts values places h = length-AllZip (IsNumberFor h.version word) parts.numbers values h.numbers
 
 -- what has been read of a line is what its term takes
 pub given : (word : TermWord) (parts : LineParts) (values : List ℤ) (places : List ℕ) → AreRead word parts values places → AreGiven word values places
@@ -94,8 +95,8 @@ given word parts values places h =
     record {
       counts = counts;
       elements = record { some = omega (arith, some); placed = h.placed };
-      low = All-AllZip (IsNumberFrom (lowest_of word)) (λ value. lowest_of word ≤ℤ value) (λ text value n. n.1) parts.numbers values h.numbers;
-      small = All-AllZip (IsNumberFrom (lowest_of word)) (IsAtMost (10 ^ 12)) (small-number word) parts.numbers values h.numbers;
+      low = All-AllZip (IsNumberFor h.version word) (λ value. lowest_of Second word ≤ℤ value) (low-number h.version word) parts.numbers values h.numbers;
+      small = All-AllZip (IsNumberFor h.version word) (IsAtMost (10 ^ 15)) (small-number h.version word) parts.numbers values h.numbers;
     }
 
 module _ (parts : LineParts) (values : List ℤ) (places : List ℕ) (h : AreRead RankWord parts values places) where
@@ -152,10 +153,10 @@ two-of (a ∷ b ∷ []) d e h = refl
 two-of (a ∷ b ∷ c ∷ values) d e h = absurd (omega (arith, h))
 
 -- a number of the line is kept as it is
-pub kept-at : (values : List ℤ) (i : ℕ) → i < length values → All (IsAtMost (10 ^ 12)) values → to_z w128 (of_z w128 (get_or values i (pos 0))) ≡ get_or values i (pos 0)
+pub kept-at : (values : List ℤ) (i : ℕ) → i < length values → All (IsAtMost (10 ^ 15)) values → to_z w128 (of_z w128 (get_or values i (pos 0))) ≡ get_or values i (pos 0)
 kept-at values i lt small =
     let s = small i (pos 0) lt in
     omega (arith, ints, s.low, s.high)
 
-pub kept-two : (values : List ℤ) → length values ≡ 2 → All (IsAtMost (10 ^ 12)) values → to_z w128 (of_z w128 (get_or values 0 (pos 0))) ∷ to_z w128 (of_z w128 (get_or values 1 (pos 0))) ∷ [] ≡ values
+pub kept-two : (values : List ℤ) → length values ≡ 2 → All (IsAtMost (10 ^ 15)) values → to_z w128 (of_z w128 (get_or values 0 (pos 0))) ∷ to_z w128 (of_z w128 (get_or values 1 (pos 0))) ∷ [] ≡ values
 kept-two values two small = rw (kept-at values 0 (omega (arith, two)) small, kept-at values 1 (omega (arith, two)) small) (two-of values (pos 0) (pos 0) two)

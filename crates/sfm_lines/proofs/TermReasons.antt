@@ -18,8 +18,8 @@ use Rattle.sfm_lines.specs.declared.word.TermWord.{TermWord}
 use Rattle.sfm_lines.specs.declared.word.TermWord.TheVariants.{WeightWord, CutWord, NeedWord, CoverWord, TableWord, ConcaveWord, RankWord}
 use Rattle.sfm_lines.specs.Lines.{tokens_of}
 use Rattle.sfm_lines.specs.Parts.{LineParts}
-use Rattle.sfm_lines.specs.Words.{word_text, lowest_of, HasParts, BreaksLaw}
-use Rattle.sfm_lines.specs.TermLines.{IsNumberFrom, IsElement, StandsTwice}
+use Rattle.sfm_lines.specs.Words.{word_text, HasParts, BreaksLaw}
+use Rattle.sfm_lines.specs.TermLines.{IsNumberFor, IsElement, StandsTwice}
 use Rattle.sfm_lines.specs.Reading.{State, Has, HasStranger, HasWrongLabel, HasSlotTwice, FirstReason, reason_order}
 use Rattle.sfm_lines.specs.ReadParts.{state_at, IsPartsReason, IsLineOf, IsKnown, IsEntryLine}
 use Rattle.sfm_lines.proofs.WordLines.{of-term-line, not-end, shaped-here}
@@ -109,14 +109,14 @@ module _ (instance : InstanceData) (word : TermWord) (rest : List (List ℕ)) (l
     pub none-number : (reason : Reason) → reason_order reason < 4 → Has (state_at Terms instance) line reason → ⊥
     none-number = none-below (state_at Terms instance) line 4 (λ lt h. is.good_bytes h) (λ lt h. h.1 word rest is.tokens_are) (λ lt h. h.1 word rest parts (is.tokens_are, shape)) (λ lt. absurd (omega arith)) (λ lt. absurd (omega arith)) (λ lt. absurd (omega arith)) (λ lt. absurd (omega arith)) (λ lt. absurd (omega arith))
 
-    pub at-number : Any (λ text. (value : ℤ) → IsNumberFrom (lowest_of word) text value → ⊥) parts.numbers → FirstReason (state_at Terms instance) line Number
+    pub at-number : Any (λ text. (value : ℤ) → IsNumberFor instance.version word text value → ⊥) parts.numbers → FirstReason (state_at Terms instance) line Number
     at-number any = record { holds = (word, rest, parts, (is.tokens_are, shape), any); first = none-number }
 
-    module _ (values : List ℤ) (numbers : AllZip (IsNumberFrom (lowest_of word)) parts.numbers values) where
+    module _ (values : List ℤ) (numbers : AllZip (IsNumberFor instance.version word) parts.numbers values) where
       no-number : Has (state_at Terms instance) line Number → ⊥
       no-number h =
-          let (k, text, lt, e, wrong) = of-term-line word (tokens_of line) rest parts (λ word' rest' parts'. Any (λ text. (value : ℤ) → IsNumberFrom (lowest_of word') text value → ⊥) parts'.numbers) is.tokens_are shape h in
-          let (value, n) = AllZip-at (IsNumberFrom (lowest_of word)) parts.numbers values k text numbers lt in
+          let (k, text, lt, e, wrong) = of-term-line word (tokens_of line) rest parts (λ word' rest' parts'. Any (λ text. (value : ℤ) → IsNumberFor instance.version word' text value → ⊥) parts'.numbers) is.tokens_are shape h in
+          let (value, n) = AllZip-at (IsNumberFor instance.version word) parts.numbers values k text numbers lt in
           wrong value (rw e at n)
 
       -- the numbers are good
@@ -210,8 +210,8 @@ module _ (instance : InstanceData) (word : TermWord) (rest : List (List ℕ)) (l
           module _ (lawful : BreaksLaw word parts values → ⊥) where
             no-law : Has (state_at Terms instance) line Law → ⊥
             no-law h =
-                let (values', numbers', breaks) = of-term-line word (tokens_of line) rest parts (λ word' rest' parts'. (vs : List ℤ) × AllZip (IsNumberFrom (lowest_of word')) parts'.numbers vs × BreaksLaw word' parts' vs) is.tokens_are shape h in
-                let same : values' ≡ values = AllZip-same (IsNumberFrom (lowest_of word)) (from-same (lowest_of word)) parts.numbers values' values numbers' numbers in
+                let (values', numbers', breaks) = of-term-line word (tokens_of line) rest parts (λ word' rest' parts'. (vs : List ℤ) × AllZip (IsNumberFor instance.version word') parts'.numbers vs × BreaksLaw word' parts' vs) is.tokens_are shape h in
+                let same : values' ≡ values = AllZip-same (IsNumberFor instance.version word) (from-same instance.version word) parts.numbers values' values numbers' numbers in
                 lawful (rw same at breaks)
 
             -- the law is kept

@@ -6,6 +6,8 @@ use Rattle.sfm_spec.specs.Names.{IsName}
 use Rattle.sfm_kind.specs.Instance.{InstanceData}
 use Rattle.sfm_kind.specs.Meanings.{kind_places}
 use Rattle.sfm_kind.specs.declared.kind.Kind.{Kind}
+use Rattle.sfm_kind.specs.declared.version.Version.{Version}
+use Rattle.sfm_kind.specs.declared.version.Version.TheVariants.{Second}
 use Rattle.sfm_lines.specs.declared.reason.Reason.{Reason}
 use Rattle.sfm_lines.specs.declared.reason.Reason.TheVariants.{Name, Twice}
 use Rattle.sfm_lines.specs.declared.stage.Stage.{Stage}
@@ -19,7 +21,7 @@ use Rattle.sfm_lines.specs.Lines.{texts_of, text_lists_of, tokens_of}
 use Rattle.sfm_lines.specs.Parts.{LineParts, IsLabelledLine}
 use Rattle.sfm_lines.specs.CutParts.{AreCounts}
 use Rattle.sfm_lines.specs.Words.{word_text, lowest_of, BreaksLaw, IsMadeOf}
-use Rattle.sfm_lines.specs.TermLines.{AreRead, StandsFor, StandsTwice, IsNumberFrom, IsElement}
+use Rattle.sfm_lines.specs.TermLines.{AreRead, StandsFor, StandsTwice, IsNumberFor, IsElement}
 use Rattle.sfm_lines.specs.Reading.{State, IsBadByte, HasStranger, HasWrongLabel, Has, reason_order}
 
 -- the texts that labels point to
@@ -42,8 +44,8 @@ joined lists = flat_map (λ texts. texts) lists
 pub record AreGiven (word : TermWord) (values : List ℤ) (places : List ℕ) : Type 0 where
   pub counts : AreCounts word (length values) (length places)
   pub elements : AreElements places
-  pub low : All (λ value. lowest_of word ≤ℤ value) values
-  pub small : All (IsAtMost (10 ^ 12)) values
+  pub low : All (λ value. lowest_of Second word ≤ℤ value) values
+  pub small : All (IsAtMost (10 ^ 15)) values
 
 -- the parts of a line have been read that is none of a transversal rank, and has few labels
 pub record AreReady (word : TermWord) (parts : LineParts) (values : List ℤ) (places : List ℕ) : Type 0 where
@@ -86,9 +88,9 @@ abbrev pub bytes_in : List (List ℕ) → ℕ
 bytes_in [] = 0
 bytes_in (text ∷ texts) = length text + bytes_in texts
 
--- the state with that stage and the names and terms of an instance
+-- the state with that stage and what has been read into an instance
 abbrev pub state_at : Stage → InstanceData → State
-state_at stage instance = record { stage = stage; names = instance.names; terms = instance.terms }
+state_at stage instance = record { stage = stage; version = instance.version; names = instance.names; terms = instance.terms; lines = instance.lines }
 
 -- the line has these tokens, and no bad byte
 pub record IsLineOf (line : List ℕ) (tokens : List (List ℕ)) : Type 0 where
@@ -97,12 +99,12 @@ pub record IsLineOf (line : List ℕ) (tokens : List (List ℕ)) : Type 0 where
 
 -- the term of a line with this word and these tokens behind it, which has no reason but perhaps that there is too much
 pub record IsTermRead (instance : InstanceData) (word : TermWord) (rest : List (List ℕ)) (term : Kind) : Type 0 where
-  pub stands : StandsFor instance.names (word_text word ∷ rest) term
+  pub stands : StandsFor instance.version instance.names (word_text word ∷ rest) term
   pub good : (line : List ℕ) (reason : Reason) → IsLineOf line (word_text word ∷ rest) → reason_order reason < 8 → Has (state_at Terms instance) line reason → ⊥
 
 -- the text is that of a number of the line of that word
-abbrev pub IsNumberOf : TermWord → List ℕ → Type 0
-IsNumberOf word text = (value : ℤ) × IsNumberFrom (lowest_of word) text value
+abbrev pub IsNumberOf : Version → TermWord → List ℕ → Type 0
+IsNumberOf version word text = (value : ℤ) × IsNumberFor version word text value
 
 -- the text names an element of the ground
 abbrev pub IsKnown : List (List ℕ) → List ℕ → Type 0

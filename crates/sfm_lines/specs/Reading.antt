@@ -1,12 +1,15 @@
 -- The state in which a text is read, the reasons for which a line is refused in a state, and the states that a good line
 -- leads from and to.
-use Rattle.std.specs.Prelude.{◌≡◌, ◌≢◌, ◌⊎◌, ℕ, ◌<◌, ◌^◌, List, [], ◌∷◌, ◌++◌, length, codes, Any, Contains, ℤ, pos, ◌<ℤ◌}
+use Rattle.std.specs.Prelude.{◌≡◌, ◌≢◌, ◌⊎◌, ℕ, ◌+◌, ◌<◌, ◌≤◌, List, [], ◌∷◌, ◌++◌, length, codes, Any, Contains, None, ℤ, ◌+ℤ◌, ◌<ℤ◌}
 use Rattle.std.specs.List.{All, AllZip}
 use Rattle.sfm_spec.specs.Names.{IsName}
 use Rattle.sfm_spec.specs.Families.{Meaning}
 use Rattle.sfm_kind.specs.Instance.{support_of}
 use Rattle.sfm_kind.specs.Meanings.{total_by, IsMeaningOf}
+use Rattle.sfm_kind.specs.Layers.{Brings}
 use Rattle.sfm_kind.specs.declared.kind.Kind.{Kind}
+use Rattle.sfm_kind.specs.declared.version.Version.{Version}
+use Rattle.sfm_kind.specs.declared.version.Version.TheVariants.{First}
 use Rattle.sfm_lines.specs.declared.reason.Reason.{Reason}
 use Rattle.sfm_lines.specs.declared.reason.Reason.TheVariants.{Long, Bytes, Word, Shape, Number, Name, Twice, Law, Total, Short}
 use Rattle.sfm_lines.specs.declared.stage.Stage.{Stage}
@@ -18,18 +21,22 @@ use Rattle.sfm_lines.specs.declared.word.RankKind.TheVariants.{TransversalRank}
 use Rattle.sfm_lines.specs.declared.word.TermWord.{TermWord}
 use Rattle.sfm_lines.specs.Lines.{tokens_of}
 use Rattle.sfm_lines.specs.Parts.{LineParts, IsMark}
-use Rattle.sfm_lines.specs.Words.{word_text, lowest_of, BreaksLaw}
-use Rattle.sfm_lines.specs.TermLines.{IsShaped, IsNumberFrom, StandsTwice, StandsFor}
+use Rattle.sfm_lines.specs.Versions.{header_tokens, most_size}
+use Rattle.sfm_lines.specs.Words.{word_text, BreaksLaw}
+use Rattle.sfm_lines.specs.TermLines.{IsShaped, IsNumberFor, StandsTwice, StandsFor}
 
--- which line is due, the names of the ground, and the terms so far
+-- which line is due, the version, the names of the ground, the terms so far, and for each term line the number of its layers, 0 for a
+-- line of one plain term
 pub record State : Type 0 where
   pub stage : Stage
+  pub version : Version
   pub names : List (List ℕ)
   pub terms : List Kind
+  pub lines : List ℕ
 
 -- before the first content line
 abbrev pub start : State
-start = record { stage = Header; names = []; terms = [] }
+start = record { stage = Header; version = First; names = []; terms = []; lines = [] }
 
 -- the reasons, in their order on a line
 abbrev pub reasons : List Reason
@@ -56,9 +63,11 @@ abbrev pub HasSlotTwice : RankKind → List (List (List ℕ)) → Type 0
 HasSlotTwice TransversalRank labels = Any (λ slots. StandsTwice slots) labels
 HasSlotTwice _ labels = ⊥
 
--- more terms, places or sizes than a text may have in all; the size of a term is that of its meaning
-abbrev pub AreTooMuch : List Kind → Type 0
-AreTooMuch terms = (4096 < length terms) ⊎ (16384 < support_of terms) ⊎ ((meant : List Meaning) × AllZip IsMeaningOf terms meant × (pos (10 ^ 15) <ℤ total_by terms meant))
+-- with one more line, of so many places and that size, there are more lines, places or sizes than a text may have in all; the size of
+-- a term is that of its meaning
+abbrev pub AreTooMuch : Version → List ℕ → List Kind → ℕ → ℤ → Type 0
+AreTooMuch version lines terms places total = (4096 ≤ length lines) ⊎ (16384 < support_of terms + places)
+    ⊎ ((meant : List Meaning) × AllZip IsMeaningOf terms meant × (most_size version <ℤ (total_by terms meant +ℤ total)))
 
 -- a line with these tokens has that reason where the line of a stage is due. Word: the first token is none that may begin the line.
 -- Shape: the tokens do not fit the pattern of the line. Number: what stands in a number's place is no number, or one outside its
@@ -68,7 +77,7 @@ AreTooMuch terms = (4096 < length terms) ⊎ (16384 < support_of terms) ⊎ ((me
 -- much in all
 abbrev pub HasAt : Stage → State → List (List ℕ) → Reason → Type 0
 HasAt Header s tokens Word = (rest : List (List ℕ)) → tokens ≢ codes "sfm" ∷ rest
-HasAt Header s tokens Shape = tokens ≢ codes "sfm" ∷ codes "1" ∷ []
+HasAt Header s tokens Shape = (version : Version) → tokens ≢ header_tokens version
 HasAt Ground s tokens Word = (rest : List (List ℕ)) → tokens ≢ codes "ground" ∷ rest
 HasAt Ground s tokens Shape = Any IsMark tokens
 HasAt Ground s tokens Name = (rest : List (List ℕ)) × (tokens ≡ codes "ground" ∷ rest) × Any (λ text. IsName text → ⊥) rest
@@ -76,11 +85,12 @@ HasAt Ground s tokens Twice = (rest : List (List ℕ)) × (tokens ≡ codes "gro
 HasAt Ground s tokens Total = (rest : List (List ℕ)) × (tokens ≡ codes "ground" ∷ rest) × (256 < length rest)
 HasAt Terms s tokens Word = ((rest : List (List ℕ)) → tokens ≢ codes "end" ∷ rest) × ((word : TermWord) (rest : List (List ℕ)) → tokens ≢ word_text word ∷ rest)
 HasAt Terms s tokens Shape = (tokens ≢ codes "end" ∷ []) × ((word : TermWord) (rest : List (List ℕ)) (parts : LineParts) → IsShaped tokens word rest parts → ⊥)
-HasAt Terms s tokens Number = HasTermLine tokens (λ word rest parts. Any (λ text. (value : ℤ) → IsNumberFrom (lowest_of word) text value → ⊥) parts.numbers)
+HasAt Terms s tokens Number = HasTermLine tokens (λ word rest parts. Any (λ text. (value : ℤ) → IsNumberFor s.version word text value → ⊥) parts.numbers)
 HasAt Terms s tokens Name = HasTermLine tokens (λ word rest parts. Any (λ text. IsName text → Contains s.names text → ⊥) parts.elements ⊎ HasStranger parts ⊎ HasWrongLabel parts)
 HasAt Terms s tokens Twice = HasTermLine tokens (λ word rest parts. StandsTwice parts.elements ⊎ Any (λ names. StandsTwice names) parts.groups ⊎ HasSlotTwice parts.rank parts.labels)
-HasAt Terms s tokens Law = HasTermLine tokens (λ word rest parts. (values : List ℤ) × AllZip (IsNumberFrom (lowest_of word)) parts.numbers values × BreaksLaw word parts values)
-HasAt Terms s tokens Total = (term : Kind) × StandsFor s.names tokens term × AreTooMuch (s.terms ++ term ∷ [])
+HasAt Terms s tokens Law = HasTermLine tokens (λ word rest parts. (values : List ℤ) × AllZip (IsNumberFor s.version word) parts.numbers values × BreaksLaw word parts values)
+HasAt Terms s tokens Total = (term : Kind) × StandsFor s.version s.names tokens term
+    × ((places : ℕ) × (total : ℤ) × Brings term None places total × AreTooMuch s.version s.lines s.terms places total)
 HasAt Ended s tokens Word = Unit {0}
 HasAt _ s tokens reason = ⊥
 
@@ -96,15 +106,16 @@ pub record IsFirstReason (s : State) (line : List ℕ) (reason : Reason) : Type 
   pub holds : Has s line reason
   pub first : (before behind : List Reason) → reasons ≡ before ++ reason ∷ behind → All (λ earlier. Has s line earlier → ⊥) before
 
--- a term line adds its term
+-- a term line adds its term, and is a line without layers
 abbrev pub AddsTerm : State → List (List ℕ) → State → Type 0
-AddsTerm s tokens t = (term : Kind) × StandsFor s.names tokens term × (t ≡ record { stage = Terms; names = s.names; terms = s.terms ++ term ∷ [] })
+AddsTerm s tokens t = (term : Kind) × StandsFor s.version s.names tokens term
+    × (t ≡ record s { stage = Terms; terms = s.terms ++ term ∷ []; lines = s.lines ++ 0 ∷ [] })
 
 -- what a line with these tokens leads to
 abbrev pub Adds : Stage → State → List (List ℕ) → State → Type 0
-Adds Header s tokens t = t ≡ record { stage = Ground; names = s.names; terms = s.terms }
-Adds Ground s tokens t = (names : List (List ℕ)) × (tokens ≡ codes "ground" ∷ names) × (t ≡ record { stage = Terms; names = names; terms = [] })
-Adds Terms s tokens t = ((tokens ≡ codes "end" ∷ []) × (t ≡ record { stage = Ended; names = s.names; terms = s.terms })) ⊎ AddsTerm s tokens t
+Adds Header s tokens t = (version : Version) × (tokens ≡ header_tokens version) × (t ≡ record start { stage = Ground; version = version })
+Adds Ground s tokens t = (names : List (List ℕ)) × (tokens ≡ codes "ground" ∷ names) × (t ≡ record s { stage = Terms; names = names; terms = []; lines = [] })
+Adds Terms s tokens t = ((tokens ≡ codes "end" ∷ []) × (t ≡ record s { stage = Ended })) ⊎ AddsTerm s tokens t
 Adds Ended s tokens t = ⊥
 
 -- the line is good in the state s and leads to the state t

@@ -5,9 +5,11 @@ use Rattle.sfm_spec.specs.Terms.{IsSubmodular}
 use Rattle.sfm_spec.specs.Kinds.{table_value}
 use Rattle.sfm_concave.specs.ConcaveLaws.{RisesAt}
 use Rattle.sfm_kind.specs.declared.kind.Kind.{Kind}
+use Rattle.sfm_kind.specs.declared.version.Version.{Version}
 use Rattle.sfm_kind.specs.declared.kind.Kind.TheVariants.{Weight, Cut, Need, Cover, Table, Concave}
 use Rattle.sfm_lines.specs.declared.word.TermWord.{TermWord}
 use Rattle.sfm_lines.specs.declared.word.TermWord.TheVariants.{WeightWord, CutWord, NeedWord, CoverWord, TableWord, ConcaveWord, RankWord}
+use Rattle.sfm_lines.specs.Versions.{most_written}
 use Rattle.sfm_lines.specs.Parts.{LineParts, IsWeightLine, IsRankLine, IsColonLine, IsSplitAt}
 use Rattle.sfm_lines.specs.RankLines.{BreaksRankLaw, IsRankMadeOf}
 
@@ -22,11 +24,11 @@ word_text ConcaveWord = codes "concave"
 word_text RankWord = codes "rank"
 
 -- the least number that may stand in its line
-abbrev pub lowest_of : TermWord → ℤ
-lowest_of WeightWord = neg_ℤ (pos (10 ^ 12))
-lowest_of TableWord = neg_ℤ (pos (10 ^ 12))
-lowest_of ConcaveWord = neg_ℤ (pos (10 ^ 12))
-lowest_of _ = pos 0
+abbrev pub lowest_of : Version → TermWord → ℤ
+lowest_of version WeightWord = neg_ℤ (most_written version)
+lowest_of version TableWord = neg_ℤ (most_written version)
+lowest_of version ConcaveWord = neg_ℤ (most_written version)
+lowest_of version _ = pos 0
 
 -- the tokens behind the word have its shape and these parts: pairs; a number and two elements; two elements; a number and at least
 -- one element; numbers, a colon and elements, in the counts of a table or of a concave function; or the line of a rank

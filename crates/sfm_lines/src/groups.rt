@@ -113,7 +113,7 @@ fn line_groups(
 ) -> Result<Vec<CappedGroup>, AllocError>
     requires each { length values.now ≡ length (parts_of parts.now).groups + 1 }
     requires low { All (λ value. pos 0 ≤ℤ value) values.now }
-    requires small { All (IsAtMost (10 ^ 12)) values.now }
+    requires small { All (IsAtMost (10 ^ 15)) values.now }
     ensures { IfOk result (λ r. r.items ≡ least_groups
         (groups_of values.now (parts_of parts.now))) }
 {

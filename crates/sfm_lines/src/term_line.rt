@@ -1,7 +1,7 @@
 // Reading a term line: its parts are cut out by its word, and each kind of part is then read once for all words.
 ghost use Rattle.std.specs.{Prelude.{◌≡◌, ◌<◌, ◌↔◌, ◌∷◌, ◌^◌, ℕ, List, ℤ, pos, neg_ℤ, ◌≤ℤ◌, Any, IsTrue, IfOk, IfErr, MatchOption, Some, ◌≢◌, length}, List.{All, AllZip}};
-ghost use Rattle.sfm_kind.specs.{Instance.{InstanceData}, Names.{IsNewName, AreElementNames}};
-ghost use Rattle.sfm_lines.specs.{Lines.{texts_of}, Words.{HasParts, lowest_of, word_text}, TermLines.{IsNumberFrom, IsElement, StandsTwice}, Reading.{IsLineRefusal}, ReadParts.{bytes_in, state_at, ArePartsGood, IsPartsReason, IsLineOf, IsTermRead, IsNumberOf, IsKnown, IsEntryLine, parts_of, joined}, declared.stage.Stage.TheVariants.{Terms}, declared.word.RankKind.TheVariants.{TransversalRank}};
+ghost use Rattle.sfm_kind.specs.{Instance.{InstanceData}, Names.{IsNewName, AreElementNames}, declared.version.Version.{Version}};
+ghost use Rattle.sfm_lines.specs.{Lines.{texts_of}, Versions.{most_written}, Words.{HasParts, lowest_of, word_text}, TermLines.{IsNumberFor, IsElement, StandsTwice}, Reading.{IsLineRefusal}, ReadParts.{bytes_in, state_at, ArePartsGood, IsPartsReason, IsLineOf, IsTermRead, IsNumberOf, IsKnown, IsEntryLine, parts_of, joined}, declared.stage.Stage.TheVariants.{Terms}, declared.word.RankKind.TheVariants.{TransversalRank}};
 
 use crate::groups::{are_members, has_member_twice};
 use crate::labels::are_labels;
@@ -12,44 +12,65 @@ use crate::reason::Reason;
 use crate::terms::make_term;
 use crate::word::TermWord;
 use sfm_base::read_number;
-use sfm_kind::{Instance, Kind};
+use sfm_kind::{Instance, Kind, Version};
 use std::alloc::{AllocError, Global};
 
-/// The greatest number of an instance text.
-const HIGHEST: i128 = 1_000_000_000_000;
+/// The greatest number that may be written in a text of that version.
+fn highest_number(version: Version) -> i128
+    ensures most { result ≡ most_written version }
+    ensures low { pos 0 ≤ℤ result }
+    ensures small { result ≤ℤ pos (10 ^ 15) }
+{
+    match version {
+        Version::First => 1_000_000_000_000,
+        Version::Second => 1_000_000_000_000_000,
+    }
+}
 
-/// The least number that may stand in the line of a word.
-fn lowest_number(word: TermWord) -> i128
-    ensures least { result ≡ lowest_of word }
-    ensures small { neg_ℤ (pos (10 ^ 12)) ≤ℤ result }
+/// The least number that may stand in the line of a word, in a text of that version.
+fn lowest_number(version: Version, word: TermWord) -> i128
+    ensures least { result ≡ lowest_of version word }
+    ensures small { neg_ℤ (pos (10 ^ 15)) ≤ℤ result }
 {
     match word {
-        TermWord::WeightWord | TermWord::TableWord | TermWord::ConcaveWord => -HIGHEST,
+        TermWord::WeightWord | TermWord::TableWord | TermWord::ConcaveWord => {
+            -highest_number(version)
+        }
         TermWord::CutWord | TermWord::NeedWord | TermWord::CoverWord | TermWord::RankWord => 0,
     }
 }
 
-/// The number that a text is, or None where it is none or outside the range of the word's line.
-pub fn number_for(word: TermWord, text: &[u8]) -> Option<i128>
-    ensures { (value : ℤ) → (result ≡ Some value) ↔ IsNumberFrom (lowest_of word) text.now value }
+/// The number that a text is, or None where it is none or outside the range of the word's line in a text of that version.
+fn number_in(version: Version, word: TermWord, text: &[u8]) -> Option<i128>
+    ensures { (value : ℤ) → (result ≡ Some value) ↔ IsNumberFor version word text.now value }
 {
-    let lowest = lowest_number(word);
+    let lowest = lowest_number(version, word);
+    let highest = highest_number(version);
     let Some(value) = read_number(text) else {
         return None;
     };
-    if lowest <= value && value <= HIGHEST {
+    if lowest <= value && value <= highest {
         Some(value)
     } else {
         None
     }
 }
 
-/// The number that a text is, which is one in the range of the word's line.
-pub fn known_number(word: TermWord, text: &[u8]) -> i128
-    requires { IsNumberOf word text.now }
-    ensures { IsNumberFrom (lowest_of word) text.now result }
+/// The number that a text is, or None where it is none or outside the range of the word's line, in a text of the version of the
+/// instance.
+pub fn number_for(instance: &Instance, word: TermWord, text: &[u8]) -> Option<i128>
+    ensures { (value : ℤ) → (result ≡ Some value)
+        ↔ IsNumberFor instance.now.version word text.now value }
 {
-    let Some(value) = number_for(word, text) else {
+    number_in(instance.text_version(), word, text)
+}
+
+/// The number that a text is, which is one in the range of the word's line.
+pub fn known_number(instance: &Instance, word: TermWord, text: &[u8]) -> i128
+    requires { IsNumberOf instance.now.version word text.now }
+    ensures { IsNumberFor instance.now.version word text.now result }
+{
+    let Some(value) = number_for(instance, word, text) else {
         unreachable!();
     };
     value
@@ -58,17 +79,19 @@ pub fn known_number(word: TermWord, text: &[u8]) -> i128
 /// The numbers that the texts are, or None where one is none or outside the range of the word's line.
 fn read_numbers(
     alloc: Global,
+    instance: &Instance,
     word: TermWord,
     texts: &[&[u8]],
 ) -> Result<Option<Vec<i128>>, AllocError>
     ensures { IfOk result (λ r. MatchOption r
-        (Any (λ text. (value : ℤ) → IsNumberFrom (lowest_of word) text value → ⊥)
+        (Any (λ text. (value : ℤ) → IsNumberFor instance.now.version word text value → ⊥)
         (texts_of texts.now))
-        (λ values. AllZip (IsNumberFrom (lowest_of word)) (texts_of texts.now) values.items)) }
+        (λ values. AllZip (IsNumberFor instance.now.version word)
+        (texts_of texts.now) values.items)) }
 {
     let mut values = Vec::new(alloc);
     for text in texts {
-        let Some(value) = number_for(word, text) else {
+        let Some(value) = number_for(instance, word, text) else {
             return Ok(None);
         };
         values.push(value)?;
@@ -155,17 +178,19 @@ fn placed_term(
     places: &[usize],
 ) -> Result<Kind, LineEnd>
     requires shape { (rest : List (List ℕ)) × HasParts word rest (parts_of parts.now) }
-    requires numbers { AllZip (IsNumberFrom (lowest_of word))
+    requires numbers { (version : Version) × AllZip (IsNumberFor version word)
         (parts_of parts.now).numbers values.now }
     requires elements { (names : List (List ℕ)) × AreElementNames names
         × AllZip (IsElement names) (parts_of parts.now).elements places.now }
     requires other { (parts_of parts.now).rank ≢ TransversalRank }
     requires few { length (joined (parts_of parts.now).labels) < 2 ^ 24 }
     ensures read { (instance : InstanceData) → AreElementNames instance.names
+        → AllZip (IsNumberFor instance.version word) (parts_of parts.now).numbers values.now
         → AllZip (IsElement instance.names) (parts_of parts.now).elements places.now
         → IfOk result (λ term. (rest : List (List ℕ)) → HasParts word rest (parts_of parts.now)
         → IsTermRead instance word rest term) }
     ensures refused { (instance : InstanceData) → AreElementNames instance.names
+        → AllZip (IsNumberFor instance.version word) (parts_of parts.now).numbers values.now
         → AllZip (IsElement instance.names) (parts_of parts.now).elements places.now
         → IfErr result (λ e. (rest : List (List ℕ)) (line : List ℕ)
         → HasParts word rest (parts_of parts.now)
@@ -199,7 +224,7 @@ fn parts_term(
         → IsLineOf line (word_text word ∷ rest)
         → IsLineRefusal (state_at Terms instance.now) line e) }
 {
-    let Some(values) = read_numbers(alloc, word, &parts.numbers)? else {
+    let Some(values) = read_numbers(alloc, instance, word, &parts.numbers)? else {
         return Err(LineEnd::Fault(Reason::Number));
     };
     let Some(places) = read_places(alloc, instance, &parts.elements)? else {

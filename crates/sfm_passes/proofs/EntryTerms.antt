@@ -21,8 +21,7 @@ use Rattle.sfm_lines.specs.declared.word.TermWord.TheVariants.{RankWord}
 use Rattle.sfm_lines.specs.Parts.{LineParts, IsLabelToken, IsRankLine}
 use Rattle.sfm_lines.specs.CutParts.{labelled_parts_of}
 use Rattle.sfm_lines.specs.LabelTerms.{numbers_of}
-use Rattle.sfm_lines.specs.Words.{lowest_of}
-use Rattle.sfm_lines.specs.TermLines.{IsNumberFrom, IsElement, StandsTwice}
+use Rattle.sfm_lines.specs.TermLines.{IsNumberFor, IsElement, StandsTwice}
 use Rattle.sfm_lines.specs.ReadParts.{IsTermRead, joined, IsKnown, IsEntryLine}
 use Rattle.sfm_passes.specs.Passes.{Holds, IsReasonOf, RepeatsSlot, AreGoodEntries, AreFewEntries}
 use Rattle.sfm_passes.specs.GroupPasses.{IsToldBy}
@@ -62,7 +61,7 @@ entry-short i number behind few = long-shape i RankWord (number ∷ codes "trans
     omega (arith, few, ap length h.head.tokens_are, h.some))
 
 -- a slot stands twice in some entry
-pub entry-again : (i : InstanceData) (number colon : List ℕ) (tokens : List (List ℕ)) → 0 < length tokens → AreElementNames i.names → AreGoodEntries i.names TransversalRank number colon tokens → Any RepeatsSlot tokens
+pub entry-again : (i : InstanceData) (number colon : List ℕ) (tokens : List (List ℕ)) → 0 < length tokens → AreElementNames i.names → AreGoodEntries i TransversalRank number colon tokens → Any RepeatsSlot tokens
     → IsReasonOf i RankWord (number ∷ codes "transversal" ∷ colon ∷ tokens) Twice
 entry-again i number colon tokens some named good again =
     let (entries, each) = all-matched (IsLabelToken TransversalRank) tokens good.each in
@@ -86,7 +85,7 @@ fronts count entries is =
 
 -- ---- the term
 
-module _ (i : InstanceData) (number colon : List ℕ) (tokens : List (List ℕ)) (some : 0 < length tokens) (named : AreElementNames i.names) (good : AreFewEntries i.names number colon tokens)
+module _ (i : InstanceData) (number colon : List ℕ) (tokens : List (List ℕ)) (some : 0 < length tokens) (named : AreElementNames i.names) (good : AreFewEntries i number colon tokens)
     (entries : List (List ℕ × List (List ℕ))) (each : AllZip (IsLabelToken TransversalRank) tokens entries) where
   abbrev parts : LineParts
   parts = labelled_parts_of TransversalRank number entries
@@ -104,7 +103,7 @@ module _ (i : InstanceData) (number colon : List ℕ) (tokens : List (List ℕ))
   -- each element is one of the ground
   pub entry-known : All (IsKnown i.names) (map (λ entry. entry.0) entries)
   entry-known =
-      matched-all (IsLabelToken TransversalRank) (Holds i.names (LabelledElement TransversalRank)) (λ (entry : List ℕ × List (List ℕ)). entry.0) (Holds i.names Element)
+      matched-all (IsLabelToken TransversalRank) (Holds i (LabelledElement TransversalRank)) (λ (entry : List ℕ × List (List ℕ)). entry.0) (Holds i Element)
       (λ token entry p (other, q, element). let same : other ≡ entry = token-same TransversalRank token other entry q p in rw same at element) tokens entries each good.good.known
 
   pub entry-count : length entries ≡ length tokens
@@ -113,7 +112,7 @@ module _ (i : InstanceData) (number colon : List ℕ) (tokens : List (List ℕ))
   pub entry-few : (count : ℕ) → count ≡ length tokens → length (joined (map (λ entry. take count entry.1) entries)) < 2 ^ 24
   entry-few count is = omega (arith, is, good.few, entry-count, joined-front count entries (omega (arith, is, good.few)))
 
-  module _ (w : ℤ) (w_is : IsNumberFrom (lowest_of RankWord) number w) (places : List ℕ) (known : AllZip (IsElement i.names) (map (λ entry. entry.0) entries) places) where
+  module _ (w : ℤ) (w_is : IsNumberFor i.version RankWord number w) (places : List ℕ) (known : AllZip (IsElement i.names) (map (λ entry. entry.0) entries) places) where
     pub entry-places : length places ≡ length tokens
     entry-places = length-AllZip (IsElement i.names) (map (λ entry. entry.0) entries) places known ∙ (length-map entries (λ (entry : List ℕ × List (List ℕ)). entry.0) ∙ entry-count)
 

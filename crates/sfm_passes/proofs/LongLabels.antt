@@ -126,7 +126,7 @@ module _ (i : InstanceData) (rank : RankKind) (has : HasLabels rank) (number col
   pub labelled-colon : (colon ≢ codes ":") → IsReasonOf i RankWord (number ∷ label_word rank ∷ more) Shape
   labelled-colon other = long-shape i RankWord (number ∷ label_word rank ∷ more) (λ parts h. let (l, same) = labelled-same parts h in other same.1)
 
-  pub labelled-entry : Any (λ token. Holds i.names (Labelled rank) token → ⊥) tokens → IsReasonOf i RankWord (number ∷ label_word rank ∷ more) Shape
+  pub labelled-entry : Any (λ token. Holds i (Labelled rank) token → ⊥) tokens → IsReasonOf i RankWord (number ∷ label_word rank ∷ more) Shape
   labelled-entry any = long-shape i RankWord (number ∷ label_word rank ∷ more) (λ parts h. let (l, same) = labelled-same parts h in entry-none rank tokens l.behind l.entries same.2 l.each any)
 
   module _ (some : 0 < length tokens) (no_mark : IsMark number → ⊥) (is_colon : colon ≡ codes ":") (entries : List (List ℕ × List (List ℕ))) (each : AllZip (IsLabelToken rank) tokens entries) where
@@ -144,28 +144,28 @@ module _ (i : InstanceData) (rank : RankKind) (has : HasLabels rank) (number col
       parts_are = refl;
     })
 
-    pub labelled-number : (IsNumberOf RankWord number → ⊥) → IsReasonOf i RankWord (number ∷ label_word rank ∷ more) Number
-    labelled-number none = long-number i RankWord (number ∷ label_word rank ∷ more) labelled-parts labelled-line (any-here (λ text. IsNumberOf RankWord text → ⊥) number [] _ refl none)
+    pub labelled-number : (IsNumberOf i.version RankWord number → ⊥) → IsReasonOf i RankWord (number ∷ label_word rank ∷ more) Number
+    labelled-number none = long-number i RankWord (number ∷ label_word rank ∷ more) labelled-parts labelled-line (any-here (λ text. IsNumberOf i.version RankWord text → ⊥) number [] _ refl none)
 
-    module _ (good : IsNumberOf RankWord number) where
-      labelled-values : AreNumbers RankWord (number ∷ [])
+    module _ (good : IsNumberOf i.version RankWord number) where
+      labelled-values : AreNumbers i.version RankWord (number ∷ [])
       labelled-values = (good.0 ∷ [], (good.1, tt))
 
-      pub labelled-name : Any (λ token. Holds i.names (LabelledElement rank) token → ⊥) tokens → IsReasonOf i RankWord (number ∷ label_word rank ∷ more) Name
+      pub labelled-name : Any (λ token. Holds i (LabelledElement rank) token → ⊥) tokens → IsReasonOf i RankWord (number ∷ label_word rank ∷ more) Name
       labelled-name any = long-name i RankWord (number ∷ label_word rank ∷ more) labelled-parts labelled-line labelled-values
-          (matched-one (IsLabelToken rank) (λ token. Holds i.names (LabelledElement rank) token → ⊥) (λ (entry : List ℕ × List (List ℕ)). entry.0) (λ text. IsKnown i.names text → ⊥) (λ token entry p none known. none (entry, p, known)) tokens entries each any)
+          (matched-one (IsLabelToken rank) (λ token. Holds i (LabelledElement rank) token → ⊥) (λ (entry : List ℕ × List (List ℕ)). entry.0) (λ text. IsKnown i.names text → ⊥) (λ token entry p none known. none (entry, p, known)) tokens entries each any)
 
-      pub labelled-label : Any (Fails i.names (NamedLabels rank)) tokens → IsReasonOf i RankWord (number ∷ label_word rank ∷ more) Name
+      pub labelled-label : Any (Fails i (NamedLabels rank)) tokens → IsReasonOf i RankWord (number ∷ label_word rank ∷ more) Name
       labelled-label any = long-label i RankWord (number ∷ label_word rank ∷ more) labelled-parts labelled-line labelled-values
-          (matched-one (IsLabelToken rank) (Fails i.names (NamedLabels rank)) (λ (entry : List ℕ × List (List ℕ)). entry.1) (λ texts. Any (λ text. IsName text → ⊥) texts) (λ token entry p wrong. wrong entry p) tokens entries each any)
+          (matched-one (IsLabelToken rank) (Fails i (NamedLabels rank)) (λ (entry : List ℕ × List (List ℕ)). entry.1) (λ texts. Any (λ text. IsName text → ⊥) texts) (λ token entry p wrong. wrong entry p) tokens entries each any)
 
-      module _ (named : AreElementNames i.names) (known : All (Holds i.names (LabelledElement rank)) tokens) (names : All (Holds i.names (NamedLabels rank)) tokens) where
+      module _ (named : AreElementNames i.names) (known : All (Holds i (LabelledElement rank)) tokens) (names : All (Holds i (NamedLabels rank)) tokens) where
         elements-known : AreKnown i.names (map (λ entry. entry.0) entries)
-        elements-known = matched-each (IsLabelToken rank) (Holds i.names (LabelledElement rank)) (λ (entry : List ℕ × List (List ℕ)). entry.0) (IsElement i.names)
+        elements-known = matched-each (IsLabelToken rank) (Holds i (LabelledElement rank)) (λ (entry : List ℕ × List (List ℕ)). entry.0) (IsElement i.names)
             (λ token entry p (other, q, element). let same : other ≡ entry = token-same rank token other entry q p in rw same at element) tokens entries each known
 
         pub labels-named : All (λ texts. All IsName texts) (map (λ entry. entry.1) entries)
-        labels-named = matched-all (IsLabelToken rank) (Holds i.names (NamedLabels rank)) (λ (entry : List ℕ × List (List ℕ)). entry.1) (λ texts. All IsName texts)
+        labels-named = matched-all (IsLabelToken rank) (Holds i (NamedLabels rank)) (λ (entry : List ℕ × List (List ℕ)). entry.1) (λ texts. All IsName texts)
             (λ token entry p (other, q, good). let same : other ≡ entry = token-same rank token other entry q p in rw same at good) tokens entries each names
 
         pub labelled-twice : 256 < length tokens → IsReasonOf i RankWord (number ∷ label_word rank ∷ more) Twice
@@ -176,7 +176,7 @@ module _ (i : InstanceData) (rank : RankKind) (has : HasLabels rank) (number col
         labelled-slot again = long-slot i RankWord (number ∷ label_word rank ∷ more) labelled-parts labelled-line labelled-values named elements-known refl labels-named again
 
 -- elements with labels that have no reason before that something stands twice
-module _ (i : InstanceData) (rank : RankKind) (has : HasLabels rank) (number colon : List ℕ) (tokens more : List (List ℕ)) (is : more ≡ colon ∷ tokens) (some : 0 < length tokens) (named : AreElementNames i.names) (good : AreGoodEntries i.names rank number colon tokens) where
+module _ (i : InstanceData) (rank : RankKind) (has : HasLabels rank) (number colon : List ℕ) (tokens more : List (List ℕ)) (is : more ≡ colon ∷ tokens) (some : 0 < length tokens) (named : AreElementNames i.names) (good : AreGoodEntries i rank number colon tokens) where
   pub many-entries : 256 < length tokens → IsReasonOf i RankWord (number ∷ label_word rank ∷ more) Twice
   many-entries many =
       let (entries, each) = all-matched (IsLabelToken rank) tokens good.each in

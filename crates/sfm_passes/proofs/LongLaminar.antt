@@ -10,12 +10,11 @@ use Rattle.sfm_passes.specs.declared.group_test.GroupTest.TheVariants.{Whole, Ca
 use Rattle.sfm_lines.specs.declared.word.TermWord.TheVariants.{RankWord}
 use Rattle.sfm_lines.specs.Parts.{LineParts, IsMark, AreUnmarked, IsLaminarLine, IsRankLine}
 use Rattle.sfm_lines.specs.CutParts.{IsGroupCut, AreGroupsCut, cut_at_semicolons, laminar_parts_of}
-use Rattle.sfm_lines.specs.Words.{lowest_of}
-use Rattle.sfm_lines.specs.TermLines.{IsNumberFrom, IsElement, StandsTwice}
+use Rattle.sfm_lines.specs.TermLines.{IsNumberFor, IsElement, StandsTwice}
 use Rattle.sfm_lines.specs.Reading.{HasStranger}
 use Rattle.sfm_passes.specs.Passes.{Holds, IsReasonOf}
 use Rattle.sfm_lines.specs.ReadParts.{IsNumberOf}
-use Rattle.sfm_passes.specs.GroupPasses.{AreShapedGroups, GroupHolds, GroupFails, HasMembers, LacksMember, laminar_tokens}
+use Rattle.sfm_passes.specs.GroupPasses.{IsWhole, HasCap, IsOnce, AreShapedGroups, GroupFails, HasMembers, LacksMember, laminar_tokens}
 use Rattle.sfm_lines.proofs.Colons.{none-any}
 use Rattle.sfm_lines.proofs.GroupCuts.{group_tokens, groups-cut, groups-behind, groups-each}
 use Rattle.sfm_passes.proofs.LongRanks.{other-word}
@@ -53,7 +52,7 @@ laminar-short i number = long-shape i RankWord (number ∷ codes "laminar" ∷ [
     none parts (inr (inr (inr h))) = omega (arith, ap length h.head.tokens_are)
 
 -- some piece is none of a group
-piece-none : (pieces : List (List (List ℕ))) (groups : List (List ℕ × List (List ℕ))) → AllZip IsGroupCut pieces groups → Any (GroupFails Whole) pieces → ⊥
+piece-none : (pieces : List (List (List ℕ))) (groups : List (List ℕ × List (List ℕ))) → AllZip IsGroupCut pieces groups → Any (λ piece. IsWhole piece → ⊥) pieces → ⊥
 piece-none pieces groups each (k, piece, lt, e, none) =
     let (group, p) = AllZip-at IsGroupCut pieces groups k piece each lt in
     none (group, rw e at p)
@@ -81,7 +80,7 @@ module _ (i : InstanceData) (number : List ℕ) (elements behind : List (List �
   pub laminar-marked : Any IsMark elements → IsReasonOf i RankWord (laminar_tokens number behind) Shape
   laminar-marked any = long-shape i RankWord (laminar_tokens number behind) (λ parts line. let (h, first, same, each) = laminar-same parts line in none-any IsMark h.elements h.unmarked (rw same at any))
 
-  pub laminar-piece : Any (GroupFails Whole) pieces → IsReasonOf i RankWord (laminar_tokens number behind) Shape
+  pub laminar-piece : Any (GroupFails i.version Whole) pieces → IsReasonOf i RankWord (laminar_tokens number behind) Shape
   laminar-piece any = long-shape i RankWord (laminar_tokens number behind) (λ parts line. let (h, first, same, each) = laminar-same parts line in piece-none pieces h.groups each any)
 
   module _ (no_mark : IsMark number → ⊥) (some : 0 < length elements) (unmarked : AreUnmarked elements) (groups : List (List ℕ × List (List ℕ))) (each : AllZip IsGroupCut pieces groups) where
@@ -103,27 +102,27 @@ module _ (i : InstanceData) (number : List ℕ) (elements behind : List (List �
       parts_are = refl;
     }))
 
-    pub laminar-number : (IsNumberOf RankWord number → ⊥) → IsReasonOf i RankWord (laminar_tokens number behind) Number
-    laminar-number none = long-number i RankWord (laminar_tokens number behind) laminar-parts laminar-line (any-here (λ text. IsNumberOf RankWord text → ⊥) number (map (λ group. group.0) groups) _ refl none)
+    pub laminar-number : (IsNumberOf i.version RankWord number → ⊥) → IsReasonOf i RankWord (laminar_tokens number behind) Number
+    laminar-number none = long-number i RankWord (laminar_tokens number behind) laminar-parts laminar-line (any-here (λ text. IsNumberOf i.version RankWord text → ⊥) number (map (λ group. group.0) groups) _ refl none)
 
-    wrong-cap : Any (GroupFails Cap) pieces → Any (λ text. IsNumberOf RankWord text → ⊥) (map (λ group. group.0) groups)
-    wrong-cap any = matched-one IsGroupCut (GroupFails Cap) (λ (group : List ℕ × List (List ℕ)). group.0) (λ text. IsNumberOf RankWord text → ⊥)
+    wrong-cap : Any (GroupFails i.version Cap) pieces → Any (λ text. IsNumberOf i.version RankWord text → ⊥) (map (λ group. group.0) groups)
+    wrong-cap any = matched-one IsGroupCut (GroupFails i.version Cap) (λ (group : List ℕ × List (List ℕ)). group.0) (λ text. IsNumberOf i.version RankWord text → ⊥)
         (λ piece group p (cap, names, e, none).
         let both : cap ∷ names ≡ group.0 ∷ group.1 = sym e ∙ p.cut in
         let same : group.0 ≡ cap = cc in
         rw same none) pieces groups each any
 
-    pub laminar-cap : Any (GroupFails Cap) pieces → IsReasonOf i RankWord (laminar_tokens number behind) Number
-    laminar-cap any = long-number i RankWord (laminar_tokens number behind) laminar-parts laminar-line (any-behind (λ text. IsNumberOf RankWord text → ⊥) number (map (λ group. group.0) groups) _ refl (wrong-cap any))
+    pub laminar-cap : Any (GroupFails i.version Cap) pieces → IsReasonOf i RankWord (laminar_tokens number behind) Number
+    laminar-cap any = long-number i RankWord (laminar_tokens number behind) laminar-parts laminar-line (any-behind (λ text. IsNumberOf i.version RankWord text → ⊥) number (map (λ group. group.0) groups) _ refl (wrong-cap any))
 
-    module _ (good : IsNumberOf RankWord number) (caps : All (GroupHolds Cap) pieces) where
-      laminar-caps : (values : List ℤ) × AllZip (IsNumberFrom (lowest_of RankWord)) (map (λ group. group.0) groups) values
-      laminar-caps = matched-each IsGroupCut (GroupHolds Cap) (λ (group : List ℕ × List (List ℕ)). group.0) (IsNumberFrom (lowest_of RankWord)) (λ piece group p h. h group.0 group.1 p.cut) pieces groups each caps
+    module _ (good : IsNumberOf i.version RankWord number) (caps : All (HasCap i.version) pieces) where
+      laminar-caps : (values : List ℤ) × AllZip (IsNumberFor i.version RankWord) (map (λ group. group.0) groups) values
+      laminar-caps = matched-each IsGroupCut (HasCap i.version) (λ (group : List ℕ × List (List ℕ)). group.0) (IsNumberFor i.version RankWord) (λ piece group p h. h group.0 group.1 p.cut) pieces groups each caps
 
-      laminar-values : AreNumbers RankWord (number ∷ map (λ group. group.0) groups)
+      laminar-values : AreNumbers i.version RankWord (number ∷ map (λ group. group.0) groups)
       laminar-values = (good.0 ∷ laminar-caps.0, (good.1, laminar-caps.1))
 
-      pub laminar-name : Any (λ token. Holds i.names Element token → ⊥) elements → IsReasonOf i RankWord (laminar_tokens number behind) Name
+      pub laminar-name : Any (λ token. Holds i Element token → ⊥) elements → IsReasonOf i RankWord (laminar_tokens number behind) Name
       laminar-name any = long-name i RankWord (laminar_tokens number behind) laminar-parts laminar-line laminar-values any
 
       strange : Any (LacksMember elements) pieces → HasStranger laminar-parts
@@ -136,25 +135,25 @@ module _ (i : InstanceData) (number : List ℕ) (elements behind : List (List �
       pub laminar-stranger : Any (LacksMember elements) pieces → IsReasonOf i RankWord (laminar_tokens number behind) Name
       laminar-stranger any = long-stranger i RankWord (laminar_tokens number behind) laminar-parts laminar-line laminar-values (strange any)
 
-      module _ (named : AreElementNames i.names) (known : All (Holds i.names Element) elements) (members : All (HasMembers elements) pieces) where
+      module _ (named : AreElementNames i.names) (known : All (Holds i Element) elements) (members : All (HasMembers elements) pieces) where
         pub members-named : All (λ names. All (Contains elements) names) (map (λ group. group.1) groups)
         members-named = matched-all IsGroupCut (HasMembers elements) (λ (group : List ℕ × List (List ℕ)). group.1) (λ names. All (Contains elements) names) (λ piece group p h. h group.0 group.1 p.cut) pieces groups each members
 
         pub laminar-twice : StandsTwice elements → IsReasonOf i RankWord (laminar_tokens number behind) Twice
         laminar-twice twice = long-element i RankWord (laminar_tokens number behind) laminar-parts laminar-line laminar-values named (all-matched (IsElement i.names) elements known) members-named (All-nil _) twice
 
-        again : Any (GroupFails Once) pieces → Any (λ names. StandsTwice names) (map (λ group. group.1) groups)
-        again any = matched-one IsGroupCut (GroupFails Once) (λ (group : List ℕ × List (List ℕ)). group.1) (λ names. StandsTwice names)
+        again : Any (GroupFails i.version Once) pieces → Any (λ names. StandsTwice names) (map (λ group. group.1) groups)
+        again any = matched-one IsGroupCut (GroupFails i.version Once) (λ (group : List ℕ × List (List ℕ)). group.1) (λ names. StandsTwice names)
             (λ piece group p (cap, names, e, twice).
             let both : cap ∷ names ≡ group.0 ∷ group.1 = sym e ∙ p.cut in
             let same : group.1 ≡ names = cc in
             rw same twice) pieces groups each any
 
-        pub laminar-again : Any (GroupFails Once) pieces → IsReasonOf i RankWord (laminar_tokens number behind) Twice
+        pub laminar-again : Any (GroupFails i.version Once) pieces → IsReasonOf i RankWord (laminar_tokens number behind) Twice
         laminar-again any = long-member i RankWord (laminar_tokens number behind) laminar-parts laminar-line laminar-values named (all-matched (IsElement i.names) elements known) members-named (All-nil _) (again any)
 
 -- what the pieces are tried for last tells whether the line has its shape
-pub shaped-by : (number : List ℕ) (elements : List (List ℕ)) (pieces : List (List (List ℕ))) → (IsMark number → ⊥) → 0 < length elements → AreUnmarked elements → (r : Bool) → MatchBool r (All (GroupHolds Whole) pieces) (Any (GroupFails Whole) pieces)
-    → MatchBool r (AreShapedGroups number elements pieces) ((i : InstanceData) (behind : List (List ℕ)) → cut_at_semicolons behind ≡ elements ∷ pieces → IsReasonOf i RankWord (laminar_tokens number behind) Shape)
-shaped-by number elements pieces no_mark some unmarked true whole = record { no_mark = no_mark; some = some; unmarked = unmarked; whole = whole }
-shaped-by number elements pieces no_mark some unmarked false any = λ i behind is. laminar-piece i number elements behind pieces is any
+pub shaped-by : (i : InstanceData) (number : List ℕ) (elements : List (List ℕ)) (pieces : List (List (List ℕ))) → (IsMark number → ⊥) → 0 < length elements → AreUnmarked elements → (r : Bool) → MatchBool r (All IsWhole pieces) (Any (λ piece. IsWhole piece → ⊥) pieces)
+    → MatchBool r (AreShapedGroups number elements pieces) ((behind : List (List ℕ)) → cut_at_semicolons behind ≡ elements ∷ pieces → IsReasonOf i RankWord (laminar_tokens number behind) Shape)
+shaped-by i number elements pieces no_mark some unmarked true whole = record { no_mark = no_mark; some = some; unmarked = unmarked; whole = whole }
+shaped-by i number elements pieces no_mark some unmarked false any = λ behind is. laminar-piece i number elements behind pieces is any

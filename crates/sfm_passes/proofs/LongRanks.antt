@@ -85,13 +85,13 @@ module _ (i : InstanceData) (number cap colon : List ℕ) (elements more : List 
       parts_are = refl;
     })
 
-    pub uniform-first : (IsNumberOf RankWord number → ⊥) → IsReasonOf i RankWord (number ∷ codes "uniform" ∷ more) Number
-    uniform-first none = long-number i RankWord (number ∷ codes "uniform" ∷ more) uniform-parts uniform-line (any-here (λ text. IsNumberOf RankWord text → ⊥) number (cap ∷ []) _ refl none)
+    pub uniform-first : (IsNumberOf i.version RankWord number → ⊥) → IsReasonOf i RankWord (number ∷ codes "uniform" ∷ more) Number
+    uniform-first none = long-number i RankWord (number ∷ codes "uniform" ∷ more) uniform-parts uniform-line (any-here (λ text. IsNumberOf i.version RankWord text → ⊥) number (cap ∷ []) _ refl none)
 
-    pub uniform-second : (IsNumberOf RankWord cap → ⊥) → IsReasonOf i RankWord (number ∷ codes "uniform" ∷ more) Number
-    uniform-second none = long-number i RankWord (number ∷ codes "uniform" ∷ more) uniform-parts uniform-line (any-behind (λ text. IsNumberOf RankWord text → ⊥) number (cap ∷ []) _ refl (any-here (λ text. IsNumberOf RankWord text → ⊥) cap [] _ refl none))
+    pub uniform-second : (IsNumberOf i.version RankWord cap → ⊥) → IsReasonOf i RankWord (number ∷ codes "uniform" ∷ more) Number
+    uniform-second none = long-number i RankWord (number ∷ codes "uniform" ∷ more) uniform-parts uniform-line (any-behind (λ text. IsNumberOf i.version RankWord text → ⊥) number (cap ∷ []) _ refl (any-here (λ text. IsNumberOf i.version RankWord text → ⊥) cap [] _ refl none))
 
-    pub uniform-many : IsNumberOf RankWord number → IsNumberOf RankWord cap → HasTooMany RankWord (number ∷ codes "uniform" ∷ more) elements
+    pub uniform-many : IsNumberOf i.version RankWord number → IsNumberOf i.version RankWord cap → HasTooMany i.version RankWord (number ∷ codes "uniform" ∷ more) elements
     uniform-many good fits = record {
       parts = uniform-parts;
       shape = uniform-line;

@@ -7,14 +7,15 @@ use Rattle.std.proofs.lemmas.List.Elements.{All-nil}
 use Rattle.sfm_spec.specs.Names.{IsName}
 use Rattle.sfm_kind.specs.Names.{AreElementNames}
 use Rattle.sfm_kind.specs.Instance.{InstanceData}
+use Rattle.sfm_kind.specs.declared.version.Version.{Version}
 use Rattle.sfm_lines.specs.declared.reason.Reason.TheVariants.{Shape, Number, Name, Twice}
 use Rattle.sfm_passes.specs.declared.token_test.TokenTest.TheVariants.{Pair, PairNumber, PairElement, Value, Element}
 use Rattle.sfm_lines.specs.declared.word.TermWord.{TermWord}
 use Rattle.sfm_lines.specs.declared.word.TermWord.TheVariants.{WeightWord, CoverWord, ConcaveWord, CutWord, NeedWord, TableWord}
 use Rattle.sfm_lines.specs.Parts.{LineParts, plain_parts, IsMark, AreUnmarked, IsPairToken, IsWeightLine, IsCutAtColon, IsColonLine}
 use Rattle.sfm_lines.specs.CutParts.{AreCounts}
-use Rattle.sfm_lines.specs.Words.{lowest_of, HasParts}
-use Rattle.sfm_lines.specs.TermLines.{IsNumberFrom, IsElement, StandsTwice}
+use Rattle.sfm_lines.specs.Words.{HasParts}
+use Rattle.sfm_lines.specs.TermLines.{IsNumberFor, IsElement, StandsTwice}
 use Rattle.sfm_lines.specs.Reading.{HasStranger, HasWrongLabel, HasSlotTwice}
 use Rattle.sfm_passes.specs.Passes.{Holds, IsReasonOf, HasTooMany}
 use Rattle.sfm_lines.specs.ReadParts.{IsNumberOf, IsKnown}
@@ -25,9 +26,9 @@ use Rattle.sfm_passes.proofs.Passed.{any-here, all-matched, matched-each, matche
 use Rattle.sfm_lines.proofs.TermReasons.{at-shape, at-number, at-name, at-label, at-stranger, at-twice, at-member-twice, at-slot-twice, twice-texts}
 use Rattle.sfm_lines.proofs.WordLines.{pair-same}
 
--- texts that are numbers of the word's line, and texts that name elements
-abbrev pub AreNumbers : TermWord → List (List ℕ) → Type 0
-AreNumbers word texts = (values : List ℤ) × AllZip (IsNumberFrom (lowest_of word)) texts values
+-- texts that are numbers of the word's line in a text of that version, and texts that name elements
+abbrev pub AreNumbers : Version → TermWord → List (List ℕ) → Type 0
+AreNumbers version word texts = (values : List ℤ) × AllZip (IsNumberFor version word) texts values
 
 abbrev pub AreKnown : List (List ℕ) → List (List ℕ) → Type 0
 AreKnown names texts = (places : List ℕ) × AllZip (IsElement names) texts places
@@ -37,10 +38,10 @@ module _ (i : InstanceData) (word : TermWord) (rest : List (List ℕ)) where
   long-shape none = λ line is. at-shape i word rest line is none
 
   module _ (parts : LineParts) (shape : HasParts word rest parts) where
-    pub long-number : Any (λ text. IsNumberOf word text → ⊥) parts.numbers → IsReasonOf i word rest Number
+    pub long-number : Any (λ text. IsNumberOf i.version word text → ⊥) parts.numbers → IsReasonOf i word rest Number
     long-number (k, text, lt, e, none) = λ line is. at-number i word rest line is parts shape (k, text, lt, e, λ value h. none (value, h))
 
-    module _ (numbers : AreNumbers word parts.numbers) where
+    module _ (numbers : AreNumbers i.version word parts.numbers) where
       pub long-name : Any (λ text. IsKnown i.names text → ⊥) parts.elements → IsReasonOf i word rest Name
       long-name (k, text, lt, e, none) = λ line is. at-name i word rest line is parts shape numbers.0 numbers.1 (k, text, lt, e, unknown-new i.names text none)
 
@@ -65,11 +66,11 @@ module _ (i : InstanceData) (word : TermWord) (rest : List (List ℕ)) where
       long-member named (places, known) members labels twice = λ line is. at-member-twice i word rest line is parts shape numbers.0 numbers.1 places named known members labels twice
 
 -- a line with numbers and too many elements
-module _ (i : InstanceData) (word : TermWord) (rest elements : List (List ℕ)) (h : HasTooMany word rest elements) where
-  pub too-many-name : Any (λ token. Holds i.names Element token → ⊥) elements → IsReasonOf i word rest Name
+module _ (i : InstanceData) (word : TermWord) (rest elements : List (List ℕ)) (h : HasTooMany i.version word rest elements) where
+  pub too-many-name : Any (λ token. Holds i Element token → ⊥) elements → IsReasonOf i word rest Name
   too-many-name any = long-name i word rest h.parts h.shape (h.numbers, h.are_numbers) (rw h.elements_are any)
 
-  pub too-many-twice : AreElementNames i.names → All (Holds i.names Element) elements → IsReasonOf i word rest Twice
+  pub too-many-twice : AreElementNames i.names → All (Holds i Element) elements → IsReasonOf i word rest Twice
   too-many-twice named known = long-twice i word rest h.parts h.shape (h.numbers, h.are_numbers) named (rw h.elements_are (all-matched (IsElement i.names) elements known)) h.no_groups (rw h.no_labels (All-nil _)) (rw h.elements_are h.many)
 
 -- ---- lines with few tokens
@@ -88,8 +89,8 @@ no-table tokens long parts h =
 -- ---- weights
 
 -- some token is no pair
-pub no-weight : (names tokens : List (List ℕ)) → Any (λ token. Holds names Pair token → ⊥) tokens → (parts : LineParts) → IsWeightLine tokens parts → ⊥
-no-weight names tokens (k, token, lt, e, none) parts h =
+pub no-weight : (i : InstanceData) (tokens : List (List ℕ)) → Any (λ token. Holds i Pair token → ⊥) tokens → (parts : LineParts) → IsWeightLine tokens parts → ⊥
+no-weight i tokens (k, token, lt, e, none) parts h =
     let (pair, p) = AllZip-at IsPairToken tokens h.pairs k token h.each lt in
     none (pair, rw e at p)
 
@@ -97,22 +98,22 @@ module _ (i : InstanceData) (tokens : List (List ℕ)) (long : 1024 < length tok
   weight-line : IsWeightLine tokens (plain_parts (map (λ pair. pair.1) pairs) (map (λ pair. pair.0) pairs))
   weight-line = record { pairs = pairs; some = omega (arith, long); each = each; parts_are = refl }
 
-  pub weight-number : Any (λ token. Holds i.names PairNumber token → ⊥) tokens → IsReasonOf i WeightWord tokens Number
+  pub weight-number : Any (λ token. Holds i PairNumber token → ⊥) tokens → IsReasonOf i WeightWord tokens Number
   weight-number any = long-number i WeightWord tokens (plain_parts (map (λ pair. pair.1) pairs) (map (λ pair. pair.0) pairs)) weight-line
-      (matched-one IsPairToken (λ token. Holds i.names PairNumber token → ⊥) (λ (pair : List ℕ × List ℕ). pair.1) (λ text. IsNumberOf WeightWord text → ⊥) (λ token pair p none number. none (pair, p, number)) tokens pairs each any)
+      (matched-one IsPairToken (λ token. Holds i PairNumber token → ⊥) (λ (pair : List ℕ × List ℕ). pair.1) (λ text. IsNumberOf i.version WeightWord text → ⊥) (λ token pair p none number. none (pair, p, number)) tokens pairs each any)
 
-  module _ (numbers : All (Holds i.names PairNumber) tokens) where
-    weight-values : AreNumbers WeightWord (map (λ pair. pair.1) pairs)
-    weight-values = matched-each IsPairToken (Holds i.names PairNumber) (λ (pair : List ℕ × List ℕ). pair.1) (IsNumberFrom (lowest_of WeightWord))
+  module _ (numbers : All (Holds i PairNumber) tokens) where
+    weight-values : AreNumbers i.version WeightWord (map (λ pair. pair.1) pairs)
+    weight-values = matched-each IsPairToken (Holds i PairNumber) (λ (pair : List ℕ × List ℕ). pair.1) (IsNumberFor i.version WeightWord)
         (λ token pair p (other, q, number). let same : other ≡ pair = pair-same token other pair q p in rw same at number) tokens pairs each numbers
 
-    pub weight-name : Any (λ token. Holds i.names PairElement token → ⊥) tokens → IsReasonOf i WeightWord tokens Name
+    pub weight-name : Any (λ token. Holds i PairElement token → ⊥) tokens → IsReasonOf i WeightWord tokens Name
     weight-name any = long-name i WeightWord tokens (plain_parts (map (λ pair. pair.1) pairs) (map (λ pair. pair.0) pairs)) weight-line weight-values
-        (matched-one IsPairToken (λ token. Holds i.names PairElement token → ⊥) (λ (pair : List ℕ × List ℕ). pair.0) (λ text. IsKnown i.names text → ⊥) (λ token pair p none known. none (pair, p, known)) tokens pairs each any)
+        (matched-one IsPairToken (λ token. Holds i PairElement token → ⊥) (λ (pair : List ℕ × List ℕ). pair.0) (λ text. IsKnown i.names text → ⊥) (λ token pair p none known. none (pair, p, known)) tokens pairs each any)
 
-    pub weight-twice : AreElementNames i.names → All (Holds i.names PairElement) tokens → IsReasonOf i WeightWord tokens Twice
+    pub weight-twice : AreElementNames i.names → All (Holds i PairElement) tokens → IsReasonOf i WeightWord tokens Twice
     weight-twice named elements = long-twice i WeightWord tokens (plain_parts (map (λ pair. pair.1) pairs) (map (λ pair. pair.0) pairs)) weight-line weight-values named
-        (matched-each IsPairToken (Holds i.names PairElement) (λ (pair : List ℕ × List ℕ). pair.0) (IsElement i.names)
+        (matched-each IsPairToken (Holds i PairElement) (λ (pair : List ℕ × List ℕ). pair.0) (IsElement i.names)
         (λ token pair p (other, q, known). let same : other ≡ pair = pair-same token other pair q p in rw same at known) tokens pairs each elements)
         refl (All-nil _) (omega (arith, long, length-map pairs (λ (pair : List ℕ × List ℕ). pair.0), length-AllZip IsPairToken tokens pairs each))
 
@@ -125,10 +126,10 @@ module _ (i : InstanceData) (tokens : List (List ℕ)) (long : 1024 < length tok
   cover-line : HasParts CoverWord tokens (plain_parts (number ∷ []) elements)
   cover-line = (omega (arith, long), record { unmarked = unmarked; parts_are = rw cut refl })
 
-  pub cover-number : (IsNumberOf CoverWord number → ⊥) → IsReasonOf i CoverWord tokens Number
-  cover-number none = long-number i CoverWord tokens (plain_parts (number ∷ []) elements) cover-line (any-here (λ text. IsNumberOf CoverWord text → ⊥) number [] _ refl none)
+  pub cover-number : (IsNumberOf i.version CoverWord number → ⊥) → IsReasonOf i CoverWord tokens Number
+  cover-number none = long-number i CoverWord tokens (plain_parts (number ∷ []) elements) cover-line (any-here (λ text. IsNumberOf i.version CoverWord text → ⊥) number [] _ refl none)
 
-  pub cover-many : IsNumberOf CoverWord number → HasTooMany CoverWord tokens elements
+  pub cover-many : IsNumberOf i.version CoverWord number → HasTooMany i.version CoverWord tokens elements
   cover-many good = record {
     parts = plain_parts (number ∷ []) elements;
     shape = cover-line;
@@ -158,12 +159,12 @@ module _ (i : InstanceData) (tokens : List (List ℕ)) (long : 1024 < length tok
   concave-front : take (length before) tokens ≡ before
   concave-front = rw (cut.cut) (front-is before (codes ":" ∷ behind))
 
-  pub concave-number : Any (λ token. Holds i.names Value token → ⊥) (take (length before) tokens) → IsReasonOf i ConcaveWord tokens Number
+  pub concave-number : Any (λ token. Holds i Value token → ⊥) (take (length before) tokens) → IsReasonOf i ConcaveWord tokens Number
   concave-number any = long-number i ConcaveWord tokens (plain_parts before behind) concave-line (rw concave-front at any)
 
-  pub concave-many : All (Holds i.names Value) (take (length before) tokens) → HasTooMany ConcaveWord tokens behind
+  pub concave-many : All (Holds i Value) (take (length before) tokens) → HasTooMany i.version ConcaveWord tokens behind
   concave-many good =
-      let values : AreNumbers ConcaveWord before = all-matched (IsNumberFrom (lowest_of ConcaveWord)) before (rw concave-front at good) in
+      let values : AreNumbers i.version ConcaveWord before = all-matched (IsNumberFor i.version ConcaveWord) before (rw concave-front at good) in
       record {
         parts = plain_parts before behind;
         shape = concave-line;

@@ -5,6 +5,7 @@ use Rattle.std.specs.List.{All}
 use Rattle.sfm_spec.specs.Kinds.{Group}
 use Rattle.sfm_kind.specs.Instance.{InstanceData}
 use Rattle.sfm_kind.specs.declared.kind.Kind.{Kind}
+use Rattle.sfm_kind.specs.declared.version.Version.{Version}
 use Rattle.sfm_lines.specs.declared.line_fault.LineEnd.{LineEnd}
 use Rattle.sfm_lines.specs.declared.stage.Stage.TheVariants.{Terms}
 use Rattle.sfm_lines.specs.declared.word.TermWord.{TermWord}
@@ -16,8 +17,8 @@ use Rattle.sfm_lines.specs.Lines.{tokens_of}
 use Rattle.sfm_lines.specs.Parts.{IsMark, AreUnmarked}
 use Rattle.sfm_lines.specs.CutParts.{IsGroupCut, is_semicolon, cut_at_semicolons}
 use Rattle.sfm_lines.specs.RankLines.{members_of}
-use Rattle.sfm_lines.specs.Words.{word_text, lowest_of}
-use Rattle.sfm_lines.specs.TermLines.{IsNumberFrom, StandsTwice}
+use Rattle.sfm_lines.specs.Words.{word_text}
+use Rattle.sfm_lines.specs.TermLines.{IsNumberFor, StandsTwice}
 use Rattle.sfm_lines.specs.Reading.{IsLineRefusal}
 use Rattle.sfm_lines.specs.ReadParts.{state_at, IsLineOf, IsTermRead, IsNumberOf}
 use Rattle.sfm_passes.specs.Passes.{Holds}
@@ -40,17 +41,29 @@ OfGroup P piece = (cap : List ℕ) (names : List (List ℕ)) → piece ≡ cap �
 abbrev pub SomeGroup : (List ℕ → List (List ℕ) → Type 0) → List (List ℕ) → Type 0
 SomeGroup P piece = (cap : List ℕ) × (names : List (List ℕ)) × (piece ≡ cap ∷ names) × P cap names
 
--- the piece passes the test
-abbrev pub GroupHolds : GroupTest → List (List ℕ) → Type 0
-GroupHolds Whole piece = (group : List ℕ × List (List ℕ)) × IsGroupCut piece group
-GroupHolds Cap piece = OfGroup (λ cap names. IsNumberOf RankWord cap) piece
-GroupHolds Once piece = OfGroup (λ cap names. StandsTwice names → ⊥) piece
+-- the piece is a cap and at least one name
+abbrev pub IsWhole : List (List ℕ) → Type 0
+IsWhole piece = (group : List ℕ × List (List ℕ)) × IsGroupCut piece group
+
+-- the cap of the piece is a number
+abbrev pub HasCap : Version → List (List ℕ) → Type 0
+HasCap version piece = OfGroup (λ cap names. IsNumberOf version RankWord cap) piece
+
+-- no name stands twice in the piece
+abbrev pub IsOnce : List (List ℕ) → Type 0
+IsOnce piece = OfGroup (λ cap names. StandsTwice names → ⊥) piece
+
+-- the piece passes the test, in a text of that version
+abbrev pub GroupHolds : Version → GroupTest → List (List ℕ) → Type 0
+GroupHolds version Whole piece = IsWhole piece
+GroupHolds version Cap piece = HasCap version piece
+GroupHolds version Once piece = IsOnce piece
 
 -- the piece does not pass it
-abbrev pub GroupFails : GroupTest → List (List ℕ) → Type 0
-GroupFails Whole piece = ((group : List ℕ × List (List ℕ)) × IsGroupCut piece group) → ⊥
-GroupFails Cap piece = SomeGroup (λ cap names. IsNumberOf RankWord cap → ⊥) piece
-GroupFails Once piece = SomeGroup (λ cap names. StandsTwice names) piece
+abbrev pub GroupFails : Version → GroupTest → List (List ℕ) → Type 0
+GroupFails version Whole piece = IsWhole piece → ⊥
+GroupFails version Cap piece = SomeGroup (λ cap names. IsNumberOf version RankWord cap → ⊥) piece
+GroupFails version Once piece = SomeGroup (λ cap names. StandsTwice names) piece
 
 -- each name of a piece is one of the elements
 abbrev pub HasMembers : List (List ℕ) → List (List ℕ) → Type 0
@@ -65,26 +78,26 @@ pub record AreShapedGroups (number : List ℕ) (elements : List (List ℕ)) (pie
   pub no_mark : IsMark number → ⊥
   pub some : 0 < length elements
   pub unmarked : AreUnmarked elements
-  pub whole : All (GroupHolds Whole) pieces
+  pub whole : All IsWhole pieces
 
 -- the number, the elements and the pieces of the groups have no reason before the law
-pub record AreGoodGroups (names : List (List ℕ)) (number : List ℕ) (elements : List (List ℕ)) (pieces : List (List (List ℕ))) : Type 0 where
+pub record AreGoodGroups (i : InstanceData) (number : List ℕ) (elements : List (List ℕ)) (pieces : List (List (List ℕ))) : Type 0 where
   pub no_mark : IsMark number → ⊥
   pub some : 1 ≤ length elements
   pub unmarked : AreUnmarked elements
-  pub whole : All (GroupHolds Whole) pieces
-  pub is_number : IsNumberOf RankWord number
-  pub caps : All (GroupHolds Cap) pieces
-  pub known : All (Holds names Element) elements
+  pub whole : All IsWhole pieces
+  pub is_number : IsNumberOf i.version RankWord number
+  pub caps : All (HasCap i.version) pieces
+  pub known : All (Holds i Element) elements
   pub members : All (HasMembers elements) pieces
   pub once : StandsTwice elements → ⊥
-  pub each_once : All (GroupHolds Once) pieces
+  pub each_once : All IsOnce pieces
 
 -- the group that a piece tells
-pub record IsGroupOf (elements piece : List (List ℕ)) (group : Group) : Type 0 where
+pub record IsGroupOf (version : Version) (elements piece : List (List ℕ)) (group : Group) : Type 0 where
   pub cut : List ℕ × List (List ℕ)
   pub whole : IsGroupCut piece cut
-  pub is_cap : IsNumberFrom (lowest_of RankWord) cut.0 group.cap
+  pub is_cap : IsNumberFor version RankWord cut.0 group.cap
   pub are_members : group.members ≡ members_of elements cut.1
 
 -- the tokens behind the word of a line of a laminar rank

@@ -3,6 +3,7 @@ use Rattle.std.specs.Prelude.{◌≡◌, ◌≢◌, ℕ, ◌<◌, ◌≤◌, Lis
 use Rattle.std.specs.List.{All, AllZip}
 use Rattle.sfm_spec.specs.Names.{IsName}
 use Rattle.sfm_kind.specs.Instance.{InstanceData}
+use Rattle.sfm_kind.specs.declared.version.Version.{Version}
 use Rattle.sfm_lines.specs.declared.reason.Reason.{Reason}
 use Rattle.sfm_passes.specs.declared.between.Separator.{Separator}
 use Rattle.sfm_passes.specs.declared.between.Separator.TheVariants.{Blanks, Comma}
@@ -15,26 +16,26 @@ use Rattle.sfm_lines.specs.declared.word.TermWord.{TermWord}
 use Rattle.sfm_lines.specs.declared.word.TermWord.TheVariants.{WeightWord, ConcaveWord, RankWord}
 use Rattle.sfm_lines.specs.Lines.{pieces_of, tokens_of}
 use Rattle.sfm_lines.specs.Parts.{LineParts, IsMark, IsPairToken, IsLabelToken}
-use Rattle.sfm_lines.specs.Words.{word_text, lowest_of, HasParts}
-use Rattle.sfm_lines.specs.TermLines.{IsNumberFrom, StandsTwice}
+use Rattle.sfm_lines.specs.Words.{word_text, HasParts}
+use Rattle.sfm_lines.specs.TermLines.{IsNumberFor, StandsTwice}
 use Rattle.sfm_lines.specs.Reading.{FirstReason}
 use Rattle.sfm_lines.specs.ReadParts.{state_at, IsLineOf, IsNumberOf, IsKnown}
 
--- the token passes the test, over a ground of these names
-abbrev pub Holds : List (List ℕ) → TokenTest → List ℕ → Type 0
-Holds names Pair token = (pair : List ℕ × List ℕ) × IsPairToken token pair
-Holds names PairNumber token = (pair : List ℕ × List ℕ) × IsPairToken token pair × IsNumberOf WeightWord pair.1
-Holds names PairElement token = (pair : List ℕ × List ℕ) × IsPairToken token pair × IsKnown names pair.0
-Holds names Value token = IsNumberOf ConcaveWord token
-Holds names Element token = IsKnown names token
-Holds names (Labelled rank) token = (entry : List ℕ × List (List ℕ)) × IsLabelToken rank token entry
-Holds names (LabelledElement rank) token = (entry : List ℕ × List (List ℕ)) × IsLabelToken rank token entry × IsKnown names entry.0
-Holds names (NamedLabels rank) token = (entry : List ℕ × List (List ℕ)) × IsLabelToken rank token entry × All IsName entry.1
+-- the token passes the test, in a line of a text that the instance has been read of
+abbrev pub Holds : InstanceData → TokenTest → List ℕ → Type 0
+Holds i Pair token = (pair : List ℕ × List ℕ) × IsPairToken token pair
+Holds i PairNumber token = (pair : List ℕ × List ℕ) × IsPairToken token pair × IsNumberOf i.version WeightWord pair.1
+Holds i PairElement token = (pair : List ℕ × List ℕ) × IsPairToken token pair × IsKnown i.names pair.0
+Holds i Value token = IsNumberOf i.version ConcaveWord token
+Holds i Element token = IsKnown i.names token
+Holds i (Labelled rank) token = (entry : List ℕ × List (List ℕ)) × IsLabelToken rank token entry
+Holds i (LabelledElement rank) token = (entry : List ℕ × List (List ℕ)) × IsLabelToken rank token entry × IsKnown i.names entry.0
+Holds i (NamedLabels rank) token = (entry : List ℕ × List (List ℕ)) × IsLabelToken rank token entry × All IsName entry.1
 
 -- the token does not pass it; of labels, some has not the form of a name
-abbrev pub Fails : List (List ℕ) → TokenTest → List ℕ → Type 0
-Fails names (NamedLabels rank) token = (entry : List ℕ × List (List ℕ)) → IsLabelToken rank token entry → Any (λ text. IsName text → ⊥) entry.1
-Fails names test token = Holds names test token → ⊥
+abbrev pub Fails : InstanceData → TokenTest → List ℕ → Type 0
+Fails i (NamedLabels rank) token = (entry : List ℕ × List (List ℕ)) → IsLabelToken rank token entry → Any (λ text. IsName text → ⊥) entry.1
+Fails i test token = Holds i test token → ⊥
 
 -- the elements of a line of that rank have labels
 abbrev pub HasLabels : RankKind → Type 0
@@ -71,23 +72,23 @@ abbrev pub RepeatsSlot : List ℕ → Type 0
 RepeatsSlot token = (entry : List ℕ × List (List ℕ)) × IsLabelToken TransversalRank token entry × StandsTwice entry.1
 
 -- elements with labels that have no reason before that something stands twice
-pub record AreGoodEntries (names : List (List ℕ)) (rank : RankKind) (number colon : List ℕ) (tokens : List (List ℕ)) : Type 0 where
+pub record AreGoodEntries (i : InstanceData) (rank : RankKind) (number colon : List ℕ) (tokens : List (List ℕ)) : Type 0 where
   pub no_mark : IsMark number → ⊥
   pub is_colon : colon ≡ codes ":"
-  pub each : All (Holds names (Labelled rank)) tokens
-  pub is_number : IsNumberOf RankWord number
-  pub known : All (Holds names (LabelledElement rank)) tokens
-  pub named : All (Holds names (NamedLabels rank)) tokens
+  pub each : All (Holds i (Labelled rank)) tokens
+  pub is_number : IsNumberOf i.version RankWord number
+  pub known : All (Holds i (LabelledElement rank)) tokens
+  pub named : All (Holds i (NamedLabels rank)) tokens
 
 -- entries of a transversal rank that have no reason but perhaps that an element stands twice
-pub record AreFewEntries (names : List (List ℕ)) (number colon : List ℕ) (tokens : List (List ℕ)) : Type 0 where
-  pub good : AreGoodEntries names TransversalRank number colon tokens
+pub record AreFewEntries (i : InstanceData) (number colon : List ℕ) (tokens : List (List ℕ)) : Type 0 where
+  pub good : AreGoodEntries i TransversalRank number colon tokens
   pub few : length tokens ≤ 256
   pub once : All (λ token. RepeatsSlot token → ⊥) tokens
 
 -- elements and first slots, as many of each entry as there are entries, of such entries of which there is at least one
-pub record AreCutEntries (names : List (List ℕ)) (number colon : List ℕ) (tokens : List (List ℕ)) (parts : LineParts) : Type 0 where
-  pub good : AreFewEntries names number colon tokens
+pub record AreCutEntries (i : InstanceData) (number colon : List ℕ) (tokens : List (List ℕ)) (parts : LineParts) : Type 0 where
+  pub good : AreFewEntries i number colon tokens
   pub some : 0 < length tokens
   pub entries : List (List ℕ × List (List ℕ))
   pub each : AllZip (IsLabelToken TransversalRank) tokens entries
@@ -104,11 +105,11 @@ abbrev pub IsReasonOf : InstanceData → TermWord → List (List ℕ) → Reason
 IsReasonOf instance word tokens reason = (line : List ℕ) → IsLineOf line (word_text word ∷ tokens) → FirstReason (state_at Terms instance) line reason
 
 -- the line has numbers of its word and those elements, which are more than a ground has, and nothing else
-pub record HasTooMany (word : TermWord) (rest elements : List (List ℕ)) : Type 0 where
+pub record HasTooMany (version : Version) (word : TermWord) (rest elements : List (List ℕ)) : Type 0 where
   pub parts : LineParts
   pub shape : HasParts word rest parts
   pub numbers : List ℤ
-  pub are_numbers : AllZip (IsNumberFrom (lowest_of word)) parts.numbers numbers
+  pub are_numbers : AllZip (IsNumberFor version word) parts.numbers numbers
   pub elements_are : parts.elements ≡ elements
   pub no_groups : parts.groups ≡ []
   pub no_labels : parts.labels ≡ []

@@ -35,7 +35,7 @@ fn entries_reason(
     requires names { AreElementNames instance.now.names }
     requires some { 0 < length (tokens_of entries.now) }
     ensures { IfOk result (λ r. MatchOption r
-        (AreFewEntries instance.now.names number.now colon.now (tokens_of entries.now))
+        (AreFewEntries instance.now number.now colon.now (tokens_of entries.now))
         (IsReasonOf instance.now RankWord (number.now ∷ codes "transversal" ∷ colon.now
         ∷ tokens_of entries.now))) }
 {
@@ -163,14 +163,14 @@ fn cut_term(
 ) -> Result<Kind, LineEnd>
     requires names { AreElementNames instance.now.names }
     requires cut { (colon : List ℕ) × (tokens : List (List ℕ))
-        × AreCutEntries instance.now.names number.now colon tokens (parts_of parts.now) }
+        × AreCutEntries instance.now number.now colon tokens (parts_of parts.now) }
     ensures { (colon : List ℕ) (tokens : List (List ℕ))
-        → AreCutEntries instance.now.names number.now colon tokens (parts_of parts.now)
+        → AreCutEntries instance.now number.now colon tokens (parts_of parts.now)
         → MatchResult result
         (IsTermRead instance.now RankWord (number.now ∷ codes "transversal" ∷ colon ∷ tokens))
         (IsRefusedBy instance.now RankWord (number.now ∷ codes "transversal" ∷ colon ∷ tokens)) }
 {
-    let w = known_number(TermWord::RankWord, number);
+    let w = known_number(instance, TermWord::RankWord, number);
     let places = known_places(alloc, instance, &parts.elements)?;
     if has_place_twice(&places) {
         return Err(LineEnd::Fault(Reason::Twice));

@@ -1,7 +1,7 @@
 // Passes over the pieces of the groups of a laminar rank: what each piece is tried for.
 ghost use Rattle.std.specs.{Prelude.{◌≡◌, ℕ, List, [], Any, Contains, IfOk, MatchBool, MatchOption}, List.{All}};
-ghost use Rattle.sfm_lines.specs.{Lines.{texts_of, tokens_of}, LabelTerms.{distinct_of}, TermLines.{StandsTwice}, ReadParts.{IsNumberOf}, declared.word.TermWord.TheVariants.{RankWord}};
-ghost use Rattle.sfm_passes.specs.{GroupPasses.{GroupHolds, GroupFails, HasMembers, LacksMember, OfGroup, SomeGroup, pieces_left}, declared.group_test.GroupTest.TheVariants.{Whole, Cap, Once}};
+ghost use Rattle.sfm_lines.specs.{Lines.{texts_of, tokens_of}, LabelTerms.{distinct_of}, TermLines.{StandsTwice}};
+ghost use Rattle.sfm_passes.specs.{GroupPasses.{IsWhole, HasCap, IsOnce, GroupHolds, GroupFails, HasMembers, LacksMember, SomeGroup, pieces_left}, declared.group_test.GroupTest.TheVariants.{Cap}};
 
 use crate::between::Separator;
 use crate::passes::{has_mark_in, has_repeat_in};
@@ -9,6 +9,7 @@ use crate::piece_cut::first_piece;
 use crate::token_test::is_number_of;
 use indexmap::IndexSet;
 use sfm_base::Memory;
+use sfm_kind::Instance;
 use sfm_lines::groups::is_known;
 use sfm_lines::tokens::{first_token, has_token};
 use sfm_lines::word::TermWord;
@@ -27,8 +28,8 @@ pub enum GroupTest {
 
 /// Whether a piece is a cap and at least one name.
 fn is_whole(piece: &[u8]) -> bool
-    ensures { MatchBool result (GroupHolds Whole (tokens_of piece.now))
-        (GroupFails Whole (tokens_of piece.now)) }
+    ensures { MatchBool result (IsWhole (tokens_of piece.now))
+        (IsWhole (tokens_of piece.now) → ⊥) }
 {
     let Some((_, names)) = first_token(piece) else {
         return false;
@@ -43,20 +44,20 @@ fn is_whole(piece: &[u8]) -> bool
 }
 
 /// Whether the cap of a piece is a number.
-fn has_cap(piece: &[u8]) -> bool
-    ensures { MatchBool result (GroupHolds Cap (tokens_of piece.now))
-        (GroupFails Cap (tokens_of piece.now)) }
+fn has_cap(instance: &Instance, piece: &[u8]) -> bool
+    ensures { MatchBool result (HasCap instance.now.version (tokens_of piece.now))
+        (GroupFails instance.now.version Cap (tokens_of piece.now)) }
 {
     match first_token(piece) {
-        Some((cap, _)) => is_number_of(TermWord::RankWord, cap),
+        Some((cap, _)) => is_number_of(instance, TermWord::RankWord, cap),
         None => true,
     }
 }
 
 /// Whether no name stands twice in a piece.
 fn is_once(alloc: Global, piece: &[u8]) -> Result<bool, Memory>
-    ensures { IfOk result (λ r. MatchBool r (GroupHolds Once (tokens_of piece.now))
-        (GroupFails Once (tokens_of piece.now))) }
+    ensures { IfOk result (λ r. MatchBool r (IsOnce (tokens_of piece.now))
+        (SomeGroup (λ cap names. StandsTwice names) (tokens_of piece.now))) }
 {
     let Some((_, names)) = first_token(piece) else {
         return Ok(true);
@@ -68,27 +69,38 @@ fn is_once(alloc: Global, piece: &[u8]) -> Result<bool, Memory>
 }
 
 /// Whether a piece passes the test.
-fn group_holds(alloc: Global, test: GroupTest, piece: &[u8]) -> Result<bool, Memory>
-    ensures { IfOk result (λ r. MatchBool r (GroupHolds test (tokens_of piece.now))
-        (GroupFails test (tokens_of piece.now))) }
+fn group_holds(
+    alloc: Global,
+    instance: &Instance,
+    test: GroupTest,
+    piece: &[u8],
+) -> Result<bool, Memory>
+    ensures { IfOk result (λ r. MatchBool r
+        (GroupHolds instance.now.version test (tokens_of piece.now))
+        (GroupFails instance.now.version test (tokens_of piece.now))) }
 {
     match test {
         GroupTest::Whole => Ok(is_whole(piece)),
-        GroupTest::Cap => Ok(has_cap(piece)),
+        GroupTest::Cap => Ok(has_cap(instance, piece)),
         GroupTest::Once => is_once(alloc, piece),
     }
 }
 
 /// Whether each piece that is left passes the test.
-pub fn all_groups(alloc: Global, test: GroupTest, groups: Option<&[u8]>) -> Result<bool, Memory>
+pub fn all_groups(
+    alloc: Global,
+    instance: &Instance,
+    test: GroupTest,
+    groups: Option<&[u8]>,
+) -> Result<bool, Memory>
     ensures { IfOk result (λ r. MatchBool r
-        (All (GroupHolds test) (pieces_left groups.entry))
-        (Any (GroupFails test) (pieces_left groups.entry))) }
+        (All (GroupHolds instance.now.version test) (pieces_left groups.entry))
+        (Any (GroupFails instance.now.version test) (pieces_left groups.entry))) }
 {
     let mut left = groups;
     while let Some(line) = left {
         let (piece, rest) = first_piece(line);
-        let holds = group_holds(alloc, test, piece)?;
+        let holds = group_holds(alloc, instance, test, piece)?;
         if !holds {
             return Ok(false);
         }

@@ -3,10 +3,10 @@
 // 256 elements of which no two cross, it is told at once whether some cross, so that little is kept of any line.
 ghost use Rattle.std.specs.{Prelude.{◌≡◌, [], ◌∷◌, ◌≤ℤ◌, ℕ, List, codes, length, pos, IsTrue, IfOk, MatchBool, MatchOption, MatchResult}, List.{All, AllZip}};
 ghost use Rattle.sfm_spec.specs.{Bounds.{IsGiven, AreElements}, Kinds.{Group}};
-ghost use Rattle.sfm_kind.specs.{Instance.{InstanceData}, Names.{AreElementNames}};
+ghost use Rattle.sfm_kind.specs.Names.{AreElementNames};
 ghost use Rattle.sfm_lines.specs.{declared.reason.Reason.TheVariants.{Shape}, Lines.{texts_of, tokens_of}, CutParts.{cut_at_semicolons}, RankLines.{least_groups}, ReadParts.{IsTermRead}, declared.word.TermWord.TheVariants.{RankWord}};
 ghost use Rattle.sfm_laminar.specs.{Crossing.{IsCrossing}, Groups.{IsBelow, IsGroup}};
-ghost use Rattle.sfm_passes.specs.{Passes.{IsReasonOf}, GroupPasses.{AreShapedGroups, AreGoodGroups, GroupHolds, IsGroupOf, IsRefusedBy, laminar_tokens, pieces_left}, declared.group_test.GroupTest.TheVariants.{Whole, Cap}};
+ghost use Rattle.sfm_passes.specs.{Passes.{IsReasonOf}, GroupPasses.{AreShapedGroups, AreGoodGroups, IsWhole, HasCap, IsGroupOf, IsRefusedBy, laminar_tokens, pieces_left}};
 
 use crate::between::Separator;
 use crate::group_test::{GroupTest, all_groups, are_members_in};
@@ -31,15 +31,16 @@ const MOST_SETS: usize = 512;
 /// Whether the number, the elements and the groups of a line have its shape.
 fn are_shaped(
     alloc: Global,
+    instance: &Instance,
     number: &[u8],
     elements: &[u8],
     groups: Option<&[u8]>,
 ) -> Result<bool, Memory>
     ensures { IfOk result (λ r. MatchBool r
         (AreShapedGroups number.now (tokens_of elements.now) (pieces_left groups.entry))
-        ((instance : InstanceData) (behind : List (List ℕ))
+        ((behind : List (List ℕ))
         → cut_at_semicolons behind ≡ tokens_of elements.now ∷ pieces_left groups.entry
-        → IsReasonOf instance RankWord (laminar_tokens number.now behind) Shape)) }
+        → IsReasonOf instance.now RankWord (laminar_tokens number.now behind) Shape)) }
 {
     if is_mark(number) {
         return Ok(false);
@@ -50,7 +51,7 @@ fn are_shaped(
     if has_mark_in(elements) {
         return Ok(false);
     }
-    all_groups(alloc, GroupTest::Whole, groups)
+    all_groups(alloc, instance, GroupTest::Whole, groups)
 }
 
 /// The first reason of the number, the elements and the groups of a line before its law, or None where there is none.
@@ -63,20 +64,20 @@ fn groups_fault(
 ) -> Result<Option<Reason>, Memory>
     requires { AreElementNames instance.now.names }
     ensures { IfOk result (λ r. MatchOption r
-        (AreGoodGroups instance.now.names number.now (tokens_of elements.now)
+        (AreGoodGroups instance.now number.now (tokens_of elements.now)
         (pieces_left groups.entry))
         (λ reason. (behind : List (List ℕ)) → cut_at_semicolons behind
         ≡ tokens_of elements.now ∷ pieces_left groups.entry
         → IsReasonOf instance.now RankWord (laminar_tokens number.now behind) reason)) }
 {
-    let shaped = are_shaped(alloc, number, elements, groups)?;
+    let shaped = are_shaped(alloc, instance, number, elements, groups)?;
     if !shaped {
         return Ok(Some(Reason::Shape));
     }
-    if !is_number_of(TermWord::RankWord, number) {
+    if !is_number_of(instance, TermWord::RankWord, number) {
         return Ok(Some(Reason::Number));
     }
-    let capped = all_groups(alloc, GroupTest::Cap, groups)?;
+    let capped = all_groups(alloc, instance, GroupTest::Cap, groups)?;
     if !capped {
         return Ok(Some(Reason::Number));
     }
@@ -91,7 +92,7 @@ fn groups_fault(
     if repeated {
         return Ok(Some(Reason::Twice));
     }
-    let once = all_groups(alloc, GroupTest::Once, groups)?;
+    let once = all_groups(alloc, instance, GroupTest::Once, groups)?;
     if !once {
         return Ok(Some(Reason::Twice));
     }
@@ -99,15 +100,21 @@ fn groups_fault(
 }
 
 /// The group that a piece tells.
-fn piece_group(alloc: Global, elements: &[&[u8]], piece: &[u8]) -> Result<CappedGroup, Memory>
-    requires whole { GroupHolds Whole (tokens_of piece.now) }
-    requires cap { GroupHolds Cap (tokens_of piece.now) }
-    ensures { IfOk result (λ r. IsGroupOf (texts_of elements.now) (tokens_of piece.now) r) }
+fn piece_group(
+    alloc: Global,
+    instance: &Instance,
+    elements: &[&[u8]],
+    piece: &[u8],
+) -> Result<CappedGroup, Memory>
+    requires whole { IsWhole (tokens_of piece.now) }
+    requires cap { HasCap instance.now.version (tokens_of piece.now) }
+    ensures { IfOk result (λ r. IsGroupOf instance.now.version (texts_of elements.now)
+        (tokens_of piece.now) r) }
 {
     let Some((cap, names)) = first_token(piece) else {
         unreachable!();
     };
-    let value = known_number(TermWord::RankWord, cap);
+    let value = known_number(instance, TermWord::RankWord, cap);
     let names = tokens(alloc, names)?;
     let members = members(alloc, elements, &names)?;
     Ok(CappedGroup::new(value, members))
@@ -133,6 +140,7 @@ fn has_early_crossing(alloc: Global, places: &[usize], kept: &[CappedGroup]) -> 
 /// Keeps the groups that the pieces tell, of those with the same members one with the least cap, and tells whether some cross.
 fn keep_groups(
     alloc: Global,
+    instance: &Instance,
     kept: &mut Vec<CappedGroup>,
     places: &[usize],
     elements: &[&[u8]],
@@ -141,18 +149,18 @@ fn keep_groups(
     requires none { kept.old.items ≡ [] }
     requires elements { AreElements places.now }
     requires named { length places.now ≡ length elements.now }
-    requires whole { All (GroupHolds Whole) (pieces_left groups) }
-    requires caps { All (GroupHolds Cap) (pieces_left groups) }
+    requires whole { All IsWhole (pieces_left groups) }
+    requires caps { All (HasCap instance.now.version) (pieces_left groups) }
     ensures { IfOk result (λ r. MatchBool r
-        ((all : List Group) × AllZip (IsGroupOf (texts_of elements.now))
+        ((all : List Group) × AllZip (IsGroupOf instance.now.version (texts_of elements.now))
         (pieces_left groups.entry) all × ((i : ℕ) × (j : ℕ) × IsCrossing all i j))
-        ((all : List Group) × AllZip (IsGroupOf (texts_of elements.now))
+        ((all : List Group) × AllZip (IsGroupOf instance.now.version (texts_of elements.now))
         (pieces_left groups.entry) all × (kept.new.items ≡ least_groups all))) }
 {
     let mut left = groups;
     while let Some(line) = left {
         let (piece, rest) = first_piece(line);
-        let group = piece_group(alloc, elements, piece)?;
+        let group = piece_group(alloc, instance, elements, piece)?;
         keep(kept, group)?;
         let crosses = has_early_crossing(alloc, places, kept)?;
         if crosses {
@@ -166,6 +174,7 @@ fn keep_groups(
 /// The term with this number at these places and the groups that the pieces tell, or None where some cross.
 fn pieces_term(
     alloc: Global,
+    instance: &Instance,
     places: &[usize],
     w: i128,
     elements: &[&[u8]],
@@ -175,18 +184,18 @@ fn pieces_term(
     requires named { length places.now ≡ length elements.now }
     requires low { pos 0 ≤ℤ w }
     requires given { IsGiven w }
-    requires whole { All (GroupHolds Whole) (pieces_left groups) }
-    requires caps { All (GroupHolds Cap) (pieces_left groups) }
+    requires whole { All IsWhole (pieces_left groups) }
+    requires caps { All (HasCap instance.now.version) (pieces_left groups) }
     ensures { IfOk result (λ r. MatchOption r
-        ((all : List Group) × AllZip (IsGroupOf (texts_of elements.now))
+        ((all : List Group) × AllZip (IsGroupOf instance.now.version (texts_of elements.now))
         (pieces_left groups.entry) all × ((i : ℕ) × (j : ℕ) × IsCrossing all i j))
-        (λ term. (all : List Group) × AllZip (IsGroupOf (texts_of elements.now))
+        (λ term. (all : List Group) × AllZip (IsGroupOf instance.now.version (texts_of elements.now))
         (pieces_left groups.entry) all
         × (term.places ≡ places.now) × (term.w ≡ w) × (term.groups ≡ least_groups all)
         × ((i j : ℕ) → IsCrossing (least_groups all) i j → ⊥))) }
 {
     let mut kept = Vec::new(alloc);
-    if keep_groups(alloc, &mut kept, places, elements, groups)? {
+    if keep_groups(alloc, instance, &mut kept, places, elements, groups)? {
         return Ok(None);
     }
     with_kept(alloc, places, w, &kept)
@@ -210,10 +219,10 @@ fn groups_term(
     if let Some(reason) = fault {
         return Err(LineEnd::Fault(reason));
     }
-    let w = known_number(TermWord::RankWord, number);
+    let w = known_number(instance, TermWord::RankWord, number);
     let elements = tokens(alloc, elements)?;
     let places = known_places(alloc, instance, &elements)?;
-    match pieces_term(alloc, &places, w, &elements, groups)? {
+    match pieces_term(alloc, instance, &places, w, &elements, groups)? {
         Some(laminar) => Ok(Kind::Laminar(laminar)),
         None => Err(LineEnd::Fault(Reason::Law)),
     }

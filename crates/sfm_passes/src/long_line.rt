@@ -60,7 +60,7 @@ fn cover_reason(instance: &Instance, line: &[u8]) -> Reason
     if has_mark_in(line) {
         return Reason::Shape;
     }
-    if !is_number_of(TermWord::CoverWord, number) {
+    if !is_number_of(instance, TermWord::CoverWord, number) {
         return Reason::Number;
     }
     elements_reason(instance, elements)

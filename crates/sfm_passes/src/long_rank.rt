@@ -67,7 +67,7 @@ fn is_uniform_cut(number: &[u8], cap: &[u8], colon: &[u8], elements: &[u8]) -> b
 pub fn elements_reason(instance: &Instance, elements: &[u8]) -> Reason
     requires { AreElementNames instance.now.names }
     ensures { (word : TermWord) (rest : List (List ℕ))
-        → HasTooMany word rest (tokens_of elements.now) → IsReasonOf instance.now word rest result }
+        → HasTooMany instance.now.version word rest (tokens_of elements.now) → IsReasonOf instance.now word rest result }
 {
     if !all_hold(instance, TokenTest::Element, elements) {
         return Reason::Name;
@@ -88,10 +88,10 @@ fn uniform_reason(instance: &Instance, number: &[u8], behind: &[u8]) -> Reason
     if !is_uniform_cut(number, cap, colon, elements) {
         return Reason::Shape;
     }
-    if !is_number_of(TermWord::RankWord, number) {
+    if !is_number_of(instance, TermWord::RankWord, number) {
         return Reason::Number;
     }
-    if !is_number_of(TermWord::RankWord, cap) {
+    if !is_number_of(instance, TermWord::RankWord, cap) {
         return Reason::Number;
     }
     elements_reason(instance, elements)
@@ -108,7 +108,7 @@ pub fn entries_fault(
     requires labels { HasLabels rank }
     requires some { 0 < length (tokens_of entries.now) }
     ensures { MatchOption result
-        (AreGoodEntries instance.now.names rank number.now colon.now (tokens_of entries.now))
+        (AreGoodEntries instance.now rank number.now colon.now (tokens_of entries.now))
         (IsReasonOf instance.now RankWord (number.now ∷ label_word rank ∷ colon.now
         ∷ tokens_of entries.now)) }
 {
@@ -121,7 +121,7 @@ pub fn entries_fault(
     if !all_hold(instance, TokenTest::Labelled(rank), entries) {
         return Some(Reason::Shape);
     }
-    if !is_number_of(TermWord::RankWord, number) {
+    if !is_number_of(instance, TermWord::RankWord, number) {
         return Some(Reason::Number);
     }
     if !all_hold(instance, TokenTest::LabelledElement(rank), entries) {

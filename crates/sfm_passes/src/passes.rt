@@ -182,8 +182,8 @@ pub fn colon_cut(line: &[u8]) -> Option<(usize, &[u8])>
 /// Whether each token of a line passes the test.
 pub fn all_hold(instance: &Instance, test: TokenTest, line: &[u8]) -> bool
     ensures { MatchBool result
-        (All (Holds instance.now.names test) (tokens_of line.now))
-        (Any (Fails instance.now.names test) (tokens_of line.now)) }
+        (All (Holds instance.now test) (tokens_of line.now))
+        (Any (Fails instance.now test) (tokens_of line.now)) }
 {
     let mut left = line;
     while let Some((token, behind)) = first_token(left) {
@@ -198,8 +198,8 @@ pub fn all_hold(instance: &Instance, test: TokenTest, line: &[u8]) -> bool
 /// Whether each of the first so many tokens of a line passes the test.
 pub fn first_hold(instance: &Instance, test: TokenTest, count: usize, line: &[u8]) -> bool
     ensures { MatchBool result
-        (All (Holds instance.now.names test) (take count (tokens_of line.now)))
-        (Any (Fails instance.now.names test) (take count (tokens_of line.now))) }
+        (All (Holds instance.now test) (take count (tokens_of line.now)))
+        (Any (Fails instance.now test) (take count (tokens_of line.now))) }
 {
     let mut due = count;
     let mut left = line;

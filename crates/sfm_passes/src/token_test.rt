@@ -32,10 +32,11 @@ pub enum TokenTest {
 }
 
 /// Whether a text is a number of the line of that word.
-pub fn is_number_of(word: TermWord, text: &[u8]) -> bool
-    ensures { MatchBool result (IsNumberOf word text.now) (IsNumberOf word text.now → ⊥) }
+pub fn is_number_of(instance: &Instance, word: TermWord, text: &[u8]) -> bool
+    ensures { MatchBool result (IsNumberOf instance.now.version word text.now)
+        (IsNumberOf instance.now.version word text.now → ⊥) }
 {
-    match number_for(word, text) {
+    match number_for(instance, word, text) {
         Some(_) => true,
         None => false,
     }
@@ -65,14 +66,15 @@ fn is_pair(token: &[u8]) -> bool
 }
 
 /// Whether a token is a pair with a number.
-fn is_pair_number(token: &[u8]) -> bool
+fn is_pair_number(instance: &Instance, token: &[u8]) -> bool
     ensures { MatchBool result
-        ((pair : List ℕ × List ℕ) × IsPairToken token.now pair × IsNumberOf WeightWord pair.1)
-        (((pair : List ℕ × List ℕ) × IsPairToken token.now pair × IsNumberOf WeightWord pair.1)
-        → ⊥) }
+        ((pair : List ℕ × List ℕ) × IsPairToken token.now pair
+        × IsNumberOf instance.now.version WeightWord pair.1)
+        (((pair : List ℕ × List ℕ) × IsPairToken token.now pair
+        × IsNumberOf instance.now.version WeightWord pair.1) → ⊥) }
 {
     match cut_pair(token) {
-        Some((_, number)) => is_number_of(TermWord::WeightWord, number),
+        Some((_, number)) => is_number_of(instance, TermWord::WeightWord, number),
         None => false,
     }
 }
@@ -219,14 +221,14 @@ fn has_named_labels(rank: RankKind, token: &[u8]) -> bool
 /// Whether a token passes the test.
 pub fn holds(instance: &Instance, test: TokenTest, token: &[u8]) -> bool
     ensures { MatchBool result
-        (Holds instance.now.names test token.now)
-        (Fails instance.now.names test token.now) }
+        (Holds instance.now test token.now)
+        (Fails instance.now test token.now) }
 {
     match test {
         TokenTest::Pair => is_pair(token),
-        TokenTest::PairNumber => is_pair_number(token),
+        TokenTest::PairNumber => is_pair_number(instance, token),
         TokenTest::PairElement => is_pair_element(instance, token),
-        TokenTest::Value => is_number_of(TermWord::ConcaveWord, token),
+        TokenTest::Value => is_number_of(instance, TermWord::ConcaveWord, token),
         TokenTest::Element => is_known(instance, token),
         TokenTest::Labelled(rank) => is_labelled(rank, token),
         TokenTest::LabelledElement(rank) => is_labelled_element(instance, rank, token),

@@ -60,7 +60,7 @@ const OUTSIDE: [Case; 8] = [
         ..SOLVED
     },
     Case {
-        first: b"sfm 2\nground a b\nweight a:-3 b:2\nend\n",
+        first: b"sfm 3\nground a b\nweight a:-3 b:2\nend\n",
         outside: &FOURTH_READ,
         ..UNREAD
     },
@@ -85,7 +85,7 @@ const OUTSIDE: [Case; 8] = [
     },
     Case {
         words: &["check", "first", "third"],
-        first: b"sfm 2\n",
+        first: b"sfm 3\n",
         code: 2,
         out: b"refused 1 shape\n",
         ..SOLVED

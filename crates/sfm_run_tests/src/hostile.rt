@@ -333,7 +333,7 @@ fn instances_that_end_too_soon(rt: HostRuntime) {
 
 /// Instances, with the code, and whether the answer is opened.
 const OPENED: [(&[u8], u8, bool); 2] = [
-    (b"sfm 2\n", 2, false),
+    (b"sfm 3\n", 2, false),
     (
         b"sfm 1\nground a b\nweight a:-3 b:2\ncut 4 a b\nend\n",
         0,

@@ -30,4 +30,6 @@ mod shelves;
 #[cfg(test)]
 mod solutions;
 #[cfg(test)]
+mod versions;
+#[cfg(test)]
 mod weighs;

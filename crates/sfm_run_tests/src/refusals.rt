@@ -55,7 +55,7 @@ const REFUSALS: [(&[u8], &[u8]); 19] = [
         b"sfm 1\nground a b\nweight a:-3 b:2\ncut 4 a b\nend\nweight a:1\n",
         b"refused 6 word\n",
     ),
-    (b"sfm 2\nground a\nend\n", b"refused 1 shape\n"),
+    (b"sfm 3\nground a\nend\n", b"refused 1 shape\n"),
     (b"sfm 1\nground a a\nend\n", b"refused 2 twice\n"),
     (
         b"sfm 1\nground a\nweight a:\xff\nend\n",

@@ -35,7 +35,7 @@ fn has_lines(alloc: Global, text: &[u8], wanted: &[u8]) -> bool {
 }
 
 /// Whether an instance, read in pieces of that size, has an answer with the lines that are wanted, which is a right file for it.
-fn is_solved(alloc: Global, piece: usize, text: &[u8], wanted: &[u8]) -> bool {
+pub fn is_solved(alloc: Global, piece: usize, text: &[u8], wanted: &[u8]) -> bool {
     let outside = Outside {
         read_piece: piece,
         ..SOUND

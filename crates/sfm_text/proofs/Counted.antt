@@ -28,7 +28,7 @@ takes-one : (s : State) (line : List ℕ) (t : State) → Takes s line t → lin
 takes-one s line t takes = at s.stage refl takes.adds
   where
     at : (stage : Stage) → s.stage ≡ stage → Adds stage s (tokens_of line) t → lines_to t ≡ lines_to s + 1
-    at Header is adds = rw (adds, is) refl
+    at Header is (version, tokens, adds) = rw (adds, is) refl
     at Ground is (names, tokens, adds) = rw (adds, is) refl
     at Terms is (inl (last, adds)) = rw (adds, is) (omega arith)
     at Terms is (inr (term, stands, adds)) = rw (adds, is) (omega (arith, length_push s.terms term))

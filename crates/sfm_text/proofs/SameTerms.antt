@@ -1,27 +1,33 @@
 -- Two terms that one line stands for are one: a line tells all that a term says of itself.
-use Rattle.std.proofs.Common.{◌≡◌, ◌≢◌, ◌↔◌, ℕ, ◌<◌, ◌≤◌, ◌^◌, inl, inr, List, [], ◌∷◌, ◌++◌, length, get_or, AllPairs, ℤ, pos, refl, sym, ap, ◌∙◌, arith}
+use Rattle.std.proofs.Common.{◌≡◌, ◌≢◌, ◌↔◌, ℕ, ◌+◌, ◌<◌, ◌≤◌, inl, inr, List, [], ◌∷◌, ◌++◌, length, get_or, AllPairs, Bool, None, ℤ, pos, ◌+ℤ◌, ◌≤ℤ◌, refl, sym, ap, subst, ◌∙◌, arith}
 use Rattle.std.specs.List.{AllZip}
 use Rattle.std.proofs.lemmas.Int.{ints, by_lt_z}
 use Rattle.std.proofs.lemmas.Bool.{cases_lt}
 use Rattle.std.proofs.lemmas.Option.{slice_get_within}
-use Rattle.std.proofs.lemmas.List.{length_push}
 use mathlib.Core.Logic.{⊎_elim}
-use Rattle.sfm_spec.specs.Sets.{IsPlaced}
+use Rattle.sfm_spec.specs.Sets.{IsPlaced, size as set_size}
+use Rattle.sfm_spec.specs.Kinds.{Group, Edge, IsWithinCaps, IsForest, IsMatchable}
+use Rattle.sfm_spec.specs.Laws.{ones}
 use Rattle.sfm_spec.specs.Terms.{SetFunction}
 use Rattle.sfm_spec.specs.Families.{Meaning}
-use Rattle.sfm_kind.specs.Meanings.{kind_places, IsValueOf, IsMeaningOf}
+use Rattle.sfm_kind.specs.Meanings.{kind_places, IsIndependentIn, IsValueOf, IsMeaningOf}
+use Rattle.sfm_layers.specs.Weights.{IsWeightedRank}
 use Rattle.sfm_kind.specs.Instance.{support_of}
+use Rattle.sfm_kind.specs.Kinds.{kind_size}
+use Rattle.sfm_kind.specs.Layers.{Brings}
 use Rattle.sfm_kind.specs.Limits.{AreInBounds, total_size_of}
 use Rattle.sfm_kind.specs.declared.kind.Kind.{Kind}
+use Rattle.sfm_kind.specs.declared.version.Version.{Version}
 use Rattle.sfm_kind.specs.declared.kind.Kind.TheVariants.{Weight, Cut, Need, Cover, Table, Concave, Uniform, Laminar, Graphic, Transversal}
-use Rattle.sfm_kind.proofs.Bounds.{kind-elements, total_size-push, support-push, in_bounds-push}
+use Rattle.sfm_kind.proofs.Bounds.{kind-elements, in_bounds-push}
 use Rattle.sfm_lines.specs.Parts.{LineParts}
-use Rattle.sfm_lines.specs.Words.{lowest_of, IsMadeOf}
+use Rattle.sfm_lines.specs.Versions.{most_size}
+use Rattle.sfm_lines.specs.Words.{IsMadeOf}
 use Rattle.sfm_lines.specs.ReadParts.{IsTermOf}
 use Rattle.sfm_lines.specs.RankLines.{IsRankMadeOf}
 use Rattle.sfm_lines.specs.declared.word.RankKind.{RankKind}
 use Rattle.sfm_lines.specs.declared.word.RankKind.TheVariants.{UniformRank, LaminarRank, GraphicRank, TransversalRank}
-use Rattle.sfm_lines.specs.TermLines.{IsNumberFrom, IsElement, StandsFor}
+use Rattle.sfm_lines.specs.TermLines.{IsNumberFor, IsElement, StandsFor}
 use Rattle.sfm_lines.specs.Reading.{AreTooMuch}
 use Rattle.sfm_text.specs.OneTerm.{AreOneTerm}
 use Rattle.sfm_lines.specs.declared.word.TermWord.{TermWord}
@@ -30,7 +36,7 @@ use Rattle.sfm_lines.proofs.WordLines.{of-term-line}
 use Rattle.sfm_lines.proofs.Matches.{AllZip-same, AllZip-both, length-AllZip}
 use Rattle.sfm_lines.proofs.Numbers.{from-same}
 use Rattle.sfm_lines.proofs.TermReasons.{place-same}
-use Rattle.sfm_text.proofs.TooMuch.{much-by-total, total-by-much}
+use Rattle.sfm_text.proofs.TooMuch.{brings-same, most_size-high, terms-few, much-by-total}
 
 same_first : (a b : ℤ) → a ∷ [] ≡ b ∷ [] → a ≡ b
 same_first a b e = cc
@@ -48,6 +54,21 @@ meanings-by s t same forth back meant = (
   λ h. record { places = h.places ∙ sym same; values = back meant.value h.values },
 )
 
+-- a rank over as many places, with the same number and the same independent parts
+rank-as : (w v : ℤ) (I J : List Bool → Type 0) (k m : ℕ) (f : SetFunction) → w ≡ v → k ≡ m → ((t : List Bool) → I t → J t) → ((t : List Bool) → J t → I t)
+    → IsWeightedRank w I (ones k) f → IsWeightedRank v J (ones m) f
+rank-as w v I J k m f number places forth back h =
+    let told : IsWeightedRank v I (ones m) f = rw (number, places) at h in
+    λ s len.
+    let (r, most, value) = told s len in (
+      r,
+      record {
+        reached = let (t, places, within, free, sum) = most.reached in (t, places, within, forth t free, sum);
+        greatest = λ t places within free. most.greatest t places within (back t free);
+      },
+      value,
+    )
+
 -- a rank is told by its number and what it is made of
 rank-one : (rank : RankKind) (parts : LineParts) (values : List ℤ) (s t : Kind)
     → kind_places s ≡ kind_places t → IsRankMadeOf rank parts values s
@@ -55,45 +76,53 @@ rank-one : (rank : RankKind) (parts : LineParts) (values : List ℤ) (s t : Kind
 rank-one UniformRank parts values (Uniform a) (Uniform b) same h g =
     let (number, cap) = same_both a.w a.cap b.w b.cap (h ∙ sym g) in
     let places : a.places ≡ b.places = same in
+    let forth : (t : List Bool) → IsIndependentIn (Uniform a) t → IsIndependentIn (Uniform b) t = λ t. subst (λ (c : ℤ). pos (set_size t) ≤ℤ c) cap in
+    let back : (t : List Bool) → IsIndependentIn (Uniform b) t → IsIndependentIn (Uniform a) t = λ t. subst (λ (c : ℤ). pos (set_size t) ≤ℤ c) (sym cap) in
     record {
       places = same;
       values = λ part. rw (number, cap) refl;
       size = rw (number, cap, places) refl;
       starts = λ q. rw (number, cap, places) refl;
-      meanings = meanings-by (Uniform a) (Uniform b) same (λ f is. rw (number, cap) at is) (λ f is. rw (← number, ← cap) at is);
+      meanings = meanings-by (Uniform a) (Uniform b) same (λ f is. rank-as a.w b.w _ _ _ _ f number (ap length places) forth back is) (λ f is. rank-as b.w a.w _ _ _ _ f (sym number) (sym (ap length places)) back forth is);
     }
 rank-one LaminarRank parts values (Laminar a) (Laminar b) same h g =
     let number : a.w ≡ b.w = h.0 ∙ sym g.0 in
     let groups : a.groups ≡ b.groups = h.1 ∙ sym g.1 in
     let places : a.places ≡ b.places = same in
+    let forth : (t : List Bool) → IsIndependentIn (Laminar a) t → IsIndependentIn (Laminar b) t = λ t. subst (λ (l : List Group). IsWithinCaps l t) groups in
+    let back : (t : List Bool) → IsIndependentIn (Laminar b) t → IsIndependentIn (Laminar a) t = λ t. subst (λ (l : List Group). IsWithinCaps l t) (sym groups) in
     record {
       places = same;
       values = λ part. rw (number, groups, places) refl;
       size = rw (number, groups, places) refl;
       starts = λ q. rw (number, groups, places) refl;
-      meanings = meanings-by (Laminar a) (Laminar b) same (λ f is. rw (number, groups, places) at is) (λ f is. rw (← number, ← groups, ← places) at is);
+      meanings = meanings-by (Laminar a) (Laminar b) same (λ f is. rank-as a.w b.w _ _ _ _ f number (ap length places) forth back is) (λ f is. rank-as b.w a.w _ _ _ _ f (sym number) (sym (ap length places)) back forth is);
     }
 rank-one GraphicRank parts values (Graphic a) (Graphic b) same h g =
     let number : a.w ≡ b.w = h.0 ∙ sym g.0 in
     let ends : a.ends ≡ b.ends = h.1 ∙ sym g.1 in
     let places : a.places ≡ b.places = same in
+    let forth : (t : List Bool) → IsIndependentIn (Graphic a) t → IsIndependentIn (Graphic b) t = λ t. subst (λ (l : List Edge). IsForest l t) ends in
+    let back : (t : List Bool) → IsIndependentIn (Graphic b) t → IsIndependentIn (Graphic a) t = λ t. subst (λ (l : List Edge). IsForest l t) (sym ends) in
     record {
       places = same;
       values = λ part. rw (number, ends) refl;
       size = rw (number, ends) refl;
       starts = λ q. rw (number, ends) refl;
-      meanings = meanings-by (Graphic a) (Graphic b) same (λ f is. rw (number, ends, places) at is) (λ f is. rw (← number, ← ends, ← places) at is);
+      meanings = meanings-by (Graphic a) (Graphic b) same (λ f is. rank-as a.w b.w _ _ _ _ f number (ap length places) forth back is) (λ f is. rank-as b.w a.w _ _ _ _ f (sym number) (sym (ap length places)) back forth is);
     }
 rank-one TransversalRank parts values (Transversal a) (Transversal b) same h g =
     let number : a.w ≡ b.w = h.0 ∙ sym g.0 in
     let entries : a.entries ≡ b.entries = h.1 ∙ sym g.1 in
     let places : a.places ≡ b.places = same in
+    let forth : (t : List Bool) → IsIndependentIn (Transversal a) t → IsIndependentIn (Transversal b) t = λ t. subst (λ (l : List (List ℕ)). IsMatchable l t) entries in
+    let back : (t : List Bool) → IsIndependentIn (Transversal b) t → IsIndependentIn (Transversal a) t = λ t. subst (λ (l : List (List ℕ)). IsMatchable l t) (sym entries) in
     record {
       places = same;
       values = λ part. rw (number, entries) refl;
       size = rw (number, entries) refl;
       starts = λ q. rw (number, entries) refl;
-      meanings = meanings-by (Transversal a) (Transversal b) same (λ f is. rw (number, entries, places) at is) (λ f is. rw (← number, ← entries, ← places) at is);
+      meanings = meanings-by (Transversal a) (Transversal b) same (λ f is. rank-as a.w b.w _ _ _ _ f number (ap length places) forth back is) (λ f is. rank-as b.w a.w _ _ _ _ f (sym number) (sym (ap length places)) back forth is);
     }
 rank-one UniformRank parts values (Uniform a) _ same h g = absurd g
 rank-one LaminarRank parts values (Laminar a) _ same h g = absurd g
@@ -169,28 +198,29 @@ made-one TableWord parts values (Table a) _ same h g = absurd g
 made-one ConcaveWord parts values (Concave a) _ same h g = absurd g
 made-one _ parts values _ _ same h g = absurd h
 
-pub stands-same : (names tokens : List (List ℕ)) (s t : Kind) → AllPairs (λ a b. a ≢ b) names
-    → StandsFor names tokens s → StandsFor names tokens t → AreOneTerm s t
-stands-same names tokens s t distinct h g =
-    let P : TermWord → List (List ℕ) → LineParts → Type 0 = λ word rest parts. (values : List ℤ) × (places : List ℕ) × AllZip (IsNumberFrom (lowest_of word)) parts.numbers values × AllZip (IsElement names) parts.elements places × IsTermOf word parts values places t in
+pub stands-same : (version : Version) (names tokens : List (List ℕ)) (s t : Kind) → AllPairs (λ a b. a ≢ b) names
+    → StandsFor version names tokens s → StandsFor version names tokens t → AreOneTerm s t
+stands-same version names tokens s t distinct h g =
+    let P : TermWord → List (List ℕ) → LineParts → Type 0 = λ word rest parts. (values : List ℤ) × (places : List ℕ) × AllZip (IsNumberFor version word) parts.numbers values × AllZip (IsElement names) parts.elements places × IsTermOf word parts values places t in
     let (values, places, numbers, elements, made) = of-term-line h.word tokens h.rest h.parts P h.shaped.0 h.shaped.1 (g.word, g.rest, g.parts, g.shaped, (g.values, g.places, g.numbers, g.elements, record { same_places = g.same_places; made = g.made })) in
-    let same_values : values ≡ h.values = AllZip-same (IsNumberFrom (lowest_of h.word)) (from-same (lowest_of h.word)) h.parts.numbers values h.values numbers h.numbers in
+    let same_values : values ≡ h.values = AllZip-same (IsNumberFor version h.word) (from-same version h.word) h.parts.numbers values h.values numbers h.numbers in
     let same_places : places ≡ h.places = AllZip-same (IsElement names) (place-same names distinct) h.parts.elements places h.places elements h.elements in
     let made' : IsTermOf h.word h.parts h.values h.places t = rw (same_values, same_places) at made in
     made-one h.word h.parts h.values s t (h.same_places ∙ sym made'.same_places) h.made made'.made
 
--- so there is too much with the one exactly where there is with the other
-pub much-same : (terms : List Kind) (s t : Kind) → AreOneTerm s t → AreTooMuch (terms ++ t ∷ [])
-    → AreTooMuch (terms ++ s ∷ [])
-much-same terms s t same (inl many) = inl (omega (arith, many, length_push terms s, length_push terms t))
-much-same terms s t same (inr (inl many)) = inr (inl (omega (arith, many, support-push terms s, support-push terms t, ap length same.places)))
-much-same terms s t same (inr (inr (meant, means, many))) =
-    much-by-total (terms ++ s ∷ []) (omega (arith, ints, total-by-much (terms ++ t ∷ []) meant means many, total_size-push terms s, total_size-push terms t, same.size))
+-- so there is too much with the one where there is with the other
+pub much-same : (version : Version) (lines : List ℕ) (terms : List Kind) (s t : Kind) (places : ℕ) (total : ℤ) → AreOneTerm s t → Brings t None places total
+    → AreTooMuch version lines terms places total → AreTooMuch version lines terms (length (kind_places s)) (kind_size s)
+much-same version lines terms s t places total same brings much =
+    let b = brings-same t places total brings in
+    let count : places ≡ length (kind_places s) = b.0 ∙ sym (ap length same.places) in
+    let size : total ≡ kind_size s = b.1 ∙ sym same.size in
+    subst (λ (z : ℤ). AreTooMuch version lines terms (length (kind_places s)) z) size (subst (λ (n : ℕ). AreTooMuch version lines terms n total) count much)
 
 -- the places of the term are places of the ground
-pub stands-placed : (names tokens : List (List ℕ)) (term : Kind) → StandsFor names tokens term
+pub stands-placed : (version : Version) (names tokens : List (List ℕ)) (term : Kind) → StandsFor version names tokens term
     → IsPlaced (length names) (kind_places term)
-stands-placed names tokens term h =
+stands-placed version names tokens term h =
     let is : kind_places term ≡ h.places = h.same_places in
     let n = length-AllZip (IsElement names) h.parts.elements h.places h.elements in
     record {
@@ -202,11 +232,19 @@ stands-placed names tokens term h =
     }
 
 -- a term that is not too much keeps the bounds
-pub bounded-more : (n : ℕ) (terms : List Kind) (term : Kind) → AreInBounds n terms
-    → IsPlaced n (kind_places term) → (AreTooMuch (terms ++ term ∷ []) → ⊥)
+pub bounded-more : (n : ℕ) (version : Version) (lines : List ℕ) (terms : List Kind) (term : Kind) → AreInBounds n terms
+    → IsPlaced n (kind_places term) → (AreTooMuch version lines terms (length (kind_places term)) (kind_size term) → ⊥)
     → AreInBounds n (terms ++ term ∷ [])
-bounded-more n terms term h placed few = in_bounds-push n terms term h placed (record {
-  few_terms = ⊎_elim (λ (lt : 4096 < length (terms ++ term ∷ [])). absurd (few (inl lt))) (λ (le : length (terms ++ term ∷ []) ≤ 4096). omega (arith, le, length_push terms term)) (cases_lt 4096 (length (terms ++ term ∷ [])));
-  few_places = ⊎_elim (λ (lt : 16384 < support_of (terms ++ term ∷ [])). absurd (few (inr (inl lt)))) (λ (le : support_of (terms ++ term ∷ []) ≤ 16384). omega (arith, le, support-push terms term)) (cases_lt 16384 (support_of (terms ++ term ∷ [])));
-  small = by_lt_z (pos (10 ^ 15)) (total_size_of (terms ++ term ∷ [])) (λ lt. absurd (few (much-by-total (terms ++ term ∷ []) lt))) (λ le. omega (arith, ints, le, total_size-push terms term));
-})
+bounded-more n version lines terms term h placed few =
+    let all : support_of terms + length (kind_places term) ≤ 16384 = ⊎_elim
+    (λ (lt : 16384 < support_of terms + length (kind_places term)). absurd (few (inr (inl lt))))
+    (λ (le : support_of terms + length (kind_places term) ≤ 16384). le)
+    (cases_lt 16384 (support_of terms + length (kind_places term))) in
+    let one = (kind-elements term).some in
+    let each = terms-few terms in
+    let most = most_size-high version in
+    in_bounds-push n terms term h placed (record {
+      few_terms = omega (arith, all, one, each);
+      few_places = all;
+      small = by_lt_z (most_size version) (total_size_of terms +ℤ kind_size term) (λ lt. absurd (few (much-by-total version lines terms (length (kind_places term)) (kind_size term) lt))) (λ le. omega (arith, ints, le, most));
+    })

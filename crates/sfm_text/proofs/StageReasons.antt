@@ -4,12 +4,15 @@ use Rattle.std.specs.List.{All, Any}
 use Rattle.std.proofs.lemmas.List.Elements.{All-get_or}
 use Rattle.sfm_spec.specs.Names.{IsName}
 use Rattle.sfm_kind.specs.Instance.{InstanceData}
+use Rattle.sfm_kind.specs.declared.version.Version.{Version}
+use Rattle.sfm_kind.specs.declared.version.Version.TheVariants.{First, Second}
 use Rattle.sfm_lines.specs.declared.reason.Reason.{Reason}
 use Rattle.sfm_lines.specs.declared.reason.Reason.TheVariants.{Long, Bytes, Word, Shape, Number, Name, Twice, Law, Total}
 use Rattle.sfm_lines.specs.declared.stage.Stage.TheVariants.{Header, Ground, Terms, Ended}
 use Rattle.sfm_lines.specs.declared.word.TermWord.{TermWord}
 use Rattle.sfm_lines.specs.Lines.{tokens_of}
 use Rattle.sfm_lines.specs.Parts.{LineParts, IsMark, AreUnmarked}
+use Rattle.sfm_lines.specs.Versions.{header_tokens}
 use Rattle.sfm_lines.specs.Words.{word_text}
 use Rattle.sfm_lines.specs.TermLines.{StandsTwice}
 use Rattle.sfm_lines.specs.Reading.{State, Has, FirstReason, Takes, HasTermLine, reason_order}
@@ -45,13 +48,20 @@ ground-unmarked names unmarked = all-more (λ token. IsMark token → ⊥) (code
 pub none-at-all : (s : State) (line : List ℕ) → (Has s line Bytes → ⊥) → (Has s line Word → ⊥) → (Has s line Shape → ⊥) → (Has s line Number → ⊥) → (Has s line Name → ⊥) → (Has s line Twice → ⊥) → (Has s line Law → ⊥) → (Has s line Total → ⊥) → (reason : Reason) → Has s line reason → ⊥
 none-at-all s line bytes word shape number name twice law total reason = none-below s line 10 (λ lt. bytes) (λ lt. word) (λ lt. shape) (λ lt. number) (λ lt. name) (λ lt. twice) (λ lt. law) (λ lt. total) reason (order-below reason)
 
+-- each header begins with the same word
+header-word : (version : Version) → (rest : List (List ℕ)) × (header_tokens version ≡ codes "sfm" ∷ rest)
+header-word First = (codes "1" ∷ [], refl)
+header-word Second = (codes "2" ∷ [], refl)
+
 module _ (i : InstanceData) (line : List ℕ) where
   -- the header
-  pub header-good : IsLineOf line (codes "sfm" ∷ codes "1" ∷ []) → Takes (state_at Header i) line (state_at Ground i)
-  header-good is = record {
-    good = none-at-all (state_at Header i) line is.good_bytes (λ h. h (codes "1" ∷ []) is.tokens_are) (λ h. h is.tokens_are) (λ h. h) (λ h. h) (λ h. h) (λ h. h) (λ h. h);
-    adds = refl;
-  }
+  pub header-good : (version : Version) → IsLineOf line (header_tokens version) → Takes (state_at Header i) line (record { stage = Ground; version = version; names = []; terms = []; lines = [] })
+  header-good version is =
+      let (rest, begins) = header-word version in
+      record {
+        good = none-at-all (state_at Header i) line is.good_bytes (λ h. h rest (is.tokens_are ∙ begins)) (λ h. h version is.tokens_are) (λ h. h) (λ h. h) (λ h. h) (λ h. h) (λ h. h);
+        adds = (version, is.tokens_are, refl);
+      }
 
   module _ (names : List (List ℕ)) (is : IsLineOf line (codes "ground" ∷ names)) where
     names-same : (rest : List (List ℕ)) → tokens_of line ≡ codes "ground" ∷ rest → rest ≡ names
@@ -99,7 +109,7 @@ module _ (i : InstanceData) (line : List ℕ) where
             first = none-below (state_at Ground i) line 8 (λ lt h. is.good_bytes h) (λ lt h. h names is.tokens_are) (λ lt h. no-mark h) (λ lt h. h) (λ lt h. no-name h) (λ lt h. no-twice h) (λ lt h. h) (λ lt. absurd (omega arith));
           }
 
-          pub ground-good : length names ≤ 256 → Takes (state_at Ground i) line (record { stage = Terms; names = names; terms = [] })
+          pub ground-good : length names ≤ 256 → Takes (state_at Ground i) line (record { stage = Terms; version = i.version; names = names; terms = []; lines = [] })
           ground-good few = record {
             good = none-at-all (state_at Ground i) line is.good_bytes (λ h. h names is.tokens_are) no-mark (λ h. h) no-name no-twice (λ h. h) (λ (rest, e, many). absurd (omega (arith, many, few, ap length (names-same rest e))));
             adds = (names, is.tokens_are, refl);

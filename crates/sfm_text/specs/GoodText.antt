@@ -1,27 +1,29 @@
 -- Which texts are good instance texts and the instance that each stands for, and the first fault of a text that is not good.
 use Rattle.std.specs.Prelude.{◌≡◌, ℕ, List, [], map}
 use Rattle.std.specs.List.{FoldsTo}
-use Rattle.sfm_kind.specs.declared.kind.Kind.{Kind}
+use Rattle.sfm_kind.specs.Instance.{InstanceData}
+use Rattle.sfm_kind.specs.declared.version.Version.TheVariants.{First}
 use Rattle.sfm_text.specs.declared.end.TextEnd.{TextEnd}
 use Rattle.sfm_lines.specs.declared.reason.Reason.{Reason}
 use Rattle.sfm_lines.specs.declared.stage.Stage.TheVariants.{Header, Ended}
 use Rattle.sfm_lines.specs.Lines.{content_of}
 use Rattle.sfm_lines.specs.Reading.{State, Has, Takes}
+use Rattle.sfm_lines.specs.ReadParts.{state_at}
 pub use Rattle.sfm_text.specs.Language.{text_limit, is_long, is_faulty, is_short}
 use Rattle.sfm_text.specs.Language.{Language, IsFirstOf, IsReadAs, HasFaultyLineIn, IsFaultIn, IsRefusalIn}
 
 -- how an instance text is read: up to the line `end`; before the first content line the header is due
 abbrev pub instance_language : Language State
 instance_language = record {
-  start = record { stage = Header; names = []; terms = [] };
+  start = record { stage = Header; version = First; names = []; terms = []; lines = [] };
   Takes = Takes;
   IsFirst = λ s line reason. IsFirstOf (Has s line) reason;
   IsEnd = λ s. s.stage ≡ Ended;
 }
 
--- the content lines lead from the start to the end, with these names and terms
-abbrev pub IsTextOf : List ℕ → List (List ℕ) → List Kind → Type 0
-IsTextOf text names terms = IsReadAs instance_language text (record { stage = Ended; names = names; terms = terms })
+-- the content lines lead from the start to the end, with the version, the names, the terms and the lines of the instance
+abbrev pub IsTextOf : List ℕ → InstanceData → Type 0
+IsTextOf text instance = IsReadAs instance_language text (state_at Ended instance)
 
 -- the first content line with a reason, all before it being good
 abbrev pub HasFaultyLine : List ℕ → ℕ → Reason → Type 0

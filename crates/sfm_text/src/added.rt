@@ -1,12 +1,12 @@
 // One term line, judged against an instance: its term is added behind the others, or the first reason is told for which the
 // line has none. A text's term lines are read by this call too, so that a line is judged alike wherever it comes from.
-ghost use Rattle.std.specs.{Prelude.{◌≡◌, ◌≢◌, ◌↔◌, ◌<◌, ◌≤◌, ◌^◌, ℕ, List, [], ◌∷◌, ◌++◌, length, IsTrue, Any, IfOk, IfErr, MatchBool, MatchOption, MatchResult, OnErr}, List.{All}};
-ghost use Rattle.sfm_kind.specs.{Limits.{AreInBounds}, Names.{AreElementNames}};
-ghost use Rattle.sfm_lines.specs.{Lines.{tokens_of}, Words.{word_text}, Reading.{IsBadByte, AreTooMuch}, ReadParts.{bytes_in, state_at, IsTermRead}, declared.stage.Stage.TheVariants.{Terms}, declared.word.TermWord.{TermWord}};
+ghost use Rattle.std.specs.{Prelude.{◌≡◌, ◌≢◌, ◌↔◌, ◌<◌, ◌≤◌, ◌^◌, ◌≤ℤ◌, ℕ, pos, List, [], ◌∷◌, ◌++◌, length, IsTrue, Any, IfOk, IfErr, MatchBool, MatchOption, MatchResult, OnErr}, List.{All}};
+ghost use Rattle.sfm_kind.specs.{Kinds.{kind_places, kind_size}, Limits.{AreInBounds}, Names.{AreElementNames}};
+ghost use Rattle.sfm_lines.specs.{Lines.{tokens_of}, Versions.{most_size}, Words.{word_text}, Reading.{IsBadByte, AreTooMuch}, ReadParts.{bytes_in, state_at, IsTermRead}, declared.stage.Stage.TheVariants.{Terms}, declared.word.TermWord.{TermWord}};
 ghost use Rattle.sfm_passes.specs.GroupPasses.{IsRefusedBy};
 ghost use Rattle.sfm_text.specs.{Judging.{IsOutcome}, GoodText.{text_limit}, Adding.{IsTermAdded, IsTermRefusal}};
 
-use sfm_kind::{Instance, Kind};
+use sfm_kind::{Instance, Kind, Version};
 use sfm_law::Term;
 use sfm_lines::term_line::read_term;
 use sfm_lines::tokens::{first_token, tokens};
@@ -15,12 +15,10 @@ use sfm_lines::{LineEnd, Reason};
 use sfm_passes::{early_reason, early_term};
 use std::alloc::Global;
 
-/// The most terms, places and sizes of a text in all.
-const MOST_TERMS: usize = 4_096;
+/// The most term lines and places of a text in all.
+const MOST_LINES: usize = 4_096;
 
 const MOST_PLACES: usize = 16_384;
-
-const MOST_SIZE: i128 = 1_000_000_000_000_000;
 
 /// Whether a content line may hold the byte: a tab, or one from the space to `~`.
 fn is_good_byte(c: u8) -> bool
@@ -56,15 +54,39 @@ fn term_line(line: &[u8]) -> Option<(TermWord, &[u8])>
     }
 }
 
-/// Whether there is too much in all with one more term.
-fn is_too_much(instance: &Instance, term: &Kind) -> bool
-    ensures much { IsTrue result ↔ AreTooMuch (instance.now.terms ++ term.now ∷ []) }
+/// The most that the sizes of a text of that version may add to.
+fn size_limit(version: Version) -> i128
+    ensures most { result ≡ most_size version }
+    ensures low { pos 0 ≤ℤ result }
+    ensures small { result ≤ℤ pos (10 ^ 18) }
+{
+    match version {
+        Version::First => 1_000_000_000_000_000,
+        Version::Second => 1_000_000_000_000_000_000,
+    }
+}
+
+/// Whether there is too much in all with one more line, of so many places and that size.
+fn is_too_much(instance: &Instance, places: usize, size: i128) -> bool
+    ensures much { IsTrue result ↔ AreTooMuch instance.now.version instance.now.lines
+        instance.now.terms places size }
     ensures bounded { AreInBounds (length instance.now.names) instance.now.terms }
 {
-    let terms = instance.terms();
+    let _terms = instance.terms();
     let places_left = MOST_PLACES - instance.support();
-    let size_left = MOST_SIZE - instance.total_size();
-    terms.len() >= MOST_TERMS || term.elements().len() > places_left || term.size() > size_left
+    let version = instance.text_version();
+    let most = size_limit(version);
+    let size_left = most - instance.total_size();
+    instance.lines().len() >= MOST_LINES || places > places_left || size > size_left
+}
+
+/// Whether there is too much in all with one more line, of that term.
+fn is_too_much_with(instance: &Instance, term: &Kind) -> bool
+    ensures much { IsTrue result ↔ AreTooMuch instance.now.version instance.now.lines
+        instance.now.terms (length (kind_places term.now)) (kind_size term.now) }
+    ensures bounded { AreInBounds (length instance.now.names) instance.now.terms }
+{
+    is_too_much(instance, term.elements().len(), term.size())
 }
 
 /// Adds the term of a line that has no other reason than that there may be too much with it.
@@ -78,7 +100,7 @@ fn add_made(instance: &mut Instance, term: Kind) -> Result<(), LineEnd>
     ensures unchanged { OnErr result (instance.new ≡ instance.old) }
 {
     let _count = instance.names_len();
-    if is_too_much(instance, &term) {
+    if is_too_much_with(instance, &term) {
         return Err(LineEnd::Fault(Reason::Total));
     }
     instance.add_term(term)?;

@@ -4,22 +4,22 @@ ghost use Rattle.std.specs.{Prelude.{◌≡◌, ◌↔◌, ℕ, Bool, List, leng
 ghost use Rattle.sfm_spec.specs.Kinds.{Group, IsWithinCaps, IsMatchable};
 ghost use Rattle.sfm_laminar.specs.Crossing.{IsCrossing};
 ghost use Rattle.sfm_lines.specs.{LabelTerms.{numbers_of}, RankLines.{least_groups}, TermLines.{StandsTwice}, declared.reason.Reason.{Reason}};
-ghost use Rattle.sfm_kind.specs.declared.kind.Kind.{Kind};
+ghost use Rattle.sfm_kind.specs.Instance.{InstanceData};
 ghost use Rattle.sfm_text.specs.{GoodText.{IsTextOf, IsFaultOf}, OneTerm.{AreOneTerm}};
 
 /// A text is not both good and faulty, and has one first fault: its line and its reason are the only ones.
 pub fn one_fault(_text: &[u8])
-    ensures not_both { (names : List (List ℕ)) (terms : List Kind) (line : ℕ) (reason : Reason)
-        → IsTextOf _text.now names terms → IsFaultOf _text.now line reason → ⊥ }
+    ensures not_both { (instance : InstanceData) (line : ℕ) (reason : Reason)
+        → IsTextOf _text.now instance → IsFaultOf _text.now line reason → ⊥ }
     ensures first { (line line' : ℕ) (reason reason' : Reason) → IsFaultOf _text.now line reason
         → IsFaultOf _text.now line' reason' → (line ≡ line') × (reason ≡ reason') }
 {}
 
-/// A good text stands for one thing: however it is read, the names are the same, and so is each term.
+/// A good text stands for one thing: however it is read, the version, the names and the lines are the same, and so is each term.
 pub fn one_meaning(_text: &[u8])
-    ensures { (names names' : List (List ℕ)) (terms terms' : List Kind)
-        → IsTextOf _text.now names terms → IsTextOf _text.now names' terms'
-        → (names ≡ names') × AllZip AreOneTerm terms terms' }
+    ensures { (a b : InstanceData) → IsTextOf _text.now a → IsTextOf _text.now b
+        → (a.version ≡ b.version) × (a.names ≡ b.names) × AllZip AreOneTerm a.terms b.terms
+        × (a.lines ≡ b.lines) }
 {}
 
 /// Of groups with the same members one with the least cap stands for all: the same parts are within the caps of those that are

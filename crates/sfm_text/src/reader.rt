@@ -141,7 +141,7 @@ impl Reader {
     /// spent.
     pub fn finish(self, alloc: Global) -> Result<Instance, TextEnd>
         ensures read { IfOk result (λ instance. (text : List ℕ) → Stands self text
-            → IsTextOf text instance.names instance.terms) }
+            → IsTextOf text instance) }
         ensures refused { IfErr result (λ end. (text : List ℕ) → Stands self text
             → IsRefusalOf text end) }
         ensures spent { self.spent ≡ true → result ≡ Err ends.Memory }
@@ -157,7 +157,7 @@ impl Reader {
     /// As those of `finish`.
     pub fn finish_numbered(mut self, alloc: Global) -> Result<Numbered, TextEnd>
         ensures read { IfOk result (λ r. (text : List ℕ) → Stands self text
-            → IsTextOf text r.instance.names r.instance.terms) }
+            → IsTextOf text r.instance) }
         ensures numbered { IfOk result (λ r. (text : List ℕ) → Stands self text
             → AreNumbersOf text r.ground_line r.term_lines.items) }
         ensures counted { IfOk result (λ r. (text : List ℕ) → Stands self text
@@ -365,7 +365,7 @@ fn split_numbers(mut numbers: Vec<usize>) -> Option<(usize, Vec<usize>)>
 ///
 /// `Refused` with the line and the reason of the first fault; `Memory` where there is none.
 pub fn read_instance(alloc: Global, text: &[u8]) -> Result<Instance, TextEnd>
-    ensures read { IfOk result (λ instance. IsTextOf text.now instance.names instance.terms) }
+    ensures read { IfOk result (λ instance. IsTextOf text.now instance) }
     ensures refused { IfErr result (IsRefusalOf text.now) }
 {
     read_pieces(alloc, &[text])
@@ -377,8 +377,7 @@ pub fn read_instance(alloc: Global, text: &[u8]) -> Result<Instance, TextEnd>
 ///
 /// `Refused` with the line and the reason of the first fault; `Memory` where there is none.
 pub fn read_pieces(alloc: Global, pieces: &[&[u8]]) -> Result<Instance, TextEnd>
-    ensures read { IfOk result (λ instance. IsTextOf (concat (texts_of pieces.now)) instance.names
-        instance.terms) }
+    ensures read { IfOk result (λ instance. IsTextOf (concat (texts_of pieces.now)) instance) }
     ensures refused { IfErr result (IsRefusalOf (concat (texts_of pieces.now))) }
 {
     let mut reader = Reader::new(alloc)?;
@@ -394,7 +393,7 @@ pub fn read_pieces(alloc: Global, pieces: &[&[u8]]) -> Result<Instance, TextEnd>
 ///
 /// `Refused` with the line and the reason of the first fault; `Memory` where there is none.
 pub fn read_numbered(alloc: Global, text: &[u8]) -> Result<Numbered, TextEnd>
-    ensures read { IfOk result (λ r. IsTextOf text.now r.instance.names r.instance.terms) }
+    ensures read { IfOk result (λ r. IsTextOf text.now r.instance) }
     ensures numbered { IfOk result (λ r. AreNumbersOf text.now r.ground_line r.term_lines.items) }
     ensures counted { IfOk result (λ r. length r.term_lines.items ≡ length r.instance.terms) }
     ensures refused { IfErr result (IsRefusalOf text.now) }

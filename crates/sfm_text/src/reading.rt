@@ -1,13 +1,13 @@
 // Reading line by line: what a content line adds to what was read before it, or the first reason for which it is refused.
 ghost use Rattle.std.specs.{Prelude.{◌≡◌, ◌≢◌, ◌≤◌, ℕ, List, [], ◌∷◌, length, bytes_eq, codes, MatchBool, IfOk, MatchOption, MatchResult}, Str.Lines.{strip_carriage_return}};
 ghost use Rattle.sfm_kind.specs.Instance.{InstanceData};
-ghost use Rattle.sfm_lines.specs.{Lines.{tokens_of}, Reading.{start, FirstReason, Takes, IsLineRefusal}, ReadParts.{state_at, IsLineOf}, declared.stage.Stage.TheVariants.{Ground}};
+ghost use Rattle.sfm_lines.specs.{Lines.{tokens_of}, Versions.{header_tokens}, Reading.{start, FirstReason, Takes, IsLineRefusal}, ReadParts.{state_at, IsLineOf}, declared.stage.Stage.TheVariants.{Ground}};
 ghost use Rattle.sfm_text.specs.{Judging.{AreGroundNames, BeginsEnd}, GoodText.{text_limit}};
 
 use crate::added::{add_line, are_good_bytes};
 use crate::lines::without_return;
 use sfm_base::Memory;
-use sfm_kind::Instance;
+use sfm_kind::{Instance, Version};
 use sfm_lines::tokens::{first_token, has_token, is_skipped, token};
 use sfm_lines::{LineEnd, Reason, Stage};
 use sfm_passes::{Separator, are_names_in, has_mark_in, has_repeat_in};
@@ -44,16 +44,54 @@ pub fn behind<'a>(word: &[u8], line: &'a [u8]) -> Option<&'a [u8]>
     if first == word { Some(rest) } else { None }
 }
 
+/// Whether a line has that one token.
+fn has_only(word: &[u8], line: &[u8]) -> bool
+    ensures { MatchBool result
+        (tokens_of line.now ≡ word.now ∷ [])
+        (tokens_of line.now ≢ word.now ∷ []) }
+{
+    match behind(word, line) {
+        Some(more) => first_token(more).is_none(),
+        None => false,
+    }
+}
+
 /// Whether a line has the one token `1`.
 pub fn is_version(line: &[u8]) -> bool
     ensures { MatchBool result
         (tokens_of line.now ≡ codes "1" ∷ [])
         (tokens_of line.now ≢ codes "1" ∷ []) }
 {
-    match behind(b"1", line) {
-        Some(more) => first_token(more).is_none(),
-        None => false,
+    has_only(b"1", line)
+}
+
+/// The version whose number is the one token of a line behind `sfm`, or None where there is none.
+fn version_behind(line: &[u8]) -> Option<Version>
+    ensures { MatchOption result
+        ((version : Version) → codes "sfm" ∷ tokens_of line.now ≢ header_tokens version)
+        (λ version. codes "sfm" ∷ tokens_of line.now ≡ header_tokens version) }
+{
+    if is_version(line) {
+        return Some(Version::First);
     }
+    if has_only(b"2", line) {
+        return Some(Version::Second);
+    }
+    None
+}
+
+/// An instance of that version, with no names and no terms.
+fn empty_instance(alloc: Global, version: Version) -> Instance
+    ensures version { result.version ≡ version }
+    ensures names { result.names ≡ [] }
+    ensures terms { result.terms ≡ [] }
+    ensures lines { result.lines ≡ [] }
+{
+    let mut instance = Instance::new(alloc);
+    if version == Version::Second {
+        instance.set_version2();
+    }
+    instance
 }
 
 /// Whether a token is `end`.
@@ -97,13 +135,15 @@ fn names_fault(alloc: Global, names: &[u8]) -> Result<Option<Reason>, Memory>
     Ok(None)
 }
 
-/// The instance with the names that stand in a line behind its word, and no terms.
-fn with_names(alloc: Global, line: &[u8]) -> Result<Instance, Memory>
+/// The instance of that version with the names that stand in a line behind its word, and no terms.
+fn with_names(alloc: Global, version: Version, line: &[u8]) -> Result<Instance, Memory>
     requires { AreGroundNames (tokens_of line.now) }
+    ensures version { IfOk result (λ r. r.version ≡ version) }
     ensures names { IfOk result (λ r. r.names ≡ tokens_of line.now) }
     ensures terms { IfOk result (λ r. r.terms ≡ []) }
+    ensures lines { IfOk result (λ r. r.lines ≡ []) }
 {
-    let mut instance = Instance::new(alloc);
+    let mut instance = empty_instance(alloc, version);
     let mut left = line;
     while let Some((name, behind)) = first_token(left) {
         instance.add_name(name)?;
@@ -169,23 +209,25 @@ impl Reading {
             return Err(LineEnd::Fault(Reason::Bytes));
         }
         match self.stage {
-            Stage::Header => self.take_header(line),
+            Stage::Header => self.take_header(alloc, line),
             Stage::Ground => self.take_ground(alloc, line),
             Stage::Terms | Stage::Ended => Err(LineEnd::Fault(Reason::Word)),
         }
     }
 
-    /// Takes the header `sfm 1`.
-    fn take_header(&mut self, line: &[u8]) -> Result<(), LineEnd>
+    /// Takes the header, `sfm` and the number of a version.
+    fn take_header(&mut self, alloc: Global, line: &[u8]) -> Result<(), LineEnd>
         ensures { IsOutcome (state_at Header self.old.instance) (tokens_of line.now) result
             (state_of self.new) }
     {
         let Some(rest) = behind(b"sfm", line) else {
             return Err(LineEnd::Fault(Reason::Word));
         };
-        if !is_version(rest) {
+        let Some(version) = version_behind(rest) else {
             return Err(LineEnd::Fault(Reason::Shape));
-        }
+        };
+        let instance = empty_instance(alloc, version);
+        self.instance = instance;
         self.stage = Stage::Ground;
         Ok(())
     }
@@ -202,7 +244,8 @@ impl Reading {
         if let Some(reason) = fault {
             return Err(LineEnd::Fault(reason));
         }
-        self.instance = with_names(alloc, rest)?;
+        let version = self.instance.text_version();
+        self.instance = with_names(alloc, version, rest)?;
         self.stage = Stage::Terms;
         Ok(())
     }

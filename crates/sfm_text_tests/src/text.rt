@@ -166,7 +166,22 @@ const HEADERS: &str = "\
 4 word:sfm 1|ground a b|end|end
 4 word:sfm 1|ground a b|end|x:
 4 bytes:sfm 1|ground a b|end|\x01
-1 shape:sfm 2|ground a|end
+0 good:sfm 2|ground a|end
+0 good:# x||\tsfm  2 |ground a b|cover 1000000000000000 a|cover 1000000000000000 a b|weight a:1|end
+0 good:sfm 2|ground a b|weight a:-1000000000000000 b:1000000000000000|cut 1000000000000 a b|end
+3 number:sfm 2|ground a b|weight a:1000000000000001|end
+3 number:sfm 2|ground a b|weight a:-1000000000000001|end
+3 number:sfm 2|ground a b|cut 1000000000000001 a b|end
+3 number:sfm 2|ground a b|rank 1000000000000001 uniform 1 : a b|end
+3 number:sfm 1|ground a b|weight a:1000000000000000|end
+3 name:sfm 2|ground a b|weight c:1000000000000000|end
+4 word:sfm 2|ground a b|end|sfm 2
+2 word:sfm 2|sfm 2
+1 shape:sfm 3|ground a|end
+1 shape:sfm 2 2
+1 shape:sfm 02
+1 shape:sfm 1 2
+1 shape:sfm 12
 1 shape:sfm|ground a|end
 1 shape:sfm 1 1
 1 shape:sfm 01

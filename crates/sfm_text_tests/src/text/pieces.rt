@@ -27,7 +27,7 @@ const PIECES: [(&[&[u8]], (usize, &[u8], usize, usize)); 11] = [
         &[b"sfm 1\nground a b\nneed a", b"", b" b\nneed a b\nend\n"],
         (0, b"good", 2, 2),
     ),
-    (&[b"sfm 2", b"\nground a\nend\nend\n"], (1, b"shape", 0, 0)),
+    (&[b"sfm 3", b"\nground a\nend\nend\n"], (1, b"shape", 0, 0)),
     (
         &[b"sfm 1\nground a\nneed a", b"\nground\nx"],
         (3, b"shape", 0, 0),

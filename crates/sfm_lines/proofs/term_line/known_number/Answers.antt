@@ -8,4 +8,4 @@ unreachable-requires c = let (value, number) = c.requires in c.in_default.not-So
 pub returns : goal.returns
 returns c =
     let number = (c.in-Some.ensures c.in-Some.value).0 refl in
-    rw (kept-number c.args.word c.args.text.now c.in-Some.value number) number
+    rw (kept-number c.args.instance.now.version c.args.word c.args.text.now c.in-Some.value number) number

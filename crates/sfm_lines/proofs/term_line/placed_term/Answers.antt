@@ -7,8 +7,8 @@ use Rattle.sfm_lines.proofs.TermReasons.{slots-other, at-parts, at-law, none-tot
 use Rattle.sfm_lines.proofs.term_line.placed_term.Goals as goal
 
 pub returns-in-Some-clause-refused : goal.returns-in-Some-clause-refused
-returns-in-Some-clause-refused c = λ instance named elements rest line shape is.
-    at-parts instance c.args.word rest line is _ shape _ c.requires.numbers _ named elements _ c.in-Some.ensures
+returns-in-Some-clause-refused c = λ instance named numbers elements rest line shape is.
+    at-parts instance c.args.word rest line is _ shape _ numbers _ named elements _ c.in-Some.ensures
 
 pub make_term-requires : goal.make_term-requires
 make_term-requires c =
@@ -16,9 +16,10 @@ make_term-requires c =
     let good : ArePartsGood (parts_of c.args.parts.now) c.args.places.now = c.in_default.ensures in
     record {
       read = record {
+        version = c.requires.numbers.0;
         tokens = c.requires.shape.0;
         shape = c.requires.shape.1;
-        numbers = c.requires.numbers;
+        numbers = c.requires.numbers.1;
         elements = length-AllZip _ _ _ elements;
         placed = elements-placed _ _ _ named.few elements good.once;
       };
@@ -27,13 +28,13 @@ make_term-requires c =
     }
 
 pub returns-in-None-clause-refused : goal.returns-in-None-clause-refused
-returns-in-None-clause-refused c = λ instance named elements rest line shape is.
+returns-in-None-clause-refused c = λ instance named numbers elements rest line shape is.
     let good : ArePartsGood (parts_of c.args.parts.now) c.args.places.now = c.in_default.ensures in
     let breaks : BreaksLaw c.args.word (parts_of c.args.parts.now) c.args.values.now = rw c.in-None.is at c.in_ok-term.ensures in
-    at-law instance c.args.word rest line is _ shape _ c.requires.numbers _ named elements good.named.members good.named.labels good.once good.members_once (slots-other _ _ c.requires.other) breaks
+    at-law instance c.args.word rest line is _ shape _ numbers _ named elements good.named.members good.named.labels good.once good.members_once (slots-other _ _ c.requires.other) breaks
 
 pub returns-in-Some-2-clause-read : goal.returns-in-Some-2-clause-read
-returns-in-Some-2-clause-read c = λ instance named elements rest shape.
+returns-in-Some-2-clause-read c = λ instance named numbers elements rest shape.
     let good : ArePartsGood (parts_of c.args.parts.now) c.args.places.now = c.in_default.ensures in
     let parts = parts_of c.args.parts.now in
     let values = c.args.values.now in
@@ -47,10 +48,10 @@ returns-in-Some-2-clause-read c = λ instance named elements rest shape.
         values = values;
         places = places;
         shaped = (refl, shape);
-        numbers = c.requires.numbers;
+        numbers = numbers;
         elements = elements;
         same_places = made.0.same_places;
         made = made.0.made;
       };
-      good = λ line reason is. none-total instance c.args.word rest line is _ shape _ c.requires.numbers _ named elements good.named.members good.named.labels good.once good.members_once (slots-other _ _ c.requires.other) made.1 reason;
+      good = λ line reason is. none-total instance c.args.word rest line is _ shape _ numbers _ named elements good.named.members good.named.labels good.once good.members_once (slots-other _ _ c.requires.other) made.1 reason;
     }

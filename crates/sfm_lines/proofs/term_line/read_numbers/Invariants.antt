@@ -1,9 +1,8 @@
 use Rattle.std.proofs.Common.{take}
 use Rattle.std.specs.List.{AllZip}
 use Rattle.sfm_lines.specs.Lines.{texts_of}
-use Rattle.sfm_lines.specs.Words.{lowest_of}
-use Rattle.sfm_lines.specs.TermLines.{IsNumberFrom}
+use Rattle.sfm_lines.specs.TermLines.{IsNumberFor}
 use Rattle.sfm_lines.proofs.term_line.read_numbers.Given as goal
 
 abbrev pub invariant-loop-text : goal.invariant-loop-text
-invariant-loop-text l = AllZip (IsNumberFrom (lowest_of l.word)) (texts_of (take l.text-index l.texts)) l.values.items
+invariant-loop-text l = AllZip (IsNumberFor l.instance.version l.word) (texts_of (take l.text-index l.texts)) l.values.items

@@ -3,20 +3,21 @@ use Rattle.std.proofs.Common.{◌≡◌, ℕ, List, length, map, take, to_z, of_
 use Rattle.std.specs.Int.{w128}
 use Rattle.std.specs.List.{AllZip}
 use Rattle.std.proofs.lemmas.Bool.{false≢true}
-use Rattle.std.proofs.lemmas.Int.{ints}
 use Rattle.std.proofs.lemmas.List.{length-map}
 use Rattle.sfm_lines.specs.declared.labels.Labels.{Labels}
 use Rattle.sfm_lines.specs.LabelTerms.{numbers_of}
 use Rattle.sfm_lines.specs.Lines.{texts_of}
 use Rattle.sfm_lines.specs.TermLines.{IsElement, StandsTwice}
 use Rattle.sfm_lines.specs.ReadParts.{label_lists_of, parts_of}
+use Rattle.sfm_lines.specs.declared.word.TermWord.TheVariants.{RankWord}
+use Rattle.sfm_lines.proofs.Numbers.{given-number, kept-number}
 use Rattle.sfm_passes.specs.Passes.{AreCutEntries}
 use Rattle.sfm_passes.proofs.EntryTerms.{entry-known, entry-count, entry-few, entry-places, entry-twice, entry-elements, entry-read}
 use Rattle.sfm_passes.proofs.entry_line.cut_term.Goals as goal
 use Rattle.sfm_passes.proofs.entry_line.cut_term.Goals.{In_ok-places, After-deref-3}
 
 -- the places of the elements, of which none stands twice
-known : (c : In_ok-places) (colon : List ℕ) (tokens : List (List ℕ)) (h : AreCutEntries c.args.instance.now.names c.args.number.now colon tokens (parts_of c.args.parts.now)) → AllZip (IsElement c.args.instance.now.names) (map (λ (entry : List ℕ × List (List ℕ)). entry.0) h.entries) c.in_ok-places.places.items
+known : (c : In_ok-places) (colon : List ℕ) (tokens : List (List ℕ)) (h : AreCutEntries c.args.instance.now c.args.number.now colon tokens (parts_of c.args.parts.now)) → AllZip (IsElement c.args.instance.now.names) (map (λ (entry : List ℕ × List (List ℕ)). entry.0) h.entries) c.in_ok-places.places.items
 known c colon tokens h = rw (c.deref.ensures.value, h.elements_are) at c.in_ok-places.ensures
 
 once : (c : After-deref-3) → StandsTwice c.in_ok-places.places.items → ⊥
@@ -54,12 +55,14 @@ transversal-requires-clause-elements c =
     rw (c.deref-3.ensures.value) (entry-elements c.args.instance.now _ _ _ h.some c.requires.names h.good _ h.each _ c.known_number-w.ensures _ (known at.In_ok-places colon tokens h) (once at.After-deref-3))
 
 pub transversal-requires-clause-given : goal.transversal-requires-clause-given
-transversal-requires-clause-given c = let n = c.known_number-w.ensures in record { low = omega (arith, ints, n.1, n.2); high = omega (arith, ints, n.1, n.2) }
+transversal-requires-clause-given c =
+    rw (kept-number c.args.instance.now.version RankWord c.args.number.now c.known_number-w.result c.known_number-w.ensures)
+    (given-number c.args.instance.now.version RankWord c.args.number.now c.known_number-w.result c.known_number-w.ensures)
 
 pub returns : goal.returns
 returns c = λ colon tokens h.
     let at = goal.at.returns c in
     let n = c.known_number-w.ensures in
-    let fits : to_z w128 (of_z w128 c.known_number-w.result) ≡ c.known_number-w.result = omega (arith, ints, n.1, n.2) in
+    let fits : to_z w128 (of_z w128 c.known_number-w.result) ≡ c.known_number-w.result = kept-number c.args.instance.now.version RankWord c.args.number.now c.known_number-w.result n in
     let entries_are : c.in_ok-term.term.entries ≡ numbers_of (map (λ (entry : List ℕ × List (List ℕ)). take (length tokens) entry.1) h.entries) = c.in_ok-term.ensures.entries ∙ ap numbers_of (ap (λ (l : List Labels). label_lists_of l) c.deref-4.ensures.value ∙ h.labels_are) in
     entry-read c.args.instance.now _ _ _ h.some c.requires.names h.good _ h.each _ n _ (known at.In_ok-places colon tokens h) (once at.After-deref-3) c.in_ok-term.term (length tokens) refl (c.in_ok-term.ensures.places ∙ c.deref-3.ensures.value) (c.in_ok-term.ensures.number ∙ fits) entries_are

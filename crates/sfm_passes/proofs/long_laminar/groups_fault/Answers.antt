@@ -9,7 +9,7 @@ use Rattle.sfm_passes.proofs.PieceCuts.{by-yes, by-no}
 use Rattle.sfm_passes.proofs.long_laminar.groups_fault.Goals as goal
 
 pub returns-then-not-shaped : goal.returns-then-not-shaped
-returns-then-not-shaped c = λ behind is. (by-no c.in_ok-shaped.shaped _ _ c.if-not-shaped.true c.in_ok-shaped.ensures) c.args.instance.now behind is
+returns-then-not-shaped c = λ behind is. (by-no c.in_ok-shaped.shaped _ _ c.if-not-shaped.true c.in_ok-shaped.ensures) behind is
 
 pub returns-then-not-is_number_of : goal.returns-then-not-is_number_of
 returns-then-not-is_number_of c = λ behind is.

@@ -8,7 +8,7 @@ use Rattle.sfm_passes.proofs.long_line.weight_reason.Goals as goal
 pub returns-then-not-all_hold : goal.returns-then-not-all_hold
 returns-then-not-all_hold c =
     let tokens = tokens_of c.args.line.now in
-    long-shape c.args.instance.now WeightWord tokens (no-weight c.args.instance.now.names tokens c.if-not-all_hold.ensures)
+    long-shape c.args.instance.now WeightWord tokens (no-weight c.args.instance.now tokens c.if-not-all_hold.ensures)
 
 pub returns-then-not-all_hold-2 : goal.returns-then-not-all_hold-2
 returns-then-not-all_hold-2 c =

@@ -1,15 +1,14 @@
-use Rattle.std.proofs.Common.{length, sym, ap, ◌∙◌, arith}
-use Rattle.std.proofs.lemmas.Bool.{leb-false, ltb-false}
+use Rattle.std.proofs.Common.{ap, length, ◌∙◌, arith}
+use Rattle.sfm_lines.specs.Versions.{most_size}
 use Rattle.sfm_text.proofs.TooMuch.{kept-room, much-by-size}
 use Rattle.sfm_text.proofs.added.is_too_much.Goals as goal
-use Rattle.sfm_text.proofs.added.is_too_much.Goals.{then-terms-ge-MOST_TERMS, else-terms-ge-MOST_TERMS}
 
 pub overflow_sub-size_left : goal.overflow_sub-size_left
-overflow_sub-size_left c = kept-room _ c.args.instance.now.terms c.total_size-size_left.result c.terms-terms.ensures.bounded c.total_size-size_left.ensures.total
+overflow_sub-size_left c = kept-room _ c.args.instance.now.version c.args.instance.now.terms c.size_limit-most.result c.total_size.result c.terms-terms.ensures.bounded (c.size_limit-most.ensures.most ∙ ap most_size c.text_version-version.ensures) c.total_size.ensures.total
 
-pub returns-else-elements-places_left-clause-much : goal.returns-else-elements-places_left-clause-much
-returns-else-elements-places_left-clause-much c =
-    elim c.if-terms-ge-MOST_TERMS.branch [
-      | then-terms-ge-MOST_TERMS w ↦ absurd (omega (arith, w.if-terms-ge-MOST_TERMS.true, leb-false _ _ (sym w.value-is ∙ c.if-elements-places_left.false)))
-      | else-terms-ge-MOST_TERMS w ↦ much-by-size _ c.args.instance.now.terms c.args.term.now c.total_size-size_left.result c.size.result c.terms-terms.ensures.bounded c.total_size-size_left.ensures.total c.size.ensures c.size.type_inv (omega (arith, w.if-terms-ge-MOST_TERMS.false, ap length c.terms-terms.ensures.terms)) (omega (arith, ltb-false _ _ (sym w.value-is ∙ c.if-elements-places_left.false), ap length w.elements.ensures, c.support-places_left.ensures.support, (c.terms-terms.ensures.bounded).few_places))
-    ]
+pub returns-else-places-places_left-clause-much : goal.returns-else-places-places_left-clause-much
+returns-else-places-places_left-clause-much c =
+    let left = c.if-places-places_left.false in
+    much-by-size _ c.args.instance.now.version c.args.instance.now.lines c.args.instance.now.terms c.args.places c.size_limit-most.result c.total_size.result c.args.size c.terms-terms.ensures.bounded
+    (c.size_limit-most.ensures.most ∙ ap most_size c.text_version-version.ensures) c.total_size.ensures.total c.ranges.size
+    (omega (arith, left.0, ap length c.lines.ensures.lines)) (omega (arith, left.1, c.support-places_left.ensures.support, (c.terms-terms.ensures.bounded).few_places))

@@ -4,6 +4,6 @@ use Rattle.sfm_text.proofs.Readings.{readings-alike}
 use Rattle.sfm_text.proofs.laws.one_meaning.Goals as goal
 
 pub returns : goal.returns
-returns c = λ names names' terms terms' h g.
+returns c = λ a b h g.
     let same = readings-alike instance_language Alike instances-kept c.args._text.now _ _ h g in
-    (same.names, same.terms)
+    (same.version, same.names, same.terms, same.lines)

@@ -42,7 +42,9 @@ add_name-requires c =
 pub loop-name-preserved : goal.loop-name-preserved
 loop-name-preserved c = record {
   names = rw (c.in_ok-add_name.ensures.added) (passed-more c.loop-name.instance.names c.in-Some.name.now _ _ _ c.loop-name.invariant.names c.in-Some.ensures.cut);
+  version = c.add_name.ensures.version ∙ c.loop-name.invariant.version;
   terms = c.add_name.ensures.terms ∙ c.loop-name.invariant.terms;
+  lines = c.add_name.ensures.lines ∙ c.loop-name.invariant.lines;
 }
 
 pub returns-clause-names : goal.returns-clause-names

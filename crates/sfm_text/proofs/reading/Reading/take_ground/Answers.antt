@@ -16,5 +16,5 @@ pub returns : goal.returns
 returns c = λ line is.
     let names = tokens_of c.in-Some.rest.now in
     let good : AreGroundNames names = rw c.in_default-fault.is at c.in_ok-fault.ensures in
-    rw (c.in_ok-self.ensures.names, c.in_ok-self.ensures.terms)
+    rw (c.in_ok-self.ensures.version, c.text_version-version.ensures, c.in_ok-self.ensures.names, c.in_ok-self.ensures.terms, c.in_ok-self.ensures.lines)
     (ground-good c.args.self.now.instance line names (line-as line _ (codes "ground" ∷ names) c.in-Some.ensures is) (ground-unmarked names good.unmarked) good.forms good.distinct good.few)
