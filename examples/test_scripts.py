@@ -128,7 +128,7 @@ EVERY = [
     Row("every_set.py it", "# one\nsfm 1\nground a\nend\n", 0, "answer 1"),
     Row("every_set.py it", "sfm 1\nground\nend\n", 0, "answer 1"),
     Row("every_set.py it --pins it", "sfm 1\nground in\nend\n", 0, "pinned 1"),
-    Row("every_set.py it", "", 2, "it: this is no instance of version 1"),
+    Row("every_set.py it", "", 2, "it: this is no instance of version 1 or 2"),
     Row("every_set.py it", "sfm 1\nground a\nweight b:1\nend\n", 2, "it: this is no good instance; 'sfm solve' says where its first fault is"),
     Row("every_set.py it", "sfm 1\nground" + 15 * " a" + "\nend\n", 2, "it: it has 15 elements, and at most 14 are taken, as every set is tried"),
 ]
