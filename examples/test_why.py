@@ -422,6 +422,24 @@ ROWS = [
         "1: with this line 16,400 names of elements stand, and 16,384 are taken",
     ),
     Row(
+        "a number of five thousand digits",
+        text("weight a:" + "9" * 5000),
+        "refused 3 number",
+        "10: " + "9" * 37 + ".. is out of range: numbers here are -1,000,000,000,000 to 1,000,000,000,000",
+    ),
+    Row(
+        "a zero before so many",
+        text("weight a:0" + "9" * 5000),
+        "refused 3 number",
+        "10: 0" + "9" * 36 + ".. has a + or zeros before it: write " + "9" * 37 + "..",
+    ),
+    Row(
+        "so many behind a point",
+        text("weight a:1." + "9" * 5000),
+        "refused 3 number",
+        "10: 1." + "9" * 35 + ".. is no whole number: multiply all numbers by 1 with 5000 zeros",
+    ),
+    Row(
         "a number too large for version 2",
         text2("weight a:1000000000000001"),
         "refused 3 number",

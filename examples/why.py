@@ -289,22 +289,34 @@ def parts_of(tokens, end):
 # The reasons `number`, `name` and `twice`.
 
 
+def is_from(text, low, high):
+    """Whether a number is from `low` to `high`. One of very many digits is not, and is not turned into one."""
+    return len(text) <= 40 and low <= int(text) <= high
+
+
+def without_zeros(text):
+    """A number without a + or zeros before it."""
+    digits = text.lstrip("+-0") or "0"
+    return f"-{digits}" if text.startswith("-") and digits != "0" else digits
+
+
 def test_number(piece, low, high):
     """A whole number from `low` to `high`."""
     text, range_ = piece.text, f"{low:,} to {high:,}"
     if NUMBER.fullmatch(text):
-        if low <= int(text) <= high:
+        if is_from(text, low, high):
             return
         raise Refused("number", piece.column, f"{shown(text)} is out of range: numbers here are {range_}")
     if re.fullmatch(r"-?[0-9]*\.[0-9]+", text):
-        unit = 10 ** len(text.split(".")[1])
+        zeros = len(text.split(".")[1])
+        unit = 10**zeros if zeros <= 20 else f"1 with {zeros} zeros"
         raise Refused("number", piece.column, f"{shown(text)} is no whole number: multiply all numbers by {unit}")
     if re.fullmatch(r"[+-]?[0-9]{1,3}(,[0-9]{3})+", text):
         raise Refused("number", piece.column, f"{shown(text)} has commas: write {shown(text.replace(',', '').lstrip('+'))}")
     if text.endswith((",", ";")) and NUMBER.fullmatch(text[:-1]):
         raise Refused("number", piece.column, f"{shown(text)} ends in {text[-1]!r}: nothing but spaces stands between tokens")
     if re.fullmatch(r"[+-]?[0-9]+", text):
-        plain = str(int(text))
+        plain = without_zeros(text)
         raise Refused("number", piece.column, f"{shown(text)} has a + or zeros before it: write {shown(plain)}")
     if re.fullmatch(r"-?[0-9.]+[eE][+-]?[0-9]+", text):
         raise Refused("number", piece.column, f"{shown(text)} has an exponent: write all digits")
@@ -708,7 +720,7 @@ class Edits(Beside):
         if others:
             raise not_here(others[0], "drop has one number: each line that is to go has a line of its own")
         count = len(self.instance.terms)
-        if NUMBER.fullmatch(number.text) and not 1 <= int(number.text) <= count:
+        if NUMBER.fullmatch(number.text) and not is_from(number.text, 1, count):
             cause = f"there is no term line {shown(number.text)}: the list then has {counted(count, 'term line')}"
             raise Refused("number", number.column, cause + ", without the header, the ground line and comments")
         test_number(number, 1, max(count, 1))

@@ -45,6 +45,21 @@ def pairs_of(graph: Any) -> List[Tuple[Any, Any]]:
     return [(arc[0], arc[1]) for arc in (graph.edges() if hasattr(graph, "edges") else graph)]
 
 
+def arcs_of(graph: Any) -> List[Tuple[Any, Any]]:
+    """The same, where directions count: a networkx.Graph has none.
+
+    >>> class Roads:
+    ...     edges = staticmethod(lambda: [("a", "b")])
+    ...     is_directed = staticmethod(lambda: False)
+    >>> arcs_of(Roads())
+    Traceback (most recent call last):
+    ValueError: this graph has no directions: take a networkx.DiGraph, or pairs
+    """
+    if hasattr(graph, "is_directed") and not graph.is_directed():
+        raise ValueError("this graph has no directions: take a networkx.DiGraph, or pairs")
+    return pairs_of(graph)
+
+
 def segmentation(greys: Any, level: Number, border: Number, bright: bool = False) -> Answer:
     """The pixels (row, column) of an object that is darker than the level, or brighter, in a grey picture.
 
@@ -117,7 +132,7 @@ def closure(worth: Mapping[Element, Number], needs: Any) -> Choice:
     """
     choice = Instance(worth)
     choice.weight({project: -whole(number, f"the worth of {project!r}") for project, number in worth.items()})
-    for project, other in pairs_of(needs):
+    for project, other in arcs_of(needs):
         choice.need(project, other)
     answer = solve(choice)
     return Choice(-answer.minimum, answer.least)
@@ -135,6 +150,6 @@ def sidney_groups(jobs: Mapping[Element, Tuple[Number, Number]], after: Any = ()
     """
     order = Instance(jobs)
     order.weight({job: -whole(cost, f"the cost of {job!r}") for job, (_, cost) in jobs.items()})
-    for job, before in pairs_of(after):
+    for job, before in arcs_of(after):
         order.need(job, before)
     return [frozenset(step.new) for step in weigh(order, {job: time for job, (time, _) in jobs.items()}).steps]
