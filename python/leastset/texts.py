@@ -10,7 +10,8 @@ from .errors import Unreadable
 
 NAME = re.compile(r"[A-Za-z0-9_]{1,32}")
 NUMBER = re.compile(r"0|-?[1-9][0-9]*")
-MOST = 10**12
+# the greatest numbers that may stand in a text of the second version and of the first
+MOST = (10**15, 10**12)
 
 
 def names_for(things: Sequence[Hashable]) -> Dict[Hashable, str]:
@@ -79,6 +80,12 @@ def parts(line: str) -> Tuple[List[str], List[str]]:
     return numbers, [name.partition("=")[0] for name in names]
 
 
+def _no_numbers(word: str, numbers: Iterable[str], most: int) -> List[str]:
+    """Those that are no numbers of the line of a word in which `most` is the greatest."""
+    least = {"size": 1, "weight": -most, "concave": -most, "table": -most}.get(word, 0)
+    return [number for number in numbers if not NUMBER.fullmatch(number) or not least <= int(number) <= most]
+
+
 def blamed(reason: str, line: str, names: Container[str]) -> Optional[str]:
     """The token of a line by which it is refused, where the line and the names of the ground tell it; else None.
 
@@ -88,16 +95,17 @@ def blamed(reason: str, line: str, names: Container[str]) -> Optional[str]:
     'ash'
     >>> blamed("number", "weight ash:1.5 birch:2", ["ash", "birch"])
     '1.5'
+    >>> blamed("number", "weight ash:10000000000000 birch:10000000000000000", ["ash", "birch"])
+    '10000000000000000'
     """
     tokens = line.split()
     if not tokens:
         return None
     numbers, found = parts(line)
-    least = {"size": 1, "weight": -MOST, "concave": -MOST, "table": -MOST}.get(tokens[0], 0)
     if reason == "word":
         wrong = tokens[:1]
     elif reason == "number":
-        wrong = [number for number in numbers if not NUMBER.fullmatch(number) or not least <= int(number) <= MOST]
+        wrong = next(filter(None, (_no_numbers(tokens[0], numbers, most) for most in MOST)), [])
     elif reason == "name" and tokens[0] == "ground":
         wrong = [name for name in found if not NAME.fullmatch(name)]
     elif reason == "name":
