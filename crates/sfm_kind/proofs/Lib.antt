@@ -10,3 +10,5 @@ pub mod Levels
 pub mod Brought
 pub mod Stepped
 pub mod Parted
+pub mod OneLine
+pub mod Weighing

@@ -1,9 +1,9 @@
 -- A rank over some of its elements alone, as the calls that make the layers of a rank tell it.
 -- Textbook: Schrijver, Combinatorial Optimization, section 39 (restrictions of a matroid).
-use Rattle.std.specs.Prelude.{◌≡◌, ◌↔◌, ◌⊎◌, ℕ, suc, ◌<◌, Bool, List, length, slice_index_or, ℤ, pos, ◌*ℤ◌}
+use Rattle.std.specs.Prelude.{◌≡◌, ◌↔◌, ◌⊎◌, ℕ, suc, ◌<◌, Bool, List, length, slice_index_or, ℤ, pos, ◌-ℤ◌, ◌*ℤ◌}
 use Rattle.sfm_spec.specs.Sets.{size}
 use Rattle.sfm_spec.specs.Laws.{ones}
-use Rattle.sfm_layers.specs.Weights.{IsGreatestWeight}
+use Rattle.sfm_layers.specs.Weights.{IsGreatestWeight, at_least}
 use Rattle.sfm_layers.specs.Kept.{kept, spread}
 use Rattle.sfm_laminar.specs.Cut.{cut_groups}
 use Rattle.sfm_kind.specs.Meanings.{kind_places, IsIndependentIn, factor_of}
@@ -43,3 +43,8 @@ pub record AreLayersOf (rank : Kind) (weights levels : List ℤ) (count : ℕ) (
   pub count_is : length layers ≡ count
   pub each : (j : ℕ) (layer : Kind) → j < count → slice_index_or layers j layer ≡ layer
       → IsLayer rank weights (slice_index_or levels j (pos 0)) (level_behind levels j) layer
+
+-- what the layer of a level brings: its places, and what all its elements are worth
+pub record IsLevelWeighed (rank : Kind) (weights : List ℤ) (v next : ℤ) (places : ℕ) (total : ℤ) : Type 0 where
+  pub places_are : places ≡ size (at_least v weights)
+  pub worth : (r : ℤ) × IsRankOver rank (at_least v weights) r × (total ≡ ((factor_of rank *ℤ (v -ℤ next)) *ℤ r))

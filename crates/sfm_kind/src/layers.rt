@@ -4,13 +4,20 @@
 ghost use Rattle.std.specs.{Prelude.{◌≡◌, ◌≢◌, ◌⊎◌, ℕ, ◌<◌, ◌≤◌, ◌^◌, Bool, List, length, slice_get, slice_index_or, IfOk, ℤ, pos, ◌≤ℤ◌, ◌*ℤ◌, Some, IfSome, Option}, List.{All, AllZip}};
 ghost use Rattle.sfm_spec.specs.{Bounds.{IsGiven}, Sets.{Has, whole_set, part}, Families.{Meaning, IsAllowed, sum_at}};
 ghost use Rattle.sfm_layers.specs.Weights.{IsGreatestWeight, AreLevels};
-ghost use Rattle.sfm_kind.specs.{Meanings.{kind_places, IsIndependentIn, factor_of, IsMeaningOf}, Layers.{AreLayers, IsLayer, IsRankKind, IsWeight}, Restricted.{IsKeptPart, IsRankOver, level_behind}, declared.kind.Kind.{Kind}};
+ghost use Rattle.sfm_kind.specs.{Meanings.{kind_places, IsIndependentIn, factor_of, IsMeaningOf}, Layers.{AreLayers, Brings, IsLayer, IsRankKind, IsWeight}, Restricted.{IsKeptPart, IsRankOver, IsLevelWeighed, level_behind}, declared.kind.Kind.{Kind}};
 
 use crate::descent::{levels_of, places_from};
 use crate::kind::Kind;
 use sfm_base::{Memory, Set};
 use std::alloc::Global;
 use std::marker::Model;
+
+/// How many places the layers of a rank have in all, and what all its elements are worth.
+#[derive(Clone, Copy, Debug, PartialEq, Eq)]
+pub struct Weighed {
+    pub places: usize,
+    pub size: i128,
+}
 
 /// The layers of a rank whose elements have weights, from that of the greatest weight down: at least one.
 #[derive(Drop)]
@@ -197,5 +204,59 @@ impl Kind {
         let keep = places_from(alloc, weights, level)?;
         let rank = self.rank_over(alloc, &keep)?;
         self.restricted(alloc, &keep, self.layer_factor(rank, step))
+    }
+
+    /// What the layer of level j of a rank brings: its places, and what all its elements are worth.
+    ///
+    /// # Errors
+    ///
+    /// `Memory` where there is none.
+    fn weigh_level(
+        &self,
+        alloc: Global,
+        weights: &[i128],
+        levels: &[i128],
+        j: usize,
+    ) -> Result<Weighed, Memory>
+        requires rank { IsRankKind self.now }
+        requires each { length weights.now ≡ length (kind_places self.now) }
+        requires weights { All (IsWeight (10 ^ 15)) weights.now }
+        requires levels { AreLevels weights.now levels.now }
+        requires within { j < length levels.now }
+        ensures { IfOk result (λ r. IsLevelWeighed self.now weights.now
+            (slice_index_or levels.now j (pos 0)) (level_behind levels.now j) r.places r.size) }
+    {
+        let level = levels[j];
+        let step = level - behind(levels, j);
+        let keep = places_from(alloc, weights, level)?;
+        let rank = self.rank_over(alloc, &keep)?;
+        let each = self.factor() * step;
+        Ok(Weighed {
+            places: keep.size(),
+            size: each * rank,
+        })
+    }
+
+    /// How many places the layers of a rank with these weights have in all, and what all its elements are worth. It makes no
+    /// layers, so it tells this also where there would be too much.
+    ///
+    /// # Errors
+    ///
+    /// `Memory` where there is none.
+    pub fn weigh(&self, alloc: Global, weights: &[i128]) -> Result<Weighed, Memory>
+        requires rank { IsRankKind self.now }
+        requires each { length weights.now ≡ length (kind_places self.now) }
+        requires weights { All (IsWeight (10 ^ 15)) weights.now }
+        ensures { IfOk result (λ r. Brings self.now (Some weights.now) r.places r.size) }
+    {
+        let levels = levels_of(alloc, weights)?;
+        let mut places = 0;
+        let mut size = 0;
+        for j in 0..levels.len() {
+            let level = self.weigh_level(alloc, weights, &levels, j)?;
+            places += level.places;
+            size += level.size;
+        }
+        Ok(Weighed { places, size })
     }
 }

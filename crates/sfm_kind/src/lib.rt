@@ -10,6 +10,6 @@ mod version;
 
 pub use instance::Instance;
 pub use kind::{Kind, KindNote};
-pub use layers::Layers;
+pub use layers::{Layers, Weighed};
 pub use names::is_name;
 pub use version::Version;
