@@ -7,7 +7,7 @@ ghost use Rattle.sfm_layer_tests.specs.Weighed.{AreThreeWeighed, IsOfThree};
 
 use sfm_base::Memory;
 use sfm_concave::Uniform;
-use sfm_kind::{Instance, Kind, Layers, is_name};
+use sfm_kind::{Instance, Kind, Layers, Weighed, is_name};
 use sfm_law::Term;
 use sfm_matroid::Graphic;
 use sfm_simple::Weight;
@@ -78,6 +78,41 @@ fn are_made(layers: Result<Layers, Memory>, places: &[&[usize]]) -> bool {
 fn layers_of_ranks(rt: HostRuntime) {
     assert!(rt; are_made(triangle_layers(rt.alloc()), &TRIANGLE));
     assert!(rt; are_made(even_layers(rt.alloc()), &EVEN));
+}
+
+/// What the layers of a rank with small weights bring.
+fn weighed(alloc: Global, rank: &Kind, weights: &[i128]) -> Result<Weighed, Memory>
+    requires rank { IsRankKind rank.now }
+    requires each { length weights.now ≡ length (kind_places rank.now) }
+    requires weights { All (IsWeight (10 ^ 15)) weights.now }
+{
+    rank.weigh(alloc, weights)
+}
+
+/// What the layers of a triangle bring.
+fn triangle_weighed(alloc: Global) -> Result<Weighed, Memory> {
+    let rank = triangle(alloc)?;
+    weighed(alloc, &rank, &[3, 1, 1])
+}
+
+/// What the layer of two elements that weigh 2 each brings.
+fn even_weighed(alloc: Global) -> Result<Weighed, Memory> {
+    let term = Uniform::new(alloc, &[0, 1], 1, 1)?;
+    weighed(alloc, &Kind::Uniform(term), &[2, 2])
+}
+
+/// Whether layers bring so many places and so much.
+fn is_brought(weighed: Result<Weighed, Memory>, places: usize, size: i128) -> bool {
+    match weighed {
+        Ok(brought) => brought.places == places && brought.size == size,
+        Err(_) => false,
+    }
+}
+
+#[test]
+fn what_layers_bring(rt: HostRuntime) {
+    assert!(rt; is_brought(triangle_weighed(rt.alloc()), 4, 4));
+    assert!(rt; is_brought(even_weighed(rt.alloc()), 2, 2));
 }
 
 /// The names of the elements.
