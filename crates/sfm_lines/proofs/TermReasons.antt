@@ -20,7 +20,8 @@ use Rattle.sfm_lines.specs.Lines.{tokens_of}
 use Rattle.sfm_lines.specs.Parts.{LineParts}
 use Rattle.sfm_lines.specs.Words.{word_text, HasParts, BreaksLaw}
 use Rattle.sfm_lines.specs.TermLines.{IsNumberFor, IsElement, StandsTwice}
-use Rattle.sfm_lines.specs.Reading.{State, Has, HasStranger, HasWrongLabel, HasSlotTwice, FirstReason, reason_order}
+use Rattle.sfm_lines.specs.Reading.{State, HasStranger, HasWrongLabel, HasSlotTwice, reason_order}
+use Rattle.sfm_lines.specs.PlainLines.{HasPlainly, FirstPlain}
 use Rattle.sfm_lines.specs.ReadParts.{state_at, IsPartsReason, IsLineOf, IsKnown, IsEntryLine}
 use Rattle.sfm_lines.proofs.WordLines.{of-term-line, not-end, shaped-here}
 use Rattle.sfm_lines.proofs.Matches.{AllZip-at, AllZip-both, AllZip-same, length-AllZip}
@@ -29,7 +30,7 @@ use Rattle.sfm_lines.proofs.Colons.{none-any}
 use Rattle.sfm_lines.proofs.Repeats.{twice-at, twice-same}
 
 -- none of the reasons below the k-th
-pub none-below : (s : State) (line : List ℕ) (k : ℕ) → (1 < k → Has s line Bytes → ⊥) → (2 < k → Has s line Word → ⊥) → (3 < k → Has s line Shape → ⊥) → (4 < k → Has s line Number → ⊥) → (5 < k → Has s line Name → ⊥) → (6 < k → Has s line Twice → ⊥) → (7 < k → Has s line Law → ⊥) → (8 < k → Has s line Total → ⊥) → (reason : Reason) → reason_order reason < k → Has s line reason → ⊥
+pub none-below : (s : State) (line : List ℕ) (k : ℕ) → (1 < k → HasPlainly s line Bytes → ⊥) → (2 < k → HasPlainly s line Word → ⊥) → (3 < k → HasPlainly s line Shape → ⊥) → (4 < k → HasPlainly s line Number → ⊥) → (5 < k → HasPlainly s line Name → ⊥) → (6 < k → HasPlainly s line Twice → ⊥) → (7 < k → HasPlainly s line Law → ⊥) → (8 < k → HasPlainly s line Total → ⊥) → (reason : Reason) → reason_order reason < k → HasPlainly s line reason → ⊥
 none-below s line k bytes word shape number name twice law total Long lt h = h
 none-below s line k bytes word shape number name twice law total Bytes lt h = bytes lt h
 none-below s line k bytes word shape number name twice law total Word lt h = word lt h
@@ -92,50 +93,47 @@ elements-placed names texts places few h once = record {
 
 module _ (instance : InstanceData) (word : TermWord) (rest : List (List ℕ)) (line : List ℕ) (is : IsLineOf line (word_text word ∷ rest)) where
   -- the word is known
-  pub none-shape : (reason : Reason) → reason_order reason < 3 → Has (state_at Terms instance) line reason → ⊥
-  none-shape = none-below (state_at Terms instance) line 3 (λ lt h. is.good_bytes h) (λ lt h. h.1 word rest is.tokens_are) (λ lt. absurd (omega arith)) (λ lt. absurd (omega arith)) (λ lt. absurd (omega arith)) (λ lt. absurd (omega arith)) (λ lt. absurd (omega arith)) (λ lt. absurd (omega arith))
+  pub none-shape : (reason : Reason) → reason_order reason < 3 → HasPlainly (state_at Terms instance) line reason → ⊥
+  none-shape = none-below (state_at Terms instance) line 3 (λ lt h. is.good_bytes h) (λ lt h. h) (λ lt. absurd (omega arith)) (λ lt. absurd (omega arith)) (λ lt. absurd (omega arith)) (λ lt. absurd (omega arith)) (λ lt. absurd (omega arith)) (λ lt. absurd (omega arith))
 
-  pub at-shape : ((parts : LineParts) → HasParts word rest parts → ⊥) → FirstReason (state_at Terms instance) line Shape
+  pub at-shape : ((parts : LineParts) → HasParts word rest parts → ⊥) → FirstPlain (state_at Terms instance) line Shape
   at-shape none = record {
-    holds = (
-      λ e. let both : word_text word ∷ rest ≡ codes "end" ∷ [] = sym is.tokens_are ∙ e in let same : word_text word ≡ codes "end" = cc in not-end word same,
-      λ word' rest' parts shaped. none parts (shaped-here word (tokens_of line) rest word' rest' parts is.tokens_are shaped),
-    );
+    holds = λ word' rest' parts shaped. none parts (shaped-here word (tokens_of line) rest word' rest' parts is.tokens_are shaped);
     first = none-shape;
   }
 
   module _ (parts : LineParts) (shape : HasParts word rest parts) where
     -- the line has these parts
-    pub none-number : (reason : Reason) → reason_order reason < 4 → Has (state_at Terms instance) line reason → ⊥
-    none-number = none-below (state_at Terms instance) line 4 (λ lt h. is.good_bytes h) (λ lt h. h.1 word rest is.tokens_are) (λ lt h. h.1 word rest parts (is.tokens_are, shape)) (λ lt. absurd (omega arith)) (λ lt. absurd (omega arith)) (λ lt. absurd (omega arith)) (λ lt. absurd (omega arith)) (λ lt. absurd (omega arith))
+    pub none-number : (reason : Reason) → reason_order reason < 4 → HasPlainly (state_at Terms instance) line reason → ⊥
+    none-number = none-below (state_at Terms instance) line 4 (λ lt h. is.good_bytes h) (λ lt h. h) (λ lt h. h word rest parts (is.tokens_are, shape)) (λ lt. absurd (omega arith)) (λ lt. absurd (omega arith)) (λ lt. absurd (omega arith)) (λ lt. absurd (omega arith)) (λ lt. absurd (omega arith))
 
-    pub at-number : Any (λ text. (value : ℤ) → IsNumberFor instance.version word text value → ⊥) parts.numbers → FirstReason (state_at Terms instance) line Number
+    pub at-number : Any (λ text. (value : ℤ) → IsNumberFor instance.version word text value → ⊥) parts.numbers → FirstPlain (state_at Terms instance) line Number
     at-number any = record { holds = (word, rest, parts, (is.tokens_are, shape), any); first = none-number }
 
     module _ (values : List ℤ) (numbers : AllZip (IsNumberFor instance.version word) parts.numbers values) where
-      no-number : Has (state_at Terms instance) line Number → ⊥
+      no-number : HasPlainly (state_at Terms instance) line Number → ⊥
       no-number h =
           let (k, text, lt, e, wrong) = of-term-line word (tokens_of line) rest parts (λ word' rest' parts'. Any (λ text. (value : ℤ) → IsNumberFor instance.version word' text value → ⊥) parts'.numbers) is.tokens_are shape h in
           let (value, n) = AllZip-at (IsNumberFor instance.version word) parts.numbers values k text numbers lt in
           wrong value (rw e at n)
 
       -- the numbers are good
-      pub none-name : (reason : Reason) → reason_order reason < 5 → Has (state_at Terms instance) line reason → ⊥
-      none-name = none-below (state_at Terms instance) line 5 (λ lt h. is.good_bytes h) (λ lt h. h.1 word rest is.tokens_are) (λ lt h. h.1 word rest parts (is.tokens_are, shape)) (λ lt h. no-number h) (λ lt. absurd (omega arith)) (λ lt. absurd (omega arith)) (λ lt. absurd (omega arith)) (λ lt. absurd (omega arith))
+      pub none-name : (reason : Reason) → reason_order reason < 5 → HasPlainly (state_at Terms instance) line reason → ⊥
+      none-name = none-below (state_at Terms instance) line 5 (λ lt h. is.good_bytes h) (λ lt h. h) (λ lt h. h word rest parts (is.tokens_are, shape)) (λ lt h. no-number h) (λ lt. absurd (omega arith)) (λ lt. absurd (omega arith)) (λ lt. absurd (omega arith)) (λ lt. absurd (omega arith))
 
-      pub at-name : Any (IsNewName instance.names) parts.elements → FirstReason (state_at Terms instance) line Name
+      pub at-name : Any (IsNewName instance.names) parts.elements → FirstPlain (state_at Terms instance) line Name
       at-name (k, text, lt, e, new) = record {
         holds = (word, rest, parts, (is.tokens_are, shape), inl (k, text, lt, e, λ form (j, within, same). new j text within same));
         first = none-name;
       }
 
-      pub at-stranger : HasStranger parts → FirstReason (state_at Terms instance) line Name
+      pub at-stranger : HasStranger parts → FirstPlain (state_at Terms instance) line Name
       at-stranger stranger = record {
         holds = (word, rest, parts, (is.tokens_are, shape), inr (inl stranger));
         first = none-name;
       }
 
-      pub at-label : HasWrongLabel parts → FirstReason (state_at Terms instance) line Name
+      pub at-label : HasWrongLabel parts → FirstPlain (state_at Terms instance) line Name
       at-label wrong = record {
         holds = (word, rest, parts, (is.tokens_are, shape), inr (inr wrong));
         first = none-name;
@@ -152,7 +150,7 @@ module _ (instance : InstanceData) (word : TermWord) (rest : List (List ℕ)) (l
             let all : All IsName texts = rw e at (labels k texts lt) in
             out (rw f at (all j text within))
 
-        no-name : Has (state_at Terms instance) line Name → ⊥
+        no-name : HasPlainly (state_at Terms instance) line Name → ⊥
         no-name h = at (of-term-line word (tokens_of line) rest parts (λ word' rest' parts'. Any (λ text. IsName text → Contains instance.names text → ⊥) parts'.elements ⊎ HasStranger parts' ⊎ HasWrongLabel parts') is.tokens_are shape h)
           where
             at : Any (λ text. IsName text → Contains instance.names text → ⊥) parts.elements ⊎ HasStranger parts ⊎ HasWrongLabel parts → ⊥
@@ -167,29 +165,29 @@ module _ (instance : InstanceData) (word : TermWord) (rest : List (List ℕ)) (l
                 wrong (rw there at form) (place, within, there)
 
         -- the elements are names of the ground, the members are elements, and the labels have the form of names
-        pub none-twice : (reason : Reason) → reason_order reason < 6 → Has (state_at Terms instance) line reason → ⊥
-        none-twice = none-below (state_at Terms instance) line 6 (λ lt h. is.good_bytes h) (λ lt h. h.1 word rest is.tokens_are) (λ lt h. h.1 word rest parts (is.tokens_are, shape)) (λ lt h. no-number h) (λ lt h. no-name h) (λ lt. absurd (omega arith)) (λ lt. absurd (omega arith)) (λ lt. absurd (omega arith))
+        pub none-twice : (reason : Reason) → reason_order reason < 6 → HasPlainly (state_at Terms instance) line reason → ⊥
+        none-twice = none-below (state_at Terms instance) line 6 (λ lt h. is.good_bytes h) (λ lt h. h) (λ lt h. h word rest parts (is.tokens_are, shape)) (λ lt h. no-number h) (λ lt h. no-name h) (λ lt. absurd (omega arith)) (λ lt. absurd (omega arith)) (λ lt. absurd (omega arith))
 
-        pub at-twice : StandsTwice places → FirstReason (state_at Terms instance) line Twice
+        pub at-twice : StandsTwice places → FirstPlain (state_at Terms instance) line Twice
         at-twice t = record {
           holds = (word, rest, parts, (is.tokens_are, shape), inl (twice-places instance.names parts.elements places elements t));
           first = none-twice;
         }
 
-        pub at-member-twice : Any (λ names. StandsTwice names) parts.groups → FirstReason (state_at Terms instance) line Twice
+        pub at-member-twice : Any (λ names. StandsTwice names) parts.groups → FirstPlain (state_at Terms instance) line Twice
         at-member-twice any = record {
           holds = (word, rest, parts, (is.tokens_are, shape), inr (inl any));
           first = none-twice;
         }
 
-        pub at-slot-twice : HasSlotTwice parts.rank parts.labels → FirstReason (state_at Terms instance) line Twice
+        pub at-slot-twice : HasSlotTwice parts.rank parts.labels → FirstPlain (state_at Terms instance) line Twice
         at-slot-twice twice = record {
           holds = (word, rest, parts, (is.tokens_are, shape), inr (inr twice));
           first = none-twice;
         }
 
         module _ (once : StandsTwice places → ⊥) (members_once : All (λ names. StandsTwice names → ⊥) parts.groups) (slots_once : HasSlotTwice parts.rank parts.labels → ⊥) where
-          no-twice : Has (state_at Terms instance) line Twice → ⊥
+          no-twice : HasPlainly (state_at Terms instance) line Twice → ⊥
           no-twice h = at (of-term-line word (tokens_of line) rest parts (λ word' rest' parts'. StandsTwice parts'.elements ⊎ Any (λ names. StandsTwice names) parts'.groups ⊎ HasSlotTwice parts'.rank parts'.labels) is.tokens_are shape h)
             where
               at : StandsTwice parts.elements ⊎ Any (λ names. StandsTwice names) parts.groups ⊎ HasSlotTwice parts.rank parts.labels → ⊥
@@ -198,28 +196,28 @@ module _ (instance : InstanceData) (word : TermWord) (rest : List (List ℕ)) (l
               at (inr (inr twice)) = slots_once twice
 
           -- no element stands twice
-          pub none-law : (reason : Reason) → reason_order reason < 7 → Has (state_at Terms instance) line reason → ⊥
-          none-law = none-below (state_at Terms instance) line 7 (λ lt h. is.good_bytes h) (λ lt h. h.1 word rest is.tokens_are) (λ lt h. h.1 word rest parts (is.tokens_are, shape)) (λ lt h. no-number h) (λ lt h. no-name h) (λ lt h. no-twice h) (λ lt. absurd (omega arith)) (λ lt. absurd (omega arith))
+          pub none-law : (reason : Reason) → reason_order reason < 7 → HasPlainly (state_at Terms instance) line reason → ⊥
+          none-law = none-below (state_at Terms instance) line 7 (λ lt h. is.good_bytes h) (λ lt h. h) (λ lt h. h word rest parts (is.tokens_are, shape)) (λ lt h. no-number h) (λ lt h. no-name h) (λ lt h. no-twice h) (λ lt. absurd (omega arith)) (λ lt. absurd (omega arith))
 
-          pub at-law : BreaksLaw word parts values → FirstReason (state_at Terms instance) line Law
+          pub at-law : BreaksLaw word parts values → FirstPlain (state_at Terms instance) line Law
           at-law breaks = record {
             holds = (word, rest, parts, (is.tokens_are, shape), (values, numbers, breaks));
             first = none-law;
           }
 
           module _ (lawful : BreaksLaw word parts values → ⊥) where
-            no-law : Has (state_at Terms instance) line Law → ⊥
+            no-law : HasPlainly (state_at Terms instance) line Law → ⊥
             no-law h =
                 let (values', numbers', breaks) = of-term-line word (tokens_of line) rest parts (λ word' rest' parts'. (vs : List ℤ) × AllZip (IsNumberFor instance.version word') parts'.numbers vs × BreaksLaw word' parts' vs) is.tokens_are shape h in
                 let same : values' ≡ values = AllZip-same (IsNumberFor instance.version word) (from-same instance.version word) parts.numbers values' values numbers' numbers in
                 lawful (rw same at breaks)
 
             -- the law is kept
-            pub none-total : (reason : Reason) → reason_order reason < 8 → Has (state_at Terms instance) line reason → ⊥
-            none-total = none-below (state_at Terms instance) line 8 (λ lt h. is.good_bytes h) (λ lt h. h.1 word rest is.tokens_are) (λ lt h. h.1 word rest parts (is.tokens_are, shape)) (λ lt h. no-number h) (λ lt h. no-name h) (λ lt h. no-twice h) (λ lt h. no-law h) (λ lt. absurd (omega arith))
+            pub none-total : (reason : Reason) → reason_order reason < 8 → HasPlainly (state_at Terms instance) line reason → ⊥
+            none-total = none-below (state_at Terms instance) line 8 (λ lt h. is.good_bytes h) (λ lt h. h) (λ lt h. h word rest parts (is.tokens_are, shape)) (λ lt h. no-number h) (λ lt h. no-name h) (λ lt h. no-twice h) (λ lt h. no-law h) (λ lt. absurd (omega arith))
 
       -- what is wrong with groups, labels and places
-      pub at-parts : (places : List ℕ) → AreElementNames instance.names → AllZip (IsElement instance.names) parts.elements places → (reason : Reason) → IsPartsReason parts places reason → FirstReason (state_at Terms instance) line reason
+      pub at-parts : (places : List ℕ) → AreElementNames instance.names → AllZip (IsElement instance.names) parts.elements places → (reason : Reason) → IsPartsReason parts places reason → FirstPlain (state_at Terms instance) line reason
       at-parts places named elements Name (inl stranger) = at-stranger stranger
       at-parts places named elements Name (inr wrong) = at-label wrong
       at-parts places named elements Twice (forms, inl twice) = at-twice places named elements forms.members forms.labels twice

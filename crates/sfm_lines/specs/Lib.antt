@@ -6,7 +6,9 @@ pub mod LabelTerms
 pub mod RankLines
 pub mod Versions
 pub mod Words
+pub mod Weights
 pub mod TermLines
 pub mod Reading
+pub mod PlainLines
 pub mod Reasons
 pub mod ReadParts

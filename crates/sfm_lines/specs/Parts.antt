@@ -58,8 +58,7 @@ pub record IsCutAtColon (tokens before behind : List (List ℕ)) : Type 0 where
 
 -- numbers, a colon, and elements, in such counts
 abbrev pub IsColonLine : (ℕ → ℕ → Type 0) → List (List ℕ) → LineParts → Type 0
-IsColonLine AreCounts tokens parts = (numbers : List (List ℕ)) × (elements : List (List ℕ)) × IsCutAtColon tokens numbers elements × AreCounts (length numbers) (length elements)
-    × (parts ≡ plain_parts numbers elements)
+IsColonLine AreCounts tokens parts = (numbers : List (List ℕ)) × (elements : List (List ℕ)) × IsCutAtColon tokens numbers elements × AreCounts (length numbers) (length elements) × (parts ≡ plain_parts numbers elements)
 
 -- a number, the word `uniform`, a cap, a colon, and at least one element
 pub record IsUniformLine (tokens : List (List ℕ)) (parts : LineParts) : Type 0 where
@@ -111,5 +110,4 @@ pub record IsLabelledLine (rank : RankKind) (word : List ℕ) (tokens : List (Li
 -- a line of one of the ranks: of `uniform` or `laminar`, or a number, the word `graphic` or `transversal`, a colon, and edges or
 -- entries
 abbrev pub IsRankLine : List (List ℕ) → LineParts → Type 0
-IsRankLine tokens parts = IsUniformLine tokens parts ⊎ IsLaminarLine tokens parts
-    ⊎ IsLabelledLine GraphicRank (codes "graphic") tokens parts ⊎ IsLabelledLine TransversalRank (codes "transversal") tokens parts
+IsRankLine tokens parts = IsUniformLine tokens parts ⊎ IsLaminarLine tokens parts ⊎ IsLabelledLine GraphicRank (codes "graphic") tokens parts ⊎ IsLabelledLine TransversalRank (codes "transversal") tokens parts

@@ -22,7 +22,8 @@ use Rattle.sfm_lines.specs.Parts.{LineParts, IsLabelledLine}
 use Rattle.sfm_lines.specs.CutParts.{AreCounts}
 use Rattle.sfm_lines.specs.Words.{word_text, lowest_of, BreaksLaw, IsMadeOf}
 use Rattle.sfm_lines.specs.TermLines.{AreRead, StandsFor, StandsTwice, IsNumberFor, IsElement}
-use Rattle.sfm_lines.specs.Reading.{State, IsBadByte, HasStranger, HasWrongLabel, Has, reason_order}
+use Rattle.sfm_lines.specs.Reading.{State, IsBadByte, HasStranger, HasWrongLabel, reason_order}
+use Rattle.sfm_lines.specs.PlainLines.{HasPlainly}
 
 -- the texts that labels point to
 abbrev pub label_lists_of : List Labels → List (List (List ℕ))
@@ -100,7 +101,7 @@ pub record IsLineOf (line : List ℕ) (tokens : List (List ℕ)) : Type 0 where
 -- the term of a line with this word and these tokens behind it, which has no reason but perhaps that there is too much
 pub record IsTermRead (instance : InstanceData) (word : TermWord) (rest : List (List ℕ)) (term : Kind) : Type 0 where
   pub stands : StandsFor instance.version instance.names (word_text word ∷ rest) term
-  pub good : (line : List ℕ) (reason : Reason) → IsLineOf line (word_text word ∷ rest) → reason_order reason < 8 → Has (state_at Terms instance) line reason → ⊥
+  pub good : (line : List ℕ) (reason : Reason) → IsLineOf line (word_text word ∷ rest) → reason_order reason < 8 → HasPlainly (state_at Terms instance) line reason → ⊥
 
 -- the text is that of a number of the line of that word
 abbrev pub IsNumberOf : Version → TermWord → List ℕ → Type 0

@@ -1,12 +1,12 @@
 -- The state in which a text is read, the reasons for which a line is refused in a state, and the states that a good line
 -- leads from and to.
-use Rattle.std.specs.Prelude.{◌≡◌, ◌≢◌, ◌⊎◌, ℕ, ◌+◌, ◌<◌, ◌≤◌, List, [], ◌∷◌, ◌++◌, length, codes, Any, Contains, None, ℤ, ◌+ℤ◌, ◌<ℤ◌}
+use Rattle.std.specs.Prelude.{◌≡◌, ◌≢◌, ◌⊎◌, ℕ, ◌+◌, ◌<◌, ◌≤◌, List, [], ◌∷◌, ◌++◌, length, codes, Any, Contains, Option, is_some, if◌then◌else◌, ℤ, ◌+ℤ◌, ◌<ℤ◌}
 use Rattle.std.specs.List.{All, AllZip}
 use Rattle.sfm_spec.specs.Names.{IsName}
 use Rattle.sfm_spec.specs.Families.{Meaning}
 use Rattle.sfm_kind.specs.Instance.{support_of}
 use Rattle.sfm_kind.specs.Meanings.{total_by, IsMeaningOf}
-use Rattle.sfm_kind.specs.Layers.{Brings}
+use Rattle.sfm_kind.specs.Layers.{AreTermsOf, Brings}
 use Rattle.sfm_kind.specs.declared.kind.Kind.{Kind}
 use Rattle.sfm_kind.specs.declared.version.Version.{Version}
 use Rattle.sfm_kind.specs.declared.version.Version.TheVariants.{First}
@@ -24,6 +24,7 @@ use Rattle.sfm_lines.specs.Parts.{LineParts, IsMark}
 use Rattle.sfm_lines.specs.Versions.{header_tokens, most_size}
 use Rattle.sfm_lines.specs.Words.{word_text, BreaksLaw}
 use Rattle.sfm_lines.specs.TermLines.{IsShaped, IsNumberFor, StandsTwice, StandsFor}
+use Rattle.sfm_lines.specs.Weights.{IsPlainLine, IsWeightText, AreWeights}
 
 -- which line is due, the version, the names of the ground, the terms so far, and for each term line the number of its layers, 0 for a
 -- line of one plain term
@@ -66,15 +67,28 @@ HasSlotTwice _ labels = ⊥
 -- with one more line, of so many places and that size, there are more lines, places or sizes than a text may have in all; the size of
 -- a term is that of its meaning
 abbrev pub AreTooMuch : Version → List ℕ → List Kind → ℕ → ℤ → Type 0
-AreTooMuch version lines terms places total = (4096 ≤ length lines) ⊎ (16384 < support_of terms + places)
-    ⊎ ((meant : List Meaning) × AllZip IsMeaningOf terms meant × (most_size version <ℤ (total_by terms meant +ℤ total)))
+AreTooMuch version lines terms places total = (4096 ≤ length lines) ⊎ (16384 < support_of terms + places) ⊎ ((meant : List Meaning) × AllZip IsMeaningOf terms meant × (most_size version <ℤ (total_by terms meant +ℤ total)))
+
+-- a term line with these tokens, without weights of its elements, has that reason. Shape: the tokens do not fit the pattern of the line.
+-- Number: what stands in a number's place is no number, or one outside its range. Name: what stands in a name's place is no name, or none
+-- of the ground where an element is meant, or no element of the line where one of a group is meant. Twice: an element stands twice in
+-- the line or in one of its groups, or a slot in an entry. Law: the numbers break the law of the kind
+abbrev pub HasPlain : State → List (List ℕ) → Reason → Type 0
+HasPlain s tokens Shape = (word : TermWord) (rest : List (List ℕ)) (parts : LineParts) → IsShaped tokens word rest parts → ⊥
+HasPlain s tokens Number = HasTermLine tokens (λ word rest parts. Any (λ text. (value : ℤ) → IsNumberFor s.version word text value → ⊥) parts.numbers)
+HasPlain s tokens Name = HasTermLine tokens (λ word rest parts. Any (λ text. IsName text → Contains s.names text → ⊥) parts.elements ⊎ HasStranger parts ⊎ HasWrongLabel parts)
+HasPlain s tokens Twice = HasTermLine tokens (λ word rest parts. StandsTwice parts.elements ⊎ Any (λ names. StandsTwice names) parts.groups ⊎ HasSlotTwice parts.rank parts.labels)
+HasPlain s tokens Law = HasTermLine tokens (λ word rest parts. (values : List ℤ) × AllZip (IsNumberFor s.version word) parts.numbers values × BreaksLaw word parts values)
+HasPlain s tokens reason = ⊥
+
+-- a term line says this term, and these weights of its elements
+abbrev pub Says : Version → List (List ℕ) → List (List ℕ) → Kind → Option (List ℤ) → Type 0
+Says version names tokens term weights = (plain : List (List ℕ)) × (entries : List (List ℕ × Option (List ℕ))) × IsPlainLine version tokens plain entries × StandsFor version names plain term × AreWeights entries weights
 
 -- a line with these tokens has that reason where the line of a stage is due. Word: the first token is none that may begin the line.
--- Shape: the tokens do not fit the pattern of the line. Number: what stands in a number's place is no number, or one outside its
--- range. Name: what stands in a name's place is no name, or none of the ground where an element is meant, or no element of the line
--- where one of a group is meant. Twice: a name stands twice in the ground line, or an element twice in a term line or in one of its
--- groups, or a slot in an entry. Law: the numbers break the law of the kind. Total: there are too many names, or with this line too
--- much in all
+-- Shape, Name, Twice: as of a term line without the weights of its elements, or the header is none, a mark stands in the ground line, or
+-- a name of it is none or stands twice. Number, Law: as of a term line without the weights; and what stands in the place of a weight is
+-- none. Total: there are too many names, or with this line too much in all
 abbrev pub HasAt : Stage → State → List (List ℕ) → Reason → Type 0
 HasAt Header s tokens Word = (rest : List (List ℕ)) → tokens ≢ codes "sfm" ∷ rest
 HasAt Header s tokens Shape = (version : Version) → tokens ≢ header_tokens version
@@ -84,13 +98,9 @@ HasAt Ground s tokens Name = (rest : List (List ℕ)) × (tokens ≡ codes "grou
 HasAt Ground s tokens Twice = (rest : List (List ℕ)) × (tokens ≡ codes "ground" ∷ rest) × StandsTwice rest
 HasAt Ground s tokens Total = (rest : List (List ℕ)) × (tokens ≡ codes "ground" ∷ rest) × (256 < length rest)
 HasAt Terms s tokens Word = ((rest : List (List ℕ)) → tokens ≢ codes "end" ∷ rest) × ((word : TermWord) (rest : List (List ℕ)) → tokens ≢ word_text word ∷ rest)
-HasAt Terms s tokens Shape = (tokens ≢ codes "end" ∷ []) × ((word : TermWord) (rest : List (List ℕ)) (parts : LineParts) → IsShaped tokens word rest parts → ⊥)
-HasAt Terms s tokens Number = HasTermLine tokens (λ word rest parts. Any (λ text. (value : ℤ) → IsNumberFor s.version word text value → ⊥) parts.numbers)
-HasAt Terms s tokens Name = HasTermLine tokens (λ word rest parts. Any (λ text. IsName text → Contains s.names text → ⊥) parts.elements ⊎ HasStranger parts ⊎ HasWrongLabel parts)
-HasAt Terms s tokens Twice = HasTermLine tokens (λ word rest parts. StandsTwice parts.elements ⊎ Any (λ names. StandsTwice names) parts.groups ⊎ HasSlotTwice parts.rank parts.labels)
-HasAt Terms s tokens Law = HasTermLine tokens (λ word rest parts. (values : List ℤ) × AllZip (IsNumberFor s.version word) parts.numbers values × BreaksLaw word parts values)
-HasAt Terms s tokens Total = (term : Kind) × StandsFor s.version s.names tokens term
-    × ((places : ℕ) × (total : ℤ) × Brings term None places total × AreTooMuch s.version s.lines s.terms places total)
+HasAt Terms s tokens Shape = (tokens ≢ codes "end" ∷ []) × ((plain : List (List ℕ)) (entries : List (List ℕ × Option (List ℕ))) → IsPlainLine s.version tokens plain entries → HasPlain s plain Shape)
+HasAt Terms s tokens Total = (term : Kind) × (weights : Option (List ℤ)) × Says s.version s.names tokens term weights × ((places : ℕ) × (total : ℤ) × Brings term weights places total × AreTooMuch s.version s.lines s.terms places total)
+HasAt Terms s tokens reason = (plain : List (List ℕ)) × (entries : List (List ℕ × Option (List ℕ))) × IsPlainLine s.version tokens plain entries × (HasPlain s plain reason ⊎ ((reason ≡ Number) × Any (λ entry. (value : ℤ) → IsWeightText entry.1 value → ⊥) entries))
 HasAt Ended s tokens Word = Unit {0}
 HasAt _ s tokens reason = ⊥
 
@@ -106,10 +116,9 @@ pub record IsFirstReason (s : State) (line : List ℕ) (reason : Reason) : Type 
   pub holds : Has s line reason
   pub first : (before behind : List Reason) → reasons ≡ before ++ reason ∷ behind → All (λ earlier. Has s line earlier → ⊥) before
 
--- a term line adds its term, and is a line without layers
+-- a term line adds its term, or where elements of it have weights its layers
 abbrev pub AddsTerm : State → List (List ℕ) → State → Type 0
-AddsTerm s tokens t = (term : Kind) × StandsFor s.version s.names tokens term
-    × (t ≡ record s { stage = Terms; terms = s.terms ++ term ∷ []; lines = s.lines ++ 0 ∷ [] })
+AddsTerm s tokens t = (term : Kind) × (weights : Option (List ℤ)) × Says s.version s.names tokens term weights × (terms : List Kind) × AreTermsOf term weights terms × (t ≡ record s { stage = Terms; terms = s.terms ++ terms; lines = s.lines ++ (if is_some weights then length terms else 0) ∷ [] })
 
 -- what a line with these tokens leads to
 abbrev pub Adds : Stage → State → List (List ℕ) → State → Type 0

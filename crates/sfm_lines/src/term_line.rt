@@ -1,7 +1,7 @@
 // Reading a term line: its parts are cut out by its word, and each kind of part is then read once for all words.
 ghost use Rattle.std.specs.{Prelude.{◌≡◌, ◌<◌, ◌↔◌, ◌∷◌, ◌^◌, ℕ, List, ℤ, pos, neg_ℤ, ◌≤ℤ◌, Any, IsTrue, IfOk, IfErr, MatchOption, Some, ◌≢◌, length}, List.{All, AllZip}};
 ghost use Rattle.sfm_kind.specs.{Instance.{InstanceData}, Names.{IsNewName, AreElementNames}, declared.version.Version.{Version}};
-ghost use Rattle.sfm_lines.specs.{Lines.{texts_of}, Versions.{most_written}, Words.{HasParts, lowest_of, word_text}, TermLines.{IsNumberFor, IsElement, StandsTwice}, Reading.{IsLineRefusal}, ReadParts.{bytes_in, state_at, ArePartsGood, IsPartsReason, IsLineOf, IsTermRead, IsNumberOf, IsKnown, IsEntryLine, parts_of, joined}, declared.stage.Stage.TheVariants.{Terms}, declared.word.RankKind.TheVariants.{TransversalRank}};
+ghost use Rattle.sfm_lines.specs.{Lines.{texts_of}, Versions.{most_written}, Words.{HasParts, lowest_of, word_text}, TermLines.{IsNumberFor, IsElement, StandsTwice}, PlainLines.{IsPlainRefusal}, ReadParts.{bytes_in, state_at, ArePartsGood, IsPartsReason, IsLineOf, IsTermRead, IsNumberOf, IsKnown, IsEntryLine, parts_of, joined}, declared.stage.Stage.TheVariants.{Terms}, declared.word.RankKind.TheVariants.{TransversalRank}};
 
 use crate::groups::{are_members, has_member_twice};
 use crate::labels::are_labels;
@@ -195,7 +195,7 @@ fn placed_term(
         → IfErr result (λ e. (rest : List (List ℕ)) (line : List ℕ)
         → HasParts word rest (parts_of parts.now)
         → IsLineOf line (word_text word ∷ rest)
-        → IsLineRefusal (state_at Terms instance) line e) }
+        → IsPlainRefusal (state_at Terms instance) line e) }
 {
     if let Some(reason) = parts_reason(parts, places) {
         return Err(LineEnd::Fault(reason));
@@ -222,7 +222,7 @@ fn parts_term(
     ensures refused { IfErr result (λ e. (rest : List (List ℕ)) (line : List ℕ)
         → HasParts word rest (parts_of parts.now)
         → IsLineOf line (word_text word ∷ rest)
-        → IsLineRefusal (state_at Terms instance.now) line e) }
+        → IsPlainRefusal (state_at Terms instance.now) line e) }
 {
     let Some(values) = read_numbers(alloc, instance, word, &parts.numbers)? else {
         return Err(LineEnd::Fault(Reason::Number));
@@ -247,7 +247,7 @@ pub fn read_term(
     ensures read { IfOk result (IsTermRead instance.now word (texts_of tokens.now)) }
     ensures refused { IfErr result (λ e. (line : List ℕ)
         → IsLineOf line (word_text word ∷ texts_of tokens.now)
-        → IsLineRefusal (state_at Terms instance.now) line e) }
+        → IsPlainRefusal (state_at Terms instance.now) line e) }
 {
     let Some(parts) = line_parts(alloc, word, tokens)? else {
         return Err(LineEnd::Fault(Reason::Shape));

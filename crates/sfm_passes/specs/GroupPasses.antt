@@ -19,7 +19,7 @@ use Rattle.sfm_lines.specs.CutParts.{IsGroupCut, is_semicolon, cut_at_semicolons
 use Rattle.sfm_lines.specs.RankLines.{members_of}
 use Rattle.sfm_lines.specs.Words.{word_text}
 use Rattle.sfm_lines.specs.TermLines.{IsNumberFor, StandsTwice}
-use Rattle.sfm_lines.specs.Reading.{IsLineRefusal}
+use Rattle.sfm_lines.specs.PlainLines.{IsPlainRefusal}
 use Rattle.sfm_lines.specs.ReadParts.{state_at, IsLineOf, IsTermRead, IsNumberOf}
 use Rattle.sfm_passes.specs.Passes.{Holds}
 
@@ -106,7 +106,7 @@ laminar_tokens number behind = number ∷ codes "laminar" ∷ codes ":" ∷ behi
 
 -- each line with this word and these tokens behind it is refused so
 abbrev pub IsRefusedBy : InstanceData → TermWord → List (List ℕ) → LineEnd → Type 0
-IsRefusedBy instance word tokens end = (line : List ℕ) → IsLineOf line (word_text word ∷ tokens) → IsLineRefusal (state_at Terms instance) line end
+IsRefusedBy instance word tokens end = (line : List ℕ) → IsLineOf line (word_text word ∷ tokens) → IsPlainRefusal (state_at Terms instance) line end
 
 -- a line with this word and these tokens behind it is told: by its term, or by its first reason, or by what else holds of it
 abbrev pub IsToldBy : InstanceData → TermWord → List (List ℕ) → Type 0 → Result (Option Kind) LineEnd → Type 0

@@ -18,7 +18,7 @@ use Rattle.sfm_lines.specs.Lines.{pieces_of, tokens_of}
 use Rattle.sfm_lines.specs.Parts.{LineParts, IsMark, IsPairToken, IsLabelToken}
 use Rattle.sfm_lines.specs.Words.{word_text, HasParts}
 use Rattle.sfm_lines.specs.TermLines.{IsNumberFor, StandsTwice}
-use Rattle.sfm_lines.specs.Reading.{FirstReason}
+use Rattle.sfm_lines.specs.PlainLines.{FirstPlain}
 use Rattle.sfm_lines.specs.ReadParts.{state_at, IsLineOf, IsNumberOf, IsKnown}
 
 -- the token passes the test, in a line of a text that the instance has been read of
@@ -102,7 +102,7 @@ pub record IsKept (tokens kept rest : List (List ℕ)) : Type 0 where
 
 -- each line with this word and these tokens behind it has that reason first
 abbrev pub IsReasonOf : InstanceData → TermWord → List (List ℕ) → Reason → Type 0
-IsReasonOf instance word tokens reason = (line : List ℕ) → IsLineOf line (word_text word ∷ tokens) → FirstReason (state_at Terms instance) line reason
+IsReasonOf instance word tokens reason = (line : List ℕ) → IsLineOf line (word_text word ∷ tokens) → FirstPlain (state_at Terms instance) line reason
 
 -- the line has numbers of its word and those elements, which are more than a ground has, and nothing else
 pub record HasTooMany (version : Version) (word : TermWord) (rest elements : List (List ℕ)) : Type 0 where

@@ -1,6 +1,6 @@
 -- What a line of an instance text leads to is one state, but for how its terms are kept: states of the same stage and the
 -- same names, whose terms are one by one the same, are told apart by no reason, and a line leads from two such states to two such.
-use Rattle.std.proofs.Common.{◌≡◌, ◌≢◌, inl, inr, ℕ, ◌+◌, List, [], ◌∷◌, ◌++◌, length, get_or, codes, AllPairs, ℤ, refl, sym, ap, subst, ◌∙◌, arith}
+use Rattle.std.proofs.Common.{◌≡◌, ◌≢◌, inl, inr, ℕ, ◌+◌, List, [], ◌∷◌, ◌++◌, length, get_or, codes, AllPairs, Option, ℤ, refl, sym, ap, subst, ◌∙◌, arith}
 use Rattle.std.specs.List.{AllZip}
 use Rattle.std.proofs.lemmas.Int.{ints}
 use Rattle.sfm_kind.specs.declared.kind.Kind.{Kind}
@@ -9,23 +9,23 @@ use Rattle.sfm_kind.specs.declared.version.Version.TheVariants.{First, Second}
 use Rattle.sfm_kind.specs.Instance.{support_of}
 use Rattle.sfm_kind.specs.Limits.{total_size_of}
 use Rattle.sfm_lines.specs.declared.reason.Reason.{Reason}
-use Rattle.sfm_lines.specs.declared.reason.Reason.TheVariants.{Long, Bytes, Number, Name, Twice, Law, Total, Short}
+use Rattle.sfm_lines.specs.declared.reason.Reason.TheVariants.{Long, Bytes, Word, Shape, Number, Name, Twice, Law, Total, Short}
 use Rattle.sfm_lines.specs.declared.stage.Stage.{Stage}
 use Rattle.sfm_lines.specs.declared.stage.Stage.TheVariants.{Header, Ground, Terms, Ended}
 use Rattle.sfm_lines.specs.Lines.{tokens_of}
 use Rattle.sfm_lines.specs.Versions.{header_tokens, most_size}
 use Rattle.sfm_lines.specs.Words.{word_text}
-use Rattle.sfm_lines.specs.TermLines.{StandsTwice, StandsFor}
+use Rattle.sfm_lines.specs.declared.word.TermWord.TheVariants.{RankWord}
+use Rattle.sfm_lines.specs.TermLines.{StandsTwice}
 use Rattle.sfm_text.proofs.Orders.{first_once}
 use Rattle.sfm_text.proofs.Readings.{IsKept}
 use Rattle.sfm_text.proofs.TooMuch.{support-cons, much-by-total, total-by-much}
-use Rattle.sfm_lines.specs.Reading.{State, start, Has, HasAt, AreTooMuch, Adds, Takes}
+use Rattle.sfm_lines.specs.Reading.{State, start, Has, HasAt, AreTooMuch, Says, Adds, Takes}
 use Rattle.sfm_text.specs.GoodText.{instance_language}
 use Rattle.sfm_lines.proofs.WordLines.{not-end}
-use Rattle.sfm_lines.proofs.Matches.{AllZip-push}
 use Rattle.sfm_lines.proofs.Repeats.{twice-at}
 use Rattle.sfm_text.specs.OneTerm.{AreOneTerm}
-use Rattle.sfm_text.proofs.SameTerms.{stands-same}
+use Rattle.sfm_text.proofs.SameLines.{lines-same, AllZip-append}
 
 -- terms that are one by one the same are as many, and have as much in all
 pub alike-total : (a b : List Kind) → AllZip AreOneTerm a b → (length a ≡ length b) × (support_of a ≡ support_of b) × (total_size_of a ≡ total_size_of b)
@@ -66,11 +66,16 @@ much-alike s t places total same (inr (inr (meant, means, many))) =
 
 -- what a term line has in the one state, it has in the other
 pub term-alike : (s t : State) (tokens : List (List ℕ)) (reason : Reason) → Alike s t → HasAt Terms s tokens reason → HasAt Terms t tokens reason
+term-alike s t tokens Word same g = g
+term-alike s t tokens Name same g = rw (same.version, same.names) at g
+term-alike s t tokens Total same (term, weights, says, (places, total, brings, many)) = (term, weights, rw (same.version, same.names) at says, (places, total, brings, much-alike s t places total same many))
+term-alike s t tokens Shape same g = rw same.version at g
 term-alike s t tokens Number same g = rw same.version at g
-term-alike s t tokens Name same g = rw same.names at g
+term-alike s t tokens Twice same g = rw same.version at g
 term-alike s t tokens Law same g = rw same.version at g
-term-alike s t tokens Total same (term, stands, (places, total, brings, many)) = (term, rw (same.version, same.names) at stands, (places, total, brings, much-alike s t places total same many))
-term-alike s t tokens _ same g = g
+term-alike s t tokens Long same g = rw same.version at g
+term-alike s t tokens Bytes same g = rw same.version at g
+term-alike s t tokens Short same g = rw same.version at g
 
 -- what a line has in the one state, it has in the other
 has-alike : (s t : State) (line : List ℕ) (reason : Reason) → Alike s t → Has s line reason → Has t line reason
@@ -88,9 +93,13 @@ different : (names : List (List ℕ)) → (StandsTwice names → ⊥) → AllPai
 different names once i j d lt within same = once (twice-at names i j d lt within same)
 
 -- no line is both the last line and a term line
-not-both : (version : Version) (names tokens : List (List ℕ)) (term : Kind) → tokens ≡ codes "end" ∷ [] → StandsFor version names tokens term → ⊥
-not-both version names tokens term last stands =
-    let both : word_text stands.word ∷ stands.rest ≡ codes "end" ∷ [] = sym stands.shaped.0 ∙ last in
+not-both : (version : Version) (names tokens : List (List ℕ)) (term : Kind) (weights : Option (List ℤ)) → tokens ≡ codes "end" ∷ [] → Says version names tokens term weights → ⊥
+not-both version names tokens term weights last (plain, entries, inl (rest, bare, second, cut, h, is), stands, w) =
+    let both : word_text RankWord ∷ rest ≡ codes "end" ∷ [] = sym cut ∙ last in
+    let word : word_text RankWord ≡ codes "end" = cc in
+    not-end RankWord word
+not-both version names tokens term weights last (plain, entries, inr (none, is, empty), stands, w) =
+    let both : word_text stands.word ∷ stands.rest ≡ codes "end" ∷ [] = sym stands.shaped.0 ∙ (is ∙ last) in
     let word : word_text stands.word ≡ codes "end" = cc in
     not-end stands.word word
 
@@ -113,17 +122,17 @@ takes-alike s t line u v same h g = at s.stage refl h.adds (subst (λ (stage : S
         let once : StandsTwice names → ⊥ = λ twice. h.good Twice (subst (λ (stage : Stage). HasAt stage s (tokens_of line) Twice) (sym is) (names, tokens, twice)) in
         rw (a, b) (record { stage = refl; version = same.version; names = one; terms = tt; lines = refl; distinct = different names once })
     at Terms is (inl (last, a)) (inl (last', b)) = rw (a, b) (record { stage = refl; version = same.version; names = same.names; terms = same.terms; lines = same.lines; distinct = same.distinct })
-    at Terms is (inl (last, a)) (inr more) = absurd (not-both t.version t.names (tokens_of line) more.0 last more.1)
-    at Terms is (inr more) (inl (last, b)) = absurd (not-both s.version s.names (tokens_of line) more.0 last more.1)
-    at Terms is (inr more) (inr more') =
-        let stands : StandsFor s.version s.names (tokens_of line) more'.0 = rw (← same.version, ← same.names) at more'.1 in
-        let agree = stands-same s.version s.names (tokens_of line) more.0 more'.0 same.distinct more.1 stands in
-        rw (more.2, more'.2) (record {
+    at Terms is (inl (last, a)) (inr more) = absurd (not-both t.version t.names (tokens_of line) more.0 more.1 last more.2)
+    at Terms is (inr more) (inl (last, b)) = absurd (not-both s.version s.names (tokens_of line) more.0 more.1 last more.2)
+    at Terms is (inr (one, weights, says, terms, are, to)) (inr (other, others, says', terms', are', to')) =
+        let here : Says s.version s.names (tokens_of line) other others = rw (← same.version, ← same.names) at says' in
+        let (agree, one_weights, counts) = lines-same s.version s.names (tokens_of line) one other weights others terms terms' same.distinct says here are are' in
+        rw (to, to') (record {
           stage = refl;
           version = same.version;
           names = same.names;
-          terms = AllZip-push AreOneTerm s.terms t.terms more.0 more'.0 same.terms agree;
-          lines = ap (λ (l : List ℕ). l ++ 0 ∷ []) same.lines;
+          terms = AllZip-append AreOneTerm s.terms terms t.terms terms' same.terms agree;
+          lines = rw (same.lines, one_weights, counts) refl;
           distinct = same.distinct;
         })
     at Ended is a b = absurd a

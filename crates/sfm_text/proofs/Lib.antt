@@ -5,10 +5,16 @@ pub mod FirstSlots
 pub mod TooMuch
 pub mod Orders
 pub mod StageReasons
+pub mod WeighedLines
 pub mod SameTerms
+pub mod SameLines
+pub mod BareLines
+pub mod SaidLines
+pub mod LayerLines
 pub mod LaterLines
 pub mod Adding
 pub mod Readings
 pub mod Alike
+pub mod ForTerms
 pub mod Counted
 pub mod Standing

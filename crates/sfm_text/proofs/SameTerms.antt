@@ -41,7 +41,7 @@ use Rattle.sfm_text.proofs.TooMuch.{brings-same, most_size-high, terms-few, much
 same_first : (a b : ℤ) → a ∷ [] ≡ b ∷ [] → a ≡ b
 same_first a b e = cc
 
-same_both : (a b c d : ℤ) → a ∷ b ∷ [] ≡ c ∷ d ∷ [] → (a ≡ c) × (b ≡ d)
+pub same_both : (a b c d : ℤ) → a ∷ b ∷ [] ≡ c ∷ d ∷ [] → (a ≡ c) × (b ≡ d)
 same_both a b c d e = let first : a ≡ c = cc in let second : b ≡ d = cc in (first, second)
 
 -- the meanings of two terms of the same places, by the values of each
@@ -80,7 +80,7 @@ rank-one UniformRank parts values (Uniform a) (Uniform b) same h g =
     let back : (t : List Bool) → IsIndependentIn (Uniform b) t → IsIndependentIn (Uniform a) t = λ t. subst (λ (c : ℤ). pos (set_size t) ≤ℤ c) (sym cap) in
     record {
       places = same;
-      values = λ part. rw (number, cap) refl;
+      values = λ part len. rw (number, cap) refl;
       size = rw (number, cap, places) refl;
       starts = λ q. rw (number, cap, places) refl;
       meanings = meanings-by (Uniform a) (Uniform b) same (λ f is. rank-as a.w b.w _ _ _ _ f number (ap length places) forth back is) (λ f is. rank-as b.w a.w _ _ _ _ f (sym number) (sym (ap length places)) back forth is);
@@ -93,7 +93,7 @@ rank-one LaminarRank parts values (Laminar a) (Laminar b) same h g =
     let back : (t : List Bool) → IsIndependentIn (Laminar b) t → IsIndependentIn (Laminar a) t = λ t. subst (λ (l : List Group). IsWithinCaps l t) (sym groups) in
     record {
       places = same;
-      values = λ part. rw (number, groups, places) refl;
+      values = λ part len. rw (number, groups, places) refl;
       size = rw (number, groups, places) refl;
       starts = λ q. rw (number, groups, places) refl;
       meanings = meanings-by (Laminar a) (Laminar b) same (λ f is. rank-as a.w b.w _ _ _ _ f number (ap length places) forth back is) (λ f is. rank-as b.w a.w _ _ _ _ f (sym number) (sym (ap length places)) back forth is);
@@ -106,7 +106,7 @@ rank-one GraphicRank parts values (Graphic a) (Graphic b) same h g =
     let back : (t : List Bool) → IsIndependentIn (Graphic b) t → IsIndependentIn (Graphic a) t = λ t. subst (λ (l : List Edge). IsForest l t) (sym ends) in
     record {
       places = same;
-      values = λ part. rw (number, ends) refl;
+      values = λ part len. rw (number, ends) refl;
       size = rw (number, ends) refl;
       starts = λ q. rw (number, ends) refl;
       meanings = meanings-by (Graphic a) (Graphic b) same (λ f is. rank-as a.w b.w _ _ _ _ f number (ap length places) forth back is) (λ f is. rank-as b.w a.w _ _ _ _ f (sym number) (sym (ap length places)) back forth is);
@@ -119,7 +119,7 @@ rank-one TransversalRank parts values (Transversal a) (Transversal b) same h g =
     let back : (t : List Bool) → IsIndependentIn (Transversal b) t → IsIndependentIn (Transversal a) t = λ t. subst (λ (l : List (List ℕ)). IsMatchable l t) (sym entries) in
     record {
       places = same;
-      values = λ part. rw (number, entries) refl;
+      values = λ part len. rw (number, entries) refl;
       size = rw (number, entries) refl;
       starts = λ q. rw (number, entries) refl;
       meanings = meanings-by (Transversal a) (Transversal b) same (λ f is. rank-as a.w b.w _ _ _ _ f number (ap length places) forth back is) (λ f is. rank-as b.w a.w _ _ _ _ f (sym number) (sym (ap length places)) back forth is);
@@ -139,7 +139,7 @@ made-one WeightWord parts values (Weight a) (Weight b) same h g =
     let weights : a.weights ≡ b.weights = h ∙ sym g in
     record {
       places = same;
-      values = λ part. rw weights refl;
+      values = λ part len. rw weights refl;
       size = rw weights refl;
       starts = λ q. rw weights refl;
       meanings = meanings-by (Weight a) (Weight b) same (λ f is. rw weights at is) (λ f is. rw (← weights) at is);
@@ -148,14 +148,14 @@ made-one CutWord parts values (Cut a) (Cut b) same h g =
     let number : a.c ≡ b.c = same_first a.c b.c (h ∙ sym g) in
     record {
       places = same;
-      values = λ part. rw number refl;
+      values = λ part len. rw number refl;
       size = number;
       starts = λ q. rw number refl;
       meanings = meanings-by (Cut a) (Cut b) same (λ f is. rw number at is) (λ f is. rw (← number) at is);
     }
 made-one NeedWord parts values (Need a) (Need b) same h g = record {
   places = same;
-  values = λ part. refl;
+  values = λ part len. refl;
   size = refl;
   starts = λ q. refl;
   meanings = meanings-by (Need a) (Need b) same (λ f is. is) (λ f is. is);
@@ -165,7 +165,7 @@ made-one CoverWord parts values (Cover a) (Cover b) same h g =
     let places : a.places ≡ b.places = same in
     record {
       places = same;
-      values = λ part. rw number refl;
+      values = λ part len. rw number refl;
       size = number;
       starts = λ q. rw (number, places) refl;
       meanings = meanings-by (Cover a) (Cover b) same (λ f is. rw number at is) (λ f is. rw (← number) at is);
@@ -175,7 +175,7 @@ made-one TableWord parts values (Table a) (Table b) same h g =
     let places : a.places ≡ b.places = same in
     record {
       places = same;
-      values = λ part. rw listed refl;
+      values = λ part len. rw listed refl;
       size = rw listed refl;
       starts = λ q. rw (listed, places) refl;
       meanings = meanings-by (Table a) (Table b) same (λ f is. rw listed at is) (λ f is. rw (← listed) at is);
@@ -185,7 +185,7 @@ made-one ConcaveWord parts values (Concave a) (Concave b) same h g =
     let places : a.places ≡ b.places = same in
     record {
       places = same;
-      values = λ part. rw listed refl;
+      values = λ part len. rw listed refl;
       size = rw listed refl;
       starts = λ q. rw (listed, places) refl;
       meanings = meanings-by (Concave a) (Concave b) same (λ f is. rw listed at is) (λ f is. rw (← listed) at is);

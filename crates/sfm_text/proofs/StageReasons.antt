@@ -1,5 +1,5 @@
 -- What the header, the ground line and the last line lead to, and the reasons that they have.
-use Rattle.std.proofs.Common.{◌≡◌, ◌≢◌, ℕ, ◌<◌, ◌≤◌, List, [], ◌∷◌, length, get_or, map, Bor, codes, refl, sym, ap, ◌∙◌, inl, inr, arith}
+use Rattle.std.proofs.Common.{◌≡◌, ◌≢◌, ◌⊎◌, Option, ℤ, ℕ, ◌<◌, ◌≤◌, List, [], ◌∷◌, length, get_or, map, Bor, codes, refl, sym, ap, ◌∙◌, inl, inr, arith}
 use Rattle.std.specs.List.{All, Any}
 use Rattle.std.proofs.lemmas.List.Elements.{All-get_or}
 use Rattle.sfm_spec.specs.Names.{IsName}
@@ -7,20 +7,34 @@ use Rattle.sfm_kind.specs.Instance.{InstanceData}
 use Rattle.sfm_kind.specs.declared.version.Version.{Version}
 use Rattle.sfm_kind.specs.declared.version.Version.TheVariants.{First, Second}
 use Rattle.sfm_lines.specs.declared.reason.Reason.{Reason}
-use Rattle.sfm_lines.specs.declared.reason.Reason.TheVariants.{Long, Bytes, Word, Shape, Number, Name, Twice, Law, Total}
+use Rattle.sfm_lines.specs.declared.reason.Reason.TheVariants.{Long, Bytes, Word, Shape, Number, Name, Twice, Law, Total, Short}
 use Rattle.sfm_lines.specs.declared.stage.Stage.TheVariants.{Header, Ground, Terms, Ended}
 use Rattle.sfm_lines.specs.declared.word.TermWord.{TermWord}
+use Rattle.sfm_lines.specs.declared.word.TermWord.TheVariants.{RankWord}
 use Rattle.sfm_lines.specs.Lines.{tokens_of}
 use Rattle.sfm_lines.specs.Parts.{LineParts, IsMark, AreUnmarked}
 use Rattle.sfm_lines.specs.Versions.{header_tokens}
 use Rattle.sfm_lines.specs.Words.{word_text}
 use Rattle.sfm_lines.specs.TermLines.{StandsTwice}
-use Rattle.sfm_lines.specs.Reading.{State, Has, FirstReason, Takes, HasTermLine, reason_order}
+use Rattle.sfm_lines.specs.Reading.{State, Has, HasPlain, FirstReason, Takes, HasTermLine, reason_order}
+use Rattle.sfm_lines.specs.Weights.{IsPlainLine, IsWeightText}
 use Rattle.sfm_lines.specs.ReadParts.{state_at, IsLineOf}
 use Rattle.sfm_lines.proofs.Colons.{none-any}
 use Rattle.sfm_passes.proofs.Passed.{all-more}
 use Rattle.sfm_lines.proofs.WordLines.{not-end}
-use Rattle.sfm_lines.proofs.TermReasons.{none-below}
+
+-- none of the reasons below the k-th
+pub none-below : (s : State) (line : List ℕ) (k : ℕ) → (1 < k → Has s line Bytes → ⊥) → (2 < k → Has s line Word → ⊥) → (3 < k → Has s line Shape → ⊥) → (4 < k → Has s line Number → ⊥) → (5 < k → Has s line Name → ⊥) → (6 < k → Has s line Twice → ⊥) → (7 < k → Has s line Law → ⊥) → (8 < k → Has s line Total → ⊥) → (reason : Reason) → reason_order reason < k → Has s line reason → ⊥
+none-below s line k bytes word shape number name twice law total Long lt h = h
+none-below s line k bytes word shape number name twice law total Bytes lt h = bytes lt h
+none-below s line k bytes word shape number name twice law total Word lt h = word lt h
+none-below s line k bytes word shape number name twice law total Shape lt h = shape lt h
+none-below s line k bytes word shape number name twice law total Number lt h = number lt h
+none-below s line k bytes word shape number name twice law total Name lt h = name lt h
+none-below s line k bytes word shape number name twice law total Twice lt h = twice lt h
+none-below s line k bytes word shape number name twice law total Law lt h = law lt h
+none-below s line k bytes word shape number name twice law total Total lt h = total lt h
+none-below s line k bytes word shape number name twice law total Short lt h = h
 
 order-below : (reason : Reason) → reason_order reason < 10
 order-below Long = omega arith
@@ -123,22 +137,38 @@ module _ (i : InstanceData) (line : List ℕ) where
         let same : word_text word ≡ codes "end" = cc in
         not-end word same
 
+    -- and is its own line without weights
+    pub end-plain : (version : Version) (plain : List (List ℕ)) (entries : List (List ℕ × Option (List ℕ))) → IsPlainLine version (tokens_of line) plain entries → plain ≡ tokens_of line
+    end-plain version plain entries (inl (rest', bare, second, cut, h, is)) = absurd (no-term-line RankWord rest' cut)
+    end-plain version plain entries (inr (none, is, empty)) = is
+
     pub end-shape : rest ≢ [] → FirstReason (state_at Terms i) line Shape
     end-shape more = record {
       holds = (
         λ e. let both : codes "end" ∷ rest ≡ codes "end" ∷ [] = sym is.tokens_are ∙ e in let none : rest ≡ [] = cc in more none,
-        λ word rest' parts shaped. no-term-line word rest' shaped.0,
+        λ plain entries are word rest' parts shaped. no-term-line word rest' (sym (end-plain i.version plain entries are) ∙ shaped.0),
       );
       first = none-below (state_at Terms i) line 3 (λ lt h. is.good_bytes h) (λ lt h. h.0 rest is.tokens_are) (λ lt. absurd (omega arith)) (λ lt. absurd (omega arith)) (λ lt. absurd (omega arith)) (λ lt. absurd (omega arith)) (λ lt. absurd (omega arith)) (λ lt. absurd (omega arith));
     }
 
-    no-parts : (P : TermWord → List (List ℕ) → LineParts → Type 0) → HasTermLine (tokens_of line) P → ⊥
-    no-parts P (word, rest', parts, shaped, p) = no-term-line word rest' shaped.0
+    no-parts : (P : TermWord → List (List ℕ) → LineParts → Type 0) (plain : List (List ℕ)) → plain ≡ tokens_of line → HasTermLine plain P → ⊥
+    no-parts P plain e (word, rest', parts, shaped, p) = no-term-line word rest' (sym e ∙ shaped.0)
+
+    no-entries : (version : Version) (plain : List (List ℕ)) (entries : List (List ℕ × Option (List ℕ))) → IsPlainLine version (tokens_of line) plain entries → Any (λ entry. (value : ℤ) → IsWeightText entry.1 value → ⊥) entries → ⊥
+    no-entries version plain entries (inl (rest', bare, second, cut, h, is)) any = absurd (no-term-line RankWord rest' cut)
+    no-entries version plain entries (inr (none, is, empty)) (k, e, lt, at, wrong) = absurd (omega (arith, lt, ap length empty))
+
+    -- so it has no reason of a term line
+    no-mid : (reason : Reason) → ((plain : List (List ℕ)) → plain ≡ tokens_of line → HasPlain (state_at Terms i) plain reason → ⊥)
+        → (plain : List (List ℕ)) × (entries : List (List ℕ × Option (List ℕ))) × IsPlainLine i.version (tokens_of line) plain entries × (HasPlain (state_at Terms i) plain reason ⊎ ((reason ≡ Number) × Any (λ entry. (value : ℤ) → IsWeightText entry.1 value → ⊥) entries)) → ⊥
+    no-mid reason none (plain, entries, are, inl h) = none plain (end-plain i.version plain entries are) h
+    no-mid reason none (plain, entries, are, inr (e, wrong)) = no-entries i.version plain entries are wrong
 
     pub end-good : rest ≡ [] → Takes (state_at Terms i) line (state_at Ended i)
     end-good none =
         let tokens : tokens_of line ≡ codes "end" ∷ [] = is.tokens_are ∙ ap (λ (r : List (List ℕ)). codes "end" ∷ r) none in
         record {
-          good = none-at-all (state_at Terms i) line is.good_bytes (λ h. h.0 rest is.tokens_are) (λ h. h.0 tokens) (no-parts _) (no-parts _) (no-parts _) (no-parts _) (λ (term, stands, much). no-term-line stands.word stands.rest stands.shaped.0);
+          good = none-at-all (state_at Terms i) line is.good_bytes (λ h. h.0 rest is.tokens_are) (λ h. h.0 tokens) (no-mid Number (no-parts _)) (no-mid Name (no-parts _)) (no-mid Twice (no-parts _)) (no-mid Law (no-parts _))
+              (λ (term, weights, (plain, entries, are, stands, w), much). no-term-line stands.word stands.rest (sym (end-plain i.version plain entries are) ∙ stands.shaped.0));
           adds = inl (tokens, refl);
         }

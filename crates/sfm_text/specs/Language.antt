@@ -23,8 +23,7 @@ pub record Language (S : Type 0) : Type 1 where
 -- the reason holds, and none that comes before it
 pub record IsFirstOf (Has : Reason → Type 0) (reason : Reason) : Type 0 where
   pub holds : Has reason
-  pub first : (before behind : List Reason) → reasons ≡ before ++ reason ∷ behind
-      → All (λ earlier. Has earlier → ⊥) before
+  pub first : (before behind : List Reason) → reasons ≡ before ++ reason ∷ behind → All (λ earlier. Has earlier → ⊥) before
 
 -- the content lines lead from the start to the state
 pub record IsReadAs {S : Type 0} (L : Language S) (text : List ℕ) (s : S) : Type 0 where
@@ -32,8 +31,7 @@ pub record IsReadAs {S : Type 0} (L : Language S) (text : List ℕ) (s : S) : Ty
   pub lines : FoldsTo L.Takes L.start (map (λ line. line.1) (content_of text)) s
 
 -- the first content line with a reason, all before it being good
-pub record HasFaultyLineIn {S : Type 0} (L : Language S) (text : List ℕ) (number : ℕ)
-    (reason : Reason) : Type 0 where
+pub record HasFaultyLineIn {S : Type 0} (L : Language S) (text : List ℕ) (number : ℕ) (reason : Reason) : Type 0 where
   pub before : List (ℕ × List ℕ)
   pub line : List ℕ
   pub after : List (ℕ × List ℕ)
@@ -44,13 +42,10 @@ pub record HasFaultyLineIn {S : Type 0} (L : Language S) (text : List ℕ) (numb
 
 -- the first fault of a text: at line 0 that it is too long, or else at a line the first reason that it has there, or
 -- behind the last line, where all are good and do not come to the end, that it ends too early
-pub data IsFaultIn {S : Type 0} (L : Language S) (text : List ℕ) (number : ℕ) (reason : Reason)
-    : Type 0 where
+pub data IsFaultIn {S : Type 0} (L : Language S) (text : List ℕ) (number : ℕ) (reason : Reason) : Type 0 where
   is_long : number ≡ 0 → reason ≡ Long → text_limit < length text → IsFaultIn L text number reason
-  is_faulty : length text ≤ text_limit → HasFaultyLineIn L text number reason
-      → IsFaultIn L text number reason
-  is_short : number ≡ length (lines_of text) + 1 → reason ≡ Short → length text ≤ text_limit
-      → ((state : S) × FoldsTo L.Takes L.start (map (λ line. line.1) (content_of text)) state × (L.IsEnd state → ⊥))
+  is_faulty : length text ≤ text_limit → HasFaultyLineIn L text number reason → IsFaultIn L text number reason
+  is_short : number ≡ length (lines_of text) + 1 → reason ≡ Short → length text ≤ text_limit → ((state : S) × FoldsTo L.Takes L.start (map (λ line. line.1) (content_of text)) state × (L.IsEnd state → ⊥))
       → IsFaultIn L text number reason
 
 -- a refusal names the first fault; out of memory says nothing

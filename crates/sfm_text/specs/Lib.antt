@@ -5,5 +5,6 @@ pub mod GoodText
 pub mod OneTerm
 pub mod Numbered
 pub mod Judging
+pub mod Weighed
 pub mod Adding
 pub mod Standing

@@ -92,5 +92,5 @@ HasReadAll reader text = MatchOption reader.fault (LeadsTo text (progress_of rea
 -- the text comes to its end, and stands for the instance, with these numbers of its lines
 pub record IsToldBy (text : List ℕ) (r : Numbered) : Type 0 where
   pub lines : FoldsTo Takes start (bytes_of (content_of text)) (state_at Ended r.instance)
-  pub numbers : AreNumbersOf text r.ground_line r.term_lines.items
+  pub numbers : AreNumbersOf text r.ground_line r.instance.lines r.term_lines.items
   pub counted : length r.term_lines.items ≡ length r.instance.terms

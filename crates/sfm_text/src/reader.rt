@@ -1,8 +1,8 @@
 // Reading an instance text in pieces. A line is judged as soon as it ends, against what the lines before it led to. So only
 // the names, the terms and the line that has not ended are kept, and behind the first fault no more than a count of bytes.
-ghost use Rattle.std.specs.{Prelude.{◌≡◌, ◌==◌, ◌+◌, ◌≤◌, ◌<◌, ℕ, List, [], ◌∷◌, ◌++◌, length, true, false, None, Err, IfOk, IfErr, OnOk, OnErr, MatchOption}, List.{All, concat}};
+ghost use Rattle.std.specs.{Prelude.{◌≡◌, ◌==◌, ◌+◌, ◌≤◌, ◌<◌, ℕ, List, [], ◌∷◌, ◌++◌, length, replicate, true, false, None, Err, IfOk, IfErr, OnOk, OnErr, MatchOption}, List.{All, concat}};
 ghost use Rattle.sfm_lines.specs.Lines.{texts_of};
-ghost use Rattle.sfm_text.specs.{GoodText.{text_limit, IsTextOf, IsRefusalOf}, Numbered.{AreNumbersOf}};
+ghost use Rattle.sfm_text.specs.{GoodText.{text_limit, IsTextOf, IsRefusalOf}, Numbered.{AreNumbersOf, for_terms}};
 ghost use Rattle.sfm_text.specs.declared.end.TextEnd.TheVariants as ends;
 
 use crate::end::{Fault, TextEnd};
@@ -11,7 +11,7 @@ use crate::reading::Reading;
 use sfm_base::Memory;
 use sfm_kind::Instance;
 use sfm_lines::{LineEnd, Reason, Stage};
-use std::alloc::Global;
+use std::alloc::{AllocError, Global};
 use std::mem;
 
 /// The most bytes of an instance text.
@@ -23,7 +23,7 @@ pub struct Numbered {
     pub instance: Instance,
     /// The number of the line with the names.
     pub ground_line: usize,
-    /// The number of the line of each term, in order.
+    /// For each term, in order, the number of its line: the layers of a rank have that of one line.
     pub term_lines: Vec<usize>,
 }
 
@@ -159,7 +159,8 @@ impl Reader {
         ensures read { IfOk result (λ r. (text : List ℕ) → Stands self text
             → IsTextOf text r.instance) }
         ensures numbered { IfOk result (λ r. (text : List ℕ) → Stands self text
-            → AreNumbersOf text r.ground_line r.term_lines.items) }
+            → AreNumbersOf text r.ground_line
+            r.instance.lines r.term_lines.items) }
         ensures counted { IfOk result (λ r. (text : List ℕ) → Stands self text
             → length r.term_lines.items ≡ length r.instance.terms) }
         ensures refused { IfErr result (λ end. (text : List ℕ) → Stands self text
@@ -168,7 +169,7 @@ impl Reader {
     {
         self.close(alloc)?;
         let lines = self.lines;
-        match self.into_numbered() {
+        match self.into_numbered(alloc)? {
             Some(numbered) => Ok(numbered),
             None => Err(TextEnd::Refused {
                 line: lines + 1,
@@ -178,10 +179,10 @@ impl Reader {
     }
 
     /// What was read of a text without a faulty line, or None where it ends too early, of a reader that is done with.
-    fn into_numbered(self) -> Option<Numbered>
-        ensures { MatchOption result
+    fn into_numbered(self, alloc: Global) -> Result<Option<Numbered>, Memory>
+        ensures { IfOk result (λ told. MatchOption told
             ((text : List ℕ) → LeadsTo text (progress_of self) → EndsEarly text)
-            (λ r. (text : List ℕ) → LeadsTo text (progress_of self) → IsToldBy text r) }
+            (λ r. (text : List ℕ) → LeadsTo text (progress_of self) → IsToldBy text r)) }
     {
         let Reader {
             spent: _,
@@ -193,16 +194,18 @@ impl Reader {
             fault: _,
         } = self;
         if reading.stage != Stage::Ended {
-            return None;
+            return Ok(None);
         }
-        let Some((ground_line, term_lines)) = split_numbers(numbers) else {
-            return None;
+        let Some((ground_line, between)) = split_numbers(numbers) else {
+            return Ok(None);
         };
-        Some(Numbered {
-            instance: reading.into_instance(),
+        let instance = reading.into_instance();
+        let term_lines = numbers_of_terms(alloc, instance.lines(), &between)?;
+        Ok(Some(Numbered {
+            instance,
             ground_line,
             term_lines,
-        })
+        }))
     }
 
     /// Reads what is left of the text: a line with a fault, or too many bytes, end the reader.
@@ -359,6 +362,31 @@ fn split_numbers(mut numbers: Vec<usize>) -> Option<(usize, Vec<usize>)>
     Some((ground_line, numbers))
 }
 
+/// Puts an item so many times behind others.
+fn push_times(all: &mut Vec<usize>, item: usize, count: usize) -> Result<(), AllocError>
+    ensures { OnOk result (all.new.items ≡ all.old.items ++ replicate count item) }
+{
+    for _ in 0..count {
+        all.push(item)?;
+    }
+    Ok(())
+}
+
+/// The numbers of the lines of terms, by those of the term lines, of lines with so many layers.
+fn numbers_of_terms(
+    alloc: Global,
+    layers: &[usize],
+    numbers: &[usize],
+) -> Result<Vec<usize>, Memory>
+    ensures { IfOk result (λ r. r.items ≡ for_terms layers.now numbers.now) }
+{
+    let mut all = Vec::new(alloc);
+    for i in 0..layers.len().min(numbers.len()) {
+        push_times(&mut all, numbers[i], layers[i].max(1))?;
+    }
+    Ok(all)
+}
+
 /// The instance that a text stands for, or its first fault.
 ///
 /// # Errors
@@ -394,7 +422,8 @@ pub fn read_pieces(alloc: Global, pieces: &[&[u8]]) -> Result<Instance, TextEnd>
 /// `Refused` with the line and the reason of the first fault; `Memory` where there is none.
 pub fn read_numbered(alloc: Global, text: &[u8]) -> Result<Numbered, TextEnd>
     ensures read { IfOk result (λ r. IsTextOf text.now r.instance) }
-    ensures numbered { IfOk result (λ r. AreNumbersOf text.now r.ground_line r.term_lines.items) }
+    ensures numbered { IfOk result (λ r. AreNumbersOf text.now r.ground_line
+        r.instance.lines r.term_lines.items) }
     ensures counted { IfOk result (λ r. length r.term_lines.items ≡ length r.instance.terms) }
     ensures refused { IfErr result (IsRefusalOf text.now) }
 {

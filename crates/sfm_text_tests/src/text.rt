@@ -13,6 +13,7 @@ mod parts;
 mod pieces;
 mod ranks;
 mod told;
+mod weights;
 
 use parts::{push_many, push_numbered};
 use told::{Numbers, Told, are_told};

@@ -1,21 +1,9 @@
 -- A line with the word of a term line is judged as one of a text.
 use Rattle.std.proofs.Common.{arith}
-use Rattle.sfm_lines.specs.declared.line_fault.LineEnd.TheVariants.{Fault}
 use Rattle.sfm_lines.specs.Lines.{tokens_of}
 use Rattle.sfm_lines.proofs.FewLabels.{bytes-tokens, bytes-behind}
-use Rattle.sfm_text.proofs.Adding.{judged-as, term-refused, term-not-last}
+use Rattle.sfm_text.proofs.Adding.{judged-as}
 use Rattle.sfm_text.proofs.added.add_line.Goals as goal
-
-pub early_reason-requires : goal.early_reason-requires
-early_reason-requires c = c.names_len-count.ensures.named
-
-pub returns-in-Some-early_reason-clause-judged : goal.returns-in-Some-early_reason-clause-judged
-returns-in-Some-early_reason-clause-judged c =
-    let i = c.args.instance.now in
-    let line = c.args.line.now in
-    let rest = tokens_of c.in-Some.rest.now in
-    let told = c.in-Some-early_reason.ensures in
-    term-refused i line (term-not-last line c.in-Some.word rest c.in-Some.ensures) (Fault c.in-Some-early_reason.reason) (told line (record { tokens_are = c.in-Some.ensures; good_bytes = c.if-not-are_good_bytes.ensures }))
 
 pub add_behind-requires : goal.add_behind-requires
 add_behind-requires c =

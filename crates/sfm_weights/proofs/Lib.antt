@@ -1,0 +1,4 @@
+pub mod Tokens
+pub mod Entries
+pub mod Texts
+pub mod Lines

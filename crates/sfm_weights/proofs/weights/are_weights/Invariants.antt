@@ -1,0 +1,12 @@
+use Rattle.std.proofs.Common.{ℕ, List, length, Option, ℤ}
+use Rattle.sfm_lines.specs.Lines.{tokens_of}
+use Rattle.sfm_lines.specs.Weights.{IsUnweighed, IsWeightText}
+use Rattle.sfm_weights.proofs.Entries.{AreLeft}
+use Rattle.sfm_weights.proofs.weights.are_weights.Given as goal
+
+abbrev pub invariant-loop-token : goal.invariant-loop-token
+invariant-loop-token l = (plain : List (List ℕ)) (entries : List (List ℕ × Option (List ℕ))) → IsUnweighed (tokens_of l.line) plain entries
+    → AreLeft (λ entry. (value : ℤ) → IsWeightText entry.1 value → ⊥) (λ entry. (value : ℤ) × IsWeightText entry.1 value) entries (tokens_of l.left)
+
+abbrev pub decreases-loop-token : goal.decreases-loop-token
+decreases-loop-token l = length l.left
