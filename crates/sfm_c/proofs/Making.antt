@@ -68,7 +68,7 @@ faulty_by L text Stands word IsFault IsDue more end is result h = IfOk-weaker re
 
 -- an instance whose sizes add to too much
 pub too_large_due : (text : List ℕ) (instance : InstanceData) (ground : ℕ) (lines : List ℕ) (line : ℕ)
-    → IsTextOf text instance → AreNumbersOf text ground lines
+    → IsTextOf text instance → AreNumbersOf text ground instance.lines lines
     → PassesAt instance.terms lines line → (due : Due)
     → due.text.items ≡ refusal (codes "refused") line Total → due.status ≡ Refused
     → IsMade (IsDueToLevel text) due

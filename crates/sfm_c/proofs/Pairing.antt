@@ -22,7 +22,7 @@ use Rattle.sfm_c.proofs.Making.{asks, faulty, made_more, stands}
 
 -- the text of an instance that was read with the numbers of its lines
 pub lined : (text : List ℕ) (side : Numbered) → IsTextOf text side.instance
-    → AreNumbersOf text side.ground_line side.term_lines.items → IsLined text (lined_of side)
+    → AreNumbersOf text side.ground_line side.instance.lines side.term_lines.items → IsLined text (lined_of side)
 lined text side good numbered = record { asked = asks text side.instance good; numbered = numbered }
 
 -- what is made for an instance is due for its text, which is the left one

@@ -167,7 +167,8 @@ fn level_of(alloc: Global, numbered: &Numbered) -> Result<Due, Memory>
     requires { length numbered.now.term_lines.items ≡ length numbered.now.instance.terms }
     ensures { (text : List ℕ)
         → IsTextOf text numbered.now.instance
-        → AreNumbersOf text numbered.now.ground_line numbered.now.term_lines.items
+        → AreNumbersOf text numbered.now.ground_line
+        numbered.now.instance.lines numbered.now.term_lines.items
         → IfOk result (IsMade (IsDueToLevel text)) }
 {
     match too_large(&numbered.instance, &numbered.term_lines) {

@@ -70,7 +70,7 @@ first-more (t ∷ terms) (suc i) (suc j) le = omega (arith, ints, first-more ter
 
 -- the line at which the terms of a text pass the limit is that at which the text is too large
 pub too-large : (text : List ℕ) (instance : InstanceData) (ground : ℕ) (lines : List ℕ) (line : ℕ)
-    → IsTextOf text instance → AreNumbersOf text ground lines
+    → IsTextOf text instance → AreNumbersOf text ground instance.lines lines
     → PassesAt instance.terms lines line → IsTooLarge text line
 too-large text instance ground lines line good numbered h = (
   record { asked = question_of instance; ground_line = ground; lines = lines },

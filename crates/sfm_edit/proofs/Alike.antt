@@ -1,6 +1,6 @@
 -- Two instances under edits that differ only in how their terms are kept: no reason tells them apart, and a line leads from two
 -- such to two such.
-use Rattle.std.proofs.Common.{◌≡◌, ◌≢◌, inl, inr, ℕ, zero, suc, ◌+◌, ◌<◌, List, [], ◌∷◌, ◌++◌, length, take, drop, codes, Option, None, AllPairs, pos, refl, sym, ap, subst, ◌∙◌, arith}
+use Rattle.std.proofs.Common.{◌≡◌, ◌≢◌, inl, inr, ℕ, zero, suc, ◌+◌, ◌-◌, ◌<◌, List, [], ◌∷◌, ◌++◌, length, take, drop, codes, replicate, Option, None, AllPairs, pos, refl, sym, ap, subst, ◌∙◌, arith}
 use Rattle.std.specs.List.{AllZip, remove}
 use Rattle.std.proofs.lemmas.Int.{ints}
 use Rattle.sfm_base.specs.NumberText.{IsNumber}
@@ -9,16 +9,15 @@ use Rattle.sfm_kind.specs.Instance.{terms_in}
 use Rattle.sfm_lines.specs.declared.reason.Reason.{Reason}
 use Rattle.sfm_lines.specs.declared.reason.Reason.TheVariants.{Long, Bytes, Word, Shape, Number, Name, Twice, Law, Total, Short}
 use Rattle.sfm_lines.specs.declared.stage.Stage.TheVariants.{Terms}
-use Rattle.sfm_lines.specs.TermLines.{StandsFor}
-use Rattle.sfm_lines.specs.Reading.{HasAt}
+use Rattle.sfm_lines.specs.Reading.{State, Says}
 use Rattle.sfm_lines.specs.ReadParts.{state_at}
-use Rattle.sfm_lines.proofs.Matches.{AllZip-push}
 use Rattle.sfm_lines.proofs.Numbers.{number-same}
 use Rattle.sfm_text.specs.OneTerm.{AreOneTerm}
 use Rattle.sfm_text.proofs.Alike.{Alike, term-alike}
-use Rattle.sfm_text.proofs.SameTerms.{stands-same}
+use Rattle.sfm_text.proofs.SameLines.{AllZip-append, lines-same}
 use Rattle.sfm_edit.specs.Edits.{Editing, without_terms, without_line, HasAdded, HasEdit, Drops, AddsLine}
 use Rattle.sfm_edit.specs.EditLines.{Edits}
+use Rattle.sfm_edit.proofs.Keeping.{grown-by}
 use Rattle.sfm_edit.proofs.Reasons.{same-rest, drop-no-add, end-no-drop, end-no-add}
 
 -- the same names, terms that are one by one the same, and the same places of the kept ones
@@ -31,7 +30,7 @@ pub record AreAlike (e f : Editing) : Type 0 where
 one-term : (term : Kind) → AreOneTerm term term
 one-term term = record {
   places = refl;
-  values = λ part. refl;
+  values = λ part len. refl;
   size = refl;
   starts = λ q. refl;
   meanings = λ meant. (λ h. h, λ h. h);
@@ -88,12 +87,6 @@ AllZip-drop R (suc n) [] (y ∷ ys) h = absurd h
 AllZip-drop R (suc n) (x ∷ xs) [] h = absurd h
 AllZip-drop R (suc n) (x ∷ xs) (y ∷ ys) h = AllZip-drop R n xs ys h.1
 
-AllZip-append : {X Y : Type 0} (R : X → Y → Type 0) (xs more : List X) (ys rest : List Y) → AllZip R xs ys → AllZip R more rest → AllZip R (xs ++ more) (ys ++ rest)
-AllZip-append R [] more [] rest h g = g
-AllZip-append R [] more (y ∷ ys) rest h g = absurd h
-AllZip-append R (x ∷ xs) more [] rest h g = absurd h
-AllZip-append R (x ∷ xs) more (y ∷ ys) rest h g = (h.0, AllZip-append R xs more ys rest h.1 g)
-
 without-alike : (e f : Editing) (i : ℕ) → AreAlike e f → AreAlike (without_line e i) (without_line f i)
 without-alike e f i same =
     let lines = same.instance.lines in
@@ -126,20 +119,23 @@ drops-alike e f tokens a b same (text, i, is, (lt, number), to) (text', i', is',
 
 adds-alike : (e f : Editing) (tokens : List (List ℕ)) (a b : Editing) → AreAlike e f
     → AddsLine e tokens a → AddsLine f tokens b → AreAlike a b
-adds-alike e f tokens a b same (rest, is, (s, stands, to), kept) (rest', is', (t, stands', to'), kept') =
+adds-alike e f tokens a b same (rest, is, (s, v, says, xs, are, to), kept) (rest', is', (t, w, says', ys, are', to'), kept') =
     let one : rest' ≡ rest = same-rest (codes "add") rest' rest (sym is' ∙ is) in
-    let second : StandsFor e.instance.version e.instance.names rest t = rw (one, ← same.instance.version, ← same.instance.names) at stands' in
-    let agree : AreOneTerm s t = stands-same e.instance.version e.instance.names rest s t same.instance.distinct stands second in
+    let second : Says e.instance.version e.instance.names rest t w = rw (one, ← same.instance.version, ← same.instance.names) at says' in
+    let (agree, weights, counts) = lines-same e.instance.version e.instance.names rest s t v w xs ys same.instance.distinct says second are are' in
+    let more : length a.instance.terms - length e.instance.terms ≡ length xs = grown-by e.instance.terms xs a.instance.terms (ap (λ (u : State). u.terms) to) in
+    let more' : length b.instance.terms - length f.instance.terms ≡ length ys = grown-by f.instance.terms ys b.instance.terms (ap (λ (u : State). u.terms) to') in
     record {
       instance = rw (to, to') (record {
         stage = refl;
         version = same.instance.version;
         names = same.instance.names;
-        terms = AllZip-push AreOneTerm e.instance.terms f.instance.terms s t same.instance.terms agree;
-        lines = ap (λ (l : List ℕ). l ++ 0 ∷ []) same.instance.lines;
+        terms = AllZip-append AreOneTerm e.instance.terms xs f.instance.terms ys same.instance.terms agree;
+        lines = rw (same.instance.lines, weights, counts) refl;
         distinct = same.instance.distinct;
       });
-      kept = kept ∙ (ap (λ (l : List (Option ℕ)). l ++ None ∷ []) same.kept ∙ sym kept');
+      kept = kept ∙ (ap (λ (l : List (Option ℕ)). l ++ replicate (length a.instance.terms - length e.instance.terms) None) same.kept
+          ∙ (ap (λ n. f.kept ++ replicate n None) (more ∙ (counts ∙ sym more')) ∙ sym kept'));
     }
 
 pub edits-alike : (e f : Editing) (tokens : List (List ℕ)) (a b : Editing) → AreAlike e f

@@ -1,15 +1,18 @@
 -- Which terms are kept, as edits go on: the old ones stand first, in their old order.
-use Rattle.std.proofs.Common.{◌≡◌, ◌⊎◌, inl, inr, ℕ, zero, suc, ◌+◌, ◌<◌, ◌≤◌, List, [], ◌∷◌, ◌++◌, length, get_or, slice_get, take, drop, Option, Some, None, refl, sym, ap, subst, ◌∙◌, arith}
+use Rattle.std.proofs.Common.{◌≡◌, ◌⊎◌, inl, inr, ℕ, zero, suc, ◌+◌, ◌-◌, ◌<◌, ◌≤◌, List, [], ◌∷◌, ◌++◌, length, get_or, slice_get, take, drop, replicate, Option, Some, None, append-nil, refl, sym, ap, subst, ◌∙◌, arith}
 use Rattle.std.specs.List.{remove}
 use Rattle.std.proofs.lemmas.Bool.{cases_lt}
 use Rattle.std.proofs.lemmas.Option.{same_Some, slice_get_within, get_or_from_slice_get}
 use Rattle.std.proofs.lemmas.List.{length_push, length-append, length-take-le, length-drop}
 use Rattle.std.proofs.Math.ListN.{drop_of_length-le}
+use Rattle.std.proofs.Math.Seq.{append_snoc}
 use Rattle.std.proofs.lemmas.List.Edits.{length-remove}
 use Rattle.std.proofs.lemmas.List.FromFn.{length-map-range_with_len, get_or-map-range_with_len}
-use Rattle.sfm_lines.specs.Reading.{State}
+use Rattle.sfm_lines.specs.declared.stage.Stage.TheVariants.{Terms}
+use Rattle.sfm_lines.specs.Reading.{State, AddsTerm}
+use Rattle.sfm_lines.specs.ReadParts.{state_at}
 use Rattle.sfm_kind.specs.declared.kind.Kind.{Kind}
-use Rattle.sfm_kind.specs.Instance.{width_of, terms_in}
+use Rattle.sfm_kind.specs.Instance.{InstanceData, width_of, terms_in}
 use Rattle.sfm_kind.proofs.Removed.{cut_out, cut_out-none, cut_out-more}
 use Rattle.sfm_edit.specs.EditLines.{Edits}
 use Rattle.sfm_edit.specs.Edits.{Editing, without_terms}
@@ -143,7 +146,7 @@ get-new : {X : Type 0} (xs : List X) (x : X) → slice_get (xs ++ x ∷ []) (len
 get-new [] x = refl
 get-new (y ∷ xs) x = get-new xs x
 
-pub origins-added : (old new : List Kind) (kept : List (Option ℕ)) (term : Kind)
+origins-added : (old new : List Kind) (kept : List (Option ℕ)) (term : Kind)
     → AreOrigins old new kept → AreOrigins old (new ++ term ∷ []) (kept ++ None ∷ [])
 origins-added old new kept term h = record {
   count = omega (arith, length_push kept None, length_push new term, h.count);
@@ -181,6 +184,27 @@ origins-added old new kept term h = record {
             let last : k ≡ length kept = omega (arith, short, le) in
             ap (slice_get (kept ++ None ∷ [])) last ∙ get-new kept None
 
+-- ---- some are added
+
+pub origins-grown : (old new : List Kind) (kept : List (Option ℕ)) (more : List Kind) → AreOrigins old new kept
+    → AreOrigins old (new ++ more) (kept ++ replicate (length more) None)
+origins-grown old new kept [] h = rw (append-nil new, append-nil kept) h
+origins-grown old new kept (term ∷ more) h =
+    let terms : (new ++ term ∷ []) ++ more ≡ new ++ term ∷ more = append_snoc new term more in
+    let all = replicate (length more) None in
+    let origins : (kept ++ None ∷ []) ++ all ≡ kept ++ None ∷ all = append_snoc kept None all in
+    rw (← terms, ← origins) (origins-grown old (new ++ term ∷ []) (kept ++ None ∷ []) more (origins-added old new kept term h))
+
+-- how many more they are
+pub grown-by : (old more new : List Kind) → new ≡ old ++ more → length new - length old ≡ length more
+grown-by old more new is = omega (arith, ap length is, length-append old more)
+
+-- a term line leaves the others where they are
+pub added-longer : (old new : InstanceData) (tokens : List (List ℕ)) → AddsTerm (state_at Terms old) tokens (state_at Terms new) → length old.terms ≤ length new.terms
+added-longer old new tokens (term, weights, says, more, are, same) =
+    let terms : new.terms ≡ old.terms ++ more = ap (λ (s : State). s.terms) same in
+    omega (arith, ap length terms, length-append old.terms more)
+
 -- ---- one line
 
 -- what a line leads to keeps the origins
@@ -188,12 +212,14 @@ pub origins-edited : (old : List Kind) (e f : Editing) (tokens : List (List ℕ)
     → AreOrigins old e.instance.terms e.kept → AreOrigins old f.instance.terms f.kept
 origins-edited old e f tokens (inl (text, i, is, number, same)) h =
     subst (λ (g : Editing). AreOrigins old g.instance.terms g.kept) (sym same) (origins-without old e.instance.terms e.kept e.instance.lines i number.0 h)
-origins-edited old e f tokens (inr (rest, is, (term, stands, same), kept)) h =
-    let terms : f.instance.terms ≡ e.instance.terms ++ term ∷ [] = ap (λ (s : State). s.terms) same in
-    rw (terms, kept) (origins-added old e.instance.terms e.kept term h)
+origins-edited old e f tokens (inr (rest, is, (term, weights, says, more, are, same), kept)) h =
+    let terms : f.instance.terms ≡ e.instance.terms ++ more = ap (λ (s : State). s.terms) same in
+    let count = grown-by e.instance.terms more f.instance.terms terms in
+    let origins : f.kept ≡ e.kept ++ replicate (length more) None = kept ∙ ap (λ n. e.kept ++ replicate n None) count in
+    rw (terms, origins) (origins-grown old e.instance.terms e.kept more h)
 
 -- and the names
 pub names-edited : (e f : Editing) (tokens : List (List ℕ)) → Edits e tokens f
     → f.instance.names ≡ e.instance.names
 names-edited e f tokens (inl (text, i, is, number, same)) = ap (λ (g : Editing). g.instance.names) same
-names-edited e f tokens (inr (rest, is, (term, stands, same), kept)) = ap (λ (s : State). s.names) same
+names-edited e f tokens (inr (rest, is, (term, weights, says, more, are, same), kept)) = ap (λ (s : State). s.names) same

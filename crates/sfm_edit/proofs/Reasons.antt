@@ -1,6 +1,6 @@
 -- The reasons of a line of edits: which is the first where it is not taken, and that it has none where it is. Those of what
 -- stands behind `add` are those that it has as a term line.
-use Rattle.std.proofs.Common.{◌≡◌, ◌≢◌, inl, inr, ℕ, ◌<◌, ◌≤◌, List, [], ◌∷◌, ◌++◌, length, get_or, codes, Option, None, refl, sym, ap, subst, ◌∙◌, arith}
+use Rattle.std.proofs.Common.{◌≡◌, ◌≢◌, inl, inr, ℕ, ◌<◌, ◌≤◌, List, [], ◌∷◌, ◌++◌, ◌-◌, length, get_or, codes, replicate, Option, None, refl, sym, ap, subst, ◌∙◌, arith}
 use Rattle.std.specs.Prelude.{Result, Ok, Err, MatchResult}
 use Rattle.std.specs.List.{Any, remove}
 use Rattle.std.specs.Result.{IsErrAnd}
@@ -60,14 +60,29 @@ same-editing a b version names terms lines kept =
     ∙ (ap (λ l. editing b.instance.version b.instance.names b.instance.terms l a.kept) lines
     ∙ ap (λ k. editing b.instance.version b.instance.names b.instance.terms b.instance.lines k) kept)))
 
+-- no term line has a reason that is said of no tokens
+no-other : (instance : InstanceData) (tokens : List (List ℕ)) → (HasAdded instance tokens Long → ⊥) × (HasAdded instance tokens Bytes → ⊥) × (HasAdded instance tokens Short → ⊥)
+no-other instance tokens = (long, bytes, short) where
+  long : HasAdded instance tokens Long → ⊥
+  long (rest, is, (plain, entries, line, inl h)) = h
+  long (rest, is, (plain, entries, line, inr (number, h))) = absurd (cc)
+
+  bytes : HasAdded instance tokens Bytes → ⊥
+  bytes (rest, is, (plain, entries, line, inl h)) = h
+  bytes (rest, is, (plain, entries, line, inr (number, h))) = absurd (cc)
+
+  short : HasAdded instance tokens Short → ⊥
+  short (rest, is, (plain, entries, line, inl h)) = h
+  short (rest, is, (plain, entries, line, inr (number, h))) = absurd (cc)
+
 -- the reasons of the form are none that the frame tells, and of the end no more than that it is no edit
 pub edits-framed : (instance : InstanceData) → IsFramed (edits_form instance)
 edits-framed instance = record { plain = plain; ends = ends } where
   plain : (e : Editing) (tokens : List (List ℕ)) (reason : Reason) → HasEdit e tokens reason
       → (reason ≢ Long) × (reason ≢ Bytes) × (reason ≢ Short)
-  plain e tokens Long h = absurd h.2
-  plain e tokens Bytes h = absurd h.2
-  plain e tokens Short h = absurd h.2
+  plain e tokens Long h = absurd ((no-other e.instance tokens).0 h)
+  plain e tokens Bytes h = absurd ((no-other e.instance tokens).1 h)
+  plain e tokens Short h = absurd ((no-other e.instance tokens).2 h)
   plain e tokens _ h = (λ e. absurd (cc), λ e. absurd (cc), λ e. absurd (cc))
 
   ends : (e : Editing) (reason : Reason) → HasEdit e (codes "end" ∷ []) reason
@@ -85,8 +100,8 @@ pub edit-other : (e : Editing) (tokens : List (List ℕ))
 edit-other e tokens no_drop no_add = first_listed (HasEdit e tokens) Word (no_drop, λ word rest. no_add (word_text word ∷ rest)) none
   where
     none : (reason : Reason) → reason_order reason < 2 → HasEdit e tokens reason → ⊥
-    none Long lt h = h.2
-    none Bytes lt h = h.2
+    none Long lt h = (no-other e.instance tokens).0 h
+    none Bytes lt h = (no-other e.instance tokens).1 h
     none _ lt h = omega (arith, lt)
 
 -- no token is no word
@@ -209,9 +224,9 @@ module _ (e : Editing) (line : List ℕ) (good : Any IsBadByte line → ⊥) whe
 
   as-term : (reason : Reason) → HasEdit e (codes "add" ∷ tokens_of line) reason
       → HasAsTerm e.instance line reason
-  as-term Long h = absurd h.2
-  as-term Short h = absurd h.2
-  as-term Bytes h = absurd h.2
+  as-term Long h = absurd ((no-other e.instance (codes "add" ∷ tokens_of line)).0 h)
+  as-term Short h = absurd ((no-other e.instance (codes "add" ∷ tokens_of line)).2 h)
+  as-term Bytes h = absurd ((no-other e.instance (codes "add" ∷ tokens_of line)).1 h)
   as-term Word h = λ word rest is. h.1 word rest (ap (λ (l : List (List ℕ)). codes "add" ∷ l) is)
   as-term Shape (inl (rest, is, none)) = absurd (drop-no-add rest (tokens_of line) (sym is))
   as-term Shape (inr h) = behind-add Shape h
@@ -229,9 +244,9 @@ module _ (e : Editing) (line : List ℕ) (good : Any IsBadByte line → ⊥) whe
       (λ earlier lt has. h.first earlier lt (as-term earlier has))
   add-refused Memory h = tt
 
-  -- and its term is added
+  -- and its terms are added
   pub add-taken : (new : InstanceData) → IsTermAdded e.instance line new
-      → IsEdited e (codes "add" ∷ tokens_of line) (record { instance = new; kept = e.kept ++ None ∷ [] })
+      → IsEdited e (codes "add" ∷ tokens_of line) (record { instance = new; kept = e.kept ++ replicate (length new.terms - length e.instance.terms) None })
   add-taken new h = record {
     good = λ reason has. h.good reason (as-term reason has);
     says = inr (tokens_of line, refl, h.adds, refl);

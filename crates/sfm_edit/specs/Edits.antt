@@ -1,5 +1,5 @@
 -- The text of edits of an instance: term lines are taken out by their numbers, and new ones added behind the others.
-use Rattle.std.specs.Prelude.{◌≡◌, ◌≢◌, ◌⊎◌, ℕ, ◌+◌, ◌<◌, List, [], ◌∷◌, ◌++◌, length, map, suc, take, drop, codes, Option, Some, None, pos}
+use Rattle.std.specs.Prelude.{◌≡◌, ◌≢◌, ◌⊎◌, ℕ, ◌+◌, ◌<◌, List, [], ◌∷◌, ◌++◌, length, map, suc, take, drop, replicate, ◌-◌, codes, Option, Some, None, pos}
 use Rattle.std.specs.List.{remove, range_with_len}
 use Rattle.sfm_base.specs.NumberText.{IsNumber}
 use Rattle.sfm_kind.specs.Instance.{InstanceData, terms_in}
@@ -60,11 +60,11 @@ abbrev pub Drops : Editing → List (List ℕ) → Editing → Type 0
 Drops e tokens f = (text : List ℕ) × (i : ℕ) × IsDrop tokens text
     × IsLineNumber (length e.instance.lines) text i × (f ≡ without_line e i)
 
--- `add` and a term line adds its term behind the others
+-- `add` and a term line adds its terms behind the others
 abbrev pub AddsLine : Editing → List (List ℕ) → Editing → Type 0
 AddsLine e tokens f = (rest : List (List ℕ)) × (tokens ≡ codes "add" ∷ rest)
     × AddsTerm (state_at Terms e.instance) rest (state_at Terms f.instance)
-    × (f.kept ≡ e.kept ++ None ∷ [])
+    × (f.kept ≡ e.kept ++ replicate (length f.instance.terms - length e.instance.terms) None)
 
 -- the texts of edits of an instance, all of whose terms are at their old places before the first edit
 abbrev pub edits_form : InstanceData → SideForm Editing

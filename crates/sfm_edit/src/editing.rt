@@ -129,8 +129,9 @@ fn take_drop(edited: &mut Edited, line: &[u8]) -> Result<(), LineEnd>
     Ok(())
 }
 
-/// Adds the term of the term line that stands in a line behind `add`.
+/// Adds the terms of the term line that stands in a line behind `add`.
 fn take_add(alloc: Global, edited: &mut Edited, line: &[u8]) -> Result<(), LineEnd>
+    requires count { length edited.old.kept ≡ length edited.old.instance.terms }
     requires short { length line.now ≤ text_limit }
     requires good { Any IsBadByte line.now → ⊥ }
     ensures { MatchResult result
@@ -139,7 +140,7 @@ fn take_add(alloc: Global, edited: &mut Edited, line: &[u8]) -> Result<(), LineE
         (IsEditRefusal (editing_of edited.old) (codes "add" ∷ tokens_of line.now)) }
 {
     add_line(alloc, &mut edited.instance, line)?;
-    edited.kept.push_added()?;
+    edited.kept.push_added(edited.instance.terms().len())?;
     Ok(())
 }
 

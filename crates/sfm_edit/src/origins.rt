@@ -1,6 +1,6 @@
 // Where the terms of an edited instance come from. As terms are added behind the others, and those behind one that is taken
 // out close up, the old ones stand first, in their old order.
-ghost use Rattle.std.specs.Prelude.{◌≡◌, ◌+◌, ◌<◌, ◌≤◌, [], ◌∷◌, ◌++◌, length, take, drop, slice_index_or, is_ok, if◌then◌else◌, None, IfOk};
+ghost use Rattle.std.specs.Prelude.{◌≡◌, ◌+◌, ◌-◌, ◌<◌, ◌≤◌, ◌++◌, length, take, drop, replicate, slice_index_or, is_ok, if◌then◌else◌, None, IfOk};
 ghost use Rattle.sfm_edit.specs.Origins.{all_kept};
 
 use sfm_base::Memory;
@@ -60,11 +60,13 @@ impl Origins {
         self.places[j]
     }
 
-    /// One more term, which was added.
-    pub(crate) fn push_added(&mut self) -> Result<(), Memory>
-        ensures { self.new ≡ (if is_ok result then self.old ++ None ∷ [] else self.old) }
+    /// More terms, which were added, so that there are so many.
+    pub(crate) fn push_added(&mut self, count: usize) -> Result<(), Memory>
+        requires { length self.old ≤ count }
+        ensures { self.new ≡ (if is_ok result
+            then self.old ++ replicate (count - length self.old) None else self.old) }
     {
-        self.places.push(None)?;
+        self.places.resize(count, None)?;
         Ok(())
     }
 

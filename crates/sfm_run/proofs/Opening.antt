@@ -91,7 +91,7 @@ opens_level name before after reader (Err status) kept (text, stands, named, rea
 -- one whose sizes add to too much
 pub tells_too_large : (text : List ℕ) (instance : InstanceData) (ground : ℕ) (lines : List ℕ) (line : ℕ)
     (result : Result (Opened InstanceData) Status) → IsTextOf text instance
-    → AreNumbersOf text ground lines → PassesAt instance.terms lines line
+    → AreNumbersOf text ground instance.lines lines → PassesAt instance.terms lines line
     → IsFaulty (codes "refused") line Total result
     → Tells question_of (level_file []) text result
 tells_too_large text instance ground lines line (Ok (Good v)) good numbered passes is = absurd is
@@ -130,7 +130,7 @@ opens_level_faulty name before after reader line reason (Err status) kept fed fa
 
 -- a text of either side
 pub is_lined : (text : List ℕ) (side : Numbered) → IsTextOf text side.instance
-    → AreNumbersOf text side.ground_line side.term_lines.items → IsLined text (lined_of side)
+    → AreNumbersOf text side.ground_line side.instance.lines side.term_lines.items → IsLined text (lined_of side)
 is_lined text side good numbered = record {
   asked = record { good = good; means = kinds-mean side.instance.terms };
   numbered = numbered;
@@ -140,7 +140,7 @@ is_lined text side good numbered = record {
 pub opens_left : (name : List ℕ) (before after : ShelfState) (reader : Reader) (side : Numbered)
     → KeepsShelf (name ∷ []) before after → FeedsText name before after (Ok reader)
     → ((text : List ℕ) → Stands reader text → IsTextOf text side.instance)
-    → ((text : List ℕ) → Stands reader text → AreNumbersOf text side.ground_line side.term_lines.items)
+    → ((text : List ℕ) → Stands reader text → AreNumbersOf text side.ground_line side.instance.lines side.term_lines.items)
     → OpensFile lined_of (left_file name) before after (Ok (Good side))
 opens_left name before after reader side kept (text, stands, named, read) good numbered = record {
   text = text;

@@ -124,7 +124,8 @@ pub fn open_pins<S: Shelf>(
 fn level_in(alloc: Global, numbered: Numbered) -> Result<Opened<Instance>, Status>
     requires { length numbered.term_lines.items ≡ length numbered.instance.terms }
     ensures told { (text : List ℕ) → IsTextOf text numbered.instance
-        → AreNumbersOf text numbered.ground_line numbered.term_lines.items
+        → AreNumbersOf text numbered.ground_line
+        numbered.instance.lines numbered.term_lines.items
         → Tells question_of (level_file []) text result }
     ensures small { IfOk result (IfGood (λ instance. total_size_of instance.terms ≤ℤ level_limit)) }
 {

@@ -30,7 +30,7 @@ struct Row {
 }
 
 /// Whether the places before are these.
-fn are_kept(kept: &Origins, told: &[Option<usize>]) -> bool {
+pub fn are_kept(kept: &Origins, told: &[Option<usize>]) -> bool {
     for (j, origin) in told.iter().enumerate() {
         if j >= kept.len() || kept.at(j) != *origin {
             return false;
@@ -40,7 +40,7 @@ fn are_kept(kept: &Origins, told: &[Option<usize>]) -> bool {
 }
 
 /// Whether terms have the places and the sizes of others, in order.
-fn are_alike(terms: &[Kind], others: &[Kind]) -> bool {
+pub fn are_alike(terms: &[Kind], others: &[Kind]) -> bool {
     for (term, other) in terms.iter().zip(others) {
         if term.elements() != other.elements() || term.size() != other.size() {
             return false;

@@ -7,6 +7,8 @@ mod asking;
 #[cfg(test)]
 mod edits;
 #[cfg(test)]
+mod layers;
+#[cfg(test)]
 mod pins;
 #[cfg(test)]
 mod rows;
