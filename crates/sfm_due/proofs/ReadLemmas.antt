@@ -10,26 +10,22 @@ use Rattle.std.specs.Global.{Global}
 use Rattle.sfm_due.specs.declared.status.Status.{Status}
 use Rattle.sfm_due.specs.Files.{IsNamed, MissesText, ReadsOpen, ReadsText, WasRead}
 
-some_is : {X : Type 0} (o : Option X) → IsSome o → (x : X) × (o ≡ Some x)
-some_is None h = absurd (false≢true h)
-some_is (Some x) h = (x, refl)
-
 pub rose_later : (a b c : ℕ) → a ≤ b → Rose b c → Rose a c
 rose_later a b c h (inl less) = inl (omega (arith, h, less))
 rose_later a b c h (inr last) = inr last
 
 -- a file that could not be opened
-pub fails_to_open : {T E : Type 0} (before after : ShelfState) (name : List ℕ) (e : E) → (before.sound ≡ true → IsSome before.texts) → Opens {T = T} {E = E} before name (Err e) after → MissesText name before after
-fails_to_open before after name e told opens = record {
+pub fails_to_open : {T E : Type 0} (before after : ShelfState) (name : List ℕ) (e : E) → Opens {T = T} {E = E} before name (Err e) after → MissesText name before after
+fails_to_open before after name e opens = record {
   rose = opens.rose;
-  unsure = λ (sound, held). let (texts, are) = some_is before.texts (told sound) in absurd (false≢true (opens.held sound texts are (held texts are)));
+  unsure = λ (sound, texts, are, held). absurd (false≢true (opens.held sound texts are held));
 }
 
 -- a file that was opened and could not be read
 pub fails_behind : {T E : Type 0} (before mid after : ShelfState) (name : List ℕ) (t : T) → Opens {T = T} {E = E} before name (Ok t) mid → IsFault mid after → MissesText name before after
 fails_behind before mid after name t opens fault = record {
   rose = rose_later before.faults mid.faults after.faults opens.kept.faults fault.rose;
-  unsure = λ (sound, held). fault.unsound (opens.kept.sound sound);
+  unsure = λ (sound, texts, are, held). fault.unsound (opens.kept.sound sound);
 }
 
 -- the bytes of a file that was opened and read

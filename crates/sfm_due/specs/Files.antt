@@ -9,11 +9,11 @@ use Rattle.sfm_io.specs.Transfer.{IsRest, IsLong, IsFault}
 use Rattle.sfm_due.specs.declared.status.Status.{Status}
 use Rattle.sfm_due.specs.declared.status.Status.TheVariants.{ReadFault, Memory}
 
--- the shelf is sound, and holds the name where it tells its texts
+-- the shelf is sound, and tells texts of which one has the name
 abbrev pub IsSurelyHeld : ShelfState → List ℕ → Type 0
-IsSurelyHeld shelf name = (shelf.sound ≡ true) × ((texts : Texts) → shelf.texts ≡ Some texts → IsSome (lookup (λ key. bytes_eq key name) texts))
+IsSurelyHeld shelf name = (shelf.sound ≡ true) × (texts : Texts) × (shelf.texts ≡ Some texts) × IsSome (lookup (λ key. bytes_eq key name) texts)
 
--- the first text of that name, where the shelf tells its texts
+-- the first text of that name, where the shelf tells its texts; of a shelf that tells none this says nothing
 abbrev pub IsNamed : ShelfState → List ℕ → List ℕ → Type 0
 IsNamed shelf name text = (texts : Texts) → shelf.texts ≡ Some texts → lookup (λ key. bytes_eq key name) texts ≡ Some text
 

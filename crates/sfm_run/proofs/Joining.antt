@@ -29,7 +29,7 @@ named_before : {names : List (List ℕ)} (shelf mid : ShelfState) (name text : L
 named_before shelf mid name text kept named texts are = named texts (kept.texts ∙ are)
 
 held_later : {names : List (List ℕ)} (shelf mid : ShelfState) (name : List ℕ) → KeepsShelf names shelf mid → IsSurelyHeld shelf name → IsSurelyHeld mid name
-held_later shelf mid name kept (sound, held) = (kept.sound sound, (λ texts are. held texts (sym kept.texts ∙ are)))
+held_later shelf mid name kept (sound, texts, are, held) = (kept.sound sound, texts, kept.texts ∙ are, held)
 
 missed_before : {names : List (List ℕ)} (shelf mid after : ShelfState) (name : List ℕ) → KeepsShelf names shelf mid → MissesText name mid after → MissesText name shelf after
 missed_before shelf mid after name kept miss = record {

@@ -4,7 +4,7 @@ use Rattle.sfm_due.proofs.ReadLemmas.{fails_to_open}
 use Rattle.sfm_due.proofs.feed.feed_text.Goals as goal
 
 pub returns-in-Err-clause-read : goal.returns-in-Err-clause-read
-returns-in-Err-clause-read g c = inl (refl, fails_to_open _ _ _ _ (g.met.S.Shelf.sound_is_told c.args.shelf.now) c.in-Err.ensures)
+returns-in-Err-clause-read g c = inl (refl, fails_to_open _ _ _ _ c.in-Err.ensures)
 
 pub returns-in-Ok-clause-read : goal.returns-in-Ok-clause-read
 returns-in-Ok-clause-read g c = feeds-text _ _ _ _ _ c.feed_open.result c.in-Ok.ensures c.feed_open.ensures.read
