@@ -32,12 +32,13 @@ def has(chosen, place):
     return chosen >> place & 1
 
 
-def best_choice(count, is_free):
-    """For each set of so many elements the number of elements of a largest free set within it."""
+def best_choice(weights, is_free):
+    """For each set of so many elements the greatest weight of a free set within it."""
+    count = len(weights)
     best = [0] * 2**count
     for chosen in range(1, 2**count):
         members = [i for i in range(count) if has(chosen, i)]
-        best[chosen] = len(members) if is_free(members) else max(best[chosen & ~(1 << i)] for i in members)
+        best[chosen] = sum(weights[i] for i in members) if is_free(members) else max(best[chosen & ~(1 << i)] for i in members)
     return best
 
 
@@ -68,22 +69,30 @@ def cut_at(tokens, sign):
     return pieces
 
 
+def weighed(tokens):
+    """These tokens without their weights, and the weights: in version 2 a weight stands behind a star, and is 1 where there is none."""
+    pairs = [token.split("*") for token in tokens]
+    return [pair[0] for pair in pairs], [int(pair[1]) if pair[1:] else 1 for pair in pairs]
+
+
 def rank_of(kind, rest):
-    """The elements of a rank, and for each set of them the number of elements of a largest choice."""
+    """The elements of a rank, and for each set of them the weight of a best choice."""
     if kind == "uniform":
-        names = rest[2:]
-        return names, best_choice(len(names), lambda members: len(members) <= int(rest[0]))
+        names, weights = weighed(rest[2:])
+        return names, best_choice(weights, lambda members: len(members) <= int(rest[0]))
     if kind == "laminar":
-        (_, *names), *groups = cut_at(rest, ";")
+        (_, *elements), *groups = cut_at(rest, ";")
+        names, weights = weighed(elements)
         caps = [(int(group[0]), {names.index(name) for name in group[1:]}) for group in groups]
-        return names, best_choice(len(names), lambda members: all(len(group & set(members)) <= cap for cap, group in caps))
-    pairs = [token.split("=") for token in rest[1:]]
+        return names, best_choice(weights, lambda members: all(len(group & set(members)) <= cap for cap, group in caps))
+    tokens, weights = weighed(rest[1:])
+    pairs = [token.split("=") for token in tokens]
     names = [name for name, _ in pairs]
     if kind == "graphic":
         edges = [edge.split("-") for _, edge in pairs]
-        return names, best_choice(len(names), lambda members: is_forest([edges[i] for i in members]))
+        return names, best_choice(weights, lambda members: is_forest([edges[i] for i in members]))
     slots = [entry.split(",") for _, entry in pairs]
-    return names, best_choice(len(names), lambda members: have_own_slots([slots[i] for i in members]))
+    return names, best_choice(weights, lambda members: have_own_slots([slots[i] for i in members]))
 
 
 def worths_of(word, rest):
@@ -99,7 +108,7 @@ def worths_of(word, rest):
         return rest[1:], [int(rest[0]) if chosen else 0 for chosen in range(2 ** (len(rest) - 1))]
     if word == "rank":
         names, best = rank_of(rest[1], rest[2:])
-        return names, [int(rest[0]) * count for count in best]
+        return names, [int(rest[0]) * weight for weight in best]
     numbers, names = cut_at(rest, ":")
     if word == "table":
         return names, [int(number) for number in numbers]

@@ -35,6 +35,7 @@ from faults import read_bytes, run_main
 MOST_BYTES = 16_777_216
 # by version
 MOST_NUMBER, MOST_SIZE = {"1": 10**12, "2": 10**15}, {"1": 10**15, "2": 10**18}
+MOST_WEIGHT = 10**15
 MOST_NAMES, MOST_TERMS, MOST_PLACES = 256, 4096, 16_384
 MOST_ELEMENT_SIZE = 1_000_000
 NUMBER = re.compile(r"0|-?[1-9][0-9]*")
@@ -46,8 +47,9 @@ WORDS = ("weight", "cut", "need", "cover", "concave", "table", "rank", "end")
 # A piece of a line, with the column at which it begins.
 Piece = namedtuple("Piece", "text column")
 # What the shape of a term line tells: its word or kind of rank; its numbers; the names of its elements; other names (vertices and
-# slots); for each entry its slots; for each group its cap and its names.
-Parts = namedtuple("Parts", "kind numbers elements others entries groups")
+# slots); for each entry its slots; for each group its cap and its names; and, where an element of a rank has a weight, the weight of
+# each element, None for one without.
+Parts = namedtuple("Parts", "kind numbers elements others entries groups weights", defaults=[None])
 
 
 class Refused(Exception):
@@ -286,6 +288,33 @@ def parts_of(tokens, end):
     return rank_parts(rest, end) if word == "rank" else listed_parts(word, rest, end)
 
 
+def without_weights(tokens):
+    """The tokens of a rank line without the weights of its elements, and for each element its weight, None where it has none. The
+    elements stand behind the first colon and before the first semicolon behind that."""
+    texts = [token.text for token in tokens]
+    first = texts.index(":") if ":" in texts else len(texts)
+    last = next((at for at in range(first + 1, len(texts)) if texts[at] == ";"), len(texts))
+    plain, weights = list(tokens), []
+    for at in range(first + 1, last):
+        token = tokens[at]
+        element, *behind = token.text.split("*")
+        if len(behind) > 1:
+            raise Refused("shape", token.column, f"{shown(token.text)} has {len(behind)} stars, and an element has one weight behind one star")
+        if behind and element in (":", ";"):
+            raise Refused("shape", token.column, f"{shown(token.text)} stands here, where an element with its weight is due")
+        weights.append(Piece(behind[0], token.column + len(element) + 1) if behind else None)
+        plain[at] = Piece(element or "*", token.column) if behind else token
+    return plain, weights
+
+
+def parts_in(version, tokens, end):
+    """The parts of a term line in a text of that version."""
+    if version == "1" or tokens[0].text != "rank" or not any("*" in token.text for token in tokens):
+        return parts_of(tokens, end)
+    plain, weights = without_weights(tokens)
+    return parts_of(plain, end)._replace(weights=weights if any(weights) else None)
+
+
 # The reasons `number`, `name` and `twice`.
 
 
@@ -356,6 +385,9 @@ def test_tokens(parts, names, most):
     """The numbers, the names and what stands twice, of a line of the right shape; `most` is the greatest number that may stand."""
     for piece in parts.numbers:
         test_number(piece, -most if parts.kind in ("weight", "concave", "table") else 0, most)
+    for piece in parts.weights or []:
+        if piece:
+            test_number(piece, 1, MOST_WEIGHT)
     own = {piece.text for piece in parts.elements}
     for piece in parts.elements:
         test_element(piece, names)
@@ -479,11 +511,25 @@ def transversal_choice(parts, order):
 CHOICES = {"uniform": uniform_choice, "laminar": laminar_choice, "graphic": graphic_choice, "transversal": transversal_choice}
 
 
+def places_of(parts):
+    """How many names of elements a line has; a layered one has those of each of its layers."""
+    if not parts.weights:
+        return len(parts.elements)
+    weights = weights_of(parts)
+    return sum(weight >= level for level in set(weights) for weight in weights)
+
+
+def weights_of(parts):
+    return [int(piece.text) if piece else 1 for piece in parts.weights or [None] * len(parts.elements)]
+
+
 def size_of(parts):
     """The size of a term, as docs/FORMATS.md has it."""
     numbers = [int(piece.text) for piece in parts.numbers]
     if parts.kind in CHOICES:
-        return numbers[0] * len(CHOICES[parts.kind](parts, range(len(parts.elements))))
+        weights = weights_of(parts)
+        heaviest = sorted(range(len(weights)), key=lambda place: -weights[place])
+        return numbers[0] * sum(weights[place] for place in CHOICES[parts.kind](parts, heaviest))
     if parts.kind == "weight":
         return sum(abs(number) for number in numbers)
     return max((abs(number) for number in numbers), default=0)
@@ -553,7 +599,7 @@ class Instance:
             test_end(tokens)
             self.stage = "behind"
         else:
-            self.take_term(parts_of(tokens, end), tokens[0].column)
+            self.take_term(parts_in(self.version, tokens, end), tokens[0].column)
 
     def due(self):
         known = {"header": "'sfm 1'", "ground": "the line 'ground ..'", "terms": "the line 'end'", "behind": None}
@@ -579,7 +625,7 @@ class Instance:
         elif parts.kind == "table":
             test_table(parts.numbers, parts.elements)
         test_groups(parts.groups)
-        self.terms.append((len(parts.elements), size_of(parts)))
+        self.terms.append((places_of(parts), size_of(parts)))
         self.places, self.sizes = self.places + self.terms[-1][0], self.sizes + self.terms[-1][1]
         if len(self.terms) > MOST_TERMS:
             raise Refused("total", column, f"this is term line {len(self.terms):,}, and {MOST_TERMS:,} are taken")
@@ -713,7 +759,7 @@ class Edits(Beside):
         if tokens[0].text == "drop":
             self.take_drop(tokens[1:], end)
         else:
-            self.instance.take_term(parts_of(tokens[1:], end), tokens[1].column)
+            self.instance.take_term(parts_in(self.instance.version, tokens[1:], end), tokens[1].column)
 
     def take_drop(self, tokens, end):
         number, *others = words_of(tokens, end, "drop has the number of a term line")
