@@ -9,7 +9,7 @@ from typing import Dict, FrozenSet, Iterable, Iterator, List, Mapping, NamedTupl
 
 from .errors import Unreadable
 from .instance import Element, Instance
-from .texts import content, parts
+from .texts import content, members_of_bases, parts
 
 Slope = Union[int, float, Fraction]
 
@@ -64,6 +64,7 @@ class Common(NamedTuple):
 
 LISTED = r"((?: [A-Za-z0-9_]+)*)"
 NUMBERS = "(?: -?[0-9]+)*"
+LABEL = "[0-9]+(?:\\.[0-9]+)?"
 # The lines of an answer up to its proof, in their order: those of a word may stand there as often as is said.
 LINES = [
     ("answer", re.compile("answer 1|weighed 1"), 1),
@@ -74,10 +75,10 @@ LINES = [
     ("slope", re.compile(f"slope (-?[0-9]+)/([1-9][0-9]*){LISTED}"), None),
 ]
 PINNED = re.compile(rf"pinned 1\nminimum (-?[0-9]+)\nleast{LISTED}\ngreatest{LISTED}\nend\n")
-LEVEL = re.compile(rf"level 1\nsquares ([0-9]+)\nvector({NUMBERS})\n((?:base [0-9]+{NUMBERS}\n)*)end\n")
+LEVEL = re.compile(rf"level 1\nsquares ([0-9]+)\nvector({NUMBERS})\n((?:base {LABEL}{NUMBERS}\n)*)end\n")
 COMMON = re.compile(
     rf"meet 1\nvalue (-?[0-9]+)\nset{LISTED}\ncommon({NUMBERS})\n"
-    rf"((?:left [0-9]+{NUMBERS}\n)*)((?:right [0-9]+{NUMBERS}\n)*)end\n"
+    rf"((?:left {LABEL}{NUMBERS}\n)*)((?:right {LABEL}{NUMBERS}\n)*)end\n"
 )
 # What other texts begin with that are taken for answers.
 OTHERS = {
@@ -219,7 +220,8 @@ class Answer:
         raise ValueError(f"{element!r} is no element of this instance")
 
     def bases(self, slope: Slope = 0) -> List[Dict[Element, int]]:
-        """The proof at a slope, 0 or one of `slopes`: for each term its base, a number for each of its elements.
+        """The proof at a slope, 0 or one of `slopes`: for each term its base, a number for each of its elements. Where elements have
+        weights, it is the sum of the bases of its layers.
 
         At p/q no set bears more in the base of a term than it is worth to q times that term. So the negative ones of the sums at
         each element, less p each, add to a bound on q times what any set is worth less p for each element, and that is attained.
@@ -233,12 +235,19 @@ class Answer:
         except ValueError:
             raise ValueError(f"{slope} is neither 0 nor a slope of this answer") from None
         terms = content(self._terms)[2:-1] if isinstance(self._terms, str) else self._terms
-        return _bases(terms, lines[start : start + len(terms)], self._elements)
+        return _bases(terms, lines[start:], self._elements)
 
 
 def _bases(terms: Sequence[str], lines: Sequence[str], elements: Optional[Mapping[str, Element]]) -> List[Dict[Element, int]]:
-    """For each term line its base, by elements, from the line that tells it."""
-    return [_vector(parts(term)[1], line.split(" ")[2:], elements) for term, line in zip(terms, lines)]
+    """For each term line its base, by elements, from the lines that tell it, which are the first of these."""
+    rows, found = iter(lines), []
+    for term in terms:
+        base: Dict[Element, int] = dict.fromkeys(_named(parts(term)[1], elements), 0)
+        for members in members_of_bases(term):
+            for element, number in _vector(members, next(rows).split(" ")[2:], elements).items():
+                base[element] += number
+        found.append(base)
+    return found
 
 
 def _no_answer(due: str, lines: List[str]) -> str:

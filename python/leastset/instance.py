@@ -5,13 +5,14 @@ import math
 import operator
 from decimal import Decimal
 from numbers import Real
-from typing import Callable, Dict, FrozenSet, Hashable, Iterable, List, Mapping, Sequence, Tuple, Union
+from typing import Callable, Dict, FrozenSet, Hashable, Iterable, List, Mapping, Optional, Sequence, Tuple, Union
 
 from .texts import names_for
 
 Element = Hashable
 # A whole number: an int, whatever stands for one (as those of numpy do), or a float or a Fraction without a rest.
 Number = Union[int, float, Real, Decimal]
+Weights = Optional[Mapping[Element, Number]]
 Worth = Union[Callable[[FrozenSet[Element]], Number], Sequence[Number]]
 MOST_IN_TABLE = 8
 
@@ -68,6 +69,8 @@ class Instance:
         self.names: Dict[Element, str] = names_for(self.ground)
         #: the term lines
         self.lines: List[str] = []
+        #: the version of the text: 2 where a rank has weights; it may be set to 2, for numbers of more than 10^12
+        self.version = 1
 
     def __repr__(self) -> str:
         return f"<Instance of {len(self.ground)} elements and {len(self.lines)} terms>"
@@ -75,7 +78,7 @@ class Instance:
     def text(self) -> str:
         """The instance as a text, which the program reads."""
         ground = " ".join(["ground", *self.names.values()])
-        return "\n".join(["sfm 1", ground, *self.lines, "end"]) + "\n"
+        return "\n".join([f"sfm {self.version}", ground, *self.lines, "end"]) + "\n"
 
     def elements(self) -> Dict[str, Element]:
         """The elements by their names in the text."""
@@ -143,17 +146,36 @@ class Instance:
             raise ValueError(f"{len(numbers)} numbers stand here, where {len(names)} elements have {count} choices")
         self._add("table", numbers, [":", *names])
 
-    def rank_uniform(self, number: Number, most: Number, elements: Iterable[Element]) -> None:
-        """A set pays the number for each of its elements among these, but for no more than `most` of them."""
-        self._rank(number, ["uniform", str(whole(most, "the most that is paid for")), ":", *self._names(elements)])
+    def rank_uniform(self, number: Number, most: Number, elements: Iterable[Element], weights: Weights = None) -> None:
+        """A set pays the number for each of its elements among these, but for no more than `most` of them.
+
+        With `weights` for some of the elements, from 1, it pays the number times the weight of a heaviest choice of at most so
+        many; an element without a weight has 1. So do the other ranks.
+
+        >>> sales = Instance("abc")
+        >>> sales.rank_uniform(2, 1, "abc", weights={"a": 5})
+        >>> print(sales.text(), end="")
+        sfm 2
+        ground a b c
+        rank 2 uniform 1 : a*5 b c
+        end
+        """
+        elements = list(elements)
+        tokens = self._weighed(elements, self._names(elements), weights)
+        self._rank(number, ["uniform", str(whole(most, "the most that is paid for")), ":", *tokens])
 
     def rank_laminar(
-        self, number: Number, elements: Iterable[Element], groups: Iterable[Tuple[Number, Iterable[Element]]] = ()
+        self,
+        number: Number,
+        elements: Iterable[Element],
+        groups: Iterable[Tuple[Number, Iterable[Element]]] = (),
+        weights: Weights = None,
     ) -> None:
         """A set pays the number for each element of a largest choice among its own that takes from no group more than its cap.
         Groups are pairs of a cap and elements; two that share an element are nested."""
+        elements = list(elements)
         names = self._names(elements)
-        tokens = ["laminar", ":", *names]
+        tokens = ["laminar", ":", *self._weighed(elements, names, weights)]
         for cap, members in groups:
             group = self._names(members)
             for name in group:
@@ -162,15 +184,20 @@ class Instance:
             tokens += [";", str(whole(cap, "the cap of a group")), *group]
         self._rank(number, tokens)
 
-    def rank_graphic(self, number: Number, edges: Mapping[Element, Tuple[Hashable, Hashable]]) -> None:
+    def rank_graphic(
+        self, number: Number, edges: Mapping[Element, Tuple[Hashable, Hashable]], weights: Weights = None
+    ) -> None:
         """A set pays the number for each element of a largest choice among its own whose edges close no trail. An edge is a pair
         of vertices, which are anything that can be hashed."""
         names = self._names(edges)
         vertices = names_for(list(dict.fromkeys(vertex for edge in edges.values() for vertex in edge)))
         ends = [f"{vertices[u]}-{vertices[v]}" for u, v in edges.values()]
-        self._rank(number, ["graphic", ":", *(f"{name}={end}" for name, end in zip(names, ends))])
+        tokens = self._weighed(edges, [f"{name}={end}" for name, end in zip(names, ends)], weights)
+        self._rank(number, ["graphic", ":", *tokens])
 
-    def rank_transversal(self, number: Number, slots: Mapping[Element, Iterable[Hashable]]) -> None:
+    def rank_transversal(
+        self, number: Number, slots: Mapping[Element, Iterable[Hashable]], weights: Weights = None
+    ) -> None:
         """A set pays the number for each element of a largest choice among its own that have slots, all different, each one of
         the slots of its element. Slots are anything that can be hashed."""
         names = self._names(slots)
@@ -180,7 +207,8 @@ class Instance:
                 raise ValueError(f"{element!r} has no slot")
         known = names_for(list(dict.fromkeys(slot for entry in lists.values() for slot in entry)))
         entries = [",".join(known[slot] for slot in entry) for entry in lists.values()]
-        self._rank(number, ["transversal", ":", *(f"{name}={entry}" for name, entry in zip(names, entries))])
+        tokens = self._weighed(slots, [f"{name}={entry}" for name, entry in zip(names, entries)], weights)
+        self._rank(number, ["transversal", ":", *tokens])
 
     def _names(self, elements: Iterable[Element]) -> List[str]:
         """The names of the elements of one term: one or more, none twice."""
@@ -192,6 +220,21 @@ class Instance:
             twice = next(element for place, element in enumerate(elements) if element in elements[:place])
             raise ValueError(f"{twice!r} stands twice in one term")
         return names
+
+    def _weighed(self, elements: Iterable[Element], tokens: List[str], weights: Weights) -> List[str]:
+        """The tokens of the elements of a rank, each with its weight behind it where there is one."""
+        if not weights:
+            return tokens
+        elements = list(elements)
+        for element in weights:
+            if element not in elements:
+                raise ValueError(f"{element!r} has a weight, and does not stand among the elements of the term")
+        numbers = {element: whole(weight, f"the weight of {element!r}") for element, weight in weights.items()}
+        for element, weight in numbers.items():
+            if weight < 1:
+                raise ValueError(f"the weight of {element!r} is {weight}, and weights in a rank are from 1")
+        self.version = 2
+        return [f"{token}*{numbers[element]}" if element in numbers else token for element, token in zip(elements, tokens)]
 
     def _add(self, word: str, numbers: Iterable[Number], tokens: Iterable[str]) -> None:
         wholes = [str(whole(number, f"a number of {word}")) for number in numbers]

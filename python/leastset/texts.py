@@ -62,6 +62,8 @@ def parts(line: str) -> Tuple[List[str], List[str]]:
     (['-5', '2'], ['ash', 'birch'])
     >>> parts("rank 5 laminar : ash birch cedar ; 1 ash birch")
     (['5', '1'], ['ash', 'birch', 'cedar'])
+    >>> parts("rank 1 graphic : ash=u-v*3 birch=v-w")
+    (['1'], ['ash', 'birch'])
     """
     word, *rest = line.split()
     if word in ("weight", "size"):
@@ -77,13 +79,51 @@ def parts(line: str) -> Tuple[List[str], List[str]]:
         del numbers[1:2]
     numbers += [token for sign, token in zip(behind, behind[1:]) if sign == ";"]
     names = behind[: behind.index(";")] if ";" in behind else behind
-    return numbers, [name.partition("=")[0] for name in names]
+    return numbers, [name.partition("*")[0].partition("=")[0] for name in names]
+
+
+def weights(line: str) -> Optional[List[int]]:
+    """The weights of the elements of a rank, in their order; None where no element of the line has one.
+
+    >>> weights("rank 1 graphic : ash=u-v*3 birch=v-w")
+    [3, 1]
+    >>> weights("rank 1 uniform 1 : ash birch")
+    """
+    texts = _weight_texts(line)
+    return [1 if text is None else int(text) for text in texts] if any(text is not None for text in texts) else None
+
+
+def _weight_texts(line: str) -> List[Optional[str]]:
+    """What stands behind the star of each element of a rank; None where an element has no star. No other line has such elements."""
+    word, *rest = line.split()
+    if word != "rank" or ":" not in rest:
+        return []
+    behind = rest[rest.index(":") + 1 :]
+    marked = behind[: behind.index(";")] if ";" in behind else behind
+    return [token.partition("*")[2] if "*" in token else None for token in marked]
+
+
+def members_of_bases(line: str) -> List[List[str]]:
+    """The names of the elements of each base that proves a term line: all of them, or, where elements have weights, for each weight
+    those of that weight or more, from the greatest down.
+
+    >>> members_of_bases("rank 1 graphic : ash=u-v*3 birch=v-w")
+    [['ash'], ['ash', 'birch']]
+    """
+    names, worths = parts(line)[1], weights(line)
+    if worths is None:
+        return [names]
+    return [[name for name, worth in zip(names, worths) if worth >= level] for level in sorted(set(worths), reverse=True)]
 
 
 def _no_numbers(word: str, numbers: Iterable[str], most: int) -> List[str]:
     """Those that are no numbers of the line of a word in which `most` is the greatest."""
     least = {"size": 1, "weight": -most, "concave": -most, "table": -most}.get(word, 0)
-    return [number for number in numbers if not NUMBER.fullmatch(number) or not least <= int(number) <= most]
+    return [number for number in numbers if not _is_number(number, least, most)]
+
+
+def _is_number(text: str, least: int, most: int) -> bool:
+    return NUMBER.fullmatch(text) is not None and least <= int(text) <= most
 
 
 def blamed(reason: str, line: str, names: Container[str]) -> Optional[str]:
@@ -97,6 +137,10 @@ def blamed(reason: str, line: str, names: Container[str]) -> Optional[str]:
     '1.5'
     >>> blamed("number", "weight ash:10000000000000 birch:10000000000000000", ["ash", "birch"])
     '10000000000000000'
+    >>> blamed("number", "rank 1 uniform 1 : ash*0 birch", ["ash", "birch"])
+    '0'
+    >>> blamed("name", "rank 1 laminar : ash*2 birch ; 1 ash*2", ["ash", "birch"])
+    'ash*2'
     """
     tokens = line.split()
     if not tokens:
@@ -106,10 +150,12 @@ def blamed(reason: str, line: str, names: Container[str]) -> Optional[str]:
         wrong = tokens[:1]
     elif reason == "number":
         wrong = next(filter(None, (_no_numbers(tokens[0], numbers, most) for most in MOST)), [])
+        wrong = wrong or [text for text in _weight_texts(line) if text is not None and not _is_number(text, 1, MOST[0])]
     elif reason == "name" and tokens[0] == "ground":
         wrong = [name for name in found if not NAME.fullmatch(name)]
     elif reason == "name":
-        wrong = [name for name in found if name not in names]
+        # stars that are no weights: the last one, as that of an element is one in version 2
+        wrong = [name for name in found if name not in names] or [token for token in tokens if "*" in token][-1:]
     elif reason == "twice":
         wrong = [name for place, name in enumerate(found) if name in found[:place]]
     else:

@@ -44,6 +44,9 @@ def random_instance(rng, ground, conditions=True):
         rises = sorted((rng.randint(-9, 9) for _ in range(count)), reverse=True)
         return [sum(rises[: i + 1]) for i in range(count)]
 
+    def weights(members):
+        return {element: rng.randint(1, 4) for element in members if rng.random() < 0.5} if rng.random() < 0.3 else None
+
     for _ in range(rng.randint(0, 7)):
         kind, members, number = rng.randrange(11), some(), rng.randint(0, 9)
         if kind < 2:
@@ -62,10 +65,12 @@ def random_instance(rng, ground, conditions=True):
             worths = [0, *falling(len(members[:3]))]
             made.table(lambda chosen, worths=worths: worths[len(chosen)], members[:3])
         elif kind == 8:
-            made.rank_uniform(number, rng.randint(0, 3), members)
+            made.rank_uniform(number, rng.randint(0, 3), members, weights(members))
         elif kind == 9:
-            made.rank_graphic(number, {element: (rng.randrange(4), rng.randrange(4)) for element in members})
+            made.rank_graphic(number, {element: (rng.randrange(4), rng.randrange(4)) for element in members}, weights(members))
         else:
-            made.rank_transversal(number, {element: rng.sample("abcd", rng.randint(1, 3)) for element in members})
-            made.rank_laminar(number, members, [(rng.randint(0, 3), members[:2]), (1, members[:1])])
+            made.rank_transversal(
+                number, {element: rng.sample("abcd", rng.randint(1, 3)) for element in members}, weights(members)
+            )
+            made.rank_laminar(number, members, [(rng.randint(0, 3), members[:2]), (1, members[:1])], weights(members))
     return made
