@@ -35,6 +35,7 @@ int main(int count, char **words) {
 """
 
 HEAD = b"sfm 1\nground a b\n"
+HEAD2 = b"sfm 2\nground a b\n"
 
 GOOD = HEAD + b"weight a:-3 b:2\nend\n"
 
@@ -58,6 +59,10 @@ TEXTS = [
     ("groups", "a laminar rank of one group again and again", HEAD + b"rank 1 laminar : a b", b" ; 1 a", b"\nend\n"),
     ("edges", "a graphic rank of one edge again and again", HEAD + b"rank 1 graphic :", b" a=u-v", b"\n"),
     ("slots", "an entry of one slot again and again", HEAD + b"rank 1 transversal : a=s", b",s", b"\n"),
+    ("stars", "a uniform rank of one name with a weight again and again", HEAD2 + b"rank 1 uniform 1 :", b" a*2", b"\n"),
+    ("stars-edges", "a graphic rank of one edge with a weight again and again", HEAD2 + b"rank 1 graphic :", b" a=u-v*2", b"\n"),
+    ("stars-groups", "a layered laminar rank of one group again and again", HEAD2 + b"rank 1 laminar : a*2 b", b" ; 1 a", b"\nend\n"),
+    ("stars-alone", "a uniform rank of stars alone", HEAD2 + b"rank 1 uniform 1 :", b" *", b"\n"),
 ]
 
 
