@@ -66,7 +66,7 @@ FIRST_ANSWER = (
     "at -1/2\nbase 1 -6 4\nbase 2 5 -5\nend\n"
 )
 
-EVERY_KIND = """sfm 1
+EVERY_KIND = """sfm 2
 ground a b c d
 weight a:-3 b:2 c:-1 d:0
 cut 4 a b
@@ -78,6 +78,7 @@ rank 2 uniform 1 : a b
 rank 1 laminar : a b c ; 2 a b c ; 1 a b
 rank 2 graphic : a=u-v b=v-w c=u-w
 rank 1 transversal : c=s,t d=t
+rank 1 graphic : a=u-v*3 b=v-w c=u-w*2
 end
 """
 

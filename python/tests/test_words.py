@@ -28,6 +28,9 @@ FAULTS = [
     (lambda it: leastset.Instance(range(9)).table(len, range(9)), "a table has 1 to 8 elements, and here are 9"),
     (lambda it: it.rank_laminar(1, "ab", [(1, "c")]), "'c' stands in a group, and not among the elements of the term"),
     (lambda it: it.rank_transversal(1, {"a": []}), "'a' has no slot"),
+    (lambda it: it.rank_uniform(1, 1, "a", {"b": 2}), "'b' has a weight, and does not stand among the elements of the term"),
+    (lambda it: it.rank_graphic(1, {"a": "uv"}, {"a": 0}), "the weight of 'a' is 0, and weights in a rank are from 1"),
+    (lambda it: it.rank_uniform(1, 1, "ab", {"b": 1.5}), f"the weight of 'b' is 1.5,{WHOLE}"),
 ]
 # Lines of a text over the elements a and b, the reason of the refusal, and the token that is named.
 REFUSALS = [
@@ -38,6 +41,7 @@ REFUSALS = [
     ("cut -1 a b", "number", "-1"),
     ("rank 2 laminar : a b ; 01 a", "number", "01"),
     ("rank 2 graphic : a=u-v c=u-v", "name", "c"),
+    ("rank 2 uniform 1 : a*2 b", "name", "a*2"),
     ("wait a", "word", "wait"),
     ("concave 1 3 : a b", "law", None),
     ("cut 1 a", "shape", None),
