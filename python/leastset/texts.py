@@ -155,7 +155,7 @@ def blamed(reason: str, line: str, names: Container[str]) -> Optional[str]:
         wrong = [name for name in found if not NAME.fullmatch(name)]
     elif reason == "name":
         # stars that are no weights: the last one, as that of an element is one in version 2
-        wrong = [name for name in found if name not in names] or [token for token in tokens if "*" in token][-1:]
+        wrong = [name for name in found if name and name not in names] or [token for token in tokens if "*" in token][-1:]
     elif reason == "twice":
         wrong = [name for place, name in enumerate(found) if name in found[:place]]
     else:
