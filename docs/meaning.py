@@ -4,7 +4,8 @@
     docs/meaning.py            writes docs/MEANING.md anew from the sources
     docs/meaning.py --check    compares docs/MEANING.md with the sources
 
-The status of either is 1 where something that is reached is missing or has no sentence, and of the second where the two differ.
+The status of either is 1 where something that is reached is missing, has no sentence, or has a name that means something else too,
+and of the second where the two differ.
 
 It begins at the contract of `run` (crates/sfm_run/src/call.rt) and follows each word, as the `use` lines of its file say:
 - to a definition in the `specs/` of a crate: a block of lines that begins at the left margin, behind a comment that says in a
@@ -364,7 +365,7 @@ def counted(modules, ours, alone):
 
 
 def document(modules):
-    """The page, its figures, and the names that have no sentence."""
+    """The page, its figures, the names that have no sentence, and those that stand for two things."""
     alone = reached(modules)
     used = set(re.findall(r"\.(\w+)", "\n".join(modules[place].blocks[name].text() for place, name in alone)))
     found = reached(modules, used)
@@ -386,14 +387,17 @@ def document(modules):
     for place, name in found - ours:
         library[place].add(name)
     page += [f"- `{place}`: {', '.join(f'`{name}`' for name in sorted(library[place]))}" for place in sorted(library)]
-    return "\n".join(page) + "\n", figures, missing
+    named = collections.Counter(name for _, name in ours)
+    return "\n".join(page) + "\n", figures, missing, sorted(name for name in named if named[name] > 1)
 
 
 def main():
     options = argparse.ArgumentParser(description=__doc__.split("\n")[0])
     options.add_argument("--check", action="store_true", help="compare the page with the sources")
-    page, figures, missing = document(read_sources())
+    page, figures, missing, twice = document(read_sources())
     found = ["no sentence before " + ", ".join(missing)] if missing else []
+    if twice:
+        found.append("one name for two things: " + ", ".join(twice))
     if not options.parse_args().check:
         DOCUMENT.write_text(page)
     elif DOCUMENT.read_text() != page:

@@ -4,8 +4,8 @@ use Rattle.std.proofs.Math.Nat.{mod-add-mod}
 use Rattle.std.proofs.lemmas.List.{append-nil, take_more}
 use Rattle.std.specs.Prelude.{codes}
 use Rattle.std.specs.Fmt.{decimal, signed_decimal}
-use Rattle.sfm_demo.specs.declared.kind.Kind.{Kind}
-use Rattle.sfm_demo.specs.declared.kind.Kind.TheVariants.{Table}
+use Rattle.sfm_demo.specs.declared.kind.LineKind.{LineKind}
+use Rattle.sfm_demo.specs.declared.kind.LineKind.TheVariants.{Table}
 use Rattle.sfm_demo.specs.Draws.{Drawing, done, next, top, ◌>>◌}
 use Rattle.sfm_demo.specs.DemoText.{demo_text_of, each, edge, element, falling, level, line_of, lines, pair, series, set_values}
 use Rattle.sfm_demo.specs.Names.{IsPut, names, numbers, first_lines, last_lines, table_drawn, term_lines}
@@ -156,11 +156,11 @@ unfolding level
 level-state s = refl
 
 -- a line more of a kind
-pub lines_none : (kind : Kind) (s : ℕ) (out : List ℕ) → IsPut (lines 0 kind) out out s s
+pub lines_none : (kind : LineKind) (s : ℕ) (out : List ℕ) → IsPut (lines 0 kind) out out s s
 unfolding lines
 lines_none kind s out = series_none (λ i. line_of kind >> done (codes "\n")) s out
 
-pub lines_more : (kind : Kind) (n s s' s'' : ℕ) (out out' put more : List ℕ) → IsPut (lines n kind) out out' s s' → IsPut (line_of kind) out' put s' s'' → more ≡ put ++ codes "\n"
+pub lines_more : (kind : LineKind) (n s s' s'' : ℕ) (out out' put more : List ℕ) → IsPut (lines n kind) out out' s s' → IsPut (line_of kind) out' put s' s'' → more ≡ put ++ codes "\n"
     → IsPut (lines (n + 1) kind) out more s s''
 unfolding lines
 lines_more kind n s s' s'' out out' put more before line feed =

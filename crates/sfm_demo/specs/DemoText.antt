@@ -4,8 +4,8 @@ use Prim.Native.String.{String}
 use Rattle.std.specs.Prelude.{ℕ, zero, suc, ◌+◌, ◌-◌, ◌*◌, ◌%◌, List, [], ◌∷◌, ◌++◌, codes, ℤ, pos, ◌+ℤ◌, ◌-ℤ◌}
 use Rattle.std.specs.Fmt.{decimal, signed_decimal}
 use Rattle.std.specs.List.{flat_map}
-use Rattle.sfm_demo.specs.declared.kind.Kind.{Kind}
-use Rattle.sfm_demo.specs.declared.kind.Kind.TheVariants.{Cut, Need, Cover, Concave, Uniform, Laminar, Graphic, Transversal, Table}
+use Rattle.sfm_demo.specs.declared.kind.LineKind.{LineKind}
+use Rattle.sfm_demo.specs.declared.kind.LineKind.TheVariants.{Cut, Need, Cover, Concave, Uniform, Laminar, Graphic, Transversal, Table}
 use Rattle.sfm_demo.specs.Draws.{Drawing, draw, done, ◌>>=◌, ◌>>◌}
 
 -- a text for which nothing is drawn
@@ -68,7 +68,7 @@ unfoldable pub set_values : ℤ → ℤ → ℤ → ℤ → List ℤ
 set_values x y z t = pos 0 ∷ (x +ℤ t) ∷ (y +ℤ t) ∷ (x +ℤ y +ℤ t) ∷ (z +ℤ t) ∷ (x +ℤ z +ℤ t) ∷ (y +ℤ z +ℤ t) ∷ (x +ℤ y +ℤ z +ℤ t) ∷ []
 
 -- a line of each kind of term
-unfoldable pub line_of : Kind → Drawing (List ℕ)
+unfoldable pub line_of : LineKind → Drawing (List ℕ)
 line_of Cut = say "cut " >> number 400 >> two 200 " e" " e"
 line_of Need = say "need" >> two 200 " e" " e"
 line_of Cover = say "cover " >> number 1500 >> some element 7 6
@@ -95,7 +95,7 @@ line_of Table = do
   say "table" >> done (flat_map (λ a. 32 ∷ signed_decimal a) (set_values x y z (pos t))) >> say " :" >> each element p 17 3
 
 -- so many lines of a kind
-unfoldable pub lines : ℕ → Kind → Drawing (List ℕ)
+unfoldable pub lines : ℕ → LineKind → Drawing (List ℕ)
 lines n kind = series n (λ i. line_of kind >> say "\n")
 
 -- all lines

@@ -4,7 +4,7 @@ use Rattle.std.specs.Fmt.{signed_decimal}
 use Rattle.std.specs.List.{flat_map}
 use Rattle.sfm_demo.specs.declared.kind.Item.{Item}
 use Rattle.sfm_demo.specs.declared.kind.Item.TheVariants.{Pair, Edge, Entry}
-use Rattle.sfm_demo.specs.declared.kind.Kind.TheVariants.{Cut, Need, Cover, Concave, Uniform, Laminar, Graphic, Transversal, Table}
+use Rattle.sfm_demo.specs.declared.kind.LineKind.TheVariants.{Cut, Need, Cover, Concave, Uniform, Laminar, Graphic, Transversal, Table}
 use Rattle.sfm_demo.specs.Draws.{Drawing, draw, done, ◌>>=◌, ◌>>◌}
 use Rattle.sfm_demo.specs.DemoText.{each, edge, element, entry, level, lines, pair, set_values}
 

@@ -2,7 +2,7 @@
 
 /// A kind of term of which a demonstration has many lines.
 #[derive(Clone, Copy, PartialEq, Eq)]
-pub enum Kind {
+pub enum LineKind {
     Cut,
     Need,
     Cover,

@@ -3,7 +3,7 @@
 #![tactic(auto, unfolding(crate::specs::DemoText::line_of), using(crate::proofs::Pieces::joining))]
 
 ghost use Rattle.std.specs.{Prelude.{◌≡◌, ◌+◌, ◌%◌, ◌<◌, ◌++◌, OnOk, pos, neg_ℤ, ◌≤ℤ◌}, String.{string_bytes}};
-ghost use Rattle.sfm_demo.specs.{DemoText.{line_of, level, set_values}, Names.{IsPut, table_drawn}, declared.kind.Kind.TheVariants.{Cut, Need, Cover, Concave, Uniform, Laminar, Graphic, Transversal, Table}};
+ghost use Rattle.sfm_demo.specs.{DemoText.{line_of, level, set_values}, Names.{IsPut, table_drawn}, declared.kind.LineKind.TheVariants.{Cut, Need, Cover, Concave, Uniform, Laminar, Graphic, Transversal, Table}};
 
 use crate::draws::Draws;
 use crate::kind::Item;

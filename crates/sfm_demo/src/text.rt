@@ -3,7 +3,7 @@ ghost use Rattle.std.specs.{Prelude.{◌≡◌, ◌≤◌, ◌++◌, IfOk, OnOk}
 ghost use Rattle.sfm_demo.specs.{DemoText.{demo_text_of, line_of, lines}, Names.{IsPut, term_lines}};
 
 use crate::draws::Draws;
-use crate::kind::{Item, Kind};
+use crate::kind::{Item, LineKind};
 use crate::lines::{
     write_concave, write_cover, write_cut, write_graphic, write_laminar, write_need, write_table,
     write_transversal, write_uniform,
@@ -13,20 +13,20 @@ use sfm_base::Memory;
 use std::alloc::{AllocError, Global};
 
 /// One line of a kind, without its line feed.
-fn write_line(out: &mut String, draws: &mut Draws, kind: Kind) -> Result<(), AllocError>
+fn write_line(out: &mut String, draws: &mut Draws, kind: LineKind) -> Result<(), AllocError>
     ensures { OnOk result (IsPut (line_of kind) (string_bytes out.old)
         (string_bytes out.new) draws.old draws.new) }
 {
     match kind {
-        Kind::Cut => write_cut(out, draws),
-        Kind::Need => write_need(out, draws),
-        Kind::Cover => write_cover(out, draws),
-        Kind::Concave => write_concave(out, draws),
-        Kind::Uniform => write_uniform(out, draws),
-        Kind::Laminar => write_laminar(out, draws),
-        Kind::Graphic => write_graphic(out, draws),
-        Kind::Transversal => write_transversal(out, draws),
-        Kind::Table => write_table(out, draws),
+        LineKind::Cut => write_cut(out, draws),
+        LineKind::Need => write_need(out, draws),
+        LineKind::Cover => write_cover(out, draws),
+        LineKind::Concave => write_concave(out, draws),
+        LineKind::Uniform => write_uniform(out, draws),
+        LineKind::Laminar => write_laminar(out, draws),
+        LineKind::Graphic => write_graphic(out, draws),
+        LineKind::Transversal => write_transversal(out, draws),
+        LineKind::Table => write_table(out, draws),
     }
 }
 
@@ -34,7 +34,7 @@ fn write_line(out: &mut String, draws: &mut Draws, kind: Kind) -> Result<(), All
 fn write_lines(
     out: &mut String,
     draws: &mut Draws,
-    kind: Kind,
+    kind: LineKind,
     count: usize,
 ) -> Result<(), AllocError>
     ensures { OnOk result (IsPut (lines count kind) (string_bytes out.old)
@@ -53,15 +53,15 @@ fn write_terms(out: &mut String, draws: &mut Draws) -> Result<(), AllocError>
     ensures { OnOk result (string_bytes out.new ≡ string_bytes out.old
         ++ (term_lines draws.old).value) }
 {
-    write_lines(out, draws, Kind::Cut, 100)?;
-    write_lines(out, draws, Kind::Need, 20)?;
-    write_lines(out, draws, Kind::Cover, 20)?;
-    write_lines(out, draws, Kind::Concave, 10)?;
-    write_lines(out, draws, Kind::Uniform, 5)?;
-    write_lines(out, draws, Kind::Laminar, 5)?;
-    write_lines(out, draws, Kind::Graphic, 5)?;
-    write_lines(out, draws, Kind::Transversal, 5)?;
-    write_lines(out, draws, Kind::Table, 5)?;
+    write_lines(out, draws, LineKind::Cut, 100)?;
+    write_lines(out, draws, LineKind::Need, 20)?;
+    write_lines(out, draws, LineKind::Cover, 20)?;
+    write_lines(out, draws, LineKind::Concave, 10)?;
+    write_lines(out, draws, LineKind::Uniform, 5)?;
+    write_lines(out, draws, LineKind::Laminar, 5)?;
+    write_lines(out, draws, LineKind::Graphic, 5)?;
+    write_lines(out, draws, LineKind::Transversal, 5)?;
+    write_lines(out, draws, LineKind::Table, 5)?;
     Ok(())
 }
 

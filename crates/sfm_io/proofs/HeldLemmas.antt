@@ -3,7 +3,7 @@ use Rattle.std.proofs.Common.{◌≡◌, ℕ, ◌+◌, ◌≤◌, ◌⊎◌, inl
 use Rattle.std.specs.Prelude.{Bool, true, false, IsSome, IsNone, unwrap_or}
 use Rattle.std.proofs.lemmas.List.{length-append, length-drop, length-take-le, take-append-drop, nil_from_length, take_at}
 use Rattle.sfm_io.specs.Faults.{are_past, Rose}
-use Rattle.sfm_io.specs.Shelf.{Texts, KeepsShelf, Opens, Reads, text_of}
+use Rattle.sfm_io.specs.Shelf.{Texts, KeepsShelf, Opens, Reads, text_named}
 use Rattle.sfm_io.specs.HeldShelf.{HeldShelf, OpensHeld, ReadsHeld, after_call, state_of, IsListed, CountsOn}
 use Rattle.sfm_io.proofs.FaultLemmas.{Rose-counted, are_past_later, past-Contains}
 
@@ -51,10 +51,10 @@ Reads-held {before = before} {after = after} {result = Err e} h piece =
     }
 
 -- a name that is held has a text
-text_told : (texts : Texts) (name : List ℕ) (rest : List ℕ) → IsSome (text_of texts name) → rest ≡ unwrap_or (text_of texts name) [] → (text : List ℕ) × (text_of texts name ≡ Some text) × (Some rest ≡ Some text)
-text_told texts name rest some is = at (text_of texts name) refl some
+text_told : (texts : Texts) (name : List ℕ) (rest : List ℕ) → IsSome (text_named texts name) → rest ≡ unwrap_or (text_named texts name) [] → (text : List ℕ) × (text_named texts name ≡ Some text) × (Some rest ≡ Some text)
+text_told texts name rest some is = at (text_named texts name) refl some
   where
-    at : (o : Option (List ℕ)) → text_of texts name ≡ o → IsSome o → (text : List ℕ) × (text_of texts name ≡ Some text) × (Some rest ≡ Some text)
+    at : (o : Option (List ℕ)) → text_named texts name ≡ o → IsSome o → (text : List ℕ) × (text_named texts name ≡ Some text) × (Some rest ≡ Some text)
     at None e some = cc some
     at (Some text) e some = (text, e, ap Some (is ∙ ap (λ (o : Option (List ℕ)). unwrap_or o []) e))
 
@@ -68,7 +68,7 @@ Opens-held {before = before} {after = after} {name = name} {result = Ok x} h =
     record {
       kept = KeepsShelf-held before after true _ _ h.change h.counts;
       opened = λ texts told. let same : before.texts ≡ texts = cc told in
-          subst (λ (ts : Texts). (text : List ℕ) × (text_of ts name ≡ Some text) × (Some after.rest ≡ Some text)) same (text_told before.texts name after.rest h.opens.1 (ap (λ (s : HeldShelf). s.rest) h.change));
+          subst (λ (ts : Texts). (text : List ℕ) × (text_named ts name ≡ Some text) × (Some after.rest ≡ Some text)) same (text_told before.texts name after.rest h.opens.1 (ap (λ (s : HeldShelf). s.rest) h.change));
       closed = tt;
       rose = tt;
       held = λ _ _ _ _. refl;
@@ -82,6 +82,6 @@ Opens-held {before = before} {after = after} {name = name} {result = Err e} h =
       held = λ past texts told some. absurd (unless past texts told some h.fails);
     }
   where
-    unless : are_past before.failing before.calls ≡ true → (texts : Texts) → Some before.texts ≡ Some texts → IsSome (text_of texts name) → IsListed before ⊎ IsNone (text_of before.texts name) → ⊥
+    unless : are_past before.failing before.calls ≡ true → (texts : Texts) → Some before.texts ≡ Some texts → IsSome (text_named texts name) → IsListed before ⊎ IsNone (text_named before.texts name) → ⊥
     unless past texts told some (inl listed) = sound-not_listed before past listed
-    unless past texts told some (inr none) = let same : before.texts ≡ texts = cc told in not_both (text_of texts name) (subst (λ (ts : Texts). IsNone (text_of ts name)) same none) some
+    unless past texts told some (inr none) = let same : before.texts ≡ texts = cc told in not_both (text_named texts name) (subst (λ (ts : Texts). IsNone (text_named ts name)) same none) some

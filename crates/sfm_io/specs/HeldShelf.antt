@@ -1,7 +1,7 @@
 -- A shelf over memory, and what its calls do, to the byte.
 use Rattle.std.specs.Prelude.{◌≡◌, ℕ, ◌+◌, ◌≤◌, List, [], ◌∷◌, ◌++◌, length, min, take, drop, slice_index_or, unwrap_or, ◌⊎◌, Some, Bool, Result, IsSome, IsNone, IfOk, OnOk, OnErr, is_ok, Contains, if◌then◌else◌}
 use Rattle.sfm_io.specs.Faults.{counted, are_past}
-use Rattle.sfm_io.specs.Shelf.{Texts, ShelfState, text_of}
+use Rattle.sfm_io.specs.Shelf.{Texts, ShelfState, text_named}
 
 -- The texts, the unread bytes of the open one, the counts of faults and calls, the most bytes that a read gives, the
 -- numbers of the calls that fail, and the names that were asked for.
@@ -42,9 +42,9 @@ IsListed s = Contains s.failing (s.calls + 1)
 
 -- `open(name)`: it fails exactly at a listed call or a name that is not held
 pub record OpensHeld {T E : Type 0} (before : HeldShelf) (name : List ℕ) (result : Result T E) (after : HeldShelf) : Type 0 where
-  pub opens : OnOk result ((¬ IsListed before) × IsSome (text_of before.texts name))
-  pub fails : OnErr result (IsListed before ⊎ IsNone (text_of before.texts name))
-  pub change : after ≡ after_call before (is_ok result) (name ∷ []) (if is_ok result then unwrap_or (text_of before.texts name) [] else [])
+  pub opens : OnOk result ((¬ IsListed before) × IsSome (text_named before.texts name))
+  pub fails : OnErr result (IsListed before ⊎ IsNone (text_named before.texts name))
+  pub change : after ≡ after_call before (is_ok result) (name ∷ []) (if is_ok result then unwrap_or (text_named before.texts name) [] else [])
   pub counts : CountsOn before after
 
 -- how many bytes a read gives: the least of the piece, the buffer's length and what is left

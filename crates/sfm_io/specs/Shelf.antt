@@ -10,8 +10,8 @@ abbrev pub Texts : Type 0
 Texts = List (List ℕ × List ℕ)
 
 -- the text of the first entry of that name
-abbrev pub text_of : Texts → List ℕ → Option (List ℕ)
-text_of texts name = lookup (λ key. bytes_eq key name) texts
+abbrev pub text_named : Texts → List ℕ → Option (List ℕ)
+text_named texts name = lookup (λ key. bytes_eq key name) texts
 
 -- What a shelf tells: its texts; the unread bytes of the open one, none where nothing is open; the count of faults; whether no call
 -- can fail any more; and the names that `open` was asked for, in order.
@@ -33,12 +33,12 @@ pub record KeepsShelf (names : List (List ℕ)) (before after : ShelfState) : Ty
 pub record Opens {T E : Type 0} (before : ShelfState) (name : List ℕ) (result : Result T E) (after : ShelfState) : Type 0 where
   pub kept : KeepsShelf (name ∷ []) before after
   -- a text that is told is open at its first byte
-  pub opened : OnOk result ((texts : Texts) → before.texts ≡ Some texts → (text : List ℕ) × (text_of texts name ≡ Some text) × (after.rest ≡ Some text))
+  pub opened : OnOk result ((texts : Texts) → before.texts ≡ Some texts → (text : List ℕ) × (text_named texts name ≡ Some text) × (after.rest ≡ Some text))
   -- nothing is open after a failed call
   pub closed : OnErr result ((texts : Texts) → before.texts ≡ Some texts → after.rest ≡ Some [])
   pub rose : OnErr result (Rose before.faults after.faults)
   -- a sound shelf opens each name that it holds
-  pub held : before.sound ≡ true → (texts : Texts) → before.texts ≡ Some texts → IsSome (text_of texts name) → IsOk result
+  pub held : before.sound ≡ true → (texts : Texts) → before.texts ≡ Some texts → IsSome (text_named texts name) → IsOk result
 
 -- `read(buf)` on a shelf, where `new` is the buffer afterwards
 pub record Reads {E : Type 0} (before : ShelfState) (result : Result ℕ E) (new : List ℕ) (after : ShelfState) : Type 0 where

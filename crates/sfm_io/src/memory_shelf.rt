@@ -2,7 +2,7 @@
 // over it is known to the byte, also where a call fails in mid-stream. It keeps the place of the next byte, which lies
 // within a text, so that a read copies from that text and no byte is stored twice.
 ghost use Rattle.std.specs.{Prelude.{◌≡◌, ◌+◌, ◌<◌, ◌≤◌, [], ◌∷◌, ◌++◌, length, IfOk, is_ok, Some, None, MatchOption, refl, if◌then◌else◌}, Str.{bytes_eq}};
-ghost use Rattle.sfm_io.specs.{Shelf.{Opens, Reads, text_of}, HeldShelf.{OpensHeld, ReadsHeld, state_of, text_at}};
+ghost use Rattle.sfm_io.specs.{Shelf.{Opens, Reads, text_named}, HeldShelf.{OpensHeld, ReadsHeld, state_of, text_at}};
 
 use crate::asked::Asked;
 use crate::calls::Calls;
@@ -106,7 +106,7 @@ impl MemoryShelf {
 
     /// Adds a copy of a text, before the first call.
     pub fn add(&mut self, name: &str, bytes: &[u8]) -> Result<(), Memory>
-        requires fresh { text_of self.old.texts name.now ≡ None }
+        requires fresh { text_named self.old.texts name.now ≡ None }
         requires unused { self.old.calls ≡ 0 }
         ensures { self.new ≡ (if is_ok result then record self.old {
           texts = self.old.texts
@@ -122,8 +122,8 @@ impl MemoryShelf {
 
 /// The place of the first text of that name.
 fn place_of(texts: &[Text], name: &str) -> Option<usize>
-    ensures { MatchOption result (text_of texts.now name.now ≡ None)
-        (λ i. (i < length texts.now) × (text_of texts.now name.now ≡ Some (text_at texts.now i))) }
+    ensures { MatchOption result (text_named texts.now name.now ≡ None)
+        (λ i. (i < length texts.now) × (text_named texts.now name.now ≡ Some (text_at texts.now i))) }
 {
     for (i, text) in texts.iter().enumerate() {
         if text.is_named(name) {

@@ -105,16 +105,16 @@ HasAt Ended s tokens Word = Unit {0}
 HasAt _ s tokens reason = ⊥
 
 -- the line has that reason in that state; that a text is too long or too short is said of no line
-abbrev pub Has : State → List ℕ → Reason → Type 0
-Has s line Long = ⊥
-Has s line Short = ⊥
-Has s line Bytes = Any IsBadByte line
-Has s line reason = HasAt s.stage s (tokens_of line) reason
+abbrev pub HasReason : State → List ℕ → Reason → Type 0
+HasReason s line Long = ⊥
+HasReason s line Short = ⊥
+HasReason s line Bytes = Any IsBadByte line
+HasReason s line reason = HasAt s.stage s (tokens_of line) reason
 
 -- the line has that reason and none that comes before it
 pub record IsFirstReason (s : State) (line : List ℕ) (reason : Reason) : Type 0 where
-  pub holds : Has s line reason
-  pub first : (before behind : List Reason) → reasons ≡ before ++ reason ∷ behind → All (λ earlier. Has s line earlier → ⊥) before
+  pub holds : HasReason s line reason
+  pub first : (before behind : List Reason) → reasons ≡ before ++ reason ∷ behind → All (λ earlier. HasReason s line earlier → ⊥) before
 
 -- a term line adds its term, or where elements of it have weights its layers
 abbrev pub AddsTerm : State → List (List ℕ) → State → Type 0
@@ -129,7 +129,7 @@ Adds Ended s tokens t = ⊥
 
 -- the line is good in the state s and leads to the state t
 pub record Takes (s : State) (line : List ℕ) (t : State) : Type 0 where
-  pub good : (reason : Reason) → Has s line reason → ⊥
+  pub good : (reason : Reason) → HasReason s line reason → ⊥
   pub adds : Adds s.stage s (tokens_of line) t
 
 -- ---- the reasons by their numbers, as the code goes through them
@@ -149,8 +149,8 @@ reason_order Short = 9
 
 -- the line has that reason and none of a lower number
 pub record FirstReason (s : State) (line : List ℕ) (reason : Reason) : Type 0 where
-  pub holds : Has s line reason
-  pub first : (earlier : Reason) → reason_order earlier < reason_order reason → Has s line earlier → ⊥
+  pub holds : HasReason s line reason
+  pub first : (earlier : Reason) → reason_order earlier < reason_order reason → HasReason s line earlier → ⊥
 
 -- a refusal names the first reason; want of memory says nothing
 abbrev pub IsLineRefusal : State → List ℕ → LineEnd → Type 0

@@ -16,7 +16,7 @@ abbrev pub WritesDue : Task → (shelf shelf' : ShelfState) → (out out' : Sink
 WritesDue task shelf shelf' out out' code = (written : List ℕ) × IsDue task shelf shelf' written code × (out'.written ≡ append_known out.written written)
 
 -- a text was written, or a front of it with a fault of the sink
-pub record Says (text : List ℕ) (sink sink' : SinkState) : Type 0 where
+pub record Prints (text : List ℕ) (sink sink' : SinkState) : Type 0 where
   pub count : ℕ
   pub gained : sink'.written ≡ append_known sink.written (take count text)
   pub whole : count < length text → Rose sink.faults sink'.faults
@@ -30,7 +30,7 @@ EndsFor task shelf shelf' out out' Invalid = WritesDue task shelf shelf' out out
 EndsFor task shelf shelf' out out' Refused = WritesDue task shelf shelf' out out' 2
 EndsFor task shelf shelf' out out' ReadFault = Along (FailsAt shelf shelf') shelf nothing_read task × (out' ≡ out)
 EndsFor task shelf shelf' out out' WriteFault = (written : List ℕ) × (code : ℕ) × IsDue task shelf shelf' written code
-    × (part : Says written out out') × (part.count < length written)
+    × (part : Prints written out out') × (part.count < length written)
 EndsFor task shelf shelf' out out' Memory = Along (StopsAt shelf shelf') shelf nothing_read task × (out' ≡ out)
 EndsFor task shelf shelf' out out' Usage = ⊥
 
@@ -39,8 +39,8 @@ abbrev pub IsUnread : List (List ℕ) → Status → Type 0
 IsUnread words status = ((status ≡ Usage) × IsNotTaken words) ⊎ (status ≡ Memory)
 
 -- how a call with these words ends: nothing was touched where they were not read
-abbrev pub Ends : List (List ℕ) → (shelf shelf' : ShelfState) → (out out' : SinkState) → Status → Type 0
-Ends words shelf shelf' out out' status =
+abbrev pub EndsBy : List (List ℕ) → (shelf shelf' : ShelfState) → (out out' : SinkState) → Status → Type 0
+EndsBy words shelf shelf' out out' status =
     (IsUnread words status × (shelf' ≡ shelf) × (out' ≡ out)) ⊎ ((command : Command) × Asks words command × EndsFor (task_of command) shelf shelf' out out' status)
 
 -- words of the plain form of a command ask for that command, and the call ends as its task does
@@ -50,10 +50,10 @@ EndsByForm words shelf shelf' out out' status =
 
 -- what is said of each status on the second sink: a fixed line of each failure, and nothing of the others
 abbrev pub Complains : (err err' : SinkState) → Status → Type 0
-Complains err err' ReadFault = Says (codes "sfm: read failed\n") err err'
-Complains err err' WriteFault = Says (codes "sfm: write failed\n") err err'
-Complains err err' Memory = Says (codes "sfm: out of memory\n") err err'
-Complains err err' Usage = Says (codes "usage: sfm solve FILE | check FILE ANSWER | demo SEED | weigh FILE SIZES | weighed FILE SIZES ANSWER | ask FILE PINS | level FILE | edit FILE EDITS | meet LEFT RIGHT | met LEFT RIGHT ANSWER\n") err err'
+Complains err err' ReadFault = Prints (codes "sfm: read failed\n") err err'
+Complains err err' WriteFault = Prints (codes "sfm: write failed\n") err err'
+Complains err err' Memory = Prints (codes "sfm: out of memory\n") err err'
+Complains err err' Usage = Prints (codes "usage: sfm solve FILE | check FILE ANSWER | demo SEED | weigh FILE SIZES | weighed FILE SIZES ANSWER | ask FILE PINS | level FILE | edit FILE EDITS | meet LEFT RIGHT | met LEFT RIGHT ANSWER\n") err err'
 Complains err err' _ = err' ≡ err
 
 -- where the words are a command whose names are surely there, or no fault of the shelf comes, and no fault of the sink comes, the status

@@ -14,17 +14,17 @@ use Rattle.sfm_pair.specs.declared.clash.Clash.{Clash}
 use Rattle.sfm_pair.specs.Pair.{clash_line}
 use Rattle.sfm_run.specs.declared.open.Opened.{Opened}
 use Rattle.sfm_run.specs.declared.open.Opened.TheVariants.{Good, Faulty}
-use Rattle.sfm_run.specs.Task.{Along, FailsAt, File, IsAfter, IsDueAt, StopsAt, Task, Way}
+use Rattle.sfm_run.specs.Task.{Along, FailsAt, File, IsAfter, IsDueAt, StopsAt, Task, Log}
 
 -- what is due for a task behind what was read so far, or why nothing is
-abbrev pub PreparesFrom : (shelf shelf' : ShelfState) → Way → Task → Result Due Status → Type 0
-PreparesFrom shelf shelf' way task (Ok due) = Along (IsDueAt shelf shelf' due.text.items (code_of due.status)) shelf way task × IsAnswer due.status
-PreparesFrom shelf shelf' way task (Err status) = ((status ≡ ReadFault) × Along (FailsAt shelf shelf') shelf way task)
-    ⊎ ((status ≡ Memory) × Along (StopsAt shelf shelf') shelf way task)
+abbrev pub PreparesFrom : (shelf shelf' : ShelfState) → Log → Task → Result Due Status → Type 0
+PreparesFrom shelf shelf' log task (Ok due) = Along (IsDueAt shelf shelf' due.text.items (code_of due.status)) shelf log task × IsAnswer due.status
+PreparesFrom shelf shelf' log task (Err status) = ((status ≡ ReadFault) × Along (FailsAt shelf shelf') shelf log task)
+    ⊎ ((status ≡ Memory) × Along (StopsAt shelf shelf') shelf log task)
 
 -- the same, from one state of the shelf to another, whatever was read before
 abbrev pub Prepares : Task → (mid after : ShelfState) → Result Due Status → Type 0
-Prepares task mid after result = (shelf : ShelfState) (way : Way) → IsAfter way shelf mid → PreparesFrom shelf after way task result
+Prepares task mid after result = (shelf : ShelfState) (log : Log) → IsAfter log shelf mid → PreparesFrom shelf after log task result
 
 -- what was made is passed on, or that memory ran out
 abbrev pub PassesOn : Result Due OutOfMemory → Result Due Status → Type 0

@@ -1,7 +1,7 @@
 // One call of the program, from its words to its status.
 ghost use Rattle.std.specs.Prelude.{◌≡◌, ◌⊎◌, ◌+◌, ◌≤◌, ℕ, List, [], ◌∷◌, map, length, codes, MatchOption};
 ghost use Rattle.sfm_words.specs.Command.{command_of, demo as Showing};
-ghost use Rattle.sfm_run.specs.{Headline.{EndsFor, Ends, EndsByForm, Says, Complains, IsComplete}, Tasks.{task_of}};
+ghost use Rattle.sfm_run.specs.{Headline.{EndsFor, EndsBy, EndsByForm, Prints, Complains, IsComplete}, Tasks.{task_of}};
 
 use crate::prepare::prepare;
 use sfm_due::Status;
@@ -27,7 +27,7 @@ fn obey<S: Shelf, K: Sink>(alloc: Global, command: Command, shelf: &mut S, out: 
 
 /// Writes a line, or as much of it as the sink takes.
 fn say<E: Sink>(err: &mut E, line: &[u8])
-    ensures { Says line.now (E.state err.old) (E.state err.new) }
+    ensures { Prints line.now (E.state err.old) (E.state err.new) }
 {
     let _ = write_all(err, line);
 }
@@ -55,7 +55,7 @@ fn obey_words<'a, S: Shelf, K: Sink>(
     shelf: &mut S,
     out: &mut K,
 ) -> Status
-    ensures ended { Ends (map (λ word. word.now) words.now) (S.state shelf.old) (S.state shelf.new)
+    ensures ended { EndsBy (map (λ word. word.now) words.now) (S.state shelf.old) (S.state shelf.new)
         (K.state out.old) (K.state out.new) result }
     ensures by_form { EndsByForm (map (λ word. word.now) words.now) (S.state shelf.old)
         (S.state shelf.new) (K.state out.old) (K.state out.new) result }
@@ -78,7 +78,7 @@ pub fn run<'a, S: Shelf, K: Sink, E: Sink>(
     out: &mut K,
     err: &mut E,
 ) -> Status
-    ensures ended { Ends (map (λ word. word.now) words.now) (S.state shelf.old) (S.state shelf.new)
+    ensures ended { EndsBy (map (λ word. word.now) words.now) (S.state shelf.old) (S.state shelf.new)
         (K.state out.old) (K.state out.new) result }
     ensures by_form { EndsByForm (map (λ word. word.now) words.now) (S.state shelf.old)
         (S.state shelf.new) (K.state out.old) (K.state out.new) result }

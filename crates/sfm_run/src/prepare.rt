@@ -7,7 +7,7 @@ ghost use Rattle.sfm_sizes.specs.Sizes.{AreElementSizes};
 ghost use Rattle.sfm_due.specs.{Due.{IsJudged, IsSolved}, Meanings.{meanings_of, question_of}, Owing.{IsMade, IsJudgedBySizes, IsWeighed}};
 ghost use Rattle.sfm_meet.specs.Meetable.{AreMeetable};
 ghost use Rattle.sfm_pair.specs.{Pair.{IsMeeting}, Sides.{lined_of, IsMetJudged}};
-ghost use Rattle.sfm_run.specs.{Files.{answer_file, edits_file, pins_file, right_file, sizes_file}, Preparing.{PassesOn, Prepares}, Task.{ends, reads}, Tasks.{done, task_of}};
+ghost use Rattle.sfm_run.specs.{Files.{answer_file, edits_file, pins_file, right_file, sizes_file}, Preparing.{PassesOn, Prepares}, Task.{ends, reads}, Tasks.{writes, task_of}};
 
 use crate::open::{
     Opened, open_edits, open_instance, open_left, open_level, open_pins, open_right, open_sizes,
@@ -94,7 +94,7 @@ fn weigh_behind<S: Shelf>(
     instance: &Instance,
     sizes: &str,
 ) -> Result<Due, Status>
-    ensures { Prepares (reads (sizes_file (question_of instance.now) sizes.now) (λ w. done
+    ensures { Prepares (reads (sizes_file (question_of instance.now) sizes.now) (λ w. writes
         (IsWeighed (question_of instance.now) w))) (S.state shelf.old) (S.state shelf.new) result }
 {
     match open_sizes(alloc, shelf, instance, sizes) {
@@ -184,7 +184,7 @@ fn ask_behind<S: Shelf>(
     instance: &Instance,
     pins: &str,
 ) -> Result<Due, Status>
-    ensures { Prepares (reads (pins_file (question_of instance.now) pins.now) (λ p. done
+    ensures { Prepares (reads (pins_file (question_of instance.now) pins.now) (λ p. writes
         (IsAnswered instance.now.names (meanings_of instance.now.terms) p))) (S.state shelf.old)
         (S.state shelf.new) result }
 {
@@ -231,7 +231,7 @@ fn edit_behind<S: Shelf>(
     instance: Instance,
     edits: &str,
 ) -> Result<Due, Status>
-    ensures { Prepares (reads (edits_file (question_of instance) edits.now) (λ edited. done
+    ensures { Prepares (reads (edits_file (question_of instance) edits.now) (λ edited. writes
         (IsSolved edited))) (S.state shelf.old) (S.state shelf.new) result }
 {
     match open_edits(alloc, shelf, instance, edits) {
@@ -266,7 +266,7 @@ fn meet_behind<S: Shelf>(
     right: &str,
 ) -> Result<Due, Status>
     requires { length left.now.term_lines.items ≡ length left.now.instance.terms }
-    ensures { Prepares (reads (right_file (lined_of left.now) right.now) (λ r. done
+    ensures { Prepares (reads (right_file (lined_of left.now) right.now) (λ r. writes
         (IsMeeting (question_of left.now.instance) r.asked))) (S.state shelf.old)
         (S.state shelf.new) result }
 {

@@ -13,7 +13,7 @@ use Rattle.sfm_lines.specs.declared.stage.Stage.TheVariants.{Terms}
 use Rattle.sfm_lines.specs.declared.word.TermWord.{TermWord}
 use Rattle.sfm_lines.specs.Lines.{tokens_of}
 use Rattle.sfm_lines.specs.Words.{word_text}
-use Rattle.sfm_lines.specs.Reading.{Has, Takes, IsBadByte, IsLineRefusal, Adds, AddsTerm, reason_order}
+use Rattle.sfm_lines.specs.Reading.{HasReason, Takes, IsBadByte, IsLineRefusal, Adds, AddsTerm, reason_order}
 use Rattle.sfm_lines.specs.ReadParts.{state_at, IsLineOf}
 use Rattle.sfm_text.specs.Judging.{BeginsEnd, IsOutcome}
 use Rattle.sfm_text.specs.Adding.{HasAsTerm, IsNoTerm, IsTermRefusal, IsTermAdded}
@@ -31,12 +31,12 @@ term-not-last line word rest is (other, e) =
     not-end word same
 
 module _ (i : InstanceData) (line : List ℕ) where
-  as-term : (reason : Reason) → Has (state_at Terms i) line reason → HasAsTerm i line reason
+  as-term : (reason : Reason) → HasReason (state_at Terms i) line reason → HasAsTerm i line reason
   as-term Word h = h.1
   as-term _ h = h
 
   module _ (more : IsNotLast line) where
-    as-line : (reason : Reason) → HasAsTerm i line reason → Has (state_at Terms i) line reason
+    as-line : (reason : Reason) → HasAsTerm i line reason → HasReason (state_at Terms i) line reason
     as-line Word h = ((λ rest e. more (rest, e)), h)
     as-line _ h = h
 

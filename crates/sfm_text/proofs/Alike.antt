@@ -20,7 +20,7 @@ use Rattle.sfm_lines.specs.TermLines.{StandsTwice}
 use Rattle.sfm_text.proofs.Orders.{first_once}
 use Rattle.sfm_text.proofs.Readings.{IsKept}
 use Rattle.sfm_text.proofs.TooMuch.{support-cons, much-by-total, total-by-much}
-use Rattle.sfm_lines.specs.Reading.{State, start, Has, HasAt, AreTooMuch, Says, Adds, Takes}
+use Rattle.sfm_lines.specs.Reading.{State, start, HasReason, HasAt, AreTooMuch, Says, Adds, Takes}
 use Rattle.sfm_text.specs.GoodText.{instance_language}
 use Rattle.sfm_lines.proofs.WordLines.{not-end}
 use Rattle.sfm_lines.proofs.Repeats.{twice-at}
@@ -78,7 +78,7 @@ term-alike s t tokens Bytes same g = rw same.version at g
 term-alike s t tokens Short same g = rw same.version at g
 
 -- what a line has in the one state, it has in the other
-has-alike : (s t : State) (line : List ℕ) (reason : Reason) → Alike s t → Has s line reason → Has t line reason
+has-alike : (s t : State) (line : List ℕ) (reason : Reason) → Alike s t → HasReason s line reason → HasReason t line reason
 has-alike s t line Long same h = h
 has-alike s t line Short same h = h
 has-alike s t line Bytes same h = h
@@ -144,5 +144,5 @@ instances-kept = record {
   takes = takes-alike;
   ends = λ s t same end. sym same.stage ∙ end;
   refuses = λ s t line reason u same first takes. takes.good reason (has-alike s t line reason same first.holds);
-  once = λ s t line a b same back. first_once (Has s line) (Has t line) a b (λ reason. has-alike s t line reason same) (λ reason. has-alike t s line reason back);
+  once = λ s t line a b same back. first_once (HasReason s line) (HasReason t line) a b (λ reason. has-alike s t line reason same) (λ reason. has-alike t s line reason back);
 }

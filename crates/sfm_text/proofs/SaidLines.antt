@@ -15,7 +15,7 @@ use Rattle.sfm_lines.specs.declared.word.TermWord.TheVariants.{RankWord}
 use Rattle.sfm_lines.specs.Lines.{tokens_of}
 use Rattle.sfm_lines.specs.Words.{word_text}
 use Rattle.sfm_lines.specs.Weights.{IsPlainLine, IsUnweighed, IsWeightText, AreWeights}
-use Rattle.sfm_lines.specs.Reading.{Has, HasPlain, FirstReason, IsLineRefusal, reason_order}
+use Rattle.sfm_lines.specs.Reading.{HasReason, HasPlain, FirstReason, IsLineRefusal, reason_order}
 use Rattle.sfm_lines.specs.PlainLines.{HasPlainly, FirstPlain, IsPlainRefusal}
 use Rattle.sfm_lines.specs.ReadParts.{state_at, IsLineOf, IsTermRead}
 use Rattle.sfm_lines.proofs.WordLines.{word_text-same, not-end}

@@ -16,7 +16,7 @@ use Rattle.sfm_lines.specs.Parts.{LineParts, IsMark, AreUnmarked}
 use Rattle.sfm_lines.specs.Versions.{header_tokens}
 use Rattle.sfm_lines.specs.Words.{word_text}
 use Rattle.sfm_lines.specs.TermLines.{StandsTwice}
-use Rattle.sfm_lines.specs.Reading.{State, Has, HasPlain, FirstReason, Takes, HasTermLine, reason_order}
+use Rattle.sfm_lines.specs.Reading.{State, HasReason, HasPlain, FirstReason, Takes, HasTermLine, reason_order}
 use Rattle.sfm_lines.specs.Weights.{IsPlainLine, IsWeightText}
 use Rattle.sfm_lines.specs.ReadParts.{state_at, IsLineOf}
 use Rattle.sfm_lines.proofs.Colons.{none-any}
@@ -24,7 +24,7 @@ use Rattle.sfm_passes.proofs.Passed.{all-more}
 use Rattle.sfm_lines.proofs.WordLines.{not-end}
 
 -- none of the reasons below the k-th
-pub none-below : (s : State) (line : List ℕ) (k : ℕ) → (1 < k → Has s line Bytes → ⊥) → (2 < k → Has s line Word → ⊥) → (3 < k → Has s line Shape → ⊥) → (4 < k → Has s line Number → ⊥) → (5 < k → Has s line Name → ⊥) → (6 < k → Has s line Twice → ⊥) → (7 < k → Has s line Law → ⊥) → (8 < k → Has s line Total → ⊥) → (reason : Reason) → reason_order reason < k → Has s line reason → ⊥
+pub none-below : (s : State) (line : List ℕ) (k : ℕ) → (1 < k → HasReason s line Bytes → ⊥) → (2 < k → HasReason s line Word → ⊥) → (3 < k → HasReason s line Shape → ⊥) → (4 < k → HasReason s line Number → ⊥) → (5 < k → HasReason s line Name → ⊥) → (6 < k → HasReason s line Twice → ⊥) → (7 < k → HasReason s line Law → ⊥) → (8 < k → HasReason s line Total → ⊥) → (reason : Reason) → reason_order reason < k → HasReason s line reason → ⊥
 none-below s line k bytes word shape number name twice law total Long lt h = h
 none-below s line k bytes word shape number name twice law total Bytes lt h = bytes lt h
 none-below s line k bytes word shape number name twice law total Word lt h = word lt h
@@ -59,7 +59,7 @@ ground-unmarked names unmarked = all-more (λ token. IsMark token → ⊥) (code
     no-mark (inr e) = absurd (omega (arith, ap length e))
 
 -- no reason at all
-pub none-at-all : (s : State) (line : List ℕ) → (Has s line Bytes → ⊥) → (Has s line Word → ⊥) → (Has s line Shape → ⊥) → (Has s line Number → ⊥) → (Has s line Name → ⊥) → (Has s line Twice → ⊥) → (Has s line Law → ⊥) → (Has s line Total → ⊥) → (reason : Reason) → Has s line reason → ⊥
+pub none-at-all : (s : State) (line : List ℕ) → (HasReason s line Bytes → ⊥) → (HasReason s line Word → ⊥) → (HasReason s line Shape → ⊥) → (HasReason s line Number → ⊥) → (HasReason s line Name → ⊥) → (HasReason s line Twice → ⊥) → (HasReason s line Law → ⊥) → (HasReason s line Total → ⊥) → (reason : Reason) → HasReason s line reason → ⊥
 none-at-all s line bytes word shape number name twice law total reason = none-below s line 10 (λ lt. bytes) (λ lt. word) (λ lt. shape) (λ lt. number) (λ lt. name) (λ lt. twice) (λ lt. law) (λ lt. total) reason (order-below reason)
 
 -- each header begins with the same word
@@ -91,7 +91,7 @@ module _ (i : InstanceData) (line : List ℕ) where
     }
 
     module _ (unmarked : AreUnmarked (codes "ground" ∷ names)) where
-      no-mark : Has (state_at Ground i) line Shape → ⊥
+      no-mark : HasReason (state_at Ground i) line Shape → ⊥
       no-mark h = none-any IsMark (codes "ground" ∷ names) unmarked (rw is.tokens_are at h)
 
       pub ground-name : Any (λ text. IsName text → ⊥) names → FirstReason (state_at Ground i) line Name
@@ -101,7 +101,7 @@ module _ (i : InstanceData) (line : List ℕ) where
       }
 
       module _ (forms : All IsName names) where
-        no-name : Has (state_at Ground i) line Name → ⊥
+        no-name : HasReason (state_at Ground i) line Name → ⊥
         no-name (rest, e, (k, text, lt, at, wrong)) =
             let same : rest ≡ names = names-same rest e in
             let all : All IsName rest = rw same forms in
@@ -114,7 +114,7 @@ module _ (i : InstanceData) (line : List ℕ) where
         }
 
         module _ (once : StandsTwice names → ⊥) where
-          no-twice : Has (state_at Ground i) line Twice → ⊥
+          no-twice : HasReason (state_at Ground i) line Twice → ⊥
           no-twice (rest, e, twice) = once (rw (names-same rest e) at twice)
 
           pub ground-total : 256 < length names → FirstReason (state_at Ground i) line Total

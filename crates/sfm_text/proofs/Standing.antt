@@ -12,7 +12,7 @@ use Rattle.sfm_text.specs.declared.end.TextEnd.{TextEnd}
 use Rattle.sfm_text.specs.declared.end.Fault.{Fault}
 use Rattle.sfm_text.specs.declared.reader.Reader.{Reader}
 use Rattle.sfm_lines.specs.Lines.{pieces_of, without_empty_last, lines_of, tokens_of, are_skipped}
-use Rattle.sfm_lines.specs.Reading.{start, Has, Takes}
+use Rattle.sfm_lines.specs.Reading.{start, HasReason, Takes}
 use Rattle.sfm_lines.specs.declared.reason.Reason.TheVariants.{Long}
 use Rattle.sfm_text.specs.GoodText.{text_limit, HasFaultyLine, IsRefusalOf, IsFaultOf, is_long, is_faulty}
 use Rattle.sfm_text.specs.Standing.{numbered, is_content, content_among, bytes_of, Progress, progress_of, LeadTo, IsOpen, IsFaulty, HasRead, Stands, PassesLine, FailsLine, JudgesLine, LeadsTo, HasReadAll}
@@ -93,7 +93,7 @@ faulty-line text ended piece more p fault lines lead fails =
       state = p.state;
       content = ap content_among lines ∙ (e ∙ ap (λ (n : ℕ). content_among (numbered 1 ended) ++ (n, strip_carriage_return piece) ∷ content_among (numbered (1 + length ended + 1) more)) number);
       good = lead.good;
-      fault = first_listed (Has p.state (strip_carriage_return piece)) fault.reason (fails.reason).holds (fails.reason).first;
+      fault = first_listed (HasReason p.state (strip_carriage_return piece)) fault.reason (fails.reason).holds (fails.reason).first;
     }
 
 -- the lines of a text whose last piece has ended, and of what comes behind it

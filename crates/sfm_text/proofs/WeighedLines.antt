@@ -9,7 +9,7 @@ use Rattle.sfm_lines.specs.declared.word.TermWord.{TermWord}
 use Rattle.sfm_lines.specs.Lines.{tokens_of}
 use Rattle.sfm_lines.specs.Words.{word_text}
 use Rattle.sfm_lines.specs.Weights.{IsPlainLine, IsWeightText}
-use Rattle.sfm_lines.specs.Reading.{Has, HasPlain, FirstReason, reason_order}
+use Rattle.sfm_lines.specs.Reading.{HasReason, HasPlain, FirstReason, reason_order}
 use Rattle.sfm_lines.specs.PlainLines.{HasPlainly, FirstPlain}
 use Rattle.sfm_lines.specs.ReadParts.{state_at, IsLineOf}
 use Rattle.sfm_lines.proofs.WordLines.{not-end}
@@ -44,10 +44,10 @@ module _ (i : InstanceData) (word : TermWord) (rest plain : List (List ℕ)) (en
   here : IsPlainLine i.version (tokens_of line) plain entries
   here = rw is.tokens_are are
 
-  no-word : Has (state_at Terms i) line Word → ⊥
+  no-word : HasReason (state_at Terms i) line Word → ⊥
   no-word h = h.1 word rest is.tokens_are
 
-  no-shape : (HasPlain (state_at Terms i) plain Shape → ⊥) → Has (state_at Terms i) line Shape → ⊥
+  no-shape : (HasPlain (state_at Terms i) plain Shape → ⊥) → HasReason (state_at Terms i) line Shape → ⊥
   no-shape none h = none (h.1 plain entries here)
 
   not-last : tokens_of line ≢ codes "end" ∷ []
@@ -73,7 +73,7 @@ module _ (i : InstanceData) (word : TermWord) (rest plain : List (List ℕ)) (en
   module _ (right : HasWrongWeight entries → ⊥) where
     -- no reason below the k-th but those of the line without weights
     none-plain : (k : ℕ) → k ≤ 8 → (3 < k → HasPlain (state_at Terms i) plain Shape → ⊥) → (4 < k → HasPlain (state_at Terms i) plain Number → ⊥) → (5 < k → HasPlain (state_at Terms i) plain Name → ⊥) → (6 < k → HasPlain (state_at Terms i) plain Twice → ⊥) → (7 < k → HasPlain (state_at Terms i) plain Law → ⊥)
-        → (reason : Reason) → reason_order reason < k → Has (state_at Terms i) line reason → ⊥
+        → (reason : Reason) → reason_order reason < k → HasReason (state_at Terms i) line reason → ⊥
     none-plain k few shape number name twice law = none-below (state_at Terms i) line k (λ lt. is.good_bytes) (λ lt. no-word) (λ lt. no-shape (shape lt))
         (λ lt h. number lt (of-said i (tokens_of line) plain entries here Number right h)) (λ lt h. name lt (of-said i (tokens_of line) plain entries here Name right h))
         (λ lt h. twice lt (of-said i (tokens_of line) plain entries here Twice right h)) (λ lt h. law lt (of-said i (tokens_of line) plain entries here Law right h)) (λ lt. absurd (omega (arith, lt, few)))
@@ -83,10 +83,10 @@ module _ (i : InstanceData) (word : TermWord) (rest plain : List (List ℕ)) (en
       at-bare reason h = rw same.tokens_are h
 
       -- no reason at all
-      pub none-said : ((reason : Reason) → reason_order reason < 8 → HasPlainly (state_at Terms i) bare reason → ⊥) → (reason : Reason) → reason_order reason < 8 → Has (state_at Terms i) line reason → ⊥
+      pub none-said : ((reason : Reason) → reason_order reason < 8 → HasPlainly (state_at Terms i) bare reason → ⊥) → (reason : Reason) → reason_order reason < 8 → HasReason (state_at Terms i) line reason → ⊥
       none-said none = none-plain 8 (omega arith) (λ lt h. none Shape (omega arith) (at-bare Shape h)) (λ lt h. none Number (omega arith) (at-bare Number h)) (λ lt h. none Name (omega arith) (at-bare Name h)) (λ lt h. none Twice (omega arith) (at-bare Twice h)) (λ lt h. none Law (omega arith) (at-bare Law h))
 
-      before : (k : ℕ) → k ≤ 8 → ((earlier : Reason) → reason_order earlier < k → HasPlainly (state_at Terms i) bare earlier → ⊥) → (reason : Reason) → reason_order reason < k → Has (state_at Terms i) line reason → ⊥
+      before : (k : ℕ) → k ≤ 8 → ((earlier : Reason) → reason_order earlier < k → HasPlainly (state_at Terms i) bare earlier → ⊥) → (reason : Reason) → reason_order reason < k → HasReason (state_at Terms i) line reason → ⊥
       before k few none = none-plain k few (λ lt h. none Shape lt (at-bare Shape h)) (λ lt h. none Number lt (at-bare Number h)) (λ lt h. none Name lt (at-bare Name h)) (λ lt h. none Twice lt (at-bare Twice h)) (λ lt h. none Law lt (at-bare Law h))
 
       of-bare : (reason : Reason) → HasPlain (state_at Terms i) (tokens_of bare) reason → HasPlain (state_at Terms i) plain reason

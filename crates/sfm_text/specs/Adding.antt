@@ -10,14 +10,14 @@ use Rattle.sfm_lines.specs.declared.stage.Stage.TheVariants.{Terms}
 use Rattle.sfm_lines.specs.declared.word.TermWord.{TermWord}
 use Rattle.sfm_lines.specs.Lines.{tokens_of}
 use Rattle.sfm_lines.specs.Words.{word_text}
-use Rattle.sfm_lines.specs.Reading.{Has, AddsTerm, reason_order}
+use Rattle.sfm_lines.specs.Reading.{HasReason, AddsTerm, reason_order}
 use Rattle.sfm_lines.specs.ReadParts.{state_at}
 
 -- the line has that reason as a term line behind the terms of the instance. As in a text, but that the line `end` has a wrong
 -- word too
 abbrev pub HasAsTerm : InstanceData → List ℕ → Reason → Type 0
 HasAsTerm instance line Word = (word : TermWord) (rest : List (List ℕ)) → tokens_of line ≢ word_text word ∷ rest
-HasAsTerm instance line reason = Has (state_at Terms instance) line reason
+HasAsTerm instance line reason = HasReason (state_at Terms instance) line reason
 
 -- the line has that reason as a term line, and none that comes before it
 pub record IsNoTerm (instance : InstanceData) (line : List ℕ) (reason : Reason) : Type 0 where

@@ -7,7 +7,7 @@ use Rattle.sfm_text.specs.declared.end.TextEnd.{TextEnd}
 use Rattle.sfm_lines.specs.declared.reason.Reason.{Reason}
 use Rattle.sfm_lines.specs.declared.stage.Stage.TheVariants.{Header, Ended}
 use Rattle.sfm_lines.specs.Lines.{content_of}
-use Rattle.sfm_lines.specs.Reading.{State, Has, Takes}
+use Rattle.sfm_lines.specs.Reading.{State, HasReason, Takes}
 use Rattle.sfm_lines.specs.ReadParts.{state_at}
 pub use Rattle.sfm_text.specs.Language.{text_limit, is_long, is_faulty, is_short}
 use Rattle.sfm_text.specs.Language.{Language, IsFirstOf, IsReadAs, HasFaultyLineIn, IsFaultIn, IsRefusalIn}
@@ -17,7 +17,7 @@ abbrev pub instance_language : Language State
 instance_language = record {
   start = record { stage = Header; version = First; names = []; terms = []; lines = [] };
   Takes = Takes;
-  IsFirst = λ s line reason. IsFirstOf (Has s line) reason;
+  IsFirst = λ s line reason. IsFirstOf (HasReason s line) reason;
   IsEnd = λ s. s.stage ≡ Ended;
 }
 

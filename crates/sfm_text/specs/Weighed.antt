@@ -11,13 +11,13 @@ use Rattle.sfm_lines.specs.declared.stage.Stage.TheVariants.{Terms}
 use Rattle.sfm_lines.specs.declared.word.TermWord.TheVariants.{RankWord}
 use Rattle.sfm_lines.specs.Words.{word_text}
 use Rattle.sfm_lines.specs.Weights.{IsUnweighed, IsWeightText}
-use Rattle.sfm_lines.specs.Reading.{Has, Says, IsLineRefusal, reason_order}
+use Rattle.sfm_lines.specs.Reading.{HasReason, Says, IsLineRefusal, reason_order}
 use Rattle.sfm_lines.specs.ReadParts.{state_at, IsLineOf, IsTermRead}
 
 -- a line with these tokens says this term and these weights, and has no reason but perhaps that there is too much
 pub record IsTermSaid (instance : InstanceData) (tokens : List (List ℕ)) (term : Kind) (weights : Option (List ℤ)) : Type 0 where
   pub says : Says instance.version instance.names tokens term weights
-  pub good : (line : List ℕ) (reason : Reason) → IsLineOf line tokens → reason_order reason < 8 → Has (state_at Terms instance) line reason → ⊥
+  pub good : (line : List ℕ) (reason : Reason) → IsLineOf line tokens → reason_order reason < 8 → HasReason (state_at Terms instance) line reason → ⊥
 
 -- the term of a rank line of the second version, without its weights, and each of these is one
 pub record IsRankRead (instance : InstanceData) (rest plain : List (List ℕ)) (entries : List (List ℕ × Option (List ℕ))) (term : Kind) : Type 0 where

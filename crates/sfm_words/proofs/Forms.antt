@@ -14,7 +14,7 @@ use Rattle.clap.specs.ValueTests.{accepts, is_numeral}
 use Rattle.clap.specs.declared.builder.value_parser.ValueParser.{ValueParser}
 use Rattle.clap.specs.declared.builder.value_parser.ValueParser.TheVariants.{NonEmptyString, Unsigned}
 use Rattle.clap.proofs.WalkLemmas.{both}
-use Rattle.sfm_words.specs.Line.{line_of, sfm_line}
+use Rattle.sfm_words.specs.Line.{app_of, sfm_line}
 use Rattle.sfm_words.specs.Command.{Command}
 use Rattle.sfm_words.specs.Subcommand.{Maker, one, two, three, number, subcommands}
 use Rattle.sfm_words.proofs.Turns.{HasHelpOnly, help, not_none, holding}
@@ -23,7 +23,7 @@ use Rattle.sfm_words.proofs.Places.{IsHeld, has_place, holds, nothing, row, take
 
 -- a subcommand as it is built
 abbrev pub sub_of : Text → Maker → Shape
-sub_of verb maker = built_leaf (inherited (with_leaf_noted (record sfm_line.top { is_built = true })) (line_of (verb, maker)).top)
+sub_of verb maker = built_leaf (inherited (with_leaf_noted (record sfm_line.top { is_built = true })) (app_of (verb, maker)).top)
 
 same : (a : Text) → bytes_eq a a ≡ true
 same a = (bytes_eq-Decides a a).1 refl

@@ -31,8 +31,8 @@ command_of (ReadMet left right answer) = met left.now right.now answer.now
 -- ---- what clap finds in the words
 
 -- the number of a text of decimal digits, behind at most one plus sign, below 2^64
-abbrev pub number_of : Text → Option ℕ
-number_of text =
+abbrev pub parsed_number : Text → Option ℕ
+parsed_number text =
     let digits = without_leading_plus text in
     if is_numeral digits && nat_lt (digits_value 10 digits) (2 ^ 64) then Some (digits_value 10 digits) else None
 
@@ -43,7 +43,7 @@ made_of (two a b make) rows =
     option_and_then (λ x. option_map (make x) (first_of b rows)) (first_of a rows)
 made_of (three a b c make) rows = option_and_then (λ x. option_and_then
     (λ y. option_map (make x y) (first_of c rows)) (first_of b rows)) (first_of a rows)
-made_of (number a make) rows = option_map make (option_and_then number_of (one_of a rows))
+made_of (number a make) rows = option_map make (option_and_then parsed_number (one_of a rows))
 
 -- the command that a subcommand is, by its name and its matches
 abbrev pub command_by : Text × List Row → Option Command

@@ -18,8 +18,8 @@ rules_of (three a b c make) = word_rule NonEmptyString a ∷ word_rule NonEmptyS
 rules_of (number a make) = word_rule (Unsigned 0 999999999) a ∷ []
 
 -- a subcommand, with its arguments in order
-abbrev pub line_of : Text × Maker → App
-line_of subcommand = record (new_app subcommand.0) {
+abbrev pub app_of : Text × Maker → App
+app_of subcommand = record (new_app subcommand.0) {
   top = record (new_app subcommand.0).top { rules = rules_of subcommand.1 };
 }
 
@@ -30,4 +30,4 @@ program = record (new_app (codes "sfm")) { top = record (new_app (codes "sfm")).
 -- the command line: the program with its subcommands in order
 abbrev pub sfm_line : App
 sfm_line =
-    fold (λ line subcommand. with_subcommand line (line_of subcommand).top) program subcommands
+    fold (λ line subcommand. with_subcommand line (app_of subcommand).top) program subcommands

@@ -1,7 +1,7 @@
 // The command that the words ask for: the subcommand in clap's matches of them, with its arguments.
 ghost use Rattle.std.specs.Prelude.{◌≡◌, ◌≤◌, ℕ, List, [], true, codes, map, option_map, option_and_then, IfOk, IfErr, MatchResult};
 ghost use Rattle.clap.specs.Words.{HasMatchesOf, Text, fault_of, first_of, found_of, one_of, rows_of, subcommand_rows_of, takes};
-ghost use Rattle.sfm_words.specs.{Command.{Asks, IsForm, IsNotTaken, command_by, command_of, demo, made_of, number_of, three, two}, Command.{Command as Asked}, Line.{sfm_line}};
+ghost use Rattle.sfm_words.specs.{Command.{Asks, IsForm, IsNotTaken, command_by, command_of, demo, made_of, parsed_number, three, two}, Command.{Command as Asked}, Line.{sfm_line}};
 
 use crate::command::{Command, Refusal};
 use crate::line::command_line;
@@ -18,7 +18,7 @@ fn word_of<'a>(found: &ArgMatches<'a>, id: &str) -> Option<&'a str>
 
 /// The number of an argument.
 fn number_of(found: &ArgMatches<'_>, id: &str) -> Option<u64>
-    ensures { result ≡ option_and_then number_of (one_of id.now (rows_of (found_of found.now))) }
+    ensures { result ≡ option_and_then parsed_number (one_of id.now (rows_of (found_of found.now))) }
 {
     found.get_one::<u64>(id)
 }

@@ -6,12 +6,12 @@ use Rattle.sfm_due.specs.Due.{Question}
 use Rattle.sfm_due.specs.Meanings.{meanings_of, question_of}
 use Rattle.sfm_run.specs.Task.{Task}
 use Rattle.sfm_run.specs.Files.{pins_file}
-use Rattle.sfm_run.specs.Tasks.{done}
+use Rattle.sfm_run.specs.Tasks.{writes}
 use Rattle.sfm_run.proofs.Joining.{goes_on, made, misses, refuses}
 use Rattle.sfm_run.proofs.prepare.ask_behind.Goals as goal
 
 abbrev rest : Question → PinData → Task
-rest asked w = done (IsAnswered asked.instance.names asked.meant w)
+rest asked w = writes (IsAnswered asked.instance.names asked.meant w)
 
 pub returns-in-Ok-Good : goal.returns-in-Ok-Good
 returns-in-Ok-Good g c = goes_on pins_of (pins_file (question_of c.args.instance.now) c.args.pins.now) (rest (question_of c.args.instance.now)) c.in-Ok-Good.pins _ _ _ c.made.result

@@ -3,12 +3,12 @@ use Rattle.sfm_due.specs.Due.{IsSolved, Question}
 use Rattle.sfm_due.specs.Meanings.{question_of}
 use Rattle.sfm_run.specs.Task.{Task}
 use Rattle.sfm_run.specs.Files.{edits_file}
-use Rattle.sfm_run.specs.Tasks.{done}
+use Rattle.sfm_run.specs.Tasks.{writes}
 use Rattle.sfm_run.proofs.Joining.{goes_on, made, misses, refuses}
 use Rattle.sfm_run.proofs.prepare.edit_behind.Goals as goal
 
 abbrev rest : Question → Task
-rest edited = done (IsSolved edited)
+rest edited = writes (IsSolved edited)
 
 pub returns-in-Ok-Good : goal.returns-in-Ok-Good
 returns-in-Ok-Good g c = goes_on question_of (edits_file (question_of c.args.instance) c.args.edits.now) rest c.in-Ok-Good.edited _ _ _ c.made.result

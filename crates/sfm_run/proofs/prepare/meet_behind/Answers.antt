@@ -6,12 +6,12 @@ use Rattle.sfm_pair.specs.Pair.{IsMeeting}
 use Rattle.sfm_pair.specs.Sides.{lined_of}
 use Rattle.sfm_run.specs.Task.{Task}
 use Rattle.sfm_run.specs.Files.{right_file}
-use Rattle.sfm_run.specs.Tasks.{done}
+use Rattle.sfm_run.specs.Tasks.{writes}
 use Rattle.sfm_run.proofs.Joining.{goes_on, made, misses, refuses}
 use Rattle.sfm_run.proofs.prepare.meet_behind.Goals as goal
 
 abbrev rest : Question → Lined → Task
-rest asked r = done (IsMeeting asked r.asked)
+rest asked r = writes (IsMeeting asked r.asked)
 
 pub returns-in-Ok-Good : goal.returns-in-Ok-Good
 returns-in-Ok-Good g c = goes_on lined_of (right_file (lined_of c.args.left.now) c.args.right.now) (rest (question_of c.args.left.now.instance)) c.in-Ok-Good.right _ _ _ c.made.result

@@ -4,12 +4,12 @@ use Rattle.sfm_due.specs.Due.{Question}
 use Rattle.sfm_due.specs.Meanings.{question_of}
 use Rattle.sfm_run.specs.Task.{Task, reads}
 use Rattle.sfm_run.specs.Files.{pins_file}
-use Rattle.sfm_run.specs.Tasks.{done, main_file}
+use Rattle.sfm_run.specs.Tasks.{writes, main_file}
 use Rattle.sfm_run.proofs.Joining.{goes_on, misses, refuses}
 use Rattle.sfm_run.proofs.prepare.prepare_ask.Goals as goal
 
 abbrev rest : List ℕ → Question → Task
-rest pins asked = reads (pins_file asked pins) (λ p. done (IsAnswered asked.instance.names asked.meant p))
+rest pins asked = reads (pins_file asked pins) (λ p. writes (IsAnswered asked.instance.names asked.meant p))
 
 pub returns-in-Ok-Good : goal.returns-in-Ok-Good
 returns-in-Ok-Good g c = goes_on question_of (main_file c.args.file.now) (rest c.args.pins.now) c.in-Ok-Good.instance _ _ _ c.ask_behind.result

@@ -3,12 +3,12 @@ use Rattle.sfm_due.specs.Due.{IsSolved, Question}
 use Rattle.sfm_due.specs.Meanings.{question_of}
 use Rattle.sfm_run.specs.Task.{Task, reads}
 use Rattle.sfm_run.specs.Files.{edits_file}
-use Rattle.sfm_run.specs.Tasks.{done, main_file}
+use Rattle.sfm_run.specs.Tasks.{writes, main_file}
 use Rattle.sfm_run.proofs.Joining.{goes_on, misses, refuses}
 use Rattle.sfm_run.proofs.prepare.prepare_edit.Goals as goal
 
 abbrev rest : List ℕ → Question → Task
-rest edits asked = reads (edits_file asked edits) (λ edited. done (IsSolved edited))
+rest edits asked = reads (edits_file asked edits) (λ edited. writes (IsSolved edited))
 
 pub returns-in-Ok-Good : goal.returns-in-Ok-Good
 returns-in-Ok-Good g c = goes_on question_of (main_file c.args.file.now) (rest c.args.edits.now) c.in-Ok-Good.instance _ _ _ c.edit_behind.result

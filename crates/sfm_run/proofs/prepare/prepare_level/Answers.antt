@@ -4,12 +4,12 @@ use Rattle.sfm_due.specs.Owing.{IsLevelled}
 use Rattle.sfm_due.specs.Meanings.{question_of}
 use Rattle.sfm_run.specs.Task.{Task}
 use Rattle.sfm_run.specs.Files.{level_file}
-use Rattle.sfm_run.specs.Tasks.{done}
+use Rattle.sfm_run.specs.Tasks.{writes}
 use Rattle.sfm_run.proofs.Joining.{goes_on, made, misses, refuses}
 use Rattle.sfm_run.proofs.prepare.prepare_level.Goals as goal
 
 abbrev rest : Question → Task
-rest asked = done (IsLevelled asked)
+rest asked = writes (IsLevelled asked)
 
 pub returns-in-Ok-Good : goal.returns-in-Ok-Good
 returns-in-Ok-Good g c = goes_on question_of (level_file c.args.file.now) rest c.in-Ok-Good.instance _ _ _ c.made.result

@@ -2,12 +2,12 @@ use Rattle.std.proofs.Common.{◌≡◌}
 use Rattle.sfm_due.specs.Due.{IsSolved, Question}
 use Rattle.sfm_due.specs.Meanings.{question_of}
 use Rattle.sfm_run.specs.Task.{Task}
-use Rattle.sfm_run.specs.Tasks.{done, main_file}
+use Rattle.sfm_run.specs.Tasks.{writes, main_file}
 use Rattle.sfm_run.proofs.Joining.{goes_on, made, misses, refuses}
 use Rattle.sfm_run.proofs.prepare.prepare_solve.Goals as goal
 
 abbrev rest : Question → Task
-rest asked = done (IsSolved asked)
+rest asked = writes (IsSolved asked)
 
 pub returns-in-Ok-Good : goal.returns-in-Ok-Good
 returns-in-Ok-Good g c = goes_on question_of (main_file c.args.file.now) rest c.in-Ok-Good.instance _ _ _ c.made.result

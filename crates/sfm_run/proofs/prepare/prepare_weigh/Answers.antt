@@ -4,12 +4,12 @@ use Rattle.sfm_due.specs.Owing.{IsWeighed}
 use Rattle.sfm_due.specs.Meanings.{question_of}
 use Rattle.sfm_run.specs.Task.{Task, reads}
 use Rattle.sfm_run.specs.Files.{sizes_file}
-use Rattle.sfm_run.specs.Tasks.{done, main_file}
+use Rattle.sfm_run.specs.Tasks.{writes, main_file}
 use Rattle.sfm_run.proofs.Joining.{goes_on, misses, refuses}
 use Rattle.sfm_run.proofs.prepare.prepare_weigh.Goals as goal
 
 abbrev rest : List ℕ → Question → Task
-rest sizes asked = reads (sizes_file asked sizes) (λ w. done (IsWeighed asked w))
+rest sizes asked = reads (sizes_file asked sizes) (λ w. writes (IsWeighed asked w))
 
 pub returns-in-Ok-Good : goal.returns-in-Ok-Good
 returns-in-Ok-Good g c = goes_on question_of (main_file c.args.file.now) (rest c.args.sizes.now) c.in-Ok-Good.instance _ _ _ c.weigh_behind.result

@@ -5,12 +5,12 @@ use Rattle.sfm_due.specs.Meanings.{question_of}
 use Rattle.sfm_run.specs.Preparing.{items_of}
 use Rattle.sfm_run.specs.Task.{Task}
 use Rattle.sfm_run.specs.Files.{sizes_file}
-use Rattle.sfm_run.specs.Tasks.{done}
+use Rattle.sfm_run.specs.Tasks.{writes}
 use Rattle.sfm_run.proofs.Joining.{goes_on, made, misses, refuses}
 use Rattle.sfm_run.proofs.prepare.weigh_behind.Goals as goal
 
 abbrev rest : Question → List ℤ → Task
-rest asked w = done (IsWeighed asked w)
+rest asked w = writes (IsWeighed asked w)
 
 pub returns-in-Ok-Good : goal.returns-in-Ok-Good
 returns-in-Ok-Good g c = goes_on items_of (sizes_file (question_of c.args.instance.now) c.args.sizes.now) (rest (question_of c.args.instance.now)) c.in-Ok-Good.sizes _ _ _ c.made.result
