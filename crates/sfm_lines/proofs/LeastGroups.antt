@@ -13,7 +13,7 @@ use Rattle.std.proofs.lemmas.Slice.Eq.{bytes_eq-Decides}
 use Rattle.sfm_spec.specs.Kinds.{Group, count_in, IsWithinCaps}
 use Rattle.sfm_laminar.specs.Crossing.{AreCrossing, IsCrossing, group_at, no_group}
 use Rattle.sfm_lines.specs.CutParts.{IsFirstWith}
-use Rattle.sfm_lines.specs.RankLines.{with_group, least_groups}
+use Rattle.sfm_lines.specs.LeastGroups.{with_group, least_groups}
 
 -- a group with the members of g and no greater cap
 abbrev pub HasLeast : List Group → Group → Type 0

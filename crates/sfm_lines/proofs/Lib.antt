@@ -17,6 +17,7 @@ pub mod LeastGroups
 pub mod Members
 pub mod Numbers
 pub mod Repeats
+pub mod FirstSlots
 pub mod ReadLines
 pub mod SplitLines
 pub mod WordLines

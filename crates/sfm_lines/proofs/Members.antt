@@ -14,7 +14,8 @@ use Rattle.sfm_spec.specs.Kinds.{Group}
 use Rattle.sfm_spec.specs.Bounds.{IsAtMost}
 use Rattle.sfm_laminar.specs.Groups.{IsGroup, IsBelow, IsAscending}
 use Rattle.sfm_lines.specs.Parts.{LineParts}
-use Rattle.sfm_lines.specs.RankLines.{is_among, members_of, group_of, groups_of, with_group, least_groups}
+use Rattle.sfm_lines.specs.RankLines.{is_among, members_of, group_of, groups_of}
+use Rattle.sfm_lines.specs.LeastGroups.{with_group, least_groups}
 use Rattle.sfm_lines.proofs.LeastGroups.{with-more}
 use Rattle.sfm_lines.proofs.Repeats.{text-at}
 

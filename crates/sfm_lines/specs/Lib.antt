@@ -4,6 +4,7 @@ pub mod Parts
 pub mod CutParts
 pub mod LabelTerms
 pub mod RankLines
+pub mod LeastGroups
 pub mod Versions
 pub mod Words
 pub mod Weights

@@ -4,7 +4,7 @@
 ghost use Rattle.std.specs.{Prelude.{◌≡◌, ◌+◌, ◌^◌, ℕ, List, length, pos, ◌≤ℤ◌, Any, Contains, IfOk, MatchBool, MatchOption}, List.{All}};
 ghost use Rattle.sfm_laminar.specs.Crossing.{IsCrossing};
 ghost use Rattle.sfm_spec.specs.Bounds.{IsAtMost};
-ghost use Rattle.sfm_lines.specs.{Lines.{texts_of, text_lists_of}, LabelTerms.{distinct_of}, RankLines.{is_among, members_of, groups_of, least_groups}, TermLines.{StandsTwice}, ReadParts.{AreGiven, IsTermOf, parts_of}, declared.word.TermWord.TheVariants.{RankWord}, declared.word.RankKind.TheVariants.{LaminarRank}};
+ghost use Rattle.sfm_lines.specs.{Lines.{texts_of, text_lists_of}, LabelTerms.{distinct_of}, RankLines.{is_among, members_of, groups_of}, LeastGroups.{least_groups}, TermLines.{StandsTwice}, ReadParts.{AreGiven, IsTermOf, parts_of}, declared.word.TermWord.TheVariants.{RankWord}, declared.word.RankKind.TheVariants.{LaminarRank}};
 
 use crate::kept::{keep, with_kept};
 use crate::parts::Parts;

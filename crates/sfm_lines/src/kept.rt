@@ -3,7 +3,7 @@
 ghost use Rattle.std.specs.{Prelude.{◌≡◌, ◌≢◌, ℕ, ◌^◌, length, pos, ◌≤ℤ◌, IfOk, OnOk, MatchOption}, List.{All}};
 ghost use Rattle.sfm_spec.specs.Bounds.{IsAtMost, IsGiven, AreElements};
 ghost use Rattle.sfm_laminar.specs.{Crossing.{IsCrossing}, Groups.{IsBelow, IsGroup}};
-ghost use Rattle.sfm_lines.specs.{RankLines.{with_group}, CutParts.{IsFirstWith}};
+ghost use Rattle.sfm_lines.specs.{LeastGroups.{with_group}, CutParts.{IsFirstWith}};
 
 use sfm_base::Memory;
 use sfm_laminar::{CappedGroup, Groups, Laminar, LaminarEnd};

@@ -21,6 +21,7 @@ use Rattle.sfm_lines.specs.declared.word.TermWord.TheVariants.{RankWord}
 use Rattle.sfm_lines.specs.Parts.{LineParts, IsLabelToken, IsRankLine}
 use Rattle.sfm_lines.specs.CutParts.{labelled_parts_of}
 use Rattle.sfm_lines.specs.LabelTerms.{numbers_of}
+use Rattle.sfm_lines.proofs.FirstSlots.{cut-whole, whole-cut}
 use Rattle.sfm_lines.specs.TermLines.{IsNumberFor, IsElement, StandsTwice}
 use Rattle.sfm_lines.specs.ReadParts.{IsTermRead, joined, IsKnown, IsEntryLine}
 use Rattle.sfm_passes.specs.Passes.{Holds, IsReasonOf, RepeatsSlot, AreGoodEntries, AreFewEntries}
@@ -96,9 +97,11 @@ module _ (i : InstanceData) (number colon : List ℕ) (tokens : List (List ℕ))
   labels : All (λ texts. All IsName texts) (map (λ entry. entry.1) entries)
   labels = labels-named i TransversalRank tt number colon tokens (colon ∷ tokens) refl some good.good.no_mark good.good.is_colon entries each good.good.is_number named good.good.known good.good.named
 
+  slots-each : All (λ slots. StandsTwice slots → ⊥) (map (λ entry. entry.1) entries)
+  slots-each = matched-all (IsLabelToken TransversalRank) (λ token. RepeatsSlot token → ⊥) (λ (entry : List ℕ × List (List ℕ)). entry.1) (λ slots. StandsTwice slots → ⊥) (λ token entry p once twice. once (entry, p, twice)) tokens entries each good.once
+
   slots-once : Any (λ slots. StandsTwice slots) (map (λ entry. entry.1) entries) → ⊥
-  slots-once any = none-any (λ slots. StandsTwice slots) (map (λ entry. entry.1) entries)
-      (matched-all (IsLabelToken TransversalRank) (λ token. RepeatsSlot token → ⊥) (λ (entry : List ℕ × List (List ℕ)). entry.1) (λ slots. StandsTwice slots → ⊥) (λ token entry p once twice. once (entry, p, twice)) tokens entries each good.once) any
+  slots-once any = none-any (λ slots. StandsTwice slots) (map (λ entry. entry.1) entries) slots-each any
 
   -- each element is one of the ground
   pub entry-known : All (IsKnown i.names) (map (λ entry. entry.0) entries)
@@ -138,7 +141,12 @@ module _ (i : InstanceData) (number colon : List ℕ) (tokens : List (List ℕ))
           numbers = (w_is, tt);
           elements = known;
           same_places = same_places;
-          made = (same_w, same_entries ∙ ap numbers_of (fronts count entries (is ∙ sym entry-count)));
+          made = (
+            same_w,
+            λ t.
+                let slots = map (λ (entry : List ℕ × List (List ℕ)). entry.1) entries in
+                rw (same_entries ∙ ap numbers_of (fronts count entries (is ∙ sym entry-count))) (cut-whole slots t, whole-cut slots t slots-each),
+          );
         };
         good = λ line reason of. none-total i RankWord (number ∷ codes "transversal" ∷ colon ∷ tokens) line of parts shape (w ∷ []) (w_is, tt) places named known (All-nil _) labels once (All-nil _) slots-once (λ broken. broken) reason;
       }

@@ -18,12 +18,13 @@ use Rattle.sfm_lines.specs.declared.reason.Reason.TheVariants.{Law}
 use Rattle.sfm_lines.specs.declared.word.TermWord.TheVariants.{RankWord}
 use Rattle.sfm_lines.specs.Parts.{LineParts}
 use Rattle.sfm_lines.specs.CutParts.{IsGroupCut, cut_at_semicolons, laminar_parts_of}
-use Rattle.sfm_lines.specs.RankLines.{members_of, group_of, groups_of, with_group, least_groups}
+use Rattle.sfm_lines.specs.RankLines.{members_of, group_of, groups_of}
+use Rattle.sfm_lines.specs.LeastGroups.{with_group, least_groups}
 use Rattle.sfm_lines.specs.TermLines.{IsNumberFor, IsElement, StandsTwice}
 use Rattle.sfm_lines.specs.ReadParts.{IsTermRead}
 use Rattle.sfm_passes.specs.Passes.{IsReasonOf}
 use Rattle.sfm_passes.specs.GroupPasses.{IsWhole, HasCap, IsOnce, AreGoodGroups, IsGroupOf, laminar_tokens}
-use Rattle.sfm_lines.proofs.LeastGroups.{with-more, least-each, crossing-from, crossing-for}
+use Rattle.sfm_lines.proofs.LeastGroups.{with-more, least-each, crossing-from, crossing-for, least-caps}
 use Rattle.sfm_passes.proofs.LongLaminar.{laminar-line, members-named}
 use Rattle.sfm_lines.proofs.Matches.{AllZip-push, AllZip-both, All-AllZip, length-AllZip}
 use Rattle.sfm_lines.proofs.Numbers.{given-number}
@@ -217,7 +218,7 @@ module _ (i : InstanceData) (number : List ℕ) (elements behind : List (List �
       numbers = numbers;
       elements = known;
       same_places = same_places;
-      made = (same_w, same_groups ∙ ap least_groups (sym (groups-told i.version number elements pieces cuts.0 all w cuts.1 told)));
+      made = (same_w, λ t. rw (same_groups ∙ ap least_groups (sym (groups-told i.version number elements pieces cuts.0 all w cuts.1 told))) (least-caps (groups_of values parts) t));
     };
     good = λ line reason of. none-total i RankWord (laminar_tokens number behind) line of parts (laminar-line i number elements behind pieces is good.no_mark (omega (arith, good.some)) good.unmarked cuts.0 cuts.1) values numbers places named known
         (members-named i number elements behind pieces is good.no_mark (omega (arith, good.some)) good.unmarked cuts.0 cuts.1 good.is_number good.caps named good.known good.members) (All-nil _)

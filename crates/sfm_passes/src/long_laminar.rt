@@ -4,7 +4,7 @@
 ghost use Rattle.std.specs.{Prelude.{◌≡◌, [], ◌∷◌, ◌≤ℤ◌, ℕ, List, codes, length, pos, IsTrue, IfOk, MatchBool, MatchOption, MatchResult}, List.{All, AllZip}};
 ghost use Rattle.sfm_spec.specs.{Bounds.{IsGiven, AreElements}, Kinds.{Group}};
 ghost use Rattle.sfm_kind.specs.Names.{AreElementNames};
-ghost use Rattle.sfm_lines.specs.{declared.reason.Reason.TheVariants.{Shape}, Lines.{texts_of, tokens_of}, CutParts.{cut_at_semicolons}, RankLines.{least_groups}, ReadParts.{IsTermRead}, declared.word.TermWord.TheVariants.{RankWord}};
+ghost use Rattle.sfm_lines.specs.{declared.reason.Reason.TheVariants.{Shape}, Lines.{texts_of, tokens_of}, CutParts.{cut_at_semicolons}, LeastGroups.{least_groups}, ReadParts.{IsTermRead}, declared.word.TermWord.TheVariants.{RankWord}};
 ghost use Rattle.sfm_laminar.specs.{Crossing.{IsCrossing}, Groups.{IsBelow, IsGroup}};
 ghost use Rattle.sfm_passes.specs.{Passes.{IsReasonOf}, GroupPasses.{AreShapedGroups, AreGoodGroups, IsWhole, HasCap, IsGroupOf, IsRefusedBy, laminar_tokens, pieces_left}};
 

@@ -33,6 +33,7 @@ use Rattle.sfm_lines.proofs.Cutting.{front-same, uncut}
 use Rattle.sfm_lines.proofs.Matches.{length-AllZip, All-AllZip}
 use Rattle.sfm_weights.specs.Plain.{IsEntryOf}
 use Rattle.sfm_weights.proofs.Entries.{IsEnd}
+use Rattle.sfm_text.proofs.OneRanks.{rank-made}
 use Rattle.sfm_text.proofs.SameLines.{says-same, says-alike, weighed-word}
 use Rattle.sfm_text.proofs.SameTerms.{stands-placed}
 use Rattle.sfm_text.proofs.TooMuch.{most_size-high, much-by-total}
@@ -126,17 +127,6 @@ module _ (rest plain : List (List ℕ)) (entries : List (List ℕ × Option (Lis
   count-elements parts (inr (inl line)) = count-laminar parts line
   count-elements parts (inr (inr (inl line))) = count-labelled GraphicRank (codes "graphic") parts (λ e. absurd (omega (arith, ap length e))) line
   count-elements parts (inr (inr (inr line))) = count-labelled TransversalRank (codes "transversal") parts (λ e. absurd (omega (arith, ap length e))) line
-
-rank-made : (rank : RankKind) (parts : LineParts) (values : List ℤ) (term : Kind) → IsRankMadeOf rank parts values term → IsRankKind term
-rank-made UniformRank parts values (Uniform a) h = tt
-rank-made LaminarRank parts values (Laminar a) h = tt
-rank-made GraphicRank parts values (Graphic a) h = tt
-rank-made TransversalRank parts values (Transversal a) h = tt
-rank-made UniformRank parts values _ h = absurd h
-rank-made LaminarRank parts values _ h = absurd h
-rank-made GraphicRank parts values _ h = absurd h
-rank-made TransversalRank parts values _ h = absurd h
-rank-made _ parts values _ h = absurd h
 
 weight-in : (entry : List ℕ × Option (List ℕ)) (a : ℤ) → IsWeightText entry.1 a → IsWeight (10 ^ 15) a
 weight-in (x, None) a h = let one : a ≡ pos 1 = h in (omega (arith, ints, one), omega (arith, ints, one))

@@ -1,11 +1,11 @@
 pub mod LineCuts
 pub mod Placed
 pub mod Appended
-pub mod FirstSlots
 pub mod TooMuch
 pub mod Orders
 pub mod StageReasons
 pub mod WeighedLines
+pub mod OneRanks
 pub mod SameTerms
 pub mod SameLines
 pub mod BareLines

@@ -27,7 +27,8 @@ use Rattle.sfm_lines.proofs.Numbers.{number-same, from-same}
 use Rattle.sfm_lines.proofs.WordLines.{of-term-line, word_text-same}
 use Rattle.sfm_weights.proofs.Lines.{plain-same}
 use Rattle.sfm_text.specs.OneTerm.{AreOneTerm}
-use Rattle.sfm_text.proofs.SameTerms.{same_both, stands-same}
+use Rattle.sfm_text.proofs.OneRanks.{rank-alike}
+use Rattle.sfm_text.proofs.SameTerms.{stands-same}
 
 weight-same : (entry : List ℕ × Option (List ℕ)) (a b : ℤ) → IsWeightText entry.1 a → IsWeightText entry.1 b → a ≡ b
 weight-same (x, None) a b h g = h ∙ sym g
@@ -63,26 +64,6 @@ AllZip-append R [] more [] rest h g = g
 AllZip-append R [] more (y ∷ ys) rest h g = absurd h
 AllZip-append R (x ∷ xs) more [] rest h g = absurd h
 AllZip-append R (x ∷ xs) more (y ∷ ys) rest h g = (h.0, AllZip-append R xs more ys rest h.1 g)
-
--- a rank is told by its number and what it is made of
-rank-alike : (rank : RankKind) (parts : LineParts) (values : List ℤ) (s t : Kind) → kind_places s ≡ kind_places t → IsRankMadeOf rank parts values s → IsRankMadeOf rank parts values t → AreOneRank s t
-rank-alike UniformRank parts values (Uniform a) (Uniform b) same h g =
-    let (number, cap) = same_both a.w a.cap b.w b.cap (h ∙ sym g) in
-    record { places = same; factor = number; alike = λ t. (subst (λ (c : ℤ). pos (set_size t) ≤ℤ c) cap, subst (λ (c : ℤ). pos (set_size t) ≤ℤ c) (sym cap)) }
-rank-alike LaminarRank parts values (Laminar a) (Laminar b) same h g =
-    let groups : a.groups ≡ b.groups = h.1 ∙ sym g.1 in
-    record { places = same; factor = h.0 ∙ sym g.0; alike = λ t. (subst (λ (l : List Group). IsWithinCaps l t) groups, subst (λ (l : List Group). IsWithinCaps l t) (sym groups)) }
-rank-alike GraphicRank parts values (Graphic a) (Graphic b) same h g =
-    let ends : a.ends ≡ b.ends = h.1 ∙ sym g.1 in
-    record { places = same; factor = h.0 ∙ sym g.0; alike = λ t. (subst (λ (l : List Edge). IsForest l t) ends, subst (λ (l : List Edge). IsForest l t) (sym ends)) }
-rank-alike TransversalRank parts values (Transversal a) (Transversal b) same h g =
-    let entries : a.entries ≡ b.entries = h.1 ∙ sym g.1 in
-    record { places = same; factor = h.0 ∙ sym g.0; alike = λ t. (subst (λ (l : List (List ℕ)). IsMatchable l t) entries, subst (λ (l : List (List ℕ)). IsMatchable l t) (sym entries)) }
-rank-alike UniformRank parts values (Uniform a) _ same h g = absurd g
-rank-alike LaminarRank parts values (Laminar a) _ same h g = absurd g
-rank-alike GraphicRank parts values (Graphic a) _ same h g = absurd g
-rank-alike TransversalRank parts values (Transversal a) _ same h g = absurd g
-rank-alike _ parts values _ _ same h g = absurd h
 
 -- a line whose elements have weights is that of a rank
 pub weighed-word : (version : Version) (tokens plain : List (List ℕ)) (entries : List (List ℕ × Option (List ℕ))) (weights : List ℤ) (word : TermWord) (rest : List (List ℕ)) → IsPlainLine version tokens plain entries → AreWeights entries (Some weights) → plain ≡ word_text word ∷ rest → word ≡ RankWord

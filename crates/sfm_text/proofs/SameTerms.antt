@@ -36,13 +36,11 @@ use Rattle.sfm_lines.proofs.WordLines.{of-term-line}
 use Rattle.sfm_lines.proofs.Matches.{AllZip-same, AllZip-both, length-AllZip}
 use Rattle.sfm_lines.proofs.Numbers.{from-same}
 use Rattle.sfm_lines.proofs.TermReasons.{place-same}
+use Rattle.sfm_text.proofs.OneRanks.{rank-made, rank-alike, rank-one}
 use Rattle.sfm_text.proofs.TooMuch.{brings-same, most_size-high, terms-few, much-by-total}
 
 same_first : (a b : ℤ) → a ∷ [] ≡ b ∷ [] → a ≡ b
 same_first a b e = cc
-
-pub same_both : (a b c d : ℤ) → a ∷ b ∷ [] ≡ c ∷ d ∷ [] → (a ≡ c) × (b ≡ d)
-same_both a b c d e = let first : a ≡ c = cc in let second : b ≡ d = cc in (first, second)
 
 -- the meanings of two terms of the same places, by the values of each
 meanings-by : (s t : Kind) → kind_places s ≡ kind_places t
@@ -54,87 +52,11 @@ meanings-by s t same forth back meant = (
   λ h. record { places = h.places ∙ sym same; values = back meant.value h.values },
 )
 
--- a rank over as many places, with the same number and the same independent parts
-rank-as : (w v : ℤ) (I J : List Bool → Type 0) (k m : ℕ) (f : SetFunction) → w ≡ v → k ≡ m → ((t : List Bool) → I t → J t) → ((t : List Bool) → J t → I t)
-    → IsWeightedRank w I (ones k) f → IsWeightedRank v J (ones m) f
-rank-as w v I J k m f number places forth back h =
-    let told : IsWeightedRank v I (ones m) f = rw (number, places) at h in
-    λ s len.
-    let (r, most, value) = told s len in (
-      r,
-      record {
-        reached = let (t, places, within, free, sum) = most.reached in (t, places, within, forth t free, sum);
-        greatest = λ t places within free. most.greatest t places within (back t free);
-      },
-      value,
-    )
-
--- a rank is told by its number and what it is made of
-rank-one : (rank : RankKind) (parts : LineParts) (values : List ℤ) (s t : Kind)
-    → kind_places s ≡ kind_places t → IsRankMadeOf rank parts values s
-    → IsRankMadeOf rank parts values t → AreOneTerm s t
-rank-one UniformRank parts values (Uniform a) (Uniform b) same h g =
-    let (number, cap) = same_both a.w a.cap b.w b.cap (h ∙ sym g) in
-    let places : a.places ≡ b.places = same in
-    let forth : (t : List Bool) → IsIndependentIn (Uniform a) t → IsIndependentIn (Uniform b) t = λ t. subst (λ (c : ℤ). pos (set_size t) ≤ℤ c) cap in
-    let back : (t : List Bool) → IsIndependentIn (Uniform b) t → IsIndependentIn (Uniform a) t = λ t. subst (λ (c : ℤ). pos (set_size t) ≤ℤ c) (sym cap) in
-    record {
-      places = same;
-      values = λ part len. rw (number, cap) refl;
-      size = rw (number, cap, places) refl;
-      starts = λ q. rw (number, cap, places) refl;
-      meanings = meanings-by (Uniform a) (Uniform b) same (λ f is. rank-as a.w b.w _ _ _ _ f number (ap length places) forth back is) (λ f is. rank-as b.w a.w _ _ _ _ f (sym number) (sym (ap length places)) back forth is);
-    }
-rank-one LaminarRank parts values (Laminar a) (Laminar b) same h g =
-    let number : a.w ≡ b.w = h.0 ∙ sym g.0 in
-    let groups : a.groups ≡ b.groups = h.1 ∙ sym g.1 in
-    let places : a.places ≡ b.places = same in
-    let forth : (t : List Bool) → IsIndependentIn (Laminar a) t → IsIndependentIn (Laminar b) t = λ t. subst (λ (l : List Group). IsWithinCaps l t) groups in
-    let back : (t : List Bool) → IsIndependentIn (Laminar b) t → IsIndependentIn (Laminar a) t = λ t. subst (λ (l : List Group). IsWithinCaps l t) (sym groups) in
-    record {
-      places = same;
-      values = λ part len. rw (number, groups, places) refl;
-      size = rw (number, groups, places) refl;
-      starts = λ q. rw (number, groups, places) refl;
-      meanings = meanings-by (Laminar a) (Laminar b) same (λ f is. rank-as a.w b.w _ _ _ _ f number (ap length places) forth back is) (λ f is. rank-as b.w a.w _ _ _ _ f (sym number) (sym (ap length places)) back forth is);
-    }
-rank-one GraphicRank parts values (Graphic a) (Graphic b) same h g =
-    let number : a.w ≡ b.w = h.0 ∙ sym g.0 in
-    let ends : a.ends ≡ b.ends = h.1 ∙ sym g.1 in
-    let places : a.places ≡ b.places = same in
-    let forth : (t : List Bool) → IsIndependentIn (Graphic a) t → IsIndependentIn (Graphic b) t = λ t. subst (λ (l : List Edge). IsForest l t) ends in
-    let back : (t : List Bool) → IsIndependentIn (Graphic b) t → IsIndependentIn (Graphic a) t = λ t. subst (λ (l : List Edge). IsForest l t) (sym ends) in
-    record {
-      places = same;
-      values = λ part len. rw (number, ends) refl;
-      size = rw (number, ends) refl;
-      starts = λ q. rw (number, ends) refl;
-      meanings = meanings-by (Graphic a) (Graphic b) same (λ f is. rank-as a.w b.w _ _ _ _ f number (ap length places) forth back is) (λ f is. rank-as b.w a.w _ _ _ _ f (sym number) (sym (ap length places)) back forth is);
-    }
-rank-one TransversalRank parts values (Transversal a) (Transversal b) same h g =
-    let number : a.w ≡ b.w = h.0 ∙ sym g.0 in
-    let entries : a.entries ≡ b.entries = h.1 ∙ sym g.1 in
-    let places : a.places ≡ b.places = same in
-    let forth : (t : List Bool) → IsIndependentIn (Transversal a) t → IsIndependentIn (Transversal b) t = λ t. subst (λ (l : List (List ℕ)). IsMatchable l t) entries in
-    let back : (t : List Bool) → IsIndependentIn (Transversal b) t → IsIndependentIn (Transversal a) t = λ t. subst (λ (l : List (List ℕ)). IsMatchable l t) (sym entries) in
-    record {
-      places = same;
-      values = λ part len. rw (number, entries) refl;
-      size = rw (number, entries) refl;
-      starts = λ q. rw (number, entries) refl;
-      meanings = meanings-by (Transversal a) (Transversal b) same (λ f is. rank-as a.w b.w _ _ _ _ f number (ap length places) forth back is) (λ f is. rank-as b.w a.w _ _ _ _ f (sym number) (sym (ap length places)) back forth is);
-    }
-rank-one UniformRank parts values (Uniform a) _ same h g = absurd g
-rank-one LaminarRank parts values (Laminar a) _ same h g = absurd g
-rank-one GraphicRank parts values (Graphic a) _ same h g = absurd g
-rank-one TransversalRank parts values (Transversal a) _ same h g = absurd g
-rank-one _ parts values _ _ same h g = absurd h
-
 -- and a term of each word by its places and its numbers
 made-one : (word : TermWord) (parts : LineParts) (values : List ℤ) (s t : Kind)
     → kind_places s ≡ kind_places t → IsMadeOf word parts values s → IsMadeOf word parts values t
     → AreOneTerm s t
-made-one RankWord parts values s t same h g = rank-one parts.rank parts values s t same h g
+made-one RankWord parts values s t same h g = rank-one s t (rank-made parts.rank parts values s h) (rank-made parts.rank parts values t g) (rank-alike parts.rank parts values s t same h g)
 made-one WeightWord parts values (Weight a) (Weight b) same h g =
     let weights : a.weights ≡ b.weights = h ∙ sym g in
     record {

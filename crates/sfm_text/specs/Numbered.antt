@@ -11,4 +11,4 @@ for_terms layers items = flat_map (λ (n, item). replicate (width_of n) item) (z
 -- the number of the ground line, and for each term that of its line, of lines with so many layers: the content lines are the header,
 -- the ground line, the term lines and the line `end`
 abbrev pub AreNumbersOf : List ℕ → ℕ → List ℕ → List ℕ → Type 0
-AreNumbersOf text ground layers terms = (header : ℕ) × (between : List ℕ) × (last : ℕ) × (map (λ line. line.0) (content_of text) ≡ header ∷ ground ∷ (between ++ last ∷ [])) × (terms ≡ for_terms layers between)
+AreNumbersOf text ground_line layers terms = (header : ℕ) × (between : List ℕ) × (last : ℕ) × (map (λ line. line.0) (content_of text) ≡ header ∷ ground_line ∷ (between ++ last ∷ [])) × (terms ≡ for_terms layers between)

@@ -3,7 +3,7 @@
 ghost use Rattle.std.specs.{Prelude.{◌≡◌, ◌↔◌, ℕ, Bool, List, length, map, take}, List.{All, AllZip}};
 ghost use Rattle.sfm_spec.specs.Kinds.{Group, IsWithinCaps, IsMatchable};
 ghost use Rattle.sfm_laminar.specs.Crossing.{IsCrossing};
-ghost use Rattle.sfm_lines.specs.{LabelTerms.{numbers_of}, RankLines.{least_groups}, TermLines.{StandsTwice}, declared.reason.Reason.{Reason}};
+ghost use Rattle.sfm_lines.specs.{LabelTerms.{numbers_of}, LeastGroups.{least_groups}, TermLines.{StandsTwice}, declared.reason.Reason.{Reason}};
 ghost use Rattle.sfm_kind.specs.Instance.{InstanceData};
 ghost use Rattle.sfm_text.specs.{GoodText.{IsTextOf, IsFaultOf}, OneTerm.{AreOneTerm}};
 

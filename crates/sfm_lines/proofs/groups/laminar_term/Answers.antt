@@ -5,7 +5,7 @@ use Rattle.sfm_laminar.specs.Groups.{IsGroup, IsBelow}
 use Rattle.sfm_lines.specs.declared.word.RankKind.TheVariants.{LaminarRank}
 use Rattle.sfm_lines.specs.RankLines.{groups_of}
 use Rattle.sfm_lines.specs.ReadParts.{parts_of}
-use Rattle.sfm_lines.proofs.LeastGroups.{least-each, crossing-from, crossing-for}
+use Rattle.sfm_lines.proofs.LeastGroups.{least-each, least-caps, crossing-from, crossing-for}
 use Rattle.sfm_lines.proofs.Members.{groups-below, groups-sound}
 use Rattle.sfm_lines.proofs.RankTerms.{of-rank}
 use Rattle.sfm_lines.proofs.ReadLines.{kept-at}
@@ -29,7 +29,7 @@ returns-in-Some c =
     let kept = c.deref.ensures.value ∙ c.in_ok-groups.ensures in (
       record {
         same_places = made.0;
-        made = of-rank LaminarRank parts values (Laminar c.in-Some.laminar) c.requires.rank (made.1 ∙ kept-at values 0 (omega (arith, c.requires.each)) c.requires.given.small, made.2 ∙ kept);
+        made = of-rank LaminarRank parts values (Laminar c.in-Some.laminar) c.requires.rank (made.1 ∙ kept-at values 0 (omega (arith, c.requires.each)) c.requires.given.small, λ t. rw (made.2 ∙ kept) (least-caps (groups_of values parts) t));
       },
       λ cross. let (i, j, h) = crossing-for (groups_of values parts) cross in made.3 i j (rw kept h),
     )

@@ -2,7 +2,8 @@ use Rattle.std.proofs.Common.{◌+◌, ◌<◌, length, Bor, List, [], ℕ, sym,
 use Rattle.std.proofs.lemmas.List.{get_or-map, length-map}
 use Rattle.sfm_lines.specs.Lines.{texts_of}
 use Rattle.sfm_spec.specs.Kinds.{Group}
-use Rattle.sfm_lines.specs.RankLines.{members_of, with_group}
+use Rattle.sfm_lines.specs.RankLines.{members_of}
+use Rattle.sfm_lines.specs.LeastGroups.{with_group}
 use Rattle.sfm_lines.specs.ReadParts.{parts_of}
 use Rattle.sfm_lines.proofs.Members.{group-in}
 use Rattle.sfm_lines.proofs.ReadLines.{kept-at}

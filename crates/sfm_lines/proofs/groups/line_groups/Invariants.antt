@@ -1,6 +1,7 @@
 use Rattle.std.proofs.Common.{◌≡◌, map}
 use Rattle.std.specs.List.{range_with_len}
-use Rattle.sfm_lines.specs.RankLines.{group_of, least_groups}
+use Rattle.sfm_lines.specs.RankLines.{group_of}
+use Rattle.sfm_lines.specs.LeastGroups.{least_groups}
 use Rattle.sfm_lines.specs.ReadParts.{parts_of}
 use Rattle.sfm_lines.proofs.groups.line_groups.Given as goal
 

@@ -1,4 +1,4 @@
-use Rattle.sfm_text.proofs.FirstSlots.{whole-cut, cut-whole}
+use Rattle.sfm_lines.proofs.FirstSlots.{whole-cut, cut-whole}
 use Rattle.sfm_text.proofs.laws.first_slots_suffice.Goals as goal
 
 pub returns : goal.returns
