@@ -1,0 +1,5 @@
+pub mod Times
+pub mod Serving
+pub mod Chains
+pub mod Aiming
+pub mod Moving

@@ -1,0 +1,174 @@
+-- Multiples of bases: the same walks lead at them, and what is moved and what is left is multiplied with them.
+use Rattle.std.proofs.Common.{◌≡◌, ⊎_elim, inr, ℕ, zero, suc, ◌<◌, Bool, true, false, List, [], ◌∷◌, length, map, get_or, set, Some, nat_eq, ℤ, pos, ◌+ℤ◌, ◌-ℤ◌, ◌*ℤ◌, ◌≤ℤ◌, if◌then◌else◌, refl, sym, ap, subst, ◌∙◌, arith}
+use Rattle.std.proofs.Math.IntN.{*ℤ-zero}
+use Rattle.std.proofs.Math.ListN.{get_or-map}
+use Rattle.std.proofs.lemmas.Int.{ints}
+use Rattle.std.proofs.lemmas.List.{length-map, map-set}
+use Rattle.std.specs.Option.{option_map}
+use Rattle.sfm_spec.specs.Sets.{sum_over, whole_set}
+use Rattle.sfm_spec.specs.Terms.{SetFunction, times, IsBase, HasRoom, exchanged}
+use Rattle.sfm_spec.specs.Families.{Meaning, AreTerms, AreBases, entry_at, base_sum_at, rest_at}
+use Rattle.sfm_spec.specs.Walks.{Step, term_at, base_at, CanMove, IsStep, AreSteps, AllCanMove, IsWalkMove, change_at}
+use Rattle.sfm_spec.proofs.Scaled.{times_some, times-add, times-assoc, times-mono, times-sub}
+use Rattle.sfm_spec.proofs.Walks.{terms-at, bases-at}
+use Rattle.sfm_exchange.specs.Scaled.{row_times}
+use Rattle.sfm_exchange.proofs.Scaling.{depends_times, sum_over-times}
+use Rattle.sfm_stage.specs.Served.{rows_times}
+
+-- q times a base of r times a term is a base of q·r times the term
+base-times : (q r : ℤ) (f : SetFunction) (x : List ℤ) → pos 1 ≤ℤ q → IsBase (times r f) x → IsBase (times (q *ℤ r) f) (row_times q x)
+base-times q r f x lq h = record { within = within; total = total } where
+  within : (s : List Bool) (c : ℤ) → length s ≡ length (row_times q x) → times (q *ℤ r) f s ≡ Some c → sum_over s (row_times q x) ≤ℤ c
+  within s c len is =
+      let (a, fs, ec) = times_some (q *ℤ r) (f s) c is in
+      let le : sum_over s x ≤ℤ (r *ℤ a) = h.within s (r *ℤ a) (len ∙ length-map x (λ a. q *ℤ a)) (ap (option_map (λ z. r *ℤ z)) fs) in
+      rw (sum_over-times q s x, ec, times-assoc q r a) (times-mono q (sum_over s x) (r *ℤ a) (omega (arith, ints, lq)) le)
+
+  total : times (q *ℤ r) f (whole_set (length (row_times q x))) ≡ Some (sum_over (whole_set (length (row_times q x))) (row_times q x))
+  total =
+      let w = whole_set (length x) in
+      let (a, fw, e) = times_some r (f w) (sum_over w x) h.total in
+      let same : ((q *ℤ r) *ℤ a) ≡ (q *ℤ sum_over w x) = times-assoc q r a ∙ ap (λ z. q *ℤ z) (sym e) in
+      let at : times (q *ℤ r) f w ≡ Some (sum_over w (row_times q x)) = ap (option_map (λ z. (q *ℤ r) *ℤ z)) fw ∙ ap Some same ∙ ap Some (sym (sum_over-times q w x)) in
+      rw length-map at
+
+-- one for each term
+pub bases-times : (q r : ℤ) (terms : List Meaning) (rows : List (List ℤ)) → pos 1 ≤ℤ q → AreBases r terms rows → AreBases (q *ℤ r) terms (map (row_times q) rows)
+bases-times q r [] [] lq h = tt
+bases-times q r [] (x ∷ rows) lq h = absurd h
+bases-times q r (t ∷ terms) [] lq h = absurd h
+bases-times q r (t ∷ terms) (x ∷ rows) lq h = (length-map x (λ a. q *ℤ a) ∙ h.0, base-times q r t.value x lq h.1, bases-times q r terms rows lq h.2)
+
+times-one : (q : ℤ) → (q *ℤ pos 1) ≡ q
+times-one q = omega (arith, ints)
+
+module _ (q : ℤ) (low : pos 1 ≤ℤ q) where
+  -- of the terms themselves
+  pub base_multiple : (f : SetFunction) (x : List ℤ) → IsBase (times (pos 1) f) x → IsBase (times q f) (row_times q x)
+  base_multiple f x h = subst (λ r. IsBase (times r f) (row_times q x)) (times-one q) (base-times q (pos 1) f x low h)
+
+  pub bases_multiple : (terms : List Meaning) (rows : List (List ℤ)) → AreBases (pos 1) terms rows → AreBases q terms (rows_times q rows)
+  bases_multiple terms rows h = subst (λ r. AreBases r terms (rows_times q rows)) (times-one q) (bases-times q (pos 1) terms rows low h)
+
+  -- a multiple of something is something
+  pub some_times : (a : ℤ) → pos 1 ≤ℤ a → pos 1 ≤ℤ (q *ℤ a)
+  some_times a some =
+      let m = times-mono q (pos 1) a (omega (arith, ints, low)) some in
+      let o = times-one q in
+      omega (arith, ints, m, o, low)
+
+  -- what stands at a place of a list
+  row_at : (rows : List (List ℤ)) (i : ℕ) → base_at (rows_times q rows) i ≡ row_times q (base_at rows i)
+  row_at rows i = get_or-map (row_times q) rows i []
+
+  number_at : (x : List ℤ) (j : ℕ) → get_or (row_times q x) j (pos 0) ≡ (q *ℤ get_or x j (pos 0))
+  number_at [] j = sym (*ℤ-zero q)
+  number_at (a ∷ x) zero = refl
+  number_at (a ∷ x) (suc j) = number_at x j
+
+  -- a part that counts or does not
+  part_times : (b : Bool) (a : ℤ) → (if b then (q *ℤ a) else pos 0) ≡ (q *ℤ (if b then a else pos 0))
+  part_times true a = refl
+  part_times false a = sym (*ℤ-zero q)
+
+  -- the sum of the bases at a place
+  entry_times : (places : List ℕ) (x : List ℤ) (e : ℕ) → entry_at places (row_times q x) e ≡ (q *ℤ entry_at places x e)
+  entry_times [] x e = sym (*ℤ-zero q)
+  entry_times (p ∷ places) [] e = sym (*ℤ-zero q)
+  entry_times (p ∷ places) (a ∷ x) e = rw (part_times (nat_eq p e) a, entry_times places x e) (sym (times-add q (if nat_eq p e then a else pos 0) (entry_at places x e)))
+
+  sum_times : (terms : List Meaning) (rows : List (List ℤ)) (e : ℕ) → base_sum_at terms (rows_times q rows) e ≡ (q *ℤ base_sum_at terms rows e)
+  sum_times [] rows e = sym (*ℤ-zero q)
+  sum_times (t ∷ terms) [] e = sym (*ℤ-zero q)
+  sum_times (t ∷ terms) (x ∷ rows) e = rw (entry_times t.places x e, sum_times terms rows e) (sym (times-add q (entry_at t.places x e) (base_sum_at terms rows e)))
+
+  pub rest_times : (terms : List Meaning) (rows : List (List ℤ)) (shift : List ℤ) (e : ℕ) → rest_at terms (rows_times q rows) shift e ≡ ((q *ℤ base_sum_at terms rows e) -ℤ get_or shift e (pos 0))
+  rest_times terms rows shift e = ap (λ z. z -ℤ get_or shift e (pos 0)) (sum_times terms rows e)
+
+  -- an exchange
+  exchanged_times : (x : List ℤ) (u v : ℕ) (a : ℤ) → exchanged (row_times q x) u v (q *ℤ a) ≡ row_times q (exchanged x u v a)
+  exchanged_times x u v a =
+      let f : ℤ → ℤ = λ b. q *ℤ b in
+      let s : ℤ = get_or x u (pos 0) +ℤ a in
+      let t : ℤ = get_or x v (pos 0) -ℤ a in
+      let es : (get_or (row_times q x) u (pos 0) +ℤ (q *ℤ a)) ≡ (q *ℤ s) = ap (λ z. z +ℤ (q *ℤ a)) (number_at x u) ∙ sym (times-add q (get_or x u (pos 0)) a) in
+      let et : (get_or (row_times q x) v (pos 0) -ℤ (q *ℤ a)) ≡ (q *ℤ t) = ap (λ z. z -ℤ (q *ℤ a)) (number_at x v) ∙ sym (times-sub q (get_or x v (pos 0)) a) in
+      ap (λ z. set (set (row_times q x) u z) v (get_or (row_times q x) v (pos 0) -ℤ (q *ℤ a))) es
+      ∙ ap (λ z. set (set (row_times q x) u (q *ℤ s)) v z) et
+      ∙ ap (λ y. set y v (q *ℤ t)) (sym (map-set f x u s))
+      ∙ sym (map-set f (set x u s) v t)
+
+  -- a step that moves something
+  pub can_times : (terms : List Meaning) (rows : List (List ℤ)) (from : ℕ) (step : Step) (a : ℤ) → CanMove terms (pos 1) rows from step a → CanMove terms q (rows_times q rows) from step (q *ℤ a)
+  can_times terms rows from step a c =
+      let x = base_at rows step.term in
+      let f = (term_at terms step.term).value in
+      let same : exchanged (base_at (rows_times q rows) step.term) c.u c.v (q *ℤ a) ≡ row_times q (exchanged x c.u c.v a)
+      = ap (λ y. exchanged y c.u c.v (q *ℤ a)) (row_at rows step.term) ∙ exchanged_times x c.u c.v a in
+      record {
+        in_range = c.in_range;
+        u = c.u;
+        v = c.v;
+        u_in = c.u_in;
+        v_in = c.v_in;
+        begins = c.begins;
+        ends = c.ends;
+        apart = c.apart;
+        base = subst (λ y. IsBase (times q f) y) (sym same) (base_multiple f (exchanged x c.u c.v a) c.base);
+      }
+
+  pub all_can_times : (terms : List Meaning) (rows : List (List ℤ)) (from : ℕ) (steps : List Step) (a : ℤ) → AllCanMove terms (pos 1) rows from steps a → AllCanMove terms q (rows_times q rows) from steps (q *ℤ a)
+  all_can_times terms rows from [] a h = tt
+  all_can_times terms rows from (s ∷ steps) a h = (can_times terms rows from s a h.0, all_can_times terms rows s.to steps a h.1)
+
+  pub steps_times : (terms : List Meaning) (rows : List (List ℤ)) (from : ℕ) (steps : List Step) → AreSteps terms (pos 1) rows from steps → AreSteps terms q (rows_times q rows) from steps
+  steps_times terms rows from [] h = tt
+  steps_times terms rows from (s ∷ steps) h =
+      let (a, some, c) = h.0 in
+      ((q *ℤ a, some_times a some, can_times terms rows from s a c), steps_times terms rows s.to steps h.1)
+
+  -- and the other way round: where a multiple can move something, so can the base
+  module _ (terms : List Meaning) (rows : List (List ℤ)) (n : ℕ) (fit : AreTerms n terms) (bases : AreBases (pos 1) terms rows) where
+    step_back : (from : ℕ) (step : Step) → IsStep terms q (rows_times q rows) from step → IsStep terms (pos 1) rows from step
+    step_back from step (a, some, c) =
+        let i = step.term in
+        let f = (term_at terms i).value in
+        let x = base_at rows i in
+        let t = terms-at n terms i fit c.in_range in
+        let b = bases-at (pos 1) terms rows i bases c.in_range in
+        let room : HasRoom (times q f) (row_times q x) c.u c.v = (a, some, subst (λ y. IsBase (times q f) (exchanged y c.u c.v a)) (row_at rows i) c.base) in
+        ⊎_elim
+        (λ same. absurd (c.apart (sym same)))
+        (λ (k, more, base). (k, more, record { in_range = c.in_range; u = c.u; v = c.v; u_in = c.u_in; v_in = c.v_in; begins = c.begins; ends = c.ends; apart = c.apart; base = base }))
+        ((depends_times t.family t.submodular q low x b.0 b.1 (base_multiple f x b.1) c.u c.v c.u_in c.v_in).1 (inr room))
+
+    pub steps_back : (from : ℕ) (steps : List Step) → AreSteps terms q (rows_times q rows) from steps → AreSteps terms (pos 1) rows from steps
+    steps_back from [] h = tt
+    steps_back from (s ∷ steps) h = (step_back from s h.0, steps_back s.to steps h.1)
+
+  -- a move along steps
+  change_times : (from : ℕ) (steps : List Step) (i e : ℕ) (a : ℤ) → change_at from steps i e (q *ℤ a) ≡ (q *ℤ change_at from steps i e a)
+  change_times from [] i e a = sym (*ℤ-zero q)
+  change_times from (s ∷ steps) i e a = rw (one (nat_eq s.term i) (nat_eq from e) (nat_eq s.to e), change_times s.to steps i e a)
+      (sym (times-add q (if nat_eq s.term i then ((if nat_eq from e then a else pos 0) -ℤ (if nat_eq s.to e then a else pos 0)) else pos 0) (change_at s.to steps i e a))) where
+        one : (b u v : Bool) → (if b then ((if u then (q *ℤ a) else pos 0) -ℤ (if v then (q *ℤ a) else pos 0)) else pos 0) ≡ (q *ℤ (if b then ((if u then a else pos 0) -ℤ (if v then a else pos 0)) else pos 0))
+        one true u v = rw (part_times u a, part_times v a) (sym (times-sub q (if u then a else pos 0) (if v then a else pos 0)))
+        one false u v = sym (*ℤ-zero q)
+
+  pub move_times : (terms : List Meaning) (rows after : List (List ℤ)) (first : ℕ) (steps : List Step) (a : ℤ) → IsWalkMove terms rows first steps a after
+      → IsWalkMove terms (rows_times q rows) first steps (q *ℤ a) (rows_times q after)
+  move_times terms rows after first steps a m = record {
+    same_count = length-map after (row_times q) ∙ m.same_count ∙ sym (length-map rows (row_times q));
+    same_lengths = λ i. long after i ∙ m.same_lengths i ∙ sym (long rows i);
+    changed = λ i j l.
+        let e = get_or (term_at terms i).places j 0 in
+        let l' : j < length (base_at rows i) = subst (λ k. j < k) (long rows i) l in
+        at after i j ∙ ap (λ z. q *ℤ z) (m.changed i j l') ∙ times-add q (get_or (base_at rows i) j (pos 0)) (change_at first steps i e a)
+        ∙ ap (λ z. z +ℤ (q *ℤ change_at first steps i e a)) (sym (at rows i j))
+        ∙ ap (λ z. get_or (base_at (rows_times q rows) i) j (pos 0) +ℤ z) (sym (change_times first steps i e a));
+  } where
+    long : (rows : List (List ℤ)) (i : ℕ) → length (base_at (rows_times q rows) i) ≡ length (base_at rows i)
+    long rows i = ap length (row_at rows i) ∙ length-map (base_at rows i) (λ b. q *ℤ b)
+
+    at : (rows : List (List ℤ)) (i j : ℕ) → get_or (base_at (rows_times q rows) i) j (pos 0) ≡ (q *ℤ get_or (base_at rows i) j (pos 0))
+    at rows i j = ap (λ y. get_or y j (pos 0)) (row_at rows i) ∙ number_at (base_at rows i) j

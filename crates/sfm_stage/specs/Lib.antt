@@ -1,0 +1,4 @@
+pub mod Served
+pub mod Aims
+pub mod Kept
+pub mod Courses
