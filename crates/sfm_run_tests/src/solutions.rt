@@ -149,13 +149,20 @@ const RANKS_OF_GRAPHS_AND_OF_SLOTS: [Row; 3] = [
     ),
 ];
 
+// So many that their sections come from one tree of stages.
+const MANY_SLOPES: [Row; 1] = [(
+    b"sfm 1\nground a b c d e f g h i j k l m n o p q r\nweight a:-31 b:-12 c:-47 d:-8 e:-26 f:-55 g:-3 h:-40 i:-19 j:-62 k:-15 l:-35 m:-5 n:-22 o:-50 p:-28 q:-44 r:-10\nconcave 20 37 53 66 77 88 96 103 109 114 118 122 125 127 129 130 131 131 : a b c d e f g h i j k l m n o p q r\nend\n",
+    b"answer 1\nminimum -381\nleast a b c d e f g h i j k l m n o p q r\ngreatest a b c d e f g h i j k l m n o p q r\nslope -42/1 j\nslope -38/1 f j\nslope -34/1 c f j o\nslope -33/1 c f j o q\nslope -29/1 c f h j o q\nslope -27/1 c f h j l o q\nslope -24/1 a c f h j l o q\nslope -22/1 a c f h j l o p q\nslope -21/1 a c e f h j l o p q\nslope -18/1 a c e f h j l n o p q\nslope -15/1 a c e f h i j l n o p q\nslope -12/1 a c e f h i j k l n o p q\nslope -10/1 a b c e f h i j k l n o p q\nslope -8/1 a b c e f h i j k l n o p q r\nslope -7/1 a b c d e f h i j k l n o p q r\nslope -4/1 a b c d e f h i j k l m n o p q r\nslope -3/1 a b c d e f g h i j k l m n o p q r\nat 0/1\nbase 1 -31 -12 -47 -8 -26 -55 -3 -40 -19 -62 -15 -35 -5 -22 -50 -28 -44 -10\nbase 2 *\nat -42/1\nbase 1 -31 -12 -47 -8 -26 -55 -3 -40 -19 -62 -15 -35 -5 -22 -50 -28 -44 -10\nbase 2 *\nat -38/1\nbase 1 -31 -12 -47 -8 -26 -55 -3 -40 -19 -62 -15 -35 -5 -22 -50 -28 -44 -10\nbase 2 *\nat -34/1\nbase 1 -31 -12 -47 -8 -26 -55 -3 -40 -19 -62 -15 -35 -5 -22 -50 -28 -44 -10\nbase 2 *\nat -33/1\nbase 1 -31 -12 -47 -8 -26 -55 -3 -40 -19 -62 -15 -35 -5 -22 -50 -28 -44 -10\nbase 2 *\nat -29/1\nbase 1 -31 -12 -47 -8 -26 -55 -3 -40 -19 -62 -15 -35 -5 -22 -50 -28 -44 -10\nbase 2 *\nat -27/1\nbase 1 -31 -12 -47 -8 -26 -55 -3 -40 -19 -62 -15 -35 -5 -22 -50 -28 -44 -10\nbase 2 *\nat -24/1\nbase 1 -31 -12 -47 -8 -26 -55 -3 -40 -19 -62 -15 -35 -5 -22 -50 -28 -44 -10\nbase 2 *\nat -22/1\nbase 1 -31 -12 -47 -8 -26 -55 -3 -40 -19 -62 -15 -35 -5 -22 -50 -28 -44 -10\nbase 2 *\nat -21/1\nbase 1 -31 -12 -47 -8 -26 -55 -3 -40 -19 -62 -15 -35 -5 -22 -50 -28 -44 -10\nbase 2 *\nat -18/1\nbase 1 -31 -12 -47 -8 -26 -55 -3 -40 -19 -62 -15 -35 -5 -22 -50 -28 -44 -10\nbase 2 *\nat -15/1\nbase 1 -31 -12 -47 -8 -26 -55 -3 -40 -19 -62 -15 -35 -5 -22 -50 -28 -44 -10\nbase 2 *\nat -12/1\nbase 1 -31 -12 -47 -8 -26 -55 -3 -40 -19 -62 -15 -35 -5 -22 -50 -28 -44 -10\nbase 2 *\nat -10/1\nbase 1 -31 -12 -47 -8 -26 -55 -3 -40 -19 -62 -15 -35 -5 -22 -50 -28 -44 -10\nbase 2 *\nat -8/1\nbase 1 -31 -12 -47 -8 -26 -55 -3 -40 -19 -62 -15 -35 -5 -22 -50 -28 -44 -10\nbase 2 *\nat -7/1\nbase 1 -31 -12 -47 -8 -26 -55 -3 -40 -19 -62 -15 -35 -5 -22 -50 -28 -44 -10\nbase 2 *\nat -4/1\nbase 1 -31 -12 -47 -8 -26 -55 -3 -40 -19 -62 -15 -35 -5 -22 -50 -28 -44 -10\nbase 2 *\nat -3/1\nbase 1 -31 -12 -47 -8 -26 -55 -3 -40 -19 -62 -15 -35 -5 -22 -50 -28 -44 -10\nbase 2 *\nend\n",
+)];
+
 /// The size of the pieces that are read, and instances with their answers.
-const SOLUTIONS: [(usize, &[Row]); 5] = [
+const SOLUTIONS: [(usize, &[Row]); 6] = [
     (65536, &WEIGHTS_AND_CUTS),
     (1, &WEIGHTS_AND_CUTS),
     (7, &NEEDS_COVERS_AND_TABLES),
     (7, &CONCAVE_FUNCTIONS_AND_RANKS),
     (7, &RANKS_OF_GRAPHS_AND_OF_SLOTS),
+    (7, &MANY_SLOPES),
 ];
 
 /// Asserts that instances, read in pieces of that size, have their answers.

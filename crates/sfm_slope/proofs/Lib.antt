@@ -8,3 +8,4 @@ pub mod Scaled
 pub mod Floors
 pub mod Starts
 pub mod Ones
+pub mod Reached

@@ -1,42 +1,14 @@
--- q times a base of r times a term is a base of q·r times the term.
-use Rattle.std.proofs.Common.{◌≡◌, ℕ, ◌+◌, ◌<◌, ◌≤◌, ◌^◌, ◌++◌, take, get_or, unsigned_abs, neg_ℤ, Bool, List, [], ◌∷◌, length, map, Some, ℤ, pos, ◌*ℤ◌, ◌≤ℤ◌, refl, sym, ap, ◌∙◌, arith}
+-- Multiples of rows and of slopes.
+use Rattle.std.proofs.Common.{◌≡◌, ℕ, ◌+◌, ◌<◌, ◌≤◌, ◌^◌, ◌++◌, take, get_or, unsigned_abs, neg_ℤ, List, [], ◌∷◌, length, map, ℤ, pos, ◌*ℤ◌, ◌≤ℤ◌, refl, ap, ◌∙◌, arith}
 use Rattle.std.proofs.lemmas.Int.{ints}
-use Rattle.std.proofs.lemmas.List.{length-map, map-append, take_more}
+use Rattle.std.proofs.lemmas.List.{map-append, take_more}
 use Rattle.std.proofs.lemmas.List.Elements.{All-map}
 use Rattle.std.specs.List.{All}
-use Rattle.std.specs.Option.{option_map}
-use Rattle.sfm_spec.specs.Sets.{sum_over, whole_set}
 use Rattle.sfm_spec.specs.Bounds.{IsAtMost, IsEntry, IsFactor}
-use Rattle.sfm_spec.specs.Terms.{SetFunction, times, IsBase}
-use Rattle.sfm_spec.specs.Families.{Meaning, AreBases}
 use Rattle.sfm_spec.specs.Slopes.{IsSameSlope}
 use Rattle.sfm_base.proofs.Slopes.{at_most_from_abs}
-use Rattle.sfm_spec.proofs.Scaled.{times_some, times-assoc, times-comm, times-mono}
+use Rattle.sfm_spec.proofs.Scaled.{times-assoc, times-comm, times-mono}
 use Rattle.sfm_exchange.specs.Scaled.{row_times}
-use Rattle.sfm_exchange.proofs.Scaling.{sum_over-times}
-
-base-times : (q r : ℤ) (f : SetFunction) (x : List ℤ) → pos 1 ≤ℤ q → IsBase (times r f) x → IsBase (times (q *ℤ r) f) (row_times q x)
-base-times q r f x lq h = record { within = within; total = total } where
-  within : (s : List Bool) (c : ℤ) → length s ≡ length (row_times q x) → times (q *ℤ r) f s ≡ Some c → sum_over s (row_times q x) ≤ℤ c
-  within s c len is =
-      let (a, fs, ec) = times_some (q *ℤ r) (f s) c is in
-      let le : sum_over s x ≤ℤ (r *ℤ a) = h.within s (r *ℤ a) (len ∙ length-map x (λ a. q *ℤ a)) (ap (option_map (λ z. r *ℤ z)) fs) in
-      rw (sum_over-times q s x, ec, times-assoc q r a) (times-mono q (sum_over s x) (r *ℤ a) (omega (arith, ints, lq)) le)
-
-  total : times (q *ℤ r) f (whole_set (length (row_times q x))) ≡ Some (sum_over (whole_set (length (row_times q x))) (row_times q x))
-  total =
-      let w = whole_set (length x) in
-      let (a, fw, e) = times_some r (f w) (sum_over w x) h.total in
-      let same : ((q *ℤ r) *ℤ a) ≡ (q *ℤ sum_over w x) = times-assoc q r a ∙ ap (λ z. q *ℤ z) (sym e) in
-      let at : times (q *ℤ r) f w ≡ Some (sum_over w (row_times q x)) = ap (option_map (λ z. (q *ℤ r) *ℤ z)) fw ∙ ap Some same ∙ ap Some (sym (sum_over-times q w x)) in
-      rw length-map at
-
--- one for each term
-pub bases-times : (q r : ℤ) (terms : List Meaning) (rows : List (List ℤ)) → pos 1 ≤ℤ q → AreBases r terms rows → AreBases (q *ℤ r) terms (map (row_times q) rows)
-bases-times q r [] [] lq h = tt
-bases-times q r [] (x ∷ rows) lq h = absurd h
-bases-times q r (t ∷ terms) [] lq h = absurd h
-bases-times q r (t ∷ terms) (x ∷ rows) lq h = (length-map x (λ a. q *ℤ a) ∙ h.0, base-times q r t.value x lq h.1, bases-times q r terms rows lq h.2)
 
 -- 64 times a factor that is not too large is a factor
 pub factor-grains : (q : ℤ) → IsFactor q → q ≤ℤ pos 15625 → IsFactor (q *ℤ pos 64)

@@ -6,3 +6,4 @@ pub mod Searches
 pub mod Nears
 pub mod Turns
 pub mod Parts
+pub mod Standings

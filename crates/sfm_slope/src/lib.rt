@@ -8,6 +8,8 @@ mod least;
 mod rows;
 mod search;
 mod sections;
+mod standing;
+mod tree;
 mod turn;
 mod worth;
 

@@ -17,6 +17,7 @@ use std::alloc::Global;
 pub fn first_rows<T: Term>(alloc: Global, terms: &[T], q: i128) -> Result<Rows, Memory>
     requires sizes { total_of (map T.size_of terms.now) ≤ℤ pos (10 ^ 18) }
     requires factor { IsFactor q }
+    ensures starts { IfOk result (λ r. r ≡ map (λ term. T.start_of term q) terms.now) }
     ensures bases { IfOk result (AreBases q (meanings T.places T.value_of terms.now)) }
     ensures small { IfOk result (λ r. All (λ x. All (IsAtMost (10 ^ 25)) x) r) }
 {
@@ -79,8 +80,12 @@ fn is_small(x: &[i128], most: u128) -> bool
     x.iter().all(|a| a.unsigned_abs() <= most)
 }
 
-// q times each entry of each row.
-fn all_times(alloc: Global, q: i128, rows: &Rows) -> Result<Rows, Memory>
+/// q times each entry of each row.
+///
+/// # Errors
+///
+/// `Memory` where there is none.
+pub fn all_times(alloc: Global, q: i128, rows: &Rows) -> Result<Rows, Memory>
     requires factor { IsFactor q }
     requires small { All (λ x. All (IsAtMost (10 ^ 21)) x) rows.now }
     ensures { IfOk result (λ r. r ≡ map (λ x. map (λ a. q *ℤ a) x) rows.now) }

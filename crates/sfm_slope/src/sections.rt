@@ -1,11 +1,14 @@
-// The bases of each breakpoint. They are found by a run of their own from the first bases, so they hang on the terms and the
-// slope alone, and few walks lead to them, however the breakpoint was found.
+// The bases of each breakpoint. They hang on the terms and the slopes alone, and few walks lead to them from the first bases,
+// however the breakpoints were found. Where there are few, each is found by a run of its own from the first bases, and where
+// there are many, by a tree of stages.
 ghost use Rattle.std.specs.{Prelude.{◌≡◌, length, map, IfOk, OnOk}, List.{All}};
 ghost use Rattle.sfm_spec.specs.Families.{meanings};
 ghost use Rattle.sfm_sizes.specs.Sizes.{AreElementSizes};
 ghost use Rattle.sfm_slope.specs.{Marks.{HasBasesBy, mark_of}, Points.{IsInRange, found_mark}, Searches.{IsSearch}};
 
 use crate::search::Search;
+use crate::standing::first_standing;
+use crate::tree::branch;
 use crate::turn::Breakpoint;
 use sfm_base::Memory;
 use sfm_law::{Break, Term};
@@ -29,14 +32,26 @@ pub fn sections<T: Term>(
         (λ q. map (λ term. T.start_of term q) terms.now) (length sizes.now) sizes.now) r.items) }
 {
     let mut breaks = Vec::new(search.alloc);
-    for point in found {
-        breaks.push(section(search, terms, sizes, point)?)?;
+    if found.len() < FEW_BREAKPOINTS {
+        for point in found {
+            breaks.push(section(search, terms, sizes, point)?)?;
+        }
+        return Ok(breaks);
     }
+    let first = first_standing(search.alloc, terms, sizes, found)?;
+    branch(search, terms, sizes, found, &first, &mut breaks)?;
     Ok(breaks)
 }
 
-// A breakpoint with bases that prove at its slope.
-fn section<T: Term>(
+// So few breakpoints share too little for stages to be worth their graphs.
+const FEW_BREAKPOINTS: usize = 16;
+
+/// A breakpoint with bases that prove at its slope, by a run from the first bases.
+///
+/// # Errors
+///
+/// `Memory` where there is none.
+pub fn section<T: Term>(
     search: &mut Search<T::Note>,
     terms: &[T],
     sizes: &[i128],

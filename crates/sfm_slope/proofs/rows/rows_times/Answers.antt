@@ -3,7 +3,8 @@ use Rattle.std.proofs.lemmas.Int.{to_z-of_z}
 use mir.Syntax.{w128}
 use Rattle.sfm_spec.specs.Families.{meanings}
 use Rattle.sfm_exchange.specs.Scaled.{row_times}
-use Rattle.sfm_slope.proofs.Scaled.{bases-times, rows-small, small_from_abs}
+use Rattle.sfm_stage.proofs.Times.{bases-times}
+use Rattle.sfm_slope.proofs.Scaled.{rows-small, small_from_abs}
 use Rattle.sfm_slope.proofs.rows.rows_times.Goals as goal
 
 pub returns-then-are_small-clause-bases : goal.returns-then-are_small-clause-bases

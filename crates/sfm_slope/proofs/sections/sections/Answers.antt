@@ -1,14 +1,11 @@
 use Rattle.std.proofs.Common.{◌≡◌, [], ◌∷◌, length, map, ap, ◌∙◌}
-use Rattle.std.proofs.lemmas.List.{map-append, take_all}
+use Rattle.std.proofs.lemmas.List.{map-append}
 use Rattle.std.proofs.lemmas.List.Elements.{All-append, All-nil, All-cons}
 use Rattle.sfm_spec.specs.Families.{meanings}
 use Rattle.sfm_slope.specs.Marks.{HasBasesBy, mark_of}
 use Rattle.sfm_slope.specs.Points.{found_mark}
 use Rattle.sfm_slope.proofs.Scaled.{mapped_more}
 use Rattle.sfm_slope.proofs.sections.sections.Goals as goal
-
-pub section-requires-clause-range : goal.section-requires-clause-range
-section-requires-clause-range g c = rw c.point-item.is (c.requires.ranges c.loop-point.point-index c.point-item.result c.loop-point-test.true)
 
 pub loop-point-preserved : goal.loop-point-preserved
 loop-point-preserved g c =
@@ -26,6 +23,3 @@ loop-point-preserved g c =
           (mapped_more found_mark found i point (map mark_of c.loop-point.breaks.items) (mark_of b) c.loop-point-test.true before.marks (told ∙ ap found_mark c.point-item.is));
       bases = rw c.in_ok-push.ensures.items (All-append P c.loop-point.breaks.items (b ∷ []) before.bases (All-cons P b [] c.in_ok-section.ensures.bases (All-nil P)));
     }
-
-pub returns-clause-marks : goal.returns-clause-marks
-returns-clause-marks g c = rw (take_all c.loop-point.point-index c.args.found.now c.loop-point-test.false) at c.loop-point.invariant.marks

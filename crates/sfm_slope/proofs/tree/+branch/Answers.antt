@@ -1,0 +1,49 @@
+use Rattle.std.proofs.Common.{◌≡◌, ◌-◌, ◌/◌, ◌≤◌, ◌<◌, ℕ, List, length, map, take, drop, arith}
+use Rattle.std.proofs.Math.Nat.{mul-div-le, lt-mul-div-succ}
+use Rattle.std.proofs.lemmas.List.{length-drop, length-take-le, take_all}
+use Rattle.std.proofs.lemmas.List.Elements.{All-drop, All-take}
+use Rattle.sfm_slope.specs.declared.turn.Breakpoint.{Breakpoint}
+use Rattle.sfm_slope.specs.Marks.{mark_of}
+use Rattle.sfm_slope.specs.Points.{IsInRange, found_mark}
+use Rattle.sfm_slope.proofs.Reached.{mapped_parts, standing_over}
+use Rattle.sfm_slope.proofs.tree.+branch.Goals as goal
+
+-- half of two or more is less than all, and not nothing
+half_less : (n : ℕ) → 2 ≤ n → (n / 2 < n) × (1 ≤ n / 2)
+half_less n two =
+    let down = mul-div-le n 2 in
+    let up = lt-mul-div-succ n {b = 2} (omega arith) in
+    (omega (arith, down, two), omega (arith, up, two))
+
+-- what is behind the half
+behind : (found : List Breakpoint) (k : ℕ) → k ≤ length found → take (length found - k) (drop k found) ≡ drop k found
+behind found k le = let l = length-drop k found in take_all (length found - k) (drop k found) (omega (arith, l))
+
+pub branch-search-requires : goal.branch-search-requires
+branch-search-requires g t c = λ κs lives.
+    let found = c.args.found.now in
+    let k = length found / 2 in
+    let P = IsInRange c.args.sizes.now in
+    let half = half_less (length found) c.if-found-lt2.false in
+    let l = length-take-le k found (omega (arith, half)) in
+    (omega (arith, half, l), (lives.0, (lives.1, (c.requires.sizes, (c.requires.search, (All-take P k found c.requires.ranges, (standing_over c.in_ok-next.ensures (take k found) (λ Q all. All-take Q k found all), c.requires.before)))))))
+
+pub branch-search-requires-2 : goal.branch-search-requires-2
+branch-search-requires-2 g t c = λ κs lives.
+    let found = c.args.found.now in
+    let k = length found / 2 in
+    let P = IsInRange c.args.sizes.now in
+    let f = c.in_ok-branch.ensures in
+    let half = half_less (length found) c.if-found-lt2.false in
+    let same = behind found k (omega (arith, half)) in
+    let l = length-drop k found in
+    rw same (omega (arith, half, l), (lives.0, (lives.1, (c.requires.sizes, (f.search, (All-drop P k found c.requires.ranges, (standing_over c.in_ok-next.ensures (drop k found) (λ Q all. All-drop Q k found all), f.bases)))))))
+
+pub returns-clause-marks : goal.returns-clause-marks
+returns-clause-marks g t c =
+    let found = c.args.found.now in
+    let k = length found / 2 in
+    let half = half_less (length found) c.if-found-lt2.false in
+    let same = behind found k (omega (arith, half)) in
+    mapped_parts found_mark found k (map mark_of c.args.breaks.now.items) (map mark_of c.branch-search.new.breaks.items) (map mark_of c.branch-search-2.new.breaks.items)
+    c.in_ok-branch.ensures.marks (rw same at c.in_ok-branch-2.ensures.marks)

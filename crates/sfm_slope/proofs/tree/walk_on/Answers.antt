@@ -1,0 +1,96 @@
+use Rattle.std.proofs.Common.{◌≡◌, ◌+◌, ◌^◌, ◌≤◌, length, map, ap, sym, ◌∙◌, FitsSigned, arith}
+use Rattle.std.proofs.lemmas.Int.{ints, to_z-of_z}
+use Rattle.std.proofs.lemmas.List.{length-map, with_items_is}
+use mir.Syntax.{w128}
+use Rattle.sfm_spec.specs.Families.{meanings, sized_shift}
+use Rattle.sfm_spec.specs.Walks.{IsWalkChain, few_walks}
+use Rattle.sfm_spec.proofs.LeastWalks.{few_walks_small}
+use Rattle.sfm_exchange.proofs.ClaimedGraphs.{counted, shaped}
+use Rattle.sfm_sizes.proofs.Sized.{sized-small}
+use Rattle.sfm_stage.proofs.Chains.{walks_join}
+use Rattle.sfm_stage.proofs.Times.{bases_multiple}
+use Rattle.sfm_slope.proofs.tree.walk_on.Given as given
+use Rattle.sfm_slope.proofs.tree.walk_on.Goals as goal
+use Rattle.sfm_slope.proofs.tree.walk_on.Goals.{After-deref}
+
+-- all of the shift is written
+written : (g : given.Over) (c : After-deref g) → c.deref.result.now ≡ sized_shift c.args.sizes.now c.args.slope.num
+written g c =
+    let s = c.args.slope in
+    let fp : FitsSigned w128 s.num = omega (arith, ints, s.entry.low, s.entry.high) in
+    let sized : c.write_sized.new.shift ≡ sized_shift c.args.sizes.now s.num
+    = simp to_z-of_z at c.write_sized.ensures in
+    c.deref.ensures.value
+    ∙ (with_items_is c.args.search.now.shift c.write_sized.new.shift
+    (c.write_sized.auto.shift ∙ c.deref_mut.ensures.len) ∙ sized)
+
+-- so it has a number for each place
+long : (g : given.Over) (c : After-deref g) → length c.deref.result.now ≡ length c.args.sizes.now
+long g c = ap length (written g c) ∙ length-map c.args.sizes.now _
+
+pub restart_by-requires-clause-bases : goal.restart_by-requires-clause-bases
+restart_by-requires-clause-bases g c =
+    let t = g.T.Term in
+    let s = c.args.slope in
+    let fq : FitsSigned w128 s.den = omega (arith, ints, s.factor.low, s.factor.high) in
+    simp to_z-of_z (rw c.requires.multiple (bases_multiple s.den s.factor.low (meanings t.places t.value_of c.args.terms.now) c.args.at.now.graph.bases c.requires.standing.1.claimed.are_bases))
+
+pub improve-requires-clause-shifts : goal.improve-requires-clause-shifts
+improve-requires-clause-shifts g c =
+    let m = sized-small (10 ^ 19) _ c.args.sizes.now c.args.slope.num c.requires.range c.requires.sizes in
+    rw (written g (goal.at.improve-requires-clause-shifts g c).After-deref) (omega (arith, ints, m))
+
+pub overflow_add-at : goal.overflow_add-at
+overflow_add-at g c =
+    let h = c.requires.standing.1 in
+    let b = h.claimed.bounded in
+    let n = long g (goal.at.overflow_add-at g c).After-deref in
+    let less = few_walks_small (length c.deref.result.now) (length c.args.terms.now) (rw n b.few) (rw length-map at b.few_terms) in
+    let few = c.in_ok-improve.ensures.few in
+    let walks = h.few in
+    omega (arith, less, few, walks, c.count.ensures, c.new-steps.ensures)
+
+pub returns-then-at-count-clause-search : goal.returns-then-at-count-clause-search
+returns-then-at-count-clause-search g c =
+    let at = (goal.at.returns-then-at-count-clause-search g c).After-deref in
+    record {
+      first = c.requires.search.first;
+      warm = c.requires.search.warm;
+      cold = rw (long g at) at (shaped c.in_ok-improve.ensures.graph);
+      shift = ap length (sym c.deref.ensures.value) ∙ long g at;
+    }
+
+pub returns-clause-search : goal.returns-clause-search
+returns-clause-search g c =
+    let at = (goal.at.returns-clause-search g c).After-deref in
+    let s = rw (long g at) at (shaped c.in_ok-improve.ensures.graph) in
+    record {
+      first = c.requires.search.first;
+      warm = c.requires.search.warm;
+      cold = record { are_spots = s.are_spots; sized_rows = s.sized_rows; claim_count = s.claim_count; union_count = s.union_count; back_count = s.back_count };
+      shift = ap length (sym c.deref.ensures.value) ∙ long g at;
+    }
+
+pub returns-clause-section : goal.returns-clause-section
+returns-clause-section g c =
+    let t = g.T.Term in
+    let ts = meanings t.places t.value_of c.args.terms.now in
+    let s = c.args.slope in
+    let sizes = c.args.sizes.now in
+    let shift = sized_shift sizes s.num in
+    let firsts = map (λ term. t.start_of term s.den) c.args.terms.now in
+    let after = c.improve.new.graph.bases in
+    let fq : FitsSigned w128 s.den = omega (arith, ints, s.factor.low, s.factor.high) in
+    let same = written g (goal.at.returns-clause-section g c).After-deref in
+    let e = c.in_ok-improve.ensures in
+    let k = e.counted.0 in
+    let chain : IsWalkChain ts s.den shift k c.args.bases after = rw (same, c.in_ok-restart_by.ensures.bases) at (simp to_z-of_z at e.counted.2) in
+    let count = e.counted.3 in
+    let n = c.args.at.now.walks in
+    let total : n + k ≤ few_walks (length sizes) (length c.args.terms.now) = omega (arith, count, c.count.ensures, c.new-steps.ensures, c.if-at-count.false, c.most_walks.ensures.is) in
+    rw c.replace.ensures.value (record {
+      bases = simp to_z-of_z at e.bases;
+      small = e.small;
+      proves = simp to_z-of_z at (rw (same, length-map sizes _) at e.proves);
+      reached = (n + k, rw (counted c.requires.standing.1.claimed) total, walks_join ts s.den shift n k firsts c.args.bases after c.requires.chain chain);
+    })

@@ -1,0 +1,160 @@
+// Where a stage ends: bases of the terms to which walks lead from the first bases that are walk moves at each of some
+// breakpoints, and how many there are. Another stage goes on from there over fewer breakpoints: so they form a tree, and each
+// walk is made once for all breakpoints below it.
+ghost use Rattle.std.specs.{Prelude.{◌≡◌, ◌^◌, ◌<◌, ◌≤◌, length, map, pos, ◌*ℤ◌, ◌≤ℤ◌, IfOk}, List.{All}};
+ghost use Rattle.sfm_spec.specs.{Bounds.{AreBounded, IsAtMost, IsFactor}, Families.{meanings}, Walks.{few_walks}};
+ghost use Rattle.sfm_sizes.specs.Sizes.{AreElementSizes};
+ghost use Rattle.sfm_slope.specs.{Points.{IsInRange}, Standings.{IsStanding}};
+
+use crate::rows::first_rows;
+use crate::turn::Breakpoint;
+use sfm_base::{Memory, Rows, Slope};
+use sfm_exchange::{Graph, copy_rows, graph_at};
+use sfm_law::Term;
+use sfm_sizes::shift_by;
+use sfm_stage::run_stage;
+use std::alloc::Global;
+
+/// A graph of the terms, and how many walks lead to its bases from the first ones.
+pub struct Standing<N> {
+    /// The first bases of the terms.
+    pub firsts: Rows,
+    /// The graph.
+    pub graph: Graph<N>,
+    /// The number of walks.
+    pub walks: u64,
+}
+
+// Written out, so that letting one go is one step, which is proved here once.
+impl<N: Drop> Drop for Standing<N> {
+    fn drop(self) {
+        let Self {
+            firsts: _,
+            graph: _,
+            walks: _,
+        } = self;
+    }
+}
+
+/// The first bases of the terms, to which no walk leads.
+///
+/// # Errors
+///
+/// `Memory` where there is none.
+pub fn first_standing<T: Term>(
+    alloc: Global,
+    terms: &[T],
+    sizes: &[i128],
+    _found: &[Breakpoint],
+) -> Result<Standing<T::Note>, Memory>
+    requires bounded { AreBounded (length sizes.now) (map T.places terms.now)
+        (map T.size_of terms.now) }
+    ensures { IfOk result (IsStanding T.places T.value_of T.size_of T.fits T.start_of terms.now
+        sizes.now _found.now) }
+{
+    let bases = first_rows(alloc, terms, 1)?;
+    let firsts = copy_rows(alloc, &bases)?;
+    let graph = graph_at(alloc, terms, sizes.len(), 1, bases)?;
+    Ok(Standing {
+        firsts,
+        graph,
+        walks: 0,
+    })
+}
+
+/// The end of a stage over some breakpoints that begins where another one ended, at bases that are not too large. It looks for a
+/// walk no more often than a minimisation may walk.
+///
+/// # Errors
+///
+/// `Memory` where there is none.
+pub fn stage_from<T: Term>(
+    alloc: Global,
+    terms: &[T],
+    sizes: &[i128],
+    found: &[Breakpoint],
+    at: &Standing<T::Note>,
+) -> Result<Standing<T::Note>, Memory>
+    requires sizes { AreElementSizes (length sizes.now) sizes.now }
+    requires some { 0 < length found.now }
+    requires ranges { All (IsInRange sizes.now) found.now }
+    requires small { All (λ x. All (IsAtMost (10 ^ 25)) x) at.now.graph.bases }
+    requires few { at.now.walks ≤ 10 ^ 12 }
+    requires standing { IsStanding T.places T.value_of T.size_of T.fits T.start_of terms.now
+        sizes.now found.now at.now }
+    ensures { IfOk result (IsStanding T.places T.value_of T.size_of T.fits T.start_of terms.now
+        sizes.now found.now) }
+{
+    let low = shift_by(alloc, sizes, floor_of(found, sizes))?;
+    let high = shift_by(alloc, sizes, ceiling_of(found, sizes))?;
+    let bases = copy_rows(alloc, &at.graph.bases)?;
+    let mut graph = graph_at(alloc, terms, sizes.len(), 1, bases)?;
+    let most = most_walks(sizes.len(), terms.len());
+    let walks = run_stage(alloc, &mut graph, terms, &low, &high, most)?;
+    let firsts = copy_rows(alloc, &at.firsts)?;
+    Ok(Standing {
+        firsts,
+        graph,
+        walks: at.walks + walks,
+    })
+}
+
+/// The most walks that a minimisation over n elements and m terms takes.
+pub fn most_walks(n: usize, m: usize) -> u64
+    requires places { n ≤ 256 }
+    requires terms { m ≤ 16384 }
+    ensures is { result ≡ few_walks n m }
+    ensures small { result ≤ 10 ^ 12 }
+{
+    let n = n as u64;
+    let m = m as u64;
+    n + n * (n + 1) * (n * m + 1)
+}
+
+// A whole number that is at most each slope.
+fn floor_of(found: &[Breakpoint], _sizes: &[i128]) -> i128
+    requires { All (IsInRange _sizes.now) found.now }
+    ensures small { IsAtMost (10 ^ 19) result }
+    ensures low { All (λ b. (b.slope.den *ℤ result) ≤ℤ b.slope.num) found.now }
+{
+    let mut low = MOST;
+    for point in found {
+        low = low.min(whole_below(point.slope.num, point.slope.den));
+    }
+    low
+}
+
+// A whole number that is at least each slope.
+fn ceiling_of(found: &[Breakpoint], _sizes: &[i128]) -> i128
+    requires { All (IsInRange _sizes.now) found.now }
+    ensures small { IsAtMost (10 ^ 19) result }
+    ensures high { All (λ b. b.slope.num ≤ℤ (b.slope.den *ℤ result)) found.now }
+{
+    let mut high = -MOST;
+    for point in found {
+        high = high.max(ceiling(point.slope));
+    }
+    high
+}
+
+// The greatest numerator of a slope.
+const MOST: i128 = 10_000_000_000_000_000_000;
+
+// The greatest whole number that is at most p/q.
+fn whole_below(p: i128, q: i128) -> i128
+    requires small { IsAtMost (10 ^ 19) p }
+    requires factor { IsFactor q }
+    ensures small { IsAtMost (10 ^ 19) result }
+    ensures low { (q *ℤ result) ≤ℤ p }
+{
+    p.div_euclid(q)
+}
+
+// The least whole number that is at least a slope.
+fn ceiling(slope: Slope) -> i128
+    requires { IsAtMost (10 ^ 19) slope.num }
+    ensures small { IsAtMost (10 ^ 19) result }
+    ensures high { slope.num ≤ℤ (slope.den *ℤ result) }
+{
+    -whole_below(-slope.num, slope.den)
+}

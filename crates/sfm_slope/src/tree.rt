@@ -1,0 +1,232 @@
+// The sections of many breakpoints by one tree of stages. A stage serves all slopes of its breakpoints; each half of them goes on
+// from its bases, and in the end each breakpoint from the bases of its part, multiplied by the denominator of its slope. The
+// walks of the stages and those of the breakpoint's own run lead, one after the other, from the first bases to its section, and
+// are counted. Where there are too many, as where numbers are too large, the section is found from the first bases anew.
+ghost use Rattle.std.specs.{Prelude.{◌≡◌, ◌++◌, ◌∷◌, [], ◌^◌, ◌≤◌, true, length, map, pos, ◌≤ℤ◌, IfOk, OnOk, IfSome}, List.{All}};
+ghost use Rattle.sfm_spec.specs.{Bounds.{IsAtMost, IsFactor, total_of}, Families.{meanings, sized_shift}, Walks.{IsWalkChain}};
+ghost use Rattle.sfm_sizes.specs.Sizes.{AreElementSizes};
+ghost use Rattle.sfm_stage.specs.Served.{rows_times};
+ghost use Rattle.sfm_slope.specs.{Marks.{HasBasesBy, mark_of}, Points.{IsInRange, found_mark}, Searches.{IsSearch}, Standings.{IsStanding, IsSection}};
+
+use crate::rows::{all_times, are_small, first_rows};
+use crate::search::Search;
+use crate::sections::section;
+use crate::standing::{Standing, most_walks, stage_from};
+use crate::turn::Breakpoint;
+use sfm_base::{Memory, Rows, Slope, Steps};
+use sfm_exchange::restart_by;
+use sfm_law::{Break, Term};
+use sfm_sizes::write_sized;
+use sfm_walk::improve;
+use std::alloc::Global;
+use std::mem;
+
+/// Puts the sections of some breakpoints behind those that are there, from the bases that a stage has led to.
+///
+/// # Errors
+///
+/// `Memory` where there is none.
+pub fn branch<T: Term>(
+    search: &mut Search<T::Note>,
+    terms: &[T],
+    sizes: &[i128],
+    found: &[Breakpoint],
+    at: &Standing<T::Note>,
+    breaks: &mut Vec<Break>,
+) -> Result<(), Memory>
+    requires sizes { AreElementSizes (length sizes.now) sizes.now }
+    requires search { IsSearch T.places T.value_of T.size_of T.fits terms.now
+        (length sizes.now) search.old }
+    requires ranges { All (IsInRange sizes.now) found.now }
+    requires standing { IsStanding T.places T.value_of T.size_of T.fits T.start_of terms.now
+        sizes.now found.now at.now }
+    requires before { All (HasBasesBy (meanings T.places T.value_of terms.now)
+        (λ q. map (λ term. T.start_of term q) terms.now) (length sizes.now) sizes.now)
+        breaks.old.items }
+    ensures search { OnOk result (IsSearch T.places T.value_of T.size_of T.fits terms.now
+        (length sizes.now) search.new) }
+    ensures marks { OnOk result (map mark_of breaks.new.items
+        ≡ map mark_of breaks.old.items ++ map found_mark found.now) }
+    ensures bases { OnOk result (All (HasBasesBy (meanings T.places T.value_of terms.now)
+        (λ q. map (λ term. T.start_of term q) terms.now) (length sizes.now) sizes.now)
+        breaks.new.items) }
+{
+    let few = most_walks(sizes.len(), terms.len());
+    if found.len() < 2 || at.walks > few || !are_small(&at.graph.bases, MOST_AT_STAGE) {
+        return leaves(search, terms, sizes, found, at, breaks);
+    }
+    let next = stage_from(search.alloc, terms, sizes, found, at)?;
+    let mid = found.len() / 2;
+    branch(search, terms, sizes, &found[..mid], &next, breaks)?;
+    branch(search, terms, sizes, &found[mid..], &next, breaks)?;
+    Ok(())
+}
+
+// The greatest magnitude of an entry at which a stage may begin.
+const MOST_AT_STAGE: u128 = 10_000_000_000_000_000_000_000_000;
+
+// The greatest magnitude of an entry that may be multiplied.
+const MOST_MULTIPLIED: u128 = 10_000_000_000_000_000_000;
+
+// Puts the section of each breakpoint behind those that are there.
+fn leaves<T: Term>(
+    search: &mut Search<T::Note>,
+    terms: &[T],
+    sizes: &[i128],
+    found: &[Breakpoint],
+    at: &Standing<T::Note>,
+    breaks: &mut Vec<Break>,
+) -> Result<(), Memory>
+    requires sizes { AreElementSizes (length sizes.now) sizes.now }
+    requires search { IsSearch T.places T.value_of T.size_of T.fits terms.now
+        (length sizes.now) search.old }
+    requires ranges { All (IsInRange sizes.now) found.now }
+    requires standing { IsStanding T.places T.value_of T.size_of T.fits T.start_of terms.now
+        sizes.now found.now at.now }
+    requires before { All (HasBasesBy (meanings T.places T.value_of terms.now)
+        (λ q. map (λ term. T.start_of term q) terms.now) (length sizes.now) sizes.now)
+        breaks.old.items }
+    ensures search { OnOk result (IsSearch T.places T.value_of T.size_of T.fits terms.now
+        (length sizes.now) search.new) }
+    ensures marks { OnOk result (map mark_of breaks.new.items
+        ≡ map mark_of breaks.old.items ++ map found_mark found.now) }
+    ensures bases { OnOk result (All (HasBasesBy (meanings T.places T.value_of terms.now)
+        (λ q. map (λ term. T.start_of term q) terms.now) (length sizes.now) sizes.now)
+        breaks.new.items) }
+{
+    for point in found {
+        breaks.push(leaf(search, terms, sizes, point, at)?)?;
+    }
+    Ok(())
+}
+
+// The section of a breakpoint: from the bases that a stage has led to, or from the first ones.
+fn leaf<T: Term>(
+    search: &mut Search<T::Note>,
+    terms: &[T],
+    sizes: &[i128],
+    point: &Breakpoint,
+    at: &Standing<T::Note>,
+) -> Result<Break, Memory>
+    requires sizes { AreElementSizes (length sizes.now) sizes.now }
+    requires search { IsSearch T.places T.value_of T.size_of T.fits terms.now
+        (length sizes.now) search.old }
+    requires range { IsInRange sizes.now point.now }
+    requires standing { IsStanding T.places T.value_of T.size_of T.fits T.start_of terms.now
+        sizes.now (point.now ∷ []) at.now }
+    ensures search { OnOk result (IsSearch T.places T.value_of T.size_of T.fits terms.now
+        (length sizes.now) search.new) }
+    ensures mark { IfOk result (λ r. mark_of r ≡ found_mark point.now) }
+    ensures bases { IfOk result (HasBasesBy (meanings T.places T.value_of terms.now)
+        (λ q. map (λ term. T.start_of term q) terms.now) (length sizes.now) sizes.now) }
+{
+    let slope = point.slope;
+    if let Some(bases) = multiple_of(search.alloc, terms, slope.den, at)? {
+        if let Some(bases) = walk_on(search, terms, sizes, slope, at, bases)? {
+            let set = point.set.copy(search.alloc)?;
+            return Ok(Break { slope, set, bases });
+        }
+    }
+    section(search, terms, sizes, point)
+}
+
+// q times the bases that a stage has led to, where they are not too large and q times the first bases are the first bases of q
+// times the terms.
+fn multiple_of<T: Term>(
+    alloc: Global,
+    terms: &[T],
+    q: i128,
+    at: &Standing<T::Note>,
+) -> Result<Option<Rows>, Memory>
+    requires sizes { total_of (map T.size_of terms.now) ≤ℤ pos (10 ^ 18) }
+    requires factor { IsFactor q }
+    ensures { IfOk result (λ r. IfSome r (λ rows. (rows ≡ rows_times q at.now.graph.bases)
+        × All (λ x. All (IsAtMost (10 ^ 25)) x) rows
+        × (rows_times q at.now.firsts ≡ map (λ term. T.start_of term q) terms.now))) }
+{
+    if !are_small(&at.graph.bases, MOST_MULTIPLIED) || !are_small(&at.firsts, MOST_MULTIPLIED) {
+        return Ok(None);
+    }
+    let firsts = all_times(alloc, q, &at.firsts)?;
+    let starts = first_rows(alloc, terms, q)?;
+    if !are_same(&firsts, &starts) {
+        return Ok(None);
+    }
+    let bases = all_times(alloc, q, &at.graph.bases)?;
+    Ok(Some(bases))
+}
+
+// Bases that prove at a slope, by walks from the multiples of those that a stage has led to; None where the walks are too many
+// in all.
+fn walk_on<T: Term>(
+    search: &mut Search<T::Note>,
+    terms: &[T],
+    sizes: &[i128],
+    slope: Slope,
+    at: &Standing<T::Note>,
+    bases: Rows,
+) -> Result<Option<Rows>, Memory>
+    requires sizes { AreElementSizes (length sizes.now) sizes.now }
+    requires search { IsSearch T.places T.value_of T.size_of T.fits terms.now
+        (length sizes.now) search.old }
+    requires range { IsAtMost (10 ^ 19) slope.num }
+    requires standing { (found : _) × IsStanding T.places T.value_of T.size_of T.fits T.start_of
+        terms.now sizes.now found at.now }
+    requires chain { IsWalkChain (meanings T.places T.value_of terms.now) slope.den
+        (sized_shift sizes.now slope.num) at.now.walks
+        (map (λ term. T.start_of term slope.den) terms.now) bases }
+    requires multiple { bases ≡ rows_times slope.den at.now.graph.bases }
+    requires small { All (λ x. All (IsAtMost (10 ^ 25)) x) bases }
+    ensures search { OnOk result (IsSearch T.places T.value_of T.size_of T.fits terms.now
+        (length sizes.now) search.new) }
+    ensures section { IfOk result (λ r. IfSome r (IsSection
+        (meanings T.places T.value_of terms.now) (map (λ term. T.start_of term slope.den) terms.now)
+        (length sizes.now) slope.den (sized_shift sizes.now slope.num))) }
+{
+    let alloc = search.alloc;
+    restart_by(alloc, &mut search.cold, terms, slope.den, bases, &at.graph)?;
+    write_sized(&mut search.shift, sizes, slope.num);
+    let mut steps = Steps::new();
+    improve(
+        alloc,
+        &mut search.cold,
+        terms,
+        slope.den,
+        &search.shift,
+        &mut steps,
+    )?;
+    if at.walks + steps.count() > most_walks(sizes.len(), terms.len()) {
+        return Ok(None);
+    }
+    Ok(Some(mem::replace(&mut search.cold.bases, Rows::new(alloc))))
+}
+
+// Whether two lists of rows have the same entries.
+fn are_same(rows: &Rows, others: &Rows) -> bool
+    ensures { result ≡ true → rows.now ≡ others.now }
+{
+    if rows.len() != others.len() {
+        return false;
+    }
+    for i in 0..rows.len() {
+        if !is_same(rows.row(i), others.row(i)) {
+            return false;
+        }
+    }
+    true
+}
+
+// Whether two rows have the same entries.
+fn is_same(x: &[i128], y: &[i128]) -> bool
+    ensures { result ≡ true → x.now ≡ y.now }
+{
+    if x.len() != y.len() {
+        return false;
+    }
+    for (j, a) in x.iter().enumerate() {
+        if *a != y[j] {
+            return false;
+        }
+    }
+    true
+}
