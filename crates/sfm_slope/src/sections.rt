@@ -1,6 +1,6 @@
 // The bases of each breakpoint. They hang on the terms and the slopes alone, and few walks lead to them from the first bases,
-// however the breakpoints were found. Where there are few, each is found by a run of its own from the first bases, and where
-// there are many, by a tree of stages.
+// however the breakpoints were found. Where there are few, or fewer than terms, each is found by a run of its own from the first
+// bases, and where there are many, by a tree of stages.
 ghost use Rattle.std.specs.{Prelude.{◌≡◌, length, map, IfOk, OnOk}, List.{All}};
 ghost use Rattle.sfm_spec.specs.Families.{meanings};
 ghost use Rattle.sfm_sizes.specs.Sizes.{AreElementSizes};
@@ -32,7 +32,7 @@ pub fn sections<T: Term>(
         (λ q. map (λ term. T.start_of term q) terms.now) (length sizes.now) sizes.now) r.items) }
 {
     let mut breaks = Vec::new(search.alloc);
-    if found.len() < FEW_BREAKPOINTS {
+    if found.len() < FEW_BREAKPOINTS.max(terms.len()) {
         for point in found {
             breaks.push(section(search, terms, sizes, point)?)?;
         }
@@ -43,7 +43,7 @@ pub fn sections<T: Term>(
     Ok(breaks)
 }
 
-// So few breakpoints share too little for stages to be worth their graphs.
+// So few breakpoints share too little for stages to be worth their graphs; and a graph is dear where there are many terms.
 const FEW_BREAKPOINTS: usize = 16;
 
 /// A breakpoint with bases that prove at its slope, by a run from the first bases.
