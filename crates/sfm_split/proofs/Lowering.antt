@@ -1,9 +1,9 @@
 -- Amounts lowered cell by cell, and what they then leave.
-use Rattle.std.proofs.Common.{◌≡◌, ℕ, zero, suc, ◌+◌, ◌<◌, ◌≤◌, ◌^◌, List, [], ◌∷◌, ◌++◌, length, set, ℤ, pos, ◌+ℤ◌, ◌-ℤ◌, ◌≤ℤ◌, ◌<ℤ◌, refl, sym, ap, ◌∙◌, arith, FitsSigned, ⊎_elim, replicate, length-set, get_or-set_other, get_or-set_same}
+use Rattle.std.proofs.Common.{◌≡◌, ℕ, zero, suc, ◌+◌, ◌<◌, ◌≤◌, ◌^◌, List, [], ◌∷◌, length, set, ℤ, pos, ◌+ℤ◌, ◌-ℤ◌, ◌≤ℤ◌, ◌<ℤ◌, refl, sym, ap, ◌∙◌, arith, FitsSigned, ⊎_elim, replicate, length-set, get_or-set_other, get_or-set_same}
 use Rattle.std.specs.List.{All}
 use Rattle.std.proofs.lemmas.Int.{ints, by_lt_z}
-use Rattle.std.proofs.lemmas.Bool.{cases_eq, cases_lt}
-use Rattle.std.proofs.lemmas.List.{length-replicate, length_push, get_or_push, get_or_append_left}
+use Rattle.std.proofs.lemmas.Bool.{cases_eq}
+use Rattle.std.proofs.lemmas.List.{length-replicate}
 use Rattle.std.proofs.lemmas.List.Elements.{All-get_or, All-from_get_or}
 use mir.Syntax.{w128}
 use Rattle.sfm_split.specs.Splits.{sum_at, amount_at, IsAmount, IsCapacity}
@@ -288,27 +288,31 @@ shift_fits totals before left k x same places low amounts amounts_before lt is =
     let lh = l.high in
     (omega (arith, ints, tl, th, bl, bh), omega (arith, ints, tl, th, bl, bh, ll, lh, is))
 
--- what totals have besides others, at the first k places
+-- what totals have besides others, at the first k places, and the totals themselves from there on
 pub record IsMoreTo (totals before after : List ℤ) (k : ℕ) : Type 0 where
-  pub places : length after ≡ k
-  pub each : (i : ℕ) → i < k → amount_at after i ≡ (amount_at totals i -ℤ amount_at before i)
+  pub places : length after ≡ length totals
+  pub done : (i : ℕ) → i < k → amount_at after i ≡ (amount_at totals i -ℤ amount_at before i)
+  pub rest : (i : ℕ) → k ≤ i → amount_at after i ≡ amount_at totals i
 
-pub more_none : (totals before : List ℤ) → IsMoreTo totals before [] 0
-more_none totals before = record { places = refl; each = λ i lt. absurd (omega (arith, lt)) }
+pub more_none : (totals before : List ℤ) → IsMoreTo totals before totals 0
+more_none totals before = record { places = refl; done = λ i lt. absurd (omega (arith, lt)); rest = λ i le. refl }
 
-pub more_put : (totals before after : List ℤ) (k : ℕ) (v : ℤ) → v ≡ (amount_at totals k -ℤ amount_at before k) → IsMoreTo totals before after k → IsMoreTo totals before (after ++ v ∷ []) (k + 1)
-more_put totals before after k v is h = record {
-  places = (let p = h.places in let l = length_push after v in omega (arith, p, l));
-  each = λ i lt. let p = h.places in ⊎_elim
-      (λ (l : i < k). get_or_append_left after (v ∷ []) (pos 0) i (omega (arith, l, p)) ∙ h.each i l)
-      (λ ge. let q : i ≡ k = omega (arith, ge, lt) in rw q (get_or_push after v (pos 0) k h.places ∙ is))
-      (cases_lt i k);
-}
+pub more_put : (totals before after : List ℤ) (k : ℕ) (v : ℤ) → k < length totals → v ≡ (amount_at totals k -ℤ amount_at before k) → IsMoreTo totals before after k → IsMoreTo totals before (set after k v) (k + 1)
+more_put totals before after k v lt is h =
+    let p = h.places in
+    record {
+      places = length-set after k v ∙ h.places;
+      done = λ i less. ⊎_elim
+          (λ (q : i ≡ k). rw q (get_or-set_same after k v (pos 0) (omega (arith, lt, p)) ∙ is))
+          (λ ne. get_or-set_other after k i v (pos 0) ne ∙ h.done i (omega (arith, less, ne)))
+          (cases_eq i k);
+      rest = λ i le. get_or-set_other after k i v (pos 0) (λ q. absurd (omega (arith, le, q))) ∙ h.rest i (omega (arith, le));
+    }
 
-pub more_all : (totals before after : List ℤ) (k : ℕ) → k ≡ length totals → IsMoreTo totals before after k → IsShifted totals before (replicate (length totals) (pos 0)) after
-more_all totals before after k all h = record {
-  places = h.places ∙ (all ∙ sym (length-replicate (length totals) (pos 0)));
-  each = λ i lt. let l = length-replicate (length totals) (pos 0) in let z = nothing-at (length totals) i in let e = h.each i (omega (arith, lt, l, all)) in omega (arith, ints, z, e);
+pub more_all : (totals before after : List ℤ) (k : ℕ) → length totals ≤ k → IsMoreTo totals before after k → IsShifted totals before (replicate (length totals) (pos 0)) after
+more_all totals before after k past h = record {
+  places = h.places ∙ sym (length-replicate (length totals) (pos 0));
+  each = λ i lt. let l = length-replicate (length totals) (pos 0) in let z = nothing-at (length totals) i in let e = h.done i (omega (arith, lt, l, past)) in omega (arith, ints, z, e);
 }
 
 -- the first k places are changed

@@ -10,6 +10,7 @@ use crate::augment::{put, take};
 use crate::cells::Cells;
 use crate::chains::Chains;
 use crate::left::Lefts;
+use crate::work::copy_list;
 use sfm_base::Memory;
 
 /// What totals leave, from what others left of the same amounts.
@@ -35,9 +36,9 @@ pub(crate) fn write_more(to: &mut Vec<i128>, totals: &[i128], before: &[i128]) -
     ensures { OnOk result (IsShifted totals.now before.now
         (replicate (length totals.now) (pos 0)) to.new.items) }
 {
-    to.clear();
-    for k in 0..totals.len() {
-        to.push(totals[k] - before[k])?;
+    copy_list(to, totals)?;
+    for k in 0..before.len() {
+        to[k] -= before[k];
     }
     Ok(())
 }
