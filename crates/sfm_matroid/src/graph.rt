@@ -5,7 +5,7 @@ ghost use Rattle.std.specs.Prelude.{◌≡◌, ◌≤◌, length, IfOk, OnOk};
 ghost use Rattle.sfm_matroid.specs.{Ends.{edges_of}, Graphs.{EndsBelow}, Numbered.{place_of, with_vertex, vertices_of, vertex_count, numbered}};
 
 use crate::ends::Pairs;
-use crate::order::by_tails;
+use crate::order::{Hubs, by_hubs};
 use sfm_base::{Memory, Places};
 use std::alloc::Global;
 
@@ -16,7 +16,8 @@ pub(crate) struct Graph {
     pub ends: Pairs,
     /// How many vertices there are.
     pub vertices: usize,
-    /// The edges by their tails: one move of a root serves those with one tail.
+    /// For each edge that end at which the root is best, and the edges by these: one move of a root serves those with one hub.
+    pub hubs: Places,
     pub order: Places,
     pub ghost few: { length ends ≤ 256 },
     pub ghost below: { EndsBelow (edges_of ends) vertices },
@@ -33,12 +34,22 @@ impl Graph {
         ensures { IfOk result (λ r. r ≡ self.now) }
     {
         let ends = self.ends.copy(alloc)?;
+        let hubs = Places::from_slice(alloc, self.hubs.as_slice())?;
         let order = Places::from_slice(alloc, self.order.as_slice())?;
         Ok(Graph {
             ends,
             vertices: self.vertices,
+            hubs,
             order,
         })
+    }
+
+    /// The hub of an edge, if it has one.
+    pub(crate) fn hub(&self, e: usize) -> Option<usize> {
+        match self.hubs.as_slice().get(e) {
+            Some(hub) => Some(*hub),
+            None => None,
+        }
     }
 }
 
@@ -105,10 +116,12 @@ pub(crate) fn numbered(alloc: Global, ends: &[(u32, u32)]) -> Result<Graph, Memo
     let vertices = vertices(alloc, ends)?;
     let numbers = placed(alloc, ends, &vertices)?;
     let count = vertices.len();
-    let order = by_tails(alloc, &numbers, count)?;
+    let hubs = by_hubs(alloc, &numbers, count)?;
+    let Hubs { of, order } = hubs;
     Ok(Graph {
         ends: Pairs::from_vec(numbers),
         vertices: count,
+        hubs: of,
         order,
     })
 }

@@ -131,13 +131,17 @@ impl Graphic {
             (graphic_value self.now.w self.now.ends) }
     {}
 
-    /// The root if it is an end of an edge, and else the tail of that.
+    /// The root if it is an end of an edge, and else the hub of that.
     fn end_near(&self, root: usize, u: usize) -> usize
         requires { u < length self.now.places }
         ensures { IsEndOf (numbered self.now.ends) u result }
     {
         let (tail, head) = self.graph.ends.as_slice()[u];
-        if root == head { head } else { tail }
+        if root == head || root != tail && self.graph.hub(u) == Some(head) {
+            head
+        } else {
+            tail
+        }
     }
 
     /// Brings a split of whatever amounts that is kept to a base, in the test of a root.
