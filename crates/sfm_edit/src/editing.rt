@@ -2,7 +2,6 @@
 // of an instance text, so that a line is judged alike wherever it comes from; what stands behind `drop` is the number of a term
 // line in the list as it then is. Where a line is refused or memory is wanting, all is let go, so that nothing has to be undone.
 ghost use Rattle.std.specs.Prelude.{◌≡◌, ◌∷◌, ℕ, ◌+◌, ◌<◌, ◌≤◌, List, length, take, codes, pos, Any, IfOk, IfErr, MatchOption, MatchResult};
-ghost use Rattle.sfm_kind.specs.Instance.{width_of, terms_in};
 ghost use Rattle.sfm_base.specs.NumberText.{IsNumber};
 ghost use Rattle.sfm_lines.specs.{Lines.{tokens_of}, Reading.{IsBadByte}};
 ghost use Rattle.sfm_text.specs.{Language.{text_limit, IsReadAs, IsRefusalIn}};
@@ -11,8 +10,8 @@ ghost use Rattle.sfm_edit.specs.{Edits.{edits_form, IsDrop, IsLineNumber}, EditL
 
 use crate::origins::Origins;
 use sfm_base::read_number;
-use sfm_kind::Instance;
-use sfm_lines::mark::is_mark;
+use sfm_kind::{Instance, terms_before, width};
+use sfm_lines::separator::is_separator;
 use sfm_lines::tokens::first_token;
 use sfm_lines::word::is_word;
 use sfm_side::Frame;
@@ -46,7 +45,7 @@ impl Edited {
     }
 }
 
-/// The one token of a line, which is no mark; None where the line is another.
+/// The one token of a line, which is no separator; None where the line is another.
 fn only_token(line: &[u8]) -> Option<&[u8]>
     ensures { MatchOption result
         ((text : List ℕ) → IsDrop (codes "drop" ∷ tokens_of line.now) text → ⊥)
@@ -58,7 +57,7 @@ fn only_token(line: &[u8]) -> Option<&[u8]>
     if first_token(behind).is_some() {
         return None;
     }
-    if is_mark(text) {
+    if is_separator(text) {
         return None;
     }
     Some(text)
@@ -81,29 +80,6 @@ fn line_place(text: &[u8], count: usize) -> Option<usize>
         return None;
     }
     Some((number - 1) as usize)
-}
-
-/// How many terms a line of so many layers has.
-fn width(layers: usize) -> usize
-    ensures { result ≡ width_of layers }
-{
-    if layers == 0 {
-        return 1;
-    }
-    layers
-}
-
-/// How many terms stand before those of line i.
-fn terms_before(lines: &[usize], i: usize) -> usize
-    requires within { i ≤ length lines.now }
-    requires few { terms_in lines.now ≤ 16384 }
-    ensures { result ≡ terms_in (take i lines.now) }
-{
-    let mut before = 0;
-    for j in 0..i {
-        before += width(lines[j]);
-    }
-    before
 }
 
 /// Takes the term line out whose number stands in a line behind `drop`.

@@ -104,7 +104,8 @@ module _ (s t : Kind) (ks : IsRankKind s) (kt : IsRankKind t) (places : kind_pla
 
 -- ---- layers
 
-greatest-alike : (I J : List Bool → Type 0) (weights : List ℤ) (s : List Bool) (r : ℤ) → ((t : List Bool) → I t ↔ J t) → IsGreatestWeight I weights s r → IsGreatestWeight J weights s r
+-- what weighs most among independent parts is told by which they are
+pub greatest-alike : (I J : List Bool → Type 0) (weights : List ℤ) (s : List Bool) (r : ℤ) → ((t : List Bool) → I t ↔ J t) → IsGreatestWeight I weights s r → IsGreatestWeight J weights s r
 greatest-alike I J weights s r alike h =
     let (t, lt, wt, it, et) = h.reached in
     record { reached = (t, lt, wt, (alike t).0 it, et); greatest = λ u lu wu ju. h.greatest u lu wu ((alike u).1 ju) }

@@ -72,8 +72,8 @@ fn are_below(places: &[usize], n: usize) -> bool
     places.iter().all(|e| *e < n)
 }
 
-/// How many terms a line of so many layers has.
-fn width(layers: usize) -> usize
+/// How many terms a line of so many layers has: as many, and one where it is not layered and the number is 0.
+pub fn width(layers: usize) -> usize
     ensures { result ≡ width_of layers }
 {
     if layers == 0 {
@@ -82,8 +82,9 @@ fn width(layers: usize) -> usize
     layers
 }
 
-/// How many terms stand before those of line i.
-fn terms_before(lines: &[usize], i: usize) -> usize
+/// How many terms stand before those of line i, counted from 0. Each line has the number that `Instance::lines` gives:
+/// that of its layers, or 0 where it has one term.
+pub fn terms_before(lines: &[usize], i: usize) -> usize
     requires within { i ≤ length lines.now }
     requires few { terms_in lines.now ≤ 16384 }
     ensures { result ≡ terms_in (take i lines.now) }

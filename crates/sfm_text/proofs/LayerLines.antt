@@ -17,11 +17,11 @@ use Rattle.sfm_kind.specs.declared.kind.Kind.TheVariants.{Uniform, Laminar, Grap
 use Rattle.sfm_kind.specs.declared.version.Version.{Version}
 use Rattle.sfm_kind.proofs.Bounds.{total_size-low}
 use Rattle.sfm_kind.proofs.Brought.{AreWeightsOf, brings-one, layers-fit}
-use Rattle.sfm_kind.proofs.OneLine.{AreOneRank}
+use Rattle.sfm_kind.proofs.OneLine.{AreOneRank, greatest-alike}
 use Rattle.sfm_lines.specs.declared.word.RankKind.{RankKind}
 use Rattle.sfm_lines.specs.declared.word.RankKind.TheVariants.{UniformRank, LaminarRank, GraphicRank, TransversalRank}
 use Rattle.sfm_lines.specs.declared.word.TermWord.TheVariants.{RankWord}
-use Rattle.sfm_lines.specs.Parts.{LineParts, IsMark, AreUnmarked, IsCutAt, IsLabelToken, IsUniformLine, IsLaminarLine, IsLabelledLine}
+use Rattle.sfm_lines.specs.Parts.{LineParts, IsSeparator, HaveNoSeparator, IsCutAt, IsLabelToken, IsUniformLine, IsLaminarLine, IsLabelledLine}
 use Rattle.sfm_lines.specs.RankLines.{IsRankMadeOf}
 use Rattle.sfm_lines.specs.Reading.{AreTooMuch, Says}
 use Rattle.sfm_lines.specs.TermLines.{IsElement, StandsFor}
@@ -41,34 +41,34 @@ use Rattle.sfm_text.proofs.TooMuch.{most_size-high, much-by-total}
 -- ---- the line has a weight for each of its elements
 
 -- elements without marks end where a mark stands
-unmarked-count : (xs ys a b : List (List ℕ)) → AreUnmarked xs → AreUnmarked ys → IsEnd a → IsEnd b → xs ++ a ≡ ys ++ b
+unmarked-count : (xs ys a b : List (List ℕ)) → HaveNoSeparator xs → HaveNoSeparator ys → IsEnd a → IsEnd b → xs ++ a ≡ ys ++ b
     → length xs ≡ length ys
 unmarked-count [] [] a b hx hy ha hb e = refl
 unmarked-count (x ∷ xs) (y ∷ ys) a b hx hy ha hb e =
     let more : xs ++ a ≡ ys ++ b = cc in
-    let rest = unmarked-count xs ys a b (All-tail (λ t. IsMark t → ⊥) x xs hx) (All-tail (λ t. IsMark t → ⊥) y ys hy) ha hb more in
+    let rest = unmarked-count xs ys a b (All-tail (λ t. IsSeparator t → ⊥) x xs hx) (All-tail (λ t. IsSeparator t → ⊥) y ys hy) ha hb more in
     omega (arith, rest)
 unmarked-count [] (y ∷ ys) a b hx hy (inl none) hb e = absurd (omega (arith, ap length (sym e ∙ none)))
 unmarked-count [] (y ∷ ys) a b hx hy (inr (rest, is)) hb e =
     let both : y ∷ (ys ++ b) ≡ codes ";" ∷ rest = sym e ∙ is in
     let same : y ≡ codes ";" = cc in
-    absurd (All-head (λ t. IsMark t → ⊥) y ys hy (inr same))
+    absurd (All-head (λ t. IsSeparator t → ⊥) y ys hy (inr same))
 unmarked-count (x ∷ xs) [] a b hx hy ha (inl none) e = absurd (omega (arith, ap length (e ∙ none)))
 unmarked-count (x ∷ xs) [] a b hx hy ha (inr (rest, is)) e =
     let both : x ∷ (xs ++ a) ≡ codes ";" ∷ rest = e ∙ is in
     let same : x ≡ codes ";" = cc in
-    absurd (All-head (λ t. IsMark t → ⊥) x xs hx (inr same))
+    absurd (All-head (λ t. IsSeparator t → ⊥) x xs hx (inr same))
 
 entries-unmarked : (marked : List (List ℕ)) (entries : List (List ℕ × Option (List ℕ))) → AllZip IsEntryOf marked entries
-    → AreUnmarked (map (λ entry. entry.0) entries)
-entries-unmarked [] [] h = All-nil (λ t. IsMark t → ⊥)
+    → HaveNoSeparator (map (λ entry. entry.0) entries)
+entries-unmarked [] [] h = All-nil (λ t. IsSeparator t → ⊥)
 entries-unmarked [] (entry ∷ entries) h = absurd h
 entries-unmarked (token ∷ marked) [] h = absurd h
-entries-unmarked (token ∷ marked) (entry ∷ entries) (is, h) = All-cons (λ t. IsMark t → ⊥) entry.0 (map (λ entry. entry.0) entries) is.1 (entries-unmarked marked entries h)
+entries-unmarked (token ∷ marked) (entry ∷ entries) (is, h) = All-cons (λ t. IsSeparator t → ⊥) entry.0 (map (λ entry. entry.0) entries) is.1 (entries-unmarked marked entries h)
 
 -- a number, or another token that is no mark, and a word are no colons
-head-plain : (number word : List ℕ) → (IsMark number → ⊥) → word ≢ codes ":" → All (λ token. token ≢ codes ":") (number ∷ word ∷ [])
-head-plain number word no_mark other = All-cons (λ token. token ≢ codes ":") number (word ∷ []) (λ e. no_mark (inl e)) (All-cons (λ token. token ≢ codes ":") word [] other (All-nil (λ token. token ≢ codes ":")))
+head-plain : (number word : List ℕ) → (IsSeparator number → ⊥) → word ≢ codes ":" → All (λ token. token ≢ codes ":") (number ∷ word ∷ [])
+head-plain number word no_separator other = All-cons (λ token. token ≢ codes ":") number (word ∷ []) (λ e. no_separator (inl e)) (All-cons (λ token. token ≢ codes ":") word [] other (All-nil (λ token. token ≢ codes ":")))
 
 equals-free : All (λ c. c ≢ 61) (codes ";")
 equals-free = All-cons (λ c. c ≢ 61) 59 [] (λ e. omega (arith, e)) (All-nil (λ c. c ≢ 61))
@@ -99,7 +99,7 @@ module _ (rest plain : List (List ℕ)) (entries : List (List ℕ × Option (Lis
       → map (λ entry. entry.0) entries ++ h.behind ≡ behind
   elements-behind head behind none cut = (front-same (codes ":") h.head (map (λ entry. entry.0) entries ++ h.behind) head behind h.no_colon none (sym h.plain_are ∙ cut)).1
 
-  unmarked : AreUnmarked (map (λ entry. entry.0) entries)
+  unmarked : HaveNoSeparator (map (λ entry. entry.0) entries)
   unmarked = entries-unmarked h.marked entries h.each
 
   count-uniform : (parts : LineParts) → IsUniformLine plain parts → length entries ≡ length parts.elements
@@ -110,14 +110,14 @@ module _ (rest plain : List (List ℕ)) (entries : List (List ℕ × Option (Lis
 
   count-laminar : (parts : LineParts) → IsLaminarLine plain parts → length entries ≡ length parts.elements
   count-laminar parts line =
-      let e = elements-behind (line.number ∷ codes "laminar" ∷ []) _ (head-plain line.number (codes "laminar") line.head.no_mark (λ e. absurd (omega (arith, ap length e)))) line.head.tokens_are in
+      let e = elements-behind (line.number ∷ codes "laminar" ∷ []) _ (head-plain line.number (codes "laminar") line.head.no_separator (λ e. absurd (omega (arith, ap length e)))) line.head.tokens_are in
       let n = unmarked-count (map (λ entry. entry.0) entries) line.elements h.behind (flat_map (λ group. codes ";" ∷ group.0 ∷ group.1) line.groups) unmarked line.unmarked h.ends (groups-end line.groups) e in
       sym (length-map entries (λ entry. entry.0)) ∙ (n ∙ sym (ap (λ (p : LineParts). length p.elements) line.parts_are))
 
   count-labelled : (rank : RankKind) (word : List ℕ) (parts : LineParts) → word ≢ codes ":" → IsLabelledLine rank word plain parts
       → length entries ≡ length parts.elements
   count-labelled rank word parts other line =
-      let e = elements-behind (line.number ∷ word ∷ []) line.behind (head-plain line.number word line.head.no_mark other) line.head.tokens_are in
+      let e = elements-behind (line.number ∷ word ∷ []) line.behind (head-plain line.number word line.head.no_separator other) line.head.tokens_are in
       let n = labelled-end rank (map (λ entry. entry.0) entries) h.behind line.behind line.entries line.each h.ends e in
       let m = length-AllZip (IsLabelToken rank) line.behind line.entries line.each in
       sym (length-map entries (λ entry. entry.0)) ∙ (n ∙ (sym m ∙ (sym (length-map line.entries (λ entry. entry.0)) ∙ sym (ap (λ (p : LineParts). length p.elements) line.parts_are))))
@@ -190,16 +190,10 @@ module _ (n : ℕ) (term : Kind) (weights : List ℤ) (is : IsWeighedRank n term
 
 -- ---- a line brings one number of places and one size
 
-greatest-by : (I J : List Bool → Type 0) (weights : List ℤ) (s : List Bool) (r : ℤ) → ((t : List Bool) → I t ↔ J t)
-    → IsGreatestWeight I weights s r → IsGreatestWeight J weights s r
-greatest-by I J weights s r alike h =
-    let (t, lt, wt, it, et) = h.reached in
-    record { reached = (t, lt, wt, (alike t).0 it, et); greatest = λ u lu wu ju. h.greatest u lu wu ((alike u).1 ju) }
-
 brings-alike : (s t : Kind) (weights : List ℤ) (places : ℕ) (total : ℤ) → AreOneRank s t → Brings s (Some weights) places total
     → Brings t (Some weights) places total
 brings-alike s t weights places total one (levels, (r, greatest, is)) =
-    (levels, (r, greatest-by (IsIndependentIn s) (IsIndependentIn t) weights (whole_set (length weights)) r one.alike greatest, is ∙ ap (λ (f : ℤ). f *ℤ r) one.factor))
+    (levels, (r, greatest-alike (IsIndependentIn s) (IsIndependentIn t) weights (whole_set (length weights)) r one.alike greatest, is ∙ ap (λ (f : ℤ). f *ℤ r) one.factor))
 
 -- so there is too much with the one reading of a line where there is with another
 pub much-layered : (version : Version) (names tokens : List (List ℕ)) (s t : Kind) (weights : List ℤ) (more : Option (List ℤ)) (lines : List ℕ) (terms : List Kind) (p q : ℕ) (a b : ℤ)
