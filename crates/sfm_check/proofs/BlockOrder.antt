@@ -9,7 +9,7 @@ use Rattle.std.proofs.lemmas.List.Elements.{All-from_get_or, Contains-get_or}
 use Rattle.std.proofs.lemmas.List.Sums.{sum_by-cons}
 use Rattle.sfm_spec.specs.Sets.{Has, IsWithin, size, union, empty_set}
 use Rattle.sfm_spec.specs.Families.{Meaning}
-use Rattle.sfm_spec.specs.Blocks.{AreBlocks, Block, IsFree, IsFirst, PullsAlong, block_at, weight_at}
+use Rattle.sfm_spec.specs.Blocks.{AreBlocks, Block, IsFree, IsFirst, PullsAlong, block_at, size_with_needs}
 use Rattle.sfm_spec.proofs.Sets.{same_sets, in_union, union_left, union_right, in_first, in_second}
 use Rattle.sfm_spec.proofs.Sums.{length-union}
 use Rattle.sfm_spec.proofs.Sizes.{size-empty, size-modular, size_grows, size_below_length}
@@ -62,7 +62,7 @@ module _ (terms : List Meaning) (n : ℕ) (q : ℤ) (shift : List ℤ) (blocks :
   size_of : ℕ → ℕ
   size_of j = size (block_at blocks (j - 1)).members
 
-  weight_sum : (i : ℕ) → weight_at blocks i ≡ sum_by size_of (numbers i)
+  weight_sum : (i : ℕ) → size_with_needs blocks i ≡ sum_by size_of (numbers i)
   unfolding size_of numbers
   weight_sum i =
       let a = sum_by-cons size_of (i + 1) (block_at blocks i).needs in
@@ -218,7 +218,7 @@ module _ (terms : List Meaning) (n : ℕ) (q : ℤ) (shift : List ℤ) (blocks :
   unfolding whole
   length-whole i l = length-gathered (numbers i) (whole_numbers i l)
 
-  pub size-whole : (i : ℕ) → i < length blocks → size (whole i) ≡ weight_at blocks i
+  pub size-whole : (i : ℕ) → i < length blocks → size (whole i) ≡ size_with_needs blocks i
   unfolding whole
   size-whole i l = size-gathered (numbers i) (whole_numbers i l) (numbers_differ i l) ∙ sym (weight_sum i)
 
@@ -236,7 +236,7 @@ module _ (terms : List Meaning) (n : ℕ) (q : ℤ) (shift : List ℤ) (blocks :
 
   -- ---- a block stands behind what it needs
 
-  lighter : (i k : ℕ) → i < length blocks → k < length blocks → i ≢ k → Contains (block_at blocks i).needs (k + 1) → weight_at blocks k < weight_at blocks i
+  lighter : (i k : ℕ) → i < length blocks → k < length blocks → i ≢ k → Contains (block_at blocks i).needs (k + 1) → size_with_needs blocks k < size_with_needs blocks i
   unfolding class
   lighter i k li lk ne c =
       let (d, hd) = h.some i li in

@@ -5,7 +5,7 @@ use Rattle.std.proofs.lemmas.Bool.{cases_lt}
 use Rattle.std.proofs.lemmas.List.{ext_get_or}
 use Rattle.sfm_spec.specs.Sets.{Has, size}
 use Rattle.sfm_spec.specs.Families.{Meaning}
-use Rattle.sfm_spec.specs.Blocks.{AreBlocks, Block, IsFirst, block_at, no_block, weight_at}
+use Rattle.sfm_spec.specs.Blocks.{AreBlocks, Block, IsFirst, block_at, no_block, size_with_needs}
 use Rattle.sfm_spec.proofs.Sets.{same_sets}
 use Rattle.sfm_spec.proofs.Walks.{has_below}
 use Rattle.sfm_check.proofs.Differing.{increasing_same}
@@ -53,7 +53,7 @@ module _ (terms : List Meaning) (n : ℕ) (q : ℤ) (shift : List ℤ) (a b : Li
       whole_from terms n q shift b hb j d e lj le (subst (λ s. Has s d) same hd) t.0 t.1
 
 module _ (terms : List Meaning) (n : ℕ) (q : ℤ) (shift : List ℤ) (a b : List Block) (ha : AreBlocks terms n q shift a) (hb : AreBlocks terms n q shift b) where
-  same_weight : (i j : ℕ) → IsSameClass a b i j → weight_at a i ≡ weight_at b j
+  same_weight : (i j : ℕ) → IsSameClass a b i j → size_with_needs a i ≡ size_with_needs b j
   same_weight i j c =
       let la = length-whole terms n q shift a ha i c.0 in
       let lb = length-whole terms n q shift b hb j c.1 in

@@ -4,7 +4,7 @@ use Rattle.std.specs.Prelude.{Contains}
 use Rattle.std.proofs.lemmas.Bool.{cases_lt}
 use Rattle.sfm_spec.specs.Sets.{Has}
 use Rattle.sfm_spec.specs.Families.{Meaning}
-use Rattle.sfm_spec.specs.Blocks.{Block, block_at, weight_at, AreBlocks, ComesBefore, IsFirst, IsFree, PullsAlong}
+use Rattle.sfm_spec.specs.Blocks.{Block, block_at, size_with_needs, AreBlocks, ComesBefore, IsFirst, IsFree, PullsAlong}
 use Rattle.sfm_spec.proofs.Walks.{has_below}
 use Rattle.sfm_extreme.specs.Pulls.{AreFirsts, AreGrouped, AreSquare, Before, Pulls, pulled}
 use Rattle.sfm_extreme.proofs.Classes.{IsPreorder, first_exists, needs_ascending, needs_exact, pulled_below}
@@ -134,10 +134,10 @@ module _ (terms : List Meaning) (n : ℕ) (q : ℤ) (shift : List ℤ) (IsMid : 
 
     ordered : (i j : ℕ) → i < j → j < length blocks → ComesBefore blocks i j
     ordered i j l lj = at (all.ordered i j l (in_firsts j lj)) where
-      wi : weight_at blocks i ≡ pulled rows (get_or firsts i 0)
+      wi : size_with_needs blocks i ≡ pulled rows (get_or firsts i 0)
       wi = weight_is rows preorder firsts all blocks grouped i (omega arith)
 
-      wj : weight_at blocks j ≡ pulled rows (get_or firsts j 0)
+      wj : size_with_needs blocks j ≡ pulled rows (get_or firsts j 0)
       wj = weight_is rows preorder firsts all blocks grouped j lj
 
       at : Before (pulled rows (get_or firsts i 0)) (get_or firsts i 0) (pulled rows (get_or firsts j 0)) (get_or firsts j 0) → ComesBefore blocks i j

@@ -5,7 +5,7 @@ use Rattle.std.proofs.lemmas.Bool.{both_ways, cases_eq, cases_lt, cases_Bool}
 use Rattle.std.proofs.lemmas.List.{length-replicate}
 use Rattle.std.proofs.lemmas.List.Sums.{sum_by-append, sum_by-cons}
 use Rattle.sfm_spec.specs.Sets.{Has, size, union, empty_set}
-use Rattle.sfm_spec.specs.Blocks.{Block, block_at, weight_at}
+use Rattle.sfm_spec.specs.Blocks.{Block, block_at, size_with_needs}
 use Rattle.sfm_spec.proofs.Sets.{same_sets, in_union, union_left, union_right}
 use Rattle.sfm_spec.proofs.Sums.{length-union}
 use Rattle.sfm_spec.proofs.Sizes.{size-empty}
@@ -168,13 +168,13 @@ module _ (rows : List (List Bool)) (pre : IsPreorder rows) (firsts : List ℕ) (
           upto_from (length blocks) d (omega arith) (m, lb, pre.along (get_or firsts i 0) d (get_or firsts m 0) h (rw is de), to_class m d lb (rw is ed) (rw is de))
 
     -- so the weight of the block is the count of what comes along with its first place
-    pub weight_is : i < length blocks → weight_at blocks i ≡ pulled rows (get_or firsts i 0)
+    pub weight_is : i < length blocks → size_with_needs blocks i ≡ pulled rows (get_or firsts i 0)
     unfolding Total count class
     weight_is li = at (total (length blocks) li (omega arith)) where
       needs : (block_at blocks i).needs ≡ needs_upto rows firsts i (length blocks)
       needs = grouped.needs i li ∙ ap (needs_upto rows firsts i) (sym grouped.count)
 
-      at : Total (length blocks) → weight_at blocks i ≡ pulled rows (get_or firsts i 0)
+      at : Total (length blocks) → size_with_needs blocks i ≡ pulled rows (get_or firsts i 0)
       at (inl (le, e)) = absurd (omega arith)
       at (inr (lt, e)) =
           let a = ap size (upto_all li) in

@@ -28,8 +28,8 @@ abbrev pub block_at : List Block → ℕ → Block
 block_at blocks i = slice_index_or blocks i no_block
 
 -- how many places are in block i and in all that it needs
-abbrev pub weight_at : List Block → ℕ → ℕ
-weight_at blocks i = size (block_at blocks i).members + sum_by (λ j. size (block_at blocks (j - 1)).members) (block_at blocks i).needs
+abbrev pub size_with_needs : List Block → ℕ → ℕ
+size_with_needs blocks i = size (block_at blocks i).members + sum_by (λ j. size (block_at blocks (j - 1)).members) (block_at blocks i).needs
 
 -- e is the first place of s
 pub record IsFirst (s : List Bool) (e : ℕ) : Type 0 where
@@ -38,8 +38,8 @@ pub record IsFirst (s : List Bool) (e : ℕ) : Type 0 where
 
 -- the block i comes before the block j: it has fewer places with all that it needs, or as many and an earlier first place
 abbrev pub ComesBefore : List Block → ℕ → ℕ → Type 0
-ComesBefore blocks i j = (weight_at blocks i < weight_at blocks j)
-    ⊎ ((weight_at blocks i ≡ weight_at blocks j) × ((d e : ℕ) → IsFirst (block_at blocks i).members d → IsFirst (block_at blocks j).members e → d < e))
+ComesBefore blocks i j = (size_with_needs blocks i < size_with_needs blocks j)
+    ⊎ ((size_with_needs blocks i ≡ size_with_needs blocks j) × ((d e : ℕ) → IsFirst (block_at blocks i).members d → IsFirst (block_at blocks j).members e → d < e))
 
 -- the blocks of the minimisers, with their needs, in order
 pub record AreBlocks (terms : List Meaning) (n : ℕ) (q : ℤ) (shift : List ℤ) (blocks : List Block) : Type 0 where
